@@ -1,0 +1,4 @@
+mod Hexadecimal
+mod Numbers
+mod Sending
+pub mod Complete

@@ -1,0 +1,82 @@
+ghost use Rattle.std.specs.Prelude.{◌≡◌, IfOk, string_bytes};
+ghost use Rattle.xt_cli.specs.Texts.{byte_of, core_line, hex8, report_text, sent_bytes, stop_text, uart_lines};
+
+use std::alloc::{AllocError, Global};
+use xt_map::{Entry, Kind, Text};
+use xt_trace::{Run, Stop, Trace};
+
+// The address of UART0 to which a store sends a byte.
+const UART_TRANSMIT: u32 = 0x3FF4_0000;
+
+// The byte that an entry sends.
+fn sent_by(entry: &Entry) -> Option<u8>
+    ensures { result ≡ byte_of entry.now }
+{
+    match entry.access.kind {
+        Kind::Store(value) if entry.access.addr == UART_TRANSMIT => Some((value % 256) as u8),
+        _ => None,
+    }
+}
+
+// The bytes that the entries send, in order.
+fn all_sent(alloc: Global, entries: &[Entry]) -> Result<Vec<u8>, AllocError>
+    ensures { IfOk result (λ bytes. bytes.items ≡ sent_bytes entries.now) }
+{
+    entries
+        .iter()
+        .filter_map(|entry| sent_by(entry))
+        .collect(alloc)
+}
+
+// Why a trace ended, in a word.
+fn stop_name(stop: Stop) -> &'static str
+    ensures { result.now ≡ stop_text stop }
+{
+    match stop {
+        Stop::Break => "break",
+        Stop::Turns => "turns",
+    }
+}
+
+// An address in eight hexadecimal digits.
+#[tactic(auto, using(crate::proofs::Hexadecimal::padded_is_hex8))]
+fn address_text(alloc: Global, address: u32) -> Result<String, AllocError>
+    ensures { IfOk result (λ text. string_bytes text ≡ hex8 address) }
+{
+    format!(in alloc; "{address:08X}")
+}
+
+// The line of a core.
+fn line_of(alloc: Global, core: u8, trace: &Trace) -> Result<String, AllocError>
+    ensures { IfOk result (λ line. string_bytes line ≡ core_line core trace.now) }
+{
+    let stop = stop_name(trace.stop);
+    let turns = trace.steps.len();
+    let pc = address_text(alloc, trace.pc)?;
+    format!(in alloc; "core {core} stop {stop} turns {turns} pc {pc}\n")
+}
+
+/// The report of a run, in lines that each end with a newline:
+///
+/// ```text
+/// uart N
+/// the N bytes that were sent, as they are
+/// core 0 stop S turns K pc ADDR
+/// core 1 stop S turns K pc ADDR
+/// ```
+///
+/// S is `break` or `turns`, K the number of the core's records, and ADDR its last program counter in
+/// eight upper-case hexadecimal digits; N and K are decimal. The only error is want of memory.
+#[tactic(auto, unfolding(crate::specs::Texts::report_text))]
+pub fn report(alloc: Global, run: &Run) -> Result<Text, AllocError>
+    ensures { IfOk result (λ text. text ≡ report_text run.now) }
+{
+    let sent = all_sent(alloc, run.history.as_slice())?;
+    let count = sent.len();
+    let mut text = format!(in alloc; "uart {count}\n")?.into_bytes();
+    text.extend_from_slice(&sent)?;
+    text.push(b'\n')?;
+    text.extend_from_slice(line_of(alloc, 0, &run.trace0)?.as_bytes())?;
+    text.extend_from_slice(line_of(alloc, 1, &run.trace1)?.as_bytes())?;
+    Ok(Text::new(text))
+}

@@ -1,0 +1,173 @@
+//! The top call.
+ghost use Rattle.std.specs.Prelude.{◌≡◌, ◌≤◌, map, length, string_bytes, Some, None, MatchOption};
+ghost use Rattle.xt_cli.specs.Words.{turns_of};
+ghost use Rattle.xt_cli.specs.Top.{Answers, IsComplete, RunsInput, options_of};
+ghost use Rattle.xt_trace.specs.Validity.{most_turns};
+ghost use Rattle.xt_image.specs.declared.image.Image.{Image};
+
+use crate::run_report::report;
+use crate::status::Status;
+use crate::words::ordered_turns;
+use std::alloc::Global;
+use xt_core::{RunFault, run_one};
+use xt_image::{Image, ImageFault, read};
+use xt_io::{Gate, ReadError, Refused, Sink, Source, read_to_limit, write_all};
+use xt_trace::{Options, Run, Stack};
+
+/// The most bytes that an image may have.
+pub const IMAGE_LIMIT: usize = 8_388_608;
+
+/// What the program did: the run that it made.
+#[derive(Drop)]
+pub struct Whole {
+    /// The run whose report was written, or of which a part was.
+    pub run: Run,
+}
+
+/// How the program ended.
+#[derive(Drop)]
+pub struct Outcome {
+    /// The status, which says the exit code and the line for standard error.
+    pub status: Status,
+    /// The run, exactly where the status is `Done` or `WriteFault`.
+    pub whole: Option<Whole>,
+}
+
+// An end without a run.
+fn refused(status: Status) -> Outcome
+    ensures status { result.status ≡ status }
+    ensures whole { result.whole ≡ None }
+{
+    Outcome {
+        status,
+        whole: None,
+    }
+}
+
+// The options of a run with so many turns of core 0 and none of core 1: core 1 begins at the
+// image's entry, and the rest is the default.
+fn options_for(turns: u32, image: &Image) -> Options
+    ensures { result ≡ options_of turns image.now }
+{
+    Options {
+        turns0: turns,
+        turns1: 0,
+        entry1: image.entry,
+        vecbase: 0x40080000,
+        stack0: Stack {
+            lo: 0x3FFF0000,
+            hi: 0x3FFF8000,
+        },
+        stack1: Stack {
+            lo: 0x3FFF8000,
+            hi: 0x40000000,
+        },
+    }
+}
+
+// Runs the image that an input is, or says with which status that ends.
+fn run_input(alloc: Global, turns: u32, input: &[u8]) -> Result<Run, Status>
+    requires turns { turns ≤ most_turns }
+    requires within { length input.now ≤ 8388608 }
+    ensures { RunsInput result turns input.now }
+{
+    let image = match read(alloc, input) {
+        Ok(image) => image,
+        Err(ImageFault::Unbuilt) => return Err(Status::Unbuilt),
+        Err(ImageFault::Memory) => return Err(Status::Memory),
+        Err(fault) => return Err(Status::Image(fault)),
+    };
+    let options = options_for(turns, &image);
+    match run_one(alloc, &image, &options) {
+        Ok(run) => Ok(run),
+        Err(RunFault::Unbuilt) => Err(Status::Unbuilt),
+        Err(RunFault::Memory) => Err(Status::Memory),
+    }
+}
+
+// Reads an image to its end, runs it, and writes the report of the run.
+fn run_source<S: Source, K: Sink>(
+    alloc: Global,
+    turns: u32,
+    source: &mut S,
+    sink: &mut K,
+) -> Outcome
+    requires { turns ≤ most_turns }
+    ensures { Answers (Some turns) (record {
+      left = S.left source.old;
+      left_after = S.left source.new;
+      told = K.told sink.old;
+      told_after = K.told sink.new;
+      source_faults = S.faults source.old;
+      source_faults_after = S.faults source.new;
+      sink_faults = K.faults sink.old;
+      sink_faults_after = K.faults sink.new;
+    }) result }
+{
+    let input = match read_to_limit(alloc, source, IMAGE_LIMIT) {
+        Ok(input) => input,
+        Err(ReadError::Fault) => return refused(Status::ReadFault),
+        Err(ReadError::TooLarge) => return refused(Status::Unbuilt),
+        Err(ReadError::Memory) => return refused(Status::Memory),
+    };
+    let run = match run_input(alloc, turns, &input) {
+        Ok(run) => run,
+        Err(status) => return refused(status),
+    };
+    let Ok(text) = report(alloc, &run) else {
+        return refused(Status::Memory);
+    };
+    let status = match write_all(sink, text.as_slice()) {
+        Ok(()) => Status::Done,
+        Err(Refused::Failed) => Status::WriteFault,
+        Err(Refused::Memory) => return refused(Status::Memory),
+    };
+    Outcome {
+        status,
+        whole: Some(Whole { run }),
+    }
+}
+
+/// What the program does with the words behind its name, a source and a sink.
+///
+/// The words are `run`, `--turns0`, N, `--turns1` and `0`: the source is read to its end as an
+/// ESP32 application image, core 0 runs it for at most N turns, and the report is written to the
+/// sink. The gate is not used yet.
+///
+/// The contract says of each status its cause, and what was written; of `Done` and `WriteFault`
+/// besides that the run that is handed out is the image's: its history is legal from the opening
+/// memory, the trace of core 0 is the processor's over the replies of that history, and the
+/// history's accesses are the trace's. Want of memory is the one free answer.
+pub fn xt_main<S: Source, K: Sink, G: Gate>(
+    alloc: Global,
+    words: &[String],
+    source: &mut S,
+    sink: &mut K,
+    _gate: &G,
+) -> Outcome
+    ensures answers { Answers (turns_of (map string_bytes words.now)) (record {
+      left = S.left source.old;
+      left_after = S.left source.new;
+      told = K.told sink.old;
+      told_after = K.told sink.new;
+      source_faults = S.faults source.old;
+      source_faults_after = S.faults source.new;
+      sink_faults = K.faults sink.old;
+      sink_faults_after = K.faults sink.new;
+    }) result }
+    ensures complete { IsComplete (turns_of (map string_bytes words.now)) (record {
+      left = S.left source.old;
+      left_after = S.left source.new;
+      told = K.told sink.old;
+      told_after = K.told sink.new;
+      source_faults = S.faults source.old;
+      source_faults_after = S.faults source.new;
+      sink_faults = K.faults sink.old;
+      sink_faults_after = K.faults sink.new;
+    }) result }
+{
+    match ordered_turns(words) {
+        Some(turns) => run_source(alloc, turns, source, sink),
+        None => refused(Status::Unbuilt),
+    }
+}

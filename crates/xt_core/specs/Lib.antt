@@ -1,0 +1,6 @@
+pub mod Chips
+pub mod Runs
+pub mod Reach
+pub mod Quiet
+pub mod Cores
+pub mod Drives

@@ -1,0 +1,2 @@
+//! One turn of the processor: its definition.
+#![tactic(auto)]

@@ -1,0 +1,5 @@
+pub mod Walk
+pub mod Folds
+pub mod Joined
+pub mod First
+pub mod Accepted

@@ -1,0 +1,4 @@
+pub mod Regions
+pub mod Memory
+pub mod Serving
+pub mod History

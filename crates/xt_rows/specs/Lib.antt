@@ -1,0 +1,5 @@
+pub mod Fetching
+pub mod Numbers
+pub mod Operands
+pub mod Outcomes
+pub mod Settling

@@ -1,0 +1,83 @@
+-- What an outcome, an interrupt or a turn of waiting leaves, beside the registers: the same for the processor and for a machine
+-- with unbounded frames ('profile' for the turn as the unit of time; the effects are those of the manual's chapters on the options).
+use Rattle.std.specs.Prelude.{ℕ, ◌+◌, ◌-◌, ◌%◌, ◌^◌, if◌then◌else◌, Option, Some, None, List, [], ◌∷◌, slice_set}
+use Rattle.xt_map.specs.declared.access.Access.{Access}
+use Rattle.xt_special.specs.Numbers as number
+use Rattle.xt_special.specs.Control.{Control, special_of}
+use Rattle.xt_special.specs.Timers.{ticked}
+use Rattle.xt_special.specs.Exceptions.{after_exception}
+use Rattle.xt_special.specs.Interrupts.{after_interrupt}
+use Rattle.xt_loop.specs.Looping.{loops_back}
+use Rattle.xt_rows.specs.declared.outcome.Write.{Write}
+use Rattle.xt_rows.specs.declared.outcome.SpecialWrite.{SpecialWrite}
+use Rattle.xt_rows.specs.declared.outcome.Awaited.{Awaited}
+use Rattle.xt_rows.specs.declared.outcome.Flow.{Flow}
+use Rattle.xt_rows.specs.declared.outcome.Flow.TheVariants.{Falls, Goes}
+use Rattle.xt_rows.specs.declared.outcome.Effect.{Effect}
+use Rattle.xt_rows.specs.declared.outcome.Outcome.{Outcome}
+use Rattle.xt_rows.specs.declared.outcome.Outcome.TheVariants.{Does, Raises, Asks, Stops}
+
+-- ---- an effect on the control state
+
+abbrev pub with_set : Option SpecialWrite → List ℕ → List ℕ
+with_set None special = special
+with_set (Some w) special = slice_set special w.number w.value
+
+abbrev pub with_sets : List (Option SpecialWrite) → List ℕ → List ℕ
+with_sets [] special = special
+with_sets (w ∷ rest) special = with_sets rest (with_set w special)
+
+-- An instruction that falls through may go back in a loop. A jump, a taken branch, a call or a return never does.
+abbrev pub after_flow : Flow → ℕ → Control → Control
+after_flow Falls len c =
+    let next = (c.pc + len) % 2 ^ 32 in
+    if loops_back (special_of c number.lend) (special_of c number.lcount) c.ps.excm next
+    then record c { pc = special_of c number.lbeg; special = slice_set c.special number.lcount (special_of c number.lcount - 1) }
+    else record c { pc = next }
+after_flow (Goes target) len c = record c { pc = target }
+
+-- the effect comes first, and then the loop's test
+unfoldable pub after_effect : Effect → ℕ → Control → Control
+after_effect e len c =
+    after_flow e.flow len (record { pc = c.pc; special = with_sets e.sets c.special; ps = e.ps; threadptr = e.threadptr; waits = e.waits })
+
+-- ---- what a turn was, and what it leaves
+
+pub data Kind : Type 0 where
+  -- an instruction was executed
+  Executed : Kind
+  -- an exception of this cause was entered
+  Raised : ℕ → Kind
+  -- an interrupt of this level was taken
+  Taken : ℕ → Kind
+  Waited : Kind
+  Stopped : Kind
+
+pub record Settled : Type 0 where
+  pub kind : Kind
+  -- the register that is written, where the value is known without a reply
+  pub write : Option Write
+  pub access : Option Access
+  -- the register that receives the reply
+  pub awaited : Option Awaited
+  pub control : Control
+
+abbrev pub without_access : Kind → Option Write → Control → Settled
+without_access kind write c = record { kind = kind; write = write; access = None; awaited = None; control = ticked c }
+
+abbrev pub settled_exception : ℕ → Option ℕ → Control → Settled
+settled_exception cause address c = without_access (Raised cause) None (after_exception cause address c)
+
+abbrev pub settled_interrupt : ℕ → Control → Settled
+settled_interrupt level c = without_access (Taken level) None (after_interrupt level c)
+
+abbrev pub settled_wait : Control → Settled
+settled_wait c = without_access Waited None c
+
+-- an instruction of this length
+abbrev pub settled : Outcome → ℕ → Control → Settled
+settled (Does e) len c = without_access Executed e.write (after_effect e len c)
+settled (Raises cause address) len c = settled_exception cause address c
+settled (Asks access awaited e) len c =
+    record { kind = Executed; write = None; access = Some access; awaited = awaited; control = ticked (after_effect e len c) }
+settled Stops len c = without_access Stopped None c

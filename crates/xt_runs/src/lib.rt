@@ -1,0 +1,2 @@
+//! Traces and runs over an abstract processor: definitions alone.
+#![tactic(auto)]
