@@ -15,3 +15,5 @@ pub use words::ordered_turns;
 
 #[cfg(test)]
 mod tests;
+#[cfg(test)]
+mod top_tests;

@@ -62,3 +62,6 @@ pub fn decode(b0: u8, b1: u8, b2: u8) -> Decoded
         None => Decoded::Illegal,
     }
 }
+
+#[cfg(test)]
+mod tests;

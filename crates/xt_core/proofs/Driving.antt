@@ -169,10 +169,11 @@ outside_past : (code : ℕ → ℕ) (pc0 stack_end turns n : ℕ) (c : CoreView)
     → (v : ℕ) (m : MemoryContents) → (later : MemoryContents) × (any_outside code (states_alone (processor code) (opening_at pc0 stack_end v) m turns)
     ≡ any_outside code (cond (is_stop (kind_of_action p.action)) [] (states_alone (processor code) (state_past p v n c.pc c.regs) later (turns - (n + 1)))))
 outside_past code pc0 stack_end turns n c p so lt small plan v m =
-    let (now, e) = so.outside v m in
-    (memory_left (access_of p.action) now,
-    e ∙ ap (λ (k : ℕ). any_outside code (states_alone (processor code) (state_at v n c.pc c.regs) now k)) (left_is turns n lt)
-    ∙ outside_turn code v n (turns - (n + 1)) c.pc c.regs now p small plan)
+    let (now, e) = so.outside v m in (
+      memory_left (access_of p.action) now,
+      e ∙ ap (λ (k : ℕ). any_outside code (states_alone (processor code) (state_at v n c.pc c.regs) now k)) (left_is turns n lt)
+          ∙ outside_turn code v n (turns - (n + 1)) c.pc c.regs now p small plan,
+    )
 
 -- ---- what the loop needs
 
@@ -188,8 +189,11 @@ begins code pc0 stack_end turns =
     record {
       trace = λ v future. ap (λ (s : State). trace_over (processor code) s turns future) (opens_quietly pc0 stack_end v)
           ∙ ap (λ (k : ℕ). trace_over (processor code) (state_at v 0 pc0 (opening_regs stack_end)) k future) all;
-      outside = λ v m. (m, ap (λ (s : State). any_outside code (states_alone (processor code) s m turns)) (opens_quietly pc0 stack_end v)
-          ∙ ap (λ (k : ℕ). any_outside code (states_alone (processor code) (state_at v 0 pc0 (opening_regs stack_end)) m k)) all);
+      outside = λ v m. (
+        m,
+        ap (λ (s : State). any_outside code (states_alone (processor code) s m turns)) (opens_quietly pc0 stack_end v)
+            ∙ ap (λ (k : ℕ). any_outside code (states_alone (processor code) (state_at v 0 pc0 (opening_regs stack_end)) m k)) all,
+      );
       calls = refl;
       sends = tt;
     }

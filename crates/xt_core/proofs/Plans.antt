@@ -44,17 +44,19 @@ use Rattle.xt_core.proofs.Quietly.{and_false, plans_insn, leaves, counts_on}
 
 abbrev made : State → Planned → ℕ → StepRecord × State
 made s p reply =
-    let write = written p.write p.awaited reply in
-    (record {
-      pc = s.control.pc;
-      kind = p.kind;
-      write = shown write;
-      access = p.access;
-      reply = reply_where p.access reply;
-      ccount = special_of s.control number.ccount;
-      owb = s.control.ps.owb;
-      interrupt = special_of s.control number.interrupt;
-    }, with_write write p.after)
+    let write = written p.write p.awaited reply in (
+      record {
+        pc = s.control.pc;
+        kind = p.kind;
+        write = shown write;
+        access = p.access;
+        reply = reply_where p.access reply;
+        ccount = special_of s.control number.ccount;
+        owb = s.control.ps.owb;
+        interrupt = special_of s.control number.interrupt;
+      },
+      with_write write p.after,
+    )
 
 turn_is : (code : ℕ → ℕ) (s : State) (reply : ℕ) (p : Planned) → planned code s ≡ p → turn code s reply ≡ made s p reply
 unfolding turn demand
@@ -70,9 +72,10 @@ abbrev plan_with : StepKind → Option Write → Option Access → ℕ → List 
 plan_with kind write access pc regs c = record { kind = kind; write = write; access = access; awaited = None; after = record { regs = regs; base = 0; start = 1; control = c } }
 
 abbrev pair_with : StepKind → Option Write → Option Access → ℕ → List ℕ → ℕ → ℕ → ℕ → Control → StepRecord × State
-pair_with kind write access pc regs reply ccount interrupt c =
-    (record { pc = pc; kind = kind; write = shown write; access = access; reply = reply_where access reply; ccount = ccount; owb = 0; interrupt = interrupt },
-    with_write write (record { regs = regs; base = 0; start = 1; control = c }))
+pair_with kind write access pc regs reply ccount interrupt c = (
+  record { pc = pc; kind = kind; write = shown write; access = access; reply = reply_where access reply; ccount = ccount; owb = 0; interrupt = interrupt },
+  with_write write (record { regs = regs; base = 0; start = 1; control = c }),
+)
 
 made_quietly : (kind : StepKind) (write : Option Write) (access : Option Access) (v n pc reply : ℕ) (regs : List ℕ) (c d : Control) → c ≡ d
     → made (state_at v n pc regs) (plan_with kind write access pc regs c) reply ≡ pair_with kind write access pc regs reply n 0 d

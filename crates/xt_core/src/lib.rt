@@ -11,3 +11,6 @@ mod run;
 mod state;
 
 pub use run::{RunFault, run_one};
+
+#[cfg(test)]
+mod tests;

@@ -106,7 +106,9 @@ impl Core {
         ensures entries { result.1.items ≡ self.entries }
     {
         let Core {
-            records, entries, ..
+            records,
+            entries,
+            ..
         } = self;
         (records, entries)
     }

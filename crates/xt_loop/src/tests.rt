@@ -12,6 +12,10 @@ const ROWS: [(u32, u32, u32, bool, u32, u32, u32); 5] = [
 #[test]
 fn goes_back_at_the_end(rt: HostRuntime) {
     for (lbeg, lend, lcount, excm, next, pc, count) in ROWS {
-        assert_eq!(rt; step(lbeg, lend, lcount, excm, next), (pc, count), "to {next}");
+        assert_eq!(rt;
+            step(lbeg, lend, lcount, excm, next),
+            (pc, count),
+            "to {next}"
+        );
     }
 }

@@ -8,5 +8,4 @@ ghost use Rattle.xt_window.specs.Ring.{ahead};
 /// finds another window: the state in which a core opens.
 pub fn opening_window_is_alone()
     ensures { (quad : ℕ) → quad < 4 → ahead 1 0 quad ≡ 0 }
-{
-}
+{}
