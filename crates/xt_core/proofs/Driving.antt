@@ -1,12 +1,10 @@
 -- Driving a core to its end, turn by turn.
-use Rattle.std.proofs.Common.{◌≡◌, ℕ, zero, suc, ◌+◌, ◌-◌, ◌<◌, ◌≤◌, ◌^◌, Bool, true, false, ◌||◌, not, cond, eqb, List, [], ◌∷◌, ◌++◌, Option, Some, None, refl, sym, ap, ◌∙◌, subst, arith, append_assoc}
+use Rattle.std.proofs.Common.{◌≡◌, ℕ, suc, ◌+◌, ◌-◌, ◌<◌, ◌≤◌, ◌^◌, Bool, true, false, ◌||◌, not, cond, eqb, List, [], ◌∷◌, ◌++◌, Option, Some, None, refl, sym, ap, ◌∙◌, arith, append_assoc}
 use Rattle.std.proofs.lemmas.List.{append-nil, map-append}
-use Rattle.std.specs.List.{list_any}
 use Rattle.std.specs.Prelude.{map}
 use Rattle.xt_map.specs.declared.access.Access.{Access}
 use Rattle.xt_map.specs.declared.access.Entry.{Entry}
 use Rattle.xt_map.specs.declared.contents.MemoryContents.{MemoryContents}
-use Rattle.xt_map.specs.Regions.{is_uart}
 use Rattle.xt_map.specs.Serving.{reply_to}
 use Rattle.xt_map.specs.History.{calls_of, replies_of}
 use Rattle.xt_trace.specs.declared.record.StepRecord.{StepRecord}
@@ -24,7 +22,7 @@ use Rattle.xt_core.specs.Chips.{processor}
 use Rattle.xt_core.specs.Reach.{is_within_reach}
 use Rattle.xt_core.specs.Quiet.{state_at, access_of, kind_of_action, record_at, state_past, IsPlan}
 use Rattle.xt_core.specs.Cores.{CoreView, opened, core_past, entries_of}
-use Rattle.xt_core.specs.Drives.{opening_at, any_outside, IsSend, AreSends, IsDriven}
+use Rattle.xt_core.specs.Drives.{opening_at, any_outside, AreSends, IsDriven}
 
 -- ---- the accesses of a planned turn
 

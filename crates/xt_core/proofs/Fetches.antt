@@ -1,5 +1,5 @@
 -- Fetching from the internal instruction memory.
-use Rattle.std.proofs.Common.{◌≡◌, ℕ, zero, suc, ◌+◌, ◌%◌, ◌<◌, Bool, true, false, ◌&&◌, cond, Option, Some, None, refl, sym, ap, ◌∙◌}
+use Rattle.std.proofs.Common.{◌≡◌, ℕ, zero, suc, ◌+◌, ◌%◌, Bool, true, false, cond, Option, Some, None, refl, sym, ap, ◌∙◌}
 use Rattle.std.proofs.lemmas.Bool.{and_parts}
 use Rattle.xt_isa.specs.declared.Insn.{Insn}
 use Rattle.xt_isa.specs.Spelling.{length_of, spelled, fields_at, within}
@@ -8,7 +8,7 @@ use Rattle.xt_codec.specs.Answers.{answer}
 use Rattle.xt_map.specs.declared.regions.Region.{Region}
 use Rattle.xt_map.specs.declared.regions.Region.TheVariants.{Drom, Uart, RtcFastData, Dram, Iram, RtcFastCode, Irom, RtcSlow}
 use Rattle.xt_map.specs.Regions.{region_of, is_instruction_memory, is_executable, is_constant}
-use Rattle.xt_rows.specs.Fetching.{Fetched, Fetches, Fails, SpellsNothing, fetched, fetched_past, fetched_length, unfetchable, read_as, can_fetch}
+use Rattle.xt_rows.specs.Fetching.{Fetched, Fetches, fetched, fetched_past, fetched_length, unfetchable, read_as, can_fetch}
 use Rattle.xt_core.specs.Reach.{lies_in_iram, fetches_from_iram}
 
 executable : (r : Option Region) → is_instruction_memory r ≡ true → is_executable r ≡ true

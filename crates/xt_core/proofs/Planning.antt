@@ -1,14 +1,13 @@
 -- From an instruction that is built to the plan of its turn.
-use Rattle.std.proofs.Common.{◌≡◌, ◌≢◌, ℕ, ◌+◌, ◌%◌, ◌<◌, ◌^◌, ℤ, Bool, true, false, ◌&&◌, cond, eqb, nat_lt, List, slice_index, Option, Some, None, refl, sym, ap, ◌∙◌, subst, eqb-true, eq-eqb, ltb-true}
+use Rattle.std.proofs.Common.{◌≡◌, ◌≢◌, ℕ, ◌%◌, ◌<◌, ℤ, Bool, true, false, cond, eqb, List, slice_index, Option, Some, None, refl, sym, ap, ◌∙◌, eqb-true, eq-eqb, ltb-true}
 use Rattle.std.proofs.lemmas.Bool.{and_parts}
-use Rattle.std.specs.Option.{option_map}
 use Rattle.xt_isa.specs.declared.Insn.{Insn}
 use Rattle.xt_isa.specs.declared.Insn.TheVariants as insn
 use Rattle.xt_isa.specs.declared.memory.Memory.TheVariants as memory
 use Rattle.xt_isa.specs.declared.memory.ByteName.TheVariants as ByteName
 use Rattle.xt_isa.specs.Ranges.{in_range, literal_within, one_register, two_registers}
 use Rattle.xt_map.specs.Regions.{uart_transmit}
-use Rattle.xt_rows.specs.Fetching.{Fetched, Fetches, fetched}
+use Rattle.xt_rows.specs.Fetching.{Fetches, fetched}
 use Rattle.xt_rows.specs.Numbers.{plus, literal_address, code_number}
 use Rattle.xt_window.proofs.Alone.{alone}
 use Rattle.xt_core.specs.declared.actions.Action.{Action}
@@ -17,7 +16,7 @@ use Rattle.xt_core.specs.declared.actions.Plan.{Plan}
 use Rattle.xt_core.specs.declared.actions.Built.{Built}
 use Rattle.xt_core.specs.declared.actions.Built.TheVariants as built
 use Rattle.xt_core.specs.Reach.{lies_in_iram}
-use Rattle.xt_core.specs.Quiet.{FetchesFromIram, Plans, HasRegisters, action_for, insn_of}
+use Rattle.xt_core.specs.Quiet.{Plans, HasRegisters, action_for, insn_of}
 use Rattle.xt_core.proofs.Plans.{not_literal, not_sending, movi_plan, l32r_plan, s8i_plan, break_plan}
 
 abbrev pub planned_as : ℕ → Option Action → Option Plan

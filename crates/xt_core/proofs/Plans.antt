@@ -1,5 +1,5 @@
 -- What the four instructions do in a core that nothing disturbs.
-use Rattle.std.proofs.Common.{◌≡◌, ◌≢◌, ℕ, zero, suc, ◌+◌, ◌*◌, ◌/◌, ◌<◌, ◌≤◌, ◌%◌, ◌^◌, ℤ, pos, negsuc, nat_lt, subst, eqb-true, Bool, true, false, ◌&&◌, cond, eqb, List, slice_index, slice_set, Option, Some, None, max, refl, sym, ap, ◌∙◌, arith, eq-eqb}
+use Rattle.std.proofs.Common.{◌≡◌, ◌≢◌, ℕ, ◌+◌, ◌<◌, ◌%◌, ◌^◌, ℤ, pos, negsuc, nat_lt, subst, eqb-true, Bool, true, false, ◌&&◌, cond, eqb, List, slice_index, slice_set, Option, Some, None, refl, sym, ap, ◌∙◌, arith, eq-eqb}
 use Rattle.std.proofs.lemmas.Bool.{and_parts, and_from}
 use Rattle.std.proofs.lemmas.Bool.Decides.{nat_tests}
 use Rattle.xt_isa.specs.Ranges.{literal_within}
@@ -23,13 +23,12 @@ use Rattle.xt_trace.specs.declared.record.StepKind.TheVariants as kind
 use Rattle.xt_trace.specs.declared.record.StepRecord.{StepRecord}
 use Rattle.xt_rows.specs.declared.outcome.Write.{Write}
 use Rattle.xt_rows.specs.declared.outcome.Outcome.{Outcome}
-use Rattle.xt_rows.specs.declared.outcome.Outcome.TheVariants.{Does, Raises, Asks, Stops}
-use Rattle.xt_rows.specs.declared.outcome.Awaited.{Awaited}
-use Rattle.xt_rows.specs.Fetching.{Fetched, Fetches, Fails, SpellsNothing, fetched}
+use Rattle.xt_rows.specs.declared.outcome.Outcome.TheVariants.{Does, Raises, Asks}
+use Rattle.xt_rows.specs.Fetching.{Fetched, Fetches, fetched}
 use Rattle.xt_rows.specs.Numbers.{plus, literal_address, code_number}
 use Rattle.xt_rows.specs.Operands.{named, reads, special_reads}
-use Rattle.xt_rows.specs.Outcomes.{outcome, outcome_at, falls_with, loads, stores, asks, aligned, puts}
-use Rattle.xt_rows.specs.Settling.{Kind, Executed, Stopped, after_effect, settled, without_access}
+use Rattle.xt_rows.specs.Outcomes.{outcome, outcome_at, falls_with, asks}
+use Rattle.xt_rows.specs.Settling.{after_effect, settled}
 use Rattle.xt_exec.specs.State.{State}
 use Rattle.xt_exec.specs.Turn.{Planned, planned, demand, turn, in_window, written, shown, with_write, reply_where}
 use Rattle.xt_core.specs.declared.actions.Action.TheVariants.{Writes, Sends}

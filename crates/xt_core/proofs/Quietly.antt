@@ -1,23 +1,22 @@
 -- One turn of a core that no interrupt, wait, loop or window disturbs.
-use Rattle.std.proofs.Common.{◌≡◌, ◌≢◌, ℕ, zero, suc, ◌+◌, ◌/◌, ◌<◌, ◌≤◌, ◌%◌, ◌^◌, Bool, true, false, ◌&&◌, cond, eqb, nat_lt, List, slice_index, Option, Some, None, refl, sym, ap, ◌∙◌, arith, bit_and}
+use Rattle.std.proofs.Common.{◌≡◌, ℕ, ◌+◌, ◌/◌, ◌<◌, ◌%◌, ◌^◌, Bool, true, false, ◌&&◌, eqb, List, slice_index, Option, refl, ap, ◌∙◌, arith, bit_and}
 use Rattle.std.specs.Int.Bits.{and_zero_r}
 use Rattle.xt_isa.specs.declared.Insn.{Insn}
 use Rattle.xt_special.specs.declared.ps.Ps.{Ps}
-use Rattle.xt_special.specs.Control.{Control, special_of}
+use Rattle.xt_special.specs.Control.{Control}
 use Rattle.xt_special.specs.Opening.{opening_ps}
 use Rattle.xt_special.specs.Interrupts.{pending_level, pending_of}
 use Rattle.xt_special.specs.Timers.{ticked}
 use Rattle.xt_loop.specs.Looping.{loops_back}
 use Rattle.xt_window.specs.Ring.{ahead, visible}
 use Rattle.xt_rows.specs.declared.outcome.Write.{Write}
-use Rattle.xt_rows.specs.Fetching.{Fetched, Fetches, fetched}
+use Rattle.xt_rows.specs.Fetching.{Fetches, fetched}
 use Rattle.xt_rows.specs.Operands.{named}
 use Rattle.xt_rows.specs.Outcomes.{outcome_at, falls_with}
 use Rattle.xt_rows.specs.Settling.{after_effect, settled}
-use Rattle.xt_exec.specs.State.{State}
-use Rattle.xt_exec.specs.Turn.{planned, in_window, fetched_turn, window_check, Planned}
+use Rattle.xt_exec.specs.Turn.{planned, in_window, fetched_turn}
 use Rattle.xt_core.specs.Quiet.{special_at, control_at, state_at}
-use Rattle.xt_core.proofs.Specials.{count_is, other_is, ticks}
+use Rattle.xt_core.proofs.Specials.{other_is, ticks}
 
 -- ---- no interrupt is pending, for none is enabled
 

@@ -1,10 +1,9 @@
 -- The special registers of a core that only counts its turns.
-use Rattle.std.proofs.Common.{◌≡◌, ◌≢◌, ℕ, zero, suc, ◌+◌, ◌<◌, ◌%◌, ◌^◌, List, [], ◌∷◌, length, slice_index, slice_set, get_or, refl, sym, ap, ◌∙◌, arith, get_or-set_other, get_or-set_same, false, cond, eqb, Bool, bit_and}
+use Rattle.std.proofs.Common.{◌≡◌, ◌≢◌, ℕ, zero, suc, ◌+◌, ◌<◌, ◌%◌, ◌^◌, List, [], ◌∷◌, length, slice_index, slice_set, refl, sym, ap, ◌∙◌, arith, get_or-set_other, get_or-set_same, false, eqb}
 use Rattle.std.proofs.lemmas.List.{get_or-replicate, length-replicate, length-set, set-get_or}
 use Rattle.std.proofs.lemmas.Bool.Decides.{nat_tests}
-use Rattle.xt_special.specs.Opening.{no_special, opening_special, opening_ps}
+use Rattle.xt_special.specs.Opening.{no_special, opening_special}
 use Rattle.xt_special.specs.Timers.{ticked_special, with_timer}
-use Rattle.xt_special.specs.Interrupts.{pending_level}
 use Rattle.xt_exec.specs.State.{prid_of}
 use Rattle.xt_core.specs.Quiet.{special_at}
 

@@ -1,5 +1,5 @@
 -- A core at work, and what a planned turn makes of it.
-use Rattle.std.specs.Prelude.{ℕ, ◌+◌, List, [], ◌∷◌, ◌++◌}
+use Rattle.std.specs.Prelude.{ℕ, List, [], ◌∷◌, ◌++◌}
 use Rattle.xt_map.specs.declared.access.Access.{Access}
 use Rattle.xt_map.specs.declared.access.Kind.TheVariants.{Store}
 use Rattle.xt_map.specs.declared.access.Entry.{Entry}

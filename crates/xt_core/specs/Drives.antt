@@ -6,7 +6,7 @@ use Rattle.xt_map.specs.declared.contents.MemoryContents.{MemoryContents}
 use Rattle.xt_map.specs.Regions.{is_uart}
 use Rattle.xt_map.specs.History.{calls_of, replies_of}
 use Rattle.xt_trace.specs.Calls.{calls_in}
-use Rattle.xt_runs.specs.Traces.{Traced, trace_over}
+use Rattle.xt_runs.specs.Traces.{trace_over}
 use Rattle.xt_runs.specs.Alone.{states_alone}
 use Rattle.xt_exec.specs.State.{State, opening_state}
 use Rattle.xt_core.specs.declared.run.RunFault.{RunFault}

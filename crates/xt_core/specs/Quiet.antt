@@ -1,6 +1,6 @@
 -- The states that turns within reach lead to: no window has moved, and the special registers are as they opened but for CCOUNT.
 -- What a plan of such a turn says.
-use Rattle.std.specs.Prelude.{◌≡◌, ℕ, ◌+◌, ◌%◌, ◌^◌, ◌<◌, ℤ, Bool, true, false, ◌==◌, if◌then◌else◌, Option, Some, None, List, slice_index, slice_set}
+use Rattle.std.specs.Prelude.{◌≡◌, ℕ, ◌+◌, ◌%◌, ◌^◌, ◌<◌, ℤ, true, false, ◌==◌, if◌then◌else◌, Option, Some, None, List, slice_index, slice_set}
 use Rattle.xt_isa.specs.declared.Insn.{Insn}
 use Rattle.xt_isa.specs.declared.Insn.TheVariants as insn
 use Rattle.xt_isa.specs.declared.memory.Memory.TheVariants as memory
@@ -18,7 +18,7 @@ use Rattle.xt_trace.specs.declared.record.StepKind.{StepKind}
 use Rattle.xt_trace.specs.declared.record.StepKind.TheVariants as kind
 use Rattle.xt_trace.specs.declared.record.RegWrite.{RegWrite}
 use Rattle.xt_trace.specs.declared.record.StepRecord.{StepRecord}
-use Rattle.xt_rows.specs.Fetching.{Fetched, Fetches, Fails, SpellsNothing, fetched}
+use Rattle.xt_rows.specs.Fetching.{Fetches, fetched}
 use Rattle.xt_rows.specs.Numbers.{plus, literal_address, code_number}
 use Rattle.xt_exec.specs.State.{State, prid_of}
 use Rattle.xt_exec.specs.Turn.{demand, turn, reply_where}

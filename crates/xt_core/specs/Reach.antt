@@ -1,5 +1,5 @@
 -- The turns that the core can make so far ('profile').
-use Rattle.std.specs.Prelude.{ℕ, zero, suc, ◌+◌, Bool, true, false, ◌==◌, ◌&&◌, not, Option, Some, None, List}
+use Rattle.std.specs.Prelude.{ℕ, zero, suc, ◌+◌, Bool, true, false, ◌==◌, ◌&&◌, not, Option, Some, None}
 use Rattle.std.specs.List.{list_any}
 use Rattle.xt_isa.specs.declared.Insn.{Insn}
 use Rattle.xt_isa.specs.declared.Insn.TheVariants as insn
@@ -9,7 +9,7 @@ use Rattle.xt_isa.specs.declared.system.System.TheVariants as system
 use Rattle.xt_isa.specs.declared.system.BreakName.TheVariants as BreakName
 use Rattle.xt_map.specs.declared.access.Access.{Access}
 use Rattle.xt_map.specs.declared.access.Kind.{Kind}
-use Rattle.xt_map.specs.declared.access.Kind.TheVariants.{Load, Store, Cas}
+use Rattle.xt_map.specs.declared.access.Kind.TheVariants.{Store}
 use Rattle.xt_map.specs.Regions.{region_of, is_instruction_memory, uart_transmit}
 use Rattle.xt_trace.specs.declared.options.Options.{Options}
 use Rattle.xt_trace.specs.declared.record.StepKind.{StepKind}

@@ -1,6 +1,5 @@
 -- Runs of an image ('profile').
 use Rattle.std.specs.Prelude.{◌≡◌, ℕ, ◌-◌, List, [], ◌∷◌}
-use Rattle.xt_map.specs.declared.access.Entry.{Entry}
 use Rattle.xt_map.specs.declared.contents.MemoryContents.{MemoryContents}
 use Rattle.xt_map.specs.Memory.{constant_byte, opening_memory}
 use Rattle.xt_map.specs.History.{IsLegal, IsOfCores, calls_of, replies_of}

@@ -102,7 +102,7 @@ abbrev pub agrees : Row → ℕ → ℕ → Bool
 agrees row k n = bit_and (nibble row.mask k) n == nibble row.value k
 
 abbrev pub fits : Row → Fields → Bool
-fits row w = agrees row 0 w.op0 && (agrees row 4 w.op1 && (agrees row 5 w.op2 && (agrees row 3 w.r && (agrees row 1 w.t && agrees row 2 w.s))))
+fits pattern w = agrees pattern 0 w.op0 && (agrees pattern 4 w.op1 && (agrees pattern 5 w.op2 && (agrees pattern 3 w.r && (agrees pattern 1 w.t && agrees pattern 2 w.s))))
 
 -- what the first row that fits makes of the fields
 abbrev pub spell : List Row → Fields → Option Insn

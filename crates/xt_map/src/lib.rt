@@ -9,16 +9,24 @@ mod bytes;
 mod constants;
 mod contents;
 mod history;
+mod laws;
 mod lookup;
 mod mapping;
 pub mod regions;
 mod segment;
+#[cfg(test)]
+mod tests;
 
 pub use access::{Access, Entry, Kind};
 pub use bytes::{Bytes, Text};
 pub use constants::Constants;
 pub use contents::MemoryContents;
 pub use history::History;
+pub use laws::{
+    access_keeps_sizes, byte_of_other_address, byte_put_keeps_sizes, byte_that_was_put,
+    calls_of_longer_history, legal_test_is_law, memory_of_longer_history, one_entry_more_is_legal,
+    one_entry_more_is_of_cores, opening_has_sizes, regions_as_ranges, stores_keep_other_bytes,
+};
 pub use lookup::region;
 pub use mapping::mapped;
 pub use segment::{Segment, Segments};

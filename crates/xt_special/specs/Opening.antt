@@ -1,5 +1,5 @@
 -- The control state in which a core opens ('profile').
-use Rattle.std.specs.Prelude.{ℕ, Bool, true, false, List, replicate, slice_set}
+use Rattle.std.specs.Prelude.{ℕ, true, false, List, replicate, slice_set}
 use Rattle.xt_special.specs.declared.ps.Ps.{Ps}
 use Rattle.xt_special.specs.Numbers as number
 use Rattle.xt_special.specs.Control.{Control}

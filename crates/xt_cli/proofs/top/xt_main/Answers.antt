@@ -1,4 +1,4 @@
-use Rattle.std.proofs.Common.{ℕ, Option, sym, subst}
+use Rattle.std.proofs.Common.{ℕ, Option, subst}
 use Rattle.xt_cli.specs.Top.{Ends, IsComplete}
 use Rattle.xt_cli.proofs.Complete.{complete}
 use Rattle.xt_cli.proofs.top.xt_main.Goals as goal

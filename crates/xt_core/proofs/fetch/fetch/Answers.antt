@@ -1,4 +1,4 @@
-use Rattle.std.proofs.Common.{◌≡◌, ◌+◌, ℕ, true, sym, ap, ◌∙◌, arith}
+use Rattle.std.proofs.Common.{◌≡◌, ◌+◌, true, sym, ap, ◌∙◌, arith}
 use Rattle.xt_isa.specs.Spelling.{length_of, spelled, fields_at}
 use Rattle.xt_codec.specs.Answers.{answer}
 use Rattle.xt_codec.specs.declared.Decoded.TheVariants as decoded

@@ -1,7 +1,7 @@
-use Rattle.std.proofs.Common.{◌≡◌, ℕ, Option, Some, None, sym, ap, ◌∙◌, subst}
+use Rattle.std.proofs.Common.{Option, sym, subst}
 use Rattle.xt_map.specs.Memory.{constant_byte}
 use Rattle.xt_core.specs.declared.actions.Action.{Action}
-use Rattle.xt_core.specs.Quiet.{Plans, action_for}
+use Rattle.xt_core.specs.Quiet.{Plans}
 use Rattle.xt_core.proofs.Plans.{not_fetched, not_built}
 use Rattle.xt_core.proofs.Planning.{planned_as, has_registers, plans_built}
 use Rattle.xt_core.proofs.plan.plan.Goals as goal

@@ -1,9 +1,9 @@
-use Rattle.std.proofs.Common.{◌≡◌, ◌+◌, ◌^◌, ◌<◌, ℕ, List, true, false, sym, ap, ◌∙◌, subst, arith}
+use Rattle.std.proofs.Common.{◌≡◌, ◌+◌, ◌<◌, ℕ, List, sym, ap, ◌∙◌, subst, arith}
 use Rattle.xt_map.specs.Memory.{constant_byte}
 use Rattle.xt_core.specs.declared.actions.Plan.{Plan}
-use Rattle.xt_core.specs.Quiet.{IsPlan, Plans, state_at}
+use Rattle.xt_core.specs.Quiet.{IsPlan, state_at}
 use Rattle.xt_core.specs.Reach.{is_within_reach}
-use Rattle.xt_core.specs.Cores.{CoreView, core_past}
+use Rattle.xt_core.specs.Cores.{CoreView}
 use Rattle.xt_core.specs.Drives.{IsDriven}
 use Rattle.xt_core.proofs.Driving.{SoFar, begins, continues, ends, stops, leaves}
 use Rattle.xt_core.proofs.run.drive.Goals as goal
