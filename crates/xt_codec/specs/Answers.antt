@@ -1,8 +1,9 @@
 -- What the decoder answers for the bytes of a word.
-use Rattle.std.specs.Prelude.{◌≡◌, true, ℕ, Option, Some, None}
+use Rattle.std.specs.Prelude.{◌≡◌, true, ℕ, Option, Some, None, slice_index_or}
 use Rattle.xt_isa.specs.declared.Insn.{Insn}
-use Rattle.xt_isa.specs.Spelling.{length_of}
+use Rattle.xt_isa.specs.Spelling.{fields_at, length_of, spelled}
 use Rattle.xt_isa.specs.Ranges.{in_range}
+use Rattle.xt_codec.specs.declared.Code.{Code}
 use Rattle.xt_codec.specs.declared.Decoded.{Decoded}
 use Rattle.xt_codec.specs.declared.Decoded.TheVariants as decoded
 
@@ -15,3 +16,10 @@ answer b0 (Some i) = decoded.Good i (length_of b0)
 abbrev pub GoodIsInRange : Decoded → Type 0
 GoodIsInRange (decoded.Good i len) = in_range i ≡ true
 GoodIsInRange decoded.Illegal = Unit {0}
+
+abbrev pub byte : Code → ℕ → ℕ
+byte code k = slice_index_or code.bytes k 0
+
+-- the bytes of the code spell the instruction, with the code's length
+abbrev pub IsSpellingOf : Insn → Code → Type 0
+IsSpellingOf i code = answer (byte code 0) (spelled (fields_at (byte code 0) (byte code 1) (byte code 2))) ≡ decoded.Good i code.len

@@ -1,28 +1,149 @@
-//! The words whose major opcode is 0.
-#![tactic(auto)]
+//! The words whose minor operation codes are 0.
+#![tactic(auto, unfolding(xt_isa::specs::Spelling::spelled, xt_isa::specs::Spelling::all_rows))]
 
 ghost use Rattle.std.specs.Prelude.{◌≡◌, ℕ, ◌+◌, ◌*◌, ◌%◌, ◌<◌};
 ghost use Rattle.xt_isa.specs.Spelling.{spelled};
 
-use crate::immediate::plain;
+use crate::immediate::{join_five, plain, signed};
 use xt_isa::Insn;
-use xt_isa::system::{BreakName, System};
+use xt_isa::control::{CallxName, Control, RetName};
+use xt_isa::shift::{NegName, NsaName, Shift, Ssa8Name, SsrName};
+use xt_isa::system::{BreakName, LevelName, ReturnName, SyncName, System, WaitName};
 
-#[tactic(auto, unfolding(xt_isa::specs::Spelling::spelled, xt_isa::specs::Spelling::all_rows))]
-pub fn qrst(t: u8, s: u8, r: u8, op1: u8, op2: u8) -> Option<Insn>
+/// The opcode map SNM0, with the words of JR and CALLX.
+fn snm0(t: u8, s: u8) -> Option<Insn>
+    requires t { t < 16 }
+    requires s { s < 16 }
+    ensures { result ≡ spelled (record { op0 = 0; t = t; s = s; r = 0; op1 = 0; op2 = 0 }) }
+{
+    match (t, s) {
+        (0, 0) => Some(Insn::System(System::Ill(SyncName::Ill))),
+        (8, 0) => Some(Insn::Control(Control::Ret(RetName::Ret))),
+        (9, 0) => Some(Insn::Control(Control::Ret(RetName::Retw))),
+        (10, _) => Some(Insn::Control(Control::Jx(s))),
+        (12, _) => Some(Insn::Control(Control::Callx0(CallxName::Callx0, s))),
+        (13, _) => Some(Insn::Control(Control::Callx0(CallxName::Callx4, s))),
+        (14, _) => Some(Insn::Control(Control::Callx0(CallxName::Callx8, s))),
+        (15, _) => Some(Insn::Control(Control::Callx0(CallxName::Callx12, s))),
+        _ => None,
+    }
+}
+
+/// The opcode map SYNC, by t.
+fn sync(t: u8, s: u8) -> Option<Insn>
+    requires t { t < 16 }
+    requires s { s < 16 }
+    ensures { result ≡ spelled (record { op0 = 0; t = t; s = s; r = 2; op1 = 0; op2 = 0 }) }
+{
+    if s != 0 {
+        return None;
+    }
+    match t {
+        0 => Some(Insn::System(System::Ill(SyncName::Isync))),
+        1 => Some(Insn::System(System::Ill(SyncName::Rsync))),
+        2 => Some(Insn::System(System::Ill(SyncName::Esync))),
+        3 => Some(Insn::System(System::Ill(SyncName::Dsync))),
+        8 => Some(Insn::System(System::Excw(WaitName::Excw))),
+        12 => Some(Insn::System(System::Excw(WaitName::Memw))),
+        13 => Some(Insn::System(System::Excw(WaitName::Extw))),
+        15 => Some(Insn::System(System::Excw(WaitName::Nop))),
+        _ => None,
+    }
+}
+
+/// The opcode map RFEI, by t and s.
+fn rfei(t: u8, s: u8) -> Option<Insn>
+    requires t { t < 16 }
+    requires s { s < 16 }
+    ensures { result ≡ spelled (record { op0 = 0; t = t; s = s; r = 3; op1 = 0; op2 = 0 }) }
+{
+    match t {
+        0 => match s {
+            0 => Some(Insn::System(System::Rfe(ReturnName::Rfe))),
+            2 => Some(Insn::System(System::Rfe(ReturnName::Rfde))),
+            4 => Some(Insn::System(System::Rfe(ReturnName::Rfwo))),
+            5 => Some(Insn::System(System::Rfe(ReturnName::Rfwu))),
+            _ => None,
+        },
+        1 => {
+            if 1 < s && s < 8 {
+                Some(Insn::System(System::Rfi(plain(s as u32))))
+            } else {
+                None
+            }
+        }
+        _ => None,
+    }
+}
+
+/// The opcode map ST0, by r.
+pub fn st0(t: u8, s: u8, r: u8) -> Option<Insn>
     requires t { t < 16 }
     requires s { s < 16 }
     requires r { r < 16 }
-    requires op1 { op1 < 16 }
-    requires op2 { op2 < 16 }
-    ensures { result ≡ spelled (record { op0 = 0; t = t; s = s; r = r; op1 = op1; op2 = op2 }) }
+    ensures { result ≡ spelled (record { op0 = 0; t = t; s = s; r = r; op1 = 0; op2 = 0 }) }
 {
-    match (op1, op2, r) {
-        (0, 0, 4) => Some(Insn::System(System::Break(
-            BreakName::Break,
-            plain(s as u32),
-            plain(t as u32),
-        ))),
+    match r {
+        0 => snm0(t, s),
+        1 => Some(Insn::Shift(Shift::Movsp(t, s))),
+        2 => sync(t, s),
+        3 => rfei(t, s),
+        4 => Some(Insn::System(System::Break(BreakName::Break, plain(s as u32), plain(t as u32)))),
+        5 => {
+            if t == 0 && s == 0 {
+                Some(Insn::System(System::Break(BreakName::Syscall, 0, 0)))
+            } else {
+                None
+            }
+        }
+        6 => Some(Insn::System(System::Rsil(LevelName::Rsil, t, plain(s as u32)))),
+        7 => {
+            if t == 0 {
+                Some(Insn::System(System::Rsil(LevelName::Waiti, 0, plain(s as u32))))
+            } else {
+                None
+            }
+        }
+        _ => None,
+    }
+}
+
+/// The opcode map ST1, by r.
+pub fn st1(t: u8, s: u8, r: u8) -> Option<Insn>
+    requires t { t < 16 }
+    requires s { s < 16 }
+    requires r { r < 16 }
+    ensures { result ≡ spelled (record { op0 = 0; t = t; s = s; r = r; op1 = 0; op2 = 4 }) }
+{
+    match (r, t) {
+        (0, 0) => Some(Insn::Shift(Shift::Ssr(SsrName::Ssr, s))),
+        (1, 0) => Some(Insn::Shift(Shift::Ssr(SsrName::Ssl, s))),
+        (2, 0) => Some(Insn::Shift(Shift::Ssa8l(Ssa8Name::Ssa8l, s))),
+        (3, 0) => Some(Insn::Shift(Shift::Ssa8l(Ssa8Name::Ssa8b, s))),
+        (4, 0 | 1) => Some(Insn::Shift(Shift::Ssai(plain(join_five(s, t) as u32)))),
+        (8, _) => {
+            if s == 0 {
+                Some(Insn::System(System::Rotw(signed(8, t as u32))))
+            } else {
+                None
+            }
+        }
+        (14, _) => Some(Insn::Shift(Shift::Nsa(NsaName::Nsa, t, s))),
+        (15, _) => Some(Insn::Shift(Shift::Nsa(NsaName::Nsau, t, s))),
+        _ => None,
+    }
+}
+
+/// The opcode map RT0, by s.
+pub fn rt0(t: u8, s: u8, r: u8) -> Option<Insn>
+    requires t { t < 16 }
+    requires s { s < 16 }
+    requires r { r < 16 }
+    ensures { result ≡ spelled (record { op0 = 0; t = t; s = s; r = r; op1 = 0; op2 = 6 }) }
+{
+    match s {
+        0 => Some(Insn::Shift(Shift::Neg(NegName::Neg, r, t))),
+        1 => Some(Insn::Shift(Shift::Neg(NegName::Abs, r, t))),
         _ => None,
     }
 }

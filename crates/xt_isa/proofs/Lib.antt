@@ -1,1 +1,4 @@
+pub mod ApartRows
 pub mod Ranged
+pub mod ThirdByte
+pub mod WholeWord

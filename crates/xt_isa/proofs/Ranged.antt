@@ -9,12 +9,9 @@ use Rattle.xt_isa.specs.declared.Insn.TheVariants as insn
 use Rattle.xt_isa.specs.declared.shift.Shift.TheVariants as shift
 use Rattle.xt_isa.specs.declared.Insn.{Insn}
 use Rattle.xt_isa.specs.declared.Fields.{Fields}
+use Rattle.xt_isa.specs.Apart.{AllRows}
 use Rattle.xt_isa.specs.Spelling.{fields_at, spelled, all_rows, Row, fits, spell, five, eight, imm8, imm12, imm16, imm18, below, signed, b4const, b4constu, minus_one_or, narrow_constant, can_read, can_write, can_exchange}
 use Rattle.xt_isa.specs.Ranges.{AreNibbles, in_range, one_register, two_registers, three_registers, natural_within, signed_within, multiple_within, window_within, literal_within, page_within, call_within, is_b4const, is_b4constu, small_within, narrow_within, holds, HasSpelling}
-
-abbrev pub AllRows : (Row → Type 0) → List Row → Type 0
-AllRows P [] = Unit {0}
-AllRows P (row ∷ rows) = P row × AllRows P rows
 
 abbrev pub Ranged : Row → Type 0
 Ranged row = (w : Fields) → AreNibbles w → holds (row.operands w) ≡ true
@@ -253,7 +250,7 @@ narrow_break w n = natural_low 15 _ (omega arith)
 
 pub all_ranged : (w : Fields) → AreNibbles w → holds (spelled w) ≡ true
 unfolding spelled all_rows
-all_ranged w n = spell_ranged all_rows (byte, (literal, (movi, (breaks, tt)))) w n
+all_ranged w n = spell_ranged all_rows (three, (three, (three, (three, (three, (three, (three, (three, (three, (three, (three, (three, (three, (three, (three, (three, (three, (three, (three, (three, (three, (three, (three, (three, (three, (three, (three, (three, (three, (pair_rt, (pair_rt, (pair_rt, (pair_rt, (pair_rs, (slli, (srai, (srli, (extui, (sext, (sext, (pair_ts, (pair_ts, (pair_ts, (single, (single, (single, (single, (ssai, (byte, (byte, (halves, (halves, (halves, (words, (words, (words, (words, (words, (window, (window, (literal, (movi, (addi, (addmi, (jump, (call, (call, (call, (call, (λ w n. refl, (λ w n. refl, (single, (single, (single, (single, (single, (beqz, (beqz, (beqz, (beqz, (beqi, (beqi, (beqi, (beqi, (bltui, (bltui, (branch, (branch, (branch, (branch, (branch, (branch, (branch, (branch, (branch, (branch, (branch, (branch, (bbci, (bbci, (entry, (loops, (loops, (loops, (λ w n. refl, (λ w n. refl, (λ w n. refl, (λ w n. refl, (λ w n. refl, (λ w n. refl, (λ w n. refl, (λ w n. refl, (λ w n. refl, (λ w n. refl, (λ w n. refl, (λ w n. refl, (λ w n. refl, (rfi, (breaks, (syscall, (rsil, (waiti, (rotw, (rsr, (wsr, (xsr, (rur, (wur, (narrow_words, (narrow_words, (three, (narrow_addi, (narrow_movi, (narrow_beqz, (narrow_beqz, (pair_ts, (λ w n. refl, (λ w n. refl, (λ w n. refl, (λ w n. refl, (narrow_break, tt))))))))))))))))))))))))))))))))))))))))))))))))))))))))))))))))))))))))))))))))))))))))))))))))))))))))))))))))))))))))))))))))))))))))))))) w n
 
 -- an instruction that has a spelling is in range
 pub spelling_in_range : (i : Insn) → HasSpelling i → in_range i ≡ true

@@ -1,2 +1,4 @@
+pub mod Apart
 pub mod Ranges
+pub mod Shown
 pub mod Spelling

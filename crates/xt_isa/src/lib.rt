@@ -8,7 +8,9 @@ pub mod density;
 pub mod laws;
 pub mod memory;
 pub mod shift;
+pub mod special;
 pub mod system;
+mod table;
 pub mod three;
 
 use control::Control;
@@ -16,6 +18,7 @@ use density::Density;
 use memory::Memory;
 use shift::Shift;
 use system::System;
+pub use table::{Row, rows};
 use three::Three;
 
 /// An instruction, by the table that it stands in.

@@ -1,0 +1,103 @@
+//! Jumps, calls, branches and loops.
+#![tactic(auto, unfolding(xt_isa::specs::Spelling::spelled, xt_isa::specs::Spelling::all_rows))]
+
+ghost use Rattle.std.specs.Prelude.{◌≡◌, ℕ, ◌+◌, ◌*◌, ◌%◌, ◌<◌};
+ghost use Rattle.xt_isa.specs.Spelling.{spelled};
+
+use crate::immediate::{b4const, b4constu, imm12, imm18, join_five, join_two, plain, signed};
+use xt_isa::Insn;
+use xt_isa::control::{
+    BitName, BranchName, CallName, ConstName, ConstuName, Control, LoopName, OppositeName, ZeroName,
+};
+
+/// The opcode map CALLN, by the low two bits of t.
+pub fn call(t: u8, s: u8, r: u8, op1: u8, op2: u8) -> Option<Insn>
+    requires t { t < 16 }
+    requires s { s < 16 }
+    requires r { r < 16 }
+    requires op1 { op1 < 16 }
+    requires op2 { op2 < 16 }
+    ensures { result ≡ spelled (record { op0 = 5; t = t; s = s; r = r; op1 = op1; op2 = op2 }) }
+{
+    let offset = signed(524288, 4 * imm18(t, s, r, op1, op2));
+    match t {
+        0 | 4 | 8 | 12 => Some(Insn::Control(Control::Call0(CallName::Call0, offset))),
+        1 | 5 | 9 | 13 => Some(Insn::Control(Control::Call0(CallName::Call4, offset))),
+        2 | 6 | 10 | 14 => Some(Insn::Control(Control::Call0(CallName::Call8, offset))),
+        _ => Some(Insn::Control(Control::Call0(CallName::Call12, offset))),
+    }
+}
+
+/// The opcode map SI, by t.
+pub fn si(t: u8, s: u8, r: u8, op1: u8, op2: u8) -> Option<Insn>
+    requires t { t < 16 }
+    requires s { s < 16 }
+    requires r { r < 16 }
+    requires op1 { op1 < 16 }
+    requires op2 { op2 < 16 }
+    ensures { result ≡ spelled (record { op0 = 6; t = t; s = s; r = r; op1 = op1; op2 = op2 }) }
+{
+    let near = signed(128, join_two(op1, op2) as u32);
+    let far = signed(2048, imm12(r, op1, op2));
+    match t {
+        0 | 4 | 8 | 12 => Some(Insn::Control(Control::J(signed(131072, imm18(t, s, r, op1, op2))))),
+        1 => Some(Insn::Control(Control::Beqz(ZeroName::Beqz, s, far))),
+        5 => Some(Insn::Control(Control::Beqz(ZeroName::Bnez, s, far))),
+        9 => Some(Insn::Control(Control::Beqz(ZeroName::Bltz, s, far))),
+        13 => Some(Insn::Control(Control::Beqz(ZeroName::Bgez, s, far))),
+        2 => Some(Insn::Control(Control::Beqi(ConstName::Beqi, s, b4const(r), near))),
+        6 => Some(Insn::Control(Control::Beqi(ConstName::Bnei, s, b4const(r), near))),
+        10 => Some(Insn::Control(Control::Beqi(ConstName::Blti, s, b4const(r), near))),
+        14 => Some(Insn::Control(Control::Beqi(ConstName::Bgei, s, b4const(r), near))),
+        3 => Some(Insn::Control(Control::Entry(s, plain(8 * imm12(r, op1, op2))))),
+        7 => match r {
+            8 => Some(Insn::Control(Control::Loop(
+                LoopName::Loop,
+                s,
+                plain(join_two(op1, op2) as u32),
+            ))),
+            9 => Some(Insn::Control(Control::Loop(
+                LoopName::Loopnez,
+                s,
+                plain(join_two(op1, op2) as u32),
+            ))),
+            10 => Some(Insn::Control(Control::Loop(
+                LoopName::Loopgtz,
+                s,
+                plain(join_two(op1, op2) as u32),
+            ))),
+            _ => None,
+        },
+        11 => Some(Insn::Control(Control::Bltui(ConstuName::Bltui, s, b4constu(r), near))),
+        15 => Some(Insn::Control(Control::Bltui(ConstuName::Bgeui, s, b4constu(r), near))),
+        _ => None,
+    }
+}
+
+/// The opcode map B, by r.
+pub fn branch(t: u8, s: u8, r: u8, op1: u8, op2: u8) -> Option<Insn>
+    requires t { t < 16 }
+    requires s { s < 16 }
+    requires r { r < 16 }
+    requires op1 { op1 < 16 }
+    requires op2 { op2 < 16 }
+    ensures { result ≡ spelled (record { op0 = 7; t = t; s = s; r = r; op1 = op1; op2 = op2 }) }
+{
+    let near = signed(128, join_two(op1, op2) as u32);
+    Some(Insn::Control(match r {
+        0 => Control::Bnone(BranchName::Bnone, s, t, near),
+        1 => Control::Bnone(BranchName::Beq, s, t, near),
+        2 => Control::Bnone(BranchName::Blt, s, t, near),
+        3 => Control::Bnone(BranchName::Bltu, s, t, near),
+        4 => Control::Bnone(BranchName::Ball, s, t, near),
+        5 => Control::Bnone(BranchName::Bbc, s, t, near),
+        6 | 7 => Control::Bbci(BitName::Bbci, s, plain(join_five(t, r) as u32), near),
+        8 => Control::Bany(OppositeName::Bany, s, t, near),
+        9 => Control::Bany(OppositeName::Bne, s, t, near),
+        10 => Control::Bany(OppositeName::Bge, s, t, near),
+        11 => Control::Bany(OppositeName::Bgeu, s, t, near),
+        12 => Control::Bany(OppositeName::Bnall, s, t, near),
+        13 => Control::Bany(OppositeName::Bbs, s, t, near),
+        _ => Control::Bbci(BitName::Bbsi, s, plain(join_five(t, r) as u32), near),
+    }))
+}

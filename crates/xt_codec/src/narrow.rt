@@ -1,0 +1,104 @@
+//! The 16-bit words.
+#![tactic(auto, unfolding(xt_isa::specs::Spelling::spelled, xt_isa::specs::Spelling::all_rows))]
+
+ghost use Rattle.std.specs.Prelude.{◌≡◌, ℕ, ◌+◌, ◌*◌, ◌%◌, ◌<◌};
+ghost use Rattle.xt_isa.specs.Spelling.{spelled};
+
+use crate::immediate::{minus_one_or, narrow_constant, plain};
+use xt_isa::Insn;
+use xt_isa::density::{Density, NarrowName, NarrowRetName, NarrowZeroName};
+
+/// The opcode map ST2: MOVI.N, BEQZ.N and BNEZ.N.
+pub fn constant(t: u8, s: u8, r: u8, op1: u8, op2: u8) -> Option<Insn>
+    requires t { t < 16 }
+    requires s { s < 16 }
+    requires r { r < 16 }
+    requires op1 { op1 < 16 }
+    requires op2 { op2 < 16 }
+    ensures { result ≡ spelled (record { op0 = 12; t = t; s = s; r = r; op1 = op1; op2 = op2 }) }
+{
+    match t {
+        0..=7 => Some(Insn::Density(Density::Movi(
+            s,
+            narrow_constant(r as u32 + 16 * (t as u32 % 8)),
+        ))),
+        8..=11 => Some(Insn::Density(Density::Beqz(
+            NarrowZeroName::Beqz,
+            s,
+            plain(r as u32 + 16 * (t as u32 % 4)),
+        ))),
+        _ => Some(Insn::Density(Density::Beqz(
+            NarrowZeroName::Bnez,
+            s,
+            plain(r as u32 + 16 * (t as u32 % 4)),
+        ))),
+    }
+}
+
+/// The opcode map ST3: MOV.N, and the words of S3.
+pub fn narrow_system(t: u8, s: u8, r: u8, op1: u8, op2: u8) -> Option<Insn>
+    requires t { t < 16 }
+    requires s { s < 16 }
+    requires r { r < 16 }
+    requires op1 { op1 < 16 }
+    requires op2 { op2 < 16 }
+    ensures { result ≡ spelled (record { op0 = 13; t = t; s = s; r = r; op1 = op1; op2 = op2 }) }
+{
+    match (r, t, s) {
+        (0, _, _) => Some(Insn::Density(Density::Mov(t, s))),
+        (15, 0, 0) => Some(Insn::Density(Density::Ret(NarrowRetName::Ret))),
+        (15, 1, 0) => Some(Insn::Density(Density::Ret(NarrowRetName::Retw))),
+        (15, 2, _) => Some(Insn::Density(Density::Break(plain(s as u32)))),
+        (15, 3, 0) => Some(Insn::Density(Density::Ret(NarrowRetName::Nop))),
+        (15, 6, 0) => Some(Insn::Density(Density::Ret(NarrowRetName::Ill))),
+        _ => None,
+    }
+}
+
+/// L32I.N.
+pub fn load(t: u8, s: u8, r: u8, op1: u8, op2: u8) -> Option<Insn>
+    requires t { t < 16 }
+    requires s { s < 16 }
+    requires r { r < 16 }
+    requires op1 { op1 < 16 }
+    requires op2 { op2 < 16 }
+    ensures { result ≡ spelled (record { op0 = 8; t = t; s = s; r = r; op1 = op1; op2 = op2 }) }
+{
+    Some(Insn::Density(Density::L32i(NarrowName::L32i, t, s, plain(4 * r as u32))))
+}
+
+/// S32I.N.
+pub fn store(t: u8, s: u8, r: u8, op1: u8, op2: u8) -> Option<Insn>
+    requires t { t < 16 }
+    requires s { s < 16 }
+    requires r { r < 16 }
+    requires op1 { op1 < 16 }
+    requires op2 { op2 < 16 }
+    ensures { result ≡ spelled (record { op0 = 9; t = t; s = s; r = r; op1 = op1; op2 = op2 }) }
+{
+    Some(Insn::Density(Density::L32i(NarrowName::S32i, t, s, plain(4 * r as u32))))
+}
+
+/// ADD.N.
+pub fn add(t: u8, s: u8, r: u8, op1: u8, op2: u8) -> Option<Insn>
+    requires t { t < 16 }
+    requires s { s < 16 }
+    requires r { r < 16 }
+    requires op1 { op1 < 16 }
+    requires op2 { op2 < 16 }
+    ensures { result ≡ spelled (record { op0 = 10; t = t; s = s; r = r; op1 = op1; op2 = op2 }) }
+{
+    Some(Insn::Density(Density::Add(r, s, t)))
+}
+
+/// ADDI.N.
+pub fn add_constant(t: u8, s: u8, r: u8, op1: u8, op2: u8) -> Option<Insn>
+    requires t { t < 16 }
+    requires s { s < 16 }
+    requires r { r < 16 }
+    requires op1 { op1 < 16 }
+    requires op2 { op2 < 16 }
+    ensures { result ≡ spelled (record { op0 = 11; t = t; s = s; r = r; op1 = op1; op2 = op2 }) }
+{
+    Some(Insn::Density(Density::Addi(r, s, minus_one_or(t))))
+}

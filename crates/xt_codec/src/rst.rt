@@ -1,0 +1,247 @@
+//! The words with three registers, by their minor operation codes.
+#![tactic(auto, unfolding(xt_isa::specs::Spelling::spelled, xt_isa::specs::Spelling::all_rows))]
+
+ghost use Rattle.std.specs.Prelude.{◌≡◌, ℕ, ◌+◌, ◌*◌, ◌%◌, ◌<◌, ◌≤◌, ◌⊎◌};
+ghost use Rattle.xt_isa.specs.Spelling.{spelled};
+
+use crate::immediate::{below, join_five, join_two, plain};
+use xt_isa::Insn;
+use xt_isa::memory::{Memory, WindowName};
+use xt_isa::shift::{SextName, Shift, SrlName};
+use xt_isa::special::{can_exchange, can_read, can_write};
+use xt_isa::system::{SpecialName, System, UserName};
+use xt_isa::three::{
+    AddName, AndName, DivideName, MinName, MoveName, Mul16Name, MulHighName, SubName, Three,
+};
+
+/// SLLI, where the amount is not 32.
+fn slli(t: u8, s: u8, r: u8, op2: u8) -> Option<Insn>
+    requires t { t < 16 }
+    requires s { s < 16 }
+    requires r { r < 16 }
+    requires op2 { op2 < 2 }
+    ensures { result ≡ spelled (record { op0 = 0; t = t; s = s; r = r; op1 = 1; op2 = op2 }) }
+{
+    let amount = join_five(t, op2);
+    if amount == 0 {
+        None
+    } else {
+        Some(Insn::Shift(Shift::Slli(r, s, plain(32 - amount as u32))))
+    }
+}
+
+/// The opcode map RST1, by op2.
+pub fn rst1(t: u8, s: u8, r: u8, op2: u8) -> Option<Insn>
+    requires t { t < 16 }
+    requires s { s < 16 }
+    requires r { r < 16 }
+    requires op2 { op2 < 16 }
+    ensures { result ≡ spelled (record { op0 = 0; t = t; s = s; r = r; op1 = 1; op2 = op2 }) }
+{
+    match op2 {
+        0 | 1 => slli(t, s, r, op2),
+        2 | 3 => Some(Insn::Shift(Shift::Srai(r, t, plain(join_five(s, op2) as u32)))),
+        4 => Some(Insn::Shift(Shift::Srli(r, t, plain(s as u32)))),
+        6 => {
+            let number = join_two(s, r);
+            if can_exchange(number) {
+                Some(Insn::System(System::Rsr(SpecialName::Xsr, t, number)))
+            } else {
+                None
+            }
+        }
+        8 => Some(Insn::Three(Three::Src(r, s, t))),
+        9 => {
+            if s == 0 {
+                Some(Insn::Shift(Shift::Srl(SrlName::Srl, r, t)))
+            } else {
+                None
+            }
+        }
+        10 => {
+            if t == 0 {
+                Some(Insn::Shift(Shift::Sll(r, s)))
+            } else {
+                None
+            }
+        }
+        11 => {
+            if s == 0 {
+                Some(Insn::Shift(Shift::Srl(SrlName::Sra, r, t)))
+            } else {
+                None
+            }
+        }
+        12 => Some(Insn::Three(Three::Mul16u(Mul16Name::Mul16u, r, s, t))),
+        13 => Some(Insn::Three(Three::Mul16u(Mul16Name::Mul16s, r, s, t))),
+        _ => None,
+    }
+}
+
+/// The opcode map RST2, by op2.
+pub fn rst2(t: u8, s: u8, r: u8, op2: u8) -> Option<Insn>
+    requires t { t < 16 }
+    requires s { s < 16 }
+    requires r { r < 16 }
+    requires op2 { op2 < 16 }
+    ensures { result ≡ spelled (record { op0 = 0; t = t; s = s; r = r; op1 = 2; op2 = op2 }) }
+{
+    match op2 {
+        8 => Some(Insn::Three(Three::Mull(r, s, t))),
+        10 => Some(Insn::Three(Three::Muluh(MulHighName::Muluh, r, s, t))),
+        11 => Some(Insn::Three(Three::Muluh(MulHighName::Mulsh, r, s, t))),
+        12 => Some(Insn::Three(Three::Quou(DivideName::Quou, r, s, t))),
+        13 => Some(Insn::Three(Three::Quou(DivideName::Quos, r, s, t))),
+        14 => Some(Insn::Three(Three::Quou(DivideName::Remu, r, s, t))),
+        15 => Some(Insn::Three(Three::Quou(DivideName::Rems, r, s, t))),
+        _ => None,
+    }
+}
+
+/// The opcode map RST3, by op2.
+pub fn rst3(t: u8, s: u8, r: u8, op2: u8) -> Option<Insn>
+    requires t { t < 16 }
+    requires s { s < 16 }
+    requires r { r < 16 }
+    requires op2 { op2 < 16 }
+    ensures { result ≡ spelled (record { op0 = 0; t = t; s = s; r = r; op1 = 3; op2 = op2 }) }
+{
+    match op2 {
+        0 => {
+            let number = join_two(s, r);
+            if can_read(number) {
+                Some(Insn::System(System::Rsr(SpecialName::Rsr, t, number)))
+            } else {
+                None
+            }
+        }
+        1 => {
+            let number = join_two(s, r);
+            if can_write(number) {
+                Some(Insn::System(System::Rsr(SpecialName::Wsr, t, number)))
+            } else {
+                None
+            }
+        }
+        2 => Some(Insn::Shift(Shift::Sext(SextName::Sext, r, s, plain(t as u32 + 7)))),
+        3 => Some(Insn::Shift(Shift::Sext(SextName::Clamps, r, s, plain(t as u32 + 7)))),
+        4 => Some(Insn::Three(Three::Min(MinName::Min, r, s, t))),
+        5 => Some(Insn::Three(Three::Min(MinName::Max, r, s, t))),
+        6 => Some(Insn::Three(Three::Min(MinName::Minu, r, s, t))),
+        7 => Some(Insn::Three(Three::Min(MinName::Maxu, r, s, t))),
+        8 => Some(Insn::Three(Three::Moveqz(MoveName::Moveqz, r, s, t))),
+        9 => Some(Insn::Three(Three::Moveqz(MoveName::Movnez, r, s, t))),
+        10 => Some(Insn::Three(Three::Moveqz(MoveName::Movltz, r, s, t))),
+        11 => Some(Insn::Three(Three::Moveqz(MoveName::Movgez, r, s, t))),
+        14 => {
+            if s == 14 && t == 7 {
+                Some(Insn::System(System::Rur(UserName::Rur, r, 231)))
+            } else {
+                None
+            }
+        }
+        15 => {
+            if r == 14 && s == 7 {
+                Some(Insn::System(System::Rur(UserName::Wur, t, 231)))
+            } else {
+                None
+            }
+        }
+        _ => None,
+    }
+}
+
+/// The opcode map RST0, by op2.
+pub fn rst0(t: u8, s: u8, r: u8, op2: u8) -> Option<Insn>
+    requires t { t < 16 }
+    requires s { s < 16 }
+    requires r { r < 16 }
+    requires op2 { op2 < 16 }
+    ensures { result ≡ spelled (record { op0 = 0; t = t; s = s; r = r; op1 = 0; op2 = op2 }) }
+{
+    match op2 {
+        0 => crate::zero::st0(t, s, r),
+        1 => Some(Insn::Three(Three::And(AndName::And, r, s, t))),
+        2 => Some(Insn::Three(Three::And(AndName::Or, r, s, t))),
+        3 => Some(Insn::Three(Three::And(AndName::Xor, r, s, t))),
+        4 => crate::zero::st1(t, s, r),
+        6 => crate::zero::rt0(t, s, r),
+        8 => Some(Insn::Three(Three::Add(AddName::Add, r, s, t))),
+        9 => Some(Insn::Three(Three::Add(AddName::Addx2, r, s, t))),
+        10 => Some(Insn::Three(Three::Add(AddName::Addx4, r, s, t))),
+        11 => Some(Insn::Three(Three::Add(AddName::Addx8, r, s, t))),
+        12 => Some(Insn::Three(Three::Sub(SubName::Sub, r, s, t))),
+        13 => Some(Insn::Three(Three::Sub(SubName::Subx2, r, s, t))),
+        14 => Some(Insn::Three(Three::Sub(SubName::Subx4, r, s, t))),
+        15 => Some(Insn::Three(Three::Sub(SubName::Subx8, r, s, t))),
+        _ => None,
+    }
+}
+
+/// EXTUI, of op1 4 and 5.
+fn extui(t: u8, s: u8, r: u8, op1: u8, op2: u8) -> Option<Insn>
+    requires t { t < 16 }
+    requires s { s < 16 }
+    requires r { r < 16 }
+    requires low { 4 ≤ op1 }
+    requires high { op1 < 6 }
+    requires op2 { op2 < 16 }
+    ensures { result ≡ spelled (record { op0 = 0; t = t; s = s; r = r; op1 = op1; op2 = op2 }) }
+{
+    let shift = plain(join_five(s, op1) as u32);
+    let width = plain(op2 as u32 + 1);
+    // (an arm for each number, since the proof looks the row up by it)
+    match op1 {
+        4 => Some(Insn::Shift(Shift::Extui(r, t, shift, width))),
+        5 => Some(Insn::Shift(Shift::Extui(r, t, shift, width))),
+        _ => None,
+    }
+}
+
+/// The opcode map LSC4, by op2.
+fn window(t: u8, s: u8, r: u8, op2: u8) -> Option<Insn>
+    requires t { t < 16 }
+    requires s { s < 16 }
+    requires r { r < 16 }
+    requires op2 { op2 < 16 }
+    ensures { result ≡ spelled (record { op0 = 0; t = t; s = s; r = r; op1 = 9; op2 = op2 }) }
+{
+    match op2 {
+        0 => Some(Insn::Memory(Memory::L32e(WindowName::L32e, t, s, below(4 * r as u32, 64)))),
+        4 => Some(Insn::Memory(Memory::L32e(WindowName::S32e, t, s, below(4 * r as u32, 64)))),
+        _ => None,
+    }
+}
+
+/// Values of op1 that spell nothing.
+fn empty_group(t: u8, s: u8, r: u8, op1: u8, op2: u8) -> Option<Insn>
+    requires op1 { op1 ≡ 6 ⊎ (op1 ≡ 7 ⊎ (op1 ≡ 8 ⊎ (9 < op1 × op1 < 16))) }
+    requires op2 { op2 < 16 }
+    ensures { result ≡ spelled (record { op0 = 0; t = t; s = s; r = r; op1 = op1; op2 = op2 }) }
+{
+    match op1 {
+        6 | 7 | 8 | 10 | 11 | 12 | 13 | 14 | 15 => None,
+        _ => None,
+    }
+}
+
+/// The opcode map QRST, by op1.
+#[tactic(auto)]
+pub fn qrst(t: u8, s: u8, r: u8, op1: u8, op2: u8) -> Option<Insn>
+    requires t { t < 16 }
+    requires s { s < 16 }
+    requires r { r < 16 }
+    requires op1 { op1 < 16 }
+    requires op2 { op2 < 16 }
+    ensures { result ≡ spelled (record { op0 = 0; t = t; s = s; r = r; op1 = op1; op2 = op2 }) }
+{
+    match op1 {
+        0 => rst0(t, s, r, op2),
+        1 => rst1(t, s, r, op2),
+        2 => rst2(t, s, r, op2),
+        3 => rst3(t, s, r, op2),
+        4 | 5 => extui(t, s, r, op1, op2),
+        9 => window(t, s, r, op2),
+        _ => empty_group(t, s, r, op1, op2),
+    }
+}
