@@ -8,12 +8,12 @@ use std::rt::Env;
 use xt_cli::{Status, status_line, xt_main};
 use xt_io::{OpenGate, StdSink, StdSource};
 
-// The words behind the program's name. Words that are no text order nothing.
+// The words behind the program's name. Words that are no text match no command.
 fn words_of(rt: &(impl Env + AllocGlobal)) -> Result<Vec<String>, Status> {
     let mut words = Vec::new(rt.alloc());
     let args = match env::args(rt) {
         Ok(args) => args,
-        Err(error) if error.kind() == ErrorKind::InvalidData => return Err(Status::Unbuilt),
+        Err(error) if error.kind() == ErrorKind::InvalidData => return Err(Status::Usage(3)),
         Err(_) => return Err(Status::Memory),
     };
     for word in args.skip(1) {

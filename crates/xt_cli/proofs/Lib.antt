@@ -1,4 +1,4 @@
-mod Hexadecimal
-mod Numbers
+mod Complete
+mod Segmented
 mod Sending
-pub mod Complete
+mod Working

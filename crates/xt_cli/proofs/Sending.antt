@@ -11,7 +11,7 @@ use Rattle.xt_map.specs.declared.access.Kind.{Kind}
 use Rattle.xt_map.specs.declared.access.Kind.TheVariants.{Load, Store, Cas}
 use Rattle.xt_map.specs.declared.access.Entry.{Entry}
 use Rattle.xt_map.specs.declared.contents.MemoryContents.{MemoryContents}
-use Rattle.xt_cli.specs.Texts.{SendsAsMemory, byte_sent, byte_of, sent_bytes}
+use Rattle.xt_cli.specs.Reports.{SendsAsMemory, byte_sent, byte_of, sent_bytes}
 
 -- writing bytes of a region sends nothing
 with_byte_in-sent : (r : Option Region) (m : MemoryContents) (a b : ℕ) → (with_byte_in r m a b).sent ≡ m.sent

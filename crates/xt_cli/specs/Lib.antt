@@ -1,3 +1,6 @@
-pub mod Texts
-pub mod Words
+pub mod Reports
+pub mod Checks
+pub mod Statuses
+pub mod Calls
+pub mod Tools
 pub mod Top

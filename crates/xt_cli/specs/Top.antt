@@ -1,22 +1,27 @@
 -- What each status of the program says ('profile').
-use Rattle.std.specs.Prelude.{◌≡◌, ◌≢◌, ◌≤◌, ◌+◌, ◌⊎◌, ℕ, true, false, List, length, Option, Some, None, Result, Ok, Err}
-use Rattle.std.specs.Io.KnownBytes.{Appends, Consumes, IsAtEnd, Keeps}
+use Rattle.std.specs.Prelude.{◌≡◌, ◌≤◌, ◌+◌, ◌⊎◌, ℕ, Bool, true, false, ◌&&◌, not, List, length, Option, Some, None, Result, Ok, Err}
+use Rattle.std.specs.Io.KnownBytes.{Appends, Keeps}
 use Rattle.xt_io.specs.Causes.{Rose}
 use Rattle.xt_io.specs.Whole.{AppendsFront, Takes}
-use Rattle.xt_image.specs.declared.fault.ImageFault.{ImageFault}
-use Rattle.xt_image.specs.declared.fault.ImageFault.TheVariants as fault
 use Rattle.xt_image.specs.declared.image.Image.{Image}
 use Rattle.xt_image.specs.Rules.{image_fault}
 use Rattle.xt_image.specs.Format.{image_of}
+use Rattle.xt_image.specs.Plain.{is_plain_image}
 use Rattle.xt_trace.specs.declared.options.Options.{Options}
 use Rattle.xt_trace.specs.declared.run.Run.{Run}
 use Rattle.xt_core.specs.Runs.{IsRunOf, IsOfCore0}
 use Rattle.xt_core.specs.Reach.{leaves_reach}
+use Rattle.xt_words.specs.declared.command.Command.{Command}
+use Rattle.xt_words.specs.declared.command.Command.TheVariants as command
+use Rattle.xt_words.specs.declared.command.Refusal.{Refusal}
 use Rattle.xt_cli.specs.declared.status.Status.{Status}
 use Rattle.xt_cli.specs.declared.status.Status.TheVariants as status
+use Rattle.xt_cli.specs.declared.tool.Tool.TheVariants as tool
 use Rattle.xt_cli.specs.declared.top.Whole.{Whole}
 use Rattle.xt_cli.specs.declared.top.Outcome.{Outcome}
-use Rattle.xt_cli.specs.Texts.{report_text}
+use Rattle.xt_cli.specs.Calls.{Ends, ReadsWhole}
+use Rattle.xt_cli.specs.Tools as tools
+use Rattle.xt_cli.specs.Reports.{report_text}
 
 abbrev pub image_limit : ℕ
 image_limit = 8388608
@@ -34,16 +39,23 @@ options_of turns image = record {
 
 -- ---- one input
 
--- the input is a plain image, all of whose turns are within reach
+-- the turns of core 0 are all within reach
+abbrev pub stays_within_reach : ℕ → Image → Bool
+stays_within_reach turns image = not (leaves_reach image (options_of turns image))
+
+-- the image can be run: it is plain, and all turns are within reach
+abbrev pub can_run : ℕ → Image → Bool
+can_run turns image = is_plain_image image && stays_within_reach turns image
+
+-- the input is an image, and it can be run
 pub record IsRunnable (turns : ℕ) (input : List ℕ) : Type 0 where
   pub image : image_fault input ≡ None
-  pub within : leaves_reach (image_of input) (options_of turns (image_of input)) ≡ false
+  pub can : can_run turns (image_of input) ≡ true
 
--- the input is no plain image, or it is one and a turn is not within reach
-abbrev pub IsUnbuilt : ℕ → List ℕ → Type 0
-IsUnbuilt turns input =
-    (image_fault input ≡ Some fault.Unbuilt)
-    ⊎ ((image_fault input ≡ None) × (leaves_reach (image_of input) (options_of turns (image_of input)) ≡ true))
+-- the input is an image, and it cannot be run
+pub record IsUnbuilt (turns : ℕ) (input : List ℕ) : Type 0 where
+  pub image : image_fault input ≡ None
+  pub cannot : can_run turns (image_of input) ≡ false
 
 -- this is the input's run
 pub record IsRunOfInput (turns : ℕ) (input : List ℕ) (run : Run) : Type 0 where
@@ -51,73 +63,38 @@ pub record IsRunOfInput (turns : ℕ) (input : List ℕ) (run : Run) : Type 0 wh
   pub of_image : IsRunOf (image_of input) (options_of turns (image_of input)) run
   pub of_core_0 : IsOfCore0 run
 
--- the first fault of the input as an image, which is no want of memory and not that it is not plain
-pub record HasFault (f : ImageFault) (input : List ℕ) : Type 0 where
-  pub first : image_fault input ≡ Some f
-  pub built : f ≢ fault.Unbuilt
-  pub caused : f ≢ fault.Memory
-
 abbrev pub RunsInput : Result Run Status → ℕ → List ℕ → Type 0
 RunsInput (Ok run) turns input = IsRunOfInput turns input run
 RunsInput (Err status.Unbuilt) turns input = IsUnbuilt turns input
-RunsInput (Err (status.Image f)) turns input = HasFault f input
+RunsInput (Err (status.Image f)) turns input = image_fault input ≡ Some f
 RunsInput (Err status.Memory) turns input = Unit {0}
 RunsInput (Err _) turns input = ⊥
 
--- ---- a call
-
--- the source and the sink before a call and after it: what each tells, and its count of faults
-pub record Ends : Type 0 where
-  pub left : Option (List ℕ)
-  pub left_after : Option (List ℕ)
-  pub told : Option (List ℕ)
-  pub told_after : Option (List ℕ)
-  pub source_faults : ℕ
-  pub source_faults_after : ℕ
-  pub sink_faults : ℕ
-  pub sink_faults_after : ℕ
-
--- the input was read to its end, and this is so of it
-pub record ReadsWhole (e : Ends) (P : List ℕ → Type 0) : Type 0 where
-  pub input : List ℕ
-  pub taken : Consumes e.left e.left_after input
-  pub end : IsAtEnd e.left_after
-  pub within : length input ≤ image_limit
-  pub is : P input
-
--- neither the source nor the sink was touched
-pub record IsUntouched (e : Ends) : Type 0 where
-  pub left : Keeps e.left e.left_after
-  pub told : Keeps e.told e.told_after
-  pub source : e.source_faults_after ≡ e.source_faults
-  pub sink : e.sink_faults_after ≡ e.sink_faults
+-- ---- the statuses of a run
 
 -- nothing was written, or a front of the report of the input's run
 abbrev pub WritesFront : ℕ → Ends → Type 0
 WritesFront turns e =
     Keeps e.told e.told_after
-    ⊎ ((run : Run) × ReadsWhole e (λ input. IsRunOfInput turns input run) × AppendsFront e.told e.told_after (report_text run))
+    ⊎ ((run : Run) × ReadsWhole image_limit e (λ input. IsRunOfInput turns input run) × AppendsFront e.told e.told_after (report_text run))
 
 -- each status of a run with so many turns, with its cause and what was written
 abbrev pub Runs : ℕ → Ends → Status → Option Whole → Type 0
-Runs turns e status.Done (Some w) = ReadsWhole e (λ input. IsRunOfInput turns input w.run) × Appends e.told e.told_after (report_text w.run)
+Runs turns e status.Done (Some w) = ReadsWhole image_limit e (λ input. IsRunOfInput turns input w.run) × Appends e.told e.told_after (report_text w.run)
 Runs turns e status.WriteFault (Some w) =
-    ReadsWhole e (λ input. IsRunOfInput turns input w.run) × AppendsFront e.told e.told_after (report_text w.run) × Rose e.sink_faults e.sink_faults_after
-Runs turns e (status.Image f) None = ReadsWhole e (HasFault f) × Keeps e.told e.told_after
-Runs turns e status.Unbuilt None =
-    (ReadsWhole e (IsUnbuilt turns) ⊎ Takes e.left e.left_after (λ n. n ≡ image_limit + 1)) × Keeps e.told e.told_after
+    ReadsWhole image_limit e (λ input. IsRunOfInput turns input w.run) × AppendsFront e.told e.told_after (report_text w.run) × Rose e.sink_faults e.sink_faults_after
+Runs turns e (status.Image f) None = ReadsWhole image_limit e (λ input. image_fault input ≡ Some f) × Keeps e.told e.told_after
+Runs turns e status.Unbuilt None = ReadsWhole image_limit e (IsUnbuilt turns) × Keeps e.told e.told_after
+Runs turns e (status.TooLarge limit) None =
+    (limit ≡ image_limit) × Takes e.left e.left_after (λ n. n ≡ image_limit + 1) × Keeps e.told e.told_after
 Runs turns e status.ReadFault None = Rose e.source_faults e.source_faults_after × Keeps e.told e.told_after
 Runs turns e status.Memory None = WritesFront turns e
 Runs turns e _ _ = ⊥
 
--- words that order nothing are refused before anything is read or written
-abbrev pub RefusesWords : Ends → Status → Option Whole → Type 0
-RefusesWords e status.Unbuilt None = IsUntouched e
-RefusesWords e _ _ = ⊥
-
-abbrev pub Answers : Option ℕ → Ends → Outcome → Type 0
-Answers (Some turns) e o = Runs turns e o.status o.whole
-Answers None e o = RefusesWords e o.status o.whole
+-- Each answer by what the words mean: a run's, or that of the commands that need no thread, which hand out no run.
+abbrev pub Answers : Result Command Refusal → Ends → Outcome → Type 0
+Answers (Ok (command.Run turns)) e o = Runs turns e o.status o.whole
+Answers meant e o = tools.Answers meant e (tool.Answer o.status) × (o.whole ≡ None)
 
 -- ---- completeness
 
@@ -129,8 +106,10 @@ pub record HasInput (turns : ℕ) (left : Option (List ℕ)) : Type 0 where
   pub runnable : IsRunnable turns input
 
 -- a whole input that can be run, and no fault of the source or the sink in this call, end in Done, or in want of memory
-abbrev pub IsComplete : Option ℕ → Ends → Outcome → Type 0
-IsComplete None e o = Unit {0}
-IsComplete (Some turns) e o =
-    HasInput turns e.left → (Rose e.source_faults e.source_faults_after → ⊥) → (Rose e.sink_faults e.sink_faults_after → ⊥)
-    → (o.status ≡ status.Done) ⊎ (o.status ≡ status.Memory)
+abbrev pub FinishesRun : ℕ → Ends → Status → Type 0
+FinishesRun turns e s = HasInput turns e.left → (Rose e.source_faults e.source_faults_after → ⊥) → (Rose e.sink_faults e.sink_faults_after → ⊥)
+    → (s ≡ status.Done) ⊎ (s ≡ status.Memory)
+
+abbrev pub IsComplete : Result Command Refusal → Ends → Outcome → Type 0
+IsComplete (Ok (command.Run turns)) e o = FinishesRun turns e o.status
+IsComplete meant e o = tools.IsComplete meant e (tool.Answer o.status)

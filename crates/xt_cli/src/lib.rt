@@ -1,17 +1,19 @@
-//! The program behind its `main`: what its words order, and the texts that it prints.
+//! The program behind its `main`: its top calls, and the texts that it prints.
 #![tactic(auto)]
 
+mod checks;
 mod laws;
 mod run_report;
 mod status;
+mod tool;
 mod top;
-mod words;
 
+pub use checks::check_text;
 pub use laws::history_sends_as_memory;
 pub use run_report::report;
 pub use status::{Status, status_line};
-pub use top::{IMAGE_LIMIT, Outcome, Whole, xt_main};
-pub use words::ordered_turns;
+pub use tool::{IMAGE_LIMIT, Job, Tool, tool_main};
+pub use top::{Outcome, Whole, xt_main};
 
 #[cfg(test)]
 mod tests;

@@ -1,8 +1,9 @@
 ghost use Rattle.std.specs.Prelude.{◌≡◌, IfOk, string_bytes};
-ghost use Rattle.xt_cli.specs.Texts.{byte_of, core_line, hex8, report_text, sent_bytes, stop_text, uart_lines};
+ghost use Rattle.xt_cli.specs.Reports.{byte_of, core_line, report_text, sent_bytes, stop_text, uart_lines};
 
 use std::alloc::{AllocError, Global};
 use xt_map::{Entry, Kind, Text};
+use xt_text::hexadecimal;
 use xt_trace::{Run, Stop, Trace};
 
 // The address of UART0 to which a store sends a byte.
@@ -38,21 +39,13 @@ fn stop_name(stop: Stop) -> &'static str
     }
 }
 
-// An address in eight hexadecimal digits.
-#[tactic(auto, using(crate::proofs::Hexadecimal::padded_is_hex8))]
-fn address_text(alloc: Global, address: u32) -> Result<String, AllocError>
-    ensures { IfOk result (λ text. string_bytes text ≡ hex8 address) }
-{
-    format!(in alloc; "{address:08X}")
-}
-
 // The line of a core.
 fn line_of(alloc: Global, core: u8, trace: &Trace) -> Result<String, AllocError>
     ensures { IfOk result (λ line. string_bytes line ≡ core_line core trace.now) }
 {
     let stop = stop_name(trace.stop);
     let turns = trace.steps.len();
-    let pc = address_text(alloc, trace.pc)?;
+    let pc = hexadecimal(alloc, trace.pc)?;
     format!(in alloc; "core {core} stop {stop} turns {turns} pc {pc}\n")
 }
 
@@ -67,7 +60,7 @@ fn line_of(alloc: Global, core: u8, trace: &Trace) -> Result<String, AllocError>
 ///
 /// S is `break` or `turns`, K the number of the core's records, and ADDR its last program counter in
 /// eight upper-case hexadecimal digits; N and K are decimal. The only error is want of memory.
-#[tactic(auto, unfolding(crate::specs::Texts::report_text))]
+#[tactic(auto, unfolding(crate::specs::Reports::report_text))]
 pub fn report(alloc: Global, run: &Run) -> Result<Text, AllocError>
     ensures { IfOk result (λ text. text ≡ report_text run.now) }
 {

@@ -1,5 +1,6 @@
-ghost use Rattle.std.specs.Prelude.{◌≡◌, IfOk};
-ghost use Rattle.xt_cli.specs.Texts.{status_code, status_text};
+//! How the program ends: the status, its line and its code.
+ghost use Rattle.std.specs.Prelude.{◌≡◌, IfOk, string_bytes};
+ghost use Rattle.xt_cli.specs.Statuses.{fault_text, status_code, status_text};
 
 use std::alloc::{AllocError, Global};
 use xt_image::ImageFault;
@@ -8,14 +9,18 @@ use xt_map::Text;
 /// How the program ended.
 #[derive(Clone, Copy, Debug, PartialEq, Eq)]
 pub enum Status {
-    /// The whole report was written.
+    /// The command did all of its work.
     Done,
+    /// The words break this rule, and none before it.
+    Usage(u8),
     /// The whole input was read, and this is its first fault as an image.
     Image(ImageFault),
     /// The input could not be read to its end.
     ReadFault,
-    /// The report could not be written to its end.
+    /// The output could not be written to its end.
     WriteFault,
+    /// The input is longer than this many bytes.
+    TooLarge(u32),
     /// The words or the image ask for what the machine does not do yet.
     Unbuilt,
     /// There was too little memory.
@@ -29,32 +34,63 @@ impl Status {
     {
         match self {
             Status::Done => 0,
+            Status::Usage(_) => 1,
             Status::Image(_) => 2,
             Status::ReadFault => 5,
             Status::WriteFault => 6,
+            Status::TooLarge(_) => 7,
             Status::Memory => 8,
             Status::Unbuilt => 9,
         }
     }
 }
 
-/// The line for standard error: `xt: `, the name of the status, the name of an image's fault with
-/// the bytes that it keeps in decimal, and a newline. The only error is want of memory.
-#[tactic(auto, unfolding(crate::specs::Texts::status_text))]
+// A fault of an image: its name and the values that it keeps.
+fn text_of(alloc: Global, fault: &ImageFault) -> Result<String, AllocError>
+    ensures { IfOk result (λ text. string_bytes text ≡ fault_text fault.now) }
+{
+    match *fault {
+        ImageFault::Short => format!(in alloc; "Short"),
+        ImageFault::Magic(byte) => format!(in alloc; "Magic {byte}"),
+        ImageFault::Count(count) => format!(in alloc; "Count {count}"),
+        ImageFault::Chip(id) => format!(in alloc; "Chip {id}"),
+        ImageFault::DigestFlag(flag) => format!(in alloc; "DigestFlag {flag}"),
+        ImageFault::SegmentEnd(index) => format!(in alloc; "SegmentEnd {index}"),
+        ImageFault::SegmentLength(index) => format!(in alloc; "SegmentLength {index}"),
+        ImageFault::SegmentPlace(index) => format!(in alloc; "SegmentPlace {index}"),
+        ImageFault::SegmentOverlap(first, second) => {
+            format!(in alloc; "SegmentOverlap {first} {second}")
+        }
+        ImageFault::NoChecksum => format!(in alloc; "NoChecksum"),
+        ImageFault::Checksum(kept, computed) => format!(in alloc; "Checksum {kept} {computed}"),
+        ImageFault::NoDigest => format!(in alloc; "NoDigest"),
+        ImageFault::Digest(kept, computed) => {
+            let kept = hex::encode(alloc, kept)?;
+            let computed = hex::encode(alloc, computed)?;
+            format!(in alloc; "Digest {kept} {computed}")
+        }
+        ImageFault::Entry(address) => format!(in alloc; "Entry {address}"),
+        ImageFault::Memory => format!(in alloc; "Memory"),
+    }
+}
+
+/// The line for standard error: `xt:`, the name of the status, the values that it keeps in decimal,
+/// of an image's fault its name and its values, digests as 64 lower-case hexadecimal digits, and a
+/// newline. The only error is want of memory.
+#[tactic(auto, unfolding(crate::specs::Statuses::status_text))]
 pub fn status_line(alloc: Global, status: &Status) -> Result<Text, AllocError>
     ensures { IfOk result (λ text. text ≡ status_text status.now) }
 {
     let line = match *status {
         Status::Done => format!(in alloc; "xt: Done\n")?,
-        Status::Image(ImageFault::Short) => format!(in alloc; "xt: Image Short\n")?,
-        Status::Image(ImageFault::Magic(byte)) => format!(in alloc; "xt: Image Magic {byte}\n")?,
-        Status::Image(ImageFault::Unbuilt) => format!(in alloc; "xt: Image Unbuilt\n")?,
-        Status::Image(ImageFault::Checksum(kept, right)) => {
-            format!(in alloc; "xt: Image Checksum {kept} {right}\n")?
+        Status::Usage(rule) => format!(in alloc; "xt: Usage {rule}\n")?,
+        Status::Image(fault) => {
+            let fault = text_of(alloc, &fault)?;
+            format!(in alloc; "xt: Image {fault}\n")?
         }
-        Status::Image(ImageFault::Memory) => format!(in alloc; "xt: Image Memory\n")?,
         Status::ReadFault => format!(in alloc; "xt: ReadFault\n")?,
         Status::WriteFault => format!(in alloc; "xt: WriteFault\n")?,
+        Status::TooLarge(limit) => format!(in alloc; "xt: TooLarge {limit}\n")?,
         Status::Unbuilt => format!(in alloc; "xt: Unbuilt\n")?,
         Status::Memory => format!(in alloc; "xt: Memory\n")?,
     };

@@ -1,76 +1,9 @@
-use crate::{Status, ordered_turns, report, status_line};
+use crate::{Status, report, status_line};
 use std::alloc::Global;
 use std::test::Fail;
 use xt_image::ImageFault;
 use xt_map::{Access, Entry, History, Kind};
 use xt_trace::{Options, Run, Stack, StepKind, StepRecord, Steps, Stop, Trace};
-
-fn ordered(alloc: Global, words: &[&str]) -> Result<Option<u32>, Fail> {
-    let mut list = Vec::new(alloc);
-    for word in words {
-        list.push(String::from_str(alloc, word)?)?;
-    }
-    Ok(ordered_turns(&list))
-}
-
-#[test]
-fn numbers_of_turns(rt: HostRuntime) -> Result<(), Fail> {
-    let rows = [
-        ("10", Some(10)),
-        ("0", Some(0)),
-        ("1000000", Some(1_000_000)),
-        ("0010", Some(10)),
-        ("000000000000000000000000000000010", Some(10)),
-        ("1000001", None),
-        ("4294967306", None),
-        ("99999999999999999999", None),
-        ("", None),
-        ("x", None),
-        ("-5", None),
-        ("+5", None),
-        ("0x10", None),
-        (" 10", None),
-    ];
-    for (number, turns) in rows {
-        let words = ["run", "--turns0", number, "--turns1", "0"];
-        assert_eq!(rt; ordered(rt.alloc(), &words)?, turns, "{number:?}");
-    }
-    Ok(())
-}
-
-#[test]
-fn forms_of_words(rt: HostRuntime) -> Result<(), Fail> {
-    let alloc = rt.alloc();
-    assert_eq!(rt; ordered(alloc, &[])?, None);
-    assert_eq!(rt;
-        ordered(alloc, &["run", "--turns0", "10", "--turns1"])?,
-        None
-    );
-    assert_eq!(rt;
-        ordered(alloc, &["run", "--turns0", "10", "--turns1", "0", "0"])?,
-        None
-    );
-    let rows = [
-        ["run", "--turns0", "10", "--turns1", "1"],
-        ["run", "--turns0", "10", "--turns1", "00"],
-        ["run", "--turns1", "0", "--turns0", "10"],
-        ["run", "--turns1", "10", "--turns0", "0"],
-        ["--turns0", "10", "--turns1", "0", "run"],
-        ["Run", "--turns0", "10", "--turns1", "0"],
-        ["run", "--turns", "10", "--turns1", "0"],
-        ["record", "--turns0", "10", "--turns1", "0"],
-    ];
-    for words in rows {
-        assert_eq!(rt; ordered(alloc, &words)?, None);
-    }
-    let mut digits = String::from_str(alloc, "1")?;
-    for _ in 0..4000 {
-        digits.push('0')?;
-    }
-    let many = ["run", "--turns0", digits.as_str(), "--turns1", "0"];
-    assert_eq!(rt; ordered(alloc, &many)?, None);
-    Ok(())
-}
 
 fn entry(addr: u32, size: u8, kind: Kind) -> Entry {
     Entry {
@@ -119,19 +52,6 @@ fn run_of(entries: Vec<Entry>, trace0: Trace, trace1: Trace) -> Run {
 }
 
 #[test]
-fn report_of_one_letter(rt: HostRuntime) -> Result<(), Fail> {
-    let alloc = rt.alloc();
-    let entries = vec![in alloc; entry(0x3FF4_0000, 1, Kind::Store(65))]?;
-    let trace0 = trace(alloc, 4, Stop::Break, 0x4008_040D)?;
-    let trace1 = trace(alloc, 0, Stop::Turns, 0x4008_0404)?;
-    let text = report(alloc, &run_of(entries, trace0, trace1))?;
-    let lines =
-        b"uart 1\nA\ncore 0 stop break turns 4 pc 4008040D\ncore 1 stop turns turns 0 pc 40080404\n";
-    assert_eq!(rt; text.as_slice(), lines.as_slice());
-    Ok(())
-}
-
-#[test]
 fn report_of_what_is_not_sent(rt: HostRuntime) -> Result<(), Fail> {
     let alloc = rt.alloc();
     let entries = vec![in alloc;
@@ -166,30 +86,66 @@ fn report_of_whole_words(rt: HostRuntime) -> Result<(), Fail> {
     Ok(())
 }
 
+/// 32 bytes, whose digits are counted up.
+const COUNTED: [u8; 32] = [
+    0x01, 0x23, 0x45, 0x67, 0x89, 0xAB, 0xCD, 0xEF, 0, 0, 0, 0, 0, 0, 0, 0, 0, 0, 0, 0, 0, 0, 0, 0,
+    0, 0, 0, 0, 0, 0, 0, 0xFF,
+];
+
+const ZEROS: [u8; 32] = [0; 32];
+
+const DIGESTS: &str =
+    "xt: Image Digest 0000000000000000000000000000000000000000000000000000000000000000 \
+0123456789abcdef0000000000000000000000000000000000000000000000ff\n";
+
 #[test]
 fn lines_and_codes_of_statuses(rt: HostRuntime) -> Result<(), Fail> {
-    let alloc = rt.alloc();
     let rows = [
         (Status::Done, 0, "xt: Done\n"),
+        (Status::Usage(3), 1, "xt: Usage 3\n"),
         (Status::Image(ImageFault::Short), 2, "xt: Image Short\n"),
         (
-            Status::Image(ImageFault::Magic(0)),
+            Status::Image(ImageFault::Magic(22)),
             2,
-            "xt: Image Magic 0\n",
+            "xt: Image Magic 22\n",
+        ),
+        (
+            Status::Image(ImageFault::Chip(255)),
+            2,
+            "xt: Image Chip 255\n",
+        ),
+        (
+            Status::Image(ImageFault::SegmentOverlap(0, 2)),
+            2,
+            "xt: Image SegmentOverlap 0 2\n",
         ),
         (
             Status::Image(ImageFault::Checksum(22, 23)),
             2,
             "xt: Image Checksum 22 23\n",
         ),
+        (
+            Status::Image(ImageFault::Digest(ZEROS, COUNTED)),
+            2,
+            DIGESTS,
+        ),
+        (
+            Status::Image(ImageFault::Entry(3_204_973_572)),
+            2,
+            "xt: Image Entry 3204973572\n",
+        ),
         (Status::ReadFault, 5, "xt: ReadFault\n"),
         (Status::WriteFault, 6, "xt: WriteFault\n"),
+        (Status::TooLarge(8_388_608), 7, "xt: TooLarge 8388608\n"),
         (Status::Memory, 8, "xt: Memory\n"),
         (Status::Unbuilt, 9, "xt: Unbuilt\n"),
     ];
     for (status, code, line) in rows {
         assert_eq!(rt; status.code(), code);
-        assert_eq!(rt; status_line(alloc, &status)?.as_slice(), line.as_bytes());
+        assert_eq!(rt;
+            status_line(rt.alloc(), &status)?.as_slice(),
+            line.as_bytes()
+        );
     }
     Ok(())
 }

@@ -1,21 +1,19 @@
 //! The top call.
-ghost use Rattle.std.specs.Prelude.{◌≡◌, ◌≤◌, map, length, string_bytes, Some, None, MatchOption};
-ghost use Rattle.xt_cli.specs.Words.{turns_of};
-ghost use Rattle.xt_cli.specs.Top.{Answers, IsComplete, RunsInput, options_of};
-ghost use Rattle.xt_trace.specs.Validity.{most_turns};
+ghost use Rattle.std.specs.Prelude.{◌≡◌, ◌≤◌, map, length, string_bytes, None};
+ghost use Rattle.xt_cli.specs.Top.{Answers, FinishesRun, IsComplete, Runs, RunsInput, options_of};
 ghost use Rattle.xt_image.specs.declared.image.Image.{Image};
+ghost use Rattle.xt_trace.specs.Validity.{most_turns};
+ghost use Rattle.xt_words.specs.Meaning.{meaning_of};
 
 use crate::run_report::report;
 use crate::status::Status;
-use crate::words::ordered_turns;
+use crate::tool::{IMAGE_LIMIT, Job, status_of, work};
 use std::alloc::Global;
 use xt_core::{RunFault, run_one};
-use xt_image::{Image, ImageFault, read};
+use xt_image::{Image, ImageFault, is_plain, read};
 use xt_io::{Gate, ReadError, Refused, Sink, Source, read_to_limit, write_all};
 use xt_trace::{Options, Run, Stack};
-
-/// The most bytes that an image may have.
-pub const IMAGE_LIMIT: usize = 8_388_608;
+use xt_words::{Command, meaning};
 
 /// What the program did: the run that it made.
 #[derive(Drop)]
@@ -34,7 +32,7 @@ pub struct Outcome {
 }
 
 // An end without a run.
-fn refused(status: Status) -> Outcome
+fn without_run(status: Status) -> Outcome
     ensures status { result.status ≡ status }
     ensures whole { result.whole ≡ None }
 {
@@ -73,10 +71,12 @@ fn run_input(alloc: Global, turns: u32, input: &[u8]) -> Result<Run, Status>
 {
     let image = match read(alloc, input) {
         Ok(image) => image,
-        Err(ImageFault::Unbuilt) => return Err(Status::Unbuilt),
         Err(ImageFault::Memory) => return Err(Status::Memory),
         Err(fault) => return Err(Status::Image(fault)),
     };
+    if !is_plain(&image) {
+        return Err(Status::Unbuilt);
+    }
     let options = options_for(turns, &image);
     match run_one(alloc, &image, &options) {
         Ok(run) => Ok(run),
@@ -93,7 +93,7 @@ fn run_source<S: Source, K: Sink>(
     sink: &mut K,
 ) -> Outcome
     requires { turns ≤ most_turns }
-    ensures { Answers (Some turns) (record {
+    ensures answers { Runs turns (record {
       left = S.left source.old;
       left_after = S.left source.new;
       told = K.told sink.old;
@@ -102,25 +102,35 @@ fn run_source<S: Source, K: Sink>(
       source_faults_after = S.faults source.new;
       sink_faults = K.faults sink.old;
       sink_faults_after = K.faults sink.new;
-    }) result }
+    }) result.status result.whole }
+    ensures complete { FinishesRun turns (record {
+      left = S.left source.old;
+      left_after = S.left source.new;
+      told = K.told sink.old;
+      told_after = K.told sink.new;
+      source_faults = S.faults source.old;
+      source_faults_after = S.faults source.new;
+      sink_faults = K.faults sink.old;
+      sink_faults_after = K.faults sink.new;
+    }) result.status }
 {
     let input = match read_to_limit(alloc, source, IMAGE_LIMIT) {
         Ok(input) => input,
-        Err(ReadError::Fault) => return refused(Status::ReadFault),
-        Err(ReadError::TooLarge) => return refused(Status::Unbuilt),
-        Err(ReadError::Memory) => return refused(Status::Memory),
+        Err(ReadError::Fault) => return without_run(Status::ReadFault),
+        Err(ReadError::TooLarge) => return without_run(Status::TooLarge(8_388_608)),
+        Err(ReadError::Memory) => return without_run(Status::Memory),
     };
     let run = match run_input(alloc, turns, &input) {
         Ok(run) => run,
-        Err(status) => return refused(status),
+        Err(status) => return without_run(status),
     };
     let Ok(text) = report(alloc, &run) else {
-        return refused(Status::Memory);
+        return without_run(Status::Memory);
     };
     let status = match write_all(sink, text.as_slice()) {
         Ok(()) => Status::Done,
         Err(Refused::Failed) => Status::WriteFault,
-        Err(Refused::Memory) => return refused(Status::Memory),
+        Err(Refused::Memory) => return without_run(Status::Memory),
     };
     Outcome {
         status,
@@ -130,12 +140,12 @@ fn run_source<S: Source, K: Sink>(
 
 /// What the program does with the words behind its name, a source and a sink.
 ///
-/// The words are `run`, `--turns0`, N, `--turns1` and `0`: the source is read to its end as an
-/// ESP32 application image, core 0 runs it for at most N turns, and the report is written to the
-/// sink. The gate is not used yet.
+/// Where the words order a run, the source is read to its end as an ESP32 application image, core 0
+/// runs it, and the report is written to the sink. All else is `tool_main`'s. The gate is not used
+/// yet.
 ///
-/// The contract says of each status its cause, and what was written; of `Done` and `WriteFault`
-/// besides that the run that is handed out is the image's: its history is legal from the opening
+/// The contract says of each status its cause, and what was written; of `Done` and `WriteFault` of a
+/// run besides that the run that is handed out is the image's: its history is legal from the opening
 /// memory, the trace of core 0 is the processor's over the replies of that history, and the
 /// history's accesses are the trace's. Want of memory is the one free answer.
 pub fn xt_main<S: Source, K: Sink, G: Gate>(
@@ -145,7 +155,7 @@ pub fn xt_main<S: Source, K: Sink, G: Gate>(
     sink: &mut K,
     _gate: &G,
 ) -> Outcome
-    ensures answers { Answers (turns_of (map string_bytes words.now)) (record {
+    ensures answers { Answers (meaning_of (map string_bytes words.now)) (record {
       left = S.left source.old;
       left_after = S.left source.new;
       told = K.told sink.old;
@@ -155,7 +165,7 @@ pub fn xt_main<S: Source, K: Sink, G: Gate>(
       sink_faults = K.faults sink.old;
       sink_faults_after = K.faults sink.new;
     }) result }
-    ensures complete { IsComplete (turns_of (map string_bytes words.now)) (record {
+    ensures complete { IsComplete (meaning_of (map string_bytes words.now)) (record {
       left = S.left source.old;
       left_after = S.left source.new;
       told = K.told sink.old;
@@ -166,8 +176,11 @@ pub fn xt_main<S: Source, K: Sink, G: Gate>(
       sink_faults_after = K.faults sink.new;
     }) result }
 {
-    match ordered_turns(words) {
-        Some(turns) => run_source(alloc, turns, source, sink),
-        None => refused(Status::Unbuilt),
+    match meaning(alloc, words) {
+        Ok(Command::Run { turns0 }) => run_source(alloc, turns0, source, sink),
+        Ok(Command::Assemble) => without_run(Status::Unbuilt),
+        Ok(Command::Disassemble) => without_run(work(alloc, Job::List, source, sink)),
+        Ok(Command::Check) => without_run(work(alloc, Job::Check, source, sink)),
+        Err(refusal) => without_run(status_of(refusal)),
     }
 }

@@ -1,71 +1,80 @@
-use crate::{IMAGE_LIMIT, Outcome, Status, xt_main};
+use crate::{Outcome, Status, Tool, tool_main, xt_main};
 use std::alloc::{AllocError, Global};
 use std::test::Fail;
 use xt_image::ImageFault;
 use xt_io::{MemSink, MemSource, OpenGate, SafeSink, SafeSource, Sink, Source};
 
-/// An image that sends the letter A and stops: a head, one segment with the constant 0x3FF40000 and
-/// the instructions `l32r a2, 0x40080400`, `movi a3, 65`, `s8i a3, a2, 0` and `break 1, 15`,
-/// fifteen zeros and the checksum.
-const LETTER: [u8; 64] = [
-    0xE9, 0x01, 0x02, 0x20, 0x04, 0x04, 0x08, 0x40, 0xEE, 0, 0, 0, 0, 0, 0, 0, 0, 0xFF, 0xFF, 0, 0,
-    0, 0, 0, 0x00, 0x04, 0x08, 0x40, 0x10, 0, 0, 0, 0, 0, 0xF4, 0x3F, 0x21, 0xFF, 0xFF, 0x32, 0xA0,
-    0x41, 0x32, 0x42, 0x00, 0xF0, 0x41, 0x00, 0, 0, 0, 0, 0, 0, 0, 0, 0, 0, 0, 0, 0, 0, 0, 0x17,
-];
+/// An image that sends the letter A and stops, in hexadecimal digits: a head, one segment with the
+/// constant 0x3FF40000 and the instructions `l32r a2, 0x40080400`, `movi a3, 65`, `s8i a3, a2, 0` and
+/// `break 1, 15`, fifteen zeros and the checksum.
+const LETTER: &str = "E901022004040840EE0000000000000000FFFF00000000000004084010000000\
+0000F43F21FFFF32A041324200F0410000000000000000000000000000000017";
 
 const REPORT: &str = "uart 1\nA\ncore 0 stop break turns 4 pc 4008040D\n\
 core 1 stop turns turns 0 pc 40080404\n";
 
-/// What is written to a sink in memory, by one call with these words.
-fn run_over<S: Source, K: Sink>(
+const LISTING: &str = "segment 0 40080400 16 IRAM\n\
+40080400 0000F4 extui a0, a0, 0, 16\n\
+40080403 3F .byte 0x3F\n\
+40080404 21FFFF l32r a2, 0x40080400\n\
+40080407 32A041 movi a3, 65\n\
+4008040A 324200 s8i a3, a2, 0\n\
+4008040D F04100 break 1, 15\n";
+
+const CHECKED: &str = "image segments 1 entry 40080404 digest no\nsegment 0 40080400 16 IRAM\n";
+
+/// The words of a text, which one blank separates.
+fn words_of(alloc: Global, text: &str) -> Result<Vec<String>, AllocError> {
+    let mut words = Vec::new(alloc);
+    for word in text.split(' ') {
+        words.push(String::from_str(alloc, word)?)?;
+    }
+    Ok(words)
+}
+
+/// What comes of words over a source and a sink.
+fn answer<S: Source, K: Sink>(
     alloc: Global,
-    turns: &str,
+    words: &str,
     source: &mut S,
     sink: &mut K,
 ) -> Result<Outcome, AllocError> {
-    let mut words = Vec::new(alloc);
-    for word in ["run", "--turns0", turns, "--turns1", "0"] {
-        words.push(String::from_str(alloc, word)?)?;
-    }
+    let words = words_of(alloc, words)?;
     Ok(xt_main(alloc, &words, source, sink, &OpenGate))
 }
 
-/// The image with these bytes changed.
-fn changed(changes: &[(usize, u8)]) -> [u8; 64] {
-    let mut image = LETTER;
-    for (place, byte) in changes {
-        if *place < 64 {
-            image[*place] = *byte;
-        }
+/// The letter A with one byte changed; place 64 and on change none.
+fn letter_but(alloc: Global, place: usize, byte: u8) -> Result<Vec<u8>, Fail> {
+    let mut image = hex::decode(alloc, LETTER)?;
+    if place < image.len() {
+        image[place] = byte;
     }
-    image
+    Ok(image)
 }
 
 #[test]
-fn the_letter_a(rt: HostRuntime) -> Result<(), Fail> {
+fn runs_of_the_letter_a(rt: HostRuntime) -> Result<(), Fail> {
     let rows = [
-        ("10", REPORT),
-        ("4", REPORT),
+        ("run --turns0 10 --turns1 0", REPORT),
         (
-            "3",
-            "uart 1\nA\ncore 0 stop turns turns 3 pc 4008040D\ncore 1 stop turns turns 0 pc 40080404\n",
-        ),
-        (
-            "2",
+            "run --turns0 2 --turns1 0",
             "uart 0\n\ncore 0 stop turns turns 2 pc 4008040A\ncore 1 stop turns turns 0 pc 40080404\n",
         ),
-        (
-            "0",
-            "uart 0\n\ncore 0 stop turns turns 0 pc 40080404\ncore 1 stop turns turns 0 pc 40080404\n",
-        ),
+        ("dis", LISTING),
+        ("check", CHECKED),
     ];
-    for (turns, text) in rows {
-        let mut source = SafeSource::make(rt.alloc(), &LETTER)?;
+    let image = hex::decode(rt.alloc(), LETTER)?;
+    for (words, text) in rows {
+        let mut source = SafeSource::make(rt.alloc(), &image)?;
         let mut sink = SafeSink::make(rt.alloc())?;
-        let outcome = run_over(rt.alloc(), turns, &mut source, &mut sink)?;
-        assert_eq!(rt; outcome.status, Status::Done, "{turns} turns");
-        assert_eq!(rt; sink.bytes(), text.as_bytes(), "{turns} turns");
-        assert!(rt; outcome.whole.is_some(), "{turns} turns");
+        let outcome = answer(rt.alloc(), words, &mut source, &mut sink)?;
+        assert_eq!(rt; outcome.status, Status::Done, "{words}");
+        assert_eq!(rt; sink.bytes(), text.as_bytes(), "{words}");
+        assert_eq!(rt;
+            outcome.whole.is_some(),
+            words.starts_with("run"),
+            "{words}"
+        );
     }
     Ok(())
 }
@@ -74,93 +83,114 @@ fn the_letter_a(rt: HostRuntime) -> Result<(), Fail> {
 fn refusals_write_nothing(rt: HostRuntime) -> Result<(), Fail> {
     let rows = [
         (
-            changed(&[(63, 0x16)]),
+            "check",
+            63,
+            0x16,
             Status::Image(ImageFault::Checksum(22, 23)),
         ),
-        (changed(&[(0, 0)]), Status::Image(ImageFault::Magic(0))),
+        ("dis", 0, 0, Status::Image(ImageFault::Magic(0))),
         (
-            changed(&[(36, 0x3F)]),
+            "run --turns0 10 --turns1 0",
+            36,
+            0x3F,
             Status::Image(ImageFault::Checksum(23, 9)),
         ),
-        (changed(&[(36, 0x3F), (63, 0x09)]), Status::Unbuilt),
-        (changed(&[(1, 2)]), Status::Unbuilt),
-        (changed(&[(12, 5)]), Status::Unbuilt),
+        ("check", 1, 0xFE, Status::Image(ImageFault::Count(254))),
+        ("check", 12, 0xFF, Status::Image(ImageFault::Chip(255))),
+        ("fly", 64, 0, Status::Usage(2)),
+        ("check now", 64, 0, Status::Usage(3)),
+        ("dis --help", 64, 0, Status::Usage(3)),
+        ("run --turns0 ten --turns1 0", 64, 0, Status::Unbuilt),
+        ("record", 64, 0, Status::Unbuilt),
     ];
-    for (image, status) in rows {
+    for (words, place, byte, status) in rows {
+        let image = letter_but(rt.alloc(), place, byte)?;
         let mut source = SafeSource::make(rt.alloc(), &image)?;
         let mut sink = SafeSink::make(rt.alloc())?;
-        let outcome = run_over(rt.alloc(), "10", &mut source, &mut sink)?;
-        assert_eq!(rt; outcome.status, status);
-        assert!(rt; sink.bytes().is_empty(), "{status:?}");
-        assert!(rt; outcome.whole.is_none(), "{status:?}");
+        let outcome = answer(rt.alloc(), words, &mut source, &mut sink)?;
+        assert_eq!(rt; outcome.status, status, "{words}");
+        assert!(rt; sink.bytes().is_empty(), "{words}");
+        assert!(rt; outcome.whole.is_none(), "{words}");
     }
-    let mut source = SafeSource::make(rt.alloc(), &LETTER[..23])?;
+    Ok(())
+}
+
+#[test]
+fn words_that_need_no_input(rt: HostRuntime) -> Result<(), Fail> {
+    let mut source = MemSource::make(rt.alloc(), &[], 1, &[0])?;
     let mut sink = SafeSink::make(rt.alloc())?;
-    let outcome = run_over(rt.alloc(), "10", &mut source, &mut sink)?;
-    assert_eq!(rt; outcome.status, Status::Image(ImageFault::Short));
-    let mut source = SafeSource::make(rt.alloc(), &LETTER)?;
-    let outcome = run_over(rt.alloc(), "ten", &mut source, &mut sink)?;
-    assert_eq!(rt; outcome.status, Status::Unbuilt);
-    assert!(rt; sink.bytes().is_empty());
+    let none = Vec::new(rt.alloc());
+    assert_eq!(rt;
+        tool_main(rt.alloc(), &none, &mut source, &mut sink),
+        Tool::Answer(Status::Usage(1))
+    );
+    let run = words_of(rt.alloc(), "run --turns0 0010 --turns1 0")?;
+    assert_eq!(rt;
+        tool_main(rt.alloc(), &run, &mut source, &mut sink),
+        Tool::Threaded
+    );
+    let check = words_of(rt.alloc(), "check")?;
+    let answered = tool_main(rt.alloc(), &check, &mut source, &mut sink);
+    assert_eq!(rt; answered, Tool::Answer(Status::ReadFault));
     Ok(())
 }
 
 #[test]
 fn too_long_an_input_is_refused(rt: HostRuntime) -> Result<(), Fail> {
-    let mut long = Vec::new(rt.alloc());
-    long.extend_from_slice(&LETTER)?;
-    long.resize(IMAGE_LIMIT, 0)?;
-    let mut source = SafeSource::make(rt.alloc(), &long)?;
-    let mut sink = SafeSink::make(rt.alloc())?;
-    let outcome = run_over(rt.alloc(), "10", &mut source, &mut sink)?;
-    assert_eq!(rt; outcome.status, Status::Done);
-    assert_eq!(rt; sink.bytes(), REPORT.as_bytes());
-    long.push(0)?;
-    let mut source = SafeSource::make(rt.alloc(), &long)?;
-    let mut sink = SafeSink::make(rt.alloc())?;
-    let outcome = run_over(rt.alloc(), "10", &mut source, &mut sink)?;
-    assert_eq!(rt; outcome.status, Status::Unbuilt);
-    assert!(rt; sink.bytes().is_empty());
-    Ok(())
-}
-
-#[test]
-fn a_source_that_fails_at_each_call(rt: HostRuntime) -> Result<(), Fail> {
-    // Thirteen calls for the 64 bytes and one for their end, and then none that fails.
-    for call in 0..15u64 {
-        let mut source = MemSource::make(rt.alloc(), &LETTER, 5, &[call])?;
+    let mut image = hex::decode(rt.alloc(), LETTER)?;
+    image.resize(8_388_608, 0)?;
+    for (words, status) in [
+        ("check", Status::Done),
+        ("check", Status::TooLarge(8_388_608)),
+    ] {
+        let mut source = SafeSource::make(rt.alloc(), &image)?;
         let mut sink = SafeSink::make(rt.alloc())?;
-        let outcome = run_over(rt.alloc(), "10", &mut source, &mut sink)?;
-        if call < 14 {
-            assert_eq!(rt; outcome.status, Status::ReadFault, "at call {call}");
-            assert!(rt; sink.bytes().is_empty(), "at call {call}");
-        } else {
-            assert_eq!(rt; outcome.status, Status::Done);
-            assert_eq!(rt; sink.bytes(), REPORT.as_bytes());
-        }
+        let outcome = answer(rt.alloc(), words, &mut source, &mut sink)?;
+        assert_eq!(rt; outcome.status, status);
+        image.push(0)?;
     }
     Ok(())
 }
 
 #[test]
-fn a_sink_that_fails_at_each_call(rt: HostRuntime) -> Result<(), Fail> {
-    // Seventeen calls for the 85 bytes of the report, and then none that fails.
+fn devices_that_fail_at_each_call(rt: HostRuntime) -> Result<(), Fail> {
+    // Thirteen calls read the 64 bytes and one finds their end; seventeen write the 85 of the report.
+    let image = hex::decode(rt.alloc(), LETTER)?;
+    let words = "run --turns0 10 --turns1 0";
     for call in 0..18usize {
-        let mut source = SafeSource::make(rt.alloc(), &LETTER)?;
-        let mut sink = MemSink::make(rt.alloc(), 5, &[call as u64])?;
-        let outcome = run_over(rt.alloc(), "10", &mut source, &mut sink)?;
-        assert!(rt; outcome.whole.is_some(), "at call {call}");
-        if call < 17 {
-            assert_eq!(rt; outcome.status, Status::WriteFault, "at call {call}");
-            assert_eq!(rt; sink.bytes().len(), 5 * call, "at call {call}");
-            assert!(rt;
-                REPORT.as_bytes().starts_with(sink.bytes()),
-                "at call {call}"
-            );
+        let mut source = MemSource::make(rt.alloc(), &image, 5, &[call as u64])?;
+        let mut sink = SafeSink::make(rt.alloc())?;
+        let outcome = answer(rt.alloc(), words, &mut source, &mut sink)?;
+        let read = if call < 14 {
+            Status::ReadFault
         } else {
-            assert_eq!(rt; outcome.status, Status::Done);
-            assert_eq!(rt; sink.bytes(), REPORT.as_bytes());
-        }
+            Status::Done
+        };
+        assert_eq!(rt; outcome.status, read, "reading, at call {call}");
+        assert_eq!(rt;
+            sink.bytes().is_empty(),
+            call < 14,
+            "reading, at call {call}"
+        );
+        let mut source = SafeSource::make(rt.alloc(), &image)?;
+        let mut sink = MemSink::make(rt.alloc(), 5, &[call as u64])?;
+        let outcome = answer(rt.alloc(), words, &mut source, &mut sink)?;
+        let written = if call < 17 {
+            Status::WriteFault
+        } else {
+            Status::Done
+        };
+        assert_eq!(rt; outcome.status, written, "writing, at call {call}");
+        assert!(rt; outcome.whole.is_some(), "writing, at call {call}");
+        assert!(rt;
+            REPORT.as_bytes().starts_with(sink.bytes()),
+            "writing, at call {call}"
+        );
+        assert_eq!(rt;
+            sink.bytes().len(),
+            85.min(5 * call),
+            "writing, at call {call}"
+        );
     }
     Ok(())
 }

@@ -18,7 +18,7 @@ use Rattle.xt_exec.specs.Turn.{demand, turn, reply_where}
 use Rattle.xt_core.specs.declared.actions.Action.{Action}
 use Rattle.xt_core.specs.declared.actions.Action.TheVariants.{Writes, Sends, Stops}
 use Rattle.xt_core.specs.declared.actions.Plan.{Plan}
-use Rattle.xt_core.specs.Chips.{processor}
+use Rattle.xt_exec.specs.Chips.{processor}
 use Rattle.xt_core.specs.Reach.{is_within_reach}
 use Rattle.xt_core.specs.Quiet.{state_at, access_of, kind_of_action, record_at, state_past, IsPlan}
 use Rattle.xt_core.specs.Cores.{CoreView, opened, core_past, entries_of}

@@ -1,5 +1,5 @@
 -- What the four instructions do in a core that nothing disturbs.
-use Rattle.std.proofs.Common.{◌≡◌, ◌≢◌, ℕ, ◌+◌, ◌<◌, ◌%◌, ◌^◌, ℤ, pos, negsuc, nat_lt, subst, eqb-true, Bool, true, false, ◌&&◌, cond, eqb, List, slice_index, slice_set, Option, Some, None, refl, sym, ap, ◌∙◌, arith, eq-eqb}
+use Rattle.std.proofs.Common.{◌≡◌, ◌≢◌, ℕ, ◌+◌, ◌<◌, ◌/◌, ◌%◌, ◌^◌, ℤ, pos, negsuc, nat_lt, subst, eqb-true, Bool, true, false, ◌&&◌, cond, eqb, List, slice_index, slice_set, Option, Some, None, refl, sym, ap, ◌∙◌, arith, eq-eqb}
 use Rattle.std.proofs.lemmas.Bool.{and_parts, and_from}
 use Rattle.std.proofs.lemmas.Bool.Decides.{nat_tests}
 use Rattle.xt_isa.specs.Ranges.{literal_within}
@@ -25,19 +25,20 @@ use Rattle.xt_rows.specs.declared.outcome.Write.{Write}
 use Rattle.xt_rows.specs.declared.outcome.Outcome.{Outcome}
 use Rattle.xt_rows.specs.declared.outcome.Outcome.TheVariants.{Does, Raises, Asks}
 use Rattle.xt_rows.specs.Fetching.{Fetched, Fetches, fetched}
-use Rattle.xt_rows.specs.Numbers.{plus, literal_address, code_number}
+use Rattle.xt_rows.specs.Numbers.{extended, plus, literal_address, code_number}
 use Rattle.xt_rows.specs.Operands.{named, reads, special_reads}
-use Rattle.xt_rows.specs.Outcomes.{outcome, outcome_at, falls_with, asks}
-use Rattle.xt_rows.specs.Settling.{after_effect, settled}
+use Rattle.xt_rows.specs.Effects.{asks}
+use Rattle.xt_rows.specs.Outcomes.{outcome, outcome_at, memory_outcome, system_outcome}
+use Rattle.xt_rows.specs.Settling.{after_effect}
 use Rattle.xt_exec.specs.State.{State}
-use Rattle.xt_exec.specs.Turn.{Planned, planned, demand, turn, in_window, written, shown, with_write, reply_where}
+use Rattle.xt_exec.specs.Turn.{Planned, planned, demand, turn, is_illegal, looks, done, written, shown, with_write, reply_where}
 use Rattle.xt_core.specs.declared.actions.Action.TheVariants.{Writes, Sends}
 use Rattle.xt_core.specs.declared.actions.Action.TheVariants as action
 use Rattle.xt_core.specs.declared.actions.Plan.{Plan}
 use Rattle.xt_core.specs.Reach.{lies_in_iram, fetches_from_iram, reaches_insn, is_built, loads_from_iram, only_sends, is_store, is_executed, is_within_reach}
 use Rattle.xt_core.specs.Quiet.{special_at, control_at, state_at, access_of, record_at, state_past, WritesRegister, IsPlan}
 use Rattle.xt_core.proofs.Specials.{different, count_is, other_is}
-use Rattle.xt_core.proofs.Quietly.{and_false, plans_insn, leaves, counts_on}
+use Rattle.xt_core.proofs.Quietly.{and_false, plans_insn, effect_with, leaves, counts_on}
 
 -- ---- a turn, from what is planned
 
@@ -144,23 +145,23 @@ made_plan code pc next regs i p kind write access e inside b l o k register does
     }
 
 does_settled : (code : ℕ → ℕ) (pc next : ℕ) (regs : List ℕ) (kind : StepKind) (write : Option Write) (access : Option Access) (v n : ℕ) (i : Insn) (len : ℕ) (c : Control)
-    → Alone → fetched code pc ≡ Fetches i len → named i < 16
-    → in_window (settled (outcome_at code i len (visible regs 0) (control_at v n pc)) len (control_at v n pc)) (state_at v n pc regs) ≡ plan_with kind write access pc regs c
+    → Alone → fetched code pc ≡ Fetches i len → named i < 16 → ((s : State) → is_illegal i s ≡ false) → looks i opening_ps ≡ named i / 4
+    → done (outcome_at code i (visible regs 0) (control_at v n pc)) len (state_at v n pc regs) ≡ plan_with kind write access pc regs c
     → (n + 1 < 2 ^ 32 → c ≡ control_at v (n + 1) next)
     → Does_so code pc next regs kind write access v n
-does_settled code pc next regs kind write access v n i len c alone e lt settles goes =
-    record { control = c; planned_is = plans_insn code v n pc regs i len e lt alone ∙ settles; control_is = goes }
+does_settled code pc next regs kind write access v n i len c alone e lt legal looked settles goes =
+    record { control = c; planned_is = plans_insn code v n pc regs i len e lt legal looked alone ∙ settles; control_is = goes }
 
 -- ---- the four instructions
 
 pub movi_plan : (code : ℕ → ℕ) (pc : ℕ) (regs : List ℕ) (t : ℕ) (x : ℤ) (len : ℕ) → Alone → fetched code pc ≡ Fetches (insn.Memory (memory.Movi t x)) len
     → lies_in_iram pc len ≡ true → t < 16 → IsPlan code pc regs (record { len = len; action = Writes t (plus 0 x) })
-unfolding outcome reads special_reads named
+unfolding outcome memory_outcome reads special_reads named is_illegal
 movi_plan code pc regs t x len alone e inside lt =
     let write : Option Write = Some (record { number = t; value = plus 0 x }) in
     made_plan code pc ((pc + len) % 2 ^ 32) regs (insn.Memory (memory.Movi t x)) _ kind.Insn write None e inside refl refl refl refl lt
     (λ v n. does_settled code pc ((pc + len) % 2 ^ 32) regs kind.Insn write None v n _ len
-    (ticked (after_effect (falls_with write opening_ps 0) len (control_at v n pc))) alone e lt refl (leaves v n pc len write))
+    (ticked (after_effect (effect_with write) len (control_at v n pc))) alone e lt (λ s. refl) refl refl (leaves v n pc len write))
     refl
     (λ v n reply. ap (λ (i : ℕ). (record_at (record { len = len; action = Writes t (plus 0 x) }) n pc reply, state_at v (n + 1) ((pc + len) % 2 ^ 32) (slice_set regs i (plus 0 x)))) (at_zero t lt))
 
@@ -182,16 +183,16 @@ first_true true x y h = refl
 first_true false x y h = cc
 
 l32r_does : (code : ℕ → ℕ) (pc : ℕ) (regs : List ℕ) (t : ℕ) (offset : ℤ) (len v n : ℕ) → literal_within offset ≡ true → is_constant (region_of (literal_address pc offset)) ≡ true
-    → outcome_at code (insn.Memory (memory.L32r t offset)) len (visible regs 0) (control_at v n pc)
-    ≡ Does (falls_with (Some (record { number = t; value = code_number code (literal_address pc offset) 4 })) opening_ps 0)
-unfolding outcome
+    → outcome_at code (insn.Memory (memory.L32r t offset)) (visible regs 0) (control_at v n pc)
+    ≡ Does (effect_with (Some (record { number = t; value = code_number code (literal_address pc offset) 4 })))
+unfolding outcome memory_outcome extended
 l32r_does code pc regs t offset len v n ok constant = both_true _ _ _ _ _ (literal_aligned pc offset ok) constant
 
 pub l32r_plan : (code : ℕ → ℕ) (pc : ℕ) (regs : List ℕ) (t : ℕ) (offset : ℤ) (len value : ℕ) → Alone → fetched code pc ≡ Fetches (insn.Memory (memory.L32r t offset)) len
     → lies_in_iram pc len ≡ true → t < 16 → literal_within offset ≡ true → lies_in_iram (literal_address pc offset) 4 ≡ true
     → value ≡ code_number code (literal_address pc offset) 4
     → IsPlan code pc regs (record { len = len; action = Writes t value })
-unfolding named
+unfolding named is_illegal
 l32r_plan code pc regs t offset len value alone e inside lt ok literal is =
     let number = code_number code (literal_address pc offset) 4 in
     let write : Option Write = Some (record { number = t; value = number }) in
@@ -202,8 +203,8 @@ l32r_plan code pc regs t offset len value alone e inside lt ok literal is =
     subst P (sym is)
     (made_plan code pc ((pc + len) % 2 ^ 32) regs i (plan_of number) kind.Insn write None e inside refl literal refl refl lt
     (λ v n. does_settled code pc ((pc + len) % 2 ^ 32) regs kind.Insn write None v n i len
-    (ticked (after_effect (falls_with write opening_ps 0) len (control_at v n pc))) alone e lt
-    (ap (λ (o : Outcome). in_window (settled o len (control_at v n pc)) (state_at v n pc regs)) (l32r_does code pc regs t offset len v n ok (constant _ here)))
+    (ticked (after_effect (effect_with write) len (control_at v n pc))) alone e lt (λ s. refl) refl
+    (ap (λ (o : Outcome). done o len (state_at v n pc regs)) (l32r_does code pc regs t offset len v n ok (constant _ here)))
     (leaves v n pc len write))
     refl
     (λ v n reply. ap (λ (k : ℕ). (record_at (plan_of number) n pc reply, state_at v (n + 1) ((pc + len) % 2 ^ 32) (slice_set regs k number))) (at_zero t lt)))
@@ -211,12 +212,12 @@ l32r_plan code pc regs t offset len value alone e inside lt ok literal is =
 pub break_plan : (code : ℕ → ℕ) (pc : ℕ) (regs : List ℕ) (level number : ℤ) (len : ℕ) → Alone
     → fetched code pc ≡ Fetches (insn.System (system.Break BreakName.Break level number)) len
     → lies_in_iram pc len ≡ true → IsPlan code pc regs (record { len = len; action = action.Stops })
-unfolding outcome reads special_reads named
+unfolding outcome system_outcome reads special_reads named is_illegal
 break_plan code pc regs level number len alone e inside =
     let i : Insn = insn.System (system.Break BreakName.Break level number) in
     let p : Plan = record { len = len; action = action.Stops } in
     made_plan code pc pc regs i p kind.Stop None None e inside refl refl refl refl tt
-    (λ v n. does_settled code pc pc regs kind.Stop None None v n i len (ticked (control_at v n pc)) alone e (omega arith) refl (counts_on v n pc))
+    (λ v n. does_settled code pc pc regs kind.Stop None None v n i len (ticked (control_at v n pc)) alone e (omega arith) (λ s. refl) refl refl (counts_on v n pc))
     refl (λ v n reply. refl)
 
 -- ---- stores
@@ -235,33 +236,33 @@ unfolding region_of
 sends_mapped value = rw (small_byte value) refl
 
 s8i_outcome : (code : ℕ → ℕ) (pc : ℕ) (regs : List ℕ) (t s : ℕ) (offset : ℤ) (len v n : ℕ)
-    → outcome_at code (insn.Memory (memory.L8ui ByteName.S8i t s offset)) len (visible regs 0) (control_at v n pc)
-    ≡ asks (byte_store (plus (visible regs 0 s) offset) (visible regs 0 t)) None opening_ps 0
-unfolding outcome reads special_reads
+    → outcome_at code (insn.Memory (memory.L8ui ByteName.S8i t s offset)) (visible regs 0) (control_at v n pc)
+    ≡ asks (byte_store (plus (visible regs 0 s) offset) (visible regs 0 t)) None (effect_with None)
+unfolding outcome memory_outcome reads special_reads
 s8i_outcome code pc regs t s offset len v n = first_true _ _ _ (one_divides (plus (visible regs 0 s) offset))
 
 pub s8i_plan : (code : ℕ → ℕ) (pc : ℕ) (regs : List ℕ) (t s : ℕ) (offset : ℤ) (len byte : ℕ) → Alone
     → fetched code pc ≡ Fetches (insn.Memory (memory.L8ui ByteName.S8i t s offset)) len
     → lies_in_iram pc len ≡ true → t < 16 → s < 16 → plus (slice_index regs s) offset ≡ uart_transmit → byte ≡ slice_index regs t % 256
     → IsPlan code pc regs (record { len = len; action = Sends byte })
-unfolding named
+unfolding named is_illegal
 s8i_plan code pc regs t s offset len byte alone e inside t_lt s_lt addr is =
     let i : Insn = insn.Memory (memory.L8ui ByteName.S8i t s offset) in
     let value = slice_index regs t in
     let access : Option Access = Some (byte_store uart_transmit value) in
     let a_is : plus (visible regs 0 s) offset ≡ uart_transmit = ap (λ (k : ℕ). plus (slice_index regs k) offset) (at_zero s s_lt) ∙ addr in
     let y_is : visible regs 0 t ≡ value = ap (slice_index regs) (at_zero t t_lt) in
-    let asked : asks (byte_store (plus (visible regs 0 s) offset) (visible regs 0 t)) None opening_ps 0 ≡ Asks (byte_store uart_transmit value) None (falls_with None opening_ps 0) =
-    ap (λ (a : ℕ). asks (byte_store a (visible regs 0 t)) None opening_ps 0) a_is
-    ∙ ap (λ (y : ℕ). asks (byte_store uart_transmit y) None opening_ps 0) y_is
+    let asked : asks (byte_store (plus (visible regs 0 s) offset) (visible regs 0 t)) None (effect_with None) ≡ Asks (byte_store uart_transmit value) None (effect_with None) =
+    ap (λ (a : ℕ). asks (byte_store a (visible regs 0 t)) None (effect_with None)) a_is
+    ∙ ap (λ (y : ℕ). asks (byte_store uart_transmit y) None (effect_with None)) y_is
     ∙ first_true _ _ _ (sends_mapped value) in
     let plan_of : ℕ → Plan = λ x. record { len = len; action = Sends x } in
     let P : ℕ → Type 0 = λ x. IsPlan code pc regs (plan_of x) in
     subst P (sym is)
     (made_plan code pc ((pc + len) % 2 ^ 32) regs i (plan_of (value % 256)) kind.Insn None access e inside refl refl refl refl tt
     (λ v n. does_settled code pc ((pc + len) % 2 ^ 32) regs kind.Insn None access v n i len
-    (ticked (after_effect (falls_with None opening_ps 0) len (control_at v n pc))) alone e (omega arith)
-    (ap (λ (o : Outcome). in_window (settled o len (control_at v n pc)) (state_at v n pc regs)) (s8i_outcome code pc regs t s offset len v n ∙ asked))
+    (ticked (after_effect (effect_with None) len (control_at v n pc))) alone e (omega arith) (λ s. refl) refl
+    (ap (λ (o : Outcome). done o len (state_at v n pc regs)) (s8i_outcome code pc regs t s offset len v n ∙ asked))
     (leaves v n pc len None))
     refl (λ v n reply. refl))
 
@@ -270,23 +271,23 @@ abbrev sends_on : Planned → Bool
 sends_on p = only_sends p.access && is_executed p.kind
 
 refused : (b : Bool) (a : Access) (len v n pc : ℕ) (regs : List ℕ) → eqb a.addr uart_transmit ≡ false
-    → sends_on (in_window (settled (cond b (Asks a None (falls_with None opening_ps 0)) (Raises 3 (Some a.addr))) len (control_at v n pc)) (state_at v n pc regs)) ≡ false
+    → sends_on (done (cond b (Asks a None (effect_with None)) (Raises 3 (Some a.addr))) len (state_at v n pc regs)) ≡ false
 refused true a len v n pc regs other = rw other (ap (λ (b : Bool). b && true) (and_false (is_store a.kind)))
 refused false a len v n pc regs other = refl
 
 pub not_sending : (code : ℕ → ℕ) (v n pc : ℕ) (regs : List ℕ) (t s : ℕ) (offset : ℤ) (len : ℕ) → Alone
     → fetched code pc ≡ Fetches (insn.Memory (memory.L8ui ByteName.S8i t s offset)) len → t < 16 → s < 16
     → plus (slice_index regs s) offset ≢ uart_transmit → is_within_reach code (state_at v n pc regs) ≡ false
-unfolding named
+unfolding named is_illegal
 not_sending code v n pc regs t s offset len alone e t_lt s_lt other =
     let i : Insn = insn.Memory (memory.L8ui ByteName.S8i t s offset) in
     let addr = plus (visible regs 0 s) offset in
     let s_is : addr ≡ plus (slice_index regs s) offset = ap (λ (k : ℕ). plus (slice_index regs k) offset) (at_zero s s_lt) in
     let apart : eqb addr uart_transmit ≡ false = different addr uart_transmit (λ (same : addr ≡ uart_transmit). other (sym s_is ∙ same)) in
     let a : Access = byte_store addr (visible regs 0 t) in
-    let planned_is = plans_insn code v n pc regs i len e (omega arith) alone
-    ∙ ap (λ (o : Outcome). in_window (settled o len (control_at v n pc)) (state_at v n pc regs)) (s8i_outcome code pc regs t s offset len v n) in
+    let planned_is = plans_insn code v n pc regs i len e (omega arith) (λ s. refl) refl alone
+    ∙ ap (λ (o : Outcome). done o len (state_at v n pc regs)) (s8i_outcome code pc regs t s offset len v n) in
     none_of code v n pc regs (Fetches i len) e
     (ap (λ (d : Option Access). only_sends d && is_executed (planned code (state_at v n pc regs)).kind) (demand_is code (state_at v n pc regs) _ planned_is)
-    ∙ ap (λ (q : Planned). only_sends (in_window (settled (asks a None opening_ps 0) len (control_at v n pc)) (state_at v n pc regs)).access && is_executed q.kind) planned_is
+    ∙ ap (λ (q : Planned). only_sends (done (asks a None (effect_with None)) len (state_at v n pc regs)).access && is_executed q.kind) planned_is
     ∙ refused (is_mapped a) a len v n pc regs apart)

@@ -17,7 +17,7 @@ use Rattle.xt_runs.specs.Traces.{trace_over}
 use Rattle.xt_exec.specs.State.{State, opening_state}
 use Rattle.xt_core.specs.declared.run.RunFault.{RunFault}
 use Rattle.xt_core.specs.declared.run.RunFault.TheVariants as fault
-use Rattle.xt_core.specs.Chips.{processor}
+use Rattle.xt_exec.specs.Chips.{processor}
 use Rattle.xt_core.specs.Runs.{IsRunOf, IsTraceOf, IsOfCore0, code_of, memory_of, opening_of_1}
 use Rattle.xt_core.specs.Reach.{leaves_reach}
 use Rattle.xt_core.specs.Cores.{CoreView}

@@ -11,7 +11,7 @@ use Rattle.xt_runs.specs.Alone.{states_alone}
 use Rattle.xt_exec.specs.State.{State, opening_state}
 use Rattle.xt_core.specs.declared.run.RunFault.{RunFault}
 use Rattle.xt_core.specs.declared.run.RunFault.TheVariants as fault
-use Rattle.xt_core.specs.Chips.{processor}
+use Rattle.xt_exec.specs.Chips.{processor}
 use Rattle.xt_core.specs.Reach.{is_within_reach}
 use Rattle.xt_core.specs.Cores.{CoreView}
 

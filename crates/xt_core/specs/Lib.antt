@@ -1,4 +1,3 @@
-pub mod Chips
 pub mod Runs
 pub mod Reach
 pub mod Quiet

@@ -20,7 +20,7 @@ use Rattle.xt_rows.specs.Numbers.{literal_address}
 use Rattle.xt_runs.specs.Alone.{states_alone}
 use Rattle.xt_exec.specs.State.{State}
 use Rattle.xt_exec.specs.Turn.{demand, planned}
-use Rattle.xt_core.specs.Chips.{processor}
+use Rattle.xt_exec.specs.Chips.{processor}
 use Rattle.xt_core.specs.Runs.{code_of, memory_of, opening_of_0}
 
 -- the n bytes from an address on lie in the internal instruction memory

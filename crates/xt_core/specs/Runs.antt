@@ -11,7 +11,7 @@ use Rattle.xt_trace.specs.Calls.{calls_in}
 use Rattle.xt_image.specs.declared.image.Image.{Image}
 use Rattle.xt_runs.specs.Traces.{trace_over, stop_of}
 use Rattle.xt_exec.specs.State.{State, opening_state}
-use Rattle.xt_core.specs.Chips.{processor}
+use Rattle.xt_exec.specs.Chips.{processor}
 
 -- the constant bytes of an image
 abbrev pub code_of : Image → ℕ → ℕ

@@ -1,6 +1,7 @@
 ghost use Rattle.std.specs.Prelude.{◌≡◌, ◌≤◌, IfOk, OnOk, IsErrOf, true, false};
 ghost use Rattle.std.specs.List.{list_any};
 ghost use Rattle.xt_map.specs.Memory.{constant_byte};
+ghost use Rattle.xt_map.specs.Placing.{IsPlaced};
 ghost use Rattle.xt_trace.specs.Calls.{is_stop};
 ghost use Rattle.xt_runs.specs.Traces.{stop_of};
 ghost use Rattle.xt_trace.specs.Validity.{IsValid};
@@ -89,10 +90,12 @@ fn stop_in(records: &[StepRecord]) -> Stop
 
 /// Runs an image on core 0 alone, on a bus by itself.
 ///
-/// `Unbuilt` comes exactly where a turn of core 0 is not within reach.
+/// `Unbuilt` comes exactly where a turn of core 0 is not within reach. The segments lie in one
+/// region each and share no byte, as those of every image that was read.
 pub fn run_one(alloc: Global, image: &Image, options: &Options) -> Result<Run, RunFault>
     requires valid { IsValid options.now }
     requires one_core { options.now.turns1 ≡ 0 }
+    requires placed { IsPlaced image.now.segments }
     ensures run { IfOk result (λ run. IsRunOf image.now options.now run) }
     ensures core { IfOk result IsOfCore0 }
     ensures within { OnOk result (leaves_reach image.now options.now ≡ false) }

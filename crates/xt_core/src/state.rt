@@ -70,7 +70,7 @@ fn transmission(byte: u8) -> Access
 impl Core {
     /// A core of which a1 and a8 alone hold a number: its stack begins 64 below `stack_end`, and its
     /// opening frame was called by 8 registers.
-    #[tactic(auto, unfolding(xt_exec::specs::State::opening_regs, xt_exec::specs::State::no_regs))]
+    #[tactic(auto, unfolding(xt_exec::specs::State::opening_regs, xt_window::specs::Ring::cleared_regs))]
     pub fn open(alloc: Global, pc: u32, stack_end: u32) -> Core
         requires { 64 ≤ stack_end }
         ensures { result ≡ opened pc (opening_regs stack_end) }

@@ -1,4 +1,5 @@
-ghost use Rattle.std.specs.Prelude.{◌≡◌, ◌≤◌};
+ghost use Rattle.std.specs.Prelude.{◌≡◌, ◌≤◌, IfSome};
+ghost use Rattle.xt_map.specs.Placing.{IsPlaced};
 ghost use Rattle.xt_trace.specs.Validity.{IsValid};
 
 use crate::{RunFault, run_one};
@@ -38,7 +39,9 @@ fn record(ccount: u32, pc: u32, kind: StepKind) -> StepRecord {
     }
 }
 
-fn image(alloc: Global, changes: &[(usize, u8)]) -> Option<Image> {
+fn image(alloc: Global, changes: &[(usize, u8)]) -> Option<Image>
+    ensures { IfSome result (λ i. IsPlaced i.segments) }
+{
     let mut bytes = LETTER;
     let mut sum = bytes[63];
     for (place, byte) in changes {
@@ -75,7 +78,9 @@ fn options(turns0: u32) -> Options
 
 #[test]
 fn each_turn_has_its_record(rt: HostRuntime) -> Result<(), Fail> {
-    let image = image(rt.alloc(), &[]).ok_or("an image")?;
+    let Some(image) = image(rt.alloc(), &[]) else {
+        return Err("no image".into());
+    };
     let mut records = [
         record(0, 0x40080404, StepKind::Insn),
         record(1, 0x40080407, StepKind::Insn),
@@ -137,7 +142,9 @@ fn turns_out_of_reach(rt: HostRuntime) -> Result<(), Fail> {
         ((46, 0x50), 4),
     ];
     for ((place, byte), turns) in rows {
-        let image = image(rt.alloc(), &[(place, byte)]).ok_or("an image")?;
+        let Some(image) = image(rt.alloc(), &[(place, byte)]) else {
+            return Err("no image".into());
+        };
         let refused = run_one(rt.alloc(), &image, &options(turns.min(MOST_TURNS))).err();
         assert_eq!(rt; refused, Some(RunFault::Unbuilt), "byte {place} at {turns}");
         let before = options(turns.saturating_sub(1).min(MOST_TURNS));

@@ -1,0 +1,3 @@
+pub mod Replies
+pub mod Specials
+pub mod Shapes

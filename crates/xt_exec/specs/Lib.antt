@@ -1,2 +1,4 @@
 pub mod State
 pub mod Turn
+pub mod Laws
+pub mod Chips

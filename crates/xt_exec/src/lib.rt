@@ -1,2 +1,4 @@
-//! One turn of the processor: its definition.
+//! The processor: its state, and one turn of it, as definitions. What each row does is in `xt_rows`.
 #![tactic(auto)]
+
+pub mod laws;

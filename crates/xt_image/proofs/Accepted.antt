@@ -1,121 +1,131 @@
--- What the tests of a plain image tell of the image.
-use Rattle.std.proofs.Common.{◌≡◌, ℕ, zero, suc, ◌+◌, ◌-◌, ◌%◌, ◌≤◌, ◌<◌, ◌^◌, ◌&&◌, Bool, true, false, Option, Some, None, List, [], ◌∷◌, ◌++◌, length, drop, refl, ◌∙◌, arith, append_assoc}
-use Rattle.std.proofs.lemmas.Bool.Decides.{nat_tests}
-use Rattle.std.proofs.lemmas.List.{get_or_append_left, get_or-drop, get_or_default}
-use Rattle.std.specs.Int.{w32, to_le_bytes}
-use Rattle.std.specs.Option.{option_map_or}
-use Rattle.std.specs.Prelude.{All, slice_index, nat_le, ◌==◌, not}
-use Rattle.xt_map.specs.declared.regions.Region.{Region}
-use Rattle.xt_map.specs.declared.regions.Region.TheVariants.{Iram}
-use Rattle.xt_map.specs.declared.segment.Segment.{Segment}
-use Rattle.xt_map.specs.Regions.{region_of, is_instruction_memory}
-use Rattle.xt_image.specs.Format.{IsPlain, has_digest, image_of}
-use Rattle.xt_image.specs.Layout.{front, segment_bytes, segments_at, segments_in, word_at}
-use Rattle.xt_image.specs.Rules.{is_one_plain_segment, is_plain, is_plain_head, is_plain_segment}
-use Rattle.xt_image.proofs.Joined.{IsBytes, front_is, rest_fits}
+-- The file of an image that meets the rules has no fault.
+use Rattle.std.proofs.Common.{◌≡◌, ℕ, ◌+◌, ◌≤◌, ◌<◌, List, [], ◌∷◌, ◌++◌, None, Bool, true, false, ◌||◌, length, take, drop, get_or, slice_index, refl, sym, ap, ap₂, ◌∙◌, arith, append_assoc, length-append}
+use Rattle.std.proofs.Math.Seq.{get_or-append_seam, take-append_seam, drop-append_seam}
+use Rattle.std.specs.List.{flat_map}
+use Rattle.std.specs.Prelude.{nat_lt, ◌==◌, not, if◌then◌else◌}
+use Rattle.std.specs.Str.{bytes_eq}
+use Rattle.std.proofs.lemmas.Slice.Eq.{bytes_eq-Decides}
+use Rattle.sha2.specs.Sha256.{sha256}
+use Rattle.sha2.proofs.Facts256.{length-sha256}
+use Rattle.xt_map.specs.Regions.{region_of, is_executable}
+use Rattle.xt_image.specs.declared.image.Image.{Image}
+use Rattle.xt_image.specs.Layout.{checksum_place, segment_bytes, segments_in}
+use Rattle.xt_image.specs.Rules.{first, head_rules, segment_rules, end_rules, has_digest, kept_digest, right_digest, checksum, image_fault}
+use Rattle.xt_image.specs.Parts.{FitsImage, digest_bytes, file_bytes, flag_of, gap_length, head_bytes, summed_bytes}
+use Rattle.xt_image.proofs.Passing.{five_pass, none_in, not_below, not_at_least, is_same, in_count, is_not_false, only_where}
+use Rattle.xt_image.proofs.Written.{HeadIs, file_again, file_head, head_length}
 
--- ---- tests that are all true
+-- what the rules say of an image by itself
+pub record Meets (i : Image) : Type 0 where
+  pub some : 0 < length i.segments
+  pub few : length i.segments ≤ 16
+  pub segments : first (segment_rules (length i.segments) i.segments) ≡ None
+  pub entry : is_executable (region_of i.entry) ≡ true
 
-both : (a b : Bool) → (a && b) ≡ true → (a ≡ true) × (b ≡ true)
-both true b h = (refl, h)
-both false b h = cc
+-- ---- lengths
 
-is_instruction : (o : Option Region) → is_instruction_memory o ≡ true → o ≡ Some Iram
-is_instruction (Some Iram) h = refl
-is_instruction _ h = cc
+pub summed_length : (i : Image) (gap : List ℕ) → FitsImage i → length gap ≡ gap_length i → length (summed_bytes i gap) ≡ checksum_place i.segments + 1
+unfolding summed_bytes
+summed_length i gap fits len =
+    let head = head_length i fits in
+    omega (
+      arith,
+      length-append ((head_bytes i ++ flat_map segment_bytes i.segments) ++ gap) (checksum i.segments ∷ []),
+      length-append (head_bytes i ++ flat_map segment_bytes i.segments) gap,
+      length-append (head_bytes i) (flat_map segment_bytes i.segments),
+    )
 
-iram_bounds : (a : ℕ) → region_of a ≡ Some Iram → (0x40070000 ≤ a) × (a ≤ 0x4009FFFF)
-unfolding region_of
-iram_bounds a h = grind (arith, nat_tests)
+pub digest_length : (i : Image) (gap : List ℕ) → i.digest ≡ true → length (digest_bytes i gap) ≡ 32
+digest_length i gap e = ap (λ (b : Bool). length (if b then sha256 (summed_bytes i gap) else [])) e ∙ length-sha256 (summed_bytes i gap)
 
-fits_word : (a : ℕ) → a ≤ 0x4009FFFF → a < 2 ^ 32
-fits_word a h = omega arith
+-- the file is what is summed, and the rest
+pub file_parts : (i : Image) (gap behind : List ℕ) → file_bytes i gap behind ≡ summed_bytes i gap ++ (digest_bytes i gap ++ behind)
+unfolding file_bytes
+file_parts i gap behind = append_assoc (summed_bytes i gap) (digest_bytes i gap) behind
 
-one_segment : (ss : List Segment) → is_one_plain_segment ss ≡ true → (s : Segment) × ((ss ≡ s ∷ []) × (is_plain_segment s ≡ true))
-one_segment (s ∷ []) h = (s, (refl, h))
-one_segment _ h = cc
+pub file_length : (i : Image) (gap behind : List ℕ) → length (file_bytes i gap behind) ≡ length (summed_bytes i gap) + (length (digest_bytes i gap) + length behind)
+file_length i gap behind = ap length (file_parts i gap behind) ∙ length-append (summed_bytes i gap) (digest_bytes i gap ++ behind)
+    ∙ ap (λ n. length (summed_bytes i gap) + n) (length-append (digest_bytes i gap) behind)
 
--- the tests of a plain segment as facts
-record Places (s : Segment) : Type 0 where
-  not_empty : 0 < length s.bytes
-  whole_words : length s.bytes % 4 ≡ 0
-  begins : 0x40070000 ≤ s.addr
-  ends : s.addr + length s.bytes ≤ 0x400A0000
+-- ---- the end
 
-not_zero : (n : ℕ) → not (n == 0) ≡ true → 0 < n
-not_zero n h = grind (arith, nat_tests)
+-- the checksum is the last of what is summed
+sum_at : (front rest : List ℕ) (place sum : ℕ) → length (front ++ sum ∷ []) ≡ place + 1 → slice_index ((front ++ sum ∷ []) ++ rest) place ≡ sum
+sum_at front rest place sum len =
+    let n : length front ≡ place = omega (arith, length-append front (sum ∷ [])) in
+    ap (λ (l : List ℕ). get_or l place 0) (append_assoc front (sum ∷ []) rest) ∙ ap (λ k. get_or (front ++ sum ∷ rest) k 0) (sym n) ∙ get_or-append_seam front sum rest 0
 
-is_zero : (n : ℕ) → (n == 0) ≡ true → n ≡ 0
-is_zero n h = grind (arith, nat_tests)
+sum_is : (i : Image) (gap behind : List ℕ) → FitsImage i → length gap ≡ gap_length i → slice_index (file_bytes i gap behind) (checksum_place i.segments) ≡ checksum i.segments
+unfolding summed_bytes
+sum_is i gap behind fits len =
+    ap (λ (l : List ℕ). slice_index l (checksum_place i.segments)) (file_parts i gap behind)
+    ∙ sum_at ((head_bytes i ++ flat_map segment_bytes i.segments) ++ gap) (digest_bytes i gap ++ behind) (checksum_place i.segments) (checksum i.segments) (summed_length i gap fits len)
 
-zero_not_one : (n : ℕ) → (n == 0) ≡ true → (n == 1) ≡ false
-zero_not_one n h = grind (arith, nat_tests)
+-- what stands up to a place, and behind it
+pub front_of : (front rest : List ℕ) (n : ℕ) → length front ≡ n → take n (front ++ rest) ≡ front
+front_of front rest n e = ap (λ k. take k (front ++ rest)) (sym e) ∙ take-append_seam front rest
 
-above : (a : ℕ) → 0x40070000 ≤ a → nat_le 0x10000000 a ≡ true
-above a h = grind (arith, nat_tests)
+pub rest_of : (front rest : List ℕ) (n : ℕ) → length front ≡ n → drop n (front ++ rest) ≡ rest
+rest_of front rest n e = ap (λ k. drop k (front ++ rest)) (sym e) ∙ drop-append_seam front rest
 
-places : (s : Segment) → is_plain_segment s ≡ true → Places s
-places s h =
-    let (upto_first, last) = both _ _ h in
-    let (upto_words, first) = both _ _ upto_first in
-    let (some, words) = both _ _ upto_words in
-    let some' : 0 < length s.bytes = not_zero _ some in
-    let from : 0x40070000 ≤ s.addr = (iram_bounds s.addr (is_instruction _ first)).0 in
-    let to : s.addr + (length s.bytes - 1) ≤ 0x4009FFFF = (iram_bounds (s.addr + (length s.bytes - 1)) (is_instruction _ last)).1 in
-    record { not_empty = some'; whole_words = is_zero _ words; begins = from; ends = omega arith }
+right_is : (i : Image) (gap behind : List ℕ) → FitsImage i → length gap ≡ gap_length i → right_digest (file_bytes i gap behind) (checksum_place i.segments) ≡ sha256 (summed_bytes i gap)
+right_is i gap behind fits len =
+    ap sha256 (ap (take (checksum_place i.segments + 1)) (file_parts i gap behind)
+    ∙ front_of (summed_bytes i gap) (digest_bytes i gap ++ behind) (checksum_place i.segments + 1) (summed_length i gap fits len))
 
--- ---- the bytes of a segment are bytes
+kept_is : (i : Image) (gap behind : List ℕ) → FitsImage i → length gap ≡ gap_length i → i.digest ≡ true
+    → kept_digest (file_bytes i gap behind) (checksum_place i.segments) ≡ sha256 (summed_bytes i gap)
+kept_is i gap behind fits len e =
+    ap (take 32) (ap (drop (checksum_place i.segments + 1)) (file_parts i gap behind)
+    ∙ rest_of (summed_bytes i gap) (digest_bytes i gap ++ behind) (checksum_place i.segments + 1) (summed_length i gap fits len))
+    ∙ front_of (digest_bytes i gap) behind 32 (digest_length i gap e)
+    ∙ ap (λ (b : Bool). if b then sha256 (summed_bytes i gap) else []) e
 
-pub held_fits : (bytes after : List ℕ) (s : Segment) → IsBytes bytes → bytes ≡ segment_bytes s ++ after → All (λ b. b < 256) s.bytes
-held_fits bytes after s fits e k d lt =
-    let first = to_le_bytes w32 s.addr ++ to_le_bytes w32 (length s.bytes) in
-    let apart : bytes ≡ first ++ (s.bytes ++ after) = e ∙ append_assoc first s.bytes after in
-    rw (get_or_default s.bytes k d 0 lt, ← get_or_append_left s.bytes after 0 k lt) (rest_fits bytes first (s.bytes ++ after) fits apart k)
+equal_bytes : (x y z : List ℕ) → x ≡ z → y ≡ z → not (bytes_eq x y) ≡ false
+equal_bytes x y z p q = is_not_false (bytes_eq x y) ((bytes_eq-Decides x y).1 (p ∙ sym q))
 
-found_in_front : (o : Option (Segment × List ℕ)) (n : ℕ) (s : Segment) (t : List Segment)
-    → option_map_or (λ x. x.0 ∷ segments_at n x.1) o [] ≡ s ∷ t → (after : List ℕ) × (o ≡ Some (s, after))
-found_in_front None n s t h = cc
-found_in_front (Some (r, after)) n s t h = (after, cc)
+end_passes : (i : Image) (gap behind : List ℕ) → FitsImage i → Meets i → length gap ≡ gap_length i
+    → first (end_rules (file_bytes i gap behind) (checksum_place i.segments) (checksum i.segments)) ≡ None
+end_passes i gap behind fits meets len =
+    let bytes = file_bytes i gap behind in
+    let place = checksum_place i.segments in
+    let size = file_length i gap behind in
+    let summed = summed_length i gap fits len in
+    let again = file_again i gap behind fits in
+    let digest : has_digest bytes ≡ i.digest = ap (λ (x : Image). x.digest) again in
+    five_pass _ _ _ _ _ _ _ _ _ _
+    (not_at_least (length bytes) place (omega arith))
+    (ap (λ n. not (n == checksum i.segments)) (sum_is i gap behind fits len) ∙ is_same (checksum i.segments))
+    (only_where (has_digest bytes) i.digest _ digest (λ e. not_below (length bytes) (place + 33) (let d : length (digest_bytes i gap) ≡ 32 = digest_length i gap e in omega arith)))
+    (only_where (has_digest bytes) i.digest _ digest (λ e. equal_bytes _ _ _ (kept_is i gap behind fits len e) (right_is i gap behind fits len)))
+    (is_not_false _ (ap (λ (x : Image). is_executable (region_of x.entry)) again ∙ meets.entry))
 
-front_of_segments : (n : ℕ) (bytes : List ℕ) (s : Segment) (t : List Segment) → segments_at n bytes ≡ s ∷ t → (after : List ℕ) × (front bytes ≡ Some (s, after))
-unfolding segments_at
-front_of_segments zero bytes s t h = cc
-front_of_segments (suc n) bytes s t h = found_in_front (front bytes) n s t h
+-- ---- the head, and all
 
--- ---- the whole
+small_flag : (digest : Bool) → nat_lt 1 (flag_of digest) ≡ false
+small_flag true = refl
+small_flag false = refl
 
--- the tests of a plain head as facts
-record Head (bytes : List ℕ) : Type 0 where
-  digest : has_digest bytes ≡ false
-  entry : region_of (word_at bytes 4) ≡ Some Iram
+head_passes : (i : Image) (bytes : List ℕ) → HeadIs i bytes → 24 ≤ length bytes → Meets i → first (head_rules bytes) ≡ None
+head_passes i bytes head long meets =
+    five_pass _ _ _ _ _ _ _ _ _ _
+    (not_below (length bytes) 24 long)
+    (ap (λ n. not (n == 0xE9)) head.magic)
+    (ap (λ n. n == 0 || nat_lt 16 n) head.count ∙ in_count (length i.segments) meets.some meets.few)
+    (ap (λ n. not (n == 0)) head.chip)
+    (ap (λ n. nat_lt 1 n) head.flag ∙ small_flag i.digest)
 
-head_is : (bytes : List ℕ) → is_plain_head bytes ≡ true → Head bytes
-unfolding is_plain_head
-head_is bytes h =
-    let (upto_count, in_iram) = both _ _ h in
-    let (upto_digest, count) = both _ _ upto_count in
-    let (chip, digest) = both _ _ upto_digest in
-    record { digest = zero_not_one (slice_index bytes 23) digest; entry = is_instruction _ in_iram }
-
-pub plain_is : (bytes : List ℕ) → IsBytes bytes → is_plain bytes ≡ true → IsPlain (image_of bytes)
-plain_is bytes fits h =
-    let (upto_segment, ends) = both _ _ h in
-    let (plain_head, segment) = both _ _ upto_segment in
-    let head = head_is bytes plain_head in
-    let (s, one) = one_segment (segments_in bytes) segment in
-    let (after, found) = front_of_segments (slice_index bytes 1) (drop 24 bytes) s [] one.0 in
-    let behind : IsBytes (drop 24 bytes) = λ i. rw (get_or-drop 24 bytes i 0) (fits (24 + i)) in
-    let place = places s one.1 in
-    record {
-      segment = s;
-      only = one.0;
-      loaded = above s.addr place.begins;
-      begins = place.begins;
-      ends = place.ends;
-      not_empty = place.not_empty;
-      whole_words = place.whole_words;
-      are_bytes = held_fits (drop 24 bytes) after s behind (front_is (drop 24 bytes) s after behind found);
-      no_digest = head.digest;
-      entry = head.entry;
-      entry_fits = fits_word (word_at bytes 4) (iram_bounds (word_at bytes 4) head.entry).1;
-    }
+pub accepts : (i : Image) (gap behind : List ℕ) → FitsImage i → Meets i → length gap ≡ gap_length i → image_fault (file_bytes i gap behind) ≡ None
+unfolding image_fault
+accepts i gap behind fits meets len =
+    let bytes = file_bytes i gap behind in
+    let head = file_head i gap behind fits in
+    let again : segments_in bytes ≡ i.segments = ap (λ (x : Image). x.segments) (file_again i gap behind fits) in
+    let long : 24 ≤ length bytes = (let size = file_length i gap behind in let summed = summed_length i gap fits len in omega arith) in
+    let segments : first (segment_rules (slice_index bytes 1) (segments_in bytes)) ≡ None =
+    ap₂ (λ n ss. first (segment_rules n ss)) head.count again ∙ meets.segments in
+    let ends : first (end_rules bytes (checksum_place (segments_in bytes)) (checksum (segments_in bytes))) ≡ None =
+    ap (λ ss. first (end_rules bytes (checksum_place ss) (checksum ss))) again ∙ end_passes i gap behind fits meets len in
+    none_in (head_rules bytes) (segment_rules (slice_index bytes 1) (segments_in bytes) ++ end_rules bytes (checksum_place (segments_in bytes)) (checksum (segments_in bytes)))
+    (head_passes i bytes head long meets)
+    (none_in (segment_rules (slice_index bytes 1) (segments_in bytes)) (end_rules bytes (checksum_place (segments_in bytes)) (checksum (segments_in bytes))) segments ends)

@@ -1,13 +1,10 @@
 -- The first finding, where it is known in which part of the rules it stands.
-use Rattle.std.proofs.Common.{◌≡◌, ℕ, ◌+◌, ◌-◌, ◌%◌, ◌≤◌, List, [], ◌∷◌, ◌++◌, Some, None, true, false, length, take, drop, slice_index, refl, sym, ap, ap₂, ◌∙◌, arith, length-append, length-drop}
-use Rattle.std.specs.Prelude.{not}
+use Rattle.std.proofs.Common.{◌≡◌, ℕ, ◌+◌, ◌-◌, ◌%◌, ◌≤◌, List, [], ◌∷◌, ◌++◌, Some, None, length, drop, slice_index, refl, sym, ap, ap₂, ◌∙◌, arith, length-append, length-drop}
 use Rattle.std.specs.List.{flat_map}
-use Rattle.std.proofs.lemmas.List.{take_rest}
 use Rattle.xt_map.specs.declared.segment.Segment.{Segment}
 use Rattle.xt_image.specs.declared.fault.ImageFault.{ImageFault}
-use Rattle.xt_image.specs.declared.fault.ImageFault.TheVariants.{Unbuilt}
-use Rattle.xt_image.specs.Layout.{checksum_place, end_of, segment_bytes, segments_at, segments_in}
-use Rattle.xt_image.specs.Rules.{Finding, fails, or_else, first, head_rules, plain_rules, end_rules, is_plain, checksum, image_fault}
+use Rattle.xt_image.specs.Layout.{checksum_place, end_of, segment_bytes, segments_in}
+use Rattle.xt_image.specs.Rules.{Finding, or_else, first, head_rules, segment_rules, end_rules, checksum, image_fault}
 
 first-append : (xs ys : List Finding) → first (xs ++ ys) ≡ or_else (first xs) (first ys)
 first-append [] ys = refl
@@ -20,48 +17,37 @@ in_first a b f h = first-append a b ∙ ap (λ x. or_else x (first b)) (sym h)
 not_in_first : (a b : List Finding) → None ≡ first a → first (a ++ b) ≡ first b
 not_in_first a b h = first-append a b ∙ ap (λ x. or_else x (first b)) (sym h)
 
-abbrev later_rules : List ℕ → List Finding
-later_rules bytes = end_rules bytes (checksum_place (segments_in bytes)) (checksum (segments_in bytes))
+abbrev later_rules : List ℕ → List Segment → List Finding
+later_rules bytes ss = end_rules bytes (checksum_place ss) (checksum ss)
 
 pub at_head : (bytes : List ℕ) (f : ImageFault) → Some f ≡ first (head_rules bytes) → image_fault bytes ≡ Some f
 unfolding image_fault
-at_head bytes f h = in_first (head_rules bytes) (plain_rules bytes ++ later_rules bytes) f h
+at_head bytes f h = in_first (head_rules bytes) (segment_rules (slice_index bytes 1) (segments_in bytes) ++ later_rules bytes (segments_in bytes)) f h
 
-behind_head : (bytes : List ℕ) → None ≡ first (head_rules bytes) → image_fault bytes ≡ first (plain_rules bytes ++ later_rules bytes)
+behind_head : (bytes : List ℕ) → None ≡ first (head_rules bytes)
+    → image_fault bytes ≡ first (segment_rules (slice_index bytes 1) (segments_in bytes) ++ end_rules bytes (checksum_place (segments_in bytes)) (checksum (segments_in bytes)))
 unfolding image_fault
-behind_head bytes h = not_in_first (head_rules bytes) (plain_rules bytes ++ later_rules bytes) h
+behind_head bytes h = not_in_first (head_rules bytes) (segment_rules (slice_index bytes 1) (segments_in bytes) ++ later_rules bytes (segments_in bytes)) h
 
-pub not_plain : (bytes : List ℕ) → None ≡ first (head_rules bytes) → is_plain bytes ≡ false → image_fault bytes ≡ Some Unbuilt
-not_plain bytes head h = behind_head bytes head
-    ∙ in_first (plain_rules bytes) (later_rules bytes) Unbuilt (sym (ap (λ b. first (fails (not b) Unbuilt ∷ [])) h))
+pub at_segments : (bytes : List ℕ) (ss : List Segment) (f : ImageFault) → None ≡ first (head_rules bytes) → ss ≡ segments_in bytes
+    → Some f ≡ first (segment_rules (slice_index bytes 1) ss) → image_fault bytes ≡ Some f
+at_segments bytes ss f head same h =
+    behind_head bytes head ∙ in_first (segment_rules (slice_index bytes 1) (segments_in bytes)) (later_rules bytes (segments_in bytes)) f (h ∙ ap (λ ss. first (segment_rules (slice_index bytes 1) ss)) same)
 
-behind_plain : (bytes : List ℕ) (ss : List Segment) (place sum : ℕ) → None ≡ first (head_rules bytes) → is_plain bytes ≡ true
-    → ss ≡ segments_in bytes → place ≡ checksum_place ss → sum ≡ checksum ss → image_fault bytes ≡ first (end_rules bytes place sum)
-behind_plain bytes ss place sum head plain same at is = behind_head bytes head
-    ∙ not_in_first (plain_rules bytes) (later_rules bytes) (sym (ap (λ b. first (fails (not b) Unbuilt ∷ [])) plain))
+behind_segments : (bytes : List ℕ) (ss : List Segment) (place sum : ℕ) → None ≡ first (head_rules bytes) → ss ≡ segments_in bytes
+    → None ≡ first (segment_rules (slice_index bytes 1) ss) → place ≡ checksum_place ss → sum ≡ checksum ss
+    → image_fault bytes ≡ first (end_rules bytes place sum)
+behind_segments bytes ss place sum head same none at is =
+    behind_head bytes head ∙ not_in_first (segment_rules (slice_index bytes 1) (segments_in bytes)) (later_rules bytes (segments_in bytes)) (none ∙ ap (λ ss. first (segment_rules (slice_index bytes 1) ss)) same)
     ∙ ap₂ (λ p s. first (end_rules bytes p s)) (sym (at ∙ ap checksum_place same)) (sym (is ∙ ap checksum same))
 
--- ---- the segments as they are read: those behind the head, and what follows them
+pub at_end : (bytes : List ℕ) (ss : List Segment) (place sum : ℕ) (x : Finding) → None ≡ first (head_rules bytes) → ss ≡ segments_in bytes
+    → None ≡ first (segment_rules (slice_index bytes 1) ss) → place ≡ checksum_place ss → sum ≡ checksum ss
+    → x ≡ first (end_rules bytes place sum) → image_fault bytes ≡ x
+at_end bytes ss place sum x head same none at is h = behind_segments bytes ss place sum head same none at is ∙ sym h
 
--- the bytes behind the head, as a slice
-abbrev behind : List ℕ → List ℕ
-behind bytes = take (length bytes - 24) (drop 24 bytes)
-
-pub all_found : (bytes : List ℕ) (ss found : List Segment) → ss ≡ found → found ≡ segments_at (slice_index bytes 1) (behind bytes) → ss ≡ segments_in bytes
-all_found bytes ss found same is = same ∙ is ∙ ap (segments_at (slice_index bytes 1)) (take_rest bytes 24)
-
--- the place of the checksum, from the number of bytes that follow the segments
-abbrev place_before : List ℕ → List ℕ → ℕ
-place_before bytes rest = (length bytes - length rest) + (15 - (length bytes - length rest) % 16)
-
-place_is : (bytes rest : List ℕ) (ss : List Segment) → 24 ≤ length bytes → drop 24 bytes ≡ flat_map segment_bytes ss ++ rest → place_before bytes rest ≡ checksum_place ss
-place_is bytes rest ss long joined =
-    let e : length bytes - length rest ≡ end_of ss = omega (arith, length-append (flat_map segment_bytes ss) rest, ap length joined, length-drop 24 bytes) in
+pub place_is : (bytes rest : List ℕ) (ss : List Segment) (end : ℕ) → 24 ≤ length bytes → drop 24 bytes ≡ flat_map segment_bytes ss ++ rest
+    → end ≡ length bytes - length rest → end + (15 - end % 16) ≡ checksum_place ss
+place_is bytes rest ss end long joined is =
+    let e : end ≡ end_of ss = omega (arith, length-append (flat_map segment_bytes ss) rest, ap length joined, length-drop 24 bytes) in
     ap (λ n. n + (15 - n % 16)) e
-
-pub at_end : (bytes rest : List ℕ) (ss found : List Segment) (sum : ℕ) (x : Finding) → None ≡ first (head_rules bytes) → 24 ≤ length bytes → is_plain bytes ≡ true
-    → ss ≡ found → found ≡ segments_at (slice_index bytes 1) (behind bytes) → behind bytes ≡ flat_map segment_bytes found ++ rest
-    → sum ≡ checksum ss → x ≡ first (end_rules bytes (place_before bytes rest) sum) → image_fault bytes ≡ x
-at_end bytes rest ss found sum x head long plain same is joined sums h =
-    let apart : drop 24 bytes ≡ flat_map segment_bytes ss ++ rest = sym (take_rest bytes 24) ∙ joined ∙ ap (λ l. flat_map segment_bytes l ++ rest) (sym same) in
-    behind_plain bytes ss (place_before bytes rest) sum head plain (all_found bytes ss found same is) (place_is bytes rest ss long apart) sums ∙ sym h

@@ -15,7 +15,7 @@ use Rattle.xt_image.specs.Layout.{front, word_at, segment_bytes}
 abbrev pub IsBytes : List ℕ → Type 0
 IsBytes bytes = (i : ℕ) → get_or bytes i 0 < 256
 
-take_fits : (n : ℕ) (xs : List ℕ) → IsBytes xs → IsBytes (take n xs)
+pub take_fits : (n : ℕ) (xs : List ℕ) → IsBytes xs → IsBytes (take n xs)
 take_fits zero xs fits i = omega arith
 take_fits (suc n) [] fits i = omega arith
 take_fits (suc n) (x ∷ xs) fits zero = fits 0

@@ -1,5 +1,12 @@
 pub mod Walk
+pub mod Overlapping
 pub mod Folds
 pub mod Joined
+pub mod Passing
 pub mod First
+pub mod Written
 pub mod Accepted
+pub mod Standing
+pub mod Placement
+pub mod Plainness
+pub mod Ruled

@@ -1,11 +1,11 @@
 -- The image that a file without a fault holds (esptool's image format).
-use Rattle.std.specs.Prelude.{ℕ, ◌+◌, ◌%◌, ◌≤◌, ◌<◌, ◌^◌, ◌==◌, Bool, true, false, List, [], ◌∷◌, length, take, drop, slice_index, All, Result, Ok, Err, Some, None, ◌≡◌, ◌≢◌}
+use Rattle.std.specs.Prelude.{ℕ, ◌+◌, ◌%◌, ◌≤◌, ◌<◌, ◌^◌, true, false, List, [], ◌∷◌, length, take, drop, slice_index, All, Result, Ok, Err, Some, None, ◌≡◌, ◌≢◌}
 use Rattle.xt_map.specs.declared.regions.Region.TheVariants.{Iram}
 use Rattle.xt_map.specs.declared.segment.Segment.{Segment}
 use Rattle.xt_map.specs.Regions.{region_of}
 use Rattle.xt_map.specs.Memory.{is_loaded}
 use Rattle.xt_image.specs.Layout.{half_at, segments_in, word_at}
-use Rattle.xt_image.specs.Rules.{Finding}
+use Rattle.xt_image.specs.Rules.{Finding, has_digest}
 use Rattle.xt_image.specs.declared.image.Head.{Head}
 use Rattle.xt_image.specs.declared.image.Image.{Image}
 use Rattle.xt_image.specs.declared.fault.ImageFault.{ImageFault}
@@ -23,9 +23,6 @@ head_of bytes = record {
   reserved = take 4 (drop 19 bytes);
 }
 
-abbrev pub has_digest : List ℕ → Bool
-has_digest bytes = slice_index bytes 23 == 1
-
 abbrev pub image_of : List ℕ → Image
 image_of bytes = record {
   head = head_of bytes;
@@ -39,8 +36,8 @@ abbrev pub Reads : Result Image ImageFault → List ℕ → Finding → Type 0
 Reads (Ok image) bytes fault = (fault ≡ None) × (image ≡ image_of bytes)
 Reads (Err e) bytes fault = e ≢ Memory → fault ≡ Some e
 
--- What is known of an accepted image: it has one segment, which is loaded and lies in the internal instruction memory,
--- 0x40070000 to 0x4009FFFF, and its entry lies there too.
+-- A plain image has one segment, which is loaded, has whole words, at least one, and lies in the internal instruction memory,
+-- 0x40070000 to 0x4009FFFF; its entry lies there too, and it has no digest.
 pub record IsPlain (i : Image) : Type 0 where
   pub segment : Segment
   pub only : i.segments ≡ segment ∷ []

@@ -1,3 +1,5 @@
 pub mod Layout
 pub mod Rules
 pub mod Format
+pub mod Parts
+pub mod Plain

@@ -1,12 +1,15 @@
 -- The rules of an image (esptool's image format), in their order, each by itself: what is wrong by this rule, or nothing.
--- That only plain images are read is this project's own choice ('profile').
-use Rattle.std.specs.Prelude.{ℕ, ◌+◌, ◌-◌, ◌%◌, ◌++◌, Bool, false, List, [], ◌∷◌, length, slice_index, Option, Some, None, if◌then◌else◌, ◌==◌, ◌&&◌, not, nat_lt, fold, bit_xor}
-use Rattle.std.specs.List.{flat_map}
+-- The order of the rules, the names of the faults, and the regions that they allow are this project's own choice ('profile').
+use Rattle.std.specs.Prelude.{ℕ, ◌+◌, ◌%◌, ◌++◌, Bool, List, [], ◌∷◌, length, take, drop, slice_index, Option, Some, None, if◌then◌else◌, ◌==◌, ◌&&◌, ◌||◌, not, nat_le, nat_lt, fold, bit_xor, option_map}
+use Rattle.std.specs.List.{flat_map, position}
+use Rattle.std.specs.Str.{bytes_eq}
+use Rattle.sha2.specs.Sha256.{sha256}
 use Rattle.xt_map.specs.declared.segment.Segment.{Segment}
-use Rattle.xt_map.specs.Regions.{region_of, is_instruction_memory}
+use Rattle.xt_map.specs.Regions.{region_of, is_executable}
+use Rattle.xt_map.specs.Placing.{is_well_placed, do_overlap}
 use Rattle.xt_image.specs.Layout.{half_at, word_at, segments_in, checksum_place}
 use Rattle.xt_image.specs.declared.fault.ImageFault.{ImageFault}
-use Rattle.xt_image.specs.declared.fault.ImageFault.TheVariants.{Short, Magic, Unbuilt, Checksum}
+use Rattle.xt_image.specs.declared.fault.ImageFault.TheVariants.{Short, Magic, Count, Chip, DigestFlag, SegmentEnd, SegmentLength, SegmentPlace, SegmentOverlap, NoChecksum, Checksum, NoDigest, Digest, Entry}
 
 abbrev pub Finding : Type 0
 Finding = Option ImageFault
@@ -29,34 +32,34 @@ first (x ∷ xs) = or_else x (first xs)
 abbrev pub head_rules : List ℕ → List Finding
 head_rules bytes =
     fails (nat_lt (length bytes) 24) Short
-    ∷ fails (not (slice_index bytes 0 == 0xE9)) (Magic (slice_index bytes 0)) ∷ []
+    ∷ fails (not (slice_index bytes 0 == 0xE9)) (Magic (slice_index bytes 0))
+    ∷ fails (slice_index bytes 1 == 0 || nat_lt 16 (slice_index bytes 1)) (Count (slice_index bytes 1))
+    ∷ fails (not (half_at bytes 12 == 0)) (Chip (half_at bytes 12))
+    ∷ fails (nat_lt 1 (slice_index bytes 23)) (DigestFlag (slice_index bytes 23)) ∷ []
 
--- ---- plain images
+-- ---- the segments
 
--- the address lies in the internal instruction memory
-abbrev pub is_iram : ℕ → Bool
-is_iram a = is_instruction_memory (region_of a)
+-- the length is no multiple of 4
+abbrev pub is_uneven : Segment → Bool
+is_uneven s = not (length s.bytes % 4 == 0)
 
--- at least one word, no part of a word, and the first and the last byte (so all) in the internal instruction memory
-abbrev pub is_plain_segment : Segment → Bool
-is_plain_segment s = not (length s.bytes == 0) && length s.bytes % 4 == 0
-    && is_iram s.addr && is_iram (s.addr + (length s.bytes - 1))
+abbrev pub is_misplaced : Segment → Bool
+is_misplaced s = not (is_well_placed s)
 
-abbrev pub is_one_plain_segment : List Segment → Bool
-is_one_plain_segment (s ∷ []) = is_plain_segment s
-is_one_plain_segment _ = false
+-- the first segment that shares a byte with one of those before it, and the first such one
+unfoldable pub first_overlap : List Segment → List Segment → Finding
+first_overlap before [] = None
+first_overlap before (s ∷ rest) =
+    or_else (option_map (λ i. SegmentOverlap i (length before)) (position (λ t. do_overlap t s) before))
+    (first_overlap (before ++ s ∷ []) rest)
 
--- chip id 0, digest flag 0, segment count 1, and the entry in the internal instruction memory
-unfoldable pub is_plain_head : List ℕ → Bool
-is_plain_head bytes = half_at bytes 12 == 0 && slice_index bytes 23 == 0 && slice_index bytes 1 == 1 && is_iram (word_at bytes 4)
-
--- such a head, the segment in the file and plain, and the checksum byte in the file
-abbrev pub is_plain : List ℕ → Bool
-is_plain bytes = is_plain_head bytes && is_one_plain_segment (segments_in bytes)
-    && nat_lt (checksum_place (segments_in bytes)) (length bytes)
-
-abbrev pub plain_rules : List ℕ → List Finding
-plain_rules bytes = fails (not (is_plain bytes)) Unbuilt ∷ []
+-- so many segments should stand in the file, and these stand there whole
+abbrev pub segment_rules : ℕ → List Segment → List Finding
+segment_rules count segments =
+    fails (nat_lt (length segments) count) (SegmentEnd (length segments))
+    ∷ option_map SegmentLength (position is_uneven segments)
+    ∷ option_map SegmentPlace (position is_misplaced segments)
+    ∷ first_overlap [] segments ∷ []
 
 -- ---- the end
 
@@ -64,13 +67,30 @@ plain_rules bytes = fails (not (is_plain bytes)) Unbuilt ∷ []
 abbrev pub checksum : List Segment → ℕ
 checksum segments = fold bit_xor 0xEF (flat_map (λ s. s.bytes) segments)
 
--- the checksum that is kept at a place is this one
+abbrev pub has_digest : List ℕ → Bool
+has_digest bytes = slice_index bytes 23 == 1
+
+-- the digest that stands behind a place, and the one of all bytes up to it
+abbrev pub kept_digest : List ℕ → ℕ → List ℕ
+kept_digest bytes place = take 32 (drop (place + 1) bytes)
+
+abbrev pub right_digest : List ℕ → ℕ → List ℕ
+right_digest bytes place = sha256 (take (place + 1) bytes)
+
+-- the checksum stands at this place and should be this sum
 abbrev pub end_rules : List ℕ → ℕ → ℕ → List Finding
-end_rules bytes place sum = fails (not (slice_index bytes place == sum)) (Checksum (slice_index bytes place) sum) ∷ []
+end_rules bytes place sum =
+    fails (nat_le (length bytes) place) NoChecksum
+    ∷ fails (not (slice_index bytes place == sum)) (Checksum (slice_index bytes place) sum)
+    ∷ fails (has_digest bytes && nat_lt (length bytes) (place + 33)) NoDigest
+    ∷ fails (has_digest bytes && not (bytes_eq (kept_digest bytes place) (right_digest bytes place)))
+    (Digest (kept_digest bytes place) (right_digest bytes place))
+    ∷ fails (not (is_executable (region_of (word_at bytes 4)))) (Entry (word_at bytes 4)) ∷ []
 
 -- ---- all of them
 
 -- the first rule that fails
 unfoldable pub image_fault : List ℕ → Finding
-image_fault bytes = first (head_rules bytes ++ (plain_rules bytes
+image_fault bytes = first (head_rules bytes
+    ++ (segment_rules (slice_index bytes 1) (segments_in bytes)
     ++ end_rules bytes (checksum_place (segments_in bytes)) (checksum (segments_in bytes))))

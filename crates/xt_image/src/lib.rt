@@ -1,15 +1,21 @@
-//! Application images as files, in esptool's image format.
+//! Application images as files, in esptool's image format: read, checked and written.
 #![tactic(auto)]
 
+mod bytes;
 mod fault;
 mod image;
+mod laws;
 mod plain;
 mod reading;
 mod rules;
+mod writing;
 
 pub use fault::ImageFault;
 pub use image::{Head, Image};
+pub use laws::{length_of_written, round_trip, well_formed_by_rules, well_formed_is_placed};
+pub use plain::is_plain;
 pub use reading::read;
+pub use writing::write;
 
 #[cfg(test)]
 mod tests;

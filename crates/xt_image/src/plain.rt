@@ -1,9 +1,9 @@
-ghost use Rattle.std.specs.Prelude.{◌≡◌, ◌<◌, ◌≤◌, ◌^◌, length, IsTrue};
-ghost use Rattle.std.specs.List.{flat_map};
-ghost use Rattle.xt_image.specs.Layout.{segment_bytes, segments_in, checksum_place};
-ghost use Rattle.xt_image.specs.Rules.{is_iram, is_plain_segment, is_one_plain_segment, is_plain_head, is_plain};
+ghost use Rattle.std.specs.Prelude.{◌≡◌, ◌<◌, ◌^◌, ◌↔◌, length, IsTrue, All};
+ghost use Rattle.xt_image.specs.Format.{IsPlain};
+ghost use Rattle.xt_image.specs.Parts.{IsWellFormed};
+ghost use Rattle.xt_image.specs.Plain.{is_iram, is_plain_segment, is_one_plain_segment, is_plain_image};
 
-use crate::rules::{half, word};
+use crate::image::Image;
 use xt_map::regions::Region;
 use xt_map::{Segment, region};
 
@@ -33,29 +33,26 @@ fn is_segment_plain(segment: &Segment) -> bool
 }
 
 fn are_segments_plain(segments: &[Segment]) -> bool
-    requires { length (flat_map segment_bytes segments.now) < 2 ^ 32 }
+    requires { All (λ s. length s.bytes < 2 ^ 32) segments.now }
     ensures { result ≡ is_one_plain_segment segments.now }
 {
     segments.len() == 1 && is_segment_plain(&segments[0])
 }
 
-// Whether the chip id, the digest flag, the segment count and the entry are those of a plain image.
-#[tactic(auto, unfolding(crate::specs::Rules::is_plain_head))]
-fn is_head_plain(bytes: &[u8]) -> bool
-    requires { 24 ≤ length bytes.now }
-    ensures { result ≡ is_plain_head bytes.now }
+// Whether an image passes the tests of a plain one.
+fn passes_tests(image: &Image) -> bool
+    requires { All (λ s. length s.bytes < 2 ^ 32) image.now.segments }
+    ensures { result ≡ is_plain_image image.now }
 {
-    half(bytes, 12) == 0 && bytes[23] == 0 && bytes[1] == 1 && is_in_iram(word(bytes, 4))
+    !image.digest && is_in_iram(image.entry) && are_segments_plain(image.segments.as_slice())
 }
 
-/// Whether a file with these segments, and this place of the checksum, is a plain image.
-pub fn is_file_plain(bytes: &[u8], segments: &[Segment], place: usize) -> bool
-    requires head { 24 ≤ length bytes.now }
-    requires short { length (flat_map segment_bytes segments.now) < 2 ^ 32 }
-    requires parts { segments.now ≡ segments_in bytes.now }
-    requires end { place ≡ checksum_place segments.now }
-    ensures plain { result ≡ is_plain bytes.now }
-    ensures kept { IsTrue result → place < length bytes.now }
+/// Whether an image is plain: no digest, one segment, and that and the entry in the internal
+/// instruction memory.
+pub fn is_plain(image: &Image) -> bool
+    requires { IsWellFormed image.now }
+    ensures test { result ≡ is_plain_image image.now }
+    ensures decides { IsTrue result ↔ IsPlain image.now }
 {
-    is_head_plain(bytes) && are_segments_plain(segments) && place < bytes.len()
+    passes_tests(image)
 }

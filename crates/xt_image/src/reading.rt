@@ -1,13 +1,15 @@
 ghost use Rattle.std.specs.Prelude.{◌≡◌, ◌≤◌, ◌++◌, length, IfOk, option_map};
 ghost use Rattle.std.specs.List.{flat_map};
+ghost use Rattle.xt_map.specs.Placing.{IsPlaced};
 ghost use Rattle.xt_image.specs.Layout.{front, segment_bytes, segments_at};
 ghost use Rattle.xt_image.specs.Rules.{image_fault};
-ghost use Rattle.xt_image.specs.Format.{IsPlain, Reads, head_of};
+ghost use Rattle.xt_image.specs.Format.{Reads, head_of};
+ghost use Rattle.xt_image.specs.Parts.{IsFileOf, IsWellFormed};
 
+use crate::bytes::{checksum_of, half, word};
 use crate::fault::ImageFault;
 use crate::image::{Head, Image};
-use crate::plain::is_file_plain;
-use crate::rules::{checksum_of, end_fault, half, head_fault, word};
+use crate::rules::{end_fault, head_fault, segment_fault};
 use std::alloc::{AllocError, Global};
 use xt_map::{Bytes, Segment, Segments};
 
@@ -35,6 +37,7 @@ fn front_segment(alloc: Global, bytes: &[u8]) -> Result<Option<(Segment, &[u8])>
 // The whole segments at the front, at most so many, and what follows them.
 fn segments_of(alloc: Global, count: u8, bytes: &[u8]) -> Result<(Vec<Segment>, &[u8]), AllocError>
     ensures found { IfOk result (λ r. r.0.items ≡ segments_at count bytes.now) }
+    ensures number { IfOk result (λ r. length r.0.items ≤ count) }
     ensures joined { IfOk result (λ r. bytes.now ≡ flat_map segment_bytes r.0.items ++ r.1.now) }
 {
     let mut found = Vec::new(alloc);
@@ -67,24 +70,26 @@ fn head_in(bytes: &[u8]) -> Head
 
 /// The image that the bytes of a file hold, or the first rule that they break.
 ///
-/// The bytes are at most 8,388,608. The rules, in their order: at least 24 bytes, byte 0 is 0xE9,
-/// a plain image, the right checksum. What stands between the segments and the checksum, and
-/// behind the checksum, may be anything.
+/// The bytes are at most 8,388,608. `ImageFault` has the rules, in their order. What stands
+/// between the last segment and the checksum, and behind the end, may be anything.
 pub fn read(alloc: Global, bytes: &[u8]) -> Result<Image, ImageFault>
     requires { length bytes.now ≤ 8388608 }
     ensures exact { Reads result bytes.now (image_fault bytes.now) }
-    ensures plain { IfOk result IsPlain }
+    ensures parts { IfOk result (λ i. IsFileOf i bytes.now) }
+    ensures well_formed { IfOk result IsWellFormed }
+    ensures placed { IfOk result (λ i. IsPlaced i.segments) }
 {
     if let Some(fault) = head_fault(bytes) {
         return Err(fault);
     }
-    let (segments, rest) = segments_of(alloc, bytes[1], &bytes[24..])?;
+    let count = bytes[1];
+    let (segments, rest) = segments_of(alloc, count, &bytes[24..])?;
     let parts = segments.as_slice();
+    if let Some(fault) = segment_fault(count, parts) {
+        return Err(fault);
+    }
     let end = bytes.len() - rest.len();
     let place = end + (15 - end % 16);
-    if !is_file_plain(bytes, parts, place) {
-        return Err(ImageFault::Unbuilt);
-    }
     if let Some(fault) = end_fault(bytes, place, checksum_of(parts)) {
         return Err(fault);
     }

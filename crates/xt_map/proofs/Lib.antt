@@ -1,3 +1,6 @@
 pub mod Grown
+pub mod Indexed
+pub mod Placed
 pub mod Ranged
+pub mod Sent
 pub mod Stored

@@ -1,5 +1,5 @@
 -- Laws of memory and of histories. Each is the contract of a function of src/laws.rt.
-use Rattle.std.specs.Prelude.{◌≡◌, ◌≢◌, ℕ, ◌+◌, ◌<◌, ◌≤◌, true, ◌==◌, if◌then◌else◌, ◌⊎◌, ◌↔◌, Some, List, [], ◌∷◌, ◌++◌}
+use Rattle.std.specs.Prelude.{◌≡◌, ◌≢◌, ℕ, ◌+◌, ◌<◌, ◌≤◌, true, ◌==◌, if◌then◌else◌, ◌⊎◌, ◌↔◌, Some, List, [], ◌∷◌, ◌++◌, length}
 use Rattle.xt_map.specs.declared.regions.Region.{Region}
 use Rattle.xt_map.specs.declared.regions.Region.TheVariants.{RtcFastData, Dram, Iram, RtcSlow}
 use Rattle.xt_map.specs.declared.access.Access.{Access}
@@ -7,7 +7,8 @@ use Rattle.xt_map.specs.declared.access.Entry.{Entry}
 use Rattle.xt_map.specs.declared.segment.Segment.{Segment}
 use Rattle.xt_map.specs.declared.contents.MemoryContents.{MemoryContents}
 use Rattle.xt_map.specs.Regions.{region_of, is_memory}
-use Rattle.xt_map.specs.Memory.{HasSizes, byte_at, with_byte, opening_memory}
+use Rattle.xt_map.specs.Memory.{HasSizes, byte_at, with_byte, opening_memory, holds_address}
+use Rattle.xt_map.specs.Placing.{do_overlap}
 use Rattle.xt_map.specs.Serving.{memory_past, reply_to}
 use Rattle.xt_map.specs.History.{memory_after, IsLegal, is_legal_from, IsOfCores, calls_of}
 
@@ -63,6 +64,10 @@ AccessKeepsSizes = (m : MemoryContents) (a : Access) → HasSizes m → HasSizes
 abbrev pub OpeningHasSizes : Type 0
 OpeningHasSizes = (segments : List Segment) (words : List (ℕ × ℕ)) → HasSizes (opening_memory segments words)
 
+-- an access sends at most one byte
+abbrev pub AccessSendsAtMostOneByte : Type 0
+AccessSendsAtMostOneByte = (m : MemoryContents) (a : Access) → length (memory_past m a).sent ≤ length m.sent + 1
+
 -- ---- regions
 
 -- an address of the region lies from its first to its last address
@@ -80,3 +85,22 @@ RtcFastDataIsRange = LiesIn RtcFastData 0x3FF80000 0x3FF81FFF
 
 abbrev pub RtcSlowIsRange : Type 0
 RtcSlowIsRange = LiesIn RtcSlow 0x50000000 0x50001FFF
+
+-- an address from the first to the last one is of the region
+abbrev pub HoldsFrom : Region → ℕ → ℕ → Type 0
+HoldsFrom r first last = (a : ℕ) → first ≤ a → a ≤ last → region_of a ≡ Some r
+
+abbrev pub RangeIsDram : Type 0
+RangeIsDram = HoldsFrom Dram 0x3FFAE000 0x3FFFFFFF
+
+abbrev pub RangeIsRtcFastData : Type 0
+RangeIsRtcFastData = HoldsFrom RtcFastData 0x3FF80000 0x3FF81FFF
+
+abbrev pub RangeIsRtcSlow : Type 0
+RangeIsRtcSlow = HoldsFrom RtcSlow 0x50000000 0x50001FFF
+
+-- ---- segments
+
+-- two segments overlap exactly where some address is one that both have a byte at
+abbrev pub OverlapIsSharedByte : Type 0
+OverlapIsSharedByte = (s t : Segment) → (do_overlap s t ≡ true) ↔ ((a : ℕ) × ((holds_address a s ≡ true) × (holds_address a t ≡ true)))

@@ -1,5 +1,7 @@
 pub mod Regions
 pub mod Memory
+pub mod Placing
+pub mod Index
 pub mod Serving
 pub mod History
 pub mod Laws

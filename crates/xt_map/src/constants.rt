@@ -1,27 +1,45 @@
-ghost use Rattle.std.specs.Prelude.{◌≡◌, ◌-◌, ◌<◌, ◌≤◌, true, find, length, IfOk, IfSome, IsTrue};
-ghost use Rattle.std.specs.Option.{option_copied};
+ghost use Rattle.std.specs.Prelude.{◌≡◌, true, length, IfOk, OnOk};
 ghost use Rattle.xt_map.specs.Regions.{is_constant, region_of};
-ghost use Rattle.xt_map.specs.Memory.{constant_byte, holds_address, is_loaded};
+ghost use Rattle.xt_map.specs.Memory.{constant_byte};
+ghost use Rattle.xt_map.specs.Placing.{IsPlaced};
+ghost use Rattle.std.specs.List.Sorted.{IsNonDecreasingBy};
+ghost use Rattle.xt_map.specs.declared.constants.Start.{Start};
+ghost use Rattle.xt_map.specs.Index.{HasStarts, IsCountUpto, IsIndexed, has_bytes};
 
 use crate::bytes::Bytes;
+use crate::placing::is_segment_loaded;
 use crate::segment::Segment;
 use std::alloc::{AllocError, Global};
 use std::marker::Model;
 
+// Where a segment starts: its first address, and its number in the list.
+#[derive(Clone, Copy)]
+struct Start {
+    addr: u32,
+    number: usize,
+}
+
 /// The contents of the constant regions, from which instructions are fetched and constants are
 /// loaded. Contracts see the segments that it was made of.
+///
+/// A byte is found by a binary search over the segments in the order of their addresses.
 #[derive(Drop)]
 pub struct Constants {
     segments: Vec<Segment>,
+    // The starts of the segments that have bytes, in the order of the addresses.
+    starts: Vec<Start>,
 }
 
 impl Model for Constants {
     ghost use Rattle.std.specs.Prelude.{List};
     ghost use Rattle.xt_map.specs.declared.segment.Segment.{Segment};
+    ghost use Rattle.xt_map.specs.Index.{IsIndexed};
 
     ghost Value = { List Segment };
 
     ghost view = { λ c. c.segments.items };
+
+    ghost invariant = { λ c. IsIndexed c.segments.items c.starts.items };
 }
 
 // A copy of a segment.
@@ -34,45 +52,95 @@ fn copy_of(alloc: Global, segment: &Segment) -> Result<Segment, AllocError>
     })
 }
 
-// Whether a loaded segment has a byte at this address.
-fn does_hold(segment: &Segment, addr: u32) -> bool
-    ensures test { result ≡ holds_address addr segment.now }
-    ensures held { IsTrue result → (segment.now.addr ≤ addr) × (addr - segment.now.addr < length segment.now.bytes) }
+// Copies of segments.
+fn copies_of(alloc: Global, segments: &[Segment]) -> Result<Vec<Segment>, AllocError>
+    ensures { IfOk result (λ copies. copies.items ≡ segments.now) }
 {
-    0x10000000 <= segment.addr
-        && segment.addr <= addr
-        && ((addr - segment.addr) as usize) < segment.bytes.len()
+    let mut copies = Vec::new(alloc);
+    for segment in segments {
+        copies.push(copy_of(alloc, segment)?)?;
+    }
+    Ok(copies)
 }
 
-// The first loaded segment that has a byte at this address.
-fn segment_at(segments: &[Segment], addr: u32) -> Option<&Segment>
-    ensures found { option_copied result ≡ find (holds_address addr) segments.now }
-    ensures held { IfSome result (λ s. (s.now.addr ≤ addr) × (addr - s.now.addr < length s.now.bytes)) }
+// Whether a segment is loaded and has a byte.
+fn has_contents(segment: &Segment) -> bool
+    ensures { result ≡ has_bytes segment.now }
 {
-    segments.iter().find(|segment| does_hold(segment, addr))
+    is_segment_loaded(segment) && segment.bytes.len() > 0
+}
+
+// The starts of the segments that have bytes, in file order.
+fn starts_of(alloc: Global, segments: &[Segment]) -> Result<Vec<Start>, AllocError>
+    ensures { IfOk result (λ starts. HasStarts segments.now (length segments.now) starts.items) }
+{
+    let mut starts = Vec::new(alloc);
+    for (number, segment) in segments.iter().enumerate() {
+        if has_contents(segment) {
+            starts.push(Start {
+                addr: segment.addr,
+                number,
+            })?;
+        }
+    }
+    Ok(starts)
+}
+
+// The starts of the segments that have bytes, in the order of the addresses.
+fn sorted_starts_of(alloc: Global, segments: &[Segment]) -> Result<Vec<Start>, AllocError>
+    requires { IsPlaced segments.now }
+    ensures { IfOk result (λ starts. IsIndexed segments.now starts.items) }
+{
+    let mut starts = starts_of(alloc, segments)?;
+    starts.sort_unstable_by_key(|start| start.addr);
+    Ok(starts)
+}
+
+// How many of the starts have an address up to this one.
+fn count_upto(starts: &[Start], addr: u32) -> usize
+    requires { IsNonDecreasingBy (λ (s : Start). s.addr) starts.now }
+    ensures { IsCountUpto starts.now addr result }
+{
+    starts.partition_point(|start| start.addr <= addr)
+}
+
+// The byte that a loaded segment has at an address of a constant region, else 0.
+fn byte_in(segments: &[Segment], starts: &[Start], addr: u32) -> u8
+    requires constant { is_constant (region_of addr) ≡ true }
+    requires indexed { IsIndexed segments.now starts.now }
+    ensures { result ≡ constant_byte segments.now addr }
+{
+    let count = count_upto(starts, addr);
+    if count == 0 {
+        return 0;
+    }
+    let start = starts[count - 1];
+    let bytes = segments[start.number].bytes.as_slice();
+    let place = (addr - start.addr) as usize;
+    if place < bytes.len() { bytes[place] } else { 0 }
 }
 
 impl Constants {
     /// Copies what the segments load. The only error is want of memory.
+    ///
+    /// Each segment that is loaded and has a byte lies in one region other than UART0, and no two
+    /// of them share a byte; `are_placed` tests this.
     pub fn make(alloc: Global, segments: &[Segment]) -> Result<Constants, AllocError>
+        requires { IsPlaced segments.now }
         ensures { IfOk result (λ c. c ≡ segments.now) }
     {
-        let mut copies = Vec::new(alloc);
-        for segment in segments {
-            copies.push(copy_of(alloc, segment)?)?;
-        }
-        Ok(Constants { segments: copies })
+        let starts = sorted_starts_of(alloc, segments)?;
+        let segments = copies_of(alloc, segments)?;
+        Ok(Constants { segments, starts })
     }
 
     /// The byte at an address of a constant region: what a loaded segment has there, else 0.
-    #[tactic(auto, unfolding(crate::specs::Memory::constant_byte))]
+    ///
+    /// It is found in a time that grows with the logarithm of the number of segments.
     pub fn byte(&self, addr: u32) -> u8
         requires { is_constant (region_of addr) ≡ true }
         ensures { result ≡ constant_byte self.now addr }
     {
-        match segment_at(&self.segments, addr) {
-            Some(segment) => segment.bytes.as_slice()[(addr - segment.addr) as usize],
-            None => 0,
-        }
+        byte_in(&self.segments, &self.starts, addr)
     }
 }

@@ -1,8 +1,10 @@
 //! Laws of memory, of histories and of the regions. Each is the contract of a function that does
 //! nothing.
 ghost use Rattle.xt_map.specs.Laws.{LongerHistoryIsOnePastMore, LegalGrows, LegalTestIsLaw, OfCoresGrows, LongerHistoryIsOneCallMore};
-ghost use Rattle.xt_map.specs.Laws.{PutByteIsThere, PutByteKeepsOthers, PutByteKeepsSizes, AccessKeepsOtherBytes, AccessKeepsSizes, OpeningHasSizes};
+ghost use Rattle.xt_map.specs.Laws.{PutByteIsThere, PutByteKeepsOthers, PutByteKeepsSizes, AccessKeepsOtherBytes, AccessKeepsSizes, AccessSendsAtMostOneByte, OpeningHasSizes};
+ghost use Rattle.xt_map.specs.Laws.{OverlapIsSharedByte};
 ghost use Rattle.xt_map.specs.Laws.{IramIsRange, DramIsRange, RtcFastDataIsRange, RtcSlowIsRange};
+ghost use Rattle.xt_map.specs.Laws.{RangeIsDram, RangeIsRtcFastData, RangeIsRtcSlow};
 
 /// The memory after a history with one entry more is the memory after the others, past its access.
 pub fn memory_of_longer_history()
@@ -65,4 +67,21 @@ pub fn regions_as_ranges()
     ensures dram { DramIsRange }
     ensures rtc_fast_data { RtcFastDataIsRange }
     ensures rtc_slow { RtcSlowIsRange }
+{}
+
+/// The addresses of these ranges are of their regions.
+pub fn ranges_as_regions()
+    ensures dram { RangeIsDram }
+    ensures rtc_fast_data { RangeIsRtcFastData }
+    ensures rtc_slow { RangeIsRtcSlow }
+{}
+
+/// An access sends at most one byte.
+pub fn access_sends_at_most_one_byte()
+    ensures { AccessSendsAtMostOneByte }
+{}
+
+/// Two segments overlap exactly where both have a byte at some address.
+pub fn overlap_is_a_shared_byte()
+    ensures { OverlapIsSharedByte }
 {}

@@ -12,6 +12,7 @@ mod history;
 mod laws;
 mod lookup;
 mod mapping;
+mod placing;
 pub mod regions;
 mod segment;
 #[cfg(test)]
@@ -23,10 +24,12 @@ pub use constants::Constants;
 pub use contents::MemoryContents;
 pub use history::History;
 pub use laws::{
-    access_keeps_sizes, byte_of_other_address, byte_put_keeps_sizes, byte_that_was_put,
-    calls_of_longer_history, legal_test_is_law, memory_of_longer_history, one_entry_more_is_legal,
-    one_entry_more_is_of_cores, opening_has_sizes, regions_as_ranges, stores_keep_other_bytes,
+    access_keeps_sizes, access_sends_at_most_one_byte, byte_of_other_address, byte_put_keeps_sizes,
+    byte_that_was_put, calls_of_longer_history, legal_test_is_law, memory_of_longer_history,
+    one_entry_more_is_legal, one_entry_more_is_of_cores, opening_has_sizes,
+    overlap_is_a_shared_byte, ranges_as_regions, regions_as_ranges, stores_keep_other_bytes,
 };
 pub use lookup::region;
 pub use mapping::mapped;
+pub use placing::{are_placed, is_placed, is_segment_loaded, share_bytes};
 pub use segment::{Segment, Segments};

@@ -1,7 +1,8 @@
 //! The memory map's addresses as the ESP32 Technical Reference Manual has them, and round trips.
 use crate::regions::Region;
 use crate::{
-    Access, Bytes, Constants, Entry, History, Kind, Segment, Segments, Text, mapped, region,
+    Access, Bytes, Constants, Entry, History, Kind, Segment, Segments, Text, are_placed, mapped,
+    region,
 };
 use std::alloc::Global;
 use std::test::Fail;
@@ -110,7 +111,9 @@ fn bytes_of_constant_regions(rt: HostRuntime) -> Result<(), Fail> {
     segments.push(segment(alloc, 0x40080400, &[0x36, 0x41, 0x00, 0xF0])?)?;
     segments.push(segment(alloc, 0x3FFB0000, &[5, 6])?)?;
     segments.push(segment(alloc, 0x3F400020, &[7, 8])?)?;
-    segments.push(segment(alloc, 0x40080402, &[9, 10, 11])?)?;
+    segments.push(segment(alloc, 0x40080404, &[9, 10, 11])?)?;
+    segments.push(segment(alloc, 0x40080402, &[])?)?;
+    assert!(rt; are_placed(&segments));
     let constants = Constants::make(alloc, segments.as_slice())?;
     for (addr, want) in [
         (0, None),
@@ -119,8 +122,10 @@ fn bytes_of_constant_regions(rt: HostRuntime) -> Result<(), Fail> {
         (0x40080401, Some(0x41)),
         (0x40080402, Some(0)),
         (0x40080403, Some(0xF0)),
-        (0x40080404, Some(11)),
-        (0x40080405, Some(0)),
+        (0x40080404, Some(9)),
+        (0x40080406, Some(11)),
+        (0x40080407, Some(0)),
+        (0x400803FE, Some(0)),
         (0x3FFB0000, None),
         (0x3F40001F, Some(0)),
         (0x3F400020, Some(7)),
@@ -128,6 +133,34 @@ fn bytes_of_constant_regions(rt: HostRuntime) -> Result<(), Fail> {
         (0x3F400022, Some(0)),
     ] {
         assert_eq!(rt; constant_at(&constants, addr), want, "at {addr}");
+    }
+    Ok(())
+}
+
+#[test]
+fn places_of_segments(rt: HostRuntime) -> Result<(), Fail> {
+    let alloc = rt.alloc();
+    let rows: [(u32, usize, u32, usize, bool); 14] = [
+        (0x40080400, 4, 0x40080404, 4, true),
+        (0x40080400, 4, 0x40080403, 4, false),
+        (0x40080403, 4, 0x40080400, 4, false),
+        (0x40080400, 8, 0x40080402, 2, false),
+        (0x40080400, 8, 0x40080402, 0, true),
+        (0, 4, 2, 4, true),
+        (0x0FFFFFFF, 4, 0x40080400, 4, true),
+        (0x10000000, 4, 0x40080400, 4, false),
+        (0x10000000, 0, 0x40080400, 4, true),
+        (0x3FFAE000, 4, 0x3FFFFFFC, 4, true),
+        (0x3FFADFFF, 4, 0x40080400, 4, false),
+        (0x3FFFFFFE, 4, 0x40080400, 4, false),
+        (0x3FF40000, 1, 0x40080400, 4, false),
+        (0xFFFFFFFF, 4, 0x40080400, 4, false),
+    ];
+    for (one, size, other, other_size, want) in rows {
+        let mut segments = Vec::new(alloc);
+        segments.push(segment(alloc, one, &[1; 8][..size.min(8)])?)?;
+        segments.push(segment(alloc, other, &[2; 8][..other_size.min(8)])?)?;
+        assert_eq!(rt; are_placed(&segments), want, "at {one} and {other}");
     }
     Ok(())
 }

@@ -1,0 +1,3 @@
+pub mod Bounds
+pub mod Proper
+pub mod Registers

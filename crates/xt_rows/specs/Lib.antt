@@ -1,5 +1,7 @@
-pub mod Fetching
 pub mod Numbers
+pub mod Fetching
 pub mod Operands
+pub mod Effects
 pub mod Outcomes
 pub mod Settling
+pub mod Laws

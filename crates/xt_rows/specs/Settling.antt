@@ -1,6 +1,6 @@
 -- What an outcome, an interrupt or a turn of waiting leaves, beside the registers: the same for the processor and for a machine
 -- with unbounded frames ('profile' for the turn as the unit of time; the effects are those of the manual's chapters on the options).
-use Rattle.std.specs.Prelude.{ℕ, ◌+◌, ◌-◌, ◌%◌, ◌^◌, if◌then◌else◌, Option, Some, None, List, [], ◌∷◌, slice_set}
+use Rattle.std.specs.Prelude.{ℕ, ◌+◌, ◌-◌, ◌%◌, ◌^◌, if◌then◌else◌, Option, Some, None, List, slice_set}
 use Rattle.xt_map.specs.declared.access.Access.{Access}
 use Rattle.xt_special.specs.Numbers as number
 use Rattle.xt_special.specs.Control.{Control, special_of}
@@ -14,8 +14,9 @@ use Rattle.xt_rows.specs.declared.outcome.Awaited.{Awaited}
 use Rattle.xt_rows.specs.declared.outcome.Flow.{Flow}
 use Rattle.xt_rows.specs.declared.outcome.Flow.TheVariants.{Falls, Goes}
 use Rattle.xt_rows.specs.declared.outcome.Effect.{Effect}
+use Rattle.xt_rows.specs.Effects.{SpecialWrites}
 use Rattle.xt_rows.specs.declared.outcome.Outcome.{Outcome}
-use Rattle.xt_rows.specs.declared.outcome.Outcome.TheVariants.{Does, Raises, Asks, Stops}
+use Rattle.xt_rows.specs.declared.outcome.Outcome.TheVariants.{Does, Raises, Asks, Stops, Windowed}
 
 -- ---- an effect on the control state
 
@@ -23,9 +24,8 @@ abbrev pub with_set : Option SpecialWrite → List ℕ → List ℕ
 with_set None special = special
 with_set (Some w) special = slice_set special w.number w.value
 
-abbrev pub with_sets : List (Option SpecialWrite) → List ℕ → List ℕ
-with_sets [] special = special
-with_sets (w ∷ rest) special = with_sets rest (with_set w special)
+abbrev pub with_sets : SpecialWrites → List ℕ → List ℕ
+with_sets w special = with_set w.2 (with_set w.1 (with_set w.0 special))
 
 -- An instruction that falls through may go back in a loop. A jump, a taken branch, a call or a return never does.
 abbrev pub after_flow : Flow → ℕ → Control → Control
@@ -81,3 +81,5 @@ settled (Raises cause address) len c = settled_exception cause address c
 settled (Asks access awaited e) len c =
     record { kind = Executed; write = None; access = Some access; awaited = awaited; control = ticked (after_effect e len c) }
 settled Stops len c = without_access Stopped None c
+-- each machine has its own cases for the steps of windows, and never comes here with one
+settled (Windowed step) len c = without_access Executed None c

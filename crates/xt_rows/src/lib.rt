@@ -4,8 +4,22 @@
 //! the processor and a machine with unbounded frames alike.
 #![tactic(auto)]
 
+mod control;
+mod density;
+mod effects;
+pub mod laws;
+mod memory;
 mod numbers;
+mod operands;
 mod outcome;
+mod rows;
+mod shift;
+mod system;
+mod three;
 
-pub use numbers::{literal_address, plus};
-pub use outcome::{Awaited, Effect, Flow, Outcome, SpecialWrite, Write};
+pub use numbers::{code_byte, extended, literal_address, plus};
+pub use operands::{named, reads, special_reads};
+pub use outcome::{
+    Awaited, Effect, Flow, Outcome, SpecialWrite, SpecialWrites, WindowRegister, WindowStep, Write,
+};
+pub use rows::{Values, outcome_of};

@@ -2,7 +2,7 @@ use xt_map::Access;
 use xt_special::Ps;
 
 /// A write to a visible register.
-#[derive(Clone, Copy, Debug, PartialEq, Eq)]
+#[derive(Clone, Copy)]
 pub struct Write {
     /// The visible register, 0 to 15, in the window after the turn.
     pub number: u8,
@@ -11,7 +11,7 @@ pub struct Write {
 }
 
 /// A write to a special register other than PS.
-#[derive(Clone, Copy, Debug, PartialEq, Eq)]
+#[derive(Clone, Copy)]
 pub struct SpecialWrite {
     /// The number of the special register.
     pub number: u8,
@@ -19,8 +19,15 @@ pub struct SpecialWrite {
     pub value: u32,
 }
 
+/// The special registers that an instruction writes, in order: at most three, as LOOP writes LCOUNT, LBEG and LEND.
+pub type SpecialWrites = (
+    Option<SpecialWrite>,
+    Option<SpecialWrite>,
+    Option<SpecialWrite>,
+);
+
 /// The visible register that receives the reply to an access.
-#[derive(Clone, Copy, Debug, PartialEq, Eq)]
+#[derive(Clone, Copy)]
 pub struct Awaited {
     /// The visible register, 0 to 15.
     pub number: u8,
@@ -29,7 +36,7 @@ pub struct Awaited {
 }
 
 /// Where an instruction goes on.
-#[derive(Clone, Copy, Debug, PartialEq, Eq)]
+#[derive(Clone, Copy)]
 pub enum Flow {
     /// To the instruction behind it, or back in a loop.
     Falls,
@@ -38,12 +45,12 @@ pub enum Flow {
 }
 
 /// What an instruction changes.
-#[derive(Clone, Copy, Debug, PartialEq, Eq)]
+#[derive(Clone, Copy)]
 pub struct Effect {
     /// The visible register that it writes, unless it waits for a reply.
     pub write: Option<Write>,
-    /// The special registers that it writes, at most three (LOOP writes LBEG, LEND and LCOUNT).
-    pub sets: [Option<SpecialWrite>; 3],
+    /// The special registers that it writes.
+    pub sets: SpecialWrites,
     /// PS afterwards.
     pub ps: Ps,
     /// THREADPTR afterwards.
@@ -54,8 +61,42 @@ pub struct Effect {
     pub waits: bool,
 }
 
+/// One of the two registers that are kept with the windows.
+#[derive(Clone, Copy)]
+pub enum WindowRegister {
+    /// WINDOWBASE, of four bits.
+    Base,
+    /// WINDOWSTART, of sixteen bits.
+    Start,
+}
+
+/// What an instruction does that moves the window or looks at the windows. Registers are visible
+/// ones, 0 to 15.
+#[derive(Clone, Copy)]
+pub enum WindowStep {
+    /// ENTRY: the register of this number in the new window receives this value.
+    Enters(u8, u32),
+    /// RETW, with this value of a0.
+    Returns(u32),
+    /// RFWO, with this value of EPC1.
+    EndsOverflow(u32),
+    /// RFWU, with this value of EPC1.
+    EndsUnderflow(u32),
+    /// ROTW, by so many windows.
+    Rotates(i32),
+    /// MOVSP: the register of this number receives this value, where a caller's window is there.
+    MovesStack(u8, u32),
+    /// RSR of a window register into the visible register of this number.
+    Reads(WindowRegister, u8),
+    /// WSR of this value into a window register.
+    Sets(WindowRegister, u32),
+    /// XSR of this value into a window register, whose old value the visible register of this
+    /// number receives.
+    Exchanges(WindowRegister, u8, u32),
+}
+
 /// What comes of an instruction.
-#[derive(Clone, Copy, Debug, PartialEq, Eq)]
+#[derive(Clone, Copy)]
 pub enum Outcome {
     /// It is executed, with this effect.
     Does(Effect),
@@ -66,4 +107,6 @@ pub enum Outcome {
     Asks(Access, Option<Awaited>, Effect),
     /// It stops the core.
     Stops,
+    /// It does something with windows, for which a machine has its own cases.
+    Windowed(WindowStep),
 }

@@ -1,3 +1,10 @@
 pub mod Chip
 pub mod Traces
 pub mod Alone
+pub mod Worlds
+pub mod Schedule
+pub mod Runs
+pub mod Driven
+pub mod Reached
+pub mod Short
+pub mod Walks

@@ -1,6 +1,10 @@
 pub mod Numbers
 pub mod Control
+pub mod Values
+pub mod Shape
+pub mod Access
 pub mod Opening
 pub mod Timers
 pub mod Exceptions
+pub mod WindowExceptions
 pub mod Interrupts

@@ -36,8 +36,15 @@ eps level = 192 + level
 abbrev pub interrupt : ℕ
 interrupt = 226
 
+-- INTERRUPT's number is INTSET's where it is written
+abbrev pub intclear : ℕ
+intclear = 227
+
 abbrev pub intenable : ℕ
 intenable = 228
+
+abbrev pub ps : ℕ
+ps = 230
 
 abbrev pub vecbase : ℕ
 vecbase = 231

@@ -4,6 +4,12 @@
 //! them the machine has, and which bits they keep, is its profile.
 #![tactic(auto)]
 
+pub mod laws;
+pub mod number;
 mod ps;
+mod registers;
+#[cfg(test)]
+mod tests;
 
 pub use ps::Ps;
+pub use registers::Special;

@@ -1,3 +1,10 @@
+//! PS, the processor state register.
+#![tactic(auto)]
+
+ghost use Rattle.std.specs.Prelude.{◌≡◌, ◌<◌, ◌^◌};
+ghost use Rattle.xt_special.specs.Control.{ps_of, ps_word};
+ghost use Rattle.xt_special.specs.Shape.{IsPs};
+
 /// The fields of PS, the processor state register.
 #[derive(Clone, Copy, Debug, PartialEq, Eq)]
 pub struct Ps {
@@ -15,4 +22,41 @@ pub struct Ps {
     pub callinc: u8,
     /// Whether window overflows are detected (bit 18).
     pub woe: bool,
+}
+
+impl Ps {
+    /// The fields of a word. Its other bits play no part.
+    #[tactic(auto, unfolding(crate::specs::Control::ps_of))]
+    pub fn of_word(w: u32) -> Ps
+        ensures value { result ≡ ps_of w }
+        ensures range { IsPs result }
+    {
+        Ps {
+            intlevel: (w % 16) as u8,
+            excm: (w >> 4) % 2 == 1,
+            um: (w >> 5) % 2 == 1,
+            ring: ((w >> 6) % 4) as u8,
+            owb: ((w >> 8) % 16) as u8,
+            callinc: ((w >> 16) % 4) as u8,
+            woe: (w >> 18) % 2 == 1,
+        }
+    }
+
+    /// The fields as a word; all its other bits are 0.
+    ///
+    /// Condition: each field is in its range.
+    #[tactic(auto, unfolding(crate::specs::Control::ps_word))]
+    pub fn word(self) -> u32
+        requires { IsPs self }
+        ensures value { result ≡ ps_word self }
+        ensures range { result < 2 ^ 19 }
+    {
+        self.intlevel as u32
+            + (1 << 4) * (self.excm as u32)
+            + (1 << 5) * (self.um as u32)
+            + (1 << 6) * (self.ring as u32)
+            + (1 << 8) * (self.owb as u32)
+            + (1 << 16) * (self.callinc as u32)
+            + (1 << 18) * (self.woe as u32)
+    }
 }

@@ -1,1 +1,4 @@
 pub mod Alone
+pub mod Bits
+pub mod Nearest
+pub mod Undone

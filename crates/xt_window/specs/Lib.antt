@@ -1,1 +1,5 @@
 pub mod Ring
+pub mod Values
+pub mod Moves
+pub mod Answers
+pub mod Laws

@@ -1,0 +1,5 @@
+pub mod Signed
+pub mod Arithmetic
+pub mod Shifts
+pub mod Constants
+pub mod Conditions

@@ -1,0 +1,41 @@
+-- What is read and written at a place of a region's list, as the state of the memory says it.
+use Rattle.std.proofs.Common.{◌≡◌, ℕ, ◌+◌, ◌<◌, true, List, slice_index, slice_set, Some, sym, ap, ◌∙◌}
+use Rattle.xt_map.specs.declared.regions.Region.{Region}
+use Rattle.xt_map.specs.declared.access.Access.{Access}
+use Rattle.xt_map.specs.Regions.{is_memory, is_mapped}
+use Rattle.xt_map.specs.Memory.{byte_at, with_byte}
+use Rattle.xt_map.specs.Serving.{replied, reply_to}
+use Rattle.xt_bus.specs.Bytes.{number_in, changed_in}
+use Rattle.xt_bus.specs.States.{MemoryState, holding, served}
+use Rattle.xt_bus.proofs.Regional.{list_in, with_list, first_of, size_of, byte_is, with_byte_is, reply_is, past_is}
+
+pub byte_at_place : (r : Region) (s now : MemoryState) (xs : List ℕ) (at addr : ℕ) → s ≡ now → is_memory (Some r) ≡ true → addr ≡ first_of r + at → at < size_of r
+    → xs ≡ list_in r s.contents → slice_index xs at ≡ byte_at now.contents addr
+byte_at_place r s now xs at addr is h e l x =
+    ap (λ ys. slice_index ys at) x
+    ∙ sym (byte_is r s.contents at h l)
+    ∙ ap (λ a. byte_at s.contents a) (sym e)
+    ∙ ap (λ (t : MemoryState). byte_at t.contents addr) is
+
+pub put_at_place : (r : Region) (s now : MemoryState) (at addr b : ℕ) → s ≡ now → is_memory (Some r) ≡ true → addr ≡ first_of r + at → at < size_of r
+    → holding (with_list r s.contents (slice_set (list_in r s.contents) at b)) s.room ≡ holding (with_byte now.contents addr b) now.room
+put_at_place r s now at addr b is h e l =
+    ap (λ m. holding m s.room) (sym (with_byte_is r s.contents at b h l))
+    ∙ ap (λ a. holding (with_byte s.contents a b) s.room) (sym e)
+    ∙ ap (λ (t : MemoryState). holding (with_byte t.contents addr b) t.room) is
+
+pub replied_at_place : (r : Region) (s now : MemoryState) (xs : List ℕ) (at : ℕ) (a : Access) (reply : ℕ) → s ≡ now → is_memory (Some r) ≡ true → is_mapped a ≡ true
+    → a.addr ≡ first_of r + at → at < size_of r → xs ≡ list_in r s.contents → reply ≡ replied a.kind (number_in xs at a.size) → reply ≡ reply_to now.contents a
+replied_at_place r s now xs at a reply is h k e l x is_reply =
+    is_reply
+    ∙ ap (λ ys. replied a.kind (number_in ys at a.size)) x
+    ∙ sym (reply_is r s.contents at a h k e l)
+    ∙ ap (λ (t : MemoryState). reply_to t.contents a) is
+
+pub served_at_place : (r : Region) (s now : MemoryState) (xs ys zs : List ℕ) (at : ℕ) (a : Access) → s ≡ now → is_memory (Some r) ≡ true → is_mapped a ≡ true
+    → a.addr ≡ first_of r + at → at < size_of r → xs ≡ list_in r s.contents → ys ≡ changed_in xs at a.size a.kind → zs ≡ ys
+    → holding (with_list r s.contents zs) s.room ≡ served now a
+served_at_place r s now xs ys zs at a is h k e l x y z =
+    ap (λ ws. holding (with_list r s.contents ws) s.room) (z ∙ y ∙ ap (λ ws. changed_in ws at a.size a.kind) x)
+    ∙ ap (λ m. holding m s.room) (sym (past_is r s.contents at a h k e l))
+    ∙ ap (λ (t : MemoryState). served t a) is

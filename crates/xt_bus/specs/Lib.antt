@@ -1,0 +1,5 @@
+pub mod Bytes
+pub mod Places
+pub mod States
+pub mod Keeps
+pub mod BusKeeps

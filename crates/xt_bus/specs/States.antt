@@ -1,0 +1,38 @@
+-- What contracts see of a memory and of a bus.
+use Rattle.std.specs.Prelude.{ℕ, ◌-◌, List, [], ◌∷◌, ◌++◌}
+use Rattle.xt_map.specs.declared.access.Access.{Access}
+use Rattle.xt_map.specs.declared.access.Entry.{Entry}
+use Rattle.xt_map.specs.declared.contents.MemoryContents.{MemoryContents}
+use Rattle.xt_map.specs.declared.segment.Segment.{Segment}
+use Rattle.xt_map.specs.Memory.{opening_memory}
+use Rattle.xt_map.specs.Serving.{memory_past}
+
+-- what a memory holds, with the sent bytes, and how many bytes it has room to send in all
+pub record MemoryState : Type 0 where
+  pub contents : MemoryContents
+  pub room : ℕ
+
+abbrev pub holding : MemoryContents → ℕ → MemoryState
+holding contents room = record { contents = contents; room = room }
+
+-- after one access
+abbrev pub served : MemoryState → Access → MemoryState
+served s a = holding (memory_past s.contents a) s.room
+
+-- the memory that a bus opened with, its history, its memory with the sent bytes, and how many accesses it may yet serve
+pub record BusState : Type 0 where
+  pub opening : MemoryContents
+  pub history : List Entry
+  pub memory : MemoryContents
+  pub spare : ℕ
+
+abbrev pub opened : List Segment → List (ℕ × ℕ) → ℕ → BusState
+opened segments words room =
+    record { opening = opening_memory segments words; history = []; memory = opening_memory segments words; spare = room }
+
+abbrev pub entry : ℕ → Access → ℕ → Entry
+entry core access reply = record { core = core; access = access; reply = reply }
+
+-- after one entry more
+abbrev pub stepped : BusState → Entry → BusState
+stepped s e = record { opening = s.opening; history = s.history ++ e ∷ []; memory = memory_past s.memory e.access; spare = s.spare - 1 }

@@ -1,0 +1,54 @@
+use Rattle.std.proofs.Common.{inr, sym, ap, ◌∙◌, rules}
+use Rattle.xt_cli.specs.Calls.{Ends}
+use Rattle.xt_cli.specs.Tools.{made}
+use Rattle.xt_cli.proofs.Working.{keeps_same, refuses}
+use Rattle.xt_cli.proofs.tool.work.Goals as goal
+
+pub returns-in-Err-clause-answers : goal.returns-in-Err-clause-answers
+returns-in-Err-clause-answers g c =
+    let e : Ends = record {
+      left = g.S.Source.left c.args.source.now;
+      left_after = g.S.Source.left c.read_to_limit.new.source;
+      told = g.K.Sink.told c.args.sink.now;
+      told_after = g.K.Sink.told c.args.sink.now;
+      source_faults = g.S.Source.faults c.args.source.now;
+      source_faults_after = g.S.Source.faults c.read_to_limit.new.source;
+      sink_faults = g.K.Sink.faults c.args.sink.now;
+      sink_faults_after = g.K.Sink.faults c.args.sink.now;
+    } in
+    refuses c.args.job e c.in-Err.status (keeps_same (g.K.Sink.told c.args.sink.now)) (record {
+      input = c.in-Ok.input.items;
+      taken = c.in-Ok.ensures.whole;
+      end = c.in-Ok.ensures.end;
+      within = c.in-Ok.ensures.within;
+      is = λ caused. ap (made c.args.job) (sym c.deref.ensures.value) ∙ c.in-Err.ensures.refused caused;
+    })
+
+pub returns-in-Err-Failed-clause-answers : goal.returns-in-Err-Failed-clause-answers
+returns-in-Err-Failed-clause-answers g c = (
+  (
+    c.in-Ok-make.text,
+    record {
+      input = c.in-Ok.input.items;
+      taken = c.in-Ok.ensures.whole;
+      end = c.in-Ok.ensures.end;
+      within = c.in-Ok.ensures.within;
+      is = ap (made c.args.job) (sym c.deref.ensures.value) ∙ c.in-Ok-make.ensures.ok;
+    },
+    search rules,
+  ),
+  search rules,
+)
+
+pub returns-clause-answers : goal.returns-clause-answers
+returns-clause-answers g c = inr (
+  c.in-Ok-make.text,
+  record {
+    input = c.in-Ok.input.items;
+    taken = c.in-Ok.ensures.whole;
+    end = c.in-Ok.ensures.end;
+    within = c.in-Ok.ensures.within;
+    is = ap (made c.args.job) (sym c.deref.ensures.value) ∙ c.in-Ok-make.ensures.ok;
+  },
+  search rules,
+)

@@ -1,0 +1,51 @@
+-- The line of a status, and the code with which the program ends ('profile').
+use Rattle.std.specs.Prelude.{ℕ, List, ◌++◌, codes}
+use Rattle.std.specs.Fmt.{decimal}
+use Rattle.hex.specs.Hex.{encode_lower}
+use Rattle.xt_image.specs.declared.fault.ImageFault.{ImageFault}
+use Rattle.xt_image.specs.declared.fault.ImageFault.TheVariants as fault
+use Rattle.xt_cli.specs.declared.status.Status.{Status}
+use Rattle.xt_cli.specs.declared.status.Status.TheVariants.{Done, Usage, Image, ReadFault, WriteFault, TooLarge, Unbuilt, Memory}
+
+-- a fault of an image: its name and the values that it keeps, in decimal; digests in hexadecimal
+abbrev pub fault_text : ImageFault → List ℕ
+fault_text fault.Short = codes "Short"
+fault_text (fault.Magic byte) = codes "Magic " ++ decimal byte
+fault_text (fault.Count count) = codes "Count " ++ decimal count
+fault_text (fault.Chip id) = codes "Chip " ++ decimal id
+fault_text (fault.DigestFlag flag) = codes "DigestFlag " ++ decimal flag
+fault_text (fault.SegmentEnd index) = codes "SegmentEnd " ++ decimal index
+fault_text (fault.SegmentLength index) = codes "SegmentLength " ++ decimal index
+fault_text (fault.SegmentPlace index) = codes "SegmentPlace " ++ decimal index
+fault_text (fault.SegmentOverlap first second) = codes "SegmentOverlap " ++ (decimal first ++ (codes " " ++ decimal second))
+fault_text fault.NoChecksum = codes "NoChecksum"
+fault_text (fault.Checksum kept computed) = codes "Checksum " ++ (decimal kept ++ (codes " " ++ decimal computed))
+fault_text fault.NoDigest = codes "NoDigest"
+fault_text (fault.Digest kept computed) = codes "Digest " ++ (encode_lower kept ++ (codes " " ++ encode_lower computed))
+fault_text (fault.Entry address) = codes "Entry " ++ decimal address
+fault_text fault.Memory = codes "Memory"
+
+abbrev pub status_words : Status → List ℕ
+status_words Done = codes "Done"
+status_words (Usage rule) = codes "Usage " ++ decimal rule
+status_words (Image f) = codes "Image " ++ fault_text f
+status_words ReadFault = codes "ReadFault"
+status_words WriteFault = codes "WriteFault"
+status_words (TooLarge limit) = codes "TooLarge " ++ decimal limit
+status_words Unbuilt = codes "Unbuilt"
+status_words Memory = codes "Memory"
+
+-- `xt:`, the words of the status, and a newline
+unfoldable pub status_text : Status → List ℕ
+status_text status = codes "xt: " ++ status_words status ++ codes "\n"
+
+-- the code with which the program ends
+abbrev pub status_code : Status → ℕ
+status_code Done = 0
+status_code (Usage rule) = 1
+status_code (Image f) = 2
+status_code ReadFault = 5
+status_code WriteFault = 6
+status_code (TooLarge limit) = 7
+status_code Memory = 8
+status_code Unbuilt = 9

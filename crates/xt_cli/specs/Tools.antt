@@ -1,0 +1,97 @@
+-- The commands whose output is a function of their input, and what each status of them says ('profile').
+use Rattle.std.specs.Prelude.{◌≡◌, ◌≤◌, ◌+◌, ◌⊎◌, ℕ, List, length, Option, Some, None, Result, Ok, Err}
+use Rattle.std.specs.Io.KnownBytes.{Appends, Keeps}
+use Rattle.xt_io.specs.Causes.{Rose}
+use Rattle.xt_io.specs.Whole.{AppendsFront, Takes}
+use Rattle.xt_image.specs.declared.fault.ImageFault.{ImageFault}
+use Rattle.xt_image.specs.Rules.{image_fault}
+use Rattle.xt_image.specs.Format.{image_of}
+use Rattle.xt_disasm.specs.Listing.{listing_text}
+use Rattle.xt_words.specs.declared.command.Command.{Command}
+use Rattle.xt_words.specs.declared.command.Command.TheVariants as command
+use Rattle.xt_words.specs.declared.command.Refusal.{Refusal}
+use Rattle.xt_words.specs.declared.command.Refusal.TheVariants as refusal
+use Rattle.xt_cli.specs.declared.status.Status.{Status}
+use Rattle.xt_cli.specs.declared.status.Status.TheVariants as status
+use Rattle.xt_cli.specs.declared.tool.Job.{Job}
+use Rattle.xt_cli.specs.declared.tool.Job.TheVariants as job
+use Rattle.xt_cli.specs.declared.tool.Tool.{Tool}
+use Rattle.xt_cli.specs.declared.tool.Tool.TheVariants as tool
+use Rattle.xt_cli.specs.Calls.{Ends, IsUntouched, ReadsWhole}
+use Rattle.xt_cli.specs.Checks.{check_text}
+
+-- ---- what a command makes of its input
+
+-- the most bytes that the input of a command may have: that of an image
+abbrev pub limit_of : Job → ℕ
+limit_of _ = 8388608
+
+-- the text, where the input has no fault as an image
+abbrev pub unless_fault : Option ImageFault → List ℕ → Result (List ℕ) Status
+unless_fault None text = Ok text
+unless_fault (Some f) text = Err (status.Image f)
+
+-- the bytes that a command writes for a whole input, or the status with which it refuses it
+unfoldable pub made : Job → List ℕ → Result (List ℕ) Status
+made job.List input = unless_fault (image_fault input) (listing_text (image_of input))
+made job.Check input = unless_fault (image_fault input) (check_text (image_of input))
+
+-- ---- what each status says
+
+-- the input was read to its end, the command makes a text of it, and this is so of the text
+abbrev pub HasOutput : Job → Ends → (List ℕ → Type 0) → Type 0
+HasOutput j e P = (text : List ℕ) × ReadsWhole (limit_of j) e (λ input. made j input ≡ Ok text) × P text
+
+-- each status of a command, with its cause and what was written; the last line is that of an image's fault
+abbrev pub Makes : Job → Ends → Status → Type 0
+Makes j e status.Done = HasOutput j e (Appends e.told e.told_after)
+Makes j e status.WriteFault = HasOutput j e (AppendsFront e.told e.told_after) × Rose e.sink_faults e.sink_faults_after
+Makes j e status.ReadFault = Rose e.source_faults e.source_faults_after × Keeps e.told e.told_after
+Makes j e (status.TooLarge limit) =
+    (limit ≡ limit_of j) × Takes e.left e.left_after (λ n. n ≡ limit_of j + 1) × Keeps e.told e.told_after
+Makes j e status.Memory = Keeps e.told e.told_after ⊎ HasOutput j e (AppendsFront e.told e.told_after)
+Makes j e s = ReadsWhole (limit_of j) e (λ input. made j input ≡ Err s) × Keeps e.told e.told_after
+
+-- the status that a refusal of the words comes to
+abbrev pub status_of : Refusal → Status
+status_of (refusal.Usage rule) = status.Usage rule
+status_of refusal.Unbuilt = status.Unbuilt
+status_of refusal.Memory = status.Memory
+
+-- words without a meaning are refused before anything is read or written; reading them may want memory
+abbrev pub RefusesWords : Refusal → Ends → Status → Type 0
+RefusesWords r e s = ((s ≡ status_of r) ⊎ (s ≡ status.Memory)) × IsUntouched e
+
+-- nothing was touched, and the command is not there yet; reading the words may want memory
+abbrev pub IsUnbuilt : Ends → Status → Type 0
+IsUnbuilt e s = ((s ≡ status.Unbuilt) ⊎ (s ≡ status.Memory)) × IsUntouched e
+
+-- Each answer by what the words mean. Words that order a run are handed back, and nothing was touched.
+abbrev pub Answers : Result Command Refusal → Ends → Tool → Type 0
+Answers (Ok command.Assemble) e (tool.Answer s) = IsUnbuilt e s
+Answers (Ok command.Disassemble) e (tool.Answer s) = Makes job.List e s
+Answers (Ok command.Check) e (tool.Answer s) = Makes job.Check e s
+Answers (Ok (command.Run turns)) e tool.Threaded = IsUntouched e
+Answers (Ok (command.Run turns)) e (tool.Answer s) = (s ≡ status.Memory) × IsUntouched e
+Answers (Err r) e (tool.Answer s) = RefusesWords r e s
+Answers _ e _ = ⊥
+
+-- ---- completeness
+
+-- the source tells its bytes, and they are a whole input of which the command makes a text
+pub record HasInput (j : Job) (left : Option (List ℕ)) : Type 0 where
+  pub input : List ℕ
+  pub told : left ≡ Some input
+  pub within : length input ≤ limit_of j
+  pub text : List ℕ
+  pub is : made j input ≡ Ok text
+
+-- such an input, and no fault of the source or the sink in this call, end in Done, or in want of memory
+abbrev pub Finishes : Job → Ends → Status → Type 0
+Finishes j e s = HasInput j e.left → (Rose e.source_faults e.source_faults_after → ⊥) → (Rose e.sink_faults e.sink_faults_after → ⊥)
+    → (s ≡ status.Done) ⊎ (s ≡ status.Memory)
+
+abbrev pub IsComplete : Result Command Refusal → Ends → Tool → Type 0
+IsComplete (Ok command.Disassemble) e (tool.Answer s) = Finishes job.List e s
+IsComplete (Ok command.Check) e (tool.Answer s) = Finishes job.Check e s
+IsComplete _ e _ = Unit {0}

@@ -1,0 +1,54 @@
+//! What `check` prints.
+ghost use Rattle.std.specs.Prelude.{◌≡◌, ◌++◌, IfOk, OnOk, string_bytes};
+ghost use Rattle.xt_cli.specs.Checks.{check_text, image_line, line_of, segment_lines, yes_or_no};
+
+use std::alloc::{AllocError, Global};
+use xt_disasm::push_segment_line;
+use xt_image::Image;
+use xt_map::{Segment, Text};
+use xt_text::hexadecimal;
+
+fn yes_or_no(flag: bool) -> &'static str
+    ensures { result.now ≡ yes_or_no flag }
+{
+    if flag { "yes" } else { "no" }
+}
+
+// The line of an image.
+fn image_text(alloc: Global, image: &Image) -> Result<String, AllocError>
+    ensures { IfOk result (λ text. string_bytes text ≡ image_line image.now) }
+{
+    let count = image.segments.len();
+    let entry = hexadecimal(alloc, image.entry)?;
+    let digest = yes_or_no(image.digest);
+    format!(in alloc; "image segments {count} entry {entry} digest {digest}\n")
+}
+
+// Appends the lines of segments.
+fn push_segments(out: &mut String, segments: &[Segment]) -> Result<(), AllocError>
+    ensures { OnOk result (string_bytes out.new ≡ string_bytes out.old ++ segment_lines segments.now) }
+{
+    for (number, segment) in segments.iter().enumerate() {
+        push_segment_line(out, number, segment)?;
+    }
+    Ok(())
+}
+
+/// What an image holds, in lines that each end with a newline:
+///
+/// ```text
+/// image segments N entry ADDR digest yes
+/// segment I ADDR LENGTH REGION
+/// ```
+///
+/// The first line ends in `digest no` where no digest follows the checksum. There is one further
+/// line for each segment, as in the listing. N, I and LENGTH are decimal, ADDR has eight upper-case
+/// hexadecimal digits. The only error is want of memory.
+#[tactic(auto, unfolding(crate::specs::Checks::check_text))]
+pub fn check_text(alloc: Global, image: &Image) -> Result<Text, AllocError>
+    ensures { IfOk result (λ text. text ≡ check_text image.now) }
+{
+    let mut text = image_text(alloc, image)?;
+    push_segments(&mut text, image.segments.as_slice())?;
+    Ok(Text::new(text.into_bytes()))
+}

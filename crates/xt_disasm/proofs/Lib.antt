@@ -1,0 +1,5 @@
+pub mod Decoding
+pub mod Joined
+pub mod Named
+pub mod Segmented
+pub mod Walks

@@ -1,0 +1,60 @@
+//! Operands as text.
+#![tactic(auto)]
+
+ghost use Rattle.std.specs.Prelude.{◌≡◌, ◌++◌, ◌∷◌, [], map, OnOk, string_bytes};
+ghost use Rattle.xt_disasm.specs.Listing.{arguments};
+ghost use Rattle.xt_disasm.specs.Shown.{shown};
+
+use crate::special::special_name;
+use std::alloc::AllocError;
+use std::fmt::Write;
+use xt_isa::system::SpecialName;
+use xt_text::push_hex8;
+
+/// One operand of an instruction.
+#[derive(Clone, Copy, Debug, PartialEq, Eq)]
+pub enum Operand {
+    /// An address register, 0 to 15.
+    Register(u8),
+    /// An immediate number.
+    Number(i32),
+    /// The address of a target.
+    Target(u32),
+    /// A special register by its number, as this access names it.
+    Special(SpecialName, u8),
+    /// The user register THREADPTR.
+    Threadptr,
+}
+
+/// Appends an operand: `a3`, `-16`, `0x400D0000`, or the name of a register.
+fn push_operand(out: &mut String, operand: Operand) -> Result<(), AllocError>
+    ensures { OnOk result (string_bytes out.new ≡ string_bytes out.old ++ shown operand) }
+{
+    match operand {
+        Operand::Register(number) => write!(out, "a{number}"),
+        Operand::Number(number) => write!(out, "{number}"),
+        Operand::Target(address) => {
+            out.push_str("0x")?;
+            push_hex8(out, address)
+        }
+        Operand::Special(access, number) => out.push_str(special_name(access, number)),
+        Operand::Threadptr => out.push_str("threadptr"),
+    }
+}
+
+/// Appends the operands behind a mnemonic: a space, and the operands with `, ` between each two; nothing where there are
+/// none.
+pub fn push_operands(out: &mut String, operands: &[Operand]) -> Result<(), AllocError>
+    ensures { OnOk result (string_bytes out.new ≡ string_bytes out.old ++ arguments (map shown operands.now)) }
+{
+    let Some((first, others)) = operands.split_first() else {
+        return Ok(());
+    };
+    out.push_str(" ")?;
+    push_operand(out, *first)?;
+    for operand in others {
+        out.push_str(", ")?;
+        push_operand(out, *operand)?;
+    }
+    Ok(())
+}

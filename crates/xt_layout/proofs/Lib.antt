@@ -1,0 +1,9 @@
+pub mod Counting
+pub mod Each
+pub mod Reaching
+pub mod Walking
+pub mod Wording
+pub mod Labelling
+pub mod Faulting
+pub mod Laying
+pub mod Naming

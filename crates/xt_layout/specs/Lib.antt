@@ -1,0 +1,7 @@
+pub mod Addresses
+pub mod Bounds
+pub mod Faults
+pub mod Known
+pub mod Sizes
+pub mod Spans
+pub mod Spots

@@ -1,0 +1,89 @@
+ghost use Rattle.std.specs.Prelude.{◌≡◌, Some, ℕ, ◌++◌, ◌<◌, ◌^◌, map, length, unwrap_or, slice_index_or, None, IfSome, IfOk, OnOk, All};
+ghost use Rattle.std.specs.List.{flat_map};
+ghost use Rattle.xt_expr.specs.Values.{HaveAddresses};
+ghost use Rattle.xt_pool.specs.Around.{each};
+ghost use Rattle.xt_layout.specs.Addresses.{home, label_name, labelled, labels_at, literal_name};
+ghost use Rattle.xt_layout.specs.Bounds.{IsBelow};
+ghost use Rattle.xt_layout.specs.Spots.{spot_at};
+
+use crate::addresses::signed;
+use crate::spot::{Spot, address};
+use std::alloc::{AllocError, Global};
+use xt_expr::Label;
+use xt_parse::{Line, Placed, Statement};
+use xt_pool::PoolWord;
+
+/// One label more.
+fn add(labels: &mut Vec<Label>, name: &Placed, address: u64) -> Result<(), AllocError>
+    requires { address < 2 ^ 40 }
+    ensures { OnOk result (labels.new.items ≡ labels.old.items ++ map (labelled address) (label_name (Some name.now))) }
+{
+    let name = name.name.clone()?;
+    labels.push(Label {
+        name,
+        address: signed(address),
+    })?;
+    Ok(())
+}
+
+/// The label of a line, which has the line's address.
+fn add_label(labels: &mut Vec<Label>, line: &Line, address: u64) -> Result<(), AllocError>
+    requires { address < 2 ^ 40 }
+    ensures { OnOk result (labels.new.items ≡ labels.old.items ++ map (labelled address) (label_name line.now.label)) }
+{
+    match &line.label {
+        Some(name) => add(labels, name, address),
+        None => Ok(()),
+    }
+}
+
+/// The name of a `.literal`, which has this address.
+fn add_literal(labels: &mut Vec<Label>, line: &Line, address: u64) -> Result<(), AllocError>
+    requires { address < 2 ^ 40 }
+    ensures { OnOk result (labels.new.items ≡ labels.old.items ++ map (labelled address) (literal_name line.now.statement)) }
+{
+    match &line.statement {
+        Statement::Literal(name, _) => add(labels, name, address),
+        _ => Ok(()),
+    }
+}
+
+/// The names of a line at an address; a `.literal`'s has the address of its word, where it has one.
+fn add_names(
+    labels: &mut Vec<Label>,
+    line: &Line,
+    address: u64,
+    home: Option<u64>,
+) -> Result<(), AllocError>
+    requires address { address < 2 ^ 40 }
+    requires home { unwrap_or home address < 2 ^ 40 }
+    ensures { OnOk result (labels.new.items ≡ labels.old.items
+        ++ (map (labelled address) (label_name line.now.label) ++ map (labelled (unwrap_or home address)) (literal_name line.now.statement))) }
+{
+    add_label(labels, line, address)?;
+    add_literal(labels, line, home.unwrap_or(address))
+}
+
+/// The labels and literal names of a text, in the order of their definitions.
+pub(crate) fn labels_of(
+    alloc: Global,
+    lines: &[Line],
+    words: &[PoolWord],
+    spots: &[Option<Spot>],
+    addresses: &[u64],
+    homes: &[Option<u64>],
+) -> Result<Vec<Label>, AllocError>
+    requires spots { spots.now ≡ each (λ before l rest. spot_at words.now before l) lines.now }
+    requires below { All (IsBelow (2 ^ 34)) spots.now }
+    requires small { All (λ a. a < 2 ^ 40) addresses.now }
+    requires many { length homes.now ≡ length lines.now }
+    requires homes { (k : ℕ) → k < length lines.now → slice_index_or homes.now k None ≡ home k words.now addresses.now }
+    ensures labels { IfOk result (λ labels. labels.items ≡ flat_map (λ labels. labels) (each (labels_at words.now addresses.now) lines.now)) }
+    ensures fit { IfOk result (λ labels. HaveAddresses labels.items) }
+{
+    let mut labels = Vec::new(alloc);
+    for (k, line) in lines.iter().enumerate() {
+        add_names(&mut labels, line, address(spots[k]), homes[k])?;
+    }
+    Ok(labels)
+}

@@ -1,0 +1,16 @@
+//! The addresses and labels of an assembly text.
+//!
+//! The assembly language is this project's own ('profile').
+#![tactic(auto)]
+
+mod addresses;
+mod counts;
+mod fault;
+mod labels;
+mod laid;
+mod region;
+mod size;
+mod spot;
+mod spots;
+
+pub use laid::{Laid, layout};

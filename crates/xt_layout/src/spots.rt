@@ -1,0 +1,79 @@
+ghost use Rattle.std.specs.Prelude.{◌≡◌, ◌++◌, [], length, IfOk, OnOk, All, if◌then◌else◌, ◌+◌, ◌-◌, ◌^◌, ◌≤◌};
+ghost use Rattle.xt_pool.specs.Pools.{is_segment};
+ghost use Rattle.xt_layout.specs.Bounds.{ArePools, IsBelow, IsText, IsWalk, closed};
+ghost use Rattle.xt_layout.specs.Spans.{padded};
+
+use crate::size::padding;
+use crate::spot::{Span, Spot, begins, passes};
+use std::alloc::{AllocError, Global};
+use xt_parse::{Line, Statement};
+use xt_pool::PoolWord;
+
+/// Where the lines of a text stand, and its segments.
+#[derive(Drop)]
+pub(crate) struct Walk {
+    /// Where each line stands, and none without a segment.
+    pub(crate) spots: Vec<Option<Spot>>,
+    /// The segments.
+    pub(crate) spans: Vec<Span>,
+}
+
+/// The bytes of a segment, padded to a multiple of 4.
+fn padded(spot: Spot) -> Span
+    requires { spot.at ≤ 2 ^ 62 }
+    ensures { result ≡ padded spot.start spot.at }
+{
+    Span {
+        start: spot.start,
+        end: spot.at + padding(4, spot.at.saturating_sub(spot.start)),
+    }
+}
+
+/// Adds the segment that ends here, if any.
+fn close(spans: &mut Vec<Span>, here: Option<Spot>) -> Result<(), AllocError>
+    requires { IsBelow (2 ^ 62) here }
+    ensures { OnOk result (spans.new.items ≡ spans.old.items ++ closed here) }
+{
+    if let Some(spot) = here {
+        spans.push(padded(spot))?;
+    }
+    Ok(())
+}
+
+/// Adds the segment that ends before a statement, if any.
+fn close_before(
+    spans: &mut Vec<Span>,
+    here: Option<Spot>,
+    statement: &Statement,
+) -> Result<(), AllocError>
+    requires { IsBelow (2 ^ 62) here }
+    ensures { OnOk result (spans.new.items ≡ spans.old.items ++ (if is_segment statement.now then closed here else [])) }
+{
+    if let Statement::Seg(_) = statement {
+        close(spans, here)?;
+    }
+    Ok(())
+}
+
+/// Where the lines stand, and the segments.
+pub(crate) fn walk_of(
+    alloc: Global,
+    lines: &[Line],
+    words: &[PoolWord],
+    pools: &[u64],
+) -> Result<Walk, AllocError>
+    requires text { IsText lines.now words.now }
+    requires pools { ArePools words.now (length lines.now) pools.now }
+    ensures { IfOk result (λ walk. IsWalk lines.now words.now walk.spots.items walk.spans.items) }
+{
+    let mut spots = Vec::new(alloc);
+    let mut spans = Vec::new(alloc);
+    let mut here = None;
+    for (k, line) in lines.iter().enumerate() {
+        close_before(&mut spans, here, &line.statement)?;
+        spots.push(begins(here, &line.statement))?;
+        here = passes(pools[k], here, &line.statement);
+    }
+    close(&mut spans, here)?;
+    Ok(Walk { spots, spans })
+}

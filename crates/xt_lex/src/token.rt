@@ -1,0 +1,88 @@
+ghost use Rattle.std.specs.Prelude.{◌≡◌, length};
+
+use crate::name::Name;
+use std::marker::Model;
+
+/// What a token is.
+#[derive(Drop)]
+pub enum TokenKind {
+    /// A word: it begins with a letter, `_` or `.` and goes on with these and digits.
+    Word(Name),
+    /// A number below 2^32, which was decimal digits, or `0x` and hexadecimal digits.
+    Number(u32),
+    /// A character in single quotes, by its code, 32 to 126.
+    Character(u8),
+    /// A string in double quotes, by the bytes that it stands for.
+    Str(Name),
+    /// `,`
+    Comma,
+    /// `:`
+    Colon,
+    /// `=`
+    Equals,
+    /// `+`
+    Plus,
+    /// `-`
+    Minus,
+    /// Bytes from which no token can be formed, or a number from 2^32 on. It ends the tokens of its line.
+    Bad,
+}
+
+/// A token and where it stands.
+#[derive(Drop)]
+pub struct Token {
+    /// The number of the line, from 1.
+    pub line: u32,
+    /// The column of the first byte, from 1.
+    pub column: u32,
+    /// How many bytes of the line the token takes: 0 for `Bad`.
+    pub width: u32,
+    /// What it is.
+    pub what: TokenKind,
+}
+
+/// The tokens of a text, in its order. Contracts see the list.
+#[derive(Drop)]
+pub struct Tokens {
+    items: Vec<Token>,
+}
+
+impl Model for Tokens {
+    ghost use Rattle.std.specs.Prelude.{List};
+    ghost use Rattle.xt_lex.specs.declared.token.Token.{Token};
+
+    ghost Value = { List Token };
+
+    ghost view = { λ t. t.items.items };
+}
+
+impl Tokens {
+    /// These tokens, without a copy.
+    pub fn new(items: Vec<Token>) -> Tokens
+        ensures { result ≡ items.items }
+    {
+        Tokens { items }
+    }
+
+    /// The tokens.
+    pub fn as_slice(&self) -> &[Token]
+        ensures { result.now ≡ self.now }
+    {
+        &self.items
+    }
+
+    /// How many tokens there are.
+    pub fn len(&self) -> usize
+        ensures { result ≡ length self.now }
+    {
+        self.items.len()
+    }
+
+    /// The tokens as a `Vec`, without a copy.
+    pub fn into_vec(self) -> Vec<Token>
+        ensures { result.items ≡ self }
+    {
+        let Tokens { items } = self;
+        items
+    }
+}

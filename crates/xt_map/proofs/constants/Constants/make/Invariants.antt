@@ -1,6 +1,0 @@
--- What was copied is a front of the segments.
-use Rattle.std.proofs.Common.{◌≡◌, take}
-use Rattle.xt_map.proofs.constants.Constants.make.Given as goal
-
-abbrev pub invariant-loop-segment : goal.invariant-loop-segment
-invariant-loop-segment l = l.copies.items ≡ take l.segment-index l.segments

@@ -1,0 +1,5 @@
+pub mod Shapes
+pub mod Reading
+pub mod Statements
+pub mod Lines
+pub mod Gives

@@ -1,0 +1,134 @@
+ghost use Rattle.std.specs.Prelude.{◌≡◌, length};
+
+use crate::line::Placed;
+use std::marker::Model;
+use xt_expr::Expr;
+use xt_lex::Name;
+
+/// An operand of an instruction.
+#[derive(Drop)]
+pub enum Operand {
+    /// A register, 0 to 15.
+    Reg(u8),
+    /// An expression: a number, a target's address, or the name of a special register as a single label.
+    Value(Expr),
+    /// A literal, which the pool of the segment holds.
+    Pool(Expr),
+}
+
+/// What a line does.
+#[derive(Drop)]
+pub enum Statement {
+    /// Nothing.
+    Empty,
+    /// `.seg NUMBER`: begins a segment at this address.
+    Seg(u32),
+    /// `.entry EXPR`: sets the entry.
+    Entry(Expr),
+    /// `.literal_position`: zeros up to a multiple of 4, and then the pool.
+    Position,
+    /// `.literal NAME, EXPR`: a word of its own in the pool, with its name.
+    Literal(Placed, Expr),
+    /// `.word EXPR, ..`: words.
+    Words(Exprs),
+    /// `.byte EXPR, ..`: bytes.
+    Bytes(Exprs),
+    /// `.ascii STRING`: the bytes of the string.
+    Ascii(Name),
+    /// `.align NUMBER`: zeros up to a multiple of the number.
+    Align(u32),
+    /// An instruction by its mnemonic, with the operands in the order of the text.
+    Insn(Name, Operands),
+}
+
+/// A list of expressions. Contracts see the list.
+#[derive(Drop)]
+pub struct Exprs {
+    items: Vec<Expr>,
+}
+
+impl Model for Exprs {
+    ghost use Rattle.std.specs.Prelude.{List};
+    ghost use Rattle.xt_expr.specs.declared.expr.Expr.{Expr};
+
+    ghost Value = { List Expr };
+
+    ghost view = { λ e. e.items.items };
+}
+
+impl Exprs {
+    /// These expressions, without a copy.
+    pub fn new(items: Vec<Expr>) -> Exprs
+        ensures { result ≡ items.items }
+    {
+        Exprs { items }
+    }
+
+    /// The expressions.
+    pub fn as_slice(&self) -> &[Expr]
+        ensures { result.now ≡ self.now }
+    {
+        &self.items
+    }
+
+    /// How many expressions there are.
+    pub fn len(&self) -> usize
+        ensures { result ≡ length self.now }
+    {
+        self.items.len()
+    }
+
+    /// The expressions as a `Vec`, without a copy.
+    pub fn into_vec(self) -> Vec<Expr>
+        ensures { result.items ≡ self }
+    {
+        let Exprs { items } = self;
+        items
+    }
+}
+
+/// The operands of an instruction, in the order of the text. Contracts see the list.
+#[derive(Drop)]
+pub struct Operands {
+    items: Vec<Operand>,
+}
+
+impl Model for Operands {
+    ghost use Rattle.std.specs.Prelude.{List};
+    ghost use Rattle.xt_parse.specs.declared.statement.Operand.{Operand};
+
+    ghost Value = { List Operand };
+
+    ghost view = { λ o. o.items.items };
+}
+
+impl Operands {
+    /// These operands, without a copy.
+    pub fn new(items: Vec<Operand>) -> Operands
+        ensures { result ≡ items.items }
+    {
+        Operands { items }
+    }
+
+    /// The operands.
+    pub fn as_slice(&self) -> &[Operand]
+        ensures { result.now ≡ self.now }
+    {
+        &self.items
+    }
+
+    /// How many operands there are.
+    pub fn len(&self) -> usize
+        ensures { result ≡ length self.now }
+    {
+        self.items.len()
+    }
+
+    /// The operands as a `Vec`, without a copy.
+    pub fn into_vec(self) -> Vec<Operand>
+        ensures { result.items ≡ self }
+    {
+        let Operands { items } = self;
+        items
+    }
+}

@@ -1,0 +1,4 @@
+pub mod Around
+pub mod Findings
+pub mod Pools
+pub mod Seen

@@ -1,0 +1,18 @@
+//! The literal pools of an assembly text.
+//!
+//! The assembly language is this project's own ('profile').
+#![tactic(auto)]
+
+mod fault;
+mod need;
+mod ordering;
+mod placing;
+mod pooled;
+#[cfg(test)]
+mod tests;
+mod word;
+
+pub use ordering::{least, least_is_first};
+pub use placing::place;
+pub use pooled::Pooled;
+pub use word::PoolWord;

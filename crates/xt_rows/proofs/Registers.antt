@@ -1,0 +1,268 @@
+-- The registers that an instruction reads and names exist, where its operands are in their ranges.
+use Rattle.std.proofs.Common.{◌≡◌, ℕ, ◌*◌, ◌<◌, true, Option, max, arith, ltb-true}
+use Rattle.std.proofs.lemmas.Bool.{and_parts}
+use Rattle.xt_isa.specs.declared.Insn.{Insn}
+use Rattle.xt_isa.specs.declared.Insn.TheVariants as insn
+use Rattle.xt_isa.specs.declared.three.Three.{Three}
+use Rattle.xt_isa.specs.declared.three.Three.TheVariants as three
+use Rattle.xt_isa.specs.declared.shift.Shift.{Shift}
+use Rattle.xt_isa.specs.declared.shift.Shift.TheVariants as shift
+use Rattle.xt_isa.specs.declared.memory.Memory.{Memory}
+use Rattle.xt_isa.specs.declared.memory.Memory.TheVariants as memory
+use Rattle.xt_isa.specs.declared.memory.ByteName.TheVariants as ByteName
+use Rattle.xt_isa.specs.declared.memory.HalfName.TheVariants as HalfName
+use Rattle.xt_isa.specs.declared.memory.WordName.TheVariants as WordName
+use Rattle.xt_isa.specs.declared.memory.WindowName.TheVariants as WindowName
+use Rattle.xt_isa.specs.declared.control.Control.{Control}
+use Rattle.xt_isa.specs.declared.control.Control.TheVariants as control
+use Rattle.xt_isa.specs.declared.control.CallName.{CallName}
+use Rattle.xt_isa.specs.declared.control.CallxName.{CallxName}
+use Rattle.xt_isa.specs.declared.system.System.{System}
+use Rattle.xt_isa.specs.declared.system.System.TheVariants as system
+use Rattle.xt_isa.specs.declared.system.LevelName.TheVariants as LevelName
+use Rattle.xt_isa.specs.declared.system.SpecialName.TheVariants as SpecialName
+use Rattle.xt_isa.specs.declared.system.UserName.TheVariants as UserName
+use Rattle.xt_isa.specs.declared.density.Density.{Density}
+use Rattle.xt_isa.specs.declared.density.Density.TheVariants as density
+use Rattle.xt_isa.specs.declared.density.NarrowName.TheVariants as NarrowName
+use Rattle.xt_isa.specs.declared.density.NarrowRetName.TheVariants as NarrowRetName
+use Rattle.xt_isa.specs.Ranges.{one_register, two_registers, three_registers, in_range, three_in_range, shift_in_range, memory_in_range, control_in_range, system_in_range, density_in_range}
+use Rattle.xt_rows.specs.Operands.{call_size, callx_size, three_reads, shift_reads, memory_reads, control_reads, system_reads, density_reads, reads, three_named, shift_named, memory_named, control_named, system_named, density_named, named}
+use Rattle.xt_rows.specs.Laws.{IsRegister}
+
+abbrev AreRegisters : Option ℕ × Option ℕ → Type 0
+AreRegisters r = IsRegister r.0 × IsRegister r.1
+
+below : (a : ℕ) → one_register a ≡ true → a < 16
+unfolding one_register
+below a h = ltb-true a 16 h
+
+both : (a b : ℕ) → two_registers a b ≡ true → (a < 16) × (b < 16)
+unfolding two_registers
+both a b h = let p = and_parts _ _ h in (ltb-true a 16 p.0, ltb-true b 16 p.1)
+
+all : (a b c : ℕ) → three_registers a b c ≡ true → (a < 16) × (b < 16) × (c < 16)
+unfolding three_registers
+all a b c h =
+    let p = and_parts _ _ h in
+    let q = and_parts _ _ p.1 in
+    (ltb-true a 16 p.0, ltb-true b 16 q.0, ltb-true c 16 q.1)
+
+max_2 : (a b : ℕ) → a < 16 → b < 16 → max a b < 16
+max_2 a b p q = omega arith
+
+max_3 : (a b c : ℕ) → a < 16 → b < 16 → c < 16 → max a (max b c) < 16
+max_3 a b c p q r = omega arith
+
+named_2 : (a b : ℕ) → two_registers a b ≡ true → max a b < 16
+named_2 a b h = let p = both a b h in max_2 a b p.0 p.1
+
+named_3 : (a b c : ℕ) → three_registers a b c ≡ true → max a (max b c) < 16
+named_3 a b c h = let p = all a b c h in max_3 a b c p.0 p.1 p.2
+
+last_2 : (a b c : ℕ) → three_registers a b c ≡ true → (b < 16) × (c < 16)
+last_2 a b c h = let p = all a b c h in (p.1, p.2)
+
+three_read : (i : Three) → three_in_range i ≡ true → AreRegisters (three_reads i)
+three_read (three.And name r s t) ok = last_2 r s t ok
+three_read (three.Add name r s t) ok = last_2 r s t ok
+three_read (three.Sub name r s t) ok = last_2 r s t ok
+three_read (three.Src r s t) ok = last_2 r s t ok
+three_read (three.Mul16u name r s t) ok = last_2 r s t ok
+three_read (three.Mull r s t) ok = last_2 r s t ok
+three_read (three.Muluh name r s t) ok = last_2 r s t ok
+three_read (three.Quou name r s t) ok = last_2 r s t ok
+three_read (three.Min name r s t) ok = last_2 r s t ok
+three_read (three.Moveqz name r s t) ok = last_2 r s t ok
+
+three_names : (i : Three) → three_in_range i ≡ true → three_named i < 16
+three_names (three.And name r s t) ok = named_3 r s t ok
+three_names (three.Add name r s t) ok = named_3 r s t ok
+three_names (three.Sub name r s t) ok = named_3 r s t ok
+three_names (three.Src r s t) ok = named_3 r s t ok
+three_names (three.Mul16u name r s t) ok = named_3 r s t ok
+three_names (three.Mull r s t) ok = named_3 r s t ok
+three_names (three.Muluh name r s t) ok = named_3 r s t ok
+three_names (three.Quou name r s t) ok = named_3 r s t ok
+three_names (three.Min name r s t) ok = named_3 r s t ok
+three_names (three.Moveqz name r s t) ok = named_3 r s t ok
+
+shift_read : (i : Shift) → shift_in_range i ≡ true → AreRegisters (shift_reads i)
+shift_read (shift.Neg name r t) ok = ((both r t ok).1, tt)
+shift_read (shift.Srl name r t) ok = ((both r t ok).1, tt)
+shift_read (shift.Sll r s) ok = ((both r s ok).1, tt)
+shift_read (shift.Slli r s n) ok = ((both r s (and_parts _ _ ok).0).1, tt)
+shift_read (shift.Srai r t n) ok = ((both r t (and_parts _ _ ok).0).1, tt)
+shift_read (shift.Srli r t n) ok = ((both r t (and_parts _ _ ok).0).1, tt)
+shift_read (shift.Extui r t n width) ok = ((both r t (and_parts _ _ ok).0).1, tt)
+shift_read (shift.Sext name r s b) ok = ((both r s (and_parts _ _ ok).0).1, tt)
+shift_read (shift.Nsa name t s) ok = ((both t s ok).1, tt)
+shift_read (shift.Movsp t s) ok = ((both t s ok).1, tt)
+shift_read (shift.Ssr name s) ok = (below s ok, tt)
+shift_read (shift.Ssa8l name s) ok = (below s ok, tt)
+shift_read (shift.Ssai n) ok = (tt, tt)
+
+shift_names : (i : Shift) → shift_in_range i ≡ true → shift_named i < 16
+shift_names (shift.Neg name r t) ok = named_2 r t ok
+shift_names (shift.Srl name r t) ok = named_2 r t ok
+shift_names (shift.Sll r s) ok = named_2 r s ok
+shift_names (shift.Slli r s n) ok = named_2 r s (and_parts _ _ ok).0
+shift_names (shift.Srai r t n) ok = named_2 r t (and_parts _ _ ok).0
+shift_names (shift.Srli r t n) ok = named_2 r t (and_parts _ _ ok).0
+shift_names (shift.Extui r t n width) ok = named_2 r t (and_parts _ _ ok).0
+shift_names (shift.Sext name r s b) ok = named_2 r s (and_parts _ _ ok).0
+shift_names (shift.Nsa name t s) ok = named_2 t s ok
+shift_names (shift.Movsp t s) ok = named_2 t s ok
+shift_names (shift.Ssr name s) ok = below s ok
+shift_names (shift.Ssa8l name s) ok = below s ok
+shift_names (shift.Ssai n) ok = omega arith
+
+swapped : (t s : ℕ) → two_registers t s ≡ true → (s < 16) × (t < 16)
+swapped t s h = let p = both t s h in (p.1, p.0)
+
+memory_read : (i : Memory) → memory_in_range i ≡ true → AreRegisters (memory_reads i)
+memory_read (memory.L8ui ByteName.L8ui t s offset) ok = ((both t s (and_parts _ _ ok).0).1, tt)
+memory_read (memory.L8ui ByteName.S8i t s offset) ok = swapped t s (and_parts _ _ ok).0
+memory_read (memory.L16ui HalfName.L16ui t s offset) ok = ((both t s (and_parts _ _ ok).0).1, tt)
+memory_read (memory.L16ui HalfName.L16si t s offset) ok = ((both t s (and_parts _ _ ok).0).1, tt)
+memory_read (memory.L16ui HalfName.S16i t s offset) ok = swapped t s (and_parts _ _ ok).0
+memory_read (memory.L32i WordName.L32i t s offset) ok = ((both t s (and_parts _ _ ok).0).1, tt)
+memory_read (memory.L32i WordName.S32i t s offset) ok = swapped t s (and_parts _ _ ok).0
+memory_read (memory.L32i WordName.L32ai t s offset) ok = ((both t s (and_parts _ _ ok).0).1, tt)
+memory_read (memory.L32i WordName.S32ri t s offset) ok = swapped t s (and_parts _ _ ok).0
+memory_read (memory.S32c1i t s offset) ok = swapped t s (and_parts _ _ ok).0
+memory_read (memory.L32e WindowName.L32e t s offset) ok = ((both t s (and_parts _ _ ok).0).1, tt)
+memory_read (memory.L32e WindowName.S32e t s offset) ok = swapped t s (and_parts _ _ ok).0
+memory_read (memory.L32r t offset) ok = (tt, tt)
+memory_read (memory.Movi t n) ok = (tt, tt)
+memory_read (memory.Addi t s n) ok = ((both t s (and_parts _ _ ok).0).1, tt)
+memory_read (memory.Addmi t s n) ok = ((both t s (and_parts _ _ ok).0).1, tt)
+
+memory_names : (i : Memory) → memory_in_range i ≡ true → memory_named i < 16
+memory_names (memory.L8ui name t s offset) ok = named_2 t s (and_parts _ _ ok).0
+memory_names (memory.L16ui name t s offset) ok = named_2 t s (and_parts _ _ ok).0
+memory_names (memory.L32i name t s offset) ok = named_2 t s (and_parts _ _ ok).0
+memory_names (memory.S32c1i t s offset) ok = named_2 t s (and_parts _ _ ok).0
+memory_names (memory.L32e name t s offset) ok = named_2 t s (and_parts _ _ ok).0
+memory_names (memory.Addi t s n) ok = named_2 t s (and_parts _ _ ok).0
+memory_names (memory.Addmi t s n) ok = named_2 t s (and_parts _ _ ok).0
+memory_names (memory.L32r t offset) ok = below t (and_parts _ _ ok).0
+memory_names (memory.Movi t n) ok = below t (and_parts _ _ ok).0
+
+control_read : (i : Control) → control_in_range i ≡ true → AreRegisters (control_reads i)
+control_read (control.J offset) ok = (tt, tt)
+control_read (control.Call0 name offset) ok = (tt, tt)
+control_read (control.Ret name) ok = (omega arith, tt)
+control_read (control.Jx s) ok = (below s ok, tt)
+control_read (control.Callx0 name s) ok = (below s ok, tt)
+control_read (control.Beqz name s offset) ok = (below s (and_parts _ _ ok).0, tt)
+control_read (control.Beqi name s c offset) ok = (below s (and_parts _ _ ok).0, tt)
+control_read (control.Bltui name s c offset) ok = (below s (and_parts _ _ ok).0, tt)
+control_read (control.Bnone name s t offset) ok = both s t (and_parts _ _ ok).0
+control_read (control.Bany name s t offset) ok = both s t (and_parts _ _ ok).0
+control_read (control.Bbci name s b offset) ok = (below s (and_parts _ _ ok).0, tt)
+control_read (control.Entry s n) ok = (below s (and_parts _ _ ok).0, tt)
+control_read (control.Loop name s offset) ok = (below s (and_parts _ _ ok).0, tt)
+
+call_names : (name : CallName) → 4 * call_size name < 16
+call_names CallName.Call0 = omega arith
+call_names CallName.Call4 = omega arith
+call_names CallName.Call8 = omega arith
+call_names CallName.Call12 = omega arith
+
+callx_names : (name : CallxName) → 4 * callx_size name < 16
+callx_names CallxName.Callx0 = omega arith
+callx_names CallxName.Callx4 = omega arith
+callx_names CallxName.Callx8 = omega arith
+callx_names CallxName.Callx12 = omega arith
+
+control_names : (i : Control) → control_in_range i ≡ true → control_named i < 16
+control_names (control.J offset) ok = omega arith
+control_names (control.Call0 name offset) ok = call_names name
+control_names (control.Ret name) ok = omega arith
+control_names (control.Jx s) ok = below s ok
+control_names (control.Callx0 name s) ok = max_2 (4 * callx_size name) s (callx_names name) (below s ok)
+control_names (control.Beqz name s offset) ok = below s (and_parts _ _ ok).0
+control_names (control.Beqi name s c offset) ok = below s (and_parts _ _ ok).0
+control_names (control.Bltui name s c offset) ok = below s (and_parts _ _ ok).0
+control_names (control.Bnone name s t offset) ok = named_2 s t (and_parts _ _ ok).0
+control_names (control.Bany name s t offset) ok = named_2 s t (and_parts _ _ ok).0
+control_names (control.Bbci name s b offset) ok = below s (and_parts _ _ ok).0
+control_names (control.Entry s n) ok = below s (and_parts _ _ ok).0
+control_names (control.Loop name s offset) ok = below s (and_parts _ _ ok).0
+
+system_read : (i : System) → system_in_range i ≡ true → AreRegisters (system_reads i)
+system_read (system.Ill name) ok = (tt, tt)
+system_read (system.Excw name) ok = (tt, tt)
+system_read (system.Rfe name) ok = (tt, tt)
+system_read (system.Rfi level) ok = (tt, tt)
+system_read (system.Break name level number) ok = (tt, tt)
+system_read (system.Rsil LevelName.Rsil t level) ok = (tt, tt)
+system_read (system.Rsil LevelName.Waiti t level) ok = (tt, tt)
+system_read (system.Rotw n) ok = (tt, tt)
+system_read (system.Rsr SpecialName.Rsr t n) ok = (tt, tt)
+system_read (system.Rsr SpecialName.Wsr t n) ok = (below t (and_parts _ _ ok).0, tt)
+system_read (system.Rsr SpecialName.Xsr t n) ok = (below t (and_parts _ _ ok).0, tt)
+system_read (system.Rur UserName.Rur r n) ok = (tt, tt)
+system_read (system.Rur UserName.Wur t n) ok = (below t (and_parts _ _ ok).0, tt)
+
+system_names : (i : System) → system_in_range i ≡ true → system_named i < 16
+system_names (system.Ill name) ok = omega arith
+system_names (system.Excw name) ok = omega arith
+system_names (system.Rfe name) ok = omega arith
+system_names (system.Rfi level) ok = omega arith
+system_names (system.Break name level number) ok = omega arith
+system_names (system.Rsil LevelName.Rsil t level) ok = below t (and_parts _ _ ok).0
+system_names (system.Rsil LevelName.Waiti t level) ok = omega arith
+system_names (system.Rotw n) ok = omega arith
+system_names (system.Rsr SpecialName.Rsr t n) ok = below t (and_parts _ _ ok).0
+system_names (system.Rsr SpecialName.Wsr t n) ok = below t (and_parts _ _ ok).0
+system_names (system.Rsr SpecialName.Xsr t n) ok = below t (and_parts _ _ ok).0
+system_names (system.Rur UserName.Rur r n) ok = below r (and_parts _ _ ok).0
+system_names (system.Rur UserName.Wur t n) ok = below t (and_parts _ _ ok).0
+
+density_read : (i : Density) → density_in_range i ≡ true → AreRegisters (density_reads i)
+density_read (density.L32i NarrowName.L32i t s offset) ok = ((both t s (and_parts _ _ ok).0).1, tt)
+density_read (density.L32i NarrowName.S32i t s offset) ok = swapped t s (and_parts _ _ ok).0
+density_read (density.Add r s t) ok = last_2 r s t ok
+density_read (density.Addi r s n) ok = ((both r s (and_parts _ _ ok).0).1, tt)
+density_read (density.Movi s n) ok = (tt, tt)
+density_read (density.Beqz name s offset) ok = (below s (and_parts _ _ ok).0, tt)
+density_read (density.Mov t s) ok = ((both t s ok).1, tt)
+density_read (density.Ret NarrowRetName.Ret) ok = (omega arith, tt)
+density_read (density.Ret NarrowRetName.Retw) ok = (omega arith, tt)
+density_read (density.Ret NarrowRetName.Nop) ok = (tt, tt)
+density_read (density.Ret NarrowRetName.Ill) ok = (tt, tt)
+density_read (density.Break n) ok = (tt, tt)
+
+density_names : (i : Density) → density_in_range i ≡ true → density_named i < 16
+density_names (density.L32i NarrowName.L32i t s offset) ok = named_2 t s (and_parts _ _ ok).0
+density_names (density.L32i NarrowName.S32i t s offset) ok = named_2 t s (and_parts _ _ ok).0
+density_names (density.Add r s t) ok = named_3 r s t ok
+density_names (density.Addi r s n) ok = named_2 r s (and_parts _ _ ok).0
+density_names (density.Movi s n) ok = below s (and_parts _ _ ok).0
+density_names (density.Beqz name s offset) ok = below s (and_parts _ _ ok).0
+density_names (density.Mov t s) ok = named_2 t s ok
+density_names (density.Ret NarrowRetName.Ret) ok = omega arith
+density_names (density.Ret NarrowRetName.Retw) ok = omega arith
+density_names (density.Ret NarrowRetName.Nop) ok = omega arith
+density_names (density.Ret NarrowRetName.Ill) ok = omega arith
+density_names (density.Break n) ok = omega arith
+
+pub reads_registers : (i : Insn) → in_range i ≡ true → AreRegisters (reads i)
+unfolding reads
+reads_registers (insn.Three i) ok = three_read i ok
+reads_registers (insn.Shift i) ok = shift_read i ok
+reads_registers (insn.Memory i) ok = memory_read i ok
+reads_registers (insn.Control i) ok = control_read i ok
+reads_registers (insn.System i) ok = system_read i ok
+reads_registers (insn.Density i) ok = density_read i ok
+
+pub names_registers : (i : Insn) → in_range i ≡ true → named i < 16
+unfolding named
+names_registers (insn.Three i) ok = three_names i ok
+names_registers (insn.Shift i) ok = shift_names i ok
+names_registers (insn.Memory i) ok = memory_names i ok
+names_registers (insn.Control i) ok = control_names i ok
+names_registers (insn.System i) ok = system_names i ok
+names_registers (insn.Density i) ok = density_names i ok

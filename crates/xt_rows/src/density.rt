@@ -1,0 +1,49 @@
+ghost use Rattle.std.specs.Prelude.{◌≡◌, ℕ, ℤ};
+ghost use Rattle.xt_isa.specs.declared.density.Density.TheVariants as density;
+ghost use Rattle.xt_map.specs.Memory.{constant_byte};
+ghost use Rattle.xt_rows.specs.Numbers.{plus};
+ghost use Rattle.xt_rows.specs.Outcomes.{density_outcome};
+
+use crate::effects::{branches, goes, loads, puts, stores};
+use crate::numbers::plus;
+use crate::outcome::{Effect, Outcome, WindowStep};
+use xt_alu::arithmetic::addx;
+use xt_alu::conditions::{Cond, holds};
+use xt_isa::density::{Density, NarrowName, NarrowRetName, NarrowZeroName};
+use xt_map::Constants;
+
+#[tactic(auto, unfolding(crate::specs::Outcomes::density_outcome))]
+fn narrow_access(code: &Constants, name: NarrowName, t: u8, addr: u32, y: u32, e: Effect) -> Outcome
+    ensures { (s pc x : ℕ) (offset : ℤ) → addr ≡ plus x offset
+        → result ≡ density_outcome (constant_byte code.now) (density.L32i name t s offset) pc x y e }
+{
+    match name {
+        NarrowName::L32i => loads(code, 4, false, t, addr, e),
+        NarrowName::S32i => stores(4, y, addr, e),
+    }
+}
+
+/// What a 16-bit instruction at `pc` does, where AR[s] (of a return a0) and AR[t] are these.
+#[tactic(auto, unfolding(crate::specs::Outcomes::density_outcome))]
+pub fn density_outcome(code: &Constants, i: Density, pc: u32, x: u32, y: u32, e: Effect) -> Outcome
+    ensures { result ≡ density_outcome (constant_byte code.now) i pc x y e }
+{
+    match i {
+        Density::L32i(name, t, _, offset) => narrow_access(code, name, t, plus(x, offset), y, e),
+        Density::Add(r, _, _) => puts(r, addx(x, y, 0), e),
+        Density::Addi(r, _, n) => puts(r, plus(x, n), e),
+        Density::Movi(s, n) => puts(s, plus(0, n), e),
+        Density::Beqz(NarrowZeroName::Beqz, _, offset) => {
+            branches(holds(Cond::Eq, x, 0), pc, offset, e)
+        }
+        Density::Beqz(NarrowZeroName::Bnez, _, offset) => {
+            branches(holds(Cond::Ne, x, 0), pc, offset, e)
+        }
+        Density::Mov(t, _) => puts(t, x, e),
+        Density::Ret(NarrowRetName::Ret) => goes(x, e),
+        Density::Ret(NarrowRetName::Retw) => Outcome::Windowed(WindowStep::Returns(x)),
+        Density::Ret(NarrowRetName::Nop) => Outcome::Does(e),
+        Density::Ret(NarrowRetName::Ill) => Outcome::Raises(0, None),
+        Density::Break(_) => Outcome::Stops,
+    }
+}

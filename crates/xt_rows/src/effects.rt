@@ -1,0 +1,231 @@
+ghost use Rattle.std.specs.Prelude.{◌≡◌, ◌+◌, ◌*◌, ◌%◌, ◌^◌, ◌<◌, ◌≤◌, true};
+ghost use Rattle.xt_map.specs.Memory.{constant_byte};
+ghost use Rattle.xt_map.specs.Regions.{is_constant, is_size, region_of};
+ghost use Rattle.xt_rows.specs.Effects.{asks, branches, calls, exchanges_special, goes, loads, loops, moves, puts, reads_special, set_to, special_sets, stores, swaps, unchanged, window_register, write_to, writes_special};
+
+use crate::numbers::{address_behind, branch_target, code_number, extended, linked, minus};
+use crate::outcome::{
+    Awaited, Effect, Flow, Outcome, SpecialWrite, WindowRegister, WindowStep, Write,
+};
+use xt_map::regions::Region;
+use xt_map::{Access, Constants, Kind, mapped, region};
+use xt_special::{Ps, number};
+
+/// The effect of an instruction that changes nothing and goes on to the next one.
+pub fn unchanged(ps: Ps, threadptr: u32) -> Effect
+    ensures { result ≡ unchanged ps threadptr }
+{
+    Effect {
+        write: None,
+        sets: (None, None, None),
+        ps,
+        threadptr,
+        flow: Flow::Falls,
+        waits: false,
+    }
+}
+
+pub fn write_to(number: u8, value: u32) -> Option<Write>
+    ensures { result ≡ write_to number value }
+{
+    Some(Write { number, value })
+}
+
+pub fn set_to(number: u8, value: u32) -> Option<SpecialWrite>
+    ensures { result ≡ set_to number value }
+{
+    Some(SpecialWrite { number, value })
+}
+
+/// A register receives a value.
+pub fn puts(number: u8, value: u32, e: Effect) -> Outcome
+    ensures { result ≡ puts number value e }
+{
+    Outcome::Does(Effect {
+        write: write_to(number, value),
+        ..e
+    })
+}
+
+/// A register receives a value where the condition holds.
+pub fn moves(condition: bool, number: u8, value: u32, e: Effect) -> Outcome
+    ensures { result ≡ moves condition number value e }
+{
+    if condition {
+        puts(number, value, e)
+    } else {
+        Outcome::Does(e)
+    }
+}
+
+/// A jump.
+pub fn goes(target: u32, e: Effect) -> Outcome
+    ensures { result ≡ goes target e }
+{
+    Outcome::Does(Effect {
+        flow: Flow::Goes(target),
+        ..e
+    })
+}
+
+/// A branch, which is taken where the condition holds.
+pub fn branches(condition: bool, pc: u32, offset: i32, e: Effect) -> Outcome
+    ensures { result ≡ branches condition pc offset e }
+{
+    if condition {
+        goes(branch_target(pc, offset), e)
+    } else {
+        Outcome::Does(e)
+    }
+}
+
+/// A call by so many windows, 0 to 3.
+pub fn calls(size: u8, target: u32, pc: u32, e: Effect) -> Outcome
+    requires { size < 4 }
+    ensures { result ≡ calls size target pc e }
+{
+    if size == 0 {
+        return Outcome::Does(Effect {
+            write: write_to(0, address_behind(pc)),
+            flow: Flow::Goes(target),
+            ..e
+        });
+    }
+    Outcome::Does(Effect {
+        write: write_to(4 * size, linked(size, pc)),
+        ps: Ps {
+            callinc: size,
+            ..e.ps
+        },
+        flow: Flow::Goes(target),
+        ..e
+    })
+}
+
+/// A loop of so many passes, whose body is passed over where `passes` says so.
+pub fn loops(passes: bool, count: u32, pc: u32, offset: i32, e: Effect) -> Outcome
+    ensures { result ≡ loops passes count pc offset e }
+{
+    let end = branch_target(pc, offset);
+    let sets = (
+        set_to(number::LCOUNT, minus(count, 1)),
+        set_to(number::LBEG, address_behind(pc)),
+        set_to(number::LEND, end),
+    );
+    if passes {
+        Outcome::Does(Effect {
+            sets,
+            flow: Flow::Goes(end),
+            ..e
+        })
+    } else {
+        Outcome::Does(Effect {
+            sets,
+            flow: Flow::Falls,
+            ..e
+        })
+    }
+}
+
+// An access, which is made where the bus serves it.
+fn asks(access: Access, awaited: Option<Awaited>, e: Effect) -> Outcome
+    ensures { result ≡ asks access awaited e }
+{
+    if mapped(&access) {
+        Outcome::Asks(access, awaited, e)
+    } else {
+        Outcome::Raises(3, Some(access.addr))
+    }
+}
+
+// Whether an address lies in a constant region.
+#[tactic(auto, unfolding(xt_map::specs::Regions::region_of))]
+fn is_constant(addr: u32) -> bool
+    ensures test { result ≡ is_constant (region_of addr) }
+    ensures small { result ≡ true → addr + 4 ≤ 2 ^ 32 }
+{
+    match region(addr) {
+        Some(Region::Drom | Region::Iram | Region::RtcFastCode | Region::Irom) => true,
+        _ => false,
+    }
+}
+
+/// A load of 1, 2 or 4 bytes into a register; of constant regions it is answered at once.
+pub fn loads(code: &Constants, size: u8, signed: bool, number: u8, addr: u32, e: Effect) -> Outcome
+    requires { is_size size ≡ true }
+    ensures { result ≡ loads (constant_byte code.now) size signed number addr e }
+{
+    if addr % size as u32 != 0 {
+        return Outcome::Raises(9, Some(addr));
+    }
+    if is_constant(addr) {
+        return puts(number, extended(signed, code_number(code, addr, size)), e);
+    }
+    let access = Access {
+        addr,
+        size,
+        kind: Kind::Load,
+    };
+    asks(access, Some(Awaited { number, signed }), e)
+}
+
+// The low bytes of a value.
+fn low_bytes(size: u8, value: u32) -> u32
+    requires { is_size size ≡ true }
+    ensures { result ≡ value % 2 ^ (8 * size) }
+{
+    match size {
+        1 => value % 0x100,
+        2 => value % 0x1_0000,
+        _ => value,
+    }
+}
+
+/// A store of the low 1, 2 or 4 bytes of a value.
+pub fn stores(size: u8, value: u32, addr: u32, e: Effect) -> Outcome
+    requires { is_size size ≡ true }
+    ensures { result ≡ stores size value addr e }
+{
+    if addr % size as u32 != 0 {
+        return Outcome::Raises(9, Some(addr));
+    }
+    let access = Access {
+        addr,
+        size,
+        kind: Kind::Store(low_bytes(size, value)),
+    };
+    asks(access, None, e)
+}
+
+/// A compare-and-swap of a word, which a register receives as it was.
+pub fn swaps(expected: u32, new: u32, number: u8, addr: u32, e: Effect) -> Outcome
+    ensures { result ≡ swaps expected new number addr e }
+{
+    if addr % 4 != 0 {
+        return Outcome::Raises(9, Some(addr));
+    }
+    let access = Access {
+        addr,
+        size: 4,
+        kind: Kind::Cas(expected, new),
+    };
+    asks(
+        access,
+        Some(Awaited {
+            number,
+            signed: false,
+        }),
+        e,
+    )
+}
+
+/// The register that is kept with the windows, if this number is one's.
+pub fn window_register(n: u8) -> Option<WindowRegister>
+    ensures { result ≡ window_register n }
+{
+    match n {
+        number::WINDOWBASE => Some(WindowRegister::Base),
+        number::WINDOWSTART => Some(WindowRegister::Start),
+        _ => None,
+    }
+}

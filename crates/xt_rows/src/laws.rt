@@ -1,0 +1,22 @@
+//! Laws of the rows of all instructions. Each is the contract of a function that does nothing.
+#![tactic(auto)]
+
+ghost use Rattle.xt_rows.specs.Laws.{OutcomesAreProper, ReadsOnlyItsRegisters, RegistersExist};
+
+/// A row looks at nothing but the registers that it reads, PC, PS and THREADPTR: where these are
+/// equal, its outcomes are.
+pub fn rows_read_only_their_registers()
+    ensures { ReadsOnlyItsRegisters }
+{}
+
+/// Given words, a row writes words, to registers that there are; what it asks for is an access that
+/// the bus serves; and what it puts into a special register or into PS is what these can hold.
+pub fn outcomes_are_proper()
+    ensures { OutcomesAreProper }
+{}
+
+/// Where its operands are in their ranges, the registers that an instruction reads and names are
+/// below 16.
+pub fn registers_exist()
+    ensures { RegistersExist }
+{}

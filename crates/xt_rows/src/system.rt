@@ -1,0 +1,238 @@
+ghost use Rattle.std.specs.Prelude.{◌≡◌, ℕ, ℤ, ◌<◌, true};
+ghost use Rattle.xt_isa.specs.Ranges.{natural_within, system_in_range};
+ghost use Rattle.xt_isa.specs.declared.system.System.TheVariants as system;
+ghost use Rattle.xt_special.specs.Access.{changed_by, value_kept, value_read, ps_written, timer_bit, without_bits};
+ghost use Rattle.xt_special.specs.Shape.{IsPs};
+ghost use Rattle.xt_rows.specs.Effects.{special_sets};
+ghost use Rattle.xt_rows.specs.Outcomes.{system_outcome};
+
+use crate::effects::{goes, puts, set_to, window_register, write_to};
+use crate::numbers::natural;
+use crate::outcome::{Effect, Flow, Outcome, SpecialWrites, WindowStep};
+use crate::shift::within;
+use xt_isa::system::{
+    BreakName, LevelName, ReturnName, SpecialName, SyncName, System, UserName, WaitName,
+};
+use xt_special::{Ps, number};
+
+#[tactic(auto, unfolding(crate::specs::Outcomes::system_outcome))]
+fn synchronizes(name: SyncName, e: Effect) -> Outcome
+    ensures { (x u v : ℕ) → result ≡ system_outcome (system.Ill name) x u v e }
+{
+    match name {
+        SyncName::Ill => Outcome::Raises(0, None),
+        SyncName::Isync | SyncName::Rsync | SyncName::Esync | SyncName::Dsync => Outcome::Does(e),
+    }
+}
+
+#[tactic(auto, unfolding(crate::specs::Outcomes::system_outcome))]
+fn waits_for(name: WaitName, e: Effect) -> Outcome
+    ensures { (x u v : ℕ) → result ≡ system_outcome (system.Excw name) x u v e }
+{
+    match name {
+        WaitName::Excw | WaitName::Memw | WaitName::Extw | WaitName::Nop => Outcome::Does(e),
+    }
+}
+
+#[tactic(auto, unfolding(crate::specs::Outcomes::system_outcome))]
+fn returns_from_exception(name: ReturnName, u: u32, e: Effect) -> Outcome
+    ensures { (x v : ℕ) → result ≡ system_outcome (system.Rfe name) x u v e }
+{
+    match name {
+        ReturnName::Rfe => Outcome::Does(Effect {
+            ps: Ps {
+                excm: false,
+                ..e.ps
+            },
+            flow: Flow::Goes(u),
+            ..e
+        }),
+        ReturnName::Rfde => goes(u, e),
+        ReturnName::Rfwo => Outcome::Windowed(WindowStep::EndsOverflow(u)),
+        ReturnName::Rfwu => Outcome::Windowed(WindowStep::EndsUnderflow(u)),
+    }
+}
+
+#[tactic(auto, unfolding(crate::specs::Outcomes::system_outcome))]
+fn calls_outside(name: BreakName) -> Outcome
+    ensures { (level number : ℤ) (x u v : ℕ) (e : Effect) → result ≡ system_outcome (system.Break name level number) x u v e }
+{
+    match name {
+        BreakName::Break => Outcome::Stops,
+        BreakName::Syscall => Outcome::Raises(1, None),
+    }
+}
+
+#[tactic(auto, unfolding(crate::specs::Outcomes::system_outcome))]
+fn sets_level(name: LevelName, t: u8, level: i32, e: Effect) -> Outcome
+    requires level { natural_within 0 15 level ≡ true }
+    requires ps { IsPs e.ps }
+    ensures { (x u v : ℕ) → result ≡ system_outcome (system.Rsil name t level) x u v e }
+{
+    let ps = Ps {
+        intlevel: within(level, 0, 15),
+        ..e.ps
+    };
+    match name {
+        LevelName::Rsil => Outcome::Does(Effect {
+            write: write_to(t, e.ps.word()),
+            ps,
+            ..e
+        }),
+        LevelName::Waiti => Outcome::Does(Effect {
+            ps,
+            waits: true,
+            ..e
+        }),
+    }
+}
+
+// The value of a special register, of which `u` is the entry in the list.
+fn value_read(n: u8, u: u32, ps: Ps) -> u32
+    requires { IsPs ps }
+    ensures { result ≡ value_read n u ps }
+{
+    if n == number::PS { ps.word() } else { u }
+}
+
+fn ps_written(n: u8, x: u32, ps: Ps) -> Ps
+    ensures { result ≡ ps_written n x ps }
+{
+    if n == number::PS { Ps::of_word(x) } else { ps }
+}
+
+#[tactic(auto, unfolding(xt_special::specs::Access::without_bits))]
+fn without_bits(word: u32, bits: u32) -> u32
+    ensures { result ≡ without_bits word bits }
+{
+    word & !bits
+}
+
+#[tactic(auto, unfolding(xt_special::specs::Access::timer_bit))]
+fn timer_bit(n: u8) -> u32
+    ensures { result ≡ timer_bit n }
+{
+    match n {
+        240 => 0x40,
+        241 => 0x8000,
+        _ => 0x1_0000,
+    }
+}
+
+#[tactic(auto, unfolding(xt_special::specs::Access::value_kept))]
+fn value_kept(n: u8, x: u32, v: u32) -> u32
+    ensures { result ≡ value_kept n x v }
+{
+    match n {
+        number::SAR | number::EXCCAUSE => x % 0x40,
+        number::VECBASE => x / 0x400 * 0x400,
+        number::INTENABLE => x & 0x2001_80C0,
+        number::EPS2..=number::EPS7 => Ps::of_word(x).word(),
+        number::INTERRUPT => v | (x & 0x2000_0080),
+        number::INTCLEAR => without_bits(v, x & 0x2000_0080),
+        _ => x,
+    }
+}
+
+// What a write of `x` to the special register `n` changes, where INTERRUPT was `v`.
+fn special_sets(n: u8, x: u32, v: u32) -> SpecialWrites
+    ensures { result ≡ special_sets n x v }
+{
+    match n {
+        number::PS => (None, None, None),
+        240..=242 => (
+            set_to(n, x),
+            set_to(number::INTERRUPT, without_bits(v, timer_bit(n))),
+            None,
+        ),
+        number::INTCLEAR => (set_to(number::INTERRUPT, value_kept(n, x, v)), None, None),
+        _ => (set_to(n, value_kept(n, x, v)), None, None),
+    }
+}
+
+#[tactic(auto, unfolding(crate::specs::Outcomes::system_outcome))]
+fn reads_special(t: u8, n: u8, u: u32, e: Effect) -> Outcome
+    requires { IsPs e.ps }
+    ensures { (x v : ℕ) → result ≡ system_outcome (system.Rsr SpecialName.Rsr t n) x u v e }
+{
+    match window_register(n) {
+        Some(register) => Outcome::Windowed(WindowStep::Reads(register, t)),
+        None => puts(t, value_read(n, u, e.ps), e),
+    }
+}
+
+#[tactic(auto, unfolding(crate::specs::Outcomes::system_outcome))]
+fn writes_special(n: u8, x: u32, v: u32, e: Effect) -> Outcome
+    ensures { (t u : ℕ) → result ≡ system_outcome (system.Rsr SpecialName.Wsr t n) x u v e }
+{
+    match window_register(n) {
+        Some(register) => Outcome::Windowed(WindowStep::Sets(register, x)),
+        None => Outcome::Does(Effect {
+            sets: special_sets(n, x, v),
+            ps: ps_written(n, x, e.ps),
+            ..e
+        }),
+    }
+}
+
+#[tactic(auto, unfolding(crate::specs::Outcomes::system_outcome))]
+fn exchanges_special(t: u8, n: u8, x: u32, u: u32, v: u32, e: Effect) -> Outcome
+    requires { IsPs e.ps }
+    ensures { result ≡ system_outcome (system.Rsr SpecialName.Xsr t n) x u v e }
+{
+    match window_register(n) {
+        Some(register) => Outcome::Windowed(WindowStep::Exchanges(register, t, x)),
+        None => Outcome::Does(Effect {
+            write: write_to(t, value_read(n, u, e.ps)),
+            sets: special_sets(n, x, v),
+            ps: ps_written(n, x, e.ps),
+            ..e
+        }),
+    }
+}
+
+fn special_access(name: SpecialName, t: u8, n: u8, x: u32, u: u32, v: u32, e: Effect) -> Outcome
+    requires { IsPs e.ps }
+    ensures { result ≡ system_outcome (system.Rsr name t n) x u v e }
+{
+    match name {
+        SpecialName::Rsr => reads_special(t, n, u, e),
+        SpecialName::Wsr => writes_special(n, x, v, e),
+        SpecialName::Xsr => exchanges_special(t, n, x, u, v, e),
+    }
+}
+
+#[tactic(auto, unfolding(crate::specs::Outcomes::system_outcome))]
+fn user_register(name: UserName, t: u8, x: u32, e: Effect) -> Outcome
+    ensures { (n u v : ℕ) → result ≡ system_outcome (system.Rur name t n) x u v e }
+{
+    match name {
+        UserName::Rur => puts(t, e.threadptr, e),
+        UserName::Wur => Outcome::Does(Effect { threadptr: x, ..e }),
+    }
+}
+
+/// What a system instruction does, where AR[t] is `x`, and the special registers that it reads are
+/// `u` and `v`.
+#[tactic(auto, unfolding(crate::specs::Outcomes::system_outcome))]
+pub fn system_outcome(i: System, x: u32, u: u32, v: u32, e: Effect) -> Outcome
+    requires range { system_in_range i ≡ true }
+    requires ps { IsPs e.ps }
+    ensures { result ≡ system_outcome i x u v e }
+{
+    match i {
+        System::Ill(name) => synchronizes(name, e),
+        System::Excw(name) => waits_for(name, e),
+        System::Rfe(name) => returns_from_exception(name, u, e),
+        System::Rfi(_) => Outcome::Does(Effect {
+            ps: Ps::of_word(v),
+            flow: Flow::Goes(u),
+            ..e
+        }),
+        System::Break(name, _, _) => calls_outside(name),
+        System::Rsil(name, t, level) => sets_level(name, t, level, e),
+        System::Rotw(n) => Outcome::Windowed(WindowStep::Rotates(n)),
+        System::Rsr(name, t, n) => special_access(name, t, n, x, u, v, e),
+        System::Rur(name, t, _) => user_register(name, t, x, e),
+    }
+}

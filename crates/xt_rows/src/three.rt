@@ -1,0 +1,127 @@
+ghost use Rattle.std.specs.Prelude.{◌≡◌, ℕ, ◌<◌, ◌^◌};
+ghost use Rattle.xt_isa.specs.declared.three.Three.TheVariants as three;
+ghost use Rattle.xt_rows.specs.Outcomes.{three_outcome};
+
+use crate::effects::{moves, puts};
+use crate::outcome::{Effect, Outcome};
+use xt_alu::arithmetic::{addx, bit_and, bit_or, bit_xor, max, maxu, min, minu, subx};
+use xt_alu::conditions::{Cond, holds};
+use xt_alu::multiply::{mul16s, mul16u, mull, mulsh, muluh, quos, quou, rems, remu};
+use xt_alu::shifts::src;
+use xt_isa::three::{
+    AddName, AndName, DivideName, MinName, MoveName, Mul16Name, MulHighName, SubName, Three,
+};
+
+#[tactic(auto, unfolding(crate::specs::Outcomes::three_outcome))]
+fn bitwise(name: AndName, r: u8, x: u32, y: u32, e: Effect) -> Outcome
+    ensures { (s t u : ℕ) → result ≡ three_outcome (three.And name r s t) x y u e }
+{
+    match name {
+        AndName::And => puts(r, bit_and(x, y), e),
+        AndName::Or => puts(r, bit_or(x, y), e),
+        AndName::Xor => puts(r, bit_xor(x, y), e),
+    }
+}
+
+#[tactic(auto, unfolding(crate::specs::Outcomes::three_outcome))]
+fn sum(name: AddName, r: u8, x: u32, y: u32, e: Effect) -> Outcome
+    ensures { (s t u : ℕ) → result ≡ three_outcome (three.Add name r s t) x y u e }
+{
+    match name {
+        AddName::Add => puts(r, addx(x, y, 0), e),
+        AddName::Addx2 => puts(r, addx(x, y, 1), e),
+        AddName::Addx4 => puts(r, addx(x, y, 2), e),
+        AddName::Addx8 => puts(r, addx(x, y, 3), e),
+    }
+}
+
+#[tactic(auto, unfolding(crate::specs::Outcomes::three_outcome))]
+fn difference(name: SubName, r: u8, x: u32, y: u32, e: Effect) -> Outcome
+    ensures { (s t u : ℕ) → result ≡ three_outcome (three.Sub name r s t) x y u e }
+{
+    match name {
+        SubName::Sub => puts(r, subx(x, y, 0), e),
+        SubName::Subx2 => puts(r, subx(x, y, 1), e),
+        SubName::Subx4 => puts(r, subx(x, y, 2), e),
+        SubName::Subx8 => puts(r, subx(x, y, 3), e),
+    }
+}
+
+#[tactic(auto, unfolding(crate::specs::Outcomes::three_outcome))]
+fn product_of_halves(name: Mul16Name, r: u8, x: u32, y: u32, e: Effect) -> Outcome
+    ensures { (s t u : ℕ) → result ≡ three_outcome (three.Mul16u name r s t) x y u e }
+{
+    match name {
+        Mul16Name::Mul16u => puts(r, mul16u(x, y), e),
+        Mul16Name::Mul16s => puts(r, mul16s(x, y), e),
+    }
+}
+
+#[tactic(auto, unfolding(crate::specs::Outcomes::three_outcome))]
+fn high_product(name: MulHighName, r: u8, x: u32, y: u32, e: Effect) -> Outcome
+    ensures { (s t u : ℕ) → result ≡ three_outcome (three.Muluh name r s t) x y u e }
+{
+    match name {
+        MulHighName::Muluh => puts(r, muluh(x, y), e),
+        MulHighName::Mulsh => puts(r, mulsh(x, y), e),
+    }
+}
+
+#[tactic(auto, unfolding(crate::specs::Outcomes::three_outcome))]
+fn quotient(name: DivideName, r: u8, x: u32, y: u32, e: Effect) -> Outcome
+    ensures { (s t u : ℕ) → result ≡ three_outcome (three.Quou name r s t) x y u e }
+{
+    if y == 0 {
+        return Outcome::Raises(6, None);
+    }
+    match name {
+        DivideName::Quou => puts(r, quou(x, y), e),
+        DivideName::Quos => puts(r, quos(x, y), e),
+        DivideName::Remu => puts(r, remu(x, y), e),
+        DivideName::Rems => puts(r, rems(x, y), e),
+    }
+}
+
+#[tactic(auto, unfolding(crate::specs::Outcomes::three_outcome))]
+fn least_or_greatest(name: MinName, r: u8, x: u32, y: u32, e: Effect) -> Outcome
+    ensures { (s t u : ℕ) → result ≡ three_outcome (three.Min name r s t) x y u e }
+{
+    match name {
+        MinName::Min => puts(r, min(x, y), e),
+        MinName::Max => puts(r, max(x, y), e),
+        MinName::Minu => puts(r, minu(x, y), e),
+        MinName::Maxu => puts(r, maxu(x, y), e),
+    }
+}
+
+#[tactic(auto, unfolding(crate::specs::Outcomes::three_outcome))]
+fn conditional_move(name: MoveName, r: u8, x: u32, y: u32, e: Effect) -> Outcome
+    ensures { (s t u : ℕ) → result ≡ three_outcome (three.Moveqz name r s t) x y u e }
+{
+    match name {
+        MoveName::Moveqz => moves(holds(Cond::Eq, y, 0), r, x, e),
+        MoveName::Movnez => moves(holds(Cond::Ne, y, 0), r, x, e),
+        MoveName::Movltz => moves(holds(Cond::Lt, y, 0), r, x, e),
+        MoveName::Movgez => moves(holds(Cond::Ge, y, 0), r, x, e),
+    }
+}
+
+/// What an instruction of three registers does, where AR[s], AR[t] and SAR are these.
+#[tactic(auto, unfolding(crate::specs::Outcomes::three_outcome))]
+pub fn three_outcome(i: Three, x: u32, y: u32, u: u32, e: Effect) -> Outcome
+    requires { u < 64 }
+    ensures { result ≡ three_outcome i x y u e }
+{
+    match i {
+        Three::And(name, r, _, _) => bitwise(name, r, x, y, e),
+        Three::Add(name, r, _, _) => sum(name, r, x, y, e),
+        Three::Sub(name, r, _, _) => difference(name, r, x, y, e),
+        Three::Src(r, _, _) => puts(r, src(x, y, u as u8), e),
+        Three::Mul16u(name, r, _, _) => product_of_halves(name, r, x, y, e),
+        Three::Mull(r, _, _) => puts(r, mull(x, y), e),
+        Three::Muluh(name, r, _, _) => high_product(name, r, x, y, e),
+        Three::Quou(name, r, _, _) => quotient(name, r, x, y, e),
+        Three::Min(name, r, _, _) => least_or_greatest(name, r, x, y, e),
+        Three::Moveqz(name, r, _, _) => conditional_move(name, r, x, y, e),
+    }
+}

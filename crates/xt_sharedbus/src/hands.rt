@@ -1,0 +1,56 @@
+//! The pop that takes the bus, and the pushes that put it in.
+ghost use Rattle.std.specs.Prelude.{◌≡◌, ◌+◌, ◌≤◌, []};
+ghost use Rattle.crossbeam_queue.specs.Passes.{view, IsPassOf, IsSamePass, ruled_capacity};
+ghost use Rattle.xt_sharedbus.specs.Rule.{Opened, Took, Gave};
+ghost use Rattle.xt_sharedbus.specs.Views.{unopened};
+ghost use Rattle.xt_sharedbus.specs.Halves.{IsIdle, IsOneEntryOn};
+
+use crate::rule::{Gives, Item, Opens, Queue, Seat, Takes};
+use std::sync::Wait;
+use std::thread;
+
+/// Takes the bus out, and tries again while the queue is empty.
+pub(crate) fn take<R: Wait>(rt: &R, queue: &Queue, pass: &mut Seat) -> Item
+    requires queue { IsPassOf queue.now pass.old }
+    requires idle { IsIdle (view pass.old) }
+    ensures queue { IsSamePass pass.old pass.new }
+    ensures took { Took (view pass.old) result (view pass.new) }
+{
+    for _ in rt.forever() {
+        match queue.pop_as::<Takes, R>(rt, pass) {
+            Some(item) => return item,
+            None => thread::yield_now(),
+        }
+    }
+    unreachable!()
+}
+
+/// Puts the bus back, one entry longer.
+pub(crate) fn give<R: Wait>(rt: &R, queue: &Queue, pass: &mut Seat, item: Item)
+    requires queue { IsPassOf queue.now pass.old }
+    requires one { ruled_capacity queue.now ≡ 1 }
+    requires step { IsOneEntryOn (view pass.old) item }
+    ensures queue { IsSamePass pass.old pass.new }
+    ensures gave { Gave (view pass.old) item (view pass.new) }
+{
+    match queue.push_as::<Gives, R>(rt, pass, item) {
+        Ok(()) => (),
+        Err(_) => unreachable!(),
+    }
+}
+
+/// Puts the bus in for the first time.
+pub(crate) fn open<R: Wait>(rt: &R, queue: &Queue, pass: &mut Seat, item: Item)
+    requires queue { IsPassOf queue.now pass.old }
+    requires one { ruled_capacity queue.now ≡ 1 }
+    requires unopened { view pass.old ≡ unopened }
+    requires empty { item.bus.history ≡ [] }
+    requires room { item.turns0 + item.turns1 ≤ item.bus.spare }
+    ensures queue { IsSamePass pass.old pass.new }
+    ensures opened { Opened (view pass.old) item (view pass.new) }
+{
+    match queue.push_as::<Opens, R>(rt, pass, item) {
+        Ok(()) => (),
+        Err(_) => unreachable!(),
+    }
+}

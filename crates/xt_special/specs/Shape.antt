@@ -1,0 +1,20 @@
+-- Ranges that the special registers keep.
+use Rattle.std.specs.Prelude.{◌≡◌, ℕ, ◌%◌, ◌<◌, ◌^◌, List, slice_index}
+use Rattle.xt_special.specs.declared.ps.Ps.{Ps}
+use Rattle.xt_special.specs.Numbers as number
+
+pub record IsPs (ps : Ps) : Type 0 where
+  pub intlevel_fits : ps.intlevel < 16
+  pub ring_fits : ps.ring < 4
+  pub owb_fits : ps.owb < 16
+  pub callinc_fits : ps.callinc < 4
+
+-- SAR has six bits, and the low ten bits of VECBASE are 0
+pub record HasShape (file : List ℕ) : Type 0 where
+  pub sar_fits : slice_index file number.sar < 2 ^ 6
+  pub vecbase_aligned : slice_index file number.vecbase % 2 ^ 10 ≡ 0
+
+-- a value that a register of this number may hold
+pub record CanHold (n : ℕ) (x : ℕ) : Type 0 where
+  pub as_sar : n ≡ number.sar → x < 2 ^ 6
+  pub as_vecbase : n ≡ number.vecbase → x % 2 ^ 10 ≡ 0

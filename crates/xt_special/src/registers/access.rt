@@ -1,0 +1,101 @@
+//! What RSR and WSR do.
+#![tactic(auto)]
+
+ghost use Rattle.std.specs.Prelude.{◌≡◌, ◌≤◌, ◌<◌, ◌^◌, if◌then◌else◌, slice_index, slice_set};
+ghost use Rattle.xt_special.specs.Numbers as numbers;
+ghost use Rattle.xt_special.specs.Shape.{CanHold};
+ghost use Rattle.xt_special.specs.Access.{can_write_here, changed_by, ps_written, read_of, special_written, timer_bit, value_kept, without_bits};
+
+use super::{Special, timer_bit};
+use crate::{Ps, number};
+use xt_isa::special::{can_read, can_write};
+
+/// The bits of INTERRUPT that software sets and clears: 7 and 29.
+const SOFTWARE_BITS: u32 = 0x2000_0080;
+
+/// The bits of INTENABLE that there are: those of software and of the three timers.
+const ENABLED_BITS: u32 = 0x2001_80C0;
+
+/// A word without some bits.
+#[tactic(auto, unfolding(crate::specs::Access::without_bits))]
+fn without_bits(word: u32, bits: u32) -> u32
+    ensures { result ≡ without_bits word bits }
+{
+    word & !bits
+}
+
+/// What the register that a write of this number changes keeps of the word `v`. INTERRUPT was `interrupt`.
+#[tactic(auto, unfolding(crate::specs::Access::value_kept))]
+fn kept(n: u8, v: u32, interrupt: u32) -> u32
+    ensures value { result ≡ value_kept n v interrupt }
+    ensures range { CanHold (changed_by n) result }
+{
+    match n {
+        number::SAR | number::EXCCAUSE => v % 64,
+        number::VECBASE => v / 1024 * 1024,
+        number::INTENABLE => v & ENABLED_BITS,
+        number::EPS2..=number::EPS7 => Ps::of_word(v).word(),
+        number::INTERRUPT => interrupt | v & SOFTWARE_BITS,
+        number::INTCLEAR => without_bits(interrupt, v & SOFTWARE_BITS),
+        _ => v,
+    }
+}
+
+impl Special {
+    /// The value that RSR reads: none where it reaches no register of this number, and for WINDOWBASE and WINDOWSTART.
+    pub fn read(&self, n: u8) -> Option<u32>
+        ensures { result ≡ read_of n self.now.file self.now.ps }
+    {
+        if !can_read(n) || n == number::WINDOWBASE || n == number::WINDOWSTART {
+            return None;
+        }
+        Some(if n == number::PS {
+            self.ps()
+        } else {
+            self.register(n)
+        })
+    }
+
+    /// What WSR writes. The answer is false, and nothing has changed, where it reaches no register of this number, and for
+    /// WINDOWBASE and WINDOWSTART.
+    ///
+    /// SAR and EXCCAUSE keep six bits, VECBASE all but the low ten, INTENABLE the bits that there are, EPS2 to EPS7 what PS keeps.
+    /// INTSET and INTCLEAR set and clear the bits of software alone. A write of CCOMPARE clears the timer's bit of INTERRUPT.
+    #[tactic(auto, unfolding(crate::specs::Access::special_written))]
+    pub fn write(&mut self, n: u8, v: u32) -> bool
+        ensures accepted { result ≡ can_write_here n }
+        ensures after { self.new ≡ (if result then record { ps = ps_written n v self.old.ps; file = special_written n v self.old.file; threadptr = self.old.threadptr } else self.old) }
+    {
+        if !can_write(n) || n == number::WINDOWBASE || n == number::WINDOWSTART {
+            return false;
+        }
+        if n == number::PS {
+            self.set_ps(v);
+        } else if n >= number::CCOMPARE0 && n <= number::CCOMPARE2 {
+            self.set_compare(n, v);
+        } else {
+            let interrupt = self.register(number::INTERRUPT);
+            let changed = if n == number::INTCLEAR {
+                number::INTERRUPT
+            } else {
+                n
+            };
+            self.set_register(changed, kept(n, v, interrupt));
+        }
+        true
+    }
+
+    /// Sets CCOMPARE0, 1 or 2, and clears the timer's bit of INTERRUPT.
+    fn set_compare(&mut self, n: u8, v: u32)
+        requires low { 240 ≤ n }
+        requires high { n ≤ 242 }
+        ensures { self.new ≡ record self.old { file = slice_set (slice_set self.old.file n v) numbers.interrupt (without_bits (slice_index self.old.file numbers.interrupt) (timer_bit n)) } }
+    {
+        let interrupt = self.register(number::INTERRUPT);
+        self.set_register(n, v);
+        self.set_register(
+            number::INTERRUPT,
+            without_bits(interrupt, timer_bit(n - number::CCOMPARE0)),
+        );
+    }
+}

@@ -1,5 +1,0 @@
-use Rattle.xt_window.proofs.Alone.{alone}
-use Rattle.xt_window.proofs.opening_window_is_alone.Goals as goal
-
-pub returns : goal.returns
-returns c = alone

@@ -1,0 +1,5 @@
+pub mod Digits
+pub mod Hexadecimal
+pub mod Parses
+pub mod Ranges
+pub mod Rules

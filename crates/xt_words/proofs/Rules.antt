@@ -1,0 +1,66 @@
+-- The rules of usage that options keep.
+use Rattle.std.proofs.Common.{◌≡◌, ◌≢◌, ℕ, ◌≤◌, ◌%◌, ◌&&◌, Bool, true, List, [], ◌∷◌, Option, Some, None, Ok, Err, arith, refl, rules}
+use Rattle.std.specs.Prelude.{◌==◌, nat_le, unwrap_or}
+use Rattle.std.proofs.lemmas.Bool.Decides.{nat_tests}
+use Rattle.clap.specs.Words.{Row}
+use Rattle.xt_map.specs.Regions.{region_of, is_executable}
+use Rattle.xt_trace.specs.Validity.{IsValid, IsValidStack, most_turns}
+use Rattle.xt_trace.specs.declared.options.Stack.{Stack}
+use Rattle.xt_words.specs.Options.{AcceptsValid, OptionsNeedNoMemory, by_rows, first_broken, is_entry, is_stack, judged, options_in, record_app, run_app, texts_of, unless_broken}
+use Rattle.xt_words.specs.Simple.{rows_by}
+use Rattle.xt_words.specs.declared.command.Refusal.TheVariants as refusal
+use Rattle.xt_words.specs.declared.options.RunOptions.{RunOptions}
+
+-- ---- want of memory
+
+unless_broken-answers : (rule : Option ℕ) (o : RunOptions) → unless_broken rule o ≢ Err refusal.Memory
+unless_broken-answers None o = λ e. search (rules, e)
+unless_broken-answers (Some rule) o = λ e. search (rules, e)
+
+judged-answers : (o : Option RunOptions) → judged o ≢ Err refusal.Memory
+judged-answers None = λ e. search (rules, e)
+judged-answers (Some o) = unless_broken-answers _ o
+
+by_rows-answers : (rows : Option (List Row)) → by_rows rows ≢ Err refusal.Memory
+by_rows-answers None = λ e. search (rules, e)
+by_rows-answers (Some rows) = judged-answers (options_in (texts_of rows))
+
+pub need_no_memory : OptionsNeedNoMemory
+need_no_memory words = (by_rows-answers (rows_by run_app words), by_rows-answers (rows_by record_app words))
+
+-- ---- valid options
+
+-- an address at which core 1 can begin
+entry : ℕ
+entry = 0x40080000
+
+entry_is_executable : is_executable (region_of entry) ≡ true
+unfolding entry region_of
+entry_is_executable = refl
+
+turns_kept : (turns0 turns1 : ℕ) → turns0 ≤ most_turns → turns1 ≤ most_turns → (nat_le turns0 most_turns && nat_le turns1 most_turns) ≡ true
+turns_kept turns0 turns1 few few1 = grind (arith, nat_tests)
+
+entry_kept : (address : Option ℕ) (d : ℕ) → is_executable (region_of (unwrap_or address d)) ≡ true → is_entry address ≡ true
+entry_kept None d is = refl
+entry_kept (Some a) d is = is
+
+multiple_kept : (n k : ℕ) → n ≡ k → (n == k) ≡ true
+multiple_kept n k is = grind (arith, nat_tests)
+
+stack_kept : (s : Stack) → IsValidStack s → is_stack s ≡ true
+stack_kept s v = let low = v.low in let high = v.high in let lo = v.lo_aligned in let hi = v.hi_aligned in let size = v.size in grind (arith, nat_tests)
+
+both_kept : (a b : Bool) → a ≡ true → b ≡ true → (a && b) ≡ true
+both_kept a b p q = rw (p, q) refl
+
+all_kept : (a b c d : Bool) (o : RunOptions) → a ≡ true → b ≡ true → c ≡ true → d ≡ true
+    → unless_broken (first_broken ((5, a) ∷ (6, b) ∷ (7, c) ∷ (8, d) ∷ [])) o ≡ Ok o
+all_kept a b c d o p q r s = rw (p, q, r, s) refl
+
+pub accepts : AcceptsValid
+accepts o valid =
+    let v : IsValid _ = valid entry entry_is_executable in
+    all_kept _ _ _ _ o (turns_kept o.turns0 o.turns1 v.turns0 v.turns1) (entry_kept o.entry1 entry v.entry1)
+    (multiple_kept (o.vecbase % 1024) 0 v.vecbase)
+    (both_kept _ _ (stack_kept o.stack0 v.stack0) (stack_kept o.stack1 v.stack1))

@@ -1,0 +1,80 @@
+-- What the words of the command line behind the program's name mean ('profile'). A word is the list of its bytes.
+use Rattle.std.specs.Prelude.{◌≢◌, ◌≤◌, ℕ, List, [], ◌∷◌, Option, Some, None, Result, Ok, Err, if◌then◌else◌, codes}
+use Rattle.std.specs.Str.{bytes_eq}
+use Rattle.clap.specs.Words.{Row, Text, new_app}
+use Rattle.xt_trace.specs.Validity.{most_turns}
+use Rattle.xt_words.specs.RunWords.{turns_of}
+use Rattle.xt_words.specs.Simple.{rows_by}
+use Rattle.xt_words.specs.declared.command.Command.{Command}
+use Rattle.xt_words.specs.declared.command.Command.TheVariants as command
+use Rattle.xt_words.specs.declared.command.Refusal.{Refusal}
+use Rattle.xt_words.specs.declared.command.Refusal.TheVariants as refusal
+use Rattle.xt_words.specs.declared.command.Name.{Name}
+use Rattle.xt_words.specs.declared.command.Name.TheVariants as name
+
+-- the commands
+abbrev pub names : List (Text × Name)
+names =
+    (codes "asm", name.Assemble)
+    ∷ (codes "dis", name.Disassemble)
+    ∷ (codes "check", name.Check)
+    ∷ (codes "run", name.Run)
+    ∷ (codes "record", name.Planned)
+    ∷ (codes "replay", name.Planned)
+    ∷ (codes "gen", name.Planned)
+    ∷ []
+
+abbrev pub name_in : List (Text × Name) → Text → Option Name
+name_in [] word = None
+name_in (n ∷ rest) word = if bytes_eq word n.0 then Some n.1 else name_in rest word
+
+-- the command that a word names
+unfoldable pub named : Text → Option Name
+named word = name_in names word
+
+-- a command that takes no option, by what its simple command matches
+abbrev pub without_options : Command → Option (List Row) → Result Command Refusal
+without_options command (Some rows) = Ok command
+without_options command None = Err (refusal.Usage 3)
+
+-- a number of turns is ordered, or the form is not there yet
+abbrev pub run_with : Option ℕ → Result Command Refusal
+run_with (Some turns0) = Ok (command.Run turns0)
+run_with None = Err refusal.Unbuilt
+
+abbrev pub run_meaning_of : List Text → Result Command Refusal
+run_meaning_of words = run_with (turns_of words)
+
+abbrev pub meaning_by : Option Name → List Text → Result Command Refusal
+meaning_by None words = Err (refusal.Usage 2)
+meaning_by (Some name.Assemble) words = without_options command.Assemble (rows_by (new_app (codes "asm")) words)
+meaning_by (Some name.Disassemble) words = without_options command.Disassemble (rows_by (new_app (codes "dis")) words)
+meaning_by (Some name.Check) words = without_options command.Check (rows_by (new_app (codes "check")) words)
+meaning_by (Some name.Run) words = run_meaning_of words
+meaning_by (Some name.Planned) words = Err refusal.Unbuilt
+
+-- the command with its options that the words say, or why they say none
+abbrev pub meaning_of : List Text → Result Command Refusal
+meaning_of [] = Err (refusal.Usage 1)
+meaning_of (word ∷ rest) = meaning_by (named word) (word ∷ rest)
+
+-- the options of a command are within their limits
+abbrev pub IsWithinLimits : Command → Type 0
+IsWithinLimits (command.Run turns0) = turns0 ≤ most_turns
+IsWithinLimits _ = Unit {0}
+
+-- the words of these commands are read by clap, which takes memory
+abbrev pub TakesMemory : Option Name → Type 0
+TakesMemory (Some name.Assemble) = Unit {0}
+TakesMemory (Some name.Disassemble) = Unit {0}
+TakesMemory (Some name.Check) = Unit {0}
+TakesMemory _ = ⊥
+
+-- the first word names a command whose words are read with memory
+abbrev pub MayWantMemory : List Text → Type 0
+MayWantMemory [] = ⊥
+MayWantMemory (word ∷ rest) = TakesMemory (named word)
+
+-- the meaning of words is never want of memory
+abbrev pub NeedsNoMemory : Type 0
+NeedsNoMemory = (words : List Text) → meaning_of words ≢ Err refusal.Memory

@@ -1,0 +1,55 @@
+ghost use Rattle.std.specs.Prelude.{◌≡◌};
+ghost use Rattle.xt_words.specs.declared.command.Refusal.TheVariants.{Memory};
+
+use std::alloc::AllocError;
+
+/// A command with its options.
+#[derive(Clone, Copy, Debug, PartialEq, Eq)]
+pub enum Command {
+    /// `asm`: assembles a text.
+    Assemble,
+    /// `dis`: lists an image.
+    Disassemble,
+    /// `check`: checks an image.
+    Check,
+    /// `run --turns0 N --turns1 0`: runs an image.
+    Run {
+        /// The turns of core 0, at most 1,000,000. Core 1 has none.
+        turns0: u32,
+    },
+}
+
+/// Why words are no command with options.
+#[derive(Clone, Copy, Debug, PartialEq, Eq)]
+pub enum Refusal {
+    /// The number of the first rule of usage that the words break:
+    /// 1 there is no word, 2 the command is unknown, 3 the further words do not match the command's options.
+    Usage(u8),
+    /// The command, or this form of it, is not there yet.
+    Unbuilt,
+    /// There was too little memory to read the words.
+    Memory,
+}
+
+impl From<AllocError> for Refusal {
+    ghost from_gives = { λ _ refusal. refusal ≡ Memory };
+
+    fn from(_: AllocError) -> Self {
+        Refusal::Memory
+    }
+}
+
+/// The command that the first word names.
+#[derive(Clone, Copy, Debug, PartialEq, Eq)]
+pub enum Name {
+    /// `asm`
+    Assemble,
+    /// `dis`
+    Disassemble,
+    /// `check`
+    Check,
+    /// `run`
+    Run,
+    /// `record`, `replay` and `gen`, which are not there yet.
+    Planned,
+}

@@ -1,0 +1,24 @@
+//! What the words of the command line mean.
+//!
+//! The words are those behind the program's own name; the first is the command. The words of a command that is
+//! read by `clap` mean what that crate defines for a simple command.
+#![tactic(auto)]
+
+mod command;
+mod laws;
+mod numbers;
+mod option_commands;
+mod option_words;
+mod options;
+mod run_words;
+mod simple;
+mod words;
+
+pub use command::{Command, Refusal};
+pub use laws::{meaning_needs_no_memory, options_need_no_memory, valid_options_are_accepted};
+pub use option_words::{record_options, run_options};
+pub use options::{MOST_TURNS, RunOptions, within_limits};
+pub use words::meaning;
+
+#[cfg(test)]
+mod tests;

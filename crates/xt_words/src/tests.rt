@@ -1,0 +1,190 @@
+use crate::{Command, Refusal, RunOptions, meaning, record_options, run_options};
+use std::alloc::Global;
+use std::test::Fail;
+use xt_trace::Stack;
+
+// The words of a line, which stand with one space between them.
+fn words_of(alloc: Global, line: &str) -> Result<Vec<String>, Fail> {
+    let mut words = Vec::new(alloc);
+    for word in line.split(' ') {
+        words.push(String::from_str(alloc, word)?)?;
+    }
+    Ok(words)
+}
+
+#[test]
+fn words_and_meanings(rt: HostRuntime) -> Result<(), Fail> {
+    let alloc = rt.alloc();
+    assert_eq!(rt; meaning(alloc, &[]), Err(Refusal::Usage(1)));
+    let rows = [
+        // the command
+        ("fly", Err(Refusal::Usage(2))),
+        ("", Err(Refusal::Usage(2))),
+        ("--help", Err(Refusal::Usage(2))),
+        ("Run --turns0 10 --turns1 0", Err(Refusal::Usage(2))),
+        ("--turns0 10 --turns1 0 run", Err(Refusal::Usage(2))),
+        ("disasm", Err(Refusal::Usage(2))),
+        ("elf", Err(Refusal::Usage(2))),
+        // commands that take no option
+        ("asm", Ok(Command::Assemble)),
+        ("dis", Ok(Command::Disassemble)),
+        ("check", Ok(Command::Check)),
+        ("dis --", Ok(Command::Disassemble)),
+        ("dis --help", Err(Refusal::Usage(3))),
+        ("check -h", Err(Refusal::Usage(3))),
+        ("asm --version", Err(Refusal::Usage(3))),
+        ("asm file", Err(Refusal::Usage(3))),
+        ("dis dis", Err(Refusal::Usage(3))),
+        ("dis -- file", Err(Refusal::Usage(3))),
+        ("dis help", Err(Refusal::Usage(3))),
+        ("dis -", Err(Refusal::Usage(3))),
+        ("dis ", Err(Refusal::Usage(3))),
+        ("check --trace", Err(Refusal::Usage(3))),
+        // `run`
+        (
+            "run --turns0 10 --turns1 0",
+            Ok(Command::Run { turns0: 10 }),
+        ),
+        ("run --turns0 0 --turns1 0", Ok(Command::Run { turns0: 0 })),
+        (
+            "run --turns0 1000000 --turns1 0",
+            Ok(Command::Run { turns0: 1_000_000 }),
+        ),
+        (
+            "run --turns0 000000000000000000000000000000010 --turns1 0",
+            Ok(Command::Run { turns0: 10 }),
+        ),
+        ("run --turns0 1000001 --turns1 0", Err(Refusal::Unbuilt)),
+        ("run --turns0 4294967306 --turns1 0", Err(Refusal::Unbuilt)),
+        (
+            "run --turns0 99999999999999999999 --turns1 0",
+            Err(Refusal::Unbuilt),
+        ),
+        ("run --turns0 x --turns1 0", Err(Refusal::Unbuilt)),
+        ("run --turns0  --turns1 0", Err(Refusal::Unbuilt)),
+        ("run --turns0 -5 --turns1 0", Err(Refusal::Unbuilt)),
+        ("run --turns0 +5 --turns1 0", Err(Refusal::Unbuilt)),
+        ("run --turns0 0x10 --turns1 0", Err(Refusal::Unbuilt)),
+        ("run --turns0 10 --turns1 1", Err(Refusal::Unbuilt)),
+        ("run --turns0 10 --turns1 00", Err(Refusal::Unbuilt)),
+        ("run --turns1 0 --turns0 10", Err(Refusal::Unbuilt)),
+        ("run --turns 10 --turns1 0", Err(Refusal::Unbuilt)),
+        ("run --turns0 10 --turns1", Err(Refusal::Unbuilt)),
+        ("run --turns0 10 --turns1 0 0", Err(Refusal::Unbuilt)),
+        ("run", Err(Refusal::Unbuilt)),
+        ("run --help", Err(Refusal::Unbuilt)),
+        // commands that are not there yet
+        ("record --turns0 10 --turns1 0", Err(Refusal::Unbuilt)),
+        ("replay jump", Err(Refusal::Unbuilt)),
+        ("gen 1", Err(Refusal::Unbuilt)),
+    ];
+    for (line, answer) in rows {
+        let words = words_of(alloc, line)?;
+        assert_eq!(rt; meaning(alloc, &words), answer, "{line:?}");
+    }
+    Ok(())
+}
+
+#[test]
+fn words_and_options(rt: HostRuntime) -> Result<(), Fail> {
+    let alloc = rt.alloc();
+    let plain = RunOptions {
+        turns0: 100_000,
+        turns1: 100_000,
+        entry1: None,
+        vecbase: 0x4008_0000,
+        stack0: Stack {
+            lo: 0x3FFF_0000,
+            hi: 0x3FFF_8000,
+        },
+        stack1: Stack {
+            lo: 0x3FFF_8000,
+            hi: 0x4000_0000,
+        },
+        trace: false,
+    };
+    let mut given = plain;
+    given.turns0 = 7;
+    given.turns1 = 0;
+    given.entry1 = Some(0x400D_0000);
+    given.vecbase = 0x4009_FC00;
+    given.stack0.lo = 0x3FFA_E000;
+    given.stack0.hi = 0x3FFA_E100;
+    given.stack1.lo = 0x3FFF_FF00;
+    let mut most = plain;
+    most.turns0 = 1_000_000;
+    let mut traced = plain;
+    traced.trace = true;
+    let rows = [
+        ("run", Ok(plain)),
+        ("run --", Ok(plain)),
+        ("run --turns0 1000000", Ok(most)),
+        ("run --turns0=0xF4240", Ok(most)),
+        ("run --turns0 0x000f4240", Ok(most)),
+        ("run --trace", Ok(traced)),
+        (
+            "run --stack1 0x3FFFFF00:0x40000000 --stack0 1073405952:0x3ffae100 --vecbase 0x4009FC00 --entry1 0x400D0000 --turns1 0 --turns0 007",
+            Ok(given),
+        ),
+        // they do not match
+        ("run file", Err(Refusal::Usage(3))),
+        ("run --help", Err(Refusal::Usage(3))),
+        ("run -h", Err(Refusal::Usage(3))),
+        ("run --version", Err(Refusal::Usage(3))),
+        ("run --turns0", Err(Refusal::Usage(3))),
+        ("run --turns0 -5", Err(Refusal::Usage(3))),
+        ("run --turns0 1 --turns0 1", Err(Refusal::Usage(3))),
+        ("run --trace=x", Err(Refusal::Usage(3))),
+        ("run --turns2 1", Err(Refusal::Usage(3))),
+        // no number, or no range
+        ("run --turns0 x", Err(Refusal::Usage(4))),
+        ("run --turns0=", Err(Refusal::Usage(4))),
+        ("run --turns0=-5", Err(Refusal::Usage(4))),
+        ("run --turns0 +5", Err(Refusal::Usage(4))),
+        ("run --turns1 0X10", Err(Refusal::Usage(4))),
+        ("run --turns1 0x", Err(Refusal::Usage(4))),
+        ("run --turns1 0x000000001", Err(Refusal::Usage(4))),
+        ("run --entry1 4294967296", Err(Refusal::Usage(4))),
+        ("run --vecbase 0x4008000g", Err(Refusal::Usage(4))),
+        ("run --stack0 0x3FFF0000", Err(Refusal::Usage(4))),
+        ("run --stack0 0x3FFF0000-0x3FFF8000", Err(Refusal::Usage(4))),
+        ("run --stack1 :0x40000000", Err(Refusal::Usage(4))),
+        (
+            "run --stack1 0x3FFF8000:0x40000000:0",
+            Err(Refusal::Usage(4)),
+        ),
+        ("run --turns1 1000001 --stack1 x", Err(Refusal::Usage(4))),
+        // a number of turns
+        ("run --turns0 1000001", Err(Refusal::Usage(5))),
+        (
+            "run --vecbase 1 --turns1 4294967295",
+            Err(Refusal::Usage(5)),
+        ),
+        // where core 1 begins
+        (
+            "run --entry1 0x3FFB0000 --vecbase 1",
+            Err(Refusal::Usage(6)),
+        ),
+        ("run --entry1 0x400A0000", Err(Refusal::Usage(6))),
+        ("run --entry1 0", Err(Refusal::Usage(6))),
+        // VECBASE
+        ("run --vecbase 0x40080010", Err(Refusal::Usage(7))),
+        ("run --stack0 0:0 --vecbase 512", Err(Refusal::Usage(7))),
+        // a stack
+        ("run --stack0 0x3FFADFF0:0x3FFF8000", Err(Refusal::Usage(8))),
+        ("run --stack0 0x3FFF0000:0x40000010", Err(Refusal::Usage(8))),
+        ("run --stack1 0x3FFF8008:0x40000000", Err(Refusal::Usage(8))),
+        ("run --stack1 0x3FFF8000:0x3FFFFFF8", Err(Refusal::Usage(8))),
+        ("run --stack1 0x3FFFFF10:0x40000000", Err(Refusal::Usage(8))),
+        ("run --stack1 0x3FFF8000:0x3FFF0000", Err(Refusal::Usage(8))),
+    ];
+    for (line, answer) in rows {
+        let words = words_of(alloc, line)?;
+        assert_eq!(rt; run_options(alloc, &words), answer, "{line:?}");
+    }
+    let words = words_of(alloc, "record --turns0 1000000")?;
+    assert_eq!(rt; record_options(alloc, &words), Ok(most));
+    let words = words_of(alloc, "record --trace")?;
+    assert_eq!(rt; record_options(alloc, &words), Err(Refusal::Usage(3)));
+    Ok(())
+}

@@ -1,0 +1,63 @@
+ghost use Rattle.std.specs.Prelude.{◌≡◌, ◌≢◌, IfOk, map, string_bytes};
+ghost use Rattle.xt_words.specs.Answers.{Means};
+ghost use Rattle.xt_words.specs.Meaning.{IsWithinLimits, MayWantMemory, meaning_of, named, run_meaning_of};
+ghost use Rattle.xt_words.specs.declared.command.Refusal.TheVariants.{Memory};
+
+use crate::command::{Command, Name, Refusal};
+use crate::run_words::ordered_turns;
+use crate::simple::without_options_meaning;
+use std::alloc::Global;
+
+#[tactic(auto, unfolding(crate::specs::Meaning::named))]
+fn name_of(word: &str) -> Option<Name>
+    ensures { result ≡ named word.now }
+{
+    match word {
+        "asm" => Some(Name::Assemble),
+        "dis" => Some(Name::Disassemble),
+        "check" => Some(Name::Check),
+        "run" => Some(Name::Run),
+        "record" | "replay" | "gen" => Some(Name::Planned),
+        _ => None,
+    }
+}
+
+fn run_meaning(words: &[String]) -> Result<Command, Refusal>
+    ensures means { result ≡ run_meaning_of (map string_bytes words.now) }
+    ensures limits { IfOk result IsWithinLimits }
+    ensures memory { result ≢ Err Memory }
+{
+    match ordered_turns(words) {
+        Some(turns0) => Ok(Command::Run { turns0 }),
+        None => Err(Refusal::Unbuilt),
+    }
+}
+
+/// The command with its options that the words behind the program's name say, or why they say none.
+///
+/// - No word is `Usage(1)`, and a first word that is no command `Usage(2)`.
+/// - `asm`, `dis` and `check` take no further word. Other words after them are `Usage(3)`, as far as `clap` does
+///   not take them: it takes one that is `--`.
+/// - `run` has the one form `run --turns0 N --turns1 0`, where N is one decimal digit or more for a number of at
+///   most 1,000,000. `run` in another form, `record`, `replay` and `gen` are `Unbuilt`.
+///
+/// `Memory` is want of memory alone.
+pub fn meaning(alloc: Global, words: &[String]) -> Result<Command, Refusal>
+    ensures means { Means result (meaning_of (map string_bytes words.now)) }
+    ensures limits { IfOk result IsWithinLimits }
+    ensures memory { result ≡ Err Memory → MayWantMemory (map string_bytes words.now) }
+{
+    let Some(word) = words.first() else {
+        return Err(Refusal::Usage(1));
+    };
+    match name_of(word.as_str()) {
+        None => Err(Refusal::Usage(2)),
+        Some(Name::Planned) => Err(Refusal::Unbuilt),
+        Some(Name::Run) => run_meaning(words),
+        Some(Name::Assemble) => { without_options_meaning(alloc, "asm", Command::Assemble, words) }
+        Some(Name::Disassemble) => {
+            without_options_meaning(alloc, "dis", Command::Disassemble, words)
+        }
+        Some(Name::Check) => without_options_meaning(alloc, "check", Command::Check, words),
+    }
+}
