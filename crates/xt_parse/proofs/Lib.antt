@@ -1,3 +1,6 @@
 pub mod WordLemmas
 pub mod ReadLemmas
 pub mod LineCuts
+pub mod ReadWeights
+pub mod LineWeights
+pub mod ParsedLemmas

@@ -3,3 +3,4 @@ pub mod Reading
 pub mod Statements
 pub mod Lines
 pub mod Gives
+pub mod Small

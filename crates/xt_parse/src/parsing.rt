@@ -1,8 +1,9 @@
-ghost use Rattle.std.specs.Prelude.{◌≡◌, ◌<◌, ◌≤◌, ◌==◌, ◌||◌, ◌∷◌, length, take, drop};
+ghost use Rattle.std.specs.Prelude.{◌≡◌, ◌<◌, ◌≤◌, ◌==◌, ◌||◌, ◌∷◌, length, take, drop, IfOk};
 ghost use Rattle.std.specs.List.{prefix_len};
 ghost use Rattle.xt_lex.specs.Tokens.{IsLexed};
 ghost use Rattle.xt_parse.specs.Statements.{column_behind, fault_column, line_of, number_of};
 ghost use Rattle.xt_parse.specs.Lines.{ArePlaced, ParsesLine, Parses, grouped, is_segment, parsed};
+ghost use Rattle.xt_parse.specs.Small.{IsParsed};
 
 use crate::line::{Line, Lines};
 use crate::lines::whole_parts;
@@ -101,9 +102,13 @@ fn has_begun(begun: bool, statement: &Statement) -> bool
 /// A line has this fault where it breaks the grammar, where a mnemonic, a directive or a register does not exist, where it has a token
 /// `Bad`, and where a label, or a statement other than `.seg` and `.entry`, stands before the first `.seg`. The fault's column is that
 /// of the first token that cannot continue the line, or the column behind the line's last token.
+///
+/// The numbers of the lines rise, and the lines, the terms of their expressions and the bytes of their strings are at most 1,048,576
+/// together.
 pub fn parse(alloc: Global, tokens: &Tokens) -> Result<Lines, AsmFault>
     requires { IsLexed tokens.now }
-    ensures { Parses result (parsed tokens.now) }
+    ensures lines { Parses result (parsed tokens.now) }
+    ensures small { IfOk result IsParsed }
 {
     let mut lines = Vec::new(alloc);
     let mut begun = false;

@@ -4,8 +4,9 @@ use Rattle.std.specs.Prelude.{nat_lt}
 use Rattle.std.proofs.lemmas.Bool.Decides.{nat_tests}
 use Rattle.xt_lex.specs.declared.fault.AsmPlace.{AsmPlace}
 use Rattle.xt_parse.specs.declared.line.Line.{Line}
+use Rattle.xt_parse.specs.Small.{AreAbove}
 use Rattle.xt_pool.specs.Around.{each, each_after}
-use Rattle.xt_pool.specs.Findings.{AreAbove, Finding, IsOf, LeastIsFirst, first, is_before, least, or_else, rank}
+use Rattle.xt_pool.specs.Findings.{Finding, IsOf, LeastIsFirst, first, is_before, least, or_else, rank}
 
 -- a finding is of a line above n
 abbrev IsAbove : ℕ → Finding → Type 0

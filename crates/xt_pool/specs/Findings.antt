@@ -1,8 +1,9 @@
 -- Faults, and which of them is the first. The kinds and their order are those of the assembly language ('profile').
-use Rattle.std.specs.Prelude.{◌≡◌, ℕ, ◌<◌, ◌==◌, Bool, ◌&&◌, ◌||◌, nat_lt, List, [], ◌∷◌, Option, Some, None, if◌then◌else◌}
+use Rattle.std.specs.Prelude.{◌≡◌, ℕ, ◌==◌, Bool, ◌&&◌, ◌||◌, nat_lt, List, [], ◌∷◌, Option, Some, None, if◌then◌else◌}
 use Rattle.std.specs.List.{position_or_len}
 use Rattle.xt_lex.specs.declared.fault.AsmPlace.{AsmPlace}
 use Rattle.xt_parse.specs.declared.line.Line.{Line}
+use Rattle.xt_parse.specs.Small.{AreAbove}
 use Rattle.xt_pool.specs.Around.{each}
 
 -- a fault, or nothing
@@ -45,11 +46,6 @@ abbrev pub least : Finding → Finding → Finding
 least None other = other
 least (Some x) None = Some x
 least (Some x) (Some y) = if is_before y x then Some y else Some x
-
--- the numbers of lines rise, and are above n
-abbrev pub AreAbove : ℕ → List Line → Type 0
-AreAbove n [] = Unit {0}
-AreAbove n (l ∷ rest) = (n < l.number) × AreAbove l.number rest
 
 -- a finding names the number of its line
 abbrev pub IsOf : Line → Finding → Type 0

@@ -4,6 +4,7 @@ use Rattle.xt_lex.specs.declared.token.Token.{Token}
 use Rattle.xt_parse.specs.Statements.{line_of}
 use Rattle.xt_parse.specs.Lines.{ArePlaced, grouped, lines_from, parsed}
 use Rattle.xt_parse.proofs.LineCuts.{behind_lines, line_goes_on, line_stops, no_line_is_left, fault_is_first, no_line_before, parsed_is}
+use Rattle.xt_parse.proofs.ParsedLemmas.{answer_is_parsed}
 use Rattle.xt_parse.proofs.parsing.parse.Goals as goal
 
 pub lines-init : goal.lines-init
@@ -16,8 +17,8 @@ lines-init c =
       placed = subst P (sym c.as_slice-rest.ensures) c.requires.placed;
     }
 
-pub returns-in-Err : goal.returns-in-Err
-returns-in-Err c =
+pub returns-in-Err-clause-lines : goal.returns-in-Err-clause-lines
+returns-in-Err-clause-lines c =
     let items = c.lines.lines.items in
     let begun = c.lines.begun in
     let group = c.split_at.result.0.now in
@@ -46,5 +47,10 @@ lines-preserved c =
       placed = subst P (sym c.split_at.ensures.back) (All-drop (λ (t : Token). t.column + t.width ≤ 1048577) c.group_width.result c.lines.rest.now c.lines.invariant.placed);
     }
 
-pub returns : goal.returns
-returns c = no_line_is_left c.lines.lines.items c.lines.begun c.lines.rest.now (parsed c.args.tokens.now) (sym c.lines-test.ensures) c.lines.invariant.read ∙ ap Ok (sym c.new.ensures)
+pub returns-clause-lines : goal.returns-clause-lines
+returns-clause-lines c = no_line_is_left c.lines.lines.items c.lines.begun c.lines.rest.now (parsed c.args.tokens.now) (sym c.lines-test.ensures) c.lines.invariant.read ∙ ap Ok (sym c.new.ensures)
+
+pub returns-clause-small : goal.returns-clause-small
+returns-clause-small c =
+    let whole : parsed c.args.tokens.now ≡ Ok c.lines.lines.items = no_line_is_left c.lines.lines.items c.lines.begun c.lines.rest.now (parsed c.args.tokens.now) (sym c.lines-test.ensures) c.lines.invariant.read in
+    answer_is_parsed c.args.tokens.now c.new.result c.requires (whole ∙ ap Ok (sym c.new.ensures))
