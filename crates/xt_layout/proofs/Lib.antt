@@ -7,3 +7,4 @@ pub mod Labelling
 pub mod Faulting
 pub mod Laying
 pub mod Naming
+pub mod Weighing

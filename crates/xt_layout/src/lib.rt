@@ -8,9 +8,11 @@ mod counts;
 mod fault;
 mod labels;
 mod laid;
+mod laws;
 mod region;
 mod size;
 mod spot;
 mod spots;
 
 pub use laid::{Laid, layout};
+pub use laws::parsed_lines_are_small;

@@ -1,5 +1,5 @@
 -- What holds of the lines of a text of at most 1,048,576 bytes.
-use Rattle.std.proofs.Common.{◌≡◌, ◌+◌, ◌≤◌, ◌==◌, ℕ, suc, Bool, true, false, ◌||◌, if◌then◌else◌, List, [], ◌∷◌, Result, Ok, Err, IfOk, All, refl, sym, subst, arith, sum_by}
+use Rattle.std.proofs.Common.{◌≡◌, ◌+◌, ◌≤◌, ◌==◌, ℕ, suc, Bool, true, false, ◌||◌, if◌then◌else◌, List, [], ◌∷◌, length, Result, Ok, Err, IfOk, All, refl, sym, subst, arith, sum_by}
 use Rattle.std.proofs.lemmas.Bool.Decides.{nat_tests}
 use Rattle.std.proofs.lemmas.List.Elements.{All-nil, All-cons}
 use Rattle.std.proofs.lemmas.List.Sums.{sum_by-cons}
@@ -127,6 +127,11 @@ statement_is_short (statement.Insn name os) h = each_is operand_weight IsShortOp
 lines_are_short : (lines : List Line) → lines_weight lines ≤ 1048576 → All (λ (l : Line). HasShortExprs l.statement) lines
 lines_are_short lines h = each_is line_weight (λ (l : Line). HasShortExprs l.statement) 1048576 (λ l w. statement_is_short l.statement (omega arith)) lines h
 
+-- each line counts at least 1
+lines_are_few : (lines : List Line) → length lines ≤ lines_weight lines
+lines_are_few [] = omega arith
+lines_are_few (l ∷ rest) = omega (arith, lines_are_few rest, sum_by-cons line_weight l rest)
+
 -- ---- the text
 
 pub lines_are_parsed : (tokens : List Token) → IsLexed tokens → IfOk (parsed tokens) IsParsed
@@ -137,7 +142,7 @@ lines_are_parsed tokens lexed = by_lines (lines_from false (grouped tokens)) (li
     few = omega (arith, groups_weigh tokens, lexed.few)
 
     by_lines : (read : Lines) → IfOk read (AreLinesOf 0 (groups_weight (grouped tokens))) → IfOk read IsParsed
-    by_lines (Ok lines) h = record { numbered = h.0; total = omega (arith, few, h.1); short = lines_are_short lines (omega (arith, few, h.1)) }
+    by_lines (Ok lines) h = record { numbered = h.0; few = omega (arith, few, h.1, lines_are_few lines); total = omega (arith, few, h.1); short = lines_are_short lines (omega (arith, few, h.1)) }
     by_lines (Err place) h = tt
 
 -- what was returned is this

@@ -63,7 +63,9 @@ HasShortExprs _ = Unit {0}
 pub record IsParsed (lines : List Line) : Type 0 where
   -- the numbers of the lines rise, from 1 on
   pub numbered : AreAbove 0 lines
-  -- the lines, the terms of their expressions and the bytes of their strings are no more than the bytes of the text
+  -- the lines are no more than the bytes of the text
+  pub few : length lines ≤ 1048576
+  -- nor are the lines, the terms of their expressions and the bytes of their strings together
   pub total : sum_by line_weight lines ≤ 1048576
-  -- no expression has more terms than that
+  -- nor are the terms of any one expression
   pub short : All (λ (l : Line). HasShortExprs l.statement) lines

@@ -1,11 +1,11 @@
 -- The least of two first faults.
-use Rattle.std.proofs.Common.{◌≡◌, Bool, true, false, ◌&&◌, ◌||◌, List, [], ◌∷◌, ◌++◌, refl, sym, ap, ◌∙◌, ℕ, ◌+◌, ◌<◌, ◌≤◌, Option, Some, None, if◌then◌else◌, arith, ltb, eqb}
+use Rattle.std.proofs.Common.{◌≡◌, true, false, ◌&&◌, ◌||◌, List, [], ◌∷◌, ◌++◌, refl, ap, ℕ, ◌<◌, ◌≤◌, Some, None, if◌then◌else◌, arith, eqb}
 use Rattle.std.specs.Prelude.{nat_lt}
 use Rattle.std.proofs.lemmas.Bool.Decides.{nat_tests}
 use Rattle.xt_lex.specs.declared.fault.AsmPlace.{AsmPlace}
 use Rattle.xt_parse.specs.declared.line.Line.{Line}
 use Rattle.xt_parse.specs.Small.{AreAbove}
-use Rattle.xt_pool.specs.Around.{each, each_after}
+use Rattle.xt_pool.specs.Around.{each_after}
 use Rattle.xt_pool.specs.Findings.{Finding, IsOf, LeastIsFirst, first, is_before, least, or_else, rank}
 
 -- a finding is of a line above n

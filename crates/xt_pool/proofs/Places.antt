@@ -1,5 +1,5 @@
 -- The words of pools are at most as many as the lines, and their positions and lines are places among the lines.
-use Rattle.std.proofs.Common.{◌≡◌, Bool, true, false, not, ◌||◌, List, [], ◌∷◌, ◌++◌, refl, sym, ap, ◌∙◌, subst, cond, ℕ, ◌+◌, ◌<◌, ◌≤◌, length, suc, Option, Some, None, if◌then◌else◌, arith, length-append}
+use Rattle.std.proofs.Common.{◌≡◌, Bool, true, false, not, ◌||◌, List, [], ◌∷◌, ◌++◌, refl, cond, ℕ, ◌+◌, ◌<◌, ◌≤◌, length, suc, Option, Some, None, if◌then◌else◌, arith, length-append}
 use Rattle.std.specs.Prelude.{filter, option_to_list}
 use Rattle.std.specs.List.{flat_map, AllByRecursion, All}
 use Rattle.std.specs.Option.{option_map}

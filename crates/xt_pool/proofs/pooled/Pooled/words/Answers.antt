@@ -1,4 +1,4 @@
-use Rattle.std.proofs.Common.{◌≡◌, ◌≤◌, List, length, ap, sym, ◌∙◌, subst}
+use Rattle.std.proofs.Common.{◌≤◌, List, length, ap, sym, ◌∙◌, subst}
 use Rattle.std.specs.List.{All}
 use Rattle.xt_pool.specs.declared.word.PoolWord.{PoolWord}
 use Rattle.xt_pool.specs.Pools.{words_of, IsAmong}
