@@ -1,0 +1,13 @@
+pub mod Encoding
+pub mod EncodingBytes
+pub mod EncodingControl
+pub mod EncodingDensity
+pub mod EncodingFormats
+pub mod EncodingMemory
+pub mod EncodingParts
+pub mod EncodingShift
+pub mod EncodingSystem
+pub mod EncodingThree
+pub mod EncodingWords
+pub mod WordLemmas
+pub mod WordLengths
