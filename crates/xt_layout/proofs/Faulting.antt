@@ -1,5 +1,6 @@
 -- The faults of a line, from what is known of the lines before it.
-use Rattle.std.proofs.Common.{◌≡◌, List, [], ◌∷◌, ◌++◌, refl, sym, ap, ◌∙◌, subst, ℕ, ◌+◌, ◌^◌, ◌<◌, ◌≤◌, Bool, true, false, cond, ◌||◌, ◌&&◌, length, take, get_or, Option, Some, if◌then◌else◌, arith}
+use Rattle.std.proofs.Common.{◌≡◌, List, [], ◌∷◌, ◌++◌, refl, sym, ap, ◌∙◌, subst, ℕ, ◌+◌, ◌^◌, ◌<◌, ◌≤◌, Bool, true, false, cond, ◌||◌, ◌&&◌, length, take, get_or, Option, Some, None, if◌then◌else◌, arith}
+use Rattle.std.specs.Prelude.{not, ◌-◌}
 use Rattle.std.specs.List.{list_any}
 use Rattle.std.specs.Str.{bytes_eq}
 use Rattle.std.proofs.lemmas.List.{length-take-le}
@@ -16,9 +17,9 @@ use Rattle.xt_layout.specs.declared.spot.Spot.{Spot}
 use Rattle.xt_layout.specs.declared.spot.Span.{Span}
 use Rattle.xt_layout.specs.Addresses.{label_name, literal_name}
 use Rattle.xt_layout.specs.Bounds.{ArePools}
-use Rattle.xt_layout.specs.Faults.{again, defines, has_entry, is_entry, is_last, is_misaligned, is_outside, is_too_many, layout_fault, layout_faults, names_at, overlaps, segments_in, twice}
-use Rattle.xt_layout.specs.Sizes.{pool_size}
-use Rattle.xt_layout.specs.Spans.{spans_of}
+use Rattle.xt_layout.specs.Faults.{again, defines, has_entry, is_empty, is_entry, is_last, is_misaligned, is_outside, is_too_many, layout_fault, layout_faults, leaves, names_at, overlaps, segments_in, twice}
+use Rattle.xt_layout.specs.Sizes.{padding, pool_size, size}
+use Rattle.xt_layout.specs.Spans.{span, spans_of}
 use Rattle.xt_layout.specs.Spots.{spot_at}
 use Rattle.xt_layout.proofs.Each.{Finds, next}
 
@@ -90,6 +91,28 @@ faults_here lines words pools spans names entry segments k l here last rest lt p
     ∙ ap (λ n. first (twice (defines (take k lines)) (has_entry (take k lines)) l ∷ is_too_many (segments_in (take k lines)) l ∷ is_misaligned (spot_at words (take k lines) l) l ∷ is_outside n (spot_at words (take k lines) l) l last ∷ overlaps spans (segments_in (take k lines)) l ∷ [])) (pools_are.sizes k lt ∙ ap (pool_size words) (sym long))
     ∙ ap (λ b. first (twice (defines (take k lines)) (has_entry (take k lines)) l ∷ is_too_many (segments_in (take k lines)) l ∷ is_misaligned (spot_at words (take k lines) l) l ∷ is_outside (pool_size words (length (take k lines))) (spot_at words (take k lines) l) l b ∷ overlaps spans (segments_in (take k lines)) l ∷ [])) last_is
     ∙ ap (λ s. first (twice (defines (take k lines)) (has_entry (take k lines)) l ∷ is_too_many (segments_in (take k lines)) l ∷ is_misaligned (spot_at words (take k lines) l) l ∷ is_outside (pool_size words (length (take k lines))) (spot_at words (take k lines) l) l (is_last rest) ∷ overlaps s (segments_in (take k lines)) l ∷ [])) spans_are
+
+-- ---- the zeros that pad a segment count to a statement alone
+
+and_twice : (e b : Bool) → (not e && (not e && b)) ≡ (not e && b)
+and_twice true b = refl
+and_twice false b = refl
+
+outside_once : (pool : ℕ) (here : Option Spot) (l : Line) (b : Bool) → is_outside pool here l (not (is_empty l.statement) && b) ≡ is_outside pool here l b
+outside_once pool None l b = refl
+outside_once pool (Some p) l b =
+    let end = p.at + size pool p.at l.statement in
+    ap (λ pads. fails (leaves p.start (span p.at (if pads then end + padding 4 (end - p.start) else end))) (at_statement l 6)) (and_twice (is_empty l.statement) b)
+
+-- the same, where the line looks ahead only if it has a statement
+pub faults_ahead : (lines : List Line) (words : List PoolWord) (pools : List ℕ) (spans : List Span) (names : Name → Bool) (entry : Bool) (segments k : ℕ) (l : Line) (here : Option Spot) (last : Bool) (rest : List Line) → k < length lines →
+    ArePools words (length lines) pools → spans ≡ spans_of lines → here ≡ spot_at words (take k lines) l → last ≡ (not (is_empty l.statement) && is_last rest) → Knows names entry segments (take k lines) →
+    first (twice names entry l ∷ is_too_many segments l ∷ is_misaligned here l ∷ is_outside (get_or pools k 0) here l last ∷ overlaps spans segments l ∷ [])
+    ≡ line_faults lines words (take k lines) l rest
+faults_ahead lines words pools spans names entry segments k l here last rest lt pools_are spans_are here_is last_is knows =
+    ap (λ b. first (twice names entry l ∷ is_too_many segments l ∷ is_misaligned here l ∷ is_outside (get_or pools k 0) here l b ∷ overlaps spans segments l ∷ [])) last_is
+    ∙ ap (λ x. first (twice names entry l ∷ is_too_many segments l ∷ is_misaligned here l ∷ x ∷ overlaps spans segments l ∷ [])) (outside_once (get_or pools k 0) here l (is_last rest))
+    ∙ faults_here lines words pools spans names entry segments k l here (is_last rest) rest lt pools_are spans_are here_is refl knows
 
 -- the first fault of the text, before any line is looked at
 pub none_yet : (lines : List Line) (words : List PoolWord) → words ≡ words_of lines → Finds (line_faults lines words) 0 lines (layout_fault lines)

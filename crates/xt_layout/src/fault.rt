@@ -1,4 +1,4 @@
-ghost use Rattle.std.specs.Prelude.{◌≡◌, ℕ, ◌+◌, ◌*◌, ◌^◌, ◌<◌, ◌≤◌, ◌||◌, ◌&&◌, length, OnOk, IfOk, All, [], ◌∷◌, take, slice_get, false, if◌then◌else◌};
+ghost use Rattle.std.specs.Prelude.{◌≡◌, ℕ, ◌+◌, ◌*◌, ◌^◌, ◌<◌, ◌≤◌, ◌||◌, ◌&&◌, not, length, OnOk, IfOk, All, [], ◌∷◌, take, slice_get, false, if◌then◌else◌};
 ghost use Rattle.std.specs.Option.{option_map_or};
 ghost use Rattle.std.specs.List.{list_any};
 ghost use Rattle.std.specs.Str.{bytes_eq};
@@ -158,6 +158,13 @@ fn is_last(rest: &[Line]) -> bool
         }
     }
     true
+}
+
+/// Whether a line has a statement, and none follows in the segment. Only a statement looks ahead, so that the time stays linear.
+fn ends_segment(line: &Line, rest: &[Line]) -> bool
+    ensures { result ≡ (not (is_empty line.now.statement) && is_last rest.now) }
+{
+    !matches!(line.statement, Statement::Empty) && is_last(rest)
 }
 
 /// The bytes of a statement; the zeros that pad the segment count to its last statement.
@@ -343,7 +350,7 @@ pub(crate) fn fault_of(
         segments: 0,
     };
     for (k, line) in lines.iter().enumerate() {
-        let last = is_last(&lines[k + 1..]);
+        let last = ends_segment(line, &lines[k + 1..]);
         if let Some(place) = line_fault(&before, spans, pools[k], spots[k], line, last) {
             return Ok(Some(place));
         }

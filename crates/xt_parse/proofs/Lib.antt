@@ -4,3 +4,4 @@ pub mod LineCuts
 pub mod ReadWeights
 pub mod LineWeights
 pub mod ParsedLemmas
+pub mod SegmentStarts
