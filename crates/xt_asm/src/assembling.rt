@@ -1,0 +1,44 @@
+//! From a text to its image.
+ghost use Rattle.std.specs.Prelude.{◌≡◌, ◌≤◌, length, IfOk};
+ghost use Rattle.xt_lex.specs.Tokens.{tokens_of};
+ghost use Rattle.xt_parse.specs.Lines.{Parses, parsed};
+ghost use Rattle.xt_parse.specs.Small.{IsParsed};
+ghost use Rattle.xt_image.specs.Parts.{IsWellFormed};
+ghost use Rattle.xt_asm.specs.Images.{Assembles};
+
+use crate::image::image_of;
+use std::alloc::Global;
+use xt_image::Image;
+use xt_layout::layout;
+use xt_lex::{AsmFault, lex};
+use xt_parse::{Lines, parse};
+use xt_pool::place;
+
+/// The lines of a text.
+fn lines_of(alloc: Global, text: &[u8]) -> Result<Lines, AsmFault>
+    requires { length text.now ≤ 1048576 }
+    ensures lines { Parses result (parsed (tokens_of text.now)) }
+    ensures small { IfOk result IsParsed }
+{
+    let tokens = lex(alloc, text)?;
+    parse(alloc, &tokens)
+}
+
+/// The image of an assembly text of at most 1,048,576 bytes, or the first fault of the text.
+///
+/// If any line breaks the grammar, the first such line is the fault (kind 8). Else it is the first line that has a fault, with
+/// the first of its kinds in the order 4, 1, 2, 5, 6, 7, 3; else kind 9 where there is no `.entry` or no `.seg`. The head of
+/// the image has flash mode 2, size byte 0x20, write-protect pin 0xEE and greatest revision 0xFFFF, and a digest is wanted.
+pub fn assemble(alloc: Global, text: &[u8]) -> Result<Image, AsmFault>
+    requires { length text.now ≤ 1048576 }
+    ensures exact { Assembles result text.now }
+    ensures well_formed { IfOk result IsWellFormed }
+{
+    let lines = match lines_of(alloc, text) {
+        Ok(lines) => lines,
+        Err(fault) => return Err(fault),
+    };
+    let pooled = place(alloc, lines)?;
+    let laid = layout(alloc, &pooled)?;
+    image_of(alloc, &pooled, &laid)
+}

@@ -1,0 +1,342 @@
+//! The faults of a line that no earlier pass finds.
+ghost use Rattle.std.specs.Prelude.{◌≡◌, All, Some};
+ghost use Rattle.std.specs.List.{list_any};
+ghost use Rattle.xt_expr.specs.Values.{HaveAddresses};
+ghost use Rattle.xt_map.specs.Regions.{is_executable, region_of};
+ghost use Rattle.xt_parse.specs.Small.{HasShortExprs, IsShort, IsShortOperand};
+ghost use Rattle.xt_pool.specs.Findings.{at_statement};
+ghost use Rattle.xt_layout.specs.Sizes.{is_alignment};
+ghost use Rattle.xt_asm.specs.Kinds.{fits_byte, fits_word, has_misfit, has_no_word, has_unknown, is_code, is_misaligned_target, is_out_of_reach, is_range, is_stray_entry, is_unknown, is_unknown_operand, lacks_word, misfits, misfits_pool};
+ghost use Rattle.xt_asm.specs.Contexts.{own_fault, site_of};
+
+use crate::operands::{Context, Made, special_in, value_of};
+use xt_expr::{Expr, Labels};
+use xt_lex::AsmPlace;
+use xt_map::region;
+use xt_map::regions::Region;
+use xt_mnemonic::{Access, OperandFault, access_of};
+use xt_parse::{Line, Operand, Statement};
+
+// ---- Unknown
+
+/// Whether an expression has a label that no line defines.
+fn is_unknown(labels: &Labels, e: &Expr) -> bool
+    requires short { IsShort e.now }
+    requires addresses { HaveAddresses labels.now }
+    ensures { result ≡ is_unknown labels.now e.now }
+{
+    value_of(labels, e).is_none()
+}
+
+/// Whether one of some expressions has a label that no line defines.
+fn any_unknown(labels: &Labels, exprs: &[Expr]) -> bool
+    requires short { All IsShort exprs.now }
+    requires addresses { HaveAddresses labels.now }
+    ensures { result ≡ list_any (is_unknown labels.now) exprs.now }
+{
+    for e in exprs {
+        if is_unknown(labels, e) {
+            return true;
+        }
+    }
+    false
+}
+
+/// Whether an operand of a mnemonic with this access has an unknown label, or names no special register.
+fn is_unknown_operand(labels: &Labels, access: Option<Access>, operand: &Operand) -> bool
+    requires short { IsShortOperand operand.now }
+    requires addresses { HaveAddresses labels.now }
+    ensures { result ≡ is_unknown_operand labels.now access operand.now }
+{
+    match operand {
+        Operand::Reg(_) => false,
+        Operand::Value(e) => match access {
+            Some(access) => special_in(access, e).is_none(),
+            None => is_unknown(labels, e),
+        },
+        Operand::Pool(e) => is_unknown(labels, e),
+    }
+}
+
+/// Whether one of the operands of a mnemonic with this access is unknown.
+fn any_unknown_operand(labels: &Labels, access: Option<Access>, operands: &[Operand]) -> bool
+    requires short { All IsShortOperand operands.now }
+    requires addresses { HaveAddresses labels.now }
+    ensures { result ≡ list_any (is_unknown_operand labels.now access) operands.now }
+{
+    for operand in operands {
+        if is_unknown_operand(labels, access, operand) {
+            return true;
+        }
+    }
+    false
+}
+
+/// Whether a statement has an unknown label or names no special register.
+fn has_unknown(labels: &Labels, statement: &Statement) -> bool
+    requires short { HasShortExprs statement.now }
+    requires addresses { HaveAddresses labels.now }
+    ensures { result ≡ has_unknown labels.now statement.now }
+{
+    match statement {
+        Statement::Entry(e) | Statement::Literal(_, e) => is_unknown(labels, e),
+        Statement::Words(values) | Statement::Bytes(values) => {
+            any_unknown(labels, values.as_slice())
+        }
+        Statement::Insn(name, operands) => {
+            any_unknown_operand(labels, access_of(name.as_slice()), operands.as_slice())
+        }
+        _ => false,
+    }
+}
+
+// ---- Range
+
+/// Whether a value is -2^31 to 2^32 - 1.
+fn fits_word(value: i64) -> bool
+    ensures { result ≡ fits_word value }
+{
+    -0x8000_0000 <= value && value <= 0xFFFF_FFFF
+}
+
+/// Whether a value is -128 to 255.
+fn fits_byte(value: i64) -> bool
+    ensures { result ≡ fits_byte value }
+{
+    -128 <= value && value <= 255
+}
+
+/// Whether the value of an expression is known and no word can hold it.
+fn misfits_word(labels: &Labels, e: &Expr) -> bool
+    requires short { IsShort e.now }
+    requires addresses { HaveAddresses labels.now }
+    ensures { result ≡ misfits fits_word labels.now e.now }
+{
+    match value_of(labels, e) {
+        Some(value) => !fits_word(value),
+        None => false,
+    }
+}
+
+/// Whether the value of an expression is known and no byte can hold it.
+fn misfits_byte(labels: &Labels, e: &Expr) -> bool
+    requires short { IsShort e.now }
+    requires addresses { HaveAddresses labels.now }
+    ensures { result ≡ misfits fits_byte labels.now e.now }
+{
+    match value_of(labels, e) {
+        Some(value) => !fits_byte(value),
+        None => false,
+    }
+}
+
+/// Whether no word can hold one of some values.
+fn any_misfits_word(labels: &Labels, exprs: &[Expr]) -> bool
+    requires short { All IsShort exprs.now }
+    requires addresses { HaveAddresses labels.now }
+    ensures { result ≡ list_any (misfits fits_word labels.now) exprs.now }
+{
+    for e in exprs {
+        if misfits_word(labels, e) {
+            return true;
+        }
+    }
+    false
+}
+
+/// Whether no byte can hold one of some values.
+fn any_misfits_byte(labels: &Labels, exprs: &[Expr]) -> bool
+    requires short { All IsShort exprs.now }
+    requires addresses { HaveAddresses labels.now }
+    ensures { result ≡ list_any (misfits fits_byte labels.now) exprs.now }
+{
+    for e in exprs {
+        if misfits_byte(labels, e) {
+            return true;
+        }
+    }
+    false
+}
+
+/// Whether an operand is a use of the pool whose value no word can hold.
+fn misfits_pool(labels: &Labels, operand: &Operand) -> bool
+    requires short { IsShortOperand operand.now }
+    requires addresses { HaveAddresses labels.now }
+    ensures { result ≡ misfits_pool labels.now operand.now }
+{
+    match operand {
+        Operand::Pool(e) => misfits_word(labels, e),
+        _ => false,
+    }
+}
+
+/// Whether one of some operands is such a use.
+fn any_misfits_pool(labels: &Labels, operands: &[Operand]) -> bool
+    requires short { All IsShortOperand operands.now }
+    requires addresses { HaveAddresses labels.now }
+    ensures { result ≡ list_any (misfits_pool labels.now) operands.now }
+{
+    for operand in operands {
+        if misfits_pool(labels, operand) {
+            return true;
+        }
+    }
+    false
+}
+
+/// Whether a number is a power of two from 1 to 1024.
+pub(crate) fn is_alignment(n: u32) -> bool
+    ensures { result ≡ is_alignment n }
+{
+    matches!(n, 1 | 2 | 4 | 8 | 16 | 32 | 64 | 128 | 256 | 512 | 1024)
+}
+
+/// Whether a statement has a value that its bytes cannot hold, or an alignment that is none.
+fn has_misfit(labels: &Labels, statement: &Statement) -> bool
+    requires short { HasShortExprs statement.now }
+    requires addresses { HaveAddresses labels.now }
+    ensures { result ≡ has_misfit labels.now statement.now }
+{
+    match statement {
+        Statement::Literal(_, e) => misfits_word(labels, e),
+        Statement::Words(values) => any_misfits_word(labels, values.as_slice()),
+        Statement::Bytes(values) => any_misfits_byte(labels, values.as_slice()),
+        Statement::Align(n) => !is_alignment(*n),
+        Statement::Insn(_, operands) => any_misfits_pool(labels, operands.as_slice()),
+        _ => false,
+    }
+}
+
+/// Whether an operand is outside its row's range.
+fn is_range(made: &Made) -> bool
+    ensures { result ≡ is_range made.now }
+{
+    matches!(made, Some(Err(OperandFault::Range)))
+}
+
+// ---- Misaligned
+
+/// Whether the target of a call or L32R is no multiple of 4.
+fn is_misaligned_target(made: &Made) -> bool
+    ensures { result ≡ is_misaligned_target made.now }
+{
+    matches!(made, Some(Err(OperandFault::Misaligned)))
+}
+
+// ---- OutOfMap
+
+/// Whether an address is in an executable region.
+fn is_executable(address: u32) -> bool
+    ensures { result ≡ is_executable (region_of address) }
+{
+    matches!(
+        region(address),
+        Some(Region::Iram | Region::RtcFastCode | Region::Irom)
+    )
+}
+
+/// Whether a value is an address in an executable region.
+fn is_code(value: i64) -> bool
+    ensures { result ≡ is_code value }
+{
+    if value < 0 {
+        return false;
+    }
+    if value > 0xFFFF_FFFF {
+        return false;
+    }
+    is_executable(value as u32)
+}
+
+/// Whether a statement is an `.entry` that is no address in an executable region.
+fn is_stray_entry(labels: &Labels, statement: &Statement) -> bool
+    requires short { HasShortExprs statement.now }
+    requires addresses { HaveAddresses labels.now }
+    ensures { result ≡ is_stray_entry labels.now statement.now }
+{
+    match statement {
+        Statement::Entry(e) => match value_of(labels, e) {
+            Some(value) => !is_code(value),
+            None => false,
+        },
+        _ => false,
+    }
+}
+
+// ---- PoolReach
+
+/// Whether an operand is a use of the pool that has no word.
+fn lacks_word(context: &Context<'_>, operand: &Operand) -> bool
+    ensures { result ≡ lacks_word (site_of context.now) operand.now }
+{
+    match operand {
+        Operand::Pool(_) => context.target.is_none(),
+        _ => false,
+    }
+}
+
+/// Whether one of some operands is such a use.
+fn any_lacks_word(context: &Context<'_>, operands: &[Operand]) -> bool
+    ensures { result ≡ list_any (lacks_word (site_of context.now)) operands.now }
+{
+    for operand in operands {
+        if lacks_word(context, operand) {
+            return true;
+        }
+    }
+    false
+}
+
+/// Whether a statement has such a use.
+fn has_no_word(context: &Context<'_>, statement: &Statement) -> bool
+    ensures { result ≡ has_no_word (site_of context.now) statement.now }
+{
+    match statement {
+        Statement::Insn(_, operands) => any_lacks_word(context, operands.as_slice()),
+        _ => false,
+    }
+}
+
+/// Whether an L32R does not reach its target.
+fn is_out_of_reach(made: &Made) -> bool
+    ensures { result ≡ is_out_of_reach made.now }
+{
+    matches!(made, Some(Err(OperandFault::OutOfReach)))
+}
+
+// ---- the first of them
+
+/// A fault of a line's statement.
+fn at_statement(line: &Line, kind: u8) -> Option<AsmPlace>
+    ensures { result ≡ Some (at_statement line.now kind) }
+{
+    Some(AsmPlace {
+        line: line.number,
+        column: line.column,
+        kind,
+    })
+}
+
+/// The first fault of a line that no earlier pass finds; `made` is its instruction.
+pub(crate) fn own_fault(context: &Context<'_>, line: &Line, made: &Made) -> Option<AsmPlace>
+    requires short { HasShortExprs line.now.statement }
+    requires addresses { HaveAddresses context.now.labels.now }
+    ensures { result ≡ own_fault (site_of context.now) line.now made.now }
+{
+    if has_unknown(context.labels, &line.statement) {
+        return at_statement(line, 1);
+    }
+    if has_misfit(context.labels, &line.statement) || is_range(made) {
+        return at_statement(line, 2);
+    }
+    if is_misaligned_target(made) {
+        return at_statement(line, 5);
+    }
+    if is_stray_entry(context.labels, &line.statement) {
+        return at_statement(line, 6);
+    }
+    if has_no_word(context, &line.statement) || is_out_of_reach(made) {
+        return at_statement(line, 3);
+    }
+    None
+}

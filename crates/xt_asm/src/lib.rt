@@ -1,0 +1,23 @@
+//! Assembly texts to application images.
+//!
+//! The assembly language is this project's own ('profile').
+#![tactic(auto)]
+
+mod assembling;
+mod image;
+mod kinds;
+pub mod laws;
+mod operands;
+mod pieces;
+mod segments;
+mod targets;
+mod walk;
+
+pub use assembling::assemble;
+
+#[cfg(test)]
+mod fault_tests;
+#[cfg(test)]
+mod good_tests;
+#[cfg(test)]
+mod spelling_tests;

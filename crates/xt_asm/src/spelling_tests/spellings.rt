@@ -1,0 +1,792 @@
+//! A text of instructions, and the bytes for which GNU's and QEMU's disassemblers give it, where they know the instruction.
+
+/// 746 instructions from 400D0000 on.
+pub const TEXT: &str = "\
+.seg 0x400D0000
+.entry 0x400D0000
+and a2, a15, a14
+and a6, a7, a5
+and a11, a0, a7
+and a13, a3, a3
+and a9, a12, a2
+and a9, a3, a10
+or a10, a9, a2
+or a10, a2, a13
+or a5, a9, a14
+or a15, a15, a15
+or a9, a1, a12
+or a5, a2, a0
+xor a10, a6, a8
+xor a13, a13, a3
+xor a2, a4, a10
+xor a8, a6, a15
+xor a13, a10, a3
+xor a2, a10, a13
+add a12, a10, a5
+add a1, a11, a9
+add a13, a15, a5
+add a9, a1, a10
+add a1, a8, a5
+add a3, a6, a7
+addx2 a6, a12, a3
+addx2 a6, a14, a1
+addx2 a6, a5, a4
+addx2 a11, a15, a9
+addx2 a6, a12, a11
+addx2 a0, a0, a2
+addx4 a7, a0, a15
+addx4 a2, a1, a15
+addx4 a2, a14, a11
+addx4 a5, a15, a12
+addx4 a2, a11, a10
+addx4 a5, a2, a1
+addx8 a2, a8, a6
+addx8 a3, a14, a6
+addx8 a15, a5, a1
+addx8 a0, a0, a0
+addx8 a10, a3, a6
+addx8 a12, a8, a5
+sub a2, a0, a15
+sub a9, a6, a13
+sub a11, a1, a3
+sub a12, a10, a1
+sub a6, a10, a0
+sub a8, a11, a13
+subx2 a2, a13, a8
+subx2 a13, a9, a8
+subx2 a15, a3, a5
+subx2 a3, a2, a6
+subx2 a15, a2, a0
+subx2 a12, a13, a1
+subx4 a6, a14, a3
+subx4 a9, a15, a10
+subx4 a0, a11, a13
+subx4 a6, a10, a11
+subx4 a15, a1, a12
+subx4 a14, a9, a15
+subx8 a8, a15, a9
+subx8 a4, a4, a8
+subx8 a7, a3, a11
+subx8 a5, a13, a1
+subx8 a0, a15, a3
+subx8 a10, a6, a15
+src a11, a15, a4
+src a5, a3, a5
+src a4, a4, a1
+src a1, a15, a13
+src a8, a1, a10
+src a3, a11, a6
+mul16u a14, a13, a12
+mul16u a2, a10, a3
+mul16u a2, a2, a5
+mul16u a14, a8, a4
+mul16u a3, a1, a0
+mul16u a4, a5, a3
+mul16s a9, a12, a6
+mul16s a12, a4, a7
+mul16s a4, a0, a1
+mul16s a15, a2, a2
+mul16s a0, a11, a4
+mul16s a5, a8, a8
+mull a4, a4, a6
+mull a12, a4, a8
+mull a7, a1, a13
+mull a10, a15, a11
+mull a2, a14, a2
+mull a1, a11, a0
+muluh a15, a14, a11
+muluh a9, a12, a12
+muluh a6, a2, a1
+muluh a11, a0, a10
+muluh a1, a11, a6
+muluh a14, a5, a6
+mulsh a7, a0, a0
+mulsh a6, a11, a0
+mulsh a0, a2, a14
+mulsh a14, a4, a2
+mulsh a2, a6, a15
+mulsh a13, a11, a7
+quou a14, a2, a4
+quou a2, a0, a6
+quou a3, a7, a5
+quou a4, a8, a9
+quou a11, a3, a0
+quou a11, a11, a10
+quos a3, a2, a8
+quos a8, a6, a3
+quos a14, a6, a11
+quos a7, a4, a4
+quos a4, a7, a11
+quos a3, a1, a5
+remu a12, a9, a14
+remu a6, a2, a8
+remu a3, a2, a10
+remu a15, a14, a15
+remu a0, a7, a13
+remu a13, a1, a13
+rems a14, a4, a12
+rems a3, a1, a3
+rems a4, a10, a5
+rems a9, a6, a9
+rems a9, a8, a11
+rems a5, a9, a8
+min a11, a3, a13
+min a4, a3, a15
+min a12, a13, a2
+min a2, a4, a15
+min a13, a13, a0
+min a6, a6, a4
+max a13, a2, a9
+max a2, a4, a8
+max a1, a10, a13
+max a6, a6, a7
+max a10, a2, a3
+max a4, a4, a7
+minu a10, a0, a8
+minu a2, a11, a14
+minu a3, a3, a4
+minu a9, a6, a11
+minu a15, a7, a3
+minu a9, a12, a1
+maxu a7, a13, a15
+maxu a3, a12, a7
+maxu a3, a14, a5
+maxu a9, a4, a14
+maxu a13, a4, a3
+maxu a12, a4, a2
+moveqz a9, a9, a11
+moveqz a12, a12, a6
+moveqz a9, a3, a10
+moveqz a2, a8, a8
+moveqz a8, a9, a1
+moveqz a1, a15, a4
+movnez a6, a15, a9
+movnez a11, a2, a0
+movnez a0, a8, a1
+movnez a14, a2, a8
+movnez a15, a0, a8
+movnez a14, a6, a12
+movltz a15, a10, a0
+movltz a0, a13, a8
+movltz a5, a5, a11
+movltz a7, a8, a13
+movltz a9, a3, a7
+movltz a0, a14, a1
+movgez a4, a15, a13
+movgez a12, a14, a12
+movgez a9, a11, a14
+movgez a10, a11, a5
+movgez a15, a1, a0
+movgez a5, a6, a11
+neg a6, a12
+neg a12, a10
+neg a3, a14
+neg a7, a14
+neg a2, a2
+neg a6, a8
+abs a0, a7
+abs a14, a10
+abs a14, a1
+abs a4, a13
+abs a9, a11
+abs a12, a4
+srl a5, a4
+srl a15, a1
+srl a12, a0
+srl a3, a8
+srl a13, a2
+srl a0, a5
+sra a11, a13
+sra a1, a10
+sra a10, a8
+sra a12, a0
+sra a9, a12
+sra a3, a7
+sll a13, a14
+sll a8, a4
+sll a3, a2
+sll a11, a3
+sll a7, a3
+sll a4, a8
+slli a2, a8, 30
+slli a9, a4, 18
+slli a8, a0, 16
+slli a9, a8, 2
+slli a5, a6, 24
+slli a13, a10, 28
+srai a8, a13, 6
+srai a2, a13, 26
+srai a7, a6, 29
+srai a0, a3, 30
+srai a13, a6, 20
+srai a12, a0, 15
+srli a2, a5, 15
+srli a10, a11, 6
+srli a15, a5, 13
+srli a8, a0, 10
+srli a14, a2, 9
+srli a13, a6, 13
+extui a13, a4, 13, 10
+extui a0, a13, 17, 5
+extui a4, a2, 14, 10
+extui a7, a2, 23, 3
+extui a4, a15, 15, 7
+extui a1, a8, 24, 9
+sext a1, a7, 15
+sext a5, a11, 16
+sext a11, a1, 17
+sext a7, a1, 21
+sext a13, a5, 19
+sext a5, a14, 21
+clamps a14, a6, 10
+clamps a14, a12, 9
+clamps a6, a1, 17
+clamps a4, a8, 20
+clamps a1, a6, 15
+clamps a9, a9, 20
+nsa a7, a14
+nsa a1, a15
+nsa a14, a7
+nsa a14, a12
+nsa a13, a5
+nsa a0, a14
+nsau a13, a5
+nsau a7, a9
+nsau a6, a11
+nsau a12, a3
+nsau a8, a13
+nsau a1, a5
+movsp a2, a7
+movsp a10, a14
+movsp a12, a6
+movsp a1, a11
+movsp a0, a1
+movsp a9, a5
+ssr a0
+ssr a8
+ssr a9
+ssr a1
+ssr a15
+ssr a12
+ssl a15
+ssl a13
+ssl a7
+ssl a6
+ssl a8
+ssl a3
+ssa8l a4
+ssa8l a1
+ssa8l a14
+ssa8l a13
+ssa8l a10
+ssa8l a0
+ssa8b a3
+ssa8b a2
+ssa8b a6
+ssa8b a8
+ssa8b a0
+ssa8b a9
+ssai 31
+ssai 13
+ssai 19
+ssai 15
+ssai 4
+ssai 22
+l8ui a8, a12, 244
+l8ui a4, a8, 84
+l8ui a1, a6, 0
+l8ui a2, a9, 162
+l8ui a1, a15, 241
+l8ui a11, a6, 162
+s8i a8, a9, 26
+s8i a8, a14, 98
+s8i a5, a13, 146
+s8i a0, a8, 1
+s8i a8, a15, 191
+s8i a9, a4, 199
+l16ui a15, a3, 452
+l16ui a14, a7, 480
+l16ui a13, a9, 68
+l16ui a5, a6, 110
+l16ui a7, a4, 456
+l16ui a15, a11, 482
+l16si a3, a11, 4
+l16si a13, a14, 270
+l16si a6, a10, 88
+l16si a13, a3, 468
+l16si a12, a12, 402
+l16si a6, a3, 228
+s16i a1, a8, 186
+s16i a9, a4, 502
+s16i a4, a4, 210
+s16i a13, a4, 268
+s16i a11, a6, 406
+s16i a8, a14, 316
+l32i a15, a8, 292
+l32i a2, a9, 464
+l32i a13, a2, 816
+l32i a15, a4, 944
+l32i a10, a6, 264
+l32i a6, a2, 432
+s32i a1, a0, 140
+s32i a7, a10, 772
+s32i a15, a5, 12
+s32i a14, a1, 608
+s32i a9, a15, 572
+s32i a7, a12, 508
+l32ai a10, a12, 772
+l32ai a11, a14, 1004
+l32ai a1, a2, 920
+l32ai a5, a6, 472
+l32ai a5, a9, 580
+l32ai a3, a14, 596
+s32ri a7, a9, 520
+s32ri a1, a11, 924
+s32ri a7, a3, 1004
+s32ri a10, a9, 1020
+s32ri a1, a6, 192
+s32ri a1, a3, 892
+s32c1i a3, a6, 816
+s32c1i a0, a13, 0
+s32c1i a12, a10, 560
+s32c1i a9, a11, 768
+s32c1i a7, a7, 668
+s32c1i a5, a14, 192
+l32e a9, a14, -48
+l32e a8, a0, -32
+l32e a1, a4, -36
+l32e a4, a12, -24
+l32e a14, a7, -44
+l32e a15, a0, -12
+s32e a8, a8, -4
+s32e a0, a7, -8
+s32e a6, a4, -60
+s32e a5, a5, -28
+s32e a2, a0, -24
+s32e a8, a10, -28
+l32r a2, 0x4009043C
+l32r a14, 0x400D0438
+l32r a1, 0x4009044C
+l32r a13, 0x40090444
+l32r a10, 0x400B0444
+l32r a9, 0x40090448
+movi a0, 1484
+movi a0, -1453
+movi a4, -7
+movi a4, -1128
+movi a13, -1178
+movi a11, -640
+addi a11, a13, -3
+addi a15, a1, -8
+addi a14, a15, -87
+addi a5, a0, 89
+addi a4, a5, -6
+addi a0, a5, 45
+addmi a15, a11, -22016
+addmi a14, a1, 18432
+addmi a3, a5, -25600
+addmi a1, a7, 19200
+addmi a6, a5, 768
+addmi a1, a12, -29184
+j 0x400D0F2E
+j 0x400D05DC
+j 0x400D048C
+j 0x400D048C
+j 0x400D0491
+j 0x400D0493
+call0 0x40050494
+call0 0x40150494
+call0 0x400D09F0
+call0 0x400D0498
+call0 0x400D04A4
+call0 0x400D049C
+call4 0x400D04B0
+call4 0x400D09FC
+call4 0x400D04B0
+call4 0x400D04AC
+call4 0x400D04B4
+call4 0x400504B4
+call8 0x400D0A0C
+call8 0x400D04C0
+call8 0x400D2F68
+call8 0x400D04C0
+call8 0x400D04BC
+call8 0x400504C8
+call12 0x400D04D4
+call12 0x400D04C4
+call12 0x400D04CC
+call12 0x400D04D4
+call12 0x400504D8
+call12 0x400D2F80
+ret
+retw
+jx a4
+jx a11
+jx a14
+jx a1
+jx a12
+jx a13
+callx0 a6
+callx0 a5
+callx0 a4
+callx0 a3
+callx0 a7
+callx0 a9
+callx4 a10
+callx4 a9
+callx4 a15
+callx4 a6
+callx4 a2
+callx4 a4
+callx8 a13
+callx8 a7
+callx8 a8
+callx8 a15
+callx8 a3
+callx8 a4
+callx12 a0
+callx12 a8
+callx12 a5
+callx12 a2
+callx12 a3
+callx12 a1
+beqz a2, 0x400D0471
+beqz a9, 0x400D0A94
+beqz a12, 0x400D0421
+beqz a14, 0x400D0A0E
+beqz a3, 0x400D04F7
+beqz a13, 0x400D054D
+bnez a3, 0x400D05EE
+bnez a0, 0x400D0C7C
+bnez a0, 0x400D0D21
+bnez a2, 0x400D0318
+bnez a5, 0x400D0C37
+bnez a6, 0x400D055F
+bltz a1, 0x400D0569
+bltz a6, 0x400D0455
+bltz a2, 0x400D0C0B
+bltz a12, 0x400CFF8D
+bltz a5, 0x400D0568
+bltz a10, 0x400CFF7B
+bgez a4, 0x400D014A
+bgez a13, 0x400D0217
+bgez a15, 0x400D08D3
+bgez a15, 0x400D0766
+bgez a1, 0x400CFED2
+bgez a6, 0x400D074C
+beqi a3, 2, 0x400D0531
+beqi a10, 8, 0x400D05BD
+beqi a9, 1, 0x400D05EE
+beqi a6, 1, 0x400D0594
+beqi a1, 3, 0x400D05AE
+beqi a6, 5, 0x400D05C7
+bnei a12, 3, 0x400D057B
+bnei a0, 3, 0x400D05A1
+bnei a1, 32, 0x400D055A
+bnei a12, 3, 0x400D05ED
+bnei a14, 3, 0x400D05A9
+bnei a8, 256, 0x400D052A
+blti a10, 10, 0x400D0576
+blti a9, 128, 0x400D0596
+blti a13, 5, 0x400D05B5
+blti a6, 16, 0x400D05B3
+blti a14, 256, 0x400D05ED
+blti a6, 2, 0x400D0600
+bgei a15, -1, 0x400D05BA
+bgei a6, -1, 0x400D0628
+bgei a4, 6, 0x400D05ED
+bgei a4, 128, 0x400D060C
+bgei a0, 10, 0x400D054A
+bgei a4, 32, 0x400D05D1
+bltui a2, 8, 0x400D056A
+bltui a1, 6, 0x400D05F7
+bltui a14, 2, 0x400D0637
+bltui a12, 8, 0x400D05CC
+bltui a14, 3, 0x400D0592
+bltui a4, 16, 0x400D05AF
+bgeui a15, 2, 0x400D05E2
+bgeui a9, 6, 0x400D0613
+bgeui a3, 128, 0x400D05CD
+bgeui a4, 6, 0x400D0594
+bgeui a10, 3, 0x400D0609
+bgeui a2, 10, 0x400D065D
+bnone a13, a0, 0x400D05C1
+bnone a11, a4, 0x400D05BF
+bnone a8, a14, 0x400D0616
+bnone a12, a1, 0x400D060E
+bnone a11, a3, 0x400D05D5
+bnone a7, a6, 0x400D05C0
+beq a13, a3, 0x400D05FA
+beq a13, a11, 0x400D05F5
+beq a2, a7, 0x400D065F
+beq a10, a12, 0x400D0681
+beq a13, a1, 0x400D0609
+beq a13, a10, 0x400D060F
+blt a13, a10, 0x400D05A4
+blt a15, a2, 0x400D061C
+blt a1, a7, 0x400D05BC
+blt a0, a11, 0x400D05EF
+blt a14, a13, 0x400D0621
+blt a13, a6, 0x400D05B2
+bltu a9, a4, 0x400D066E
+bltu a5, a1, 0x400D060F
+bltu a14, a3, 0x400D0659
+bltu a0, a2, 0x400D0603
+bltu a0, a4, 0x400D0692
+bltu a6, a2, 0x400D05BC
+ball a13, a13, 0x400D063B
+ball a13, a14, 0x400D05F0
+ball a12, a0, 0x400D06A5
+ball a4, a11, 0x400D0645
+ball a13, a11, 0x400D05D6
+ball a10, a3, 0x400D0646
+bbc a9, a6, 0x400D0611
+bbc a9, a3, 0x400D06B8
+bbc a12, a11, 0x400D0650
+bbc a2, a15, 0x400D065F
+bbc a5, a8, 0x400D069F
+bbc a4, a15, 0x400D066C
+bany a9, a12, 0x400D0665
+bany a7, a7, 0x400D067C
+bany a2, a11, 0x400D06D9
+bany a12, a6, 0x400D0626
+bany a1, a13, 0x400D0656
+bany a0, a7, 0x400D06C4
+bne a1, a0, 0x400D0694
+bne a1, a8, 0x400D0677
+bne a11, a10, 0x400D06C3
+bne a8, a4, 0x400D06B8
+bne a11, a0, 0x400D067C
+bne a3, a1, 0x400D064F
+bge a14, a10, 0x400D0641
+bge a6, a6, 0x400D06BB
+bge a7, a12, 0x400D0686
+bge a6, a7, 0x400D063D
+bge a1, a2, 0x400D06FC
+bge a11, a11, 0x400D069F
+bgeu a11, a9, 0x400D0660
+bgeu a5, a6, 0x400D06C8
+bgeu a8, a10, 0x400D0629
+bgeu a0, a2, 0x400D06C2
+bgeu a2, a3, 0x400D0686
+bgeu a15, a4, 0x400D0682
+bnall a13, a3, 0x400D063D
+bnall a8, a13, 0x400D06A7
+bnall a10, a15, 0x400D0665
+bnall a9, a9, 0x400D06AC
+bnall a0, a1, 0x400D06E4
+bnall a0, a14, 0x400D065B
+bbs a13, a11, 0x400D06B9
+bbs a10, a6, 0x400D06BA
+bbs a11, a0, 0x400D0730
+bbs a5, a1, 0x400D069D
+bbs a4, a14, 0x400D064C
+bbs a6, a10, 0x400D06C4
+bbci a15, 23, 0x400D06D6
+bbci a6, 29, 0x400D067F
+bbci a4, 23, 0x400D0740
+bbci a4, 17, 0x400D06D4
+bbci a5, 30, 0x400D06EB
+bbci a14, 21, 0x400D0747
+bbsi a4, 17, 0x400D0723
+bbsi a2, 2, 0x400D06C0
+bbsi a15, 13, 0x400D0751
+bbsi a1, 23, 0x400D0677
+bbsi a4, 21, 0x400D0728
+bbsi a9, 14, 0x400D0718
+entry a11, 13976
+entry a0, 16648
+entry a4, 32720
+entry a9, 32728
+entry a9, 27680
+entry a1, 5032
+loop a10, 0x400D0720
+loop a11, 0x400D070A
+loop a14, 0x400D072A
+loop a9, 0x400D07CF
+loop a4, 0x400D0806
+loop a2, 0x400D0807
+loopnez a2, 0x400D0768
+loopnez a2, 0x400D071C
+loopnez a0, 0x400D0799
+loopnez a13, 0x400D07CE
+loopnez a15, 0x400D07DB
+loopnez a2, 0x400D074D
+loopgtz a5, 0x400D0814
+loopgtz a15, 0x400D0729
+loopgtz a0, 0x400D074D
+loopgtz a12, 0x400D0771
+loopgtz a4, 0x400D0788
+loopgtz a6, 0x400D07ED
+ill
+isync
+rsync
+esync
+dsync
+excw
+memw
+extw
+nop
+rfe
+rfde
+rfwo
+rfwu
+rfi 2
+rfi 4
+rfi 5
+rfi 7
+rfi 3
+rfi 6
+break 5, 14
+break 4, 0
+break 11, 11
+break 0, 2
+break 13, 5
+break 3, 6
+syscall
+rsil a15, 8
+rsil a3, 11
+rsil a0, 3
+rsil a1, 5
+rsil a1, 12
+rsil a4, 8
+waiti 7
+waiti 3
+waiti 12
+waiti 9
+waiti 11
+waiti 5
+rotw 1
+rotw -7
+rotw 5
+rotw 0
+rotw 7
+rotw -4
+rsr a9, excsave3
+rsr a5, lbeg
+rsr a2, ccount
+rsr a6, windowstart
+rsr a5, epc6
+rsr a11, exccause
+wsr a15, exccause
+wsr a3, eps3
+wsr a8, sar
+wsr a5, lcount
+wsr a4, windowstart
+wsr a15, epc2
+xsr a14, depc
+xsr a1, excsave4
+xsr a4, eps3
+xsr a3, windowbase
+xsr a15, sar
+xsr a2, eps6
+rur a1, threadptr
+rur a14, threadptr
+rur a15, threadptr
+rur a6, threadptr
+rur a2, threadptr
+rur a4, threadptr
+wur a10, threadptr
+wur a2, threadptr
+wur a4, threadptr
+wur a12, threadptr
+wur a13, threadptr
+wur a3, threadptr
+l32i.n a3, a11, 48
+l32i.n a5, a6, 0
+l32i.n a6, a1, 16
+l32i.n a4, a9, 40
+l32i.n a11, a3, 44
+l32i.n a9, a0, 24
+s32i.n a9, a1, 44
+s32i.n a0, a11, 4
+s32i.n a0, a9, 52
+s32i.n a9, a15, 24
+s32i.n a5, a14, 52
+s32i.n a14, a5, 32
+add.n a13, a4, a4
+add.n a14, a5, a14
+add.n a1, a5, a14
+add.n a11, a14, a15
+add.n a1, a8, a0
+add.n a10, a11, a0
+addi.n a6, a0, -1
+addi.n a8, a1, 2
+addi.n a2, a0, 2
+addi.n a0, a0, 10
+addi.n a10, a0, 7
+addi.n a14, a11, 7
+movi.n a13, -32
+movi.n a4, -4
+movi.n a3, -22
+movi.n a2, 37
+movi.n a6, 92
+movi.n a12, 25
+beqz.n a4, 0x400D088F
+beqz.n a2, 0x400D0885
+beqz.n a3, 0x400D085F
+beqz.n a11, 0x400D0890
+beqz.n a12, 0x400D087D
+beqz.n a14, 0x400D0864
+bnez.n a1, 0x400D0865
+bnez.n a7, 0x400D087A
+bnez.n a2, 0x400D0874
+bnez.n a3, 0x400D087A
+bnez.n a0, 0x400D0881
+bnez.n a12, 0x400D089F
+mov.n a15, a10
+mov.n a1, a2
+mov.n a9, a3
+mov.n a7, a11
+mov.n a10, a1
+mov.n a3, a7
+ret.n
+retw.n
+nop.n
+ill.n
+break.n 3
+break.n 13
+break.n 14
+break.n 0
+break.n 12
+break.n 1
+";
+
+/// Their 2180 bytes in hexadecimal digits.
+pub const BYTES: &str = "\
+E02F1050671070B01030D310209C10A0931020A920D0A220E05920F0FF20C0912000522080A63030DD30A02430F0863030DA30D02A3050CA80901B8050DF80A0
+9180501880703680306C90106E9040659090BF90B06C90200090F070A0F021A0B02EA0C05FA0A02BA01052A06028B0603EB010F5B00000B060A3B050C8B0F020
+C0D096C030B1C010CAC0006AC0D08BC0802DD080D9D050F3D06032D000F2D010CDD0306EE0A09FE0D00BE0B06AE0C0F1E0F0E9E0908FF08044F0B073F0105DF0
+300FF0F0A6F040BF81505381104481D01F81A08181603B81C0EDC1302AC15022C140E8C10031C13045C1609CD170C4D11040D120F2D1400BD18058D160448280
+C482D07182B0AF82202E82001B82B0FEA2C09CA21062A2A0B0A2601BA260E5A20070B2006BB2E002B220E4B2F026B270DBB240E2C26020C25037C29048C200B3
+C2A0BBC28032D23086D2B0E6D24074D2B047D25031D2E0C9E28062E2A032E2F0FEE2D007E2D0D1E2C0E4F23031F2504AF29096F2B098F28059F2D0B343F04343
+20CD43F0244300DD4340664390D253802453D01A5370665330A25370445380A063E02B63403363B0966330F763109C63F07D73703C73503E73E0947330D47320
+C473B0998360CC83A09383802883108983401F83906F9300B29310089380E29380F093C0E69300FAA3800DA3B055A3D078A37093A3100EA3D04FB3C0CEB3E09B
+B350ABB300F1B3B056B3C06060A0C060E03060E07060202060806060700160A0E16010E160D04160B0916040C16040509110F09100C09180309120D091500091
+D0B0B1A010B180A0B100C0B1C090B17030B100DEA10084A10032A100B3A10073A10048A1202801E09401008011E0981180560140DA01D08621D02A31607D3130
+0E3160D43100CF21502F41B0A64150FD41008A4120E94160DD4140DD94D00145204E94207725F04F64801885801723905B23A0B123E07123C0D523E05E2330E6
+3320EC33A06133D04833801633D0993370EE4010EF40E0E740E0EC40D0E54000EE40D0F54070F94060FB40C0F34080FD4010F540201700A01E00C01600101B00
+001100901500000040000840000940000140000F40000C40001F40001D40001740001640001840001340002440002140002E40002D40002A4000204000334000
+3240003640003840003040003940104F40004D40104340004F40004440104640820CF44208541206002209A2120FF1B206A282491A824E62524D92024801824F
+BF9244C7F213E2E217F0D219225216377214E4F21BF1329B02D29E87629A2CD293EAC29CC962937212585D9254FB425469D25486B256CB825E9EF22849222974
+D222CCF224ECA2264262226C126023726AC1F26503E26198926F8F726C7FA2BCC1B2BEFB12B2E652B67652B99132BE9572F98212FBE772F3FBA2F9FF12F63012
+F3DF32E6CC02ED00C2EA8C92EBC072E7A752EE30904E0980800910740940AC09E05709F0D00980F84900E74960144950954920A049809A49210100E1FFFF1103
+00D10000A1008091000002A5CC02AA5342AFF942AB98D2AB66B2AD80B2CDFDF2C1F8E2CFA952C05942C5FA02C52DF2DBAAE2D14832D59C12D74B62D50312DC8E
+86AA02465500860000C6FFFF460000060000050080C5FF7F455500C5FFFF45000085FFFF950000555500550000D5FFFF150000150080655500650000A5AA0225
+0000A5FFFF250080B50000B5FFFFF5FFFF350000350080B5AA02800000900000A00400A00B00A00E00A00100A00C00A00D00C00600C00500C00400C00300C007
+00C00900D00A00D00900D00F00D00600D00200D00400E00D00E00700E00800E00F00E00300E00400F00000F00800F00500F00200F00300F001001632F3163955
+16DCED167E4C16D3FA160D0056E30956907256B07C56F2DB56B56D5606009671009606EF96326A962CA296A5FF96AAA0D664BDD60DCAD69F35D69F1ED62195D6
+961C2623AB268A3426196226160526311C265632663CE366300666C1BC663C4C663E0566F883A69ACCA6E9E9A65D05A6B600A6FE37A62647E60FFEE60669E664
+2BE6E447E69082E6C406B6829CB66126B62E63B68CF5B63EB8B6B4D2F62F02F66930F6E3E7F664ABF63A1DF6926E070DCF470BCAE7081E170C13370BD76707BF
+371DF6B71DEE771255C71A74171DF9A71DFCA72D8E272F037721A0B720D0D72EFF672D8D4739461735E4373E2B2730D247305E273685D74D01E74DB3074C65B7
+4402B74D90374AFD6759C5375969B75CFEF7520A875547F75411C7890777871BB78275678CBFD781EC778057079124879104A79B4D47983F079B001793D0A7AE
+BF67A636C7A7FE77A6B227A16EB7AB0E97BBCC67B531A7B88F27B02537B2E647BFDF37CD97D7C8FEF7CAB997C9FD17C032E7C0A6B7DD0167DAFF07DB7217D5DC
+E7D488A7D6FD777F0CD776B2777470177401E77515577E6E17F44727E2E1D7EF6F77F19257F440E7E92D363B6D36108236A4FF36B9FF3649D8365127768A2076
+8B07768E247689C67684FA7682F8769256769207769081769DB3769FBD76922C76A5F076AF0276A02376AC4476A45876A6BA0000000020001020002020003020
+00802000C02000D02000F02000003000003200003400003500103200103400103500103700103300103600E04500004400B04B00204000504D00604300005000
+F06800306B00006300106500106C00406800007700007300007C00007900007B00007500108040908040508040008040708040C0804090D30350000320EA0360
+490350B603B0E803F0E81330C313800313500213404913F0B213E0C06110D46140C361304861F0036120C661701EE370EEE370FEE3706EE3702EE3704EE3A0E7
+F320E7F340E7F3C0E7F3D0E7F330E7F338CB5806684148A9B8B3986099B1091B09D9996F59DEE9854AD4EAE5EA15FABE0A180AAB0B602B812B20AB007BA07BEB
+6C0D7CC46CA32C525CC61C9CBCF4BC328CB3BCABAC5C8CAECC91DCC7DC42DC83DCD0FC9CFD0A1D029D037D0BAD013D070DF01DF03DF06DF02DF32DFD2DFE2DF0
+2DFC2DF1
+";
