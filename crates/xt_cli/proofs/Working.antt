@@ -1,47 +1,48 @@
 -- What a command makes of an input that was read to its end.
-use Rattle.std.proofs.Common.{◌≡◌, ◌≢◌, ℕ, inl, List, Option, Some, None, Err, refl}
+use Rattle.std.proofs.Common.{◌≡◌, ◌≢◌, ℕ, inl, List, Option, Some, None, refl, subst}
 use Rattle.std.specs.Io.KnownBytes.{Keeps}
-use Rattle.xt_image.specs.declared.fault.ImageFault.{ImageFault}
+use Rattle.std.specs.Option.{option_map}
 use Rattle.xt_image.specs.Rules.{image_fault}
-use Rattle.xt_image.specs.Format.{image_of}
-use Rattle.xt_disasm.specs.Listing.{listing_text}
-use Rattle.xt_cli.specs.Checks.{check_text}
+use Rattle.xt_asm.specs.Kinds.{text_fault}
 use Rattle.xt_cli.specs.declared.status.Status.{Status}
 use Rattle.xt_cli.specs.declared.status.Status.TheVariants as status
 use Rattle.xt_cli.specs.declared.tool.Job.{Job}
 use Rattle.xt_cli.specs.declared.tool.Job.TheVariants as job
 use Rattle.xt_cli.specs.Calls.{Ends, ReadsWhole}
-use Rattle.xt_cli.specs.Tools.{Makes, limit_of, made, unless_fault}
+use Rattle.xt_cli.specs.Tools.{Makes, limit_of, refusal_of}
 
 pub keeps_same : (known : Option (List ℕ)) → Keeps known known
 keeps_same None = tt
 keeps_same (Some bytes) = refl
 
--- ---- a refusal of an input is an image's fault
+-- ---- a refusal of an input is a fault of a text or of an image
 
-fault_alone : (f : Option ImageFault) (text : List ℕ) (s : Status) → unless_fault f text ≡ Err s → (g : ImageFault) × (s ≡ status.Image g)
-fault_alone None text s h = absurd (cc)
-fault_alone (Some f) text s h = (f, cc)
+-- the statuses of such faults
+abbrev IsOfFault : Status → Type 0
+IsOfFault (status.Asm place) = Unit {0}
+IsOfFault (status.Image f) = Unit {0}
+IsOfFault _ = ⊥
 
-refusal_is_fault : (j : Job) (input : List ℕ) (s : Status) → made j input ≡ Err s → (g : ImageFault) × (s ≡ status.Image g)
-unfolding made
-refusal_is_fault job.List input s h = fault_alone (image_fault input) (listing_text (image_of input)) s h
-refusal_is_fault job.Check input s h = fault_alone (image_fault input) (check_text (image_of input)) s h
+mapped : {A : Type 0} → (f : A → Status) → ((a : A) → IsOfFault (f a)) → (o : Option A) (s : Status) → option_map f o ≡ Some s → IsOfFault s
+mapped f is None s h = absurd (cc)
+mapped f is (Some a) s h = let e : f a ≡ s = cc in subst IsOfFault e (is a)
 
--- another status is no refusal of an input
-abbrev IsNoFault : Status → Type 0
-IsNoFault s = (g : ImageFault) → s ≡ status.Image g → ⊥
+refusal_is_fault : (j : Job) (input : List ℕ) (s : Status) → refusal_of j input ≡ Some s → IsOfFault s
+unfolding refusal_of
+refusal_is_fault job.Assemble input s h = mapped status.Asm (λ place. tt) (text_fault input) s h
+refusal_is_fault job.List input s h = mapped status.Image (λ f. tt) (image_fault input) s h
+refusal_is_fault job.Check input s h = mapped status.Image (λ f. tt) (image_fault input) s h
 
-other : (j : Job) (input : List ℕ) (s : Status) → s ≢ status.Memory → IsNoFault s → (s ≢ status.Memory → made j input ≡ Err s) → ⊥
-other j input s caused none refused = let f = refusal_is_fault j input s (refused caused) in none f.0 f.1
+abbrev IsRefusal : Job → Status → List ℕ → Type 0
+IsRefusal j s input = s ≢ status.Memory → refusal_of j input ≡ Some s
 
-pub refuses : (j : Job) (e : Ends) (s : Status) → Keeps e.told e.told_after
-    → ReadsWhole (limit_of j) e (λ input. s ≢ status.Memory → made j input ≡ Err s) → Makes j e s
+pub refuses : (j : Job) (e : Ends) (s : Status) → Keeps e.told e.told_after → ReadsWhole (limit_of j) e (IsRefusal j s) → Makes j e s
 refuses j e status.Memory k r = inl k
 refuses j e (status.Image f) k r = (record { input = r.input; taken = r.taken; end = r.end; within = r.within; is = r.is (λ p. cc) }, k)
-refuses j e status.Done k r = absurd (other j r.input status.Done (λ p. cc) (λ g p. cc) r.is)
-refuses j e (status.Usage rule) k r = absurd (other j r.input (status.Usage rule) (λ p. cc) (λ g p. cc) r.is)
-refuses j e status.ReadFault k r = absurd (other j r.input status.ReadFault (λ p. cc) (λ g p. cc) r.is)
-refuses j e status.WriteFault k r = absurd (other j r.input status.WriteFault (λ p. cc) (λ g p. cc) r.is)
-refuses j e (status.TooLarge limit) k r = absurd (other j r.input (status.TooLarge limit) (λ p. cc) (λ g p. cc) r.is)
-refuses j e status.Unbuilt k r = absurd (other j r.input status.Unbuilt (λ p. cc) (λ g p. cc) r.is)
+refuses j e (status.Asm place) k r = (record { input = r.input; taken = r.taken; end = r.end; within = r.within; is = r.is (λ p. cc) }, k)
+refuses j e status.Done k r = absurd (refusal_is_fault j r.input status.Done (r.is (λ p. cc)))
+refuses j e (status.Usage rule) k r = absurd (refusal_is_fault j r.input (status.Usage rule) (r.is (λ p. cc)))
+refuses j e status.ReadFault k r = absurd (refusal_is_fault j r.input status.ReadFault (r.is (λ p. cc)))
+refuses j e status.WriteFault k r = absurd (refusal_is_fault j r.input status.WriteFault (r.is (λ p. cc)))
+refuses j e (status.TooLarge limit) k r = absurd (refusal_is_fault j r.input (status.TooLarge limit) (r.is (λ p. cc)))
+refuses j e status.Unbuilt k r = absurd (refusal_is_fault j r.input status.Unbuilt (r.is (λ p. cc)))

@@ -4,8 +4,9 @@ use Rattle.std.specs.Fmt.{decimal}
 use Rattle.hex.specs.Hex.{encode_lower}
 use Rattle.xt_image.specs.declared.fault.ImageFault.{ImageFault}
 use Rattle.xt_image.specs.declared.fault.ImageFault.TheVariants as fault
+use Rattle.xt_lex.specs.declared.fault.AsmPlace.{AsmPlace}
 use Rattle.xt_cli.specs.declared.status.Status.{Status}
-use Rattle.xt_cli.specs.declared.status.Status.TheVariants.{Done, Usage, Image, ReadFault, WriteFault, TooLarge, Unbuilt, Memory}
+use Rattle.xt_cli.specs.declared.status.Status.TheVariants.{Done, Usage, Image, Asm, ReadFault, WriteFault, TooLarge, Unbuilt, Memory}
 
 -- a fault of an image: its name and the values that it keeps, in decimal; digests in hexadecimal
 abbrev pub fault_text : ImageFault → List ℕ
@@ -25,10 +26,15 @@ fault_text (fault.Digest kept computed) = codes "Digest " ++ (encode_lower kept 
 fault_text (fault.Entry address) = codes "Entry " ++ decimal address
 fault_text fault.Memory = codes "Memory"
 
+-- the place of a text's first fault: its line, its column and its kind
+abbrev pub place_text : AsmPlace → List ℕ
+place_text place = decimal place.line ++ (codes " " ++ (decimal place.column ++ (codes " " ++ decimal place.kind)))
+
 abbrev pub status_words : Status → List ℕ
 status_words Done = codes "Done"
 status_words (Usage rule) = codes "Usage " ++ decimal rule
 status_words (Image f) = codes "Image " ++ fault_text f
+status_words (Asm place) = codes "Asm " ++ place_text place
 status_words ReadFault = codes "ReadFault"
 status_words WriteFault = codes "WriteFault"
 status_words (TooLarge limit) = codes "TooLarge " ++ decimal limit
@@ -44,6 +50,7 @@ abbrev pub status_code : Status → ℕ
 status_code Done = 0
 status_code (Usage rule) = 1
 status_code (Image f) = 2
+status_code (Asm place) = 3
 status_code ReadFault = 5
 status_code WriteFault = 6
 status_code (TooLarge limit) = 7

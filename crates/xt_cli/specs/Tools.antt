@@ -3,9 +3,13 @@ use Rattle.std.specs.Prelude.{◌≡◌, ◌≤◌, ◌+◌, ◌⊎◌, ℕ, Lis
 use Rattle.std.specs.Io.KnownBytes.{Appends, Keeps}
 use Rattle.xt_io.specs.Causes.{Rose}
 use Rattle.xt_io.specs.Whole.{AppendsFront, Takes}
-use Rattle.xt_image.specs.declared.fault.ImageFault.{ImageFault}
+use Rattle.std.specs.Option.{option_map}
+use Rattle.xt_image.specs.declared.image.Image.{Image}
 use Rattle.xt_image.specs.Rules.{image_fault}
 use Rattle.xt_image.specs.Format.{image_of}
+use Rattle.xt_image.specs.Parts.{image_bytes}
+use Rattle.xt_asm.specs.Kinds.{text_fault}
+use Rattle.xt_asm.specs.Images.{IsImageOfText}
 use Rattle.xt_disasm.specs.Listing.{listing_text}
 use Rattle.xt_words.specs.declared.command.Command.{Command}
 use Rattle.xt_words.specs.declared.command.Command.TheVariants as command
@@ -22,27 +26,36 @@ use Rattle.xt_cli.specs.Checks.{check_text}
 
 -- ---- what a command makes of its input
 
--- the most bytes that the input of a command may have: that of an image
+-- the most bytes that the input of a command may have: that of a text, or of an image
 abbrev pub limit_of : Job → ℕ
-limit_of _ = 8388608
+limit_of job.Assemble = 1048576
+limit_of job.List = 8388608
+limit_of job.Check = 8388608
 
--- the text, where the input has no fault as an image
-abbrev pub unless_fault : Option ImageFault → List ℕ → Result (List ℕ) Status
-unless_fault None text = Ok text
-unless_fault (Some f) text = Err (status.Image f)
+-- the status with which a command refuses a whole input, where it does: that of the input's first fault
+unfoldable pub refusal_of : Job → List ℕ → Option Status
+refusal_of job.Assemble input = option_map status.Asm (text_fault input)
+refusal_of job.List input = option_map status.Image (image_fault input)
+refusal_of job.Check input = option_map status.Image (image_fault input)
 
--- the bytes that a command writes for a whole input, or the status with which it refuses it
-unfoldable pub made : Job → List ℕ → Result (List ℕ) Status
-made job.List input = unless_fault (image_fault input) (listing_text (image_of input))
-made job.Check input = unless_fault (image_fault input) (check_text (image_of input))
+-- the bytes that a command writes for an input that it does not refuse
+abbrev pub IsWritten : Job → List ℕ → List ℕ → Type 0
+IsWritten job.Assemble input bytes = (image : Image) × IsImageOfText input image × (bytes ≡ image_bytes image)
+IsWritten job.List input bytes = bytes ≡ listing_text (image_of input)
+IsWritten job.Check input bytes = bytes ≡ check_text (image_of input)
+
+-- the command does not refuse the input, and writes these bytes
+pub record IsMade (j : Job) (input bytes : List ℕ) : Type 0 where
+  pub accepted : refusal_of j input ≡ None
+  pub written : IsWritten j input bytes
 
 -- ---- what each status says
 
--- the input was read to its end, the command makes a text of it, and this is so of the text
+-- the input was read to its end, the command makes bytes of it, and this is so of the bytes
 abbrev pub HasOutput : Job → Ends → (List ℕ → Type 0) → Type 0
-HasOutput j e P = (text : List ℕ) × ReadsWhole (limit_of j) e (λ input. made j input ≡ Ok text) × P text
+HasOutput j e P = (bytes : List ℕ) × ReadsWhole (limit_of j) e (λ input. IsMade j input bytes) × P bytes
 
--- each status of a command, with its cause and what was written; the last line is that of an image's fault
+-- each status of a command, with its cause and what was written; the last line is that of the input's first fault
 abbrev pub Makes : Job → Ends → Status → Type 0
 Makes j e status.Done = HasOutput j e (Appends e.told e.told_after)
 Makes j e status.WriteFault = HasOutput j e (AppendsFront e.told e.told_after) × Rose e.sink_faults e.sink_faults_after
@@ -50,7 +63,7 @@ Makes j e status.ReadFault = Rose e.source_faults e.source_faults_after × Keeps
 Makes j e (status.TooLarge limit) =
     (limit ≡ limit_of j) × Takes e.left e.left_after (λ n. n ≡ limit_of j + 1) × Keeps e.told e.told_after
 Makes j e status.Memory = Keeps e.told e.told_after ⊎ HasOutput j e (AppendsFront e.told e.told_after)
-Makes j e s = ReadsWhole (limit_of j) e (λ input. made j input ≡ Err s) × Keeps e.told e.told_after
+Makes j e s = ReadsWhole (limit_of j) e (λ input. refusal_of j input ≡ Some s) × Keeps e.told e.told_after
 
 -- the status that a refusal of the words comes to
 abbrev pub status_of : Refusal → Status
@@ -62,13 +75,9 @@ status_of refusal.Memory = status.Memory
 abbrev pub RefusesWords : Refusal → Ends → Status → Type 0
 RefusesWords r e s = ((s ≡ status_of r) ⊎ (s ≡ status.Memory)) × IsUntouched e
 
--- nothing was touched, and the command is not there yet; reading the words may want memory
-abbrev pub IsUnbuilt : Ends → Status → Type 0
-IsUnbuilt e s = ((s ≡ status.Unbuilt) ⊎ (s ≡ status.Memory)) × IsUntouched e
-
 -- Each answer by what the words mean. Words that order a run are handed back, and nothing was touched.
 abbrev pub Answers : Result Command Refusal → Ends → Tool → Type 0
-Answers (Ok command.Assemble) e (tool.Answer s) = IsUnbuilt e s
+Answers (Ok command.Assemble) e (tool.Answer s) = Makes job.Assemble e s
 Answers (Ok command.Disassemble) e (tool.Answer s) = Makes job.List e s
 Answers (Ok command.Check) e (tool.Answer s) = Makes job.Check e s
 Answers (Ok (command.Run turns)) e tool.Threaded = IsUntouched e
@@ -78,13 +87,12 @@ Answers _ e _ = ⊥
 
 -- ---- completeness
 
--- the source tells its bytes, and they are a whole input of which the command makes a text
+-- the source tells its bytes, and they are a whole input that the command does not refuse
 pub record HasInput (j : Job) (left : Option (List ℕ)) : Type 0 where
   pub input : List ℕ
   pub told : left ≡ Some input
   pub within : length input ≤ limit_of j
-  pub text : List ℕ
-  pub is : made j input ≡ Ok text
+  pub accepted : refusal_of j input ≡ None
 
 -- such an input, and no fault of the source or the sink in this call, end in Done, or in want of memory
 abbrev pub Finishes : Job → Ends → Status → Type 0
@@ -92,6 +100,7 @@ Finishes j e s = HasInput j e.left → (Rose e.source_faults e.source_faults_aft
     → (s ≡ status.Done) ⊎ (s ≡ status.Memory)
 
 abbrev pub IsComplete : Result Command Refusal → Ends → Tool → Type 0
+IsComplete (Ok command.Assemble) e (tool.Answer s) = Finishes job.Assemble e s
 IsComplete (Ok command.Disassemble) e (tool.Answer s) = Finishes job.List e s
 IsComplete (Ok command.Check) e (tool.Answer s) = Finishes job.Check e s
 IsComplete _ e _ = Unit {0}

@@ -4,6 +4,7 @@ ghost use Rattle.xt_cli.specs.Statuses.{fault_text, status_code, status_text};
 
 use std::alloc::{AllocError, Global};
 use xt_image::ImageFault;
+use xt_lex::AsmPlace;
 use xt_map::Text;
 
 /// How the program ended.
@@ -15,6 +16,8 @@ pub enum Status {
     Usage(u8),
     /// The whole input was read, and this is its first fault as an image.
     Image(ImageFault),
+    /// The whole text was read, and this is its first fault as an assembly text.
+    Asm(AsmPlace),
     /// The input could not be read to its end.
     ReadFault,
     /// The output could not be written to its end.
@@ -36,6 +39,7 @@ impl Status {
             Status::Done => 0,
             Status::Usage(_) => 1,
             Status::Image(_) => 2,
+            Status::Asm(_) => 3,
             Status::ReadFault => 5,
             Status::WriteFault => 6,
             Status::TooLarge(_) => 7,
@@ -75,8 +79,8 @@ fn text_of(alloc: Global, fault: &ImageFault) -> Result<String, AllocError>
 }
 
 /// The line for standard error: `xt:`, the name of the status, the values that it keeps in decimal,
-/// of an image's fault its name and its values, digests as 64 lower-case hexadecimal digits, and a
-/// newline. The only error is want of memory.
+/// of an image's fault its name and its values, digests as 64 lower-case hexadecimal digits, of a
+/// text's fault its line, column and kind, and a newline. The only error is want of memory.
 #[tactic(auto, unfolding(crate::specs::Statuses::status_text))]
 pub fn status_line(alloc: Global, status: &Status) -> Result<Text, AllocError>
     ensures { IfOk result (λ text. text ≡ status_text status.now) }
@@ -87,6 +91,9 @@ pub fn status_line(alloc: Global, status: &Status) -> Result<Text, AllocError>
         Status::Image(fault) => {
             let fault = text_of(alloc, &fault)?;
             format!(in alloc; "xt: Image {fault}\n")?
+        }
+        Status::Asm(AsmPlace { line, column, kind }) => {
+            format!(in alloc; "xt: Asm {line} {column} {kind}\n")?
         }
         Status::ReadFault => format!(in alloc; "xt: ReadFault\n")?,
         Status::WriteFault => format!(in alloc; "xt: WriteFault\n")?,

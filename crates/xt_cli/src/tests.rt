@@ -2,6 +2,7 @@ use crate::{Status, report, status_line};
 use std::alloc::Global;
 use std::test::Fail;
 use xt_image::ImageFault;
+use xt_lex::AsmPlace;
 use xt_map::{Access, Entry, History, Kind};
 use xt_trace::{Options, Run, Stack, StepKind, StepRecord, Steps, Stop, Trace};
 
@@ -133,6 +134,24 @@ fn lines_and_codes_of_statuses(rt: HostRuntime) -> Result<(), Fail> {
             Status::Image(ImageFault::Entry(3_204_973_572)),
             2,
             "xt: Image Entry 3204973572\n",
+        ),
+        (
+            Status::Asm(AsmPlace {
+                line: 5,
+                column: 1,
+                kind: 2,
+            }),
+            3,
+            "xt: Asm 5 1 2\n",
+        ),
+        (
+            Status::Asm(AsmPlace {
+                line: 1_048_576,
+                column: 1_048_577,
+                kind: 9,
+            }),
+            3,
+            "xt: Asm 1048576 1048577 9\n",
         ),
         (Status::ReadFault, 5, "xt: ReadFault\n"),
         (Status::WriteFault, 6, "xt: WriteFault\n"),

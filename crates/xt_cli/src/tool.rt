@@ -1,23 +1,33 @@
 //! The commands whose output is a function of their input.
-ghost use Rattle.std.specs.Prelude.{◌≡◌, ◌≢◌, ◌≤◌, length, map, string_bytes, IfOk, IfErr};
-ghost use Rattle.xt_cli.specs.Tools.{Answers, Finishes, IsComplete, Makes, made, status_of};
+ghost use Rattle.std.specs.Prelude.{◌≡◌, ◌≢◌, ◌≤◌, length, map, string_bytes, IfOk, IfErr, None, Some};
+ghost use Rattle.std.specs.Option.{option_map};
+ghost use Rattle.xt_image.specs.Format.{image_of};
+ghost use Rattle.xt_image.specs.Rules.{image_fault};
+ghost use Rattle.xt_cli.specs.Tools.{Answers, Finishes, IsComplete, IsMade, Makes, limit_of, refusal_of, status_of};
 ghost use Rattle.xt_words.specs.Meaning.{meaning_of};
 
 use crate::checks::check_text;
 use crate::status::Status;
 use std::alloc::Global;
+use xt_asm::assemble;
 use xt_disasm::listing;
-use xt_image::{ImageFault, read};
+use xt_image::{Image, ImageFault, read, write};
 use xt_io::{ReadError, Refused, Sink, Source, read_to_limit, write_all};
+use xt_lex::AsmFault;
 use xt_map::Text;
 use xt_words::{Command, Refusal, meaning};
 
 /// The most bytes that an image may have.
 pub const IMAGE_LIMIT: usize = 8_388_608;
 
+/// The most bytes that an assembly text may have.
+pub const TEXT_LIMIT: usize = 1_048_576;
+
 /// A command whose output is a function of its input.
 #[derive(Clone, Copy, Debug, PartialEq, Eq)]
 pub enum Job {
+    /// `asm`: the image of an assembly text.
+    Assemble,
     /// `dis`: an image's listing.
     List,
     /// `check`: what an image holds.
@@ -44,23 +54,80 @@ pub(crate) fn status_of(refusal: Refusal) -> Status
     }
 }
 
-// What a command writes for an input, or the status with which it refuses it.
-#[tactic(auto, unfolding(crate::specs::Tools::made))]
-fn make(alloc: Global, job: Job, input: &[u8]) -> Result<Text, Status>
-    requires { length input.now ≤ 8388608 }
-    ensures ok { IfOk result (λ text. made job input.now ≡ Ok text) }
-    ensures refused { IfErr result (λ status. status ≢ Status.Memory → made job input.now ≡ Err status) }
+// The most bytes that the input of a command may have.
+fn limit_of(job: Job) -> usize
+    ensures { result ≡ limit_of job }
 {
-    let image = match read(alloc, input) {
+    match job {
+        Job::Assemble => TEXT_LIMIT,
+        Job::List | Job::Check => IMAGE_LIMIT,
+    }
+}
+
+// The image of a text as a file, or the status of the text's first fault.
+#[tactic(auto, unfolding(crate::specs::Tools::refusal_of))]
+fn image_file(alloc: Global, input: &[u8]) -> Result<Text, Status>
+    requires { length input.now ≤ 1048576 }
+    ensures ok { IfOk result (λ bytes. IsMade Job.Assemble input.now bytes) }
+    ensures refused { IfErr result (λ status. status ≢ Status.Memory → refusal_of Job.Assemble input.now ≡ Some status) }
+{
+    let image = match assemble(alloc, input) {
         Ok(image) => image,
-        Err(ImageFault::Memory) => return Err(Status::Memory),
-        Err(fault) => return Err(Status::Image(fault)),
+        Err(AsmFault::Place(place)) => return Err(Status::Asm(place)),
+        Err(AsmFault::Memory) => return Err(Status::Memory),
     };
-    let text = match job {
-        Job::List => listing(alloc, &image),
-        Job::Check => check_text(alloc, &image),
-    };
-    text.map_err(|_| Status::Memory)
+    match write(alloc, &image) {
+        Ok(bytes) => Ok(Text::new(bytes.into_vec())),
+        Err(_) => Err(Status::Memory),
+    }
+}
+
+// The image that an input is, or the status of its first fault.
+fn image_in(alloc: Global, input: &[u8]) -> Result<Image, Status>
+    requires { length input.now ≤ 8388608 }
+    ensures ok { IfOk result (λ image. (image_fault input.now ≡ None) × (image ≡ image_of input.now)) }
+    ensures refused { IfErr result (λ status. status ≢ Status.Memory → option_map Status.Image (image_fault input.now) ≡ Some status) }
+{
+    match read(alloc, input) {
+        Ok(image) => Ok(image),
+        Err(ImageFault::Memory) => Err(Status::Memory),
+        Err(fault) => Err(Status::Image(fault)),
+    }
+}
+
+// An image's listing.
+#[tactic(auto, unfolding(crate::specs::Tools::refusal_of))]
+fn list(alloc: Global, input: &[u8]) -> Result<Text, Status>
+    requires { length input.now ≤ 8388608 }
+    ensures ok { IfOk result (λ bytes. IsMade Job.List input.now bytes) }
+    ensures refused { IfErr result (λ status. status ≢ Status.Memory → refusal_of Job.List input.now ≡ Some status) }
+{
+    let image = image_in(alloc, input)?;
+    listing(alloc, &image).map_err(|_| Status::Memory)
+}
+
+// What an image holds.
+#[tactic(auto, unfolding(crate::specs::Tools::refusal_of))]
+fn check(alloc: Global, input: &[u8]) -> Result<Text, Status>
+    requires { length input.now ≤ 8388608 }
+    ensures ok { IfOk result (λ bytes. IsMade Job.Check input.now bytes) }
+    ensures refused { IfErr result (λ status. status ≢ Status.Memory → refusal_of Job.Check input.now ≡ Some status) }
+{
+    let image = image_in(alloc, input)?;
+    check_text(alloc, &image).map_err(|_| Status::Memory)
+}
+
+// What a command writes for an input, or the status with which it refuses it.
+fn make(alloc: Global, job: Job, input: &[u8]) -> Result<Text, Status>
+    requires { length input.now ≤ limit_of job }
+    ensures ok { IfOk result (λ bytes. IsMade job input.now bytes) }
+    ensures refused { IfErr result (λ status. status ≢ Status.Memory → refusal_of job input.now ≡ Some status) }
+{
+    match job {
+        Job::Assemble => image_file(alloc, input),
+        Job::List => list(alloc, input),
+        Job::Check => check(alloc, input),
+    }
 }
 
 // Reads the input of a command to its end, and writes what the command makes of it.
@@ -91,10 +158,11 @@ pub(crate) fn work<S: Source, K: Sink>(
       sink_faults_after = K.faults sink.new;
     }) result }
 {
-    let input = match read_to_limit(alloc, source, IMAGE_LIMIT) {
+    let limit = limit_of(job);
+    let input = match read_to_limit(alloc, source, limit) {
         Ok(input) => input,
         Err(ReadError::Fault) => return Status::ReadFault,
-        Err(ReadError::TooLarge) => return Status::TooLarge(8_388_608),
+        Err(ReadError::TooLarge) => return Status::TooLarge(limit as u32),
         Err(ReadError::Memory) => return Status::Memory,
     };
     let text = match make(alloc, job, &input) {
@@ -109,8 +177,8 @@ pub(crate) fn work<S: Source, K: Sink>(
 }
 
 /// What the program does with the words behind its name, a source and a sink, where it needs no
-/// thread: it answers every word that has no meaning, and does the work of `dis` and `check`. It
-/// waits for nobody and returns.
+/// thread: it answers every word that has no meaning, and does the work of `asm`, `dis` and `check`.
+/// It waits for nobody and returns.
 ///
 /// Words that order a run are handed back as `Threaded`, and nothing was then read or written. After
 /// `Answer` the contract says of each status its cause, and what was written; want of memory is the
@@ -143,7 +211,7 @@ pub fn tool_main<S: Source, K: Sink>(
     }) result }
 {
     match meaning(alloc, words) {
-        Ok(Command::Assemble) => Tool::Answer(Status::Unbuilt),
+        Ok(Command::Assemble) => Tool::Answer(work(alloc, Job::Assemble, source, sink)),
         Ok(Command::Disassemble) => Tool::Answer(work(alloc, Job::List, source, sink)),
         Ok(Command::Check) => Tool::Answer(work(alloc, Job::Check, source, sink)),
         Ok(Command::Run { turns0: _ }) => Tool::Threaded,

@@ -3,6 +3,7 @@ use std::alloc::{AllocError, Global};
 use std::test::Fail;
 use xt_image::ImageFault;
 use xt_io::{MemSink, MemSource, OpenGate, SafeSink, SafeSource, Sink, Source};
+use xt_lex::AsmPlace;
 
 /// An image that sends the letter A and stops, in hexadecimal digits: a head, one segment with the
 /// constant 0x3FF40000 and the instructions `l32r a2, 0x40080400`, `movi a3, 65`, `s8i a3, a2, 0` and
@@ -22,6 +23,15 @@ const LISTING: &str = "segment 0 40080400 16 IRAM\n\
 4008040D F04100 break 1, 15\n";
 
 const CHECKED: &str = "image segments 1 entry 40080404 digest no\nsegment 0 40080400 16 IRAM\n";
+
+/// The text of the same segment and entry.
+const TEXT: &str = ".seg 0x40080400\n.entry start\n.literal_position\nstart: l32r a2, =0x3FF40000\n\
+movi a3, 65\ns8i a3, a2, 0\nbreak 1, 15\n";
+
+/// The image of that text: it has a digest besides, which `sha256sum` gives for the 64 bytes before it.
+const ASSEMBLED: &str = "E901022004040840EE0000000000000000FFFF00000000010004084010000000\
+0000F43F21FFFF32A041324200F0410000000000000000000000000000000017\
+A5C140C0C3F6F183FB0D98F633F1B50A0F18B6B80FB4093F14FBFD2D83860102";
 
 /// The words of a text, which one blank separates.
 fn words_of(alloc: Global, text: &str) -> Result<Vec<String>, AllocError> {
@@ -111,6 +121,64 @@ fn refusals_write_nothing(rt: HostRuntime) -> Result<(), Fail> {
         assert_eq!(rt; outcome.status, status, "{words}");
         assert!(rt; sink.bytes().is_empty(), "{words}");
         assert!(rt; outcome.whole.is_none(), "{words}");
+    }
+    Ok(())
+}
+
+#[test]
+fn a_text_is_assembled_and_listed(rt: HostRuntime) -> Result<(), Fail> {
+    let mut source = SafeSource::make(rt.alloc(), TEXT.as_bytes())?;
+    let mut sink = SafeSink::make(rt.alloc())?;
+    let outcome = answer(rt.alloc(), "asm", &mut source, &mut sink)?;
+    assert_eq!(rt; outcome.status, Status::Done);
+    assert!(rt; outcome.whole.is_none());
+    let image = hex::decode(rt.alloc(), ASSEMBLED)?;
+    assert_eq!(rt; sink.bytes(), image.as_slice());
+    let mut source = SafeSource::make(rt.alloc(), &image)?;
+    let mut sink = SafeSink::make(rt.alloc())?;
+    let outcome = answer(rt.alloc(), "dis", &mut source, &mut sink)?;
+    assert_eq!(rt; outcome.status, Status::Done);
+    assert_eq!(rt; sink.bytes(), LISTING.as_bytes());
+    Ok(())
+}
+
+/// The text with other words in place of some.
+fn text_but(alloc: Global, words: &str, others: &str) -> Result<String, Fail> {
+    Ok(TEXT.replace(alloc, words, others)?)
+}
+
+#[test]
+fn texts_with_a_fault(rt: HostRuntime) -> Result<(), Fail> {
+    let rows = [
+        ("movi a3, 65", "movi a3, 4000", (5, 1, 2)),
+        ("15\n", "15\nstart:\n", (8, 1, 4)),
+        (".entry start", ".entry end", (2, 1, 1)),
+        (".literal_position\n", "", (3, 8, 3)),
+        ("movi a3, 65", "movi a3", (5, 8, 8)),
+        (".entry start\n", "", (0, 0, 9)),
+    ];
+    for (words, others, (line, column, kind)) in rows {
+        let text = text_but(rt.alloc(), words, others)?;
+        let mut source = SafeSource::make(rt.alloc(), text.as_bytes())?;
+        let mut sink = SafeSink::make(rt.alloc())?;
+        let outcome = answer(rt.alloc(), "asm", &mut source, &mut sink)?;
+        let place = AsmPlace { line, column, kind };
+        assert_eq!(rt; outcome.status, Status::Asm(place), "{others}");
+        assert!(rt; sink.bytes().is_empty(), "{others}");
+    }
+    Ok(())
+}
+
+#[test]
+fn too_long_a_text_is_refused(rt: HostRuntime) -> Result<(), Fail> {
+    let mut text = TEXT.as_bytes().to_vec(rt.alloc())?;
+    text.resize(1_048_576, b'\n')?;
+    for status in [Status::Done, Status::TooLarge(1_048_576)] {
+        let mut source = SafeSource::make(rt.alloc(), &text)?;
+        let mut sink = SafeSink::make(rt.alloc())?;
+        let outcome = answer(rt.alloc(), "asm", &mut source, &mut sink)?;
+        assert_eq!(rt; outcome.status, status);
+        text.push(b'\n')?;
     }
     Ok(())
 }

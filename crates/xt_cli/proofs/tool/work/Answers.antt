@@ -1,6 +1,6 @@
-use Rattle.std.proofs.Common.{inr, sym, ap, ◌∙◌, rules}
+use Rattle.std.proofs.Common.{ℕ, ◌≤◌, List, length, inr, sym, ap, ◌∙◌, rules, subst}
 use Rattle.xt_cli.specs.Calls.{Ends}
-use Rattle.xt_cli.specs.Tools.{made}
+use Rattle.xt_cli.specs.Tools.{IsMade, refusal_of}
 use Rattle.xt_cli.proofs.Working.{keeps_same, refuses}
 use Rattle.xt_cli.proofs.tool.work.Goals as goal
 
@@ -20,8 +20,8 @@ returns-in-Err-clause-answers g c =
       input = c.in-Ok.input.items;
       taken = c.in-Ok.ensures.whole;
       end = c.in-Ok.ensures.end;
-      within = c.in-Ok.ensures.within;
-      is = λ caused. ap (made c.args.job) (sym c.deref.ensures.value) ∙ c.in-Err.ensures.refused caused;
+      within = let Q : ℕ → Type 0 = λ n. length c.in-Ok.input.items ≤ n in subst Q c.limit_of-limit.ensures c.in-Ok.ensures.within;
+      is = λ caused. ap (refusal_of c.args.job) (sym c.deref.ensures.value) ∙ c.in-Err.ensures.refused caused;
     })
 
 pub returns-in-Err-Failed-clause-answers : goal.returns-in-Err-Failed-clause-answers
@@ -32,8 +32,8 @@ returns-in-Err-Failed-clause-answers g c = (
       input = c.in-Ok.input.items;
       taken = c.in-Ok.ensures.whole;
       end = c.in-Ok.ensures.end;
-      within = c.in-Ok.ensures.within;
-      is = ap (made c.args.job) (sym c.deref.ensures.value) ∙ c.in-Ok-make.ensures.ok;
+      within = let Q : ℕ → Type 0 = λ n. length c.in-Ok.input.items ≤ n in subst Q c.limit_of-limit.ensures c.in-Ok.ensures.within;
+      is = let P : List ℕ → Type 0 = λ input. IsMade c.args.job input c.in-Ok-make.text in subst P c.deref.ensures.value c.in-Ok-make.ensures.ok;
     },
     search rules,
   ),
@@ -47,8 +47,8 @@ returns-clause-answers g c = inr (
     input = c.in-Ok.input.items;
     taken = c.in-Ok.ensures.whole;
     end = c.in-Ok.ensures.end;
-    within = c.in-Ok.ensures.within;
-    is = ap (made c.args.job) (sym c.deref.ensures.value) ∙ c.in-Ok-make.ensures.ok;
+    within = let Q : ℕ → Type 0 = λ n. length c.in-Ok.input.items ≤ n in subst Q c.limit_of-limit.ensures c.in-Ok.ensures.within;
+    is = let P : List ℕ → Type 0 = λ input. IsMade c.args.job input c.in-Ok-make.text in subst P c.deref.ensures.value c.in-Ok-make.ensures.ok;
   },
   search rules,
 )
