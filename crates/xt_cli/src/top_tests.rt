@@ -125,60 +125,59 @@ fn refusals_write_nothing(rt: HostRuntime) -> Result<(), Fail> {
     Ok(())
 }
 
-#[test]
-fn a_text_is_assembled_and_listed(rt: HostRuntime) -> Result<(), Fail> {
-    let mut source = SafeSource::make(rt.alloc(), TEXT.as_bytes())?;
-    let mut sink = SafeSink::make(rt.alloc())?;
-    let outcome = answer(rt.alloc(), "asm", &mut source, &mut sink)?;
-    assert_eq!(rt; outcome.status, Status::Done);
-    assert!(rt; outcome.whole.is_none());
-    let image = hex::decode(rt.alloc(), ASSEMBLED)?;
-    assert_eq!(rt; sink.bytes(), image.as_slice());
-    let mut source = SafeSource::make(rt.alloc(), &image)?;
-    let mut sink = SafeSink::make(rt.alloc())?;
-    let outcome = answer(rt.alloc(), "dis", &mut source, &mut sink)?;
-    assert_eq!(rt; outcome.status, Status::Done);
-    assert_eq!(rt; sink.bytes(), LISTING.as_bytes());
-    Ok(())
-}
+/// The text with an operand that is out of its range.
+const OUT_OF_RANGE: &str = ".seg 0x40080400\n.entry start\n.literal_position\n\
+start: l32r a2, =0x3FF40000\nmovi a3, 4000\ns8i a3, a2, 0\nbreak 1, 15\n";
 
-/// The text with other words in place of some.
-fn text_but(alloc: Global, words: &str, others: &str) -> Result<String, Fail> {
-    Ok(TEXT.replace(alloc, words, others)?)
-}
+/// The text with a label that is defined twice.
+const TWICE: &str = ".seg 0x40080400\n.entry start\n.literal_position\n\
+start: l32r a2, =0x3FF40000\nmovi a3, 65\ns8i a3, a2, 0\nbreak 1, 15\nstart:\n";
+
+/// The text with an entry that no line defines.
+const UNKNOWN: &str = ".seg 0x40080400\n.entry end\n.literal_position\n\
+start: l32r a2, =0x3FF40000\nmovi a3, 65\ns8i a3, a2, 0\nbreak 1, 15\n";
+
+/// The text without the position of its pool.
+const POOLLESS: &str = ".seg 0x40080400\n.entry start\n\
+start: l32r a2, =0x3FF40000\nmovi a3, 65\ns8i a3, a2, 0\nbreak 1, 15\n";
+
+/// The text with a line that ends too early.
+const BROKEN: &str = ".seg 0x40080400\n.entry start\n.literal_position\n\
+start: l32r a2, =0x3FF40000\nmovi a3\ns8i a3, a2, 0\nbreak 1, 15\n";
+
+/// The text without its entry.
+const ENTRYLESS: &str = ".seg 0x40080400\n.literal_position\n\
+start: l32r a2, =0x3FF40000\nmovi a3, 65\ns8i a3, a2, 0\nbreak 1, 15\n";
+
+/// The text without the position of its pool, and with a label that is defined twice behind the use.
+const POOLLESS_AND_TWICE: &str = ".seg 0x40080400\n.entry start\n\
+start: l32r a2, =0x3FF40000\nstart:\nmovi a3, 65\ns8i a3, a2, 0\nbreak 1, 15\n";
+
+/// The text with a second entry in place of the position of its pool.
+const TWO_ENTRIES: &str = ".seg 0x40080400\n.entry start\n.entry start\n\
+start: l32r a2, =0x3FF40000\nmovi a3, 65\ns8i a3, a2, 0\nbreak 1, 15\n";
 
 #[test]
-fn texts_with_a_fault(rt: HostRuntime) -> Result<(), Fail> {
+fn texts_are_assembled_or_refused(rt: HostRuntime) -> Result<(), Fail> {
+    let place = |line, column, kind| Status::Asm(AsmPlace { line, column, kind });
     let rows = [
-        ("movi a3, 65", "movi a3, 4000", (5, 1, 2)),
-        ("15\n", "15\nstart:\n", (8, 1, 4)),
-        (".entry start", ".entry end", (2, 1, 1)),
-        (".literal_position\n", "", (3, 8, 3)),
-        ("movi a3, 65", "movi a3", (5, 8, 8)),
-        (".entry start\n", "", (0, 0, 9)),
+        (TEXT, Status::Done, ASSEMBLED),
+        (OUT_OF_RANGE, place(5, 1, 2), ""),
+        (TWICE, place(8, 1, 4), ""),
+        (UNKNOWN, place(2, 1, 1), ""),
+        (POOLLESS, place(3, 8, 3), ""),
+        (BROKEN, place(5, 8, 8), ""),
+        (ENTRYLESS, place(0, 0, 9), ""),
+        (POOLLESS_AND_TWICE, place(3, 8, 3), ""),
+        (TWO_ENTRIES, place(3, 1, 4), ""),
     ];
-    for (words, others, (line, column, kind)) in rows {
-        let text = text_but(rt.alloc(), words, others)?;
+    for (text, status, written) in rows {
         let mut source = SafeSource::make(rt.alloc(), text.as_bytes())?;
         let mut sink = SafeSink::make(rt.alloc())?;
         let outcome = answer(rt.alloc(), "asm", &mut source, &mut sink)?;
-        let place = AsmPlace { line, column, kind };
-        assert_eq!(rt; outcome.status, Status::Asm(place), "{others}");
-        assert!(rt; sink.bytes().is_empty(), "{others}");
-    }
-    Ok(())
-}
-
-#[test]
-fn too_long_a_text_is_refused(rt: HostRuntime) -> Result<(), Fail> {
-    let mut text = TEXT.as_bytes().to_vec(rt.alloc())?;
-    text.resize(1_048_576, b'\n')?;
-    for status in [Status::Done, Status::TooLarge(1_048_576)] {
-        let mut source = SafeSource::make(rt.alloc(), &text)?;
-        let mut sink = SafeSink::make(rt.alloc())?;
-        let outcome = answer(rt.alloc(), "asm", &mut source, &mut sink)?;
-        assert_eq!(rt; outcome.status, status);
-        text.push(b'\n')?;
+        assert_eq!(rt; outcome.status, status, "{text}");
+        let wanted = hex::decode(rt.alloc(), written)?;
+        assert_eq!(rt; sink.bytes(), wanted.as_slice(), "{text}");
     }
     Ok(())
 }
@@ -205,17 +204,30 @@ fn words_that_need_no_input(rt: HostRuntime) -> Result<(), Fail> {
 
 #[test]
 fn too_long_an_input_is_refused(rt: HostRuntime) -> Result<(), Fail> {
-    let mut image = hex::decode(rt.alloc(), LETTER)?;
-    image.resize(8_388_608, 0)?;
-    for (words, status) in [
-        ("check", Status::Done),
-        ("check", Status::TooLarge(8_388_608)),
-    ] {
-        let mut source = SafeSource::make(rt.alloc(), &image)?;
+    let image = hex::decode(rt.alloc(), LETTER)?;
+    let rows = [
+        ("check", image.as_slice(), 8_388_608, Status::Done),
+        (
+            "check",
+            image.as_slice(),
+            8_388_609,
+            Status::TooLarge(8_388_608),
+        ),
+        ("asm", TEXT.as_bytes(), 1_048_576, Status::Done),
+        (
+            "asm",
+            TEXT.as_bytes(),
+            1_048_577,
+            Status::TooLarge(1_048_576),
+        ),
+    ];
+    for (words, front, length, status) in rows {
+        let mut input = front.to_vec(rt.alloc())?;
+        input.resize(length, b'\n')?;
+        let mut source = SafeSource::make(rt.alloc(), &input)?;
         let mut sink = SafeSink::make(rt.alloc())?;
         let outcome = answer(rt.alloc(), words, &mut source, &mut sink)?;
-        assert_eq!(rt; outcome.status, status);
-        image.push(0)?;
+        assert_eq!(rt; outcome.status, status, "{words}");
     }
     Ok(())
 }
