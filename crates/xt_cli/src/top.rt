@@ -140,14 +140,14 @@ fn run_source<S: Source, K: Sink>(
 
 /// What the program does with the words behind its name, a source and a sink.
 ///
-/// Where the words order a run, the source is read to its end as an ESP32 application image, core 0
-/// runs it, and the report is written to the sink. All else is `tool_main`'s. The gate is not used
+/// Where the words ask for a run, the source is read to its end as an ESP32 application image, core
+/// 0 runs it, and the report is written to the sink. All else is `tool_main`'s. The gate is not used
 /// yet.
 ///
 /// The contract says of each status its cause, and what was written; of `Done` and `WriteFault` of a
 /// run besides that the run that is handed out is the image's: its history is legal from the opening
 /// memory, the trace of core 0 is the processor's over the replies of that history, and the
-/// history's accesses are the trace's. Want of memory is the one free answer.
+/// history's accesses are the trace's. Too little memory is the one free answer.
 pub fn xt_main<S: Source, K: Sink, G: Gate>(
     alloc: Global,
     words: &[String],

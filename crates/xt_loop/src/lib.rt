@@ -18,6 +18,3 @@ pub fn step(lbeg: u32, lend: u32, lcount: u32, excm: bool, next: u32) -> (u32, u
         (next, lcount)
     }
 }
-
-#[cfg(test)]
-mod tests;

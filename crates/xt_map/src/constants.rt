@@ -121,7 +121,7 @@ fn byte_in(segments: &[Segment], starts: &[Start], addr: u32) -> u8
 }
 
 impl Constants {
-    /// Copies what the segments load. The only error is want of memory.
+    /// Copies what the segments load. The only error is too little memory.
     ///
     /// Each segment that is loaded and has a byte lies in one region other than UART0, and no two
     /// of them share a byte; `are_placed` tests this.

@@ -1,3 +1,4 @@
+-- Carries a proof; nothing that a reader must believe.
 -- What the two halves of an access ask and say.
 use Rattle.std.specs.Prelude.{◌≡◌, ◌+◌, ◌<◌, [], ◌∷◌, ◌++◌, Option, Some, None}
 use Rattle.xt_map.specs.declared.contents.MemoryContents.{MemoryContents}

@@ -1,3 +1,4 @@
+-- Carries a proof; nothing that a reader must believe.
 -- Each kind of step keeps the rule of the shared queue. This is the contract of a function of src/laws.rt.
 use Rattle.std.specs.Prelude.{◌≡◌, ℕ, ◌+◌, ◌<◌, ◌≤◌, [], ◌∷◌, ◌++◌, Option, Some, None}
 use Rattle.crossbeam_queue.specs.Fifo.{Pushes, Pops, Forks, Merges, Learns}

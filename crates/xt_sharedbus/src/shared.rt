@@ -69,7 +69,7 @@ impl Model for SharedBus {
     ghost invariant = { λ s. ruled_capacity s.queue ≡ 1 };
 }
 
-/// Want of memory. It hands the bus back as it was.
+/// Too little memory. It hands the bus back as it was.
 #[derive(Drop)]
 pub struct NoMemory {
     /// The bus.

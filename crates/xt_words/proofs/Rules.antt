@@ -11,7 +11,7 @@ use Rattle.xt_words.specs.Simple.{rows_by}
 use Rattle.xt_words.specs.declared.command.Refusal.TheVariants as refusal
 use Rattle.xt_words.specs.declared.options.RunOptions.{RunOptions}
 
--- ---- want of memory
+-- ---- too little memory
 
 unless_broken-answers : (rule : Option ℕ) (o : RunOptions) → unless_broken rule o ≢ Err refusal.Memory
 unless_broken-answers None o = λ e. search (rules, e)

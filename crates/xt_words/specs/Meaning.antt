@@ -75,6 +75,6 @@ abbrev pub MayWantMemory : List Text → Type 0
 MayWantMemory [] = ⊥
 MayWantMemory (word ∷ rest) = TakesMemory (named word)
 
--- the meaning of words is never want of memory
+-- the meaning of words is never too little memory
 abbrev pub NeedsNoMemory : Type 0
 NeedsNoMemory = (words : List Text) → meaning_of words ≢ Err refusal.Memory

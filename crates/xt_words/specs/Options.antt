@@ -171,7 +171,7 @@ AreValid o = (entry : ℕ) → is_executable (region_of entry) ≡ true → IsVa
 
 -- ---- laws
 
--- the meaning of words is never want of memory
+-- the meaning of words is never too little memory
 abbrev pub OptionsNeedNoMemory : Type 0
 OptionsNeedNoMemory = (words : List Text) → (run_options_of words ≢ Err refusal.Memory) × (record_options_of words ≢ Err refusal.Memory)
 

@@ -9,7 +9,7 @@ abbrev pub is_order : List ℕ → List ℕ → List ℕ → List ℕ → Bool
 is_order command option0 option1 turns1 = bytes_eq command (codes "run")
     && (bytes_eq option0 (codes "--turns0") && (bytes_eq option1 (codes "--turns1") && bytes_eq turns1 (codes "0")))
 
--- the turns of core 0 that the words order; words of another form order nothing
+-- the turns of core 0 that the words ask for; words of another form ask for none
 abbrev pub turns_of : List (List ℕ) → Option ℕ
 turns_of (command ∷ option0 ∷ turns0 ∷ option1 ∷ turns1 ∷ []) =
     if is_order command option0 option1 turns1 then number_up_to most_turns turns0 else None

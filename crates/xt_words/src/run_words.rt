@@ -6,10 +6,10 @@ ghost use Rattle.xt_words.specs.RunWords.{turns_of};
 use crate::numbers::limited_number;
 use crate::options::MOST_TURNS;
 
-/// The turns of core 0 that the words order.
+/// The turns of core 0 that the words ask for.
 ///
 /// The words are `run`, `--turns0`, N, `--turns1` and `0`, where N is one decimal digit or more,
-/// for a number of at most 1,000,000. Any other words order nothing.
+/// for a number of at most 1,000,000. Any other words ask for none.
 pub fn ordered_turns(words: &[String]) -> Option<u32>
     ensures turns { result ≡ turns_of (map string_bytes words.now) }
     ensures limit { IfSome result (λ n. n ≤ most_turns) }

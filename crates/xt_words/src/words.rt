@@ -41,7 +41,7 @@ fn run_meaning(words: &[String]) -> Result<Command, Refusal>
 /// - `run` has the one form `run --turns0 N --turns1 0`, where N is one decimal digit or more for a number of at
 ///   most 1,000,000. `run` in another form, `record`, `replay` and `gen` are `Unbuilt`.
 ///
-/// `Memory` is want of memory alone.
+/// `Memory` is too little memory alone.
 pub fn meaning(alloc: Global, words: &[String]) -> Result<Command, Refusal>
     ensures means { Means result (meaning_of (map string_bytes words.now)) }
     ensures limits { IfOk result IsWithinLimits }
