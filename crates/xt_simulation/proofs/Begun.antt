@@ -11,7 +11,8 @@ use Rattle.xt_simulation.specs.Stacks.{Chain, Stack, sp_under}
 use Rattle.xt_simulation.specs.Cores.{word, Related}
 use Rattle.xt_simulation.specs.Stretches as stretches
 use Rattle.xt_simulation.proofs.Modular.{place_at}
-use Rattle.xt_simulation.proofs.Chains.{touched_at, called_under, live_end}
+use Rattle.xt_map.proofs.Alike.{touched_at}
+use Rattle.xt_simulation.proofs.Chains.{called_under, live_end}
 use Rattle.xt_simulation.proofs.Stretched.{oldest, newest_of, overflows_find_frames, underflows_find_frames}
 use Rattle.xt_stretch.specs.Needs.{callee_sp, link, link_word}
 use Rattle.xt_stretch.specs.declared.Side.{Side}

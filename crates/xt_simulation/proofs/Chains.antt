@@ -1,6 +1,7 @@
 -- The chain of stack pointers below the ring, what stands in live areas, and where these lie.
 use Rattle.std.proofs.Common.{◌≡◌, ℕ, ◌+◌, ◌-◌, ◌*◌, ◌<◌, ◌≤◌, Bool, true, leb, ltb, List, [], ◌∷◌, ◌++◌, sym, ◌∙◌, refl, arith, inl, inr, ⊎_elim}
-use Rattle.std.proofs.lemmas.Bool.{or_cases, or_right, or_left, and_parts, and_from, leb-true, ltb-true, le-leb, lt-ltb, true≢false}
+use Rattle.std.proofs.lemmas.Bool.{or_cases, or_right, or_left, and_parts, leb-true, ltb-true, true≢false}
+use Rattle.xt_map.proofs.Alike.{touched_at}
 use Rattle.xt_exec.specs.State.{State}
 use Rattle.xt_frames.specs.Frames.{Frame, FrameState, known}
 use Rattle.xt_frames.specs.SaveAreas.{Area, areas, sp_of, before, touches, covers_byte, is_live}
@@ -10,9 +11,6 @@ use Rattle.xt_simulation.specs.Stacks.{Chain, IsRange, Rise, SavedHigh, sp_under
 use Rattle.xt_simulation.specs.Cores.{word, Related, Covers, SavedInAreas, LiveInRange}
 use Rattle.xt_simulation.proofs.RingLemmas.{some_within}
 use Rattle.xt_simulation.proofs.Stacked.{areas_rise, chain_top}
-
-pub touched_at : (addr size a : ℕ) → addr ≤ a → a < addr + size → touches addr size a ≡ true
-touched_at addr size a lo hi = and_from _ _ (le-leb addr a lo) (lt-ltb a (addr + size) hi)
 
 -- ---- the end of the chain
 pub chain_end : (lo hi sp : ℕ) (ring spilled : List Frame) → Chain lo hi sp (ring ++ spilled) → Chain lo hi (sp_under sp ring) spilled

@@ -29,9 +29,10 @@ use Rattle.xt_frames.specs.Breaches.{Bounds, writes_sp, opens_nothing, sets_epc1
 use Rattle.xt_simulation.specs.Stacks.{sp_under}
 use Rattle.xt_simulation.specs.Relation.{Level}
 use Rattle.xt_simulation.proofs.WindowLemmas.{passes}
-use Rattle.xt_simulation.proofs.Fitting.{Fits, IsReturn, outcome_fits}
+use Rattle.xt_rows.specs.Kinds.{Fits, IsReturn}
+use Rattle.xt_rows.proofs.Fitting.{outcome_fits}
 use Rattle.xt_simulation.proofs.Windowed.{a0_known, return_names, return_has_caller, return_is, return_value, leaves_kind}
-use Rattle.xt_simulation.specs.Turns.{finished}
+use Rattle.xt_exec.specs.Finishing.{finished}
 use Rattle.xt_simulation.proofs.Evenly.{even_ticked, even_after}
 use Rattle.xt_simulation.proofs.Ordinary.{in_both, same_outcome, settled_alike}
 use Rattle.xt_simulation.proofs.Moves.{enters, leaves, underflows}

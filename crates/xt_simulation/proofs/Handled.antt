@@ -33,7 +33,8 @@ use Rattle.xt_simulation.specs.Closing.{Changes}
 use Rattle.xt_simulation.specs.Cores.{word, Related}
 use Rattle.xt_simulation.specs.Stretches as stretches
 use Rattle.xt_simulation.specs.Stretches.{InHandler}
-use Rattle.xt_simulation.proofs.Chains.{related_spared, touched_at}
+use Rattle.xt_simulation.proofs.Chains.{related_spared}
+use Rattle.xt_map.proofs.Alike.{touched_at}
 use Rattle.xt_simulation.proofs.Windowed.{enters_window}
 use Rattle.xt_simulation.proofs.Stretched.{overflows_keep_related, underflows_keep_related, stretches_begin, stretches_go_on, stretches_end, oldest, newest_of}
 use Rattle.xt_stretch.specs.Symbols.{Effect, applied, opening}

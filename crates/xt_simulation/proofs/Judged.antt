@@ -36,9 +36,9 @@ use Rattle.xt_simulation.specs.Stacks.{sp_under}
 use Rattle.xt_simulation.specs.Relation.{Even, Level}
 use Rattle.xt_simulation.proofs.WindowLemmas.{passes}
 use Rattle.xt_simulation.proofs.Behind.{caller_behind, none_behind}
-use Rattle.xt_simulation.proofs.Fitting.{WritesNamed, AwaitsNamed, IsReturn, is_entry}
+use Rattle.xt_rows.specs.Kinds.{WritesNamed, AwaitsNamed, IsReturn, is_entry}
 use Rattle.xt_simulation.proofs.Windowed.{NoneShown, a0_known, return_names, return_has_caller, return_is}
-use Rattle.xt_simulation.specs.Turns.{Turn, finished}
+use Rattle.xt_exec.specs.Finishing.{Turn, finished}
 use Rattle.xt_simulation.specs.JudgedSteps.{Steps}
 use Rattle.xt_simulation.proofs.Evenly.{same_set_epc1, even_flow, even_ticked, even_raise_epc1, even_after}
 use Rattle.xt_simulation.proofs.Ordinary.{Ends, KeepsSp, HasRoom, in_both, raise_alike}

@@ -27,11 +27,13 @@ use Rattle.xt_simulation.proofs.Whole.{keeps_level}
 use Rattle.xt_simulation.proofs.StackSteps.{keeps_stack}
 use Rattle.xt_simulation.specs.Steps.{reply_at, memory_after_step, reply_now, record_now, state_now, memory_now}
 use Rattle.xt_simulation.specs.InHandlers.{Somewhere}
-use Rattle.xt_simulation.specs.Memories.{Agree, KeepsAreas, IsMemory}
+use Rattle.xt_simulation.specs.Memories.{Agree, KeepsAreas}
+use Rattle.xt_map.specs.Touching.{IsMemory}
 use Rattle.xt_simulation.proofs.Memories.{replies_agree, memories_agree, live_kept, keeps_from, reply_small}
-use Rattle.xt_frames.specs.Judging.{step_on, live_of, fresh_on}
+use Rattle.xt_frames.specs.Judging.{step_on, live_of}
 use Rattle.xt_simulation.specs.Judges.{After}
-use Rattle.xt_simulation.proofs.Served.{demand_served, areas_kept}
+use Rattle.xt_exec.proofs.Served.{demand_served}
+use Rattle.xt_simulation.proofs.Served.{areas_kept}
 
 -- ---- the inputs of the next step, laid over the frame state
 same_own : {fresh : Bool} {xs ys : List ℕ} → Same fresh xs ys → (k : ℕ) → Same fresh xs (set ys k (get_or xs k 0))

@@ -1,7 +1,6 @@
 pub mod Behind
 pub mod Chains
 pub mod Closed
-pub mod Fitting
 pub mod Kept
 pub mod Modular
 pub mod RingLemmas

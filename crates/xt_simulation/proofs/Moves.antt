@@ -19,7 +19,7 @@ use Rattle.xt_simulation.proofs.Modular.{bit_at_window}
 use Rattle.xt_simulation.proofs.Kept as kept
 use Rattle.xt_simulation.proofs.Behind.{free_behind}
 use Rattle.xt_simulation.proofs.Windowed.{caller_there}
-use Rattle.xt_simulation.specs.Turns.{finished}
+use Rattle.xt_exec.specs.Finishing.{finished}
 use Rattle.xt_simulation.specs.JudgedSteps.{Steps}
 use Rattle.xt_simulation.proofs.Evenly.{even_flow, even_ticked}
 use Rattle.xt_simulation.proofs.Ordinary.{Ends, even_level}

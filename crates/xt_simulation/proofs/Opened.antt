@@ -9,7 +9,7 @@ use Rattle.xt_map.specs.Memory.{HasSizes, byte_at, zeros, cleared_memory, with_s
 use Rattle.xt_map.specs.declared.regions.Region.{Region}
 use Rattle.xt_map.specs.declared.regions.Region.TheVariants.{RtcFastData, Dram, RtcSlow}
 use Rattle.xt_map.specs.Regions.{region_of}
-use Rattle.xt_simulation.proofs.Memories.{put_small, low_memory}
+use Rattle.xt_map.proofs.Small.{put_small, low_memory}
 use Rattle.xt_map.proofs.Stored.{bytes_keep_sizes, byte_keeps_sizes, cleared_has_sizes, segments_keep_sizes}
 use Rattle.xt_special.specs.Control.{Control, special_of}
 use Rattle.xt_special.specs.Opening.{no_special, opening_special, opening_control}
@@ -26,7 +26,7 @@ use Rattle.xt_simulation.specs.Cores.{word, Related}
 use Rattle.xt_simulation.proofs.RingLemmas.{some_within}
 use Rattle.xt_stretch.specs.Running.{word_at, with_word, is_access}
 use Rattle.xt_stretch.proofs.Words.{word_at-same, word_at-other, access_from}
-use Rattle.xt_simulation.specs.Memories.{IsMemory}
+use Rattle.xt_map.specs.Touching.{IsMemory}
 use Rattle.xt_simulation.specs.InHandlers.{InDram}
 use Rattle.xt_simulation.proofs.Words.{bytes_stored}
 use Rattle.xt_simulation.specs.Opening.{values_from, frame_of, IsStack, AreSmall}

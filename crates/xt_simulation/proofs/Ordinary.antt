@@ -24,7 +24,7 @@ use Rattle.xt_simulation.specs.Stacks.{sp_under}
 use Rattle.xt_simulation.specs.Relation.{Even, Level}
 use Rattle.xt_simulation.proofs.Kept as kept
 use Rattle.xt_simulation.proofs.Windowed.{some_value, visible_value}
-use Rattle.xt_simulation.specs.Turns.{Turn, finished}
+use Rattle.xt_exec.specs.Finishing.{Turn, finished}
 use Rattle.xt_simulation.specs.JudgedSteps.{Steps}
 use Rattle.xt_simulation.proofs.Evenly.{same_at, even_effect, even_ticked, even_raise}
 

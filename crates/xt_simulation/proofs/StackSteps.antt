@@ -25,13 +25,15 @@ use Rattle.xt_frames.specs.FrameStep.{FrameTurn, raised, pushed, popped, popped_
 use Rattle.xt_frames.specs.SaveAreas.{Range}
 use Rattle.xt_frames.specs.Breaches.{Bounds, first_shown, fetched_tests, other_frame_size, small_frame, leaves_range, outside, misaligns_sp, opens_nothing}
 use Rattle.xt_simulation.specs.Stacks.{Stack}
-use Rattle.xt_simulation.proofs.Fitting.{Fits, outcome_fits}
+use Rattle.xt_rows.specs.Kinds.{Fits}
+use Rattle.xt_rows.proofs.Fitting.{outcome_fits}
 use Rattle.xt_simulation.proofs.Stacked.{enters_stack, leaves_stack, known_is}
 use Rattle.xt_simulation.proofs.Windowed.{NoneShown, none_shown}
 use Rattle.xt_simulation.specs.JudgedSteps.{KeepsStack}
 use Rattle.xt_simulation.proofs.Ordinary.{KeepsSp}
 use Rattle.xt_simulation.proofs.Judged.{Sound, sound, keeps_sp, entry_number}
-use Rattle.xt_simulation.proofs.Whole.{fetched_range, step_taken, step_waits, step_fetches, breach_fetches}
+use Rattle.xt_simulation.proofs.Whole.{step_taken, step_waits, step_fetches, breach_fetches}
+use Rattle.xt_rows.proofs.Fetches.{fetched_range}
 
 write_stack : {lo hi : ℕ} {seen : List (Option ℕ)} {frames : List Frame} → Stack lo hi seen frames → (o : Option Write) → KeepsSp o → Stack lo hi (seen_after_write o seen) frames
 write_stack k None other = k

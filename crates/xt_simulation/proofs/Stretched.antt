@@ -1,8 +1,9 @@
 -- A whole stretch of handler steps keeps the relation.
-use Rattle.std.proofs.Common.{◌≡◌, ℕ, ◌+◌, ◌-◌, ◌*◌, ◌%◌, ◌^◌, ◌≤◌, ◌≢◌, Bool, true, false, eqb, List, [], ◌∷◌, ◌++◌, ◌∙◌, refl, arith, ⊎_elim, length, get_or, cond, bit_or, append_assoc}
+use Rattle.std.proofs.Common.{◌≡◌, ℕ, ◌+◌, ◌-◌, ◌*◌, ◌%◌, ◌≤◌, Bool, true, false, List, [], ◌∷◌, ◌++◌, ◌∙◌, refl, arith, ⊎_elim, get_or, append_assoc}
 use Rattle.std.proofs.Math.ListN.{set}
 use Rattle.std.proofs.lemmas.Bool.{cases_lt}
 use Rattle.std.proofs.lemmas.List.{get_or-set_same, get_or-set_other, length-set}
+use Rattle.xt_special.proofs.Kept.{ticked_other, ticked_length}
 use Rattle.xt_exec.specs.State.{State}
 use Rattle.xt_frames.specs.Frames.{Frame, moved, FrameState, known}
 use Rattle.xt_frames.specs.SaveAreas.{sp_of, before}
@@ -10,11 +11,9 @@ use Rattle.xt_simulation.specs.Cores.{word, Related}
 use Rattle.xt_simulation.specs.Ring.{Holds, InRing, AreFrames}
 use Rattle.xt_simulation.specs.Stacks.{Chain, IsRange, Saved, sp_under}
 use Rattle.xt_simulation.specs.Stretches.{Finds, OverflowsFindFrames, UnderflowsFindFrames, OverflowsKeepRelated, UnderflowsKeepRelated, StretchesBegin, StretchesGoOn, StretchesEnd}
-use Rattle.xt_special.specs.Timers.{with_timer, ticked_special}
 use Rattle.xt_special.specs.declared.ps.Ps.{Ps}
 use Rattle.xt_window.specs.Ring.{place, visible}
 use Rattle.xt_frames.specs.Breaches.{Bounds}
-use Rattle.xt_special.specs.Numbers as number
 use Rattle.xt_simulation.proofs.RingLemmas.{some_within}
 use Rattle.xt_simulation.proofs.Closed.{spills, fills, moved_end, in_ring_end}
 use Rattle.xt_simulation.proofs.Stacked.{chain_top, links_are_saved, spills_are_saved}
@@ -160,33 +159,6 @@ underflows_keep_related b fresh s t f g rest m l c start ld =
     }
 
 -- ---- PC, PS and the special registers
-timer_other : (xs : List ℕ) (timer mask k : ℕ) → k ≢ 226 → get_or (with_timer timer mask xs) k 0 ≡ get_or xs k 0
-timer_other xs timer mask k other =
-    elim (eqb (get_or xs (number.ccompare timer) 0) (get_or xs 234 0)) as (λ b. get_or (cond b (set xs 226 (bit_or (get_or xs 226 0) mask)) xs) k 0 ≡ get_or xs k 0)
-    [ true ↦ get_or-set_other xs 226 k (bit_or (get_or xs 226 0) mask) 0 other | false ↦ refl ]
-
-timer_length : (xs : List ℕ) (timer mask : ℕ) → length (with_timer timer mask xs) ≡ length xs
-timer_length xs timer mask =
-    elim (eqb (get_or xs (number.ccompare timer) 0) (get_or xs 234 0)) as (λ b. length (cond b (set xs 226 (bit_or (get_or xs 226 0) mask)) xs) ≡ length xs)
-    [ true ↦ length-set xs 226 (bit_or (get_or xs 226 0) mask) | false ↦ refl ]
-
-abbrev counted : List ℕ → List ℕ
-counted xs = set xs 234 ((get_or xs 234 0 + 1) % 2 ^ 32)
-
-pub ticked_other : (xs : List ℕ) (k : ℕ) → k ≢ 226 → k ≢ 234 → get_or (ticked_special xs) k 0 ≡ get_or xs k 0
-unfolding ticked_special
-ticked_other xs k a b =
-    timer_other (with_timer 1 (2 ^ 15) (with_timer 0 (2 ^ 6) (counted xs))) 2 (2 ^ 16) k a
-    ∙ (timer_other (with_timer 0 (2 ^ 6) (counted xs)) 1 (2 ^ 15) k a
-    ∙ (timer_other (counted xs) 0 (2 ^ 6) k a ∙ get_or-set_other xs 234 k ((get_or xs 234 0 + 1) % 2 ^ 32) 0 b))
-
-pub ticked_length : (xs : List ℕ) → length (ticked_special xs) ≡ length xs
-unfolding ticked_special
-ticked_length xs =
-    timer_length (with_timer 1 (2 ^ 15) (with_timer 0 (2 ^ 6) (counted xs))) 2 (2 ^ 16)
-    ∙ (timer_length (with_timer 0 (2 ^ 6) (counted xs)) 1 (2 ^ 15)
-    ∙ (timer_length (counted xs) 0 (2 ^ 6) ∙ length-set xs 234 ((get_or xs 234 0 + 1) % 2 ^ 32)))
-
 pub stretches_begin : StretchesBegin
 stretches_begin c base vector long = record {
   ps = refl;

@@ -25,7 +25,8 @@ use Rattle.xt_simulation.specs.Relation.{inputs}
 use Rattle.xt_simulation.proofs.Chains.{related_spared, live_in_range}
 use Rattle.xt_simulation.specs.Steps.{reply_at, memory_after_step, reply_now, record_now, state_now, memory_now}
 use Rattle.xt_simulation.specs.InHandlers.{IsGood, Somewhere, Handling}
-use Rattle.xt_simulation.specs.Memories.{Agree, KeepsAreas, IsMemory}
+use Rattle.xt_simulation.specs.Memories.{Agree, KeepsAreas}
+use Rattle.xt_map.specs.Touching.{IsMemory}
 use Rattle.xt_simulation.proofs.Handled.{Next, goes_on, ends, begins_at, handling_stack, handling_steps, handling_spared}
 use Rattle.xt_simulation.proofs.Memories.{live_kept, step_memory}
 use Rattle.xt_frames.specs.Judging.{Seen, seen_window, seen_step, step_on, live_of}

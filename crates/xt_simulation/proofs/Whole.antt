@@ -1,22 +1,18 @@
 -- A whole turn: interrupts first, then waiting, then the instruction.
-use Rattle.std.proofs.Common.{◌≡◌, ◌≢◌, ℕ, ◌+◌, ◌<◌, ◌≤◌, Bool, true, false, ◌||◌, ◌&&◌, not, cond, eqb, ltb, List, Option, Some, None, sym, ap, ◌∙◌, refl, arith, ⊎_elim, get_or, subst}
-use Rattle.std.proofs.Math.ListN.{set}
+use Rattle.xt_special.proofs.Kept.{Kept, interrupt_kept, tick_kept}
+use Rattle.xt_rows.proofs.Fetches.{fetched_range}
+use Rattle.std.proofs.Common.{◌≡◌, ℕ, ◌<◌, Bool, true, false, ◌||◌, ◌&&◌, not, eqb, ltb, List, Some, None, sym, ap, ◌∙◌, refl, arith, ⊎_elim, subst}
 use Rattle.std.proofs.lemmas.Bool.{cases_Bool, true≢false, or_from, cond-true, cond-false, not-false, eqb-true}
-use Rattle.std.proofs.lemmas.List.{get_or-set_other}
 use Rattle.xt_isa.specs.declared.Insn.{Insn}
 use Rattle.xt_isa.specs.Ranges.{in_range}
-use Rattle.xt_isa.specs.Spelling.{spelled, fields_at, length_of}
-use Rattle.xt_isa.proofs.Ranged.{spelled_at_in_range}
 use Rattle.xt_special.specs.Numbers as number
 use Rattle.xt_special.specs.Control.{Control, special_of}
 use Rattle.xt_special.specs.Timers.{ticked}
-use Rattle.xt_special.specs.Exceptions.{after_exception, after_double, after_general}
-use Rattle.xt_special.specs.Interrupts.{pending_of, after_interrupt, after_high_level, interrupt_cause}
+use Rattle.xt_special.specs.Interrupts.{pending_of, after_interrupt}
 use Rattle.xt_trace.specs.declared.record.StepRecord.{StepRecord}
-use Rattle.xt_rows.specs.Fetching.{Fetched, Fetches, Fails, SpellsNothing, fetched, fetched_past, unfetchable, fetched_length, read_as}
+use Rattle.xt_rows.specs.Fetching.{Fetched, Fetches, Fails, SpellsNothing, fetched}
 use Rattle.xt_rows.specs.Effects.{illegal_instruction, fetch_error}
 use Rattle.xt_rows.specs.Settling.{settled_interrupt, settled_wait}
-use Rattle.xt_rows.specs.Laws.{AreBytes}
 use Rattle.xt_exec.proofs.Specials.{level_small}
 use Rattle.xt_exec.specs.State.{State}
 use Rattle.xt_exec.specs.Turn.{Planned, planned, in_window, fetched_turn, turn}
@@ -26,27 +22,14 @@ use Rattle.xt_frames.specs.HandlerSteps.{is_window}
 use Rattle.xt_frames.specs.Breaches.{Bounds, first_shown, fetched_tests, other_tests, laid_breach, writes_epc1, falls, fresh_after}
 use Rattle.xt_simulation.specs.Stacks.{sp_under}
 use Rattle.xt_simulation.specs.Relation.{Level}
-use Rattle.xt_simulation.proofs.Stretched.{ticked_other}
-use Rattle.xt_simulation.proofs.Windowed.{NoneShown, none_shown, turn_taken, turn_waits, turn_fetches}
-use Rattle.xt_simulation.specs.Turns.{Turn, finished}
+use Rattle.xt_simulation.proofs.Windowed.{NoneShown, none_shown}
+use Rattle.xt_exec.proofs.Halves.{turn_taken, turn_waits, turn_fetches}
+use Rattle.xt_exec.specs.Finishing.{Turn, finished}
 use Rattle.xt_simulation.specs.JudgedSteps.{Steps, KeepsLevel}
 use Rattle.xt_simulation.proofs.Evenly.{same_at, even_ticked, even_interrupt, even_interrupt_epc1, even_after, same_pending}
 use Rattle.xt_simulation.proofs.Ordinary.{Ends, in_both}
 use Rattle.xt_simulation.proofs.Judged.{sound, Target, raise_target}
 use Rattle.xt_simulation.proofs.Executed.{insn_target}
-
--- ---- what is fetched is in range
-read_range : (o : Option Insn) (len : ℕ) (i : Insn) (n : ℕ) → ((j : Insn) → Some j ≡ o → in_range j ≡ true) → read_as o len ≡ Fetches i n → in_range i ≡ true
-read_range None len i n h e = absurd cc
-read_range (Some j) len i n h e = let same : j ≡ i = cc in subst (λ k. in_range k ≡ true) same (h j refl)
-
-past_range : (code : ℕ → ℕ) (pc : ℕ) (i : Insn) (n : ℕ) (o : Option ℕ) → AreBytes code → fetched_past o code pc ≡ Fetches i n → in_range i ≡ true
-past_range code pc i n (Some a) bytes e = absurd cc
-past_range code pc i n None bytes e = read_range (spelled (fields_at (code pc) (code (pc + 1)) (code (pc + 2)))) (length_of (code pc)) i n (λ j is. spelled_at_in_range (code pc) (code (pc + 1)) (code (pc + 2)) j (bytes pc) (bytes (pc + 1)) (bytes (pc + 2)) is) e
-
-pub fetched_range : (code : ℕ → ℕ) (pc : ℕ) (i : Insn) (n : ℕ) → AreBytes code → fetched code pc ≡ Fetches i n → in_range i ≡ true
-unfolding fetched
-fetched_range code pc i n bytes e = past_range code pc i n (unfetchable pc (fetched_length code pc)) bytes e
 
 -- ---- the frame machine's step
 pub step_taken : (code : ℕ → ℕ) (reply : ℕ) (g : FrameState) → ltb 0 (pending_of g.control) ≡ true → laid_step code reply g ≡ in_frame (settled_interrupt (pending_of g.control) g.control) reply g
@@ -65,35 +48,6 @@ pub breach_fetches : (b : Bounds) (fresh : Bool) (code : ℕ → ℕ) (live stal
     → laid_breach b fresh code live stale rec g ≡ first_shown (fetched_tests b fresh live stale (fetched code g.control.pc) rec g (laid_step code rec.reply g))
 unfolding laid_breach
 breach_fetches b fresh code live stale rec g e w = cond-false (ltb 0 (pending_of g.control) || g.control.waits) _ _ (or_from _ _ e w)
-
--- ---- what an interrupt keeps
-abbrev Kept : Control → Control → Type 0
-Kept c d = (d.ps.woe ≡ c.ps.woe) × (special_of d number.vecbase ≡ special_of c number.vecbase)
-
-if_kept : (c : Control) (b : Bool) (x y : Control) → Kept c x → Kept c y → Kept c (cond b x y)
-if_kept c true x y p q = p
-if_kept c false x y p q = q
-
-two_others : (xs : List ℕ) (j k v w : ℕ) → 231 ≢ j → 231 ≢ k → get_or (set (set xs j v) k w) 231 0 ≡ get_or xs 231 0
-two_others xs j k v w a b = get_or-set_other (set xs j v) k 231 w 0 b ∙ get_or-set_other xs j 231 v 0 a
-
-exception_kept : (cause : ℕ) (c : Control) → Kept c (after_exception cause None c)
-unfolding after_exception
-exception_kept cause c = if_kept c c.ps.excm (after_double cause None c) (after_general cause None c)
-    (refl, two_others c.special 192 232 c.pc cause (λ e. omega arith) (λ e. omega arith))
-    (refl, two_others c.special 177 232 c.pc cause (λ e. omega arith) (λ e. omega arith))
-
-interrupt_kept : (level : ℕ) (c : Control) → level ≤ 3 → Kept c (after_interrupt level c)
-unfolding after_interrupt
-interrupt_kept level c small = awake_kept (cond (eqb level 1) (after_exception interrupt_cause None c) (after_high_level level c)) (if_kept c (eqb level 1) (after_exception interrupt_cause None c) (after_high_level level c)
-    (exception_kept interrupt_cause c)
-    (refl, two_others c.special (176 + level) (192 + level) c.pc _ (λ e. omega arith) (λ e. omega arith)))
-  where
-    awake_kept : (d : Control) → Kept c d → Kept c (record d { waits = false })
-    awake_kept d k = k
-
-tick_kept : (c d : Control) → Kept c d → Kept c (ticked d)
-tick_kept c d k = (k.0, ticked_other d.special 231 (λ e. omega arith) (λ e. omega arith) ∙ k.1)
 
 module _ {vecbase : ℕ} {fresh : Bool} {s : State} {g : FrameState} {ring spilled : List Frame} (l : Level vecbase fresh s g ring spilled) (at : Fetched) (reply : ℕ) where
   taken_target : (level : ℕ) → Target vecbase fresh spilled (sp_under (known g.seen 1) ring) at s (finished (in_window (settled_interrupt level s.control) s) reply) (in_frame (settled_interrupt level g.control) reply g)

@@ -1,4 +1,5 @@
 -- The turns that enter a window exception: an overflow of the oldest caller's window, or an underflow of the newest spilled one.
+use Rattle.xt_exec.proofs.Halves.{turn_taken, turn_waits, turn_fetches}
 use Rattle.std.proofs.Common.{◌≡◌, ℕ, zero, suc, ◌+◌, ◌-◌, ◌*◌, ◌%◌, ◌^◌, ◌<◌, ◌⊎◌, Bool, true, false, ◌||◌, ◌&&◌, not, eqb, ltb, cond, List, [], ◌∷◌, ◌++◌, Option, Some, None, sym, ap, ◌∙◌, refl, arith, inl, inr, ⊎_elim, subst, get_or}
 use Rattle.std.specs.Prelude.{is_some, unwrap_or}
 use Rattle.std.proofs.lemmas.Bool.{cases_Bool, both_ways, cond-true, cond-false, or_parts, and_parts, not-false, not-true, eqb-true, true≢false}
@@ -20,10 +21,10 @@ use Rattle.xt_rows.specs.Fetching.{Fetched, Fetches, Fails, SpellsNothing, fetch
 use Rattle.xt_rows.specs.Effects.{illegal_instruction, write_to, no_caller_window}
 use Rattle.xt_rows.specs.Operands.{reads}
 use Rattle.xt_rows.specs.Outcomes.{outcome, control_outcome, density_outcome, outcome_at, value_of}
-use Rattle.xt_rows.specs.Settling.{Kind, Executed, Raised, Taken, Waited, Stopped, settled_interrupt, settled_wait}
+use Rattle.xt_rows.specs.Settling.{Kind, Executed, Raised, Taken, Waited, Stopped}
 use Rattle.xt_exec.specs.State.{State}
 use Rattle.xt_exec.specs.Laws.{IsShaped}
-use Rattle.xt_exec.specs.Turn.{Planned, planned, kind_of, in_window, raises, has_windows, looks, window_check, window_exception, overflow, underflow, window_step, entered, returned, resumed, moved_stack, return_size, is_illegal, done, checked, fetched_turn, falls}
+use Rattle.xt_exec.specs.Turn.{Planned, planned, kind_of, raises, has_windows, looks, window_check, window_exception, overflow, underflow, window_step, entered, returned, resumed, moved_stack, return_size, is_illegal, done, checked, fetched_turn, falls}
 use Rattle.xt_frames.specs.Frames.{Frame, FrameState, known, moved}
 use Rattle.xt_frames.specs.HandlerSteps.{is_window}
 use Rattle.xt_frames.specs.Breaches.{Test, first_shown, lacks, reads_none, is_return, mismatches, returns_elsewhere, is_empty, has_no_caller, return_tests, fetched_return_breach, is_underflow, window_breach}
@@ -32,20 +33,8 @@ use Rattle.xt_simulation.specs.Relation.{Level, Overflows, Underflows, EntersWin
 use Rattle.xt_simulation.proofs.Modular.{place_at, bit_at_window}
 use Rattle.xt_simulation.proofs.WindowLemmas.{hits, size_at_oldest, oldest_within}
 use Rattle.xt_simulation.proofs.Behind.{caller_bit}
-use Rattle.xt_simulation.proofs.Fitting.{Fits, IsReturn, outcome_fits}
-
--- ---- the halves of a turn
-pub turn_taken : (code : ℕ → ℕ) (s : State) → ltb 0 (pending_of s.control) ≡ true → planned code s ≡ in_window (settled_interrupt (pending_of s.control) s.control) s
-unfolding planned
-turn_taken code s e = cond-true (ltb 0 (pending_of s.control)) _ _ e
-
-pub turn_waits : (code : ℕ → ℕ) (s : State) → ltb 0 (pending_of s.control) ≡ false → s.control.waits ≡ true → planned code s ≡ in_window (settled_wait s.control) s
-unfolding planned
-turn_waits code s e w = cond-false (ltb 0 (pending_of s.control)) _ _ e ∙ cond-true s.control.waits _ _ w
-
-pub turn_fetches : (code : ℕ → ℕ) (s : State) → ltb 0 (pending_of s.control) ≡ false → s.control.waits ≡ false → planned code s ≡ fetched_turn (fetched code s.control.pc) code s
-unfolding planned
-turn_fetches code s e w = cond-false (ltb 0 (pending_of s.control)) _ _ e ∙ cond-false s.control.waits _ _ w
+use Rattle.xt_rows.specs.Kinds.{Fits, IsReturn}
+use Rattle.xt_rows.proofs.Fitting.{outcome_fits}
 
 -- ---- a turn that passes to the window check
 pub record Checks (code : ℕ → ℕ) (s : State) : Type 0 where

@@ -12,7 +12,7 @@ use Rattle.xt_frames.specs.Breaches.{Bounds, laid_breach, fresh_after}
 use Rattle.xt_rows.specs.Fetching.{fetched}
 use Rattle.xt_simulation.specs.Stacks.{Stack, sp_under}
 use Rattle.xt_simulation.specs.Relation.{Level}
-use Rattle.xt_simulation.specs.Turns.{Turn, finished}
+use Rattle.xt_exec.specs.Finishing.{Turn, finished}
 
 -- a turn and a frame step with one record, after which the machines are level and the same frames are spilled
 pub record Steps (vecbase : ℕ) (fresh : Bool) (spilled : List Frame) (under : ℕ) (t : Turn) (u : FrameTurn) : Type 0 where

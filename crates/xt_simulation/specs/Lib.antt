@@ -5,7 +5,6 @@ pub mod Ring
 pub mod Stacks
 pub mod Stretches
 pub mod JudgedSteps
-pub mod Turns
 pub mod InHandlers
 pub mod HandlerLaws
 pub mod Memories

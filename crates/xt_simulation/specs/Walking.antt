@@ -1,14 +1,11 @@
 -- Both cores over a schedule, beside the judge's walk, up to the first breach.
-use Rattle.std.specs.Prelude.{◌≡◌, ◌≤◌, ℕ, Bool, true, false, ◌⊎◌, Option, Some, None, List, [], ◌∷◌, ◌++◌}
-use Rattle.xt_map.specs.declared.access.Access.{Access}
+use Rattle.std.specs.Prelude.{◌≤◌, ℕ, Bool, true, false, ◌⊎◌, Option, Some, None, List, [], ◌∷◌, ◌++◌}
 use Rattle.xt_map.specs.declared.access.Entry.{Entry}
 use Rattle.xt_map.specs.declared.contents.MemoryContents.{MemoryContents}
 use Rattle.xt_map.specs.History.{IsLegal}
 use Rattle.xt_trace.specs.declared.record.StepRecord.{StepRecord}
 use Rattle.xt_exec.specs.State.{State}
-use Rattle.xt_exec.specs.Turn.{shown}
 use Rattle.xt_frames.specs.Frames.{FrameState}
-use Rattle.xt_frames.specs.FrameStep.{FrameTurn}
 use Rattle.xt_frames.specs.SaveAreas.{Range, is_live}
 use Rattle.xt_frames.specs.Breaches.{Bounds}
 use Rattle.xt_simulation.specs.Steps.{record_now, state_now, memory_now}
