@@ -1,3 +1,5 @@
 pub mod Replies
 pub mod Specials
 pub mod Shapes
+pub mod Halves
+pub mod Served

@@ -2,3 +2,4 @@ pub mod State
 pub mod Turn
 pub mod Laws
 pub mod Chips
+pub mod Finishing

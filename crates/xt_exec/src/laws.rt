@@ -1,7 +1,7 @@
 //! Laws of the turn. Each is the contract of a function that does nothing.
 #![tactic(auto)]
 
-ghost use Rattle.xt_exec.specs.Laws.{IgnoresReplyWithoutAccess, IsOneTurn, KeepsShape, OpensShaped, RecordsWhatItAsks};
+ghost use Rattle.xt_exec.specs.Laws.{DemandsAreServed, IgnoresReplyWithoutAccess, IsOneTurn, KeepsShape, OpensShaped, RecordsWhatItAsks};
 
 /// Each state and reply has exactly one record and next state.
 pub fn there_is_one_turn()
@@ -28,4 +28,9 @@ pub fn turns_keep_shape()
 /// The state in which a core opens has that shape.
 pub fn opening_is_shaped()
     ensures { OpensShaped }
+{}
+
+/// What a turn asks for is an access that the bus serves.
+pub fn demands_are_served()
+    ensures { DemandsAreServed }
 {}

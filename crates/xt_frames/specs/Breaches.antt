@@ -15,8 +15,7 @@ use Rattle.xt_isa.specs.declared.system.SpecialName.TheVariants as SpecialName
 use Rattle.xt_isa.specs.declared.density.Density.TheVariants as density
 use Rattle.xt_isa.specs.declared.density.NarrowRetName.TheVariants as NarrowRetName
 use Rattle.xt_map.specs.declared.access.Access.{Access}
-use Rattle.xt_map.specs.declared.access.Kind.{Kind}
-use Rattle.xt_map.specs.declared.access.Kind.TheVariants.{Load, Store, Cas}
+pub use Rattle.xt_map.specs.Touching.{is_load, is_store}
 use Rattle.xt_special.specs.declared.ps.Ps.{Ps}
 use Rattle.xt_special.specs.Numbers as number
 use Rattle.xt_special.specs.Access.{is_window_register}
@@ -30,6 +29,7 @@ use Rattle.xt_rows.specs.declared.outcome.Write.{Write}
 use Rattle.xt_rows.specs.Fetching.{Fetched, Fetches, Fails, SpellsNothing, fetched}
 use Rattle.xt_rows.specs.Numbers.{minus, natural}
 use Rattle.xt_rows.specs.Operands.{reads, special_reads, named}
+unfoldable pub use Rattle.xt_rows.specs.Kinds.{is_return, is_movsp, is_windowing, names_window_register, sets_epc1}
 use Rattle.xt_frames.specs.declared.kinds.BreachKind.{BreachKind}
 use Rattle.xt_frames.specs.declared.kinds.BreachKind.TheVariants as breach
 use Rattle.xt_frames.specs.Frames.{Frame, FrameState, known}
@@ -110,11 +110,6 @@ opens_nothing _ f = false
 -- ---- RETW's tests
 -- The top two bits of a0 name the size of the call. There is nothing to compare with in the opening
 -- frame.
-unfoldable pub is_return : Insn → Bool
-is_return (insn.Control (control.Ret RetName.Retw)) = true
-is_return (insn.Density (density.Ret NarrowRetName.Retw)) = true
-is_return _ = false
-
 abbrev pub mismatches : List Frame → ℕ → Bool
 mismatches [] a0 = false
 mismatches (g ∷ rest) a0 = not ((a0 / 2 ^ 30) == g.by)
@@ -136,16 +131,6 @@ abbrev pub some_byte : (ℕ → Bool) → ℕ → ℕ → Bool
 some_byte test addr zero = false
 some_byte test addr (suc n) = test addr || some_byte test (addr + 1) n
 
-abbrev pub is_load : Kind → Bool
-is_load Load = true
-is_load (Store v) = false
-is_load (Cas expected new) = false
-
-abbrev pub is_store : Kind → Bool
-is_store Load = false
-is_store (Store v) = true
-is_store (Cas expected new) = false
-
 abbrev pub touches_save_area : (ℕ → Bool) → Option Access → Bool
 touches_save_area live None = false
 touches_save_area live (Some a) = not (is_load a.kind) && some_byte live a.addr a.size
@@ -162,17 +147,6 @@ loads_stale live stale (Some a) =
 abbrev pub names_high : Insn → FrameState → Bool
 names_high i f = f.control.ps.excm && nat_le 4 (named i)
 
-unfoldable pub is_windowing : Insn → Bool
-is_windowing (insn.Memory (memory.L32e name t s offset)) = true
-is_windowing (insn.System (system.Rfe ReturnName.Rfwo)) = true
-is_windowing (insn.System (system.Rfe ReturnName.Rfwu)) = true
-is_windowing (insn.System (system.Rotw n)) = true
-is_windowing _ = false
-
-unfoldable pub names_window_register : Insn → Bool
-names_window_register (insn.System (system.Rsr name t n)) = is_window_register n
-names_window_register _ = false
-
 -- the special registers that the frame machine no longer knows: EPC1, where exception mode has
 -- ended since EPC1 was last written
 abbrev pub lost_of : Bool → ℕ → Bool
@@ -185,10 +159,6 @@ reads_lost fresh (Some n) = lost_of fresh n
 
 abbrev pub reads_epc1 : Bool → Insn → Bool
 reads_epc1 fresh i = reads_lost fresh (special_reads i).0 || reads_lost fresh (special_reads i).1
-
-unfoldable pub is_movsp : Insn → Bool
-is_movsp (insn.Shift (shift.Movsp t s)) = true
-is_movsp _ = false
 
 -- ---- the first breach of a step
 
@@ -302,11 +272,6 @@ window_breach code (kind.Window vector) f =
 window_breach code k f = None
 
 -- ---- EPC1
-unfoldable pub sets_epc1 : Insn → Bool
-sets_epc1 (insn.System (system.Rsr SpecialName.Wsr t n)) = n == number.epc 1
-sets_epc1 (insn.System (system.Rsr SpecialName.Xsr t n)) = n == number.epc 1
-sets_epc1 _ = false
-
 abbrev pub fetched_sets_epc1 : Fetched → Bool
 fetched_sets_epc1 (Fetches i len) = sets_epc1 i
 fetched_sets_epc1 _ = false

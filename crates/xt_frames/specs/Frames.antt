@@ -2,7 +2,7 @@
 -- base, no vector of a window exception and no save area is in it.
 use Rattle.std.specs.Prelude.{ℕ, ◌+◌, ◌-◌, ◌*◌, ◌^◌, Option, Some, None, List, [], ◌∷◌, ◌++◌, slice_index_or, slice_set, take, drop, replicate, unwrap_or}
 use Rattle.xt_special.specs.Control.{Control}
-use Rattle.xt_special.specs.Opening.{opening_control}
+use Rattle.xt_special.specs.Opening.{prid_of, opening_control}
 use Rattle.xt_rows.specs.declared.outcome.Write.{Write}
 
 -- a frame that has called another: by how many windows the call moved, 1, 2 or 3, and the
@@ -50,8 +50,8 @@ opening_seen stack_end =
     slice_set (slice_set (replicate 16 (Some 0)) 1 (Some (stack_end - 64))) 8 (Some (2 ^ 31))
 
 abbrev pub opening_frame : ℕ → ℕ → ℕ → ℕ → FrameState
-opening_frame prid pc vecbase stack_end = record {
+opening_frame core pc vecbase stack_end = record {
   seen = opening_seen stack_end;
   frames = [];
-  control = opening_control pc prid vecbase;
+  control = opening_control pc (prid_of core) vecbase;
 }

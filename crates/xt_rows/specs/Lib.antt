@@ -5,3 +5,4 @@ pub mod Effects
 pub mod Outcomes
 pub mod Settling
 pub mod Laws
+pub mod Kinds
