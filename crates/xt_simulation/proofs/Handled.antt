@@ -24,7 +24,7 @@ use Rattle.xt_exec.specs.Turn.{Planned, planned, demand, turn, window_exception}
 use Rattle.xt_frames.specs.Frames.{Frame, FrameState, moved}
 use Rattle.xt_frames.specs.FrameStep.{laid}
 use Rattle.xt_frames.specs.SaveAreas.{sp_of, touches, is_live}
-use Rattle.xt_frames.specs.Breaches.{Bounds, window_breach}
+use Rattle.xt_frames.specs.Breaches.{lost_of, Bounds, window_breach}
 use Rattle.xt_frames.specs.HandlerSteps.{is_window, closes, fetched_ends, ends_stretch}
 use Rattle.xt_simulation.specs.Stacks.{Stack}
 use Rattle.xt_simulation.specs.Relation as relation
@@ -207,8 +207,8 @@ not_touched addr size x h = false_from_ne_true (touches addr size x) (λ t.
     let up = ltb-true x (addr + size) p.1 in
     ⊎_elim (λ a. omega arith) (λ a. omega arith) h)
 
-module _ (b : Bounds) (fresh : Bool) (before t : State) (f : FrameState) (front : List Frame) (g : Frame) (rest : List Frame) (opened now : ℕ → ℕ)
-    (r : Found Overflow opened b before f front g rest) (l : Related opened b fresh before f (front ++ g ∷ []) rest)
+module _ (b : Bounds) (lost : ℕ → Bool) (before t : State) (f : FrameState) (front : List Frame) (g : Frame) (rest : List Frame) (opened now : ℕ → ℕ)
+    (r : Found Overflow opened b before f front g rest) (l : Related opened b lost before f (front ++ g ∷ []) rest)
     (saved : (k : ℕ) → k < 4 * g.by → word_at now (address_of (start_of before opened rest) (save_word Overflow g.by k)) ≡ small.visible (start_of before opened rest) k)
     (kept : (a : ℕ) → is_live b.range f a ≡ true → IsElsewhere g.by (start_of before opened rest) a → now a ≡ opened a) where
   over_callee : ℕ
@@ -275,18 +275,18 @@ module _ (b : Bounds) (fresh : Bool) (before t : State) (f : FrameState) (front 
       top_large : 16 * g.by ≤ over_top
       top_large = let t = (oldest b f front g rest opened l).top in let large = r.chain.0.large in omega arith
 
-  pub over_end : Changes before t (moved rest) g.by → t.start ≡ without_bit before.start (moved rest) → Related now b false t f front (g ∷ rest)
+  pub over_end : Changes before t (moved rest) g.by → t.start ≡ without_bit before.start (moved rest) → Related now b (lost_of false) t f front (g ∷ rest)
   unfolding new_bytes
   over_end changes bits =
-      let middle = overflows_keep_related b fresh before t f front g rest opened new_bytes l changes bits stored in
+      let middle = overflows_keep_related b lost before t f front g rest opened new_bytes l changes bits stored in
       related_spared new_bytes now b f (λ a live. ⊎_elim
       (λ own. sym (mixed_own (saves over_callee over_top g.by) now opened a own))
       (λ free. kept a live (save_free g.by (start_of before opened rest) r.frames over_callee over_top a callee_is top_is free) ∙ sym (mixed_other (saves over_callee over_top g.by) now opened a free))
       (cases_Bool (saves over_callee over_top g.by a))) middle
 
 -- ---- the end of an underflow's handler
-module _ (b : Bounds) (fresh : Bool) (before t : State) (f : FrameState) (front : List Frame) (g : Frame) (rest : List Frame) (opened now : ℕ → ℕ)
-    (r : Found Underflow opened b before f front g rest) (l : Related opened b fresh before f [] (g ∷ rest))
+module _ (b : Bounds) (lost : ℕ → Bool) (before t : State) (f : FrameState) (front : List Frame) (g : Frame) (rest : List Frame) (opened now : ℕ → ℕ)
+    (r : Found Underflow opened b before f front g rest) (l : Related opened b lost before f [] (g ∷ rest))
     (loaded : (k : ℕ) → k < 4 * g.by → visible t.regs (moved rest % 16) k ≡ word_at opened (address_of (start_of before opened rest) (save_word Underflow g.by k)))
     (kept : (a : ℕ) → is_live b.range f a ≡ true → now a ≡ opened a) where
   under_loads : stretches.Loads opened before t (moved rest) g.by
@@ -303,27 +303,27 @@ module _ (b : Bounds) (fresh : Bool) (before t : State) (f : FrameState) (front 
             sym (same_visible t.regs (moved rest) i) ∙ (loaded i k ∙ ap (word opened) (save_high Underflow g.by i (start_of before opened rest) r.frames big_i k ∙ ap (λ x. x - 16 * g.by + 4 * (i - 4)) top));
       }
 
-  pub under_end : Changes before t (moved rest) g.by → t.start ≡ with_bit before.start (moved rest) → Related now b false t f (g ∷ []) rest
-  under_end changes bits = related_spared opened now b f kept (underflows_keep_related b fresh before t f g rest opened l changes bits under_loads)
+  pub under_end : Changes before t (moved rest) g.by → t.start ≡ with_bit before.start (moved rest) → Related now b (lost_of false) t f (g ∷ []) rest
+  under_end changes bits = related_spared opened now b f kept (underflows_keep_related b lost before t f g rest opened l changes bits under_loads)
 
 module _ (code : ℕ → ℕ) (constant : (a : ℕ) → code a < 2 ^ 8) (b : Bounds) (dram : InDram b) (aligned : b.vecbase % 2 ^ 10 ≡ 0) (handlers : Handlers code b.vecbase) where
   -- ---- the record of a window exception
-  entered : (side : Side) (m : MemoryContents) (fresh : Bool) (s : State) (f : FrameState) (front : List Frame) (g : Frame) (rest : List Frame) → Begins side (byte_at m) b fresh s f front g rest → special_of s.control number.vecbase ≡ b.vecbase
+  entered : (side : Side) (m : MemoryContents) (lost : ℕ → Bool) (s : State) (f : FrameState) (front : List Frame) (g : Frame) (rest : List Frame) → Begins side (byte_at m) b lost s f front g rest → special_of s.control number.vecbase ≡ b.vecbase
       → 0 < g.by → g.by ≤ 3 → s.control.ps.excm ≡ false → s.control.waits ≡ false → IsShaped s → planned code s ≡ window_exception (vector_number side g.by) (moved rest % 16) s
       → (demand code s ≡ None) × Handling code b m (state_now code m s) f
   unfolding demand turn
-  entered side m fresh s f front g rest begins vectors moves within low running shaped is =
+  entered side m lost s f front g rest begins vectors moves within low running shaped is =
       let start = start_of s (byte_at m) rest in
       let d : demand code s ≡ None = ap (λ (p : Planned). p.access) is in
       let t : state_now code m s ≡ (window_exception (vector_number side g.by) (moved rest % 16) s).after = (rw is refl) in
-      let r : Found side (byte_at m) b s f front g rest = found side b fresh s f front g rest (byte_at m) dram shaped moves within begins in
+      let r : Found side (byte_at m) b s f front g rest = found side b lost s f front g rest (byte_at m) dram shaped moves within begins in
       let long : number.epc 1 < length s.control.special = (let c = shaped.control.count in omega arith) in
       let answered = handlers side g.by moves (omega arith) in
       let P : State → Type 0 = λ t. Handling code b m t f in (
         d,
         subst P (sym t) (record {
           side = side;
-          fresh = fresh;
+          lost = lost;
           before = s;
           opened = byte_at m;
           front = front;
@@ -347,22 +347,22 @@ module _ (code : ℕ → ℕ) (constant : (a : ℕ) → code a < 2 ^ 8) (b : Bou
         }),
       )
 
-  pub begins_at : (m : MemoryContents) (fresh : Bool) (s : State) (f : FrameState) (ring spilled : List Frame) (reply : ℕ) → Related (byte_at m) b fresh s f ring spilled → IsShaped s → is_window (planned code s).kind ≡ true
+  pub begins_at : (m : MemoryContents) (lost : ℕ → Bool) (s : State) (f : FrameState) (ring spilled : List Frame) (reply : ℕ) → Related (byte_at m) b lost s f ring spilled → IsShaped s → is_window (planned code s).kind ≡ true
       → window_breach code (planned code s).kind (laid (inputs reply s) f) ≡ None → (demand code s ≡ None) × Handling code b m (state_now code m s) f
-  begins_at m fresh s f ring spilled reply l shaped window none =
+  begins_at m lost s f ring spilled reply l shaped window none =
       ⊎_elim
       (λ (o : relation.Overflows code s ring spilled).
-      entered Overflow m fresh s f o.front o.g spilled (subst (λ r. Related (byte_at m) b fresh s f r spilled) o.last l) l.plain.vectors o.moves o.within o.low o.running shaped o.is)
+      entered Overflow m lost s f o.front o.g spilled (subst (λ r. Related (byte_at m) b lost s f r spilled) o.last l) l.plain.vectors o.moves o.within o.low o.running shaped o.is)
       (λ (u : relation.Underflows code s ring spilled).
-      entered Underflow m fresh s f [] u.g u.rest (subst (λ r. Related (byte_at m) b fresh s f [] r) u.older (subst (λ r. Related (byte_at m) b fresh s f r spilled) u.empty l)) l.plain.vectors u.moves u.within u.low u.running shaped u.is)
-      (enters_window b.vecbase code fresh s f ring spilled reply l.plain shaped window none)
+      entered Underflow m lost s f [] u.g u.rest (subst (λ r. Related (byte_at m) b lost s f [] r) u.older (subst (λ r. Related (byte_at m) b lost s f r spilled) u.empty l)) l.plain.vectors u.moves u.within u.low u.running shaped u.is)
+      (enters_window b.vecbase code lost s f ring spilled reply l.plain shaped window none)
 
   module _ {m : MemoryContents} {s : State} {f : FrameState} (h : Handling code b m s f) where
     at_start : Found h.side h.opened b h.before f h.front h.g h.rest
-    at_start = found h.side b h.fresh h.before f h.front h.g h.rest h.opened dram h.shaped h.moves h.within h.begins
+    at_start = found h.side b h.lost h.before f h.front h.g h.rest h.opened dram h.shaped h.moves h.within h.begins
 
     pub handling_stack : Stack b.range.lo b.range.hi f.seen f.frames
-    handling_stack = stack_of h.side b h.fresh h.before f h.front h.g h.rest h.opened h.begins
+    handling_stack = stack_of h.side b h.lost h.before f h.front h.g h.rest h.opened h.begins
 
     abbrev n : ℕ
     n = h.g.by
@@ -429,7 +429,7 @@ module _ (code : ℕ → ℕ) (constant : (a : ℕ) → code a < 2 ^ 8) (b : Bou
     pub data Next : Type 0 where
       goes_on : closes code (planned code s).kind s.control.pc ≡ false → Handling code b (memory_now code m s) (state_now code m s) f
           → ((a : ℕ) → is_live b.range f a ≡ false → byte_at (memory_now code m s) a ≡ byte_at m a) → Next
-      ends : closes code (planned code s).kind s.control.pc ≡ true → Somewhere (byte_at m) b false (state_now code m s) f → memory_now code m s ≡ m
+      ends : closes code (planned code s).kind s.control.pc ≡ true → Somewhere (byte_at m) b (lost_of false) (state_now code m s) f → memory_now code m s ≡ m
           → Stretch h.side n h.before (state_now code m s) h.opened (byte_at m) h.rest → Next
 
     not_own : (a : ℕ) → is_live b.range f a ≡ false → IsOwnByte h.side n start a → ⊥
@@ -452,7 +452,7 @@ module _ (code : ℕ → ℕ) (constant : (a : ℕ) → code a < 2 ^ 8) (b : Bou
         let P : State → Type 0 = λ x. Handling code b (memory_now code m s) x f in
         subst P (sym t.after) (record {
           side = h.side;
-          fresh = h.fresh;
+          lost = h.lost;
           before = h.before;
           opened = h.opened;
           front = h.front;
@@ -501,26 +501,26 @@ module _ (code : ℕ → ℕ) (constant : (a : ℕ) → code a < 2 ^ 8) (b : Bou
         → Stretch h.side n h.before (record { regs = s.regs; base = s.control.ps.owb; start = start_bits; control = ticked (record s.control { pc = special_of s.control (number.epc 1); ps = record s.control.ps { excm = false } }) }) h.opened (byte_at m) h.rest
     stretch_from start_bits d over under = record { changes = changes_from start_bits d; overflow_bit = over; underflow_bit = under; saved = d.saved; loaded = λ e k l. ap (λ x. visible s.regs x k) (sym base_is) ∙ d.loaded e k l }
 
-    over_ends : h.side ≡ Overflow → has_effect h.side n h.effect ≡ true → Ended code m s low_now running_now len (without_bit s.start s.base) → Somewhere (byte_at m) b false (state_now code m s) f
+    over_ends : h.side ≡ Overflow → has_effect h.side n h.effect ≡ true → Ended code m s low_now running_now len (without_bit s.start s.base) → Somewhere (byte_at m) b (lost_of false) (state_now code m s) f
     over_ends e has x =
         let d = done h.side n start h.effect h.flags (machine m s) (let w = h.within in omega arith) h.stands has in
-        let l : Begins Overflow h.opened b h.fresh h.before f h.front h.g h.rest = subst (λ z. Begins z h.opened b h.fresh h.before f h.front h.g h.rest) e h.begins in
+        let l : Begins Overflow h.opened b h.lost h.before f h.front h.g h.rest = subst (λ z. Begins z h.opened b h.lost h.before f h.front h.g h.rest) e h.begins in
         let r : Found Overflow h.opened b h.before f h.front h.g h.rest = subst (λ z. Found z h.opened b h.before f h.front h.g h.rest) e at_start in
         let kept : (a : ℕ) → is_live b.range f a ≡ true → IsElsewhere n start a → byte_at m a ≡ h.opened a = λ a live away. h.kept a live (subst (λ z. Untouched z n start a) (sym e) away) in
         let bits : without_bit s.start s.base ≡ without_bit h.before.start (moved h.rest) = (let p = h.bits in let q = base_is in rw (p, q) (without_same h.before.start (moved h.rest))) in
-        let P : State → Type 0 = λ t. Somewhere (byte_at m) b false t f in
-        subst P (sym x.after) (record { ring = h.front; spilled = h.g ∷ h.rest; related = over_end b h.fresh h.before _ f h.front h.g h.rest h.opened (byte_at m) r l (d.saved e) kept (changes_from (without_bit s.start s.base) d) bits })
+        let P : State → Type 0 = λ t. Somewhere (byte_at m) b (lost_of false) t f in
+        subst P (sym x.after) (record { ring = h.front; spilled = h.g ∷ h.rest; related = over_end b h.lost h.before _ f h.front h.g h.rest h.opened (byte_at m) r l (d.saved e) kept (changes_from (without_bit s.start s.base) d) bits })
 
-    under_ends : h.side ≡ Underflow → has_effect h.side n h.effect ≡ true → Ended code m s low_now running_now len (with_bit s.start s.base) → Somewhere (byte_at m) b false (state_now code m s) f
+    under_ends : h.side ≡ Underflow → has_effect h.side n h.effect ≡ true → Ended code m s low_now running_now len (with_bit s.start s.base) → Somewhere (byte_at m) b (lost_of false) (state_now code m s) f
     under_ends e has x =
         let d = done h.side n start h.effect h.flags (machine m s) (let w = h.within in omega arith) h.stands has in
-        let l : Begins Underflow h.opened b h.fresh h.before f h.front h.g h.rest = subst (λ z. Begins z h.opened b h.fresh h.before f h.front h.g h.rest) e h.begins in
+        let l : Begins Underflow h.opened b h.lost h.before f h.front h.g h.rest = subst (λ z. Begins z h.opened b h.lost h.before f h.front h.g h.rest) e h.begins in
         let r : Found Underflow h.opened b h.before f h.front h.g h.rest = subst (λ z. Found z h.opened b h.before f h.front h.g h.rest) e at_start in
         let kept : (a : ℕ) → is_live b.range f a ≡ true → byte_at m a ≡ h.opened a = λ a live. h.kept a live (subst (λ z. Untouched z n start a) (sym e) tt) in
         let bits : with_bit s.start s.base ≡ with_bit h.before.start (moved h.rest) = (let p = h.bits in let q = base_is in rw (p, q) (with_same h.before.start (moved h.rest))) in
         let loaded : (k : ℕ) → k < 4 * n → visible s.regs (moved h.rest % 16) k ≡ word_at h.opened (address_of start (save_word Underflow n k)) = λ k l. ap (λ x. visible s.regs x k) (sym base_is) ∙ d.loaded e k l in
-        let P : State → Type 0 = λ t. Somewhere (byte_at m) b false t f in
-        subst P (sym x.after) (record { ring = h.g ∷ []; spilled = h.rest; related = under_end b h.fresh h.before _ f h.front h.g h.rest h.opened (byte_at m) r l loaded kept (changes_from (with_bit s.start s.base) d) bits })
+        let P : State → Type 0 = λ t. Somewhere (byte_at m) b (lost_of false) t f in
+        subst P (sym x.after) (record { ring = h.g ∷ []; spilled = h.rest; related = under_end b h.lost h.before _ f h.front h.g h.rest h.opened (byte_at m) r l loaded kept (changes_from (with_bit s.start s.base) d) bits })
 
     over_stretch : h.side ≡ Overflow → has_effect h.side n h.effect ≡ true → Ended code m s low_now running_now len (without_bit s.start s.base) → Stretch h.side n h.before (state_now code m s) h.opened (byte_at m) h.rest
     over_stretch e has x =
@@ -575,7 +575,7 @@ module _ (code : ℕ → ℕ) (constant : (a : ℕ) → code a < 2 ^ 8) (b : Bou
     pub handling_spared : (new : MemoryContents) → ((a : ℕ) → is_live b.range f a ≡ true → byte_at new a ≡ byte_at m a) → Handling code b new s f
     handling_spared new same = record {
       side = h.side;
-      fresh = h.fresh;
+      lost = h.lost;
       before = h.before;
       opened = h.opened;
       front = h.front;
@@ -600,7 +600,7 @@ module _ (code : ℕ → ℕ) (constant : (a : ℕ) → code a < 2 ^ 8) (b : Bou
 
 -- ---- as laws
 pub stretches_are_entered : StretchesAreEntered
-stretches_are_entered code bytes b good m fresh s f ring spilled reply l shaped window none = begins_at code bytes b good.dram good.aligned good.handlers m fresh s f ring spilled reply l shaped window none
+stretches_are_entered code bytes b good m lost s f ring spilled reply l shaped window none = begins_at code bytes b good.dram good.aligned good.handlers m lost s f ring spilled reply l shaped window none
 
 handler_step : (code : ℕ → ℕ) (bytes : AreBytes code) (b : Bounds) (good : IsGood code b) (m : MemoryContents) (s : State) (f : FrameState) (h : Handling code b m s f) → Next code bytes b good.dram good.aligned good.handlers h → HandlerStep code b m s f
 handler_step code bytes b good m s f h (goes_on open_ inside only) = steps_on open_ inside only
