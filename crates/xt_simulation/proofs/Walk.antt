@@ -27,7 +27,7 @@ use Rattle.xt_simulation.specs.Steps.{reply_at, memory_after_step, reply_now, re
 use Rattle.xt_simulation.specs.InHandlers.{IsGood, Somewhere, Handling}
 use Rattle.xt_simulation.specs.Memories.{Agree, KeepsAreas}
 use Rattle.xt_map.specs.Touching.{IsMemory}
-use Rattle.xt_simulation.proofs.Handled.{Next, goes_on, ends, begins_at, handling_stack, handling_steps, handling_spared}
+use Rattle.xt_simulation.proofs.Handled.{Next, goes_on, ends, begins_at, handling_stack, untaken_now, handling_steps, handling_spared}
 use Rattle.xt_simulation.proofs.Memories.{live_kept, step_memory}
 use Rattle.xt_frames.specs.Judging.{Seen, seen_window, seen_step, step_on, live_of}
 use Rattle.xt_frames.specs.Verdict.{entry_of, IsStepOf, IsFrameTrace}
@@ -165,7 +165,7 @@ module _ (code : ℕ → ℕ) (bytes : AreBytes code) where
 
     handles_keeps : Both b c (core_in Handles) theirs m framed stale → Keeps b c (core_in Handles) theirs m framed (record { mine = record { state = state_now code m s; standing = record { frame = f; fresh = false; mode = mode_after code Handles rec }; judged = recs }; stale = stale; entries = [] })
     unfolding InCore
-    handles_keeps h = by_next (handling_steps code bytes b good.dram good.aligned good.handlers h.first h.shaped_first h.real.sizes)
+    handles_keeps h = by_next (handling_steps code bytes b good.dram good.aligned good.handlers h.first (untaken_now code bytes b good.dram good.aligned good.handlers h.first) h.shaped_first h.real.sizes)
       where
         P : Mode → Type 0
         P mode = Keeps b c (core_in Handles) theirs m framed (record { mine = record { state = state_now code m s; standing = record { frame = f; fresh = false; mode = mode }; judged = recs }; stale = stale; entries = [] })
