@@ -57,8 +57,8 @@ same_visible regs w i = ap (λ p. get_or regs p 0) (same_place w i)
 finds_same : (lo hi n a b c x y z : ℕ) → a ≡ x → b ≡ y → c ≡ z → stretches.Finds lo hi n x y z → Finds lo hi n a b c
 finds_same lo hi n a b c x y z e f h r = rw (e, f, h) (record { low = r.low; callee_aligned = r.callee_aligned; under = r.under; own_aligned = r.own_aligned; large = r.large; top_aligned = r.top_aligned; high = r.high })
 
-pub found_over : (b : Bounds) (fresh : Bool) (s : State) (f : FrameState) (front : List Frame) (g : Frame) (rest : List Frame) (m : ℕ → ℕ) → InDram b → IsShaped s → 0 < g.by → g.by ≤ 3 → Related m b fresh s f (front ++ g ∷ []) rest → Found Overflow m b s f front g rest
-found_over b fresh s f front g rest m d shaped pos small l =
+pub found_over : (b : Bounds) (lost : ℕ → Bool) (s : State) (f : FrameState) (front : List Frame) (g : Frame) (rest : List Frame) (m : ℕ → ℕ) → InDram b → IsShaped s → 0 < g.by → g.by ≤ 3 → Related m b lost s f (front ++ g ∷ []) rest → Found Overflow m b s f front g rest
+found_over b lost s f front g rest m d shaped pos small l =
     let o = oldest b f front g rest m l in
     let n = g.by in
     let w = moved rest in
@@ -66,7 +66,7 @@ found_over b fresh s f front g rest m d shaped pos small l =
     let own : visible s.regs (w % 16) 1 ≡ visible s.regs w 1 = same_visible s.regs w 1 in
     let top : word m (visible s.regs (w % 16) 1 - 12) ≡ word m (visible s.regs w 1 - 12) = ap (λ x. word m (x - 12)) own in
     let found : Finds b.range.lo b.range.hi n (visible s.regs (w % 16) (4 * n + 1)) (visible s.regs (w % 16) 1) (word m (visible s.regs (w % 16) 1 - 12)) =
-    finds_same b.range.lo b.range.hi n _ _ _ _ _ _ callee own top (overflows_find_frames b fresh s f front g rest m l) in
+    finds_same b.range.lo b.range.hi n _ _ _ _ _ _ callee own top (overflows_find_frames b lost s f front g rest m l) in
     let shape = shape_of b s m n rest d shaped pos small in
     record {
       frames = overflow_frames b.range.lo b.range.hi n (start_of s m rest) shape found;
@@ -77,8 +77,8 @@ found_over b fresh s f front g rest m d shaped pos small l =
       top = own_link_is b.range.lo b.range.hi n (start_of s m rest) shape found ∙ (top ∙ o.top);
     }
 
-pub found_under : (b : Bounds) (fresh : Bool) (s : State) (f : FrameState) (front : List Frame) (g : Frame) (rest : List Frame) (m : ℕ → ℕ) → InDram b → IsShaped s → 0 < g.by → g.by ≤ 3 → Related m b fresh s f [] (g ∷ rest) → Found Underflow m b s f front g rest
-found_under b fresh s f front g rest m d shaped pos small l =
+pub found_under : (b : Bounds) (lost : ℕ → Bool) (s : State) (f : FrameState) (front : List Frame) (g : Frame) (rest : List Frame) (m : ℕ → ℕ) → InDram b → IsShaped s → 0 < g.by → g.by ≤ 3 → Related m b lost s f [] (g ∷ rest) → Found Underflow m b s f front g rest
+found_under b lost s f front g rest m d shaped pos small l =
     let o = newest_of b f g rest m l in
     let n = g.by in
     let w = moved rest in
@@ -86,7 +86,7 @@ found_under b fresh s f front g rest m d shaped pos small l =
     let own : word m (visible s.regs (w % 16) (4 * n + 1) - 12) ≡ word m (visible s.regs w (4 * n + 1) - 12) = ap (λ x. word m (x - 12)) callee in
     let top : word m (word m (visible s.regs (w % 16) (4 * n + 1) - 12) - 12) ≡ word m (word m (visible s.regs w (4 * n + 1) - 12) - 12) = ap (λ x. word m (x - 12)) own in
     let found : Finds b.range.lo b.range.hi n (visible s.regs (w % 16) (4 * n + 1)) (word m (visible s.regs (w % 16) (4 * n + 1) - 12)) (word m (word m (visible s.regs (w % 16) (4 * n + 1) - 12) - 12)) =
-    finds_same b.range.lo b.range.hi n _ _ _ _ _ _ callee own top (underflows_find_frames b fresh s f g rest m l) in
+    finds_same b.range.lo b.range.hi n _ _ _ _ _ _ callee own top (underflows_find_frames b lost s f g rest m l) in
     let shape = shape_of b s m n rest d shaped pos small in
     let link0 : word m (visible s.regs w (4 * n + 1) - 12) ≡ sp_of g = ap (λ x. word m (x - 12)) o.callee ∙ o.own in
     record {
@@ -98,13 +98,13 @@ found_under b fresh s f front g rest m d shaped pos small l =
       top = saved_link_is b.range.lo b.range.hi n (start_of s m rest) shape found ∙ (top ∙ (ap (λ x. word m (x - 12)) link0 ∙ o.top));
     }
 
-pub found : (side : Side) (b : Bounds) (fresh : Bool) (s : State) (f : FrameState) (front : List Frame) (g : Frame) (rest : List Frame) (m : ℕ → ℕ) → InDram b → IsShaped s → 0 < g.by → g.by ≤ 3 → Begins side m b fresh s f front g rest → Found side m b s f front g rest
-found Overflow b fresh s f front g rest m d shaped pos small l = found_over b fresh s f front g rest m d shaped pos small l
-found Underflow b fresh s f front g rest m d shaped pos small l = found_under b fresh s f front g rest m d shaped pos small l
+pub found : (side : Side) (b : Bounds) (lost : ℕ → Bool) (s : State) (f : FrameState) (front : List Frame) (g : Frame) (rest : List Frame) (m : ℕ → ℕ) → InDram b → IsShaped s → 0 < g.by → g.by ≤ 3 → Begins side m b lost s f front g rest → Found side m b s f front g rest
+found Overflow b lost s f front g rest m d shaped pos small l = found_over b lost s f front g rest m d shaped pos small l
+found Underflow b lost s f front g rest m d shaped pos small l = found_under b lost s f front g rest m d shaped pos small l
 
-pub stack_of : (side : Side) (b : Bounds) (fresh : Bool) (s : State) (f : FrameState) (front : List Frame) (g : Frame) (rest : List Frame) (m : ℕ → ℕ) → Begins side m b fresh s f front g rest → Stack b.range.lo b.range.hi f.seen f.frames
-stack_of Overflow b fresh s f front g rest m l = l.stack
-stack_of Underflow b fresh s f front g rest m l = l.stack
+pub stack_of : (side : Side) (b : Bounds) (lost : ℕ → Bool) (s : State) (f : FrameState) (front : List Frame) (g : Frame) (rest : List Frame) (m : ℕ → ℕ) → Begins side m b lost s f front g rest → Stack b.range.lo b.range.hi f.seen f.frames
+stack_of Overflow b lost s f front g rest m l = l.stack
+stack_of Underflow b lost s f front g rest m l = l.stack
 
 -- ---- own bytes are live
 high_byte : (hi sp n : ℕ) (frames : List Frame) (a : ℕ) → before hi frames - 16 * n ≤ a → a < before hi frames - 16 * n + 16 * (n - 1) → covers_byte (areas hi sp n frames) a ≡ true

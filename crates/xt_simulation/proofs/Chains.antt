@@ -110,7 +110,7 @@ same_word old new a same =
     let e3 = same (a + 3) (omega arith) (omega arith) in
     rw (e0, e1, e2, e3) refl
 
-pub related_spared : {fresh : Bool} {s : State} {ring spilled : List Frame} (old new : ℕ → ℕ) (b : Bounds) (f : FrameState) → ((a : ℕ) → is_live b.range f a ≡ true → new a ≡ old a) → Related old b fresh s f ring spilled → Related new b fresh s f ring spilled
+pub related_spared : {lost : ℕ → Bool} {s : State} {ring spilled : List Frame} (old new : ℕ → ℕ) (b : Bounds) (f : FrameState) → ((a : ℕ) → is_live b.range f a ≡ true → new a ≡ old a) → Related old b lost s f ring spilled → Related new b lost s f ring spilled
 related_spared {ring = ring} {spilled = spilled} old new b f same l =
     let k = l.stack in
     let c : Chain b.range.lo b.range.hi (known f.seen 1) (ring ++ spilled) = rw l.plain.frames at k.chain in

@@ -1,7 +1,9 @@
 -- After a handler the relation holds again, with one frame moved.
 use Rattle.std.proofs.Common.{◌≡◌, ℕ, ◌+◌, ◌-◌, ◌*◌, ◌%◌, ◌<◌, ◌≤◌, ◌≢◌, ◌⊎◌, Bool, true, false, ◌||◌, eqb, List, [], ◌∷◌, ◌++◌, Option, sym, ap, ◌∙◌, refl, arith, inl, inr, ⊎_elim, length, get_or, append_assoc}
 use Rattle.std.proofs.Math.ListN.{set}
-use Rattle.std.proofs.lemmas.Bool.{eq-eqb, ne_eqb, cases_eq, cases_lt, or_right, or_from, false_from_ne_true, false≢true}
+use Rattle.xt_frames.specs.Breaches.{lost_of}
+use Rattle.xt_simulation.proofs.Evenly.{only_epc1}
+use Rattle.std.proofs.lemmas.Bool.{and_from, eq-eqb, ne_eqb, cases_eq, cases_lt, or_right, or_from, false_from_ne_true, false≢true}
 use Rattle.std.proofs.lemmas.List.{get_or-set_same, get_or-set_other, get_or_past, length-set}
 use Rattle.xt_exec.specs.State.{State}
 use Rattle.xt_frames.specs.FrameStep.{laid}
@@ -81,27 +83,35 @@ overlaid_own xs ys len k which =
     rw b (get_or-set_other (set ys 234 (get_or xs 234 0)) 226 234 (get_or xs 226 0) 0 other ∙ set_own xs ys 234 len))
     which
 
-same_overlaid : (xs ys zs : List ℕ) (count bits : ℕ) → Same false xs (overlaid ys count bits) → length zs ≡ length xs → ((k : ℕ) → k ≢ 177 → k ≢ 226 → k ≢ 234 → get_or zs k 0 ≡ get_or xs k 0) → Same false zs (overlaid ys (get_or zs 234 0) (get_or zs 226 0))
+not_epc1 : (k : ℕ) → lost_of false k ≡ false → k ≢ 177
+not_epc1 k known e = false≢true (sym known ∙ and_from (eqb k 177) true (eq-eqb k 177 e) refl)
+
+same_overlaid : (xs ys zs : List ℕ) (count bits : ℕ) → Same (lost_of false) xs (overlaid ys count bits) → length zs ≡ length xs → ((k : ℕ) → k ≢ 177 → k ≢ 226 → k ≢ 234 → get_or zs k 0 ≡ get_or xs k 0) → Same (lost_of false) zs (overlaid ys (get_or zs 234 0) (get_or zs 226 0))
 same_overlaid xs ys zs count bits e len same =
     let l0 : length zs ≡ length ys = len ∙ (e.size ∙ overlaid_length ys count bits) in
     record {
       size = l0 ∙ sym (overlaid_length ys (get_or zs 234 0) (get_or zs 226 0));
+      only = only_epc1 false;
       at = λ k known.
           ⊎_elim
           (λ a. sym (overlaid_own zs ys l0 k (inl a)))
           (λ not_a. ⊎_elim
           (λ b. sym (overlaid_own zs ys l0 k (inr b)))
           (λ not_b.
-          let not_epc : k ≢ 177 = λ z. false≢true (known z) in
+          let not_epc : k ≢ 177 = not_epc1 k known in
           same k not_epc not_a not_b ∙ (e.at k known ∙ (overlaid_other ys count bits k not_a not_b ∙ sym (overlaid_other ys (get_or zs 234 0) (get_or zs 226 0) k not_a not_b))))
           (cases_eq k 234))
           (cases_eq k 226);
     }
 
-less_known : {fresh : Bool} {xs ys : List ℕ} → Same fresh xs ys → Same false xs ys
-less_known s = record { size = s.size; at = λ k known. s.at k (λ z. absurd (false≢true (known z))) }
+less_known : {lost : ℕ → Bool} {xs ys : List ℕ} → Same lost xs ys → Same (lost_of false) xs ys
+less_known {lost = lost} s = record {
+  size = s.size;
+  only = only_epc1 false;
+  at = λ k known. s.at k (false_from_ne_true (lost k) (λ h. not_epc1 k known (s.only k h)));
+}
 
-resumed : {vecbase : ℕ} {fresh : Bool} {s : State} {ring spilled : List Frame} (f : FrameState) → Plain vecbase fresh s f ring spilled → (t : State) → Resumes s.control t.control → Even false t.control (laid (inputs 0 t) f).control
+resumed : {vecbase : ℕ} {lost : ℕ → Bool} {s : State} {ring spilled : List Frame} (f : FrameState) → Plain vecbase lost s f ring spilled → (t : State) → Resumes s.control t.control → Even (lost_of false) t.control (laid (inputs 0 t) f).control
 unfolding overlaid
 resumed {s = s} f l t r =
     let e = l.even in
@@ -171,7 +181,7 @@ module _ {regs : List ℕ} {base start : ℕ} {seen : List (Option ℕ)} {low : 
       }
 
 pub spills : SpillsKeepPlain
-spills vecbase fresh s t f ring g spilled l c start =
+spills vecbase lost s t f ring g spilled l c start =
     let w = spilled_windows ring g l.windows t.regs c.size c.others in
     record {
       windows = rw (c.base, start) w;
@@ -230,7 +240,7 @@ module _ {regs : List ℕ} {base start : ℕ} {seen : List (Option ℕ)} {low : 
       }
 
 pub fills : FillsKeepPlain
-fills vecbase fresh s t f g rest l c back start =
+fills vecbase lost s t f g rest l c back start =
     let w = filled_windows g l.windows l.older.0 t.regs c.size c.others back in
     record {
       windows = rw (c.base, start) w;

@@ -15,6 +15,7 @@ use Rattle.xt_special.specs.declared.ps.Ps.{Ps}
 use Rattle.xt_special.specs.Numbers as number
 use Rattle.xt_special.specs.Control.{special_of}
 use Rattle.xt_special.specs.Timers.{ticked}
+use Rattle.xt_special.specs.Interrupts.{pending_of}
 use Rattle.xt_window.specs.Ring.{place, visible, with_bit, without_bit}
 use Rattle.xt_trace.specs.declared.record.StepKind.TheVariants as kind
 use Rattle.xt_rows.specs.Fetching.{Fetches, fetched, can_fetch, read_as}
@@ -24,7 +25,7 @@ use Rattle.xt_exec.specs.Turn.{Planned, planned, demand, turn, window_exception}
 use Rattle.xt_frames.specs.Frames.{Frame, FrameState, moved}
 use Rattle.xt_frames.specs.FrameStep.{laid}
 use Rattle.xt_frames.specs.SaveAreas.{sp_of, touches, is_live}
-use Rattle.xt_frames.specs.Breaches.{Bounds, window_breach}
+use Rattle.xt_frames.specs.Breaches.{lost_of, Bounds, window_breach}
 use Rattle.xt_frames.specs.HandlerSteps.{is_window, closes, fetched_ends, ends_stretch}
 use Rattle.xt_simulation.specs.Stacks.{Stack}
 use Rattle.xt_simulation.specs.Relation as relation
@@ -62,7 +63,7 @@ use Rattle.xt_simulation.specs.InHandlers.{InDram, Somewhere, Begins, start_of, 
 use Rattle.xt_simulation.specs.HandlerLaws.{StretchesAreEntered, HandlerStepsAreKept, HandlersAreSpared}
 use Rattle.xt_rows.specs.Laws.{AreBytes}
 use Rattle.xt_simulation.proofs.Fetched.{byte_is as fetched_byte, bytes_length, byte_small, fetched_is, step_is, vector_fetches, vector_handles, fetch_small, length_is}
-use Rattle.xt_simulation.proofs.Turns.{Shown, shown, turned, Turned, load, store, wide_nop, narrow_nop, ends_overflow, ends_underflow, other, Ended, ends_with_rfwo, ends_with_rfwu}
+use Rattle.xt_simulation.proofs.Turns.{quiet, Shown, shown, turned, Turned, load, store, wide_nop, narrow_nop, ends_overflow, ends_underflow, other, Ended, ends_with_rfwo, ends_with_rfwu}
 use Rattle.xt_simulation.proofs.Begun.{Found, found, stack_of, own_live, same_visible}
 
 -- ---- the handler's state, where another memory has the same bytes
@@ -207,8 +208,8 @@ not_touched addr size x h = false_from_ne_true (touches addr size x) (λ t.
     let up = ltb-true x (addr + size) p.1 in
     ⊎_elim (λ a. omega arith) (λ a. omega arith) h)
 
-module _ (b : Bounds) (fresh : Bool) (before t : State) (f : FrameState) (front : List Frame) (g : Frame) (rest : List Frame) (opened now : ℕ → ℕ)
-    (r : Found Overflow opened b before f front g rest) (l : Related opened b fresh before f (front ++ g ∷ []) rest)
+module _ (b : Bounds) (lost : ℕ → Bool) (before t : State) (f : FrameState) (front : List Frame) (g : Frame) (rest : List Frame) (opened now : ℕ → ℕ)
+    (r : Found Overflow opened b before f front g rest) (l : Related opened b lost before f (front ++ g ∷ []) rest)
     (saved : (k : ℕ) → k < 4 * g.by → word_at now (address_of (start_of before opened rest) (save_word Overflow g.by k)) ≡ small.visible (start_of before opened rest) k)
     (kept : (a : ℕ) → is_live b.range f a ≡ true → IsElsewhere g.by (start_of before opened rest) a → now a ≡ opened a) where
   over_callee : ℕ
@@ -275,18 +276,18 @@ module _ (b : Bounds) (fresh : Bool) (before t : State) (f : FrameState) (front 
       top_large : 16 * g.by ≤ over_top
       top_large = let t = (oldest b f front g rest opened l).top in let large = r.chain.0.large in omega arith
 
-  pub over_end : Changes before t (moved rest) g.by → t.start ≡ without_bit before.start (moved rest) → Related now b false t f front (g ∷ rest)
+  pub over_end : Changes before t (moved rest) g.by → t.start ≡ without_bit before.start (moved rest) → Related now b (lost_of false) t f front (g ∷ rest)
   unfolding new_bytes
   over_end changes bits =
-      let middle = overflows_keep_related b fresh before t f front g rest opened new_bytes l changes bits stored in
+      let middle = overflows_keep_related b lost before t f front g rest opened new_bytes l changes bits stored in
       related_spared new_bytes now b f (λ a live. ⊎_elim
       (λ own. sym (mixed_own (saves over_callee over_top g.by) now opened a own))
       (λ free. kept a live (save_free g.by (start_of before opened rest) r.frames over_callee over_top a callee_is top_is free) ∙ sym (mixed_other (saves over_callee over_top g.by) now opened a free))
       (cases_Bool (saves over_callee over_top g.by a))) middle
 
 -- ---- the end of an underflow's handler
-module _ (b : Bounds) (fresh : Bool) (before t : State) (f : FrameState) (front : List Frame) (g : Frame) (rest : List Frame) (opened now : ℕ → ℕ)
-    (r : Found Underflow opened b before f front g rest) (l : Related opened b fresh before f [] (g ∷ rest))
+module _ (b : Bounds) (lost : ℕ → Bool) (before t : State) (f : FrameState) (front : List Frame) (g : Frame) (rest : List Frame) (opened now : ℕ → ℕ)
+    (r : Found Underflow opened b before f front g rest) (l : Related opened b lost before f [] (g ∷ rest))
     (loaded : (k : ℕ) → k < 4 * g.by → visible t.regs (moved rest % 16) k ≡ word_at opened (address_of (start_of before opened rest) (save_word Underflow g.by k)))
     (kept : (a : ℕ) → is_live b.range f a ≡ true → now a ≡ opened a) where
   under_loads : stretches.Loads opened before t (moved rest) g.by
@@ -303,27 +304,27 @@ module _ (b : Bounds) (fresh : Bool) (before t : State) (f : FrameState) (front 
             sym (same_visible t.regs (moved rest) i) ∙ (loaded i k ∙ ap (word opened) (save_high Underflow g.by i (start_of before opened rest) r.frames big_i k ∙ ap (λ x. x - 16 * g.by + 4 * (i - 4)) top));
       }
 
-  pub under_end : Changes before t (moved rest) g.by → t.start ≡ with_bit before.start (moved rest) → Related now b false t f (g ∷ []) rest
-  under_end changes bits = related_spared opened now b f kept (underflows_keep_related b fresh before t f g rest opened l changes bits under_loads)
+  pub under_end : Changes before t (moved rest) g.by → t.start ≡ with_bit before.start (moved rest) → Related now b (lost_of false) t f (g ∷ []) rest
+  under_end changes bits = related_spared opened now b f kept (underflows_keep_related b lost before t f g rest opened l changes bits under_loads)
 
 module _ (code : ℕ → ℕ) (constant : (a : ℕ) → code a < 2 ^ 8) (b : Bounds) (dram : InDram b) (aligned : b.vecbase % 2 ^ 10 ≡ 0) (handlers : Handlers code b.vecbase) where
   -- ---- the record of a window exception
-  entered : (side : Side) (m : MemoryContents) (fresh : Bool) (s : State) (f : FrameState) (front : List Frame) (g : Frame) (rest : List Frame) → Begins side (byte_at m) b fresh s f front g rest → special_of s.control number.vecbase ≡ b.vecbase
+  entered : (side : Side) (m : MemoryContents) (lost : ℕ → Bool) (s : State) (f : FrameState) (front : List Frame) (g : Frame) (rest : List Frame) → Begins side (byte_at m) b lost s f front g rest → special_of s.control number.vecbase ≡ b.vecbase
       → 0 < g.by → g.by ≤ 3 → s.control.ps.excm ≡ false → s.control.waits ≡ false → IsShaped s → planned code s ≡ window_exception (vector_number side g.by) (moved rest % 16) s
       → (demand code s ≡ None) × Handling code b m (state_now code m s) f
   unfolding demand turn
-  entered side m fresh s f front g rest begins vectors moves within low running shaped is =
+  entered side m lost s f front g rest begins vectors moves within low running shaped is =
       let start = start_of s (byte_at m) rest in
       let d : demand code s ≡ None = ap (λ (p : Planned). p.access) is in
       let t : state_now code m s ≡ (window_exception (vector_number side g.by) (moved rest % 16) s).after = (rw is refl) in
-      let r : Found side (byte_at m) b s f front g rest = found side b fresh s f front g rest (byte_at m) dram shaped moves within begins in
+      let r : Found side (byte_at m) b s f front g rest = found side b lost s f front g rest (byte_at m) dram shaped moves within begins in
       let long : number.epc 1 < length s.control.special = (let c = shaped.control.count in omega arith) in
       let answered = handlers side g.by moves (omega arith) in
       let P : State → Type 0 = λ t. Handling code b m t f in (
         d,
         subst P (sym t) (record {
           side = side;
-          fresh = fresh;
+          lost = lost;
           before = s;
           opened = byte_at m;
           front = front;
@@ -347,22 +348,22 @@ module _ (code : ℕ → ℕ) (constant : (a : ℕ) → code a < 2 ^ 8) (b : Bou
         }),
       )
 
-  pub begins_at : (m : MemoryContents) (fresh : Bool) (s : State) (f : FrameState) (ring spilled : List Frame) (reply : ℕ) → Related (byte_at m) b fresh s f ring spilled → IsShaped s → is_window (planned code s).kind ≡ true
+  pub begins_at : (m : MemoryContents) (lost : ℕ → Bool) (s : State) (f : FrameState) (ring spilled : List Frame) (reply : ℕ) → Related (byte_at m) b lost s f ring spilled → IsShaped s → is_window (planned code s).kind ≡ true
       → window_breach code (planned code s).kind (laid (inputs reply s) f) ≡ None → (demand code s ≡ None) × Handling code b m (state_now code m s) f
-  begins_at m fresh s f ring spilled reply l shaped window none =
+  begins_at m lost s f ring spilled reply l shaped window none =
       ⊎_elim
       (λ (o : relation.Overflows code s ring spilled).
-      entered Overflow m fresh s f o.front o.g spilled (subst (λ r. Related (byte_at m) b fresh s f r spilled) o.last l) l.plain.vectors o.moves o.within o.low o.running shaped o.is)
+      entered Overflow m lost s f o.front o.g spilled (subst (λ r. Related (byte_at m) b lost s f r spilled) o.last l) l.plain.vectors o.moves o.within o.low o.running shaped o.is)
       (λ (u : relation.Underflows code s ring spilled).
-      entered Underflow m fresh s f [] u.g u.rest (subst (λ r. Related (byte_at m) b fresh s f [] r) u.older (subst (λ r. Related (byte_at m) b fresh s f r spilled) u.empty l)) l.plain.vectors u.moves u.within u.low u.running shaped u.is)
-      (enters_window b.vecbase code fresh s f ring spilled reply l.plain shaped window none)
+      entered Underflow m lost s f [] u.g u.rest (subst (λ r. Related (byte_at m) b lost s f [] r) u.older (subst (λ r. Related (byte_at m) b lost s f r spilled) u.empty l)) l.plain.vectors u.moves u.within u.low u.running shaped u.is)
+      (enters_window b.vecbase code lost s f ring spilled reply l.plain shaped window none)
 
   module _ {m : MemoryContents} {s : State} {f : FrameState} (h : Handling code b m s f) where
     at_start : Found h.side h.opened b h.before f h.front h.g h.rest
-    at_start = found h.side b h.fresh h.before f h.front h.g h.rest h.opened dram h.shaped h.moves h.within h.begins
+    at_start = found h.side b h.lost h.before f h.front h.g h.rest h.opened dram h.shaped h.moves h.within h.begins
 
     pub handling_stack : Stack b.range.lo b.range.hi f.seen f.frames
-    handling_stack = stack_of h.side b h.fresh h.before f h.front h.g h.rest h.opened h.begins
+    handling_stack = stack_of h.side b h.lost h.before f h.front h.g h.rest h.opened h.begins
 
     abbrev n : ℕ
     n = h.g.by
@@ -378,6 +379,10 @@ module _ (code : ℕ → ℕ) (constant : (a : ℕ) → code a < 2 ^ 8) (b : Bou
 
     low_now : s.control.ps.excm ≡ true
     low_now = let e = h.control.ps in rw e refl
+
+    -- in exception mode no interrupt up to level 3 is taken
+    pub untaken_now : ltb 0 (pending_of s.control) ≡ false
+    untaken_now = quiet s.control low_now
 
     running_now : s.control.waits ≡ false
     running_now = h.control.waits ∙ h.running
@@ -429,7 +434,7 @@ module _ (code : ℕ → ℕ) (constant : (a : ℕ) → code a < 2 ^ 8) (b : Bou
     pub data Next : Type 0 where
       goes_on : closes code (planned code s).kind s.control.pc ≡ false → Handling code b (memory_now code m s) (state_now code m s) f
           → ((a : ℕ) → is_live b.range f a ≡ false → byte_at (memory_now code m s) a ≡ byte_at m a) → Next
-      ends : closes code (planned code s).kind s.control.pc ≡ true → Somewhere (byte_at m) b false (state_now code m s) f → memory_now code m s ≡ m
+      ends : closes code (planned code s).kind s.control.pc ≡ true → Somewhere (byte_at m) b (lost_of false) (state_now code m s) f → memory_now code m s ≡ m
           → Stretch h.side n h.before (state_now code m s) h.opened (byte_at m) h.rest → Next
 
     not_own : (a : ℕ) → is_live b.range f a ≡ false → IsOwnByte h.side n start a → ⊥
@@ -452,7 +457,7 @@ module _ (code : ℕ → ℕ) (constant : (a : ℕ) → code a < 2 ^ 8) (b : Bou
         let P : State → Type 0 = λ x. Handling code b (memory_now code m s) x f in
         subst P (sym t.after) (record {
           side = h.side;
-          fresh = h.fresh;
+          lost = h.lost;
           before = h.before;
           opened = h.opened;
           front = h.front;
@@ -475,107 +480,109 @@ module _ (code : ℕ → ℕ) (constant : (a : ℕ) → code a < 2 ^ 8) (b : Bou
           kept = λ a live free. t.bytes a ∙ (step_keeps h.side n start (byte_at m) mv.next.bytes a mv.touches free ∙ h.kept a live free);
         })
 
-    step_goes : (mv : Moves h.side n start (vector_bytes code vector) h.offset h.effect h.flags (machine m s)) → IsShaped s → HasSizes m → AtPc → Next
-    step_goes mv shaped sizes (no_insn e) = absurd (not_foreign h.side n start h.flags mv.after (machine m s) (step_at (vector_bytes code vector) h.offset) e mv.does)
-    step_goes mv shaped sizes (some_insn i at range e) =
-        let is : small.stepped (step_of_insn i) (machine m s) ≡ Some mv.next = subst (λ x. small.stepped x (machine m s) ≡ Some mv.next) e mv.is in
-        let may : small.MayAccess (step_of_insn i) (machine m s) = subst (λ x. small.MayAccess x (machine m s)) e mv.access in
-        let does : Does h.side n start h.flags mv.after (machine m s) (step_of_insn i) = subst (λ x. Does h.side n start h.flags mv.after (machine m s) x) e mv.does in
-        let t = turned code m s low_now running_now len i (step_of_insn i) mv.next (shown i) at range may (λ k. shaped.words (place s.base k)) sizes is in
-        let no : closes code (planned code s).kind s.control.pc ≡ false = ap (λ k. closes code k s.control.pc) t.kind ∙ (ap fetched_ends at ∙ not_ending h.side n start h.flags mv.after (machine m s) (shown i) does) in
-        goes_on no (went_on mv t) (λ a dead. t.bytes a ∙ step_keeps h.side n start (byte_at m) mv.next.bytes a mv.touches (untouched_from h.side n start a at_start.frames (not_own a dead)))
+    -- ---- where no interrupt is taken
+    module _ (untaken : ltb 0 (pending_of s.control) ≡ false) where
+      step_goes : (mv : Moves h.side n start (vector_bytes code vector) h.offset h.effect h.flags (machine m s)) → IsShaped s → HasSizes m → AtPc → Next
+      step_goes mv shaped sizes (no_insn e) = absurd (not_foreign h.side n start h.flags mv.after (machine m s) (step_at (vector_bytes code vector) h.offset) e mv.does)
+      step_goes mv shaped sizes (some_insn i at range e) =
+          let is : small.stepped (step_of_insn i) (machine m s) ≡ Some mv.next = subst (λ x. small.stepped x (machine m s) ≡ Some mv.next) e mv.is in
+          let may : small.MayAccess (step_of_insn i) (machine m s) = subst (λ x. small.MayAccess x (machine m s)) e mv.access in
+          let does : Does h.side n start h.flags mv.after (machine m s) (step_of_insn i) = subst (λ x. Does h.side n start h.flags mv.after (machine m s) x) e mv.does in
+          let t = turned code m s low_now untaken running_now len i (step_of_insn i) mv.next (shown i) at range may (λ k. shaped.words (place s.base k)) sizes is in
+          let no : closes code (planned code s).kind s.control.pc ≡ false = ap (λ k. closes code k s.control.pc) t.kind ∙ (ap fetched_ends at ∙ not_ending h.side n start h.flags mv.after (machine m s) (shown i) does) in
+          goes_on no (went_on mv t) (λ a dead. t.bytes a ∙ step_keeps h.side n start (byte_at m) mv.next.bytes a mv.touches (untouched_from h.side n start a at_start.frames (not_own a dead)))
 
-    -- ---- the ending
-    changes_from : (start_bits : ℕ) → Done h.side n start (machine m s) → Changes h.before (record { regs = s.regs; base = s.control.ps.owb; start = start_bits; control = ticked (record s.control { pc = special_of s.control (number.epc 1); ps = record s.control.ps { excm = false } }) }) (moved h.rest) n
-    changes_from start_bits d = record {
-      base = ap (λ (p : Ps). p.owb) h.control.ps;
-      size = h.stands.size ∙ sym at_start.frames.registers;
-      others = λ p lo hi. others_stay_above n (moved h.rest) start (machine m s) p d.registers refl lo hi;
-      control = stretches_end h.before.control s.control h.before.base h.low h.control;
-    }
+      -- ---- the ending
+      changes_from : (start_bits : ℕ) → Done h.side n start (machine m s) → Changes h.before (record { regs = s.regs; base = s.control.ps.owb; start = start_bits; control = ticked (record s.control { pc = special_of s.control (number.epc 1); ps = record s.control.ps { excm = false } }) }) (moved h.rest) n
+      changes_from start_bits d = record {
+        base = ap (λ (p : Ps). p.owb) h.control.ps;
+        size = h.stands.size ∙ sym at_start.frames.registers;
+        others = λ p lo hi. others_stay_above n (moved h.rest) start (machine m s) p d.registers refl lo hi;
+        control = stretches_end h.before.control s.control h.before.base h.low h.control;
+      }
 
-    base_is : s.base ≡ moved h.rest % 16
-    base_is = h.stands.base
+      base_is : s.base ≡ moved h.rest % 16
+      base_is = h.stands.base
 
-    stretch_from : (start_bits : ℕ) → Done h.side n start (machine m s) → (h.side ≡ Overflow → start_bits ≡ without_bit h.before.start (moved h.rest)) → (h.side ≡ Underflow → start_bits ≡ with_bit h.before.start (moved h.rest))
-        → Stretch h.side n h.before (record { regs = s.regs; base = s.control.ps.owb; start = start_bits; control = ticked (record s.control { pc = special_of s.control (number.epc 1); ps = record s.control.ps { excm = false } }) }) h.opened (byte_at m) h.rest
-    stretch_from start_bits d over under = record { changes = changes_from start_bits d; overflow_bit = over; underflow_bit = under; saved = d.saved; loaded = λ e k l. ap (λ x. visible s.regs x k) (sym base_is) ∙ d.loaded e k l }
+      stretch_from : (start_bits : ℕ) → Done h.side n start (machine m s) → (h.side ≡ Overflow → start_bits ≡ without_bit h.before.start (moved h.rest)) → (h.side ≡ Underflow → start_bits ≡ with_bit h.before.start (moved h.rest))
+          → Stretch h.side n h.before (record { regs = s.regs; base = s.control.ps.owb; start = start_bits; control = ticked (record s.control { pc = special_of s.control (number.epc 1); ps = record s.control.ps { excm = false } }) }) h.opened (byte_at m) h.rest
+      stretch_from start_bits d over under = record { changes = changes_from start_bits d; overflow_bit = over; underflow_bit = under; saved = d.saved; loaded = λ e k l. ap (λ x. visible s.regs x k) (sym base_is) ∙ d.loaded e k l }
 
-    over_ends : h.side ≡ Overflow → has_effect h.side n h.effect ≡ true → Ended code m s low_now running_now len (without_bit s.start s.base) → Somewhere (byte_at m) b false (state_now code m s) f
-    over_ends e has x =
-        let d = done h.side n start h.effect h.flags (machine m s) (let w = h.within in omega arith) h.stands has in
-        let l : Begins Overflow h.opened b h.fresh h.before f h.front h.g h.rest = subst (λ z. Begins z h.opened b h.fresh h.before f h.front h.g h.rest) e h.begins in
-        let r : Found Overflow h.opened b h.before f h.front h.g h.rest = subst (λ z. Found z h.opened b h.before f h.front h.g h.rest) e at_start in
-        let kept : (a : ℕ) → is_live b.range f a ≡ true → IsElsewhere n start a → byte_at m a ≡ h.opened a = λ a live away. h.kept a live (subst (λ z. Untouched z n start a) (sym e) away) in
-        let bits : without_bit s.start s.base ≡ without_bit h.before.start (moved h.rest) = (let p = h.bits in let q = base_is in rw (p, q) (without_same h.before.start (moved h.rest))) in
-        let P : State → Type 0 = λ t. Somewhere (byte_at m) b false t f in
-        subst P (sym x.after) (record { ring = h.front; spilled = h.g ∷ h.rest; related = over_end b h.fresh h.before _ f h.front h.g h.rest h.opened (byte_at m) r l (d.saved e) kept (changes_from (without_bit s.start s.base) d) bits })
+      over_ends : h.side ≡ Overflow → has_effect h.side n h.effect ≡ true → Ended code m s low_now untaken running_now len (without_bit s.start s.base) → Somewhere (byte_at m) b (lost_of false) (state_now code m s) f
+      over_ends e has x =
+          let d = done h.side n start h.effect h.flags (machine m s) (let w = h.within in omega arith) h.stands has in
+          let l : Begins Overflow h.opened b h.lost h.before f h.front h.g h.rest = subst (λ z. Begins z h.opened b h.lost h.before f h.front h.g h.rest) e h.begins in
+          let r : Found Overflow h.opened b h.before f h.front h.g h.rest = subst (λ z. Found z h.opened b h.before f h.front h.g h.rest) e at_start in
+          let kept : (a : ℕ) → is_live b.range f a ≡ true → IsElsewhere n start a → byte_at m a ≡ h.opened a = λ a live away. h.kept a live (subst (λ z. Untouched z n start a) (sym e) away) in
+          let bits : without_bit s.start s.base ≡ without_bit h.before.start (moved h.rest) = (let p = h.bits in let q = base_is in rw (p, q) (without_same h.before.start (moved h.rest))) in
+          let P : State → Type 0 = λ t. Somewhere (byte_at m) b (lost_of false) t f in
+          subst P (sym x.after) (record { ring = h.front; spilled = h.g ∷ h.rest; related = over_end b h.lost h.before _ f h.front h.g h.rest h.opened (byte_at m) r l (d.saved e) kept (changes_from (without_bit s.start s.base) d) bits })
 
-    under_ends : h.side ≡ Underflow → has_effect h.side n h.effect ≡ true → Ended code m s low_now running_now len (with_bit s.start s.base) → Somewhere (byte_at m) b false (state_now code m s) f
-    under_ends e has x =
-        let d = done h.side n start h.effect h.flags (machine m s) (let w = h.within in omega arith) h.stands has in
-        let l : Begins Underflow h.opened b h.fresh h.before f h.front h.g h.rest = subst (λ z. Begins z h.opened b h.fresh h.before f h.front h.g h.rest) e h.begins in
-        let r : Found Underflow h.opened b h.before f h.front h.g h.rest = subst (λ z. Found z h.opened b h.before f h.front h.g h.rest) e at_start in
-        let kept : (a : ℕ) → is_live b.range f a ≡ true → byte_at m a ≡ h.opened a = λ a live. h.kept a live (subst (λ z. Untouched z n start a) (sym e) tt) in
-        let bits : with_bit s.start s.base ≡ with_bit h.before.start (moved h.rest) = (let p = h.bits in let q = base_is in rw (p, q) (with_same h.before.start (moved h.rest))) in
-        let loaded : (k : ℕ) → k < 4 * n → visible s.regs (moved h.rest % 16) k ≡ word_at h.opened (address_of start (save_word Underflow n k)) = λ k l. ap (λ x. visible s.regs x k) (sym base_is) ∙ d.loaded e k l in
-        let P : State → Type 0 = λ t. Somewhere (byte_at m) b false t f in
-        subst P (sym x.after) (record { ring = h.g ∷ []; spilled = h.rest; related = under_end b h.fresh h.before _ f h.front h.g h.rest h.opened (byte_at m) r l loaded kept (changes_from (with_bit s.start s.base) d) bits })
+      under_ends : h.side ≡ Underflow → has_effect h.side n h.effect ≡ true → Ended code m s low_now untaken running_now len (with_bit s.start s.base) → Somewhere (byte_at m) b (lost_of false) (state_now code m s) f
+      under_ends e has x =
+          let d = done h.side n start h.effect h.flags (machine m s) (let w = h.within in omega arith) h.stands has in
+          let l : Begins Underflow h.opened b h.lost h.before f h.front h.g h.rest = subst (λ z. Begins z h.opened b h.lost h.before f h.front h.g h.rest) e h.begins in
+          let r : Found Underflow h.opened b h.before f h.front h.g h.rest = subst (λ z. Found z h.opened b h.before f h.front h.g h.rest) e at_start in
+          let kept : (a : ℕ) → is_live b.range f a ≡ true → byte_at m a ≡ h.opened a = λ a live. h.kept a live (subst (λ z. Untouched z n start a) (sym e) tt) in
+          let bits : with_bit s.start s.base ≡ with_bit h.before.start (moved h.rest) = (let p = h.bits in let q = base_is in rw (p, q) (with_same h.before.start (moved h.rest))) in
+          let loaded : (k : ℕ) → k < 4 * n → visible s.regs (moved h.rest % 16) k ≡ word_at h.opened (address_of start (save_word Underflow n k)) = λ k l. ap (λ x. visible s.regs x k) (sym base_is) ∙ d.loaded e k l in
+          let P : State → Type 0 = λ t. Somewhere (byte_at m) b (lost_of false) t f in
+          subst P (sym x.after) (record { ring = h.g ∷ []; spilled = h.rest; related = under_end b h.lost h.before _ f h.front h.g h.rest h.opened (byte_at m) r l loaded kept (changes_from (with_bit s.start s.base) d) bits })
 
-    over_stretch : h.side ≡ Overflow → has_effect h.side n h.effect ≡ true → Ended code m s low_now running_now len (without_bit s.start s.base) → Stretch h.side n h.before (state_now code m s) h.opened (byte_at m) h.rest
-    over_stretch e has x =
-        let d = done h.side n start h.effect h.flags (machine m s) (let w = h.within in omega arith) h.stands has in
-        let bits : without_bit s.start s.base ≡ without_bit h.before.start (moved h.rest) = (let p = h.bits in let q = base_is in rw (p, q) (without_same h.before.start (moved h.rest))) in
-        let P : State → Type 0 = λ t. Stretch h.side n h.before t h.opened (byte_at m) h.rest in
-        subst P (sym x.after) (stretch_from (without_bit s.start s.base) d (λ o. bits) (λ u. absurd (two_sides h.side e u)))
+      over_stretch : h.side ≡ Overflow → has_effect h.side n h.effect ≡ true → Ended code m s low_now untaken running_now len (without_bit s.start s.base) → Stretch h.side n h.before (state_now code m s) h.opened (byte_at m) h.rest
+      over_stretch e has x =
+          let d = done h.side n start h.effect h.flags (machine m s) (let w = h.within in omega arith) h.stands has in
+          let bits : without_bit s.start s.base ≡ without_bit h.before.start (moved h.rest) = (let p = h.bits in let q = base_is in rw (p, q) (without_same h.before.start (moved h.rest))) in
+          let P : State → Type 0 = λ t. Stretch h.side n h.before t h.opened (byte_at m) h.rest in
+          subst P (sym x.after) (stretch_from (without_bit s.start s.base) d (λ o. bits) (λ u. absurd (two_sides h.side e u)))
 
-    under_stretch : h.side ≡ Underflow → has_effect h.side n h.effect ≡ true → Ended code m s low_now running_now len (with_bit s.start s.base) → Stretch h.side n h.before (state_now code m s) h.opened (byte_at m) h.rest
-    under_stretch e has x =
-        let d = done h.side n start h.effect h.flags (machine m s) (let w = h.within in omega arith) h.stands has in
-        let bits : with_bit s.start s.base ≡ with_bit h.before.start (moved h.rest) = (let p = h.bits in let q = base_is in rw (p, q) (with_same h.before.start (moved h.rest))) in
-        let P : State → Type 0 = λ t. Stretch h.side n h.before t h.opened (byte_at m) h.rest in
-        subst P (sym x.after) (stretch_from (with_bit s.start s.base) d (λ o. absurd (two_sides h.side o e)) (λ u. bits))
+      under_stretch : h.side ≡ Underflow → has_effect h.side n h.effect ≡ true → Ended code m s low_now untaken running_now len (with_bit s.start s.base) → Stretch h.side n h.before (state_now code m s) h.opened (byte_at m) h.rest
+      under_stretch e has x =
+          let d = done h.side n start h.effect h.flags (machine m s) (let w = h.within in omega arith) h.stands has in
+          let bits : with_bit s.start s.base ≡ with_bit h.before.start (moved h.rest) = (let p = h.bits in let q = base_is in rw (p, q) (with_same h.before.start (moved h.rest))) in
+          let P : State → Type 0 = λ t. Stretch h.side n h.before t h.opened (byte_at m) h.rest in
+          subst P (sym x.after) (stretch_from (with_bit s.start s.base) d (λ o. absurd (two_sides h.side o e)) (λ u. bits))
 
-    closes_at : (i : Insn) → fetched code s.control.pc ≡ Fetches i len → (planned code s).kind ≡ kind.Insn → ends_stretch i ≡ true → closes code (planned code s).kind s.control.pc ≡ true
-    closes_at i at k e = ap (λ k. closes code k s.control.pc) k ∙ (ap fetched_ends at ∙ e)
+      closes_at : (i : Insn) → fetched code s.control.pc ≡ Fetches i len → (planned code s).kind ≡ kind.Insn → ends_stretch i ≡ true → closes code (planned code s).kind s.control.pc ≡ true
+      closes_at i at k e = ap (λ k. closes code k s.control.pc) k ∙ (ap fetched_ends at ∙ e)
 
-    rfwo_closes : (i : Insn) → i ≡ insn.System (system.Rfe return.Rfwo) → ends_stretch i ≡ true
-    unfolding ends_stretch
-    rfwo_closes i e = rw e refl
+      rfwo_closes : (i : Insn) → i ≡ insn.System (system.Rfe return.Rfwo) → ends_stretch i ≡ true
+      unfolding ends_stretch
+      rfwo_closes i e = rw e refl
 
-    rfwu_closes : (i : Insn) → i ≡ insn.System (system.Rfe return.Rfwu) → ends_stretch i ≡ true
-    unfolding ends_stretch
-    rfwu_closes i e = rw e refl
+      rfwu_closes : (i : Insn) → i ≡ insn.System (system.Rfe return.Rfwu) → ends_stretch i ≡ true
+      unfolding ends_stretch
+      rfwu_closes i e = rw e refl
 
-    ends_by : (side : Side) → h.side ≡ side → (i : Insn) → fetched code s.control.pc ≡ Fetches i len → step_of_insn i ≡ ending_of side → has_effect h.side n h.effect ≡ true → Next
-    ends_by Overflow e i at is has =
-        let same = is_rfwo (shown i) is in
-        let x = ends_with_rfwo code m s low_now running_now len (at ∙ ap (λ i. Fetches i len) same) in
-        ends (closes_at i at x.kind (rfwo_closes i same)) (over_ends e has x) x.memory (over_stretch e has x)
-    ends_by Underflow e i at is has =
-        let same = is_rfwu (shown i) is in
-        let x = ends_with_rfwu code m s low_now running_now len (at ∙ ap (λ i. Fetches i len) same) in
-        ends (closes_at i at x.kind (rfwu_closes i same)) (under_ends e has x) x.memory (under_stretch e has x)
+      ends_by : (side : Side) → h.side ≡ side → (i : Insn) → fetched code s.control.pc ≡ Fetches i len → step_of_insn i ≡ ending_of side → has_effect h.side n h.effect ≡ true → Next
+      ends_by Overflow e i at is has =
+          let same = is_rfwo (shown i) is in
+          let x = ends_with_rfwo code m s low_now untaken running_now len (at ∙ ap (λ i. Fetches i len) same) in
+          ends (closes_at i at x.kind (rfwo_closes i same)) (over_ends e has x) x.memory (over_stretch e has x)
+      ends_by Underflow e i at is has =
+          let same = is_rfwu (shown i) is in
+          let x = ends_with_rfwu code m s low_now untaken running_now len (at ∙ ap (λ i. Fetches i len) same) in
+          ends (closes_at i at x.kind (rfwu_closes i same)) (under_ends e has x) x.memory (under_stretch e has x)
 
-    foreign_ending : (side : Side) → Foreign ≡ ending_of side → ⊥
-    foreign_ending Overflow e = cc
-    foreign_ending Underflow e = cc
+      foreign_ending : (side : Side) → Foreign ≡ ending_of side → ⊥
+      foreign_ending Overflow e = cc
+      foreign_ending Underflow e = cc
 
-    step_ends : Closes h.side n (vector_bytes code vector) h.offset h.effect → AtPc → Next
-    step_ends c (no_insn e) = absurd (foreign_ending h.side (sym e ∙ c.is))
-    step_ends c (some_insn i at range e) = ends_by h.side refl i at (sym e ∙ c.is) c.has
+      step_ends : Closes h.side n (vector_bytes code vector) h.offset h.effect → AtPc → Next
+      step_ends c (no_insn e) = absurd (foreign_ending h.side (sym e ∙ c.is))
+      step_ends c (some_insn i at range e) = ends_by h.side refl i at (sym e ∙ c.is) c.has
 
-    pub handling_steps : IsShaped s → HasSizes m → Next
-    handling_steps shaped sizes = ⊎_elim
-        (λ (c : Closes h.side n (vector_bytes code vector) h.offset h.effect). step_ends c insn_here)
-        (λ (mv : Moves h.side n start (vector_bytes code vector) h.offset h.effect h.flags (machine m s)). step_goes mv shaped sizes insn_here)
-        turn_here.goes
+      pub handling_steps : IsShaped s → HasSizes m → Next
+      handling_steps shaped sizes = ⊎_elim
+          (λ (c : Closes h.side n (vector_bytes code vector) h.offset h.effect). step_ends c insn_here)
+          (λ (mv : Moves h.side n start (vector_bytes code vector) h.offset h.effect h.flags (machine m s)). step_goes mv shaped sizes insn_here)
+          turn_here.goes
 
     -- ---- an access of the other core
     pub handling_spared : (new : MemoryContents) → ((a : ℕ) → is_live b.range f a ≡ true → byte_at new a ≡ byte_at m a) → Handling code b new s f
     handling_spared new same = record {
       side = h.side;
-      fresh = h.fresh;
+      lost = h.lost;
       before = h.before;
       opened = h.opened;
       front = h.front;
@@ -600,14 +607,14 @@ module _ (code : ℕ → ℕ) (constant : (a : ℕ) → code a < 2 ^ 8) (b : Bou
 
 -- ---- as laws
 pub stretches_are_entered : StretchesAreEntered
-stretches_are_entered code bytes b good m fresh s f ring spilled reply l shaped window none = begins_at code bytes b good.dram good.aligned good.handlers m fresh s f ring spilled reply l shaped window none
+stretches_are_entered code bytes b good m lost s f ring spilled reply l shaped window none = begins_at code bytes b good.dram good.aligned good.handlers m lost s f ring spilled reply l shaped window none
 
 handler_step : (code : ℕ → ℕ) (bytes : AreBytes code) (b : Bounds) (good : IsGood code b) (m : MemoryContents) (s : State) (f : FrameState) (h : Handling code b m s f) → Next code bytes b good.dram good.aligned good.handlers h → HandlerStep code b m s f
 handler_step code bytes b good m s f h (goes_on open_ inside only) = steps_on open_ inside only
 handler_step code bytes b good m s f h (ends closed_ somewhere same stretch) = closes_stretch closed_ (record { side = h.side; before = h.before; opened = h.opened; g = h.g; rest = h.rest; stretch = stretch; somewhere = somewhere; memory = same })
 
 pub handler_steps_are_kept : HandlerStepsAreKept
-handler_steps_are_kept code bytes b good m s f h shaped sizes = handler_step code bytes b good m s f h (handling_steps code bytes b good.dram good.aligned good.handlers h shaped sizes)
+handler_steps_are_kept code bytes b good m s f h shaped sizes = handler_step code bytes b good m s f h (handling_steps code bytes b good.dram good.aligned good.handlers h (untaken_now code bytes b good.dram good.aligned good.handlers h) shaped sizes)
 
 pub handlers_are_spared : HandlersAreSpared
 handlers_are_spared code bytes b good old new s f h same = handling_spared code bytes b good.dram good.aligned good.handlers h new same

@@ -31,7 +31,7 @@ use Rattle.xt_exec.specs.Turn.{in_window, has_windows, looks, window_check, retu
 use Rattle.xt_frames.specs.Frames.{Frame, FrameState, known, moved}
 use Rattle.xt_frames.specs.FrameStep.{FrameTurn, raised, fetched_step}
 use Rattle.xt_frames.specs.SaveAreas.{Range}
-use Rattle.xt_frames.specs.Breaches.{Bounds, reads_none, may_write_sp, is_sp, shows_sp, writes_sp, other_frame_size, leaves_range, misaligns_sp, opens_nothing, returns_elsewhere, has_no_caller, touches_save_area, loads_stale, names_high, is_windowing, names_window_register, reads_epc1, is_movsp, insn_tests, writes_epc1, falls, fresh_after}
+use Rattle.xt_frames.specs.Breaches.{lost_of, Bounds, reads_none, may_write_sp, is_sp, shows_sp, writes_sp, other_frame_size, leaves_range, misaligns_sp, opens_nothing, returns_elsewhere, has_no_caller, touches_save_area, loads_stale, names_high, is_windowing, names_window_register, reads_epc1, is_movsp, insn_tests, writes_epc1, falls, fresh_after}
 use Rattle.xt_simulation.specs.Stacks.{sp_under}
 use Rattle.xt_simulation.specs.Relation.{Even, Level}
 use Rattle.xt_simulation.proofs.WindowLemmas.{passes}
@@ -84,17 +84,18 @@ keeps_sp i shown o e m h =
 
 -- ---- the target
 abbrev pub Target : ℕ → Bool → List Frame → ℕ → Fetched → State → Turn → FrameTurn → Type 0
-Target vecbase fresh spilled under at s t u = Ends vecbase t u → Steps vecbase (fresh_after fresh t.kind at s.control.ps t.after.control.ps) spilled under t u
+Target vecbase fresh spilled under at s t u = Ends vecbase t u → Steps vecbase (lost_of (fresh_after fresh t.kind at s.control.ps t.after.control.ps)) spilled under t u
 
-module _ {vecbase : ℕ} {fresh : Bool} {s : State} {g : FrameState} {ring spilled : List Frame} (l : Level vecbase fresh s g ring spilled) where
+module _ {vecbase : ℕ} (fresh : Bool) {s : State} {g : FrameState} {ring spilled : List Frame} (l : Level vecbase (lost_of fresh) s g ring spilled) where
   pub raise_target : (at : Fetched) (cause reply : ℕ) (addr : Option ℕ) → Target vecbase fresh spilled (sp_under (known g.seen 1) ring) at s (finished (in_window (settled_exception cause addr s.control) s) reply) (raised cause addr g)
   unfolding writes_epc1
   raise_target at cause reply addr ends =
       let a = raise_alike cause addr s.control g.control l.even in
       in_both l (settled_exception cause addr s.control) (settled_exception cause addr g.control) reply
-      (record { kind = refl; write = refl; access = refl; awaited = refl; even = even_after (not s.control.ps.excm) (not (falls s.control.ps (after_exception cause addr s.control).ps)) _ _ a.even (λ w. even_ticked _ _ (even_raise_epc1 cause addr s.control g.control (not-true _ w) l.even)) })
+      (record { kind = refl; write = refl; access = refl; awaited = refl; even = even_after fresh (not s.control.ps.excm) (not (falls s.control.ps (after_exception cause addr s.control).ps)) _ _ a.even (λ w. even_ticked _ _ (even_raise_epc1 cause addr s.control g.control (not-true _ w) l.even)) })
       tt tt ends
 
+module _ {vecbase : ℕ} {lost : ℕ → Bool} {s : State} {g : FrameState} {ring spilled : List Frame} (l : Level vecbase lost s g ring spilled) where
   pub same_excm : s.control.ps.excm ≡ g.control.ps.excm
   same_excm = ap (λ p. p.excm) l.even.ps
 
@@ -123,7 +124,7 @@ return_excm s n m e f pos h woe bad =
     (or_cases (not (eqb m 0) && not (eqb m n)) (not (has_windows s.control.ps)) last))
     (or_cases (eqb n 0) ((not (eqb m 0) && not (eqb m n)) || not (has_windows s.control.ps)) b)
 
-return_illegal : {b : Bounds} {fresh : Bool} {live stale : ℕ → Bool} {rec : StepRecord} {u : FrameTurn} {s : State} {g : FrameState} (ring spilled : List Frame) → Level b.vecbase fresh s g ring spilled → (i : Insn) → IsReturn i → Sound b fresh live stale i rec g u → illegal_return s ≡ true → s.control.ps.excm ≡ true
+return_illegal : {b : Bounds} {fresh : Bool} {live stale : ℕ → Bool} {rec : StepRecord} {u : FrameTurn} {s : State} {g : FrameState} (ring spilled : List Frame) → Level b.vecbase (lost_of fresh) s g ring spilled → (i : Insn) → IsReturn i → Sound b fresh live stale i rec g u → illegal_return s ≡ true → s.control.ps.excm ≡ true
 return_illegal {s = s} {g = g} (f ∷ ring) spilled l i r o bad =
     let a = a0_known l i r o.unset in
     let n : return_size (visible s.regs s.base 0) ≡ f.by = rw (← a) (return_names f (ring ++ spilled) i g (return_is i r) l.frames o.mismatch) in
@@ -142,7 +143,7 @@ entry_number number size range g h = eqb-true _ _ (not-false _ (or_parts (not (e
 abbrev pub Calls : Insn → Type 0
 Calls i = IsReturn i ⊎ ((number : ℕ) × (size : ℤ) × (i ≡ insn.Control (control.Entry number size)))
 
-pub illegal_excm : {b : Bounds} {fresh : Bool} {live stale : ℕ → Bool} {rec : StepRecord} {u : FrameTurn} {s : State} {g : FrameState} {ring spilled : List Frame} → Level b.vecbase fresh s g ring spilled → (i : Insn) → Sound b fresh live stale i rec g u → is_illegal i s ≡ true → (s.control.ps.excm ≡ true) × Calls i
+pub illegal_excm : {b : Bounds} {fresh : Bool} {live stale : ℕ → Bool} {rec : StepRecord} {u : FrameTurn} {s : State} {g : FrameState} {ring spilled : List Frame} → Level b.vecbase (lost_of fresh) s g ring spilled → (i : Insn) → Sound b fresh live stale i rec g u → is_illegal i s ≡ true → (s.control.ps.excm ≡ true) × Calls i
 unfolding is_illegal
 illegal_excm {ring = ring} {spilled = spilled} l (insn.Control (control.Ret RetName.Retw)) o bad = (return_illegal ring spilled l (insn.Control (control.Ret RetName.Retw)) (inl refl) o bad, inl (inl refl))
 illegal_excm {ring = ring} {spilled = spilled} l (insn.Density (density.Ret NarrowRetName.Retw)) o bad = (return_illegal ring spilled l (insn.Density (density.Ret NarrowRetName.Retw)) (inr refl) o bad, inl (inr refl))
@@ -174,7 +175,7 @@ looks_named (insn.Control (control.Entry number size)) ps h = absurd (true≢fal
 looks_named _ ps h = refl
 
 -- ---- room for the register that is written
-module _ {vecbase : ℕ} {fresh : Bool} {s : State} {g : FrameState} {ring spilled : List Frame} (l : Level vecbase fresh s g ring spilled) where
+module _ {vecbase : ℕ} {lost : ℕ → Bool} {s : State} {g : FrameState} {ring spilled : List Frame} (l : Level vecbase lost s g ring spilled) where
   may_now : s.control.ps.excm ≡ false → has_windows s.control.ps ≡ true
   may_now low = and_from _ _ l.woe (not_from_false _ low)
 
@@ -205,7 +206,7 @@ pub awaited_named : (i : Insn) (awaited : Option Awaited) (reply : ℕ) → Awai
 awaited_named i None reply h = tt
 awaited_named i (Some a) reply h = h
 
-pub epc1_effect : {fresh : Bool} (e : Effect) (len x : ℕ) (c d : Control) → e.sets ≡ (set_to 177 x, no_set, no_set) → Even fresh c d → Even true (after_effect e len c) (after_effect e len d)
+pub epc1_effect : {lost : ℕ → Bool} (e : Effect) (len x : ℕ) (c d : Control) → e.sets ≡ (set_to 177 x, no_set, no_set) → Even lost c d → Even (lost_of true) (after_effect e len c) (after_effect e len d)
 unfolding after_effect
 epc1_effect e len x c d q h =
     even_flow e.flow len
@@ -214,8 +215,8 @@ epc1_effect e len x c d q h =
     (record { pc = h.pc; ps = refl; threadptr = refl; waits = refl; special = rw q (same_set_epc1 h.special x) })
 
 -- ---- a step with another freshness
-pub less_fresh : {vecbase : ℕ} {fresh : Bool} {spilled : List Frame} {under : ℕ} {t : Turn} {u : FrameTurn} (written kept : Bool) → written ≡ false → Steps vecbase fresh spilled under t u → Steps vecbase (written || (fresh && kept)) spilled under t u
-less_fresh written kept w p = record {
+pub less_fresh : {vecbase : ℕ} (fresh : Bool) {spilled : List Frame} {under : ℕ} {t : Turn} {u : FrameTurn} (written kept : Bool) → written ≡ false → Steps vecbase (lost_of fresh) spilled under t u → Steps vecbase (lost_of (written || (fresh && kept))) spilled under t u
+less_fresh fresh written kept w p = record {
   kind = p.kind;
   write = p.write;
   access = p.access;
@@ -225,7 +226,7 @@ less_fresh written kept w p = record {
     windows = p.level.windows;
     frames = p.level.frames;
     older = p.level.older;
-    even = even_after written kept _ _ p.level.even (λ t. absurd (both_ways _ w t));
+    even = even_after fresh written kept _ _ p.level.even (λ t. absurd (both_ways _ w t));
     woe = p.level.woe;
     calls = p.level.calls;
     vectors = p.level.vectors;

@@ -17,7 +17,7 @@ use Rattle.xt_frames.specs.Frames.{Frame, FrameState, known}
 use Rattle.xt_frames.specs.FrameStep.{FrameTurn, laid, laid_step}
 use Rattle.xt_frames.specs.SaveAreas.{is_live}
 use Rattle.xt_frames.specs.HandlerSteps.{is_window}
-use Rattle.xt_frames.specs.Breaches.{Bounds, inputs_of, laid_breach, breach_of, fresh_after, stale_after}
+use Rattle.xt_frames.specs.Breaches.{lost_of, Bounds, inputs_of, laid_breach, breach_of, fresh_after, stale_after}
 use Rattle.xt_simulation.specs.Stacks.{Stack, Saved, sp_under}
 use Rattle.xt_simulation.specs.Relation.{Same, Level, Plain, inputs}
 use Rattle.xt_simulation.specs.Cores.{word, Related}
@@ -36,16 +36,17 @@ use Rattle.xt_exec.proofs.Served.{demand_served}
 use Rattle.xt_simulation.proofs.Served.{areas_kept}
 
 -- ---- the inputs of the next step, laid over the frame state
-same_own : {fresh : Bool} {xs ys : List ℕ} → Same fresh xs ys → (k : ℕ) → Same fresh xs (set ys k (get_or xs k 0))
+same_own : {lost : ℕ → Bool} {xs ys : List ℕ} → Same lost xs ys → (k : ℕ) → Same lost xs (set ys k (get_or xs k 0))
 same_own {xs = xs} {ys = ys} e k = record {
   size = e.size ∙ sym (length-set ys k (get_or xs k 0));
+  only = e.only;
   at = λ j known. ⊎_elim
       (λ same. rw same (sym (set_own xs ys k e.size)))
       (λ other. e.at j known ∙ sym (get_or-set_other ys k j (get_or xs k 0) 0 other))
       (cases_eq j k);
 }
 
-pub lay : {vecbase : ℕ} {fresh : Bool} {s : State} {g : FrameState} {ring spilled : List Frame} → Level vecbase fresh s g ring spilled → Plain vecbase fresh s g ring spilled
+pub lay : {vecbase : ℕ} {lost : ℕ → Bool} {s : State} {g : FrameState} {ring spilled : List Frame} → Level vecbase lost s g ring spilled → Plain vecbase lost s g ring spilled
 lay {s = s} {g = g} l = record {
   windows = l.windows;
   frames = l.frames;
@@ -83,7 +84,7 @@ pub shaped_now : (code : ℕ → ℕ) (m : MemoryContents) (s : State) → AreBy
 shaped_now code m s bytes shaped im = turn_shaped code s (reply_now code m s) bytes shaped (reply_small m (demand code s) im (demand_served code s))
 
 module _ (code : ℕ → ℕ) (bytes : AreBytes code) (b : Bounds) (fresh : Bool) (s : State) (f : FrameState) (ring spilled : List Frame) (m framed : MemoryContents) (others stale : ℕ → Bool)
-    (l : Related (byte_at m) b fresh s f ring spilled) (shaped : IsShaped s) (real : IsMemory m) (sizes : HasSizes framed) (agree : Agree (live_of b f others) stale m framed)
+    (l : Related (byte_at m) b (lost_of fresh) s f ring spilled) (shaped : IsShaped s) (real : IsMemory m) (sizes : HasSizes framed) (agree : Agree (live_of b f others) stale m framed)
     (nowindow : is_window (planned code s).kind ≡ false) (none : breach_of b fresh code (live_of b f others) stale (record_now code m s) f ≡ None) where
   abbrev g : FrameState
   g = laid (inputs 0 s) f
@@ -138,8 +139,8 @@ module _ (code : ℕ → ℕ) (bytes : AreBytes code) (b : Bounds) (fresh : Bool
           access = access ∙ ap (λ (x : FrameTurn). x.access) e;
           reply = record_reply code m s ∙ (replies_agree (live_of b f others) stale m framed (demand code s) agree kept ∙ (ap (reply_at framed) access ∙ ap (λ (x : FrameTurn). reply_at framed x.access) e));
         };
-        somewhere = subst (λ (x : FrameTurn). Somewhere (byte_at (memory_now code m s)) b (fresh_after fresh x.kind (fetched code f.control.pc) (laid (inputs_of (record_now code m s)) f).control.ps x.after.control.ps) (state_now code m s) x.after) e
-            (subst (λ z. Somewhere (byte_at (memory_now code m s)) b z (state_now code m s) u.after) (same_fresh p.kind p.level.even.ps) (record {
+        somewhere = subst (λ (x : FrameTurn). Somewhere (byte_at (memory_now code m s)) b (lost_of (fresh_after fresh x.kind (fetched code f.control.pc) (laid (inputs_of (record_now code m s)) f).control.ps x.after.control.ps)) (state_now code m s) x.after) e
+            (subst (λ z. Somewhere (byte_at (memory_now code m s)) b (lost_of z) (state_now code m s) u.after) (same_fresh p.kind p.level.even.ps) (record {
               ring = p.ring;
               spilled = spilled;
               related = record { plain = lay p.level; stack = stack_after; saved = rw p.same saved_after };

@@ -34,8 +34,8 @@ leaves_sp seen f ring shape =
     let m = shape.moves in
     ap (λ x. sp_under (unwrap_or x 0) ring) (get_or_append_left f.kept (take (16 - 4 * f.by) seen) None 1 (omega arith))
 
-pub enters : {vecbase : ℕ} {fresh : Bool} {s : State} {g : FrameState} {ring spilled : List Frame} → Level vecbase fresh s g ring spilled → (value len reply : ℕ) → 0 < s.control.ps.callinc → moved ring + s.control.ps.callinc < 16
-    → Ends vecbase (finished (entered 1 value len s) reply) (pushed 1 value len g) → Steps vecbase fresh spilled (sp_under (known g.seen 1) ring) (finished (entered 1 value len s) reply) (pushed 1 value len g)
+pub enters : {vecbase : ℕ} {lost : ℕ → Bool} {s : State} {g : FrameState} {ring spilled : List Frame} → Level vecbase lost s g ring spilled → (value len reply : ℕ) → 0 < s.control.ps.callinc → moved ring + s.control.ps.callinc < 16
+    → Ends vecbase (finished (entered 1 value len s) reply) (pushed 1 value len g) → Steps vecbase lost spilled (sp_under (known g.seen 1) ring) (finished (entered 1 value len s) reply) (pushed 1 value len g)
 unfolding entered pushed
 enters {s = s} {g = g} {ring = ring} {spilled = spilled} l value len reply pos room ends =
     let n : s.control.ps.callinc ≡ g.control.ps.callinc = ap (λ p. p.callinc) l.even.ps in
@@ -60,14 +60,14 @@ enters {s = s} {g = g} {ring = ring} {spilled = spilled} l value len reply pos r
     }
 
 -- ---- a return
-moved_even : {fresh : Bool} {c d : Control} (p q : ℕ) → p ≡ q → Even fresh c d → Even fresh (record c { pc = p }) (record d { pc = q })
+moved_even : {lost : ℕ → Bool} {c d : Control} (p q : ℕ) → p ≡ q → Even lost c d → Even lost (record c { pc = p }) (record d { pc = q })
 moved_even p q e h = record { pc = e; ps = h.ps; threadptr = h.threadptr; waits = h.waits; special = h.special }
 
 -- where the caller stands in the ring
-pub leaves : {vecbase : ℕ} {fresh : Bool} {s : State} {g : FrameState} {f : Frame} {ring spilled : List Frame} → Level vecbase fresh s g (f ∷ ring) spilled → (a0 reply : ℕ) → return_size a0 ≡ f.by
-    → Ends vecbase (finished (returned a0 s) reply) (popped a0 g) → Steps vecbase fresh spilled (sp_under (known g.seen 1) (f ∷ ring)) (finished (returned a0 s) reply) (popped a0 g)
+pub leaves : {vecbase : ℕ} {lost : ℕ → Bool} {s : State} {g : FrameState} {f : Frame} {ring spilled : List Frame} → Level vecbase lost s g (f ∷ ring) spilled → (a0 reply : ℕ) → return_size a0 ≡ f.by
+    → Ends vecbase (finished (returned a0 s) reply) (popped a0 g) → Steps vecbase lost spilled (sp_under (known g.seen 1) (f ∷ ring)) (finished (returned a0 s) reply) (popped a0 g)
 unfolding returned popped
-leaves {vecbase = vecbase} {fresh = fresh} {s = s} {g = g} {f = f} {ring = ring} {spilled = spilled} l a0 reply n =
+leaves {vecbase = vecbase} {lost = lost} {s = s} {g = g} {f = f} {ring = ring} {spilled = spilled} l a0 reply n =
     let w = l.windows in
     let at : bit s.start (base_after_return s.base f.by) ≡ true = caller_there w in
     rw (n, l.frames, at) (λ ends.
@@ -90,7 +90,7 @@ leaves {vecbase = vecbase} {fresh = fresh} {s = s} {g = g} {f = f} {ring = ring}
     })
 
 -- where the caller does not stand in the ring, the return is an underflow
-pub underflows : {vecbase : ℕ} {fresh : Bool} {s : State} {g : FrameState} {spilled : List Frame} → Level vecbase fresh s g [] spilled → (a0 : ℕ) → 0 < return_size a0 → return_size a0 ≤ 3 → returned a0 s ≡ underflow (return_size a0) s
+pub underflows : {vecbase : ℕ} {lost : ℕ → Bool} {s : State} {g : FrameState} {spilled : List Frame} → Level vecbase lost s g [] spilled → (a0 : ℕ) → 0 < return_size a0 → return_size a0 ≤ 3 → returned a0 s ≡ underflow (return_size a0) s
 unfolding returned
 underflows {s = s} l a0 pos small =
     let at : bit s.start (base_after_return s.base (return_size a0)) ≡ false = bit_at_window s.start (base_after_return s.base (return_size a0)) (s.base + (16 - return_size a0)) (omega arith) ∙ free_behind l.windows (return_size a0) pos (omega arith) in

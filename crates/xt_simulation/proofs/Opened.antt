@@ -19,10 +19,11 @@ use Rattle.xt_exec.specs.Laws.{IsShaped}
 use Rattle.xt_exec.proofs.Shapes.{opening_shaped}
 use Rattle.xt_frames.specs.Frames.{known}
 use Rattle.xt_frames.specs.SaveAreas.{Range}
-use Rattle.xt_frames.specs.Breaches.{Bounds}
+use Rattle.xt_frames.specs.Breaches.{lost_of, Bounds}
 use Rattle.xt_simulation.specs.Stacks.{IsRange}
 use Rattle.xt_simulation.specs.Relation.{Level}
 use Rattle.xt_simulation.specs.Cores.{word, Related}
+use Rattle.xt_simulation.proofs.Evenly.{only_epc1}
 use Rattle.xt_simulation.proofs.RingLemmas.{some_within}
 use Rattle.xt_stretch.specs.Running.{word_at, with_word, is_access}
 use Rattle.xt_stretch.proofs.Words.{word_at-same, word_at-other, access_from}
@@ -63,7 +64,7 @@ module _ (core pc vecbase hi : ℕ) where
   unfolding opening_state opening_regs cleared_regs
   opening_sp = refl
 
-  opening_level : length s.regs ≡ 64 → Level vecbase true s (frame_of s) [] []
+  opening_level : length s.regs ≡ 64 → Level vecbase (lost_of true) s (frame_of s) [] []
   opening_level size =
       let zero_base = opens_at.0 in
       let one = opens_at.1 in
@@ -87,7 +88,7 @@ module _ (core pc vecbase hi : ℕ) where
         };
         frames = refl;
         older = tt;
-        even = record { pc = refl; ps = refl; threadptr = refl; waits = refl; special = record { size = refl; at = λ k h. refl } };
+        even = record { pc = refl; ps = refl; threadptr = refl; waits = refl; special = record { size = refl; only = only_epc1 true; at = λ k h. refl } };
         woe = ap (λ (c : Control). c.ps.woe) control;
         calls = (let e : s.control.ps.callinc ≡ 2 = ap (λ (c : Control). c.ps.callinc) control in omega arith);
         vectors = ap (λ (c : Control). special_of c 231) control ∙ opening_vecbase (prid_of core) vecbase;
@@ -100,7 +101,7 @@ pub dram_of : (b : Bounds) → IsStack b.range → InDram b
 dram_of b i = record { low = i.low; high = i.high }
 
 pub opening_related : (core pc : ℕ) (b : Bounds) (m : ℕ → ℕ) → IsStack b.range → IsShaped (opening_state core pc b.vecbase b.range.hi) → word m (b.range.hi - 76) ≡ b.range.hi
-    → Related m b true (opening_state core pc b.vecbase b.range.hi) (frame_of (opening_state core pc b.vecbase b.range.hi)) [] []
+    → Related m b (lost_of true) (opening_state core pc b.vecbase b.range.hi) (frame_of (opening_state core pc b.vecbase b.range.hi)) [] []
 opening_related core pc b m i shaped link =
     let sp = opening_sp core pc b.vecbase b.range.hi in
     record {

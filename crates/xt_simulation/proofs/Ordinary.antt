@@ -18,7 +18,7 @@ use Rattle.xt_exec.specs.State.{State}
 use Rattle.xt_exec.specs.Turn.{in_window, kind_of, written, with_write}
 use Rattle.xt_frames.specs.Frames.{Frame, FrameState, known, moved, seen_after_write}
 use Rattle.xt_frames.specs.FrameStep.{FrameTurn, in_frame}
-use Rattle.xt_frames.specs.Breaches.{lacks, reads_none, reads_lost, reads_epc1}
+use Rattle.xt_frames.specs.Breaches.{lost_of, lacks, reads_none, reads_lost, reads_epc1}
 use Rattle.xt_simulation.specs.Ring.{Windows}
 use Rattle.xt_simulation.specs.Stacks.{sp_under}
 use Rattle.xt_simulation.specs.Relation.{Even, Level}
@@ -29,11 +29,7 @@ use Rattle.xt_simulation.specs.JudgedSteps.{Steps}
 use Rattle.xt_simulation.proofs.Evenly.{same_at, even_effect, even_ticked, even_raise}
 
 -- ---- equal values
-fresh_from : {fresh : Bool} (k : ℕ) → k ≡ 177 → (eqb k 177 && not fresh) ≡ false → fresh ≡ true
-fresh_from {fresh = true} k e h = refl
-fresh_from {fresh = false} k e h = absurd (true≢false (sym (and_from (eqb k 177) true (eq-eqb k 177 e) refl) ∙ h))
-
-module _ {vecbase : ℕ} {fresh : Bool} {s : State} {g : FrameState} {ring spilled : List Frame} (l : Level vecbase fresh s g ring spilled) where
+module _ {vecbase : ℕ} {lost : ℕ → Bool} {s : State} {g : FrameState} {ring spilled : List Frame} (l : Level vecbase lost s g ring spilled) where
   pub same_value : (o : Option ℕ) → lacks g.seen o ≡ false → value_of (visible s.regs s.base) o ≡ value_of (known g.seen) o
   same_value None h = refl
   same_value (Some k) h =
@@ -42,16 +38,17 @@ module _ {vecbase : ℕ} {fresh : Bool} {s : State} {g : FrameState} {ring spill
       let b : known g.seen k ≡ v.0 = ap (λ o. unwrap_or o 0) v.1 in
       a ∙ sym b
 
+module _ {vecbase : ℕ} (fresh : Bool) {s : State} {g : FrameState} {ring spilled : List Frame} (l : Level vecbase (lost_of fresh) s g ring spilled) where
   same_special : (o : Option ℕ) → reads_lost fresh o ≡ false → value_of (special_of s.control) o ≡ value_of (special_of g.control) o
   same_special None h = refl
-  same_special (Some k) h = l.even.special.at k (λ e. fresh_from k e h)
+  same_special (Some k) h = l.even.special.at k h
 
   pub same_outcome : (code : ℕ → ℕ) (i : Insn) → reads_none i g ≡ false → reads_epc1 fresh i ≡ false → outcome_at code i (visible s.regs s.base) s.control ≡ outcome_at code i (known g.seen) g.control
-  same_outcome code i unset lost =
+  same_outcome code i unset none =
       let u = or_parts (lacks g.seen (reads i).0) (lacks g.seen (reads i).1) unset in
-      let e = or_parts (reads_lost fresh (special_reads i).0) (reads_lost fresh (special_reads i).1) lost in
-      let x = same_value (reads i).0 u.0 in
-      let y = same_value (reads i).1 u.1 in
+      let e = or_parts (reads_lost fresh (special_reads i).0) (reads_lost fresh (special_reads i).1) none in
+      let x = same_value l (reads i).0 u.0 in
+      let y = same_value l (reads i).1 u.1 in
       let p = same_special (special_reads i).0 e.0 in
       let q = same_special (special_reads i).1 e.1 in
       let a = l.even.pc in
@@ -60,17 +57,17 @@ module _ {vecbase : ℕ} {fresh : Bool} {s : State} {g : FrameState} {ring spill
       cc
 
 -- ---- what a turn leaves beside the registers
-pub record Alike (fresh : Bool) (t u : Settled) : Type 0 where
+pub record Alike (lost : ℕ → Bool) (t u : Settled) : Type 0 where
   pub kind : t.kind ≡ u.kind
   pub write : t.write ≡ u.write
   pub access : t.access ≡ u.access
   pub awaited : t.awaited ≡ u.awaited
-  pub even : Even fresh t.control u.control
+  pub even : Even lost t.control u.control
 
-pub raise_alike : {fresh : Bool} (cause : ℕ) (addr : Option ℕ) (c d : Control) → Even fresh c d → Alike fresh (settled_exception cause addr c) (settled_exception cause addr d)
+pub raise_alike : {lost : ℕ → Bool} (cause : ℕ) (addr : Option ℕ) (c d : Control) → Even lost c d → Alike lost (settled_exception cause addr c) (settled_exception cause addr d)
 raise_alike cause addr c d e = record { kind = refl; write = refl; access = refl; awaited = refl; even = even_ticked (after_exception cause addr c) (after_exception cause addr d) (even_raise cause addr c d e) }
 
-pub settled_alike : {fresh : Bool} (o : Outcome) (len : ℕ) (c d : Control) → Even fresh c d → Alike fresh (settled o len c) (settled o len d)
+pub settled_alike : {lost : ℕ → Bool} (o : Outcome) (len : ℕ) (c d : Control) → Even lost c d → Alike lost (settled o len c) (settled o len d)
 settled_alike (Does e) len c d h = record { kind = refl; write = refl; access = refl; awaited = refl; even = even_ticked (after_effect e len c) (after_effect e len d) (even_effect e len c d h) }
 settled_alike (Raises cause addr) len c d h = raise_alike cause addr c d h
 settled_alike (Asks access awaited e) len c d h = record { kind = refl; write = refl; access = refl; awaited = refl; even = even_ticked (after_effect e len c) (after_effect e len d) (even_effect e len c d h) }
@@ -109,16 +106,16 @@ pub record Ends (vecbase : ℕ) (t : Turn) (u : FrameTurn) : Type 0 where
   pub woe : u.after.control.ps.woe ≡ true
   pub vectors : special_of u.after.control number.vecbase ≡ vecbase
 
-pub even_level : {vecbase : ℕ} {fresh : Bool} {c d : Control} → Even fresh c d → special_of d number.vecbase ≡ vecbase → special_of c number.vecbase ≡ vecbase
+pub even_level : {vecbase : ℕ} {lost : ℕ → Bool} {c d : Control} → Even lost c d → special_of d number.vecbase ≡ vecbase → special_of c number.vecbase ≡ vecbase
 even_level e v = same_at e.special 231 (λ e. omega arith) ∙ v
 
-pub in_both : {vecbase : ℕ} {old fresh : Bool} {s : State} {g : FrameState} {ring spilled : List Frame} → Level vecbase old s g ring spilled → (t u : Settled) (reply : ℕ) → Alike fresh t u
+pub in_both : {vecbase : ℕ} {old lost : ℕ → Bool} {s : State} {g : FrameState} {ring spilled : List Frame} → Level vecbase old s g ring spilled → (t u : Settled) (reply : ℕ) → Alike lost t u
     → HasRoom ring (written t.write t.awaited reply) → KeepsSp (written t.write t.awaited reply) → Ends vecbase (finished (in_window t s) reply) (in_frame u reply g)
-    → Steps vecbase fresh spilled (sp_under (known g.seen 1) ring) (finished (in_window t s) reply) (in_frame u reply g)
-in_both {fresh = fresh} {s = s} {g = g} {ring = ring} {spilled = spilled} l t u reply a room keeps ends =
+    → Steps vecbase lost spilled (sp_under (known g.seen 1) ring) (finished (in_window t s) reply) (in_frame u reply g)
+in_both {lost = lost} {s = s} {g = g} {ring = ring} {spilled = spilled} l t u reply a room keeps ends =
     let same : written t.write t.awaited reply ≡ written u.write u.awaited reply = (let w = a.write in let x = a.awaited in rw (w, x) refl) in
     let control : (with_write (written t.write t.awaited reply) (record s { control = t.control })).control ≡ t.control = write_control (written t.write t.awaited reply) (record s { control = t.control }) in
-    let even : Even fresh (with_write (written t.write t.awaited reply) (record s { control = t.control })).control u.control = rw control a.even in
+    let even : Even lost (with_write (written t.write t.awaited reply) (record s { control = t.control })).control u.control = rw control a.even in
     record {
       kind = ap kind_of a.kind;
       write = same;

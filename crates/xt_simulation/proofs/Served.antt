@@ -9,7 +9,7 @@ use Rattle.xt_exec.specs.State.{State}
 use Rattle.xt_exec.specs.Turn.{Planned, demand, turn}
 use Rattle.xt_frames.specs.Frames.{Frame, FrameState}
 use Rattle.xt_frames.specs.FrameStep.{FrameTurn, laid_step}
-use Rattle.xt_frames.specs.Breaches.{Bounds, fetched_tests, laid_breach, touches_save_area, loads_stale}
+use Rattle.xt_frames.specs.Breaches.{lost_of, Bounds, fetched_tests, laid_breach, touches_save_area, loads_stale}
 use Rattle.xt_simulation.specs.Relation.{Level}
 use Rattle.xt_simulation.proofs.Windowed.{NoneShown, none_shown}
 use Rattle.xt_exec.proofs.Halves.{turn_taken, turn_waits}
@@ -28,7 +28,7 @@ tests_keep b fresh live stale SpellsNothing rec g u (saves, (loads, more)) = (sa
 none_asked : (live stale : ℕ → Bool) (o : Option Access) → o ≡ None → Keeps live stale o
 none_asked live stale o e = rw e (refl, refl)
 
-pub areas_kept : (code : ℕ → ℕ) (b : Bounds) (fresh : Bool) (live stale : ℕ → Bool) (s : State) (g : FrameState) (ring spilled : List Frame) (reply : ℕ) → Level b.vecbase fresh s g ring spilled → laid_breach b fresh code live stale (turn code s reply).0 g ≡ None → Keeps live stale (demand code s)
+pub areas_kept : (code : ℕ → ℕ) (b : Bounds) (fresh : Bool) (live stale : ℕ → Bool) (s : State) (g : FrameState) (ring spilled : List Frame) (reply : ℕ) → Level b.vecbase (lost_of fresh) s g ring spilled → laid_breach b fresh code live stale (turn code s reply).0 g ≡ None → Keeps live stale (demand code s)
 unfolding turn demand
 areas_kept code b fresh live stale s g ring spilled reply l none =
     let p = same_pending s.control g.control l.even in

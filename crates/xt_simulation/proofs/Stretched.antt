@@ -40,7 +40,7 @@ pub record Oldest (old : ℕ → ℕ) (b : Bounds) (s : State) (f : FrameState) 
   pub saved : Saved (word old) b.range.hi (sp_of g) spilled
   pub top : word old (visible s.regs (moved spilled) 1 - 12) ≡ before b.range.hi spilled
 
-pub oldest : {fresh : Bool} {s : State} (b : Bounds) (f : FrameState) (ring : List Frame) (g : Frame) (spilled : List Frame) (old : ℕ → ℕ) → Related old b fresh s f (ring ++ g ∷ []) spilled → Oldest old b s f ring g spilled
+pub oldest : {lost : ℕ → Bool} {s : State} (b : Bounds) (f : FrameState) (ring : List Frame) (g : Frame) (spilled : List Frame) (old : ℕ → ℕ) → Related old b lost s f (ring ++ g ∷ []) spilled → Oldest old b s f ring g spilled
 oldest {s = s} b f ring g spilled old l =
     let low = moved spilled in
     let w = l.plain.windows in
@@ -93,18 +93,18 @@ finds lo hi callee own top g rest sp r c e f h =
     }
 
 pub overflows_find_frames : OverflowsFindFrames
-overflows_find_frames b fresh s f ring g spilled m l =
+overflows_find_frames b lost s f ring g spilled m l =
     let o = oldest b f ring g spilled m l in
     finds b.range.lo b.range.hi _ _ _ g spilled (sp_under (known f.seen 1) ring) l.stack.range o.chain o.callee o.own o.top
 
 pub overflows_keep_related : OverflowsKeepRelated
-overflows_keep_related b fresh s t f ring g spilled old new l c start st =
+overflows_keep_related b lost s t f ring g spilled old new l c start st =
     let o = oldest b f ring g spilled old l in
     let callee = o.callee in
     let top = o.top in
     let keeps = o.these.0.keeps in
     record {
-      plain = spills b.vecbase fresh s t f ring g spilled l.plain c start;
+      plain = spills b.vecbase lost s t f ring g spilled l.plain c start;
       stack = l.stack;
       saved = spills_are_saved (word old) (word new) b.range.lo b.range.hi (sp_under (known f.seen 1) ring) g spilled l.stack.range o.these o.chain o.saved
           (λ i v small e. rw callee at (st.low i small) ∙ o.holds i v e)
@@ -119,7 +119,7 @@ pub record Newest (m : ℕ → ℕ) (b : Bounds) (s : State) (f : FrameState) (g
   pub own : word m (known f.seen 1 - 12) ≡ sp_of g
   pub top : word m (sp_of g - 12) ≡ before b.range.hi rest
 
-pub newest_of : {fresh : Bool} {s : State} (b : Bounds) (f : FrameState) (g : Frame) (rest : List Frame) (m : ℕ → ℕ) → Related m b fresh s f [] (g ∷ rest) → Newest m b s f g rest
+pub newest_of : {lost : ℕ → Bool} {s : State} (b : Bounds) (f : FrameState) (g : Frame) (rest : List Frame) (m : ℕ → ℕ) → Related m b lost s f [] (g ∷ rest) → Newest m b s f g rest
 newest_of b f g rest m l =
     let low = moved rest in
     let k = l.stack in
@@ -135,12 +135,12 @@ newest_of b f g rest m l =
     }
 
 pub underflows_find_frames : UnderflowsFindFrames
-underflows_find_frames b fresh s f g rest m l =
+underflows_find_frames b lost s f g rest m l =
     let n = newest_of b f g rest m l in
     finds b.range.lo b.range.hi _ _ _ g rest (known f.seen 1) l.stack.range n.chain n.callee (rw n.callee n.own) (rw (n.callee, n.own) n.top)
 
 pub underflows_keep_related : UnderflowsKeepRelated
-underflows_keep_related b fresh s t f g rest m l c start ld =
+underflows_keep_related b lost s t f g rest m l c start ld =
     let low = moved rest in
     let n = newest_of b f g rest m l in
     let callee = n.callee in
@@ -153,7 +153,7 @@ underflows_keep_related b fresh s t f g rest m l c start ld =
     (λ big. let n = some_within g.kept i v e in rw (callee, link, link2) at (ld.high i big (omega arith)) ∙ saved.1 i v big e)
     (cases_lt i 4) in
     record {
-      plain = fills b.vecbase fresh s t f g rest l.plain c back start;
+      plain = fills b.vecbase lost s t f g rest l.plain c back start;
       stack = l.stack;
       saved = saved.2;
     }

@@ -101,11 +101,11 @@ pub calm_effect : (c : Control) (len : ℕ) → c.ps.excm ≡ true → c.waits �
 unfolding after_effect
 calm_effect c len e w = falls_on (record c { waits = false }) len e ∙ rw w refl
 
--- ---- the turn
-module _ (code : ℕ → ℕ) (s : State) (low : s.control.ps.excm ≡ true) (running : s.control.waits ≡ false) where
+-- ---- the turn, where no interrupt is taken
+module _ (code : ℕ → ℕ) (s : State) (low : s.control.ps.excm ≡ true) (untaken : ltb 0 (pending_of s.control) ≡ false) (running : s.control.waits ≡ false) where
   turn_does : (i : Insn) (len : ℕ) → fetched code s.control.pc ≡ Fetches i len → is_illegal i s ≡ false → planned code s ≡ done (outcome_at code i (visible s.regs s.base) s.control) len s
   turn_does i len at legal =
-      turn_fetches code s (quiet s.control low) running
+      turn_fetches code s untaken running
       ∙ (ap (λ f. fetched_turn f code s) at
       ∙ (cond-false (is_illegal i s) (raises illegal_instruction s) (checked (window_check i s) code i len s) legal
       ∙ ap (λ k. checked k code i len s) (no_check i s low)))
@@ -146,7 +146,7 @@ some_next : (b : Bool) (x y : Machine) → b ≡ true → cond b (Some x) None �
 some_next true x y h e = cc
 some_next false x y h e = absurd (true≢false (sym h))
 
-module _ (code : ℕ → ℕ) (m : MemoryContents) (s : State) (low : s.control.ps.excm ≡ true) (running : s.control.waits ≡ false) (len : ℕ) where
+module _ (code : ℕ → ℕ) (m : MemoryContents) (s : State) (low : s.control.ps.excm ≡ true) (untaken : ltb 0 (pending_of s.control) ≡ false) (running : s.control.waits ≡ false) (len : ℕ) where
   load_outcome : (t r : ℕ) (offset : ℤ) → in_range (insn.Memory (memory.L32e window.L32e t r offset)) ≡ true → is_access (address (visible s.regs s.base r) (unsigned_abs offset)) ≡ true
       → outcome_at code (insn.Memory (memory.L32e window.L32e t r offset)) (visible s.regs s.base) s.control ≡ Asks (record { addr = address (visible s.regs s.base r) (unsigned_abs offset); size = 4; kind = Load }) (Some (record { number = t; signed = false })) (unchanged s.control.ps s.control.threadptr)
   unfolding outcome memory_outcome reads special_reads
@@ -202,7 +202,7 @@ module _ (code : ℕ → ℕ) (m : MemoryContents) (s : State) (low : s.control.
   load_turn t r offset next at range may is =
       let a : ℕ = address (visible s.regs s.base r) (unsigned_abs offset) in
       let o : Outcome = Asks (record { addr = a; size = 4; kind = Load }) (Some (record { number = t; signed = false })) (unchanged s.control.ps s.control.threadptr) in
-      let p = turn_settles code s low running (insn.Memory (memory.L32e window.L32e t r offset)) len o at (load_legal t r offset window.L32e) (load_outcome t r offset range may) in
+      let p = turn_settles code s low untaken running (insn.Memory (memory.L32e window.L32e t r offset)) len o at (load_legal t r offset window.L32e) (load_outcome t r offset range may) in
       let to : Machine = record { ring = set s.regs (place s.base t) (word_at (byte_at m) a); base = s.base; bytes = byte_at m } in
       let n : to ≡ next = some_next (is_access a) to next may is in
       let v = word_replied m a may in
@@ -214,7 +214,7 @@ module _ (code : ℕ → ℕ) (m : MemoryContents) (s : State) (low : s.control.
       let a : ℕ = address (visible s.regs s.base r) (unsigned_abs offset) in
       let v : ℕ = visible s.regs s.base t in
       let o : Outcome = Asks (record { addr = a; size = 4; kind = Store (v % 2 ^ (8 * 4)) }) None (unchanged s.control.ps s.control.threadptr) in
-      let p = turn_settles code s low running (insn.Memory (memory.L32e window.S32e t r offset)) len o at (load_legal t r offset window.S32e) (store_outcome t r offset range may) in
+      let p = turn_settles code s low untaken running (insn.Memory (memory.L32e window.S32e t r offset)) len o at (load_legal t r offset window.S32e) (store_outcome t r offset range may) in
       let to : Machine = record { ring = s.regs; base = s.base; bytes = with_word (byte_at m) a v } in
       let n : to ≡ next = some_next (is_access a) to next may is in
       subst (Turned code m s len) n (from_plan (done o len s) to p refl (rw calm refl) (λ x. word_stored m a v x sizes may small))
@@ -223,7 +223,7 @@ module _ (code : ℕ → ℕ) (m : MemoryContents) (s : State) (low : s.control.
       → stepped Nop (machine m s) ≡ Some next → Turned code m s len next
   nop_turn i next at legal does is =
       let o : Outcome = Does (unchanged s.control.ps s.control.threadptr) in
-      let p = turn_settles code s low running i len o at legal does in
+      let p = turn_settles code s low untaken running i len o at legal does in
       let n : machine m s ≡ next = (let q : Some (machine m s) ≡ Some next = is in cc) in
       subst (Turned code m s len) n (from_plan (done o len s) (machine m s) p refl (rw calm refl) (λ x. refl))
 
@@ -240,11 +240,11 @@ module _ (code : ℕ → ℕ) (m : MemoryContents) (s : State) (low : s.control.
   -- ---- the ending
   overflow_ends : fetched code s.control.pc ≡ Fetches (insn.System (system.Rfe return.Rfwo)) len → planned code s ≡ resumed (without_bit s.start s.base) (special_of s.control (number.epc 1)) s
   unfolding outcome system_outcome reads special_reads is_illegal
-  overflow_ends at = turn_settles code s low running (insn.System (system.Rfe return.Rfwo)) len (Windowed (EndsOverflow (special_of s.control (number.epc 1)))) at refl refl
+  overflow_ends at = turn_settles code s low untaken running (insn.System (system.Rfe return.Rfwo)) len (Windowed (EndsOverflow (special_of s.control (number.epc 1)))) at refl refl
 
   underflow_ends : fetched code s.control.pc ≡ Fetches (insn.System (system.Rfe return.Rfwu)) len → planned code s ≡ resumed (with_bit s.start s.base) (special_of s.control (number.epc 1)) s
   unfolding outcome system_outcome reads special_reads is_illegal
-  underflow_ends at = turn_settles code s low running (insn.System (system.Rfe return.Rfwu)) len (Windowed (EndsUnderflow (special_of s.control (number.epc 1)))) at refl refl
+  underflow_ends at = turn_settles code s low untaken running (insn.System (system.Rfe return.Rfwu)) len (Windowed (EndsUnderflow (special_of s.control (number.epc 1)))) at refl refl
 
   pub record Ended (start : ℕ) : Type 0 where
     pub kind : (planned code s).kind ≡ kind.Insn

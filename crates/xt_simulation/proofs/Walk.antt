@@ -19,7 +19,7 @@ use Rattle.xt_frames.specs.Frames.{FrameState}
 use Rattle.xt_frames.specs.FrameStep.{FrameTurn, laid}
 use Rattle.xt_frames.specs.SaveAreas.{Range, is_live}
 use Rattle.xt_frames.specs.HandlerSteps.{Mode, Plain, Handles, is_window, closes, mode_after}
-use Rattle.xt_frames.specs.Breaches.{Bounds, inputs_of, breach_of, window_breach, stale_after}
+use Rattle.xt_frames.specs.Breaches.{lost_of, Bounds, inputs_of, breach_of, window_breach, stale_after}
 use Rattle.xt_simulation.specs.Stacks.{Stack}
 use Rattle.xt_simulation.specs.Relation.{inputs}
 use Rattle.xt_simulation.proofs.Chains.{related_spared, live_in_range}
@@ -27,7 +27,7 @@ use Rattle.xt_simulation.specs.Steps.{reply_at, memory_after_step, reply_now, re
 use Rattle.xt_simulation.specs.InHandlers.{IsGood, Somewhere, Handling}
 use Rattle.xt_simulation.specs.Memories.{Agree, KeepsAreas}
 use Rattle.xt_map.specs.Touching.{IsMemory}
-use Rattle.xt_simulation.proofs.Handled.{Next, goes_on, ends, begins_at, handling_stack, handling_steps, handling_spared}
+use Rattle.xt_simulation.proofs.Handled.{Next, goes_on, ends, begins_at, handling_stack, untaken_now, handling_steps, handling_spared}
 use Rattle.xt_simulation.proofs.Memories.{live_kept, step_memory}
 use Rattle.xt_frames.specs.Judging.{Seen, seen_window, seen_step, step_on, live_of}
 use Rattle.xt_frames.specs.Verdict.{entry_of, IsStepOf, IsFrameTrace}
@@ -91,7 +91,7 @@ some_is y x e = cc
 
 module _ (code : ℕ → ℕ) (bytes : AreBytes code) where
   unfoldable pub InCore : Mode → MemoryContents → Bounds → Bool → State → FrameState → Type 0
-  InCore Plain m b fresh s f = Somewhere (byte_at m) b fresh s f
+  InCore Plain m b fresh s f = Somewhere (byte_at m) b (lost_of fresh) s f
   InCore Handles m b fresh s f = Handling code b m s f
 
   core_stack : (mode : Mode) (m : MemoryContents) (b : Bounds) (good : IsGood code b) (fresh : Bool) (s : State) (f : FrameState) → InCore mode m b fresh s f → Stack b.range.lo b.range.hi f.seen f.frames
@@ -165,7 +165,7 @@ module _ (code : ℕ → ℕ) (bytes : AreBytes code) where
 
     handles_keeps : Both b c (core_in Handles) theirs m framed stale → Keeps b c (core_in Handles) theirs m framed (record { mine = record { state = state_now code m s; standing = record { frame = f; fresh = false; mode = mode_after code Handles rec }; judged = recs }; stale = stale; entries = [] })
     unfolding InCore
-    handles_keeps h = by_next (handling_steps code bytes b good.dram good.aligned good.handlers h.first h.shaped_first h.real.sizes)
+    handles_keeps h = by_next (handling_steps code bytes b good.dram good.aligned good.handlers h.first (untaken_now code bytes b good.dram good.aligned good.handlers h.first) h.shaped_first h.real.sizes)
       where
         P : Mode → Type 0
         P mode = Keeps b c (core_in Handles) theirs m framed (record { mine = record { state = state_now code m s; standing = record { frame = f; fresh = false; mode = mode }; judged = recs }; stale = stale; entries = [] })
@@ -175,7 +175,7 @@ module _ (code : ℕ → ℕ) (bytes : AreBytes code) where
             subst P (sym (cond-false (closes code rec.kind rec.pc) Plain Handles (closes_is false open_))) (stands_still Handles Handles h inside only)
         by_next (ends closed_ somewhere same stretch) =
             subst P (sym (cond-true (closes code rec.kind rec.pc) Plain Handles (closes_is true closed_)))
-            (stands_still Handles Plain h (subst (λ x. Somewhere (byte_at x) b false (state_now code m s) f) (sym same) somewhere) (λ a dead. ap (λ x. byte_at x a) same))
+            (stands_still Handles Plain h (subst (λ x. Somewhere (byte_at x) b (lost_of false) (state_now code m s) f) (sym same) somewhere) (λ a dead. ap (λ x. byte_at x a) same))
 
     -- ---- a window exception
     kind_is : is_window rec.kind ≡ true → is_window (planned code s).kind ≡ true
@@ -194,7 +194,7 @@ module _ (code : ℕ → ℕ) (bytes : AreBytes code) where
     unfolding InCore
     window_keeps (Some kind) e window h x k = absurd cc
     window_keeps None e window h x k =
-        let entered = begins_at code bytes b good.dram good.aligned good.handlers m fresh s f h.first.ring h.first.spilled 0 h.first.related h.shaped_first (kind_is window) (sym (same_window h.shaped_first) ∙ e) in
+        let entered = begins_at code bytes b good.dram good.aligned good.handlers m (lost_of fresh) s f h.first.ring h.first.spilled 0 h.first.related h.shaped_first (kind_is window) (sym (same_window h.shaped_first) ∙ e) in
         let same : memory_now code m s ≡ m = ap (memory_after_step m) entered.0 in
         let inside : Handling code b (memory_now code m s) (state_now code m s) f = subst (λ y. Handling code b y (state_now code m s) f) (sym same) entered.1 in
         subst (Keeps b c (core_in Plain) theirs m framed) (some_is _ x k) (stands_still Plain Handles h inside (λ a dead. ap (λ y. byte_at y a) same))

@@ -132,7 +132,7 @@ last_of (f ∷ (g ∷ fs)) h = let r = last_of (g ∷ fs) h in record { front = 
 windows_low : (s : State) → has_windows s.control.ps ≡ true → s.control.ps.excm ≡ false
 windows_low s h = not-true _ (and_parts s.control.ps.woe (not s.control.ps.excm) h).1
 
-over_at : {vecbase : ℕ} {fresh : Bool} {s : State} {g : FrameState} {ring spilled : List Frame} → Level vecbase fresh s g ring spilled → (code : ℕ → ℕ) (i : Insn) (k : ℕ) → s.control.waits ≡ false → window_check i s ≡ suc k → planned code s ≡ overflow (suc k) s → Overflows code s ring spilled
+over_at : {vecbase : ℕ} {lost : ℕ → Bool} {s : State} {g : FrameState} {ring spilled : List Frame} → Level vecbase lost s g ring spilled → (code : ℕ → ℕ) (i : Insn) (k : ℕ) → s.control.waits ≡ false → window_check i s ≡ suc k → planned code s ≡ overflow (suc k) s → Overflows code s ring spilled
 unfolding overflow
 over_at {s = s} {ring = ring} {spilled = spilled} l code i k w c is =
     let may : has_windows s.control.ps ≡ true = ⊎_elim (λ m. m) (λ m. let z = sym (cond-false (has_windows s.control.ps) (ahead s.start s.base (looks i s.control.ps)) 0 m) ∙ c in absurd (omega (arith, z))) (cases_Bool (has_windows s.control.ps)) in
@@ -194,7 +194,7 @@ return_value code i f c a0 (inl e) q = let z : outcome_at code (insn.Control (co
 return_value code i f c a0 (inr e) q = let z : outcome_at code (insn.Density (density.Ret NarrowRetName.Retw)) f c ≡ Windowed (Returns a0) = rw e at q in cc
 
 -- a0 is known, and is the processor's
-pub a0_known : {vecbase : ℕ} {fresh : Bool} {s : State} {g : FrameState} {ring spilled : List Frame} → Level vecbase fresh s g ring spilled → (i : Insn) → IsReturn i → reads_none i g ≡ false → known g.seen 0 ≡ visible s.regs s.base 0
+pub a0_known : {vecbase : ℕ} {lost : ℕ → Bool} {s : State} {g : FrameState} {ring spilled : List Frame} → Level vecbase lost s g ring spilled → (i : Insn) → IsReturn i → reads_none i g ≡ false → known g.seen 0 ≡ visible s.regs s.base 0
 a0_known {g = g} l i r h =
     let e = return_reads i r in
     let u : (lacks g.seen (Some 0) || lacks g.seen None) ≡ false = rw e at h in
@@ -217,7 +217,7 @@ caller_there {base = base} {start = start} {f = f} w =
     let k = shape.within in
     bit_at_window start (base_after_return base f.by) (base + (16 - f.by)) (omega arith) ∙ caller_bit w
 
-pub leaves_kind : {vecbase : ℕ} {fresh : Bool} {s : State} {g : FrameState} {f : Frame} {ring spilled : List Frame} → Level vecbase fresh s g (f ∷ ring) spilled → (a0 : ℕ) → return_size a0 ≡ f.by → (returned a0 s).kind ≡ kind.Insn
+pub leaves_kind : {vecbase : ℕ} {lost : ℕ → Bool} {s : State} {g : FrameState} {f : Frame} {ring spilled : List Frame} → Level vecbase lost s g (f ∷ ring) spilled → (a0 : ℕ) → return_size a0 ≡ f.by → (returned a0 s).kind ≡ kind.Insn
 unfolding returned
 leaves_kind {s = s} {f = f} l a0 n =
     let at = caller_there l.windows in
@@ -237,7 +237,7 @@ return_windows i s (inr e) h =
     let z : is_illegal (insn.Density (density.Ret NarrowRetName.Retw)) s ≡ false = rw e at h in
     not-false _ (or_parts _ (not (has_windows s.control.ps)) (or_parts (eqb (return_size (visible s.regs s.base 0)) 0) _ z).1).1
 
-under_at : {vecbase : ℕ} {fresh : Bool} {s : State} {g : FrameState} (ring spilled : List Frame) → Level vecbase fresh s g ring spilled → (code : ℕ → ℕ) (i : Insn) (a0 : ℕ) → IsReturn i → s.control.waits ≡ false → is_illegal i s ≡ false
+under_at : {vecbase : ℕ} {lost : ℕ → Bool} {s : State} {g : FrameState} (ring spilled : List Frame) → Level vecbase lost s g ring spilled → (code : ℕ → ℕ) (i : Insn) (a0 : ℕ) → IsReturn i → s.control.waits ≡ false → is_illegal i s ≡ false
     → visible s.regs s.base 0 ≡ a0 → NoneShown (return_tests i g) → returned a0 s ≡ underflow (return_size a0) s → planned code s ≡ underflow (return_size a0) s → Underflows code s ring spilled
 unfolding underflow
 under_at {s = s} {g = g} (f ∷ ring) spilled l code i a0 r w legal v none u is =
@@ -284,7 +284,7 @@ under_tests code i len size s g small is at h =
     let h2 : fetched_return_breach (Fetches i len) g ≡ None = rw at at h1 in
     none_shown (return_tests i g) (sym (cond-true (is_return i) (first_shown (return_tests i g)) None is) ∙ h2)
 
-under_done : {vecbase : ℕ} {fresh : Bool} {s : State} {g : FrameState} {ring spilled : List Frame} → Level vecbase fresh s g ring spilled → (code : ℕ → ℕ) (i : Insn) (len : ℕ) → IsShaped s → s.control.waits ≡ false → is_illegal i s ≡ false → fetched code s.control.pc ≡ Fetches i len
+under_done : {vecbase : ℕ} {lost : ℕ → Bool} {s : State} {g : FrameState} {ring spilled : List Frame} → Level vecbase lost s g ring spilled → (code : ℕ → ℕ) (i : Insn) (len : ℕ) → IsShaped s → s.control.waits ≡ false → is_illegal i s ≡ false → fetched code s.control.pc ≡ Fetches i len
     → planned code s ≡ done (outcome_at code i (visible s.regs s.base) s.control) len s → is_window (planned code s).kind ≡ true → window_breach code (planned code s).kind g ≡ None → Underflows code s ring spilled
 under_done {s = s} {g = g} {ring = ring} {spilled = spilled} l code i len shaped w legal at is window none =
     let o = outcome_at code i (visible s.regs s.base) s.control in
@@ -300,13 +300,13 @@ under_done {s = s} {g = g} {ring = ring} {spilled = spilled} l code i len shaped
     let none2 : window_breach code (underflow (return_size d.a0) s).kind g ≡ None = subst (λ (p : Planned). window_breach code p.kind g ≡ None) same none in
     under_at ring spilled l code i d.a0 r w legal v (under_tests code i len (return_size d.a0) s g small (return_is i r) at_g none2) here same
 
-window_turn : {vecbase : ℕ} {fresh : Bool} {s : State} {g : FrameState} {ring spilled : List Frame} → Level vecbase fresh s g ring spilled → (code : ℕ → ℕ) (i : Insn) (len k : ℕ) → IsShaped s → s.control.waits ≡ false → is_illegal i s ≡ false → fetched code s.control.pc ≡ Fetches i len
+window_turn : {vecbase : ℕ} {lost : ℕ → Bool} {s : State} {g : FrameState} {ring spilled : List Frame} → Level vecbase lost s g ring spilled → (code : ℕ → ℕ) (i : Insn) (len k : ℕ) → IsShaped s → s.control.waits ≡ false → is_illegal i s ≡ false → fetched code s.control.pc ≡ Fetches i len
     → window_check i s ≡ k → planned code s ≡ checked k code i len s → is_window (planned code s).kind ≡ true → window_breach code (planned code s).kind g ≡ None → Overflows code s ring spilled ⊎ Underflows code s ring spilled
 window_turn l code i len zero shaped w legal at c is window none = inr (under_done l code i len shaped w legal at is window none)
 window_turn l code i len (suc k) shaped w legal at c is window none = inl (over_at l code i k w c is)
 
 -- the inputs play no part in what is compared
 pub enters_window : EntersWindow
-enters_window vecbase code fresh s f ring spilled reply l shaped window none =
+enters_window vecbase code lost s f ring spilled reply l shaped window none =
     let c = checks code s window in
     window_turn l code c.insn c.len (window_check c.insn s) shaped c.running c.legal c.at refl c.same window none

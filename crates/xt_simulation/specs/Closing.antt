@@ -1,5 +1,6 @@
 -- What a handler leaves, and that the relation holds again after it.
 use Rattle.std.specs.Prelude.{◌≡◌, ◌≢◌, ℕ, ◌+◌, ◌*◌, ◌%◌, ◌<◌, ◌≤◌, Bool, false, List, [], ◌∷◌, ◌++◌, slice_index, length}
+use Rattle.xt_frames.specs.Breaches.{lost_of}
 use Rattle.xt_special.specs.Numbers as number
 use Rattle.xt_special.specs.Control.{Control}
 use Rattle.xt_window.specs.Ring.{with_bit, without_bit}
@@ -27,18 +28,18 @@ pub record Changes (s t : State) (at n : ℕ) : Type 0 where
 -- an overflow's handler moves the oldest frame of the ring to the spilled ones
 abbrev pub SpillsKeepPlain : Type 0
 SpillsKeepPlain =
-    (vecbase : ℕ) (fresh : Bool) (s t : State) (f : FrameState) (ring : List Frame) (g : Frame) (spilled : List Frame)
-    → Plain vecbase fresh s f (ring ++ g ∷ []) spilled
+    (vecbase : ℕ) (lost : ℕ → Bool) (s t : State) (f : FrameState) (ring : List Frame) (g : Frame) (spilled : List Frame)
+    → Plain vecbase lost s f (ring ++ g ∷ []) spilled
     → Changes s t (moved spilled) g.by
     → t.start ≡ without_bit s.start (moved spilled)
-    → Plain vecbase false t f ring (g ∷ spilled)
+    → Plain vecbase (lost_of false) t f ring (g ∷ spilled)
 
 -- an underflow's handler moves the newest of the spilled frames back into the ring
 abbrev pub FillsKeepPlain : Type 0
 FillsKeepPlain =
-    (vecbase : ℕ) (fresh : Bool) (s t : State) (f : FrameState) (g : Frame) (rest : List Frame)
-    → Plain vecbase fresh s f [] (g ∷ rest)
+    (vecbase : ℕ) (lost : ℕ → Bool) (s t : State) (f : FrameState) (g : Frame) (rest : List Frame)
+    → Plain vecbase lost s f [] (g ∷ rest)
     → Changes s t (moved rest) g.by
     → Holds t.regs g.kept (moved rest)
     → t.start ≡ with_bit s.start (moved rest)
-    → Plain vecbase false t f (g ∷ []) rest
+    → Plain vecbase (lost_of false) t f (g ∷ []) rest

@@ -12,8 +12,8 @@ use Rattle.xt_simulation.specs.Relation.{Plain}
 abbrev pub word : (ℕ → ℕ) → ℕ → ℕ
 word m a = m a + 256 * m (a + 1) + 65536 * m (a + 2) + 16777216 * m (a + 3)
 
-pub record Related (m : ℕ → ℕ) (b : Bounds) (fresh : Bool) (s : State) (f : FrameState) (ring spilled : List Frame) : Type 0 where
-  pub plain : Plain b.vecbase fresh s f ring spilled
+pub record Related (m : ℕ → ℕ) (b : Bounds) (lost : ℕ → Bool) (s : State) (f : FrameState) (ring spilled : List Frame) : Type 0 where
+  pub plain : Plain b.vecbase lost s f ring spilled
   pub stack : Stack b.range.lo b.range.hi f.seen f.frames
   pub saved : Saved (word m) b.range.hi (sp_under (known f.seen 1) ring) spilled
 

@@ -20,8 +20,8 @@ use Rattle.xt_simulation.specs.InHandlers.{IsGood, Handling, HandlerStep}
 abbrev pub StretchesAreEntered : Type 0
 StretchesAreEntered =
     (code : ℕ → ℕ) → AreBytes code → (b : Bounds) → IsGood code b
-    → (m : MemoryContents) (fresh : Bool) (s : State) (f : FrameState) (ring spilled : List Frame) (reply : ℕ)
-    → Related (byte_at m) b fresh s f ring spilled → IsShaped s
+    → (m : MemoryContents) (lost : ℕ → Bool) (s : State) (f : FrameState) (ring spilled : List Frame) (reply : ℕ)
+    → Related (byte_at m) b lost s f ring spilled → IsShaped s
     → is_window (planned code s).kind ≡ true → window_breach code (planned code s).kind (laid (inputs reply s) f) ≡ None
     → (demand code s ≡ None) × Handling code b m (state_now code m s) f
 

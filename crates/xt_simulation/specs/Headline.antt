@@ -1,40 +1,115 @@
--- Windows are frames.
+-- Windows are frames: the judged part of a run of the processor with windows is a run of the machine
+-- with unbounded call frames.
 use Rattle.std.specs.Prelude.{◌≡◌, ℕ, Bool, Some, List}
+use Rattle.xt_map.specs.declared.segment.Segment.{Segment}
+use Rattle.xt_map.specs.Memory.{constant_byte}
+use Rattle.xt_map.specs.History.{replies_of}
+use Rattle.xt_trace.specs.declared.options.Options.{Options}
 use Rattle.xt_trace.specs.declared.record.StepRecord.{StepRecord}
 use Rattle.xt_rows.specs.Laws.{AreBytes}
+use Rattle.xt_runs.specs.Traces.{trace_over}
 use Rattle.xt_runs.specs.Runs.{Opening, Run, opened, IsRunOf, schedule_of}
+use Rattle.xt_runs.specs.Short.{ShortRun, IsShortRunOf, short_schedule}
 use Rattle.xt_runs.specs.Walks.{IsWalk}
 use Rattle.xt_exec.specs.State.{State}
 use Rattle.xt_exec.specs.Chips.{processor}
+use Rattle.xt_frames.specs.Verdict.{Judgement, judgement, opening_known, IsFrameRun}
 use Rattle.xt_simulation.specs.Vectors.{Handlers}
 use Rattle.xt_simulation.specs.Walking.{World, walked, IsWorldRun, Apart}
-use Rattle.xt_simulation.specs.Opening.{Openings, IsOpening, bounds0, bounds1, state0, state1, memory_of, frame_of, opening_world}
-use Rattle.xt_frames.specs.Verdict.{judgement, opening_known, IsFrameRun}
+use Rattle.xt_simulation.specs.Opening.{Openings, IsOpening, bounds0, bounds1, state0, state1, frame0, frame1, memory_of, frame_of, opening_world, openings_of, IsRunnable}
 
--- over any schedule of turns: where six handlers pass the check and the stacks are apart, the judged records before the first breach are
--- a run of the machine with unbounded frames
+-- what stands before every statement: the six handlers pass the check, and the stacks are apart
+pub record IsCovered (o : Openings) (code : ℕ → ℕ) : Type 0 where
+  pub opening : IsOpening o
+  pub bytes : AreBytes code
+  pub handlers : Handlers code o.vecbase
+  pub apart : Apart o.range0 o.range1
+
+-- over any schedule of turns the judged records before the first breach are a run of both frame
+-- machines
 abbrev pub TurnsAreFrames : Type 0
 TurnsAreFrames =
-    (o : Openings) (code : ℕ → ℕ) → IsOpening o → AreBytes code → Handlers code o.vecbase → Apart o.range0 o.range1
-    → (cores : List Bool) (w : World) → walked code (bounds0 o) (bounds1 o) cores (Some (opening_world o)) ≡ Some w
+    (o : Openings) (code : ℕ → ℕ) → IsCovered o code
+    → (cores : List Bool) (w : World)
+    → walked code (bounds0 o) (bounds1 o) cores (Some (opening_world o)) ≡ Some w
     → IsWorldRun code (memory_of o) (frame_of (state0 o)) (frame_of (state1 o)) w
 
 -- what a run of the processor opens with
 abbrev pub opening_of : Openings → ℕ → ℕ → Opening State
-opening_of o turns0 turns1 = record { memory = memory_of o; state0 = state0 o; state1 = state1 o; turns0 = turns0; turns1 = turns1 }
+opening_of o turns0 turns1 = record {
+  memory = memory_of o;
+  state0 = state0 o;
+  state1 = state1 o;
+  turns0 = turns0;
+  turns1 = turns1;
+}
 
--- the same of a run: its schedule and the records of both traces, walked by the judge
-abbrev pub RunsAreFrames : Type 0
-RunsAreFrames =
-    (o : Openings) (code : ℕ → ℕ) (turns0 turns1 : ℕ) → IsOpening o → AreBytes code → Handlers code o.vecbase → Apart o.range0 o.range1
-    → (cores : List ℕ) (xs ys : List StepRecord) → IsWalk (processor code) cores (opened (opening_of o turns0 turns1)) xs ys
-    → IsFrameRun code (memory_of o) (frame_of (state0 o)) (frame_of (state1 o))
-    (judgement code (bounds0 o) (bounds1 o) cores xs ys (opening_known (frame_of (state0 o)) (frame_of (state1 o)))).known
+-- the walk of the judge over these records of both cores, in this order
+abbrev pub judged_in :
+    Openings → (ℕ → ℕ) → List ℕ → List StepRecord → List StepRecord → Judgement
+judged_in o code cores xs ys =
+    judgement code (bounds0 o) (bounds1 o) cores xs ys (opening_known (frame0 o) (frame1 o))
+
+abbrev pub AreFrames : Openings → (ℕ → ℕ) → Judgement → Type 0
+AreFrames o code j = IsFrameRun code (memory_of o) (frame0 o) (frame1 o) j.known
+
+-- a walk over the records of the processor's turns judges a frame run
+abbrev pub WalksAreFrames : Type 0
+WalksAreFrames =
+    (o : Openings) (code : ℕ → ℕ) (turns0 turns1 : ℕ) → IsCovered o code
+    → (cores : List ℕ) (xs ys : List StepRecord)
+    → IsWalk (processor code) cores (opened (opening_of o turns0 turns1)) xs ys
+    → AreFrames o code (judged_in o code cores xs ys)
 
 -- and so of every run: its history is legal and its traces are the processor's over the replies
+abbrev pub RunsAreFrames : Type 0
+RunsAreFrames =
+    (o : Openings) (code : ℕ → ℕ) (turns0 turns1 : ℕ) (r : Run State) → IsCovered o code
+    → IsRunOf (processor code) (opening_of o turns0 turns1) r
+    → AreFrames o code (judged_in o code (schedule_of r) r.trace0.records r.trace1.records)
+
+-- ---- a run of an image, of which the history and the places of the accesses are kept
+
+-- the records of its traces, which are the processor's over the replies of its history
+abbrev pub records0 : Openings → (ℕ → ℕ) → ℕ → ShortRun State → List StepRecord
+records0 o code turns r =
+    (trace_over (processor code) (state0 o) turns (replies_of 0 r.history)).records
+
+abbrev pub records1 : Openings → (ℕ → ℕ) → ℕ → ShortRun State → List StepRecord
+records1 o code turns r =
+    (trace_over (processor code) (state1 o) turns (replies_of 1 r.history)).records
+
+-- what is judged of it, in the order of its own schedule
+abbrev pub judgement_of : List Segment → ℕ → Options → ShortRun State → Judgement
+judgement_of segments entry o r =
+    let at = openings_of segments entry o in
+    let code = constant_byte segments in
+    judged_in
+    at
+    code
+    (short_schedule r)
+    (records0 at code o.turns0 r)
+    (records1 at code o.turns1 r)
+
+-- it is a run of the processor from the image's opening
+abbrev pub IsRunOfImage : List Segment → ℕ → Options → ShortRun State → Type 0
+IsRunOfImage segments entry o r =
+    IsShortRunOf
+    (processor (constant_byte segments))
+    (opening_of (openings_of segments entry o) o.turns0 o.turns1)
+    r
+
+-- The headline: where the six window handlers pass their check and the two stacks are apart, the
+-- judged records of a run before the first breach are a run of the machine with unbounded call
+-- frames, over one legal history.
 abbrev pub WindowsAreFrames : Type 0
 WindowsAreFrames =
-    (o : Openings) (code : ℕ → ℕ) (turns0 turns1 : ℕ) (r : Run State) → IsOpening o → AreBytes code → Handlers code o.vecbase → Apart o.range0 o.range1
-    → IsRunOf (processor code) (opening_of o turns0 turns1) r
-    → IsFrameRun code (memory_of o) (frame_of (state0 o)) (frame_of (state1 o))
-    (judgement code (bounds0 o) (bounds1 o) (schedule_of r) r.trace0.records r.trace1.records (opening_known (frame_of (state0 o)) (frame_of (state1 o)))).known
+    (segments : List Segment) (entry : ℕ) (o : Options) (r : ShortRun State)
+    → IsRunnable segments entry o
+    → Handlers (constant_byte segments) o.vecbase
+    → Apart (openings_of segments entry o).range0 (openings_of segments entry o).range1
+    → IsRunOfImage segments entry o r
+    → AreFrames
+    (openings_of segments entry o)
+    (constant_byte segments)
+    (judgement_of segments entry o r)

@@ -9,7 +9,7 @@ use Rattle.xt_exec.specs.Turn.{planned}
 use Rattle.xt_frames.specs.HandlerSteps.{closes}
 use Rattle.xt_frames.specs.Frames.{Frame, FrameState, moved}
 use Rattle.xt_frames.specs.SaveAreas.{is_live}
-use Rattle.xt_frames.specs.Breaches.{Bounds}
+use Rattle.xt_frames.specs.Breaches.{lost_of, Bounds}
 use Rattle.xt_simulation.specs.Cores.{Related}
 use Rattle.xt_simulation.specs.Stretches.{InHandler}
 use Rattle.xt_stretch.specs.Symbols.{Effect}
@@ -36,16 +36,16 @@ pub record IsGood (code : ℕ → ℕ) (b : Bounds) : Type 0 where
   pub handlers : Handlers code b.vecbase
 
 -- outside handler steps: some frames stand in the ring, and the others are spilled
-pub record Somewhere (m : ℕ → ℕ) (b : Bounds) (fresh : Bool) (s : State) (f : FrameState) : Type 0 where
+pub record Somewhere (m : ℕ → ℕ) (b : Bounds) (lost : ℕ → Bool) (s : State) (f : FrameState) : Type 0 where
   pub ring : List Frame
   pub spilled : List Frame
-  pub related : Related m b fresh s f ring spilled
+  pub related : Related m b lost s f ring spilled
 
 -- Where a stretch began. The frame g is moved: of an overflow it is the oldest in the ring, below `front`; of an underflow the newest
 -- spilled one. In both, `rest` are the frames below it.
-abbrev pub Begins : Side → (ℕ → ℕ) → Bounds → Bool → State → FrameState → List Frame → Frame → List Frame → Type 0
-Begins Overflow m b fresh s f front g rest = Related m b fresh s f (front ++ g ∷ []) rest
-Begins Underflow m b fresh s f front g rest = Related m b fresh s f [] (g ∷ rest)
+abbrev pub Begins : Side → (ℕ → ℕ) → Bounds → (ℕ → Bool) → State → FrameState → List Frame → Frame → List Frame → Type 0
+Begins Overflow m b lost s f front g rest = Related m b lost s f (front ++ g ∷ []) rest
+Begins Underflow m b lost s f front g rest = Related m b lost s f [] (g ∷ rest)
 
 -- the handler's window, with the registers and the bytes at the record of the window exception
 abbrev pub start_of : State → (ℕ → ℕ) → List Frame → Machine
@@ -58,14 +58,14 @@ Untouched Underflow n start a = Unit {0}
 
 pub record Handling (code : ℕ → ℕ) (b : Bounds) (m : MemoryContents) (s : State) (f : FrameState) : Type 0 where
   pub side : Side
-  pub fresh : Bool
+  pub lost : ℕ → Bool
   -- the state before the record of the window exception, and the bytes at it
   pub before : State
   pub opened : ℕ → ℕ
   pub front : List Frame
   pub g : Frame
   pub rest : List Frame
-  pub begins : Begins side opened b fresh before f front g rest
+  pub begins : Begins side opened b lost before f front g rest
   pub moves : 0 < g.by
   pub within : g.by ≤ 3
   pub low : before.control.ps.excm ≡ false
@@ -103,7 +103,7 @@ pub record Ended (code : ℕ → ℕ) (b : Bounds) (m : MemoryContents) (s : Sta
   pub g : Frame
   pub rest : List Frame
   pub stretch : Stretch side g.by before (state_now code m s) opened (byte_at m) rest
-  pub somewhere : Somewhere (byte_at m) b false (state_now code m s) f
+  pub somewhere : Somewhere (byte_at m) b (lost_of false) (state_now code m s) f
   pub memory : memory_now code m s ≡ m
 
 -- one handler step: the handler goes on, and has changed live bytes of its own core alone; or the stretch ends

@@ -7,7 +7,7 @@ use Rattle.xt_exec.specs.State.{State}
 use Rattle.xt_exec.specs.Turn.{shown}
 use Rattle.xt_frames.specs.Frames.{FrameState}
 use Rattle.xt_frames.specs.FrameStep.{FrameTurn}
-use Rattle.xt_frames.specs.Breaches.{Bounds, stale_after}
+use Rattle.xt_frames.specs.Breaches.{lost_of, Bounds, stale_after}
 use Rattle.xt_frames.specs.Judging.{step_on, live_of, fresh_on}
 use Rattle.xt_simulation.specs.Steps.{reply_at, memory_after_step, record_now, state_now, memory_now}
 use Rattle.xt_simulation.specs.InHandlers.{Somewhere}
@@ -24,7 +24,7 @@ pub record Matches (pc : ℕ) (rec : StepRecord) (u : FrameTurn) (framed : Memor
 -- after a judged step
 pub record After (code : ℕ → ℕ) (b : Bounds) (fresh : Bool) (s : State) (f : FrameState) (m framed : MemoryContents) (others stale : ℕ → Bool) : Type 0 where
   pub same : Matches f.control.pc (record_now code m s) (step_on code (record_now code m s) f) framed
-  pub somewhere : Somewhere (byte_at (memory_now code m s)) b (fresh_on fresh code (record_now code m s) f) (state_now code m s) (step_on code (record_now code m s) f).after
+  pub somewhere : Somewhere (byte_at (memory_now code m s)) b (lost_of (fresh_on fresh code (record_now code m s) f)) (state_now code m s) (step_on code (record_now code m s) f).after
   pub agree : Agree (live_of b (step_on code (record_now code m s) f).after others)
       (stale_after (live_of b (step_on code (record_now code m s) f).after others) (live_of b f others) stale (record_now code m s).access)
       (memory_now code m s) (memory_after_step framed (step_on code (record_now code m s) f).access)

@@ -11,35 +11,37 @@ use Rattle.xt_frames.specs.HandlerSteps.{is_window}
 use Rattle.xt_frames.specs.Breaches.{window_breach}
 use Rattle.xt_simulation.specs.Ring.{AreFrames, Windows}
 
--- special registers that are equal, but for EPC1 where it is not fresh
-pub record Same (fresh : Bool) (xs ys : List ℕ) : Type 0 where
+-- Special registers that are equal, but for those that are lost. EPC1 alone can be: a window exception
+-- writes it, which the frame machine does not see.
+pub record Same (lost : ℕ → Bool) (xs ys : List ℕ) : Type 0 where
   pub size : length xs ≡ length ys
-  pub at : (k : ℕ) → (k ≡ number.epc 1 → fresh ≡ true) → slice_index xs k ≡ slice_index ys k
+  pub only : (k : ℕ) → lost k ≡ true → k ≡ number.epc 1
+  pub at : (k : ℕ) → lost k ≡ false → slice_index xs k ≡ slice_index ys k
 
-pub record Even (fresh : Bool) (c d : Control) : Type 0 where
+pub record Even (lost : ℕ → Bool) (c d : Control) : Type 0 where
   pub pc : c.pc ≡ d.pc
   pub ps : c.ps ≡ d.ps
   pub threadptr : c.threadptr ≡ d.threadptr
   pub waits : c.waits ≡ d.waits
-  pub special : Same fresh c.special d.special
+  pub special : Same lost c.special d.special
 
 -- the inputs that a turn's record gives the frame step
 abbrev pub inputs : ℕ → State → Inputs
 inputs reply s = record { ccount = special_of s.control number.ccount; interrupt = special_of s.control number.interrupt; owb = s.control.ps.owb; reply = reply }
 
 -- the processor and a frame state over which its inputs are laid
-pub record Level (vecbase : ℕ) (fresh : Bool) (s : State) (g : FrameState) (ring spilled : List Frame) : Type 0 where
+pub record Level (vecbase : ℕ) (lost : ℕ → Bool) (s : State) (g : FrameState) (ring spilled : List Frame) : Type 0 where
   pub windows : Windows s.regs s.base s.start g.seen ring (moved spilled)
   pub frames : g.frames ≡ ring ++ spilled
   pub older : AreFrames spilled
-  pub even : Even fresh s.control g.control
+  pub even : Even lost s.control g.control
   pub woe : s.control.ps.woe ≡ true
   pub calls : s.control.ps.callinc < 4
   pub vectors : special_of s.control number.vecbase ≡ vecbase
 
 -- outside handler steps, where `ring` are the callers whose windows stand and `spilled` the older ones
-abbrev pub Plain : ℕ → Bool → State → FrameState → List Frame → List Frame → Type 0
-Plain vecbase fresh s f ring spilled = Level vecbase fresh s (laid (inputs 0 s) f) ring spilled
+abbrev pub Plain : ℕ → (ℕ → Bool) → State → FrameState → List Frame → List Frame → Type 0
+Plain vecbase lost s f ring spilled = Level vecbase lost s (laid (inputs 0 s) f) ring spilled
 
 -- ---- window exceptions
 
@@ -69,8 +71,8 @@ pub record Underflows (code : ℕ → ℕ) (s : State) (ring spilled : List Fram
 -- a turn that enters a window exception, where its record shows no breach
 abbrev pub EntersWindow : Type 0
 EntersWindow =
-    (vecbase : ℕ) (code : ℕ → ℕ) (fresh : Bool) (s : State) (f : FrameState) (ring spilled : List Frame) (reply : ℕ)
-    → Plain vecbase fresh s f ring spilled
+    (vecbase : ℕ) (code : ℕ → ℕ) (lost : ℕ → Bool) (s : State) (f : FrameState) (ring spilled : List Frame) (reply : ℕ)
+    → Plain vecbase lost s f ring spilled
     → IsShaped s
     → is_window (planned code s).kind ≡ true
     → window_breach code (planned code s).kind (laid (inputs reply s) f) ≡ None

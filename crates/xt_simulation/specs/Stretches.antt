@@ -7,7 +7,7 @@ use Rattle.xt_special.specs.WindowExceptions.{after_window_exception}
 use Rattle.xt_window.specs.Ring.{visible, with_bit, without_bit}
 use Rattle.xt_exec.specs.State.{State}
 use Rattle.xt_frames.specs.Frames.{Frame, FrameState, moved}
-use Rattle.xt_frames.specs.Breaches.{Bounds}
+use Rattle.xt_frames.specs.Breaches.{lost_of, Bounds}
 use Rattle.xt_simulation.specs.Stacks.{IsElsewhere}
 use Rattle.xt_simulation.specs.Cores.{word, Related}
 use Rattle.xt_simulation.specs.Closing.{Resumes, Changes}
@@ -25,21 +25,21 @@ pub record Loads (m : ℕ → ℕ) (s t : State) (w n : ℕ) : Type 0 where
 
 abbrev pub OverflowsKeepRelated : Type 0
 OverflowsKeepRelated =
-    (b : Bounds) (fresh : Bool) (s t : State) (f : FrameState) (ring : List Frame) (g : Frame) (spilled : List Frame) (old new : ℕ → ℕ)
-    → Related old b fresh s f (ring ++ g ∷ []) spilled
+    (b : Bounds) (lost : ℕ → Bool) (s t : State) (f : FrameState) (ring : List Frame) (g : Frame) (spilled : List Frame) (old new : ℕ → ℕ)
+    → Related old b lost s f (ring ++ g ∷ []) spilled
     → Changes s t (moved spilled) g.by
     → t.start ≡ without_bit s.start (moved spilled)
     → Stores old new s (moved spilled) g.by
-    → Related new b false t f ring (g ∷ spilled)
+    → Related new b (lost_of false) t f ring (g ∷ spilled)
 
 abbrev pub UnderflowsKeepRelated : Type 0
 UnderflowsKeepRelated =
-    (b : Bounds) (fresh : Bool) (s t : State) (f : FrameState) (g : Frame) (rest : List Frame) (m : ℕ → ℕ)
-    → Related m b fresh s f [] (g ∷ rest)
+    (b : Bounds) (lost : ℕ → Bool) (s t : State) (f : FrameState) (g : Frame) (rest : List Frame) (m : ℕ → ℕ)
+    → Related m b lost s f [] (g ∷ rest)
     → Changes s t (moved rest) g.by
     → t.start ≡ with_bit s.start (moved rest)
     → Loads m s t (moved rest) g.by
-    → Related m b false t f (g ∷ []) rest
+    → Related m b (lost_of false) t f (g ∷ []) rest
 
 -- ---- PC, PS and the special registers within a stretch
 pub record InHandler (before now : Control) (base : ℕ) : Type 0 where
@@ -73,12 +73,12 @@ pub record Finds (lo hi n callee own top : ℕ) : Type 0 where
 
 abbrev pub OverflowsFindFrames : Type 0
 OverflowsFindFrames =
-    (b : Bounds) (fresh : Bool) (s : State) (f : FrameState) (ring : List Frame) (g : Frame) (spilled : List Frame) (m : ℕ → ℕ)
-    → Related m b fresh s f (ring ++ g ∷ []) spilled
+    (b : Bounds) (lost : ℕ → Bool) (s : State) (f : FrameState) (ring : List Frame) (g : Frame) (spilled : List Frame) (m : ℕ → ℕ)
+    → Related m b lost s f (ring ++ g ∷ []) spilled
     → Finds b.range.lo b.range.hi g.by (visible s.regs (moved spilled) (4 * g.by + 1)) (visible s.regs (moved spilled) 1) (word m (visible s.regs (moved spilled) 1 - 12))
 
 abbrev pub UnderflowsFindFrames : Type 0
 UnderflowsFindFrames =
-    (b : Bounds) (fresh : Bool) (s : State) (f : FrameState) (g : Frame) (rest : List Frame) (m : ℕ → ℕ)
-    → Related m b fresh s f [] (g ∷ rest)
+    (b : Bounds) (lost : ℕ → Bool) (s : State) (f : FrameState) (g : Frame) (rest : List Frame) (m : ℕ → ℕ)
+    → Related m b lost s f [] (g ∷ rest)
     → Finds b.range.lo b.range.hi g.by (visible s.regs (moved rest) (4 * g.by + 1)) (word m (visible s.regs (moved rest) (4 * g.by + 1) - 12)) (word m (word m (visible s.regs (moved rest) (4 * g.by + 1) - 12) - 12))

@@ -4,7 +4,8 @@
 ghost use Rattle.xt_simulation.specs.Closing.{FillsKeepPlain, SpillsKeepPlain};
 ghost use Rattle.xt_simulation.specs.Cores.{LiveInRange, SavedInAreas};
 ghost use Rattle.xt_simulation.specs.HandlerLaws.{HandlerStepsAreKept, HandlersAreSpared, StretchesAreEntered};
-ghost use Rattle.xt_simulation.specs.Headline.{RunsAreFrames, TurnsAreFrames, WindowsAreFrames};
+ghost use Rattle.xt_simulation.specs.Headline.{RunsAreFrames, TurnsAreFrames, WalksAreFrames, WindowsAreFrames};
+ghost use Rattle.xt_simulation.specs.Opening.{OpensAlike};
 ghost use Rattle.xt_simulation.specs.JudgedSteps.{KeepsLevel, KeepsStack};
 ghost use Rattle.xt_simulation.specs.Relation.{EntersWindow};
 ghost use Rattle.xt_simulation.specs.Stacks.{AreasRise, EntersStack, LeavesStack, LinksAreSaved, SpillsAreSaved};
@@ -120,17 +121,31 @@ pub fn handlers_are_spared()
     ensures { HandlersAreSpared }
 {}
 
-/// Over any schedule of turns of both cores, the judged records before the first breach are a frame run.
+/// Over any schedule of turns of both cores, the judged records before the first breach are a frame
+/// run.
 pub fn turns_are_frames()
     ensures { TurnsAreFrames }
 {}
 
 /// A walk with the records of both traces judges a frame run.
 pub fn walks_are_frames()
+    ensures { WalksAreFrames }
+{}
+
+/// Of every run of the processor the judged records before the first breach, in the order of its
+/// schedule, are a frame run.
+pub fn runs_are_frames()
     ensures { RunsAreFrames }
 {}
 
-/// Where the six handlers pass the check and the stacks are apart, the judged prefix of every run is a frame run.
+/// Both machines open with the same registers.
+pub fn machines_open_alike()
+    ensures { OpensAlike }
+{}
+
+/// The headline. Where the options are valid, the six window handlers pass their check and the two
+/// stacks are apart, the judged records of every run of an image before its first breach are a run of
+/// the machine with unbounded call frames, over one legal history.
 pub fn windows_are_frames()
     ensures { WindowsAreFrames }
 {}
