@@ -7,7 +7,7 @@ ghost use Rattle.xt_sharedbus.specs.Halves.{IsIdle, IsOneEntryOn};
 
 use crate::rule::{Gives, Item, Opens, Queue, Seat, Takes};
 use std::sync::Wait;
-use std::thread;
+use std::{hint, thread};
 
 // How often an empty queue is looked at before each yield. An access is over sooner, so where each
 // thread has a processor of its own a yield is rare; where there is one processor, the yield lets the
@@ -26,6 +26,7 @@ pub(crate) fn take<R: Wait>(rt: &R, queue: &Queue, pass: &mut Seat) -> Item
             if let Some(item) = queue.pop_as::<Takes, R>(rt, pass) {
                 return item;
             }
+            hint::spin_loop();
         }
         thread::yield_now();
     }
