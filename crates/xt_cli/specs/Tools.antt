@@ -8,6 +8,8 @@ use Rattle.xt_image.specs.declared.image.Image.{Image}
 use Rattle.xt_image.specs.Rules.{image_fault}
 use Rattle.xt_image.specs.Format.{image_of}
 use Rattle.xt_image.specs.Parts.{image_bytes}
+use Rattle.xt_elf.specs.Format.{elf_image}
+use Rattle.xt_elf.specs.Rules.{elf_fault}
 use Rattle.xt_asm.specs.Kinds.{text_fault}
 use Rattle.xt_asm.specs.Images.{IsImageOfText}
 use Rattle.xt_disasm.specs.Listing.{listing_text}
@@ -26,21 +28,24 @@ use Rattle.xt_cli.specs.Checks.{check_text}
 
 -- ---- what a command makes of its input
 
--- the most bytes that the input of a command may have: that of a text, or of an image
+-- the most bytes that the input of a command may have: that of a text, of an ELF executable, or of an image
 abbrev pub limit_of : Job → ℕ
 limit_of job.Assemble = 1048576
+limit_of job.Convert = 67108864
 limit_of job.List = 8388608
 limit_of job.Check = 8388608
 
 -- the status with which a command refuses a whole input, where it does: that of the input's first fault
 unfoldable pub refusal_of : Job → List ℕ → Option Status
 refusal_of job.Assemble input = option_map status.Asm (text_fault input)
+refusal_of job.Convert input = option_map status.Elf (elf_fault input)
 refusal_of job.List input = option_map status.Image (image_fault input)
 refusal_of job.Check input = option_map status.Image (image_fault input)
 
 -- the bytes that a command writes for an input that it does not refuse
 abbrev pub IsWritten : Job → List ℕ → List ℕ → Type 0
 IsWritten job.Assemble input bytes = (image : Image) × IsImageOfText input image × (bytes ≡ image_bytes image)
+IsWritten job.Convert input bytes = bytes ≡ image_bytes (elf_image input)
 IsWritten job.List input bytes = bytes ≡ listing_text (image_of input)
 IsWritten job.Check input bytes = bytes ≡ check_text (image_of input)
 
@@ -80,6 +85,7 @@ RefusesWords r e s = ((s ≡ status_of r) ⊎ (s ≡ status.Memory)) × IsUntouc
 -- touched.
 abbrev pub Answers : Result Command Refusal → Ends → Tool → Type 0
 Answers (Ok command.Assemble) e (tool.Answer s) = Makes job.Assemble e s
+Answers (Ok command.Convert) e (tool.Answer s) = Makes job.Convert e s
 Answers (Ok command.Disassemble) e (tool.Answer s) = Makes job.List e s
 Answers (Ok command.Check) e (tool.Answer s) = Makes job.Check e s
 Answers (Ok (command.Run turns)) e tool.Threaded = IsUntouched e
@@ -103,6 +109,7 @@ Finishes j e s = HasInput j e.left → (Rose e.source_faults e.source_faults_aft
 
 abbrev pub IsComplete : Result Command Refusal → Ends → Tool → Type 0
 IsComplete (Ok command.Assemble) e (tool.Answer s) = Finishes job.Assemble e s
+IsComplete (Ok command.Convert) e (tool.Answer s) = Finishes job.Convert e s
 IsComplete (Ok command.Disassemble) e (tool.Answer s) = Finishes job.List e s
 IsComplete (Ok command.Check) e (tool.Answer s) = Finishes job.Check e s
 IsComplete _ e _ = Unit {0}

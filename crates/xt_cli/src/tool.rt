@@ -11,6 +11,7 @@ use crate::status::Status;
 use std::alloc::Global;
 use xt_asm::assemble;
 use xt_disasm::listing;
+use xt_elf::{ElfFault, from_elf};
 use xt_image::{Image, ImageFault, read, write};
 use xt_io::{ReadError, Refused, Sink, Source, read_to_limit, write_all};
 use xt_lex::AsmFault;
@@ -23,11 +24,16 @@ pub const IMAGE_LIMIT: usize = 8_388_608;
 /// The most bytes that an assembly text may have.
 pub const TEXT_LIMIT: usize = 1_048_576;
 
+/// The most bytes that an ELF executable may have.
+pub const ELF_LIMIT: usize = 67_108_864;
+
 /// A command whose output is a function of its input.
 #[derive(Clone, Copy, Debug, PartialEq, Eq)]
 pub enum Job {
     /// `asm`: the image of an assembly text.
     Assemble,
+    /// `elf`: the image of an ELF executable.
+    Convert,
     /// `dis`: an image's listing.
     List,
     /// `check`: what an image holds.
@@ -60,6 +66,7 @@ fn limit_of(job: Job) -> usize
 {
     match job {
         Job::Assemble => TEXT_LIMIT,
+        Job::Convert => ELF_LIMIT,
         Job::List | Job::Check => IMAGE_LIMIT,
     }
 }
@@ -75,6 +82,24 @@ fn image_file(alloc: Global, input: &[u8]) -> Result<Text, Status>
         Ok(image) => image,
         Err(AsmFault::Place(place)) => return Err(Status::Asm(place)),
         Err(AsmFault::Memory) => return Err(Status::Memory),
+    };
+    match write(alloc, &image) {
+        Ok(bytes) => Ok(Text::new(bytes.into_vec())),
+        Err(_) => Err(Status::Memory),
+    }
+}
+
+// The image of an ELF executable as a file, or the status of the executable's first fault.
+#[tactic(auto, unfolding(crate::specs::Tools::refusal_of))]
+fn converted_file(alloc: Global, input: &[u8]) -> Result<Text, Status>
+    requires { length input.now ≤ 67108864 }
+    ensures ok { IfOk result (λ bytes. IsMade Job.Convert input.now bytes) }
+    ensures refused { IfErr result (λ status. status ≢ Status.Memory → refusal_of Job.Convert input.now ≡ Some status) }
+{
+    let image = match from_elf(alloc, input) {
+        Ok(image) => image,
+        Err(ElfFault::Memory) => return Err(Status::Memory),
+        Err(fault) => return Err(Status::Elf(fault)),
     };
     match write(alloc, &image) {
         Ok(bytes) => Ok(Text::new(bytes.into_vec())),
@@ -125,6 +150,7 @@ fn make(alloc: Global, job: Job, input: &[u8]) -> Result<Text, Status>
 {
     match job {
         Job::Assemble => image_file(alloc, input),
+        Job::Convert => converted_file(alloc, input),
         Job::List => list(alloc, input),
         Job::Check => check(alloc, input),
     }
@@ -177,8 +203,8 @@ pub(crate) fn work<S: Source, K: Sink>(
 }
 
 /// What the program does with the words behind its name, a source and a sink, where it needs no
-/// thread: it answers every word that has no meaning, and does the work of `asm`, `dis` and `check`.
-/// It waits for nobody and returns.
+/// thread: it answers every word that has no meaning, and does the work of `asm`, `elf`, `dis` and
+/// `check`. It waits for nobody and returns.
 ///
 /// Words that ask for a run are handed back as `Threaded`, and nothing was then read or written.
 /// After `Answer` the contract says of each status its cause, and what was written; too little
@@ -212,6 +238,7 @@ pub fn tool_main<S: Source, K: Sink>(
 {
     match meaning(alloc, words) {
         Ok(Command::Assemble) => Tool::Answer(work(alloc, Job::Assemble, source, sink)),
+        Ok(Command::Convert) => Tool::Answer(work(alloc, Job::Convert, source, sink)),
         Ok(Command::Disassemble) => Tool::Answer(work(alloc, Job::List, source, sink)),
         Ok(Command::Check) => Tool::Answer(work(alloc, Job::Check, source, sink)),
         Ok(Command::Run { turns0: _ }) => Tool::Threaded,

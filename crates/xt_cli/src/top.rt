@@ -179,6 +179,7 @@ pub fn xt_main<S: Source, K: Sink, G: Gate>(
     match meaning(alloc, words) {
         Ok(Command::Run { turns0 }) => run_source(alloc, turns0, source, sink),
         Ok(Command::Assemble) => without_run(work(alloc, Job::Assemble, source, sink)),
+        Ok(Command::Convert) => without_run(work(alloc, Job::Convert, source, sink)),
         Ok(Command::Disassemble) => without_run(work(alloc, Job::List, source, sink)),
         Ok(Command::Check) => without_run(work(alloc, Job::Check, source, sink)),
         Err(refusal) => without_run(status_of(refusal)),

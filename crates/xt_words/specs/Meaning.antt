@@ -16,6 +16,7 @@ use Rattle.xt_words.specs.declared.command.Name.TheVariants as name
 abbrev pub names : List (Text × Name)
 names =
     (codes "asm", name.Assemble)
+    ∷ (codes "elf", name.Convert)
     ∷ (codes "dis", name.Disassemble)
     ∷ (codes "check", name.Check)
     ∷ (codes "run", name.Run)
@@ -48,6 +49,7 @@ run_meaning_of words = run_with (turns_of words)
 abbrev pub meaning_by : Option Name → List Text → Result Command Refusal
 meaning_by None words = Err (refusal.Usage 2)
 meaning_by (Some name.Assemble) words = without_options command.Assemble (rows_by (new_app (codes "asm")) words)
+meaning_by (Some name.Convert) words = without_options command.Convert (rows_by (new_app (codes "elf")) words)
 meaning_by (Some name.Disassemble) words = without_options command.Disassemble (rows_by (new_app (codes "dis")) words)
 meaning_by (Some name.Check) words = without_options command.Check (rows_by (new_app (codes "check")) words)
 meaning_by (Some name.Run) words = run_meaning_of words
@@ -66,6 +68,7 @@ IsWithinLimits _ = Unit {0}
 -- the words of these commands are read by clap, which takes memory
 abbrev pub TakesMemory : Option Name → Type 0
 TakesMemory (Some name.Assemble) = Unit {0}
+TakesMemory (Some name.Convert) = Unit {0}
 TakesMemory (Some name.Disassemble) = Unit {0}
 TakesMemory (Some name.Check) = Unit {0}
 TakesMemory _ = ⊥

@@ -8,6 +8,8 @@ use std::alloc::AllocError;
 pub enum Command {
     /// `asm`: assembles a text.
     Assemble,
+    /// `elf`: makes an image of an ELF executable.
+    Convert,
     /// `dis`: lists an image.
     Disassemble,
     /// `check`: checks an image.
@@ -44,6 +46,8 @@ impl From<AllocError> for Refusal {
 pub enum Name {
     /// `asm`
     Assemble,
+    /// `elf`
+    Convert,
     /// `dis`
     Disassemble,
     /// `check`

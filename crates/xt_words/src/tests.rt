@@ -24,9 +24,11 @@ fn words_and_meanings(rt: HostRuntime) -> Result<(), Fail> {
         ("Run --turns0 10 --turns1 0", Err(Refusal::Usage(2))),
         ("--turns0 10 --turns1 0 run", Err(Refusal::Usage(2))),
         ("disasm", Err(Refusal::Usage(2))),
-        ("elf", Err(Refusal::Usage(2))),
+        ("Elf", Err(Refusal::Usage(2))),
         // commands that take no option
         ("asm", Ok(Command::Assemble)),
+        ("elf", Ok(Command::Convert)),
+        ("elf --vecbase 0x40080000", Err(Refusal::Usage(3))),
         ("dis", Ok(Command::Disassemble)),
         ("check", Ok(Command::Check)),
         ("dis --", Ok(Command::Disassemble)),

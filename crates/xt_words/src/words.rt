@@ -14,6 +14,7 @@ fn name_of(word: &str) -> Option<Name>
 {
     match word {
         "asm" => Some(Name::Assemble),
+        "elf" => Some(Name::Convert),
         "dis" => Some(Name::Disassemble),
         "check" => Some(Name::Check),
         "run" => Some(Name::Run),
@@ -36,7 +37,7 @@ fn run_meaning(words: &[String]) -> Result<Command, Refusal>
 /// The command with its options that the words behind the program's name say, or why they say none.
 ///
 /// - No word is `Usage(1)`, and a first word that is no command `Usage(2)`.
-/// - `asm`, `dis` and `check` take no further word. Other words after them are `Usage(3)`, as far as `clap` does
+/// - `asm`, `elf`, `dis` and `check` take no further word. Other words after them are `Usage(3)`, as far as `clap` does
 ///   not take them: it takes one that is `--`.
 /// - `run` has the one form `run --turns0 N --turns1 0`, where N is one decimal digit or more for a number of at
 ///   most 1,000,000. `run` in another form, `record`, `replay` and `gen` are `Unbuilt`.
@@ -55,6 +56,7 @@ pub fn meaning(alloc: Global, words: &[String]) -> Result<Command, Refusal>
         Some(Name::Planned) => Err(Refusal::Unbuilt),
         Some(Name::Run) => run_meaning(words),
         Some(Name::Assemble) => { without_options_meaning(alloc, "asm", Command::Assemble, words) }
+        Some(Name::Convert) => without_options_meaning(alloc, "elf", Command::Convert, words),
         Some(Name::Disassemble) => {
             without_options_meaning(alloc, "dis", Command::Disassemble, words)
         }
