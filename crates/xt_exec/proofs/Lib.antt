@@ -3,3 +3,4 @@ pub mod Specials
 pub mod Shapes
 pub mod Halves
 pub mod Served
+pub mod Tied

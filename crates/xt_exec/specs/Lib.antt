@@ -3,3 +3,4 @@ pub mod Turn
 pub mod Laws
 pub mod Chips
 pub mod Finishing
+pub mod Ties

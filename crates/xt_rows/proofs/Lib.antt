@@ -4,3 +4,4 @@ pub mod Registers
 pub mod Fitting
 pub mod Fetches
 pub mod Reading
+pub mod Tied

@@ -6,3 +6,4 @@ pub mod Outcomes
 pub mod Settling
 pub mod Laws
 pub mod Kinds
+pub mod Ties

@@ -16,6 +16,7 @@ mod rows;
 mod shift;
 mod system;
 mod three;
+pub mod ties;
 
 pub use numbers::{code_byte, extended, literal_address, plus};
 pub use operands::{named, reads, special_reads};

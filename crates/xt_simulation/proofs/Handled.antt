@@ -1,6 +1,6 @@
 -- Inside handler steps: what holds is entered at the record of a window exception, kept by each handler step and by the other core's
 -- accesses, and left at RFWO and RFWU.
-use Rattle.std.proofs.Common.{◌≡◌, ◌⊎◌, ⊎_elim, inl, inr, ℕ, ◌+◌, ◌-◌, ◌*◌, ◌%◌, ◌^◌, ◌<◌, ◌≤◌, Bool, true, false, ◌||◌, cond, leb, ltb, refl, sym, ◌∙◌, ap, arith, List, [], ◌∷◌, ◌++◌, length, get_or, subst, Some, None, Option}
+use Rattle.std.proofs.Common.{append_assoc, ◌≡◌, ◌⊎◌, ⊎_elim, inl, inr, ℕ, ◌+◌, ◌-◌, ◌*◌, ◌%◌, ◌^◌, ◌<◌, ◌≤◌, Bool, true, false, ◌||◌, cond, leb, ltb, refl, sym, ◌∙◌, ap, arith, List, [], ◌∷◌, ◌++◌, length, get_or, subst, Some, None, Option}
 use Rattle.std.proofs.lemmas.Bool.{cases_Bool, cases_lt, or_parts, or_from, or_left, or_right, and_parts, cond-true, cond-false, false≢true, false_from_ne_true, leb-true, ltb-true}
 use Rattle.xt_isa.specs.declared.Insn.{Insn}
 use Rattle.xt_isa.specs.declared.Insn.TheVariants as insn
@@ -36,7 +36,9 @@ use Rattle.xt_simulation.specs.Stretches as stretches
 use Rattle.xt_simulation.specs.Stretches.{InHandler}
 use Rattle.xt_simulation.proofs.Chains.{related_spared}
 use Rattle.xt_map.proofs.Alike.{touched_at}
-use Rattle.xt_simulation.proofs.Windowed.{enters_window}
+use Rattle.xt_simulation.specs.Ring.{Holds}
+use Rattle.xt_simulation.proofs.Closed.{in_ring_end}
+use Rattle.xt_simulation.proofs.Windowed.{enters_window, visible_value}
 use Rattle.xt_simulation.proofs.Stretched.{overflows_keep_related, underflows_keep_related, stretches_begin, stretches_go_on, stretches_end, oldest, newest_of}
 use Rattle.xt_stretch.specs.Symbols.{Effect, applied, opening}
 use Rattle.xt_stretch.specs.Needs.{callee_sp, link, save_word, has_effect}
@@ -59,7 +61,7 @@ use Rattle.xt_stretch.proofs.Changed.{others_stay_above}
 use Rattle.xt_stretch.proofs.Joins.{save_low, save_high}
 use Rattle.xt_simulation.specs.Vectors.{vector_number, vector_at, vector_bytes, verdict_of, Handlers}
 use Rattle.xt_simulation.specs.Steps.{state_now, memory_now, machine}
-use Rattle.xt_simulation.specs.InHandlers.{InDram, Somewhere, Begins, start_of, Untouched, Handling, Stretch, IsGood, HandlerStep, steps_on, closes_stretch}
+use Rattle.xt_simulation.specs.InHandlers.{InDram, Somewhere, Begins, start_of, Untouched, Handling, Stretch, Settles, MovesFrame, above, IsGood, HandlerStep, steps_on, closes_stretch}
 use Rattle.xt_simulation.specs.HandlerLaws.{StretchesAreEntered, HandlerStepsAreKept, HandlersAreSpared}
 use Rattle.xt_rows.specs.Laws.{AreBytes}
 use Rattle.xt_simulation.proofs.Fetched.{byte_is as fetched_byte, bytes_length, byte_small, fetched_is, step_is, vector_fetches, vector_handles, fetch_small, length_is}
@@ -307,11 +309,53 @@ module _ (b : Bounds) (lost : ℕ → Bool) (before t : State) (f : FrameState) 
   pub under_end : Changes before t (moved rest) g.by → t.start ≡ with_bit before.start (moved rest) → Related now b (lost_of false) t f (g ∷ []) rest
   under_end changes bits = related_spared opened now b f kept (underflows_keep_related b lost before t f g rest opened l changes bits under_loads)
 
+-- ---- what a whole stretch has done
+pub somewhere_of : (side : Side) (m : ℕ → ℕ) (b : Bounds) (t : State) (f : FrameState) (front : List Frame) (g : Frame) (rest : List Frame) → Settles side m b t f front g rest → Somewhere m b (lost_of false) t f
+somewhere_of Overflow m b t f front g rest l = record { ring = front; spilled = g ∷ rest; related = l }
+somewhere_of Underflow m b t f front g rest l = record { ring = g ∷ []; spilled = rest; related = l }
+
+frames_at : (side : Side) (m : ℕ → ℕ) (b : Bounds) (lost : ℕ → Bool) (s : State) (f : FrameState) (front : List Frame) (g : Frame) (rest : List Frame) → Begins side m b lost s f front g rest → f.frames ≡ above side front ++ g ∷ rest
+frames_at Overflow m b lost s f front g rest l = l.plain.frames ∙ append_assoc front (g ∷ []) rest
+frames_at Underflow m b lost s f front g rest l = l.plain.frames
+
+seen_before : (side : Side) (m : ℕ → ℕ) (b : Bounds) (lost : ℕ → Bool) (s : State) (f : FrameState) (front : List Frame) (g : Frame) (rest : List Frame) → Begins side m b lost s f front g rest → (i v : ℕ) → get_or f.seen i None ≡ Some v → visible s.regs s.base i ≡ v
+seen_before Overflow m b lost s f front g rest l i v e = visible_value l.plain.windows i v e
+seen_before Underflow m b lost s f front g rest l i v e = visible_value l.plain.windows i v e
+
+seen_after : (side : Side) (m : ℕ → ℕ) (b : Bounds) (t : State) (f : FrameState) (front : List Frame) (g : Frame) (rest : List Frame) → Settles side m b t f front g rest → (i v : ℕ) → get_or f.seen i None ≡ Some v → visible t.regs t.base i ≡ v
+seen_after Overflow m b t f front g rest l i v e = visible_value l.plain.windows i v e
+seen_after Underflow m b t f front g rest l i v e = visible_value l.plain.windows i v e
+
+stored_frame : (side : Side) (m : ℕ → ℕ) (b : Bounds) (lost : ℕ → Bool) (s : State) (f : FrameState) (front : List Frame) (g : Frame) (rest : List Frame) → Begins side m b lost s f front g rest → side ≡ Overflow → Holds s.regs g.kept (moved rest)
+stored_frame Overflow m b lost s f front g rest l e = (in_ring_end s.regs front g (moved rest) l.plain.windows.kept).1
+stored_frame Underflow m b lost s f front g rest l e = absurd cc
+
+returned_frame : (side : Side) (m : ℕ → ℕ) (b : Bounds) (t : State) (f : FrameState) (front : List Frame) (g : Frame) (rest : List Frame) → Settles side m b t f front g rest → side ≡ Underflow → Holds t.regs g.kept (moved rest)
+returned_frame Underflow m b t f front g rest l e = (let z : 0 + moved rest ≡ moved rest = omega arith in rw z at l.plain.windows.kept.0)
+returned_frame Overflow m b t f front g rest l e = absurd cc
+
+moves_frame : (side : Side) (b : Bounds) (m : MemoryContents) (before after : State) (opened : ℕ → ℕ) (f : FrameState) (front : List Frame) (g : Frame) (rest : List Frame) (lost : ℕ → Bool) → Begins side opened b lost before f front g rest
+    → Settles side (byte_at m) b after f front g rest → Stretch side g.by before after opened (byte_at m) rest
+    → ((a : ℕ) → is_live b.range f a ≡ true → Untouched side g.by (start_of before opened rest) a → byte_at m a ≡ opened a)
+    → MovesFrame b f before after opened (byte_at m)
+moves_frame side b m before after opened f front g rest lost begins settles stretch kept = record {
+  side = side;
+  front = front;
+  g = g;
+  rest = rest;
+  frames = frames_at side opened b lost before f front g rest begins;
+  stretch = stretch;
+  seen = λ i v e. (seen_before side opened b lost before f front g rest begins i v e, seen_after side (byte_at m) b after f front g rest settles i v e);
+  stored = stored_frame side opened b lost before f front g rest begins;
+  returned = returned_frame side (byte_at m) b after f front g rest settles;
+  elsewhere = kept;
+}
+
 module _ (code : ℕ → ℕ) (constant : (a : ℕ) → code a < 2 ^ 8) (b : Bounds) (dram : InDram b) (aligned : b.vecbase % 2 ^ 10 ≡ 0) (handlers : Handlers code b.vecbase) where
   -- ---- the record of a window exception
   entered : (side : Side) (m : MemoryContents) (lost : ℕ → Bool) (s : State) (f : FrameState) (front : List Frame) (g : Frame) (rest : List Frame) → Begins side (byte_at m) b lost s f front g rest → special_of s.control number.vecbase ≡ b.vecbase
       → 0 < g.by → g.by ≤ 3 → s.control.ps.excm ≡ false → s.control.waits ≡ false → IsShaped s → planned code s ≡ window_exception (vector_number side g.by) (moved rest % 16) s
-      → (demand code s ≡ None) × Handling code b m (state_now code m s) f
+      → (demand code s ≡ None) × Handling code b m (state_now code m s) f s (byte_at m)
   unfolding demand turn
   entered side m lost s f front g rest begins vectors moves within low running shaped is =
       let start = start_of s (byte_at m) rest in
@@ -320,13 +364,11 @@ module _ (code : ℕ → ℕ) (constant : (a : ℕ) → code a < 2 ^ 8) (b : Bou
       let r : Found side (byte_at m) b s f front g rest = found side b lost s f front g rest (byte_at m) dram shaped moves within begins in
       let long : number.epc 1 < length s.control.special = (let c = shaped.control.count in omega arith) in
       let answered = handlers side g.by moves (omega arith) in
-      let P : State → Type 0 = λ t. Handling code b m t f in (
+      let P : State → Type 0 = λ t. Handling code b m t f s (byte_at m) in (
         d,
         subst P (sym t) (record {
           side = side;
           lost = lost;
-          before = s;
-          opened = byte_at m;
           front = front;
           g = g;
           rest = rest;
@@ -349,7 +391,7 @@ module _ (code : ℕ → ℕ) (constant : (a : ℕ) → code a < 2 ^ 8) (b : Bou
       )
 
   pub begins_at : (m : MemoryContents) (lost : ℕ → Bool) (s : State) (f : FrameState) (ring spilled : List Frame) (reply : ℕ) → Related (byte_at m) b lost s f ring spilled → IsShaped s → is_window (planned code s).kind ≡ true
-      → window_breach code (planned code s).kind (laid (inputs reply s) f) ≡ None → (demand code s ≡ None) × Handling code b m (state_now code m s) f
+      → window_breach code (planned code s).kind (laid (inputs reply s) f) ≡ None → (demand code s ≡ None) × Handling code b m (state_now code m s) f s (byte_at m)
   begins_at m lost s f ring spilled reply l shaped window none =
       ⊎_elim
       (λ (o : relation.Overflows code s ring spilled).
@@ -358,18 +400,18 @@ module _ (code : ℕ → ℕ) (constant : (a : ℕ) → code a < 2 ^ 8) (b : Bou
       entered Underflow m lost s f [] u.g u.rest (subst (λ r. Related (byte_at m) b lost s f [] r) u.older (subst (λ r. Related (byte_at m) b lost s f r spilled) u.empty l)) l.plain.vectors u.moves u.within u.low u.running shaped u.is)
       (enters_window b.vecbase code lost s f ring spilled reply l.plain shaped window none)
 
-  module _ {m : MemoryContents} {s : State} {f : FrameState} (h : Handling code b m s f) where
-    at_start : Found h.side h.opened b h.before f h.front h.g h.rest
-    at_start = found h.side b h.lost h.before f h.front h.g h.rest h.opened dram h.shaped h.moves h.within h.begins
+  module _ {m : MemoryContents} {s : State} {f : FrameState} {before : State} {opened : ℕ → ℕ} (h : Handling code b m s f before opened) where
+    at_start : Found h.side opened b before f h.front h.g h.rest
+    at_start = found h.side b h.lost before f h.front h.g h.rest opened dram h.shaped h.moves h.within h.begins
 
     pub handling_stack : Stack b.range.lo b.range.hi f.seen f.frames
-    handling_stack = stack_of h.side b h.lost h.before f h.front h.g h.rest h.opened h.begins
+    handling_stack = stack_of h.side b h.lost before f h.front h.g h.rest opened h.begins
 
     abbrev n : ℕ
     n = h.g.by
 
     abbrev start : Machine
-    start = start_of h.before h.opened h.rest
+    start = start_of before opened h.rest
 
     abbrev vector : ℕ
     vector = vector_at b.vecbase h.side h.g.by
@@ -432,10 +474,10 @@ module _ (code : ℕ → ℕ) (constant : (a : ℕ) → code a < 2 ^ 8) (b : Bou
     -- ---- one handler step
     -- the handler goes on, or it ends
     pub data Next : Type 0 where
-      goes_on : closes code (planned code s).kind s.control.pc ≡ false → Handling code b (memory_now code m s) (state_now code m s) f
+      goes_on : closes code (planned code s).kind s.control.pc ≡ false → Handling code b (memory_now code m s) (state_now code m s) f before opened
           → ((a : ℕ) → is_live b.range f a ≡ false → byte_at (memory_now code m s) a ≡ byte_at m a) → Next
-      ends : closes code (planned code s).kind s.control.pc ≡ true → Somewhere (byte_at m) b (lost_of false) (state_now code m s) f → memory_now code m s ≡ m
-          → Stretch h.side n h.before (state_now code m s) h.opened (byte_at m) h.rest → Next
+      ends : closes code (planned code s).kind s.control.pc ≡ true → Settles h.side (byte_at m) b (state_now code m s) f h.front h.g h.rest → memory_now code m s ≡ m
+          → Stretch h.side n before (state_now code m s) opened (byte_at m) h.rest → Next
 
     not_own : (a : ℕ) → is_live b.range f a ≡ false → IsOwnByte h.side n start a → ⊥
     not_own a dead own = false≢true (sym dead ∙ own_live at_start a own)
@@ -450,16 +492,14 @@ module _ (code : ℕ → ℕ) (constant : (a : ℕ) → code a < 2 ^ 8) (b : Bou
         let i = inside in
         omega arith
 
-    went_on : (mv : Moves h.side n start (vector_bytes code vector) h.offset h.effect h.flags (machine m s)) → Turned code m s len mv.next → Handling code b (memory_now code m s) (state_now code m s) f
+    went_on : (mv : Moves h.side n start (vector_bytes code vector) h.offset h.effect h.flags (machine m s)) → Turned code m s len mv.next → Handling code b (memory_now code m s) (state_now code m s) f before opened
     unfolding len
     went_on mv t =
         let base : s.base ≡ start.base = h.stands.base in
-        let P : State → Type 0 = λ x. Handling code b (memory_now code m s) x f in
+        let P : State → Type 0 = λ x. Handling code b (memory_now code m s) x f before opened in
         subst P (sym t.after) (record {
           side = h.side;
           lost = h.lost;
-          before = h.before;
-          opened = h.opened;
           front = h.front;
           g = h.g;
           rest = h.rest;
@@ -474,7 +514,7 @@ module _ (code : ℕ → ℕ) (constant : (a : ℕ) → code a < 2 ^ 8) (b : Bou
           flags = mv.after;
           pc = pc_on ∙ ap (λ x. vector + (h.offset + length_of x)) (sym first_byte);
           handles = mv.handles;
-          control = stretches_go_on h.before.control s.control h.before.base ((s.control.pc + length_of (code (vector + h.offset))) % 2 ^ 32) h.control;
+          control = stretches_go_on before.control s.control before.base ((s.control.pc + length_of (code (vector + h.offset))) % 2 ^ 32) h.control;
           bits = h.bits;
           stands = moved_machine h.side n start (applied h.effect (step_at (vector_bytes code vector) h.offset)) mv.after mv.next s.base (byte_at (memory_now code m s)) mv.stands base t.bytes;
           kept = λ a live free. t.bytes a ∙ (step_keeps h.side n start (byte_at m) mv.next.bytes a mv.touches free ∙ h.kept a live free);
@@ -493,54 +533,56 @@ module _ (code : ℕ → ℕ) (constant : (a : ℕ) → code a < 2 ^ 8) (b : Bou
           goes_on no (went_on mv t) (λ a dead. t.bytes a ∙ step_keeps h.side n start (byte_at m) mv.next.bytes a mv.touches (untouched_from h.side n start a at_start.frames (not_own a dead)))
 
       -- ---- the ending
-      changes_from : (start_bits : ℕ) → Done h.side n start (machine m s) → Changes h.before (record { regs = s.regs; base = s.control.ps.owb; start = start_bits; control = ticked (record s.control { pc = special_of s.control (number.epc 1); ps = record s.control.ps { excm = false } }) }) (moved h.rest) n
+      changes_from : (start_bits : ℕ) → Done h.side n start (machine m s) → Changes before (record { regs = s.regs; base = s.control.ps.owb; start = start_bits; control = ticked (record s.control { pc = special_of s.control (number.epc 1); ps = record s.control.ps { excm = false } }) }) (moved h.rest) n
       changes_from start_bits d = record {
         base = ap (λ (p : Ps). p.owb) h.control.ps;
         size = h.stands.size ∙ sym at_start.frames.registers;
         others = λ p lo hi. others_stay_above n (moved h.rest) start (machine m s) p d.registers refl lo hi;
-        control = stretches_end h.before.control s.control h.before.base h.low h.control;
+        control = stretches_end before.control s.control before.base h.low h.control;
       }
 
       base_is : s.base ≡ moved h.rest % 16
       base_is = h.stands.base
 
-      stretch_from : (start_bits : ℕ) → Done h.side n start (machine m s) → (h.side ≡ Overflow → start_bits ≡ without_bit h.before.start (moved h.rest)) → (h.side ≡ Underflow → start_bits ≡ with_bit h.before.start (moved h.rest))
-          → Stretch h.side n h.before (record { regs = s.regs; base = s.control.ps.owb; start = start_bits; control = ticked (record s.control { pc = special_of s.control (number.epc 1); ps = record s.control.ps { excm = false } }) }) h.opened (byte_at m) h.rest
+      stretch_from : (start_bits : ℕ) → Done h.side n start (machine m s) → (h.side ≡ Overflow → start_bits ≡ without_bit before.start (moved h.rest)) → (h.side ≡ Underflow → start_bits ≡ with_bit before.start (moved h.rest))
+          → Stretch h.side n before (record { regs = s.regs; base = s.control.ps.owb; start = start_bits; control = ticked (record s.control { pc = special_of s.control (number.epc 1); ps = record s.control.ps { excm = false } }) }) opened (byte_at m) h.rest
       stretch_from start_bits d over under = record { changes = changes_from start_bits d; overflow_bit = over; underflow_bit = under; saved = d.saved; loaded = λ e k l. ap (λ x. visible s.regs x k) (sym base_is) ∙ d.loaded e k l }
 
-      over_ends : h.side ≡ Overflow → has_effect h.side n h.effect ≡ true → Ended code m s low_now untaken running_now len (without_bit s.start s.base) → Somewhere (byte_at m) b (lost_of false) (state_now code m s) f
+      over_ends : h.side ≡ Overflow → has_effect h.side n h.effect ≡ true → Ended code m s low_now untaken running_now len (without_bit s.start s.base) → Settles h.side (byte_at m) b (state_now code m s) f h.front h.g h.rest
       over_ends e has x =
           let d = done h.side n start h.effect h.flags (machine m s) (let w = h.within in omega arith) h.stands has in
-          let l : Begins Overflow h.opened b h.lost h.before f h.front h.g h.rest = subst (λ z. Begins z h.opened b h.lost h.before f h.front h.g h.rest) e h.begins in
-          let r : Found Overflow h.opened b h.before f h.front h.g h.rest = subst (λ z. Found z h.opened b h.before f h.front h.g h.rest) e at_start in
-          let kept : (a : ℕ) → is_live b.range f a ≡ true → IsElsewhere n start a → byte_at m a ≡ h.opened a = λ a live away. h.kept a live (subst (λ z. Untouched z n start a) (sym e) away) in
-          let bits : without_bit s.start s.base ≡ without_bit h.before.start (moved h.rest) = (let p = h.bits in let q = base_is in rw (p, q) (without_same h.before.start (moved h.rest))) in
-          let P : State → Type 0 = λ t. Somewhere (byte_at m) b (lost_of false) t f in
-          subst P (sym x.after) (record { ring = h.front; spilled = h.g ∷ h.rest; related = over_end b h.lost h.before _ f h.front h.g h.rest h.opened (byte_at m) r l (d.saved e) kept (changes_from (without_bit s.start s.base) d) bits })
+          let l : Begins Overflow opened b h.lost before f h.front h.g h.rest = subst (λ z. Begins z opened b h.lost before f h.front h.g h.rest) e h.begins in
+          let r : Found Overflow opened b before f h.front h.g h.rest = subst (λ z. Found z opened b before f h.front h.g h.rest) e at_start in
+          let kept : (a : ℕ) → is_live b.range f a ≡ true → IsElsewhere n start a → byte_at m a ≡ opened a = λ a live away. h.kept a live (subst (λ z. Untouched z n start a) (sym e) away) in
+          let bits : without_bit s.start s.base ≡ without_bit before.start (moved h.rest) = (let p = h.bits in let q = base_is in rw (p, q) (without_same before.start (moved h.rest))) in
+          let P : State → Type 0 = λ t. Settles Overflow (byte_at m) b t f h.front h.g h.rest in
+          let Q : Side → Type 0 = λ z. Settles z (byte_at m) b (state_now code m s) f h.front h.g h.rest in
+          subst Q (sym e) (subst P (sym x.after) (over_end b h.lost before _ f h.front h.g h.rest opened (byte_at m) r l (d.saved e) kept (changes_from (without_bit s.start s.base) d) bits))
 
-      under_ends : h.side ≡ Underflow → has_effect h.side n h.effect ≡ true → Ended code m s low_now untaken running_now len (with_bit s.start s.base) → Somewhere (byte_at m) b (lost_of false) (state_now code m s) f
+      under_ends : h.side ≡ Underflow → has_effect h.side n h.effect ≡ true → Ended code m s low_now untaken running_now len (with_bit s.start s.base) → Settles h.side (byte_at m) b (state_now code m s) f h.front h.g h.rest
       under_ends e has x =
           let d = done h.side n start h.effect h.flags (machine m s) (let w = h.within in omega arith) h.stands has in
-          let l : Begins Underflow h.opened b h.lost h.before f h.front h.g h.rest = subst (λ z. Begins z h.opened b h.lost h.before f h.front h.g h.rest) e h.begins in
-          let r : Found Underflow h.opened b h.before f h.front h.g h.rest = subst (λ z. Found z h.opened b h.before f h.front h.g h.rest) e at_start in
-          let kept : (a : ℕ) → is_live b.range f a ≡ true → byte_at m a ≡ h.opened a = λ a live. h.kept a live (subst (λ z. Untouched z n start a) (sym e) tt) in
-          let bits : with_bit s.start s.base ≡ with_bit h.before.start (moved h.rest) = (let p = h.bits in let q = base_is in rw (p, q) (with_same h.before.start (moved h.rest))) in
-          let loaded : (k : ℕ) → k < 4 * n → visible s.regs (moved h.rest % 16) k ≡ word_at h.opened (address_of start (save_word Underflow n k)) = λ k l. ap (λ x. visible s.regs x k) (sym base_is) ∙ d.loaded e k l in
-          let P : State → Type 0 = λ t. Somewhere (byte_at m) b (lost_of false) t f in
-          subst P (sym x.after) (record { ring = h.g ∷ []; spilled = h.rest; related = under_end b h.lost h.before _ f h.front h.g h.rest h.opened (byte_at m) r l loaded kept (changes_from (with_bit s.start s.base) d) bits })
+          let l : Begins Underflow opened b h.lost before f h.front h.g h.rest = subst (λ z. Begins z opened b h.lost before f h.front h.g h.rest) e h.begins in
+          let r : Found Underflow opened b before f h.front h.g h.rest = subst (λ z. Found z opened b before f h.front h.g h.rest) e at_start in
+          let kept : (a : ℕ) → is_live b.range f a ≡ true → byte_at m a ≡ opened a = λ a live. h.kept a live (subst (λ z. Untouched z n start a) (sym e) tt) in
+          let bits : with_bit s.start s.base ≡ with_bit before.start (moved h.rest) = (let p = h.bits in let q = base_is in rw (p, q) (with_same before.start (moved h.rest))) in
+          let loaded : (k : ℕ) → k < 4 * n → visible s.regs (moved h.rest % 16) k ≡ word_at opened (address_of start (save_word Underflow n k)) = λ k l. ap (λ x. visible s.regs x k) (sym base_is) ∙ d.loaded e k l in
+          let P : State → Type 0 = λ t. Settles Underflow (byte_at m) b t f h.front h.g h.rest in
+          let Q : Side → Type 0 = λ z. Settles z (byte_at m) b (state_now code m s) f h.front h.g h.rest in
+          subst Q (sym e) (subst P (sym x.after) (under_end b h.lost before _ f h.front h.g h.rest opened (byte_at m) r l loaded kept (changes_from (with_bit s.start s.base) d) bits))
 
-      over_stretch : h.side ≡ Overflow → has_effect h.side n h.effect ≡ true → Ended code m s low_now untaken running_now len (without_bit s.start s.base) → Stretch h.side n h.before (state_now code m s) h.opened (byte_at m) h.rest
+      over_stretch : h.side ≡ Overflow → has_effect h.side n h.effect ≡ true → Ended code m s low_now untaken running_now len (without_bit s.start s.base) → Stretch h.side n before (state_now code m s) opened (byte_at m) h.rest
       over_stretch e has x =
           let d = done h.side n start h.effect h.flags (machine m s) (let w = h.within in omega arith) h.stands has in
-          let bits : without_bit s.start s.base ≡ without_bit h.before.start (moved h.rest) = (let p = h.bits in let q = base_is in rw (p, q) (without_same h.before.start (moved h.rest))) in
-          let P : State → Type 0 = λ t. Stretch h.side n h.before t h.opened (byte_at m) h.rest in
+          let bits : without_bit s.start s.base ≡ without_bit before.start (moved h.rest) = (let p = h.bits in let q = base_is in rw (p, q) (without_same before.start (moved h.rest))) in
+          let P : State → Type 0 = λ t. Stretch h.side n before t opened (byte_at m) h.rest in
           subst P (sym x.after) (stretch_from (without_bit s.start s.base) d (λ o. bits) (λ u. absurd (two_sides h.side e u)))
 
-      under_stretch : h.side ≡ Underflow → has_effect h.side n h.effect ≡ true → Ended code m s low_now untaken running_now len (with_bit s.start s.base) → Stretch h.side n h.before (state_now code m s) h.opened (byte_at m) h.rest
+      under_stretch : h.side ≡ Underflow → has_effect h.side n h.effect ≡ true → Ended code m s low_now untaken running_now len (with_bit s.start s.base) → Stretch h.side n before (state_now code m s) opened (byte_at m) h.rest
       under_stretch e has x =
           let d = done h.side n start h.effect h.flags (machine m s) (let w = h.within in omega arith) h.stands has in
-          let bits : with_bit s.start s.base ≡ with_bit h.before.start (moved h.rest) = (let p = h.bits in let q = base_is in rw (p, q) (with_same h.before.start (moved h.rest))) in
-          let P : State → Type 0 = λ t. Stretch h.side n h.before t h.opened (byte_at m) h.rest in
+          let bits : with_bit s.start s.base ≡ with_bit before.start (moved h.rest) = (let p = h.bits in let q = base_is in rw (p, q) (with_same before.start (moved h.rest))) in
+          let P : State → Type 0 = λ t. Stretch h.side n before t opened (byte_at m) h.rest in
           subst P (sym x.after) (stretch_from (with_bit s.start s.base) d (λ o. absurd (two_sides h.side o e)) (λ u. bits))
 
       closes_at : (i : Insn) → fetched code s.control.pc ≡ Fetches i len → (planned code s).kind ≡ kind.Insn → ends_stretch i ≡ true → closes code (planned code s).kind s.control.pc ≡ true
@@ -579,12 +621,10 @@ module _ (code : ℕ → ℕ) (constant : (a : ℕ) → code a < 2 ^ 8) (b : Bou
           turn_here.goes
 
     -- ---- an access of the other core
-    pub handling_spared : (new : MemoryContents) → ((a : ℕ) → is_live b.range f a ≡ true → byte_at new a ≡ byte_at m a) → Handling code b new s f
+    pub handling_spared : (new : MemoryContents) → ((a : ℕ) → is_live b.range f a ≡ true → byte_at new a ≡ byte_at m a) → Handling code b new s f before opened
     handling_spared new same = record {
       side = h.side;
       lost = h.lost;
-      before = h.before;
-      opened = h.opened;
       front = h.front;
       g = h.g;
       rest = h.rest;
@@ -609,12 +649,13 @@ module _ (code : ℕ → ℕ) (constant : (a : ℕ) → code a < 2 ^ 8) (b : Bou
 pub stretches_are_entered : StretchesAreEntered
 stretches_are_entered code bytes b good m lost s f ring spilled reply l shaped window none = begins_at code bytes b good.dram good.aligned good.handlers m lost s f ring spilled reply l shaped window none
 
-handler_step : (code : ℕ → ℕ) (bytes : AreBytes code) (b : Bounds) (good : IsGood code b) (m : MemoryContents) (s : State) (f : FrameState) (h : Handling code b m s f) → Next code bytes b good.dram good.aligned good.handlers h → HandlerStep code b m s f
-handler_step code bytes b good m s f h (goes_on open_ inside only) = steps_on open_ inside only
-handler_step code bytes b good m s f h (ends closed_ somewhere same stretch) = closes_stretch closed_ (record { side = h.side; before = h.before; opened = h.opened; g = h.g; rest = h.rest; stretch = stretch; somewhere = somewhere; memory = same })
+handler_step : (code : ℕ → ℕ) (bytes : AreBytes code) (b : Bounds) (good : IsGood code b) (m : MemoryContents) (s : State) (f : FrameState) (before : State) (opened : ℕ → ℕ) (h : Handling code b m s f before opened) → Next code bytes b good.dram good.aligned good.handlers h → HandlerStep code b m s f before opened
+handler_step code bytes b good m s f before opened h (goes_on open_ inside only) = steps_on open_ inside only
+handler_step code bytes b good m s f before opened h (ends closed_ settles same stretch) =
+    closes_stretch closed_ (moves_frame h.side b m before (state_now code m s) opened f h.front h.g h.rest h.lost h.begins settles stretch h.kept) (somewhere_of h.side (byte_at m) b (state_now code m s) f h.front h.g h.rest settles) same
 
 pub handler_steps_are_kept : HandlerStepsAreKept
-handler_steps_are_kept code bytes b good m s f h shaped sizes = handler_step code bytes b good m s f h (handling_steps code bytes b good.dram good.aligned good.handlers h (untaken_now code bytes b good.dram good.aligned good.handlers h) shaped sizes)
+handler_steps_are_kept code bytes b good m s f before opened h shaped sizes = handler_step code bytes b good m s f before opened h (handling_steps code bytes b good.dram good.aligned good.handlers h (untaken_now code bytes b good.dram good.aligned good.handlers h) shaped sizes)
 
 pub handlers_are_spared : HandlersAreSpared
-handlers_are_spared code bytes b good old new s f h same = handling_spared code bytes b good.dram good.aligned good.handlers h new same
+handlers_are_spared code bytes b good old new s f before opened h same = handling_spared code bytes b good.dram good.aligned good.handlers h new same

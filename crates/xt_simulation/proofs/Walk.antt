@@ -1,6 +1,6 @@
 -- Both cores at each place of the schedule before the first breach: the machines are related, and the judged records are a frame run.
 use Rattle.std.proofs.Common.{◌≡◌, ℕ, Bool, true, false, ◌||◌, List, [], ◌∷◌, ◌++◌, Option, Some, None, sym, ap, ◌∙◌, refl, arith, inl, inr, ⊎_elim, subst, append_assoc}
-use Rattle.std.proofs.lemmas.Bool.{cond-true, cond-false, cases_Bool, or_parts, or_from, or_right, false_from_ne_true}
+use Rattle.std.proofs.lemmas.Bool.{cond-true, cond-false, cases_Bool, or_parts, or_from, or_right, false_from_ne_true, false≢true}
 use Rattle.std.proofs.lemmas.List.{append-nil}
 use Rattle.xt_map.specs.declared.access.Access.{Access}
 use Rattle.xt_map.specs.declared.access.Entry.{Entry}
@@ -24,15 +24,15 @@ use Rattle.xt_simulation.specs.Stacks.{Stack}
 use Rattle.xt_simulation.specs.Relation.{inputs}
 use Rattle.xt_simulation.proofs.Chains.{related_spared, live_in_range}
 use Rattle.xt_simulation.specs.Steps.{reply_at, memory_after_step, reply_now, record_now, state_now, memory_now}
-use Rattle.xt_simulation.specs.InHandlers.{IsGood, Somewhere, Handling}
+use Rattle.xt_simulation.specs.InHandlers.{IsGood, Somewhere, Handling, MovesFrame, HandlerStep, steps_on, closes_stretch}
 use Rattle.xt_simulation.specs.Memories.{Agree, KeepsAreas}
 use Rattle.xt_map.specs.Touching.{IsMemory}
-use Rattle.xt_simulation.proofs.Handled.{Next, goes_on, ends, begins_at, handling_stack, untaken_now, handling_steps, handling_spared}
+use Rattle.xt_simulation.proofs.Handled.{somewhere_of, handler_steps_are_kept, Next, goes_on, ends, begins_at, handling_stack, untaken_now, handling_steps, handling_spared}
 use Rattle.xt_simulation.proofs.Memories.{live_kept, step_memory}
 use Rattle.xt_frames.specs.Judging.{Seen, seen_window, seen_step, step_on, live_of}
 use Rattle.xt_frames.specs.Verdict.{entry_of, IsStepOf, IsFrameTrace}
 use Rattle.xt_simulation.specs.Judges.{After}
-use Rattle.xt_simulation.specs.Walking.{Core, World, Moved, moved_by, move, moved0, moved1, given, walked, frame_after, IsWorldRun, Apart}
+use Rattle.xt_simulation.specs.Walking.{Entered, Core, World, Moved, entered_by, EndsWell, moved_by, move, moved0, moved1, given, walked, frame_after, IsWorldRun, Apart}
 use Rattle.xt_simulation.proofs.Judges.{judge_keeps, judge_areas, shaped_now, same_laid}
 
 -- ---- histories that grow
@@ -90,23 +90,23 @@ some_is : {X : Type 0} (y x : X) → Some y ≡ Some x → y ≡ x
 some_is y x e = cc
 
 module _ (code : ℕ → ℕ) (bytes : AreBytes code) where
-  unfoldable pub InCore : Mode → MemoryContents → Bounds → Bool → State → FrameState → Type 0
-  InCore Plain m b fresh s f = Somewhere (byte_at m) b (lost_of fresh) s f
-  InCore Handles m b fresh s f = Handling code b m s f
+  unfoldable pub InCore : Mode → MemoryContents → Bounds → Bool → State → FrameState → Entered → Type 0
+  InCore Plain m b fresh s f e = Somewhere (byte_at m) b (lost_of fresh) s f
+  InCore Handles m b fresh s f e = Handling code b m s f e.before e.opened
 
-  core_stack : (mode : Mode) (m : MemoryContents) (b : Bounds) (good : IsGood code b) (fresh : Bool) (s : State) (f : FrameState) → InCore mode m b fresh s f → Stack b.range.lo b.range.hi f.seen f.frames
+  core_stack : (mode : Mode) (m : MemoryContents) (b : Bounds) (good : IsGood code b) (fresh : Bool) (s : State) (f : FrameState) (e : Entered) → InCore mode m b fresh s f e → Stack b.range.lo b.range.hi f.seen f.frames
   unfolding InCore
-  core_stack Plain m b good fresh s f h = h.related.stack
-  core_stack Handles m b good fresh s f h = handling_stack code bytes b good.dram good.aligned good.handlers h
+  core_stack Plain m b good fresh s f e h = h.related.stack
+  core_stack Handles m b good fresh s f e h = handling_stack code bytes b good.dram good.aligned good.handlers h
 
-  core_spared : (mode : Mode) (old new : MemoryContents) (b : Bounds) (good : IsGood code b) (fresh : Bool) (s : State) (f : FrameState) → ((a : ℕ) → is_live b.range f a ≡ true → byte_at new a ≡ byte_at old a) → InCore mode old b fresh s f → InCore mode new b fresh s f
+  core_spared : (mode : Mode) (old new : MemoryContents) (b : Bounds) (good : IsGood code b) (fresh : Bool) (s : State) (f : FrameState) (e : Entered) → ((a : ℕ) → is_live b.range f a ≡ true → byte_at new a ≡ byte_at old a) → InCore mode old b fresh s f e → InCore mode new b fresh s f e
   unfolding InCore
-  core_spared Plain old new b good fresh s f same h = record { ring = h.ring; spilled = h.spilled; related = related_spared (byte_at old) (byte_at new) b f same h.related }
-  core_spared Handles old new b good fresh s f same h = handling_spared code bytes b good.dram good.aligned good.handlers h new same
+  core_spared Plain old new b good fresh s f e same h = record { ring = h.ring; spilled = h.spilled; related = related_spared (byte_at old) (byte_at new) b f same h.related }
+  core_spared Handles old new b good fresh s f e same h = handling_spared code bytes b good.dram good.aligned good.handlers h new same
 
   pub record Both (b c : Bounds) (mine theirs : Core) (m framed : MemoryContents) (stale : ℕ → Bool) : Type 0 where
-    pub first : InCore mine.standing.mode m b mine.standing.fresh mine.state mine.standing.frame
-    pub second : InCore theirs.standing.mode m c theirs.standing.fresh theirs.state theirs.standing.frame
+    pub first : InCore mine.standing.mode m b mine.standing.fresh mine.state mine.standing.frame mine.entered
+    pub second : InCore theirs.standing.mode m c theirs.standing.fresh theirs.state theirs.standing.frame theirs.entered
     pub shaped_first : IsShaped mine.state
     pub shaped_second : IsShaped theirs.state
     pub real : IsMemory m
@@ -130,24 +130,24 @@ module _ (code : ℕ → ℕ) (bytes : AreBytes code) where
     pub answers : Answers framed x.entries
     pub leads : (opening : FrameState) → Leads code opening mine → Leads code opening x.mine
 
-  module _ (b c : Bounds) (good : IsGood code b) (other : IsGood code c) (apart : Apart b.range c.range) (core : ℕ) (s : State) (f : FrameState) (fresh : Bool) (recs : List StepRecord) (theirs : Core) (m framed : MemoryContents) (stale : ℕ → Bool) where
+  module _ (b c : Bounds) (good : IsGood code b) (other : IsGood code c) (apart : Apart b.range c.range) (core : ℕ) (s : State) (at : Entered) (f : FrameState) (fresh : Bool) (recs : List StepRecord) (theirs : Core) (m framed : MemoryContents) (stale : ℕ → Bool) where
     abbrev core_in : Mode → Core
-    core_in mode = record { state = s; standing = record { frame = f; fresh = fresh; mode = mode }; judged = recs }
+    core_in mode = record { state = s; entered = at; standing = record { frame = f; fresh = fresh; mode = mode }; judged = recs }
 
     abbrev rec : StepRecord
     rec = record_now code m s
 
     -- a handler step, or a window exception's record: the frame machine stands still
-    stands_still : (mode next : Mode) → Both b c (core_in mode) theirs m framed stale → InCore next (memory_now code m s) b false (state_now code m s) f
+    stands_still : (mode next : Mode) → Both b c (core_in mode) theirs m framed stale → InCore next (memory_now code m s) b false (state_now code m s) f (entered_by mode s m at)
         → ((a : ℕ) → is_live b.range f a ≡ false → byte_at (memory_now code m s) a ≡ byte_at m a)
-        → Keeps b c (core_in mode) theirs m framed (record { mine = record { state = state_now code m s; standing = record { frame = f; fresh = false; mode = next }; judged = recs }; stale = stale; entries = [] })
+        → Keeps b c (core_in mode) theirs m framed (record { mine = record { state = state_now code m s; entered = entered_by mode s m at; standing = record { frame = f; fresh = false; mode = next }; judged = recs }; stale = stale; entries = [] })
     stands_still mode next h inside only =
-        let mine = core_stack mode m b good fresh s f h.first in
-        let yours = core_stack theirs.standing.mode m c other theirs.standing.fresh theirs.state theirs.standing.frame h.second in
+        let mine = core_stack mode m b good fresh s f at h.first in
+        let yours = core_stack theirs.standing.mode m c other theirs.standing.fresh theirs.state theirs.standing.frame theirs.entered h.second in
         record {
           both = record {
             first = inside;
-            second = core_spared theirs.standing.mode m (memory_now code m s) c other theirs.standing.fresh theirs.state theirs.standing.frame (λ a live. only a (live_apart b.range c.range f theirs.standing.frame a apart mine yours live)) h.second;
+            second = core_spared theirs.standing.mode m (memory_now code m s) c other theirs.standing.fresh theirs.state theirs.standing.frame theirs.entered (λ a live. only a (live_apart b.range c.range f theirs.standing.frame a apart mine yours live)) h.second;
             shaped_first = shaped_now code m s bytes h.shaped_first h.real;
             shaped_second = h.shaped_second;
             real = step_memory m (demand code s) h.real;
@@ -163,19 +163,19 @@ module _ (code : ℕ → ℕ) (bytes : AreBytes code) where
     unfolding turn
     closes_is last e = e
 
-    handles_keeps : Both b c (core_in Handles) theirs m framed stale → Keeps b c (core_in Handles) theirs m framed (record { mine = record { state = state_now code m s; standing = record { frame = f; fresh = false; mode = mode_after code Handles rec }; judged = recs }; stale = stale; entries = [] })
+    handles_keeps : Both b c (core_in Handles) theirs m framed stale → Keeps b c (core_in Handles) theirs m framed (record { mine = record { state = state_now code m s; entered = at; standing = record { frame = f; fresh = false; mode = mode_after code Handles rec }; judged = recs }; stale = stale; entries = [] })
     unfolding InCore
     handles_keeps h = by_next (handling_steps code bytes b good.dram good.aligned good.handlers h.first (untaken_now code bytes b good.dram good.aligned good.handlers h.first) h.shaped_first h.real.sizes)
       where
         P : Mode → Type 0
-        P mode = Keeps b c (core_in Handles) theirs m framed (record { mine = record { state = state_now code m s; standing = record { frame = f; fresh = false; mode = mode }; judged = recs }; stale = stale; entries = [] })
+        P mode = Keeps b c (core_in Handles) theirs m framed (record { mine = record { state = state_now code m s; entered = at; standing = record { frame = f; fresh = false; mode = mode }; judged = recs }; stale = stale; entries = [] })
 
         by_next : Next code bytes b good.dram good.aligned good.handlers h.first → P (mode_after code Handles rec)
         by_next (goes_on open_ inside only) =
             subst P (sym (cond-false (closes code rec.kind rec.pc) Plain Handles (closes_is false open_))) (stands_still Handles Handles h inside only)
-        by_next (ends closed_ somewhere same stretch) =
+        by_next (ends closed_ settles same stretch) =
             subst P (sym (cond-true (closes code rec.kind rec.pc) Plain Handles (closes_is true closed_)))
-            (stands_still Handles Plain h (subst (λ x. Somewhere (byte_at x) b (lost_of false) (state_now code m s) f) (sym same) somewhere) (λ a dead. ap (λ x. byte_at x a) same))
+            (stands_still Handles Plain h (subst (λ x. Somewhere (byte_at x) b (lost_of false) (state_now code m s) f) (sym same) (somewhere_of h.first.side (byte_at m) b (state_now code m s) f h.first.front h.first.g h.first.rest settles)) (λ a dead. ap (λ x. byte_at x a) same))
 
     -- ---- a window exception
     kind_is : is_window rec.kind ≡ true → is_window (planned code s).kind ≡ true
@@ -190,18 +190,18 @@ module _ (code : ℕ → ℕ) (bytes : AreBytes code) where
     unfolding turn
     same_window shaped = ap (λ g. window_breach code (planned code s).kind g) (same_laid code s (reply_now code m s) f shaped.control.ps.owb_fits)
 
-    window_keeps : (o : Option BreachKind) → window_breach code rec.kind (laid (inputs_of rec) f) ≡ o → is_window rec.kind ≡ true → Both b c (core_in Plain) theirs m framed stale → (x : Moved) → moved_by (seen_window o f) core (core_in Plain) (state_now code m s) rec stale ≡ Some x → Keeps b c (core_in Plain) theirs m framed x
+    window_keeps : (o : Option BreachKind) → window_breach code rec.kind (laid (inputs_of rec) f) ≡ o → is_window rec.kind ≡ true → Both b c (core_in Plain) theirs m framed stale → (x : Moved) → moved_by (seen_window o f) core (core_in Plain) m (state_now code m s) rec stale ≡ Some x → Keeps b c (core_in Plain) theirs m framed x
     unfolding InCore
     window_keeps (Some kind) e window h x k = absurd cc
     window_keeps None e window h x k =
         let entered = begins_at code bytes b good.dram good.aligned good.handlers m (lost_of fresh) s f h.first.ring h.first.spilled 0 h.first.related h.shaped_first (kind_is window) (sym (same_window h.shaped_first) ∙ e) in
         let same : memory_now code m s ≡ m = ap (memory_after_step m) entered.0 in
-        let inside : Handling code b (memory_now code m s) (state_now code m s) f = subst (λ y. Handling code b y (state_now code m s) f) (sym same) entered.1 in
+        let inside : Handling code b (memory_now code m s) (state_now code m s) f s (byte_at m) = subst (λ y. Handling code b y (state_now code m s) f s (byte_at m)) (sym same) entered.1 in
         subst (Keeps b c (core_in Plain) theirs m framed) (some_is _ x k) (stands_still Plain Handles h inside (λ a dead. ap (λ y. byte_at y a) same))
 
     -- ---- a judged step
     judged_keeps : (o : Option BreachKind) → breach_of b fresh code (live_of b f (is_live c.range theirs.standing.frame)) stale rec f ≡ o → is_window rec.kind ≡ false → Both b c (core_in Plain) theirs m framed stale → (x : Moved)
-        → moved_by (seen_step o code b (record { frame = f; fresh = fresh; mode = Plain }) (is_live c.range theirs.standing.frame) stale rec) core (core_in Plain) (state_now code m s) rec stale ≡ Some x → Keeps b c (core_in Plain) theirs m framed x
+        → moved_by (seen_step o code b (record { frame = f; fresh = fresh; mode = Plain }) (is_live c.range theirs.standing.frame) stale rec) core (core_in Plain) m (state_now code m s) rec stale ≡ Some x → Keeps b c (core_in Plain) theirs m framed x
     unfolding InCore
     judged_keeps (Some kind) e nowindow h x k = absurd cc
     judged_keeps None e nowindow h x k =
@@ -214,7 +214,7 @@ module _ (code : ℕ → ℕ) (bytes : AreBytes code) where
         subst (Keeps b c (core_in Plain) theirs m framed) (some_is _ x k) (record {
           both = record {
             first = j.somewhere;
-            second = core_spared theirs.standing.mode m (memory_now code m s) c other theirs.standing.fresh theirs.state theirs.standing.frame (λ a live. live_kept (live_of b f others) stale m (demand code s) a areas (or_right (is_live b.range f a) (others a) live)) h.second;
+            second = core_spared theirs.standing.mode m (memory_now code m s) c other theirs.standing.fresh theirs.state theirs.standing.frame theirs.entered (λ a live. live_kept (live_of b f others) stale m (demand code s) a areas (or_right (is_live b.range f a) (others a) live)) h.second;
             shaped_first = shaped_now code m s bytes h.shaped_first h.real;
             shaped_second = h.shaped_second;
             real = step_memory m (demand code s) h.real;
@@ -236,7 +236,7 @@ module _ (code : ℕ → ℕ) (bytes : AreBytes code) where
     plain_keeps : Both b c (core_in Plain) theirs m framed stale → (x : Moved) → move code b c core (core_in Plain) theirs m stale ≡ Some x → Keeps b c (core_in Plain) theirs m framed x
     plain_keeps h x k =
         let others : ℕ → Bool = is_live c.range theirs.standing.frame in
-        let P : Seen → Type 0 = λ o. moved_by o core (core_in Plain) (state_now code m s) rec stale ≡ Some x in
+        let P : Seen → Type 0 = λ o. moved_by o core (core_in Plain) m (state_now code m s) rec stale ≡ Some x in
         ⊎_elim
         (λ window. window_keeps (window_breach code rec.kind (laid (inputs_of rec) f)) refl window h x
         (subst P (cond-true (is_window rec.kind) (seen_window (window_breach code rec.kind (laid (inputs_of rec) f)) f) (seen_step (breach_of b fresh code (live_of b f others) stale rec f) code b (record { frame = f; fresh = fresh; mode = Plain }) others stale rec) window) k))
@@ -247,6 +247,23 @@ module _ (code : ℕ → ℕ) (bytes : AreBytes code) where
     pub move_keeps : (mode : Mode) → Both b c (core_in mode) theirs m framed stale → (x : Moved) → move code b c core (core_in mode) theirs m stale ≡ Some x → Keeps b c (core_in mode) theirs m framed x
     move_keeps Plain h x k = plain_keeps h x k
     move_keeps Handles h x k = subst (Keeps b c (core_in Handles) theirs m framed) (some_is _ x k) (handles_keeps h)
+
+  -- ---- whole stretches
+  step_moves : (b : Bounds) (m : MemoryContents) (s : State) (f : FrameState) (e : Entered) → HandlerStep code b m s f e.before e.opened → closes code (planned code s).kind s.control.pc ≡ true → MovesFrame b f e.before (state_now code m s) e.opened (byte_at m)
+  step_moves b m s f e (steps_on open_ inside only) closed_ = absurd (false≢true (sym open_ ∙ closed_))
+  step_moves b m s f e (closes_stretch closed_ moves somewhere same) h = moves
+
+  mode_ends : (mode : Mode) (b : Bounds) (good : IsGood code b) (m : MemoryContents) (fresh : Bool) (s : State) (f : FrameState) (e : Entered) → InCore mode m b fresh s f e → IsShaped s → IsMemory m
+      → mode ≡ Handles → closes code (planned code s).kind s.control.pc ≡ true → MovesFrame b f e.before (state_now code m s) e.opened (byte_at m)
+  unfolding InCore
+  mode_ends Plain b good m fresh s f e h shaped real is closed_ = absurd cc
+  mode_ends Handles b good m fresh s f e h shaped real is closed_ = step_moves b m s f e (handler_steps_are_kept code bytes b good m s f e.before e.opened h shaped real.sizes) closed_
+
+  pub both_end : (b c : Bounds) (good : IsGood code b) (other : IsGood code c) (mine theirs : Core) (m framed : MemoryContents) (stale : ℕ → Bool) → Both b c mine theirs m framed stale → EndsWell code b m mine × EndsWell code c m theirs
+  both_end b c good other mine theirs m framed stale h = (
+    (λ is closed_. mode_ends mine.standing.mode b good m mine.standing.fresh mine.state mine.standing.frame mine.entered h.first h.shaped_first h.real is closed_),
+    (λ is closed_. mode_ends theirs.standing.mode c other m theirs.standing.fresh theirs.state theirs.standing.frame theirs.entered h.second h.shaped_second h.real is closed_),
+  )
 
   -- ---- a whole schedule
   pub record Holds (b0 b1 : Bounds) (opening : MemoryContents) (f0 f1 : FrameState) (w : World) : Type 0 where
@@ -282,10 +299,10 @@ module _ (code : ℕ → ℕ) (bytes : AreBytes code) where
         })
 
     pub move0_keeps : (w : World) → Holds b0 b1 opening f0 f1 w → (x : Moved) → move code b0 b1 0 w.core0 w.core1 w.memory w.stale ≡ Some x → Keeps b0 b1 w.core0 w.core1 w.memory (memory_after opening w.entries) x
-    move0_keeps w h x k = move_keeps b0 b1 good0 good1 apart 0 w.core0.state w.core0.standing.frame w.core0.standing.fresh w.core0.judged w.core1 w.memory (memory_after opening w.entries) w.stale w.core0.standing.mode h.both x k
+    move0_keeps w h x k = move_keeps b0 b1 good0 good1 apart 0 w.core0.state w.core0.entered w.core0.standing.frame w.core0.standing.fresh w.core0.judged w.core1 w.memory (memory_after opening w.entries) w.stale w.core0.standing.mode h.both x k
 
     pub move1_keeps : (w : World) → Holds b0 b1 opening f0 f1 w → (x : Moved) → move code b1 b0 1 w.core1 w.core0 w.memory w.stale ≡ Some x → Keeps b1 b0 w.core1 w.core0 w.memory (memory_after opening w.entries) x
-    move1_keeps w h x k = move_keeps b1 b0 good1 good0 flipped 1 w.core1.state w.core1.standing.frame w.core1.standing.fresh w.core1.judged w.core0 w.memory (memory_after opening w.entries) w.stale w.core1.standing.mode (turned b0 b1 w.core0 w.core1 w.memory (memory_after opening w.entries) w.stale h.both) x k
+    move1_keeps w h x k = move_keeps b1 b0 good1 good0 flipped 1 w.core1.state w.core1.entered w.core1.standing.frame w.core1.standing.fresh w.core1.judged w.core0 w.memory (memory_after opening w.entries) w.stale w.core1.standing.mode (turned b0 b1 w.core0 w.core1 w.memory (memory_after opening w.entries) w.stale h.both) x k
 
     pub given_keeps : (c : Bool) (w v : World) → Holds b0 b1 opening f0 f1 w → given code b0 b1 c w ≡ Some v → Holds b0 b1 opening f0 f1 v
     given_keeps true w v h e = moved0_keeps w v (move code b0 b1 0 w.core0 w.core1 w.memory w.stale) h (move0_keeps w h) e

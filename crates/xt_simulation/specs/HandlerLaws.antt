@@ -23,15 +23,19 @@ StretchesAreEntered =
     → (m : MemoryContents) (lost : ℕ → Bool) (s : State) (f : FrameState) (ring spilled : List Frame) (reply : ℕ)
     → Related (byte_at m) b lost s f ring spilled → IsShaped s
     → is_window (planned code s).kind ≡ true → window_breach code (planned code s).kind (laid (inputs reply s) f) ≡ None
-    → (demand code s ≡ None) × Handling code b m (state_now code m s) f
+    → (demand code s ≡ None) × Handling code b m (state_now code m s) f s (byte_at m)
 
 abbrev pub HandlerStepsAreKept : Type 0
 HandlerStepsAreKept =
     (code : ℕ → ℕ) → AreBytes code → (b : Bounds) → IsGood code b
-    → (m : MemoryContents) (s : State) (f : FrameState) → Handling code b m s f → IsShaped s → HasSizes m → HandlerStep code b m s f
+    → (m : MemoryContents) (s : State) (f : FrameState) (before : State) (opened : ℕ → ℕ)
+    → Handling code b m s f before opened → IsShaped s → HasSizes m
+    → HandlerStep code b m s f before opened
 
 abbrev pub HandlersAreSpared : Type 0
 HandlersAreSpared =
     (code : ℕ → ℕ) → AreBytes code → (b : Bounds) → IsGood code b
-    → (old new : MemoryContents) (s : State) (f : FrameState) → Handling code b old s f
-    → ((a : ℕ) → is_live b.range f a ≡ true → byte_at new a ≡ byte_at old a) → Handling code b new s f
+    → (old new : MemoryContents) (s : State) (f : FrameState) (before : State) (opened : ℕ → ℕ)
+    → Handling code b old s f before opened
+    → ((a : ℕ) → is_live b.range f a ≡ true → byte_at new a ≡ byte_at old a)
+    → Handling code b new s f before opened

@@ -15,7 +15,7 @@ use Rattle.xt_exec.specs.State.{State}
 use Rattle.xt_exec.specs.Chips.{processor}
 use Rattle.xt_frames.specs.Verdict.{Judgement, judgement, opening_known, IsFrameRun}
 use Rattle.xt_simulation.specs.Vectors.{Handlers}
-use Rattle.xt_simulation.specs.Walking.{World, walked, IsWorldRun, Apart}
+use Rattle.xt_simulation.specs.Walking.{World, walked, EndsWell, IsWorldRun, Apart}
 use Rattle.xt_simulation.specs.Opening.{Openings, IsOpening, bounds0, bounds1, state0, state1, frame0, frame1, memory_of, frame_of, opening_world, openings_of, IsRunnable}
 
 -- what stands before every statement: the six handlers pass the check, and the stacks are apart
@@ -33,6 +33,15 @@ TurnsAreFrames =
     → (cores : List Bool) (w : World)
     → walked code (bounds0 o) (bounds1 o) cores (Some (opening_world o)) ≡ Some w
     → IsWorldRun code (memory_of o) (frame_of (state0 o)) (frame_of (state1 o)) w
+
+-- and at each place of it, where a core's next turn ends a stretch of handler steps, the stretch has
+-- moved one frame
+abbrev pub StretchesMoveFrames : Type 0
+StretchesMoveFrames =
+    (o : Openings) (code : ℕ → ℕ) → IsCovered o code
+    → (cores : List Bool) (w : World)
+    → walked code (bounds0 o) (bounds1 o) cores (Some (opening_world o)) ≡ Some w
+    → EndsWell code (bounds0 o) w.memory w.core0 × EndsWell code (bounds1 o) w.memory w.core1
 
 -- what a run of the processor opens with
 abbrev pub opening_of : Openings → ℕ → ℕ → Opening State

@@ -1,6 +1,6 @@
 -- What holds of a core inside handler steps. All of the relation but the contents of memory is said of the state before the record of the
 -- window exception; of the state now: PC and how much of the handler is left, the special registers, and what the handler has moved so far.
-use Rattle.std.specs.Prelude.{◌≡◌, ◌≤◌, ◌<◌, ℕ, ◌+◌, ◌*◌, ◌%◌, ◌^◌, Bool, true, false, List, [], ◌∷◌, ◌++◌}
+use Rattle.std.specs.Prelude.{◌≡◌, ◌≤◌, ◌<◌, ℕ, ◌+◌, ◌*◌, ◌%◌, ◌^◌, Bool, true, false, Option, Some, None, List, [], ◌∷◌, ◌++◌, slice_index_or}
 use Rattle.xt_map.specs.declared.contents.MemoryContents.{MemoryContents}
 use Rattle.xt_map.specs.Memory.{byte_at}
 use Rattle.xt_exec.specs.State.{State}
@@ -10,6 +10,7 @@ use Rattle.xt_frames.specs.HandlerSteps.{closes}
 use Rattle.xt_frames.specs.Frames.{Frame, FrameState, moved}
 use Rattle.xt_frames.specs.SaveAreas.{is_live}
 use Rattle.xt_frames.specs.Breaches.{lost_of, Bounds}
+use Rattle.xt_simulation.specs.Ring.{Holds}
 use Rattle.xt_simulation.specs.Cores.{Related}
 use Rattle.xt_simulation.specs.Stretches.{InHandler}
 use Rattle.xt_stretch.specs.Symbols.{Effect}
@@ -56,12 +57,12 @@ abbrev pub Untouched : Side → ℕ → Machine → ℕ → Type 0
 Untouched Overflow n start a = IsElsewhere n start a
 Untouched Underflow n start a = Unit {0}
 
-pub record Handling (code : ℕ → ℕ) (b : Bounds) (m : MemoryContents) (s : State) (f : FrameState) : Type 0 where
+-- `before` is the state before the record of the window exception, and `opened` are the bytes at it
+pub record Handling
+    (code : ℕ → ℕ) (b : Bounds) (m : MemoryContents) (s : State) (f : FrameState)
+    (before : State) (opened : ℕ → ℕ) : Type 0 where
   pub side : Side
   pub lost : ℕ → Bool
-  -- the state before the record of the window exception, and the bytes at it
-  pub before : State
-  pub opened : ℕ → ℕ
   pub front : List Frame
   pub g : Frame
   pub rest : List Frame
@@ -95,19 +96,45 @@ pub record Stretch (side : Side) (n : ℕ) (before after : State) (opened now : 
   pub saved : side ≡ Overflow → (k : ℕ) → k < 4 * n → word_at now (address_of (start_of before opened rest) (save_word Overflow n k)) ≡ visible before.regs (moved rest % 16) k
   pub loaded : side ≡ Underflow → (k : ℕ) → k < 4 * n → visible after.regs (moved rest % 16) k ≡ word_at opened (address_of (start_of before opened rest) (save_word Underflow n k))
 
--- what stands where a stretch has ended
-pub record Ended (code : ℕ → ℕ) (b : Bounds) (m : MemoryContents) (s : State) (f : FrameState) : Type 0 where
+-- the relation after it
+abbrev pub Settles :
+    Side → (ℕ → ℕ) → Bounds → State → FrameState → List Frame → Frame → List Frame → Type 0
+Settles Overflow m b t f front g rest = Related m b (lost_of false) t f front (g ∷ rest)
+Settles Underflow m b t f front g rest = Related m b (lost_of false) t f (g ∷ []) rest
+
+-- the callers in the ring above the moved frame
+abbrev pub above : Side → List Frame → List Frame
+above Overflow front = front
+above Underflow front = []
+
+-- A stretch has moved one frame: the oldest in the ring to its save areas, or the newest of the
+-- others back. What it stores is the frame's kept registers, what it loads are they. No visible
+-- register that has a value has changed, and no live byte of the core but those of its stores.
+pub record MovesFrame
+    (b : Bounds) (f : FrameState) (before after : State) (opened now : ℕ → ℕ) : Type 0 where
   pub side : Side
-  pub before : State
-  pub opened : ℕ → ℕ
+  pub front : List Frame
   pub g : Frame
   pub rest : List Frame
-  pub stretch : Stretch side g.by before (state_now code m s) opened (byte_at m) rest
-  pub somewhere : Somewhere (byte_at m) b (lost_of false) (state_now code m s) f
-  pub memory : memory_now code m s ≡ m
+  pub frames : f.frames ≡ above side front ++ g ∷ rest
+  pub stretch : Stretch side g.by before after opened now rest
+  pub seen : (i v : ℕ) → slice_index_or f.seen i None ≡ Some v
+      → (visible before.regs before.base i ≡ v) × (visible after.regs after.base i ≡ v)
+  pub stored : side ≡ Overflow → Holds before.regs g.kept (moved rest)
+  pub returned : side ≡ Underflow → Holds after.regs g.kept (moved rest)
+  pub elsewhere : (a : ℕ) → is_live b.range f a ≡ true
+      → Untouched side g.by (start_of before opened rest) a → now a ≡ opened a
 
--- one handler step: the handler goes on, and has changed live bytes of its own core alone; or the stretch ends
-pub data HandlerStep (code : ℕ → ℕ) (b : Bounds) (m : MemoryContents) (s : State) (f : FrameState) : Type 0 where
-  steps_on : closes code (planned code s).kind s.control.pc ≡ false → Handling code b (memory_now code m s) (state_now code m s) f
-      → ((a : ℕ) → is_live b.range f a ≡ false → byte_at (memory_now code m s) a ≡ byte_at m a) → HandlerStep code b m s f
-  closes_stretch : closes code (planned code s).kind s.control.pc ≡ true → Ended code b m s f → HandlerStep code b m s f
+-- one handler step: the handler goes on, and has changed live bytes of its own core alone; or the
+-- stretch ends
+pub data HandlerStep
+    (code : ℕ → ℕ) (b : Bounds) (m : MemoryContents) (s : State) (f : FrameState)
+    (before : State) (opened : ℕ → ℕ) : Type 0 where
+  steps_on : closes code (planned code s).kind s.control.pc ≡ false
+      → Handling code b (memory_now code m s) (state_now code m s) f before opened
+      → ((a : ℕ) → is_live b.range f a ≡ false → byte_at (memory_now code m s) a ≡ byte_at m a)
+      → HandlerStep code b m s f before opened
+  closes_stretch : closes code (planned code s).kind s.control.pc ≡ true
+      → MovesFrame b f before (state_now code m s) opened (byte_at m)
+      → Somewhere (byte_at m) b (lost_of false) (state_now code m s) f
+      → memory_now code m s ≡ m → HandlerStep code b m s f before opened

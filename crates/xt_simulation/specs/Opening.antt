@@ -26,7 +26,7 @@ abbrev pub frame_of : State → FrameState
 frame_of s = record { seen = values_from (visible s.regs s.base) 0 16; frames = []; control = s.control }
 
 abbrev pub opening_core : State → Core
-opening_core s = record { state = s; standing = opening_standing (frame_of s); judged = [] }
+opening_core s = record { state = s; entered = record { before = s; opened = λ a. 0 }; standing = opening_standing (frame_of s); judged = [] }
 
 -- what a run opens with
 pub record Openings : Type 0 where

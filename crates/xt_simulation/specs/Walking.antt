@@ -1,5 +1,5 @@
 -- Both cores over a schedule, beside the judge's walk, up to the first breach.
-use Rattle.std.specs.Prelude.{◌≤◌, ℕ, Bool, true, false, ◌⊎◌, Option, Some, None, List, [], ◌∷◌, ◌++◌}
+use Rattle.std.specs.Prelude.{◌≡◌, ◌≤◌, ℕ, Bool, true, false, ◌⊎◌, Option, Some, None, List, [], ◌∷◌, ◌++◌}
 use Rattle.xt_map.specs.declared.access.Entry.{Entry}
 use Rattle.xt_map.specs.declared.contents.MemoryContents.{MemoryContents}
 use Rattle.xt_map.specs.History.{IsLegal}
@@ -9,12 +9,22 @@ use Rattle.xt_frames.specs.Frames.{FrameState}
 use Rattle.xt_frames.specs.SaveAreas.{Range, is_live}
 use Rattle.xt_frames.specs.Breaches.{Bounds}
 use Rattle.xt_simulation.specs.Steps.{record_now, state_now, memory_now}
+use Rattle.xt_simulation.specs.InHandlers.{MovesFrame}
+use Rattle.xt_map.specs.Memory.{byte_at}
+use Rattle.xt_exec.specs.Turn.{planned}
+use Rattle.xt_frames.specs.HandlerSteps.{Mode, Plain, Handles, closes}
 use Rattle.xt_frames.specs.Judging.{Standing, Seen, Handled, Judges, Breaks, step_on, seen}
 use Rattle.xt_frames.specs.Verdict.{entry_of, IsFrameTrace}
+
+-- where a core's last window exception was entered: the state before its record, and the bytes at it
+pub record Entered : Type 0 where
+  pub before : State
+  pub opened : ℕ → ℕ
 
 -- one core: its state, what the judge knows of it, and its judged records
 pub record Core : Type 0 where
   pub state : State
+  pub entered : Entered
   pub standing : Standing
   pub judged : List StepRecord
 
@@ -32,15 +42,47 @@ pub record Moved : Type 0 where
   pub stale : ℕ → Bool
   pub entries : List Entry
 
-abbrev pub moved_by : Seen → ℕ → Core → State → StepRecord → (ℕ → Bool) → Option Moved
-moved_by (Handled standing) core mine next rec stale = Some (record { mine = record { state = next; standing = standing; judged = mine.judged }; stale = stale; entries = [] })
-moved_by (Judges standing stale_then) core mine next rec stale =
-    Some (record { mine = record { state = next; standing = standing; judged = mine.judged ++ rec ∷ [] }; stale = stale_then; entries = entry_of core rec.access rec.reply })
-moved_by (Breaks kind) core mine next rec stale = None
+-- a handler step outside handler steps is the record of a window exception
+abbrev pub entered_by : Mode → State → MemoryContents → Entered → Entered
+entered_by Plain s m e = record { before = s; opened = byte_at m }
+entered_by Handles s m e = e
 
-abbrev pub move : (ℕ → ℕ) → Bounds → Bounds → ℕ → Core → Core → MemoryContents → (ℕ → Bool) → Option Moved
+abbrev pub moved_by :
+    Seen → ℕ → Core → MemoryContents → State → StepRecord → (ℕ → Bool) → Option Moved
+moved_by (Handled standing) core mine m next rec stale = Some (record {
+  mine = record {
+    state = next;
+    entered = entered_by mine.standing.mode mine.state m mine.entered;
+    standing = standing;
+    judged = mine.judged;
+  };
+  stale = stale;
+  entries = [];
+})
+moved_by (Judges standing stale_then) core mine m next rec stale = Some (record {
+  mine = record {
+    state = next;
+    entered = mine.entered;
+    standing = standing;
+    judged = mine.judged ++ rec ∷ [];
+  };
+  stale = stale_then;
+  entries = entry_of core rec.access rec.reply;
+})
+moved_by (Breaks kind) core mine m next rec stale = None
+
+abbrev pub move :
+    (ℕ → ℕ) → Bounds → Bounds → ℕ → Core → Core → MemoryContents → (ℕ → Bool) → Option Moved
 move code b c core mine theirs m stale =
-    moved_by (seen code b mine.standing (is_live c.range theirs.standing.frame) stale (record_now code m mine.state)) core mine (state_now code m mine.state) (record_now code m mine.state) stale
+    let rec = record_now code m mine.state in
+    moved_by
+    (seen code b mine.standing (is_live c.range theirs.standing.frame) stale rec)
+    core
+    mine
+    m
+    (state_now code m mine.state)
+    rec
+    stale
 
 abbrev pub moved0 : (ℕ → ℕ) → World → Option Moved → Option World
 moved0 code w None = None
@@ -74,3 +116,17 @@ pub record IsWorldRun (code : ℕ → ℕ) (opening : MemoryContents) (f0 f1 : F
 
 abbrev pub Apart : Range → Range → Type 0
 Apart r q = (r.hi ≤ q.lo) ⊎ (q.hi ≤ r.lo)
+
+-- ---- whole stretches of handler steps
+
+-- where the core's next turn ends a stretch, the stretch has moved one frame
+abbrev pub EndsWell : (ℕ → ℕ) → Bounds → MemoryContents → Core → Type 0
+EndsWell code b m c =
+    c.standing.mode ≡ Handles → closes code (planned code c.state).kind c.state.control.pc ≡ true
+    → MovesFrame
+    b
+    c.standing.frame
+    c.entered.before
+    (state_now code m c.state)
+    c.entered.opened
+    (byte_at m)

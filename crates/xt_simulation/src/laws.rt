@@ -4,7 +4,7 @@
 ghost use Rattle.xt_simulation.specs.Closing.{FillsKeepPlain, SpillsKeepPlain};
 ghost use Rattle.xt_simulation.specs.Cores.{LiveInRange, SavedInAreas};
 ghost use Rattle.xt_simulation.specs.HandlerLaws.{HandlerStepsAreKept, HandlersAreSpared, StretchesAreEntered};
-ghost use Rattle.xt_simulation.specs.Headline.{RunsAreFrames, TurnsAreFrames, WalksAreFrames, WindowsAreFrames};
+ghost use Rattle.xt_simulation.specs.Headline.{RunsAreFrames, StretchesMoveFrames, TurnsAreFrames, WalksAreFrames, WindowsAreFrames};
 ghost use Rattle.xt_simulation.specs.Opening.{OpensAlike};
 ghost use Rattle.xt_simulation.specs.JudgedSteps.{KeepsLevel, KeepsStack};
 ghost use Rattle.xt_simulation.specs.Relation.{EntersWindow};
@@ -125,6 +125,12 @@ pub fn handlers_are_spared()
 /// run.
 pub fn turns_are_frames()
     ensures { TurnsAreFrames }
+{}
+
+/// At each place of such a schedule, a core's turn that ends a stretch of handler steps has moved one
+/// frame between registers and its save areas, and nothing else.
+pub fn stretches_move_frames()
+    ensures { StretchesMoveFrames }
 {}
 
 /// A walk with the records of both traces judges a frame run.
