@@ -1,3 +1,4 @@
 pub mod Replies
 pub mod Specials
 pub mod Shapes
+pub mod Clear

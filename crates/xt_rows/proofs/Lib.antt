@@ -1,3 +1,4 @@
 pub mod Bounds
 pub mod Proper
 pub mod Registers
+pub mod Alone

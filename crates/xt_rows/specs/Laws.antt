@@ -133,3 +133,9 @@ OutcomesAreProper =
 -- of a value that is a word by its type nothing need be said
 abbrev pub IsAny : ℕ → Type 0
 IsAny n = Unit {0}
+
+-- ---- an instruction that asks for an access changes nothing else: what is left of its effect is the effect e
+
+abbrev pub AsksWith : Effect → Outcome → Type 0
+AsksWith e (Asks access awaited rest) = rest ≡ e
+AsksWith e _ = Unit {0}
