@@ -4,3 +4,4 @@ pub mod Shapes
 pub mod Halves
 pub mod Served
 pub mod Tied
+pub mod Clear

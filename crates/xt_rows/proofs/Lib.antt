@@ -5,3 +5,4 @@ pub mod Fitting
 pub mod Fetches
 pub mod Reading
 pub mod Tied
+pub mod Alone

@@ -141,3 +141,9 @@ abbrev pub FetchedIsInRange : Type 0
 FetchedIsInRange =
     (code : ℕ → ℕ) (pc : ℕ) (i : Insn) (n : ℕ)
     → AreBytes code → fetched code pc ≡ Fetches i n → in_range i ≡ true
+
+-- ---- an instruction that asks for an access changes nothing else: what is left of its effect is the effect e
+
+abbrev pub AsksWith : Effect → Outcome → Type 0
+AsksWith e (Asks access awaited rest) = rest ≡ e
+AsksWith e _ = Unit {0}

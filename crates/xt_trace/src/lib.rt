@@ -3,10 +3,12 @@
 
 mod options;
 mod record;
+mod records;
 mod run;
 mod trace;
 
 pub use options::{Options, Stack};
 pub use record::{RegWrite, StepKind, StepRecord};
+pub use records::Records;
 pub use run::Run;
-pub use trace::{Steps, Stop, Trace};
+pub use trace::{Places, Stop, Trace};
