@@ -37,7 +37,7 @@ use Rattle.xt_rows.specs.Outcomes.{outcome, memory_outcome, system_outcome, dens
 use Rattle.xt_rows.specs.Settling.{after_flow, after_effect}
 use Rattle.xt_exec.specs.State.{State}
 use Rattle.xt_exec.specs.Turn.{Planned, planned, demand, turn, written, with_write, raises, has_windows, looks, window_check, is_illegal, done, checked, fetched_turn, resumed}
-use Rattle.xt_exec.proofs.Halves.{turn_fetches}
+use Rattle.xt_exec.proofs.Finished.{turn_fetches}
 use Rattle.xt_stretch.specs.declared.Step.{Step}
 use Rattle.xt_stretch.specs.declared.Step.TheVariants.{L32e, S32e, Nop, Rfwo, Rfwu, Foreign}
 use Rattle.xt_stretch.specs.Spelled.{step_of_insn}

@@ -23,7 +23,7 @@ use Rattle.xt_frames.specs.Breaches.{lost_of, Bounds, first_shown, fetched_tests
 use Rattle.xt_simulation.specs.Stacks.{sp_under}
 use Rattle.xt_simulation.specs.Relation.{Level}
 use Rattle.xt_simulation.proofs.Windowed.{NoneShown, none_shown}
-use Rattle.xt_exec.proofs.Halves.{turn_taken, turn_waits, turn_fetches}
+use Rattle.xt_exec.proofs.Finished.{turn_taken, turn_waits, turn_fetches}
 use Rattle.xt_exec.specs.Finishing.{Turn, finished}
 use Rattle.xt_simulation.specs.JudgedSteps.{Steps, KeepsLevel}
 use Rattle.xt_simulation.proofs.Evenly.{same_at, even_ticked, even_interrupt, even_interrupt_epc1, even_after, same_pending}

@@ -1,5 +1,5 @@
 -- The turns that enter a window exception: an overflow of the oldest caller's window, or an underflow of the newest spilled one.
-use Rattle.xt_exec.proofs.Halves.{turn_taken, turn_waits, turn_fetches}
+use Rattle.xt_exec.proofs.Finished.{turn_taken, turn_waits, turn_fetches}
 use Rattle.std.proofs.Common.{◌≡◌, ℕ, zero, suc, ◌+◌, ◌-◌, ◌*◌, ◌%◌, ◌^◌, ◌<◌, ◌⊎◌, Bool, true, false, ◌||◌, ◌&&◌, not, eqb, ltb, cond, List, [], ◌∷◌, ◌++◌, Option, Some, None, sym, ap, ◌∙◌, refl, arith, inl, inr, ⊎_elim, subst, get_or}
 use Rattle.std.specs.Prelude.{is_some, unwrap_or}
 use Rattle.std.proofs.lemmas.Bool.{cases_Bool, both_ways, cond-true, cond-false, or_parts, and_parts, not-false, not-true, eqb-true, true≢false}
