@@ -1,9 +1,7 @@
 -- A core at work, and what its turns leave.
-use Rattle.std.specs.Prelude.{◌≡◌, ℕ, zero, suc, ◌+◌, ◌-◌, ◌<◌, Bool, true, false, ◌||◌, Option, Some, None, List, [], ◌++◌}
+use Rattle.std.specs.Prelude.{◌≡◌, ℕ, ◌+◌, ◌-◌, ◌<◌, Bool, true, false, ◌||◌, Option, Some, None, List, [], ◌++◌}
 use Rattle.xt_map.specs.declared.access.Access.{Access}
 use Rattle.xt_map.specs.Regions.{is_mapped}
-use Rattle.xt_trace.specs.declared.options.Options.{Options}
-use Rattle.xt_trace.specs.declared.options.Stack.{Stack}
 use Rattle.xt_trace.specs.declared.record.StepRecord.{StepRecord}
 use Rattle.xt_trace.specs.declared.trace.Trace.{Trace}
 use Rattle.xt_trace.specs.Calls.{is_stop}
@@ -13,7 +11,7 @@ use Rattle.xt_runs.specs.Short.{ShortCore}
 use Rattle.xt_runs.specs.Traces.{stop_where}
 use Rattle.xt_runs.specs.Worlds.{left_past}
 use Rattle.xt_exec.specs.declared.plans.Pending.{Pending}
-use Rattle.xt_exec.specs.State.{State, opening_state}
+use Rattle.xt_exec.specs.State.{State}
 use Rattle.xt_exec.specs.Turn.{demand, turn}
 use Rattle.xt_core.specs.declared.begin.Begin.{Begin}
 use Rattle.xt_core.specs.declared.begin.Begin.TheVariants as begin
@@ -82,20 +80,6 @@ IsWaiting (Some p) left = IsRegister p.target × (0 < left)
 -- what is kept of the turns that a core made
 abbrev pub trace_of : CoreState → Trace
 trace_of k = record { core = k.core; count = k.count; places = k.places; stop = stop_where k.stopped; pc = k.state.control.pc }
-
--- ---- opening
-
-abbrev pub turns_of : ℕ → Options → ℕ
-turns_of zero o = o.turns0
-turns_of (suc n) o = o.turns1
-
-abbrev pub stack_of : ℕ → Options → Stack
-stack_of zero o = o.stack0
-stack_of (suc n) o = o.stack1
-
--- the state in which a core opens at this address
-abbrev pub opening_at : ℕ → ℕ → Options → State
-opening_at core pc o = opening_state core pc o.vecbase (stack_of core o).hi
 
 -- the same core at another state, with so many turns left
 abbrev pub restarted : State → ℕ → CoreState → CoreState

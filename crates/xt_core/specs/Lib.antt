@@ -1,4 +1,5 @@
 pub mod Runs
 pub mod Cores
+pub mod Cursors
 pub mod Fetches
 pub mod Turns

@@ -1,9 +1,10 @@
 -- Runs of an image ('profile').
-use Rattle.std.specs.Prelude.{◌≡◌, ℕ, ◌-◌, List, [], ◌∷◌, length}
+use Rattle.std.specs.Prelude.{◌≡◌, ℕ, zero, suc, ◌-◌, List, [], ◌∷◌, length}
 use Rattle.xt_map.specs.declared.contents.MemoryContents.{MemoryContents}
 use Rattle.xt_map.specs.Memory.{constant_byte, opening_memory}
 use Rattle.xt_map.specs.History.{IsLegal, IsOfCores, calls_of, replies_of}
 use Rattle.xt_trace.specs.declared.options.Options.{Options}
+use Rattle.xt_trace.specs.declared.options.Stack.{Stack}
 use Rattle.xt_trace.specs.declared.trace.Trace.{Trace}
 use Rattle.xt_trace.specs.declared.run.Run.{Run}
 use Rattle.xt_trace.specs.Calls.{calls_in}
@@ -27,22 +28,40 @@ stack_words o = (o.stack0.hi - 76, o.stack0.hi) ∷ (o.stack1.hi - 76, o.stack1.
 abbrev pub memory_of : Image → Options → MemoryContents
 memory_of image o = opening_memory image.segments (stack_words o)
 
--- core 0 opens at the image's entry, core 1 at its own
+-- ---- how the cores open
+
+abbrev pub turns_of : ℕ → Options → ℕ
+turns_of zero o = o.turns0
+turns_of (suc n) o = o.turns1
+
+abbrev pub stack_of : ℕ → Options → Stack
+stack_of zero o = o.stack0
+stack_of (suc n) o = o.stack1
+
+-- core 0 begins at the image's entry, core 1 at its own
+abbrev pub entry_of : ℕ → Image → Options → ℕ
+entry_of zero image o = image.entry
+entry_of (suc n) image o = o.entry1
+
+-- the state in which a core opens at this address
+abbrev pub opening_at : ℕ → ℕ → Options → State
+opening_at core pc o = opening_state core pc o.vecbase (stack_of core o).hi
+
 abbrev pub opening_of : Image → Options → Opening State
 opening_of image o = record {
   memory = memory_of image o;
-  state0 = opening_state 0 image.entry o.vecbase o.stack0.hi;
-  state1 = opening_state 1 o.entry1 o.vecbase o.stack1.hi;
-  turns0 = o.turns0;
-  turns1 = o.turns1;
+  state0 = opening_at 0 (entry_of 0 image o) o;
+  state1 = opening_at 1 (entry_of 1 image o) o;
+  turns0 = turns_of 0 o;
+  turns1 = turns_of 1 o;
 }
 
--- the records of a core's turns over the replies that the history has for it, and its last state
-abbrev pub records_of_0 : Image → Run → Traced State
-records_of_0 image r = trace_over (processor (code_of image)) (opening_of image r.options).state0 r.options.turns0 (replies_of 0 r.history)
+-- ---- runs
 
-abbrev pub records_of_1 : Image → Run → Traced State
-records_of_1 image r = trace_over (processor (code_of image)) (opening_of image r.options).state1 r.options.turns1 (replies_of 1 r.history)
+-- the records of a core's turns over the replies that the history has for it, and its last state
+abbrev pub records_of : ℕ → Image → Run → Traced State
+records_of core image r =
+    let o = r.options in trace_over (processor (code_of image)) (opening_at core (entry_of core image o) o) (turns_of core o) (replies_of core r.history)
 
 -- a trace of this core stands for these records
 pub record StandsFor (core : ℕ) (z : Traced State) (t : Trace) : Type 0 where
@@ -58,7 +77,7 @@ pub record IsRunOf (image : Image) (r : Run) : Type 0 where
   pub valid : IsValid r.options
   pub legal : IsLegal (memory_of image r.options) r.history
   pub cores : IsOfCores r.history
-  pub trace0 : StandsFor 0 (records_of_0 image r) r.trace0
-  pub trace1 : StandsFor 1 (records_of_1 image r) r.trace1
-  pub calls0 : calls_of 0 r.history ≡ calls_in (records_of_0 image r).records
-  pub calls1 : calls_of 1 r.history ≡ calls_in (records_of_1 image r).records
+  pub trace0 : StandsFor 0 (records_of 0 image r) r.trace0
+  pub trace1 : StandsFor 1 (records_of 1 image r) r.trace1
+  pub calls0 : calls_of 0 r.history ≡ calls_in (records_of 0 image r).records
+  pub calls1 : calls_of 1 r.history ≡ calls_in (records_of 1 image r).records

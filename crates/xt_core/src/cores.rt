@@ -1,15 +1,13 @@
-ghost use Rattle.std.specs.Prelude.{◌≡◌};
-ghost use Rattle.xt_trace.specs.Calls.{is_stop};
-
 use crate::begin::Begin;
 use crate::begun::Begun;
+use crate::ends::{left_past, stops};
 use crate::turn::{begin, end};
 use std::alloc::{AllocError, Global};
 use std::marker::Model;
 use xt_exec::Regs;
 use xt_exec::plans::Pending;
 use xt_map::Constants;
-use xt_trace::{Options, Places, StepKind, StepRecord, Stop, Trace};
+use xt_trace::{Options, Places, StepRecord, Stop, Trace};
 use xt_window::{WindowFile, Windows};
 
 /// A core at work. Contracts see its number, its state, what waits for the reply to an access, the turns that are left, whether it
@@ -38,17 +36,6 @@ impl<W: Windows> Model for Core<W> {
     ghost view = { λ c. record { core = c.core; state = state_of W.regs W.base W.start c.regs; waiting = c.waiting; left = c.left; stopped = c.stopped; count = c.count; places = c.places.items; turns = c.turns } };
 
     ghost invariant = { λ c. (c.count + c.left ≤ c.turns) × (vec_len c.places ≤ c.count) × (c.turns ≤ vec_capacity c.places) × IsWaiting c.waiting c.left };
-}
-
-// Whether a turn stops its core.
-#[inline(always)]
-fn stops(kind: StepKind) -> bool
-    ensures { result ≡ is_stop kind }
-{
-    match kind {
-        StepKind::Stop => true,
-        _ => false,
-    }
 }
 
 impl<W: Windows> Core<W> {
@@ -107,10 +94,9 @@ impl<W: Windows> Core<W> {
         if step.access.is_some() {
             self.places.push_reserved(self.count);
         }
-        let stops = stops(step.kind);
         self.waiting = None;
-        self.left = if stops { 0 } else { self.left - 1 };
-        self.stopped = self.stopped || stops;
+        self.left = left_past(step, self.left - 1);
+        self.stopped = self.stopped || stops(step.kind);
         self.count += 1;
     }
 
@@ -156,7 +142,8 @@ impl<W: Windows + Drop> Core<W> {
     ghost use Rattle.std.specs.Prelude.{◌≡◌, ◌<◌, ◌≤◌, IfOk};
     ghost use Rattle.xt_trace.specs.Validity.{IsValid};
     ghost use Rattle.xt_window.specs.Ring.{cleared_regs};
-    ghost use Rattle.xt_core.specs.Cores.{opened, opening_at, turns_of};
+    ghost use Rattle.xt_core.specs.Cores.{opened};
+    ghost use Rattle.xt_core.specs.Runs.{opening_at, turns_of};
 
     /// A core that opens at `pc`, with this core's turns and stack of the options. All memory that its turns need is taken here; the
     /// only error is too little memory.

@@ -4,9 +4,13 @@
 mod begin;
 mod begun;
 mod cores;
+mod cursor;
+mod ends;
 mod fetch;
 mod record;
+mod replies;
 mod turn;
 
 pub use begin::Begin;
 pub use cores::Core;
+pub use cursor::Cursor;
