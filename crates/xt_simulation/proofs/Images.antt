@@ -1,15 +1,6 @@
 -- A run of an image with valid options, of which the history and the places of the accesses are kept.
-use Rattle.std.proofs.Common.{◌≡◌, ℕ, zero, suc, ◌-◌, ◌<◌, ◌^◌, Bool, true, false, cond, Option, Some, None, List, [], ◌∷◌, ◌++◌, sym, ap, ◌∙◌, refl, arith, subst}
-use Rattle.std.proofs.lemmas.List.{append-nil}
-use Rattle.xt_map.specs.declared.access.Access.{Access}
-use Rattle.xt_map.specs.declared.contents.MemoryContents.{MemoryContents}
-use Rattle.xt_map.specs.declared.access.Entry.{Entry}
-use Rattle.xt_map.specs.History.{IsLegal, memory_after}
-use Rattle.xt_trace.specs.declared.record.StepRecord.{StepRecord}
+use Rattle.std.proofs.Common.{◌≡◌, ℕ, ◌-◌, ◌<◌, ◌^◌, Bool, true, false, cond, Option, Some, List, [], ◌∷◌, sym, ap, ◌∙◌, refl, arith, subst}
 use Rattle.xt_rows.specs.Laws.{AreBytes}
-use Rattle.xt_runs.specs.Alone.{answer}
-use Rattle.xt_runs.specs.Worlds as worlds
-use Rattle.xt_runs.specs.Worlds.{give, core_given, line_given}
 use Rattle.xt_map.specs.declared.segment.Segment.{Segment}
 use Rattle.std.specs.Prelude.{find, slice_index}
 use Rattle.std.specs.Option.{option_map_or}
@@ -19,30 +10,16 @@ use Rattle.xt_map.specs.History.{replies_of}
 use Rattle.xt_trace.specs.declared.options.Stack.{Stack}
 use Rattle.xt_trace.specs.declared.options.Options.{Options}
 use Rattle.xt_trace.specs.Validity.{IsValidStack}
-use Rattle.xt_window.specs.Ring.{cleared_regs}
 use Rattle.xt_runs.specs.Traces.{trace_over}
 use Rattle.xt_runs.specs.Schedule.{schedule, cores_of}
 use Rattle.xt_runs.specs.Short.{ShortRun, IsShortRunOf, short_trace, short_schedule}
-use Rattle.xt_exec.specs.State.{opening_state, opening_regs}
-use Rattle.xt_frames.specs.Frames.{opening_seen}
-use Rattle.xt_runs.specs.Runs.{Opening, Run, IsRunOf, opened, schedule_of}
-use Rattle.xt_runs.proofs.Walks.{own_walk}
-use Rattle.xt_runs.specs.Walks.{IsWalk, next_record}
+use Rattle.xt_runs.specs.Runs.{Opening, Run, IsRunOf, schedule_of}
 use Rattle.xt_exec.specs.State.{State}
-use Rattle.xt_exec.specs.Turn.{demand, turn}
 use Rattle.xt_exec.specs.Chips.{processor}
-use Rattle.xt_frames.specs.Frames.{FrameState}
-use Rattle.xt_frames.specs.Breaches.{Bounds}
 use Rattle.xt_simulation.specs.Vectors.{Handlers}
-use Rattle.xt_simulation.specs.InHandlers.{IsGood}
-use Rattle.xt_simulation.specs.Steps.{reply_at, memory_after_step, record_now, state_now, memory_now}
-use Rattle.xt_frames.specs.Judging.{Standing, Seen, Handled, Judges, Breaks}
-use Rattle.xt_simulation.specs.Walking.{Entered, World, Moved, entered_by, moved_by, move, Apart}
-use Rattle.xt_simulation.specs.Opening.{Openings, IsOpening, IsStack, AreSmall, IsRunnable, OpensAlike, bounds0, bounds1, state0, state1, frame0, frame1, memory_of, frame_of, opening_core, opening_world, openings_of, range_of}
-use Rattle.xt_frames.specs.Verdict.{Known, Judgement, entry_of, judgement, opening_known, past_handled_0, past_handled_1, past_judged_0, past_judged_1, seen_0, seen_1, passed_0, passed_1, IsFrameRun}
-use Rattle.xt_simulation.specs.Headline.{IsCovered, StretchesMoveFrames, TurnsAreFrames, WalksAreFrames, RunsAreFrames, WindowsAreFrames, AreFrames, opening_of, judged_in, records0, records1}
-use Rattle.xt_simulation.proofs.Walk.{both_end, InCore, Holds, moved0_keeps, moved1_keeps, move0_keeps, move1_keeps, walked_keeps, frame_run}
-use Rattle.xt_simulation.proofs.Opened.{dram_of, opening_related, stack_shaped, opening_links, opening_is_memory}
+use Rattle.xt_simulation.specs.Walking.{Apart}
+use Rattle.xt_simulation.specs.Opening.{IsOpening, IsStack, AreSmall, IsRunnable, openings_of, range_of}
+use Rattle.xt_simulation.specs.Headline.{IsCovered, WindowsAreFrames, AreFrames, opening_of, judged_in, records0, records1}
 use Rattle.xt_simulation.specs.Headline.{HaveMovedFrames, StretchesOfImages}
 use Rattle.xt_simulation.proofs.Headline.{runs_are_frames}
 use Rattle.xt_simulation.proofs.Positions.{stretches_of_runs}

@@ -163,8 +163,8 @@ StretchesOfImages =
     → Apart (openings_of segments entry o).range0 (openings_of segments entry o).range1
     → IsRunOfImage segments entry o r
     → HaveMovedFrames
-        (openings_of segments entry o)
-        (constant_byte segments)
-        o.turns0
-        o.turns1
-        (short_schedule r)
+    (openings_of segments entry o)
+    (constant_byte segments)
+    o.turns0
+    o.turns1
+    (short_schedule r)

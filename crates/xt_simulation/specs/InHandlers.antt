@@ -1,7 +1,7 @@
 -- What holds of a core inside handler steps. All of the relation but the contents of memory is said
 -- of the state before the record of the window exception; of the state now: PC and how much of the
 -- handler is left, the special registers, and what the handler has moved so far.
-use Rattle.std.specs.Prelude.{◌≡◌, ◌≤◌, ◌<◌, ℕ, ◌+◌, ◌*◌, ◌%◌, ◌^◌, Bool, true, false, Option, Some, None, List, [], ◌∷◌, ◌++◌, slice_index_or}
+use Rattle.std.specs.Prelude.{◌≡◌, ◌≤◌, ◌<◌, ℕ, ◌+◌, ◌*◌, ◌%◌, ◌^◌, Bool, true, false, Some, None, List, [], ◌∷◌, ◌++◌, slice_index_or}
 use Rattle.xt_map.specs.declared.contents.MemoryContents.{MemoryContents}
 use Rattle.xt_map.specs.Memory.{byte_at}
 use Rattle.xt_exec.specs.State.{State}
