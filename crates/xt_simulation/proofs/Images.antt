@@ -16,7 +16,7 @@ use Rattle.xt_runs.specs.Short.{ShortRun, IsShortRunOf, short_trace, short_sched
 use Rattle.xt_runs.specs.Runs.{Opening, Run, IsRunOf, schedule_of}
 use Rattle.xt_exec.specs.State.{State}
 use Rattle.xt_exec.specs.Chips.{processor}
-use Rattle.xt_simulation.specs.Vectors.{Handlers}
+use Rattle.xt_handlers.specs.Vectors.{Handlers}
 use Rattle.xt_simulation.specs.Walking.{Apart}
 use Rattle.xt_simulation.specs.Opening.{IsOpening, IsStack, AreSmall, IsRunnable, openings_of, range_of}
 use Rattle.xt_simulation.specs.Headline.{IsCovered, WindowsAreFrames, AreFrames, opening_of, judged_in, records0, records1}

@@ -15,7 +15,7 @@ use Rattle.xt_runs.specs.Worlds as worlds
 use Rattle.xt_exec.specs.State.{State}
 use Rattle.xt_exec.specs.Chips.{processor}
 use Rattle.xt_frames.specs.Verdict.{Judgement, judgement, opening_known, IsFrameRun}
-use Rattle.xt_simulation.specs.Vectors.{Handlers}
+use Rattle.xt_handlers.specs.Vectors.{Handlers}
 use Rattle.xt_simulation.specs.Walking.{World, walked, EndsWell, IsWorldRun, Apart}
 use Rattle.xt_simulation.specs.Opening.{Openings, IsOpening, bounds0, bounds1, state0, state1, frame0, frame1, memory_of, frame_of, opening_world, openings_of, IsRunnable}
 

@@ -23,7 +23,7 @@ use Rattle.xt_stretch.specs.Needs.{save_word}
 use Rattle.xt_stretch.specs.Meaning.{address_of}
 use Rattle.xt_stretch.specs.Running.{Machine, word_at}
 use Rattle.xt_stretch.specs.Kept.{Stands, Handles, IsElsewhere}
-use Rattle.xt_simulation.specs.Vectors.{vector_at, vector_bytes, Handlers}
+use Rattle.xt_handlers.specs.Vectors.{vector_at, vector_bytes, Handlers}
 use Rattle.xt_simulation.specs.Steps.{state_now, memory_now, machine}
 
 -- the stack range lies in data memory
