@@ -16,9 +16,11 @@ use Rattle.xt_exec.specs.Turn.{has_windows, looks, window_check, window_exceptio
 -- WINDOWBASE and WINDOWSTART as the return answers
 pub record IsReturnOf (s : State) (a0 : ℕ) : Type 0 where
   pub base : return_of s.start s.base (return_size a0) ≢ Bad
-      → (returned a0 s).after.base ≡ base_past (return_of s.start s.base (return_size a0)) s.base (return_size a0)
+      → (returned a0 s).after.base ≡ base_past (return_of s.start s.base (return_size a0)) s.base
+      (return_size a0)
   pub start : return_of s.start s.base (return_size a0) ≢ Bad
-      → (returned a0 s).after.start ≡ start_past (return_of s.start s.base (return_size a0)) s.start s.base
+      → (returned a0 s).after.start ≡ start_past (return_of s.start s.base (return_size a0)) s.start
+      s.base
 
 abbrev pub ReturnsAnswer : Type 0
 ReturnsAnswer = (s : State) (a0 : ℕ) → IsReturnOf s a0
@@ -27,7 +29,8 @@ abbrev pub IllegalReturnsAreBad : Type 0
 IllegalReturnsAreBad =
     (s : State)
     → illegal_return s
-    ≡ ((return_size (visible s.regs s.base 0) == 0 || disagrees s.start s.base (return_size (visible s.regs s.base 0)))
+    ≡
+    ((return_size (visible s.regs s.base 0) == 0 || disagrees s.start s.base (return_size (visible s.regs s.base 0)))
     || not (has_windows s.control.ps))
 
 -- the overflow that the window check finds is the one that the crate of windows answers

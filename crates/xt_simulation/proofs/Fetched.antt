@@ -13,7 +13,7 @@ use Rattle.xt_stretch.specs.declared.HandlerVerdict.TheVariants.{Yes, No}
 use Rattle.xt_stretch.specs.Spelled.{step_of_spelled, step_of, lines_of}
 use Rattle.xt_stretch.specs.Handling.{handling}
 use Rattle.xt_stretch.specs.Kept.{step_at}
-use Rattle.xt_simulation.specs.Vectors.{vector_at, vector_bytes, verdict_of}
+use Rattle.xt_handlers.specs.Vectors.{vector_at, vector_bytes, verdict_of}
 
 -- ---- the bytes of a vector
 pub bytes_length : (code : ℕ → ℕ) (a n : ℕ) → length (code_bytes code a n) ≡ n

@@ -59,7 +59,7 @@ use Rattle.xt_stretch.proofs.Runs.{stands_first}
 use Rattle.xt_stretch.proofs.Turning.{turns, done, spared}
 use Rattle.xt_stretch.proofs.Changed.{others_stay_above}
 use Rattle.xt_stretch.proofs.Joins.{save_low, save_high}
-use Rattle.xt_simulation.specs.Vectors.{vector_number, vector_at, vector_bytes, verdict_of, Handlers}
+use Rattle.xt_handlers.specs.Vectors.{vector_number, vector_at, vector_bytes, verdict_of, Handlers}
 use Rattle.xt_simulation.specs.Steps.{state_now, memory_now, machine}
 use Rattle.xt_simulation.specs.InHandlers.{InDram, Somewhere, Begins, start_of, Untouched, Handling, Stretch, Settles, MovesFrame, above, IsGood, HandlerStep, steps_on, closes_stretch}
 use Rattle.xt_simulation.specs.HandlerLaws.{StretchesAreEntered, HandlerStepsAreKept, HandlersAreSpared}

@@ -1,5 +1,5 @@
 -- The judged part of a run is a run of the machine with unbounded frames.
-use Rattle.std.proofs.Common.{◌≡◌, ℕ, zero, suc, ◌-◌, ◌<◌, ◌^◌, Bool, true, false, cond, Option, Some, None, List, [], ◌∷◌, ◌++◌, sym, ap, ◌∙◌, refl, arith, subst}
+use Rattle.std.proofs.Common.{◌≡◌, ℕ, zero, suc, ◌<◌, Bool, Option, Some, None, List, [], ◌∷◌, ◌++◌, sym, ap, ◌∙◌, refl, arith, subst}
 use Rattle.std.proofs.lemmas.List.{append-nil}
 use Rattle.xt_map.specs.declared.access.Access.{Access}
 use Rattle.xt_map.specs.declared.contents.MemoryContents.{MemoryContents}
@@ -10,22 +10,10 @@ use Rattle.xt_rows.specs.Laws.{AreBytes}
 use Rattle.xt_runs.specs.Alone.{answer}
 use Rattle.xt_runs.specs.Worlds as worlds
 use Rattle.xt_runs.specs.Worlds.{give, core_given, line_given}
-use Rattle.xt_map.specs.declared.segment.Segment.{Segment}
-use Rattle.std.specs.Prelude.{find, slice_index}
-use Rattle.std.specs.Option.{option_map_or}
-use Rattle.xt_map.specs.Memory.{constant_byte, loaded_byte, holds_address}
-use Rattle.xt_map.specs.Regions.{region_of, is_constant}
-use Rattle.xt_map.specs.History.{replies_of}
-use Rattle.xt_trace.specs.declared.options.Stack.{Stack}
-use Rattle.xt_trace.specs.declared.options.Options.{Options}
-use Rattle.xt_trace.specs.Validity.{IsValidStack}
 use Rattle.xt_window.specs.Ring.{cleared_regs}
-use Rattle.xt_runs.specs.Traces.{trace_over}
-use Rattle.xt_runs.specs.Schedule.{schedule, cores_of}
-use Rattle.xt_runs.specs.Short.{ShortRun, IsShortRunOf, short_trace, short_schedule}
 use Rattle.xt_exec.specs.State.{opening_state, opening_regs}
 use Rattle.xt_frames.specs.Frames.{opening_seen}
-use Rattle.xt_runs.specs.Runs.{Opening, Run, IsRunOf, opened, schedule_of}
+use Rattle.xt_runs.specs.Runs.{opened, schedule_of}
 use Rattle.xt_runs.proofs.Walks.{own_walk}
 use Rattle.xt_runs.specs.Walks.{IsWalk, next_record}
 use Rattle.xt_exec.specs.State.{State}
@@ -33,18 +21,18 @@ use Rattle.xt_exec.specs.Turn.{demand, turn}
 use Rattle.xt_exec.specs.Chips.{processor}
 use Rattle.xt_frames.specs.Frames.{FrameState}
 use Rattle.xt_frames.specs.Breaches.{Bounds}
-use Rattle.xt_simulation.specs.Vectors.{Handlers}
+use Rattle.xt_handlers.specs.Vectors.{Handlers}
 use Rattle.xt_simulation.specs.InHandlers.{IsGood}
 use Rattle.xt_simulation.specs.Steps.{reply_at, memory_after_step, record_now, state_now, memory_now}
 use Rattle.xt_frames.specs.Judging.{Standing, Seen, Handled, Judges, Breaks}
 use Rattle.xt_simulation.specs.Walking.{Entered, World, Moved, entered_by, moved_by, move, Apart}
-use Rattle.xt_simulation.specs.Opening.{Openings, IsOpening, IsStack, AreSmall, IsRunnable, OpensAlike, bounds0, bounds1, state0, state1, frame0, frame1, memory_of, frame_of, opening_core, opening_world, openings_of, range_of}
+use Rattle.xt_simulation.specs.Opening.{Openings, IsOpening, OpensAlike, bounds0, bounds1, state0, state1, frame0, frame1, memory_of, frame_of, opening_core, opening_world}
 use Rattle.xt_frames.specs.Verdict.{Known, Judgement, entry_of, judgement, opening_known, past_handled_0, past_handled_1, past_judged_0, past_judged_1, seen_0, seen_1, passed_0, passed_1, IsFrameRun}
-use Rattle.xt_simulation.specs.Headline.{IsCovered, StretchesMoveFrames, TurnsAreFrames, WalksAreFrames, RunsAreFrames, WindowsAreFrames, AreFrames, opening_of, judged_in, records0, records1}
+use Rattle.xt_simulation.specs.Headline.{StretchesMoveFrames, TurnsAreFrames, WalksAreFrames, RunsAreFrames, opening_of}
 use Rattle.xt_simulation.proofs.Walk.{both_end, InCore, Holds, moved0_keeps, moved1_keeps, move0_keeps, move1_keeps, walked_keeps, frame_run}
 use Rattle.xt_simulation.proofs.Opened.{dram_of, opening_related, stack_shaped, opening_links, opening_is_memory}
 
-good_of : (o : Openings) (code : ℕ → ℕ) → IsOpening o → Handlers code o.vecbase → IsGood code (bounds0 o) × IsGood code (bounds1 o)
+pub good_of : (o : Openings) (code : ℕ → ℕ) → IsOpening o → Handlers code o.vecbase → IsGood code (bounds0 o) × IsGood code (bounds1 o)
 good_of o code i h = (
   record { dram = dram_of (bounds0 o) i.stack0; aligned = i.aligned; handlers = h },
   record { dram = dram_of (bounds1 o) i.stack1; aligned = i.aligned; handlers = h },
@@ -55,7 +43,7 @@ none_legal : (m : MemoryContents) → IsLegal m []
 none_legal m zero e h = absurd cc
 none_legal m (suc k) e h = absurd cc
 
-opening_holds : (o : Openings) (code : ℕ → ℕ) (bytes : AreBytes code) → IsOpening o → Apart o.range0 o.range1 → Holds code bytes (bounds0 o) (bounds1 o) (memory_of o) (frame_of (state0 o)) (frame_of (state1 o)) (opening_world o)
+pub opening_holds : (o : Openings) (code : ℕ → ℕ) (bytes : AreBytes code) → IsOpening o → Apart o.range0 o.range1 → Holds code bytes (bounds0 o) (bounds1 o) (memory_of o) (frame_of (state0 o)) (frame_of (state1 o)) (opening_world o)
 unfolding InCore
 opening_holds o code bytes i apart =
     let links = opening_links o.segments o.range0 o.range1 i.stack0 i.stack1 apart in
@@ -114,11 +102,11 @@ module _ (code : ℕ → ℕ) where
   next_is : (k : worlds.Core State) (l : worlds.Line) → next_record (processor code) k l ≡ record_now code l.memory k.state
   next_is k l = ap (λ r. (turn code k.state r).0) (same_answer (demand code k.state) l.memory)
 
-  core_next : (k : worlds.Core State) (l : worlds.Line) (n : ℕ) → k.left ≡ n → 0 < n → (core_given (processor code) n k l).state ≡ state_now code l.memory k.state
+  pub core_next : (k : worlds.Core State) (l : worlds.Line) (n : ℕ) → k.left ≡ n → 0 < n → (core_given (processor code) n k l).state ≡ state_now code l.memory k.state
   core_next k l zero e pos = absurd (omega arith)
   core_next k l (suc n) e pos = ap (λ r. (turn code k.state r).1) (same_answer (demand code k.state) l.memory)
 
-  line_next : (c : ℕ) (k : worlds.Core State) (l : worlds.Line) (n : ℕ) → 0 < n → (line_given (processor code) c n k l).memory ≡ memory_now code l.memory k.state
+  pub line_next : (c : ℕ) (k : worlds.Core State) (l : worlds.Line) (n : ℕ) → 0 < n → (line_given (processor code) c n k l).memory ≡ memory_now code l.memory k.state
   line_next c k l zero pos = absurd (omega arith)
   line_next c k l (suc n) pos = line_memory c (demand code k.state) l
 
@@ -237,61 +225,3 @@ walks_are_frames o code turns0 turns1 c cores xs ys walk =
 pub runs_are_frames : RunsAreFrames
 runs_are_frames o code turns0 turns1 r c run =
     walks_are_frames o code turns0 turns1 c (schedule_of r) r.trace0.records r.trace1.records (own_walk (processor code) (opening_of o turns0 turns1) r run)
-
--- ---- a run of an image
--- the run with its records
-with_records : (o : Opening State) (code : ℕ → ℕ) → ShortRun State → Run State
-with_records o code r = record {
-  history = r.history;
-  trace0 = trace_over (processor code) o.state0 o.turns0 (replies_of 0 r.history);
-  trace1 = trace_over (processor code) o.state1 o.turns1 (replies_of 1 r.history);
-}
-
-is_run : (o : Opening State) (code : ℕ → ℕ) (r : ShortRun State) → IsShortRunOf (processor code) o r → IsRunOf (processor code) o (with_records o code r)
-unfolding with_records
-is_run o code r h = record { legal = h.legal; cores = h.cores; trace0 = refl; trace1 = refl; calls0 = h.calls0; calls1 = h.calls1 }
-
-same_schedule : (o : Opening State) (code : ℕ → ℕ) (r : ShortRun State) → IsShortRunOf (processor code) o r → schedule_of (with_records o code r) ≡ short_schedule r
-unfolding with_records
-same_schedule o code r h = ap (λ t. schedule (cores_of r.history) t.places t.count (short_trace (with_records o code r).trace1).places (short_trace (with_records o code r).trace1).count) (sym h.trace0)
-    ∙ ap (λ t. schedule (cores_of r.history) r.trace0.places r.trace0.count t.places t.count) (sym h.trace1)
-
-first_small : (b : Bool) (s : Segment) (o : Option Segment) (f : Segment → ℕ) → f s < 2 ^ 8 → option_map_or f o 0 < 2 ^ 8 → option_map_or f (cond b (Some s) o) 0 < 2 ^ 8
-first_small true s o f p q = p
-first_small false s o f p q = q
-
-small_byte : (segments : List Segment) (a : ℕ) → AreSmall segments → loaded_byte segments a < 2 ^ 8
-small_byte [] a h = omega arith
-small_byte (s ∷ rest) a h = first_small (holds_address a s) s (find (holds_address a) rest) (λ (s : Segment). slice_index s.bytes (a - s.addr)) (h.0 (a - s.addr)) (small_byte rest a h.1)
-
-constant_bytes : (segments : List Segment) → AreSmall segments → AreBytes (constant_byte segments)
-unfolding constant_byte
-constant_bytes segments h a = if_small (is_constant (region_of a))
-  where
-    if_small : (b : Bool) → cond b (loaded_byte segments a) 0 < 2 ^ 8
-    if_small true = small_byte segments a h
-    if_small false = omega arith
-
-stack_of : (s : Stack) → IsValidStack s → IsStack (range_of s)
-stack_of s v = record { low = v.low; high = v.high; low_aligned = v.lo_aligned; high_aligned = v.hi_aligned; room = v.size }
-
-is_opening : (segments : List Segment) (entry : ℕ) (o : Options) → IsRunnable segments entry o → IsOpening (openings_of segments entry o)
-is_opening segments entry o h = record {
-  stack0 = stack_of o.stack0 h.valid.stack0;
-  stack1 = stack_of o.stack1 h.valid.stack1;
-  aligned = h.valid.vecbase;
-  vectors = h.vecbase;
-  segments = h.bytes;
-  entry0 = h.entry0;
-  entry1 = h.entry1;
-}
-
-pub windows_are_frames : WindowsAreFrames
-unfolding with_records
-windows_are_frames segments entry o r given handlers apart run =
-    let at = openings_of segments entry o in
-    let code = constant_byte segments in
-    let opening : Opening State = opening_of at o.turns0 o.turns1 in
-    let covered : IsCovered at code = record { opening = is_opening segments entry o given; bytes = constant_bytes segments given.bytes; handlers = handlers; apart = apart } in
-    let P : List ℕ → Type 0 = λ cores. AreFrames at code (judged_in at code cores (records0 at code o.turns0 r) (records1 at code o.turns1 r)) in
-    subst P (same_schedule opening code r run) (runs_are_frames at code o.turns0 o.turns1 (with_records opening code r) covered (is_run opening code r run))

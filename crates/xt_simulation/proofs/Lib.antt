@@ -26,3 +26,5 @@ pub mod Judges
 pub mod Opened
 pub mod Served
 pub mod Walk
+pub mod Positions
+pub mod Images

@@ -1,7 +1,7 @@
 -- Equal values give equal outcomes, and an effect applied to both machines keeps them level.
-use Rattle.std.proofs.Common.{◌≡◌, ℕ, ◌+◌, ◌/◌, ◌<◌, ◌≢◌, Bool, true, false, ◌&&◌, not, eqb, List, Option, Some, None, sym, ap, ◌∙◌, refl, arith, get_or}
+use Rattle.std.proofs.Common.{◌≡◌, ℕ, ◌+◌, ◌/◌, ◌<◌, ◌≢◌, Bool, true, false, List, Option, Some, None, sym, ap, ◌∙◌, refl, arith, get_or}
 use Rattle.std.specs.Prelude.{unwrap_or}
-use Rattle.std.proofs.lemmas.Bool.{eq-eqb, true≢false, or_parts, and_from}
+use Rattle.std.proofs.lemmas.Bool.{or_parts}
 use Rattle.std.proofs.lemmas.List.{get_or-set_other}
 use Rattle.xt_isa.specs.declared.Insn.{Insn}
 use Rattle.xt_special.specs.Numbers as number

@@ -1,3 +1,4 @@
+-- Carries a proof; nothing that a reader must believe.
 -- One core outside handler steps, with memory as bytes by address.
 use Rattle.std.specs.Prelude.{◌≡◌, ◌≤◌, ◌<◌, ℕ, ◌+◌, ◌*◌, Bool, true, List, [], ◌∷◌, ◌⊎◌}
 use Rattle.xt_exec.specs.State.{State}
@@ -12,7 +13,9 @@ use Rattle.xt_simulation.specs.Relation.{Plain}
 abbrev pub word : (ℕ → ℕ) → ℕ → ℕ
 word m a = m a + 256 * m (a + 1) + 65536 * m (a + 2) + 16777216 * m (a + 3)
 
-pub record Related (m : ℕ → ℕ) (b : Bounds) (lost : ℕ → Bool) (s : State) (f : FrameState) (ring spilled : List Frame) : Type 0 where
+pub record Related
+    (m : ℕ → ℕ) (b : Bounds) (lost : ℕ → Bool) (s : State) (f : FrameState)
+    (ring spilled : List Frame) : Type 0 where
   pub plain : Plain b.vecbase lost s f ring spilled
   pub stack : Stack b.range.lo b.range.hi f.seen f.frames
   pub saved : Saved (word m) b.range.hi (sp_under (known f.seen 1) ring) spilled
@@ -31,4 +34,6 @@ SavedInAreas =
 
 -- a core's live areas lie in its stack range, so those of ranges that are apart are apart
 abbrev pub LiveInRange : Type 0
-LiveInRange = (r : Range) (f : FrameState) (a : ℕ) → Stack r.lo r.hi f.seen f.frames → is_live r f a ≡ true → (r.lo ≤ a) × (a < r.hi)
+LiveInRange =
+    (r : Range) (f : FrameState) (a : ℕ) → Stack r.lo r.hi f.seen f.frames → is_live r f a ≡ true
+    → (r.lo ≤ a) × (a < r.hi)

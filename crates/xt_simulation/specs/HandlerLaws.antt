@@ -1,5 +1,7 @@
--- What is said of handler steps: entered at the record of a window exception, kept by each step, left at RFWO and RFWU, and not disturbed
--- by an access of the other core that touches no live byte.
+-- Carries a proof; nothing that a reader must believe.
+-- What is said of handler steps: entered at the record of a window exception, kept by each step,
+-- left at RFWO and RFWU, and not disturbed by an access of the other core that touches no live
+-- byte.
 use Rattle.std.specs.Prelude.{◌≡◌, ℕ, Bool, true, None, List}
 use Rattle.xt_map.specs.declared.contents.MemoryContents.{MemoryContents}
 use Rattle.xt_map.specs.Memory.{HasSizes, byte_at}
@@ -20,9 +22,11 @@ use Rattle.xt_simulation.specs.InHandlers.{IsGood, Handling, HandlerStep}
 abbrev pub StretchesAreEntered : Type 0
 StretchesAreEntered =
     (code : ℕ → ℕ) → AreBytes code → (b : Bounds) → IsGood code b
-    → (m : MemoryContents) (lost : ℕ → Bool) (s : State) (f : FrameState) (ring spilled : List Frame) (reply : ℕ)
+    → (m : MemoryContents) (lost : ℕ → Bool) (s : State) (f : FrameState)
+    (ring spilled : List Frame) (reply : ℕ)
     → Related (byte_at m) b lost s f ring spilled → IsShaped s
-    → is_window (planned code s).kind ≡ true → window_breach code (planned code s).kind (laid (inputs reply s) f) ≡ None
+    → is_window (planned code s).kind ≡ true
+    → window_breach code (planned code s).kind (laid (inputs reply s) f) ≡ None
     → (demand code s ≡ None) × Handling code b m (state_now code m s) f s (byte_at m)
 
 abbrev pub HandlerStepsAreKept : Type 0

@@ -1,6 +1,6 @@
--- Windows are frames: the judged part of a run of the processor with windows is a run of the machine
--- with unbounded call frames.
-use Rattle.std.specs.Prelude.{◌≡◌, ℕ, Bool, Some, List}
+-- Windows are frames: the judged part of a run of the processor with windows is a run of the
+-- machine with unbounded call frames.
+use Rattle.std.specs.Prelude.{◌≡◌, ℕ, zero, suc, Bool, true, false, Some, List, [], ◌∷◌, take}
 use Rattle.xt_map.specs.declared.segment.Segment.{Segment}
 use Rattle.xt_map.specs.Memory.{constant_byte}
 use Rattle.xt_map.specs.History.{replies_of}
@@ -10,11 +10,12 @@ use Rattle.xt_rows.specs.Laws.{AreBytes}
 use Rattle.xt_runs.specs.Traces.{trace_over}
 use Rattle.xt_runs.specs.Runs.{Opening, Run, opened, IsRunOf, schedule_of}
 use Rattle.xt_runs.specs.Short.{ShortRun, IsShortRunOf, short_schedule}
-use Rattle.xt_runs.specs.Walks.{IsWalk}
+use Rattle.xt_runs.specs.Walks.{IsWalk, state_at}
+use Rattle.xt_runs.specs.Worlds as worlds
 use Rattle.xt_exec.specs.State.{State}
 use Rattle.xt_exec.specs.Chips.{processor}
 use Rattle.xt_frames.specs.Verdict.{Judgement, judgement, opening_known, IsFrameRun}
-use Rattle.xt_simulation.specs.Vectors.{Handlers}
+use Rattle.xt_handlers.specs.Vectors.{Handlers}
 use Rattle.xt_simulation.specs.Walking.{World, walked, EndsWell, IsWorldRun, Apart}
 use Rattle.xt_simulation.specs.Opening.{Openings, IsOpening, bounds0, bounds1, state0, state1, frame0, frame1, memory_of, frame_of, opening_world, openings_of, IsRunnable}
 
@@ -34,8 +35,8 @@ TurnsAreFrames =
     → walked code (bounds0 o) (bounds1 o) cores (Some (opening_world o)) ≡ Some w
     → IsWorldRun code (memory_of o) (frame_of (state0 o)) (frame_of (state1 o)) w
 
--- and at each place of it, where a core's next turn ends a stretch of handler steps, the stretch has
--- moved one frame
+-- and at each place of it, where a core's next turn ends a stretch of handler steps, the stretch
+-- has moved one frame
 abbrev pub StretchesMoveFrames : Type 0
 StretchesMoveFrames =
     (o : Openings) (code : ℕ → ℕ) → IsCovered o code
@@ -76,6 +77,36 @@ RunsAreFrames =
     (o : Openings) (code : ℕ → ℕ) (turns0 turns1 : ℕ) (r : Run State) → IsCovered o code
     → IsRunOf (processor code) (opening_of o turns0 turns1) r
     → AreFrames o code (judged_in o code (schedule_of r) r.trace0.records r.trace1.records)
+
+-- ---- positions of a run
+
+-- the turns of a schedule: of core 0 where the number is 0
+abbrev pub turns_of : List ℕ → List Bool
+turns_of [] = []
+turns_of (zero ∷ cores) = true ∷ turns_of cores
+turns_of (suc core ∷ cores) = false ∷ turns_of cores
+
+-- the walk stands where the run does
+pub record StandsAt (w : World) (v : worlds.World State) : Type 0 where
+  pub state0 : w.core0.state ≡ v.core0.state
+  pub state1 : w.core1.state ≡ v.core1.state
+  pub memory : w.memory ≡ v.line.memory
+
+abbrev pub HaveMovedFrames : Openings → (ℕ → ℕ) → ℕ → ℕ → List ℕ → Type 0
+HaveMovedFrames o code turns0 turns1 cores =
+    (p : ℕ) (w : World)
+    → walked code (bounds0 o) (bounds1 o) (turns_of (take p cores)) (Some (opening_world o)) ≡ Some w
+    → StandsAt w (state_at (processor code) (opening_of o turns0 turns1) cores p)
+    × EndsWell code (bounds0 o) w.memory w.core0
+    × EndsWell code (bounds1 o) w.memory w.core1
+
+-- Whole stretches of a run: at each position p before the first breach the walk stands where the run
+-- does, and where a core's next turn ends a stretch of handler steps, the stretch has moved one frame.
+abbrev pub StretchesOfRuns : Type 0
+StretchesOfRuns =
+    (o : Openings) (code : ℕ → ℕ) (turns0 turns1 : ℕ) (r : Run State) → IsCovered o code
+    → IsRunOf (processor code) (opening_of o turns0 turns1) r
+    → HaveMovedFrames o code turns0 turns1 (schedule_of r)
 
 -- ---- a run of an image, of which the history and the places of the accesses are kept
 
@@ -122,3 +153,18 @@ WindowsAreFrames =
     (openings_of segments entry o)
     (constant_byte segments)
     (judgement_of segments entry o r)
+
+-- and its whole stretches of handler steps have each moved one frame
+abbrev pub StretchesOfImages : Type 0
+StretchesOfImages =
+    (segments : List Segment) (entry : ℕ) (o : Options) (r : ShortRun State)
+    → IsRunnable segments entry o
+    → Handlers (constant_byte segments) o.vecbase
+    → Apart (openings_of segments entry o).range0 (openings_of segments entry o).range1
+    → IsRunOfImage segments entry o r
+    → HaveMovedFrames
+    (openings_of segments entry o)
+    (constant_byte segments)
+    o.turns0
+    o.turns1
+    (short_schedule r)

@@ -1,6 +1,7 @@
--- What holds of a core inside handler steps. All of the relation but the contents of memory is said of the state before the record of the
--- window exception; of the state now: PC and how much of the handler is left, the special registers, and what the handler has moved so far.
-use Rattle.std.specs.Prelude.{◌≡◌, ◌≤◌, ◌<◌, ℕ, ◌+◌, ◌*◌, ◌%◌, ◌^◌, Bool, true, false, Option, Some, None, List, [], ◌∷◌, ◌++◌, slice_index_or}
+-- What holds of a core inside handler steps. All of the relation but the contents of memory is said
+-- of the state before the record of the window exception; of the state now: PC and how much of the
+-- handler is left, the special registers, and what the handler has moved so far.
+use Rattle.std.specs.Prelude.{◌≡◌, ◌≤◌, ◌<◌, ℕ, ◌+◌, ◌*◌, ◌%◌, ◌^◌, Bool, true, false, Some, None, List, [], ◌∷◌, ◌++◌, slice_index_or}
 use Rattle.xt_map.specs.declared.contents.MemoryContents.{MemoryContents}
 use Rattle.xt_map.specs.Memory.{byte_at}
 use Rattle.xt_exec.specs.State.{State}
@@ -22,7 +23,7 @@ use Rattle.xt_stretch.specs.Needs.{save_word}
 use Rattle.xt_stretch.specs.Meaning.{address_of}
 use Rattle.xt_stretch.specs.Running.{Machine, word_at}
 use Rattle.xt_stretch.specs.Kept.{Stands, Handles, IsElsewhere}
-use Rattle.xt_simulation.specs.Vectors.{vector_at, vector_bytes, Handlers}
+use Rattle.xt_handlers.specs.Vectors.{vector_at, vector_bytes, Handlers}
 use Rattle.xt_simulation.specs.Steps.{state_now, memory_now, machine}
 
 -- the stack range lies in data memory
@@ -37,14 +38,16 @@ pub record IsGood (code : ℕ → ℕ) (b : Bounds) : Type 0 where
   pub handlers : Handlers code b.vecbase
 
 -- outside handler steps: some frames stand in the ring, and the others are spilled
-pub record Somewhere (m : ℕ → ℕ) (b : Bounds) (lost : ℕ → Bool) (s : State) (f : FrameState) : Type 0 where
+pub record Somewhere
+    (m : ℕ → ℕ) (b : Bounds) (lost : ℕ → Bool) (s : State) (f : FrameState) : Type 0 where
   pub ring : List Frame
   pub spilled : List Frame
   pub related : Related m b lost s f ring spilled
 
--- Where a stretch began. The frame g is moved: of an overflow it is the oldest in the ring, below `front`; of an underflow the newest
--- spilled one. In both, `rest` are the frames below it.
-abbrev pub Begins : Side → (ℕ → ℕ) → Bounds → (ℕ → Bool) → State → FrameState → List Frame → Frame → List Frame → Type 0
+-- Where a stretch began. The frame g is moved: of an overflow it is the oldest in the ring, below
+-- `front`; of an underflow the newest spilled one. In both, `rest` are the frames below it.
+abbrev pub Begins : Side → (ℕ → ℕ) → Bounds → (ℕ → Bool) → State → FrameState → List Frame → Frame
+    → List Frame → Type 0
 Begins Overflow m b lost s f front g rest = Related m b lost s f (front ++ g ∷ []) rest
 Begins Underflow m b lost s f front g rest = Related m b lost s f [] (g ∷ rest)
 
@@ -78,23 +81,32 @@ pub record Handling
   pub flags : List Bool
   pub pc : s.control.pc ≡ vector_at b.vecbase side g.by + offset
   pub handles : Handles side g.by (vector_bytes code (vector_at b.vecbase side g.by)) offset effect
-  -- PC aside, what the control state was, with EPC1, PS.OWB and exception mode of the window exception
+  -- PC aside, what the control state was, with EPC1, PS.OWB and exception mode of the window
+  -- exception
   pub control : InHandler before.control s.control before.base
   pub bits : s.start ≡ before.start
   -- what was moved so far
   pub stands : Stands side g.by (start_of before opened rest) effect flags (machine m s)
   -- its own live bytes, but those that it stores
-  pub kept : (a : ℕ) → is_live b.range f a ≡ true → Untouched side g.by (start_of before opened rest) a → byte_at m a ≡ opened a
+  pub kept : (a : ℕ) → is_live b.range f a ≡ true
+      → Untouched side g.by (start_of before opened rest) a → byte_at m a ≡ opened a
 
--- What a whole stretch has done, from the state before its record of a window exception to the one after its RFWO or RFWU: PC, the window,
--- PS but OWB, the special registers but EPC1, CCOUNT and INTERRUPT, and all registers but the moved frame's own are as before; one bit of
--- WINDOWSTART is cleared or set; and the frame's registers stand in its save areas, or have come from there.
-pub record Stretch (side : Side) (n : ℕ) (before after : State) (opened now : ℕ → ℕ) (rest : List Frame) : Type 0 where
+-- What a whole stretch has done, from the state before its record of a window exception to the one
+-- after its RFWO or RFWU: PC, the window, PS but OWB, the special registers but EPC1, CCOUNT and
+-- INTERRUPT, and all registers but the moved frame's own are as before; one bit of WINDOWSTART is
+-- cleared or set; and the frame's registers stand in its save areas, or have come from there.
+pub record Stretch
+    (side : Side) (n : ℕ) (before after : State) (opened now : ℕ → ℕ)
+    (rest : List Frame) : Type 0 where
   pub changes : Changes before after (moved rest) n
   pub overflow_bit : side ≡ Overflow → after.start ≡ without_bit before.start (moved rest)
   pub underflow_bit : side ≡ Underflow → after.start ≡ with_bit before.start (moved rest)
-  pub saved : side ≡ Overflow → (k : ℕ) → k < 4 * n → word_at now (address_of (start_of before opened rest) (save_word Overflow n k)) ≡ visible before.regs (moved rest % 16) k
-  pub loaded : side ≡ Underflow → (k : ℕ) → k < 4 * n → visible after.regs (moved rest % 16) k ≡ word_at opened (address_of (start_of before opened rest) (save_word Underflow n k))
+  pub saved : side ≡ Overflow → (k : ℕ) → k < 4 * n
+      → word_at now (address_of (start_of before opened rest) (save_word Overflow n k)) ≡ visible
+      before.regs (moved rest % 16) k
+  pub loaded : side ≡ Underflow → (k : ℕ) → k < 4 * n
+      → visible after.regs (moved rest % 16) k ≡ word_at opened
+      (address_of (start_of before opened rest) (save_word Underflow n k))
 
 -- the relation after it
 abbrev pub Settles :

@@ -1,3 +1,4 @@
+-- Carries a proof; nothing that a reader must believe.
 -- A judged step of one core over both memories.
 use Rattle.std.specs.Prelude.{◌≡◌, ℕ, Bool}
 use Rattle.xt_map.specs.declared.contents.MemoryContents.{MemoryContents}
@@ -13,8 +14,10 @@ use Rattle.xt_simulation.specs.Steps.{reply_at, memory_after_step, record_now, s
 use Rattle.xt_simulation.specs.InHandlers.{Somewhere}
 use Rattle.xt_simulation.specs.Memories.{Agree}
 
--- PC, kind, write and access of the record are those of the frame step, and the frame machine's memory gives its reply
-pub record Matches (pc : ℕ) (rec : StepRecord) (u : FrameTurn) (framed : MemoryContents) : Type 0 where
+-- PC, kind, write and access of the record are those of the frame step, and the frame machine's
+-- memory gives its reply
+pub record Matches
+    (pc : ℕ) (rec : StepRecord) (u : FrameTurn) (framed : MemoryContents) : Type 0 where
   pub place : rec.pc ≡ pc
   pub kind : rec.kind ≡ u.kind
   pub write : rec.write ≡ shown u.write
@@ -22,9 +25,14 @@ pub record Matches (pc : ℕ) (rec : StepRecord) (u : FrameTurn) (framed : Memor
   pub reply : rec.reply ≡ reply_at framed u.access
 
 -- after a judged step
-pub record After (code : ℕ → ℕ) (b : Bounds) (fresh : Bool) (s : State) (f : FrameState) (m framed : MemoryContents) (others stale : ℕ → Bool) : Type 0 where
-  pub same : Matches f.control.pc (record_now code m s) (step_on code (record_now code m s) f) framed
-  pub somewhere : Somewhere (byte_at (memory_now code m s)) b (lost_of (fresh_on fresh code (record_now code m s) f)) (state_now code m s) (step_on code (record_now code m s) f).after
+pub record After
+    (code : ℕ → ℕ) (b : Bounds) (fresh : Bool) (s : State) (f : FrameState)
+    (m framed : MemoryContents) (others stale : ℕ → Bool) : Type 0 where
+  pub same : Matches f.control.pc (record_now code m s) (step_on code (record_now code m s) f)
+      framed
+  pub somewhere : Somewhere (byte_at (memory_now code m s)) b
+      (lost_of (fresh_on fresh code (record_now code m s) f)) (state_now code m s)
+      (step_on code (record_now code m s) f).after
   pub agree : Agree (live_of b (step_on code (record_now code m s) f).after others)
       (stale_after (live_of b (step_on code (record_now code m s) f).after others) (live_of b f others) stale (record_now code m s).access)
       (memory_now code m s) (memory_after_step framed (step_on code (record_now code m s) f).access)

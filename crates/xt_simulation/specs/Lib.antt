@@ -9,7 +9,6 @@ pub mod InHandlers
 pub mod HandlerLaws
 pub mod Memories
 pub mod Steps
-pub mod Vectors
 pub mod Headline
 pub mod Judges
 pub mod Opening

@@ -20,13 +20,20 @@ abbrev pub values_from : (ℕ → ℕ) → ℕ → ℕ → List (Option ℕ)
 values_from f i zero = []
 values_from f i (suc n) = Some (f i) ∷ values_from f (suc i) n
 
--- the frame state of a processor's state without callers: its 16 visible registers, no frame, and the
--- same special registers
+-- the frame state of a processor's state without callers: its 16 visible registers, no frame, and
+-- the same special registers
 abbrev pub frame_of : State → FrameState
-frame_of s = record { seen = values_from (visible s.regs s.base) 0 16; frames = []; control = s.control }
+frame_of s =
+    record { seen = values_from (visible s.regs s.base) 0 16; frames = []; control = s.control }
 
 abbrev pub opening_core : State → Core
-opening_core s = record { state = s; entered = record { before = s; opened = λ a. 0 }; standing = opening_standing (frame_of s); judged = [] }
+opening_core s =
+    record {
+      state = s;
+      entered = record { before = s; opened = λ a. 0 };
+      standing = opening_standing (frame_of s);
+      judged = [];
+    }
 
 -- what a run opens with
 pub record Openings : Type 0 where
@@ -62,10 +69,19 @@ OpensAlike =
     → frame_of (opening_state core pc vecbase stack_end) ≡ opening_frame core pc vecbase stack_end
 
 abbrev pub memory_of : Openings → MemoryContents
-memory_of o = opening_memory o.segments ((o.range0.hi - 76, o.range0.hi) ∷ (o.range1.hi - 76, o.range1.hi) ∷ [])
+memory_of o =
+    opening_memory o.segments
+    ((o.range0.hi - 76, o.range0.hi) ∷ (o.range1.hi - 76, o.range1.hi) ∷ [])
 
 abbrev pub opening_world : Openings → World
-opening_world o = record { core0 = opening_core (state0 o); core1 = opening_core (state1 o); memory = memory_of o; stale = λ a. false; entries = [] }
+opening_world o =
+    record {
+      core0 = opening_core (state0 o);
+      core1 = opening_core (state1 o);
+      memory = memory_of o;
+      stale = λ a. false;
+      entries = [];
+    }
 
 -- a stack range: multiples of 16 in data memory
 pub record IsStack (r : Range) : Type 0 where

@@ -1,4 +1,6 @@
--- The chain of stack pointers, that save areas are apart, and what stands in those of the spilled frames.
+-- Carries a proof; nothing that a reader must believe.
+-- The chain of stack pointers, that save areas are apart, and what stands in those of the spilled
+-- frames.
 use Rattle.std.specs.Prelude.{◌≡◌, ℕ, ◌+◌, ◌-◌, ◌*◌, ◌%◌, ◌^◌, ◌<◌, ◌≤◌, ◌⊎◌, true, false, ◌==◌, Option, Some, None, List, [], ◌∷◌, slice_index_or, slice_set, length, take}
 use Rattle.xt_frames.specs.Frames.{Frame, known, seen_after_call, seen_after_return}
 use Rattle.xt_frames.specs.SaveAreas.{Area, areas, sp_of, before}
@@ -39,7 +41,11 @@ EntersStack =
     → small_frame hi (known seen 1) size n frames ≡ false
     → outside lo hi (minus (known seen 1) size) ≡ false
     → (minus (known seen 1) size % 16 == 0) ≡ true
-    → Stack lo hi (slice_set (seen_after_call seen n) 1 (Some (minus (known seen 1) size))) (record { by = n; kept = take (4 * n) seen } ∷ frames)
+    → Stack lo hi (slice_set (seen_after_call seen n) 1 (Some (minus (known seen 1) size)))
+    (record {
+      by = n;
+      kept = take (4 * n) seen;
+    } ∷ frames)
 
 abbrev pub LeavesStack : Type 0
 LeavesStack =
@@ -53,23 +59,31 @@ Rise x [] = Unit {0}
 Rise x (a ∷ more) = (x ≤ a.from) × Rise (a.from + a.size) more
 
 abbrev pub AreasRise : Type 0
-AreasRise = (lo hi : ℕ) (seen : List (Option ℕ)) (frames : List Frame) → Stack lo hi seen frames → Rise lo (areas hi (known seen 1) 1 frames)
+AreasRise =
+    (lo hi : ℕ) (seen : List (Option ℕ)) (frames : List Frame) → Stack lo hi seen frames
+    → Rise lo (areas hi (known seen 1) 1 frames)
 
 -- ---- what stands in the areas of spilled frames
 abbrev pub SavedLow : (ℕ → ℕ) → List (Option ℕ) → ℕ → Type 0
-SavedLow word kept sp = (i v : ℕ) → i < 4 → slice_index_or kept i None ≡ Some v → word (sp - 16 + 4 * i) ≡ v
+SavedLow word kept sp =
+    (i v : ℕ) → i < 4 → slice_index_or kept i None ≡ Some v → word (sp - 16 + 4 * i) ≡ v
 
 abbrev pub SavedHigh : (ℕ → ℕ) → List (Option ℕ) → ℕ → ℕ → Type 0
-SavedHigh word kept n top = (i v : ℕ) → 4 ≤ i → slice_index_or kept i None ≡ Some v → word (top - 16 * n + 4 * (i - 4)) ≡ v
+SavedHigh word kept n top =
+    (i v : ℕ) → 4 ≤ i → slice_index_or kept i None ≡ Some v → word (top - 16 * n + 4 * (i - 4)) ≡ v
 
 -- sp is the stack pointer of the frame that the first of them called
 abbrev pub Saved : (ℕ → ℕ) → ℕ → ℕ → List Frame → Type 0
 Saved word hi sp [] = word (hi - 76) ≡ hi
-Saved word hi sp (g ∷ rest) = SavedLow word g.kept sp × SavedHigh word g.kept g.by (before hi rest) × Saved word hi (sp_of g) rest
+Saved word hi sp (g ∷ rest) =
+    SavedLow word g.kept sp × SavedHigh word g.kept g.by (before hi rest)
+    × Saved word hi (sp_of g) rest
 
 -- the link word below a stack pointer is the caller's
 abbrev pub LinksAreSaved : Type 0
-LinksAreSaved = (word : ℕ → ℕ) (lo hi sp : ℕ) (frames : List Frame) → IsRange lo hi → Chain lo hi sp frames → Saved word hi sp frames → word (sp - 12) ≡ before hi frames
+LinksAreSaved =
+    (word : ℕ → ℕ) (lo hi sp : ℕ) (frames : List Frame) → IsRange lo hi → Chain lo hi sp frames
+    → Saved word hi sp frames → word (sp - 12) ≡ before hi frames
 
 -- an address that lies in no area of the frame that is spilled
 abbrev pub IsElsewhere : ℕ → ℕ → ℕ → ℕ → Type 0

@@ -1,3 +1,4 @@
+-- Carries a proof; nothing that a reader must believe.
 -- A whole stretch of handler steps, by what the handler's stores and loads are.
 use Rattle.std.specs.Prelude.{◌≡◌, ◌≢◌, ℕ, ◌+◌, ◌-◌, ◌*◌, ◌%◌, ◌<◌, ◌≤◌, Bool, true, false, List, [], ◌∷◌, ◌++◌, slice_index, length}
 use Rattle.xt_special.specs.Numbers as number
@@ -14,18 +15,26 @@ use Rattle.xt_simulation.specs.Closing.{Resumes, Changes}
 
 -- the stores of an overflow of n from window w
 pub record Stores (old new : ℕ → ℕ) (s : State) (w n : ℕ) : Type 0 where
-  pub low : (i : ℕ) → i < 4 → word new (visible s.regs w (4 * n + 1) - 16 + 4 * i) ≡ visible s.regs w i
-  pub high : (i : ℕ) → 4 ≤ i → i < 4 * n → word new (word old (visible s.regs w 1 - 12) - 16 * n + 4 * (i - 4)) ≡ visible s.regs w i
-  pub others : (a : ℕ) → IsElsewhere a (visible s.regs w (4 * n + 1)) (word old (visible s.regs w 1 - 12)) n → word new a ≡ word old a
+  pub low : (i : ℕ) → i < 4
+      → word new (visible s.regs w (4 * n + 1) - 16 + 4 * i) ≡ visible s.regs w i
+  pub high : (i : ℕ) → 4 ≤ i → i < 4 * n
+      → word new (word old (visible s.regs w 1 - 12) - 16 * n + 4 * (i - 4)) ≡ visible s.regs w i
+  pub others : (a : ℕ)
+      → IsElsewhere a (visible s.regs w (4 * n + 1)) (word old (visible s.regs w 1 - 12)) n
+      → word new a ≡ word old a
 
 -- the loads of an underflow of n into window w
 pub record Loads (m : ℕ → ℕ) (s t : State) (w n : ℕ) : Type 0 where
-  pub low : (i : ℕ) → i < 4 → visible t.regs w i ≡ word m (visible s.regs w (4 * n + 1) - 16 + 4 * i)
-  pub high : (i : ℕ) → 4 ≤ i → i < 4 * n → visible t.regs w i ≡ word m (word m (word m (visible s.regs w (4 * n + 1) - 12) - 12) - 16 * n + 4 * (i - 4))
+  pub low : (i : ℕ) → i < 4
+      → visible t.regs w i ≡ word m (visible s.regs w (4 * n + 1) - 16 + 4 * i)
+  pub high : (i : ℕ) → 4 ≤ i → i < 4 * n
+      → visible t.regs w i ≡ word m
+      (word m (word m (visible s.regs w (4 * n + 1) - 12) - 12) - 16 * n + 4 * (i - 4))
 
 abbrev pub OverflowsKeepRelated : Type 0
 OverflowsKeepRelated =
-    (b : Bounds) (lost : ℕ → Bool) (s t : State) (f : FrameState) (ring : List Frame) (g : Frame) (spilled : List Frame) (old new : ℕ → ℕ)
+    (b : Bounds) (lost : ℕ → Bool) (s t : State) (f : FrameState) (ring : List Frame) (g : Frame)
+    (spilled : List Frame) (old new : ℕ → ℕ)
     → Related old b lost s f (ring ++ g ∷ []) spilled
     → Changes s t (moved spilled) g.by
     → t.start ≡ without_bit s.start (moved spilled)
@@ -34,7 +43,8 @@ OverflowsKeepRelated =
 
 abbrev pub UnderflowsKeepRelated : Type 0
 UnderflowsKeepRelated =
-    (b : Bounds) (lost : ℕ → Bool) (s t : State) (f : FrameState) (g : Frame) (rest : List Frame) (m : ℕ → ℕ)
+    (b : Bounds) (lost : ℕ → Bool) (s t : State) (f : FrameState) (g : Frame) (rest : List Frame)
+    (m : ℕ → ℕ)
     → Related m b lost s f [] (g ∷ rest)
     → Changes s t (moved rest) g.by
     → t.start ≡ with_bit s.start (moved rest)
@@ -48,20 +58,28 @@ pub record InHandler (before now : Control) (base : ℕ) : Type 0 where
   pub threadptr : now.threadptr ≡ before.threadptr
   pub waits : now.waits ≡ before.waits
   pub size : length now.special ≡ length before.special
-  pub special : (k : ℕ) → k ≢ number.epc 1 → k ≢ number.interrupt → k ≢ number.ccount → slice_index now.special k ≡ slice_index before.special k
+  pub special : (k : ℕ) → k ≢ number.epc 1 → k ≢ number.interrupt → k ≢ number.ccount
+      → slice_index now.special k ≡ slice_index before.special k
 
 abbrev pub StretchesBegin : Type 0
-StretchesBegin = (c : Control) (base vector : ℕ) → number.epc 1 < length c.special → InHandler c (ticked (after_window_exception base vector c)) base
+StretchesBegin =
+    (c : Control) (base vector : ℕ) → number.epc 1 < length c.special
+    → InHandler c (ticked (after_window_exception base vector c)) base
 
 abbrev pub StretchesGoOn : Type 0
-StretchesGoOn = (before now : Control) (base pc : ℕ) → InHandler before now base → InHandler before (ticked (record now { pc = pc })) base
+StretchesGoOn =
+    (before now : Control) (base pc : ℕ) → InHandler before now base
+    → InHandler before (ticked (record now { pc = pc })) base
 
 -- RFWO and RFWU, beside the window
 abbrev pub StretchesEnd : Type 0
-StretchesEnd = (before now : Control) (base : ℕ) → before.ps.excm ≡ false → InHandler before now base
-    → Resumes before (ticked (record now { pc = special_of now (number.epc 1); ps = record now.ps { excm = false } }))
+StretchesEnd =
+    (before now : Control) (base : ℕ) → before.ps.excm ≡ false → InHandler before now base
+    → Resumes before
+    (ticked (record now { pc = special_of now (number.epc 1); ps = record now.ps { excm = false } }))
 
--- ---- what a handler finds: the stack pointers of the frame called, of the frame itself and of its caller
+-- ---- what a handler finds: the stack pointers of the frame called, of the frame itself and of
+-- its caller
 pub record Finds (lo hi n callee own top : ℕ) : Type 0 where
   pub low : lo + 16 ≤ callee
   pub callee_aligned : callee % 16 ≡ 0
@@ -73,12 +91,17 @@ pub record Finds (lo hi n callee own top : ℕ) : Type 0 where
 
 abbrev pub OverflowsFindFrames : Type 0
 OverflowsFindFrames =
-    (b : Bounds) (lost : ℕ → Bool) (s : State) (f : FrameState) (ring : List Frame) (g : Frame) (spilled : List Frame) (m : ℕ → ℕ)
+    (b : Bounds) (lost : ℕ → Bool) (s : State) (f : FrameState) (ring : List Frame) (g : Frame)
+    (spilled : List Frame) (m : ℕ → ℕ)
     → Related m b lost s f (ring ++ g ∷ []) spilled
-    → Finds b.range.lo b.range.hi g.by (visible s.regs (moved spilled) (4 * g.by + 1)) (visible s.regs (moved spilled) 1) (word m (visible s.regs (moved spilled) 1 - 12))
+    → Finds b.range.lo b.range.hi g.by (visible s.regs (moved spilled) (4 * g.by + 1))
+    (visible s.regs (moved spilled) 1) (word m (visible s.regs (moved spilled) 1 - 12))
 
 abbrev pub UnderflowsFindFrames : Type 0
 UnderflowsFindFrames =
-    (b : Bounds) (lost : ℕ → Bool) (s : State) (f : FrameState) (g : Frame) (rest : List Frame) (m : ℕ → ℕ)
+    (b : Bounds) (lost : ℕ → Bool) (s : State) (f : FrameState) (g : Frame) (rest : List Frame)
+    (m : ℕ → ℕ)
     → Related m b lost s f [] (g ∷ rest)
-    → Finds b.range.lo b.range.hi g.by (visible s.regs (moved rest) (4 * g.by + 1)) (word m (visible s.regs (moved rest) (4 * g.by + 1) - 12)) (word m (word m (visible s.regs (moved rest) (4 * g.by + 1) - 12) - 12))
+    → Finds b.range.lo b.range.hi g.by (visible s.regs (moved rest) (4 * g.by + 1))
+    (word m (visible s.regs (moved rest) (4 * g.by + 1) - 12))
+    (word m (word m (visible s.regs (moved rest) (4 * g.by + 1) - 12) - 12))

@@ -16,7 +16,8 @@ use Rattle.xt_frames.specs.HandlerSteps.{Mode, Plain, Handles, closes}
 use Rattle.xt_frames.specs.Judging.{Standing, Seen, Handled, Judges, Breaks, step_on, seen}
 use Rattle.xt_frames.specs.Verdict.{entry_of, IsFrameTrace}
 
--- where a core's last window exception was entered: the state before its record, and the bytes at it
+-- where a core's last window exception was entered: the state before its record, and the bytes at
+-- it
 pub record Entered : Type 0 where
   pub before : State
   pub opened : ℕ → ℕ
@@ -86,11 +87,25 @@ move code b c core mine theirs m stale =
 
 abbrev pub moved0 : (ℕ → ℕ) → World → Option Moved → Option World
 moved0 code w None = None
-moved0 code w (Some x) = Some (record { core0 = x.mine; core1 = w.core1; memory = memory_now code w.memory w.core0.state; stale = x.stale; entries = w.entries ++ x.entries })
+moved0 code w (Some x) =
+    Some (record {
+      core0 = x.mine;
+      core1 = w.core1;
+      memory = memory_now code w.memory w.core0.state;
+      stale = x.stale;
+      entries = w.entries ++ x.entries;
+    })
 
 abbrev pub moved1 : (ℕ → ℕ) → World → Option Moved → Option World
 moved1 code w None = None
-moved1 code w (Some x) = Some (record { core0 = w.core0; core1 = x.mine; memory = memory_now code w.memory w.core1.state; stale = x.stale; entries = w.entries ++ x.entries })
+moved1 code w (Some x) =
+    Some (record {
+      core0 = w.core0;
+      core1 = x.mine;
+      memory = memory_now code w.memory w.core1.state;
+      stale = x.stale;
+      entries = w.entries ++ x.entries;
+    })
 
 -- one turn: of core 0 where the place says so, else of core 1; nothing comes of a breach
 abbrev pub given : (ℕ → ℕ) → Bounds → Bounds → Bool → World → Option World
@@ -109,7 +124,8 @@ frame_after code f [] = f
 frame_after code f (r ∷ rest) = frame_after code (step_on code r f).after rest
 
 -- the judged records so far are a run of both frame machines over one memory
-pub record IsWorldRun (code : ℕ → ℕ) (opening : MemoryContents) (f0 f1 : FrameState) (w : World) : Type 0 where
+pub record IsWorldRun
+    (code : ℕ → ℕ) (opening : MemoryContents) (f0 f1 : FrameState) (w : World) : Type 0 where
   pub first : IsFrameTrace code f0 w.core0.judged
   pub second : IsFrameTrace code f1 w.core1.judged
   pub legal : IsLegal opening w.entries

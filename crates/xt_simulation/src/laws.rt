@@ -4,7 +4,7 @@
 ghost use Rattle.xt_simulation.specs.Closing.{FillsKeepPlain, SpillsKeepPlain};
 ghost use Rattle.xt_simulation.specs.Cores.{LiveInRange, SavedInAreas};
 ghost use Rattle.xt_simulation.specs.HandlerLaws.{HandlerStepsAreKept, HandlersAreSpared, StretchesAreEntered};
-ghost use Rattle.xt_simulation.specs.Headline.{RunsAreFrames, StretchesMoveFrames, TurnsAreFrames, WalksAreFrames, WindowsAreFrames};
+ghost use Rattle.xt_simulation.specs.Headline.{RunsAreFrames, StretchesMoveFrames, StretchesOfImages, StretchesOfRuns, TurnsAreFrames, WalksAreFrames, WindowsAreFrames};
 ghost use Rattle.xt_simulation.specs.Opening.{OpensAlike};
 ghost use Rattle.xt_simulation.specs.JudgedSteps.{KeepsLevel, KeepsStack};
 ghost use Rattle.xt_simulation.specs.Relation.{EntersWindow};
@@ -144,6 +144,12 @@ pub fn runs_are_frames()
     ensures { RunsAreFrames }
 {}
 
+/// At each position of a run before its first breach, a core's turn that ends a stretch of handler
+/// steps has moved one frame between registers and its save areas, and nothing else.
+pub fn stretches_of_runs()
+    ensures { StretchesOfRuns }
+{}
+
 /// Both machines open with the same registers.
 pub fn machines_open_alike()
     ensures { OpensAlike }
@@ -154,4 +160,10 @@ pub fn machines_open_alike()
 /// the machine with unbounded call frames, over one legal history.
 pub fn windows_are_frames()
     ensures { WindowsAreFrames }
+{}
+
+/// And at each position of such a run before its first breach, a core's turn that ends a stretch of
+/// handler steps has moved one frame between registers and its save areas, and nothing else.
+pub fn stretches_move_one_frame()
+    ensures { StretchesOfImages }
 {}

@@ -1,3 +1,4 @@
+-- Carries a proof; nothing that a reader must believe.
 -- What symbols mean at a machine.
 use Rattle.std.specs.Prelude.{ℕ}
 use Rattle.xt_stretch.specs.Symbols.{Symbol, Init, Load, Word}

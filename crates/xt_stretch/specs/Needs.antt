@@ -42,7 +42,9 @@ save_words_from n i (suc count) = save_word Underflow n i ∷ save_words_from n 
 -- the words that may be loaded
 abbrev pub named_words : Side → ℕ → List Word
 named_words Overflow n = if n == 1 then [] else link_word Overflow n ∷ []
-named_words Underflow n = if n == 1 then save_words_from n 0 (4 * n) else link_word Underflow n ∷ save_words_from n 0 (4 * n)
+named_words Underflow n =
+    if n == 1 then save_words_from n 0 (4 * n) else link_word Underflow n
+    ∷ save_words_from n 0 (4 * n)
 
 abbrev pub is_among : Word → List Word → Bool
 is_among w [] = false
@@ -51,7 +53,9 @@ is_among w (v ∷ vs) = same_word w v || is_among w vs
 -- whether register i ends as it has to
 abbrev pub is_right : Side → ℕ → ℕ → Symbol → Bool
 is_right Overflow n i x = nat_lt i (4 * n) || same x (Init i)
-is_right Underflow n i x = same x (if nat_lt i (4 * n) then Load (save_word Underflow n i).base (save_word Underflow n i).back else Init i)
+is_right Underflow n i x =
+    same x
+    (if nat_lt i (4 * n) then Load (save_word Underflow n i).base (save_word Underflow n i).back else Init i)
 
 abbrev pub are_right : Side → ℕ → ℕ → List Symbol → Bool
 are_right side n i [] = true
@@ -87,7 +91,9 @@ are_named side n (w ∷ ws) = is_among w (named_words side n) && are_named side 
 
 -- the stores exactly, the loads among the named words, the registers
 unfoldable pub has_effect : Side → ℕ → Effect → Bool
-has_effect side n e = is_done (still_wanted e.stores (wanted_stores side n)) && (are_named side n e.loads && are_right side n 0 e.regs)
+has_effect side n e =
+    is_done (still_wanted e.stores (wanted_stores side n))
+    && (are_named side n e.loads && are_right side n 0 e.regs)
 
 -- the stores of the registers from i on that are marked
 abbrev pub marked : ℕ → ℕ → List Bool → List Store
@@ -97,4 +103,5 @@ marked n i (false ∷ flags) = marked n (i + 1) flags
 
 -- some load or store was wrong, so that no end is right
 abbrev pub IsSpoiled : Side → ℕ → Effect → Type 0
-IsSpoiled side n e = still_wanted e.stores (wanted_stores side n) ≡ None ⊎ are_named side n e.loads ≡ false
+IsSpoiled side n e =
+    still_wanted e.stores (wanted_stores side n) ≡ None ⊎ are_named side n e.loads ≡ false

@@ -1,3 +1,4 @@
+-- Carries a proof; nothing that a reader must believe.
 -- A machine that runs a handler's instructions.
 use Rattle.std.specs.Prelude.{◌≡◌, ℕ, ◌+◌, ◌-◌, ◌*◌, ◌/◌, ◌%◌, ◌==◌, ◌&&◌, nat_le, Bool, true, if◌then◌else◌, Option, Some, None, List, [], ◌∷◌, slice_index, slice_set}
 use Rattle.xt_stretch.specs.Handling.{Line}
@@ -39,10 +40,18 @@ is_access a = (a % 4 == 0) && (nat_le 0x3FFAE000 a && nat_le (a + 4) 0x40000000)
 -- one instruction, or none where it raises a cause
 abbrev pub stepped : Step → Machine → Option Machine
 stepped (L32e t s back) m = if is_access (address (visible m s) back)
-    then Some (record { ring = slice_set m.ring (place m.base t) (word_at m.bytes (address (visible m s) back)); base = m.base; bytes = m.bytes })
+    then Some (record {
+      ring = slice_set m.ring (place m.base t) (word_at m.bytes (address (visible m s) back));
+      base = m.base;
+      bytes = m.bytes;
+    })
     else None
 stepped (S32e t s back) m = if is_access (address (visible m s) back)
-    then Some (record { ring = m.ring; base = m.base; bytes = with_word m.bytes (address (visible m s) back) (visible m t) })
+    then Some (record {
+      ring = m.ring;
+      base = m.base;
+      bytes = with_word m.bytes (address (visible m s) back) (visible m t);
+    })
     else None
 stepped Nop m = Some m
 stepped Rfwo m = None

@@ -42,7 +42,10 @@ lines_in inside offset [] = []
 lines_in (suc inside) offset (a ∷ rest) = lines_in inside (offset + 1) rest
 lines_in zero offset (a ∷ rest) = if nat_lt (length rest + 1) (length_of a)
     then []
-    else record { offset = offset; step = step_of a (slice_index rest 0) (slice_index rest 1) } ∷ lines_in (length_of a - 1) (offset + 1) rest
+    else record {
+      offset = offset;
+      step = step_of a (slice_index rest 0) (slice_index rest 1);
+    } ∷ lines_in (length_of a - 1) (offset + 1) rest
 
 unfoldable pub lines_of : List ℕ → List Line
 lines_of bytes = lines_in 0 0 bytes

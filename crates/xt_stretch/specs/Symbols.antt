@@ -3,7 +3,8 @@ use Rattle.std.specs.Prelude.{ℕ, ◌==◌, ◌&&◌, Bool, false, List, [], �
 use Rattle.xt_stretch.specs.declared.Step.{Step}
 use Rattle.xt_stretch.specs.declared.Step.TheVariants.{L32e, S32e, Nop, Rfwo, Rfwu, Foreign}
 
--- the value of a register at the start, or of a word of memory at the start, by its base and how far below it
+-- the value of a register at the start, or of a word of memory at the start, by its base and how
+-- far below it
 pub data Symbol : Type 0 where
   Init : ℕ → Symbol
   Load : Symbol → ℕ → Symbol
@@ -34,7 +35,10 @@ applied e (L32e t s back) = record {
 }
 applied e (S32e t s back) = record {
   regs = e.regs;
-  stores = record { word = record { base = register e.regs s; back = back }; value = register e.regs t } ∷ e.stores;
+  stores = record {
+    word = record { base = register e.regs s; back = back };
+    value = register e.regs t;
+  } ∷ e.stores;
   loads = e.loads;
 }
 applied e Nop = e
@@ -45,7 +49,8 @@ applied e Foreign = e
 -- before the first instruction
 abbrev pub opening : Effect
 opening = record {
-  regs = Init 0 ∷ Init 1 ∷ Init 2 ∷ Init 3 ∷ Init 4 ∷ Init 5 ∷ Init 6 ∷ Init 7 ∷ Init 8 ∷ Init 9 ∷ Init 10 ∷ Init 11 ∷ Init 12 ∷ Init 13 ∷ Init 14 ∷ Init 15 ∷ [];
+  regs = Init 0 ∷ Init 1 ∷ Init 2 ∷ Init 3 ∷ Init 4 ∷ Init 5 ∷ Init 6 ∷ Init 7 ∷ Init 8 ∷ Init 9 ∷
+      Init 10 ∷ Init 11 ∷ Init 12 ∷ Init 13 ∷ Init 14 ∷ Init 15 ∷ [];
   stores = [];
   loads = [];
 }
