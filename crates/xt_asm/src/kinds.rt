@@ -14,7 +14,8 @@ use xt_expr::{Expr, Labels};
 use xt_lex::AsmPlace;
 use xt_map::region;
 use xt_map::regions::Region;
-use xt_mnemonic::{Access, OperandFault, access_of};
+use xt_mnemonic::OperandFault;
+use xt_names::{Access, access_of};
 use xt_parse::{Line, Operand, Statement};
 
 // ---- Unknown
@@ -83,8 +84,8 @@ fn has_unknown(labels: &Labels, statement: &Statement) -> bool
         Statement::Words(values) | Statement::Bytes(values) => {
             any_unknown(labels, values.as_slice())
         }
-        Statement::Insn(name, operands) => {
-            any_unknown_operand(labels, access_of(name.as_slice()), operands.as_slice())
+        Statement::Insn(mnemonic, operands) => {
+            any_unknown_operand(labels, access_of(*mnemonic), operands.as_slice())
         }
         _ => false,
     }

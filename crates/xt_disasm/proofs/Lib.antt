@@ -1,5 +1,6 @@
 pub mod Decoding
+pub mod InRange
 pub mod Joined
-pub mod Named
+pub mod ReadBack
 pub mod Segmented
 pub mod Walks
