@@ -31,7 +31,7 @@ pub or_else_none : (x y : Finding) → or_else x y ≡ None → (x ≡ None) × 
 or_else_none None y e = (refl, e)
 or_else_none (Some place) y e = absurd (cc)
 
-not_failed : (b : Bool) (place : AsmPlace) → fails b place ≡ None → b ≡ false
+pub not_failed : (b : Bool) (place : AsmPlace) → fails b place ≡ None → b ≡ false
 not_failed true place e = absurd (cc)
 not_failed false place e = refl
 

@@ -1,5 +1,4 @@
 pub mod Decoding
-pub mod InRange
 pub mod Joined
 pub mod ReadBack
 pub mod Segmented

@@ -1,5 +1,5 @@
 -- A search by halves through the mnemonics, whose names rise as numbers.
-use Rattle.std.proofs.Common.{◌≡◌, ℕ, zero, suc, ◌+◌, ◌<◌, ◌≤◌, Bool, true, false, ◌&&◌, cond, ltb, List, [], ◌∷◌, length, get_or, Option, Some, None, refl, sym, ap, ◌∙◌, ⊎_elim, arith}
+use Rattle.std.proofs.Common.{◌≡◌, ℕ, zero, suc, ◌<◌, ◌≤◌, Bool, true, false, ◌&&◌, cond, ltb, List, [], ◌∷◌, length, get_or, Some, None, refl, ap, ◌∙◌, ⊎_elim, arith}
 use Rattle.std.proofs.lemmas.Bool.{ltb-true, and_parts, cases_lt}
 use Rattle.std.proofs.lemmas.Slice.Eq.{bytes_eq-Decides}
 use Rattle.std.specs.Prelude.{find}
@@ -103,6 +103,6 @@ pub at_no_key : (name : List ℕ) (low high : ℕ) → high ≤ low
 unfolding mnemonic_of
 at_no_key name low high met below beyond = none_found (has_name name) mnemonics _
     (λ j within. other name (at j) (λ e. ⊎_elim
-        (λ less. let under = below j less in omega (arith, under, e))
-        (λ not_less. let over = beyond j (omega arith) within in omega (arith, over, e))
-        (cases_lt j low)))
+    (λ less. let under = below j less in omega (arith, under, e))
+    (λ not_less. let over = beyond j (omega arith) within in omega (arith, over, e))
+    (cases_lt j low)))

@@ -1,5 +1,5 @@
 -- An instruction in range is that of its parts.
-use Rattle.std.proofs.Common.{◌≡◌, ℕ, ◌≤◌, ℤ, pos, negsuc, Bool, true, false, ◌&&◌, eqb, leb, refl, sym, ap, ◌∙◌, arith}
+use Rattle.std.proofs.Common.{◌≡◌, ℤ, pos, negsuc, true, eqb, leb, refl, sym, ap, ◌∙◌, arith}
 use Rattle.std.proofs.lemmas.Bool.{and_parts, eqb-true, leb-true}
 use Rattle.xt_isa.specs.declared.Insn.{Insn}
 use Rattle.xt_isa.specs.declared.Insn.TheVariants as insn
@@ -11,7 +11,7 @@ use Rattle.xt_isa.specs.declared.system.System.TheVariants as system
 use Rattle.xt_isa.specs.declared.density.Density.TheVariants as density
 use Rattle.xt_isa.specs.declared.system.BreakName.TheVariants.{Break, Syscall}
 use Rattle.xt_isa.specs.declared.system.LevelName.TheVariants.{Rsil, Waiti}
-use Rattle.xt_isa.specs.Ranges.{in_range, natural_within}
+use Rattle.xt_isa.specs.Ranges.{natural_within}
 use Rattle.xt_names.specs.Laws.{IsItsParts}
 
 -- a number from 0 to 0

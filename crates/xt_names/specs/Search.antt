@@ -1,5 +1,5 @@
 -- What carries the proof of the searches; nothing here need be believed.
-use Rattle.std.specs.Prelude.{ℕ, ◌+◌, ◌*◌, List, [], ◌∷◌, slice_index_or}
+use Rattle.std.specs.Prelude.{ℕ, ◌+◌, ◌*◌, List, slice_index_or}
 use Rattle.xt_names.specs.declared.special.SpecialWord.{SpecialWord}
 
 -- what the table of special registers shows

@@ -9,7 +9,9 @@ fn mnemonics_are_found(rt: HostRuntime) -> Result<(), Fail> {
         let mnemonic = mnemonic_of(name.as_bytes()).ok_or("a mnemonic")?;
         assert_eq!(rt; name_of(mnemonic), name);
     }
-    for name in ["", "foo", "MOVI", "movi ", "l32i.", "break.n2", "nop.n\0", "zz"] {
+    for name in [
+        "", "foo", "MOVI", "movi ", "l32i.", "break.n2", "nop.n\0", "zz",
+    ] {
         assert!(rt; mnemonic_of(name.as_bytes()).is_none());
     }
     Ok(())

@@ -1,4 +1,4 @@
-use Rattle.std.proofs.Common.{sym, ◌∙◌, ap, []}
+use Rattle.std.proofs.Common.{sym, ap, []}
 use Rattle.std.specs.Option.{option_map_or}
 use Rattle.std.proofs.Common.{eqb}
 use Rattle.std.proofs.lemmas.Bool.{eq-eqb}

@@ -1,6 +1,5 @@
--- The numbers of an instruction in range, and the whole law.
-use Rattle.std.proofs.Common.{◌≡◌, ℕ, map, ◌^◌, ◌<◌, ◌≤◌, ℤ, pos, negsuc, true, ◌&&◌, cond, eqb, Option, Some, None, Ok, Err, refl, ap, ◌∙◌, arith}
-use Rattle.std.specs.Option.{option_and_then, option_map}
+-- The numbers of an instruction in range.
+use Rattle.std.proofs.Common.{◌≡◌, ℕ, ◌<◌, ◌≤◌, ◌^◌, ℤ, pos, negsuc, Bool, true, ◌&&◌, eqb, refl, arith}
 use Rattle.std.proofs.lemmas.Bool.{and_parts, and_from}
 use Rattle.std.proofs.lemmas.Bool.Decides.{nat_tests}
 use Rattle.xt_isa.specs.declared.Insn.{Insn}
@@ -14,26 +13,51 @@ use Rattle.xt_isa.specs.declared.density.Density.TheVariants as density
 use Rattle.xt_isa.specs.declared.system.BreakName.TheVariants.{Break, Syscall}
 use Rattle.xt_isa.specs.declared.system.LevelName.TheVariants.{Rsil, Waiti}
 use Rattle.xt_isa.specs.declared.system.SpecialName.TheVariants.{Rsr, Wsr, Xsr}
-use Rattle.xt_isa.specs.Ranges.{in_range, natural_within, signed_within, multiple_within, window_within, literal_within, page_within, is_b4const, is_b4constu, small_within, narrow_within, one_register, two_registers}
+use Rattle.xt_isa.specs.Ranges.{in_range, natural_within, signed_within, multiple_within, window_within, literal_within, call_within, page_within, is_b4const, is_b4constu, small_within, narrow_within, one_register, two_registers}
 use Rattle.xt_isa.specs.Spelling.{can_exchange, can_read, can_write}
-use Rattle.xt_names.specs.Insns.{insn_of}
-use Rattle.xt_names.specs.Parts.{mnemonic_in, parts_of}
-use Rattle.xt_names.proofs.Found.{found}
-use Rattle.xt_names.proofs.Whole.{whole}
-use Rattle.xt_mnemonic.specs.declared.argument.OperandFault.TheVariants.{Range}
-use Rattle.xt_mnemonic.specs.Making.{checked, instruction_of, parts_in}
-use Rattle.xt_mnemonic.specs.Operands.{all_known, and_then, is_word}
-use Rattle.xt_disasm.specs.Operands.{operands}
-use Rattle.xt_disasm.specs.Reading.{IsReadBack, argument_of}
-use Rattle.xt_disasm.proofs.ReadBack.{fits, is_near, parts_back}
+use Rattle.xt_names.specs.declared.forms.Access.TheVariants.{User}
+use Rattle.xt_names.specs.declared.mnemonic.OneAndSpecial.TheVariants as one_special
+use Rattle.xt_names.specs.declared.parts.Parts.{Parts}
+use Rattle.xt_names.specs.declared.parts.Parts.TheVariants as parts
+use Rattle.xt_names.specs.Forms.{special_access}
+use Rattle.xt_names.specs.Parts.{parts_of}
+use Rattle.xt_names.specs.Specials.{reaches}
+
+-- a number of 32 bits
+abbrev pub is_word : ℤ → Bool
+is_word n = signed_within (2 ^ 31) n
+
+-- less than 2^19 bytes forwards, or at most so many backwards
+abbrev pub is_near : ℤ → Bool
+is_near d = signed_within 524288 d
+
+-- the numbers of the parts are such as an instruction in range has
+abbrev pub fits : Parts → Bool
+fits (parts.Nothing name) = true
+fits (parts.One name s) = true
+fits (parts.Two name o) = true
+fits (parts.Three name o) = true
+fits (parts.Number name n) = is_word n
+fits (parts.Break (x, y)) = is_word x && is_word y
+fits (parts.OneAndNumber name (s, n)) = is_word n
+fits (parts.TwoAndNumber name (a, b, n)) = is_word n
+fits (parts.Extui (r, t, n, w)) = is_word n && is_word w
+fits (parts.OneAndSpecial (one_special.Rsr name) (t, n)) = reaches (special_access name) n
+fits (parts.OneAndSpecial (one_special.Rur name) (t, n)) = reaches User n
+fits (parts.Jump d) = is_near d
+fits (parts.Call name d) = call_within d
+fits (parts.Literal (t, d)) = literal_within d
+fits (parts.OneAndTarget name (s, d)) = is_near d
+fits (parts.OneNumberAndTarget name (s, n, d)) = is_word n && is_near d
+fits (parts.TwoAndTarget name (s, t, d)) = is_near d
 
 natural_word : (a b : ℕ) (n : ℤ) → b < 2 ^ 31 → natural_within a b n ≡ true → is_word n ≡ true
-unfolding natural_within
+unfolding natural_within signed_within
 natural_word a b (pos n) small h = grind (arith, nat_tests)
 natural_word a b (negsuc n) small h = cc
 
 natural_near : (a b : ℕ) (n : ℤ) → b < 524288 → natural_within a b n ≡ true → is_near n ≡ true
-unfolding natural_within
+unfolding natural_within signed_within
 natural_near a b (pos n) small h = grind (arith, nat_tests)
 natural_near a b (negsuc n) small h = cc
 
@@ -48,51 +72,51 @@ signed_near half (pos n) small h = grind (arith, nat_tests)
 signed_near half (negsuc n) small h = grind (arith, nat_tests)
 
 multiple_word_2 : (end : ℕ) (n : ℤ) → end ≤ 4096 → multiple_within 2 end n ≡ true → is_word n ≡ true
-unfolding multiple_within
+unfolding multiple_within signed_within
 multiple_word_2 end (pos n) small h = grind (arith, nat_tests)
 multiple_word_2 end (negsuc n) small h = cc
 
 multiple_word_4 : (end : ℕ) (n : ℤ) → end ≤ 4096 → multiple_within 4 end n ≡ true → is_word n ≡ true
-unfolding multiple_within
+unfolding multiple_within signed_within
 multiple_word_4 end (pos n) small h = grind (arith, nat_tests)
 multiple_word_4 end (negsuc n) small h = cc
 
 multiple_word_8 : (end : ℕ) (n : ℤ) → end ≤ 4096 → multiple_within 8 end n ≡ true → is_word n ≡ true
-unfolding multiple_within
+unfolding multiple_within signed_within
 multiple_word_8 end (pos n) small h = grind (arith, nat_tests)
 multiple_word_8 end (negsuc n) small h = cc
 
 window_word : (n : ℤ) → window_within n ≡ true → is_word n ≡ true
-unfolding window_within
+unfolding window_within signed_within
 window_word (pos n) h = cc
 window_word (negsuc n) h = grind (arith, nat_tests)
 
 page_word : (n : ℤ) → page_within n ≡ true → is_word n ≡ true
-unfolding page_within
+unfolding page_within signed_within
 page_word (pos n) h = grind (arith, nat_tests)
 page_word (negsuc n) h = grind (arith, nat_tests)
 
 b4const_word : (n : ℤ) → is_b4const n ≡ true → is_word n ≡ true
-unfolding is_b4const
+unfolding is_b4const signed_within
 b4const_word (pos n) h = grind (arith, nat_tests)
 b4const_word (negsuc n) h = grind (arith, nat_tests)
 
 b4constu_word : (n : ℤ) → is_b4constu n ≡ true → is_word n ≡ true
-unfolding is_b4constu
+unfolding is_b4constu signed_within
 b4constu_word (pos n) h = grind (arith, nat_tests)
 b4constu_word (negsuc n) h = cc
 
 small_word : (n : ℤ) → small_within n ≡ true → is_word n ≡ true
-unfolding small_within
+unfolding small_within signed_within
 small_word (pos n) h = grind (arith, nat_tests)
 small_word (negsuc n) h = grind (arith, nat_tests)
 
 narrow_word : (n : ℤ) → narrow_within n ≡ true → is_word n ≡ true
-unfolding narrow_within
+unfolding narrow_within signed_within
 narrow_word (pos n) h = grind (arith, nat_tests)
 narrow_word (negsuc n) h = grind (arith, nat_tests)
 
-in_range_fits : (i : Insn) → in_range i ≡ true → fits (parts_of i) ≡ true
+pub in_range_fits : (i : Insn) → in_range i ≡ true → fits (parts_of i) ≡ true
 in_range_fits (insn.Three (three.And n r s t)) h = refl
 in_range_fits (insn.Three (three.Add n r s t)) h = refl
 in_range_fits (insn.Three (three.Sub n r s t)) h = refl
@@ -159,20 +183,3 @@ in_range_fits (insn.Density (density.Beqz name s off)) h = natural_near 0 63 off
 in_range_fits (insn.Density (density.Mov t s)) h = refl
 in_range_fits (insn.Density (density.Ret name)) h = refl
 in_range_fits (insn.Density (density.Break n)) h = natural_word 0 15 n (omega arith) h
-
-composed : {A B C : Type 0} (g : B → C) (f : A → B) (o : Option A) → option_map (λ a. g (f a)) o ≡ option_map g (option_map f o)
-composed g f None = refl
-composed g f (Some a) = refl
-
-pub read_back : (i : Insn) → IsReadBack i
-unfolding instruction_of
-read_back i h pc least most =
-    let p = parts_of i in
-    let m = mnemonic_in p in
-    let known = all_known (map argument_of (operands p pc)) in
-    let made = parts_back p pc (omega (arith, least)) (omega (arith, most)) (in_range_fits i h) in
-    ap (λ o. option_and_then (λ m. option_map (λ arguments. instruction_of m arguments (pos pc)) known) o) (found m).0
-    ∙ composed (λ r. and_then r (λ p. checked (insn_of p))) (λ arguments. parts_in m (pos pc) arguments) known
-    ∙ ap (λ o. option_map (λ r. and_then r (λ p. checked (insn_of p))) o) made
-    ∙ ap (λ j. Some (checked j)) (whole i h)
-    ∙ ap (λ b. Some (cond b (Ok i) (Err Range))) h
