@@ -1,10 +1,15 @@
 -- What carries the proof of the searches; nothing here need be believed.
-use Rattle.std.specs.Prelude.{ℕ, ◌+◌, ◌*◌, List, slice_index_or}
+use Rattle.std.specs.Prelude.{Bool, ℕ, ◌+◌, ◌*◌, List, slice_index_or}
+use Rattle.xt_isa.specs.Spelling.{can_exchange}
 use Rattle.xt_names.specs.declared.special.SpecialWord.{SpecialWord}
 
 -- what the table of special registers shows
 abbrev pub shown_special : SpecialWord → List ℕ × ℕ
 shown_special w = (w.name.now, w.number)
+
+-- RSR, WSR and XSR all reach the register
+abbrev pub is_exchanged : SpecialWord → Bool
+is_exchanged w = can_exchange w.number
 
 -- the first seven bytes of a name as a number, the first of them highest; 0 for each that is missing
 abbrev pub byte : List ℕ → ℕ → ℕ

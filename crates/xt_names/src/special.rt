@@ -1,9 +1,11 @@
 //! The names of the special and user registers.
 
-ghost use Rattle.std.specs.Prelude.{◌≡◌, map};
+ghost use Rattle.std.specs.Prelude.{◌≡◌, true, map, IfSome};
+ghost use Rattle.std.specs.List.{list_all};
 ghost use Rattle.std.specs.Str.{bytes_eq};
-ghost use Rattle.xt_names.specs.Search.{shown_special};
-ghost use Rattle.xt_names.specs.Specials.{exchanged_names, name_in, number_in, special_name, special_number};
+ghost use Rattle.xt_isa.specs.Spelling.{can_exchange};
+ghost use Rattle.xt_names.specs.Search.{is_exchanged, shown_special};
+ghost use Rattle.xt_names.specs.Specials.{exchanged_names, name_in, number_in, reaches, special_name, special_number};
 
 use crate::forms::Access;
 
@@ -65,16 +67,18 @@ static EXCHANGED: [SpecialWord; 41] = specials! {
     247 "misc3";
 };
 
-#[tactic(auto, unfolding(crate::specs::Specials::exchanged_names))]
+#[tactic(auto, unfolding(crate::specs::Specials::exchanged_names, xt_isa::specs::Spelling::can_exchange))]
 fn exchanged() -> &'static [SpecialWord]
-    ensures { map shown_special result.now ≡ exchanged_names }
+    ensures names { map shown_special result.now ≡ exchanged_names }
+    ensures reached { list_all is_exchanged result.now ≡ true }
 {
     &EXCHANGED
 }
 
 /// The number of the special register of this name, where RSR, WSR and XSR all reach it.
 fn exchanged_number(name: &[u8]) -> Option<u8>
-    ensures { result ≡ number_in exchanged_names name.now }
+    ensures number { result ≡ number_in exchanged_names name.now }
+    ensures reached { IfSome result (λ n. can_exchange n ≡ true) }
 {
     for word in exchanged() {
         if word.name.as_bytes() == name {
@@ -105,9 +109,10 @@ fn is_named(word: &str, name: &[u8]) -> bool
 
 /// The number of the special register of this name, where this access reaches it; of `threadptr` 231, the number of the
 /// user register.
-#[tactic(auto, unfolding(crate::specs::Specials::special_number, crate::specs::Specials::names_of))]
+#[tactic(auto, unfolding(crate::specs::Specials::special_number, crate::specs::Specials::names_of, xt_isa::specs::Spelling::can_read, xt_isa::specs::Spelling::can_write, xt_isa::specs::Spelling::can_exchange))]
 pub fn special_number(access: Access, name: &[u8]) -> Option<u8>
-    ensures { result ≡ special_number access name.now }
+    ensures number { result ≡ special_number access name.now }
+    ensures reached { IfSome result (λ n. reaches access n ≡ true) }
 {
     match access {
         Access::Read if is_named("interrupt", name) => Some(226),
