@@ -6,3 +6,4 @@ mod Passed
 mod Numbers
 mod WellFormed
 mod Loaded
+mod Rows

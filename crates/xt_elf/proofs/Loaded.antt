@@ -13,6 +13,7 @@ use Rattle.xt_map.specs.declared.segment.Segment.{Segment}
 use Rattle.xt_map.specs.Memory.{byte_at, byte_in, constant_byte, holds_address, is_loaded, loaded_byte, opening_memory}
 use Rattle.xt_map.specs.Placing.{is_device}
 use Rattle.xt_map.specs.Regions.{is_constant, is_memory, ranges, region_of}
+use Rattle.xt_map.proofs.Indexed.{constant_is_loaded}
 use Rattle.xt_map.proofs.Placed.{find_none}
 use Rattle.xt_image.specs.declared.image.Image.{Image}
 use Rattle.xt_image.specs.Parts.{IsWellFormed}
@@ -184,10 +185,6 @@ no_byte_at : (m : MemoryContents) (a : ℕ) → is_memory (region_of a) ≡ fals
 unfolding byte_at
 no_byte_at m a h = no_byte_in (region_of a) m a h
 
-constant_is : (segments : List Segment) (a : ℕ) → is_constant (region_of a) ≡ true → constant_byte segments a ≡ loaded_byte segments a
-unfolding constant_byte
-constant_is segments a h = ap (λ b. if b then loaded_byte segments a else 0) h
-
 -- ---- the image
 
 pub holds : (bytes : List ℕ) → IsWellFormed (elf_image bytes) → IsPassed (length bytes) (headers_of bytes) → HoldsMemoryOf bytes (elf_image bytes)
@@ -197,7 +194,7 @@ holds bytes w p a =
     let same : loaded_byte i.segments a ≡ elf_memory bytes a = holds_same bytes (headers_of bytes) a good p.apart in
     let there : Bool → ℕ = λ b. if b then constant_byte i.segments a else byte_at (opening_memory i.segments []) a in
     ⊎_elim
-    (λ (constant : is_constant (region_of a) ≡ true). ap there constant ∙ constant_is i.segments a constant ∙ same)
+    (λ (constant : is_constant (region_of a) ≡ true). ap there constant ∙ constant_is_loaded i.segments a constant ∙ same)
     (λ (constant : is_constant (region_of a) ≡ false). ap there constant
     ∙ ⊎_elim
     (λ (memory : is_memory (region_of a) ≡ true). memory_is i a w memory ∙ same)

@@ -8,6 +8,7 @@ ghost use Rattle.xt_elf.specs.Format.{Converts, HoldsMemoryOf, segment_of};
 use crate::fault::ElfFault;
 use crate::header::{Header, headers_of, is_loaded, padding};
 use crate::rules::{entry_fault, file_fault, header_fault};
+use crate::spans::apart_count;
 use std::alloc::{AllocError, Global};
 use xt_image::{Image, made_head, word};
 use xt_map::{Bytes, Segment, Segments};
@@ -61,13 +62,15 @@ pub fn from_elf(alloc: Global, bytes: &[u8]) -> Result<Image, ElfFault>
         return Err(fault);
     }
     let headers = headers_of(alloc, bytes)?;
-    if let Some(fault) = header_fault(bytes.len(), &headers) {
+    let parts = headers.as_slice();
+    let apart = apart_count(alloc, parts)?;
+    if let Some(fault) = header_fault(bytes.len(), parts, apart) {
         return Err(fault);
     }
     if let Some(fault) = entry_fault(bytes) {
         return Err(fault);
     }
-    let segments = segments_of(alloc, bytes, &headers)?;
+    let segments = segments_of(alloc, bytes, parts)?;
     Ok(Image {
         head: made_head(),
         entry: word(bytes, 24),

@@ -5,6 +5,7 @@ mod converting;
 mod fault;
 mod header;
 mod rules;
+mod spans;
 
 pub use converting::from_elf;
 pub use fault::ElfFault;

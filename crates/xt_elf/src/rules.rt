@@ -4,6 +4,7 @@ ghost use Rattle.std.specs.List.{list_any};
 ghost use Rattle.xt_map.specs.Regions.{is_executable, ranges, region_of};
 ghost use Rattle.xt_elf.specs.Headers.{header_count};
 ghost use Rattle.xt_elf.specs.Rules.{do_overlap, ends_behind, entry_rules, file_rules, first, first_overlap, has_magic, IsOneRegion, header_rules, headers_end, is_larger_in_file, is_misplaced, loaded_count, padded_end, takes};
+ghost use Rattle.xt_elf.specs.Spans.{AreApart};
 
 use crate::fault::ElfFault;
 use crate::header::{Header, is_loaded, padded_end};
@@ -113,12 +114,15 @@ fn first_sharing(before: &[Header], header: &Header) -> Option<usize>
     before.iter().position(|other| share_bytes(other, header))
 }
 
-// The first header whose padded bytes share one with a header before it.
-fn overlap_fault(headers: &[Header]) -> Option<ElfFault>
-    requires { length headers.now < 65536 }
+// The first header whose padded bytes share one with a header before it, where so many at the front
+// share none.
+fn overlap_fault(headers: &[Header], apart: usize) -> Option<ElfFault>
+    requires few { length headers.now < 65536 }
+    requires within { apart ≤ length headers.now }
+    requires apart { AreApart apart headers.now }
     ensures { result ≡ first_overlap [] headers.now }
 {
-    for j in 0..headers.len() {
+    for j in apart..headers.len() {
         if let Some(i) = first_sharing(&headers[..j], &headers[j]) {
             return Some(ElfFault::Overlap(i as u16, j as u16));
         }
@@ -133,9 +137,12 @@ fn loaded_count(headers: &[Header]) -> usize
     headers.iter().filter(|header| is_loaded(*header)).count()
 }
 
-/// What is wrong with the program headers of a file of so many bytes.
-pub(crate) fn header_fault(len: usize, headers: &[Header]) -> Option<ElfFault>
-    requires { length headers.now < 65536 }
+/// What is wrong with the program headers of a file of so many bytes, where so many headers at the
+/// front share no byte.
+pub(crate) fn header_fault(len: usize, headers: &[Header], apart: usize) -> Option<ElfFault>
+    requires few { length headers.now < 65536 }
+    requires within { apart ≤ length headers.now }
+    requires apart { AreApart apart headers.now }
     ensures { result ≡ first (header_rules len headers.now) }
 {
     if let Some(i) = first_ending_behind(len, headers) {
@@ -147,7 +154,7 @@ pub(crate) fn header_fault(len: usize, headers: &[Header]) -> Option<ElfFault>
     if let Some(i) = first_misplaced(headers) {
         return Some(ElfFault::Place(i as u16));
     }
-    if let Some(fault) = overlap_fault(headers) {
+    if let Some(fault) = overlap_fault(headers, apart) {
         return Some(fault);
     }
     let count = loaded_count(headers);

@@ -168,3 +168,40 @@ fn images_of_good_files(rt: HostRuntime) -> Result<(), Fail> {
     }
     Ok(())
 }
+
+/// The file header of an executable with 65,535 program headers from place 52 on.
+const CROWDED: &str = "7F454C4601010100000000000000000002005E0001000000040408403400000000000000\
+00000000340020\
+00FFFF000000000000";
+
+/// A file with 65,535 program headers that load one byte each, every fourth address; the last one
+/// loads its byte to this address.
+fn crowded(alloc: Global, last: u32) -> Result<Vec<u8>, AllocError> {
+    let mut file = bytes_of(alloc, CROWDED)?;
+    for i in 0..65_535u32 {
+        let addr = if i == 65_534 {
+            last
+        } else {
+            0x3F40_0000 + 4 * i
+        };
+        for word in [1, 0, addr, addr, 1, 1, 5, 4] {
+            file.extend_from_slice(&word.to_le_bytes())?;
+        }
+    }
+    Ok(file)
+}
+
+#[test]
+fn as_many_headers_as_there_can_be(rt: HostRuntime) -> Result<(), Fail> {
+    let alloc = rt.alloc();
+    let rows = [
+        (0x3F40_0000 + 4 * 65_534, "Count 65535"),
+        (0x3F40_0008, "Overlap 2 65534"),
+        (0x3F80_0000, "Place 65534"),
+    ];
+    for (last, wanted) in rows {
+        let answer = answer_of(alloc, &crowded(alloc, last)?)?;
+        assert_eq!(rt; answer.as_str(), wanted);
+    }
+    Ok(())
+}
