@@ -10,7 +10,8 @@ use Rattle.xt_map.specs.declared.regions.Region.TheVariants.{Drom, Uart, RtcFast
 use Rattle.xt_map.specs.Placing.{is_device}
 use Rattle.xt_map.specs.Regions.{Range, range, ranges, region_of}
 use Rattle.xt_map.proofs.Ranged.{dram_range, iram_range, range_dram, range_rtc_fast_data, range_rtc_slow, rtc_fast_data_range, rtc_slow_range}
-use Rattle.xt_elf.specs.Rules.{IsOneRegion, takes}
+use Rattle.xt_elf.specs.Rules.{takes}
+use Rattle.xt_elf.specs.Spans.{IsOneRegion}
 
 drom_range : (a : ℕ) → region_of a ≡ Some Drom → (0x3F400000 ≤ a) × (a ≤ 0x3F7FFFFF)
 unfolding region_of

@@ -1,9 +1,8 @@
 -- The rules of an ELF executable, in their order, each by itself: what is wrong by this rule, or nothing.
 -- Which files are taken, the order of the rules and the names of the faults are this project's own choice ('profile').
-use Rattle.std.specs.Prelude.{◌≡◌, false, ℕ, ◌+◌, ◌-◌, ◌*◌, ◌%◌, ◌++◌, Bool, ◌&&◌, ◌||◌, ◌==◌, not, nat_le, nat_lt, min, max, List, [], ◌∷◌, length, take, slice_index, Option, Some, None, if◌then◌else◌, option_map, position}
+use Rattle.std.specs.Prelude.{ℕ, ◌+◌, ◌-◌, ◌*◌, ◌%◌, ◌++◌, Bool, ◌&&◌, ◌||◌, ◌==◌, not, nat_le, nat_lt, min, max, List, [], ◌∷◌, length, take, slice_index, Option, Some, None, if◌then◌else◌, option_map, position}
 use Rattle.std.specs.List.{count_by, list_any}
 use Rattle.std.specs.Str.{bytes_eq}
-use Rattle.xt_map.specs.declared.regions.Region.{Region}
 use Rattle.xt_map.specs.Placing.{is_device}
 use Rattle.xt_map.specs.Regions.{Range, is_executable, ranges, region_of}
 use Rattle.xt_elf.specs.Headers.{entry_of, file_type, header_count, header_size, headers_of, headers_place, is_loaded_header, machine}
@@ -77,10 +76,6 @@ padded_end h = h.addr + (h.file_size + padding h.file_size)
 -- all addresses from a first one up to the one behind the last are in the range, and it is no device
 abbrev pub takes : ℕ → ℕ → Range → Bool
 takes first behind r = not (is_device r.region) && (nat_le r.first first && nat_le behind (r.last + 1))
-
--- two regions are there and are one, which is no device
-abbrev pub IsOneRegion : Option Region → Option Region → Type 0
-IsOneRegion first last = (r : Region) × (first ≡ Some r) × (last ≡ Some r) × (is_device r ≡ false)
 
 -- the padded bytes do not lie in one region whole
 abbrev pub is_misplaced : Header → Bool

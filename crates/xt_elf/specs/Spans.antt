@@ -1,10 +1,18 @@
--- How overlaps are found without comparing each header with each: by the addresses that they take, in ascending order.
-use Rattle.std.specs.Prelude.{◌≡◌, ℕ, ◌<◌, ◌≤◌, true, false, List, slice_index_or}
+-- Carries a proof; nothing that a reader must believe.
+-- How a region is found by two addresses, and overlaps without comparing each header with each: by the addresses that they take,
+-- in ascending order.
+use Rattle.std.specs.Prelude.{◌≡◌, ℕ, ◌<◌, ◌≤◌, true, false, List, Option, Some, slice_index_or}
 use Rattle.std.specs.List.{AllPairs, Contains}
+use Rattle.xt_map.specs.declared.regions.Region.{Region}
+use Rattle.xt_map.specs.Placing.{is_device}
 use Rattle.xt_elf.specs.Headers.{is_loaded_header}
 use Rattle.xt_elf.specs.Rules.{do_overlap, padded_end}
 use Rattle.xt_elf.specs.declared.header.Header.{Header}
 use Rattle.xt_elf.specs.declared.spans.Span.{Span}
+
+-- two regions are there and are one, which is no device
+abbrev pub IsOneRegion : Option Region → Option Region → Type 0
+IsOneRegion first last = (r : Region) × (first ≡ Some r) × (last ≡ Some r) × (is_device r ≡ false)
 
 -- the addresses of the padded bytes of the header with this number
 abbrev pub span_of : Header → ℕ → Span

@@ -3,8 +3,8 @@ ghost use Rattle.std.specs.Prelude.{◌≡◌, ◌≤◌, ◌<◌, ◌+◌, ◌�
 ghost use Rattle.std.specs.List.{list_any};
 ghost use Rattle.xt_map.specs.Regions.{is_executable, ranges, region_of};
 ghost use Rattle.xt_elf.specs.Headers.{header_count};
-ghost use Rattle.xt_elf.specs.Rules.{do_overlap, ends_behind, entry_rules, file_rules, first, first_overlap, has_magic, IsOneRegion, header_rules, headers_end, is_larger_in_file, is_misplaced, loaded_count, padded_end, takes};
-ghost use Rattle.xt_elf.specs.Spans.{AreApart};
+ghost use Rattle.xt_elf.specs.Rules.{do_overlap, ends_behind, entry_rules, file_rules, first, first_overlap, has_magic, header_rules, headers_end, is_larger_in_file, is_misplaced, loaded_count, padded_end, takes};
+ghost use Rattle.xt_elf.specs.Spans.{AreApart, IsOneRegion};
 
 use crate::fault::ElfFault;
 use crate::header::{Header, is_loaded, padded_end};
