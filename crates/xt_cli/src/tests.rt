@@ -1,6 +1,7 @@
 use crate::{Status, report, status_line};
 use std::alloc::Global;
 use std::test::Fail;
+use xt_elf::ElfFault;
 use xt_image::ImageFault;
 use xt_lex::AsmPlace;
 use xt_map::{Access, Entry, History, Kind};
@@ -158,6 +159,18 @@ fn lines_and_codes_of_statuses(rt: HostRuntime) -> Result<(), Fail> {
         (Status::TooLarge(8_388_608), 7, "xt: TooLarge 8388608\n"),
         (Status::Memory, 8, "xt: Memory\n"),
         (Status::Unbuilt, 9, "xt: Unbuilt\n"),
+        (Status::Elf(ElfFault::HeaderEnd), 10, "xt: Elf HeaderEnd\n"),
+        (Status::Elf(ElfFault::Machine(3)), 10, "xt: Elf Machine 3\n"),
+        (
+            Status::Elf(ElfFault::Overlap(0, 65_535)),
+            10,
+            "xt: Elf Overlap 0 65535\n",
+        ),
+        (
+            Status::Elf(ElfFault::Entry(4_294_967_295)),
+            10,
+            "xt: Elf Entry 4294967295\n",
+        ),
     ];
     for (status, code, line) in rows {
         assert_eq!(rt; status.code(), code);

@@ -1,6 +1,7 @@
 use crate::{Outcome, Status, Tool, tool_main, xt_main};
 use std::alloc::{AllocError, Global};
 use std::test::Fail;
+use xt_elf::ElfFault;
 use xt_image::ImageFault;
 use xt_io::{MemSink, MemSource, OpenGate, SafeSink, SafeSource, Sink, Source};
 use xt_lex::AsmPlace;
@@ -32,6 +33,13 @@ movi a3, 65\ns8i a3, a2, 0\nbreak 1, 15\n";
 const ASSEMBLED: &str = "E901022004040840EE0000000000000000FFFF00000000010004084010000000\
 0000F43F21FFFF32A041324200F0410000000000000000000000000000000017\
 A5C140C0C3F6F183FB0D98F633F1B50A0F18B6B80FB4093F14FBFD2D83860102";
+
+/// An ELF executable with the same segment and entry: a file header, a program header at place 52, and
+/// the segment's bytes at place 84.
+const LINKED: &str = "7F454C460101010000000000000000000200\
+5E00010000000404084034000000000000000000000034002000010000000000000001000000540000000004084000\
+0408401000000010000000050000000400000000\
+00F43F21FFFF32A041324200F04100";
 
 /// The words of a text, which one blank separates.
 fn words_of(alloc: Global, text: &str) -> Result<Vec<String>, AllocError> {
@@ -178,6 +186,35 @@ fn texts_are_assembled_or_refused(rt: HostRuntime) -> Result<(), Fail> {
         assert_eq!(rt; outcome.status, status, "{text}");
         let wanted = hex::decode(rt.alloc(), written)?;
         assert_eq!(rt; sink.bytes(), wanted.as_slice(), "{text}");
+    }
+    Ok(())
+}
+
+#[test]
+fn elf_files_are_converted_or_refused(rt: HostRuntime) -> Result<(), Fail> {
+    let rows = [
+        (0, 0x7F, 100, Status::Done),
+        (18, 3, 100, Status::Elf(ElfFault::Machine(3))),
+        (0, 0x7F, 99, Status::Elf(ElfFault::SegmentEnd(0))),
+        (56, 0x55, 100, Status::Elf(ElfFault::SegmentEnd(0))),
+    ];
+    let image = hex::decode(rt.alloc(), ASSEMBLED)?;
+    for (place, byte, length, status) in rows {
+        let mut file = hex::decode(rt.alloc(), LINKED)?;
+        if place < file.len() {
+            file[place] = byte;
+        }
+        file.truncate(length);
+        let mut source = SafeSource::make(rt.alloc(), &file)?;
+        let mut sink = SafeSink::make(rt.alloc())?;
+        let outcome = answer(rt.alloc(), "elf", &mut source, &mut sink)?;
+        assert_eq!(rt; outcome.status, status, "{place}");
+        let written = if status == Status::Done {
+            image.as_slice()
+        } else {
+            &[]
+        };
+        assert_eq!(rt; sink.bytes(), written, "{place}");
     }
     Ok(())
 }
