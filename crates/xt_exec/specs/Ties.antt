@@ -28,10 +28,9 @@ ReturnsAnswer = (s : State) (a0 : ℕ) → IsReturnOf s a0
 abbrev pub IllegalReturnsAreBad : Type 0
 IllegalReturnsAreBad =
     (s : State)
-    → illegal_return s
-    ≡
-    ((return_size (visible s.regs s.base 0) == 0 || disagrees s.start s.base (return_size (visible s.regs s.base 0)))
-    || not (has_windows s.control.ps))
+    → let n = return_size (visible s.regs s.base 0) in
+    illegal_return s
+    ≡ ((n == 0 || disagrees s.start s.base n) || not (has_windows s.control.ps))
 
 -- the overflow that the window check finds is the one that the crate of windows answers
 abbrev pub OverflowsAnswer : Type 0

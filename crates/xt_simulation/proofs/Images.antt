@@ -17,6 +17,12 @@ use Rattle.xt_runs.specs.Runs.{Opening, Run, IsRunOf, schedule_of}
 use Rattle.xt_exec.specs.State.{State}
 use Rattle.xt_exec.specs.Chips.{processor}
 use Rattle.xt_handlers.specs.Vectors.{Handlers}
+use Rattle.std.proofs.Common.{zero, suc, ◌<◌}
+use Rattle.xt_stretch.specs.declared.Side.{Side}
+use Rattle.xt_stretch.specs.declared.Side.TheVariants.{Overflow, Underflow}
+use Rattle.xt_stretch.specs.declared.HandlerVerdict.TheVariants.{Yes}
+use Rattle.xt_handlers.specs.Vectors.{verdict_of}
+use Rattle.xt_simulation.specs.Headline.{SixSuffice}
 use Rattle.xt_simulation.specs.Walking.{Apart}
 use Rattle.xt_simulation.specs.Opening.{IsOpening, IsStack, AreSmall, IsRunnable, openings_of, range_of}
 use Rattle.xt_simulation.specs.Headline.{IsCovered, WindowsAreFrames, AreFrames, opening_of, judged_in, records0, records1}
@@ -70,6 +76,19 @@ is_opening segments entry o h = record {
   entry0 = h.entry0;
   entry1 = h.entry1;
 }
+
+pub six_suffice : SixSuffice
+six_suffice code vecbase h = by_size
+  where
+    by_size : (side : Side) (n : ℕ) → 0 < n → n < 4 → verdict_of code vecbase side n ≡ Yes
+    by_size side zero p q = absurd (omega arith)
+    by_size Overflow (suc zero) p q = h.of4
+    by_size Underflow (suc zero) p q = h.uf4
+    by_size Overflow (suc (suc zero)) p q = h.of8
+    by_size Underflow (suc (suc zero)) p q = h.uf8
+    by_size Overflow (suc (suc (suc zero))) p q = h.of12
+    by_size Underflow (suc (suc (suc zero))) p q = h.uf12
+    by_size side (suc (suc (suc (suc n)))) p q = absurd (omega arith)
 
 covered_by : (segments : List Segment) (entry : ℕ) (o : Options) → IsRunnable segments entry o → Handlers (constant_byte segments) o.vecbase → Apart (range_of o.stack0) (range_of o.stack1) → IsCovered (openings_of segments entry o) (constant_byte segments)
 covered_by segments entry o given handlers apart = record { opening = is_opening segments entry o given; bytes = constant_bytes segments given.bytes; handlers = handlers; apart = apart }

@@ -15,7 +15,9 @@ use Rattle.xt_runs.specs.Worlds as worlds
 use Rattle.xt_exec.specs.State.{State}
 use Rattle.xt_exec.specs.Chips.{processor}
 use Rattle.xt_frames.specs.Verdict.{Judgement, judgement, opening_known, IsFrameRun}
-use Rattle.xt_handlers.specs.Vectors.{Handlers}
+use Rattle.xt_stretch.specs.declared.Side.TheVariants.{Overflow, Underflow}
+use Rattle.xt_stretch.specs.declared.HandlerVerdict.TheVariants.{Yes}
+use Rattle.xt_handlers.specs.Vectors.{verdict_of, Handlers}
 use Rattle.xt_simulation.specs.Walking.{World, walked, EndsWell, IsWorldRun, Apart}
 use Rattle.xt_simulation.specs.Opening.{Openings, IsOpening, bounds0, bounds1, state0, state1, frame0, frame1, memory_of, frame_of, opening_world, openings_of, IsRunnable}
 
@@ -25,6 +27,18 @@ pub record IsCovered (o : Openings) (code : ℕ → ℕ) : Type 0 where
   pub bytes : AreBytes code
   pub handlers : Handlers code o.vecbase
   pub apart : Apart o.range0 o.range1
+
+-- it is enough that each of the six does
+pub record SixHandle (code : ℕ → ℕ) (vecbase : ℕ) : Type 0 where
+  pub of4 : verdict_of code vecbase Overflow 1 ≡ Yes
+  pub uf4 : verdict_of code vecbase Underflow 1 ≡ Yes
+  pub of8 : verdict_of code vecbase Overflow 2 ≡ Yes
+  pub uf8 : verdict_of code vecbase Underflow 2 ≡ Yes
+  pub of12 : verdict_of code vecbase Overflow 3 ≡ Yes
+  pub uf12 : verdict_of code vecbase Underflow 3 ≡ Yes
+
+abbrev pub SixSuffice : Type 0
+SixSuffice = (code : ℕ → ℕ) (vecbase : ℕ) → SixHandle code vecbase → Handlers code vecbase
 
 -- over any schedule of turns the judged records before the first breach are a run of both frame
 -- machines

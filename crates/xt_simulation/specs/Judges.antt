@@ -34,5 +34,9 @@ pub record After
       (lost_of (fresh_on fresh code (record_now code m s) f)) (state_now code m s)
       (step_on code (record_now code m s) f).after
   pub agree : Agree (live_of b (step_on code (record_now code m s) f).after others)
-      (stale_after (live_of b (step_on code (record_now code m s) f).after others) (live_of b f others) stale (record_now code m s).access)
+      (stale_after
+      (live_of b (step_on code (record_now code m s) f).after others)
+      (live_of b f others)
+      stale
+      (record_now code m s).access)
       (memory_now code m s) (memory_after_step framed (step_on code (record_now code m s) f).access)

@@ -75,8 +75,8 @@ StretchesGoOn =
 abbrev pub StretchesEnd : Type 0
 StretchesEnd =
     (before now : Control) (base : ℕ) → before.ps.excm ≡ false → InHandler before now base
-    → Resumes before
-    (ticked (record now { pc = special_of now (number.epc 1); ps = record now.ps { excm = false } }))
+    → let ps = record now.ps { excm = false } in
+    Resumes before (ticked (record now { pc = special_of now (number.epc 1); ps = ps }))
 
 -- ---- what a handler finds: the stack pointers of the frame called, of the frame itself and of
 -- its caller

@@ -4,7 +4,7 @@
 ghost use Rattle.xt_simulation.specs.Closing.{FillsKeepPlain, SpillsKeepPlain};
 ghost use Rattle.xt_simulation.specs.Cores.{LiveInRange, SavedInAreas};
 ghost use Rattle.xt_simulation.specs.HandlerLaws.{HandlerStepsAreKept, HandlersAreSpared, StretchesAreEntered};
-ghost use Rattle.xt_simulation.specs.Headline.{RunsAreFrames, StretchesMoveFrames, StretchesOfImages, StretchesOfRuns, TurnsAreFrames, WalksAreFrames, WindowsAreFrames};
+ghost use Rattle.xt_simulation.specs.Headline.{RunsAreFrames, SixSuffice, StretchesMoveFrames, StretchesOfImages, StretchesOfRuns, TurnsAreFrames, WalksAreFrames, WindowsAreFrames};
 ghost use Rattle.xt_simulation.specs.Opening.{OpensAlike};
 ghost use Rattle.xt_simulation.specs.JudgedSteps.{KeepsLevel, KeepsStack};
 ghost use Rattle.xt_simulation.specs.Relation.{EntersWindow};
@@ -153,6 +153,11 @@ pub fn stretches_of_runs()
 /// Both machines open with the same registers.
 pub fn machines_open_alike()
     ensures { OpensAlike }
+{}
+
+/// It is enough that each of the six vectors passes its check.
+pub fn six_handlers_suffice()
+    ensures { SixSuffice }
 {}
 
 /// The headline. Where the options are valid, the six window handlers pass their check and the two

@@ -101,15 +101,15 @@ own_save side n start k a f l (far h two e) = inr (two, inl (omega (arith, e), o
 pub saves_own : (side : Side) (n k : ℕ) (start : Machine) → HasFrames side n start → k < 4 * n → IsOwn side n start (address_of start (save_word side n k))
 saves_own side n k start f l = own_save side n start k _ f l (lies side n start f k l)
 
-ap_own : (n : ℕ) (start : Machine) (w : Word) (k : ℕ) → HasFrames Underflow n start → k < 4 * n → w ≡ save_word Underflow n k → IsOwn Underflow n start (address_of start w)
-ap_own n start w k f l e = rw e (saves_own Underflow n k start f l)
+save_is_own : (n : ℕ) (start : Machine) (w : Word) (k : ℕ) → HasFrames Underflow n start → k < 4 * n → w ≡ save_word Underflow n k → IsOwn Underflow n start (address_of start w)
+save_is_own n start w k f l e = rw e (saves_own Underflow n k start f l)
 
 own_word : (side : Side) (n : ℕ) (start : Machine) (w : Word) → HasFrames side n start → IsNamed side n w → IsOwn side n start (address_of start w)
 own_word side n start w f (the_link two e) =
     let at : address_of start w ≡ meant start (link_word side n).base - 12 = ap (address_of start) e ∙ link_at side n start f two in
     inr (two, inr (omega (arith, at, f.own_low two, f.callee_low)))
 own_word Overflow n start w f (a_save k u l e) = absurd cc
-own_word Underflow n start w f (a_save k u l e) = ap_own n start w k f l e
+own_word Underflow n start w f (a_save k u l e) = save_is_own n start w k f l e
 
 pub named_own : (side : Side) (n : ℕ) (start : Machine) (w : Word) → HasFrames side n start → is_among w (named_words side n) ≡ true → IsOwn side n start (address_of start w)
 named_own side n start w f h = own_word side n start w f (named_is side n w f.some h)

@@ -19,7 +19,7 @@ use Rattle.xt_stretch.specs.Frames.{HasRoom}
 use Rattle.xt_stretch.specs.Kept.{Stands, HaveRegisters, KeepsRegisters, Stores, Loads, Touches, opening_flags}
 use Rattle.xt_stretch.proofs.Wanted.{same_is}
 use Rattle.xt_stretch.proofs.Unspoiled.{ending_yes}
-use Rattle.xt_stretch.proofs.Steps.{Step_moves, load_moves, store_moves, no_store}
+use Rattle.xt_stretch.proofs.Steps.{StepMoves, load_moves, store_moves, no_store}
 
 pub record Ends (side : Side) (n : ℕ) (start now : Machine) (result : Option Machine) : Type 0 where
   pub effect : Effect
@@ -36,7 +36,7 @@ Touches-trans side n start a b c p q = record {
   never = λ u x. q.never u x ∙ p.never u x;
 }
 
-on : (side : Side) (n : ℕ) (start : Machine) (e : Effect) (flags : List Bool) (step : Step) (now : Machine) (lines : List Line) (m : Step_moves side n start e flags step now) →
+on : (side : Side) (n : ℕ) (start : Machine) (e : Effect) (flags : List Bool) (step : Step) (now : Machine) (lines : List Line) (m : StepMoves side n start e flags step now) →
     Ends side n start m.next (ran lines m.next) → (result : Option Machine) → result ≡ then_ran (ran lines) (Some m.next) → Ends side n start now result
 on side n start e flags step now lines m r result is = record {
   effect = r.effect;
@@ -63,10 +63,10 @@ at_line : (side : Side) (n : ℕ) (start : Machine) (o : ℕ) (e : Effect) (flag
     ((e : Effect) (flags : List Bool) (now : Machine) → Stands side n start e flags now → walk side n e lines ≡ Yes → Ends side n start now (ran lines now)) →
     HasRegisters step → Stands side n start e flags now → answer_at side n e o step (walk side n (applied e step) lines) ≡ Yes → Ends side n start now (ran_at step (ran lines) now)
 at_line side n start o e flags now (L32e t s back) lines room ih regs stands y =
-    let m : Step_moves side n start e flags (L32e t s back) now = load_moves side n start e flags now lines room stands t s back regs.0 regs.1 y in
+    let m : StepMoves side n start e flags (L32e t s back) now = load_moves side n start e flags now lines room stands t s back regs.0 regs.1 y in
     on side n start e flags (L32e t s back) now lines m (ih (applied e (L32e t s back)) m.after m.next m.stands y) _ (ap (then_ran (ran lines)) m.is)
 at_line Overflow n start o e flags now (S32e t s back) lines room ih regs stands y =
-    let m : Step_moves Overflow n start e flags (S32e t s back) now = store_moves Overflow n start e flags now lines room stands t s back refl regs.0 regs.1 y in
+    let m : StepMoves Overflow n start e flags (S32e t s back) now = store_moves Overflow n start e flags now lines room stands t s back refl regs.0 regs.1 y in
     on Overflow n start e flags (S32e t s back) now lines m (ih (applied e (S32e t s back)) m.after m.next m.stands y) _ (ap (then_ran (ran lines)) m.is)
 at_line Underflow n start o e flags now (S32e t s back) lines room ih regs stands y = absurd (no_store Underflow n start e flags now lines room stands t s back refl y)
 at_line side n start o e flags now Nop lines room ih regs stands y = ih e flags now stands y

@@ -20,7 +20,7 @@ use Rattle.xt_stretch.proofs.Words.{access_means, words_apart, with_word-elsewhe
 use Rattle.xt_stretch.proofs.Wanted.{Takes, taken_out}
 use Rattle.xt_stretch.proofs.Unspoiled.{stores_wanted, loads_named}
 
-pub record Step_moves (side : Side) (n : ℕ) (start : Machine) (e : Effect) (flags : List Bool) (step : Step) (now : Machine) : Type 0 where
+pub record StepMoves (side : Side) (n : ℕ) (start : Machine) (e : Effect) (flags : List Bool) (step : Step) (now : Machine) : Type 0 where
   pub after : List Bool
   pub next : Machine
   pub is : stepped step now ≡ Some next
@@ -44,8 +44,8 @@ flag_before flags k j h = ⊎_elim
     (λ ne. sym (get_or-set_other flags k j false false ne) ∙ h)
     (cases_eq j k)
 
-ap_below : (start : Machine) (v k : ℕ) → ((i : ℕ) → i < 16 → visible start i < 4294967296) → v ≡ visible start k → k < 16 → v < 4294967296
-ap_below start v k h e l = let b = h k l in omega (arith, e)
+value_below : (start : Machine) (v k : ℕ) → ((i : ℕ) → i < 16 → visible start i < 4294967296) → v ≡ visible start k → k < 16 → v < 4294967296
+value_below start v k h e l = let b = h k l in omega (arith, e)
 
 module _ (side : Side) (n : ℕ) (start : Machine) (e : Effect) (flags : List Bool) (now : Machine) (lines : List Line)
     (room : HasRoom side n start) (stands : Stands side n start e flags now) where
@@ -55,7 +55,7 @@ module _ (side : Side) (n : ℕ) (start : Machine) (e : Effect) (flags : List Bo
   visible_at : (t v : ℕ) → t < 16 → get_or (set now.ring (place now.base t) v) (place now.base t) 0 ≡ v
   visible_at t v ht = get_or-set_same now.ring (place now.base t) v 0 (let l : place now.base t < 64 = place_below now.base t in omega (arith, stands.size))
 
-  pub load_moves : (t s back : ℕ) → t < 16 → s < 16 → walk side n (applied e (L32e t s back)) lines ≡ Yes → Step_moves side n start e flags (L32e t s back) now
+  pub load_moves : (t s back : ℕ) → t < 16 → s < 16 → walk side n (applied e (L32e t s back)) lines ≡ Yes → StepMoves side n start e flags (L32e t s back) now
   load_moves t s back ht hs handles =
       let w : Word = record { base = register e.regs s; back = back } in
       let a = address (visible now s) back in
@@ -92,7 +92,7 @@ module _ (side : Side) (n : ℕ) (start : Machine) (e : Effect) (flags : List Bo
         touches = record { elsewhere = λ x h. refl; never = λ h x. refl };
       }
 
-  pub store_moves : (t s back : ℕ) → side ≡ Overflow → t < 16 → s < 16 → walk side n (applied e (S32e t s back)) lines ≡ Yes → Step_moves side n start e flags (S32e t s back) now
+  pub store_moves : (t s back : ℕ) → side ≡ Overflow → t < 16 → s < 16 → walk side n (applied e (S32e t s back)) lines ≡ Yes → StepMoves side n start e flags (S32e t s back) now
   store_moves t s back over ht hs handles =
       let w : Word = record { base = register e.regs s; back = back } in
       let st : Store = record { word = w; value = register e.regs t } in
@@ -109,7 +109,7 @@ module _ (side : Side) (n : ℕ) (start : Machine) (e : Effect) (flags : List Bo
       let good : is_access b ≡ true = room.stores over k small in
       let v = visible now t in
       let value : v ≡ visible start k = stands.shown t ht ∙ ap (λ (x : Store). meant start x.value) is in
-      let fits : v < 4294967296 = ap_below start v k room.fits value (omega (arith, room.three)) in
+      let fits : v < 4294967296 = value_below start v k room.fits value (omega (arith, room.three)) in
       let next : Machine = record { ring = now.ring; base = now.base; bytes = with_word now.bytes a v } in
       let next_is : with_word now.bytes a v ≡ with_word now.bytes b v = ap (λ x. with_word now.bytes x v) at in
       record {

@@ -1,8 +1,8 @@
 -- Stores that are wanted, as flags of the registers whose saves are left.
-use Rattle.std.proofs.Common.{◌≡◌, ◌≢◌, ℕ, zero, suc, ◌+◌, ◌<◌, ◌⊎◌, inl, inr, ⊎_elim, Bool, true, false, ◌==◌, refl, sym, ◌∙◌, ap, arith, List, [], ◌∷◌, length, get_or, set, Some, None}
+use Rattle.std.proofs.Common.{◌≡◌, ◌≢◌, ℕ, zero, suc, ◌+◌, ◌<◌, ◌⊎◌, inl, inr, ⊎_elim, Bool, true, false, ◌==◌, refl, ◌∙◌, ap, arith, List, [], ◌∷◌, length, get_or, set, Some, None}
 use Rattle.std.proofs.lemmas.Bool.{eq-eqb, ne_eqb, false≢true, true≢false, and_from, and_left, and_right, cond-true, cond-false}
 use Rattle.xt_stretch.specs.Symbols.{Symbol, Init, Load, Word, Store, Effect, same, same_word, same_store}
-use Rattle.xt_stretch.specs.Needs.{save_of, save_word, kept, then_without, without, still_wanted, wanted_stores, is_done, has_effect, marked, IsSpoiled}
+use Rattle.xt_stretch.specs.Needs.{save_of, save_word, kept, then_without, without, still_wanted, is_done, has_effect, marked, IsSpoiled}
 use Rattle.xt_stretch.specs.declared.Side.{Side}
 use Rattle.xt_stretch.specs.declared.Side.TheVariants.{Overflow}
 

@@ -29,7 +29,7 @@ use Rattle.xt_stretch.specs.Running.{Machine}
 use Rattle.xt_stretch.specs.Frames.{HasRoom}
 use Rattle.xt_stretch.specs.Kept.{Stands, HaveRegisters, Spares, step_at, ending_of, Handles, Turns, Done}
 use Rattle.xt_stretch.proofs.Unspoiled.{ending_yes}
-use Rattle.xt_stretch.proofs.Steps.{Step_moves, load_moves, store_moves, no_store}
+use Rattle.xt_stretch.proofs.Steps.{StepMoves, load_moves, store_moves, no_store}
 use Rattle.xt_stretch.proofs.Runs.{Ends, at_once, keeps_registers, saved_words, loaded_registers}
 
 two_small : (t s : ℕ) → two_registers t s ≡ true → (t < 16) × (s < 16)
@@ -59,7 +59,7 @@ step_registers a b c p q r = spelled_registers (spelled (fields_at a b c)) (λ i
 
 pub data Goes (side : Side) (n : ℕ) (start : Machine) (e : Effect) (flags : List Bool) (step : Step) (now : Machine) (rest : List Line) : Type 0 where
   closes : step ≡ ending_of side → has_effect side n e ≡ true → Goes side n start e flags step now rest
-  moves : Step_moves side n start e flags step now → walk side n (applied e step) rest ≡ Yes → Goes side n start e flags step now rest
+  moves : StepMoves side n start e flags step now → walk side n (applied e step) rest ≡ Yes → Goes side n start e flags step now rest
 
 goes : (side : Side) (n : ℕ) (start : Machine) (o : ℕ) (e : Effect) (flags : List Bool) (now : Machine) (step : Step) (rest : List Line) → HasRoom side n start →
     HasRegisters step → Stands side n start e flags now → answer_at side n e o step (walk side n (applied e step) rest) ≡ Yes → Goes side n start e flags step now rest

@@ -1,8 +1,8 @@
 -- A vector that handles is never spoiled on the way.
-use Rattle.std.proofs.Common.{◌≡◌, ◌⊎◌, ⊎_elim, inl, inr, ℕ, true, false, refl, sym, ◌∙◌, ap, List, [], ◌∷◌, Option, Some, None}
-use Rattle.std.proofs.lemmas.Bool.{cond-false, false≢true, and_left, and_right, cases_Bool}
+use Rattle.std.proofs.Common.{◌≡◌, ◌⊎◌, ⊎_elim, inl, inr, ℕ, true, refl, sym, ◌∙◌, ap, List, [], ◌∷◌, Option, Some, None}
+use Rattle.std.proofs.lemmas.Bool.{cond-false, false≢true, and_right, cases_Bool}
 use Rattle.xt_stretch.specs.Symbols.{Store, Effect, register, applied}
-use Rattle.xt_stretch.specs.Needs.{then_without, still_wanted, wanted_stores, is_among, named_words, are_named, is_done, has_effect}
+use Rattle.xt_stretch.specs.Needs.{then_without, still_wanted, wanted_stores, is_among, named_words, are_named, has_effect}
 use Rattle.xt_stretch.specs.Needs.{IsSpoiled}
 use Rattle.xt_stretch.proofs.Stores.{spoiled_end}
 use Rattle.xt_stretch.specs.Handling.{Line, ending, answer_at, walk}

@@ -44,13 +44,15 @@ pub record HasRoom (side : Side) (n : ℕ) (start : Machine) : Type 0 where
 abbrev pub IsOwn : Side → ℕ → Machine → ℕ → Type 0
 IsOwn side n start a =
     ((meant start (callee_sp n) ≤ a + 16) × (a + 4 ≤ meant start (callee_sp n)))
-    ⊎
-    ((1 < n) × (((meant start (link side n) ≤ a + 16 * n) × (a + 20 ≤ meant start (link side n))) ⊎ (a + 12 ≡ meant start (link_word side n).base)))
+    ⊎ ((1 < n)
+    × (((meant start (link side n) ≤ a + 16 * n) × (a + 20 ≤ meant start (link side n)))
+    ⊎ (a + 12 ≡ meant start (link_word side n).base)))
 
 -- a byte of those words
 abbrev pub IsOwnByte : Side → ℕ → Machine → ℕ → Type 0
 IsOwnByte side n start a =
     ((meant start (callee_sp n) ≤ a + 16) × (a < meant start (callee_sp n)))
-    ⊎ ((1 < n) × (((meant start (link side n) ≤ a + 16 * n) × (a + 16 < meant start (link side n)))
-    ⊎
-    ((meant start (link_word side n).base ≤ a + 12) × (a + 8 < meant start (link_word side n).base))))
+    ⊎ ((1 < n)
+    × (((meant start (link side n) ≤ a + 16 * n) × (a + 16 < meant start (link side n)))
+    ⊎ ((meant start (link_word side n).base ≤ a + 12)
+    × (a + 8 < meant start (link_word side n).base))))

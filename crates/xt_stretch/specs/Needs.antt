@@ -54,8 +54,8 @@ is_among w (v ∷ vs) = same_word w v || is_among w vs
 abbrev pub is_right : Side → ℕ → ℕ → Symbol → Bool
 is_right Overflow n i x = nat_lt i (4 * n) || same x (Init i)
 is_right Underflow n i x =
-    same x
-    (if nat_lt i (4 * n) then Load (save_word Underflow n i).base (save_word Underflow n i).back else Init i)
+    let saved = save_word Underflow n i in
+    same x (if nat_lt i (4 * n) then Load saved.base saved.back else Init i)
 
 abbrev pub are_right : Side → ℕ → ℕ → List Symbol → Bool
 are_right side n i [] = true
