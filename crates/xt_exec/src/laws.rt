@@ -4,8 +4,8 @@
 ghost use Rattle.xt_exec.specs.Ties.{IllegalReturnsAreBad, OverflowsAnswer, ReturnsAnswer, ReturnsUndoEntries};
 ghost use Rattle.xt_exec.specs.Laws.{DemandsAreServed, IgnoresReplyWithoutAccess, IsOneTurn, KeepsShape, OpensShaped, RecordsWhatItAsks};
 
-/// Each state and reply has exactly one record and next state. It holds of any function, and shows nothing
-/// of what a turn does.
+/// Each state and reply has exactly one record and next state. It holds of any function, and shows
+/// nothing of what a turn does.
 pub fn there_is_one_turn()
     ensures { IsOneTurn }
 {}

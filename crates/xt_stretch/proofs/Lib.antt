@@ -11,3 +11,4 @@ pub mod Witness
 pub mod Whole
 pub mod Changed
 pub mod Joins
+pub mod Passing

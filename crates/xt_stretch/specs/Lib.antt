@@ -7,3 +7,4 @@ pub mod Meaning
 pub mod Frames
 pub mod Kept
 pub mod Joined
+pub mod Common

@@ -15,6 +15,7 @@ ghost use Rattle.xt_stretch.specs.Handling.{handling};
 ghost use Rattle.xt_stretch.specs.Spelled.{lines_of};
 ghost use Rattle.xt_stretch.specs.declared.Side.TheVariants.{Overflow, Underflow};
 ghost use Rattle.xt_stretch.specs.declared.HandlerVerdict.TheVariants.{Yes};
+ghost use Rattle.xt_stretch.specs.Common.{CommonHandlersPass};
 ghost use Rattle.xt_stretch.specs.Kept.{LoadsFrames, StoresFrames};
 
 /// Which kind of window exception a vector is for.
@@ -58,4 +59,9 @@ pub fn overflow_stores_a_frame()
 pub fn underflow_loads_a_frame()
     ensures { (n : ℕ) (bytes : List ℕ) → 0 < n → n < 4 → ((i : ℕ) → slice_index bytes i < 256)
         → handling Underflow n (lines_of bytes) ≡ Yes → LoadsFrames n bytes }
+{}
+
+/// There are six handlers that pass the check: those of every program for this processor.
+pub fn common_handlers_pass()
+    ensures { CommonHandlersPass }
 {}
