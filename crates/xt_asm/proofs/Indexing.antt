@@ -1,10 +1,9 @@
 -- One word more in front of those whose addresses are known.
-use Rattle.std.proofs.Common.{◌≡◌, ℕ, ℤ, Bool, true, false, ◌&&◌, cond, eqb, List, ◌∷◌, Option, Some, is_none, refl, sym, ◌∙◌, ap, arith, Ordering, Less, Equal, Greater}
+use Rattle.std.proofs.Common.{◌≡◌, ℕ, ℤ, Bool, true, false, ◌&&◌, cond, eqb, List, ◌∷◌, Option, Some, is_none, refl, sym, ◌∙◌, ap}
 use Rattle.std.specs.Prelude.{zip, find, option_and_then, slice_get}
 use Rattle.std.specs.Option.{option_map}
-use Rattle.std.specs.Ordering.{is_eq, nat_cmp, ordering_then}
+use Rattle.std.specs.Ordering.{is_eq, nat_cmp}
 use Rattle.std.specs.Cmp.Lexicographic.{slice_cmp}
-use Rattle.std.proofs.lemmas.Bool.Decides.{nat_tests}
 use Rattle.xt_expr.specs.contracts.expr.TermOrd.TheImpl.{ghosts}
 use Rattle.xt_pool.specs.declared.word.PoolWord.{PoolWord}
 use Rattle.xt_pool.specs.Pools.{same_terms}

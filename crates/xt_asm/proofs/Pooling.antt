@@ -1,6 +1,6 @@
 -- The words of the pool at each line: where they stand among all words, how many they are, and that they are short.
-use Rattle.std.proofs.Common.{◌≡◌, ℕ, zero, suc, ◌+◌, ◌<◌, ◌≤◌, Bool, true, false, not, List, [], ◌∷◌, ◌++◌, Option, Some, None, length, take, drop, get_or, eqb, cond, refl, sym, ap, ◌∙◌, subst, arith, if◌then◌else◌}
-use Rattle.std.specs.Prelude.{All, count_by, filter, option_to_list}
+use Rattle.std.proofs.Common.{◌≡◌, ℕ, zero, suc, ◌+◌, ◌<◌, ◌≤◌, Bool, true, false, List, [], ◌∷◌, ◌++◌, Option, Some, None, length, take, drop, get_or, eqb, cond, refl, sym, ap, ◌∙◌, subst, arith, if◌then◌else◌}
+use Rattle.std.specs.Prelude.{All, count_by, option_to_list}
 use Rattle.std.specs.List.{AllByRecursion, prefix_len}
 use Rattle.std.specs.Option.{option_map}
 use Rattle.std.proofs.lemmas.List.{append_assoc, append-nil, length_push, length-take-le}
@@ -16,7 +16,7 @@ use Rattle.xt_parse.specs.declared.statement.Statement.{Statement}
 use Rattle.xt_parse.specs.declared.statement.Statement.TheVariants as statement
 use Rattle.xt_parse.specs.Small.{HasShortExprs, IsShort, IsShortOperand}
 use Rattle.xt_pool.specs.declared.word.PoolWord.{PoolWord}
-use Rattle.xt_pool.specs.Pools.{distinct, ends_pool, is_position, need, pool, pool_at, pool_use, shares, up_to_end, wanted, words_of}
+use Rattle.xt_pool.specs.Pools.{ends_pool, is_position, need, pool, pool_at, pool_use, up_to_end, wanted, words_of}
 use Rattle.xt_pool.proofs.Places.{distinct_keeps, join_keeps}
 use Rattle.xt_layout.specs.Sizes.{pool_size}
 use Rattle.xt_layout.proofs.Each.{here, next}

@@ -9,7 +9,6 @@ use Rattle.xt_isa.specs.Ranges.{AreNibbles}
 use Rattle.xt_isa.specs.Spelling.{fields_at, length_of, spelled}
 use Rattle.xt_codec.specs.declared.Decoded.TheVariants.{Good}
 use Rattle.xt_codec.specs.Answers.{answer}
-use Rattle.xt_lex.specs.declared.name.Name.{Name}
 use Rattle.xt_mnemonic.specs.declared.argument.OperandFault.{OperandFault}
 use Rattle.xt_names.specs.declared.mnemonic.Mnemonic.{Mnemonic}
 use Rattle.xt_names.specs.Forms.{size_of}

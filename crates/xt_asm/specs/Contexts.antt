@@ -1,5 +1,5 @@
 -- What the code knows of a statement, as the definitions see it.
-use Rattle.std.specs.Prelude.{length, ◌||◌, [], ◌∷◌, ◌≡◌, true, List, Option, Some, Result, Ok, Vec, option_map, pos}
+use Rattle.std.specs.Prelude.{length, ◌||◌, [], ◌∷◌, ◌≡◌, true, List, Option, Some, Result, Ok, Vec, option_map}
 use Rattle.std.specs.declared.alloc.Global.{Global}
 use Rattle.xt_isa.specs.declared.Insn.{Insn}
 use Rattle.xt_isa.specs.Ranges.{in_range}
@@ -8,7 +8,6 @@ use Rattle.xt_mnemonic.specs.declared.argument.OperandFault.{OperandFault}
 use Rattle.xt_names.specs.declared.mnemonic.Mnemonic.{Mnemonic}
 use Rattle.xt_names.specs.Forms.{size_of}
 use Rattle.xt_mnemonic.specs.Lengths.{HasLength}
-use Rattle.xt_parse.specs.declared.statement.Operand.{Operand}
 use Rattle.xt_asm.specs.declared.operands.Context.{Context}
 use Rattle.xt_parse.specs.declared.line.Line.{Line}
 use Rattle.xt_parse.specs.declared.statement.Statement.{Statement}
