@@ -1,5 +1,5 @@
--- Windows are frames: the judged part of a run of the processor with windows is a run of the
--- machine with unbounded call frames.
+-- Windows are frames: the judged part of a run of the processor with windows is a run of the machine
+-- with unbounded call frames ('profile': the definitions of xt_frames over the processor's).
 use Rattle.std.specs.Prelude.{◌≡◌, ℕ, zero, suc, Bool, true, false, Some, List, [], ◌∷◌, take}
 use Rattle.xt_map.specs.declared.segment.Segment.{Segment}
 use Rattle.xt_map.specs.Memory.{constant_byte}

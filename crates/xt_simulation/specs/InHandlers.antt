@@ -1,6 +1,7 @@
--- What holds of a core inside handler steps. All of the relation but the contents of memory is said
--- of the state before the record of the window exception; of the state now: PC and how much of the
--- handler is left, the special registers, and what the handler has moved so far.
+-- What holds of a core inside handler steps, and what a handler step and a whole stretch of them have
+-- done ('profile'). All of the relation but the contents of memory is said of the state before the
+-- record of the window exception; of the state now: PC and how much of the handler is left, the special
+-- registers, and what the handler has moved so far.
 use Rattle.std.specs.Prelude.{◌≡◌, ◌≤◌, ◌<◌, ℕ, ◌+◌, ◌*◌, ◌%◌, ◌^◌, Bool, true, false, Some, None, List, [], ◌∷◌, ◌++◌, slice_index_or}
 use Rattle.xt_map.specs.declared.contents.MemoryContents.{MemoryContents}
 use Rattle.xt_map.specs.Memory.{byte_at}
