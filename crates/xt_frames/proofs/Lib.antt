@@ -1,0 +1,6 @@
+pub mod Stacked
+pub mod StackSteps
+pub mod Sixteen
+pub mod Newest
+pub mod Kept
+pub mod Tests

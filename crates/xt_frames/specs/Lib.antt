@@ -5,3 +5,6 @@ pub mod HandlerSteps
 pub mod Breaches
 pub mod Judging
 pub mod Verdict
+pub mod Stacks
+pub mod Parts
+pub mod Walked

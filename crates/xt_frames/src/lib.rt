@@ -2,6 +2,14 @@
 //! the kinds of breach of its stack discipline, and the walk of the judge over a run's records.
 #![tactic(auto)]
 
+mod breach;
+mod callers;
+mod fetch;
+mod frames;
 mod kinds;
+mod registers;
+mod view;
 
+pub use fetch::{Fetch, instruction_at};
+pub use frames::Frames;
 pub use kinds::{Breach, BreachKind, Judged};

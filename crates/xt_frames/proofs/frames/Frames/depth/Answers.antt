@@ -1,0 +1,23 @@
+use Rattle.std.proofs.Common.{◌≡◌, sym, ◌∙◌, ap, arith, length}
+use Rattle.xt_frames.specs.Frames.{known}
+use Rattle.xt_frames.specs.Parts.{frames_of}
+use Rattle.xt_frames.specs.Walked.{Walked}
+use Rattle.xt_frames.proofs.Newest.{frames_length}
+use Rattle.xt_frames.proofs.Stacked.{chain_depth}
+use Rattle.xt_frames.proofs.frames.Frames.depth.Goals as goal
+
+pub depth_of-requires : goal.depth_of-requires
+depth_of-requires c =
+    let items = c.self.inside.callers.items in
+    let k = c.self.invariant.stack in
+    let top = k.range.top in
+    let deep = chain_depth c.self.inside.limits.lo c.self.inside.limits.hi (known c.self.inside.view.seen 1) (frames_of items) k.chain in
+    let l = frames_length items in
+    let d : length c.deref.result.now ≡ length items = ap length c.deref.ensures.value in
+    omega (arith, top, deep, l, d)
+
+pub returns : goal.returns
+returns c =
+    let items = c.self.inside.callers.items in
+    let e = c.depth_of.ensures ∙ (ap length c.deref.ensures.value ∙ (sym (frames_length items) ∙ ap (λ (w : Walked). length w.state.frames) c.self.view_is)) in
+    record { depth = e }

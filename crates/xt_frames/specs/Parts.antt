@@ -1,0 +1,98 @@
+-- How the program keeps a frame state, and what its functions answer.
+use Rattle.std.specs.Prelude.{◌≡◌, ℕ, ◌+◌, ◌*◌, ◌<◌, ◌≤◌, ◌^◌, true, false, Option, Some, None, List, [], ◌∷◌, map, reverse, take}
+use Rattle.xt_isa.specs.Ranges.{in_range}
+use Rattle.xt_isa.specs.Spelling.{spelled, fields_at, length_of}
+use Rattle.xt_special.specs.Control.{Control}
+use Rattle.xt_special.specs.Interrupts.{pending_of}
+use Rattle.xt_rows.specs.Fetching.{Fetched, Fetches, Fails, SpellsNothing, fetched, read_as}
+use Rattle.xt_frames.specs.declared.fetch.Fetch.{Fetch}
+use Rattle.xt_frames.specs.declared.fetch.Fetch.TheVariants as fetch
+use Rattle.xt_frames.specs.declared.view.Caller.{Caller}
+use Rattle.xt_frames.specs.declared.view.Call.{Call}
+use Rattle.xt_frames.specs.declared.view.Call.TheVariants.{Stays, Calls, Returns}
+use Rattle.xt_frames.specs.declared.view.Step.{Step}
+use Rattle.xt_frames.specs.declared.view.Plan.{Plan}
+use Rattle.xt_frames.specs.declared.view.Plan.TheVariants as plan
+use Rattle.xt_frames.specs.Frames.{Frame, FrameState}
+use Rattle.xt_frames.specs.FrameStep.{FrameTurn}
+
+-- ---- fetching
+
+-- what a fetch answers; an instruction has its operands in their ranges
+abbrev pub IsFetched : Fetch → Fetched → Type 0
+IsFetched (fetch.Insn i len) f = (f ≡ Fetches i len) × (in_range i ≡ true)
+IsFetched (fetch.Fails address) f = f ≡ Fails address
+IsFetched fetch.Nothing f = f ≡ SpellsNothing
+
+-- an instruction that is fetched has its operands in their ranges
+abbrev pub IsGoodFetch : Fetch → Type 0
+IsGoodFetch (fetch.Insn i len) = in_range i ≡ true
+IsGoodFetch (fetch.Fails address) = Unit {0}
+IsGoodFetch fetch.Nothing = Unit {0}
+
+-- what the bytes at an address spell
+abbrev pub read_at : (ℕ → ℕ) → ℕ → Fetched
+read_at code pc = read_as (spelled (fields_at (code pc) (code (pc + 1)) (code (pc + 2)))) (length_of (code pc))
+
+-- ---- a frame state is kept as a view and the callers, the oldest first
+
+pub record Upper : Type 0 where
+  pub seen : List (Option ℕ)
+  pub control : Control
+
+abbrev pub state_at : List Frame → Upper → FrameState
+state_at frames v = record { seen = v.seen; frames = frames; control = v.control }
+
+abbrev pub frame_of : Caller → Frame
+frame_of c = record { by = c.by; kept = take (4 * c.by) c.kept }
+
+unfoldable pub frames_of : List Caller → List Frame
+frames_of callers = reverse (map frame_of callers)
+
+-- the newest caller of these frames, if any
+abbrev pub newest_of : List Frame → Option Frame
+newest_of [] = None
+newest_of (f ∷ fs) = Some f
+
+abbrev pub frame_where : Option Caller → Option Frame
+frame_where None = None
+frame_where (Some c) = Some (frame_of c)
+
+abbrev pub IsNewest : Option Caller → List Frame → Type 0
+IsNewest newest frames = newest_of frames ≡ frame_where newest
+
+abbrev pub without_newest : List Frame → List Frame
+without_newest [] = []
+without_newest (f ∷ fs) = fs
+
+-- a caller moved by 1, 2 or 3 windows
+abbrev pub IsSmall : Option Caller → Type 0
+IsSmall None = Unit {0}
+IsSmall (Some c) = c.by < 4
+
+-- what a special register can hold, and 0 where there is none
+abbrev pub IsHeld : Option ℕ → ℕ → Type 0
+IsHeld None u = u ≡ 0
+IsHeld (Some number) u = number ≡ 3 → u < 2 ^ 6
+
+-- ---- a step
+
+-- the frames after a call, a return or another step
+abbrev pub frames_after : Call → List Frame → List Frame
+frames_after Stays frames = frames
+frames_after (Calls c) frames = frame_of c ∷ frames
+frames_after Returns frames = without_newest frames
+
+abbrev pub turn_as : Step → List Frame → Upper → FrameTurn
+turn_as t frames v = record { kind = t.kind; write = t.write; access = t.access; after = state_at (frames_after t.call frames) v }
+
+-- what the next step is
+abbrev pub IsPlan : Plan → (ℕ → ℕ) → Control → Type 0
+IsPlan (plan.Interrupt level) code c = (pending_of c ≡ level) × (1 ≤ level) × (level ≤ 3)
+IsPlan plan.Waits code c = (pending_of c ≡ 0) × (c.waits ≡ true)
+IsPlan (plan.Fetched f) code c = (pending_of c ≡ 0) × (c.waits ≡ false) × IsFetched f (fetched code c.pc)
+
+abbrev pub IsGood : Plan → Type 0
+IsGood (plan.Interrupt level) = Unit {0}
+IsGood plan.Waits = Unit {0}
+IsGood (plan.Fetched f) = IsGoodFetch f

@@ -1,0 +1,439 @@
+//! The breaches that a judged step shows.
+#![tactic(auto)]
+
+ghost use Rattle.std.specs.Prelude.{◌≡◌, ℕ, Bool, List, [], ◌∷◌, None, true, false};
+ghost use Rattle.xt_isa.specs.Ranges.{in_range};
+ghost use Rattle.xt_map.specs.Memory.{constant_byte};
+ghost use Rattle.xt_rows.specs.Fetching.{fetched};
+ghost use Rattle.xt_frames.specs.Frames.{Frame, FrameState};
+ghost use Rattle.xt_frames.specs.SaveAreas.{Range, before};
+ghost use Rattle.xt_frames.specs.FrameStep.{laid_step};
+ghost use Rattle.xt_frames.specs.Breaches.{fetched_return_breach, first_shown, fresh_after, has_no_caller, insn_tests, is_in_vectors, is_movsp, is_return, is_windowing, laid_breach, leaves_range, may_write_sp, misaligns_sp, moves_vectors, names_high, names_window_register, opens_nothing, other_frame_size, other_tests, reads_epc1, reads_lost, reads_none, returns_elsewhere, sets_epc1, small_frame, vector_test, window_breach, writes_epc1, writes_sp};
+ghost use Rattle.xt_frames.specs.declared.view.Step.{Step};
+ghost use Rattle.xt_frames.specs.Parts.{IsGood, IsNewest, IsPlan, Upper, state_at, turn_as};
+ghost use Rattle.xt_frames.specs.Walked.{IsCase, bounds_of, shown_tests};
+
+use crate::fetch::{Fetch, instruction_at};
+use crate::kinds::BreachKind;
+use crate::view::{Caller, Plan, Step, View};
+use xt_isa::Insn;
+use xt_isa::control::{Control, RetName};
+use xt_isa::density::{Density, NarrowRetName};
+use xt_isa::memory::Memory;
+use xt_isa::shift::Shift;
+use xt_isa::system::{ReturnName, SpecialName, System};
+use xt_map::Constants;
+use xt_rows::{Write, minus, named, natural, reads, special_reads};
+use xt_special::number;
+use xt_trace::{RegWrite, StepKind, StepRecord};
+
+/// What a core is judged by: its stack range, and VECBASE as it opened.
+#[derive(Clone, Copy)]
+pub struct Limits {
+    pub lo: u32,
+    pub hi: u32,
+    pub vecbase: u32,
+}
+
+/// A kind of breach, and whether the step shows it.
+#[derive(Clone, Copy)]
+pub struct Tested {
+    pub kind: BreachKind,
+    pub shown: bool,
+}
+
+/// What a judged step is tested by, beside its instruction.
+#[derive(Clone, Copy)]
+pub struct Case {
+    /// The stack range, and VECBASE as it opened.
+    pub limits: Limits,
+    /// Whether EPC1 has what was last written.
+    pub fresh: bool,
+    /// Whether the record stores to a live save area of either core.
+    pub saves: bool,
+    /// Whether the record loads a stale byte, or one of a live save area.
+    pub stale: bool,
+    /// The newest caller, if any.
+    pub newest: Option<Caller>,
+    /// The stack pointer of the newest caller, or HI.
+    pub under: u32,
+}
+
+fn test(kind: BreachKind, shown: bool) -> Tested
+    ensures { result ≡ record { kind = kind; shown = shown } }
+{
+    Tested { kind, shown }
+}
+
+/// The first kind that is shown.
+fn first_shown(tests: &[Tested]) -> Option<BreachKind>
+    ensures { result ≡ first_shown (shown_tests tests.now) }
+{
+    for t in tests {
+        if t.shown {
+            return Some(t.kind);
+        }
+    }
+    None
+}
+
+fn reads_none(i: Insn, view: &View) -> bool
+    requires { in_range i ≡ true }
+    ensures { (frames : List Frame) → result ≡ reads_none i (state_at frames view.now) }
+{
+    let (first, second) = reads(i);
+    view.lacks(first) || view.lacks(second)
+}
+
+#[tactic(auto, unfolding(crate::specs::Breaches::may_write_sp))]
+fn may_write_sp(i: Insn) -> bool
+    ensures { result ≡ may_write_sp i }
+{
+    matches!(
+        i,
+        Insn::Control(Control::Entry(_, _)) | Insn::Shift(Shift::Movsp(_, _))
+    )
+}
+
+fn writes_sp(i: Insn, shown: Option<RegWrite>, write: Option<Write>) -> bool
+    ensures { result ≡ writes_sp i shown write }
+{
+    let shows = match shown {
+        Some(w) => w.reg == 1,
+        None => false,
+    };
+    let is = match write {
+        Some(w) => w.number == 1,
+        None => false,
+    };
+    !may_write_sp(i) && (shows || is)
+}
+
+fn small_frame(under: u32, sp: u32, size: u32, by: u8) -> bool
+    ensures { (hi : ℕ) (frames : List Frame) → under ≡ before hi frames → result ≡ small_frame hi sp size by frames }
+{
+    size < 16 || u64::from(under) < u64::from(sp) + 16 * u64::from(by)
+}
+
+#[tactic(auto, unfolding(crate::specs::Breaches::other_frame_size))]
+fn other_frame_size(i: Insn, view: &View, under: u32) -> bool
+    ensures { (r : Range) (frames : List Frame) → under ≡ before r.hi frames → result ≡ other_frame_size r i (state_at frames view.now) }
+{
+    match i {
+        Insn::Control(Control::Entry(number, size)) => {
+            number != 1 || small_frame(under, view.known(1), natural(size), view.callinc())
+        }
+        _ => false,
+    }
+}
+
+#[tactic(auto, unfolding(crate::specs::Breaches::leaves_range))]
+fn leaves_range(i: Insn, view: &View, limits: Limits) -> bool
+    ensures { (frames : List Frame) → result ≡ leaves_range (bounds_of limits).range i (state_at frames view.now) }
+{
+    match i {
+        Insn::Control(Control::Entry(_, size)) => {
+            let sp = minus(view.known(1), natural(size));
+            u64::from(sp) < u64::from(limits.lo) + 16 || limits.hi < sp
+        }
+        _ => false,
+    }
+}
+
+#[tactic(auto, unfolding(crate::specs::Breaches::misaligns_sp))]
+fn misaligns_sp(i: Insn, view: &View) -> bool
+    ensures { (frames : List Frame) → result ≡ misaligns_sp i (state_at frames view.now) }
+{
+    match i {
+        Insn::Control(Control::Entry(_, size)) => { minus(view.known(1), natural(size)) % 16 != 0 }
+        _ => false,
+    }
+}
+
+#[tactic(auto, unfolding(crate::specs::Breaches::opens_nothing))]
+fn opens_nothing(i: Insn, view: &View) -> bool
+    ensures { (frames : List Frame) → result ≡ opens_nothing i (state_at frames view.now) }
+{
+    match i {
+        Insn::Control(Control::Entry(_, _)) => view.callinc() == 0,
+        _ => false,
+    }
+}
+
+#[tactic(auto, unfolding(crate::specs::Breaches::is_return))]
+fn is_return(i: Insn) -> bool
+    ensures { result ≡ is_return i }
+{
+    matches!(
+        i,
+        Insn::Control(Control::Ret(RetName::Retw))
+            | Insn::Density(Density::Ret(NarrowRetName::Retw))
+    )
+}
+
+fn returns_elsewhere(i: Insn, view: &View, newest: Option<Caller>) -> bool
+    ensures { (frames : List Frame) → IsNewest newest frames → result ≡ returns_elsewhere i (state_at frames view.now) }
+{
+    is_return(i)
+        && match newest {
+            Some(caller) => view.known(0) / 0x4000_0000 != u32::from(caller.by),
+            None => false,
+        }
+}
+
+fn has_no_caller(i: Insn, newest: Option<Caller>) -> bool
+    ensures { (frames : List Frame) (v : Upper) → IsNewest newest frames → result ≡ has_no_caller i (state_at frames v) }
+{
+    is_return(i) && newest.is_none()
+}
+
+#[tactic(auto, unfolding(crate::specs::Breaches::is_windowing))]
+fn is_windowing(i: Insn) -> bool
+    ensures { result ≡ is_windowing i }
+{
+    matches!(
+        i,
+        Insn::Memory(Memory::L32e(_, _, _, _))
+            | Insn::System(System::Rfe(ReturnName::Rfwo | ReturnName::Rfwu) | System::Rotw(_))
+    )
+}
+
+#[tactic(auto, unfolding(crate::specs::Breaches::names_window_register))]
+fn names_window_register(i: Insn) -> bool
+    ensures { result ≡ names_window_register i }
+{
+    match i {
+        Insn::System(System::Rsr(_, _, n)) => {
+            n == number::WINDOWBASE || n == number::WINDOWSTART
+        }
+        _ => false,
+    }
+}
+
+fn reads_lost(fresh: bool, register: Option<u8>) -> bool
+    ensures { result ≡ reads_lost fresh register }
+{
+    match register {
+        Some(n) => n == number::EPC1 && !fresh,
+        None => false,
+    }
+}
+
+fn reads_epc1(fresh: bool, i: Insn) -> bool
+    requires { in_range i ≡ true }
+    ensures { result ≡ reads_epc1 fresh i }
+{
+    let (first, second) = special_reads(i);
+    reads_lost(fresh, first) || reads_lost(fresh, second)
+}
+
+#[tactic(auto, unfolding(crate::specs::Breaches::is_movsp))]
+fn is_movsp(i: Insn) -> bool
+    ensures { result ≡ is_movsp i }
+{
+    matches!(i, Insn::Shift(Shift::Movsp(_, _)))
+}
+
+fn is_in_vectors(limits: Limits, pc: u32) -> bool
+    ensures { result ≡ is_in_vectors limits.vecbase pc }
+{
+    limits.vecbase <= pc && u64::from(pc) < u64::from(limits.vecbase) + 0x180
+}
+
+fn names_high(i: Insn, view: &View) -> bool
+    ensures { (frames : List Frame) → result ≡ names_high i (state_at frames view.now) }
+{
+    view.excm() && 4 <= named(i)
+}
+
+fn moves_vectors(limits: Limits, after: &View) -> bool
+    ensures { (frames : List Frame) (step : Step) → result ≡ moves_vectors (bounds_of limits) (turn_as step frames after.now) }
+{
+    after.vecbase() != limits.vecbase
+}
+
+/// The first breach of a step that fetches an instruction.
+fn insn_breach(
+    case: &Case,
+    i: Insn,
+    rec: &StepRecord,
+    view: &View,
+    step: &Step,
+    after: &View,
+) -> Option<BreachKind>
+    requires { in_range i ≡ true }
+    ensures { (frames : List Frame) (live stale : ℕ → Bool) → IsCase case.now rec.now frames live stale
+        → result ≡ first_shown (insn_tests (bounds_of case.now.limits) case.now.fresh live stale i rec.now (state_at frames view.now) (turn_as step.now frames after.now)) }
+{
+    let limits = case.limits;
+    let newest = case.newest;
+    let tests = [
+        // reads a register that has no value
+        test(BreachKind::Unset, reads_none(i, view)),
+        // has a1 as the written register, by another instruction than ENTRY or MOVSP
+        test(BreachKind::SpWritten, writes_sp(i, rec.write, step.write)),
+        // ENTRY with s other than 1, size below 16, or a caller whose frame is too small
+        test(BreachKind::FrameSize, other_frame_size(i, view, case.under)),
+        // ENTRY whose new sp, less 16, is below LO, or whose sp is above HI
+        test(BreachKind::StackRange, leaves_range(i, view, limits)),
+        // ENTRY whose new sp is no multiple of 16
+        test(BreachKind::SpAlign, misaligns_sp(i, view)),
+        // ENTRY with CALLINC 0, so that no call opened the frame
+        test(BreachKind::OpeningCall, opens_nothing(i, view)),
+        // RETW whose a0 names another n than the frame's
+        test(
+            BreachKind::ReturnMismatch,
+            returns_elsewhere(i, view, newest),
+        ),
+        // RETW in the opening frame
+        test(BreachKind::NoCaller, has_no_caller(i, newest)),
+        // a store or S32C1I that touches a live save area of either core
+        test(BreachKind::SaveStore, case.saves),
+        // a load or S32C1I that touches a stale byte, or a load that touches a live save area
+        test(BreachKind::StaleLoad, case.stale),
+        // names a4..a15 while EXCM = 1
+        test(BreachKind::ExcmRegister, names_high(i, view)),
+        // ROTW, L32E, S32E, RFWO or RFWU
+        test(BreachKind::WindowInstruction, is_windowing(i)),
+        // RSR, WSR or XSR of WINDOWBASE or WINDOWSTART
+        test(BreachKind::WindowRegister, names_window_register(i)),
+        // leaves PS.WOE 0
+        test(BreachKind::WoeCleared, !after.woe()),
+        // leaves VECBASE other than it opened
+        test(BreachKind::VecbaseMoved, moves_vectors(limits, after)),
+        // reads EPC1 after EXCM has fallen since it was last written
+        test(BreachKind::EpcLost, reads_epc1(case.fresh, i)),
+        // a MOVSP
+        test(BreachKind::Movsp, is_movsp(i)),
+        // PC is in VECBASE + 000..17F
+        test(BreachKind::VectorEntered, is_in_vectors(limits, view.pc())),
+    ];
+    first_shown(&tests)
+}
+
+/// The first breach of a step that fetches none: a turn of cause 2, or of cause 0 because nothing spells the bytes.
+fn other_breach(
+    case: &Case,
+    rec: &StepRecord,
+    view: &View,
+    step: &Step,
+    after: &View,
+) -> Option<BreachKind>
+    ensures { (frames : List Frame) (live stale : ℕ → Bool) → IsCase case.now rec.now frames live stale
+        → result ≡ first_shown (other_tests (bounds_of case.now.limits) live stale rec.now (state_at frames view.now) (turn_as step.now frames after.now)) }
+{
+    let limits = case.limits;
+    let tests = [
+        test(BreachKind::SaveStore, case.saves),
+        test(BreachKind::StaleLoad, case.stale),
+        test(BreachKind::WoeCleared, !after.woe()),
+        test(BreachKind::VecbaseMoved, moves_vectors(limits, after)),
+        test(BreachKind::VectorEntered, is_in_vectors(limits, view.pc())),
+    ];
+    first_shown(&tests)
+}
+
+/// An interrupt or a turn of waiting shows VectorEntered alone.
+fn vector_breach(limits: Limits, view: &View) -> Option<BreachKind>
+    ensures { (frames : List Frame) → result ≡ first_shown (vector_test (bounds_of limits) (state_at frames view.now) ∷ []) }
+{
+    if is_in_vectors(limits, view.pc()) {
+        Some(BreachKind::VectorEntered)
+    } else {
+        None
+    }
+}
+
+/// The first breach of a step that was planned so, where the inputs of its record are laid over the state before it.
+#[tactic(auto, unfolding(crate::specs::Breaches::laid_breach))]
+pub fn breach_of(
+    case: &Case,
+    plan: Plan,
+    rec: &StepRecord,
+    view: &View,
+    step: &Step,
+    after: &View,
+) -> Option<BreachKind>
+    requires { IsGood plan }
+    ensures { (code : ℕ → ℕ) (frames : List Frame) (live stale : ℕ → Bool) → IsCase case.now rec.now frames live stale
+        → IsPlan plan code view.now.control → turn_as step.now frames after.now ≡ laid_step code rec.now.reply (state_at frames view.now)
+        → result ≡ laid_breach (bounds_of case.now.limits) case.now.fresh code live stale rec.now (state_at frames view.now) }
+{
+    match plan {
+        Plan::Interrupt(_) | Plan::Waits => vector_breach(case.limits, view),
+        Plan::Fetched(Fetch::Insn(i, _)) => insn_breach(case, i, rec, view, step, after),
+        Plan::Fetched(Fetch::Fails(_) | Fetch::Nothing) => {
+            other_breach(case, rec, view, step, after)
+        }
+    }
+}
+
+/// The first breach that the record of an underflow shows of the RETW at PC.
+pub fn return_breach(code: &Constants, view: &View, newest: Option<Caller>) -> Option<BreachKind>
+    ensures { (frames : List Frame) → IsNewest newest frames
+        → result ≡ fetched_return_breach (fetched (constant_byte code.now) view.now.control.pc) (state_at frames view.now) }
+{
+    match instruction_at(code, view.pc()) {
+        Fetch::Insn(i, _) => {
+            if is_return(i) {
+                let tests = [
+                    test(BreachKind::Unset, reads_none(i, view)),
+                    test(
+                        BreachKind::ReturnMismatch,
+                        returns_elsewhere(i, view, newest),
+                    ),
+                    test(BreachKind::NoCaller, has_no_caller(i, newest)),
+                ];
+                first_shown(&tests)
+            } else {
+                None
+            }
+        }
+        Fetch::Fails(_) | Fetch::Nothing => None,
+    }
+}
+
+#[tactic(auto, unfolding(crate::specs::Breaches::sets_epc1))]
+fn sets_epc1(i: Insn) -> bool
+    ensures { result ≡ sets_epc1 i }
+{
+    match i {
+        Insn::System(System::Rsr(SpecialName::Wsr | SpecialName::Xsr, _, n)) => n == number::EPC1,
+        _ => false,
+    }
+}
+
+/// Whether a record of this kind is tested for the RETW at PC: one of an underflow.
+#[tactic(auto, unfolding(crate::specs::Breaches::window_breach))]
+pub fn underflows(kind: StepKind) -> bool
+    ensures yes { result ≡ true → (code : ℕ → ℕ) (f : FrameState) → window_breach code kind f ≡ fetched_return_breach (fetched code f.control.pc) f }
+    ensures no { result ≡ false → (code : ℕ → ℕ) (f : FrameState) → window_breach code kind f ≡ None }
+{
+    match kind {
+        StepKind::Window(vector) => vector == 1 || vector == 3 || vector == 5,
+        _ => false,
+    }
+}
+
+/// Whether a step of this kind writes EPC1.
+#[tactic(auto, unfolding(crate::specs::Breaches::writes_epc1))]
+fn writes_epc1(kind: StepKind, code: &Constants, view: &View) -> bool
+    ensures { result ≡ writes_epc1 kind (fetched (constant_byte code.now) view.now.control.pc) view.now.control.ps }
+{
+    match kind {
+        StepKind::Exc(_) => !view.excm(),
+        StepKind::Interrupt(level) => level == 1 && !view.excm(),
+        StepKind::Insn => match instruction_at(code, view.pc()) {
+            Fetch::Insn(i, _) => sets_epc1(i),
+            Fetch::Fails(_) | Fetch::Nothing => false,
+        },
+        _ => false,
+    }
+}
+
+/// Whether EPC1 has what was last written, after a step of this kind.
+pub fn fresh_after(fresh: bool, kind: StepKind, code: &Constants, view: &View, after: &View) -> bool
+    ensures { result ≡ fresh_after fresh kind (fetched (constant_byte code.now) view.now.control.pc) view.now.control.ps after.now.control.ps }
+{
+    writes_epc1(kind, code, view) || (fresh && !(view.excm() && !after.excm()))
+}

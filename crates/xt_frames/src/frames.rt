@@ -1,0 +1,243 @@
+//! A core of the machine with unbounded frames.
+#![tactic(auto)]
+
+ghost use Rattle.std.specs.Prelude.{◌≡◌, ◌≤◌, ◌<◌, ◌+◌, ◌%◌, ◌^◌, ℕ, Bool, length, IfOk};
+ghost use Rattle.xt_map.specs.Memory.{constant_byte};
+ghost use Rattle.xt_frames.specs.FrameStep.{laid};
+ghost use Rattle.xt_frames.specs.SaveAreas.{before};
+ghost use Rattle.xt_frames.specs.Breaches.{inputs_of, loads_stale, own_breach, touches_save_area, window_breach};
+ghost use Rattle.xt_frames.specs.Parts.{IsNewest, IsSmall, frames_after, state_at};
+ghost use Rattle.xt_frames.specs.Stacks.{IsRange, Stack};
+ghost use Rattle.xt_frames.specs.Walked.{IsJudged, IsTested, bounds_of, calls_at, found_in, fresh_before, opened, sp_at, stack_of};
+
+use crate::breach::{Case, Limits, breach_of, fresh_after, return_breach, underflows};
+use crate::callers::{calls_in, change, depth_of, newest_of, sp_in, under};
+use crate::kinds::{Breach, BreachKind};
+use crate::view::{Call, Caller, View};
+use std::alloc::{AllocError, Global};
+use std::marker::Model;
+use xt_map::Constants;
+use xt_trace::{Options, Stack as Range, StepRecord};
+
+/// A core of the machine with unbounded frames, as it walks over the judged records of its core. Contracts see its number, its stack
+/// range and VECBASE, its frame state, whether EPC1 has what was last written, and the number of the record behind the last judged
+/// one.
+///
+/// Its stack pointers lie in a chain, so that the frames that can stand on its stack are few, and there is room for all of them.
+#[derive(Drop)]
+pub struct Frames {
+    core: u8,
+    limits: Limits,
+    view: View,
+    // The callers, the oldest first.
+    callers: Vec<Caller>,
+    // Whether EPC1 has what was last written.
+    fresh: bool,
+    // The number of the record behind the last judged one.
+    next: u64,
+}
+
+impl Model for Frames {
+    ghost use Rattle.std.specs.Prelude.{vec_capacity};
+    ghost use Rattle.xt_frames.specs.Parts.{frames_of, state_at};
+    ghost use Rattle.xt_frames.specs.Walked.{AreKept, Walked, bounds_of};
+
+    ghost Value = { Walked };
+
+    ghost view = { λ f. record { core = f.core; bounds = bounds_of f.limits; state = state_at (frames_of f.callers.items) f.view; fresh = f.fresh; next = f.next } };
+
+    ghost invariant = { λ f. AreKept f.limits.lo f.limits.hi f.view f.callers.items (vec_capacity f.callers) };
+}
+
+impl Frames {
+    /// A core as it opens, at `pc`. It takes all memory that its frames ever need: room for (HI - LO)/16 + 2 of them. The only error
+    /// is too little memory.
+    ///
+    /// Conditions: the core is 0 or 1, `vecbase` is a multiple of 1024, and the core's stack range is one of multiples of 16 below
+    /// 2^30, of 256 bytes at least.
+    pub fn make(alloc: Global, core: u8, pc: u32, options: &Options) -> Result<Frames, AllocError>
+        requires core { core < 2 }
+        requires vecbase { options.now.vecbase % 2 ^ 10 ≡ 0 }
+        requires stack { IsRange (stack_of core options.now).lo (stack_of core options.now).hi }
+        ensures { IfOk result (λ f. f ≡ opened core pc options.now) }
+    {
+        let stack = stack_of(core, options);
+        let room = (stack.hi - stack.lo) / 16 + 2;
+        let view = View::open(core, pc, options.vecbase, stack.hi);
+        let callers = Vec::with_capacity(alloc, room as usize)?;
+        Ok(Frames {
+            core,
+            limits: Limits {
+                lo: stack.lo,
+                hi: stack.hi,
+                vecbase: options.vecbase,
+            },
+            view,
+            callers,
+            fresh: true,
+            next: 0,
+        })
+    }
+
+    /// The newest caller, if any.
+    fn newest(&self) -> Option<Caller>
+        ensures newest { IsNewest result self.now.state.frames }
+        ensures small { IsSmall result }
+    {
+        newest_of(&self.callers)
+    }
+
+    /// The newest caller's stack pointer, or HI.
+    fn under(&self) -> u32
+        ensures { result ≡ before self.now.bounds.range.hi self.now.state.frames }
+    {
+        under(&self.callers, self.limits.hi)
+    }
+
+    fn breach(&self, step: u32, kind: BreachKind) -> Breach
+        ensures { result ≡ record { core = self.now.core; step = step; kind = kind } }
+    {
+        Breach {
+            core: self.core,
+            step,
+            kind,
+        }
+    }
+
+    /// What a record of this number is tested by.
+    fn case(&self, index: u32, saves: bool, stale: bool) -> Case
+        ensures bounds { bounds_of result.limits ≡ self.now.bounds }
+        ensures fresh { result.fresh ≡ fresh_before self.now index }
+        ensures small { IsSmall result.newest }
+        ensures newest { IsNewest result.newest self.now.state.frames }
+        ensures under { result.under ≡ before result.limits.hi self.now.state.frames }
+        ensures saves { result.saves ≡ saves }
+        ensures stale { result.stale ≡ stale }
+    {
+        Case {
+            limits: self.limits,
+            fresh: self.fresh && self.next == u64::from(index),
+            saves,
+            stale,
+            newest: self.newest(),
+            under: self.under(),
+        }
+    }
+
+    /// The state without its callers, over which the inputs of a record are laid.
+    fn laid_view(&self, rec: &StepRecord) -> View
+        ensures laid { state_at self.now.state.frames result ≡ laid (inputs_of rec.now) self.now.state }
+        ensures stack { Stack self.now.bounds.range.lo self.now.bounds.range.hi self.now.state.seen self.now.state.frames }
+        ensures calls { result.control.ps.callinc < 4 }
+    {
+        let mut view = self.view;
+        view.lay(rec);
+        // (so that what CALLINC can be is known)
+        let _by = view.callinc();
+        view
+    }
+
+    /// Goes on to the state after a judged record of this number.
+    fn commit(&mut self, index: u32, fresh: bool, after: View, call: Call)
+        requires { Stack self.old.bounds.range.lo self.old.bounds.range.hi after.seen (frames_after call self.old.state.frames) }
+        ensures { self.new ≡ record self.old { state = state_at (frames_after call self.old.state.frames) after; fresh = fresh; next = index + 1 } }
+    {
+        self.fresh = fresh;
+        self.next = u64::from(index) + 1;
+        self.view = after;
+        change(&mut self.callers, call);
+    }
+
+    /// Judges a record of this number, by the inputs, the written register and the access of the record alone: a breach, or the
+    /// frame step. After a breach nothing has changed. Takes no memory.
+    ///
+    /// `saves` says whether the record's access is a store or S32C1I that touches a live save area of either core, and `stale`
+    /// whether it is a load or S32C1I that touches a stale byte, or a load that touches a live save area.
+    ///
+    /// Condition: there are live and stale bytes for which both are so.
+    pub fn judge(
+        &mut self,
+        code: &Constants,
+        index: u32,
+        rec: &StepRecord,
+        saves: bool,
+        stale: bool,
+    ) -> Result<(), Breach>
+        requires { (live : ℕ → Bool) × (dead : ℕ → Bool) × (touches_save_area live rec.now.access ≡ saves) × (loads_stale live dead rec.now.access ≡ stale) }
+        ensures { (live dead : ℕ → Bool) → touches_save_area live rec.now.access ≡ saves → loads_stale live dead rec.now.access ≡ stale
+            → IsJudged (found_in self.old (constant_byte code.now) live dead index rec.now) self.old (constant_byte code.now) index rec.now result self.new }
+    {
+        let case = self.case(index, saves, stale);
+        let view = self.laid_view(rec);
+        let plan = view.plan(code);
+        let mut after = view;
+        let step = after.step(code, plan, rec.reply, case.newest);
+        if let Some(kind) = breach_of(&case, plan, rec, &view, &step, &after) {
+            return Err(self.breach(index, kind));
+        }
+        let fresh = fresh_after(case.fresh, step.kind, code, &view, &after);
+        self.commit(index, fresh, after, step.call);
+        Ok(())
+    }
+
+    /// Judges a record of this number by what one core alone shows: the first breach of a kind other than SaveStore and StaleLoad,
+    /// or the frame step. After a breach nothing has changed. Takes no memory.
+    pub fn step(&mut self, code: &Constants, index: u32, rec: &StepRecord) -> Result<(), Breach>
+        ensures { IsJudged (own_breach self.old.bounds (fresh_before self.old index) (constant_byte code.now) rec.now self.old.state) self.old (constant_byte code.now) index rec.now result self.new }
+    {
+        self.judge(code, index, rec, false, false)
+    }
+
+    /// Tests the record of a window exception: of an underflow the RETW at the frame state's PC is tested for Unset, ReturnMismatch
+    /// and NoCaller. No other record shows anything.
+    pub fn test(&self, code: &Constants, index: u32, rec: &StepRecord) -> Result<(), Breach>
+        ensures { IsTested (window_breach (constant_byte code.now) rec.now.kind (laid (inputs_of rec.now) self.now.state)) self.now index result }
+    {
+        if !underflows(rec.kind) {
+            return Ok(());
+        }
+        let view = self.laid_view(rec);
+        match return_breach(code, &view, self.newest()) {
+            Some(kind) => Err(self.breach(index, kind)),
+            None => Ok(()),
+        }
+    }
+
+    /// How many frames have called another.
+    pub fn depth(&self) -> u32
+        ensures depth { result ≡ length self.now.state.frames }
+    {
+        depth_of(&self.callers)
+    }
+
+    /// The stack pointer of frame `j`, where the opening frame is 0.
+    ///
+    /// Condition: `j` is at most the depth.
+    pub fn sp(&self, j: u32) -> u32
+        requires { j ≤ length self.now.state.frames }
+        ensures { result ≡ sp_at self.now j }
+    {
+        sp_in(&self.callers, self.view.known(1), j)
+    }
+
+    /// By how many windows frame `j` called, 1, 2 or 3.
+    ///
+    /// Condition: `j` is below the depth.
+    pub fn calls(&self, j: u32) -> u8
+        requires { j < length self.now.state.frames }
+        ensures { result ≡ calls_at self.now j }
+    {
+        calls_in(&self.callers, j)
+    }
+}
+
+/// The stack range of a core.
+fn stack_of(core: u8, options: &Options) -> Range
+    ensures { result ≡ stack_of core options.now }
+{
+    if core == 0 {
+        options.stack0
+    } else {
+        options.stack1
+    }
+}

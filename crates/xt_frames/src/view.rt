@@ -1,0 +1,491 @@
+//! A frame state without its list of frames, and its step.
+#![tactic(auto)]
+
+ghost use Rattle.std.specs.Prelude.{◌≡◌, ◌<◌, ◌≤◌, ◌^◌, ◌%◌, ℕ, List, [], None, true};
+ghost use Rattle.xt_isa.specs.Ranges.{in_range};
+ghost use Rattle.xt_map.specs.Memory.{constant_byte};
+ghost use Rattle.xt_special.specs.Control.{special_of};
+ghost use Rattle.xt_special.specs.Numbers as numbers;
+ghost use Rattle.xt_special.specs.Timers.{ticked};
+ghost use Rattle.xt_rows.specs.Laws.{IsAny, IsProper, IsProperEffect, IsProperSet, IsProperStep, IsProperWrite, IsRegister};
+ghost use Rattle.xt_rows.specs.Fetching.{Fetched};
+ghost use Rattle.xt_rows.specs.Outcomes.{outcome_at, value_of};
+ghost use Rattle.xt_rows.specs.Settling.{after_effect, after_flow, settled_interrupt, settled_wait, with_set, written};
+ghost use Rattle.xt_rows.specs.declared.outcome.Flow.TheVariants.{Falls};
+ghost use Rattle.xt_frames.specs.Frames.{Frame, known, opening_frame, seen_after_write};
+ghost use Rattle.xt_frames.specs.FrameStep.{done_in_frame, fetched_step, in_frame, laid, laid_step, popped, pushed, raised, windowed_in_frame};
+ghost use Rattle.xt_frames.specs.Breaches.{inputs_of, lacks};
+ghost use Rattle.xt_frames.specs.declared.view.Call.TheVariants.{Stays};
+ghost use Rattle.xt_frames.specs.Parts.{IsFetched, IsGood, IsGoodFetch, IsHeld, IsNewest, IsPlan, IsSmall, state_at, turn_as};
+
+use crate::fetch::{Fetch, instruction_at};
+use crate::registers::{Seen, after_call, after_return, kept_of};
+use std::marker::Model;
+use xt_isa::Insn;
+use xt_map::{Access, Constants};
+use xt_rows::{
+    Awaited, Effect, Flow, Outcome, SpecialWrite, Values, WindowStep, Write, extended, outcome_of,
+    reads, special_reads,
+};
+use xt_special::{Special, number};
+use xt_trace::{StepKind, StepRecord};
+
+/// A frame that has called another.
+#[derive(Clone, Copy)]
+pub struct Caller {
+    /// By how many windows the call moved, 1 to 3.
+    pub by: u8,
+    /// Its registers a0 to a11, of which the first four times as many are kept for it.
+    pub kept: [Option<u32>; 12],
+}
+
+/// What a step does to the list of frames.
+#[derive(Clone, Copy)]
+pub enum Call {
+    /// Nothing.
+    Stays,
+    /// The frame calls another.
+    Calls(Caller),
+    /// The newest caller goes on.
+    Returns,
+}
+
+/// What a step was, beside the view that it leaves.
+#[derive(Clone, Copy)]
+pub struct Step {
+    /// What the step is.
+    pub kind: StepKind,
+    /// The visible register that it writes.
+    pub write: Option<Write>,
+    /// The access that it makes.
+    pub access: Option<Access>,
+    /// What it does to the list of frames.
+    pub call: Call,
+}
+
+/// What the next step is.
+#[derive(Clone, Copy)]
+pub enum Plan {
+    /// An interrupt of this level is taken.
+    Interrupt(u8),
+    /// The core waits.
+    Waits,
+    /// The bytes at PC are executed, or raise a cause.
+    Fetched(Fetch),
+}
+
+/// The 16 visible registers and the control state.
+#[derive(Clone, Copy)]
+pub struct View {
+    pub(crate) pc: u32,
+    pub(crate) seen: Seen,
+    pub(crate) special: Special,
+    pub(crate) waits: bool,
+}
+
+impl Model for View {
+    ghost use Rattle.xt_special.specs.Values.{control_at, specials_of};
+    ghost use Rattle.xt_frames.specs.Parts.{Upper};
+
+    ghost Value = { Upper };
+
+    ghost view = { λ v. record { seen = v.seen; control = control_at v.pc v.waits v.special } };
+
+    ghost inverse = { λ v. record { pc = v.control.pc; seen = v.seen; special = specials_of v.control; waits = v.control.waits } };
+}
+
+/// A step that stays in its frame and asks for no access.
+fn without_access(kind: StepKind, write: Option<Write>) -> Step
+    ensures { result ≡ record { kind = kind; write = write; access = None; call = Stays } }
+{
+    Step {
+        kind,
+        write,
+        access: None,
+        call: Call::Stays,
+    }
+}
+
+impl View {
+    /// The state in which a core opens.
+    ///
+    /// Conditions: the core is 0 or 1, `vecbase` is a multiple of 1024, and `stack_end` is at least 64.
+    #[tactic(auto, unfolding(crate::specs::Frames::opening_seen))]
+    pub fn open(core: u8, pc: u32, vecbase: u32, stack_end: u32) -> View
+        requires vecbase { vecbase % 2 ^ 10 ≡ 0 }
+        requires stack { 64 ≤ stack_end }
+        ensures { state_at [] result ≡ opening_frame core pc vecbase stack_end }
+    {
+        let prid = if core == 0 { 0xCDCD } else { 0xABAB };
+        let mut seen = [Some(0); 16];
+        seen[1] = Some(stack_end - 64);
+        seen[8] = Some(0x8000_0000);
+        View {
+            pc,
+            seen,
+            special: Special::new(prid, vecbase),
+            waits: false,
+        }
+    }
+
+    /// The inputs of a record, laid over the state.
+    pub fn lay(&mut self, rec: &StepRecord)
+        ensures { (frames : List Frame) → state_at frames self.new ≡ laid (inputs_of rec.now) (state_at frames self.old) }
+    {
+        self.special.set_register(number::CCOUNT, rec.ccount);
+        self.special.set_register(number::INTERRUPT, rec.interrupt);
+        self.special.set_owb(rec.owb % 16);
+    }
+
+    /// The value of a visible register, 0 where it has none.
+    pub fn known(&self, i: u8) -> u32
+        requires { i < 16 }
+        ensures { result ≡ known self.now.seen i }
+    {
+        match self.seen[i as usize] {
+            Some(value) => value,
+            None => 0,
+        }
+    }
+
+    /// Whether there is a register, and it has no value.
+    pub fn lacks(&self, register: Option<u8>) -> bool
+        requires { IsRegister register }
+        ensures { result ≡ lacks self.now.seen register }
+    {
+        match register {
+            Some(i) => self.seen[i as usize].is_none(),
+            None => false,
+        }
+    }
+
+    /// The program counter.
+    pub fn pc(&self) -> u32
+        ensures { result ≡ self.now.control.pc }
+    {
+        self.pc
+    }
+
+    /// Exception mode.
+    pub fn excm(&self) -> bool
+        ensures { result ≡ self.now.control.ps.excm }
+    {
+        self.special.excm()
+    }
+
+    /// Whether windows are looked after.
+    pub fn woe(&self) -> bool
+        ensures { result ≡ self.now.control.ps.woe }
+    {
+        self.special.woe()
+    }
+
+    /// By how many windows the last call moved.
+    pub fn callinc(&self) -> u8
+        ensures value { result ≡ self.now.control.ps.callinc }
+        ensures range { result < 4 }
+    {
+        self.special.callinc()
+    }
+
+    /// VECBASE.
+    pub fn vecbase(&self) -> u32
+        ensures { result ≡ special_of self.now.control numbers.vecbase }
+    {
+        self.special.vecbase()
+    }
+
+    fn tick(&mut self)
+        ensures { self.new ≡ record self.old { control = ticked self.old.control } }
+    {
+        xt_timer::tick(&mut self.special);
+    }
+
+    /// Goes on to the next instruction, or back in a loop.
+    #[tactic(auto, unfolding(xt_loop::specs::Looping::loops_back))]
+    fn falls(&mut self, len: u8)
+        ensures { self.new ≡ record self.old { control = after_flow Falls len self.old.control } }
+    {
+        let next = self.pc.wrapping_add(len as u32);
+        let count = self.special.register(number::LCOUNT);
+        if next == self.special.register(number::LEND) && !self.special.excm() && count != 0 {
+            self.pc = self.special.register(number::LBEG);
+            self.special.set_register(number::LCOUNT, count - 1);
+        } else {
+            self.pc = next;
+        }
+    }
+
+    fn set(&mut self, set: Option<SpecialWrite>)
+        requires { IsProperSet set }
+        ensures { self.new ≡ record self.old { control = record self.old.control { special = with_set set self.old.control.special } } }
+    {
+        if let Some(w) = set {
+            self.special.set_register(w.number, w.value);
+        }
+    }
+
+    /// What an instruction of this length changes beside the visible registers.
+    #[tactic(auto, unfolding(xt_rows::specs::Settling::after_effect))]
+    fn apply(&mut self, e: Effect, len: u8)
+        requires { IsProperEffect IsAny e }
+        ensures { self.new ≡ record self.old { control = after_effect e len self.old.control } }
+    {
+        self.special.set_ps_fields(e.ps);
+        self.special.set_threadptr(e.threadptr);
+        self.waits = e.waits;
+        let (first, second, third) = e.sets;
+        self.set(first);
+        self.set(second);
+        self.set(third);
+        match e.flow {
+            Flow::Falls => self.falls(len),
+            Flow::Goes(target) => self.pc = target,
+        }
+    }
+
+    fn write(&mut self, write: Option<Write>)
+        requires { IsProperWrite IsAny write }
+        ensures { self.new ≡ record self.old { seen = seen_after_write write self.old.seen } }
+    {
+        if let Some(w) = write {
+            self.seen[w.number as usize] = Some(w.value);
+        }
+    }
+
+    fn raise(&mut self, cause: u8, addr: Option<u32>) -> Step
+        requires { cause < 64 }
+        ensures { (frames : List Frame) → turn_as result frames self.new ≡ raised cause addr (state_at frames self.old) }
+    {
+        self.pc = xt_exc::general(&mut self.special, self.pc, cause, addr);
+        self.tick();
+        without_access(StepKind::Exc(cause), None)
+    }
+
+    fn interrupt(&mut self, level: u8) -> Step
+        requires low { 1 ≤ level }
+        requires high { level ≤ 5 }
+        ensures { (frames : List Frame) → turn_as result frames self.new ≡ in_frame (settled_interrupt level self.old.control) 0 (state_at frames self.old) }
+    {
+        self.pc = xt_exc::interrupt(&mut self.special, self.pc, level);
+        self.waits = false;
+        self.tick();
+        without_access(StepKind::Interrupt(level), None)
+    }
+
+    fn wait(&mut self) -> Step
+        ensures { (frames : List Frame) → turn_as result frames self.new ≡ in_frame (settled_wait self.old.control) 0 (state_at frames self.old) }
+    {
+        self.tick();
+        without_access(StepKind::Wait, None)
+    }
+
+    /// ENTRY outside exception mode.
+    #[tactic(auto, unfolding(crate::specs::FrameStep::pushed))]
+    fn enter(&mut self, number: u8, value: u32, len: u8) -> Step
+        requires { number < 16 }
+        ensures { (frames : List Frame) → turn_as result frames self.new ≡ pushed number value len (state_at frames self.old) }
+    {
+        let by = self.special.callinc();
+        let kept = kept_of(&self.seen);
+        self.seen = after_call(&self.seen, by);
+        self.seen[number as usize] = Some(value);
+        self.falls(len);
+        self.tick();
+        Step {
+            kind: StepKind::Insn,
+            write: Some(Write { number, value }),
+            access: None,
+            call: Call::Calls(Caller { by, kept }),
+        }
+    }
+
+    /// RETW outside exception mode, with this value of a0.
+    #[tactic(auto, unfolding(crate::specs::FrameStep::popped))]
+    fn leave(&mut self, a0: u32, newest: Option<Caller>) -> Step
+        requires { IsSmall newest }
+        ensures { (frames : List Frame) → IsNewest newest frames → turn_as result frames self.new ≡ popped a0 (state_at frames self.old) }
+    {
+        let Some(caller) = newest else {
+            return self.raise(0, None);
+        };
+        self.seen = after_return(&caller.kept, &self.seen, caller.by);
+        self.pc = self.pc / 0x4000_0000 * 0x4000_0000 + a0 % 0x4000_0000;
+        self.tick();
+        Step {
+            kind: StepKind::Insn,
+            write: None,
+            access: None,
+            call: Call::Returns,
+        }
+    }
+
+    fn visible_value(&self, register: Option<u8>) -> u32
+        requires { IsRegister register }
+        ensures { result ≡ value_of (known self.now.seen) register }
+    {
+        match register {
+            Some(number) => self.known(number),
+            None => 0,
+        }
+    }
+
+    fn special_value(&self, register: Option<u8>) -> u32
+        ensures value { result ≡ value_of (special_of self.now.control) register }
+        ensures held { IsHeld register result }
+    {
+        match register {
+            Some(number::SAR) => self.special.sar() as u32,
+            Some(number) => self.special.register(number),
+            None => 0,
+        }
+    }
+
+    /// What comes of the instruction at PC.
+    fn outcome(&self, code: &Constants, i: Insn) -> Outcome
+        requires { in_range i ≡ true }
+        ensures formula { result ≡ outcome_at (constant_byte code.now) i (known self.now.seen) self.now.control }
+        ensures proper { IsProper IsAny result }
+    {
+        let (first, second) = reads(i);
+        let (special, other) = special_reads(i);
+        let values = Values {
+            x: self.visible_value(first),
+            y: self.visible_value(second),
+            u: self.special_value(special),
+            v: self.special_value(other),
+        };
+        let ps = self.special.ps_fields();
+        outcome_of(code, i, self.pc, values, ps, self.special.threadptr())
+    }
+
+    fn windowed(&mut self, step: WindowStep, len: u8, newest: Option<Caller>) -> Step
+        requires proper { IsProperStep step }
+        requires small { IsSmall newest }
+        ensures { (frames : List Frame) (reply : ℕ) → IsNewest newest frames → turn_as result frames self.new ≡ windowed_in_frame step len reply (state_at frames self.old) }
+    {
+        match step {
+            WindowStep::Enters(number, value) => {
+                if self.excm() {
+                    self.raise(0, None)
+                } else {
+                    self.enter(number, value, len)
+                }
+            }
+            WindowStep::Returns(a0) => {
+                if self.excm() {
+                    self.raise(0, None)
+                } else {
+                    self.leave(a0, newest)
+                }
+            }
+            _ => {
+                self.tick();
+                without_access(StepKind::Insn, None)
+            }
+        }
+    }
+
+    /// What an outcome leaves.
+    fn carry_out(&mut self, outcome: Outcome, len: u8, reply: u32, newest: Option<Caller>) -> Step
+        requires proper { IsProper IsAny outcome }
+        requires small { IsSmall newest }
+        ensures { (frames : List Frame) → IsNewest newest frames → turn_as result frames self.new ≡ done_in_frame outcome len reply (state_at frames self.old) }
+    {
+        match outcome {
+            Outcome::Does(e) => {
+                self.apply(e, len);
+                self.tick();
+                self.write(e.write);
+                without_access(StepKind::Insn, e.write)
+            }
+            Outcome::Raises(cause, addr) => self.raise(cause, addr),
+            Outcome::Asks(access, awaited, e) => {
+                let write = received(awaited, reply);
+                self.apply(e, len);
+                self.tick();
+                self.write(write);
+                Step {
+                    kind: StepKind::Insn,
+                    write,
+                    access: Some(access),
+                    call: Call::Stays,
+                }
+            }
+            Outcome::Stops => {
+                self.tick();
+                without_access(StepKind::Stop, None)
+            }
+            Outcome::Windowed(step) => self.windowed(step, len, newest),
+        }
+    }
+
+    /// What the next step is, where the inputs of a record are laid over the state.
+    pub fn plan(&self, code: &Constants) -> Plan
+        ensures plan { IsPlan result (constant_byte code.now) self.now.control }
+        ensures good { IsGood result }
+    {
+        match xt_exc::pending(&self.special) {
+            Some(level) => Plan::Interrupt(level),
+            None => {
+                if self.waits {
+                    Plan::Waits
+                } else {
+                    Plan::Fetched(instruction_at(code, self.pc))
+                }
+            }
+        }
+    }
+
+    /// The step of a fetched instruction.
+    fn fetched_step(
+        &mut self,
+        code: &Constants,
+        fetch: Fetch,
+        reply: u32,
+        newest: Option<Caller>,
+    ) -> Step
+        requires small { IsSmall newest }
+        requires good { IsGoodFetch fetch }
+        ensures { (frames : List Frame) (f : Fetched) → IsFetched fetch f → IsNewest newest frames
+            → turn_as result frames self.new ≡ fetched_step f (constant_byte code.now) reply (state_at frames self.old) }
+    {
+        match fetch {
+            Fetch::Fails(addr) => self.raise(2, Some(addr)),
+            Fetch::Nothing => self.raise(0, None),
+            Fetch::Insn(i, len) => {
+                let outcome = self.outcome(code, i);
+                self.carry_out(outcome, len, reply, newest)
+            }
+        }
+    }
+
+    /// The step that was planned, with the reply to its access, where this is the newest caller.
+    #[tactic(auto, unfolding(crate::specs::FrameStep::laid_step))]
+    pub fn step(&mut self, code: &Constants, plan: Plan, reply: u32, newest: Option<Caller>) -> Step
+        requires plan { IsPlan plan (constant_byte code.now) self.old.control }
+        requires small { IsSmall newest }
+        requires good { IsGood plan }
+        ensures { (frames : List Frame) → IsNewest newest frames
+            → turn_as result frames self.new ≡ laid_step (constant_byte code.now) reply (state_at frames self.old) }
+    {
+        match plan {
+            Plan::Interrupt(level) => self.interrupt(level),
+            Plan::Waits => self.wait(),
+            Plan::Fetched(fetch) => self.fetched_step(code, fetch, reply, newest),
+        }
+    }
+}
+
+/// The register that receives a reply, and its value.
+fn received(awaited: Option<Awaited>, reply: u32) -> Option<Write>
+    ensures { result ≡ written None awaited reply }
+{
+    match awaited {
+        Some(a) => Some(Write {
+            number: a.number,
+            value: extended(a.signed, reply),
+        }),
+        None => None,
+    }
+}
