@@ -126,6 +126,7 @@ has_no_caller i f = is_return i && is_empty f.frames
 
 -- ---- save areas and stale bytes
 -- A S32C1I touches its bytes also where it does not store.
+
 -- one of the n bytes from an address on passes the test
 abbrev pub some_byte : (ℕ → Bool) → ℕ → ℕ → Bool
 some_byte test addr zero = false

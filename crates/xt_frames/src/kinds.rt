@@ -11,7 +11,7 @@ pub enum BreachKind {
     /// An ENTRY of another register than a1, of less than 16 bytes, or whose caller's frame is smaller
     /// than the registers that it keeps.
     FrameSize,
-    /// An ENTRY whose new stack pointer leaves the stack.
+    /// An ENTRY whose new stack pointer has not 16 bytes of the stack below it, or is above its end.
     StackRange,
     /// An ENTRY whose new stack pointer is no multiple of 16.
     SpAlign,

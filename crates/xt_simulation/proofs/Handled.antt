@@ -61,7 +61,7 @@ use Rattle.xt_stretch.proofs.Changed.{others_stay_above}
 use Rattle.xt_stretch.proofs.Joins.{save_low, save_high}
 use Rattle.xt_handlers.specs.Vectors.{vector_number, vector_at, vector_bytes, verdict_of, Handlers}
 use Rattle.xt_simulation.specs.Steps.{state_now, memory_now, machine}
-use Rattle.xt_simulation.specs.InHandlers.{InDram, Somewhere, Begins, start_of, Untouched, Handling, Stretch, Settles, MovesFrame, above, IsGood, HandlerStep, steps_on, closes_stretch}
+use Rattle.xt_simulation.specs.InHandlers.{InDram, Somewhere, Begins, start_of, Untouched, Handling, Stretch, Settles, MovesFrame, StoresAlone, above, IsGood, HandlerStep, steps_on, closes_stretch}
 use Rattle.xt_simulation.specs.HandlerLaws.{StretchesAreEntered, HandlerStepsAreKept, HandlersAreSpared}
 use Rattle.xt_rows.specs.Laws.{AreBytes}
 use Rattle.xt_simulation.proofs.Fetched.{byte_is as fetched_byte, bytes_length, byte_small, fetched_is, step_is, vector_fetches, vector_handles, fetch_small, length_is}
@@ -334,6 +334,14 @@ returned_frame : (side : Side) (m : ℕ → ℕ) (b : Bounds) (t : State) (f : F
 returned_frame Underflow m b t f front g rest l e = (let z : 0 + moved rest ≡ moved rest = omega arith in rw z at l.plain.windows.kept.0)
 returned_frame Overflow m b t f front g rest l e = absurd cc
 
+over_free : (side : Side) (n : ℕ) (start : Machine) (a : ℕ) → side ≡ Overflow → IsElsewhere n start a → Untouched side n start a
+over_free Overflow n start a e away = away
+over_free Underflow n start a e away = absurd cc
+
+under_free : (side : Side) (n : ℕ) (start : Machine) (a : ℕ) → side ≡ Underflow → Untouched side n start a
+under_free Underflow n start a e = tt
+under_free Overflow n start a e = absurd cc
+
 moves_frame : (side : Side) (b : Bounds) (m : MemoryContents) (before after : State) (opened : ℕ → ℕ) (f : FrameState) (front : List Frame) (g : Frame) (rest : List Frame) (lost : ℕ → Bool) → Begins side opened b lost before f front g rest
     → Settles side (byte_at m) b after f front g rest → Stretch side g.by before after opened (byte_at m) rest
     → ((a : ℕ) → is_live b.range f a ≡ true → Untouched side g.by (start_of before opened rest) a → byte_at m a ≡ opened a)
@@ -475,7 +483,8 @@ module _ (code : ℕ → ℕ) (constant : (a : ℕ) → code a < 2 ^ 8) (b : Bou
     -- the handler goes on, or it ends
     pub data Next : Type 0 where
       goes_on : closes code (planned code s).kind s.control.pc ≡ false → Handling code b (memory_now code m s) (state_now code m s) f before opened
-          → ((a : ℕ) → is_live b.range f a ≡ false → byte_at (memory_now code m s) a ≡ byte_at m a) → Next
+          → ((a : ℕ) → is_live b.range f a ≡ false → byte_at (memory_now code m s) a ≡ byte_at m a)
+          → ((a : ℕ) → Untouched h.side n start a → byte_at (memory_now code m s) a ≡ byte_at m a) → Next
       ends : closes code (planned code s).kind s.control.pc ≡ true → Settles h.side (byte_at m) b (state_now code m s) f h.front h.g h.rest → memory_now code m s ≡ m
           → Stretch h.side n before (state_now code m s) opened (byte_at m) h.rest → Next
 
@@ -531,6 +540,7 @@ module _ (code : ℕ → ℕ) (constant : (a : ℕ) → code a < 2 ^ 8) (b : Bou
           let t = turned code m s low_now untaken running_now len i (step_of_insn i) mv.next (shown i) at range may (λ k. shaped.words (place s.base k)) sizes is in
           let no : closes code (planned code s).kind s.control.pc ≡ false = ap (λ k. closes code k s.control.pc) t.kind ∙ (ap fetched_ends at ∙ not_ending h.side n start h.flags mv.after (machine m s) (shown i) does) in
           goes_on no (went_on mv t) (λ a dead. t.bytes a ∙ step_keeps h.side n start (byte_at m) mv.next.bytes a mv.touches (untouched_from h.side n start a at_start.frames (not_own a dead)))
+              (λ a free. t.bytes a ∙ step_keeps h.side n start (byte_at m) mv.next.bytes a mv.touches free)
 
       -- ---- the ending
       changes_from : (start_bits : ℕ) → Done h.side n start (machine m s) → Changes before (record { regs = s.regs; base = s.control.ps.owb; start = start_bits; control = ticked (record s.control { pc = special_of s.control (number.epc 1); ps = record s.control.ps { excm = false } }) }) (moved h.rest) n
@@ -620,6 +630,21 @@ module _ (code : ℕ → ℕ) (constant : (a : ℕ) → code a < 2 ^ 8) (b : Bou
           (λ (mv : Moves h.side n start (vector_bytes code vector) h.offset h.effect h.flags (machine m s)). step_goes mv shaped sizes insn_here)
           turn_here.goes
 
+    -- ---- what a handler step changes
+    pub stores_alone : (new : ℕ → ℕ) → ((a : ℕ) → Untouched h.side n start a → new a ≡ byte_at m a) → StoresAlone b f before s opened (byte_at m) new
+    stores_alone new free = record {
+      side = h.side;
+      front = h.front;
+      g = h.g;
+      rest = h.rest;
+      frames = frames_at h.side opened b h.lost before f h.front h.g h.rest h.begins;
+      vector_low = (let p = h.pc in omega arith);
+      vector_high = (let p = h.pc in let i = inside in let l = length_is (code (vector + h.offset)) in ⊎_elim (λ q. omega arith) (λ q. omega arith) l);
+      window = h.stands.base;
+      elsewhere = λ e a away. free a (over_free h.side n start a e away);
+      nowhere = λ e a. free a (under_free h.side n start a e);
+    }
+
     -- ---- an access of the other core
     pub handling_spared : (new : MemoryContents) → ((a : ℕ) → is_live b.range f a ≡ true → byte_at new a ≡ byte_at m a) → Handling code b new s f before opened
     handling_spared new same = record {
@@ -650,9 +675,11 @@ pub stretches_are_entered : StretchesAreEntered
 stretches_are_entered code bytes b good m lost s f ring spilled reply l shaped window none = begins_at code bytes b good.dram good.aligned good.handlers m lost s f ring spilled reply l shaped window none
 
 handler_step : (code : ℕ → ℕ) (bytes : AreBytes code) (b : Bounds) (good : IsGood code b) (m : MemoryContents) (s : State) (f : FrameState) (before : State) (opened : ℕ → ℕ) (h : Handling code b m s f before opened) → Next code bytes b good.dram good.aligned good.handlers h → HandlerStep code b m s f before opened
-handler_step code bytes b good m s f before opened h (goes_on open_ inside only) = steps_on open_ inside only
+handler_step code bytes b good m s f before opened h (goes_on open_ inside only free) =
+    steps_on open_ inside only (stores_alone code bytes b good.dram good.aligned good.handlers h (byte_at (memory_now code m s)) free)
 handler_step code bytes b good m s f before opened h (ends closed_ settles same stretch) =
     closes_stretch closed_ (moves_frame h.side b m before (state_now code m s) opened f h.front h.g h.rest h.lost h.begins settles stretch h.kept) (somewhere_of h.side (byte_at m) b (state_now code m s) f h.front h.g h.rest settles) same
+    (stores_alone code bytes b good.dram good.aligned good.handlers h (byte_at (memory_now code m s)) (λ a free. ap (λ x. byte_at x a) same))
 
 pub handler_steps_are_kept : HandlerStepsAreKept
 handler_steps_are_kept code bytes b good m s f before opened h shaped sizes = handler_step code bytes b good m s f before opened h (handling_steps code bytes b good.dram good.aligned good.handlers h (untaken_now code bytes b good.dram good.aligned good.handlers h) shaped sizes)

@@ -24,7 +24,7 @@ use Rattle.xt_simulation.specs.Stacks.{Stack}
 use Rattle.xt_simulation.specs.Relation.{inputs}
 use Rattle.xt_simulation.proofs.Chains.{related_spared, live_in_range}
 use Rattle.xt_simulation.specs.Steps.{reply_at, memory_after_step, reply_now, record_now, state_now, memory_now}
-use Rattle.xt_simulation.specs.InHandlers.{IsGood, Somewhere, Handling, MovesFrame, HandlerStep, steps_on, closes_stretch}
+use Rattle.xt_simulation.specs.InHandlers.{IsGood, Somewhere, Handling, MovesFrame, StoresAlone, HandlerStep, steps_on, closes_stretch}
 use Rattle.xt_simulation.specs.Memories.{Agree, KeepsAreas}
 use Rattle.xt_map.specs.Touching.{IsMemory}
 use Rattle.xt_simulation.proofs.Handled.{somewhere_of, handler_steps_are_kept, Next, goes_on, ends, begins_at, handling_stack, untaken_now, handling_steps, handling_spared}
@@ -32,7 +32,7 @@ use Rattle.xt_simulation.proofs.Memories.{live_kept, step_memory}
 use Rattle.xt_frames.specs.Judging.{Seen, seen_window, seen_step, step_on, live_of}
 use Rattle.xt_frames.specs.Verdict.{entry_of, IsStepOf, IsFrameTrace}
 use Rattle.xt_simulation.specs.Judges.{After}
-use Rattle.xt_simulation.specs.Walking.{Entered, Core, World, Moved, entered_by, EndsWell, moved_by, move, moved0, moved1, given, walked, frame_after, IsWorldRun, Apart}
+use Rattle.xt_simulation.specs.Walking.{Entered, Core, World, Moved, entered_by, KeepsStretches, moved_by, move, moved0, moved1, given, walked, frame_after, IsWorldRun, Apart}
 use Rattle.xt_simulation.proofs.Judges.{judge_keeps, judge_areas, shaped_now, same_laid}
 
 -- ---- histories that grow
@@ -171,7 +171,7 @@ module _ (code : ℕ → ℕ) (bytes : AreBytes code) where
         P mode = Keeps b c (core_in Handles) theirs m framed (record { mine = record { state = state_now code m s; entered = at; standing = record { frame = f; fresh = false; mode = mode }; judged = recs }; stale = stale; entries = [] })
 
         by_next : Next code bytes b good.dram good.aligned good.handlers h.first → P (mode_after code Handles rec)
-        by_next (goes_on open_ inside only) =
+        by_next (goes_on open_ inside only free) =
             subst P (sym (cond-false (closes code rec.kind rec.pc) Plain Handles (closes_is false open_))) (stands_still Handles Handles h inside only)
         by_next (ends closed_ settles same stretch) =
             subst P (sym (cond-true (closes code rec.kind rec.pc) Plain Handles (closes_is true closed_)))
@@ -250,8 +250,12 @@ module _ (code : ℕ → ℕ) (bytes : AreBytes code) where
 
   -- ---- whole stretches
   step_moves : (b : Bounds) (m : MemoryContents) (s : State) (f : FrameState) (e : Entered) → HandlerStep code b m s f e.before e.opened → closes code (planned code s).kind s.control.pc ≡ true → MovesFrame b f e.before (state_now code m s) e.opened (byte_at m)
-  step_moves b m s f e (steps_on open_ inside only) closed_ = absurd (false≢true (sym open_ ∙ closed_))
-  step_moves b m s f e (closes_stretch closed_ moves somewhere same) h = moves
+  step_moves b m s f e (steps_on open_ inside only alone) closed_ = absurd (false≢true (sym open_ ∙ closed_))
+  step_moves b m s f e (closes_stretch closed_ moves somewhere same alone) h = moves
+
+  step_alone : (b : Bounds) (m : MemoryContents) (s : State) (f : FrameState) (e : Entered) → HandlerStep code b m s f e.before e.opened → StoresAlone b f e.before s e.opened (byte_at m) (byte_at (memory_now code m s))
+  step_alone b m s f e (steps_on open_ inside only alone) = alone
+  step_alone b m s f e (closes_stretch closed_ moves somewhere same alone) = alone
 
   mode_ends : (mode : Mode) (b : Bounds) (good : IsGood code b) (m : MemoryContents) (fresh : Bool) (s : State) (f : FrameState) (e : Entered) → InCore mode m b fresh s f e → IsShaped s → IsMemory m
       → mode ≡ Handles → closes code (planned code s).kind s.control.pc ≡ true → MovesFrame b f e.before (state_now code m s) e.opened (byte_at m)
@@ -259,11 +263,20 @@ module _ (code : ℕ → ℕ) (bytes : AreBytes code) where
   mode_ends Plain b good m fresh s f e h shaped real is closed_ = absurd cc
   mode_ends Handles b good m fresh s f e h shaped real is closed_ = step_moves b m s f e (handler_steps_are_kept code bytes b good m s f e.before e.opened h shaped real.sizes) closed_
 
-  pub both_end : (b c : Bounds) (good : IsGood code b) (other : IsGood code c) (mine theirs : Core) (m framed : MemoryContents) (stale : ℕ → Bool) → Both b c mine theirs m framed stale → EndsWell code b m mine × EndsWell code c m theirs
-  both_end b c good other mine theirs m framed stale h = (
-    (λ is closed_. mode_ends mine.standing.mode b good m mine.standing.fresh mine.state mine.standing.frame mine.entered h.first h.shaped_first h.real is closed_),
-    (λ is closed_. mode_ends theirs.standing.mode c other m theirs.standing.fresh theirs.state theirs.standing.frame theirs.entered h.second h.shaped_second h.real is closed_),
+  mode_alone : (mode : Mode) (b : Bounds) (good : IsGood code b) (m : MemoryContents) (fresh : Bool) (s : State) (f : FrameState) (e : Entered) → InCore mode m b fresh s f e → IsShaped s → IsMemory m
+      → mode ≡ Handles → StoresAlone b f e.before s e.opened (byte_at m) (byte_at (memory_now code m s))
+  unfolding InCore
+  mode_alone Plain b good m fresh s f e h shaped real is = absurd cc
+  mode_alone Handles b good m fresh s f e h shaped real is = step_alone b m s f e (handler_steps_are_kept code bytes b good m s f e.before e.opened h shaped real.sizes)
+
+  core_keeps : (b : Bounds) (good : IsGood code b) (m : MemoryContents) (c : Core) → InCore c.standing.mode m b c.standing.fresh c.state c.standing.frame c.entered → IsShaped c.state → IsMemory m → KeepsStretches code b m c
+  core_keeps b good m c h shaped real = (
+    (λ is closed_. mode_ends c.standing.mode b good m c.standing.fresh c.state c.standing.frame c.entered h shaped real is closed_),
+    (λ is. mode_alone c.standing.mode b good m c.standing.fresh c.state c.standing.frame c.entered h shaped real is),
   )
+
+  pub both_end : (b c : Bounds) (good : IsGood code b) (other : IsGood code c) (mine theirs : Core) (m framed : MemoryContents) (stale : ℕ → Bool) → Both b c mine theirs m framed stale → KeepsStretches code b m mine × KeepsStretches code c m theirs
+  both_end b c good other mine theirs m framed stale h = (core_keeps b good m mine h.first h.shaped_first h.real, core_keeps c other m theirs h.second h.shaped_second h.real)
 
   -- ---- a whole schedule
   pub record Holds (b0 b1 : Bounds) (opening : MemoryContents) (f0 f1 : FrameState) (w : World) : Type 0 where

@@ -1,5 +1,5 @@
--- Windows are frames: the judged part of a run of the processor with windows is a run of the
--- machine with unbounded call frames.
+-- Windows are frames: the judged part of a run of the processor with windows is a run of the machine
+-- with unbounded call frames ('profile': the definitions of xt_frames over the processor's).
 use Rattle.std.specs.Prelude.{◌≡◌, ℕ, zero, suc, Bool, true, false, Some, List, [], ◌∷◌, take}
 use Rattle.xt_map.specs.declared.segment.Segment.{Segment}
 use Rattle.xt_map.specs.Memory.{constant_byte}
@@ -18,7 +18,7 @@ use Rattle.xt_frames.specs.Verdict.{Judgement, judgement, opening_known, IsFrame
 use Rattle.xt_stretch.specs.declared.Side.TheVariants.{Overflow, Underflow}
 use Rattle.xt_stretch.specs.declared.HandlerVerdict.TheVariants.{Yes}
 use Rattle.xt_handlers.specs.Vectors.{verdict_of, Handlers}
-use Rattle.xt_simulation.specs.Walking.{World, walked, EndsWell, IsWorldRun, Apart}
+use Rattle.xt_simulation.specs.Walking.{World, walked, KeepsStretches, IsWorldRun, Apart}
 use Rattle.xt_simulation.specs.Opening.{Openings, IsOpening, bounds0, bounds1, state0, state1, frame0, frame1, memory_of, frame_of, opening_world, openings_of, IsRunnable}
 
 -- what stands before every statement: the six handlers pass the check, and the stacks are apart
@@ -56,7 +56,7 @@ StretchesMoveFrames =
     (o : Openings) (code : ℕ → ℕ) → IsCovered o code
     → (cores : List Bool) (w : World)
     → walked code (bounds0 o) (bounds1 o) cores (Some (opening_world o)) ≡ Some w
-    → EndsWell code (bounds0 o) w.memory w.core0 × EndsWell code (bounds1 o) w.memory w.core1
+    → KeepsStretches code (bounds0 o) w.memory w.core0 × KeepsStretches code (bounds1 o) w.memory w.core1
 
 -- what a run of the processor opens with
 abbrev pub opening_of : Openings → ℕ → ℕ → Opening State
@@ -111,8 +111,8 @@ HaveMovedFrames o code turns0 turns1 cores =
     (p : ℕ) (w : World)
     → walked code (bounds0 o) (bounds1 o) (turns_of (take p cores)) (Some (opening_world o)) ≡ Some w
     → StandsAt w (state_at (processor code) (opening_of o turns0 turns1) cores p)
-    × EndsWell code (bounds0 o) w.memory w.core0
-    × EndsWell code (bounds1 o) w.memory w.core1
+    × KeepsStretches code (bounds0 o) w.memory w.core0
+    × KeepsStretches code (bounds1 o) w.memory w.core1
 
 -- Whole stretches of a run: at each position p before the first breach the walk stands where the run
 -- does, and where a core's next turn ends a stretch of handler steps, the stretch has moved one frame.

@@ -1,6 +1,7 @@
--- What holds of a core inside handler steps. All of the relation but the contents of memory is said
--- of the state before the record of the window exception; of the state now: PC and how much of the
--- handler is left, the special registers, and what the handler has moved so far.
+-- What holds of a core inside handler steps, and what a handler step and a whole stretch of them have
+-- done ('profile'). All of the relation but the contents of memory is said of the state before the
+-- record of the window exception; of the state now: PC and how much of the handler is left, the special
+-- registers, and what the handler has moved so far.
 use Rattle.std.specs.Prelude.{◌≡◌, ◌≤◌, ◌<◌, ℕ, ◌+◌, ◌*◌, ◌%◌, ◌^◌, Bool, true, false, Some, None, List, [], ◌∷◌, ◌++◌, slice_index_or}
 use Rattle.xt_map.specs.declared.contents.MemoryContents.{MemoryContents}
 use Rattle.xt_map.specs.Memory.{byte_at}
@@ -137,6 +138,22 @@ pub record MovesFrame
   pub elsewhere : (a : ℕ) → is_live b.range f a ≡ true
       → Untouched side g.by (start_of before opened rest) a → now a ≡ opened a
 
+-- One handler step runs in the vector of one frame's size and in that frame's window, and changes no
+-- byte but those of its save words; that of an underflow changes none.
+pub record StoresAlone
+    (b : Bounds) (f : FrameState) (before s : State) (opened old new : ℕ → ℕ) : Type 0 where
+  pub side : Side
+  pub front : List Frame
+  pub g : Frame
+  pub rest : List Frame
+  pub frames : f.frames ≡ above side front ++ g ∷ rest
+  pub vector_low : vector_at b.vecbase side g.by ≤ s.control.pc
+  pub vector_high : s.control.pc < vector_at b.vecbase side g.by + 64
+  pub window : s.base ≡ moved rest % 16
+  pub elsewhere : side ≡ Overflow
+      → (a : ℕ) → IsElsewhere g.by (start_of before opened rest) a → new a ≡ old a
+  pub nowhere : side ≡ Underflow → (a : ℕ) → new a ≡ old a
+
 -- one handler step: the handler goes on, and has changed live bytes of its own core alone; or the
 -- stretch ends
 pub data HandlerStep
@@ -145,8 +162,11 @@ pub data HandlerStep
   steps_on : closes code (planned code s).kind s.control.pc ≡ false
       → Handling code b (memory_now code m s) (state_now code m s) f before opened
       → ((a : ℕ) → is_live b.range f a ≡ false → byte_at (memory_now code m s) a ≡ byte_at m a)
+      → StoresAlone b f before s opened (byte_at m) (byte_at (memory_now code m s))
       → HandlerStep code b m s f before opened
   closes_stretch : closes code (planned code s).kind s.control.pc ≡ true
       → MovesFrame b f before (state_now code m s) opened (byte_at m)
       → Somewhere (byte_at m) b (lost_of false) (state_now code m s) f
-      → memory_now code m s ≡ m → HandlerStep code b m s f before opened
+      → memory_now code m s ≡ m
+      → StoresAlone b f before s opened (byte_at m) (byte_at (memory_now code m s))
+      → HandlerStep code b m s f before opened

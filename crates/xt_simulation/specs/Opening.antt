@@ -1,4 +1,4 @@
--- How both machines open.
+-- How both machines open ('profile').
 use Rattle.std.specs.Prelude.{◌≡◌, ◌≤◌, ◌<◌, ◌^◌, ◌%◌, ◌+◌, ◌-◌, ℕ, zero, suc, false, Option, Some, List, [], ◌∷◌, slice_index}
 use Rattle.xt_map.specs.declared.segment.Segment.{Segment}
 use Rattle.xt_map.specs.declared.contents.MemoryContents.{MemoryContents}

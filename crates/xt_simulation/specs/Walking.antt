@@ -1,4 +1,4 @@
--- Both cores over a schedule, beside the judge's walk, up to the first breach.
+-- Both cores over a schedule, beside the judge's walk, up to the first breach ('profile').
 use Rattle.std.specs.Prelude.{◌≡◌, ◌≤◌, ℕ, Bool, true, false, ◌⊎◌, Option, Some, None, List, [], ◌∷◌, ◌++◌}
 use Rattle.xt_map.specs.declared.access.Entry.{Entry}
 use Rattle.xt_map.specs.declared.contents.MemoryContents.{MemoryContents}
@@ -9,7 +9,7 @@ use Rattle.xt_frames.specs.Frames.{FrameState}
 use Rattle.xt_frames.specs.SaveAreas.{Range, is_live}
 use Rattle.xt_frames.specs.Breaches.{Bounds}
 use Rattle.xt_simulation.specs.Steps.{record_now, state_now, memory_now}
-use Rattle.xt_simulation.specs.InHandlers.{MovesFrame}
+use Rattle.xt_simulation.specs.InHandlers.{MovesFrame, StoresAlone}
 use Rattle.xt_map.specs.Memory.{byte_at}
 use Rattle.xt_exec.specs.Turn.{planned}
 use Rattle.xt_frames.specs.HandlerSteps.{Mode, Plain, Handles, closes}
@@ -146,3 +146,19 @@ EndsWell code b m c =
     (state_now code m c.state)
     c.entered.opened
     (byte_at m)
+
+-- and each handler step has changed no byte but those of the moved frame's save words
+abbrev pub HandlesAlone : (ℕ → ℕ) → Bounds → MemoryContents → Core → Type 0
+HandlesAlone code b m c =
+    c.standing.mode ≡ Handles
+    → StoresAlone
+        b
+        c.standing.frame
+        c.entered.before
+        c.state
+        c.entered.opened
+        (byte_at m)
+        (byte_at (memory_now code m c.state))
+
+abbrev pub KeepsStretches : (ℕ → ℕ) → Bounds → MemoryContents → Core → Type 0
+KeepsStretches code b m c = EndsWell code b m c × HandlesAlone code b m c

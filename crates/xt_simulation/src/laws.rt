@@ -128,7 +128,8 @@ pub fn turns_are_frames()
 {}
 
 /// At each place of such a schedule, a core's turn that ends a stretch of handler steps has moved one
-/// frame between registers and its save areas, and nothing else.
+/// frame between registers and its save areas, and each handler step changes no byte but those of
+/// the frame's save words.
 pub fn stretches_move_frames()
     ensures { StretchesMoveFrames }
 {}
@@ -145,7 +146,8 @@ pub fn runs_are_frames()
 {}
 
 /// At each position of a run before its first breach, a core's turn that ends a stretch of handler
-/// steps has moved one frame between registers and its save areas, and nothing else.
+/// steps has moved one frame between registers and its save areas, and each handler step changes no
+/// byte but those of the frame's save words.
 pub fn stretches_of_runs()
     ensures { StretchesOfRuns }
 {}
@@ -168,7 +170,8 @@ pub fn windows_are_frames()
 {}
 
 /// And at each position of such a run before its first breach, a core's turn that ends a stretch of
-/// handler steps has moved one frame between registers and its save areas, and nothing else.
+/// handler steps has moved one frame between registers and its save areas, and each handler step
+/// changes no byte but those of the frame's save words.
 pub fn stretches_move_one_frame()
     ensures { StretchesOfImages }
 {}

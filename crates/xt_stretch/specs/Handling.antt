@@ -1,4 +1,4 @@
--- The answer for a vector.
+-- The answer for a vector, with the offset at which it fails ('profile').
 use Rattle.std.specs.Prelude.{ℕ, if◌then◌else◌, List, [], ◌∷◌}
 use Rattle.xt_stretch.specs.Symbols.{Effect, applied, opening}
 use Rattle.xt_stretch.specs.Needs.{has_effect}

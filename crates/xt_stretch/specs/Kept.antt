@@ -160,12 +160,3 @@ abbrev pub LoadsFrames : ℕ → List ℕ → Type 0
 LoadsFrames n bytes =
     (start : Machine) → HasFrames Underflow n start
     → Reaches (ran (lines_of bytes) start) (Loads n start)
-
--- the six vectors
-pub record MovesFrames (code : List ℕ) : Type 0 where
-  pub of4 : StoresFrames 1 (slice_range code 0 64)
-  pub uf4 : LoadsFrames 1 (slice_range code 64 128)
-  pub of8 : StoresFrames 2 (slice_range code 128 192)
-  pub uf8 : LoadsFrames 2 (slice_range code 192 256)
-  pub of12 : StoresFrames 3 (slice_range code 256 320)
-  pub uf12 : LoadsFrames 3 (slice_range code 320 384)
