@@ -1,3 +1,5 @@
+pub mod Driven
 pub mod Images
+pub mod Opened
 pub mod Orders
 pub mod Rests

@@ -1,3 +1,6 @@
 pub mod Lists
+pub mod Driving
+pub mod Machines
+pub mod Going
 pub mod Ordered
 pub mod Shorts

@@ -5,7 +5,8 @@ ghost use Rattle.xt_trace.specs.Validity.{IsValid};
 ghost use Rattle.xt_image.specs.Parts.{IsWellFormed};
 ghost use Rattle.xt_runs.specs.Short.{short_advance, short_give};
 ghost use Rattle.xt_exec.specs.Chips.{processor};
-ghost use Rattle.xt_core.specs.Runs.{IsRunOf};
+ghost use Rattle.xt_bus.specs.States.{opened};
+ghost use Rattle.xt_core.specs.Runs.{IsRunOf, stack_words};
 ghost use Rattle.xt_machine.specs.Lists.{run_of_list};
 ghost use Rattle.xt_machine.specs.Shorts.{opened_world, run_in, world_of};
 
@@ -19,18 +20,30 @@ use xt_image::{Image, well_formed_is_placed};
 use xt_map::Constants;
 use xt_trace::{Options, Run};
 
+/// The bus as a run of the image opens, with room for an access in each turn.
+pub fn opening_bus(alloc: Global, image: &Image, options: &Options) -> Result<Bus, AllocError>
+    requires { IsValid options.now }
+    ensures { IfOk result (λ b. b ≡ opened image.now.segments (stack_words options.now) (options.now.turns0 + options.now.turns1)) }
+{
+    let links = [
+        (options.stack0.hi - 76, options.stack0.hi),
+        (options.stack1.hi - 76, options.stack1.hi),
+    ];
+    Bus::make(
+        alloc,
+        image.segments.as_slice(),
+        &links,
+        options.turns0 + options.turns1,
+    )
+}
+
 impl Pair {
     // Both cores as a run of the image opens. Takes all memory of the run.
     fn open(alloc: Global, image: &Image, options: &Options) -> Result<Pair, AllocError>
         requires { IsValid options.now }
         ensures { IfOk result (λ p. world_of p ≡ opened_world image.now options.now) }
     {
-        let links = [
-            (options.stack0.hi - 76, options.stack0.hi),
-            (options.stack1.hi - 76, options.stack1.hi),
-        ];
-        let room = options.turns0 + options.turns1;
-        let bus = Bus::make(alloc, image.segments.as_slice(), &links, room)?;
+        let bus = opening_bus(alloc, image, options)?;
         let core0 = Core::make(alloc, 0, image.entry, options, opening_file())?;
         let core1 = Core::make(alloc, 1, options.entry1, options, opening_file())?;
         Ok(Pair { bus, core0, core1 })

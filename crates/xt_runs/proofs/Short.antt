@@ -48,13 +48,13 @@ place_before_append : (d : Option Access) (i : ℕ) (ps qs : List ℕ) → place
 place_before_append None i ps qs = refl
 place_before_append (Some a) i ps qs = refl
 
-places_push : (i : ℕ) (xs : List StepRecord) (x : StepRecord) → places_from i (xs ++ x ∷ []) ≡ places_from i xs ++ place_before x.access (i + length xs) []
+pub places_push : (i : ℕ) (xs : List StepRecord) (x : StepRecord) → places_from i (xs ++ x ∷ []) ≡ places_from i xs ++ place_before x.access (i + length xs) []
 places_push i [] x = ap (λ (n : ℕ). place_before x.access n []) (let e : i ≡ i + 0 = omega arith in e)
 places_push i (y ∷ xs) x =
     ap (place_before y.access i) (places_push (suc i) xs x) ∙ place_before_append y.access i (places_from (suc i) xs) (place_before x.access (suc i + length xs) [])
     ∙ ap (λ (n : ℕ). place_before y.access i (places_from (suc i) xs) ++ place_before x.access n []) (let e : suc i + length xs ≡ i + suc (length xs) = omega arith in e)
 
-stopped_push : (xs : List StepRecord) (x : StepRecord) → has_stopped (xs ++ x ∷ []) ≡ (has_stopped xs || is_stop x.kind)
+pub stopped_push : (xs : List StepRecord) (x : StepRecord) → has_stopped (xs ++ x ∷ []) ≡ (has_stopped xs || is_stop x.kind)
 stopped_push [] x = elim (is_stop x.kind) as (λ b. (b || false) ≡ (false || b)) [ true ↦ refl | false ↦ refl ]
 stopped_push (y ∷ xs) x =
     elim (is_stop y.kind) as (λ b. (b || has_stopped (xs ++ x ∷ [])) ≡ ((b || has_stopped xs) || is_stop x.kind)) [ true ↦ refl | false ↦ stopped_push xs x ]

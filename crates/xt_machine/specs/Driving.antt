@@ -1,0 +1,33 @@
+-- A core that is driven to its end over its seat ('profile').
+use Rattle.std.specs.Prelude.{◌≡◌, ℕ, ◌+◌, ◌||◌, None, List, ◌++◌, length}
+use Rattle.xt_map.specs.declared.access.Access.{Access}
+use Rattle.xt_trace.specs.Calls.{calls_in}
+use Rattle.xt_runs.specs.Driven.{replies_in}
+use Rattle.xt_runs.specs.Schedule.{places_from}
+use Rattle.xt_runs.specs.Traces.{Traced, has_stopped, trace_over}
+use Rattle.xt_exec.specs.Chips.{processor}
+use Rattle.xt_exec.specs.State.{State}
+use Rattle.xt_core.specs.Cores.{CoreState}
+
+-- the turns that a core has left, over these replies
+abbrev pub trace_left : (ℕ → ℕ) → CoreState → List ℕ → Traced State
+trace_left code k replies = trace_over (processor code) k.state k.left replies
+
+-- the core after these turns, its last
+abbrev pub driven : CoreState → Traced State → CoreState
+driven k z = record k {
+  state = z.last;
+  waiting = None;
+  left = 0;
+  stopped = k.stopped || has_stopped z.records;
+  count = k.count + length z.records;
+  places = k.places ++ places_from k.count z.records;
+}
+
+-- The core made all turns that it had left, over the replies to the accesses by which the seat's list grew, and these are the
+-- accesses of its turns, in order.
+pub record WasDriven (code : ℕ → ℕ) (before after : CoreState) (old new : List (Access × ℕ)) : Type 0 where
+  pub made : List (Access × ℕ)
+  pub list : new ≡ old ++ made
+  pub core : after ≡ driven before (trace_left code before (replies_in made))
+  pub calls : made ≡ calls_in (trace_left code before (replies_in made)).records

@@ -1,0 +1,139 @@
+//! Two cores on two threads.
+ghost use Rattle.std.specs.Prelude.{◌≡◌, ◌≤◌, None, IfOk};
+ghost use Rattle.xt_map.specs.Memory.{constant_byte};
+ghost use Rattle.xt_trace.specs.Validity.{IsValid};
+ghost use Rattle.xt_image.specs.declared.image.Image.{Image};
+ghost use Rattle.xt_image.specs.Parts.{IsWellFormed};
+ghost use Rattle.xt_core.specs.Runs.{IsRunOf};
+ghost use Rattle.xt_machine.specs.Driving.{WasDriven};
+ghost use Rattle.xt_machine.specs.Lists.{run_of_list, schedule_in};
+ghost use Rattle.xt_machine.specs.Machines.{IsOpened};
+
+use crate::driving::drive;
+use crate::files::{File, opening_file};
+use crate::machine::Machine;
+use crate::scheduled::opening_bus;
+use std::alloc::{AllocError, Global};
+use std::sync::Wait;
+use std::thread::{Threads, join};
+use xt_core::Core;
+use xt_image::{Image, well_formed_is_placed};
+use xt_io::Gate;
+use xt_map::Constants;
+use xt_sharedbus::{CoreSeat, NoMemory, SharedBus};
+use xt_trace::{Options, Run};
+
+// Drives a core to its end.
+fn driven<G: Gate, R: Wait>(
+    rt: &R,
+    mut core: Core<File>,
+    code: &Constants,
+    bus: &SharedBus,
+    mut seat: CoreSeat,
+    gate: &G,
+) -> (Core<File>, CoreSeat)
+    requires bus { seat.bus ≡ bus.now }
+    requires core { seat.core ≡ core.core }
+    requires waiting { core.waiting ≡ None }
+    requires left { core.left ≤ seat.left }
+    ensures driven { WasDriven (constant_byte code.now) core result.0 seat.list result.1.list }
+    ensures ended { (result.0.left ≡ 0) × (result.0.waiting ≡ None) }
+    ensures seat { (result.1.bus ≡ seat.bus) × (result.1.core ≡ seat.core) × (result.1.opening ≡ seat.opening) }
+{
+    drive(rt, &mut core, code, bus, &mut seat, gate);
+    (core, seat)
+}
+
+impl Machine {
+    /// A machine as a run of the image opens. It takes all memory of the run, and the only error is too little memory. It opens the
+    /// bus that the cores share, so it may wait.
+    ///
+    /// Conditions: the image is well formed, and the options are valid.
+    pub fn make<R: Wait>(
+        rt: &R,
+        alloc: Global,
+        image: &Image,
+        options: &Options,
+    ) -> Result<Machine, AllocError>
+        requires image { IsWellFormed image.now }
+        requires valid { IsValid options.now }
+        ensures options { IfOk result (λ m. m.options ≡ options.now) }
+        ensures opened { IfOk result (λ m. IsOpened image.now m) }
+    {
+        well_formed_is_placed();
+        let code = Constants::make(alloc, image.segments.as_slice())?;
+        let core0 = Core::make(alloc, 0, image.entry, options, opening_file())?;
+        let core1 = Core::make(alloc, 1, options.entry1, options, opening_file())?;
+        let bus = opening_bus(alloc, image, options)?;
+        let (turns0, turns1) = (options.turns0, options.turns1);
+        match SharedBus::make(rt, alloc, bus, turns0, turns1) {
+            Ok((shared, seat0, seat1)) => Ok(Machine {
+                options: *options,
+                code,
+                shared,
+                seat0,
+                seat1,
+                core0,
+                core1,
+            }),
+            Err(NoMemory { .. }) => Err(AllocError),
+        }
+    }
+
+    /// Runs both cores, each on a thread of its own. It takes no memory, and may wait.
+    pub fn go<G: Gate, R: Threads + Wait + Sync>(self, rt: &R, gate: &G) -> Run
+        ensures options { result.options ≡ self.options }
+        ensures run { (image : Image) → IsOpened image self → IsRunOf image result }
+        ensures own { (image : Image) → IsOpened image self → run_of_list image self.options (schedule_in result) ≡ result }
+    {
+        let Machine {
+            options,
+            code,
+            shared,
+            seat0,
+            seat1,
+            core0,
+            core1,
+        } = self;
+        let bus = &shared;
+        let bytes = &code;
+        let ((core0, seat0), (core1, seat1)) = join(
+            rt,
+            move || -> (Core<File>, CoreSeat)
+                requires { (seat0.bus ≡ bus.now) × (seat0.core ≡ core0.core) × (core0.waiting ≡ None) × (core0.left ≤ seat0.left) }
+                ensures { WasDriven (constant_byte bytes.entry.now) core0 result.0 seat0.list result.1.list × ((result.0.left ≡ 0) × (result.0.waiting ≡ None)) × (result.1.bus ≡ seat0.bus) × (result.1.core ≡ seat0.core) × (result.1.opening ≡ seat0.opening) }
+            { driven(rt, core0, bytes, bus, seat0, gate) },
+            move || -> (Core<File>, CoreSeat)
+                requires { (seat1.bus ≡ bus.now) × (seat1.core ≡ core1.core) × (core1.waiting ≡ None) × (core1.left ≤ seat1.left) }
+                ensures { WasDriven (constant_byte bytes.entry.now) core1 result.0 seat1.list result.1.list × ((result.0.left ≡ 0) × (result.0.waiting ≡ None)) × (result.1.bus ≡ seat1.bus) × (result.1.core ≡ seat1.core) × (result.1.opening ≡ seat1.opening) }
+            { driven(rt, core1, bytes, bus, seat1, gate) },
+        );
+        let bus = shared.close(rt, seat0, seat1);
+        Run {
+            options,
+            history: bus.into_history(),
+            trace0: core0.into_trace(),
+            trace1: core1.into_trace(),
+        }
+    }
+}
+
+/// The run of an image on two threads. The only error is too little memory. It may wait.
+///
+/// Conditions: the image is well formed, and the options are valid.
+pub fn run<G: Gate, R: Threads + Wait + Sync>(
+    rt: &R,
+    alloc: Global,
+    image: &Image,
+    options: &Options,
+    gate: &G,
+) -> Result<Run, AllocError>
+    requires image { IsWellFormed image.now }
+    requires valid { IsValid options.now }
+    ensures options { IfOk result (λ run. run.options ≡ options.now) }
+    ensures run { IfOk result (λ run. IsRunOf image.now run) }
+    ensures own { IfOk result (λ run. run_of_list image.now options.now (schedule_in run) ≡ run) }
+{
+    let machine = Machine::make(rt, alloc, image, options)?;
+    Ok(machine.go(rt, gate))
+}
