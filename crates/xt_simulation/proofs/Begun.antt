@@ -7,7 +7,8 @@ use Rattle.xt_exec.specs.Laws.{IsShaped}
 use Rattle.xt_frames.specs.Frames.{Frame, FrameState, known, moved}
 use Rattle.xt_frames.specs.SaveAreas.{areas, sp_of, before, covers_byte, is_live}
 use Rattle.xt_frames.specs.Breaches.{Bounds}
-use Rattle.xt_simulation.specs.Stacks.{Chain, Stack, sp_under}
+use Rattle.xt_frames.specs.Stacks.{Chain, Stack}
+use Rattle.xt_simulation.specs.Stacks.{sp_under}
 use Rattle.xt_simulation.specs.Cores.{word, Related}
 use Rattle.xt_simulation.specs.Stretches as stretches
 use Rattle.xt_simulation.proofs.Modular.{place_at}

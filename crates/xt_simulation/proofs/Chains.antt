@@ -6,11 +6,12 @@ use Rattle.xt_exec.specs.State.{State}
 use Rattle.xt_frames.specs.Frames.{Frame, FrameState, known}
 use Rattle.xt_frames.specs.SaveAreas.{Area, areas, sp_of, before, touches, covers_byte, is_live}
 use Rattle.xt_frames.specs.Breaches.{Bounds}
-use Rattle.xt_simulation.specs.Ring.{IsFrame, AreFrames}
-use Rattle.xt_simulation.specs.Stacks.{Chain, IsRange, Rise, SavedHigh, sp_under}
+use Rattle.xt_frames.specs.Stacks.{IsFrame, AreFrames}
+use Rattle.xt_frames.specs.Stacks.{Chain, IsRange, Rise}
+use Rattle.xt_simulation.specs.Stacks.{SavedHigh, sp_under}
 use Rattle.xt_simulation.specs.Cores.{word, Related, Covers, SavedInAreas, LiveInRange}
 use Rattle.xt_simulation.proofs.RingLemmas.{some_within}
-use Rattle.xt_simulation.proofs.Stacked.{areas_rise, chain_top}
+use Rattle.xt_frames.proofs.Stacked.{areas_rise, chain_top}
 
 -- ---- the end of the chain
 pub chain_end : (lo hi sp : ℕ) (ring spilled : List Frame) → Chain lo hi sp (ring ++ spilled) → Chain lo hi (sp_under sp ring) spilled

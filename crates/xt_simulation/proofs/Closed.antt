@@ -10,7 +10,8 @@ use Rattle.xt_frames.specs.FrameStep.{laid}
 use Rattle.xt_frames.specs.Frames.{Frame, moved, FrameState}
 use Rattle.xt_simulation.specs.Closing.{Resumes, SpillsKeepPlain, FillsKeepPlain}
 use Rattle.xt_simulation.specs.Relation.{Same, Even, Plain, inputs}
-use Rattle.xt_simulation.specs.Ring.{stands, Holds, InRing, IsFrame, AreFrames, Windows}
+use Rattle.xt_simulation.specs.Ring.{stands, Holds, InRing, Windows}
+use Rattle.xt_frames.specs.Stacks.{IsFrame, AreFrames}
 use Rattle.xt_special.specs.declared.ps.Ps.{Ps}
 use Rattle.xt_window.specs.Ring.{place, bit, with_bit, without_bit}
 use Rattle.xt_simulation.proofs.Modular.{one_window, bit_at_window, bit_with_same, bit_with_other, bit_without_same, bit_without_other}

@@ -27,7 +27,7 @@ use Rattle.xt_frames.specs.FrameStep.{laid}
 use Rattle.xt_frames.specs.SaveAreas.{sp_of, touches, is_live}
 use Rattle.xt_frames.specs.Breaches.{lost_of, Bounds, window_breach}
 use Rattle.xt_frames.specs.HandlerSteps.{is_window, closes, fetched_ends, ends_stretch}
-use Rattle.xt_simulation.specs.Stacks.{Stack}
+use Rattle.xt_frames.specs.Stacks.{Stack}
 use Rattle.xt_simulation.specs.Relation as relation
 use Rattle.xt_simulation.specs.Relation.{inputs}
 use Rattle.xt_simulation.specs.Closing.{Changes}
@@ -540,7 +540,7 @@ module _ (code : ℕ → ℕ) (constant : (a : ℕ) → code a < 2 ^ 8) (b : Bou
           let t = turned code m s low_now untaken running_now len i (step_of_insn i) mv.next (shown i) at range may (λ k. shaped.words (place s.base k)) sizes is in
           let no : closes code (planned code s).kind s.control.pc ≡ false = ap (λ k. closes code k s.control.pc) t.kind ∙ (ap fetched_ends at ∙ not_ending h.side n start h.flags mv.after (machine m s) (shown i) does) in
           goes_on no (went_on mv t) (λ a dead. t.bytes a ∙ step_keeps h.side n start (byte_at m) mv.next.bytes a mv.touches (untouched_from h.side n start a at_start.frames (not_own a dead)))
-              (λ a free. t.bytes a ∙ step_keeps h.side n start (byte_at m) mv.next.bytes a mv.touches free)
+          (λ a free. t.bytes a ∙ step_keeps h.side n start (byte_at m) mv.next.bytes a mv.touches free)
 
       -- ---- the ending
       changes_from : (start_bits : ℕ) → Done h.side n start (machine m s) → Changes before (record { regs = s.regs; base = s.control.ps.owb; start = start_bits; control = ticked (record s.control { pc = special_of s.control (number.epc 1); ps = record s.control.ps { excm = false } }) }) (moved h.rest) n

@@ -18,7 +18,8 @@ use Rattle.xt_frames.specs.FrameStep.{FrameTurn, laid, laid_step}
 use Rattle.xt_frames.specs.SaveAreas.{is_live}
 use Rattle.xt_frames.specs.HandlerSteps.{is_window}
 use Rattle.xt_frames.specs.Breaches.{lost_of, Bounds, inputs_of, laid_breach, breach_of, fresh_after, stale_after}
-use Rattle.xt_simulation.specs.Stacks.{Stack, Saved, sp_under}
+use Rattle.xt_frames.specs.Stacks.{Stack}
+use Rattle.xt_simulation.specs.Stacks.{Saved, sp_under}
 use Rattle.xt_simulation.specs.Relation.{Same, Level, Plain, inputs}
 use Rattle.xt_simulation.specs.Cores.{word, Related}
 use Rattle.xt_simulation.proofs.Closed.{set_own}

@@ -12,7 +12,7 @@ use Rattle.xt_exec.specs.State.{State}
 use Rattle.xt_exec.specs.Turn.{entered, returned, underflow, return_size, return_pc}
 use Rattle.xt_frames.specs.Frames.{Frame, FrameState, known, moved, seen_after_call, seen_after_return}
 use Rattle.xt_frames.specs.FrameStep.{pushed, popped}
-use Rattle.xt_simulation.specs.Ring.{IsFrame}
+use Rattle.xt_frames.specs.Stacks.{IsFrame}
 use Rattle.xt_simulation.specs.Stacks.{sp_under}
 use Rattle.xt_simulation.specs.Relation.{Even, Level}
 use Rattle.xt_simulation.proofs.Modular.{bit_at_window}

@@ -20,7 +20,7 @@ use Rattle.xt_exec.proofs.Shapes.{opening_shaped}
 use Rattle.xt_frames.specs.Frames.{known}
 use Rattle.xt_frames.specs.SaveAreas.{Range}
 use Rattle.xt_frames.specs.Breaches.{lost_of, Bounds}
-use Rattle.xt_simulation.specs.Stacks.{IsRange}
+use Rattle.xt_frames.specs.Stacks.{IsRange}
 use Rattle.xt_simulation.specs.Relation.{Level}
 use Rattle.xt_simulation.specs.Cores.{word, Related}
 use Rattle.xt_simulation.proofs.Evenly.{only_epc1}

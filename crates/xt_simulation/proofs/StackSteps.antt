@@ -24,10 +24,10 @@ use Rattle.xt_frames.specs.Frames.{Frame, FrameState, known, seen_after_write}
 use Rattle.xt_frames.specs.FrameStep.{FrameTurn, raised, pushed, popped, popped_from, done_in_frame, fetched_step, laid_step}
 use Rattle.xt_frames.specs.SaveAreas.{Range}
 use Rattle.xt_frames.specs.Breaches.{Bounds, first_shown, fetched_tests, other_frame_size, small_frame, leaves_range, outside, misaligns_sp, opens_nothing}
-use Rattle.xt_simulation.specs.Stacks.{Stack}
+use Rattle.xt_frames.specs.Stacks.{Stack}
 use Rattle.xt_rows.specs.Kinds.{Fits}
 use Rattle.xt_rows.proofs.Fitting.{outcome_fits}
-use Rattle.xt_simulation.proofs.Stacked.{enters_stack, leaves_stack, known_is}
+use Rattle.xt_frames.proofs.Stacked.{enters_stack, leaves_stack, known_is}
 use Rattle.xt_simulation.proofs.Windowed.{NoneShown, none_shown}
 use Rattle.xt_simulation.specs.JudgedSteps.{KeepsStack}
 use Rattle.xt_simulation.proofs.Ordinary.{KeepsSp}

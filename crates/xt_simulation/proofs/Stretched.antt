@@ -8,15 +8,18 @@ use Rattle.xt_exec.specs.State.{State}
 use Rattle.xt_frames.specs.Frames.{Frame, moved, FrameState, known}
 use Rattle.xt_frames.specs.SaveAreas.{sp_of, before}
 use Rattle.xt_simulation.specs.Cores.{word, Related}
-use Rattle.xt_simulation.specs.Ring.{Holds, InRing, AreFrames}
-use Rattle.xt_simulation.specs.Stacks.{Chain, IsRange, Saved, sp_under}
+use Rattle.xt_simulation.specs.Ring.{Holds, InRing}
+use Rattle.xt_frames.specs.Stacks.{AreFrames}
+use Rattle.xt_frames.specs.Stacks.{Chain, IsRange}
+use Rattle.xt_simulation.specs.Stacks.{Saved, sp_under}
 use Rattle.xt_simulation.specs.Stretches.{Finds, OverflowsFindFrames, UnderflowsFindFrames, OverflowsKeepRelated, UnderflowsKeepRelated, StretchesBegin, StretchesGoOn, StretchesEnd}
 use Rattle.xt_special.specs.declared.ps.Ps.{Ps}
 use Rattle.xt_window.specs.Ring.{place, visible}
 use Rattle.xt_frames.specs.Breaches.{Bounds}
 use Rattle.xt_simulation.proofs.RingLemmas.{some_within}
 use Rattle.xt_simulation.proofs.Closed.{spills, fills, moved_end, in_ring_end}
-use Rattle.xt_simulation.proofs.Stacked.{chain_top, links_are_saved, spills_are_saved}
+use Rattle.xt_frames.proofs.Stacked.{chain_top}
+use Rattle.xt_simulation.proofs.Stacked.{links_are_saved, spills_are_saved}
 use Rattle.xt_simulation.proofs.Chains.{chain_end, frames_after}
 
 -- ---- stack pointers in the ring

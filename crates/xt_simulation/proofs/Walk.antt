@@ -20,7 +20,7 @@ use Rattle.xt_frames.specs.FrameStep.{FrameTurn, laid}
 use Rattle.xt_frames.specs.SaveAreas.{Range, is_live}
 use Rattle.xt_frames.specs.HandlerSteps.{Mode, Plain, Handles, is_window, closes, mode_after}
 use Rattle.xt_frames.specs.Breaches.{lost_of, Bounds, inputs_of, breach_of, window_breach, stale_after}
-use Rattle.xt_simulation.specs.Stacks.{Stack}
+use Rattle.xt_frames.specs.Stacks.{Stack}
 use Rattle.xt_simulation.specs.Relation.{inputs}
 use Rattle.xt_simulation.proofs.Chains.{related_spared, live_in_range}
 use Rattle.xt_simulation.specs.Steps.{reply_at, memory_after_step, reply_now, record_now, state_now, memory_now}

@@ -2,7 +2,8 @@
 use Rattle.std.proofs.Common.{◌≡◌, ℕ, ◌+◌, ◌-◌, ◌%◌, ◌<◌, ◌≤◌, ◌⊎◌, Bool, true, false, ◌&&◌, eqb, leb, suc, zero, List, [], ◌∷◌, Option, sym, ◌∙◌, refl, arith, inl, inr, ⊎_elim}
 use Rattle.std.proofs.lemmas.Bool.{eq-eqb, ne_eqb, cases_lt, or_right, or_left, or_from, and_parts, and_from, le-leb, leb-true, both_ways}
 use Rattle.xt_frames.specs.Frames.{Frame, moved}
-use Rattle.xt_simulation.specs.Ring.{stands, AreFrames, Windows, oldest_by}
+use Rattle.xt_simulation.specs.Ring.{stands, Windows, oldest_by}
+use Rattle.xt_frames.specs.Stacks.{AreFrames}
 use Rattle.xt_window.specs.Ring.{bit, first_of_three, ahead, size_at}
 use Rattle.xt_simulation.proofs.Modular.{bit_at_window}
 use Rattle.xt_simulation.proofs.RingLemmas.{stands_above, stands_lowest}

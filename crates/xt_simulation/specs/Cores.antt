@@ -5,8 +5,9 @@ use Rattle.xt_exec.specs.State.{State}
 use Rattle.xt_frames.specs.Frames.{Frame, FrameState, known}
 use Rattle.xt_frames.specs.SaveAreas.{Range, Area, areas, is_live}
 use Rattle.xt_frames.specs.Breaches.{Bounds}
-use Rattle.xt_simulation.specs.Ring.{AreFrames}
-use Rattle.xt_simulation.specs.Stacks.{Stack, IsRange, Chain, Saved, sp_under}
+use Rattle.xt_frames.specs.Stacks.{AreFrames}
+use Rattle.xt_frames.specs.Stacks.{Stack, IsRange, Chain}
+use Rattle.xt_simulation.specs.Stacks.{Saved, sp_under}
 use Rattle.xt_simulation.specs.Relation.{Plain}
 
 -- the little-endian word at an address

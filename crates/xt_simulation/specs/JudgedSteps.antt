@@ -11,7 +11,8 @@ use Rattle.xt_frames.specs.FrameStep.{FrameTurn, laid_step}
 use Rattle.xt_frames.specs.HandlerSteps.{is_window}
 use Rattle.xt_frames.specs.Breaches.{lost_of, Bounds, laid_breach, fresh_after}
 use Rattle.xt_rows.specs.Fetching.{fetched}
-use Rattle.xt_simulation.specs.Stacks.{Stack, sp_under}
+use Rattle.xt_frames.specs.Stacks.{Stack}
+use Rattle.xt_simulation.specs.Stacks.{sp_under}
 use Rattle.xt_simulation.specs.Relation.{Level}
 use Rattle.xt_exec.specs.Finishing.{Turn, finished}
 

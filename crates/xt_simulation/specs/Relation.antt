@@ -11,7 +11,8 @@ use Rattle.xt_frames.specs.Frames.{Frame, FrameState, moved}
 use Rattle.xt_frames.specs.FrameStep.{Inputs, laid}
 use Rattle.xt_frames.specs.HandlerSteps.{is_window}
 use Rattle.xt_frames.specs.Breaches.{window_breach}
-use Rattle.xt_simulation.specs.Ring.{AreFrames, Windows}
+use Rattle.xt_frames.specs.Stacks.{AreFrames}
+use Rattle.xt_simulation.specs.Ring.{Windows}
 
 -- Special registers that are equal, but for those that are lost. EPC1 alone can be: a window
 -- exception writes it, which the frame machine does not see.

@@ -152,13 +152,13 @@ abbrev pub HandlesAlone : (ℕ → ℕ) → Bounds → MemoryContents → Core �
 HandlesAlone code b m c =
     c.standing.mode ≡ Handles
     → StoresAlone
-        b
-        c.standing.frame
-        c.entered.before
-        c.state
-        c.entered.opened
-        (byte_at m)
-        (byte_at (memory_now code m c.state))
+    b
+    c.standing.frame
+    c.entered.before
+    c.state
+    c.entered.opened
+    (byte_at m)
+    (byte_at (memory_now code m c.state))
 
 abbrev pub KeepsStretches : (ℕ → ℕ) → Bounds → MemoryContents → Core → Type 0
 KeepsStretches code b m c = EndsWell code b m c × HandlesAlone code b m c

@@ -8,7 +8,7 @@ ghost use Rattle.xt_simulation.specs.Headline.{RunsAreFrames, SixSuffice, Stretc
 ghost use Rattle.xt_simulation.specs.Opening.{OpensAlike};
 ghost use Rattle.xt_simulation.specs.JudgedSteps.{KeepsLevel, KeepsStack};
 ghost use Rattle.xt_simulation.specs.Relation.{EntersWindow};
-ghost use Rattle.xt_simulation.specs.Stacks.{AreasRise, EntersStack, LeavesStack, LinksAreSaved, SpillsAreSaved};
+ghost use Rattle.xt_simulation.specs.Stacks.{LinksAreSaved, SpillsAreSaved};
 ghost use Rattle.xt_simulation.specs.Stretches.{OverflowsFindFrames, OverflowsKeepRelated, StretchesBegin, StretchesEnd, StretchesGoOn, UnderflowsFindFrames, UnderflowsKeepRelated};
 
 /// A window exception that shows no breach is that of the oldest caller in the ring, or of the newest spilled one.
@@ -59,21 +59,6 @@ pub fn stretches_go_on()
 /// RFWO and RFWU bring back what stood before.
 pub fn stretches_end()
     ensures { StretchesEnd }
-{}
-
-/// An ENTRY that shows no breach keeps the chain of stack pointers.
-pub fn calls_keep_the_stack()
-    ensures { EntersStack }
-{}
-
-/// A RETW keeps it.
-pub fn returns_keep_the_stack()
-    ensures { LeavesStack }
-{}
-
-/// The save areas of one core share no byte.
-pub fn save_areas_are_apart()
-    ensures { AreasRise }
 {}
 
 /// The word below a spilled frame's stack pointer is its caller's stack pointer.
