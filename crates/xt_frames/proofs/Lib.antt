@@ -3,4 +3,4 @@ pub mod StackSteps
 pub mod Sixteen
 pub mod Newest
 pub mod Kept
-pub mod Tests
+pub mod TestRows

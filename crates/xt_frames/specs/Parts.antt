@@ -1,3 +1,4 @@
+-- Carries a proof; nothing that a reader must believe.
 -- How the program keeps a frame state, and what its functions answer.
 use Rattle.std.specs.Prelude.{◌≡◌, ℕ, ◌+◌, ◌*◌, ◌<◌, ◌≤◌, ◌^◌, true, false, Option, Some, None, List, [], ◌∷◌, map, reverse, take}
 use Rattle.xt_isa.specs.Ranges.{in_range}

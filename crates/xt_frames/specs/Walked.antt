@@ -1,4 +1,5 @@
--- What a contract sees of a core of the machine with unbounded frames, and what its functions answer.
+-- What a contract sees of a core of the machine with unbounded frames, and what its functions answer
+-- ('profile').
 use Rattle.std.specs.Prelude.{◌≡◌, ℕ, zero, suc, true, ◌+◌, ◌-◌, ◌/◌, ◌≤◌, Bool, ◌&&◌, ◌==◌, Option, Some, None, Result, Ok, Err, List, [], ◌∷◌, length, map}
 use Rattle.xt_trace.specs.declared.options.Options.{Options}
 use Rattle.xt_trace.specs.declared.options.Stack.{Stack}

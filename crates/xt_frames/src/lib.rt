@@ -8,6 +8,8 @@ mod fetch;
 mod frames;
 mod kinds;
 mod registers;
+#[cfg(test)]
+mod tests;
 mod view;
 
 pub use fetch::{Fetch, instruction_at};

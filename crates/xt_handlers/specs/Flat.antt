@@ -1,3 +1,4 @@
+-- Carries a proof; nothing that a reader must believe.
 -- The checker's flat symbols and what they stand for.
 use Rattle.std.specs.Prelude.{◌≡◌, ℕ, true, Some, List, length, map}
 use Rattle.xt_stretch.specs.Symbols.{Symbol, Init, Load, Word, Effect}

@@ -1,4 +1,5 @@
--- The vectors of the window handlers, and their answers.
+-- The vectors of the window handlers, and their answers (the offsets of the vectors from VECBASE are
+-- those of the ESP32's configuration; the offset that a vector that fails has is 'profile').
 use Rattle.std.specs.Prelude.{◌≡◌, ℕ, ◌+◌, ◌-◌, ◌*◌, ◌<◌, if◌then◌else◌, List}
 use Rattle.xt_rows.specs.Fetching.{can_fetch}
 use Rattle.xt_rows.specs.Numbers.{code_bytes}

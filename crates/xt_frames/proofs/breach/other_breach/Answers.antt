@@ -1,6 +1,6 @@
 use Rattle.std.proofs.Common.{not, sym, ◌∙◌, ap}
 use Rattle.xt_frames.specs.Breaches.{first_shown, is_in_vectors}
-use Rattle.xt_frames.proofs.Tests.{row, last, one}
+use Rattle.xt_frames.proofs.TestRows.{row, last, one}
 use Rattle.xt_frames.proofs.breach.other_breach.Goals as goal
 
 pub returns : goal.returns

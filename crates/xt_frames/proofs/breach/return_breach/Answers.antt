@@ -6,7 +6,7 @@ use Rattle.xt_rows.specs.Fetching.{Fetched, Fetches, fetched}
 use Rattle.xt_frames.specs.Frames.{FrameState}
 use Rattle.xt_frames.specs.Breaches.{first_shown, is_return, return_tests, fetched_return_breach}
 use Rattle.xt_frames.specs.Parts.{state_at}
-use Rattle.xt_frames.proofs.Tests.{row, last, one}
+use Rattle.xt_frames.proofs.TestRows.{row, last, one}
 use Rattle.xt_frames.proofs.breach.return_breach.Goals as goal
 
 of_return : (at : Fetched) (i : Insn) (len : ℕ) (f : FrameState) → at ≡ Fetches i len → is_return i ≡ true → fetched_return_breach at f ≡ first_shown (return_tests i f)

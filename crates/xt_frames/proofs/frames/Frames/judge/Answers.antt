@@ -7,7 +7,7 @@ use Rattle.xt_frames.specs.Parts.{state_at, turn_as}
 use Rattle.xt_frames.specs.Stacks.{Stack}
 use Rattle.xt_frames.specs.Walked.{IsCase, bounds_of}
 use Rattle.xt_frames.proofs.StackSteps.{keeps_stack}
-use Rattle.xt_frames.proofs.Tests.{plan_ranges}
+use Rattle.xt_frames.proofs.TestRows.{plan_ranges}
 use Rattle.xt_frames.proofs.frames.Frames.judge.Goals as goal
 
 pub commit-requires : goal.commit-requires

@@ -1,5 +1,5 @@
 use Rattle.std.proofs.Common.{false}
-use Rattle.xt_frames.proofs.Tests.{saves_nowhere, loads_nowhere}
+use Rattle.xt_frames.proofs.TestRows.{saves_nowhere, loads_nowhere}
 use Rattle.xt_frames.proofs.frames.Frames.step.Goals as goal
 
 pub judge-requires : goal.judge-requires
