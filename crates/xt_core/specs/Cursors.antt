@@ -1,4 +1,4 @@
--- The records that a core's turns will make.
+-- The records that a core's turns will make ('profile').
 use Rattle.std.specs.Prelude.{ℕ, List}
 use Rattle.xt_map.specs.declared.access.Entry.{Entry}
 use Rattle.xt_map.specs.History.{replies_of}

@@ -1,4 +1,5 @@
--- What a fetch answers, as its definition has it.
+-- Carries a proof; nothing that a reader must believe.
+-- What a fetch answers, as its definition has it ('profile').
 use Rattle.std.specs.Prelude.{◌≡◌, ℕ, ◌+◌, true}
 use Rattle.xt_isa.specs.Ranges.{in_range}
 use Rattle.xt_isa.specs.Spelling.{spelled, fields_at, length_of}

@@ -1,4 +1,5 @@
--- The record of a turn, and its two halves, in the words of the turn.
+-- Carries a proof; nothing that a reader must believe.
+-- The record of a turn, and its two halves, in the words of the turn ('profile').
 use Rattle.std.specs.Prelude.{◌≡◌, ℕ, true, Option, Some, None}
 use Rattle.xt_map.specs.declared.access.Access.{Access}
 use Rattle.xt_map.specs.Regions.{is_mapped}

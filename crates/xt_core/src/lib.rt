@@ -9,6 +9,8 @@ mod ends;
 mod fetch;
 mod record;
 mod replies;
+#[cfg(test)]
+mod tests;
 mod turn;
 
 pub use begin::Begin;

@@ -1,4 +1,4 @@
--- What the two halves of an instruction answer, in the words of the turn. A turn ends with the tick, which the halves leave to their
+-- What the two halves of an instruction answer, in the words of the turn ('profile'). A turn ends with the tick, which the halves leave to their
 -- caller.
 use Rattle.std.specs.Prelude.{◌≡◌, ℕ, ◌+◌, Bool, true, ◌==◌, if◌then◌else◌, Option, Some, None}
 use Rattle.xt_map.specs.declared.access.Access.{Access}

@@ -1,4 +1,4 @@
--- The state that the registers of a core hold.
+-- The state that the registers of a core hold ('profile').
 use Rattle.std.specs.Prelude.{ℕ, List}
 use Rattle.xt_special.specs.Values.{control_at}
 use Rattle.xt_window.specs.Values.{WindowState}

@@ -1,4 +1,5 @@
--- What the private steps of an instruction answer, in the words of the turn (for proofs alone).
+-- Carries a proof; nothing that a reader must believe.
+-- What the private steps of an instruction answer, in the words of the turn ('profile').
 use Rattle.std.specs.Prelude.{◌≡◌, ℕ, ◌<◌, ◌^◌, Option, Some, None}
 use Rattle.xt_rows.specs.Laws.{IsAny, IsProperWrite}
 use Rattle.xt_exec.specs.declared.step.Step.{Step}

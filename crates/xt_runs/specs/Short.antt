@@ -1,4 +1,3 @@
--- Carries a proof; nothing that a reader must believe.
 -- Traces that are not kept whole: a count and the places of the accesses stand for the records ('profile').
 use Rattle.std.specs.Prelude.{◌≡◌, ℕ, zero, suc, ◌+◌, ◌<◌, ◌≤◌, Bool, ◌||◌, List, [], ◌∷◌, ◌++◌, length}
 use Rattle.xt_map.specs.declared.access.Entry.{Entry}

@@ -59,6 +59,6 @@ pub struct Trace {
     pub places: Places,
     /// Why it ended.
     pub stop: Stop,
-    /// The program counter after the last turn.
+    /// The program counter after the last turn, or as the core opens where it made none.
     pub pc: u32,
 }
