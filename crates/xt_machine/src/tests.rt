@@ -1,7 +1,8 @@
 //! Runs of two small images: the smallest one, and one of which each core makes fifty stores.
-ghost use Rattle.std.specs.Prelude.{◌≡◌, ◌≤◌, None, IfOk};
+ghost use Rattle.std.specs.Prelude.{IfOk};
 ghost use Rattle.xt_trace.specs.Validity.{IsValid};
 ghost use Rattle.xt_image.specs.Parts.{IsWellFormed};
+ghost use Rattle.xt_machine.specs.Driving.{MayDrive};
 
 use crate::files::{File, opening_file};
 use crate::scheduled::opening_bus;
@@ -27,7 +28,8 @@ static LETTER: [u8; 64] = [
     0x00, 0x00, 0x00, 0x00, 0x00, 0x00, 0x00, 0x00, 0x00, 0x00, 0x00, 0x00, 0x00, 0x00, 0x00, 0x17,
 ];
 
-/// `movi a4, 50`, `s32i a4, a1, 0`, `addi a4, a4, -1`, `bnez a4` to the store, `break 1, 15` at 0x40080400.
+/// `movi a4, 50`, `s32i a4, a1, 0`, `addi a4, a4, -1`, `bnez a4` to the store, `break 1, 15` at
+/// 0x40080400.
 static FIFTY_STORES: [u8; 64] = [
     0xE9, 0x01, 0x02, 0x20, 0x00, 0x04, 0x08, 0x40, 0xEE, 0x00, 0x00, 0x00, 0x00, 0x00, 0x00, 0x00,
     0x00, 0xFF, 0xFF, 0x00, 0x00, 0x00, 0x00, 0x00, 0x00, 0x04, 0x08, 0x40, 0x10, 0x00, 0x00, 0x00,
@@ -70,7 +72,8 @@ fn options_of(turns0: u32, turns1: u32, entry1: u32) -> Result<Options, Fail>
     }
 }
 
-/// What a trace tells: its core, turns, accesses, whether it stopped at a BREAK, and its last program counter.
+/// What a trace tells: its core, turns, accesses, whether it stopped at a BREAK, and its last program
+/// counter.
 fn told(trace: &Trace) -> (u8, u32, usize, bool, u32) {
     (
         trace.core,
@@ -81,7 +84,8 @@ fn told(trace: &Trace) -> (u8, u32, usize, bool, u32) {
     )
 }
 
-/// Each core waits before its access `k` until the other has come as far, and marks failure where that takes too long.
+/// Each core waits before its access `k` until the other has come as far, and marks failure where that
+/// takes too long.
 #[derive(Drop)]
 struct Meet {
     zero: AtomicU64,
@@ -153,8 +157,7 @@ fn drive_one<R: Wait>(
     mut seat: CoreSeat,
     gate: &Meet,
 )
-    requires seat { (seat.bus ≡ bus.now) × (seat.core ≡ core.core) }
-    requires core { (core.waiting ≡ None) × (core.left ≤ seat.left) }
+    requires { MayDrive bus.now core seat }
 {
     drive(rt, &mut core, code, bus, &mut seat, gate);
 }
@@ -177,10 +180,10 @@ fn drive_both<R: Threads + Wait + Sync>(rt: &R, alloc: Global, gate: &Meet) -> R
     join(
         rt,
         move ||
-            requires { (seat0.bus ≡ bus.now) × (seat0.core ≡ core0.core) × (core0.waiting ≡ None) × (core0.left ≤ seat0.left) }
+            requires { MayDrive bus.now core0 seat0 }
         { drive_one(rt, core0, bytes, bus, seat0, gate) },
         move ||
-            requires { (seat1.bus ≡ bus.now) × (seat1.core ≡ core1.core) × (core1.waiting ≡ None) × (core1.left ≤ seat1.left) }
+            requires { MayDrive bus.now core1 seat1 }
         { drive_one(rt, core1, bytes, bus, seat1, gate) },
     );
     Ok(())
