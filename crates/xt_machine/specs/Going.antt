@@ -26,7 +26,8 @@ abbrev pub unturned : CoreState → Core State
 unturned k = record { state = k.state; left = k.left; records = [] }
 
 -- so far the list grew by the calls of the core's turns
-pub record IsGoing (code : ℕ → ℕ) (before now : CoreState) (old new : List (Access × ℕ)) : Type 0 where
+pub record IsGoing (code : ℕ → ℕ) (before now : CoreState) (old new : List (Access × ℕ))
+    : Type 0 where
   pub made : List (Access × ℕ)
   pub core : Core State
   pub list : new ≡ old ++ made

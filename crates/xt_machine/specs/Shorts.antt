@@ -34,8 +34,19 @@ abbrev pub opened_world : Image → Options → ShortWorld State
 opened_world image o = short_world (opened (opening_of image o))
 
 abbrev pub trace_in : ℕ → ShortCore State → Trace
-trace_in core k = record { core = core; count = k.count; places = k.places; stop = stop_where k.stopped; pc = k.state.control.pc }
+trace_in core k = record {
+  core = core;
+  count = k.count;
+  places = k.places;
+  stop = stop_where k.stopped;
+  pc = k.state.control.pc;
+}
 
 -- what a world leaves
 abbrev pub run_in : Options → ShortWorld State → Run
-run_in o w = record { options = o; history = w.line.history; trace0 = trace_in 0 w.core0; trace1 = trace_in 1 w.core1 }
+run_in o w = record {
+  options = o;
+  history = w.line.history;
+  trace0 = trace_in 0 w.core0;
+  trace1 = trace_in 1 w.core1;
+}

@@ -10,11 +10,11 @@ use xt_map::Constants;
 use xt_sharedbus::{CoreSeat, SharedBus};
 use xt_window::Windows;
 
-/// Makes the turns of one core over its seat, until it has stopped or has no turn left. Before its k-th access, counted from 0, it
-/// passes the gate. It may wait, and takes no memory.
+/// Makes the turns of one core over its seat, until it has stopped or has no turn left. Before its
+/// k-th access, counted from 0, it passes the gate. It may wait, and takes no memory.
 ///
-/// Conditions: the seat is one of this bus and of this core, no access waits, and the seat has as many accesses left as the core has
-/// turns, or more.
+/// Conditions: the seat is one of this bus and of this core, no access waits, and the seat has as
+/// many accesses left as the core has turns, or more.
 pub fn drive<W: Windows, G: Gate, R: Wait>(
     rt: &R,
     core: &mut Core<W>,

@@ -12,8 +12,8 @@ pub fn run_of_list_is_run()
     ensures { (image : Image) (o : Options) (list : List ℕ) → IsValid o → IsRunOf image (run_of_list image o list) }
 {}
 
-/// A run of an image is the run of its own schedule: in its history, and in the counts, places, stops and last program counters of
-/// its traces.
+/// A run of an image is the run of its own schedule: in its history, and in the counts, places, stops
+/// and last program counters of its traces.
 pub fn run_is_that_of_its_schedule()
     ensures { (image : Image) (r : Run) → IsRunOf image r → run_of_list image r.options (schedule_in r) ≡ r }
 {}

@@ -17,3 +17,6 @@ pub use machine::Machine;
 pub use order::{Schedule, schedule_of};
 pub use scheduled::run_schedule;
 pub use threads::run;
+
+#[cfg(test)]
+mod tests;

@@ -7,7 +7,8 @@ use xt_map::Constants;
 use xt_sharedbus::{CoreSeat, SharedBus};
 use xt_trace::Options;
 
-/// Two cores at their opening, each with its seat at one bus that they share. It has all memory of its run.
+/// Two cores at their opening, each with its seat at one bus that they share. It has all memory of
+/// its run.
 #[derive(Drop)]
 pub struct Machine {
     pub(crate) options: Options,

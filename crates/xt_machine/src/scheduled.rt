@@ -122,8 +122,9 @@ impl Pair {
     }
 }
 
-/// The run of a list of cores, without threads: each number gives that core its next turn, or nothing where it has ended; then core
-/// 0's remaining turns follow, and then core 1's. The only error is too little memory.
+/// The run of a list of cores, without threads: each number gives that core its next turn, or nothing
+/// where it has ended; then core 0's remaining turns follow, and then core 1's. The only error is too
+/// little memory.
 ///
 /// Conditions: the image is well formed, the options are valid, and each number is 0 or 1.
 pub fn run_schedule(

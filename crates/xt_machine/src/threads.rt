@@ -5,7 +5,7 @@ ghost use Rattle.xt_trace.specs.Validity.{IsValid};
 ghost use Rattle.xt_image.specs.declared.image.Image.{Image};
 ghost use Rattle.xt_image.specs.Parts.{IsWellFormed};
 ghost use Rattle.xt_core.specs.Runs.{IsRunOf};
-ghost use Rattle.xt_machine.specs.Driving.{WasDriven};
+ghost use Rattle.xt_machine.specs.Driving.{HasDriven, MayDrive};
 ghost use Rattle.xt_machine.specs.Lists.{run_of_list, schedule_in};
 ghost use Rattle.xt_machine.specs.Machines.{IsOpened};
 
@@ -32,21 +32,16 @@ fn driven<G: Gate, R: Wait>(
     mut seat: CoreSeat,
     gate: &G,
 ) -> (Core<File>, CoreSeat)
-    requires bus { seat.bus ≡ bus.now }
-    requires core { seat.core ≡ core.core }
-    requires waiting { core.waiting ≡ None }
-    requires left { core.left ≤ seat.left }
-    ensures driven { WasDriven (constant_byte code.now) core result.0 seat.list result.1.list }
-    ensures ended { (result.0.left ≡ 0) × (result.0.waiting ≡ None) }
-    ensures seat { (result.1.bus ≡ seat.bus) × (result.1.core ≡ seat.core) × (result.1.opening ≡ seat.opening) }
+    requires { MayDrive bus.now core seat }
+    ensures { HasDriven (constant_byte code.now) core seat result.0 result.1 }
 {
     drive(rt, &mut core, code, bus, &mut seat, gate);
     (core, seat)
 }
 
 impl Machine {
-    /// A machine as a run of the image opens. It takes all memory of the run, and the only error is too little memory. It opens the
-    /// bus that the cores share, so it may wait.
+    /// A machine as a run of the image opens. It takes all memory of the run, and the only error is
+    /// too little memory. It opens the bus that the cores share, so it may wait.
     ///
     /// Conditions: the image is well formed, and the options are valid.
     pub fn make<R: Wait>(
@@ -100,12 +95,12 @@ impl Machine {
         let ((core0, seat0), (core1, seat1)) = join(
             rt,
             move || -> (Core<File>, CoreSeat)
-                requires { (seat0.bus ≡ bus.now) × (seat0.core ≡ core0.core) × (core0.waiting ≡ None) × (core0.left ≤ seat0.left) }
-                ensures { WasDriven (constant_byte bytes.entry.now) core0 result.0 seat0.list result.1.list × ((result.0.left ≡ 0) × (result.0.waiting ≡ None)) × (result.1.bus ≡ seat0.bus) × (result.1.core ≡ seat0.core) × (result.1.opening ≡ seat0.opening) }
+                requires { MayDrive bus.now core0 seat0 }
+                ensures { HasDriven (constant_byte bytes.entry.now) core0 seat0 result.0 result.1 }
             { driven(rt, core0, bytes, bus, seat0, gate) },
             move || -> (Core<File>, CoreSeat)
-                requires { (seat1.bus ≡ bus.now) × (seat1.core ≡ core1.core) × (core1.waiting ≡ None) × (core1.left ≤ seat1.left) }
-                ensures { WasDriven (constant_byte bytes.entry.now) core1 result.0 seat1.list result.1.list × ((result.0.left ≡ 0) × (result.0.waiting ≡ None)) × (result.1.bus ≡ seat1.bus) × (result.1.core ≡ seat1.core) × (result.1.opening ≡ seat1.opening) }
+                requires { MayDrive bus.now core1 seat1 }
+                ensures { HasDriven (constant_byte bytes.entry.now) core1 seat1 result.0 result.1 }
             { driven(rt, core1, bytes, bus, seat1, gate) },
         );
         let bus = shared.close(rt, seat0, seat1);

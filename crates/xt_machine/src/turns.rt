@@ -10,7 +10,8 @@ use xt_core::{Begin, Core};
 use xt_map::Constants;
 use xt_window::Windows;
 
-/// One turn of a core, or nothing where it has ended. It answers whether there was a turn. Takes no memory.
+/// One turn of a core, or nothing where it has ended. It answers whether there was a turn. Takes no
+/// memory.
 #[inline(always)]
 pub fn make_turn<W: Windows>(
     core: &mut Core<W>,
