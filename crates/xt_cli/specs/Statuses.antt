@@ -20,11 +20,14 @@ fault_text (fault.DigestFlag flag) = codes "DigestFlag " ++ decimal flag
 fault_text (fault.SegmentEnd index) = codes "SegmentEnd " ++ decimal index
 fault_text (fault.SegmentLength index) = codes "SegmentLength " ++ decimal index
 fault_text (fault.SegmentPlace index) = codes "SegmentPlace " ++ decimal index
-fault_text (fault.SegmentOverlap first second) = codes "SegmentOverlap " ++ (decimal first ++ (codes " " ++ decimal second))
+fault_text (fault.SegmentOverlap first second) =
+    codes "SegmentOverlap " ++ (decimal first ++ (codes " " ++ decimal second))
 fault_text fault.NoChecksum = codes "NoChecksum"
-fault_text (fault.Checksum kept computed) = codes "Checksum " ++ (decimal kept ++ (codes " " ++ decimal computed))
+fault_text (fault.Checksum kept computed) =
+    codes "Checksum " ++ (decimal kept ++ (codes " " ++ decimal computed))
 fault_text fault.NoDigest = codes "NoDigest"
-fault_text (fault.Digest kept computed) = codes "Digest " ++ (encode_lower kept ++ (codes " " ++ encode_lower computed))
+fault_text (fault.Digest kept computed) =
+    codes "Digest " ++ (encode_lower kept ++ (codes " " ++ encode_lower computed))
 fault_text (fault.Entry address) = codes "Entry " ++ decimal address
 fault_text fault.Memory = codes "Memory"
 
@@ -40,14 +43,16 @@ elf_fault_text elf.HeaderEnd = codes "HeaderEnd"
 elf_fault_text (elf.SegmentEnd index) = codes "SegmentEnd " ++ decimal index
 elf_fault_text (elf.Sizes index) = codes "Sizes " ++ decimal index
 elf_fault_text (elf.Place index) = codes "Place " ++ decimal index
-elf_fault_text (elf.Overlap first second) = codes "Overlap " ++ (decimal first ++ (codes " " ++ decimal second))
+elf_fault_text (elf.Overlap first second) =
+    codes "Overlap " ++ (decimal first ++ (codes " " ++ decimal second))
 elf_fault_text (elf.Count count) = codes "Count " ++ decimal count
 elf_fault_text (elf.Entry address) = codes "Entry " ++ decimal address
 elf_fault_text elf.Memory = codes "Memory"
 
 -- the place of a text's first fault: its line, its column and its kind
 abbrev pub place_text : AsmPlace → List ℕ
-place_text place = decimal place.line ++ (codes " " ++ (decimal place.column ++ (codes " " ++ decimal place.kind)))
+place_text place =
+    decimal place.line ++ (codes " " ++ (decimal place.column ++ (codes " " ++ decimal place.kind)))
 
 abbrev pub status_words : Status → List ℕ
 status_words Done = codes "Done"

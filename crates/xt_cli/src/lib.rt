@@ -3,6 +3,7 @@
 
 mod checks;
 mod laws;
+mod output;
 mod run_report;
 mod status;
 mod tool;

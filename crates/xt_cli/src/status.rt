@@ -27,7 +27,7 @@ pub enum Status {
     WriteFault,
     /// The input is longer than this many bytes.
     TooLarge(u32),
-    /// The words or the image ask for what the machine does not do yet.
+    /// The words ask for a command that is not there yet.
     Unbuilt,
     /// There was too little memory.
     Memory,

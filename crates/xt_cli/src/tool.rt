@@ -2,7 +2,9 @@
 ghost use Rattle.std.specs.Prelude.{◌≡◌, ◌≢◌, ◌≤◌, length, map, string_bytes, IfOk, IfErr, None, Some};
 ghost use Rattle.std.specs.Option.{option_map};
 ghost use Rattle.xt_image.specs.Format.{image_of};
+ghost use Rattle.xt_image.specs.Parts.{IsWellFormed};
 ghost use Rattle.xt_image.specs.Rules.{image_fault};
+ghost use Rattle.xt_cli.specs.Calls.{ends};
 ghost use Rattle.xt_cli.specs.Tools.{Answers, Finishes, IsComplete, IsMade, Makes, limit_of, refusal_of, status_of};
 ghost use Rattle.xt_words.specs.Meaning.{meaning_of};
 
@@ -108,9 +110,10 @@ fn converted_file(alloc: Global, input: &[u8]) -> Result<Text, Status>
 }
 
 // The image that an input is, or the status of its first fault.
-fn image_in(alloc: Global, input: &[u8]) -> Result<Image, Status>
+pub(crate) fn image_in(alloc: Global, input: &[u8]) -> Result<Image, Status>
     requires { length input.now ≤ 8388608 }
     ensures ok { IfOk result (λ image. (image_fault input.now ≡ None) × (image ≡ image_of input.now)) }
+    ensures well_formed { IfOk result IsWellFormed }
     ensures refused { IfErr result (λ status. status ≢ Status.Memory → option_map Status.Image (image_fault input.now) ≡ Some status) }
 {
     match read(alloc, input) {
@@ -163,26 +166,10 @@ pub(crate) fn work<S: Source, K: Sink>(
     source: &mut S,
     sink: &mut K,
 ) -> Status
-    ensures answers { Makes job (record {
-      left = S.left source.old;
-      left_after = S.left source.new;
-      told = K.told sink.old;
-      told_after = K.told sink.new;
-      source_faults = S.faults source.old;
-      source_faults_after = S.faults source.new;
-      sink_faults = K.faults sink.old;
-      sink_faults_after = K.faults sink.new;
-    }) result }
-    ensures complete { Finishes job (record {
-      left = S.left source.old;
-      left_after = S.left source.new;
-      told = K.told sink.old;
-      told_after = K.told sink.new;
-      source_faults = S.faults source.old;
-      source_faults_after = S.faults source.new;
-      sink_faults = K.faults sink.old;
-      sink_faults_after = K.faults sink.new;
-    }) result }
+    ensures answers { Makes job
+        (ends S.left S.faults source.old source.new K.told K.faults sink.old sink.new) result }
+    ensures complete { Finishes job
+        (ends S.left S.faults source.old source.new K.told K.faults sink.old sink.new) result }
 {
     let limit = limit_of(job);
     let input = match read_to_limit(alloc, source, limit) {
@@ -215,33 +202,17 @@ pub fn tool_main<S: Source, K: Sink>(
     source: &mut S,
     sink: &mut K,
 ) -> Tool
-    ensures answers { Answers (meaning_of (map string_bytes words.now)) (record {
-      left = S.left source.old;
-      left_after = S.left source.new;
-      told = K.told sink.old;
-      told_after = K.told sink.new;
-      source_faults = S.faults source.old;
-      source_faults_after = S.faults source.new;
-      sink_faults = K.faults sink.old;
-      sink_faults_after = K.faults sink.new;
-    }) result }
-    ensures complete { IsComplete (meaning_of (map string_bytes words.now)) (record {
-      left = S.left source.old;
-      left_after = S.left source.new;
-      told = K.told sink.old;
-      told_after = K.told sink.new;
-      source_faults = S.faults source.old;
-      source_faults_after = S.faults source.new;
-      sink_faults = K.faults sink.old;
-      sink_faults_after = K.faults sink.new;
-    }) result }
+    ensures answers { Answers (meaning_of (map string_bytes words.now))
+        (ends S.left S.faults source.old source.new K.told K.faults sink.old sink.new) result }
+    ensures complete { IsComplete (meaning_of (map string_bytes words.now))
+        (ends S.left S.faults source.old source.new K.told K.faults sink.old sink.new) result }
 {
     match meaning(alloc, words) {
         Ok(Command::Assemble) => Tool::Answer(work(alloc, Job::Assemble, source, sink)),
         Ok(Command::Convert) => Tool::Answer(work(alloc, Job::Convert, source, sink)),
         Ok(Command::Disassemble) => Tool::Answer(work(alloc, Job::List, source, sink)),
         Ok(Command::Check) => Tool::Answer(work(alloc, Job::Check, source, sink)),
-        Ok(Command::Run { turns0: _ }) => Tool::Threaded,
+        Ok(Command::Run(_)) => Tool::Threaded,
         Err(refusal) => Tool::Answer(status_of(refusal)),
     }
 }

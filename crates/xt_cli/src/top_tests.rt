@@ -13,7 +13,12 @@ const LETTER: &str = "E901022004040840EE0000000000000000FFFF00000000000004084010
 0000F43F21FFFF32A041324200F0410000000000000000000000000000000017";
 
 const REPORT: &str = "uart 1\nA\ncore 0 stop break turns 4 pc 4008040D\n\
-core 1 stop turns turns 0 pc 40080404\n";
+core 1 stop turns turns 0 pc 40080404\nhistory 1\n";
+
+const TRACED: &str = "uart 1\nA\ncore 0 stop break turns 4 pc 4008040D\n\
+core 1 stop turns turns 0 pc 40080404\nhistory 1\n\
+0 0 40080404 insn a2=3FF40000\n0 1 40080407 insn a3=00000041\n\
+0 2 4008040A insn st1 3FF40000 00000041\n0 3 4008040D stop\n";
 
 const LISTING: &str = "segment 0 40080400 16 IRAM\n\
 40080400 0000F4 extui a0, a0, 0, 16\n\
@@ -76,8 +81,13 @@ fn runs_of_the_letter_a(rt: HostRuntime) -> Result<(), Fail> {
         ("run --turns0 10 --turns1 0", REPORT),
         (
             "run --turns0 2 --turns1 0",
-            "uart 0\n\ncore 0 stop turns turns 2 pc 4008040A\ncore 1 stop turns turns 0 pc 40080404\n",
+            "uart 0\n\ncore 0 stop turns turns 2 pc 4008040A\ncore 1 stop turns turns 0 pc 40080404\nhistory 0\n",
         ),
+        (
+            "run --turns0 0 --turns1 0",
+            "uart 0\n\ncore 0 stop turns turns 0 pc 40080404\ncore 1 stop turns turns 0 pc 40080404\nhistory 0\n",
+        ),
+        ("run --trace --turns1 0", TRACED),
         ("dis", LISTING),
         ("check", CHECKED),
     ];
@@ -118,7 +128,12 @@ fn refusals_write_nothing(rt: HostRuntime) -> Result<(), Fail> {
         ("fly", 64, 0, Status::Usage(2)),
         ("check now", 64, 0, Status::Usage(3)),
         ("dis --help", 64, 0, Status::Usage(3)),
-        ("run --turns0 ten --turns1 0", 64, 0, Status::Unbuilt),
+        ("run now", 64, 0, Status::Usage(3)),
+        ("run --turns0 ten", 64, 0, Status::Usage(4)),
+        ("run --turns0 4000001", 64, 0, Status::Usage(5)),
+        ("run --entry1 0x3FFB0000", 64, 0, Status::Usage(6)),
+        ("run --vecbase 0x40080010", 64, 0, Status::Usage(7)),
+        ("run --stack1 0:256", 64, 0, Status::Usage(8)),
         ("record", 64, 0, Status::Unbuilt),
     ];
     for (words, place, byte, status) in rows {
@@ -271,10 +286,10 @@ fn too_long_an_input_is_refused(rt: HostRuntime) -> Result<(), Fail> {
 
 #[test]
 fn devices_that_fail_at_each_call(rt: HostRuntime) -> Result<(), Fail> {
-    // Thirteen calls read the 64 bytes and one finds their end; seventeen write the 85 of the report.
+    // Thirteen calls read the 64 bytes and one finds their end; nineteen write the 95 of the report.
     let image = hex::decode(rt.alloc(), LETTER)?;
     let words = "run --turns0 10 --turns1 0";
-    for call in 0..18usize {
+    for call in 0..20usize {
         let mut source = MemSource::make(rt.alloc(), &image, 5, &[call as u64])?;
         let mut sink = SafeSink::make(rt.alloc())?;
         let outcome = answer(rt.alloc(), words, &mut source, &mut sink)?;
@@ -292,7 +307,7 @@ fn devices_that_fail_at_each_call(rt: HostRuntime) -> Result<(), Fail> {
         let mut source = SafeSource::make(rt.alloc(), &image)?;
         let mut sink = MemSink::make(rt.alloc(), 5, &[call as u64])?;
         let outcome = answer(rt.alloc(), words, &mut source, &mut sink)?;
-        let written = if call < 17 {
+        let written = if call < 19 {
             Status::WriteFault
         } else {
             Status::Done
@@ -305,7 +320,7 @@ fn devices_that_fail_at_each_call(rt: HostRuntime) -> Result<(), Fail> {
         );
         assert_eq!(rt;
             sink.bytes().len(),
-            85.min(5 * call),
+            95.min(5 * call),
             "writing, at call {call}"
         );
     }

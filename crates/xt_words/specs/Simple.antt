@@ -1,4 +1,5 @@
--- What a simple command of clap matches on words. The first word stands where clap expects the program's name.
+-- What a simple command of clap matches on words. The first word stands where clap expects the
+-- program's name.
 -- Source: the definition of a simple command that the crate clap has.
 use Rattle.std.specs.Prelude.{◌≡◌, List, [], ◌∷◌, Option, Some, None, Result, Ok, Err}
 use Rattle.clap.specs.Words.{App, Row, Text, fault_of, found_of, matches_of, rows_of}
