@@ -13,6 +13,23 @@ pub record Ends : Type 0 where
   pub sink_faults : ℕ
   pub sink_faults_after : ℕ
 
+-- a call that found the source at the first of these values and left it at the second, and the sink so too
+abbrev pub ends :
+    {S K : Type 0}
+    → (S → Option (List ℕ)) → (S → ℕ) → S → S
+    → (K → Option (List ℕ)) → (K → ℕ) → K → K
+    → Ends
+ends left source_faults source source_after told sink_faults sink sink_after = record {
+  left = left source;
+  left_after = left source_after;
+  told = told sink;
+  told_after = told sink_after;
+  source_faults = source_faults source;
+  source_faults_after = source_faults source_after;
+  sink_faults = sink_faults sink;
+  sink_faults_after = sink_faults sink_after;
+}
+
 -- the input was read to its end, is within the limit, and this is so of it
 pub record ReadsWhole (limit : ℕ) (e : Ends) (P : List ℕ → Type 0) : Type 0 where
   pub input : List ℕ

@@ -71,7 +71,7 @@ status_of (refusal.Usage rule) = status.Usage rule
 status_of refusal.Unbuilt = status.Unbuilt
 status_of refusal.Memory = status.Memory
 
--- words without a meaning are refused before anything is read or written; reading them may want memory
+-- words without a meaning are refused before anything is read or written; reading them may find too little memory
 abbrev pub RefusesWords : Refusal → Ends → Status → Type 0
 RefusesWords r e s = ((s ≡ status_of r) ⊎ (s ≡ status.Memory)) × IsUntouched e
 
@@ -94,7 +94,7 @@ pub record HasInput (j : Job) (left : Option (List ℕ)) : Type 0 where
   pub within : length input ≤ limit_of j
   pub accepted : refusal_of j input ≡ None
 
--- such an input, and no fault of the source or the sink in this call, end in Done, or in want of memory
+-- such an input, and no fault of the source or the sink in this call, end in Done, or in Memory
 abbrev pub Finishes : Job → Ends → Status → Type 0
 Finishes j e s = HasInput j e.left → (Rose e.source_faults e.source_faults_after → ⊥) → (Rose e.sink_faults e.sink_faults_after → ⊥)
     → (s ≡ status.Done) ⊎ (s ≡ status.Memory)

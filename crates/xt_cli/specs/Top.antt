@@ -105,7 +105,7 @@ pub record HasInput (turns : ℕ) (left : Option (List ℕ)) : Type 0 where
   pub within : length input ≤ image_limit
   pub runnable : IsRunnable turns input
 
--- a whole input that can be run, and no fault of the source or the sink in this call, end in Done, or in want of memory
+-- a whole input that can be run, and no fault of the source or the sink in this call, end in Done, or in Memory
 abbrev pub FinishesRun : ℕ → Ends → Status → Type 0
 FinishesRun turns e s = HasInput turns e.left → (Rose e.source_faults e.source_faults_after → ⊥) → (Rose e.sink_faults e.sink_faults_after → ⊥)
     → (s ≡ status.Done) ⊎ (s ≡ status.Memory)

@@ -43,7 +43,7 @@ fn push_segments(out: &mut String, segments: &[Segment]) -> Result<(), AllocErro
 ///
 /// The first line ends in `digest no` where no digest follows the checksum. There is one further
 /// line for each segment, as in the listing. N, I and LENGTH are decimal, ADDR has eight upper-case
-/// hexadecimal digits. The only error is want of memory.
+/// hexadecimal digits. The only error is too little memory.
 #[tactic(auto, unfolding(crate::specs::Checks::check_text))]
 pub fn check_text(alloc: Global, image: &Image) -> Result<Text, AllocError>
     ensures { IfOk result (λ text. text ≡ check_text image.now) }

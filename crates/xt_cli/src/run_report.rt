@@ -59,7 +59,7 @@ fn line_of(alloc: Global, core: u8, trace: &Trace) -> Result<String, AllocError>
 /// ```
 ///
 /// S is `break` or `turns`, K the number of the core's records, and ADDR its last program counter in
-/// eight upper-case hexadecimal digits; N and K are decimal. The only error is want of memory.
+/// eight upper-case hexadecimal digits; N and K are decimal. The only error is too little memory.
 #[tactic(auto, unfolding(crate::specs::Reports::report_text))]
 pub fn report(alloc: Global, run: &Run) -> Result<Text, AllocError>
     ensures { IfOk result (λ text. text ≡ report_text run.now) }

@@ -80,7 +80,7 @@ fn text_of(alloc: Global, fault: &ImageFault) -> Result<String, AllocError>
 
 /// The line for standard error: `xt:`, the name of the status, the values that it keeps in decimal,
 /// of an image's fault its name and its values, digests as 64 lower-case hexadecimal digits, of a
-/// text's fault its line, column and kind, and a newline. The only error is want of memory.
+/// text's fault its line, column and kind, and a newline. The only error is too little memory.
 #[tactic(auto, unfolding(crate::specs::Statuses::status_text))]
 pub fn status_line(alloc: Global, status: &Status) -> Result<Text, AllocError>
     ensures { IfOk result (λ text. text ≡ status_text status.now) }

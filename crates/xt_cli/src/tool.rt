@@ -3,6 +3,7 @@ ghost use Rattle.std.specs.Prelude.{◌≡◌, ◌≢◌, ◌≤◌, length, map
 ghost use Rattle.std.specs.Option.{option_map};
 ghost use Rattle.xt_image.specs.Format.{image_of};
 ghost use Rattle.xt_image.specs.Rules.{image_fault};
+ghost use Rattle.xt_cli.specs.Calls.{ends};
 ghost use Rattle.xt_cli.specs.Tools.{Answers, Finishes, IsComplete, IsMade, Makes, limit_of, refusal_of, status_of};
 ghost use Rattle.xt_words.specs.Meaning.{meaning_of};
 
@@ -137,26 +138,8 @@ pub(crate) fn work<S: Source, K: Sink>(
     source: &mut S,
     sink: &mut K,
 ) -> Status
-    ensures answers { Makes job (record {
-      left = S.left source.old;
-      left_after = S.left source.new;
-      told = K.told sink.old;
-      told_after = K.told sink.new;
-      source_faults = S.faults source.old;
-      source_faults_after = S.faults source.new;
-      sink_faults = K.faults sink.old;
-      sink_faults_after = K.faults sink.new;
-    }) result }
-    ensures complete { Finishes job (record {
-      left = S.left source.old;
-      left_after = S.left source.new;
-      told = K.told sink.old;
-      told_after = K.told sink.new;
-      source_faults = S.faults source.old;
-      source_faults_after = S.faults source.new;
-      sink_faults = K.faults sink.old;
-      sink_faults_after = K.faults sink.new;
-    }) result }
+    ensures answers { Makes job (ends S.left S.faults source.old source.new K.told K.faults sink.old sink.new) result }
+    ensures complete { Finishes job (ends S.left S.faults source.old source.new K.told K.faults sink.old sink.new) result }
 {
     let limit = limit_of(job);
     let input = match read_to_limit(alloc, source, limit) {
@@ -181,34 +164,16 @@ pub(crate) fn work<S: Source, K: Sink>(
 /// It waits for nobody and returns.
 ///
 /// Words that order a run are handed back as `Threaded`, and nothing was then read or written. After
-/// `Answer` the contract says of each status its cause, and what was written; want of memory is the
-/// one free answer.
+/// `Answer` the contract says of each status its cause, and what was written; `Memory` is the one
+/// free answer.
 pub fn tool_main<S: Source, K: Sink>(
     alloc: Global,
     words: &[String],
     source: &mut S,
     sink: &mut K,
 ) -> Tool
-    ensures answers { Answers (meaning_of (map string_bytes words.now)) (record {
-      left = S.left source.old;
-      left_after = S.left source.new;
-      told = K.told sink.old;
-      told_after = K.told sink.new;
-      source_faults = S.faults source.old;
-      source_faults_after = S.faults source.new;
-      sink_faults = K.faults sink.old;
-      sink_faults_after = K.faults sink.new;
-    }) result }
-    ensures complete { IsComplete (meaning_of (map string_bytes words.now)) (record {
-      left = S.left source.old;
-      left_after = S.left source.new;
-      told = K.told sink.old;
-      told_after = K.told sink.new;
-      source_faults = S.faults source.old;
-      source_faults_after = S.faults source.new;
-      sink_faults = K.faults sink.old;
-      sink_faults_after = K.faults sink.new;
-    }) result }
+    ensures answers { Answers (meaning_of (map string_bytes words.now)) (ends S.left S.faults source.old source.new K.told K.faults sink.old sink.new) result }
+    ensures complete { IsComplete (meaning_of (map string_bytes words.now)) (ends S.left S.faults source.old source.new K.told K.faults sink.old sink.new) result }
 {
     match meaning(alloc, words) {
         Ok(Command::Assemble) => Tool::Answer(work(alloc, Job::Assemble, source, sink)),

@@ -1,5 +1,6 @@
 //! The top call.
 ghost use Rattle.std.specs.Prelude.{◌≡◌, ◌≤◌, map, length, string_bytes, None};
+ghost use Rattle.xt_cli.specs.Calls.{ends};
 ghost use Rattle.xt_cli.specs.Top.{Answers, FinishesRun, IsComplete, Runs, RunsInput, options_of};
 ghost use Rattle.xt_image.specs.declared.image.Image.{Image};
 ghost use Rattle.xt_trace.specs.Validity.{most_turns};
@@ -93,26 +94,8 @@ fn run_source<S: Source, K: Sink>(
     sink: &mut K,
 ) -> Outcome
     requires { turns ≤ most_turns }
-    ensures answers { Runs turns (record {
-      left = S.left source.old;
-      left_after = S.left source.new;
-      told = K.told sink.old;
-      told_after = K.told sink.new;
-      source_faults = S.faults source.old;
-      source_faults_after = S.faults source.new;
-      sink_faults = K.faults sink.old;
-      sink_faults_after = K.faults sink.new;
-    }) result.status result.whole }
-    ensures complete { FinishesRun turns (record {
-      left = S.left source.old;
-      left_after = S.left source.new;
-      told = K.told sink.old;
-      told_after = K.told sink.new;
-      source_faults = S.faults source.old;
-      source_faults_after = S.faults source.new;
-      sink_faults = K.faults sink.old;
-      sink_faults_after = K.faults sink.new;
-    }) result.status }
+    ensures answers { Runs turns (ends S.left S.faults source.old source.new K.told K.faults sink.old sink.new) result.status result.whole }
+    ensures complete { FinishesRun turns (ends S.left S.faults source.old source.new K.told K.faults sink.old sink.new) result.status }
 {
     let input = match read_to_limit(alloc, source, IMAGE_LIMIT) {
         Ok(input) => input,
@@ -147,7 +130,7 @@ fn run_source<S: Source, K: Sink>(
 /// The contract says of each status its cause, and what was written; of `Done` and `WriteFault` of a
 /// run besides that the run that is handed out is the image's: its history is legal from the opening
 /// memory, the trace of core 0 is the processor's over the replies of that history, and the
-/// history's accesses are the trace's. Want of memory is the one free answer.
+/// history's accesses are the trace's. `Memory` is the one free answer.
 pub fn xt_main<S: Source, K: Sink, G: Gate>(
     alloc: Global,
     words: &[String],
@@ -155,26 +138,8 @@ pub fn xt_main<S: Source, K: Sink, G: Gate>(
     sink: &mut K,
     _gate: &G,
 ) -> Outcome
-    ensures answers { Answers (meaning_of (map string_bytes words.now)) (record {
-      left = S.left source.old;
-      left_after = S.left source.new;
-      told = K.told sink.old;
-      told_after = K.told sink.new;
-      source_faults = S.faults source.old;
-      source_faults_after = S.faults source.new;
-      sink_faults = K.faults sink.old;
-      sink_faults_after = K.faults sink.new;
-    }) result }
-    ensures complete { IsComplete (meaning_of (map string_bytes words.now)) (record {
-      left = S.left source.old;
-      left_after = S.left source.new;
-      told = K.told sink.old;
-      told_after = K.told sink.new;
-      source_faults = S.faults source.old;
-      source_faults_after = S.faults source.new;
-      sink_faults = K.faults sink.old;
-      sink_faults_after = K.faults sink.new;
-    }) result }
+    ensures answers { Answers (meaning_of (map string_bytes words.now)) (ends S.left S.faults source.old source.new K.told K.faults sink.old sink.new) result }
+    ensures complete { IsComplete (meaning_of (map string_bytes words.now)) (ends S.left S.faults source.old source.new K.told K.faults sink.old sink.new) result }
 {
     match meaning(alloc, words) {
         Ok(Command::Run { turns0 }) => run_source(alloc, turns0, source, sink),
