@@ -8,6 +8,7 @@ ghost use Rattle.xt_alu.specs.Arithmetic.{addx, subx, signed_min, signed_max};
 ///
 /// Condition: `k` is below 4.
 #[tactic(auto, unfolding(crate::specs::Arithmetic::addx))]
+#[inline(always)]
 pub fn addx(s: u32, t: u32, k: u8) -> u32
     requires { k < 4 }
     ensures { result ≡ addx s t k }
@@ -19,6 +20,7 @@ pub fn addx(s: u32, t: u32, k: u8) -> u32
 ///
 /// Condition: `k` is below 4.
 #[tactic(auto, unfolding(crate::specs::Arithmetic::subx))]
+#[inline(always)]
 pub fn subx(s: u32, t: u32, k: u8) -> u32
     requires { k < 4 }
     ensures { result ≡ subx s t k }
@@ -27,6 +29,7 @@ pub fn subx(s: u32, t: u32, k: u8) -> u32
 }
 
 /// AND.
+#[inline(always)]
 pub fn bit_and(s: u32, t: u32) -> u32
     ensures { result ≡ bit_and s t }
 {
@@ -34,6 +37,7 @@ pub fn bit_and(s: u32, t: u32) -> u32
 }
 
 /// OR.
+#[inline(always)]
 pub fn bit_or(s: u32, t: u32) -> u32
     ensures { result ≡ bit_or s t }
 {
@@ -41,6 +45,7 @@ pub fn bit_or(s: u32, t: u32) -> u32
 }
 
 /// XOR.
+#[inline(always)]
 pub fn bit_xor(s: u32, t: u32) -> u32
     ensures { result ≡ bit_xor s t }
 {
@@ -49,6 +54,7 @@ pub fn bit_xor(s: u32, t: u32) -> u32
 
 /// MIN: the lesser of two signed numbers.
 #[tactic(auto, unfolding(crate::specs::Arithmetic::signed_min))]
+#[inline(always)]
 pub fn min(s: u32, t: u32) -> u32
     ensures { result ≡ signed_min s t }
 {
@@ -61,6 +67,7 @@ pub fn min(s: u32, t: u32) -> u32
 
 /// MAX: the greater of two signed numbers.
 #[tactic(auto, unfolding(crate::specs::Arithmetic::signed_max))]
+#[inline(always)]
 pub fn max(s: u32, t: u32) -> u32
     ensures { result ≡ signed_max s t }
 {
@@ -69,6 +76,7 @@ pub fn max(s: u32, t: u32) -> u32
 }
 
 /// MINU: the lesser of two unsigned numbers.
+#[inline(always)]
 pub fn minu(s: u32, t: u32) -> u32
     ensures { result ≡ min s t }
 {
@@ -76,6 +84,7 @@ pub fn minu(s: u32, t: u32) -> u32
 }
 
 /// MAXU: the greater of two unsigned numbers.
+#[inline(always)]
 pub fn maxu(s: u32, t: u32) -> u32
     ensures { result ≡ max s t }
 {

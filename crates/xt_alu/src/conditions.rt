@@ -29,6 +29,7 @@ pub enum Cond {
 
 /// Whether the condition holds of `s` and `t`.
 #[tactic(auto, unfolding(crate::specs::Conditions::holds))]
+#[inline(always)]
 pub fn holds(c: Cond, s: u32, t: u32) -> bool
     ensures { result ≡ holds c s t }
 {

@@ -6,6 +6,7 @@ ghost use Rattle.xt_alu.specs.Arithmetic.{mul16u, mul16s, mull, muluh, mulsh, qu
 
 /// MUL16U: the product of the low halves.
 #[tactic(auto, unfolding(crate::specs::Arithmetic::mul16u))]
+#[inline(always)]
 pub fn mul16u(s: u32, t: u32) -> u32
     ensures { result ≡ mul16u s t }
 {
@@ -14,6 +15,7 @@ pub fn mul16u(s: u32, t: u32) -> u32
 
 /// MUL16S: the product of the low halves, as signed numbers.
 #[tactic(auto, unfolding(crate::specs::Arithmetic::mul16s))]
+#[inline(always)]
 pub fn mul16s(s: u32, t: u32) -> u32
     ensures { result ≡ mul16s s t }
 {
@@ -24,6 +26,7 @@ pub fn mul16s(s: u32, t: u32) -> u32
 
 /// MULL: the low word of the product.
 #[tactic(auto, unfolding(crate::specs::Arithmetic::mull))]
+#[inline(always)]
 pub fn mull(s: u32, t: u32) -> u32
     ensures { result ≡ mull s t }
 {
@@ -32,6 +35,7 @@ pub fn mull(s: u32, t: u32) -> u32
 
 /// MULUH: the high word of the product.
 #[tactic(auto, unfolding(crate::specs::Arithmetic::muluh))]
+#[inline(always)]
 pub fn muluh(s: u32, t: u32) -> u32
     ensures { result ≡ muluh s t }
 {
@@ -40,6 +44,7 @@ pub fn muluh(s: u32, t: u32) -> u32
 
 /// MULSH: the high word of the product of two signed numbers.
 #[tactic(auto, unfolding(crate::specs::Arithmetic::mulsh))]
+#[inline(always)]
 pub fn mulsh(s: u32, t: u32) -> u32
     ensures { result ≡ mulsh s t }
 {
@@ -51,6 +56,7 @@ pub fn mulsh(s: u32, t: u32) -> u32
 ///
 /// Condition: `t` is not zero.
 #[tactic(auto, unfolding(crate::specs::Arithmetic::quou))]
+#[inline(always)]
 pub fn quou(s: u32, t: u32) -> u32
     requires { t ≢ 0 }
     ensures { result ≡ quou s t }
@@ -62,6 +68,7 @@ pub fn quou(s: u32, t: u32) -> u32
 ///
 /// Condition: `t` is not zero.
 #[tactic(auto, unfolding(crate::specs::Arithmetic::quos))]
+#[inline(always)]
 pub fn quos(s: u32, t: u32) -> u32
     requires { t ≢ 0 }
     ensures { result ≡ quos s t }
@@ -75,6 +82,7 @@ pub fn quos(s: u32, t: u32) -> u32
 ///
 /// Condition: `t` is not zero.
 #[tactic(auto, unfolding(crate::specs::Arithmetic::remu))]
+#[inline(always)]
 pub fn remu(s: u32, t: u32) -> u32
     requires { t ≢ 0 }
     ensures { result ≡ remu s t }
@@ -86,6 +94,7 @@ pub fn remu(s: u32, t: u32) -> u32
 ///
 /// Condition: `t` is not zero.
 #[tactic(auto, unfolding(crate::specs::Arithmetic::rems))]
+#[inline(always)]
 pub fn rems(s: u32, t: u32) -> u32
     requires { t ≢ 0 }
     ensures { result ≡ rems s t }

@@ -10,6 +10,7 @@ use xt_word::pair_right;
 ///
 /// Condition: `sar` is below 64.
 #[tactic(auto, unfolding(crate::specs::Shifts::src))]
+#[inline(always)]
 pub fn src(s: u32, t: u32, sar: u8) -> u32
     requires { sar < 64 }
     ensures { result ≡ src s t sar }
@@ -21,6 +22,7 @@ pub fn src(s: u32, t: u32, sar: u8) -> u32
 ///
 /// Condition: `sar` is below 64.
 #[tactic(auto, unfolding(crate::specs::Shifts::srl))]
+#[inline(always)]
 pub fn srl(v: u32, sar: u8) -> u32
     requires { sar < 64 }
     ensures { result ≡ srl v sar }
@@ -32,6 +34,7 @@ pub fn srl(v: u32, sar: u8) -> u32
 ///
 /// Condition: `sar` is below 64.
 #[tactic(auto, unfolding(crate::specs::Shifts::sra))]
+#[inline(always)]
 pub fn sra(v: u32, sar: u8) -> u32
     requires { sar < 64 }
     ensures { result ≡ sra v sar }
@@ -43,6 +46,7 @@ pub fn sra(v: u32, sar: u8) -> u32
 ///
 /// Condition: `sar` is below 64.
 #[tactic(auto, unfolding(crate::specs::Shifts::sll))]
+#[inline(always)]
 pub fn sll(v: u32, sar: u8) -> u32
     requires { sar < 64 }
     ensures { result ≡ sll v sar }
@@ -54,6 +58,7 @@ pub fn sll(v: u32, sar: u8) -> u32
 ///
 /// Condition: `n` is 1 to 31.
 #[tactic(auto, unfolding(crate::specs::Shifts::slli))]
+#[inline(always)]
 pub fn slli(s: u32, n: u8) -> u32
     requires low { 1 ≤ n }
     requires high { n < 32 }
@@ -66,6 +71,7 @@ pub fn slli(s: u32, n: u8) -> u32
 ///
 /// Condition: `n` is below 32.
 #[tactic(auto, unfolding(crate::specs::Shifts::srai))]
+#[inline(always)]
 pub fn srai(t: u32, n: u8) -> u32
     requires { n < 32 }
     ensures { result ≡ srai t n }
@@ -77,6 +83,7 @@ pub fn srai(t: u32, n: u8) -> u32
 ///
 /// Condition: `n` is below 16.
 #[tactic(auto, unfolding(crate::specs::Shifts::srli))]
+#[inline(always)]
 pub fn srli(t: u32, n: u8) -> u32
     requires { n < 16 }
     ensures { result ≡ srli t n }
@@ -88,6 +95,7 @@ pub fn srli(t: u32, n: u8) -> u32
 ///
 /// Conditions: `n` is below 32, and `w` is 1 to 16.
 #[tactic(auto, unfolding(crate::specs::Shifts::extui))]
+#[inline(always)]
 pub fn extui(t: u32, n: u8, w: u8) -> u32
     requires place { n < 32 }
     requires low { 1 ≤ w }
@@ -99,6 +107,7 @@ pub fn extui(t: u32, n: u8, w: u8) -> u32
 
 /// SSR: the SAR for a shift to the right by `s` modulo 32.
 #[tactic(auto, unfolding(crate::specs::Shifts::ssr))]
+#[inline(always)]
 pub fn ssr(s: u32) -> u8
     ensures value { result ≡ ssr s }
     ensures range { result < 32 }
@@ -108,6 +117,7 @@ pub fn ssr(s: u32) -> u8
 
 /// SSL: the SAR for a shift to the left by `s` modulo 32; 1 to 32.
 #[tactic(auto, unfolding(crate::specs::Shifts::ssl))]
+#[inline(always)]
 pub fn ssl(s: u32) -> u8
     ensures value { result ≡ ssl s }
     ensures range { result < 33 }
@@ -117,6 +127,7 @@ pub fn ssl(s: u32) -> u8
 
 /// SSA8L: the SAR that aligns bytes of the least address first; 0, 8, 16 or 24.
 #[tactic(auto, unfolding(crate::specs::Shifts::ssa8l))]
+#[inline(always)]
 pub fn ssa8l(s: u32) -> u8
     ensures value { result ≡ ssa8l s }
     ensures range { result < 25 }
@@ -126,6 +137,7 @@ pub fn ssa8l(s: u32) -> u8
 
 /// SSA8B: the SAR that aligns bytes of the greatest address first; 32, 24, 16 or 8.
 #[tactic(auto, unfolding(crate::specs::Shifts::ssa8b))]
+#[inline(always)]
 pub fn ssa8b(s: u32) -> u8
     ensures value { result ≡ ssa8b s }
     ensures range { result < 33 }

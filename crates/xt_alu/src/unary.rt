@@ -7,6 +7,7 @@ ghost use Rattle.xt_alu.specs.Constants.{b4const, b4constu};
 
 /// NEG: the two's complement.
 #[tactic(auto, unfolding(crate::specs::Arithmetic::neg))]
+#[inline(always)]
 pub fn neg(v: u32) -> u32
     ensures { result ≡ neg v }
 {
@@ -15,6 +16,7 @@ pub fn neg(v: u32) -> u32
 
 /// ABS: the absolute value; that of -2^31 is 0x8000_0000.
 #[tactic(auto, unfolding(crate::specs::Arithmetic::abs))]
+#[inline(always)]
 pub fn abs(v: u32) -> u32
     ensures { result ≡ abs v }
 {
@@ -25,6 +27,7 @@ pub fn abs(v: u32) -> u32
 ///
 /// Condition: `b` is 7 to 22.
 #[tactic(auto, unfolding(crate::specs::Arithmetic::sext))]
+#[inline(always)]
 pub fn sext(v: u32, b: u8) -> u32
     requires low { 7 ≤ b }
     requires high { b ≤ 22 }
@@ -37,6 +40,7 @@ pub fn sext(v: u32, b: u8) -> u32
 ///
 /// Condition: `b` is 7 to 22.
 #[tactic(auto, unfolding(crate::specs::Arithmetic::clamps))]
+#[inline(always)]
 pub fn clamps(v: u32, b: u8) -> u32
     requires low { 7 ≤ b }
     requires high { b ≤ 22 }
@@ -52,6 +56,7 @@ pub fn clamps(v: u32, b: u8) -> u32
 
 /// NSA: leading bits that equal the sign, less one; 31 for 0 and for -1.
 #[tactic(auto, unfolding(crate::specs::Arithmetic::nsa))]
+#[inline(always)]
 pub fn nsa(v: u32) -> u32
     ensures { result ≡ nsa v }
 {
@@ -61,6 +66,7 @@ pub fn nsa(v: u32) -> u32
 
 /// NSAU: leading zeros; 32 for 0.
 #[tactic(auto, unfolding(crate::specs::Arithmetic::nsau))]
+#[inline(always)]
 pub fn nsau(v: u32) -> u32
     ensures { result ≡ nsau v }
 {
@@ -71,6 +77,7 @@ pub fn nsau(v: u32) -> u32
 ///
 /// Condition: `r` is below 16.
 #[tactic(auto, unfolding(crate::specs::Constants::b4const))]
+#[inline(always)]
 pub fn b4const(r: u8) -> u32
     requires { r < 16 }
     ensures { result ≡ b4const r }
@@ -88,6 +95,7 @@ pub fn b4const(r: u8) -> u32
 ///
 /// Condition: `r` is below 16.
 #[tactic(auto, unfolding(crate::specs::Constants::b4constu))]
+#[inline(always)]
 pub fn b4constu(r: u8) -> u32
     requires { r < 16 }
     ensures { result ≡ b4constu r }

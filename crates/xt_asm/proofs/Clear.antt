@@ -5,14 +5,14 @@ use Rattle.std.specs.List.{list_any}
 use Rattle.std.specs.Option.{option_map}
 use Rattle.xt_isa.specs.declared.Insn.{Insn}
 use Rattle.xt_lex.specs.declared.fault.AsmPlace.{AsmPlace}
-use Rattle.xt_lex.specs.declared.name.Name.{Name}
-use Rattle.xt_mnemonic.specs.declared.access.Access.{Access}
+use Rattle.xt_names.specs.declared.mnemonic.Mnemonic.{Mnemonic}
+use Rattle.xt_names.specs.declared.forms.Access.{Access}
 use Rattle.xt_mnemonic.specs.declared.argument.Argument.{Argument}
 use Rattle.xt_mnemonic.specs.declared.argument.Argument.TheVariants as argument
 use Rattle.xt_mnemonic.specs.declared.argument.OperandFault.{OperandFault}
 use Rattle.xt_mnemonic.specs.declared.argument.OperandFault.TheVariants as operand_fault
-use Rattle.xt_mnemonic.specs.Rows.{instruction_of}
-use Rattle.xt_mnemonic.specs.Specials.{access_of}
+use Rattle.xt_mnemonic.specs.Making.{instruction_of}
+use Rattle.xt_names.specs.Forms.{access_of}
 use Rattle.xt_expr.specs.Values.{value_of}
 use Rattle.xt_parse.specs.declared.line.Line.{Line}
 use Rattle.xt_parse.specs.declared.statement.Operand.{Operand}
@@ -22,7 +22,8 @@ use Rattle.xt_parse.specs.declared.statement.Statement.TheVariants as statement
 use Rattle.xt_pool.specs.Findings.{Finding, at_statement, fails, first, or_else}
 use Rattle.xt_asm.specs.Contexts.{IsWhole, own_fault}
 use Rattle.xt_asm.specs.Kinds.{has_misfit, has_no_word, has_unknown, is_misaligned_target, is_out_of_reach, is_range, is_stray_entry, is_unknown_operand, lacks_word}
-use Rattle.xt_asm.specs.Operands.{Site, all_known, argument_of, arguments_of, insn_at, special_in}
+use Rattle.xt_mnemonic.specs.Operands.{all_known}
+use Rattle.xt_asm.specs.Operands.{Site, argument_of, arguments_of, insn_at, special_in}
 
 -- ---- the tests that fail
 
@@ -30,7 +31,7 @@ pub or_else_none : (x y : Finding) → or_else x y ≡ None → (x ≡ None) × 
 or_else_none None y e = (refl, e)
 or_else_none (Some place) y e = absurd (cc)
 
-not_failed : (b : Bool) (place : AsmPlace) → fails b place ≡ None → b ≡ false
+pub not_failed : (b : Bool) (place : AsmPlace) → fails b place ≡ None → b ≡ false
 not_failed true place e = absurd (cc)
 not_failed false place e = refl
 
@@ -93,7 +94,7 @@ known_arguments site access (o ∷ operands) u w =
     let b = neither (lacks_word site o) (list_any (lacks_word site) operands) w in
     both_known (argument_of site access o) (map (argument_of site access) operands) (known_argument site access o a.0 b.0) (known_arguments site access operands a.1 b.1)
 
-whole_by : (name : Name) (operands : List Operand) (made : Option (Result Insn OperandFault)) → is_none made ≡ false → is_range made ≡ false → is_misaligned_target made ≡ false → is_out_of_reach made ≡ false →
+whole_by : (name : Mnemonic) (operands : List Operand) (made : Option (Result Insn OperandFault)) → is_none made ≡ false → is_range made ≡ false → is_misaligned_target made ≡ false → is_out_of_reach made ≡ false →
     IsWhole (statement.Insn name operands) made
 whole_by name operands None n r m o = absurd (cc)
 whole_by name operands (Some (Ok i)) n r m o = tt

@@ -8,17 +8,9 @@ use Rattle.std.proofs.lemmas.Bool.Decides.{nat_tests}
 use Rattle.xt_expr.specs.contracts.expr.TermOrd.TheImpl.{ghosts}
 use Rattle.xt_pool.specs.declared.word.PoolWord.{PoolWord}
 use Rattle.xt_pool.specs.Pools.{same_terms}
-use Rattle.xt_pool.proofs.Alike.{terms_alike}
+use Rattle.xt_pool.proofs.Alike.{and_alike, number_alike, terms_alike}
 use Rattle.xt_asm.specs.Operands.{serves, word_for}
 use Rattle.xt_asm.specs.Uses.{Key, key_cmp}
-
-and_alike : (a b : Ordering) → is_eq (ordering_then a b) ≡ (is_eq a && is_eq b)
-and_alike Less b = refl
-and_alike Equal b = refl
-and_alike Greater b = refl
-
-number_alike : (m n : ℕ) → is_eq (nat_cmp m n) ≡ eqb m n
-number_alike m n = grind (arith, nat_tests)
 
 -- two keys are alike exactly where the places and the terms are the same
 pub keys_alike : (k q : Key) → is_eq (key_cmp k q) ≡ (eqb k.0 q.0 && same_terms k.1.now q.1.now)

@@ -17,6 +17,7 @@ use Rattle.xt_parse.specs.declared.statement.Statement.TheVariants as statement
 use Rattle.xt_parse.specs.Small.{HasShortExprs, IsShort, IsShortOperand}
 use Rattle.xt_pool.specs.declared.word.PoolWord.{PoolWord}
 use Rattle.xt_pool.specs.Pools.{distinct, ends_pool, is_position, need, pool, pool_at, pool_use, shares, up_to_end, wanted, words_of}
+use Rattle.xt_pool.proofs.Places.{distinct_keeps, join_keeps}
 use Rattle.xt_layout.specs.Sizes.{pool_size}
 use Rattle.xt_layout.proofs.Each.{here, next}
 use Rattle.xt_asm.specs.Contexts.{IsShortWord}
@@ -27,21 +28,6 @@ use Rattle.xt_asm.specs.Walks.{words_behind}
 every_by : {X : Type 0} (P Q : X → Type 0) → ((x : X) → P x → Q x) → (xs : List X) → AllByRecursion P xs → AllByRecursion Q xs
 every_by P Q f [] h = tt
 every_by P Q f (x ∷ xs) h = (f x h.0, every_by P Q f xs h.1)
-
-filter_keeps : {X : Type 0} (P : X → Type 0) (p : X → Bool) (xs : List X) → AllByRecursion P xs → AllByRecursion P (filter p xs)
-filter_keeps P p [] h = h
-filter_keeps P p (x ∷ xs) h = elim (p x) as (λ b. AllByRecursion P (cond b (x ∷ filter p xs) (filter p xs))) [
-  | true ↦ (h.0, filter_keeps P p xs h.1)
-  | false ↦ filter_keeps P p xs h.1
-]
-
-join_keeps : {X : Type 0} (P : X → Type 0) (xs ys : List X) → AllByRecursion P xs → AllByRecursion P ys → AllByRecursion P (xs ++ ys)
-join_keeps P [] ys h g = g
-join_keeps P (x ∷ xs) ys h g = (h.0, join_keeps P xs ys h.1 g)
-
-distinct_keeps : (P : PoolWord → Type 0) (ws : List PoolWord) → AllByRecursion P ws → AllByRecursion P (distinct ws)
-distinct_keeps P [] h = h
-distinct_keeps P (w ∷ ws) h = (h.0, filter_keeps P (λ y. not (shares w y)) (distinct ws) (distinct_keeps P ws h.1))
 
 one_word : (P : PoolWord → Type 0) (p k : ℕ) (o : Option (Option Placed × Expr)) → ((n : Option Placed × Expr) → o ≡ Some n → P (record { position = p; line = k; name = n.0; value = n.1 })) →
     AllByRecursion P (option_to_list (option_map (λ n. let w : PoolWord = record { position = p; line = k; name = n.0; value = n.1 } in w) o))

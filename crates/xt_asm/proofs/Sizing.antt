@@ -11,7 +11,9 @@ use Rattle.xt_codec.specs.declared.Decoded.TheVariants.{Good}
 use Rattle.xt_codec.specs.Answers.{answer}
 use Rattle.xt_lex.specs.declared.name.Name.{Name}
 use Rattle.xt_mnemonic.specs.declared.argument.OperandFault.{OperandFault}
-use Rattle.xt_mnemonic.specs.Lengths.{HasLength, size_of}
+use Rattle.xt_names.specs.declared.mnemonic.Mnemonic.{Mnemonic}
+use Rattle.xt_names.specs.Forms.{size_of}
+use Rattle.xt_mnemonic.specs.Lengths.{HasLength}
 use Rattle.xt_expr.specs.declared.labels.Label.{Label}
 use Rattle.xt_expr.specs.declared.expr.Expr.{Expr}
 use Rattle.xt_parse.specs.declared.statement.Statement.{Statement}
@@ -61,7 +63,7 @@ code_long i m bytes all long e =
     spelled_long i (byte bytes 0) (length bytes) m (spelled (fields_at (byte bytes 0) (byte bytes 1) (byte bytes 2))) e
     (λ s. long (fields_at (byte bytes 0) (byte bytes 1) (byte bytes 2)) (nibbles bytes all) s)
 
-made_long : (name : Name) (made : Option (Result Insn OperandFault)) (bytes : List ℕ) → AreBytes bytes → IsMade name made → AreCode made bytes → length bytes ≡ size_of name
+made_long : (name : Mnemonic) (made : Option (Result Insn OperandFault)) (bytes : List ℕ) → AreBytes bytes → IsMade name made → AreCode made bytes → length bytes ≡ size_of name
 made_long name None bytes all is code = absurd code
 made_long name (Some (Err e)) bytes all is code = absurd code
 made_long name (Some (Ok i)) bytes all is code = code_long i (size_of name) bytes all is.1 code

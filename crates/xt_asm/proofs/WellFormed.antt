@@ -38,7 +38,8 @@ use Rattle.xt_asm.specs.Kinds.{fault_of, is_code, is_stray_entry, lines_fault, t
 use Rattle.xt_asm.specs.Laws.{TextImageIsWellFormed}
 use Rattle.xt_asm.specs.Pieces.{ArePieces, sources_of}
 use Rattle.xt_asm.proofs.Capacity.{apart_by_recursion, bytes_in, fit_in_regions, is_within, share_address}
-use Rattle.xt_asm.proofs.WellFormedLines.{FindsNone, IsFaultless, apart_at, faultless, few_segments, not_failed, overlapping, stray}
+use Rattle.xt_asm.proofs.WellFormedLines.{FindsNone, IsFaultless, apart_at, faultless, few_segments, overlapping, stray}
+use Rattle.xt_asm.proofs.Clear.{not_failed}
 use Rattle.xt_asm.proofs.WellFormedNumbers.{HasNumbers, all_have_numbers, executable_fits, pieces_are_bytes}
 use Rattle.xt_asm.proofs.WellFormedPlaces.{some_range}
 use Rattle.xt_asm.proofs.WellFormedSegments.{IsEven, IsInPlace, all_even, all_in_place, as_many_segments, spans_of_segments, sizes_after, sizes_are}

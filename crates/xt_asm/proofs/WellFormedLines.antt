@@ -9,6 +9,7 @@ use Rattle.std.proofs.lemmas.List.{get_or-take, length-take-le}
 use Rattle.std.proofs.lemmas.List.Folds.{list_any_at}
 use Rattle.std.proofs.lemmas.List.Sums.{sum_by-cons, sum_by_push}
 use Rattle.std.proofs.lemmas.Option.{slice_get-get_or}
+use Rattle.xt_asm.proofs.Clear.{not_failed}
 use Rattle.xt_lex.specs.declared.fault.AsmPlace.{AsmPlace}
 use Rattle.xt_expr.specs.declared.labels.Label.{Label}
 use Rattle.xt_parse.specs.declared.line.Line.{Line}
@@ -29,10 +30,6 @@ use Rattle.xt_asm.specs.Operands.{insn_at, site_at}
 pub both_none : (x y : Finding) → or_else x y ≡ None → (x ≡ None) × (y ≡ None)
 both_none None y h = (refl, h)
 both_none (Some f) y h = absurd cc
-
-pub not_failed : (b : Bool) (place : AsmPlace) → fails b place ≡ None → b ≡ false
-not_failed true place h = absurd cc
-not_failed false place h = refl
 
 -- each of the findings is none
 abbrev AreNone : List Finding → Type 0

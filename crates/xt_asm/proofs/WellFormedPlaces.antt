@@ -16,7 +16,8 @@ use Rattle.xt_layout.specs.Sizes.{padding, pool_size, size}
 use Rattle.xt_layout.specs.Spans.{segment_end, span}
 use Rattle.xt_layout.specs.Spots.{begins, behind, passes, spot, spot_at}
 use Rattle.xt_layout.proofs.Reaching.{behind_more}
-use Rattle.xt_asm.proofs.WellFormedLines.{FindsNone, not_failed, outside}
+use Rattle.xt_asm.proofs.WellFormedLines.{FindsNone, outside}
+use Rattle.xt_asm.proofs.Clear.{not_failed}
 
 -- ---- within one range
 

@@ -3,11 +3,11 @@ use Rattle.std.specs.Prelude.{length, ◌||◌, [], ◌∷◌, ◌≡◌, true, 
 use Rattle.std.specs.declared.alloc.Global.{Global}
 use Rattle.xt_isa.specs.declared.Insn.{Insn}
 use Rattle.xt_isa.specs.Ranges.{in_range}
-use Rattle.xt_lex.specs.declared.name.Name.{Name}
 use Rattle.xt_mnemonic.specs.declared.argument.Argument.{Argument}
 use Rattle.xt_mnemonic.specs.declared.argument.OperandFault.{OperandFault}
-use Rattle.xt_mnemonic.specs.Lengths.{HasLength, size_of}
-use Rattle.xt_mnemonic.specs.Rows.{instruction_of}
+use Rattle.xt_names.specs.declared.mnemonic.Mnemonic.{Mnemonic}
+use Rattle.xt_names.specs.Forms.{size_of}
+use Rattle.xt_mnemonic.specs.Lengths.{HasLength}
 use Rattle.xt_parse.specs.declared.statement.Operand.{Operand}
 use Rattle.xt_asm.specs.declared.operands.Context.{Context}
 use Rattle.xt_parse.specs.declared.line.Line.{Line}
@@ -20,7 +20,7 @@ use Rattle.xt_lex.specs.declared.fault.AsmFault.TheVariants as fault
 use Rattle.xt_asm.specs.Pieces.{Source}
 use Rattle.xt_pool.specs.Findings.{Finding, at_statement, fails, first}
 use Rattle.xt_asm.specs.Kinds.{has_misfit, has_no_word, has_unknown, is_misaligned_target, is_out_of_reach, is_range, is_stray_entry}
-use Rattle.xt_asm.specs.Operands.{Site, arguments_of}
+use Rattle.xt_asm.specs.Operands.{Site}
 
 abbrev pub site_of : Context → Site
 site_of c = record { labels = c.labels.now; target = c.target; at = c.at }
@@ -28,17 +28,14 @@ site_of c = record { labels = c.labels.now; target = c.target; at = c.at }
 abbrev pub known_items : Option (Vec Argument Global) → Option (List Argument)
 known_items known = option_map (λ v. v.items) known
 
-abbrev pub made_insn : Site → Name → List Operand → Option (Result Insn OperandFault)
-made_insn site name operands = option_map (λ arguments. instruction_of name arguments (pos site.at)) (arguments_of site name operands)
-
 -- an instruction has its operands in range, and as many bytes as its mnemonic says
-abbrev pub IsMade : Name → Option (Result Insn OperandFault) → Type 0
-IsMade name (Some (Ok i)) = (in_range i ≡ true) × HasLength i (size_of name)
-IsMade name _ = Unit {0}
+abbrev pub IsMade : Mnemonic → Option (Result Insn OperandFault) → Type 0
+IsMade m (Some (Ok i)) = (in_range i ≡ true) × HasLength i (size_of m)
+IsMade m _ = Unit {0}
 
 -- an instruction is that of a statement
 abbrev pub IsMadeOf : Statement → Option (Result Insn OperandFault) → Type 0
-IsMadeOf (statement.Insn name operands) made = IsMade name made
+IsMadeOf (statement.Insn m operands) made = IsMade m made
 IsMadeOf _ made = Unit {0}
 
 -- where the statement is an instruction, one was made

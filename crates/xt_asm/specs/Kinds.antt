@@ -3,10 +3,10 @@ use Rattle.std.specs.Prelude.{ℕ, ◌-◌, ◌^◌, Bool, true, false, not, ◌
 use Rattle.std.specs.Option.{option_map_or}
 use Rattle.std.specs.List.{list_any}
 use Rattle.xt_isa.specs.declared.Insn.{Insn}
-use Rattle.xt_mnemonic.specs.declared.access.Access.{Access}
+use Rattle.xt_names.specs.declared.forms.Access.{Access}
+use Rattle.xt_names.specs.Forms.{access_of}
 use Rattle.xt_mnemonic.specs.declared.argument.OperandFault.{OperandFault}
 use Rattle.xt_mnemonic.specs.declared.argument.OperandFault.TheVariants as operand_fault
-use Rattle.xt_mnemonic.specs.Specials.{access_of}
 use Rattle.xt_lex.specs.declared.fault.AsmPlace.{AsmPlace}
 use Rattle.xt_lex.specs.Tokens.{tokens_of}
 use Rattle.xt_map.specs.Regions.{is_executable, region_of}
@@ -44,7 +44,7 @@ has_unknown labels (statement.Entry e) = is_unknown labels e
 has_unknown labels (statement.Literal name e) = is_unknown labels e
 has_unknown labels (statement.Words values) = list_any (is_unknown labels) values
 has_unknown labels (statement.Bytes values) = list_any (is_unknown labels) values
-has_unknown labels (statement.Insn name operands) = list_any (is_unknown_operand labels (access_of name)) operands
+has_unknown labels (statement.Insn m operands) = list_any (is_unknown_operand labels (access_of m)) operands
 has_unknown labels _ = false
 
 -- ---- 2, Range: a value that its bytes cannot hold, an alignment that is none, or an operand outside its row's range

@@ -2,12 +2,15 @@
 -- Reference Manual, chapter 'Instruction Descriptions').
 use Rattle.std.specs.Prelude.{ℤ, ℕ, pos, ◌==◌, Bool, ◌&&◌, is_none, List, [], ◌∷◌, length, map, reverse, find, zip, Option, Some, None, Result, if◌then◌else◌, option_map, option_and_then}
 use Rattle.xt_isa.specs.declared.Insn.{Insn}
-use Rattle.xt_mnemonic.specs.declared.access.Access.{Access}
+use Rattle.xt_names.specs.declared.forms.Access.{Access}
+use Rattle.xt_names.specs.declared.mnemonic.Mnemonic.{Mnemonic}
+use Rattle.xt_names.specs.Forms.{access_of}
+use Rattle.xt_names.specs.Specials.{special_number}
 use Rattle.xt_mnemonic.specs.declared.argument.Argument.{Argument}
 use Rattle.xt_mnemonic.specs.declared.argument.Argument.TheVariants as argument
 use Rattle.xt_mnemonic.specs.declared.argument.OperandFault.{OperandFault}
-use Rattle.xt_mnemonic.specs.Rows.{instruction_of}
-use Rattle.xt_mnemonic.specs.Specials.{access_of, special_number}
+use Rattle.xt_mnemonic.specs.Making.{instruction_of}
+use Rattle.xt_mnemonic.specs.Operands.{all_known}
 use Rattle.xt_lex.specs.declared.name.Name.{Name}
 use Rattle.xt_expr.specs.declared.expr.Expr.{Expr}
 use Rattle.xt_expr.specs.declared.expr.TermValue.{TermValue}
@@ -90,14 +93,14 @@ argument_of site None (operand.Value e) = option_map argument.Value (value_of si
 argument_of site access (operand.Pool e) = option_map argument.Value site.target
 
 -- all of them, where each is known
-abbrev pub all_known : List (Option Argument) → Option (List Argument)
-all_known [] = Some []
-all_known (x ∷ xs) = option_and_then (λ a. option_map (λ known. a ∷ known) (all_known xs)) x
+abbrev pub arguments_of : Site → Mnemonic → List Operand → Option (List Argument)
+arguments_of site m operands = all_known (map (argument_of site (access_of m)) operands)
 
-abbrev pub arguments_of : Site → Name → List Operand → Option (List Argument)
-arguments_of site name operands = all_known (map (argument_of site (access_of name)) operands)
+-- the instruction of a mnemonic, or why its operands make none; nothing where an operand is not known
+abbrev pub insn_of : Site → Mnemonic → List Operand → Option (Result Insn OperandFault)
+insn_of site m operands = option_map (λ arguments. instruction_of m arguments (pos site.at)) (arguments_of site m operands)
 
--- the instruction of a statement, or why its operands make none; nothing where an operand is not known
+-- the instruction of a statement
 abbrev pub insn_at : Site → Statement → Option (Result Insn OperandFault)
-insn_at site (statement.Insn name operands) = option_map (λ arguments. instruction_of name arguments (pos site.at)) (arguments_of site name operands)
+insn_at site (statement.Insn m operands) = insn_of site m operands
 insn_at site _ = None

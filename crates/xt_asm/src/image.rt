@@ -14,7 +14,7 @@ ghost use Rattle.xt_asm.specs.Kinds.{has_segment, is_code};
 ghost use Rattle.xt_asm.specs.Pieces.{ArePieces, sources_of};
 ghost use Rattle.xt_asm.specs.Walks.{own_first};
 
-use crate::segments::{entry_of, is_segment, segments_of};
+use crate::segments::{entry_of, segments_of};
 use crate::targets::targets_of;
 use crate::walk::pieces_of;
 use std::alloc::Global;
@@ -24,7 +24,7 @@ use xt_layout::Laid;
 use xt_lex::{AsmFault, AsmPlace};
 use xt_map::Bytes;
 use xt_parse::Line;
-use xt_pool::{Pooled, least};
+use xt_pool::{Pooled, is_segment, least};
 
 /// The head of every image that is assembled.
 fn head() -> Head

@@ -5,16 +5,17 @@ ghost use Rattle.xt_expr.specs.Values.{HaveAddresses};
 ghost use Rattle.xt_map.specs.Regions.{is_executable, region_of};
 ghost use Rattle.xt_parse.specs.Small.{HasShortExprs, IsShort, IsShortOperand};
 ghost use Rattle.xt_pool.specs.Findings.{at_statement};
-ghost use Rattle.xt_layout.specs.Sizes.{is_alignment};
 ghost use Rattle.xt_asm.specs.Kinds.{fits_byte, fits_word, has_misfit, has_no_word, has_unknown, is_code, is_misaligned_target, is_out_of_reach, is_range, is_stray_entry, is_unknown, is_unknown_operand, lacks_word, misfits, misfits_pool};
 ghost use Rattle.xt_asm.specs.Contexts.{own_fault, site_of};
 
 use crate::operands::{Context, Made, special_in, value_of};
 use xt_expr::{Expr, Labels};
+use xt_layout::is_alignment;
 use xt_lex::AsmPlace;
 use xt_map::region;
 use xt_map::regions::Region;
-use xt_mnemonic::{Access, OperandFault, access_of};
+use xt_mnemonic::OperandFault;
+use xt_names::{Access, access_of};
 use xt_parse::{Line, Operand, Statement};
 
 // ---- Unknown
@@ -34,12 +35,12 @@ fn any_unknown(labels: &Labels, exprs: &[Expr]) -> bool
     requires addresses { HaveAddresses labels.now }
     ensures { result ≡ list_any (is_unknown labels.now) exprs.now }
 {
-    for e in exprs {
-        if is_unknown(labels, e) {
-            return true;
-        }
-    }
-    false
+    exprs.iter().any(
+        |e|
+            requires short { IsShort e.now }
+            requires addresses { HaveAddresses labels.now }
+        { is_unknown(labels, e) },
+    )
 }
 
 /// Whether an operand of a mnemonic with this access has an unknown label, or names no special register.
@@ -64,12 +65,12 @@ fn any_unknown_operand(labels: &Labels, access: Option<Access>, operands: &[Oper
     requires addresses { HaveAddresses labels.now }
     ensures { result ≡ list_any (is_unknown_operand labels.now access) operands.now }
 {
-    for operand in operands {
-        if is_unknown_operand(labels, access, operand) {
-            return true;
-        }
-    }
-    false
+    operands.iter().any(
+        |operand|
+            requires short { IsShortOperand operand.now }
+            requires addresses { HaveAddresses labels.now }
+        { is_unknown_operand(labels, access, operand) },
+    )
 }
 
 /// Whether a statement has an unknown label or names no special register.
@@ -83,8 +84,8 @@ fn has_unknown(labels: &Labels, statement: &Statement) -> bool
         Statement::Words(values) | Statement::Bytes(values) => {
             any_unknown(labels, values.as_slice())
         }
-        Statement::Insn(name, operands) => {
-            any_unknown_operand(labels, access_of(name.as_slice()), operands.as_slice())
+        Statement::Insn(mnemonic, operands) => {
+            any_unknown_operand(labels, access_of(*mnemonic), operands.as_slice())
         }
         _ => false,
     }
@@ -136,12 +137,12 @@ fn any_misfits_word(labels: &Labels, exprs: &[Expr]) -> bool
     requires addresses { HaveAddresses labels.now }
     ensures { result ≡ list_any (misfits fits_word labels.now) exprs.now }
 {
-    for e in exprs {
-        if misfits_word(labels, e) {
-            return true;
-        }
-    }
-    false
+    exprs.iter().any(
+        |e|
+            requires short { IsShort e.now }
+            requires addresses { HaveAddresses labels.now }
+        { misfits_word(labels, e) },
+    )
 }
 
 /// Whether no byte can hold one of some values.
@@ -150,12 +151,12 @@ fn any_misfits_byte(labels: &Labels, exprs: &[Expr]) -> bool
     requires addresses { HaveAddresses labels.now }
     ensures { result ≡ list_any (misfits fits_byte labels.now) exprs.now }
 {
-    for e in exprs {
-        if misfits_byte(labels, e) {
-            return true;
-        }
-    }
-    false
+    exprs.iter().any(
+        |e|
+            requires short { IsShort e.now }
+            requires addresses { HaveAddresses labels.now }
+        { misfits_byte(labels, e) },
+    )
 }
 
 /// Whether an operand is a use of the pool whose value no word can hold.
@@ -176,19 +177,12 @@ fn any_misfits_pool(labels: &Labels, operands: &[Operand]) -> bool
     requires addresses { HaveAddresses labels.now }
     ensures { result ≡ list_any (misfits_pool labels.now) operands.now }
 {
-    for operand in operands {
-        if misfits_pool(labels, operand) {
-            return true;
-        }
-    }
-    false
-}
-
-/// Whether a number is a power of two from 1 to 1024.
-pub(crate) fn is_alignment(n: u32) -> bool
-    ensures { result ≡ is_alignment n }
-{
-    matches!(n, 1 | 2 | 4 | 8 | 16 | 32 | 64 | 128 | 256 | 512 | 1024)
+    operands.iter().any(
+        |operand|
+            requires short { IsShortOperand operand.now }
+            requires addresses { HaveAddresses labels.now }
+        { misfits_pool(labels, operand) },
+    )
 }
 
 /// Whether a statement has a value that its bytes cannot hold, or an alignment that is none.
@@ -279,12 +273,7 @@ fn lacks_word(context: &Context<'_>, operand: &Operand) -> bool
 fn any_lacks_word(context: &Context<'_>, operands: &[Operand]) -> bool
     ensures { result ≡ list_any (lacks_word (site_of context.now)) operands.now }
 {
-    for operand in operands {
-        if lacks_word(context, operand) {
-            return true;
-        }
-    }
-    false
+    operands.iter().any(|operand| lacks_word(context, operand))
 }
 
 /// Whether a statement has such a use.

@@ -2,14 +2,16 @@
 ghost use Rattle.std.specs.Prelude.{◌≡◌, ◌<◌, ◌^◌, All, IfOk, map, option_copied};
 ghost use Rattle.xt_expr.specs.Values.{HaveAddresses, value_of};
 ghost use Rattle.xt_parse.specs.Small.{HasShortExprs, IsShort, IsShortOperand};
-ghost use Rattle.xt_asm.specs.Operands.{all_known, argument_of, insn_at, name_in, special_in};
-ghost use Rattle.xt_asm.specs.Contexts.{IsMade, IsMadeOf, made_insn, known_items, site_of};
+ghost use Rattle.xt_mnemonic.specs.Operands.{all_known};
+ghost use Rattle.xt_asm.specs.Operands.{argument_of, insn_at, insn_of, name_in, special_in};
+ghost use Rattle.xt_asm.specs.Contexts.{IsMade, IsMadeOf, known_items, site_of};
 
 use std::alloc::{AllocError, Global};
 use xt_expr::{Expr, Labels, Term, TermValue, value};
 use xt_isa::Insn;
 use xt_lex::Name;
-use xt_mnemonic::{Access, Argument, OperandFault, access_of, instruction, special_number};
+use xt_mnemonic::{Argument, OperandFault, instruction};
+use xt_names::{Access, Mnemonic, access_of, special_number};
 use xt_parse::{Operand, Statement};
 
 /// What a statement refers to, and where it stands.
@@ -111,21 +113,17 @@ fn arguments_of(
 fn insn_of(
     alloc: Global,
     context: &Context<'_>,
-    name: &Name,
+    mnemonic: Mnemonic,
     operands: &[Operand],
 ) -> Result<Made, AllocError>
     requires short { All IsShortOperand operands.now }
     requires addresses { HaveAddresses context.now.labels.now }
     requires at { context.now.at < 2 ^ 40 }
-    ensures made { IfOk result (λ made. made ≡ made_insn (site_of context.now) name.now operands.now) }
-    ensures sound { IfOk result (IsMade name.now) }
+    ensures made { IfOk result (λ made. made ≡ insn_of (site_of context.now) mnemonic operands.now) }
+    ensures sound { IfOk result (IsMade mnemonic) }
 {
-    match arguments_of(alloc, context, access_of(name.as_slice()), operands)? {
-        Some(arguments) => Ok(Some(instruction(
-            name.as_slice(),
-            arguments.as_slice(),
-            context.at as i64,
-        ))),
+    match arguments_of(alloc, context, access_of(mnemonic), operands)? {
+        Some(arguments) => Ok(Some(instruction(mnemonic, arguments.as_slice(), context.at as i64))),
         None => Ok(None),
     }
 }
@@ -143,7 +141,9 @@ pub(crate) fn insn_at(
     ensures sound { IfOk result (IsMadeOf statement.now) }
 {
     match statement {
-        Statement::Insn(name, operands) => insn_of(alloc, context, name, operands.as_slice()),
+        Statement::Insn(mnemonic, operands) => {
+            insn_of(alloc, context, *mnemonic, operands.as_slice())
+        }
         _ => Ok(None),
     }
 }

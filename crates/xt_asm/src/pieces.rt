@@ -8,12 +8,13 @@ ghost use Rattle.xt_asm.specs.Operands.{insn_at};
 ghost use Rattle.xt_asm.specs.Pieces.{IsPiece, Spells, StandFor, byte_of, plain_bytes, residue, value_at, word_bytes, zeros};
 ghost use Rattle.xt_asm.specs.Contexts.{IsShortWord, IsMadeOf, IsWhole, LineFault, own_fault, piece_source, site_of};
 
-use crate::kinds::{is_alignment, own_fault};
+use crate::kinds::own_fault;
 use crate::operands::{Context, Made, insn_at, value_of};
 use std::alloc::{AllocError, Global};
 use xt_codec::encode;
 use xt_expr::{Expr, Labels};
 use xt_isa::Insn;
+use xt_layout::is_alignment;
 use xt_lex::AsmFault;
 use xt_map::Bytes;
 use xt_parse::{Line, Statement};

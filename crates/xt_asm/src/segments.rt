@@ -3,7 +3,6 @@ ghost use Rattle.std.specs.Prelude.{◌≡◌, ◌++◌, length, zip, All, IfOk,
 ghost use Rattle.xt_expr.specs.Values.{HaveAddresses};
 ghost use Rattle.xt_parse.specs.Small.{HasShortExprs};
 ghost use Rattle.xt_parse.specs.declared.line.Line.{Line};
-ghost use Rattle.xt_pool.specs.Pools.{is_segment};
 ghost use Rattle.xt_asm.specs.Images.{content, entry_of, padded, segment_at, segments_of};
 
 use crate::operands::value_of;
@@ -11,13 +10,7 @@ use std::alloc::{AllocError, Global};
 use xt_expr::Labels;
 use xt_map::{Bytes, Segment, Segments};
 use xt_parse::{Line, Statement};
-
-/// Whether a statement is a `.seg`.
-pub(crate) fn is_segment(statement: &Statement) -> bool
-    ensures { result ≡ is_segment statement.now }
-{
-    matches!(statement, Statement::Seg(_))
-}
+use xt_pool::is_segment;
 
 /// The bytes of the lines up to the next `.seg`.
 fn content(alloc: Global, lines: &[Line], pieces: &[Bytes]) -> Result<Vec<u8>, AllocError>

@@ -1,16 +1,15 @@
 //! The words that the uses of pools refer to.
-ghost use Rattle.std.specs.Prelude.{List, ℤ, ◌≡◌, ◌^◌, ◌<◌, length, slice_get, None, IfOk, OnOk, option_copied};
+ghost use Rattle.std.specs.Prelude.{List, ℤ, ◌≡◌, ◌^◌, ◌<◌, length, slice_get, None, IfOk, OnOk};
 ghost use Rattle.xt_pool.specs.declared.word.PoolWord.{PoolWord};
 ghost use Rattle.xt_pool.specs.Around.{each};
-ghost use Rattle.xt_pool.specs.Pools.{pool_use};
 ghost use Rattle.xt_asm.specs.Operands.{target_of, word_for};
 ghost use Rattle.xt_asm.specs.Uses.{Indexes, opened, target_at};
 
 use std::alloc::{AllocError, Global};
 use std::collections::BTreeMap;
-use xt_expr::{Expr, Term};
-use xt_parse::{Line, Operand, Statement};
-use xt_pool::PoolWord;
+use xt_expr::Term;
+use xt_parse::{Line, Statement};
+use xt_pool::{PoolWord, pool_use};
 
 /// The number of each word without a name, by the place of its pool and its terms.
 type Index<'a> = BTreeMap<(u32, &'a [Term]), usize>;
@@ -28,18 +27,6 @@ fn index_of(alloc: Global, words: &[PoolWord]) -> Result<Index<'_>, AllocError>
         }
     }
     Ok(index)
-}
-
-/// The expression of the first operand that is a use of the pool.
-fn pool_use(operands: &[Operand]) -> Option<&Expr>
-    ensures { option_copied result ≡ pool_use operands.now }
-{
-    for operand in operands {
-        if let Operand::Pool(value) = operand {
-            return Some(value);
-        }
-    }
-    None
 }
 
 /// The address of a word.

@@ -1,3 +1,4 @@
+-- Carries a proof; nothing that a reader must believe.
 -- What a bus keeps of its fields.
 use Rattle.std.specs.Prelude.{◌≡◌, ◌+◌, ◌≤◌, length, vec_len, vec_capacity}
 use Rattle.xt_map.specs.History.{memory_after, IsLegal, IsOfCores}

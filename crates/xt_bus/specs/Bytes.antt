@@ -1,3 +1,4 @@
+-- Carries a proof; nothing that a reader must believe.
 -- Bytes at a place of one list, as the memory's words for bytes at an address.
 use Rattle.std.specs.Prelude.{ℕ, zero, suc, ◌+◌, ◌==◌, if◌then◌else◌, List, [], ◌∷◌, slice_index, slice_set}
 use Rattle.xt_map.specs.declared.access.Kind.{Kind}

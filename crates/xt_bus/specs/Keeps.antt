@@ -1,3 +1,4 @@
+-- Carries a proof; nothing that a reader must believe.
 -- What a memory keeps of its fields.
 use Rattle.std.specs.Prelude.{◌≡◌, ◌+◌, length, vec_len}
 use Rattle.xt_map.specs.Memory.{rtc_fast_data_size, dram_size, rtc_slow_size}

@@ -1,3 +1,4 @@
+-- Carries a proof; nothing that a reader must believe.
 -- Where an address lies.
 use Rattle.std.specs.Prelude.{◌≡◌, ℕ, ◌+◌, ◌<◌, Bool, false, ◌&&◌, ◌||◌, nat_le}
 use Rattle.xt_map.specs.Memory.{dram_first, dram_size, rtc_fast_data_first, rtc_fast_data_size, rtc_slow_first, rtc_slow_size}

@@ -1,4 +1,5 @@
-mod Complete
+mod Running
 mod Segmented
 mod Sending
 mod Working
+mod Writing

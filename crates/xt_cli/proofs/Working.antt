@@ -3,6 +3,7 @@ use Rattle.std.proofs.Common.{◌≡◌, ◌≢◌, ℕ, inl, List, Option, Some
 use Rattle.std.specs.Io.KnownBytes.{Keeps}
 use Rattle.std.specs.Option.{option_map}
 use Rattle.xt_image.specs.Rules.{image_fault}
+use Rattle.xt_elf.specs.Rules.{elf_fault}
 use Rattle.xt_asm.specs.Kinds.{text_fault}
 use Rattle.xt_cli.specs.declared.status.Status.{Status}
 use Rattle.xt_cli.specs.declared.status.Status.TheVariants as status
@@ -15,12 +16,13 @@ pub keeps_same : (known : Option (List ℕ)) → Keeps known known
 keeps_same None = tt
 keeps_same (Some bytes) = refl
 
--- ---- a refusal of an input is a fault of a text or of an image
+-- ---- a refusal of an input is a fault of a text, of an ELF executable or of an image
 
 -- the statuses of such faults
 abbrev IsOfFault : Status → Type 0
 IsOfFault (status.Asm place) = Unit {0}
 IsOfFault (status.Image f) = Unit {0}
+IsOfFault (status.Elf f) = Unit {0}
 IsOfFault _ = ⊥
 
 mapped : {A : Type 0} → (f : A → Status) → ((a : A) → IsOfFault (f a)) → (o : Option A) (s : Status) → option_map f o ≡ Some s → IsOfFault s
@@ -30,6 +32,7 @@ mapped f is (Some a) s h = let e : f a ≡ s = cc in subst IsOfFault e (is a)
 refusal_is_fault : (j : Job) (input : List ℕ) (s : Status) → refusal_of j input ≡ Some s → IsOfFault s
 unfolding refusal_of
 refusal_is_fault job.Assemble input s h = mapped status.Asm (λ place. tt) (text_fault input) s h
+refusal_is_fault job.Convert input s h = mapped status.Elf (λ f. tt) (elf_fault input) s h
 refusal_is_fault job.List input s h = mapped status.Image (λ f. tt) (image_fault input) s h
 refusal_is_fault job.Check input s h = mapped status.Image (λ f. tt) (image_fault input) s h
 
@@ -39,6 +42,7 @@ IsRefusal j s input = s ≢ status.Memory → refusal_of j input ≡ Some s
 pub refuses : (j : Job) (e : Ends) (s : Status) → Keeps e.told e.told_after → ReadsWhole (limit_of j) e (IsRefusal j s) → Makes j e s
 refuses j e status.Memory k r = inl k
 refuses j e (status.Image f) k r = (record { input = r.input; taken = r.taken; end = r.end; within = r.within; is = r.is (λ p. cc) }, k)
+refuses j e (status.Elf f) k r = (record { input = r.input; taken = r.taken; end = r.end; within = r.within; is = r.is (λ p. cc) }, k)
 refuses j e (status.Asm place) k r = (record { input = r.input; taken = r.taken; end = r.end; within = r.within; is = r.is (λ p. cc) }, k)
 refuses j e status.Done k r = absurd (refusal_is_fault j r.input status.Done (r.is (λ p. cc)))
 refuses j e (status.Usage rule) k r = absurd (refusal_is_fault j r.input (status.Usage rule) (r.is (λ p. cc)))

@@ -13,7 +13,8 @@ pub record Ends : Type 0 where
   pub sink_faults : ℕ
   pub sink_faults_after : ℕ
 
--- a call that found the source at the first of these values and left it at the second, and the sink so too
+-- a call that found the source at the first of these values and left it at the second, and the sink
+-- so too
 abbrev pub ends :
     {S K : Type 0}
     → (S → Option (List ℕ)) → (S → ℕ) → S → S

@@ -13,7 +13,9 @@ yes_or_no false = codes "no"
 
 -- `image segments N entry ADDR digest yes` (or `no`)
 abbrev pub image_line : Image → List ℕ
-image_line image = concat (codes "image segments " ∷ decimal (length image.segments) ∷ codes " entry " ∷ hex8 image.entry
+image_line image = concat (
+    codes "image segments " ∷ decimal (length image.segments)
+    ∷ codes " entry " ∷ hex8 image.entry
     ∷ codes " digest " ∷ yes_or_no image.digest ∷ codes "\n" ∷ [])
 
 -- a segment's line, as the listing has it

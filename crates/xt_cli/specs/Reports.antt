@@ -1,5 +1,5 @@
 -- The report of a run ('profile').
-use Rattle.std.specs.Prelude.{◌≡◌, ℕ, ◌%◌, ◌==◌, if◌then◌else◌, Option, Some, None, List, [], ◌∷◌, ◌++◌, length, codes}
+use Rattle.std.specs.Prelude.{◌≡◌, ℕ, ◌+◌, ◌%◌, Bool, true, false, ◌==◌, if◌then◌else◌, Option, Some, None, List, [], ◌∷◌, ◌++◌, length, codes}
 use Rattle.std.specs.List.{concat, filter_map}
 use Rattle.std.specs.Fmt.{decimal}
 use Rattle.xt_text.specs.Hexadecimal.{hex8}
@@ -12,7 +12,9 @@ use Rattle.xt_map.specs.declared.access.Entry.{Entry}
 use Rattle.xt_trace.specs.declared.trace.Stop.{Stop}
 use Rattle.xt_trace.specs.declared.trace.Stop.TheVariants.{Break, Turns}
 use Rattle.xt_trace.specs.declared.trace.Trace.{Trace}
+use Rattle.xt_trace.specs.declared.record.StepRecord.{StepRecord}
 use Rattle.xt_trace.specs.declared.run.Run.{Run}
+use Rattle.xt_trace.specs.Lines.{line_text}
 
 abbrev pub newline : List ℕ
 newline = 10 ∷ []
@@ -35,7 +37,9 @@ sent_bytes entries = filter_map byte_of entries
 
 -- as a law: they are what memory has sent after the entries, behind what it had sent before
 abbrev pub SendsAsMemory : Type 0
-SendsAsMemory = (m : MemoryContents) (entries : List Entry) → (memory_after m entries).sent ≡ m.sent ++ sent_bytes entries
+SendsAsMemory =
+    (m : MemoryContents) (entries : List Entry)
+    → (memory_after m entries).sent ≡ m.sent ++ sent_bytes entries
 
 -- ---- the report
 
@@ -43,14 +47,43 @@ abbrev pub stop_text : Stop → List ℕ
 stop_text Break = codes "break"
 stop_text Turns = codes "turns"
 
--- `core C stop S turns K pc ADDR`: why the trace ended, its number of records, and the last program counter
+-- `core C stop S turns K pc ADDR`: why the trace ended, its number of records, and the last program
+-- counter
 abbrev pub core_line : ℕ → Trace → List ℕ
-core_line core trace = concat (codes "core " ∷ decimal core ∷ codes " stop " ∷ stop_text trace.stop
-    ∷ codes " turns " ∷ decimal (length trace.steps) ∷ codes " pc " ∷ hex8 trace.pc ∷ newline ∷ [])
+core_line core trace = concat (
+    codes "core " ∷ decimal core
+    ∷ codes " stop " ∷ stop_text trace.stop
+    ∷ codes " turns " ∷ decimal trace.count
+    ∷ codes " pc " ∷ hex8 trace.pc
+    ∷ newline ∷ [])
 
 -- `uart N`, and then the N bytes that were sent in a line of their own
 abbrev pub uart_lines : List ℕ → List ℕ
 uart_lines sent = codes "uart " ++ decimal (length sent) ++ newline ++ sent ++ newline
 
+-- `history N`: how many accesses the bus served
+abbrev pub history_line : ℕ → List ℕ
+history_line count = codes "history " ++ decimal count ++ newline
+
 unfoldable pub report_text : Run → List ℕ
-report_text run = uart_lines (sent_bytes run.history) ++ core_line 0 run.trace0 ++ core_line 1 run.trace1
+report_text run =
+    uart_lines (sent_bytes run.history)
+    ++ core_line 0 run.trace0
+    ++ core_line 1 run.trace1
+    ++ history_line (length run.history)
+
+-- ---- the lines of the traces
+
+-- the lines of a core's records, of which the first has this number
+abbrev pub lines_from : ℕ → ℕ → List StepRecord → List ℕ
+lines_from core step [] = []
+lines_from core step (r ∷ rest) = line_text core step r ++ lines_from core (step + 1) rest
+
+-- the lines of core 0 and then of core 1
+abbrev pub trace_text : List StepRecord → List StepRecord → List ℕ
+trace_text records0 records1 = lines_from 0 0 records0 ++ lines_from 1 0 records1
+
+-- what `run` writes: the report, and with `--trace` the lines of both traces
+abbrev pub output_text : Bool → Run → List StepRecord → List StepRecord → List ℕ
+output_text false run records0 records1 = report_text run
+output_text true run records0 records1 = report_text run ++ trace_text records0 records1

@@ -1,4 +1,5 @@
--- The commands whose output is a function of their input, and what each status of them says ('profile').
+-- The commands whose output is a function of their input, and what each status of them says
+-- ('profile').
 use Rattle.std.specs.Prelude.{◌≡◌, ◌≤◌, ◌+◌, ◌⊎◌, ℕ, List, length, Option, Some, None, Result, Ok, Err}
 use Rattle.std.specs.Io.KnownBytes.{Appends, Keeps}
 use Rattle.xt_io.specs.Causes.{Rose}
@@ -8,6 +9,8 @@ use Rattle.xt_image.specs.declared.image.Image.{Image}
 use Rattle.xt_image.specs.Rules.{image_fault}
 use Rattle.xt_image.specs.Format.{image_of}
 use Rattle.xt_image.specs.Parts.{image_bytes}
+use Rattle.xt_elf.specs.Format.{elf_image}
+use Rattle.xt_elf.specs.Rules.{elf_fault}
 use Rattle.xt_asm.specs.Kinds.{text_fault}
 use Rattle.xt_asm.specs.Images.{IsImageOfText}
 use Rattle.xt_disasm.specs.Listing.{listing_text}
@@ -26,21 +29,27 @@ use Rattle.xt_cli.specs.Checks.{check_text}
 
 -- ---- what a command makes of its input
 
--- the most bytes that the input of a command may have: that of a text, or of an image
+-- the most bytes that the input of a command may have: that of a text, of an ELF executable, or of
+-- an image
 abbrev pub limit_of : Job → ℕ
 limit_of job.Assemble = 1048576
+limit_of job.Convert = 67108864
 limit_of job.List = 8388608
 limit_of job.Check = 8388608
 
--- the status with which a command refuses a whole input, where it does: that of the input's first fault
+-- the status with which a command refuses a whole input, where it does: that of the input's first
+-- fault
 unfoldable pub refusal_of : Job → List ℕ → Option Status
 refusal_of job.Assemble input = option_map status.Asm (text_fault input)
+refusal_of job.Convert input = option_map status.Elf (elf_fault input)
 refusal_of job.List input = option_map status.Image (image_fault input)
 refusal_of job.Check input = option_map status.Image (image_fault input)
 
 -- the bytes that a command writes for an input that it does not refuse
 abbrev pub IsWritten : Job → List ℕ → List ℕ → Type 0
-IsWritten job.Assemble input bytes = (image : Image) × IsImageOfText input image × (bytes ≡ image_bytes image)
+IsWritten job.Assemble input bytes =
+    (image : Image) × IsImageOfText input image × (bytes ≡ image_bytes image)
+IsWritten job.Convert input bytes = bytes ≡ image_bytes (elf_image input)
 IsWritten job.List input bytes = bytes ≡ listing_text (image_of input)
 IsWritten job.Check input bytes = bytes ≡ check_text (image_of input)
 
@@ -53,17 +62,24 @@ pub record IsMade (j : Job) (input bytes : List ℕ) : Type 0 where
 
 -- the input was read to its end, the command makes bytes of it, and this is so of the bytes
 abbrev pub HasOutput : Job → Ends → (List ℕ → Type 0) → Type 0
-HasOutput j e P = (bytes : List ℕ) × ReadsWhole (limit_of j) e (λ input. IsMade j input bytes) × P bytes
+HasOutput j e P =
+    (bytes : List ℕ) × ReadsWhole (limit_of j) e (λ input. IsMade j input bytes) × P bytes
 
--- each status of a command, with its cause and what was written; the last line is that of the input's first fault
+-- each status of a command, with its cause and what was written; the last line is that of the
+-- input's first fault
 abbrev pub Makes : Job → Ends → Status → Type 0
 Makes j e status.Done = HasOutput j e (Appends e.told e.told_after)
-Makes j e status.WriteFault = HasOutput j e (AppendsFront e.told e.told_after) × Rose e.sink_faults e.sink_faults_after
+Makes j e status.WriteFault =
+    HasOutput j e (AppendsFront e.told e.told_after) × Rose e.sink_faults e.sink_faults_after
 Makes j e status.ReadFault = Rose e.source_faults e.source_faults_after × Keeps e.told e.told_after
 Makes j e (status.TooLarge limit) =
-    (limit ≡ limit_of j) × Takes e.left e.left_after (λ n. n ≡ limit_of j + 1) × Keeps e.told e.told_after
-Makes j e status.Memory = Keeps e.told e.told_after ⊎ HasOutput j e (AppendsFront e.told e.told_after)
-Makes j e s = ReadsWhole (limit_of j) e (λ input. refusal_of j input ≡ Some s) × Keeps e.told e.told_after
+    (limit ≡ limit_of j)
+    × Takes e.left e.left_after (λ n. n ≡ limit_of j + 1)
+    × Keeps e.told e.told_after
+Makes j e status.Memory =
+    Keeps e.told e.told_after ⊎ HasOutput j e (AppendsFront e.told e.told_after)
+Makes j e s =
+    ReadsWhole (limit_of j) e (λ input. refusal_of j input ≡ Some s) × Keeps e.told e.told_after
 
 -- the status that a refusal of the words comes to
 abbrev pub status_of : Refusal → Status
@@ -71,17 +87,20 @@ status_of (refusal.Usage rule) = status.Usage rule
 status_of refusal.Unbuilt = status.Unbuilt
 status_of refusal.Memory = status.Memory
 
--- words without a meaning are refused before anything is read or written; reading them may find too little memory
+-- words without a meaning are refused before anything is read or written; there may be too little
+-- memory to read them
 abbrev pub RefusesWords : Refusal → Ends → Status → Type 0
 RefusesWords r e s = ((s ≡ status_of r) ⊎ (s ≡ status.Memory)) × IsUntouched e
 
--- Each answer by what the words mean. Words that order a run are handed back, and nothing was touched.
+-- Each answer by what the words mean. Words that ask for a run are handed back, and nothing was
+-- touched.
 abbrev pub Answers : Result Command Refusal → Ends → Tool → Type 0
 Answers (Ok command.Assemble) e (tool.Answer s) = Makes job.Assemble e s
+Answers (Ok command.Convert) e (tool.Answer s) = Makes job.Convert e s
 Answers (Ok command.Disassemble) e (tool.Answer s) = Makes job.List e s
 Answers (Ok command.Check) e (tool.Answer s) = Makes job.Check e s
-Answers (Ok (command.Run turns)) e tool.Threaded = IsUntouched e
-Answers (Ok (command.Run turns)) e (tool.Answer s) = (s ≡ status.Memory) × IsUntouched e
+Answers (Ok (command.Run options)) e tool.Threaded = IsUntouched e
+Answers (Ok (command.Run options)) e (tool.Answer s) = (s ≡ status.Memory) × IsUntouched e
 Answers (Err r) e (tool.Answer s) = RefusesWords r e s
 Answers _ e _ = ⊥
 
@@ -96,11 +115,15 @@ pub record HasInput (j : Job) (left : Option (List ℕ)) : Type 0 where
 
 -- such an input, and no fault of the source or the sink in this call, end in Done, or in Memory
 abbrev pub Finishes : Job → Ends → Status → Type 0
-Finishes j e s = HasInput j e.left → (Rose e.source_faults e.source_faults_after → ⊥) → (Rose e.sink_faults e.sink_faults_after → ⊥)
+Finishes j e s =
+    HasInput j e.left
+    → (Rose e.source_faults e.source_faults_after → ⊥)
+    → (Rose e.sink_faults e.sink_faults_after → ⊥)
     → (s ≡ status.Done) ⊎ (s ≡ status.Memory)
 
 abbrev pub IsComplete : Result Command Refusal → Ends → Tool → Type 0
 IsComplete (Ok command.Assemble) e (tool.Answer s) = Finishes job.Assemble e s
+IsComplete (Ok command.Convert) e (tool.Answer s) = Finishes job.Convert e s
 IsComplete (Ok command.Disassemble) e (tool.Answer s) = Finishes job.List e s
 IsComplete (Ok command.Check) e (tool.Answer s) = Finishes job.Check e s
 IsComplete _ e _ = Unit {0}

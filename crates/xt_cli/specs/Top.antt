@@ -1,19 +1,20 @@
 -- What each status of the program says ('profile').
-use Rattle.std.specs.Prelude.{◌≡◌, ◌≤◌, ◌+◌, ◌⊎◌, ℕ, Bool, true, false, ◌&&◌, not, List, length, Option, Some, None, Result, Ok, Err}
+use Rattle.std.specs.Prelude.{◌≡◌, ◌≤◌, ◌+◌, ◌⊎◌, ℕ, List, [], length, Option, Some, None, Result, Ok, Err}
 use Rattle.std.specs.Io.KnownBytes.{Appends, Keeps}
 use Rattle.xt_io.specs.Causes.{Rose}
 use Rattle.xt_io.specs.Whole.{AppendsFront, Takes}
 use Rattle.xt_image.specs.declared.image.Image.{Image}
 use Rattle.xt_image.specs.Rules.{image_fault}
 use Rattle.xt_image.specs.Format.{image_of}
-use Rattle.xt_image.specs.Plain.{is_plain_image}
 use Rattle.xt_trace.specs.declared.options.Options.{Options}
 use Rattle.xt_trace.specs.declared.run.Run.{Run}
-use Rattle.xt_core.specs.Runs.{IsRunOf, IsOfCore0}
-use Rattle.xt_core.specs.Reach.{leaves_reach}
+use Rattle.xt_core.specs.Runs.{IsRunOf, records_of}
+use Rattle.xt_machine.specs.Lists.{run_of_list}
+use Rattle.xt_words.specs.Options.{with_entry}
 use Rattle.xt_words.specs.declared.command.Command.{Command}
 use Rattle.xt_words.specs.declared.command.Command.TheVariants as command
 use Rattle.xt_words.specs.declared.command.Refusal.{Refusal}
+use Rattle.xt_words.specs.declared.options.RunOptions.{RunOptions}
 use Rattle.xt_cli.specs.declared.status.Status.{Status}
 use Rattle.xt_cli.specs.declared.status.Status.TheVariants as status
 use Rattle.xt_cli.specs.declared.tool.Tool.TheVariants as tool
@@ -21,95 +22,93 @@ use Rattle.xt_cli.specs.declared.top.Whole.{Whole}
 use Rattle.xt_cli.specs.declared.top.Outcome.{Outcome}
 use Rattle.xt_cli.specs.Calls.{Ends, ReadsWhole}
 use Rattle.xt_cli.specs.Tools as tools
-use Rattle.xt_cli.specs.Reports.{report_text}
+use Rattle.xt_cli.specs.Reports.{output_text}
 
 abbrev pub image_limit : ℕ
 image_limit = 8388608
 
--- the options of a run with so many turns of core 0 and none of core 1
-abbrev pub options_of : ℕ → Image → Options
-options_of turns image = record {
-  turns0 = turns;
-  turns1 = 0;
-  entry1 = image.entry;
-  vecbase = 0x40080000;
-  stack0 = record { lo = 0x3FFF0000; hi = 0x3FFF8000 };
-  stack1 = record { lo = 0x3FFF8000; hi = 0x40000000 };
-}
-
 -- ---- one input
 
--- the turns of core 0 are all within reach
-abbrev pub stays_within_reach : ℕ → Image → Bool
-stays_within_reach turns image = not (leaves_reach image (options_of turns image))
+-- the options of a run of this image: core 1 begins at the image's entry where the words do not say
+-- where
+abbrev pub options_for : RunOptions → Image → Options
+options_for o image = with_entry o image.entry
 
--- the image can be run: it is plain, and all turns are within reach
-abbrev pub can_run : ℕ → Image → Bool
-can_run turns image = is_plain_image image && stays_within_reach turns image
+-- the run of an image with the options of the words: that of the empty list of cores, in which core 0
+-- makes all of its turns, and then core 1
+unfoldable pub run_of_image : RunOptions → Image → Run
+run_of_image o image = run_of_list image (options_for o image) []
 
--- the input is an image, and it can be run
-pub record IsRunnable (turns : ℕ) (input : List ℕ) : Type 0 where
+-- this is the image's run, and so a run of the image
+pub record IsRunOfImage (o : RunOptions) (image : Image) (run : Run) : Type 0 where
+  pub scheduled : run ≡ run_of_image o image
+  pub of_image : IsRunOf image run
+
+-- the input is an image, and this is its run
+pub record IsRunOfInput (o : RunOptions) (input : List ℕ) (run : Run) : Type 0 where
   pub image : image_fault input ≡ None
-  pub can : can_run turns (image_of input) ≡ true
+  pub is_run : IsRunOfImage o (image_of input) run
 
--- the input is an image, and it cannot be run
-pub record IsUnbuilt (turns : ℕ) (input : List ℕ) : Type 0 where
-  pub image : image_fault input ≡ None
-  pub cannot : can_run turns (image_of input) ≡ false
-
--- this is the input's run
-pub record IsRunOfInput (turns : ℕ) (input : List ℕ) (run : Run) : Type 0 where
-  pub runnable : IsRunnable turns input
-  pub of_image : IsRunOf (image_of input) (options_of turns (image_of input)) run
-  pub of_core_0 : IsOfCore0 run
-
-abbrev pub RunsInput : Result Run Status → ℕ → List ℕ → Type 0
-RunsInput (Ok run) turns input = IsRunOfInput turns input run
-RunsInput (Err status.Unbuilt) turns input = IsUnbuilt turns input
-RunsInput (Err (status.Image f)) turns input = image_fault input ≡ Some f
-RunsInput (Err status.Memory) turns input = Unit {0}
-RunsInput (Err _) turns input = ⊥
+-- what is written of a run of an image: its report, and where the words ask for them the lines of
+-- its traces, which are those of the records that the processor's turns make
+unfoldable pub run_text : RunOptions → Image → Run → List ℕ
+run_text o image run =
+    output_text o.trace run (records_of 0 image run).records (records_of 1 image run).records
 
 -- ---- the statuses of a run
 
--- nothing was written, or a front of the report of the input's run
-abbrev pub WritesFront : ℕ → Ends → Type 0
-WritesFront turns e =
+-- the input was read to its end, this is its run, and this is so of what is written of it
+abbrev pub HasRun : RunOptions → Ends → Run → (List ℕ → Type 0) → Type 0
+HasRun o e run P =
+    ReadsWhole image_limit e
+    (λ input. IsRunOfInput o input run × P (run_text o (image_of input) run))
+
+-- nothing was written, or a front of what is written of the input's run
+abbrev pub WritesFront : RunOptions → Ends → Type 0
+WritesFront o e =
     Keeps e.told e.told_after
-    ⊎ ((run : Run) × ReadsWhole image_limit e (λ input. IsRunOfInput turns input run) × AppendsFront e.told e.told_after (report_text run))
+    ⊎ ((run : Run) × HasRun o e run (AppendsFront e.told e.told_after))
 
--- each status of a run with so many turns, with its cause and what was written
-abbrev pub Runs : ℕ → Ends → Status → Option Whole → Type 0
-Runs turns e status.Done (Some w) = ReadsWhole image_limit e (λ input. IsRunOfInput turns input w.run) × Appends e.told e.told_after (report_text w.run)
-Runs turns e status.WriteFault (Some w) =
-    ReadsWhole image_limit e (λ input. IsRunOfInput turns input w.run) × AppendsFront e.told e.told_after (report_text w.run) × Rose e.sink_faults e.sink_faults_after
-Runs turns e (status.Image f) None = ReadsWhole image_limit e (λ input. image_fault input ≡ Some f) × Keeps e.told e.told_after
-Runs turns e status.Unbuilt None = ReadsWhole image_limit e (IsUnbuilt turns) × Keeps e.told e.told_after
-Runs turns e (status.TooLarge limit) None =
-    (limit ≡ image_limit) × Takes e.left e.left_after (λ n. n ≡ image_limit + 1) × Keeps e.told e.told_after
-Runs turns e status.ReadFault None = Rose e.source_faults e.source_faults_after × Keeps e.told e.told_after
-Runs turns e status.Memory None = WritesFront turns e
-Runs turns e _ _ = ⊥
+-- each status of a run with these options, with its cause and what was written
+abbrev pub Runs : RunOptions → Ends → Status → Option Whole → Type 0
+Runs o e status.Done (Some w) = HasRun o e w.run (Appends e.told e.told_after)
+Runs o e status.WriteFault (Some w) =
+    HasRun o e w.run (AppendsFront e.told e.told_after) × Rose e.sink_faults e.sink_faults_after
+Runs o e (status.Image f) None =
+    ReadsWhole image_limit e (λ input. image_fault input ≡ Some f) × Keeps e.told e.told_after
+Runs o e (status.TooLarge limit) None =
+    (limit ≡ image_limit)
+    × Takes e.left e.left_after (λ n. n ≡ image_limit + 1)
+    × Keeps e.told e.told_after
+Runs o e status.ReadFault None =
+    Rose e.source_faults e.source_faults_after × Keeps e.told e.told_after
+Runs o e status.Memory None = WritesFront o e
+Runs o e _ _ = ⊥
 
--- Each answer by what the words mean: a run's, or that of the commands that need no thread, which hand out no run.
+-- Each answer by what the words mean: a run's, or that of the commands that need no thread, which
+-- hand out no run.
 abbrev pub Answers : Result Command Refusal → Ends → Outcome → Type 0
-Answers (Ok (command.Run turns)) e o = Runs turns e o.status o.whole
+Answers (Ok (command.Run options)) e o = Runs options e o.status o.whole
 Answers meant e o = tools.Answers meant e (tool.Answer o.status) × (o.whole ≡ None)
 
 -- ---- completeness
 
--- the source tells its bytes, and they are a whole input that can be run
-pub record HasInput (turns : ℕ) (left : Option (List ℕ)) : Type 0 where
+-- the source tells its bytes, and they are a whole input that is an image
+pub record HasImage (left : Option (List ℕ)) : Type 0 where
   pub input : List ℕ
   pub told : left ≡ Some input
   pub within : length input ≤ image_limit
-  pub runnable : IsRunnable turns input
+  pub image : image_fault input ≡ None
 
--- a whole input that can be run, and no fault of the source or the sink in this call, end in Done, or in Memory
-abbrev pub FinishesRun : ℕ → Ends → Status → Type 0
-FinishesRun turns e s = HasInput turns e.left → (Rose e.source_faults e.source_faults_after → ⊥) → (Rose e.sink_faults e.sink_faults_after → ⊥)
+-- a whole input that is an image, and no fault of the source or the sink in this call, end in Done,
+-- or in Memory
+abbrev pub FinishesRun : Ends → Status → Type 0
+FinishesRun e s =
+    HasImage e.left
+    → (Rose e.source_faults e.source_faults_after → ⊥)
+    → (Rose e.sink_faults e.sink_faults_after → ⊥)
     → (s ≡ status.Done) ⊎ (s ≡ status.Memory)
 
 abbrev pub IsComplete : Result Command Refusal → Ends → Outcome → Type 0
-IsComplete (Ok (command.Run turns)) e o = FinishesRun turns e o.status
+IsComplete (Ok (command.Run options)) e o = FinishesRun e o.status
 IsComplete meant e o = tools.IsComplete meant e (tool.Answer o.status)

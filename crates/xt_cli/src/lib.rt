@@ -3,6 +3,7 @@
 
 mod checks;
 mod laws;
+mod output;
 mod run_report;
 mod status;
 mod tool;
@@ -12,7 +13,7 @@ pub use checks::check_text;
 pub use laws::history_sends_as_memory;
 pub use run_report::report;
 pub use status::{Status, status_line};
-pub use tool::{IMAGE_LIMIT, Job, TEXT_LIMIT, Tool, tool_main};
+pub use tool::{ELF_LIMIT, IMAGE_LIMIT, Job, TEXT_LIMIT, Tool, tool_main};
 pub use top::{Outcome, Whole, xt_main};
 
 #[cfg(test)]

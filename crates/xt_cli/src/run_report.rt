@@ -1,5 +1,5 @@
 ghost use Rattle.std.specs.Prelude.{◌≡◌, IfOk, string_bytes};
-ghost use Rattle.xt_cli.specs.Reports.{byte_of, core_line, report_text, sent_bytes, stop_text, uart_lines};
+ghost use Rattle.xt_cli.specs.Reports.{byte_of, core_line, history_line, report_text, sent_bytes, stop_text, uart_lines};
 
 use std::alloc::{AllocError, Global};
 use xt_map::{Entry, Kind, Text};
@@ -44,9 +44,16 @@ fn line_of(alloc: Global, core: u8, trace: &Trace) -> Result<String, AllocError>
     ensures { IfOk result (λ line. string_bytes line ≡ core_line core trace.now) }
 {
     let stop = stop_name(trace.stop);
-    let turns = trace.steps.len();
+    let turns = trace.count;
     let pc = hexadecimal(alloc, trace.pc)?;
     format!(in alloc; "core {core} stop {stop} turns {turns} pc {pc}\n")
+}
+
+// The line of a history of so many accesses.
+fn history_of(alloc: Global, count: usize) -> Result<String, AllocError>
+    ensures { IfOk result (λ line. string_bytes line ≡ history_line count) }
+{
+    format!(in alloc; "history {count}\n")
 }
 
 /// The report of a run, in lines that each end with a newline:
@@ -56,10 +63,12 @@ fn line_of(alloc: Global, core: u8, trace: &Trace) -> Result<String, AllocError>
 /// the N bytes that were sent, as they are
 /// core 0 stop S turns K pc ADDR
 /// core 1 stop S turns K pc ADDR
+/// history N
 /// ```
 ///
-/// S is `break` or `turns`, K the number of the core's records, and ADDR its last program counter in
-/// eight upper-case hexadecimal digits; N and K are decimal. The only error is too little memory.
+/// S is `break` or `turns`, K the number of the core's turns, and ADDR its last program counter in
+/// eight upper-case hexadecimal digits; N and K are decimal, and the last N is the number of accesses
+/// that the bus served. The only error is too little memory.
 #[tactic(auto, unfolding(crate::specs::Reports::report_text))]
 pub fn report(alloc: Global, run: &Run) -> Result<Text, AllocError>
     ensures { IfOk result (λ text. text ≡ report_text run.now) }
@@ -71,5 +80,6 @@ pub fn report(alloc: Global, run: &Run) -> Result<Text, AllocError>
     text.push(b'\n')?;
     text.extend_from_slice(line_of(alloc, 0, &run.trace0)?.as_bytes())?;
     text.extend_from_slice(line_of(alloc, 1, &run.trace1)?.as_bytes())?;
+    text.extend_from_slice(history_of(alloc, run.history.len())?.as_bytes())?;
     Ok(Text::new(text))
 }

@@ -1,8 +1,9 @@
 //! How the program ends: the status, its line and its code.
 ghost use Rattle.std.specs.Prelude.{◌≡◌, IfOk, string_bytes};
-ghost use Rattle.xt_cli.specs.Statuses.{fault_text, status_code, status_text};
+ghost use Rattle.xt_cli.specs.Statuses.{elf_fault_text, fault_text, status_code, status_text};
 
 use std::alloc::{AllocError, Global};
+use xt_elf::ElfFault;
 use xt_image::ImageFault;
 use xt_lex::AsmPlace;
 use xt_map::Text;
@@ -18,13 +19,15 @@ pub enum Status {
     Image(ImageFault),
     /// The whole text was read, and this is its first fault as an assembly text.
     Asm(AsmPlace),
+    /// The whole input was read, and this is its first fault as an ELF executable.
+    Elf(ElfFault),
     /// The input could not be read to its end.
     ReadFault,
     /// The output could not be written to its end.
     WriteFault,
     /// The input is longer than this many bytes.
     TooLarge(u32),
-    /// The words or the image ask for what the machine does not do yet.
+    /// The words ask for a command that is not there yet.
     Unbuilt,
     /// There was too little memory.
     Memory,
@@ -45,6 +48,7 @@ impl Status {
             Status::TooLarge(_) => 7,
             Status::Memory => 8,
             Status::Unbuilt => 9,
+            Status::Elf(_) => 10,
         }
     }
 }
@@ -78,9 +82,32 @@ fn text_of(alloc: Global, fault: &ImageFault) -> Result<String, AllocError>
     }
 }
 
+// A fault of an ELF executable: its name and the values that it keeps.
+fn elf_text_of(alloc: Global, fault: &ElfFault) -> Result<String, AllocError>
+    ensures { IfOk result (λ text. string_bytes text ≡ elf_fault_text fault.now) }
+{
+    match *fault {
+        ElfFault::Short => format!(in alloc; "Short"),
+        ElfFault::Magic => format!(in alloc; "Magic"),
+        ElfFault::Class => format!(in alloc; "Class"),
+        ElfFault::FileType(kind) => format!(in alloc; "FileType {kind}"),
+        ElfFault::Machine(machine) => format!(in alloc; "Machine {machine}"),
+        ElfFault::HeaderSize(size) => format!(in alloc; "HeaderSize {size}"),
+        ElfFault::HeaderEnd => format!(in alloc; "HeaderEnd"),
+        ElfFault::SegmentEnd(index) => format!(in alloc; "SegmentEnd {index}"),
+        ElfFault::Sizes(index) => format!(in alloc; "Sizes {index}"),
+        ElfFault::Place(index) => format!(in alloc; "Place {index}"),
+        ElfFault::Overlap(first, second) => format!(in alloc; "Overlap {first} {second}"),
+        ElfFault::Count(count) => format!(in alloc; "Count {count}"),
+        ElfFault::Entry(address) => format!(in alloc; "Entry {address}"),
+        ElfFault::Memory => format!(in alloc; "Memory"),
+    }
+}
+
 /// The line for standard error: `xt:`, the name of the status, the values that it keeps in decimal,
-/// of an image's fault its name and its values, digests as 64 lower-case hexadecimal digits, of a
-/// text's fault its line, column and kind, and a newline. The only error is too little memory.
+/// of the fault of an image or an ELF executable its name and its values, digests as 64 lower-case
+/// hexadecimal digits, of a text's fault its line, column and kind, and a newline. The only error is
+/// too little memory.
 #[tactic(auto, unfolding(crate::specs::Statuses::status_text))]
 pub fn status_line(alloc: Global, status: &Status) -> Result<Text, AllocError>
     ensures { IfOk result (λ text. text ≡ status_text status.now) }
@@ -94,6 +121,10 @@ pub fn status_line(alloc: Global, status: &Status) -> Result<Text, AllocError>
         }
         Status::Asm(AsmPlace { line, column, kind }) => {
             format!(in alloc; "xt: Asm {line} {column} {kind}\n")?
+        }
+        Status::Elf(fault) => {
+            let fault = elf_text_of(alloc, &fault)?;
+            format!(in alloc; "xt: Elf {fault}\n")?
         }
         Status::ReadFault => format!(in alloc; "xt: ReadFault\n")?,
         Status::WriteFault => format!(in alloc; "xt: WriteFault\n")?,

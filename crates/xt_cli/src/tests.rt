@@ -1,10 +1,11 @@
 use crate::{Status, report, status_line};
 use std::alloc::Global;
 use std::test::Fail;
+use xt_elf::ElfFault;
 use xt_image::ImageFault;
 use xt_lex::AsmPlace;
 use xt_map::{Access, Entry, History, Kind};
-use xt_trace::{Options, Run, Stack, StepKind, StepRecord, Steps, Stop, Trace};
+use xt_trace::{Options, Places, Run, Stack, Stop, Trace};
 
 fn entry(addr: u32, size: u8, kind: Kind) -> Entry {
     Entry {
@@ -14,19 +15,14 @@ fn entry(addr: u32, size: u8, kind: Kind) -> Entry {
     }
 }
 
-fn trace(alloc: Global, turns: usize, stop: Stop, pc: u32) -> Result<Trace, Fail> {
-    let record = StepRecord {
-        pc: 0x4008_0404,
-        kind: StepKind::Insn,
-        write: None,
-        access: None,
-        reply: 0,
-        ccount: 0,
-        owb: 0,
-        interrupt: 0,
-    };
-    let steps = Steps::new(vec![in alloc; record; turns]?);
-    Ok(Trace { steps, stop, pc })
+fn trace(alloc: Global, core: u8, count: u32, stop: Stop, pc: u32) -> Trace {
+    Trace {
+        core,
+        count,
+        places: Places::new(Vec::new(alloc)),
+        stop,
+        pc,
+    }
 }
 
 fn run_of(entries: Vec<Entry>, trace0: Trace, trace1: Trace) -> Run {
@@ -61,11 +57,11 @@ fn report_of_what_is_not_sent(rt: HostRuntime) -> Result<(), Fail> {
         entry(0x3FFB_0000, 4, Kind::Store(67)),
         entry(0x3FFB_0000, 4, Kind::Cas(67, 68)),
     ]?;
-    let trace0 = trace(alloc, 12, Stop::Turns, 0xFEDC_BA98)?;
-    let trace1 = trace(alloc, 1, Stop::Break, 0)?;
+    let trace0 = trace(alloc, 0, 12, Stop::Turns, 0xFEDC_BA98);
+    let trace1 = trace(alloc, 1, 1, Stop::Break, 0);
     let text = report(alloc, &run_of(entries, trace0, trace1))?;
     let lines =
-        b"uart 0\n\ncore 0 stop turns turns 12 pc FEDCBA98\ncore 1 stop break turns 1 pc 00000000\n";
+        b"uart 0\n\ncore 0 stop turns turns 12 pc FEDCBA98\ncore 1 stop break turns 1 pc 00000000\nhistory 4\n";
     assert_eq!(rt; text.as_slice(), lines.as_slice());
     Ok(())
 }
@@ -78,11 +74,11 @@ fn report_of_whole_words(rt: HostRuntime) -> Result<(), Fail> {
         entry(0x3FF4_0000, 2, Kind::Store(0x0169)),
         entry(0x3FF4_0000, 1, Kind::Store(10)),
     ]?;
-    let trace0 = trace(alloc, 0, Stop::Turns, 1)?;
-    let trace1 = trace(alloc, 0, Stop::Turns, 2)?;
+    let trace0 = trace(alloc, 0, 0, Stop::Turns, 1);
+    let trace1 = trace(alloc, 1, 0, Stop::Turns, 2);
     let text = report(alloc, &run_of(entries, trace0, trace1))?;
     let lines =
-        b"uart 3\nHi\n\ncore 0 stop turns turns 0 pc 00000001\ncore 1 stop turns turns 0 pc 00000002\n";
+        b"uart 3\nHi\n\ncore 0 stop turns turns 0 pc 00000001\ncore 1 stop turns turns 0 pc 00000002\nhistory 3\n";
     assert_eq!(rt; text.as_slice(), lines.as_slice());
     Ok(())
 }
@@ -158,6 +154,18 @@ fn lines_and_codes_of_statuses(rt: HostRuntime) -> Result<(), Fail> {
         (Status::TooLarge(8_388_608), 7, "xt: TooLarge 8388608\n"),
         (Status::Memory, 8, "xt: Memory\n"),
         (Status::Unbuilt, 9, "xt: Unbuilt\n"),
+        (Status::Elf(ElfFault::HeaderEnd), 10, "xt: Elf HeaderEnd\n"),
+        (Status::Elf(ElfFault::Machine(3)), 10, "xt: Elf Machine 3\n"),
+        (
+            Status::Elf(ElfFault::Overlap(0, 65_535)),
+            10,
+            "xt: Elf Overlap 0 65535\n",
+        ),
+        (
+            Status::Elf(ElfFault::Entry(4_294_967_295)),
+            10,
+            "xt: Elf Entry 4294967295\n",
+        ),
     ];
     for (status, code, line) in rows {
         assert_eq!(rt; status.code(), code);

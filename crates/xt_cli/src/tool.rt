@@ -2,6 +2,7 @@
 ghost use Rattle.std.specs.Prelude.{◌≡◌, ◌≢◌, ◌≤◌, length, map, string_bytes, IfOk, IfErr, None, Some};
 ghost use Rattle.std.specs.Option.{option_map};
 ghost use Rattle.xt_image.specs.Format.{image_of};
+ghost use Rattle.xt_image.specs.Parts.{IsWellFormed};
 ghost use Rattle.xt_image.specs.Rules.{image_fault};
 ghost use Rattle.xt_cli.specs.Calls.{ends};
 ghost use Rattle.xt_cli.specs.Tools.{Answers, Finishes, IsComplete, IsMade, Makes, limit_of, refusal_of, status_of};
@@ -12,6 +13,7 @@ use crate::status::Status;
 use std::alloc::Global;
 use xt_asm::assemble;
 use xt_disasm::listing;
+use xt_elf::{ElfFault, from_elf};
 use xt_image::{Image, ImageFault, read, write};
 use xt_io::{ReadError, Refused, Sink, Source, read_to_limit, write_all};
 use xt_lex::AsmFault;
@@ -24,11 +26,16 @@ pub const IMAGE_LIMIT: usize = 8_388_608;
 /// The most bytes that an assembly text may have.
 pub const TEXT_LIMIT: usize = 1_048_576;
 
+/// The most bytes that an ELF executable may have.
+pub const ELF_LIMIT: usize = 67_108_864;
+
 /// A command whose output is a function of its input.
 #[derive(Clone, Copy, Debug, PartialEq, Eq)]
 pub enum Job {
     /// `asm`: the image of an assembly text.
     Assemble,
+    /// `elf`: the image of an ELF executable.
+    Convert,
     /// `dis`: an image's listing.
     List,
     /// `check`: what an image holds.
@@ -40,7 +47,7 @@ pub enum Job {
 pub enum Tool {
     /// The program ended with this status.
     Answer(Status),
-    /// The words order a run. Nothing was read or written.
+    /// The words ask for a run. Nothing was read or written.
     Threaded,
 }
 
@@ -61,6 +68,7 @@ fn limit_of(job: Job) -> usize
 {
     match job {
         Job::Assemble => TEXT_LIMIT,
+        Job::Convert => ELF_LIMIT,
         Job::List | Job::Check => IMAGE_LIMIT,
     }
 }
@@ -83,10 +91,29 @@ fn image_file(alloc: Global, input: &[u8]) -> Result<Text, Status>
     }
 }
 
+// The image of an ELF executable as a file, or the status of the executable's first fault.
+#[tactic(auto, unfolding(crate::specs::Tools::refusal_of))]
+fn converted_file(alloc: Global, input: &[u8]) -> Result<Text, Status>
+    requires { length input.now ≤ 67108864 }
+    ensures ok { IfOk result (λ bytes. IsMade Job.Convert input.now bytes) }
+    ensures refused { IfErr result (λ status. status ≢ Status.Memory → refusal_of Job.Convert input.now ≡ Some status) }
+{
+    let image = match from_elf(alloc, input) {
+        Ok(image) => image,
+        Err(ElfFault::Memory) => return Err(Status::Memory),
+        Err(fault) => return Err(Status::Elf(fault)),
+    };
+    match write(alloc, &image) {
+        Ok(bytes) => Ok(Text::new(bytes.into_vec())),
+        Err(_) => Err(Status::Memory),
+    }
+}
+
 // The image that an input is, or the status of its first fault.
-fn image_in(alloc: Global, input: &[u8]) -> Result<Image, Status>
+pub(crate) fn image_in(alloc: Global, input: &[u8]) -> Result<Image, Status>
     requires { length input.now ≤ 8388608 }
     ensures ok { IfOk result (λ image. (image_fault input.now ≡ None) × (image ≡ image_of input.now)) }
+    ensures well_formed { IfOk result IsWellFormed }
     ensures refused { IfErr result (λ status. status ≢ Status.Memory → option_map Status.Image (image_fault input.now) ≡ Some status) }
 {
     match read(alloc, input) {
@@ -126,6 +153,7 @@ fn make(alloc: Global, job: Job, input: &[u8]) -> Result<Text, Status>
 {
     match job {
         Job::Assemble => image_file(alloc, input),
+        Job::Convert => converted_file(alloc, input),
         Job::List => list(alloc, input),
         Job::Check => check(alloc, input),
     }
@@ -138,8 +166,10 @@ pub(crate) fn work<S: Source, K: Sink>(
     source: &mut S,
     sink: &mut K,
 ) -> Status
-    ensures answers { Makes job (ends S.left S.faults source.old source.new K.told K.faults sink.old sink.new) result }
-    ensures complete { Finishes job (ends S.left S.faults source.old source.new K.told K.faults sink.old sink.new) result }
+    ensures answers { Makes job
+        (ends S.left S.faults source.old source.new K.told K.faults sink.old sink.new) result }
+    ensures complete { Finishes job
+        (ends S.left S.faults source.old source.new K.told K.faults sink.old sink.new) result }
 {
     let limit = limit_of(job);
     let input = match read_to_limit(alloc, source, limit) {
@@ -160,26 +190,29 @@ pub(crate) fn work<S: Source, K: Sink>(
 }
 
 /// What the program does with the words behind its name, a source and a sink, where it needs no
-/// thread: it answers every word that has no meaning, and does the work of `asm`, `dis` and `check`.
-/// It waits for nobody and returns.
+/// thread: it answers every word that has no meaning, and does the work of `asm`, `elf`, `dis` and
+/// `check`. It waits for nobody and returns.
 ///
-/// Words that order a run are handed back as `Threaded`, and nothing was then read or written. After
-/// `Answer` the contract says of each status its cause, and what was written; `Memory` is the one
-/// free answer.
+/// Words that ask for a run are handed back as `Threaded`, and nothing was then read or written.
+/// After `Answer` the contract says of each status its cause, and what was written; too little
+/// memory is the one free answer.
 pub fn tool_main<S: Source, K: Sink>(
     alloc: Global,
     words: &[String],
     source: &mut S,
     sink: &mut K,
 ) -> Tool
-    ensures answers { Answers (meaning_of (map string_bytes words.now)) (ends S.left S.faults source.old source.new K.told K.faults sink.old sink.new) result }
-    ensures complete { IsComplete (meaning_of (map string_bytes words.now)) (ends S.left S.faults source.old source.new K.told K.faults sink.old sink.new) result }
+    ensures answers { Answers (meaning_of (map string_bytes words.now))
+        (ends S.left S.faults source.old source.new K.told K.faults sink.old sink.new) result }
+    ensures complete { IsComplete (meaning_of (map string_bytes words.now))
+        (ends S.left S.faults source.old source.new K.told K.faults sink.old sink.new) result }
 {
     match meaning(alloc, words) {
         Ok(Command::Assemble) => Tool::Answer(work(alloc, Job::Assemble, source, sink)),
+        Ok(Command::Convert) => Tool::Answer(work(alloc, Job::Convert, source, sink)),
         Ok(Command::Disassemble) => Tool::Answer(work(alloc, Job::List, source, sink)),
         Ok(Command::Check) => Tool::Answer(work(alloc, Job::Check, source, sink)),
-        Ok(Command::Run { turns0: _ }) => Tool::Threaded,
+        Ok(Command::Run(_)) => Tool::Threaded,
         Err(refusal) => Tool::Answer(status_of(refusal)),
     }
 }

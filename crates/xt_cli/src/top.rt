@@ -1,20 +1,23 @@
 //! The top call.
-ghost use Rattle.std.specs.Prelude.{◌≡◌, ◌≤◌, map, length, string_bytes, None};
+ghost use Rattle.std.specs.Prelude.{◌≡◌, map, string_bytes, IfOk, None};
 ghost use Rattle.xt_cli.specs.Calls.{ends};
-ghost use Rattle.xt_cli.specs.Top.{Answers, FinishesRun, IsComplete, Runs, RunsInput, options_of};
-ghost use Rattle.xt_image.specs.declared.image.Image.{Image};
-ghost use Rattle.xt_trace.specs.Validity.{most_turns};
+ghost use Rattle.xt_cli.specs.Top.{Answers, FinishesRun, IsComplete, IsRunOfImage, Runs, run_text};
+ghost use Rattle.xt_cli.specs.Writes.{Writes};
+ghost use Rattle.xt_core.specs.Runs.{IsRunOf};
+ghost use Rattle.xt_image.specs.Parts.{IsWellFormed};
 ghost use Rattle.xt_words.specs.Meaning.{meaning_of};
+ghost use Rattle.xt_words.specs.Options.{AreValid};
 
-use crate::run_report::report;
+use crate::output::{write_report, write_traced};
 use crate::status::Status;
-use crate::tool::{IMAGE_LIMIT, Job, status_of, work};
-use std::alloc::Global;
-use xt_core::{RunFault, run_one};
-use xt_image::{Image, ImageFault, is_plain, read};
-use xt_io::{Gate, ReadError, Refused, Sink, Source, read_to_limit, write_all};
-use xt_trace::{Options, Run, Stack};
-use xt_words::{Command, meaning};
+use crate::tool::{IMAGE_LIMIT, Job, image_in, status_of, work};
+use std::alloc::{AllocError, Global};
+use xt_core::Cursor;
+use xt_image::{Image, well_formed_by_rules, well_formed_is_placed};
+use xt_io::{Gate, ReadError, Refused, Sink, Source, read_to_limit};
+use xt_machine::run_schedule;
+use xt_trace::Run;
+use xt_words::{Command, RunOptions, meaning};
 
 /// What the program did: the run that it made.
 #[derive(Drop)]
@@ -43,59 +46,55 @@ fn without_run(status: Status) -> Outcome
     }
 }
 
-// The options of a run with so many turns of core 0 and none of core 1: core 1 begins at the
-// image's entry, and the rest is the default.
-fn options_for(turns: u32, image: &Image) -> Options
-    ensures { result ≡ options_of turns image.now }
+// The run of an image with the options of the words.
+#[tactic(auto, unfolding(crate::specs::Top::run_of_image))]
+fn run_image(alloc: Global, options: &RunOptions, image: &Image) -> Result<Run, AllocError>
+    requires valid { AreValid options.now }
+    requires image { IsWellFormed image.now }
+    ensures { IfOk result (λ run. IsRunOfImage options.now image.now run) }
 {
-    Options {
-        turns0: turns,
-        turns1: 0,
-        entry1: image.entry,
-        vecbase: 0x40080000,
-        stack0: Stack {
-            lo: 0x3FFF0000,
-            hi: 0x3FFF8000,
-        },
-        stack1: Stack {
-            lo: 0x3FFF8000,
-            hi: 0x40000000,
-        },
+    well_formed_by_rules();
+    let options = options.with_entry(image.entry);
+    run_schedule(alloc, image, &options, &[])
+}
+
+// Writes what is written of a run of an image.
+#[tactic(auto, unfolding(crate::specs::Top::run_text))]
+fn write_run<K: Sink>(
+    alloc: Global,
+    options: &RunOptions,
+    image: &Image,
+    run: &Run,
+    sink: &mut K,
+) -> Result<(), Refused>
+    requires image { IsWellFormed image.now }
+    requires run { IsRunOf image.now run.now }
+    ensures { Writes result
+        (K.told sink.old) (K.told sink.new) (K.faults sink.old) (K.faults sink.new)
+        (run_text options.now image.now run.now) }
+{
+    if options.trace {
+        well_formed_is_placed();
+        let mut records0 = Cursor::make(alloc, image, run, 0)?;
+        let mut records1 = Cursor::make(alloc, image, run, 1)?;
+        write_traced(alloc, run, &mut records0, &mut records1, sink)
+    } else {
+        write_report(alloc, run, sink)
     }
 }
 
-// Runs the image that an input is, or says with which status that ends.
-fn run_input(alloc: Global, turns: u32, input: &[u8]) -> Result<Run, Status>
-    requires turns { turns ≤ most_turns }
-    requires within { length input.now ≤ 8388608 }
-    ensures { RunsInput result turns input.now }
-{
-    let image = match read(alloc, input) {
-        Ok(image) => image,
-        Err(ImageFault::Memory) => return Err(Status::Memory),
-        Err(fault) => return Err(Status::Image(fault)),
-    };
-    if !is_plain(&image) {
-        return Err(Status::Unbuilt);
-    }
-    let options = options_for(turns, &image);
-    match run_one(alloc, &image, &options) {
-        Ok(run) => Ok(run),
-        Err(RunFault::Unbuilt) => Err(Status::Unbuilt),
-        Err(RunFault::Memory) => Err(Status::Memory),
-    }
-}
-
-// Reads an image to its end, runs it, and writes the report of the run.
+// Reads an image to its end, runs it, and writes what is written of the run.
 fn run_source<S: Source, K: Sink>(
     alloc: Global,
-    turns: u32,
+    options: &RunOptions,
     source: &mut S,
     sink: &mut K,
 ) -> Outcome
-    requires { turns ≤ most_turns }
-    ensures answers { Runs turns (ends S.left S.faults source.old source.new K.told K.faults sink.old sink.new) result.status result.whole }
-    ensures complete { FinishesRun turns (ends S.left S.faults source.old source.new K.told K.faults sink.old sink.new) result.status }
+    requires { AreValid options.now }
+    ensures answers { Runs options.now (ends S.left S.faults source.old source.new K.told K.faults sink.old sink.new)
+        result.status result.whole }
+    ensures complete { FinishesRun (ends S.left S.faults source.old source.new K.told K.faults sink.old sink.new)
+        result.status }
 {
     let input = match read_to_limit(alloc, source, IMAGE_LIMIT) {
         Ok(input) => input,
@@ -103,14 +102,14 @@ fn run_source<S: Source, K: Sink>(
         Err(ReadError::TooLarge) => return without_run(Status::TooLarge(8_388_608)),
         Err(ReadError::Memory) => return without_run(Status::Memory),
     };
-    let run = match run_input(alloc, turns, &input) {
-        Ok(run) => run,
+    let image = match image_in(alloc, &input) {
+        Ok(image) => image,
         Err(status) => return without_run(status),
     };
-    let Ok(text) = report(alloc, &run) else {
+    let Ok(run) = run_image(alloc, options, &image) else {
         return without_run(Status::Memory);
     };
-    let status = match write_all(sink, text.as_slice()) {
+    let status = match write_run(alloc, options, &image, &run, sink) {
         Ok(()) => Status::Done,
         Err(Refused::Failed) => Status::WriteFault,
         Err(Refused::Memory) => return without_run(Status::Memory),
@@ -123,14 +122,15 @@ fn run_source<S: Source, K: Sink>(
 
 /// What the program does with the words behind its name, a source and a sink.
 ///
-/// Where the words order a run, the source is read to its end as an ESP32 application image, core 0
-/// runs it, and the report is written to the sink. All else is `tool_main`'s. The gate is not used
-/// yet.
+/// Where the words ask for a run, the source is read to its end as an ESP32 application image, core 0
+/// makes all of its turns and then core 1, and the report is written to the sink, with `--trace` the
+/// lines of both traces behind it, each before the next is made. All else is `tool_main`'s. The gate
+/// is not used yet.
 ///
 /// The contract says of each status its cause, and what was written; of `Done` and `WriteFault` of a
 /// run besides that the run that is handed out is the image's: its history is legal from the opening
-/// memory, the trace of core 0 is the processor's over the replies of that history, and the
-/// history's accesses are the trace's. `Memory` is the one free answer.
+/// memory, each trace is the processor's over the replies of that history, and the history's accesses
+/// are those of the traces. `Memory` is the one free answer.
 pub fn xt_main<S: Source, K: Sink, G: Gate>(
     alloc: Global,
     words: &[String],
@@ -138,12 +138,15 @@ pub fn xt_main<S: Source, K: Sink, G: Gate>(
     sink: &mut K,
     _gate: &G,
 ) -> Outcome
-    ensures answers { Answers (meaning_of (map string_bytes words.now)) (ends S.left S.faults source.old source.new K.told K.faults sink.old sink.new) result }
-    ensures complete { IsComplete (meaning_of (map string_bytes words.now)) (ends S.left S.faults source.old source.new K.told K.faults sink.old sink.new) result }
+    ensures answers { Answers (meaning_of (map string_bytes words.now))
+        (ends S.left S.faults source.old source.new K.told K.faults sink.old sink.new) result }
+    ensures complete { IsComplete (meaning_of (map string_bytes words.now))
+        (ends S.left S.faults source.old source.new K.told K.faults sink.old sink.new) result }
 {
     match meaning(alloc, words) {
-        Ok(Command::Run { turns0 }) => run_source(alloc, turns0, source, sink),
+        Ok(Command::Run(options)) => run_source(alloc, &options, source, sink),
         Ok(Command::Assemble) => without_run(work(alloc, Job::Assemble, source, sink)),
+        Ok(Command::Convert) => without_run(work(alloc, Job::Convert, source, sink)),
         Ok(Command::Disassemble) => without_run(work(alloc, Job::List, source, sink)),
         Ok(Command::Check) => without_run(work(alloc, Job::Check, source, sink)),
         Err(refusal) => without_run(status_of(refusal)),

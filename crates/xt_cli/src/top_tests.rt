@@ -1,6 +1,7 @@
 use crate::{Outcome, Status, Tool, tool_main, xt_main};
 use std::alloc::{AllocError, Global};
 use std::test::Fail;
+use xt_elf::ElfFault;
 use xt_image::ImageFault;
 use xt_io::{MemSink, MemSource, OpenGate, SafeSink, SafeSource, Sink, Source};
 use xt_lex::AsmPlace;
@@ -12,7 +13,12 @@ const LETTER: &str = "E901022004040840EE0000000000000000FFFF00000000000004084010
 0000F43F21FFFF32A041324200F0410000000000000000000000000000000017";
 
 const REPORT: &str = "uart 1\nA\ncore 0 stop break turns 4 pc 4008040D\n\
-core 1 stop turns turns 0 pc 40080404\n";
+core 1 stop turns turns 0 pc 40080404\nhistory 1\n";
+
+const TRACED: &str = "uart 1\nA\ncore 0 stop break turns 4 pc 4008040D\n\
+core 1 stop turns turns 0 pc 40080404\nhistory 1\n\
+0 0 40080404 insn a2=3FF40000\n0 1 40080407 insn a3=00000041\n\
+0 2 4008040A insn st1 3FF40000 00000041\n0 3 4008040D stop\n";
 
 const LISTING: &str = "segment 0 40080400 16 IRAM\n\
 40080400 0000F4 extui a0, a0, 0, 16\n\
@@ -32,6 +38,13 @@ movi a3, 65\ns8i a3, a2, 0\nbreak 1, 15\n";
 const ASSEMBLED: &str = "E901022004040840EE0000000000000000FFFF00000000010004084010000000\
 0000F43F21FFFF32A041324200F0410000000000000000000000000000000017\
 A5C140C0C3F6F183FB0D98F633F1B50A0F18B6B80FB4093F14FBFD2D83860102";
+
+/// An ELF executable with the same segment and entry: a file header, a program header at place 52, and
+/// the segment's bytes at place 84.
+const LINKED: &str = "7F454C460101010000000000000000000200\
+5E00010000000404084034000000000000000000000034002000010000000000000001000000540000000004084000\
+0408401000000010000000050000000400000000\
+00F43F21FFFF32A041324200F04100";
 
 /// The words of a text, which one blank separates.
 fn words_of(alloc: Global, text: &str) -> Result<Vec<String>, AllocError> {
@@ -68,8 +81,13 @@ fn runs_of_the_letter_a(rt: HostRuntime) -> Result<(), Fail> {
         ("run --turns0 10 --turns1 0", REPORT),
         (
             "run --turns0 2 --turns1 0",
-            "uart 0\n\ncore 0 stop turns turns 2 pc 4008040A\ncore 1 stop turns turns 0 pc 40080404\n",
+            "uart 0\n\ncore 0 stop turns turns 2 pc 4008040A\ncore 1 stop turns turns 0 pc 40080404\nhistory 0\n",
         ),
+        (
+            "run --turns0 0 --turns1 0",
+            "uart 0\n\ncore 0 stop turns turns 0 pc 40080404\ncore 1 stop turns turns 0 pc 40080404\nhistory 0\n",
+        ),
+        ("run --trace --turns1 0", TRACED),
         ("dis", LISTING),
         ("check", CHECKED),
     ];
@@ -110,7 +128,12 @@ fn refusals_write_nothing(rt: HostRuntime) -> Result<(), Fail> {
         ("fly", 64, 0, Status::Usage(2)),
         ("check now", 64, 0, Status::Usage(3)),
         ("dis --help", 64, 0, Status::Usage(3)),
-        ("run --turns0 ten --turns1 0", 64, 0, Status::Unbuilt),
+        ("run now", 64, 0, Status::Usage(3)),
+        ("run --turns0 ten", 64, 0, Status::Usage(4)),
+        ("run --turns0 4000001", 64, 0, Status::Usage(5)),
+        ("run --entry1 0x3FFB0000", 64, 0, Status::Usage(6)),
+        ("run --vecbase 0x40080010", 64, 0, Status::Usage(7)),
+        ("run --stack1 0:256", 64, 0, Status::Usage(8)),
         ("record", 64, 0, Status::Unbuilt),
     ];
     for (words, place, byte, status) in rows {
@@ -183,6 +206,35 @@ fn texts_are_assembled_or_refused(rt: HostRuntime) -> Result<(), Fail> {
 }
 
 #[test]
+fn elf_files_are_converted_or_refused(rt: HostRuntime) -> Result<(), Fail> {
+    let rows = [
+        (0, 0x7F, 100, Status::Done),
+        (18, 3, 100, Status::Elf(ElfFault::Machine(3))),
+        (0, 0x7F, 99, Status::Elf(ElfFault::SegmentEnd(0))),
+        (56, 0x55, 100, Status::Elf(ElfFault::SegmentEnd(0))),
+    ];
+    let image = hex::decode(rt.alloc(), ASSEMBLED)?;
+    for (place, byte, length, status) in rows {
+        let mut file = hex::decode(rt.alloc(), LINKED)?;
+        if place < file.len() {
+            file[place] = byte;
+        }
+        file.truncate(length);
+        let mut source = SafeSource::make(rt.alloc(), &file)?;
+        let mut sink = SafeSink::make(rt.alloc())?;
+        let outcome = answer(rt.alloc(), "elf", &mut source, &mut sink)?;
+        assert_eq!(rt; outcome.status, status, "{place}");
+        let written = if status == Status::Done {
+            image.as_slice()
+        } else {
+            &[]
+        };
+        assert_eq!(rt; sink.bytes(), written, "{place}");
+    }
+    Ok(())
+}
+
+#[test]
 fn words_that_need_no_input(rt: HostRuntime) -> Result<(), Fail> {
     let mut source = MemSource::make(rt.alloc(), &[], 1, &[0])?;
     let mut sink = SafeSink::make(rt.alloc())?;
@@ -234,10 +286,10 @@ fn too_long_an_input_is_refused(rt: HostRuntime) -> Result<(), Fail> {
 
 #[test]
 fn devices_that_fail_at_each_call(rt: HostRuntime) -> Result<(), Fail> {
-    // Thirteen calls read the 64 bytes and one finds their end; seventeen write the 85 of the report.
+    // Thirteen calls read the 64 bytes and one finds their end; nineteen write the 95 of the report.
     let image = hex::decode(rt.alloc(), LETTER)?;
     let words = "run --turns0 10 --turns1 0";
-    for call in 0..18usize {
+    for call in 0..20usize {
         let mut source = MemSource::make(rt.alloc(), &image, 5, &[call as u64])?;
         let mut sink = SafeSink::make(rt.alloc())?;
         let outcome = answer(rt.alloc(), words, &mut source, &mut sink)?;
@@ -255,7 +307,7 @@ fn devices_that_fail_at_each_call(rt: HostRuntime) -> Result<(), Fail> {
         let mut source = SafeSource::make(rt.alloc(), &image)?;
         let mut sink = MemSink::make(rt.alloc(), 5, &[call as u64])?;
         let outcome = answer(rt.alloc(), words, &mut source, &mut sink)?;
-        let written = if call < 17 {
+        let written = if call < 19 {
             Status::WriteFault
         } else {
             Status::Done
@@ -268,7 +320,7 @@ fn devices_that_fail_at_each_call(rt: HostRuntime) -> Result<(), Fail> {
         );
         assert_eq!(rt;
             sink.bytes().len(),
-            85.min(5 * call),
+            95.min(5 * call),
             "writing, at call {call}"
         );
     }

@@ -11,6 +11,7 @@ use xt_isa::control::{
 };
 
 /// The opcode map CALLN, by the low two bits of t.
+#[inline(always)]
 pub fn call(t: u8, s: u8, r: u8, op1: u8, op2: u8) -> Option<Insn>
     requires t { t < 16 }
     requires s { s < 16 }
@@ -29,6 +30,7 @@ pub fn call(t: u8, s: u8, r: u8, op1: u8, op2: u8) -> Option<Insn>
 }
 
 /// The opcode map SI, by t.
+#[inline(always)]
 pub fn si(t: u8, s: u8, r: u8, op1: u8, op2: u8) -> Option<Insn>
     requires t { t < 16 }
     requires s { s < 16 }
@@ -75,6 +77,7 @@ pub fn si(t: u8, s: u8, r: u8, op1: u8, op2: u8) -> Option<Insn>
 }
 
 /// The opcode map B, by r.
+#[inline(always)]
 pub fn branch(t: u8, s: u8, r: u8, op1: u8, op2: u8) -> Option<Insn>
     requires t { t < 16 }
     requires s { s < 16 }

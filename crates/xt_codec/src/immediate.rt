@@ -5,6 +5,7 @@ ghost use Rattle.std.specs.Prelude.{◌≡◌, ℕ, pos, ◌+◌, ◌*◌, ◌/�
 ghost use Rattle.xt_isa.specs.Spelling.{five, signed, below, b4const, b4constu, minus_one_or, narrow_constant};
 
 /// Five bits: four of one field and the low bit of another.
+#[inline(always)]
 pub fn join_five(low: u8, high: u8) -> u8
     requires { low < 16 }
     ensures { result ≡ five low high }
@@ -13,6 +14,7 @@ pub fn join_five(low: u8, high: u8) -> u8
 }
 
 /// Two nibbles as a byte, the low one first.
+#[inline(always)]
 pub fn join_two(low: u8, high: u8) -> u8
     requires low { low < 16 }
     requires high { high < 16 }
@@ -22,6 +24,7 @@ pub fn join_two(low: u8, high: u8) -> u8
 }
 
 /// Bits 23..12 of a word.
+#[inline(always)]
 pub fn imm12(r: u8, op1: u8, op2: u8) -> u32
     ensures { result ≡ r + 16 * (op1 + 16 * op2) }
 {
@@ -29,6 +32,7 @@ pub fn imm12(r: u8, op1: u8, op2: u8) -> u32
 }
 
 /// Bits 23..8 of a word.
+#[inline(always)]
 pub fn imm16(s: u8, r: u8, op1: u8, op2: u8) -> u32
     ensures { result ≡ s + 16 * (r + 16 * (op1 + 16 * op2)) }
 {
@@ -36,6 +40,7 @@ pub fn imm16(s: u8, r: u8, op1: u8, op2: u8) -> u32
 }
 
 /// Bits 23..6 of a word.
+#[inline(always)]
 pub fn imm18(t: u8, s: u8, r: u8, op1: u8, op2: u8) -> u32
     ensures { result ≡ t / 4 + 4 * (s + 16 * (r + 16 * (op1 + 16 * op2))) }
 {
@@ -43,6 +48,7 @@ pub fn imm18(t: u8, s: u8, r: u8, op1: u8, op2: u8) -> u32
 }
 
 /// A natural number as an immediate.
+#[inline(always)]
 pub fn plain(n: u32) -> i32
     requires { n < 2 ^ 31 }
     ensures { result ≡ pos n }
@@ -52,6 +58,7 @@ pub fn plain(n: u32) -> i32
 
 /// The two's complement number of `n`, below twice `half`.
 #[tactic(auto, unfolding(xt_isa::specs::Spelling::signed))]
+#[inline(always)]
 pub fn signed(half: u32, n: u32) -> i32
     requires half { half < 2 ^ 30 }
     requires n { n < 2 * half }
@@ -65,6 +72,7 @@ pub fn signed(half: u32, n: u32) -> i32
 }
 
 /// The number `n` less `k`.
+#[inline(always)]
 pub fn below(n: u32, k: u32) -> i32
     requires n { n < 2 ^ 31 }
     requires k { k < 2 ^ 31 }
@@ -75,6 +83,7 @@ pub fn below(n: u32, k: u32) -> i32
 
 /// The number of ADDI.N, where 0 stands for -1.
 #[tactic(auto, unfolding(xt_isa::specs::Spelling::minus_one_or))]
+#[inline(always)]
 pub fn minus_one_or(t: u8) -> i32
     ensures { result ≡ minus_one_or t }
 {
@@ -83,6 +92,7 @@ pub fn minus_one_or(t: u8) -> i32
 
 /// The number of MOVI.N, where 96 to 127 stand for -32 to -1.
 #[tactic(auto, unfolding(xt_isa::specs::Spelling::narrow_constant))]
+#[inline(always)]
 pub fn narrow_constant(n: u32) -> i32
     requires { n < 128 }
     ensures { result ≡ narrow_constant n }
@@ -92,6 +102,7 @@ pub fn narrow_constant(n: u32) -> i32
 
 /// The signed branch constants, by the field r.
 #[tactic(auto, unfolding(xt_isa::specs::Spelling::b4const))]
+#[inline(always)]
 pub fn b4const(r: u8) -> i32
     requires { r < 16 }
     ensures { result ≡ b4const r }
@@ -118,6 +129,7 @@ pub fn b4const(r: u8) -> i32
 
 /// The unsigned branch constants, by the field r.
 #[tactic(auto, unfolding(xt_isa::specs::Spelling::b4constu))]
+#[inline(always)]
 pub fn b4constu(r: u8) -> i32
     requires { r < 16 }
     ensures { result ≡ b4constu r }

@@ -41,6 +41,7 @@ pub struct Code {
 
 /// Major opcodes that spell nothing.
 #[tactic(auto, unfolding(xt_isa::specs::Spelling::spelled, xt_isa::specs::Spelling::all_rows))]
+#[inline(always)]
 fn empty_group(op0: u8, t: u8, s: u8, r: u8, op1: u8, op2: u8) -> Option<Insn>
     requires op0 { op0 ≡ 3 ⊎ (op0 ≡ 4 ⊎ (13 < op0 × op0 < 16)) }
     ensures { result ≡ spelled (record { op0 = op0; t = t; s = s; r = r; op1 = op1; op2 = op2 }) }
@@ -56,6 +57,7 @@ fn empty_group(op0: u8, t: u8, s: u8, r: u8, op1: u8, op2: u8) -> Option<Insn>
 }
 
 /// The instruction that six fields spell, by the major opcode.
+#[inline(always)]
 fn insn_at(op0: u8, t: u8, s: u8, r: u8, op1: u8, op2: u8) -> Option<Insn>
     requires op0 { op0 < 16 }
     requires t { t < 16 }
@@ -84,6 +86,7 @@ fn insn_at(op0: u8, t: u8, s: u8, r: u8, op1: u8, op2: u8) -> Option<Insn>
 
 /// The instruction that the bytes of a word spell, the least first, with its length in bytes. Where the length is 2, the
 /// third byte plays no part. Illegal exactly where no row of the tables fits, or an operand is outside its row's range.
+#[inline(always)]
 pub fn decode(b0: u8, b1: u8, b2: u8) -> Decoded
     ensures spelled { result ≡ answer b0 (spelled (fields_at b0 b1 b2)) }
     ensures fits { GoodIsInRange result }

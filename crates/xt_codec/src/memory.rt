@@ -9,6 +9,7 @@ use xt_isa::Insn;
 use xt_isa::memory::{ByteName, HalfName, Memory, WordName};
 
 /// The opcode map LSAI, by r.
+#[inline(always)]
 pub fn load(t: u8, s: u8, r: u8, op1: u8, op2: u8) -> Option<Insn>
     requires t { t < 16 }
     requires s { s < 16 }
@@ -37,6 +38,7 @@ pub fn load(t: u8, s: u8, r: u8, op1: u8, op2: u8) -> Option<Insn>
 }
 
 /// L32R.
+#[inline(always)]
 pub fn literal(t: u8, s: u8, r: u8, op1: u8, op2: u8) -> Option<Insn>
     requires t { t < 16 }
     requires s { s < 16 }

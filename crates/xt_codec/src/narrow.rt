@@ -9,6 +9,7 @@ use xt_isa::Insn;
 use xt_isa::density::{Density, NarrowName, NarrowRetName, NarrowZeroName};
 
 /// The opcode map ST2: MOVI.N, BEQZ.N and BNEZ.N.
+#[inline(always)]
 pub fn constant(t: u8, s: u8, r: u8, op1: u8, op2: u8) -> Option<Insn>
     requires t { t < 16 }
     requires s { s < 16 }
@@ -36,6 +37,7 @@ pub fn constant(t: u8, s: u8, r: u8, op1: u8, op2: u8) -> Option<Insn>
 }
 
 /// The opcode map ST3: MOV.N, and the words of S3.
+#[inline(always)]
 pub fn narrow_system(t: u8, s: u8, r: u8, op1: u8, op2: u8) -> Option<Insn>
     requires t { t < 16 }
     requires s { s < 16 }
@@ -56,6 +58,7 @@ pub fn narrow_system(t: u8, s: u8, r: u8, op1: u8, op2: u8) -> Option<Insn>
 }
 
 /// L32I.N.
+#[inline(always)]
 pub fn load(t: u8, s: u8, r: u8, op1: u8, op2: u8) -> Option<Insn>
     requires t { t < 16 }
     requires s { s < 16 }
@@ -68,6 +71,7 @@ pub fn load(t: u8, s: u8, r: u8, op1: u8, op2: u8) -> Option<Insn>
 }
 
 /// S32I.N.
+#[inline(always)]
 pub fn store(t: u8, s: u8, r: u8, op1: u8, op2: u8) -> Option<Insn>
     requires t { t < 16 }
     requires s { s < 16 }
@@ -80,6 +84,7 @@ pub fn store(t: u8, s: u8, r: u8, op1: u8, op2: u8) -> Option<Insn>
 }
 
 /// ADD.N.
+#[inline(always)]
 pub fn add(t: u8, s: u8, r: u8, op1: u8, op2: u8) -> Option<Insn>
     requires t { t < 16 }
     requires s { s < 16 }
@@ -92,6 +97,7 @@ pub fn add(t: u8, s: u8, r: u8, op1: u8, op2: u8) -> Option<Insn>
 }
 
 /// ADDI.N.
+#[inline(always)]
 pub fn add_constant(t: u8, s: u8, r: u8, op1: u8, op2: u8) -> Option<Insn>
     requires t { t < 16 }
     requires s { s < 16 }

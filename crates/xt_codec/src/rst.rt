@@ -15,6 +15,7 @@ use xt_isa::three::{
 };
 
 /// SLLI, where the amount is not 32.
+#[inline(always)]
 fn slli(t: u8, s: u8, r: u8, op2: u8) -> Option<Insn>
     requires t { t < 16 }
     requires s { s < 16 }
@@ -31,6 +32,7 @@ fn slli(t: u8, s: u8, r: u8, op2: u8) -> Option<Insn>
 }
 
 /// The opcode map RST1, by op2.
+#[inline(always)]
 pub fn rst1(t: u8, s: u8, r: u8, op2: u8) -> Option<Insn>
     requires t { t < 16 }
     requires s { s < 16 }
@@ -79,6 +81,7 @@ pub fn rst1(t: u8, s: u8, r: u8, op2: u8) -> Option<Insn>
 }
 
 /// The opcode map RST2, by op2.
+#[inline(always)]
 pub fn rst2(t: u8, s: u8, r: u8, op2: u8) -> Option<Insn>
     requires t { t < 16 }
     requires s { s < 16 }
@@ -99,6 +102,7 @@ pub fn rst2(t: u8, s: u8, r: u8, op2: u8) -> Option<Insn>
 }
 
 /// The opcode map RST3, by op2.
+#[inline(always)]
 pub fn rst3(t: u8, s: u8, r: u8, op2: u8) -> Option<Insn>
     requires t { t < 16 }
     requires s { s < 16 }
@@ -152,6 +156,7 @@ pub fn rst3(t: u8, s: u8, r: u8, op2: u8) -> Option<Insn>
 }
 
 /// The opcode map RST0, by op2.
+#[inline(always)]
 pub fn rst0(t: u8, s: u8, r: u8, op2: u8) -> Option<Insn>
     requires t { t < 16 }
     requires s { s < 16 }
@@ -179,6 +184,7 @@ pub fn rst0(t: u8, s: u8, r: u8, op2: u8) -> Option<Insn>
 }
 
 /// EXTUI, of op1 4 and 5.
+#[inline(always)]
 fn extui(t: u8, s: u8, r: u8, op1: u8, op2: u8) -> Option<Insn>
     requires t { t < 16 }
     requires s { s < 16 }
@@ -199,6 +205,7 @@ fn extui(t: u8, s: u8, r: u8, op1: u8, op2: u8) -> Option<Insn>
 }
 
 /// The opcode map LSC4, by op2.
+#[inline(always)]
 fn window(t: u8, s: u8, r: u8, op2: u8) -> Option<Insn>
     requires t { t < 16 }
     requires s { s < 16 }
@@ -214,6 +221,7 @@ fn window(t: u8, s: u8, r: u8, op2: u8) -> Option<Insn>
 }
 
 /// Values of op1 that spell nothing.
+#[inline(always)]
 fn empty_group(t: u8, s: u8, r: u8, op1: u8, op2: u8) -> Option<Insn>
     requires op1 { op1 ≡ 6 ⊎ (op1 ≡ 7 ⊎ (op1 ≡ 8 ⊎ (9 < op1 × op1 < 16))) }
     requires op2 { op2 < 16 }
@@ -227,6 +235,7 @@ fn empty_group(t: u8, s: u8, r: u8, op1: u8, op2: u8) -> Option<Insn>
 
 /// The opcode map QRST, by op1.
 #[tactic(auto)]
+#[inline(always)]
 pub fn qrst(t: u8, s: u8, r: u8, op1: u8, op2: u8) -> Option<Insn>
     requires t { t < 16 }
     requires s { s < 16 }

@@ -11,6 +11,7 @@ use xt_isa::shift::{NegName, NsaName, Shift, Ssa8Name, SsrName};
 use xt_isa::system::{BreakName, LevelName, ReturnName, SyncName, System, WaitName};
 
 /// The opcode map SNM0, with the words of JR and CALLX.
+#[inline(always)]
 fn snm0(t: u8, s: u8) -> Option<Insn>
     requires t { t < 16 }
     requires s { s < 16 }
@@ -30,6 +31,7 @@ fn snm0(t: u8, s: u8) -> Option<Insn>
 }
 
 /// The opcode map SYNC, by t.
+#[inline(always)]
 fn sync(t: u8, s: u8) -> Option<Insn>
     requires t { t < 16 }
     requires s { s < 16 }
@@ -52,6 +54,7 @@ fn sync(t: u8, s: u8) -> Option<Insn>
 }
 
 /// The opcode map RFEI, by t and s.
+#[inline(always)]
 fn rfei(t: u8, s: u8) -> Option<Insn>
     requires t { t < 16 }
     requires s { s < 16 }
@@ -77,6 +80,7 @@ fn rfei(t: u8, s: u8) -> Option<Insn>
 }
 
 /// The opcode map ST0, by r.
+#[inline(always)]
 pub fn st0(t: u8, s: u8, r: u8) -> Option<Insn>
     requires t { t < 16 }
     requires s { s < 16 }
@@ -109,6 +113,7 @@ pub fn st0(t: u8, s: u8, r: u8) -> Option<Insn>
 }
 
 /// The opcode map ST1, by r.
+#[inline(always)]
 pub fn st1(t: u8, s: u8, r: u8) -> Option<Insn>
     requires t { t < 16 }
     requires s { s < 16 }
@@ -135,6 +140,7 @@ pub fn st1(t: u8, s: u8, r: u8) -> Option<Insn>
 }
 
 /// The opcode map RT0, by s.
+#[inline(always)]
 pub fn rt0(t: u8, s: u8, r: u8) -> Option<Insn>
     requires t { t < 16 }
     requires s { s < 16 }

@@ -1,7 +1,2 @@
-pub mod Specials
-pub mod Quietly
-pub mod Fetches
-pub mod Plans
-pub mod Planning
-pub mod Driving
-pub mod Sends
+pub mod Turning
+pub mod Cursors

@@ -1,38 +1,86 @@
--- A core at work, and what a planned turn makes of it.
-use Rattle.std.specs.Prelude.{ℕ, List, [], ◌∷◌, ◌++◌}
+-- A core at work, and what its turns leave.
+use Rattle.std.specs.Prelude.{◌≡◌, ℕ, ◌+◌, ◌-◌, ◌<◌, Bool, true, false, ◌||◌, Option, Some, None, List, [], ◌++◌}
 use Rattle.xt_map.specs.declared.access.Access.{Access}
-use Rattle.xt_map.specs.declared.access.Kind.TheVariants.{Store}
-use Rattle.xt_map.specs.declared.access.Entry.{Entry}
-use Rattle.xt_map.specs.Regions.{uart_transmit}
+use Rattle.xt_map.specs.Regions.{is_mapped}
 use Rattle.xt_trace.specs.declared.record.StepRecord.{StepRecord}
-use Rattle.xt_core.specs.declared.actions.Action.{Action}
-use Rattle.xt_core.specs.declared.actions.Action.TheVariants.{Writes, Sends, Stops}
-use Rattle.xt_core.specs.declared.actions.Plan.{Plan}
-use Rattle.xt_core.specs.Quiet.{pc_past, regs_past, record_at}
+use Rattle.xt_trace.specs.declared.trace.Trace.{Trace}
+use Rattle.xt_trace.specs.Calls.{is_stop}
+use Rattle.xt_rows.specs.Laws.{IsRegister}
+use Rattle.xt_runs.specs.Schedule.{place_before}
+use Rattle.xt_runs.specs.Short.{ShortCore}
+use Rattle.xt_runs.specs.Traces.{stop_where}
+use Rattle.xt_runs.specs.Worlds.{left_past}
+use Rattle.xt_exec.specs.declared.plans.Pending.{Pending}
+use Rattle.xt_exec.specs.State.{State}
+use Rattle.xt_exec.specs.Turn.{demand, turn}
+use Rattle.xt_core.specs.declared.begin.Begin.{Begin}
+use Rattle.xt_core.specs.declared.begin.Begin.TheVariants as begin
+use Rattle.xt_core.specs.Turns.{Awaits}
 
-pub record CoreView : Type 0 where
-  pub pc : ℕ
-  pub regs : List ℕ
-  pub records : List StepRecord
-  pub entries : List Entry
+pub record CoreState : Type 0 where
+  -- its number, 0 or 1
+  pub core : ℕ
+  pub state : State
+  -- what waits for the reply to an access
+  pub waiting : Option Pending
+  -- the turns that are left: none after a Stop
+  pub left : ℕ
+  pub stopped : Bool
+  -- how many turns were made, and the numbers of those with an access
+  pub count : ℕ
+  pub places : List ℕ
+  -- for how many turns there is room
+  pub turns : ℕ
 
-abbrev pub opened : ℕ → List ℕ → CoreView
-opened pc regs = record { pc = pc; regs = regs; records = []; entries = [] }
+-- without what waits, it is a core that keeps no records
+abbrev pub short_of : CoreState → ShortCore State
+short_of k = record { state = k.state; left = k.left; count = k.count; places = k.places; stopped = k.stopped }
 
--- a store of this byte to the transmit address of UART0
-abbrev pub sent : ℕ → Access
-sent byte = record { addr = uart_transmit; size = 1; kind = Store byte }
+-- a core that opens in this state, with so many turns
+abbrev pub opened : ℕ → State → ℕ → CoreState
+opened core state turns = record { core = core; state = state; waiting = None; left = turns; stopped = false; count = 0; places = []; turns = turns }
 
--- what a turn adds to the history
-abbrev pub entries_of : Action → List Entry
-entries_of (Writes number value) = []
-entries_of (Sends byte) = record { core = 0; access = sent byte; reply = 0 } ∷ []
-entries_of Stops = []
-
-abbrev pub core_past : Plan → ℕ → CoreView → CoreView
-core_past p ccount c = record {
-  pc = pc_past p.action p.len c.pc;
-  regs = regs_past p.action c.regs;
-  records = c.records ++ record_at p ccount c.pc 0 ∷ [];
-  entries = c.entries ++ entries_of p.action;
+-- after a turn with this record
+abbrev pub kept : StepRecord → CoreState → CoreState
+kept r k = record k {
+  waiting = None;
+  left = left_past r (k.left - 1);
+  stopped = k.stopped || is_stop r.kind;
+  count = k.count + 1;
+  places = k.places ++ place_before r.access k.count [];
 }
+
+-- after a turn with this reply
+abbrev pub turned : (ℕ → ℕ) → ℕ → CoreState → CoreState
+turned code reply k = let t = turn code k.state reply in kept t.0 (record k { state = t.1 })
+
+-- the next turn asks for an access, and the core waits for the reply
+abbrev pub AwaitsReply : (ℕ → ℕ) → CoreState → Type 0
+AwaitsReply code k = (p : Pending) × (k.waiting ≡ Some p) × Awaits code k.state p
+
+pub record Asks (code : ℕ → ℕ) (before after : CoreState) (access : Access) : Type 0 where
+  pub left : 0 < before.left
+  pub asks : demand code before.state ≡ Some access
+  pub mapped : is_mapped access ≡ true
+  -- nothing has changed, but that the core waits
+  pub same : after ≡ record before { waiting = after.waiting }
+  pub awaits : AwaitsReply code after
+
+-- what a turn that begins does
+abbrev pub Begins : Begin → (ℕ → ℕ) → CoreState → CoreState → Type 0
+Begins begin.Ended code before after = (before.left ≡ 0) × (after ≡ before)
+Begins begin.Local code before after = (0 < before.left) × (demand code before.state ≡ None) × (after ≡ turned code 0 before)
+Begins (begin.Bus access) code before after = Asks code before after access
+
+-- the register that receives the reply exists, and there is a turn for it
+abbrev pub IsWaiting : Option Pending → ℕ → Type 0
+IsWaiting None left = Unit {0}
+IsWaiting (Some p) left = IsRegister p.target × (0 < left)
+
+-- what is kept of the turns that a core made
+abbrev pub trace_of : CoreState → Trace
+trace_of k = record { core = k.core; count = k.count; places = k.places; stop = stop_where k.stopped; pc = k.state.control.pc }
+
+-- the same core at another state, with so many turns left
+abbrev pub restarted : State → ℕ → CoreState → CoreState
+restarted state left k = record k { state = state; left = left; stopped = false; count = 0; places = [] }

@@ -1,5 +1,5 @@
 pub mod Runs
-pub mod Reach
-pub mod Quiet
 pub mod Cores
-pub mod Drives
+pub mod Cursors
+pub mod Fetches
+pub mod Turns

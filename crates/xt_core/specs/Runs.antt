@@ -1,15 +1,18 @@
 -- Runs of an image ('profile').
-use Rattle.std.specs.Prelude.{◌≡◌, ℕ, ◌-◌, List, [], ◌∷◌}
+use Rattle.std.specs.Prelude.{◌≡◌, ℕ, zero, suc, ◌-◌, List, [], ◌∷◌, length}
 use Rattle.xt_map.specs.declared.contents.MemoryContents.{MemoryContents}
 use Rattle.xt_map.specs.Memory.{constant_byte, opening_memory}
 use Rattle.xt_map.specs.History.{IsLegal, IsOfCores, calls_of, replies_of}
 use Rattle.xt_trace.specs.declared.options.Options.{Options}
+use Rattle.xt_trace.specs.declared.options.Stack.{Stack}
 use Rattle.xt_trace.specs.declared.trace.Trace.{Trace}
-use Rattle.xt_trace.specs.declared.trace.Stop.TheVariants as stop
 use Rattle.xt_trace.specs.declared.run.Run.{Run}
 use Rattle.xt_trace.specs.Calls.{calls_in}
+use Rattle.xt_trace.specs.Validity.{IsValid}
 use Rattle.xt_image.specs.declared.image.Image.{Image}
-use Rattle.xt_runs.specs.Traces.{trace_over, stop_of}
+use Rattle.xt_runs.specs.Schedule.{places_from}
+use Rattle.xt_runs.specs.Runs.{Opening}
+use Rattle.xt_runs.specs.Traces.{Traced, trace_over, stop_of}
 use Rattle.xt_exec.specs.State.{State, opening_state}
 use Rattle.xt_exec.specs.Chips.{processor}
 
@@ -25,32 +28,56 @@ stack_words o = (o.stack0.hi - 76, o.stack0.hi) ∷ (o.stack1.hi - 76, o.stack1.
 abbrev pub memory_of : Image → Options → MemoryContents
 memory_of image o = opening_memory image.segments (stack_words o)
 
--- the states in which the cores open: core 0 at the image's entry, core 1 at its own
-abbrev pub opening_of_0 : Image → Options → State
-opening_of_0 image o = opening_state 0 image.entry o.vecbase o.stack0.hi
+-- ---- how the cores open
 
-abbrev pub opening_of_1 : Image → Options → State
-opening_of_1 image o = opening_state 1 o.entry1 o.vecbase o.stack1.hi
+abbrev pub turns_of : ℕ → Options → ℕ
+turns_of zero o = o.turns0
+turns_of (suc n) o = o.turns1
 
--- a trace is the processor's from this state, with so many turns, over these replies
-pub record IsTraceOf (code : ℕ → ℕ) (s : State) (turns : ℕ) (replies : List ℕ) (t : Trace) : Type 0 where
-  pub steps : t.steps ≡ (trace_over (processor code) s turns replies).records
-  pub stop : t.stop ≡ stop_of t.steps
-  pub pc : t.pc ≡ (trace_over (processor code) s turns replies).last.control.pc
+abbrev pub stack_of : ℕ → Options → Stack
+stack_of zero o = o.stack0
+stack_of (suc n) o = o.stack1
 
--- A run is the image's: the history is legal from the opening memory, each core's trace is the processor's over the replies to that
--- core, and that core's accesses in the history are those of its trace, each once, in order.
-pub record IsRunOf (image : Image) (o : Options) (r : Run) : Type 0 where
-  pub options : r.options ≡ o
-  pub legal : IsLegal (memory_of image o) r.history
+-- core 0 begins at the image's entry, core 1 at its own
+abbrev pub entry_of : ℕ → Image → Options → ℕ
+entry_of zero image o = image.entry
+entry_of (suc n) image o = o.entry1
+
+-- the state in which a core opens at this address
+abbrev pub opening_at : ℕ → ℕ → Options → State
+opening_at core pc o = opening_state core pc o.vecbase (stack_of core o).hi
+
+abbrev pub opening_of : Image → Options → Opening State
+opening_of image o = record {
+  memory = memory_of image o;
+  state0 = opening_at 0 (entry_of 0 image o) o;
+  state1 = opening_at 1 (entry_of 1 image o) o;
+  turns0 = turns_of 0 o;
+  turns1 = turns_of 1 o;
+}
+
+-- ---- runs
+
+-- the records of a core's turns over the replies that the history has for it, and its last state
+abbrev pub records_of : ℕ → Image → Run → Traced State
+records_of core image r =
+    let o = r.options in trace_over (processor (code_of image)) (opening_at core (entry_of core image o) o) (turns_of core o) (replies_of core r.history)
+
+-- a trace of this core stands for these records
+pub record StandsFor (core : ℕ) (z : Traced State) (t : Trace) : Type 0 where
+  pub core_is : t.core ≡ core
+  pub count_is : t.count ≡ length z.records
+  pub places_are : t.places ≡ places_from 0 z.records
+  pub stop_is : t.stop ≡ stop_of z.records
+  pub pc_is : t.pc ≡ z.last.control.pc
+
+-- A run is the image's: its options are valid, the history is legal from the opening memory, each core's trace stands for the
+-- processor's over the replies to that core, and that core's accesses in the history are those of its trace, each once, in order.
+pub record IsRunOf (image : Image) (r : Run) : Type 0 where
+  pub valid : IsValid r.options
+  pub legal : IsLegal (memory_of image r.options) r.history
   pub cores : IsOfCores r.history
-  pub trace0 : IsTraceOf (code_of image) (opening_of_0 image o) o.turns0 (replies_of 0 r.history) r.trace0
-  pub trace1 : IsTraceOf (code_of image) (opening_of_1 image o) o.turns1 (replies_of 1 r.history) r.trace1
-  pub calls0 : calls_of 0 r.history ≡ calls_in r.trace0.steps
-  pub calls1 : calls_of 1 r.history ≡ calls_in r.trace1.steps
-
--- core 1 did nothing
-pub record IsOfCore0 (r : Run) : Type 0 where
-  pub history : calls_of 1 r.history ≡ []
-  pub steps : r.trace1.steps ≡ []
-  pub stop : r.trace1.stop ≡ stop.Turns
+  pub trace0 : StandsFor 0 (records_of 0 image r) r.trace0
+  pub trace1 : StandsFor 1 (records_of 1 image r) r.trace1
+  pub calls0 : calls_of 0 r.history ≡ calls_in (records_of 0 image r).records
+  pub calls1 : calls_of 1 r.history ≡ calls_in (records_of 1 image r).records

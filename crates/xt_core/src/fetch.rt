@@ -1,66 +1,43 @@
-ghost use Rattle.std.specs.Prelude.{◌≡◌, ◌+◌, ◌<◌, ◌^◌, true};
-ghost use Rattle.xt_isa.specs.Ranges.{in_range};
+ghost use Rattle.std.specs.Prelude.{◌≡◌, ◌+◌, ◌<◌, ◌^◌, true, None};
 ghost use Rattle.xt_isa.specs.Spelling.{length_of};
-ghost use Rattle.xt_map.specs.Regions.{region_of, is_constant, is_instruction_memory};
 ghost use Rattle.xt_map.specs.Memory.{constant_byte};
-ghost use Rattle.xt_rows.specs.Fetching.{fetched, Fetches};
-ghost use Rattle.xt_rows.specs.Numbers.{code_number};
-ghost use Rattle.xt_core.specs.Reach.{lies_in_iram};
-ghost use Rattle.xt_core.specs.Quiet.{FetchesFromIram};
+ghost use Rattle.xt_rows.specs.Fetching.{can_fetch, fetched, fetched_length, unfetchable};
+ghost use Rattle.xt_core.specs.Fetches.{IsFetched, read_at};
 
 use xt_codec::{Decoded, decode};
 use xt_isa::Insn;
 use xt_map::regions::Region;
 use xt_map::{Constants, region};
+use xt_rows::{code_byte, code_three};
 
-// Whether an address lies in the internal instruction memory.
+/// What the bytes at an address are.
+#[derive(Clone, Copy)]
+pub enum Fetch {
+    /// An instruction, and its length in bytes.
+    Insn(Insn, u8),
+    /// This is the first byte that cannot be fetched.
+    Fails(u32),
+    /// No instruction.
+    Nothing,
+}
+
+// Whether a byte can be fetched.
 #[tactic(auto, unfolding(xt_map::specs::Regions::region_of))]
-fn is_iram(addr: u32) -> bool
-    ensures test { result ≡ is_instruction_memory (region_of addr) }
-    ensures small { result ≡ true → addr + 4 < 2 ^ 31 }
+#[inline(always)]
+fn can_fetch(addr: u32) -> bool
+    ensures test { result ≡ can_fetch addr }
+    ensures small { result ≡ true → addr + 4 < 2 ^ 32 }
 {
-    match addr {
-        0x40070000..=0x4009FFFF => true,
+    match region(addr) {
+        Some(Region::Iram | Region::RtcFastCode | Region::Irom) => true,
         _ => false,
     }
 }
 
-// Whether so many bytes from an address on all lie in the internal instruction memory.
-pub fn lies_in_iram(addr: u32, len: u8) -> bool
-    ensures test { result ≡ lies_in_iram addr len }
-    ensures small { result ≡ true → 0 < len → addr + 4 < 2 ^ 31 }
-{
-    len == 0 || (is_iram(addr) && lies_in_iram(addr + 1, len - 1))
-}
-
-// The byte of the constant regions at an address, 0 elsewhere.
-#[tactic(auto, unfolding(xt_map::specs::Memory::constant_byte))]
-pub fn byte_of(code: &Constants, addr: u32) -> u8
-    ensures { result ≡ constant_byte code.now addr }
-{
-    match region(addr) {
-        Some(Region::Drom | Region::Iram | Region::RtcFastCode | Region::Irom) => code.byte(addr),
-        _ => 0,
-    }
-}
-
-// The little-endian word of the constant regions at an address.
-pub fn word_of(code: &Constants, addr: u32) -> u32
-    requires { addr + 4 < 2 ^ 32 }
-    ensures { result ≡ code_number (constant_byte code.now) addr 4 }
-{
-    u32::from_le_bytes([
-        byte_of(code, addr),
-        byte_of(code, addr + 1),
-        byte_of(code, addr + 2),
-        byte_of(code, addr + 3),
-    ])
-}
-
-// How many bytes an instruction with this first byte has.
-fn insn_length(b0: u8) -> u8
-    ensures length { result ≡ length_of b0 }
-    ensures bound { (1 < result) × (result < 4) }
+#[inline(always)]
+fn length_of(b0: u8) -> u8
+    ensures value { result ≡ length_of b0 }
+    ensures positive { 0 < result }
 {
     match b0 % 16 {
         8..=13 => 2,
@@ -68,21 +45,72 @@ fn insn_length(b0: u8) -> u8
     }
 }
 
-// The instruction at an address and its length in bytes, where its bytes lie in the internal
-// instruction memory and spell one.
-pub fn fetch(code: &Constants, pc: u32) -> Option<(Insn, u8)>
-    ensures { FetchesFromIram result (constant_byte code.now) pc }
+// How many bytes are fetched: the first, and then as many as it asks for.
+fn fetched_length(code: &Constants, pc: u32) -> u8
+    ensures value { result ≡ fetched_length (constant_byte code.now) pc }
+    ensures positive { 0 < result }
 {
-    if !is_iram(pc) {
+    if can_fetch(pc) {
+        length_of(code_byte(code, pc))
+    } else {
+        1
+    }
+}
+
+// The first of so many bytes from an address on that cannot be fetched.
+fn unfetchable(addr: u32, len: u8) -> Option<u32>
+    ensures value { result ≡ unfetchable addr len }
+    ensures small { result ≡ None → 0 < len → addr + 4 < 2 ^ 32 }
+{
+    if len == 0 {
         return None;
     }
-    let b0 = byte_of(code, pc);
-    let len = insn_length(b0);
-    if !lies_in_iram(pc, len) {
-        return None;
+    if !can_fetch(addr) {
+        return Some(addr);
     }
-    match decode(b0, byte_of(code, pc + 1), byte_of(code, pc + 2)) {
-        Decoded::Good(insn, _) => Some((insn, len)),
-        Decoded::Illegal => None,
+    unfetchable(addr + 1, len - 1)
+}
+
+// What the bytes at an address spell.
+#[inline(always)]
+fn spelled_at(code: &Constants, pc: u32) -> Fetch
+    requires { pc + 4 < 2 ^ 32 }
+    ensures { IsFetched result (read_at (constant_byte code.now) pc) }
+{
+    let (b0, b1, b2) = code_three(code, pc);
+    match decode(b0, b1, b2) {
+        Decoded::Good(insn, len) => Fetch::Insn(insn, len),
+        Decoded::Illegal => Fetch::Nothing,
+    }
+}
+
+// Whether an address and the two behind it can be fetched.
+#[tactic(auto, unfolding(xt_map::specs::Regions::region_of))]
+#[inline(always)]
+fn is_inside(pc: u32) -> bool
+    ensures first { result ≡ true → can_fetch pc ≡ true }
+    ensures second { result ≡ true → can_fetch (pc + 1) ≡ true }
+    ensures third { result ≡ true → can_fetch (pc + 2) ≡ true }
+    ensures small { result ≡ true → pc + 4 < 2 ^ 32 }
+{
+    match pc {
+        0x40070000..=0x4009FFFD => true,
+        0x400D0000..=0x403FFFFD => true,
+        _ => false,
+    }
+}
+
+/// The instruction at an address.
+#[tactic(auto, unfolding(xt_rows::specs::Fetching::fetched))]
+#[inline(always)]
+pub fn instruction_at(code: &Constants, pc: u32) -> Fetch
+    ensures { IsFetched result (fetched (constant_byte code.now) pc) }
+{
+    if is_inside(pc) {
+        return spelled_at(code, pc);
+    }
+    match unfetchable(pc, fetched_length(code, pc)) {
+        Some(addr) => Fetch::Fails(addr),
+        None => spelled_at(code, pc),
     }
 }

@@ -1,16 +1,16 @@
 //! The core: what one core does with an image.
-//!
-//! So far the core executes L32R, MOVI, S8I and BREAK, fetched and loaded from the internal
-//! instruction memory, with stores to the transmit address of UART0.
 #![tactic(auto)]
 
-mod actions;
+mod begin;
+mod begun;
+mod cores;
+mod cursor;
+mod ends;
 mod fetch;
-mod plan;
-mod run;
-mod state;
+mod record;
+mod replies;
+mod turn;
 
-pub use run::{RunFault, run_one};
-
-#[cfg(test)]
-mod tests;
+pub use begin::Begin;
+pub use cores::Core;
+pub use cursor::Cursor;

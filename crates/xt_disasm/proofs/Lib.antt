@@ -1,5 +1,5 @@
 pub mod Decoding
 pub mod Joined
-pub mod Named
+pub mod ReadBack
 pub mod Segmented
 pub mod Walks

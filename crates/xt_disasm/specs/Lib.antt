@@ -1,6 +1,4 @@
-pub mod Mnemonics
-pub mod Specials
-pub mod Operands
-pub mod Listing
-pub mod Shown
 pub mod Fronts
+pub mod Listing
+pub mod Operands
+pub mod Reading

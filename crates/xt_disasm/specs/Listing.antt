@@ -1,5 +1,5 @@
 -- The text of an instruction, and the listing of an image ('profile').
-use Rattle.std.specs.Prelude.{ℕ, zero, suc, ◌+◌, ◌%◌, ◌^◌, Bool, ◌&&◌, nat_le, if◌then◌else◌, Option, Some, None, List, [], ◌∷◌, ◌++◌, length, take, drop, slice_index_or, codes}
+use Rattle.std.specs.Prelude.{ℕ, zero, suc, ◌+◌, ◌%◌, ◌^◌, Bool, ◌&&◌, nat_le, if◌then◌else◌, Option, Some, None, List, [], ◌∷◌, ◌++◌, length, map, take, drop, slice_index_or, codes}
 use Rattle.std.specs.List.{concat, enumerate_from, flat_map, join_by}
 use Rattle.std.specs.Option.{option_map_or}
 use Rattle.std.specs.Fmt.{decimal}
@@ -12,8 +12,9 @@ use Rattle.xt_map.specs.declared.regions.Region.TheVariants.{Drom, Uart, RtcFast
 use Rattle.xt_map.specs.declared.segment.Segment.{Segment}
 use Rattle.xt_image.specs.declared.image.Image.{Image}
 use Rattle.xt_text.specs.Hexadecimal.{hex2, hex8}
-use Rattle.xt_disasm.specs.Mnemonics.{mnemonic}
-use Rattle.xt_disasm.specs.Operands.{operands}
+use Rattle.xt_names.specs.Names.{name_of}
+use Rattle.xt_names.specs.Parts.{mnemonic_in, parts_of}
+use Rattle.xt_disasm.specs.Operands.{operand_text, operands}
 
 -- ---- an instruction
 
@@ -24,7 +25,9 @@ arguments (x ∷ xs) = codes " " ++ join_by (λ y. y) (codes ", ") (x ∷ xs)
 
 -- the text of an instruction that stands at an address
 unfoldable pub insn_text : Insn → ℕ → List ℕ
-insn_text i pc = mnemonic i ++ arguments (operands i pc)
+insn_text i pc =
+    let parts = parts_of i in
+    name_of (mnemonic_in parts) ++ arguments (map operand_text (operands parts pc))
 
 -- ---- a walk over code
 

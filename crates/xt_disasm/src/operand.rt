@@ -3,12 +3,11 @@
 
 ghost use Rattle.std.specs.Prelude.{◌≡◌, ◌++◌, ◌∷◌, [], map, OnOk, string_bytes};
 ghost use Rattle.xt_disasm.specs.Listing.{arguments};
-ghost use Rattle.xt_disasm.specs.Shown.{shown};
+ghost use Rattle.xt_disasm.specs.Operands.{operand_text};
 
-use crate::special::special_name;
 use std::alloc::AllocError;
 use std::fmt::Write;
-use xt_isa::system::SpecialName;
+use xt_names::{Access, special_name};
 use xt_text::push_hex8;
 
 /// One operand of an instruction.
@@ -20,15 +19,13 @@ pub enum Operand {
     Number(i32),
     /// The address of a target.
     Target(u32),
-    /// A special register by its number, as this access names it.
-    Special(SpecialName, u8),
-    /// The user register THREADPTR.
-    Threadptr,
+    /// A special or user register by its number, as this access names it.
+    Special(Access, u8),
 }
 
 /// Appends an operand: `a3`, `-16`, `0x400D0000`, or the name of a register.
 fn push_operand(out: &mut String, operand: Operand) -> Result<(), AllocError>
-    ensures { OnOk result (string_bytes out.new ≡ string_bytes out.old ++ shown operand) }
+    ensures { OnOk result (string_bytes out.new ≡ string_bytes out.old ++ operand_text operand) }
 {
     match operand {
         Operand::Register(number) => write!(out, "a{number}"),
@@ -38,14 +35,13 @@ fn push_operand(out: &mut String, operand: Operand) -> Result<(), AllocError>
             push_hex8(out, address)
         }
         Operand::Special(access, number) => out.push_str(special_name(access, number)),
-        Operand::Threadptr => out.push_str("threadptr"),
     }
 }
 
 /// Appends the operands behind a mnemonic: a space, and the operands with `, ` between each two; nothing where there are
 /// none.
 pub fn push_operands(out: &mut String, operands: &[Operand]) -> Result<(), AllocError>
-    ensures { OnOk result (string_bytes out.new ≡ string_bytes out.old ++ arguments (map shown operands.now)) }
+    ensures { OnOk result (string_bytes out.new ≡ string_bytes out.old ++ arguments (map operand_text operands.now)) }
 {
     let Some((first, others)) = operands.split_first() else {
         return Ok(());

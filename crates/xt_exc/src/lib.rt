@@ -35,6 +35,7 @@ const LEVEL_3_BITS: u32 = 0x2000_8000;
 /// The level of the interrupt that is taken: the highest of those that are pending and enabled, where it exceeds the current level.
 /// In exception mode the current level is at least 3.
 #[tactic(auto, unfolding(xt_special::specs::Interrupts::pending_level))]
+#[inline(always)]
 pub fn pending(s: &Special) -> Option<u8>
     ensures value { result ≡ level_taken s.now }
     ensures range { IfSome result (λ level. (1 ≤ level) × (level ≤ 3)) }
@@ -59,6 +60,7 @@ pub fn pending(s: &Special) -> Option<u8>
 ///
 /// Condition: `cause` is below 64.
 #[tactic(auto, unfolding(xt_special::specs::Exceptions::after_exception))]
+#[inline(always)]
 pub fn general(s: &mut Special, pc: u32, cause: u8, addr: Option<u32>) -> u32
     requires { cause < 64 }
     ensures { (waits : Bool) → control_at result waits s.new ≡ after_exception cause addr (control_at pc waits s.old) }
@@ -88,6 +90,7 @@ pub fn general(s: &mut Special, pc: u32, cause: u8, addr: Option<u32>) -> u32
 ///
 /// Condition: `level` is 1 to 5.
 #[tactic(auto, unfolding(xt_special::specs::Interrupts::after_interrupt))]
+#[inline(always)]
 pub fn interrupt(s: &mut Special, pc: u32, level: u8) -> u32
     requires low { 1 ≤ level }
     requires high { level ≤ 5 }
@@ -109,6 +112,7 @@ pub fn interrupt(s: &mut Special, pc: u32, level: u8) -> u32
 /// Underflow4, Overflow8, Underflow8, Overflow12 and Underflow12.
 ///
 /// Conditions: `base` is below 16, and `vector` is below 6.
+#[inline(always)]
 pub fn window(s: &mut Special, pc: u32, base: u8, vector: u8) -> u32
     requires base { base < 16 }
     requires vector { vector < 6 }

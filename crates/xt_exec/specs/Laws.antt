@@ -1,5 +1,7 @@
 -- What is said of the turn as a whole.
-use Rattle.std.specs.Prelude.{◌≡◌, ℕ, ◌%◌, ◌^◌, ◌<◌, ◌≤◌, None, List, length, slice_index}
+use Rattle.std.specs.Prelude.{◌≡◌, ℕ, ◌%◌, ◌^◌, ◌<◌, ◌≤◌, true, Option, Some, None, List, length, slice_index}
+use Rattle.xt_map.specs.declared.access.Access.{Access}
+use Rattle.xt_map.specs.Regions.{is_mapped}
 use Rattle.xt_special.specs.Control.{Control}
 use Rattle.xt_special.specs.Shape.{IsPs, HasShape}
 use Rattle.xt_trace.specs.declared.record.StepRecord.{StepRecord}
@@ -59,3 +61,13 @@ OpensShaped =
     (core pc vecbase stack_end : ℕ)
     → IsWord pc → vecbase % 2 ^ 10 ≡ 0 → IsWord vecbase → 64 ≤ stack_end → IsWord stack_end
     → IsShaped (opening_state core pc vecbase stack_end)
+
+-- ---- what a turn asks for
+
+abbrev pub IsServed : Option Access → Type 0
+IsServed None = Unit {0}
+IsServed (Some a) = is_mapped a ≡ true
+
+-- it is an access that the bus serves
+abbrev pub DemandsAreServed : Type 0
+DemandsAreServed = (code : ℕ → ℕ) (s : State) → IsServed (demand code s)

@@ -1,4 +1,9 @@
 pub mod State
+pub mod States
 pub mod Turn
+pub mod Halves
 pub mod Laws
 pub mod Chips
+pub mod Finishing
+pub mod Ties
+pub mod Steps

@@ -22,7 +22,6 @@ use Rattle.xt_window.specs.Ring.{place, visible, bit, with_bit, without_bit, ahe
 use Rattle.xt_window.specs.Moves.{base_after_call, base_after_return, base_rotated, behind}
 use Rattle.xt_trace.specs.declared.record.StepKind.{StepKind}
 use Rattle.xt_trace.specs.declared.record.StepKind.TheVariants as kind
-use Rattle.xt_trace.specs.declared.record.RegWrite.{RegWrite}
 use Rattle.xt_trace.specs.declared.record.StepRecord.{StepRecord}
 use Rattle.xt_rows.specs.declared.outcome.Write.{Write}
 use Rattle.xt_rows.specs.declared.outcome.Awaited.{Awaited}
@@ -35,10 +34,10 @@ use Rattle.xt_rows.specs.declared.outcome.Outcome.{Outcome}
 use Rattle.xt_rows.specs.declared.outcome.Outcome.TheVariants.{Windowed}
 use Rattle.xt_rows.specs.Fetching.{Fetched, Fetches, Fails, SpellsNothing, fetched}
 use Rattle.xt_rows.specs.Operands.{named}
-use Rattle.xt_rows.specs.Numbers.{extended}
 use Rattle.xt_rows.specs.Effects.{illegal_instruction, fetch_error, no_caller_window, write_to}
 use Rattle.xt_rows.specs.Outcomes.{outcome_at}
-use Rattle.xt_rows.specs.Settling.{Kind, Executed, Raised, Taken, Waited, Stopped, Settled, after_flow, settled, settled_exception, settled_interrupt, settled_wait}
+use Rattle.xt_rows.specs.Settling.{Settled, after_flow, settled, settled_exception, settled_interrupt, settled_wait}
+pub use Rattle.xt_rows.specs.Settling.{kind_of, received, written, shown, return_size, return_pc}
 use Rattle.xt_exec.specs.State.{State}
 
 -- ---- what a turn makes before the reply to its access
@@ -52,13 +51,6 @@ pub record Planned : Type 0 where
   pub awaited : Option Awaited
   -- the state afterwards, but for the register that is written
   pub after : State
-
-abbrev pub kind_of : Kind → StepKind
-kind_of Executed = kind.Insn
-kind_of (Raised cause) = kind.Exc cause
-kind_of (Taken level) = kind.Interrupt level
-kind_of Waited = kind.Wait
-kind_of Stopped = kind.Stop
 
 -- a turn that moves no window
 abbrev pub in_window : Settled → State → Planned
@@ -118,14 +110,6 @@ unfoldable pub entered : ℕ → ℕ → ℕ → State → Planned
 entered number value len s =
     let base = base_after_call s.base s.control.ps.callinc in
     window_step (write_to number value) (record (falls len s) { base = base; start = with_bit s.start base })
-
--- by how many windows a return goes back: the top two bits of a0
-abbrev pub return_size : ℕ → ℕ
-return_size a0 = a0 / 2 ^ 30
-
--- where it goes: a0 has the low 30 bits
-abbrev pub return_pc : ℕ → ℕ → ℕ
-return_pc pc a0 = pc / 2 ^ 30 * 2 ^ 30 + a0 % 2 ^ 30
 
 -- RETW: where the caller's window is there, the callee's bit is cleared; where it is not, it is an underflow
 unfoldable pub returned : ℕ → State → Planned
@@ -212,17 +196,6 @@ unfoldable pub demand : (ℕ → ℕ) → State → Option Access
 demand code s = (planned code s).access
 
 -- ---- the reply
-
-abbrev pub received : Awaited → ℕ → Write
-received a reply = record { number = a.number; value = extended a.signed reply }
-
-abbrev pub written : Option Write → Option Awaited → ℕ → Option Write
-written write None reply = write
-written write (Some a) reply = Some (received a reply)
-
-abbrev pub shown : Option Write → Option RegWrite
-shown None = None
-shown (Some w) = Some (record { reg = w.number; value = w.value })
 
 -- the write goes to the window in which the turn ends
 abbrev pub with_write : Option Write → State → State

@@ -10,3 +10,5 @@ pub mod Standing
 pub mod Placement
 pub mod Plainness
 pub mod Ruled
+pub mod Capacity
+pub mod Opened

@@ -3,3 +3,4 @@ pub mod Rules
 pub mod Format
 pub mod Parts
 pub mod Plain
+pub mod Made

@@ -1,3 +1,4 @@
+-- For sources and sinks in memory, which tests use; nothing that a reader must believe.
 -- Which calls of a source or a sink in memory fail, and how they are counted (profile).
 use Rattle.std.specs.Prelude.{◌≡◌, ◌==◌, ℕ, Bool, List}
 use Rattle.std.specs.List.{list_any}

@@ -1,7 +1,7 @@
-//! That calls succeed, and what whole reads and writes come to where one of their calls fails.
+//! That calls succeed.
 use crate::{
-    Gate, MemSink, MemSource, OpenGate, ReadError, Refused, SafeSink, SafeSource, Sink, Source,
-    StdSink, StdSource, read_to_limit, write_all,
+    Gate, MemSink, MemSource, OpenGate, Refused, SafeSink, SafeSource, Sink, Source, StdSink,
+    StdSource, read_to_limit, write_all,
 };
 use std::test::Fail;
 
@@ -19,45 +19,6 @@ fn reads_and_writes_a_piece(rt: HostRuntime) -> Result<(), Fail> {
     assert_eq!(rt; sink.write(b""), Ok(0));
     assert_eq!(rt; sink.bytes(), b"twelv".as_slice());
     OpenGate.before(1, 0);
-    Ok(())
-}
-
-#[test]
-fn a_source_that_fails_gives_a_fault(rt: HostRuntime) -> Result<(), Fail> {
-    // Three calls for the bytes and one for their end.
-    for call in 0..4u64 {
-        let mut source = MemSource::make(rt.alloc(), TEXT, 5, &[call])?;
-        let fault = read_to_limit(rt.alloc(), &mut source, 100).err();
-        assert_eq!(rt; fault, Some(ReadError::Fault), "at call {call}");
-    }
-    let mut source = MemSource::make(rt.alloc(), TEXT, 5, &[4])?;
-    let whole = read_to_limit(rt.alloc(), &mut source, 100)?;
-    assert_eq!(rt; whole.as_slice(), TEXT);
-    Ok(())
-}
-
-#[test]
-fn a_source_past_the_limit_is_too_large(rt: HostRuntime) -> Result<(), Fail> {
-    let mut source = MemSource::make(rt.alloc(), TEXT, 5, &[])?;
-    let fault = read_to_limit(rt.alloc(), &mut source, 11).err();
-    assert_eq!(rt; fault, Some(ReadError::TooLarge));
-    let mut source = MemSource::make(rt.alloc(), TEXT, 5, &[])?;
-    let whole = read_to_limit(rt.alloc(), &mut source, 12)?;
-    assert_eq!(rt; whole.as_slice(), TEXT);
-    Ok(())
-}
-
-#[test]
-fn a_sink_that_fails_holds_a_prefix(rt: HostRuntime) -> Result<(), Fail> {
-    for (call, prefix) in [(0u64, ""), (1, "twelv"), (2, "twelve byt")] {
-        let mut sink = MemSink::make(rt.alloc(), 5, &[call])?;
-        let refused = write_all(&mut sink, TEXT).err();
-        assert_eq!(rt; refused, Some(Refused::Failed), "at call {call}");
-        assert_eq!(rt; sink.bytes(), prefix.as_bytes(), "at call {call}");
-    }
-    let mut sink = MemSink::make(rt.alloc(), 5, &[3])?;
-    write_all(&mut sink, TEXT)?;
-    assert_eq!(rt; sink.bytes(), TEXT);
     Ok(())
 }
 

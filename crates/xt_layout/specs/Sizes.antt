@@ -1,7 +1,7 @@
 -- How many bytes a statement takes ('profile').
-use Rattle.std.specs.Prelude.{ℕ, ◌+◌, ◌-◌, ◌*◌, ◌%◌, ◌^◌, ◌≤◌, ◌==◌, Bool, ◌&&◌, nat_le, List, [], ◌∷◌, length, slice_index, count_by, sum_by, if◌then◌else◌}
+use Rattle.std.specs.Prelude.{ℕ, ◌+◌, ◌-◌, ◌*◌, ◌%◌, ◌^◌, ◌≤◌, ◌==◌, Bool, List, [], ◌∷◌, length, count_by, sum_by, if◌then◌else◌}
 use Rattle.std.specs.List.{list_any}
-use Rattle.xt_lex.specs.declared.name.Name.{Name}
+use Rattle.xt_names.specs.Forms.{size_of}
 use Rattle.xt_parse.specs.declared.line.Line.{Line}
 use Rattle.xt_parse.specs.declared.statement.Statement.{Statement}
 use Rattle.xt_parse.specs.declared.statement.Statement.TheVariants.{Empty, Seg, Entry, Position, Literal, Words, Bytes, Ascii, Align, Insn}
@@ -15,10 +15,6 @@ padding n a = (n - a % n) % n
 abbrev pub is_alignment : ℕ → Bool
 is_alignment n = list_any (λ k. n == k) (1 ∷ 2 ∷ 4 ∷ 8 ∷ 16 ∷ 32 ∷ 64 ∷ 128 ∷ 256 ∷ 512 ∷ 1024 ∷ [])
 
--- a mnemonic of 16 bits: its last two bytes are `.n`
-abbrev pub is_narrow : Name → Bool
-is_narrow name = nat_le 2 (length name) && (slice_index name (length name - 2) == 46 && slice_index name (length name - 1) == 110)
-
 -- how many of the words stand in the pool at a place
 abbrev pub pool_size : List PoolWord → ℕ → ℕ
 pool_size words k = count_by (λ w. w.position == k) words
@@ -31,7 +27,7 @@ size pool a (Words values) = 4 * length values
 size pool a (Bytes values) = length values
 size pool a (Ascii bytes) = length bytes
 size pool a (Align n) = if is_alignment n then padding n a else 0
-size pool a (Insn name operands) = if is_narrow name then 2 else 3
+size pool a (Insn m operands) = size_of m
 size pool a Empty = 0
 size pool a (Seg start) = 0
 size pool a (Entry value) = 0

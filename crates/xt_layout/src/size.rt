@@ -1,7 +1,7 @@
 ghost use Rattle.std.specs.Prelude.{◌≡◌, ◌+◌, ◌*◌, ◌^◌, ◌<◌, ◌≤◌};
-ghost use Rattle.xt_layout.specs.Sizes.{padding, is_alignment, is_narrow, size, items};
+ghost use Rattle.xt_layout.specs.Sizes.{padding, is_alignment, size, items};
 
-use xt_lex::Name;
+use xt_names::is_narrow;
 use xt_parse::Statement;
 
 /// The zeros from an address up to a multiple of a number.
@@ -14,19 +14,10 @@ pub(crate) fn padding(n: u64, at: u64) -> u64
 }
 
 /// Whether a number is a power of two from 1 to 1024.
-fn is_alignment(n: u32) -> bool
+pub fn is_alignment(n: u32) -> bool
     ensures { result ≡ is_alignment n }
 {
     matches!(n, 1 | 2 | 4 | 8 | 16 | 32 | 64 | 128 | 256 | 512 | 1024)
-}
-
-/// Whether a mnemonic is one of 16 bits: it ends in `.n`.
-fn is_narrow(name: &Name) -> bool
-    ensures { result ≡ is_narrow name.now }
-{
-    let bytes = name.as_slice();
-    let n = bytes.len();
-    n >= 2 && bytes[n - 2] == b'.' && bytes[n - 1] == b'n'
 }
 
 /// The bytes that a statement takes at an address, where the pool at its place has so many words.
@@ -49,7 +40,7 @@ pub(crate) fn size(pool: u64, at: u64, statement: &Statement) -> u64
                 0
             }
         }
-        Statement::Insn(name, _) => { if is_narrow(name) { 2 } else { 3 } }
+        Statement::Insn(mnemonic, _) => { if is_narrow(*mnemonic) { 2 } else { 3 } }
         Statement::Empty | Statement::Seg(_) | Statement::Entry(_) | Statement::Literal(..) => 0,
     }
 }

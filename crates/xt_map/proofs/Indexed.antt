@@ -1,5 +1,5 @@
 -- Looking up an address in the starts of the segments.
-use Rattle.std.proofs.Common.{◌≡◌, ℕ, ◌-◌, ◌<◌, ◌≤◌, true, List, [], length, get_or, Option, Some, None, ⊎_elim, refl, sym, ap, ap₂, ◌∙◌, arith, find}
+use Rattle.std.proofs.Common.{◌≡◌, ℕ, ◌+◌, ◌-◌, ◌<◌, ◌≤◌, true, List, [], length, get_or, Option, Some, None, ⊎_elim, refl, sym, ap, ap₂, ◌∙◌, arith, find}
 use Rattle.std.specs.Prelude.{slice_index, nat_lt}
 use Rattle.std.specs.List.Sorted.{IsPermutation}
 use Rattle.std.specs.Option.{option_map_or}
@@ -128,3 +128,33 @@ none_found segments starts a count e d bytes ix upto some is le constant =
     omega arith in
     let nothing : find (holds_address a) segments ≡ None = find_none (holds_address a) segments d misses in
     sym (ap (found_byte a) nothing) ∙ sym (constant_is_loaded segments a constant)
+
+-- the segment of the last start up to an address holds every address behind it, up to the segment's end
+pub found_from : (segments : List Segment) (starts : List Start) (a b count : ℕ) (e : Start) (d : Segment) (bytes : List ℕ) → IsIndexed segments starts → IsCountUpto starts a count → 0 < count
+    → bytes ≡ (get_or segments (get_or starts (count - 1) e).number d).bytes → a ≤ b → b - (get_or starts (count - 1) e).addr < length bytes
+    → is_constant (region_of b) ≡ true → slice_index bytes (b - (get_or starts (count - 1) e).addr) ≡ constant_byte segments b
+found_from segments starts a b count e d bytes ix upto some is le lt constant =
+    let t = get_or starts (count - 1) e in
+    let names = named segments starts a count e ix upto some in
+    let here = get_or segments t.number d in
+    let addr : t.addr ≡ here.addr = names.addr d in
+    let size : length bytes ≡ length here.bytes = ap (λ (b : List ℕ). length b) is in
+    let before : t.addr ≤ a = upto.upto (count - 1) e (omega arith) in
+    let held : Holds b here = record { loaded = (and_parts (is_loaded here) (nat_lt 0 (length here.bytes)) (names.loaded d)).0; begins = omega arith; ends = omega arith } in
+    let found : find (holds_address b) segments ≡ Some here =
+    find_only (holds_address b) segments t.number d names.number (holds_from b here held)
+    (λ j l h. only_one segments b j t.number d ix.placed l names.number (holds_parts b _ h) held) in
+    ap₂ (λ (x : List ℕ) n. slice_index x (b - n)) is addr ∙ sym (ap (found_byte b) found) ∙ sym (constant_is_loaded segments b constant)
+
+-- the same, by the place in the segment
+pub found_behind : (segments : List Segment) (starts : List Start) (a k count : ℕ) (e : Start) (d : Segment) (bytes : List ℕ) → IsIndexed segments starts → IsCountUpto starts a count → 0 < count
+    → bytes ≡ (get_or segments (get_or starts (count - 1) e).number d).bytes → a - (get_or starts (count - 1) e).addr + k < length bytes
+    → is_constant (region_of (a + k)) ≡ true → slice_index bytes (a - (get_or starts (count - 1) e).addr + k) ≡ constant_byte segments (a + k)
+found_behind segments starts a k count e d bytes ix upto some is lt constant =
+    let t = get_or starts (count - 1) e in
+    let before : t.addr ≤ a = upto.upto (count - 1) e (omega arith) in
+    let same : a - t.addr + k ≡ a + k - t.addr = omega arith in
+    ap (slice_index bytes) same ∙ found_from segments starts a (a + k) count e d bytes ix upto some is (omega arith) (omega arith) constant
+
+pub three_same : (a b c x y z : ℕ) → a ≡ x → b ≡ y → c ≡ z → ◌≡◌ {A = ℕ × ℕ × ℕ} (a, b, c) (x, y, z)
+three_same a b c x y z p q r = ap (λ n. (n, b, c)) p ∙ ap (λ n. (x, n, c)) q ∙ ap (λ n. (x, y, n)) r

@@ -4,3 +4,5 @@ pub mod Placed
 pub mod Ranged
 pub mod Sent
 pub mod Stored
+pub mod Alike
+pub mod Small

@@ -1,3 +1,4 @@
+-- Carries a proof; nothing that a reader must believe.
 -- How the contents of the constant regions are found: by a list of where segments start, in the order of the addresses.
 use Rattle.std.specs.Prelude.{◌≡◌, ℕ, ◌<◌, ◌≤◌, Bool, true, ◌&&◌, nat_lt, List, length, slice_index_or, All}
 use Rattle.std.specs.List.{Contains}

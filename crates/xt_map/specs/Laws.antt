@@ -1,3 +1,4 @@
+-- States laws that are proved; nothing that a reader must believe.
 -- Laws of memory and of histories. Each is the contract of a function of src/laws.rt.
 use Rattle.std.specs.Prelude.{◌≡◌, ◌≢◌, ℕ, ◌+◌, ◌<◌, ◌≤◌, true, ◌==◌, if◌then◌else◌, ◌⊎◌, ◌↔◌, Some, List, [], ◌∷◌, ◌++◌, length}
 use Rattle.xt_map.specs.declared.regions.Region.{Region}

@@ -5,3 +5,4 @@ pub mod Index
 pub mod Serving
 pub mod History
 pub mod Laws
+pub mod Touching

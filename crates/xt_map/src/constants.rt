@@ -1,4 +1,4 @@
-ghost use Rattle.std.specs.Prelude.{◌≡◌, true, length, IfOk, OnOk};
+ghost use Rattle.std.specs.Prelude.{◌≡◌, ◌+◌, ◌<◌, ◌^◌, true, length, IfOk, IfSome, OnOk};
 ghost use Rattle.xt_map.specs.Regions.{is_constant, region_of};
 ghost use Rattle.xt_map.specs.Memory.{constant_byte};
 ghost use Rattle.xt_map.specs.Placing.{IsPlaced};
@@ -97,6 +97,7 @@ fn sorted_starts_of(alloc: Global, segments: &[Segment]) -> Result<Vec<Start>, A
 }
 
 // How many of the starts have an address up to this one.
+#[inline(always)]
 fn count_upto(starts: &[Start], addr: u32) -> usize
     requires { IsNonDecreasingBy (λ (s : Start). s.addr) starts.now }
     ensures { IsCountUpto starts.now addr result }
@@ -105,6 +106,7 @@ fn count_upto(starts: &[Start], addr: u32) -> usize
 }
 
 // The byte that a loaded segment has at an address of a constant region, else 0.
+#[inline(always)]
 fn byte_in(segments: &[Segment], starts: &[Start], addr: u32) -> u8
     requires constant { is_constant (region_of addr) ≡ true }
     requires indexed { IsIndexed segments.now starts.now }
@@ -120,8 +122,31 @@ fn byte_in(segments: &[Segment], starts: &[Start], addr: u32) -> u8
     if place < bytes.len() { bytes[place] } else { 0 }
 }
 
+// Three bytes of a segment, where it has them from an address on.
+#[inline(always)]
+fn three_in(segments: &[Segment], starts: &[Start], addr: u32) -> Option<(u8, u8, u8)>
+    requires first { is_constant (region_of addr) ≡ true }
+    requires second { is_constant (region_of (addr + 1)) ≡ true }
+    requires third { is_constant (region_of (addr + 2)) ≡ true }
+    requires indexed { IsIndexed segments.now starts.now }
+    ensures { IfSome result (λ r. r ≡ (constant_byte segments.now addr, constant_byte segments.now (addr + 1), constant_byte segments.now (addr + 2))) }
+{
+    let count = count_upto(starts, addr);
+    if count == 0 {
+        return None;
+    }
+    let start = starts[count - 1];
+    let bytes = segments[start.number].bytes.as_slice();
+    let place = (addr - start.addr) as usize;
+    if place < bytes.len() && 2 < bytes.len() - place {
+        Some((bytes[place], bytes[place + 1], bytes[place + 2]))
+    } else {
+        None
+    }
+}
+
 impl Constants {
-    /// Copies what the segments load. The only error is want of memory.
+    /// Copies what the segments load. The only error is too little memory.
     ///
     /// Each segment that is loaded and has a byte lies in one region other than UART0, and no two
     /// of them share a byte; `are_placed` tests this.
@@ -137,10 +162,26 @@ impl Constants {
     /// The byte at an address of a constant region: what a loaded segment has there, else 0.
     ///
     /// It is found in a time that grows with the logarithm of the number of segments.
+    #[inline(always)]
     pub fn byte(&self, addr: u32) -> u8
         requires { is_constant (region_of addr) ≡ true }
         ensures { result ≡ constant_byte self.now addr }
     {
         byte_in(&self.segments, &self.starts, addr)
+    }
+
+    /// Three bytes from an address on, all of constant regions. They are found by one search.
+    #[inline(always)]
+    pub fn three(&self, addr: u32) -> (u8, u8, u8)
+        requires first { is_constant (region_of addr) ≡ true }
+        requires second { is_constant (region_of (addr + 1)) ≡ true }
+        requires third { is_constant (region_of (addr + 2)) ≡ true }
+        requires place { addr + 2 < 2 ^ 32 }
+        ensures { result ≡ (constant_byte self.now addr, constant_byte self.now (addr + 1), constant_byte self.now (addr + 2)) }
+    {
+        match three_in(&self.segments, &self.starts, addr) {
+            Some(bytes) => bytes,
+            None => (self.byte(addr), self.byte(addr + 1), self.byte(addr + 2)),
+        }
     }
 }

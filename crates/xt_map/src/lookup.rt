@@ -5,6 +5,7 @@ use crate::regions::Region;
 
 /// The region that an address lies in, or none outside the memory map.
 #[tactic(auto, unfolding(crate::specs::Regions::region_of))]
+#[inline(always)]
 pub fn region(addr: u32) -> Option<Region>
     ensures { result ≡ region_of addr }
 {

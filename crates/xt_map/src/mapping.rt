@@ -6,6 +6,7 @@ use crate::lookup::region;
 use crate::regions::Region;
 
 // A stored value has no more bytes than the access, and a compare-and-swap is of a word.
+#[inline(always)]
 fn does_kind_fit(kind: Kind, size: u8) -> bool
     requires { size ≤ 4 }
     ensures { result ≡ kind_fits kind size }
@@ -17,6 +18,7 @@ fn does_kind_fit(kind: Kind, size: u8) -> bool
     }
 }
 
+#[inline(always)]
 fn does_uart_take(kind: Kind) -> bool
     ensures { result ≡ uart_takes kind }
 {
@@ -26,6 +28,7 @@ fn does_uart_take(kind: Kind) -> bool
     }
 }
 
+#[inline(always)]
 fn is_in_memory(addr: u32) -> bool
     ensures { result ≡ is_memory (region_of addr) }
 {
@@ -38,6 +41,7 @@ fn is_in_memory(addr: u32) -> bool
 /// Whether the bus serves an access: an aligned load, store or compare-and-swap of 1, 2 or 4 bytes
 /// (4 for a compare-and-swap) in a memory region, or a load or store at one of the two addresses
 /// of UART0, with a stored value that fits the size.
+#[inline(always)]
 pub fn mapped(a: &Access) -> bool
     ensures { result ≡ is_mapped a.now }
 {

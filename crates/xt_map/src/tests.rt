@@ -1,9 +1,6 @@
-//! The memory map's addresses as the ESP32 Technical Reference Manual has them, and round trips.
+//! The memory map's addresses as the ESP32 Technical Reference Manual has them.
 use crate::regions::Region;
-use crate::{
-    Access, Bytes, Constants, Entry, History, Kind, Segment, Segments, Text, are_placed, mapped,
-    region,
-};
+use crate::{Access, Bytes, Constants, Kind, Segment, are_placed, mapped, region};
 use std::alloc::Global;
 use std::test::Fail;
 
@@ -162,69 +159,5 @@ fn places_of_segments(rt: HostRuntime) -> Result<(), Fail> {
         segments.push(segment(alloc, other, &[2; 8][..other_size.min(8)])?)?;
         assert_eq!(rt; are_placed(&segments), want, "at {one} and {other}");
     }
-    Ok(())
-}
-
-#[test]
-fn bytes_round_trip(rt: HostRuntime) -> Result<(), Fail> {
-    let alloc = rt.alloc();
-    let bytes = Bytes::new(Vec::from_slice(alloc, &[1, 2, 3])?);
-    assert_eq!(rt; bytes.len(), 3);
-    assert_eq!(rt; bytes.is_empty(), false);
-    assert_eq!(rt; bytes.as_slice(), [1, 2, 3].as_slice());
-    assert_eq!(rt; bytes.into_vec().as_slice(), [1, 2, 3].as_slice());
-    assert_eq!(rt; Bytes::new(Vec::new(alloc)).is_empty(), true);
-    Ok(())
-}
-
-#[test]
-fn text_round_trip(rt: HostRuntime) -> Result<(), Fail> {
-    let alloc = rt.alloc();
-    let text = Text::new(Vec::from_slice(alloc, b"a0 <- 1")?);
-    assert_eq!(rt; text.len(), 7);
-    assert_eq!(rt; text.is_empty(), false);
-    assert_eq!(rt; text.as_slice(), b"a0 <- 1".as_slice());
-    assert_eq!(rt; text.into_vec().as_slice(), b"a0 <- 1".as_slice());
-    assert_eq!(rt; Text::new(Vec::new(alloc)).is_empty(), true);
-    Ok(())
-}
-
-#[test]
-fn segments_round_trip(rt: HostRuntime) -> Result<(), Fail> {
-    let alloc = rt.alloc();
-    let mut items = Vec::new(alloc);
-    items.push(segment(alloc, 0x40080400, &[1])?)?;
-    items.push(segment(alloc, 0x3FFB0000, &[2, 3])?)?;
-    let segments = Segments::new(items);
-    assert_eq!(rt; segments.len(), 2);
-    let last = segments.as_slice().last().ok_or("a segment")?;
-    assert_eq!(rt; last.addr, 0x3FFB0000);
-    assert_eq!(rt; last.bytes.as_slice(), [2, 3].as_slice());
-    Ok(())
-}
-
-#[test]
-fn history_round_trip(rt: HostRuntime) -> Result<(), Fail> {
-    let alloc = rt.alloc();
-    let access = Access {
-        addr: 0x3FFAE000,
-        size: 4,
-        kind: Kind::Load,
-    };
-    let entries = [
-        Entry {
-            core: 0,
-            access,
-            reply: 0,
-        },
-        Entry {
-            core: 1,
-            access,
-            reply: 5,
-        },
-    ];
-    let history = History::new(Vec::from_slice(alloc, &entries)?);
-    assert_eq!(rt; history.len(), 2);
-    assert_eq!(rt; history.as_slice(), entries.as_slice());
     Ok(())
 }

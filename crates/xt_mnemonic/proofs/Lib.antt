@@ -9,5 +9,4 @@ pub mod EncodingShift
 pub mod EncodingSystem
 pub mod EncodingThree
 pub mod EncodingWords
-pub mod WordLemmas
 pub mod WordLengths

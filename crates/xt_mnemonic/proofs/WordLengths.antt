@@ -13,7 +13,8 @@ use Rattle.xt_isa.specs.Apart.{AllRows, HasItsLength}
 use Rattle.xt_isa.specs.Spelling.{Row, all_rows, can_exchange, can_read, can_write, eight, fits, five, length_of, nibble, spell, spelled}
 use Rattle.xt_isa.proofs.ApartRows.{agrees_all}
 use Rattle.xt_isa.proofs.WholeWord.{rows_have_their_length}
-use Rattle.xt_mnemonic.specs.Lengths.{HasLength, insn_size}
+use Rattle.xt_names.specs.Insns.{insn_size}
+use Rattle.xt_mnemonic.specs.Lengths.{HasLength}
 
 -- what a row makes of a word, if anything, has so many bytes
 abbrev is_sized : ℕ → Option Insn → Bool

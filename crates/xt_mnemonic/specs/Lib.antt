@@ -1,7 +1,5 @@
 pub mod Bytes
 pub mod Encodings
 pub mod Lengths
+pub mod Making
 pub mod Operands
-pub mod Rows
-pub mod Shown
-pub mod Specials

@@ -4,20 +4,13 @@
 //! this project's own ('profile').
 #![tactic(auto)]
 
-mod access;
 mod argument;
-mod build;
-mod form;
 pub mod laws;
 mod making;
 mod operands;
-mod special;
-mod table;
 
-pub use access::{Access, access_of};
 pub use argument::{Argument, OperandFault};
 pub use making::instruction;
-pub use special::special_number;
 
 #[cfg(test)]
 mod tests;

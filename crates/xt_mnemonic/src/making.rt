@@ -1,28 +1,20 @@
 ghost use Rattle.std.specs.Prelude.{◌≡◌, pos, ◌^◌, ◌≤ℤ◌, ◌<ℤ◌, true, IfOk};
 ghost use Rattle.xt_isa.specs.Ranges.{in_range};
-ghost use Rattle.xt_mnemonic.specs.Lengths.{HasLength, insn_size, size_of};
+ghost use Rattle.xt_names.specs.Forms.{size_of};
+ghost use Rattle.xt_names.specs.Parts.{mnemonic_in};
+ghost use Rattle.xt_mnemonic.specs.Lengths.{HasLength};
+ghost use Rattle.xt_mnemonic.specs.Making.{checked, instruction_of, parts_in};
 ghost use Rattle.xt_mnemonic.specs.Operands.{from_call, from_literal, from_next};
-ghost use Rattle.xt_mnemonic.specs.Rows.{checked, instruction_of};
-ghost use Rattle.xt_mnemonic.specs.Shown.{built, built_target, form_size, target_size};
 
 use crate::argument::{Argument, OperandFault};
-use crate::build::{
-    of_number, of_one, of_one_and_number, of_one_and_special, of_one_and_target,
-    of_one_number_and_target, of_three, of_two, of_two_and_number, of_two_and_target,
-};
-use crate::form::{Form, Target};
 use crate::operands::{
     call_in, literal_in, none_in, number_in, one_and_number_in, one_and_special_in,
     one_and_two_numbers_in, one_in, three_in, two_and_number_in, two_and_two_numbers_in, two_in,
     two_numbers_in,
 };
-use crate::table::form_of;
 use xt_encode::fields_of;
 use xt_isa::Insn;
-use xt_isa::control::Control;
-use xt_isa::memory::Memory;
-use xt_isa::shift::Shift;
-use xt_isa::system::{BreakName, System};
+use xt_names::{Mnemonic, Parts, insn_of};
 
 /// Where the target of a jump, a branch or a loop is counted from: its address + 4.
 fn from_next(address: i64) -> i64
@@ -63,110 +55,65 @@ fn checked(i: Insn) -> Result<Insn, OperandFault>
     }
 }
 
-/// What the operands make of a form with a target, whether or not each is in its range.
-fn built_target(form: Target, address: i64, arguments: &[Argument]) -> Result<Insn, OperandFault>
+/// The parts that a mnemonic and its operands make, whether or not each operand is in its range.
+#[tactic(auto, unfolding(crate::specs::Making::parts_in))]
+fn parts_in(mnemonic: Mnemonic, address: i64, arguments: &[Argument]) -> Result<Parts, OperandFault>
     requires least { pos 0 ≤ℤ address }
     requires most { address <ℤ pos (2 ^ 40) }
-    ensures value { result ≡ built_target form address arguments.now }
-    ensures size { IfOk result (λ i. insn_size i ≡ target_size form) }
+    ensures value { result ≡ parts_in mnemonic address arguments.now }
+    ensures same { IfOk result (λ p. mnemonic_in p ≡ mnemonic) }
 {
-    match form {
-        Target::Jump => {
-            let offset = number_in(from_next(address), arguments)?;
-            Ok(Insn::Control(Control::J(offset)))
-        }
-        Target::Call(name) => {
-            let offset = call_in(from_call(address), arguments)?;
-            Ok(Insn::Control(Control::Call0(name, offset)))
-        }
-        Target::Literal => {
-            let (t, offset) = literal_in(from_literal(address), arguments)?;
-            Ok(Insn::Memory(Memory::L32r(t, offset)))
-        }
-        Target::One(name) => {
-            let (s, offset) = one_and_number_in(from_next(address), arguments)?;
-            Ok(of_one_and_target(name, s, offset))
-        }
-        Target::OneAndNumber(name) => {
-            let (s, n, offset) = one_and_two_numbers_in(from_next(address), arguments)?;
-            Ok(of_one_number_and_target(name, s, n, offset))
-        }
-        Target::Two(name) => {
-            let (s, t, offset) = two_and_number_in(from_next(address), arguments)?;
-            Ok(of_two_and_target(name, s, t, offset))
-        }
-    }
-}
-
-/// What the operands make of a mnemonic's form, whether or not each is in its range.
-fn built(form: Form, address: i64, arguments: &[Argument]) -> Result<Insn, OperandFault>
-    requires least { pos 0 ≤ℤ address }
-    requires most { address <ℤ pos (2 ^ 40) }
-    ensures value { result ≡ built form address arguments.now }
-    ensures size { IfOk result (λ i. insn_size i ≡ form_size form) }
-{
-    match form {
-        Form::Nothing(i) => {
+    let next = from_next(address);
+    Ok(match mnemonic {
+        Mnemonic::Nothing(name) => {
             none_in(arguments)?;
-            Ok(i)
+            Parts::Nothing(name)
         }
-        Form::One(name) => Ok(of_one(name, one_in(arguments)?)),
-        Form::Two(name) => {
-            let (a, b) = two_in(arguments)?;
-            Ok(of_two(name, a, b))
+        Mnemonic::One(name) => Parts::One(name, one_in(arguments)?),
+        Mnemonic::Two(name) => Parts::Two(name, two_in(arguments)?),
+        Mnemonic::Three(name) => Parts::Three(name, three_in(arguments)?),
+        Mnemonic::Number(name) => Parts::Number(name, number_in(0, arguments)?),
+        Mnemonic::Break => Parts::Break(two_numbers_in(arguments)?),
+        Mnemonic::OneAndNumber(name) => Parts::OneAndNumber(name, one_and_number_in(0, arguments)?),
+        Mnemonic::TwoAndNumber(name) => Parts::TwoAndNumber(name, two_and_number_in(0, arguments)?),
+        Mnemonic::Extui => Parts::Extui(two_and_two_numbers_in(arguments)?),
+        Mnemonic::OneAndSpecial(name) => Parts::OneAndSpecial(name, one_and_special_in(arguments)?),
+        Mnemonic::Jump => Parts::Jump(number_in(next, arguments)?),
+        Mnemonic::Call(name) => Parts::Call(name, call_in(from_call(address), arguments)?),
+        Mnemonic::Literal => Parts::Literal(literal_in(from_literal(address), arguments)?),
+        Mnemonic::OneAndTarget(name) => {
+            Parts::OneAndTarget(name, one_and_number_in(next, arguments)?)
         }
-        Form::Three(name) => {
-            let (r, s, t) = three_in(arguments)?;
-            Ok(of_three(name, r, s, t))
+        Mnemonic::OneNumberAndTarget(name) => {
+            Parts::OneNumberAndTarget(name, one_and_two_numbers_in(next, arguments)?)
         }
-        Form::Number(name) => Ok(of_number(name, number_in(0, arguments)?)),
-        Form::Break => {
-            let (x, y) = two_numbers_in(arguments)?;
-            Ok(Insn::System(System::Break(BreakName::Break, x, y)))
+        Mnemonic::TwoAndTarget(name) => {
+            Parts::TwoAndTarget(name, two_and_number_in(next, arguments)?)
         }
-        Form::OneAndNumber(name) => {
-            let (s, n) = one_and_number_in(0, arguments)?;
-            Ok(of_one_and_number(name, s, n))
-        }
-        Form::TwoAndNumber(name) => {
-            let (a, b, n) = two_and_number_in(0, arguments)?;
-            Ok(of_two_and_number(name, a, b, n))
-        }
-        Form::Extui => {
-            let (r, t, n, w) = two_and_two_numbers_in(arguments)?;
-            Ok(Insn::Shift(Shift::Extui(r, t, n, w)))
-        }
-        Form::OneAndSpecial(name) => {
-            let (t, n) = one_and_special_in(arguments)?;
-            Ok(of_one_and_special(name, t, n))
-        }
-        Form::Target(form) => built_target(form, address, arguments),
-    }
+    })
 }
 
-/// The instruction of a mnemonic in lower case, with its operands in the order of the text, at an address. A target is given
-/// by its address, and the instruction keeps its offset.
+/// The instruction of a mnemonic, with its operands in the order of the text, at an address. A target is given by its
+/// address, and the instruction keeps its offset.
 ///
 /// Errors: `Misaligned` where the target of a call or the address of an L32R's literal is no multiple of 4, `OutOfReach`
 /// where that literal is not within reach, and `Range` for every other operand outside its range. A call's target out of
-/// reach is `Range`, also where it is no multiple of 4. No such mnemonic, and operands of another form, are `Range`.
+/// reach is `Range`, also where it is no multiple of 4. Operands of another form are `Range`.
 ///
 /// Condition: the address is 0 to 2^40 - 1.
+#[tactic(auto, unfolding(crate::specs::Making::instruction_of))]
 pub fn instruction(
-    mnemonic: &[u8],
+    mnemonic: Mnemonic,
     arguments: &[Argument],
     address: i64,
 ) -> Result<Insn, OperandFault>
     requires least { pos 0 ≤ℤ address }
     requires most { address <ℤ pos (2 ^ 40) }
-    ensures value { result ≡ instruction_of mnemonic.now arguments.now address }
+    ensures value { result ≡ instruction_of mnemonic arguments.now address }
     ensures fits { IfOk result (λ i. in_range i ≡ true) }
 
-    // Every word that spells the instruction has 2 bytes where the mnemonic ends in `.n`, else 3.
-    ensures length { IfOk result (λ i. HasLength i (size_of mnemonic.now)) }
+    // Every word that spells the instruction has 2 bytes where the mnemonic is one of 16 bits, else 3.
+    ensures length { IfOk result (λ i. HasLength i (size_of mnemonic)) }
 {
-    match form_of(mnemonic) {
-        Some(form) => checked(built(form, address, arguments)?),
-        None => Err(OperandFault::Range),
-    }
+    checked(insn_of(parts_in(mnemonic, address, arguments)?))
 }

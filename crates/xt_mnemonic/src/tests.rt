@@ -2,9 +2,10 @@
 
 use crate::Argument::{Register, Special, Value};
 use crate::OperandFault::{Misaligned, OutOfReach, Range};
-use crate::{Access, Argument, OperandFault, access_of, instruction, special_number};
+use crate::{Argument, OperandFault, instruction};
 use std::test::Fail;
 use xt_encode::fields_of;
+use xt_names::mnemonic_of;
 
 /// A mnemonic, its operands, the address, and the bytes of the word; the third is 0 where there are two.
 type Word = (&'static str, &'static [Argument], u32, [u8; 3]);
@@ -187,7 +188,8 @@ static WORDS: [Word; 37] = [
 #[test]
 fn mnemonics_are_their_words(rt: HostRuntime) -> Result<(), Fail> {
     for (mnemonic, arguments, address, bytes) in &WORDS {
-        let i = instruction(mnemonic.as_bytes(), arguments, *address as i64)
+        let mnemonic = mnemonic_of(mnemonic.as_bytes()).ok_or("a mnemonic")?;
+        let i = instruction(mnemonic, arguments, *address as i64)
             .ok()
             .ok_or("an instruction")?;
         let w = fields_of(i).ok_or("fields")?;
@@ -202,9 +204,7 @@ fn mnemonics_are_their_words(rt: HostRuntime) -> Result<(), Fail> {
 /// A mnemonic, its operands at the address 0x400D0002, and the fault.
 type Fault = (&'static str, &'static [Argument], OperandFault);
 
-static FAULTS: [Fault; 22] = [
-    ("foo", &[], Range),
-    ("MOVI", &[Register(2), Value(5)], Range),
+static FAULTS: [Fault; 20] = [
     ("and", &[Register(2), Register(3)], Range),
     ("ret", &[Register(0)], Range),
     ("jx", &[Register(16)], Range),
@@ -232,34 +232,9 @@ static FAULTS: [Fault; 22] = [
 #[test]
 fn operands_have_their_faults(rt: HostRuntime) -> Result<(), Fail> {
     for (mnemonic, arguments, fault) in &FAULTS {
-        let result = instruction(mnemonic.as_bytes(), arguments, 0x400D0002);
+        let mnemonic = mnemonic_of(mnemonic.as_bytes()).ok_or("a mnemonic")?;
+        let result = instruction(mnemonic, arguments, 0x400D0002);
         assert_eq!(rt; result, Err(*fault));
     }
-    Ok(())
-}
-
-/// The mnemonic of an access, the name of a register, and its number.
-type Name = (&'static str, &'static str, Option<u8>);
-
-static NAMES: [Name; 10] = [
-    ("rsr", "interrupt", Some(226)),
-    ("rsr", "intset", None),
-    ("wsr", "intset", Some(226)),
-    ("wsr", "interrupt", None),
-    ("wsr", "prid", None),
-    ("xsr", "misc3", Some(247)),
-    ("xsr", "intclear", None),
-    ("rur", "threadptr", Some(231)),
-    ("wur", "threadptr", Some(231)),
-    ("rsr", "threadptr", None),
-];
-
-#[test]
-fn special_registers_have_their_numbers(rt: HostRuntime) -> Result<(), Fail> {
-    for (mnemonic, name, number) in &NAMES {
-        let access: Access = access_of(mnemonic.as_bytes()).ok_or("an access")?;
-        assert_eq!(rt; special_number(access, name.as_bytes()), *number);
-    }
-    assert_eq!(rt; access_of(b"movi"), None);
     Ok(())
 }

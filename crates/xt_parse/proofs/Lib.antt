@@ -1,4 +1,3 @@
-pub mod WordLemmas
 pub mod ReadLemmas
 pub mod LineCuts
 pub mod ReadWeights

@@ -8,7 +8,7 @@ use Rattle.xt_parse.specs.declared.line.Line.{Line}
 use Rattle.xt_parse.specs.declared.line.Placed.{Placed}
 use Rattle.xt_parse.specs.declared.statement.Statement.{Statement}
 use Rattle.xt_parse.specs.declared.statement.Statement.TheVariants as statement
-use Rattle.xt_parse.specs.Shapes.{shapes_of}
+use Rattle.xt_names.specs.Forms.{shapes_of}
 use Rattle.xt_parse.specs.Reading.{◌>>=◌, Reading, first_as, as_number, as_string, as_label, as_comma, as_colon, expr_at, exprs_at, operands_at}
 use Rattle.xt_parse.specs.Statements.{placed_at, literal_body_at, body_at, as_statement, statement_at, label_at, awaits_colon, opens, Parts, behind_label, without_label, parts_at, to_the_end, number_of, as_line, line_of}
 use Rattle.xt_parse.specs.Small.{expr_weight, statement_weight, line_weight}
@@ -39,18 +39,18 @@ literal_fits tokens =
     (λ c. fits_wider statement_weight (tokens_weight c.1) (1 + tokens_weight c.1) (expr_at c.1 >>= λ x. Ok (statement.Literal p.0 x.0, x.1)) (omega arith)
     (fits_then expr_weight statement_weight (tokens_weight c.1) (expr_at c.1) (λ x. Ok (statement.Literal p.0 x.0, x.1)) (expr_fits c.1) (λ x. omega arith)))))
 
-body_fits : (f : Form) (name : List ℕ) (tokens : List Token) → Fits statement_weight (tokens_weight tokens) (body_at f name tokens)
+body_fits : (f : Form) (tokens : List Token) → Fits statement_weight (tokens_weight tokens) (body_at f tokens)
 unfolding body_at
-body_fits form.Seg name tokens = fits_then one statement_weight (tokens_weight tokens) (first_as as_number tokens) (λ x. Ok (statement.Seg x.0, x.1)) (first_counts as_number tokens) (λ x. omega arith)
-body_fits form.Entry name tokens = fits_then expr_weight statement_weight (tokens_weight tokens) (expr_at tokens) (λ x. Ok (statement.Entry x.0, x.1)) (expr_fits tokens) (λ x. omega arith)
-body_fits form.Position name tokens = omega arith
-body_fits form.Literal name tokens = literal_fits tokens
-body_fits form.Word name tokens = fits_then exprs_weight statement_weight (tokens_weight tokens) (exprs_at tokens) (λ x. Ok (statement.Words x.0, x.1)) (exprs_fit tokens) (λ x. omega arith)
-body_fits form.Byte name tokens = fits_then exprs_weight statement_weight (tokens_weight tokens) (exprs_at tokens) (λ x. Ok (statement.Bytes x.0, x.1)) (exprs_fit tokens) (λ x. omega arith)
-body_fits form.Ascii name tokens = fits_then string_weight statement_weight (tokens_weight tokens) (first_as as_string tokens) (λ x. Ok (statement.Ascii x.0, x.1)) (string_fits tokens) (λ x. omega arith)
-body_fits form.Align name tokens = fits_then one statement_weight (tokens_weight tokens) (first_as as_number tokens) (λ x. Ok (statement.Align x.0, x.1)) (first_counts as_number tokens) (λ x. omega arith)
-body_fits (form.Insn shapes) name tokens =
-    fits_then operands_weight statement_weight (tokens_weight tokens) (operands_at (shapes_of shapes) tokens) (λ x. Ok (statement.Insn name x.0, x.1)) (operands_fit (shapes_of shapes) tokens) (λ x. omega arith)
+body_fits form.Seg tokens = fits_then one statement_weight (tokens_weight tokens) (first_as as_number tokens) (λ x. Ok (statement.Seg x.0, x.1)) (first_counts as_number tokens) (λ x. omega arith)
+body_fits form.Entry tokens = fits_then expr_weight statement_weight (tokens_weight tokens) (expr_at tokens) (λ x. Ok (statement.Entry x.0, x.1)) (expr_fits tokens) (λ x. omega arith)
+body_fits form.Position tokens = omega arith
+body_fits form.Literal tokens = literal_fits tokens
+body_fits form.Word tokens = fits_then exprs_weight statement_weight (tokens_weight tokens) (exprs_at tokens) (λ x. Ok (statement.Words x.0, x.1)) (exprs_fit tokens) (λ x. omega arith)
+body_fits form.Byte tokens = fits_then exprs_weight statement_weight (tokens_weight tokens) (exprs_at tokens) (λ x. Ok (statement.Bytes x.0, x.1)) (exprs_fit tokens) (λ x. omega arith)
+body_fits form.Ascii tokens = fits_then string_weight statement_weight (tokens_weight tokens) (first_as as_string tokens) (λ x. Ok (statement.Ascii x.0, x.1)) (string_fits tokens) (λ x. omega arith)
+body_fits form.Align tokens = fits_then one statement_weight (tokens_weight tokens) (first_as as_number tokens) (λ x. Ok (statement.Align x.0, x.1)) (first_counts as_number tokens) (λ x. omega arith)
+body_fits (form.Insn m) tokens =
+    fits_then operands_weight statement_weight (tokens_weight tokens) (operands_at (shapes_of m) tokens) (λ x. Ok (statement.Insn m x.0, x.1)) (operands_fit (shapes_of m) tokens) (λ x. omega arith)
 
 -- a statement with its column counts 1 more, for its word
 abbrev placed_weight : ℕ × Statement → ℕ
@@ -65,9 +65,9 @@ statement_fits (t ∷ ts) = by_word (as_statement t.what)
     by_body (Ok x) h = omega (arith, one_more t ts)
     by_body (Err k) h = tt
 
-    by_word : (o : Option (List ℕ × Form)) → Fits placed_weight (tokens_weight (t ∷ ts)) (option_map_or (λ w. body_at w.1 w.0 ts >>= λ x. Ok ((t.column, x.0), x.1)) o (Err (length (t ∷ ts))))
+    by_word : (o : Option Form) → Fits placed_weight (tokens_weight (t ∷ ts)) (option_map_or (λ w. body_at w ts >>= λ x. Ok ((t.column, x.0), x.1)) o (Err (length (t ∷ ts))))
     by_word None = tt
-    by_word (Some w) = by_body (body_at w.1 w.0 ts) (body_fits w.1 w.0 ts)
+    by_word (Some w) = by_body (body_at w ts) (body_fits w ts)
 
 -- ---- the parts of a line
 

@@ -8,7 +8,7 @@ use Rattle.xt_parse.specs.declared.stop.Stop.{Stop}
 use Rattle.xt_parse.specs.declared.stop.Stop.TheVariants as stop
 use Rattle.xt_parse.specs.Gives.{Stops}
 use Rattle.xt_parse.specs.Reading.{◌>>=◌, Reading, minus_at, exprs_at, behind, with_front, as_term, as_sign, as_comma, term_at, terms_behind, next_term, expr_at, next_expr, exprs_behind, next_operand, operands_behind}
-use Rattle.xt_parse.specs.declared.form.Shape.{Shape}
+use Rattle.xt_names.specs.declared.forms.Shape.{Shape}
 use Rattle.xt_parse.specs.declared.statement.Operand.{Operand}
 
 -- a stop is carried on

@@ -8,8 +8,8 @@ use Rattle.xt_lex.specs.declared.token.TokenKind.{TokenKind}
 use Rattle.xt_lex.specs.declared.token.TokenKind.TheVariants.{Word, Number, Character, Str, Comma, Colon, Equals, Plus, Minus, Bad}
 use Rattle.xt_expr.specs.declared.expr.Expr.{Expr}
 use Rattle.xt_expr.specs.declared.expr.Term.{Term}
-use Rattle.xt_parse.specs.declared.form.Shape.{Shape}
-use Rattle.xt_parse.specs.declared.form.Shape.TheVariants as shape
+use Rattle.xt_names.specs.declared.forms.Shape.{Shape}
+use Rattle.xt_names.specs.declared.forms.Shape.TheVariants as shape
 use Rattle.xt_parse.specs.declared.statement.Operand.{Operand}
 use Rattle.xt_parse.specs.declared.statement.Operand.TheVariants as operand
 use Rattle.xt_parse.specs.Reading.{◌>>=◌, Reading, first_as, with_front, as_string, as_register, as_label, as_term, as_sign, as_comma, as_equals, as_minus, as_user, behind, term_at, terms_behind, minus_at, expr_at, exprs_behind, exprs_at, one_label, literal_at, operand_at, next_operand, operands_behind, operands_at}

@@ -20,7 +20,7 @@ use Rattle.xt_parse.specs.declared.statement.Statement.{Statement}
 use Rattle.xt_parse.specs.declared.statement.Statement.TheVariants as statement
 use Rattle.xt_parse.specs.Lines.{grouped, is_segment, joined, lines_from, parsed}
 use Rattle.xt_parse.specs.Reading.{◌>>=◌, Reading, as_colon, as_comma, as_label, as_number, as_string, expr_at, exprs_at, first_as, operands_at}
-use Rattle.xt_parse.specs.Shapes.{shapes_of}
+use Rattle.xt_names.specs.Forms.{shapes_of}
 use Rattle.xt_parse.specs.Statements.{Parts, as_line, as_statement, awaits_colon, behind_label, body_at, label_at, line_of, opens, parts_at, placed_at, statement_at, to_the_end, whole_parts_at, without_label}
 
 -- ---- the tokens of a text
@@ -173,29 +173,29 @@ first_number (t ∷ ts) h = number_of_kind t.what ts (length (t ∷ ts)) h.0
 abbrev BodyStartsLow : Reading Statement → Type 0
 BodyStartsLow read = IfOk read (λ x. StartsLow x.0)
 
-body_starts_low : (f : Form) (name : List ℕ) (tokens : List Token) → AreLow tokens → BodyStartsLow (body_at f name tokens)
+body_starts_low : (f : Form) (tokens : List Token) → AreLow tokens → BodyStartsLow (body_at f tokens)
 unfolding body_at
-body_starts_low form.Seg name tokens h = then_if (first_as as_number tokens) (λ x. Ok (statement.Seg x.0, x.1)) (λ x. x.0 < 2 ^ 32) (λ x. StartsLow x.0) (first_number tokens h) (λ x lt. lt)
-body_starts_low form.Entry name tokens h = then_always (expr_at tokens) (λ x. Ok (statement.Entry x.0, x.1)) (λ x. StartsLow x.0) (λ x. tt)
-body_starts_low form.Position name tokens h = tt
-body_starts_low form.Literal name tokens h =
+body_starts_low form.Seg tokens h = then_if (first_as as_number tokens) (λ x. Ok (statement.Seg x.0, x.1)) (λ x. x.0 < 2 ^ 32) (λ x. StartsLow x.0) (first_number tokens h) (λ x lt. lt)
+body_starts_low form.Entry tokens h = then_always (expr_at tokens) (λ x. Ok (statement.Entry x.0, x.1)) (λ x. StartsLow x.0) (λ x. tt)
+body_starts_low form.Position tokens h = tt
+body_starts_low form.Literal tokens h =
     then_always (placed_at tokens) (λ p. first_as as_comma p.1 >>= λ c. expr_at c.1 >>= λ x. Ok (statement.Literal p.0 x.0, x.1)) (λ x. StartsLow x.0)
     (λ p. then_always (first_as as_comma p.1) (λ c. expr_at c.1 >>= λ x. Ok (statement.Literal p.0 x.0, x.1)) (λ x. StartsLow x.0)
     (λ c. then_always (expr_at c.1) (λ x. Ok (statement.Literal p.0 x.0, x.1)) (λ x. StartsLow x.0) (λ x. tt)))
-body_starts_low form.Word name tokens h = then_always (exprs_at tokens) (λ x. Ok (statement.Words x.0, x.1)) (λ x. StartsLow x.0) (λ x. tt)
-body_starts_low form.Byte name tokens h = then_always (exprs_at tokens) (λ x. Ok (statement.Bytes x.0, x.1)) (λ x. StartsLow x.0) (λ x. tt)
-body_starts_low form.Ascii name tokens h = then_always (first_as as_string tokens) (λ x. Ok (statement.Ascii x.0, x.1)) (λ x. StartsLow x.0) (λ x. tt)
-body_starts_low form.Align name tokens h = then_always (first_as as_number tokens) (λ x. Ok (statement.Align x.0, x.1)) (λ x. StartsLow x.0) (λ x. tt)
-body_starts_low (form.Insn shapes) name tokens h = then_always (operands_at (shapes_of shapes) tokens) (λ x. Ok (statement.Insn name x.0, x.1)) (λ x. StartsLow x.0) (λ x. tt)
+body_starts_low form.Word tokens h = then_always (exprs_at tokens) (λ x. Ok (statement.Words x.0, x.1)) (λ x. StartsLow x.0) (λ x. tt)
+body_starts_low form.Byte tokens h = then_always (exprs_at tokens) (λ x. Ok (statement.Bytes x.0, x.1)) (λ x. StartsLow x.0) (λ x. tt)
+body_starts_low form.Ascii tokens h = then_always (first_as as_string tokens) (λ x. Ok (statement.Ascii x.0, x.1)) (λ x. StartsLow x.0) (λ x. tt)
+body_starts_low form.Align tokens h = then_always (first_as as_number tokens) (λ x. Ok (statement.Align x.0, x.1)) (λ x. StartsLow x.0) (λ x. tt)
+body_starts_low (form.Insn m) tokens h = then_always (operands_at (shapes_of m) tokens) (λ x. Ok (statement.Insn m x.0, x.1)) (λ x. StartsLow x.0) (λ x. tt)
 
 abbrev StatementStartsLow : Reading (ℕ × Statement) → Type 0
 StatementStartsLow read = IfOk read (λ x. StartsLow x.0.1)
 
-word_starts_low : (column n : ℕ) (ts : List Token) (w : Option (List ℕ × Form)) → AreLow ts →
-    StatementStartsLow (option_map_or (λ w. body_at w.1 w.0 ts >>= λ x. Ok ((column, x.0), x.1)) w (Err n))
+word_starts_low : (column n : ℕ) (ts : List Token) (w : Option Form) → AreLow ts →
+    StatementStartsLow (option_map_or (λ w. body_at w ts >>= λ x. Ok ((column, x.0), x.1)) w (Err n))
 word_starts_low column n ts None h = tt
 word_starts_low column n ts (Some w) h =
-    then_if (body_at w.1 w.0 ts) (λ x. Ok ((column, x.0), x.1)) (λ x. StartsLow x.0) (λ x. StartsLow x.0.1) (body_starts_low w.1 w.0 ts h) (λ x low. low)
+    then_if (body_at w ts) (λ x. Ok ((column, x.0), x.1)) (λ x. StartsLow x.0) (λ x. StartsLow x.0.1) (body_starts_low w ts h) (λ x low. low)
 
 statement_starts_low : (tokens : List Token) → AreLow tokens → StatementStartsLow (statement_at tokens)
 unfolding statement_at

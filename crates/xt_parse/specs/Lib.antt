@@ -1,6 +1,6 @@
-pub mod Shapes
-pub mod Reading
-pub mod Statements
-pub mod Lines
 pub mod Gives
+pub mod Lines
+pub mod Reading
 pub mod Small
+pub mod Statements
+pub mod Words

@@ -11,9 +11,9 @@ use Rattle.xt_expr.specs.declared.expr.TermValue.{TermValue}
 use Rattle.xt_expr.specs.declared.expr.TermValue.TheVariants as value
 use Rattle.xt_parse.specs.declared.statement.Operand.{Operand}
 use Rattle.xt_parse.specs.declared.statement.Operand.TheVariants as operand
-use Rattle.xt_parse.specs.declared.form.Shape.{Shape}
-use Rattle.xt_parse.specs.declared.form.Shape.TheVariants as shape
-use Rattle.xt_parse.specs.Shapes.{is_label_word, register_of}
+use Rattle.xt_names.specs.declared.forms.Shape.{Shape}
+use Rattle.xt_names.specs.declared.forms.Shape.TheVariants as shape
+use Rattle.xt_parse.specs.Words.{is_label_word, register_of}
 
 infixl 10 ◌>>=◌
 abbrev pub ◌>>=◌ : {A B E : Type 0} → Result A E → (A → Result B E) → Result B E

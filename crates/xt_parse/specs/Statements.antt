@@ -11,7 +11,8 @@ use Rattle.xt_parse.specs.declared.line.Line.{Line}
 use Rattle.xt_parse.specs.declared.line.Placed.{Placed}
 use Rattle.xt_parse.specs.declared.statement.Statement.{Statement}
 use Rattle.xt_parse.specs.declared.statement.Statement.TheVariants as statement
-use Rattle.xt_parse.specs.Shapes.{form_of, shapes_of}
+use Rattle.xt_names.specs.Forms.{shapes_of}
+use Rattle.xt_parse.specs.Words.{form_of}
 use Rattle.xt_parse.specs.Reading.{◌>>=◌, Reading, first_as, as_number, as_string, as_label, as_comma, as_colon, expr_at, exprs_at, operands_at}
 
 -- a label's word where it stands
@@ -23,29 +24,29 @@ placed_at (t ∷ ts) = option_map_or (λ name. Ok (record { column = t.column; n
 abbrev pub literal_body_at : List Token → Reading Statement
 literal_body_at tokens = placed_at tokens >>= λ p. first_as as_comma p.1 >>= λ c. expr_at c.1 >>= λ x. Ok (statement.Literal p.0 x.0, x.1)
 
--- the statement behind its first word, which is this name and begins this form
-unfoldable pub body_at : Form → List ℕ → List Token → Reading Statement
-body_at form.Seg name tokens = first_as as_number tokens >>= λ x. Ok (statement.Seg x.0, x.1)
-body_at form.Entry name tokens = expr_at tokens >>= λ x. Ok (statement.Entry x.0, x.1)
-body_at form.Position name tokens = Ok (statement.Position, tokens)
-body_at form.Literal name tokens = literal_body_at tokens
-body_at form.Word name tokens = exprs_at tokens >>= λ x. Ok (statement.Words x.0, x.1)
-body_at form.Byte name tokens = exprs_at tokens >>= λ x. Ok (statement.Bytes x.0, x.1)
-body_at form.Ascii name tokens = first_as as_string tokens >>= λ x. Ok (statement.Ascii x.0, x.1)
-body_at form.Align name tokens = first_as as_number tokens >>= λ x. Ok (statement.Align x.0, x.1)
-body_at (form.Insn shapes) name tokens = operands_at (shapes_of shapes) tokens >>= λ x. Ok (statement.Insn name x.0, x.1)
+-- the statement behind its first word, which begins this form
+unfoldable pub body_at : Form → List Token → Reading Statement
+body_at form.Seg tokens = first_as as_number tokens >>= λ x. Ok (statement.Seg x.0, x.1)
+body_at form.Entry tokens = expr_at tokens >>= λ x. Ok (statement.Entry x.0, x.1)
+body_at form.Position tokens = Ok (statement.Position, tokens)
+body_at form.Literal tokens = literal_body_at tokens
+body_at form.Word tokens = exprs_at tokens >>= λ x. Ok (statement.Words x.0, x.1)
+body_at form.Byte tokens = exprs_at tokens >>= λ x. Ok (statement.Bytes x.0, x.1)
+body_at form.Ascii tokens = first_as as_string tokens >>= λ x. Ok (statement.Ascii x.0, x.1)
+body_at form.Align tokens = first_as as_number tokens >>= λ x. Ok (statement.Align x.0, x.1)
+body_at (form.Insn m) tokens = operands_at (shapes_of m) tokens >>= λ x. Ok (statement.Insn m x.0, x.1)
 
 -- ---- the first token of a statement
 
--- a word that begins a statement, and what it begins
-abbrev pub as_statement : TokenKind → Option (List ℕ × Form)
-as_statement (kind.Word name) = option_map (λ f. (name, f)) (form_of name)
+-- what a word begins that begins a statement
+abbrev pub as_statement : TokenKind → Option Form
+as_statement (kind.Word name) = form_of name
 as_statement _ = None
 
 -- a statement, with the column of its first token
 unfoldable pub statement_at : List Token → Reading (ℕ × Statement)
 statement_at [] = Err 0
-statement_at (t ∷ ts) = option_map_or (λ w. body_at w.1 w.0 ts >>= λ x. Ok ((t.column, x.0), x.1)) (as_statement t.what) (Err (length (t ∷ ts)))
+statement_at (t ∷ ts) = option_map_or (λ form. body_at form ts >>= λ x. Ok ((t.column, x.0), x.1)) (as_statement t.what) (Err (length (t ∷ ts)))
 
 -- ---- lines
 
@@ -59,9 +60,9 @@ unfoldable pub awaits_colon : List Token → Bool
 awaits_colon [] = false
 awaits_colon (t ∷ ts) = is_some (as_label t.what) && is_none (as_statement t.what)
 
-abbrev pub is_opening : Option (List ℕ × Form) → Bool
-is_opening (Some (name, form.Seg)) = true
-is_opening (Some (name, form.Entry)) = true
+abbrev pub is_opening : Option Form → Bool
+is_opening (Some form.Seg) = true
+is_opening (Some form.Entry) = true
 is_opening _ = false
 
 -- the words that may begin a line before the first segment: `.seg` and `.entry`

@@ -6,13 +6,14 @@ ghost use Rattle.xt_parse.specs.Statements.{literal_body_at, body_at, as_stateme
 use crate::exprs::{expr, exprs};
 use crate::form::Form;
 use crate::line::Placed;
-use crate::operands::{operands, shapes_in};
-use crate::reading::{comma_at, label_in, number_at, placed_name_at, string_at};
+use crate::operands::operands;
+use crate::reading::{comma_at, is_label, label_in, number_at, placed_name_at, string_at};
 use crate::statement::Statement;
 use crate::stop::Stop;
 use crate::words::form_of_word;
 use std::alloc::{AllocError, Global};
-use xt_lex::{Name, Token, TokenKind};
+use xt_lex::{Token, TokenKind};
+use xt_names::shapes_of;
 
 // `.literal NAME, EXPR` behind its first word.
 fn literal_body(alloc: Global, tokens: &[Token]) -> Result<(Statement, &[Token]), Stop>
@@ -24,15 +25,10 @@ fn literal_body(alloc: Global, tokens: &[Token]) -> Result<(Statement, &[Token])
     Ok((Statement::Literal(name, value), rest))
 }
 
-// A statement behind its first word, which is this name and begins this form.
+// A statement behind its first word, which begins this form.
 #[tactic(auto, unfolding(crate::specs::Statements::body_at))]
-fn body<'a>(
-    alloc: Global,
-    form: Form,
-    name: &Name,
-    tokens: &'a [Token],
-) -> Result<(Statement, &'a [Token]), Stop>
-    ensures { Gives (λ x. (x.0, x.1.now)) result (body_at form name.now tokens.now) }
+fn body(alloc: Global, form: Form, tokens: &[Token]) -> Result<(Statement, &[Token]), Stop>
+    ensures { Gives (λ x. (x.0, x.1.now)) result (body_at form tokens.now) }
 {
     match form {
         Form::Seg => {
@@ -61,22 +57,19 @@ fn body<'a>(
             let (number, rest) = number_at(tokens)?;
             Ok((Statement::Align(number), rest))
         }
-        Form::Insn(shapes) => {
-            let (found, rest) = operands(alloc, shapes_in(shapes), tokens)?;
-            Ok((Statement::Insn(name.clone()?, found), rest))
+        Form::Insn(mnemonic) => {
+            let (found, rest) = operands(alloc, shapes_of(mnemonic), tokens)?;
+            Ok((Statement::Insn(mnemonic, found), rest))
         }
     }
 }
 
-// What a token begins, where it begins a statement, with its word.
-fn statement_in(what: &TokenKind) -> Option<(&Name, Form)>
-    ensures { option_map (λ x. (x.0.now, x.1)) result ≡ as_statement what.now }
+// What a token begins, where it begins a statement.
+fn statement_in(what: &TokenKind) -> Option<Form>
+    ensures { result ≡ as_statement what.now }
 {
     match what {
-        TokenKind::Word(name) => match form_of_word(name.as_slice()) {
-            Some(form) => Some((name, form)),
-            None => None,
-        },
+        TokenKind::Word(name) => form_of_word(name.as_slice()),
         _ => None,
     }
 }
@@ -88,9 +81,9 @@ fn statement(alloc: Global, tokens: &[Token]) -> Result<((u32, Statement), &[Tok
 {
     match tokens {
         [token, after @ ..] => match statement_in(&token.what) {
-            Some((name, form)) => {
+            Some(form) => {
                 let column = token.column;
-                let (statement, rest) = body(alloc, form, name, after)?;
+                let (statement, rest) = body(alloc, form, after)?;
                 Ok(((column, statement), rest))
             }
             None => Err(Stop::At(tokens.len())),
@@ -119,17 +112,6 @@ fn label(tokens: &[Token]) -> Result<Option<(Placed, &[Token])>, AllocError>
     }
 }
 
-// Whether only a colon continues the line behind the first word, which begins no statement and may be a label.
-#[tactic(auto, unfolding(crate::specs::Statements::awaits_colon))]
-fn is_bare_label(tokens: &[Token]) -> Result<bool, AllocError>
-    ensures { IfOk result (λ bare. bare ≡ awaits_colon tokens.now) }
-{
-    match tokens {
-        [token, ..] => Ok(label_in(&token.what)?.is_some() && statement_in(&token.what).is_none()),
-        [] => Ok(false),
-    }
-}
-
 // Whether the line may stand before the first segment: it begins with `.seg` or `.entry`.
 #[tactic(auto, unfolding(crate::specs::Statements::opens))]
 fn may_open(tokens: &[Token]) -> bool
@@ -137,7 +119,7 @@ fn may_open(tokens: &[Token]) -> bool
 {
     match tokens {
         [token, ..] => match statement_in(&token.what) {
-            Some((_, Form::Seg | Form::Entry)) => true,
+            Some(Form::Seg | Form::Entry) => true,
             _ => false,
         },
         [] => false,
@@ -160,15 +142,23 @@ fn parts_behind_label(
     Ok(((Some(label), column, statement), rest))
 }
 
+#[tactic(auto, unfolding(crate::specs::Statements::statement_at, crate::specs::Statements::awaits_colon))]
 fn parts_without_label(alloc: Global, tokens: &[Token]) -> Result<(Parts, &[Token]), Stop>
     requires { 0 < length tokens.now }
     ensures { Gives (λ x. (x.0, x.1.now)) result (without_label tokens.now) }
 {
-    if is_bare_label(tokens)? {
-        return Err(Stop::At(tokens.len() - 1));
+    match tokens {
+        [token, after @ ..] => match statement_in(&token.what) {
+            Some(form) => {
+                let column = token.column;
+                let (statement, rest) = body(alloc, form, after)?;
+                Ok(((None, column, statement), rest))
+            }
+            None if is_label(&token.what) => Err(Stop::At(tokens.len() - 1)),
+            None => Err(Stop::At(tokens.len())),
+        },
+        [] => Err(Stop::At(0)),
     }
-    let ((column, statement), rest) = statement(alloc, tokens)?;
-    Ok(((None, column, statement), rest))
 }
 
 // The parts of a line at the front.

@@ -1,37 +1,15 @@
 ghost use Rattle.std.specs.Prelude.{◌≡◌, [], ◌∷◌, IfOk};
 ghost use Rattle.xt_parse.specs.Gives.{Gives};
-ghost use Rattle.xt_parse.specs.Shapes.{shapes_of};
 ghost use Rattle.xt_parse.specs.Reading.{literal_at, operand_at, next_operand, one_label, with_front, operands_behind, operands_at};
 
 use crate::exprs::expr;
-use crate::form::{Shape, Shapes};
 use crate::reading::{behind_equals, comma_at, label_word_at, register_at, user_word_at};
 use crate::statement::{Operand, Operands};
 use crate::stop::Stop;
 use std::alloc::{AllocError, Global};
 use xt_expr::{Expr, Term, TermValue};
 use xt_lex::{Name, Token};
-
-/// The operands of an instruction, one by one.
-pub fn shapes_in(shapes: Shapes) -> &'static [Shape]
-    ensures { result.now ≡ shapes_of shapes }
-{
-    match shapes {
-        Shapes::Nothing => &[],
-        Shapes::One => &[Shape::Register],
-        Shapes::Two => &[Shape::Register, Shape::Register],
-        Shapes::Three => &[Shape::Register, Shape::Register, Shape::Register],
-        Shapes::Value => &[Shape::Value],
-        Shapes::TwoValues => &[Shape::Value, Shape::Value],
-        Shapes::OneAndValue => &[Shape::Register, Shape::Value],
-        Shapes::OneAndTwoValues => &[Shape::Register, Shape::Value, Shape::Value],
-        Shapes::TwoAndValue => &[Shape::Register, Shape::Register, Shape::Value],
-        Shapes::TwoAndTwoValues => &[Shape::Register, Shape::Register, Shape::Value, Shape::Value],
-        Shapes::OneAndLiteral => &[Shape::Register, Shape::Literal],
-        Shapes::OneAndSpecial => &[Shape::Register, Shape::Special],
-        Shapes::OneAndUser => &[Shape::Register, Shape::User],
-    }
-}
+use xt_names::Shape;
 
 // A word as an expression of one label.
 fn word_operand(alloc: Global, name: Name) -> Result<Operand, AllocError>

@@ -1,5 +1,5 @@
 ghost use Rattle.std.specs.Prelude.{◌≡◌, ◌<◌, ◌≤◌, length, IfOk, IfSome};
-ghost use Rattle.std.specs.Option.{option_map};
+ghost use Rattle.std.specs.Option.{is_some, option_map};
 ghost use Rattle.xt_parse.specs.Gives.{Gives};
 ghost use Rattle.xt_parse.specs.Reading.{first_as, behind, as_number, as_string, as_register, as_label, as_term, as_sign, as_comma, as_equals, as_minus, as_user, minus_at, term_at};
 ghost use Rattle.xt_parse.specs.Statements.{placed_at};
@@ -56,6 +56,16 @@ pub fn register_at(tokens: &[Token]) -> Result<(u8, &[Token]), Stop>
             None => Err(Stop::At(tokens.len())),
         },
         [] => Err(Stop::At(0)),
+    }
+}
+
+/// Whether a token may be a label.
+pub fn is_label(what: &TokenKind) -> bool
+    ensures { result ≡ is_some (as_label what.now) }
+{
+    match what {
+        TokenKind::Word(name) => may_be_label(name.as_slice()),
+        _ => false,
     }
 }
 

@@ -4,6 +4,7 @@ use crate::line::Placed;
 use std::marker::Model;
 use xt_expr::Expr;
 use xt_lex::Name;
+use xt_names::Mnemonic;
 
 /// An operand of an instruction.
 #[derive(Drop)]
@@ -38,7 +39,7 @@ pub enum Statement {
     /// `.align NUMBER`: zeros up to a multiple of the number.
     Align(u32),
     /// An instruction by its mnemonic, with the operands in the order of the text.
-    Insn(Name, Operands),
+    Insn(Mnemonic, Operands),
 }
 
 /// A list of expressions. Contracts see the list.

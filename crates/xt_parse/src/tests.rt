@@ -2,6 +2,7 @@ use crate::{Operand, Statement, parse};
 use std::alloc::Global;
 use std::test::Fail;
 use xt_lex::{AsmFault, AsmPlace, lex};
+use xt_names::name_of;
 
 /// A text, and the line and the column of its first fault of the kind Syntax; 0 and 0 where it has none.
 type Row = (&'static [u8], u32, u32);
@@ -114,10 +115,10 @@ fn a_text_is_its_lines(rt: HostRuntime) -> Result<(), Fail> {
     let label = line.label.as_ref().ok_or("a label")?;
     assert_eq!(rt; label.column, 1);
     assert_eq!(rt; label.name.as_slice(), b"start".as_slice());
-    let Statement::Insn(name, operands) = &line.statement else {
+    let Statement::Insn(mnemonic, operands) = &line.statement else {
         return Err(Fail::from("an instruction"));
     };
-    assert_eq!(rt; name.as_slice(), b"l32r".as_slice());
+    assert_eq!(rt; name_of(*mnemonic), "l32r");
     let pool = operands.as_slice().get(1).ok_or("two operands")?;
     assert!(rt; matches!(pool, Operand::Pool(_)));
     let last = lines.as_slice().get(4).ok_or("a line")?;

@@ -1,76 +1,62 @@
 ghost use Rattle.std.specs.Prelude.{◌≡◌, map};
-ghost use Rattle.xt_parse.specs.Shapes.{form_of, is_label_word, register_of, register_words, shown, shown_register, starts_with_dot, statement_words};
+ghost use Rattle.xt_parse.specs.Words.{directive_of, directive_words, form_of, is_label_word, register_of, register_words, shown, shown_register, starts_with_dot};
 
-use crate::form::{Form, Shapes};
+use crate::form::Form;
+use xt_names::mnemonic_of;
 
-/// A word at the beginning of a statement, and what it begins.
-pub struct StatementWord {
+/// A directive, and what it begins.
+pub struct DirectiveWord {
     /// The word.
     pub name: &'static str,
     /// What it begins.
     pub form: Form,
 }
 
-macro_rules! words {
-    ($($form:expr => $($name:literal)*;)*) => {
-        [$($(StatementWord { name: $name, form: $form }),*),*]
+macro_rules! directives {
+    ($($name:literal => $form:expr;)*) => {
+        [$(DirectiveWord { name: $name, form: $form }),*]
     };
 }
 
-static WORDS: [StatementWord; 150] = words! {
-    Form::Seg => ".seg";
-    Form::Entry => ".entry";
-    Form::Position => ".literal_position";
-    Form::Literal => ".literal";
-    Form::Word => ".word";
-    Form::Byte => ".byte";
-    Form::Ascii => ".ascii";
-    Form::Align => ".align";
-    Form::Insn(Shapes::Three) =>
-        "and" "or" "xor" "add" "addx2" "addx4" "addx8" "sub" "subx2" "subx4" "subx8" "src" "mul16u"
-        "mul16s" "mull" "muluh" "mulsh" "quou" "quos" "remu" "rems" "min" "max" "minu" "maxu" "moveqz"
-        "movnez" "movltz" "movgez" "add.n";
-    Form::Insn(Shapes::Two) => "neg" "abs" "srl" "sra" "sll" "nsa" "nsau" "movsp" "mov" "mov.n";
-    Form::Insn(Shapes::TwoAndValue) =>
-        "slli" "srai" "srli" "sext" "clamps" "l8ui" "s8i" "l16ui" "l16si" "s16i" "l32i" "s32i" "l32ai"
-        "s32ri" "s32c1i" "l32e" "s32e" "addi" "addmi" "l32i.n" "s32i.n" "addi.n" "bnone" "beq" "blt"
-        "bltu" "ball" "bbc" "bany" "bne" "bge" "bgeu" "bnall" "bbs";
-    Form::Insn(Shapes::TwoAndTwoValues) => "extui";
-    Form::Insn(Shapes::One) =>
-        "ssr" "ssl" "ssa8l" "ssa8b" "jx" "callx0" "callx4" "callx8" "callx12";
-    Form::Insn(Shapes::Value) =>
-        "ssai" "j" "call0" "call4" "call8" "call12" "rfi" "waiti" "rotw" "break.n";
-    Form::Insn(Shapes::OneAndValue) =>
-        "movi" "rsil" "entry" "beqz" "bnez" "bltz" "bgez" "loop" "loopnez" "loopgtz" "movi.n" "beqz.n"
-        "bnez.n";
-    Form::Insn(Shapes::OneAndLiteral) => "l32r";
-    Form::Insn(Shapes::OneAndTwoValues) =>
-        "beqi" "bnei" "blti" "bgei" "bltui" "bgeui" "bbci" "bbsi";
-    Form::Insn(Shapes::Nothing) =>
-        "ret" "retw" "ill" "isync" "rsync" "esync" "dsync" "excw" "memw" "extw" "nop" "rfe" "rfde"
-        "rfwo" "rfwu" "syscall" "ret.n" "retw.n" "nop.n" "ill.n";
-    Form::Insn(Shapes::TwoValues) => "break";
-    Form::Insn(Shapes::OneAndSpecial) => "rsr" "wsr" "xsr";
-    Form::Insn(Shapes::OneAndUser) => "rur" "wur";
+static DIRECTIVES: [DirectiveWord; 8] = directives! {
+    ".seg" => Form::Seg;
+    ".entry" => Form::Entry;
+    ".literal_position" => Form::Position;
+    ".literal" => Form::Literal;
+    ".word" => Form::Word;
+    ".byte" => Form::Byte;
+    ".ascii" => Form::Ascii;
+    ".align" => Form::Align;
 };
 
-#[tactic(auto, unfolding(crate::specs::Shapes::statement_words))]
-fn words() -> &'static [StatementWord]
-    ensures { map shown result.now ≡ statement_words }
+#[tactic(auto, unfolding(crate::specs::Words::directive_words))]
+fn directives() -> &'static [DirectiveWord]
+    ensures { map shown result.now ≡ directive_words }
 {
-    &WORDS
+    &DIRECTIVES
 }
 
-/// What a word begins, where it begins a statement.
-pub fn form_of_word(name: &[u8]) -> Option<Form>
-    ensures { result ≡ form_of name.now }
+/// What a directive begins.
+fn directive_of(name: &[u8]) -> Option<Form>
+    ensures { result ≡ directive_of name.now }
 {
-    for word in words() {
+    for word in directives() {
         if word.name.as_bytes() == name {
             return Some(word.form);
         }
     }
     None
+}
+
+/// What a word begins, where it begins a statement.
+#[tactic(auto, unfolding(crate::specs::Words::form_of))]
+pub fn form_of_word(name: &[u8]) -> Option<Form>
+    ensures { result ≡ form_of name.now }
+{
+    match mnemonic_of(name) {
+        Some(mnemonic) => Some(Form::Insn(mnemonic)),
+        None => directive_of(name),
+    }
 }
 
 /// A name of a register, and its number.
@@ -107,7 +93,7 @@ static REGISTERS: [RegisterWord; 17] = registers! {
     1 "sp";
 };
 
-#[tactic(auto, unfolding(crate::specs::Shapes::register_words))]
+#[tactic(auto, unfolding(crate::specs::Words::register_words))]
 fn registers() -> &'static [RegisterWord]
     ensures { map shown_register result.now ≡ register_words }
 {

@@ -20,12 +20,12 @@ then_alike true false o = refl
 then_alike false true o = refl
 then_alike false false o = refl
 
-and_alike : (a b : Ordering) → is_eq (ordering_then a b) ≡ (is_eq a && is_eq b)
+pub and_alike : (a b : Ordering) → is_eq (ordering_then a b) ≡ (is_eq a && is_eq b)
 and_alike Less b = refl
 and_alike Equal b = refl
 and_alike Greater b = refl
 
-number_alike : (m n : ℕ) → is_eq (nat_cmp m n) ≡ eqb m n
+pub number_alike : (m n : ℕ) → is_eq (nat_cmp m n) ≡ eqb m n
 number_alike m n = grind (arith, nat_tests)
 
 value_alike : (x y : TermValue) → is_eq (value.ghosts.cmp x y) ≡ same_value x y

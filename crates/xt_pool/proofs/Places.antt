@@ -77,11 +77,11 @@ filter_keeps P p (x ∷ xs) h = elim (p x) as (λ b. AllByRecursion P (cond b (x
   | false ↦ filter_keeps P p xs h.1
 ]
 
-join_keeps : {X : Type 0} (P : X → Type 0) (xs ys : List X) → AllByRecursion P xs → AllByRecursion P ys → AllByRecursion P (xs ++ ys)
+pub join_keeps : {X : Type 0} (P : X → Type 0) (xs ys : List X) → AllByRecursion P xs → AllByRecursion P ys → AllByRecursion P (xs ++ ys)
 join_keeps P [] ys h g = g
 join_keeps P (x ∷ xs) ys h g = (h.0, join_keeps P xs ys h.1 g)
 
-distinct_keeps : (P : PoolWord → Type 0) (ws : List PoolWord) → AllByRecursion P ws → AllByRecursion P (distinct ws)
+pub distinct_keeps : (P : PoolWord → Type 0) (ws : List PoolWord) → AllByRecursion P ws → AllByRecursion P (distinct ws)
 distinct_keeps P [] h = h
 distinct_keeps P (w ∷ ws) h = (h.0, filter_keeps P (λ y. not (shares w y)) (distinct ws) (distinct_keeps P ws h.1))
 

@@ -12,6 +12,7 @@ mod pooled;
 mod tests;
 mod word;
 
+pub use need::{is_segment, pool_use};
 pub use ordering::{least, least_is_first};
 pub use placing::place;
 pub use pooled::Pooled;

@@ -16,7 +16,7 @@ pub(crate) struct Need<'a> {
 }
 
 /// The expression of the first operand that is a use of the pool.
-fn pool_use(operands: &[Operand]) -> Option<&Expr>
+pub fn pool_use(operands: &[Operand]) -> Option<&Expr>
     ensures { option_copied result ≡ pool_use operands.now }
 {
     for operand in operands {
@@ -52,7 +52,7 @@ pub(crate) fn is_position(statement: &Statement) -> bool
 }
 
 /// Whether a statement is a `.seg`.
-pub(crate) fn is_segment(statement: &Statement) -> bool
+pub fn is_segment(statement: &Statement) -> bool
     ensures { result ≡ is_segment statement.now }
 {
     matches!(statement, Statement::Seg(_))

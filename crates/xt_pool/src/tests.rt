@@ -3,6 +3,7 @@ use std::alloc::{AllocError, Global};
 use std::test::Fail;
 use xt_expr::{Expr, Term, TermValue};
 use xt_lex::{AsmPlace, Name};
+use xt_names::Mnemonic;
 use xt_parse::{Line, Lines, Operand, Operands, Placed, Statement};
 
 // The expression of one number.
@@ -24,7 +25,7 @@ fn load(alloc: Global, n: u32) -> Result<Statement, AllocError> {
     let mut operands = Vec::new(alloc);
     operands.push(Operand::Reg(2))?;
     operands.push(Operand::Pool(number(alloc, n)?))?;
-    Ok(Statement::Insn(name(alloc, b"l32r")?, Operands::new(operands)))
+    Ok(Statement::Insn(Mnemonic::Literal, Operands::new(operands)))
 }
 
 // `.literal x, n`

@@ -1,3 +1,8 @@
 pub mod Bounds
 pub mod Proper
 pub mod Registers
+pub mod Fitting
+pub mod Fetches
+pub mod Reading
+pub mod Tied
+pub mod Alone

@@ -17,6 +17,7 @@ use Rattle.xt_rows.specs.declared.outcome.WindowStep.{WindowStep}
 use Rattle.xt_rows.specs.declared.outcome.WindowStep.TheVariants.{Enters, Returns, EndsOverflow, EndsUnderflow, Rotates, MovesStack, Reads, Sets, Exchanges}
 use Rattle.xt_rows.specs.declared.outcome.Outcome.{Outcome}
 use Rattle.xt_rows.specs.declared.outcome.Outcome.TheVariants.{Does, Raises, Asks, Stops, Windowed}
+use Rattle.xt_rows.specs.Fetching.{Fetches, fetched}
 use Rattle.xt_rows.specs.Operands.{reads, special_reads, named}
 use Rattle.xt_rows.specs.Effects.{SpecialWrites}
 use Rattle.xt_rows.specs.Outcomes.{outcome, outcome_at}
@@ -133,3 +134,16 @@ OutcomesAreProper =
 -- of a value that is a word by its type nothing need be said
 abbrev pub IsAny : ℕ → Type 0
 IsAny n = Unit {0}
+
+-- ---- what is fetched has its operands in their ranges
+
+abbrev pub FetchedIsInRange : Type 0
+FetchedIsInRange =
+    (code : ℕ → ℕ) (pc : ℕ) (i : Insn) (n : ℕ)
+    → AreBytes code → fetched code pc ≡ Fetches i n → in_range i ≡ true
+
+-- ---- an instruction that asks for an access changes nothing else: what is left of its effect is the effect e
+
+abbrev pub AsksWith : Effect → Outcome → Type 0
+AsksWith e (Asks access awaited rest) = rest ≡ e
+AsksWith e _ = Unit {0}

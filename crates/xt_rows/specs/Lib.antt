@@ -5,3 +5,5 @@ pub mod Effects
 pub mod Outcomes
 pub mod Settling
 pub mod Laws
+pub mod Kinds
+pub mod Ties

@@ -1,7 +1,10 @@
 -- What an outcome, an interrupt or a turn of waiting leaves, beside the registers: the same for the processor and for a machine
 -- with unbounded frames ('profile' for the turn as the unit of time; the effects are those of the manual's chapters on the options).
-use Rattle.std.specs.Prelude.{ℕ, ◌+◌, ◌-◌, ◌%◌, ◌^◌, if◌then◌else◌, Option, Some, None, List, slice_set}
+use Rattle.std.specs.Prelude.{ℕ, ◌+◌, ◌-◌, ◌*◌, ◌/◌, ◌%◌, ◌^◌, if◌then◌else◌, Option, Some, None, List, slice_set}
 use Rattle.xt_map.specs.declared.access.Access.{Access}
+use Rattle.xt_trace.specs.declared.record.StepKind.{StepKind}
+use Rattle.xt_trace.specs.declared.record.StepKind.TheVariants as kind
+use Rattle.xt_trace.specs.declared.record.RegWrite.{RegWrite}
 use Rattle.xt_special.specs.Numbers as number
 use Rattle.xt_special.specs.Control.{Control, special_of}
 use Rattle.xt_special.specs.Timers.{ticked}
@@ -14,6 +17,7 @@ use Rattle.xt_rows.specs.declared.outcome.Awaited.{Awaited}
 use Rattle.xt_rows.specs.declared.outcome.Flow.{Flow}
 use Rattle.xt_rows.specs.declared.outcome.Flow.TheVariants.{Falls, Goes}
 use Rattle.xt_rows.specs.declared.outcome.Effect.{Effect}
+use Rattle.xt_rows.specs.Numbers.{extended}
 use Rattle.xt_rows.specs.Effects.{SpecialWrites}
 use Rattle.xt_rows.specs.declared.outcome.Outcome.{Outcome}
 use Rattle.xt_rows.specs.declared.outcome.Outcome.TheVariants.{Does, Raises, Asks, Stops, Windowed}
@@ -83,3 +87,35 @@ settled (Asks access awaited e) len c =
 settled Stops len c = without_access Stopped None c
 -- each machine has its own cases for the steps of windows, and never comes here with one
 settled (Windowed step) len c = without_access Executed None c
+
+-- ---- what the record of a turn shows of it
+
+abbrev pub kind_of : Kind → StepKind
+kind_of Executed = kind.Insn
+kind_of (Raised cause) = kind.Exc cause
+kind_of (Taken level) = kind.Interrupt level
+kind_of Waited = kind.Wait
+kind_of Stopped = kind.Stop
+
+-- ---- the reply: what the register that awaited it receives
+
+abbrev pub received : Awaited → ℕ → Write
+received a reply = record { number = a.number; value = extended a.signed reply }
+
+abbrev pub written : Option Write → Option Awaited → ℕ → Option Write
+written write None reply = write
+written write (Some a) reply = Some (received a reply)
+
+abbrev pub shown : Option Write → Option RegWrite
+shown None = None
+shown (Some w) = Some (record { reg = w.number; value = w.value })
+
+-- ---- a return (chapter 'Windowed Register Option', RETW)
+
+-- by how many windows it goes back: the top two bits of a0
+abbrev pub return_size : ℕ → ℕ
+return_size a0 = a0 / 2 ^ 30
+
+-- where it goes: a0 has the low 30 bits
+abbrev pub return_pc : ℕ → ℕ → ℕ
+return_pc pc a0 = pc / 2 ^ 30 * 2 ^ 30 + a0 % 2 ^ 30

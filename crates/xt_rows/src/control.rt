@@ -12,6 +12,7 @@ use xt_isa::control::{
 };
 
 #[tactic(auto, unfolding(crate::specs::Outcomes::control_outcome))]
+#[inline(always)]
 fn zero_branch(name: ZeroName, offset: i32, pc: u32, x: u32, e: Effect) -> Outcome
     ensures { (s y : ℕ) → result ≡ control_outcome (control.Beqz name s offset) pc x y e }
 {
@@ -24,6 +25,7 @@ fn zero_branch(name: ZeroName, offset: i32, pc: u32, x: u32, e: Effect) -> Outco
 }
 
 #[tactic(auto, unfolding(crate::specs::Outcomes::control_outcome))]
+#[inline(always)]
 fn constant_branch(name: ConstName, c: i32, offset: i32, pc: u32, x: u32, e: Effect) -> Outcome
     ensures { (s y : ℕ) → result ≡ control_outcome (control.Beqi name s c offset) pc x y e }
 {
@@ -36,6 +38,7 @@ fn constant_branch(name: ConstName, c: i32, offset: i32, pc: u32, x: u32, e: Eff
 }
 
 #[tactic(auto, unfolding(crate::specs::Outcomes::control_outcome))]
+#[inline(always)]
 fn unsigned_branch(name: ConstuName, c: i32, offset: i32, pc: u32, x: u32, e: Effect) -> Outcome
     ensures { (s y : ℕ) → result ≡ control_outcome (control.Bltui name s c offset) pc x y e }
 {
@@ -46,6 +49,7 @@ fn unsigned_branch(name: ConstuName, c: i32, offset: i32, pc: u32, x: u32, e: Ef
 }
 
 #[tactic(auto, unfolding(crate::specs::Outcomes::control_outcome))]
+#[inline(always)]
 fn branch(name: BranchName, offset: i32, pc: u32, x: u32, y: u32, e: Effect) -> Outcome
     ensures { (s t : ℕ) → result ≡ control_outcome (control.Bnone name s t offset) pc x y e }
 {
@@ -60,6 +64,7 @@ fn branch(name: BranchName, offset: i32, pc: u32, x: u32, y: u32, e: Effect) -> 
 }
 
 #[tactic(auto, unfolding(crate::specs::Outcomes::control_outcome))]
+#[inline(always)]
 fn opposite_branch(name: OppositeName, offset: i32, pc: u32, x: u32, y: u32, e: Effect) -> Outcome
     ensures { (s t : ℕ) → result ≡ control_outcome (control.Bany name s t offset) pc x y e }
 {
@@ -74,6 +79,7 @@ fn opposite_branch(name: OppositeName, offset: i32, pc: u32, x: u32, y: u32, e: 
 }
 
 #[tactic(auto, unfolding(crate::specs::Outcomes::control_outcome))]
+#[inline(always)]
 fn bit_branch(name: BitName, b: i32, offset: i32, pc: u32, x: u32, e: Effect) -> Outcome
     ensures { (s y : ℕ) → result ≡ control_outcome (control.Bbci name s b offset) pc x y e }
 {
@@ -84,6 +90,7 @@ fn bit_branch(name: BitName, b: i32, offset: i32, pc: u32, x: u32, e: Effect) ->
 }
 
 #[tactic(auto, unfolding(crate::specs::Outcomes::control_outcome))]
+#[inline(always)]
 fn loop_entry(name: LoopName, offset: i32, pc: u32, x: u32, e: Effect) -> Outcome
     ensures { (s y : ℕ) → result ≡ control_outcome (control.Loop name s offset) pc x y e }
 {
@@ -97,6 +104,7 @@ fn loop_entry(name: LoopName, offset: i32, pc: u32, x: u32, e: Effect) -> Outcom
 /// What a jump, a call, a branch, an ENTRY or a loop at `pc` does, where AR[s] (of a return a0) and
 /// AR[t] are these.
 #[tactic(auto, unfolding(crate::specs::Outcomes::control_outcome))]
+#[inline(always)]
 pub fn control_outcome(i: Control, pc: u32, x: u32, y: u32, e: Effect) -> Outcome
     ensures { result ≡ control_outcome i pc x y e }
 {

@@ -12,6 +12,7 @@ use xt_map::{Access, Constants, Kind, mapped, region};
 use xt_special::{Ps, number};
 
 /// The effect of an instruction that changes nothing and goes on to the next one.
+#[inline(always)]
 pub fn unchanged(ps: Ps, threadptr: u32) -> Effect
     ensures { result ≡ unchanged ps threadptr }
 {
@@ -25,12 +26,14 @@ pub fn unchanged(ps: Ps, threadptr: u32) -> Effect
     }
 }
 
+#[inline(always)]
 pub fn write_to(number: u8, value: u32) -> Option<Write>
     ensures { result ≡ write_to number value }
 {
     Some(Write { number, value })
 }
 
+#[inline(always)]
 pub fn set_to(number: u8, value: u32) -> Option<SpecialWrite>
     ensures { result ≡ set_to number value }
 {
@@ -38,6 +41,7 @@ pub fn set_to(number: u8, value: u32) -> Option<SpecialWrite>
 }
 
 /// A register receives a value.
+#[inline(always)]
 pub fn puts(number: u8, value: u32, e: Effect) -> Outcome
     ensures { result ≡ puts number value e }
 {
@@ -48,6 +52,7 @@ pub fn puts(number: u8, value: u32, e: Effect) -> Outcome
 }
 
 /// A register receives a value where the condition holds.
+#[inline(always)]
 pub fn moves(condition: bool, number: u8, value: u32, e: Effect) -> Outcome
     ensures { result ≡ moves condition number value e }
 {
@@ -59,6 +64,7 @@ pub fn moves(condition: bool, number: u8, value: u32, e: Effect) -> Outcome
 }
 
 /// A jump.
+#[inline(always)]
 pub fn goes(target: u32, e: Effect) -> Outcome
     ensures { result ≡ goes target e }
 {
@@ -69,6 +75,7 @@ pub fn goes(target: u32, e: Effect) -> Outcome
 }
 
 /// A branch, which is taken where the condition holds.
+#[inline(always)]
 pub fn branches(condition: bool, pc: u32, offset: i32, e: Effect) -> Outcome
     ensures { result ≡ branches condition pc offset e }
 {
@@ -80,6 +87,7 @@ pub fn branches(condition: bool, pc: u32, offset: i32, e: Effect) -> Outcome
 }
 
 /// A call by so many windows, 0 to 3.
+#[inline(always)]
 pub fn calls(size: u8, target: u32, pc: u32, e: Effect) -> Outcome
     requires { size < 4 }
     ensures { result ≡ calls size target pc e }
@@ -103,6 +111,7 @@ pub fn calls(size: u8, target: u32, pc: u32, e: Effect) -> Outcome
 }
 
 /// A loop of so many passes, whose body is passed over where `passes` says so.
+#[inline(always)]
 pub fn loops(passes: bool, count: u32, pc: u32, offset: i32, e: Effect) -> Outcome
     ensures { result ≡ loops passes count pc offset e }
 {
@@ -128,6 +137,7 @@ pub fn loops(passes: bool, count: u32, pc: u32, offset: i32, e: Effect) -> Outco
 }
 
 // An access, which is made where the bus serves it.
+#[inline(always)]
 fn asks(access: Access, awaited: Option<Awaited>, e: Effect) -> Outcome
     ensures { result ≡ asks access awaited e }
 {
@@ -140,6 +150,7 @@ fn asks(access: Access, awaited: Option<Awaited>, e: Effect) -> Outcome
 
 // Whether an address lies in a constant region.
 #[tactic(auto, unfolding(xt_map::specs::Regions::region_of))]
+#[inline(always)]
 fn is_constant(addr: u32) -> bool
     ensures test { result ≡ is_constant (region_of addr) }
     ensures small { result ≡ true → addr + 4 ≤ 2 ^ 32 }
@@ -151,6 +162,7 @@ fn is_constant(addr: u32) -> bool
 }
 
 /// A load of 1, 2 or 4 bytes into a register; of constant regions it is answered at once.
+#[inline(always)]
 pub fn loads(code: &Constants, size: u8, signed: bool, number: u8, addr: u32, e: Effect) -> Outcome
     requires { is_size size ≡ true }
     ensures { result ≡ loads (constant_byte code.now) size signed number addr e }
@@ -170,6 +182,7 @@ pub fn loads(code: &Constants, size: u8, signed: bool, number: u8, addr: u32, e:
 }
 
 // The low bytes of a value.
+#[inline(always)]
 fn low_bytes(size: u8, value: u32) -> u32
     requires { is_size size ≡ true }
     ensures { result ≡ value % 2 ^ (8 * size) }
@@ -182,6 +195,7 @@ fn low_bytes(size: u8, value: u32) -> u32
 }
 
 /// A store of the low 1, 2 or 4 bytes of a value.
+#[inline(always)]
 pub fn stores(size: u8, value: u32, addr: u32, e: Effect) -> Outcome
     requires { is_size size ≡ true }
     ensures { result ≡ stores size value addr e }
@@ -198,6 +212,7 @@ pub fn stores(size: u8, value: u32, addr: u32, e: Effect) -> Outcome
 }
 
 /// A compare-and-swap of a word, which a register receives as it was.
+#[inline(always)]
 pub fn swaps(expected: u32, new: u32, number: u8, addr: u32, e: Effect) -> Outcome
     ensures { result ≡ swaps expected new number addr e }
 {
@@ -220,6 +235,7 @@ pub fn swaps(expected: u32, new: u32, number: u8, addr: u32, e: Effect) -> Outco
 }
 
 /// The register that is kept with the windows, if this number is one's.
+#[inline(always)]
 pub fn window_register(n: u8) -> Option<WindowRegister>
     ensures { result ≡ window_register n }
 {

@@ -1,7 +1,8 @@
 //! Laws of the rows of all instructions. Each is the contract of a function that does nothing.
 #![tactic(auto)]
 
-ghost use Rattle.xt_rows.specs.Laws.{OutcomesAreProper, ReadsOnlyItsRegisters, RegistersExist};
+ghost use Rattle.xt_rows.specs.Kinds.{OutcomesFit, ReadsAreNamed};
+ghost use Rattle.xt_rows.specs.Laws.{FetchedIsInRange, OutcomesAreProper, ReadsOnlyItsRegisters, RegistersExist};
 
 /// A row looks at nothing but the registers that it reads, PC, PS and THREADPTR: where these are
 /// equal, its outcomes are.
@@ -19,4 +20,21 @@ pub fn outcomes_are_proper()
 /// below 16.
 pub fn registers_exist()
     ensures { RegistersExist }
+{}
+
+/// What a row writes or awaits is at most the highest register that its instruction names; an access
+/// that it asks for is one that the bus serves; and ENTRY, RETW, MOVSP, the five instructions of
+/// window handlers and the accesses of WINDOWBASE and WINDOWSTART alone move windows.
+pub fn outcomes_fit_their_instructions()
+    ensures { OutcomesFit }
+{}
+
+/// What an instruction reads is at most the highest register that it names.
+pub fn reads_are_named()
+    ensures { ReadsAreNamed }
+{}
+
+/// What is fetched from bytes has its operands in their ranges.
+pub fn fetched_is_in_range()
+    ensures { FetchedIsInRange }
 {}

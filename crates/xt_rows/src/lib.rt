@@ -16,8 +16,9 @@ mod rows;
 mod shift;
 mod system;
 mod three;
+pub mod ties;
 
-pub use numbers::{code_byte, extended, literal_address, plus};
+pub use numbers::{code_byte, code_three, extended, literal_address, plus};
 pub use operands::{named, reads, special_reads};
 pub use outcome::{
     Awaited, Effect, Flow, Outcome, SpecialWrite, SpecialWrites, WindowRegister, WindowStep, Write,

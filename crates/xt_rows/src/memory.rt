@@ -12,6 +12,7 @@ use xt_map::Constants;
 
 // The address of an access is given, and y is AR[t].
 #[tactic(auto, unfolding(crate::specs::Outcomes::memory_outcome))]
+#[inline(always)]
 fn byte_access(code: &Constants, name: ByteName, t: u8, addr: u32, y: u32, e: Effect) -> Outcome
     ensures { (s pc x u : ℕ) (offset : ℤ) → addr ≡ plus x offset
         → result ≡ memory_outcome (constant_byte code.now) (memory.L8ui name t s offset) pc x y u e }
@@ -23,6 +24,7 @@ fn byte_access(code: &Constants, name: ByteName, t: u8, addr: u32, y: u32, e: Ef
 }
 
 #[tactic(auto, unfolding(crate::specs::Outcomes::memory_outcome))]
+#[inline(always)]
 fn half_access(code: &Constants, name: HalfName, t: u8, addr: u32, y: u32, e: Effect) -> Outcome
     ensures { (s pc x u : ℕ) (offset : ℤ) → addr ≡ plus x offset
         → result ≡ memory_outcome (constant_byte code.now) (memory.L16ui name t s offset) pc x y u e }
@@ -35,6 +37,7 @@ fn half_access(code: &Constants, name: HalfName, t: u8, addr: u32, y: u32, e: Ef
 }
 
 #[tactic(auto, unfolding(crate::specs::Outcomes::memory_outcome))]
+#[inline(always)]
 fn word_access(code: &Constants, name: WordName, t: u8, addr: u32, y: u32, e: Effect) -> Outcome
     ensures { (s pc x u : ℕ) (offset : ℤ) → addr ≡ plus x offset
         → result ≡ memory_outcome (constant_byte code.now) (memory.L32i name t s offset) pc x y u e }
@@ -46,6 +49,7 @@ fn word_access(code: &Constants, name: WordName, t: u8, addr: u32, y: u32, e: Ef
 }
 
 #[tactic(auto, unfolding(crate::specs::Outcomes::memory_outcome))]
+#[inline(always)]
 fn window_access(code: &Constants, name: WindowName, t: u8, addr: u32, y: u32, e: Effect) -> Outcome
     ensures { (s pc x u : ℕ) (offset : ℤ) → addr ≡ plus x offset
         → result ≡ memory_outcome (constant_byte code.now) (memory.L32e name t s offset) pc x y u e }
@@ -59,6 +63,7 @@ fn window_access(code: &Constants, name: WindowName, t: u8, addr: u32, y: u32, e
 /// What a load, a store or an instruction with an immediate at `pc` does, where AR[s], AR[t] and
 /// SCOMPARE1 are these.
 #[tactic(auto, unfolding(crate::specs::Outcomes::memory_outcome))]
+#[inline(always)]
 pub fn memory_outcome(
     code: &Constants,
     i: Memory,

@@ -9,6 +9,7 @@ use xt_word::sext;
 
 /// A number of 32 bits and a signed one, added, modulo 2^32.
 #[tactic(auto, unfolding(crate::specs::Numbers::plus))]
+#[inline(always)]
 pub fn plus(x: u32, n: i32) -> u32
     ensures { result ≡ plus x n }
 {
@@ -17,6 +18,7 @@ pub fn plus(x: u32, n: i32) -> u32
 
 /// A number of 32 bits less another, modulo 2^32.
 #[tactic(auto, unfolding(crate::specs::Numbers::minus))]
+#[inline(always)]
 pub fn minus(x: u32, n: u32) -> u32
     ensures { result ≡ minus x n }
 {
@@ -25,6 +27,7 @@ pub fn minus(x: u32, n: u32) -> u32
 
 /// The number that an operand is which is never negative; 0 for one that is.
 #[tactic(auto, unfolding(crate::specs::Numbers::natural))]
+#[inline(always)]
 pub fn natural(n: i32) -> u32
     ensures { result ≡ natural n }
 {
@@ -34,6 +37,7 @@ pub fn natural(n: i32) -> u32
 /// What a load puts into its register: the number read, whose low 16 bits are signed where the
 /// instruction says so (L16SI).
 #[tactic(auto, unfolding(crate::specs::Numbers::extended))]
+#[inline(always)]
 pub fn extended(signed: bool, n: u32) -> u32
     ensures { result ≡ extended signed n }
 {
@@ -41,6 +45,7 @@ pub fn extended(signed: bool, n: u32) -> u32
 }
 
 /// The address of the instruction behind a call or at the beginning of a loop at `pc`.
+#[inline(always)]
 pub fn address_behind(pc: u32) -> u32
     ensures { result ≡ address_behind pc }
 {
@@ -48,6 +53,7 @@ pub fn address_behind(pc: u32) -> u32
 }
 
 /// Where a jump, a branch or a loop at `pc` leads: its offset is counted from PC + 4.
+#[inline(always)]
 pub fn branch_target(pc: u32, offset: i32) -> u32
     ensures { result ≡ branch_target pc offset }
 {
@@ -56,6 +62,7 @@ pub fn branch_target(pc: u32, offset: i32) -> u32
 
 /// Where a call at `pc` leads: its offset is counted from PC, rounded down to a multiple of 4,
 /// plus 4.
+#[inline(always)]
 pub fn call_target(pc: u32, offset: i32) -> u32
     ensures { result ≡ call_target pc offset }
 {
@@ -64,6 +71,7 @@ pub fn call_target(pc: u32, offset: i32) -> u32
 
 /// The address that an L32R at `pc` loads from: its offset is counted from PC + 3, rounded down to a
 /// multiple of 4.
+#[inline(always)]
 pub fn literal_address(pc: u32, offset: i32) -> u32
     ensures { result ≡ literal_address pc offset }
 {
@@ -72,6 +80,7 @@ pub fn literal_address(pc: u32, offset: i32) -> u32
 
 /// The return address of a call at `pc` by 1, 2 or 3 windows: the size in the top two bits, and the
 /// low 30 bits of PC + 3.
+#[inline(always)]
 pub fn linked(size: u8, pc: u32) -> u32
     requires { size < 4 }
     ensures { result ≡ linked size pc }
@@ -81,6 +90,7 @@ pub fn linked(size: u8, pc: u32) -> u32
 
 /// The byte of the constant regions at an address, 0 elsewhere.
 #[tactic(auto, unfolding(xt_map::specs::Memory::constant_byte))]
+#[inline(always)]
 pub fn code_byte(code: &Constants, addr: u32) -> u8
     ensures { result ≡ constant_byte code.now addr }
 {
@@ -90,7 +100,26 @@ pub fn code_byte(code: &Constants, addr: u32) -> u8
     }
 }
 
+/// The bytes of the constant regions at an address and at the two behind it, 0 elsewhere.
+#[tactic(auto, unfolding(xt_map::specs::Regions::region_of))]
+#[inline(always)]
+pub fn code_three(code: &Constants, addr: u32) -> (u8, u8, u8)
+    requires { addr + 4 < 2 ^ 32 }
+    ensures { result ≡ (constant_byte code.now addr, constant_byte code.now (addr + 1), constant_byte code.now (addr + 2)) }
+{
+    match addr {
+        0x40070000..=0x4009FFFD => code.three(addr),
+        0x400D0000..=0x403FFFFD => code.three(addr),
+        _ => (
+            code_byte(code, addr),
+            code_byte(code, addr + 1),
+            code_byte(code, addr + 2),
+        ),
+    }
+}
+
 /// The little-endian number of 1, 2 or 4 bytes of the constant regions.
+#[inline(always)]
 pub fn code_number(code: &Constants, addr: u32, size: u8) -> u32
     requires size { is_size size ≡ true }
     requires place { addr + 4 ≤ 2 ^ 32 }
@@ -104,6 +133,7 @@ pub fn code_number(code: &Constants, addr: u32, size: u8) -> u32
 }
 
 // The number of two bytes.
+#[inline(always)]
 fn code_half(code: &Constants, addr: u32) -> u32
     requires { addr + 4 ≤ 2 ^ 32 }
     ensures { result ≡ code_number (constant_byte code.now) addr 2 }
@@ -112,6 +142,7 @@ fn code_half(code: &Constants, addr: u32) -> u32
 }
 
 // The number of four bytes.
+#[inline(always)]
 fn code_word(code: &Constants, addr: u32) -> u32
     requires { addr + 4 ≤ 2 ^ 32 }
     ensures { result ≡ code_number (constant_byte code.now) addr 4 }

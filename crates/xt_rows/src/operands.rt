@@ -17,6 +17,7 @@ use xt_isa::three::Three;
 pub type Registers = (Option<u8>, Option<u8>);
 
 /// By how many windows a call moves.
+#[inline(always)]
 pub fn call_size(name: CallName) -> u8
     ensures size { result ≡ call_size name }
     ensures range { result < 4 }
@@ -30,6 +31,7 @@ pub fn call_size(name: CallName) -> u8
 }
 
 /// By how many windows a call by register moves.
+#[inline(always)]
 pub fn callx_size(name: CallxName) -> u8
     ensures size { result ≡ callx_size name }
     ensures range { result < 4 }
@@ -42,6 +44,7 @@ pub fn callx_size(name: CallxName) -> u8
     }
 }
 
+#[inline(always)]
 fn three_reads(i: Three) -> Registers
     ensures { result ≡ three_reads i }
 {
@@ -59,6 +62,7 @@ fn three_reads(i: Three) -> Registers
     }
 }
 
+#[inline(always)]
 fn shift_reads(i: Shift) -> Registers
     ensures { result ≡ shift_reads i }
 {
@@ -79,6 +83,7 @@ fn shift_reads(i: Shift) -> Registers
     }
 }
 
+#[inline(always)]
 fn memory_reads(i: Memory) -> Registers
     ensures { result ≡ memory_reads i }
 {
@@ -98,6 +103,7 @@ fn memory_reads(i: Memory) -> Registers
     }
 }
 
+#[inline(always)]
 fn control_reads(i: Control) -> Registers
     ensures { result ≡ control_reads i }
 {
@@ -116,6 +122,7 @@ fn control_reads(i: Control) -> Registers
     }
 }
 
+#[inline(always)]
 fn system_reads(i: System) -> Registers
     ensures { result ≡ system_reads i }
 {
@@ -126,6 +133,7 @@ fn system_reads(i: System) -> Registers
     }
 }
 
+#[inline(always)]
 fn density_reads(i: Density) -> Registers
     ensures { result ≡ density_reads i }
 {
@@ -145,6 +153,7 @@ fn density_reads(i: Density) -> Registers
 
 /// The visible registers whose values the instruction uses.
 #[tactic(auto, unfolding(crate::specs::Operands::reads))]
+#[inline(always)]
 pub fn reads(i: Insn) -> Registers
     ensures { result ≡ reads i }
 {
@@ -159,6 +168,7 @@ pub fn reads(i: Insn) -> Registers
 }
 
 // INTERRUPT, where a write of this special register changes bits of it.
+#[inline(always)]
 fn changes_interrupt(n: u8) -> Option<u8>
     ensures { result ≡ changes_interrupt n }
 {
@@ -168,6 +178,7 @@ fn changes_interrupt(n: u8) -> Option<u8>
     }
 }
 
+#[inline(always)]
 fn system_special_reads(i: System) -> Registers
     requires { in_range (Insn.System i) ≡ true }
     ensures { result ≡ system_special_reads i }
@@ -185,6 +196,7 @@ fn system_special_reads(i: System) -> Registers
 
 // EPC and EPS of a level.
 #[tactic(auto, unfolding(crate::specs::Numbers::natural, xt_isa::specs::Ranges::natural_within))]
+#[inline(always)]
 fn return_registers(level: i32) -> Registers
     requires { natural_within 2 7 level ≡ true }
     ensures { result ≡ two (number.epc (natural level)) (number.eps (natural level)) }
@@ -195,6 +207,7 @@ fn return_registers(level: i32) -> Registers
 
 /// The special registers whose values the instruction uses, beside PS and THREADPTR.
 #[tactic(auto, unfolding(crate::specs::Operands::special_reads))]
+#[inline(always)]
 pub fn special_reads(i: Insn) -> Registers
     requires { in_range i ≡ true }
     ensures { result ≡ special_reads i }
@@ -208,6 +221,7 @@ pub fn special_reads(i: Insn) -> Registers
     }
 }
 
+#[inline(always)]
 fn three_named(i: Three) -> u8
     ensures { result ≡ three_named i }
 {
@@ -225,6 +239,7 @@ fn three_named(i: Three) -> u8
     }
 }
 
+#[inline(always)]
 fn shift_named(i: Shift) -> u8
     ensures { result ≡ shift_named i }
 {
@@ -244,6 +259,7 @@ fn shift_named(i: Shift) -> u8
     }
 }
 
+#[inline(always)]
 fn memory_named(i: Memory) -> u8
     ensures { result ≡ memory_named i }
 {
@@ -259,6 +275,7 @@ fn memory_named(i: Memory) -> u8
     }
 }
 
+#[inline(always)]
 fn control_named(i: Control) -> u8
     ensures { result ≡ control_named i }
 {
@@ -277,6 +294,7 @@ fn control_named(i: Control) -> u8
     }
 }
 
+#[inline(always)]
 fn system_named(i: System) -> u8
     ensures { result ≡ system_named i }
 {
@@ -286,6 +304,7 @@ fn system_named(i: System) -> u8
     }
 }
 
+#[inline(always)]
 fn density_named(i: Density) -> u8
     ensures { result ≡ density_named i }
 {
@@ -299,6 +318,7 @@ fn density_named(i: Density) -> u8
 
 /// The highest visible register that the instruction names, or 0 where it names none.
 #[tactic(auto, unfolding(crate::specs::Operands::named))]
+#[inline(always)]
 pub fn named(i: Insn) -> u8
     ensures { result ≡ named i }
 {

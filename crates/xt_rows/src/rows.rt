@@ -2,7 +2,8 @@ ghost use Rattle.std.specs.Prelude.{◌≡◌, true};
 ghost use Rattle.xt_isa.specs.Ranges.{in_range};
 ghost use Rattle.xt_map.specs.Memory.{constant_byte};
 ghost use Rattle.xt_special.specs.Shape.{IsPs};
-ghost use Rattle.xt_rows.specs.Laws.{IsAny, IsProper, IsShiftAmount};
+ghost use Rattle.xt_rows.specs.Laws.{AsksWith, IsAny, IsProper, IsShiftAmount};
+ghost use Rattle.xt_rows.specs.Effects.{unchanged};
 ghost use Rattle.xt_rows.specs.Outcomes.{outcome};
 
 use crate::control::control_outcome;
@@ -32,6 +33,7 @@ pub struct Values {
 
 // The row's formula.
 #[tactic(auto, unfolding(crate::specs::Outcomes::outcome))]
+#[inline(always)]
 fn row_outcome(
     code: &Constants,
     i: Insn,
@@ -62,7 +64,9 @@ fn row_outcome(
 /// Conditions: its operands are in their ranges, as those of every instruction that is spelled; of
 /// an instruction that shifts by SAR the value of SAR is below 64; and the fields of PS are in their
 /// ranges. Then it writes registers that there are, asks for an access that the bus serves, and puts
-/// into a special register what it can hold.
+/// into a special register what it can hold; and an instruction that asks for an access changes
+/// nothing else.
+#[inline(always)]
 pub fn outcome_of(
     code: &Constants,
     i: Insn,
@@ -76,6 +80,7 @@ pub fn outcome_of(
     requires ps { IsPs ps }
     ensures formula { result ≡ outcome (constant_byte code.now) i pc values.x values.y values.u values.v ps threadptr }
     ensures proper { IsProper IsAny result }
+    ensures alone { AsksWith (unchanged ps threadptr) result }
 {
     row_outcome(code, i, pc, values, ps, threadptr)
 }

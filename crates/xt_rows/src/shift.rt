@@ -14,6 +14,7 @@ use xt_special::number;
 
 // An operand within a range of numbers below 256.
 #[tactic(auto, unfolding(crate::specs::Numbers::natural, xt_isa::specs::Ranges::natural_within))]
+#[inline(always)]
 pub fn within(n: i32, first: u8, last: u8) -> u8
     requires { natural_within first last n ≡ true }
     ensures value { result ≡ natural n }
@@ -23,6 +24,7 @@ pub fn within(n: i32, first: u8, last: u8) -> u8
     natural(n) as u8
 }
 
+#[inline(always)]
 fn sets_sar(amount: u32, e: Effect) -> Outcome
     ensures { result ≡ sets_sar amount e }
 {
@@ -33,6 +35,7 @@ fn sets_sar(amount: u32, e: Effect) -> Outcome
 }
 
 #[tactic(auto, unfolding(crate::specs::Outcomes::shift_outcome))]
+#[inline(always)]
 fn negated(name: NegName, r: u8, x: u32, e: Effect) -> Outcome
     ensures { (t u : ℕ) → result ≡ shift_outcome (shift.Neg name r t) x u e }
 {
@@ -43,6 +46,7 @@ fn negated(name: NegName, r: u8, x: u32, e: Effect) -> Outcome
 }
 
 #[tactic(auto, unfolding(crate::specs::Outcomes::shift_outcome))]
+#[inline(always)]
 fn shifted_right(name: SrlName, r: u8, x: u32, sar: u8, e: Effect) -> Outcome
     requires { sar < 64 }
     ensures { (t : ℕ) → result ≡ shift_outcome (shift.Srl name r t) x sar e }
@@ -54,6 +58,7 @@ fn shifted_right(name: SrlName, r: u8, x: u32, sar: u8, e: Effect) -> Outcome
 }
 
 #[tactic(auto, unfolding(crate::specs::Outcomes::shift_outcome))]
+#[inline(always)]
 fn sign_extended(name: SextName, r: u8, x: u32, b: i32, e: Effect) -> Outcome
     requires { natural_within 7 22 b ≡ true }
     ensures { (s u : ℕ) → result ≡ shift_outcome (shift.Sext name r s b) x u e }
@@ -65,6 +70,7 @@ fn sign_extended(name: SextName, r: u8, x: u32, b: i32, e: Effect) -> Outcome
 }
 
 #[tactic(auto, unfolding(crate::specs::Outcomes::shift_outcome))]
+#[inline(always)]
 fn leading_bits(name: NsaName, t: u8, x: u32, e: Effect) -> Outcome
     ensures { (s u : ℕ) → result ≡ shift_outcome (shift.Nsa name t s) x u e }
 {
@@ -75,6 +81,7 @@ fn leading_bits(name: NsaName, t: u8, x: u32, e: Effect) -> Outcome
 }
 
 #[tactic(auto, unfolding(crate::specs::Outcomes::shift_outcome))]
+#[inline(always)]
 fn sets_amount(name: SsrName, x: u32, e: Effect) -> Outcome
     ensures { (s u : ℕ) → result ≡ shift_outcome (shift.Ssr name s) x u e }
 {
@@ -85,6 +92,7 @@ fn sets_amount(name: SsrName, x: u32, e: Effect) -> Outcome
 }
 
 #[tactic(auto, unfolding(crate::specs::Outcomes::shift_outcome))]
+#[inline(always)]
 fn sets_byte_amount(name: Ssa8Name, x: u32, e: Effect) -> Outcome
     ensures { (s u : ℕ) → result ≡ shift_outcome (shift.Ssa8l name s) x u e }
 {
@@ -96,6 +104,7 @@ fn sets_byte_amount(name: Ssa8Name, x: u32, e: Effect) -> Outcome
 
 /// What a shift or an instruction of one source does, where the source and SAR are these.
 #[tactic(auto, unfolding(crate::specs::Outcomes::shift_outcome))]
+#[inline(always)]
 pub fn shift_outcome(i: Shift, x: u32, u: u32, e: Effect) -> Outcome
     requires range { shift_in_range i ≡ true }
     requires sar { u < 64 }

@@ -16,6 +16,7 @@ use xt_isa::system::{
 use xt_special::{Ps, number};
 
 #[tactic(auto, unfolding(crate::specs::Outcomes::system_outcome))]
+#[inline(always)]
 fn synchronizes(name: SyncName, e: Effect) -> Outcome
     ensures { (x u v : ℕ) → result ≡ system_outcome (system.Ill name) x u v e }
 {
@@ -26,6 +27,7 @@ fn synchronizes(name: SyncName, e: Effect) -> Outcome
 }
 
 #[tactic(auto, unfolding(crate::specs::Outcomes::system_outcome))]
+#[inline(always)]
 fn waits_for(name: WaitName, e: Effect) -> Outcome
     ensures { (x u v : ℕ) → result ≡ system_outcome (system.Excw name) x u v e }
 {
@@ -35,6 +37,7 @@ fn waits_for(name: WaitName, e: Effect) -> Outcome
 }
 
 #[tactic(auto, unfolding(crate::specs::Outcomes::system_outcome))]
+#[inline(always)]
 fn returns_from_exception(name: ReturnName, u: u32, e: Effect) -> Outcome
     ensures { (x v : ℕ) → result ≡ system_outcome (system.Rfe name) x u v e }
 {
@@ -54,6 +57,7 @@ fn returns_from_exception(name: ReturnName, u: u32, e: Effect) -> Outcome
 }
 
 #[tactic(auto, unfolding(crate::specs::Outcomes::system_outcome))]
+#[inline(always)]
 fn calls_outside(name: BreakName) -> Outcome
     ensures { (level number : ℤ) (x u v : ℕ) (e : Effect) → result ≡ system_outcome (system.Break name level number) x u v e }
 {
@@ -64,6 +68,7 @@ fn calls_outside(name: BreakName) -> Outcome
 }
 
 #[tactic(auto, unfolding(crate::specs::Outcomes::system_outcome))]
+#[inline(always)]
 fn sets_level(name: LevelName, t: u8, level: i32, e: Effect) -> Outcome
     requires level { natural_within 0 15 level ≡ true }
     requires ps { IsPs e.ps }
@@ -88,6 +93,7 @@ fn sets_level(name: LevelName, t: u8, level: i32, e: Effect) -> Outcome
 }
 
 // The value of a special register, of which `u` is the entry in the list.
+#[inline(always)]
 fn value_read(n: u8, u: u32, ps: Ps) -> u32
     requires { IsPs ps }
     ensures { result ≡ value_read n u ps }
@@ -95,6 +101,7 @@ fn value_read(n: u8, u: u32, ps: Ps) -> u32
     if n == number::PS { ps.word() } else { u }
 }
 
+#[inline(always)]
 fn ps_written(n: u8, x: u32, ps: Ps) -> Ps
     ensures { result ≡ ps_written n x ps }
 {
@@ -102,6 +109,7 @@ fn ps_written(n: u8, x: u32, ps: Ps) -> Ps
 }
 
 #[tactic(auto, unfolding(xt_special::specs::Access::without_bits))]
+#[inline(always)]
 fn without_bits(word: u32, bits: u32) -> u32
     ensures { result ≡ without_bits word bits }
 {
@@ -109,6 +117,7 @@ fn without_bits(word: u32, bits: u32) -> u32
 }
 
 #[tactic(auto, unfolding(xt_special::specs::Access::timer_bit))]
+#[inline(always)]
 fn timer_bit(n: u8) -> u32
     ensures { result ≡ timer_bit n }
 {
@@ -120,6 +129,7 @@ fn timer_bit(n: u8) -> u32
 }
 
 #[tactic(auto, unfolding(xt_special::specs::Access::value_kept))]
+#[inline(always)]
 fn value_kept(n: u8, x: u32, v: u32) -> u32
     ensures { result ≡ value_kept n x v }
 {
@@ -135,6 +145,7 @@ fn value_kept(n: u8, x: u32, v: u32) -> u32
 }
 
 // What a write of `x` to the special register `n` changes, where INTERRUPT was `v`.
+#[inline(always)]
 fn special_sets(n: u8, x: u32, v: u32) -> SpecialWrites
     ensures { result ≡ special_sets n x v }
 {
@@ -151,6 +162,7 @@ fn special_sets(n: u8, x: u32, v: u32) -> SpecialWrites
 }
 
 #[tactic(auto, unfolding(crate::specs::Outcomes::system_outcome))]
+#[inline(always)]
 fn reads_special(t: u8, n: u8, u: u32, e: Effect) -> Outcome
     requires { IsPs e.ps }
     ensures { (x v : ℕ) → result ≡ system_outcome (system.Rsr SpecialName.Rsr t n) x u v e }
@@ -162,6 +174,7 @@ fn reads_special(t: u8, n: u8, u: u32, e: Effect) -> Outcome
 }
 
 #[tactic(auto, unfolding(crate::specs::Outcomes::system_outcome))]
+#[inline(always)]
 fn writes_special(n: u8, x: u32, v: u32, e: Effect) -> Outcome
     ensures { (t u : ℕ) → result ≡ system_outcome (system.Rsr SpecialName.Wsr t n) x u v e }
 {
@@ -176,6 +189,7 @@ fn writes_special(n: u8, x: u32, v: u32, e: Effect) -> Outcome
 }
 
 #[tactic(auto, unfolding(crate::specs::Outcomes::system_outcome))]
+#[inline(always)]
 fn exchanges_special(t: u8, n: u8, x: u32, u: u32, v: u32, e: Effect) -> Outcome
     requires { IsPs e.ps }
     ensures { result ≡ system_outcome (system.Rsr SpecialName.Xsr t n) x u v e }
@@ -191,6 +205,7 @@ fn exchanges_special(t: u8, n: u8, x: u32, u: u32, v: u32, e: Effect) -> Outcome
     }
 }
 
+#[inline(always)]
 fn special_access(name: SpecialName, t: u8, n: u8, x: u32, u: u32, v: u32, e: Effect) -> Outcome
     requires { IsPs e.ps }
     ensures { result ≡ system_outcome (system.Rsr name t n) x u v e }
@@ -203,6 +218,7 @@ fn special_access(name: SpecialName, t: u8, n: u8, x: u32, u: u32, v: u32, e: Ef
 }
 
 #[tactic(auto, unfolding(crate::specs::Outcomes::system_outcome))]
+#[inline(always)]
 fn user_register(name: UserName, t: u8, x: u32, e: Effect) -> Outcome
     ensures { (n u v : ℕ) → result ≡ system_outcome (system.Rur name t n) x u v e }
 {
@@ -215,6 +231,7 @@ fn user_register(name: UserName, t: u8, x: u32, e: Effect) -> Outcome
 /// What a system instruction does, where AR[t] is `x`, and the special registers that it reads are
 /// `u` and `v`.
 #[tactic(auto, unfolding(crate::specs::Outcomes::system_outcome))]
+#[inline(always)]
 pub fn system_outcome(i: System, x: u32, u: u32, v: u32, e: Effect) -> Outcome
     requires range { system_in_range i ≡ true }
     requires ps { IsPs e.ps }

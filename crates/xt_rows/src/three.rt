@@ -13,6 +13,7 @@ use xt_isa::three::{
 };
 
 #[tactic(auto, unfolding(crate::specs::Outcomes::three_outcome))]
+#[inline(always)]
 fn bitwise(name: AndName, r: u8, x: u32, y: u32, e: Effect) -> Outcome
     ensures { (s t u : ℕ) → result ≡ three_outcome (three.And name r s t) x y u e }
 {
@@ -24,6 +25,7 @@ fn bitwise(name: AndName, r: u8, x: u32, y: u32, e: Effect) -> Outcome
 }
 
 #[tactic(auto, unfolding(crate::specs::Outcomes::three_outcome))]
+#[inline(always)]
 fn sum(name: AddName, r: u8, x: u32, y: u32, e: Effect) -> Outcome
     ensures { (s t u : ℕ) → result ≡ three_outcome (three.Add name r s t) x y u e }
 {
@@ -36,6 +38,7 @@ fn sum(name: AddName, r: u8, x: u32, y: u32, e: Effect) -> Outcome
 }
 
 #[tactic(auto, unfolding(crate::specs::Outcomes::three_outcome))]
+#[inline(always)]
 fn difference(name: SubName, r: u8, x: u32, y: u32, e: Effect) -> Outcome
     ensures { (s t u : ℕ) → result ≡ three_outcome (three.Sub name r s t) x y u e }
 {
@@ -48,6 +51,7 @@ fn difference(name: SubName, r: u8, x: u32, y: u32, e: Effect) -> Outcome
 }
 
 #[tactic(auto, unfolding(crate::specs::Outcomes::three_outcome))]
+#[inline(always)]
 fn product_of_halves(name: Mul16Name, r: u8, x: u32, y: u32, e: Effect) -> Outcome
     ensures { (s t u : ℕ) → result ≡ three_outcome (three.Mul16u name r s t) x y u e }
 {
@@ -58,6 +62,7 @@ fn product_of_halves(name: Mul16Name, r: u8, x: u32, y: u32, e: Effect) -> Outco
 }
 
 #[tactic(auto, unfolding(crate::specs::Outcomes::three_outcome))]
+#[inline(always)]
 fn high_product(name: MulHighName, r: u8, x: u32, y: u32, e: Effect) -> Outcome
     ensures { (s t u : ℕ) → result ≡ three_outcome (three.Muluh name r s t) x y u e }
 {
@@ -68,6 +73,7 @@ fn high_product(name: MulHighName, r: u8, x: u32, y: u32, e: Effect) -> Outcome
 }
 
 #[tactic(auto, unfolding(crate::specs::Outcomes::three_outcome))]
+#[inline(always)]
 fn quotient(name: DivideName, r: u8, x: u32, y: u32, e: Effect) -> Outcome
     ensures { (s t u : ℕ) → result ≡ three_outcome (three.Quou name r s t) x y u e }
 {
@@ -83,6 +89,7 @@ fn quotient(name: DivideName, r: u8, x: u32, y: u32, e: Effect) -> Outcome
 }
 
 #[tactic(auto, unfolding(crate::specs::Outcomes::three_outcome))]
+#[inline(always)]
 fn least_or_greatest(name: MinName, r: u8, x: u32, y: u32, e: Effect) -> Outcome
     ensures { (s t u : ℕ) → result ≡ three_outcome (three.Min name r s t) x y u e }
 {
@@ -95,6 +102,7 @@ fn least_or_greatest(name: MinName, r: u8, x: u32, y: u32, e: Effect) -> Outcome
 }
 
 #[tactic(auto, unfolding(crate::specs::Outcomes::three_outcome))]
+#[inline(always)]
 fn conditional_move(name: MoveName, r: u8, x: u32, y: u32, e: Effect) -> Outcome
     ensures { (s t u : ℕ) → result ≡ three_outcome (three.Moveqz name r s t) x y u e }
 {
@@ -108,6 +116,7 @@ fn conditional_move(name: MoveName, r: u8, x: u32, y: u32, e: Effect) -> Outcome
 
 /// What an instruction of three registers does, where AR[s], AR[t] and SAR are these.
 #[tactic(auto, unfolding(crate::specs::Outcomes::three_outcome))]
+#[inline(always)]
 pub fn three_outcome(i: Three, x: u32, y: u32, u: u32, e: Effect) -> Outcome
     requires { u < 64 }
     ensures { result ≡ three_outcome i x y u e }

@@ -1,11 +1,11 @@
 -- The same laws where the traces are not kept whole.
-use Rattle.std.proofs.Common.{◌≡◌, ℕ, zero, suc, ◌+◌, ◌≤◌, true, false, cond, Option, Some, None, List, [], ◌∷◌, ◌++◌, length, refl, sym, ap, ◌∙◌, arith}
+use Rattle.std.proofs.Common.{◌≡◌, ℕ, zero, suc, ◌+◌, ◌≤◌, Bool, true, false, ◌||◌, cond, Option, Some, None, List, [], ◌∷◌, ◌++◌, length, refl, sym, ap, ◌∙◌, arith}
 use Rattle.std.proofs.lemmas.List.{length_push}
 use Rattle.xt_map.specs.declared.access.Access.{Access}
 use Rattle.xt_trace.specs.declared.record.StepRecord.{StepRecord}
 use Rattle.xt_trace.specs.Calls.{is_stop}
 use Rattle.xt_runs.specs.Chip.{Chip}
-use Rattle.xt_runs.specs.Traces.{Traced, ended, trace_over, reply_for, replies_past}
+use Rattle.xt_runs.specs.Traces.{Traced, ended, trace_over, reply_for, replies_past, has_stopped}
 use Rattle.xt_trace.specs.Calls.{call_before, calls_in}
 use Rattle.xt_map.specs.History.{replies_of}
 use Rattle.xt_runs.specs.Schedule.{place_before, places_from}
@@ -54,12 +54,18 @@ places_push i (y ∷ xs) x =
     ap (place_before y.access i) (places_push (suc i) xs x) ∙ place_before_append y.access i (places_from (suc i) xs) (place_before x.access (suc i + length xs) [])
     ∙ ap (λ (n : ℕ). place_before y.access i (places_from (suc i) xs) ++ place_before x.access n []) (let e : suc i + length xs ≡ i + suc (length xs) = omega arith in e)
 
+stopped_push : (xs : List StepRecord) (x : StepRecord) → has_stopped (xs ++ x ∷ []) ≡ (has_stopped xs || is_stop x.kind)
+stopped_push [] x = elim (is_stop x.kind) as (λ b. (b || false) ≡ (false || b)) [ true ↦ refl | false ↦ refl ]
+stopped_push (y ∷ xs) x =
+    elim (is_stop y.kind) as (λ b. (b || has_stopped (xs ++ x ∷ [])) ≡ ((b || has_stopped xs) || is_stop x.kind)) [ true ↦ refl | false ↦ stopped_push xs x ]
+
 pub short_core_past : {S : Type 0} (P : Chip S) (k : Core S) (n r : ℕ) → short_core (core_past P k n r) ≡ short_past P (short_core k) n r
 short_core_past {S = S} P k n r =
     let t = P.turn k.state r in
-    let make : ℕ → List ℕ → ShortCore S = λ c ps. record { state = t.1; left = left_past t.0 n; count = c; places = ps } in
-    ap (λ (c : ℕ). make c (places_from 0 (k.records ++ t.0 ∷ []))) (length_push k.records t.0)
-    ∙ ap (make (length k.records + 1)) (places_push 0 k.records t.0 ∙ ap (λ (i : ℕ). places_from 0 k.records ++ place_before t.0.access i []) (let e : 0 + length k.records ≡ length k.records = omega arith in e))
+    let make : ℕ → List ℕ → Bool → ShortCore S = λ c ps b. record { state = t.1; left = left_past t.0 n; count = c; places = ps; stopped = b } in
+    ap (λ (c : ℕ). make c (places_from 0 (k.records ++ t.0 ∷ [])) (has_stopped (k.records ++ t.0 ∷ []))) (length_push k.records t.0)
+    ∙ ap (make (length k.records + 1) (places_from 0 (k.records ++ t.0 ∷ []))) (stopped_push k.records t.0)
+    ∙ ap (λ (ps : List ℕ). make (length k.records + 1) ps (has_stopped k.records || is_stop t.0.kind)) (places_push 0 k.records t.0 ∙ ap (λ (i : ℕ). places_from 0 k.records ++ place_before t.0.access i []) (let e : 0 + length k.records ≡ length k.records = omega arith in e))
 
 short_core_given : {S : Type 0} (P : Chip S) (n : ℕ) (k : Core S) (b : Line) → short_core (core_given P n k b) ≡ short_given P n (short_core k) b
 short_core_given P zero k b = refl

@@ -1,3 +1,4 @@
+-- Carries a proof; nothing that a reader must believe.
 -- What holds of every world that turns lead to ('profile').
 use Rattle.std.specs.Prelude.{◌≡◌}
 use Rattle.xt_map.specs.History.{memory_after, IsLegal, IsOfCores}

@@ -1,10 +1,12 @@
+-- Carries a proof; nothing that a reader must believe.
 -- Traces that are not kept whole: a count and the places of the accesses stand for the records ('profile').
-use Rattle.std.specs.Prelude.{◌≡◌, ℕ, zero, suc, ◌+◌, ◌<◌, ◌≤◌, List, [], ◌∷◌, ◌++◌, length}
+use Rattle.std.specs.Prelude.{◌≡◌, ℕ, zero, suc, ◌+◌, ◌<◌, ◌≤◌, Bool, ◌||◌, List, [], ◌∷◌, ◌++◌, length}
 use Rattle.xt_map.specs.declared.access.Entry.{Entry}
 use Rattle.xt_map.specs.History.{IsLegal, IsOfCores}
 use Rattle.xt_runs.specs.Chip.{Chip}
-use Rattle.xt_runs.specs.Traces.{Traced, trace_over}
-use Rattle.xt_trace.specs.Calls.{calls_in}
+use Rattle.xt_runs.specs.Traces.{Traced, trace_over, has_stopped, stop_of}
+use Rattle.xt_trace.specs.Calls.{calls_in, is_stop}
+use Rattle.xt_trace.specs.declared.trace.Stop.{Stop}
 use Rattle.xt_map.specs.History.{calls_of, replies_of}
 use Rattle.xt_runs.specs.Schedule.{place_before, places_from, cores_of}
 use Rattle.xt_runs.specs.Alone.{answer}
@@ -16,10 +18,11 @@ use Rattle.xt_runs.specs.Runs.{Opening, Run}
 pub record ShortTrace (S : Type 0) : Type 0 where
   pub count : ℕ
   pub places : List ℕ
+  pub stop : Stop
   pub last : S
 
 abbrev pub short_trace : {S : Type 0} → Traced S → ShortTrace S
-short_trace z = record { count = length z.records; places = places_from 0 z.records; last = z.last }
+short_trace z = record { count = length z.records; places = places_from 0 z.records; stop = stop_of z.records; last = z.last }
 
 pub record ShortRun (S : Type 0) : Type 0 where
   pub history : List Entry
@@ -47,14 +50,23 @@ pub record ShortCore (S : Type 0) : Type 0 where
   pub left : ℕ
   pub count : ℕ
   pub places : List ℕ
+  -- it has come to a Stop
+  pub stopped : Bool
 
 abbrev pub short_core : {S : Type 0} → Core S → ShortCore S
-short_core k = record { state = k.state; left = k.left; count = length k.records; places = places_from 0 k.records }
+short_core k =
+    record { state = k.state; left = k.left; count = length k.records; places = places_from 0 k.records; stopped = has_stopped k.records }
 
 abbrev pub short_past : {S : Type 0} (P : Chip S) → ShortCore S → ℕ → ℕ → ShortCore S
 short_past P k n reply =
     let t = P.turn k.state reply in
-    record { state = t.1; left = left_past t.0 n; count = k.count + 1; places = k.places ++ place_before t.0.access k.count [] }
+    record {
+      state = t.1;
+      left = left_past t.0 n;
+      count = k.count + 1;
+      places = k.places ++ place_before t.0.access k.count [];
+      stopped = k.stopped || is_stop t.0.kind;
+    }
 
 abbrev pub short_given : {S : Type 0} (P : Chip S) → ℕ → ShortCore S → Line → ShortCore S
 short_given P zero k b = k

@@ -1,5 +1,5 @@
 -- The trace of a core over the replies to its accesses ('profile').
-use Rattle.std.specs.Prelude.{ℕ, zero, suc, if◌then◌else◌, Option, Some, None, List, [], ◌∷◌}
+use Rattle.std.specs.Prelude.{ℕ, zero, suc, Bool, if◌then◌else◌, Option, Some, None, List, [], ◌∷◌}
 use Rattle.std.specs.List.{list_any}
 use Rattle.xt_map.specs.declared.access.Access.{Access}
 use Rattle.xt_trace.specs.declared.record.StepRecord.{StepRecord}
@@ -40,6 +40,13 @@ trace_over P s (suc n) replies =
     let rest = trace_over P t.1 n (replies_past (P.demand s) replies) in
     began t.0 (if is_stop t.0.kind then ended t.1 else rest)
 
+-- one of the records is a Stop
+abbrev pub has_stopped : List StepRecord → Bool
+has_stopped records = list_any (λ (r : StepRecord). is_stop r.kind) records
+
 -- why a trace ended: at a BREAK, or with its last turn
+abbrev pub stop_where : Bool → Stop
+stop_where stopped = if stopped then stop.Break else stop.Turns
+
 abbrev pub stop_of : List StepRecord → Stop
-stop_of records = if list_any (λ (r : StepRecord). is_stop r.kind) records then stop.Break else stop.Turns
+stop_of records = stop_where (has_stopped records)

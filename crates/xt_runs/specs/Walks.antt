@@ -1,3 +1,4 @@
+-- States laws that are proved; nothing that a reader must believe.
 -- Walking a list of cores with the records of both: each number is one turn, and its record is the next of that core's ('profile').
 use Rattle.std.specs.Prelude.{◌≡◌, ℕ, zero, suc, ◌<◌, List, [], ◌∷◌, take}
 use Rattle.xt_trace.specs.declared.record.StepRecord.{StepRecord}

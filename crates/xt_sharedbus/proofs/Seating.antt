@@ -28,12 +28,12 @@ seated_opening m zero p = refl
 seated_opening m (suc c) p = refl
 
 -- the bus that was taken has room for what is left
-pub took_room : (v u : View) (x : Item) (m : MemoryContents) (c : ℕ) (p : Part) → c < 2 → v ≡ seated m c p → Took v x u → p.left ≤ x.bus.spare
+pub took_room : (v u : View) (x : Item) (m : MemoryContents) (c : ℕ) (p : Part) → c < 2 → v ≡ seated m c p → Took v x u → p.left ≤ x.bus.value.spare
 took_room v u x m c p two is took = (took.1.1 c p two (ap (part_in c) is ∙ seated_part m c p)).1
 
-pub took_opening : (v u : View) (x : Item) (m : MemoryContents) (c : ℕ) (p : Part) → v ≡ seated m c p → Took v x u → x.bus.opening ≡ m
-took_opening v u x m zero p is took = let P : View → Type 0 = λ y. HasOpening x.bus.opening y in sym (subst P is took.1.0)
-took_opening v u x m (suc c) p is took = let P : View → Type 0 = λ y. HasOpening x.bus.opening y in sym (subst P is took.1.0)
+pub took_opening : (v u : View) (x : Item) (m : MemoryContents) (c : ℕ) (p : Part) → v ≡ seated m c p → Took v x u → x.bus.value.opening ≡ m
+took_opening v u x m zero p is took = let P : View → Type 0 = λ y. HasOpening x.bus.value.opening y in sym (subst P is took.1.0)
+took_opening v u x m (suc c) p is took = let P : View → Type 0 = λ y. HasOpening x.bus.value.opening y in sym (subst P is took.1.0)
 
 -- the view with the bus in its hand, as a live view
 in_hand : (m : MemoryContents) (c : ℕ) (p : Part) (h : Hand) → (a : Option Part) × (b : Option Part) × (holding h (seated m c p) ≡ Live m a b (Some h))
@@ -48,13 +48,13 @@ hand_there : (m : MemoryContents) (c : ℕ) (p : Part) (h : Hand) → hand_in (h
 hand_there m zero p h = refl
 hand_there m (suc c) p h = refl
 
-pub one_on : (v u : View) (x y : Item) (m : MemoryContents) (c : ℕ) (p : Part) (a : Access) (reply : ℕ) → c < 2 → 0 < p.left → v ≡ seated m c p → Took v x u → y.bus ≡ stepped x.bus (entry c a reply) → IsOneEntryOn u y
+pub one_on : (v u : View) (x y : Item) (m : MemoryContents) (c : ℕ) (p : Part) (a : Access) (reply : ℕ) → c < 2 → 0 < p.left → v ≡ seated m c p → Took v x u → y.bus.value ≡ stepped x.bus.value (entry c a reply) → IsOneEntryOn u y
 one_on v u x y m c p a reply two some_left is took step =
-    let h : Hand = hand_of x.bus in
+    let h : Hand = hand_of x.bus.value in
     let now : u ≡ holding h (seated m c p) = took.0 ∙ ap (holding h) is in
     let live = in_hand m c p h in
-    let room : p.left ≤ x.bus.spare = took_room v u x m c p two is took in
-    let less : y.bus.spare ≡ x.bus.spare - 1 = ap (λ (b : BusState). b.spare) step in (
+    let room : p.left ≤ x.bus.value.spare = took_room v u x m c p two is took in
+    let less : y.bus.value.spare ≡ x.bus.value.spare - 1 = ap (λ (b : BusState). b.spare) step in (
       m,
       live.0,
       live.1,
@@ -80,10 +80,10 @@ given_back m zero p h a reply two = refl
 given_back m (suc zero) p h a reply two = refl
 given_back m (suc (suc c)) p h a reply two = absurd (omega arith)
 
-pub gave_view : (v u w : View) (x y : Item) (m : MemoryContents) (c : ℕ) (p : Part) (a : Access) (reply : ℕ) → c < 2 → v ≡ seated m c p → Took v x u → y.bus ≡ stepped x.bus (entry c a reply) → Gave u y w
+pub gave_view : (v u w : View) (x y : Item) (m : MemoryContents) (c : ℕ) (p : Part) (a : Access) (reply : ℕ) → c < 2 → v ≡ seated m c p → Took v x u → y.bus.value ≡ stepped x.bus.value (entry c a reply) → Gave u y w
     → w ≡ seated m c (part (p.list ++ (a, reply) ∷ []) (p.left - 1))
 gave_view v u w x y m c p a reply two is took step gave =
-    let h : Hand = hand_of x.bus in
+    let h : Hand = hand_of x.bus.value in
     let e : Entry = entry c a reply in
     let now : u ≡ holding h (seated m c p) = took.0 ∙ ap (holding h) is in
     let some_hand : Some gave.0 ≡ Some h = sym gave.2 ∙ (ap hand_in now ∙ hand_there m c p h) in

@@ -33,22 +33,22 @@ after_open items views port m a b h k at =
     ⊎_elim (λ (u : IsUnopened items views). let e : Live m a b h ≡ unopened = (alone views port (Live m a b h) u.1 at).1 in absurd cc) (λ (o : IsOpen items views). o) k
 
 -- open
-pub opens : (n port : ℕ) (x : Item) → x.bus.history ≡ [] → x.turns0 + x.turns1 ≤ x.bus.spare → Pushes HoldsOneBus n port unopened x (Opened unopened x)
+pub opens : (n port : ℕ) (x : Item) → x.bus.value.history ≡ [] → x.turns0 + x.turns1 ≤ x.bus.value.spare → Pushes HoldsOneBus n port unopened x (Opened unopened x)
 opens n port x empty room items views short k at =
-    let w : View = Live x.bus.opening (Some (part [] x.turns0)) (Some (part [] x.turns1)) None in
+    let w : View = Live x.bus.value.opening (Some (part [] x.turns0)) (Some (part [] x.turns1)) None in
     ⊎_elim
     (λ (u : IsUnopened items views).
     let only : (A : Type 0) (f : View → Option A) (y : A) → f unopened ≡ None → f w ≡ Some y → Once f y (set views port w) =
     (λ A f y none is. once_new f views port unopened w y at (λ i r e. ap f (alone views i r u.1 e).1 ∙ none) is) in (
       w,
       inr (
-        x.bus.opening,
-        hand_of x.bus,
+        x.bus.value.opening,
+        hand_of x.bus.value,
         part [] x.turns0,
         part [] x.turns1,
         inl (x, ap (λ (l : List Item). l ++ x ∷ []) u.0, refl, refl, nowhere_set hand_in views port w (λ i r e. ap hand_in (alone views i r u.1 e).1) refl),
         λ i r e.
-            ⊎_elim (λ (t : (i ≡ port) × (w ≡ r)). let P : View → Type 0 = λ y. HasOpening x.bus.opening y in subst P t.1 refl)
+            ⊎_elim (λ (t : (i ≡ port) × (w ≡ r)). let P : View → Type 0 = λ y. HasOpening x.bus.value.opening y in subst P t.1 refl)
             (λ (t : (i ≢ port) × (get_elem? views i ≡ some r)). absurd (t.0 ((alone views i r u.1 t.1).0 ∙ sym (alone views port unopened u.1 at).0))) (at_set views port i w r e),
         (only Part (part_in 0) (part [] x.turns0) refl refl, ap (λ (l : List Entry). calls_of 0 l) empty),
         (only Part (part_in 1) (part [] x.turns1) refl refl, ap (λ (l : List Entry). calls_of 1 l) empty),
@@ -74,13 +74,13 @@ part_known (suc (suc c)) p q r h views port v two at is zeros ones room = absurd
 pub takes : (port : ℕ) (m : MemoryContents) (a b : Option Part) → Pops HoldsOneBus port (Live m a b None) (Took (Live m a b None))
 takes port m a b x items views k at =
     let v : View = Live m a b None in
-    let w : View = Live m a b (Some (hand_of x.bus)) in
+    let w : View = Live m a b (Some (hand_of x.bus.value)) in
     let o = after_open (x ∷ items) views port m a b None k at in
     ⊎_elim
-    (λ (t : (y : Item) × (x ∷ items ≡ y ∷ []) × (y.bus.opening ≡ o.0) × (hand_of y.bus ≡ o.1) × Nowhere hand_in views).
+    (λ (t : (y : Item) × (x ∷ items ≡ y ∷ []) × (y.bus.value.opening ≡ o.0) × (hand_of y.bus.value ≡ o.1) × Nowhere hand_in views).
     let e : x ≡ t.0 = cc (t.1) in
     let rest : items ≡ [] = cc (t.1) in
-    let same : hand_of x.bus ≡ o.1 = ap (λ (y : Item). hand_of y.bus) e ∙ t.3 in (
+    let same : hand_of x.bus.value ≡ o.1 = ap (λ (y : Item). hand_of y.bus.value) e ∙ t.3 in (
       w,
       inr (
         o.0,
@@ -96,7 +96,7 @@ takes port m a b x items views k at =
       (
         refl,
         (
-          o.5 port v at ∙ sym (ap (λ (y : Item). y.bus.opening) e ∙ t.2),
+          o.5 port v at ∙ sym (ap (λ (y : Item). y.bus.value.opening) e ∙ t.2),
           λ c p two is.
               let known = part_known c o.2 o.3 p o.1 views port v two at is o.6 o.7 o.8 in
               (ap (λ (y : Hand). calls_of c y.history) same ∙ known.0, (let P : Hand → Type 0 = λ y. p.left ≤ y.spare in subst P (sym same) known.1)),
@@ -114,7 +114,7 @@ finds port (Live m a b None) items views k at may = absurd may
 finds port (Live m a b (Some h)) items views k at may =
     let o = after_open items views port m a b (Some h) k at in
     ⊎_elim
-    (λ (t : (y : Item) × (items ≡ y ∷ []) × (y.bus.opening ≡ o.0) × (hand_of y.bus ≡ o.1) × Nowhere hand_in views).
+    (λ (t : (y : Item) × (items ≡ y ∷ []) × (y.bus.value.opening ≡ o.0) × (hand_of y.bus.value ≡ o.1) × Nowhere hand_in views).
     let none : Some h ≡ None = t.4 port (Live m a b (Some h)) at in absurd cc)
     (λ (t : (items ≡ []) × Once hand_in o.1 views). t.0) o.4
 
@@ -173,43 +173,43 @@ not_own zero (suc (suc k)) e v r a b core own none = absurd (omega arith)
 not_own (suc zero) (suc (suc k)) e v r a b core own none = absurd (omega arith)
 
 pub gives : (n port : ℕ) (m : MemoryContents) (a b : Option Part) (h : Hand) (x : Item) (e : Entry) (r : Part) → e.core < 2 → part_in e.core (Live m a b (Some h)) ≡ Some r → 0 < r.left
-    → x.bus.opening ≡ m → x.bus.history ≡ h.history ++ e ∷ [] → x.bus.spare + 1 ≡ h.spare → Pushes HoldsOneBus n port (Live m a b (Some h)) x (Gave (Live m a b (Some h)) x)
+    → x.bus.value.opening ≡ m → x.bus.value.history ≡ h.history ++ e ∷ [] → x.bus.value.spare + 1 ≡ h.spare → Pushes HoldsOneBus n port (Live m a b (Some h)) x (Gave (Live m a b (Some h)) x)
 gives n port m a b h x e r two own some_left opening longer spare items views short k at =
     let v : View = Live m a b (Some h) in
     let w : View = given e v in
     let o = after_open items views port m a b (Some h) k at in
     ⊎_elim
-    (λ (t : (y : Item) × (items ≡ y ∷ []) × (y.bus.opening ≡ o.0) × (hand_of y.bus ≡ o.1) × Nowhere hand_in views).
+    (λ (t : (y : Item) × (items ≡ y ∷ []) × (y.bus.value.opening ≡ o.0) × (hand_of y.bus.value ≡ o.1) × Nowhere hand_in views).
     let none : Some h ≡ None = t.4 port v at in absurd cc)
     (λ (t : (items ≡ []) × Once hand_in o.1 views).
     let same : h ≡ o.1 = (once_is hand_in views port v o.1 h at refl t.1).1 in
-    let longer' : x.bus.history ≡ o.1.history ++ e ∷ [] = longer ∙ ap (λ (y : Hand). y.history ++ e ∷ []) same in
-    let spare' : x.bus.spare + 1 ≡ o.1.spare = spare ∙ ap (λ (y : Hand). y.spare) same in
-    let room : o.2.left + o.3.left ≤ x.bus.spare + 1 = (let k = o.8 in omega arith) in (
+    let longer' : x.bus.value.history ≡ o.1.history ++ e ∷ [] = longer ∙ ap (λ (y : Hand). y.history ++ e ∷ []) same in
+    let spare' : x.bus.value.spare + 1 ≡ o.1.spare = spare ∙ ap (λ (y : Hand). y.spare) same in
+    let room : o.2.left + o.3.left ≤ x.bus.value.spare + 1 = (let k = o.8 in omega arith) in (
       w,
       inr (
         o.0,
-        hand_of x.bus,
+        hand_of x.bus.value,
         grown 0 e o.2,
         grown 1 e o.3,
         inl (x, ap (λ (l : List Item). l ++ x ∷ []) t.0, opening ∙ o.5 port v at, refl, once_gone hand_in views port v w o.1 h at refl t.1 refl),
         all_set (HasOpening o.0) views port w o.5 (o.5 port v at),
-        answers_grown 0 port views v w o.1 (hand_of x.bus) e o.2 a at longer' refl refl (λ none. not_own 0 e.core e v r (omega arith) two refl own none) o.6,
-        answers_grown 1 port views v w o.1 (hand_of x.bus) e o.3 b at longer' refl refl (λ none. not_own 1 e.core e v r (omega arith) two refl own none) o.7,
-        sum_falls e.core e o.2 o.3 r v views port x.bus.spare o.1 (hand_of x.bus) two refl at own some_left o.6 o.7 room,
+        answers_grown 0 port views v w o.1 (hand_of x.bus.value) e o.2 a at longer' refl refl (λ none. not_own 0 e.core e v r (omega arith) two refl own none) o.6,
+        answers_grown 1 port views v w o.1 (hand_of x.bus.value) e o.3 b at longer' refl refl (λ none. not_own 1 e.core e v r (omega arith) two refl own none) o.7,
+        sum_falls e.core e o.2 o.3 r v views port x.bus.value.spare o.1 (hand_of x.bus.value) two refl at own some_left o.6 o.7 room,
       ),
       (h, e, refl, longer, refl),
     )) o.4
 
 -- give back, with no entry more
-pub gives_same : (n port : ℕ) (m : MemoryContents) (a b : Option Part) (x : Item) → x.bus.opening ≡ m → Pushes HoldsOneBus n port (Live m a b (Some (hand_of x.bus))) x (GaveSame (Live m a b (Some (hand_of x.bus))) x)
+pub gives_same : (n port : ℕ) (m : MemoryContents) (a b : Option Part) (x : Item) → x.bus.value.opening ≡ m → Pushes HoldsOneBus n port (Live m a b (Some (hand_of x.bus.value))) x (GaveSame (Live m a b (Some (hand_of x.bus.value))) x)
 gives_same n port m a b x opening items views short k at =
-    let h : Hand = hand_of x.bus in
+    let h : Hand = hand_of x.bus.value in
     let v : View = Live m a b (Some h) in
     let w : View = Live m a b None in
     let o = after_open items views port m a b (Some h) k at in
     ⊎_elim
-    (λ (t : (y : Item) × (items ≡ y ∷ []) × (y.bus.opening ≡ o.0) × (hand_of y.bus ≡ o.1) × Nowhere hand_in views).
+    (λ (t : (y : Item) × (items ≡ y ∷ []) × (y.bus.value.opening ≡ o.0) × (hand_of y.bus.value ≡ o.1) × Nowhere hand_in views).
     let none : Some h ≡ None = t.4 port v at in absurd cc)
     (λ (t : (items ≡ []) × Once hand_in o.1 views).
     let same : h ≡ o.1 = (once_is hand_in views port v o.1 h at refl t.1).1 in (
@@ -243,7 +243,7 @@ forks port m p q items views k at =
       o.2,
       o.3,
       ⊎_elim
-          (λ (t : (y : Item) × (items ≡ y ∷ []) × (y.bus.opening ≡ o.0) × (hand_of y.bus ≡ o.1) × Nowhere hand_in views).
+          (λ (t : (y : Item) × (items ≡ y ∷ []) × (y.bus.value.opening ≡ o.0) × (hand_of y.bus.value ≡ o.1) × Nowhere hand_in views).
           inl (t.0, t.1, t.2, t.3, nowhere_end hand_in vs r (nowhere_set hand_in views port l t.4 refl) refl))
           (λ (t : (items ≡ []) × Once hand_in o.1 views). inr (t.0, once_end hand_in vs r o.1 (once_kept hand_in views port v l o.1 at t.1 refl) refl)) o.4,
       all_end (HasOpening o.0) vs r (all_set (HasOpening o.0) views port l o.5 (o.5 port v at)) (o.5 port v at),
@@ -269,7 +269,7 @@ merges port m n p q other items views k at two at' =
       o.2,
       o.3,
       ⊎_elim
-          (λ (t : (y : Item) × (items ≡ y ∷ []) × (y.bus.opening ≡ o.0) × (hand_of y.bus ≡ o.1) × Nowhere hand_in views).
+          (λ (t : (y : Item) × (items ≡ y ∷ []) × (y.bus.value.opening ≡ o.0) × (hand_of y.bus.value ≡ o.1) × Nowhere hand_in views).
           inl (t.0, t.1, t.2, t.3, nowhere_set hand_in vs other spent (nowhere_set hand_in views port both t.4 refl) refl))
           (λ (t : (items ≡ []) × Once hand_in o.1 views).
           inr (t.0, once_kept hand_in vs other u spent o.1 at' (once_kept hand_in views port v both o.1 at t.1 refl) refl)) o.4,

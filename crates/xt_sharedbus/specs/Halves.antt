@@ -1,3 +1,4 @@
+-- Carries a proof; nothing that a reader must believe.
 -- What the two halves of an access ask and say.
 use Rattle.std.specs.Prelude.{◌≡◌, ◌+◌, ◌<◌, [], ◌∷◌, ◌++◌, Option, Some, None}
 use Rattle.xt_map.specs.declared.contents.MemoryContents.{MemoryContents}
@@ -21,6 +22,6 @@ IsOneEntryOn v x =
     × (e.core < 2)
     × (part_in e.core v ≡ Some r)
     × (0 < r.left)
-    × (x.bus.opening ≡ m)
-    × (x.bus.history ≡ h.history ++ e ∷ [])
-    × (x.bus.spare + 1 ≡ h.spare)
+    × (x.bus.value.opening ≡ m)
+    × (x.bus.value.history ≡ h.history ++ e ∷ [])
+    × (x.bus.value.spare + 1 ≡ h.spare)

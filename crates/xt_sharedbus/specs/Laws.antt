@@ -1,3 +1,4 @@
+-- Carries a proof; nothing that a reader must believe.
 -- Each kind of step keeps the rule of the shared queue. This is the contract of a function of src/laws.rt.
 use Rattle.std.specs.Prelude.{◌≡◌, ℕ, ◌+◌, ◌<◌, ◌≤◌, [], ◌∷◌, ◌++◌, Option, Some, None}
 use Rattle.crossbeam_queue.specs.Fifo.{Pushes, Pops, Forks, Merges, Learns}
@@ -13,7 +14,7 @@ use Rattle.xt_sharedbus.specs.Rule.{HoldsOneBus, Opened, FindsEmpty, Took, Gave,
 
 -- the first push: a bus with no history and room for the accesses of both cores
 abbrev pub OpenKeepsRule : Type 0
-OpenKeepsRule = (n port : ℕ) (x : Item) → x.bus.history ≡ [] → x.turns0 + x.turns1 ≤ x.bus.spare → Pushes HoldsOneBus n port unopened x (Opened unopened x)
+OpenKeepsRule = (n port : ℕ) (x : Item) → x.bus.value.history ≡ [] → x.turns0 + x.turns1 ≤ x.bus.value.spare → Pushes HoldsOneBus n port unopened x (Opened unopened x)
 
 -- a pop
 abbrev pub TakeKeepsRule : Type 0
@@ -28,14 +29,14 @@ abbrev pub GiveBackKeepsRule : Type 0
 GiveBackKeepsRule =
     (n port : ℕ) (m : MemoryContents) (a b : Option Part) (h : Hand) (x : Item) (e : Entry) (r : Part)
     → e.core < 2 → part_in e.core (Live m a b (Some h)) ≡ Some r → 0 < r.left
-    → x.bus.opening ≡ m → x.bus.history ≡ h.history ++ e ∷ [] → x.bus.spare + 1 ≡ h.spare
+    → x.bus.value.opening ≡ m → x.bus.value.history ≡ h.history ++ e ∷ [] → x.bus.value.spare + 1 ≡ h.spare
     → Pushes HoldsOneBus n port (Live m a b (Some h)) x (Gave (Live m a b (Some h)) x)
 
 -- a push of the hand's bus as it was taken
 abbrev pub ReturnKeepsRule : Type 0
 ReturnKeepsRule =
     (n port : ℕ) (m : MemoryContents) (a b : Option Part) (x : Item)
-    → x.bus.opening ≡ m → Pushes HoldsOneBus n port (Live m a b (Some (hand_of x.bus))) x (GaveSame (Live m a b (Some (hand_of x.bus))) x)
+    → x.bus.value.opening ≡ m → Pushes HoldsOneBus n port (Live m a b (Some (hand_of x.bus.value))) x (GaveSame (Live m a b (Some (hand_of x.bus.value))) x)
 
 -- a pass that answers for both cores becomes one for core 0 and one for core 1
 abbrev pub SplitKeepsRule : Type 0

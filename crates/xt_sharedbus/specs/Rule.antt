@@ -1,3 +1,4 @@
+-- Carries a proof; nothing that a reader must believe.
 -- The rule of the shared queue.
 use Rattle.std.specs.Prelude.{◌≡◌, ◌≢◌, ℕ, ◌+◌, ◌<◌, ◌≤◌, ◌⊎◌, List, [], ◌∷◌, ◌++◌, Option, Some, None}
 use mathlib.Core.Option.{some}
@@ -32,7 +33,7 @@ module _ {A : Type 0} (f : View → Option A) where
 -- 1, and 2 of the bus in the queue
 abbrev pub Stands : List Item → MemoryContents → Hand → List View → Type 0
 Stands items m h views =
-    ((x : Item) × (items ≡ x ∷ []) × (x.bus.opening ≡ m) × (hand_of x.bus ≡ h) × Nowhere hand_in views)
+    ((x : Item) × (items ≡ x ∷ []) × (x.bus.value.opening ≡ m) × (hand_of x.bus.value ≡ h) × Nowhere hand_in views)
     ⊎ ((items ≡ []) × Once hand_in h views)
 
 -- 2 of one view: a live view holds this opening memory, and none is unopened any more
@@ -66,7 +67,7 @@ HoldsOneBus items views = IsUnopened items views ⊎ IsOpen items views
 
 -- the first push leaves a view that answers for both cores, with the bus's opening memory, empty lists and the item's numbers of accesses
 abbrev pub Opened : View → Item → View → Type 0
-Opened v x w = w ≡ Live x.bus.opening (Some (part [] x.turns0)) (Some (part [] x.turns1)) None
+Opened v x w = w ≡ Live x.bus.value.opening (Some (part [] x.turns0)) (Some (part [] x.turns1)) None
 
 -- a bus that its holder may put in finds the queue empty
 abbrev pub MayPut : View → Type 0
@@ -80,16 +81,16 @@ FindsEmpty v items = MayPut v → items ≡ []
 
 -- what a view knows of a bus for the cores that it answers for
 abbrev pub Agrees : View → Item → Type 0
-Agrees v x = HasOpening x.bus.opening v × ((c : ℕ) (p : Part) → c < 2 → part_in c v ≡ Some p → (calls_of c x.bus.history ≡ p.list) × (p.left ≤ x.bus.spare))
+Agrees v x = HasOpening x.bus.value.opening v × ((c : ℕ) (p : Part) → c < 2 → part_in c v ≡ Some p → (calls_of c x.bus.value.history ≡ p.list) × (p.left ≤ x.bus.value.spare))
 
 -- a pop leaves the popped history and spare as the hand
 abbrev pub Took : View → Item → View → Type 0
-Took v x w = (w ≡ holding (hand_of x.bus) v) × Agrees v x
+Took v x w = (w ≡ holding (hand_of x.bus.value) v) × Agrees v x
 
 -- a push of the hand's bus, which has one entry more than it had; that core's list is longer by it, and its accesses left are fewer by one
 abbrev pub Gave : View → Item → View → Type 0
-Gave v x w = (h : Hand) × (e : Entry) × (hand_in v ≡ Some h) × (x.bus.history ≡ h.history ++ e ∷ []) × (w ≡ given e v)
+Gave v x w = (h : Hand) × (e : Entry) × (hand_in v ≡ Some h) × (x.bus.value.history ≡ h.history ++ e ∷ []) × (w ≡ given e v)
 
 -- a push of the hand's bus as it was
 abbrev pub GaveSame : View → Item → View → Type 0
-GaveSame v x w = (hand_in v ≡ Some (hand_of x.bus)) × (w ≡ emptied v)
+GaveSame v x w = (hand_in v ≡ Some (hand_of x.bus.value)) × (w ≡ emptied v)

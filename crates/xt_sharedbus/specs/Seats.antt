@@ -1,3 +1,4 @@
+-- Carries a proof; nothing that a reader must believe.
 -- What a seat keeps of its fields.
 use Rattle.std.specs.Prelude.{◌≡◌, ℕ, ◌<◌, List, [], Option, Some, None}
 use Rattle.crossbeam_queue.specs.Passes.{view}

@@ -1,3 +1,4 @@
+-- Carries a proof; nothing that a reader must believe.
 -- The views of the passes.
 use Rattle.std.specs.Prelude.{ℕ, zero, suc, ◌-◌, ◌==◌, cond, List, [], ◌∷◌, ◌++◌, Option, Some, None}
 use Rattle.xt_map.specs.declared.contents.MemoryContents.{MemoryContents}

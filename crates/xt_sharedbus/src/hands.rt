@@ -7,7 +7,12 @@ ghost use Rattle.xt_sharedbus.specs.Halves.{IsIdle, IsOneEntryOn};
 
 use crate::rule::{Gives, Item, Opens, Queue, Seat, Takes};
 use std::sync::Wait;
-use std::thread;
+use std::{hint, thread};
+
+// How often an empty queue is looked at before each yield. An access is over sooner, so where each
+// thread has a processor of its own a yield is rare; where there is one processor, the yield lets the
+// other thread put the bus back.
+const LOOKS: u32 = 200;
 
 /// Takes the bus out, and tries again while the queue is empty.
 pub(crate) fn take<R: Wait>(rt: &R, queue: &Queue, pass: &mut Seat) -> Item
@@ -17,10 +22,13 @@ pub(crate) fn take<R: Wait>(rt: &R, queue: &Queue, pass: &mut Seat) -> Item
     ensures took { Took (view pass.old) result (view pass.new) }
 {
     for _ in rt.forever() {
-        match queue.pop_as::<Takes, R>(rt, pass) {
-            Some(item) => return item,
-            None => thread::yield_now(),
+        for _ in 0..LOOKS {
+            if let Some(item) = queue.pop_as::<Takes, R>(rt, pass) {
+                return item;
+            }
+            hint::spin_loop();
         }
+        thread::yield_now();
     }
     unreachable!()
 }
@@ -44,8 +52,8 @@ pub(crate) fn open<R: Wait>(rt: &R, queue: &Queue, pass: &mut Seat, item: Item)
     requires queue { IsPassOf queue.now pass.old }
     requires one { ruled_capacity queue.now ≡ 1 }
     requires unopened { view pass.old ≡ unopened }
-    requires empty { item.bus.history ≡ [] }
-    requires room { item.turns0 + item.turns1 ≤ item.bus.spare }
+    requires empty { item.bus.value.history ≡ [] }
+    requires room { item.turns0 + item.turns1 ≤ item.bus.value.spare }
     ensures queue { IsSamePass pass.old pass.new }
     ensures opened { Opened (view pass.old) item (view pass.new) }
 {

@@ -5,10 +5,11 @@ use crossbeam_queue::protocol::{Join, Lesson, Outcome, Protocol, Split};
 use crossbeam_queue::{Pass, RuledArrayQueue};
 use xt_bus::Bus;
 
-/// The bus, and the two numbers of accesses that the first push reads.
+/// The bus, behind a pointer so that a push and a pop move few bytes, and the two numbers of accesses
+/// that the first push reads.
 #[derive(Drop)]
 pub struct Item {
-    pub bus: Bus,
+    pub bus: Box<Bus>,
     pub turns0: u32,
     pub turns1: u32,
 }

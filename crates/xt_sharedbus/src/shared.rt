@@ -69,7 +69,7 @@ impl Model for SharedBus {
     ghost invariant = { λ s. ruled_capacity s.queue ≡ 1 };
 }
 
-/// Want of memory. It hands the bus back as it was.
+/// Too little memory. It hands the bus back as it was.
 #[derive(Drop)]
 pub struct NoMemory {
     /// The bus.
@@ -90,8 +90,14 @@ impl SharedBus {
         requires room { turns0 + turns1 ≤ bus.spare }
         ensures { MatchResult result (λ r. (r.1 ≡ fresh r.0 0 turns0 bus.opening) × (r.2 ≡ fresh r.0 1 turns1 bus.opening)) (λ e. e.bus ≡ bus) }
     {
+        let bus = match Box::new(alloc, bus) {
+            Ok(bus) => bus,
+            Err(refused) => return Err(NoMemory { bus: refused.value }),
+        };
         let Ok((queue, mut pass)) = Queue::ruled(alloc, 1) else {
-            return Err(NoMemory { bus });
+            return Err(NoMemory {
+                bus: Box::into_inner(bus),
+            });
         };
         let item = Item {
             bus,
@@ -147,6 +153,7 @@ impl SharedBus {
         let CoreSeat { pass: other, .. } = seat1;
         queue.absorb::<Cores>(&mut pass, other);
         let Item { bus, .. } = take(rt, &queue, &mut pass);
+        let bus = Box::into_inner(bus);
         bus.history();
         bus
     }

@@ -1,8 +1,13 @@
 -- The control state in which a core opens ('profile').
-use Rattle.std.specs.Prelude.{ℕ, true, false, List, replicate, slice_set}
+use Rattle.std.specs.Prelude.{ℕ, zero, suc, true, false, List, replicate, slice_set}
 use Rattle.xt_special.specs.declared.ps.Ps.{Ps}
 use Rattle.xt_special.specs.Numbers as number
 use Rattle.xt_special.specs.Control.{Control}
+
+-- the processor's number: PRID of core 0 and of core 1
+abbrev pub prid_of : ℕ → ℕ
+prid_of zero = 0xCDCD
+prid_of (suc n) = 0xABAB
 
 unfoldable pub no_special : List ℕ
 no_special = replicate 256 0

@@ -1,3 +1,4 @@
+-- Carries a proof; nothing that a reader must believe.
 -- Ranges that the special registers keep.
 use Rattle.std.specs.Prelude.{◌≡◌, ℕ, ◌%◌, ◌<◌, ◌^◌, List, slice_index}
 use Rattle.xt_special.specs.declared.ps.Ps.{Ps}

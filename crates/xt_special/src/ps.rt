@@ -27,6 +27,7 @@ pub struct Ps {
 impl Ps {
     /// The fields of a word. Its other bits play no part.
     #[tactic(auto, unfolding(crate::specs::Control::ps_of))]
+    #[inline(always)]
     pub fn of_word(w: u32) -> Ps
         ensures value { result ≡ ps_of w }
         ensures range { IsPs result }
@@ -46,6 +47,7 @@ impl Ps {
     ///
     /// Condition: each field is in its range.
     #[tactic(auto, unfolding(crate::specs::Control::ps_word))]
+    #[inline(always)]
     pub fn word(self) -> u32
         requires { IsPs self }
         ensures value { result ≡ ps_word self }

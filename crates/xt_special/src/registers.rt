@@ -75,6 +75,7 @@ impl Special {
     }
 
     /// The word that is kept at a register number; it is 0 at a number that no register has.
+    #[inline(always)]
     pub fn register(&self, n: u8) -> u32
         ensures { result ≡ slice_index self.now.file n }
     {
@@ -84,6 +85,7 @@ impl Special {
     /// Puts a word at a register number, by none of the rules for WSR. Nothing else changes.
     ///
     /// Condition: the register can hold it: below 64 for SAR, and a multiple of 1024 for VECBASE.
+    #[inline(always)]
     pub fn set_register(&mut self, n: u8, v: u32)
         requires { CanHold n v }
         ensures { self.new ≡ record self.old { file = slice_set self.old.file n v } }
@@ -92,6 +94,7 @@ impl Special {
     }
 
     /// SAR.
+    #[inline(always)]
     pub fn sar(&self) -> u8
         ensures value { result ≡ slice_index self.now.file numbers.sar }
         ensures range { result < 2 ^ 6 }
@@ -100,6 +103,7 @@ impl Special {
     }
 
     /// VECBASE.
+    #[inline(always)]
     pub fn vecbase(&self) -> u32
         ensures value { result ≡ slice_index self.now.file numbers.vecbase }
         ensures range { result ≤ 2 ^ 32 - 2 ^ 10 }
@@ -108,6 +112,7 @@ impl Special {
     }
 
     /// THREADPTR.
+    #[inline(always)]
     pub fn threadptr(&self) -> u32
         ensures { result ≡ self.now.threadptr }
     {
@@ -115,6 +120,7 @@ impl Special {
     }
 
     /// Sets THREADPTR, and changes nothing else.
+    #[inline(always)]
     pub fn set_threadptr(&mut self, v: u32)
         ensures { self.new ≡ record self.old { threadptr = v } }
     {
@@ -125,6 +131,7 @@ impl Special {
     ///
     /// Condition: `timer` is 0, 1 or 2.
     #[tactic(auto, unfolding(crate::specs::Access::timer_bit))]
+    #[inline(always)]
     pub fn raise(&mut self, timer: u8)
         requires { timer < 3 }
         ensures { let raised = bit_or (slice_index self.old.file numbers.interrupt) (timer_bit (numbers.ccompare timer)) in
@@ -137,6 +144,7 @@ impl Special {
 
 /// The bit of a timer in INTERRUPT.
 #[tactic(auto, unfolding(crate::specs::Access::timer_bit))]
+#[inline(always)]
 pub(crate) fn timer_bit(timer: u8) -> u32
     requires { timer < 3 }
     ensures { result ≡ timer_bit (numbers.ccompare timer) }

@@ -23,7 +23,8 @@ pub fn push_hex8(out: &mut String, word: u32) -> Result<(), AllocError>
     write!(out, "{word:08X}")
 }
 
-/// A word, or an address, in eight upper-case hexadecimal digits. The only error is want of memory.
+/// A word, or an address, in eight upper-case hexadecimal digits. The only error is too little
+/// memory.
 #[tactic(auto, using(crate::proofs::Digits::padded_is_hex8))]
 pub fn hexadecimal(alloc: Global, word: u32) -> Result<String, AllocError>
     ensures { IfOk result (λ text. string_bytes text ≡ hex8 word) }

@@ -15,6 +15,7 @@ use xt_special::{Special, number};
 
 /// CCOUNT grows by one, modulo 2^32, and then each timer whose CCOMPARE equals it sets its bit of INTERRUPT.
 #[tactic(auto, unfolding(xt_special::specs::Timers::ticked_special, xt_special::specs::Access::timer_bit))]
+#[inline(always)]
 pub fn tick(s: &mut Special)
     ensures { s.new ≡ record s.old { file = ticked_special s.old.file } }
 {
@@ -26,6 +27,7 @@ pub fn tick(s: &mut Special)
 }
 
 /// Sets the timer's bit of INTERRUPT where its CCOMPARE equals CCOUNT.
+#[inline(always)]
 fn compare(s: &mut Special, timer: u8)
     requires { timer < 3 }
     ensures { s.new ≡ record s.old { file = with_timer timer (timer_bit (numbers.ccompare timer)) s.old.file } }

@@ -1,2 +1,4 @@
 pub mod Calls
+pub mod Left
+pub mod Lines
 pub mod Validity

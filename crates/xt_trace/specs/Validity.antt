@@ -5,7 +5,7 @@ use Rattle.xt_trace.specs.declared.options.Stack.{Stack}
 use Rattle.xt_trace.specs.declared.options.Options.{Options}
 
 abbrev pub most_turns : ℕ
-most_turns = 1000000
+most_turns = 4000000
 
 -- a range of at least 256 bytes in the internal data memory, whose ends are multiples of 16
 pub record IsValidStack (s : Stack) : Type 0 where

@@ -1,3 +1,10 @@
+ghost use Rattle.std.specs.Prelude.{◌≡◌, true};
+ghost use Rattle.xt_map.specs.Regions.{is_executable, region_of};
+ghost use Rattle.xt_trace.specs.Validity.{IsValid, IsValidStack};
+
+use xt_map::region;
+use xt_map::regions::Region;
+
 /// The range of a core's stack: the addresses from `lo` to `hi` - 1.
 #[derive(Clone, Copy, Debug, PartialEq, Eq)]
 pub struct Stack {
@@ -10,9 +17,9 @@ pub struct Stack {
 /// The options of a run.
 #[derive(Clone, Copy, Debug, PartialEq, Eq)]
 pub struct Options {
-    /// The turns of core 0, at most 1,000,000.
+    /// The turns of core 0, at most 4,000,000.
     pub turns0: u32,
-    /// The turns of core 1, at most 1,000,000.
+    /// The turns of core 1, at most 4,000,000.
     pub turns1: u32,
     /// Where core 1 begins, an address of an executable region.
     pub entry1: u32,
@@ -22,4 +29,46 @@ pub struct Options {
     pub stack0: Stack,
     /// The stack of core 1.
     pub stack1: Stack,
+}
+
+impl Stack {
+    // Whether it is a range of at least 256 bytes in the internal data memory, whose ends are multiples of 16.
+    fn valid(&self) -> bool
+        ensures accepted { result ≡ true → IsValidStack self.now }
+        ensures refused { IsValidStack self.now → result ≡ true }
+    {
+        self.lo >= 0x3FFA_E000
+            && self.hi <= 0x4000_0000
+            && self.lo % 16 == 0
+            && self.hi % 16 == 0
+            && self.lo <= self.hi
+            && self.hi - self.lo >= 256
+    }
+}
+
+// Whether instructions can be fetched at an address.
+fn is_executable(addr: u32) -> bool
+    ensures { result ≡ is_executable (region_of addr) }
+{
+    match region(addr) {
+        Some(Region::Iram | Region::RtcFastCode | Region::Irom) => true,
+        _ => false,
+    }
+}
+
+impl Options {
+    /// Whether a run accepts these options: no turn count is above 4,000,000, core 1's entry lies in an executable region,
+    /// VECBASE is a multiple of 1024, and each stack is a range of at least 256 bytes in the internal data memory, whose
+    /// ends are multiples of 16.
+    pub fn valid(&self) -> bool
+        ensures accepted { result ≡ true → IsValid self.now }
+        ensures refused { IsValid self.now → result ≡ true }
+    {
+        self.turns0 <= 4_000_000
+            && self.turns1 <= 4_000_000
+            && is_executable(self.entry1)
+            && self.vecbase % 1024 == 0
+            && self.stack0.valid()
+            && self.stack1.valid()
+    }
 }

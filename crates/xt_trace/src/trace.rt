@@ -1,39 +1,37 @@
 ghost use Rattle.std.specs.Prelude.{◌≡◌, length};
 
-use crate::record::StepRecord;
 use std::marker::Model;
 
-/// The records of a core's turns, in order. Contracts see the list.
+/// The step numbers of a core's turns with a bus access, in order. Contracts see the list.
 #[derive(Drop)]
-pub struct Steps {
-    items: Vec<StepRecord>,
+pub struct Places {
+    items: Vec<u32>,
 }
 
-impl Model for Steps {
-    ghost use Rattle.std.specs.Prelude.{List};
-    ghost use Rattle.xt_trace.specs.declared.record.StepRecord.{StepRecord};
+impl Model for Places {
+    ghost use Rattle.std.specs.Prelude.{ℕ, List};
 
-    ghost Value = { List StepRecord };
+    ghost Value = { List ℕ };
 
-    ghost view = { λ s. s.items.items };
+    ghost view = { λ p. p.items.items };
 }
 
-impl Steps {
-    /// These records, without a copy.
-    pub fn new(items: Vec<StepRecord>) -> Steps
+impl Places {
+    /// These numbers, without a copy.
+    pub fn new(items: Vec<u32>) -> Places
         ensures { result ≡ items.items }
     {
-        Steps { items }
+        Places { items }
     }
 
-    /// The records.
-    pub fn as_slice(&self) -> &[StepRecord]
+    /// The numbers.
+    pub fn as_slice(&self) -> &[u32]
         ensures { result.now ≡ self.now }
     {
         &self.items
     }
 
-    /// How many records there are.
+    /// How many numbers there are.
     pub fn len(&self) -> usize
         ensures { result ≡ length self.now }
     {
@@ -50,11 +48,15 @@ pub enum Stop {
     Turns,
 }
 
-/// What one core did.
+/// What is kept of one core's turns. Their records can be made again from the image and the history.
 #[derive(Drop)]
 pub struct Trace {
-    /// A record for each turn.
-    pub steps: Steps,
+    /// The core, 0 or 1.
+    pub core: u8,
+    /// How many turns it made.
+    pub count: u32,
+    /// The numbers, from 0, of the turns with a bus access.
+    pub places: Places,
     /// Why it ended.
     pub stop: Stop,
     /// The program counter after the last turn.

@@ -79,6 +79,3 @@ impl Uart {
         self.spare = room - other.sent().len();
     }
 }
-
-#[cfg(test)]
-mod tests;

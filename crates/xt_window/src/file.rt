@@ -55,26 +55,32 @@ impl Windows for WindowFile {
 
     ghost start = { λ w. w.start };
 
+    #[inline(always)]
     fn read(&self, i: u8) -> u32 {
         self.regs[((4 * self.base + i) % 64) as usize]
     }
 
+    #[inline(always)]
     fn write(&mut self, i: u8, v: u32) {
         self.regs[((4 * self.base + i) % 64) as usize] = v;
     }
 
+    #[inline(always)]
     fn base(&self) -> u8 {
         self.base
     }
 
+    #[inline(always)]
     fn start(&self) -> u16 {
         self.start
     }
 
+    #[inline(always)]
     fn set_base(&mut self, b: u8) {
         self.base = b;
     }
 
+    #[inline(always)]
     fn set_start(&mut self, s: u16) {
         self.start = s;
     }

@@ -7,6 +7,7 @@ ghost use Rattle.xt_window.specs.Moves.{behind};
 
 /// Whether the bit of a window is set in WINDOWSTART.
 #[tactic(auto, unfolding(crate::specs::Ring::bit))]
+#[inline(always)]
 pub fn bit(start: u16, window: u8) -> bool
     ensures { result ≡ bit start window }
 {
@@ -15,6 +16,7 @@ pub fn bit(start: u16, window: u8) -> bool
 
 /// WINDOWSTART with the bit of a window.
 #[tactic(auto, unfolding(crate::specs::Ring::with_bit))]
+#[inline(always)]
 pub fn with_bit(start: u16, window: u8) -> u16
     ensures { result ≡ with_bit start window }
 {
@@ -23,6 +25,7 @@ pub fn with_bit(start: u16, window: u8) -> u16
 
 /// WINDOWSTART without the bit of a window.
 #[tactic(auto, unfolding(crate::specs::Ring::without_bit))]
+#[inline(always)]
 pub fn without_bit(start: u16, window: u8) -> u16
     ensures { result ≡ without_bit start window }
 {
@@ -31,6 +34,7 @@ pub fn without_bit(start: u16, window: u8) -> u16
 
 /// How far the nearest set bit is among the next `q` windows, or 0.
 #[tactic(auto, unfolding(crate::specs::Ring::ahead))]
+#[inline(always)]
 pub(crate) fn ahead(start: u16, base: u8, q: u8) -> u8
     requires { base < 16 }
     ensures value { result ≡ ahead start base q }
@@ -49,6 +53,7 @@ pub(crate) fn ahead(start: u16, base: u8, q: u8) -> u8
 
 /// By how many windows the frame in this window moved ahead when it called.
 #[tactic(auto, unfolding(crate::specs::Ring::size_at))]
+#[inline(always)]
 pub(crate) fn size_at(start: u16, window: u8) -> u8
     requires { window < 32 }
     ensures value { result ≡ size_at start window }
@@ -66,6 +71,7 @@ pub(crate) fn size_at(start: u16, window: u8) -> u8
 
 /// How far the nearest set bit is among the three windows behind, or 0.
 #[tactic(auto, unfolding(crate::specs::Moves::behind))]
+#[inline(always)]
 pub(crate) fn behind(start: u16, base: u8) -> u8
     requires { base < 16 }
     ensures value { result ≡ behind start base }

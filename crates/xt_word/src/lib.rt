@@ -4,8 +4,6 @@
 #![tactic(auto)]
 
 pub mod laws;
-#[cfg(test)]
-mod tests;
 
 ghost use Rattle.std.specs.Prelude.{◌≡◌, ℕ, ◌+◌, ◌*◌, ◌<◌, ◌≤◌, ◌^◌};
 ghost use Rattle.xt_word.specs.Words.{bits_of, sign_extended, pair_shifted};
@@ -13,6 +11,7 @@ ghost use Rattle.xt_word.specs.Words.{bits_of, sign_extended, pair_shifted};
 /// The `len` bits of `w` from bit `low` upwards, as a number below 2^len. Bit 0 is the least.
 ///
 /// Condition: `low + len` is at most 32.
+#[inline(always)]
 pub fn field(w: u32, low: u8, len: u8) -> u32
     requires { low + len ≤ 32 }
     ensures value { result ≡ bits_of w low len }
@@ -25,6 +24,7 @@ pub fn field(w: u32, low: u8, len: u8) -> u32
 /// bits. The higher bits of `v` play no part.
 ///
 /// Condition: `bits` is 1 to 32.
+#[inline(always)]
 pub fn sext(v: u32, bits: u8) -> u32
     requires low { 1 ≤ bits }
     requires high { bits ≤ 32 }
@@ -42,6 +42,7 @@ pub fn sext(v: u32, bits: u8) -> u32
 /// The low 32 bits of the pair (`high`, `low`), a number of 64 bits, shifted right by `n`.
 ///
 /// Condition: `n` is below 64.
+#[inline(always)]
 pub fn pair_right(high: u32, low: u32, n: u8) -> u32
     requires { n < 64 }
     ensures { result ≡ pair_shifted high low n }

@@ -1,17 +1,22 @@
 -- The rules of usage that options keep.
-use Rattle.std.proofs.Common.{◌≡◌, ◌≢◌, ℕ, ◌≤◌, ◌%◌, ◌&&◌, Bool, true, List, [], ◌∷◌, Option, Some, None, Ok, Err, arith, refl, rules}
+use Rattle.std.proofs.Common.{◌≡◌, ◌≢◌, ℕ, ◌≤◌, ◌%◌, ◌&&◌, Bool, true, List, [], ◌∷◌, Option, Some, None, Result, Ok, Err, arith, refl, rules}
 use Rattle.std.specs.Prelude.{◌==◌, nat_le, unwrap_or}
 use Rattle.std.proofs.lemmas.Bool.Decides.{nat_tests}
-use Rattle.clap.specs.Words.{Row}
+use Rattle.clap.specs.Words.{Row, Text}
 use Rattle.xt_map.specs.Regions.{region_of, is_executable}
 use Rattle.xt_trace.specs.Validity.{IsValid, IsValidStack, most_turns}
 use Rattle.xt_trace.specs.declared.options.Stack.{Stack}
 use Rattle.xt_words.specs.Options.{AcceptsValid, OptionsNeedNoMemory, by_rows, first_broken, is_entry, is_stack, judged, options_in, record_app, run_app, texts_of, unless_broken}
+use Rattle.xt_words.specs.Meaning.{NeedsNoMemory, meaning_by, named, run_with, without_options}
 use Rattle.xt_words.specs.Simple.{rows_by}
+use Rattle.xt_words.specs.declared.command.Command.{Command}
+use Rattle.xt_words.specs.declared.command.Name.{Name}
+use Rattle.xt_words.specs.declared.command.Name.TheVariants as name
+use Rattle.xt_words.specs.declared.command.Refusal.{Refusal}
 use Rattle.xt_words.specs.declared.command.Refusal.TheVariants as refusal
 use Rattle.xt_words.specs.declared.options.RunOptions.{RunOptions}
 
--- ---- want of memory
+-- ---- too little memory
 
 unless_broken-answers : (rule : Option ℕ) (o : RunOptions) → unless_broken rule o ≢ Err refusal.Memory
 unless_broken-answers None o = λ e. search (rules, e)
@@ -27,6 +32,27 @@ by_rows-answers (Some rows) = judged-answers (options_in (texts_of rows))
 
 pub need_no_memory : OptionsNeedNoMemory
 need_no_memory words = (by_rows-answers (rows_by run_app words), by_rows-answers (rows_by record_app words))
+
+run_with-answers : (r : Result RunOptions Refusal) → r ≢ Err refusal.Memory → run_with r ≢ Err refusal.Memory
+run_with-answers (Ok o) no_memory = λ e. search (rules, e)
+run_with-answers (Err r) no_memory = λ e. no_memory (cc)
+
+without_options-answers : (c : Command) (rows : Option (List Row)) → without_options c rows ≢ Err refusal.Memory
+without_options-answers c None = λ e. search (rules, e)
+without_options-answers c (Some rows) = λ e. search (rules, e)
+
+meaning_by-answers : (named : Option Name) (words : List Text) → meaning_by named words ≢ Err refusal.Memory
+meaning_by-answers None words = λ e. search (rules, e)
+meaning_by-answers (Some name.Assemble) words = without_options-answers _ _
+meaning_by-answers (Some name.Convert) words = without_options-answers _ _
+meaning_by-answers (Some name.Disassemble) words = without_options-answers _ _
+meaning_by-answers (Some name.Check) words = without_options-answers _ _
+meaning_by-answers (Some name.Run) words = run_with-answers _ (need_no_memory words).0
+meaning_by-answers (Some name.Planned) words = λ e. search (rules, e)
+
+pub meaning_needs_none : NeedsNoMemory
+meaning_needs_none [] = λ e. search (rules, e)
+meaning_needs_none (word ∷ rest) = meaning_by-answers (named word) (word ∷ rest)
 
 -- ---- valid options
 

@@ -1,21 +1,23 @@
--- What the words of the command line behind the program's name mean ('profile'). A word is the list of its bytes.
-use Rattle.std.specs.Prelude.{◌≢◌, ◌≤◌, ℕ, List, [], ◌∷◌, Option, Some, None, Result, Ok, Err, if◌then◌else◌, codes}
+-- What the words of the command line behind the program's name mean ('profile'). A word is the list
+-- of its bytes.
+use Rattle.std.specs.Prelude.{◌≢◌, List, [], ◌∷◌, Option, Some, None, Result, Ok, Err, if◌then◌else◌, codes}
 use Rattle.std.specs.Str.{bytes_eq}
 use Rattle.clap.specs.Words.{Row, Text, new_app}
-use Rattle.xt_trace.specs.Validity.{most_turns}
-use Rattle.xt_words.specs.RunWords.{turns_of}
 use Rattle.xt_words.specs.Simple.{rows_by}
+use Rattle.xt_words.specs.Options.{AreValid, run_options_of}
 use Rattle.xt_words.specs.declared.command.Command.{Command}
 use Rattle.xt_words.specs.declared.command.Command.TheVariants as command
 use Rattle.xt_words.specs.declared.command.Refusal.{Refusal}
 use Rattle.xt_words.specs.declared.command.Refusal.TheVariants as refusal
 use Rattle.xt_words.specs.declared.command.Name.{Name}
 use Rattle.xt_words.specs.declared.command.Name.TheVariants as name
+use Rattle.xt_words.specs.declared.options.RunOptions.{RunOptions}
 
 -- the commands
 abbrev pub names : List (Text × Name)
 names =
     (codes "asm", name.Assemble)
+    ∷ (codes "elf", name.Convert)
     ∷ (codes "dis", name.Disassemble)
     ∷ (codes "check", name.Check)
     ∷ (codes "run", name.Run)
@@ -37,19 +39,24 @@ abbrev pub without_options : Command → Option (List Row) → Result Command Re
 without_options command (Some rows) = Ok command
 without_options command None = Err (refusal.Usage 3)
 
--- a number of turns is ordered, or the form is not there yet
-abbrev pub run_with : Option ℕ → Result Command Refusal
-run_with (Some turns0) = Ok (command.Run turns0)
-run_with None = Err refusal.Unbuilt
+-- a run with these options, or the rule of usage that its words break
+abbrev pub run_with : Result RunOptions Refusal → Result Command Refusal
+run_with (Ok options) = Ok (command.Run options)
+run_with (Err refusal) = Err refusal
 
 abbrev pub run_meaning_of : List Text → Result Command Refusal
-run_meaning_of words = run_with (turns_of words)
+run_meaning_of words = run_with (run_options_of words)
 
 abbrev pub meaning_by : Option Name → List Text → Result Command Refusal
 meaning_by None words = Err (refusal.Usage 2)
-meaning_by (Some name.Assemble) words = without_options command.Assemble (rows_by (new_app (codes "asm")) words)
-meaning_by (Some name.Disassemble) words = without_options command.Disassemble (rows_by (new_app (codes "dis")) words)
-meaning_by (Some name.Check) words = without_options command.Check (rows_by (new_app (codes "check")) words)
+meaning_by (Some name.Assemble) words =
+    without_options command.Assemble (rows_by (new_app (codes "asm")) words)
+meaning_by (Some name.Convert) words =
+    without_options command.Convert (rows_by (new_app (codes "elf")) words)
+meaning_by (Some name.Disassemble) words =
+    without_options command.Disassemble (rows_by (new_app (codes "dis")) words)
+meaning_by (Some name.Check) words =
+    without_options command.Check (rows_by (new_app (codes "check")) words)
 meaning_by (Some name.Run) words = run_meaning_of words
 meaning_by (Some name.Planned) words = Err refusal.Unbuilt
 
@@ -58,16 +65,18 @@ abbrev pub meaning_of : List Text → Result Command Refusal
 meaning_of [] = Err (refusal.Usage 1)
 meaning_of (word ∷ rest) = meaning_by (named word) (word ∷ rest)
 
--- the options of a command are within their limits
-abbrev pub IsWithinLimits : Command → Type 0
-IsWithinLimits (command.Run turns0) = turns0 ≤ most_turns
-IsWithinLimits _ = Unit {0}
+-- the options of a command are valid for a run
+abbrev pub HasValidOptions : Command → Type 0
+HasValidOptions (command.Run options) = AreValid options
+HasValidOptions _ = Unit {0}
 
 -- the words of these commands are read by clap, which takes memory
 abbrev pub TakesMemory : Option Name → Type 0
 TakesMemory (Some name.Assemble) = Unit {0}
+TakesMemory (Some name.Convert) = Unit {0}
 TakesMemory (Some name.Disassemble) = Unit {0}
 TakesMemory (Some name.Check) = Unit {0}
+TakesMemory (Some name.Run) = Unit {0}
 TakesMemory _ = ⊥
 
 -- the first word names a command whose words are read with memory
@@ -75,6 +84,6 @@ abbrev pub MayWantMemory : List Text → Type 0
 MayWantMemory [] = ⊥
 MayWantMemory (word ∷ rest) = TakesMemory (named word)
 
--- the meaning of words is never want of memory
+-- the meaning of words is never too little memory
 abbrev pub NeedsNoMemory : Type 0
 NeedsNoMemory = (words : List Text) → meaning_of words ≢ Err refusal.Memory

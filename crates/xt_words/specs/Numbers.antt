@@ -16,18 +16,24 @@ is_number word = nat_lt 0 (length word) && list_all is_ascii_digit word
 
 -- the number that a word writes, where it is a number of at most `most`
 abbrev pub number_up_to : ℕ → List ℕ → Option ℕ
-number_up_to most word = if is_number word && nat_le (decimal_value word) most then Some (decimal_value word) else None
+number_up_to most word =
+    if is_number word && nat_le (decimal_value word) most then Some (decimal_value word) else None
 
 -- ---- decimal and hexadecimal
 
 -- one to eight hexadecimal digits of either case, and nothing else
 abbrev pub is_hexadecimal : List ℕ → Bool
-is_hexadecimal word = (nat_lt 0 (length word) && nat_le (length word) 8) && list_all is_ascii_hexdigit word
+is_hexadecimal word =
+    (nat_lt 0 (length word) && nat_le (length word) 8) && list_all is_ascii_hexdigit word
 
 -- the number that hexadecimal digits write, which is below 2 ^ 32
 abbrev pub hexadecimal_of : List ℕ → Option ℕ
-hexadecimal_of word = if is_hexadecimal word && nat_lt (digits_value 16 word) (2 ^ 32) then Some (digits_value 16 word) else None
+hexadecimal_of word =
+    if is_hexadecimal word && nat_lt (digits_value 16 word) (2 ^ 32)
+    then Some (digits_value 16 word) else None
 
 -- the number that a text says, below 2 ^ 32: `0x` and hexadecimal digits, or decimal digits
 unfoldable pub number_of : List ℕ → Option ℕ
-number_of text = if starts_with nat_eq text (codes "0x") then hexadecimal_of (drop 2 text) else number_up_to (2 ^ 32 - 1) text
+number_of text =
+    if starts_with nat_eq text (codes "0x")
+    then hexadecimal_of (drop 2 text) else number_up_to (2 ^ 32 - 1) text

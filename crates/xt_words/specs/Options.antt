@@ -30,14 +30,17 @@ with_option app name = with_rule app (option_rule name)
 
 -- [--turns0 N] [--turns1 N] [--entry1 N] [--vecbase N] [--stack0 LO:HI] [--stack1 LO:HI]
 abbrev pub option_names : List Text
-option_names = codes "turns0" ∷ codes "turns1" ∷ codes "entry1" ∷ codes "vecbase" ∷ codes "stack0" ∷ codes "stack1" ∷ []
+option_names =
+    codes "turns0" ∷ codes "turns1" ∷ codes "entry1"
+    ∷ codes "vecbase" ∷ codes "stack0" ∷ codes "stack1" ∷ []
 
 abbrev pub record_app : App
 record_app = fold with_option (new_app (codes "record")) option_names
 
 -- the same, and [--trace]
 abbrev pub run_app : App
-run_app = with_rule (fold with_option (new_app (codes "run")) option_names) (flag_rule (codes "trace"))
+run_app =
+    with_rule (fold with_option (new_app (codes "run")) option_names) (flag_rule (codes "trace"))
 
 -- ---- the texts of the options
 
@@ -76,7 +79,10 @@ between _ _ = None
 
 -- the range that `LO:HI` says: the numbers before and after the first colon
 unfoldable pub range_of : Text → Option Stack
-range_of text = between (number_of (before_first (λ b. b == colon) text)) (number_of (after_first (λ b. b == colon) text))
+range_of text =
+    between
+    (number_of (before_first (λ b. b == colon) text))
+    (number_of (after_first (λ b. b == colon) text))
 
 -- what a text says, or the default where there is no text
 abbrev pub said_or : {A : Type 0} → (Text → Option A) → A → Option Text → Option A
@@ -86,12 +92,23 @@ said_or say default (Some text) = say text
 abbrev pub address_of : Text → Option (Option ℕ)
 address_of text = option_map Some (number_of text)
 
-abbrev pub made : Option ℕ → Option ℕ → Option (Option ℕ) → Option ℕ → Option Stack → Option Stack → Bool → Option RunOptions
+abbrev pub made :
+    Option ℕ → Option ℕ → Option (Option ℕ) → Option ℕ → Option Stack → Option Stack → Bool
+    → Option RunOptions
 made (Some turns0) (Some turns1) (Some entry1) (Some vecbase) (Some stack0) (Some stack1) trace =
-    Some (record { turns0 = turns0; turns1 = turns1; entry1 = entry1; vecbase = vecbase; stack0 = stack0; stack1 = stack1; trace = trace })
+    Some (record {
+      turns0 = turns0;
+      turns1 = turns1;
+      entry1 = entry1;
+      vecbase = vecbase;
+      stack0 = stack0;
+      stack1 = stack1;
+      trace = trace;
+    })
 made _ _ _ _ _ _ trace = None
 
--- the options that the texts say, each with its default, or none where a text is no number or no range
+-- the options that the texts say, each with its default, or none where a text is no number or no
+-- range
 abbrev pub options_in : Texts → Option RunOptions
 options_in t = made
     (said_or number_of 100000 t.turns0)
@@ -106,7 +123,9 @@ options_in t = made
 
 -- a range of at least 256 bytes in the internal data memory, whose ends are multiples of 16
 abbrev pub is_stack : Stack → Bool
-is_stack s = nat_le 0x3FFAE000 s.lo && nat_le s.hi 0x40000000 && s.lo % 16 == 0 && s.hi % 16 == 0 && nat_le (s.lo + 256) s.hi
+is_stack s =
+    nat_le 0x3FFAE000 s.lo && nat_le s.hi 0x40000000 && s.lo % 16 == 0 && s.hi % 16 == 0
+    && nat_le (s.lo + 256) s.hi
 
 -- an address that is given lies in an executable region
 abbrev pub is_entry : Option ℕ → Bool
@@ -171,9 +190,11 @@ AreValid o = (entry : ℕ) → is_executable (region_of entry) ≡ true → IsVa
 
 -- ---- laws
 
--- the meaning of words is never want of memory
+-- the meaning of words is never too little memory
 abbrev pub OptionsNeedNoMemory : Type 0
-OptionsNeedNoMemory = (words : List Text) → (run_options_of words ≢ Err refusal.Memory) × (record_options_of words ≢ Err refusal.Memory)
+OptionsNeedNoMemory =
+    (words : List Text)
+    → (run_options_of words ≢ Err refusal.Memory) × (record_options_of words ≢ Err refusal.Memory)
 
 -- valid options keep every rule
 abbrev pub AcceptsValid : Type 0

@@ -1,4 +1,5 @@
--- What a simple command of clap matches on words. The first word stands where clap expects the program's name.
+-- What a simple command of clap matches on words. The first word stands where clap expects the
+-- program's name.
 -- Source: the definition of a simple command that the crate clap has.
 use Rattle.std.specs.Prelude.{◌≡◌, List, [], ◌∷◌, Option, Some, None, Result, Ok, Err}
 use Rattle.clap.specs.Words.{App, Row, Text, fault_of, found_of, matches_of, rows_of}
@@ -16,7 +17,7 @@ rows_without (kind ∷ kinds) rows = None
 unfoldable pub rows_by : App → List Text → Option (List Row)
 rows_by app words = rows_without (fault_of app words) (matches_of app words)
 
--- a refusal says that there are no matches, want of memory aside
+-- a refusal says that there are no matches, too little memory aside
 abbrev pub Refuses : Refusal → Option (List Row) → Type 0
 Refuses refusal.Memory rows = Unit {0}
 Refuses r rows = (r ≡ refusal.Usage 3) × (rows ≡ None)

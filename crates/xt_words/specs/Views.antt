@@ -1,3 +1,4 @@
+-- Carries a proof; nothing that a reader must believe.
 -- The texts of the options, without where they lie in memory.
 use Rattle.std.specs.Prelude.{option_map}
 use Rattle.xt_words.specs.Options.{Texts}

@@ -1,6 +1,7 @@
 ghost use Rattle.std.specs.Prelude.{◌≡◌};
 ghost use Rattle.xt_words.specs.declared.command.Refusal.TheVariants.{Memory};
 
+use crate::options::RunOptions;
 use std::alloc::AllocError;
 
 /// A command with its options.
@@ -8,24 +9,24 @@ use std::alloc::AllocError;
 pub enum Command {
     /// `asm`: assembles a text.
     Assemble,
+    /// `elf`: makes an image of an ELF executable.
+    Convert,
     /// `dis`: lists an image.
     Disassemble,
     /// `check`: checks an image.
     Check,
-    /// `run --turns0 N --turns1 0`: runs an image.
-    Run {
-        /// The turns of core 0, at most 1,000,000. Core 1 has none.
-        turns0: u32,
-    },
+    /// `run`: runs an image, with these options.
+    Run(RunOptions),
 }
 
 /// Why words are no command with options.
 #[derive(Clone, Copy, Debug, PartialEq, Eq)]
 pub enum Refusal {
     /// The number of the first rule of usage that the words break:
-    /// 1 there is no word, 2 the command is unknown, 3 the further words do not match the command's options.
+    /// 1 there is no word, 2 the command is unknown, 3 the further words do not match the command's options, 4 to 8 an
+    /// option is refused (`run_options` says which is which).
     Usage(u8),
-    /// The command, or this form of it, is not there yet.
+    /// The command is not there yet.
     Unbuilt,
     /// There was too little memory to read the words.
     Memory,
@@ -44,6 +45,8 @@ impl From<AllocError> for Refusal {
 pub enum Name {
     /// `asm`
     Assemble,
+    /// `elf`
+    Convert,
     /// `dis`
     Disassemble,
     /// `check`

@@ -10,7 +10,6 @@ mod numbers;
 mod option_commands;
 mod option_words;
 mod options;
-mod run_words;
 mod simple;
 mod words;
 

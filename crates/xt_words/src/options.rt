@@ -9,7 +9,7 @@ use xt_map::regions::Region;
 use xt_trace::{Options, Stack};
 
 /// The most turns that a core may have.
-pub const MOST_TURNS: u32 = 1_000_000;
+pub const MOST_TURNS: u32 = 4_000_000;
 
 /// The options of `run` and `record`.
 #[derive(Clone, Copy, Debug, PartialEq, Eq)]
@@ -78,7 +78,7 @@ fn is_good_stack(stack: Stack) -> bool
 
 /// The options, where they keep the rules of usage 5 to 8, or the first that they break.
 ///
-/// Rule 5: a number of turns is at most 1,000,000. Rule 6: the address where core 1 begins, if it is given, lies in an
+/// Rule 5: a number of turns is at most 4,000,000. Rule 6: the address where core 1 begins, if it is given, lies in an
 /// executable region. Rule 7: VECBASE is a multiple of 1024. Rule 8: a stack is a range of at least 256 bytes in the
 /// internal data memory whose ends are multiples of 16.
 pub fn within_limits(options: RunOptions) -> Result<RunOptions, Refusal>

@@ -1,10 +1,10 @@
-ghost use Rattle.std.specs.Prelude.{◌≡◌, ◌≢◌, IfOk, map, string_bytes};
+ghost use Rattle.std.specs.Prelude.{◌≡◌, IfOk, map, string_bytes};
 ghost use Rattle.xt_words.specs.Answers.{Means};
-ghost use Rattle.xt_words.specs.Meaning.{IsWithinLimits, MayWantMemory, meaning_of, named, run_meaning_of};
+ghost use Rattle.xt_words.specs.Meaning.{HasValidOptions, MayWantMemory, meaning_of, named, run_meaning_of};
 ghost use Rattle.xt_words.specs.declared.command.Refusal.TheVariants.{Memory};
 
 use crate::command::{Command, Name, Refusal};
-use crate::run_words::ordered_turns;
+use crate::option_words::run_options;
 use crate::simple::without_options_meaning;
 use std::alloc::Global;
 
@@ -14,6 +14,7 @@ fn name_of(word: &str) -> Option<Name>
 {
     match word {
         "asm" => Some(Name::Assemble),
+        "elf" => Some(Name::Convert),
         "dis" => Some(Name::Disassemble),
         "check" => Some(Name::Check),
         "run" => Some(Name::Run),
@@ -22,29 +23,29 @@ fn name_of(word: &str) -> Option<Name>
     }
 }
 
-fn run_meaning(words: &[String]) -> Result<Command, Refusal>
-    ensures means { result ≡ run_meaning_of (map string_bytes words.now) }
-    ensures limits { IfOk result IsWithinLimits }
-    ensures memory { result ≢ Err Memory }
+// The command `run` with the options that its words say.
+fn run_meaning(alloc: Global, words: &[String]) -> Result<Command, Refusal>
+    ensures means { Means result (run_meaning_of (map string_bytes words.now)) }
+    ensures valid { IfOk result HasValidOptions }
 {
-    match ordered_turns(words) {
-        Some(turns0) => Ok(Command::Run { turns0 }),
-        None => Err(Refusal::Unbuilt),
+    match run_options(alloc, words) {
+        Ok(options) => Ok(Command::Run(options)),
+        Err(refusal) => Err(refusal),
     }
 }
 
 /// The command with its options that the words behind the program's name say, or why they say none.
 ///
 /// - No word is `Usage(1)`, and a first word that is no command `Usage(2)`.
-/// - `asm`, `dis` and `check` take no further word. Other words after them are `Usage(3)`, as far as `clap` does
+/// - `asm`, `elf`, `dis` and `check` take no further word. Other words after them are `Usage(3)`, as far as `clap` does
 ///   not take them: it takes one that is `--`.
-/// - `run` has the one form `run --turns0 N --turns1 0`, where N is one decimal digit or more for a number of at
-///   most 1,000,000. `run` in another form, `record`, `replay` and `gen` are `Unbuilt`.
+/// - `run` has the options that `run_options` says, with the rules of usage 3 to 8.
+/// - `record`, `replay` and `gen` are `Unbuilt`, whatever follows.
 ///
-/// `Memory` is want of memory alone.
+/// `Memory` is too little memory alone.
 pub fn meaning(alloc: Global, words: &[String]) -> Result<Command, Refusal>
     ensures means { Means result (meaning_of (map string_bytes words.now)) }
-    ensures limits { IfOk result IsWithinLimits }
+    ensures valid { IfOk result HasValidOptions }
     ensures memory { result ≡ Err Memory → MayWantMemory (map string_bytes words.now) }
 {
     let Some(word) = words.first() else {
@@ -53,8 +54,9 @@ pub fn meaning(alloc: Global, words: &[String]) -> Result<Command, Refusal>
     match name_of(word.as_str()) {
         None => Err(Refusal::Usage(2)),
         Some(Name::Planned) => Err(Refusal::Unbuilt),
-        Some(Name::Run) => run_meaning(words),
+        Some(Name::Run) => run_meaning(alloc, words),
         Some(Name::Assemble) => { without_options_meaning(alloc, "asm", Command::Assemble, words) }
+        Some(Name::Convert) => without_options_meaning(alloc, "elf", Command::Convert, words),
         Some(Name::Disassemble) => {
             without_options_meaning(alloc, "dis", Command::Disassemble, words)
         }

@@ -10,6 +10,7 @@ use crate::Ps;
 
 impl Special {
     /// PS as a word.
+    #[inline(always)]
     pub fn ps(&self) -> u32
         ensures { result ≡ ps_word self.now.ps }
     {
@@ -17,6 +18,7 @@ impl Special {
     }
 
     /// Sets the fields of PS from a word, and changes nothing else. It is a write of register 230.
+    #[inline(always)]
     pub fn set_ps(&mut self, v: u32)
         ensures { self.new ≡ record self.old { ps = ps_of v } }
     {
@@ -24,6 +26,7 @@ impl Special {
     }
 
     /// The fields of PS.
+    #[inline(always)]
     pub fn ps_fields(&self) -> Ps
         ensures value { result ≡ self.now.ps }
         ensures range { IsPs result }
@@ -34,6 +37,7 @@ impl Special {
     /// Sets all fields of PS, and changes nothing else.
     ///
     /// Condition: each field is in its range.
+    #[inline(always)]
     pub fn set_ps_fields(&mut self, ps: Ps)
         requires { IsPs ps }
         ensures { self.new ≡ record self.old { ps = ps } }
@@ -42,6 +46,7 @@ impl Special {
     }
 
     /// The interrupt level that is masked, 0 to 15.
+    #[inline(always)]
     pub fn intlevel(&self) -> u8
         ensures value { result ≡ self.now.ps.intlevel }
         ensures range { result < 16 }
@@ -52,6 +57,7 @@ impl Special {
     /// Sets that field of PS, and changes nothing else.
     ///
     /// Condition: `v` is below 16.
+    #[inline(always)]
     pub fn set_intlevel(&mut self, v: u8)
         requires { v < 16 }
         ensures { self.new ≡ record self.old { ps = record self.old.ps { intlevel = v } } }
@@ -60,6 +66,7 @@ impl Special {
     }
 
     /// Whether the core is in exception mode.
+    #[inline(always)]
     pub fn excm(&self) -> bool
         ensures { result ≡ self.now.ps.excm }
     {
@@ -67,6 +74,7 @@ impl Special {
     }
 
     /// Sets that field of PS, and changes nothing else.
+    #[inline(always)]
     pub fn set_excm(&mut self, v: bool)
         ensures { self.new ≡ record self.old { ps = record self.old.ps { excm = v } } }
     {
@@ -74,6 +82,7 @@ impl Special {
     }
 
     /// Whether exceptions go to the user vector.
+    #[inline(always)]
     pub fn um(&self) -> bool
         ensures { result ≡ self.now.ps.um }
     {
@@ -81,6 +90,7 @@ impl Special {
     }
 
     /// Sets that field of PS, and changes nothing else.
+    #[inline(always)]
     pub fn set_um(&mut self, v: bool)
         ensures { self.new ≡ record self.old { ps = record self.old.ps { um = v } } }
     {
@@ -88,6 +98,7 @@ impl Special {
     }
 
     /// The protection ring, 0 to 3.
+    #[inline(always)]
     pub fn ring(&self) -> u8
         ensures value { result ≡ self.now.ps.ring }
         ensures range { result < 4 }
@@ -98,6 +109,7 @@ impl Special {
     /// Sets that field of PS, and changes nothing else.
     ///
     /// Condition: `v` is below 4.
+    #[inline(always)]
     pub fn set_ring(&mut self, v: u8)
         requires { v < 4 }
         ensures { self.new ≡ record self.old { ps = record self.old.ps { ring = v } } }
@@ -106,6 +118,7 @@ impl Special {
     }
 
     /// The old window base, 0 to 15.
+    #[inline(always)]
     pub fn owb(&self) -> u8
         ensures value { result ≡ self.now.ps.owb }
         ensures range { result < 16 }
@@ -116,6 +129,7 @@ impl Special {
     /// Sets that field of PS, and changes nothing else.
     ///
     /// Condition: `v` is below 16.
+    #[inline(always)]
     pub fn set_owb(&mut self, v: u8)
         requires { v < 16 }
         ensures { self.new ≡ record self.old { ps = record self.old.ps { owb = v } } }
@@ -124,6 +138,7 @@ impl Special {
     }
 
     /// By how many windows the last call moves, 0 to 3.
+    #[inline(always)]
     pub fn callinc(&self) -> u8
         ensures value { result ≡ self.now.ps.callinc }
         ensures range { result < 4 }
@@ -134,6 +149,7 @@ impl Special {
     /// Sets that field of PS, and changes nothing else.
     ///
     /// Condition: `v` is below 4.
+    #[inline(always)]
     pub fn set_callinc(&mut self, v: u8)
         requires { v < 4 }
         ensures { self.new ≡ record self.old { ps = record self.old.ps { callinc = v } } }
@@ -142,6 +158,7 @@ impl Special {
     }
 
     /// Whether window overflows are detected.
+    #[inline(always)]
     pub fn woe(&self) -> bool
         ensures { result ≡ self.now.ps.woe }
     {
@@ -149,6 +166,7 @@ impl Special {
     }
 
     /// Sets that field of PS, and changes nothing else.
+    #[inline(always)]
     pub fn set_woe(&mut self, v: bool)
         ensures { self.new ≡ record self.old { ps = record self.old.ps { woe = v } } }
     {

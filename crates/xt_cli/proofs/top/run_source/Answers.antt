@@ -1,36 +1,50 @@
 use Rattle.std.proofs.Common.{rules}
-use Rattle.xt_cli.specs.Calls.{Ends}
-use Rattle.xt_cli.proofs.Complete.{as_outcome, finishes, refuses}
-use Rattle.xt_cli.proofs.Working.{keeps_same}
+use Rattle.std.specs.Io.KnownBytes.{Appends}
+use Rattle.xt_io.specs.Whole.{AppendsFront}
+use Rattle.xt_cli.specs.Calls.{ends}
+use Rattle.xt_cli.proofs.Running.{done, failed, front_of, memory, of_input}
+use Rattle.xt_cli.proofs.Writing.{was_appended}
 use Rattle.xt_cli.proofs.top.run_source.Goals as goal
+use Rattle.xt_cli.proofs.top.run_source.Goals.{in-Ok-write_run, in-Err-Failed}
 
-pub returns-in-Err-TooLarge-clause-answers : goal.returns-in-Err-TooLarge-clause-answers
-returns-in-Err-TooLarge-clause-answers g c = search rules
-
-pub returns-in-Err-TooLarge-clause-complete : goal.returns-in-Err-TooLarge-clause-complete
-returns-in-Err-TooLarge-clause-complete g c = finishes c.args.turns _ _ _ (returns-in-Err-TooLarge-clause-answers g c)
-
-pub returns-in-Err-clause-answers : goal.returns-in-Err-clause-answers
-returns-in-Err-clause-answers g c =
-    let e : Ends = record {
-      left = g.S.Source.left c.args.source.now;
-      left_after = g.S.Source.left c.read_to_limit.new.source;
-      told = g.K.Sink.told c.args.sink.now;
-      told_after = g.K.Sink.told c.args.sink.now;
-      source_faults = g.S.Source.faults c.args.source.now;
-      source_faults_after = g.S.Source.faults c.read_to_limit.new.source;
-      sink_faults = g.K.Sink.faults c.args.sink.now;
-      sink_faults_after = g.K.Sink.faults c.args.sink.now;
-    } in
-    as_outcome c.args.turns e c.in-Err.status c.without_run-in-Err.result.status c.without_run-in-Err.result.whole
-    c.without_run-in-Err.ensures.status c.without_run-in-Err.ensures.whole
-    (refuses c.args.turns e c.in-Err.status (keeps_same (g.K.Sink.told c.args.sink.now)) (record {
+pub returns-in-Err-Memory-write_run-clause-answers : goal.returns-in-Err-Memory-write_run-clause-answers
+returns-in-Err-Memory-write_run-clause-answers g c =
+    let e = ends g.S.Source.left g.S.Source.faults c.args.source.now c.read_to_limit.new.source g.K.Sink.told g.K.Sink.faults c.args.sink.now c.write_run.new.sink in
+    let run = c.in-Ok-run_image.run' in
+    let front = AppendsFront (g.K.Sink.told c.args.sink.now) (g.K.Sink.told c.write_run.new.sink) in
+    memory c.args.options.now e run _ _ c.without_run-in-Err-Memory-write_run.ensures.status c.without_run-in-Err-Memory-write_run.ensures.whole (record {
       input = c.in-Ok.input.items;
       taken = c.in-Ok.ensures.whole;
       end = c.in-Ok.ensures.end;
       within = c.in-Ok.ensures.within;
-      is = search rules;
-    }))
+      is = of_input c.args.options.now c.in-Ok.input.items c.deref.result.now c.in-Ok-image_in.image run front
+          c.deref.ensures.value c.in-Ok-image_in.ensures.ok c.in-Ok-run_image.ensures
+          (front_of _ _ _ _ _ _ _ c.in-Err-Memory-write_run.is c.write_run.ensures);
+    })
 
-pub returns-in-Err-clause-complete : goal.returns-in-Err-clause-complete
-returns-in-Err-clause-complete g c = finishes c.args.turns _ _ _ (returns-in-Err-clause-answers g c)
+pub returns-clause-answers : goal.returns-clause-answers
+returns-clause-answers g c =
+    let e = ends g.S.Source.left g.S.Source.faults c.args.source.now c.read_to_limit.new.source g.K.Sink.told g.K.Sink.faults c.args.sink.now c.write_run.new.sink in
+    let run = c.in-Ok-run_image.run' in
+    let front = AppendsFront (g.K.Sink.told c.args.sink.now) (g.K.Sink.told c.write_run.new.sink) in
+    let whole = Appends (g.K.Sink.told c.args.sink.now) (g.K.Sink.told c.write_run.new.sink) in
+    elim c.match-write_run.branch [
+      | in-Ok-write_run w ↦ done c.args.options.now e run _ w.status-is (record {
+        input = c.in-Ok.input.items;
+        taken = c.in-Ok.ensures.whole;
+        end = c.in-Ok.ensures.end;
+        within = c.in-Ok.ensures.within;
+        is = of_input c.args.options.now c.in-Ok.input.items c.deref.result.now c.in-Ok-image_in.image run whole
+            c.deref.ensures.value c.in-Ok-image_in.ensures.ok c.in-Ok-run_image.ensures
+            (was_appended _ _ _ _ _ _ _ w.in-Ok-write_run.is c.write_run.ensures);
+      })
+      | in-Err-Failed w ↦ failed c.args.options.now e run _ w.status-is (record {
+        input = c.in-Ok.input.items;
+        taken = c.in-Ok.ensures.whole;
+        end = c.in-Ok.ensures.end;
+        within = c.in-Ok.ensures.within;
+        is = of_input c.args.options.now c.in-Ok.input.items c.deref.result.now c.in-Ok-image_in.image run front
+            c.deref.ensures.value c.in-Ok-image_in.ensures.ok c.in-Ok-run_image.ensures
+            (front_of _ _ _ _ _ _ _ w.in-Err-Failed.is c.write_run.ensures);
+      }) (search rules)
+    ]

@@ -1,6 +1,6 @@
 use Rattle.std.proofs.Common.{◌+◌, ◌∷◌, [], drop, get_or, Ok, sym, ◌∙◌, ap}
 use Rattle.std.proofs.lemmas.List.{drop_more, drop_all}
-use Rattle.xt_parse.specs.declared.form.Shape.TheVariants.{Register}
+use Rattle.xt_names.specs.declared.forms.Shape.TheVariants.{Register}
 use Rattle.xt_parse.specs.Reading.{with_front, next_operand, operands_behind}
 use Rattle.xt_parse.proofs.ReadLemmas.{carries, front_more, operand_follows, operand_stops, no_shape_is_left}
 use Rattle.xt_parse.proofs.operands.operands_after.Goals as goal

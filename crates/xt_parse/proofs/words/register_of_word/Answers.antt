@@ -1,14 +1,15 @@
 use Rattle.std.proofs.Common.{sym, ◌∙◌, ap}
+use Rattle.std.specs.Option.{option_map}
 use Rattle.std.specs.Str.{bytes_eq}
-use Rattle.xt_parse.specs.Shapes.{register_of, register_words, shown_register}
-use Rattle.xt_parse.proofs.WordLemmas.{found, not_found}
+use Rattle.xt_parse.specs.Words.{register_of, register_words, shown_register}
+use Rattle.xt_names.proofs.Walked.{found, not_found}
 use Rattle.xt_parse.proofs.words.register_of_word.Goals as goal
 
 pub returns-then-eq : goal.returns-then-eq
 unfolding register_of
-returns-then-eq c = sym (found shown_register c.args.name.now register_words c.registers-register-items.result.now c.loop-register.register-index _ c.registers-register-items.ensures c.loop-register-test.true c.loop-register.invariant
-    (ap (λ b. bytes_eq b c.args.name.now) (sym c.as_bytes.ensures.value) ∙ sym c.eq.ensures ∙ c.if-eq.true))
+returns-then-eq c = sym (ap (λ o. option_map (λ row. row.1) o) (found shown_register (λ row. bytes_eq row.0 c.args.name.now) register_words c.registers-register-items.result.now c.loop-register.register-index _ c.registers-register-items.ensures c.loop-register-test.true c.loop-register.invariant
+    (ap (λ b. bytes_eq b c.args.name.now) (sym c.as_bytes.ensures.value) ∙ sym c.eq.ensures ∙ c.if-eq.true)))
 
 pub returns : goal.returns
 unfolding register_of
-returns c = sym (not_found shown_register c.args.name.now register_words c.registers-register-items.result.now c.loop-register.register-index c.registers-register-items.ensures c.loop-register-test.false c.loop-register.invariant)
+returns c = sym (ap (λ o. option_map (λ row. row.1) o) (not_found shown_register (λ row. bytes_eq row.0 c.args.name.now) register_words c.registers-register-items.result.now c.loop-register.register-index c.registers-register-items.ensures c.loop-register-test.false c.loop-register.invariant))

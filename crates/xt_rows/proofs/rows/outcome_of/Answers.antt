@@ -1,7 +1,9 @@
 use Rattle.std.proofs.Common.{sym, subst, arith}
 use Rattle.xt_map.specs.Memory.{constant_byte}
 use Rattle.xt_rows.specs.declared.outcome.Outcome.{Outcome}
-use Rattle.xt_rows.specs.Laws.{IsAny, IsProper}
+use Rattle.xt_rows.specs.Effects.{unchanged}
+use Rattle.xt_rows.specs.Laws.{AsksWith, IsAny, IsProper}
+use Rattle.xt_rows.proofs.Alone.{outcome_alone}
 use Rattle.xt_rows.proofs.Proper.{outcome_fit}
 use Rattle.xt_rows.proofs.rows.outcome_of.Goals as goal
 
@@ -22,3 +24,9 @@ returns-clause-proper c =
       fields = c.requires.ps;
       threadptr_word = omega arith;
     }))
+
+pub returns-clause-alone : goal.returns-clause-alone
+returns-clause-alone c =
+    let a = c.args in
+    let P : Outcome → Type 0 = λ o. AsksWith (unchanged a.ps a.threadptr) o in
+    subst P (sym c.row_outcome.ensures) (outcome_alone (constant_byte a.code.now) a.i a.pc a.values.x a.values.y a.values.u a.values.v a.ps a.threadptr)

@@ -1,0 +1,71 @@
+//! Runs the cases of the files that its words name, and prints the name of each case that does not
+//! agree, and how many of a file's cases agree.
+//!
+//! A case is a program with what comes out of it; the head of each file says which parts it has.
+//! What comes out was found without this program, by other means.
+#![tactic(auto)]
+
+mod cases;
+mod programs;
+mod schedules;
+
+use crate::cases::{lines_of, words_of};
+use std::alloc::Global;
+use std::process::ExitCode;
+use std::rt::{Env, Files};
+use std::{env, fs};
+
+// The text of a case's program: its part `program`, or the file that it names.
+fn program_of<R: Files + AllocGlobal>(rt: &R, case: &str, handlers: &str) -> Option<String> {
+    let file = words_of(case, "file");
+    if file.is_empty() {
+        lines_of(rt.alloc(), case, "program", handlers).ok()
+    } else {
+        fs::read_to_string(rt, file).ok()
+    }
+}
+
+// Whether a case agrees; none where it could not be run.
+fn agrees<R: Files + AllocGlobal>(rt: &R, case: &str, handlers: &str) -> Option<bool> {
+    let program = program_of(rt, case, handlers)?;
+    if words_of(case, "schedule").is_empty() {
+        programs::agrees(rt.alloc(), case, program.as_str(), handlers)
+    } else {
+        schedules::agrees(rt.alloc(), case, program.as_str())
+    }
+}
+
+// Runs the cases of a file, and prints how many agree; none where that failed.
+fn show<R: Files + Print + AllocGlobal>(rt: &R, name: &str, handlers: &str) -> Option<()> {
+    let text = fs::read_to_string(rt, name).ok()?;
+    let mut count = 0u64;
+    let mut good = 0u64;
+    for case in text.as_str().split("\nend\n") {
+        let title = words_of(case, "case");
+        if title.is_empty() {
+            continue;
+        }
+        count = count.saturating_add(1);
+        if agrees(rt, case, handlers) == Some(true) {
+            good = good.saturating_add(1);
+        } else {
+            println!(rt; "{name}: {title} differs").ok()?;
+        }
+    }
+    println!(rt; "{name}: {good} of {count} cases agree").ok()
+}
+
+fn main(rt: HostRuntime) -> ExitCode {
+    let Ok(words) = env::args(&rt) else {
+        return ExitCode::from(1);
+    };
+    let Ok(handlers) = fs::read_to_string(&rt, "handlers.s") else {
+        return ExitCode::from(1);
+    };
+    for name in words.skip(1) {
+        if show(&rt, name.as_str(), handlers.as_str()).is_none() {
+            return ExitCode::from(2);
+        }
+    }
+    ExitCode::from(0)
+}

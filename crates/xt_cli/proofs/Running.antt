@@ -1,0 +1,56 @@
+-- What the endings of a run say.
+use Rattle.std.proofs.Common.{◌≡◌, ℕ, inr, List, Option, Some, None, Result, Ok, Err, sym, subst}
+use Rattle.std.specs.Io.KnownBytes.{Appends, Keeps}
+use Rattle.xt_io.specs.Causes.{Rose}
+use Rattle.xt_io.specs.Whole.{AppendsFront}
+use Rattle.xt_io.specs.declared.sink.Refused.{Refused}
+use Rattle.xt_io.specs.declared.sink.Refused.TheVariants as refused
+use Rattle.xt_image.specs.declared.image.Image.{Image}
+use Rattle.xt_image.specs.Rules.{image_fault}
+use Rattle.xt_image.specs.Format.{image_of}
+use Rattle.xt_trace.specs.declared.run.Run.{Run}
+use Rattle.xt_words.specs.declared.options.RunOptions.{RunOptions}
+use Rattle.xt_cli.specs.declared.status.Status.{Status}
+use Rattle.xt_cli.specs.declared.status.Status.TheVariants as status
+use Rattle.xt_cli.specs.declared.top.Whole.{Whole}
+use Rattle.xt_cli.specs.Calls.{Ends}
+use Rattle.xt_cli.specs.Top.{HasRun, IsRunOfImage, IsRunOfInput, Runs, run_text}
+use Rattle.xt_cli.specs.Writes.{Writes}
+
+-- what is so of the image that was read is so of the input
+pub of_input : (o : RunOptions) (input read : List ℕ) (image : Image) (run : Run) (P : List ℕ → Type 0)
+    → read ≡ input → (image_fault read ≡ None) × (image ≡ image_of read) → IsRunOfImage o image run → P (run_text o image run)
+    → IsRunOfInput o input run × P (run_text o (image_of input) run)
+of_input o input read image run P same (none, is) is_run holds =
+    let A : List ℕ → Type 0 = λ bytes. image_fault bytes ≡ None in
+    let B : List ℕ → Type 0 = λ bytes. image ≡ image_of bytes in
+    let made : image ≡ image_of input = subst B same is in
+    let Q : Image → Type 0 = λ i. IsRunOfImage o i run in
+    let R : Image → Type 0 = λ i. P (run_text o i run) in
+    (record { image = subst A same none; is_run = subst Q made is_run }, subst R made holds)
+
+-- what was refused was written in front
+pub front_of : {T : Type 0} (r : Result T Refused) (e : Refused) (a b : Option (List ℕ)) (f g : ℕ) (bytes : List ℕ)
+    → r ≡ Err e → Writes r a b f g bytes → AppendsFront a b bytes
+front_of (Ok v) e a b f g bytes is writes = absurd (cc)
+front_of (Err x) e a b f g bytes is writes = writes.err
+
+-- ---- the endings
+
+pub memory : (o : RunOptions) (e : Ends) (run : Run) (s : Status) (w : Option Whole) → s ≡ status.Memory → w ≡ None
+    → HasRun o e run (AppendsFront e.told e.told_after) → Runs o e s w
+memory o e run s w is none has =
+    let P : Status → Type 0 = λ x. Runs o e x None in
+    let Q : Option Whole → Type 0 = λ x. Runs o e s x in
+    subst Q (sym none) (subst P (sym is) (inr (run, has)))
+
+pub done : (o : RunOptions) (e : Ends) (run : Run) (s : Status) → s ≡ status.Done
+    → HasRun o e run (Appends e.told e.told_after) → Runs o e s (Some (record { run = run }))
+done o e run s is has =
+    let P : Status → Type 0 = λ x. Runs o e x (Some (record { run = run })) in subst P (sym is) has
+
+pub failed : (o : RunOptions) (e : Ends) (run : Run) (s : Status) → s ≡ status.WriteFault
+    → HasRun o e run (AppendsFront e.told e.told_after) → Rose e.sink_faults e.sink_faults_after
+    → Runs o e s (Some (record { run = run }))
+failed o e run s is has rose =
+    let P : Status → Type 0 = λ x. Runs o e x (Some (record { run = run })) in subst P (sym is) (has, rose)

@@ -1,0 +1,32 @@
+use Rattle.std.proofs.Common.{◌≡◌, ℕ, ◌+◌, Option, Some, None, true, refl}
+use Rattle.xt_isa.specs.declared.Insn.{Insn}
+use Rattle.xt_isa.specs.Spelling.{length_of, spelled, fields_at}
+use Rattle.xt_map.specs.Memory.{constant_byte}
+use Rattle.xt_codec.specs.declared.Decoded.TheVariants as decoded
+use Rattle.xt_codec.specs.Answers.{answer}
+use Rattle.xt_rows.specs.Fetching.{Fetches, SpellsNothing, read_as}
+use Rattle.xt_core.proofs.fetch.spelled_at.Goals as goal
+
+good : (b0 n : ℕ) (x : Option Insn) (i : Insn) → decoded.Good i n ≡ answer b0 x → read_as x (length_of b0) ≡ Fetches i n
+good b0 n None i h = cc
+good b0 n (Some j) i h = cc
+
+illegal : (b0 : ℕ) (x : Option Insn) → decoded.Illegal ≡ answer b0 x → read_as x (length_of b0) ≡ SpellsNothing
+illegal b0 None h = refl
+illegal b0 (Some j) h = cc
+
+pub returns-in-Good : goal.returns-in-Good
+returns-in-Good c =
+    let code = constant_byte c.args.code.now in
+    let pc = c.args.pc in
+    let spelling : decoded.Good c.in-Good.insn c.in-Good.len ≡ answer (code pc) (spelled (fields_at (code pc) (code (pc + 1)) (code (pc + 2)))) =
+    rw c.code_three-b0.ensures at c.in-Good.ensures.spelled in
+    (good (code pc) c.in-Good.len (spelled (fields_at (code pc) (code (pc + 1)) (code (pc + 2)))) c.in-Good.insn spelling, c.in-Good.ensures.fits)
+
+pub returns-in-Illegal : goal.returns-in-Illegal
+returns-in-Illegal c =
+    let code = constant_byte c.args.code.now in
+    let pc = c.args.pc in
+    let spelling : decoded.Illegal ≡ answer (code pc) (spelled (fields_at (code pc) (code (pc + 1)) (code (pc + 2)))) =
+    rw c.code_three-b0.ensures at c.in-Illegal.ensures.spelled in
+    illegal (code pc) (spelled (fields_at (code pc) (code (pc + 1)) (code (pc + 2)))) spelling

@@ -1,0 +1,54 @@
+-- The record of a turn, and its two halves, in the words of the turn.
+use Rattle.std.specs.Prelude.{◌≡◌, ℕ, true, Option, Some, None}
+use Rattle.xt_map.specs.declared.access.Access.{Access}
+use Rattle.xt_map.specs.Regions.{is_mapped}
+use Rattle.xt_special.specs.Numbers as number
+use Rattle.xt_special.specs.Control.{special_of}
+use Rattle.xt_trace.specs.declared.record.StepRecord.{StepRecord}
+use Rattle.xt_rows.specs.Laws.{IsRegister}
+use Rattle.xt_exec.specs.declared.plans.Effect.{Effect}
+use Rattle.xt_exec.specs.declared.plans.Pending.{Pending}
+use Rattle.xt_exec.specs.State.{State}
+use Rattle.xt_exec.specs.Turn.{demand, planned, turn}
+use Rattle.xt_exec.specs.Halves.{asking}
+use Rattle.xt_core.specs.declared.begun.Begun.{Begun}
+use Rattle.xt_core.specs.declared.begun.Begun.TheVariants.{Local, Asks}
+use Rattle.xt_core.specs.declared.record.Head.{Head}
+
+-- what a record keeps of the state in which the turn begins
+abbrev pub head_of : State → Head
+head_of s = record { pc = s.control.pc; ccount = special_of s.control number.ccount; owb = s.control.ps.owb; interrupt = special_of s.control number.interrupt }
+
+-- the record of a turn that began so
+abbrev pub recorded : Head → Effect → Option Access → ℕ → StepRecord
+recorded h e access reply = record {
+  pc = h.pc;
+  kind = e.kind;
+  write = e.write;
+  access = access;
+  reply = reply;
+  ccount = h.ccount;
+  owb = h.owb;
+  interrupt = h.interrupt;
+}
+
+-- the next turn from this state asks, and this waits for the reply
+abbrev pub Awaits : (ℕ → ℕ) → State → Pending → Type 0
+Awaits code s p = planned code s ≡ asking p s
+
+-- A turn that asks for no access is done, whatever the reply.
+pub record IsLocal (code : ℕ → ℕ) (before after : State) (r : StepRecord) : Type 0 where
+  pub asks_nothing : demand code before ≡ None
+  pub turn : (reply : ℕ) → (r, after) ≡ turn code before reply
+
+-- A turn that asks waits for the reply, and has changed nothing.
+pub record IsHalf (code : ℕ → ℕ) (before after : State) (access : Access) (p : Pending) : Type 0 where
+  pub asks : demand code before ≡ Some access
+  pub mapped : is_mapped access ≡ true
+  pub unchanged : after ≡ before
+  pub awaits : Awaits code before p
+  pub target : IsRegister p.target
+
+abbrev pub IsBegun : Begun → (ℕ → ℕ) → State → State → Type 0
+IsBegun (Local r) code before after = IsLocal code before after r
+IsBegun (Asks access p) code before after = IsHalf code before after access p

@@ -1,0 +1,12 @@
+use xt_map::Access;
+
+/// What a turn that begins does.
+#[derive(Clone, Copy, Debug, PartialEq, Eq)]
+pub enum Begin {
+    /// Nothing: the core has stopped, or has no turn left.
+    Ended,
+    /// The turn is done.
+    Local,
+    /// It makes this access, and waits for the reply.
+    Bus(Access),
+}

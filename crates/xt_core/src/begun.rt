@@ -1,0 +1,12 @@
+use xt_exec::plans::Pending;
+use xt_map::Access;
+use xt_trace::StepRecord;
+
+/// What a turn that has begun is.
+#[derive(Clone, Copy)]
+pub enum Begun {
+    /// A whole turn, with this record.
+    Local(StepRecord),
+    /// The first half of one, which makes this access.
+    Asks(Access, Pending),
+}

@@ -1,0 +1,51 @@
+ghost use Rattle.std.specs.Prelude.{◌≡◌, Some};
+ghost use Rattle.xt_map.specs.declared.access.Access.{Access};
+ghost use Rattle.xt_map.specs.History.{replies_of};
+ghost use Rattle.xt_map.specs.Memory.{constant_byte};
+ghost use Rattle.xt_runs.specs.Traces.{replies_past, reply_for};
+ghost use Rattle.xt_exec.specs.States.{file_state};
+ghost use Rattle.xt_exec.specs.Turn.{demand, turn};
+
+use crate::begun::Begun;
+use crate::turn::{begin, end};
+use xt_exec::Regs;
+use xt_map::{Constants, Entry};
+use xt_trace::StepRecord;
+use xt_window::WindowFile;
+
+// The reply of the first entry of a core, 0 where there is none, and the entries behind it.
+fn reply_in<'a>(entries: &'a [Entry], core: u8) -> (u32, &'a [Entry])
+    ensures reply { (a : Access) → result.0 ≡ reply_for (Some a) (replies_of core entries.now) }
+    ensures rest { (a : Access) → replies_of core result.1.now ≡ replies_past (Some a) (replies_of core entries.now) }
+{
+    let mut rest = entries;
+    while !rest.is_empty() {
+        let entry = rest[0];
+        rest = &rest[1..];
+        if entry.core == core {
+            return (entry.reply, rest);
+        }
+    }
+    (0, rest)
+}
+
+/// One turn of a core with the reply that the entries have for it, and the entries behind.
+pub fn next_turn<'a>(
+    regs: &mut Regs<WindowFile>,
+    code: &Constants,
+    core: u8,
+    entries: &'a [Entry],
+) -> (StepRecord, &'a [Entry])
+    ensures turn { let s = file_state regs.old in let code = constant_byte code.now in
+        (result.0, file_state regs.new) ≡ turn code s (reply_for (demand code s) (replies_of core entries.now)) }
+    ensures rest { let s = file_state regs.old in
+        replies_of core result.1.now ≡ replies_past (demand (constant_byte code.now) s) (replies_of core entries.now) }
+{
+    match begin(regs, code) {
+        Begun::Local(record) => (record, entries),
+        Begun::Asks(_, pending) => {
+            let (reply, rest) = reply_in(entries, core);
+            (end(regs, pending, reply), rest)
+        }
+    }
+}

@@ -1,0 +1,9 @@
+mod Walk
+mod Overlapping
+mod OneRegion
+mod First
+mod Passed
+mod Numbers
+mod WellFormed
+mod Loaded
+mod Rows

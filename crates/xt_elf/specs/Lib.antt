@@ -1,0 +1,4 @@
+pub mod Headers
+pub mod Rules
+pub mod Format
+pub mod Spans

@@ -1,0 +1,20 @@
+-- What the private steps of an instruction answer, in the words of the turn (for proofs alone).
+use Rattle.std.specs.Prelude.{◌≡◌, ℕ, ◌<◌, ◌^◌, Option, Some, None}
+use Rattle.xt_rows.specs.Laws.{IsAny, IsProperWrite}
+use Rattle.xt_exec.specs.declared.step.Step.{Step}
+use Rattle.xt_exec.specs.State.{State}
+use Rattle.xt_exec.specs.Turn.{Planned}
+use Rattle.xt_exec.specs.Halves.{quiet_turn}
+
+-- the turn that leaves this state, but for the register that it writes
+abbrev pub turn_of : Step → State → Planned
+turn_of t s = quiet_turn t.kind t.write s
+
+-- the register that it writes exists
+abbrev pub WritesRegister : Step → Type 0
+WritesRegister t = IsProperWrite IsAny t.write
+
+-- what a special register can hold, and 0 where there is none
+abbrev pub IsHeld : Option ℕ → ℕ → Type 0
+IsHeld None u = u ≡ 0
+IsHeld (Some number) u = number ≡ 3 → u < 2 ^ 6

@@ -1,0 +1,124 @@
+use xt_rows::{Effect, Flow, SpecialWrite, Write};
+use xt_special::{Special, number};
+use xt_window::Windows;
+
+/// The registers of a core.
+#[derive(Clone, Copy)]
+pub struct Regs<W: Windows> {
+    /// The program counter.
+    pub pc: u32,
+    /// The register windows.
+    pub win: W,
+    /// The special registers.
+    pub sr: Special,
+    /// Whether the core waits after a WAITI.
+    pub waiting: bool,
+}
+
+impl<W: Windows> Regs<W> {
+    ghost use Rattle.std.specs.Prelude.{◌≡◌, ◌<◌, ◌≤◌, ◌%◌, ◌^◌};
+    ghost use Rattle.xt_window.specs.Ring.{cleared_regs};
+    ghost use Rattle.xt_exec.specs.State.{opening_state};
+    ghost use Rattle.xt_rows.specs.Laws.{IsAny, IsProperEffect, IsProperSet, IsProperWrite};
+    ghost use Rattle.xt_rows.specs.Settling.{after_effect, with_set};
+    ghost use Rattle.xt_exec.specs.States.{state_of};
+    ghost use Rattle.xt_exec.specs.Turn.{falls, with_write};
+    ghost use Rattle.xt_exec.specs.Halves.{gone_on};
+
+    /// The registers with which a core opens at `pc`: its a1 is 64 below the end of its stack, and its opening frame was called by 8
+    /// registers.
+    ///
+    /// Conditions: the core is 0 or 1, `vecbase` is a multiple of 1024, `stack_end` is at least 64, and `win` has 64 registers that
+    /// hold 0, WINDOWBASE 0 and WINDOWSTART 1.
+    #[tactic(auto, unfolding(crate::specs::State::opening_state, crate::specs::State::opening_regs))]
+    pub fn open(core: u8, pc: u32, vecbase: u32, stack_end: u32, win: W) -> Regs<W>
+        requires core { core < 2 }
+        requires vecbase { vecbase % 2 ^ 10 ≡ 0 }
+        requires stack { 64 ≤ stack_end }
+        requires regs { W.regs win ≡ cleared_regs }
+        requires base { W.base win ≡ 0 }
+        requires start { W.start win ≡ 1 }
+        ensures { state_of W.regs W.base W.start result ≡ opening_state core pc vecbase stack_end }
+    {
+        let prid = if core == 0 { 0xCDCD } else { 0xABAB };
+        let mut win = win;
+        win.write(1, stack_end - 64);
+        win.write(8, 0x8000_0000);
+        Regs {
+            pc,
+            win,
+            sr: Special::new(prid, vecbase),
+            waiting: false,
+        }
+    }
+
+    /// Goes on to the next instruction, or back in a loop.
+    #[tactic(auto, unfolding(xt_loop::specs::Looping::loops_back))]
+    #[inline(always)]
+    pub(crate) fn falls(&mut self, len: u8)
+        ensures { state_of W.regs W.base W.start self.new ≡ falls len (state_of W.regs W.base W.start self.old) }
+    {
+        let next = self.pc.wrapping_add(len as u32);
+        let count = self.sr.register(number::LCOUNT);
+        if next == self.sr.register(number::LEND) && !self.sr.excm() && count != 0 {
+            self.pc = self.sr.register(number::LBEG);
+            self.sr.set_register(number::LCOUNT, count - 1);
+        } else {
+            self.pc = next;
+        }
+    }
+
+    /// Goes on after a reply: an instruction that asked has no other effect on the control state.
+    #[tactic(auto, unfolding(xt_rows::specs::Settling::after_effect))]
+    #[inline(always)]
+    pub(crate) fn go_on(&mut self, len: u8)
+        ensures { state_of W.regs W.base W.start self.new ≡ gone_on len (state_of W.regs W.base W.start self.old) }
+    {
+        self.waiting = false;
+        self.falls(len);
+    }
+
+    // Writes a special register.
+    #[inline(always)]
+    fn set(&mut self, set: Option<SpecialWrite>)
+        requires { IsProperSet set }
+        ensures { let s = state_of W.regs W.base W.start self.old in
+            state_of W.regs W.base W.start self.new ≡ record s { control = record s.control { special = with_set set s.control.special } } }
+    {
+        if let Some(w) = set {
+            self.sr.set_register(w.number, w.value);
+        }
+    }
+
+    /// What an instruction of this length changes beside the visible registers.
+    #[tactic(auto, unfolding(xt_rows::specs::Settling::after_effect))]
+    #[inline(always)]
+    pub(crate) fn apply(&mut self, e: Effect, len: u8)
+        requires { IsProperEffect IsAny e }
+        ensures { let s = state_of W.regs W.base W.start self.old in
+            state_of W.regs W.base W.start self.new ≡ record s { control = after_effect e len s.control } }
+    {
+        self.sr.set_ps_fields(e.ps);
+        self.sr.set_threadptr(e.threadptr);
+        self.waiting = e.waits;
+        let (first, second, third) = e.sets;
+        self.set(first);
+        self.set(second);
+        self.set(third);
+        match e.flow {
+            Flow::Falls => self.falls(len),
+            Flow::Goes(target) => self.pc = target,
+        }
+    }
+
+    /// Writes a visible register of the window at hand.
+    #[inline(always)]
+    pub(crate) fn write(&mut self, write: Option<Write>)
+        requires { IsProperWrite IsAny write }
+        ensures { state_of W.regs W.base W.start self.new ≡ with_write write (state_of W.regs W.base W.start self.old) }
+    {
+        if let Some(w) = write {
+            self.win.write(w.number, w.value);
+        }
+    }
+}

@@ -1,0 +1,188 @@
+ghost use Rattle.std.specs.Prelude.{◌≡◌, ◌<◌, ◌≤◌, ◌+◌, true};
+ghost use Rattle.xt_isa.specs.Ranges.{signed_within};
+ghost use Rattle.xt_window.specs.Ring.{size_at};
+ghost use Rattle.xt_rows.specs.declared.outcome.WindowStep.TheVariants.{Exchanges, Reads, Rotates, Sets};
+ghost use Rattle.xt_rows.specs.Laws.{IsProperStep};
+ghost use Rattle.xt_exec.specs.States.{state_of};
+ghost use Rattle.xt_exec.specs.Turn.{entered, moved_stack, overflow, resumed, returned, window_value, with_window_value, windowed};
+ghost use Rattle.xt_exec.specs.Steps.{WritesRegister, turn_of};
+
+use crate::regs::Regs;
+use crate::step::{Step, quiet};
+use xt_rows::{WindowRegister, WindowStep, Write};
+use xt_trace::StepKind;
+use xt_window::ring::{bit, with_bit, without_bit};
+use xt_window::{Overflow, Windows};
+
+impl<W: Windows> Regs<W> {
+    /// The overflow of the window that the check found.
+    #[tactic(auto, unfolding(crate::specs::Turn::overflow))]
+    #[inline(always)]
+    pub(crate) fn overflow(&mut self, found: Overflow) -> Step
+        requires size { found.size ≡ size_at (state_of W.regs W.base W.start self.old).start ((state_of W.regs W.base W.start self.old).base + found.by) }
+        requires by { found.by < 4 }
+        requires low { 1 ≤ found.size }
+        requires high { found.size < 4 }
+        ensures after { turn_of result (state_of W.regs W.base W.start self.new) ≡ overflow found.by (state_of W.regs W.base W.start self.old) }
+        ensures registers { WritesRegister result }
+    {
+        let base = (self.win.base() + found.by) % 16;
+        self.window_exception(2 * (found.size - 1), base)
+    }
+
+    /// ENTRY.
+    #[tactic(auto, unfolding(crate::specs::Turn::entered))]
+    #[inline(always)]
+    fn enter(&mut self, number: u8, value: u32, len: u8) -> Step
+        requires { number < 16 }
+        ensures after { turn_of result (state_of W.regs W.base W.start self.new) ≡ entered number value len (state_of W.regs W.base W.start self.old) }
+        ensures registers { WritesRegister result }
+    {
+        let size = self.sr.callinc();
+        self.falls(len);
+        self.win.enter(size);
+        quiet(StepKind::Insn, Some(Write { number, value }))
+    }
+
+    /// RETW with this value of a0.
+    #[tactic(auto, unfolding(crate::specs::Turn::returned, crate::specs::Turn::underflow))]
+    #[inline(always)]
+    fn return_to(&mut self, a0: u32) -> Step
+        ensures after { turn_of result (state_of W.regs W.base W.start self.new) ≡ returned a0 (state_of W.regs W.base W.start self.old) }
+        ensures registers { WritesRegister result }
+    {
+        let size = (a0 / 0x4000_0000) as u8;
+        let old = self.win.base();
+        let base = (old + (16 - size)) % 16;
+        let start = self.win.start();
+        if !bit(start, base) {
+            return self.window_exception(2 * size.saturating_sub(1) + 1, base);
+        }
+        self.win.set_base(base);
+        self.win.set_start(without_bit(start, old));
+        self.pc = self.pc / 0x4000_0000 * 0x4000_0000 + a0 % 0x4000_0000;
+        quiet(StepKind::Insn, None)
+    }
+
+    /// RFWO and RFWU: back to the instruction at EPC1 and to its window.
+    #[tactic(auto, unfolding(crate::specs::Turn::resumed))]
+    #[inline(always)]
+    fn resume(&mut self, start: u16, epc1: u32) -> Step
+        ensures after { turn_of result (state_of W.regs W.base W.start self.new) ≡ resumed start epc1 (state_of W.regs W.base W.start self.old) }
+        ensures registers { WritesRegister result }
+    {
+        self.win.set_base(self.sr.owb());
+        self.win.set_start(start);
+        self.pc = epc1;
+        self.sr.set_excm(false);
+        quiet(StepKind::Insn, None)
+    }
+
+    /// MOVSP.
+    #[tactic(auto, unfolding(crate::specs::Turn::moved_stack))]
+    #[inline(always)]
+    fn move_stack(&mut self, number: u8, value: u32, len: u8) -> Step
+        requires { number < 16 }
+        ensures after { turn_of result (state_of W.regs W.base W.start self.new) ≡ moved_stack number value len (state_of W.regs W.base W.start self.old) }
+        ensures registers { WritesRegister result }
+    {
+        if self.win.behind() == 0 {
+            return self.raised(5, None);
+        }
+        self.falls(len);
+        quiet(StepKind::Insn, Some(Write { number, value }))
+    }
+
+    #[inline(always)]
+    fn window_value(&self, register: WindowRegister) -> u32
+        ensures { result ≡ window_value register (state_of W.regs W.base W.start self.now) }
+    {
+        match register {
+            WindowRegister::Base => self.win.base() as u32,
+            WindowRegister::Start => self.win.start() as u32,
+        }
+    }
+
+    #[inline(always)]
+    fn set_window_value(&mut self, register: WindowRegister, value: u32)
+        ensures { state_of W.regs W.base W.start self.new ≡ with_window_value register value (state_of W.regs W.base W.start self.old) }
+    {
+        match register {
+            WindowRegister::Base => self.win.set_base((value % 16) as u8),
+            WindowRegister::Start => self.win.set_start((value % 0x1_0000) as u16),
+        }
+    }
+
+    /// RSR of a window register.
+    #[inline(always)]
+    fn read_window(&mut self, register: WindowRegister, number: u8, len: u8) -> Step
+        requires { number < 16 }
+        ensures after { turn_of result (state_of W.regs W.base W.start self.new) ≡ windowed (Reads register number) len (state_of W.regs W.base W.start self.old) }
+        ensures registers { WritesRegister result }
+    {
+        let value = self.window_value(register);
+        self.falls(len);
+        quiet(StepKind::Insn, Some(Write { number, value }))
+    }
+
+    /// WSR of a window register.
+    #[inline(always)]
+    fn write_window(&mut self, register: WindowRegister, value: u32, len: u8) -> Step
+        ensures after { turn_of result (state_of W.regs W.base W.start self.new) ≡ windowed (Sets register value) len (state_of W.regs W.base W.start self.old) }
+        ensures registers { WritesRegister result }
+    {
+        self.falls(len);
+        self.set_window_value(register, value);
+        quiet(StepKind::Insn, None)
+    }
+
+    /// XSR of a window register.
+    #[inline(always)]
+    fn exchange_window(&mut self, register: WindowRegister, number: u8, value: u32, len: u8) -> Step
+        requires { number < 16 }
+        ensures after { turn_of result (state_of W.regs W.base W.start self.new) ≡ windowed (Exchanges register number value) len (state_of W.regs W.base W.start self.old) }
+        ensures registers { WritesRegister result }
+    {
+        let old = self.window_value(register);
+        self.falls(len);
+        self.set_window_value(register, value);
+        quiet(StepKind::Insn, Some(Write { number, value: old }))
+    }
+
+    /// ROTW.
+    #[tactic(auto, unfolding(xt_isa::specs::Ranges::signed_within))]
+    #[inline(always)]
+    fn rotate(&mut self, n: i32, len: u8) -> Step
+        requires { signed_within 8 n ≡ true }
+        ensures after { turn_of result (state_of W.regs W.base W.start self.new) ≡ windowed (Rotates n) len (state_of W.regs W.base W.start self.old) }
+        ensures registers { WritesRegister result }
+    {
+        self.falls(len);
+        self.win.rotate(n as i8);
+        quiet(StepKind::Insn, None)
+    }
+
+    /// An instruction that moves the window or looks at the windows.
+    #[inline(always)]
+    pub(crate) fn windowed(&mut self, step: WindowStep, len: u8) -> Step
+        requires { IsProperStep step }
+        ensures after { turn_of result (state_of W.regs W.base W.start self.new) ≡ windowed step len (state_of W.regs W.base W.start self.old) }
+        ensures registers { WritesRegister result }
+    {
+        let start = self.win.start();
+        let base = self.win.base();
+        match step {
+            WindowStep::Enters(number, value) => self.enter(number, value, len),
+            WindowStep::Returns(a0) => self.return_to(a0),
+            WindowStep::EndsOverflow(epc1) => self.resume(without_bit(start, base), epc1),
+            WindowStep::EndsUnderflow(epc1) => self.resume(with_bit(start, base), epc1),
+            WindowStep::Rotates(n) => self.rotate(n, len),
+            WindowStep::MovesStack(number, value) => self.move_stack(number, value, len),
+            WindowStep::Reads(register, number) => self.read_window(register, number, len),
+            WindowStep::Sets(register, value) => self.write_window(register, value, len),
+            WindowStep::Exchanges(register, number, value) => {
+                self.exchange_window(register, number, value, len)
+            }
+        }
+    }
+}

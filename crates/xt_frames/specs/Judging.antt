@@ -1,0 +1,88 @@
+-- The judge's view of one core ('profile'): a walk over its records, by the frame states alone.
+use Rattle.std.specs.Prelude.{ℕ, Bool, true, false, ◌||◌, if◌then◌else◌, Option, Some, None}
+use Rattle.xt_trace.specs.declared.record.StepRecord.{StepRecord}
+use Rattle.xt_rows.specs.Fetching.{fetched}
+use Rattle.xt_frames.specs.declared.kinds.BreachKind.{BreachKind}
+use Rattle.xt_frames.specs.Frames.{FrameState}
+use Rattle.xt_frames.specs.FrameStep.{FrameTurn, laid, frame_step}
+use Rattle.xt_frames.specs.SaveAreas.{is_live}
+use Rattle.xt_frames.specs.HandlerSteps.{Mode, Plain, Handles, is_window, mode_after}
+use Rattle.xt_frames.specs.Breaches.{Bounds, inputs_of, breach_of, window_breach, fresh_after, stale_after}
+
+-- the frame machine's step on the inputs of a record
+abbrev pub step_on : (ℕ → ℕ) → StepRecord → FrameState → FrameTurn
+step_on code rec f = frame_step code (inputs_of rec) f
+
+-- live bytes of this core, and of the other
+abbrev pub live_of : Bounds → FrameState → (ℕ → Bool) → ℕ → Bool
+live_of b f others a = is_live b.range f a || others a
+
+-- EPC1 has what was last written, after a judged step
+abbrev pub fresh_on : Bool → (ℕ → ℕ) → StepRecord → FrameState → Bool
+fresh_on fresh code rec f =
+    let u = step_on code rec f in
+    fresh_after
+    fresh
+    u.kind
+    (fetched code f.control.pc)
+    (laid (inputs_of rec) f).control.ps
+    u.after.control.ps
+
+-- what the judge knows of one core
+pub record Standing : Type 0 where
+  pub frame : FrameState
+  -- EPC1 has what was last written; after handler steps it has not, since exception mode ended
+  -- there
+  pub fresh : Bool
+  pub mode : Mode
+
+abbrev pub opening_standing : FrameState → Standing
+opening_standing f = record { frame = f; fresh = true; mode = Plain }
+
+-- a record that the judge has seen: a handler step; a judged step, with the stale bytes after it;
+-- or the first breach
+pub data Seen : Type 0 where
+  Handled : Standing → Seen
+  Judges : Standing → (ℕ → Bool) → Seen
+  Breaks : BreachKind → Seen
+
+-- the record of a window exception begins handler steps
+abbrev pub seen_window : Option BreachKind → FrameState → Seen
+seen_window None f = Handled (record { frame = f; fresh = false; mode = Handles })
+seen_window (Some kind) f = Breaks kind
+
+-- the record is judged; `others` are the live bytes of the other core
+abbrev pub seen_step :
+    Option BreachKind → (ℕ → ℕ) → Bounds → Standing → (ℕ → Bool) → (ℕ → Bool) → StepRecord → Seen
+seen_step None code b standing others stale rec =
+    let f = standing.frame in
+    let u = step_on code rec f in
+    Judges
+    (record { frame = u.after; fresh = fresh_on standing.fresh code rec f; mode = Plain })
+    (stale_after (live_of b u.after others) (live_of b f others) stale rec.access)
+seen_step (Some kind) code b standing others stale rec = Breaks kind
+
+abbrev pub seen_plain :
+    (ℕ → ℕ) → Bounds → Standing → (ℕ → Bool) → (ℕ → Bool) → StepRecord → Seen
+seen_plain code b standing others stale rec =
+    let f = standing.frame in
+    if is_window rec.kind then seen_window (window_breach code rec.kind (laid (inputs_of rec) f)) f
+    else
+    seen_step
+    (breach_of b standing.fresh code (live_of b f others) stale rec f)
+    code
+    b
+    standing
+    others
+    stale
+    rec
+
+abbrev pub seen_in :
+    Mode → (ℕ → ℕ) → Bounds → Standing → (ℕ → Bool) → (ℕ → Bool) → StepRecord → Seen
+seen_in Plain code b standing others stale rec = seen_plain code b standing others stale rec
+seen_in Handles code b standing others stale rec =
+    Handled (record { frame = standing.frame; fresh = false; mode = mode_after code Handles rec })
+
+-- one record of a core
+abbrev pub seen : (ℕ → ℕ) → Bounds → Standing → (ℕ → Bool) → (ℕ → Bool) → StepRecord → Seen
+seen code b standing others stale rec = seen_in standing.mode code b standing others stale rec

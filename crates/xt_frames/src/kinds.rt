@@ -1,0 +1,66 @@
+//! How a step leaves the stack discipline, and what is judged of a run.
+#![tactic(auto)]
+
+/// How a judged step leaves the stack discipline. Where a step shows several kinds, the first counts.
+#[derive(Clone, Copy, Debug, PartialEq, Eq)]
+pub enum BreachKind {
+    /// It reads a register that has no value.
+    Unset,
+    /// It writes a1 by another instruction than ENTRY or MOVSP.
+    SpWritten,
+    /// An ENTRY of another register than a1, of less than 16 bytes, or whose caller's frame is smaller
+    /// than the registers that it keeps.
+    FrameSize,
+    /// An ENTRY whose new stack pointer leaves the stack.
+    StackRange,
+    /// An ENTRY whose new stack pointer is no multiple of 16.
+    SpAlign,
+    /// An ENTRY that no call opened.
+    OpeningCall,
+    /// A RETW whose a0 names another size of call than the frame's.
+    ReturnMismatch,
+    /// A RETW of the opening frame.
+    NoCaller,
+    /// A store or S32C1I to a live save area of either core.
+    SaveStore,
+    /// A load or S32C1I of a stale byte, or a load of a live save area.
+    StaleLoad,
+    /// It names a4 to a15 in exception mode.
+    ExcmRegister,
+    /// ROTW, L32E, S32E, RFWO or RFWU.
+    WindowInstruction,
+    /// RSR, WSR or XSR of WINDOWBASE or WINDOWSTART.
+    WindowRegister,
+    /// It leaves PS.WOE clear.
+    WoeCleared,
+    /// It leaves VECBASE other than it opened.
+    VecbaseMoved,
+    /// It reads EPC1 after exception mode has ended since EPC1 was last written.
+    EpcLost,
+    /// A MOVSP.
+    Movsp,
+    /// It stands in a vector of a window exception.
+    VectorEntered,
+}
+
+/// A breach: the core, the number of the record in its trace, and the kind.
+#[derive(Clone, Copy, Debug, PartialEq, Eq)]
+pub struct Breach {
+    /// The core, 0 or 1.
+    pub core: u8,
+    /// The number of the record, from 0.
+    pub step: u32,
+    /// How the step leaves the discipline.
+    pub kind: BreachKind,
+}
+
+/// What is judged of a run.
+#[derive(Clone, Copy, Debug, PartialEq, Eq)]
+pub enum Judged {
+    /// Some window handler does not pass its check, so nothing is judged.
+    Unchecked,
+    /// No judged step shows a breach.
+    Whole,
+    /// The first breach.
+    Broken(Breach),
+}

@@ -1,0 +1,7 @@
+//! The machine with unbounded call frames in place of windows: its state, its step, its save areas,
+//! the kinds of breach of its stack discipline, and the walk of the judge over a run's records.
+#![tactic(auto)]
+
+mod kinds;
+
+pub use kinds::{Breach, BreachKind, Judged};

@@ -1,0 +1,17 @@
+use Rattle.std.proofs.Common.{◌≡◌, replicate}
+use Rattle.xt_map.specs.Memory.{constant_byte}
+use Rattle.xt_runs.specs.Short.{short_advance}
+use Rattle.xt_exec.specs.Chips.{processor}
+use Rattle.xt_machine.specs.Shorts.{world_of}
+use Rattle.xt_machine.proofs.pair.Pair.finish1.Given as goal
+
+-- what is left comes to the same world
+abbrev pub invariant-turns : goal.invariant-turns
+invariant-turns l = record {
+  world : short_advance (processor (constant_byte l.code)) (replicate l.self.core1.left 1) (world_of l.self)
+      ≡ short_advance (processor (constant_byte l.code)) (replicate l.fn.self.core1.left 1) (world_of l.fn.self);
+  other : l.self.core0 ≡ l.fn.self.core0;
+}
+
+abbrev pub decreases-turns : goal.decreases-turns
+decreases-turns l = l.self.core1.left

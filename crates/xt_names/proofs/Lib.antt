@@ -1,0 +1,6 @@
+pub mod Found
+pub mod InRange
+pub mod Searched
+pub mod Specials
+pub mod Walked
+pub mod Whole

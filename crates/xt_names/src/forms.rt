@@ -1,0 +1,90 @@
+//! What a mnemonic says: the operands behind it, its length, and how it reaches a special register.
+
+ghost use Rattle.std.specs.Prelude.{◌≡◌};
+ghost use Rattle.xt_names.specs.Forms.{access_of, is_narrow, shapes_of};
+
+use crate::mnemonic::{
+    Mnemonic, Number, OneAndNumber, OneAndSpecial, OneAndTarget, Plain, Three, Two, TwoAndNumber,
+};
+use xt_isa::system::SpecialName;
+
+/// How an instruction reaches a special or user register.
+#[derive(Clone, Copy, Debug, PartialEq, Eq)]
+pub enum Access {
+    /// RSR reads a special register.
+    Read,
+    /// WSR writes a special register.
+    Write,
+    /// XSR exchanges a special register with an address register.
+    Exchange,
+    /// RUR and WUR reach a user register, THREADPTR alone.
+    User,
+}
+
+/// The shape of one operand.
+#[derive(Clone, Copy, Debug, PartialEq, Eq)]
+pub enum Shape {
+    /// A register.
+    Register,
+    /// A number, or the address of a target.
+    Value,
+    /// The address of a literal.
+    Literal,
+    /// The name of a special register.
+    Special,
+    /// `threadptr`, the name of the one user register.
+    User,
+}
+
+/// The operands of a mnemonic, in the order of the text.
+#[tactic(auto, unfolding(crate::specs::Forms::shapes_of))]
+pub fn shapes_of(mnemonic: Mnemonic) -> &'static [Shape]
+    ensures { result.now ≡ shapes_of mnemonic }
+{
+    match mnemonic {
+        Mnemonic::Nothing(_) => &[],
+        Mnemonic::One(_) => &[Shape::Register],
+        Mnemonic::Two(_) => &[Shape::Register, Shape::Register],
+        Mnemonic::Three(_) => &[Shape::Register, Shape::Register, Shape::Register],
+        Mnemonic::Number(_) | Mnemonic::Jump | Mnemonic::Call(_) => &[Shape::Value],
+        Mnemonic::Break => &[Shape::Value, Shape::Value],
+        Mnemonic::OneAndNumber(_) | Mnemonic::OneAndTarget(_) => &[Shape::Register, Shape::Value],
+        Mnemonic::TwoAndNumber(_) | Mnemonic::TwoAndTarget(_) => {
+            &[Shape::Register, Shape::Register, Shape::Value]
+        }
+        Mnemonic::Extui => &[Shape::Register, Shape::Register, Shape::Value, Shape::Value],
+        Mnemonic::OneAndSpecial(OneAndSpecial::Rsr(_)) => &[Shape::Register, Shape::Special],
+        Mnemonic::OneAndSpecial(OneAndSpecial::Rur(_)) => &[Shape::Register, Shape::User],
+        Mnemonic::Literal => &[Shape::Register, Shape::Literal],
+        Mnemonic::OneNumberAndTarget(_) => &[Shape::Register, Shape::Value, Shape::Value],
+    }
+}
+
+/// Whether a mnemonic is one of 16 bits. Its instruction has 2 bytes then, else 3.
+pub fn is_narrow(mnemonic: Mnemonic) -> bool
+    ensures { result ≡ is_narrow mnemonic }
+{
+    matches!(
+        mnemonic,
+        Mnemonic::Nothing(Plain::RetNarrow(_))
+            | Mnemonic::Two(Two::MovNarrow)
+            | Mnemonic::Three(Three::AddNarrow)
+            | Mnemonic::Number(Number::BreakNarrow)
+            | Mnemonic::OneAndNumber(OneAndNumber::MoviNarrow)
+            | Mnemonic::OneAndTarget(OneAndTarget::BeqzNarrow(_))
+            | Mnemonic::TwoAndNumber(TwoAndNumber::L32iNarrow(_) | TwoAndNumber::AddiNarrow)
+    )
+}
+
+/// How the instruction of a mnemonic reaches a register that it names: RSR, WSR, XSR, RUR and WUR alone do.
+pub fn access_of(mnemonic: Mnemonic) -> Option<Access>
+    ensures { result ≡ access_of mnemonic }
+{
+    match mnemonic {
+        Mnemonic::OneAndSpecial(OneAndSpecial::Rsr(SpecialName::Rsr)) => Some(Access::Read),
+        Mnemonic::OneAndSpecial(OneAndSpecial::Rsr(SpecialName::Wsr)) => Some(Access::Write),
+        Mnemonic::OneAndSpecial(OneAndSpecial::Rsr(SpecialName::Xsr)) => Some(Access::Exchange),
+        Mnemonic::OneAndSpecial(OneAndSpecial::Rur(_)) => Some(Access::User),
+        _ => None,
+    }
+}

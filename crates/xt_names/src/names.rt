@@ -1,0 +1,279 @@
+//! The names of the mnemonics.
+
+ghost use Rattle.std.specs.Prelude.{◌≡◌};
+ghost use Rattle.xt_names.specs.Names.{call_name, name_of, number_name, one_and_number_name, one_and_special_name, one_and_target_name, one_name, one_number_and_target_name, plain_name, three_name, two_and_number_name, two_and_target_name, two_name};
+
+use crate::mnemonic::{
+    Mnemonic, Number, One, OneAndNumber, OneAndSpecial, OneAndTarget, OneNumberAndTarget, Plain,
+    Three, Two, TwoAndNumber, TwoAndTarget,
+};
+use xt_isa::control::{
+    BitName, BranchName, CallName, CallxName, ConstName, ConstuName, LoopName, OppositeName,
+    RetName, ZeroName,
+};
+use xt_isa::density::{NarrowName, NarrowRetName, NarrowZeroName};
+use xt_isa::memory::{ByteName, HalfName, WindowName, WordName};
+use xt_isa::shift::{NegName, NsaName, SextName, SrlName, Ssa8Name, SsrName};
+use xt_isa::system::{ReturnName, SpecialName, SyncName, UserName, WaitName};
+use xt_isa::three::{
+    AddName, AndName, DivideName, MinName, MoveName, Mul16Name, MulHighName, SubName,
+};
+
+#[tactic(auto, unfolding(crate::specs::Names::plain_name))]
+fn plain_name(mnemonic: Plain) -> &'static str
+    ensures { result.now ≡ plain_name mnemonic }
+{
+    match mnemonic {
+        Plain::Ret(RetName::Ret) => "ret",
+        Plain::Ret(RetName::Retw) => "retw",
+        Plain::Ill(SyncName::Ill) => "ill",
+        Plain::Ill(SyncName::Isync) => "isync",
+        Plain::Ill(SyncName::Rsync) => "rsync",
+        Plain::Ill(SyncName::Esync) => "esync",
+        Plain::Ill(SyncName::Dsync) => "dsync",
+        Plain::Excw(WaitName::Excw) => "excw",
+        Plain::Excw(WaitName::Memw) => "memw",
+        Plain::Excw(WaitName::Extw) => "extw",
+        Plain::Excw(WaitName::Nop) => "nop",
+        Plain::Rfe(ReturnName::Rfe) => "rfe",
+        Plain::Rfe(ReturnName::Rfde) => "rfde",
+        Plain::Rfe(ReturnName::Rfwo) => "rfwo",
+        Plain::Rfe(ReturnName::Rfwu) => "rfwu",
+        Plain::Syscall => "syscall",
+        Plain::RetNarrow(NarrowRetName::Ret) => "ret.n",
+        Plain::RetNarrow(NarrowRetName::Retw) => "retw.n",
+        Plain::RetNarrow(NarrowRetName::Nop) => "nop.n",
+        Plain::RetNarrow(NarrowRetName::Ill) => "ill.n",
+    }
+}
+
+#[tactic(auto, unfolding(crate::specs::Names::one_name))]
+fn one_name(mnemonic: One) -> &'static str
+    ensures { result.now ≡ one_name mnemonic }
+{
+    match mnemonic {
+        One::Ssr(SsrName::Ssr) => "ssr",
+        One::Ssr(SsrName::Ssl) => "ssl",
+        One::Ssa8l(Ssa8Name::Ssa8l) => "ssa8l",
+        One::Ssa8l(Ssa8Name::Ssa8b) => "ssa8b",
+        One::Jx => "jx",
+        One::Callx0(CallxName::Callx0) => "callx0",
+        One::Callx0(CallxName::Callx4) => "callx4",
+        One::Callx0(CallxName::Callx8) => "callx8",
+        One::Callx0(CallxName::Callx12) => "callx12",
+    }
+}
+
+#[tactic(auto, unfolding(crate::specs::Names::two_name))]
+fn two_name(mnemonic: Two) -> &'static str
+    ensures { result.now ≡ two_name mnemonic }
+{
+    match mnemonic {
+        Two::Neg(NegName::Neg) => "neg",
+        Two::Neg(NegName::Abs) => "abs",
+        Two::Srl(SrlName::Srl) => "srl",
+        Two::Srl(SrlName::Sra) => "sra",
+        Two::Sll => "sll",
+        Two::Nsa(NsaName::Nsa) => "nsa",
+        Two::Nsa(NsaName::Nsau) => "nsau",
+        Two::Movsp => "movsp",
+        Two::Mov => "mov",
+        Two::MovNarrow => "mov.n",
+    }
+}
+
+#[tactic(auto, unfolding(crate::specs::Names::three_name))]
+fn three_name(mnemonic: Three) -> &'static str
+    ensures { result.now ≡ three_name mnemonic }
+{
+    match mnemonic {
+        Three::And(AndName::And) => "and",
+        Three::And(AndName::Or) => "or",
+        Three::And(AndName::Xor) => "xor",
+        Three::Add(AddName::Add) => "add",
+        Three::Add(AddName::Addx2) => "addx2",
+        Three::Add(AddName::Addx4) => "addx4",
+        Three::Add(AddName::Addx8) => "addx8",
+        Three::Sub(SubName::Sub) => "sub",
+        Three::Sub(SubName::Subx2) => "subx2",
+        Three::Sub(SubName::Subx4) => "subx4",
+        Three::Sub(SubName::Subx8) => "subx8",
+        Three::Src => "src",
+        Three::Mul16u(Mul16Name::Mul16u) => "mul16u",
+        Three::Mul16u(Mul16Name::Mul16s) => "mul16s",
+        Three::Mull => "mull",
+        Three::Muluh(MulHighName::Muluh) => "muluh",
+        Three::Muluh(MulHighName::Mulsh) => "mulsh",
+        Three::Quou(DivideName::Quou) => "quou",
+        Three::Quou(DivideName::Quos) => "quos",
+        Three::Quou(DivideName::Remu) => "remu",
+        Three::Quou(DivideName::Rems) => "rems",
+        Three::Min(MinName::Min) => "min",
+        Three::Min(MinName::Max) => "max",
+        Three::Min(MinName::Minu) => "minu",
+        Three::Min(MinName::Maxu) => "maxu",
+        Three::Moveqz(MoveName::Moveqz) => "moveqz",
+        Three::Moveqz(MoveName::Movnez) => "movnez",
+        Three::Moveqz(MoveName::Movltz) => "movltz",
+        Three::Moveqz(MoveName::Movgez) => "movgez",
+        Three::AddNarrow => "add.n",
+    }
+}
+
+#[tactic(auto, unfolding(crate::specs::Names::number_name))]
+fn number_name(mnemonic: Number) -> &'static str
+    ensures { result.now ≡ number_name mnemonic }
+{
+    match mnemonic {
+        Number::Ssai => "ssai",
+        Number::Rfi => "rfi",
+        Number::Waiti => "waiti",
+        Number::Rotw => "rotw",
+        Number::BreakNarrow => "break.n",
+    }
+}
+
+#[tactic(auto, unfolding(crate::specs::Names::one_and_number_name))]
+fn one_and_number_name(mnemonic: OneAndNumber) -> &'static str
+    ensures { result.now ≡ one_and_number_name mnemonic }
+{
+    match mnemonic {
+        OneAndNumber::Movi => "movi",
+        OneAndNumber::Rsil => "rsil",
+        OneAndNumber::Entry => "entry",
+        OneAndNumber::MoviNarrow => "movi.n",
+    }
+}
+
+#[tactic(auto, unfolding(crate::specs::Names::one_and_special_name))]
+fn one_and_special_name(mnemonic: OneAndSpecial) -> &'static str
+    ensures { result.now ≡ one_and_special_name mnemonic }
+{
+    match mnemonic {
+        OneAndSpecial::Rsr(SpecialName::Rsr) => "rsr",
+        OneAndSpecial::Rsr(SpecialName::Wsr) => "wsr",
+        OneAndSpecial::Rsr(SpecialName::Xsr) => "xsr",
+        OneAndSpecial::Rur(UserName::Rur) => "rur",
+        OneAndSpecial::Rur(UserName::Wur) => "wur",
+    }
+}
+
+#[tactic(auto, unfolding(crate::specs::Names::one_and_target_name))]
+fn one_and_target_name(mnemonic: OneAndTarget) -> &'static str
+    ensures { result.now ≡ one_and_target_name mnemonic }
+{
+    match mnemonic {
+        OneAndTarget::Beqz(ZeroName::Beqz) => "beqz",
+        OneAndTarget::Beqz(ZeroName::Bnez) => "bnez",
+        OneAndTarget::Beqz(ZeroName::Bltz) => "bltz",
+        OneAndTarget::Beqz(ZeroName::Bgez) => "bgez",
+        OneAndTarget::Loop(LoopName::Loop) => "loop",
+        OneAndTarget::Loop(LoopName::Loopnez) => "loopnez",
+        OneAndTarget::Loop(LoopName::Loopgtz) => "loopgtz",
+        OneAndTarget::BeqzNarrow(NarrowZeroName::Beqz) => "beqz.n",
+        OneAndTarget::BeqzNarrow(NarrowZeroName::Bnez) => "bnez.n",
+    }
+}
+
+#[tactic(auto, unfolding(crate::specs::Names::one_number_and_target_name))]
+fn one_number_and_target_name(mnemonic: OneNumberAndTarget) -> &'static str
+    ensures { result.now ≡ one_number_and_target_name mnemonic }
+{
+    match mnemonic {
+        OneNumberAndTarget::Beqi(ConstName::Beqi) => "beqi",
+        OneNumberAndTarget::Beqi(ConstName::Bnei) => "bnei",
+        OneNumberAndTarget::Beqi(ConstName::Blti) => "blti",
+        OneNumberAndTarget::Beqi(ConstName::Bgei) => "bgei",
+        OneNumberAndTarget::Bltui(ConstuName::Bltui) => "bltui",
+        OneNumberAndTarget::Bltui(ConstuName::Bgeui) => "bgeui",
+        OneNumberAndTarget::Bbci(BitName::Bbci) => "bbci",
+        OneNumberAndTarget::Bbci(BitName::Bbsi) => "bbsi",
+    }
+}
+
+#[tactic(auto, unfolding(crate::specs::Names::two_and_number_name))]
+fn two_and_number_name(mnemonic: TwoAndNumber) -> &'static str
+    ensures { result.now ≡ two_and_number_name mnemonic }
+{
+    match mnemonic {
+        TwoAndNumber::Slli => "slli",
+        TwoAndNumber::Srai => "srai",
+        TwoAndNumber::Srli => "srli",
+        TwoAndNumber::Sext(SextName::Sext) => "sext",
+        TwoAndNumber::Sext(SextName::Clamps) => "clamps",
+        TwoAndNumber::L8ui(ByteName::L8ui) => "l8ui",
+        TwoAndNumber::L8ui(ByteName::S8i) => "s8i",
+        TwoAndNumber::L16ui(HalfName::L16ui) => "l16ui",
+        TwoAndNumber::L16ui(HalfName::L16si) => "l16si",
+        TwoAndNumber::L16ui(HalfName::S16i) => "s16i",
+        TwoAndNumber::L32i(WordName::L32i) => "l32i",
+        TwoAndNumber::L32i(WordName::S32i) => "s32i",
+        TwoAndNumber::L32i(WordName::L32ai) => "l32ai",
+        TwoAndNumber::L32i(WordName::S32ri) => "s32ri",
+        TwoAndNumber::S32c1i => "s32c1i",
+        TwoAndNumber::L32e(WindowName::L32e) => "l32e",
+        TwoAndNumber::L32e(WindowName::S32e) => "s32e",
+        TwoAndNumber::Addi => "addi",
+        TwoAndNumber::Addmi => "addmi",
+        TwoAndNumber::L32iNarrow(NarrowName::L32i) => "l32i.n",
+        TwoAndNumber::L32iNarrow(NarrowName::S32i) => "s32i.n",
+        TwoAndNumber::AddiNarrow => "addi.n",
+    }
+}
+
+#[tactic(auto, unfolding(crate::specs::Names::two_and_target_name))]
+fn two_and_target_name(mnemonic: TwoAndTarget) -> &'static str
+    ensures { result.now ≡ two_and_target_name mnemonic }
+{
+    match mnemonic {
+        TwoAndTarget::Bnone(BranchName::Bnone) => "bnone",
+        TwoAndTarget::Bnone(BranchName::Beq) => "beq",
+        TwoAndTarget::Bnone(BranchName::Blt) => "blt",
+        TwoAndTarget::Bnone(BranchName::Bltu) => "bltu",
+        TwoAndTarget::Bnone(BranchName::Ball) => "ball",
+        TwoAndTarget::Bnone(BranchName::Bbc) => "bbc",
+        TwoAndTarget::Bany(OppositeName::Bany) => "bany",
+        TwoAndTarget::Bany(OppositeName::Bne) => "bne",
+        TwoAndTarget::Bany(OppositeName::Bge) => "bge",
+        TwoAndTarget::Bany(OppositeName::Bgeu) => "bgeu",
+        TwoAndTarget::Bany(OppositeName::Bnall) => "bnall",
+        TwoAndTarget::Bany(OppositeName::Bbs) => "bbs",
+    }
+}
+
+#[tactic(auto, unfolding(crate::specs::Names::call_name))]
+fn call_name(mnemonic: CallName) -> &'static str
+    ensures { result.now ≡ call_name mnemonic }
+{
+    match mnemonic {
+        CallName::Call0 => "call0",
+        CallName::Call4 => "call4",
+        CallName::Call8 => "call8",
+        CallName::Call12 => "call12",
+    }
+}
+
+/// The name of a mnemonic, in lower case.
+#[tactic(auto, unfolding(crate::specs::Names::name_of))]
+pub fn name_of(mnemonic: Mnemonic) -> &'static str
+    ensures { result.now ≡ name_of mnemonic }
+{
+    match mnemonic {
+        Mnemonic::Nothing(mnemonic) => plain_name(mnemonic),
+        Mnemonic::One(mnemonic) => one_name(mnemonic),
+        Mnemonic::Two(mnemonic) => two_name(mnemonic),
+        Mnemonic::Three(mnemonic) => three_name(mnemonic),
+        Mnemonic::Number(mnemonic) => number_name(mnemonic),
+        Mnemonic::Break => "break",
+        Mnemonic::OneAndNumber(mnemonic) => one_and_number_name(mnemonic),
+        Mnemonic::TwoAndNumber(mnemonic) => two_and_number_name(mnemonic),
+        Mnemonic::Extui => "extui",
+        Mnemonic::OneAndSpecial(mnemonic) => one_and_special_name(mnemonic),
+        Mnemonic::Jump => "j",
+        Mnemonic::Call(mnemonic) => call_name(mnemonic),
+        Mnemonic::Literal => "l32r",
+        Mnemonic::OneAndTarget(mnemonic) => one_and_target_name(mnemonic),
+        Mnemonic::OneNumberAndTarget(mnemonic) => one_number_and_target_name(mnemonic),
+        Mnemonic::TwoAndTarget(mnemonic) => two_and_target_name(mnemonic),
+    }
+}

@@ -1,0 +1,286 @@
+-- An instruction that asks for an access changes nothing else.
+use Rattle.std.proofs.Common.{◌≡◌, ℕ, ℤ, ◌*◌, ◌%◌, ◌^◌, ◌==◌, Bool, true, false, cond, Option, Some, None, refl}
+use Rattle.xt_isa.specs.declared.Insn.{Insn}
+use Rattle.xt_isa.specs.declared.Insn.TheVariants as insn
+use Rattle.xt_isa.specs.declared.three.Three.{Three}
+use Rattle.xt_isa.specs.declared.three.Three.TheVariants as three
+use Rattle.xt_isa.specs.declared.three.AndName.TheVariants as AndName
+use Rattle.xt_isa.specs.declared.three.AddName.TheVariants as AddName
+use Rattle.xt_isa.specs.declared.three.SubName.TheVariants as SubName
+use Rattle.xt_isa.specs.declared.three.Mul16Name.TheVariants as Mul16Name
+use Rattle.xt_isa.specs.declared.three.MulHighName.TheVariants as MulHighName
+use Rattle.xt_isa.specs.declared.three.DivideName.TheVariants as DivideName
+use Rattle.xt_isa.specs.declared.three.MinName.TheVariants as MinName
+use Rattle.xt_isa.specs.declared.three.MoveName.TheVariants as MoveName
+use Rattle.xt_isa.specs.declared.shift.Shift.{Shift}
+use Rattle.xt_isa.specs.declared.shift.Shift.TheVariants as shift
+use Rattle.xt_isa.specs.declared.shift.NegName.TheVariants as NegName
+use Rattle.xt_isa.specs.declared.shift.SrlName.TheVariants as SrlName
+use Rattle.xt_isa.specs.declared.shift.SextName.TheVariants as SextName
+use Rattle.xt_isa.specs.declared.shift.NsaName.TheVariants as NsaName
+use Rattle.xt_isa.specs.declared.shift.SsrName.TheVariants as SsrName
+use Rattle.xt_isa.specs.declared.shift.Ssa8Name.TheVariants as Ssa8Name
+use Rattle.xt_isa.specs.declared.memory.Memory.{Memory}
+use Rattle.xt_isa.specs.declared.memory.Memory.TheVariants as memory
+use Rattle.xt_isa.specs.declared.memory.ByteName.TheVariants as ByteName
+use Rattle.xt_isa.specs.declared.memory.HalfName.TheVariants as HalfName
+use Rattle.xt_isa.specs.declared.memory.WordName.TheVariants as WordName
+use Rattle.xt_isa.specs.declared.memory.WindowName.TheVariants as WindowName
+use Rattle.xt_isa.specs.declared.control.Control.{Control}
+use Rattle.xt_isa.specs.declared.control.Control.TheVariants as control
+use Rattle.xt_isa.specs.declared.control.RetName.TheVariants as RetName
+use Rattle.xt_isa.specs.declared.control.ZeroName.TheVariants as ZeroName
+use Rattle.xt_isa.specs.declared.control.ConstName.TheVariants as ConstName
+use Rattle.xt_isa.specs.declared.control.ConstuName.TheVariants as ConstuName
+use Rattle.xt_isa.specs.declared.control.BranchName.TheVariants as BranchName
+use Rattle.xt_isa.specs.declared.control.OppositeName.TheVariants as OppositeName
+use Rattle.xt_isa.specs.declared.control.BitName.TheVariants as BitName
+use Rattle.xt_isa.specs.declared.control.LoopName.TheVariants as LoopName
+use Rattle.xt_isa.specs.declared.system.System.{System}
+use Rattle.xt_isa.specs.declared.system.System.TheVariants as system
+use Rattle.xt_isa.specs.declared.system.SyncName.TheVariants as SyncName
+use Rattle.xt_isa.specs.declared.system.WaitName.TheVariants as WaitName
+use Rattle.xt_isa.specs.declared.system.ReturnName.TheVariants as ReturnName
+use Rattle.xt_isa.specs.declared.system.BreakName.TheVariants as BreakName
+use Rattle.xt_isa.specs.declared.system.LevelName.TheVariants as LevelName
+use Rattle.xt_isa.specs.declared.system.SpecialName.TheVariants as SpecialName
+use Rattle.xt_isa.specs.declared.system.UserName.TheVariants as UserName
+use Rattle.xt_isa.specs.declared.density.Density.{Density}
+use Rattle.xt_isa.specs.declared.density.Density.TheVariants as density
+use Rattle.xt_isa.specs.declared.density.NarrowName.TheVariants as NarrowName
+use Rattle.xt_isa.specs.declared.density.NarrowZeroName.TheVariants as NarrowZeroName
+use Rattle.xt_isa.specs.declared.density.NarrowRetName.TheVariants as NarrowRetName
+use Rattle.xt_map.specs.declared.access.Access.{Access}
+use Rattle.xt_map.specs.declared.access.Kind.TheVariants.{Load, Store, Cas}
+use Rattle.xt_map.specs.Regions.{is_mapped, is_constant, region_of}
+use Rattle.xt_alu.specs.Conditions.{holds}
+use Rattle.xt_alu.specs.Arithmetic.{quou, quos, remu, rems}
+use Rattle.xt_alu.specs.declared.conditions.Cond.TheVariants as cond_
+use Rattle.xt_special.specs.declared.ps.Ps.{Ps}
+use Rattle.xt_rows.specs.declared.outcome.Awaited.{Awaited}
+use Rattle.xt_rows.specs.declared.outcome.Effect.{Effect}
+use Rattle.xt_rows.specs.declared.outcome.WindowRegister.{WindowRegister}
+use Rattle.xt_rows.specs.declared.outcome.Outcome.{Outcome}
+use Rattle.xt_rows.specs.Numbers.{plus, natural, literal_address, call_target}
+use Rattle.xt_rows.specs.Operands.{call_size, callx_size}
+use Rattle.xt_rows.specs.Effects.{unchanged, moves, divides, branches, calls, asks, aligned, loads, stores, swaps, window_register, reads_special, writes_special, exchanges_special}
+use Rattle.xt_rows.specs.Outcomes.{three_outcome, shift_outcome, memory_outcome, control_outcome, system_outcome, density_outcome, outcome, outcome_from}
+use Rattle.xt_rows.specs.Laws.{AsksWith}
+
+-- ---- the words of the formulas
+
+either : (b : Bool) (x y : Outcome) (e : Effect) → AsksWith e x → AsksWith e y → AsksWith e (cond b x y)
+either true x y e p q = p
+either false x y e p q = q
+
+asks_alone : (a : Access) (w : Option Awaited) (e : Effect) → AsksWith e (asks a w e)
+asks_alone a w e = either (is_mapped a) _ _ e refl tt
+
+aligned_alone : (size addr : ℕ) (o : Outcome) (e : Effect) → AsksWith e o → AsksWith e (aligned size addr o)
+aligned_alone size addr o e h = either ((addr % size) == 0) _ _ e h tt
+
+moves_alone : (b : Bool) (number value : ℕ) (e : Effect) → AsksWith e (moves b number value e)
+moves_alone true number value e = tt
+moves_alone false number value e = tt
+
+divides_alone : (divisor number value : ℕ) (e : Effect) → AsksWith e (divides divisor number value e)
+divides_alone divisor number value e = either (divisor == 0) _ _ e tt tt
+
+branches_alone : (b : Bool) (pc : ℕ) (offset : ℤ) (e : Effect) → AsksWith e (branches b pc offset e)
+branches_alone true pc offset e = tt
+branches_alone false pc offset e = tt
+
+calls_alone : (size target pc : ℕ) (e : Effect) → AsksWith e (calls size target pc e)
+calls_alone size target pc e = either (size == 0) _ _ e tt tt
+
+loads_alone : (code : ℕ → ℕ) (size : ℕ) (signed : Bool) (number addr : ℕ) (e : Effect) → AsksWith e (loads code size signed number addr e)
+loads_alone code size signed number addr e =
+    aligned_alone size addr _ e (either (is_constant (region_of addr)) _ _ e tt
+    (asks_alone (record { addr = addr; size = size; kind = Load }) (Some (record { number = number; signed = signed })) e))
+
+stores_alone : (size value addr : ℕ) (e : Effect) → AsksWith e (stores size value addr e)
+stores_alone size value addr e = aligned_alone size addr _ e (asks_alone (record { addr = addr; size = size; kind = Store (value % 2 ^ (8 * size)) }) None e)
+
+swaps_alone : (expected new number addr : ℕ) (e : Effect) → AsksWith e (swaps expected new number addr e)
+swaps_alone expected new number addr e = aligned_alone 4 addr _ e
+    (asks_alone (record { addr = addr; size = 4; kind = Cas expected new }) (Some (record { number = number; signed = false })) e)
+
+reads_special_alone : (w : Option WindowRegister) (t n u : ℕ) (e : Effect) → AsksWith e (reads_special w t n u e)
+reads_special_alone None t n u e = tt
+reads_special_alone (Some w) t n u e = tt
+
+writes_special_alone : (w : Option WindowRegister) (n x v : ℕ) (e : Effect) → AsksWith e (writes_special w n x v e)
+writes_special_alone None n x v e = tt
+writes_special_alone (Some w) n x v e = tt
+
+exchanges_special_alone : (w : Option WindowRegister) (t n x u v : ℕ) (e : Effect) → AsksWith e (exchanges_special w t n x u v e)
+exchanges_special_alone None t n x u v e = tt
+exchanges_special_alone (Some w) t n x u v e = tt
+
+-- ---- the tables of rows
+
+three_alone : (i : Three) (x : ℕ) (y : ℕ) (u : ℕ) (e : Effect) → AsksWith e (three_outcome i x y u e)
+unfolding three_outcome
+three_alone (three.And AndName.And r s t) x y u e = tt
+three_alone (three.And AndName.Or r s t) x y u e = tt
+three_alone (three.And AndName.Xor r s t) x y u e = tt
+three_alone (three.Add AddName.Add r s t) x y u e = tt
+three_alone (three.Add AddName.Addx2 r s t) x y u e = tt
+three_alone (three.Add AddName.Addx4 r s t) x y u e = tt
+three_alone (three.Add AddName.Addx8 r s t) x y u e = tt
+three_alone (three.Sub SubName.Sub r s t) x y u e = tt
+three_alone (three.Sub SubName.Subx2 r s t) x y u e = tt
+three_alone (three.Sub SubName.Subx4 r s t) x y u e = tt
+three_alone (three.Sub SubName.Subx8 r s t) x y u e = tt
+three_alone (three.Src r s t) x y u e = tt
+three_alone (three.Mul16u Mul16Name.Mul16u r s t) x y u e = tt
+three_alone (three.Mul16u Mul16Name.Mul16s r s t) x y u e = tt
+three_alone (three.Mull r s t) x y u e = tt
+three_alone (three.Muluh MulHighName.Muluh r s t) x y u e = tt
+three_alone (three.Muluh MulHighName.Mulsh r s t) x y u e = tt
+three_alone (three.Quou DivideName.Quou r s t) x y u e = divides_alone y r (quou x y) e
+three_alone (three.Quou DivideName.Quos r s t) x y u e = divides_alone y r (quos x y) e
+three_alone (three.Quou DivideName.Remu r s t) x y u e = divides_alone y r (remu x y) e
+three_alone (three.Quou DivideName.Rems r s t) x y u e = divides_alone y r (rems x y) e
+three_alone (three.Min MinName.Min r s t) x y u e = tt
+three_alone (three.Min MinName.Max r s t) x y u e = tt
+three_alone (three.Min MinName.Minu r s t) x y u e = tt
+three_alone (three.Min MinName.Maxu r s t) x y u e = tt
+three_alone (three.Moveqz MoveName.Moveqz r s t) x y u e = moves_alone (holds cond_.Eq y 0) r x e
+three_alone (three.Moveqz MoveName.Movnez r s t) x y u e = moves_alone (holds cond_.Ne y 0) r x e
+three_alone (three.Moveqz MoveName.Movltz r s t) x y u e = moves_alone (holds cond_.Lt y 0) r x e
+three_alone (three.Moveqz MoveName.Movgez r s t) x y u e = moves_alone (holds cond_.Ge y 0) r x e
+
+shift_alone : (i : Shift) (x : ℕ) (u : ℕ) (e : Effect) → AsksWith e (shift_outcome i x u e)
+unfolding shift_outcome
+shift_alone (shift.Neg NegName.Neg r t) x u e = tt
+shift_alone (shift.Neg NegName.Abs r t) x u e = tt
+shift_alone (shift.Srl SrlName.Srl r t) x u e = tt
+shift_alone (shift.Srl SrlName.Sra r t) x u e = tt
+shift_alone (shift.Sll r s) x u e = tt
+shift_alone (shift.Slli r s n) x u e = tt
+shift_alone (shift.Srai r t n) x u e = tt
+shift_alone (shift.Srli r t n) x u e = tt
+shift_alone (shift.Extui r t n width) x u e = tt
+shift_alone (shift.Sext SextName.Sext r s b) x u e = tt
+shift_alone (shift.Sext SextName.Clamps r s b) x u e = tt
+shift_alone (shift.Nsa NsaName.Nsa t s) x u e = tt
+shift_alone (shift.Nsa NsaName.Nsau t s) x u e = tt
+shift_alone (shift.Movsp t s) x u e = tt
+shift_alone (shift.Ssr SsrName.Ssr s) x u e = tt
+shift_alone (shift.Ssr SsrName.Ssl s) x u e = tt
+shift_alone (shift.Ssa8l Ssa8Name.Ssa8l s) x u e = tt
+shift_alone (shift.Ssa8l Ssa8Name.Ssa8b s) x u e = tt
+shift_alone (shift.Ssai n) x u e = tt
+
+memory_alone : (code : ℕ → ℕ) (i : Memory) (pc : ℕ) (x : ℕ) (y : ℕ) (u : ℕ) (e : Effect) → AsksWith e (memory_outcome code i pc x y u e)
+unfolding memory_outcome
+memory_alone code (memory.L8ui ByteName.L8ui t s offset) pc x y u e = loads_alone code 1 false t (plus x offset) e
+memory_alone code (memory.L8ui ByteName.S8i t s offset) pc x y u e = stores_alone 1 y (plus x offset) e
+memory_alone code (memory.L16ui HalfName.L16ui t s offset) pc x y u e = loads_alone code 2 false t (plus x offset) e
+memory_alone code (memory.L16ui HalfName.L16si t s offset) pc x y u e = loads_alone code 2 true t (plus x offset) e
+memory_alone code (memory.L16ui HalfName.S16i t s offset) pc x y u e = stores_alone 2 y (plus x offset) e
+memory_alone code (memory.L32i WordName.L32i t s offset) pc x y u e = loads_alone code 4 false t (plus x offset) e
+memory_alone code (memory.L32i WordName.S32i t s offset) pc x y u e = stores_alone 4 y (plus x offset) e
+memory_alone code (memory.L32i WordName.L32ai t s offset) pc x y u e = loads_alone code 4 false t (plus x offset) e
+memory_alone code (memory.L32i WordName.S32ri t s offset) pc x y u e = stores_alone 4 y (plus x offset) e
+memory_alone code (memory.S32c1i t s offset) pc x y u e = swaps_alone u y t (plus x offset) e
+memory_alone code (memory.L32e WindowName.L32e t s offset) pc x y u e = loads_alone code 4 false t (plus x offset) e
+memory_alone code (memory.L32e WindowName.S32e t s offset) pc x y u e = stores_alone 4 y (plus x offset) e
+memory_alone code (memory.L32r t offset) pc x y u e = loads_alone code 4 false t (literal_address pc offset) e
+memory_alone code (memory.Movi t n) pc x y u e = tt
+memory_alone code (memory.Addi t s n) pc x y u e = tt
+memory_alone code (memory.Addmi t s n) pc x y u e = tt
+
+control_alone : (i : Control) (pc : ℕ) (x : ℕ) (y : ℕ) (e : Effect) → AsksWith e (control_outcome i pc x y e)
+unfolding control_outcome
+control_alone (control.J offset) pc x y e = tt
+control_alone (control.Call0 name offset) pc x y e = calls_alone (call_size name) (call_target pc offset) pc e
+control_alone (control.Ret RetName.Ret) pc x y e = tt
+control_alone (control.Ret RetName.Retw) pc x y e = tt
+control_alone (control.Jx s) pc x y e = tt
+control_alone (control.Callx0 name s) pc x y e = calls_alone (callx_size name) x pc e
+control_alone (control.Beqz ZeroName.Beqz s offset) pc x y e = branches_alone (holds cond_.Eq x 0) pc offset e
+control_alone (control.Beqz ZeroName.Bnez s offset) pc x y e = branches_alone (holds cond_.Ne x 0) pc offset e
+control_alone (control.Beqz ZeroName.Bltz s offset) pc x y e = branches_alone (holds cond_.Lt x 0) pc offset e
+control_alone (control.Beqz ZeroName.Bgez s offset) pc x y e = branches_alone (holds cond_.Ge x 0) pc offset e
+control_alone (control.Beqi ConstName.Beqi s c offset) pc x y e = branches_alone (holds cond_.Eq x (plus 0 c)) pc offset e
+control_alone (control.Beqi ConstName.Bnei s c offset) pc x y e = branches_alone (holds cond_.Ne x (plus 0 c)) pc offset e
+control_alone (control.Beqi ConstName.Blti s c offset) pc x y e = branches_alone (holds cond_.Lt x (plus 0 c)) pc offset e
+control_alone (control.Beqi ConstName.Bgei s c offset) pc x y e = branches_alone (holds cond_.Ge x (plus 0 c)) pc offset e
+control_alone (control.Bltui ConstuName.Bltui s c offset) pc x y e = branches_alone (holds cond_.Ltu x (plus 0 c)) pc offset e
+control_alone (control.Bltui ConstuName.Bgeui s c offset) pc x y e = branches_alone (holds cond_.Geu x (plus 0 c)) pc offset e
+control_alone (control.Bnone BranchName.Bnone s t offset) pc x y e = branches_alone (holds cond_.NoBits x y) pc offset e
+control_alone (control.Bnone BranchName.Beq s t offset) pc x y e = branches_alone (holds cond_.Eq x y) pc offset e
+control_alone (control.Bnone BranchName.Blt s t offset) pc x y e = branches_alone (holds cond_.Lt x y) pc offset e
+control_alone (control.Bnone BranchName.Bltu s t offset) pc x y e = branches_alone (holds cond_.Ltu x y) pc offset e
+control_alone (control.Bnone BranchName.Ball s t offset) pc x y e = branches_alone (holds cond_.AllBits x y) pc offset e
+control_alone (control.Bnone BranchName.Bbc s t offset) pc x y e = branches_alone (holds cond_.BitClear x y) pc offset e
+control_alone (control.Bany OppositeName.Bany s t offset) pc x y e = branches_alone (holds cond_.AnyBits x y) pc offset e
+control_alone (control.Bany OppositeName.Bne s t offset) pc x y e = branches_alone (holds cond_.Ne x y) pc offset e
+control_alone (control.Bany OppositeName.Bge s t offset) pc x y e = branches_alone (holds cond_.Ge x y) pc offset e
+control_alone (control.Bany OppositeName.Bgeu s t offset) pc x y e = branches_alone (holds cond_.Geu x y) pc offset e
+control_alone (control.Bany OppositeName.Bnall s t offset) pc x y e = branches_alone (holds cond_.NotAllBits x y) pc offset e
+control_alone (control.Bany OppositeName.Bbs s t offset) pc x y e = branches_alone (holds cond_.BitSet x y) pc offset e
+control_alone (control.Bbci BitName.Bbci s b offset) pc x y e = branches_alone (holds cond_.BitClear x (natural b)) pc offset e
+control_alone (control.Bbci BitName.Bbsi s b offset) pc x y e = branches_alone (holds cond_.BitSet x (natural b)) pc offset e
+control_alone (control.Entry s n) pc x y e = tt
+control_alone (control.Loop LoopName.Loop s offset) pc x y e = tt
+control_alone (control.Loop LoopName.Loopnez s offset) pc x y e = tt
+control_alone (control.Loop LoopName.Loopgtz s offset) pc x y e = tt
+
+system_alone : (i : System) (x : ℕ) (u : ℕ) (v : ℕ) (e : Effect) → AsksWith e (system_outcome i x u v e)
+unfolding system_outcome
+system_alone (system.Ill SyncName.Ill) x u v e = tt
+system_alone (system.Ill SyncName.Isync) x u v e = tt
+system_alone (system.Ill SyncName.Rsync) x u v e = tt
+system_alone (system.Ill SyncName.Esync) x u v e = tt
+system_alone (system.Ill SyncName.Dsync) x u v e = tt
+system_alone (system.Excw WaitName.Excw) x u v e = tt
+system_alone (system.Excw WaitName.Memw) x u v e = tt
+system_alone (system.Excw WaitName.Extw) x u v e = tt
+system_alone (system.Excw WaitName.Nop) x u v e = tt
+system_alone (system.Rfe ReturnName.Rfe) x u v e = tt
+system_alone (system.Rfe ReturnName.Rfde) x u v e = tt
+system_alone (system.Rfe ReturnName.Rfwo) x u v e = tt
+system_alone (system.Rfe ReturnName.Rfwu) x u v e = tt
+system_alone (system.Rfi level) x u v e = tt
+system_alone (system.Break BreakName.Break level number) x u v e = tt
+system_alone (system.Break BreakName.Syscall level number) x u v e = tt
+system_alone (system.Rsil LevelName.Rsil t level) x u v e = tt
+system_alone (system.Rsil LevelName.Waiti t level) x u v e = tt
+system_alone (system.Rotw n) x u v e = tt
+system_alone (system.Rsr SpecialName.Rsr t n) x u v e = reads_special_alone (window_register n) t n u e
+system_alone (system.Rsr SpecialName.Wsr t n) x u v e = writes_special_alone (window_register n) n x v e
+system_alone (system.Rsr SpecialName.Xsr t n) x u v e = exchanges_special_alone (window_register n) t n x u v e
+system_alone (system.Rur UserName.Rur r n) x u v e = tt
+system_alone (system.Rur UserName.Wur t n) x u v e = tt
+
+density_alone : (code : ℕ → ℕ) (i : Density) (pc : ℕ) (x : ℕ) (y : ℕ) (e : Effect) → AsksWith e (density_outcome code i pc x y e)
+unfolding density_outcome
+density_alone code (density.L32i NarrowName.L32i t s offset) pc x y e = loads_alone code 4 false t (plus x offset) e
+density_alone code (density.L32i NarrowName.S32i t s offset) pc x y e = stores_alone 4 y (plus x offset) e
+density_alone code (density.Add r s t) pc x y e = tt
+density_alone code (density.Addi r s n) pc x y e = tt
+density_alone code (density.Movi s n) pc x y e = tt
+density_alone code (density.Beqz NarrowZeroName.Beqz s offset) pc x y e = branches_alone (holds cond_.Eq x 0) pc offset e
+density_alone code (density.Beqz NarrowZeroName.Bnez s offset) pc x y e = branches_alone (holds cond_.Ne x 0) pc offset e
+density_alone code (density.Mov t s) pc x y e = tt
+density_alone code (density.Ret NarrowRetName.Ret) pc x y e = tt
+density_alone code (density.Ret NarrowRetName.Retw) pc x y e = tt
+density_alone code (density.Ret NarrowRetName.Nop) pc x y e = tt
+density_alone code (density.Ret NarrowRetName.Ill) pc x y e = tt
+density_alone code (density.Break n) pc x y e = tt
+
+from_alone : (code : ℕ → ℕ) (i : Insn) (pc x y u v : ℕ) (e : Effect) → AsksWith e (outcome_from code i pc x y u v e)
+from_alone code (insn.Three i) pc x y u v e = three_alone i x y u e
+from_alone code (insn.Shift i) pc x y u v e = shift_alone i x u e
+from_alone code (insn.Memory i) pc x y u v e = memory_alone code i pc x y u e
+from_alone code (insn.Control i) pc x y u v e = control_alone i pc x y e
+from_alone code (insn.System i) pc x y u v e = system_alone i x u v e
+from_alone code (insn.Density i) pc x y u v e = density_alone code i pc x y e
+
+pub outcome_alone : (code : ℕ → ℕ) (i : Insn) (pc x y u v : ℕ) (ps : Ps) (threadptr : ℕ)
+    → AsksWith (unchanged ps threadptr) (outcome code i pc x y u v ps threadptr)
+unfolding outcome
+outcome_alone code i pc x y u v ps threadptr = from_alone code i pc x y u v (unchanged ps threadptr)

@@ -1,0 +1,253 @@
+-- After a handler the relation holds again, with one frame moved.
+use Rattle.std.proofs.Common.{◌≡◌, ℕ, ◌+◌, ◌-◌, ◌*◌, ◌%◌, ◌<◌, ◌≤◌, ◌≢◌, ◌⊎◌, Bool, true, false, ◌||◌, eqb, List, [], ◌∷◌, ◌++◌, Option, sym, ap, ◌∙◌, refl, arith, inl, inr, ⊎_elim, length, get_or, append_assoc}
+use Rattle.std.proofs.Math.ListN.{set}
+use Rattle.xt_frames.specs.Breaches.{lost_of}
+use Rattle.xt_simulation.proofs.Evenly.{only_epc1}
+use Rattle.std.proofs.lemmas.Bool.{and_from, eq-eqb, ne_eqb, cases_eq, cases_lt, or_right, or_from, false_from_ne_true, false≢true}
+use Rattle.std.proofs.lemmas.List.{get_or-set_same, get_or-set_other, get_or_past, length-set}
+use Rattle.xt_exec.specs.State.{State}
+use Rattle.xt_frames.specs.FrameStep.{laid}
+use Rattle.xt_frames.specs.Frames.{Frame, moved, FrameState}
+use Rattle.xt_simulation.specs.Closing.{Resumes, SpillsKeepPlain, FillsKeepPlain}
+use Rattle.xt_simulation.specs.Relation.{Same, Even, Plain, inputs}
+use Rattle.xt_simulation.specs.Ring.{stands, Holds, InRing, IsFrame, AreFrames, Windows}
+use Rattle.xt_special.specs.declared.ps.Ps.{Ps}
+use Rattle.xt_window.specs.Ring.{place, bit, with_bit, without_bit}
+use Rattle.xt_simulation.proofs.Modular.{one_window, bit_at_window, bit_with_same, bit_with_other, bit_without_same, bit_without_other}
+use Rattle.xt_simulation.proofs.RingLemmas.{some_within, stands_within, stands_above}
+
+-- ---- the ring at its old end
+pub moved_end : (ring : List Frame) (g : Frame) → moved (ring ++ g ∷ []) ≡ moved ring + g.by
+moved_end [] g = omega arith
+moved_end (f ∷ fs) g = let h = moved_end fs g in omega arith
+
+pub frames_end : (ring : List Frame) (g : Frame) → AreFrames (ring ++ g ∷ []) → AreFrames ring × IsFrame g
+frames_end [] g h = (tt, h.0)
+frames_end (f ∷ fs) g h = let r = frames_end fs g h.1 in ((h.0, r.0), r.1)
+
+or_either : (a b c : Bool) → (a || (b || c)) ≡ (a || b || c)
+or_either true b c = refl
+or_either false b c = refl
+
+stands_end : (w : ℕ) (ring : List Frame) (g : Frame) (low : ℕ) → stands w (ring ++ g ∷ []) low ≡ (stands w ring (g.by + low) || eqb w low)
+stands_end w [] g low = ap (λ x. eqb w x || eqb w low) (let e : g.by + 0 + low ≡ g.by + low = omega arith in e)
+stands_end w (f ∷ fs) g low =
+    let e : f.by + moved (fs ++ g ∷ []) + low ≡ f.by + moved fs + (g.by + low) = (let m = moved_end fs g in omega arith) in
+    let h = stands_end w fs g low in
+    ap (λ x. eqb w x || stands w (fs ++ g ∷ []) low) e
+    ∙ (ap (λ y. eqb w (f.by + moved fs + (g.by + low)) || y) h
+    ∙ or_either (eqb w (f.by + moved fs + (g.by + low))) (stands w fs (g.by + low)) (eqb w low))
+
+pub in_ring_end : (regs : List ℕ) (ring : List Frame) (g : Frame) (low : ℕ) → InRing regs (ring ++ g ∷ []) low → InRing regs ring (g.by + low) × Holds regs g.kept low
+in_ring_end regs [] g low h = let e : 0 + low ≡ low = omega arith in (tt, rw e at h.0)
+in_ring_end regs (f ∷ fs) g low h =
+    let r = in_ring_end regs fs g low h.1 in
+    let e : moved (fs ++ g ∷ []) + low ≡ moved fs + (g.by + low) = (let m = moved_end fs g in omega arith) in
+    ((rw e at h.0, r.0), r.1)
+
+-- registers above the window that was spilled
+in_ring_same : (regs other : List ℕ) (ring : List Frame) (low at : ℕ) → AreFrames ring → at ≤ low → moved ring + low < at + 16 → ((p : ℕ) → 4 * low ≤ p → p < 4 * at + 64 → get_or other (p % 64) 0 ≡ get_or regs (p % 64) 0) → InRing regs ring low → InRing other ring low
+in_ring_same regs other [] low at shaped le fit same h = tt
+in_ring_same regs other (f ∷ fs) low at shaped le fit same h =
+    let k = shaped.0.keeps in (
+      (λ i v e. let n = some_within f.kept i v e in same (4 * (moved fs + low) + i) (omega arith) (omega arith) ∙ h.0 i v e),
+      in_ring_same regs other fs low at shaped.1 le (omega arith) same h.1,
+    )
+
+-- ---- what a handler leaves of the special registers
+pub set_own : (xs ys : List ℕ) (k : ℕ) → length xs ≡ length ys → get_or (set ys k (get_or xs k 0)) k 0 ≡ get_or xs k 0
+set_own xs ys k len = ⊎_elim
+    (λ within. get_or-set_same ys k (get_or xs k 0) 0 within)
+    (λ past. let a = get_or_past (set ys k (get_or xs k 0)) k 0 (let n = length-set ys k (get_or xs k 0) in omega arith) in a ∙ sym (get_or_past xs k 0 (omega arith)))
+    (cases_lt k (length ys))
+
+overlaid : List ℕ → ℕ → ℕ → List ℕ
+overlaid xs count bits = set (set xs 234 count) 226 bits
+
+overlaid_length : (xs : List ℕ) (count bits : ℕ) → length (overlaid xs count bits) ≡ length xs
+unfolding overlaid
+overlaid_length xs count bits = length-set (set xs 234 count) 226 bits ∙ length-set xs 234 count
+
+overlaid_other : (xs : List ℕ) (count bits k : ℕ) → k ≢ 226 → k ≢ 234 → get_or (overlaid xs count bits) k 0 ≡ get_or xs k 0
+unfolding overlaid
+overlaid_other xs count bits k a b = get_or-set_other (set xs 234 count) 226 k bits 0 a ∙ get_or-set_other xs 234 k count 0 b
+
+overlaid_own : (xs ys : List ℕ) → length xs ≡ length ys → (k : ℕ) → (k ≡ 226) ⊎ (k ≡ 234) → get_or (overlaid ys (get_or xs 234 0) (get_or xs 226 0)) k 0 ≡ get_or xs k 0
+unfolding overlaid
+overlaid_own xs ys len k which =
+    let mid = length-set ys 234 (get_or xs 234 0) in
+    ⊎_elim
+    (λ a. rw a (set_own xs (set ys 234 (get_or xs 234 0)) 226 (len ∙ sym mid)))
+    (λ b.
+    let other : 234 ≢ 226 = λ z. omega arith in
+    rw b (get_or-set_other (set ys 234 (get_or xs 234 0)) 226 234 (get_or xs 226 0) 0 other ∙ set_own xs ys 234 len))
+    which
+
+not_epc1 : (k : ℕ) → lost_of false k ≡ false → k ≢ 177
+not_epc1 k known e = false≢true (sym known ∙ and_from (eqb k 177) true (eq-eqb k 177 e) refl)
+
+same_overlaid : (xs ys zs : List ℕ) (count bits : ℕ) → Same (lost_of false) xs (overlaid ys count bits) → length zs ≡ length xs → ((k : ℕ) → k ≢ 177 → k ≢ 226 → k ≢ 234 → get_or zs k 0 ≡ get_or xs k 0) → Same (lost_of false) zs (overlaid ys (get_or zs 234 0) (get_or zs 226 0))
+same_overlaid xs ys zs count bits e len same =
+    let l0 : length zs ≡ length ys = len ∙ (e.size ∙ overlaid_length ys count bits) in
+    record {
+      size = l0 ∙ sym (overlaid_length ys (get_or zs 234 0) (get_or zs 226 0));
+      only = only_epc1 false;
+      at = λ k known.
+          ⊎_elim
+          (λ a. sym (overlaid_own zs ys l0 k (inl a)))
+          (λ not_a. ⊎_elim
+          (λ b. sym (overlaid_own zs ys l0 k (inr b)))
+          (λ not_b.
+          let not_epc : k ≢ 177 = not_epc1 k known in
+          same k not_epc not_a not_b ∙ (e.at k known ∙ (overlaid_other ys count bits k not_a not_b ∙ sym (overlaid_other ys (get_or zs 234 0) (get_or zs 226 0) k not_a not_b))))
+          (cases_eq k 234))
+          (cases_eq k 226);
+    }
+
+less_known : {lost : ℕ → Bool} {xs ys : List ℕ} → Same lost xs ys → Same (lost_of false) xs ys
+less_known {lost = lost} s = record {
+  size = s.size;
+  only = only_epc1 false;
+  at = λ k known. s.at k (false_from_ne_true (lost k) (λ h. not_epc1 k known (s.only k h)));
+}
+
+resumed : {vecbase : ℕ} {lost : ℕ → Bool} {s : State} {ring spilled : List Frame} (f : FrameState) → Plain vecbase lost s f ring spilled → (t : State) → Resumes s.control t.control → Even (lost_of false) t.control (laid (inputs 0 t) f).control
+unfolding overlaid
+resumed {s = s} f l t r =
+    let e = l.even in
+    record {
+      pc = r.pc ∙ e.pc;
+      ps = r.ps ∙ ap (λ (p : Ps). (let q : Ps = record p { owb = t.control.ps.owb } in q)) e.ps;
+      threadptr = r.threadptr ∙ e.threadptr;
+      waits = r.waits ∙ e.waits;
+      special = same_overlaid s.control.special f.control.special t.control.special _ _ (less_known e.special) r.size r.special;
+    }
+
+or_none : (b : Bool) → (b || false) ≡ b
+or_none true = refl
+or_none false = refl
+
+stands_below : (w : ℕ) (ring : List Frame) (low : ℕ) → w < low → stands w ring low ≡ false
+stands_below w ring low h = false_from_ne_true (stands w ring low) (λ e. let b = stands_within w ring low e in omega arith)
+
+-- ---- an overflow's handler
+module _ {regs : List ℕ} {base start : ℕ} {seen : List (Option ℕ)} {low : ℕ} (ring : List Frame) (g : Frame) (w : Windows regs base start seen (ring ++ g ∷ []) low) (other : List ℕ) (size : length other ≡ length regs) (same : (p : ℕ) → 4 * (low + g.by) ≤ p → p < 4 * low + 64 → get_or other (p % 64) 0 ≡ get_or regs (p % 64) 0) where
+  spilled_bits : (k : ℕ) → g.by + low ≤ k → k < g.by + low + 16 → bit (without_bit start low) k ≡ stands k ring (g.by + low)
+  spilled_bits k at_least below =
+      let shape = frames_end ring g w.shaped in
+      let pos = shape.1.moves in
+      let m = moved_end ring g in
+      let fit = w.fits in
+      ⊎_elim
+      (λ inside.
+      let apart : k % 16 ≡ low % 16 → ⊥ = λ e. let z = one_window k low (omega arith) (omega arith) e in omega arith in
+      let n : eqb k low ≡ false = ne_eqb _ _ (λ z. omega arith) in
+      bit_without_other start low k apart ∙ (w.bits k (omega arith) inside ∙ (stands_end k ring g low ∙ rw n (or_none (stands k ring (g.by + low))))))
+      (λ beyond.
+      -- the window is low, or one above it that no frame has
+      ⊎_elim
+      (λ oldest. bit_without_same start low k (omega arith) ∙ sym (stands_above k ring (g.by + low) (omega arith)))
+      (λ gap.
+      let apart : k % 16 ≡ low % 16 → ⊥ = λ e. let z = one_window k (low + 16) (omega arith) (omega arith) (omega arith) in gap z in
+      let n : eqb (k - 16) low ≡ false = ne_eqb _ _ (λ z. gap (omega arith)) in
+      let under = stands_below (k - 16) ring (g.by + low) (omega arith) in
+      let b = w.bits (k - 16) (omega arith) (omega arith) in
+      let c = stands_end (k - 16) ring g low ∙ or_from _ _ under n in
+      bit_without_other start low k apart ∙ (bit_at_window start k (k - 16) (omega arith) ∙ (b ∙ (c ∙ sym (stands_above k ring (g.by + low) (omega arith))))))
+      (cases_eq k (low + 16)))
+      (cases_lt k (low + 16))
+
+  pub spilled_windows : Windows other base (without_bit start low) seen ring (g.by + low)
+  spilled_windows =
+      let shape = frames_end ring g w.shaped in
+      let pos = shape.1.moves in
+      let m = moved_end ring g in
+      let fit = w.fits in
+      let b = w.based in
+      let here : moved (ring ++ g ∷ []) + low ≡ moved ring + (g.by + low) = omega arith in
+      record {
+        size = size ∙ w.size;
+        wide = w.wide;
+        shaped = shape.0;
+        fits = omega arith;
+        based = omega arith;
+        bits = spilled_bits;
+        kept = in_ring_same regs other ring (g.by + low) low shape.0 (omega arith) (omega arith) (λ p lo hi. same p (omega arith) hi) (in_ring_end regs ring g low w.kept).0;
+        visible = λ i v e.
+            let room = w.room i v e in
+            let at : get_or regs (place (moved ring + (g.by + low)) i) 0 ≡ v = rw here at (w.visible i v e) in
+            same (4 * (moved ring + (g.by + low)) + i) (omega arith) (omega arith) ∙ at;
+        room = λ i v e. let room = w.room i v e in omega arith;
+      }
+
+pub spills : SpillsKeepPlain
+spills vecbase lost s t f ring g spilled l c start =
+    let w = spilled_windows ring g l.windows t.regs c.size c.others in
+    record {
+      windows = rw (c.base, start) w;
+      frames = l.frames ∙ append_assoc ring (g ∷ []) spilled;
+      older = ((frames_end ring g l.windows.shaped).1, l.older);
+      even = resumed f l t c.control;
+      woe = rw c.control.ps l.woe;
+      calls = rw c.control.ps l.calls;
+      vectors = c.control.special 231 (λ e. omega arith) (λ e. omega arith) (λ e. omega arith) ∙ l.vectors;
+    }
+
+-- ---- an underflow's handler
+module _ {regs : List ℕ} {base start : ℕ} {seen : List (Option ℕ)} {low : ℕ} (g : Frame) (w : Windows regs base start seen [] (g.by + low)) (shape : IsFrame g) (other : List ℕ) (size : length other ≡ length regs) (same : (p : ℕ) → 4 * (low + g.by) ≤ p → p < 4 * low + 64 → get_or other (p % 64) 0 ≡ get_or regs (p % 64) 0) (back : Holds other g.kept low) where
+  filled_bits : (k : ℕ) → low ≤ k → k < low + 16 → bit (with_bit start low) k ≡ stands k (g ∷ []) low
+  filled_bits k at_least below =
+      let pos = shape.moves in
+      let small = shape.within in
+      let b = w.based in
+      let same_end : g.by + low ≡ g.by + 0 + low = omega arith in
+      ⊎_elim
+      (λ mine. bit_with_same start low k (omega arith) ∙ sym (or_right (eqb k (g.by + 0 + low)) (eqb k low) (eq-eqb _ _ mine)))
+      (λ not_mine.
+      let apart : k % 16 ≡ low % 16 → ⊥ = λ e. not_mine (one_window k low (omega arith) (omega arith) e) in
+      let n : eqb k low ≡ false = ne_eqb _ _ not_mine in
+      let right : (eqb k (g.by + 0 + low) || eqb k low) ≡ eqb k (g.by + 0 + low) = rw n (or_none (eqb k (g.by + 0 + low))) in
+      bit_with_other start low k apart
+      ∙ (⊎_elim
+      (λ low_side.
+      let above : eqb (k + 16) (g.by + low) ≡ false = ne_eqb _ _ (λ z. omega arith) in
+      let f : eqb k (g.by + 0 + low) ≡ false = ne_eqb _ _ (λ z. omega arith) in
+      bit_at_window start k (k + 16) (omega arith) ∙ (w.bits (k + 16) (omega arith) (omega arith) ∙ (above ∙ sym f)))
+      (λ high. w.bits k high (omega arith) ∙ ap (eqb k) same_end)
+      (cases_lt k (g.by + low))
+      ∙ sym right))
+      (cases_eq k low)
+
+  pub filled_windows : Windows other base (with_bit start low) seen (g ∷ []) low
+  filled_windows =
+      let b = w.based in
+      let small = shape.within in
+      let wide = w.wide in
+      record {
+        size = size ∙ w.size;
+        wide = w.wide;
+        shaped = (shape, tt);
+        fits = omega arith;
+        based = omega arith;
+        bits = filled_bits;
+        kept = ((let e : 0 + low ≡ low = omega arith in rw e back), tt);
+        visible = λ i v e.
+            let narrow = some_within seen i v e in
+            let here : 0 + (g.by + low) ≡ g.by + 0 + low = omega arith in
+            let at : get_or regs (place (g.by + 0 + low) i) 0 ≡ v = rw here at (w.visible i v e) in
+            same (4 * (g.by + 0 + low) + i) (omega arith) (omega arith) ∙ at;
+        room = λ i v e. let narrow = some_within seen i v e in omega arith;
+      }
+
+pub fills : FillsKeepPlain
+fills vecbase lost s t f g rest l c back start =
+    let w = filled_windows g l.windows l.older.0 t.regs c.size c.others back in
+    record {
+      windows = rw (c.base, start) w;
+      frames = l.frames;
+      older = l.older.1;
+      even = resumed f l t c.control;
+      woe = rw c.control.ps l.woe;
+      calls = rw c.control.ps l.calls;
+      vectors = c.control.special 231 (λ e. omega arith) (λ e. omega arith) (λ e. omega arith) ∙ l.vectors;
+    }

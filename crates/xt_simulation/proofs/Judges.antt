@@ -1,0 +1,155 @@
+-- A judged step of one core, over both memories.
+use Rattle.std.proofs.Common.{◌≡◌, ℕ, ◌%◌, ◌<◌, Bool, false, Option, Some, None, List, sym, ap, ◌∙◌, refl, arith, ⊎_elim, get_or, subst}
+use Rattle.std.proofs.Math.ListN.{set}
+use Rattle.std.proofs.lemmas.Bool.{cases_eq, or_left}
+use Rattle.std.proofs.lemmas.List.{get_or-set_other, length-set}
+use Rattle.xt_map.specs.declared.access.Access.{Access}
+use Rattle.xt_map.specs.declared.contents.MemoryContents.{MemoryContents}
+use Rattle.xt_map.specs.Memory.{HasSizes, byte_at}
+use Rattle.xt_special.specs.declared.ps.Ps.{Ps}
+use Rattle.xt_rows.specs.Fetching.{fetched}
+use Rattle.xt_rows.specs.Laws.{AreBytes}
+use Rattle.xt_exec.specs.State.{State}
+use Rattle.xt_exec.specs.Laws.{IsShaped}
+use Rattle.xt_exec.specs.Turn.{planned, demand, turn, shown, reply_where}
+use Rattle.xt_exec.proofs.Shapes.{turn_shaped}
+use Rattle.xt_frames.specs.Frames.{Frame, FrameState, known}
+use Rattle.xt_frames.specs.FrameStep.{FrameTurn, laid, laid_step}
+use Rattle.xt_frames.specs.SaveAreas.{is_live}
+use Rattle.xt_frames.specs.HandlerSteps.{is_window}
+use Rattle.xt_frames.specs.Breaches.{lost_of, Bounds, inputs_of, laid_breach, breach_of, fresh_after, stale_after}
+use Rattle.xt_simulation.specs.Stacks.{Stack, Saved, sp_under}
+use Rattle.xt_simulation.specs.Relation.{Same, Level, Plain, inputs}
+use Rattle.xt_simulation.specs.Cores.{word, Related}
+use Rattle.xt_simulation.proofs.Closed.{set_own}
+use Rattle.xt_simulation.proofs.Chains.{related_spared}
+use Rattle.xt_simulation.proofs.Whole.{keeps_level}
+use Rattle.xt_simulation.proofs.StackSteps.{keeps_stack}
+use Rattle.xt_simulation.specs.Steps.{reply_at, memory_after_step, reply_now, record_now, state_now, memory_now}
+use Rattle.xt_simulation.specs.InHandlers.{Somewhere}
+use Rattle.xt_simulation.specs.Memories.{Agree, KeepsAreas}
+use Rattle.xt_map.specs.Touching.{IsMemory}
+use Rattle.xt_simulation.proofs.Memories.{replies_agree, memories_agree, live_kept, keeps_from, reply_small}
+use Rattle.xt_frames.specs.Judging.{step_on, live_of}
+use Rattle.xt_simulation.specs.Judges.{After}
+use Rattle.xt_exec.proofs.Served.{demand_served}
+use Rattle.xt_simulation.proofs.Served.{areas_kept}
+
+-- ---- the inputs of the next step, laid over the frame state
+same_own : {lost : ℕ → Bool} {xs ys : List ℕ} → Same lost xs ys → (k : ℕ) → Same lost xs (set ys k (get_or xs k 0))
+same_own {xs = xs} {ys = ys} e k = record {
+  size = e.size ∙ sym (length-set ys k (get_or xs k 0));
+  only = e.only;
+  at = λ j known. ⊎_elim
+      (λ same. rw same (sym (set_own xs ys k e.size)))
+      (λ other. e.at j known ∙ sym (get_or-set_other ys k j (get_or xs k 0) 0 other))
+      (cases_eq j k);
+}
+
+pub lay : {vecbase : ℕ} {lost : ℕ → Bool} {s : State} {g : FrameState} {ring spilled : List Frame} → Level vecbase lost s g ring spilled → Plain vecbase lost s g ring spilled
+lay {s = s} {g = g} l = record {
+  windows = l.windows;
+  frames = l.frames;
+  older = l.older;
+  even = record {
+    pc = l.even.pc;
+    ps = ap (λ (p : Ps). (let q : Ps = record p { owb = s.control.ps.owb } in q)) l.even.ps;
+    threadptr = l.even.threadptr;
+    waits = l.even.waits;
+    special = same_own (same_own l.even.special 234) 226;
+  };
+  woe = l.woe;
+  calls = l.calls;
+  vectors = l.vectors;
+}
+
+-- the inputs of a record are those of its state
+pub same_laid : (code : ℕ → ℕ) (s : State) (reply : ℕ) (f : FrameState) → s.control.ps.owb < 16 → laid (inputs_of (turn code s reply).0) f ≡ laid (inputs 0 s) f
+unfolding turn
+same_laid code s reply f small = let e : s.control.ps.owb % 16 ≡ s.control.ps.owb = omega arith in rw e refl
+
+where_now : (m : MemoryContents) (o : Option Access) → reply_where o (reply_at m o) ≡ reply_at m o
+where_now m None = refl
+where_now m (Some a) = refl
+
+pub record_reply : (code : ℕ → ℕ) (m : MemoryContents) (s : State) → (record_now code m s).reply ≡ reply_now code m s
+unfolding turn
+record_reply code m s = where_now m (demand code s)
+
+pub record_access : (code : ℕ → ℕ) (s : State) (reply : ℕ) → (turn code s reply).0.access ≡ demand code s
+unfolding turn
+record_access code s reply = refl
+
+pub shaped_now : (code : ℕ → ℕ) (m : MemoryContents) (s : State) → AreBytes code → IsShaped s → IsMemory m → IsShaped (state_now code m s)
+shaped_now code m s bytes shaped im = turn_shaped code s (reply_now code m s) bytes shaped (reply_small m (demand code s) im (demand_served code s))
+
+module _ (code : ℕ → ℕ) (bytes : AreBytes code) (b : Bounds) (fresh : Bool) (s : State) (f : FrameState) (ring spilled : List Frame) (m framed : MemoryContents) (others stale : ℕ → Bool)
+    (l : Related (byte_at m) b (lost_of fresh) s f ring spilled) (shaped : IsShaped s) (real : IsMemory m) (sizes : HasSizes framed) (agree : Agree (live_of b f others) stale m framed)
+    (nowindow : is_window (planned code s).kind ≡ false) (none : breach_of b fresh code (live_of b f others) stale (record_now code m s) f ≡ None) where
+  abbrev g : FrameState
+  g = laid (inputs 0 s) f
+
+  same_g : laid (inputs_of (record_now code m s)) f ≡ g
+  same_g = same_laid code s (reply_now code m s) f shaped.control.ps.owb_fits
+
+  none_g : laid_breach b fresh code (live_of b f others) stale (record_now code m s) g ≡ None
+  none_g = subst (λ x. laid_breach b fresh code (live_of b f others) stale (record_now code m s) x ≡ None) same_g none
+
+  same_step : step_on code (record_now code m s) f ≡ laid_step code (reply_now code m s) g
+  same_step = ap (λ x. laid_step code (record_now code m s).reply x) same_g ∙ ap (λ x. laid_step code x g) (record_reply code m s)
+
+  calls : g.control.ps.callinc < 4
+  calls = rw (← ap (λ q. q.callinc) l.plain.even.ps) l.plain.calls
+
+  kept : KeepsAreas (live_of b f others) stale (demand code s)
+  kept = let k = areas_kept code b fresh (live_of b f others) stale s g ring spilled (reply_now code m s) l.plain none_g in keeps_from (live_of b f others) stale (demand code s) k.0 k.1
+
+  abbrev u : FrameTurn
+  u = laid_step code (reply_now code m s) g
+
+  stack_after : Stack b.range.lo b.range.hi u.after.seen u.after.frames
+  stack_after =
+      let k = keeps_stack code bytes b fresh (live_of b f others) stale (record_now code m s) g l.stack calls none_g in
+      subst (λ x. Stack b.range.lo b.range.hi (laid_step code x g).after.seen (laid_step code x g).after.frames) (record_reply code m s) k
+
+  saved_after : Saved (word (byte_at (memory_now code m s))) b.range.hi (sp_under (known f.seen 1) ring) spilled
+  saved_after = (related_spared (byte_at m) (byte_at (memory_now code m s)) b f (λ a live. live_kept (live_of b f others) stale m (demand code s) a kept (or_left (is_live b.range f a) (others a) live)) l).saved
+
+  same_fresh : (planned code s).kind ≡ u.kind → (turn code s (reply_now code m s)).1.control.ps ≡ u.after.control.ps → fresh_after fresh (planned code s).kind (fetched code s.control.pc) s.control.ps (turn code s (reply_now code m s)).1.control.ps ≡ fresh_after fresh u.kind (fetched code f.control.pc) (laid (inputs_of (record_now code m s)) f).control.ps u.after.control.ps
+  unfolding turn
+  same_fresh kind after =
+      let pc : s.control.pc ≡ f.control.pc = l.plain.even.pc in
+      let ps : s.control.ps ≡ (laid (inputs_of (record_now code m s)) f).control.ps = l.plain.even.ps ∙ ap (λ (x : FrameState). x.control.ps) (sym same_g) in
+      ap (λ x. fresh_after fresh (planned code s).kind (fetched code x) s.control.ps (turn code s (reply_now code m s)).1.control.ps) pc
+      ∙ (ap (λ x. fresh_after fresh (planned code s).kind (fetched code f.control.pc) x (turn code s (reply_now code m s)).1.control.ps) ps
+      ∙ (ap (λ x. fresh_after fresh (planned code s).kind (fetched code f.control.pc) (laid (inputs_of (record_now code m s)) f).control.ps x) after
+      ∙ ap (λ x. fresh_after fresh x (fetched code f.control.pc) (laid (inputs_of (record_now code m s)) f).control.ps u.after.control.ps) kind))
+
+  pub judge_keeps : After code b fresh s f m framed others stale
+  unfolding turn demand
+  judge_keeps =
+      let p = keeps_level code bytes b fresh (live_of b f others) stale s g ring spilled (reply_now code m s) l.plain shaped (shaped_now code m s bytes shaped real) (record_reply code m s) nowindow none_g in
+      let e = sym same_step in
+      let access : (demand code s) ≡ u.access = p.access in
+      record {
+        same = record {
+          place = l.plain.even.pc;
+          kind = p.kind ∙ ap (λ (x : FrameTurn). x.kind) e;
+          write = ap shown p.write ∙ ap (λ (x : FrameTurn). shown x.write) e;
+          access = access ∙ ap (λ (x : FrameTurn). x.access) e;
+          reply = record_reply code m s ∙ (replies_agree (live_of b f others) stale m framed (demand code s) agree kept ∙ (ap (reply_at framed) access ∙ ap (λ (x : FrameTurn). reply_at framed x.access) e));
+        };
+        somewhere = subst (λ (x : FrameTurn). Somewhere (byte_at (memory_now code m s)) b (lost_of (fresh_after fresh x.kind (fetched code f.control.pc) (laid (inputs_of (record_now code m s)) f).control.ps x.after.control.ps)) (state_now code m s) x.after) e
+            (subst (λ z. Somewhere (byte_at (memory_now code m s)) b (lost_of z) (state_now code m s) u.after) (same_fresh p.kind p.level.even.ps) (record {
+              ring = p.ring;
+              spilled = spilled;
+              related = record { plain = lay p.level; stack = stack_after; saved = rw p.same saved_after };
+            }));
+        agree = subst (λ (x : FrameTurn). Agree (live_of b x.after others) (stale_after (live_of b x.after others) (live_of b f others) stale (record_now code m s).access) (memory_now code m s) (memory_after_step framed x.access)) e
+            (subst (λ o. Agree (live_of b u.after others) (stale_after (live_of b u.after others) (live_of b f others) stale (demand code s)) (memory_now code m s) (memory_after_step framed o)) access
+            (memories_agree (live_of b f others) (live_of b u.after others) stale m framed (demand code s) real.sizes sizes (demand_served code s) agree kept));
+      }
+
+  -- and no live byte of either core is touched
+  pub judge_areas : KeepsAreas (live_of b f others) stale (demand code s)
+  judge_areas = kept

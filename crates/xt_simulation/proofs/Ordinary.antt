@@ -1,0 +1,134 @@
+-- Equal values give equal outcomes, and an effect applied to both machines keeps them level.
+use Rattle.std.proofs.Common.{◌≡◌, ℕ, ◌+◌, ◌/◌, ◌<◌, ◌≢◌, Bool, true, false, List, Option, Some, None, sym, ap, ◌∙◌, refl, arith, get_or}
+use Rattle.std.specs.Prelude.{unwrap_or}
+use Rattle.std.proofs.lemmas.Bool.{or_parts}
+use Rattle.std.proofs.lemmas.List.{get_or-set_other}
+use Rattle.xt_isa.specs.declared.Insn.{Insn}
+use Rattle.xt_special.specs.Numbers as number
+use Rattle.xt_special.specs.Control.{Control, special_of}
+use Rattle.xt_special.specs.Exceptions.{after_exception}
+use Rattle.xt_window.specs.Ring.{visible}
+use Rattle.xt_rows.specs.declared.outcome.Write.{Write}
+use Rattle.xt_rows.specs.declared.outcome.Outcome.{Outcome}
+use Rattle.xt_rows.specs.declared.outcome.Outcome.TheVariants.{Does, Raises, Asks, Stops, Windowed}
+use Rattle.xt_rows.specs.Operands.{reads, special_reads}
+use Rattle.xt_rows.specs.Outcomes.{outcome_at, value_of}
+use Rattle.xt_rows.specs.Settling.{Settled, settled, settled_exception, after_effect}
+use Rattle.xt_exec.specs.State.{State}
+use Rattle.xt_exec.specs.Turn.{in_window, kind_of, written, with_write}
+use Rattle.xt_frames.specs.Frames.{Frame, FrameState, known, moved, seen_after_write}
+use Rattle.xt_frames.specs.FrameStep.{FrameTurn, in_frame}
+use Rattle.xt_frames.specs.Breaches.{lost_of, lacks, reads_none, reads_lost, reads_epc1}
+use Rattle.xt_simulation.specs.Ring.{Windows}
+use Rattle.xt_simulation.specs.Stacks.{sp_under}
+use Rattle.xt_simulation.specs.Relation.{Even, Level}
+use Rattle.xt_simulation.proofs.Kept as kept
+use Rattle.xt_simulation.proofs.Windowed.{some_value, visible_value}
+use Rattle.xt_exec.specs.Finishing.{Turn, finished}
+use Rattle.xt_simulation.specs.JudgedSteps.{Steps}
+use Rattle.xt_simulation.proofs.Evenly.{same_at, even_effect, even_ticked, even_raise}
+
+-- ---- equal values
+module _ {vecbase : ℕ} {lost : ℕ → Bool} {s : State} {g : FrameState} {ring spilled : List Frame} (l : Level vecbase lost s g ring spilled) where
+  pub same_value : (o : Option ℕ) → lacks g.seen o ≡ false → value_of (visible s.regs s.base) o ≡ value_of (known g.seen) o
+  same_value None h = refl
+  same_value (Some k) h =
+      let v = some_value (get_or g.seen k None) h in
+      let a = visible_value l.windows k v.0 v.1 in
+      let b : known g.seen k ≡ v.0 = ap (λ o. unwrap_or o 0) v.1 in
+      a ∙ sym b
+
+module _ {vecbase : ℕ} (fresh : Bool) {s : State} {g : FrameState} {ring spilled : List Frame} (l : Level vecbase (lost_of fresh) s g ring spilled) where
+  same_special : (o : Option ℕ) → reads_lost fresh o ≡ false → value_of (special_of s.control) o ≡ value_of (special_of g.control) o
+  same_special None h = refl
+  same_special (Some k) h = l.even.special.at k h
+
+  pub same_outcome : (code : ℕ → ℕ) (i : Insn) → reads_none i g ≡ false → reads_epc1 fresh i ≡ false → outcome_at code i (visible s.regs s.base) s.control ≡ outcome_at code i (known g.seen) g.control
+  same_outcome code i unset none =
+      let u = or_parts (lacks g.seen (reads i).0) (lacks g.seen (reads i).1) unset in
+      let e = or_parts (reads_lost fresh (special_reads i).0) (reads_lost fresh (special_reads i).1) none in
+      let x = same_value l (reads i).0 u.0 in
+      let y = same_value l (reads i).1 u.1 in
+      let p = same_special (special_reads i).0 e.0 in
+      let q = same_special (special_reads i).1 e.1 in
+      let a = l.even.pc in
+      let b = l.even.ps in
+      let c = l.even.threadptr in
+      cc
+
+-- ---- what a turn leaves beside the registers
+pub record Alike (lost : ℕ → Bool) (t u : Settled) : Type 0 where
+  pub kind : t.kind ≡ u.kind
+  pub write : t.write ≡ u.write
+  pub access : t.access ≡ u.access
+  pub awaited : t.awaited ≡ u.awaited
+  pub even : Even lost t.control u.control
+
+pub raise_alike : {lost : ℕ → Bool} (cause : ℕ) (addr : Option ℕ) (c d : Control) → Even lost c d → Alike lost (settled_exception cause addr c) (settled_exception cause addr d)
+raise_alike cause addr c d e = record { kind = refl; write = refl; access = refl; awaited = refl; even = even_ticked (after_exception cause addr c) (after_exception cause addr d) (even_raise cause addr c d e) }
+
+pub settled_alike : {lost : ℕ → Bool} (o : Outcome) (len : ℕ) (c d : Control) → Even lost c d → Alike lost (settled o len c) (settled o len d)
+settled_alike (Does e) len c d h = record { kind = refl; write = refl; access = refl; awaited = refl; even = even_ticked (after_effect e len c) (after_effect e len d) (even_effect e len c d h) }
+settled_alike (Raises cause addr) len c d h = raise_alike cause addr c d h
+settled_alike (Asks access awaited e) len c d h = record { kind = refl; write = refl; access = refl; awaited = refl; even = even_ticked (after_effect e len c) (after_effect e len d) (even_effect e len c d h) }
+settled_alike Stops len c d h = record { kind = refl; write = refl; access = refl; awaited = refl; even = even_ticked c d h }
+settled_alike (Windowed step) len c d h = record { kind = refl; write = refl; access = refl; awaited = refl; even = even_ticked c d h }
+
+-- ---- a write in both machines
+abbrev pub HasRoom : List Frame → Option Write → Type 0
+HasRoom ring None = Unit {0}
+HasRoom ring (Some w) = (w.number < 16) × (moved ring + w.number / 4 < 16)
+
+write_keeps : (o : Option Write) (s : State) → ((with_write o s).base ≡ s.base) × ((with_write o s).start ≡ s.start) × ((with_write o s).control ≡ s.control)
+write_keeps None s = (refl, refl, refl)
+write_keeps (Some w) s = (refl, refl, refl)
+
+pub write_control : (o : Option Write) (s : State) → (with_write o s).control ≡ s.control
+write_control o s = (write_keeps o s).2
+
+pub written_windows : {seen : List (Option ℕ)} {ring : List Frame} {low : ℕ} (s : State) (o : Option Write) → Windows s.regs s.base s.start seen ring low → HasRoom ring o → Windows (with_write o s).regs (with_write o s).base (with_write o s).start (seen_after_write o seen) ring low
+written_windows s None w h = w
+written_windows s (Some x) w h = kept.written w x.number x.value h.0 h.1
+
+abbrev pub KeepsSp : Option Write → Type 0
+KeepsSp None = Unit {0}
+KeepsSp (Some w) = w.number ≡ 1 → ⊥
+
+sp_written : (seen : List (Option ℕ)) (o : Option Write) → KeepsSp o → known (seen_after_write o seen) 1 ≡ known seen 1
+sp_written seen None h = refl
+sp_written seen (Some w) h =
+    let apart : 1 ≢ w.number = λ e. h (sym e) in
+    ap (λ o. unwrap_or o 0) (get_or-set_other seen w.number 1 (Some w.value) None apart)
+
+-- what is known of the states after both steps
+pub record Ends (vecbase : ℕ) (t : Turn) (u : FrameTurn) : Type 0 where
+  pub calls : t.after.control.ps.callinc < 4
+  pub woe : u.after.control.ps.woe ≡ true
+  pub vectors : special_of u.after.control number.vecbase ≡ vecbase
+
+pub even_level : {vecbase : ℕ} {lost : ℕ → Bool} {c d : Control} → Even lost c d → special_of d number.vecbase ≡ vecbase → special_of c number.vecbase ≡ vecbase
+even_level e v = same_at e.special 231 (λ e. omega arith) ∙ v
+
+pub in_both : {vecbase : ℕ} {old lost : ℕ → Bool} {s : State} {g : FrameState} {ring spilled : List Frame} → Level vecbase old s g ring spilled → (t u : Settled) (reply : ℕ) → Alike lost t u
+    → HasRoom ring (written t.write t.awaited reply) → KeepsSp (written t.write t.awaited reply) → Ends vecbase (finished (in_window t s) reply) (in_frame u reply g)
+    → Steps vecbase lost spilled (sp_under (known g.seen 1) ring) (finished (in_window t s) reply) (in_frame u reply g)
+in_both {lost = lost} {s = s} {g = g} {ring = ring} {spilled = spilled} l t u reply a room keeps ends =
+    let same : written t.write t.awaited reply ≡ written u.write u.awaited reply = (let w = a.write in let x = a.awaited in rw (w, x) refl) in
+    let control : (with_write (written t.write t.awaited reply) (record s { control = t.control })).control ≡ t.control = write_control (written t.write t.awaited reply) (record s { control = t.control }) in
+    let even : Even lost (with_write (written t.write t.awaited reply) (record s { control = t.control })).control u.control = rw control a.even in
+    record {
+      kind = ap kind_of a.kind;
+      write = same;
+      access = a.access;
+      ring = ring;
+      level = record {
+        windows = rw (← same) (written_windows (record s { control = t.control }) (written t.write t.awaited reply) l.windows room);
+        frames = l.frames;
+        older = l.older;
+        even = even;
+        woe = ap (λ p. p.woe) even.ps ∙ ends.woe;
+        calls = ends.calls;
+        vectors = even_level even ends.vectors;
+      };
+      same = ap (λ x. sp_under x ring) (ap (λ o. known (seen_after_write o g.seen) 1) (sym same) ∙ sp_written g.seen (written t.write t.awaited reply) keeps);
+    }

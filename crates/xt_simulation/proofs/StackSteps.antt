@@ -1,0 +1,148 @@
+-- A judged step keeps the chain of stack pointers.
+use Rattle.std.proofs.Common.{◌≡◌, ℕ, ◌/◌, ◌%◌, ◌^◌, ◌<◌, ◌≢◌, ℤ, pos, negsuc, Bool, true, false, not, eqb, ltb, List, [], ◌∷◌, Option, Some, None, sym, ◌∙◌, refl, arith, ⊎_elim, cond, subst}
+use Rattle.std.proofs.Math.ListN.{set}
+use Rattle.std.proofs.lemmas.Bool.{eqb-false, cases_Bool, not-false, or_parts, and_parts, ltb-true}
+use Rattle.std.proofs.lemmas.List.{get_or-set_other, length-set}
+use Rattle.xt_isa.specs.declared.Insn.{Insn}
+use Rattle.xt_isa.specs.declared.Insn.TheVariants as insn
+use Rattle.xt_isa.specs.declared.control.Control.TheVariants as control
+use Rattle.xt_isa.specs.Ranges.{in_range, one_register, multiple_within}
+use Rattle.xt_special.specs.Control.{Control}
+use Rattle.xt_special.specs.Interrupts.{pending_of}
+use Rattle.xt_trace.specs.declared.record.StepRecord.{StepRecord}
+use Rattle.xt_rows.specs.declared.outcome.Write.{Write}
+use Rattle.xt_rows.specs.declared.outcome.Outcome.{Outcome}
+use Rattle.xt_rows.specs.declared.outcome.Outcome.TheVariants.{Does, Raises, Asks, Stops, Windowed}
+use Rattle.xt_rows.specs.declared.outcome.WindowStep.TheVariants.{Enters, Returns, EndsOverflow, EndsUnderflow, Rotates, MovesStack, Reads, Sets, Exchanges}
+use Rattle.xt_rows.specs.Fetching.{Fetched, Fetches, Fails, SpellsNothing, fetched}
+use Rattle.xt_rows.specs.Effects.{illegal_instruction}
+use Rattle.xt_rows.specs.Numbers.{minus, natural}
+use Rattle.xt_rows.specs.Operands.{reads}
+use Rattle.xt_rows.specs.Outcomes.{outcome, control_outcome, outcome_at}
+use Rattle.xt_exec.specs.Turn.{written}
+use Rattle.xt_frames.specs.Frames.{Frame, FrameState, known, seen_after_write}
+use Rattle.xt_frames.specs.FrameStep.{FrameTurn, raised, pushed, popped, popped_from, done_in_frame, fetched_step, laid_step}
+use Rattle.xt_frames.specs.SaveAreas.{Range}
+use Rattle.xt_frames.specs.Breaches.{Bounds, first_shown, fetched_tests, other_frame_size, small_frame, leaves_range, outside, misaligns_sp, opens_nothing}
+use Rattle.xt_simulation.specs.Stacks.{Stack}
+use Rattle.xt_rows.specs.Kinds.{Fits}
+use Rattle.xt_rows.proofs.Fitting.{outcome_fits}
+use Rattle.xt_simulation.proofs.Stacked.{enters_stack, leaves_stack, known_is}
+use Rattle.xt_simulation.proofs.Windowed.{NoneShown, none_shown}
+use Rattle.xt_simulation.specs.JudgedSteps.{KeepsStack}
+use Rattle.xt_simulation.proofs.Ordinary.{KeepsSp}
+use Rattle.xt_simulation.proofs.Judged.{Sound, sound, keeps_sp, entry_number}
+use Rattle.xt_simulation.proofs.Whole.{step_taken, step_waits, step_fetches, breach_fetches}
+use Rattle.xt_rows.proofs.Fetches.{fetched_range}
+
+write_stack : {lo hi : ℕ} {seen : List (Option ℕ)} {frames : List Frame} → Stack lo hi seen frames → (o : Option Write) → KeepsSp o → Stack lo hi (seen_after_write o seen) frames
+write_stack k None other = k
+write_stack {seen = seen} k (Some w) other =
+    let apart : 1 ≢ w.number = λ e. other (sym e) in
+    let same = get_or-set_other seen w.number 1 (Some w.value) None apart in
+    let at = known_is (set seen w.number (Some w.value)) 1 (known seen 1) (same ∙ k.sp) in
+    record {
+      range = k.range;
+      wide = length-set seen w.number (Some w.value) ∙ k.wide;
+      shaped = k.shaped;
+      sp = rw at (same ∙ k.sp);
+      chain = rw at k.chain;
+    }
+
+entry_outcome : (code : ℕ → ℕ) (number : ℕ) (size : ℤ) (value : ℕ) (ar : ℕ → ℕ) (c : Control) → outcome_at code (insn.Control (control.Entry number size)) ar c ≡ Windowed (Enters number value) → minus (ar number) (natural size) ≡ value
+unfolding outcome control_outcome reads
+entry_outcome code number size value ar c e = cc
+
+turn_if : (P : FrameTurn → Type 0) (b : Bool) (x y : FrameTurn) → P x → P y → P (cond b x y)
+turn_if P true x y p q = p
+turn_if P false x y p q = q
+
+abbrev KeepsChain : Range → FrameTurn → Type 0
+KeepsChain r u = Stack r.lo r.hi u.after.seen u.after.frames
+
+entry_value : (code : ℕ → ℕ) (i : Insn) (number : ℕ) (size : ℤ) (value : ℕ) (ar : ℕ → ℕ) (c : Control) → i ≡ insn.Control (control.Entry number size) → outcome_at code i ar c ≡ Windowed (Enters number value) → minus (ar number) (natural size) ≡ value
+entry_value code i number size value ar c e q = entry_outcome code number size value ar c (rw e at q)
+
+-- ENTRY's tests
+entry_large : (r : Range) (number : ℕ) (size : ℤ) (g : FrameState) → other_frame_size r (insn.Control (control.Entry number size)) g ≡ false → small_frame r.hi (known g.seen 1) (natural size) g.control.ps.callinc g.frames ≡ false
+unfolding other_frame_size
+entry_large r number size g h = (or_parts (not (eqb number 1)) (small_frame r.hi (known g.seen 1) (natural size) g.control.ps.callinc g.frames) h).1
+
+entry_inside : (r : Range) (number : ℕ) (size : ℤ) (g : FrameState) → leaves_range r (insn.Control (control.Entry number size)) g ≡ false → outside r.lo r.hi (minus (known g.seen 1) (natural size)) ≡ false
+unfolding leaves_range
+entry_inside r number size g h = h
+
+entry_aligned : (number : ℕ) (size : ℤ) (g : FrameState) → misaligns_sp (insn.Control (control.Entry number size)) g ≡ false → eqb (minus (known g.seen 1) (natural size) % 16) 0 ≡ true
+unfolding misaligns_sp
+entry_aligned number size g h = not-false _ h
+
+entry_called : (number : ℕ) (size : ℤ) (g : FrameState) → opens_nothing (insn.Control (control.Entry number size)) g ≡ false → 0 < g.control.ps.callinc
+unfolding opens_nothing
+entry_called number size g h = let z : g.control.ps.callinc ≢ 0 = eqb-false _ _ h in omega arith
+
+natural_small : (size : ℤ) → multiple_within 8 4096 size ≡ true → natural size < 2 ^ 16
+unfolding multiple_within natural
+natural_small (pos n) h = let l = ltb-true (n / 8) 4096 (and_parts (eqb (n % 8) 0) (ltb (n / 8) 4096) h).1 in omega arith
+natural_small (negsuc n) h = omega arith
+
+entry_small : (number : ℕ) (size : ℤ) → in_range (insn.Control (control.Entry number size)) ≡ true → natural size < 2 ^ 16
+entry_small number size h = natural_small size (and_parts (one_register number) (multiple_within 8 4096 size) h).1
+
+module _ (b : Bounds) (fresh : Bool) (live stale : ℕ → Bool) (rec : StepRecord) (code : ℕ → ℕ) (g : FrameState) (k : Stack b.range.lo b.range.hi g.seen g.frames) (calls : g.control.ps.callinc < 4) where
+  pops : (frames : List Frame) → g.frames ≡ frames → (a0 : ℕ) → KeepsChain b.range (popped_from frames a0 g)
+  pops [] e a0 = k
+  pops (f ∷ rest) e a0 = leaves_stack b.range.lo b.range.hi g.seen f rest (rw e at k)
+
+  pushes_entry : (number : ℕ) (size : ℤ) (value len : ℕ) {u : FrameTurn} → in_range (insn.Control (control.Entry number size)) ≡ true → Sound b fresh live stale (insn.Control (control.Entry number size)) rec g u → minus (known g.seen number) (natural size) ≡ value → KeepsChain b.range (pushed number value len g)
+  unfolding pushed
+  pushes_entry number size value len ok o v =
+      let one = entry_number number size b.range g o.size in
+      let q = enters_stack b.range.lo b.range.hi g.seen g.frames g.control.ps.callinc (natural size) k (entry_called number size g o.opens) (omega arith) (entry_small number size ok) (entry_large b.range number size g o.size) (entry_inside b.range number size g o.low) (entry_aligned number size g o.align) in
+      let w : minus (known g.seen 1) (natural size) ≡ value = rw one at v in
+      rw (one, ← w) q
+
+  pushes : (i : Insn) (number : ℕ) (size : ℤ) (value len : ℕ) {u : FrameTurn} → in_range i ≡ true → Sound b fresh live stale i rec g u → i ≡ insn.Control (control.Entry number size) → minus (known g.seen number) (natural size) ≡ value → KeepsChain b.range (pushed number value len g)
+  pushes i number size value len ok o e v = pushes_entry number size value len (rw e at ok) (rw e at o) v
+
+  done_keeps : (i : Insn) (len reply : ℕ) (x : Outcome) → outcome_at code i (known g.seen) g.control ≡ x → Fits i x → in_range i ≡ true → Sound b fresh live stale i rec g (done_in_frame x len reply g) → KeepsChain b.range (done_in_frame x len reply g)
+  unfolding popped
+  done_keeps i len reply (Does e) q f ok o = write_stack k e.write (keeps_sp i rec.write e.write f.2 o.movsp o.written)
+  done_keeps i len reply (Raises cause addr) q f ok o = k
+  done_keeps i len reply (Asks access awaited e) q f ok o = write_stack k (written None awaited reply) (keeps_sp i rec.write (written None awaited reply) f.2 o.movsp o.written)
+  done_keeps i len reply Stops q f ok o = k
+  done_keeps i len reply (Windowed (Enters number value)) q f ok o =
+      let P : FrameTurn → Type 0 = KeepsChain b.range in
+      turn_if P g.control.ps.excm (raised illegal_instruction None g) (pushed number value len g) k (pushes i number f.0 value len ok o f.1 (entry_value code i number f.0 value (known g.seen) g.control f.1 q))
+  done_keeps i len reply (Windowed (Returns a0)) q f ok o =
+      let P : FrameTurn → Type 0 = KeepsChain b.range in
+      turn_if P g.control.ps.excm (raised illegal_instruction None g) (popped_from g.frames a0 g) k (pops g.frames refl a0)
+  done_keeps i len reply (Windowed (EndsOverflow epc1)) q f ok o = k
+  done_keeps i len reply (Windowed (EndsUnderflow epc1)) q f ok o = k
+  done_keeps i len reply (Windowed (Rotates n)) q f ok o = k
+  done_keeps i len reply (Windowed (MovesStack number value)) q f ok o = k
+  done_keeps i len reply (Windowed (Reads register number)) q f ok o = k
+  done_keeps i len reply (Windowed (Sets register value)) q f ok o = k
+  done_keeps i len reply (Windowed (Exchanges register number value)) q f ok o = k
+
+  fetched_keeps : (at : Fetched) (reply : ℕ) → ((i : Insn) (len : ℕ) → at ≡ Fetches i len → in_range i ≡ true) → NoneShown (fetched_tests b fresh live stale at rec g (fetched_step at code reply g)) → KeepsChain b.range (fetched_step at code reply g)
+  fetched_keeps (Fails addr) reply ok none = k
+  fetched_keeps SpellsNothing reply ok none = k
+  fetched_keeps (Fetches i len) reply ok none =
+      let s = ok i len refl in
+      let o = sound b fresh live stale i rec g (fetched_step (Fetches i len) code reply g) none in
+      done_keeps i len reply (outcome_at code i (known g.seen) g.control) refl (outcome_fits code i g.control.pc _ _ _ _ g.control.ps g.control.threadptr) s o
+
+pub keeps_stack : KeepsStack
+keeps_stack code bytes b fresh live stale rec g k calls none =
+    let reply = rec.reply in
+    ⊎_elim
+    (λ level. subst (KeepsChain b.range) (sym (step_taken code reply g level)) k)
+    (λ quiet. ⊎_elim
+    (λ w. subst (KeepsChain b.range) (sym (step_waits code reply g quiet w)) k)
+    (λ w.
+    let u = step_fetches code reply g quiet w in
+    let h0 : first_shown (fetched_tests b fresh live stale (fetched code g.control.pc) rec g (laid_step code reply g)) ≡ None = sym (breach_fetches b fresh code live stale rec g quiet w) ∙ none in
+    let h1 = subst (λ v. first_shown (fetched_tests b fresh live stale (fetched code g.control.pc) rec g v) ≡ None) u h0 in
+    subst (KeepsChain b.range) (sym u) (fetched_keeps b fresh live stale rec code g k calls (fetched code g.control.pc) reply (λ i len e. fetched_range code g.control.pc i len bytes e) (none_shown (fetched_tests b fresh live stale (fetched code g.control.pc) rec g (fetched_step (fetched code g.control.pc) code reply g)) h1)))
+    (cases_Bool g.control.waits))
+    (cases_Bool (ltb 0 (pending_of g.control)))

@@ -1,0 +1,5 @@
+use Rattle.xt_simulation.proofs.Headline.{runs_are_frames}
+use Rattle.xt_simulation.proofs.laws.runs_are_frames.Goals as goal
+
+pub returns : goal.returns
+returns c = runs_are_frames

@@ -1,0 +1,170 @@
+-- Windows are frames: the judged part of a run of the processor with windows is a run of the
+-- machine with unbounded call frames.
+use Rattle.std.specs.Prelude.{◌≡◌, ℕ, zero, suc, Bool, true, false, Some, List, [], ◌∷◌, take}
+use Rattle.xt_map.specs.declared.segment.Segment.{Segment}
+use Rattle.xt_map.specs.Memory.{constant_byte}
+use Rattle.xt_map.specs.History.{replies_of}
+use Rattle.xt_trace.specs.declared.options.Options.{Options}
+use Rattle.xt_trace.specs.declared.record.StepRecord.{StepRecord}
+use Rattle.xt_rows.specs.Laws.{AreBytes}
+use Rattle.xt_runs.specs.Traces.{trace_over}
+use Rattle.xt_runs.specs.Runs.{Opening, Run, opened, IsRunOf, schedule_of}
+use Rattle.xt_runs.specs.Short.{ShortRun, IsShortRunOf, short_schedule}
+use Rattle.xt_runs.specs.Walks.{IsWalk, state_at}
+use Rattle.xt_runs.specs.Worlds as worlds
+use Rattle.xt_exec.specs.State.{State}
+use Rattle.xt_exec.specs.Chips.{processor}
+use Rattle.xt_frames.specs.Verdict.{Judgement, judgement, opening_known, IsFrameRun}
+use Rattle.xt_handlers.specs.Vectors.{Handlers}
+use Rattle.xt_simulation.specs.Walking.{World, walked, EndsWell, IsWorldRun, Apart}
+use Rattle.xt_simulation.specs.Opening.{Openings, IsOpening, bounds0, bounds1, state0, state1, frame0, frame1, memory_of, frame_of, opening_world, openings_of, IsRunnable}
+
+-- what stands before every statement: the six handlers pass the check, and the stacks are apart
+pub record IsCovered (o : Openings) (code : ℕ → ℕ) : Type 0 where
+  pub opening : IsOpening o
+  pub bytes : AreBytes code
+  pub handlers : Handlers code o.vecbase
+  pub apart : Apart o.range0 o.range1
+
+-- over any schedule of turns the judged records before the first breach are a run of both frame
+-- machines
+abbrev pub TurnsAreFrames : Type 0
+TurnsAreFrames =
+    (o : Openings) (code : ℕ → ℕ) → IsCovered o code
+    → (cores : List Bool) (w : World)
+    → walked code (bounds0 o) (bounds1 o) cores (Some (opening_world o)) ≡ Some w
+    → IsWorldRun code (memory_of o) (frame_of (state0 o)) (frame_of (state1 o)) w
+
+-- and at each place of it, where a core's next turn ends a stretch of handler steps, the stretch
+-- has moved one frame
+abbrev pub StretchesMoveFrames : Type 0
+StretchesMoveFrames =
+    (o : Openings) (code : ℕ → ℕ) → IsCovered o code
+    → (cores : List Bool) (w : World)
+    → walked code (bounds0 o) (bounds1 o) cores (Some (opening_world o)) ≡ Some w
+    → EndsWell code (bounds0 o) w.memory w.core0 × EndsWell code (bounds1 o) w.memory w.core1
+
+-- what a run of the processor opens with
+abbrev pub opening_of : Openings → ℕ → ℕ → Opening State
+opening_of o turns0 turns1 = record {
+  memory = memory_of o;
+  state0 = state0 o;
+  state1 = state1 o;
+  turns0 = turns0;
+  turns1 = turns1;
+}
+
+-- the walk of the judge over these records of both cores, in this order
+abbrev pub judged_in :
+    Openings → (ℕ → ℕ) → List ℕ → List StepRecord → List StepRecord → Judgement
+judged_in o code cores xs ys =
+    judgement code (bounds0 o) (bounds1 o) cores xs ys (opening_known (frame0 o) (frame1 o))
+
+abbrev pub AreFrames : Openings → (ℕ → ℕ) → Judgement → Type 0
+AreFrames o code j = IsFrameRun code (memory_of o) (frame0 o) (frame1 o) j.known
+
+-- a walk over the records of the processor's turns judges a frame run
+abbrev pub WalksAreFrames : Type 0
+WalksAreFrames =
+    (o : Openings) (code : ℕ → ℕ) (turns0 turns1 : ℕ) → IsCovered o code
+    → (cores : List ℕ) (xs ys : List StepRecord)
+    → IsWalk (processor code) cores (opened (opening_of o turns0 turns1)) xs ys
+    → AreFrames o code (judged_in o code cores xs ys)
+
+-- and so of every run: its history is legal and its traces are the processor's over the replies
+abbrev pub RunsAreFrames : Type 0
+RunsAreFrames =
+    (o : Openings) (code : ℕ → ℕ) (turns0 turns1 : ℕ) (r : Run State) → IsCovered o code
+    → IsRunOf (processor code) (opening_of o turns0 turns1) r
+    → AreFrames o code (judged_in o code (schedule_of r) r.trace0.records r.trace1.records)
+
+-- ---- positions of a run
+
+-- the turns of a schedule: of core 0 where the number is 0
+abbrev pub turns_of : List ℕ → List Bool
+turns_of [] = []
+turns_of (zero ∷ cores) = true ∷ turns_of cores
+turns_of (suc core ∷ cores) = false ∷ turns_of cores
+
+-- the walk stands where the run does
+pub record StandsAt (w : World) (v : worlds.World State) : Type 0 where
+  pub state0 : w.core0.state ≡ v.core0.state
+  pub state1 : w.core1.state ≡ v.core1.state
+  pub memory : w.memory ≡ v.line.memory
+
+abbrev pub HaveMovedFrames : Openings → (ℕ → ℕ) → ℕ → ℕ → List ℕ → Type 0
+HaveMovedFrames o code turns0 turns1 cores =
+    (p : ℕ) (w : World)
+    → walked code (bounds0 o) (bounds1 o) (turns_of (take p cores)) (Some (opening_world o)) ≡ Some w
+    → StandsAt w (state_at (processor code) (opening_of o turns0 turns1) cores p)
+    × EndsWell code (bounds0 o) w.memory w.core0
+    × EndsWell code (bounds1 o) w.memory w.core1
+
+-- Whole stretches of a run: at each position p before the first breach the walk stands where the run
+-- does, and where a core's next turn ends a stretch of handler steps, the stretch has moved one frame.
+abbrev pub StretchesOfRuns : Type 0
+StretchesOfRuns =
+    (o : Openings) (code : ℕ → ℕ) (turns0 turns1 : ℕ) (r : Run State) → IsCovered o code
+    → IsRunOf (processor code) (opening_of o turns0 turns1) r
+    → HaveMovedFrames o code turns0 turns1 (schedule_of r)
+
+-- ---- a run of an image, of which the history and the places of the accesses are kept
+
+-- the records of its traces, which are the processor's over the replies of its history
+abbrev pub records0 : Openings → (ℕ → ℕ) → ℕ → ShortRun State → List StepRecord
+records0 o code turns r =
+    (trace_over (processor code) (state0 o) turns (replies_of 0 r.history)).records
+
+abbrev pub records1 : Openings → (ℕ → ℕ) → ℕ → ShortRun State → List StepRecord
+records1 o code turns r =
+    (trace_over (processor code) (state1 o) turns (replies_of 1 r.history)).records
+
+-- what is judged of it, in the order of its own schedule
+abbrev pub judgement_of : List Segment → ℕ → Options → ShortRun State → Judgement
+judgement_of segments entry o r =
+    let at = openings_of segments entry o in
+    let code = constant_byte segments in
+    judged_in
+    at
+    code
+    (short_schedule r)
+    (records0 at code o.turns0 r)
+    (records1 at code o.turns1 r)
+
+-- it is a run of the processor from the image's opening
+abbrev pub IsRunOfImage : List Segment → ℕ → Options → ShortRun State → Type 0
+IsRunOfImage segments entry o r =
+    IsShortRunOf
+    (processor (constant_byte segments))
+    (opening_of (openings_of segments entry o) o.turns0 o.turns1)
+    r
+
+-- The headline: where the six window handlers pass their check and the two stacks are apart, the
+-- judged records of a run before the first breach are a run of the machine with unbounded call
+-- frames, over one legal history.
+abbrev pub WindowsAreFrames : Type 0
+WindowsAreFrames =
+    (segments : List Segment) (entry : ℕ) (o : Options) (r : ShortRun State)
+    → IsRunnable segments entry o
+    → Handlers (constant_byte segments) o.vecbase
+    → Apart (openings_of segments entry o).range0 (openings_of segments entry o).range1
+    → IsRunOfImage segments entry o r
+    → AreFrames
+    (openings_of segments entry o)
+    (constant_byte segments)
+    (judgement_of segments entry o r)
+
+-- and its whole stretches of handler steps have each moved one frame
+abbrev pub StretchesOfImages : Type 0
+StretchesOfImages =
+    (segments : List Segment) (entry : ℕ) (o : Options) (r : ShortRun State)
+    → IsRunnable segments entry o
+    → Handlers (constant_byte segments) o.vecbase
+    → Apart (openings_of segments entry o).range0 (openings_of segments entry o).range1
+    → IsRunOfImage segments entry o r
+    → HaveMovedFrames
+    (openings_of segments entry o)
+    (constant_byte segments)
+    o.turns0
+    o.turns1
+    (short_schedule r)

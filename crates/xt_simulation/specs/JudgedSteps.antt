@@ -1,0 +1,61 @@
+-- Carries a proof; nothing that a reader must believe.
+-- A judged step keeps the relation: what is said of it.
+use Rattle.std.specs.Prelude.{◌≡◌, ◌<◌, ℕ, Bool, false, None, List}
+use Rattle.xt_trace.specs.declared.record.StepRecord.{StepRecord}
+use Rattle.xt_rows.specs.Laws.{AreBytes}
+use Rattle.xt_exec.specs.State.{State}
+use Rattle.xt_exec.specs.Laws.{IsShaped}
+use Rattle.xt_exec.specs.Turn.{planned, turn}
+use Rattle.xt_frames.specs.Frames.{Frame, FrameState, known}
+use Rattle.xt_frames.specs.FrameStep.{FrameTurn, laid_step}
+use Rattle.xt_frames.specs.HandlerSteps.{is_window}
+use Rattle.xt_frames.specs.Breaches.{lost_of, Bounds, laid_breach, fresh_after}
+use Rattle.xt_rows.specs.Fetching.{fetched}
+use Rattle.xt_simulation.specs.Stacks.{Stack, sp_under}
+use Rattle.xt_simulation.specs.Relation.{Level}
+use Rattle.xt_exec.specs.Finishing.{Turn, finished}
+
+-- a turn and a frame step with one record, after which the machines are level and the same frames
+-- are spilled
+pub record Steps
+    (vecbase : ℕ) (lost : ℕ → Bool) (spilled : List Frame) (under : ℕ) (t : Turn)
+    (u : FrameTurn) : Type 0 where
+  pub kind : t.kind ≡ u.kind
+  pub write : t.write ≡ u.write
+  pub access : t.access ≡ u.access
+  pub ring : List Frame
+  pub level : Level vecbase lost t.after u.after ring spilled
+  pub same : sp_under (known u.after.seen 1) ring ≡ under
+
+abbrev pub turn_of : (ℕ → ℕ) → State → ℕ → Turn
+turn_of code s reply = finished (planned code s) reply
+
+abbrev pub fresh_turn : Bool → (ℕ → ℕ) → ℕ → State → Bool
+fresh_turn fresh code reply s =
+    fresh_after fresh (planned code s).kind (fetched code s.control.pc) s.control.ps
+    (turn_of code s reply).after.control.ps
+
+-- a step that shows no breach and is no window exception keeps the relation, and both machines
+-- record the same
+abbrev pub KeepsLevel : Type 0
+KeepsLevel =
+    (code : ℕ → ℕ) → AreBytes code
+    → (b : Bounds) (fresh : Bool) (live stale : ℕ → Bool) (s : State) (g : FrameState)
+    (ring spilled : List Frame) (reply : ℕ)
+    → Level b.vecbase (lost_of fresh) s g ring spilled
+    → IsShaped s → IsShaped (turn code s reply).1
+    → (turn code s reply).0.reply ≡ reply
+    → is_window (planned code s).kind ≡ false
+    → laid_breach b fresh code live stale (turn code s reply).0 g ≡ None
+    → Steps b.vecbase (lost_of (fresh_turn fresh code reply s)) spilled
+    (sp_under (known g.seen 1) ring) (turn_of code s reply) (laid_step code reply g)
+
+-- the chain of stack pointers is the frame machine's alone
+abbrev pub KeepsStack : Type 0
+KeepsStack =
+    (code : ℕ → ℕ) → AreBytes code
+    → (b : Bounds) (fresh : Bool) (live stale : ℕ → Bool) (rec : StepRecord) (g : FrameState)
+    → Stack b.range.lo b.range.hi g.seen g.frames → g.control.ps.callinc < 4
+    → laid_breach b fresh code live stale rec g ≡ None
+    → Stack b.range.lo b.range.hi (laid_step code rec.reply g).after.seen
+    (laid_step code rec.reply g).after.frames

@@ -1,0 +1,15 @@
+pub mod Closing
+pub mod Cores
+pub mod Relation
+pub mod Ring
+pub mod Stacks
+pub mod Stretches
+pub mod JudgedSteps
+pub mod InHandlers
+pub mod HandlerLaws
+pub mod Memories
+pub mod Steps
+pub mod Headline
+pub mod Judges
+pub mod Opening
+pub mod Walking

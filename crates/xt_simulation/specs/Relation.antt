@@ -1,0 +1,93 @@
+-- Carries a proof; nothing that a reader must believe.
+-- The relation between the processor with windows and the machine with frames, outside handler
+-- steps.
+use Rattle.std.specs.Prelude.{◌≡◌, ◌⊎◌, ℕ, ◌+◌, ◌-◌, ◌*◌, ◌%◌, ◌<◌, ◌≤◌, Bool, true, false, None, List, [], ◌∷◌, ◌++◌, slice_index, length}
+use Rattle.xt_special.specs.Numbers as number
+use Rattle.xt_special.specs.Control.{Control, special_of}
+use Rattle.xt_exec.specs.State.{State}
+use Rattle.xt_exec.specs.Laws.{IsShaped}
+use Rattle.xt_exec.specs.Turn.{planned, window_exception}
+use Rattle.xt_frames.specs.Frames.{Frame, FrameState, moved}
+use Rattle.xt_frames.specs.FrameStep.{Inputs, laid}
+use Rattle.xt_frames.specs.HandlerSteps.{is_window}
+use Rattle.xt_frames.specs.Breaches.{window_breach}
+use Rattle.xt_simulation.specs.Ring.{AreFrames, Windows}
+
+-- Special registers that are equal, but for those that are lost. EPC1 alone can be: a window
+-- exception writes it, which the frame machine does not see.
+pub record Same (lost : ℕ → Bool) (xs ys : List ℕ) : Type 0 where
+  pub size : length xs ≡ length ys
+  pub only : (k : ℕ) → lost k ≡ true → k ≡ number.epc 1
+  pub at : (k : ℕ) → lost k ≡ false → slice_index xs k ≡ slice_index ys k
+
+pub record Even (lost : ℕ → Bool) (c d : Control) : Type 0 where
+  pub pc : c.pc ≡ d.pc
+  pub ps : c.ps ≡ d.ps
+  pub threadptr : c.threadptr ≡ d.threadptr
+  pub waits : c.waits ≡ d.waits
+  pub special : Same lost c.special d.special
+
+-- the inputs that a turn's record gives the frame step
+abbrev pub inputs : ℕ → State → Inputs
+inputs reply s =
+    record {
+      ccount = special_of s.control number.ccount;
+      interrupt = special_of s.control number.interrupt;
+      owb = s.control.ps.owb;
+      reply = reply;
+    }
+
+-- the processor and a frame state over which its inputs are laid
+pub record Level
+    (vecbase : ℕ) (lost : ℕ → Bool) (s : State) (g : FrameState)
+    (ring spilled : List Frame) : Type 0 where
+  pub windows : Windows s.regs s.base s.start g.seen ring (moved spilled)
+  pub frames : g.frames ≡ ring ++ spilled
+  pub older : AreFrames spilled
+  pub even : Even lost s.control g.control
+  pub woe : s.control.ps.woe ≡ true
+  pub calls : s.control.ps.callinc < 4
+  pub vectors : special_of s.control number.vecbase ≡ vecbase
+
+-- outside handler steps, where `ring` are the callers whose windows stand and `spilled` the older
+-- ones
+abbrev pub Plain : ℕ → (ℕ → Bool) → State → FrameState → List Frame → List Frame → Type 0
+Plain vecbase lost s f ring spilled = Level vecbase lost s (laid (inputs 0 s) f) ring spilled
+
+-- ---- window exceptions
+
+-- an overflow: the window of the ring's oldest caller g is to be stored, through the vector of its
+-- size
+pub record Overflows (code : ℕ → ℕ) (s : State) (ring spilled : List Frame) : Type 0 where
+  pub front : List Frame
+  pub g : Frame
+  pub last : ring ≡ front ++ g ∷ []
+  pub moves : 0 < g.by
+  pub within : g.by ≤ 3
+  pub running : s.control.waits ≡ false
+  pub low : s.control.ps.excm ≡ false
+  pub is : planned code s ≡ window_exception (2 * (g.by - 1)) (moved spilled % 16) s
+
+-- an underflow: no caller stands in the ring, and the window of the newest spilled one, g, is to be
+-- loaded, through the vector of its size
+pub record Underflows (code : ℕ → ℕ) (s : State) (ring spilled : List Frame) : Type 0 where
+  pub empty : ring ≡ []
+  pub g : Frame
+  pub rest : List Frame
+  pub older : spilled ≡ g ∷ rest
+  pub moves : 0 < g.by
+  pub within : g.by ≤ 3
+  pub running : s.control.waits ≡ false
+  pub low : s.control.ps.excm ≡ false
+  pub is : planned code s ≡ window_exception (2 * (g.by - 1) + 1) (moved rest % 16) s
+
+-- a turn that enters a window exception, where its record shows no breach
+abbrev pub EntersWindow : Type 0
+EntersWindow =
+    (vecbase : ℕ) (code : ℕ → ℕ) (lost : ℕ → Bool) (s : State) (f : FrameState)
+    (ring spilled : List Frame) (reply : ℕ)
+    → Plain vecbase lost s f ring spilled
+    → IsShaped s
+    → is_window (planned code s).kind ≡ true
+    → window_breach code (planned code s).kind (laid (inputs reply s) f) ≡ None
+    → Overflows code s ring spilled ⊎ Underflows code s ring spilled

@@ -1,0 +1,148 @@
+-- Both cores over a schedule, beside the judge's walk, up to the first breach.
+use Rattle.std.specs.Prelude.{◌≡◌, ◌≤◌, ℕ, Bool, true, false, ◌⊎◌, Option, Some, None, List, [], ◌∷◌, ◌++◌}
+use Rattle.xt_map.specs.declared.access.Entry.{Entry}
+use Rattle.xt_map.specs.declared.contents.MemoryContents.{MemoryContents}
+use Rattle.xt_map.specs.History.{IsLegal}
+use Rattle.xt_trace.specs.declared.record.StepRecord.{StepRecord}
+use Rattle.xt_exec.specs.State.{State}
+use Rattle.xt_frames.specs.Frames.{FrameState}
+use Rattle.xt_frames.specs.SaveAreas.{Range, is_live}
+use Rattle.xt_frames.specs.Breaches.{Bounds}
+use Rattle.xt_simulation.specs.Steps.{record_now, state_now, memory_now}
+use Rattle.xt_simulation.specs.InHandlers.{MovesFrame}
+use Rattle.xt_map.specs.Memory.{byte_at}
+use Rattle.xt_exec.specs.Turn.{planned}
+use Rattle.xt_frames.specs.HandlerSteps.{Mode, Plain, Handles, closes}
+use Rattle.xt_frames.specs.Judging.{Standing, Seen, Handled, Judges, Breaks, step_on, seen}
+use Rattle.xt_frames.specs.Verdict.{entry_of, IsFrameTrace}
+
+-- where a core's last window exception was entered: the state before its record, and the bytes at
+-- it
+pub record Entered : Type 0 where
+  pub before : State
+  pub opened : ℕ → ℕ
+
+-- one core: its state, what the judge knows of it, and its judged records
+pub record Core : Type 0 where
+  pub state : State
+  pub entered : Entered
+  pub standing : Standing
+  pub judged : List StepRecord
+
+pub record World : Type 0 where
+  pub core0 : Core
+  pub core1 : Core
+  pub memory : MemoryContents
+  pub stale : ℕ → Bool
+  -- the accesses of the judged records, in order
+  pub entries : List Entry
+
+-- after one turn of a core
+pub record Moved : Type 0 where
+  pub mine : Core
+  pub stale : ℕ → Bool
+  pub entries : List Entry
+
+-- a handler step outside handler steps is the record of a window exception
+abbrev pub entered_by : Mode → State → MemoryContents → Entered → Entered
+entered_by Plain s m e = record { before = s; opened = byte_at m }
+entered_by Handles s m e = e
+
+abbrev pub moved_by :
+    Seen → ℕ → Core → MemoryContents → State → StepRecord → (ℕ → Bool) → Option Moved
+moved_by (Handled standing) core mine m next rec stale = Some (record {
+  mine = record {
+    state = next;
+    entered = entered_by mine.standing.mode mine.state m mine.entered;
+    standing = standing;
+    judged = mine.judged;
+  };
+  stale = stale;
+  entries = [];
+})
+moved_by (Judges standing stale_then) core mine m next rec stale = Some (record {
+  mine = record {
+    state = next;
+    entered = mine.entered;
+    standing = standing;
+    judged = mine.judged ++ rec ∷ [];
+  };
+  stale = stale_then;
+  entries = entry_of core rec.access rec.reply;
+})
+moved_by (Breaks kind) core mine m next rec stale = None
+
+abbrev pub move :
+    (ℕ → ℕ) → Bounds → Bounds → ℕ → Core → Core → MemoryContents → (ℕ → Bool) → Option Moved
+move code b c core mine theirs m stale =
+    let rec = record_now code m mine.state in
+    moved_by
+    (seen code b mine.standing (is_live c.range theirs.standing.frame) stale rec)
+    core
+    mine
+    m
+    (state_now code m mine.state)
+    rec
+    stale
+
+abbrev pub moved0 : (ℕ → ℕ) → World → Option Moved → Option World
+moved0 code w None = None
+moved0 code w (Some x) =
+    Some (record {
+      core0 = x.mine;
+      core1 = w.core1;
+      memory = memory_now code w.memory w.core0.state;
+      stale = x.stale;
+      entries = w.entries ++ x.entries;
+    })
+
+abbrev pub moved1 : (ℕ → ℕ) → World → Option Moved → Option World
+moved1 code w None = None
+moved1 code w (Some x) =
+    Some (record {
+      core0 = w.core0;
+      core1 = x.mine;
+      memory = memory_now code w.memory w.core1.state;
+      stale = x.stale;
+      entries = w.entries ++ x.entries;
+    })
+
+-- one turn: of core 0 where the place says so, else of core 1; nothing comes of a breach
+abbrev pub given : (ℕ → ℕ) → Bounds → Bounds → Bool → World → Option World
+given code b0 b1 true w = moved0 code w (move code b0 b1 0 w.core0 w.core1 w.memory w.stale)
+given code b0 b1 false w = moved1 code w (move code b1 b0 1 w.core1 w.core0 w.memory w.stale)
+
+abbrev pub walked : (ℕ → ℕ) → Bounds → Bounds → List Bool → Option World → Option World
+walked code b0 b1 [] w = w
+walked code b0 b1 (c ∷ cs) None = None
+walked code b0 b1 (c ∷ cs) (Some w) = walked code b0 b1 cs (given code b0 b1 c w)
+
+-- ---- a frame run
+
+abbrev pub frame_after : (ℕ → ℕ) → FrameState → List StepRecord → FrameState
+frame_after code f [] = f
+frame_after code f (r ∷ rest) = frame_after code (step_on code r f).after rest
+
+-- the judged records so far are a run of both frame machines over one memory
+pub record IsWorldRun
+    (code : ℕ → ℕ) (opening : MemoryContents) (f0 f1 : FrameState) (w : World) : Type 0 where
+  pub first : IsFrameTrace code f0 w.core0.judged
+  pub second : IsFrameTrace code f1 w.core1.judged
+  pub legal : IsLegal opening w.entries
+
+abbrev pub Apart : Range → Range → Type 0
+Apart r q = (r.hi ≤ q.lo) ⊎ (q.hi ≤ r.lo)
+
+-- ---- whole stretches of handler steps
+
+-- where the core's next turn ends a stretch, the stretch has moved one frame
+abbrev pub EndsWell : (ℕ → ℕ) → Bounds → MemoryContents → Core → Type 0
+EndsWell code b m c =
+    c.standing.mode ≡ Handles → closes code (planned code c.state).kind c.state.control.pc ≡ true
+    → MovesFrame
+    b
+    c.standing.frame
+    c.entered.before
+    (state_now code m c.state)
+    c.entered.opened
+    (byte_at m)

@@ -1,0 +1,85 @@
+-- Carries a proof; nothing that a reader must believe.
+-- A machine that runs a handler's instructions.
+use Rattle.std.specs.Prelude.{◌≡◌, ℕ, ◌+◌, ◌-◌, ◌*◌, ◌/◌, ◌%◌, ◌==◌, ◌&&◌, nat_le, Bool, true, if◌then◌else◌, Option, Some, None, List, [], ◌∷◌, slice_index, slice_set}
+use Rattle.xt_stretch.specs.Handling.{Line}
+use Rattle.xt_stretch.specs.declared.Step.{Step}
+use Rattle.xt_stretch.specs.declared.Step.TheVariants.{L32e, S32e, Nop, Rfwo, Rfwu, Foreign}
+
+-- the 64 registers, the window's base, and memory as bytes by address
+pub record Machine : Type 0 where
+  pub ring : List ℕ
+  pub base : ℕ
+  pub bytes : ℕ → ℕ
+
+-- where visible register i stands
+abbrev pub place : ℕ → ℕ → ℕ
+place base i = (4 * base + i) % 64
+
+abbrev pub visible : Machine → ℕ → ℕ
+visible m i = slice_index m.ring (place m.base i)
+
+abbrev pub word_at : (ℕ → ℕ) → ℕ → ℕ
+word_at bytes a = bytes a + 256 * bytes (a + 1) + 65536 * bytes (a + 2) + 16777216 * bytes (a + 3)
+
+-- memory after a word was stored
+abbrev pub with_word : (ℕ → ℕ) → ℕ → ℕ → ℕ → ℕ
+with_word bytes a value b =
+    if b == a then value % 256
+    else (if b == a + 1 then value / 256 % 256
+    else (if b == a + 2 then value / 65536 % 256
+    else (if b == a + 3 then value / 16777216 % 256
+    else bytes b)))
+
+unfoldable pub address : ℕ → ℕ → ℕ
+address base back = (base + 4294967296 - back) % 4294967296
+
+-- whether a word there is aligned and in DRAM
+unfoldable pub is_access : ℕ → Bool
+is_access a = (a % 4 == 0) && (nat_le 0x3FFAE000 a && nat_le (a + 4) 0x40000000)
+
+-- one instruction, or none where it raises a cause
+abbrev pub stepped : Step → Machine → Option Machine
+stepped (L32e t s back) m = if is_access (address (visible m s) back)
+    then Some (record {
+      ring = slice_set m.ring (place m.base t) (word_at m.bytes (address (visible m s) back));
+      base = m.base;
+      bytes = m.bytes;
+    })
+    else None
+stepped (S32e t s back) m = if is_access (address (visible m s) back)
+    then Some (record {
+      ring = m.ring;
+      base = m.base;
+      bytes = with_word m.bytes (address (visible m s) back) (visible m t);
+    })
+    else None
+stepped Nop m = Some m
+stepped Rfwo m = None
+stepped Rfwu m = None
+stepped Foreign m = None
+
+-- the word that an instruction loads or stores, if any, is aligned and in DRAM
+abbrev pub MayAccess : Step → Machine → Type 0
+MayAccess (L32e t s back) m = is_access (address (visible m s) back) ≡ true
+MayAccess (S32e t s back) m = is_access (address (visible m s) back) ≡ true
+MayAccess Nop m = Unit {0}
+MayAccess Rfwo m = Unit {0}
+MayAccess Rfwu m = Unit {0}
+MayAccess Foreign m = Unit {0}
+
+abbrev pub then_ran : (Machine → Option Machine) → Option Machine → Option Machine
+then_ran f None = None
+then_ran f (Some m) = f m
+
+-- the machine at the ending, before it is executed
+abbrev pub ran_at : Step → (Machine → Option Machine) → Machine → Option Machine
+ran_at (L32e t s back) rest m = then_ran rest (stepped (L32e t s back) m)
+ran_at (S32e t s back) rest m = then_ran rest (stepped (S32e t s back) m)
+ran_at Nop rest m = rest m
+ran_at Rfwo rest m = Some m
+ran_at Rfwu rest m = Some m
+ran_at Foreign rest m = None
+
+abbrev pub ran : List Line → Machine → Option Machine
+ran [] m = None
+ran (l ∷ ls) m = ran_at l.step (ran ls) m

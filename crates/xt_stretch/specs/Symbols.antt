@@ -1,0 +1,70 @@
+-- What a handler's instructions do, on symbols.
+use Rattle.std.specs.Prelude.{ℕ, ◌==◌, ◌&&◌, Bool, false, List, [], ◌∷◌, slice_index_or, slice_set}
+use Rattle.xt_stretch.specs.declared.Step.{Step}
+use Rattle.xt_stretch.specs.declared.Step.TheVariants.{L32e, S32e, Nop, Rfwo, Rfwu, Foreign}
+
+-- the value of a register at the start, or of a word of memory at the start, by its base and how
+-- far below it
+pub data Symbol : Type 0 where
+  Init : ℕ → Symbol
+  Load : Symbol → ℕ → Symbol
+
+-- a word of memory: its address is base - back
+pub record Word : Type 0 where
+  pub base : Symbol
+  pub back : ℕ
+
+pub record Store : Type 0 where
+  pub word : Word
+  pub value : Symbol
+
+-- what the instructions so far have done; stores and loads newest first
+pub record Effect : Type 0 where
+  pub regs : List Symbol
+  pub stores : List Store
+  pub loads : List Word
+
+abbrev pub register : List Symbol → ℕ → Symbol
+register regs i = slice_index_or regs i (Init 16)
+
+abbrev pub applied : Effect → Step → Effect
+applied e (L32e t s back) = record {
+  regs = slice_set e.regs t (Load (register e.regs s) back);
+  stores = e.stores;
+  loads = record { base = register e.regs s; back = back } ∷ e.loads;
+}
+applied e (S32e t s back) = record {
+  regs = e.regs;
+  stores = record {
+    word = record { base = register e.regs s; back = back };
+    value = register e.regs t;
+  } ∷ e.stores;
+  loads = e.loads;
+}
+applied e Nop = e
+applied e Rfwo = e
+applied e Rfwu = e
+applied e Foreign = e
+
+-- before the first instruction
+abbrev pub opening : Effect
+opening = record {
+  regs = Init 0 ∷ Init 1 ∷ Init 2 ∷ Init 3 ∷ Init 4 ∷ Init 5 ∷ Init 6 ∷ Init 7 ∷ Init 8 ∷ Init 9 ∷
+      Init 10 ∷ Init 11 ∷ Init 12 ∷ Init 13 ∷ Init 14 ∷ Init 15 ∷ [];
+  stores = [];
+  loads = [];
+}
+
+-- ---- tests of equality
+abbrev pub same : Symbol → Symbol → Bool
+same (Init i) (Init j) = i == j
+same (Load a m) (Load b n) = same a b && (m == n)
+same (Init i) (Load b n) = false
+same (Load a m) (Init j) = false
+
+abbrev pub same_word : Word → Word → Bool
+same_word v w = same v.base w.base && (v.back == w.back)
+
+-- the value first: the value of a wanted store tells which it is
+abbrev pub same_store : Store → Store → Bool
+same_store s t = same s.value t.value && same_word s.word t.word
