@@ -13,6 +13,29 @@ use xt_map::Entry;
 use xt_trace::{Options, Run, StepKind, StepRecord, Stop, line};
 use xt_words::{Command, meaning};
 
+// The core of a digit.
+fn core_of(text: &str) -> Option<u8>
+    ensures { IfSome result (λ core. core < 2) }
+{
+    match text {
+        "0" => Some(0),
+        "1" => Some(1),
+        _ => None,
+    }
+}
+
+// Appends a core so many times.
+fn push_times(list: &mut Vec<u8>, core: u8, times: u32) -> Option<()>
+    requires cores { All (λ c. c < 2) list.old.items }
+    requires core { core < 2 }
+    ensures { All (λ c. c < 2) list.new.items }
+{
+    for _time in 0..times {
+        list.push(core).ok()?;
+    }
+    Some(())
+}
+
 // The list of cores that a text says: `0*3 1*1` stands for 0, 0, 0, 1.
 fn list_of(alloc: Global, text: &str) -> Option<Vec<u8>>
     ensures { IfSome result (λ list. All (λ core. core < 2) list.items) }
@@ -20,14 +43,7 @@ fn list_of(alloc: Global, text: &str) -> Option<Vec<u8>>
     let mut list = Vec::new(alloc);
     for item in text.split(' ') {
         let (core, times) = item.split_once('*')?;
-        let core = match core {
-            "0" => 0,
-            "1" => 1,
-            _ => return None,
-        };
-        for _time in 0..times.parse::<u32>().ok()? {
-            list.push(core).ok()?;
-        }
+        push_times(&mut list, core_of(core)?, times.parse::<u32>().ok()?)?;
     }
     Some(list)
 }

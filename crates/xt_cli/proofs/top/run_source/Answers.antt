@@ -18,8 +18,8 @@ returns-in-Err-Memory-write_run-clause-answers g c =
       end = c.in-Ok.ensures.end;
       within = c.in-Ok.ensures.within;
       is = of_input c.args.options.now c.in-Ok.input.items c.deref.result.now c.in-Ok-image_in.image run front
-        c.deref.ensures.value c.in-Ok-image_in.ensures.ok c.in-Ok-run_image.ensures
-        (front_of _ _ _ _ _ _ _ c.in-Err-Memory-write_run.is c.write_run.ensures);
+          c.deref.ensures.value c.in-Ok-image_in.ensures.ok c.in-Ok-run_image.ensures
+          (front_of _ _ _ _ _ _ _ c.in-Err-Memory-write_run.is c.write_run.ensures);
     })
 
 pub returns-clause-answers : goal.returns-clause-answers
@@ -30,21 +30,21 @@ returns-clause-answers g c =
     let whole = Appends (g.K.Sink.told c.args.sink.now) (g.K.Sink.told c.write_run.new.sink) in
     elim c.match-write_run.branch [
       | in-Ok-write_run w ↦ done c.args.options.now e run _ w.status-is (record {
-          input = c.in-Ok.input.items;
-          taken = c.in-Ok.ensures.whole;
-          end = c.in-Ok.ensures.end;
-          within = c.in-Ok.ensures.within;
-          is = of_input c.args.options.now c.in-Ok.input.items c.deref.result.now c.in-Ok-image_in.image run whole
+        input = c.in-Ok.input.items;
+        taken = c.in-Ok.ensures.whole;
+        end = c.in-Ok.ensures.end;
+        within = c.in-Ok.ensures.within;
+        is = of_input c.args.options.now c.in-Ok.input.items c.deref.result.now c.in-Ok-image_in.image run whole
             c.deref.ensures.value c.in-Ok-image_in.ensures.ok c.in-Ok-run_image.ensures
             (was_appended _ _ _ _ _ _ _ w.in-Ok-write_run.is c.write_run.ensures);
-        })
+      })
       | in-Err-Failed w ↦ failed c.args.options.now e run _ w.status-is (record {
-          input = c.in-Ok.input.items;
-          taken = c.in-Ok.ensures.whole;
-          end = c.in-Ok.ensures.end;
-          within = c.in-Ok.ensures.within;
-          is = of_input c.args.options.now c.in-Ok.input.items c.deref.result.now c.in-Ok-image_in.image run front
+        input = c.in-Ok.input.items;
+        taken = c.in-Ok.ensures.whole;
+        end = c.in-Ok.ensures.end;
+        within = c.in-Ok.ensures.within;
+        is = of_input c.args.options.now c.in-Ok.input.items c.deref.result.now c.in-Ok-image_in.image run front
             c.deref.ensures.value c.in-Ok-image_in.ensures.ok c.in-Ok-run_image.ensures
             (front_of _ _ _ _ _ _ _ w.in-Err-Failed.is c.write_run.ensures);
-        }) (search rules)
+      }) (search rules)
     ]
