@@ -3,3 +3,4 @@ pub mod Images
 pub mod Opened
 pub mod Orders
 pub mod Rests
+pub mod Framing

@@ -4,3 +4,4 @@ pub mod Machines
 pub mod Going
 pub mod Ordered
 pub mod Shorts
+pub mod Framed

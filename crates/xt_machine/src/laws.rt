@@ -1,10 +1,12 @@
-//! Laws of runs. Each is the contract of a function that does nothing.
+//! Laws. Each is the contract of a function that does nothing.
 ghost use Rattle.std.specs.Prelude.{◌≡◌, ℕ, List};
 ghost use Rattle.xt_trace.specs.declared.options.Options.{Options};
 ghost use Rattle.xt_trace.specs.declared.run.Run.{Run};
 ghost use Rattle.xt_trace.specs.Validity.{IsValid};
 ghost use Rattle.xt_image.specs.declared.image.Image.{Image};
+ghost use Rattle.xt_rows.specs.Laws.{IsWord};
 ghost use Rattle.xt_core.specs.Runs.{IsRunOf};
+ghost use Rattle.xt_machine.specs.Framed.{RunsAreFramed};
 ghost use Rattle.xt_machine.specs.Lists.{HasSchedule, run_of_list, schedule_in};
 
 /// The run of any list of cores is a run of the image.
@@ -21,4 +23,16 @@ pub fn run_is_that_of_its_schedule()
 /// A run of an image has a schedule.
 pub fn run_has_schedule()
     ensures { (image : Image) (r : Run) → IsRunOf image r → HasSchedule r }
+{}
+
+/// Windows are frames, of every run of an image: where the six window handlers pass their check and
+/// the two stacks are apart, the judged records before the first breach are a run of the machine with
+/// unbounded call frames, and each whole stretch of handler steps has moved one frame.
+pub fn runs_are_framed()
+    ensures { RunsAreFramed }
+{}
+
+/// A number of 32 bits is a word, by its type.
+pub fn is_word(number: u32)
+    ensures { IsWord number }
 {}

@@ -3,14 +3,16 @@ ghost use Rattle.std.specs.Prelude.{◌≡◌, ◌≤◌, None, IfOk};
 ghost use Rattle.xt_map.specs.Memory.{constant_byte};
 ghost use Rattle.xt_trace.specs.Validity.{IsValid};
 ghost use Rattle.xt_image.specs.declared.image.Image.{Image};
-ghost use Rattle.xt_image.specs.Parts.{IsWellFormed};
+ghost use Rattle.xt_image.specs.Parts.{FitsImage, IsWellFormed};
 ghost use Rattle.xt_core.specs.Runs.{IsRunOf};
 ghost use Rattle.xt_machine.specs.Driving.{HasDriven, MayDrive};
+ghost use Rattle.xt_machine.specs.Framed.{IsFramed};
 ghost use Rattle.xt_machine.specs.Lists.{run_of_list, schedule_in};
 ghost use Rattle.xt_machine.specs.Machines.{IsOpened};
 
 use crate::driving::drive;
 use crate::files::{File, opening_file};
+use crate::laws::is_word;
 use crate::machine::Machine;
 use crate::scheduled::opening_bus;
 use std::alloc::{AllocError, Global};
@@ -75,11 +77,14 @@ impl Machine {
         }
     }
 
-    /// Runs both cores, each on a thread of its own. It takes no memory, and may wait.
+    /// Runs both cores, each on a thread of its own. It takes no memory, and may wait. Where the six
+    /// window handlers pass their check and the stacks are apart, the run up to its first breach is one
+    /// of the machine with unbounded call frames.
     pub fn go<G: Gate, R: Threads + Wait + Sync>(self, rt: &R, gate: &G) -> Run
         ensures options { result.options ≡ self.options }
         ensures run { (image : Image) → IsOpened image self → IsRunOf image result }
         ensures own { (image : Image) → IsOpened image self → run_of_list image self.options (schedule_in result) ≡ result }
+        ensures framed { (image : Image) → FitsImage image → IsOpened image self → IsFramed image result }
     {
         let Machine {
             options,
@@ -90,6 +95,8 @@ impl Machine {
             core0,
             core1,
         } = self;
+        is_word(options.vecbase);
+        is_word(options.entry1);
         let bus = &shared;
         let bytes = &code;
         let ((core0, seat0), (core1, seat1)) = join(
@@ -113,7 +120,9 @@ impl Machine {
     }
 }
 
-/// The run of an image on two threads. The only error is too little memory. It may wait.
+/// The run of an image on two threads. The only error is too little memory. It may wait. Where the six
+/// window handlers pass their check and the stacks are apart, the run up to its first breach is one of
+/// the machine with unbounded call frames.
 ///
 /// Conditions: the image is well formed, and the options are valid.
 pub fn run<G: Gate, R: Threads + Wait + Sync>(
@@ -128,6 +137,7 @@ pub fn run<G: Gate, R: Threads + Wait + Sync>(
     ensures options { IfOk result (λ run. run.options ≡ options.now) }
     ensures run { IfOk result (λ run. IsRunOf image.now run) }
     ensures own { IfOk result (λ run. run_of_list image.now options.now (schedule_in run) ≡ run) }
+    ensures framed { IfOk result (λ run. IsFramed image.now run) }
 {
     let machine = Machine::make(rt, alloc, image, options)?;
     Ok(machine.go(rt, gate))

@@ -1,0 +1,50 @@
+-- A run of an image is framed.
+use Rattle.std.proofs.Common.{◌≡◌, ◌<◌, ℕ, zero, suc, List, [], ◌∷◌, arith, refl, sym, subst}
+use Rattle.std.specs.Prelude.{slice_index}
+use Rattle.std.specs.List.{AllByRecursion}
+use Rattle.std.proofs.lemmas.List.Elements.{recursion_from_All}
+use Rattle.xt_map.specs.declared.segment.Segment.{Segment}
+use Rattle.xt_trace.specs.declared.options.Options.{Options}
+use Rattle.xt_trace.specs.declared.run.Run.{Run}
+use Rattle.xt_image.specs.declared.image.Image.{Image}
+use Rattle.xt_image.specs.Parts.{FitsImage, FitsSegment}
+use Rattle.xt_rows.specs.Laws.{IsWord}
+use Rattle.xt_core.specs.Runs.{IsRunOf}
+use Rattle.xt_simulation.specs.Opening.{AreSmall, IsRunnable}
+use Rattle.xt_simulation.specs.Headline.{IsRunOfImage}
+use Rattle.xt_simulation.proofs.Images.{windows_are_frames, stretches_of_images}
+use Rattle.xt_machine.specs.Framed.{short_of, AreTyped, IsFramed, RunsAreFramed}
+
+bytes_small : (bytes : List ℕ) → AllByRecursion (λ b. b < 256) bytes → (k : ℕ) → slice_index bytes k < 256
+bytes_small [] all k = omega arith
+bytes_small (b ∷ bytes) all zero = all.0
+bytes_small (b ∷ bytes) all (suc k) = bytes_small bytes all.1 k
+
+segments_small : (segments : List Segment) → AllByRecursion FitsSegment segments → AreSmall segments
+segments_small [] all = tt
+segments_small (s ∷ rest) all = (bytes_small s.bytes (recursion_from_All (λ b. b < 256) s.bytes (all.0).bytes), segments_small rest all.1)
+
+given_by : (image : Image) (r : Run) → AreTyped image r → IsRunOf image r → IsRunnable image.segments image.entry r.options
+given_by image r t h = record {
+  valid = h.valid;
+  vecbase = t.vecbase;
+  entry0 = t.image_fits.entry;
+  entry1 = t.entry1;
+  bytes = segments_small image.segments (recursion_from_All FitsSegment image.segments t.image_fits.segments);
+}
+
+run_by : (image : Image) (r : Run) → IsRunOf image r → IsRunOfImage image.segments image.entry r.options (short_of image r)
+run_by image r h = record { legal = h.legal; cores = h.cores; trace0 = refl; trace1 = refl; calls0 = h.calls0; calls1 = h.calls1 }
+
+pub runs_are_framed : RunsAreFramed
+runs_are_framed image r t h handlers apart = (
+  windows_are_frames image.segments image.entry r.options (short_of image r) (given_by image r t h) handlers apart (run_by image r h),
+  stretches_of_images image.segments image.entry r.options (short_of image r) (given_by image r t h) handlers apart (run_by image r h),
+)
+
+-- a run with given options, whose addresses are words by their types
+pub run_framed : (image : Image) (o : Options) (r : Run) → FitsImage image → IsWord o.vecbase → IsWord o.entry1 → r.options ≡ o → IsRunOf image r → IsFramed image r
+run_framed image o r fits vecbase entry1 is h =
+    let V : Options → Type 0 = λ x. IsWord x.vecbase in
+    let E : Options → Type 0 = λ x. IsWord x.entry1 in
+    runs_are_framed image r (record { image_fits = fits; vecbase = subst V (sym is) vecbase; entry1 = subst E (sym is) entry1 }) h

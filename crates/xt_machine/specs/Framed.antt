@@ -1,0 +1,54 @@
+-- The headline in the words of an image and its run ('profile').
+use Rattle.xt_trace.specs.declared.run.Run.{Run}
+use Rattle.xt_image.specs.declared.image.Image.{Image}
+use Rattle.xt_image.specs.Parts.{FitsImage}
+use Rattle.xt_rows.specs.Laws.{IsWord}
+use Rattle.xt_runs.specs.Short.{ShortRun, short_trace, short_schedule}
+use Rattle.xt_exec.specs.State.{State}
+use Rattle.xt_core.specs.Runs.{code_of, records_of, IsRunOf}
+use Rattle.xt_frames.specs.Verdict.{Judgement}
+use Rattle.xt_handlers.specs.Vectors.{Handlers}
+use Rattle.xt_simulation.specs.Walking.{Apart}
+use Rattle.xt_simulation.specs.Opening.{Openings, openings_of}
+use Rattle.xt_simulation.specs.Headline as headline
+use Rattle.xt_simulation.specs.Headline.{AreFrames, HaveMovedFrames}
+
+-- a run with what is kept of its records
+abbrev pub short_of : Image → Run → ShortRun State
+short_of image r = record {
+  history = r.history;
+  trace0 = short_trace (records_of 0 image r);
+  trace1 = short_trace (records_of 1 image r);
+}
+
+-- how both machines open
+abbrev pub opening : Image → Run → Openings
+opening image r = openings_of image.segments image.entry r.options
+
+-- what is judged of a run, in the order of its own schedule
+abbrev pub judgement_of : Image → Run → Judgement
+judgement_of image r = headline.judgement_of image.segments image.entry r.options (short_of image r)
+
+-- Where the six window handlers pass their check and the two stacks are apart, the judged records
+-- before the first breach are a run of the machine with unbounded call frames, over one legal history;
+-- and at each position before it each whole stretch of handler steps has moved one frame.
+abbrev pub IsFramed : Image → Run → Type 0
+IsFramed image r =
+    Handlers (code_of image) r.options.vecbase
+    → Apart (opening image r).range0 (opening image r).range1
+    → AreFrames (opening image r) (code_of image) (judgement_of image r)
+    × HaveMovedFrames
+    (opening image r)
+    (code_of image)
+    r.options.turns0
+    r.options.turns1
+    (short_schedule (short_of image r))
+
+-- the numbers of an image and of the addresses of a run's options are in the ranges of their types
+pub record AreTyped (image : Image) (r : Run) : Type 0 where
+  pub image_fits : FitsImage image
+  pub vecbase : IsWord r.options.vecbase
+  pub entry1 : IsWord r.options.entry1
+
+abbrev pub RunsAreFramed : Type 0
+RunsAreFramed = (image : Image) (r : Run) → AreTyped image r → IsRunOf image r → IsFramed image r
