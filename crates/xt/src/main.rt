@@ -41,7 +41,7 @@ fn main(rt: HostRuntime) -> ExitCode {
     let mut source = StdSource::new(rt.reader());
     let mut sink = StdSink::new(io::writer(&rt));
     let status = match words_of(&rt) {
-        Ok(words) => xt_main(rt.alloc(), &words, &mut source, &mut sink, &OpenGate).status,
+        Ok(words) => xt_main(&rt, rt.alloc(), &words, &mut source, &mut sink, &OpenGate).status,
         Err(status) => status,
     };
     tell(&rt, &status);

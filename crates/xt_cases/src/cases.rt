@@ -67,3 +67,12 @@ pub fn has_lines(text: &str, lines: &str) -> bool {
     }
     next.is_none()
 }
+
+/// Whether the first lines of a text begin with these lines, each with the one in its place.
+pub fn has_starts(text: &str, starts: &str) -> bool {
+    let mut lines = text.lines();
+    starts.lines().all(|start| match lines.next() {
+        Some(line) => line.starts_with(start),
+        None => false,
+    })
+}

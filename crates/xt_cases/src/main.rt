@@ -13,6 +13,8 @@ use crate::cases::{lines_of, words_of};
 use std::alloc::Global;
 use std::process::ExitCode;
 use std::rt::{Env, Files};
+use std::sync::Wait;
+use std::thread::Threads;
 use std::{env, fs};
 
 // The text of a case's program: its part `program`, or the file that it names.
@@ -26,17 +28,25 @@ fn program_of<R: Files + AllocGlobal>(rt: &R, case: &str, handlers: &str) -> Opt
 }
 
 // Whether a case agrees; none where it could not be run.
-fn agrees<R: Files + AllocGlobal>(rt: &R, case: &str, handlers: &str) -> Option<bool> {
+fn agrees<R: Files + Threads + Wait + Sync + AllocGlobal>(
+    rt: &R,
+    case: &str,
+    handlers: &str,
+) -> Option<bool> {
     let program = program_of(rt, case, handlers)?;
     if words_of(case, "schedule").is_empty() {
-        programs::agrees(rt.alloc(), case, program.as_str(), handlers)
+        programs::agrees(rt, case, program.as_str(), handlers)
     } else {
         schedules::agrees(rt.alloc(), case, program.as_str())
     }
 }
 
 // Runs the cases of a file, and prints how many agree; none where that failed.
-fn show<R: Files + Print + AllocGlobal>(rt: &R, name: &str, handlers: &str) -> Option<()> {
+fn show<R: Files + Print + Threads + Wait + Sync + AllocGlobal>(
+    rt: &R,
+    name: &str,
+    handlers: &str,
+) -> Option<()> {
     let text = fs::read_to_string(rt, name).ok()?;
     let mut count = 0u64;
     let mut good = 0u64;

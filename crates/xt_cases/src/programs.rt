@@ -2,13 +2,18 @@
 
 ghost use Rattle.std.specs.Prelude.{IfSome};
 ghost use Rattle.xt_image.specs.Parts.{IsWellFormed};
+ghost use Rattle.xt_words.specs.Options.{AreValid};
 
-use crate::cases::{has_lines, has_part, lines_of, words_of};
+use crate::cases::{has_lines, has_part, has_starts, lines_of, words_of};
 use std::alloc::Global;
+use std::sync::Wait;
+use std::thread::Threads;
 use xt_asm::assemble;
-use xt_cli::{Status, xt_main};
-use xt_image::{Image, write};
+use xt_cli::{Status, write_run, xt_main};
+use xt_image::{Image, well_formed_by_rules, write};
 use xt_io::{OpenGate, SafeSink, SafeSource};
+use xt_machine::run_schedule;
+use xt_words::{Command, RunOptions, meaning};
 
 /// The most bytes that a text may have.
 const LIMIT: usize = 1_048_576;
@@ -34,33 +39,83 @@ pub fn words_with(alloc: Global, command: &str, options: &str) -> Option<Vec<Str
     Some(words)
 }
 
-// What the program writes for an image, where it is done.
-fn output_of(alloc: Global, words: &[String], image: &Image) -> Option<String>
-    requires { IsWellFormed image.now }
+/// The options that words say, where they are those of `run`.
+pub fn options_in(alloc: Global, words: &[String]) -> Option<RunOptions>
+    ensures { IfSome result AreValid }
 {
-    let bytes = write(alloc, image).ok()?;
-    let mut source = SafeSource::make(alloc, bytes.as_slice()).ok()?;
-    let mut sink = SafeSink::make(alloc).ok()?;
-    let outcome = xt_main(alloc, words, &mut source, &mut sink, &OpenGate);
-    if outcome.status != Status::Done {
-        return None;
+    match meaning(alloc, words) {
+        Ok(Command::Run(options)) => Some(options),
+        _ => None,
     }
+}
+
+// The text that a sink has.
+fn text_in(alloc: Global, sink: &SafeSink) -> Option<String> {
     let text = std::str::from_utf8(sink.bytes()).ok()?;
     String::from_str(alloc, text).ok()
 }
 
-/// Whether a program writes what its case says.
-pub fn agrees(alloc: Global, case: &str, program: &str, handlers: &str) -> Option<bool> {
+// What the program writes for an image, where it is done.
+fn output_of<R: Threads + Wait + Sync + AllocGlobal>(
+    rt: &R,
+    words: &[String],
+    image: &Image,
+) -> Option<String>
+    requires { IsWellFormed image.now }
+{
+    let alloc = rt.alloc();
+    let bytes = write(alloc, image).ok()?;
+    let mut source = SafeSource::make(alloc, bytes.as_slice()).ok()?;
+    let mut sink = SafeSink::make(alloc).ok()?;
+    let outcome = xt_main(rt, alloc, words, &mut source, &mut sink, &OpenGate);
+    if outcome.status != Status::Done {
+        return None;
+    }
+    text_in(alloc, &sink)
+}
+
+// What the program writes of the run of an image in which core 0 makes all of its turns, and then
+// core 1.
+fn output_in_order(alloc: Global, options: &RunOptions, image: &Image) -> Option<String>
+    requires valid { AreValid options.now }
+    requires image { IsWellFormed image.now }
+{
+    well_formed_by_rules();
+    let of_run = options.with_entry(image.entry);
+    let run = run_schedule(alloc, image, &of_run, &[]).ok()?;
+    let mut sink = SafeSink::make(alloc).ok()?;
+    write_run(alloc, options, image, &run, &mut sink).ok()?;
+    text_in(alloc, &sink)
+}
+
+/// Whether a program writes what its case says. Where both cores have turns, the run is that in which
+/// core 0 makes all of its turns first, unless the case is one of `threads`.
+pub fn agrees<R: Threads + Wait + Sync + AllocGlobal>(
+    rt: &R,
+    case: &str,
+    program: &str,
+    handlers: &str,
+) -> Option<bool> {
+    let alloc = rt.alloc();
     let image = image_of(alloc, program)?;
     let report = lines_of(alloc, case, "report", handlers).ok()?;
     let lines = lines_of(alloc, case, "lines", handlers).ok()?;
     let is_traced = has_part(case, "trace") || has_part(case, "lines");
     let command = if is_traced { "run --trace" } else { "run" };
     let words = words_with(alloc, command, words_of(case, "options"))?;
-    let output = output_of(alloc, &words, &image)?;
+    let options = options_in(alloc, &words)?;
+    let output = if options.turns1 == 0 || has_part(case, "threads") {
+        output_of(rt, &words, &image)?
+    } else {
+        output_in_order(alloc, &options, &image)?
+    };
     let Some(rest) = output.strip_prefix(report.as_str()) else {
         return Some(false);
     };
+    if has_part(case, "threads") {
+        let starts = lines_of(alloc, case, "threads", handlers).ok()?;
+        return Some(has_starts(rest, starts.as_str()));
+    }
     if !has_part(case, "trace") {
         return Some(has_lines(output.as_str(), lines.as_str()));
     }

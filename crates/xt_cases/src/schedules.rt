@@ -4,14 +4,13 @@ ghost use Rattle.xt_image.specs.Parts.{IsWellFormed};
 ghost use Rattle.xt_trace.specs.Validity.{IsValid};
 
 use crate::cases::{lines_of, push_line, words_of};
-use crate::programs::{image_of, words_with};
+use crate::programs::{image_of, options_in, words_with};
 use std::alloc::Global;
 use xt_cli::report;
 use xt_image::{Image, well_formed_by_rules};
 use xt_machine::{run_has_schedule, run_schedule, schedule_of};
 use xt_map::Entry;
 use xt_trace::{Options, Run, StepKind, StepRecord, Stop, line};
-use xt_words::{Command, meaning};
 
 // The core of a digit.
 fn core_of(text: &str) -> Option<u8>
@@ -72,10 +71,7 @@ fn options_of(alloc: Global, words: &str, image: &Image) -> Option<Options>
 {
     well_formed_by_rules();
     let words = words_with(alloc, "run", words)?;
-    match meaning(alloc, &words) {
-        Ok(Command::Run(options)) => Some(options.with_entry(image.entry)),
-        _ => None,
-    }
+    Some(options_in(alloc, &words)?.with_entry(image.entry))
 }
 
 fn stop_word(stop: Stop) -> &'static str {

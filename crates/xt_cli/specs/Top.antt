@@ -1,5 +1,5 @@
 -- What each status of the program says ('profile').
-use Rattle.std.specs.Prelude.{◌≡◌, ◌≤◌, ◌+◌, ◌⊎◌, ℕ, List, [], length, Option, Some, None, Result, Ok, Err}
+use Rattle.std.specs.Prelude.{◌≡◌, ◌≤◌, ◌+◌, ◌⊎◌, ℕ, List, length, Option, Some, None, Result, Ok, Err}
 use Rattle.std.specs.Io.KnownBytes.{Appends, Keeps}
 use Rattle.xt_io.specs.Causes.{Rose}
 use Rattle.xt_io.specs.Whole.{AppendsFront, Takes}
@@ -9,7 +9,8 @@ use Rattle.xt_image.specs.Format.{image_of}
 use Rattle.xt_trace.specs.declared.options.Options.{Options}
 use Rattle.xt_trace.specs.declared.run.Run.{Run}
 use Rattle.xt_core.specs.Runs.{IsRunOf, records_of}
-use Rattle.xt_machine.specs.Lists.{run_of_list}
+use Rattle.xt_machine.specs.Lists.{run_of_list, schedule_in}
+use Rattle.xt_machine.specs.Framed.{IsFramed}
 use Rattle.xt_words.specs.Options.{with_entry}
 use Rattle.xt_words.specs.declared.command.Command.{Command}
 use Rattle.xt_words.specs.declared.command.Command.TheVariants as command
@@ -34,15 +35,19 @@ image_limit = 8388608
 abbrev pub options_for : RunOptions → Image → Options
 options_for o image = with_entry o image.entry
 
--- the run of an image with the options of the words: that of the empty list of cores, in which core 0
--- makes all of its turns, and then core 1
-unfoldable pub run_of_image : RunOptions → Image → Run
-run_of_image o image = run_of_list image (options_for o image) []
+-- the run of the schedule that is read from this run's own history
+unfoldable pub run_of_its_schedule : RunOptions → Image → Run → Run
+run_of_its_schedule o image run = run_of_list image (options_for o image) (schedule_in run)
 
--- this is the image's run, and so a run of the image
+-- This is a run of the image with the options of the words. It is, in its history and in its traces'
+-- counts, places, stops and last program counters, the run of the schedule read from its own history.
 pub record IsRunOfImage (o : RunOptions) (image : Image) (run : Run) : Type 0 where
-  pub scheduled : run ≡ run_of_image o image
+  pub options : run.options ≡ options_for o image
   pub of_image : IsRunOf image run
+  pub own : run_of_its_schedule o image run ≡ run
+  -- where the six window handlers pass their check and the two stacks are apart, it is a run of the
+  -- machine with unbounded call frames, up to the first breach of the stack discipline
+  pub framed : IsFramed image run
 
 -- the input is an image, and this is its run
 pub record IsRunOfInput (o : RunOptions) (input : List ℕ) (run : Run) : Type 0 where

@@ -14,7 +14,7 @@ pub use laws::history_sends_as_memory;
 pub use run_report::report;
 pub use status::{Status, status_line};
 pub use tool::{ELF_LIMIT, IMAGE_LIMIT, Job, TEXT_LIMIT, Tool, tool_main};
-pub use top::{Outcome, Whole, xt_main};
+pub use top::{Outcome, Whole, write_run, xt_main};
 
 #[cfg(test)]
 mod tests;

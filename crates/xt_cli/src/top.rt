@@ -12,10 +12,12 @@ use crate::output::{write_report, write_traced};
 use crate::status::Status;
 use crate::tool::{IMAGE_LIMIT, Job, image_in, status_of, work};
 use std::alloc::{AllocError, Global};
+use std::sync::Wait;
+use std::thread::Threads;
 use xt_core::Cursor;
 use xt_image::{Image, well_formed_by_rules, well_formed_is_placed};
 use xt_io::{Gate, ReadError, Refused, Sink, Source, read_to_limit};
-use xt_machine::run_schedule;
+use xt_machine::run;
 use xt_trace::Run;
 use xt_words::{Command, RunOptions, meaning};
 
@@ -46,21 +48,30 @@ fn without_run(status: Status) -> Outcome
     }
 }
 
-// The run of an image with the options of the words.
-#[tactic(auto, unfolding(crate::specs::Top::run_of_image))]
-fn run_image(alloc: Global, options: &RunOptions, image: &Image) -> Result<Run, AllocError>
+// The run of an image with the options of the words, on two threads.
+#[tactic(auto, unfolding(crate::specs::Top::run_of_its_schedule))]
+fn run_image<G: Gate, R: Threads + Wait + Sync>(
+    rt: &R,
+    alloc: Global,
+    options: &RunOptions,
+    image: &Image,
+    gate: &G,
+) -> Result<Run, AllocError>
     requires valid { AreValid options.now }
     requires image { IsWellFormed image.now }
     ensures { IfOk result (λ run. IsRunOfImage options.now image.now run) }
 {
     well_formed_by_rules();
     let options = options.with_entry(image.entry);
-    run_schedule(alloc, image, &options, &[])
+    run(rt, alloc, image, &options, gate)
 }
 
-// Writes what is written of a run of an image.
+/// Writes what `run` writes of a run of an image: the report, and where the words ask for them the
+/// lines of both traces behind it, each before the next is made.
+///
+/// Conditions: the image is well formed, and the run is one of this image.
 #[tactic(auto, unfolding(crate::specs::Top::run_text))]
-fn write_run<K: Sink>(
+pub fn write_run<K: Sink>(
     alloc: Global,
     options: &RunOptions,
     image: &Image,
@@ -84,11 +95,13 @@ fn write_run<K: Sink>(
 }
 
 // Reads an image to its end, runs it, and writes what is written of the run.
-fn run_source<S: Source, K: Sink>(
+fn run_source<S: Source, K: Sink, G: Gate, R: Threads + Wait + Sync>(
+    rt: &R,
     alloc: Global,
     options: &RunOptions,
     source: &mut S,
     sink: &mut K,
+    gate: &G,
 ) -> Outcome
     requires { AreValid options.now }
     ensures answers { Runs options.now (ends S.left S.faults source.old source.new K.told K.faults sink.old sink.new)
@@ -106,7 +119,7 @@ fn run_source<S: Source, K: Sink>(
         Ok(image) => image,
         Err(status) => return without_run(status),
     };
-    let Ok(run) = run_image(alloc, options, &image) else {
+    let Ok(run) = run_image(rt, alloc, options, &image, gate) else {
         return without_run(Status::Memory);
     };
     let status = match write_run(alloc, options, &image, &run, sink) {
@@ -122,21 +135,23 @@ fn run_source<S: Source, K: Sink>(
 
 /// What the program does with the words behind its name, a source and a sink.
 ///
-/// Where the words ask for a run, the source is read to its end as an ESP32 application image, core 0
-/// makes all of its turns and then core 1, and the report is written to the sink, with `--trace` the
-/// lines of both traces behind it, each before the next is made. All else is `tool_main`'s. The gate
-/// is not used yet.
+/// Where the words ask for a run, the source is read to its end as an ESP32 application image, both
+/// cores make their turns, each on a thread of its own and through the gate before each access, and
+/// the report is written to the sink, with `--trace` the lines of both traces behind it, each before
+/// the next is made. A run may wait. All else is `tool_main`'s.
 ///
 /// The contract says of each status its cause, and what was written; of `Done` and `WriteFault` of a
 /// run besides that the run that is handed out is the image's: its history is legal from the opening
 /// memory, each trace is the processor's over the replies of that history, and the history's accesses
-/// are those of the traces. `Memory` is the one free answer.
-pub fn xt_main<S: Source, K: Sink, G: Gate>(
+/// are those of the traces; and that it is the run of the schedule that is read from its own history.
+/// `Memory` is the one free answer.
+pub fn xt_main<S: Source, K: Sink, G: Gate, R: Threads + Wait + Sync>(
+    rt: &R,
     alloc: Global,
     words: &[String],
     source: &mut S,
     sink: &mut K,
-    _gate: &G,
+    gate: &G,
 ) -> Outcome
     ensures answers { Answers (meaning_of (map string_bytes words.now))
         (ends S.left S.faults source.old source.new K.told K.faults sink.old sink.new) result }
@@ -144,7 +159,7 @@ pub fn xt_main<S: Source, K: Sink, G: Gate>(
         (ends S.left S.faults source.old source.new K.told K.faults sink.old sink.new) result }
 {
     match meaning(alloc, words) {
-        Ok(Command::Run(options)) => run_source(alloc, &options, source, sink),
+        Ok(Command::Run(options)) => run_source(rt, alloc, &options, source, sink, gate),
         Ok(Command::Assemble) => without_run(work(alloc, Job::Assemble, source, sink)),
         Ok(Command::Convert) => without_run(work(alloc, Job::Convert, source, sink)),
         Ok(Command::Disassemble) => without_run(work(alloc, Job::List, source, sink)),

@@ -1,6 +1,8 @@
 use crate::{Outcome, Status, Tool, tool_main, xt_main};
 use std::alloc::{AllocError, Global};
+use std::sync::Wait;
 use std::test::Fail;
+use std::thread::Threads;
 use xt_elf::ElfFault;
 use xt_image::ImageFault;
 use xt_io::{MemSink, MemSource, OpenGate, SafeSink, SafeSource, Sink, Source};
@@ -56,14 +58,14 @@ fn words_of(alloc: Global, text: &str) -> Result<Vec<String>, AllocError> {
 }
 
 /// What comes of words over a source and a sink.
-fn answer<S: Source, K: Sink>(
-    alloc: Global,
+fn answer<S: Source, K: Sink, R: Threads + Wait + Sync + AllocGlobal>(
+    rt: &R,
     words: &str,
     source: &mut S,
     sink: &mut K,
 ) -> Result<Outcome, AllocError> {
-    let words = words_of(alloc, words)?;
-    Ok(xt_main(alloc, &words, source, sink, &OpenGate))
+    let words = words_of(rt.alloc(), words)?;
+    Ok(xt_main(rt, rt.alloc(), &words, source, sink, &OpenGate))
 }
 
 /// The letter A with one byte changed; place 64 and on change none.
@@ -95,7 +97,7 @@ fn runs_of_the_letter_a(rt: HostRuntime) -> Result<(), Fail> {
     for (words, text) in rows {
         let mut source = SafeSource::make(rt.alloc(), &image)?;
         let mut sink = SafeSink::make(rt.alloc())?;
-        let outcome = answer(rt.alloc(), words, &mut source, &mut sink)?;
+        let outcome = answer(&rt, words, &mut source, &mut sink)?;
         assert_eq!(rt; outcome.status, Status::Done, "{words}");
         assert_eq!(rt; sink.bytes(), text.as_bytes(), "{words}");
         assert_eq!(rt;
@@ -140,7 +142,7 @@ fn refusals_write_nothing(rt: HostRuntime) -> Result<(), Fail> {
         let image = letter_but(rt.alloc(), place, byte)?;
         let mut source = SafeSource::make(rt.alloc(), &image)?;
         let mut sink = SafeSink::make(rt.alloc())?;
-        let outcome = answer(rt.alloc(), words, &mut source, &mut sink)?;
+        let outcome = answer(&rt, words, &mut source, &mut sink)?;
         assert_eq!(rt; outcome.status, status, "{words}");
         assert!(rt; sink.bytes().is_empty(), "{words}");
         assert!(rt; outcome.whole.is_none(), "{words}");
@@ -197,7 +199,7 @@ fn texts_are_assembled_or_refused(rt: HostRuntime) -> Result<(), Fail> {
     for (text, status, written) in rows {
         let mut source = SafeSource::make(rt.alloc(), text.as_bytes())?;
         let mut sink = SafeSink::make(rt.alloc())?;
-        let outcome = answer(rt.alloc(), "asm", &mut source, &mut sink)?;
+        let outcome = answer(&rt, "asm", &mut source, &mut sink)?;
         assert_eq!(rt; outcome.status, status, "{text}");
         let wanted = hex::decode(rt.alloc(), written)?;
         assert_eq!(rt; sink.bytes(), wanted.as_slice(), "{text}");
@@ -222,7 +224,7 @@ fn elf_files_are_converted_or_refused(rt: HostRuntime) -> Result<(), Fail> {
         file.truncate(length);
         let mut source = SafeSource::make(rt.alloc(), &file)?;
         let mut sink = SafeSink::make(rt.alloc())?;
-        let outcome = answer(rt.alloc(), "elf", &mut source, &mut sink)?;
+        let outcome = answer(&rt, "elf", &mut source, &mut sink)?;
         assert_eq!(rt; outcome.status, status, "{place}");
         let written = if status == Status::Done {
             image.as_slice()
@@ -278,7 +280,7 @@ fn too_long_an_input_is_refused(rt: HostRuntime) -> Result<(), Fail> {
         input.resize(length, b'\n')?;
         let mut source = SafeSource::make(rt.alloc(), &input)?;
         let mut sink = SafeSink::make(rt.alloc())?;
-        let outcome = answer(rt.alloc(), words, &mut source, &mut sink)?;
+        let outcome = answer(&rt, words, &mut source, &mut sink)?;
         assert_eq!(rt; outcome.status, status, "{words}");
     }
     Ok(())
@@ -292,7 +294,7 @@ fn devices_that_fail_at_each_call(rt: HostRuntime) -> Result<(), Fail> {
     for call in 0..20usize {
         let mut source = MemSource::make(rt.alloc(), &image, 5, &[call as u64])?;
         let mut sink = SafeSink::make(rt.alloc())?;
-        let outcome = answer(rt.alloc(), words, &mut source, &mut sink)?;
+        let outcome = answer(&rt, words, &mut source, &mut sink)?;
         let read = if call < 14 {
             Status::ReadFault
         } else {
@@ -306,7 +308,7 @@ fn devices_that_fail_at_each_call(rt: HostRuntime) -> Result<(), Fail> {
         );
         let mut source = SafeSource::make(rt.alloc(), &image)?;
         let mut sink = MemSink::make(rt.alloc(), 5, &[call as u64])?;
-        let outcome = answer(rt.alloc(), words, &mut source, &mut sink)?;
+        let outcome = answer(&rt, words, &mut source, &mut sink)?;
         let written = if call < 19 {
             Status::WriteFault
         } else {
