@@ -49,8 +49,8 @@ is_held h = h.live0 || h.live1
 abbrev pub either : (ℕ → Bool) → (ℕ → Bool) → ℕ → Bool
 either live0 live1 a = live0 a || live1 a
 
--- the areas that the call of a frame opens, whose callee's stack pointer is sp: the 16 bytes below that, and the 16(n-1) bytes that
--- end 16 below its caller's stack pointer
+-- the areas that the call of a frame opens, whose callee's stack pointer is sp: the 16 bytes below
+-- that, and the 16(n-1) bytes that end 16 below its caller's stack pointer
 abbrev pub opened_at : ℕ → ℕ → Frame → List Frame → ℕ → Bool
 opened_at hi sp f fs a = touches (sp - 16) 16 a || touches (before hi fs - 16 * f.by) (16 * (f.by - 1)) a
 
@@ -64,7 +64,8 @@ abbrev pub other_live : ℕ → Held → Bool
 other_live zero h = h.live1
 other_live (suc core) h = h.live0
 
--- the marks are those of these live bytes of a core and of the other, and of these stale bytes; no live byte is stale
+-- the marks are those of these live bytes of a core and of the other, and of these stale bytes; no
+-- live byte is stale
 pub record KnowsOf (core : ℕ) (marks : List Held) (own others stale : ℕ → Bool) : Type 0 where
   pub own_is : (a : ℕ) → own_live core (held_at marks a) ≡ own a
   pub others_is : (a : ℕ) → other_live core (held_at marks a) ≡ others a

@@ -24,8 +24,8 @@ in_areas x a = touches x.low 16 a || touches x.high x.size a
 abbrev pub live_in : Walked → ℕ → Bool
 live_in w a = is_live w.bounds.range w.state a
 
--- its number and the end of its stack are those of its frames, its stack lies in internal data memory, and the last judged record
--- comes before the next one
+-- its number and the end of its stack are those of its frames, its stack lies in internal data
+-- memory, and the last judged record comes before the next one
 pub record IsSide (s : Side) : Type 0 where
   pub core_is : s.frames.core ≡ s.core
   pub end_is : s.frames.bounds.range.hi ≡ s.hi

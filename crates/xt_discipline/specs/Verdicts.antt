@@ -19,9 +19,12 @@ is_yes _ = false
 -- the six window handlers pass the check
 abbrev pub are_yes : Handlers → Bool
 are_yes h =
-    is_yes h.of4 && (is_yes h.uf4 && (is_yes h.of8 && (is_yes h.uf8 && (is_yes h.of12 && is_yes h.uf12))))
+    is_yes h.of4
+    && (is_yes h.uf4
+    && (is_yes h.of8 && (is_yes h.uf8 && (is_yes h.of12 && is_yes h.uf12))))
 
--- both cores of the machine with unbounded call frames as a run opens: core 0 at the image's entry, core 1 at its own
+-- both cores of the machine with unbounded call frames as a run opens: core 0 at the image's entry,
+-- core 1 at its own
 abbrev pub opened0 : Image → Options → Walked
 opened0 image o = opened 0 image.entry o
 

@@ -41,7 +41,8 @@ Turns code old new marks others stale (x ∷ xs) left (Err (Broken b)) =
     IsSeen old new marks others stale (seen code old.frames.bounds (standing_of old) others stale x) (Err b)
 Turns code old new marks others stale _ left _ = ⊥
 
--- and in the words of the definition: `xs` and `ys` are the records that were left before, and `xs'` and `ys'` those after it
+-- and in the words of the definition: `xs` and `ys` are the records that were left before, and `xs'`
+-- and `ys'` those after it
 abbrev pub IsTurned :
     (ℕ → ℕ) → Bounds → Bounds → ℕ → Known → List StepRecord → List StepRecord → Walk → List StepRecord → List StepRecord → Result Unit Judged → Type 0
 IsTurned code b0 b1 core k xs ys new xs' ys' (Ok u) =
