@@ -1,4 +1,4 @@
--- The grammar of scripts, and which script a text is ('profile'). A text and a word are the lists of their bytes.
+-- The grammar of scripts, and which script a text is ('profile'). A text is the list of its bytes.
 use Rattle.std.specs.Prelude.{ℕ, ◌<◌, ◌≤◌, ◌==◌, nat_lt, nat_le, if◌then◌else◌, Option, Some, None, List, [], ◌∷◌, length, filter, codes}
 use Rattle.std.specs.List.{list_all, slice_split}
 use Rattle.std.specs.Option.{option_map}
@@ -45,8 +45,10 @@ command_of_one name word =
 unfoldable pub command_of_two : List ℕ → List ℕ → List ℕ → Option Command
 command_of_two name first second =
     if bytes_eq name (codes "go") then with_both command.Go (core_of first) (number_of second)
-    else if bytes_eq name (codes "break") then with_both command.Break (core_of first) (number_of second)
-    else if bytes_eq name (codes "mem") then with_both command.Mem (number_of first) (byte_count_of second)
+    else if bytes_eq name (codes "break") then
+    with_both command.Break (core_of first) (number_of second)
+    else if bytes_eq name (codes "mem") then
+    with_both command.Mem (number_of first) (byte_count_of second)
     else None
 
 abbrev pub command_of_words : List (List ℕ) → Option Command
@@ -72,10 +74,12 @@ abbrev pub commands_of : List (List ℕ) → Option (List Command)
 commands_of [] = Some []
 commands_of (text ∷ texts) = and_all (command_of_words (words_of text)) (commands_of texts)
 
--- The script that a text is: none in a text of no bytes but spaces; else each part between semicolons is a command.
+-- The script that a text is: no command in a text of no bytes but spaces; else each part between
+-- semicolons is a command.
 unfoldable pub script_of : List ℕ → Option (List Command)
 script_of text =
-    if list_all (λ byte. byte == 32) text then Some [] else commands_of (slice_split (λ byte. byte == 59) text)
+    if list_all (λ byte. byte == 32) text then Some []
+    else commands_of (slice_split (λ byte. byte == 59) text)
 
 -- ---- commands that can be run
 
