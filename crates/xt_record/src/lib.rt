@@ -1,0 +1,14 @@
+//! The parts of a recording: its head, its options and its entries, checked, read and written.
+#![tactic(auto)]
+
+mod entries;
+mod fault;
+mod head;
+mod raw;
+mod words;
+mod writing;
+
+pub use entries::{entries_in, options_fault, options_in};
+pub use fault::RecordFault;
+pub use head::head_fault;
+pub use writing::{put_entries, put_options};
