@@ -4,8 +4,6 @@
 mod pair;
 mod replay;
 mod state;
-#[cfg(test)]
-mod tests;
 mod turns;
 
 pub use replay::{PastEnd, Replay};
