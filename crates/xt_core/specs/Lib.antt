@@ -3,3 +3,4 @@ pub mod Cores
 pub mod Cursors
 pub mod Fetches
 pub mod Turns
+pub mod Positions

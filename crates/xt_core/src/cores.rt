@@ -100,11 +100,25 @@ impl<W: Windows> Core<W> {
         self.count += 1;
     }
 
+    /// How many turns it made since `make` or the last `restart`: the number of its next one.
+    pub fn count(&self) -> u32
+        ensures { result ≡ self.now.count }
+    {
+        self.count
+    }
+
     /// The registers.
     pub fn regs(&self) -> &Regs<W>
         ensures { state_of W.regs W.base W.start result.now ≡ self.now.state }
     {
         &self.regs
+    }
+
+    /// The turns that are left: none after a Stop.
+    pub fn left(&self) -> u32
+        ensures { result ≡ self.now.left }
+    {
+        self.left
     }
 }
 

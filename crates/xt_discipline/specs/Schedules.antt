@@ -1,19 +1,12 @@
--- The schedule of a run ('profile').
+-- When a run has a schedule ('profile').
 use Rattle.std.specs.Prelude.{◌≡◌, ℕ, ◌≤◌, List, length}
 use Rattle.xt_map.specs.declared.access.Entry.{Entry}
 use Rattle.xt_map.specs.History.{IsOfCores, calls_of}
 use Rattle.xt_trace.specs.declared.run.Run.{Run}
 use Rattle.xt_trace.specs.declared.trace.Trace.{Trace}
 use Rattle.xt_trace.specs.Validity.{IsValid}
-use Rattle.xt_runs.specs.Schedule.{cores_of, schedule}
+pub use Rattle.xt_runs.specs.Schedule.{schedule_in}
 use Rattle.xt_runs.specs.Short.{IsRising}
-
--- The schedule of a run: for each entry of the history in order, the turns of its core after its
--- previous access, up to and with this one; then the rest of core 0's turns, and then the rest of
--- core 1's.
-abbrev pub schedule_in : Run → List ℕ
-schedule_in r =
-    schedule (cores_of r.history) r.trace0.places r.trace0.count r.trace1.places r.trace1.count
 
 -- a core's trace is no longer than its turns, its places rise and lie in it, and there are as many
 -- of them as the history has entries of the core

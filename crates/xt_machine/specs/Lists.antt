@@ -1,4 +1,4 @@
--- The run of an image and a list of cores, and the schedule of a run ('profile').
+-- The run of an image and a list of cores ('profile').
 use Rattle.std.specs.Prelude.{ℕ, List, length}
 use Rattle.xt_trace.specs.declared.options.Options.{Options}
 use Rattle.xt_trace.specs.declared.run.Run.{Run}

@@ -3,6 +3,7 @@ use Rattle.std.specs.Prelude.{ℕ, zero, suc, ◌-◌, Option, Some, None, List,
 use Rattle.xt_map.specs.declared.access.Access.{Access}
 use Rattle.xt_map.specs.declared.access.Entry.{Entry}
 use Rattle.xt_trace.specs.declared.record.StepRecord.{StepRecord}
+use Rattle.xt_trace.specs.declared.run.Run.{Run}
 
 -- the numbers of the records with an access, where the first record has this number
 abbrev pub place_before : Option Access → ℕ → List ℕ → List ℕ
@@ -27,3 +28,10 @@ schedule_from (suc c ∷ cs) i ps n j (q ∷ qs) m = replicate (suc q - j) 1 ++ 
 
 abbrev pub schedule : List ℕ → List ℕ → ℕ → List ℕ → ℕ → List ℕ
 schedule cores places0 count0 places1 count1 = schedule_from cores 0 places0 count0 0 places1 count1
+
+-- The schedule of a run: for each entry of the history in order, the turns of its core after its
+-- previous access, up to and with this one; then the rest of core 0's turns, and then the rest of
+-- core 1's.
+abbrev pub schedule_in : Run → List ℕ
+schedule_in r =
+    schedule (cores_of r.history) r.trace0.places r.trace0.count r.trace1.places r.trace1.count

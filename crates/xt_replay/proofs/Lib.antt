@@ -1,0 +1,7 @@
+pub mod Listing
+pub mod Walking
+pub mod Standing
+pub mod Placing
+pub mod Keeping
+pub mod Inside
+pub mod Moving

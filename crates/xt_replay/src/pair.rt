@@ -1,0 +1,33 @@
+//! Two cores and their memory.
+ghost use Rattle.std.specs.Prelude.{◌≡◌, None};
+
+use xt_bus::Memory;
+use xt_core::Core;
+use xt_exec::Regs;
+use xt_window::WindowFile;
+
+/// Two cores over a memory, with the number of each core's next step, and how many accesses were
+/// served.
+#[derive(Drop)]
+pub struct Pair {
+    pub core0: Core<WindowFile>,
+    pub core1: Core<WindowFile>,
+    pub memory: Memory,
+    pub step0: u32,
+    pub step1: u32,
+    pub used: u32,
+    ghost waiting: { (core0.waiting ≡ None) × (core1.waiting ≡ None) },
+}
+
+/// A copy of two cores and a memory.
+#[derive(Drop)]
+pub struct Mark {
+    pub regs0: Regs<WindowFile>,
+    pub regs1: Regs<WindowFile>,
+    pub left0: u32,
+    pub left1: u32,
+    pub step0: u32,
+    pub step1: u32,
+    pub memory: Memory,
+    pub used: u32,
+}

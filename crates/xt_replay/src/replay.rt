@@ -1,0 +1,281 @@
+//! Positions of a run.
+ghost use Rattle.std.specs.Prelude.{◌≡◌, drop};
+ghost use Rattle.xt_replay.specs.Stands.{next_of};
+
+use crate::pair::{Mark, Pair};
+use crate::state::State;
+use std::alloc::{AllocError, Global};
+use std::marker::Model;
+use xt_image::Image;
+use xt_map::Constants;
+use xt_trace::Run;
+
+/// The position lies beyond the end of the run.
+#[derive(Clone, Copy, Debug, PartialEq, Eq)]
+pub struct PastEnd;
+
+/// A run of an image at a position: a number of steps of the run's schedule. Contracts see the image,
+/// the run and the position.
+#[derive(Drop)]
+pub struct Replay<'a> {
+    image: &'a Image,
+    run: &'a Run,
+    code: Constants,
+    pair: Pair,
+    opening: Mark,
+    position: u32,
+}
+
+impl<'a> Model for Replay<'a> {
+    ghost use Rattle.xt_replay.specs.Shown.{ReplayState};
+
+    ghost Value = { ReplayState };
+
+    ghost use Rattle.xt_replay.specs.Kept.{replay_in, IsKept};
+
+    ghost view = { replay_in };
+
+    ghost invariant = { IsKept };
+}
+
+// The core of the next step of a run that goes on, where so many accesses were served and core 0 has
+// made so many steps: the core of the next entry of the history; behind the last one core 0 as long as
+// it has steps left.
+fn next_of(run: &Run, used: u32, step0: u32) -> u8
+    ensures { result ≡ next_of (drop used run.now.history) step0 run.now.trace0.count }
+{
+    match run.history.as_slice().get(used as usize) {
+        Some(entry) => entry.core,
+        None => { if step0 < run.trace0.count { 0 } else { 1 } }
+    }
+}
+
+impl<'a> Replay<'a> {
+    ghost use Rattle.std.specs.Prelude.{◌≡◌, ◌+◌, ◌<◌, ◌≤◌, true, false, IfOk, MatchResult, length, slice_get, take};
+    ghost use Rattle.xt_map.specs.Placing.{IsPlaced};
+    ghost use Rattle.xt_core.specs.Positions.{schedule_in, world_at};
+    ghost use Rattle.xt_core.specs.Runs.{IsRunOf};
+    ghost use Rattle.xt_replay.specs.Places.{position_of, trace_in};
+    ghost use Rattle.xt_replay.specs.Shown.{moved, shown_at, step_in};
+    ghost use Rattle.xt_replay.specs.Stands.{Comes};
+
+    /// The run at position 0. All memory is taken here; the only error is too little memory.
+    ///
+    /// Conditions: the run is the image's. The image's segments lie in one region each and share no
+    /// byte, as those of every image that was read.
+    pub fn make(alloc: Global, image: &'a Image, run: &'a Run) -> Result<Replay<'a>, AllocError>
+        requires run { IsRunOf image.now run.now }
+        requires placed { IsPlaced image.now.segments }
+        ensures { IfOk result (λ r. r ≡ record { image = image.now; run = run.now; position = 0 }) }
+    {
+        let pair = Pair::open(alloc, image, &run.options)?;
+        let opening = pair.mark(alloc)?;
+        Ok(Replay {
+            image,
+            run,
+            code: Constants::make(alloc, image.segments.as_slice())?,
+            pair,
+            opening,
+            position: 0,
+        })
+    }
+
+    /// The image.
+    pub fn image(&self) -> &Image
+        ensures image { result.now ≡ self.now.image }
+        ensures placed { IsPlaced self.now.image.segments }
+    {
+        self.image
+    }
+
+    /// The run, which is the image's.
+    pub fn run(&self) -> &Run
+        ensures run { result.now ≡ self.now.run }
+        ensures is { IsRunOf self.now.image self.now.run }
+    {
+        self.run
+    }
+
+    /// The position: how many steps of the schedule were made. It is at most the schedule's length.
+    pub fn position(&self) -> u32
+        ensures position { result ≡ self.now.position }
+        ensures within { self.now.position ≤ length (schedule_in self.now.run) }
+        ensures bound { length (schedule_in self.now.run) ≤ 8000000 }
+    {
+        self.position
+    }
+
+    /// What the run from the start has at this position.
+    pub fn state(&self) -> State<'_>
+        ensures { result ≡ shown_at self.now.image self.now.run self.now.position }
+    {
+        State {
+            core0: &self.pair.core0,
+            core1: &self.pair.core1,
+            memory: &self.pair.memory,
+            code: &self.code,
+            step0: self.pair.step0,
+            step1: self.pair.step1,
+        }
+    }
+
+    // The length of the schedule.
+    fn end(&self) -> u32
+        ensures { result ≡ length (schedule_in self.now.run) }
+    {
+        self.run.trace0.count + self.run.trace1.count
+    }
+
+    // Goes back to the start.
+    fn restart(&mut self)
+        ensures { self.new ≡ moved self.old 0 }
+    {
+        self.pair.restore(&self.opening);
+        self.position = 0;
+    }
+
+    // One step on.
+    fn step(&mut self)
+        requires { self.old.position < length (schedule_in self.old.run) }
+        ensures { self.new ≡ moved self.old (self.old.position + 1) }
+    {
+        if next_of(self.run, self.pair.used, self.pair.step0) == 0 {
+            self.pair.give0(&self.code);
+        } else {
+            self.pair.give1(&self.code);
+        }
+        self.position += 1;
+    }
+
+    // Goes back to the start where it stands behind a position.
+    fn back(&mut self, position: u32)
+        ensures moved { self.new ≡ moved self.old self.new.position }
+        ensures within { self.new.position ≤ position }
+    {
+        if position < self.position() {
+            self.restart();
+        }
+    }
+
+    // Walks on to a position.
+    fn walk(&mut self, position: u32)
+        requires from { self.old.position ≤ position }
+        requires within { position ≤ length (schedule_in self.old.run) }
+        ensures { self.new ≡ moved self.old position }
+    {
+        'steps: while self.position() < position {
+            self.step();
+        }
+    }
+
+    /// Stands at a position. PastEnd comes exactly beyond the end of the schedule, and then nothing
+    /// changes. Takes no memory.
+    pub fn seek(&mut self, position: u32) -> Result<(), PastEnd>
+        ensures { MatchResult result
+            (λ _. (position ≤ length (schedule_in self.old.run)) × (self.new ≡ moved self.old position))
+            (λ _. (length (schedule_in self.old.run) < position) × (self.new ≡ self.old)) }
+    {
+        if self.end() < position {
+            return Err(PastEnd);
+        }
+        self.back(position);
+        self.walk(position);
+        Ok(())
+    }
+
+    // How many steps a core has made.
+    fn made(&self, core: u8) -> u32
+        requires { core < 2 }
+        ensures { result ≡ step_in core (shown_at self.now.image self.now.run self.now.position) }
+    {
+        if core == 0 {
+            self.pair.step0
+        } else {
+            self.pair.step1
+        }
+    }
+
+    // How many steps a core makes in all.
+    fn count(&self, core: u8) -> u32
+        requires { core < 2 }
+        ensures { result ≡ (trace_in core self.now.run).count }
+    {
+        if core == 0 {
+            self.run.trace0.count
+        } else {
+            self.run.trace1.count
+        }
+    }
+
+    /// The core of the next step. None comes exactly at the end of the schedule.
+    pub fn next_core(&self) -> Option<u8>
+        ensures { result ≡ slice_get (schedule_in self.now.run) self.now.position }
+    {
+        if self.position == self.end() {
+            return None;
+        }
+        Some(next_of(self.run, self.pair.used, self.pair.step0))
+    }
+
+    /// How many entries of the run's history come before this position.
+    pub fn served(&self) -> u32
+        ensures served { result ≡ length (world_at self.now.image self.now.run self.now.position).line.history }
+        ensures entries { (world_at self.now.image self.now.run self.now.position).line.history ≡ take result self.now.run.history }
+    {
+        self.pair.used
+    }
+
+    // Whether it stands directly before a core's step with this number, or behind its last.
+    fn is_at(&self, core: u8, step: u32) -> bool
+        requires core { core < 2 }
+        requires step { step ≤ (trace_in core self.now.run).count }
+        requires comes { Comes self.now.image self.now.run core step self.now.position }
+        ensures here { result ≡ true → self.now.position ≡ position_of core step self.now.run }
+        ensures before { result ≡ false → self.now.position < length (schedule_in self.now.run) }
+        ensures on { result ≡ false → Comes self.now.image self.now.run core step (self.now.position + 1) }
+    {
+        let _ = &self.image;
+        if self.made(core) != step {
+            return false;
+        }
+        if self.count(core) == step {
+            return true;
+        }
+        match self.next_core() {
+            Some(next) => next == core,
+            None => false,
+        }
+    }
+
+    // Walks on to a core's step with this number.
+    fn find(&mut self, core: u8, step: u32)
+        requires core { core < 2 }
+        requires step { step ≤ (trace_in core self.old.run).count }
+        requires comes { Comes self.old.image self.old.run core step self.old.position }
+        ensures { self.new ≡ moved self.old (position_of core step self.old.run) }
+    {
+        'steps: while !self.is_at(core, step) {
+            self.step();
+        }
+    }
+
+    /// Stands directly before a core's step with this number. Where the number is the length of the
+    /// core's trace it stands directly after that core's last step, and at position 0 where the trace
+    /// is empty. PastEnd comes exactly where the number exceeds that length, and then nothing changes.
+    /// Takes no memory.
+    ///
+    /// Condition: the core is 0 or 1.
+    pub fn goto(&mut self, core: u8, step: u32) -> Result<(), PastEnd>
+        requires { core < 2 }
+        ensures { MatchResult result
+            (λ _. (step ≤ (trace_in core self.old.run).count) × (self.new ≡ moved self.old (position_of core step self.old.run)))
+            (λ _. ((trace_in core self.old.run).count < step) × (self.new ≡ self.old)) }
+    {
+        if self.count(core) < step {
+            return Err(PastEnd);
+        }
+        self.restart();
+        self.find(core, step);
+        Ok(())
+    }
+}
