@@ -1,8 +1,8 @@
 -- A judged step keeps the chain of stack pointers.
-use Rattle.std.proofs.Common.{◌||◌, ◌&&◌, ◌≡◌, ℕ, ◌/◌, ◌%◌, ◌^◌, ◌<◌, ◌≢◌, ℤ, pos, negsuc, Bool, true, false, not, eqb, ltb, List, [], ◌∷◌, Option, Some, None, sym, ◌∙◌, refl, arith, ⊎_elim, cond, subst}
+use Rattle.std.proofs.Common.{◌||◌, ◌&&◌, ◌≡◌, ℕ, ◌*◌, ◌-◌, ◌/◌, ◌%◌, ◌^◌, ◌<◌, ◌≢◌, ℤ, pos, negsuc, Bool, true, false, not, eqb, ltb, List, [], ◌∷◌, Option, Some, None, sym, ◌∙◌, refl, ap, arith, ⊎_elim, cond, subst}
 use Rattle.std.proofs.Math.ListN.{set}
 use Rattle.std.proofs.lemmas.Bool.{eqb-false, eqb-true, or_from, cond-true, cond-false, cases_Bool, not-false, or_parts, and_parts, ltb-true}
-use Rattle.std.proofs.lemmas.List.{get_or-set_other, length-set}
+use Rattle.std.proofs.lemmas.List.{get_or-set_other, length-set, get_or-take, get_or_append_left}
 use Rattle.xt_isa.specs.declared.Insn.{Insn}
 use Rattle.xt_isa.specs.declared.Insn.TheVariants as insn
 use Rattle.xt_isa.specs.declared.control.Control.TheVariants as control
@@ -23,14 +23,17 @@ use Rattle.xt_rows.specs.Operands.{reads}
 use Rattle.xt_rows.specs.Outcomes.{outcome, control_outcome, outcome_at}
 use Rattle.xt_rows.specs.Settling.{settled_interrupt, settled_wait, written}
 use Rattle.xt_frames.specs.Frames.{Frame, FrameState, known, seen_after_write}
-use Rattle.xt_frames.specs.FrameStep.{FrameTurn, in_frame, raised, pushed, popped, popped_from, done_in_frame, fetched_step, laid_step}
+use Rattle.xt_frames.specs.FrameStep.{FrameTurn, Inputs, laid, in_frame, raised, pushed, popped, popped_from, done_in_frame, fetched_step, laid_step}
 use Rattle.xt_frames.specs.SaveAreas.{Range}
 use Rattle.xt_frames.specs.Breaches.{Bounds, Test, laid_breach, first_shown, insn_tests, fetched_tests, is_sp, shows_sp, writes_sp, may_write_sp, is_movsp, other_frame_size, small_frame, leaves_range, outside, misaligns_sp, opens_nothing}
-use Rattle.xt_frames.specs.Stacks.{Stack}
+use Rattle.xt_frames.specs.Stacks.{Stack, IsFrame, Moves, Stays, Calls, Leaves}
 use Rattle.xt_rows.specs.Kinds.{Fits, is_entry}
 use Rattle.xt_rows.proofs.Fitting.{outcome_fits}
 use Rattle.xt_frames.proofs.Stacked.{enters_stack, leaves_stack, known_is}
-use Rattle.xt_frames.specs.Stacks.{KeepsStack}
+use Rattle.xt_frames.specs.Stacks.{KeepsStack, MovesFrames}
+use Rattle.std.specs.Prelude.{unwrap_or, take, slice_index_or}
+use Rattle.xt_frames.specs.SaveAreas.{sp_of}
+use Rattle.xt_frames.specs.Frames.{seen_after_return}
 
 -- ---- no test is shown
 if_none : {X : Type 0} (b : Bool) (x : X) (o : Option X) → cond b (Some x) o ≡ None → (b ≡ false) × (o ≡ None)
@@ -121,8 +124,29 @@ turn_if : (P : FrameTurn → Type 0) (b : Bool) (x y : FrameTurn) → P x → P 
 turn_if P true x y p q = p
 turn_if P false x y p q = q
 
-abbrev KeepsChain : Range → FrameTurn → Type 0
-KeepsChain r u = Stack r.lo r.hi u.after.seen u.after.frames
+write_sp : {lo hi : ℕ} {seen : List (Option ℕ)} {frames : List Frame} → Stack lo hi seen frames → (o : Option Write) → KeepsSp o → known (seen_after_write o seen) 1 ≡ known seen 1
+write_sp k None other = refl
+write_sp {seen = seen} k (Some w) other =
+    let apart : 1 ≢ w.number = λ e. other (sym e) in
+    known_is (set seen w.number (Some w.value)) 1 (known seen 1) (get_or-set_other seen w.number 1 (Some w.value) None apart ∙ k.sp)
+
+kept_sp : (seen : List (Option ℕ)) (n : ℕ) → 0 < n → known (take (4 * n) seen) 1 ≡ known seen 1
+kept_sp seen n some = ap (λ (o : Option ℕ). unwrap_or o 0) (get_or-take (4 * n) seen 1 None (omega arith))
+
+back_sp : (f : Frame) (seen : List (Option ℕ)) → IsFrame f → known (seen_after_return f.kept seen f.by) 1 ≡ sp_of f
+back_sp f seen k =
+    let keeps = k.keeps in
+    let some = k.moves in
+    ap (λ (o : Option ℕ). unwrap_or o 0) (get_or_append_left f.kept (take (16 - 4 * f.by) seen) None 1 (omega arith))
+
+abbrev KeepsChain : Range → FrameState → FrameTurn → Type 0
+KeepsChain r g u = Stack r.lo r.hi u.after.seen u.after.frames × Moves g u.after
+
+stays : {r : Range} {g : FrameState} (u : FrameTurn) → Stack r.lo r.hi g.seen g.frames → u.after.seen ≡ g.seen → u.after.frames ≡ g.frames → KeepsChain r g u
+stays {r} {g} u k e f = (rw (e, f) k, Stays f (ap (λ (s : List (Option ℕ)). known s 1) e))
+
+writes : {r : Range} {g : FrameState} (u : FrameTurn) (o : Option Write) → Stack r.lo r.hi g.seen g.frames → KeepsSp o → u.after.seen ≡ seen_after_write o g.seen → u.after.frames ≡ g.frames → KeepsChain r g u
+writes {r} {g} u o k other e f = (rw (e, f) (write_stack k o other), Stays f (ap (λ (s : List (Option ℕ)). known s 1) e ∙ write_sp k o other))
 
 entry_value : (code : ℕ → ℕ) (i : Insn) (number : ℕ) (size : ℤ) (value : ℕ) (ar : ℕ → ℕ) (c : Control) → i ≡ insn.Control (control.Entry number size) → outcome_at code i ar c ≡ Windowed (Enters number value) → minus (ar number) (natural size) ≡ value
 entry_value code i number size value ar c e q = entry_outcome code number size value ar c (rw e at q)
@@ -153,60 +177,77 @@ entry_small : (number : ℕ) (size : ℤ) → in_range (insn.Control (control.En
 entry_small number size h = natural_small size (and_parts (one_register number) (multiple_within 8 4096 size) h).1
 
 module _ (b : Bounds) (fresh : Bool) (live stale : ℕ → Bool) (rec : StepRecord) (code : ℕ → ℕ) (g : FrameState) (k : Stack b.range.lo b.range.hi g.seen g.frames) (calls : g.control.ps.callinc < 4) where
-  pops : (frames : List Frame) → g.frames ≡ frames → (a0 : ℕ) → KeepsChain b.range (popped_from frames a0 g)
-  pops [] e a0 = k
-  pops (f ∷ rest) e a0 = leaves_stack b.range.lo b.range.hi g.seen f rest (rw e at k)
+  pops : (frames : List Frame) → g.frames ≡ frames → (a0 : ℕ) → KeepsChain b.range g (popped_from frames a0 g)
+  pops [] e a0 = stays (popped_from [] a0 g) k refl refl
+  pops (f ∷ rest) e a0 =
+      let s : Stack b.range.lo b.range.hi g.seen (f ∷ rest) = rw e at k in
+      (leaves_stack b.range.lo b.range.hi g.seen f rest s, Leaves f e (back_sp f g.seen s.shaped.0))
 
-  pushes_entry : (number : ℕ) (size : ℤ) (value len : ℕ) {u : FrameTurn} → in_range (insn.Control (control.Entry number size)) ≡ true → Sound b (insn.Control (control.Entry number size)) rec g u → minus (known g.seen number) (natural size) ≡ value → KeepsChain b.range (pushed number value len g)
+  pushes_entry : (number : ℕ) (size : ℤ) (value len : ℕ) {u : FrameTurn} → in_range (insn.Control (control.Entry number size)) ≡ true → Sound b (insn.Control (control.Entry number size)) rec g u → minus (known g.seen number) (natural size) ≡ value → KeepsChain b.range g (pushed number value len g)
   unfolding pushed
   pushes_entry number size value len ok o v =
       let one = entry_number number size b.range g o.size in
       let q = enters_stack b.range.lo b.range.hi g.seen g.frames g.control.ps.callinc (natural size) k (entry_called number size g o.opens) (omega arith) (entry_small number size ok) (entry_large b.range number size g o.size) (entry_inside b.range number size g o.low) (entry_aligned number size g o.align) in
       let w : minus (known g.seen 1) (natural size) ≡ value = rw one at v in
-      rw (one, ← w) q
+      (rw (one, ← w) q, Calls (record { by = g.control.ps.callinc; kept = take (4 * g.control.ps.callinc) g.seen }) refl (kept_sp g.seen g.control.ps.callinc (entry_called number size g o.opens)))
 
-  pushes : (i : Insn) (number : ℕ) (size : ℤ) (value len : ℕ) {u : FrameTurn} → in_range i ≡ true → Sound b i rec g u → i ≡ insn.Control (control.Entry number size) → minus (known g.seen number) (natural size) ≡ value → KeepsChain b.range (pushed number value len g)
+  pushes : (i : Insn) (number : ℕ) (size : ℤ) (value len : ℕ) {u : FrameTurn} → in_range i ≡ true → Sound b i rec g u → i ≡ insn.Control (control.Entry number size) → minus (known g.seen number) (natural size) ≡ value → KeepsChain b.range g (pushed number value len g)
   pushes i number size value len ok o e v = pushes_entry number size value len (rw e at ok) (rw e at o) v
 
-  done_keeps : (i : Insn) (len reply : ℕ) (x : Outcome) → outcome_at code i (known g.seen) g.control ≡ x → Fits i x → in_range i ≡ true → Sound b i rec g (done_in_frame x len reply g) → KeepsChain b.range (done_in_frame x len reply g)
+  done_keeps : (i : Insn) (len reply : ℕ) (x : Outcome) → outcome_at code i (known g.seen) g.control ≡ x → Fits i x → in_range i ≡ true → Sound b i rec g (done_in_frame x len reply g) → KeepsChain b.range g (done_in_frame x len reply g)
   unfolding popped
-  done_keeps i len reply (Does e) q f ok o = write_stack k e.write (keeps_sp i rec.write e.write f.2 o.movsp o.written)
-  done_keeps i len reply (Raises cause addr) q f ok o = k
-  done_keeps i len reply (Asks access awaited e) q f ok o = write_stack k (written None awaited reply) (keeps_sp i rec.write (written None awaited reply) f.2 o.movsp o.written)
-  done_keeps i len reply Stops q f ok o = k
+  done_keeps i len reply (Does e) q f ok o = writes (done_in_frame (Does e) len reply g) e.write k (keeps_sp i rec.write e.write f.2 o.movsp o.written) refl refl
+  done_keeps i len reply (Raises cause addr) q f ok o = stays (done_in_frame (Raises cause addr) len reply g) k refl refl
+  done_keeps i len reply (Asks access awaited e) q f ok o = writes (done_in_frame (Asks access awaited e) len reply g) (written None awaited reply) k (keeps_sp i rec.write (written None awaited reply) f.2 o.movsp o.written) refl refl
+  done_keeps i len reply Stops q f ok o = stays (done_in_frame Stops len reply g) k refl refl
   done_keeps i len reply (Windowed (Enters number value)) q f ok o =
-      let P : FrameTurn → Type 0 = KeepsChain b.range in
-      turn_if P g.control.ps.excm (raised illegal_instruction None g) (pushed number value len g) k (pushes i number f.0 value len ok o f.1 (entry_value code i number f.0 value (known g.seen) g.control f.1 q))
+      let P : FrameTurn → Type 0 = KeepsChain b.range g in
+      turn_if P g.control.ps.excm (raised illegal_instruction None g) (pushed number value len g) (stays (raised illegal_instruction None g) k refl refl) (pushes i number f.0 value len ok o f.1 (entry_value code i number f.0 value (known g.seen) g.control f.1 q))
   done_keeps i len reply (Windowed (Returns a0)) q f ok o =
-      let P : FrameTurn → Type 0 = KeepsChain b.range in
-      turn_if P g.control.ps.excm (raised illegal_instruction None g) (popped_from g.frames a0 g) k (pops g.frames refl a0)
-  done_keeps i len reply (Windowed (EndsOverflow epc1)) q f ok o = k
-  done_keeps i len reply (Windowed (EndsUnderflow epc1)) q f ok o = k
-  done_keeps i len reply (Windowed (Rotates n)) q f ok o = k
-  done_keeps i len reply (Windowed (MovesStack number value)) q f ok o = k
-  done_keeps i len reply (Windowed (Reads register number)) q f ok o = k
-  done_keeps i len reply (Windowed (Sets register value)) q f ok o = k
-  done_keeps i len reply (Windowed (Exchanges register number value)) q f ok o = k
+      let P : FrameTurn → Type 0 = KeepsChain b.range g in
+      turn_if P g.control.ps.excm (raised illegal_instruction None g) (popped_from g.frames a0 g) (stays (raised illegal_instruction None g) k refl refl) (pops g.frames refl a0)
+  done_keeps i len reply (Windowed (EndsOverflow epc1)) q f ok o = stays (done_in_frame (Windowed (EndsOverflow epc1)) len reply g) k refl refl
+  done_keeps i len reply (Windowed (EndsUnderflow epc1)) q f ok o = stays (done_in_frame (Windowed (EndsUnderflow epc1)) len reply g) k refl refl
+  done_keeps i len reply (Windowed (Rotates n)) q f ok o = stays (done_in_frame (Windowed (Rotates n)) len reply g) k refl refl
+  done_keeps i len reply (Windowed (MovesStack number value)) q f ok o = stays (done_in_frame (Windowed (MovesStack number value)) len reply g) k refl refl
+  done_keeps i len reply (Windowed (Reads register number)) q f ok o = stays (done_in_frame (Windowed (Reads register number)) len reply g) k refl refl
+  done_keeps i len reply (Windowed (Sets register value)) q f ok o = stays (done_in_frame (Windowed (Sets register value)) len reply g) k refl refl
+  done_keeps i len reply (Windowed (Exchanges register number value)) q f ok o = stays (done_in_frame (Windowed (Exchanges register number value)) len reply g) k refl refl
 
-  fetched_keeps : (at : Fetched) (reply : ℕ) → ((i : Insn) (len : ℕ) → at ≡ Fetches i len → in_range i ≡ true) → NoneShown (fetched_tests b fresh live stale at rec g (fetched_step at code reply g)) → KeepsChain b.range (fetched_step at code reply g)
-  fetched_keeps (Fails addr) reply ok none = k
-  fetched_keeps SpellsNothing reply ok none = k
+  fetched_keeps : (at : Fetched) (reply : ℕ) → ((i : Insn) (len : ℕ) → at ≡ Fetches i len → in_range i ≡ true) → NoneShown (fetched_tests b fresh live stale at rec g (fetched_step at code reply g)) → KeepsChain b.range g (fetched_step at code reply g)
+  fetched_keeps (Fails addr) reply ok none = stays (fetched_step (Fails addr) code reply g) k refl refl
+  fetched_keeps SpellsNothing reply ok none = stays (fetched_step SpellsNothing code reply g) k refl refl
   fetched_keeps (Fetches i len) reply ok none =
       let s = ok i len refl in
       let o = sound b fresh live stale i rec g (fetched_step (Fetches i len) code reply g) none in
       done_keeps i len reply (outcome_at code i (known g.seen) g.control) refl (outcome_fits code i g.control.pc _ _ _ _ g.control.ps g.control.threadptr) s o
 
-pub keeps_stack : KeepsStack
-keeps_stack code b fresh live stale rec g k calls ok none =
+keeps_both : (code : ℕ → ℕ) (b : Bounds) (fresh : Bool) (live stale : ℕ → Bool) (rec : StepRecord) (g : FrameState)
+    → Stack b.range.lo b.range.hi g.seen g.frames → g.control.ps.callinc < 4
+    → ((i : Insn) (len : ℕ) → ltb 0 (pending_of g.control) ≡ false → g.control.waits ≡ false → fetched code g.control.pc ≡ Fetches i len → in_range i ≡ true)
+    → laid_breach b fresh code live stale rec g ≡ None → KeepsChain b.range g (laid_step code rec.reply g)
+keeps_both code b fresh live stale rec g k calls ok none =
     let reply = rec.reply in
     ⊎_elim
-    (λ level. subst (KeepsChain b.range) (sym (step_taken code reply g level)) k)
+    (λ level. subst (KeepsChain b.range g) (sym (step_taken code reply g level)) (stays (in_frame (settled_interrupt (pending_of g.control) g.control) reply g) k refl refl))
     (λ quiet. ⊎_elim
-    (λ w. subst (KeepsChain b.range) (sym (step_waits code reply g quiet w)) k)
+    (λ w. subst (KeepsChain b.range g) (sym (step_waits code reply g quiet w)) (stays (in_frame (settled_wait g.control) reply g) k refl refl))
     (λ w.
     let u = step_fetches code reply g quiet w in
     let h0 : first_shown (fetched_tests b fresh live stale (fetched code g.control.pc) rec g (laid_step code reply g)) ≡ None = sym (breach_fetches b fresh code live stale rec g quiet w) ∙ none in
     let h1 = subst (λ v. first_shown (fetched_tests b fresh live stale (fetched code g.control.pc) rec g v) ≡ None) u h0 in
-    subst (KeepsChain b.range) (sym u) (fetched_keeps b fresh live stale rec code g k calls (fetched code g.control.pc) reply (λ i len e. ok i len quiet w e) (none_shown (fetched_tests b fresh live stale (fetched code g.control.pc) rec g (fetched_step (fetched code g.control.pc) code reply g)) h1)))
+    subst (KeepsChain b.range g) (sym u) (fetched_keeps b fresh live stale rec code g k calls (fetched code g.control.pc) reply (λ i len e. ok i len quiet w e) (none_shown (fetched_tests b fresh live stale (fetched code g.control.pc) rec g (fetched_step (fetched code g.control.pc) code reply g)) h1)))
     (cases_Bool g.control.waits))
     (cases_Bool (ltb 0 (pending_of g.control)))
+
+pub keeps_stack : KeepsStack
+keeps_stack code b fresh live stale rec g k calls ok none = (keeps_both code b fresh live stale rec g k calls ok none).0
+
+pub moves_frames : MovesFrames
+moves_frames code b fresh live stale rec g k calls ok none = (keeps_both code b fresh live stale rec g k calls ok none).1
+
+-- the inputs of a record change neither the frames nor the visible registers
+pub moves_as : (inp : Inputs) (f u : FrameState) → Moves (laid inp f) u → Moves f u
+moves_as inp f u (Stays frames sp) = Stays frames sp
+moves_as inp f u (Calls g frames sp) = Calls g frames sp
+moves_as inp f u (Leaves g frames sp) = Leaves g frames sp

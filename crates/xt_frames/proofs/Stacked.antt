@@ -77,7 +77,7 @@ rise_from : (x y : ℕ) (more : List Area) → y ≤ x → Rise x more → Rise 
 rise_from x y [] le h = tt
 rise_from x y (a ∷ more) le h = let b = h.0 in (omega arith, h.1)
 
-rise_more : (lo hi sp n : ℕ) (frames : List Frame) → IsRange lo hi → AreFrames frames → Chain lo hi sp frames → 0 < n → n ≤ 3 → sp + 16 * n ≤ before hi frames → Rise (sp - 16) (areas hi sp n frames)
+pub rise_more : (lo hi sp n : ℕ) (frames : List Frame) → IsRange lo hi → AreFrames frames → Chain lo hi sp frames → 0 < n → n ≤ 3 → sp + 16 * n ≤ before hi frames → Rise (sp - 16) (areas hi sp n frames)
 rise_more lo hi sp n [] r shaped c pos small room = let a = r.room in (omega arith, (omega arith, tt))
 rise_more lo hi sp n (f ∷ fs) r shaped c pos small room =
     let l = c.0 in

@@ -79,3 +79,18 @@ KeepsStack =
     → ((i : Insn) (len : ℕ) → nat_lt 0 (pending_of g.control) ≡ false → g.control.waits ≡ false → fetched code g.control.pc ≡ Fetches i len → in_range i ≡ true)
     → laid_breach b fresh code live stale rec g ≡ None
     → Stack b.range.lo b.range.hi (laid_step code rec.reply g).after.seen (laid_step code rec.reply g).after.frames
+
+-- What a step does to the frames: it leaves them and a1 as they are; or it keeps one frame more, whose a1 is the old a1; or one less, and a1 is the one kept for it.
+pub data Moves (g u : FrameState) : Type 0 where
+  Stays : u.frames ≡ g.frames → known u.seen 1 ≡ known g.seen 1 → Moves g u
+  Calls : (f : Frame) → u.frames ≡ f ∷ g.frames → sp_of f ≡ known g.seen 1 → Moves g u
+  Leaves : (f : Frame) → g.frames ≡ f ∷ u.frames → known u.seen 1 ≡ sp_of f → Moves g u
+
+-- a step that shows no breach moves by one frame at most
+abbrev pub MovesFrames : Type 0
+MovesFrames =
+    (code : ℕ → ℕ) (b : Bounds) (fresh : Bool) (live stale : ℕ → Bool) (rec : StepRecord) (g : FrameState)
+    → Stack b.range.lo b.range.hi g.seen g.frames → g.control.ps.callinc < 4
+    → ((i : Insn) (len : ℕ) → nat_lt 0 (pending_of g.control) ≡ false → g.control.waits ≡ false → fetched code g.control.pc ≡ Fetches i len → in_range i ≡ true)
+    → laid_breach b fresh code live stale rec g ≡ None
+    → Moves g (laid_step code rec.reply g).after

@@ -7,7 +7,7 @@ ghost use Rattle.xt_frames.specs.FrameStep.{laid};
 ghost use Rattle.xt_frames.specs.SaveAreas.{before};
 ghost use Rattle.xt_frames.specs.Breaches.{inputs_of, loads_stale, own_breach, touches_save_area, window_breach};
 ghost use Rattle.xt_frames.specs.Parts.{IsNewest, IsSmall, frames_after, state_at};
-ghost use Rattle.xt_frames.specs.Stacks.{IsRange, Stack};
+ghost use Rattle.xt_frames.specs.Stacks.{IsRange, Moves, Stack};
 ghost use Rattle.xt_frames.specs.Walked.{IsJudged, IsTested, bounds_of, calls_at, found_in, fresh_before, opened, sp_at, stack_of};
 
 use crate::breach::{Case, Limits, breach_of, fresh_after, return_breach, underflows};
@@ -164,8 +164,9 @@ impl Frames {
         stale: bool,
     ) -> Result<(), Breach>
         requires { (live : ℕ → Bool) × (dead : ℕ → Bool) × (touches_save_area live rec.now.access ≡ saves) × (loads_stale live dead rec.now.access ≡ stale) }
-        ensures { (live dead : ℕ → Bool) → touches_save_area live rec.now.access ≡ saves → loads_stale live dead rec.now.access ≡ stale
+        ensures judged { (live dead : ℕ → Bool) → touches_save_area live rec.now.access ≡ saves → loads_stale live dead rec.now.access ≡ stale
             → IsJudged (found_in self.old (constant_byte code.now) live dead index rec.now) self.old (constant_byte code.now) index rec.now result self.new }
+        ensures moves { IfOk result (λ u. Moves self.old.state self.new.state) }
     {
         let case = self.case(index, saves, stale);
         let view = self.laid_view(rec);
@@ -206,6 +207,7 @@ impl Frames {
     /// How many frames have called another.
     pub fn depth(&self) -> u32
         ensures depth { result ≡ length self.now.state.frames }
+        ensures stack { Stack self.now.bounds.range.lo self.now.bounds.range.hi self.now.state.seen self.now.state.frames }
     {
         depth_of(&self.callers)
     }

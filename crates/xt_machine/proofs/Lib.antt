@@ -1,6 +1,6 @@
 pub mod Driven
 pub mod Images
 pub mod Opened
-pub mod Orders
 pub mod Rests
 pub mod Framing
+pub mod Judging

@@ -2,6 +2,5 @@ pub mod Lists
 pub mod Driving
 pub mod Machines
 pub mod Going
-pub mod Ordered
 pub mod Shorts
 pub mod Framed

@@ -1,19 +1,16 @@
 -- The run of an image and a list of cores, and the schedule of a run ('profile').
-use Rattle.std.specs.Prelude.{◌≡◌, ℕ, ◌≤◌, List, length}
-use Rattle.xt_map.specs.declared.access.Entry.{Entry}
-use Rattle.xt_map.specs.History.{IsOfCores, calls_of}
+use Rattle.std.specs.Prelude.{ℕ, List, length}
 use Rattle.xt_trace.specs.declared.options.Options.{Options}
 use Rattle.xt_trace.specs.declared.run.Run.{Run}
 use Rattle.xt_trace.specs.declared.trace.Trace.{Trace}
-use Rattle.xt_trace.specs.Validity.{IsValid}
 use Rattle.xt_image.specs.declared.image.Image.{Image}
 use Rattle.xt_runs.specs.Runs.{run_at}
-use Rattle.xt_runs.specs.Schedule.{cores_of, places_from, schedule}
-use Rattle.xt_runs.specs.Short.{IsRising}
+use Rattle.xt_runs.specs.Schedule.{places_from}
 use Rattle.xt_runs.specs.Traces.{Traced, stop_of}
 use Rattle.xt_exec.specs.Chips.{processor}
 use Rattle.xt_exec.specs.State.{State}
 use Rattle.xt_core.specs.Runs.{code_of, opening_of}
+pub use Rattle.xt_discipline.specs.Schedules.{HasSchedule, IsTraceIn, schedule_in}
 
 -- what is kept of a core's records and last state
 abbrev pub trace_for : ℕ → Traced State → Trace
@@ -36,25 +33,3 @@ run_of_list image o list =
       trace0 = trace_for 0 r.trace0;
       trace1 = trace_for 1 r.trace1;
     }
-
--- The schedule of a run: for each entry of the history in order, the turns of its core after its
--- previous access, up to and with this one; then the rest of core 0's turns, and then the rest of
--- core 1's.
-abbrev pub schedule_in : Run → List ℕ
-schedule_in r =
-    schedule (cores_of r.history) r.trace0.places r.trace0.count r.trace1.places r.trace1.count
-
--- a core's trace is no longer than its turns, its places rise and lie in it, and there are as many
--- of them as the history has entries of the core
-pub record IsTraceIn (history : List Entry) (core turns : ℕ) (t : Trace) : Type 0 where
-  pub core_is : t.core ≡ core
-  pub short : t.count ≤ turns
-  pub rise : IsRising 0 t.places t.count
-  pub calls : length t.places ≡ length (calls_of core history)
-
--- a run has a schedule
-pub record HasSchedule (r : Run) : Type 0 where
-  pub valid : IsValid r.options
-  pub cores : IsOfCores r.history
-  pub trace0 : IsTraceIn r.history 0 r.options.turns0 r.trace0
-  pub trace1 : IsTraceIn r.history 1 r.options.turns1 r.trace1

@@ -5,7 +5,6 @@ mod driving;
 mod files;
 mod laws;
 mod machine;
-mod order;
 mod pair;
 mod scheduled;
 mod threads;
@@ -16,9 +15,9 @@ pub use laws::{
     run_has_schedule, run_is_that_of_its_schedule, run_of_list_is_run, runs_are_framed,
 };
 pub use machine::Machine;
-pub use order::{Schedule, schedule_of};
 pub use scheduled::run_schedule;
 pub use threads::run;
+pub use xt_discipline::{Schedule, schedule_of};
 
 #[cfg(test)]
 mod tests;

@@ -1,4 +1,5 @@
 pub mod Alone
 pub mod Bits
+pub mod Fronts
 pub mod Nearest
 pub mod Undone

@@ -3,3 +3,4 @@ pub mod Values
 pub mod Moves
 pub mod Answers
 pub mod Laws
+pub mod Kept

@@ -4,6 +4,7 @@
 #![tactic(auto)]
 
 mod file;
+mod front;
 pub mod laws;
 pub mod ring;
 #[cfg(test)]
@@ -11,4 +12,5 @@ mod tests;
 mod windows;
 
 pub use file::WindowFile;
+pub use front::FrontFile;
 pub use windows::{Overflow, Return, Windows};

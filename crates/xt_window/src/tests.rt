@@ -1,5 +1,5 @@
 //! States of the ring, worked out by hand.
-use crate::{Overflow, Return, WindowFile, Windows};
+use crate::{FrontFile, Overflow, Return, WindowFile, Windows};
 
 fn file(base: u8, start: u16) -> WindowFile {
     let mut file = WindowFile::new();
@@ -44,4 +44,22 @@ fn checks_and_calls(rt: HostRuntime) {
     file.rotate(-3);
     assert_eq!(rt; file.base(), 15);
     assert_eq!(rt; file.read(13), 7);
+}
+
+/// Writes in three windows, and reads the first of them and the last register of the ring's last window.
+fn read_across<W: Windows + Drop>(mut file: W) -> (u32, u32) {
+    file.set_base(12);
+    file.write(12, 9);
+    file.set_base(0);
+    file.write(0, 5);
+    file.set_base(4);
+    file.write(0, 7);
+    file.set_base(15);
+    (file.read(4), file.read(0))
+}
+
+#[test]
+fn windows_run_round_the_ring(rt: HostRuntime) {
+    assert_eq!(rt; read_across(WindowFile::new()), (5, 9));
+    assert_eq!(rt; read_across(FrontFile::new()), (5, 9));
 }

@@ -1,6 +1,7 @@
-use Rattle.std.proofs.Common.{◌≡◌, sym, ◌∙◌, ap, arith, length}
+use Rattle.std.proofs.Common.{◌≡◌, sym, ◌∙◌, ap, arith, length, subst}
 use Rattle.xt_frames.specs.Frames.{known}
 use Rattle.xt_frames.specs.Parts.{frames_of}
+use Rattle.xt_frames.specs.Stacks.{Stack}
 use Rattle.xt_frames.specs.Walked.{Walked}
 use Rattle.xt_frames.proofs.Newest.{frames_length}
 use Rattle.xt_frames.proofs.Stacked.{chain_depth}
@@ -20,4 +21,5 @@ pub returns : goal.returns
 returns c =
     let items = c.self.inside.callers.items in
     let e = c.depth_of.ensures ∙ (ap length c.deref.ensures.value ∙ (sym (frames_length items) ∙ ap (λ (w : Walked). length w.state.frames) c.self.view_is)) in
-    record { depth = e }
+    let P : Walked → Type 0 = λ w. Stack w.bounds.range.lo w.bounds.range.hi w.state.seen w.state.frames in
+    record { depth = e; stack = subst P c.self.view_is c.self.invariant.stack }

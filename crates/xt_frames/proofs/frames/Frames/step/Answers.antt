@@ -6,4 +6,4 @@ pub judge-requires : goal.judge-requires
 judge-requires c = (λ a. false, λ a. false, saves_nowhere c.args.rec.now.access, loads_nowhere c.args.rec.now.access)
 
 pub returns : goal.returns
-returns c = c.judge.ensures (λ a. false) (λ a. false) (saves_nowhere c.args.rec.now.access) (loads_nowhere c.args.rec.now.access)
+returns c = c.judge.ensures.judged (λ a. false) (λ a. false) (saves_nowhere c.args.rec.now.access) (loads_nowhere c.args.rec.now.access)

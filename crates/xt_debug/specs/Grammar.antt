@@ -1,0 +1,95 @@
+-- The grammar of scripts, and which script a text is ('profile'). A text is the list of its bytes.
+use Rattle.std.specs.Prelude.{ℕ, ◌<◌, ◌≤◌, ◌==◌, nat_lt, nat_le, if◌then◌else◌, Option, Some, None, List, [], ◌∷◌, length, filter, codes}
+use Rattle.std.specs.List.{list_all, slice_split}
+use Rattle.std.specs.Option.{option_map}
+use Rattle.std.specs.Str.{bytes_eq}
+use Rattle.xt_words.specs.Numbers.{number_of}
+use Rattle.xt_debug.specs.declared.script.Command.{Command}
+use Rattle.xt_debug.specs.declared.script.Command.TheVariants as command
+
+-- ---- operands
+
+abbrev pub at_most : ℕ → Option ℕ → Option ℕ
+at_most most None = None
+at_most most (Some n) = if nat_le n most then Some n else None
+
+-- a core is any number of value 0 or 1
+unfoldable pub core_of : List ℕ → Option ℕ
+core_of word = at_most 1 (number_of word)
+
+-- the most bytes that `mem` prints
+abbrev pub most_bytes : ℕ
+most_bytes = 64
+
+unfoldable pub byte_count_of : List ℕ → Option ℕ
+byte_count_of word = at_most most_bytes (number_of word)
+
+-- ---- commands
+
+abbrev pub with_both : (ℕ → ℕ → Command) → Option ℕ → Option ℕ → Option Command
+with_both make (Some a) (Some b) = Some (make a b)
+with_both make (Some a) None = None
+with_both make None second = None
+
+-- a command with one operand
+unfoldable pub command_of_one : List ℕ → List ℕ → Option Command
+command_of_one name word =
+    if bytes_eq name (codes "next") then option_map command.Next (number_of word)
+    else if bytes_eq name (codes "back") then option_map command.Back (number_of word)
+    else if bytes_eq name (codes "watch") then option_map command.Watch (number_of word)
+    else if bytes_eq name (codes "regs") then option_map command.Regs (core_of word)
+    else if bytes_eq name (codes "frames") then option_map command.Frames (core_of word)
+    else None
+
+-- a command with two operands
+unfoldable pub command_of_two : List ℕ → List ℕ → List ℕ → Option Command
+command_of_two name first second =
+    if bytes_eq name (codes "go") then with_both command.Go (core_of first) (number_of second)
+    else if bytes_eq name (codes "break") then
+    with_both command.Break (core_of first) (number_of second)
+    else if bytes_eq name (codes "mem") then
+    with_both command.Mem (number_of first) (byte_count_of second)
+    else None
+
+abbrev pub command_of_words : List (List ℕ) → Option Command
+command_of_words [] = None
+command_of_words (name ∷ []) = None
+command_of_words (name ∷ word ∷ []) = command_of_one name word
+command_of_words (name ∷ first ∷ second ∷ []) = command_of_two name first second
+command_of_words (name ∷ first ∷ second ∷ third ∷ more) = None
+
+-- ---- texts
+
+-- the words of a text: what stands between spaces
+abbrev pub words_of : List ℕ → List (List ℕ)
+words_of text = filter (λ word. nat_lt 0 (length word)) (slice_split (λ byte. byte == 32) text)
+
+abbrev pub and_all : Option Command → Option (List Command) → Option (List Command)
+and_all (Some c) (Some cs) = Some (c ∷ cs)
+and_all (Some c) None = None
+and_all None cs = None
+
+-- the commands of these texts, where each is one
+abbrev pub commands_of : List (List ℕ) → Option (List Command)
+commands_of [] = Some []
+commands_of (text ∷ texts) = and_all (command_of_words (words_of text)) (commands_of texts)
+
+-- The script that a text is: no command in a text of no bytes but spaces; else each part between
+-- semicolons is a command.
+unfoldable pub script_of : List ℕ → Option (List Command)
+script_of text =
+    if list_all (λ byte. byte == 32) text then Some []
+    else commands_of (slice_split (λ byte. byte == 59) text)
+
+-- ---- commands that can be run
+
+-- the core is 0 or 1, and not too many bytes are printed
+abbrev pub IsInRange : Command → Type 0
+IsInRange (command.Go c n) = c < 2
+IsInRange (command.Break c addr) = c < 2
+IsInRange (command.Regs c) = c < 2
+IsInRange (command.Frames c) = c < 2
+IsInRange (command.Mem addr n) = n ≤ most_bytes
+IsInRange (command.Next n) = Unit {0}
+IsInRange (command.Back n) = Unit {0}
+IsInRange (command.Watch addr) = Unit {0}

@@ -1,0 +1,11 @@
+//! Scripts that walk a run: their grammar, and what they print.
+#![tactic(auto)]
+
+mod parsing;
+mod script;
+
+pub use parsing::parse_script;
+pub use script::{Command, Script, ScriptFault};
+
+#[cfg(test)]
+mod parsing_tests;

@@ -1,0 +1,137 @@
+//! Which script a text is.
+ghost use Rattle.std.specs.Prelude.{◌≡◌, ◌<◌, ◌≤◌, ◌==◌, All, IfOk, IfSome, map};
+ghost use Rattle.std.specs.List.{list_all, slice_split};
+ghost use Rattle.xt_debug.specs.Grammar.{byte_count_of, command_of_one, command_of_two, command_of_words, commands_of, core_of, script_of, words_of, IsInRange};
+ghost use Rattle.xt_debug.specs.Answers.{Reads};
+
+use crate::script::{Command, Script, ScriptFault};
+use std::alloc::{AllocError, Global};
+use xt_words::number;
+
+// The core that a word names.
+#[tactic(auto, unfolding(crate::specs::Grammar::core_of))]
+fn core_in(word: &str) -> Option<u8>
+    ensures value { result ≡ core_of word.now }
+    ensures range { IfSome result (λ core. core < 2) }
+{
+    match number(word)? {
+        0 => Some(0),
+        1 => Some(1),
+        _ => None,
+    }
+}
+
+// The number of bytes that a word asks for.
+#[tactic(auto, unfolding(crate::specs::Grammar::byte_count_of))]
+fn byte_count_in(word: &str) -> Option<u32>
+    ensures value { result ≡ byte_count_of word.now }
+    ensures range { IfSome result (λ count. count ≤ 64) }
+{
+    let count = number(word)?;
+    (count <= 64).then_some(count)
+}
+
+#[tactic(auto, unfolding(crate::specs::Grammar::command_of_one))]
+fn command_with_one(name: &str, word: &str) -> Option<Command>
+    ensures value { result ≡ command_of_one name.now word.now }
+    ensures range { IfSome result IsInRange }
+{
+    match name {
+        "next" => Some(Command::Next(number(word)?)),
+        "back" => Some(Command::Back(number(word)?)),
+        "watch" => Some(Command::Watch(number(word)?)),
+        "regs" => Some(Command::Regs(core_in(word)?)),
+        "frames" => Some(Command::Frames(core_in(word)?)),
+        _ => None,
+    }
+}
+
+#[tactic(auto, unfolding(crate::specs::Grammar::command_of_two))]
+fn command_with_two(name: &str, first: &str, second: &str) -> Option<Command>
+    ensures value { result ≡ command_of_two name.now first.now second.now }
+    ensures range { IfSome result IsInRange }
+{
+    match name {
+        "go" => Some(Command::Go(core_in(first)?, number(second)?)),
+        "break" => Some(Command::Break(core_in(first)?, number(second)?)),
+        "mem" => Some(Command::Mem(number(first)?, byte_count_in(second)?)),
+        _ => None,
+    }
+}
+
+fn command_in_words(words: &[&str]) -> Option<Command>
+    ensures value { result ≡ command_of_words (map (λ word. word.now) words.now) }
+    ensures range { IfSome result IsInRange }
+{
+    match words {
+        [name, word] => command_with_one(name, word),
+        [name, first, second] => command_with_two(name, first, second),
+        _ => None,
+    }
+}
+
+// The words of a text, which spaces separate.
+fn words_in<'a>(alloc: Global, text: &'a str) -> Result<Vec<&'a str>, AllocError>
+    ensures { IfOk result (λ words. map (λ word. word.now) words.items ≡ words_of text.now) }
+{
+    text.split(' ')
+        .filter(|word| !word.is_empty())
+        .collect(alloc)
+}
+
+fn command_in(alloc: Global, text: &str) -> Result<Option<Command>, AllocError>
+    ensures value { IfOk result (λ command. command ≡ command_of_words (words_of text.now)) }
+    ensures range { IfOk result (λ command. IfSome command IsInRange) }
+{
+    let words = words_in(alloc, text)?;
+    Ok(command_in_words(&words))
+}
+
+// The texts between semicolons.
+fn parts_in<'a>(alloc: Global, text: &'a str) -> Result<Vec<&'a str>, AllocError>
+    ensures { IfOk result (λ parts. map (λ part. part.now) parts.items ≡ slice_split (λ byte. byte == 59) text.now) }
+{
+    text.split(';').collect(alloc)
+}
+
+// The commands of these texts, each of which has to be one.
+fn commands_in(alloc: Global, parts: &[&str]) -> Result<Script, ScriptFault>
+    ensures means { Reads result (commands_of (map (λ part. part.now) parts.now)) }
+    ensures range { IfOk result (λ script. All IsInRange script) }
+{
+    let mut commands = Vec::new(alloc);
+    for part in parts {
+        match command_in(alloc, part)? {
+            Some(command) => commands.push(command)?,
+            None => return Err(ScriptFault::Bad),
+        }
+    }
+    Ok(Script::new(commands))
+}
+
+fn is_blank(text: &[u8]) -> bool
+    ensures { result ≡ list_all (λ byte. byte == 32) text.now }
+{
+    text.iter().all(|byte| *byte == b' ')
+}
+
+/// The script that a text is: commands that `;` separates, of words that spaces separate.
+///
+/// ```text
+/// go C N      next N      back N      break C ADDR      watch ADDR      regs C      mem ADDR N      frames C
+/// ```
+///
+/// Each number is decimal digits, or `0x` and one to eight hexadecimal digits, below 2^32; C is 0 or 1, and the N of `mem`
+/// at most 64. A text of no bytes but spaces is the script with no command; otherwise a command without words is no
+/// command. `Bad` says that the text is no script, `Memory` is too little memory alone.
+#[tactic(auto, unfolding(crate::specs::Grammar::script_of))]
+pub fn parse_script(alloc: Global, text: &str) -> Result<Script, ScriptFault>
+    ensures means { Reads result (script_of text.now) }
+    ensures range { IfOk result (λ script. All IsInRange script) }
+{
+    if is_blank(text.as_bytes()) {
+        return Ok(Script::new(Vec::new(alloc)));
+    }
+    let parts = parts_in(alloc, text)?;
+    commands_in(alloc, &parts)
+}

@@ -1,0 +1,85 @@
+ghost use Rattle.std.specs.Prelude.{◌≡◌};
+ghost use Rattle.xt_debug.specs.declared.script.ScriptFault.TheVariants.{Memory};
+
+use std::alloc::{AllocError, AllocFailed};
+use std::marker::Model;
+use thiserror::Error;
+
+/// A command of a script. A core is 0 or 1, a position a number of steps of the run's schedule.
+#[derive(Clone, Copy, Debug, PartialEq, Eq)]
+pub enum Command {
+    /// `go C N`: to the position directly before this core's step of this number.
+    Go(u8, u32),
+    /// `next N`: this many positions on.
+    Next(u32),
+    /// `back N`: this many positions back.
+    Back(u32),
+    /// `break C ADDR`: to the first later position where this core is next, with this program counter.
+    Break(u8, u32),
+    /// `watch ADDR`: directly after the next step that stores into the word at this address.
+    Watch(u32),
+    /// `regs C`: prints the registers of this core.
+    Regs(u8),
+    /// `mem ADDR N`: prints this many bytes, at most 64, from this address on.
+    Mem(u32, u32),
+    /// `frames C`: prints how many frames of callers this core has.
+    Frames(u8),
+}
+
+/// A list of commands. Contracts see the list.
+#[derive(Drop)]
+pub struct Script {
+    items: Vec<Command>,
+}
+
+impl Model for Script {
+    ghost use Rattle.std.specs.Prelude.{List};
+    ghost use Rattle.xt_debug.specs.declared.script.Command.{Command};
+
+    ghost Value = { List Command };
+
+    ghost view = { λ s. s.items.items };
+}
+
+impl Script {
+    /// These commands, without a copy.
+    pub fn new(items: Vec<Command>) -> Script
+        ensures { result ≡ items.items }
+    {
+        Script { items }
+    }
+
+    /// The commands.
+    pub fn as_slice(&self) -> &[Command]
+        ensures { result.now ≡ self.now }
+    {
+        &self.items
+    }
+}
+
+/// Why a text is no script.
+#[derive(Clone, Copy, Debug, PartialEq, Eq, Error)]
+pub enum ScriptFault {
+    /// The text is not a list of commands.
+    #[error("no script")]
+    Bad,
+    /// There is not enough memory for the script.
+    #[error("out of memory")]
+    Memory,
+}
+
+impl From<AllocError> for ScriptFault {
+    ghost from_gives = { λ _ e. e ≡ Memory };
+
+    fn from(_: AllocError) -> Self {
+        ScriptFault::Memory
+    }
+}
+
+impl<T: Drop> From<AllocFailed<T>> for ScriptFault {
+    ghost from_gives = { λ _ e. e ≡ Memory };
+
+    fn from(_: AllocFailed<T>) -> Self {
+        ScriptFault::Memory
+    }
+}

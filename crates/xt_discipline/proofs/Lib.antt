@@ -1,0 +1,12 @@
+pub mod Marks
+pub mod Lives
+pub mod Known
+pub mod Calls
+pub mod Moved
+pub mod Seeing
+pub mod Walking
+pub mod Opens
+pub mod Orders
+pub mod Lengths
+pub mod Answered
+pub mod Openings

@@ -1,0 +1,6 @@
+use Rattle.std.proofs.Common.{◌≡◌, replicate}
+use Rattle.xt_discipline.specs.Bytes.{nothing}
+use Rattle.xt_discipline.proofs.walk.unmarked.Given as goal
+
+abbrev pub invariant-loop-byte : goal.invariant-loop-byte
+invariant-loop-byte l = l.marks.items ≡ replicate l._byte nothing

@@ -1,0 +1,76 @@
+-- One core of the walk of the judge ('profile').
+use Rattle.std.specs.Prelude.{◌≡◌, ℕ, suc, ◌+◌, ◌≤◌, ◌^◌, Bool, true, ◌||◌, if◌then◌else◌, Option, Some, None, Result, Ok, Err, List, ◌∷◌, length}
+use Rattle.xt_map.specs.Touching.{touches}
+use Rattle.xt_frames.specs.SaveAreas.{is_live}
+use Rattle.xt_frames.specs.Frames.{Frame, FrameState, known}
+use Rattle.xt_frames.specs.Stacks.{Calls, Moves, Stays}
+use Rattle.xt_frames.specs.Stacks as moves
+use Rattle.xt_frames.specs.declared.kinds.Breach.{Breach}
+use Rattle.xt_frames.specs.declared.kinds.BreachKind.{BreachKind}
+use Rattle.xt_frames.specs.HandlerSteps.{Mode, Plain, Handles}
+use Rattle.xt_frames.specs.Judging.{Standing, Seen, Handled, Judges, Breaks}
+use Rattle.xt_frames.specs.Walked.{Walked, fresh_before}
+use Rattle.xt_discipline.specs.declared.bytes.Held.{Held}
+use Rattle.xt_discipline.specs.declared.bytes.Change.TheVariants.{Enters, Leaves}
+use Rattle.xt_discipline.specs.declared.side.Areas.{Areas}
+use Rattle.xt_discipline.specs.declared.side.Side.{Side}
+use Rattle.xt_discipline.specs.Bytes.{AreChanged, KnowsOf, first, opened_at}
+
+-- the byte lies in one of both areas
+abbrev pub in_areas : Areas → ℕ → Bool
+in_areas x a = touches x.low 16 a || touches x.high x.size a
+
+-- the live bytes of a core
+abbrev pub live_in : Walked → ℕ → Bool
+live_in w a = is_live w.bounds.range w.state a
+
+-- its number and the end of its stack are those of its frames, its stack lies in internal data
+-- memory, and the last judged record comes before the next one
+pub record IsSide (s : Side) : Type 0 where
+  pub core_is : s.frames.core ≡ s.core
+  pub end_is : s.frames.bounds.range.hi ≡ s.hi
+  pub low : first ≤ s.frames.bounds.range.lo
+  pub high : s.frames.bounds.range.hi ≤ 2 ^ 30
+  pub past : s.frames.next ≤ s.steps
+
+-- the areas of the newest call, none where there is none
+abbrev pub IsCallOf : Option Areas → ℕ → FrameState → Type 0
+IsCallOf None hi g = length g.frames ≡ 0
+IsCallOf (Some x) hi g =
+    (f : Frame) (fs : List Frame) → g.frames ≡ f ∷ fs → (a : ℕ) → in_areas x a ≡ opened_at hi (known g.seen 1) f fs a
+
+-- what becomes of the marks: nothing, or the areas of a call come in, or go
+abbrev pub IsFollowed : (core hi : ℕ) (g u : FrameState) → Moves g u → List Held → List Held → Type 0
+IsFollowed core hi g u (Stays e s) mid new = new ≡ mid
+IsFollowed core hi g u (Calls f e s) mid new = AreChanged (Enters core) (opened_at hi (known u.seen 1) f g.frames) mid new
+IsFollowed core hi g u (moves.Leaves f e s) mid new = AreChanged (Leaves core) (opened_at hi (known g.seen 1) f u.frames) mid new
+
+-- ---- a record of the core
+
+-- what the definition of the verdict knows of the core
+abbrev pub mode_of : Bool → Mode
+mode_of handles = if handles then Handles else Plain
+
+abbrev pub standing_of : Side → Standing
+standing_of s = record { frame = s.frames.state; fresh = fresh_before s.frames s.steps; mode = mode_of s.handles }
+
+-- the core past one record more, which leaves it so, and the marks as those of these bytes
+pub record IsPast (old new : Side) (marks : List Held) (others stale : ℕ → Bool) (st : Standing) : Type 0 where
+  pub side : IsSide new
+  pub core_is : new.core ≡ old.core
+  pub bounds_are : new.frames.bounds ≡ old.frames.bounds
+  pub steps_are : new.steps ≡ suc old.steps
+  pub standing_is : standing_of new ≡ st
+  pub marks_are : KnowsOf old.core marks (is_live old.frames.bounds.range st.frame) others stale
+
+-- the answer is what the definition sees in the record
+abbrev pub IsSeen : Side → Side → List Held → (ℕ → Bool) → (ℕ → Bool) → Seen → Result Unit Breach → Type 0
+IsSeen old new marks others stale (Handled st) (Ok u) = IsPast old new marks others stale st
+IsSeen old new marks others stale (Judges st after) (Ok u) = IsPast old new marks others after st
+IsSeen old new marks others stale (Breaks kind) (Err b) = b ≡ record { core = old.core; step = old.steps; kind = kind }
+IsSeen old new marks others stale _ _ = ⊥
+
+-- handler steps begin, where the record that begins them shows no breach
+abbrev pub Begins : Option BreachKind → Side → Result Unit Breach → Side → Type 0
+Begins found old (Ok u) new = (found ≡ None) × (new ≡ record old { handles = true; steps = old.steps + 1 })
+Begins found old (Err b) new = (found ≡ Some b.kind) × (b.core ≡ old.frames.core) × (b.step ≡ old.steps)

@@ -1,0 +1,13 @@
+//! The schedule of a run, and the judge: where a run first leaves the discipline of stacks and save areas.
+#![tactic(auto)]
+
+mod accesses;
+mod bytes;
+mod judging;
+mod order;
+mod side;
+mod walk;
+
+pub use judging::judge;
+pub use order::{Schedule, schedule_of};
+pub use xt_frames::Judged;

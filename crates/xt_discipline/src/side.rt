@@ -1,0 +1,230 @@
+//! One core of the walk.
+#![tactic(auto)]
+
+ghost use Rattle.std.specs.Prelude.{◌≡◌, ◌≤◌, ◌<◌, ◌+◌, ◌-◌, ◌*◌, ◌^◌, ℕ, Bool, true, false, not, List, length, ◌∷◌};
+ghost use Rattle.xt_map.specs.Memory.{constant_byte};
+ghost use Rattle.xt_frames.specs.Frames.{Frame, FrameState, known};
+ghost use Rattle.xt_frames.specs.FrameStep.{laid};
+ghost use Rattle.xt_frames.specs.HandlerSteps.{closes, ends_stretch, is_window};
+ghost use Rattle.xt_frames.specs.Judging.{seen, seen_step};
+ghost use Rattle.xt_frames.specs.Stacks.{Moves, Stack};
+ghost use Rattle.xt_frames.specs.Breaches.{breach_of, inputs_of, stores_at, window_breach};
+ghost use Rattle.xt_frames.specs.Walked.{IsTested, fresh_before, sp_at};
+ghost use Rattle.xt_discipline.specs.Bytes.{AreChanged, KnowsOf, either, opened_at};
+ghost use Rattle.xt_discipline.specs.declared.bytes.Change.TheVariants.{Stored};
+ghost use Rattle.xt_discipline.specs.Sides.{Begins, IsCallOf, IsFollowed, IsSeen, IsSide, in_areas, live_in, standing_of};
+
+use crate::accesses::{loads, saves};
+use crate::bytes::{Change, Held, change_bytes};
+use xt_frames::{Breach, Fetch, Frames, instruction_at};
+use xt_isa::Insn;
+use xt_isa::system::{ReturnName, System};
+use xt_map::{Access, Constants, Kind};
+use xt_trace::{StepKind, StepRecord};
+
+/// The two save areas of a call.
+#[derive(Clone, Copy)]
+pub struct Areas {
+    /// The first of the 16 bytes below the callee's stack pointer.
+    pub low: u32,
+    /// The first of the bytes that end 16 below the stack pointer of the caller's caller.
+    pub high: u32,
+    /// How many those are.
+    pub size: u32,
+}
+
+/// One core of the walk.
+#[derive(Drop)]
+pub struct Side {
+    pub core: u8,
+    pub hi: u32,
+    pub frames: Frames,
+    // Whether the records are handler steps.
+    pub handles: bool,
+    // The number of the next record.
+    pub steps: u32,
+}
+
+/// Changes what is known of the bytes of two areas.
+fn change_areas(marks: &mut [Held], change: Change, areas: Areas)
+    ensures len { length marks.new ≡ length marks.old }
+    ensures bytes { AreChanged change (in_areas areas) marks.old marks.new }
+{
+    change_bytes(marks, change, u64::from(areas.low), 16);
+    change_bytes(marks, change, u64::from(areas.high), u64::from(areas.size));
+}
+
+/// A judged store makes the bytes that it touches fresh.
+fn store(marks: &mut [Held], access: Option<Access>)
+    ensures len { length marks.new ≡ length marks.old }
+    ensures bytes { AreChanged Stored (stores_at access) marks.old marks.new }
+{
+    if let Some(access) = access {
+        if let Kind::Store(_) = access.kind {
+            change_bytes(
+                marks,
+                Change::Stored,
+                u64::from(access.addr),
+                u64::from(access.size),
+            );
+        }
+    }
+}
+
+#[tactic(auto, unfolding(xt_frames::specs::HandlerSteps::ends_stretch))]
+fn ends_stretch(insn: Insn) -> bool
+    ensures { result ≡ ends_stretch insn }
+{
+    matches!(
+        insn,
+        Insn::System(System::Rfe(ReturnName::Rfwo | ReturnName::Rfwu))
+    )
+}
+
+/// Whether a record is of an RFWO or RFWU, by the bytes at its PC.
+fn closes(code: &Constants, rec: &StepRecord) -> bool
+    ensures { result ≡ closes (constant_byte code.now) rec.now.kind rec.now.pc }
+{
+    match rec.kind {
+        StepKind::Insn => match instruction_at(code, rec.pc) {
+            Fetch::Insn(insn, _) => ends_stretch(insn),
+            _ => false,
+        },
+        _ => false,
+    }
+}
+
+/// Whether a record is that of a window exception.
+fn is_window(kind: StepKind) -> bool
+    ensures { result ≡ is_window kind }
+{
+    matches!(kind, StepKind::Window(_))
+}
+
+impl Side {
+    /// The stack pointer of the caller of frame `j`, or HI.
+    fn under(&self, j: u32) -> u32
+        requires { j < length self.now.frames.state.frames }
+        ensures first { j ≡ 0 → result ≡ self.now.hi }
+        ensures more { 0 < j → result ≡ sp_at self.now.frames (j - 1) }
+    {
+        if j == 0 {
+            self.hi
+        } else {
+            self.frames.sp(j - 1)
+        }
+    }
+
+    /// The areas of the newest call.
+    fn areas(&self) -> Areas
+        requires side { IsSide self.now }
+        requires called { 0 < length self.now.frames.state.frames }
+        ensures { (f : Frame) (fs : List Frame) → self.now.frames.state.frames ≡ f ∷ fs
+            → (a : ℕ) → in_areas result a ≡ opened_at self.now.hi (known self.now.frames.state.seen 1) f fs a }
+    {
+        let depth = self.frames.depth();
+        let n = u32::from(self.frames.calls(depth - 1));
+        let top = self.under(depth - 1);
+        Areas {
+            low: self.frames.sp(depth) - 16,
+            high: top - 16 * n,
+            size: 16 * (n - 1),
+        }
+    }
+
+    /// The areas of the newest call, none where there is none.
+    fn newest(&self) -> Option<Areas>
+        requires { IsSide self.now }
+        ensures { IsCallOf result self.now.hi self.now.frames.state }
+    {
+        if self.frames.depth() == 0 {
+            None
+        } else {
+            Some(self.areas())
+        }
+    }
+
+    /// Follows the frames, which were `depth` in number before the step, with the newest call's areas `call`.
+    fn follow(&self, marks: &mut [Held], depth: u32, call: Option<Areas>)
+        requires { IsSide self.now }
+        ensures len { length marks.new ≡ length marks.old }
+        ensures stack { Stack self.now.frames.bounds.range.lo self.now.frames.bounds.range.hi self.now.frames.state.seen self.now.frames.state.frames }
+        ensures follows { (g : FrameState) (m : Moves g self.now.frames.state) → depth ≡ length g.frames → IsCallOf call self.now.hi g
+            → IsFollowed self.now.core self.now.hi g self.now.frames.state m marks.old marks.new }
+    {
+        if depth < self.frames.depth() {
+            change_areas(marks, Change::Enters(self.core), self.areas());
+        } else if self.frames.depth() < depth {
+            if let Some(areas) = call {
+                change_areas(marks, Change::Leaves(self.core), areas);
+            }
+        }
+    }
+
+    /// Judges a record outside handler steps: a breach, after which nothing has changed, or the frame step, whose save areas the marks
+    /// follow.
+    fn judge(
+        &mut self,
+        code: &Constants,
+        marks: &mut [Held],
+        rec: &StepRecord,
+    ) -> Result<(), Breach>
+        requires side { IsSide self.old }
+        requires room { self.old.steps + 1 < 2 ^ 32 }
+        requires plain { self.old.handles ≡ false }
+        requires len { length marks.old ≡ 0x52000 }
+        ensures len { length marks.new ≡ length marks.old }
+        ensures seen { (others stale : ℕ → Bool) → KnowsOf self.old.core marks.old (live_in self.old.frames) others stale
+            → IsSeen self.old self.new marks.new others stale
+            (seen_step (breach_of self.old.frames.bounds (fresh_before self.old.frames self.old.steps) (constant_byte code.now) (either (live_in self.old.frames) others) stale rec.now self.old.frames.state)
+            (constant_byte code.now) self.old.frames.bounds (standing_of self.old) others stale rec.now) result }
+    {
+        let saves = saves(marks, rec.access);
+        let stale = loads(marks, rec.access);
+        let depth = self.frames.depth();
+        let call = self.newest();
+        self.frames.judge(code, self.steps, rec, saves, stale)?;
+        self.steps += 1;
+        store(marks, rec.access);
+        self.follow(marks, depth, call);
+        Ok(())
+    }
+
+    /// Tests the record of a window exception outside handler steps: a breach, after which nothing has changed, or the first of the
+    /// handler steps.
+    fn begin(&mut self, code: &Constants, rec: &StepRecord) -> Result<(), Breach>
+        requires { self.old.steps + 1 < 2 ^ 32 }
+        ensures { Begins (window_breach (constant_byte code.now) rec.now.kind (laid (inputs_of rec.now) self.old.frames.state)) self.old result self.new }
+    {
+        self.frames.test(code, self.steps, rec)?;
+        self.handles = true;
+        self.steps += 1;
+        Ok(())
+    }
+
+    /// Sees the core's next record, which is a handler step or judged.
+    pub fn see(
+        &mut self,
+        code: &Constants,
+        marks: &mut [Held],
+        rec: &StepRecord,
+    ) -> Result<(), Breach>
+        requires side { IsSide self.old }
+        requires room { self.old.steps + 1 < 2 ^ 32 }
+        requires len { length marks.old ≡ 0x52000 }
+        ensures len { length marks.new ≡ length marks.old }
+        ensures seen { (others stale : ℕ → Bool) → KnowsOf self.old.core marks.old (live_in self.old.frames) others stale
+            → IsSeen self.old self.new marks.new others stale
+            (seen (constant_byte code.now) self.old.frames.bounds (standing_of self.old) others stale rec.now) result }
+    {
+        if self.handles {
+            self.handles = !closes(code, rec);
+            self.steps += 1;
+            return Ok(());
+        }
+        if is_window(rec.kind) {
+            return self.begin(code, rec);
+        }
+        self.judge(code, marks, rec)
+    }
+}

@@ -1,0 +1,169 @@
+//! The walk over the records of both cores.
+#![tactic(auto)]
+
+ghost use Rattle.std.specs.Prelude.{◌≡◌, ◌+◌, ◌<◌, ◌^◌, ℕ, Bool, false, IfOk, All, length, replicate};
+ghost use Rattle.xt_map.specs.Memory.{constant_byte};
+ghost use Rattle.xt_trace.specs.declared.options.Options.{Options};
+ghost use Rattle.xt_trace.specs.Validity.{IsValid};
+ghost use Rattle.xt_frames.specs.Breaches.{Bounds};
+ghost use Rattle.xt_frames.specs.Stacks.{IsRange};
+ghost use Rattle.xt_frames.specs.Verdict.{Known, judgement, verdict_on};
+ghost use Rattle.xt_frames.specs.Walked.{opened, stack_of};
+ghost use Rattle.xt_discipline.specs.Bytes.{AreOpened, IsEnd, KnowsOf, held_at, nothing};
+ghost use Rattle.xt_discipline.specs.Sides.{IsSide, live_in};
+ghost use Rattle.xt_discipline.specs.Walks.{IsOpened, IsTurned, Knows, Turns};
+
+use crate::bytes::{Change, Held, change_bytes, nothing};
+use crate::side::Side;
+use std::alloc::{AllocError, Global};
+use xt_frames::{Frames, Judged};
+use xt_map::Constants;
+use xt_trace::{Options, Records};
+
+/// The walk so far.
+#[derive(Drop)]
+pub struct Walk {
+    code: Constants,
+    side0: Side,
+    side1: Side,
+    // What is known of each byte of internal data memory.
+    marks: Vec<Held>,
+}
+
+/// A core as it opens.
+#[tactic(auto, using(crate::proofs::Opens::range_of_core))]
+fn side_of(alloc: Global, core: u8, pc: u32, options: &Options, hi: u32) -> Result<Side, AllocError>
+    requires core { core < 2 }
+    requires valid { IsValid options.now }
+    requires end { hi ≡ (stack_of core options.now).hi }
+    ensures { IfOk result (λ s. s ≡ record { core = core; hi = hi; frames = opened core pc options.now; handles = false; steps = 0 }) }
+{
+    Ok(Side {
+        core,
+        hi,
+        frames: Frames::make(alloc, core, pc, options)?,
+        handles: false,
+        steps: 0,
+    })
+}
+
+/// Each stack opens with a word 76 below its end, which lies in a live save area.
+fn open_stacks(marks: &mut [Held], hi0: u32, hi1: u32)
+    requires len { length marks.old ≡ 0x52000 }
+    requires zero { IsEnd hi0 }
+    requires one { IsEnd hi1 }
+    ensures len { length marks.new ≡ 0x52000 }
+    ensures marks { ((a : ℕ) → held_at marks.old a ≡ nothing) → AreOpened marks.new hi0 hi1 }
+{
+    change_bytes(marks, Change::Enters(0), u64::from(hi0 - 76), 4);
+    change_bytes(marks, Change::Enters(1), u64::from(hi1 - 76), 4);
+}
+
+/// So many bytes of which nothing is known.
+fn unmarked(alloc: Global, count: u32) -> Result<Vec<Held>, AllocError>
+    ensures { IfOk result (λ marks. marks.items ≡ replicate count nothing) }
+{
+    let mut marks = Vec::with_capacity(alloc, count as usize)?;
+    for _byte in 0..count {
+        marks.push(nothing())?;
+    }
+    Ok(marks)
+}
+
+/// What is known of the bytes as both cores open.
+fn opening_marks(alloc: Global, options: &Options) -> Result<Vec<Held>, AllocError>
+    requires { IsValid options.now }
+    ensures len { IfOk result (λ marks. length marks.items ≡ 0x52000) }
+    ensures marks { IfOk result (λ marks. AreOpened marks.items options.now.stack0.hi options.now.stack1.hi) }
+{
+    let mut marks = unmarked(alloc, 0x52000)?;
+    open_stacks(&mut marks, options.stack0.hi, options.stack1.hi);
+    Ok(marks)
+}
+
+/// The next record of a core, if it has one: no breach, or what is judged of the run.
+fn turn_of<R: Records>(
+    code: &Constants,
+    side: &mut Side,
+    marks: &mut [Held],
+    records: &mut R,
+) -> Result<(), Judged>
+    requires side { IsSide side.old }
+    requires room { side.old.steps + 1 < 2 ^ 32 }
+    requires len { length marks.old ≡ 0x52000 }
+    ensures len { length marks.new ≡ length marks.old }
+    ensures turns { (others stale : ℕ → Bool) → KnowsOf side.old.core marks.old (live_in side.old.frames) others stale
+        → Turns (constant_byte code.now) side.old side.new marks.new others stale (R.left records.old) (R.left records.new) result }
+{
+    match records.next() {
+        None => Err(Judged::Whole),
+        Some(rec) => match side.see(code, marks, &rec) {
+            Ok(()) => Ok(()),
+            Err(breach) => Err(Judged::Broken(breach)),
+        },
+    }
+}
+
+impl Walk {
+    /// Both cores as they open. The only error is too little memory; all of it is taken here.
+    pub fn open(
+        alloc: Global,
+        code: Constants,
+        entry: u32,
+        options: &Options,
+    ) -> Result<Walk, AllocError>
+        requires { IsValid options.now }
+        ensures { IfOk result (λ w. IsOpened w code entry options.now) }
+    {
+        let side0 = side_of(alloc, 0, entry, options, options.stack0.hi)?;
+        let side1 = side_of(alloc, 1, options.entry1, options, options.stack1.hi)?;
+        let marks = opening_marks(alloc, options)?;
+        Ok(Walk {
+            code,
+            side0,
+            side1,
+            marks,
+        })
+    }
+
+    /// The next record of this core, if it has one: no breach, or what is judged of the run.
+    fn turn<R: Records>(
+        &mut self,
+        core: u8,
+        records0: &mut R,
+        records1: &mut R,
+    ) -> Result<(), Judged>
+        requires core { core < 2 }
+        requires known { (b0 : Bounds) × (b1 : Bounds) × (k : Known) × Knows self.old b0 b1 k }
+        requires room { self.old.side0.steps + self.old.side1.steps + 1 < 2 ^ 32 }
+        ensures { (b0 b1 : Bounds) (k : Known) → Knows self.old b0 b1 k
+            → IsTurned (constant_byte self.old.code) b0 b1 core k (R.left records0.old) (R.left records1.old) self.new (R.left records0.new) (R.left records1.new) result }
+    {
+        if core == 0 {
+            turn_of(&self.code, &mut self.side0, &mut self.marks, records0)
+        } else {
+            turn_of(&self.code, &mut self.side1, &mut self.marks, records1)
+        }
+    }
+
+    /// What is judged of a run whose records come in this order, from here on.
+    pub fn follow<R: Records>(
+        &mut self,
+        schedule: &[u8],
+        records0: &mut R,
+        records1: &mut R,
+    ) -> Judged
+        requires cores { All (λ c. c < 2) schedule.now }
+        requires known { (b0 : Bounds) × (b1 : Bounds) × (k : Known) × Knows self.old b0 b1 k }
+        requires room { self.old.side0.steps + self.old.side1.steps + length schedule.now < 2 ^ 32 }
+        ensures { (b0 b1 : Bounds) (k : Known) → Knows self.old b0 b1 k
+            → result ≡ verdict_on (judgement (constant_byte self.old.code) b0 b1 schedule.now (R.left records0.old) (R.left records1.old) k).breach }
+    {
+        for core in schedule {
+            if let Err(judged) = self.turn(*core, records0, records1) {
+                return judged;
+            }
+        }
+        Judged::Whole
+    }
+}
