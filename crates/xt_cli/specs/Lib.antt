@@ -1,3 +1,4 @@
+pub mod Verdicts
 pub mod Reports
 pub mod Checks
 pub mod Statuses

@@ -8,7 +8,7 @@ use Rattle.xt_image.specs.Rules.{image_fault}
 use Rattle.xt_image.specs.Format.{image_of}
 use Rattle.xt_trace.specs.declared.options.Options.{Options}
 use Rattle.xt_trace.specs.declared.run.Run.{Run}
-use Rattle.xt_core.specs.Runs.{IsRunOf, records_of}
+use Rattle.xt_core.specs.Runs.{IsRunOf, code_of, records_of}
 use Rattle.xt_machine.specs.Lists.{run_of_list, schedule_in}
 use Rattle.xt_machine.specs.Framed.{IsFramed}
 use Rattle.xt_words.specs.Options.{with_entry}
@@ -19,11 +19,12 @@ use Rattle.xt_words.specs.declared.options.RunOptions.{RunOptions}
 use Rattle.xt_cli.specs.declared.status.Status.{Status}
 use Rattle.xt_cli.specs.declared.status.Status.TheVariants as status
 use Rattle.xt_cli.specs.declared.tool.Tool.TheVariants as tool
-use Rattle.xt_cli.specs.declared.top.Whole.{Whole}
+use Rattle.xt_cli.specs.declared.verdicts.Whole.{Whole}
 use Rattle.xt_cli.specs.declared.top.Outcome.{Outcome}
 use Rattle.xt_cli.specs.Calls.{Ends, ReadsWhole}
 use Rattle.xt_cli.specs.Tools as tools
 use Rattle.xt_cli.specs.Reports.{output_text}
+use Rattle.xt_cli.specs.Verdicts.{handlers_of}
 
 abbrev pub image_limit : ℕ
 image_limit = 8388608
@@ -49,36 +50,42 @@ pub record IsRunOfImage (o : RunOptions) (image : Image) (run : Run) : Type 0 wh
   -- machine with unbounded call frames, up to the first breach of the stack discipline
   pub framed : IsFramed image run
 
--- the input is an image, and this is its run
-pub record IsRunOfInput (o : RunOptions) (input : List ℕ) (run : Run) : Type 0 where
+-- what is found of a run of the image: the answers for the image's window handlers are those of the
+-- six vectors from the VECBASE on with which the run opens
+pub record IsJudged (image : Image) (w : Whole) : Type 0 where
+  pub handlers : w.handlers ≡ handlers_of (code_of image) w.run.options.vecbase
+
+-- the input is an image, and this is its run, and what is found of it
+pub record IsRunOfInput (o : RunOptions) (input : List ℕ) (w : Whole) : Type 0 where
   pub image : image_fault input ≡ None
-  pub is_run : IsRunOfImage o (image_of input) run
+  pub is_run : IsRunOfImage o (image_of input) w.run
+  pub judged : IsJudged (image_of input) w
 
 -- what is written of a run of an image: its report, and where the words ask for them the lines of
 -- its traces, which are those of the records that the processor's turns make
-unfoldable pub run_text : RunOptions → Image → Run → List ℕ
-run_text o image run =
-    output_text o.trace run (records_of 0 image run).records (records_of 1 image run).records
+unfoldable pub run_text : RunOptions → Image → Whole → List ℕ
+run_text o image w =
+    output_text o.trace w (records_of 0 image w.run).records (records_of 1 image w.run).records
 
 -- ---- the statuses of a run
 
 -- the input was read to its end, this is its run, and this is so of what is written of it
-abbrev pub HasRun : RunOptions → Ends → Run → (List ℕ → Type 0) → Type 0
-HasRun o e run P =
+abbrev pub HasRun : RunOptions → Ends → Whole → (List ℕ → Type 0) → Type 0
+HasRun o e w P =
     ReadsWhole image_limit e
-    (λ input. IsRunOfInput o input run × P (run_text o (image_of input) run))
+    (λ input. IsRunOfInput o input w × P (run_text o (image_of input) w))
 
 -- nothing was written, or a front of what is written of the input's run
 abbrev pub WritesFront : RunOptions → Ends → Type 0
 WritesFront o e =
     Keeps e.told e.told_after
-    ⊎ ((run : Run) × HasRun o e run (AppendsFront e.told e.told_after))
+    ⊎ ((w : Whole) × HasRun o e w (AppendsFront e.told e.told_after))
 
 -- each status of a run with these options, with its cause and what was written
 abbrev pub Runs : RunOptions → Ends → Status → Option Whole → Type 0
-Runs o e status.Done (Some w) = HasRun o e w.run (Appends e.told e.told_after)
+Runs o e status.Done (Some w) = HasRun o e w (Appends e.told e.told_after)
 Runs o e status.WriteFault (Some w) =
-    HasRun o e w.run (AppendsFront e.told e.told_after) × Rose e.sink_faults e.sink_faults_after
+    HasRun o e w (AppendsFront e.told e.told_after) × Rose e.sink_faults e.sink_faults_after
 Runs o e (status.Image f) None =
     ReadsWhole image_limit e (λ input. image_fault input ≡ Some f) × Keeps e.told e.told_after
 Runs o e (status.TooLarge limit) None =

@@ -1,7 +1,7 @@
 //! The top call.
 ghost use Rattle.std.specs.Prelude.{◌≡◌, map, string_bytes, IfOk, None};
 ghost use Rattle.xt_cli.specs.Calls.{ends};
-ghost use Rattle.xt_cli.specs.Top.{Answers, FinishesRun, IsComplete, IsRunOfImage, Runs, run_text};
+ghost use Rattle.xt_cli.specs.Top.{Answers, FinishesRun, IsComplete, IsJudged, IsRunOfImage, Runs, run_text};
 ghost use Rattle.xt_cli.specs.Writes.{Writes};
 ghost use Rattle.xt_core.specs.Runs.{IsRunOf};
 ghost use Rattle.xt_image.specs.Parts.{IsWellFormed};
@@ -11,6 +11,7 @@ ghost use Rattle.xt_words.specs.Options.{AreValid};
 use crate::output::{write_report, write_traced};
 use crate::status::Status;
 use crate::tool::{IMAGE_LIMIT, Job, image_in, status_of, work};
+use crate::verdicts::{Whole, judged};
 use std::alloc::{AllocError, Global};
 use std::sync::Wait;
 use std::thread::Threads;
@@ -21,19 +22,13 @@ use xt_machine::run;
 use xt_trace::Run;
 use xt_words::{Command, RunOptions, meaning};
 
-/// What the program did: the run that it made.
-#[derive(Drop)]
-pub struct Whole {
-    /// The run whose report was written, or of which a part was.
-    pub run: Run,
-}
-
 /// How the program ended.
 #[derive(Drop)]
 pub struct Outcome {
     /// The status, which says the exit code and the line for standard error.
     pub status: Status,
-    /// The run, exactly where the status is `Done` or `WriteFault`.
+    /// The run, with what is found of it, exactly where the command is a run and the status is `Done`
+    /// or `WriteFault`.
     pub whole: Option<Whole>,
 }
 
@@ -66,31 +61,48 @@ fn run_image<G: Gate, R: Threads + Wait + Sync>(
     run(rt, alloc, image, &options, gate)
 }
 
+// The same run with what is found of it.
+fn judge_image<G: Gate, R: Threads + Wait + Sync>(
+    rt: &R,
+    alloc: Global,
+    options: &RunOptions,
+    image: &Image,
+    gate: &G,
+) -> Result<Whole, AllocError>
+    requires valid { AreValid options.now }
+    requires image { IsWellFormed image.now }
+    ensures run { IfOk result (λ w. IsRunOfImage options.now image.now w.run) }
+    ensures judged { IfOk result (λ w. IsJudged image.now w) }
+{
+    let run = run_image(rt, alloc, options, image, gate)?;
+    judged(alloc, image, run)
+}
+
 /// Writes what `run` writes of a run of an image: the report, and where the words ask for them the
 /// lines of both traces behind it, each before the next is made.
 ///
 /// Conditions: the image is well formed, and the run is one of this image.
 #[tactic(auto, unfolding(crate::specs::Top::run_text))]
-pub fn write_run<K: Sink>(
+pub fn write_whole<K: Sink>(
     alloc: Global,
     options: &RunOptions,
     image: &Image,
-    run: &Run,
+    whole: &Whole,
     sink: &mut K,
 ) -> Result<(), Refused>
     requires image { IsWellFormed image.now }
-    requires run { IsRunOf image.now run.now }
+    requires run { IsRunOf image.now whole.now.run }
     ensures { Writes result
         (K.told sink.old) (K.told sink.new) (K.faults sink.old) (K.faults sink.new)
-        (run_text options.now image.now run.now) }
+        (run_text options.now image.now whole.now) }
 {
     if options.trace {
         well_formed_is_placed();
-        let mut records0 = Cursor::make(alloc, image, run, 0)?;
-        let mut records1 = Cursor::make(alloc, image, run, 1)?;
-        write_traced(alloc, run, &mut records0, &mut records1, sink)
+        let mut records0 = Cursor::make(alloc, image, &whole.run, 0)?;
+        let mut records1 = Cursor::make(alloc, image, &whole.run, 1)?;
+        write_traced(alloc, whole, &mut records0, &mut records1, sink)
     } else {
-        write_report(alloc, run, sink)
+        write_report(alloc, whole, sink)
     }
 }
 
@@ -119,17 +131,17 @@ fn run_source<S: Source, K: Sink, G: Gate, R: Threads + Wait + Sync>(
         Ok(image) => image,
         Err(status) => return without_run(status),
     };
-    let Ok(run) = run_image(rt, alloc, options, &image, gate) else {
+    let Ok(whole) = judge_image(rt, alloc, options, &image, gate) else {
         return without_run(Status::Memory);
     };
-    let status = match write_run(alloc, options, &image, &run, sink) {
+    let status = match write_whole(alloc, options, &image, &whole, sink) {
         Ok(()) => Status::Done,
         Err(Refused::Failed) => Status::WriteFault,
         Err(Refused::Memory) => return without_run(Status::Memory),
     };
     Outcome {
         status,
-        whole: Some(Whole { run }),
+        whole: Some(whole),
     }
 }
 
@@ -143,7 +155,8 @@ fn run_source<S: Source, K: Sink, G: Gate, R: Threads + Wait + Sync>(
 /// The contract says of each status its cause, and what was written; of `Done` and `WriteFault` of a
 /// run besides that the run that is handed out is the image's: its history is legal from the opening
 /// memory, each trace is the processor's over the replies of that history, and the history's accesses
-/// are those of the traces; and that it is the run of the schedule that is read from its own history.
+/// are those of the traces; that it is the run of the schedule that is read from its own history; and
+/// that the answers for the window handlers are those of the image's vectors from the run's VECBASE on.
 /// `Memory` is the one free answer.
 pub fn xt_main<S: Source, K: Sink, G: Gate, R: Threads + Wait + Sync>(
     rt: &R,
@@ -163,7 +176,10 @@ pub fn xt_main<S: Source, K: Sink, G: Gate, R: Threads + Wait + Sync>(
         Ok(Command::Assemble) => without_run(work(alloc, Job::Assemble, source, sink)),
         Ok(Command::Convert) => without_run(work(alloc, Job::Convert, source, sink)),
         Ok(Command::Disassemble) => without_run(work(alloc, Job::List, source, sink)),
-        Ok(Command::Check) => without_run(work(alloc, Job::Check, source, sink)),
+        Ok(Command::Check(vecbase)) => {
+            without_run(work(alloc, Job::Check(vecbase), source, sink))
+        }
+        Ok(Command::Generate(_)) => without_run(Status::Unbuilt),
         Err(refusal) => without_run(status_of(refusal)),
     }
 }
