@@ -8,6 +8,7 @@
 mod cases;
 mod programs;
 mod schedules;
+mod verdicts;
 
 use crate::cases::{lines_of, words_of};
 use std::alloc::Global;
@@ -34,10 +35,14 @@ fn agrees<R: Files + Threads + Wait + Sync + AllocGlobal>(
     handlers: &str,
 ) -> Option<bool> {
     let program = program_of(rt, case, handlers)?;
-    if words_of(case, "schedule").is_empty() {
-        programs::agrees(rt, case, program.as_str(), handlers)
-    } else {
+    if !words_of(case, "handlers").is_empty() {
+        verdicts::checks(rt.alloc(), case, program.as_str())
+    } else if !words_of(case, "steps").is_empty() {
         schedules::agrees(rt.alloc(), case, program.as_str())
+    } else if case.contains("\nschedule") {
+        verdicts::agrees(rt.alloc(), case, program.as_str())
+    } else {
+        programs::agrees(rt, case, program.as_str(), handlers)
     }
 }
 

@@ -1,6 +1,6 @@
 //! Cases of one program, over the words of the command line.
 
-ghost use Rattle.std.specs.Prelude.{IfSome};
+ghost use Rattle.std.specs.Prelude.{◌<◌, All, IfSome};
 ghost use Rattle.xt_image.specs.Parts.{IsWellFormed};
 ghost use Rattle.xt_words.specs.Options.{AreValid};
 
@@ -9,7 +9,7 @@ use std::alloc::Global;
 use std::sync::Wait;
 use std::thread::Threads;
 use xt_asm::assemble;
-use xt_cli::{Status, write_run, xt_main};
+use xt_cli::{Status, judged, write_whole, xt_main};
 use xt_image::{Image, well_formed_by_rules, write};
 use xt_io::{OpenGate, SafeSink, SafeSource};
 use xt_machine::run_schedule;
@@ -49,8 +49,8 @@ pub fn options_in(alloc: Global, words: &[String]) -> Option<RunOptions>
     }
 }
 
-// The text that a sink has.
-fn text_in(alloc: Global, sink: &SafeSink) -> Option<String> {
+/// The text that a sink has.
+pub fn text_in(alloc: Global, sink: &SafeSink) -> Option<String> {
     let text = std::str::from_utf8(sink.bytes()).ok()?;
     String::from_str(alloc, text).ok()
 }
@@ -74,18 +74,33 @@ fn output_of<R: Threads + Wait + Sync + AllocGlobal>(
     text_in(alloc, &sink)
 }
 
-// What the program writes of the run of an image in which core 0 makes all of its turns, and then
-// core 1.
-fn output_in_order(alloc: Global, options: &RunOptions, image: &Image) -> Option<String>
+/// What the program writes of the run of an image over a list of cores, after which core 0 makes the
+/// rest of its turns, and then core 1.
+pub fn output_over(
+    alloc: Global,
+    options: &RunOptions,
+    image: &Image,
+    list: &[u8],
+) -> Option<String>
     requires valid { AreValid options.now }
     requires image { IsWellFormed image.now }
+    requires cores { All (λ core. core < 2) list.now }
 {
     well_formed_by_rules();
     let of_run = options.with_entry(image.entry);
-    let run = run_schedule(alloc, image, &of_run, &[]).ok()?;
+    let run = run_schedule(alloc, image, &of_run, list).ok()?;
+    let whole = judged(alloc, image, run).ok()?;
     let mut sink = SafeSink::make(alloc).ok()?;
-    write_run(alloc, options, image, &run, &mut sink).ok()?;
+    write_whole(alloc, options, image, &whole, &mut sink).ok()?;
     text_in(alloc, &sink)
+}
+
+// The report of a case: its lines on the run, and those on the handlers and the verdict.
+fn report_of(alloc: Global, case: &str) -> Option<String> {
+    let mut report = lines_of(alloc, case, "report", "").ok()?;
+    let verdict = lines_of(alloc, case, "verdict", "").ok()?;
+    report.push_str(verdict.as_str()).ok()?;
+    Some(report)
 }
 
 /// Whether a program writes what its case says. Where both cores have turns, the run is that in which
@@ -98,7 +113,7 @@ pub fn agrees<R: Threads + Wait + Sync + AllocGlobal>(
 ) -> Option<bool> {
     let alloc = rt.alloc();
     let image = image_of(alloc, program)?;
-    let report = lines_of(alloc, case, "report", handlers).ok()?;
+    let report = report_of(alloc, case)?;
     let lines = lines_of(alloc, case, "lines", handlers).ok()?;
     let is_traced = has_part(case, "trace") || has_part(case, "lines");
     let command = if is_traced { "run --trace" } else { "run" };
@@ -107,7 +122,7 @@ pub fn agrees<R: Threads + Wait + Sync + AllocGlobal>(
     let output = if options.turns1 == 0 || has_part(case, "threads") {
         output_of(rt, &words, &image)?
     } else {
-        output_in_order(alloc, &options, &image)?
+        output_over(alloc, &options, &image, &[])?
     };
     let Some(rest) = output.strip_prefix(report.as_str()) else {
         return Some(false);

@@ -6,7 +6,7 @@ ghost use Rattle.xt_trace.specs.Validity.{IsValid};
 use crate::cases::{lines_of, push_line, words_of};
 use crate::programs::{image_of, options_in, words_with};
 use std::alloc::Global;
-use xt_cli::report;
+use xt_cli::run_lines;
 use xt_image::{Image, well_formed_by_rules};
 use xt_machine::{run_has_schedule, run_schedule, schedule_of};
 use xt_map::Entry;
@@ -35,11 +35,14 @@ fn push_times(list: &mut Vec<u8>, core: u8, times: u32) -> Option<()>
     Some(())
 }
 
-// The list of cores that a text says: `0*3 1*1` stands for 0, 0, 0, 1.
-fn list_of(alloc: Global, text: &str) -> Option<Vec<u8>>
+/// The list of cores that a text says: `0*3 1*1` stands for 0, 0, 0, 1.
+pub fn list_of(alloc: Global, text: &str) -> Option<Vec<u8>>
     ensures { IfSome result (λ list. All (λ core. core < 2) list.items) }
 {
     let mut list = Vec::new(alloc);
+    if text.is_empty() {
+        return Some(list);
+    }
     for item in text.split(' ') {
         let (core, times) = item.split_once('*')?;
         push_times(&mut list, core_of(core)?, times.parse::<u32>().ok()?)?;
@@ -126,8 +129,8 @@ fn sends(alloc: Global, case: &str, run: &Run) -> Option<bool> {
     let sent = std::str::from_utf8(&bytes).ok()?;
     let count = bytes.len();
     let front = format!(in alloc; "uart {count}\n{sent}\ncore 0 ").ok()?;
-    let report = report(alloc, run).ok()?;
-    Some(report.as_slice().starts_with(front.as_bytes()))
+    let lines = run_lines(alloc, run).ok()?;
+    Some(lines.as_slice().starts_with(front.as_bytes()))
 }
 
 /// Whether a program comes to what its case says, over the schedule of the case and over that of the

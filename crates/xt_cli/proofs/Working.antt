@@ -34,7 +34,7 @@ unfolding refusal_of
 refusal_is_fault job.Assemble input s h = mapped status.Asm (λ place. tt) (text_fault input) s h
 refusal_is_fault job.Convert input s h = mapped status.Elf (λ f. tt) (elf_fault input) s h
 refusal_is_fault job.List input s h = mapped status.Image (λ f. tt) (image_fault input) s h
-refusal_is_fault job.Check input s h = mapped status.Image (λ f. tt) (image_fault input) s h
+refusal_is_fault (job.Check vecbase) input s h = mapped status.Image (λ f. tt) (image_fault input) s h
 
 abbrev IsRefusal : Job → Status → List ℕ → Type 0
 IsRefusal j s input = s ≢ status.Memory → refusal_of j input ≡ Some s

@@ -6,6 +6,8 @@ use Rattle.xt_text.specs.Hexadecimal.{hex8}
 use Rattle.xt_map.specs.declared.segment.Segment.{Segment}
 use Rattle.xt_image.specs.declared.image.Image.{Image}
 use Rattle.xt_disasm.specs.Listing.{segment_line}
+use Rattle.xt_core.specs.Runs.{code_of}
+use Rattle.xt_cli.specs.Verdicts.{handlers_line, handlers_of}
 
 abbrev pub yes_or_no : Bool → List ℕ
 yes_or_no true = codes "yes"
@@ -26,5 +28,9 @@ line_of (i, s) = segment_line i s
 abbrev pub segment_lines : List Segment → List ℕ
 segment_lines segments = flat_map line_of (enumerate_from 0 segments)
 
-unfoldable pub check_text : Image → List ℕ
-check_text image = image_line image ++ segment_lines image.segments
+-- these lines, and that of the window handlers from VECBASE on
+unfoldable pub check_text : Image → ℕ → List ℕ
+check_text image vecbase =
+    image_line image
+    ++ segment_lines image.segments
+    ++ handlers_line (handlers_of (code_of image) vecbase)

@@ -15,6 +15,8 @@ use Rattle.xt_trace.specs.declared.trace.Trace.{Trace}
 use Rattle.xt_trace.specs.declared.record.StepRecord.{StepRecord}
 use Rattle.xt_trace.specs.declared.run.Run.{Run}
 use Rattle.xt_trace.specs.Lines.{line_text}
+use Rattle.xt_cli.specs.Verdicts.{frames_line, handlers_line}
+use Rattle.xt_cli.specs.declared.verdicts.Whole.{Whole}
 
 abbrev pub newline : List ℕ
 newline = 10 ∷ []
@@ -65,12 +67,17 @@ uart_lines sent = codes "uart " ++ decimal (length sent) ++ newline ++ sent ++ n
 abbrev pub history_line : ℕ → List ℕ
 history_line count = codes "history " ++ decimal count ++ newline
 
-unfoldable pub report_text : Run → List ℕ
-report_text run =
+-- the lines of a run by itself
+unfoldable pub run_lines : Run → List ℕ
+run_lines run =
     uart_lines (sent_bytes run.history)
     ++ core_line 0 run.trace0
     ++ core_line 1 run.trace1
     ++ history_line (length run.history)
+
+-- these lines, and those of the window handlers and the verdict
+unfoldable pub report_text : Whole → List ℕ
+report_text w = run_lines w.run ++ handlers_line w.handlers ++ frames_line w.judged
 
 -- ---- the lines of the traces
 
@@ -84,6 +91,6 @@ abbrev pub trace_text : List StepRecord → List StepRecord → List ℕ
 trace_text records0 records1 = lines_from 0 0 records0 ++ lines_from 1 0 records1
 
 -- what `run` writes: the report, and with `--trace` the lines of both traces
-abbrev pub output_text : Bool → Run → List StepRecord → List StepRecord → List ℕ
-output_text false run records0 records1 = report_text run
-output_text true run records0 records1 = report_text run ++ trace_text records0 records1
+abbrev pub output_text : Bool → Whole → List StepRecord → List StepRecord → List ℕ
+output_text false w records0 records1 = report_text w
+output_text true w records0 records1 = report_text w ++ trace_text records0 records1

@@ -25,6 +25,7 @@ use Rattle.xt_cli.specs.declared.tool.Job.TheVariants as job
 use Rattle.xt_cli.specs.declared.tool.Tool.{Tool}
 use Rattle.xt_cli.specs.declared.tool.Tool.TheVariants as tool
 use Rattle.xt_cli.specs.Calls.{Ends, IsUntouched, ReadsWhole}
+use Rattle.xt_words.specs.Arguments.{IsVecbase}
 use Rattle.xt_cli.specs.Checks.{check_text}
 
 -- ---- what a command makes of its input
@@ -35,7 +36,7 @@ abbrev pub limit_of : Job → ℕ
 limit_of job.Assemble = 1048576
 limit_of job.Convert = 67108864
 limit_of job.List = 8388608
-limit_of job.Check = 8388608
+limit_of (job.Check vecbase) = 8388608
 
 -- the status with which a command refuses a whole input, where it does: that of the input's first
 -- fault
@@ -43,7 +44,7 @@ unfoldable pub refusal_of : Job → List ℕ → Option Status
 refusal_of job.Assemble input = option_map status.Asm (text_fault input)
 refusal_of job.Convert input = option_map status.Elf (elf_fault input)
 refusal_of job.List input = option_map status.Image (image_fault input)
-refusal_of job.Check input = option_map status.Image (image_fault input)
+refusal_of (job.Check vecbase) input = option_map status.Image (image_fault input)
 
 -- the bytes that a command writes for an input that it does not refuse
 abbrev pub IsWritten : Job → List ℕ → List ℕ → Type 0
@@ -51,7 +52,12 @@ IsWritten job.Assemble input bytes =
     (image : Image) × IsImageOfText input image × (bytes ≡ image_bytes image)
 IsWritten job.Convert input bytes = bytes ≡ image_bytes (elf_image input)
 IsWritten job.List input bytes = bytes ≡ listing_text (image_of input)
-IsWritten job.Check input bytes = bytes ≡ check_text (image_of input)
+IsWritten (job.Check vecbase) input bytes = bytes ≡ check_text (image_of input) vecbase
+
+-- the VECBASE of a command is one
+abbrev pub HasVecbase : Job → Type 0
+HasVecbase (job.Check vecbase) = IsVecbase vecbase
+HasVecbase _ = Unit {0}
 
 -- the command does not refuse the input, and writes these bytes
 pub record IsMade (j : Job) (input bytes : List ℕ) : Type 0 where
@@ -98,9 +104,11 @@ abbrev pub Answers : Result Command Refusal → Ends → Tool → Type 0
 Answers (Ok command.Assemble) e (tool.Answer s) = Makes job.Assemble e s
 Answers (Ok command.Convert) e (tool.Answer s) = Makes job.Convert e s
 Answers (Ok command.Disassemble) e (tool.Answer s) = Makes job.List e s
-Answers (Ok command.Check) e (tool.Answer s) = Makes job.Check e s
+Answers (Ok (command.Check vecbase)) e (tool.Answer s) = Makes (job.Check vecbase) e s
 Answers (Ok (command.Run options)) e tool.Threaded = IsUntouched e
 Answers (Ok (command.Run options)) e (tool.Answer s) = (s ≡ status.Memory) × IsUntouched e
+Answers (Ok (command.Generate number)) e tool.Threaded = IsUntouched e
+Answers (Ok (command.Generate number)) e (tool.Answer s) = (s ≡ status.Memory) × IsUntouched e
 Answers (Err r) e (tool.Answer s) = RefusesWords r e s
 Answers _ e _ = ⊥
 
@@ -125,5 +133,5 @@ abbrev pub IsComplete : Result Command Refusal → Ends → Tool → Type 0
 IsComplete (Ok command.Assemble) e (tool.Answer s) = Finishes job.Assemble e s
 IsComplete (Ok command.Convert) e (tool.Answer s) = Finishes job.Convert e s
 IsComplete (Ok command.Disassemble) e (tool.Answer s) = Finishes job.List e s
-IsComplete (Ok command.Check) e (tool.Answer s) = Finishes job.Check e s
+IsComplete (Ok (command.Check vecbase)) e (tool.Answer s) = Finishes (job.Check vecbase) e s
 IsComplete _ e _ = Unit {0}

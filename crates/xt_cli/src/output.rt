@@ -5,9 +5,20 @@ ghost use Rattle.xt_cli.specs.Writes.{Writes};
 ghost use Rattle.xt_trace.specs.Lines.{line_text};
 
 use crate::run_report::report;
+use crate::verdicts::Whole;
 use std::alloc::Global;
 use xt_io::{Refused, Sink, write_all};
+use xt_map::Text;
 use xt_trace::{Records, Run, StepRecord, line};
+
+/// Writes a text.
+pub fn write_text<K: Sink>(text: &Text, sink: &mut K) -> Result<(), Refused>
+    ensures { Writes result
+        (K.told sink.old) (K.told sink.new) (K.faults sink.old) (K.faults sink.new)
+        text.now }
+{
+    write_all(sink, text.as_slice())
+}
 
 // Writes the line of a record.
 fn write_record<K: Sink>(
@@ -48,12 +59,12 @@ fn write_records<K: Sink, R: Records>(
 }
 
 // Writes the report of a run.
-pub fn write_report<K: Sink>(alloc: Global, run: &Run, sink: &mut K) -> Result<(), Refused>
+pub fn write_report<K: Sink>(alloc: Global, whole: &Whole, sink: &mut K) -> Result<(), Refused>
     ensures { Writes result
         (K.told sink.old) (K.told sink.new) (K.faults sink.old) (K.faults sink.new)
-        (report_text run.now) }
+        (report_text whole.now) }
 {
-    let text = report(alloc, run)?;
+    let text = report(alloc, whole)?;
     write_all(sink, text.as_slice())
 }
 
@@ -78,17 +89,17 @@ fn write_traces<K: Sink, R: Records>(
 /// Writes the report of a run, and then the lines of both traces.
 pub fn write_traced<K: Sink, R: Records>(
     alloc: Global,
-    run: &Run,
+    whole: &Whole,
     records0: &mut R,
     records1: &mut R,
     sink: &mut K,
 ) -> Result<(), Refused>
-    requires zero { length (R.left records0.old) ≡ run.now.trace0.count }
-    requires one { length (R.left records1.old) ≡ run.now.trace1.count }
+    requires zero { length (R.left records0.old) ≡ whole.now.run.trace0.count }
+    requires one { length (R.left records1.old) ≡ whole.now.run.trace1.count }
     ensures { Writes result
         (K.told sink.old) (K.told sink.new) (K.faults sink.old) (K.faults sink.new)
-        (report_text run.now ++ trace_text (R.left records0.old) (R.left records1.old)) }
+        (report_text whole.now ++ trace_text (R.left records0.old) (R.left records1.old)) }
 {
-    write_report(alloc, run, sink)?;
-    write_traces(alloc, run, records0, records1, sink)
+    write_report(alloc, whole, sink)?;
+    write_traces(alloc, &whole.run, records0, records1, sink)
 }

@@ -1,4 +1,4 @@
-use crate::{Status, report, status_line};
+use crate::{Status, run_lines, status_line};
 use std::alloc::Global;
 use std::test::Fail;
 use xt_elf::ElfFault;
@@ -49,7 +49,7 @@ fn run_of(entries: Vec<Entry>, trace0: Trace, trace1: Trace) -> Run {
 }
 
 #[test]
-fn report_of_what_is_not_sent(rt: HostRuntime) -> Result<(), Fail> {
+fn lines_of_what_is_not_sent(rt: HostRuntime) -> Result<(), Fail> {
     let alloc = rt.alloc();
     let entries = vec![in alloc;
         entry(0x3FF4_0000, 4, Kind::Load),
@@ -59,7 +59,7 @@ fn report_of_what_is_not_sent(rt: HostRuntime) -> Result<(), Fail> {
     ]?;
     let trace0 = trace(alloc, 0, 12, Stop::Turns, 0xFEDC_BA98);
     let trace1 = trace(alloc, 1, 1, Stop::Break, 0);
-    let text = report(alloc, &run_of(entries, trace0, trace1))?;
+    let text = run_lines(alloc, &run_of(entries, trace0, trace1))?;
     let lines =
         b"uart 0\n\ncore 0 stop turns turns 12 pc FEDCBA98\ncore 1 stop break turns 1 pc 00000000\nhistory 4\n";
     assert_eq!(rt; text.as_slice(), lines.as_slice());
@@ -67,7 +67,7 @@ fn report_of_what_is_not_sent(rt: HostRuntime) -> Result<(), Fail> {
 }
 
 #[test]
-fn report_of_whole_words(rt: HostRuntime) -> Result<(), Fail> {
+fn lines_of_whole_words(rt: HostRuntime) -> Result<(), Fail> {
     let alloc = rt.alloc();
     let entries = vec![in alloc;
         entry(0x3FF4_0000, 4, Kind::Store(0x1234_5648)),
@@ -76,7 +76,7 @@ fn report_of_whole_words(rt: HostRuntime) -> Result<(), Fail> {
     ]?;
     let trace0 = trace(alloc, 0, 0, Stop::Turns, 1);
     let trace1 = trace(alloc, 1, 0, Stop::Turns, 2);
-    let text = report(alloc, &run_of(entries, trace0, trace1))?;
+    let text = run_lines(alloc, &run_of(entries, trace0, trace1))?;
     let lines =
         b"uart 3\nHi\n\ncore 0 stop turns turns 0 pc 00000001\ncore 1 stop turns turns 0 pc 00000002\nhistory 3\n";
     assert_eq!(rt; text.as_slice(), lines.as_slice());

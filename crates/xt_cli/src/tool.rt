@@ -1,11 +1,11 @@
 //! The commands whose output is a function of their input.
-ghost use Rattle.std.specs.Prelude.{◌≡◌, ◌≢◌, ◌≤◌, length, map, string_bytes, IfOk, IfErr, None, Some};
+ghost use Rattle.std.specs.Prelude.{◌≡◌, ◌≢◌, ◌≤◌, ◌%◌, length, map, string_bytes, IfOk, IfErr, None, Some};
 ghost use Rattle.std.specs.Option.{option_map};
 ghost use Rattle.xt_image.specs.Format.{image_of};
 ghost use Rattle.xt_image.specs.Parts.{IsWellFormed};
 ghost use Rattle.xt_image.specs.Rules.{image_fault};
 ghost use Rattle.xt_cli.specs.Calls.{ends};
-ghost use Rattle.xt_cli.specs.Tools.{Answers, Finishes, IsComplete, IsMade, Makes, limit_of, refusal_of, status_of};
+ghost use Rattle.xt_cli.specs.Tools.{Answers, Finishes, HasVecbase, IsComplete, IsMade, Makes, limit_of, refusal_of, status_of};
 ghost use Rattle.xt_words.specs.Meaning.{meaning_of};
 
 use crate::checks::check_text;
@@ -38,8 +38,8 @@ pub enum Job {
     Convert,
     /// `dis`: an image's listing.
     List,
-    /// `check`: what an image holds.
-    Check,
+    /// `check`: what an image holds, with its window handlers from this VECBASE on.
+    Check(u32),
 }
 
 /// What `tool_main` answers.
@@ -69,7 +69,7 @@ fn limit_of(job: Job) -> usize
     match job {
         Job::Assemble => TEXT_LIMIT,
         Job::Convert => ELF_LIMIT,
-        Job::List | Job::Check => IMAGE_LIMIT,
+        Job::List | Job::Check(_) => IMAGE_LIMIT,
     }
 }
 
@@ -136,18 +136,20 @@ fn list(alloc: Global, input: &[u8]) -> Result<Text, Status>
 
 // What an image holds.
 #[tactic(auto, unfolding(crate::specs::Tools::refusal_of))]
-fn check(alloc: Global, input: &[u8]) -> Result<Text, Status>
-    requires { length input.now ≤ 8388608 }
-    ensures ok { IfOk result (λ bytes. IsMade Job.Check input.now bytes) }
-    ensures refused { IfErr result (λ status. status ≢ Status.Memory → refusal_of Job.Check input.now ≡ Some status) }
+fn check(alloc: Global, vecbase: u32, input: &[u8]) -> Result<Text, Status>
+    requires aligned { vecbase % 1024 ≡ 0 }
+    requires limit { length input.now ≤ 8388608 }
+    ensures ok { IfOk result (λ bytes. IsMade (Job.Check vecbase) input.now bytes) }
+    ensures refused { IfErr result (λ status. status ≢ Status.Memory → refusal_of (Job.Check vecbase) input.now ≡ Some status) }
 {
     let image = image_in(alloc, input)?;
-    check_text(alloc, &image).map_err(|_| Status::Memory)
+    check_text(alloc, &image, vecbase).map_err(|_| Status::Memory)
 }
 
 // What a command writes for an input, or the status with which it refuses it.
 fn make(alloc: Global, job: Job, input: &[u8]) -> Result<Text, Status>
-    requires { length input.now ≤ limit_of job }
+    requires vecbase { HasVecbase job }
+    requires limit { length input.now ≤ limit_of job }
     ensures ok { IfOk result (λ bytes. IsMade job input.now bytes) }
     ensures refused { IfErr result (λ status. status ≢ Status.Memory → refusal_of job input.now ≡ Some status) }
 {
@@ -155,7 +157,7 @@ fn make(alloc: Global, job: Job, input: &[u8]) -> Result<Text, Status>
         Job::Assemble => image_file(alloc, input),
         Job::Convert => converted_file(alloc, input),
         Job::List => list(alloc, input),
-        Job::Check => check(alloc, input),
+        Job::Check(vecbase) => check(alloc, vecbase, input),
     }
 }
 
@@ -166,6 +168,7 @@ pub(crate) fn work<S: Source, K: Sink>(
     source: &mut S,
     sink: &mut K,
 ) -> Status
+    requires { HasVecbase job }
     ensures answers { Makes job
         (ends S.left S.faults source.old source.new K.told K.faults sink.old sink.new) result }
     ensures complete { Finishes job
@@ -211,8 +214,10 @@ pub fn tool_main<S: Source, K: Sink>(
         Ok(Command::Assemble) => Tool::Answer(work(alloc, Job::Assemble, source, sink)),
         Ok(Command::Convert) => Tool::Answer(work(alloc, Job::Convert, source, sink)),
         Ok(Command::Disassemble) => Tool::Answer(work(alloc, Job::List, source, sink)),
-        Ok(Command::Check) => Tool::Answer(work(alloc, Job::Check, source, sink)),
-        Ok(Command::Run(_)) => Tool::Threaded,
+        Ok(Command::Check(vecbase)) => {
+            Tool::Answer(work(alloc, Job::Check(vecbase), source, sink))
+        }
+        Ok(Command::Run(_) | Command::Generate(_)) => Tool::Threaded,
         Err(refusal) => Tool::Answer(status_of(refusal)),
     }
 }

@@ -1,15 +1,18 @@
 -- The rules of usage that options keep.
-use Rattle.std.proofs.Common.{◌≡◌, ◌≢◌, ℕ, ◌≤◌, ◌%◌, ◌&&◌, Bool, true, List, [], ◌∷◌, Option, Some, None, Result, Ok, Err, arith, refl, rules}
-use Rattle.std.specs.Prelude.{◌==◌, nat_le, unwrap_or}
+use Rattle.std.proofs.Common.{◌≡◌, ◌≢◌, ℕ, ◌≤◌, ◌%◌, ◌&&◌, Bool, true, false, List, [], ◌∷◌, Option, Some, None, Result, Ok, Err, arith, codes, refl, rules}
+use Rattle.std.specs.Prelude.{◌==◌, nat_le, unwrap_or, if◌then◌else◌}
 use Rattle.std.proofs.lemmas.Bool.Decides.{nat_tests}
-use Rattle.clap.specs.Words.{Row, Text}
+use Rattle.clap.specs.Words.{Row, Text, first_of}
 use Rattle.xt_map.specs.Regions.{region_of, is_executable}
 use Rattle.xt_trace.specs.Validity.{IsValid, IsValidStack, most_turns}
 use Rattle.xt_trace.specs.declared.options.Stack.{Stack}
-use Rattle.xt_words.specs.Options.{AcceptsValid, OptionsNeedNoMemory, by_rows, first_broken, is_entry, is_stack, judged, options_in, record_app, run_app, texts_of, unless_broken}
-use Rattle.xt_words.specs.Meaning.{NeedsNoMemory, meaning_by, named, run_with, without_options}
+use Rattle.xt_words.specs.Options.{AcceptsValid, OptionsNeedNoMemory, by_rows, first_broken, is_entry, is_stack, judged, options_in, record_app, run_app, run_options_of, said_or, texts_of, unless_broken}
+use Rattle.xt_words.specs.Arguments.{check_app, gen_app, generator_number_of, judged_number, judged_vecbase, number_by, number_in, vecbase_by, vecbase_of}
+use Rattle.xt_words.specs.Meaning.{NeedsNoMemory, command_with, meaning_by, named, without_options}
+use Rattle.xt_words.specs.Numbers.{number_of}
 use Rattle.xt_words.specs.Simple.{rows_by}
 use Rattle.xt_words.specs.declared.command.Command.{Command}
+use Rattle.xt_words.specs.declared.command.Command.TheVariants as command
 use Rattle.xt_words.specs.declared.command.Name.{Name}
 use Rattle.xt_words.specs.declared.command.Name.TheVariants as name
 use Rattle.xt_words.specs.declared.command.Refusal.{Refusal}
@@ -33,9 +36,28 @@ by_rows-answers (Some rows) = judged-answers (options_in (texts_of rows))
 pub need_no_memory : OptionsNeedNoMemory
 need_no_memory words = (by_rows-answers (rows_by run_app words), by_rows-answers (rows_by record_app words))
 
-run_with-answers : (r : Result RunOptions Refusal) → r ≢ Err refusal.Memory → run_with r ≢ Err refusal.Memory
-run_with-answers (Ok o) no_memory = λ e. search (rules, e)
-run_with-answers (Err r) no_memory = λ e. no_memory (cc)
+judged_vecbase-answers : (vecbase : Option ℕ) → judged_vecbase vecbase ≢ Err refusal.Memory
+judged_vecbase-answers None = λ e. search (rules, e)
+judged_vecbase-answers (Some v) = elim (v % 1024 == 0) as (λ b. (if b then Ok v else Err (refusal.Usage 7)) ≢ Err refusal.Memory) [
+  | true ↦ λ e. search (rules, e)
+  | false ↦ λ e. search (rules, e)
+]
+
+vecbase_by-answers : (rows : Option (List Row)) → vecbase_by rows ≢ Err refusal.Memory
+vecbase_by-answers None = λ e. search (rules, e)
+vecbase_by-answers (Some rows) = judged_vecbase-answers (said_or number_of 0x40080000 (first_of (codes "vecbase") rows))
+
+judged_number-answers : (number : Option ℕ) → judged_number number ≢ Err refusal.Memory
+judged_number-answers None = λ e. search (rules, e)
+judged_number-answers (Some n) = λ e. search (rules, e)
+
+number_by-answers : (rows : Option (List Row)) → number_by rows ≢ Err refusal.Memory
+number_by-answers None = λ e. search (rules, e)
+number_by-answers (Some rows) = judged_number-answers (number_in (first_of (codes "number") rows))
+
+command_with-answers : {A : Type 0} (make : A → Command) (r : Result A Refusal) → r ≢ Err refusal.Memory → command_with make r ≢ Err refusal.Memory
+command_with-answers make (Ok o) no_memory = λ e. search (rules, e)
+command_with-answers make (Err r) no_memory = λ e. no_memory (cc)
 
 without_options-answers : (c : Command) (rows : Option (List Row)) → without_options c rows ≢ Err refusal.Memory
 without_options-answers c None = λ e. search (rules, e)
@@ -46,8 +68,9 @@ meaning_by-answers None words = λ e. search (rules, e)
 meaning_by-answers (Some name.Assemble) words = without_options-answers _ _
 meaning_by-answers (Some name.Convert) words = without_options-answers _ _
 meaning_by-answers (Some name.Disassemble) words = without_options-answers _ _
-meaning_by-answers (Some name.Check) words = without_options-answers _ _
-meaning_by-answers (Some name.Run) words = run_with-answers _ (need_no_memory words).0
+meaning_by-answers (Some name.Check) words = command_with-answers command.Check (vecbase_of words) (vecbase_by-answers (rows_by check_app words))
+meaning_by-answers (Some name.Run) words = command_with-answers command.Run (run_options_of words) (need_no_memory words).0
+meaning_by-answers (Some name.Generate) words = command_with-answers command.Generate (generator_number_of words) (number_by-answers (rows_by gen_app words))
 meaning_by-answers (Some name.Planned) words = λ e. search (rules, e)
 
 pub meaning_needs_none : NeedsNoMemory

@@ -2,5 +2,6 @@ pub mod Numbers
 pub mod Simple
 pub mod Answers
 pub mod Options
+pub mod Arguments
 pub mod Meaning
 pub mod Views

@@ -5,6 +5,7 @@ use Rattle.std.specs.Str.{bytes_eq}
 use Rattle.clap.specs.Words.{Row, Text, new_app}
 use Rattle.xt_words.specs.Simple.{rows_by}
 use Rattle.xt_words.specs.Options.{AreValid, run_options_of}
+use Rattle.xt_words.specs.Arguments.{IsVecbase, generator_number_of, vecbase_of}
 use Rattle.xt_words.specs.declared.command.Command.{Command}
 use Rattle.xt_words.specs.declared.command.Command.TheVariants as command
 use Rattle.xt_words.specs.declared.command.Refusal.{Refusal}
@@ -23,7 +24,7 @@ names =
     ∷ (codes "run", name.Run)
     ∷ (codes "record", name.Planned)
     ∷ (codes "replay", name.Planned)
-    ∷ (codes "gen", name.Planned)
+    ∷ (codes "gen", name.Generate)
     ∷ []
 
 abbrev pub name_in : List (Text × Name) → Text → Option Name
@@ -39,13 +40,19 @@ abbrev pub without_options : Command → Option (List Row) → Result Command Re
 without_options command (Some rows) = Ok command
 without_options command None = Err (refusal.Usage 3)
 
--- a run with these options, or the rule of usage that its words break
-abbrev pub run_with : Result RunOptions Refusal → Result Command Refusal
-run_with (Ok options) = Ok (command.Run options)
-run_with (Err refusal) = Err refusal
+-- a command with what its words say, or the rule of usage that they break
+abbrev pub command_with : {A : Type 0} → (A → Command) → Result A Refusal → Result Command Refusal
+command_with make (Ok said) = Ok (make said)
+command_with make (Err refusal) = Err refusal
+
+abbrev pub check_meaning_of : List Text → Result Command Refusal
+check_meaning_of words = command_with command.Check (vecbase_of words)
 
 abbrev pub run_meaning_of : List Text → Result Command Refusal
-run_meaning_of words = run_with (run_options_of words)
+run_meaning_of words = command_with command.Run (run_options_of words)
+
+abbrev pub gen_meaning_of : List Text → Result Command Refusal
+gen_meaning_of words = command_with command.Generate (generator_number_of words)
 
 abbrev pub meaning_by : Option Name → List Text → Result Command Refusal
 meaning_by None words = Err (refusal.Usage 2)
@@ -55,9 +62,9 @@ meaning_by (Some name.Convert) words =
     without_options command.Convert (rows_by (new_app (codes "elf")) words)
 meaning_by (Some name.Disassemble) words =
     without_options command.Disassemble (rows_by (new_app (codes "dis")) words)
-meaning_by (Some name.Check) words =
-    without_options command.Check (rows_by (new_app (codes "check")) words)
+meaning_by (Some name.Check) words = check_meaning_of words
 meaning_by (Some name.Run) words = run_meaning_of words
+meaning_by (Some name.Generate) words = gen_meaning_of words
 meaning_by (Some name.Planned) words = Err refusal.Unbuilt
 
 -- the command with its options that the words say, or why they say none
@@ -65,8 +72,9 @@ abbrev pub meaning_of : List Text → Result Command Refusal
 meaning_of [] = Err (refusal.Usage 1)
 meaning_of (word ∷ rest) = meaning_by (named word) (word ∷ rest)
 
--- the options of a command are valid for a run
+-- the options of a command are valid for a run, and its VECBASE is one
 abbrev pub HasValidOptions : Command → Type 0
+HasValidOptions (command.Check vecbase) = IsVecbase vecbase
 HasValidOptions (command.Run options) = AreValid options
 HasValidOptions _ = Unit {0}
 
@@ -77,6 +85,7 @@ TakesMemory (Some name.Convert) = Unit {0}
 TakesMemory (Some name.Disassemble) = Unit {0}
 TakesMemory (Some name.Check) = Unit {0}
 TakesMemory (Some name.Run) = Unit {0}
+TakesMemory (Some name.Generate) = Unit {0}
 TakesMemory _ = ⊥
 
 -- the first word names a command whose words are read with memory

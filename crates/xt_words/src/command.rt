@@ -13,18 +13,20 @@ pub enum Command {
     Convert,
     /// `dis`: lists an image.
     Disassemble,
-    /// `check`: checks an image.
-    Check,
+    /// `check`: checks an image, and its window handlers from this VECBASE on.
+    Check(u32),
     /// `run`: runs an image, with these options.
     Run(RunOptions),
+    /// `gen`: runs the image that is made from this number.
+    Generate(u32),
 }
 
 /// Why words are no command with options.
 #[derive(Clone, Copy, Debug, PartialEq, Eq)]
 pub enum Refusal {
     /// The number of the first rule of usage that the words break:
-    /// 1 there is no word, 2 the command is unknown, 3 the further words do not match the command's options, 4 to 8 an
-    /// option is refused (`run_options` says which is which).
+    /// 1 there is no word, 2 the command is unknown, 3 the further words do not match what the command takes, 4 to 8 a
+    /// text of theirs is refused (`run_options`, `check_vecbase` and `generator_number` say which is which).
     Usage(u8),
     /// The command is not there yet.
     Unbuilt,
@@ -53,6 +55,8 @@ pub enum Name {
     Check,
     /// `run`
     Run,
-    /// `record`, `replay` and `gen`, which are not there yet.
+    /// `gen`
+    Generate,
+    /// `record` and `replay`, which are not there yet.
     Planned,
 }

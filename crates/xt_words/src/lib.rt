@@ -4,6 +4,7 @@
 //! read by `clap` mean what that crate defines for a simple command.
 #![tactic(auto)]
 
+mod arguments;
 mod command;
 mod laws;
 mod numbers;
@@ -13,9 +14,10 @@ mod options;
 mod simple;
 mod words;
 
+pub use arguments::{check_vecbase, generator_number};
 pub use command::{Command, Refusal};
 pub use laws::{meaning_needs_no_memory, options_need_no_memory, valid_options_are_accepted};
-pub use option_words::{record_options, run_options};
+pub use option_words::{DEFAULT_VECBASE, record_options, run_options};
 pub use options::{MOST_TURNS, RunOptions, within_limits};
 pub use words::meaning;
 

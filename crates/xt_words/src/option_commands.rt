@@ -1,7 +1,8 @@
-//! The simple commands of `clap` that read the options of `run` and `record`.
+//! The simple commands of `clap` that read the words of `run`, `record`, `check` and `gen`.
 ghost use Rattle.std.specs.Prelude.{◌≡◌, IfOk, map, string_bytes, option_map, fold, codes};
 ghost use Rattle.clap.specs.Words.{app_of, first_of, found_of, new_app, rows_of, with_rule};
 ghost use Rattle.xt_words.specs.Simple.{Matches, rows_by};
+ghost use Rattle.xt_words.specs.Arguments.{check_app, gen_app, positional_rule};
 ghost use Rattle.xt_words.specs.Options.{flag_rule, is_set, option_names, record_app, run_app, texts_of, with_option};
 ghost use Rattle.xt_words.specs.Views.{texts_in};
 
@@ -72,8 +73,47 @@ pub fn record_matches<'a>(alloc: Global, words: &'a [String]) -> Result<ArgMatch
     matches_by(with_options(alloc, "record")?, words)
 }
 
-// The text of an option.
-fn text_of<'a>(matches: &ArgMatches<'a>, name: &str) -> Option<&'a str>
+// The command `check` with its option.
+fn check_command<'a>(alloc: Global) -> Result<Command<'a>, AllocError>
+    ensures { IfOk result (λ c. app_of c ≡ check_app) }
+{
+    with_one_option(alloc, Command::new(alloc, "check"), "vecbase")
+}
+
+/// What `clap` matches on the words of `check`.
+pub fn check_matches<'a>(alloc: Global, words: &'a [String]) -> Result<ArgMatches<'a>, Refusal>
+    ensures { Matches result (rows_by check_app (map string_bytes words.now)) }
+{
+    matches_by(check_command(alloc)?, words)
+}
+
+// The command with one text that must be there.
+fn with_positional<'a>(
+    alloc: Global,
+    command: Command<'a>,
+    name: &'a str,
+) -> Result<Command<'a>, AllocError>
+    ensures { IfOk result (λ c. app_of c ≡ with_rule (app_of command.entry) (positional_rule name.entry.now)) }
+{
+    command.arg(Arg::new(alloc, name).required(true))
+}
+
+// The command `gen` with its number.
+fn generator_command<'a>(alloc: Global) -> Result<Command<'a>, AllocError>
+    ensures { IfOk result (λ c. app_of c ≡ gen_app) }
+{
+    with_positional(alloc, Command::new(alloc, "gen"), "number")
+}
+
+/// What `clap` matches on the words of `gen`.
+pub fn generator_matches<'a>(alloc: Global, words: &'a [String]) -> Result<ArgMatches<'a>, Refusal>
+    ensures { Matches result (rows_by gen_app (map string_bytes words.now)) }
+{
+    matches_by(generator_command(alloc)?, words)
+}
+
+/// The text of an option or of a positional.
+pub fn text_of<'a>(matches: &ArgMatches<'a>, name: &str) -> Option<&'a str>
     ensures { option_map (λ s. s.now) result ≡ first_of name.now (rows_of (found_of matches.now)) }
 {
     matches.get_str(name)

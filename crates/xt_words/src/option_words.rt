@@ -32,8 +32,11 @@ fn range(text: &str) -> Option<Stack>
     }
 }
 
-// The number of a text, or the default where there is none.
-fn number_or(text: Option<&str>, default: u32) -> Option<u32>
+/// VECBASE where no word says another.
+pub const DEFAULT_VECBASE: u32 = 0x40080000;
+
+/// The number of a text, or the default where there is none.
+pub fn number_or(text: Option<&str>, default: u32) -> Option<u32>
     ensures { result ≡ said_or number_of default (option_map (λ t. t.now) text.entry) }
 {
     match text {
@@ -69,7 +72,7 @@ fn options_from(texts: OptionTexts<'_>) -> Option<RunOptions>
     let turns0 = number_or(texts.turns0, 100_000)?;
     let turns1 = number_or(texts.turns1, 100_000)?;
     let entry1 = address(texts.entry1)?;
-    let vecbase = number_or(texts.vecbase, 0x40080000)?;
+    let vecbase = number_or(texts.vecbase, DEFAULT_VECBASE)?;
     let below = Stack {
         lo: 0x3FFF0000,
         hi: 0x3FFF8000,

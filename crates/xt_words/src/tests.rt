@@ -30,7 +30,20 @@ fn words_and_meanings(rt: HostRuntime) -> Result<(), Fail> {
         ("elf", Ok(Command::Convert)),
         ("elf --vecbase 0x40080000", Err(Refusal::Usage(3))),
         ("dis", Ok(Command::Disassemble)),
-        ("check", Ok(Command::Check)),
+        ("check", Ok(Command::Check(0x4008_0000))),
+        ("check --", Ok(Command::Check(0x4008_0000))),
+        ("check --vecbase 1024", Ok(Command::Check(1024))),
+        (
+            "check --vecbase=0x400D0000",
+            Ok(Command::Check(0x400D_0000)),
+        ),
+        ("check --vecbase", Err(Refusal::Usage(3))),
+        ("check image", Err(Refusal::Usage(3))),
+        ("check --vecbase 0 --vecbase 0", Err(Refusal::Usage(3))),
+        ("check --vecbase x", Err(Refusal::Usage(4))),
+        ("check --vecbase 4294967296", Err(Refusal::Usage(4))),
+        ("check --vecbase 0x40080010", Err(Refusal::Usage(7))),
+        ("check --vecbase 512", Err(Refusal::Usage(7))),
         ("dis --", Ok(Command::Disassemble)),
         ("dis --help", Err(Refusal::Usage(3))),
         ("check -h", Err(Refusal::Usage(3))),
@@ -42,10 +55,20 @@ fn words_and_meanings(rt: HostRuntime) -> Result<(), Fail> {
         ("dis -", Err(Refusal::Usage(3))),
         ("dis ", Err(Refusal::Usage(3))),
         ("check --trace", Err(Refusal::Usage(3))),
+        // a number
+        ("gen 1", Ok(Command::Generate(1))),
+        ("gen 0xFFFFFFFF", Ok(Command::Generate(4_294_967_295))),
+        ("gen -- 007", Ok(Command::Generate(7))),
+        ("gen", Err(Refusal::Usage(3))),
+        ("gen 1 2", Err(Refusal::Usage(3))),
+        ("gen -1", Err(Refusal::Usage(3))),
+        ("gen --number 1", Err(Refusal::Usage(3))),
+        ("gen ", Err(Refusal::Usage(4))),
+        ("gen 4294967296", Err(Refusal::Usage(4))),
+        ("gen x", Err(Refusal::Usage(4))),
         // commands that are not there yet
         ("record --turns0 10 --turns1 0", Err(Refusal::Unbuilt)),
         ("replay jump", Err(Refusal::Unbuilt)),
-        ("gen 1", Err(Refusal::Unbuilt)),
     ];
     for (line, answer) in rows {
         let words = words_of(alloc, line)?;

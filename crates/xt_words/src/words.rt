@@ -1,8 +1,9 @@
 ghost use Rattle.std.specs.Prelude.{◌≡◌, IfOk, map, string_bytes};
 ghost use Rattle.xt_words.specs.Answers.{Means};
-ghost use Rattle.xt_words.specs.Meaning.{HasValidOptions, MayWantMemory, meaning_of, named, run_meaning_of};
+ghost use Rattle.xt_words.specs.Meaning.{HasValidOptions, MayWantMemory, check_meaning_of, gen_meaning_of, meaning_of, named, run_meaning_of};
 ghost use Rattle.xt_words.specs.declared.command.Refusal.TheVariants.{Memory};
 
+use crate::arguments::{check_vecbase, generator_number};
 use crate::command::{Command, Name, Refusal};
 use crate::option_words::run_options;
 use crate::simple::without_options_meaning;
@@ -18,7 +19,8 @@ fn name_of(word: &str) -> Option<Name>
         "dis" => Some(Name::Disassemble),
         "check" => Some(Name::Check),
         "run" => Some(Name::Run),
-        "record" | "replay" | "gen" => Some(Name::Planned),
+        "gen" => Some(Name::Generate),
+        "record" | "replay" => Some(Name::Planned),
         _ => None,
     }
 }
@@ -34,13 +36,37 @@ fn run_meaning(alloc: Global, words: &[String]) -> Result<Command, Refusal>
     }
 }
 
+// The command `check` with the VECBASE that its words say.
+fn check_meaning(alloc: Global, words: &[String]) -> Result<Command, Refusal>
+    ensures means { Means result (check_meaning_of (map string_bytes words.now)) }
+    ensures valid { IfOk result HasValidOptions }
+{
+    match check_vecbase(alloc, words) {
+        Ok(vecbase) => Ok(Command::Check(vecbase)),
+        Err(refusal) => Err(refusal),
+    }
+}
+
+// The command `gen` with the number that its words say.
+fn gen_meaning(alloc: Global, words: &[String]) -> Result<Command, Refusal>
+    ensures means { Means result (gen_meaning_of (map string_bytes words.now)) }
+    ensures valid { IfOk result HasValidOptions }
+{
+    match generator_number(alloc, words) {
+        Ok(number) => Ok(Command::Generate(number)),
+        Err(refusal) => Err(refusal),
+    }
+}
+
 /// The command with its options that the words behind the program's name say, or why they say none.
 ///
 /// - No word is `Usage(1)`, and a first word that is no command `Usage(2)`.
-/// - `asm`, `elf`, `dis` and `check` take no further word. Other words after them are `Usage(3)`, as far as `clap` does
-///   not take them: it takes one that is `--`.
+/// - `asm`, `elf` and `dis` take no further word. Other words after them are `Usage(3)`, as far as `clap` does not take
+///   them: it takes one that is `--`.
+/// - `check` has the option that `check_vecbase` says, with the rules of usage 3, 4 and 7.
 /// - `run` has the options that `run_options` says, with the rules of usage 3 to 8.
-/// - `record`, `replay` and `gen` are `Unbuilt`, whatever follows.
+/// - `gen` has the number that `generator_number` says, with the rules of usage 3 and 4.
+/// - `record` and `replay` are `Unbuilt`, whatever follows.
 ///
 /// `Memory` is too little memory alone.
 pub fn meaning(alloc: Global, words: &[String]) -> Result<Command, Refusal>
@@ -60,6 +86,7 @@ pub fn meaning(alloc: Global, words: &[String]) -> Result<Command, Refusal>
         Some(Name::Disassemble) => {
             without_options_meaning(alloc, "dis", Command::Disassemble, words)
         }
-        Some(Name::Check) => without_options_meaning(alloc, "check", Command::Check, words),
+        Some(Name::Check) => check_meaning(alloc, words),
+        Some(Name::Generate) => gen_meaning(alloc, words),
     }
 }

@@ -6,10 +6,10 @@ use Rattle.xt_cli.proofs.output.write_traced.Goals as goal
 pub returns-in_err-write_report : goal.returns-in_err-write_report
 returns-in_err-write_report g c =
     let same : c.from_residual.result ≡ Err c.in_err-write_report.field-0.0 = search rules in
-    refused_early _ _ _ _ _ _ _ (report_text c.args.run.now) (trace_text (g.R.Records.left c.args.records0.now) (g.R.Records.left c.args.records1.now)) c.in_err-write_report.was same c.write_report.ensures
+    refused_early _ _ _ _ _ _ _ (report_text c.args.whole.now) (trace_text (g.R.Records.left c.args.records0.now) (g.R.Records.left c.args.records1.now)) c.in_err-write_report.was same c.write_report.ensures
 
 pub returns : goal.returns
 returns g c =
-    let first = report_text c.args.run.now in
+    let first = report_text c.args.whole.now in
     written_after _ _ _ _ _ _ _ first (trace_text (g.R.Records.left c.args.records0.now) (g.R.Records.left c.args.records1.now))
     (was_appended _ _ _ _ _ _ first c.in_ok-write_report.was c.write_report.ensures) c.write_report.ensures.later c.write_traces.ensures

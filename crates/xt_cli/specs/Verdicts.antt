@@ -1,0 +1,87 @@
+-- The answers for the window handlers of an image, what is judged of its run, and their lines
+-- ('profile').
+use Rattle.std.specs.Prelude.{ℕ, List, [], ◌∷◌, ◌++◌, codes}
+use Rattle.std.specs.List.{concat}
+use Rattle.std.specs.Fmt.{decimal}
+use Rattle.xt_stretch.specs.declared.HandlerVerdict.{HandlerVerdict}
+use Rattle.xt_stretch.specs.declared.HandlerVerdict.TheVariants.{Yes, No}
+use Rattle.xt_stretch.specs.declared.Side.TheVariants.{Overflow, Underflow}
+use Rattle.xt_handlers.specs.Vectors.{verdict_of}
+use Rattle.xt_handlers.specs.declared.Handlers.{Handlers}
+use Rattle.xt_trace.specs.declared.run.Run.{Run}
+use Rattle.xt_image.specs.declared.image.Image.{Image}
+use Rattle.xt_frames.specs.Verdict.{verdict}
+use Rattle.xt_discipline.specs.Verdicts.{are_yes}
+use Rattle.xt_machine.specs.Framed.{judgement_of}
+use Rattle.xt_frames.specs.declared.kinds.BreachKind.{BreachKind}
+use Rattle.xt_frames.specs.declared.kinds.BreachKind.TheVariants as kind
+use Rattle.xt_frames.specs.declared.kinds.Judged.{Judged}
+use Rattle.xt_frames.specs.declared.kinds.Judged.TheVariants as judged
+
+-- ---- the handlers
+
+-- the answers for the six vectors from VECBASE on
+unfoldable pub handlers_of : (ℕ → ℕ) → ℕ → Handlers
+handlers_of code vecbase = record {
+  of4 = verdict_of code vecbase Overflow 1;
+  uf4 = verdict_of code vecbase Underflow 1;
+  of8 = verdict_of code vecbase Overflow 2;
+  uf8 = verdict_of code vecbase Underflow 2;
+  of12 = verdict_of code vecbase Overflow 3;
+  uf12 = verdict_of code vecbase Underflow 3;
+}
+
+-- `yes`, or `no` and the offset at which a vector fails
+abbrev pub verdict_text : HandlerVerdict → List ℕ
+verdict_text Yes = codes "yes"
+verdict_text (No offset) = codes "no " ++ decimal offset
+
+-- `handlers of4 V uf4 V of8 V uf8 V of12 V uf12 V`
+abbrev pub handlers_line : Handlers → List ℕ
+handlers_line h = concat (
+    codes "handlers of4 " ∷ verdict_text h.of4
+    ∷ codes " uf4 " ∷ verdict_text h.uf4
+    ∷ codes " of8 " ∷ verdict_text h.of8
+    ∷ codes " uf8 " ∷ verdict_text h.uf8
+    ∷ codes " of12 " ∷ verdict_text h.of12
+    ∷ codes " uf12 " ∷ verdict_text h.uf12
+    ∷ codes "\n" ∷ [])
+
+-- ---- the verdict
+
+-- what is judged of a run of an image whose handlers have these answers: nothing where one of them is
+-- `no`; else the first breach of the walk over its records, in the order of its schedule
+abbrev pub judged_of : Handlers → Image → Run → Judged
+judged_of handlers image run = verdict (are_yes handlers) (judgement_of image run)
+
+abbrev pub kind_text : BreachKind → List ℕ
+kind_text kind.Unset = codes "Unset"
+kind_text kind.SpWritten = codes "SpWritten"
+kind_text kind.FrameSize = codes "FrameSize"
+kind_text kind.StackRange = codes "StackRange"
+kind_text kind.SpAlign = codes "SpAlign"
+kind_text kind.OpeningCall = codes "OpeningCall"
+kind_text kind.ReturnMismatch = codes "ReturnMismatch"
+kind_text kind.NoCaller = codes "NoCaller"
+kind_text kind.SaveStore = codes "SaveStore"
+kind_text kind.StaleLoad = codes "StaleLoad"
+kind_text kind.ExcmRegister = codes "ExcmRegister"
+kind_text kind.WindowInstruction = codes "WindowInstruction"
+kind_text kind.WindowRegister = codes "WindowRegister"
+kind_text kind.WoeCleared = codes "WoeCleared"
+kind_text kind.VecbaseMoved = codes "VecbaseMoved"
+kind_text kind.EpcLost = codes "EpcLost"
+kind_text kind.Movsp = codes "Movsp"
+kind_text kind.VectorEntered = codes "VectorEntered"
+
+-- `none`, `whole`, or `breach KIND core C step N`
+abbrev pub frames_text : Judged → List ℕ
+frames_text judged.Unchecked = codes "none"
+frames_text judged.Whole = codes "whole"
+frames_text (judged.Broken b) = concat (
+    codes "breach " ∷ kind_text b.kind
+    ∷ codes " core " ∷ decimal b.core
+    ∷ codes " step " ∷ decimal b.step ∷ [])
+
+abbrev pub frames_line : Judged → List ℕ
+frames_line j = codes "frames " ++ frames_text j ++ codes "\n"

@@ -1,0 +1,57 @@
+//! The words of `check` and `gen`.
+ghost use Rattle.std.specs.Prelude.{◌≡◌, IfOk, map, string_bytes, option_map};
+ghost use Rattle.xt_words.specs.Answers.{Means};
+ghost use Rattle.xt_words.specs.Arguments.{IsVecbase, generator_number_of, judged_number, judged_vecbase, number_in, vecbase_of};
+
+use crate::command::Refusal;
+use crate::numbers::number;
+use crate::option_commands::{check_matches, generator_matches, text_of};
+use crate::option_words::{DEFAULT_VECBASE, number_or};
+use std::alloc::Global;
+
+// A VECBASE, or the first rule of usage that it breaks.
+fn judge_vecbase(vecbase: Option<u32>) -> Result<u32, Refusal>
+    ensures means { result ≡ judged_vecbase vecbase }
+    ensures valid { IfOk result IsVecbase }
+{
+    match vecbase {
+        None => Err(Refusal::Usage(4)),
+        Some(vecbase) if vecbase % 1024 == 0 => Ok(vecbase),
+        Some(_) => Err(Refusal::Usage(7)),
+    }
+}
+
+/// The VECBASE that the words of `check` say, the first of which stands for the command.
+///
+/// The words are read as a simple command of `clap` with the option `--vecbase N`, whose default is 0x40080000. N is as
+/// for `run`. `Usage` has the first rule that the words break: 3 they do not match, 4 the text is no number, 7 it is no
+/// multiple of 1024. `Memory` is too little memory alone.
+pub fn check_vecbase(alloc: Global, words: &[String]) -> Result<u32, Refusal>
+    ensures means { Means result (vecbase_of (map string_bytes words.now)) }
+    ensures valid { IfOk result IsVecbase }
+{
+    let matches = check_matches(alloc, words)?;
+    judge_vecbase(number_or(text_of(&matches, "vecbase"), DEFAULT_VECBASE))
+}
+
+// The number of a text.
+fn number_from(text: Option<&str>) -> Result<u32, Refusal>
+    ensures { result ≡ judged_number (number_in (option_map (λ t. t.now) text.entry)) }
+{
+    match text {
+        Some(text) => number(text).ok_or(Refusal::Usage(4)),
+        None => Err(Refusal::Usage(4)),
+    }
+}
+
+/// The number that the words of `gen` say, the first of which stands for the command.
+///
+/// The words are read as a simple command of `clap` with one text that must be there. It is a number as for `run`.
+/// `Usage` has the first rule that the words break: 3 they do not match, 4 the text is no number. `Memory` is too little
+/// memory alone.
+pub fn generator_number(alloc: Global, words: &[String]) -> Result<u32, Refusal>
+    ensures { Means result (generator_number_of (map string_bytes words.now)) }
+{
+    let matches = generator_matches(alloc, words)?;
+    number_from(text_of(&matches, "number"))
+}
