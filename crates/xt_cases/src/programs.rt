@@ -4,7 +4,7 @@ ghost use Rattle.std.specs.Prelude.{◌<◌, All, IfSome};
 ghost use Rattle.xt_image.specs.Parts.{IsWellFormed};
 ghost use Rattle.xt_words.specs.Options.{AreValid};
 
-use crate::cases::{has_lines, has_part, has_starts, lines_of, push_line, words_of};
+use crate::cases::{has_lines, has_part, has_starts, lines_of, words_of};
 use std::alloc::Global;
 use std::sync::Wait;
 use std::thread::Threads;
@@ -95,13 +95,11 @@ pub fn output_over(
     text_in(alloc, &sink)
 }
 
-// The report of a case: its lines on the run, and the one on the handlers.
+// The report of a case: its lines on the run, and those on the handlers and the verdict.
 fn report_of(alloc: Global, case: &str) -> Option<String> {
     let mut report = lines_of(alloc, case, "report", "").ok()?;
     let verdict = lines_of(alloc, case, "verdict", "").ok()?;
-    if let Some(line) = verdict.lines().next() {
-        push_line(&mut report, line).ok()?;
-    }
+    report.push_str(verdict.as_str()).ok()?;
     Some(report)
 }
 

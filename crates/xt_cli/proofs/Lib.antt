@@ -1,3 +1,4 @@
+mod Numbered
 mod Running
 mod Segmented
 mod Sending

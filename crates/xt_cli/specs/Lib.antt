@@ -4,5 +4,6 @@ pub mod Checks
 pub mod Statuses
 pub mod Calls
 pub mod Writes
+pub mod Summaries
 pub mod Tools
 pub mod Top

@@ -15,7 +15,7 @@ use Rattle.xt_trace.specs.declared.trace.Trace.{Trace}
 use Rattle.xt_trace.specs.declared.record.StepRecord.{StepRecord}
 use Rattle.xt_trace.specs.declared.run.Run.{Run}
 use Rattle.xt_trace.specs.Lines.{line_text}
-use Rattle.xt_cli.specs.Verdicts.{handlers_line}
+use Rattle.xt_cli.specs.Verdicts.{frames_line, handlers_line}
 use Rattle.xt_cli.specs.declared.verdicts.Whole.{Whole}
 
 abbrev pub newline : List ℕ
@@ -75,9 +75,9 @@ run_lines run =
     ++ core_line 1 run.trace1
     ++ history_line (length run.history)
 
--- these lines, and that of the window handlers
+-- these lines, and those of the window handlers and the verdict
 unfoldable pub report_text : Whole → List ℕ
-report_text w = run_lines w.run ++ handlers_line w.handlers
+report_text w = run_lines w.run ++ handlers_line w.handlers ++ frames_line w.judged
 
 -- ---- the lines of the traces
 

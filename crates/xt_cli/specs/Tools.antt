@@ -107,8 +107,8 @@ Answers (Ok command.Disassemble) e (tool.Answer s) = Makes job.List e s
 Answers (Ok (command.Check vecbase)) e (tool.Answer s) = Makes (job.Check vecbase) e s
 Answers (Ok (command.Run options)) e tool.Threaded = IsUntouched e
 Answers (Ok (command.Run options)) e (tool.Answer s) = (s ≡ status.Memory) × IsUntouched e
-Answers (Ok (command.Generate number)) e (tool.Answer s) =
-    ((s ≡ status.Unbuilt) ⊎ (s ≡ status.Memory)) × IsUntouched e
+Answers (Ok (command.Generate number)) e tool.Threaded = IsUntouched e
+Answers (Ok (command.Generate number)) e (tool.Answer s) = (s ≡ status.Memory) × IsUntouched e
 Answers (Err r) e (tool.Answer s) = RefusesWords r e s
 Answers _ e _ = ⊥
 

@@ -8,6 +8,7 @@ use Rattle.xt_image.specs.Rules.{image_fault}
 use Rattle.xt_image.specs.Format.{image_of}
 use Rattle.xt_trace.specs.declared.options.Options.{Options}
 use Rattle.xt_trace.specs.declared.run.Run.{Run}
+use Rattle.xt_gen.specs.Generated.{generated}
 use Rattle.xt_core.specs.Runs.{IsRunOf, code_of, records_of}
 use Rattle.xt_machine.specs.Lists.{run_of_list, schedule_in}
 use Rattle.xt_machine.specs.Framed.{IsFramed}
@@ -24,7 +25,8 @@ use Rattle.xt_cli.specs.declared.top.Outcome.{Outcome}
 use Rattle.xt_cli.specs.Calls.{Ends, ReadsWhole}
 use Rattle.xt_cli.specs.Tools as tools
 use Rattle.xt_cli.specs.Reports.{output_text}
-use Rattle.xt_cli.specs.Verdicts.{handlers_of}
+use Rattle.xt_cli.specs.Summaries.{gen_options, gen_text}
+use Rattle.xt_cli.specs.Verdicts.{handlers_of, judged_of}
 
 abbrev pub image_limit : ℕ
 image_limit = 8388608
@@ -50,10 +52,13 @@ pub record IsRunOfImage (o : RunOptions) (image : Image) (run : Run) : Type 0 wh
   -- machine with unbounded call frames, up to the first breach of the stack discipline
   pub framed : IsFramed image run
 
--- what is found of a run of the image: the answers for the image's window handlers are those of the
--- six vectors from the VECBASE on with which the run opens
+-- What is found of a run of the image: the answers for the image's window handlers are those of the
+-- six vectors from the VECBASE on with which the run opens, and the verdict is that of the run's
+-- records. So where it is not `none`, the handlers pass, and with `framed` above the run up to the
+-- first breach is one of the machine with unbounded call frames, if the two stacks are apart.
 pub record IsJudged (image : Image) (w : Whole) : Type 0 where
   pub handlers : w.handlers ≡ handlers_of (code_of image) w.run.options.vecbase
+  pub verdict : w.judged ≡ judged_of w.handlers image w.run
 
 -- the input is an image, and this is its run, and what is found of it
 pub record IsRunOfInput (o : RunOptions) (input : List ℕ) (w : Whole) : Type 0 where
@@ -97,10 +102,39 @@ Runs o e status.ReadFault None =
 Runs o e status.Memory None = WritesFront o e
 Runs o e _ _ = ⊥
 
--- Each answer by what the words mean: a run's, or that of the commands that need no thread, which
+-- ---- the statuses of `gen`
+
+-- this is a run of the image that is made of the number, and what is found of it
+pub record IsGenerated (number : ℕ) (w : Whole) : Type 0 where
+  pub is_run : IsRunOfImage gen_options (generated number) w.run
+  pub judged : IsJudged (generated number) w
+
+-- each status, with its cause and what was written
+abbrev pub Generates :
+    ℕ → Option (List ℕ) → Option (List ℕ) → ℕ → ℕ → Status → Option Whole → Type 0
+Generates number told told_after faults faults_after status.Done (Some w) =
+    IsGenerated number w × Appends told told_after (gen_text number w)
+Generates number told told_after faults faults_after status.WriteFault (Some w) =
+    IsGenerated number w
+    × AppendsFront told told_after (gen_text number w)
+    × Rose faults faults_after
+Generates number told told_after faults faults_after status.Memory None =
+    Keeps told told_after
+    ⊎ ((w : Whole) × IsGenerated number w × AppendsFront told told_after (gen_text number w))
+Generates number told told_after faults faults_after _ _ = ⊥
+
+-- the source was not touched
+pub record IsUnread (e : Ends) : Type 0 where
+  pub left : e.left_after ≡ e.left
+  pub faults : e.source_faults_after ≡ e.source_faults
+
+-- Each answer by what the words mean: a run's, that of `gen`, or that of the commands that need no thread, which
 -- hand out no run.
 abbrev pub Answers : Result Command Refusal → Ends → Outcome → Type 0
 Answers (Ok (command.Run options)) e o = Runs options e o.status o.whole
+Answers (Ok (command.Generate number)) e o =
+    IsUnread e
+    × Generates number e.told e.told_after e.sink_faults e.sink_faults_after o.status o.whole
 Answers meant e o = tools.Answers meant e (tool.Answer o.status) × (o.whole ≡ None)
 
 -- ---- completeness
@@ -121,6 +155,13 @@ FinishesRun e s =
     → (Rose e.sink_faults e.sink_faults_after → ⊥)
     → (s ≡ status.Done) ⊎ (s ≡ status.Memory)
 
+-- no fault of the sink in this call ends in Done, or in Memory
+abbrev pub FinishesGen : ℕ → ℕ → Status → Type 0
+FinishesGen faults faults_after s =
+    (Rose faults faults_after → ⊥) → (s ≡ status.Done) ⊎ (s ≡ status.Memory)
+
 abbrev pub IsComplete : Result Command Refusal → Ends → Outcome → Type 0
 IsComplete (Ok (command.Run options)) e o = FinishesRun e o.status
+IsComplete (Ok (command.Generate number)) e o =
+    FinishesGen e.sink_faults e.sink_faults_after o.status
 IsComplete meant e o = tools.IsComplete meant e (tool.Answer o.status)

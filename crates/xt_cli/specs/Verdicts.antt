@@ -8,6 +8,11 @@ use Rattle.xt_stretch.specs.declared.HandlerVerdict.TheVariants.{Yes, No}
 use Rattle.xt_stretch.specs.declared.Side.TheVariants.{Overflow, Underflow}
 use Rattle.xt_handlers.specs.Vectors.{verdict_of}
 use Rattle.xt_handlers.specs.declared.Handlers.{Handlers}
+use Rattle.xt_trace.specs.declared.run.Run.{Run}
+use Rattle.xt_image.specs.declared.image.Image.{Image}
+use Rattle.xt_frames.specs.Verdict.{verdict}
+use Rattle.xt_discipline.specs.Verdicts.{are_yes}
+use Rattle.xt_machine.specs.Framed.{judgement_of}
 use Rattle.xt_frames.specs.declared.kinds.BreachKind.{BreachKind}
 use Rattle.xt_frames.specs.declared.kinds.BreachKind.TheVariants as kind
 use Rattle.xt_frames.specs.declared.kinds.Judged.{Judged}
@@ -43,6 +48,11 @@ handlers_line h = concat (
     ∷ codes "\n" ∷ [])
 
 -- ---- the verdict
+
+-- what is judged of a run of an image whose handlers have these answers: nothing where one of them is
+-- `no`; else the first breach of the walk over its records, in the order of its schedule
+abbrev pub judged_of : Handlers → Image → Run → Judged
+judged_of handlers image run = verdict (are_yes handlers) (judgement_of image run)
 
 abbrev pub kind_text : BreachKind → List ℕ
 kind_text kind.Unset = codes "Unset"

@@ -2,9 +2,12 @@
 #![tactic(auto)]
 
 mod checks;
+mod gen_report;
+mod generating;
 mod laws;
 mod output;
 mod run_report;
+mod runs;
 mod status;
 mod tool;
 mod top;
@@ -12,6 +15,7 @@ mod verdict_lines;
 mod verdicts;
 
 pub use checks::check_text;
+pub use gen_report::summary;
 pub use laws::history_sends_as_memory;
 pub use run_report::{report, run_lines};
 pub use status::{Status, status_line};
@@ -20,6 +24,8 @@ pub use top::{Outcome, write_whole, xt_main};
 pub use verdict_lines::{frames_line, handlers_line};
 pub use verdicts::{Whole, handlers_of, judged};
 
+#[cfg(test)]
+mod gen_tests;
 #[cfg(test)]
 mod tests;
 #[cfg(test)]

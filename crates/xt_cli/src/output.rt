@@ -8,7 +8,17 @@ use crate::run_report::report;
 use crate::verdicts::Whole;
 use std::alloc::Global;
 use xt_io::{Refused, Sink, write_all};
+use xt_map::Text;
 use xt_trace::{Records, Run, StepRecord, line};
+
+/// Writes a text.
+pub fn write_text<K: Sink>(text: &Text, sink: &mut K) -> Result<(), Refused>
+    ensures { Writes result
+        (K.told sink.old) (K.told sink.new) (K.faults sink.old) (K.faults sink.new)
+        text.now }
+{
+    write_all(sink, text.as_slice())
+}
 
 // Writes the line of a record.
 fn write_record<K: Sink>(

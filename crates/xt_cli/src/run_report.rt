@@ -1,7 +1,7 @@
 ghost use Rattle.std.specs.Prelude.{◌≡◌, IfOk, string_bytes};
 ghost use Rattle.xt_cli.specs.Reports.{byte_of, core_line, history_line, report_text, run_lines, sent_bytes, stop_text, uart_lines};
 
-use crate::verdict_lines::handlers_line;
+use crate::verdict_lines::{frames_line, handlers_line};
 use crate::verdicts::Whole;
 use std::alloc::{AllocError, Global};
 use xt_map::{Entry, Kind, Text};
@@ -22,7 +22,7 @@ fn sent_by(entry: &Entry) -> Option<u8>
 }
 
 // The bytes that the entries send, in order.
-fn all_sent(alloc: Global, entries: &[Entry]) -> Result<Vec<u8>, AllocError>
+pub(crate) fn all_sent(alloc: Global, entries: &[Entry]) -> Result<Vec<u8>, AllocError>
     ensures { IfOk result (λ bytes. bytes.items ≡ sent_bytes entries.now) }
 {
     entries
@@ -32,7 +32,7 @@ fn all_sent(alloc: Global, entries: &[Entry]) -> Result<Vec<u8>, AllocError>
 }
 
 // Why a trace ended, in a word.
-fn stop_name(stop: Stop) -> &'static str
+pub(crate) fn stop_name(stop: Stop) -> &'static str
     ensures { result.now ≡ stop_text stop }
 {
     match stop {
@@ -86,19 +86,22 @@ pub fn run_lines(alloc: Global, run: &Run) -> Result<Text, AllocError>
     Ok(Text::new(text))
 }
 
-/// The report of a run: its own lines, and that of the answers for the six window handlers,
+/// The report of a run: its own lines, and those of the answers for the six window handlers and of
+/// the verdict,
 ///
 /// ```text
 /// handlers of4 V uf4 V of8 V uf8 V of12 V uf12 V
+/// frames F
 /// ```
 ///
-/// V is `yes`, or `no` and the offset at which the handler fails its check. The only error is too
-/// little memory.
+/// V is `yes`, or `no` and the offset at which the handler fails its check. F is `none` where one
+/// fails, else `whole`, or `breach KIND core C step N`. The only error is too little memory.
 #[tactic(auto, unfolding(crate::specs::Reports::report_text))]
 pub fn report(alloc: Global, whole: &Whole) -> Result<Text, AllocError>
     ensures { IfOk result (λ text. text ≡ report_text whole.now) }
 {
     let mut text = run_lines(alloc, &whole.run)?.into_vec();
     text.extend_from_slice(handlers_line(alloc, &whole.handlers)?.as_bytes())?;
+    text.extend_from_slice(frames_line(alloc, whole.judged)?.as_bytes())?;
     Ok(Text::new(text))
 }

@@ -217,8 +217,7 @@ pub fn tool_main<S: Source, K: Sink>(
         Ok(Command::Check(vecbase)) => {
             Tool::Answer(work(alloc, Job::Check(vecbase), source, sink))
         }
-        Ok(Command::Run(_)) => Tool::Threaded,
-        Ok(Command::Generate(_)) => Tool::Answer(Status::Unbuilt),
+        Ok(Command::Run(_) | Command::Generate(_)) => Tool::Threaded,
         Err(refusal) => Tool::Answer(status_of(refusal)),
     }
 }

@@ -1,25 +1,25 @@
 //! The top call.
 ghost use Rattle.std.specs.Prelude.{◌≡◌, map, string_bytes, IfOk, None};
 ghost use Rattle.xt_cli.specs.Calls.{ends};
-ghost use Rattle.xt_cli.specs.Top.{Answers, FinishesRun, IsComplete, IsJudged, IsRunOfImage, Runs, run_text};
+ghost use Rattle.xt_cli.specs.Top.{Answers, FinishesRun, IsComplete, Runs, run_text};
 ghost use Rattle.xt_cli.specs.Writes.{Writes};
 ghost use Rattle.xt_core.specs.Runs.{IsRunOf};
 ghost use Rattle.xt_image.specs.Parts.{IsWellFormed};
 ghost use Rattle.xt_words.specs.Meaning.{meaning_of};
 ghost use Rattle.xt_words.specs.Options.{AreValid};
 
+use crate::generating::generate;
 use crate::output::{write_report, write_traced};
+use crate::runs::judge_image;
 use crate::status::Status;
 use crate::tool::{IMAGE_LIMIT, Job, image_in, status_of, work};
-use crate::verdicts::{Whole, judged};
-use std::alloc::{AllocError, Global};
+use crate::verdicts::Whole;
+use std::alloc::Global;
 use std::sync::Wait;
 use std::thread::Threads;
 use xt_core::Cursor;
-use xt_image::{Image, well_formed_by_rules, well_formed_is_placed};
+use xt_image::{Image, well_formed_is_placed};
 use xt_io::{Gate, ReadError, Refused, Sink, Source, read_to_limit};
-use xt_machine::run;
-use xt_trace::Run;
 use xt_words::{Command, RunOptions, meaning};
 
 /// How the program ended.
@@ -33,7 +33,7 @@ pub struct Outcome {
 }
 
 // An end without a run.
-fn without_run(status: Status) -> Outcome
+pub(crate) fn without_run(status: Status) -> Outcome
     ensures status { result.status ≡ status }
     ensures whole { result.whole ≡ None }
 {
@@ -41,41 +41,6 @@ fn without_run(status: Status) -> Outcome
         status,
         whole: None,
     }
-}
-
-// The run of an image with the options of the words, on two threads.
-#[tactic(auto, unfolding(crate::specs::Top::run_of_its_schedule))]
-fn run_image<G: Gate, R: Threads + Wait + Sync>(
-    rt: &R,
-    alloc: Global,
-    options: &RunOptions,
-    image: &Image,
-    gate: &G,
-) -> Result<Run, AllocError>
-    requires valid { AreValid options.now }
-    requires image { IsWellFormed image.now }
-    ensures { IfOk result (λ run. IsRunOfImage options.now image.now run) }
-{
-    well_formed_by_rules();
-    let options = options.with_entry(image.entry);
-    run(rt, alloc, image, &options, gate)
-}
-
-// The same run with what is found of it.
-fn judge_image<G: Gate, R: Threads + Wait + Sync>(
-    rt: &R,
-    alloc: Global,
-    options: &RunOptions,
-    image: &Image,
-    gate: &G,
-) -> Result<Whole, AllocError>
-    requires valid { AreValid options.now }
-    requires image { IsWellFormed image.now }
-    ensures run { IfOk result (λ w. IsRunOfImage options.now image.now w.run) }
-    ensures judged { IfOk result (λ w. IsJudged image.now w) }
-{
-    let run = run_image(rt, alloc, options, image, gate)?;
-    judged(alloc, image, run)
 }
 
 /// Writes what `run` writes of a run of an image: the report, and where the words ask for them the
@@ -150,7 +115,8 @@ fn run_source<S: Source, K: Sink, G: Gate, R: Threads + Wait + Sync>(
 /// Where the words ask for a run, the source is read to its end as an ESP32 application image, both
 /// cores make their turns, each on a thread of its own and through the gate before each access, and
 /// the report is written to the sink, with `--trace` the lines of both traces behind it, each before
-/// the next is made. A run may wait. All else is `tool_main`'s.
+/// the next is made. Where they ask for the image that is made of a number, no input is read, that
+/// image runs so, and its summary is written. A run may wait. All else is `tool_main`'s.
 ///
 /// The contract says of each status its cause, and what was written; of `Done` and `WriteFault` of a
 /// run besides that the run that is handed out is the image's: its history is legal from the opening
@@ -179,7 +145,7 @@ pub fn xt_main<S: Source, K: Sink, G: Gate, R: Threads + Wait + Sync>(
         Ok(Command::Check(vecbase)) => {
             without_run(work(alloc, Job::Check(vecbase), source, sink))
         }
-        Ok(Command::Generate(_)) => without_run(Status::Unbuilt),
+        Ok(Command::Generate(number)) => generate(rt, alloc, number, sink, gate),
         Err(refusal) => without_run(status_of(refusal)),
     }
 }

@@ -16,11 +16,11 @@ const LETTER: &str = "E901022004040840EE0000000000000000FFFF00000000000004084010
 
 const REPORT: &str = "uart 1\nA\ncore 0 stop break turns 4 pc 4008040D\n\
 core 1 stop turns turns 0 pc 40080404\nhistory 1\n\
-handlers of4 no 0 uf4 no 0 of8 no 0 uf8 no 0 of12 no 0 uf12 no 0\n";
+handlers of4 no 0 uf4 no 0 of8 no 0 uf8 no 0 of12 no 0 uf12 no 0\nframes none\n";
 
 const TRACED: &str = "uart 1\nA\ncore 0 stop break turns 4 pc 4008040D\n\
 core 1 stop turns turns 0 pc 40080404\nhistory 1\n\
-handlers of4 no 0 uf4 no 0 of8 no 0 uf8 no 0 of12 no 0 uf12 no 0\n\
+handlers of4 no 0 uf4 no 0 of8 no 0 uf8 no 0 of12 no 0 uf12 no 0\nframes none\n\
 0 0 40080404 insn a2=3FF40000\n0 1 40080407 insn a3=00000041\n\
 0 2 4008040A insn st1 3FF40000 00000041\n0 3 4008040D stop\n";
 
@@ -87,12 +87,12 @@ fn runs_of_the_letter_a(rt: HostRuntime) -> Result<(), Fail> {
         (
             "run --turns0 2 --turns1 0",
             "uart 0\n\ncore 0 stop turns turns 2 pc 4008040A\ncore 1 stop turns turns 0 pc 40080404\nhistory 0\n\
-handlers of4 no 0 uf4 no 0 of8 no 0 uf8 no 0 of12 no 0 uf12 no 0\n",
+handlers of4 no 0 uf4 no 0 of8 no 0 uf8 no 0 of12 no 0 uf12 no 0\nframes none\n",
         ),
         (
             "run --turns0 0 --turns1 0",
             "uart 0\n\ncore 0 stop turns turns 0 pc 40080404\ncore 1 stop turns turns 0 pc 40080404\nhistory 0\n\
-handlers of4 no 0 uf4 no 0 of8 no 0 uf8 no 0 of12 no 0 uf12 no 0\n",
+handlers of4 no 0 uf4 no 0 of8 no 0 uf8 no 0 of12 no 0 uf12 no 0\nframes none\n",
         ),
         ("run --trace --turns1 0", TRACED),
         ("dis", LISTING),
@@ -143,7 +143,6 @@ fn refusals_write_nothing(rt: HostRuntime) -> Result<(), Fail> {
         ("check --vecbase x", 64, 0, Status::Usage(4)),
         ("check --vecbase 0x40080010", 64, 0, Status::Usage(7)),
         ("gen x", 64, 0, Status::Usage(4)),
-        ("gen 1", 64, 0, Status::Unbuilt),
         ("run --stack1 0:256", 64, 0, Status::Usage(8)),
         ("record", 64, 0, Status::Unbuilt),
     ];
@@ -259,6 +258,11 @@ fn words_that_need_no_input(rt: HostRuntime) -> Result<(), Fail> {
         tool_main(rt.alloc(), &run, &mut source, &mut sink),
         Tool::Threaded
     );
+    let number = words_of(rt.alloc(), "gen 1")?;
+    assert_eq!(rt;
+        tool_main(rt.alloc(), &number, &mut source, &mut sink),
+        Tool::Threaded
+    );
     let check = words_of(rt.alloc(), "check")?;
     let answered = tool_main(rt.alloc(), &check, &mut source, &mut sink);
     assert_eq!(rt; answered, Tool::Answer(Status::ReadFault));
@@ -297,10 +301,10 @@ fn too_long_an_input_is_refused(rt: HostRuntime) -> Result<(), Fail> {
 
 #[test]
 fn devices_that_fail_at_each_call(rt: HostRuntime) -> Result<(), Fail> {
-    // Thirteen calls read the 64 bytes and one finds their end; thirty-two write the 160 of the report.
+    // Thirteen calls read the 64 bytes and one finds their end; thirty-five write the 172 of the report.
     let image = hex::decode(rt.alloc(), LETTER)?;
     let words = "run --turns0 10 --turns1 0";
-    for call in 0..33usize {
+    for call in 0..36usize {
         let mut source = MemSource::make(rt.alloc(), &image, 5, &[call as u64])?;
         let mut sink = SafeSink::make(rt.alloc())?;
         let outcome = answer(&rt, words, &mut source, &mut sink)?;
@@ -318,7 +322,7 @@ fn devices_that_fail_at_each_call(rt: HostRuntime) -> Result<(), Fail> {
         let mut source = SafeSource::make(rt.alloc(), &image)?;
         let mut sink = MemSink::make(rt.alloc(), 5, &[call as u64])?;
         let outcome = answer(&rt, words, &mut source, &mut sink)?;
-        let written = if call < 32 {
+        let written = if call < 35 {
             Status::WriteFault
         } else {
             Status::Done
@@ -331,7 +335,7 @@ fn devices_that_fail_at_each_call(rt: HostRuntime) -> Result<(), Fail> {
         );
         assert_eq!(rt;
             sink.bytes().len(),
-            160.min(5 * call),
+            172.min(5 * call),
             "writing, at call {call}"
         );
     }

@@ -1,13 +1,17 @@
-//! What is found of an image and its run: the answers for its window handlers.
+//! What is found of an image and its run: the answers for its window handlers, and the verdict.
 ghost use Rattle.std.specs.Prelude.{◌≡◌, ◌%◌, IfOk};
 ghost use Rattle.xt_cli.specs.Top.{IsJudged};
-ghost use Rattle.xt_cli.specs.Verdicts.{handlers_of};
+ghost use Rattle.xt_cli.specs.Verdicts.{handlers_of, judged_of};
 ghost use Rattle.xt_core.specs.Runs.{IsRunOf, code_of};
 ghost use Rattle.xt_image.specs.Parts.{IsWellFormed};
 
 use std::alloc::{AllocError, Global};
+use xt_core::Cursor;
+use xt_discipline::judge;
+use xt_frames::Judged;
 use xt_handlers::Handlers;
 use xt_image::{Image, well_formed_is_placed};
+use xt_machine::run_has_schedule;
 use xt_map::Constants;
 use xt_trace::Run;
 
@@ -19,6 +23,9 @@ pub struct Whole {
     /// The answers for the six window handlers of its image, from the VECBASE on with which both
     /// cores open.
     pub handlers: Handlers,
+    /// What is judged of it: nothing where some handler does not pass its check, else its first breach
+    /// of the stack discipline, if there is one.
+    pub judged: Judged,
 }
 
 /// The answers for the six window handlers of an image from `vecbase` on. The only error is too
@@ -36,6 +43,25 @@ pub fn handlers_of(alloc: Global, image: &Image, vecbase: u32) -> Result<Handler
     Ok(xt_handlers::check(&code, vecbase))
 }
 
+// What is judged of a run of an image, over its records, which are made one by one.
+fn verdict(
+    alloc: Global,
+    image: &Image,
+    handlers: &Handlers,
+    run: &Run,
+) -> Result<Judged, AllocError>
+    requires image { IsWellFormed image.now }
+    requires run { IsRunOf image.now run.now }
+    ensures { IfOk result (λ j. j ≡ judged_of handlers.now image.now run.now) }
+{
+    well_formed_is_placed();
+    run_has_schedule();
+    let mut records0 = Cursor::make(alloc, image, run, 0)?;
+    let mut records1 = Cursor::make(alloc, image, run, 1)?;
+    let judged = judge(alloc, image, handlers, run, &mut records0, &mut records1)?;
+    Ok(judged)
+}
+
 /// A run of an image with what is found of it. The only error is too little memory.
 ///
 /// Conditions: the image is well formed, and the run is one of this image.
@@ -46,5 +72,10 @@ pub fn judged(alloc: Global, image: &Image, run: Run) -> Result<Whole, AllocErro
     ensures judged { IfOk result (λ w. IsJudged image.now w) }
 {
     let handlers = handlers_of(alloc, image, run.options.vecbase)?;
-    Ok(Whole { run, handlers })
+    let judged = verdict(alloc, image, &handlers, &run)?;
+    Ok(Whole {
+        run,
+        handlers,
+        judged,
+    })
 }
