@@ -6,6 +6,8 @@
 #![tactic(auto)]
 
 mod cases;
+#[cfg(test)]
+mod gate_tests;
 mod programs;
 mod schedules;
 mod verdicts;

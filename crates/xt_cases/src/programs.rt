@@ -103,6 +103,35 @@ fn report_of(alloc: Global, case: &str) -> Option<String> {
     Some(report)
 }
 
+// Whether a text begins with a report, and its next lines begin with these.
+fn begins_with(text: &str, report: &str, starts: &str) -> bool {
+    match text.strip_prefix(report) {
+        Some(rest) => has_starts(rest, starts),
+        None => false,
+    }
+}
+
+// Whether the runs of an image on two threads write what a case says, as often as the case asks.
+fn agrees_on_threads<R: Threads + Wait + Sync + AllocGlobal>(
+    rt: &R,
+    case: &str,
+    words: &[String],
+    image: &Image,
+    report: &str,
+) -> Option<bool>
+    requires { IsWellFormed image.now }
+{
+    let starts = lines_of(rt.alloc(), case, "threads", "").ok()?;
+    let times = words_of(case, "times").parse::<u32>().ok().unwrap_or(1);
+    for _time in 0..times {
+        let output = output_of(rt, words, image)?;
+        if !begins_with(output.as_str(), report, starts.as_str()) {
+            return Some(false);
+        }
+    }
+    Some(true)
+}
+
 /// Whether a program writes what its case says. Where both cores have turns, the run is that in which
 /// core 0 makes all of its turns first, unless the case is one of `threads`.
 pub fn agrees<R: Threads + Wait + Sync + AllocGlobal>(
@@ -118,8 +147,11 @@ pub fn agrees<R: Threads + Wait + Sync + AllocGlobal>(
     let is_traced = has_part(case, "trace") || has_part(case, "lines");
     let command = if is_traced { "run --trace" } else { "run" };
     let words = words_with(alloc, command, words_of(case, "options"))?;
+    if has_part(case, "threads") {
+        return agrees_on_threads(rt, case, &words, &image, report.as_str());
+    }
     let options = options_in(alloc, &words)?;
-    let output = if options.turns1 == 0 || has_part(case, "threads") {
+    let output = if options.turns1 == 0 {
         output_of(rt, &words, &image)?
     } else {
         output_over(alloc, &options, &image, &[])?
@@ -127,10 +159,6 @@ pub fn agrees<R: Threads + Wait + Sync + AllocGlobal>(
     let Some(rest) = output.strip_prefix(report.as_str()) else {
         return Some(false);
     };
-    if has_part(case, "threads") {
-        let starts = lines_of(alloc, case, "threads", handlers).ok()?;
-        return Some(has_starts(rest, starts.as_str()));
-    }
     if !has_part(case, "trace") {
         return Some(has_lines(output.as_str(), lines.as_str()));
     }
