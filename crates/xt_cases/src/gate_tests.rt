@@ -18,6 +18,11 @@ const FIFTY_STORES: &str = "E901022000040840EE0000000000000000FFFF00000000000004
 const REPORT: &str = "uart 0\n\ncore 0 stop break turns 152 pc 4008040C\n\
 core 1 stop break turns 152 pc 4008040C\nhistory 100\n";
 
+/// The summary of the image of the number 1: the sum of its table's words, modulo 2^32, was worked out
+/// by a program apart from this one.
+const SUMMARY: &str = "gen 1\nimage 131712\nuart 6B8A4000\ncore 0 stop break\n\
+core 1 stop break\nframes whole\n";
+
 /// How often a core looks for the other's note before one access.
 const LOOKS: u64 = 2_000_000;
 
@@ -74,7 +79,10 @@ impl Gate for Meet {
 fn both_cores_meet_in_the_program(rt: HostRuntime) -> Result<(), Fail> {
     let alloc = rt.alloc();
     let image = hex::decode(alloc, FIFTY_STORES)?;
-    for (command, options) in [("run", "--turns0 1000 --turns1 1000")] {
+    for (command, options, starts) in [
+        ("run", "--turns0 1000 --turns1 1000", REPORT),
+        ("gen", "1", SUMMARY),
+    ] {
         let words = words_with(alloc, command, options).ok_or(AllocError)?;
         let mut source = SafeSource::make(alloc, &image)?;
         let mut sink = SafeSink::make(alloc)?;
@@ -82,7 +90,7 @@ fn both_cores_meet_in_the_program(rt: HostRuntime) -> Result<(), Fail> {
         let outcome = xt_main(&rt, alloc, &words, &mut source, &mut sink, &gate);
         assert_eq!(rt; gate.notes(), (50, 50, 0), "{command}");
         assert_eq!(rt; outcome.status, Status::Done, "{command}");
-        assert!(rt; sink.bytes().starts_with(REPORT.as_bytes()), "{command}");
+        assert!(rt; sink.bytes().starts_with(starts.as_bytes()), "{command}");
     }
     Ok(())
 }

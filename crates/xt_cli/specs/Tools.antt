@@ -98,7 +98,7 @@ status_of refusal.Memory = status.Memory
 abbrev pub RefusesWords : Refusal → Ends → Status → Type 0
 RefusesWords r e s = ((s ≡ status_of r) ⊎ (s ≡ status.Memory)) × IsUntouched e
 
--- Each answer by what the words mean. Words that ask for a run are handed back, and nothing was
+-- Each answer by what the words mean. Words of `run` and `gen` are handed back, and nothing was
 -- touched.
 abbrev pub Answers : Result Command Refusal → Ends → Tool → Type 0
 Answers (Ok command.Assemble) e (tool.Answer s) = Makes job.Assemble e s

@@ -47,7 +47,7 @@ pub enum Job {
 pub enum Tool {
     /// The program ended with this status.
     Answer(Status),
-    /// The words ask for a run. Nothing was read or written.
+    /// The words ask for `run` or `gen`. Nothing was read or written.
     Threaded,
 }
 
@@ -196,7 +196,7 @@ pub(crate) fn work<S: Source, K: Sink>(
 /// thread: it answers every word that has no meaning, and does the work of `asm`, `elf`, `dis` and
 /// `check`. It waits for nobody and returns.
 ///
-/// Words that ask for a run are handed back as `Threaded`, and nothing was then read or written.
+/// Words that ask for `run` or `gen` are handed back as `Threaded`, and nothing was then read or written.
 /// After `Answer` the contract says of each status its cause, and what was written; too little
 /// memory is the one free answer.
 pub fn tool_main<S: Source, K: Sink>(

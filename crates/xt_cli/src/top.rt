@@ -27,8 +27,8 @@ use xt_words::{Command, RunOptions, meaning};
 pub struct Outcome {
     /// The status, which says the exit code and the line for standard error.
     pub status: Status,
-    /// The run, with what is found of it, exactly where the command is a run and the status is `Done`
-    /// or `WriteFault`.
+    /// The run, with what is found of it, exactly where the command is `run` or `gen` and the status is
+    /// `Done` or `WriteFault`.
     pub whole: Option<Whole>,
 }
 
@@ -118,11 +118,13 @@ fn run_source<S: Source, K: Sink, G: Gate, R: Threads + Wait + Sync>(
 /// the next is made. Where they ask for the image that is made of a number, no input is read, that
 /// image runs so, and its summary is written. A run may wait. All else is `tool_main`'s.
 ///
-/// The contract says of each status its cause, and what was written; of `Done` and `WriteFault` of a
-/// run besides that the run that is handed out is the image's: its history is legal from the opening
+/// The contract says of each status its cause, and what was written; of `Done` and `WriteFault` of
+/// `run` and `gen` besides that the run that is handed out is the image's: its history is legal from the opening
 /// memory, each trace is the processor's over the replies of that history, and the history's accesses
 /// are those of the traces; that it is the run of the schedule that is read from its own history; and
-/// that the answers for the window handlers are those of the image's vectors from the run's VECBASE on.
+/// that the answers for the window handlers are those of the image's vectors from the run's VECBASE on,
+/// and the verdict that of the run's records; where the handlers pass and the stacks are apart, the run
+/// up to the first breach is one of the machine with unbounded call frames.
 /// `Memory` is the one free answer.
 pub fn xt_main<S: Source, K: Sink, G: Gate, R: Threads + Wait + Sync>(
     rt: &R,

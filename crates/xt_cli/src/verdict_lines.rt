@@ -16,7 +16,7 @@ fn verdict_text(alloc: Global, verdict: HandlerVerdict) -> Result<String, AllocE
     }
 }
 
-/// The line of the answers for the six window handlers.
+/// The line of the answers for the six window handlers. The only error is too little memory.
 pub fn handlers_line(alloc: Global, handlers: &Handlers) -> Result<String, AllocError>
     ensures { IfOk result (λ line. string_bytes line ≡ handlers_line handlers.now) }
 {
@@ -71,7 +71,7 @@ fn frames_text(alloc: Global, judged: Judged) -> Result<String, AllocError>
     }
 }
 
-/// The line of what is judged of a run.
+/// The line of what is judged of a run. The only error is too little memory.
 pub fn frames_line(alloc: Global, judged: Judged) -> Result<String, AllocError>
     ensures { IfOk result (λ line. string_bytes line ≡ frames_line judged) }
 {

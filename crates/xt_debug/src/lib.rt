@@ -1,4 +1,4 @@
-//! Scripts that walk a run: their grammar, and what they print.
+//! Scripts that walk a run: their grammar.
 #![tactic(auto)]
 
 mod parsing;

@@ -1,4 +1,5 @@
-//! The parts of a recording: its head, its options and its entries, checked, read and written.
+//! The parts of a recording: its head, its options and its entries, checked and read, and options and
+//! entries written.
 #![tactic(auto)]
 
 mod entries;

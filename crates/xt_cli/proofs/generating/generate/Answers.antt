@@ -11,8 +11,8 @@ pub returns-in-Err-Memory-write_text-clause-answers : goal.returns-in-Err-Memory
 returns-in-Err-Memory-write_text-clause-answers g c =
     let front = AppendsFront (g.K.Sink.told c.args.sink.now) (g.K.Sink.told c.write_text.new.sink) in
     gen_memory c.args.number _ _ _ _ c.in-Ok.whole _ _ c.without_run-in-Err-Memory-write_text.ensures.status c.without_run-in-Err-Memory-write_text.ensures.whole
-        c.in-Ok.ensures.run
-        (subst front c.in-Ok.ensures.text (front_of _ _ _ _ _ _ _ c.in-Err-Memory-write_text.is c.write_text.ensures))
+    c.in-Ok.ensures.run
+    (subst front c.in-Ok.ensures.text (front_of _ _ _ _ _ _ _ c.in-Err-Memory-write_text.is c.write_text.ensures))
 
 pub returns-clause-answers : goal.returns-clause-answers
 returns-clause-answers g c =
