@@ -1,3 +1,4 @@
+mod Handling
 mod Numbered
 mod Running
 mod Segmented

@@ -13,6 +13,7 @@ use Rattle.xt_image.specs.declared.image.Image.{Image}
 use Rattle.xt_frames.specs.Verdict.{verdict}
 use Rattle.xt_discipline.specs.Verdicts.{are_yes}
 use Rattle.xt_machine.specs.Framed.{judgement_of}
+use Rattle.xt_frames.specs.declared.kinds.Breach.{Breach}
 use Rattle.xt_frames.specs.declared.kinds.BreachKind.{BreachKind}
 use Rattle.xt_frames.specs.declared.kinds.BreachKind.TheVariants as kind
 use Rattle.xt_frames.specs.declared.kinds.Judged.{Judged}
@@ -36,15 +37,18 @@ abbrev pub verdict_text : HandlerVerdict → List ℕ
 verdict_text Yes = codes "yes"
 verdict_text (No offset) = codes "no " ++ decimal offset
 
+-- ` ofS V ufS V`: the answers of one size of call
+abbrev pub pair_text : List ℕ → HandlerVerdict → HandlerVerdict → List ℕ
+pair_text size overflow underflow =
+    codes " of" ++ (size ++ (codes " " ++ (verdict_text overflow
+    ++ (codes " uf" ++ (size ++ (codes " " ++ verdict_text underflow))))))
+
 -- `handlers of4 V uf4 V of8 V uf8 V of12 V uf12 V`
 abbrev pub handlers_line : Handlers → List ℕ
 handlers_line h = concat (
-    codes "handlers of4 " ∷ verdict_text h.of4
-    ∷ codes " uf4 " ∷ verdict_text h.uf4
-    ∷ codes " of8 " ∷ verdict_text h.of8
-    ∷ codes " uf8 " ∷ verdict_text h.uf8
-    ∷ codes " of12 " ∷ verdict_text h.of12
-    ∷ codes " uf12 " ∷ verdict_text h.uf12
+    codes "handlers" ∷ pair_text (codes "4") h.of4 h.uf4
+    ∷ pair_text (codes "8") h.of8 h.uf8
+    ∷ pair_text (codes "12") h.of12 h.uf12
     ∷ codes "\n" ∷ [])
 
 -- ---- the verdict
@@ -74,14 +78,17 @@ kind_text kind.EpcLost = codes "EpcLost"
 kind_text kind.Movsp = codes "Movsp"
 kind_text kind.VectorEntered = codes "VectorEntered"
 
--- `none`, `whole`, or `breach KIND core C step N`
+-- `breach KIND core C step N`
+abbrev pub breach_text : Breach → List ℕ
+breach_text b =
+    codes "breach " ++ (kind_text b.kind
+    ++ (codes " core " ++ (decimal b.core ++ (codes " step " ++ decimal b.step))))
+
+-- `none`, `whole`, or the breach
 abbrev pub frames_text : Judged → List ℕ
 frames_text judged.Unchecked = codes "none"
 frames_text judged.Whole = codes "whole"
-frames_text (judged.Broken b) = concat (
-    codes "breach " ∷ kind_text b.kind
-    ∷ codes " core " ∷ decimal b.core
-    ∷ codes " step " ∷ decimal b.step ∷ [])
+frames_text (judged.Broken b) = breach_text b
 
 abbrev pub frames_line : Judged → List ℕ
 frames_line j = codes "frames " ++ frames_text j ++ codes "\n"

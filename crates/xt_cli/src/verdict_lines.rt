@@ -1,9 +1,9 @@
 //! The lines of what is found of an image and its run.
 ghost use Rattle.std.specs.Prelude.{◌≡◌, IfOk, string_bytes};
-ghost use Rattle.xt_cli.specs.Verdicts.{frames_line, frames_text, handlers_line, kind_text, verdict_text};
+ghost use Rattle.xt_cli.specs.Verdicts.{breach_text, frames_line, frames_text, handlers_line, kind_text, pair_text, verdict_text};
 
 use std::alloc::{AllocError, Global};
-use xt_frames::{BreachKind, Judged};
+use xt_frames::{Breach, BreachKind, Judged};
 use xt_handlers::{HandlerVerdict, Handlers};
 
 // The answer for a handler, in a word.
@@ -16,17 +16,28 @@ fn verdict_text(alloc: Global, verdict: HandlerVerdict) -> Result<String, AllocE
     }
 }
 
+// The answers for the two handlers of one size of call.
+fn pair_text(
+    alloc: Global,
+    size: &str,
+    overflow: HandlerVerdict,
+    underflow: HandlerVerdict,
+) -> Result<String, AllocError>
+    ensures { IfOk result (λ text. string_bytes text ≡ pair_text size.now overflow underflow) }
+{
+    let of = verdict_text(alloc, overflow)?;
+    let uf = verdict_text(alloc, underflow)?;
+    format!(in alloc; " of{size} {of} uf{size} {uf}")
+}
+
 /// The line of the answers for the six window handlers. The only error is too little memory.
 pub fn handlers_line(alloc: Global, handlers: &Handlers) -> Result<String, AllocError>
     ensures { IfOk result (λ line. string_bytes line ≡ handlers_line handlers.now) }
 {
-    let of4 = verdict_text(alloc, handlers.of4)?;
-    let uf4 = verdict_text(alloc, handlers.uf4)?;
-    let of8 = verdict_text(alloc, handlers.of8)?;
-    let uf8 = verdict_text(alloc, handlers.uf8)?;
-    let of12 = verdict_text(alloc, handlers.of12)?;
-    let uf12 = verdict_text(alloc, handlers.uf12)?;
-    format!(in alloc; "handlers of4 {of4} uf4 {uf4} of8 {of8} uf8 {uf8} of12 {of12} uf12 {uf12}\n")
+    let by4 = pair_text(alloc, "4", handlers.of4, handlers.uf4)?;
+    let by8 = pair_text(alloc, "8", handlers.of8, handlers.uf8)?;
+    let by12 = pair_text(alloc, "12", handlers.of12, handlers.uf12)?;
+    format!(in alloc; "handlers{by4}{by8}{by12}\n")
 }
 
 // The name of a kind of breach.
@@ -55,6 +66,16 @@ fn kind_text(kind: BreachKind) -> &'static str
     }
 }
 
+// A breach, in words.
+fn breach_text(alloc: Global, breach: Breach) -> Result<String, AllocError>
+    ensures { IfOk result (λ text. string_bytes text ≡ breach_text breach) }
+{
+    let kind = kind_text(breach.kind);
+    let core = breach.core;
+    let step = breach.step;
+    format!(in alloc; "breach {kind} core {core} step {step}")
+}
+
 // What is judged of a run, in words.
 fn frames_text(alloc: Global, judged: Judged) -> Result<String, AllocError>
     ensures { IfOk result (λ text. string_bytes text ≡ frames_text judged) }
@@ -62,12 +83,7 @@ fn frames_text(alloc: Global, judged: Judged) -> Result<String, AllocError>
     match judged {
         Judged::Unchecked => format!(in alloc; "none"),
         Judged::Whole => format!(in alloc; "whole"),
-        Judged::Broken(breach) => {
-            let kind = kind_text(breach.kind);
-            let core = breach.core;
-            let step = breach.step;
-            format!(in alloc; "breach {kind} core {core} step {step}")
-        }
+        Judged::Broken(breach) => breach_text(alloc, breach),
     }
 }
 

@@ -7,12 +7,12 @@ use Rattle.xt_cli.proofs.Writing.{was_appended}
 use Rattle.xt_cli.proofs.generating.generate.Goals as goal
 use Rattle.xt_cli.proofs.generating.generate.Goals.{in-Ok-write_text, in-Err-Failed}
 
-pub returns-in-Err-Memory-write_text-clause-answers : goal.returns-in-Err-Memory-write_text-clause-answers
-returns-in-Err-Memory-write_text-clause-answers g c =
+pub returns-in-Err-Memory-clause-answers : goal.returns-in-Err-Memory-clause-answers
+returns-in-Err-Memory-clause-answers g c =
     let front = AppendsFront (g.K.Sink.told c.args.sink.now) (g.K.Sink.told c.write_text.new.sink) in
-    gen_memory c.args.number _ _ _ _ c.in-Ok.whole _ _ c.without_run-in-Err-Memory-write_text.ensures.status c.without_run-in-Err-Memory-write_text.ensures.whole
+    gen_memory c.args.number _ _ _ _ c.in-Ok.whole _ _ c.without_run-in-Err-Memory.ensures.status c.without_run-in-Err-Memory.ensures.whole
     c.in-Ok.ensures.run
-    (subst front c.in-Ok.ensures.text (front_of _ _ _ _ _ _ _ c.in-Err-Memory-write_text.is c.write_text.ensures))
+    (subst front c.in-Ok.ensures.text (front_of _ _ _ _ _ _ _ c.in-Err-Memory.is c.write_text.ensures))
 
 pub returns-clause-answers : goal.returns-clause-answers
 returns-clause-answers g c =
