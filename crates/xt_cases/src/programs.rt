@@ -1,15 +1,16 @@
 //! Cases of one program, over the words of the command line.
 
-ghost use Rattle.std.specs.Prelude.{◌<◌, All, IfSome};
+ghost use Rattle.std.specs.Prelude.{◌<◌, All, IfOk, IfSome};
+ghost use Rattle.xt_core.specs.Runs.{IsRunOf};
 ghost use Rattle.xt_image.specs.Parts.{IsWellFormed};
 ghost use Rattle.xt_words.specs.Options.{AreValid};
 
 use crate::cases::{has_lines, has_part, has_starts, lines_of, words_of};
-use std::alloc::Global;
+use std::alloc::{AllocError, Global};
 use std::sync::Wait;
 use std::thread::Threads;
 use xt_asm::assemble;
-use xt_cli::{Status, judged, write_whole, xt_main};
+use xt_cli::{Status, Whole, judged, write_whole, xt_main};
 use xt_image::{Image, well_formed_by_rules, write};
 use xt_io::{OpenGate, SafeSink, SafeSource};
 use xt_machine::run_schedule;
@@ -74,6 +75,24 @@ fn output_of<R: Threads + Wait + Sync + AllocGlobal>(
     text_in(alloc, &sink)
 }
 
+// The run of an image over a list of cores, with what is found of it.
+fn whole_over(
+    alloc: Global,
+    options: &RunOptions,
+    image: &Image,
+    list: &[u8],
+) -> Result<Whole, AllocError>
+    requires valid { AreValid options.now }
+    requires image { IsWellFormed image.now }
+    requires cores { All (λ core. core < 2) list.now }
+    ensures { IfOk result (λ whole. IsRunOf image.now whole.run) }
+{
+    well_formed_by_rules();
+    let of_run = options.with_entry(image.entry);
+    let run = run_schedule(alloc, image, &of_run, list)?;
+    judged(alloc, image, run)
+}
+
 /// What the program writes of the run of an image over a list of cores, after which core 0 makes the
 /// rest of its turns, and then core 1.
 pub fn output_over(
@@ -86,10 +105,7 @@ pub fn output_over(
     requires image { IsWellFormed image.now }
     requires cores { All (λ core. core < 2) list.now }
 {
-    well_formed_by_rules();
-    let of_run = options.with_entry(image.entry);
-    let run = run_schedule(alloc, image, &of_run, list).ok()?;
-    let whole = judged(alloc, image, run).ok()?;
+    let whole = whole_over(alloc, options, image, list).ok()?;
     let mut sink = SafeSink::make(alloc).ok()?;
     write_whole(alloc, options, image, &whole, &mut sink).ok()?;
     text_in(alloc, &sink)
