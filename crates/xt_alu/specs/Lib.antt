@@ -1,5 +1,4 @@
 pub mod Signed
 pub mod Arithmetic
 pub mod Shifts
-pub mod Constants
 pub mod Conditions

@@ -16,4 +16,4 @@ pub use arithmetic::{addx, bit_and, bit_or, bit_xor, max, maxu, min, minu, subx}
 pub use conditions::{Cond, holds};
 pub use multiply::{mul16s, mul16u, mull, mulsh, muluh, quos, quou, rems, remu};
 pub use shifts::{extui, sll, slli, sra, srai, src, srl, srli, ssa8b, ssa8l, ssl, ssr};
-pub use unary::{abs, b4const, b4constu, clamps, neg, nsa, nsau, sext};
+pub use unary::{abs, clamps, neg, nsa, nsau, sext};

@@ -3,7 +3,7 @@ use crate::arithmetic::{addx, max, min, subx};
 use crate::conditions::{Cond, holds};
 use crate::multiply::{mul16s, mulsh, muluh, quos, rems};
 use crate::shifts::{sll, src, srl, ssa8b, ssl};
-use crate::unary::{abs, b4const, clamps, nsa, nsau, sext};
+use crate::unary::{abs, clamps, nsa, nsau, sext};
 
 // s, t, MUL16S, MULSH, MULUH, QUOS and REMS
 const PRODUCTS: [(u32, u32, u32, u32, u32, u32, u32); 4] = [
@@ -76,8 +76,6 @@ fn words(rt: HostRuntime) {
         ("sign bits of 1", nsa(1), 30),
         ("sign bits of -1", nsa(0xFFFF_FFFF), 31),
         ("leading zeros of 0", nsau(0), 32),
-        ("the first constant", b4const(0), 0xFFFF_FFFF),
-        ("the last constant", b4const(15), 256),
         ("-1 below 1", holds(Cond::Lt, 0xFFFF_FFFF, 1) as u32, 1),
         ("bit 35 is bit 3", holds(Cond::BitSet, 8, 35) as u32, 1),
     ] {

@@ -1,9 +1,8 @@
-//! Operations on one word, and the constants of branches.
+//! Operations on one word.
 #![tactic(auto)]
 
-ghost use Rattle.std.specs.Prelude.{◌≡◌, ◌<◌, ◌≤◌};
+ghost use Rattle.std.specs.Prelude.{◌≡◌, ◌≤◌};
 ghost use Rattle.xt_alu.specs.Arithmetic.{neg, abs, sext, clamps, nsa, nsau};
-ghost use Rattle.xt_alu.specs.Constants.{b4const, b4constu};
 
 /// NEG: the two's complement.
 #[tactic(auto, unfolding(crate::specs::Arithmetic::neg))]
@@ -71,41 +70,4 @@ pub fn nsau(v: u32) -> u32
     ensures { result ≡ nsau v }
 {
     v.leading_zeros()
-}
-
-/// The constant of BEQI, BNEI, BLTI and BGEI with the number `r`, as a word.
-///
-/// Condition: `r` is below 16.
-#[tactic(auto, unfolding(crate::specs::Constants::b4const))]
-#[inline(always)]
-pub fn b4const(r: u8) -> u32
-    requires { r < 16 }
-    ensures { result ≡ b4const r }
-{
-    match r {
-        0 => u32::MAX,
-        1..=8 => r as u32,
-        9 => 10,
-        10 => 12,
-        _ => 1 << (r - 7),
-    }
-}
-
-/// The constant of BLTUI and BGEUI with the number `r`.
-///
-/// Condition: `r` is below 16.
-#[tactic(auto, unfolding(crate::specs::Constants::b4constu))]
-#[inline(always)]
-pub fn b4constu(r: u8) -> u32
-    requires { r < 16 }
-    ensures { result ≡ b4constu r }
-{
-    match r {
-        0 => 32768,
-        1 => 65536,
-        2..=8 => r as u32,
-        9 => 10,
-        10 => 12,
-        _ => 1 << (r - 7),
-    }
 }

@@ -13,7 +13,7 @@ use Rattle.xt_expr.specs.declared.labels.Label.{Label}
 use Rattle.xt_expr.specs.Values.{value_of}
 use Rattle.xt_map.specs.declared.segment.Segment.{Segment}
 use Rattle.xt_map.specs.Memory.{is_loaded}
-use Rattle.xt_map.specs.Placing.{IsPlaced, do_overlap, end_of_segment, is_well_placed, takes}
+use Rattle.xt_map.specs.Placing.{IsPlaced, do_overlap, end_of_segment, is_device, is_well_placed, takes}
 use Rattle.xt_map.specs.Regions.{is_executable, ranges, region_of}
 use Rattle.xt_image.specs.declared.image.Head.{Head}
 use Rattle.xt_image.specs.declared.image.Image.{Image}
@@ -28,7 +28,7 @@ use Rattle.xt_pool.specs.Findings.{at_statement}
 use Rattle.xt_pool.specs.Pools.{words_of}
 use Rattle.xt_layout.specs.Addresses.{labels_of}
 use Rattle.xt_layout.specs.Bounds.{later}
-use Rattle.xt_layout.specs.Faults.{is_in_place, is_uart, segments_in}
+use Rattle.xt_layout.specs.Faults.{is_in_place, segments_in}
 use Rattle.xt_layout.specs.Sizes.{pool_size, size}
 use Rattle.xt_layout.specs.Spots.{address, spot_at}
 use Rattle.xt_layout.specs.Spans.{meet, span, spans_of}
@@ -115,7 +115,7 @@ in_one_range s here =
     ⊎_elim
     (λ (none : end_of_segment s ≡ s.addr). inl (omega arith))
     (λ (one : is_in_place s.addr (span s.addr (end_of_segment s)) ≡ true). inr (some_range (is_within s) s.addr s.addr (end_of_segment s)
-    (λ r h. (and_parts (not (is_uart r.region)) (nat_le r.first s.addr && nat_le (end_of_segment s) (r.last + 1)) h).1) one)) here
+    (λ r h. (and_parts (not (is_device r.region)) (nat_le r.first s.addr && nat_le (end_of_segment s) (r.last + 1)) h).1) one)) here
 
 by_each : {X : Type 0} (P Q : X → Type 0) → ((x : X) → P x → Q x) → (xs : List X) → AllByRecursion P xs → AllByRecursion Q xs
 by_each P Q f [] h = tt

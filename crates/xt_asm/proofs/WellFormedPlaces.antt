@@ -4,6 +4,7 @@ use Rattle.std.specs.Prelude.{nat_le, nat_lt, not}
 use Rattle.std.specs.List.{list_any}
 use Rattle.std.proofs.lemmas.Bool.{and_parts, and_from, cases_Bool, cases_lt, cond-true, cond-false, leb-true, le-leb, lt-ltb, or_left, or_right}
 use Rattle.xt_lex.specs.declared.fault.AsmPlace.{AsmPlace}
+use Rattle.xt_map.specs.Placing.{is_device}
 use Rattle.xt_map.specs.Regions.{Range, holds, ranges}
 use Rattle.xt_parse.specs.declared.line.Line.{Line}
 use Rattle.xt_parse.specs.declared.statement.Statement.{Statement}
@@ -11,7 +12,7 @@ use Rattle.xt_parse.specs.declared.statement.Statement.TheVariants.{Empty, Seg}
 use Rattle.xt_pool.specs.declared.word.PoolWord.{PoolWord}
 use Rattle.xt_pool.specs.Findings.{fails}
 use Rattle.xt_pool.specs.Pools.{is_segment}
-use Rattle.xt_layout.specs.Faults.{is_empty, is_in_place, is_last, is_outside, is_uart, leaves, lies_in, within}
+use Rattle.xt_layout.specs.Faults.{is_empty, is_in_place, is_last, is_outside, leaves, lies_in, within}
 use Rattle.xt_layout.specs.Sizes.{padding, pool_size, size}
 use Rattle.xt_layout.specs.Spans.{segment_end, span}
 use Rattle.xt_layout.specs.Spots.{begins, behind, passes, spot, spot_at}
@@ -38,8 +39,8 @@ numbers_within u first last s a e b le held inside =
 lies_from_start : (rs : List Range) (s a e b : ℕ) → b ≤ e → lies_in rs s (span a e) ≡ true → lies_in rs s (span s b) ≡ true
 lies_from_start [] s a e b le h = h
 lies_from_start (r ∷ rs) s a e b le h =
-    cond_step (holds r s) (not (is_uart r.region) && within r.first r.last (span a e)) (lies_in rs s (span a e)) (not (is_uart r.region) && within r.first r.last (span s b)) (lies_in rs s (span s b))
-    (λ held inside. numbers_within (not (is_uart r.region)) r.first r.last s a e b le held inside)
+    cond_step (holds r s) (not (is_device r.region) && within r.first r.last (span a e)) (lies_in rs s (span a e)) (not (is_device r.region) && within r.first r.last (span s b)) (lies_in rs s (span s b))
+    (λ held inside. numbers_within (not (is_device r.region)) r.first r.last s a e b le held inside)
     (λ later. lies_from_start rs s a e b le later) h
 
 pub in_place_from_start : (s a e b : ℕ) → b ≤ e → is_in_place s (span a e) ≡ true → is_in_place s (span s b) ≡ true
@@ -50,13 +51,13 @@ cond_any : (c x y z w : Bool) → (x ≡ true → z ≡ true) → (y ≡ true �
 cond_any true x y z w f g h = or_left z w (f h)
 cond_any false x y z w f g h = or_right z w (g h)
 
-any_range : (p : Range → Bool) (rs : List Range) (s a e : ℕ) → ((r : Range) → (not (is_uart r.region) && within r.first r.last (span a e)) ≡ true → p r ≡ true) →
+any_range : (p : Range → Bool) (rs : List Range) (s a e : ℕ) → ((r : Range) → (not (is_device r.region) && within r.first r.last (span a e)) ≡ true → p r ≡ true) →
     lies_in rs s (span a e) ≡ true → list_any p rs ≡ true
 any_range p [] s a e each h = h
 any_range p (r ∷ rs) s a e each h =
-    cond_any (holds r s) (not (is_uart r.region) && within r.first r.last (span a e)) (lies_in rs s (span a e)) (p r) (list_any p rs) (each r) (λ later. any_range p rs s a e each later) h
+    cond_any (holds r s) (not (is_device r.region) && within r.first r.last (span a e)) (lies_in rs s (span a e)) (p r) (list_any p rs) (each r) (λ later. any_range p rs s a e each later) h
 
-pub some_range : (p : Range → Bool) (s a e : ℕ) → ((r : Range) → (not (is_uart r.region) && (nat_le r.first a && nat_le e (r.last + 1))) ≡ true → p r ≡ true) →
+pub some_range : (p : Range → Bool) (s a e : ℕ) → ((r : Range) → (not (is_device r.region) && (nat_le r.first a && nat_le e (r.last + 1))) ≡ true → p r ≡ true) →
     is_in_place s (span a e) ≡ true → list_any p ranges ≡ true
 unfolding is_in_place
 some_range p s a e each h = any_range p ranges s a e each h

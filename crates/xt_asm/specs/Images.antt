@@ -1,10 +1,11 @@
--- The image of an assembly text without a fault ('profile'; the bytes of the head are those of esptool's image format).
-use Rattle.std.specs.Prelude.{◌≡◌, ℕ, ◌++◌, ℤ, pos, true, List, [], ◌∷◌, length, replicate, zip, Option, Some, None, Result, Ok, Err, if◌then◌else◌}
+-- The image of an assembly text without a fault ('profile'; the bytes of the head are those of
+-- esptool's image format).
+use Rattle.std.specs.Prelude.{◌≡◌, ℕ, ◌++◌, ℤ, pos, true, List, [], ◌∷◌, length, zip, Option, Some, None, Result, Ok, Err, if◌then◌else◌}
 use Rattle.xt_lex.specs.declared.fault.AsmFault.{AsmFault}
 use Rattle.xt_lex.specs.declared.fault.AsmFault.TheVariants as fault
 use Rattle.xt_lex.specs.Tokens.{tokens_of}
 use Rattle.xt_map.specs.declared.segment.Segment.{Segment}
-use Rattle.xt_image.specs.declared.image.Head.{Head}
+use Rattle.xt_image.specs.Made.{made_head}
 use Rattle.xt_image.specs.declared.image.Image.{Image}
 use Rattle.xt_expr.specs.declared.labels.Label.{Label}
 use Rattle.xt_expr.specs.Values.{value_of}
@@ -52,19 +53,6 @@ entry_of labels (l ∷ rest) = entry_or labels l.statement (entry_of labels rest
 
 -- ---- the image
 
--- flash mode 2, size byte 20, write-protect pin EE, greatest revision FFFF, and zeros elsewhere
-abbrev pub head : Head
-head = record {
-  mode = 2;
-  size_freq = 0x20;
-  wp_pin = 0xEE;
-  drive = replicate 3 0;
-  min_rev_old = 0;
-  min_rev = 0;
-  max_rev = 0xFFFF;
-  reserved = replicate 4 0;
-}
-
 -- the image is that of the lines
 pub record IsImageOf (lines : List Line) (image : Image) : Type 0 where
   -- the bytes of each line
@@ -72,7 +60,7 @@ pub record IsImageOf (lines : List Line) (image : Image) : Type 0 where
   pub are_pieces : ArePieces (sources_of lines) pieces
   pub segments : image.segments ≡ segments_of (zip lines pieces)
   pub entry : Some (pos image.entry) ≡ entry_of (labels_of lines) lines
-  pub head_is : image.head ≡ head
+  pub head_is : image.head ≡ made_head
   pub digest : image.digest ≡ true
 
 -- the image is that of the text's lines
@@ -81,7 +69,8 @@ pub record IsImageOfText (text : List ℕ) (image : Image) : Type 0 where
   pub read : parsed (tokens_of text) ≡ Ok lines
   pub image_is : IsImageOf lines image
 
--- an image comes exactly where the text has no fault, and is the text's; else its first fault; want of memory aside
+-- an image comes exactly where the text has no fault, and is the text's; else its first fault; too
+-- little memory aside
 abbrev pub Assembles : Result Image AsmFault → List ℕ → Type 0
 Assembles (Ok image) text = (text_fault text ≡ None) × IsImageOfText text image
 Assembles (Err (fault.Place place)) text = text_fault text ≡ Some place

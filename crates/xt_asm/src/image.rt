@@ -9,7 +9,7 @@ ghost use Rattle.xt_pool.specs.Findings.{Finding, least};
 ghost use Rattle.xt_layout.specs.Addresses.{labels_of};
 ghost use Rattle.xt_layout.specs.Faults.{HasAddresses, layout_of};
 ghost use Rattle.xt_asm.specs.Contexts.{LineFault};
-ghost use Rattle.xt_asm.specs.Images.{AssemblesLines, Closes, entry_of, head};
+ghost use Rattle.xt_asm.specs.Images.{AssemblesLines, Closes, entry_of};
 ghost use Rattle.xt_asm.specs.Kinds.{has_segment, is_code};
 ghost use Rattle.xt_asm.specs.Pieces.{ArePieces, sources_of};
 ghost use Rattle.xt_asm.specs.Walks.{own_first};
@@ -19,28 +19,12 @@ use crate::targets::targets_of;
 use crate::walk::pieces_of;
 use std::alloc::Global;
 use xt_expr::Labels;
-use xt_image::{Head, Image};
+use xt_image::{Image, made_head};
 use xt_layout::Laid;
 use xt_lex::{AsmFault, AsmPlace};
 use xt_map::Bytes;
 use xt_parse::Line;
 use xt_pool::{Pooled, is_segment, least};
-
-/// The head of every image that is assembled.
-fn head() -> Head
-    ensures { result ≡ head }
-{
-    Head {
-        mode: 2,
-        size_freq: 0x20,
-        wp_pin: 0xEE,
-        drive: [0; 3],
-        min_rev_old: 0,
-        min_rev: 0,
-        max_rev: 0xFFFF,
-        reserved: [0; 4],
-    }
-}
 
 /// Whether a line is a `.seg`.
 fn has_segment(lines: &[Line]) -> bool
@@ -102,7 +86,7 @@ fn closed_image(
     }
     let segments = segments_of(alloc, lines, pieces)?;
     Ok(Image {
-        head: head(),
+        head: made_head(),
         entry,
         digest: true,
         segments,

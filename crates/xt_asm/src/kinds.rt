@@ -2,7 +2,6 @@
 ghost use Rattle.std.specs.Prelude.{◌≡◌, All, Some};
 ghost use Rattle.std.specs.List.{list_any};
 ghost use Rattle.xt_expr.specs.Values.{HaveAddresses};
-ghost use Rattle.xt_map.specs.Regions.{is_executable, region_of};
 ghost use Rattle.xt_parse.specs.Small.{HasShortExprs, IsShort, IsShortOperand};
 ghost use Rattle.xt_pool.specs.Findings.{at_statement};
 ghost use Rattle.xt_asm.specs.Kinds.{fits_byte, fits_word, has_misfit, has_no_word, has_unknown, is_code, is_misaligned_target, is_out_of_reach, is_range, is_stray_entry, is_unknown, is_unknown_operand, lacks_word, misfits, misfits_pool};
@@ -12,8 +11,7 @@ use crate::operands::{Context, Made, special_in, value_of};
 use xt_expr::{Expr, Labels};
 use xt_layout::is_alignment;
 use xt_lex::AsmPlace;
-use xt_map::region;
-use xt_map::regions::Region;
+use xt_map::can_execute_at;
 use xt_mnemonic::OperandFault;
 use xt_names::{Access, access_of};
 use xt_parse::{Line, Operand, Statement};
@@ -219,16 +217,6 @@ fn is_misaligned_target(made: &Made) -> bool
 
 // ---- OutOfMap
 
-/// Whether an address is in an executable region.
-fn is_executable(address: u32) -> bool
-    ensures { result ≡ is_executable (region_of address) }
-{
-    matches!(
-        region(address),
-        Some(Region::Iram | Region::RtcFastCode | Region::Irom)
-    )
-}
-
 /// Whether a value is an address in an executable region.
 fn is_code(value: i64) -> bool
     ensures { result ≡ is_code value }
@@ -239,7 +227,7 @@ fn is_code(value: i64) -> bool
     if value > 0xFFFF_FFFF {
         return false;
     }
-    is_executable(value as u32)
+    can_execute_at(value as u32)
 }
 
 /// Whether a statement is an `.entry` that is no address in an executable region.

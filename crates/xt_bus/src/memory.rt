@@ -10,7 +10,7 @@ use crate::bytes::act;
 use crate::places::{Place, place_of};
 use std::alloc::{AllocError, Global};
 use std::marker::Model;
-use xt_map::{Access, Kind, Segment};
+use xt_map::{Access, Kind, Segment, UART_TRANSMIT};
 use xt_uart::Uart;
 
 const RTC_FAST_DATA_SIZE: usize = 8192;
@@ -18,8 +18,6 @@ const RTC_FAST_DATA_SIZE: usize = 8192;
 const DRAM_SIZE: usize = 335872;
 
 const RTC_SLOW_SIZE: usize = 8192;
-
-const UART_TRANSMIT: u32 = 0x3FF40000;
 
 /// The bytes of the three memory regions, and the bytes that UART0 has sent. Contracts see what it
 /// holds, and how many bytes it has room to send in all.

@@ -46,6 +46,7 @@ fn length_of(b0: u8) -> u8
 }
 
 // How many bytes are fetched: the first, and then as many as it asks for.
+#[inline(never)]
 fn fetched_length(code: &Constants, pc: u32) -> u8
     ensures value { result ≡ fetched_length (constant_byte code.now) pc }
     ensures positive { 0 < result }
@@ -58,6 +59,7 @@ fn fetched_length(code: &Constants, pc: u32) -> u8
 }
 
 // The first of so many bytes from an address on that cannot be fetched.
+#[inline(never)]
 fn unfetchable(addr: u32, len: u8) -> Option<u32>
     ensures value { result ≡ unfetchable addr len }
     ensures small { result ≡ None → 0 < len → addr + 4 < 2 ^ 32 }

@@ -3,7 +3,6 @@
 
 ghost use Rattle.std.specs.Prelude.{◌≡◌, ◌++◌, ◌<◌, ◌≤◌, IfOk, OnOk, length, string_bytes};
 ghost use Rattle.std.specs.List.{flat_map};
-ghost use Rattle.xt_map.specs.Memory.{is_loaded};
 ghost use Rattle.xt_text.specs.Hexadecimal.{hex2};
 ghost use Rattle.xt_disasm.specs.Listing.{byte_at, code_line, code_lines, front_length, is_code, listing_text, place_name, region_name, segment_line, segment_text};
 ghost use Rattle.xt_disasm.specs.Fronts.{IsFront};
@@ -15,7 +14,7 @@ use xt_codec::{Decoded, decode};
 use xt_image::Image;
 use xt_isa::Insn;
 use xt_map::regions::Region;
-use xt_map::{Segment, Text, region};
+use xt_map::{Segment, Text, can_execute_at, is_segment_loaded, region};
 use xt_text::{push_hex2, push_hex8};
 
 /// The byte at a place, or 0 past the end.
@@ -104,18 +103,11 @@ fn region_name(region: Option<Region>) -> &'static str
     }
 }
 
-/// Whether a segment is loaded: one below the address 0x10000000 is padding.
-fn is_loaded(segment: &Segment) -> bool
-    ensures { result ≡ is_loaded segment.now }
-{
-    0x10000000 <= segment.addr
-}
-
 /// Where a segment lies: PAD for padding, else the name of its region.
 fn place_name(segment: &Segment) -> &'static str
     ensures { result.now ≡ place_name segment.now }
 {
-    if is_loaded(segment) {
+    if is_segment_loaded(segment) {
         region_name(region(segment.addr))
     } else {
         "PAD"
@@ -126,11 +118,7 @@ fn place_name(segment: &Segment) -> &'static str
 fn is_code(segment: &Segment) -> bool
     ensures { result ≡ is_code segment.now }
 {
-    is_loaded(segment)
-        && matches!(
-            region(segment.addr),
-            Some(Region::Iram | Region::RtcFastCode | Region::Irom)
-        )
+    is_segment_loaded(segment) && can_execute_at(segment.addr)
 }
 
 /// Appends the line of a segment, `segment I ADDR LENGTH REGION`, which is the `number`-th of its image, counted from 0.

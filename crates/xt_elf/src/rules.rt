@@ -1,7 +1,7 @@
 //! What is wrong with a file, rule by rule.
 ghost use Rattle.std.specs.Prelude.{◌≡◌, ◌≤◌, ◌<◌, ◌+◌, ◌↔◌, [], length, IsNone, IsTrue, position};
 ghost use Rattle.std.specs.List.{list_any};
-ghost use Rattle.xt_map.specs.Regions.{is_executable, ranges, region_of};
+ghost use Rattle.xt_map.specs.Regions.{ranges, region_of};
 ghost use Rattle.xt_elf.specs.Headers.{header_count};
 ghost use Rattle.xt_elf.specs.Rules.{do_overlap, ends_behind, entry_rules, file_rules, first, first_overlap, has_magic, header_rules, headers_end, is_larger_in_file, is_misplaced, loaded_count, padded_end, takes};
 ghost use Rattle.xt_elf.specs.Spans.{AreApart, IsOneRegion};
@@ -9,8 +9,8 @@ ghost use Rattle.xt_elf.specs.Spans.{AreApart, IsOneRegion};
 use crate::fault::ElfFault;
 use crate::header::{Header, is_loaded, padded_end};
 use xt_image::{half, word};
-use xt_map::region;
 use xt_map::regions::Region;
+use xt_map::{can_execute_at, region};
 
 /// What is wrong with the file header, or with where the program headers stand.
 pub(crate) fn file_fault(bytes: &[u8]) -> Option<ElfFault>
@@ -162,16 +162,6 @@ pub(crate) fn header_fault(len: usize, headers: &[Header], apart: usize) -> Opti
         return Some(ElfFault::Count(count as u16));
     }
     None
-}
-
-// Whether an address lies in an executable region.
-fn can_execute_at(addr: u32) -> bool
-    ensures { result ≡ is_executable (region_of addr) }
-{
-    match region(addr) {
-        Some(Region::Iram | Region::RtcFastCode | Region::Irom) => true,
-        _ => false,
-    }
 }
 
 /// What is wrong with the entry.

@@ -14,7 +14,7 @@ impl<W: Windows> Regs<W> {
     ghost use Rattle.xt_exec.specs.Steps.{WritesRegister, turn_of};
 
     /// Enters an exception of this cause, with the address that it concerns.
-    #[inline(always)]
+    #[inline(never)]
     pub(crate) fn raised(&mut self, cause: u8, addr: Option<u32>) -> Step
         requires { cause < 64 }
         ensures turn { let s = state_of W.regs W.base W.start self.old in
@@ -28,7 +28,7 @@ impl<W: Windows> Regs<W> {
     /// Enters an exception of this cause (EXCCAUSE), with the address that it concerns.
     ///
     /// Condition: `cause` is below 64.
-    #[inline(always)]
+    #[inline(never)]
     pub fn raise(&mut self, cause: u8, addr: Option<u32>) -> Effect
         requires { cause < 64 }
         ensures { let s = state_of W.regs W.base W.start self.old in
@@ -44,7 +44,7 @@ impl<W: Windows> Regs<W> {
     /// Takes an interrupt of this level, which ends waiting.
     ///
     /// Condition: `level` is 1 to 5.
-    #[inline(always)]
+    #[inline(never)]
     pub fn interrupt(&mut self, level: u8) -> Effect
         requires low { 1 ≤ level }
         requires high { level ≤ 5 }

@@ -17,7 +17,7 @@ use xt_window::{Overflow, Windows};
 impl<W: Windows> Regs<W> {
     /// The overflow of the window that the check found.
     #[tactic(auto, unfolding(crate::specs::Turn::overflow))]
-    #[inline(always)]
+    #[inline(never)]
     pub(crate) fn overflow(&mut self, found: Overflow) -> Step
         requires size { found.size ≡ size_at (state_of W.regs W.base W.start self.old).start ((state_of W.regs W.base W.start self.old).base + found.by) }
         requires by { found.by < 4 }
@@ -66,7 +66,7 @@ impl<W: Windows> Regs<W> {
 
     /// RFWO and RFWU: back to the instruction at EPC1 and to its window.
     #[tactic(auto, unfolding(crate::specs::Turn::resumed))]
-    #[inline(always)]
+    #[inline(never)]
     fn resume(&mut self, start: u16, epc1: u32) -> Step
         ensures after { turn_of result (state_of W.regs W.base W.start self.new) ≡ resumed start epc1 (state_of W.regs W.base W.start self.old) }
         ensures registers { WritesRegister result }
@@ -80,7 +80,7 @@ impl<W: Windows> Regs<W> {
 
     /// MOVSP.
     #[tactic(auto, unfolding(crate::specs::Turn::moved_stack))]
-    #[inline(always)]
+    #[inline(never)]
     fn move_stack(&mut self, number: u8, value: u32, len: u8) -> Step
         requires { number < 16 }
         ensures after { turn_of result (state_of W.regs W.base W.start self.new) ≡ moved_stack number value len (state_of W.regs W.base W.start self.old) }
@@ -114,7 +114,7 @@ impl<W: Windows> Regs<W> {
     }
 
     /// RSR of a window register.
-    #[inline(always)]
+    #[inline(never)]
     fn read_window(&mut self, register: WindowRegister, number: u8, len: u8) -> Step
         requires { number < 16 }
         ensures after { turn_of result (state_of W.regs W.base W.start self.new) ≡ windowed (Reads register number) len (state_of W.regs W.base W.start self.old) }
@@ -126,7 +126,7 @@ impl<W: Windows> Regs<W> {
     }
 
     /// WSR of a window register.
-    #[inline(always)]
+    #[inline(never)]
     fn write_window(&mut self, register: WindowRegister, value: u32, len: u8) -> Step
         ensures after { turn_of result (state_of W.regs W.base W.start self.new) ≡ windowed (Sets register value) len (state_of W.regs W.base W.start self.old) }
         ensures registers { WritesRegister result }
@@ -137,7 +137,7 @@ impl<W: Windows> Regs<W> {
     }
 
     /// XSR of a window register.
-    #[inline(always)]
+    #[inline(never)]
     fn exchange_window(&mut self, register: WindowRegister, number: u8, value: u32, len: u8) -> Step
         requires { number < 16 }
         ensures after { turn_of result (state_of W.regs W.base W.start self.new) ≡ windowed (Exchanges register number value) len (state_of W.regs W.base W.start self.old) }
@@ -151,7 +151,7 @@ impl<W: Windows> Regs<W> {
 
     /// ROTW.
     #[tactic(auto, unfolding(xt_isa::specs::Ranges::signed_within))]
-    #[inline(always)]
+    #[inline(never)]
     fn rotate(&mut self, n: i32, len: u8) -> Step
         requires { signed_within 8 n ≡ true }
         ensures after { turn_of result (state_of W.regs W.base W.start self.new) ≡ windowed (Rotates n) len (state_of W.regs W.base W.start self.old) }

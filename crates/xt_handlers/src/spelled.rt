@@ -3,7 +3,6 @@
 
 ghost use Rattle.std.specs.Prelude.{◌≡◌, ◌≤◌, true};
 ghost use Rattle.xt_isa.specs.Ranges.{in_range, window_within};
-ghost use Rattle.xt_isa.specs.Spelling.{length_of};
 ghost use Rattle.xt_stretch.specs.Spelled.{HasRegisters, step_of, step_of_insn};
 
 use crate::Step;
@@ -12,18 +11,6 @@ use xt_isa::Insn;
 use xt_isa::density::{Density, NarrowRetName};
 use xt_isa::memory::{Memory, WindowName};
 use xt_isa::system::{ReturnName, System, WaitName};
-
-/// The length that an instruction's first byte gives.
-pub fn length_of(first: u8) -> usize
-    ensures is { result ≡ length_of first }
-    ensures low { 2 ≤ result }
-    ensures high { result ≤ 3 }
-{
-    match first % 16 {
-        8..=13 => 2,
-        _ => 3,
-    }
-}
 
 /// What an instruction is to a handler.
 #[tactic(auto, unfolding(xt_stretch::specs::Spelled::step_of_insn, xt_isa::specs::Ranges::two_registers, xt_isa::specs::Ranges::window_within))]

@@ -10,11 +10,10 @@ ghost use Rattle.xt_handlers.specs.Flat.{Tracks};
 ghost use Rattle.xt_handlers.specs.Vectors.{vector_at, vector_bytes, verdict_of};
 ghost use Rattle.xt_stretch.specs.declared.Side.TheVariants.{Overflow, Underflow};
 
-use crate::spelled::{length_of, step_of};
+use crate::spelled::step_of;
 use crate::{Evaluation, HandlerVerdict, Handlers, Side, Step};
-use xt_map::regions::Region;
-use xt_map::{Constants, region};
-use xt_rows::code_byte;
+use xt_map::{Constants, can_execute_at};
+use xt_rows::{code_byte, length_of};
 
 /// A byte of the vector at an address, or 0 beyond it.
 fn byte_at(code: &Constants, at: u32, i: usize) -> u8
@@ -52,7 +51,7 @@ fn check_bytes(code: &Constants, at: u32, side: Side, n: u8) -> HandlerVerdict
     let mut offset = 0;
     while offset < 64 {
         let first = byte_at(code, at, offset);
-        let len = length_of(first);
+        let len = length_of(first) as usize;
         if offset + len > 64 {
             return HandlerVerdict::No(64);
         }
@@ -82,7 +81,6 @@ fn check_bytes(code: &Constants, at: u32, side: Side, n: u8) -> HandlerVerdict
 }
 
 /// Whether the vector at an address handles its exception; 0 where it lies in no executable region.
-#[tactic(auto, unfolding(xt_map::specs::Regions::region_of))]
 fn check_vector(code: &Constants, vecbase: u32, side: Side, n: u8) -> HandlerVerdict
     requires low { 0 < n }
     requires high { n < 4 }
@@ -90,12 +88,10 @@ fn check_vector(code: &Constants, vecbase: u32, side: Side, n: u8) -> HandlerVer
     ensures { result ≡ verdict_of (constant_byte code.now) vecbase side n }
 {
     let at = vector_at(vecbase, side, n);
-    match region(at) {
-        Some(Region::Iram | Region::RtcFastCode | Region::Irom) => {
-            check_bytes(code, at, side, n)
-        }
-        _ => HandlerVerdict::No(0),
+    if !can_execute_at(at) {
+        return HandlerVerdict::No(0);
     }
+    check_bytes(code, at, side, n)
 }
 
 /// The address of a vector.

@@ -8,7 +8,6 @@ pub mod Written
 pub mod Accepted
 pub mod Standing
 pub mod Placement
-pub mod Plainness
 pub mod Ruled
 pub mod Capacity
 pub mod Opened

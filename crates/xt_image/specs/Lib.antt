@@ -2,5 +2,4 @@ pub mod Layout
 pub mod Rules
 pub mod Format
 pub mod Parts
-pub mod Plain
 pub mod Made

@@ -6,7 +6,6 @@ mod fault;
 mod image;
 mod laws;
 mod made;
-mod plain;
 mod reading;
 mod rules;
 mod writing;
@@ -19,7 +18,6 @@ pub use laws::{
     well_formed_is_placed,
 };
 pub use made::made_head;
-pub use plain::is_plain;
 pub use reading::read;
 pub use writing::write;
 

@@ -1,14 +1,12 @@
 ghost use Rattle.std.specs.Prelude.{◌≡◌, ◌<◌, ◌≤◌, ◌^◌, [], length, slice_index, IsNone};
 ghost use Rattle.std.specs.List.{position};
 ghost use Rattle.xt_map.specs.Placing.{do_overlap};
-ghost use Rattle.xt_map.specs.Regions.{is_executable, region_of};
 ghost use Rattle.xt_image.specs.Rules.{first, head_rules, segment_rules, first_overlap, end_rules, is_uneven, is_misplaced};
 
 use crate::bytes::{half, word};
 use crate::fault::ImageFault;
 use sha2::{Digest, Sha256};
-use xt_map::regions::Region;
-use xt_map::{Segment, is_placed, region, share_bytes};
+use xt_map::{Segment, can_execute_at, is_placed, share_bytes};
 
 /// What is wrong with the head.
 pub fn head_fault(bytes: &[u8]) -> Option<ImageFault>
@@ -86,16 +84,6 @@ pub fn segment_fault(count: u8, segments: &[Segment]) -> Option<ImageFault>
         return Some(ImageFault::SegmentPlace(i as u8));
     }
     overlap_fault(segments)
-}
-
-// Whether an address lies in an executable region.
-fn can_execute_at(addr: u32) -> bool
-    ensures { result ≡ is_executable (region_of addr) }
-{
-    match region(addr) {
-        Some(Region::Iram | Region::RtcFastCode | Region::Irom) => true,
-        _ => false,
-    }
 }
 
 /// What is wrong with the end and the entry, where the checksum is at this place and should be

@@ -70,7 +70,7 @@ sext w n = and_from _ _ (pair_rs w n) (within 7 22 _ (le-leb _ _ (omega arith)) 
 ssai : (w : Fields) → AreNibbles w → natural_within 0 31 (pos (five w.s w.t)) ≡ true
 ssai w n = within 0 31 _ (le-leb _ _ (omega arith)) (five_below _ _ (omega arith))
 
-below_negative : (n k : ℕ) → n < k → below n k ≡ negsuc (k - suc n)
+pub below_negative : (n k : ℕ) → n < k → below n k ≡ negsuc (k - suc n)
 below_negative n zero h = absurd (omega arith)
 below_negative n (suc k) h = cond-true (ltb n (suc k)) (negsuc (suc k - suc n)) (pos (n - suc k)) (lt-ltb n (suc k) h)
 

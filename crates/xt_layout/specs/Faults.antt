@@ -1,11 +1,11 @@
--- The faults of a text that its layout shows: kinds 4, 5, 6 and 7, and a seventeenth segment (kind 2) ('profile').
+-- The faults of a text that its layout shows: kinds 4, 5, 6 and 7, and a seventeenth segment
+-- (kind 2) ('profile').
 use Rattle.std.specs.Prelude.{All, ℕ, ◌+◌, ◌-◌, ◌%◌, ◌==◌, Bool, true, false, not, ◌&&◌, ◌||◌, nat_le, nat_lt, ℤ, pos, List, [], ◌∷◌, ◌++◌, length, map, take, count_by, slice_get, Option, Some, None, if◌then◌else◌}
 use Rattle.std.specs.Option.{option_map_or}
 use Rattle.std.specs.List.{list_any}
 use Rattle.std.specs.Str.{bytes_eq}
 use Rattle.xt_lex.specs.declared.name.Name.{Name}
-use Rattle.xt_map.specs.declared.regions.Region.{Region}
-use Rattle.xt_map.specs.declared.regions.Region.TheVariants.{Uart}
+use Rattle.xt_map.specs.Placing.{is_device}
 use Rattle.xt_map.specs.Regions.{Range, ranges, holds}
 use Rattle.xt_expr.specs.declared.labels.Label.{Label}
 use Rattle.xt_expr.specs.Values.{HaveAddresses, IsAddress}
@@ -86,10 +86,6 @@ bytes_at pool p s last =
     let end = p.at + size pool p.at s in
     span p.at (if (not (is_empty s) && last) then end + padding 4 (end - p.start) else end)
 
-abbrev pub is_uart : Region → Bool
-is_uart Uart = true
-is_uart _ = false
-
 -- bytes between two addresses
 abbrev pub within : ℕ → ℕ → Span → Bool
 within first last bytes = nat_le first bytes.start && nat_le bytes.end (last + 1)
@@ -97,7 +93,9 @@ within first last bytes = nat_le first bytes.start && nat_le bytes.end (last + 1
 -- the bytes lie in the first of these ranges that holds a segment's start; UART0 takes none
 abbrev pub lies_in : List Range → ℕ → Span → Bool
 lies_in [] start bytes = false
-lies_in (r ∷ rest) start bytes = if holds r start then not (is_uart r.region) && within r.first r.last bytes else lies_in rest start bytes
+lies_in (r ∷ rest) start bytes =
+    if holds r start then not (is_device r.region) && within r.first r.last bytes
+    else lies_in rest start bytes
 
 -- the bytes lie in the region of a segment's start
 unfoldable pub is_in_place : ℕ → Span → Bool
@@ -110,7 +108,7 @@ abbrev pub is_outside : ℕ → Option Spot → Line → Bool → Finding
 is_outside pool None l last = None
 is_outside pool (Some p) l last = fails (leaves p.start (bytes_at pool p l.statement last)) (at_statement l 6)
 
--- ---- 7, Overlap: at a `.seg`, the segment shares an address with an earlier one; n segments stand before
+-- ---- 7, Overlap: at a `.seg`, the segment shares an address with an earlier one; n stand before
 
 abbrev pub overlaps : List Span → ℕ → Line → Finding
 overlaps spans n l = fails (is_segment l.statement && option_map_or (λ own. list_any (meet own) (take n spans)) (slice_get spans n) false) (at_statement l 7)

@@ -1,7 +1,7 @@
 -- Looking up an address in the starts of the segments.
 use Rattle.std.proofs.Common.{◌≡◌, ℕ, ◌+◌, ◌-◌, ◌<◌, ◌≤◌, true, List, [], length, get_or, Option, Some, None, ⊎_elim, refl, sym, ap, ap₂, ◌∙◌, arith, find}
 use Rattle.std.specs.Prelude.{slice_index, nat_lt}
-use Rattle.std.specs.List.Sorted.{IsPermutation}
+use Rattle.std.specs.List.Sorted.{IsNonDecreasingBy, IsPermutation}
 use Rattle.std.specs.Option.{option_map_or}
 use Rattle.std.proofs.lemmas.Bool.{and_parts, and_from, cases_lt}
 use Rattle.std.proofs.lemmas.Bool.Decides.{nat_tests}
@@ -18,6 +18,18 @@ pub starts_moved : (segments : List Segment) (old new : List Start) → IsPermut
 starts_moved segments old new moved h = record {
   sound = All-permutation (IsStart segments) old new moved h.sound;
   complete = λ k d lt has. Contains-permutation old new _ moved (h.complete k d lt has);
+}
+
+-- where the last start has an address up to this one, all have
+pub all_upto : (starts : List Start) (a : ℕ) (e : Start) → IsNonDecreasingBy (λ (s : Start). s.addr) starts → 0 < length starts
+    → (get_or starts (length starts - 1) e).addr ≤ a → IsCountUpto starts a (length starts)
+all_upto starts a e ascending some last = record {
+  bound = omega arith;
+  upto = λ k d lt.
+      let step : (get_or starts k e).addr ≤ (get_or starts (length starts - 1) e).addr = ascending k (length starts - 1) e (omega arith) (omega arith) in
+      let same : (get_or starts k d).addr ≡ (get_or starts k e).addr = ap (λ (s : Start). s.addr) (get_or_default starts k d e lt) in
+      omega arith;
+  above = λ k d le lt. omega arith;
 }
 
 above_zero : (n : ℕ) → nat_lt 0 n ≡ true → 0 < n

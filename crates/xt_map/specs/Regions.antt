@@ -1,5 +1,6 @@
--- The memory map. The addresses are those of the ESP32 Technical Reference Manual, chapter 'System and Memory';
--- which of its regions exist, and that constant regions are never written, is this project's own choice ('profile').
+-- The memory map. The addresses are those of the ESP32 Technical Reference Manual, chapter 'System
+-- and Memory'; which of its regions exist, and that constant regions are never written, is this
+-- project's own choice ('profile').
 use Rattle.std.specs.Prelude.{ℕ, ◌*◌, ◌%◌, ◌^◌, Bool, true, false, ◌==◌, ◌&&◌, ◌||◌, nat_le, nat_lt, if◌then◌else◌, Option, Some, None, List, [], ◌∷◌}
 use Rattle.xt_map.specs.declared.regions.Region.{Region}
 use Rattle.xt_map.specs.declared.regions.Region.TheVariants.{Drom, Uart, RtcFastData, Dram, Iram, RtcFastCode, Irom, RtcSlow}
@@ -16,11 +17,18 @@ pub record Range : Type 0 where
 abbrev pub range : Region → ℕ → ℕ → Range
 range region first last = record { region = region; first = first; last = last }
 
+-- the transmit address of UART0, and its status address
+abbrev pub uart_transmit : ℕ
+uart_transmit = 0x3FF40000
+
+abbrev pub uart_status : ℕ
+uart_status = 0x3FF4001C
+
 abbrev pub ranges : List Range
 ranges =
     range Drom 0x3F400000 0x3F7FFFFF
-    ∷ range Uart 0x3FF40000 0x3FF40000
-    ∷ range Uart 0x3FF4001C 0x3FF4001C
+    ∷ range Uart uart_transmit uart_transmit
+    ∷ range Uart uart_status uart_status
     ∷ range RtcFastData 0x3FF80000 0x3FF81FFF
     ∷ range Dram 0x3FFAE000 0x3FFFFFFF
     ∷ range Iram 0x40070000 0x4009FFFF
@@ -55,10 +63,6 @@ is_executable (Some RtcFastCode) = true
 is_executable (Some Irom) = true
 is_executable _ = false
 
-abbrev pub is_instruction_memory : Option Region → Bool
-is_instruction_memory (Some Iram) = true
-is_instruction_memory _ = false
-
 abbrev pub is_memory : Option Region → Bool
 is_memory (Some RtcFastData) = true
 is_memory (Some Dram) = true
@@ -66,13 +70,6 @@ is_memory (Some RtcSlow) = true
 is_memory _ = false
 
 -- ---- bus accesses
-
--- the transmit address of UART0, and its status address
-abbrev pub uart_transmit : ℕ
-uart_transmit = 0x3FF40000
-
-abbrev pub uart_status : ℕ
-uart_status = 0x3FF4001C
 
 abbrev pub is_uart : ℕ → Bool
 is_uart a = a == uart_transmit || a == uart_status
@@ -92,8 +89,10 @@ uart_takes Load = true
 uart_takes (Store v) = true
 uart_takes (Cas expected new) = false
 
--- What the bus serves: an aligned access of 1, 2 or 4 bytes to a memory region, or a load or store of UART0.
--- Each memory region begins and ends at a multiple of 4, so an aligned access that begins in one lies in it whole.
+-- What the bus serves: an aligned access of 1, 2 or 4 bytes to a memory region, or a load or store
+-- of UART0. Each memory region begins and ends at a multiple of 4, so an aligned access that begins
+-- in one lies in it whole.
 abbrev pub is_mapped : Access → Bool
 is_mapped a = is_size a.size && (kind_fits a.kind a.size
-    && ((is_memory (region_of a.addr) && a.addr % a.size == 0) || (is_uart a.addr && uart_takes a.kind)))
+    && ((is_memory (region_of a.addr) && a.addr % a.size == 0)
+    || (is_uart a.addr && uart_takes a.kind)))

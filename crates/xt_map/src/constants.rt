@@ -96,12 +96,17 @@ fn sorted_starts_of(alloc: Global, segments: &[Segment]) -> Result<Vec<Start>, A
     Ok(starts)
 }
 
-// How many of the starts have an address up to this one.
+// How many of the starts have an address up to this one. All have where the last one has, which is tried first: code
+// mostly lies in the segment of the highest addresses.
 #[inline(always)]
 fn count_upto(starts: &[Start], addr: u32) -> usize
     requires { IsNonDecreasingBy (λ (s : Start). s.addr) starts.now }
     ensures { IsCountUpto starts.now addr result }
 {
+    let len = starts.len();
+    if 0 < len && starts[len - 1].addr <= addr {
+        return len;
+    }
     starts.partition_point(|start| start.addr <= addr)
 }
 

@@ -13,6 +13,7 @@ mod laws;
 mod lookup;
 mod mapping;
 mod placing;
+mod region_kinds;
 pub mod regions;
 mod segment;
 #[cfg(test)]
@@ -32,4 +33,5 @@ pub use laws::{
 pub use lookup::region;
 pub use mapping::mapped;
 pub use placing::{are_placed, is_placed, is_segment_loaded, share_bytes};
+pub use region_kinds::{UART_STATUS, UART_TRANSMIT, can_execute_at, is_constant_at};
 pub use segment::{Segment, Segments};

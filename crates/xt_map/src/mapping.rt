@@ -3,6 +3,7 @@ ghost use Rattle.xt_map.specs.Regions.{is_mapped, is_memory, is_uart, region_of,
 
 use crate::access::{Access, Kind};
 use crate::lookup::region;
+use crate::region_kinds::{UART_STATUS, UART_TRANSMIT};
 use crate::regions::Region;
 
 // A stored value has no more bytes than the access, and a compare-and-swap is of a word.
@@ -49,7 +50,7 @@ pub fn mapped(a: &Access) -> bool
     if size != 1 && size != 2 && size != 4 {
         return false;
     }
-    let is_uart = a.addr == 0x3FF40000 || a.addr == 0x3FF4001C;
+    let is_uart = a.addr == UART_TRANSMIT || a.addr == UART_STATUS;
     does_kind_fit(a.kind, size)
         && ((is_in_memory(a.addr) && a.addr % size as u32 == 0)
             || (is_uart && does_uart_take(a.kind)))

@@ -1,6 +1,6 @@
 -- A word out of its parts: the nibbles that a row fixes, and the digits of a number that is spread over fields.
-use Rattle.std.proofs.Common.{◌≡◌, ℕ, zero, suc, ◌+◌, ◌-◌, ◌*◌, ◌/◌, ◌%◌, ◌<◌, Bool, true, false, cond, ltb, eqb, List, [], ◌∷◌, Option, Some, None, refl, ap, ◌∙◌, arith, pos, negsuc, bit_and}
-use Rattle.std.proofs.lemmas.Bool.{agree_below_at, cond-true, cond_both, eqb-true, lt-ltb}
+use Rattle.std.proofs.Common.{◌≡◌, ℕ, ◌+◌, ◌*◌, ◌/◌, ◌%◌, ◌<◌, Bool, true, false, cond, ltb, eqb, List, [], ◌∷◌, Option, Some, None, refl, ap, ◌∙◌, arith, pos, bit_and}
+use Rattle.std.proofs.lemmas.Bool.{agree_below_at, cond_both, eqb-true}
 use Rattle.std.proofs.lemmas.Grind.{high_numeral_and, numeral_and}
 use Rattle.xt_isa.specs.declared.Insn.{Insn}
 use Rattle.xt_isa.specs.declared.Fields.{Fields}
@@ -8,6 +8,7 @@ use Rattle.xt_isa.specs.Ranges.{AreNibbles}
 use Rattle.xt_isa.specs.Apart.{AllRows}
 use Rattle.xt_isa.specs.Spelling.{Row, b4const, b4constu, below, fits, joined, minus_one_or, narrow_constant, nibble, signed, spell}
 use Rattle.xt_isa.proofs.ApartRows.{agrees_all}
+use Rattle.xt_isa.proofs.Ranged.{below_negative}
 use Rattle.xt_mnemonic.specs.Encodings.{IsPadded}
 use Rattle.xt_mnemonic.proofs.EncodingWords.{constant, fields_from, natural, unsigned}
 
@@ -104,10 +105,6 @@ pub rest3 : (m a b c x : ℕ) → a < 16 → b < 16 → c < 16 → m ≡ a + 16 
 rest3 m a b c x p q r e = omega arith
 
 -- ---- Numbers out of integers.
-below_negative : (n k : ℕ) → n < k → below n k ≡ negsuc (k - suc n)
-below_negative n zero h = absurd (omega arith)
-below_negative n (suc k) h = cond-true (ltb n (suc k)) (negsuc (suc k - suc n)) (pos (n - suc k)) (lt-ltb n (suc k) h)
-
 pub below_back : (half n : ℕ) → n < 2 * half → unsigned half (below n (2 * half)) ≡ n
 below_back half n h = ap (unsigned half) (below_negative n (2 * half) h) ∙ omega arith
 

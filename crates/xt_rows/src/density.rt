@@ -4,6 +4,7 @@ ghost use Rattle.xt_map.specs.Memory.{constant_byte};
 ghost use Rattle.xt_rows.specs.Numbers.{plus};
 ghost use Rattle.xt_rows.specs.Outcomes.{density_outcome};
 
+use crate::cause;
 use crate::effects::{branches, goes, loads, puts, stores};
 use crate::numbers::plus;
 use crate::outcome::{Effect, Outcome, WindowStep};
@@ -45,7 +46,7 @@ pub fn density_outcome(code: &Constants, i: Density, pc: u32, x: u32, y: u32, e:
         Density::Ret(NarrowRetName::Ret) => goes(x, e),
         Density::Ret(NarrowRetName::Retw) => Outcome::Windowed(WindowStep::Returns(x)),
         Density::Ret(NarrowRetName::Nop) => Outcome::Does(e),
-        Density::Ret(NarrowRetName::Ill) => Outcome::Raises(0, None),
+        Density::Ret(NarrowRetName::Ill) => Outcome::Raises(cause::ILLEGAL_INSTRUCTION, None),
         Density::Break(_) => Outcome::Stops,
     }
 }

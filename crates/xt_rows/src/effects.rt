@@ -1,14 +1,14 @@
-ghost use Rattle.std.specs.Prelude.{◌≡◌, ◌+◌, ◌*◌, ◌%◌, ◌^◌, ◌<◌, ◌≤◌, true};
+ghost use Rattle.std.specs.Prelude.{◌≡◌, ◌+◌, ◌*◌, ◌%◌, ◌^◌, ◌<◌, true};
 ghost use Rattle.xt_map.specs.Memory.{constant_byte};
-ghost use Rattle.xt_map.specs.Regions.{is_constant, is_size, region_of};
+ghost use Rattle.xt_map.specs.Regions.{is_size};
 ghost use Rattle.xt_rows.specs.Effects.{asks, branches, calls, exchanges_special, goes, loads, loops, moves, puts, reads_special, set_to, special_sets, stores, swaps, unchanged, window_register, write_to, writes_special};
 
+use crate::cause;
 use crate::numbers::{address_behind, branch_target, code_number, extended, linked, minus};
 use crate::outcome::{
     Awaited, Effect, Flow, Outcome, SpecialWrite, WindowRegister, WindowStep, Write,
 };
-use xt_map::regions::Region;
-use xt_map::{Access, Constants, Kind, mapped, region};
+use xt_map::{Access, Constants, Kind, is_constant_at, mapped};
 use xt_special::{Ps, number};
 
 /// The effect of an instruction that changes nothing and goes on to the next one.
@@ -144,20 +144,7 @@ fn asks(access: Access, awaited: Option<Awaited>, e: Effect) -> Outcome
     if mapped(&access) {
         Outcome::Asks(access, awaited, e)
     } else {
-        Outcome::Raises(3, Some(access.addr))
-    }
-}
-
-// Whether an address lies in a constant region.
-#[tactic(auto, unfolding(xt_map::specs::Regions::region_of))]
-#[inline(always)]
-fn is_constant(addr: u32) -> bool
-    ensures test { result ≡ is_constant (region_of addr) }
-    ensures small { result ≡ true → addr + 4 ≤ 2 ^ 32 }
-{
-    match region(addr) {
-        Some(Region::Drom | Region::Iram | Region::RtcFastCode | Region::Irom) => true,
-        _ => false,
+        Outcome::Raises(cause::ACCESS_ERROR, Some(access.addr))
     }
 }
 
@@ -168,9 +155,9 @@ pub fn loads(code: &Constants, size: u8, signed: bool, number: u8, addr: u32, e:
     ensures { result ≡ loads (constant_byte code.now) size signed number addr e }
 {
     if addr % size as u32 != 0 {
-        return Outcome::Raises(9, Some(addr));
+        return Outcome::Raises(cause::MISALIGNED, Some(addr));
     }
-    if is_constant(addr) {
+    if is_constant_at(addr) {
         return puts(number, extended(signed, code_number(code, addr, size)), e);
     }
     let access = Access {
@@ -201,7 +188,7 @@ pub fn stores(size: u8, value: u32, addr: u32, e: Effect) -> Outcome
     ensures { result ≡ stores size value addr e }
 {
     if addr % size as u32 != 0 {
-        return Outcome::Raises(9, Some(addr));
+        return Outcome::Raises(cause::MISALIGNED, Some(addr));
     }
     let access = Access {
         addr,
@@ -217,7 +204,7 @@ pub fn swaps(expected: u32, new: u32, number: u8, addr: u32, e: Effect) -> Outco
     ensures { result ≡ swaps expected new number addr e }
 {
     if addr % 4 != 0 {
-        return Outcome::Raises(9, Some(addr));
+        return Outcome::Raises(cause::MISALIGNED, Some(addr));
     }
     let access = Access {
         addr,

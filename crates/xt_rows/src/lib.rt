@@ -4,9 +4,11 @@
 //! the processor and a machine with unbounded frames alike.
 #![tactic(auto)]
 
+pub mod cause;
 mod control;
 mod density;
 mod effects;
+mod fetch;
 pub mod laws;
 mod memory;
 mod numbers;
@@ -18,6 +20,7 @@ mod system;
 mod three;
 pub mod ties;
 
+pub use fetch::{length_of, unfetchable};
 pub use numbers::{code_byte, code_three, extended, literal_address, minus, natural, plus};
 pub use operands::{named, reads, special_reads};
 pub use outcome::{

@@ -3,8 +3,7 @@ ghost use Rattle.xt_map.specs.Memory.{constant_byte};
 ghost use Rattle.xt_map.specs.Regions.{is_size};
 ghost use Rattle.xt_rows.specs.Numbers.{address_behind, branch_target, call_target, code_number, extended, linked, literal_address, minus, natural, plus};
 
-use xt_map::regions::Region;
-use xt_map::{Constants, region};
+use xt_map::{Constants, is_constant_at};
 use xt_word::sext;
 
 /// A number of 32 bits and a signed one, added, modulo 2^32.
@@ -94,9 +93,10 @@ pub fn linked(size: u8, pc: u32) -> u32
 pub fn code_byte(code: &Constants, addr: u32) -> u8
     ensures { result ≡ constant_byte code.now addr }
 {
-    match region(addr) {
-        Some(Region::Drom | Region::Iram | Region::RtcFastCode | Region::Irom) => code.byte(addr),
-        _ => 0,
+    if is_constant_at(addr) {
+        code.byte(addr)
+    } else {
+        0
     }
 }
 
@@ -119,7 +119,7 @@ pub fn code_three(code: &Constants, addr: u32) -> (u8, u8, u8)
 }
 
 /// The little-endian number of 1, 2 or 4 bytes of the constant regions.
-#[inline(always)]
+#[inline(never)]
 pub fn code_number(code: &Constants, addr: u32, size: u8) -> u32
     requires size { is_size size ≡ true }
     requires place { addr + 4 ≤ 2 ^ 32 }

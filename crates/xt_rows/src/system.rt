@@ -6,6 +6,7 @@ ghost use Rattle.xt_special.specs.Shape.{IsPs};
 ghost use Rattle.xt_rows.specs.Effects.{special_sets};
 ghost use Rattle.xt_rows.specs.Outcomes.{system_outcome};
 
+use crate::cause;
 use crate::effects::{goes, puts, set_to, window_register, write_to};
 use crate::numbers::natural;
 use crate::outcome::{Effect, Flow, Outcome, SpecialWrites, WindowStep};
@@ -21,7 +22,7 @@ fn synchronizes(name: SyncName, e: Effect) -> Outcome
     ensures { (x u v : ℕ) → result ≡ system_outcome (system.Ill name) x u v e }
 {
     match name {
-        SyncName::Ill => Outcome::Raises(0, None),
+        SyncName::Ill => Outcome::Raises(cause::ILLEGAL_INSTRUCTION, None),
         SyncName::Isync | SyncName::Rsync | SyncName::Esync | SyncName::Dsync => Outcome::Does(e),
     }
 }
@@ -63,7 +64,7 @@ fn calls_outside(name: BreakName) -> Outcome
 {
     match name {
         BreakName::Break => Outcome::Stops,
-        BreakName::Syscall => Outcome::Raises(1, None),
+        BreakName::Syscall => Outcome::Raises(cause::SYSTEM_CALL, None),
     }
 }
 

@@ -2,6 +2,7 @@ ghost use Rattle.std.specs.Prelude.{◌≡◌, ℕ, ◌<◌, ◌^◌};
 ghost use Rattle.xt_isa.specs.declared.three.Three.TheVariants as three;
 ghost use Rattle.xt_rows.specs.Outcomes.{three_outcome};
 
+use crate::cause;
 use crate::effects::{moves, puts};
 use crate::outcome::{Effect, Outcome};
 use xt_alu::arithmetic::{addx, bit_and, bit_or, bit_xor, max, maxu, min, minu, subx};
@@ -78,7 +79,7 @@ fn quotient(name: DivideName, r: u8, x: u32, y: u32, e: Effect) -> Outcome
     ensures { (s t u : ℕ) → result ≡ three_outcome (three.Quou name r s t) x y u e }
 {
     if y == 0 {
-        return Outcome::Raises(6, None);
+        return Outcome::Raises(cause::DIVIDE_BY_ZERO, None);
     }
     match name {
         DivideName::Quou => puts(r, quou(x, y), e),

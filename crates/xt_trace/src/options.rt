@@ -1,9 +1,7 @@
 ghost use Rattle.std.specs.Prelude.{◌≡◌, true};
-ghost use Rattle.xt_map.specs.Regions.{is_executable, region_of};
 ghost use Rattle.xt_trace.specs.Validity.{IsValid, IsValidStack};
 
-use xt_map::region;
-use xt_map::regions::Region;
+use xt_map::can_execute_at;
 
 /// The range of a core's stack: the addresses from `lo` to `hi` - 1.
 #[derive(Clone, Copy, Debug, PartialEq, Eq)]
@@ -46,16 +44,6 @@ impl Stack {
     }
 }
 
-// Whether instructions can be fetched at an address.
-fn is_executable(addr: u32) -> bool
-    ensures { result ≡ is_executable (region_of addr) }
-{
-    match region(addr) {
-        Some(Region::Iram | Region::RtcFastCode | Region::Irom) => true,
-        _ => false,
-    }
-}
-
 impl Options {
     /// Whether a run accepts these options: no turn count is above 4,000,000, core 1's entry lies in an executable region,
     /// VECBASE is a multiple of 1024, and each stack is a range of at least 256 bytes in the internal data memory, whose
@@ -66,7 +54,7 @@ impl Options {
     {
         self.turns0 <= 4_000_000
             && self.turns1 <= 4_000_000
-            && is_executable(self.entry1)
+            && can_execute_at(self.entry1)
             && self.vecbase % 1024 == 0
             && self.stack0.valid()
             && self.stack1.valid()

@@ -30,7 +30,7 @@ returns c =
         are_pieces = c.requires.pieces;
         segments = c.in_ok-segments.ensures;
         entry = entry ∙ ap (λ ls. entry_of ls lines) c.requires.labels;
-        head_is = c.head.ensures;
+        head_is = c.made_head.ensures;
         digest = refl;
       },
     )
