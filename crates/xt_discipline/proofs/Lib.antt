@@ -5,8 +5,10 @@ pub mod Calls
 pub mod Moved
 pub mod Seeing
 pub mod Walking
+pub mod Along
 pub mod Opens
 pub mod Orders
 pub mod Lengths
 pub mod Answered
 pub mod Openings
+pub mod Counts

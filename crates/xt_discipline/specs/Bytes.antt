@@ -1,4 +1,5 @@
--- The bytes of internal data memory, by save areas ('profile').
+-- Carries a proof; nothing that a reader must believe.
+-- The marks of the bytes of internal data memory, by save areas, that the walk of the judge keeps.
 use Rattle.std.specs.Prelude.{◌≡◌, ℕ, zero, suc, ◌+◌, ◌-◌, ◌*◌, ◌≤◌, ◌^◌, Bool, true, false, not, ◌&&◌, ◌||◌, nat_le, nat_lt, if◌then◌else◌, List, length, slice_index_or}
 use Rattle.xt_map.specs.Touching.{touches}
 use Rattle.xt_frames.specs.Frames.{Frame}

@@ -8,8 +8,8 @@ use Rattle.xt_trace.specs.Validity.{IsValid}
 pub use Rattle.xt_runs.specs.Schedule.{schedule_in}
 use Rattle.xt_runs.specs.Short.{IsRising}
 
--- a core's trace is no longer than its turns, its places rise and lie in it, and there are as many
--- of them as the history has entries of the core
+-- a trace is of this core and no longer than its turns, its places rise and lie in it, and there
+-- are as many of them as the history has entries of the core
 pub record IsTraceIn (history : List Entry) (core turns : ℕ) (t : Trace) : Type 0 where
   pub core_is : t.core ≡ core
   pub short : t.count ≤ turns

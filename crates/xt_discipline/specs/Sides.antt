@@ -1,4 +1,5 @@
--- One core of the walk of the judge ('profile').
+-- Carries a proof; nothing that a reader must believe.
+-- One core of the walk of the judge.
 use Rattle.std.specs.Prelude.{◌≡◌, ℕ, suc, ◌+◌, ◌≤◌, ◌^◌, Bool, true, ◌||◌, if◌then◌else◌, Option, Some, None, Result, Ok, Err, List, ◌∷◌, length}
 use Rattle.xt_map.specs.Touching.{touches}
 use Rattle.xt_frames.specs.SaveAreas.{is_live}

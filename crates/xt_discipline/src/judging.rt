@@ -7,7 +7,6 @@ ghost use Rattle.xt_frames.specs.Verdict.{verdict};
 ghost use Rattle.xt_discipline.specs.Schedules.{HasSchedule, schedule_in};
 ghost use Rattle.xt_discipline.specs.Verdicts.{are_yes, is_yes, judgement_in};
 
-use crate::order::schedule_of;
 use crate::walk::Walk;
 use std::alloc::{AllocError, Global};
 use xt_frames::Judged;
@@ -27,7 +26,7 @@ fn is_yes(answer: HandlerVerdict) -> bool
 }
 
 /// Whether the six window handlers pass the check.
-fn are_yes(handlers: &Handlers) -> bool
+pub fn are_yes(handlers: &Handlers) -> bool
     ensures { result ≡ are_yes handlers.now }
 {
     is_yes(handlers.of4)
@@ -61,6 +60,5 @@ pub fn judge<R: Records>(
     }
     let code = Constants::make(alloc, image.segments.as_slice())?;
     let mut walk = Walk::open(alloc, code, image.entry, &run.options)?;
-    let schedule = schedule_of(alloc, run)?;
-    Ok(walk.follow(schedule.as_slice(), records0, records1))
+    Ok(walk.judge(run, records0, records1))
 }

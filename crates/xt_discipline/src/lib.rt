@@ -3,11 +3,13 @@
 
 mod accesses;
 mod bytes;
+mod callers;
 mod judging;
 mod order;
 mod side;
 mod walk;
 
+pub use callers::depths;
 pub use judging::judge;
 pub use order::{Schedule, schedule_of};
 pub use xt_frames::Judged;

@@ -1,24 +1,27 @@
 //! The walk over the records of both cores.
 #![tactic(auto)]
 
-ghost use Rattle.std.specs.Prelude.{◌≡◌, ◌+◌, ◌<◌, ◌^◌, ℕ, Bool, false, IfOk, All, length, replicate};
+ghost use Rattle.std.specs.Prelude.{◌≡◌, ◌+◌, ◌<◌, ◌^◌, ℕ, Bool, false, [], Err, IfOk, List, length, replicate};
 ghost use Rattle.xt_map.specs.Memory.{constant_byte};
 ghost use Rattle.xt_trace.specs.declared.options.Options.{Options};
 ghost use Rattle.xt_trace.specs.Validity.{IsValid};
+ghost use Rattle.xt_frames.specs.declared.kinds.Judged.TheVariants.{Whole};
 ghost use Rattle.xt_frames.specs.Breaches.{Bounds};
 ghost use Rattle.xt_frames.specs.Stacks.{IsRange};
 ghost use Rattle.xt_frames.specs.Verdict.{Known, judgement, verdict_on};
 ghost use Rattle.xt_frames.specs.Walked.{opened, stack_of};
 ghost use Rattle.xt_discipline.specs.Bytes.{AreOpened, IsEnd, KnowsOf, held_at, nothing};
+ghost use Rattle.xt_discipline.specs.Schedules.{HasSchedule, schedule_in};
 ghost use Rattle.xt_discipline.specs.Sides.{IsSide, live_in};
-ghost use Rattle.xt_discipline.specs.Walks.{IsOpened, IsTurned, Knows, Turns};
+ghost use Rattle.xt_discipline.specs.Ended.{HasEnded};
+ghost use Rattle.xt_discipline.specs.Walks.{GoesOn, IsOpened, IsTurned, Knows, Turns, found_on};
 
 use crate::bytes::{Change, Held, change_bytes, nothing};
 use crate::side::Side;
 use std::alloc::{AllocError, Global};
 use xt_frames::{Frames, Judged};
 use xt_map::Constants;
-use xt_trace::{Options, Records};
+use xt_trace::{Options, Records, Run};
 
 /// The walk so far.
 #[derive(Drop)]
@@ -94,6 +97,7 @@ fn turn_of<R: Records>(
     ensures len { length marks.new ≡ length marks.old }
     ensures turns { (others stale : ℕ → Bool) → KnowsOf side.old.core marks.old (live_in side.old.frames) others stale
         → Turns (constant_byte code.now) side.old side.new marks.new others stale (R.left records.old) (R.left records.new) result }
+    ensures ended { result ≡ Err Whole → (R.left records.old ≡ []) × (side.new ≡ side.old) }
 {
     match records.next() {
         None => Err(Judged::Whole),
@@ -126,8 +130,15 @@ impl Walk {
         })
     }
 
+    /// How many frames of callers core 0 and core 1 have.
+    pub fn depths(&self) -> (u32, u32)
+        ensures { result ≡ (length self.now.side0.frames.state.frames, length self.now.side1.frames.state.frames) }
+    {
+        (self.side0.frames.depth(), self.side1.frames.depth())
+    }
+
     /// The next record of this core, if it has one: no breach, or what is judged of the run.
-    fn turn<R: Records>(
+    pub fn turn<R: Records>(
         &mut self,
         core: u8,
         records0: &mut R,
@@ -136,8 +147,9 @@ impl Walk {
         requires core { core < 2 }
         requires known { (b0 : Bounds) × (b1 : Bounds) × (k : Known) × Knows self.old b0 b1 k }
         requires room { self.old.side0.steps + self.old.side1.steps + 1 < 2 ^ 32 }
-        ensures { (b0 b1 : Bounds) (k : Known) → Knows self.old b0 b1 k
+        ensures turned { (b0 b1 : Bounds) (k : Known) → Knows self.old b0 b1 k
             → IsTurned (constant_byte self.old.code) b0 b1 core k (R.left records0.old) (R.left records1.old) self.new (R.left records0.new) (R.left records1.new) result }
+        ensures ended { result ≡ Err Whole → HasEnded core self.old self.new (R.left records0.old) (R.left records1.old) }
     {
         if core == 0 {
             turn_of(&self.code, &mut self.side0, &mut self.marks, records0)
@@ -146,24 +158,72 @@ impl Walk {
         }
     }
 
-    /// What is judged of a run whose records come in this order, from here on.
-    pub fn follow<R: Records>(
+    /// So many turns of a core, one after another: no breach, or what is judged of the run.
+    fn turns<R: Records>(
         &mut self,
-        schedule: &[u8],
+        core: u8,
+        times: u32,
         records0: &mut R,
         records1: &mut R,
-    ) -> Judged
-        requires cores { All (λ c. c < 2) schedule.now }
+    ) -> Result<(), Judged>
+        requires core { core < 2 }
         requires known { (b0 : Bounds) × (b1 : Bounds) × (k : Known) × Knows self.old b0 b1 k }
-        requires room { self.old.side0.steps + self.old.side1.steps + length schedule.now < 2 ^ 32 }
-        ensures { (b0 b1 : Bounds) (k : Known) → Knows self.old b0 b1 k
-            → result ≡ verdict_on (judgement (constant_byte self.old.code) b0 b1 schedule.now (R.left records0.old) (R.left records1.old) k).breach }
+        requires room { self.old.side0.steps + self.old.side1.steps + times < 2 ^ 32 }
+        ensures { (b0 b1 : Bounds) (k : Known) → Knows self.old b0 b1 k → (rest : List ℕ)
+            → GoesOn (constant_byte self.old.code) b0 b1 k (replicate times core) rest (R.left records0.old) (R.left records1.old) self.new (R.left records0.new) (R.left records1.new) result }
     {
-        for core in schedule {
-            if let Err(judged) = self.turn(*core, records0, records1) {
-                return judged;
+        for _turn in 0..times {
+            self.turn(core, records0, records1)?;
+        }
+        Ok(())
+    }
+
+    /// The turns of a run in the order of its schedule, which is never written down: for each entry of the history those of its core up
+    /// to and with this access, and then the rest of either core's. No breach, or what is judged of the run.
+    fn follow<R: Records>(
+        &mut self,
+        run: &Run,
+        records0: &mut R,
+        records1: &mut R,
+    ) -> Result<(), Judged>
+        requires schedule { HasSchedule run.now }
+        requires known { (b0 : Bounds) × (b1 : Bounds) × (k : Known) × Knows self.old b0 b1 k }
+        requires room { self.old.side0.steps + self.old.side1.steps + length (schedule_in run.now) < 2 ^ 32 }
+        ensures { (b0 b1 : Bounds) (k : Known) → Knows self.old b0 b1 k
+            → found_on result ≡ verdict_on (judgement (constant_byte self.old.code) b0 b1 (schedule_in run.now) (R.left records0.old) (R.left records1.old) k).breach }
+    {
+        let (places0, places1) = (run.trace0.places.as_slice(), run.trace1.places.as_slice());
+        let (count0, count1) = (run.trace0.count, run.trace1.count);
+        let (mut calls0, mut calls1) = (0, 0);
+        let (mut done0, mut done1) = (0, 0);
+        for entry in run.history.as_slice() {
+            if entry.core == 0 {
+                let upto = places0[calls0] + 1;
+                self.turns(0, upto - done0, records0, records1)?;
+                calls0 += 1;
+                done0 = upto;
+            } else {
+                let upto = places1[calls1] + 1;
+                self.turns(1, upto - done1, records0, records1)?;
+                calls1 += 1;
+                done1 = upto;
             }
         }
-        Judged::Whole
+        self.turns(0, count0 - done0, records0, records1)?;
+        self.turns(1, count1 - done1, records0, records1)
+    }
+
+    /// What is judged of a run, from here on.
+    pub fn judge<R: Records>(&mut self, run: &Run, records0: &mut R, records1: &mut R) -> Judged
+        requires schedule { HasSchedule run.now }
+        requires known { (b0 : Bounds) × (b1 : Bounds) × (k : Known) × Knows self.old b0 b1 k }
+        requires room { self.old.side0.steps + self.old.side1.steps + length (schedule_in run.now) < 2 ^ 32 }
+        ensures { (b0 b1 : Bounds) (k : Known) → Knows self.old b0 b1 k
+            → result ≡ verdict_on (judgement (constant_byte self.old.code) b0 b1 (schedule_in run.now) (R.left records0.old) (R.left records1.old) k).breach }
+    {
+        match self.follow(run, records0, records1) {
+            Ok(()) => Judged::Whole,
+            Err(judged) => judged,
+        }
     }
 }

@@ -10,7 +10,7 @@ ghost use Rattle.xt_frames.specs.SaveAreas.{Range, before};
 ghost use Rattle.xt_frames.specs.FrameStep.{laid_step};
 ghost use Rattle.xt_frames.specs.Breaches.{fetched_return_breach, first_shown, fresh_after, has_no_caller, insn_tests, is_in_vectors, is_movsp, is_return, is_windowing, laid_breach, leaves_range, may_write_sp, misaligns_sp, moves_vectors, names_high, names_window_register, opens_nothing, other_frame_size, other_tests, reads_epc1, reads_lost, reads_none, returns_elsewhere, sets_epc1, small_frame, vector_test, window_breach, writes_epc1, writes_sp};
 ghost use Rattle.xt_frames.specs.declared.view.Step.{Step};
-ghost use Rattle.xt_frames.specs.Parts.{IsGood, IsNewest, IsPlan, Upper, state_at, turn_as};
+ghost use Rattle.xt_frames.specs.Parts.{IsFetched, IsGood, IsNewest, IsPlan, Upper, state_at, turn_as};
 ghost use Rattle.xt_frames.specs.Walked.{IsCase, bounds_of, shown_tests};
 
 use crate::fetch::{Fetch, instruction_at};
@@ -415,15 +415,27 @@ pub fn underflows(kind: StepKind) -> bool
     }
 }
 
-/// Whether a step of this kind writes EPC1.
+/// What the bytes at PC are, which the plan of a step has found where it fetches.
+fn planned(plan: Plan, code: &Constants, view: &View) -> Fetch
+    requires { IsPlan plan (constant_byte code.now) view.now.control }
+    ensures { IsFetched result (fetched (constant_byte code.now) view.now.control.pc) }
+{
+    match plan {
+        Plan::Fetched(fetch) => fetch,
+        Plan::Interrupt(_) | Plan::Waits => instruction_at(code, view.pc()),
+    }
+}
+
+/// Whether a step of this kind, which was planned so, writes EPC1.
 #[tactic(auto, unfolding(crate::specs::Breaches::writes_epc1))]
-fn writes_epc1(kind: StepKind, code: &Constants, view: &View) -> bool
+fn writes_epc1(kind: StepKind, plan: Plan, code: &Constants, view: &View) -> bool
+    requires { IsPlan plan (constant_byte code.now) view.now.control }
     ensures { result ≡ writes_epc1 kind (fetched (constant_byte code.now) view.now.control.pc) view.now.control.ps }
 {
     match kind {
         StepKind::Exc(_) => !view.excm(),
         StepKind::Interrupt(level) => level == 1 && !view.excm(),
-        StepKind::Insn => match instruction_at(code, view.pc()) {
+        StepKind::Insn => match planned(plan, code, view) {
             Fetch::Insn(i, _) => sets_epc1(i),
             Fetch::Fails(_) | Fetch::Nothing => false,
         },
@@ -431,9 +443,17 @@ fn writes_epc1(kind: StepKind, code: &Constants, view: &View) -> bool
     }
 }
 
-/// Whether EPC1 has what was last written, after a step of this kind.
-pub fn fresh_after(fresh: bool, kind: StepKind, code: &Constants, view: &View, after: &View) -> bool
+/// Whether EPC1 has what was last written, after a step of this kind, which was planned so.
+pub fn fresh_after(
+    fresh: bool,
+    kind: StepKind,
+    plan: Plan,
+    code: &Constants,
+    view: &View,
+    after: &View,
+) -> bool
+    requires { IsPlan plan (constant_byte code.now) view.now.control }
     ensures { result ≡ fresh_after fresh kind (fetched (constant_byte code.now) view.now.control.pc) view.now.control.ps after.now.control.ps }
 {
-    writes_epc1(kind, code, view) || (fresh && !(view.excm() && !after.excm()))
+    writes_epc1(kind, plan, code, view) || (fresh && !(view.excm() && !after.excm()))
 }

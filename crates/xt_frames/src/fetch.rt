@@ -1,14 +1,12 @@
-ghost use Rattle.std.specs.Prelude.{◌≡◌, ◌+◌, ◌<◌, ◌^◌, true, None};
-ghost use Rattle.xt_isa.specs.Spelling.{length_of};
+ghost use Rattle.std.specs.Prelude.{◌≡◌, ◌+◌, ◌<◌, ◌^◌, true};
 ghost use Rattle.xt_map.specs.Memory.{constant_byte};
-ghost use Rattle.xt_rows.specs.Fetching.{can_fetch, fetched, fetched_length, unfetchable};
+ghost use Rattle.xt_rows.specs.Fetching.{can_fetch, fetched};
 ghost use Rattle.xt_frames.specs.Parts.{IsFetched, IsGoodFetch, read_at};
 
 use xt_codec::{Decoded, decode};
 use xt_isa::Insn;
-use xt_map::regions::Region;
-use xt_map::{Constants, region};
-use xt_rows::code_byte;
+use xt_map::Constants;
+use xt_rows::{code_three, unfetchable};
 
 /// What the bytes at an address are.
 #[derive(Clone, Copy)]
@@ -21,67 +19,33 @@ pub enum Fetch {
     Nothing,
 }
 
-// Whether a byte can be fetched.
-#[tactic(auto, unfolding(xt_map::specs::Regions::region_of))]
-fn can_fetch(addr: u32) -> bool
-    ensures test { result ≡ can_fetch addr }
-    ensures small { result ≡ true → addr + 4 < 2 ^ 32 }
-{
-    match region(addr) {
-        Some(Region::Iram | Region::RtcFastCode | Region::Irom) => true,
-        _ => false,
-    }
-}
-
-fn length_of(b0: u8) -> u8
-    ensures value { result ≡ length_of b0 }
-    ensures positive { 0 < result }
-{
-    match b0 % 16 {
-        8..=13 => 2,
-        _ => 3,
-    }
-}
-
-// How many bytes are fetched: the first, and then as many as it asks for.
-fn fetched_length(code: &Constants, pc: u32) -> u8
-    ensures value { result ≡ fetched_length (constant_byte code.now) pc }
-    ensures positive { 0 < result }
-{
-    if can_fetch(pc) {
-        length_of(code_byte(code, pc))
-    } else {
-        1
-    }
-}
-
-// The first of so many bytes from an address on that cannot be fetched.
-fn unfetchable(addr: u32, len: u8) -> Option<u32>
-    ensures value { result ≡ unfetchable addr len }
-    ensures small { result ≡ None → 0 < len → addr + 4 < 2 ^ 32 }
-{
-    if len == 0 {
-        return None;
-    }
-    if !can_fetch(addr) {
-        return Some(addr);
-    }
-    unfetchable(addr + 1, len - 1)
-}
-
 // What the bytes at an address spell.
+#[inline(always)]
 fn spelled_at(code: &Constants, pc: u32) -> Fetch
     requires { pc + 4 < 2 ^ 32 }
     ensures fetched { IsFetched result (read_at (constant_byte code.now) pc) }
     ensures good { IsGoodFetch result }
 {
-    match decode(
-        code_byte(code, pc),
-        code_byte(code, pc + 1),
-        code_byte(code, pc + 2),
-    ) {
+    let (b0, b1, b2) = code_three(code, pc);
+    match decode(b0, b1, b2) {
         Decoded::Good(insn, len) => Fetch::Insn(insn, len),
         Decoded::Illegal => Fetch::Nothing,
+    }
+}
+
+// Whether an address and the two behind it can be fetched.
+#[tactic(auto, unfolding(xt_map::specs::Regions::region_of))]
+#[inline(always)]
+fn is_inside(pc: u32) -> bool
+    ensures first { result ≡ true → can_fetch pc ≡ true }
+    ensures second { result ≡ true → can_fetch (pc + 1) ≡ true }
+    ensures third { result ≡ true → can_fetch (pc + 2) ≡ true }
+    ensures small { result ≡ true → pc + 4 < 2 ^ 32 }
+{
+    match pc {
+        0x40070000..=0x4009FFFD => true,
+        0x400D0000..=0x403FFFFD => true,
+        _ => false,
     }
 }
 
@@ -91,7 +55,10 @@ pub fn instruction_at(code: &Constants, pc: u32) -> Fetch
     ensures fetched { IsFetched result (fetched (constant_byte code.now) pc) }
     ensures good { IsGoodFetch result }
 {
-    match unfetchable(pc, fetched_length(code, pc)) {
+    if is_inside(pc) {
+        return spelled_at(code, pc);
+    }
+    match unfetchable(code, pc) {
         Some(addr) => Fetch::Fails(addr),
         None => spelled_at(code, pc),
     }

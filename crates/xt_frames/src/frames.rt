@@ -176,7 +176,7 @@ impl Frames {
         if let Some(kind) = breach_of(&case, plan, rec, &view, &step, &after) {
             return Err(self.breach(index, kind));
         }
-        let fresh = fresh_after(case.fresh, step.kind, code, &view, &after);
+        let fresh = fresh_after(case.fresh, step.kind, plan, code, &view, &after);
         self.commit(index, fresh, after, step.call);
         Ok(())
     }

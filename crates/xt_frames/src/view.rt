@@ -24,8 +24,8 @@ use std::marker::Model;
 use xt_isa::Insn;
 use xt_map::{Access, Constants};
 use xt_rows::{
-    Awaited, Effect, Flow, Outcome, SpecialWrite, Values, WindowStep, Write, extended, outcome_of,
-    reads, special_reads,
+    Awaited, Effect, Flow, Outcome, SpecialWrite, Values, WindowStep, Write, cause, extended,
+    outcome_of, reads, special_reads,
 };
 use xt_special::{Special, number};
 use xt_trace::{StepKind, StepRecord};
@@ -307,7 +307,7 @@ impl View {
         ensures { (frames : List Frame) → IsNewest newest frames → turn_as result frames self.new ≡ popped a0 (state_at frames self.old) }
     {
         let Some(caller) = newest else {
-            return self.raise(0, None);
+            return self.raise(cause::ILLEGAL_INSTRUCTION, None);
         };
         self.seen = after_return(&caller.kept, &self.seen, caller.by);
         self.pc = self.pc / 0x4000_0000 * 0x4000_0000 + a0 % 0x4000_0000;
@@ -367,14 +367,14 @@ impl View {
         match step {
             WindowStep::Enters(number, value) => {
                 if self.excm() {
-                    self.raise(0, None)
+                    self.raise(cause::ILLEGAL_INSTRUCTION, None)
                 } else {
                     self.enter(number, value, len)
                 }
             }
             WindowStep::Returns(a0) => {
                 if self.excm() {
-                    self.raise(0, None)
+                    self.raise(cause::ILLEGAL_INSTRUCTION, None)
                 } else {
                     self.leave(a0, newest)
                 }
@@ -451,8 +451,8 @@ impl View {
             → turn_as result frames self.new ≡ fetched_step f (constant_byte code.now) reply (state_at frames self.old) }
     {
         match fetch {
-            Fetch::Fails(addr) => self.raise(2, Some(addr)),
-            Fetch::Nothing => self.raise(0, None),
+            Fetch::Fails(addr) => self.raise(cause::FETCH_ERROR, Some(addr)),
+            Fetch::Nothing => self.raise(cause::ILLEGAL_INSTRUCTION, None),
             Fetch::Insn(i, len) => {
                 let outcome = self.outcome(code, i);
                 self.carry_out(outcome, len, reply, newest)

@@ -1,4 +1,4 @@
-use Rattle.std.proofs.Common.{◌≡◌, ℕ, ◌≤◌, List, length, true, sym, ◌∙◌, ap, arith}
+use Rattle.std.proofs.Common.{◌≡◌, ◌≤◌, length, true, refl, sym, ◌∙◌, arith}
 use Rattle.xt_frames.specs.Verdict.{opening_known}
 use Rattle.xt_frames.specs.Walked.{opened}
 use Rattle.xt_discipline.specs.Schedules.{schedule_in}
@@ -7,14 +7,13 @@ use Rattle.xt_discipline.proofs.Lengths.{schedule_short}
 use Rattle.xt_discipline.proofs.Openings.{judged_is}
 use Rattle.xt_discipline.proofs.judging.judge.Goals as goal
 
-pub follow-requires-clause-room : goal.follow-requires-clause-room
-follow-requires-clause-room g c =
+pub judge-requires-clause-room : goal.judge-requires-clause-room
+judge-requires-clause-room g c =
     let o = c.in_ok-walk.ensures in
     let s0 : c.in_ok-walk.walk.side0.steps ≡ 0 = o.steps0 in
     let s1 : c.in_ok-walk.walk.side1.steps ≡ 0 = o.steps1 in
-    let l : length c.as_slice-2.result.now ≡ length (schedule_in c.args.run.now) = ap (λ (xs : List ℕ). length xs) (c.as_slice-2.ensures ∙ c.in_ok-schedule.ensures.schedule) in
     let short : length (schedule_in c.args.run.now) ≤ 8000000 = schedule_short c.args.run.now c.requires.schedule in
-    omega (arith, s0, s1, l, short)
+    omega (arith, s0, s1, short)
 
 pub returns : goal.returns
 returns g c =
@@ -24,5 +23,5 @@ returns g c =
     let b = opened 1 o.entry1 o in
     let begun = c.in_ok-walk.ensures in
     let good : are_yes c.args.handlers.now ≡ true = sym c.are_yes.ensures ∙ c.if-not-are_yes.false in
-    judged_is c.in_ok-walk.walk c.in_ok-code.code image c.args.run.now c.as_slice-2.result.now (g.R.Records.left c.args.records0.now) (g.R.Records.left c.args.records1.now) c.follow.result (are_yes c.args.handlers.now)
-    good begun (c.in_ok-code.ensures ∙ c.as_slice.ensures) (c.as_slice-2.ensures ∙ c.in_ok-schedule.ensures.schedule) (c.follow.ensures a.bounds b.bounds (opening_known a.state b.state) begun.knows)
+    judged_is c.in_ok-walk.walk c.in_ok-code.code image c.args.run.now (schedule_in c.args.run.now) (g.R.Records.left c.args.records0.now) (g.R.Records.left c.args.records1.now) c.judge.result (are_yes c.args.handlers.now)
+    good begun (c.in_ok-code.ensures ∙ c.as_slice.ensures) refl (c.judge.ensures a.bounds b.bounds (opening_known a.state b.state) begun.knows)

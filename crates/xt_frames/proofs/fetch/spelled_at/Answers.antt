@@ -20,7 +20,7 @@ returns-in-Good-clause-fetched c =
     let code = constant_byte c.args.code.now in
     let pc = c.args.pc in
     let spelling : decoded.Good c.in-Good.insn c.in-Good.len ≡ answer (code pc) (spelled (fields_at (code pc) (code (pc + 1)) (code (pc + 2)))) =
-    rw (c.code_byte.ensures, c.code_byte-2.ensures, c.code_byte-3.ensures) at c.in-Good.ensures.spelled in
+    rw c.code_three-b0.ensures at c.in-Good.ensures.spelled in
     (good (code pc) c.in-Good.len (spelled (fields_at (code pc) (code (pc + 1)) (code (pc + 2)))) c.in-Good.insn spelling, c.in-Good.ensures.fits)
 
 pub returns-in-Illegal-clause-fetched : goal.returns-in-Illegal-clause-fetched
@@ -28,5 +28,5 @@ returns-in-Illegal-clause-fetched c =
     let code = constant_byte c.args.code.now in
     let pc = c.args.pc in
     let spelling : decoded.Illegal ≡ answer (code pc) (spelled (fields_at (code pc) (code (pc + 1)) (code (pc + 2)))) =
-    rw (c.code_byte.ensures, c.code_byte-2.ensures, c.code_byte-3.ensures) at c.in-Illegal.ensures.spelled in
+    rw c.code_three-b0.ensures at c.in-Illegal.ensures.spelled in
     illegal (code pc) (spelled (fields_at (code pc) (code (pc + 1)) (code (pc + 2)))) spelling

@@ -1,0 +1,52 @@
+use Rattle.std.proofs.Common.{◌≡◌, ◌+◌, ◌<◌, ◌^◌, ◌∙◌, get_or, length, refl, arith}
+use Rattle.xt_map.specs.Memory.{constant_byte}
+use Rattle.xt_discipline.proofs.Counts.{depths_all, depths_err}
+use Rattle.xt_discipline.proofs.Walking.{reach_none, reach_turn}
+use Rattle.xt_discipline.proofs.callers.depths_behind.Goals as goal
+
+pub loop-core-init : goal.loop-core-init
+loop-core-init g c b0 b1 k h =
+    reach_none (constant_byte c.args.walk.now.code) c.args.walk.now b0 b1 k c.args.schedule.now (g.R.Records.left c.args.records0.now) (g.R.Records.left c.args.records1.now) h refl
+
+pub turn-requires-clause-known : goal.turn-requires-clause-known
+turn-requires-clause-known g c =
+    let q = c.requires.known in
+    let r = c.loop-core.invariant q.0 q.1 q.2 q.3 in
+    (q.0, q.1, r.known, r.knows)
+
+pub turn-requires-clause-room : goal.turn-requires-clause-room
+turn-requires-clause-room g c =
+    let q = c.requires.known in
+    let k = q.2 in
+    let r = c.loop-core.invariant q.0 q.1 q.2 q.3 in
+    let s0 : c.loop-core.walk.side0.steps ≡ r.known.steps0 = r.knows.zero.steps_are in
+    let s1 : c.loop-core.walk.side1.steps ≡ r.known.steps1 = r.knows.one.steps_are in
+    let sum : r.known.steps0 + r.known.steps1 ≡ k.steps0 + k.steps1 + c.loop-core.core-index = r.steps in
+    let a0 : c.args.walk.now.side0.steps ≡ k.steps0 = q.3.zero.steps_are in
+    let a1 : c.args.walk.now.side1.steps ≡ k.steps1 = q.3.one.steps_are in
+    let lt : c.loop-core.core-index < length c.args.schedule.now = c.loop-core-test.true in
+    let room : c.args.walk.now.side0.steps + c.args.walk.now.side1.steps + length c.args.schedule.now < 2 ^ 32 = c.requires.room in
+    omega (arith, s0, s1, sum, a0, a1, lt, room)
+
+pub returns-in-Err : goal.returns-in-Err
+returns-in-Err g c b0 b1 k h =
+    let r = c.loop-core.invariant b0 b1 k h in
+    let i = c.loop-core.core-index in
+    let cs = c.args.schedule.now in
+    c.depths_at.ensures ∙ depths_err (constant_byte c.args.walk.now.code) c.loop-core.walk c.turn.new.self b0 b1 k cs i (get_or cs i 0) 0 (g.R.Records.left c.args.records0.now) (g.R.Records.left c.args.records1.now)
+    (g.R.Records.left c.loop-core.records0) (g.R.Records.left c.loop-core.records1) (g.R.Records.left c.turn.new.records0) (g.R.Records.left c.turn.new.records1)
+    c.turn.result c.in-Err.judged c.in-Err.is c.loop-core-test.true refl r (c.turn.ensures.turned b0 b1 r.known r.knows) c.turn.ensures.ended
+
+pub loop-core-preserved : goal.loop-core-preserved
+loop-core-preserved g c b0 b1 k h =
+    let r = c.loop-core.invariant b0 b1 k h in
+    let i = c.loop-core.core-index in
+    let cs = c.args.schedule.now in
+    reach_turn (constant_byte c.args.walk.now.code) c.loop-core.walk c.turn.new.self b0 b1 k cs i (get_or cs i 0) 0 (g.R.Records.left c.args.records0.now) (g.R.Records.left c.args.records1.now)
+    (g.R.Records.left c.loop-core.records0) (g.R.Records.left c.loop-core.records1) (g.R.Records.left c.turn.new.records0) (g.R.Records.left c.turn.new.records1)
+    c.turn.result c.in_default.field-0 c.in_default.is c.loop-core-test.true refl r (c.turn.ensures.turned b0 b1 r.known r.knows)
+
+pub returns : goal.returns
+returns g c b0 b1 k h =
+    c.depths_at-2.ensures ∙ depths_all (constant_byte c.args.walk.now.code) c.loop-core.walk b0 b1 k c.args.schedule.now c.loop-core.core-index (g.R.Records.left c.args.records0.now) (g.R.Records.left c.args.records1.now)
+    (g.R.Records.left c.loop-core.records0) (g.R.Records.left c.loop-core.records1) c.loop-core-test.false (c.loop-core.invariant b0 b1 k h)

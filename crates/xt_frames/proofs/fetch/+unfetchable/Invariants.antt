@@ -1,4 +1,0 @@
-use Rattle.xt_frames.proofs.fetch.+unfetchable.Given as goal
-
-abbrev pub decreases-unfetchable : goal.decreases-unfetchable
-decreases-unfetchable l = l.len
