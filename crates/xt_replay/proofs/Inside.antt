@@ -1,16 +1,21 @@
 -- A replay goes on, or back to its start.
-use Rattle.std.proofs.Common.{◌≡◌, ℕ, ◌+◌, ◌<◌, ◌≤◌, Option, Some, None, List, length, take, sym, ap, ◌∙◌, subst, arith}
-use Rattle.std.specs.Prelude.{slice_get}
+use Rattle.std.proofs.Common.{◌≡◌, ℕ, zero, suc, ◌+◌, ◌<◌, ◌≤◌, Option, Some, None, List, length, take, sym, ap, ◌∙◌, subst, arith}
+use Rattle.std.specs.Prelude.{All, slice_get, slice_index_or}
 use Rattle.std.proofs.lemmas.Option.{slice_get-get_or, slice_get_past}
 use Rattle.xt_map.specs.declared.segment.Segment.{Segment}
 use Rattle.xt_map.specs.Memory.{constant_byte}
 use Rattle.xt_core.specs.Positions.{schedule_in, world_at}
+use Rattle.xt_trace.specs.declared.run.Run.{Run}
+use Rattle.xt_image.specs.declared.image.Image.{Image}
 use Rattle.xt_core.specs.Runs.{IsRunOf}
+use Rattle.xt_replay.specs.declared.pair.Checkpoint.{Checkpoint}
+use Rattle.xt_replay.specs.declared.pair.Mark.{Mark}
 use Rattle.xt_replay.specs.declared.pair.Pair.{Pair}
 use Rattle.xt_replay.specs.declared.replay.Replay.TheInside.{Inside}
-use Rattle.xt_replay.specs.Kept.{IsKept, replay_in}
+use Rattle.xt_replay.specs.Kept.{IsCopy, IsKept, replay_in}
+use Rattle.xt_replay.specs.Places.{trace_in}
 use Rattle.xt_replay.specs.Shown.{ReplayState, Shown, shown_at, step_in}
-use Rattle.xt_replay.specs.Stands.{Fits, HasRoom, IsAsRoomy, Stand, mark_stand, stand_in, stand_of, stand_past}
+use Rattle.xt_replay.specs.Stands.{Comes, Fits, HasRoom, IsAsRoomy, Stand, made_in, mark_stand, stand_in, stand_of, stand_past}
 use Rattle.xt_replay.proofs.Keeping.{Stands, Turns, core_next, named, one_next, zero_next}
 use Rattle.xt_replay.proofs.Standing.{Bounds, bounds, fits_at, schedule_long, served_at}
 
@@ -47,26 +52,75 @@ kept_on b q core n h more is t on same =
       code_is = h.code_is;
       stand = subst F (sym is) (t.on b.code (stand_of q) h.code_is on);
       opening_is = h.opening_is;
+      copies = h.copies;
+      near_is = h.near_is;
+      near_room = h.near_room;
       has_room = room_kept b q h same;
       within = omega (arith, is, more);
     }
-
-pub kept_start : (b : Inside) (q : Pair) → IsKept b → stand_of q ≡ mark_stand b.opening → IsAsRoomy b.pair q → IsKept (record b { pair = q; position = 0 })
-kept_start b q h on same = record {
-  run_is = h.run_is;
-  placed = h.placed;
-  code_is = h.code_is;
-  stand = on ∙ h.opening_is;
-  opening_is = h.opening_is;
-  has_room = room_kept b q h same;
-  within = omega arith;
-}
 
 -- what the start has left finds room
 pub start_fits : (b : Inside) → IsKept b → Fits (mark_stand b.opening) b.run.now.options.turns0 b.run.now.options.turns1
 start_fits b h =
     let F : Stand → Type 0 = λ s. Fits s b.run.now.options.turns0 b.run.now.options.turns1 in
     subst F (sym h.opening_is) (fits_at b.image.now b.run.now h.run_is 0 (omega arith))
+
+-- ---- copies
+
+-- what a copy has left and has sent finds room in a replay
+pub record FindsRoom (b : Inside) (m : Mark) : Type 0 where
+  pub left0 : m.left0 ≤ b.pair.core0.turns
+  pub left1 : m.left1 ≤ b.pair.core1.turns
+  pub room : length m.memory.contents.sent ≤ b.pair.memory.room
+
+pub finds_room : (b : Inside) (c : Checkpoint) → IsKept b → IsCopy b.image.now b.run.now c → FindsRoom b c.mark
+finds_room b c h copy =
+    let F : Stand → Type 0 = λ s. Fits s b.run.now.options.turns0 b.run.now.options.turns1 in
+    let f : F (mark_stand c.mark) = subst F (sym copy.stand) (fits_at b.image.now b.run.now h.run_is c.position copy.within) in
+    record {
+      left0 = omega (arith, f.left0, h.has_room.turns0);
+      left1 = omega (arith, f.left1, h.has_room.turns1);
+      room = omega (arith, f.sent, h.has_room.room);
+    }
+
+-- one of the checkpoints
+pub copy_in : (b : Inside) (xs : List Checkpoint) (k : ℕ) (c : Checkpoint) → IsKept b → xs ≡ b.checkpoints.items → k < length xs → c ≡ slice_index_or xs k c
+    → IsCopy b.image.now b.run.now c
+copy_in b xs k c h same lt is =
+    let F : List Checkpoint → Type 0 = λ l. All (IsCopy b.image.now b.run.now) l in
+    let G : Checkpoint → Type 0 = IsCopy b.image.now b.run.now in
+    let all : F xs = subst F (sym same) h.copies in
+    subst G (sym is) (all k c lt)
+
+-- what was sent finds room
+pub sent_fits : (b : Inside) → IsKept b → length b.pair.memory.contents.sent ≤ b.run.now.options.turns0 + b.run.now.options.turns1
+sent_fits b h =
+    let F : Stand → Type 0 = λ s. Fits s b.run.now.options.turns0 b.run.now.options.turns1 in
+    let f : F (stand_of b.pair) = subst F (sym h.stand) (fits_at b.image.now b.run.now h.run_is b.position h.within) in
+    omega (arith, f.sent)
+
+-- a copy of where a replay stands
+pub copy_here : (b : Inside) (m : Mark) → IsKept b → mark_stand m ≡ stand_of b.pair → IsCopy b.image.now b.run.now (record { position = b.position; mark = m })
+copy_here b m h is = record { stand = is ∙ h.stand; within = h.within }
+
+made_zero_at : (image : Image) (r : Run) (c : Checkpoint) (step count : ℕ) → IsCopy image r c → c.mark.step0 ≤ step → c.mark.step0 < count → count ≡ r.trace0.count
+    → Comes image r 0 step c.position
+made_zero_at image r c step count copy most left all =
+    let made : c.mark.step0 ≡ step_in 0 (shown_at image r c.position) = ap (λ (s : Stand). s.side0.step) copy.stand in
+    record { most = omega (arith, most, made); behind = λ last same. absurd (omega (arith, left, made, all, last, same)) }
+
+made_one_at : (image : Image) (r : Run) (c : Checkpoint) (step count : ℕ) → IsCopy image r c → c.mark.step1 ≤ step → c.mark.step1 < count → count ≡ r.trace1.count
+    → Comes image r 1 step c.position
+made_one_at image r c step count copy most left all =
+    let made : c.mark.step1 ≡ step_in 1 (shown_at image r c.position) = ap (λ (s : Stand). s.side1.step) copy.stand in
+    record { most = omega (arith, most, made); behind = λ last same. absurd (omega (arith, left, made, all, last, same)) }
+
+-- a copy from which it is a walk on to a core's step
+pub comes_at_copy : (image : Image) (r : Run) (c : Checkpoint) (core step count : ℕ) → core < 2 → IsCopy image r c → made_in core c.mark ≤ step → made_in core c.mark < count
+    → count ≡ (trace_in core r).count → Comes image r core step c.position
+comes_at_copy image r c zero step count two copy most left all = made_zero_at image r c step count copy most left all
+comes_at_copy image r c (suc zero) step count two copy most left all = made_one_at image r c step count copy most left all
+comes_at_copy image r c (suc (suc core)) step count two copy most left all = absurd (omega (arith, two))
 
 -- the core that is found is the schedule's
 pub core_found : (b : Inside) (core : ℕ) → IsKept b → b.position < length (schedule_in b.run.now) → core ≡ core_next b.run.now (stand_of b.pair)

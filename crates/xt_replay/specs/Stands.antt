@@ -47,6 +47,11 @@ mark_stand m = record {
   entries = m.used;
 }
 
+-- how many steps a core has made at a copy
+abbrev pub made_in : ℕ → Mark → ℕ
+made_in zero m = m.step0
+made_in (suc c) m = m.step1
+
 abbrev pub side_in : Core State → Side
 side_in k = record { state = k.state; left = k.left; step = length k.records }
 

@@ -1,4 +1,4 @@
-//! Two cores and their memory.
+//! Two cores and their memory, and copies of them.
 ghost use Rattle.std.specs.Prelude.{◌≡◌, None};
 
 use xt_bus::Memory;
@@ -30,4 +30,11 @@ pub struct Mark {
     pub step1: u32,
     pub memory: Memory,
     pub used: u32,
+}
+
+/// A copy of what a run has at a position.
+#[derive(Drop)]
+pub struct Checkpoint {
+    pub position: u32,
+    pub mark: Mark,
 }

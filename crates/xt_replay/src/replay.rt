@@ -2,13 +2,19 @@
 ghost use Rattle.std.specs.Prelude.{◌≡◌, drop};
 ghost use Rattle.xt_replay.specs.Stands.{next_of};
 
-use crate::pair::{Mark, Pair};
+use crate::pair::{Checkpoint, Mark, Pair};
 use crate::state::State;
 use std::alloc::{AllocError, Global};
 use std::marker::Model;
 use xt_image::Image;
 use xt_map::Constants;
 use xt_trace::Run;
+
+// How many steps lie between two checkpoints.
+const APART: u32 = 65536;
+
+// How many steps lie at most between the near copy and a position to which a walk begins there.
+const NEAR: u32 = 1024;
 
 /// The position lies beyond the end of the run.
 #[derive(Clone, Copy, Debug, PartialEq, Eq)]
@@ -23,6 +29,8 @@ pub struct Replay<'a> {
     code: Constants,
     pair: Pair,
     opening: Mark,
+    checkpoints: Vec<Checkpoint>,
+    near: Checkpoint,
     position: u32,
 }
 
@@ -50,6 +58,33 @@ fn next_of(run: &Run, used: u32, step0: u32) -> u8
     }
 }
 
+impl Checkpoint {
+    ghost use Rattle.std.specs.Prelude.{◌≡◌, ◌<◌, ◌≤◌, true};
+    ghost use Rattle.xt_replay.specs.Stands.{made_in};
+
+    // Whether it is not behind a position, and another place is behind that position or farther
+    // before it.
+    fn is_closer(&self, from: u32, position: u32) -> bool
+        ensures { result ≡ true → self.now.position ≤ position }
+    {
+        self.position <= position && (position < from || from < self.position)
+    }
+
+    // Whether a walk on from here comes to a core's step with this number or, where that is how
+    // many steps the core makes in all, to the place behind its last one.
+    fn is_before(&self, core: u8, step: u32, count: u32) -> bool
+        ensures most { result ≡ true → made_in core self.now.mark ≤ step }
+        ensures left { result ≡ true → made_in core self.now.mark < count }
+    {
+        let made = if core == 0 {
+            self.mark.step0
+        } else {
+            self.mark.step1
+        };
+        made <= step && made < count
+    }
+}
+
 impl<'a> Replay<'a> {
     ghost use Rattle.std.specs.Prelude.{◌≡◌, ◌+◌, ◌<◌, ◌≤◌, true, false, IfOk, MatchResult, length, slice_get, take};
     ghost use Rattle.xt_map.specs.Placing.{IsPlaced};
@@ -59,7 +94,8 @@ impl<'a> Replay<'a> {
     ghost use Rattle.xt_replay.specs.Shown.{moved, shown_at, step_in};
     ghost use Rattle.xt_replay.specs.Stands.{Comes};
 
-    /// The run at position 0. All memory is taken here; the only error is too little memory.
+    /// The run at position 0. All memory is taken here, also that of copies of what the run has at
+    /// each multiple of 65,536 steps; the only error is too little memory.
     ///
     /// Conditions: the run is the image's. The image's segments lie in one region each and share no
     /// byte, as those of every image that was read.
@@ -69,15 +105,26 @@ impl<'a> Replay<'a> {
         ensures { IfOk result (λ r. r ≡ record { image = image.now; run = run.now; position = 0 }) }
     {
         let pair = Pair::open(alloc, image, &run.options)?;
-        let opening = pair.mark(alloc)?;
-        Ok(Replay {
+        let room = (run.options.turns0 + run.options.turns1) as usize;
+        let sent = pair.memory.sent().len();
+        let opening = pair.mark(alloc, sent)?;
+        let near = Checkpoint {
+            position: 0,
+            mark: pair.mark(alloc, room)?,
+        };
+        let mut replay = Replay {
             image,
             run,
             code: Constants::make(alloc, image.segments.as_slice())?,
             pair,
             opening,
+            checkpoints: Vec::new(alloc),
+            near,
             position: 0,
-        })
+        };
+        replay.keep_all(alloc)?;
+        replay.restart();
+        Ok(replay)
     }
 
     /// The image.
@@ -157,6 +204,32 @@ impl<'a> Replay<'a> {
         }
     }
 
+    // Goes to the near copy, where the walk from there to a position is short, and shorter than
+    // from where it stands.
+    fn resume_near(&mut self, position: u32)
+        ensures { self.new ≡ moved self.old self.new.position }
+    {
+        if self.near.is_closer(self.position, position) && position - self.near.position <= NEAR {
+            self.pair.restore(&self.near.mark);
+            self.position = self.near.position;
+        }
+    }
+
+    // Goes to the last checkpoint that is not behind a position, where the walk from there is
+    // shorter than from where it stands.
+    fn resume_checkpoint(&mut self, position: u32)
+        ensures { self.new ≡ moved self.old self.new.position }
+    {
+        let n = self.checkpoints.len().min((position / APART) as usize);
+        if n > 0
+            && let Some(checkpoint) = self.checkpoints.as_slice().get(n - 1)
+            && checkpoint.is_closer(self.position, position)
+        {
+            self.pair.restore(&checkpoint.mark);
+            self.position = checkpoint.position;
+        }
+    }
+
     // Walks on to a position.
     fn walk(&mut self, position: u32)
         requires from { self.old.position ≤ position }
@@ -165,6 +238,52 @@ impl<'a> Replay<'a> {
     {
         'steps: while self.position() < position {
             self.step();
+        }
+    }
+
+    // Keeps a copy of where it stands.
+    fn keep(&mut self, alloc: Global) -> Result<(), AllocError>
+        ensures { self.new ≡ self.old }
+    {
+        let room = self.pair.memory.sent().len();
+        let mark = self.pair.mark(alloc, room)?;
+        self.checkpoints.push(Checkpoint {
+            position: self.position,
+            mark,
+        })?;
+        Ok(())
+    }
+
+    // Keeps a copy at each multiple of 65,536 steps that lies before the end.
+    fn keep_all(&mut self, alloc: Global) -> Result<(), AllocError>
+        ensures { self.new ≡ moved self.old self.new.position }
+    {
+        'copies: while APART < self.end() - self.position() {
+            self.walk(self.position() + APART);
+            self.keep(alloc)?;
+        }
+        Ok(())
+    }
+
+    // Makes the near copy that of where it stands.
+    fn note(&mut self)
+        ensures { self.new ≡ self.old }
+    {
+        self.near.mark.copy_from(&self.pair);
+        self.near.position = self.position;
+    }
+
+    // Where the walk to a position is long, walks on until it is not, and makes the near copy
+    // there: further steps back begin from it.
+    fn keep_near(&mut self, position: u32)
+        requires from { self.old.position ≤ position }
+        requires within { position ≤ length (schedule_in self.old.run) }
+        ensures moved { self.new ≡ moved self.old self.new.position }
+        ensures within { self.new.position ≤ position }
+    {
+        if NEAR < position - self.position() {
+            self.walk(position - NEAR);
+            self.note();
         }
     }
 
@@ -178,7 +297,13 @@ impl<'a> Replay<'a> {
         if self.end() < position {
             return Err(PastEnd);
         }
+        let from = self.position();
+        self.resume_near(position);
+        self.resume_checkpoint(position);
         self.back(position);
+        if position < from && from - position <= NEAR {
+            self.keep_near(position);
+        }
         self.walk(position);
         Ok(())
     }
@@ -247,6 +372,32 @@ impl<'a> Replay<'a> {
         }
     }
 
+    // Goes to the last checkpoint from which a walk on comes to a core's step with this number, or
+    // else to the start.
+    fn resume_before(&mut self, core: u8, step: u32)
+        requires core { core < 2 }
+        requires step { step ≤ (trace_in core self.old.run).count }
+        ensures moved { self.new ≡ moved self.old self.new.position }
+        ensures comes { Comes self.new.image self.new.run core step self.new.position }
+    {
+        let count = self.count(core);
+        let n = self
+            .checkpoints
+            .as_slice()
+            .iter()
+            .filter(|checkpoint| checkpoint.is_before(core, step, count))
+            .count();
+        if n > 0
+            && let Some(checkpoint) = self.checkpoints.as_slice().get(n - 1)
+            && checkpoint.is_before(core, step, count)
+        {
+            self.pair.restore(&checkpoint.mark);
+            self.position = checkpoint.position;
+        } else {
+            self.restart();
+        }
+    }
+
     // Walks on to a core's step with this number.
     fn find(&mut self, core: u8, step: u32)
         requires core { core < 2 }
@@ -274,7 +425,7 @@ impl<'a> Replay<'a> {
         if self.count(core) < step {
             return Err(PastEnd);
         }
-        self.restart();
+        self.resume_before(core, step);
         self.find(core, step);
         Ok(())
     }

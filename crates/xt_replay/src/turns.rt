@@ -98,11 +98,15 @@ impl Pair {
         }
     }
 
-    /// A copy. The only error is too little memory.
-    pub fn mark(&self, alloc: Global) -> Result<Mark, AllocError>
-        ensures { IfOk result (λ m. mark_stand m ≡ stand_of self.now) }
+    /// A copy, which has room for so many bytes that are sent. The only error is too little memory.
+    ///
+    /// Condition: the bytes that were sent find room.
+    pub fn mark(&self, alloc: Global, room: usize) -> Result<Mark, AllocError>
+        requires { length self.now.memory.contents.sent ≤ room }
+        ensures stand { IfOk result (λ m. mark_stand m ≡ stand_of self.now) }
+        ensures room { IfOk result (λ m. m.memory.room ≡ room) }
     {
-        let mut memory = Memory::make(alloc, &[], &[], self.memory.sent().len())?;
+        let mut memory = Memory::make(alloc, &[], &[], room)?;
         memory.copy_from(&self.memory);
         Ok(Mark {
             regs0: *self.core0.regs(),
@@ -132,5 +136,25 @@ impl Pair {
         self.step0 = mark.step0;
         self.step1 = mark.step1;
         self.used = mark.used;
+    }
+}
+
+impl Mark {
+    /// Makes it the copy of others. Takes no memory.
+    ///
+    /// Condition: the bytes that they have sent find room.
+    pub fn copy_from(&mut self, pair: &Pair)
+        requires { length pair.now.memory.contents.sent ≤ self.old.memory.room }
+        ensures stand { mark_stand self.new ≡ stand_of pair.now }
+        ensures room { self.new.memory.room ≡ self.old.memory.room }
+    {
+        self.regs0 = *pair.core0.regs();
+        self.regs1 = *pair.core1.regs();
+        self.left0 = pair.core0.left();
+        self.left1 = pair.core1.left();
+        self.step0 = pair.step0;
+        self.step1 = pair.step1;
+        self.memory.copy_from(&pair.memory);
+        self.used = pair.used;
     }
 }
