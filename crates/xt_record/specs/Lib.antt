@@ -1,5 +1,12 @@
 pub mod Fields
 pub mod Parts
+pub mod Fitting
 pub mod Rules
 pub mod Heads
 pub mod SoFar
+pub mod Checkpoints
+pub mod TurnRules
+pub mod Format
+pub mod Written
+pub mod Walking
+pub mod Standing

@@ -1,5 +1,6 @@
 //! The options and the entries of a recording.
-ghost use Rattle.std.specs.Prelude.{◌≡◌, ◌≤◌, ◌+◌, length};
+ghost use Rattle.std.specs.Prelude.{◌≡◌, ◌≤◌, ◌+◌, length, true, IsNone};
+ghost use Rattle.xt_trace.specs.Validity.{IsValid};
 ghost use Rattle.xt_record.specs.Fields.{access_of, entries_end, kind_of, options_at, raw_at};
 ghost use Rattle.xt_record.specs.Heads.{HasRead};
 ghost use Rattle.xt_record.specs.Rules.{is_entry, is_valid, keeps_zeros, options_finding};
@@ -11,9 +12,9 @@ use xt_image::word;
 use xt_map::{Access, Entry, Kind, mapped};
 use xt_trace::{Options, Stack};
 
-/// The options that stand at the front of what follows the image, which has at least 36 bytes.
+/// The options that stand at the front of what follows the image.
 #[tactic(auto, unfolding(crate::specs::Fields::options_at))]
-pub fn options_in(rest: &[u8]) -> Options
+pub(crate) fn options_in(rest: &[u8]) -> Options
     requires { 36 ≤ length rest.now }
     ensures { result ≡ options_at rest.now 0 }
 {
@@ -35,15 +36,16 @@ pub fn options_in(rest: &[u8]) -> Options
 
 // Whether a run accepts options.
 fn is_valid(options: &Options) -> bool
-    ensures { result ≡ is_valid options.now }
+    ensures test { result ≡ is_valid options.now }
+    ensures law { result ≡ true → IsValid options.now }
 {
     options.valid()
 }
 
-/// What is wrong with the options of a recording of this version: they are none that a run accepts, or in version 1 a turn count is
-/// above 1,000,000.
-pub fn options_fault(version: u32, options: &Options) -> Option<RecordFault>
-    ensures { result ≡ options_finding version options.now }
+/// What is wrong with the options of a recording of this version.
+pub(crate) fn options_fault(version: u32, options: &Options) -> Option<RecordFault>
+    ensures finding { result ≡ options_finding version options.now }
+    ensures valid { IsNone result → IsValid options.now }
 {
     let too_long = version == 1 && (options.turns0 > 1_000_000 || options.turns1 > 1_000_000);
     if !is_valid(options) || too_long {
@@ -116,8 +118,8 @@ fn is_entry(raw: &RawEntry) -> bool
         && mapped(&access)
 }
 
-/// The entries of what follows the image, which has the bytes that their number asks for; or the first that is none.
-pub fn entries_in(alloc: Global, rest: &[u8]) -> Result<Vec<Entry>, RecordFault>
+/// The entries, or the first that is none.
+pub(crate) fn entries_in(alloc: Global, rest: &[u8]) -> Result<Vec<Entry>, RecordFault>
     requires { entries_end rest.now ≤ length rest.now }
     ensures { HasRead result rest.now }
 {

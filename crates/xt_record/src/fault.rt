@@ -7,12 +7,14 @@ use xt_image::ImageFault;
 
 /// The first rule of a recording that a file breaks, or too little memory.
 ///
-/// The rules are judged in this order: `Short` for fewer than 12 bytes, `Magic`, `Version`; `Short` and `Trailing` for the length of
-/// the parts; `Image`; `Options`; `Entry`; then `Turn` and `Illegal` entry by entry, and `Turn` for what follows the last entry;
-/// and `Checkpoint`. Entries and checkpoints are counted from 0.
+/// The rules are judged in this order: `Short` for fewer than 12 bytes, `Magic`, `Version`; `Short`
+/// and `Trailing` for the length of the parts; `Image`; `Options`; `Entry`; then `Turn` and
+/// `Illegal` entry by entry, and `Turn` for what follows the last entry; and `Checkpoint`. Entries
+/// and checkpoints are counted from 0.
 #[derive(Clone, Copy, Debug, PartialEq, Eq, Error)]
 pub enum RecordFault {
-    /// The file has fewer bytes than its head, its image and its counts ask for, or the image more than 8,388,608.
+    /// The file has fewer bytes than its head, its image and its counts ask for, or the image more
+    /// than 8,388,608.
     #[error("too short")]
     Short,
     /// The first four bytes are not `XTRC`.
@@ -33,14 +35,15 @@ pub enum RecordFault {
     /// The reply of this entry is the second number, and memory answers the third.
     #[error("entry {0} has the reply {1}, and not {2}")]
     Illegal(u32, u32, u32),
-    /// At this step of this core the access is not that of its next entry. The step is the trace's length where the core ends before
-    /// the entry.
+    /// At this step of this core the access is not that of its next entry. The step is the trace's
+    /// length where the core ends before the entry.
     #[error("core {0} at step {1}")]
     Turn(u8, u32),
     /// The file has more bytes than its parts.
     #[error("more bytes")]
     Trailing,
-    /// The first checkpoint that is not the run's, or where the checkpoints of the file or of the run end before the others.
+    /// The first checkpoint that is not the run's, or where the checkpoints of the file or of the
+    /// run end before the others.
     #[error("checkpoint {0}")]
     Checkpoint(u32),
     /// There is not enough memory for the run.

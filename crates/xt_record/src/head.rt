@@ -46,9 +46,8 @@ fn length_fault(version: u32, rest: &[u8]) -> Option<RecordFault>
     None
 }
 
-/// What is wrong with the head of a recording, or with how long its parts are: `Short`, `Magic`, `Version` or `Trailing`. Where nothing
-/// is, the parts have the lengths that the file asks for.
-pub fn head_fault(bytes: &[u8]) -> Option<RecordFault>
+/// What is wrong with the head, or with how long the parts are.
+pub(crate) fn head_fault(bytes: &[u8]) -> Option<RecordFault>
     ensures first { result ≡ first (head_rules bytes.now) }
     ensures parts { IsNone result → HasParts bytes.now }
 {

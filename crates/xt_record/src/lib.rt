@@ -1,15 +1,21 @@
-//! The parts of a recording: its head, its options and its entries, checked and read, and options and
-//! entries written.
+//! Recordings: a run with its image as a file, written and read.
 #![tactic(auto)]
 
 mod entries;
 mod fault;
 mod head;
+mod laws;
+mod parts;
+mod points;
 mod raw;
+mod reading;
+mod setting;
+mod walk;
+mod walking;
 mod words;
 mod writing;
 
-pub use entries::{entries_in, options_fault, options_in};
 pub use fault::RecordFault;
-pub use head::head_fault;
-pub use writing::{put_entries, put_options};
+pub use laws::round_trip;
+pub use reading::read_recording;
+pub use writing::write_recording;

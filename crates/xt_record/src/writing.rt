@@ -1,12 +1,18 @@
-//! The options and the entries of a recording, written.
-ghost use Rattle.std.specs.Prelude.{◌≡◌, ◌++◌, OnOk};
-ghost use Rattle.std.specs.List.{flat_map};
+//! A recording, written.
+ghost use Rattle.std.specs.Prelude.{◌≡◌, ◌≤◌, ◌++◌, length, IfOk, OnOk};
+ghost use Rattle.std.specs.List.{concat, flat_map};
+ghost use Rattle.xt_image.specs.Parts.{IsWellFormed};
+ghost use Rattle.xt_core.specs.Runs.{IsRunOf};
+ghost use Rattle.xt_record.specs.Checkpoints.{checkpoints_of};
+ghost use Rattle.xt_record.specs.Written.{recording_bytes};
 ghost use Rattle.xt_record.specs.Parts.{entry_bytes, first_operand, kind_number, options_bytes, second_operand};
 
+use crate::walk::walk_entries;
 use crate::words::put_words;
-use std::alloc::AllocError;
-use xt_map::{Entry, Kind};
-use xt_trace::Options;
+use std::alloc::{AllocError, Global};
+use xt_image::{Image, well_formed_is_placed};
+use xt_map::{Bytes, Entry, Kind};
+use xt_trace::{Options, Run};
 
 // The number of a kind of access, and its operands.
 #[inline(always)]
@@ -31,8 +37,8 @@ fn put_entry(out: &mut Vec<u8>, entry: &Entry) -> Result<(), AllocError>
     put_words(out, &[access.addr, first, second, entry.reply])
 }
 
-/// Writes entries, 20 bytes each. The only error is too little memory.
-pub fn put_entries(out: &mut Vec<u8>, entries: &[Entry]) -> Result<(), AllocError>
+// Writes entries.
+fn put_entries(out: &mut Vec<u8>, entries: &[Entry]) -> Result<(), AllocError>
     ensures { OnOk result (out.new.items ≡ out.old.items ++ flat_map entry_bytes entries.now) }
 {
     for entry in entries {
@@ -41,8 +47,8 @@ pub fn put_entries(out: &mut Vec<u8>, entries: &[Entry]) -> Result<(), AllocErro
     Ok(())
 }
 
-/// Writes the options of a run, 32 bytes. The only error is too little memory.
-pub fn put_options(out: &mut Vec<u8>, options: &Options) -> Result<(), AllocError>
+// Writes the options of a run.
+fn put_options(out: &mut Vec<u8>, options: &Options) -> Result<(), AllocError>
     ensures { OnOk result (out.new.items ≡ out.old.items ++ options_bytes options.now) }
 {
     put_words(
@@ -58,4 +64,53 @@ pub fn put_options(out: &mut Vec<u8>, options: &Options) -> Result<(), AllocErro
             options.stack1.hi,
         ],
     )
+}
+
+// Writes checkpoints.
+fn put_points(out: &mut Vec<u8>, points: &[Bytes]) -> Result<(), AllocError>
+    ensures { OnOk result (out.new.items ≡ out.old.items ++ concat points.now) }
+{
+    for point in points {
+        out.extend_from_slice(point.as_slice())?;
+    }
+    Ok(())
+}
+
+// The checkpoints of a run, which is made again.
+fn points_of(alloc: Global, image: &Image, run: &Run) -> Result<Vec<Bytes>, AllocError>
+    requires image { IsWellFormed image.now }
+    requires run { IsRunOf image.now run.now }
+    ensures points { IfOk result (λ points. points.items ≡ checkpoints_of image.now run.now) }
+    ensures few { IfOk result (λ points. (length points.items ≤ 8000000) × (length run.now.history ≤ 8000000)) }
+{
+    well_formed_is_placed();
+    match walk_entries(alloc, image, &run.options, run.history.as_slice()) {
+        Ok(walked) => Ok(walked.points),
+        Err(_) => Err(AllocError),
+    }
+}
+
+/// The recording of a run: version 2, with its image and its checkpoints. The only error is too
+/// little memory.
+///
+/// Conditions: the image is well formed, and the run is the image's.
+#[tactic(auto, unfolding(crate::specs::Written::recording_bytes))]
+pub fn write_recording(alloc: Global, image: &Image, run: &Run) -> Result<Bytes, AllocError>
+    requires image { IsWellFormed image.now }
+    requires run { IsRunOf image.now run.now }
+    ensures { IfOk result (λ bytes. bytes ≡ recording_bytes image.now run.now) }
+{
+    let file = xt_image::write(alloc, image)?;
+    let points = points_of(alloc, image, run)?;
+    let entries = run.history.as_slice();
+    let mut out = Vec::new(alloc);
+    out.extend_from_slice(b"XTRC")?;
+    put_words(&mut out, &[2, file.len() as u32])?;
+    out.extend_from_slice(file.as_slice())?;
+    put_options(&mut out, &run.options)?;
+    put_words(&mut out, &[entries.len() as u32])?;
+    put_entries(&mut out, entries)?;
+    put_words(&mut out, &[points.len() as u32])?;
+    put_points(&mut out, points.as_slice())?;
+    Ok(Bytes::new(out))
 }

@@ -1,6 +1,4 @@
 -- The entries so far are those of their fields, and what is wrong is wrong behind them.
-use Rattle.std.proofs.Common.{◌≡◌, ◌+◌, ◌*◌, ◌-◌, ◌++◌, length, map}
-use Rattle.xt_record.specs.Fields.{entry_of, raws_from, raws_in}
 use Rattle.xt_record.specs.SoFar.{IsSoFar}
 use Rattle.xt_record.proofs.entries.entries_in.Given as goal
 

@@ -1,0 +1,79 @@
+-- Words and bytes that are written one by one.
+use Rattle.std.proofs.Common.{◌≡◌, ℕ, zero, suc, ◌+◌, ◌*◌, ◌/◌, ◌%◌, ◌<◌, ◌≤◌, List, [], ◌∷◌, ◌++◌, map, sym, ap, ◌∙◌, append_assoc, arith}
+use Rattle.std.specs.Prelude.{slice_index}
+use Rattle.std.specs.List.{range_with_len}
+use Rattle.std.specs.Int.{w32, to_le_bytes}
+use Rattle.std.proofs.lemmas.List.{append-nil}
+use Rattle.std.proofs.lemmas.List.FromFn.{map-range_with_len_more}
+use Rattle.std.proofs.lemmas.Grind.{flat_map-append}
+use Rattle.xt_map.specs.declared.contents.MemoryContents.{MemoryContents}
+use Rattle.xt_map.specs.Memory.{byte_at, bytes_at}
+use Rattle.xt_window.specs.Ring.{place, visible}
+use Rattle.xt_special.specs.Control.{bit_of, ps_word}
+use Rattle.xt_exec.specs.State.{State}
+use Rattle.xt_record.specs.Checkpoints.{file_bytes, last_numbers, loop_numbers, saved_numbers, special_bytes, state_bytes}
+use Rattle.xt_record.specs.Fields.{words}
+
+-- a word behind those of a list
+word_more : (values values' : List ℕ) (v w : ℕ) (old now new : List ℕ) → values' ≡ values ++ w ∷ [] → v ≡ w → now ≡ old ++ words values
+    → new ≡ now ++ to_le_bytes w32 v → new ≡ old ++ words values'
+word_more values values' v w old now new more at is grown =
+    let before = words values in
+    grown ∙ ap (λ (l : List ℕ). l ++ to_le_bytes w32 v) is ∙ append_assoc old before (to_le_bytes w32 v)
+    ∙ ap (λ (l : List ℕ). old ++ l)
+    (ap (λ (k : ℕ). before ++ to_le_bytes w32 k) at ∙ ap (λ (l : List ℕ). before ++ l) (sym (append-nil (to_le_bytes w32 w)))
+    ∙ sym (flat_map-append (to_le_bytes w32) values (w ∷ [])) ∙ ap words (sym more))
+
+place_is : (i : ℕ) → i < 64 → place (4 * (i / 16)) (i % 16) ≡ i
+place_is i lt = omega arith
+
+-- the next physical register, in the window that begins at a multiple of 16
+pub register_more : (regs : List ℕ) (i base v : ℕ) (old now new : List ℕ) → i < 64 → base ≡ 4 * (i / 16) → v ≡ visible regs base (i % 16)
+    → now ≡ old ++ words (map (slice_index regs) (range_with_len 0 i)) → new ≡ now ++ to_le_bytes w32 v
+    → new ≡ old ++ words (map (slice_index regs) (range_with_len 0 (i + 1)))
+register_more regs i base v old now new lt at is =
+    let f = slice_index regs in
+    word_more (map f (range_with_len 0 i)) (map f (range_with_len 0 (i + 1))) v (f i) old now new
+    (map-range_with_len_more f 0 i i (omega arith))
+    (is ∙ ap (λ (b : ℕ). visible regs b (i % 16)) at ∙ ap f (place_is i lt))
+
+-- all of them
+pub registers_all : (regs : List ℕ) (i : ℕ) (old now : List ℕ) → 64 ≤ i → i ≤ 64 → now ≡ old ++ words (map (slice_index regs) (range_with_len 0 i))
+    → now ≡ old ++ file_bytes regs
+unfolding file_bytes
+registers_all regs i old now from to is =
+    is ∙ ap (λ (k : ℕ). old ++ words (map (slice_index regs) (range_with_len 0 k))) (let e : i ≡ 64 = omega (arith, from, to) in e)
+
+bytes_push : (m : MemoryContents) (i a : ℕ) → bytes_at m a (suc i) ≡ bytes_at m a i ++ byte_at m (a + i) ∷ []
+bytes_push m zero a = ap (λ (k : ℕ). byte_at m k ∷ []) (let e : a ≡ a + 0 = omega arith in e)
+bytes_push m (suc i) a =
+    ap (λ (l : List ℕ). byte_at m a ∷ l)
+    (bytes_push m i (a + 1) ∙ ap (λ (k : ℕ). bytes_at m (a + 1) i ++ byte_at m k ∷ []) (let e : a + 1 + i ≡ a + suc i = omega arith in e))
+
+-- the next byte of memory
+pub byte_more : (m : MemoryContents) (a i b : ℕ) (old now new : List ℕ) → b ≡ byte_at m (a + i) → now ≡ old ++ bytes_at m a i → new ≡ now ++ b ∷ []
+    → new ≡ old ++ bytes_at m a (i + 1)
+byte_more m a i b old now new at is grown =
+    grown ∙ ap (λ (l : List ℕ). l ++ b ∷ []) is ∙ append_assoc old (bytes_at m a i) (b ∷ [])
+    ∙ ap (λ (l : List ℕ). old ++ l)
+    (ap (λ (k : ℕ). bytes_at m a i ++ k ∷ []) at ∙ sym (bytes_push m i a) ∙ ap (bytes_at m a) (let e : suc i ≡ i + 1 = omega arith in e))
+
+-- one part more behind those that are written
+joined : (now part next behind new : List ℕ) → next ≡ now ++ part → new ≡ next ++ behind → new ≡ now ++ (part ++ behind)
+joined now part next behind new is after = after ∙ ap (λ (l : List ℕ). l ++ behind) is ∙ append_assoc now part behind
+
+pub state_joined : (step : ℕ) (s : State) (old l1 l2 l3 l4 l5 l6 l7 l8 : List ℕ)
+    → l1 ≡ old ++ words (s.control.pc ∷ bit_of s.control.waits ∷ step ∷ s.base ∷ s.start ∷ [])
+    → l2 ≡ l1 ++ file_bytes s.regs
+    → l3 ≡ l2 ++ special_bytes s.control.special loop_numbers
+    → l4 ≡ l3 ++ words (0 ∷ [])
+    → l5 ≡ l4 ++ special_bytes s.control.special saved_numbers
+    → l6 ≡ l5 ++ words (ps_word s.control.ps ∷ [])
+    → l7 ≡ l6 ++ special_bytes s.control.special last_numbers
+    → l8 ≡ l7 ++ words (s.control.threadptr ∷ [])
+    → l8 ≡ old ++ state_bytes step s
+unfolding state_bytes
+state_joined step s old l1 l2 l3 l4 l5 l6 l7 l8 e1 e2 e3 e4 e5 e6 e7 e8 =
+    let to3 = joined old _ l2 _ l3 (joined old _ l1 _ l2 e1 e2) e3 in
+    let to5 = joined old _ l4 _ l5 (joined old _ l3 _ l4 to3 e4) e5 in
+    let to7 = joined old _ l6 _ l7 (joined old _ l5 _ l6 to5 e6) e7 in joined old _ l7 _ l8 to7 e8

@@ -1,0 +1,79 @@
+-- The checkpoints of a run, as a recording has them ('profile').
+use Rattle.std.specs.Prelude.{ℕ, ◌%◌, Bool, ◌==◌, ◌&&◌, not, List, [], ◌∷◌, ◌++◌, length, map, filter, slice_index}
+use Rattle.std.specs.List.{range_with_len}
+use Rattle.xt_map.specs.declared.contents.MemoryContents.{MemoryContents}
+use Rattle.xt_map.specs.Memory.{bytes_at, dram_first, dram_size, rtc_fast_data_first, rtc_fast_data_size, rtc_slow_first, rtc_slow_size}
+use Rattle.xt_special.specs.Control.{bit_of, ps_word}
+use Rattle.xt_trace.specs.declared.run.Run.{Run}
+use Rattle.xt_image.specs.declared.image.Image.{Image}
+use Rattle.xt_runs.specs.Worlds.{World}
+use Rattle.xt_exec.specs.State.{State}
+use Rattle.xt_core.specs.Positions.{schedule_in, world_at}
+use Rattle.xt_record.specs.Fields.{words}
+
+-- ---- one checkpoint
+
+-- the special registers of a core by number: LBEG, LEND and LCOUNT; SAR, SCOMPARE1, EPC1 to EPC7, DEPC, EPS2 to EPS7,
+-- EXCSAVE1 to EXCSAVE7, INTERRUPT and INTENABLE; VECBASE, EXCCAUSE, CCOUNT, EXCVADDR, CCOMPARE0 to CCOMPARE2 and MISC0 to MISC3
+abbrev pub loop_numbers : List ℕ
+loop_numbers = 0 ∷ 1 ∷ 2 ∷ []
+
+abbrev pub saved_numbers : List ℕ
+saved_numbers =
+    3 ∷ 12 ∷ 177 ∷ 178 ∷ 179 ∷ 180 ∷ 181 ∷ 182 ∷ 183 ∷ 192 ∷ 194 ∷ 195 ∷ 196 ∷ 197 ∷ 198 ∷ 199
+    ∷ 209 ∷ 210 ∷ 211 ∷ 212 ∷ 213 ∷ 214 ∷ 215 ∷ 226 ∷ 228 ∷ []
+
+abbrev pub last_numbers : List ℕ
+last_numbers = 231 ∷ 232 ∷ 234 ∷ 238 ∷ 240 ∷ 241 ∷ 242 ∷ 244 ∷ 245 ∷ 246 ∷ 247 ∷ []
+
+-- the special registers of these numbers
+unfoldable pub special_bytes : List ℕ → List ℕ → List ℕ
+special_bytes special numbers = words (map (slice_index special) numbers)
+
+-- the 64 physical registers
+unfoldable pub file_bytes : List ℕ → List ℕ
+file_bytes regs = words (map (slice_index regs) (range_with_len 0 64))
+
+-- the 111 words of a core that makes its turn of this number next; the word behind LCOUNT is BR, which is always 0
+unfoldable pub state_bytes : ℕ → State → List ℕ
+state_bytes step s =
+    words (s.control.pc ∷ bit_of s.control.waits ∷ step ∷ s.base ∷ s.start ∷ [])
+    ++ file_bytes s.regs
+    ++ special_bytes s.control.special loop_numbers
+    ++ words (0 ∷ [])
+    ++ special_bytes s.control.special saved_numbers
+    ++ words (ps_word s.control.ps ∷ [])
+    ++ special_bytes s.control.special last_numbers
+    ++ words (s.control.threadptr ∷ [])
+
+-- so many bytes of memory from an address on
+unfoldable pub part_bytes : MemoryContents → ℕ → ℕ → List ℕ
+part_bytes m from size = bytes_at m from size
+
+-- the bytes of RTC fast memory by its data address, of the internal data memory and of RTC slow memory
+abbrev pub memory_bytes : MemoryContents → List ℕ
+memory_bytes m =
+    part_bytes m rtc_fast_data_first rtc_fast_data_size ++ part_bytes m dram_first dram_size ++ part_bytes m rtc_slow_first rtc_slow_size
+
+-- the position, the number of entries before it, both cores, and memory
+unfoldable pub checkpoint_bytes : ℕ → ℕ → ℕ → State → ℕ → State → MemoryContents → List ℕ
+checkpoint_bytes position entries step0 state0 step1 state1 memory =
+    words (position ∷ entries ∷ []) ++ state_bytes step0 state0 ++ state_bytes step1 state1 ++ memory_bytes memory
+
+abbrev pub checkpoint_of : ℕ → World State → List ℕ
+checkpoint_of position w =
+    checkpoint_bytes position (length w.line.history) (length w.core0.records) w.core0.state (length w.core1.records) w.core1.state w.line.memory
+
+-- ---- the checkpoints of a run
+
+abbrev pub stride : ℕ
+stride = 131072
+
+-- the multiples of the stride above 0
+abbrev pub is_due : ℕ → Bool
+is_due position = not (position == 0) && position % stride == 0
+
+-- one at each multiple of the stride that is above 0 and below the number of steps, in order
+abbrev pub checkpoints_of : Image → Run → List (List ℕ)
+checkpoints_of image r =
+    map (λ (p : ℕ). checkpoint_of p (world_at image r p)) (filter is_due (range_with_len 0 (length (schedule_in r))))

@@ -1,0 +1,16 @@
+//! The law of the round trip. It is the contract of a function that does nothing.
+ghost use Rattle.std.specs.Prelude.{◌≡◌, None};
+ghost use Rattle.xt_trace.specs.declared.run.Run.{Run};
+ghost use Rattle.xt_image.specs.declared.image.Image.{Image};
+ghost use Rattle.xt_image.specs.Parts.{IsWellFormed};
+ghost use Rattle.xt_core.specs.Runs.{IsRunOf};
+ghost use Rattle.xt_record.specs.Fields.{image_in};
+ghost use Rattle.xt_record.specs.Fitting.{FitsRun};
+ghost use Rattle.xt_record.specs.Format.{recording_fault, run_in};
+ghost use Rattle.xt_record.specs.Written.{recording_bytes};
+
+/// What is written of a well-formed image and a run of it, whose numbers are in the ranges of their
+/// types, has no fault as a recording, and holds the same image and the same run.
+pub fn round_trip()
+    ensures { (image : Image) (run : Run) → IsWellFormed image → IsRunOf image run → FitsRun run → (recording_fault (recording_bytes image run) ≡ None) × (image_in (recording_bytes image run) ≡ image) × (run_in (recording_bytes image run) ≡ run) }
+{}

@@ -1,0 +1,105 @@
+//! The checkpoints of a run.
+ghost use Rattle.std.specs.Prelude.{◌≡◌, ◌≤◌, ◌+◌, ◌^◌, ◌++◌, OnOk};
+ghost use Rattle.xt_exec.specs.States.{file_state};
+ghost use Rattle.xt_record.specs.Checkpoints.{checkpoint_bytes, file_bytes, memory_bytes, part_bytes, special_bytes, state_bytes};
+
+use crate::words::{put_word, put_words};
+use std::alloc::AllocError;
+use xt_bus::Memory;
+use xt_core::Core;
+use xt_exec::Regs;
+use xt_special::Special;
+use xt_window::{WindowFile, Windows};
+
+// Writes special registers, by their numbers.
+#[tactic(auto, unfolding(crate::specs::Checkpoints::special_bytes))]
+fn put_registers(out: &mut Vec<u8>, special: &Special, numbers: &[u8]) -> Result<(), AllocError>
+    ensures { OnOk result (out.new.items ≡ out.old.items ++ special_bytes special.now.file numbers.now) }
+{
+    for number in numbers {
+        put_word(out, special.register(*number))?;
+    }
+    Ok(())
+}
+
+// Writes the 64 physical registers.
+#[tactic(auto, unfolding(crate::specs::Checkpoints::file_bytes))]
+fn put_file(out: &mut Vec<u8>, win: &WindowFile) -> Result<(), AllocError>
+    ensures { OnOk result (out.new.items ≡ out.old.items ++ file_bytes win.now.regs) }
+{
+    let mut win = *win;
+    for i in 0..64u8 {
+        win.set_base(4 * (i / 16));
+        put_word(out, win.read(i % 16))?;
+    }
+    Ok(())
+}
+
+// Writes the state of a core that makes its turn of this number next.
+#[tactic(auto, unfolding(crate::specs::Checkpoints::state_bytes))]
+fn put_state(out: &mut Vec<u8>, step: u32, regs: &Regs<WindowFile>) -> Result<(), AllocError>
+    ensures { OnOk result (out.new.items ≡ out.old.items ++ state_bytes step (file_state regs.now)) }
+{
+    let (win, special) = (&regs.win, &regs.sr);
+    let (base, start) = (win.base() as u32, win.start() as u32);
+    put_words(out, &[regs.pc, regs.waiting as u32, step, base, start])?;
+    put_file(out, win)?;
+    put_registers(out, special, &[0, 1, 2])?;
+    put_words(out, &[0])?;
+    put_registers(
+        out,
+        special,
+        &[
+            3, 12, 177, 178, 179, 180, 181, 182, 183, 192, 194, 195, 196, 197, 198, 199, 209, 210,
+            211, 212, 213, 214, 215, 226, 228,
+        ],
+    )?;
+    put_words(out, &[special.ps()])?;
+    put_registers(
+        out,
+        special,
+        &[231, 232, 234, 238, 240, 241, 242, 244, 245, 246, 247],
+    )?;
+    put_words(out, &[special.threadptr()])?;
+    Ok(())
+}
+
+// Writes so many bytes of memory from an address on.
+#[tactic(auto, unfolding(crate::specs::Checkpoints::part_bytes))]
+fn put_part(out: &mut Vec<u8>, memory: &Memory, first: u32, size: u32) -> Result<(), AllocError>
+    requires { first + size ≤ 2 ^ 32 }
+    ensures { OnOk result (out.new.items ≡ out.old.items ++ part_bytes memory.now.contents first size) }
+{
+    for i in 0..size {
+        out.push(memory.byte(first + i))?;
+    }
+    Ok(())
+}
+
+// Writes the bytes of the memory regions.
+fn put_memory(out: &mut Vec<u8>, memory: &Memory) -> Result<(), AllocError>
+    ensures { OnOk result (out.new.items ≡ out.old.items ++ memory_bytes memory.now.contents) }
+{
+    put_part(out, memory, 0x3FF80000, 8192)?;
+    put_part(out, memory, 0x3FFAE000, 335872)?;
+    put_part(out, memory, 0x50000000, 8192)
+}
+
+/// Writes the checkpoint of a position, at which both cores and memory stand, behind so many
+/// entries.
+#[tactic(auto, unfolding(crate::specs::Checkpoints::checkpoint_bytes))]
+pub(crate) fn put_point(
+    out: &mut Vec<u8>,
+    position: u32,
+    entries: u32,
+    core0: &Core<WindowFile>,
+    core1: &Core<WindowFile>,
+    memory: &Memory,
+) -> Result<(), AllocError>
+    ensures { OnOk result (out.new.items ≡ out.old.items ++ checkpoint_bytes position entries core0.now.count core0.now.state core1.now.count core1.now.state memory.now.contents) }
+{
+    put_words(out, &[position, entries])?;
+    put_state(out, core0.count(), core0.regs())?;
+    put_state(out, core1.count(), core1.regs())?;
+    put_memory(out, memory)
+}
