@@ -1,1 +1,9 @@
+pub mod Halves
 pub mod Commands
+pub mod Found
+pub mod Bytes
+pub mod Scripts
+pub mod Sought
+pub mod Stores
+pub mod Schedules
+pub mod Handlers

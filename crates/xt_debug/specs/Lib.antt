@@ -1,2 +1,7 @@
 pub mod Grammar
 pub mod Answers
+pub mod Printed
+pub mod Searches
+pub mod Depths
+pub mod Scripts
+pub mod Runs

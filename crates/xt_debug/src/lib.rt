@@ -1,10 +1,15 @@
-//! Scripts that walk a run: their grammar.
+//! Scripts that walk a run in both directions, and what they print.
 #![tactic(auto)]
 
+mod depths;
 mod parsing;
+mod printing;
+mod running;
 mod script;
+mod searching;
 
 pub use parsing::parse_script;
+pub use running::run_script;
 pub use script::{Command, Script, ScriptFault};
 
 #[cfg(test)]

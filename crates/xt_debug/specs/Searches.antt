@@ -1,0 +1,80 @@
+-- Which positions of a run the commands of scripts look for ('profile'). A position is a number of
+-- steps of the run's schedule.
+use Rattle.std.specs.Prelude.{ℕ, zero, suc, ◌-◌, ◌/◌, Bool, true, false, ◌&&◌, ◌==◌, nat_le, if◌then◌else◌, Option, Some, None, List, length, drop}
+use Rattle.std.specs.List.{list_any, slice_get}
+use Rattle.std.specs.Option.{option_map}
+use Rattle.xt_map.specs.declared.access.Entry.{Entry}
+use Rattle.xt_map.specs.declared.access.Kind.{Kind}
+use Rattle.xt_map.specs.declared.access.Kind.TheVariants as kind
+use Rattle.xt_map.specs.Regions.{is_memory, region_of}
+use Rattle.xt_trace.specs.declared.run.Run.{Run}
+use Rattle.xt_image.specs.declared.image.Image.{Image}
+use Rattle.xt_core.specs.Positions.{schedule_in, world_at}
+use Rattle.xt_replay.specs.Places.{position_of, trace_in}
+use Rattle.xt_replay.specs.Shown.{shown_at, state_in}
+
+-- the first of so many numbers from p on that passes the test
+abbrev pub first_from : (ℕ → Bool) → ℕ → ℕ → Option ℕ
+first_from test p zero = None
+first_from test p (suc n) = if test p then Some p else first_from test (suc p) n
+
+-- the position behind a run's last step
+abbrev pub end_of : Run → ℕ
+end_of r = length (schedule_in r)
+
+-- a position, where the run has it
+abbrev pub within : Run → ℕ → Option ℕ
+within r p = if nat_le p (end_of r) then Some p else None
+
+-- ---- `go`
+
+-- directly before a core's step of this number, where its trace is that long
+abbrev pub step_position : Run → ℕ → ℕ → Option ℕ
+step_position r core step =
+    if nat_le step (trace_in core r).count then Some (position_of core step r) else None
+
+-- ---- `break`
+
+abbrev pub is_core : ℕ → Option ℕ → Bool
+is_core core None = false
+is_core core (Some c) = c == core
+
+-- the next step is this core's, and the core's program counter is this
+unfoldable pub is_next : Image → Run → ℕ → ℕ → ℕ → Bool
+is_next image r core pc p =
+    is_core core (slice_get (schedule_in r) p)
+    && ((state_in core (shown_at image r p)).control.pc == pc)
+
+-- the first later position
+unfoldable pub break_position : Image → Run → ℕ → ℕ → ℕ → Option ℕ
+break_position image r core pc p = first_from (is_next image r core pc) (suc p) (end_of r - p)
+
+-- ---- `watch`
+
+-- an access with this reply stores: a compare-and-swap does where it found what it expected
+abbrev pub stores : Kind → ℕ → Bool
+stores kind.Load reply = false
+stores (kind.Store value) reply = true
+stores (kind.Cas expected new) reply = reply == expected
+
+-- An entry stores into the word that holds an address, in a memory region. The bytes of an access
+-- lie in one word.
+unfoldable pub stores_at : ℕ → Entry → Bool
+stores_at addr e =
+    is_memory (region_of e.access.addr)
+    && ((e.access.addr / 4 == addr / 4) && stores e.access.kind e.reply)
+
+-- the entries of the history before a position, and those that the step at a position makes
+abbrev pub entries_before : Image → Run → ℕ → List Entry
+entries_before image r p = (world_at image r p).line.history
+
+abbrev pub entries_made : Image → Run → ℕ → List Entry
+entries_made image r p = drop (length (entries_before image r p)) (entries_before image r (suc p))
+
+unfoldable pub stores_word : Image → Run → ℕ → ℕ → Bool
+stores_word image r addr p = list_any (stores_at addr) (entries_made image r p)
+
+-- directly after the first step from here on that stores into the word
+unfoldable pub watch_position : Image → Run → ℕ → ℕ → Option ℕ
+watch_position image r addr p =
+    option_map suc (first_from (stores_word image r addr) p (end_of r - p))
