@@ -1,6 +1,6 @@
 -- What the endings of a run say.
 use Rattle.std.proofs.Common.{◌≡◌, ℕ, inr, List, Option, Some, None, Result, Ok, Err, sym, subst}
-use Rattle.std.specs.Io.KnownBytes.{Appends, Keeps}
+use Rattle.std.specs.Io.KnownBytes.{Appends}
 use Rattle.xt_io.specs.Causes.{Rose}
 use Rattle.xt_io.specs.Whole.{AppendsFront}
 use Rattle.xt_io.specs.declared.sink.Refused.{Refused}
@@ -12,21 +12,22 @@ use Rattle.xt_words.specs.declared.options.RunOptions.{RunOptions}
 use Rattle.xt_cli.specs.declared.status.Status.{Status}
 use Rattle.xt_cli.specs.declared.status.Status.TheVariants as status
 use Rattle.xt_cli.specs.declared.verdicts.Whole.{Whole}
+use Rattle.xt_cli.specs.declared.orders.Wanted.{Wanted}
 use Rattle.xt_cli.specs.Calls.{Ends}
-use Rattle.xt_cli.specs.Top.{HasRun, IsJudged, IsRunOfImage, IsRunOfInput, Runs, run_text}
+use Rattle.xt_cli.specs.Top.{HasRun, IsJudged, IsRunOfImage, IsRunOfInput, Runs, wanted_text}
 use Rattle.xt_cli.specs.Writes.{Writes}
 
 -- what is so of the image that was read is so of the input
-pub of_input : (o : RunOptions) (input read : List ℕ) (image : Image) (w : Whole) (P : List ℕ → Type 0)
-    → read ≡ input → (image_fault read ≡ None) × (image ≡ image_of read) → IsRunOfImage o image w.run → IsJudged image w → P (run_text o image w)
-    → IsRunOfInput o input w × P (run_text o (image_of input) w)
-of_input o input read image w P same (none, is) is_run judged holds =
+pub of_input : (t : Wanted) (o : RunOptions) (input read : List ℕ) (image : Image) (w : Whole) (P : List ℕ → Type 0)
+    → read ≡ input → (image_fault read ≡ None) × (image ≡ image_of read) → IsRunOfImage o image w.run → IsJudged image w → P (wanted_text t o image w)
+    → IsRunOfInput o input w × P (wanted_text t o (image_of input) w)
+of_input t o input read image w P same (none, is) is_run judged holds =
     let A : List ℕ → Type 0 = λ bytes. image_fault bytes ≡ None in
     let B : List ℕ → Type 0 = λ bytes. image ≡ image_of bytes in
     let made : image ≡ image_of input = subst B same is in
     let Q : Image → Type 0 = λ i. IsRunOfImage o i w.run in
     let J : Image → Type 0 = λ i. IsJudged i w in
-    let R : Image → Type 0 = λ i. P (run_text o i w) in
+    let R : Image → Type 0 = λ i. P (wanted_text t o i w) in
     (record { image = subst A same none; is_run = subst Q made is_run; judged = subst J made judged }, subst R made holds)
 
 -- what was refused was written in front
@@ -37,20 +38,20 @@ front_of (Err x) e a b f g bytes is writes = writes.err
 
 -- ---- the endings
 
-pub memory : (o : RunOptions) (e : Ends) (whole : Whole) (s : Status) (w : Option Whole) → s ≡ status.Memory → w ≡ None
-    → HasRun o e whole (AppendsFront e.told e.told_after) → Runs o e s w
-memory o e whole s w is none has =
-    let P : Status → Type 0 = λ x. Runs o e x None in
-    let Q : Option Whole → Type 0 = λ x. Runs o e s x in
+pub memory : (t : Wanted) (o : RunOptions) (e : Ends) (whole : Whole) (s : Status) (w : Option Whole) → s ≡ status.Memory → w ≡ None
+    → HasRun t o e whole (AppendsFront e.told e.told_after) → Runs t o e s w
+memory t o e whole s w is none has =
+    let P : Status → Type 0 = λ x. Runs t o e x None in
+    let Q : Option Whole → Type 0 = λ x. Runs t o e s x in
     subst Q (sym none) (subst P (sym is) (inr (whole, has)))
 
-pub done : (o : RunOptions) (e : Ends) (w : Whole) (s : Status) → s ≡ status.Done
-    → HasRun o e w (Appends e.told e.told_after) → Runs o e s (Some w)
-done o e w s is has =
-    let P : Status → Type 0 = λ x. Runs o e x (Some w) in subst P (sym is) has
+pub done : (t : Wanted) (o : RunOptions) (e : Ends) (w : Whole) (s : Status) → s ≡ status.Done
+    → HasRun t o e w (Appends e.told e.told_after) → Runs t o e s (Some w)
+done t o e w s is has =
+    let P : Status → Type 0 = λ x. Runs t o e x (Some w) in subst P (sym is) has
 
-pub failed : (o : RunOptions) (e : Ends) (w : Whole) (s : Status) → s ≡ status.WriteFault
-    → HasRun o e w (AppendsFront e.told e.told_after) → Rose e.sink_faults e.sink_faults_after
-    → Runs o e s (Some w)
-failed o e w s is has rose =
-    let P : Status → Type 0 = λ x. Runs o e x (Some w) in subst P (sym is) (has, rose)
+pub failed : (t : Wanted) (o : RunOptions) (e : Ends) (w : Whole) (s : Status) → s ≡ status.WriteFault
+    → HasRun t o e w (AppendsFront e.told e.told_after) → Rose e.sink_faults e.sink_faults_after
+    → Runs t o e s (Some w)
+failed t o e w s is has rose =
+    let P : Status → Type 0 = λ x. Runs t o e x (Some w) in subst P (sym is) (has, rose)

@@ -5,5 +5,6 @@ pub mod Statuses
 pub mod Calls
 pub mod Writes
 pub mod Summaries
+pub mod Orders
 pub mod Tools
 pub mod Top

@@ -7,8 +7,10 @@ use Rattle.xt_elf.specs.declared.fault.ElfFault.TheVariants as elf
 use Rattle.xt_image.specs.declared.fault.ImageFault.{ImageFault}
 use Rattle.xt_image.specs.declared.fault.ImageFault.TheVariants as fault
 use Rattle.xt_lex.specs.declared.fault.AsmPlace.{AsmPlace}
+use Rattle.xt_record.specs.declared.fault.RecordFault.{RecordFault}
+use Rattle.xt_record.specs.declared.fault.RecordFault.TheVariants as record_fault
 use Rattle.xt_cli.specs.declared.status.Status.{Status}
-use Rattle.xt_cli.specs.declared.status.Status.TheVariants.{Done, Usage, Image, Asm, Elf, ReadFault, WriteFault, TooLarge, Unbuilt, Memory}
+use Rattle.xt_cli.specs.declared.status.Status.TheVariants.{Done, Usage, Image, Asm, Elf, Recording, ReadFault, WriteFault, TooLarge, Memory}
 
 -- a fault of an image: its name and the values that it keeps, in decimal; digests in hexadecimal
 abbrev pub fault_text : ImageFault → List ℕ
@@ -49,6 +51,24 @@ elf_fault_text (elf.Count count) = codes "Count " ++ decimal count
 elf_fault_text (elf.Entry address) = codes "Entry " ++ decimal address
 elf_fault_text elf.Memory = codes "Memory"
 
+-- a fault of a recording: its name and the values that it keeps, in decimal; a fault of its image is
+-- the image's
+abbrev pub record_fault_text : RecordFault → List ℕ
+record_fault_text record_fault.Short = codes "Short"
+record_fault_text record_fault.Magic = codes "Magic"
+record_fault_text (record_fault.Version version) = codes "Version " ++ decimal version
+record_fault_text (record_fault.Image f) = codes "Image " ++ fault_text f
+record_fault_text record_fault.Options = codes "Options"
+record_fault_text (record_fault.Entry entry) = codes "Entry " ++ decimal entry
+record_fault_text (record_fault.Illegal entry kept right) =
+    codes "Illegal "
+    ++ (decimal entry ++ (codes " " ++ (decimal kept ++ (codes " " ++ decimal right))))
+record_fault_text (record_fault.Turn core step) =
+    codes "Turn " ++ (decimal core ++ (codes " " ++ decimal step))
+record_fault_text record_fault.Trailing = codes "Trailing"
+record_fault_text (record_fault.Checkpoint index) = codes "Checkpoint " ++ decimal index
+record_fault_text record_fault.Memory = codes "Memory"
+
 -- the place of a text's first fault: its line, its column and its kind
 abbrev pub place_text : AsmPlace → List ℕ
 place_text place =
@@ -60,10 +80,10 @@ status_words (Usage rule) = codes "Usage " ++ decimal rule
 status_words (Image f) = codes "Image " ++ fault_text f
 status_words (Asm place) = codes "Asm " ++ place_text place
 status_words (Elf f) = codes "Elf " ++ elf_fault_text f
+status_words (Recording f) = codes "Recording " ++ record_fault_text f
 status_words ReadFault = codes "ReadFault"
 status_words WriteFault = codes "WriteFault"
 status_words (TooLarge limit) = codes "TooLarge " ++ decimal limit
-status_words Unbuilt = codes "Unbuilt"
 status_words Memory = codes "Memory"
 
 -- `xt:`, the words of the status, and a newline
@@ -76,9 +96,9 @@ status_code Done = 0
 status_code (Usage rule) = 1
 status_code (Image f) = 2
 status_code (Asm place) = 3
+status_code (Recording f) = 4
 status_code ReadFault = 5
 status_code WriteFault = 6
 status_code (TooLarge limit) = 7
 status_code Memory = 8
-status_code Unbuilt = 9
 status_code (Elf f) = 10

@@ -14,8 +14,11 @@ use Rattle.xt_elf.specs.Rules.{elf_fault}
 use Rattle.xt_asm.specs.Kinds.{text_fault}
 use Rattle.xt_asm.specs.Images.{IsImageOfText}
 use Rattle.xt_disasm.specs.Listing.{listing_text}
-use Rattle.xt_words.specs.declared.command.Command.{Command}
-use Rattle.xt_words.specs.declared.command.Command.TheVariants as command
+use Rattle.xt_record.specs.Fields.{image_in}
+use Rattle.xt_record.specs.Format.{recording_fault, run_in}
+use Rattle.xt_record.specs.Written.{recording_bytes}
+use Rattle.xt_debug.specs.declared.script.Command as script
+use Rattle.xt_debug.specs.Scripts.{script_outcome}
 use Rattle.xt_words.specs.declared.command.Refusal.{Refusal}
 use Rattle.xt_words.specs.declared.command.Refusal.TheVariants as refusal
 use Rattle.xt_cli.specs.declared.status.Status.{Status}
@@ -25,18 +28,21 @@ use Rattle.xt_cli.specs.declared.tool.Job.TheVariants as job
 use Rattle.xt_cli.specs.declared.tool.Tool.{Tool}
 use Rattle.xt_cli.specs.declared.tool.Tool.TheVariants as tool
 use Rattle.xt_cli.specs.Calls.{Ends, IsUntouched, ReadsWhole}
-use Rattle.xt_words.specs.Arguments.{IsVecbase}
 use Rattle.xt_cli.specs.Checks.{check_text}
+use Rattle.xt_cli.specs.declared.orders.Order.{Order}
+use Rattle.xt_cli.specs.declared.orders.Order.TheVariants as order
 
 -- ---- what a command makes of its input
 
--- the most bytes that the input of a command may have: that of a text, of an ELF executable, or of
--- an image
+-- the most bytes that the input of a command may have: that of a text, of an ELF executable, of an
+-- image, or of a recording
 abbrev pub limit_of : Job → ℕ
 limit_of job.Assemble = 1048576
 limit_of job.Convert = 67108864
 limit_of job.List = 8388608
 limit_of (job.Check vecbase) = 8388608
+limit_of job.Migrate = 201326592
+limit_of (job.Replay commands) = 201326592
 
 -- the status with which a command refuses a whole input, where it does: that of the input's first
 -- fault
@@ -45,6 +51,16 @@ refusal_of job.Assemble input = option_map status.Asm (text_fault input)
 refusal_of job.Convert input = option_map status.Elf (elf_fault input)
 refusal_of job.List input = option_map status.Image (image_fault input)
 refusal_of (job.Check vecbase) input = option_map status.Image (image_fault input)
+refusal_of job.Migrate input = option_map status.Recording (recording_fault input)
+refusal_of (job.Replay commands) input = option_map status.Recording (recording_fault input)
+
+-- the recording, in version 2, of the run that a recording holds
+unfoldable pub migrated : List ℕ → List ℕ
+migrated input = recording_bytes (image_in input) (run_in input)
+
+-- what a script prints over that run
+unfoldable pub replayed : List script.Command → List ℕ → List ℕ
+replayed commands input = (script_outcome (image_in input) (run_in input) commands 0).text
 
 -- the bytes that a command writes for an input that it does not refuse
 abbrev pub IsWritten : Job → List ℕ → List ℕ → Type 0
@@ -53,11 +69,8 @@ IsWritten job.Assemble input bytes =
 IsWritten job.Convert input bytes = bytes ≡ image_bytes (elf_image input)
 IsWritten job.List input bytes = bytes ≡ listing_text (image_of input)
 IsWritten (job.Check vecbase) input bytes = bytes ≡ check_text (image_of input) vecbase
-
--- the VECBASE of a command is one
-abbrev pub HasVecbase : Job → Type 0
-HasVecbase (job.Check vecbase) = IsVecbase vecbase
-HasVecbase _ = Unit {0}
+IsWritten job.Migrate input bytes = bytes ≡ migrated input
+IsWritten (job.Replay commands) input bytes = bytes ≡ replayed commands input
 
 -- the command does not refuse the input, and writes these bytes
 pub record IsMade (j : Job) (input bytes : List ℕ) : Type 0 where
@@ -90,7 +103,6 @@ Makes j e s =
 -- the status that a refusal of the words comes to
 abbrev pub status_of : Refusal → Status
 status_of (refusal.Usage rule) = status.Usage rule
-status_of refusal.Unbuilt = status.Unbuilt
 status_of refusal.Memory = status.Memory
 
 -- words without a meaning are refused before anything is read or written; there may be too little
@@ -98,17 +110,14 @@ status_of refusal.Memory = status.Memory
 abbrev pub RefusesWords : Refusal → Ends → Status → Type 0
 RefusesWords r e s = ((s ≡ status_of r) ⊎ (s ≡ status.Memory)) × IsUntouched e
 
--- Each answer by what the words mean. Words of `run` and `gen` are handed back, and nothing was
+-- Each answer by what the words ask for. Words that ask for a run are handed back, and nothing was
 -- touched.
-abbrev pub Answers : Result Command Refusal → Ends → Tool → Type 0
-Answers (Ok command.Assemble) e (tool.Answer s) = Makes job.Assemble e s
-Answers (Ok command.Convert) e (tool.Answer s) = Makes job.Convert e s
-Answers (Ok command.Disassemble) e (tool.Answer s) = Makes job.List e s
-Answers (Ok (command.Check vecbase)) e (tool.Answer s) = Makes (job.Check vecbase) e s
-Answers (Ok (command.Run options)) e tool.Threaded = IsUntouched e
-Answers (Ok (command.Run options)) e (tool.Answer s) = (s ≡ status.Memory) × IsUntouched e
-Answers (Ok (command.Generate number)) e tool.Threaded = IsUntouched e
-Answers (Ok (command.Generate number)) e (tool.Answer s) = (s ≡ status.Memory) × IsUntouched e
+abbrev pub Answers : Result Order Refusal → Ends → Tool → Type 0
+Answers (Ok (order.Work j)) e (tool.Answer s) = Makes j e s
+Answers (Ok (order.Run wanted options)) e tool.Threaded = IsUntouched e
+Answers (Ok (order.Run wanted options)) e (tool.Answer s) = (s ≡ status.Memory) × IsUntouched e
+Answers (Ok (order.Generate number)) e tool.Threaded = IsUntouched e
+Answers (Ok (order.Generate number)) e (tool.Answer s) = (s ≡ status.Memory) × IsUntouched e
 Answers (Err r) e (tool.Answer s) = RefusesWords r e s
 Answers _ e _ = ⊥
 
@@ -129,9 +138,6 @@ Finishes j e s =
     → (Rose e.sink_faults e.sink_faults_after → ⊥)
     → (s ≡ status.Done) ⊎ (s ≡ status.Memory)
 
-abbrev pub IsComplete : Result Command Refusal → Ends → Tool → Type 0
-IsComplete (Ok command.Assemble) e (tool.Answer s) = Finishes job.Assemble e s
-IsComplete (Ok command.Convert) e (tool.Answer s) = Finishes job.Convert e s
-IsComplete (Ok command.Disassemble) e (tool.Answer s) = Finishes job.List e s
-IsComplete (Ok (command.Check vecbase)) e (tool.Answer s) = Finishes (job.Check vecbase) e s
+abbrev pub IsComplete : Result Order Refusal → Ends → Tool → Type 0
+IsComplete (Ok (order.Work j)) e (tool.Answer s) = Finishes j e s
 IsComplete _ e _ = Unit {0}

@@ -1,5 +1,5 @@
 -- What each status of the program says ('profile').
-use Rattle.std.specs.Prelude.{◌≡◌, ◌≤◌, ◌+◌, ◌⊎◌, ℕ, List, length, Option, Some, None, Result, Ok, Err}
+use Rattle.std.specs.Prelude.{◌≡◌, ◌≤◌, ◌+◌, ◌⊎◌, ℕ, List, length, Option, Some, None, Result, Ok}
 use Rattle.std.specs.Io.KnownBytes.{Appends, Keeps}
 use Rattle.xt_io.specs.Causes.{Rose}
 use Rattle.xt_io.specs.Whole.{AppendsFront, Takes}
@@ -12,14 +12,17 @@ use Rattle.xt_gen.specs.Generated.{generated}
 use Rattle.xt_core.specs.Runs.{IsRunOf, code_of, records_of}
 use Rattle.xt_machine.specs.Lists.{run_of_list, schedule_in}
 use Rattle.xt_machine.specs.Framed.{IsFramed}
+use Rattle.xt_record.specs.Written.{recording_bytes}
 use Rattle.xt_words.specs.Options.{with_entry}
-use Rattle.xt_words.specs.declared.command.Command.{Command}
-use Rattle.xt_words.specs.declared.command.Command.TheVariants as command
 use Rattle.xt_words.specs.declared.command.Refusal.{Refusal}
 use Rattle.xt_words.specs.declared.options.RunOptions.{RunOptions}
 use Rattle.xt_cli.specs.declared.status.Status.{Status}
 use Rattle.xt_cli.specs.declared.status.Status.TheVariants as status
 use Rattle.xt_cli.specs.declared.tool.Tool.TheVariants as tool
+use Rattle.xt_cli.specs.declared.orders.Order.{Order}
+use Rattle.xt_cli.specs.declared.orders.Order.TheVariants as order
+use Rattle.xt_cli.specs.declared.orders.Wanted.{Wanted}
+use Rattle.xt_cli.specs.declared.orders.Wanted.TheVariants as wanted
 use Rattle.xt_cli.specs.declared.verdicts.Whole.{Whole}
 use Rattle.xt_cli.specs.declared.top.Outcome.{Outcome}
 use Rattle.xt_cli.specs.Calls.{Ends, ReadsWhole}
@@ -66,41 +69,46 @@ pub record IsRunOfInput (o : RunOptions) (input : List ℕ) (w : Whole) : Type 0
   pub is_run : IsRunOfImage o (image_of input) w.run
   pub judged : IsJudged (image_of input) w
 
--- what is written of a run of an image: its report, and where the words ask for them the lines of
+-- what `run` writes of a run of an image: its report, and where the words ask for them the lines of
 -- its traces, which are those of the records that the processor's turns make
 unfoldable pub run_text : RunOptions → Image → Whole → List ℕ
 run_text o image w =
     output_text o.trace w (records_of 0 image w.run).records (records_of 1 image w.run).records
 
+-- what is written of it: that, or its recording
+abbrev pub wanted_text : Wanted → RunOptions → Image → Whole → List ℕ
+wanted_text wanted.Report o image w = run_text o image w
+wanted_text wanted.Recording o image w = recording_bytes image w.run
+
 -- ---- the statuses of a run
 
 -- the input was read to its end, this is its run, and this is so of what is written of it
-abbrev pub HasRun : RunOptions → Ends → Whole → (List ℕ → Type 0) → Type 0
-HasRun o e w P =
+abbrev pub HasRun : Wanted → RunOptions → Ends → Whole → (List ℕ → Type 0) → Type 0
+HasRun t o e w P =
     ReadsWhole image_limit e
-    (λ input. IsRunOfInput o input w × P (run_text o (image_of input) w))
+    (λ input. IsRunOfInput o input w × P (wanted_text t o (image_of input) w))
 
 -- nothing was written, or a front of what is written of the input's run
-abbrev pub WritesFront : RunOptions → Ends → Type 0
-WritesFront o e =
+abbrev pub WritesFront : Wanted → RunOptions → Ends → Type 0
+WritesFront t o e =
     Keeps e.told e.told_after
-    ⊎ ((w : Whole) × HasRun o e w (AppendsFront e.told e.told_after))
+    ⊎ ((w : Whole) × HasRun t o e w (AppendsFront e.told e.told_after))
 
 -- each status of a run with these options, with its cause and what was written
-abbrev pub Runs : RunOptions → Ends → Status → Option Whole → Type 0
-Runs o e status.Done (Some w) = HasRun o e w (Appends e.told e.told_after)
-Runs o e status.WriteFault (Some w) =
-    HasRun o e w (AppendsFront e.told e.told_after) × Rose e.sink_faults e.sink_faults_after
-Runs o e (status.Image f) None =
+abbrev pub Runs : Wanted → RunOptions → Ends → Status → Option Whole → Type 0
+Runs t o e status.Done (Some w) = HasRun t o e w (Appends e.told e.told_after)
+Runs t o e status.WriteFault (Some w) =
+    HasRun t o e w (AppendsFront e.told e.told_after) × Rose e.sink_faults e.sink_faults_after
+Runs t o e (status.Image f) None =
     ReadsWhole image_limit e (λ input. image_fault input ≡ Some f) × Keeps e.told e.told_after
-Runs o e (status.TooLarge limit) None =
+Runs t o e (status.TooLarge limit) None =
     (limit ≡ image_limit)
     × Takes e.left e.left_after (λ n. n ≡ image_limit + 1)
     × Keeps e.told e.told_after
-Runs o e status.ReadFault None =
+Runs t o e status.ReadFault None =
     Rose e.source_faults e.source_faults_after × Keeps e.told e.told_after
-Runs o e status.Memory None = WritesFront o e
-Runs o e _ _ = ⊥
+Runs t o e status.Memory None = WritesFront t o e
+Runs t o e _ _ = ⊥
 
 -- ---- the statuses of `gen`
 
@@ -128,14 +136,14 @@ pub record IsUnread (e : Ends) : Type 0 where
   pub left : e.left_after ≡ e.left
   pub faults : e.source_faults_after ≡ e.source_faults
 
--- Each answer by what the words mean: a run's, that of `gen`, or that of the commands that need no thread, which
+-- Each answer by what the words ask for: a run's, that of `gen`, or that of the commands that need no thread, which
 -- hand out no run.
-abbrev pub Answers : Result Command Refusal → Ends → Outcome → Type 0
-Answers (Ok (command.Run options)) e o = Runs options e o.status o.whole
-Answers (Ok (command.Generate number)) e o =
+abbrev pub Answers : Result Order Refusal → Ends → Outcome → Type 0
+Answers (Ok (order.Run wanted options)) e o = Runs wanted options e o.status o.whole
+Answers (Ok (order.Generate number)) e o =
     IsUnread e
     × Generates number e.told e.told_after e.sink_faults e.sink_faults_after o.status o.whole
-Answers meant e o = tools.Answers meant e (tool.Answer o.status) × (o.whole ≡ None)
+Answers asked e o = tools.Answers asked e (tool.Answer o.status) × (o.whole ≡ None)
 
 -- ---- completeness
 
@@ -160,8 +168,8 @@ abbrev pub FinishesGen : ℕ → ℕ → Status → Type 0
 FinishesGen faults faults_after s =
     (Rose faults faults_after → ⊥) → (s ≡ status.Done) ⊎ (s ≡ status.Memory)
 
-abbrev pub IsComplete : Result Command Refusal → Ends → Outcome → Type 0
-IsComplete (Ok (command.Run options)) e o = FinishesRun e o.status
-IsComplete (Ok (command.Generate number)) e o =
+abbrev pub IsComplete : Result Order Refusal → Ends → Outcome → Type 0
+IsComplete (Ok (order.Run wanted options)) e o = FinishesRun e o.status
+IsComplete (Ok (order.Generate number)) e o =
     FinishesGen e.sink_faults e.sink_faults_after o.status
-IsComplete meant e o = tools.IsComplete meant e (tool.Answer o.status)
+IsComplete asked e o = tools.IsComplete asked e (tool.Answer o.status)

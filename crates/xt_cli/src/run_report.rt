@@ -4,12 +4,9 @@ ghost use Rattle.xt_cli.specs.Reports.{byte_of, core_line, history_line, report_
 use crate::verdict_lines::{frames_line, handlers_line};
 use crate::verdicts::Whole;
 use std::alloc::{AllocError, Global};
-use xt_map::{Entry, Kind, Text};
+use xt_map::{Entry, Kind, Text, UART_TRANSMIT};
 use xt_text::hexadecimal;
 use xt_trace::{Run, Stop, Trace};
-
-// The address of UART0 to which a store sends a byte.
-const UART_TRANSMIT: u32 = 0x3FF4_0000;
 
 // The byte that an entry sends.
 fn sent_by(entry: &Entry) -> Option<u8>

@@ -1,12 +1,13 @@
 //! How the program ends: the status, its line and its code.
 ghost use Rattle.std.specs.Prelude.{◌≡◌, IfOk, string_bytes};
-ghost use Rattle.xt_cli.specs.Statuses.{elf_fault_text, fault_text, status_code, status_text};
+ghost use Rattle.xt_cli.specs.Statuses.{elf_fault_text, fault_text, record_fault_text, status_code, status_text};
 
 use std::alloc::{AllocError, Global};
 use xt_elf::ElfFault;
 use xt_image::ImageFault;
 use xt_lex::AsmPlace;
 use xt_map::Text;
+use xt_record::RecordFault;
 
 /// How the program ended.
 #[derive(Clone, Copy, Debug, PartialEq, Eq)]
@@ -21,14 +22,14 @@ pub enum Status {
     Asm(AsmPlace),
     /// The whole input was read, and this is its first fault as an ELF executable.
     Elf(ElfFault),
+    /// The whole input was read, and this is its first fault as a recording.
+    Recording(RecordFault),
     /// The input could not be read to its end.
     ReadFault,
     /// The output could not be written to its end.
     WriteFault,
     /// The input is longer than this many bytes.
     TooLarge(u32),
-    /// The words ask for a command that is not there yet.
-    Unbuilt,
     /// There was too little memory.
     Memory,
 }
@@ -43,11 +44,11 @@ impl Status {
             Status::Usage(_) => 1,
             Status::Image(_) => 2,
             Status::Asm(_) => 3,
+            Status::Recording(_) => 4,
             Status::ReadFault => 5,
             Status::WriteFault => 6,
             Status::TooLarge(_) => 7,
             Status::Memory => 8,
-            Status::Unbuilt => 9,
             Status::Elf(_) => 10,
         }
     }
@@ -104,10 +105,34 @@ fn elf_text_of(alloc: Global, fault: &ElfFault) -> Result<String, AllocError>
     }
 }
 
+// A fault of a recording: its name and the values that it keeps.
+fn record_text_of(alloc: Global, fault: &RecordFault) -> Result<String, AllocError>
+    ensures { IfOk result (λ text. string_bytes text ≡ record_fault_text fault.now) }
+{
+    match *fault {
+        RecordFault::Short => format!(in alloc; "Short"),
+        RecordFault::Magic => format!(in alloc; "Magic"),
+        RecordFault::Version(version) => format!(in alloc; "Version {version}"),
+        RecordFault::Image(fault) => {
+            let fault = text_of(alloc, &fault)?;
+            format!(in alloc; "Image {fault}")
+        }
+        RecordFault::Options => format!(in alloc; "Options"),
+        RecordFault::Entry(entry) => format!(in alloc; "Entry {entry}"),
+        RecordFault::Illegal(entry, kept, right) => {
+            format!(in alloc; "Illegal {entry} {kept} {right}")
+        }
+        RecordFault::Turn(core, step) => format!(in alloc; "Turn {core} {step}"),
+        RecordFault::Trailing => format!(in alloc; "Trailing"),
+        RecordFault::Checkpoint(index) => format!(in alloc; "Checkpoint {index}"),
+        RecordFault::Memory => format!(in alloc; "Memory"),
+    }
+}
+
 /// The line for standard error: `xt:`, the name of the status, the values that it keeps in decimal,
-/// of the fault of an image or an ELF executable its name and its values, digests as 64 lower-case
-/// hexadecimal digits, of a text's fault its line, column and kind, and a newline. The only error is
-/// too little memory.
+/// of the fault of an image, an ELF executable or a recording its name and its values, digests as 64
+/// lower-case hexadecimal digits, of a text's fault its line, column and kind, and a newline. The only
+/// error is too little memory.
 #[tactic(auto, unfolding(crate::specs::Statuses::status_text))]
 pub fn status_line(alloc: Global, status: &Status) -> Result<Text, AllocError>
     ensures { IfOk result (λ text. text ≡ status_text status.now) }
@@ -126,10 +151,13 @@ pub fn status_line(alloc: Global, status: &Status) -> Result<Text, AllocError>
             let fault = elf_text_of(alloc, &fault)?;
             format!(in alloc; "xt: Elf {fault}\n")?
         }
+        Status::Recording(fault) => {
+            let fault = record_text_of(alloc, &fault)?;
+            format!(in alloc; "xt: Recording {fault}\n")?
+        }
         Status::ReadFault => format!(in alloc; "xt: ReadFault\n")?,
         Status::WriteFault => format!(in alloc; "xt: WriteFault\n")?,
         Status::TooLarge(limit) => format!(in alloc; "xt: TooLarge {limit}\n")?,
-        Status::Unbuilt => format!(in alloc; "xt: Unbuilt\n")?,
         Status::Memory => format!(in alloc; "xt: Memory\n")?,
     };
     Ok(Text::new(line.into_bytes()))

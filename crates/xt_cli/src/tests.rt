@@ -5,6 +5,7 @@ use xt_elf::ElfFault;
 use xt_image::ImageFault;
 use xt_lex::AsmPlace;
 use xt_map::{Access, Entry, History, Kind};
+use xt_record::RecordFault;
 use xt_trace::{Options, Places, Run, Stack, Stop, Trace};
 
 fn entry(addr: u32, size: u8, kind: Kind) -> Entry {
@@ -149,11 +150,30 @@ fn lines_and_codes_of_statuses(rt: HostRuntime) -> Result<(), Fail> {
             3,
             "xt: Asm 1048576 1048577 9\n",
         ),
+        (
+            Status::Recording(RecordFault::Image(ImageFault::Checksum(22, 23))),
+            4,
+            "xt: Recording Image Checksum 22 23\n",
+        ),
+        (
+            Status::Recording(RecordFault::Illegal(2, 2_167_144_455, 19_660_807)),
+            4,
+            "xt: Recording Illegal 2 2167144455 19660807\n",
+        ),
+        (
+            Status::Recording(RecordFault::Turn(1, 3)),
+            4,
+            "xt: Recording Turn 1 3\n",
+        ),
+        (
+            Status::Recording(RecordFault::Checkpoint(0)),
+            4,
+            "xt: Recording Checkpoint 0\n",
+        ),
         (Status::ReadFault, 5, "xt: ReadFault\n"),
         (Status::WriteFault, 6, "xt: WriteFault\n"),
         (Status::TooLarge(8_388_608), 7, "xt: TooLarge 8388608\n"),
         (Status::Memory, 8, "xt: Memory\n"),
-        (Status::Unbuilt, 9, "xt: Unbuilt\n"),
         (Status::Elf(ElfFault::HeaderEnd), 10, "xt: Elf HeaderEnd\n"),
         (Status::Elf(ElfFault::Machine(3)), 10, "xt: Elf Machine 3\n"),
         (

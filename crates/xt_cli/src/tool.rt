@@ -5,20 +5,23 @@ ghost use Rattle.xt_image.specs.Format.{image_of};
 ghost use Rattle.xt_image.specs.Parts.{IsWellFormed};
 ghost use Rattle.xt_image.specs.Rules.{image_fault};
 ghost use Rattle.xt_cli.specs.Calls.{ends};
-ghost use Rattle.xt_cli.specs.Tools.{Answers, Finishes, HasVecbase, IsComplete, IsMade, Makes, limit_of, refusal_of, status_of};
-ghost use Rattle.xt_words.specs.Meaning.{meaning_of};
+ghost use Rattle.xt_cli.specs.Orders.{IsFit, order_of};
+ghost use Rattle.xt_cli.specs.Tools.{Answers, Finishes, IsComplete, IsMade, Makes, limit_of, refusal_of, status_of};
 
 use crate::checks::check_text;
+use crate::orders::{Order, order_in};
+use crate::recordings::{RECORDING_LIMIT, migrate, replay};
 use crate::status::Status;
 use std::alloc::Global;
 use xt_asm::assemble;
+use xt_debug::Script;
 use xt_disasm::listing;
 use xt_elf::{ElfFault, from_elf};
 use xt_image::{Image, ImageFault, read, write};
 use xt_io::{ReadError, Refused, Sink, Source, read_to_limit, write_all};
 use xt_lex::AsmFault;
 use xt_map::Text;
-use xt_words::{Command, Refusal, meaning};
+use xt_words::Refusal;
 
 /// The most bytes that an image may have.
 pub const IMAGE_LIMIT: usize = 8_388_608;
@@ -30,7 +33,7 @@ pub const TEXT_LIMIT: usize = 1_048_576;
 pub const ELF_LIMIT: usize = 67_108_864;
 
 /// A command whose output is a function of its input.
-#[derive(Clone, Copy, Debug, PartialEq, Eq)]
+#[derive(Drop)]
 pub enum Job {
     /// `asm`: the image of an assembly text.
     Assemble,
@@ -40,6 +43,10 @@ pub enum Job {
     List,
     /// `check`: what an image holds, with its window handlers from this VECBASE on.
     Check(u32),
+    /// `migrate`: a recording in version 2.
+    Migrate,
+    /// `replay`: what this script prints over a recording.
+    Replay(Script),
 }
 
 /// What `tool_main` answers.
@@ -47,7 +54,7 @@ pub enum Job {
 pub enum Tool {
     /// The program ended with this status.
     Answer(Status),
-    /// The words ask for `run` or `gen`. Nothing was read or written.
+    /// The words ask for `run`, `record` or `gen`. Nothing was read or written.
     Threaded,
 }
 
@@ -57,19 +64,19 @@ pub(crate) fn status_of(refusal: Refusal) -> Status
 {
     match refusal {
         Refusal::Usage(rule) => Status::Usage(rule),
-        Refusal::Unbuilt => Status::Unbuilt,
         Refusal::Memory => Status::Memory,
     }
 }
 
 // The most bytes that the input of a command may have.
-fn limit_of(job: Job) -> usize
-    ensures { result ≡ limit_of job }
+fn limit_of(job: &Job) -> usize
+    ensures { result ≡ limit_of job.now }
 {
     match job {
         Job::Assemble => TEXT_LIMIT,
         Job::Convert => ELF_LIMIT,
         Job::List | Job::Check(_) => IMAGE_LIMIT,
+        Job::Migrate | Job::Replay(_) => RECORDING_LIMIT,
     }
 }
 
@@ -147,31 +154,33 @@ fn check(alloc: Global, vecbase: u32, input: &[u8]) -> Result<Text, Status>
 }
 
 // What a command writes for an input, or the status with which it refuses it.
-fn make(alloc: Global, job: Job, input: &[u8]) -> Result<Text, Status>
-    requires vecbase { HasVecbase job }
-    requires limit { length input.now ≤ limit_of job }
-    ensures ok { IfOk result (λ bytes. IsMade job input.now bytes) }
-    ensures refused { IfErr result (λ status. status ≢ Status.Memory → refusal_of job input.now ≡ Some status) }
+fn make(alloc: Global, job: &Job, input: &[u8]) -> Result<Text, Status>
+    requires fit { IsFit job.now }
+    requires limit { length input.now ≤ limit_of job.now }
+    ensures ok { IfOk result (λ bytes. IsMade job.now input.now bytes) }
+    ensures refused { IfErr result (λ status. status ≢ Status.Memory → refusal_of job.now input.now ≡ Some status) }
 {
     match job {
         Job::Assemble => image_file(alloc, input),
         Job::Convert => converted_file(alloc, input),
         Job::List => list(alloc, input),
-        Job::Check(vecbase) => check(alloc, vecbase, input),
+        Job::Check(vecbase) => check(alloc, *vecbase, input),
+        Job::Migrate => migrate(alloc, input),
+        Job::Replay(script) => replay(alloc, script, input),
     }
 }
 
 // Reads the input of a command to its end, and writes what the command makes of it.
 pub(crate) fn work<S: Source, K: Sink>(
     alloc: Global,
-    job: Job,
+    job: &Job,
     source: &mut S,
     sink: &mut K,
 ) -> Status
-    requires { HasVecbase job }
-    ensures answers { Makes job
+    requires { IsFit job.now }
+    ensures answers { Makes job.now
         (ends S.left S.faults source.old source.new K.told K.faults sink.old sink.new) result }
-    ensures complete { Finishes job
+    ensures complete { Finishes job.now
         (ends S.left S.faults source.old source.new K.told K.faults sink.old sink.new) result }
 {
     let limit = limit_of(job);
@@ -193,10 +202,11 @@ pub(crate) fn work<S: Source, K: Sink>(
 }
 
 /// What the program does with the words behind its name, a source and a sink, where it needs no
-/// thread: it answers every word that has no meaning, and does the work of `asm`, `elf`, `dis` and
-/// `check`. It waits for nobody and returns.
+/// thread: it answers every word that has no meaning, and does the work of `asm`, `elf`, `dis`, `check`,
+/// `migrate` and `replay`. It waits for nobody and returns.
 ///
-/// Words that ask for `run` or `gen` are handed back as `Threaded`, and nothing was then read or written.
+/// Words that ask for `run`, `record` or `gen` are handed back as `Threaded`, and nothing was then read or
+/// written.
 /// After `Answer` the contract says of each status its cause, and what was written; too little
 /// memory is the one free answer.
 pub fn tool_main<S: Source, K: Sink>(
@@ -205,19 +215,14 @@ pub fn tool_main<S: Source, K: Sink>(
     source: &mut S,
     sink: &mut K,
 ) -> Tool
-    ensures answers { Answers (meaning_of (map string_bytes words.now))
+    ensures answers { Answers (order_of (map string_bytes words.now))
         (ends S.left S.faults source.old source.new K.told K.faults sink.old sink.new) result }
-    ensures complete { IsComplete (meaning_of (map string_bytes words.now))
+    ensures complete { IsComplete (order_of (map string_bytes words.now))
         (ends S.left S.faults source.old source.new K.told K.faults sink.old sink.new) result }
 {
-    match meaning(alloc, words) {
-        Ok(Command::Assemble) => Tool::Answer(work(alloc, Job::Assemble, source, sink)),
-        Ok(Command::Convert) => Tool::Answer(work(alloc, Job::Convert, source, sink)),
-        Ok(Command::Disassemble) => Tool::Answer(work(alloc, Job::List, source, sink)),
-        Ok(Command::Check(vecbase)) => {
-            Tool::Answer(work(alloc, Job::Check(vecbase), source, sink))
-        }
-        Ok(Command::Run(_) | Command::Generate(_)) => Tool::Threaded,
+    match order_in(alloc, words) {
+        Ok(Order::Work(job)) => Tool::Answer(work(alloc, &job, source, sink)),
+        Ok(Order::Run(_, _) | Order::Generate(_)) => Tool::Threaded,
         Err(refusal) => Tool::Answer(status_of(refusal)),
     }
 }

@@ -1,34 +1,38 @@
 //! The top call.
 ghost use Rattle.std.specs.Prelude.{◌≡◌, map, string_bytes, IfOk, None};
 ghost use Rattle.xt_cli.specs.Calls.{ends};
-ghost use Rattle.xt_cli.specs.Top.{Answers, FinishesRun, IsComplete, Runs, run_text};
+ghost use Rattle.xt_cli.specs.Orders.{order_of};
+ghost use Rattle.xt_cli.specs.Top.{Answers, FinishesRun, IsComplete, Runs, run_text, wanted_text};
 ghost use Rattle.xt_cli.specs.Writes.{Writes};
 ghost use Rattle.xt_core.specs.Runs.{IsRunOf};
 ghost use Rattle.xt_image.specs.Parts.{IsWellFormed};
-ghost use Rattle.xt_words.specs.Meaning.{meaning_of};
+ghost use Rattle.xt_record.specs.Written.{recording_bytes};
 ghost use Rattle.xt_words.specs.Options.{AreValid};
 
 use crate::generating::generate;
+use crate::orders::{Order, Wanted, order_in};
 use crate::output::{write_report, write_traced};
 use crate::runs::judge_image;
 use crate::status::Status;
-use crate::tool::{IMAGE_LIMIT, Job, image_in, status_of, work};
+use crate::tool::{IMAGE_LIMIT, image_in, status_of, work};
 use crate::verdicts::Whole;
 use std::alloc::Global;
 use std::sync::Wait;
 use std::thread::Threads;
 use xt_core::Cursor;
 use xt_image::{Image, well_formed_is_placed};
-use xt_io::{Gate, ReadError, Refused, Sink, Source, read_to_limit};
-use xt_words::{Command, RunOptions, meaning};
+use xt_io::{Gate, ReadError, Refused, Sink, Source, read_to_limit, write_all};
+use xt_record::write_recording;
+use xt_trace::Run;
+use xt_words::RunOptions;
 
 /// How the program ended.
 #[derive(Drop)]
 pub struct Outcome {
     /// The status, which says the exit code and the line for standard error.
     pub status: Status,
-    /// The run, with what is found of it, exactly where the command is `run` or `gen` and the status is
-    /// `Done` or `WriteFault`.
+    /// The run, with what is found of it, exactly where the command is `run`, `record` or `gen` and the
+    /// status is `Done` or `WriteFault`.
     pub whole: Option<Whole>,
 }
 
@@ -71,17 +75,56 @@ pub fn write_whole<K: Sink>(
     }
 }
 
-// Reads an image to its end, runs it, and writes what is written of the run.
+// Writes the recording of a run of an image.
+fn write_recorded<K: Sink>(
+    alloc: Global,
+    image: &Image,
+    run: &Run,
+    sink: &mut K,
+) -> Result<(), Refused>
+    requires image { IsWellFormed image.now }
+    requires run { IsRunOf image.now run.now }
+    ensures { Writes result
+        (K.told sink.old) (K.told sink.new) (K.faults sink.old) (K.faults sink.new)
+        (recording_bytes image.now run.now) }
+{
+    let bytes = write_recording(alloc, image, run)?;
+    write_all(sink, bytes.as_slice())
+}
+
+// Writes what is wanted of a run of an image.
+fn write_wanted<K: Sink>(
+    alloc: Global,
+    wanted: Wanted,
+    options: &RunOptions,
+    image: &Image,
+    whole: &Whole,
+    sink: &mut K,
+) -> Result<(), Refused>
+    requires image { IsWellFormed image.now }
+    requires run { IsRunOf image.now whole.now.run }
+    ensures { Writes result
+        (K.told sink.old) (K.told sink.new) (K.faults sink.old) (K.faults sink.new)
+        (wanted_text wanted options.now image.now whole.now) }
+{
+    match wanted {
+        Wanted::Report => write_whole(alloc, options, image, whole, sink),
+        Wanted::Recording => write_recorded(alloc, image, &whole.run, sink),
+    }
+}
+
+// Reads an image to its end, runs it, and writes what is wanted of the run.
 fn run_source<S: Source, K: Sink, G: Gate, R: Threads + Wait + Sync>(
     rt: &R,
     alloc: Global,
+    wanted: Wanted,
     options: &RunOptions,
     source: &mut S,
     sink: &mut K,
     gate: &G,
 ) -> Outcome
     requires { AreValid options.now }
-    ensures answers { Runs options.now (ends S.left S.faults source.old source.new K.told K.faults sink.old sink.new)
+    ensures answers { Runs wanted options.now (ends S.left S.faults source.old source.new K.told K.faults sink.old sink.new)
         result.status result.whole }
     ensures complete { FinishesRun (ends S.left S.faults source.old source.new K.told K.faults sink.old sink.new)
         result.status }
@@ -99,7 +142,7 @@ fn run_source<S: Source, K: Sink, G: Gate, R: Threads + Wait + Sync>(
     let Ok(whole) = judge_image(rt, alloc, options, &image, gate) else {
         return without_run(Status::Memory);
     };
-    let status = match write_whole(alloc, options, &image, &whole, sink) {
+    let status = match write_wanted(alloc, wanted, options, &image, &whole, sink) {
         Ok(()) => Status::Done,
         Err(Refused::Failed) => Status::WriteFault,
         Err(Refused::Memory) => return without_run(Status::Memory),
@@ -115,13 +158,14 @@ fn run_source<S: Source, K: Sink, G: Gate, R: Threads + Wait + Sync>(
 /// Where the words ask for a run, the source is read to its end as an ESP32 application image, both
 /// cores make their turns, each on a thread of its own and through the gate before each access, and
 /// the report is written to the sink, with `--trace` the lines of both traces behind it, each before
-/// the next is made. Where they ask for the image that is made of a number, no input is read, that
-/// image runs so, and its summary is written. A run may wait. All else is `tool_main`'s.
+/// the next is made; or where they ask for it the run's recording. Where they ask for the image that
+/// is made of a number, no input is read, that image runs so, and its summary is written. A run may
+/// wait. All else is `tool_main`'s.
 ///
 /// The contract says of each status its cause, and what was written; of `Done` and `WriteFault` of
-/// `run` and `gen` besides that the run that is handed out is the image's: its history is legal from the opening
-/// memory, each trace is the processor's over the replies of that history, and the history's accesses
-/// are those of the traces; that it is the run of the schedule that is read from its own history; and
+/// `run`, `record` and `gen` besides that the run that is handed out is the image's: its history is
+/// legal from the opening memory, each trace is the processor's over the replies of that history, and
+/// the history's accesses are those of the traces; that it is the run of the schedule that is read from its own history; and
 /// that the answers for the window handlers are those of the image's vectors from the run's VECBASE on,
 /// and the verdict that of the run's records; where the handlers pass and the stacks are apart, the run
 /// up to the first breach is one of the machine with unbounded call frames.
@@ -134,20 +178,17 @@ pub fn xt_main<S: Source, K: Sink, G: Gate, R: Threads + Wait + Sync>(
     sink: &mut K,
     gate: &G,
 ) -> Outcome
-    ensures answers { Answers (meaning_of (map string_bytes words.now))
+    ensures answers { Answers (order_of (map string_bytes words.now))
         (ends S.left S.faults source.old source.new K.told K.faults sink.old sink.new) result }
-    ensures complete { IsComplete (meaning_of (map string_bytes words.now))
+    ensures complete { IsComplete (order_of (map string_bytes words.now))
         (ends S.left S.faults source.old source.new K.told K.faults sink.old sink.new) result }
 {
-    match meaning(alloc, words) {
-        Ok(Command::Run(options)) => run_source(rt, alloc, &options, source, sink, gate),
-        Ok(Command::Assemble) => without_run(work(alloc, Job::Assemble, source, sink)),
-        Ok(Command::Convert) => without_run(work(alloc, Job::Convert, source, sink)),
-        Ok(Command::Disassemble) => without_run(work(alloc, Job::List, source, sink)),
-        Ok(Command::Check(vecbase)) => {
-            without_run(work(alloc, Job::Check(vecbase), source, sink))
+    match order_in(alloc, words) {
+        Ok(Order::Run(wanted, options)) => {
+            run_source(rt, alloc, wanted, &options, source, sink, gate)
         }
-        Ok(Command::Generate(number)) => generate(rt, alloc, number, sink, gate),
+        Ok(Order::Generate(number)) => generate(rt, alloc, number, sink, gate),
+        Ok(Order::Work(job)) => without_run(work(alloc, &job, source, sink)),
         Err(refusal) => without_run(status_of(refusal)),
     }
 }

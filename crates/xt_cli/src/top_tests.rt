@@ -144,7 +144,8 @@ fn refusals_write_nothing(rt: HostRuntime) -> Result<(), Fail> {
         ("check --vecbase 0x40080010", 64, 0, Status::Usage(7)),
         ("gen x", 64, 0, Status::Usage(4)),
         ("run --stack1 0:256", 64, 0, Status::Usage(8)),
-        ("record", 64, 0, Status::Unbuilt),
+        ("record --turns0 4000001", 64, 0, Status::Usage(5)),
+        ("replay jump", 64, 0, Status::Usage(9)),
     ];
     for (words, place, byte, status) in rows {
         let image = letter_but(rt.alloc(), place, byte)?;

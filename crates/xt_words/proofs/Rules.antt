@@ -6,7 +6,7 @@ use Rattle.clap.specs.Words.{Row, Text, first_of}
 use Rattle.xt_map.specs.Regions.{region_of, is_executable}
 use Rattle.xt_trace.specs.Validity.{IsValid, IsValidStack, most_turns}
 use Rattle.xt_trace.specs.declared.options.Stack.{Stack}
-use Rattle.xt_words.specs.Options.{AcceptsValid, OptionsNeedNoMemory, by_rows, first_broken, is_entry, is_stack, judged, options_in, record_app, run_app, run_options_of, said_or, texts_of, unless_broken}
+use Rattle.xt_words.specs.Options.{AcceptsValid, OptionsNeedNoMemory, by_rows, first_broken, is_entry, is_stack, judged, options_in, record_app, record_options_of, run_app, run_options_of, said_or, texts_of, unless_broken}
 use Rattle.xt_words.specs.Arguments.{check_app, gen_app, generator_number_of, judged_number, judged_vecbase, number_by, number_in, vecbase_by, vecbase_of}
 use Rattle.xt_words.specs.Meaning.{NeedsNoMemory, command_with, meaning_by, named, without_options}
 use Rattle.xt_words.specs.Numbers.{number_of}
@@ -70,8 +70,10 @@ meaning_by-answers (Some name.Convert) words = without_options-answers _ _
 meaning_by-answers (Some name.Disassemble) words = without_options-answers _ _
 meaning_by-answers (Some name.Check) words = command_with-answers command.Check (vecbase_of words) (vecbase_by-answers (rows_by check_app words))
 meaning_by-answers (Some name.Run) words = command_with-answers command.Run (run_options_of words) (need_no_memory words).0
+meaning_by-answers (Some name.Record) words = command_with-answers command.Record (record_options_of words) (need_no_memory words).1
+meaning_by-answers (Some name.Replay) words = λ e. search (rules, e)
+meaning_by-answers (Some name.Migrate) words = without_options-answers _ _
 meaning_by-answers (Some name.Generate) words = command_with-answers command.Generate (generator_number_of words) (number_by-answers (rows_by gen_app words))
-meaning_by-answers (Some name.Planned) words = λ e. search (rules, e)
 
 pub meaning_needs_none : NeedsNoMemory
 meaning_needs_none [] = λ e. search (rules, e)

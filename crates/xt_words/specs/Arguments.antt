@@ -1,4 +1,4 @@
--- What the words of `check` and `gen` say ('profile').
+-- What the words of `check`, `gen` and `replay` say ('profile').
 use Rattle.std.specs.Prelude.{◌≡◌, ℕ, ◌%◌, true, ◌==◌, List, Option, Some, None, Result, Ok, Err, if◌then◌else◌, codes, option_and_then}
 use Rattle.clap.specs.Words.{App, Row, Rule, Text, first_of, new_app, new_rule, with_rule}
 use Rattle.xt_words.specs.Numbers.{number_of}
@@ -53,3 +53,20 @@ number_by (Some rows) = judged_number (number_in (first_of (codes "number") rows
 -- the number that the words of `gen` say, or the first rule of usage that they break
 abbrev pub generator_number_of : List Text → Result ℕ Refusal
 generator_number_of words = number_by (rows_by gen_app words)
+
+-- ---- replay SCRIPT
+
+abbrev pub replay_app : App
+replay_app = with_rule (new_app (codes "replay")) (positional_rule (codes "script"))
+
+abbrev pub given_text : Option Text → Result Text Refusal
+given_text None = Err (refusal.Usage 3)
+given_text (Some text) = Ok text
+
+abbrev pub script_text_by : Option (List Row) → Result Text Refusal
+script_text_by None = Err (refusal.Usage 3)
+script_text_by (Some rows) = given_text (first_of (codes "script") rows)
+
+-- the text of the script that the words of `replay` have, or the rule of usage that they break
+abbrev pub script_text_of : List Text → Result Text Refusal
+script_text_of words = script_text_by (rows_by replay_app words)

@@ -4,7 +4,7 @@ use Rattle.std.specs.Prelude.{◌≢◌, List, [], ◌∷◌, Option, Some, None
 use Rattle.std.specs.Str.{bytes_eq}
 use Rattle.clap.specs.Words.{Row, Text, new_app}
 use Rattle.xt_words.specs.Simple.{rows_by}
-use Rattle.xt_words.specs.Options.{AreValid, run_options_of}
+use Rattle.xt_words.specs.Options.{AreValid, record_options_of, run_options_of}
 use Rattle.xt_words.specs.Arguments.{IsVecbase, generator_number_of, vecbase_of}
 use Rattle.xt_words.specs.declared.command.Command.{Command}
 use Rattle.xt_words.specs.declared.command.Command.TheVariants as command
@@ -22,8 +22,9 @@ names =
     ∷ (codes "dis", name.Disassemble)
     ∷ (codes "check", name.Check)
     ∷ (codes "run", name.Run)
-    ∷ (codes "record", name.Planned)
-    ∷ (codes "replay", name.Planned)
+    ∷ (codes "record", name.Record)
+    ∷ (codes "replay", name.Replay)
+    ∷ (codes "migrate", name.Migrate)
     ∷ (codes "gen", name.Generate)
     ∷ []
 
@@ -51,6 +52,9 @@ check_meaning_of words = command_with command.Check (vecbase_of words)
 abbrev pub run_meaning_of : List Text → Result Command Refusal
 run_meaning_of words = command_with command.Run (run_options_of words)
 
+abbrev pub record_meaning_of : List Text → Result Command Refusal
+record_meaning_of words = command_with command.Record (record_options_of words)
+
 abbrev pub gen_meaning_of : List Text → Result Command Refusal
 gen_meaning_of words = command_with command.Generate (generator_number_of words)
 
@@ -64,10 +68,14 @@ meaning_by (Some name.Disassemble) words =
     without_options command.Disassemble (rows_by (new_app (codes "dis")) words)
 meaning_by (Some name.Check) words = check_meaning_of words
 meaning_by (Some name.Run) words = run_meaning_of words
+meaning_by (Some name.Record) words = record_meaning_of words
+meaning_by (Some name.Replay) words = Ok command.Replay
+meaning_by (Some name.Migrate) words =
+    without_options command.Migrate (rows_by (new_app (codes "migrate")) words)
 meaning_by (Some name.Generate) words = gen_meaning_of words
-meaning_by (Some name.Planned) words = Err refusal.Unbuilt
 
--- the command with its options that the words say, or why they say none
+-- the command with its options that the words say, or why they say none; the words behind `replay` are
+-- judged by themselves
 abbrev pub meaning_of : List Text → Result Command Refusal
 meaning_of [] = Err (refusal.Usage 1)
 meaning_of (word ∷ rest) = meaning_by (named word) (word ∷ rest)
@@ -76,6 +84,7 @@ meaning_of (word ∷ rest) = meaning_by (named word) (word ∷ rest)
 abbrev pub HasValidOptions : Command → Type 0
 HasValidOptions (command.Check vecbase) = IsVecbase vecbase
 HasValidOptions (command.Run options) = AreValid options
+HasValidOptions (command.Record options) = AreValid options
 HasValidOptions _ = Unit {0}
 
 -- the words of these commands are read by clap, which takes memory
@@ -85,6 +94,8 @@ TakesMemory (Some name.Convert) = Unit {0}
 TakesMemory (Some name.Disassemble) = Unit {0}
 TakesMemory (Some name.Check) = Unit {0}
 TakesMemory (Some name.Run) = Unit {0}
+TakesMemory (Some name.Record) = Unit {0}
+TakesMemory (Some name.Migrate) = Unit {0}
 TakesMemory (Some name.Generate) = Unit {0}
 TakesMemory _ = ⊥
 

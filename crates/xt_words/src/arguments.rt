@@ -1,11 +1,11 @@
-//! The words of `check` and `gen`.
+//! The words of `check`, `gen` and `replay`.
 ghost use Rattle.std.specs.Prelude.{◌≡◌, IfOk, map, string_bytes, option_map};
-ghost use Rattle.xt_words.specs.Answers.{Means};
-ghost use Rattle.xt_words.specs.Arguments.{IsVecbase, generator_number_of, judged_number, judged_vecbase, number_in, vecbase_of};
+ghost use Rattle.xt_words.specs.Answers.{Means, MeansAs};
+ghost use Rattle.xt_words.specs.Arguments.{IsVecbase, generator_number_of, judged_number, judged_vecbase, number_in, script_text_of, vecbase_of};
 
 use crate::command::Refusal;
 use crate::numbers::number;
-use crate::option_commands::{check_matches, generator_matches, text_of};
+use crate::option_commands::{check_matches, generator_matches, replay_matches, text_of};
 use crate::option_words::{DEFAULT_VECBASE, number_or};
 use std::alloc::Global;
 
@@ -54,4 +54,15 @@ pub fn generator_number(alloc: Global, words: &[String]) -> Result<u32, Refusal>
 {
     let matches = generator_matches(alloc, words)?;
     number_from(text_of(&matches, "number"))
+}
+
+/// The text of the script that the words of `replay` have, the first of which stands for the command.
+///
+/// The words are read as a simple command of `clap` with one text that must be there. `Usage(3)` says that they do not
+/// match. `Memory` is too little memory alone.
+pub fn script_text<'a>(alloc: Global, words: &'a [String]) -> Result<&'a str, Refusal>
+    ensures { MeansAs (λ t. t.now) result (script_text_of (map string_bytes words.now)) }
+{
+    let matches = replay_matches(alloc, words)?;
+    text_of(&matches, "script").ok_or(Refusal::Usage(3))
 }

@@ -17,6 +17,12 @@ pub enum Command {
     Check(u32),
     /// `run`: runs an image, with these options.
     Run(RunOptions),
+    /// `record`: runs an image, with these options, and writes the run's recording.
+    Record(RunOptions),
+    /// `replay`: runs a script over a recording. `script_text` says its text, or that there is none.
+    Replay,
+    /// `migrate`: writes a recording again, in version 2.
+    Migrate,
     /// `gen`: runs the image that is made from this number.
     Generate(u32),
 }
@@ -26,10 +32,9 @@ pub enum Command {
 pub enum Refusal {
     /// The number of the first rule of usage that the words break:
     /// 1 there is no word, 2 the command is unknown, 3 the further words do not match what the command takes, 4 to 8 a
-    /// text of theirs is refused (`run_options`, `check_vecbase` and `generator_number` say which is which).
+    /// text of theirs is refused (`run_options`, `check_vecbase` and `generator_number` say which is which). Further
+    /// numbers are those of callers.
     Usage(u8),
-    /// The command is not there yet.
-    Unbuilt,
     /// There was too little memory to read the words.
     Memory,
 }
@@ -55,8 +60,12 @@ pub enum Name {
     Check,
     /// `run`
     Run,
+    /// `record`
+    Record,
+    /// `replay`
+    Replay,
+    /// `migrate`
+    Migrate,
     /// `gen`
     Generate,
-    /// `record` and `replay`, which are not there yet.
-    Planned,
 }

@@ -14,7 +14,7 @@ mod options;
 mod simple;
 mod words;
 
-pub use arguments::{check_vecbase, generator_number};
+pub use arguments::{check_vecbase, generator_number, script_text};
 pub use command::{Command, Refusal};
 pub use laws::{meaning_needs_no_memory, options_need_no_memory, valid_options_are_accepted};
 pub use numbers::number;

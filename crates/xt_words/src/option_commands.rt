@@ -1,8 +1,8 @@
-//! The simple commands of `clap` that read the words of `run`, `record`, `check` and `gen`.
+//! The simple commands of `clap` that read the words of `run`, `record`, `check`, `gen` and `replay`.
 ghost use Rattle.std.specs.Prelude.{◌≡◌, IfOk, map, string_bytes, option_map, fold, codes};
 ghost use Rattle.clap.specs.Words.{app_of, first_of, found_of, new_app, rows_of, with_rule};
 ghost use Rattle.xt_words.specs.Simple.{Matches, rows_by};
-ghost use Rattle.xt_words.specs.Arguments.{check_app, gen_app, positional_rule};
+ghost use Rattle.xt_words.specs.Arguments.{check_app, gen_app, positional_rule, replay_app};
 ghost use Rattle.xt_words.specs.Options.{flag_rule, is_set, option_names, record_app, run_app, texts_of, with_option};
 ghost use Rattle.xt_words.specs.Views.{texts_in};
 
@@ -110,6 +110,20 @@ pub fn generator_matches<'a>(alloc: Global, words: &'a [String]) -> Result<ArgMa
     ensures { Matches result (rows_by gen_app (map string_bytes words.now)) }
 {
     matches_by(generator_command(alloc)?, words)
+}
+
+// The command `replay` with its script.
+fn replay_command<'a>(alloc: Global) -> Result<Command<'a>, AllocError>
+    ensures { IfOk result (λ c. app_of c ≡ replay_app) }
+{
+    with_positional(alloc, Command::new(alloc, "replay"), "script")
+}
+
+/// What `clap` matches on the words of `replay`.
+pub fn replay_matches<'a>(alloc: Global, words: &'a [String]) -> Result<ArgMatches<'a>, Refusal>
+    ensures { Matches result (rows_by replay_app (map string_bytes words.now)) }
+{
+    matches_by(replay_command(alloc)?, words)
 }
 
 /// The text of an option or of a positional.

@@ -1,11 +1,9 @@
 //! The options of `run` and `record`, and the rules that they keep.
 ghost use Rattle.std.specs.Prelude.{◌≡◌, IfOk};
-ghost use Rattle.xt_map.specs.Regions.{region_of, is_executable};
 ghost use Rattle.xt_words.specs.Options.{AreValid, checked, is_entry, is_stack, with_entry};
 
 use crate::command::Refusal;
-use xt_map::region;
-use xt_map::regions::Region;
+use xt_map::can_execute_at;
 use xt_trace::{Options, Stack};
 
 /// The most turns that a core may have.
@@ -46,21 +44,12 @@ impl RunOptions {
     }
 }
 
-fn is_executable_address(address: u32) -> bool
-    ensures { result ≡ is_executable (region_of address) }
-{
-    matches!(
-        region(address),
-        Some(Region::Iram | Region::RtcFastCode | Region::Irom)
-    )
-}
-
 // No address is given, or it lies in an executable region.
 fn is_good_entry(address: Option<u32>) -> bool
     ensures { result ≡ is_entry address }
 {
     match address {
-        Some(address) => is_executable_address(address),
+        Some(address) => can_execute_at(address),
         None => true,
     }
 }

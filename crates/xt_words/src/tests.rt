@@ -1,4 +1,4 @@
-use crate::{Command, Refusal, RunOptions, meaning, record_options};
+use crate::{Command, Refusal, RunOptions, meaning, script_text};
 use std::alloc::Global;
 use std::test::Fail;
 use xt_trace::Stack;
@@ -54,6 +54,8 @@ fn words_and_meanings(rt: HostRuntime) -> Result<(), Fail> {
         ("dis help", Err(Refusal::Usage(3))),
         ("dis -", Err(Refusal::Usage(3))),
         ("dis ", Err(Refusal::Usage(3))),
+        ("migrate", Ok(Command::Migrate)),
+        ("migrate --turns0 1", Err(Refusal::Usage(3))),
         ("check --trace", Err(Refusal::Usage(3))),
         // a number
         ("gen 1", Ok(Command::Generate(1))),
@@ -66,13 +68,30 @@ fn words_and_meanings(rt: HostRuntime) -> Result<(), Fail> {
         ("gen ", Err(Refusal::Usage(4))),
         ("gen 4294967296", Err(Refusal::Usage(4))),
         ("gen x", Err(Refusal::Usage(4))),
-        // commands that are not there yet
-        ("record --turns0 10 --turns1 0", Err(Refusal::Unbuilt)),
-        ("replay jump", Err(Refusal::Unbuilt)),
+        // a script, whose words are read by themselves
+        ("replay", Ok(Command::Replay)),
     ];
     for (line, answer) in rows {
         let words = words_of(alloc, line)?;
         assert_eq!(rt; meaning(alloc, &words), answer, "{line:?}");
+    }
+    Ok(())
+}
+
+#[test]
+fn words_and_scripts(rt: HostRuntime) -> Result<(), Fail> {
+    let alloc = rt.alloc();
+    let rows = [
+        ("replay jump", Ok("jump")),
+        ("replay ", Ok("")),
+        ("replay -- -1", Ok("-1")),
+        ("replay", Err(Refusal::Usage(3))),
+        ("replay go 0 3", Err(Refusal::Usage(3))),
+        ("replay --script jump", Err(Refusal::Usage(3))),
+    ];
+    for (line, answer) in rows {
+        let words = words_of(alloc, line)?;
+        assert_eq!(rt; script_text(alloc, &words), answer, "{line:?}");
     }
     Ok(())
 }
@@ -178,9 +197,17 @@ fn words_and_options(rt: HostRuntime) -> Result<(), Fail> {
         };
         assert_eq!(rt; meaning(alloc, &words), meant, "{line:?}");
     }
-    let words = words_of(alloc, "record --turns0 4000000")?;
-    assert_eq!(rt; record_options(alloc, &words), Ok(most));
-    let words = words_of(alloc, "record --trace")?;
-    assert_eq!(rt; record_options(alloc, &words), Err(Refusal::Usage(3)));
+    let rows = [
+        ("record", Ok(Command::Record(plain))),
+        ("record --turns0 4000000", Ok(Command::Record(most))),
+        ("record --trace", Err(Refusal::Usage(3))),
+        ("record --turns1 x", Err(Refusal::Usage(4))),
+        ("record --turns1 4000001", Err(Refusal::Usage(5))),
+        ("record --entry1 0 --vecbase 1", Err(Refusal::Usage(6))),
+    ];
+    for (line, answer) in rows {
+        let words = words_of(alloc, line)?;
+        assert_eq!(rt; meaning(alloc, &words), answer, "{line:?}");
+    }
     Ok(())
 }

@@ -1,11 +1,11 @@
 ghost use Rattle.std.specs.Prelude.{◌≡◌, IfOk, map, string_bytes};
 ghost use Rattle.xt_words.specs.Answers.{Means};
-ghost use Rattle.xt_words.specs.Meaning.{HasValidOptions, MayWantMemory, check_meaning_of, gen_meaning_of, meaning_of, named, run_meaning_of};
+ghost use Rattle.xt_words.specs.Meaning.{HasValidOptions, MayWantMemory, check_meaning_of, gen_meaning_of, meaning_of, named, record_meaning_of, run_meaning_of};
 ghost use Rattle.xt_words.specs.declared.command.Refusal.TheVariants.{Memory};
 
 use crate::arguments::{check_vecbase, generator_number};
 use crate::command::{Command, Name, Refusal};
-use crate::option_words::run_options;
+use crate::option_words::{record_options, run_options};
 use crate::simple::without_options_meaning;
 use std::alloc::Global;
 
@@ -19,8 +19,10 @@ fn name_of(word: &str) -> Option<Name>
         "dis" => Some(Name::Disassemble),
         "check" => Some(Name::Check),
         "run" => Some(Name::Run),
+        "record" => Some(Name::Record),
+        "replay" => Some(Name::Replay),
+        "migrate" => Some(Name::Migrate),
         "gen" => Some(Name::Generate),
-        "record" | "replay" => Some(Name::Planned),
         _ => None,
     }
 }
@@ -32,6 +34,17 @@ fn run_meaning(alloc: Global, words: &[String]) -> Result<Command, Refusal>
 {
     match run_options(alloc, words) {
         Ok(options) => Ok(Command::Run(options)),
+        Err(refusal) => Err(refusal),
+    }
+}
+
+// The command `record` with the options that its words say.
+fn record_meaning(alloc: Global, words: &[String]) -> Result<Command, Refusal>
+    ensures means { Means result (record_meaning_of (map string_bytes words.now)) }
+    ensures valid { IfOk result HasValidOptions }
+{
+    match record_options(alloc, words) {
+        Ok(options) => Ok(Command::Record(options)),
         Err(refusal) => Err(refusal),
     }
 }
@@ -61,12 +74,13 @@ fn gen_meaning(alloc: Global, words: &[String]) -> Result<Command, Refusal>
 /// The command with its options that the words behind the program's name say, or why they say none.
 ///
 /// - No word is `Usage(1)`, and a first word that is no command `Usage(2)`.
-/// - `asm`, `elf` and `dis` take no further word. Other words after them are `Usage(3)`, as far as `clap` does not take
+/// - `asm`, `elf`, `dis` and `migrate` take no further word. Other words after them are `Usage(3)`, as far as `clap` does not take
 ///   them: it takes one that is `--`.
 /// - `check` has the option that `check_vecbase` says, with the rules of usage 3, 4 and 7.
-/// - `run` has the options that `run_options` says, with the rules of usage 3 to 8.
+/// - `run` has the options that `run_options` says, with the rules of usage 3 to 8, and `record` those of
+///   `record_options`, with the same.
 /// - `gen` has the number that `generator_number` says, with the rules of usage 3 and 4.
-/// - `record` and `replay` are `Unbuilt`, whatever follows.
+/// - `replay` is `Replay`, whatever follows: `script_text` reads its words.
 ///
 /// `Memory` is too little memory alone.
 pub fn meaning(alloc: Global, words: &[String]) -> Result<Command, Refusal>
@@ -79,12 +93,16 @@ pub fn meaning(alloc: Global, words: &[String]) -> Result<Command, Refusal>
     };
     match name_of(word.as_str()) {
         None => Err(Refusal::Usage(2)),
-        Some(Name::Planned) => Err(Refusal::Unbuilt),
         Some(Name::Run) => run_meaning(alloc, words),
+        Some(Name::Record) => record_meaning(alloc, words),
         Some(Name::Assemble) => { without_options_meaning(alloc, "asm", Command::Assemble, words) }
         Some(Name::Convert) => without_options_meaning(alloc, "elf", Command::Convert, words),
         Some(Name::Disassemble) => {
             without_options_meaning(alloc, "dis", Command::Disassemble, words)
+        }
+        Some(Name::Replay) => Ok(Command::Replay),
+        Some(Name::Migrate) => {
+            without_options_meaning(alloc, "migrate", Command::Migrate, words)
         }
         Some(Name::Check) => check_meaning(alloc, words),
         Some(Name::Generate) => gen_meaning(alloc, words),

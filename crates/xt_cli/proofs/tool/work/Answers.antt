@@ -16,12 +16,12 @@ returns-in-Err-clause-answers g c =
       sink_faults = g.K.Sink.faults c.args.sink.now;
       sink_faults_after = g.K.Sink.faults c.args.sink.now;
     } in
-    refuses c.args.job e c.in-Err.status (keeps_same (g.K.Sink.told c.args.sink.now)) (record {
+    refuses c.args.job.now e c.in-Err.status (keeps_same (g.K.Sink.told c.args.sink.now)) (record {
       input = c.in-Ok.input.items;
       taken = c.in-Ok.ensures.whole;
       end = c.in-Ok.ensures.end;
       within = let Q : ℕ → Type 0 = λ n. length c.in-Ok.input.items ≤ n in subst Q c.limit_of-limit.ensures c.in-Ok.ensures.within;
-      is = λ caused. ap (refusal_of c.args.job) (sym c.deref.ensures.value) ∙ c.in-Err.ensures.refused caused;
+      is = λ caused. ap (refusal_of c.args.job.now) (sym c.deref.ensures.value) ∙ c.in-Err.ensures.refused caused;
     })
 
 pub returns-in-Err-Failed-clause-answers : goal.returns-in-Err-Failed-clause-answers
@@ -33,7 +33,7 @@ returns-in-Err-Failed-clause-answers g c = (
       taken = c.in-Ok.ensures.whole;
       end = c.in-Ok.ensures.end;
       within = let Q : ℕ → Type 0 = λ n. length c.in-Ok.input.items ≤ n in subst Q c.limit_of-limit.ensures c.in-Ok.ensures.within;
-      is = let P : List ℕ → Type 0 = λ input. IsMade c.args.job input c.in-Ok-make.text in subst P c.deref.ensures.value c.in-Ok-make.ensures.ok;
+      is = let P : List ℕ → Type 0 = λ input. IsMade c.args.job.now input c.in-Ok-make.text in subst P c.deref.ensures.value c.in-Ok-make.ensures.ok;
     },
     search rules,
   ),
@@ -48,7 +48,7 @@ returns-clause-answers g c = inr (
     taken = c.in-Ok.ensures.whole;
     end = c.in-Ok.ensures.end;
     within = let Q : ℕ → Type 0 = λ n. length c.in-Ok.input.items ≤ n in subst Q c.limit_of-limit.ensures c.in-Ok.ensures.within;
-    is = let P : List ℕ → Type 0 = λ input. IsMade c.args.job input c.in-Ok-make.text in subst P c.deref.ensures.value c.in-Ok-make.ensures.ok;
+    is = let P : List ℕ → Type 0 = λ input. IsMade c.args.job.now input c.in-Ok-make.text in subst P c.deref.ensures.value c.in-Ok-make.ensures.ok;
   },
   search rules,
 )

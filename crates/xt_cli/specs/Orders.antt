@@ -1,0 +1,58 @@
+-- What the words of the command line ask for ('profile'). A word is the list of its bytes.
+use Rattle.std.specs.Prelude.{ℕ, All, List, Option, Some, None, Result, Ok, Err}
+use Rattle.xt_words.specs.Arguments.{IsVecbase, script_text_of}
+use Rattle.xt_words.specs.Meaning.{meaning_of}
+use Rattle.xt_words.specs.Options.{AreValid}
+use Rattle.xt_words.specs.declared.command.Command.{Command}
+use Rattle.xt_words.specs.declared.command.Command.TheVariants as command
+use Rattle.xt_words.specs.declared.command.Refusal.{Refusal}
+use Rattle.xt_words.specs.declared.command.Refusal.TheVariants as refusal
+use Rattle.xt_debug.specs.declared.script.Command as script
+use Rattle.xt_debug.specs.Grammar.{IsInRange, script_of}
+use Rattle.xt_cli.specs.declared.orders.Order.{Order}
+use Rattle.xt_cli.specs.declared.orders.Order.TheVariants as order
+use Rattle.xt_cli.specs.declared.orders.Wanted.TheVariants as wanted
+use Rattle.xt_cli.specs.declared.tool.Job.{Job}
+use Rattle.xt_cli.specs.declared.tool.Job.TheVariants as job
+
+-- ---- the order
+
+-- `replay` with its script; a text that is no script breaks rule 9 of usage
+abbrev pub scripted : Option (List script.Command) → Result Order Refusal
+scripted None = Err (refusal.Usage 9)
+scripted (Some commands) = Ok (order.Work (job.Replay commands))
+
+unfoldable pub replay_order : Result (List ℕ) Refusal → Result Order Refusal
+replay_order (Err r) = Err r
+replay_order (Ok text) = scripted (script_of text)
+
+-- a command, whose words these are
+abbrev pub order_by : List (List ℕ) → Result Command Refusal → Result Order Refusal
+order_by words (Ok command.Assemble) = Ok (order.Work job.Assemble)
+order_by words (Ok command.Convert) = Ok (order.Work job.Convert)
+order_by words (Ok command.Disassemble) = Ok (order.Work job.List)
+order_by words (Ok (command.Check vecbase)) = Ok (order.Work (job.Check vecbase))
+order_by words (Ok command.Migrate) = Ok (order.Work job.Migrate)
+order_by words (Ok command.Replay) = replay_order (script_text_of words)
+order_by words (Ok (command.Run options)) = Ok (order.Run wanted.Report options)
+order_by words (Ok (command.Record options)) = Ok (order.Run wanted.Recording options)
+order_by words (Ok (command.Generate number)) = Ok (order.Generate number)
+order_by words (Err r) = Err r
+
+-- what the words ask for, or the first rule of usage that they break
+abbrev pub order_of : List (List ℕ) → Result Order Refusal
+order_of words = order_by words (meaning_of words)
+
+-- ---- orders that can be carried out
+
+-- the VECBASE of a command is one, and its script can be run
+abbrev pub IsFit : Job → Type 0
+IsFit (job.Check vecbase) = IsVecbase vecbase
+IsFit (job.Replay commands) = All IsInRange commands
+IsFit _ = Unit {0}
+
+-- the options of a run are valid
+abbrev pub IsFitOrder : Order → Type 0
+IsFitOrder (order.Work j) = IsFit j
+IsFitOrder (order.Run wanted options) = AreValid options
+IsFitOrder (order.Generate number) = Unit {0}

@@ -1,0 +1,66 @@
+//! What the words of the command line ask for.
+ghost use Rattle.std.specs.Prelude.{IfOk, map, string_bytes};
+ghost use Rattle.xt_cli.specs.Orders.{IsFitOrder, order_of, replay_order};
+ghost use Rattle.xt_words.specs.Answers.{Means};
+ghost use Rattle.xt_words.specs.Arguments.{script_text_of};
+
+use crate::tool::Job;
+use std::alloc::Global;
+use xt_debug::{ScriptFault, parse_script};
+use xt_words::{Command, Refusal, RunOptions, meaning, script_text};
+
+/// What is written of a run of an image.
+#[derive(Clone, Copy, Debug, PartialEq, Eq)]
+pub enum Wanted {
+    /// `run`: the report, and where the words ask for them the lines of the traces.
+    Report,
+    /// `record`: the recording.
+    Recording,
+}
+
+/// A command with all that its words say.
+#[derive(Drop)]
+pub enum Order {
+    /// A command whose output is a function of its input.
+    Work(Job),
+    /// A run of an image, with these options.
+    Run(Wanted, RunOptions),
+    /// `gen`: a run of the image that is made from this number.
+    Generate(u32),
+}
+
+// The command `replay` with the script that its words have.
+#[tactic(auto, unfolding(crate::specs::Orders::replay_order))]
+fn replay_order(alloc: Global, words: &[String]) -> Result<Order, Refusal>
+    ensures means { Means result (replay_order (script_text_of (map string_bytes words.now))) }
+    ensures fit { IfOk result IsFitOrder }
+{
+    let text = match script_text(alloc, words) {
+        Ok(text) => text,
+        Err(refusal) => return Err(refusal),
+    };
+    match parse_script(alloc, text) {
+        Ok(script) => Ok(Order::Work(Job::Replay(script))),
+        Err(ScriptFault::Bad) => Err(Refusal::Usage(9)),
+        Err(ScriptFault::Memory) => Err(Refusal::Memory),
+    }
+}
+
+// What the words ask for, or the first rule of usage that they break.
+pub(crate) fn order_in(alloc: Global, words: &[String]) -> Result<Order, Refusal>
+    ensures means { Means result (order_of (map string_bytes words.now)) }
+    ensures fit { IfOk result IsFitOrder }
+{
+    match meaning(alloc, words) {
+        Ok(Command::Assemble) => Ok(Order::Work(Job::Assemble)),
+        Ok(Command::Convert) => Ok(Order::Work(Job::Convert)),
+        Ok(Command::Disassemble) => Ok(Order::Work(Job::List)),
+        Ok(Command::Check(vecbase)) => Ok(Order::Work(Job::Check(vecbase))),
+        Ok(Command::Migrate) => Ok(Order::Work(Job::Migrate)),
+        Ok(Command::Replay) => replay_order(alloc, words),
+        Ok(Command::Run(options)) => Ok(Order::Run(Wanted::Report, options)),
+        Ok(Command::Record(options)) => Ok(Order::Run(Wanted::Recording, options)),
+        Ok(Command::Generate(number)) => Ok(Order::Generate(number)),
+        Err(refusal) => Err(refusal),
+    }
+}
