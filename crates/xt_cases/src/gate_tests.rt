@@ -81,6 +81,7 @@ fn both_cores_meet_in_the_program(rt: HostRuntime) -> Result<(), Fail> {
     let image = hex::decode(alloc, FIFTY_STORES)?;
     for (command, options, starts) in [
         ("run", "--turns0 1000 --turns1 1000", REPORT),
+        ("record", "--turns0 1000 --turns1 1000", "XTRC"),
         ("gen", "1", SUMMARY),
     ] {
         let words = words_with(alloc, command, options).ok_or(AllocError)?;

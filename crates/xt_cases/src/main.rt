@@ -7,8 +7,13 @@
 
 mod cases;
 #[cfg(test)]
+mod damage_tests;
+#[cfg(test)]
 mod gate_tests;
 mod programs;
+#[cfg(test)]
+mod recording_tests;
+mod recordings;
 mod schedules;
 mod verdicts;
 
@@ -36,6 +41,12 @@ fn agrees<R: Files + Threads + Wait + Sync + AllocGlobal>(
     case: &str,
     handlers: &str,
 ) -> Option<bool> {
+    if !words_of(case, "script").is_empty() {
+        return recordings::prints(rt.alloc(), case);
+    }
+    if !words_of(case, "answer").is_empty() {
+        return recordings::agrees(rt.alloc(), case);
+    }
     let program = program_of(rt, case, handlers)?;
     if !words_of(case, "handlers").is_empty() {
         verdicts::checks(rt.alloc(), case, program.as_str())

@@ -1,0 +1,108 @@
+//! Recordings of runs: all the bytes of one, and the checkpoints of another.
+
+use crate::programs::{image_of, words_with};
+use std::alloc::{AllocError, Global};
+use std::sync::Wait;
+use std::test::Fail;
+use std::thread::Threads;
+use xt_cli::{Status, xt_main};
+use xt_image::write;
+use xt_io::{OpenGate, SafeSink, SafeSource};
+use xt_record::RecordFault;
+
+/// An image that sends the letter A and stops, in hexadecimal digits.
+const LETTER: &str = "E901022004040840EE0000000000000000FFFF00000000000004084010000000\
+0000F43F21FFFF32A041324200F0410000000000000000000000000000000017";
+
+/// The recording of its run of at most ten turns of core 0, whose one access is the store of the letter.
+const RECORDED: &str = "585452430200000040000000E901022004040840EE0000000000000000FFFF0000\
+00000000040840100000000000F43F21FFFF32A041324200F041000000000000000000000000000000001\
+70A0000000000000004040840000008400000FF3F0080FF3F0080FF3F0000004001000000\
+000101000000F43F41000000000000000000000000000000";
+
+/// Core 0 does nothing for all of its turns.
+const IDLE: &str = ".seg 0x400D0000\n.entry main\nmain: movi a2, 1\nl: j l\n";
+
+/// Where the first checkpoint of its recording begins.
+const FIRST: usize = 132;
+
+/// How many bytes a checkpoint has.
+const SIZE: usize = 353_152;
+
+/// What the program ends with over these bytes, and what it writes.
+fn answer<R: Threads + Wait + Sync + AllocGlobal>(
+    rt: &R,
+    command: &str,
+    options: &str,
+    bytes: &[u8],
+) -> Result<(Status, SafeSink), AllocError> {
+    let alloc = rt.alloc();
+    let words = words_with(alloc, command, options).ok_or(AllocError)?;
+    let mut source = SafeSource::make(alloc, bytes)?;
+    let mut sink = SafeSink::make(alloc)?;
+    let outcome = xt_main(rt, alloc, &words, &mut source, &mut sink, &OpenGate);
+    Ok((outcome.status, sink))
+}
+
+/// These bytes with one of them changed.
+fn changed(alloc: Global, bytes: &[u8], place: usize, byte: u8) -> Result<Vec<u8>, AllocError> {
+    let mut all = Vec::new(alloc);
+    all.extend_from_slice(bytes)?;
+    if let Some(at) = all.get_mut(place) {
+        *at = byte;
+    }
+    Ok(all)
+}
+
+/// Whether a part stands at a place.
+fn stands_at(bytes: &[u8], place: usize, part: &[u8]) -> bool {
+    place <= bytes.len() && bytes[place..].starts_with(part)
+}
+
+#[test]
+fn recording_of_the_letter_a(rt: HostRuntime) -> Result<(), Fail> {
+    let alloc = rt.alloc();
+    let image = hex::decode(alloc, LETTER)?;
+    let recorded = hex::decode(alloc, RECORDED)?;
+    let (status, sink) = answer(&rt, "record", "--turns0 10 --turns1 0", &image)?;
+    assert_eq!(rt; status, Status::Done);
+    assert_eq!(rt; sink.bytes(), recorded.as_slice());
+    let rows = [
+        (128, 1, Status::Recording(RecordFault::Illegal(0, 1, 0))),
+        (120, 0x42, Status::Recording(RecordFault::Turn(0, 2))),
+        (132, 1, Status::Recording(RecordFault::Short)),
+        (4, 3, Status::Recording(RecordFault::Version(3))),
+    ];
+    for (place, byte, refused) in rows {
+        let (status, sink) = answer(&rt, "migrate", "", &changed(alloc, &recorded, place, byte)?)?;
+        assert_eq!(rt; status, refused);
+        assert_eq!(rt; sink.bytes(), b"".as_slice());
+    }
+    Ok(())
+}
+
+#[test]
+fn recording_with_checkpoints(rt: HostRuntime) -> Result<(), Fail> {
+    let alloc = rt.alloc();
+    let image = image_of(alloc, IDLE).ok_or(AllocError)?;
+    let file = write(alloc, &image)?;
+    let options = "--turns0 300000 --turns1 0";
+    let (status, sink) = answer(&rt, "record", options, file.as_slice())?;
+    assert_eq!(rt; status, Status::Done);
+    let bytes = sink.bytes();
+    assert_eq!(rt; bytes.len(), FIRST + 2 * SIZE);
+    let rows = [
+        (FIRST - 8, [0, 0, 0, 0, 2, 0, 0, 0]),
+        (FIRST, [0, 0, 2, 0, 0, 0, 0, 0]),
+        (FIRST + SIZE, [0, 0, 4, 0, 0, 0, 0, 0]),
+    ];
+    for (place, words) in rows {
+        assert!(rt; stands_at(bytes, place, &words), "{place}");
+    }
+    let (status, _) = answer(&rt, "migrate", "", bytes)?;
+    assert_eq!(rt; status, Status::Done);
+    let wrong = changed(alloc, bytes, FIRST + SIZE + 8, 0xFF)?;
+    let (status, _) = answer(&rt, "migrate", "", &wrong)?;
+    assert_eq!(rt; status, Status::Recording(RecordFault::Checkpoint(1)));
+    Ok(())
+}
