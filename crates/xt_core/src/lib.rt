@@ -6,7 +6,6 @@ mod begun;
 mod cores;
 mod cursor;
 mod ends;
-mod fetch;
 mod record;
 mod replies;
 #[cfg(test)]

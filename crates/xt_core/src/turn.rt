@@ -1,15 +1,15 @@
 ghost use Rattle.std.specs.Prelude.{◌≡◌, ℕ, None};
 ghost use Rattle.xt_map.specs.Memory.{constant_byte};
 ghost use Rattle.xt_rows.specs.Laws.{IsRegister};
-ghost use Rattle.xt_rows.specs.Fetching.{fetched};
+ghost use Rattle.xt_fetch.specs.Fetching.{fetched};
 ghost use Rattle.xt_exec.specs.States.{state_of};
 ghost use Rattle.xt_exec.specs.Turn.{fetched_turn, planned, turn};
 ghost use Rattle.xt_exec.specs.Halves.{IsPlan, at_end};
 ghost use Rattle.xt_core.specs.Turns.{Awaits, IsBegun, head_of, recorded};
 
 use crate::begun::Begun;
-use crate::fetch::{Fetch, instruction_at};
 use crate::record::Head;
+use xt_codec::{Fetch, instruction_at};
 use xt_exec::plans::{Effect, Pending, Plan};
 use xt_exec::{Regs, finish, plan};
 use xt_map::{Access, Constants};

@@ -16,7 +16,8 @@ ghost use Rattle.xt_discipline.specs.Sides.{Begins, IsCallOf, IsFollowed, IsSeen
 
 use crate::accesses::{loads, saves};
 use crate::bytes::{Change, Held, change_bytes};
-use xt_frames::{Breach, Fetch, Frames, instruction_at};
+use xt_codec::{Fetch, instruction_at};
+use xt_frames::{Breach, Frames};
 use xt_isa::Insn;
 use xt_isa::system::{ReturnName, System};
 use xt_map::{Access, Constants, Kind};

@@ -29,12 +29,13 @@ use Rattle.xt_rows.specs.declared.outcome.WindowStep.{WindowStep}
 use Rattle.xt_rows.specs.declared.outcome.WindowStep.TheVariants.{Enters, Returns, EndsOverflow, EndsUnderflow, Rotates, MovesStack, Reads, Sets, Exchanges}
 use Rattle.xt_rows.specs.declared.outcome.Outcome.{Outcome}
 use Rattle.xt_rows.specs.declared.outcome.Outcome.TheVariants.{Does, Raises, Asks, Stops, Windowed}
-use Rattle.xt_rows.specs.Fetching.{Fetched, Fetches, Fails, SpellsNothing, fetched, fetched_past, fetched_length, unfetchable, read_as, can_fetch}
+use Rattle.xt_fetch.specs.Code.{AreBytes}
+use Rattle.xt_fetch.specs.Fetching.{Fetched, Fetches, Fails, SpellsNothing, fetched, fetched_past, fetched_length, unfetchable, read_as, can_fetch}
 use Rattle.xt_rows.specs.Effects.{illegal_instruction, no_caller_window, fetch_error, write_to}
 use Rattle.xt_rows.specs.Operands.{reads, special_reads}
 use Rattle.xt_rows.specs.Outcomes.{outcome_at, value_of}
 use Rattle.xt_rows.specs.Settling.{settled_interrupt, settled_wait, after_flow}
-use Rattle.xt_rows.specs.Laws.{IsWord, IsProper, IsProperStep, IsProperWrite, IsProperAddress, IsShiftAmount, AreBytes}
+use Rattle.xt_rows.specs.Laws.{IsWord, IsProper, IsProperStep, IsProperWrite, IsProperAddress, IsShiftAmount}
 use Rattle.xt_rows.proofs.Bounds.{extended_small}
 use Rattle.xt_rows.proofs.Proper.{outcome_words}
 use Rattle.xt_exec.specs.State.{State, opening_regs, opening_state, prid_of}

@@ -32,7 +32,7 @@ use Rattle.xt_rows.specs.declared.outcome.WindowStep.{WindowStep}
 use Rattle.xt_rows.specs.declared.outcome.WindowStep.TheVariants.{Enters, Returns, EndsOverflow, EndsUnderflow, Rotates, MovesStack, Reads, Sets, Exchanges}
 use Rattle.xt_rows.specs.declared.outcome.Outcome.{Outcome}
 use Rattle.xt_rows.specs.declared.outcome.Outcome.TheVariants.{Windowed}
-use Rattle.xt_rows.specs.Fetching.{Fetched, Fetches, Fails, SpellsNothing, fetched}
+use Rattle.xt_fetch.specs.Fetching.{Fetched, Fetches, Fails, SpellsNothing, fetched}
 use Rattle.xt_rows.specs.Operands.{named}
 use Rattle.xt_rows.specs.Effects.{illegal_instruction, fetch_error, no_caller_window, write_to}
 use Rattle.xt_rows.specs.Outcomes.{outcome_at}

@@ -1,7 +1,7 @@
 ghost use Rattle.std.specs.Prelude.{◌≡◌, true, None};
 ghost use Rattle.xt_isa.specs.Ranges.{in_range};
 ghost use Rattle.xt_map.specs.Memory.{constant_byte};
-ghost use Rattle.xt_rows.specs.Fetching.{Fetches};
+ghost use Rattle.xt_fetch.specs.Fetching.{Fetches};
 ghost use Rattle.xt_rows.specs.Laws.{IsAny, IsProperWrite, IsRegister};
 ghost use Rattle.xt_rows.specs.Settling.{written};
 ghost use Rattle.xt_exec.specs.States.{state_of};

@@ -4,7 +4,7 @@ ghost use Rattle.xt_map.specs.Memory.{constant_byte};
 ghost use Rattle.xt_special.specs.Control.{special_of};
 ghost use Rattle.xt_window.specs.Ring.{ahead, visible};
 ghost use Rattle.xt_rows.specs.Effects.{unchanged};
-ghost use Rattle.xt_rows.specs.Fetching.{Fetches};
+ghost use Rattle.xt_fetch.specs.Fetching.{Fetches};
 ghost use Rattle.xt_rows.specs.Laws.{AsksWith, IsAny, IsProper, IsProperAwaited, IsRegister};
 ghost use Rattle.xt_rows.specs.Outcomes.{outcome_at, value_of};
 ghost use Rattle.xt_exec.specs.States.{state_of};

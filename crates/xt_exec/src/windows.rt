@@ -9,7 +9,7 @@ ghost use Rattle.xt_exec.specs.Steps.{WritesRegister, turn_of};
 
 use crate::regs::Regs;
 use crate::step::{Step, quiet};
-use xt_rows::{WindowRegister, WindowStep, Write};
+use xt_rows::{WindowRegister, WindowStep, Write, cause};
 use xt_trace::StepKind;
 use xt_window::ring::{bit, with_bit, without_bit};
 use xt_window::{Overflow, Windows};
@@ -87,7 +87,7 @@ impl<W: Windows> Regs<W> {
         ensures registers { WritesRegister result }
     {
         if self.win.behind() == 0 {
-            return self.raised(5, None);
+            return self.raised(cause::NO_CALLER_WINDOW, None);
         }
         self.falls(len);
         quiet(StepKind::Insn, Some(Write { number, value }))

@@ -7,16 +7,17 @@ use Rattle.xt_map.specs.declared.access.Access.{Access}
 use Rattle.xt_special.specs.Control.{Control}
 use Rattle.xt_special.specs.Interrupts.{pending_of}
 use Rattle.xt_trace.specs.declared.record.StepRecord.{StepRecord}
-use Rattle.xt_rows.specs.Fetching.{Fetched, Fetches, fetched}
-use Rattle.xt_frames.specs.declared.fetch.Fetch.{Fetch}
-use Rattle.xt_frames.specs.declared.fetch.Fetch.TheVariants as fetch
+use Rattle.xt_fetch.specs.Fetching.{Fetched, Fetches, fetched}
+use Rattle.xt_codec.specs.declared.fetch.Fetch.{Fetch}
+use Rattle.xt_codec.specs.declared.fetch.Fetch.TheVariants as fetch
+use Rattle.xt_codec.specs.Fetches.{IsFetched}
 use Rattle.xt_frames.specs.declared.view.Plan.{Plan}
 use Rattle.xt_frames.specs.declared.view.Plan.TheVariants as plan
 use Rattle.xt_frames.specs.declared.kinds.BreachKind.{BreachKind}
 use Rattle.xt_frames.specs.declared.breach.Tested.{Tested}
 use Rattle.xt_frames.specs.Frames.{FrameState}
 use Rattle.xt_frames.specs.Breaches.{Bounds, test, some_byte, touches_save_area, loads_stale, laid_breach, first_shown, vector_test}
-use Rattle.xt_frames.specs.Parts.{IsFetched, IsPlan}
+use Rattle.xt_frames.specs.Parts.{IsPlan}
 use Rattle.xt_frames.specs.Walked.{shown_test}
 
 pub row : {A : Type 0} {x y : A} {xs ys : List A} → x ≡ y → xs ≡ ys → (x ∷ xs) ≡ (y ∷ ys)

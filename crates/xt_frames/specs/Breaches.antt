@@ -26,7 +26,7 @@ use Rattle.xt_trace.specs.declared.record.StepKind.TheVariants as kind
 use Rattle.xt_trace.specs.declared.record.RegWrite.{RegWrite}
 use Rattle.xt_trace.specs.declared.record.StepRecord.{StepRecord}
 use Rattle.xt_rows.specs.declared.outcome.Write.{Write}
-use Rattle.xt_rows.specs.Fetching.{Fetched, Fetches, Fails, SpellsNothing, fetched}
+use Rattle.xt_fetch.specs.Fetching.{Fetched, Fetches, Fails, SpellsNothing, fetched}
 use Rattle.xt_rows.specs.Numbers.{minus, natural}
 use Rattle.xt_rows.specs.Operands.{reads, special_reads, named}
 unfoldable pub use Rattle.xt_rows.specs.Kinds.{is_return, is_movsp, is_windowing, names_window_register, sets_epc1}

@@ -9,7 +9,7 @@ use Rattle.xt_isa.specs.declared.system.ReturnName.TheVariants as ReturnName
 use Rattle.xt_trace.specs.declared.record.StepKind.{StepKind}
 use Rattle.xt_trace.specs.declared.record.StepKind.TheVariants as kind
 use Rattle.xt_trace.specs.declared.record.StepRecord.{StepRecord}
-use Rattle.xt_rows.specs.Fetching.{Fetched, Fetches, Fails, SpellsNothing, fetched}
+use Rattle.xt_fetch.specs.Fetching.{Fetched, Fetches, Fails, SpellsNothing, fetched}
 
 -- The mode before a record: in the plain mode a record of kind Window is a handler step, in the other
 -- each record is one.

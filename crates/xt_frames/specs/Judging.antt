@@ -1,7 +1,7 @@
 -- The judge's view of one core ('profile'): a walk over its records, by the frame states alone.
 use Rattle.std.specs.Prelude.{ℕ, Bool, true, false, ◌||◌, if◌then◌else◌, Option, Some, None}
 use Rattle.xt_trace.specs.declared.record.StepRecord.{StepRecord}
-use Rattle.xt_rows.specs.Fetching.{fetched}
+use Rattle.xt_fetch.specs.Fetching.{fetched}
 use Rattle.xt_frames.specs.declared.kinds.BreachKind.{BreachKind}
 use Rattle.xt_frames.specs.Frames.{FrameState}
 use Rattle.xt_frames.specs.FrameStep.{FrameTurn, laid, frame_step}

@@ -1,13 +1,10 @@
 -- Carries a proof; nothing that a reader must believe.
 -- How the program keeps a frame state, and what its functions answer.
-use Rattle.std.specs.Prelude.{◌≡◌, ℕ, ◌+◌, ◌*◌, ◌<◌, ◌≤◌, ◌^◌, true, false, Option, Some, None, List, [], ◌∷◌, map, reverse, take}
-use Rattle.xt_isa.specs.Ranges.{in_range}
-use Rattle.xt_isa.specs.Spelling.{spelled, fields_at, length_of}
+use Rattle.std.specs.Prelude.{◌≡◌, ℕ, ◌*◌, ◌<◌, ◌≤◌, ◌^◌, true, false, Option, Some, None, List, [], ◌∷◌, map, reverse, take}
 use Rattle.xt_special.specs.Control.{Control}
 use Rattle.xt_special.specs.Interrupts.{pending_of}
-use Rattle.xt_rows.specs.Fetching.{Fetched, Fetches, Fails, SpellsNothing, fetched, read_as}
-use Rattle.xt_frames.specs.declared.fetch.Fetch.{Fetch}
-use Rattle.xt_frames.specs.declared.fetch.Fetch.TheVariants as fetch
+use Rattle.xt_fetch.specs.Fetching.{fetched}
+use Rattle.xt_codec.specs.Fetches.{IsFetched, IsGoodFetch}
 use Rattle.xt_frames.specs.declared.view.Caller.{Caller}
 use Rattle.xt_frames.specs.declared.view.Call.{Call}
 use Rattle.xt_frames.specs.declared.view.Call.TheVariants.{Stays, Calls, Returns}
@@ -16,24 +13,6 @@ use Rattle.xt_frames.specs.declared.view.Plan.{Plan}
 use Rattle.xt_frames.specs.declared.view.Plan.TheVariants as plan
 use Rattle.xt_frames.specs.Frames.{Frame, FrameState}
 use Rattle.xt_frames.specs.FrameStep.{FrameTurn}
-
--- ---- fetching
-
--- what a fetch answers; an instruction has its operands in their ranges
-abbrev pub IsFetched : Fetch → Fetched → Type 0
-IsFetched (fetch.Insn i len) f = (f ≡ Fetches i len) × (in_range i ≡ true)
-IsFetched (fetch.Fails address) f = f ≡ Fails address
-IsFetched fetch.Nothing f = f ≡ SpellsNothing
-
--- an instruction that is fetched has its operands in their ranges
-abbrev pub IsGoodFetch : Fetch → Type 0
-IsGoodFetch (fetch.Insn i len) = in_range i ≡ true
-IsGoodFetch (fetch.Fails address) = Unit {0}
-IsGoodFetch fetch.Nothing = Unit {0}
-
--- what the bytes at an address spell
-abbrev pub read_at : (ℕ → ℕ) → ℕ → Fetched
-read_at code pc = read_as (spelled (fields_at (code pc) (code (pc + 1)) (code (pc + 2)))) (length_of (code pc))
 
 -- ---- a frame state is kept as a view and the callers, the oldest first
 

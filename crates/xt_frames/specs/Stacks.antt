@@ -4,7 +4,7 @@ use Rattle.xt_isa.specs.declared.Insn.{Insn}
 use Rattle.xt_isa.specs.Ranges.{in_range}
 use Rattle.xt_special.specs.Interrupts.{pending_of}
 use Rattle.xt_trace.specs.declared.record.StepRecord.{StepRecord}
-use Rattle.xt_rows.specs.Fetching.{Fetches, fetched}
+use Rattle.xt_fetch.specs.Fetching.{Fetches, fetched}
 use Rattle.xt_rows.specs.Numbers.{minus}
 use Rattle.xt_frames.specs.FrameStep.{laid_step}
 use Rattle.xt_frames.specs.Frames.{Frame, FrameState, known, seen_after_call, seen_after_return}

@@ -4,7 +4,6 @@
 
 mod breach;
 mod callers;
-mod fetch;
 mod frames;
 mod kinds;
 mod registers;
@@ -12,6 +11,5 @@ mod registers;
 mod tests;
 mod view;
 
-pub use fetch::{Fetch, instruction_at};
 pub use frames::Frames;
 pub use kinds::{Breach, BreachKind, Judged};

@@ -8,7 +8,8 @@ ghost use Rattle.xt_special.specs.Control.{special_of};
 ghost use Rattle.xt_special.specs.Numbers as numbers;
 ghost use Rattle.xt_special.specs.Timers.{ticked};
 ghost use Rattle.xt_rows.specs.Laws.{IsAny, IsProper, IsProperEffect, IsProperSet, IsProperStep, IsProperWrite, IsRegister};
-ghost use Rattle.xt_rows.specs.Fetching.{Fetched};
+ghost use Rattle.xt_fetch.specs.Fetching.{Fetched};
+ghost use Rattle.xt_codec.specs.Fetches.{IsFetched, IsGoodFetch};
 ghost use Rattle.xt_rows.specs.Outcomes.{outcome_at, value_of};
 ghost use Rattle.xt_rows.specs.Settling.{after_effect, after_flow, settled_interrupt, settled_wait, with_set, written};
 ghost use Rattle.xt_rows.specs.declared.outcome.Flow.TheVariants.{Falls};
@@ -16,11 +17,11 @@ ghost use Rattle.xt_frames.specs.Frames.{Frame, known, opening_frame, seen_after
 ghost use Rattle.xt_frames.specs.FrameStep.{done_in_frame, fetched_step, in_frame, laid, laid_step, popped, pushed, raised, windowed_in_frame};
 ghost use Rattle.xt_frames.specs.Breaches.{inputs_of, lacks};
 ghost use Rattle.xt_frames.specs.declared.view.Call.TheVariants.{Stays};
-ghost use Rattle.xt_frames.specs.Parts.{IsFetched, IsGood, IsGoodFetch, IsHeld, IsNewest, IsPlan, IsSmall, state_at, turn_as};
+ghost use Rattle.xt_frames.specs.Parts.{IsGood, IsHeld, IsNewest, IsPlan, IsSmall, state_at, turn_as};
 
-use crate::fetch::{Fetch, instruction_at};
 use crate::registers::{Seen, after_call, after_return, kept_of};
 use std::marker::Model;
+use xt_codec::{Fetch, instruction_at};
 use xt_isa::Insn;
 use xt_map::{Access, Constants};
 use xt_rows::{

@@ -1,8 +1,8 @@
 -- The vectors of the window handlers, and their answers (the offsets of the vectors from VECBASE are
 -- those of the ESP32's configuration; the offset that a vector that fails has is 'profile').
 use Rattle.std.specs.Prelude.{◌≡◌, ℕ, ◌+◌, ◌-◌, ◌*◌, ◌<◌, if◌then◌else◌, List}
-use Rattle.xt_rows.specs.Fetching.{can_fetch}
-use Rattle.xt_rows.specs.Numbers.{code_bytes}
+use Rattle.xt_fetch.specs.Fetching.{can_fetch}
+use Rattle.xt_fetch.specs.Code.{code_bytes}
 use Rattle.xt_stretch.specs.declared.Side.{Side}
 use Rattle.xt_stretch.specs.declared.Side.TheVariants.{Overflow, Underflow}
 use Rattle.xt_stretch.specs.declared.HandlerVerdict.{HandlerVerdict}

@@ -12,8 +12,8 @@ ghost use Rattle.xt_stretch.specs.declared.Side.TheVariants.{Overflow, Underflow
 
 use crate::spelled::step_of;
 use crate::{Evaluation, HandlerVerdict, Handlers, Side, Step};
+use xt_fetch::{code_byte, length_of};
 use xt_map::{Constants, can_execute_at};
-use xt_rows::{code_byte, length_of};
 
 /// A byte of the vector at an address, or 0 beyond it.
 fn byte_at(code: &Constants, at: u32, i: usize) -> u8

@@ -12,7 +12,8 @@ use Rattle.xt_word.specs.Words.{sign_extended}
 use Rattle.xt_alu.specs.Signed.{signed, signed_half, word_of}
 use Rattle.xt_alu.specs.Arithmetic.{addx, subx, mul16u, mul16s, mull, muluh, mulsh, quou, quos, remu, rems, signed_min, signed_max, neg, abs, sext, clamps, nsa, nsau}
 use Rattle.xt_alu.specs.Shifts.{src, srl, sra, sll, slli, srai, srli, extui, ssr, ssl, ssa8l, ssa8b}
-use Rattle.xt_rows.specs.Numbers.{plus, minus, extended, linked, code_number}
+use Rattle.xt_fetch.specs.Code.{code_number}
+use Rattle.xt_rows.specs.Numbers.{plus, minus, extended, linked}
 
 -- ---- sums, products and quotients
 

@@ -2,7 +2,6 @@ pub mod Bounds
 pub mod Proper
 pub mod Registers
 pub mod Fitting
-pub mod Fetches
 pub mod Reading
 pub mod Tied
 pub mod Alone

@@ -64,17 +64,18 @@ use Rattle.xt_special.specs.Access.{value_read, value_kept, changed_by, ps_writt
 use Rattle.xt_special.specs.Shape.{IsPs, CanHold}
 use Rattle.xt_alu.specs.Conditions.{holds}
 use Rattle.xt_alu.specs.declared.conditions.Cond.TheVariants as cond_
+use Rattle.xt_fetch.specs.Code.{AreBytes, code_number}
 use Rattle.xt_rows.specs.declared.outcome.Awaited.{Awaited}
 use Rattle.xt_rows.specs.declared.outcome.Flow.TheVariants.{Falls, Goes}
 use Rattle.xt_rows.specs.declared.outcome.Effect.{Effect}
 use Rattle.xt_rows.specs.declared.outcome.WindowRegister.{WindowRegister}
 use Rattle.xt_rows.specs.declared.outcome.Outcome.{Outcome}
 use Rattle.xt_rows.specs.declared.outcome.Outcome.TheVariants.{Does, Raises, Asks}
-use Rattle.xt_rows.specs.Numbers.{plus, natural, extended, linked, branch_target, address_behind, code_number}
+use Rattle.xt_rows.specs.Numbers.{plus, natural, extended, linked, branch_target, address_behind}
 use Rattle.xt_rows.specs.Operands.{call_size, callx_size}
 use Rattle.xt_rows.specs.Effects.{unchanged, puts, moves, divides, goes, branches, calls, loops, asks, aligned, loads, stores, swaps, special_sets, window_register, reads_special, writes_special, exchanges_special, set_to, write_to, no_set, no_sets, SpecialWrites}
 use Rattle.xt_rows.specs.Outcomes.{three_outcome, shift_outcome, memory_outcome, control_outcome, system_outcome, density_outcome, outcome, sets_sar}
-use Rattle.xt_rows.specs.Laws.{IsWord, IsProperSet, AreProperSets, IsProperFlow, IsProperEffect, IsProperAwaited, IsProper, IsGiven, AreBytes, IsAny}
+use Rattle.xt_rows.specs.Laws.{IsWord, IsProperSet, AreProperSets, IsProperFlow, IsProperEffect, IsProperAwaited, IsProper, IsGiven, IsAny}
 use Rattle.xt_rows.proofs.Bounds.{IsSize, One, Two, Four, addx_small, subx_small, mul16u_small, mul16s_small, mull_small, muluh_small, mulsh_small, quou_small, quos_small, remu_small, rems_small, signed_min_small, signed_max_small, min_small, max_small, and_small, or_small, xor_small, neg_small, abs_small, sext_small, clamps_small, nsa_small, nsau_small, src_small, srl_small, sra_small, sll_small, slli_small, srai_small, srli_small, extui_small, ssr_small, ssl_small, ssa8l_small, ssa8b_small, plus_small, minus_small, linked_small, extended_small, code_number_small}
 
 -- ---- registers that are in their range

@@ -8,6 +8,7 @@ use Rattle.xt_map.specs.Regions.{region_of, is_constant, is_mapped}
 use Rattle.xt_special.specs.declared.ps.Ps.{Ps}
 use Rattle.xt_special.specs.Numbers as number
 use Rattle.xt_special.specs.Access.{is_ccompare, value_read, ps_written, changed_by, value_kept, without_bits, timer_bit}
+use Rattle.xt_fetch.specs.Code.{code_number}
 use Rattle.xt_rows.specs.declared.outcome.Write.{Write}
 use Rattle.xt_rows.specs.declared.outcome.SpecialWrite.{SpecialWrite}
 use Rattle.xt_rows.specs.declared.outcome.Awaited.{Awaited}
@@ -18,7 +19,7 @@ use Rattle.xt_rows.specs.declared.outcome.WindowRegister.TheVariants as window
 use Rattle.xt_rows.specs.declared.outcome.WindowStep.TheVariants.{Reads, Sets, Exchanges}
 use Rattle.xt_rows.specs.declared.outcome.Outcome.{Outcome}
 use Rattle.xt_rows.specs.declared.outcome.Outcome.TheVariants.{Does, Raises, Asks, Windowed}
-use Rattle.xt_rows.specs.Numbers.{minus, extended, address_behind, branch_target, linked, code_number}
+use Rattle.xt_rows.specs.Numbers.{minus, extended, address_behind, branch_target, linked}
 
 -- ---- causes of exceptions (EXCCAUSE)
 

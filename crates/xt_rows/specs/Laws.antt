@@ -7,6 +7,7 @@ use Rattle.xt_map.specs.Regions.{is_mapped}
 use Rattle.xt_special.specs.declared.ps.Ps.{Ps}
 use Rattle.xt_special.specs.Control.{Control, special_of}
 use Rattle.xt_special.specs.Shape.{IsPs, CanHold}
+use Rattle.xt_fetch.specs.Code.{AreBytes}
 use Rattle.xt_rows.specs.declared.outcome.Write.{Write}
 use Rattle.xt_rows.specs.declared.outcome.SpecialWrite.{SpecialWrite}
 use Rattle.xt_rows.specs.declared.outcome.Awaited.{Awaited}
@@ -17,7 +18,6 @@ use Rattle.xt_rows.specs.declared.outcome.WindowStep.{WindowStep}
 use Rattle.xt_rows.specs.declared.outcome.WindowStep.TheVariants.{Enters, Returns, EndsOverflow, EndsUnderflow, Rotates, MovesStack, Reads, Sets, Exchanges}
 use Rattle.xt_rows.specs.declared.outcome.Outcome.{Outcome}
 use Rattle.xt_rows.specs.declared.outcome.Outcome.TheVariants.{Does, Raises, Asks, Stops, Windowed}
-use Rattle.xt_rows.specs.Fetching.{Fetches, fetched}
 use Rattle.xt_rows.specs.Operands.{reads, special_reads, named}
 use Rattle.xt_rows.specs.Effects.{SpecialWrites}
 use Rattle.xt_rows.specs.Outcomes.{outcome, outcome_at}
@@ -122,10 +122,6 @@ pub record IsGiven (i : Insn) (pc x y u v : ℕ) (ps : Ps) (threadptr : ℕ) : T
   pub fields : IsPs ps
   pub threadptr_word : IsWord threadptr
 
--- constant memory is of bytes
-abbrev pub AreBytes : (ℕ → ℕ) → Type 0
-AreBytes code = (a : ℕ) → code a < 2 ^ 8
-
 abbrev pub OutcomesAreProper : Type 0
 OutcomesAreProper =
     (code : ℕ → ℕ) (i : Insn) (pc x y u v : ℕ) (ps : Ps) (threadptr : ℕ)
@@ -134,13 +130,6 @@ OutcomesAreProper =
 -- of a value that is a word by its type nothing need be said
 abbrev pub IsAny : ℕ → Type 0
 IsAny n = Unit {0}
-
--- ---- what is fetched has its operands in their ranges
-
-abbrev pub FetchedIsInRange : Type 0
-FetchedIsInRange =
-    (code : ℕ → ℕ) (pc : ℕ) (i : Insn) (n : ℕ)
-    → AreBytes code → fetched code pc ≡ Fetches i n → in_range i ≡ true
 
 -- ---- an instruction that asks for an access changes nothing else: what is left of its effect is the effect e
 

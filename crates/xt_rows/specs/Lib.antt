@@ -1,5 +1,4 @@
 pub mod Numbers
-pub mod Fetching
 pub mod Operands
 pub mod Effects
 pub mod Outcomes

@@ -4,10 +4,11 @@ ghost use Rattle.xt_map.specs.Regions.{is_size};
 ghost use Rattle.xt_rows.specs.Effects.{asks, branches, calls, exchanges_special, goes, loads, loops, moves, puts, reads_special, set_to, special_sets, stores, swaps, unchanged, window_register, write_to, writes_special};
 
 use crate::cause;
-use crate::numbers::{address_behind, branch_target, code_number, extended, linked, minus};
+use crate::numbers::{address_behind, branch_target, extended, linked, minus};
 use crate::outcome::{
     Awaited, Effect, Flow, Outcome, SpecialWrite, WindowRegister, WindowStep, Write,
 };
+use xt_fetch::code_number;
 use xt_map::{Access, Constants, Kind, is_constant_at, mapped};
 use xt_special::{Ps, number};
 

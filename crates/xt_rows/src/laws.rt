@@ -2,7 +2,7 @@
 #![tactic(auto)]
 
 ghost use Rattle.xt_rows.specs.Kinds.{OutcomesFit, ReadsAreNamed};
-ghost use Rattle.xt_rows.specs.Laws.{FetchedIsInRange, OutcomesAreProper, ReadsOnlyItsRegisters, RegistersExist};
+ghost use Rattle.xt_rows.specs.Laws.{OutcomesAreProper, ReadsOnlyItsRegisters, RegistersExist};
 
 /// A row looks at nothing but the registers that it reads, PC, PS and THREADPTR: where these are
 /// equal, its outcomes are.
@@ -32,9 +32,4 @@ pub fn outcomes_fit_their_instructions()
 /// What an instruction reads is at most the highest register that it names.
 pub fn reads_are_named()
     ensures { ReadsAreNamed }
-{}
-
-/// What is fetched from bytes has its operands in their ranges.
-pub fn fetched_is_in_range()
-    ensures { FetchedIsInRange }
 {}

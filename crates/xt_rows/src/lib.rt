@@ -1,4 +1,4 @@
-//! What instructions do: fetching, and one formula for each row of the instruction table.
+//! What instructions do: one formula for each row of the instruction table.
 //!
 //! The formula of a row takes the values that the row reads and answers an outcome, so that it serves
 //! the processor and a machine with unbounded frames alike.
@@ -8,7 +8,6 @@ pub mod cause;
 mod control;
 mod density;
 mod effects;
-mod fetch;
 pub mod laws;
 mod memory;
 mod numbers;
@@ -20,8 +19,7 @@ mod system;
 mod three;
 pub mod ties;
 
-pub use fetch::{length_of, unfetchable};
-pub use numbers::{code_byte, code_three, extended, literal_address, minus, natural, plus};
+pub use numbers::{extended, literal_address, minus, natural, plus};
 pub use operands::{named, reads, special_reads};
 pub use outcome::{
     Awaited, Effect, Flow, Outcome, SpecialWrite, SpecialWrites, WindowRegister, WindowStep, Write,

@@ -1,7 +1,6 @@
 ghost use Rattle.std.specs.Prelude.{◌≡◌, ℕ, ℤ, ◌<◌, true};
 ghost use Rattle.xt_isa.specs.Ranges.{natural_within, system_in_range};
 ghost use Rattle.xt_isa.specs.declared.system.System.TheVariants as system;
-ghost use Rattle.xt_special.specs.Access.{changed_by, value_kept, value_read, ps_written, timer_bit, without_bits};
 ghost use Rattle.xt_special.specs.Shape.{IsPs};
 ghost use Rattle.xt_rows.specs.Effects.{special_sets};
 ghost use Rattle.xt_rows.specs.Outcomes.{system_outcome};
@@ -14,7 +13,7 @@ use crate::shift::within;
 use xt_isa::system::{
     BreakName, LevelName, ReturnName, SpecialName, SyncName, System, UserName, WaitName,
 };
-use xt_special::{Ps, number};
+use xt_special::{Ps, number, ps_written, timer_bit, value_kept, value_read, without_bits};
 
 #[tactic(auto, unfolding(crate::specs::Outcomes::system_outcome))]
 #[inline(always)]
@@ -93,58 +92,6 @@ fn sets_level(name: LevelName, t: u8, level: i32, e: Effect) -> Outcome
     }
 }
 
-// The value of a special register, of which `u` is the entry in the list.
-#[inline(always)]
-fn value_read(n: u8, u: u32, ps: Ps) -> u32
-    requires { IsPs ps }
-    ensures { result ≡ value_read n u ps }
-{
-    if n == number::PS { ps.word() } else { u }
-}
-
-#[inline(always)]
-fn ps_written(n: u8, x: u32, ps: Ps) -> Ps
-    ensures { result ≡ ps_written n x ps }
-{
-    if n == number::PS { Ps::of_word(x) } else { ps }
-}
-
-#[tactic(auto, unfolding(xt_special::specs::Access::without_bits))]
-#[inline(always)]
-fn without_bits(word: u32, bits: u32) -> u32
-    ensures { result ≡ without_bits word bits }
-{
-    word & !bits
-}
-
-#[tactic(auto, unfolding(xt_special::specs::Access::timer_bit))]
-#[inline(always)]
-fn timer_bit(n: u8) -> u32
-    ensures { result ≡ timer_bit n }
-{
-    match n {
-        240 => 0x40,
-        241 => 0x8000,
-        _ => 0x1_0000,
-    }
-}
-
-#[tactic(auto, unfolding(xt_special::specs::Access::value_kept))]
-#[inline(always)]
-fn value_kept(n: u8, x: u32, v: u32) -> u32
-    ensures { result ≡ value_kept n x v }
-{
-    match n {
-        number::SAR | number::EXCCAUSE => x % 0x40,
-        number::VECBASE => x / 0x400 * 0x400,
-        number::INTENABLE => x & 0x2001_80C0,
-        number::EPS2..=number::EPS7 => Ps::of_word(x).word(),
-        number::INTERRUPT => v | (x & 0x2000_0080),
-        number::INTCLEAR => without_bits(v, x & 0x2000_0080),
-        _ => x,
-    }
-}
-
 // What a write of `x` to the special register `n` changes, where INTERRUPT was `v`.
 #[inline(always)]
 fn special_sets(n: u8, x: u32, v: u32) -> SpecialWrites
@@ -152,9 +99,12 @@ fn special_sets(n: u8, x: u32, v: u32) -> SpecialWrites
 {
     match n {
         number::PS => (None, None, None),
-        240..=242 => (
+        number::CCOMPARE0..=number::CCOMPARE2 => (
             set_to(n, x),
-            set_to(number::INTERRUPT, without_bits(v, timer_bit(n))),
+            set_to(
+                number::INTERRUPT,
+                without_bits(v, timer_bit(n - number::CCOMPARE0)),
+            ),
             None,
         ),
         number::INTCLEAR => (set_to(number::INTERRUPT, value_kept(n, x, v)), None, None),

@@ -6,8 +6,8 @@ use Rattle.std.proofs.lemmas.List.{get_or_past}
 use Rattle.xt_isa.specs.Spelling.{spelled, fields_at, length_of}
 use Rattle.xt_isa.proofs.ThirdByte.{third_byte}
 use Rattle.xt_map.specs.Regions.{region_of}
-use Rattle.xt_rows.specs.Fetching.{can_fetch, unfetchable, fetched_length, fetched_past, fetched, read_as}
-use Rattle.xt_rows.specs.Numbers.{code_bytes}
+use Rattle.xt_fetch.specs.Fetching.{can_fetch, unfetchable, fetched_length, fetched_past, fetched, read_as}
+use Rattle.xt_fetch.specs.Code.{code_bytes}
 use Rattle.xt_stretch.specs.declared.Side.{Side}
 use Rattle.xt_stretch.specs.declared.HandlerVerdict.TheVariants.{Yes, No}
 use Rattle.xt_stretch.specs.Spelled.{step_of_spelled, step_of, lines_of}

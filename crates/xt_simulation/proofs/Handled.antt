@@ -18,7 +18,7 @@ use Rattle.xt_special.specs.Timers.{ticked}
 use Rattle.xt_special.specs.Interrupts.{pending_of}
 use Rattle.xt_window.specs.Ring.{place, visible, with_bit, without_bit}
 use Rattle.xt_trace.specs.declared.record.StepKind.TheVariants as kind
-use Rattle.xt_rows.specs.Fetching.{Fetches, fetched, can_fetch, read_as}
+use Rattle.xt_fetch.specs.Fetching.{Fetches, fetched, can_fetch, read_as}
 use Rattle.xt_exec.specs.State.{State}
 use Rattle.xt_exec.specs.Laws.{IsShaped}
 use Rattle.xt_exec.specs.Turn.{Planned, planned, demand, turn, window_exception}
@@ -63,7 +63,7 @@ use Rattle.xt_handlers.specs.Vectors.{vector_number, vector_at, vector_bytes, ve
 use Rattle.xt_simulation.specs.Steps.{state_now, memory_now, machine}
 use Rattle.xt_simulation.specs.InHandlers.{InDram, Somewhere, Begins, start_of, Untouched, Handling, Stretch, Settles, MovesFrame, StoresAlone, above, IsGood, HandlerStep, steps_on, closes_stretch}
 use Rattle.xt_simulation.specs.HandlerLaws.{StretchesAreEntered, HandlerStepsAreKept, HandlersAreSpared}
-use Rattle.xt_rows.specs.Laws.{AreBytes}
+use Rattle.xt_fetch.specs.Code.{AreBytes}
 use Rattle.xt_simulation.proofs.Fetched.{byte_is as fetched_byte, bytes_length, byte_small, fetched_is, step_is, vector_fetches, vector_handles, fetch_small, length_is}
 use Rattle.xt_simulation.proofs.Turns.{quiet, Shown, shown, turned, Turned, load, store, wide_nop, narrow_nop, ends_overflow, ends_underflow, other, Ended, ends_with_rfwo, ends_with_rfwu}
 use Rattle.xt_simulation.proofs.Begun.{Found, found, stack_of, own_live, same_visible}

@@ -6,7 +6,7 @@ use Rattle.xt_map.specs.declared.contents.MemoryContents.{MemoryContents}
 use Rattle.xt_map.specs.declared.access.Entry.{Entry}
 use Rattle.xt_map.specs.History.{IsLegal, memory_after}
 use Rattle.xt_trace.specs.declared.record.StepRecord.{StepRecord}
-use Rattle.xt_rows.specs.Laws.{AreBytes}
+use Rattle.xt_fetch.specs.Code.{AreBytes}
 use Rattle.xt_runs.specs.Alone.{answer}
 use Rattle.xt_runs.specs.Worlds as worlds
 use Rattle.xt_runs.specs.Worlds.{give, core_given, line_given}

@@ -20,7 +20,7 @@ use Rattle.xt_trace.specs.declared.record.StepRecord.{StepRecord}
 use Rattle.xt_rows.specs.declared.outcome.Write.{Write}
 use Rattle.xt_rows.specs.declared.outcome.Awaited.{Awaited}
 use Rattle.xt_rows.specs.declared.outcome.Effect.{Effect}
-use Rattle.xt_rows.specs.Fetching.{Fetched, Fetches}
+use Rattle.xt_fetch.specs.Fetching.{Fetched, Fetches}
 use Rattle.xt_rows.specs.Effects.{illegal_instruction, set_to, no_set}
 use Rattle.xt_rows.specs.Operands.{named}
 use Rattle.xt_rows.specs.Outcomes.{outcome, control_outcome, density_outcome}

@@ -7,8 +7,8 @@ use Rattle.xt_map.specs.declared.access.Access.{Access}
 use Rattle.xt_map.specs.declared.contents.MemoryContents.{MemoryContents}
 use Rattle.xt_map.specs.Memory.{HasSizes, byte_at}
 use Rattle.xt_special.specs.declared.ps.Ps.{Ps}
-use Rattle.xt_rows.specs.Fetching.{fetched}
-use Rattle.xt_rows.specs.Laws.{AreBytes}
+use Rattle.xt_fetch.specs.Fetching.{fetched}
+use Rattle.xt_fetch.specs.Code.{AreBytes}
 use Rattle.xt_exec.specs.State.{State}
 use Rattle.xt_exec.specs.Laws.{IsShaped}
 use Rattle.xt_exec.specs.Turn.{planned, demand, turn, shown, reply_where}

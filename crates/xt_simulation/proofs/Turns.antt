@@ -29,7 +29,7 @@ use Rattle.xt_rows.specs.declared.outcome.Flow.TheVariants.{Falls}
 use Rattle.xt_rows.specs.declared.outcome.Outcome.{Outcome}
 use Rattle.xt_rows.specs.declared.outcome.Outcome.TheVariants.{Does, Asks, Windowed}
 use Rattle.xt_rows.specs.declared.outcome.WindowStep.TheVariants.{EndsOverflow, EndsUnderflow}
-use Rattle.xt_rows.specs.Fetching.{Fetches, fetched}
+use Rattle.xt_fetch.specs.Fetching.{Fetches, fetched}
 use Rattle.xt_rows.specs.Numbers.{plus, extended}
 use Rattle.xt_rows.specs.Operands.{reads, special_reads}
 use Rattle.xt_rows.specs.Effects.{unchanged, loads, stores, illegal_instruction}

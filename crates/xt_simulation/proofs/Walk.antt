@@ -10,7 +10,7 @@ use Rattle.xt_map.specs.Serving.{reply_to, memory_past}
 use Rattle.xt_map.specs.History.{memory_after, IsLegal}
 use Rattle.xt_map.proofs.Grown.{memory_after_push, legal_push}
 use Rattle.xt_trace.specs.declared.record.StepRecord.{StepRecord}
-use Rattle.xt_rows.specs.Laws.{AreBytes}
+use Rattle.xt_fetch.specs.Code.{AreBytes}
 use Rattle.xt_exec.specs.State.{State}
 use Rattle.xt_exec.specs.Laws.{IsShaped}
 use Rattle.xt_exec.specs.Turn.{planned, demand, turn}

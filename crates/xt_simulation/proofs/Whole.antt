@@ -1,6 +1,6 @@
 -- A whole turn: interrupts first, then waiting, then the instruction.
 use Rattle.xt_special.proofs.Kept.{Kept, interrupt_kept, tick_kept}
-use Rattle.xt_rows.proofs.Fetches.{fetched_range}
+use Rattle.xt_fetch.proofs.Fetches.{fetched_range}
 use Rattle.std.proofs.Common.{◌≡◌, ℕ, ◌<◌, Bool, true, false, ◌||◌, ◌&&◌, not, eqb, ltb, List, Some, None, sym, ap, ◌∙◌, refl, arith, ⊎_elim, subst}
 use Rattle.std.proofs.lemmas.Bool.{cases_Bool, true≢false, or_from, cond-true, cond-false, not-false, eqb-true}
 use Rattle.xt_isa.specs.declared.Insn.{Insn}
@@ -10,7 +10,7 @@ use Rattle.xt_special.specs.Control.{Control, special_of}
 use Rattle.xt_special.specs.Timers.{ticked}
 use Rattle.xt_special.specs.Interrupts.{pending_of, after_interrupt}
 use Rattle.xt_trace.specs.declared.record.StepRecord.{StepRecord}
-use Rattle.xt_rows.specs.Fetching.{Fetched, Fetches, Fails, SpellsNothing, fetched}
+use Rattle.xt_fetch.specs.Fetching.{Fetched, Fetches, Fails, SpellsNothing, fetched}
 use Rattle.xt_rows.specs.Effects.{illegal_instruction, fetch_error}
 use Rattle.xt_rows.specs.Settling.{settled_interrupt, settled_wait}
 use Rattle.xt_exec.proofs.Specials.{level_small}

@@ -5,7 +5,7 @@
 use Rattle.std.specs.Prelude.{◌≡◌, ℕ, Bool, true, None, List}
 use Rattle.xt_map.specs.declared.contents.MemoryContents.{MemoryContents}
 use Rattle.xt_map.specs.Memory.{HasSizes, byte_at}
-use Rattle.xt_rows.specs.Laws.{AreBytes}
+use Rattle.xt_fetch.specs.Code.{AreBytes}
 use Rattle.xt_exec.specs.State.{State}
 use Rattle.xt_exec.specs.Laws.{IsShaped}
 use Rattle.xt_exec.specs.Turn.{planned, demand}

@@ -6,7 +6,7 @@ use Rattle.xt_map.specs.Memory.{constant_byte}
 use Rattle.xt_map.specs.History.{replies_of}
 use Rattle.xt_trace.specs.declared.options.Options.{Options}
 use Rattle.xt_trace.specs.declared.record.StepRecord.{StepRecord}
-use Rattle.xt_rows.specs.Laws.{AreBytes}
+use Rattle.xt_fetch.specs.Code.{AreBytes}
 use Rattle.xt_runs.specs.Traces.{trace_over}
 use Rattle.xt_runs.specs.Runs.{Opening, Run, opened, IsRunOf, schedule_of}
 use Rattle.xt_runs.specs.Short.{ShortRun, IsShortRunOf, short_schedule}

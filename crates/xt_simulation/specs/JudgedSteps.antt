@@ -2,7 +2,7 @@
 -- A judged step keeps the relation: what is said of it.
 use Rattle.std.specs.Prelude.{◌≡◌, ◌<◌, ℕ, Bool, false, None, List}
 use Rattle.xt_trace.specs.declared.record.StepRecord.{StepRecord}
-use Rattle.xt_rows.specs.Laws.{AreBytes}
+use Rattle.xt_fetch.specs.Code.{AreBytes}
 use Rattle.xt_exec.specs.State.{State}
 use Rattle.xt_exec.specs.Laws.{IsShaped}
 use Rattle.xt_exec.specs.Turn.{planned, turn}
@@ -10,7 +10,7 @@ use Rattle.xt_frames.specs.Frames.{Frame, FrameState, known}
 use Rattle.xt_frames.specs.FrameStep.{FrameTurn, laid_step}
 use Rattle.xt_frames.specs.HandlerSteps.{is_window}
 use Rattle.xt_frames.specs.Breaches.{lost_of, Bounds, laid_breach, fresh_after}
-use Rattle.xt_rows.specs.Fetching.{fetched}
+use Rattle.xt_fetch.specs.Fetching.{fetched}
 use Rattle.xt_frames.specs.Stacks.{Stack}
 use Rattle.xt_simulation.specs.Stacks.{sp_under}
 use Rattle.xt_simulation.specs.Relation.{Level}

@@ -12,4 +12,4 @@ mod registers;
 mod tests;
 
 pub use ps::Ps;
-pub use registers::Special;
+pub use registers::{Special, ps_written, timer_bit, value_kept, value_read, without_bits};

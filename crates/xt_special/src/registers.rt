@@ -11,6 +11,7 @@ mod access;
 mod fields;
 
 use crate::{Ps, number};
+pub use access::{ps_written, value_kept, value_read, without_bits};
 use std::marker::Model;
 
 /// The special registers of a core but WINDOWBASE and WINDOWSTART, and THREADPTR.
@@ -143,9 +144,11 @@ impl Special {
 }
 
 /// The bit of a timer in INTERRUPT.
+///
+/// Condition: `timer` is 0, 1 or 2.
 #[tactic(auto, unfolding(crate::specs::Access::timer_bit))]
 #[inline(always)]
-pub(crate) fn timer_bit(timer: u8) -> u32
+pub fn timer_bit(timer: u8) -> u32
     requires { timer < 3 }
     ensures { result ≡ timer_bit (numbers.ccompare timer) }
 {

@@ -3,8 +3,8 @@
 
 ghost use Rattle.std.specs.Prelude.{◌≡◌, ◌≤◌, ◌<◌, ◌^◌, if◌then◌else◌, slice_index, slice_set};
 ghost use Rattle.xt_special.specs.Numbers as numbers;
-ghost use Rattle.xt_special.specs.Shape.{CanHold};
-ghost use Rattle.xt_special.specs.Access.{can_write_here, changed_by, ps_written, read_of, special_written, timer_bit, value_kept, without_bits};
+ghost use Rattle.xt_special.specs.Shape.{CanHold, IsPs};
+ghost use Rattle.xt_special.specs.Access.{can_write_here, changed_by, ps_written, read_of, special_written, timer_bit, value_kept, value_read, without_bits};
 
 use super::{Special, timer_bit};
 use crate::{Ps, number};
@@ -18,7 +18,8 @@ const ENABLED_BITS: u32 = 0x2001_80C0;
 
 /// A word without some bits.
 #[tactic(auto, unfolding(crate::specs::Access::without_bits))]
-fn without_bits(word: u32, bits: u32) -> u32
+#[inline(always)]
+pub fn without_bits(word: u32, bits: u32) -> u32
     ensures { result ≡ without_bits word bits }
 {
     word & !bits
@@ -26,7 +27,8 @@ fn without_bits(word: u32, bits: u32) -> u32
 
 /// What the register that a write of this number changes keeps of the word `v`. INTERRUPT was `interrupt`.
 #[tactic(auto, unfolding(crate::specs::Access::value_kept))]
-fn kept(n: u8, v: u32, interrupt: u32) -> u32
+#[inline(always)]
+pub fn value_kept(n: u8, v: u32, interrupt: u32) -> u32
     ensures value { result ≡ value_kept n v interrupt }
     ensures range { CanHold (changed_by n) result }
 {
@@ -41,6 +43,23 @@ fn kept(n: u8, v: u32, interrupt: u32) -> u32
     }
 }
 
+/// The value of a special register, which is that of PS where the number is that of PS, else `u`.
+#[inline(always)]
+pub fn value_read(n: u8, u: u32, ps: Ps) -> u32
+    requires { IsPs ps }
+    ensures { result ≡ value_read n u ps }
+{
+    if n == number::PS { ps.word() } else { u }
+}
+
+/// PS after a write of `x` to the special register of this number.
+#[inline(always)]
+pub fn ps_written(n: u8, x: u32, ps: Ps) -> Ps
+    ensures { result ≡ ps_written n x ps }
+{
+    if n == number::PS { Ps::of_word(x) } else { ps }
+}
+
 impl Special {
     /// The value that RSR reads: none where it reaches no register of this number, and for WINDOWBASE and WINDOWSTART.
     pub fn read(&self, n: u8) -> Option<u32>
@@ -49,11 +68,7 @@ impl Special {
         if !can_read(n) || n == number::WINDOWBASE || n == number::WINDOWSTART {
             return None;
         }
-        Some(if n == number::PS {
-            self.ps()
-        } else {
-            self.register(n)
-        })
+        Some(value_read(n, self.register(n), self.ps))
     }
 
     /// What WSR writes. The answer is false, and nothing has changed, where it reaches no register of this number, and for
@@ -80,7 +95,7 @@ impl Special {
             } else {
                 n
             };
-            self.set_register(changed, kept(n, v, interrupt));
+            self.set_register(changed, value_kept(n, v, interrupt));
         }
         true
     }

@@ -1,6 +1,6 @@
 use Rattle.std.proofs.Common.{sym, ◌∙◌, ap}
 use Rattle.xt_map.specs.Memory.{constant_byte}
-use Rattle.xt_rows.specs.Fetching.{fetched}
+use Rattle.xt_fetch.specs.Fetching.{fetched}
 use Rattle.xt_frames.specs.Frames.{FrameState}
 use Rattle.xt_frames.specs.FrameStep.{laid}
 use Rattle.xt_frames.specs.Breaches.{inputs_of, fetched_return_breach}

@@ -4,8 +4,8 @@ use Rattle.xt_isa.specs.Spelling.{length_of, spelled, fields_at}
 use Rattle.xt_map.specs.Memory.{constant_byte}
 use Rattle.xt_codec.specs.declared.Decoded.TheVariants as decoded
 use Rattle.xt_codec.specs.Answers.{answer}
-use Rattle.xt_rows.specs.Fetching.{Fetches, SpellsNothing, read_as}
-use Rattle.xt_frames.proofs.fetch.spelled_at.Goals as goal
+use Rattle.xt_fetch.specs.Fetching.{Fetches, SpellsNothing, read_as}
+use Rattle.xt_codec.proofs.fetch.spelled_at.Goals as goal
 
 good : (b0 n : ℕ) (x : Option Insn) (i : Insn) → decoded.Good i n ≡ answer b0 x → read_as x (length_of b0) ≡ Fetches i n
 good b0 n None i h = cc

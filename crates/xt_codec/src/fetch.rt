@@ -1,12 +1,12 @@
-ghost use Rattle.std.specs.Prelude.{◌≡◌, ◌+◌, ◌<◌, ◌^◌, true};
+ghost use Rattle.std.specs.Prelude.{◌≡◌, ◌+◌, ◌<◌, ◌^◌};
 ghost use Rattle.xt_map.specs.Memory.{constant_byte};
-ghost use Rattle.xt_rows.specs.Fetching.{can_fetch, fetched};
-ghost use Rattle.xt_frames.specs.Parts.{IsFetched, IsGoodFetch, read_at};
+ghost use Rattle.xt_fetch.specs.Fetching.{fetched};
+ghost use Rattle.xt_codec.specs.Fetches.{IsFetched, IsGoodFetch, read_at};
 
-use xt_codec::{Decoded, decode};
+use crate::{Decoded, decode};
+use xt_fetch::{code_three, fetched_length, is_inside, unfetchable};
 use xt_isa::Insn;
 use xt_map::Constants;
-use xt_rows::{code_three, unfetchable};
 
 /// What the bytes at an address are.
 #[derive(Clone, Copy)]
@@ -33,24 +33,9 @@ fn spelled_at(code: &Constants, pc: u32) -> Fetch
     }
 }
 
-// Whether an address and the two behind it can be fetched.
-#[tactic(auto, unfolding(xt_map::specs::Regions::region_of))]
+/// The instruction at an address of the constant regions, or why there is none.
+#[tactic(auto, unfolding(xt_fetch::specs::Fetching::fetched))]
 #[inline(always)]
-fn is_inside(pc: u32) -> bool
-    ensures first { result ≡ true → can_fetch pc ≡ true }
-    ensures second { result ≡ true → can_fetch (pc + 1) ≡ true }
-    ensures third { result ≡ true → can_fetch (pc + 2) ≡ true }
-    ensures small { result ≡ true → pc + 4 < 2 ^ 32 }
-{
-    match pc {
-        0x40070000..=0x4009FFFD => true,
-        0x400D0000..=0x403FFFFD => true,
-        _ => false,
-    }
-}
-
-/// The instruction at an address.
-#[tactic(auto, unfolding(xt_rows::specs::Fetching::fetched))]
 pub fn instruction_at(code: &Constants, pc: u32) -> Fetch
     ensures fetched { IsFetched result (fetched (constant_byte code.now) pc) }
     ensures good { IsGoodFetch result }
@@ -58,7 +43,7 @@ pub fn instruction_at(code: &Constants, pc: u32) -> Fetch
     if is_inside(pc) {
         return spelled_at(code, pc);
     }
-    match unfetchable(code, pc) {
+    match unfetchable(pc, fetched_length(code, pc)) {
         Some(addr) => Fetch::Fails(addr),
         None => spelled_at(code, pc),
     }

@@ -4,8 +4,9 @@ use Rattle.xt_isa.specs.declared.Insn.{Insn}
 use Rattle.xt_isa.specs.Ranges.{in_range}
 use Rattle.xt_isa.specs.Spelling.{spelled, fields_at, length_of}
 use Rattle.xt_isa.proofs.Ranged.{spelled_at_in_range}
-use Rattle.xt_rows.specs.Fetching.{Fetches, fetched, fetched_past, unfetchable, fetched_length, read_as}
-use Rattle.xt_rows.specs.Laws.{AreBytes, FetchedIsInRange}
+use Rattle.xt_fetch.specs.Fetching.{Fetches, fetched, fetched_past, unfetchable, fetched_length, read_as}
+use Rattle.xt_fetch.specs.Code.{AreBytes}
+use Rattle.xt_fetch.specs.Laws.{FetchedIsInRange}
 
 read_range : (o : Option Insn) (len : ℕ) (i : Insn) (n : ℕ) → ((j : Insn) → Some j ≡ o → in_range j ≡ true) → read_as o len ≡ Fetches i n → in_range i ≡ true
 read_range None len i n h e = absurd cc
