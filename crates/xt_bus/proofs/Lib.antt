@@ -1,3 +1,4 @@
 pub mod Loaded
 pub mod Located
+pub mod Opening
 pub mod Regional

@@ -1,13 +1,13 @@
 -- What is read and written at a place of a region's list, as the state of the memory says it.
-use Rattle.std.proofs.Common.{◌≡◌, ℕ, ◌+◌, ◌<◌, true, List, slice_index, slice_set, Some, sym, ap, ◌∙◌}
+use Rattle.std.proofs.Common.{◌≡◌, ℕ, ◌+◌, ◌<◌, true, List, length, slice_index, slice_set, Some, sym, ap, ◌∙◌}
 use Rattle.xt_map.specs.declared.regions.Region.{Region}
 use Rattle.xt_map.specs.declared.access.Access.{Access}
 use Rattle.xt_map.specs.Regions.{is_memory, is_mapped}
 use Rattle.xt_map.specs.Memory.{byte_at, with_byte}
 use Rattle.xt_map.specs.Serving.{replied, reply_to}
 use Rattle.xt_bus.specs.Bytes.{number_in, changed_in}
-use Rattle.xt_bus.specs.States.{MemoryState, holding, served}
-use Rattle.xt_bus.proofs.Regional.{list_in, with_list, first_of, size_of, byte_is, with_byte_is, reply_is, past_is}
+use Rattle.xt_bus.specs.States.{MemoryState, holding, part_bytes, served}
+use Rattle.xt_bus.proofs.Regional.{list_in, with_list, first_of, size_of, byte_is, part_is, with_byte_is, reply_is, past_is}
 
 pub byte_at_place : (r : Region) (s now : MemoryState) (xs : List ℕ) (at addr : ℕ) → s ≡ now → is_memory (Some r) ≡ true → addr ≡ first_of r + at → at < size_of r
     → xs ≡ list_in r s.contents → slice_index xs at ≡ byte_at now.contents addr
@@ -16,6 +16,13 @@ byte_at_place r s now xs at addr is h e l x =
     ∙ sym (byte_is r s.contents at h l)
     ∙ ap (λ a. byte_at s.contents a) (sym e)
     ∙ ap (λ (t : MemoryState). byte_at t.contents addr) is
+
+pub part_in_place : (r : Region) (s now : MemoryState) (xs : List ℕ) → s ≡ now → is_memory (Some r) ≡ true → xs ≡ list_in r s.contents → length xs ≡ size_of r
+    → xs ≡ part_bytes now.contents (first_of r) (size_of r)
+part_in_place r s now xs is h x len =
+    x
+    ∙ sym (part_is r s.contents h (ap length (sym x) ∙ len))
+    ∙ ap (λ (t : MemoryState). part_bytes t.contents (first_of r) (size_of r)) is
 
 pub put_at_place : (r : Region) (s now : MemoryState) (at addr b : ℕ) → s ≡ now → is_memory (Some r) ≡ true → addr ≡ first_of r + at → at < size_of r
     → holding (with_list r s.contents (slice_set (list_in r s.contents) at b)) s.room ≡ holding (with_byte now.contents addr b) now.room

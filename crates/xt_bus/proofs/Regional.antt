@@ -14,6 +14,7 @@ use Rattle.xt_map.specs.Serving.{number_at, replied, reply_to, with_sent, change
 use Rattle.xt_map.proofs.Ranged.{range_dram, range_rtc_fast_data, range_rtc_slow}
 use Rattle.xt_map.proofs.Stored.{length-low_bytes}
 use Rattle.xt_bus.specs.Bytes.{bytes_in, number_in, put_in, changed_in}
+use Rattle.xt_bus.specs.States.{part_bytes}
 
 -- the list of a memory region, its first address, and how many bytes it has
 abbrev pub list_in : Region → MemoryContents → List ℕ
@@ -98,6 +99,27 @@ bytes_are r m at (suc n) h l =
     let tail : bytes_at m (first_of r + at + 1) n ≡ bytes_in (list_in r m) (at + 1) n = ap (λ a. bytes_at m a n) e ∙ bytes_are r m (at + 1) n h (omega arith) in
     let head : byte_at m (first_of r + at) ≡ slice_index (list_in r m) at = byte_is r m at h (omega arith) in
     cc
+
+shifted : (x : ℕ) (xs : List ℕ) (i n : ℕ) → bytes_in (x ∷ xs) (suc i) n ≡ bytes_in xs i n
+shifted x xs i zero = refl
+shifted x xs i (suc n) =
+    let e : suc i + 1 ≡ suc (i + 1) = omega arith in
+    ap (λ k. slice_index xs i ∷ bytes_in (x ∷ xs) k n) e ∙ ap (λ l. slice_index xs i ∷ l) (shifted x xs (i + 1) n)
+
+all_in : (xs : List ℕ) → bytes_in xs 0 (length xs) ≡ xs
+all_in [] = refl
+all_in (x ∷ xs) = ap (λ l. x ∷ l) (shifted x xs 0 (length xs) ∙ all_in xs)
+
+-- a region whole
+pub part_is : (r : Region) (m : MemoryContents) → is_memory (Some r) ≡ true → length (list_in r m) ≡ size_of r
+    → part_bytes m (first_of r) (size_of r) ≡ list_in r m
+unfolding part_bytes
+part_is r m h len =
+    let first : first_of r ≡ first_of r + 0 = omega arith in
+    ap (λ a. bytes_at m a (size_of r)) first
+    ∙ bytes_are r m 0 (size_of r) h (omega arith)
+    ∙ ap (λ n. bytes_in (list_in r m) 0 n) (sym len)
+    ∙ all_in (list_in r m)
 
 with_bytes_are : (r : Region) (m : MemoryContents) (at : ℕ) (bs : List ℕ) → is_memory (Some r) ≡ true → at + length bs ≤ size_of r
     → with_bytes m (first_of r + at) bs ≡ with_list r m (put_in (list_in r m) at bs)

@@ -4,7 +4,7 @@ use Rattle.xt_map.specs.declared.access.Access.{Access}
 use Rattle.xt_map.specs.declared.access.Entry.{Entry}
 use Rattle.xt_map.specs.declared.contents.MemoryContents.{MemoryContents}
 use Rattle.xt_map.specs.declared.segment.Segment.{Segment}
-use Rattle.xt_map.specs.Memory.{opening_memory}
+use Rattle.xt_map.specs.Memory.{bytes_at, opening_memory}
 use Rattle.xt_map.specs.Serving.{memory_past}
 
 -- what a memory holds, with the sent bytes, and how many bytes it has room to send in all
@@ -14,6 +14,10 @@ pub record MemoryState : Type 0 where
 
 abbrev pub holding : MemoryContents → ℕ → MemoryState
 holding contents room = record { contents = contents; room = room }
+
+-- so many bytes of memory from an address on
+unfoldable pub part_bytes : MemoryContents → ℕ → ℕ → List ℕ
+part_bytes m from size = bytes_at m from size
 
 -- after one access
 abbrev pub served : MemoryState → Access → MemoryState

@@ -1,10 +1,10 @@
 //! The memory behind the bus.
 ghost use Rattle.std.specs.Prelude.{◌≡◌, ◌+◌, ◌<◌, ◌≤◌, true, length, vec_len, IfOk, if◌then◌else◌};
-ghost use Rattle.xt_map.specs.Memory.{byte_at, cleared_memory, is_loaded, low_bytes, opening_memory, with_byte, with_bytes, with_segments, with_words, zeros};
+ghost use Rattle.xt_map.specs.Memory.{byte_at, cleared_memory, dram_first, dram_size, is_loaded, low_bytes, opening_memory, rtc_fast_data_first, rtc_fast_data_size, rtc_slow_first, rtc_slow_size, with_byte, with_bytes, with_segments, with_words, zeros};
 ghost use Rattle.xt_map.specs.Regions.{is_mapped, is_uart};
 ghost use Rattle.xt_map.specs.Serving.{reply_to, with_sent};
 ghost use Rattle.xt_bus.specs.Places.{lies_apart};
-ghost use Rattle.xt_bus.specs.States.{holding, served};
+ghost use Rattle.xt_bus.specs.States.{holding, part_bytes, served};
 
 use crate::bytes::act;
 use crate::places::{Place, place_of};
@@ -188,6 +188,27 @@ impl Memory {
             Place::RtcSlow(at) => self.rtc_slow.as_slice()[at],
             Place::Outside => 0,
         }
+    }
+
+    /// The 8,192 bytes of RTC fast memory, from its first data address on.
+    pub fn rtc_fast_data(&self) -> &[u8]
+        ensures { result.now ≡ part_bytes self.now.contents rtc_fast_data_first rtc_fast_data_size }
+    {
+        self.rtc_fast_data.as_slice()
+    }
+
+    /// The 335,872 bytes of the internal data memory, from its first address on.
+    pub fn dram(&self) -> &[u8]
+        ensures { result.now ≡ part_bytes self.now.contents dram_first dram_size }
+    {
+        self.dram.as_slice()
+    }
+
+    /// The 8,192 bytes of RTC slow memory, from its first address on.
+    pub fn rtc_slow(&self) -> &[u8]
+        ensures { result.now ≡ part_bytes self.now.contents rtc_slow_first rtc_slow_size }
+    {
+        self.rtc_slow.as_slice()
     }
 
     /// The bytes that were stored to the transmit address of UART0, in order.

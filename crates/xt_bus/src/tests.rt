@@ -70,5 +70,12 @@ fn opening_memory_and_a_copy(rt: HostRuntime) -> Result<(), Fail> {
     ] {
         assert_eq!(rt; copy.byte(addr), want, "at {addr}");
     }
+    let lists = [copy.rtc_fast_data(), copy.dram(), copy.rtc_slow()];
+    for (list, len) in lists.into_iter().zip([8192, 335_872, 8192]) {
+        assert_eq!(rt; list.len(), len);
+    }
+    for (at, want) in [(0x2001, 5), (0x2004, 4), (335_871, 6)] {
+        assert_eq!(rt; copy.dram().get(at), Some(&want), "at {at}");
+    }
     Ok(())
 }

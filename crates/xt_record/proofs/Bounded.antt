@@ -13,6 +13,7 @@ use Rattle.xt_map.specs.declared.access.Entry.{Entry}
 use Rattle.xt_map.specs.declared.contents.MemoryContents.{MemoryContents}
 use Rattle.xt_map.specs.History.{IsOfCores, calls_of, replies_of}
 use Rattle.xt_map.specs.Memory.{bytes_at}
+use Rattle.xt_bus.specs.States.{part_bytes}
 use Rattle.xt_map.specs.Regions.{is_mapped}
 use Rattle.xt_special.specs.Control.{bit_of, ps_word}
 use Rattle.xt_trace.specs.declared.record.StepRecord.{StepRecord}
@@ -33,7 +34,7 @@ use Rattle.xt_exec.specs.State.{State}
 use Rattle.xt_exec.specs.Turn.{demand, turn}
 use Rattle.xt_exec.proofs.Served.{demand_served}
 use Rattle.xt_core.specs.Runs.{IsRunOf, code_of, opening_of, records_of}
-use Rattle.xt_record.specs.Checkpoints.{checkpoint_bytes, checkpoint_of, checkpoints_of, file_bytes, is_due, last_numbers, loop_numbers, part_bytes, saved_numbers, special_bytes, state_bytes}
+use Rattle.xt_record.specs.Checkpoints.{checkpoint_bytes, checkpoint_of, checkpoints_of, file_bytes, is_due, last_numbers, loop_numbers, saved_numbers, special_bytes, state_bytes}
 use Rattle.xt_record.specs.Fields.{checkpoint_size, words}
 use Rattle.xt_core.specs.Positions.{world_at}
 

@@ -20,10 +20,13 @@ use Rattle.xt_trace.specs.Calls.{calls_in}
 use Rattle.xt_image.specs.declared.image.Image.{Image}
 use Rattle.xt_runs.specs.Schedule.{places_from}
 use Rattle.xt_core.specs.Runs.{IsRunOf, records_of}
+use Rattle.xt_record.specs.declared.fault.RecordFault.{RecordFault}
 use Rattle.xt_record.specs.declared.fault.RecordFault.TheVariants as fault
+use Rattle.xt_record.specs.Format.{run_with}
 use Rattle.xt_record.specs.Rules.{Finding, fails, first, or_else}
 use Rattle.xt_record.specs.Standing.{turn_rules}
 use Rattle.xt_record.specs.TurnRules.{calls_before, entry_finding, first_difference, is_call, place_of, rest_finding, right_reply, same_access, same_kind, walk_finding}
+use Rattle.xt_record.proofs.Again.{run_again}
 use Rattle.xt_record.proofs.Prefix.{places_many}
 
 -- ---- an entry is its core's next access
@@ -96,6 +99,11 @@ no_turn_rule image r h =
     ap (λ (x : Finding). or_else x (or_else (rest_finding image r 0) (or_else (rest_finding image r 1) None))) (walk_none image r h)
     ∙ ap (λ (x : Finding). or_else x (or_else (rest_finding image r 1) None)) (rest_none image r 0 h (omega arith))
     ∙ ap (λ (x : Finding). or_else x None) (rest_none image r 1 h (omega arith))
+
+-- so a fault is none of the turns
+pub no_fault : (image : Image) (r : Run) (e : RecordFault) → IsRunOf image r → first (turn_rules image (run_with image r.options r.history)) ≡ Some e → ⊥
+no_fault image r e h is =
+    let none : Some e ≡ None = sym is ∙ ap (λ (x : Run). first (turn_rules image x)) (run_again image r h) ∙ no_turn_rule image r h in absurd cc
 
 -- ---- equal checkpoints
 

@@ -1,10 +1,10 @@
+pub mod Ranging
 pub mod Whole
 pub mod Lawful
 pub mod Bounded
 pub mod Rereading
 pub mod Again
 pub mod Ending
-pub mod Opening
 pub mod Putting
 pub mod Firsts
 pub mod Parting

@@ -6,8 +6,6 @@ use Rattle.std.specs.Int.{w32, to_le_bytes}
 use Rattle.std.proofs.lemmas.List.{append-nil}
 use Rattle.std.proofs.lemmas.List.FromFn.{map-range_with_len_more}
 use Rattle.std.proofs.lemmas.Grind.{flat_map-append}
-use Rattle.xt_map.specs.declared.contents.MemoryContents.{MemoryContents}
-use Rattle.xt_map.specs.Memory.{byte_at, bytes_at}
 use Rattle.xt_window.specs.Ring.{place, visible}
 use Rattle.xt_special.specs.Control.{bit_of, ps_word}
 use Rattle.xt_exec.specs.State.{State}
@@ -43,20 +41,6 @@ pub registers_all : (regs : List ℕ) (i : ℕ) (old now : List ℕ) → 64 ≤ 
 unfolding file_bytes
 registers_all regs i old now from to is =
     is ∙ ap (λ (k : ℕ). old ++ words (map (slice_index regs) (range_with_len 0 k))) (let e : i ≡ 64 = omega (arith, from, to) in e)
-
-bytes_push : (m : MemoryContents) (i a : ℕ) → bytes_at m a (suc i) ≡ bytes_at m a i ++ byte_at m (a + i) ∷ []
-bytes_push m zero a = ap (λ (k : ℕ). byte_at m k ∷ []) (let e : a ≡ a + 0 = omega arith in e)
-bytes_push m (suc i) a =
-    ap (λ (l : List ℕ). byte_at m a ∷ l)
-    (bytes_push m i (a + 1) ∙ ap (λ (k : ℕ). bytes_at m (a + 1) i ++ byte_at m k ∷ []) (let e : a + 1 + i ≡ a + suc i = omega arith in e))
-
--- the next byte of memory
-pub byte_more : (m : MemoryContents) (a i b : ℕ) (old now new : List ℕ) → b ≡ byte_at m (a + i) → now ≡ old ++ bytes_at m a i → new ≡ now ++ b ∷ []
-    → new ≡ old ++ bytes_at m a (i + 1)
-byte_more m a i b old now new at is grown =
-    grown ∙ ap (λ (l : List ℕ). l ++ b ∷ []) is ∙ append_assoc old (bytes_at m a i) (b ∷ [])
-    ∙ ap (λ (l : List ℕ). old ++ l)
-    (ap (λ (k : ℕ). bytes_at m a i ++ k ∷ []) at ∙ sym (bytes_push m i a) ∙ ap (bytes_at m a) (let e : suc i ≡ i + 1 = omega arith in e))
 
 -- one part more behind those that are written
 joined : (now part next behind new : List ℕ) → next ≡ now ++ part → new ≡ next ++ behind → new ≡ now ++ (part ++ behind)

@@ -16,7 +16,6 @@ use Rattle.xt_trace.specs.declared.options.Stack.{Stack}
 use Rattle.xt_image.specs.Layout.{word_at}
 use Rattle.xt_record.specs.declared.raw.RawEntry.{RawEntry}
 use Rattle.xt_record.specs.Fields.{behind_image, blocks, checkpoint_size, entry_of, image_length, image_part, magic, options_at, raw_at, raws_from, version, words}
-use Rattle.xt_record.specs.Fitting.{FitsEntry, FitsOptions}
 use Rattle.xt_record.specs.Parts.{entry_bytes, first_operand, kind_number, options_bytes, second_operand}
 
 -- ---- a word in front
@@ -57,6 +56,17 @@ behind_again image rest lt =
 
 -- ---- the options and the count of the entries
 
+-- the numbers of options are in the ranges of their types
+pub record FitsOptions (o : Options) : Type 0 where
+  pub turns0 : o.turns0 < 2 ^ 32
+  pub turns1 : o.turns1 < 2 ^ 32
+  pub entry1 : o.entry1 < 2 ^ 32
+  pub vecbase : o.vecbase < 2 ^ 32
+  pub lo0 : o.stack0.lo < 2 ^ 32
+  pub hi0 : o.stack0.hi < 2 ^ 32
+  pub lo1 : o.stack1.lo < 2 ^ 32
+  pub hi1 : o.stack1.hi < 2 ^ 32
+
 options_made : ℕ → ℕ → ℕ → ℕ → Stack → Stack → Options
 options_made a b c d e f = record { turns0 = a; turns1 = b; entry1 = c; vecbase = d; stack0 = e; stack1 = f }
 
@@ -89,6 +99,13 @@ raw_of e = record {
   b = second_operand e.access.kind;
   reply = e.reply;
 }
+
+-- the address of an entry, its operands and its reply
+pub record FitsEntry (e : Entry) : Type 0 where
+  pub addr : e.access.addr < 2 ^ 32
+  pub first : first_operand e.access.kind < 2 ^ 32
+  pub second : second_operand e.access.kind < 2 ^ 32
+  pub reply : e.reply < 2 ^ 32
 
 raw_made : ℕ → ℕ → ℕ → ℕ → ℕ → ℕ → ℕ → ℕ → RawEntry
 raw_made c k s z addr a b reply = record { core = c; kind = k; size = s; zero = z; addr = addr; a = a; b = b; reply = reply }

@@ -28,7 +28,7 @@ use Rattle.xt_record.specs.declared.fault.RecordFault.TheVariants as fault
 use Rattle.xt_record.specs.Checkpoints.{checkpoints_of}
 use Rattle.xt_record.specs.Fields as field
 use Rattle.xt_record.specs.Fields.{behind_image, checkpoint_count, checkpoint_size, checkpoints_in, blocks, entries_end, entry_count, entry_of, image_in, image_length, image_part, length_behind, magic, options_at, raws_from, raws_in, version, words}
-use Rattle.xt_record.specs.Fitting.{FitsEntry, FitsRun}
+use Rattle.xt_record.specs.Fitting.{FitsRun}
 use Rattle.xt_record.specs.Format.{recording_fault, run_in, run_with}
 use Rattle.xt_record.specs.Parts.{entry_bytes, options_bytes}
 use Rattle.xt_record.specs.Rules.{Finding, fails, first, is_entry, is_valid, is_valid_stack, options_finding, or_else, part_rules, shape_finding}
@@ -38,7 +38,8 @@ use Rattle.xt_record.specs.Written.{recording_bytes}
 use Rattle.xt_record.proofs.Again.{run_again}
 use Rattle.xt_record.proofs.Bounded.{IsServedEntry, entries_few, entries_served, points_few, points_long}
 use Rattle.xt_record.proofs.Lawful.{no_difference, no_turn_rule}
-use Rattle.xt_record.proofs.Rereading.{behind_again, blocks_again, entries_again, entries_length, head, image_again, length_again, options_again, points_length, raw_of, raws_again, version_again, word_behind, word_first}
+use Rattle.xt_record.proofs.Ranging.{entries_fit, options_fit}
+use Rattle.xt_record.proofs.Rereading.{FitsEntry, behind_again, blocks_again, entries_again, entries_length, head, image_again, length_again, options_again, points_length, raw_of, raws_again, version_again, word_behind, word_first}
 use Rattle.xt_record.proofs.Ruling.{by_run}
 
 -- ---- what follows the image
@@ -181,8 +182,8 @@ holds image r w h fits =
       version_is = version_again (length file) (file ++ rest);
       length_is = omega (arith, length_again (length file) (file ++ rest) short, w.short);
       part_is = image_again file rest short;
-      options_are = ap (λ (l : List ℕ). options_at l 0) apart ∙ options_again r.options (words (length r.history ∷ []) ++ (flat_map entry_bytes r.history ++ (words (length cs ∷ []) ++ concat cs))) fits.options;
-      raws = ap raws_in apart ∙ raws_are r.options r.history cs lt fits.entries;
+      options_are = ap (λ (l : List ℕ). options_at l 0) apart ∙ options_again r.options (words (length r.history ∷ []) ++ (flat_map entry_bytes r.history ++ (words (length cs ∷ []) ++ concat cs))) (options_fit r.options h.valid fits.vecbase);
+      raws = ap raws_in apart ∙ raws_are r.options r.history cs lt (entries_fit r.history (entries_served image r h) fits.entries);
       points = ap checkpoints_in apart ∙ points_are r.options r.history cs lt small (points_long image r);
       size = subst (λ (l : List ℕ). length l ≡ length_behind 2 l) (sym apart) (behind_long r.options r.history cs lt small (points_long image r));
     }

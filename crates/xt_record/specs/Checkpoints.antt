@@ -2,7 +2,8 @@
 use Rattle.std.specs.Prelude.{ℕ, ◌%◌, Bool, ◌==◌, ◌&&◌, not, List, [], ◌∷◌, ◌++◌, length, map, filter, slice_index}
 use Rattle.std.specs.List.{range_with_len}
 use Rattle.xt_map.specs.declared.contents.MemoryContents.{MemoryContents}
-use Rattle.xt_map.specs.Memory.{bytes_at, dram_first, dram_size, rtc_fast_data_first, rtc_fast_data_size, rtc_slow_first, rtc_slow_size}
+use Rattle.xt_map.specs.Memory.{dram_first, dram_size, rtc_fast_data_first, rtc_fast_data_size, rtc_slow_first, rtc_slow_size}
+use Rattle.xt_bus.specs.States.{part_bytes}
 use Rattle.xt_special.specs.Control.{bit_of, ps_word}
 use Rattle.xt_trace.specs.declared.run.Run.{Run}
 use Rattle.xt_image.specs.declared.image.Image.{Image}
@@ -46,14 +47,12 @@ state_bytes step s =
     ++ special_bytes s.control.special last_numbers
     ++ words (s.control.threadptr ∷ [])
 
--- so many bytes of memory from an address on
-unfoldable pub part_bytes : MemoryContents → ℕ → ℕ → List ℕ
-part_bytes m from size = bytes_at m from size
-
 -- the bytes of RTC fast memory by its data address, of the internal data memory and of RTC slow memory
 abbrev pub memory_bytes : MemoryContents → List ℕ
 memory_bytes m =
-    part_bytes m rtc_fast_data_first rtc_fast_data_size ++ part_bytes m dram_first dram_size ++ part_bytes m rtc_slow_first rtc_slow_size
+    part_bytes m rtc_fast_data_first rtc_fast_data_size
+    ++ part_bytes m dram_first dram_size
+    ++ part_bytes m rtc_slow_first rtc_slow_size
 
 -- the position, the number of entries before it, both cores, and memory
 unfoldable pub checkpoint_bytes : ℕ → ℕ → ℕ → State → ℕ → State → MemoryContents → List ℕ

@@ -5,11 +5,10 @@ ghost use Rattle.xt_record.specs.Rules.{first, head_rules, length_rules};
 ghost use Rattle.xt_record.specs.Heads.{HasParts};
 
 use crate::fault::RecordFault;
+use crate::points::POINT_SIZE;
 use xt_image::word;
 
 const MOST_IMAGE: usize = 8_388_608;
-
-const POINT_SIZE: usize = 353_152;
 
 // How long what follows the image is to be, or nothing where one of its counts is cut off.
 #[tactic(auto, unfolding(crate::specs::Fields::checkpoint_size))]

@@ -9,8 +9,9 @@ ghost use Rattle.xt_record.specs.Fitting.{FitsRun};
 ghost use Rattle.xt_record.specs.Format.{recording_fault, run_in};
 ghost use Rattle.xt_record.specs.Written.{recording_bytes};
 
-/// What is written of a well-formed image and a run of it, whose numbers are in the ranges of their
-/// types, has no fault as a recording, and holds the same image and the same run.
+/// What is written of a well-formed image and a run of it has no fault as a recording, and holds
+/// the same image and the same run. VECBASE and the operands and replies of the entries are to be
+/// words of 32 bits; all other ranges follow from the rules of a run.
 pub fn round_trip()
     ensures { (image : Image) (run : Run) → IsWellFormed image → IsRunOf image run → FitsRun run → (recording_fault (recording_bytes image run) ≡ None) × (image_in (recording_bytes image run) ≡ image) × (run_in (recording_bytes image run) ≡ run) }
 {}

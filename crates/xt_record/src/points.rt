@@ -1,7 +1,7 @@
 //! The checkpoints of a run.
-ghost use Rattle.std.specs.Prelude.{◌≡◌, ◌≤◌, ◌+◌, ◌^◌, ◌++◌, OnOk};
+ghost use Rattle.std.specs.Prelude.{◌≡◌, ◌++◌, OnOk};
 ghost use Rattle.xt_exec.specs.States.{file_state};
-ghost use Rattle.xt_record.specs.Checkpoints.{checkpoint_bytes, file_bytes, memory_bytes, part_bytes, special_bytes, state_bytes};
+ghost use Rattle.xt_record.specs.Checkpoints.{checkpoint_bytes, file_bytes, memory_bytes, special_bytes, state_bytes};
 
 use crate::words::{put_word, put_words};
 use std::alloc::AllocError;
@@ -10,6 +10,9 @@ use xt_core::Core;
 use xt_exec::Regs;
 use xt_special::Special;
 use xt_window::{WindowFile, Windows};
+
+/// How many bytes a checkpoint has.
+pub(crate) const POINT_SIZE: usize = 353_152;
 
 // Writes special registers, by their numbers.
 #[tactic(auto, unfolding(crate::specs::Checkpoints::special_bytes))]
@@ -64,25 +67,13 @@ fn put_state(out: &mut Vec<u8>, step: u32, regs: &Regs<WindowFile>) -> Result<()
     Ok(())
 }
 
-// Writes so many bytes of memory from an address on.
-#[tactic(auto, unfolding(crate::specs::Checkpoints::part_bytes))]
-fn put_part(out: &mut Vec<u8>, memory: &Memory, first: u32, size: u32) -> Result<(), AllocError>
-    requires { first + size ≤ 2 ^ 32 }
-    ensures { OnOk result (out.new.items ≡ out.old.items ++ part_bytes memory.now.contents first size) }
-{
-    for i in 0..size {
-        out.push(memory.byte(first + i))?;
-    }
-    Ok(())
-}
-
 // Writes the bytes of the memory regions.
 fn put_memory(out: &mut Vec<u8>, memory: &Memory) -> Result<(), AllocError>
     ensures { OnOk result (out.new.items ≡ out.old.items ++ memory_bytes memory.now.contents) }
 {
-    put_part(out, memory, 0x3FF80000, 8192)?;
-    put_part(out, memory, 0x3FFAE000, 335872)?;
-    put_part(out, memory, 0x50000000, 8192)
+    out.extend_from_slice(memory.rtc_fast_data())?;
+    out.extend_from_slice(memory.dram())?;
+    out.extend_from_slice(memory.rtc_slow())
 }
 
 /// Writes the checkpoint of a position, at which both cores and memory stand, behind so many

@@ -9,13 +9,12 @@ ghost use Rattle.xt_record.specs.TurnRules.{first_difference};
 
 use crate::fault::RecordFault;
 use crate::parts::{Parts, parts_in};
+use crate::points::POINT_SIZE;
 use crate::walk::{Walked, walk_entries};
 use std::alloc::Global;
 use xt_image::{Image, word};
 use xt_map::{Bytes, History};
 use xt_trace::Run;
-
-const POINT_SIZE: usize = 353152;
 
 // The first place where so many checkpoints of a file and the checkpoints of a run differ, or where
 // the ones or the others end.

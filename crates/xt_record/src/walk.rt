@@ -73,6 +73,7 @@ impl<'a> Walk<'a> {
     }
 
     // The turns of its core up to and with the access of the entry of this number.
+    #[inline(always)]
     fn take(&mut self, alloc: Global, index: u32, entry: &Entry) -> Result<(), RecordFault>
         requires core { entry.now.core < 2 }
         requires free { IsFree self.old }

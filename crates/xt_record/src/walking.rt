@@ -6,16 +6,14 @@ ghost use Rattle.xt_record.specs.TurnRules.{same_access, same_kind};
 ghost use Rattle.xt_record.specs.Walking.{Arrives, Ends, HasRoom, Takes, due_beside, point_beside};
 
 use crate::fault::RecordFault;
-use crate::points::put_point;
+use crate::points::{POINT_SIZE, put_point};
 use crate::setting::Setting;
 use std::alloc::{AllocError, Global};
 use xt_core::{Begin, Core};
 use xt_map::{Access, Bytes, Entry, Kind};
 use xt_window::WindowFile;
 
-const STRIDE: u32 = 131072;
-
-const POINT_SIZE: usize = 353152;
+const STRIDE: u32 = 131_072;
 
 pub(crate) type File = Core<WindowFile>;
 
@@ -74,6 +72,7 @@ fn keep_due(
 
 // Makes the local turns of a core up to its next access, which then waits for its reply, or up to
 // its end.
+#[inline(always)]
 fn arrive(
     alloc: Global,
     number: u8,
@@ -117,6 +116,7 @@ fn same_access(access: Access, other: Access) -> bool
 }
 
 /// Makes the turns of a core up to and with the access of its next entry, which has this number.
+#[inline(always)]
 pub(crate) fn take_entry(
     alloc: Global,
     number: u8,

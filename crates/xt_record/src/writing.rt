@@ -7,12 +7,18 @@ ghost use Rattle.xt_record.specs.Checkpoints.{checkpoints_of};
 ghost use Rattle.xt_record.specs.Written.{recording_bytes};
 ghost use Rattle.xt_record.specs.Parts.{entry_bytes, first_operand, kind_number, options_bytes, second_operand};
 
+use crate::fault::RecordFault;
+use crate::points::POINT_SIZE;
 use crate::walk::walk_entries;
 use crate::words::put_words;
 use std::alloc::{AllocError, Global};
 use xt_image::{Image, well_formed_is_placed};
 use xt_map::{Bytes, Entry, Kind};
 use xt_trace::{Options, Run};
+
+const FRONT_SIZE: usize = 52;
+
+const ENTRY_SIZE: usize = 20;
 
 // The number of a kind of access, and its operands.
 #[inline(always)]
@@ -26,15 +32,40 @@ fn fields_of(kind: Kind) -> (u8, u32, u32)
     }
 }
 
-// Writes the 20 bytes of an entry.
+// The 20 bytes of an entry.
+#[inline(always)]
 #[tactic(auto, unfolding(crate::specs::Parts::entry_bytes))]
-fn put_entry(out: &mut Vec<u8>, entry: &Entry) -> Result<(), AllocError>
-    ensures { OnOk result (out.new.items ≡ out.old.items ++ entry_bytes entry.now) }
+fn bytes_of(entry: &Entry) -> [u8; 20]
+    ensures { result ≡ entry_bytes entry.now }
 {
     let access = entry.access;
     let (kind, first, second) = fields_of(access.kind);
-    out.extend_from_slice(&[entry.core, kind, access.size, 0])?;
-    put_words(out, &[access.addr, first, second, entry.reply])
+    let addr = access.addr.to_le_bytes();
+    let first = first.to_le_bytes();
+    let second = second.to_le_bytes();
+    let reply = entry.reply.to_le_bytes();
+    [
+        entry.core,
+        kind,
+        access.size,
+        0,
+        addr[0],
+        addr[1],
+        addr[2],
+        addr[3],
+        first[0],
+        first[1],
+        first[2],
+        first[3],
+        second[0],
+        second[1],
+        second[2],
+        second[3],
+        reply[0],
+        reply[1],
+        reply[2],
+        reply[3],
+    ]
 }
 
 // Writes entries.
@@ -42,7 +73,7 @@ fn put_entries(out: &mut Vec<u8>, entries: &[Entry]) -> Result<(), AllocError>
     ensures { OnOk result (out.new.items ≡ out.old.items ++ flat_map entry_bytes entries.now) }
 {
     for entry in entries {
-        put_entry(out, entry)?;
+        out.extend_from_slice(&bytes_of(entry))?;
     }
     Ok(())
 }
@@ -76,7 +107,8 @@ fn put_points(out: &mut Vec<u8>, points: &[Bytes]) -> Result<(), AllocError>
     Ok(())
 }
 
-// The checkpoints of a run, which is made again.
+// The checkpoints of a run, which is made again: it breaks no rule of the turns, so that only too
+// little memory stops it.
 fn points_of(alloc: Global, image: &Image, run: &Run) -> Result<Vec<Bytes>, AllocError>
     requires image { IsWellFormed image.now }
     requires run { IsRunOf image.now run.now }
@@ -86,7 +118,10 @@ fn points_of(alloc: Global, image: &Image, run: &Run) -> Result<Vec<Bytes>, Allo
     well_formed_is_placed();
     match walk_entries(alloc, image, &run.options, run.history.as_slice()) {
         Ok(walked) => Ok(walked.points),
-        Err(_) => Err(AllocError),
+        Err(fault) => match fault {
+            RecordFault::Memory => Err(AllocError),
+            _ => unreachable!(),
+        },
     }
 }
 
@@ -103,7 +138,8 @@ pub fn write_recording(alloc: Global, image: &Image, run: &Run) -> Result<Bytes,
     let file = xt_image::write(alloc, image)?;
     let points = points_of(alloc, image, run)?;
     let entries = run.history.as_slice();
-    let mut out = Vec::new(alloc);
+    let size = FRONT_SIZE + file.len() + ENTRY_SIZE * entries.len() + POINT_SIZE * points.len();
+    let mut out = Vec::with_capacity(alloc, size)?;
     out.extend_from_slice(b"XTRC")?;
     put_words(&mut out, &[2, file.len() as u32])?;
     out.extend_from_slice(file.as_slice())?;

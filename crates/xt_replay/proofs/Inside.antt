@@ -92,6 +92,10 @@ copy_in b xs k c h same lt is =
     let all : F xs = subst F (sym same) h.copies in
     subst G (sym is) (all k c lt)
 
+pub copy_finds_room : (b : Inside) (xs : List Checkpoint) (k : ℕ) (c : Checkpoint) → IsKept b → xs ≡ b.checkpoints.items → k < length xs
+    → c ≡ slice_index_or xs k c → FindsRoom b c.mark
+copy_finds_room b xs k c h same lt is = finds_room b c h (copy_in b xs k c h same lt is)
+
 -- what was sent finds room
 pub sent_fits : (b : Inside) → IsKept b → length b.pair.memory.contents.sent ≤ b.run.now.options.turns0 + b.run.now.options.turns1
 sent_fits b h =

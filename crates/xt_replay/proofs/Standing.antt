@@ -1,13 +1,11 @@
 -- A run of an image at each position, as two cores over one memory.
-use Rattle.std.proofs.Common.{◌≡◌, ℕ, zero, suc, ◌+◌, ◌-◌, ◌<◌, ◌≤◌, Bool, true, false, Option, Some, None, List, [], ◌∷◌, length, take, drop, get_or, refl, sym, ap, ◌∙◌, subst, arith}
-use Rattle.std.specs.Prelude.{if◌then◌else◌}
+use Rattle.std.proofs.Common.{◌≡◌, ℕ, zero, suc, ◌+◌, ◌-◌, ◌<◌, ◌≤◌, Option, Some, None, List, [], ◌∷◌, length, take, drop, get_or, refl, sym, ap, ◌∙◌, subst, arith}
 use Rattle.std.proofs.lemmas.List.{length_push}
 use Rattle.xt_map.specs.declared.access.Access.{Access}
 use Rattle.xt_map.specs.declared.contents.MemoryContents.{MemoryContents}
-use Rattle.xt_map.specs.declared.segment.Segment.{Segment}
-use Rattle.xt_map.specs.Memory.{cleared_memory, is_loaded, low_bytes, opening_memory, with_bytes, with_segments, with_words}
 use Rattle.xt_map.specs.Serving.{reply_to}
-use Rattle.xt_map.proofs.Sent.{access_sends, sent_of_bytes}
+use Rattle.xt_map.proofs.Sent.{access_sends}
+use Rattle.xt_bus.proofs.Opening.{opening_sends_none}
 use Rattle.xt_trace.specs.declared.run.Run.{Run}
 use Rattle.xt_image.specs.declared.image.Image.{Image}
 use Rattle.xt_runs.specs.Alone.{answer, memory_left}
@@ -98,28 +96,6 @@ fits_one code s n m h f =
       used = omega (arith, entries_grow d s.entries, f.used);
       sent = omega (arith, less, left_sends d s.memory, f.sent);
     }
-
-sent_of_either : (b : Bool) (m n : MemoryContents) → m.sent ≡ n.sent → (if b then m else n).sent ≡ n.sent
-sent_of_either true m n e = e
-sent_of_either false m n e = refl
-
-sent_of_segments : (m : MemoryContents) (segments : List Segment) → (with_segments m segments).sent ≡ m.sent
-sent_of_segments m [] = refl
-sent_of_segments m (s ∷ rest) =
-    sent_of_segments (if is_loaded s then with_bytes m s.addr s.bytes else m) rest
-    ∙ sent_of_either (is_loaded s) (with_bytes m s.addr s.bytes) m (sent_of_bytes m s.addr s.bytes)
-
-sent_of_words : (m : MemoryContents) (words : List (ℕ × ℕ)) → (with_words m words).sent ≡ m.sent
-sent_of_words m [] = refl
-sent_of_words m (w ∷ rest) = sent_of_words (with_bytes m w.0 (low_bytes 4 w.1)) rest ∙ sent_of_bytes m w.0 (low_bytes 4 w.1)
-
-cleared_sends_none : cleared_memory.sent ≡ []
-unfolding cleared_memory
-cleared_sends_none = refl
-
-pub opening_sends_none : (segments : List Segment) (words : List (ℕ × ℕ)) → (opening_memory segments words).sent ≡ []
-unfolding opening_memory
-opening_sends_none segments words = sent_of_words (with_segments cleared_memory segments) words ∙ sent_of_segments cleared_memory segments ∙ cleared_sends_none
 
 -- ---- a run of an image as one of the processor
 

@@ -8,7 +8,7 @@ use xt_bus::Memory;
 use xt_core::Core;
 use xt_exec::Regs;
 use xt_map::regions::Region;
-use xt_map::{Constants, region};
+use xt_map::{Constants, is_constant_at, region};
 use xt_window::WindowFile;
 
 /// The states of both cores and of memory at a position. Contracts see the state of each core and the
@@ -64,9 +64,7 @@ impl<'s> State<'s> {
             Some(Region::RtcFastData | Region::Dram | Region::RtcSlow) => Some(
                 self.memory.byte(addr),
             ),
-            Some(Region::Drom | Region::Iram | Region::RtcFastCode | Region::Irom) => {
-                Some(self.code.byte(addr))
-            }
+            _ if is_constant_at(addr) => Some(self.code.byte(addr)),
             _ => None,
         }
     }

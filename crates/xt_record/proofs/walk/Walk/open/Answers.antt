@@ -1,7 +1,7 @@
 use Rattle.std.proofs.Common.{refl}
 use Rattle.xt_core.specs.Runs.{stack_words}
 use Rattle.xt_record.proofs.Finals.{opens}
-use Rattle.xt_record.proofs.Opening.{opening_sends_none}
+use Rattle.xt_bus.proofs.Opening.{opening_sends_none}
 use Rattle.xt_record.proofs.walk.Walk.open.Goals as goal
 
 pub returns : goal.returns

@@ -1,0 +1,10 @@
+use Rattle.std.proofs.Common.{refl, ◌∙◌}
+use Rattle.xt_map.specs.declared.regions.Region.TheVariants.{RtcSlow}
+use Rattle.xt_bus.specs.Keeps.{state_in}
+use Rattle.xt_bus.proofs.Located.{part_in_place}
+use Rattle.xt_bus.proofs.memory.Memory.rtc_slow.Goals as goal
+
+pub returns : goal.returns
+returns c =
+    part_in_place RtcSlow (state_in c.self.inside) c.args.self.now c.as_slice.result.now c.self.view_is refl c.as_slice.ensures.value
+    (c.as_slice.ensures.len ∙ c.self.invariant.rtc_slow)
