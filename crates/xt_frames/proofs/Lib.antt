@@ -4,3 +4,4 @@ pub mod Sixteen
 pub mod Newest
 pub mod Kept
 pub mod TestRows
+pub mod Laying

@@ -8,3 +8,4 @@ pub mod Verdict
 pub mod Stacks
 pub mod Parts
 pub mod Walked
+pub mod Stepped

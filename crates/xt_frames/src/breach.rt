@@ -172,18 +172,18 @@ fn is_return(i: Insn) -> bool
     )
 }
 
-fn returns_elsewhere(i: Insn, view: &View, newest: Option<Caller>) -> bool
-    ensures { (frames : List Frame) → IsNewest newest frames → result ≡ returns_elsewhere i (state_at frames view.now) }
+fn returns_elsewhere(i: Insn, view: &View, newest: &Option<Caller>) -> bool
+    ensures { (frames : List Frame) → IsNewest newest.now frames → result ≡ returns_elsewhere i (state_at frames view.now) }
 {
     is_return(i)
-        && match newest {
+        && match *newest {
             Some(caller) => view.known(0) / 0x4000_0000 != u32::from(caller.by),
             None => false,
         }
 }
 
-fn has_no_caller(i: Insn, newest: Option<Caller>) -> bool
-    ensures { (frames : List Frame) (v : Upper) → IsNewest newest frames → result ≡ has_no_caller i (state_at frames v) }
+fn has_no_caller(i: Insn, newest: &Option<Caller>) -> bool
+    ensures { (frames : List Frame) (v : Upper) → IsNewest newest.now frames → result ≡ has_no_caller i (state_at frames v) }
 {
     is_return(i) && newest.is_none()
 }
@@ -267,7 +267,7 @@ fn insn_breach(
         → result ≡ first_shown (insn_tests (bounds_of case.now.limits) case.now.fresh live stale i rec.now (state_at frames view.now) (turn_as step.now frames after.now)) }
 {
     let limits = case.limits;
-    let newest = case.newest;
+    let newest = &case.newest;
     let tests = [
         // reads a register that has no value
         test(BreachKind::Unset, reads_none(i, view)),
@@ -370,8 +370,8 @@ pub fn breach_of(
 }
 
 /// The first breach that the record of an underflow shows of the RETW at PC.
-pub fn return_breach(code: &Constants, view: &View, newest: Option<Caller>) -> Option<BreachKind>
-    ensures { (frames : List Frame) → IsNewest newest frames
+pub fn return_breach(code: &Constants, view: &View, newest: &Option<Caller>) -> Option<BreachKind>
+    ensures { (frames : List Frame) → IsNewest newest.now frames
         → result ≡ fetched_return_breach (fetched (constant_byte code.now) view.now.control.pc) (state_at frames view.now) }
 {
     match instruction_at(code, view.pc()) {

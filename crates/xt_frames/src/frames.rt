@@ -6,14 +6,15 @@ ghost use Rattle.xt_map.specs.Memory.{constant_byte};
 ghost use Rattle.xt_frames.specs.FrameStep.{laid};
 ghost use Rattle.xt_frames.specs.SaveAreas.{before};
 ghost use Rattle.xt_frames.specs.Breaches.{inputs_of, loads_stale, own_breach, touches_save_area, window_breach};
-ghost use Rattle.xt_frames.specs.Parts.{IsNewest, IsSmall, frames_after, state_at};
+ghost use Rattle.xt_frames.specs.Parts.{IsNewest, IsSmall, state_at};
 ghost use Rattle.xt_frames.specs.Stacks.{IsRange, Moves, Stack};
 ghost use Rattle.xt_frames.specs.Walked.{IsJudged, IsTested, bounds_of, calls_at, found_in, fresh_before, opened, sp_at, stack_of};
 
-use crate::breach::{Case, Limits, breach_of, fresh_after, return_breach, underflows};
+use crate::breach::{Case, Limits, return_breach, underflows};
 use crate::callers::{calls_in, change, depth_of, newest_of, sp_in, under};
+use crate::judged::judge;
 use crate::kinds::{Breach, BreachKind};
-use crate::view::{Call, Caller, View};
+use crate::view::{Caller, View};
 use std::alloc::{AllocError, Global};
 use std::marker::Model;
 use xt_map::Constants;
@@ -126,26 +127,11 @@ impl Frames {
 
     /// The state without its callers, over which the inputs of a record are laid.
     fn laid_view(&self, rec: &StepRecord) -> View
-        ensures laid { state_at self.now.state.frames result ≡ laid (inputs_of rec.now) self.now.state }
-        ensures stack { Stack self.now.bounds.range.lo self.now.bounds.range.hi self.now.state.seen self.now.state.frames }
-        ensures calls { result.control.ps.callinc < 4 }
+        ensures { state_at self.now.state.frames result ≡ laid (inputs_of rec.now) self.now.state }
     {
         let mut view = self.view;
         view.lay(rec);
-        // (so that what CALLINC can be is known)
-        let _by = view.callinc();
         view
-    }
-
-    /// Goes on to the state after a judged record of this number.
-    fn commit(&mut self, index: u32, fresh: bool, after: View, call: Call)
-        requires { Stack self.old.bounds.range.lo self.old.bounds.range.hi after.seen (frames_after call self.old.state.frames) }
-        ensures { self.new ≡ record self.old { state = state_at (frames_after call self.old.state.frames) after; fresh = fresh; next = index + 1 } }
-    {
-        self.fresh = fresh;
-        self.next = u64::from(index) + 1;
-        self.view = after;
-        change(&mut self.callers, call);
     }
 
     /// Judges a record of this number, by the inputs, the written register and the access of the record alone: a breach, or the
@@ -169,16 +155,19 @@ impl Frames {
         ensures moves { IfOk result (λ u. Moves self.old.state self.new.state) }
     {
         let case = self.case(index, saves, stale);
-        let view = self.laid_view(rec);
-        let plan = view.plan(code);
-        let mut after = view;
-        let step = after.step(code, plan, rec.reply, case.newest);
-        if let Some(kind) = breach_of(&case, plan, rec, &view, &step, &after) {
-            return Err(self.breach(index, kind));
+        match judge(&mut self.view, &case, code, rec) {
+            Ok(done) => {
+                self.fresh = done.fresh;
+                self.next = u64::from(index) + 1;
+                change(&mut self.callers, done.call);
+                Ok(())
+            }
+            Err(kind) => Err(Breach {
+                core: self.core,
+                step: index,
+                kind,
+            }),
         }
-        let fresh = fresh_after(case.fresh, step.kind, plan, code, &view, &after);
-        self.commit(index, fresh, after, step.call);
-        Ok(())
     }
 
     /// Judges a record of this number by what one core alone shows: the first breach of a kind other than SaveStore and StaleLoad,
@@ -198,7 +187,7 @@ impl Frames {
             return Ok(());
         }
         let view = self.laid_view(rec);
-        match return_breach(code, &view, self.newest()) {
+        match return_breach(code, &view, &self.newest()) {
             Some(kind) => Err(self.breach(index, kind)),
             None => Ok(()),
         }

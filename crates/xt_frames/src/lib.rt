@@ -5,6 +5,7 @@
 mod breach;
 mod callers;
 mod frames;
+mod judged;
 mod kinds;
 mod registers;
 #[cfg(test)]

@@ -14,10 +14,11 @@ ghost use Rattle.xt_rows.specs.Outcomes.{outcome_at, value_of};
 ghost use Rattle.xt_rows.specs.Settling.{after_effect, after_flow, settled_interrupt, settled_wait, with_set, written};
 ghost use Rattle.xt_rows.specs.declared.outcome.Flow.TheVariants.{Falls};
 ghost use Rattle.xt_frames.specs.Frames.{Frame, known, opening_frame, seen_after_write};
-ghost use Rattle.xt_frames.specs.FrameStep.{done_in_frame, fetched_step, in_frame, laid, laid_step, popped, pushed, raised, windowed_in_frame};
+ghost use Rattle.xt_frames.specs.FrameStep.{Inputs, done_in_frame, fetched_step, in_frame, laid, laid_step, popped, pushed, raised, windowed_in_frame};
 ghost use Rattle.xt_frames.specs.Breaches.{inputs_of, lacks};
 ghost use Rattle.xt_frames.specs.declared.view.Call.TheVariants.{Stays};
-ghost use Rattle.xt_frames.specs.Parts.{IsGood, IsHeld, IsNewest, IsPlan, IsSmall, state_at, turn_as};
+ghost use Rattle.xt_frames.specs.Parts.{IsGood, IsHeld, IsNewest, IsPlan, IsSmall, Upper, state_at, turn_as};
+ghost use Rattle.xt_frames.specs.Stepped.{covered_of};
 
 use crate::registers::{Seen, after_call, after_return, kept_of};
 use std::marker::Model;
@@ -73,6 +74,17 @@ pub enum Plan {
     Waits,
     /// The bytes at PC are executed, or raise a cause.
     Fetched(Fetch),
+}
+
+/// The registers over which the inputs of a record are laid.
+#[derive(Clone, Copy)]
+pub struct Covered {
+    /// CCOUNT.
+    pub ccount: u32,
+    /// INTERRUPT.
+    pub interrupt: u32,
+    /// PS.OWB, 0 to 15.
+    pub owb: u8,
 }
 
 /// The 16 visible registers and the control state.
@@ -136,6 +148,30 @@ impl View {
         self.special.set_register(number::CCOUNT, rec.ccount);
         self.special.set_register(number::INTERRUPT, rec.interrupt);
         self.special.set_owb(rec.owb % 16);
+    }
+
+    /// What the inputs of a record will be laid over.
+    pub fn covered(&self) -> Covered
+        ensures value { result ≡ covered_of self.now }
+        ensures range { result.owb < 16 }
+    {
+        Covered {
+            ccount: self.special.register(number::CCOUNT),
+            interrupt: self.special.register(number::INTERRUPT),
+            owb: self.special.owb(),
+        }
+    }
+
+    /// Takes the inputs of a record off again.
+    pub fn uncover(&mut self, covered: Covered)
+        requires { covered.owb < 16 }
+        ensures { (old : Upper) (inp : Inputs) (frames : List Frame) → covered ≡ covered_of old
+            → state_at frames self.old ≡ laid inp (state_at frames old) → self.new ≡ old }
+    {
+        self.special.set_register(number::CCOUNT, covered.ccount);
+        self.special
+            .set_register(number::INTERRUPT, covered.interrupt);
+        self.special.set_owb(covered.owb);
     }
 
     /// The value of a visible register, 0 where it has none.
@@ -303,11 +339,11 @@ impl View {
 
     /// RETW outside exception mode, with this value of a0.
     #[tactic(auto, unfolding(crate::specs::FrameStep::popped))]
-    fn leave(&mut self, a0: u32, newest: Option<Caller>) -> Step
-        requires { IsSmall newest }
-        ensures { (frames : List Frame) → IsNewest newest frames → turn_as result frames self.new ≡ popped a0 (state_at frames self.old) }
+    fn leave(&mut self, a0: u32, newest: &Option<Caller>) -> Step
+        requires { IsSmall newest.now }
+        ensures { (frames : List Frame) → IsNewest newest.now frames → turn_as result frames self.new ≡ popped a0 (state_at frames self.old) }
     {
-        let Some(caller) = newest else {
+        let Some(caller) = *newest else {
             return self.raise(cause::ILLEGAL_INSTRUCTION, None);
         };
         self.seen = after_return(&caller.kept, &self.seen, caller.by);
@@ -360,10 +396,10 @@ impl View {
         outcome_of(code, i, self.pc, values, ps, self.special.threadptr())
     }
 
-    fn windowed(&mut self, step: WindowStep, len: u8, newest: Option<Caller>) -> Step
+    fn windowed(&mut self, step: WindowStep, len: u8, newest: &Option<Caller>) -> Step
         requires proper { IsProperStep step }
-        requires small { IsSmall newest }
-        ensures { (frames : List Frame) (reply : ℕ) → IsNewest newest frames → turn_as result frames self.new ≡ windowed_in_frame step len reply (state_at frames self.old) }
+        requires small { IsSmall newest.now }
+        ensures { (frames : List Frame) (reply : ℕ) → IsNewest newest.now frames → turn_as result frames self.new ≡ windowed_in_frame step len reply (state_at frames self.old) }
     {
         match step {
             WindowStep::Enters(number, value) => {
@@ -388,10 +424,10 @@ impl View {
     }
 
     /// What an outcome leaves.
-    fn carry_out(&mut self, outcome: Outcome, len: u8, reply: u32, newest: Option<Caller>) -> Step
+    fn carry_out(&mut self, outcome: Outcome, len: u8, reply: u32, newest: &Option<Caller>) -> Step
         requires proper { IsProper IsAny outcome }
-        requires small { IsSmall newest }
-        ensures { (frames : List Frame) → IsNewest newest frames → turn_as result frames self.new ≡ done_in_frame outcome len reply (state_at frames self.old) }
+        requires small { IsSmall newest.now }
+        ensures { (frames : List Frame) → IsNewest newest.now frames → turn_as result frames self.new ≡ done_in_frame outcome len reply (state_at frames self.old) }
     {
         match outcome {
             Outcome::Does(e) => {
@@ -444,11 +480,11 @@ impl View {
         code: &Constants,
         fetch: Fetch,
         reply: u32,
-        newest: Option<Caller>,
+        newest: &Option<Caller>,
     ) -> Step
-        requires small { IsSmall newest }
+        requires small { IsSmall newest.now }
         requires good { IsGoodFetch fetch }
-        ensures { (frames : List Frame) (f : Fetched) → IsFetched fetch f → IsNewest newest frames
+        ensures { (frames : List Frame) (f : Fetched) → IsFetched fetch f → IsNewest newest.now frames
             → turn_as result frames self.new ≡ fetched_step f (constant_byte code.now) reply (state_at frames self.old) }
     {
         match fetch {
@@ -463,11 +499,17 @@ impl View {
 
     /// The step that was planned, with the reply to its access, where this is the newest caller.
     #[tactic(auto, unfolding(crate::specs::FrameStep::laid_step))]
-    pub fn step(&mut self, code: &Constants, plan: Plan, reply: u32, newest: Option<Caller>) -> Step
+    pub fn step(
+        &mut self,
+        code: &Constants,
+        plan: Plan,
+        reply: u32,
+        newest: &Option<Caller>,
+    ) -> Step
         requires plan { IsPlan plan (constant_byte code.now) self.old.control }
-        requires small { IsSmall newest }
+        requires small { IsSmall newest.now }
         requires good { IsGood plan }
-        ensures { (frames : List Frame) → IsNewest newest frames
+        ensures { (frames : List Frame) → IsNewest newest.now frames
             → turn_as result frames self.new ≡ laid_step (constant_byte code.now) reply (state_at frames self.old) }
     {
         match plan {

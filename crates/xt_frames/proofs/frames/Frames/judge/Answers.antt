@@ -1,57 +1,102 @@
-use Rattle.std.proofs.Common.{◌≡◌, None, sym, ◌∙◌, subst}
+use Rattle.std.proofs.Common.{◌≡◌, ℕ, ◌+◌, Bool, Option, List, refl, sym, ◌∙◌, ap, arith, subst}
+use Rattle.std.specs.Vec.{vec_capacity}
 use Rattle.xt_map.specs.Memory.{constant_byte}
-use Rattle.xt_frames.specs.Frames.{FrameState}
-use Rattle.xt_frames.specs.FrameStep.{FrameTurn, laid}
-use Rattle.xt_frames.specs.Breaches.{Bounds, inputs_of, laid_breach}
-use Rattle.xt_frames.specs.Parts.{state_at, turn_as}
+use Rattle.xt_frames.specs.declared.kinds.BreachKind.{BreachKind}
+use Rattle.xt_frames.specs.Frames.{Frame, FrameState}
+use Rattle.xt_frames.specs.SaveAreas.{before}
+use Rattle.xt_frames.specs.Breaches.{Bounds, breach_of}
+use Rattle.xt_frames.specs.Judging.{fresh_on, step_on}
+use Rattle.xt_frames.specs.Parts.{IsNewest, Upper, frames_of, state_at}
 use Rattle.xt_frames.specs.Stacks.{Moves, Stack}
-use Rattle.xt_frames.specs.Walked.{IsCase, Walked, bounds_of}
-use Rattle.xt_frames.proofs.StackSteps.{keeps_stack, moves_as, moves_frames}
-use Rattle.xt_frames.proofs.TestRows.{plan_ranges}
+use Rattle.xt_frames.specs.Walked.{AreKept, IsCase, Walked, bounds_of, fresh_before}
+use Rattle.xt_frames.proofs.Kept.{kept_room}
 use Rattle.xt_frames.proofs.frames.Frames.judge.Goals as goal
 
-pub commit-requires : goal.commit-requires
-commit-requires c =
-    let w = c.args.self.now in
-    let code = constant_byte c.args.code.now in
-    let rec = c.args.rec.now in
-    let case = c.case-case.result in
-    let e = c.case-case.ensures in
-    let frames = w.state.frames in
-    let g : FrameState = state_at frames c.laid_view-view.result in
-    let live = c.requires.0 in
-    let dead = c.requires.1 in
-    let k : IsCase case rec frames live dead = record { saves = c.requires.2 ∙ sym e.saves; stale_load = c.requires.3 ∙ sym e.stale; newest = e.newest; under = e.under } in
-    let turn = c.step-step.ensures frames e.newest in
-    let none : laid_breach (bounds_of case.limits) case.fresh code live dead rec g ≡ None = sym (c.breach_of.ensures code frames live dead k c.plan-plan.ensures.plan turn) ∙ c.in_default.is in
-    let P : FrameState → Type 0 = λ f. Stack w.bounds.range.lo w.bounds.range.hi f.seen f.frames in
-    let B : Bounds → Type 0 = λ b. Stack b.range.lo b.range.hi g.seen g.frames in
-    let stack : P g = subst P (sym c.laid_view-view.ensures.laid) c.laid_view-view.ensures.stack in
-    let kept = keeps_stack code (bounds_of case.limits) case.fresh live dead rec g (subst B (sym e.bounds) stack) c.laid_view-view.ensures.calls (plan_ranges c.plan-plan.result code g.control c.plan-plan.ensures.plan) none in
-    let T : FrameTurn → Type 0 = λ u. Stack case.limits.lo case.limits.hi u.after.seen u.after.frames in
-    let U : Bounds → Type 0 = λ b. Stack b.range.lo b.range.hi (turn_as c.step-step.result frames c.step-step.new.self).after.seen (turn_as c.step-step.result frames c.step-step.new.self).after.frames in
-    subst U e.bounds (subst T (sym turn) kept)
+pub change-requires : goal.change-requires
+change-requires c =
+    let i = c.self.inside in
+    let room = kept_room i.limits.lo i.limits.hi i.view i.callers.items (vec_capacity i.callers) c.self.invariant in
+    let ok = i.callers.ok in
+    omega (arith, room, ok)
 
-pub returns-clause-moves : goal.returns-clause-moves
-returns-clause-moves c =
+pub invariant_of-self-in-Err : goal.invariant_of-self-in-Err
+invariant_of-self-in-Err c =
+    let i = c.self.inside in
+    let e = c.case-case.ensures in
+    let case = c.case-case.result in
+    let frames = frames_of i.callers.items in
+    let N : Walked → Type 0 = λ v. IsNewest case.newest v.state.frames in
+    let U : Walked → Type 0 = λ v. case.under ≡ before case.limits.hi v.state.frames in
+    let live = c.requires.0 in
+    let dead = c.requires.1 in
+    let k : IsCase case c.args.rec.now frames live dead = record { saves = c.requires.2 ∙ sym e.saves; stale_load = c.requires.3 ∙ sym e.stale; newest = subst N (sym c.self.view_is) e.newest; under = subst U (sym c.self.view_is) e.under } in
+    let done = c.in-Err.ensures.done frames live dead k in
+    let K : Upper → Type 0 = λ v. AreKept i.limits.lo i.limits.hi v i.callers.items (vec_capacity i.callers) in
+    subst K (sym done.1) c.self.invariant
+
+pub returns-in-Ok-clause-judged : goal.returns-in-Ok-clause-judged
+returns-in-Ok-clause-judged c = λ live dead saves stale.
+    let i = c.self.inside in
     let w = c.args.self.now in
     let code = constant_byte c.args.code.now in
     let rec = c.args.rec.now in
-    let case = c.case-case.result in
     let e = c.case-case.ensures in
-    let frames = w.state.frames in
-    let g : FrameState = state_at frames c.laid_view-view.result in
+    let case = c.case-case.result in
+    let frames = frames_of i.callers.items in
+    let N : Walked → Type 0 = λ v. IsNewest case.newest v.state.frames in
+    let U : Walked → Type 0 = λ v. case.under ≡ before case.limits.hi v.state.frames in
+    let k : IsCase case rec frames live dead = record { saves = saves ∙ sym e.saves; stale_load = stale ∙ sym e.stale; newest = subst N (sym c.self.view_is) e.newest; under = subst U (sym c.self.view_is) e.under } in
+    let done = c.in-Ok.ensures.done frames live dead k in
+    let new = c.judge.new.view in
+    let old = state_at frames i.view in
+    let B : Bounds → Bool → FrameState → Option BreachKind = λ b fresh s. breach_of b fresh code live dead rec s in
+    let found = ap (λ (b : Bounds). B b (fresh_before w c.args.index) w.state) (sym e.bounds)
+    ∙ (ap (λ (fresh : Bool). B (bounds_of case.limits) fresh w.state) (sym e.fresh)
+    ∙ (ap (λ (v : Walked). B (bounds_of case.limits) case.fresh v.state) (sym c.self.view_is) ∙ done.0)) in
+    let R : FrameState → Bool → ℕ → Walked = λ s fresh n. record { core = i.core; bounds = bounds_of i.limits; state = s; fresh = fresh; next = n + 1 } in
+    let after = (step_on code rec old).after in
+    let past = ap (λ (fs : List Frame). R (state_at fs new) c.in-Ok.done.fresh c.from.result) c.change.ensures.frames
+    ∙ (ap (λ (s : FrameState). R s c.in-Ok.done.fresh c.from.result) done.1
+    ∙ (ap (λ (fresh : Bool). R after fresh c.from.result) (done.2 ∙ ap (λ (fresh : Bool). fresh_on fresh code rec old) e.fresh)
+    ∙ (ap (λ (n : ℕ). R after (fresh_on (fresh_before w c.args.index) code rec old) n) c.from.ensures
+    ∙ ap (λ (v : Walked). record v { state = (step_on code rec v.state).after; fresh = fresh_on (fresh_before w c.args.index) code rec v.state; next = c.args.index + 1 }) c.self.view_is))) in
+    (found, past)
+
+pub returns-in-Ok-clause-moves : goal.returns-in-Ok-clause-moves
+returns-in-Ok-clause-moves c =
+    let i = c.self.inside in
+    let e = c.case-case.ensures in
+    let case = c.case-case.result in
+    let frames = frames_of i.callers.items in
+    let N : Walked → Type 0 = λ v. IsNewest case.newest v.state.frames in
+    let U : Walked → Type 0 = λ v. case.under ≡ before case.limits.hi v.state.frames in
     let live = c.requires.0 in
     let dead = c.requires.1 in
-    let k : IsCase case rec frames live dead = record { saves = c.requires.2 ∙ sym e.saves; stale_load = c.requires.3 ∙ sym e.stale; newest = e.newest; under = e.under } in
-    let turn = c.step-step.ensures frames e.newest in
-    let none : laid_breach (bounds_of case.limits) case.fresh code live dead rec g ≡ None = sym (c.breach_of.ensures code frames live dead k c.plan-plan.ensures.plan turn) ∙ c.in_default.is in
-    let P : FrameState → Type 0 = λ f. Stack w.bounds.range.lo w.bounds.range.hi f.seen f.frames in
-    let B : Bounds → Type 0 = λ b. Stack b.range.lo b.range.hi g.seen g.frames in
-    let stack : P g = subst P (sym c.laid_view-view.ensures.laid) c.laid_view-view.ensures.stack in
-    let moved = moves_frames code (bounds_of case.limits) case.fresh live dead rec g (subst B (sym e.bounds) stack) c.laid_view-view.ensures.calls (plan_ranges c.plan-plan.result code g.control c.plan-plan.ensures.plan) none in
-    let after : FrameState = (turn_as c.step-step.result frames c.step-step.new.self).after in
-    let T : FrameTurn → Type 0 = λ u. Moves g u.after in
-    let G : FrameState → Type 0 = λ f. Moves f after in
-    let W : Walked → Type 0 = λ v. Moves w.state v.state in
-    subst W (sym c.commit.ensures) (moves_as (inputs_of rec) w.state after (subst G c.laid_view-view.ensures.laid (subst T (sym turn) moved)))
+    let k : IsCase case c.args.rec.now frames live dead = record { saves = c.requires.2 ∙ sym e.saves; stale_load = c.requires.3 ∙ sym e.stale; newest = subst N (sym c.self.view_is) e.newest; under = subst U (sym c.self.view_is) e.under } in
+    let S : Bounds → Type 0 = λ b. Stack b.range.lo b.range.hi i.view.seen frames in
+    let bounds : bounds_of i.limits ≡ bounds_of case.limits = ap (λ (v : Walked). v.bounds) c.self.view_is ∙ sym e.bounds in
+    let kept = c.in-Ok.ensures.kept frames live dead k (subst S bounds c.self.invariant.stack) in
+    let new = c.judge.new.view in
+    let F : List Frame → Type 0 = λ fs. Moves (state_at frames i.view) (state_at fs new) in
+    let W : Walked → Type 0 = λ v. Moves v.state (state_at (frames_of c.change.new.callers.items) new) in
+    subst W c.self.view_is (subst F (sym c.change.ensures.frames) kept.1)
+
+pub returns-in-Err-clause-judged : goal.returns-in-Err-clause-judged
+returns-in-Err-clause-judged c = λ live dead saves stale.
+    let i = c.self.inside in
+    let w = c.args.self.now in
+    let code = constant_byte c.args.code.now in
+    let rec = c.args.rec.now in
+    let e = c.case-case.ensures in
+    let case = c.case-case.result in
+    let frames = frames_of i.callers.items in
+    let N : Walked → Type 0 = λ v. IsNewest case.newest v.state.frames in
+    let U : Walked → Type 0 = λ v. case.under ≡ before case.limits.hi v.state.frames in
+    let k : IsCase case rec frames live dead = record { saves = saves ∙ sym e.saves; stale_load = stale ∙ sym e.stale; newest = subst N (sym c.self.view_is) e.newest; under = subst U (sym c.self.view_is) e.under } in
+    let done = c.in-Err.ensures.done frames live dead k in
+    let B : Bounds → Bool → FrameState → Option BreachKind = λ b fresh s. breach_of b fresh code live dead rec s in
+    let found = ap (λ (b : Bounds). B b (fresh_before w c.args.index) w.state) (sym e.bounds)
+    ∙ (ap (λ (fresh : Bool). B (bounds_of case.limits) fresh w.state) (sym e.fresh)
+    ∙ (ap (λ (v : Walked). B (bounds_of case.limits) case.fresh v.state) (sym c.self.view_is) ∙ done.0)) in
+    let same = ap (λ (u : Upper). record { core = i.core; bounds = bounds_of i.limits; state = state_at frames u; fresh = i.fresh; next = i.next }) done.1 ∙ c.self.view_is in
+    ((found, ap (λ (v : Walked). v.core) c.self.view_is, refl), same)
