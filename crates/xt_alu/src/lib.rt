@@ -8,8 +8,6 @@ pub mod arithmetic;
 pub mod conditions;
 pub mod multiply;
 pub mod shifts;
-#[cfg(test)]
-mod tests;
 pub mod unary;
 
 pub use arithmetic::{addx, bit_and, bit_or, bit_xor, max, maxu, min, minu, subx};

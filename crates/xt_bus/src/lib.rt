@@ -11,6 +11,3 @@ mod places;
 
 pub use bus::Bus;
 pub use memory::Memory;
-
-#[cfg(test)]
-mod tests;

@@ -9,8 +9,6 @@ mod immediate;
 mod memory;
 mod narrow;
 mod rst;
-#[cfg(test)]
-mod tests;
 mod zero;
 
 ghost use Rattle.std.specs.Prelude.{◌≡◌, ◌↔◌, ℕ, ◌+◌, ◌*◌, ◌%◌, ◌<◌, ◌≤◌, ◌⊎◌, IsTrue, true, Some};

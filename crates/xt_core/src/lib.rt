@@ -8,8 +8,6 @@ mod cursor;
 mod ends;
 mod record;
 mod replies;
-#[cfg(test)]
-mod tests;
 mod turn;
 
 pub use begin::Begin;

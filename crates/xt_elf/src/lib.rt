@@ -9,6 +9,3 @@ mod spans;
 
 pub use converting::from_elf;
 pub use fault::ElfFault;
-
-#[cfg(test)]
-mod tests;

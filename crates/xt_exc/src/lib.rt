@@ -11,9 +11,6 @@ ghost use Rattle.xt_special.specs.WindowExceptions.{after_window_exception};
 ghost use Rattle.xt_special.specs.Interrupts.{after_interrupt};
 ghost use Rattle.xt_exc.specs.Pending.{level_taken};
 
-#[cfg(test)]
-mod tests;
-
 use xt_special::{Special, number};
 
 /// The offsets of the vectors from VECBASE.

@@ -8,8 +8,6 @@ mod frames;
 mod judged;
 mod kinds;
 mod registers;
-#[cfg(test)]
-mod tests;
 mod view;
 
 pub use frames::Frames;

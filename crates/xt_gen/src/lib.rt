@@ -7,6 +7,3 @@ mod program;
 mod table;
 
 pub use making::generated;
-
-#[cfg(test)]
-mod tests;

@@ -7,8 +7,6 @@
 
 mod marks;
 mod spelled;
-#[cfg(test)]
-mod tests;
 mod tracking;
 mod vector;
 

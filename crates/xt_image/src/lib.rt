@@ -20,6 +20,3 @@ pub use laws::{
 pub use made::made_head;
 pub use reading::read;
 pub use writing::write;
-
-#[cfg(test)]
-mod tests;

@@ -13,8 +13,6 @@ mod safe;
 mod sink;
 mod source;
 mod standard;
-#[cfg(test)]
-mod tests;
 mod unread;
 mod whole;
 

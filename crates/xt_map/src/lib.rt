@@ -16,8 +16,6 @@ mod placing;
 mod region_kinds;
 pub mod regions;
 mod segment;
-#[cfg(test)]
-mod tests;
 
 pub use access::{Access, Entry, Kind};
 pub use bytes::{Bytes, Text};

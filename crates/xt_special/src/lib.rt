@@ -8,8 +8,6 @@ pub mod laws;
 pub mod number;
 mod ps;
 mod registers;
-#[cfg(test)]
-mod tests;
 
 pub use ps::Ps;
 pub use registers::{Special, ps_written, timer_bit, value_kept, value_read, without_bits};

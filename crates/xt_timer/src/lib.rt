@@ -8,9 +8,6 @@ ghost use Rattle.xt_special.specs.Numbers as numbers;
 ghost use Rattle.xt_special.specs.Access.{timer_bit};
 ghost use Rattle.xt_special.specs.Timers.{ticked_special, with_timer};
 
-#[cfg(test)]
-mod tests;
-
 use xt_special::{Special, number};
 
 /// CCOUNT grows by one, modulo 2^32, and then each timer whose CCOMPARE equals it sets its bit of INTERRUPT.

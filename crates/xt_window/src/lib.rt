@@ -7,8 +7,6 @@ mod file;
 mod front;
 pub mod laws;
 pub mod ring;
-#[cfg(test)]
-mod tests;
 mod windows;
 
 pub use file::WindowFile;

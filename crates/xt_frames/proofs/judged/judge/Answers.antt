@@ -1,6 +1,6 @@
 use Rattle.std.proofs.Common.{◌≡◌, ℕ, ◌<◌, Bool, None, sym, ◌∙◌, ap, subst}
 use Rattle.xt_map.specs.Memory.{constant_byte}
-use Rattle.xt_rows.specs.Fetching.{fetched}
+use Rattle.xt_fetch.specs.Fetching.{fetched}
 use Rattle.xt_frames.specs.Frames.{FrameState}
 use Rattle.xt_frames.specs.FrameStep.{FrameTurn, laid, laid_step}
 use Rattle.xt_frames.specs.Breaches.{fresh_after, inputs_of, laid_breach}
