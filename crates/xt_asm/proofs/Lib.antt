@@ -8,7 +8,6 @@ pub mod Pooling
 pub mod Walking
 pub mod Merging
 pub mod Closing
-pub mod Capacity
 pub mod WellFormedLines
 pub mod WellFormedPlaces
 pub mod WellFormedSegments

@@ -1,25 +1,25 @@
 -- The image of a text without a fault is well formed.
-use Rattle.std.proofs.Common.{◌≡◌, ℕ, ◌+◌, ◌*◌, ◌<◌, ◌≤◌, true, false, ◌&&◌, ◌||◌, if◌then◌else◌, List, [], ◌∷◌, ◌++◌, length, get_or, Option, Some, None, refl, sym, ap, ◌∙◌, subst, ◌⊎◌, inl, inr, ⊎_elim, arith, length-append}
+use Rattle.std.proofs.Common.{◌≡◌, ℕ, ◌+◌, ◌<◌, ◌≤◌, true, false, ◌&&◌, ◌||◌, List, [], ◌∷◌, ◌++◌, length, get_or, Option, Some, None, sym, ap, ◌∙◌, subst, ◌⊎◌, inl, inr, ⊎_elim, arith}
 use Rattle.std.proofs.Math.ListN.{get_or-map}
-use Rattle.std.specs.Prelude.{ℤ, pos, map, zip, ◌==◌, nat_le, nat_lt, not, max, min}
+use Rattle.std.specs.Prelude.{ℤ, pos, map, zip, ◌==◌, nat_lt, not, max, min}
 use Rattle.std.specs.Option.{option_map_or}
-use Rattle.std.specs.List.{AllByRecursion, flat_map, list_any, sum_by}
-use Rattle.std.proofs.lemmas.Bool.{and_parts, and_right, eq-eqb, not-false, or_left, or_right}
+use Rattle.std.specs.List.{AllByRecursion, list_any, sum_by}
+use Rattle.std.proofs.lemmas.Bool.{and_right, eq-eqb, not-false, or_left, or_right}
 use Rattle.std.proofs.lemmas.Bool.Decides.{nat_tests}
 use Rattle.std.proofs.lemmas.List.{length-map}
 use Rattle.std.proofs.lemmas.List.Elements.{All-from_recursion}
-use Rattle.std.proofs.lemmas.List.Sums.{get_or-le-sum_by, sum_by-cons}
+use Rattle.std.proofs.lemmas.List.Sums.{get_or-le-sum_by}
 use Rattle.xt_expr.specs.declared.labels.Label.{Label}
 use Rattle.xt_expr.specs.Values.{value_of}
 use Rattle.xt_map.specs.declared.segment.Segment.{Segment}
 use Rattle.xt_map.specs.Memory.{is_loaded}
-use Rattle.xt_map.specs.Placing.{IsPlaced, do_overlap, end_of_segment, is_device, is_well_placed, takes}
+use Rattle.xt_map.specs.Placing.{IsPlaced, do_overlap, end_of_segment, is_well_placed, takes}
 use Rattle.xt_map.specs.Regions.{is_executable, ranges, region_of}
 use Rattle.xt_image.specs.declared.image.Head.{Head}
 use Rattle.xt_image.specs.declared.image.Image.{Image}
-use Rattle.xt_image.specs.Layout.{checksum_place, segment_bytes}
-use Rattle.xt_image.specs.Parts.{FitsImage, FitsSegment, IsWellFormed, MeetsRules, image_bytes}
-use Rattle.xt_image.proofs.Ruled.{by_rules, written_length}
+use Rattle.xt_image.specs.Parts.{FitsImage, FitsSegment, IsWellFormed, MeetsRules}
+use Rattle.xt_image.proofs.Capacity.{bytes_in, fit_in_regions, share_address, short_by_bytes}
+use Rattle.xt_image.proofs.Ruled.{by_rules}
 use Rattle.xt_parse.specs.declared.line.Line.{Line}
 use Rattle.xt_parse.specs.declared.statement.Statement.{Statement}
 use Rattle.xt_parse.specs.declared.statement.Statement.TheVariants.{Entry}
@@ -37,7 +37,6 @@ use Rattle.xt_asm.specs.Images.{IsImageOf, entry_of, entry_or, segments_of}
 use Rattle.xt_asm.specs.Kinds.{fault_of, is_code, is_stray_entry, lines_fault, text_fault}
 use Rattle.xt_asm.specs.Laws.{TextImageIsWellFormed}
 use Rattle.xt_asm.specs.Pieces.{ArePieces, sources_of}
-use Rattle.xt_asm.proofs.Capacity.{apart_by_recursion, bytes_in, fit_in_regions, is_within, share_address}
 use Rattle.xt_asm.proofs.WellFormedLines.{FindsNone, IsFaultless, apart_at, faultless, few_segments, overlapping, stray}
 use Rattle.xt_asm.proofs.Clear.{not_failed}
 use Rattle.xt_asm.proofs.WellFormedNumbers.{HasNumbers, all_have_numbers, executable_fits, pieces_are_bytes}
@@ -69,22 +68,30 @@ record AreGood (segments : List Segment) : Type 0 where
   even : AllByRecursion IsEven segments
   in_place : AllByRecursion IsInPlace segments
   numbers : AllByRecursion HasNumbers segments
-  apart : (i j : ℕ) (d : Segment) → i < j → j < length segments → share_address (get_or segments j d) (get_or segments i d) ≡ false
+  apart : (i j : ℕ) (d : Segment) → i < j → j < length segments → share_address (get_or segments i d) (get_or segments j d) ≡ false
 
 spans_are : (lines : List Line) (pieces : List (List ℕ)) → map length pieces ≡ sizes_after (words_of lines) [] lines → spans_of lines ≡ map (λ s. span s.addr (end_of_segment s)) (segments_of (zip lines pieces))
 unfolding spans_of
 spans_are lines pieces sizes = spans_of_segments (words_of lines) [] lines pieces sizes
 
+-- of numbers: m addresses from a on and n from b on
+no_address_of_numbers : (a m b n : ℕ) → ((nat_lt b (b + n) && nat_lt a (a + m)) && (nat_lt b (a + m) && nat_lt a (b + n))) ≡ false → nat_lt (max a b) (min (a + m) (b + n)) ≡ false
+no_address_of_numbers a m b n h = grind (arith, nat_tests)
+
+no_address : (s t : Segment) → meet (span t.addr (end_of_segment t)) (span s.addr (end_of_segment s)) ≡ false → share_address s t ≡ false
+no_address s t apart = no_address_of_numbers s.addr (length s.bytes) t.addr (length t.bytes) apart
+
 segments_apart : (lines : List Line) (segments : List Segment) → FindsNone (overlapping meet (spans_of lines)) [] lines → spans_of lines ≡ map (λ s. span s.addr (end_of_segment s)) segments →
-    length segments ≡ segments_in lines → (i j : ℕ) (d : Segment) → i < j → j < length segments → share_address (get_or segments j d) (get_or segments i d) ≡ false
+    length segments ≡ segments_in lines → (i j : ℕ) (d : Segment) → i < j → j < length segments → share_address (get_or segments i d) (get_or segments j d) ≡ false
 segments_apart lines segments none same many i j d lt within =
     let spans = map (λ s. span s.addr (end_of_segment s)) segments in
     let none_there = subst (λ xs. FindsNone (overlapping meet xs) [] lines) same none in
     let long : length spans ≡ length segments = length-map segments (λ s. span s.addr (end_of_segment s)) in
     let apart : meet (get_or spans j (span d.addr (end_of_segment d))) (get_or spans i (span d.addr (end_of_segment d))) ≡ false
     = apart_at meet spans lines none_there (long ∙ many) i j (span d.addr (end_of_segment d)) lt (omega arith) in
-    ap (λ x. meet x (span (get_or segments i d).addr (end_of_segment (get_or segments i d)))) (sym (get_or-map (λ s. span s.addr (end_of_segment s)) segments j d))
-    ∙ ap (meet (get_or spans j (span d.addr (end_of_segment d)))) (sym (get_or-map (λ s. span s.addr (end_of_segment s)) segments i d)) ∙ apart
+    no_address (get_or segments i d) (get_or segments j d)
+    (ap (λ x. meet x (span (get_or segments i d).addr (end_of_segment (get_or segments i d)))) (sym (get_or-map (λ s. span s.addr (end_of_segment s)) segments j d))
+    ∙ ap (meet (get_or spans j (span d.addr (end_of_segment d)))) (sym (get_or-map (λ s. span s.addr (end_of_segment s)) segments i d)) ∙ apart)
 
 good_segments : (lines : List Line) (pieces : List (List ℕ)) → IsFaultless lines → AllByRecursion (λ l. StartsLow l.statement) lines → ArePieces (sources_of lines) pieces →
     AreGood (segments_of (zip lines pieces))
@@ -103,31 +110,25 @@ good_segments lines pieces f low are =
 
 -- ---- their places
 
+in_one_range : (s : Segment) → IsInPlace s → (bytes_in s ≡ 0) ⊎ (list_any (takes s) ranges ≡ true)
+in_one_range s here =
+    ⊎_elim
+    (λ (none : end_of_segment s ≡ s.addr). inl (omega arith))
+    (λ (one : is_in_place s.addr (span s.addr (end_of_segment s)) ≡ true). inr (some_range (takes s) s.addr s.addr (end_of_segment s) (λ r h. h) one)) here
+
 well_placed : (s : Segment) → IsInPlace s → is_well_placed s ≡ true
 well_placed s here =
     or_right (not (is_loaded s)) (length s.bytes == 0 || list_any (takes s) ranges)
     (⊎_elim
-    (λ (none : end_of_segment s ≡ s.addr). or_left (length s.bytes == 0) (list_any (takes s) ranges) (eq-eqb (length s.bytes) 0 (omega arith)))
-    (λ (one : is_in_place s.addr (span s.addr (end_of_segment s)) ≡ true). or_right (length s.bytes == 0) (list_any (takes s) ranges) (some_range (takes s) s.addr s.addr (end_of_segment s) (λ r h. h) one)) here)
-
-in_one_range : (s : Segment) → IsInPlace s → (bytes_in s ≡ 0) ⊎ (list_any (is_within s) ranges ≡ true)
-in_one_range s here =
-    ⊎_elim
-    (λ (none : end_of_segment s ≡ s.addr). inl (omega arith))
-    (λ (one : is_in_place s.addr (span s.addr (end_of_segment s)) ≡ true). inr (some_range (is_within s) s.addr s.addr (end_of_segment s)
-    (λ r h. (and_parts (not (is_device r.region)) (nat_le r.first s.addr && nat_le (end_of_segment s) (r.last + 1)) h).1) one)) here
+    (λ (none : bytes_in s ≡ 0). or_left (length s.bytes == 0) (list_any (takes s) ranges) (eq-eqb (length s.bytes) 0 none))
+    (λ (one : list_any (takes s) ranges ≡ true). or_right (length s.bytes == 0) (list_any (takes s) ranges) one) (in_one_range s here))
 
 by_each : {X : Type 0} (P Q : X → Type 0) → ((x : X) → P x → Q x) → (xs : List X) → AllByRecursion P xs → AllByRecursion Q xs
 by_each P Q f [] h = tt
 by_each P Q f (x ∷ xs) h = (f x h.0, by_each P Q f xs h.1)
 
--- of numbers: m addresses from a on and n from b on
-no_overlap_of_numbers : (a m b n : ℕ) → ((nat_lt b (b + n) && nat_lt a (a + m)) && (nat_lt b (a + m) && nat_lt a (b + n))) ≡ false → nat_lt (max a b) (min (a + m) (b + n)) ≡ false
-no_overlap_of_numbers a m b n h = grind (arith, nat_tests)
-
-no_overlap : (s t : Segment) → share_address t s ≡ false → do_overlap s t ≡ false
-no_overlap s t apart =
-    and_right (is_loaded s && is_loaded t) (nat_lt (max s.addr t.addr) (min (end_of_segment s) (end_of_segment t))) (no_overlap_of_numbers s.addr (length s.bytes) t.addr (length t.bytes) apart)
+no_overlap : (s t : Segment) → share_address s t ≡ false → do_overlap s t ≡ false
+no_overlap s t apart = and_right (is_loaded s && is_loaded t) (share_address s t) apart
 
 placed : (segments : List Segment) → AreGood segments → IsPlaced segments
 placed segments g = record {
@@ -136,18 +137,10 @@ placed segments g = record {
 }
 
 all_bytes : (segments : List Segment) → AreGood segments → sum_by bytes_in segments ≤ 8093698
-all_bytes segments g = fit_in_regions segments (apart_by_recursion segments g.apart)
-    (by_each IsInPlace (λ s. (bytes_in s ≡ 0) ⊎ (list_any (is_within s) ranges ≡ true)) in_one_range segments g.in_place)
+all_bytes segments g = fit_in_regions segments g.apart
+    (by_each IsInPlace (λ s. (bytes_in s ≡ 0) ⊎ (list_any (takes s) ranges ≡ true)) in_one_range segments g.in_place)
 
 -- ---- the image
-
-segment_long : (s : Segment) → length (segment_bytes s) ≡ 8 + bytes_in s
-segment_long s = omega arith
-
-segments_long : (segments : List Segment) → length (flat_map segment_bytes segments) ≡ 8 * length segments + sum_by bytes_in segments
-segments_long [] = refl
-segments_long (s ∷ segments) =
-    omega (arith, length-append (segment_bytes s) (flat_map segment_bytes segments), segment_long s, segments_long segments, sum_by-cons bytes_in s segments)
 
 fits_segment : (segments : List Segment) (k : ℕ) (d : Segment) → k < length segments → AreGood segments → FitsSegment (get_or segments k d)
 fits_segment segments k d lt g =
@@ -171,11 +164,6 @@ fits_image lines image is code g =
       segments = λ k d lt. fits_segment image.segments k d lt g;
     }
 
-short : (image : Image) → FitsImage image → AreGood image.segments → image.digest ≡ true → length (image_bytes image) ≤ 8388608
-short image fits g digest =
-    let long : length (image_bytes image) ≡ (checksum_place image.segments + 1) + 32 = written_length image fits ∙ ap (λ b. (checksum_place image.segments + 1) + (if b then 32 else 0)) digest in
-    omega (arith, segments_long image.segments, all_bytes image.segments g, g.few)
-
 lines_well_formed : (lines : List Line) (image : Image) → lines_fault lines ≡ None → AllByRecursion (λ l. StartsLow l.statement) lines → IsImageOf lines image → IsWellFormed image
 lines_well_formed lines image none low is =
     let f : IsFaultless lines = faultless lines none in
@@ -189,7 +177,7 @@ lines_well_formed lines image none low is =
       placed = placed image.segments g;
       entry = code;
     } in
-    (by_rules image).1 (fits, (rules, short image fits g is.digest))
+    (by_rules image).1 (fits, (rules, short_by_bytes image fits g.few (all_bytes image.segments g)))
 
 pub well_formed : TextImageIsWellFormed
 unfolding text_fault

@@ -1,20 +1,11 @@
 -- The first finding, where it is known in which part of the rules it stands.
-use Rattle.std.proofs.Common.{◌≡◌, ℕ, List, [], ◌∷◌, ◌++◌, Some, None, length, refl, sym, ap, ◌∙◌}
+use Rattle.std.proofs.Common.{◌≡◌, ℕ, List, ◌++◌, Some, None, length, sym, ap, ◌∙◌}
+use Rattle.xt_image.specs.Findings.{first}
+use Rattle.xt_image.proofs.Findings.{in_first, not_in_first}
 use Rattle.xt_elf.specs.declared.header.Header.{Header}
 use Rattle.xt_elf.specs.declared.fault.ElfFault.{ElfFault}
 use Rattle.xt_elf.specs.Headers.{headers_of}
-use Rattle.xt_elf.specs.Rules.{Finding, elf_fault, entry_rules, file_rules, first, header_rules, or_else}
-
-first-append : (xs ys : List Finding) → first (xs ++ ys) ≡ or_else (first xs) (first ys)
-first-append [] ys = refl
-first-append (None ∷ xs) ys = first-append xs ys
-first-append (Some f ∷ xs) ys = refl
-
-in_first : (a b : List Finding) (f : ElfFault) → Some f ≡ first a → first (a ++ b) ≡ Some f
-in_first a b f h = first-append a b ∙ ap (λ x. or_else x (first b)) (sym h)
-
-not_in_first : (a b : List Finding) → None ≡ first a → first (a ++ b) ≡ first b
-not_in_first a b h = first-append a b ∙ ap (λ x. or_else x (first b)) (sym h)
+use Rattle.xt_elf.specs.Rules.{Finding, elf_fault, entry_rules, file_rules, header_rules}
 
 pub at_file : (bytes : List ℕ) (f : ElfFault) → Some f ≡ first (file_rules bytes) → elf_fault bytes ≡ Some f
 unfolding elf_fault

@@ -3,7 +3,6 @@ mod Overlapping
 mod OneRegion
 mod First
 mod Passed
-mod Numbers
 mod WellFormed
 mod Loaded
 mod Rows

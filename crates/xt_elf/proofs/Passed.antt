@@ -1,41 +1,19 @@
 -- What is known of program headers that no rule refuses.
-use Rattle.std.proofs.Common.{◌≡◌, ℕ, zero, suc, ◌+◌, ◌≤◌, ◌<◌, Bool, true, false, ◌&&◌, ◌||◌, cond, List, [], ◌∷◌, ◌++◌, length, get_or, Option, Some, None, refl, ap, subst, ◌∙◌, ⊎_elim, arith, append_assoc, length-append}
-use Rattle.std.proofs.Math.Seq.{get_or-append_seam}
+use Rattle.std.proofs.Common.{◌≡◌, ℕ, ◌+◌, ◌≤◌, ◌<◌, Bool, true, false, ◌&&◌, ◌||◌, List, [], ◌∷◌, get_or, Some, None, refl, arith}
 use Rattle.std.specs.Prelude.{All, ◌==◌, nat_lt, not, option_map, position}
-use Rattle.std.specs.List.{AllPairs, list_any, position_or_len}
-use Rattle.std.proofs.lemmas.Bool.{cases_lt, ltb-false}
+use Rattle.std.specs.List.{AllPairs, list_any}
 use Rattle.std.proofs.lemmas.Bool.Decides.{nat_tests}
-use Rattle.std.proofs.lemmas.List.{get_or_append_left}
-use Rattle.std.proofs.lemmas.List.Sums.{fails_before_first}
 use Rattle.xt_map.specs.Regions.{is_executable, ranges, region_of}
+use Rattle.xt_image.specs.Findings.{fails, first}
+use Rattle.xt_image.proofs.Findings.{neither, no_place, none_passes, not_failed}
+use Rattle.xt_image.proofs.Overlapping.{none_meet}
 use Rattle.xt_elf.specs.declared.header.Header.{Header}
 use Rattle.xt_elf.specs.declared.fault.ElfFault.{ElfFault}
 use Rattle.xt_elf.specs.declared.fault.ElfFault.TheVariants.{Count, Entry, Overlap, Place, SegmentEnd, Sizes}
 use Rattle.xt_elf.specs.Headers.{entry_of, is_loaded_header}
-use Rattle.xt_elf.specs.Rules.{Finding, do_overlap, ends_behind, entry_rules, fails, first, first_overlap, header_rules, is_larger_in_file, is_misplaced, loaded_count, or_else, padded_end, takes}
+use Rattle.xt_elf.specs.Rules.{Finding, do_overlap, ends_behind, entry_rules, first_overlap, header_rules, is_larger_in_file, is_misplaced, loaded_count, padded_end, takes}
 
 -- ---- nothing was found
-
-neither : (x y : Finding) → or_else x y ≡ None → (x ≡ None) × (y ≡ None)
-neither None y h = (refl, h)
-neither (Some f) y h = absurd cc
-
-not_failed : (b : Bool) (f : ElfFault) → fails b f ≡ None → b ≡ false
-not_failed true f h = absurd cc
-not_failed false f h = refl
-
-no_place : (make : ℕ → ElfFault) (o : Option ℕ) → option_map make o ≡ None → o ≡ None
-no_place make None h = refl
-no_place make (Some i) h = absurd cc
-
-no_some : (b : Bool) (n : ℕ) → cond b (Some n) None ≡ None → b ≡ false
-no_some true n h = absurd cc
-no_some false n h = refl
-
-none_passes : {X : Type 0} (p : X → Bool) (xs : List X) → position p xs ≡ None → All (λ x. p x ≡ false) xs
-none_passes p xs h k d lt =
-    let past : length xs ≤ position_or_len p xs = ltb-false (position_or_len p xs) (length xs) (no_some _ _ h) in
-    fails_before_first p xs k d (omega arith)
 
 record Five (x y z w : Finding) (b : Bool) : Type 0 where
   one : x ≡ None
@@ -51,30 +29,6 @@ five_passed None None (Some g) w b f h = absurd cc
 five_passed None None None (Some g) b f h = absurd cc
 five_passed None None None None true f h = absurd cc
 five_passed None None None None false f h = record { one = refl; two = refl; three = refl; four = refl; five = refl }
-
--- ---- no overlap was found
-
-unfoldable overlapping : ℕ → ℕ → ElfFault
-overlapping j i = Overlap i j
-
-none_overlap : (before rest : List Header) → first_overlap before rest ≡ None
-    → (i j : ℕ) (d : Header) → i < j → length before ≤ j → j < length (before ++ rest) → do_overlap (get_or (before ++ rest) i d) (get_or (before ++ rest) j d) ≡ false
-unfolding first_overlap overlapping
-none_overlap before [] h i j d lt ge within = absurd (omega (arith, length-append {A = Header}))
-none_overlap before (s ∷ rest) h i j d lt ge within =
-    let (here, later) = neither (option_map (overlapping (length before)) (position (λ t. do_overlap t s) before)) (first_overlap (before ++ s ∷ []) rest) h in
-    let none : All (λ t. do_overlap t s ≡ false) before = none_passes (λ t. do_overlap t s) before (no_place (overlapping (length before)) _ here) in
-    let regroup : (before ++ s ∷ []) ++ rest ≡ before ++ s ∷ rest = append_assoc before (s ∷ []) rest in
-    let P : List Header → Type 0 = λ l. do_overlap (get_or l i d) (get_or l j d) ≡ false in
-    ⊎_elim
-    (λ (k : length before < j). subst P regroup (none_overlap (before ++ s ∷ []) rest later i j d lt (omega (arith, length-append before (s ∷ [])))
-    (omega (arith, ap length regroup))))
-    (λ (k : j ≤ length before).
-    let e : j ≡ length before = omega arith in
-    let li : i < length before = omega arith in
-    ap (λ n. do_overlap (get_or (before ++ s ∷ rest) i d) (get_or (before ++ s ∷ rest) n d)) e
-    ∙ ap (do_overlap (get_or (before ++ s ∷ rest) i d)) (get_or-append_seam before s rest d)
-    ∙ ap (λ t. do_overlap t s) (get_or_append_left before (s ∷ rest) d i li) ∙ none i d li) (cases_lt (length before) j)
 
 -- ---- what each rule says of a loaded header
 
@@ -110,7 +64,7 @@ passed len hs h =
           (where_it_holds (is_loaded_header (get_or hs k d)) _ (none_passes (ends_behind len) hs (no_place SegmentEnd _ five.one) k d lt) loaded);
       placed = λ k d lt loaded. not_false (list_any (takes (get_or hs k d).addr (padded_end (get_or hs k d))) ranges)
           (where_it_holds (is_loaded_header (get_or hs k d)) _ (none_passes is_misplaced hs (no_place Place _ five.three) k d lt) loaded);
-      apart = λ i j d lt within. none_overlap [] hs five.four i j d lt (omega arith) within;
+      apart = λ i j d lt within. none_meet do_overlap Overlap [] hs five.four i j d lt (omega arith) within;
       some = count.0;
       few = count.1;
     }

@@ -1,10 +1,11 @@
 -- The rules of an ELF executable, in their order, each by itself: what is wrong by this rule, or nothing.
 -- Which files are taken, the order of the rules and the names of the faults are this project's own choice ('profile').
-use Rattle.std.specs.Prelude.{ℕ, ◌+◌, ◌-◌, ◌*◌, ◌%◌, ◌++◌, Bool, ◌&&◌, ◌||◌, ◌==◌, not, nat_le, nat_lt, min, max, List, [], ◌∷◌, length, take, slice_index, Option, Some, None, if◌then◌else◌, option_map, position}
+use Rattle.std.specs.Prelude.{ℕ, ◌+◌, ◌-◌, ◌*◌, ◌%◌, ◌++◌, Bool, ◌&&◌, ◌||◌, ◌==◌, not, nat_le, nat_lt, min, max, List, [], ◌∷◌, length, take, slice_index, Option, option_map, position}
 use Rattle.std.specs.List.{count_by, list_any}
 use Rattle.std.specs.Str.{bytes_eq}
 use Rattle.xt_map.specs.Placing.{is_device}
 use Rattle.xt_map.specs.Regions.{Range, is_executable, ranges, region_of}
+use Rattle.xt_image.specs.Findings.{fails, first, first_pair}
 use Rattle.xt_elf.specs.Headers.{entry_of, file_type, header_count, header_size, headers_of, headers_place, is_loaded_header, machine}
 use Rattle.xt_elf.specs.declared.header.Header.{Header}
 use Rattle.xt_elf.specs.declared.fault.ElfFault.{ElfFault}
@@ -12,19 +13,6 @@ use Rattle.xt_elf.specs.declared.fault.ElfFault.TheVariants.{Short, Magic, Class
 
 abbrev pub Finding : Type 0
 Finding = Option ElfFault
-
--- the fault, where the rule fails
-abbrev pub fails : Bool → ElfFault → Finding
-fails b fault = if b then Some fault else None
-
-abbrev pub or_else : Finding → Finding → Finding
-or_else (Some fault) next = Some fault
-or_else None next = next
-
--- the first of the findings
-abbrev pub first : List Finding → Finding
-first [] = None
-first (x ∷ xs) = or_else x (first xs)
 
 -- ---- the file header
 
@@ -86,11 +74,8 @@ abbrev pub do_overlap : Header → Header → Bool
 do_overlap h k = (is_loaded_header h && is_loaded_header k) && nat_lt (max h.addr k.addr) (min (padded_end h) (padded_end k))
 
 -- the first header whose padded bytes share one with a header before it, and the first such one
-unfoldable pub first_overlap : List Header → List Header → Finding
-first_overlap before [] = None
-first_overlap before (h ∷ rest) =
-    or_else (option_map (λ i. Overlap i (length before)) (position (λ k. do_overlap k h) before))
-    (first_overlap (before ++ h ∷ []) rest)
+abbrev pub first_overlap : List Header → List Header → Finding
+first_overlap = first_pair do_overlap Overlap
 
 -- how many are loaded
 abbrev pub loaded_count : List Header → ℕ

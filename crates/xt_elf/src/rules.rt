@@ -3,7 +3,8 @@ ghost use Rattle.std.specs.Prelude.{◌≡◌, ◌≤◌, ◌<◌, ◌+◌, ◌�
 ghost use Rattle.std.specs.List.{list_any};
 ghost use Rattle.xt_map.specs.Regions.{ranges, region_of};
 ghost use Rattle.xt_elf.specs.Headers.{header_count};
-ghost use Rattle.xt_elf.specs.Rules.{do_overlap, ends_behind, entry_rules, file_rules, first, first_overlap, has_magic, header_rules, headers_end, is_larger_in_file, is_misplaced, loaded_count, padded_end, takes};
+ghost use Rattle.xt_image.specs.Findings.{first};
+ghost use Rattle.xt_elf.specs.Rules.{do_overlap, ends_behind, entry_rules, file_rules, first_overlap, has_magic, header_rules, headers_end, is_larger_in_file, is_misplaced, loaded_count, padded_end, takes};
 ghost use Rattle.xt_elf.specs.Spans.{AreApart, IsOneRegion};
 
 use crate::fault::ElfFault;

@@ -8,7 +8,7 @@ use Rattle.std.proofs.lemmas.List.Elements.{recursion_from_All}
 use Rattle.std.proofs.lemmas.List.Sums.{sum_by-cons}
 use Rattle.xt_map.specs.declared.segment.Segment.{Segment}
 use Rattle.xt_map.specs.Memory.{is_loaded}
-use Rattle.xt_map.specs.Placing.{IsPlaced, do_overlap, end_of_segment, is_device, is_well_placed, takes}
+use Rattle.xt_map.specs.Placing.{IsPlaced, end_of_segment, is_device, is_well_placed, takes}
 use Rattle.xt_map.specs.Regions.{Range, ranges}
 use Rattle.xt_image.specs.declared.image.Image.{Image}
 use Rattle.xt_image.specs.Layout.{checksum_place, segment_bytes}
@@ -16,10 +16,10 @@ use Rattle.xt_image.specs.Parts.{FitsImage, MeetsRules, image_bytes}
 use Rattle.xt_image.proofs.Ruled.{written_length}
 
 -- two segments share an address
-abbrev meet : Segment → Segment → Bool
-meet s t = nat_lt (max s.addr t.addr) (min (end_of_segment s) (end_of_segment t))
+abbrev pub share_address : Segment → Segment → Bool
+share_address s t = nat_lt (max s.addr t.addr) (min (end_of_segment s) (end_of_segment t))
 
-abbrev bytes_in : Segment → ℕ
+abbrev pub bytes_in : Segment → ℕ
 bytes_in s = length s.bytes
 
 -- ---- between two addresses
@@ -33,11 +33,11 @@ split_numbers : (low high a b s n : ℕ) → a < b → low ≤ a → b ≤ high 
     cond (nat_le low s && nat_le (s + n) high) n 0 ≤ cond (nat_le low s && nat_le (s + n) a) n 0 + cond (nat_le b s && nat_le (s + n) high) n 0
 split_numbers low high a b s n lt le ge apart = grind (arith, nat_tests)
 
-split_part : (low high : ℕ) (x y : Segment) → 0 < bytes_in x → low ≤ x.addr → end_of_segment x ≤ high → meet x y ≡ false →
+split_part : (low high : ℕ) (x y : Segment) → 0 < bytes_in x → low ≤ x.addr → end_of_segment x ≤ high → share_address x y ≡ false →
     part low high y ≤ part low x.addr y + part (end_of_segment x) high y
 split_part low high x y some le ge apart = split_numbers low high x.addr (end_of_segment x) y.addr (length y.bytes) (omega arith) le ge apart
 
-split_sum : (low high : ℕ) (x : Segment) (ys : List Segment) → 0 < bytes_in x → low ≤ x.addr → end_of_segment x ≤ high → AllByRecursion (λ y. meet x y ≡ false) ys →
+split_sum : (low high : ℕ) (x : Segment) (ys : List Segment) → 0 < bytes_in x → low ≤ x.addr → end_of_segment x ≤ high → AllByRecursion (λ y. share_address x y ≡ false) ys →
     sum_by (part low high) ys ≤ sum_by (part low x.addr) ys + sum_by (part (end_of_segment x) high) ys
 split_sum low high x [] some le ge apart = omega arith
 split_sum low high x (y ∷ ys) some le ge apart =
@@ -58,12 +58,12 @@ part_numbers low high s n = grind (arith, nat_tests)
 -- no two of the segments share an address
 abbrev AreApart : List Segment → Type 0
 AreApart [] = Unit {0}
-AreApart (x ∷ xs) = AllByRecursion (λ y. meet x y ≡ false) xs × AreApart xs
+AreApart (x ∷ xs) = AllByRecursion (λ y. share_address x y ≡ false) xs × AreApart xs
 
-apart_by_recursion : (xs : List Segment) → ((i j : ℕ) (d : Segment) → i < j → j < length xs → meet (get_or xs i d) (get_or xs j d) ≡ false) → AreApart xs
+apart_by_recursion : (xs : List Segment) → ((i j : ℕ) (d : Segment) → i < j → j < length xs → share_address (get_or xs i d) (get_or xs j d) ≡ false) → AreApart xs
 apart_by_recursion [] apart = tt
 apart_by_recursion (x ∷ xs) apart = (
-  recursion_from_All (λ y. meet x y ≡ false) xs (λ k d lt. apart 0 (suc k) d (omega arith) (omega arith)),
+  recursion_from_All (λ y. share_address x y ≡ false) xs (λ k d lt. apart 0 (suc k) d (omega arith) (omega arith)),
   apart_by_recursion xs (λ i j d lt within. apart (suc i) (suc j) d (omega arith) (omega arith)),
 )
 
@@ -121,7 +121,7 @@ parts_more (r ∷ rs) x xs = omega (
 )
 
 -- each segment has no byte, or stands in one of the ranges
-abbrev LieIn : List Range → List Segment → Type 0
+abbrev pub LieIn : List Range → List Segment → Type 0
 LieIn rs xs = AllByRecursion (λ x. (bytes_in x ≡ 0) ⊎ (list_any (takes x) rs ≡ true)) xs
 
 whole_sum : (rs : List Range) (xs : List Segment) → LieIn rs xs → sum_by bytes_in xs ≤ sum_by (parts_in xs) rs
@@ -134,11 +134,13 @@ ranges_hold : (rs : List Range) (xs : List Segment) → AreApart xs → sum_by (
 ranges_hold [] xs apart = omega arith
 ranges_hold (r ∷ rs) xs apart = omega (arith, ranges_hold rs xs apart, fit_between xs r.first (r.last + 1) apart, sum_by-cons (parts_in xs) r rs, sum_by-cons room r rs)
 
--- all ranges together have 8,093,698 addresses
-fit_in_regions : (xs : List Segment) → AreApart xs → LieIn ranges xs → sum_by bytes_in xs ≤ 8093698
+-- All ranges together have 8,093,698 addresses. So no more bytes are in segments of which no two share an address, where each
+-- has no byte or stands in one of the ranges.
+pub fit_in_regions : (xs : List Segment) → ((i j : ℕ) (d : Segment) → i < j → j < length xs → share_address (get_or xs i d) (get_or xs j d) ≡ false)
+    → LieIn ranges xs → sum_by bytes_in xs ≤ 8093698
 fit_in_regions xs apart lie =
     let all : sum_by room ranges ≡ 8093698 = refl in
-    omega (arith, whole_sum ranges xs lie, ranges_hold ranges xs apart)
+    omega (arith, whole_sum ranges xs lie, ranges_hold ranges xs (apart_by_recursion xs apart))
 
 -- ---- the segments of an image
 
@@ -156,9 +158,9 @@ stands s loaded placed =
 
 all_bytes : (segments : List Segment) → IsPlaced segments → All (λ s. is_loaded s ≡ true) segments → sum_by bytes_in segments ≤ 8093698
 all_bytes segments placed loaded = fit_in_regions segments
-    (apart_by_recursion segments (λ i j d lt within.
-    both_loaded (is_loaded (get_or segments i d)) (is_loaded (get_or segments j d)) (meet (get_or segments i d) (get_or segments j d))
-    (loaded i d (omega arith)) (loaded j d within) (placed.apart i j d lt within)))
+    (λ i j d lt within.
+    both_loaded (is_loaded (get_or segments i d)) (is_loaded (get_or segments j d)) (share_address (get_or segments i d) (get_or segments j d))
+    (loaded i d (omega arith)) (loaded j d within) (placed.apart i j d lt within))
     (recursion_from_All (λ x. (bytes_in x ≡ 0) ⊎ (list_any (takes x) ranges ≡ true)) segments (λ k d lt. stands (get_or segments k d) (loaded k d lt) (placed.placed k d lt)))
 
 segment_long : (s : Segment) → length (segment_bytes s) ≡ 8 + bytes_in s
@@ -173,7 +175,11 @@ digest_at_most : (b : Bool) → (if b then 32 else 0) ≤ 32
 digest_at_most true = omega arith
 digest_at_most false = omega arith
 
-pub is_short : (i : Image) → FitsImage i → MeetsRules i → All (λ s. is_loaded s ≡ true) i.segments → length (image_bytes i) ≤ 8388608
-is_short i fits rules loaded =
+-- the file of an image whose segments have no more bytes than all ranges together
+pub short_by_bytes : (i : Image) → FitsImage i → length i.segments ≤ 16 → sum_by bytes_in i.segments ≤ 8093698 → length (image_bytes i) ≤ 8388608
+short_by_bytes i fits few bytes =
     let long : length (image_bytes i) ≡ (checksum_place i.segments + 1) + (if i.digest then 32 else 0) = written_length i fits in
-    omega (arith, segments_long i.segments, all_bytes i.segments rules.placed loaded, rules.few, digest_at_most i.digest)
+    omega (arith, segments_long i.segments, bytes, few, digest_at_most i.digest)
+
+pub is_short : (i : Image) → FitsImage i → MeetsRules i → All (λ s. is_loaded s ≡ true) i.segments → length (image_bytes i) ≤ 8388608
+is_short i fits rules loaded = short_by_bytes i fits rules.few (all_bytes i.segments rules.placed loaded)

@@ -1,21 +1,12 @@
 -- The first finding, where it is known in which part of the rules it stands.
-use Rattle.std.proofs.Common.{◌≡◌, ℕ, ◌+◌, ◌-◌, ◌%◌, ◌≤◌, List, [], ◌∷◌, ◌++◌, Some, None, length, drop, slice_index, refl, sym, ap, ap₂, ◌∙◌, arith, length-append, length-drop}
+use Rattle.std.proofs.Common.{◌≡◌, ℕ, ◌+◌, ◌-◌, ◌%◌, ◌≤◌, List, ◌++◌, Some, None, length, drop, slice_index, sym, ap, ap₂, ◌∙◌, arith, length-append, length-drop}
 use Rattle.std.specs.List.{flat_map}
 use Rattle.xt_map.specs.declared.segment.Segment.{Segment}
 use Rattle.xt_image.specs.declared.fault.ImageFault.{ImageFault}
 use Rattle.xt_image.specs.Layout.{checksum_place, end_of, segment_bytes, segments_in}
-use Rattle.xt_image.specs.Rules.{Finding, or_else, first, head_rules, segment_rules, end_rules, checksum, image_fault}
-
-first-append : (xs ys : List Finding) → first (xs ++ ys) ≡ or_else (first xs) (first ys)
-first-append [] ys = refl
-first-append (None ∷ xs) ys = first-append xs ys
-first-append (Some f ∷ xs) ys = refl
-
-in_first : (a b : List Finding) (f : ImageFault) → Some f ≡ first a → first (a ++ b) ≡ Some f
-in_first a b f h = first-append a b ∙ ap (λ x. or_else x (first b)) (sym h)
-
-not_in_first : (a b : List Finding) → None ≡ first a → first (a ++ b) ≡ first b
-not_in_first a b h = first-append a b ∙ ap (λ x. or_else x (first b)) (sym h)
+use Rattle.xt_image.specs.Findings.{first}
+use Rattle.xt_image.specs.Rules.{Finding, head_rules, segment_rules, end_rules, checksum, image_fault}
+use Rattle.xt_image.proofs.Findings.{in_first, not_in_first}
 
 abbrev later_rules : List ℕ → List Segment → List Finding
 later_rules bytes ss = end_rules bytes (checksum_place ss) (checksum ss)

@@ -1,4 +1,5 @@
 pub mod Walk
+pub mod Findings
 pub mod Overlapping
 pub mod Folds
 pub mod Joined

@@ -1,12 +1,13 @@
 -- Lists of five findings, none of which fails.
-use Rattle.std.proofs.Common.{◌≡◌, ℕ, ◌≤◌, ◌<◌, List, [], ◌∷◌, ◌++◌, Option, Some, None, Bool, true, false, ◌&&◌, ◌||◌, length, refl, sym, ◌∙◌, arith}
+use Rattle.std.proofs.Common.{◌≡◌, ℕ, ◌≤◌, ◌<◌, List, [], ◌∷◌, Some, None, Bool, true, false, ◌&&◌, ◌||◌, length, refl, arith}
 use Rattle.std.specs.Prelude.{nat_le, nat_lt, ◌==◌, not, option_map}
 use Rattle.std.proofs.lemmas.Bool.Decides.{nat_tests}
 use Rattle.std.specs.List.{position}
 use Rattle.xt_map.specs.declared.segment.Segment.{Segment}
 use Rattle.xt_image.specs.declared.fault.ImageFault.{ImageFault}
 use Rattle.xt_image.specs.declared.fault.ImageFault.TheVariants.{SegmentEnd, SegmentLength, SegmentPlace}
-use Rattle.xt_image.specs.Rules.{Finding, fails, or_else, first, first_overlap, is_misplaced, is_uneven, segment_rules}
+use Rattle.xt_image.specs.Findings.{fails, first}
+use Rattle.xt_image.specs.Rules.{Finding, first_overlap, is_misplaced, is_uneven, segment_rules}
 
 pub five_pass : (a b c d e : Bool) (f g h k l : ImageFault) → a ≡ false → b ≡ false → c ≡ false → d ≡ false → e ≡ false
     → first (fails a f ∷ fails b g ∷ fails c h ∷ fails d k ∷ fails e l ∷ []) ≡ None
@@ -27,23 +28,6 @@ five_passed false false false true e f g h k l n = absurd cc
 five_passed false false false false true f g h k l n = absurd cc
 five_passed false false false false false f g h k l n = record { one = refl; two = refl; three = refl; four = refl; five = refl }
 
--- ---- findings in a row
-
-pub first-append : (xs ys : List Finding) → first (xs ++ ys) ≡ or_else (first xs) (first ys)
-first-append [] ys = refl
-first-append (None ∷ xs) ys = first-append xs ys
-first-append (Some f ∷ xs) ys = refl
-
-neither : (x y : Finding) → or_else x y ≡ None → (x ≡ None) × (y ≡ None)
-neither None y h = (refl, h)
-neither (Some f) y h = absurd cc
-
-pub none_of : (xs ys : List Finding) → first (xs ++ ys) ≡ None → (first xs ≡ None) × (first ys ≡ None)
-none_of xs ys h = neither (first xs) (first ys) (sym (first-append xs ys) ∙ h)
-
-pub none_in : (xs ys : List Finding) → first xs ≡ None → first ys ≡ None → first (xs ++ ys) ≡ None
-none_in xs ys h k = first-append xs ys ∙ rw h k
-
 -- a count that may fail, and three more findings
 pub record Four (a : Bool) (x y z : Finding) : Type 0 where
   pub one : a ≡ false
@@ -63,11 +47,6 @@ pub segments_passed : (count : ℕ) (segments : List Segment) → first (segment
 segments_passed count segments h =
     four_passed (nat_lt (length segments) count) (SegmentEnd (length segments)) (option_map SegmentLength (position is_uneven segments))
     (option_map SegmentPlace (position is_misplaced segments)) (first_overlap [] segments) h
-
--- no place was found, so nothing was made of it
-pub no_place : (make : ℕ → ImageFault) (o : Option ℕ) → option_map make o ≡ None → o ≡ None
-no_place make None h = refl
-no_place make (Some i) h = absurd cc
 
 -- ---- tests of numbers and bools
 

@@ -18,12 +18,14 @@ use Rattle.xt_map.specs.Regions.{region_of, is_executable}
 use Rattle.xt_image.specs.declared.image.Image.{Image}
 use Rattle.xt_image.specs.declared.fault.ImageFault.TheVariants.{NoChecksum, Checksum, NoDigest, Digest, Entry}
 use Rattle.xt_image.specs.Layout.{checksum_place, end_of, front, half_at, word_at, segment_bytes, segments_at, segments_in}
-use Rattle.xt_image.specs.Rules.{first, head_rules, segment_rules, end_rules, has_digest, kept_digest, right_digest, checksum, image_fault}
+use Rattle.xt_image.specs.Findings.{first}
+use Rattle.xt_image.specs.Rules.{head_rules, segment_rules, end_rules, has_digest, kept_digest, right_digest, checksum, image_fault}
 use Rattle.xt_image.specs.Format.{image_of}
 use Rattle.xt_image.specs.Parts.{FitsImage, FitsSegment, IsFileOf, IsWellFormed, digest_bytes, flag_of, gap_length, head_bytes, image_bytes, summed_bytes}
 use Rattle.xt_image.proofs.Accepted.{Meets, accepts, file_length, file_parts, front_of, rest_of, summed_length}
 use Rattle.xt_image.proofs.Joined.{IsBytes, take_fits}
-use Rattle.xt_image.proofs.Passing.{Five, above, at_least, count_in, five_passed, segments_passed, none_of, not_false, same, where_it_holds}
+use Rattle.xt_image.proofs.Findings.{none_of}
+use Rattle.xt_image.proofs.Passing.{Five, above, at_least, count_in, five_passed, segments_passed, not_false, same, where_it_holds}
 use Rattle.xt_image.proofs.Written.{head_length}
 
 -- ---- what the rules say
@@ -114,14 +116,14 @@ four_fit bs fits = omega (arith, fits 0, fits 1, fits 2, fits 3)
 drop_fits : (n : ℕ) (bytes : List ℕ) → IsBytes bytes → IsBytes (drop n bytes)
 drop_fits n bytes fits i = rw (get_or-drop n bytes i 0) (fits (n + i))
 
-half_fits : (bytes : List ℕ) (k : ℕ) → IsBytes bytes → half_at bytes k < 2 ^ 16
+pub half_fits : (bytes : List ℕ) (k : ℕ) → IsBytes bytes → half_at bytes k < 2 ^ 16
 half_fits bytes k fits = pair_fits (take 2 (drop k bytes)) (take_fits 2 (drop k bytes) (drop_fits k bytes fits))
 
-word_fits : (bytes : List ℕ) (k : ℕ) → IsBytes bytes → word_at bytes k < 2 ^ 32
+pub word_fits : (bytes : List ℕ) (k : ℕ) → IsBytes bytes → word_at bytes k < 2 ^ 32
 unfolding word_at
 word_fits bytes k fits = four_fit (take 4 (drop k bytes)) (take_fits 4 (drop k bytes) (drop_fits k bytes fits))
 
-all_fit : (bs : List ℕ) → IsBytes bs → All (λ b. b < 256) bs
+pub all_fit : (bs : List ℕ) → IsBytes bs → All (λ b. b < 256) bs
 all_fit bs fits k d lt = rw (get_or_default bs k d 0 lt) (fits k)
 
 -- the segment at the front, and what follows it

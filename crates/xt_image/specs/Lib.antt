@@ -1,4 +1,5 @@
 pub mod Layout
+pub mod Findings
 pub mod Rules
 pub mod Format
 pub mod Parts

@@ -1,31 +1,19 @@
 -- The rules of an image (esptool's image format), in their order, each by itself: what is wrong by this rule, or nothing.
 -- The order of the rules, the names of the faults, and the regions that they allow are this project's own choice ('profile').
-use Rattle.std.specs.Prelude.{ℕ, ◌+◌, ◌%◌, ◌++◌, Bool, List, [], ◌∷◌, length, take, drop, slice_index, Option, Some, None, if◌then◌else◌, ◌==◌, ◌&&◌, ◌||◌, not, nat_le, nat_lt, fold, bit_xor, option_map}
+use Rattle.std.specs.Prelude.{ℕ, ◌+◌, ◌%◌, ◌++◌, Bool, List, [], ◌∷◌, length, take, drop, slice_index, Option, ◌==◌, ◌&&◌, ◌||◌, not, nat_le, nat_lt, fold, bit_xor, option_map}
 use Rattle.std.specs.List.{flat_map, position}
 use Rattle.std.specs.Str.{bytes_eq}
 use Rattle.sha2.specs.Sha256.{sha256}
 use Rattle.xt_map.specs.declared.segment.Segment.{Segment}
 use Rattle.xt_map.specs.Regions.{region_of, is_executable}
 use Rattle.xt_map.specs.Placing.{is_well_placed, do_overlap}
+use Rattle.xt_image.specs.Findings.{fails, first, first_pair}
 use Rattle.xt_image.specs.Layout.{half_at, word_at, segments_in, checksum_place}
 use Rattle.xt_image.specs.declared.fault.ImageFault.{ImageFault}
 use Rattle.xt_image.specs.declared.fault.ImageFault.TheVariants.{Short, Magic, Count, Chip, DigestFlag, SegmentEnd, SegmentLength, SegmentPlace, SegmentOverlap, NoChecksum, Checksum, NoDigest, Digest, Entry}
 
 abbrev pub Finding : Type 0
 Finding = Option ImageFault
-
--- the fault, where the rule fails
-abbrev pub fails : Bool → ImageFault → Finding
-fails b fault = if b then Some fault else None
-
-abbrev pub or_else : Finding → Finding → Finding
-or_else (Some fault) next = Some fault
-or_else None next = next
-
--- the first of the findings
-abbrev pub first : List Finding → Finding
-first [] = None
-first (x ∷ xs) = or_else x (first xs)
 
 -- ---- the head
 
@@ -47,11 +35,8 @@ abbrev pub is_misplaced : Segment → Bool
 is_misplaced s = not (is_well_placed s)
 
 -- the first segment that shares a byte with one of those before it, and the first such one
-unfoldable pub first_overlap : List Segment → List Segment → Finding
-first_overlap before [] = None
-first_overlap before (s ∷ rest) =
-    or_else (option_map (λ i. SegmentOverlap i (length before)) (position (λ t. do_overlap t s) before))
-    (first_overlap (before ++ s ∷ []) rest)
+abbrev pub first_overlap : List Segment → List Segment → Finding
+first_overlap = first_pair do_overlap SegmentOverlap
 
 -- so many segments should stand in the file, and these stand there whole
 abbrev pub segment_rules : ℕ → List Segment → List Finding

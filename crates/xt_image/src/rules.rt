@@ -1,7 +1,8 @@
 ghost use Rattle.std.specs.Prelude.{◌≡◌, ◌<◌, ◌≤◌, ◌^◌, [], length, slice_index, IsNone};
 ghost use Rattle.std.specs.List.{position};
 ghost use Rattle.xt_map.specs.Placing.{do_overlap};
-ghost use Rattle.xt_image.specs.Rules.{first, head_rules, segment_rules, first_overlap, end_rules, is_uneven, is_misplaced};
+ghost use Rattle.xt_image.specs.Findings.{first};
+ghost use Rattle.xt_image.specs.Rules.{head_rules, segment_rules, first_overlap, end_rules, is_uneven, is_misplaced};
 
 use crate::bytes::{half, word};
 use crate::fault::ImageFault;

@@ -1,13 +1,13 @@
 use Rattle.std.proofs.Common.{◌≡◌, ◌∙◌, List, filter, length, map, ap, sym, refl, arith}
 use Rattle.std.specs.Prelude.{None}
-use Rattle.xt_map.specs.declared.segment.Segment.{Segment}
 use Rattle.xt_elf.specs.declared.header.Header.{Header}
 use Rattle.xt_elf.specs.Format.{elf_image, segment_of}
 use Rattle.xt_elf.specs.Headers.{header_count, headers_of, headers_place, is_loaded_header}
-use Rattle.xt_elf.specs.Rules.{first, header_rules}
+use Rattle.xt_image.specs.Findings.{first}
+use Rattle.xt_elf.specs.Rules.{header_rules}
 use Rattle.xt_elf.proofs.First.{at_entry, at_file, at_headers}
 use Rattle.xt_elf.proofs.Loaded.{holds}
-use Rattle.xt_elf.proofs.Numbers.{all_fit, half_fits, word_fits}
+use Rattle.xt_image.proofs.Standing.{all_fit, half_fits, word_fits}
 use Rattle.xt_elf.proofs.Passed.{IsPassed, entry_passed, passed}
 use Rattle.xt_elf.proofs.Walk.{length-headers_from}
 use Rattle.xt_elf.proofs.WellFormed.{well_formed}
