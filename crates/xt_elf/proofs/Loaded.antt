@@ -1,7 +1,7 @@
 -- What the image of a file holds at an address.
-use Rattle.std.proofs.Common.{◌≡◌, ℕ, zero, suc, ◌+◌, ◌-◌, ◌≤◌, ◌<◌, Bool, true, false, ◌&&◌, cond, if◌then◌else◌, List, [], ◌∷◌, ◌++◌, length, take, drop, get_or, slice_index, map, filter, find, Option, Some, None, ◌⊎◌, inl, inr, ⊎_elim, refl, sym, ap, subst, ◌∙◌, arith, length-take-le, length-drop}
-use Rattle.std.specs.Prelude.{All, ◌==◌, max, min, nat_le, nat_lt, replicate}
-use Rattle.std.specs.List.{AllPairs, list_any}
+use Rattle.std.proofs.Common.{◌≡◌, ℕ, zero, suc, ◌+◌, ◌-◌, ◌≤◌, ◌<◌, Bool, true, false, ◌&&◌, cond, if◌then◌else◌, List, [], ◌∷◌, length, take, drop, get_or, slice_index, map, filter, find, Option, Some, None, ⊎_elim, refl, sym, ap, ◌∙◌, arith, length-take-le, length-drop}
+use Rattle.std.specs.Prelude.{All, max, min, nat_le, nat_lt, replicate}
+use Rattle.std.specs.List.{AllPairs}
 use Rattle.std.specs.Option.{option_map_or}
 use Rattle.std.proofs.lemmas.Bool.{and_right, cases_Bool, cases_lt}
 use Rattle.std.proofs.lemmas.Bool.Decides.{nat_tests}
@@ -12,16 +12,15 @@ use Rattle.xt_map.specs.declared.contents.MemoryContents.{MemoryContents}
 use Rattle.xt_map.specs.declared.segment.Segment.{Segment}
 use Rattle.xt_map.specs.Memory.{byte_at, byte_in, constant_byte, holds_address, is_loaded, loaded_byte, opening_memory}
 use Rattle.xt_map.specs.Placing.{is_device}
-use Rattle.xt_map.specs.Regions.{is_constant, is_memory, ranges, region_of}
+use Rattle.xt_map.specs.Regions.{is_constant, is_memory, region_of}
 use Rattle.xt_map.proofs.Indexed.{constant_is_loaded}
 use Rattle.xt_map.proofs.Placed.{find_none}
-use Rattle.xt_image.specs.declared.image.Image.{Image}
 use Rattle.xt_image.specs.Parts.{IsWellFormed}
 use Rattle.xt_image.proofs.Opened.{memory_is}
 use Rattle.xt_elf.specs.declared.header.Header.{Header}
 use Rattle.xt_elf.specs.Headers.{elf_memory, headers_of, is_loaded_header, loads_at}
-use Rattle.xt_elf.specs.Rules.{do_overlap, padded_end, padding, takes}
-use Rattle.xt_elf.specs.Format.{HoldsMemoryOf, elf_image, image_memory, segment_of}
+use Rattle.xt_elf.specs.Rules.{do_overlap, padded_end, padding}
+use Rattle.xt_elf.specs.Format.{HoldsMemoryOf, elf_image, segment_of}
 use Rattle.xt_elf.proofs.OneRegion.{in_region}
 use Rattle.xt_elf.proofs.Passed.{IsPassed}
 use Rattle.xt_elf.proofs.WellFormed.{IsGood, segment_length, segment_loaded}

@@ -9,7 +9,7 @@ use Rattle.std.proofs.lemmas.List.Sorted.{Contains-permutation}
 use Rattle.xt_elf.specs.declared.header.Header.{Header}
 use Rattle.xt_elf.specs.declared.spans.Span.{Span}
 use Rattle.xt_elf.specs.Headers.{is_loaded_header}
-use Rattle.xt_elf.specs.Rules.{do_overlap, padded_end}
+use Rattle.xt_elf.specs.Rules.{padded_end}
 use Rattle.xt_elf.specs.Spans.{AreApart, AreInARow, HasSpans, span_of}
 
 pub spans_moved : (hs : List Header) (n : ℕ) (old new : List Span) → IsPermutation old new → HasSpans hs n old → HasSpans hs n new

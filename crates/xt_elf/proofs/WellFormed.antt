@@ -1,10 +1,10 @@
 -- The image of a file that no rule refuses is well formed.
-use Rattle.std.proofs.Common.{◌≡◌, ℕ, zero, suc, ◌+◌, ◌-◌, ◌%◌, ◌≤◌, ◌<◌, ◌^◌, Bool, true, false, ◌&&◌, ◌||◌, cond, List, [], ◌∷◌, ◌++◌, length, take, drop, get_or, map, filter, refl, sym, ap, ap₂, subst, ◌∙◌, ⊎_elim, arith, length-append, length-take-le, length-drop}
+use Rattle.std.proofs.Common.{◌≡◌, ℕ, suc, ◌+◌, ◌-◌, ◌%◌, ◌≤◌, ◌<◌, ◌^◌, Bool, true, false, ◌&&◌, ◌||◌, cond, List, [], ◌∷◌, length, take, drop, get_or, map, filter, refl, sym, ap, ap₂, ◌∙◌, arith, length-append, length-take-le, length-drop}
 use Rattle.std.specs.Prelude.{All, ◌==◌, min, max, nat_le, nat_lt, not, replicate}
 use Rattle.std.specs.List.{AllPairs, list_any}
-use Rattle.std.proofs.lemmas.Bool.{and_right, cases_lt, or_right}
+use Rattle.std.proofs.lemmas.Bool.{and_right, or_right}
 use Rattle.std.proofs.lemmas.Bool.Decides.{nat_tests}
-use Rattle.std.proofs.lemmas.List.{get_or-map, get_or_default, length-map, length-replicate}
+use Rattle.std.proofs.lemmas.List.{get_or-map, length-map, length-replicate}
 use Rattle.std.proofs.lemmas.List.Elements.{All-append, All-cons, All-drop, All-map, All-nil, All-replicate, All-take}
 use Rattle.std.proofs.lemmas.List.Kept.{AllPairs-filter}
 use Rattle.std.proofs.lemmas.List.Sums.{length-filter}
@@ -12,7 +12,7 @@ use Rattle.xt_map.specs.declared.segment.Segment.{Segment}
 use Rattle.xt_map.specs.Memory.{is_loaded}
 use Rattle.xt_map.specs.Placing.{IsPlaced, end_of_segment, is_device, is_well_placed}
 use Rattle.xt_map.specs.Placing as map
-use Rattle.xt_map.specs.Regions.{Range, is_executable, ranges, region_of}
+use Rattle.xt_map.specs.Regions.{is_executable, ranges, region_of}
 use Rattle.xt_image.specs.declared.image.Image.{Image}
 use Rattle.xt_image.specs.Made.{made_head}
 use Rattle.xt_image.specs.Parts.{FitsImage, FitsSegment, IsWellFormed, MeetsRules}

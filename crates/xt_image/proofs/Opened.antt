@@ -1,5 +1,5 @@
 -- What the opening memory of an image holds.
-use Rattle.std.proofs.Common.{◌≡◌, ℕ, zero, suc, ◌+◌, ◌-◌, ◌<◌, ◌≤◌, Bool, true, false, ◌&&◌, cond, if◌then◌else◌, List, [], ◌∷◌, length, get_or, slice_index, Option, Some, None, find, ◌⊎◌, inl, inr, ⊎_elim, refl, sym, ap, ◌∙◌, subst, arith}
+use Rattle.std.proofs.Common.{◌≡◌, ℕ, zero, suc, ◌+◌, ◌-◌, ◌<◌, ◌≤◌, Bool, true, false, ◌&&◌, cond, if◌then◌else◌, List, [], ◌∷◌, length, get_or, slice_index, Option, Some, None, find, ◌⊎◌, inl, ⊎_elim, refl, sym, ap, ◌∙◌, arith}
 use Rattle.std.specs.Prelude.{nat_le, nat_lt, replicate}
 use Rattle.std.specs.Option.{option_map_or}
 use Rattle.std.proofs.lemmas.Bool.{cases_Bool, cases_lt}
@@ -10,7 +10,7 @@ use Rattle.xt_map.specs.declared.segment.Segment.{Segment}
 use Rattle.xt_map.specs.declared.contents.MemoryContents.{MemoryContents}
 use Rattle.xt_map.specs.Regions.{is_memory, region_of}
 use Rattle.xt_map.specs.Memory.{HasSizes, byte_at, byte_in, cleared_memory, holds_address, is_loaded, loaded_byte, opening_memory, with_byte, with_bytes, with_segments, zeros, rtc_fast_data_first, dram_first, rtc_slow_first, rtc_fast_data_size, dram_size, rtc_slow_size}
-use Rattle.xt_map.specs.Placing.{IsPlaced, do_overlap}
+use Rattle.xt_map.specs.Placing.{do_overlap}
 use Rattle.xt_map.proofs.Placed.{find_none, holds_parts, overlap_at}
 use Rattle.xt_map.proofs.Stored.{byte_keeps_sizes, byte_put, bytes_elsewhere, bytes_keep_sizes, cleared_has_sizes}
 use Rattle.xt_image.specs.declared.image.Image.{Image}

@@ -1,4 +1,4 @@
-use Rattle.std.proofs.Common.{List, subst, sym}
+use Rattle.std.proofs.Common.{List, subst}
 use Rattle.xt_elf.specs.declared.spans.Span.{Span}
 use Rattle.xt_elf.specs.Spans.{AreInARow}
 use Rattle.xt_elf.proofs.Rows.{row_apart, spans_moved}
