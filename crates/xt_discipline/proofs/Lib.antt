@@ -12,3 +12,4 @@ pub mod Lengths
 pub mod Answered
 pub mod Openings
 pub mod Counts
+pub mod Endings

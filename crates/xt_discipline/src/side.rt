@@ -5,7 +5,8 @@ ghost use Rattle.std.specs.Prelude.{◌≡◌, ◌≤◌, ◌<◌, ◌+◌, ◌-
 ghost use Rattle.xt_map.specs.Memory.{constant_byte};
 ghost use Rattle.xt_frames.specs.Frames.{Frame, FrameState, known};
 ghost use Rattle.xt_frames.specs.FrameStep.{laid};
-ghost use Rattle.xt_frames.specs.HandlerSteps.{closes, ends_stretch, is_window};
+ghost use Rattle.xt_rows.specs.Fetching.{fetched};
+ghost use Rattle.xt_frames.specs.HandlerSteps.{closes, ends_stretch, fetched_ends, is_window};
 ghost use Rattle.xt_frames.specs.Judging.{seen, seen_step};
 ghost use Rattle.xt_frames.specs.Stacks.{Moves, Stack};
 ghost use Rattle.xt_frames.specs.Breaches.{breach_of, inputs_of, stores_at, window_breach};
@@ -21,6 +22,7 @@ use xt_frames::{Breach, Frames};
 use xt_isa::Insn;
 use xt_isa::system::{ReturnName, System};
 use xt_map::{Access, Constants, Kind};
+use xt_rows::code_three;
 use xt_trace::{StepKind, StepRecord};
 
 /// The two save areas of a call.
@@ -82,15 +84,44 @@ fn ends_stretch(insn: Insn) -> bool
     )
 }
 
+/// Whether the bytes at an address are those of L32E or S32E, of which most of a handler is.
+fn reaches_frames(code: &Constants, pc: u32) -> bool
+    ensures { result ≡ true → fetched_ends (fetched (constant_byte code.now) pc) ≡ false }
+{
+    if 0xFFFF_FFF0 < pc {
+        return false;
+    }
+    let (first, _second, third) = code_three(code, pc);
+    if first % 16 != 0 {
+        return false;
+    }
+    match third {
+        0x09 => true,
+        0x49 => true,
+        _ => false,
+    }
+}
+
+/// Whether the bytes at an address are those of RFWO or RFWU.
+fn ends_at(code: &Constants, pc: u32) -> bool
+    ensures { result ≡ fetched_ends (fetched (constant_byte code.now) pc) }
+{
+    // (told apart first, since decoding takes longer)
+    if reaches_frames(code, pc) {
+        return false;
+    }
+    match instruction_at(code, pc) {
+        Fetch::Insn(insn, _) => ends_stretch(insn),
+        _ => false,
+    }
+}
+
 /// Whether a record is of an RFWO or RFWU, by the bytes at its PC.
 fn closes(code: &Constants, rec: &StepRecord) -> bool
     ensures { result ≡ closes (constant_byte code.now) rec.now.kind rec.now.pc }
 {
     match rec.kind {
-        StepKind::Insn => match instruction_at(code, rec.pc) {
-            Fetch::Insn(insn, _) => ends_stretch(insn),
-            _ => false,
-        },
+        StepKind::Insn => ends_at(code, rec.pc),
         _ => false,
     }
 }
