@@ -1,6 +1,6 @@
 -- Carries a proof; nothing that a reader must believe.
 -- How many entries and checkpoints a run has, and how long they are; and that the bus serves each entry.
-use Rattle.std.proofs.Common.{◌≡◌, ℕ, zero, suc, ◌+◌, ◌*◌, ◌<◌, ◌≤◌, Bool, true, false, cond, Option, Some, None, List, [], ◌∷◌, ◌++◌, length, map, refl, sym, ap, ap₂, ◌∙◌, subst, length-append, arith}
+use Rattle.std.proofs.Common.{◌≡◌, ℕ, zero, suc, ◌+◌, ◌*◌, ◌<◌, ◌≤◌, true, false, cond, Option, Some, None, List, [], ◌∷◌, ◌++◌, length, map, refl, sym, ap, ap₂, ◌∙◌, subst, length-append, arith}
 use Rattle.std.specs.Prelude.{All, not, slice_index}
 use Rattle.std.proofs.lemmas.List.Filters.{length-filter_both}
 use Rattle.std.specs.Int.{w32, to_le_bytes}
@@ -31,7 +31,7 @@ use Rattle.xt_runs.proofs.Walks.{own_walk}
 use Rattle.xt_exec.specs.Chips.{processor, turn_asks}
 use Rattle.xt_exec.specs.Laws.{IsServed}
 use Rattle.xt_exec.specs.State.{State}
-use Rattle.xt_exec.specs.Turn.{demand, turn}
+use Rattle.xt_exec.specs.Turn.{demand}
 use Rattle.xt_exec.proofs.Served.{demand_served}
 use Rattle.xt_core.specs.Runs.{IsRunOf, code_of, opening_of, records_of}
 use Rattle.xt_record.specs.Checkpoints.{checkpoint_bytes, checkpoint_of, checkpoints_of, file_bytes, is_due, last_numbers, loop_numbers, saved_numbers, special_bytes, state_bytes}

@@ -27,7 +27,7 @@ use Rattle.xt_core.specs.Runs.{IsRunOf}
 use Rattle.xt_record.specs.declared.fault.RecordFault.TheVariants as fault
 use Rattle.xt_record.specs.Checkpoints.{checkpoints_of}
 use Rattle.xt_record.specs.Fields as field
-use Rattle.xt_record.specs.Fields.{behind_image, checkpoint_count, checkpoint_size, checkpoints_in, blocks, entries_end, entry_count, entry_of, image_in, image_length, image_part, length_behind, magic, options_at, raws_from, raws_in, version, words}
+use Rattle.xt_record.specs.Fields.{behind_image, checkpoint_count, checkpoint_size, checkpoints_in, blocks, entries_end, entry_count, image_in, image_length, image_part, length_behind, magic, options_at, raws_from, raws_in, version, words}
 use Rattle.xt_record.specs.Fitting.{FitsRun}
 use Rattle.xt_record.specs.Format.{recording_fault, run_in, run_with}
 use Rattle.xt_record.specs.Parts.{entry_bytes, options_bytes}

@@ -1,5 +1,5 @@
 -- Numbers of a run that its rules leave open, in the ranges of their types ('profile').
-use Rattle.std.specs.Prelude.{ℕ, ◌<◌, ◌^◌, All}
+use Rattle.std.specs.Prelude.{◌<◌, ◌^◌, All}
 use Rattle.xt_map.specs.declared.access.Entry.{Entry}
 use Rattle.xt_trace.specs.declared.run.Run.{Run}
 use Rattle.xt_record.specs.Parts.{first_operand, second_operand}

@@ -1,5 +1,5 @@
 -- A run of an image at each position, as two cores over one memory.
-use Rattle.std.proofs.Common.{◌≡◌, ℕ, zero, suc, ◌+◌, ◌-◌, ◌<◌, ◌≤◌, Option, Some, None, List, [], ◌∷◌, length, take, drop, get_or, refl, sym, ap, ◌∙◌, subst, arith}
+use Rattle.std.proofs.Common.{◌≡◌, ℕ, zero, suc, ◌+◌, ◌-◌, ◌<◌, ◌≤◌, Option, Some, None, List, length, take, drop, get_or, refl, sym, ap, ◌∙◌, subst, arith}
 use Rattle.std.proofs.lemmas.List.{length_push}
 use Rattle.xt_map.specs.declared.access.Access.{Access}
 use Rattle.xt_map.specs.declared.contents.MemoryContents.{MemoryContents}
@@ -10,7 +10,6 @@ use Rattle.xt_trace.specs.declared.run.Run.{Run}
 use Rattle.xt_image.specs.declared.image.Image.{Image}
 use Rattle.xt_runs.specs.Alone.{answer, memory_left}
 use Rattle.xt_runs.specs.Runs as runs
-use Rattle.xt_runs.specs.Runs.{Opening, opened}
 use Rattle.xt_runs.specs.Schedule.{cores_of, places_from, schedule}
 use Rattle.xt_runs.specs.Short.{HasSchedule, IsShortRunOf, ShortRun, short_trace}
 use Rattle.xt_runs.specs.Walks.{state_at}
