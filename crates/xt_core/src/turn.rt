@@ -13,6 +13,7 @@ use xt_codec::{Fetch, instruction_at};
 use xt_exec::plans::{Effect, Pending, Plan};
 use xt_exec::{Regs, finish, plan};
 use xt_map::{Access, Constants};
+use xt_rows::cause;
 use xt_special::number;
 use xt_trace::{StepKind, StepRecord};
 use xt_window::Windows;
@@ -75,8 +76,8 @@ fn instruction<W: Windows>(r: &mut Regs<W>, code: &Constants) -> Plan
         IsPlan result s (state_of W.regs W.base W.start r.new) (fetched_turn (fetched (constant_byte code.now) s.control.pc) (constant_byte code.now) s) }
 {
     match instruction_at(code, r.pc) {
-        Fetch::Fails(addr) => Plan::Done(r.raise(2, Some(addr))),
-        Fetch::Nothing => Plan::Done(r.raise(0, None)),
+        Fetch::Fails(addr) => Plan::Done(r.raise(cause::FETCH_ERROR, Some(addr))),
+        Fetch::Nothing => Plan::Done(r.raise(cause::ILLEGAL_INSTRUCTION, None)),
         Fetch::Insn(insn, len) => plan(r, code, insn, len),
     }
 }

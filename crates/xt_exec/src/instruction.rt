@@ -19,7 +19,7 @@ use xt_isa::Insn;
 use xt_isa::control::{Control, RetName};
 use xt_isa::density::{Density, NarrowRetName};
 use xt_map::{Access, Constants};
-use xt_rows::{Awaited, Outcome, Values, named, outcome_of, reads, special_reads};
+use xt_rows::{Awaited, Outcome, Values, cause, named, outcome_of, reads, special_reads};
 use xt_special::number;
 use xt_trace::StepKind;
 use xt_window::{Overflow, Windows};
@@ -205,7 +205,7 @@ impl<W: Windows> Regs<W> {
             IsPlan result s (state_of W.regs W.base W.start self.new) (fetched_turn (Fetches i len) (constant_byte code.now) s) }
     {
         if self.is_illegal(i) {
-            let step = self.raised(0, None);
+            let step = self.raised(cause::ILLEGAL_INSTRUCTION, None);
             self.done(step)
         } else {
             self.execute(code, i, len)
