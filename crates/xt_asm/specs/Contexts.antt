@@ -1,5 +1,6 @@
 -- What the code knows of a statement, as the definitions see it.
-use Rattle.std.specs.Prelude.{length, ◌||◌, [], ◌∷◌, ◌≡◌, true, List, Option, Some, Result, Ok, Vec, option_map}
+use Rattle.std.specs.Prelude.{length, ◌||◌, [], ◌∷◌, ◌≡◌, true, List, Option, Some, Result, Ok, Vec}
+use Rattle.std.specs.Prelude.{option_map}
 use Rattle.std.specs.declared.alloc.Global.{Global}
 use Rattle.xt_isa.specs.declared.Insn.{Insn}
 use Rattle.xt_isa.specs.Ranges.{in_range}
@@ -18,7 +19,8 @@ use Rattle.xt_lex.specs.declared.fault.AsmFault.{AsmFault}
 use Rattle.xt_lex.specs.declared.fault.AsmFault.TheVariants as fault
 use Rattle.xt_asm.specs.Pieces.{Source}
 use Rattle.xt_pool.specs.Findings.{Finding, at_statement, fails, first}
-use Rattle.xt_asm.specs.Kinds.{has_misfit, has_no_word, has_unknown, is_misaligned_target, is_out_of_reach, is_range, is_stray_entry}
+use Rattle.xt_asm.specs.Kinds.{has_misfit, has_no_word, has_unknown, is_misaligned_target}
+use Rattle.xt_asm.specs.Kinds.{is_out_of_reach, is_range, is_stray_entry}
 use Rattle.xt_asm.specs.Operands.{Site}
 
 abbrev pub site_of : Context → Site
@@ -49,7 +51,8 @@ IsShortWord w = IsShort w.value
 
 -- a statement with the words of its pool
 abbrev pub piece_source : Context → List PoolWord → Statement → Source
-piece_source c pool s = record { site = site_of c; pool = pool; pool_size = length pool; statement = s }
+piece_source c pool s =
+    record { site = site_of c; pool = pool; pool_size = length pool; statement = s }
 
 -- the answer is this fault; want of memory aside
 abbrev pub LineFault : AsmFault → Finding → Type 0

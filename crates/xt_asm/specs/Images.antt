@@ -1,6 +1,7 @@
 -- The image of an assembly text without a fault ('profile'; the bytes of the head are those of
 -- esptool's image format).
-use Rattle.std.specs.Prelude.{◌≡◌, ℕ, ◌++◌, ℤ, pos, true, List, [], ◌∷◌, length, zip, Option, Some, None, Result, Ok, Err, if◌then◌else◌}
+use Rattle.std.specs.Prelude.{◌≡◌, ℕ, ◌++◌, ℤ, pos, true, List, [], ◌∷◌, length, zip, Option, Some}
+use Rattle.std.specs.Prelude.{None, Result, Ok, Err, if◌then◌else◌}
 use Rattle.xt_lex.specs.declared.fault.AsmFault.{AsmFault}
 use Rattle.xt_lex.specs.declared.fault.AsmFault.TheVariants as fault
 use Rattle.xt_lex.specs.Tokens.{tokens_of}

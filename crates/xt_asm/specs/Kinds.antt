@@ -1,5 +1,7 @@
 -- The faults of an assembly text, and which of them is the first ('profile').
-use Rattle.std.specs.Prelude.{ℕ, ◌-◌, ◌^◌, Bool, true, false, not, ◌&&◌, ◌||◌, ℤ, pos, negsuc, ◌-ℤ◌, int_le, is_none, List, [], ◌∷◌, length, Option, Some, None, Result, Ok, Err}
+use Rattle.std.specs.Prelude.{ℕ, ◌-◌, ◌^◌, Bool, true, false, not, ◌&&◌, ◌||◌, ℤ, pos, negsuc, ◌-ℤ◌}
+use Rattle.std.specs.Prelude.{int_le, is_none, List, [], ◌∷◌, length, Option, Some, None, Result}
+use Rattle.std.specs.Prelude.{Ok, Err}
 use Rattle.std.specs.Option.{option_map_or}
 use Rattle.std.specs.List.{list_any}
 use Rattle.xt_isa.specs.declared.Insn.{Insn}
@@ -22,13 +24,15 @@ use Rattle.xt_parse.specs.Lines.{parsed}
 use Rattle.xt_pool.specs.Around.{each}
 use Rattle.xt_pool.specs.Findings.{Finding, at_statement, fails, first, or_else}
 use Rattle.xt_pool.specs.Pools.{has_no_pool, is_segment, words_of}
-use Rattle.xt_layout.specs.Faults.{defines, has_entry, is_last, is_misaligned, is_outside, is_too_many, overlaps, segments_in, twice}
+use Rattle.xt_layout.specs.Faults.{defines, has_entry, is_last, is_misaligned, is_outside}
+use Rattle.xt_layout.specs.Faults.{is_too_many, overlaps, segments_in, twice}
 use Rattle.xt_layout.specs.Sizes.{is_alignment, pool_size}
 use Rattle.xt_layout.specs.Spans.{spans_of}
 use Rattle.xt_layout.specs.Spots.{spot_at}
 use Rattle.xt_asm.specs.Operands.{Site, insn_at, site_at, special_in}
 
--- ---- 1, Unknown: a label that no line defines, or a special register that is not there with this access
+-- ---- 1, Unknown: a label that no line defines, or a special register that is
+-- not there with this access
 
 abbrev pub is_unknown : List Label → Expr → Bool
 is_unknown labels e = is_none (value_of labels e)
@@ -44,10 +48,12 @@ has_unknown labels (statement.Entry e) = is_unknown labels e
 has_unknown labels (statement.Literal name e) = is_unknown labels e
 has_unknown labels (statement.Words values) = list_any (is_unknown labels) values
 has_unknown labels (statement.Bytes values) = list_any (is_unknown labels) values
-has_unknown labels (statement.Insn m operands) = list_any (is_unknown_operand labels (access_of m)) operands
+has_unknown labels (statement.Insn m operands) =
+    list_any (is_unknown_operand labels (access_of m)) operands
 has_unknown labels _ = false
 
--- ---- 2, Range: a value that its bytes cannot hold, an alignment that is none, or an operand outside its row's range
+-- ---- 2, Range: a value that its bytes cannot hold, an alignment that is none, or an
+-- operand outside its row's range
 
 -- -2^31 to 2^32 - 1
 abbrev pub fits_word : ℤ → Bool
@@ -118,11 +124,14 @@ kinds_at lines before l rest =
     let made = insn_at site l.statement in
     first (twice (defines before) (has_entry before) l
     ∷ fails (has_unknown site.labels l.statement) (at_statement l 1)
-    ∷ or_else (is_too_many (segments_in before) l) (fails (has_misfit site.labels l.statement || is_range made) (at_statement l 2))
+    ∷ or_else (is_too_many (segments_in before) l)
+    (fails (has_misfit site.labels l.statement || is_range made) (at_statement l 2))
     ∷ or_else (is_misaligned here l) (fails (is_misaligned_target made) (at_statement l 5))
-    ∷ or_else (is_outside (pool_size (words_of lines) (length before)) here l (is_last rest)) (fails (is_stray_entry site.labels l.statement) (at_statement l 6))
+    ∷ or_else (is_outside (pool_size (words_of lines) (length before)) here l (is_last rest))
+    (fails (is_stray_entry site.labels l.statement) (at_statement l 6))
     ∷ overlaps (spans_of lines) (segments_in before) l
-    ∷ or_else (has_no_pool before l rest) (fails (has_no_word site l.statement || is_out_of_reach made) (at_statement l 3))
+    ∷ or_else (has_no_pool before l rest)
+    (fails (has_no_word site l.statement || is_out_of_reach made) (at_statement l 3))
     ∷ [])
 
 -- ---- the first fault of a text
@@ -132,7 +141,8 @@ has_segment lines = list_any (λ l. is_segment l.statement) lines
 
 -- 9, NoEntry: no line is an `.entry`, or none is a `.seg`
 abbrev pub no_entry : List Line → Finding
-no_entry lines = fails (not (has_entry lines && has_segment lines)) (record { line = 0; column = 0; kind = 9 })
+no_entry lines =
+    fails (not (has_entry lines && has_segment lines)) (record { line = 0; column = 0; kind = 9 })
 
 -- the first line that has a fault, and the first of its kinds; else the kind of the whole text
 unfoldable pub lines_fault : List Line → Finding

@@ -10,12 +10,18 @@ use Rattle.xt_asm.specs.Operands.{site_at}
 
 -- the image of a text without a fault is well formed
 abbrev pub TextImageIsWellFormed : Type 0
-TextImageIsWellFormed = (text : List ℕ) (image : Image) → text_fault text ≡ None → IsImageOfText text image → IsWellFormed image
+TextImageIsWellFormed =
+    (text : List ℕ) (image : Image) → text_fault text ≡ None → IsImageOfText text image
+    → IsWellFormed image
 
 -- no two images are that of one text
 abbrev pub TextHasOneImage : Type 0
-TextHasOneImage = (text : List ℕ) (a b : Image) → IsImageOfText text a → IsImageOfText text b → a ≡ b
+TextHasOneImage =
+    (text : List ℕ) (a b : Image) → IsImageOfText text a → IsImageOfText text b → a ≡ b
 
--- Where a pool is open, it has the word of each use. So a use lacks one exactly where no `.literal_position` stands before it in its segment.
+-- Where a pool is open, it has the word of each use. So a use lacks one exactly where no
+-- `.literal_position` stands before it in its segment.
 abbrev pub OpenPoolsServe : Type 0
-OpenPoolsServe = (lines before : List Line) (l : Line) (rest : List Line) → lines ≡ before ++ l ∷ rest → is_open before ≡ true → has_no_word (site_at lines before l) l.statement ≡ false
+OpenPoolsServe =
+    (lines before : List Line) (l : Line) (rest : List Line) → lines ≡ before ++ l ∷ rest
+    → is_open before ≡ true → has_no_word (site_at lines before l) l.statement ≡ false

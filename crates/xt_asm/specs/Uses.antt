@@ -22,7 +22,9 @@ key_cmp x y = ordering_then (nat_cmp x.0 y.0) (slice_cmp ghosts.cmp x.1.now y.1.
 
 -- the map has the number of the word of each use
 abbrev pub Indexes : BTreeMap Key ℕ → List PoolWord → List ℤ → Type 0
-Indexes index words addresses = (q : Key) → option_and_then (λ i. slice_get addresses i) (get key_cmp index q) ≡ word_for q.0 q.1.now words addresses
+Indexes index words addresses =
+    (q : Key) → option_and_then (λ i. slice_get addresses i) (get key_cmp index q)
+    ≡ word_for q.0 q.1.now words addresses
 
 -- the place of the pool that is open behind a statement at a place
 abbrev pub opened : Option ℕ → ℕ → Statement → Option ℕ
@@ -32,4 +34,5 @@ opened position place _ = position
 
 -- the address of the word that a line's use of a pool refers to
 abbrev pub target_at : List PoolWord → List ℤ → List Line → Line → List Line → Option ℤ
-target_at words addresses before l rest = target_of words addresses (open_position before) l.statement
+target_at words addresses before l rest =
+    target_of words addresses (open_position before) l.statement

@@ -16,7 +16,8 @@ use Rattle.xt_asm.specs.Uses.{target_at}
 
 -- the first fault of a line that no earlier pass finds
 abbrev pub own_at : List Line → List Line → Line → List Line → Finding
-own_at lines before l rest = own_fault (site_at lines before l) l (insn_at (site_at lines before l) l.statement)
+own_at lines before l rest =
+    own_fault (site_at lines before l) l (insn_at (site_at lines before l) l.statement)
 
 -- the first of them
 abbrev pub own_first : List Line → Finding
@@ -27,11 +28,14 @@ abbrev pub words_behind : List Line → List Line → List PoolWord
 words_behind before rest = flat_map (λ words. words) (each_after pool_at before rest)
 
 -- the words, labels and addresses are those of the lines, which are short
-pub record AreOf (lines : List Line) (words : List PoolWord) (labels : List Label) (addresses : List ℤ) (targets : List (Option ℤ)) : Type 0 where
+pub record AreOf
+    (lines : List Line) (words : List PoolWord) (labels : List Label) (addresses : List ℤ)
+    (targets : List (Option ℤ)) : Type 0 where
   pub words_are : words ≡ words_of lines
   pub labels_are : labels ≡ labels_of lines
   pub addresses_are : addresses ≡ map pos (line_addresses lines)
-  pub targets_are : targets ≡ each (target_at (words_of lines) (map pos (word_addresses lines))) lines
+  pub targets_are :
+      targets ≡ each (target_at (words_of lines) (map pos (word_addresses lines))) lines
   pub fit : HaveAddresses labels
   pub near : All IsAddress addresses
   pub short : All (λ (l : Line). HasShortExprs l.statement) lines

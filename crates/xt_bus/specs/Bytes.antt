@@ -1,6 +1,7 @@
 -- Carries a proof; nothing that a reader must believe.
 -- Bytes at a place of one list, as the memory's words for bytes at an address.
-use Rattle.std.specs.Prelude.{ℕ, zero, suc, ◌+◌, ◌==◌, if◌then◌else◌, List, [], ◌∷◌, slice_index, slice_set}
+use Rattle.std.specs.Prelude.{ℕ, zero, suc, ◌+◌, ◌==◌, if◌then◌else◌, List, [], ◌∷◌, slice_index}
+use Rattle.std.specs.Prelude.{slice_set}
 use Rattle.xt_map.specs.declared.access.Kind.{Kind}
 use Rattle.xt_map.specs.declared.access.Kind.TheVariants.{Load, Store, Cas}
 use Rattle.xt_map.specs.Memory.{little_endian, low_bytes}
@@ -22,4 +23,5 @@ put_in xs i (b ∷ bs) = put_in (slice_set xs i b) (i + 1) bs
 abbrev pub changed_in : List ℕ → ℕ → ℕ → Kind → List ℕ
 changed_in xs i size Load = xs
 changed_in xs i size (Store v) = put_in xs i (low_bytes size v)
-changed_in xs i size (Cas expected new) = if number_in xs i size == expected then put_in xs i (low_bytes size new) else xs
+changed_in xs i size (Cas expected new) =
+    if number_in xs i size == expected then put_in xs i (low_bytes size new) else xs

@@ -7,7 +7,12 @@ use Rattle.xt_bus.specs.States.{MemoryState, holding}
 
 abbrev pub state_in : Inside → MemoryState
 state_in m =
-    holding (record { rtc_fast_data = m.rtc_fast_data.items; dram = m.dram.items; rtc_slow = m.rtc_slow.items; sent = m.uart.sent })
+    holding (record {
+      rtc_fast_data = m.rtc_fast_data.items;
+      dram = m.dram.items;
+      rtc_slow = m.rtc_slow.items;
+      sent = m.uart.sent;
+    })
     (length m.uart.sent + m.uart.spare)
 
 -- each list is as long as its region

@@ -23,7 +23,8 @@ part_bytes m from size = bytes_at m from size
 abbrev pub served : MemoryState → Access → MemoryState
 served s a = holding (memory_past s.contents a) s.room
 
--- the memory that a bus opened with, its history, its memory with the sent bytes, and how many accesses it may yet serve
+-- the memory that a bus opened with, its history, its memory with the sent bytes, and how many
+-- accesses it may yet serve
 pub record BusState : Type 0 where
   pub opening : MemoryContents
   pub history : List Entry
@@ -32,11 +33,21 @@ pub record BusState : Type 0 where
 
 abbrev pub opened : List Segment → List (ℕ × ℕ) → ℕ → BusState
 opened segments words room =
-    record { opening = opening_memory segments words; history = []; memory = opening_memory segments words; spare = room }
+    record {
+      opening = opening_memory segments words;
+      history = [];
+      memory = opening_memory segments words;
+      spare = room;
+    }
 
 abbrev pub entry : ℕ → Access → ℕ → Entry
 entry core access reply = record { core = core; access = access; reply = reply }
 
 -- after one entry more
 abbrev pub stepped : BusState → Entry → BusState
-stepped s e = record { opening = s.opening; history = s.history ++ e ∷ []; memory = memory_past s.memory e.access; spare = s.spare - 1 }
+stepped s e = record {
+  opening = s.opening;
+  history = s.history ++ e ∷ [];
+  memory = memory_past s.memory e.access;
+  spare = s.spare - 1;
+}

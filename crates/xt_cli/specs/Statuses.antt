@@ -10,7 +10,8 @@ use Rattle.xt_lex.specs.declared.fault.AsmPlace.{AsmPlace}
 use Rattle.xt_record.specs.declared.fault.RecordFault.{RecordFault}
 use Rattle.xt_record.specs.declared.fault.RecordFault.TheVariants as record_fault
 use Rattle.xt_cli.specs.declared.status.Status.{Status}
-use Rattle.xt_cli.specs.declared.status.Status.TheVariants.{Done, Usage, Image, Asm, Elf, Recording, ReadFault, WriteFault, TooLarge, Memory}
+use Rattle.xt_cli.specs.declared.status.Status.TheVariants.{Done, Usage, Image, Asm, Elf, Recording}
+use Rattle.xt_cli.specs.declared.status.Status.TheVariants.{ReadFault, WriteFault, TooLarge, Memory}
 
 -- a fault of an image: its name and the values that it keeps, in decimal; digests in hexadecimal
 abbrev pub fault_text : ImageFault → List ℕ
@@ -51,8 +52,8 @@ elf_fault_text (elf.Count count) = codes "Count " ++ decimal count
 elf_fault_text (elf.Entry address) = codes "Entry " ++ decimal address
 elf_fault_text elf.Memory = codes "Memory"
 
--- a fault of a recording: its name and the values that it keeps, in decimal; a fault of its image is
--- the image's
+-- a fault of a recording: its name and the values that it keeps, in decimal; a fault of
+-- its image is the image's
 abbrev pub record_fault_text : RecordFault → List ℕ
 record_fault_text record_fault.Short = codes "Short"
 record_fault_text record_fault.Magic = codes "Magic"

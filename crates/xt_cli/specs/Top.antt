@@ -45,8 +45,9 @@ options_for o image = with_entry o image.entry
 unfoldable pub run_of_its_schedule : RunOptions → Image → Run → Run
 run_of_its_schedule o image run = run_of_list image (options_for o image) (schedule_in run)
 
--- This is a run of the image with the options of the words. It is, in its history and in its traces'
--- counts, places, stops and last program counters, the run of the schedule read from its own history.
+-- This is a run of the image with the options of the words. It is, in its history and in
+-- its traces' counts, places, stops and last program counters, the run of the schedule
+-- read from its own history.
 pub record IsRunOfImage (o : RunOptions) (image : Image) (run : Run) : Type 0 where
   pub options : run.options ≡ options_for o image
   pub of_image : IsRunOf image run
@@ -136,8 +137,8 @@ pub record IsUnread (e : Ends) : Type 0 where
   pub left : e.left_after ≡ e.left
   pub faults : e.source_faults_after ≡ e.source_faults
 
--- Each answer by what the words ask for: a run's, that of `gen`, or that of the commands that need no thread, which
--- hand out no run.
+-- Each answer by what the words ask for: a run's, that of `gen`, or that of the commands that need
+-- no thread, which hand out no run.
 abbrev pub Answers : Result Order Refusal → Ends → Outcome → Type 0
 Answers (Ok (order.Run wanted options)) e o = Runs wanted options e o.status o.whole
 Answers (Ok (order.Generate number)) e o =

@@ -53,8 +53,8 @@ handlers_line h = concat (
 
 -- ---- the verdict
 
--- what is judged of a run of an image whose handlers have these answers: nothing where one of them is
--- `no`; else the first breach of the walk over its records, in the order of its schedule
+-- what is judged of a run of an image whose handlers have these answers: nothing where one of them
+-- is `no`; else the first breach of the walk over its records, in the order of its schedule
 abbrev pub judged_of : Handlers → Image → Run → Judged
 judged_of handlers image run = verdict (are_yes handlers) (judgement_of image run)
 

@@ -22,4 +22,6 @@ byte code k = slice_index_or code.bytes k 0
 
 -- the bytes of the code spell the instruction, with the code's length
 abbrev pub IsSpellingOf : Insn → Code → Type 0
-IsSpellingOf i code = answer (byte code 0) (spelled (fields_at (byte code 0) (byte code 1) (byte code 2))) ≡ decoded.Good i code.len
+IsSpellingOf i code =
+    answer (byte code 0) (spelled (fields_at (byte code 0) (byte code 1) (byte code 2)))
+    ≡ decoded.Good i code.len

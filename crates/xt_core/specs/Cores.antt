@@ -1,5 +1,6 @@
 -- A core at work, and what its turns leave ('profile').
-use Rattle.std.specs.Prelude.{◌≡◌, ℕ, ◌+◌, ◌-◌, ◌<◌, Bool, true, false, ◌||◌, Option, Some, None, List, [], ◌++◌}
+use Rattle.std.specs.Prelude.{◌≡◌, ℕ, ◌+◌, ◌-◌, ◌<◌, Bool, true, false, ◌||◌, Option, Some, None}
+use Rattle.std.specs.Prelude.{List, [], ◌++◌}
 use Rattle.xt_map.specs.declared.access.Access.{Access}
 use Rattle.xt_map.specs.Regions.{is_mapped}
 use Rattle.xt_trace.specs.declared.record.StepRecord.{StepRecord}
@@ -34,11 +35,26 @@ pub record CoreState : Type 0 where
 
 -- without what waits, it is a core that keeps no records
 abbrev pub short_of : CoreState → ShortCore State
-short_of k = record { state = k.state; left = k.left; count = k.count; places = k.places; stopped = k.stopped }
+short_of k = record {
+  state = k.state;
+  left = k.left;
+  count = k.count;
+  places = k.places;
+  stopped = k.stopped;
+}
 
 -- a core that opens in this state, with so many turns
 abbrev pub opened : ℕ → State → ℕ → CoreState
-opened core state turns = record { core = core; state = state; waiting = None; left = turns; stopped = false; count = 0; places = []; turns = turns }
+opened core state turns = record {
+  core = core;
+  state = state;
+  waiting = None;
+  left = turns;
+  stopped = false;
+  count = 0;
+  places = [];
+  turns = turns;
+}
 
 -- after a turn with this record
 abbrev pub kept : StepRecord → CoreState → CoreState
@@ -69,7 +85,8 @@ pub record Asks (code : ℕ → ℕ) (before after : CoreState) (access : Access
 -- what a turn that begins does
 abbrev pub Begins : Begin → (ℕ → ℕ) → CoreState → CoreState → Type 0
 Begins begin.Ended code before after = (before.left ≡ 0) × (after ≡ before)
-Begins begin.Local code before after = (0 < before.left) × (demand code before.state ≡ None) × (after ≡ turned code 0 before)
+Begins begin.Local code before after =
+    (0 < before.left) × (demand code before.state ≡ None) × (after ≡ turned code 0 before)
 Begins (begin.Bus access) code before after = Asks code before after access
 
 -- the register that receives the reply exists, and there is a turn for it
@@ -79,8 +96,15 @@ IsWaiting (Some p) left = IsRegister p.target × (0 < left)
 
 -- what is kept of the turns that a core made
 abbrev pub trace_of : CoreState → Trace
-trace_of k = record { core = k.core; count = k.count; places = k.places; stop = stop_where k.stopped; pc = k.state.control.pc }
+trace_of k = record {
+  core = k.core;
+  count = k.count;
+  places = k.places;
+  stop = stop_where k.stopped;
+  pc = k.state.control.pc;
+}
 
 -- the same core at another state, with so many turns left
 abbrev pub restarted : State → ℕ → CoreState → CoreState
-restarted state left k = record k { state = state; left = left; stopped = false; count = 0; places = [] }
+restarted state left k =
+    record k { state = state; left = left; stopped = false; count = 0; places = [] }

@@ -9,4 +9,5 @@ use Rattle.xt_exec.specs.Chips.{processor}
 
 -- from this state, with so many turns, over the replies that these entries have for the core
 abbrev pub records_over : (ℕ → ℕ) → ℕ → State → ℕ → List Entry → List StepRecord
-records_over code core s turns entries = (trace_over (processor code) s turns (replies_of core entries)).records
+records_over code core s turns entries =
+    (trace_over (processor code) s turns (replies_of core entries)).records

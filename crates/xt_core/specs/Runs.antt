@@ -20,7 +20,8 @@ use Rattle.xt_exec.specs.Chips.{processor}
 abbrev pub code_of : Image → ℕ → ℕ
 code_of image = constant_byte image.segments
 
--- Each core's stack begins with a word 76 below its end that holds its end: the stack pointer of the caller of its opening frame.
+-- Each core's stack begins with a word 76 below its end that holds its end: the stack pointer of
+-- the caller of its opening frame.
 abbrev pub stack_words : Options → List (ℕ × ℕ)
 stack_words o = (o.stack0.hi - 76, o.stack0.hi) ∷ (o.stack1.hi - 76, o.stack1.hi) ∷ []
 
@@ -61,7 +62,9 @@ opening_of image o = record {
 -- the records of a core's turns over the replies that the history has for it, and its last state
 abbrev pub records_of : ℕ → Image → Run → Traced State
 records_of core image r =
-    let o = r.options in trace_over (processor (code_of image)) (opening_at core (entry_of core image o) o) (turns_of core o) (replies_of core r.history)
+    let o = r.options in
+    trace_over (processor (code_of image)) (opening_at core (entry_of core image o) o)
+    (turns_of core o) (replies_of core r.history)
 
 -- a trace of this core stands for these records
 pub record StandsFor (core : ℕ) (z : Traced State) (t : Trace) : Type 0 where
@@ -71,8 +74,9 @@ pub record StandsFor (core : ℕ) (z : Traced State) (t : Trace) : Type 0 where
   pub stop_is : t.stop ≡ stop_of z.records
   pub pc_is : t.pc ≡ z.last.control.pc
 
--- A run is the image's: its options are valid, the history is legal from the opening memory, each core's trace stands for the
--- processor's over the replies to that core, and that core's accesses in the history are those of its trace, each once, in order.
+-- A run is the image's: its options are valid, the history is legal from the opening memory, each
+-- core's trace stands for the processor's over the replies to that core, and that core's accesses
+-- in the history are those of its trace, each once, in order.
 pub record IsRunOf (image : Image) (r : Run) : Type 0 where
   pub valid : IsValid r.options
   pub legal : IsLegal (memory_of image r.options) r.history

@@ -18,7 +18,12 @@ use Rattle.xt_core.specs.declared.record.Head.{Head}
 
 -- what a record keeps of the state in which the turn begins
 abbrev pub head_of : State → Head
-head_of s = record { pc = s.control.pc; ccount = special_of s.control number.ccount; owb = s.control.ps.owb; interrupt = special_of s.control number.interrupt }
+head_of s = record {
+  pc = s.control.pc;
+  ccount = special_of s.control number.ccount;
+  owb = s.control.ps.owb;
+  interrupt = special_of s.control number.interrupt;
+}
 
 -- the record of a turn that began so
 abbrev pub recorded : Head → Effect → Option Access → ℕ → StepRecord
@@ -43,7 +48,8 @@ pub record IsLocal (code : ℕ → ℕ) (before after : State) (r : StepRecord) 
   pub turn : (reply : ℕ) → (r, after) ≡ turn code before reply
 
 -- A turn that asks waits for the reply, and has changed nothing.
-pub record IsHalf (code : ℕ → ℕ) (before after : State) (access : Access) (p : Pending) : Type 0 where
+pub record IsHalf
+    (code : ℕ → ℕ) (before after : State) (access : Access) (p : Pending) : Type 0 where
   pub asks : demand code before ≡ Some access
   pub mapped : is_mapped access ≡ true
   pub unchanged : after ≡ before

@@ -1,5 +1,6 @@
 -- What the commands of scripts print ('profile').
-use Rattle.std.specs.Prelude.{ℕ, zero, suc, ◌+◌, ◌%◌, ◌^◌, Option, Some, None, List, [], ◌++◌, codes}
+use Rattle.std.specs.Prelude.{ℕ, zero, suc, ◌+◌, ◌%◌, ◌^◌, Option, Some, None, List, [], ◌++◌}
+use Rattle.std.specs.Prelude.{codes}
 use Rattle.std.specs.Fmt.{decimal}
 use Rattle.xt_text.specs.Hexadecimal.{hex_digits, hex2, hex8}
 use Rattle.xt_special.specs.Control.{ps_word}

@@ -1,5 +1,6 @@
 -- What running commands leaves ('profile').
-use Rattle.std.specs.Prelude.{◌≡◌, ℕ, Bool, true, false, Option, Some, None, List, ◌++◌, Result, Ok, Err, take}
+use Rattle.std.specs.Prelude.{◌≡◌, ℕ, Bool, true, false, Option, Some, None, List, ◌++◌, Result, Ok}
+use Rattle.std.specs.Prelude.{Err, take}
 use Rattle.xt_replay.specs.Shown.{ReplayState, moved}
 use Rattle.xt_debug.specs.declared.script.Command.{Command}
 use Rattle.xt_debug.specs.Scripts.{Outcome, script_outcome}

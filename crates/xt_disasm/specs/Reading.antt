@@ -26,10 +26,12 @@ argument_of (Special access n) =
 -- the instruction that a name and printed operands make at an address, where each of them is found
 abbrev pub read : List ℕ → List Operand → ℕ → Option (Result Insn OperandFault)
 read name printed pc =
-    option_and_then (λ m. option_map (λ arguments. instruction_of m arguments (pos pc)) (all_known (map argument_of printed))) (mnemonic_of name)
+    option_and_then (λ m. option_map (λ arguments. instruction_of m arguments (pos pc))
+    (all_known (map argument_of printed))) (mnemonic_of name)
 
--- The instruction, if it is in range, is read back of the mnemonic and the operands that are printed of
--- it, at the same address. At least 2^20 bytes from both ends of the address space no target wraps.
+-- The instruction, if it is in range, is read back of the mnemonic and the operands that
+-- are printed of it, at the same address. At least 2^20 bytes from both ends of the
+-- address space no target wraps.
 abbrev pub IsReadBack : Insn → Type 0
 IsReadBack i = in_range i ≡ true → (pc : ℕ) → 2 ^ 20 ≤ pc → pc + 2 ^ 20 ≤ 2 ^ 32
     → read (name_of (mnemonic_in (parts_of i))) (operands (parts_of i) pc) pc ≡ Some (Ok i)

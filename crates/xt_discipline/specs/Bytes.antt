@@ -1,6 +1,8 @@
 -- Carries a proof; nothing that a reader must believe.
 -- The marks of the bytes of internal data memory, by save areas, that the walk of the judge keeps.
-use Rattle.std.specs.Prelude.{◌≡◌, ℕ, zero, suc, ◌+◌, ◌-◌, ◌*◌, ◌≤◌, ◌^◌, Bool, true, false, not, ◌&&◌, ◌||◌, nat_le, nat_lt, if◌then◌else◌, List, length, slice_index_or}
+use Rattle.std.specs.Prelude.{◌≡◌, ℕ, zero, suc, ◌+◌, ◌-◌, ◌*◌, ◌≤◌, ◌^◌, Bool, true, false, not}
+use Rattle.std.specs.Prelude.{◌&&◌, ◌||◌, nat_le, nat_lt, if◌then◌else◌, List, length}
+use Rattle.std.specs.Prelude.{slice_index_or}
 use Rattle.xt_map.specs.Touching.{touches}
 use Rattle.xt_frames.specs.Frames.{Frame}
 use Rattle.xt_frames.specs.SaveAreas.{before}
@@ -35,7 +37,9 @@ changed Stored h = record h { stale = false }
 -- the marks after a change of `size` bytes from an address on
 abbrev pub IsChanged : Change → ℕ → ℕ → List Held → List Held → Type 0
 IsChanged change from size old new =
-    (a : ℕ) → held_at new a ≡ (if touches from size a && is_marked old a then changed change (held_at old a) else held_at old a)
+    (a : ℕ) → held_at new a
+    ≡ (if touches from size a && is_marked old a then changed change (held_at old a)
+    else held_at old a)
 
 -- the marks are those of these live and stale bytes
 pub record Agrees (marks : List Held) (live0 live1 stale : ℕ → Bool) : Type 0 where
@@ -53,7 +57,8 @@ either live0 live1 a = live0 a || live1 a
 -- the areas that the call of a frame opens, whose callee's stack pointer is sp: the 16 bytes below
 -- that, and the 16(n-1) bytes that end 16 below its caller's stack pointer
 abbrev pub opened_at : ℕ → ℕ → Frame → List Frame → ℕ → Bool
-opened_at hi sp f fs a = touches (sp - 16) 16 a || touches (before hi fs - 16 * f.by) (16 * (f.by - 1)) a
+opened_at hi sp f fs a =
+    touches (sp - 16) 16 a || touches (before hi fs - 16 * f.by) (16 * (f.by - 1)) a
 
 -- ---- by the core that is judged and the other one
 
@@ -76,11 +81,13 @@ pub record KnowsOf (core : ℕ) (marks : List Held) (own others stale : ℕ → 
 -- bytes that pass the test are changed, and all others are as they were
 abbrev pub AreChanged : Change → (ℕ → Bool) → List Held → List Held → Type 0
 AreChanged change test old new =
-    (a : ℕ) → held_at new a ≡ (if test a && is_marked old a then changed change (held_at old a) else held_at old a)
+    (a : ℕ) → held_at new a
+    ≡ (if test a && is_marked old a then changed change (held_at old a) else held_at old a)
 
 -- as both cores open: of each the word at HI - 76 lies in a live save area, and nothing is stale
 abbrev pub AreOpened : List Held → ℕ → ℕ → Type 0
-AreOpened marks hi0 hi1 = KnowsOf 0 marks (λ a. touches (hi0 - 76) 4 a) (λ a. touches (hi1 - 76) 4 a) (λ a. false)
+AreOpened marks hi0 hi1 =
+    KnowsOf 0 marks (λ a. touches (hi0 - 76) 4 a) (λ a. touches (hi1 - 76) 4 a) (λ a. false)
 
 -- a stack that ends here lies in internal data memory, and has 256 bytes at least
 abbrev pub IsEnd : ℕ → Type 0

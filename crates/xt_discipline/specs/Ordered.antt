@@ -9,7 +9,8 @@ use Rattle.xt_runs.specs.Short.{IsRising}
 use Rattle.xt_discipline.specs.Schedules.{schedule_in}
 
 -- Of the places of a core's accesses so many are past, and the turns before `next` are written. The
--- others rise from there to below the count, and the entries that are left have as many of this core.
+-- others rise from there to below the count, and the entries that are left
+-- have as many of this core.
 pub record Comes (left : List Entry) (core : ℕ) (places : List ℕ) (past next count : ℕ)
     : Type 0 where
   pub bound : past ≤ length places

@@ -1,6 +1,7 @@
 -- Carries a proof; nothing that a reader must believe.
 -- One core of the walk of the judge.
-use Rattle.std.specs.Prelude.{◌≡◌, ℕ, suc, ◌+◌, ◌≤◌, ◌^◌, Bool, true, ◌||◌, if◌then◌else◌, Option, Some, None, Result, Ok, Err, List, ◌∷◌, length}
+use Rattle.std.specs.Prelude.{◌≡◌, ℕ, suc, ◌+◌, ◌≤◌, ◌^◌, Bool, true, ◌||◌, if◌then◌else◌, Option}
+use Rattle.std.specs.Prelude.{Some, None, Result, Ok, Err, List, ◌∷◌, length}
 use Rattle.xt_map.specs.Touching.{touches}
 use Rattle.xt_frames.specs.SaveAreas.{is_live}
 use Rattle.xt_frames.specs.Frames.{Frame, FrameState, known}
@@ -38,13 +39,17 @@ pub record IsSide (s : Side) : Type 0 where
 abbrev pub IsCallOf : Option Areas → ℕ → FrameState → Type 0
 IsCallOf None hi g = length g.frames ≡ 0
 IsCallOf (Some x) hi g =
-    (f : Frame) (fs : List Frame) → g.frames ≡ f ∷ fs → (a : ℕ) → in_areas x a ≡ opened_at hi (known g.seen 1) f fs a
+    (f : Frame) (fs : List Frame) → g.frames ≡ f ∷ fs → (a : ℕ)
+    → in_areas x a ≡ opened_at hi (known g.seen 1) f fs a
 
 -- what becomes of the marks: nothing, or the areas of a call come in, or go
-abbrev pub IsFollowed : (core hi : ℕ) (g u : FrameState) → Moves g u → List Held → List Held → Type 0
+abbrev pub IsFollowed :
+    (core hi : ℕ) (g u : FrameState) → Moves g u → List Held → List Held → Type 0
 IsFollowed core hi g u (Stays e s) mid new = new ≡ mid
-IsFollowed core hi g u (Calls f e s) mid new = AreChanged (Enters core) (opened_at hi (known u.seen 1) f g.frames) mid new
-IsFollowed core hi g u (moves.Leaves f e s) mid new = AreChanged (Leaves core) (opened_at hi (known g.seen 1) f u.frames) mid new
+IsFollowed core hi g u (Calls f e s) mid new =
+    AreChanged (Enters core) (opened_at hi (known u.seen 1) f g.frames) mid new
+IsFollowed core hi g u (moves.Leaves f e s) mid new =
+    AreChanged (Leaves core) (opened_at hi (known g.seen 1) f u.frames) mid new
 
 -- ---- a record of the core
 
@@ -53,10 +58,15 @@ abbrev pub mode_of : Bool → Mode
 mode_of handles = if handles then Handles else Plain
 
 abbrev pub standing_of : Side → Standing
-standing_of s = record { frame = s.frames.state; fresh = fresh_before s.frames s.steps; mode = mode_of s.handles }
+standing_of s = record {
+  frame = s.frames.state;
+  fresh = fresh_before s.frames s.steps;
+  mode = mode_of s.handles;
+}
 
 -- the core past one record more, which leaves it so, and the marks as those of these bytes
-pub record IsPast (old new : Side) (marks : List Held) (others stale : ℕ → Bool) (st : Standing) : Type 0 where
+pub record IsPast
+    (old new : Side) (marks : List Held) (others stale : ℕ → Bool) (st : Standing) : Type 0 where
   pub side : IsSide new
   pub core_is : new.core ≡ old.core
   pub bounds_are : new.frames.bounds ≡ old.frames.bounds
@@ -65,13 +75,17 @@ pub record IsPast (old new : Side) (marks : List Held) (others stale : ℕ → B
   pub marks_are : KnowsOf old.core marks (is_live old.frames.bounds.range st.frame) others stale
 
 -- the answer is what the definition sees in the record
-abbrev pub IsSeen : Side → Side → List Held → (ℕ → Bool) → (ℕ → Bool) → Seen → Result Unit Breach → Type 0
+abbrev pub IsSeen :
+    Side → Side → List Held → (ℕ → Bool) → (ℕ → Bool) → Seen → Result Unit Breach → Type 0
 IsSeen old new marks others stale (Handled st) (Ok u) = IsPast old new marks others stale st
 IsSeen old new marks others stale (Judges st after) (Ok u) = IsPast old new marks others after st
-IsSeen old new marks others stale (Breaks kind) (Err b) = b ≡ record { core = old.core; step = old.steps; kind = kind }
+IsSeen old new marks others stale (Breaks kind) (Err b) =
+    b ≡ record { core = old.core; step = old.steps; kind = kind }
 IsSeen old new marks others stale _ _ = ⊥
 
 -- handler steps begin, where the record that begins them shows no breach
 abbrev pub Begins : Option BreachKind → Side → Result Unit Breach → Side → Type 0
-Begins found old (Ok u) new = (found ≡ None) × (new ≡ record old { handles = true; steps = old.steps + 1 })
-Begins found old (Err b) new = (found ≡ Some b.kind) × (b.core ≡ old.frames.core) × (b.step ≡ old.steps)
+Begins found old (Ok u) new =
+    (found ≡ None) × (new ≡ record old { handles = true; steps = old.steps + 1 })
+Begins found old (Err b) new =
+    (found ≡ Some b.kind) × (b.core ≡ old.frames.core) × (b.step ≡ old.steps)

@@ -1,6 +1,8 @@
 -- Carries a proof; nothing that a reader must believe.
--- The walk over the records of both cores: what it knows is what the definition of the verdict knows.
-use Rattle.std.specs.Prelude.{◌≡◌, ℕ, suc, ◌+◌, Bool, Result, Ok, Err, List, [], ◌∷◌, ◌++◌, length, drop}
+-- The walk over the records of both cores: what it knows is what the
+-- definition of the verdict knows.
+use Rattle.std.specs.Prelude.{◌≡◌, ℕ, suc, ◌+◌, Bool, Result, Ok, Err, List, [], ◌∷◌, ◌++◌, length}
+use Rattle.std.specs.Prelude.{drop}
 use Rattle.xt_map.specs.Memory.{constant_byte}
 use Rattle.xt_map.specs.declared.segment.Segment.{Segment}
 use Rattle.xt_trace.specs.declared.options.Options.{Options}
@@ -33,20 +35,26 @@ pub record Knows (w : Walk) (b0 b1 : Bounds) (k : Known) : Type 0 where
 
 -- what a core's next record comes to
 abbrev pub Turns :
-    (ℕ → ℕ) → Side → Side → List Held → (ℕ → Bool) → (ℕ → Bool) → List StepRecord → List StepRecord → Result Unit Judged → Type 0
+    (ℕ → ℕ) → Side → Side → List Held → (ℕ → Bool) → (ℕ → Bool) → List StepRecord → List StepRecord
+    → Result Unit Judged → Type 0
 Turns code old new marks others stale [] left (Err j) = j ≡ Whole
 Turns code old new marks others stale (x ∷ xs) left (Ok u) =
-    (left ≡ xs) × IsSeen old new marks others stale (seen code old.frames.bounds (standing_of old) others stale x) (Ok u)
+    (left ≡ xs)
+    × IsSeen old new marks others stale
+    (seen code old.frames.bounds (standing_of old) others stale x) (Ok u)
 Turns code old new marks others stale (x ∷ xs) left (Err (Broken b)) =
-    IsSeen old new marks others stale (seen code old.frames.bounds (standing_of old) others stale x) (Err b)
+    IsSeen old new marks others stale (seen code old.frames.bounds (standing_of old) others stale x)
+    (Err b)
 Turns code old new marks others stale _ left _ = ⊥
 
--- and in the words of the definition: `xs` and `ys` are the records that were left before, and `xs'`
--- and `ys'` those after it
+-- and in the words of the definition: `xs` and `ys` are the records that were left before, and
+-- `xs'` and `ys'` those after it
 abbrev pub IsTurned :
-    (ℕ → ℕ) → Bounds → Bounds → ℕ → Known → List StepRecord → List StepRecord → Walk → List StepRecord → List StepRecord → Result Unit Judged → Type 0
+    (ℕ → ℕ) → Bounds → Bounds → ℕ → Known → List StepRecord → List StepRecord → Walk
+    → List StepRecord → List StepRecord → Result Unit Judged → Type 0
 IsTurned code b0 b1 core k xs ys new xs' ys' (Ok u) =
-    (n : Known) × Knows new b0 b1 n × (n.steps0 + n.steps1 ≡ suc (k.steps0 + k.steps1)) × (constant_byte new.code ≡ code)
+    (n : Known) × Knows new b0 b1 n × (n.steps0 + n.steps1 ≡ suc (k.steps0 + k.steps1))
+    × (constant_byte new.code ≡ code)
     × ((cs : List ℕ) → judgement code b0 b1 (core ∷ cs) xs ys k ≡ judgement code b0 b1 cs xs' ys' n)
 IsTurned code b0 b1 core k xs ys new xs' ys' (Err j) =
     (cs : List ℕ) → j ≡ verdict_on (judgement code b0 b1 (core ∷ cs) xs ys k).breach
@@ -56,20 +64,24 @@ pub record IsOpened (w : Walk) (code : List Segment) (entry : ℕ) (o : Options)
   pub code_is : w.code ≡ code
   pub steps0 : w.side0.steps ≡ 0
   pub steps1 : w.side1.steps ≡ 0
-  pub knows : Knows w (opened 0 entry o).bounds (opened 1 o.entry1 o).bounds (opening_known (opened 0 entry o).state (opened 1 o.entry1 o).state)
+  pub knows : Knows w (opened 0 entry o).bounds (opened 1 o.entry1 o).bounds
+      (opening_known (opened 0 entry o).state (opened 1 o.entry1 o).state)
 
 -- so many turns of a schedule are walked, past which these records are left
 pub record Reaches
-    (code : ℕ → ℕ) (b0 b1 : Bounds) (k : Known) (schedule : List ℕ) (xs ys : List StepRecord) (w : Walk) (turns : ℕ) (xs' ys' : List StepRecord) : Type 0 where
+    (code : ℕ → ℕ) (b0 b1 : Bounds) (k : Known) (schedule : List ℕ) (xs ys : List StepRecord)
+    (w : Walk) (turns : ℕ) (xs' ys' : List StepRecord) : Type 0 where
   pub known : Known
   pub knows : Knows w b0 b1 known
   pub steps : known.steps0 + known.steps1 ≡ k.steps0 + k.steps1 + turns
   pub code_is : constant_byte w.code ≡ code
-  pub judged : judgement code b0 b1 schedule xs ys k ≡ judgement code b0 b1 (drop turns schedule) xs' ys' known
+  pub judged : judgement code b0 b1 schedule xs ys k
+      ≡ judgement code b0 b1 (drop turns schedule) xs' ys' known
 
 -- these turns are walked, behind which the rest of a schedule comes; or what is judged of the run
 abbrev pub GoesOn :
-    (ℕ → ℕ) → Bounds → Bounds → Known → List ℕ → List ℕ → List StepRecord → List StepRecord → Walk → List StepRecord → List StepRecord → Result Unit Judged → Type 0
+    (ℕ → ℕ) → Bounds → Bounds → Known → List ℕ → List ℕ → List StepRecord → List StepRecord → Walk
+    → List StepRecord → List StepRecord → Result Unit Judged → Type 0
 GoesOn code b0 b1 k front rest xs ys new xs' ys' (Ok u) =
     Reaches code b0 b1 k (front ++ rest) xs ys new (length front) xs' ys'
 GoesOn code b0 b1 k front rest xs ys new xs' ys' (Err j) =

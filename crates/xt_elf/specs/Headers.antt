@@ -1,6 +1,8 @@
 -- An ELF executable as a file: its file header, its program headers, and the memory that they load
--- (System V Application Binary Interface, chapters 'Object Files' and 'Program Loading', class ELFCLASS32, little-endian).
-use Rattle.std.specs.Prelude.{ℕ, zero, suc, ◌+◌, ◌-◌, Bool, ◌&&◌, ◌==◌, nat_le, nat_lt, List, [], ◌∷◌, find, slice_index}
+-- (System V Application Binary Interface, chapters 'Object Files' and 'Program Loading', class
+-- ELFCLASS32, little-endian).
+use Rattle.std.specs.Prelude.{ℕ, zero, suc, ◌+◌, ◌-◌, Bool, ◌&&◌, ◌==◌, nat_le, nat_lt, List, []}
+use Rattle.std.specs.Prelude.{◌∷◌, find, slice_index}
 use Rattle.std.specs.Option.{option_map_or}
 use Rattle.xt_image.specs.Layout.{half_at, word_at}
 use Rattle.xt_elf.specs.declared.header.Header.{Header}
@@ -53,10 +55,13 @@ is_loaded_header h = h.kind == 1 && nat_lt 0 h.file_size
 
 -- ---- memory
 
--- the header loads a byte of the file at this address; that it is the virtual address, and not the physical one, is 'profile'
+-- the header loads a byte of the file at this address; that it is the virtual address, and not the
+-- physical one, is 'profile'
 abbrev pub loads_at : ℕ → Header → Bool
 loads_at a h = is_loaded_header h && (nat_le h.addr a && nat_lt (a - h.addr) h.file_size)
 
 -- the byte at an address: that of the file which a header loads there, and 0 where none does
 abbrev pub elf_memory : List ℕ → ℕ → ℕ
-elf_memory bytes a = option_map_or (λ h. slice_index bytes (h.offset + (a - h.addr))) (find (loads_at a) (headers_of bytes)) 0
+elf_memory bytes a =
+    option_map_or (λ h. slice_index bytes (h.offset + (a - h.addr)))
+    (find (loads_at a) (headers_of bytes)) 0

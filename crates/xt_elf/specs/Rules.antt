@@ -1,15 +1,21 @@
--- The rules of an ELF executable, in their order, each by itself: what is wrong by this rule, or nothing.
--- Which files are taken, the order of the rules and the names of the faults are this project's own choice ('profile').
-use Rattle.std.specs.Prelude.{ℕ, ◌+◌, ◌-◌, ◌*◌, ◌%◌, ◌++◌, Bool, ◌&&◌, ◌||◌, ◌==◌, not, nat_le, nat_lt, min, max, List, [], ◌∷◌, length, take, slice_index, Option, option_map, position}
+-- The rules of an ELF executable, in their order, each by itself: what is wrong by this rule, or
+-- nothing. Which files are taken, the order of the rules and the names of the faults are this
+-- project's own choice ('profile').
+use Rattle.std.specs.Prelude.{ℕ, ◌+◌, ◌-◌, ◌*◌, ◌%◌, ◌++◌, Bool, ◌&&◌, ◌||◌, ◌==◌, not, nat_le}
+use Rattle.std.specs.Prelude.{nat_lt, min, max, List, [], ◌∷◌, length, take, slice_index, Option}
+use Rattle.std.specs.Prelude.{option_map, position}
 use Rattle.std.specs.List.{count_by, list_any}
 use Rattle.std.specs.Str.{bytes_eq}
 use Rattle.xt_map.specs.Placing.{is_device}
 use Rattle.xt_map.specs.Regions.{Range, is_executable, ranges, region_of}
 use Rattle.xt_image.specs.Findings.{fails, first, first_pair}
-use Rattle.xt_elf.specs.Headers.{entry_of, file_type, header_count, header_size, headers_of, headers_place, is_loaded_header, machine}
+use Rattle.xt_elf.specs.Headers.{entry_of, file_type, header_count, header_size, headers_of}
+use Rattle.xt_elf.specs.Headers.{headers_place, is_loaded_header, machine}
 use Rattle.xt_elf.specs.declared.header.Header.{Header}
 use Rattle.xt_elf.specs.declared.fault.ElfFault.{ElfFault}
-use Rattle.xt_elf.specs.declared.fault.ElfFault.TheVariants.{Short, Magic, Class, FileType, Machine, HeaderSize, HeaderEnd, SegmentEnd, Sizes, Place, Overlap, Count, Entry}
+use Rattle.xt_elf.specs.declared.fault.ElfFault.TheVariants.{Short, Magic, Class, FileType, Machine}
+use Rattle.xt_elf.specs.declared.fault.ElfFault.TheVariants.{HeaderSize, HeaderEnd, SegmentEnd}
+use Rattle.xt_elf.specs.declared.fault.ElfFault.TheVariants.{Sizes, Place, Overlap, Count, Entry}
 
 abbrev pub Finding : Type 0
 Finding = Option ElfFault
@@ -61,17 +67,22 @@ padding n = (4 - n % 4) % 4
 abbrev pub padded_end : Header → ℕ
 padded_end h = h.addr + (h.file_size + padding h.file_size)
 
--- all addresses from a first one up to the one behind the last are in the range, and it is no device
+-- all addresses from a first one up to the one behind the last are in the
+-- range, and it is no device
 abbrev pub takes : ℕ → ℕ → Range → Bool
-takes first behind r = not (is_device r.region) && (nat_le r.first first && nat_le behind (r.last + 1))
+takes first behind r =
+    not (is_device r.region) && (nat_le r.first first && nat_le behind (r.last + 1))
 
 -- the padded bytes do not lie in one region whole
 abbrev pub is_misplaced : Header → Bool
 is_misplaced h = is_loaded_header h && not (list_any (takes h.addr (padded_end h)) ranges)
 
--- both are loaded, and the later of their first addresses lies before the earlier of their padded ends
+-- both are loaded, and the later of their first addresses lies before the
+-- earlier of their padded ends
 abbrev pub do_overlap : Header → Header → Bool
-do_overlap h k = (is_loaded_header h && is_loaded_header k) && nat_lt (max h.addr k.addr) (min (padded_end h) (padded_end k))
+do_overlap h k =
+    (is_loaded_header h && is_loaded_header k)
+    && nat_lt (max h.addr k.addr) (min (padded_end h) (padded_end k))
 
 -- the first header whose padded bytes share one with a header before it, and the first such one
 abbrev pub first_overlap : List Header → List Header → Finding
@@ -88,15 +99,19 @@ header_rules len headers =
     ∷ option_map Sizes (position is_larger_in_file headers)
     ∷ option_map Place (position is_misplaced headers)
     ∷ first_overlap [] headers
-    ∷ fails (loaded_count headers == 0 || nat_lt 16 (loaded_count headers)) (Count (loaded_count headers)) ∷ []
+    ∷ fails (loaded_count headers == 0 || nat_lt 16 (loaded_count headers))
+    (Count (loaded_count headers)) ∷ []
 
 -- ---- the entry
 
 abbrev pub entry_rules : List ℕ → List Finding
-entry_rules bytes = fails (not (is_executable (region_of (entry_of bytes)))) (Entry (entry_of bytes)) ∷ []
+entry_rules bytes =
+    fails (not (is_executable (region_of (entry_of bytes)))) (Entry (entry_of bytes)) ∷ []
 
 -- ---- all of them
 
 -- the first rule that fails
 unfoldable pub elf_fault : List ℕ → Finding
-elf_fault bytes = first (file_rules bytes ++ (header_rules (length bytes) (headers_of bytes) ++ entry_rules bytes))
+elf_fault bytes =
+    first
+    (file_rules bytes ++ (header_rules (length bytes) (headers_of bytes) ++ entry_rules bytes))

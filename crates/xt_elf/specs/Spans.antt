@@ -1,6 +1,6 @@
 -- Carries a proof; nothing that a reader must believe.
--- How a region is found by two addresses, and overlaps without comparing each header with each: by the addresses that they take,
--- in ascending order.
+-- How a region is found by two addresses, and overlaps without comparing each header with each: by
+-- the addresses that they take, in ascending order.
 use Rattle.std.specs.Prelude.{◌≡◌, ℕ, ◌<◌, ◌≤◌, true, false, List, Option, Some, slice_index_or}
 use Rattle.std.specs.List.{AllPairs, Contains}
 use Rattle.xt_map.specs.declared.regions.Region.{Region}
@@ -20,7 +20,9 @@ span_of h number = record { begins = h.addr; ends = padded_end h; number = numbe
 
 -- of each of the first n headers that is loaded, the span is there
 abbrev pub HasSpans : List Header → ℕ → List Span → Type 0
-HasSpans headers n spans = (k : ℕ) (d : Header) → k < n → is_loaded_header (slice_index_or headers k d) ≡ true → Contains spans (span_of (slice_index_or headers k d) k)
+HasSpans headers n spans =
+    (k : ℕ) (d : Header) → k < n → is_loaded_header (slice_index_or headers k d) ≡ true
+    → Contains spans (span_of (slice_index_or headers k d) k)
 
 -- each ends before every later one begins
 abbrev pub AreInARow : List Span → Type 0
@@ -28,4 +30,6 @@ AreInARow spans = AllPairs (λ (s t : Span). s.ends ≤ t.begins) spans
 
 -- no two of the first n headers share a byte
 abbrev pub AreApart : ℕ → List Header → Type 0
-AreApart n headers = (i j : ℕ) (d : Header) → i < j → j < n → do_overlap (slice_index_or headers i d) (slice_index_or headers j d) ≡ false
+AreApart n headers =
+    (i j : ℕ) (d : Header) → i < j → j < n
+    → do_overlap (slice_index_or headers i d) (slice_index_or headers j d) ≡ false

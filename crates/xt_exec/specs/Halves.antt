@@ -1,5 +1,5 @@
--- What the two halves of an instruction answer, in the words of the turn ('profile'). A turn ends with the tick, which the halves leave to their
--- caller.
+-- What the two halves of an instruction answer, in the words of the turn ('profile'). A turn ends
+-- with the tick, which the halves leave to their caller.
 use Rattle.std.specs.Prelude.{◌≡◌, ℕ, ◌+◌, Bool, true, ◌==◌, if◌then◌else◌, Option, Some, None}
 use Rattle.xt_map.specs.declared.access.Access.{Access}
 use Rattle.xt_map.specs.Regions.{is_mapped}
@@ -26,7 +26,8 @@ at_end s = record s { control = ticked s.control }
 
 -- a turn that asks for nothing and leaves this state, but for the register that it writes
 abbrev pub quiet_turn : StepKind → Option Write → State → Planned
-quiet_turn kind write s = record { kind = kind; write = write; access = None; awaited = None; after = at_end s }
+quiet_turn kind write s =
+    record { kind = kind; write = write; access = None; awaited = None; after = at_end s }
 
 -- the register that receives the reply
 abbrev pub awaiting : Option ℕ → Bool → Option Awaited
@@ -35,13 +36,21 @@ awaiting (Some number) signed = Some (record { number = number; signed = signed 
 
 -- once the reply is here, the instruction has no effect but to go on and to write the reply
 abbrev pub gone_on : ℕ → State → State
-gone_on len s = record s { control = after_effect (unchanged s.control.ps s.control.threadptr) len s.control }
+gone_on len s =
+    record s { control = after_effect (unchanged s.control.ps s.control.threadptr) len s.control }
 
 -- a turn that asks
 abbrev pub asking : Pending → State → Planned
-asking p s = record { kind = kind.Insn; write = None; access = Some p.access; awaited = awaiting p.target p.signed; after = at_end (gone_on p.len s) }
+asking p s = record {
+  kind = kind.Insn;
+  write = None;
+  access = Some p.access;
+  awaited = awaiting p.target p.signed;
+  after = at_end (gone_on p.len s);
+}
 
--- An effect tells what a turn that asks for nothing was, and the register that it wrote; the state is that of the turn before the tick.
+-- An effect tells what a turn that asks for nothing was, and the register that it wrote; the state
+-- is that of the turn before the tick.
 pub record IsEffect (e : Effect) (s : State) (t : Planned) : Type 0 where
   pub no_access : t.access ≡ None
   pub no_awaited : t.awaited ≡ None
@@ -63,9 +72,13 @@ IsPlan (plan.Bus a p) before after t = IsAsking a p before after t
 
 -- the window that stands at this distance, if it is not 0
 abbrev pub overflow_at : ℕ → State → Option Overflow
-overflow_at distance s = if distance == 0 then None else Some (record { by = distance; size = size_at s.start (s.base + distance) })
+overflow_at distance s =
+    if distance == 0 then None
+    else Some (record { by = distance; size = size_at s.start (s.base + distance) })
 
 -- the second half of the turn that asks
 pub record IsFinished (e : Effect) (before after : State) (p : Pending) (reply : ℕ) : Type 0 where
-  pub told : e ≡ record { kind = kind.Insn; write = shown (written None (awaiting p.target p.signed) reply) }
-  pub state : after ≡ with_write (written None (awaiting p.target p.signed) reply) (gone_on p.len before)
+  pub told : e
+      ≡ record { kind = kind.Insn; write = shown (written None (awaiting p.target p.signed) reply) }
+  pub state :
+      after ≡ with_write (written None (awaiting p.target p.signed) reply) (gone_on p.len before)

@@ -1,5 +1,6 @@
 -- What is said of the turn as a whole.
-use Rattle.std.specs.Prelude.{◌≡◌, ℕ, ◌%◌, ◌^◌, ◌<◌, ◌≤◌, true, Option, Some, None, List, length, slice_index}
+use Rattle.std.specs.Prelude.{◌≡◌, ℕ, ◌%◌, ◌^◌, ◌<◌, ◌≤◌, true, Option, Some, None, List, length}
+use Rattle.std.specs.Prelude.{slice_index}
 use Rattle.xt_map.specs.declared.access.Access.{Access}
 use Rattle.xt_map.specs.Regions.{is_mapped}
 use Rattle.xt_special.specs.Control.{Control}
@@ -12,7 +13,8 @@ use Rattle.xt_exec.specs.Turn.{demand, turn}
 
 -- ---- one record and one next state
 
--- the turn as a relation: in the state s, with this reply, the core makes the record r and comes to the state t
+-- the turn as a relation: in the state s, with this reply, the core makes the record r
+-- and comes to the state t
 abbrev pub IsTurn : (ℕ → ℕ) → State → ℕ → StepRecord → State → Type 0
 IsTurn code s reply r t = turn code s reply ≡ (r, t)
 
@@ -20,15 +22,18 @@ IsTurn code s reply r t = turn code s reply ≡ (r, t)
 abbrev pub IsOneTurn : Type 0
 IsOneTurn =
     (code : ℕ → ℕ) (s : State) (reply : ℕ)
-    → (r : StepRecord) × (t : State) × IsTurn code s reply r t × ((r2 : StepRecord) (t2 : State) → IsTurn code s reply r2 t2 → (r2 ≡ r) × (t2 ≡ t))
+    → (r : StepRecord) × (t : State) × IsTurn code s reply r t
+    × ((r2 : StepRecord) (t2 : State) → IsTurn code s reply r2 t2 → (r2 ≡ r) × (t2 ≡ t))
 
 -- a record has an access exactly where one was asked for
 abbrev pub RecordsWhatItAsks : Type 0
-RecordsWhatItAsks = (code : ℕ → ℕ) (s : State) (reply : ℕ) → (turn code s reply).0.access ≡ demand code s
+RecordsWhatItAsks =
+    (code : ℕ → ℕ) (s : State) (reply : ℕ) → (turn code s reply).0.access ≡ demand code s
 
 -- a turn that asks for no access does not look at the reply
 abbrev pub IgnoresReplyWithoutAccess : Type 0
-IgnoresReplyWithoutAccess = (code : ℕ → ℕ) (s : State) (a b : ℕ) → demand code s ≡ None → turn code s a ≡ turn code s b
+IgnoresReplyWithoutAccess =
+    (code : ℕ → ℕ) (s : State) (a b : ℕ) → demand code s ≡ None → turn code s a ≡ turn code s b
 
 -- ---- the shape of a state
 
@@ -36,7 +41,8 @@ IgnoresReplyWithoutAccess = (code : ℕ → ℕ) (s : State) (a b : ℕ) → dem
 abbrev pub AreWords : List ℕ → Type 0
 AreWords xs = (k : ℕ) → IsWord (slice_index xs k)
 
--- the control state: words, 256 special registers, of which SAR keeps six bits and VECBASE is a multiple of 1024, and PS's fields
+-- the control state: words, 256 special registers, of which SAR keeps six bits and VECBASE is a
+-- multiple of 1024, and PS's fields
 pub record IsShapedControl (c : Control) : Type 0 where
   pub pc : IsWord c.pc
   pub count : length c.special ≡ 256
@@ -55,7 +61,9 @@ pub record IsShaped (s : State) : Type 0 where
 
 -- a turn from a shaped state, with a reply that is a word, leaves a shaped state
 abbrev pub KeepsShape : Type 0
-KeepsShape = (code : ℕ → ℕ) (s : State) (reply : ℕ) → AreBytes code → IsShaped s → IsWord reply → IsShaped (turn code s reply).1
+KeepsShape =
+    (code : ℕ → ℕ) (s : State) (reply : ℕ) → AreBytes code → IsShaped s → IsWord reply
+    → IsShaped (turn code s reply).1
 
 abbrev pub OpensShaped : Type 0
 OpensShaped =

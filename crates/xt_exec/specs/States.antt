@@ -7,8 +7,18 @@ use Rattle.xt_exec.specs.State.{State}
 
 -- the parts of the window file are read by its own words
 abbrev pub state_of : {W : Type 0} (regs : W → List ℕ) (base start : W → ℕ) → Regs W → State
-state_of regs base start r = record { regs = regs r.win; base = base r.win; start = start r.win; control = control_at r.pc r.waiting r.sr }
+state_of regs base start r = record {
+  regs = regs r.win;
+  base = base r.win;
+  start = start r.win;
+  control = control_at r.pc r.waiting r.sr;
+}
 
 -- the same for the plain window file
 abbrev pub file_state : Regs WindowState → State
-file_state r = record { regs = r.win.regs; base = r.win.base; start = r.win.start; control = control_at r.pc r.waiting r.sr }
+file_state r = record {
+  regs = r.win.regs;
+  base = r.win.base;
+  start = r.win.start;
+  control = control_at r.pc r.waiting r.sr;
+}

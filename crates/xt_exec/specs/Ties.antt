@@ -1,7 +1,8 @@
 -- States laws that are proved; nothing that a reader must believe.
--- What the turn says of windows is what the crate of windows answers: RETW, the overflow, and that a
--- RETW undoes an ENTRY.
-use Rattle.std.specs.Prelude.{◌≡◌, ◌≢◌, ◌<◌, ◌+◌, ◌-◌, ◌*◌, ◌^◌, ℕ, Bool, true, false, ◌==◌, ◌||◌, not, Some}
+-- What the turn says of windows is what the crate of windows answers: RETW, the overflow, and
+-- that a RETW undoes an ENTRY.
+use Rattle.std.specs.Prelude.{◌≡◌, ◌≢◌, ◌<◌, ◌+◌, ◌-◌, ◌*◌, ◌^◌, ℕ, Bool, true, false, ◌==◌, ◌||◌}
+use Rattle.std.specs.Prelude.{not, Some}
 use Rattle.xt_isa.specs.declared.Insn.{Insn}
 use Rattle.xt_window.specs.declared.windows.Overflow.{Overflow}
 use Rattle.xt_window.specs.declared.windows.Return.TheVariants.{Bad}
@@ -10,7 +11,8 @@ use Rattle.xt_window.specs.Moves.{base_after_call}
 use Rattle.xt_window.specs.Answers.{overflow_of, disagrees, return_of, base_past, start_past}
 use Rattle.xt_rows.specs.Settling.{return_size}
 use Rattle.xt_exec.specs.State.{State}
-use Rattle.xt_exec.specs.Turn.{has_windows, looks, window_check, window_exception, overflow, entered, returned, illegal_return}
+use Rattle.xt_exec.specs.Turn.{has_windows, looks, window_check, window_exception, overflow}
+use Rattle.xt_exec.specs.Turn.{entered, returned, illegal_return}
 
 -- RETW is illegal where the return is bad, or windows are not at work; else the turn leaves
 -- WINDOWBASE and WINDOWSTART as the return answers

@@ -1,5 +1,7 @@
--- The value of an expression of the assembly language (profile): a sum of whole numbers, which do not wrap.
-use Rattle.std.specs.Prelude.{ℕ, ℤ, pos, ◌+ℤ◌, ◌-ℤ◌, ◌≤ℤ◌, ◌<ℤ◌, ◌^◌, Bool, if◌then◌else◌, List, [], ◌∷◌, Option, Some, None, Result, Ok, Err, All}
+-- The value of an expression of the assembly language (profile): a sum of whole
+-- numbers, which do not wrap.
+use Rattle.std.specs.Prelude.{ℕ, ℤ, pos, ◌+ℤ◌, ◌-ℤ◌, ◌≤ℤ◌, ◌<ℤ◌, ◌^◌, Bool, if◌then◌else◌, List, []}
+use Rattle.std.specs.Prelude.{◌∷◌, Option, Some, None, Result, Ok, Err, All}
 use Rattle.std.specs.Option.{option_map}
 use Rattle.xt_expr.specs.declared.expr.Term.{Term}
 use Rattle.xt_expr.specs.declared.expr.TermValue.{TermValue}

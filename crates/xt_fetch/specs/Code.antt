@@ -1,4 +1,5 @@
--- Constant memory, a function from addresses to bytes, and the numbers that its bytes are ('profile').
+-- Constant memory, a function from addresses to bytes, and the numbers that
+-- its bytes are ('profile').
 use Rattle.std.specs.Prelude.{ℕ, zero, suc, ◌+◌, ◌<◌, ◌^◌, List, [], ◌∷◌}
 use Rattle.xt_map.specs.Memory.{little_endian}
 

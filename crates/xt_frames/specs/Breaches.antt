@@ -2,7 +2,9 @@
 -- before it, the inputs, the written register and the access of its record, and live and stale
 -- bytes. A kind that names an instruction looks at each judged step that fetches it, whether it is
 -- executed or raises a cause.
-use Rattle.std.specs.Prelude.{ℕ, ◌+◌, ◌*◌, ◌/◌, ◌%◌, ◌^◌, Bool, true, false, ◌==◌, ◌&&◌, ◌||◌, not, nat_lt, nat_le, if◌then◌else◌, Option, Some, None, List, [], ◌∷◌, zero, suc, slice_index_or, is_some}
+use Rattle.std.specs.Prelude.{ℕ, ◌+◌, ◌*◌, ◌/◌, ◌%◌, ◌^◌, Bool, true, false, ◌==◌, ◌&&◌, ◌||◌, not}
+use Rattle.std.specs.Prelude.{nat_lt, nat_le, if◌then◌else◌, Option, Some, None, List, [], ◌∷◌}
+use Rattle.std.specs.Prelude.{zero, suc, slice_index_or, is_some}
 use Rattle.xt_isa.specs.declared.Insn.{Insn}
 use Rattle.xt_isa.specs.declared.Insn.TheVariants as insn
 use Rattle.xt_isa.specs.declared.shift.Shift.TheVariants as shift
@@ -29,7 +31,8 @@ use Rattle.xt_rows.specs.declared.outcome.Write.{Write}
 use Rattle.xt_fetch.specs.Fetching.{Fetched, Fetches, Fails, SpellsNothing, fetched}
 use Rattle.xt_rows.specs.Numbers.{minus, natural}
 use Rattle.xt_rows.specs.Operands.{reads, special_reads, named}
-unfoldable pub use Rattle.xt_rows.specs.Kinds.{is_return, is_movsp, is_windowing, names_window_register, sets_epc1}
+unfoldable pub use Rattle.xt_rows.specs.Kinds.{is_return, is_movsp, is_windowing}
+unfoldable pub use Rattle.xt_rows.specs.Kinds.{names_window_register, sets_epc1}
 use Rattle.xt_frames.specs.declared.kinds.BreachKind.{BreachKind}
 use Rattle.xt_frames.specs.declared.kinds.BreachKind.TheVariants as breach
 use Rattle.xt_frames.specs.Frames.{Frame, FrameState, known}

@@ -1,6 +1,7 @@
 -- The state of the machine with unbounded call frames ('profile'): no ring of registers, no window
 -- base, no vector of a window exception and no save area is in it.
-use Rattle.std.specs.Prelude.{ℕ, ◌+◌, ◌-◌, ◌*◌, ◌^◌, Option, Some, None, List, [], ◌∷◌, ◌++◌, slice_index_or, slice_set, take, drop, replicate, unwrap_or}
+use Rattle.std.specs.Prelude.{ℕ, ◌+◌, ◌-◌, ◌*◌, ◌^◌, Option, Some, None, List, [], ◌∷◌, ◌++◌}
+use Rattle.std.specs.Prelude.{slice_index_or, slice_set, take, drop, replicate, unwrap_or}
 use Rattle.xt_special.specs.Control.{Control}
 use Rattle.xt_special.specs.Opening.{prid_of, opening_control}
 use Rattle.xt_rows.specs.declared.outcome.Write.{Write}

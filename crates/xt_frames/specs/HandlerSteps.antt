@@ -11,8 +11,8 @@ use Rattle.xt_trace.specs.declared.record.StepKind.TheVariants as kind
 use Rattle.xt_trace.specs.declared.record.StepRecord.{StepRecord}
 use Rattle.xt_fetch.specs.Fetching.{Fetched, Fetches, Fails, SpellsNothing, fetched}
 
--- The mode before a record: in the plain mode a record of kind Window is a handler step, in the other
--- each record is one.
+-- The mode before a record: in the plain mode a record of kind Window is a handler step, in the
+-- other each record is one.
 pub data Mode : Type 0 where
   Plain : Mode
   Handles : Mode

@@ -7,7 +7,8 @@ use Rattle.xt_frames.specs.Frames.{FrameState}
 use Rattle.xt_frames.specs.FrameStep.{FrameTurn, laid, frame_step}
 use Rattle.xt_frames.specs.SaveAreas.{is_live}
 use Rattle.xt_frames.specs.HandlerSteps.{Mode, Plain, Handles, is_window, mode_after}
-use Rattle.xt_frames.specs.Breaches.{Bounds, inputs_of, breach_of, window_breach, fresh_after, stale_after}
+use Rattle.xt_frames.specs.Breaches.{Bounds, inputs_of, breach_of, window_breach, fresh_after}
+use Rattle.xt_frames.specs.Breaches.{stale_after}
 
 -- the frame machine's step on the inputs of a record
 abbrev pub step_on : (ℕ → ℕ) → StepRecord → FrameState → FrameTurn

@@ -1,6 +1,7 @@
 -- Carries a proof; nothing that a reader must believe.
 -- How the program keeps a frame state, and what its functions answer.
-use Rattle.std.specs.Prelude.{◌≡◌, ℕ, ◌*◌, ◌<◌, ◌≤◌, ◌^◌, true, false, Option, Some, None, List, [], ◌∷◌, map, reverse, take}
+use Rattle.std.specs.Prelude.{◌≡◌, ℕ, ◌*◌, ◌<◌, ◌≤◌, ◌^◌, true, false, Option, Some, None, List, []}
+use Rattle.std.specs.Prelude.{◌∷◌, map, reverse, take}
 use Rattle.xt_special.specs.Control.{Control}
 use Rattle.xt_special.specs.Interrupts.{pending_of}
 use Rattle.xt_fetch.specs.Fetching.{fetched}
@@ -64,13 +65,19 @@ frames_after (Calls c) frames = frame_of c ∷ frames
 frames_after Returns frames = without_newest frames
 
 abbrev pub turn_as : Step → List Frame → Upper → FrameTurn
-turn_as t frames v = record { kind = t.kind; write = t.write; access = t.access; after = state_at (frames_after t.call frames) v }
+turn_as t frames v = record {
+  kind = t.kind;
+  write = t.write;
+  access = t.access;
+  after = state_at (frames_after t.call frames) v;
+}
 
 -- what the next step is
 abbrev pub IsPlan : Plan → (ℕ → ℕ) → Control → Type 0
 IsPlan (plan.Interrupt level) code c = (pending_of c ≡ level) × (1 ≤ level) × (level ≤ 3)
 IsPlan plan.Waits code c = (pending_of c ≡ 0) × (c.waits ≡ true)
-IsPlan (plan.Fetched f) code c = (pending_of c ≡ 0) × (c.waits ≡ false) × IsFetched f (fetched code c.pc)
+IsPlan (plan.Fetched f) code c =
+    (pending_of c ≡ 0) × (c.waits ≡ false) × IsFetched f (fetched code c.pc)
 
 abbrev pub IsGood : Plan → Type 0
 IsGood (plan.Interrupt level) = Unit {0}

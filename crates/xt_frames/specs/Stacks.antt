@@ -1,5 +1,8 @@
--- The chain of stack pointers of a core's frames, which calls and returns keep, and that save areas are apart ('profile').
-use Rattle.std.specs.Prelude.{◌≡◌, ℕ, nat_lt, Bool, ◌+◌, ◌*◌, ◌%◌, ◌^◌, ◌<◌, ◌≤◌, true, false, ◌==◌, Option, Some, None, List, [], ◌∷◌, slice_index_or, slice_set, length, take}
+-- The chain of stack pointers of a core's frames, which calls and returns keep, and that save
+-- areas are apart ('profile').
+use Rattle.std.specs.Prelude.{◌≡◌, ℕ, nat_lt, Bool, ◌+◌, ◌*◌, ◌%◌, ◌^◌, ◌<◌, ◌≤◌, true, false, ◌==◌}
+use Rattle.std.specs.Prelude.{Option, Some, None, List, [], ◌∷◌, slice_index_or, slice_set, length}
+use Rattle.std.specs.Prelude.{take}
 use Rattle.xt_isa.specs.declared.Insn.{Insn}
 use Rattle.xt_isa.specs.Ranges.{in_range}
 use Rattle.xt_special.specs.Interrupts.{pending_of}
@@ -55,7 +58,8 @@ EntersStack =
     → small_frame hi (known seen 1) size n frames ≡ false
     → outside lo hi (minus (known seen 1) size) ≡ false
     → (minus (known seen 1) size % 16 == 0) ≡ true
-    → Stack lo hi (slice_set (seen_after_call seen n) 1 (Some (minus (known seen 1) size))) (record { by = n; kept = take (4 * n) seen } ∷ frames)
+    → Stack lo hi (slice_set (seen_after_call seen n) 1 (Some (minus (known seen 1) size)))
+    (record { by = n; kept = take (4 * n) seen } ∷ frames)
 
 abbrev pub LeavesStack : Type 0
 LeavesStack =
@@ -69,18 +73,24 @@ Rise x [] = Unit {0}
 Rise x (a ∷ more) = (x ≤ a.from) × Rise (a.from + a.size) more
 
 abbrev pub AreasRise : Type 0
-AreasRise = (lo hi : ℕ) (seen : List (Option ℕ)) (frames : List Frame) → Stack lo hi seen frames → Rise lo (areas hi (known seen 1) 1 frames)
+AreasRise =
+    (lo hi : ℕ) (seen : List (Option ℕ)) (frames : List Frame) → Stack lo hi seen frames
+    → Rise lo (areas hi (known seen 1) 1 frames)
 
 -- a step that shows no breach keeps the chain
 abbrev pub KeepsStack : Type 0
 KeepsStack =
-    (code : ℕ → ℕ) (b : Bounds) (fresh : Bool) (live stale : ℕ → Bool) (rec : StepRecord) (g : FrameState)
+    (code : ℕ → ℕ) (b : Bounds) (fresh : Bool) (live stale : ℕ → Bool) (rec : StepRecord)
+    (g : FrameState)
     → Stack b.range.lo b.range.hi g.seen g.frames → g.control.ps.callinc < 4
-    → ((i : Insn) (len : ℕ) → nat_lt 0 (pending_of g.control) ≡ false → g.control.waits ≡ false → fetched code g.control.pc ≡ Fetches i len → in_range i ≡ true)
+    → ((i : Insn) (len : ℕ) → nat_lt 0 (pending_of g.control) ≡ false → g.control.waits ≡ false
+    → fetched code g.control.pc ≡ Fetches i len → in_range i ≡ true)
     → laid_breach b fresh code live stale rec g ≡ None
-    → Stack b.range.lo b.range.hi (laid_step code rec.reply g).after.seen (laid_step code rec.reply g).after.frames
+    → Stack b.range.lo b.range.hi (laid_step code rec.reply g).after.seen
+    (laid_step code rec.reply g).after.frames
 
--- What a step does to the frames: it leaves them and a1 as they are; or it keeps one frame more, whose a1 is the old a1; or one less, and a1 is the one kept for it.
+-- What a step does to the frames: it leaves them and a1 as they are; or it keeps one frame more,
+-- whose a1 is the old a1; or one less, and a1 is the one kept for it.
 pub data Moves (g u : FrameState) : Type 0 where
   Stays : u.frames ≡ g.frames → known u.seen 1 ≡ known g.seen 1 → Moves g u
   Calls : (f : Frame) → u.frames ≡ f ∷ g.frames → sp_of f ≡ known g.seen 1 → Moves g u
@@ -89,8 +99,10 @@ pub data Moves (g u : FrameState) : Type 0 where
 -- a step that shows no breach moves by one frame at most
 abbrev pub MovesFrames : Type 0
 MovesFrames =
-    (code : ℕ → ℕ) (b : Bounds) (fresh : Bool) (live stale : ℕ → Bool) (rec : StepRecord) (g : FrameState)
+    (code : ℕ → ℕ) (b : Bounds) (fresh : Bool) (live stale : ℕ → Bool) (rec : StepRecord)
+    (g : FrameState)
     → Stack b.range.lo b.range.hi g.seen g.frames → g.control.ps.callinc < 4
-    → ((i : Insn) (len : ℕ) → nat_lt 0 (pending_of g.control) ≡ false → g.control.waits ≡ false → fetched code g.control.pc ≡ Fetches i len → in_range i ≡ true)
+    → ((i : Insn) (len : ℕ) → nat_lt 0 (pending_of g.control) ≡ false → g.control.waits ≡ false
+    → fetched code g.control.pc ≡ Fetches i len → in_range i ≡ true)
     → laid_breach b fresh code live stale rec g ≡ None
     → Moves g (laid_step code rec.reply g).after

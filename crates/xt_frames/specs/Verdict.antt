@@ -1,6 +1,7 @@
 -- The verdict on a run ('profile'): its records, walked in the order of its schedule, by the frame
 -- states alone; and what it is that judged records are a run of the machine with unbounded frames.
-use Rattle.std.specs.Prelude.{◌≡◌, ℕ, zero, suc, Bool, false, if◌then◌else◌, Option, Some, None, List, [], ◌∷◌, ◌++◌}
+use Rattle.std.specs.Prelude.{◌≡◌, ℕ, zero, suc, Bool, false, if◌then◌else◌, Option, Some, None}
+use Rattle.std.specs.Prelude.{List, [], ◌∷◌, ◌++◌}
 use Rattle.xt_map.specs.declared.access.Access.{Access}
 use Rattle.xt_map.specs.declared.access.Entry.{Entry}
 use Rattle.xt_map.specs.declared.contents.MemoryContents.{MemoryContents}
@@ -14,7 +15,8 @@ use Rattle.xt_frames.specs.Frames.{FrameState}
 use Rattle.xt_frames.specs.FrameStep.{FrameTurn}
 use Rattle.xt_frames.specs.SaveAreas.{is_live}
 use Rattle.xt_frames.specs.Breaches.{Bounds}
-use Rattle.xt_frames.specs.Judging.{Standing, opening_standing, Seen, Handled, Judges, Breaks, step_on, seen}
+use Rattle.xt_frames.specs.Judging.{Standing, opening_standing, Seen, Handled, Judges, Breaks}
+use Rattle.xt_frames.specs.Judging.{step_on, seen}
 
 -- ---- the walk
 

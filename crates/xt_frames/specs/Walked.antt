@@ -1,6 +1,7 @@
--- What a contract sees of a core of the machine with unbounded frames, and what its functions answer
--- ('profile').
-use Rattle.std.specs.Prelude.{◌≡◌, ℕ, zero, suc, true, ◌+◌, ◌-◌, ◌/◌, ◌≤◌, Bool, ◌&&◌, ◌==◌, Option, Some, None, Result, Ok, Err, List, [], ◌∷◌, length, map}
+-- What a contract sees of a core of the machine with unbounded frames, and what its
+-- functions answer ('profile').
+use Rattle.std.specs.Prelude.{◌≡◌, ℕ, zero, suc, true, ◌+◌, ◌-◌, ◌/◌, ◌≤◌, Bool, ◌&&◌, ◌==◌, Option}
+use Rattle.std.specs.Prelude.{Some, None, Result, Ok, Err, List, [], ◌∷◌, length, map}
 use Rattle.xt_trace.specs.declared.options.Options.{Options}
 use Rattle.xt_trace.specs.declared.options.Stack.{Stack}
 use Rattle.xt_trace.specs.declared.record.StepRecord.{StepRecord}
@@ -17,8 +18,8 @@ use Rattle.xt_frames.specs.Judging.{fresh_on, step_on}
 use Rattle.xt_frames.specs.Stacks as stacks
 use Rattle.xt_frames.specs.Parts.{Upper, frames_of, IsNewest}
 
--- a core: its number, what it is judged by, its frame state, whether EPC1 has what was last written, and the number of the record
--- behind the last judged one
+-- a core: its number, what it is judged by, its frame state, whether EPC1 has what was last
+-- written, and the number of the record behind the last judged one
 pub record Walked : Type 0 where
   pub core : ℕ
   pub bounds : Bounds
@@ -29,26 +30,34 @@ pub record Walked : Type 0 where
 abbrev pub bounds_of : Limits → Bounds
 bounds_of l = record { range = record { lo = l.lo; hi = l.hi }; vecbase = l.vecbase }
 
--- EPC1 has what was last written before the record of this number: a gap in the numbers shows that handler steps stood there
+-- EPC1 has what was last written before the record of this number: a gap in the numbers shows that
+-- handler steps stood there
 abbrev pub fresh_before : Walked → ℕ → Bool
 fresh_before w index = w.fresh && (w.next == index)
 
 -- a core after a judged record of this number
 abbrev pub walked_past : Walked → (ℕ → ℕ) → ℕ → StepRecord → Walked
 walked_past w code index rec =
-    record w { state = (step_on code rec w.state).after; fresh = fresh_on (fresh_before w index) code rec w.state; next = index + 1 }
+    record w {
+      state = (step_on code rec w.state).after;
+      fresh = fresh_on (fresh_before w index) code rec w.state;
+      next = index + 1;
+    }
 
 -- the answer where a step shows this breach, and the core that it leaves
 abbrev pub IsBreach : Option BreachKind → Walked → ℕ → Breach → Type 0
 IsBreach found w index b = found ≡ Some b.kind × (b.core ≡ w.core) × (b.step ≡ index)
 
-abbrev pub IsJudged : Option BreachKind → Walked → (ℕ → ℕ) → ℕ → StepRecord → Result Unit Breach → Walked → Type 0
+abbrev pub IsJudged :
+    Option BreachKind → Walked → (ℕ → ℕ) → ℕ → StepRecord → Result Unit Breach → Walked → Type 0
 IsJudged found w code index rec (Ok u) new = (found ≡ None) × (new ≡ walked_past w code index rec)
 IsJudged found w code index rec (Err b) new = IsBreach found w index b × (new ≡ w)
 
 -- the first breach of a record of this number
-abbrev pub found_in : Walked → (ℕ → ℕ) → (ℕ → Bool) → (ℕ → Bool) → ℕ → StepRecord → Option BreachKind
-found_in w code live stale index rec = breach_of w.bounds (fresh_before w index) code live stale rec w.state
+abbrev pub found_in :
+    Walked → (ℕ → ℕ) → (ℕ → Bool) → (ℕ → Bool) → ℕ → StepRecord → Option BreachKind
+found_in w code live stale index rec =
+    breach_of w.bounds (fresh_before w index) code live stale rec w.state
 
 -- ---- tests, as the program lists them
 
@@ -59,13 +68,15 @@ abbrev pub shown_tests : List Tested → List Test
 shown_tests tests = map shown_test tests
 
 -- what a step is tested by
-pub record IsCase (case : Case) (rec : StepRecord) (frames : List Frame) (live stale : ℕ → Bool) : Type 0 where
+pub record IsCase
+    (case : Case) (rec : StepRecord) (frames : List Frame) (live stale : ℕ → Bool) : Type 0 where
   pub saves : touches_save_area live rec.access ≡ case.saves
   pub stale_load : loads_stale live stale rec.access ≡ case.stale
   pub newest : IsNewest case.newest frames
   pub under : case.under ≡ before case.limits.hi frames
 
--- ---- the callers as they are kept: their frames are on the stack, and there is room for all that can stand there
+-- ---- the callers as they are kept: their frames are on the stack, and there is room for
+-- all that can stand there
 pub record AreKept (lo hi : ℕ) (v : Upper) (callers : List Caller) (capacity : ℕ) : Type 0 where
   pub stack : stacks.Stack lo hi v.seen (frames_of callers)
   pub room : (hi - lo) / 16 + 2 ≤ capacity
@@ -79,14 +90,17 @@ stack_of (suc core) o = o.stack1
 abbrev pub opened : ℕ → ℕ → Options → Walked
 opened core pc o = record {
   core = core;
-  bounds = record { range = record { lo = (stack_of core o).lo; hi = (stack_of core o).hi }; vecbase = o.vecbase };
+  bounds = record {
+    range = record { lo = (stack_of core o).lo; hi = (stack_of core o).hi };
+    vecbase = o.vecbase;
+  };
   state = opening_frame core pc o.vecbase (stack_of core o).hi;
   fresh = true;
   next = 0;
 }
 
--- frame j is the one that the first j calls opened, so that the opening frame is 0; its stack pointer is a1 as it was kept for it,
--- or of the newest frame a1
+-- frame j is the one that the first j calls opened, so that the opening frame is 0; its stack
+-- pointer is a1 as it was kept for it, or of the newest frame a1
 abbrev pub sp_in : List Frame → ℕ → ℕ → ℕ
 sp_in [] sp back = sp
 sp_in (f ∷ fs) sp zero = sp

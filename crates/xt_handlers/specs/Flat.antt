@@ -2,7 +2,8 @@
 -- The checker's flat symbols and what they stand for.
 use Rattle.std.specs.Prelude.{◌≡◌, ℕ, true, Some, List, length, map}
 use Rattle.xt_stretch.specs.Symbols.{Symbol, Init, Load, Word, Effect}
-use Rattle.xt_stretch.specs.Needs.{callee_sp, link, wanted_stores, still_wanted, are_named, marked, IsSpoiled}
+use Rattle.xt_stretch.specs.Needs.{callee_sp, link, wanted_stores, still_wanted, are_named, marked}
+use Rattle.xt_stretch.specs.Needs.{IsSpoiled}
 use Rattle.xt_stretch.specs.declared.Side.{Side}
 use Rattle.std.specs.Bool.{MatchBool}
 use Rattle.xt_handlers.specs.declared.Evaluation.{Evaluation}

@@ -1,5 +1,5 @@
--- The vectors of the window handlers, and their answers (the offsets of the vectors from VECBASE are
--- those of the ESP32's configuration; the offset that a vector that fails has is 'profile').
+-- The vectors of the window handlers, and their answers (the offsets of the vectors from VECBASE
+-- are those of the ESP32's configuration; the offset that a vector that fails has is 'profile').
 use Rattle.std.specs.Prelude.{◌≡◌, ℕ, ◌+◌, ◌-◌, ◌*◌, ◌<◌, if◌then◌else◌, List}
 use Rattle.xt_fetch.specs.Fetching.{can_fetch}
 use Rattle.xt_fetch.specs.Code.{code_bytes}
@@ -10,7 +10,8 @@ use Rattle.xt_stretch.specs.declared.HandlerVerdict.TheVariants.{Yes, No}
 use Rattle.xt_stretch.specs.Spelled.{lines_of}
 use Rattle.xt_stretch.specs.Handling.{handling}
 
--- the number of a vector, 0 to 5: Overflow4, Underflow4, Overflow8, Underflow8, Overflow12 and Underflow12
+-- the number of a vector, 0 to 5: Overflow4, Underflow4, Overflow8, Underflow8,
+-- Overflow12 and Underflow12
 abbrev pub vector_number : Side → ℕ → ℕ
 vector_number Overflow n = 2 * (n - 1)
 vector_number Underflow n = 2 * (n - 1) + 1
@@ -21,9 +22,13 @@ vector_at vecbase side n = vecbase + 0x40 * vector_number side n
 abbrev pub vector_bytes : (ℕ → ℕ) → ℕ → List ℕ
 vector_bytes code at = code_bytes code at 64
 
--- the answer for the vector of n at VECBASE; a vector lies whole in one region, since VECBASE is a multiple of 1024
+-- the answer for the vector of n at VECBASE; a vector lies whole in one region, since
+-- VECBASE is a multiple of 1024
 abbrev pub verdict_of : (ℕ → ℕ) → ℕ → Side → ℕ → HandlerVerdict
-verdict_of code vecbase side n = if can_fetch (vector_at vecbase side n) then handling side n (lines_of (vector_bytes code (vector_at vecbase side n))) else No 0
+verdict_of code vecbase side n =
+    if can_fetch (vector_at vecbase side n)
+    then handling side n (lines_of (vector_bytes code (vector_at vecbase side n)))
+    else No 0
 
 -- the six handlers pass the check
 abbrev pub Handlers : (ℕ → ℕ) → ℕ → Type 0

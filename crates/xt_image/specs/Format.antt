@@ -1,5 +1,6 @@
 -- The image that a file without a fault holds (esptool's image format).
-use Rattle.std.specs.Prelude.{ℕ, List, take, drop, slice_index, Result, Ok, Err, Some, None, ◌≡◌, ◌≢◌}
+use Rattle.std.specs.Prelude.{ℕ, List, take, drop, slice_index, Result, Ok, Err, Some, None, ◌≡◌}
+use Rattle.std.specs.Prelude.{◌≢◌}
 use Rattle.xt_image.specs.Layout.{half_at, segments_in, word_at}
 use Rattle.xt_image.specs.Rules.{Finding, has_digest}
 use Rattle.xt_image.specs.declared.image.Head.{Head}

@@ -1,5 +1,7 @@
--- An image file as a concatenation: a head of 24 bytes, the segments, and what follows them (esptool's image format, little-endian).
-use Rattle.std.specs.Prelude.{ℕ, zero, suc, ◌+◌, ◌-◌, ◌%◌, ◌++◌, List, [], ◌∷◌, length, take, drop, slice_index, Option, Some, None, if◌then◌else◌, nat_le, ◌&&◌}
+-- An image file as a concatenation: a head of 24 bytes, the segments, and what follows them
+-- (esptool's image format, little-endian).
+use Rattle.std.specs.Prelude.{ℕ, zero, suc, ◌+◌, ◌-◌, ◌%◌, ◌++◌, List, [], ◌∷◌, length, take, drop}
+use Rattle.std.specs.Prelude.{slice_index, Option, Some, None, if◌then◌else◌, nat_le, ◌&&◌}
 use Rattle.std.specs.Option.{option_map_or}
 use Rattle.std.specs.List.{flat_map}
 use Rattle.std.specs.Int.{w16, w32, from_le_bytes, to_le_bytes}
@@ -19,7 +21,10 @@ segment_bytes s = to_le_bytes w32 s.addr ++ to_le_bytes w32 (length s.bytes) ++ 
 -- the segment that stands at the front, where a whole one does, and what follows it
 unfoldable pub front : List ℕ → Option (Segment × List ℕ)
 front bytes = if nat_le 8 (length bytes) && nat_le (word_at bytes 4) (length bytes - 8)
-    then Some (record { addr = word_at bytes 0; bytes = take (word_at bytes 4) (drop 8 bytes) }, drop (word_at bytes 4) (drop 8 bytes)) else None
+    then Some (
+      record { addr = word_at bytes 0; bytes = take (word_at bytes 4) (drop 8 bytes) },
+      drop (word_at bytes 4) (drop 8 bytes),
+    ) else None
 
 -- the whole segments that stand one after another at the front, at most n
 unfoldable pub segments_at : ℕ → List ℕ → List Segment

@@ -1,4 +1,5 @@
--- The head of an image that is made here and not read from a file ('profile'; its bytes are those of esptool's image format).
+-- The head of an image that is made here and not read from a file ('profile'; its bytes are those
+-- of esptool's image format).
 use Rattle.std.specs.Prelude.{replicate}
 use Rattle.xt_image.specs.declared.image.Head.{Head}
 

@@ -1,5 +1,6 @@
 -- An image as a file: its parts joined (esptool's image format, little-endian).
-use Rattle.std.specs.Prelude.{ℕ, ◌-◌, ◌%◌, ◌≤◌, ◌<◌, ◌^◌, ◌++◌, ◌∷◌, [], Bool, List, length, replicate, if◌then◌else◌, true, None, ◌≡◌, All}
+use Rattle.std.specs.Prelude.{ℕ, ◌-◌, ◌%◌, ◌≤◌, ◌<◌, ◌^◌, ◌++◌, ◌∷◌, [], Bool, List, length}
+use Rattle.std.specs.Prelude.{replicate, if◌then◌else◌, true, None, ◌≡◌, All}
 use Rattle.std.specs.List.{flat_map}
 use Rattle.std.specs.Int.{w16, w32, to_le_bytes}
 use Rattle.sha2.specs.Sha256.{sha256}
@@ -26,13 +27,15 @@ head_bytes i = 0xE9 ∷ length i.segments ∷ i.head.mode ∷ i.head.size_freq �
     ++ i.head.reserved
     ++ flag_of i.digest ∷ []
 
--- how many bytes stand between the last segment and the checksum, so that its place has 15 as its last four bits
+-- how many bytes stand between the last segment and the checksum, so that its place has
+-- 15 as its last four bits
 abbrev pub gap_length : Image → ℕ
 gap_length i = 15 - end_of i.segments % 16
 
 -- the head, the segments, what stands in the gap, and the checksum
 unfoldable pub summed_bytes : Image → List ℕ → List ℕ
-summed_bytes i gap = head_bytes i ++ flat_map segment_bytes i.segments ++ gap ++ checksum i.segments ∷ []
+summed_bytes i gap =
+    head_bytes i ++ flat_map segment_bytes i.segments ++ gap ++ checksum i.segments ∷ []
 
 -- the digest of all of that, where the image has one
 abbrev pub digest_bytes : Image → List ℕ → List ℕ

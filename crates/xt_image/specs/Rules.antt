@@ -1,6 +1,9 @@
--- The rules of an image (esptool's image format), in their order, each by itself: what is wrong by this rule, or nothing.
--- The order of the rules, the names of the faults, and the regions that they allow are this project's own choice ('profile').
-use Rattle.std.specs.Prelude.{ℕ, ◌+◌, ◌%◌, ◌++◌, Bool, List, [], ◌∷◌, length, take, drop, slice_index, Option, ◌==◌, ◌&&◌, ◌||◌, not, nat_le, nat_lt, fold, bit_xor, option_map}
+-- The rules of an image (esptool's image format), in their order, each by itself: what is wrong by
+-- this rule, or nothing. The order of the rules, the names of the faults, and the regions that they
+-- allow are this project's own choice ('profile').
+use Rattle.std.specs.Prelude.{ℕ, ◌+◌, ◌%◌, ◌++◌, Bool, List, [], ◌∷◌, length, take, drop}
+use Rattle.std.specs.Prelude.{slice_index, Option, ◌==◌, ◌&&◌, ◌||◌, not, nat_le, nat_lt, fold}
+use Rattle.std.specs.Prelude.{bit_xor, option_map}
 use Rattle.std.specs.List.{flat_map, position}
 use Rattle.std.specs.Str.{bytes_eq}
 use Rattle.sha2.specs.Sha256.{sha256}
@@ -10,7 +13,11 @@ use Rattle.xt_map.specs.Placing.{is_well_placed, do_overlap}
 use Rattle.xt_image.specs.Findings.{fails, first, first_pair}
 use Rattle.xt_image.specs.Layout.{half_at, word_at, segments_in, checksum_place}
 use Rattle.xt_image.specs.declared.fault.ImageFault.{ImageFault}
-use Rattle.xt_image.specs.declared.fault.ImageFault.TheVariants.{Short, Magic, Count, Chip, DigestFlag, SegmentEnd, SegmentLength, SegmentPlace, SegmentOverlap, NoChecksum, Checksum, NoDigest, Digest, Entry}
+use Rattle.xt_image.specs.declared.fault.ImageFault.TheVariants.{Short, Magic, Count, Chip}
+use Rattle.xt_image.specs.declared.fault.ImageFault.TheVariants.{DigestFlag, SegmentEnd}
+use Rattle.xt_image.specs.declared.fault.ImageFault.TheVariants.{SegmentLength, SegmentPlace}
+use Rattle.xt_image.specs.declared.fault.ImageFault.TheVariants.{SegmentOverlap, NoChecksum}
+use Rattle.xt_image.specs.declared.fault.ImageFault.TheVariants.{Checksum, NoDigest, Digest, Entry}
 
 abbrev pub Finding : Type 0
 Finding = Option ImageFault
@@ -21,7 +28,8 @@ abbrev pub head_rules : List ℕ → List Finding
 head_rules bytes =
     fails (nat_lt (length bytes) 24) Short
     ∷ fails (not (slice_index bytes 0 == 0xE9)) (Magic (slice_index bytes 0))
-    ∷ fails (slice_index bytes 1 == 0 || nat_lt 16 (slice_index bytes 1)) (Count (slice_index bytes 1))
+    ∷ fails (slice_index bytes 1 == 0 || nat_lt 16 (slice_index bytes 1))
+    (Count (slice_index bytes 1))
     ∷ fails (not (half_at bytes 12 == 0)) (Chip (half_at bytes 12))
     ∷ fails (nat_lt 1 (slice_index bytes 23)) (DigestFlag (slice_index bytes 23)) ∷ []
 
@@ -68,7 +76,8 @@ end_rules bytes place sum =
     fails (nat_le (length bytes) place) NoChecksum
     ∷ fails (not (slice_index bytes place == sum)) (Checksum (slice_index bytes place) sum)
     ∷ fails (has_digest bytes && nat_lt (length bytes) (place + 33)) NoDigest
-    ∷ fails (has_digest bytes && not (bytes_eq (kept_digest bytes place) (right_digest bytes place)))
+    ∷ fails
+    (has_digest bytes && not (bytes_eq (kept_digest bytes place) (right_digest bytes place)))
     (Digest (kept_digest bytes place) (right_digest bytes place))
     ∷ fails (not (is_executable (region_of (word_at bytes 4)))) (Entry (word_at bytes 4)) ∷ []
 

@@ -13,7 +13,8 @@ most_of calls = calls.most
 abbrev pub fails_next : Calls → Bool
 fails_next calls = list_any (λ number. number == calls.made) calls.fails.items
 
--- no call was made yet, each is to move at most so many bytes, and those of these numbers are to fail
+-- no call was made yet, each is to move at most so many bytes, and those of
+-- these numbers are to fail
 pub record IsUnused (limit : ℕ) (numbers : List ℕ) (calls : Calls) : Type 0 where
   pub most : calls.most ≡ limit
   pub fails : calls.fails.items ≡ numbers

@@ -1,5 +1,6 @@
 -- When a source or a sink may refuse: only where it counted a fault in that call (profile).
-use Rattle.std.specs.Prelude.{◌≡◌, ◌≤◌, ◌<◌, ◌+◌, ◌-◌, ◌^◌, ℕ, Bool, if◌then◌else◌, List, min, length, Result, Ok, OnErr, IsErrOf}
+use Rattle.std.specs.Prelude.{◌≡◌, ◌≤◌, ◌<◌, ◌+◌, ◌-◌, ◌^◌, ℕ, Bool, if◌then◌else◌, List, min}
+use Rattle.std.specs.Prelude.{length, Result, Ok, OnErr, IsErrOf}
 use Rattle.xt_io.specs.declared.sink.Refused.{Refused}
 use Rattle.xt_io.specs.declared.sink.Refused.TheVariants as refused
 
@@ -22,7 +23,8 @@ pub record HasCause {T E : Type 0} (before now : ℕ) (result : Result T E) : Ty
 
 -- the same of a write, where taking no byte of a piece that has some is a fault too, and too little
 -- memory is none
-pub record HasWriteCause (before now : ℕ) (result : Result ℕ Refused) (piece : List ℕ) : Type 0 where
+pub record HasWriteCause
+    (before now : ℕ) (result : Result ℕ Refused) (piece : List ℕ) : Type 0 where
   pub later : before ≤ now
   pub failed : IsErrOf result refused.Failed → Rose before now
   pub stuck : result ≡ Ok 0 → 0 < length piece → Rose before now

@@ -8,4 +8,5 @@ Takes old new P = (bytes : List ℕ) × Consumes old new bytes × P (length byte
 
 -- what a sink tells grew by a front of these bytes
 abbrev pub AppendsFront : Option (List ℕ) → Option (List ℕ) → List ℕ → Type 0
-AppendsFront old new bytes = (front : List ℕ) × (rest : List ℕ) × (bytes ≡ front ++ rest) × Appends old new front
+AppendsFront old new bytes =
+    (front : List ℕ) × (rest : List ℕ) × (bytes ≡ front ++ rest) × Appends old new front

@@ -1,5 +1,5 @@
--- Laws of the rows: no word is of two rows; the third byte plays no part in a 16-bit word; a row's length is its word's;
--- nibble by nibble or by the whole word, a row fits the same words.
+-- Laws of the rows: no word is of two rows; the third byte plays no part in a 16-bit word; a row's
+-- length is its word's; nibble by nibble or by the whole word, a row fits the same words.
 use Rattle.std.specs.Prelude.{◌≡◌, ◌↔◌, ℕ, ◌+◌, ◌*◌, ◌%◌, true, List, [], ◌∷◌, bit_and}
 use Rattle.xt_isa.specs.declared.Fields.{Fields}
 use Rattle.xt_isa.specs.Spelling.{Row, fits, spelled, length_of}
@@ -20,7 +20,9 @@ AreApart (row ∷ rows) = AllRows (NeverBoth row) rows × AreApart rows
 
 -- the two nibbles of the third byte could as well be 0
 abbrev pub ThirdByteIsFree : ℕ → ℕ → ℕ → ℕ → ℕ → ℕ → Type 0
-ThirdByteIsFree op0 t s r op1 op2 = spelled (record { op0 = op0; t = t; s = s; r = r; op1 = op1; op2 = op2 }) ≡ spelled (record { op0 = op0; t = t; s = s; r = r; op1 = 0; op2 = 0 })
+ThirdByteIsFree op0 t s r op1 op2 =
+    spelled (record { op0 = op0; t = t; s = s; r = r; op1 = op1; op2 = op2 })
+    ≡ spelled (record { op0 = op0; t = t; s = s; r = r; op1 = 0; op2 = 0 })
 
 -- the row's length is that of its words by their first byte
 abbrev pub HasItsLength : Row → Type 0
@@ -32,4 +34,5 @@ word_of w = w.op0 + 16 * (w.t + 16 * (w.s + 16 * (w.r + 16 * (w.op1 + 16 * w.op2
 
 -- the row's test by nibbles is the test of the whole word
 abbrev pub FitsByWord : Row → Type 0
-FitsByWord row = (w : Fields) → AreNibbles w → (fits row w ≡ true) ↔ (bit_and (word_of w) row.mask ≡ row.value)
+FitsByWord row =
+    (w : Fields) → AreNibbles w → (fits row w ≡ true) ↔ (bit_and (word_of w) row.mask ≡ row.value)

@@ -1,5 +1,6 @@
 -- The addresses of lines and pool words, and the labels ('profile').
-use Rattle.std.specs.Prelude.{ℕ, ◌+◌, ◌*◌, ◌==◌, pos, List, [], ◌∷◌, ◌++◌, length, map, slice_index, Option, Some, None, unwrap_or, if◌then◌else◌}
+use Rattle.std.specs.Prelude.{ℕ, ◌+◌, ◌*◌, ◌==◌, pos, List, [], ◌∷◌, ◌++◌, length, map, slice_index}
+use Rattle.std.specs.Prelude.{Option, Some, None, unwrap_or, if◌then◌else◌}
 use Rattle.std.specs.List.{flat_map}
 use Rattle.xt_expr.specs.declared.labels.Label.{Label}
 use Rattle.xt_parse.specs.declared.line.Line.{Line}
@@ -22,11 +23,14 @@ line_addresses lines = each (λ before l rest. address (spot_at (words_of lines)
 
 -- The words of a pool stand one after another, behind the zeros up to a multiple of 4.
 abbrev pub word_address : List ℕ → List PoolWord → PoolWord → ℕ
-word_address addresses before w = slice_index addresses w.position + padding 4 (slice_index addresses w.position) + 4 * pool_size before w.position
+word_address addresses before w =
+    slice_index addresses w.position + padding 4 (slice_index addresses w.position)
+    + 4 * pool_size before w.position
 
 abbrev pub words_after : List ℕ → List PoolWord → List PoolWord → List ℕ
 words_after addresses before [] = []
-words_after addresses before (w ∷ rest) = word_address addresses before w ∷ words_after addresses (before ++ w ∷ []) rest
+words_after addresses before (w ∷ rest) =
+    word_address addresses before w ∷ words_after addresses (before ++ w ∷ []) rest
 
 -- the address of each pool word
 unfoldable pub word_addresses : List Line → List ℕ
@@ -52,12 +56,17 @@ label_name (Some name) = name ∷ []
 abbrev pub labelled : ℕ → Placed → Label
 labelled a name = record { name = name.name; address = pos a }
 
--- A line's label has the line's address; a `.literal`'s name has that of its word, and without a word the line's.
+-- A line's label has the line's address; a `.literal`'s name has that of its word, and
+-- without a word the line's.
 abbrev pub labels_at : List PoolWord → List ℕ → List Line → Line → List Line → List Label
 labels_at words addresses before l rest =
     let a = address (spot_at words before l) in
-    map (labelled a) (label_name l.label) ++ map (labelled (unwrap_or (home (length before) words addresses) a)) (literal_name l.statement)
+    map (labelled a) (label_name l.label)
+    ++ map (labelled (unwrap_or (home (length before) words addresses) a))
+    (literal_name l.statement)
 
--- the labels and literal names in the order of their definitions: of two with one name the first counts
+-- the labels and literal names in the order of their definitions: of two with
+-- one name the first counts
 unfoldable pub labels_of : List Line → List Label
-labels_of lines = flat_map (λ labels. labels) (each (labels_at (words_of lines) (word_addresses lines)) lines)
+labels_of lines =
+    flat_map (λ labels. labels) (each (labels_at (words_of lines) (word_addresses lines)) lines)

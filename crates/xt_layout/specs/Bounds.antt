@@ -1,5 +1,7 @@
--- What the parts of the layout know of one another: the words are those of the lines, and addresses do not grow too large.
-use Rattle.std.specs.Prelude.{ℕ, ◌+◌, ◌*◌, ◌^◌, ◌≤◌, ◌<◌, ◌≡◌, List, [], ◌∷◌, ◌++◌, length, take, drop, slice_index, count_by, sum_by, nat_lt, All, Option, Some, None}
+-- What the parts of the layout know of one another: the words are those of the lines, and
+-- addresses do not grow too large.
+use Rattle.std.specs.Prelude.{ℕ, ◌+◌, ◌*◌, ◌^◌, ◌≤◌, ◌<◌, ◌≡◌, List, [], ◌∷◌, ◌++◌, length, take}
+use Rattle.std.specs.Prelude.{drop, slice_index, count_by, sum_by, nat_lt, All, Option, Some, None}
 use Rattle.xt_parse.specs.declared.line.Line.{Line}
 use Rattle.xt_pool.specs.declared.word.PoolWord.{PoolWord}
 use Rattle.xt_pool.specs.Pools.{words_of, IsAmong}
@@ -30,7 +32,8 @@ IsBelow n (Some p) = p.at ≤ n
 
 -- no address behind the first k lines is larger
 abbrev pub reach : List Line → List PoolWord → ℕ → ℕ
-reach lines words k = 2 ^ 32 + (1027 * sum_by weight (take k lines) + 4 * count_by (λ w. nat_lt w.position k) words)
+reach lines words k =
+    2 ^ 32 + (1027 * sum_by weight (take k lines) + 4 * count_by (λ w. nat_lt w.position k) words)
 
 -- ---- spans, while the lines are gone through
 
@@ -46,19 +49,29 @@ pending words (Some p) k rest = padded p.start (segment_end words k p.at rest) �
 
 -- the segments that the lines begin
 abbrev pub later : List PoolWord → List Line → List Line → List Span
-later words before rest = flat_map (λ spans. spans) (each_after (λ before l rest. span_at words (length before) l.statement rest) before rest)
+later words before rest =
+    flat_map (λ spans. spans)
+    (each_after (λ before l rest. span_at words (length before) l.statement rest) before rest)
 
 -- ---- what is known behind k lines
 
-pub record Walks (lines : List Line) (words : List PoolWord) (k : ℕ) (here : Option Spot) (spots : List (Option Spot)) (spans : List Span) : Type 0 where
+pub record Walks
+    (lines : List Line) (words : List PoolWord) (k : ℕ) (here : Option Spot)
+    (spots : List (Option Spot)) (spans : List Span) : Type 0 where
   pub here_is : here ≡ behind words 0 None (take k lines)
   pub near : IsBelow (reach lines words k) here
-  pub spots_are : spots ++ each_after (λ before l rest. spot_at words before l) (take k lines) (drop k lines) ≡ each (λ before l rest. spot_at words before l) lines
+  pub spots_are :
+      spots ++ each_after (λ before l rest. spot_at words before l) (take k lines) (drop k lines)
+      ≡ each (λ before l rest. spot_at words before l) lines
   pub below : All (IsBelow (2 ^ 34)) spots
-  pub spans_are : spans ++ (pending words here k (drop k lines) ++ later words (take k lines) (drop k lines)) ≡ spans_of lines
+  pub spans_are :
+      spans ++ (pending words here k (drop k lines) ++ later words (take k lines) (drop k lines))
+      ≡ spans_of lines
 
 -- where the lines stand, and the segments
-pub record IsWalk (lines : List Line) (words : List PoolWord) (spots : List (Option Spot)) (spans : List Span) : Type 0 where
+pub record IsWalk
+    (lines : List Line) (words : List PoolWord) (spots : List (Option Spot))
+    (spans : List Span) : Type 0 where
   pub spots_are : spots ≡ each (λ before l rest. spot_at words before l) lines
   pub below : All (IsBelow (2 ^ 34)) spots
   pub spans_are : spans ≡ spans_of lines

@@ -1,6 +1,8 @@
 -- The faults of a text that its layout shows: kinds 4, 5, 6 and 7, and a seventeenth segment
 -- (kind 2) ('profile').
-use Rattle.std.specs.Prelude.{All, ℕ, ◌+◌, ◌-◌, ◌%◌, ◌==◌, Bool, true, false, not, ◌&&◌, ◌||◌, nat_le, nat_lt, ℤ, pos, List, [], ◌∷◌, ◌++◌, length, map, take, count_by, slice_get, Option, Some, None, if◌then◌else◌}
+use Rattle.std.specs.Prelude.{All, ℕ, ◌+◌, ◌-◌, ◌%◌, ◌==◌, Bool, true, false, not, ◌&&◌, ◌||◌}
+use Rattle.std.specs.Prelude.{nat_le, nat_lt, ℤ, pos, List, [], ◌∷◌, ◌++◌, length, map, take}
+use Rattle.std.specs.Prelude.{count_by, slice_get, Option, Some, None, if◌then◌else◌}
 use Rattle.std.specs.Option.{option_map_or}
 use Rattle.std.specs.List.{list_any}
 use Rattle.std.specs.Str.{bytes_eq}
@@ -21,7 +23,8 @@ use Rattle.xt_layout.specs.declared.spot.Span.{Span}
 use Rattle.xt_layout.specs.declared.spot.Spot.{Spot}
 use Rattle.xt_layout.specs.Sizes.{padding, pool_size, size}
 use Rattle.xt_layout.specs.Spots.{spot_at, address}
-use Rattle.xt_layout.specs.Addresses.{label_name, literal_name, line_addresses, word_addresses, labels_of}
+use Rattle.xt_layout.specs.Addresses.{label_name, literal_name, line_addresses, word_addresses}
+use Rattle.xt_layout.specs.Addresses.{labels_of}
 use Rattle.xt_layout.specs.Spans.{span, meet, spans_of}
 
 -- ---- 4, Twice
@@ -32,7 +35,8 @@ names_at l = label_name l.label ++ literal_name l.statement
 
 -- lines define the name
 abbrev pub defines : List Line → Name → Bool
-defines before name = list_any (λ l. list_any (λ (p : Placed). bytes_eq p.name name) (names_at l)) before
+defines before name =
+    list_any (λ l. list_any (λ (p : Placed). bytes_eq p.name name) (names_at l)) before
 
 abbrev pub is_entry : Statement → Bool
 is_entry (Entry value) = true
@@ -41,11 +45,14 @@ is_entry _ = false
 -- the first of some names of a line that earlier lines define; `defined` tells which they define
 abbrev pub again : (Name → Bool) → Line → List Placed → Finding
 again defined l [] = None
-again defined l (p ∷ rest) = if defined p.name then Some (record { line = l.number; column = p.column; kind = 4 }) else again defined l rest
+again defined l (p ∷ rest) =
+    if defined p.name then Some (record { line = l.number; column = p.column; kind = 4 })
+    else again defined l rest
 
 -- a name that an earlier line defines, the label first, else a second `.entry`
 abbrev pub twice : (Name → Bool) → Bool → Line → Finding
-twice defined has_entry l = first (again defined l (label_name l.label) ∷ again defined l (literal_name l.statement)
+twice defined has_entry l =
+    first (again defined l (label_name l.label) ∷ again defined l (literal_name l.statement)
     ∷ fails (is_entry l.statement && has_entry) (at_statement l 4) ∷ [])
 
 abbrev pub has_entry : List Line → Bool
@@ -67,7 +74,8 @@ wants_a_multiple (Words values) = true
 wants_a_multiple _ = false
 
 abbrev pub is_misaligned : Option Spot → Line → Finding
-is_misaligned here l = fails (wants_a_multiple l.statement && not (address here % 4 == 0)) (at_statement l 5)
+is_misaligned here l =
+    fails (wants_a_multiple l.statement && not (address here % 4 == 0)) (at_statement l 5)
 
 -- ---- 6, OutOfMap: bytes outside the region of the segment's start
 
@@ -106,12 +114,16 @@ leaves start bytes = nat_lt bytes.start bytes.end && not (is_in_place start byte
 
 abbrev pub is_outside : ℕ → Option Spot → Line → Bool → Finding
 is_outside pool None l last = None
-is_outside pool (Some p) l last = fails (leaves p.start (bytes_at pool p l.statement last)) (at_statement l 6)
+is_outside pool (Some p) l last =
+    fails (leaves p.start (bytes_at pool p l.statement last)) (at_statement l 6)
 
 -- ---- 7, Overlap: at a `.seg`, the segment shares an address with an earlier one; n stand before
 
 abbrev pub overlaps : List Span → ℕ → Line → Finding
-overlaps spans n l = fails (is_segment l.statement && option_map_or (λ own. list_any (meet own) (take n spans)) (slice_get spans n) false) (at_statement l 7)
+overlaps spans n l =
+    fails (is_segment l.statement
+    && option_map_or (λ own. list_any (meet own) (take n spans)) (slice_get spans n) false)
+    (at_statement l 7)
 
 -- ---- the first of them
 
@@ -126,7 +138,9 @@ layout_faults words spans before l rest =
     ∷ overlaps spans (segments_in before) l ∷ []
 
 unfoldable pub layout_fault : List Line → Finding
-layout_fault lines = first (each (λ before l rest. first (layout_faults (words_of lines) (spans_of lines) before l rest)) lines)
+layout_fault lines =
+    first (each
+    (λ before l rest. first (layout_faults (words_of lines) (spans_of lines) before l rest)) lines)
 
 -- ---- the layout of a text
 

@@ -1,10 +1,13 @@
 -- How many bytes a statement takes ('profile').
-use Rattle.std.specs.Prelude.{ℕ, ◌+◌, ◌-◌, ◌*◌, ◌%◌, ◌^◌, ◌≤◌, ◌==◌, Bool, List, [], ◌∷◌, length, count_by, sum_by, if◌then◌else◌}
+use Rattle.std.specs.Prelude.{ℕ, ◌+◌, ◌-◌, ◌*◌, ◌%◌, ◌^◌, ◌≤◌, ◌==◌, Bool, List, [], ◌∷◌, length}
+use Rattle.std.specs.Prelude.{count_by, sum_by, if◌then◌else◌}
 use Rattle.std.specs.List.{list_any}
 use Rattle.xt_names.specs.Forms.{size_of}
 use Rattle.xt_parse.specs.declared.line.Line.{Line}
 use Rattle.xt_parse.specs.declared.statement.Statement.{Statement}
-use Rattle.xt_parse.specs.declared.statement.Statement.TheVariants.{Empty, Seg, Entry, Position, Literal, Words, Bytes, Ascii, Align, Insn}
+use Rattle.xt_parse.specs.declared.statement.Statement.TheVariants.{Empty, Seg, Entry, Position}
+use Rattle.xt_parse.specs.declared.statement.Statement.TheVariants.{Literal, Words, Bytes, Ascii}
+use Rattle.xt_parse.specs.declared.statement.Statement.TheVariants.{Align, Insn}
 use Rattle.xt_pool.specs.declared.word.PoolWord.{PoolWord}
 
 -- the zeros from an address up to a multiple of n
@@ -19,8 +22,8 @@ is_alignment n = list_any (λ k. n == k) (1 ∷ 2 ∷ 4 ∷ 8 ∷ 16 ∷ 32 ∷ 
 abbrev pub pool_size : List PoolWord → ℕ → ℕ
 pool_size words k = count_by (λ w. w.position == k) words
 
--- The bytes of a statement at an address, where a pool there has so many words. An `.align` with a bad number takes none;
--- a literal's bytes are its pool's.
+-- The bytes of a statement at an address, where a pool there has so many words. An `.align` with a
+-- bad number takes none; a literal's bytes are its pool's.
 unfoldable pub size : ℕ → ℕ → Statement → ℕ
 size pool a Position = padding 4 a + 4 * pool
 size pool a (Words values) = 4 * length values
@@ -45,6 +48,7 @@ items _ = 0
 abbrev pub weight : Line → ℕ
 weight l = 1 + items l.statement
 
--- The lines and the values and bytes in them are at most 2^21: a text within the limit of 2^20 bytes has no more.
+-- The lines and the values and bytes in them are at most 2^21: a text within the limit
+-- of 2^20 bytes has no more.
 abbrev pub IsSmall : List Line → Type 0
 IsSmall lines = sum_by weight lines ≤ 2 ^ 21

@@ -15,12 +15,15 @@ span start end = record { start = start; end = end }
 
 -- two ranges share an address
 abbrev pub meet : Span → Span → Bool
-meet x y = (nat_lt x.start x.end && nat_lt y.start y.end) && (nat_lt x.start y.end && nat_lt y.start x.end)
+meet x y =
+    (nat_lt x.start x.end && nat_lt y.start y.end) && (nat_lt x.start y.end && nat_lt y.start x.end)
 
 -- where a segment ends, of which the lines from the place k on stand at an address
 abbrev pub segment_end : List PoolWord → ℕ → ℕ → List Line → ℕ
 segment_end words k a [] = a
-segment_end words k a (l ∷ rest) = if is_segment l.statement then a else segment_end words (k + 1) (a + size (pool_size words k) a l.statement) rest
+segment_end words k a (l ∷ rest) =
+    if is_segment l.statement then a
+    else segment_end words (k + 1) (a + size (pool_size words k) a l.statement) rest
 
 -- a segment is padded with zeros to a multiple of 4 bytes
 abbrev pub padded : ℕ → ℕ → Span
@@ -33,4 +36,6 @@ span_at words k _ rest = []
 
 -- the segments of a text
 unfoldable pub spans_of : List Line → List Span
-spans_of lines = flat_map (λ spans. spans) (each (λ before l rest. span_at (words_of lines) (length before) l.statement rest) lines)
+spans_of lines =
+    flat_map (λ spans. spans)
+    (each (λ before l rest. span_at (words_of lines) (length before) l.statement rest) lines)

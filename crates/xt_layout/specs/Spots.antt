@@ -1,4 +1,5 @@
--- Where a line stands: the start of its segment, and the address that the lines before it lead to ('profile').
+-- Where a line stands: the start of its segment, and the address that the lines
+-- before it lead to ('profile').
 use Rattle.std.specs.Prelude.{ℕ, ◌+◌, List, [], ◌∷◌, Option, Some, None}
 use Rattle.std.specs.Option.{option_map, option_map_or}
 use Rattle.xt_parse.specs.declared.line.Line.{Line}
@@ -23,10 +24,12 @@ moved pool s p = spot p.start (p.at + size pool p.at s)
 abbrev pub passes : ℕ → Option Spot → Statement → Option Spot
 passes pool before s = option_map (moved pool s) (begins before s)
 
--- Behind lines, of which the first has the place k: the statements, pools and zeros of a segment stand one after another.
+-- Behind lines, of which the first has the place k: the statements, pools and zeros of a segment
+-- stand one after another.
 abbrev pub behind : List PoolWord → ℕ → Option Spot → List Line → Option Spot
 behind words k before [] = before
-behind words k before (l ∷ rest) = behind words (k + 1) (passes (pool_size words k) before l.statement) rest
+behind words k before (l ∷ rest) =
+    behind words (k + 1) (passes (pool_size words k) before l.statement) rest
 
 -- where a line stands, given the lines before it: none with no `.seg` on it or before it
 abbrev pub spot_at : List PoolWord → List Line → Line → Option Spot

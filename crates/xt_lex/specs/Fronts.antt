@@ -1,11 +1,14 @@
--- The token that stands at the front of some bytes (profile): each form of token by itself, and then the longest of them.
-use Rattle.std.specs.Prelude.{ℕ, ◌+◌, ◌^◌, Bool, false, ◌==◌, ◌&&◌, nat_lt, if◌then◌else◌, List, [], ◌∷◌, Option, Some, None}
+-- The token that stands at the front of some bytes (profile): each form of token by itself, and
+-- then the longest of them.
+use Rattle.std.specs.Prelude.{ℕ, ◌+◌, ◌^◌, Bool, false, ◌==◌, ◌&&◌, nat_lt, if◌then◌else◌, List, []}
+use Rattle.std.specs.Prelude.{◌∷◌, Option, Some, None}
 use Rattle.std.specs.List.{prefix_len, take_while}
 use Rattle.std.specs.Char.{is_ascii_digit, is_ascii_hexdigit}
 use Rattle.std.specs.Option.{option_map}
 use Rattle.xt_lex.specs.Bytes.{is_word_start, is_word_byte, is_plain, escaped, number_of}
 use Rattle.xt_lex.specs.declared.token.TokenKind.{TokenKind}
-use Rattle.xt_lex.specs.declared.token.TokenKind.TheVariants.{Word, Number, Character, Str, Comma, Colon, Equals, Plus, Minus, Bad}
+use Rattle.xt_lex.specs.declared.token.TokenKind.TheVariants.{Word, Number, Character, Str, Comma}
+use Rattle.xt_lex.specs.declared.token.TokenKind.TheVariants.{Colon, Equals, Plus, Minus, Bad}
 
 -- a token, and how many bytes it takes
 abbrev pub Front : Type 0
@@ -14,7 +17,10 @@ Front = Option (TokenKind × ℕ)
 -- a word
 unfoldable pub word_front : List ℕ → Front
 word_front [] = None
-word_front (b ∷ rest) = if is_word_start b then Some (Word (take_while is_word_byte (b ∷ rest)), prefix_len is_word_byte (b ∷ rest)) else None
+word_front (b ∷ rest) =
+    if is_word_start b
+    then Some (Word (take_while is_word_byte (b ∷ rest)), prefix_len is_word_byte (b ∷ rest))
+    else None
 
 -- a number below 2^32; a larger one is no token
 abbrev pub number_kind_of : Option ℕ → TokenKind
@@ -27,12 +33,16 @@ number_kind n = number_kind_of (if nat_lt n (2 ^ 32) then Some n else None)
 -- decimal digits
 unfoldable pub decimal_front : List ℕ → Front
 decimal_front bytes = if prefix_len is_ascii_digit bytes == 0 then None
-    else Some (number_kind (number_of 10 (take_while is_ascii_digit bytes)), prefix_len is_ascii_digit bytes)
+    else Some
+    (number_kind (number_of 10 (take_while is_ascii_digit bytes)), prefix_len is_ascii_digit bytes)
 
 -- `0x` and hexadecimal digits
 abbrev pub hex_digits_front : List ℕ → Front
 hex_digits_front digits = if prefix_len is_ascii_hexdigit digits == 0 then None
-    else Some (number_kind (number_of 16 (take_while is_ascii_hexdigit digits)), 2 + prefix_len is_ascii_hexdigit digits)
+    else Some (
+      number_kind (number_of 16 (take_while is_ascii_hexdigit digits)),
+      2 + prefix_len is_ascii_hexdigit digits,
+    )
 
 unfoldable pub hex_front : List ℕ → Front
 hex_front (b ∷ x ∷ digits) = if b == 48 && x == 120 then hex_digits_front digits else None
@@ -40,11 +50,12 @@ hex_front _ = None
 
 -- a character between single quotes
 unfoldable pub character_front : List ℕ → Front
-character_front (b ∷ c ∷ d ∷ _) = if b == 39 && d == 39 && is_plain 39 c then Some (Character c, 3) else None
+character_front (b ∷ c ∷ d ∷ _) =
+    if b == 39 && d == 39 && is_plain 39 c then Some (Character c, 3) else None
 character_front _ = None
 
--- The bytes that a string stands for, and how many bytes it takes behind its first quote. One byte stands for itself, and two, of
--- which the first is a backslash, for one.
+-- The bytes that a string stands for, and how many bytes it takes behind its first quote. One byte
+-- stands for itself, and two, of which the first is a backslash, for one.
 abbrev pub and_then : ℕ → ℕ → Option (List ℕ × ℕ) → Option (List ℕ × ℕ)
 and_then byte width body = option_map (λ r. (byte ∷ r.0, width + r.1)) body
 
@@ -56,7 +67,8 @@ abbrev pub begins_with_quote : List ℕ → Bool
 begins_with_quote [] = false
 begins_with_quote (b ∷ _) = b == 34
 
--- the byte at the front of a string's rest, and how many bytes spell it; none at the quote that ends the string, and where no string goes on
+-- the byte at the front of a string's rest, and how many bytes spell it; none at the quote that
+-- ends the string, and where no string goes on
 unfoldable pub string_piece : List ℕ → Option (ℕ × ℕ)
 string_piece (b ∷ c ∷ _) =
     if b == 34 then None else
@@ -75,7 +87,8 @@ string_body (b ∷ c ∷ rest) =
 -- a string between double quotes
 unfoldable pub string_front : List ℕ → Front
 string_front [] = None
-string_front (b ∷ rest) = if b == 34 then option_map (λ r. (Str r.0, 1 + r.1)) (string_body rest) else None
+string_front (b ∷ rest) =
+    if b == 34 then option_map (λ r. (Str r.0, 1 + r.1)) (string_body rest) else None
 
 -- `,` `:` `=` `+` `-`
 unfoldable pub mark_front : List ℕ → Front
@@ -95,4 +108,7 @@ longer (Some a) (Some b) = if nat_lt a.1 b.1 then Some b else Some a
 
 -- the longest token at the front of the bytes
 unfoldable pub token_at : List ℕ → Front
-token_at bytes = longer (word_front bytes) (longer (decimal_front bytes) (longer (hex_front bytes) (longer (character_front bytes) (longer (string_front bytes) (mark_front bytes)))))
+token_at bytes =
+    longer (word_front bytes) (longer (decimal_front bytes)
+    (longer (hex_front bytes)
+    (longer (character_front bytes) (longer (string_front bytes) (mark_front bytes)))))

@@ -1,5 +1,6 @@
 -- The tokens of an assembly text (profile).
-use Rattle.std.specs.Prelude.{ℕ, zero, suc, ◌+◌, ◌≤◌, Bool, false, ◌==◌, ◌&&◌, ◌||◌, if◌then◌else◌, List, [], ◌∷◌, ◌++◌, length, drop, Some, None, All, sum_by}
+use Rattle.std.specs.Prelude.{ℕ, zero, suc, ◌+◌, ◌≤◌, Bool, false, ◌==◌, ◌&&◌, ◌||◌, if◌then◌else◌}
+use Rattle.std.specs.Prelude.{List, [], ◌∷◌, ◌++◌, length, drop, Some, None, All, sum_by}
 use Rattle.std.specs.Option.{option_map_or}
 use Rattle.xt_lex.specs.Fronts.{Front, token_at}
 use Rattle.xt_lex.specs.declared.token.Token.{Token}
@@ -44,15 +45,17 @@ valid None = None
 valid (Some (Bad, width)) = None
 valid (Some (kind, width)) = Some (kind, width)
 
--- The tokens of the bytes from a column on, of at most n steps. A step goes over one blank, or over the longest token. A comment ends
--- the line, and so does a byte at which no token stands.
+-- The tokens of the bytes from a column on, of at most n steps. A step goes over one blank, or over
+-- the longest token. A comment ends the line, and so does a byte at which no token stands.
 unfoldable pub tokens_from : ℕ → ℕ → ℕ → List ℕ → List Token
 tokens_from zero line column bytes = []
 tokens_from (suc n) line column [] = []
 tokens_from (suc n) line column (b ∷ rest) =
     if starts_comment (b ∷ rest) then [] else
     if starts_blank (b ∷ rest) then tokens_from n line (column + 1) rest else
-    option_map_or (λ x. token line column x.1 x.0 ∷ tokens_from n line (column + x.1) (drop x.1 (b ∷ rest))) (valid (token_at (b ∷ rest))) (bad line column)
+    option_map_or
+    (λ x. token line column x.1 x.0 ∷ tokens_from n line (column + x.1) (drop x.1 (b ∷ rest)))
+    (valid (token_at (b ∷ rest))) (bad line column)
 
 -- the tokens of a line: each step takes a byte, so there are no more steps than bytes
 abbrev pub line_tokens : ℕ → List ℕ → List Token

@@ -30,8 +30,8 @@ abbrev pub judgement_of : Image → Run → Judgement
 judgement_of image r = headline.judgement_of image.segments image.entry r.options (short_of image r)
 
 -- Where the six window handlers pass their check and the two stacks are apart, the judged records
--- before the first breach are a run of the machine with unbounded call frames, over one legal history;
--- and at each position before it each whole stretch of handler steps has moved one frame.
+-- before the first breach are a run of the machine with unbounded call frames, over one legal
+-- history; and at each position before it each whole stretch of handler steps has moved one frame.
 abbrev pub IsFramed : Image → Run → Type 0
 IsFramed image r =
     Handlers (code_of image) r.options.vecbase

@@ -12,8 +12,8 @@ use Rattle.xt_machine.specs.declared.machine.Machine.{Machine}
 abbrev pub opens : ℕ → Image → Options → CoreState
 opens core image o = opened core (opening_at core (entry_of core image o) o) (turns_of core o)
 
--- Both cores and the bus stand as a run of the image with the machine's options opens, and no access
--- was made.
+-- Both cores and the bus stand as a run of the image with the machine's options
+-- opens, and no access was made.
 pub record IsOpened (image : Image) (m : Machine) : Type 0 where
   pub valid : IsValid m.options
   pub code : m.code ≡ image.segments

@@ -1,5 +1,6 @@
 -- Legal histories of a sequential memory, and the accesses of one core in a history ('profile').
-use Rattle.std.specs.Prelude.{◌≡◌, ℕ, ◌<◌, Bool, true, ◌==◌, ◌&&◌, if◌then◌else◌, Some, List, [], ◌∷◌, map, take, slice_get}
+use Rattle.std.specs.Prelude.{◌≡◌, ℕ, ◌<◌, Bool, true, ◌==◌, ◌&&◌, if◌then◌else◌, Some, List, []}
+use Rattle.std.specs.Prelude.{◌∷◌, map, take, slice_get}
 use Rattle.xt_map.specs.declared.access.Access.{Access}
 use Rattle.xt_map.specs.declared.access.Entry.{Entry}
 use Rattle.xt_map.specs.declared.contents.MemoryContents.{MemoryContents}
@@ -12,12 +13,15 @@ memory_after m (e ∷ rest) = memory_after (memory_past m e.access) rest
 
 -- as a law: the reply of each entry is the one that memory gives after the entries before it
 abbrev pub IsLegal : MemoryContents → List Entry → Type 0
-IsLegal m es = (k : ℕ) (e : Entry) → slice_get es k ≡ Some e → e.reply ≡ reply_to (memory_after m (take k es)) e.access
+IsLegal m es =
+    (k : ℕ) (e : Entry) → slice_get es k ≡ Some e
+    → e.reply ≡ reply_to (memory_after m (take k es)) e.access
 
 -- as a test
 abbrev pub is_legal_from : MemoryContents → List Entry → Bool
 is_legal_from m [] = true
-is_legal_from m (e ∷ rest) = e.reply == reply_to m e.access && is_legal_from (memory_past m e.access) rest
+is_legal_from m (e ∷ rest) =
+    e.reply == reply_to m e.access && is_legal_from (memory_past m e.access) rest
 
 -- every entry is of core 0 or 1
 abbrev pub IsOfCores : List Entry → Type 0
@@ -26,7 +30,8 @@ IsOfCores es = (k : ℕ) (e : Entry) → slice_get es k ≡ Some e → e.core < 
 -- the accesses of one core with their replies, in order
 abbrev pub calls_of : ℕ → List Entry → List (Access × ℕ)
 calls_of core [] = []
-calls_of core (e ∷ rest) = if e.core == core then (e.access, e.reply) ∷ calls_of core rest else calls_of core rest
+calls_of core (e ∷ rest) =
+    if e.core == core then (e.access, e.reply) ∷ calls_of core rest else calls_of core rest
 
 -- the replies to one core, in order
 abbrev pub replies_of : ℕ → List Entry → List ℕ

@@ -1,6 +1,8 @@
 -- Carries a proof; nothing that a reader must believe.
--- How the contents of the constant regions are found: by a list of where segments start, in the order of the addresses.
-use Rattle.std.specs.Prelude.{◌≡◌, ℕ, ◌<◌, ◌≤◌, Bool, true, ◌&&◌, nat_lt, List, length, slice_index_or, All}
+-- How the contents of the constant regions are found: by a list of where segments start, in
+-- the order of the addresses.
+use Rattle.std.specs.Prelude.{◌≡◌, ℕ, ◌<◌, ◌≤◌, Bool, true, ◌&&◌, nat_lt, List, length}
+use Rattle.std.specs.Prelude.{slice_index_or, All}
 use Rattle.std.specs.List.{Contains}
 use Rattle.std.specs.List.Sorted.{IsNonDecreasingBy}
 use Rattle.xt_map.specs.declared.segment.Segment.{Segment}
@@ -22,7 +24,8 @@ pub record IsStart (segments : List Segment) (start : Start) : Type 0 where
   pub loaded : (d : Segment) → has_bytes (slice_index_or segments start.number d) ≡ true
   pub addr : (d : Segment) → start.addr ≡ (slice_index_or segments start.number d).addr
 
--- each start is one of a segment with bytes, and each of the first n segments that has bytes has its start there
+-- each start is one of a segment with bytes, and each of the first n segments that has
+-- bytes has its start there
 pub record HasStarts (segments : List Segment) (n : ℕ) (starts : List Start) : Type 0 where
   pub sound : All (IsStart segments) starts
   pub complete : (k : ℕ) (d : Segment) → k < n → has_bytes (slice_index_or segments k d) ≡ true
@@ -38,4 +41,5 @@ pub record IsIndexed (segments : List Segment) (starts : List Start) : Type 0 wh
 pub record IsCountUpto (starts : List Start) (addr count : ℕ) : Type 0 where
   pub bound : count ≤ length starts
   pub upto : (k : ℕ) (d : Start) → k < count → (slice_index_or starts k d).addr ≤ addr
-  pub above : (k : ℕ) (d : Start) → count ≤ k → k < length starts → addr < (slice_index_or starts k d).addr
+  pub above :
+      (k : ℕ) (d : Start) → count ≤ k → k < length starts → addr < (slice_index_or starts k d).addr

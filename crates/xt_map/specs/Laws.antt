@@ -1,6 +1,7 @@
 -- States laws that are proved; nothing that a reader must believe.
 -- Laws of memory and of histories. Each is the contract of a function of src/laws.rt.
-use Rattle.std.specs.Prelude.{◌≡◌, ◌≢◌, ℕ, ◌+◌, ◌<◌, ◌≤◌, true, ◌==◌, if◌then◌else◌, ◌⊎◌, ◌↔◌, Some, List, [], ◌∷◌, ◌++◌, length}
+use Rattle.std.specs.Prelude.{◌≡◌, ◌≢◌, ℕ, ◌+◌, ◌<◌, ◌≤◌, true, ◌==◌, if◌then◌else◌, ◌⊎◌, ◌↔◌, Some}
+use Rattle.std.specs.Prelude.{List, [], ◌∷◌, ◌++◌, length}
 use Rattle.xt_map.specs.declared.regions.Region.{Region}
 use Rattle.xt_map.specs.declared.regions.Region.TheVariants.{RtcFastData, Dram, Iram, RtcSlow}
 use Rattle.xt_map.specs.declared.access.Access.{Access}
@@ -20,7 +21,8 @@ abbrev pub LongerHistoryIsOnePastMore : Type 0
 LongerHistoryIsOnePastMore = (m : MemoryContents) (es : List Entry) (e : Entry)
     → memory_after m (es ++ e ∷ []) ≡ memory_past (memory_after m es) e.access
 
--- a legal history with one more entry is legal, where its reply is that of the memory after the others
+-- a legal history with one more entry is legal, where its reply is that of
+-- the memory after the others
 abbrev pub LegalGrows : Type 0
 LegalGrows = (m : MemoryContents) (es : List Entry) (e : Entry)
     → IsLegal m es → e.reply ≡ reply_to (memory_after m es) e.access → IsLegal m (es ++ e ∷ [])
@@ -36,17 +38,21 @@ OfCoresGrows = (es : List Entry) (e : Entry) → IsOfCores es → e.core < 2 →
 -- one entry more is one call more of its own core
 abbrev pub LongerHistoryIsOneCallMore : Type 0
 LongerHistoryIsOneCallMore = (core : ℕ) (es : List Entry) (e : Entry)
-    → calls_of core (es ++ e ∷ []) ≡ calls_of core es ++ (if e.core == core then (e.access, e.reply) ∷ [] else [])
+    → calls_of core (es ++ e ∷ [])
+    ≡ calls_of core es ++ (if e.core == core then (e.access, e.reply) ∷ [] else [])
 
 -- ---- bytes
 
 -- a byte that is put at an address of a memory region is there
 abbrev pub PutByteIsThere : Type 0
-PutByteIsThere = (m : MemoryContents) (a b : ℕ) → HasSizes m → is_memory (region_of a) ≡ true → byte_at (with_byte m a b) a ≡ b
+PutByteIsThere =
+    (m : MemoryContents) (a b : ℕ) → HasSizes m → is_memory (region_of a) ≡ true
+    → byte_at (with_byte m a b) a ≡ b
 
 -- the bytes of the other addresses stay
 abbrev pub PutByteKeepsOthers : Type 0
-PutByteKeepsOthers = (m : MemoryContents) (a b c : ℕ) → a ≢ c → byte_at (with_byte m a b) c ≡ byte_at m c
+PutByteKeepsOthers =
+    (m : MemoryContents) (a b c : ℕ) → a ≢ c → byte_at (with_byte m a b) c ≡ byte_at m c
 
 -- the lists stay as long as their regions
 abbrev pub PutByteKeepsSizes : Type 0
@@ -63,11 +69,13 @@ AccessKeepsSizes = (m : MemoryContents) (a : Access) → HasSizes m → HasSizes
 
 -- the opening memory's lists are as long as their regions
 abbrev pub OpeningHasSizes : Type 0
-OpeningHasSizes = (segments : List Segment) (words : List (ℕ × ℕ)) → HasSizes (opening_memory segments words)
+OpeningHasSizes =
+    (segments : List Segment) (words : List (ℕ × ℕ)) → HasSizes (opening_memory segments words)
 
 -- an access sends at most one byte
 abbrev pub AccessSendsAtMostOneByte : Type 0
-AccessSendsAtMostOneByte = (m : MemoryContents) (a : Access) → length (memory_past m a).sent ≤ length m.sent + 1
+AccessSendsAtMostOneByte =
+    (m : MemoryContents) (a : Access) → length (memory_past m a).sent ≤ length m.sent + 1
 
 -- ---- regions
 
@@ -104,4 +112,6 @@ RangeIsRtcSlow = HoldsFrom RtcSlow 0x50000000 0x50001FFF
 
 -- two segments overlap exactly where some address is one that both have a byte at
 abbrev pub OverlapIsSharedByte : Type 0
-OverlapIsSharedByte = (s t : Segment) → (do_overlap s t ≡ true) ↔ ((a : ℕ) × ((holds_address a s ≡ true) × (holds_address a t ≡ true)))
+OverlapIsSharedByte =
+    (s t : Segment) → (do_overlap s t ≡ true)
+    ↔ ((a : ℕ) × ((holds_address a s ≡ true) × (holds_address a t ≡ true)))

@@ -1,6 +1,8 @@
 -- What memory holds: a list of bytes for each memory region, and the bytes that UART0 has sent.
 -- Which regions there are, and their opening contents, is this project's own choice ('profile').
-use Rattle.std.specs.Prelude.{◌≡◌, ℕ, zero, suc, ◌+◌, ◌-◌, ◌*◌, ◌/◌, ◌%◌, Bool, ◌&&◌, nat_le, nat_lt, if◌then◌else◌, Option, Some, List, [], ◌∷◌, length, replicate, find, slice_index, slice_set}
+use Rattle.std.specs.Prelude.{◌≡◌, ℕ, zero, suc, ◌+◌, ◌-◌, ◌*◌, ◌/◌, ◌%◌, Bool, ◌&&◌, nat_le}
+use Rattle.std.specs.Prelude.{nat_lt, if◌then◌else◌, Option, Some, List, [], ◌∷◌, length, replicate}
+use Rattle.std.specs.Prelude.{find, slice_index, slice_set}
 use Rattle.std.specs.Option.{option_map_or}
 use Rattle.xt_map.specs.declared.regions.Region.{Region}
 use Rattle.xt_map.specs.declared.regions.Region.TheVariants.{RtcFastData, Dram, RtcSlow}
@@ -41,9 +43,11 @@ unfoldable pub byte_at : MemoryContents → ℕ → ℕ
 byte_at m a = byte_in (region_of a) m a
 
 abbrev pub with_byte_in : Option Region → MemoryContents → ℕ → ℕ → MemoryContents
-with_byte_in (Some RtcFastData) m a b = record m { rtc_fast_data = slice_set m.rtc_fast_data (a - rtc_fast_data_first) b }
+with_byte_in (Some RtcFastData) m a b =
+    record m { rtc_fast_data = slice_set m.rtc_fast_data (a - rtc_fast_data_first) b }
 with_byte_in (Some Dram) m a b = record m { dram = slice_set m.dram (a - dram_first) b }
-with_byte_in (Some RtcSlow) m a b = record m { rtc_slow = slice_set m.rtc_slow (a - rtc_slow_first) b }
+with_byte_in (Some RtcSlow) m a b =
+    record m { rtc_slow = slice_set m.rtc_slow (a - rtc_slow_first) b }
 with_byte_in _ m a b = m
 
 -- the memory with this byte at an address; nothing changes outside the memory regions
@@ -84,7 +88,12 @@ pub record HasSizes (m : MemoryContents) : Type 0 where
 
 -- every byte is 0, and nothing was sent
 unfoldable pub cleared_memory : MemoryContents
-cleared_memory = record { rtc_fast_data = zeros rtc_fast_data_size; dram = zeros dram_size; rtc_slow = zeros rtc_slow_size; sent = [] }
+cleared_memory = record {
+  rtc_fast_data = zeros rtc_fast_data_size;
+  dram = zeros dram_size;
+  rtc_slow = zeros rtc_slow_size;
+  sent = [];
+}
 
 -- a segment below this address is padding and is not loaded (esptool's image format)
 abbrev pub is_loaded : Segment → Bool
@@ -93,14 +102,16 @@ is_loaded s = nat_le 0x10000000 s.addr
 -- the bytes of the loaded segments, put at their addresses in file order
 abbrev pub with_segments : MemoryContents → List Segment → MemoryContents
 with_segments m [] = m
-with_segments m (s ∷ rest) = with_segments (if is_loaded s then with_bytes m s.addr s.bytes else m) rest
+with_segments m (s ∷ rest) =
+    with_segments (if is_loaded s then with_bytes m s.addr s.bytes else m) rest
 
 -- words, each with its address, written in order
 abbrev pub with_words : MemoryContents → List (ℕ × ℕ) → MemoryContents
 with_words m [] = m
 with_words m (w ∷ rest) = with_words (with_bytes m w.0 (low_bytes 4 w.1)) rest
 
--- what memory holds as a run opens: the segments, and then the words that each core's stack begins with
+-- what memory holds as a run opens: the segments, and then the words that each
+-- core's stack begins with
 unfoldable pub opening_memory : List Segment → List (ℕ × ℕ) → MemoryContents
 opening_memory segments words = with_words (with_segments cleared_memory segments) words
 
@@ -112,7 +123,8 @@ holds_address a s = is_loaded s && (nat_le s.addr a && nat_lt (a - s.addr) (leng
 
 -- the byte that a loaded segment has at an address, or 0 where none has one
 abbrev pub loaded_byte : List Segment → ℕ → ℕ
-loaded_byte segments a = option_map_or (λ s. slice_index s.bytes (a - s.addr)) (find (holds_address a) segments) 0
+loaded_byte segments a =
+    option_map_or (λ s. slice_index s.bytes (a - s.addr)) (find (holds_address a) segments) 0
 
 -- the byte at an address of a constant region, 0 elsewhere
 unfoldable pub constant_byte : List Segment → ℕ → ℕ

@@ -1,5 +1,6 @@
 -- The laws of the names.
-use Rattle.std.specs.Prelude.{◌≡◌, ℕ, ◌-◌, ◌==◌, Bool, true, ◌&&◌, nat_le, List, length, slice_index, Some}
+use Rattle.std.specs.Prelude.{◌≡◌, ℕ, ◌-◌, ◌==◌, Bool, true, ◌&&◌, nat_le, List, length}
+use Rattle.std.specs.Prelude.{slice_index, Some}
 use Rattle.xt_isa.specs.declared.Insn.{Insn}
 use Rattle.xt_isa.specs.Ranges.{in_range}
 use Rattle.xt_names.specs.declared.mnemonic.Mnemonic.{Mnemonic}

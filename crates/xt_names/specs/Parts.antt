@@ -101,11 +101,14 @@ control_parts (control.Ret name) = parts.Nothing (plain.Ret name)
 control_parts (control.Jx s) = parts.One one.Jx s
 control_parts (control.Callx0 name s) = parts.One (one.Callx0 name) s
 control_parts (control.Beqz name s d) = parts.OneAndTarget (one_target.Beqz name) (s, d)
-control_parts (control.Beqi name s c d) = parts.OneNumberAndTarget (one_number_target.Beqi name) (s, c, d)
-control_parts (control.Bltui name s c d) = parts.OneNumberAndTarget (one_number_target.Bltui name) (s, c, d)
+control_parts (control.Beqi name s c d) =
+    parts.OneNumberAndTarget (one_number_target.Beqi name) (s, c, d)
+control_parts (control.Bltui name s c d) =
+    parts.OneNumberAndTarget (one_number_target.Bltui name) (s, c, d)
 control_parts (control.Bnone name s t d) = parts.TwoAndTarget (two_target.Bnone name) (s, t, d)
 control_parts (control.Bany name s t d) = parts.TwoAndTarget (two_target.Bany name) (s, t, d)
-control_parts (control.Bbci name s b d) = parts.OneNumberAndTarget (one_number_target.Bbci name) (s, b, d)
+control_parts (control.Bbci name s b d) =
+    parts.OneNumberAndTarget (one_number_target.Bbci name) (s, b, d)
 control_parts (control.Entry s n) = parts.OneAndNumber one_number.Entry (s, n)
 control_parts (control.Loop name s d) = parts.OneAndTarget (one_target.Loop name) (s, d)
 

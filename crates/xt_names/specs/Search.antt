@@ -11,7 +11,8 @@ shown_special w = (w.name.now, w.number)
 abbrev pub is_exchanged : SpecialWord → Bool
 is_exchanged w = can_exchange w.number
 
--- the first seven bytes of a name as a number, the first of them highest; 0 for each that is missing
+-- the first seven bytes of a name as a number, the first of them highest; 0
+-- for each that is missing
 abbrev pub byte : List ℕ → ℕ → ℕ
 byte name k = slice_index_or name k 0
 

@@ -1,5 +1,6 @@
 -- The lines of an assembly text, or the first fault of the kind Syntax (profile).
-use Rattle.std.specs.Prelude.{◌≡◌, ◌+◌, ◌≤◌, ◌==◌, Bool, true, false, ◌||◌, if◌then◌else◌, List, [], ◌∷◌, Result, Ok, Err, All}
+use Rattle.std.specs.Prelude.{◌≡◌, ◌+◌, ◌≤◌, ◌==◌, Bool, true, false, ◌||◌, if◌then◌else◌, List, []}
+use Rattle.std.specs.Prelude.{◌∷◌, Result, Ok, Err, All}
 use Rattle.xt_lex.specs.declared.token.Token.{Token}
 use Rattle.xt_lex.specs.declared.fault.AsmPlace.{AsmPlace}
 use Rattle.xt_lex.specs.declared.fault.AsmFault.{AsmFault}
@@ -16,7 +17,8 @@ use Rattle.xt_parse.specs.Statements.{line_of}
 abbrev pub joined : Token → List (List Token) → List (List Token)
 joined t [] = (t ∷ []) ∷ []
 joined t ([] ∷ groups) = (t ∷ []) ∷ groups
-joined t ((u ∷ us) ∷ groups) = if t.line == u.line then (t ∷ u ∷ us) ∷ groups else (t ∷ []) ∷ (u ∷ us) ∷ groups
+joined t ((u ∷ us) ∷ groups) =
+    if t.line == u.line then (t ∷ u ∷ us) ∷ groups else (t ∷ []) ∷ (u ∷ us) ∷ groups
 
 -- the tokens line by line
 abbrev pub grouped : List Token → List (List Token)
@@ -32,7 +34,9 @@ is_segment _ = false
 -- the lines of these tokens, where a segment was begun before or not
 unfoldable pub lines_from : Bool → List (List Token) → Result (List Line) AsmPlace
 lines_from begun [] = Ok []
-lines_from begun (g ∷ gs) = line_of begun g >>= λ line. lines_from (begun || is_segment line.statement) gs >>= λ lines. Ok (line ∷ lines)
+lines_from begun (g ∷ gs) =
+    line_of begun g >>= λ line. lines_from (begun || is_segment line.statement) gs
+    >>= λ lines. Ok (line ∷ lines)
 
 -- the lines of the tokens of a text, or the first line that has a fault of the kind Syntax
 unfoldable pub parsed : List Token → Result (List Line) AsmPlace

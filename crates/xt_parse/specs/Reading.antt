@@ -1,6 +1,8 @@
--- Reading the tokens of a line from the front (profile): what is read, and the tokens behind it; or how many of the line's tokens are left
--- where the first of these cannot continue the line, or none is left and the line is not complete.
-use Rattle.std.specs.Prelude.{ℕ, zero, suc, Bool, true, false, if◌then◌else◌, List, [], ◌∷◌, ◌++◌, length, Option, Some, None, Result, Ok, Err, codes}
+-- Reading the tokens of a line from the front (profile): what is read, and the tokens behind it; or
+-- how many of the line's tokens are left where the first of these cannot continue the line, or none
+-- is left and the line is not complete.
+use Rattle.std.specs.Prelude.{ℕ, zero, suc, Bool, true, false, if◌then◌else◌, List, [], ◌∷◌, ◌++◌}
+use Rattle.std.specs.Prelude.{length, Option, Some, None, Result, Ok, Err, codes}
 use Rattle.std.specs.Option.{option_map, option_map_or}
 use Rattle.std.specs.Str.{bytes_eq}
 use Rattle.xt_lex.specs.declared.token.Token.{Token}
@@ -85,18 +87,21 @@ behind f (t ∷ ts) = option_map (λ a. (a, ts)) (f t.what)
 
 -- a term behind its sign
 abbrev pub term_at : Bool → List Token → Reading Term
-term_at minus tokens = first_as as_term tokens >>= λ v. Ok (record { minus = minus; value = v.0 }, v.1)
+term_at minus tokens =
+    first_as as_term tokens >>= λ v. Ok (record { minus = minus; value = v.0 }, v.1)
 
 -- the terms that follow, each behind a sign
 unfoldable pub terms_behind : List Token → Reading (List Term)
 terms_behind [] = Ok ([], [])
 terms_behind (s ∷ []) = option_map_or (λ minus. Err 0) (as_sign s.what) (Ok ([], s ∷ []))
 terms_behind (s ∷ t ∷ ts) =
-    option_map_or (λ minus. term_at minus (t ∷ ts) >>= λ x. with_front (x.0 ∷ []) (terms_behind ts)) (as_sign s.what) (Ok ([], s ∷ t ∷ ts))
+    option_map_or (λ minus. term_at minus (t ∷ ts) >>= λ x. with_front (x.0 ∷ []) (terms_behind ts))
+    (as_sign s.what) (Ok ([], s ∷ t ∷ ts))
 
 -- a sign and a term, where a sign stands
 abbrev pub next_term : List Token → Result (Option (Term × List Token)) ℕ
-next_term tokens = option_map_or (λ s. term_at s.0 s.1 >>= λ x. Ok (Some x)) (behind as_sign tokens) (Ok None)
+next_term tokens =
+    option_map_or (λ s. term_at s.0 s.1 >>= λ x. Ok (Some x)) (behind as_sign tokens) (Ok None)
 
 abbrev pub as_minus : TokenKind → Option (Unit {0})
 as_minus kind.Minus = Some tt
@@ -108,16 +113,21 @@ minus_at tokens = option_map_or (λ x. (true, x.1)) (behind as_minus tokens) (fa
 
 -- an optional minus, and terms that are joined by signs
 unfoldable pub expr_at : List Token → Reading (List Term)
-expr_at tokens = term_at (minus_at tokens).0 (minus_at tokens).1 >>= λ x. with_front (x.0 ∷ []) (terms_behind x.1)
+expr_at tokens =
+    term_at (minus_at tokens).0 (minus_at tokens).1
+    >>= λ x. with_front (x.0 ∷ []) (terms_behind x.1)
 
 -- a comma and an expression, where a comma stands
 abbrev pub next_expr : List Token → Result (Option (List Term × List Token)) ℕ
-next_expr tokens = option_map_or (λ c. expr_at c.1 >>= λ x. Ok (Some x)) (behind as_comma tokens) (Ok None)
+next_expr tokens =
+    option_map_or (λ c. expr_at c.1 >>= λ x. Ok (Some x)) (behind as_comma tokens) (Ok None)
 
 -- the expressions that follow, each behind a comma, at most n
 unfoldable pub exprs_behind : ℕ → List Token → Reading (List (List Term))
 exprs_behind zero tokens = Ok ([], tokens)
-exprs_behind (suc n) tokens = option_map_or (λ c. expr_at c.1 >>= λ x. with_front (x.0 ∷ []) (exprs_behind n x.1)) (behind as_comma tokens) (Ok ([], tokens))
+exprs_behind (suc n) tokens =
+    option_map_or (λ c. expr_at c.1 >>= λ x. with_front (x.0 ∷ []) (exprs_behind n x.1))
+    (behind as_comma tokens) (Ok ([], tokens))
 
 -- expressions with commas between them
 unfoldable pub exprs_at : List Token → Reading (List (List Term))
@@ -135,7 +145,9 @@ as_user _ = None
 
 -- an expression behind `=`, or an expression
 abbrev pub literal_at : List Token → Reading Operand
-literal_at tokens = option_map_or (λ e. expr_at e.1 >>= λ x. Ok (operand.Pool x.0, x.1)) (behind as_equals tokens) (expr_at tokens >>= λ x. Ok (operand.Value x.0, x.1))
+literal_at tokens =
+    option_map_or (λ e. expr_at e.1 >>= λ x. Ok (operand.Pool x.0, x.1)) (behind as_equals tokens)
+    (expr_at tokens >>= λ x. Ok (operand.Value x.0, x.1))
 
 unfoldable pub operand_at : Shape → List Token → Reading Operand
 operand_at shape.Register tokens = first_as as_register tokens >>= λ x. Ok (operand.Reg x.0, x.1)
@@ -151,9 +163,11 @@ next_operand s tokens = first_as as_comma tokens >>= λ c. operand_at s c.1
 -- operands of these shapes, each behind a comma
 unfoldable pub operands_behind : List Shape → List Token → Reading (List Operand)
 operands_behind [] tokens = Ok ([], tokens)
-operands_behind (s ∷ ss) tokens = next_operand s tokens >>= λ x. with_front (x.0 ∷ []) (operands_behind ss x.1)
+operands_behind (s ∷ ss) tokens =
+    next_operand s tokens >>= λ x. with_front (x.0 ∷ []) (operands_behind ss x.1)
 
 -- operands of these shapes with commas between them
 unfoldable pub operands_at : List Shape → List Token → Reading (List Operand)
 operands_at [] tokens = Ok ([], tokens)
-operands_at (s ∷ ss) tokens = operand_at s tokens >>= λ x. with_front (x.0 ∷ []) (operands_behind ss x.1)
+operands_at (s ∷ ss) tokens =
+    operand_at s tokens >>= λ x. with_front (x.0 ∷ []) (operands_behind ss x.1)

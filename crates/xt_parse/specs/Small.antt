@@ -1,11 +1,13 @@
--- What holds of the lines of a text of at most 1,048,576 bytes (profile): their numbers rise, and they hold no more than the text has bytes.
+-- What holds of the lines of a text of at most 1,048,576 bytes (profile): their numbers rise, and
+-- they hold no more than the text has bytes.
 use Rattle.std.specs.Prelude.{ℕ, ◌+◌, ◌<◌, ◌≤◌, max, List, [], ◌∷◌, length, All, sum_by}
 use Rattle.xt_expr.specs.declared.expr.Expr.{Expr}
 use Rattle.xt_parse.specs.declared.line.Line.{Line}
 use Rattle.xt_parse.specs.declared.statement.Operand.{Operand}
 use Rattle.xt_parse.specs.declared.statement.Operand.TheVariants.{Reg, Value, Pool}
 use Rattle.xt_parse.specs.declared.statement.Statement.{Statement}
-use Rattle.xt_parse.specs.declared.statement.Statement.TheVariants.{Entry, Literal, Words, Bytes, Ascii, Insn}
+use Rattle.xt_parse.specs.declared.statement.Statement.TheVariants.{Entry, Literal, Words, Bytes}
+use Rattle.xt_parse.specs.declared.statement.Statement.TheVariants.{Ascii, Insn}
 
 -- the numbers of the lines rise, and are above n
 abbrev pub AreAbove : ℕ → List Line → Type 0

@@ -4,7 +4,8 @@ use Rattle.std.specs.Option.{option_map, option_or, is_none}
 use Rattle.std.specs.Str.{bytes_eq}
 use Rattle.xt_names.specs.Names.{mnemonic_of}
 use Rattle.xt_parse.specs.declared.form.Form.{Form}
-use Rattle.xt_parse.specs.declared.form.Form.TheVariants.{Seg, Entry, Position, Literal, Word, Byte, Ascii, Align, Insn}
+use Rattle.xt_parse.specs.declared.form.Form.TheVariants.{Seg, Entry, Position, Literal, Word, Byte}
+use Rattle.xt_parse.specs.declared.form.Form.TheVariants.{Ascii, Align, Insn}
 use Rattle.xt_parse.specs.declared.words.DirectiveWord.{DirectiveWord}
 use Rattle.xt_parse.specs.declared.words.RegisterWord.{RegisterWord}
 
@@ -23,7 +24,8 @@ shown w = (w.name.now, w.form)
 abbrev pub directive_of : List ℕ → Option Form
 directive_of name = option_map (λ row. row.1) (find (λ row. bytes_eq row.0 name) directive_words)
 
--- what a word begins, where it begins a statement: the instruction of its mnemonic, else its directive
+-- what a word begins, where it begins a statement: the instruction of its
+-- mnemonic, else its directive
 unfoldable pub form_of : List ℕ → Option Form
 form_of name = option_or (option_map Insn (mnemonic_of name)) (directive_of name)
 

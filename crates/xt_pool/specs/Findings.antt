@@ -1,5 +1,7 @@
--- Faults, and which of them is the first. The kinds and their order are those of the assembly language ('profile').
-use Rattle.std.specs.Prelude.{◌≡◌, ℕ, ◌==◌, Bool, ◌&&◌, ◌||◌, nat_lt, List, [], ◌∷◌, Option, Some, None, if◌then◌else◌}
+-- Faults, and which of them is the first. The kinds and their order are those of the
+-- assembly language ('profile').
+use Rattle.std.specs.Prelude.{◌≡◌, ℕ, ◌==◌, Bool, ◌&&◌, ◌||◌, nat_lt, List, [], ◌∷◌, Option, Some}
+use Rattle.std.specs.Prelude.{None, if◌then◌else◌}
 use Rattle.std.specs.List.{position_or_len}
 use Rattle.xt_lex.specs.declared.fault.AsmPlace.{AsmPlace}
 use Rattle.xt_parse.specs.declared.line.Line.{Line}
@@ -52,9 +54,11 @@ abbrev pub IsOf : Line → Finding → Type 0
 IsOf l None = Unit {0}
 IsOf l (Some place) = place.line ≡ l.number
 
--- Of two passes over lines with rising numbers, the least of the first faults is the first of the least faults of each line.
+-- Of two passes over lines with rising numbers, the least of the first faults is the first of the
+-- least faults of each line.
 abbrev pub LeastIsFirst : Type 0
 LeastIsFirst = (f g : List Line → Line → List Line → Finding) (lines : List Line) → AreAbove 0 lines
     → ((before : List Line) (l : Line) (rest : List Line) → IsOf l (f before l rest))
     → ((before : List Line) (l : Line) (rest : List Line) → IsOf l (g before l rest))
-    → least (first (each f lines)) (first (each g lines)) ≡ first (each (λ before l rest. least (f before l rest) (g before l rest)) lines)
+    → least (first (each f lines)) (first (each g lines))
+    ≡ first (each (λ before l rest. least (f before l rest) (g before l rest)) lines)

@@ -1,5 +1,8 @@
--- Literal pools: the words that the lines of a segment need, at the position that stands before them ('profile').
-use Rattle.std.specs.Prelude.{ℕ, ◌+◌, ◌<◌, ◌==◌, Bool, true, false, not, ◌&&◌, ◌||◌, List, [], ◌∷◌, ◌++◌, length, reverse, filter, find, option_to_list, Option, Some, None, is_some, is_none, if◌then◌else◌}
+-- Literal pools: the words that the lines of a segment need, at the position that stands
+-- before them ('profile').
+use Rattle.std.specs.Prelude.{ℕ, ◌+◌, ◌<◌, ◌==◌, Bool, true, false, not, ◌&&◌, ◌||◌, List, [], ◌∷◌}
+use Rattle.std.specs.Prelude.{◌++◌, length, reverse, filter, find, option_to_list, Option, Some}
+use Rattle.std.specs.Prelude.{None, is_some, is_none, if◌then◌else◌}
 use Rattle.std.specs.Option.{option_map, option_map_or}
 use Rattle.std.specs.List.{flat_map}
 use lib.Pointwise.{pointwise}
@@ -25,7 +28,8 @@ pool_use [] = None
 pool_use (Pool e ∷ rest) = Some e
 pool_use (_ ∷ rest) = pool_use rest
 
--- What a statement needs of the pool: a `.literal` a word with its name, a use of the pool a word without one.
+-- What a statement needs of the pool: a `.literal` a word with its name, a use of the
+-- pool a word without one.
 abbrev pub need : Statement → Option (Option Placed × Expr)
 need (Literal name e) = Some (Some name, e)
 need (Insn name operands) = option_map (λ e. (None, e)) (pool_use operands)
@@ -50,10 +54,13 @@ abbrev pub up_to_end : List Line → List Line
 up_to_end [] = []
 up_to_end (l ∷ rest) = if ends_pool l then [] else l ∷ up_to_end rest
 
--- The words that lines need, each by itself, in the order of the lines; the first line has the place k.
+-- The words that lines need, each by itself, in the order of the lines; the
+-- first line has the place k.
 abbrev pub wanted : ℕ → ℕ → List Line → List PoolWord
 wanted position k [] = []
-wanted position k (l ∷ rest) = option_to_list (option_map (λ n. record { position = position; line = k; name = n.0; value = n.1 }) (need l.statement))
+wanted position k (l ∷ rest) =
+    option_to_list (option_map
+    (λ n. record { position = position; line = k; name = n.0; value = n.1 }) (need l.statement))
     ++ wanted position (k + 1) rest
 
 abbrev pub same_value : TermValue → TermValue → Bool
@@ -77,7 +84,8 @@ abbrev pub distinct : List PoolWord → List PoolWord
 distinct [] = []
 distinct (x ∷ rest) = x ∷ filter (λ y. not (shares x y)) (distinct rest)
 
--- The pool at the place k, which these lines follow: it holds what the lines need up to the next position or segment.
+-- The pool at the place k, which these lines follow: it holds what the lines need up to the
+-- next position or segment.
 abbrev pub pool : ℕ → List Line → List PoolWord
 pool k rest = distinct (wanted k (k + 1) (up_to_end rest))
 
@@ -97,7 +105,8 @@ IsAmong n w = (w.position < n) × (w.line < n)
 
 -- behind these lines a pool takes literals: the last position or segment is a position
 abbrev pub is_open : List Line → Bool
-is_open before = option_map_or (λ l. is_position l.statement) (find ends_pool (reverse before)) false
+is_open before =
+    option_map_or (λ l. is_position l.statement) (find ends_pool (reverse before)) false
 
 -- the fault of a line, where a pool is open before it or is not
 abbrev pub unplaced : Bool → Line → Finding

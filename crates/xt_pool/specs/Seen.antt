@@ -1,5 +1,6 @@
 -- The set of expressions that the uses of one pool have needed so far.
-use Rattle.std.specs.Prelude.{ℕ, Bool, true, false, ◌&&◌, ◌||◌, List, [], ◌∷◌, Option, Some, None, is_none, if◌then◌else◌, ◌≡◌}
+use Rattle.std.specs.Prelude.{ℕ, Bool, true, false, ◌&&◌, ◌||◌, List, [], ◌∷◌, Option, Some, None}
+use Rattle.std.specs.Prelude.{is_none, if◌then◌else◌, ◌≡◌}
 use Rattle.std.specs.List.{list_any}
 use Rattle.std.specs.Option.{option_map_or, option_copied}
 use Rattle.std.specs.BTreeSet.{BTreeSet}
@@ -37,11 +38,14 @@ Notes old w new = (q : Expr) → has new q ≡ (has old q || (is_none w.name && 
 -- the words that the line adds, where the pool at this position is open
 abbrev pub added : Option ℕ → (Expr → Bool) → ℕ → Line → List PoolWord
 added None h k l = []
-added (Some p) h k l = option_map_or (λ n. if is_there h (word p k n) then [] else word p k n ∷ []) (need l.statement) []
+added (Some p) h k l =
+    option_map_or (λ n. if is_there h (word p k n) then [] else word p k n ∷ []) (need l.statement)
+    []
 
 -- the position of the pool that is open behind the line
 abbrev pub opened : Option ℕ → ℕ → Line → Option ℕ
-opened current k l = if is_position l.statement then Some k else (if is_segment l.statement then None else current)
+opened current k l =
+    if is_position l.statement then Some k else (if is_segment l.statement then None else current)
 
 -- the line is a use of this expression, in a pool that is open
 abbrev pub uses : Option ℕ → Line → Expr → Bool
@@ -54,4 +58,5 @@ seen_after current h l e = if is_position l.statement then false else (h e || us
 
 -- whether a pool is open behind the line
 abbrev pub is_open_behind : Bool → Line → Bool
-is_open_behind before l = if is_position l.statement then true else (if is_segment l.statement then false else before)
+is_open_behind before l =
+    if is_position l.statement then true else (if is_segment l.statement then false else before)

@@ -1,8 +1,10 @@
 -- The checkpoints of a run, as a recording has them ('profile').
-use Rattle.std.specs.Prelude.{ℕ, ◌%◌, Bool, ◌==◌, ◌&&◌, not, List, [], ◌∷◌, ◌++◌, length, map, filter, slice_index}
+use Rattle.std.specs.Prelude.{ℕ, ◌%◌, Bool, ◌==◌, ◌&&◌, not, List, [], ◌∷◌, ◌++◌, length, map}
+use Rattle.std.specs.Prelude.{filter, slice_index}
 use Rattle.std.specs.List.{range_with_len}
 use Rattle.xt_map.specs.declared.contents.MemoryContents.{MemoryContents}
-use Rattle.xt_map.specs.Memory.{dram_first, dram_size, rtc_fast_data_first, rtc_fast_data_size, rtc_slow_first, rtc_slow_size}
+use Rattle.xt_map.specs.Memory.{dram_first, dram_size, rtc_fast_data_first, rtc_fast_data_size}
+use Rattle.xt_map.specs.Memory.{rtc_slow_first, rtc_slow_size}
 use Rattle.xt_bus.specs.States.{part_bytes}
 use Rattle.xt_special.specs.Control.{bit_of, ps_word}
 use Rattle.xt_trace.specs.declared.run.Run.{Run}
@@ -14,8 +16,9 @@ use Rattle.xt_record.specs.Fields.{words}
 
 -- ---- one checkpoint
 
--- the special registers of a core by number: LBEG, LEND and LCOUNT; SAR, SCOMPARE1, EPC1 to EPC7, DEPC, EPS2 to EPS7,
--- EXCSAVE1 to EXCSAVE7, INTERRUPT and INTENABLE; VECBASE, EXCCAUSE, CCOUNT, EXCVADDR, CCOMPARE0 to CCOMPARE2 and MISC0 to MISC3
+-- the special registers of a core by number: LBEG, LEND and LCOUNT; SAR, SCOMPARE1, EPC1 to EPC7,
+-- DEPC, EPS2 to EPS7, EXCSAVE1 to EXCSAVE7, INTERRUPT and INTENABLE; VECBASE, EXCCAUSE, CCOUNT,
+-- EXCVADDR, CCOMPARE0 to CCOMPARE2 and MISC0 to MISC3
 abbrev pub loop_numbers : List ℕ
 loop_numbers = 0 ∷ 1 ∷ 2 ∷ []
 
@@ -35,7 +38,8 @@ special_bytes special numbers = words (map (slice_index special) numbers)
 unfoldable pub file_bytes : List ℕ → List ℕ
 file_bytes regs = words (map (slice_index regs) (range_with_len 0 64))
 
--- the 111 words of a core that makes its turn of this number next; the word behind LCOUNT is BR, which is always 0
+-- the 111 words of a core that makes its turn of this number next; the word behind LCOUNT
+-- is BR, which is always 0
 unfoldable pub state_bytes : ℕ → State → List ℕ
 state_bytes step s =
     words (s.control.pc ∷ bit_of s.control.waits ∷ step ∷ s.base ∷ s.start ∷ [])
@@ -47,7 +51,8 @@ state_bytes step s =
     ++ special_bytes s.control.special last_numbers
     ++ words (s.control.threadptr ∷ [])
 
--- the bytes of RTC fast memory by its data address, of the internal data memory and of RTC slow memory
+-- the bytes of RTC fast memory by its data address, of the internal data
+-- memory and of RTC slow memory
 abbrev pub memory_bytes : MemoryContents → List ℕ
 memory_bytes m =
     part_bytes m rtc_fast_data_first rtc_fast_data_size
@@ -57,11 +62,13 @@ memory_bytes m =
 -- the position, the number of entries before it, both cores, and memory
 unfoldable pub checkpoint_bytes : ℕ → ℕ → ℕ → State → ℕ → State → MemoryContents → List ℕ
 checkpoint_bytes position entries step0 state0 step1 state1 memory =
-    words (position ∷ entries ∷ []) ++ state_bytes step0 state0 ++ state_bytes step1 state1 ++ memory_bytes memory
+    words (position ∷ entries ∷ []) ++ state_bytes step0 state0 ++ state_bytes step1 state1
+    ++ memory_bytes memory
 
 abbrev pub checkpoint_of : ℕ → World State → List ℕ
 checkpoint_of position w =
-    checkpoint_bytes position (length w.line.history) (length w.core0.records) w.core0.state (length w.core1.records) w.core1.state w.line.memory
+    checkpoint_bytes position (length w.line.history) (length w.core0.records) w.core0.state
+    (length w.core1.records) w.core1.state w.line.memory
 
 -- ---- the checkpoints of a run
 
@@ -75,4 +82,5 @@ is_due position = not (position == 0) && position % stride == 0
 -- one at each multiple of the stride that is above 0 and below the number of steps, in order
 abbrev pub checkpoints_of : Image → Run → List (List ℕ)
 checkpoints_of image r =
-    map (λ (p : ℕ). checkpoint_of p (world_at image r p)) (filter is_due (range_with_len 0 (length (schedule_in r))))
+    map (λ (p : ℕ). checkpoint_of p (world_at image r p))
+    (filter is_due (range_with_len 0 (length (schedule_in r))))

@@ -1,5 +1,7 @@
--- A recording as a file: where its parts stand (this project's own format, 'profile'; little-endian).
-use Rattle.std.specs.Prelude.{ℕ, zero, suc, ◌+◌, ◌*◌, ◌==◌, if◌then◌else◌, List, [], ◌∷◌, take, drop, slice_index}
+-- A recording as a file: where its parts stand (this project's own format,
+-- 'profile'; little-endian).
+use Rattle.std.specs.Prelude.{ℕ, zero, suc, ◌+◌, ◌*◌, ◌==◌, if◌then◌else◌, List, [], ◌∷◌, take}
+use Rattle.std.specs.Prelude.{drop, slice_index}
 use Rattle.std.specs.List.{flat_map}
 use Rattle.std.specs.Int.{w32, to_le_bytes}
 use Rattle.xt_map.specs.declared.access.Access.{Access}
@@ -53,7 +55,8 @@ options_at bytes place = record {
 abbrev pub entry_count : List ℕ → ℕ
 entry_count rest = word_at rest 32
 
--- the 20 bytes of an entry: its core, kind, size and a zero, its address, two operands and its reply
+-- the 20 bytes of an entry: its core, kind, size and a zero, its address,
+-- two operands and its reply
 unfoldable pub raw_at : List ℕ → ℕ → RawEntry
 raw_at bytes place = record {
   core = slice_index bytes place;
@@ -74,7 +77,8 @@ raws_from (suc n) bytes place = raw_at bytes place ∷ raws_from n bytes (place 
 abbrev pub raws_in : List ℕ → List RawEntry
 raws_in rest = raws_from (entry_count rest) rest 36
 
--- 0 is a load, 1 a store of the first operand, and 2 a compare-and-swap, which expects the first and writes the second
+-- 0 is a load, 1 a store of the first operand, and 2 a compare-and-swap, which expects the
+-- first and writes the second
 abbrev pub kind_of : ℕ → ℕ → ℕ → Kind
 kind_of zero a b = Load
 kind_of (suc zero) a b = Store a
@@ -107,4 +111,6 @@ checkpoints_in rest = blocks (checkpoint_count rest) (drop (entries_end rest + 4
 
 -- how long what follows the image is
 abbrev pub length_behind : ℕ → List ℕ → ℕ
-length_behind version rest = if version == 1 then entries_end rest else entries_end rest + 4 + checkpoint_size * checkpoint_count rest
+length_behind version rest =
+    if version == 1 then entries_end rest
+    else entries_end rest + 4 + checkpoint_size * checkpoint_count rest

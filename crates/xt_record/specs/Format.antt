@@ -1,4 +1,5 @@
--- The image and the run that a recording without a fault holds (this project's own format, 'profile').
+-- The image and the run that a recording without a fault holds (this
+-- project's own format, 'profile').
 use Rattle.std.specs.Prelude.{◌≡◌, ◌≢◌, ℕ, List, ◌++◌, length, map, Some, None, Result, Ok, Err}
 use Rattle.xt_map.specs.declared.access.Entry.{Entry}
 use Rattle.xt_map.specs.History.{replies_of}
@@ -20,7 +21,8 @@ use Rattle.xt_record.specs.TurnRules.{run_rules}
 -- what is kept of a core's trace over the replies of its entries
 abbrev pub trace_from : ℕ → Image → Options → List Entry → Trace
 trace_from core image o es =
-    let z = trace_over (processor (code_of image)) (opening_at core (entry_of core image o) o) (turns_of core o) (replies_of core es) in
+    let z = trace_over (processor (code_of image)) (opening_at core (entry_of core image o) o)
+    (turns_of core o) (replies_of core es) in
     record {
       core = core;
       count = length z.records;
@@ -31,11 +33,17 @@ trace_from core image o es =
 
 -- the run with these entries
 abbrev pub run_with : Image → Options → List Entry → Run
-run_with image o es = record { options = o; history = es; trace0 = trace_from 0 image o es; trace1 = trace_from 1 image o es }
+run_with image o es = record {
+  options = o;
+  history = es;
+  trace0 = trace_from 0 image o es;
+  trace1 = trace_from 1 image o es;
+}
 
 abbrev pub run_in : List ℕ → Run
 run_in bytes =
-    let rest = behind_image bytes in run_with (image_in bytes) (options_at rest 0) (map field.entry_of (raws_in rest))
+    let rest = behind_image bytes in
+    run_with (image_in bytes) (options_at rest 0) (map field.entry_of (raws_in rest))
 
 -- the first rule that fails
 unfoldable pub recording_fault : List ℕ → Finding

@@ -1,6 +1,7 @@
 -- Carries a proof; nothing that a reader must believe.
 -- What is known of a recording whose parts have their lengths.
-use Rattle.std.specs.Prelude.{◌≡◌, ◌≢◌, ℕ, ◌+◌, ◌<◌, ◌≤◌, All, List, length, map, option_map, Result, Ok, Err, Some, None, Vec}
+use Rattle.std.specs.Prelude.{◌≡◌, ◌≢◌, ℕ, ◌+◌, ◌<◌, ◌≤◌, All, List, length, map, option_map}
+use Rattle.std.specs.Prelude.{Result, Ok, Err, Some, None, Vec}
 use Rattle.std.specs.declared.alloc.Global.{Global}
 use Rattle.xt_map.specs.declared.access.Entry.{Entry}
 use Rattle.xt_map.specs.Placing.{IsPlaced}
@@ -12,7 +13,8 @@ use Rattle.xt_image.specs.Rules.{image_fault}
 use Rattle.xt_record.specs.declared.fault.RecordFault.{RecordFault}
 use Rattle.xt_record.specs.declared.fault.RecordFault.TheVariants as fault
 use Rattle.xt_record.specs.declared.parts.Parts.{Parts}
-use Rattle.xt_record.specs.Fields.{behind_image, entry_of, image_in, image_length, length_behind, options_at, raws_in, version}
+use Rattle.xt_record.specs.Fields.{behind_image, entry_of, image_in, image_length, length_behind}
+use Rattle.xt_record.specs.Fields.{options_at, raws_in, version}
 use Rattle.xt_record.specs.Rules.{first, part_rules, shape_finding}
 
 pub record HasParts (bytes : List ℕ) : Type 0 where
@@ -23,12 +25,15 @@ pub record HasParts (bytes : List ℕ) : Type 0 where
 -- the entries where each is one, else the first that is none; too little memory aside
 abbrev pub HasRead : Result (Vec Entry Global) RecordFault → List ℕ → Type 0
 HasRead (Ok entries) rest =
-    (shape_finding 0 (raws_in rest) ≡ None) × (entries.items ≡ map entry_of (raws_in rest)) × All (λ (e : Entry). e.core < 2) entries.items
+    (shape_finding 0 (raws_in rest) ≡ None) × (entries.items ≡ map entry_of (raws_in rest))
+    × All (λ (e : Entry). e.core < 2) entries.items
 HasRead (Err e) rest = e ≢ fault.Memory → shape_finding 0 (raws_in rest) ≡ Some e
 
 -- the image, else its fault; too little memory aside
 abbrev pub HasImage : Result Image RecordFault → List ℕ → Type 0
-HasImage (Ok image) bytes = (image_fault bytes ≡ None) × (image ≡ image_of bytes) × IsWellFormed image × IsPlaced image.segments
+HasImage (Ok image) bytes =
+    (image_fault bytes ≡ None) × (image ≡ image_of bytes) × IsWellFormed image
+    × IsPlaced image.segments
 HasImage (Err e) bytes = e ≢ fault.Memory → option_map fault.Image (image_fault bytes) ≡ Some e
 
 -- the parts, where each is good by itself

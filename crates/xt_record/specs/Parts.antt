@@ -1,4 +1,5 @@
--- The options and the entries of a recording, as they are written (this project's own format, 'profile'; little-endian).
+-- The options and the entries of a recording, as they are written (this project's own format,
+-- 'profile'; little-endian).
 use Rattle.std.specs.Prelude.{ℕ, List, [], ◌∷◌, ◌++◌}
 use Rattle.xt_map.specs.declared.access.Entry.{Entry}
 use Rattle.xt_map.specs.declared.access.Kind.{Kind}
@@ -7,7 +8,9 @@ use Rattle.xt_trace.specs.declared.options.Options.{Options}
 use Rattle.xt_record.specs.Fields.{words}
 
 abbrev pub options_bytes : Options → List ℕ
-options_bytes o = words (o.turns0 ∷ o.turns1 ∷ o.entry1 ∷ o.vecbase ∷ o.stack0.lo ∷ o.stack0.hi ∷ o.stack1.lo ∷ o.stack1.hi ∷ [])
+options_bytes o =
+    words (o.turns0 ∷ o.turns1 ∷ o.entry1 ∷ o.vecbase ∷ o.stack0.lo ∷ o.stack0.hi ∷ o.stack1.lo
+    ∷ o.stack1.hi ∷ [])
 
 -- ---- entries
 
@@ -31,4 +34,5 @@ second_operand (Cas expected new) = new
 unfoldable pub entry_bytes : Entry → List ℕ
 entry_bytes e =
     e.core ∷ kind_number e.access.kind ∷ e.access.size ∷ 0 ∷ []
-    ++ words (e.access.addr ∷ first_operand e.access.kind ∷ second_operand e.access.kind ∷ e.reply ∷ [])
+    ++ words
+    (e.access.addr ∷ first_operand e.access.kind ∷ second_operand e.access.kind ∷ e.reply ∷ [])

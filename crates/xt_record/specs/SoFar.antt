@@ -9,5 +9,7 @@ use Rattle.xt_record.specs.Rules.{shape_finding}
 pub record IsSoFar (rest : List ℕ) (count i : ℕ) (entries : List Entry) : Type 0 where
   pub within : i ≤ count
   pub cores : All (λ (e : Entry). e.core < 2) entries
-  pub read : entries ++ map entry_of (raws_from (count - i) rest (36 + 20 * i)) ≡ map entry_of (raws_from count rest 36)
-  pub found : shape_finding 0 (raws_from count rest 36) ≡ shape_finding i (raws_from (count - i) rest (36 + 20 * i))
+  pub read : entries ++ map entry_of (raws_from (count - i) rest (36 + 20 * i))
+      ≡ map entry_of (raws_from count rest 36)
+  pub found : shape_finding 0 (raws_from count rest 36)
+      ≡ shape_finding i (raws_from (count - i) rest (36 + 20 * i))

@@ -1,6 +1,7 @@
 -- Carries a proof; nothing that a reader must believe.
 -- Both cores and memory of a run behind its first entries.
-use Rattle.std.specs.Prelude.{◌≡◌, ◌≢◌, ℕ, zero, suc, ◌+◌, ◌≤◌, List, [], ◌∷◌, ◌++◌, length, take, drop, Some, None, Result, Ok, Err}
+use Rattle.std.specs.Prelude.{◌≡◌, ◌≢◌, ℕ, zero, suc, ◌+◌, ◌≤◌, List, [], ◌∷◌, ◌++◌, length, take}
+use Rattle.std.specs.Prelude.{drop, Some, None, Result, Ok, Err}
 use Rattle.xt_map.specs.declared.access.Entry.{Entry}
 use Rattle.xt_map.specs.Memory.{constant_byte}
 use Rattle.xt_bus.specs.States.{holding}
@@ -54,21 +55,27 @@ run_in es w = run_with w.image.now w.options es
 -- the turns of the run's schedule from here on, where so many entries are past
 abbrev pub order_left : Run → ℕ → CoreState → CoreState → List ℕ
 order_left r i core0 core1 =
-    schedule_from (cores_of (drop i r.history)) core0.count (drop (length core0.places) r.trace0.places) r.trace0.count
+    schedule_from (cores_of (drop i r.history)) core0.count
+    (drop (length core0.places) r.trace0.places) r.trace0.count
     core1.count (drop (length core1.places) r.trace1.places) r.trace1.count
 
-pub record StandsAt (image : Image) (o : Options) (es : List Entry) (i : ℕ) (core0 core1 : CoreState) (s : Setting) : Type 0 where
+pub record StandsAt
+    (image : Image) (o : Options) (es : List Entry) (i : ℕ) (core0 core1 : CoreState)
+    (s : Setting) : Type 0 where
   -- the turns so far
   pub list : List ℕ
   pub code_is : s.code ≡ image.segments
-  pub world : beside 0 core0 core1 (line_at s.memory.contents (take i es)) ≡ short_advance (processor (code_of image)) list (opening_world image o)
+  pub world : beside 0 core0 core1 (line_at s.memory.contents (take i es))
+      ≡ short_advance (processor (code_of image)) list (opening_world image o)
   pub counted : core0.count + core1.count ≡ length list
   pub grown : i ≤ length list
-  pub points : s.points.items ≡ points_along (processor (code_of image)) (opening_world image o) list
+  pub points :
+      s.points.items ≡ points_along (processor (code_of image)) (opening_world image o) list
   pub core0_is : core0.core ≡ 0
   pub core1_is : core1.core ≡ 1
   pub free : IsFreeAt core0 core1 s
-  pub ordered : list ++ order_left (run_with image o es) i core0 core1 ≡ schedule_in (run_with image o es)
+  pub ordered :
+      list ++ order_left (run_with image o es) i core0 core1 ≡ schedule_in (run_with image o es)
 
 abbrev pub Stands : List Entry → ℕ → Walk → Type 0
 Stands es i w = StandsAt w.image.now w.options es i w.core0 w.core1 w.setting
@@ -82,26 +89,34 @@ pub record IsSame (w v : Walk) : Type 0 where
 -- the core of this number takes the entry, and the other stays
 abbrev pub TakesAt : Result Unit RecordFault → ℕ → Walk → Walk → ℕ → Entry → Type 0
 TakesAt result zero w v index e =
-    Takes result (constant_byte w.setting.code) 0 w.core0 w.core1 v.core0 w.setting v.setting index e × (v.core1 ≡ w.core1) × IsSame w v
+    Takes result (constant_byte w.setting.code) 0 w.core0 w.core1 v.core0 w.setting v.setting index
+    e
+    × (v.core1 ≡ w.core1) × IsSame w v
 TakesAt result (suc c) w v index e =
-    Takes result (constant_byte w.setting.code) 1 w.core1 w.core0 v.core1 w.setting v.setting index e × (v.core0 ≡ w.core0) × IsSame w v
+    Takes result (constant_byte w.setting.code) 1 w.core1 w.core0 v.core1 w.setting v.setting index
+    e
+    × (v.core0 ≡ w.core0) × IsSame w v
 
 -- all entries are taken, or this is the first finding
 abbrev pub WentThrough : Result Unit RecordFault → List Entry → Walk → Walk → Type 0
-WentThrough (Ok _) es w v = (walk_finding w.image.now (run_in es w) 0 es ≡ None) × Stands es (length es) v × IsSame w v
+WentThrough (Ok _) es w v =
+    (walk_finding w.image.now (run_in es w) 0 es ≡ None) × Stands es (length es) v × IsSame w v
 WentThrough (Err e) es w v = e ≢ fault.Memory → walk_finding w.image.now (run_in es w) 0 es ≡ Some e
 
 -- ---- the end
 
 abbrev pub EndsAt : Result Unit RecordFault → ℕ → Walk → Walk → ℕ → Type 0
 EndsAt result zero w v entries =
-    Ends result (constant_byte w.setting.code) 0 w.core0 w.core1 v.core0 w.setting v.setting entries × (v.core1 ≡ w.core1) × IsSame w v
+    Ends result (constant_byte w.setting.code) 0 w.core0 w.core1 v.core0 w.setting v.setting entries
+    × (v.core1 ≡ w.core1) × IsSame w v
 EndsAt result (suc c) w v entries =
-    Ends result (constant_byte w.setting.code) 1 w.core1 w.core0 v.core1 w.setting v.setting entries × (v.core0 ≡ w.core0) × IsSame w v
+    Ends result (constant_byte w.setting.code) 1 w.core1 w.core0 v.core1 w.setting v.setting entries
+    × (v.core0 ≡ w.core0) × IsSame w v
 
 -- the findings of a run's turns
 abbrev pub turn_rules : Image → Run → List Finding
-turn_rules image r = walk_finding image r 0 r.history ∷ rest_finding image r 0 ∷ rest_finding image r 1 ∷ []
+turn_rules image r =
+    walk_finding image r 0 r.history ∷ rest_finding image r 0 ∷ rest_finding image r 1 ∷ []
 
 pub record IsWalked (walked : Walked) (image : Image) (r : Run) : Type 0 where
   pub good : first (turn_rules image r) ≡ None
@@ -114,4 +129,5 @@ pub record IsWalked (walked : Walked) (image : Image) (r : Run) : Type 0 where
 
 abbrev pub Walks : Result Walked RecordFault → Image → Options → List Entry → Type 0
 Walks (Ok walked) image o es = IsWalked walked image (run_with image o es)
-Walks (Err e) image o es = e ≢ fault.Memory → first (turn_rules image (run_with image o es)) ≡ Some e
+Walks (Err e) image o es =
+    e ≢ fault.Memory → first (turn_rules image (run_with image o es)) ≡ Some e

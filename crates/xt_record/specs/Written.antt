@@ -1,4 +1,5 @@
--- A recording as it is written: its parts joined (this project's own format, 'profile'; little-endian).
+-- A recording as it is written: its parts joined (this project's own format,
+-- 'profile'; little-endian).
 use Rattle.std.specs.Prelude.{ℕ, List, [], ◌∷◌, ◌++◌, length}
 use Rattle.std.specs.List.{concat, flat_map}
 use Rattle.xt_trace.specs.declared.run.Run.{Run}

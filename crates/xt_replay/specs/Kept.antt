@@ -19,8 +19,8 @@ pub record IsCopy (image : Image) (r : Run) (c : Checkpoint) : Type 0 where
   pub stand : mark_stand c.mark ≡ stand_in (world_at image r c.position)
   pub within : c.position ≤ length (schedule_in r)
 
--- The run is the image's; the cores and memory are those of the position, and those that are kept are those of the start and of
--- the positions of the copies.
+-- The run is the image's; the cores and memory are those of the position, and those that are kept
+-- are those of the start and of the positions of the copies.
 pub record IsKept (r : Inside) : Type 0 where
   pub run_is : IsRunOf r.image.now r.run.now
   pub placed : IsPlaced r.image.now.segments

@@ -19,7 +19,8 @@ pub record ReplayState : Type 0 where
 abbrev pub moved : ReplayState → ℕ → ReplayState
 moved r p = record r { position = p }
 
--- the state of each core and the number of its next step, what memory holds, and the image's constant bytes
+-- the state of each core and the number of its next step, what memory holds, and
+-- the image's constant bytes
 pub record Shown : Type 0 where
   pub state0 : State
   pub step0 : ℕ
@@ -28,7 +29,8 @@ pub record Shown : Type 0 where
   pub memory : MemoryContents
   pub segments : List Segment
 
--- what the run from the start has after so many steps of its schedule: a core's next step has as its number how many it has made
+-- what the run from the start has after so many steps of its schedule: a core's next step has as
+-- its number how many it has made
 abbrev pub shown_at : Image → Run → ℕ → Shown
 shown_at image r p = let w = world_at image r p in record {
   state0 = w.core0.state;

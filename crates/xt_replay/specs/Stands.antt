@@ -1,6 +1,7 @@
 -- Carries a proof; nothing that a reader must believe.
 -- Two cores at work over one memory, as the places in a world that a replay keeps.
-use Rattle.std.specs.Prelude.{◌≡◌, ℕ, zero, suc, ◌+◌, ◌-◌, ◌≤◌, nat_lt, if◌then◌else◌, Option, Some, None, List, [], ◌∷◌, length}
+use Rattle.std.specs.Prelude.{◌≡◌, ℕ, zero, suc, ◌+◌, ◌-◌, ◌≤◌, nat_lt, if◌then◌else◌, Option, Some}
+use Rattle.std.specs.Prelude.{None, List, [], ◌∷◌, length}
 use Rattle.xt_map.specs.declared.access.Access.{Access}
 use Rattle.xt_map.specs.declared.access.Entry.{Entry}
 use Rattle.xt_map.specs.declared.contents.MemoryContents.{MemoryContents}
@@ -37,7 +38,12 @@ abbrev pub side_of : CoreState → ℕ → Side
 side_of k step = record { state = k.state; left = k.left; step = step }
 
 abbrev pub stand_of : Pair → Stand
-stand_of p = record { side0 = side_of p.core0 p.step0; side1 = side_of p.core1 p.step1; memory = p.memory.contents; entries = p.used }
+stand_of p = record {
+  side0 = side_of p.core0 p.step0;
+  side1 = side_of p.core1 p.step1;
+  memory = p.memory.contents;
+  entries = p.used;
+}
 
 abbrev pub mark_stand : Mark → Stand
 mark_stand m = record {
@@ -56,13 +62,19 @@ abbrev pub side_in : Core State → Side
 side_in k = record { state = k.state; left = k.left; step = length k.records }
 
 abbrev pub stand_in : World State → Stand
-stand_in w = record { side0 = side_in w.core0; side1 = side_in w.core1; memory = w.line.memory; entries = length w.line.history }
+stand_in w = record {
+  side0 = side_in w.core0;
+  side1 = side_in w.core1;
+  memory = w.line.memory;
+  entries = length w.line.history;
+}
 
 -- ---- one turn
 
 abbrev pub side_past : (ℕ → ℕ) → Side → ℕ → Side
 side_past code s reply =
-    let t = turn code s.state reply in record { state = t.1; left = left_past t.0 (s.left - 1); step = s.step + 1 }
+    let t = turn code s.state reply in
+    record { state = t.1; left = left_past t.0 (s.left - 1); step = s.step + 1 }
 
 abbrev pub entries_past : Option Access → ℕ → ℕ
 entries_past None n = n
@@ -71,9 +83,17 @@ entries_past (Some a) n = n + 1
 -- one turn of a core that has one left
 abbrev pub stand_past : (ℕ → ℕ) → ℕ → Stand → Stand
 stand_past code zero s = let d = demand code s.side0.state in
-    record s { side0 = side_past code s.side0 (answer d s.memory); memory = memory_left d s.memory; entries = entries_past d s.entries }
+    record s {
+      side0 = side_past code s.side0 (answer d s.memory);
+      memory = memory_left d s.memory;
+      entries = entries_past d s.entries;
+    }
 stand_past code (suc c) s = let d = demand code s.side1.state in
-    record s { side1 = side_past code s.side1 (answer d s.memory); memory = memory_left d s.memory; entries = entries_past d s.entries }
+    record s {
+      side1 = side_past code s.side1 (answer d s.memory);
+      memory = memory_left d s.memory;
+      entries = entries_past d s.entries;
+    }
 
 -- the turns that a core has left
 abbrev pub left_of : ℕ → Stand → ℕ
@@ -86,7 +106,12 @@ side_opening state turns = record { state = state; left = turns; step = 0 }
 
 abbrev pub stand_opening : Opening State → Stand
 stand_opening o =
-    record { side0 = side_opening o.state0 o.turns0; side1 = side_opening o.state1 o.turns1; memory = o.memory; entries = 0 }
+    record {
+      side0 = side_opening o.state0 o.turns0;
+      side1 = side_opening o.state1 o.turns1;
+      memory = o.memory;
+      entries = 0;
+    }
 
 -- the turns that are left and what they may send find room
 pub record Fits (s : Stand) (turns0 turns1 : ℕ) : Type 0 where
@@ -110,7 +135,8 @@ pub record IsAsRoomy (old new : Pair) : Type 0 where
 -- the position is not behind that of a core's step with this number
 pub record Comes (image : Image) (r : Run) (core step p : ℕ) : Type 0 where
   pub most : step_in core (shown_at image r p) ≤ step
-  pub behind : step ≡ (trace_in core r).count → step_in core (shown_at image r p) ≡ step → p ≡ place_behind core step (schedule_in r)
+  pub behind : step ≡ (trace_in core r).count → step_in core (shown_at image r p) ≡ step
+      → p ≡ place_behind core step (schedule_in r)
 
 -- the core of the next step, where these entries are left, and core 0 has made i of its n steps
 abbrev pub next_of : List Entry → ℕ → ℕ → ℕ

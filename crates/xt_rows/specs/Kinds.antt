@@ -21,7 +21,10 @@ use Rattle.xt_special.specs.Access.{is_window_register}
 use Rattle.xt_rows.specs.declared.outcome.Write.{Write}
 use Rattle.xt_rows.specs.declared.outcome.Awaited.{Awaited}
 use Rattle.xt_rows.specs.declared.outcome.WindowStep.{WindowStep}
-use Rattle.xt_rows.specs.declared.outcome.WindowStep.TheVariants.{Enters, Returns, EndsOverflow, EndsUnderflow, Rotates, MovesStack, Reads, Sets, Exchanges}
+use Rattle.xt_rows.specs.declared.outcome.WindowStep.TheVariants.{Enters, Returns, EndsOverflow}
+use Rattle.xt_rows.specs.declared.outcome.WindowStep.TheVariants.{EndsUnderflow, Rotates}
+use Rattle.xt_rows.specs.declared.outcome.WindowStep.TheVariants.{MovesStack, Reads, Sets}
+use Rattle.xt_rows.specs.declared.outcome.WindowStep.TheVariants.{Exchanges}
 use Rattle.xt_rows.specs.declared.outcome.Outcome.{Outcome}
 use Rattle.xt_rows.specs.declared.outcome.Outcome.TheVariants.{Does, Raises, Asks, Stops, Windowed}
 use Rattle.xt_rows.specs.Operands.{reads, named}

@@ -15,7 +15,10 @@ use Rattle.xt_rows.specs.declared.outcome.Flow.{Flow}
 use Rattle.xt_rows.specs.declared.outcome.Flow.TheVariants.{Falls, Goes}
 use Rattle.xt_rows.specs.declared.outcome.Effect.{Effect}
 use Rattle.xt_rows.specs.declared.outcome.WindowStep.{WindowStep}
-use Rattle.xt_rows.specs.declared.outcome.WindowStep.TheVariants.{Enters, Returns, EndsOverflow, EndsUnderflow, Rotates, MovesStack, Reads, Sets, Exchanges}
+use Rattle.xt_rows.specs.declared.outcome.WindowStep.TheVariants.{Enters, Returns, EndsOverflow}
+use Rattle.xt_rows.specs.declared.outcome.WindowStep.TheVariants.{EndsUnderflow, Rotates}
+use Rattle.xt_rows.specs.declared.outcome.WindowStep.TheVariants.{MovesStack, Reads, Sets}
+use Rattle.xt_rows.specs.declared.outcome.WindowStep.TheVariants.{Exchanges}
 use Rattle.xt_rows.specs.declared.outcome.Outcome.{Outcome}
 use Rattle.xt_rows.specs.declared.outcome.Outcome.TheVariants.{Does, Raises, Asks, Stops, Windowed}
 use Rattle.xt_rows.specs.Operands.{reads, special_reads, named}
@@ -46,7 +49,9 @@ IsRegister None = Unit {0}
 IsRegister (Some number) = number < 16
 
 abbrev pub RegistersExist : Type 0
-RegistersExist = (i : Insn) → in_range i ≡ true → IsRegister (reads i).0 × IsRegister (reads i).1 × (named i < 16)
+RegistersExist =
+    (i : Insn) → in_range i ≡ true
+    → IsRegister (reads i).0 × IsRegister (reads i).1 × (named i < 16)
 
 -- ---- what comes of a row: accesses that the bus serves, registers that there are, and words
 
@@ -100,7 +105,8 @@ IsProperStep (Exchanges register number value) = (number < 16) × IsWord value
 abbrev pub IsProper : (ℕ → Type 0) → Outcome → Type 0
 IsProper W (Does e) = IsProperEffect W e
 IsProper W (Raises cause address) = (cause < 64) × IsProperAddress address
-IsProper W (Asks access awaited e) = (is_mapped access ≡ true) × IsProperAwaited awaited × IsProperEffect W e
+IsProper W (Asks access awaited e) =
+    (is_mapped access ≡ true) × IsProperAwaited awaited × IsProperEffect W e
 IsProper W Stops = Unit {0}
 IsProper W (Windowed step) = IsProperStep step
 
@@ -125,13 +131,15 @@ pub record IsGiven (i : Insn) (pc x y u v : ℕ) (ps : Ps) (threadptr : ℕ) : T
 abbrev pub OutcomesAreProper : Type 0
 OutcomesAreProper =
     (code : ℕ → ℕ) (i : Insn) (pc x y u v : ℕ) (ps : Ps) (threadptr : ℕ)
-    → AreBytes code → IsGiven i pc x y u v ps threadptr → IsProper IsWord (outcome code i pc x y u v ps threadptr)
+    → AreBytes code → IsGiven i pc x y u v ps threadptr
+    → IsProper IsWord (outcome code i pc x y u v ps threadptr)
 
 -- of a value that is a word by its type nothing need be said
 abbrev pub IsAny : ℕ → Type 0
 IsAny n = Unit {0}
 
--- ---- an instruction that asks for an access changes nothing else: what is left of its effect is the effect e
+-- ---- an instruction that asks for an access changes nothing else: what is left of
+-- its effect is the effect e
 
 abbrev pub AsksWith : Effect → Outcome → Type 0
 AsksWith e (Asks access awaited rest) = rest ≡ e

@@ -1,6 +1,8 @@
--- What an outcome, an interrupt or a turn of waiting leaves, beside the registers: the same for the processor and for a machine
--- with unbounded frames ('profile' for the turn as the unit of time; the effects are those of the manual's chapters on the options).
-use Rattle.std.specs.Prelude.{ℕ, ◌+◌, ◌-◌, ◌*◌, ◌/◌, ◌%◌, ◌^◌, if◌then◌else◌, Option, Some, None, List, slice_set}
+-- What an outcome, an interrupt or a turn of waiting leaves, beside the registers: the same for the
+-- processor and for a machine with unbounded frames ('profile' for the turn as the unit of time;
+-- the effects are those of the manual's chapters on the options).
+use Rattle.std.specs.Prelude.{ℕ, ◌+◌, ◌-◌, ◌*◌, ◌/◌, ◌%◌, ◌^◌, if◌then◌else◌, Option, Some, None}
+use Rattle.std.specs.Prelude.{List, slice_set}
 use Rattle.xt_map.specs.declared.access.Access.{Access}
 use Rattle.xt_trace.specs.declared.record.StepKind.{StepKind}
 use Rattle.xt_trace.specs.declared.record.StepKind.TheVariants as kind
@@ -31,19 +33,29 @@ with_set (Some w) special = slice_set special w.number w.value
 abbrev pub with_sets : SpecialWrites → List ℕ → List ℕ
 with_sets w special = with_set w.2 (with_set w.1 (with_set w.0 special))
 
--- An instruction that falls through may go back in a loop. A jump, a taken branch, a call or a return never does.
+-- An instruction that falls through may go back in a loop. A jump, a taken branch, a
+-- call or a return never does.
 abbrev pub after_flow : Flow → ℕ → Control → Control
 after_flow Falls len c =
     let next = (c.pc + len) % 2 ^ 32 in
     if loops_back (special_of c number.lend) (special_of c number.lcount) c.ps.excm next
-    then record c { pc = special_of c number.lbeg; special = slice_set c.special number.lcount (special_of c number.lcount - 1) }
+    then record c {
+      pc = special_of c number.lbeg;
+      special = slice_set c.special number.lcount (special_of c number.lcount - 1);
+    }
     else record c { pc = next }
 after_flow (Goes target) len c = record c { pc = target }
 
 -- the effect comes first, and then the loop's test
 unfoldable pub after_effect : Effect → ℕ → Control → Control
 after_effect e len c =
-    after_flow e.flow len (record { pc = c.pc; special = with_sets e.sets c.special; ps = e.ps; threadptr = e.threadptr; waits = e.waits })
+    after_flow e.flow len (record {
+      pc = c.pc;
+      special = with_sets e.sets c.special;
+      ps = e.ps;
+      threadptr = e.threadptr;
+      waits = e.waits;
+    })
 
 -- ---- what a turn was, and what it leaves
 
@@ -67,10 +79,12 @@ pub record Settled : Type 0 where
   pub control : Control
 
 abbrev pub without_access : Kind → Option Write → Control → Settled
-without_access kind write c = record { kind = kind; write = write; access = None; awaited = None; control = ticked c }
+without_access kind write c =
+    record { kind = kind; write = write; access = None; awaited = None; control = ticked c }
 
 abbrev pub settled_exception : ℕ → Option ℕ → Control → Settled
-settled_exception cause address c = without_access (Raised cause) None (after_exception cause address c)
+settled_exception cause address c =
+    without_access (Raised cause) None (after_exception cause address c)
 
 abbrev pub settled_interrupt : ℕ → Control → Settled
 settled_interrupt level c = without_access (Taken level) None (after_interrupt level c)
@@ -83,7 +97,13 @@ abbrev pub settled : Outcome → ℕ → Control → Settled
 settled (Does e) len c = without_access Executed e.write (after_effect e len c)
 settled (Raises cause address) len c = settled_exception cause address c
 settled (Asks access awaited e) len c =
-    record { kind = Executed; write = None; access = Some access; awaited = awaited; control = ticked (after_effect e len c) }
+    record {
+      kind = Executed;
+      write = None;
+      access = Some access;
+      awaited = awaited;
+      control = ticked (after_effect e len c);
+    }
 settled Stops len c = without_access Stopped None c
 -- each machine has its own cases for the steps of windows, and never comes here with one
 settled (Windowed step) len c = without_access Executed None c

@@ -15,7 +15,8 @@ abbrev pub memory_left : Option Access → MemoryContents → MemoryContents
 memory_left None m = m
 memory_left (Some a) m = memory_past m a
 
--- the states in which the turns of a core begin, where it alone is on the bus, up to its first Stop or its last turn
+-- the states in which the turns of a core begin, where it alone is on the bus, up to its
+-- first Stop or its last turn
 abbrev pub states_alone : {S : Type 0} (P : Chip S) → S → MemoryContents → ℕ → List S
 states_alone P s m zero = []
 states_alone P s m (suc n) =

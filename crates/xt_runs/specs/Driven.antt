@@ -9,8 +9,10 @@ use Rattle.xt_runs.specs.Worlds.{Core, closed}
 abbrev pub replies_in : List (Access × ℕ) → List ℕ
 replies_in cs = map (λ (p : Access × ℕ). p.1) cs
 
--- The core came from one state to the other by turns that made these calls with these replies: they are the calls of the records,
--- and the core has the same end as before, whatever replies come after these.
-pub record Drove {S : Type 0} (P : Chip S) (from to : Core S) (made : List (Access × ℕ)) : Type 0 where
+-- The core came from one state to the other by turns that made these calls with these
+-- replies: they are the calls of the records, and the core has the same end as before,
+-- whatever replies come after these.
+pub record Drove {S : Type 0}
+    (P : Chip S) (from to : Core S) (made : List (Access × ℕ)) : Type 0 where
   pub calls : calls_in to.records ≡ calls_in from.records ++ made
   pub trace : (future : List ℕ) → closed P to future ≡ closed P from (replies_in made ++ future)

@@ -38,15 +38,19 @@ abbrev pub traced_so_far : {S : Type 0} → Core S → Traced S
 traced_so_far k = record { records = k.records; last = k.state }
 
 abbrev pub run_of : {S : Type 0} → World S → Run S
-run_of w = record { history = w.line.history; trace0 = traced_so_far w.core0; trace1 = traced_so_far w.core1 }
+run_of w = record {
+  history = w.line.history;
+  trace0 = traced_so_far w.core0;
+  trace1 = traced_so_far w.core1;
+}
 
--- The run of a list of cores: each number gives that core its next turn, or nothing where it has ended; then core 0's remaining
--- turns follow, and then core 1's.
+-- The run of a list of cores: each number gives that core its next turn, or nothing where it has
+-- ended; then core 0's remaining turns follow, and then core 1's.
 abbrev pub run_at : {S : Type 0} (P : Chip S) → Opening S → List ℕ → Run S
 run_at P o list = run_of (finished P (advance P list (opened o)))
 
--- A run of an opening: the history is legal, each trace is the processor's over the replies of its core's entries, and the
--- accesses of each core in the history are those of its trace.
+-- A run of an opening: the history is legal, each trace is the processor's over the replies of its
+-- core's entries, and the accesses of each core in the history are those of its trace.
 pub record IsRunOf {S : Type 0} (P : Chip S) (o : Opening S) (r : Run S) : Type 0 where
   pub legal : IsLegal o.memory r.history
   pub cores : IsOfCores r.history
@@ -58,4 +62,5 @@ pub record IsRunOf {S : Type 0} (P : Chip S) (o : Opening S) (r : Run S) : Type 
 -- a run's own schedule
 abbrev pub schedule_of : {S : Type 0} → Run S → List ℕ
 schedule_of r =
-    schedule (cores_of r.history) (places_from 0 r.trace0.records) (length r.trace0.records) (places_from 0 r.trace1.records) (length r.trace1.records)
+    schedule (cores_of r.history) (places_from 0 r.trace0.records) (length r.trace0.records)
+    (places_from 0 r.trace1.records) (length r.trace1.records)

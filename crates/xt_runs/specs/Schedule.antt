@@ -1,5 +1,7 @@
--- The schedule of a run, over the cores of its history and the counts and places of its traces ('profile').
-use Rattle.std.specs.Prelude.{ℕ, zero, suc, ◌-◌, Option, Some, None, List, [], ◌∷◌, ◌++◌, map, replicate}
+-- The schedule of a run, over the cores of its history and the counts and places
+-- of its traces ('profile').
+use Rattle.std.specs.Prelude.{ℕ, zero, suc, ◌-◌, Option, Some, None, List, [], ◌∷◌, ◌++◌, map}
+use Rattle.std.specs.Prelude.{replicate}
 use Rattle.xt_map.specs.declared.access.Access.{Access}
 use Rattle.xt_map.specs.declared.access.Entry.{Entry}
 use Rattle.xt_trace.specs.declared.record.StepRecord.{StepRecord}
@@ -18,13 +20,16 @@ places_from i (x ∷ xs) = place_before x.access i (places_from (suc i) xs)
 abbrev pub cores_of : List Entry → List ℕ
 cores_of es = map (λ (e : Entry). e.core) es
 
--- Core 0 has made i of its n steps, and its next accesses are at ps; core 1 has made j of m, and its are at qs.
+-- Core 0 has made i of its n steps, and its next accesses are at ps; core 1 has made j
+-- of m, and its are at qs.
 abbrev pub schedule_from : List ℕ → ℕ → List ℕ → ℕ → ℕ → List ℕ → ℕ → List ℕ
 schedule_from [] i ps n j qs m = replicate (n - i) 0 ++ replicate (m - j) 1
 schedule_from (zero ∷ cs) i [] n j qs m = []
-schedule_from (zero ∷ cs) i (p ∷ ps) n j qs m = replicate (suc p - i) 0 ++ schedule_from cs (suc p) ps n j qs m
+schedule_from (zero ∷ cs) i (p ∷ ps) n j qs m =
+    replicate (suc p - i) 0 ++ schedule_from cs (suc p) ps n j qs m
 schedule_from (suc c ∷ cs) i ps n j [] m = []
-schedule_from (suc c ∷ cs) i ps n j (q ∷ qs) m = replicate (suc q - j) 1 ++ schedule_from cs i ps n (suc q) qs m
+schedule_from (suc c ∷ cs) i ps n j (q ∷ qs) m =
+    replicate (suc q - j) 1 ++ schedule_from cs i ps n (suc q) qs m
 
 abbrev pub schedule : List ℕ → List ℕ → ℕ → List ℕ → ℕ → List ℕ
 schedule cores places0 count0 places1 count1 = schedule_from cores 0 places0 count0 0 places1 count1

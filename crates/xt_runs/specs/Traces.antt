@@ -31,8 +31,8 @@ ended s = record { records = []; last = s }
 abbrev pub began : {S : Type 0} → StepRecord → Traced S → Traced S
 began r rest = record { records = r ∷ rest.records; last = rest.last }
 
--- The trace from a state with so many turns left. The k-th record with an access takes the k-th reply.
--- It ends after its first Stop, or with the last turn.
+-- The trace from a state with so many turns left. The k-th record with an access takes the k-th
+-- reply. It ends after its first Stop, or with the last turn.
 abbrev pub trace_over : {S : Type 0} (P : Chip S) → S → ℕ → List ℕ → Traced S
 trace_over P s zero replies = ended s
 trace_over P s (suc n) replies =

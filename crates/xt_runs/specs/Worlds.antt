@@ -1,5 +1,6 @@
 -- Two cores and a bus, and what one turn of a core does ('profile').
-use Rattle.std.specs.Prelude.{ℕ, zero, suc, Option, Some, None, if◌then◌else◌, List, [], ◌∷◌, ◌++◌, replicate}
+use Rattle.std.specs.Prelude.{ℕ, zero, suc, Option, Some, None, if◌then◌else◌, List, [], ◌∷◌, ◌++◌}
+use Rattle.std.specs.Prelude.{replicate}
 use Rattle.xt_map.specs.declared.access.Access.{Access}
 use Rattle.xt_map.specs.declared.access.Entry.{Entry}
 use Rattle.xt_map.specs.declared.contents.MemoryContents.{MemoryContents}
@@ -34,7 +35,10 @@ entry c a reply = record { core = c; access = a; reply = reply }
 -- the bus after a turn of core c that may ask
 abbrev pub line_past : ℕ → Option Access → Line → Line
 line_past c None b = b
-line_past c (Some a) b = record { memory = memory_past b.memory a; history = b.history ++ entry c a (reply_to b.memory a) ∷ [] }
+line_past c (Some a) b = record {
+  memory = memory_past b.memory a;
+  history = b.history ++ entry c a (reply_to b.memory a) ∷ [];
+}
 
 -- the turns that are left after this record, where it took one of so many more
 abbrev pub left_past : StepRecord → ℕ → ℕ
@@ -58,9 +62,17 @@ core_given P (suc n) k b = core_past P k n (answer (P.demand k.state) b.memory)
 -- one turn of a core, or nothing where it has ended
 abbrev pub give : {S : Type 0} (P : Chip S) → ℕ → World S → World S
 give P zero w =
-    record { line = line_given P 0 w.core0.left w.core0 w.line; core0 = core_given P w.core0.left w.core0 w.line; core1 = w.core1 }
+    record {
+      line = line_given P 0 w.core0.left w.core0 w.line;
+      core0 = core_given P w.core0.left w.core0 w.line;
+      core1 = w.core1;
+    }
 give P (suc c) w =
-    record { line = line_given P 1 w.core1.left w.core1 w.line; core0 = w.core0; core1 = core_given P w.core1.left w.core1 w.line }
+    record {
+      line = line_given P 1 w.core1.left w.core1 w.line;
+      core0 = w.core0;
+      core1 = core_given P w.core1.left w.core1 w.line;
+    }
 
 -- the turns of a list, in order
 abbrev pub advance : {S : Type 0} (P : Chip S) → List ℕ → World S → World S
@@ -77,4 +89,5 @@ finished P w = advance P (rest_of w) w
 -- the core run to its end over these replies
 abbrev pub closed : {S : Type 0} (P : Chip S) → Core S → List ℕ → Core S
 closed P k rs =
-    let z = trace_over P k.state k.left rs in record { state = z.last; left = 0; records = k.records ++ z.records }
+    let z = trace_over P k.state k.left rs in
+    record { state = z.last; left = 0; records = k.records ++ z.records }

@@ -14,10 +14,12 @@ use Rattle.xt_sharedbus.specs.Views.{part_in}
 abbrev pub IsIdle : View → Type 0
 IsIdle v = (m : MemoryContents) × (a : Option Part) × (b : Option Part) × (v ≡ Live m a b None)
 
--- the bus of the hand, with one entry more, of a core that the view answers for and that has an access left
+-- the bus of the hand, with one entry more, of a core that the view answers for
+-- and that has an access left
 abbrev pub IsOneEntryOn : View → Item → Type 0
 IsOneEntryOn v x =
-    (m : MemoryContents) × (a : Option Part) × (b : Option Part) × (h : Hand) × (e : Entry) × (r : Part)
+    (m : MemoryContents) × (a : Option Part) × (b : Option Part) × (h : Hand) × (e : Entry)
+    × (r : Part)
     × (v ≡ Live m a b (Some h))
     × (e.core < 2)
     × (part_in e.core v ≡ Some r)

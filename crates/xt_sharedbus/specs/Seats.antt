@@ -27,7 +27,13 @@ list_of None = []
 list_of (Some p) = p.list
 
 abbrev pub seat_of : Inside → SeatState
-seat_of s = record { bus = s.pass.table_id; core = s.core; left = s.left; opening = opening_in (view s.pass); list = list_of (part_in s.core (view s.pass)) }
+seat_of s = record {
+  bus = s.pass.table_id;
+  core = s.core;
+  left = s.left;
+  opening = opening_in (view s.pass);
+  list = list_of (part_in s.core (view s.pass));
+}
 
 -- its pass answers for its core alone, has no hand, and counts the same accesses left
 pub record IsSeated (s : Inside) : Type 0 where

@@ -1,6 +1,7 @@
 -- Carries a proof; nothing that a reader must believe.
 -- The views of the passes.
-use Rattle.std.specs.Prelude.{ℕ, zero, suc, ◌-◌, ◌==◌, cond, List, [], ◌∷◌, ◌++◌, Option, Some, None}
+use Rattle.std.specs.Prelude.{ℕ, zero, suc, ◌-◌, ◌==◌, cond, List, [], ◌∷◌, ◌++◌, Option, Some}
+use Rattle.std.specs.Prelude.{None}
 use Rattle.xt_map.specs.declared.contents.MemoryContents.{MemoryContents}
 use Rattle.xt_map.specs.declared.access.Access.{Access}
 use Rattle.xt_map.specs.declared.access.Entry.{Entry}
@@ -36,7 +37,8 @@ hand_in (Live m a b h) = h
 
 -- a core's part after an entry, which is this core's own or the other's
 abbrev pub grown : ℕ → Entry → Part → Part
-grown c e p = cond (e.core == c) (record { list = p.list ++ (e.access, e.reply) ∷ []; left = p.left - 1 }) p
+grown c e p =
+    cond (e.core == c) (record { list = p.list ++ (e.access, e.reply) ∷ []; left = p.left - 1 }) p
 
 abbrev pub grown_if : ℕ → Entry → Option Part → Option Part
 grown_if c e None = None

@@ -1,6 +1,7 @@
 -- Carries a proof; nothing that a reader must believe.
 -- What a handler leaves, and that the relation holds again after it.
-use Rattle.std.specs.Prelude.{◌≡◌, ◌≢◌, ℕ, ◌+◌, ◌*◌, ◌%◌, ◌<◌, ◌≤◌, Bool, false, List, [], ◌∷◌, ◌++◌, slice_index, length}
+use Rattle.std.specs.Prelude.{◌≡◌, ◌≢◌, ℕ, ◌+◌, ◌*◌, ◌%◌, ◌<◌, ◌≤◌, Bool, false, List, [], ◌∷◌}
+use Rattle.std.specs.Prelude.{◌++◌, slice_index, length}
 use Rattle.xt_frames.specs.Breaches.{lost_of}
 use Rattle.xt_special.specs.Numbers as number
 use Rattle.xt_special.specs.Control.{Control}

@@ -1,5 +1,6 @@
--- Windows are frames: the judged part of a run of the processor with windows is a run of the machine
--- with unbounded call frames ('profile': the definitions of xt_frames over the processor's).
+-- Windows are frames: the judged part of a run of the processor with windows is a
+-- run of the machine with unbounded call frames ('profile': the definitions of
+-- xt_frames over the processor's).
 use Rattle.std.specs.Prelude.{◌≡◌, ℕ, zero, suc, Bool, true, false, Some, List, [], ◌∷◌, take}
 use Rattle.xt_map.specs.declared.segment.Segment.{Segment}
 use Rattle.xt_map.specs.Memory.{constant_byte}
@@ -19,7 +20,9 @@ use Rattle.xt_stretch.specs.declared.Side.TheVariants.{Overflow, Underflow}
 use Rattle.xt_stretch.specs.declared.HandlerVerdict.TheVariants.{Yes}
 use Rattle.xt_handlers.specs.Vectors.{verdict_of, Handlers}
 use Rattle.xt_simulation.specs.Walking.{World, walked, KeepsStretches, IsWorldRun, Apart}
-use Rattle.xt_simulation.specs.Opening.{Openings, IsOpening, bounds0, bounds1, state0, state1, frame0, frame1, memory_of, frame_of, opening_world, openings_of, IsRunnable}
+use Rattle.xt_simulation.specs.Opening.{Openings, IsOpening, bounds0, bounds1, state0, state1}
+use Rattle.xt_simulation.specs.Opening.{frame0, frame1, memory_of, frame_of, opening_world}
+use Rattle.xt_simulation.specs.Opening.{openings_of, IsRunnable}
 
 -- what stands before every statement: the six handlers pass the check, and the stacks are apart
 pub record IsCovered (o : Openings) (code : ℕ → ℕ) : Type 0 where
@@ -56,7 +59,8 @@ StretchesMoveFrames =
     (o : Openings) (code : ℕ → ℕ) → IsCovered o code
     → (cores : List Bool) (w : World)
     → walked code (bounds0 o) (bounds1 o) cores (Some (opening_world o)) ≡ Some w
-    → KeepsStretches code (bounds0 o) w.memory w.core0 × KeepsStretches code (bounds1 o) w.memory w.core1
+    → KeepsStretches code (bounds0 o) w.memory w.core0
+    × KeepsStretches code (bounds1 o) w.memory w.core1
 
 -- what a run of the processor opens with
 abbrev pub opening_of : Openings → ℕ → ℕ → Opening State
@@ -109,13 +113,15 @@ pub record StandsAt (w : World) (v : worlds.World State) : Type 0 where
 abbrev pub HaveMovedFrames : Openings → (ℕ → ℕ) → ℕ → ℕ → List ℕ → Type 0
 HaveMovedFrames o code turns0 turns1 cores =
     (p : ℕ) (w : World)
-    → walked code (bounds0 o) (bounds1 o) (turns_of (take p cores)) (Some (opening_world o)) ≡ Some w
+    → walked code (bounds0 o) (bounds1 o) (turns_of (take p cores)) (Some (opening_world o))
+    ≡ Some w
     → StandsAt w (state_at (processor code) (opening_of o turns0 turns1) cores p)
     × KeepsStretches code (bounds0 o) w.memory w.core0
     × KeepsStretches code (bounds1 o) w.memory w.core1
 
--- Whole stretches of a run: at each position p before the first breach the walk stands where the run
--- does, and where a core's next turn ends a stretch of handler steps, the stretch has moved one frame.
+-- Whole stretches of a run: at each position p before the first breach the walk stands
+-- where the run does, and where a core's next turn ends a stretch of handler steps, the
+-- stretch has moved one frame.
 abbrev pub StretchesOfRuns : Type 0
 StretchesOfRuns =
     (o : Openings) (code : ℕ → ℕ) (turns0 turns1 : ℕ) (r : Run State) → IsCovered o code

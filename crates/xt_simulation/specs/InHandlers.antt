@@ -1,8 +1,9 @@
--- What holds of a core inside handler steps, and what a handler step and a whole stretch of them have
--- done ('profile'). All of the relation but the contents of memory is said of the state before the
--- record of the window exception; of the state now: PC and how much of the handler is left, the special
--- registers, and what the handler has moved so far.
-use Rattle.std.specs.Prelude.{◌≡◌, ◌≤◌, ◌<◌, ℕ, ◌+◌, ◌*◌, ◌%◌, ◌^◌, Bool, true, false, Some, None, List, [], ◌∷◌, ◌++◌, slice_index_or}
+-- What holds of a core inside handler steps, and what a handler step and a whole stretch of them
+-- have done ('profile'). All of the relation but the contents of memory is said of the state before
+-- the record of the window exception; of the state now: PC and how much of the handler is left, the
+-- special registers, and what the handler has moved so far.
+use Rattle.std.specs.Prelude.{◌≡◌, ◌≤◌, ◌<◌, ℕ, ◌+◌, ◌*◌, ◌%◌, ◌^◌, Bool, true, false, Some, None}
+use Rattle.std.specs.Prelude.{List, [], ◌∷◌, ◌++◌, slice_index_or}
 use Rattle.xt_map.specs.declared.contents.MemoryContents.{MemoryContents}
 use Rattle.xt_map.specs.Memory.{byte_at}
 use Rattle.xt_exec.specs.State.{State}
@@ -138,8 +139,8 @@ pub record MovesFrame
   pub elsewhere : (a : ℕ) → is_live b.range f a ≡ true
       → Untouched side g.by (start_of before opened rest) a → now a ≡ opened a
 
--- One handler step runs in the vector of one frame's size and in that frame's window, and changes no
--- byte but those of its save words; that of an underflow changes none.
+-- One handler step runs in the vector of one frame's size and in that frame's window, and changes
+-- no byte but those of its save words; that of an underflow changes none.
 pub record StoresAlone
     (b : Bounds) (f : FrameState) (before s : State) (opened old new : ℕ → ℕ) : Type 0 where
   pub side : Side

@@ -1,5 +1,6 @@
 -- How both machines open ('profile').
-use Rattle.std.specs.Prelude.{◌≡◌, ◌≤◌, ◌<◌, ◌^◌, ◌%◌, ◌+◌, ◌-◌, ℕ, zero, suc, false, Option, Some, List, [], ◌∷◌, slice_index}
+use Rattle.std.specs.Prelude.{◌≡◌, ◌≤◌, ◌<◌, ◌^◌, ◌%◌, ◌+◌, ◌-◌, ℕ, zero, suc, false, Option, Some}
+use Rattle.std.specs.Prelude.{List, [], ◌∷◌, slice_index}
 use Rattle.xt_map.specs.declared.segment.Segment.{Segment}
 use Rattle.xt_map.specs.declared.contents.MemoryContents.{MemoryContents}
 use Rattle.xt_map.specs.Memory.{opening_memory}

@@ -1,7 +1,8 @@
 -- Carries a proof; nothing that a reader must believe.
 -- The relation between the processor with windows and the machine with frames, outside handler
 -- steps.
-use Rattle.std.specs.Prelude.{◌≡◌, ◌⊎◌, ℕ, ◌+◌, ◌-◌, ◌*◌, ◌%◌, ◌<◌, ◌≤◌, Bool, true, false, None, List, [], ◌∷◌, ◌++◌, slice_index, length}
+use Rattle.std.specs.Prelude.{◌≡◌, ◌⊎◌, ℕ, ◌+◌, ◌-◌, ◌*◌, ◌%◌, ◌<◌, ◌≤◌, Bool, true, false, None}
+use Rattle.std.specs.Prelude.{List, [], ◌∷◌, ◌++◌, slice_index, length}
 use Rattle.xt_special.specs.Numbers as number
 use Rattle.xt_special.specs.Control.{Control, special_of}
 use Rattle.xt_exec.specs.State.{State}

@@ -1,6 +1,7 @@
 -- Carries a proof; nothing that a reader must believe.
 -- What stands in the save areas of the spilled frames.
-use Rattle.std.specs.Prelude.{◌≡◌, ℕ, ◌+◌, ◌-◌, ◌*◌, ◌<◌, ◌≤◌, ◌⊎◌, Option, Some, None, List, [], ◌∷◌, slice_index_or}
+use Rattle.std.specs.Prelude.{◌≡◌, ℕ, ◌+◌, ◌-◌, ◌*◌, ◌<◌, ◌≤◌, ◌⊎◌, Option, Some, None, List, []}
+use Rattle.std.specs.Prelude.{◌∷◌, slice_index_or}
 use Rattle.xt_frames.specs.Stacks.{AreFrames, Chain, IsRange}
 use Rattle.xt_frames.specs.Frames.{Frame}
 use Rattle.xt_frames.specs.SaveAreas.{sp_of, before}

@@ -14,11 +14,19 @@ no_special = replicate 256 0
 
 -- all special registers are 0 but PRID and VECBASE
 unfoldable pub opening_special : ℕ → ℕ → List ℕ
-opening_special prid vecbase = slice_set (slice_set no_special number.prid prid) number.vecbase vecbase
+opening_special prid vecbase =
+    slice_set (slice_set no_special number.prid prid) number.vecbase vecbase
 
 -- window overflows are detected, user vectors are used, and the entry belongs to a CALL8
 abbrev pub opening_ps : Ps
-opening_ps = record { intlevel = 0; excm = false; um = true; ring = 0; owb = 0; callinc = 2; woe = true }
+opening_ps =
+    record { intlevel = 0; excm = false; um = true; ring = 0; owb = 0; callinc = 2; woe = true }
 
 abbrev pub opening_control : ℕ → ℕ → ℕ → Control
-opening_control pc prid vecbase = record { pc = pc; special = opening_special prid vecbase; ps = opening_ps; threadptr = 0; waits = false }
+opening_control pc prid vecbase = record {
+  pc = pc;
+  special = opening_special prid vecbase;
+  ps = opening_ps;
+  threadptr = 0;
+  waits = false;
+}

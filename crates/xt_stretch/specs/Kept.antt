@@ -1,8 +1,11 @@
 -- Carries a proof; nothing that a reader must believe.
 -- What holds between a handler's instructions, and at its end.
-use Rattle.std.specs.Prelude.{◌≡◌, ◌≢◌, ◌≤◌, ◌<◌, ◌+◌, ◌*◌, ◌⊎◌, ℕ, Bool, true, false, Option, Some, List, [], ◌∷◌, length, drop, replicate, slice_index, slice_index_or, slice_range, slice_set}
+use Rattle.std.specs.Prelude.{◌≡◌, ◌≢◌, ◌≤◌, ◌<◌, ◌+◌, ◌*◌, ◌⊎◌, ℕ, Bool, true, false, Option, Some}
+use Rattle.std.specs.Prelude.{List, [], ◌∷◌, length, drop, replicate, slice_index, slice_index_or}
+use Rattle.std.specs.Prelude.{slice_range, slice_set}
 use Rattle.xt_stretch.specs.Symbols.{Word, Effect, register, applied}
-use Rattle.xt_stretch.specs.Needs.{save_word, is_among, named_words, still_wanted, wanted_stores, has_effect}
+use Rattle.xt_stretch.specs.Needs.{save_word, is_among, named_words, still_wanted, wanted_stores}
+use Rattle.xt_stretch.specs.Needs.{has_effect}
 use Rattle.xt_stretch.specs.Needs.{marked}
 use Rattle.xt_stretch.specs.Handling.{Line, walk}
 use Rattle.xt_isa.specs.Spelling.{length_of}
@@ -12,7 +15,8 @@ use Rattle.xt_stretch.specs.declared.Side.TheVariants.{Overflow, Underflow}
 use Rattle.xt_stretch.specs.declared.Step.{Step}
 use Rattle.xt_stretch.specs.declared.Step.TheVariants.{L32e, S32e, Nop, Rfwo, Rfwu, Foreign}
 use Rattle.xt_stretch.specs.declared.HandlerVerdict.TheVariants.{Yes}
-use Rattle.xt_stretch.specs.Running.{Machine, address, place, visible, word_at, stepped, MayAccess, ran}
+use Rattle.xt_stretch.specs.Running.{Machine, address, place, visible, word_at, stepped, MayAccess}
+use Rattle.xt_stretch.specs.Running.{ran}
 use Rattle.xt_stretch.specs.Frames.{HasFrames}
 use Rattle.xt_stretch.specs.Meaning.{meant, address_of}
 

@@ -1,6 +1,8 @@
 -- Carries a proof; nothing that a reader must believe.
 -- A machine that runs a handler's instructions.
-use Rattle.std.specs.Prelude.{◌≡◌, ℕ, ◌+◌, ◌-◌, ◌*◌, ◌/◌, ◌%◌, ◌==◌, ◌&&◌, nat_le, Bool, true, if◌then◌else◌, Option, Some, None, List, [], ◌∷◌, slice_index, slice_set}
+use Rattle.std.specs.Prelude.{◌≡◌, ℕ, ◌+◌, ◌-◌, ◌*◌, ◌/◌, ◌%◌, ◌==◌, ◌&&◌, nat_le, Bool, true}
+use Rattle.std.specs.Prelude.{if◌then◌else◌, Option, Some, None, List, [], ◌∷◌, slice_index}
+use Rattle.std.specs.Prelude.{slice_set}
 use Rattle.xt_stretch.specs.Handling.{Line}
 use Rattle.xt_stretch.specs.declared.Step.{Step}
 use Rattle.xt_stretch.specs.declared.Step.TheVariants.{L32e, S32e, Nop, Rfwo, Rfwu, Foreign}

@@ -1,6 +1,7 @@
--- The instructions of a vector's 64 bytes, as the processor's fetch reads them ('profile': bytes that
--- spell nothing take the length that their first byte gives).
-use Rattle.std.specs.Prelude.{ℕ, zero, suc, ◌+◌, ◌-◌, ◌<◌, nat_lt, if◌then◌else◌, ℤ, unsigned_abs, Option, Some, None, List, [], ◌∷◌, length, slice_index}
+-- The instructions of a vector's 64 bytes, as the processor's fetch reads them ('profile': bytes
+-- that spell nothing take the length that their first byte gives).
+use Rattle.std.specs.Prelude.{ℕ, zero, suc, ◌+◌, ◌-◌, ◌<◌, nat_lt, if◌then◌else◌, ℤ, unsigned_abs}
+use Rattle.std.specs.Prelude.{Option, Some, None, List, [], ◌∷◌, length, slice_index}
 use Rattle.xt_isa.specs.declared.Insn.{Insn}
 use Rattle.xt_isa.specs.declared.Insn.TheVariants as insn
 use Rattle.xt_isa.specs.declared.memory.WindowName.{WindowName}

@@ -7,7 +7,8 @@ use Rattle.xt_map.specs.declared.access.Kind.TheVariants.{Load, Store, Cas}
 use Rattle.xt_map.specs.declared.access.Access.{Access}
 use Rattle.xt_trace.specs.declared.record.RegWrite.{RegWrite}
 use Rattle.xt_trace.specs.declared.record.StepKind.{StepKind}
-use Rattle.xt_trace.specs.declared.record.StepKind.TheVariants.{Insn, Window, Exc, Interrupt, Wait, Stop}
+use Rattle.xt_trace.specs.declared.record.StepKind.TheVariants.{Insn, Window, Exc, Interrupt, Wait}
+use Rattle.xt_trace.specs.declared.record.StepKind.TheVariants.{Stop}
 use Rattle.xt_trace.specs.declared.record.StepRecord.{StepRecord}
 
 -- what the turn was
@@ -26,10 +27,13 @@ write_text (Some w) = codes " a" ++ decimal w.reg ++ codes "=" ++ hex8 w.value
 
 -- ` ldS ADDR -> REPLY`, ` stS ADDR VALUE` or ` cas ADDR EXPECT NEW -> REPLY`, with S the size
 abbrev pub call_text : Kind → ℕ → ℕ → ℕ → List ℕ
-call_text Load addr size reply = codes " ld" ++ decimal size ++ codes " " ++ hex8 addr ++ codes " -> " ++ hex8 reply
-call_text (Store value) addr size reply = codes " st" ++ decimal size ++ codes " " ++ hex8 addr ++ codes " " ++ hex8 value
+call_text Load addr size reply =
+    codes " ld" ++ decimal size ++ codes " " ++ hex8 addr ++ codes " -> " ++ hex8 reply
+call_text (Store value) addr size reply =
+    codes " st" ++ decimal size ++ codes " " ++ hex8 addr ++ codes " " ++ hex8 value
 call_text (Cas expected new) addr size reply =
-    codes " cas " ++ hex8 addr ++ codes " " ++ hex8 expected ++ codes " " ++ hex8 new ++ codes " -> " ++ hex8 reply
+    codes " cas " ++ hex8 addr ++ codes " " ++ hex8 expected ++ codes " " ++ hex8 new
+    ++ codes " -> " ++ hex8 reply
 
 -- the access, where there was one
 abbrev pub access_text : Option Access → ℕ → List ℕ
@@ -39,5 +43,6 @@ access_text (Some a) reply = call_text a.kind a.addr a.size reply
 -- `C STEP PC KIND`, the register that was written, and the access
 unfoldable pub line_text : ℕ → ℕ → StepRecord → List ℕ
 line_text core step r =
-    decimal core ++ codes " " ++ decimal step ++ codes " " ++ hex8 r.pc ++ codes " " ++ kind_text r.kind ++ write_text r.write
+    decimal core ++ codes " " ++ decimal step ++ codes " " ++ hex8 r.pc ++ codes " "
+    ++ kind_text r.kind ++ write_text r.write
     ++ access_text r.access r.reply ++ codes "\n"

@@ -6,4 +6,5 @@ use Rattle.xt_window.specs.Ring.{place}
 -- the ring once the first n registers of the front of window w are written back
 unfoldable pub written_back : List ℕ → List ℕ → ℕ → ℕ → List ℕ
 written_back ring front w zero = ring
-written_back ring front w (suc n) = slice_set (written_back ring front w n) (place w n) (slice_index front n)
+written_back ring front w (suc n) =
+    slice_set (written_back ring front w n) (place w n) (slice_index front n)

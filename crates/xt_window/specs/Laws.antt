@@ -13,8 +13,11 @@ pub record IsNearest (test : ℕ → Bool) (q d : ℕ) : Type 0 where
   pub fails_before : (k : ℕ) → 0 < k → k < d → test k ≡ false
   pub fails_all : d ≡ 0 → (k : ℕ) → 0 < k → k ≤ q → test k ≡ false
 
--- after a call by n windows, a return by n goes back to the caller's window, and leaves the bits as before the call
+-- after a call by n windows, a return by n goes back to the caller's window, and leaves
+-- the bits as before the call
 pub record ReturnUndoesCall (start base n : ℕ) : Type 0 where
-  pub answers : return_of (with_bit start (base_after_call base n)) (base_after_call base n) n ≡ Returned
+  pub answers :
+      return_of (with_bit start (base_after_call base n)) (base_after_call base n) n ≡ Returned
   pub goes_back : base_after_return (base_after_call base n) n ≡ base
-  pub clears : without_bit (with_bit start (base_after_call base n)) (base_after_call base n) ≡ start
+  pub clears :
+      without_bit (with_bit start (base_after_call base n)) (base_after_call base n) ≡ start

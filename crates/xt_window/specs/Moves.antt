@@ -18,4 +18,5 @@ base_rotated base (negsuc n) = (base + (16 - suc n)) % 16
 
 -- how far the nearest set bit is among the three windows behind, or 0
 unfoldable pub behind : ℕ → ℕ → ℕ
-behind start base = first_of_three (bit start (base + 15)) (bit start (base + 14)) (bit start (base + 13))
+behind start base =
+    first_of_three (bit start (base + 15)) (bit start (base + 14)) (bit start (base + 13))

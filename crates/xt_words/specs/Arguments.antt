@@ -1,5 +1,6 @@
 -- What the words of `check`, `gen` and `replay` say ('profile').
-use Rattle.std.specs.Prelude.{◌≡◌, ℕ, ◌%◌, true, ◌==◌, List, Option, Some, None, Result, Ok, Err, if◌then◌else◌, codes, option_and_then}
+use Rattle.std.specs.Prelude.{◌≡◌, ℕ, ◌%◌, true, ◌==◌, List, Option, Some, None, Result, Ok, Err}
+use Rattle.std.specs.Prelude.{if◌then◌else◌, codes, option_and_then}
 use Rattle.clap.specs.Words.{App, Row, Rule, Text, first_of, new_app, new_rule, with_rule}
 use Rattle.xt_words.specs.Numbers.{number_of}
 use Rattle.xt_words.specs.Options.{said_or, with_option}

@@ -1,6 +1,7 @@
 -- What the words of the command line behind the program's name mean ('profile'). A word is the list
 -- of its bytes.
-use Rattle.std.specs.Prelude.{◌≢◌, List, [], ◌∷◌, Option, Some, None, Result, Ok, Err, if◌then◌else◌, codes}
+use Rattle.std.specs.Prelude.{◌≢◌, List, [], ◌∷◌, Option, Some, None, Result, Ok, Err}
+use Rattle.std.specs.Prelude.{if◌then◌else◌, codes}
 use Rattle.std.specs.Str.{bytes_eq}
 use Rattle.clap.specs.Words.{Row, Text, new_app}
 use Rattle.xt_words.specs.Simple.{rows_by}
@@ -74,8 +75,8 @@ meaning_by (Some name.Migrate) words =
     without_options command.Migrate (rows_by (new_app (codes "migrate")) words)
 meaning_by (Some name.Generate) words = gen_meaning_of words
 
--- the command with its options that the words say, or why they say none; the words behind `replay` are
--- judged by themselves
+-- the command with its options that the words say, or why they say none; the words behind `replay`
+-- are judged by themselves
 abbrev pub meaning_of : List Text → Result Command Refusal
 meaning_of [] = Err (refusal.Usage 1)
 meaning_of (word ∷ rest) = meaning_by (named word) (word ∷ rest)

@@ -1,5 +1,7 @@
 -- The options of `run` and `record` ('profile').
-use Rattle.std.specs.Prelude.{◌≡◌, ◌≢◌, ℕ, ◌+◌, ◌%◌, Bool, true, false, ◌==◌, ◌&&◌, nat_le, List, [], ◌∷◌, fold, Option, Some, None, unwrap_or, option_map, Result, Ok, Err, if◌then◌else◌, codes}
+use Rattle.std.specs.Prelude.{◌≡◌, ◌≢◌, ℕ, ◌+◌, ◌%◌, Bool, true, false, ◌==◌, ◌&&◌, nat_le, List}
+use Rattle.std.specs.Prelude.{[], ◌∷◌, fold, Option, Some, None, unwrap_or, option_map, Result, Ok}
+use Rattle.std.specs.Prelude.{Err, if◌then◌else◌, codes}
 use Rattle.std.specs.Option.{option_map_or}
 use Rattle.std.specs.List.{before_first, after_first}
 use Rattle.std.specs.Str.{bytes_eq}
