@@ -80,7 +80,7 @@ fn rfei(t: u8, s: u8) -> Option<Insn>
 }
 
 /// The opcode map ST0, by r.
-#[inline(always)]
+#[inline(never)]
 pub fn st0(t: u8, s: u8, r: u8) -> Option<Insn>
     requires t { t < 16 }
     requires s { s < 16 }
