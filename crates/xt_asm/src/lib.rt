@@ -14,10 +14,3 @@ mod targets;
 mod walk;
 
 pub use assembling::assemble;
-
-#[cfg(test)]
-mod fault_tests;
-#[cfg(test)]
-mod good_tests;
-#[cfg(test)]
-mod spelling_tests;

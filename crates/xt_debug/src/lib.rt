@@ -11,6 +11,3 @@ mod searching;
 pub use parsing::parse_script;
 pub use running::run_script;
 pub use script::{Command, Script, ScriptFault};
-
-#[cfg(test)]
-mod parsing_tests;

@@ -4,8 +4,6 @@
 pub mod laws;
 mod lines;
 mod operand;
-#[cfg(test)]
-mod tests;
 mod text;
 
 pub use lines::{listing, push_segment_line};

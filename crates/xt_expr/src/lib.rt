@@ -10,6 +10,3 @@ mod values;
 pub use expr::{Expr, Term, TermValue};
 pub use labels::{Label, Labels};
 pub use values::value;
-
-#[cfg(test)]
-mod tests;

@@ -14,6 +14,3 @@ pub use fault::{AsmFault, AsmPlace};
 pub use lexing::lex;
 pub use name::Name;
 pub use token::{Token, TokenKind, Tokens};
-
-#[cfg(test)]
-mod tests;

@@ -11,6 +11,3 @@ mod operands;
 
 pub use argument::{Argument, OperandFault};
 pub use making::instruction;
-
-#[cfg(test)]
-mod tests;

@@ -23,6 +23,3 @@ pub use names::name_of;
 pub use parts::{Parts, mnemonic_in, parts_of};
 pub use search::mnemonic_of;
 pub use special::{special_name, special_number};
-
-#[cfg(test)]
-mod tests;

@@ -17,6 +17,3 @@ mod words;
 pub use line::{Line, Lines, Placed};
 pub use parsing::parse;
 pub use statement::{Exprs, Operand, Operands, Statement};
-
-#[cfg(test)]
-mod tests;

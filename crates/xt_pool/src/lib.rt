@@ -8,8 +8,6 @@ mod need;
 mod ordering;
 mod placing;
 mod pooled;
-#[cfg(test)]
-mod tests;
 mod word;
 
 pub use need::{is_segment, pool_use};

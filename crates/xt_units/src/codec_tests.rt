@@ -1,4 +1,4 @@
-//! Every 16-bit word against a search over the rows, and operands outside their ranges. The words of each mnemonic are in the tests of `xt_disasm` and `xt_asm`.
+//! Every 16-bit word against a search over the rows, and operands outside their ranges. The words of each mnemonic are in `xt_texts`.
 use xt_codec::{Code, Decoded, decode, encode, fits, round_trip};
 use xt_isa::control::Control;
 use xt_isa::density::Density;

@@ -21,6 +21,3 @@ pub use numbers::number;
 pub use option_words::{DEFAULT_VECBASE, record_options, run_options};
 pub use options::{MOST_TURNS, RunOptions, within_limits};
 pub use words::meaning;
-
-#[cfg(test)]
-mod tests;

@@ -1,8 +1,8 @@
-use crate::{Operand, Statement, parse};
 use std::alloc::Global;
 use std::test::Fail;
 use xt_lex::{AsmFault, AsmPlace, lex};
 use xt_names::name_of;
+use xt_parse::{Operand, Statement, parse};
 
 /// A text, and the line and the column of its first fault of the kind Syntax; 0 and 0 where it has none.
 type Row = (&'static [u8], u32, u32);

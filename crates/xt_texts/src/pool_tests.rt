@@ -1,10 +1,10 @@
-use super::place;
 use std::alloc::{AllocError, Global};
 use std::test::Fail;
 use xt_expr::{Expr, Term, TermValue};
 use xt_lex::{AsmPlace, Name};
 use xt_names::Mnemonic;
 use xt_parse::{Line, Lines, Operand, Operands, Placed, Statement};
+use xt_pool::place;
 
 // The expression of one number.
 fn number(alloc: Global, n: u32) -> Result<Expr, AllocError> {

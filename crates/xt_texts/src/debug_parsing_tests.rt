@@ -1,7 +1,7 @@
-use crate::{Command, ScriptFault, parse_script};
 use std::alloc::Global;
 use std::process::Abort;
 use std::test::Fail;
+use xt_debug::{Command, ScriptFault, parse_script};
 
 fn check(rt: &impl Abort, alloc: Global, text: &str, commands: &[Command]) -> Result<(), Fail> {
     let script = parse_script(alloc, text)?;

@@ -1,8 +1,8 @@
 //! Texts without a fault, each with the entry and the bytes of its segments, worked out by hand from the rules of the
 //! language and from the table of instructions.
-use crate::assemble;
 use std::alloc::Global;
 use std::test::Fail;
+use xt_asm::assemble;
 use xt_image::Image;
 
 /// A text, and its image: the entry, and each segment's address, a colon and its bytes.

@@ -1,7 +1,7 @@
 //! The names of special registers by their access, and words that are no mnemonics.
 
-use crate::{access_of, mnemonic_of, name_of, special_name, special_number};
 use std::test::Fail;
+use xt_names::{access_of, mnemonic_of, name_of, special_name, special_number};
 
 #[test]
 fn mnemonics_are_found(rt: HostRuntime) -> Result<(), Fail> {

@@ -1,15 +1,9 @@
 //! Listings against values from outside.
-ghost use Rattle.std.specs.Prelude.{◌<◌};
-
-use crate::{insn_text, listing};
-use spellings::{ILLEGAL, SPELLINGS};
 use std::alloc::Global;
 use std::test::Fail;
-use xt_codec::{Decoded, decode};
+use xt_disasm::listing;
 use xt_image::{Head, Image};
 use xt_map::{Bytes, Segment, Segments};
-
-mod spellings;
 
 /// A segment of these bytes.
 fn segment(alloc: Global, addr: u32, bytes: &[u8]) -> Result<Segment, Fail> {
@@ -37,84 +31,10 @@ fn image(segments: Vec<Segment>) -> Image {
 }
 
 /// An image with one segment.
-fn image_of(alloc: Global, addr: u32, bytes: &[u8]) -> Result<Image, Fail> {
+pub fn image_of(alloc: Global, addr: u32, bytes: &[u8]) -> Result<Image, Fail> {
     let mut segments = Vec::new(alloc);
     segments.push(segment(alloc, addr, bytes)?)?;
     Ok(image(segments))
-}
-
-/// The value of an upper-case hexadecimal digit.
-fn digit(c: u8) -> u8
-    ensures { result < 16 }
-{
-    match c {
-        b'0'..=b'9' => c - b'0',
-        b'A'..=b'F' => c - b'A' + 10,
-        _ => 0,
-    }
-}
-
-/// The bytes that a text spells in hexadecimal.
-fn parsed(alloc: Global, text: &str) -> Result<Vec<u8>, Fail> {
-    let mut bytes = Vec::new(alloc);
-    for pair in text.as_bytes().chunks(2) {
-        if let [high, low] = pair {
-            bytes.push(16 * digit(*high) + digit(*low))?;
-        }
-    }
-    Ok(bytes)
-}
-
-/// The byte at a place, or 0 past the end.
-fn byte(bytes: &[u8], place: usize) -> u8 {
-    bytes.get(place).copied().unwrap_or(0)
-}
-
-/// Every spelling: its bytes decode, and the instruction has the text of the line; and the whole as the listing of an image.
-#[test]
-fn every_spelling(rt: HostRuntime) -> Result<(), Fail> {
-    let alloc = rt.alloc();
-    let mut code = Vec::new(alloc);
-    let mut pc = 0x400D0000u32;
-    for line in SPELLINGS.lines() {
-        let (_, columns) = line.split_once(' ').ok_or("an address")?;
-        let (digits, text) = columns.split_once(' ').ok_or("bytes")?;
-        let bytes = parsed(alloc, digits)?;
-        match decode(byte(&bytes, 0), byte(&bytes, 1), byte(&bytes, 2)) {
-            Decoded::Good(insn, len) => {
-                let printed = insn_text(alloc, &insn, pc)?;
-                assert_eq!(rt; printed.as_slice(), text.as_bytes());
-                pc = pc.wrapping_add(len as u32);
-            }
-            Decoded::Illegal => return Err("a spelling".into()),
-        }
-        code.extend_from_slice(&bytes)?;
-    }
-    let lines = listing(alloc, &image_of(alloc, 0x400D0000, &code)?)?;
-    let mut want = Vec::from_slice(alloc, b"segment 0 400D0000 2180 IROM\n")?;
-    want.extend_from_slice(SPELLINGS.as_bytes())?;
-    assert_eq!(rt; lines.as_slice(), want.as_slice());
-    Ok(())
-}
-
-/// Every word that spells nothing is listed as a byte first.
-#[test]
-fn illegal_words(rt: HostRuntime) -> Result<(), Fail> {
-    let alloc = rt.alloc();
-    for digits in ILLEGAL.split_whitespace() {
-        let bytes = parsed(alloc, digits)?;
-        let lines = listing(alloc, &image_of(alloc, 0x400D0000, &bytes)?)?;
-        let first = byte(&bytes, 0);
-        let want = format!(in alloc;
-            "segment 0 400D0000 3 IROM\n400D0000 {first:02X} .byte 0x{first:02X}\n"
-        )?;
-        assert_eq!(rt;
-            lines.as_slice().starts_with(want.as_bytes()),
-            true,
-            "at {digits}"
-        );
-    }
-    Ok(())
 }
 
 /// An image with a segment of each kind: code of each region, with words that spell nothing and with bytes left over at

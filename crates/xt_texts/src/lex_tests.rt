@@ -1,6 +1,6 @@
-use crate::{Token, TokenKind, lex};
 use std::alloc::Global;
 use std::test::Fail;
+use xt_lex::{Token, TokenKind, lex};
 
 /// What a token should be.
 #[derive(Clone, Copy, Debug)]

@@ -1,7 +1,7 @@
-use crate::{Command, Refusal, RunOptions, meaning, script_text};
 use std::alloc::Global;
 use std::test::Fail;
 use xt_trace::Stack;
+use xt_words::{Command, Refusal, RunOptions, meaning, script_text};
 
 // The words of a line, which stand with one space between them.
 fn words_of(alloc: Global, line: &str) -> Result<Vec<String>, Fail> {

@@ -1,10 +1,10 @@
 //! Words as GNU's and QEMU's disassemblers print them, and the faults.
 
-use crate::Argument::{Register, Special, Value};
-use crate::OperandFault::{Misaligned, OutOfReach, Range};
-use crate::{Argument, OperandFault, instruction};
 use std::test::Fail;
 use xt_encode::fields_of;
+use xt_mnemonic::Argument::{Register, Special, Value};
+use xt_mnemonic::OperandFault::{Misaligned, OutOfReach, Range};
+use xt_mnemonic::{Argument, OperandFault, instruction};
 use xt_names::mnemonic_of;
 
 /// A mnemonic, its operands, the address, and the bytes of the word; the third is 0 where there are two.

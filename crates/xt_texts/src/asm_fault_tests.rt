@@ -1,8 +1,8 @@
 //! Faulty texts, each with the line, the column and the kind of its first fault, worked out by hand from the rules of the
 //! language.
-use crate::assemble;
 use std::alloc::Global;
 use std::test::Fail;
+use xt_asm::assemble;
 use xt_lex::{AsmFault, AsmPlace};
 
 /// A text, and the line, the column and the kind of its first fault.

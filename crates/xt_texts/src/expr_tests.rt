@@ -1,6 +1,6 @@
-use crate::{Expr, Label, Labels, Term, TermValue, value};
 use std::alloc::Global;
 use std::test::Fail;
+use xt_expr::{Expr, Label, Labels, Term, TermValue, value};
 use xt_lex::Name;
 
 /// A term of a table: a number or a name, and whether it is taken away.
