@@ -149,31 +149,31 @@ places_so_far : (z : List StepRecord) (records rest : List StepRecord) (places :
 places_so_far z records rest places is e =
     ap (places_from 0) is ∙ places_append 0 records rest ∙ ap (λ (l : List ℕ). l ++ places_from (0 + length records) rest) e
 
-pub order_zero : (cs : List ℕ) (before p : ℕ) (all places more : List ℕ) (n j : ℕ) (qs : List ℕ) (m turns : ℕ) → all ≡ (places ++ p ∷ []) ++ more → p ≡ before + turns
-    → schedule_from (0 ∷ cs) before (drop (length places) all) n j qs m
-    ≡ replicate (turns + 1) 0 ++ schedule_from cs (before + (turns + 1)) (drop (length (places ++ p ∷ [])) all) n j qs m
-order_zero cs before p all places more n j qs m turns is e =
-    let first : drop (length places) all ≡ p ∷ more =
-    ap (drop (length places)) (is ∙ append_assoc places (p ∷ []) more) ∙ drop_at places (p ∷ more) (length places) refl in
-    let rest : more ≡ drop (length (places ++ p ∷ [])) all =
-    sym (ap (drop (length (places ++ p ∷ []))) is ∙ drop_at (places ++ p ∷ []) more (length (places ++ p ∷ [])) refl) in
-    ap (λ (l : List ℕ). schedule_from (0 ∷ cs) before l n j qs m) first
-    ∙ ap (λ (k : ℕ). replicate k 0 ++ schedule_from cs (suc p) more n j qs m) (let d : suc p - before ≡ turns + 1 = omega arith in d)
-    ∙ ap (λ (k : ℕ). replicate (turns + 1) 0 ++ schedule_from cs k more n j qs m) (let d : suc p ≡ before + (turns + 1) = omega arith in d)
-    ∙ ap (λ (l : List ℕ). replicate (turns + 1) 0 ++ schedule_from cs (before + (turns + 1)) l n j qs m) rest
+-- the schedule that is left of the core of this number, whose turns, places and count come first, and of the other
+abbrev order_by : ℕ → List ℕ → ℕ → List ℕ → ℕ → ℕ → List ℕ → ℕ → List ℕ
+order_by zero cs i ps n j qs m = schedule_from cs i ps n j qs m
+order_by (suc c) cs i ps n j qs m = schedule_from cs j qs m i ps n
 
-pub order_one : (cs : List ℕ) (i : ℕ) (ps : List ℕ) (n before p : ℕ) (all places more : List ℕ) (m turns : ℕ) → all ≡ (places ++ p ∷ []) ++ more → p ≡ before + turns
-    → schedule_from (1 ∷ cs) i ps n before (drop (length places) all) m
-    ≡ replicate (turns + 1) 1 ++ schedule_from cs i ps n (before + (turns + 1)) (drop (length (places ++ p ∷ [])) all) m
-order_one cs i ps n before p all places more m turns is e =
+order_head : (c : ℕ) (cs : List ℕ) (before p : ℕ) (more : List ℕ) (n j : ℕ) (qs : List ℕ) (m : ℕ) → c < 2
+    → order_by c (c ∷ cs) before (p ∷ more) n j qs m ≡ replicate (suc p - before) c ++ order_by c cs (suc p) more n j qs m
+order_head zero cs before p more n j qs m lt = refl
+order_head (suc zero) cs before p more n j qs m lt = refl
+order_head (suc (suc c)) cs before p more n j qs m lt = absurd (omega arith)
+
+order_next : (c : ℕ) (cs : List ℕ) (before p : ℕ) (all places more : List ℕ) (n j : ℕ) (qs : List ℕ) (m turns : ℕ) → c < 2
+    → all ≡ (places ++ p ∷ []) ++ more → p ≡ before + turns
+    → order_by c (c ∷ cs) before (drop (length places) all) n j qs m
+    ≡ replicate (turns + 1) c ++ order_by c cs (before + (turns + 1)) (drop (length (places ++ p ∷ [])) all) n j qs m
+order_next c cs before p all places more n j qs m turns lt is e =
     let first : drop (length places) all ≡ p ∷ more =
     ap (drop (length places)) (is ∙ append_assoc places (p ∷ []) more) ∙ drop_at places (p ∷ more) (length places) refl in
     let rest : more ≡ drop (length (places ++ p ∷ [])) all =
     sym (ap (drop (length (places ++ p ∷ []))) is ∙ drop_at (places ++ p ∷ []) more (length (places ++ p ∷ [])) refl) in
-    ap (λ (l : List ℕ). schedule_from (1 ∷ cs) i ps n before l m) first
-    ∙ ap (λ (k : ℕ). replicate k 1 ++ schedule_from cs i ps n (suc p) more m) (let d : suc p - before ≡ turns + 1 = omega arith in d)
-    ∙ ap (λ (k : ℕ). replicate (turns + 1) 1 ++ schedule_from cs i ps n k more m) (let d : suc p ≡ before + (turns + 1) = omega arith in d)
-    ∙ ap (λ (l : List ℕ). replicate (turns + 1) 1 ++ schedule_from cs i ps n (before + (turns + 1)) l m) rest
+    ap (λ (l : List ℕ). order_by c (c ∷ cs) before l n j qs m) first
+    ∙ order_head c cs before p more n j qs m lt
+    ∙ ap (λ (k : ℕ). replicate k c ++ order_by c cs (suc p) more n j qs m) (let d : suc p - before ≡ turns + 1 = omega arith in d)
+    ∙ ap (λ (k : ℕ). replicate (turns + 1) c ++ order_by c cs k more n j qs m) (let d : suc p ≡ before + (turns + 1) = omega arith in d)
+    ∙ ap (λ (l : List ℕ). replicate (turns + 1) c ++ order_by c cs (before + (turns + 1)) l n j qs m) rest
 
 -- ---- one entry more
 
@@ -181,6 +181,35 @@ pub record IsEntryAt (es : List Entry) (i : ℕ) (e : Entry) : Type 0 where
   pub front : take (i + 1) es ≡ take i es ++ e ∷ []
   pub behind : drop i es ≡ e ∷ drop (i + 1) es
   pub size : length (take i es) ≡ i
+
+-- the world behind it, where a core makes it
+world_more : (image : Image) (o : Options) (es : List Entry) (i number : ℕ) (own other own' : CoreState) (s s' : Setting) (e : Entry) (list : List ℕ)
+    → IsWorld image o list (beside number own other (line_at s.memory.contents (take i es))) → (t : Took (code_of image) number own other own' s s' i e) → IsEntryAt es i e
+    → IsWorld image o (list ++ replicate (t.turns + 1) number) (beside number own' other (line_at s'.memory.contents (take (i + 1) es)))
+world_more image o es i number own other own' s s' e list world t at =
+    let P = processor (code_of image) in
+    let more = replicate (t.turns + 1) number in
+    ap (λ (l : List Entry). beside number own' other (line_at s'.memory.contents l)) at.front ∙ t.leads (take i es)
+    ∙ ap (short_advance P more) world ∙ sym (advance_append P list more (opening_world image o))
+
+ordered_more : (c : ℕ) (es : List Entry) (i : ℕ) (e : Entry) (own own' : CoreState) (list all more : List ℕ) (n j : ℕ) (qs : List ℕ) (m turns : ℕ) → c < 2 → e.core ≡ c
+    → IsEntryAt es i e → own'.count ≡ own.count + (turns + 1) → own'.places ≡ own.places ++ (own.count + turns) ∷ []
+    → all ≡ (own.places ++ (own.count + turns) ∷ []) ++ more
+    → (list ++ replicate (turns + 1) c) ++ order_by c (cores_of (drop (i + 1) es)) own'.count (drop (length own'.places) all) n j qs m
+    ≡ list ++ order_by c (cores_of (drop i es)) own.count (drop (length own.places) all) n j qs m
+ordered_more c es i e own own' list all more n j qs m turns lt core at count_is places_is all_is =
+    let ahead = replicate (turns + 1) c in
+    let cs = cores_of (drop (i + 1) es) in
+    append_assoc list ahead (order_by c cs own'.count (drop (length own'.places) all) n j qs m)
+    ∙ ap (λ (l : List ℕ). list ++ l)
+    (ap (λ (k : ℕ). ahead ++ order_by c cs k (drop (length own'.places) all) n j qs m) count_is
+    ∙ ap (λ (l : List ℕ). ahead ++ order_by c cs (own.count + (turns + 1)) (drop (length l) all) n j qs m) places_is
+    ∙ sym (order_next c cs own.count (own.count + turns) all own.places more n j qs m turns lt all_is refl)
+    ∙ ap (λ (k : ℕ). order_by c (k ∷ cs) own.count (drop (length own.places) all) n j qs m) (sym core)
+    ∙ ap (λ (l : List Entry). order_by c (cores_of l) own.count (drop (length own.places) all) n j qs m) (sym at.behind))
+
+longer : (list : List ℕ) (turns number : ℕ) → length (list ++ replicate turns number) ≡ length list + turns
+longer list turns number = length-append list (replicate turns number) ∙ ap (λ (n : ℕ). length list + n) (length-replicate {A = ℕ} turns number)
 
 pub more_zero : (image : Image) (o : Options) (es : List Entry) (i : ℕ) (k0 k1 k0' : CoreState) (s s' : Setting) (e : Entry) → StandsAt image o es i k0 k1 s
     → Took (code_of image) 0 k0 k1 k0' s s' i e → e.core ≡ 0 → IsEntryAt es i e → StandsAt image o es (i + 1) k0' k1 s'
@@ -190,9 +219,7 @@ more_zero image o es i k0 k1 k0' s s' e h t core at =
     let r = run_with image o es in
     let turns = t.turns in
     let list = h.list ++ replicate (turns + 1) 0 in
-    let world : IsWorld image o list (beside 0 k0' k1 (line_at s'.memory.contents (take (i + 1) es))) =
-    ap (λ (l : List Entry). beside 0 k0' k1 (line_at s'.memory.contents l)) at.front ∙ t.leads (take i es)
-    ∙ ap (short_advance P (replicate (turns + 1) 0)) h.world ∙ sym (advance_append P h.list (replicate (turns + 1) 0) w0) in
+    let world = world_more image o es i 0 k0 k1 k0' s s' e h.list h.world t at in
     let e0 = with_records image o list _ world in
     let k = (world_by image o list).core0 in
     let sp = splits_zero P (opening_of image o) list es (i + 1) (ap (λ (w : ShortWorld State). w.line.history) e0) in
@@ -201,19 +228,14 @@ more_zero image o es i k0 k1 k0' s s' e h t core at =
     places_so_far (records_of 0 image r).records k.records rest (k0.places ++ (k0.count + turns) ∷ []) sp.records
     (ap (λ (w : ShortWorld State). w.core0.places) e0 ∙ t.places_is) in
     let ordered : list ++ order_left r (i + 1) k0' k1 ≡ h.list ++ order_left r i k0 k1 =
-    append_assoc h.list (replicate (turns + 1) 0) (order_left r (i + 1) k0' k1)
-    ∙ ap (λ (l : List ℕ). h.list ++ l)
-    (ap (λ (n : ℕ). replicate (turns + 1) 0 ++ schedule_from (cores_of (drop (i + 1) es)) n (drop (length k0'.places) r.trace0.places) r.trace0.count k1.count (drop (length k1.places) r.trace1.places) r.trace1.count) t.count_is
-    ∙ ap (λ (l : List ℕ). replicate (turns + 1) 0 ++ schedule_from (cores_of (drop (i + 1) es)) (k0.count + (turns + 1)) (drop (length l) r.trace0.places) r.trace0.count k1.count (drop (length k1.places) r.trace1.places) r.trace1.count) t.places_is
-    ∙ sym (order_zero (cores_of (drop (i + 1) es)) k0.count (k0.count + turns) r.trace0.places k0.places (places_from (0 + length k.records) rest) r.trace0.count k1.count (drop (length k1.places) r.trace1.places) r.trace1.count turns places refl)
-    ∙ ap (λ (c : ℕ). schedule_from (c ∷ cores_of (drop (i + 1) es)) k0.count (drop (length k0.places) r.trace0.places) r.trace0.count k1.count (drop (length k1.places) r.trace1.places) r.trace1.count) (sym core)
-    ∙ ap (λ (l : List Entry). schedule_from (cores_of l) k0.count (drop (length k0.places) r.trace0.places) r.trace0.count k1.count (drop (length k1.places) r.trace1.places) r.trace1.count) (sym at.behind)) in
+    ordered_more 0 es i e k0 k0' h.list r.trace0.places (places_from (0 + length k.records) rest) r.trace0.count k1.count (drop (length k1.places) r.trace1.places) r.trace1.count
+    turns (omega arith) core at t.count_is t.places_is places in
     record {
       list = list;
       code_is = t.code_is ∙ h.code_is;
       world = world;
-      counted = omega (arith, t.count_is, h.counted, length-append h.list (replicate (turns + 1) 0), length-replicate {A = ℕ} (turns + 1) 0);
-      grown = omega (arith, h.grown, length-append h.list (replicate (turns + 1) 0), length-replicate {A = ℕ} (turns + 1) 0);
+      counted = omega (arith, t.count_is, h.counted, longer h.list (turns + 1) 0);
+      grown = omega (arith, h.grown, longer h.list (turns + 1) 0);
       points = t.adds (take i es) h.list w0 at.size h.world h.counted h.points;
       core0_is = t.core_is ∙ h.core0_is;
       core1_is = h.core1_is;
@@ -237,9 +259,7 @@ more_one image o es i k0 k1 k1' s s' e h t core at =
     let r = run_with image o es in
     let turns = t.turns in
     let list = h.list ++ replicate (turns + 1) 1 in
-    let world : IsWorld image o list (beside 1 k1' k0 (line_at s'.memory.contents (take (i + 1) es))) =
-    ap (λ (l : List Entry). beside 1 k1' k0 (line_at s'.memory.contents l)) at.front ∙ t.leads (take i es)
-    ∙ ap (short_advance P (replicate (turns + 1) 1)) h.world ∙ sym (advance_append P h.list (replicate (turns + 1) 1) w0) in
+    let world = world_more image o es i 1 k1 k0 k1' s s' e h.list h.world t at in
     let e0 = with_records image o list _ world in
     let k = (world_by image o list).core1 in
     let sp = splits_one P (opening_of image o) list es (i + 1) (ap (λ (w : ShortWorld State). w.line.history) e0) in
@@ -248,19 +268,14 @@ more_one image o es i k0 k1 k1' s s' e h t core at =
     places_so_far (records_of 1 image r).records k.records rest (k1.places ++ (k1.count + turns) ∷ []) sp.records
     (ap (λ (w : ShortWorld State). w.core1.places) e0 ∙ t.places_is) in
     let ordered : list ++ order_left r (i + 1) k0 k1' ≡ h.list ++ order_left r i k0 k1 =
-    append_assoc h.list (replicate (turns + 1) 1) (order_left r (i + 1) k0 k1')
-    ∙ ap (λ (l : List ℕ). h.list ++ l)
-    (ap (λ (n : ℕ). replicate (turns + 1) 1 ++ schedule_from (cores_of (drop (i + 1) es)) k0.count (drop (length k0.places) r.trace0.places) r.trace0.count n (drop (length k1'.places) r.trace1.places) r.trace1.count) t.count_is
-    ∙ ap (λ (l : List ℕ). replicate (turns + 1) 1 ++ schedule_from (cores_of (drop (i + 1) es)) k0.count (drop (length k0.places) r.trace0.places) r.trace0.count (k1.count + (turns + 1)) (drop (length l) r.trace1.places) r.trace1.count) t.places_is
-    ∙ sym (order_one (cores_of (drop (i + 1) es)) k0.count (drop (length k0.places) r.trace0.places) r.trace0.count k1.count (k1.count + turns) r.trace1.places k1.places (places_from (0 + length k.records) rest) r.trace1.count turns places refl)
-    ∙ ap (λ (c : ℕ). schedule_from (c ∷ cores_of (drop (i + 1) es)) k0.count (drop (length k0.places) r.trace0.places) r.trace0.count k1.count (drop (length k1.places) r.trace1.places) r.trace1.count) (sym core)
-    ∙ ap (λ (l : List Entry). schedule_from (cores_of l) k0.count (drop (length k0.places) r.trace0.places) r.trace0.count k1.count (drop (length k1.places) r.trace1.places) r.trace1.count) (sym at.behind)) in
+    ordered_more 1 es i e k1 k1' h.list r.trace1.places (places_from (0 + length k.records) rest) r.trace1.count k0.count (drop (length k0.places) r.trace0.places) r.trace0.count
+    turns (omega arith) core at t.count_is t.places_is places in
     record {
       list = list;
       code_is = t.code_is ∙ h.code_is;
       world = world;
-      counted = omega (arith, t.count_is, h.counted, length-append h.list (replicate (turns + 1) 1), length-replicate {A = ℕ} (turns + 1) 1);
-      grown = omega (arith, h.grown, length-append h.list (replicate (turns + 1) 1), length-replicate {A = ℕ} (turns + 1) 1);
+      counted = omega (arith, t.count_is, h.counted, longer h.list (turns + 1) 1);
+      grown = omega (arith, h.grown, longer h.list (turns + 1) 1);
       points = t.adds (take i es) h.list w0 at.size h.world (let c : k1.count + k0.count ≡ length h.list = omega (arith, h.counted) in c) h.points;
       core0_is = h.core0_is;
       core1_is = t.core_is ∙ h.core1_is;
