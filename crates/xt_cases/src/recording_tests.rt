@@ -1,5 +1,6 @@
 //! Recordings of runs: all the bytes of one, and the checkpoints of another.
 
+use crate::damage_tests::LETTER;
 use crate::programs::{image_of, words_with};
 use std::alloc::{AllocError, Global};
 use std::sync::Wait;
@@ -10,12 +11,9 @@ use xt_image::write;
 use xt_io::{OpenGate, SafeSink, SafeSource};
 use xt_record::RecordFault;
 
-/// An image that sends the letter A and stops, in hexadecimal digits.
-const LETTER: &str = "E901022004040840EE0000000000000000FFFF00000000000004084010000000\
-0000F43F21FFFF32A041324200F0410000000000000000000000000000000017";
-
-/// The recording of its run of at most ten turns of core 0, whose one access is the store of the letter.
-const RECORDED: &str = "585452430200000040000000E901022004040840EE0000000000000000FFFF0000\
+/// The recording of the run of the letter's image, of at most ten turns of core 0, whose one access is the store of the letter.
+pub(crate) const RECORDED: &str =
+    "585452430200000040000000E901022004040840EE0000000000000000FFFF0000\
 00000000040840100000000000F43F21FFFF32A041324200F041000000000000000000000000000000001\
 70A0000000000000004040840000008400000FF3F0080FF3F0080FF3F0000004001000000\
 000101000000F43F41000000000000000000000000000000";
@@ -67,6 +65,16 @@ fn recording_of_the_letter_a(rt: HostRuntime) -> Result<(), Fail> {
     let (status, sink) = answer(&rt, "record", "--turns0 10 --turns1 0", &image)?;
     assert_eq!(rt; status, Status::Done);
     assert_eq!(rt; sink.bytes(), recorded.as_slice());
+    for length in 0..136usize {
+        let front = &recorded.as_slice()[..length.min(recorded.len())];
+        let (status, sink) = answer(&rt, "migrate", "", front)?;
+        assert_eq!(rt;
+            status,
+            Status::Recording(RecordFault::Short),
+            "the first {length} bytes"
+        );
+        assert!(rt; sink.bytes().is_empty(), "the first {length} bytes");
+    }
     let rows = [
         (128, 1, Status::Recording(RecordFault::Illegal(0, 1, 0))),
         (120, 0x42, Status::Recording(RecordFault::Turn(0, 2))),
