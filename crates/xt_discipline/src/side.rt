@@ -5,7 +5,7 @@ ghost use Rattle.std.specs.Prelude.{◌≡◌, ◌≤◌, ◌<◌, ◌+◌, ◌-
 ghost use Rattle.xt_map.specs.Memory.{constant_byte};
 ghost use Rattle.xt_frames.specs.Frames.{Frame, FrameState, known};
 ghost use Rattle.xt_frames.specs.FrameStep.{laid};
-ghost use Rattle.xt_rows.specs.Fetching.{fetched};
+ghost use Rattle.xt_fetch.specs.Fetching.{fetched};
 ghost use Rattle.xt_frames.specs.HandlerSteps.{closes, ends_stretch, fetched_ends, is_window};
 ghost use Rattle.xt_frames.specs.Judging.{seen, seen_step};
 ghost use Rattle.xt_frames.specs.Stacks.{Moves, Stack};
@@ -18,11 +18,11 @@ ghost use Rattle.xt_discipline.specs.Sides.{Begins, IsCallOf, IsFollowed, IsSeen
 use crate::accesses::{loads, saves};
 use crate::bytes::{Change, Held, change_bytes};
 use xt_codec::{Fetch, instruction_at};
+use xt_fetch::code_three;
 use xt_frames::{Breach, Frames};
 use xt_isa::Insn;
 use xt_isa::system::{ReturnName, System};
 use xt_map::{Access, Constants, Kind};
-use xt_rows::code_three;
 use xt_trace::{StepKind, StepRecord};
 
 /// The two save areas of a call.
