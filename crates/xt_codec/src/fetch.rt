@@ -21,7 +21,7 @@ pub enum Fetch {
 
 // What the bytes at an address spell.
 #[inline(always)]
-fn spelled_at(code: &Constants, pc: u32) -> Fetch
+fn spelled_at<U>(code: &Constants, pc: u32) -> Fetch
     requires { pc + 4 < 2 ^ 32 }
     ensures fetched { IsFetched result (read_at (constant_byte code.now) pc) }
     ensures good { IsGoodFetch result }
@@ -33,18 +33,21 @@ fn spelled_at(code: &Constants, pc: u32) -> Fetch
     }
 }
 
-/// The instruction at an address of the constant regions, or why there is none.
+/// The instruction at an address of the constant regions, or why there is none. There is one copy
+/// for each register file `U`, so that it can be inlined into its one caller.
 #[tactic(auto, unfolding(xt_fetch::specs::Fetching::fetched))]
 #[inline(always)]
-pub fn instruction_at(code: &Constants, pc: u32) -> Fetch
+pub fn instruction_at<U>(code: &Constants, pc: u32) -> Fetch
     ensures fetched { IsFetched result (fetched (constant_byte code.now) pc) }
     ensures good { IsGoodFetch result }
 {
-    if is_inside(pc) {
-        return spelled_at(code, pc);
-    }
-    match unfetchable(pc, fetched_length(code, pc)) {
+    let fault = if is_inside(pc) {
+        None
+    } else {
+        unfetchable(pc, fetched_length(code, pc))
+    };
+    match fault {
         Some(addr) => Fetch::Fails(addr),
-        None => spelled_at(code, pc),
+        None => spelled_at::<U>(code, pc),
     }
 }

@@ -75,7 +75,7 @@ fn instruction<W: Windows>(r: &mut Regs<W>, code: &Constants) -> Plan
     ensures { let s = state_of W.regs W.base W.start r.old in
         IsPlan result s (state_of W.regs W.base W.start r.new) (fetched_turn (fetched (constant_byte code.now) s.control.pc) (constant_byte code.now) s) }
 {
-    match instruction_at(code, r.pc) {
+    match instruction_at::<W>(code, r.pc) {
         Fetch::Fails(addr) => Plan::Done(r.raise(cause::FETCH_ERROR, Some(addr))),
         Fetch::Nothing => Plan::Done(r.raise(cause::ILLEGAL_INSTRUCTION, None)),
         Fetch::Insn(insn, len) => plan(r, code, insn, len),

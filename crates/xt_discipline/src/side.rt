@@ -110,7 +110,7 @@ fn ends_at(code: &Constants, pc: u32) -> bool
     if reaches_frames(code, pc) {
         return false;
     }
-    match instruction_at(code, pc) {
+    match instruction_at::<StepRecord>(code, pc) {
         Fetch::Insn(insn, _) => ends_stretch(insn),
         _ => false,
     }

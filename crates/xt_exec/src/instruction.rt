@@ -108,7 +108,7 @@ impl<W: Windows> Regs<W> {
             v: self.special_value(other),
         };
         let ps = self.sr.ps_fields();
-        outcome_of(code, i, self.pc, values, ps, self.sr.threadptr())
+        outcome_of::<W>(code, i, self.pc, values, ps, self.sr.threadptr())
     }
 
     // Whether none of the next three windows is a frame's. Then no register's name matters.
@@ -123,7 +123,7 @@ impl<W: Windows> Regs<W> {
     }
 
     // The window that the instruction would write over, if there is one.
-    #[inline(always)]
+    // (no hint to inline: with it the whole turn grows past the size at which its own hint is dropped)
     fn overflowing(&self, i: Insn) -> Option<Overflow>
         requires { in_range i ≡ true }
         ensures value { let s = state_of W.regs W.base W.start self.now in result ≡ overflow_at (window_check i s) s }

@@ -163,7 +163,7 @@ impl<W: Windows> Regs<W> {
     }
 
     /// An instruction that moves the window or looks at the windows.
-    #[inline(always)]
+    // (no hint to inline: with it the whole turn grows past the size at which its own hint is dropped)
     pub(crate) fn windowed(&mut self, step: WindowStep, len: u8) -> Step
         requires { IsProperStep step }
         ensures after { turn_of result (state_of W.regs W.base W.start self.new) ≡ windowed step len (state_of W.regs W.base W.start self.old) }

@@ -393,7 +393,7 @@ impl View {
             v: self.special_value(other),
         };
         let ps = self.special.ps_fields();
-        outcome_of(code, i, self.pc, values, ps, self.special.threadptr())
+        outcome_of::<Self>(code, i, self.pc, values, ps, self.special.threadptr())
     }
 
     fn windowed(&mut self, step: WindowStep, len: u8, newest: &Option<Caller>) -> Step
@@ -468,7 +468,7 @@ impl View {
                 if self.waits {
                     Plan::Waits
                 } else {
-                    Plan::Fetched(instruction_at(code, self.pc))
+                    Plan::Fetched(instruction_at::<Self>(code, self.pc))
                 }
             }
         }

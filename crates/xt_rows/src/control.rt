@@ -105,7 +105,7 @@ fn loop_entry(name: LoopName, offset: i32, pc: u32, x: u32, e: Effect) -> Outcom
 /// AR[t] are these.
 #[tactic(auto, unfolding(crate::specs::Outcomes::control_outcome))]
 #[inline(always)]
-pub fn control_outcome(i: Control, pc: u32, x: u32, y: u32, e: Effect) -> Outcome
+pub fn control_outcome<U>(i: Control, pc: u32, x: u32, y: u32, e: Effect) -> Outcome
     ensures { result ≡ control_outcome i pc x y e }
 {
     match i {

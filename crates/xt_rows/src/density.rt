@@ -28,7 +28,14 @@ fn narrow_access(code: &Constants, name: NarrowName, t: u8, addr: u32, y: u32, e
 /// What a 16-bit instruction at `pc` does, where AR[s] (of a return a0) and AR[t] are these.
 #[tactic(auto, unfolding(crate::specs::Outcomes::density_outcome))]
 #[inline(always)]
-pub fn density_outcome(code: &Constants, i: Density, pc: u32, x: u32, y: u32, e: Effect) -> Outcome
+pub fn density_outcome<U>(
+    code: &Constants,
+    i: Density,
+    pc: u32,
+    x: u32,
+    y: u32,
+    e: Effect,
+) -> Outcome
     ensures { result ≡ density_outcome (constant_byte code.now) i pc x y e }
 {
     match i {

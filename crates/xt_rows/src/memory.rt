@@ -64,7 +64,7 @@ fn window_access(code: &Constants, name: WindowName, t: u8, addr: u32, y: u32, e
 /// SCOMPARE1 are these.
 #[tactic(auto, unfolding(crate::specs::Outcomes::memory_outcome))]
 #[inline(always)]
-pub fn memory_outcome(
+pub fn memory_outcome<U>(
     code: &Constants,
     i: Memory,
     pc: u32,

@@ -31,10 +31,10 @@ pub struct Values {
     pub v: u32,
 }
 
-// The row's formula.
+// The row's formula. One copy for each register file `U`, so that it can be inlined into its one caller.
 #[tactic(auto, unfolding(crate::specs::Outcomes::outcome))]
 #[inline(always)]
-fn row_outcome(
+fn row_outcome<U>(
     code: &Constants,
     i: Insn,
     pc: u32,
@@ -50,12 +50,12 @@ fn row_outcome(
     let e = unchanged(ps, threadptr);
     let Values { x, y, u, v } = values;
     match i {
-        Insn::Three(i) => three_outcome(i, x, y, u, e),
-        Insn::Shift(i) => shift_outcome(i, x, u, e),
-        Insn::Memory(i) => memory_outcome(code, i, pc, x, y, u, e),
-        Insn::Control(i) => control_outcome(i, pc, x, y, e),
-        Insn::System(i) => system_outcome(i, x, u, v, e),
-        Insn::Density(i) => density_outcome(code, i, pc, x, y, e),
+        Insn::Three(i) => three_outcome::<U>(i, x, y, u, e),
+        Insn::Shift(i) => shift_outcome::<U>(i, x, u, e),
+        Insn::Memory(i) => memory_outcome::<U>(code, i, pc, x, y, u, e),
+        Insn::Control(i) => control_outcome::<U>(i, pc, x, y, e),
+        Insn::System(i) => system_outcome::<U>(i, x, u, v, e),
+        Insn::Density(i) => density_outcome::<U>(code, i, pc, x, y, e),
     }
 }
 
@@ -65,9 +65,10 @@ fn row_outcome(
 /// an instruction that shifts by SAR the value of SAR is below 64; and the fields of PS are in their
 /// ranges. Then it writes registers that there are, asks for an access that the bus serves, and puts
 /// into a special register what it can hold; and an instruction that asks for an access changes
-/// nothing else.
+/// nothing else. There is one copy for each register file `U`, so that it can be inlined into its
+/// one caller.
 #[inline(always)]
-pub fn outcome_of(
+pub fn outcome_of<U>(
     code: &Constants,
     i: Insn,
     pc: u32,
@@ -82,5 +83,5 @@ pub fn outcome_of(
     ensures proper { IsProper IsAny result }
     ensures alone { AsksWith (unchanged ps threadptr) result }
 {
-    row_outcome(code, i, pc, values, ps, threadptr)
+    row_outcome::<U>(code, i, pc, values, ps, threadptr)
 }

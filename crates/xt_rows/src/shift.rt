@@ -105,7 +105,7 @@ fn sets_byte_amount(name: Ssa8Name, x: u32, e: Effect) -> Outcome
 /// What a shift or an instruction of one source does, where the source and SAR are these.
 #[tactic(auto, unfolding(crate::specs::Outcomes::shift_outcome))]
 #[inline(always)]
-pub fn shift_outcome(i: Shift, x: u32, u: u32, e: Effect) -> Outcome
+pub fn shift_outcome<U>(i: Shift, x: u32, u: u32, e: Effect) -> Outcome
     requires range { shift_in_range i ≡ true }
     requires sar { u < 64 }
     ensures { result ≡ shift_outcome i x u e }

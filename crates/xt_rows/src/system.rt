@@ -183,7 +183,7 @@ fn user_register(name: UserName, t: u8, x: u32, e: Effect) -> Outcome
 /// `u` and `v`.
 #[tactic(auto, unfolding(crate::specs::Outcomes::system_outcome))]
 #[inline(always)]
-pub fn system_outcome(i: System, x: u32, u: u32, v: u32, e: Effect) -> Outcome
+pub fn system_outcome<U>(i: System, x: u32, u: u32, v: u32, e: Effect) -> Outcome
     requires range { system_in_range i ≡ true }
     requires ps { IsPs e.ps }
     ensures { result ≡ system_outcome i x u v e }

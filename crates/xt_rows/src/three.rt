@@ -118,7 +118,7 @@ fn conditional_move(name: MoveName, r: u8, x: u32, y: u32, e: Effect) -> Outcome
 /// What an instruction of three registers does, where AR[s], AR[t] and SAR are these.
 #[tactic(auto, unfolding(crate::specs::Outcomes::three_outcome))]
 #[inline(always)]
-pub fn three_outcome(i: Three, x: u32, y: u32, u: u32, e: Effect) -> Outcome
+pub fn three_outcome<U>(i: Three, x: u32, y: u32, u: u32, e: Effect) -> Outcome
     requires { u < 64 }
     ensures { result ≡ three_outcome i x y u e }
 {

@@ -16,7 +16,7 @@ illegal b0 None h = refl
 illegal b0 (Some j) h = cc
 
 pub returns-in-Good-clause-fetched : goal.returns-in-Good-clause-fetched
-returns-in-Good-clause-fetched c =
+returns-in-Good-clause-fetched g c =
     let code = constant_byte c.args.code.now in
     let pc = c.args.pc in
     let spelling : decoded.Good c.in-Good.insn c.in-Good.len ≡ answer (code pc) (spelled (fields_at (code pc) (code (pc + 1)) (code (pc + 2)))) =
@@ -24,7 +24,7 @@ returns-in-Good-clause-fetched c =
     (good (code pc) c.in-Good.len (spelled (fields_at (code pc) (code (pc + 1)) (code (pc + 2)))) c.in-Good.insn spelling, c.in-Good.ensures.fits)
 
 pub returns-in-Illegal-clause-fetched : goal.returns-in-Illegal-clause-fetched
-returns-in-Illegal-clause-fetched c =
+returns-in-Illegal-clause-fetched g c =
     let code = constant_byte c.args.code.now in
     let pc = c.args.pc in
     let spelling : decoded.Illegal ≡ answer (code pc) (spelled (fields_at (code pc) (code (pc + 1)) (code (pc + 2)))) =

@@ -8,7 +8,7 @@ use Rattle.xt_rows.proofs.Proper.{outcome_fit}
 use Rattle.xt_rows.proofs.rows.outcome_of.Goals as goal
 
 pub returns-clause-proper : goal.returns-clause-proper
-returns-clause-proper c =
+returns-clause-proper g c =
     let P : Outcome → Type 0 = λ o. IsProper IsAny o in
     let a = c.args in
     subst P (sym c.row_outcome.ensures)
@@ -26,7 +26,7 @@ returns-clause-proper c =
     }))
 
 pub returns-clause-alone : goal.returns-clause-alone
-returns-clause-alone c =
+returns-clause-alone g c =
     let a = c.args in
     let P : Outcome → Type 0 = λ o. AsksWith (unchanged a.ps a.threadptr) o in
     subst P (sym c.row_outcome.ensures) (outcome_alone (constant_byte a.code.now) a.i a.pc a.values.x a.values.y a.values.u a.values.v a.ps a.threadptr)
