@@ -8,7 +8,7 @@ ghost use Rattle.std.specs.Prelude.{◌≡◌, ◌<◌, ◌≤◌, Bool, false, 
 ghost use Rattle.xt_special.specs.Values.{control_at};
 ghost use Rattle.xt_special.specs.Exceptions.{after_exception};
 ghost use Rattle.xt_special.specs.WindowExceptions.{after_window_exception};
-ghost use Rattle.xt_special.specs.Interrupts.{after_interrupt};
+ghost use Rattle.xt_special.specs.Interrupts.{after_interrupt, current_level};
 ghost use Rattle.xt_exc.specs.Pending.{level_taken};
 
 use xt_special::{Special, number};
@@ -29,8 +29,19 @@ const LEVEL_1_BITS: u32 = 0x0000_00C0;
 /// The bits of INTERRUPT of level 3: timer 1 and a software interrupt.
 const LEVEL_3_BITS: u32 = 0x2000_8000;
 
+/// The current level. In exception mode it is at least 3.
+#[inline(always)]
+fn current_level(s: &Special) -> u8
+    ensures { result ≡ current_level s.now.ps }
+{
+    if s.excm() {
+        s.intlevel().max(3)
+    } else {
+        s.intlevel()
+    }
+}
+
 /// The level of the interrupt that is taken: the highest of those that are pending and enabled, where it exceeds the current level.
-/// In exception mode the current level is at least 3.
 #[tactic(auto, unfolding(xt_special::specs::Interrupts::pending_level))]
 #[inline(always)]
 pub fn pending(s: &Special) -> Option<u8>
@@ -38,14 +49,9 @@ pub fn pending(s: &Special) -> Option<u8>
     ensures range { IfSome result (λ level. (1 ≤ level) × (level ≤ 3)) }
 {
     let bits = s.register(number::INTERRUPT) & s.register(number::INTENABLE);
-    let current = if s.excm() {
-        s.intlevel().max(3)
-    } else {
-        s.intlevel()
-    };
-    if bits & LEVEL_3_BITS != 0 && current < 3 {
+    if bits & LEVEL_3_BITS != 0 && current_level(s) < 3 {
         Some(3)
-    } else if bits & LEVEL_1_BITS != 0 && current < 1 {
+    } else if bits & LEVEL_1_BITS != 0 && current_level(s) < 1 {
         Some(1)
     } else {
         None
