@@ -33,8 +33,8 @@ fn spelled_at<U>(code: &Constants, pc: u32) -> Fetch
     }
 }
 
-/// The instruction at an address of the constant regions, or why there is none. There is one copy
-/// for each register file `U`, so that it can be inlined into its one caller.
+/// The instruction at an address of the constant regions, or why there is none. `U` names the
+/// user alone: each has a copy of its own, which can be inlined into its one caller.
 #[tactic(auto, unfolding(xt_fetch::specs::Fetching::fetched))]
 #[inline(always)]
 pub fn instruction_at<U>(code: &Constants, pc: u32) -> Fetch

@@ -374,7 +374,7 @@ pub fn return_breach(code: &Constants, view: &View, newest: &Option<Caller>) -> 
     ensures { (frames : List Frame) → IsNewest newest.now frames
         → result ≡ fetched_return_breach (fetched (constant_byte code.now) view.now.control.pc) (state_at frames view.now) }
 {
-    match instruction_at::<View>(code, view.pc()) {
+    match instruction_at::<Caller>(code, view.pc()) {
         Fetch::Insn(i, _) => {
             if is_return(i) {
                 let tests = [
@@ -423,7 +423,7 @@ fn planned(plan: Plan, code: &Constants, view: &View) -> Fetch
 {
     match plan {
         Plan::Fetched(fetch) => fetch,
-        Plan::Interrupt(_) | Plan::Waits => instruction_at::<View>(code, view.pc()),
+        Plan::Interrupt(_) | Plan::Waits => instruction_at::<Plan>(code, view.pc()),
     }
 }
 

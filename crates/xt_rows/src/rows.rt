@@ -31,7 +31,7 @@ pub struct Values {
     pub v: u32,
 }
 
-// The row's formula. One copy for each register file `U`, so that it can be inlined into its one caller.
+// The row's formula. `U` names the user alone: each has a copy, which can be inlined into its one caller.
 #[tactic(auto, unfolding(crate::specs::Outcomes::outcome))]
 #[inline(always)]
 fn row_outcome<U>(
@@ -65,7 +65,7 @@ fn row_outcome<U>(
 /// an instruction that shifts by SAR the value of SAR is below 64; and the fields of PS are in their
 /// ranges. Then it writes registers that there are, asks for an access that the bus serves, and puts
 /// into a special register what it can hold; and an instruction that asks for an access changes
-/// nothing else. There is one copy for each register file `U`, so that it can be inlined into its
+/// nothing else. `U` names the user alone: each has a copy of its own, which can be inlined into its
 /// one caller.
 #[inline(always)]
 pub fn outcome_of<U>(
