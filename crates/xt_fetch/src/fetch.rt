@@ -1,7 +1,7 @@
 ghost use Rattle.std.specs.Prelude.{◌≡◌, ◌+◌, ◌<◌, ◌≤◌, ◌^◌, true, None};
 ghost use Rattle.xt_isa.specs.Spelling.{length_of};
 ghost use Rattle.xt_map.specs.Memory.{constant_byte};
-ghost use Rattle.xt_fetch.specs.Fetching.{can_fetch, fetched_length, unfetchable};
+ghost use Rattle.xt_fetch.specs.Fetching.{can_fetch, fetched_length, is_inside, unfetchable};
 
 use crate::code::code_byte;
 use xt_map::{Constants, can_execute_at};
@@ -53,6 +53,7 @@ pub fn unfetchable(addr: u32, len: u8) -> Option<u32>
 #[tactic(auto, unfolding(xt_map::specs::Regions::region_of))]
 #[inline(always)]
 pub fn is_inside(pc: u32) -> bool
+    ensures inside { result ≡ is_inside pc }
     ensures first { result ≡ true → can_fetch pc ≡ true }
     ensures second { result ≡ true → can_fetch (pc + 1) ≡ true }
     ensures third { result ≡ true → can_fetch (pc + 2) ≡ true }
