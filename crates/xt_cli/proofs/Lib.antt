@@ -1,4 +1,3 @@
-mod Handling
 mod Numbered
 mod Running
 mod Segmented

@@ -29,7 +29,8 @@ use Rattle.xt_cli.specs.Calls.{Ends, ReadsWhole}
 use Rattle.xt_cli.specs.Tools as tools
 use Rattle.xt_cli.specs.Reports.{output_text}
 use Rattle.xt_cli.specs.Summaries.{gen_options, gen_text}
-use Rattle.xt_cli.specs.Verdicts.{handlers_of, judged_of}
+use Rattle.xt_handlers.specs.Answers.{handlers_of}
+use Rattle.xt_cli.specs.Verdicts.{judged_of}
 
 abbrev pub image_limit : ℕ
 image_limit = 8388608

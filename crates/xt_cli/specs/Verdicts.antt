@@ -5,8 +5,6 @@ use Rattle.std.specs.List.{concat}
 use Rattle.std.specs.Fmt.{decimal}
 use Rattle.xt_stretch.specs.declared.HandlerVerdict.{HandlerVerdict}
 use Rattle.xt_stretch.specs.declared.HandlerVerdict.TheVariants.{Yes, No}
-use Rattle.xt_stretch.specs.declared.Side.TheVariants.{Overflow, Underflow}
-use Rattle.xt_handlers.specs.Vectors.{verdict_of}
 use Rattle.xt_handlers.specs.declared.Handlers.{Handlers}
 use Rattle.xt_trace.specs.declared.run.Run.{Run}
 use Rattle.xt_image.specs.declared.image.Image.{Image}
@@ -20,17 +18,6 @@ use Rattle.xt_frames.specs.declared.kinds.Judged.{Judged}
 use Rattle.xt_frames.specs.declared.kinds.Judged.TheVariants as judged
 
 -- ---- the handlers
-
--- the answers for the six vectors from VECBASE on
-unfoldable pub handlers_of : (ℕ → ℕ) → ℕ → Handlers
-handlers_of code vecbase = record {
-  of4 = verdict_of code vecbase Overflow 1;
-  uf4 = verdict_of code vecbase Underflow 1;
-  of8 = verdict_of code vecbase Overflow 2;
-  uf8 = verdict_of code vecbase Underflow 2;
-  of12 = verdict_of code vecbase Overflow 3;
-  uf12 = verdict_of code vecbase Underflow 3;
-}
 
 -- `yes`, or `no` and the offset at which a vector fails
 abbrev pub verdict_text : HandlerVerdict → List ℕ

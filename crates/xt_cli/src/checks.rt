@@ -4,10 +4,10 @@ ghost use Rattle.xt_cli.specs.Checks.{check_text, image_line, line_of, segment_l
 ghost use Rattle.xt_image.specs.Parts.{IsWellFormed};
 
 use crate::verdict_lines::handlers_line;
-use crate::verdicts::handlers_of;
 use std::alloc::{AllocError, Global};
 use xt_disasm::push_segment_line;
-use xt_image::Image;
+use xt_discipline::handlers_of;
+use xt_image::{Image, well_formed_is_placed};
 use xt_map::{Segment, Text};
 use xt_text::hexadecimal;
 
@@ -57,6 +57,7 @@ pub fn check_text(alloc: Global, image: &Image, vecbase: u32) -> Result<Text, Al
     requires aligned { vecbase % 1024 ≡ 0 }
     ensures { IfOk result (λ text. text ≡ check_text image.now vecbase) }
 {
+    well_formed_is_placed();
     let handlers = handlers_of(alloc, image, vecbase)?;
     let handlers = handlers_line(alloc, &handlers)?;
     let mut text = image_text(alloc, image)?;

@@ -25,7 +25,7 @@ pub use status::{Status, status_line};
 pub use tool::{ELF_LIMIT, IMAGE_LIMIT, Job, TEXT_LIMIT, Tool, tool_main};
 pub use top::{Outcome, write_whole, xt_main};
 pub use verdict_lines::{frames_line, handlers_line};
-pub use verdicts::{Whole, handlers_of, judged};
+pub use verdicts::{Whole, judged};
 
 #[cfg(test)]
 mod gen_tests;

@@ -1,18 +1,17 @@
 //! What is found of an image and its run: the answers for its window handlers, and the verdict.
-ghost use Rattle.std.specs.Prelude.{◌≡◌, ◌%◌, IfOk};
+ghost use Rattle.std.specs.Prelude.{◌≡◌, IfOk};
 ghost use Rattle.xt_cli.specs.Top.{IsJudged};
-ghost use Rattle.xt_cli.specs.Verdicts.{handlers_of, judged_of};
-ghost use Rattle.xt_core.specs.Runs.{IsRunOf, code_of};
+ghost use Rattle.xt_cli.specs.Verdicts.{judged_of};
+ghost use Rattle.xt_core.specs.Runs.{IsRunOf};
 ghost use Rattle.xt_image.specs.Parts.{IsWellFormed};
 
 use std::alloc::{AllocError, Global};
 use xt_core::Cursor;
-use xt_discipline::judge;
+use xt_discipline::{handlers_of, judge};
 use xt_frames::Judged;
 use xt_handlers::Handlers;
 use xt_image::{Image, well_formed_is_placed};
 use xt_machine::run_has_schedule;
-use xt_map::Constants;
 use xt_trace::Run;
 
 /// A run, and what is found of it.
@@ -26,21 +25,6 @@ pub struct Whole {
     /// What is judged of it: nothing where some handler does not pass its check, else its first breach
     /// of the stack discipline, if there is one.
     pub judged: Judged,
-}
-
-/// The answers for the six window handlers of an image from `vecbase` on. The only error is too
-/// little memory.
-///
-/// Conditions: the image is well formed, and `vecbase` is a multiple of 1024.
-#[tactic(auto, unfolding(crate::specs::Verdicts::handlers_of))]
-pub fn handlers_of(alloc: Global, image: &Image, vecbase: u32) -> Result<Handlers, AllocError>
-    requires image { IsWellFormed image.now }
-    requires aligned { vecbase % 1024 ≡ 0 }
-    ensures { IfOk result (λ h. h ≡ handlers_of (code_of image.now) vecbase) }
-{
-    well_formed_is_placed();
-    let code = Constants::make(alloc, image.segments.as_slice())?;
-    Ok(xt_handlers::check(&code, vecbase))
 }
 
 // What is judged of a run of an image, over its records, which are made one by one.
@@ -71,6 +55,7 @@ pub fn judged(alloc: Global, image: &Image, run: Run) -> Result<Whole, AllocErro
     ensures run { IfOk result (λ w. w.run ≡ run) }
     ensures judged { IfOk result (λ w. IsJudged image.now w) }
 {
+    well_formed_is_placed();
     let handlers = handlers_of(alloc, image, run.options.vecbase)?;
     let judged = verdict(alloc, image, &handlers, &run)?;
     Ok(Whole {

@@ -5,5 +5,3 @@ pub mod Bytes
 pub mod Scripts
 pub mod Sought
 pub mod Stores
-pub mod Schedules
-pub mod Handlers

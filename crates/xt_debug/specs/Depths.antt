@@ -2,23 +2,10 @@
 use Rattle.std.specs.Prelude.{ℕ, zero, suc, Option, Some, None}
 use Rattle.xt_trace.specs.declared.run.Run.{Run}
 use Rattle.xt_image.specs.declared.image.Image.{Image}
-use Rattle.xt_stretch.specs.declared.Side.TheVariants.{Overflow, Underflow}
-use Rattle.xt_handlers.specs.declared.Handlers.{Handlers}
-use Rattle.xt_handlers.specs.Vectors.{verdict_of}
+use Rattle.xt_handlers.specs.Answers.{handlers_of}
 use Rattle.xt_core.specs.Runs.{code_of, records_of}
 use Rattle.xt_discipline.specs.Depths.{depths_before, judgement_before}
 use Rattle.xt_discipline.specs.Verdicts.{are_yes}
-
--- the answers of the check for the six window handlers from VECBASE on
-unfoldable pub handlers_of : (ℕ → ℕ) → ℕ → Handlers
-handlers_of code vecbase = record {
-  of4 = verdict_of code vecbase Overflow 1;
-  uf4 = verdict_of code vecbase Underflow 1;
-  of8 = verdict_of code vecbase Overflow 2;
-  uf8 = verdict_of code vecbase Underflow 2;
-  of12 = verdict_of code vecbase Overflow 3;
-  uf12 = verdict_of code vecbase Underflow 3;
-}
 
 -- of both cores after the judged steps before a position; none where the handlers do not pass the
 -- check, or a breach comes before the position

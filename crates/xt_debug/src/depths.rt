@@ -1,29 +1,16 @@
 //! How many frames of callers a core has.
-ghost use Rattle.std.specs.Prelude.{◌≡◌, ◌<◌, ◌≤◌, ◌%◌, IfOk, length};
+ghost use Rattle.std.specs.Prelude.{◌≡◌, ◌<◌, ◌≤◌, IfOk, length};
 ghost use Rattle.xt_map.specs.Placing.{IsPlaced};
 ghost use Rattle.xt_core.specs.Positions.{schedule_in};
-ghost use Rattle.xt_core.specs.Runs.{IsRunOf, code_of};
-ghost use Rattle.xt_debug.specs.Depths.{depth_at, depths_of, handlers_of, of_core};
+ghost use Rattle.xt_core.specs.Runs.{IsRunOf};
+ghost use Rattle.xt_debug.specs.Depths.{depth_at, depths_of, of_core};
 
 use std::alloc::{AllocError, Global};
 use xt_core::Cursor;
-use xt_discipline::depths;
-use xt_handlers::{Handlers, check};
+use xt_discipline::{depths, handlers_of};
 use xt_image::Image;
-use xt_map::Constants;
 use xt_replay::Replay;
 use xt_trace::Run;
-
-// The answers for the six window handlers of an image from `vecbase` on.
-#[tactic(auto, unfolding(crate::specs::Depths::handlers_of))]
-fn handlers_of(alloc: Global, image: &Image, vecbase: u32) -> Result<Handlers, AllocError>
-    requires placed { IsPlaced image.now.segments }
-    requires aligned { vecbase % 1024 ≡ 0 }
-    ensures { IfOk result (λ h. h ≡ handlers_of (code_of image.now) vecbase) }
-{
-    let code = Constants::make(alloc, image.segments.as_slice())?;
-    Ok(check(&code, vecbase))
-}
 
 // How many frames of callers both cores of a run of an image have after the judged steps before a
 // position.

@@ -1,13 +1,11 @@
 //! Positions that commands look for.
 ghost use Rattle.std.specs.Prelude.{◌≡◌, ◌<◌, ◌+◌};
 ghost use Rattle.std.specs.List.{list_any};
-ghost use Rattle.xt_map.specs.Regions.{is_memory, region_of};
 ghost use Rattle.xt_replay.specs.Shown.{moved};
 ghost use Rattle.xt_debug.specs.Runs.{Arrives};
 ghost use Rattle.xt_debug.specs.Searches.{break_position, end_of, is_next, stores, stores_at, stores_word, watch_position};
 
-use xt_map::regions::Region;
-use xt_map::{Entry, Kind, region};
+use xt_map::{Entry, Kind, is_in_memory};
 use xt_replay::Replay;
 
 /// The position behind a run's last step.
@@ -61,21 +59,12 @@ fn stores(kind: Kind, reply: u32) -> bool
     }
 }
 
-fn is_memory(addr: u32) -> bool
-    ensures { result ≡ is_memory (region_of addr) }
-{
-    matches!(
-        region(addr),
-        Some(Region::RtcFastData | Region::Dram | Region::RtcSlow)
-    )
-}
-
 // An entry stores into the word that holds an address.
 #[tactic(auto, unfolding(crate::specs::Searches::stores_at))]
 fn stores_at(addr: u32, entry: &Entry) -> bool
     ensures { result ≡ stores_at addr entry.now }
 {
-    is_memory(entry.access.addr)
+    is_in_memory(entry.access.addr)
         && entry.access.addr / 4 == addr / 4
         && stores(entry.access.kind, entry.reply)
 }

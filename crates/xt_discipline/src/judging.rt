@@ -1,8 +1,10 @@
 //! What is judged of a run.
 #![tactic(auto)]
 
-ghost use Rattle.std.specs.Prelude.{◌≡◌, ◌≤◌, IfOk, length};
+ghost use Rattle.std.specs.Prelude.{◌≡◌, ◌%◌, ◌≤◌, IfOk, length};
+ghost use Rattle.xt_map.specs.Memory.{constant_byte};
 ghost use Rattle.xt_map.specs.Placing.{IsPlaced};
+ghost use Rattle.xt_handlers.specs.Answers.{handlers_of};
 ghost use Rattle.xt_frames.specs.Verdict.{verdict};
 ghost use Rattle.xt_discipline.specs.Schedules.{HasSchedule, schedule_in};
 ghost use Rattle.xt_discipline.specs.Verdicts.{are_yes, is_yes, judgement_in};
@@ -10,7 +12,7 @@ ghost use Rattle.xt_discipline.specs.Verdicts.{are_yes, is_yes, judgement_in};
 use crate::walk::Walk;
 use std::alloc::{AllocError, Global};
 use xt_frames::Judged;
-use xt_handlers::Handlers;
+use xt_handlers::{Handlers, check};
 use xt_image::Image;
 use xt_map::Constants;
 use xt_stretch::HandlerVerdict;
@@ -35,6 +37,20 @@ pub fn are_yes(handlers: &Handlers) -> bool
         && is_yes(handlers.uf8)
         && is_yes(handlers.of12)
         && is_yes(handlers.uf12)
+}
+
+/// The answers for the six window handlers of an image from `vecbase` on. The only error is too
+/// little memory.
+///
+/// Conditions: `vecbase` is a multiple of 1024. The image's segments lie in one region each and share no byte, as those of every image
+/// that was read.
+pub fn handlers_of(alloc: Global, image: &Image, vecbase: u32) -> Result<Handlers, AllocError>
+    requires placed { IsPlaced image.now.segments }
+    requires aligned { vecbase % 1024 ≡ 0 }
+    ensures { IfOk result (λ h. h ≡ handlers_of (constant_byte image.now.segments) vecbase) }
+{
+    let code = Constants::make(alloc, image.segments.as_slice())?;
+    Ok(check(&code, vecbase))
 }
 
 /// What is judged of a run of an image, whose cores have these records: nothing where some window handler does not pass the check;

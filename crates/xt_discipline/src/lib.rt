@@ -10,6 +10,6 @@ mod side;
 mod walk;
 
 pub use callers::depths;
-pub use judging::judge;
+pub use judging::{handlers_of, judge};
 pub use order::{Schedule, schedule_of};
 pub use xt_frames::Judged;

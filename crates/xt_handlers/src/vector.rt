@@ -6,9 +6,9 @@ ghost use Rattle.xt_map.specs.Memory.{constant_byte};
 ghost use Rattle.xt_stretch.specs.Symbols.{Effect};
 ghost use Rattle.xt_stretch.specs.Handling.{ending, handling};
 ghost use Rattle.xt_stretch.specs.Spelled.{lines_of};
+ghost use Rattle.xt_handlers.specs.Answers.{handlers_of};
 ghost use Rattle.xt_handlers.specs.Flat.{Tracks};
 ghost use Rattle.xt_handlers.specs.Vectors.{vector_at, vector_bytes, verdict_of};
-ghost use Rattle.xt_stretch.specs.declared.Side.TheVariants.{Overflow, Underflow};
 
 use crate::spelled::step_of;
 use crate::{Evaluation, HandlerVerdict, Handlers, Side, Step};
@@ -117,14 +117,10 @@ fn vector_at(vecbase: u32, side: Side, n: u8) -> u32
 /// first instruction that is none of these, 64 where no ending comes, or the offset of the ending.
 ///
 /// Condition: `vecbase` is a multiple of 1024.
+#[tactic(auto, unfolding(crate::specs::Answers::handlers_of))]
 pub fn check(code: &Constants, vecbase: u32) -> Handlers
     requires aligned { vecbase % 2 ^ 10 ≡ 0 }
-    ensures of4 { result.of4 ≡ verdict_of (constant_byte code.now) vecbase Overflow 1 }
-    ensures uf4 { result.uf4 ≡ verdict_of (constant_byte code.now) vecbase Underflow 1 }
-    ensures of8 { result.of8 ≡ verdict_of (constant_byte code.now) vecbase Overflow 2 }
-    ensures uf8 { result.uf8 ≡ verdict_of (constant_byte code.now) vecbase Underflow 2 }
-    ensures of12 { result.of12 ≡ verdict_of (constant_byte code.now) vecbase Overflow 3 }
-    ensures uf12 { result.uf12 ≡ verdict_of (constant_byte code.now) vecbase Underflow 3 }
+    ensures { result ≡ handlers_of (constant_byte code.now) vecbase }
 {
     Handlers {
         of4: check_vector(code, vecbase, Side::Overflow, 1),

@@ -12,6 +12,10 @@ first-append [] ys = refl
 first-append (None ∷ xs) ys = first-append xs ys
 first-append (Some f ∷ xs) ys = refl
 
+pub or_nothing : {F : Type 0} (x : Option F) → or_else x None ≡ x
+or_nothing None = refl
+or_nothing (Some f) = refl
+
 pub in_first : {F : Type 0} (a b : List (Option F)) (f : F) → Some f ≡ first a → first (a ++ b) ≡ Some f
 in_first a b f h = first-append a b ∙ ap (λ x. or_else x (first b)) (sym h)
 

@@ -13,16 +13,14 @@ use Rattle.xt_runs.specs.Chip.{Chip}
 use Rattle.xt_runs.specs.Runs.{opened, run_at}
 use Rattle.xt_runs.specs.Runs as runs
 use Rattle.xt_runs.specs.Schedule.{cores_of, places_from, schedule}
-use Rattle.xt_runs.specs.Short.{ShortRun, ShortWorld, IsShortRunOf, short_advance, short_trace}
-use Rattle.xt_runs.specs.Short as short
+use Rattle.xt_runs.specs.Short.{ShortWorld, short_advance}
 use Rattle.xt_runs.specs.Traces.{Traced, stop_of}
 use Rattle.xt_runs.proofs.Ends.{run_at_is_run}
 use Rattle.xt_runs.proofs.Own.{own_schedule}
-use Rattle.xt_runs.proofs.Short.{run_has_schedule}
 use Rattle.xt_exec.specs.Chips.{processor}
 use Rattle.xt_exec.specs.State.{State}
 use Rattle.xt_core.specs.Runs.{IsRunOf, StandsFor, code_of, opening_of, records_of}
-use Rattle.xt_machine.specs.Lists.{HasSchedule, IsTraceIn, run_of_list, schedule_in, trace_for}
+use Rattle.xt_machine.specs.Lists.{run_of_list, schedule_in, trace_for}
 use Rattle.xt_machine.specs.Shorts.{opened_world, run_in}
 use Rattle.xt_machine.proofs.Rests.{list_finished}
 
@@ -76,24 +74,6 @@ own_list image r h =
     ap (λ (list : List ℕ). kept r.options (run_at P o list)) (ap (λ (s : Trace). order s r.trace1) t0 ∙ ap (order (trace_for 0 x.trace0)) t1)
     ∙ ap (kept r.options) (own_schedule P o x is)
     ∙ sym (ap (λ (s : Trace). made s r.trace1) t0 ∙ ap (made (trace_for 0 x.trace0)) t1)
-
-pub has_schedule : (image : Image) (r : Run) → IsRunOf image r → HasSchedule r
-has_schedule image r h =
-    let P = processor (code_of image) in
-    let o = opening_of image r.options in
-    let z0 = records_of 0 image r in
-    let z1 = records_of 1 image r in
-    let s : ShortRun State = record { history = r.history; trace0 = short_trace z0; trace1 = short_trace z1 } in
-    let is : IsShortRunOf P o s = record { legal = h.legal; cores = h.cores; trace0 = refl; trace1 = refl; calls0 = h.calls0; calls1 = h.calls1 } in
-    let has : short.HasSchedule P o s = run_has_schedule P o s is in
-    let F : Trace → Type 0 = λ t. IsTraceIn r.history 0 r.options.turns0 t in
-    let G : Trace → Type 0 = λ t. IsTraceIn r.history 1 r.options.turns1 t in
-    record {
-      valid = h.valid;
-      cores = h.cores;
-      trace0 = subst F (sym (stands_alone 0 z0 r.trace0 h.trace0)) (record { core_is = refl; short = has.turns0; rise = has.rise0; calls = has.calls0 });
-      trace1 = subst G (sym (stands_alone 1 z1 r.trace1 h.trace1)) (record { core_is = refl; short = has.turns1; rise = has.rise1; calls = has.calls1 });
-    }
 
 -- a list, core 0's rest and core 1's rest come to the run of the list
 pub comes_to_list : (image : Image) (o : Options) (list : List ℕ) (segments : List Segment) (w a b c : ShortWorld State) (r : Run) → segments ≡ image.segments

@@ -29,7 +29,7 @@ pub use laws::{
     overlap_is_a_shared_byte, ranges_as_regions, regions_as_ranges, stores_keep_other_bytes,
 };
 pub use lookup::region;
-pub use mapping::mapped;
+pub use mapping::{is_in_memory, mapped};
 pub use placing::{are_placed, is_placed, is_segment_loaded, share_bytes};
 pub use region_kinds::{UART_STATUS, UART_TRANSMIT, can_execute_at, is_constant_at};
 pub use segment::{Segment, Segments};

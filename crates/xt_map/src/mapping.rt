@@ -29,8 +29,9 @@ fn does_uart_take(kind: Kind) -> bool
     }
 }
 
+/// Whether an address lies in a region of memory that can be stored to.
 #[inline(always)]
-fn is_in_memory(addr: u32) -> bool
+pub fn is_in_memory(addr: u32) -> bool
     ensures { result ≡ is_memory (region_of addr) }
 {
     match region(addr) {

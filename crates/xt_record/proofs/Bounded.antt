@@ -27,6 +27,7 @@ use Rattle.xt_runs.specs.Schedule.{cores_of, places_from, schedule, schedule_in}
 use Rattle.xt_runs.specs.Traces.{ended, replies_past, reply_for, trace_over}
 use Rattle.xt_runs.specs.Walks.{IsWalk}
 use Rattle.xt_runs.specs.Worlds.{World, entry, give}
+use Rattle.xt_runs.proofs.Short.{trace_bound}
 use Rattle.xt_runs.proofs.Walks.{own_walk}
 use Rattle.xt_exec.specs.Chips.{processor, turn_asks}
 use Rattle.xt_exec.specs.Laws.{IsServed}
@@ -39,14 +40,6 @@ use Rattle.xt_record.specs.Fields.{checkpoint_size, words}
 use Rattle.xt_core.specs.Positions.{world_at}
 
 -- ---- how many
-
-trace_bound : {S : Type 0} (P : Chip S) (s : S) (n : ℕ) (rs : List ℕ) → length (trace_over P s n rs).records ≤ n
-trace_bound P s zero rs = omega arith
-trace_bound P s (suc n) rs =
-    let t = P.turn s (reply_for (P.demand s) rs) in
-    let rest = trace_over P t.1 n (replies_past (P.demand s) rs) in
-    let h : length rest.records ≤ n = trace_bound P t.1 n (replies_past (P.demand s) rs) in
-    elim (is_stop t.0.kind) as (λ b. suc (length (cond b (ended t.1) rest).records) ≤ suc n) [ true ↦ omega arith | false ↦ omega arith ]
 
 calls_few : (rs : List StepRecord) → length (calls_in rs) ≤ length rs
 calls_few [] = omega arith

@@ -16,7 +16,8 @@ use Rattle.xt_record.specs.declared.fault.RecordFault.TheVariants as fault
 use Rattle.xt_record.specs.declared.walk.Walk.{Walk}
 use Rattle.xt_record.specs.declared.walk.Walked.{Walked}
 use Rattle.xt_record.specs.Format.{run_with}
-use Rattle.xt_record.specs.Rules.{Finding, first, or_else}
+use Rattle.xt_image.specs.Findings.{first, or_else}
+use Rattle.xt_record.specs.Rules.{Finding}
 use Rattle.xt_record.specs.TurnRules.{rest_finding, walk_finding}
 use Rattle.xt_record.specs.Walking.{Arrives}
 use Rattle.xt_record.specs.Standing.{EndsAt, IsWalked, Walks, WentThrough, turn_rules}

@@ -23,7 +23,8 @@ use Rattle.xt_core.specs.Runs.{IsRunOf, records_of}
 use Rattle.xt_record.specs.declared.fault.RecordFault.{RecordFault}
 use Rattle.xt_record.specs.declared.fault.RecordFault.TheVariants as fault
 use Rattle.xt_record.specs.Format.{run_with}
-use Rattle.xt_record.specs.Rules.{Finding, fails, first, or_else}
+use Rattle.xt_image.specs.Findings.{fails, first, or_else}
+use Rattle.xt_record.specs.Rules.{Finding}
 use Rattle.xt_record.specs.Standing.{turn_rules}
 use Rattle.xt_record.specs.TurnRules.{calls_before, entry_finding, first_difference, is_call, place_of, rest_finding, right_reply, same_access, same_kind, walk_finding}
 use Rattle.xt_record.proofs.Again.{run_again}

@@ -6,7 +6,6 @@ pub mod Rereading
 pub mod Again
 pub mod Ending
 pub mod Putting
-pub mod Firsts
 pub mod Parting
 pub mod Turns
 pub mod Pointing

@@ -13,8 +13,9 @@ use Rattle.xt_record.specs.declared.fault.RecordFault.TheVariants as fault
 use Rattle.xt_record.specs.declared.parts.Parts.{Parts}
 use Rattle.xt_record.specs.Fields.{behind_image, entry_of, image_length, image_part, options_at, raws_in, version}
 use Rattle.xt_record.specs.Heads.{HasParts, IsParts}
-use Rattle.xt_record.specs.Rules.{Finding, first, head_rules, image_finding, options_finding, or_else, part_rules, shape_finding}
-use Rattle.xt_record.proofs.Firsts.{first_append}
+use Rattle.xt_image.specs.Findings.{first, or_else}
+use Rattle.xt_record.specs.Rules.{Finding, head_rules, image_finding, options_finding, part_rules, shape_finding}
+use Rattle.xt_image.proofs.Findings.{first-append}
 
 by_findings : (bytes : List ℕ) (h i o s : Finding) → first (head_rules bytes) ≡ h → image_finding bytes ≡ i
     → options_finding (version bytes) (options_at (behind_image bytes) 0) ≡ o → shape_finding 0 (raws_in (behind_image bytes)) ≡ s
@@ -23,7 +24,7 @@ by_findings bytes h i o s is_head is_image is_options is_shape =
     let rest = behind_image bytes in
     let options = options_finding (version bytes) (options_at rest 0) in
     let shape = shape_finding 0 (raws_in rest) in
-    first_append (head_rules bytes) (image_finding bytes ∷ options ∷ shape ∷ [])
+    first-append (head_rules bytes) (image_finding bytes ∷ options ∷ shape ∷ [])
     ∙ ap (λ (x : Finding). or_else x (or_else (image_finding bytes) (or_else options (or_else shape None)))) is_head
     ∙ ap (λ (x : Finding). or_else h (or_else x (or_else options (or_else shape None)))) is_image
     ∙ ap (λ (x : Finding). or_else h (or_else i (or_else x (or_else shape None)))) is_options

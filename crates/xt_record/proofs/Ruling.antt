@@ -16,10 +16,11 @@ use Rattle.xt_record.specs.Fields as field
 use Rattle.xt_record.specs.Fields.{behind_image, checkpoints_in, image_in, options_at, raws_in, version}
 use Rattle.xt_record.specs.Format.{Reads, recording_fault, run_in, run_with}
 use Rattle.xt_record.specs.Heads.{ReadsParts}
-use Rattle.xt_record.specs.Rules.{part_rules, Finding, first, or_else}
+use Rattle.xt_image.specs.Findings.{first, or_else}
+use Rattle.xt_record.specs.Rules.{part_rules, Finding}
 use Rattle.xt_record.specs.TurnRules.{checkpoint_finding, first_difference, run_rules}
 use Rattle.xt_record.specs.Standing.{Walks, turn_rules}
-use Rattle.xt_record.proofs.Firsts.{first_append, or_else_none}
+use Rattle.xt_image.proofs.Findings.{first-append, or_nothing}
 
 -- the findings of a run, the turns first
 abbrev pub verdict : List ℕ → Image → Run → Finding
@@ -30,10 +31,10 @@ unfolding recording_fault
 whole bytes =
     let rest = behind_image bytes in
     let rules = run_rules bytes (image_in bytes) (run_in bytes) in
-    first_append (part_rules bytes) rules
+    first-append (part_rules bytes) rules
     ∙ ap (or_else (first (part_rules bytes)))
-    (first_append (turn_rules (image_in bytes) (run_in bytes)) (checkpoint_finding (version bytes) rest (image_in bytes) (run_in bytes) ∷ [])
-    ∙ ap (or_else (first (turn_rules (image_in bytes) (run_in bytes)))) (or_else_none (checkpoint_finding (version bytes) rest (image_in bytes) (run_in bytes))))
+    (first-append (turn_rules (image_in bytes) (run_in bytes)) (checkpoint_finding (version bytes) rest (image_in bytes) (run_in bytes) ∷ [])
+    ∙ ap (or_else (first (turn_rules (image_in bytes) (run_in bytes)))) (or_nothing (checkpoint_finding (version bytes) rest (image_in bytes) (run_in bytes))))
 
 pub by_parts : (bytes : List ℕ) (finding : Finding) → first (part_rules bytes) ≡ finding
     → recording_fault bytes ≡ or_else finding (verdict bytes (image_in bytes) (run_in bytes))

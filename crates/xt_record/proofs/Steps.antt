@@ -30,7 +30,8 @@ use Rattle.xt_core.specs.Runs.{code_of, memory_of, opening_of, records_of}
 use Rattle.xt_record.specs.declared.fault.RecordFault.TheVariants as fault
 use Rattle.xt_record.specs.declared.setting.Setting.{Setting}
 use Rattle.xt_record.specs.Format.{run_with}
-use Rattle.xt_record.specs.Rules.{Finding, fails}
+use Rattle.xt_image.specs.Findings.{fails}
+use Rattle.xt_record.specs.Rules.{Finding}
 use Rattle.xt_record.specs.TurnRules.{calls_before, entry_finding, is_call, place_of, right_reply, same_access}
 use Rattle.xt_record.specs.Walking.{Comes, HasRoom, IsWanted, Took, beside, finding_at, line_at}
 use Rattle.xt_record.specs.Standing.{StandsAt, opening_world, order_left}

@@ -20,7 +20,8 @@ use Rattle.xt_exec.specs.Turn.{turn}
 use Rattle.xt_core.specs.Cores.{AwaitsReply, Asks, CoreState, turned}
 use Rattle.xt_record.specs.declared.fault.RecordFault.TheVariants as fault
 use Rattle.xt_record.specs.declared.setting.Setting.{Setting}
-use Rattle.xt_record.specs.Rules.{Finding, fails}
+use Rattle.xt_image.specs.Findings.{fails}
+use Rattle.xt_record.specs.Rules.{Finding}
 use Rattle.xt_record.specs.TurnRules.{same_access, same_kind}
 use Rattle.xt_record.specs.Walking.{Arrives, Comes, IsNext, IsWanted, Took, beside, finding_at, line_at}
 use Rattle.xt_record.proofs.Turns.{advance_append, call_turn}

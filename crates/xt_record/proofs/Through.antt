@@ -15,7 +15,8 @@ use Rattle.xt_record.specs.declared.fault.RecordFault.{RecordFault}
 use Rattle.xt_record.specs.declared.fault.RecordFault.TheVariants as fault
 use Rattle.xt_record.specs.declared.walk.Walk.{Walk}
 use Rattle.xt_record.specs.Format.{run_with}
-use Rattle.xt_record.specs.Rules.{Finding, or_else}
+use Rattle.xt_image.specs.Findings.{or_else}
+use Rattle.xt_record.specs.Rules.{Finding}
 use Rattle.xt_record.specs.TurnRules.{entry_finding, walk_finding}
 use Rattle.xt_record.specs.Walking.{Comes, Took}
 use Rattle.xt_record.specs.Standing.{IsSame, Stands, StandsAt, TakesAt, run_in}

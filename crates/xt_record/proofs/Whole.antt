@@ -31,7 +31,8 @@ use Rattle.xt_record.specs.Fields.{behind_image, checkpoint_count, checkpoint_si
 use Rattle.xt_record.specs.Fitting.{FitsRun}
 use Rattle.xt_record.specs.Format.{recording_fault, run_in, run_with}
 use Rattle.xt_record.specs.Parts.{entry_bytes, options_bytes}
-use Rattle.xt_record.specs.Rules.{Finding, fails, first, is_entry, is_valid, is_valid_stack, options_finding, or_else, part_rules, shape_finding}
+use Rattle.xt_image.specs.Findings.{fails, first, or_else}
+use Rattle.xt_record.specs.Rules.{Finding, is_entry, is_valid, is_valid_stack, options_finding, part_rules, shape_finding}
 use Rattle.xt_record.specs.Standing.{turn_rules}
 use Rattle.xt_record.specs.TurnRules.{checkpoint_finding, first_difference}
 use Rattle.xt_record.specs.Written.{recording_bytes}

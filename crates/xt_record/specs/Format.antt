@@ -15,7 +15,8 @@ use Rattle.xt_record.specs.declared.fault.RecordFault.{RecordFault}
 use Rattle.xt_record.specs.declared.fault.RecordFault.TheVariants as fault
 use Rattle.xt_record.specs.Fields as field
 use Rattle.xt_record.specs.Fields.{behind_image, image_in, options_at, raws_in}
-use Rattle.xt_record.specs.Rules.{Finding, first, part_rules}
+use Rattle.xt_image.specs.Findings.{first}
+use Rattle.xt_record.specs.Rules.{Finding, part_rules}
 use Rattle.xt_record.specs.TurnRules.{run_rules}
 
 -- what is kept of a core's trace over the replies of its entries

@@ -15,7 +15,8 @@ use Rattle.xt_record.specs.declared.fault.RecordFault.TheVariants as fault
 use Rattle.xt_record.specs.declared.parts.Parts.{Parts}
 use Rattle.xt_record.specs.Fields.{behind_image, entry_of, image_in, image_length, length_behind}
 use Rattle.xt_record.specs.Fields.{options_at, raws_in, version}
-use Rattle.xt_record.specs.Rules.{first, part_rules, shape_finding}
+use Rattle.xt_image.specs.Findings.{first}
+use Rattle.xt_record.specs.Rules.{part_rules, shape_finding}
 
 pub record HasParts (bytes : List ℕ) : Type 0 where
   pub long : 12 + image_length bytes ≤ length bytes

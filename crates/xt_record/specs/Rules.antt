@@ -10,6 +10,7 @@ use Rattle.xt_map.specs.Regions.{is_executable, is_mapped, region_of}
 use Rattle.xt_trace.specs.declared.options.Options.{Options}
 use Rattle.xt_trace.specs.declared.options.Stack.{Stack}
 use Rattle.xt_trace.specs.Validity.{most_turns}
+use Rattle.xt_image.specs.Findings.{fails}
 use Rattle.xt_image.specs.Rules.{image_fault}
 use Rattle.xt_record.specs.declared.fault.RecordFault.{RecordFault}
 use Rattle.xt_record.specs.declared.fault.RecordFault.TheVariants as fault
@@ -19,19 +20,6 @@ use Rattle.xt_record.specs.Fields.{magic, options_at, raws_in, version}
 
 abbrev pub Finding : Type 0
 Finding = Option RecordFault
-
--- the fault, where the rule fails
-abbrev pub fails : Bool → RecordFault → Finding
-fails b f = if b then Some f else None
-
-abbrev pub or_else : Finding → Finding → Finding
-or_else (Some f) next = Some f
-or_else None next = next
-
--- the first of the findings
-abbrev pub first : List Finding → Finding
-first [] = None
-first (x ∷ xs) = or_else x (first xs)
 
 -- ---- the head, and how long the parts are
 

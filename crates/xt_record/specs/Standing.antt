@@ -23,7 +23,8 @@ use Rattle.xt_record.specs.declared.walk.Walk.{Walk}
 use Rattle.xt_record.specs.declared.walk.Walked.{Walked}
 use Rattle.xt_record.specs.Checkpoints.{checkpoints_of}
 use Rattle.xt_record.specs.Format.{run_with}
-use Rattle.xt_record.specs.Rules.{Finding, first}
+use Rattle.xt_image.specs.Findings.{first}
+use Rattle.xt_record.specs.Rules.{Finding}
 use Rattle.xt_record.specs.TurnRules.{rest_finding, walk_finding}
 use Rattle.xt_record.specs.Walking.{Ends, HasRoom, Takes, beside, line_at, points_along}
 

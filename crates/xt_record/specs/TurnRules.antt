@@ -21,7 +21,8 @@ use Rattle.xt_core.specs.Runs.{memory_of, records_of}
 use Rattle.xt_record.specs.declared.fault.RecordFault.TheVariants as fault
 use Rattle.xt_record.specs.Fields.{behind_image, checkpoints_in, version}
 use Rattle.xt_record.specs.Checkpoints.{checkpoints_of}
-use Rattle.xt_record.specs.Rules.{Finding, fails, or_else}
+use Rattle.xt_image.specs.Findings.{fails, or_else}
+use Rattle.xt_record.specs.Rules.{Finding}
 
 -- ---- the entries as the accesses of a run
 

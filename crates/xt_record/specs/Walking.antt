@@ -20,7 +20,8 @@ use Rattle.xt_record.specs.declared.fault.RecordFault.{RecordFault}
 use Rattle.xt_record.specs.declared.fault.RecordFault.TheVariants as fault
 use Rattle.xt_record.specs.declared.setting.Setting.{Setting}
 use Rattle.xt_record.specs.Checkpoints.{checkpoint_bytes, is_due}
-use Rattle.xt_record.specs.Rules.{Finding, fails}
+use Rattle.xt_image.specs.Findings.{fails}
+use Rattle.xt_record.specs.Rules.{Finding}
 use Rattle.xt_record.specs.TurnRules.{same_access}
 
 -- ---- worlds

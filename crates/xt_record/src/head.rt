@@ -1,7 +1,8 @@
 //! The head of a recording, and how long its parts are.
 ghost use Rattle.std.specs.Prelude.{◌≡◌, ◌<◌, length, IfSome, IsNone};
 ghost use Rattle.xt_record.specs.Fields.{length_behind};
-ghost use Rattle.xt_record.specs.Rules.{first, head_rules, length_rules};
+ghost use Rattle.xt_image.specs.Findings.{first};
+ghost use Rattle.xt_record.specs.Rules.{head_rules, length_rules};
 ghost use Rattle.xt_record.specs.Heads.{HasParts};
 
 use crate::fault::RecordFault;

@@ -11,16 +11,15 @@ use Rattle.xt_image.specs.declared.image.Image.{Image}
 use Rattle.xt_runs.specs.Alone.{answer, memory_left}
 use Rattle.xt_runs.specs.Runs as runs
 use Rattle.xt_runs.specs.Schedule.{cores_of, places_from, schedule}
-use Rattle.xt_runs.specs.Short.{HasSchedule, IsShortRunOf, ShortRun, short_trace}
 use Rattle.xt_runs.specs.Walks.{state_at}
 use Rattle.xt_runs.specs.Worlds.{Core, Line, World, core_past, left_past, line_past, entry, give}
 use Rattle.xt_runs.proofs.Ends.{left_at_most}
-use Rattle.xt_runs.proofs.Short.{run_has_schedule}
 use Rattle.xt_exec.specs.Chips.{processor}
 use Rattle.xt_exec.specs.State.{State}
 use Rattle.xt_exec.specs.Turn.{demand, turn}
 use Rattle.xt_core.specs.Positions.{schedule_in, world_at}
 use Rattle.xt_core.specs.Runs.{IsRunOf, code_of, memory_of, opening_of, records_of, stack_words}
+use Rattle.xt_core.proofs.Scheduled.{has_schedule}
 use Rattle.xt_replay.specs.Stands.{Fits, Side, Stand, entries_past, left_of, next_of, side_in, side_past, stand_in, stand_opening, stand_past}
 use Rattle.xt_replay.proofs.Walking.{At, Turn, at, core_turned, history_at, line_turned, long, next_turn, state_on, turn0, turn1}
 
@@ -215,14 +214,8 @@ pub record Bounds (r : Run) : Type 0 where
 
 pub bounds : (image : Image) (r : Run) → IsRunOf image r → Bounds r
 bounds image r h =
-    let P = processor (code_of image) in
-    let o = opening_of image r.options in
-    let s : ShortRun State = record { history = r.history; trace0 = short_trace (records_of 0 image r); trace1 = short_trace (records_of 1 image r) } in
-    let is : IsShortRunOf P o s = record { legal = h.legal; cores = h.cores; trace0 = refl; trace1 = refl; calls0 = h.calls0; calls1 = h.calls1 } in
-    let has : HasSchedule P o s = run_has_schedule P o s is in
-    let few0 : length (records_of 0 image r).records ≤ r.options.turns0 = has.turns0 in
-    let few1 : length (records_of 1 image r).records ≤ r.options.turns1 = has.turns1 in
+    let has = has_schedule image r h in
     record {
-      count0 = omega (arith, few0, h.trace0.count_is, h.valid.turns0);
-      count1 = omega (arith, few1, h.trace1.count_is, h.valid.turns1);
+      count0 = omega (arith, has.trace0.short, has.valid.turns0);
+      count1 = omega (arith, has.trace1.short, has.valid.turns1);
     }

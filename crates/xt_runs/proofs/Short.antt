@@ -92,7 +92,7 @@ short_world_advanced P [] w = refl
 short_world_advanced P (c ∷ cs) w = short_world_advanced P cs (give P c w) ∙ ap (short_advance P cs) (short_world_given P c w)
 
 -- a run of an opening has a schedule
-trace_bound : {S : Type 0} (P : Chip S) (s : S) (n : ℕ) (rs : List ℕ) → length (trace_over P s n rs).records ≤ n
+pub trace_bound : {S : Type 0} (P : Chip S) (s : S) (n : ℕ) (rs : List ℕ) → length (trace_over P s n rs).records ≤ n
 trace_bound P s zero rs = omega arith
 trace_bound P s (suc n) rs =
     let t = P.turn s (reply_for (P.demand s) rs) in

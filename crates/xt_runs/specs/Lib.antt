@@ -7,4 +7,5 @@ pub mod Runs
 pub mod Driven
 pub mod Reached
 pub mod Short
+pub mod Scheduled
 pub mod Walks

@@ -4,8 +4,8 @@ use Rattle.xt_handlers.specs.declared.Handlers.{Handlers}
 use Rattle.xt_core.specs.Runs.{code_of}
 use Rattle.xt_discipline.specs.Depths.{depths_before, judgement_before}
 use Rattle.xt_discipline.specs.Verdicts.{are_yes}
-use Rattle.xt_debug.specs.Depths.{handlers_of}
-use Rattle.xt_debug.proofs.Schedules.{has_schedule}
+use Rattle.xt_handlers.specs.Answers.{handlers_of}
+use Rattle.xt_core.proofs.Scheduled.{has_schedule}
 use Rattle.xt_debug.proofs.depths.depths_of.Goals as goal
 
 pub depths-requires-clause-schedule : goal.depths-requires-clause-schedule

@@ -1,4 +1,4 @@
-use Rattle.xt_machine.proofs.Images.{has_schedule}
+use Rattle.xt_core.proofs.Scheduled.{has_schedule}
 use Rattle.xt_machine.proofs.laws.run_has_schedule.Goals as goal
 
 pub returns : goal.returns

@@ -1,7 +1,7 @@
 use Rattle.std.proofs.Common.{List, sym, ap, ◌∙◌, subst}
 use Rattle.xt_map.specs.declared.access.Entry.{Entry}
 use Rattle.xt_record.specs.Format.{run_with}
-use Rattle.xt_record.specs.Rules.{first}
+use Rattle.xt_image.specs.Findings.{first}
 use Rattle.xt_record.specs.Standing.{IsWalked, turn_rules}
 use Rattle.xt_record.proofs.Again.{points_again}
 use Rattle.xt_record.proofs.Lawful.{no_fault}

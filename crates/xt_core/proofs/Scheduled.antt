@@ -5,6 +5,7 @@ use Rattle.xt_trace.specs.declared.run.Run.{Run}
 use Rattle.xt_trace.specs.declared.trace.Trace.{Trace}
 use Rattle.xt_image.specs.declared.image.Image.{Image}
 use Rattle.xt_runs.specs.Schedule.{places_from}
+use Rattle.xt_runs.specs.Scheduled.{HasSchedule}
 use Rattle.xt_runs.specs.Short.{IsRising, IsShortRunOf, ShortRun, short_trace}
 use Rattle.xt_runs.specs.Short as short
 use Rattle.xt_runs.specs.Traces.{Traced}
@@ -12,7 +13,6 @@ use Rattle.xt_runs.proofs.Short.{run_has_schedule}
 use Rattle.xt_exec.specs.Chips.{processor}
 use Rattle.xt_exec.specs.State.{State}
 use Rattle.xt_core.specs.Runs.{IsRunOf, StandsFor, code_of, opening_of, records_of}
-use Rattle.xt_discipline.specs.Schedules.{HasSchedule}
 
 -- the trace of a core, by what is known of its records
 traced : (core turns calls : ℕ) (z : Traced State) (t : Trace) → StandsFor core z t → length z.records ≤ turns → IsRising 0 (places_from 0 z.records) (length z.records) → length (places_from 0 z.records) ≡ calls
