@@ -5,7 +5,6 @@ pub mod Calls
 pub mod Moved
 pub mod Seeing
 pub mod Walking
-pub mod Along
 pub mod Opens
 pub mod Orders
 pub mod Lengths

@@ -1,5 +1,5 @@
 -- The walk over the records of both cores is that of the definition of the verdict.
-use Rattle.std.proofs.Common.{Vec, Global, ◌≡◌, ℕ, suc, ◌+◌, ◌<◌, ◌≤◌, Bool, Result, Ok, Err, List, [], ◌∷◌, length, drop, get_or, refl, sym, ◌∙◌, ap, subst, arith}
+use Rattle.std.proofs.Common.{Vec, Global, ◌≡◌, ℕ, suc, ◌+◌, ◌<◌, ◌≤◌, ◌^◌, Bool, Result, Ok, Err, List, [], ◌∷◌, length, drop, get_or, refl, sym, ◌∙◌, ap, subst, arith}
 use Rattle.std.proofs.lemmas.List.{drop_more, drop_all, take_at}
 use Rattle.std.specs.Vec.{with_items}
 use Rattle.xt_map.specs.Memory.{constant_byte}
@@ -205,6 +205,16 @@ pub reach_ends : (code : ℕ → ℕ) (w new : Walk) (b0 b1 : Bounds) (k : Known
 reach_ends code w new b0 b1 k cs i core d xs ys xs1 ys1 xs2 ys2 j lt is r t =
     let split : drop i cs ≡ core ∷ drop (i + 1) cs = drop_more cs i d lt ∙ ap (λ (c : ℕ). c ∷ drop (i + 1) cs) (sym is) in
     t (drop (i + 1) cs) ∙ ap (λ (v : Judgement). verdict_on v.breach) (sym (r.judged ∙ ap (λ (l : List ℕ). judgement code b0 b1 l xs1 ys1 r.known) split))
+
+pub reach_room : (code : ℕ → ℕ) (old w : Walk) (b0 b1 : Bounds) (k : Known) (cs : List ℕ) (i : ℕ) (xs ys xs1 ys1 : List StepRecord) → Knows old b0 b1 k → Reaches code b0 b1 k cs xs ys w i xs1 ys1
+    → i < length cs → old.side0.steps + old.side1.steps + length cs < 2 ^ 32 → w.side0.steps + w.side1.steps + 1 < 2 ^ 32
+reach_room code old w b0 b1 k cs i xs ys xs1 ys1 h r lt room =
+    let s0 : w.side0.steps ≡ r.known.steps0 = r.knows.zero.steps_are in
+    let s1 : w.side1.steps ≡ r.known.steps1 = r.knows.one.steps_are in
+    let sum : r.known.steps0 + r.known.steps1 ≡ k.steps0 + k.steps1 + i = r.steps in
+    let a0 : old.side0.steps ≡ k.steps0 = h.zero.steps_are in
+    let a1 : old.side1.steps ≡ k.steps1 = h.one.steps_are in
+    omega (arith, s0, s1, sum, a0, a1, lt, room)
 
 pub reach_all : (code : ℕ → ℕ) (w : Walk) (b0 b1 : Bounds) (k : Known) (cs : List ℕ) (i : ℕ) (xs ys xs1 ys1 : List StepRecord) → length cs ≤ i
     → Reaches code b0 b1 k cs xs ys w i xs1 ys1 → Whole ≡ verdict_on (judgement code b0 b1 cs xs ys k).breach

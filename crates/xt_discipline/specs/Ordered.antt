@@ -1,28 +1,52 @@
 -- Carries a proof; nothing that a reader must believe.
--- How far a schedule is written.
-use Rattle.std.specs.Prelude.{◌≡◌, ℕ, ◌+◌, ◌≤◌, List, ◌++◌, length, drop}
+-- What is left of the order of a run's turns.
+use Rattle.std.specs.Prelude.{◌≡◌, ℕ, suc, ◌-◌, ◌<◌, ◌≤◌, List, [], ◌∷◌, ◌++◌, length, replicate}
+use Rattle.std.specs.Prelude.{slice_index}
 use Rattle.xt_map.specs.declared.access.Entry.{Entry}
-use Rattle.xt_map.specs.History.{calls_of}
-use Rattle.xt_trace.specs.declared.run.Run.{Run}
+use Rattle.xt_map.specs.History.{IsOfCores, calls_of}
 use Rattle.xt_runs.specs.Schedule.{cores_of, schedule_from}
 use Rattle.xt_runs.specs.Short.{IsRising}
-use Rattle.xt_discipline.specs.Schedules.{schedule_in}
+use Rattle.xt_discipline.specs.declared.order.Order.{Order}
+use Rattle.xt_discipline.specs.declared.order.Stretch.{Stretch}
 
--- Of the places of a core's accesses so many are past, and the turns before `next` are written. The
--- others rise from there to below the count, and the entries that are left
--- have as many of this core.
-pub record Comes (left : List Entry) (core : ℕ) (places : List ℕ) (past next count : ℕ)
-    : Type 0 where
-  pub bound : past ≤ length places
-  pub within : next ≤ count
-  pub rise : IsRising next (drop past places) count
-  pub calls : length (calls_of core left) + past ≡ length places
+-- the places that are left rise to below the count, and are as many as the entries of the core
+pub record Comes (entries : List Entry) (core : ℕ) (s : Stretch) : Type 0 where
+  pub within : s.past ≤ s.count
+  pub rise : IsRising s.past s.places.now s.count
+  pub calls : length (calls_of core entries) ≡ length s.places.now
 
--- so many of the history's entries are written
-pub record IsWritten (r : Run) (entries : ℕ) (list : List ℕ) (past0 next0 past1 next1 : ℕ)
-    : Type 0 where
-  pub zero : Comes (drop entries r.history) 0 r.trace0.places past0 next0 r.trace0.count
-  pub one : Comes (drop entries r.history) 1 r.trace1.places past1 next1 r.trace1.count
-  pub whole : list ++ schedule_from (cores_of (drop entries r.history))
-      next0 (drop past0 r.trace0.places) r.trace0.count
-      next1 (drop past1 r.trace1.places) r.trace1.count ≡ schedule_in r
+pub record AreLeft (entries : List Entry) (z w : Stretch) : Type 0 where
+  pub cores : IsOfCores entries
+  pub zero : Comes entries 0 z
+  pub one : Comes entries 1 w
+
+abbrev pub IsOrder : Order → Type 0
+IsOrder o = AreLeft o.entries.now o.zero o.one
+
+-- the turns behind those that come first, and all
+abbrev pub turns_behind : Order → List ℕ
+turns_behind o = schedule_from (cores_of o.entries.now)
+    o.zero.past o.zero.places.now o.zero.count o.one.past o.one.places.now o.one.count
+
+abbrev pub turns_left : Order → List ℕ
+turns_left o = replicate o.times o.core ++ turns_behind o
+
+-- an access comes
+pub record HasAccess (s : Stretch) : Type 0 where
+  pub more : 0 < length s.places.now
+  pub low : s.past ≤ slice_index s.places.now 0
+  pub high : slice_index s.places.now 0 < s.count
+
+-- so many turns are passed, up to and with the next access
+pub record IsUpto (old new : Stretch) (times : ℕ) : Type 0 where
+  pub split : old.places.now ≡ slice_index old.places.now 0 ∷ new.places.now
+  pub past : new.past ≡ suc (slice_index old.places.now 0)
+  pub count : new.count ≡ old.count
+  pub times_are : times ≡ new.past - old.past
+  pub some : 0 < times
+
+-- so many turns of a core are passed
+pub record IsPiece (old new : Order) (core times : ℕ) : Type 0 where
+  pub order : IsOrder new
+  pub turns : turns_behind old ≡ replicate times core ++ turns_behind new
+  pub none : times ≡ 0 → turns_behind old ≡ []

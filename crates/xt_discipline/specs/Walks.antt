@@ -1,7 +1,7 @@
 -- Carries a proof; nothing that a reader must believe.
 -- The walk over the records of both cores: what it knows is what the
 -- definition of the verdict knows.
-use Rattle.std.specs.Prelude.{◌≡◌, ℕ, suc, ◌+◌, Bool, Result, Ok, Err, List, [], ◌∷◌, ◌++◌, length}
+use Rattle.std.specs.Prelude.{◌≡◌, ℕ, suc, ◌+◌, Bool, Result, Ok, Err, List, [], ◌∷◌, length}
 use Rattle.std.specs.Prelude.{drop}
 use Rattle.xt_map.specs.Memory.{constant_byte}
 use Rattle.xt_map.specs.declared.segment.Segment.{Segment}
@@ -77,15 +77,6 @@ pub record Reaches
   pub code_is : constant_byte w.code ≡ code
   pub judged : judgement code b0 b1 schedule xs ys k
       ≡ judgement code b0 b1 (drop turns schedule) xs' ys' known
-
--- these turns are walked, behind which the rest of a schedule comes; or what is judged of the run
-abbrev pub GoesOn :
-    (ℕ → ℕ) → Bounds → Bounds → Known → List ℕ → List ℕ → List StepRecord → List StepRecord → Walk
-    → List StepRecord → List StepRecord → Result Unit Judged → Type 0
-GoesOn code b0 b1 k front rest xs ys new xs' ys' (Ok u) =
-    Reaches code b0 b1 k (front ++ rest) xs ys new (length front) xs' ys'
-GoesOn code b0 b1 k front rest xs ys new xs' ys' (Err j) =
-    j ≡ verdict_on (judgement code b0 b1 (front ++ rest) xs ys k).breach
 
 -- what is judged of a run whose walk ends so
 abbrev pub found_on : Result Unit Judged → Judged

@@ -1,10 +1,13 @@
-//! The schedule of a run.
-ghost use Rattle.std.specs.Prelude.{◌≡◌, ◌++◌, ◌+◌, ◌<◌, ◌≤◌, All, IfOk, OnOk, length, replicate};
+//! The schedule of a run, and the order of its turns.
+ghost use Rattle.std.specs.Prelude.{◌≡◌, ◌+◌, ◌<◌, ◌≤◌, All, IfOk, length};
+ghost use Rattle.std.specs.Iterator.{YieldsFirst, item_count};
+ghost use Rattle.xt_discipline.specs.Ordered.{HasAccess, IsOrder, IsPiece, IsUpto, turns_left};
 ghost use Rattle.xt_discipline.specs.Schedules.{HasSchedule, schedule_in};
 
 use std::alloc::{AllocError, Global};
 use std::marker::Model;
-use xt_trace::Run;
+use xt_map::Entry;
+use xt_trace::{Run, Trace};
 
 /// A list of cores, each 0 or 1, one for each turn. Contracts see the list.
 #[derive(Drop)]
@@ -43,14 +46,124 @@ impl Schedule {
     }
 }
 
-// Writes a core so many times.
-fn repeat(list: &mut Vec<u8>, core: u8, times: u32) -> Result<(), AllocError>
-    ensures { OnOk result (list.new.items ≡ list.old.items ++ replicate times core) }
-{
-    for _turn in 0..times {
-        list.push(core)?;
+/// What is left of a core's turns.
+#[derive(Drop)]
+struct Stretch<'a> {
+    // The numbers of those with an access.
+    places: &'a [u32],
+    // How many turns are past, of how many.
+    past: u32,
+    count: u32,
+}
+
+impl<'a> Stretch<'a> {
+    fn of(trace: &'a Trace) -> Stretch<'a>
+        ensures places { result.places.now ≡ trace.now.places }
+        ensures past { result.past ≡ 0 }
+        ensures count { result.count ≡ trace.now.count }
+    {
+        Stretch {
+            places: trace.places.as_slice(),
+            past: 0,
+            count: trace.count,
+        }
     }
-    Ok(())
+
+    // Passes the turns up to and with the next access: how many.
+    fn upto_access(&mut self) -> u32
+        requires { HasAccess self.old }
+        ensures { IsUpto self.old self.new result }
+    {
+        let upto = self.places[0] + 1;
+        let times = upto - self.past;
+        self.places = &self.places[1..];
+        self.past = upto;
+        times
+    }
+
+    // Passes all the turns: how many.
+    fn rest(&mut self) -> u32
+        requires { self.old.past ≤ self.old.count }
+        ensures times { result + self.old.past ≡ self.old.count }
+        ensures rest { self.new ≡ record self.old { past = self.old.count } }
+    {
+        let times = self.count - self.past;
+        self.past = self.count;
+        times
+    }
+}
+
+/// What is left of the turns of a run in the order of its schedule, which is never written down: an
+/// iterator over their cores.
+#[derive(Drop)]
+pub struct Order<'a> {
+    // The entries of the history that come.
+    entries: &'a [Entry],
+    zero: Stretch<'a>,
+    one: Stretch<'a>,
+    // So many turns of this core come first.
+    core: u8,
+    times: u32,
+}
+
+impl<'a> Order<'a> {
+    /// All the turns of a run.
+    pub fn of(run: &'a Run) -> Order<'a>
+        requires { HasSchedule run.now }
+        ensures order { IsOrder result }
+        ensures left { turns_left result ≡ schedule_in run.now }
+    {
+        Order {
+            entries: run.history.as_slice(),
+            zero: Stretch::of(&run.trace0),
+            one: Stretch::of(&run.trace1),
+            core: 0,
+            times: 0,
+        }
+    }
+
+    // Passes the turns of one core that come next in a row: the core, and how many. There are none
+    // behind the last turn.
+    fn piece(&mut self) -> (u8, u32)
+        requires { IsOrder self.old }
+        ensures { IsPiece self.old self.new result.0 result.1 }
+    {
+        if let Some((entry, rest)) = self.entries.split_first() {
+            self.entries = rest;
+            if entry.core == 0 {
+                (0, self.zero.upto_access())
+            } else {
+                (1, self.one.upto_access())
+            }
+        } else if self.zero.past < self.zero.count {
+            (0, self.zero.rest())
+        } else {
+            (1, self.one.rest())
+        }
+    }
+}
+
+impl Iterator for Order<'_> {
+    type Item = u8;
+
+    ghost can_next = { IsOrder };
+
+    ghost next_gives = { YieldsFirst turns_left };
+
+    ghost remaining = { item_count turns_left };
+
+    fn next(&mut self) -> Option<u8> {
+        if self.times == 0 {
+            let (core, times) = self.piece();
+            self.core = core;
+            self.times = times;
+            if times == 0 {
+                return None;
+            }
+        }
+        self.times -= 1;
+        Some(self.core)
+    }
 }
 
 // The numbers of the schedule of a run.
@@ -58,27 +171,7 @@ fn written(alloc: Global, run: &Run) -> Result<Vec<u8>, AllocError>
     requires { HasSchedule run.now }
     ensures { IfOk result (λ list. list.items ≡ schedule_in run.now) }
 {
-    let (places0, places1) = (run.trace0.places.as_slice(), run.trace1.places.as_slice());
-    let (count0, count1) = (run.trace0.count, run.trace1.count);
-    let (mut calls0, mut calls1) = (0, 0);
-    let (mut done0, mut done1) = (0, 0);
-    let mut list = Vec::new(alloc);
-    for entry in run.history.as_slice() {
-        if entry.core == 0 {
-            let upto = places0[calls0] + 1;
-            repeat(&mut list, 0, upto - done0)?;
-            calls0 += 1;
-            done0 = upto;
-        } else {
-            let upto = places1[calls1] + 1;
-            repeat(&mut list, 1, upto - done1)?;
-            calls1 += 1;
-            done1 = upto;
-        }
-    }
-    repeat(&mut list, 0, count0 - done0)?;
-    repeat(&mut list, 1, count1 - done1)?;
-    Ok(list)
+    Order::of(run).collect(alloc)
 }
 
 /// The schedule of a run: for each entry of the history in order, the turns of its core after its

@@ -1,7 +1,7 @@
 //! The walk over the records of both cores.
 #![tactic(auto)]
 
-ghost use Rattle.std.specs.Prelude.{◌≡◌, ◌+◌, ◌<◌, ◌^◌, ℕ, Bool, false, [], Err, IfOk, List, length, replicate};
+ghost use Rattle.std.specs.Prelude.{◌≡◌, ◌+◌, ◌<◌, ◌^◌, ℕ, Bool, false, [], Err, IfOk, length, replicate};
 ghost use Rattle.xt_map.specs.Memory.{constant_byte};
 ghost use Rattle.xt_trace.specs.declared.options.Options.{Options};
 ghost use Rattle.xt_trace.specs.Validity.{IsValid};
@@ -14,9 +14,10 @@ ghost use Rattle.xt_discipline.specs.Bytes.{AreOpened, IsEnd, KnowsOf, held_at, 
 ghost use Rattle.xt_discipline.specs.Schedules.{HasSchedule, schedule_in};
 ghost use Rattle.xt_discipline.specs.Sides.{IsSide, live_in};
 ghost use Rattle.xt_discipline.specs.Ended.{HasEnded};
-ghost use Rattle.xt_discipline.specs.Walks.{GoesOn, IsOpened, IsTurned, Knows, Turns, found_on};
+ghost use Rattle.xt_discipline.specs.Walks.{IsOpened, IsTurned, Knows, Turns, found_on};
 
 use crate::bytes::{Change, Held, change_bytes, nothing};
+use crate::order::Order;
 use crate::side::Side;
 use std::alloc::{AllocError, Global};
 use xt_frames::{Frames, Judged};
@@ -158,28 +159,7 @@ impl Walk {
         }
     }
 
-    /// So many turns of a core, one after another: no breach, or what is judged of the run.
-    fn turns<R: Records>(
-        &mut self,
-        core: u8,
-        times: u32,
-        records0: &mut R,
-        records1: &mut R,
-    ) -> Result<(), Judged>
-        requires core { core < 2 }
-        requires known { (b0 : Bounds) × (b1 : Bounds) × (k : Known) × Knows self.old b0 b1 k }
-        requires room { self.old.side0.steps + self.old.side1.steps + times < 2 ^ 32 }
-        ensures { (b0 b1 : Bounds) (k : Known) → Knows self.old b0 b1 k → (rest : List ℕ)
-            → GoesOn (constant_byte self.old.code) b0 b1 k (replicate times core) rest (R.left records0.old) (R.left records1.old) self.new (R.left records0.new) (R.left records1.new) result }
-    {
-        for _turn in 0..times {
-            self.turn(core, records0, records1)?;
-        }
-        Ok(())
-    }
-
-    /// The turns of a run in the order of its schedule, which is never written down: for each entry of the history those of its core up
-    /// to and with this access, and then the rest of either core's. No breach, or what is judged of the run.
+    /// The turns of a run in the order of its schedule. No breach, or what is judged of the run.
     fn follow<R: Records>(
         &mut self,
         run: &Run,
@@ -192,25 +172,10 @@ impl Walk {
         ensures { (b0 b1 : Bounds) (k : Known) → Knows self.old b0 b1 k
             → found_on result ≡ verdict_on (judgement (constant_byte self.old.code) b0 b1 (schedule_in run.now) (R.left records0.old) (R.left records1.old) k).breach }
     {
-        let (places0, places1) = (run.trace0.places.as_slice(), run.trace1.places.as_slice());
-        let (count0, count1) = (run.trace0.count, run.trace1.count);
-        let (mut calls0, mut calls1) = (0, 0);
-        let (mut done0, mut done1) = (0, 0);
-        for entry in run.history.as_slice() {
-            if entry.core == 0 {
-                let upto = places0[calls0] + 1;
-                self.turns(0, upto - done0, records0, records1)?;
-                calls0 += 1;
-                done0 = upto;
-            } else {
-                let upto = places1[calls1] + 1;
-                self.turns(1, upto - done1, records0, records1)?;
-                calls1 += 1;
-                done1 = upto;
-            }
+        for core in Order::of(run) {
+            self.turn(core, records0, records1)?;
         }
-        self.turns(0, count0 - done0, records0, records1)?;
-        self.turns(1, count1 - done1, records0, records1)
+        Ok(())
     }
 
     /// What is judged of a run, from here on.

@@ -1,7 +1,7 @@
-use Rattle.std.proofs.Common.{◌≡◌, ◌+◌, ◌<◌, ◌^◌, ◌∙◌, get_or, length, refl, arith}
+use Rattle.std.proofs.Common.{◌∙◌, get_or, refl}
 use Rattle.xt_map.specs.Memory.{constant_byte}
 use Rattle.xt_discipline.proofs.Counts.{depths_all, depths_err}
-use Rattle.xt_discipline.proofs.Walking.{reach_none, reach_turn}
+use Rattle.xt_discipline.proofs.Walking.{reach_none, reach_room, reach_turn}
 use Rattle.xt_discipline.proofs.callers.depths_behind.Goals as goal
 
 pub loop-core-init : goal.loop-core-init
@@ -17,16 +17,8 @@ turn-requires-clause-known g c =
 pub turn-requires-clause-room : goal.turn-requires-clause-room
 turn-requires-clause-room g c =
     let q = c.requires.known in
-    let k = q.2 in
-    let r = c.loop-core.invariant q.0 q.1 q.2 q.3 in
-    let s0 : c.loop-core.walk.side0.steps ≡ r.known.steps0 = r.knows.zero.steps_are in
-    let s1 : c.loop-core.walk.side1.steps ≡ r.known.steps1 = r.knows.one.steps_are in
-    let sum : r.known.steps0 + r.known.steps1 ≡ k.steps0 + k.steps1 + c.loop-core.core-index = r.steps in
-    let a0 : c.args.walk.now.side0.steps ≡ k.steps0 = q.3.zero.steps_are in
-    let a1 : c.args.walk.now.side1.steps ≡ k.steps1 = q.3.one.steps_are in
-    let lt : c.loop-core.core-index < length c.args.schedule.now = c.loop-core-test.true in
-    let room : c.args.walk.now.side0.steps + c.args.walk.now.side1.steps + length c.args.schedule.now < 2 ^ 32 = c.requires.room in
-    omega (arith, s0, s1, sum, a0, a1, lt, room)
+    reach_room (constant_byte c.args.walk.now.code) c.args.walk.now c.loop-core.walk q.0 q.1 q.2 c.args.schedule.now c.loop-core.core-index (g.R.Records.left c.args.records0.now) (g.R.Records.left c.args.records1.now)
+    (g.R.Records.left c.loop-core.records0) (g.R.Records.left c.loop-core.records1) q.3 (c.loop-core.invariant q.0 q.1 q.2 q.3) c.loop-core-test.true c.requires.room
 
 pub returns-in-Err : goal.returns-in-Err
 returns-in-Err g c b0 b1 k h =

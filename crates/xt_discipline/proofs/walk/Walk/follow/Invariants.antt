@@ -1,14 +1,12 @@
-use Rattle.std.proofs.Common.{ℕ, List, length}
+use Rattle.std.proofs.Common.{length}
 use Rattle.xt_map.specs.Memory.{constant_byte}
 use Rattle.xt_frames.specs.Breaches.{Bounds}
 use Rattle.xt_frames.specs.Verdict.{Known}
 use Rattle.xt_discipline.specs.Schedules.{schedule_in}
-use Rattle.xt_discipline.specs.Ordered.{IsWritten}
 use Rattle.xt_discipline.specs.Walks.{Knows, Reaches}
 use Rattle.xt_discipline.proofs.walk.Walk.follow.Given as goal
 
-abbrev pub invariant-loop-entry : goal.invariant-loop-entry
-invariant-loop-entry g l =
-    (list : List ℕ) × IsWritten l.run l.entry-index list l.calls0 l.done0 l.calls1 l.done1
-    × ((b0 b1 : Bounds) (k : Known) → Knows l.fn.self b0 b1 k
-    → Reaches (constant_byte l.fn.self.code) b0 b1 k (schedule_in l.run) (g.R.Records.left l.fn.records0) (g.R.Records.left l.fn.records1) l.self (length list) (g.R.Records.left l.records0) (g.R.Records.left l.records1))
+abbrev pub invariant-loop-core : goal.invariant-loop-core
+invariant-loop-core g l =
+    (b0 b1 : Bounds) (k : Known) → Knows l.fn.self b0 b1 k
+    → Reaches (constant_byte l.fn.self.code) b0 b1 k (schedule_in l.run) (g.R.Records.left l.fn.records0) (g.R.Records.left l.fn.records1) l.self (length l.yielded) (g.R.Records.left l.records0) (g.R.Records.left l.records1)
