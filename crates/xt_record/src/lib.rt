@@ -3,6 +3,7 @@
 
 mod entries;
 mod fault;
+mod file;
 mod head;
 mod laws;
 mod parts;

@@ -3,13 +3,14 @@ ghost use Rattle.std.specs.Prelude.{◌≡◌, ◌++◌, OnOk};
 ghost use Rattle.xt_exec.specs.States.{file_state};
 ghost use Rattle.xt_record.specs.Checkpoints.{checkpoint_bytes, file_bytes, memory_bytes, special_bytes, state_bytes};
 
+use crate::file::OwnFile;
 use crate::words::{put_word, put_words};
 use std::alloc::AllocError;
 use xt_bus::Memory;
 use xt_core::Core;
 use xt_exec::Regs;
 use xt_special::Special;
-use xt_window::{WindowFile, Windows};
+use xt_window::Windows;
 
 /// How many bytes a checkpoint has.
 pub(crate) const POINT_SIZE: usize = 353_152;
@@ -27,7 +28,7 @@ fn put_registers(out: &mut Vec<u8>, special: &Special, numbers: &[u8]) -> Result
 
 // Writes the 64 physical registers.
 #[tactic(auto, unfolding(crate::specs::Checkpoints::file_bytes))]
-fn put_file(out: &mut Vec<u8>, win: &WindowFile) -> Result<(), AllocError>
+fn put_file(out: &mut Vec<u8>, win: &OwnFile) -> Result<(), AllocError>
     ensures { OnOk result (out.new.items ≡ out.old.items ++ file_bytes win.now.regs) }
 {
     let mut win = *win;
@@ -40,7 +41,7 @@ fn put_file(out: &mut Vec<u8>, win: &WindowFile) -> Result<(), AllocError>
 
 // Writes the state of a core that makes its turn of this number next.
 #[tactic(auto, unfolding(crate::specs::Checkpoints::state_bytes))]
-fn put_state(out: &mut Vec<u8>, step: u32, regs: &Regs<WindowFile>) -> Result<(), AllocError>
+fn put_state(out: &mut Vec<u8>, step: u32, regs: &Regs<OwnFile>) -> Result<(), AllocError>
     ensures { OnOk result (out.new.items ≡ out.old.items ++ state_bytes step (file_state regs.now)) }
 {
     let (win, special) = (&regs.win, &regs.sr);
@@ -83,8 +84,8 @@ pub(crate) fn put_point(
     out: &mut Vec<u8>,
     position: u32,
     entries: u32,
-    core0: &Core<WindowFile>,
-    core1: &Core<WindowFile>,
+    core0: &Core<OwnFile>,
+    core1: &Core<OwnFile>,
     memory: &Memory,
 ) -> Result<(), AllocError>
     ensures { OnOk result (out.new.items ≡ out.old.items ++ checkpoint_bytes position entries core0.now.count core0.now.state core1.now.count core1.now.state memory.now.contents) }

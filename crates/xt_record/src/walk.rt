@@ -7,6 +7,7 @@ ghost use Rattle.xt_trace.specs.Validity.{IsValid};
 ghost use Rattle.xt_record.specs.Standing.{EndsAt, IsFree, Stands, StandsOpen, TakesAt, Walks, WentThrough};
 
 use crate::fault::RecordFault;
+use crate::file::OwnFile;
 use crate::setting::Setting;
 use crate::walking::{File, end, take_entry};
 use std::alloc::{AllocError, Global};
@@ -15,7 +16,6 @@ use xt_core::Core;
 use xt_image::Image;
 use xt_map::{Bytes, Constants, Entry};
 use xt_trace::{Options, Trace};
-use xt_window::WindowFile;
 
 /// Both cores of a run of an image, and what they work on.
 #[derive(Drop)]
@@ -66,8 +66,8 @@ impl<'a> Walk<'a> {
         Ok(Walk {
             image,
             options: *options,
-            core0: Core::make(alloc, 0, image.entry, options, WindowFile::new())?,
-            core1: Core::make(alloc, 1, options.entry1, options, WindowFile::new())?,
+            core0: Core::make(alloc, 0, image.entry, options, OwnFile::new())?,
+            core1: Core::make(alloc, 1, options.entry1, options, OwnFile::new())?,
             setting: opening_setting(alloc, image, options)?,
         })
     }

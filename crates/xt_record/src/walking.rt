@@ -6,16 +6,16 @@ ghost use Rattle.xt_record.specs.TurnRules.{same_access, same_kind};
 ghost use Rattle.xt_record.specs.Walking.{Arrives, Ends, HasRoom, Takes, due_beside, point_beside};
 
 use crate::fault::RecordFault;
+use crate::file::OwnFile;
 use crate::points::{POINT_SIZE, put_point};
 use crate::setting::Setting;
 use std::alloc::{AllocError, Global};
 use xt_core::{Begin, Core};
 use xt_map::{Access, Bytes, Entry, Kind};
-use xt_window::WindowFile;
 
 const STRIDE: u32 = 131_072;
 
-pub(crate) type File = Core<WindowFile>;
+pub(crate) type File = Core<OwnFile>;
 
 // Whether there is a checkpoint at a position.
 #[inline(always)]
@@ -71,8 +71,7 @@ fn keep_due(
 }
 
 // Makes the local turns of a core up to its next access, which then waits for its reply, or up to
-// its end.
-#[inline(always)]
+// its end. It alone begins turns, so that they are compiled into it.
 fn arrive(
     alloc: Global,
     number: u8,
