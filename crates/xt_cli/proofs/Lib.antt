@@ -1,6 +1,5 @@
 mod Numbered
 mod Running
-mod Segmented
 mod Sending
 mod Working
 mod Writing

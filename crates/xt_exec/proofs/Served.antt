@@ -1,5 +1,5 @@
 -- What a turn asks for is an access that the bus serves.
-use Rattle.std.proofs.Common.{◌≡◌, ℕ, zero, suc, Bool, true, false, cond, eqb, ltb}
+use Rattle.std.proofs.Common.{ℕ, zero, suc, Bool, true, false, cond, eqb, ltb}
 use Rattle.xt_isa.specs.declared.Insn.{Insn}
 use Rattle.xt_special.specs.Interrupts.{pending_of}
 use Rattle.xt_window.specs.Ring.{visible, bit}

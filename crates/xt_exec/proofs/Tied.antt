@@ -1,18 +1,17 @@
 -- What the turn says of windows is what the crate of windows answers.
-use Rattle.std.proofs.Common.{◌≡◌, ◌≢◌, ◌<◌, ◌+◌, ◌-◌, ◌*◌, ◌^◌, ℕ, zero, suc, Bool, true, false, ◌||◌, not, eqb, cond, Option, Some, None, refl, sym, ap, ◌∙◌, arith, ⊎_elim, subst}
-use Rattle.std.proofs.lemmas.Bool.{cases_Bool, cond-true, cond-false, true≢false}
-use Rattle.xt_isa.specs.declared.Insn.{Insn}
+use Rattle.std.proofs.Common.{◌≡◌, ◌≢◌, ◌+◌, ◌-◌, ◌*◌, ℕ, Bool, true, false, ◌||◌, not, eqb, cond, Some, None, refl, sym, ap, ◌∙◌, ⊎_elim}
+use Rattle.std.proofs.lemmas.Bool.{cases_Bool, cond-true, cond-false}
 use Rattle.xt_window.specs.declared.windows.Overflow.{Overflow}
 use Rattle.xt_window.specs.declared.windows.Return.{Return}
 use Rattle.xt_window.specs.declared.windows.Return.TheVariants.{Returned, Under, Bad}
-use Rattle.xt_window.specs.Ring.{visible, bit, with_bit, without_bit, ahead, size_at}
-use Rattle.xt_window.specs.Moves.{base_after_call, base_after_return, behind}
-use Rattle.xt_window.specs.Answers.{overflow_of, disagrees, return_of, base_past, start_past}
+use Rattle.xt_window.specs.Ring.{visible, bit, without_bit, ahead, size_at}
+use Rattle.xt_window.specs.Moves.{base_after_call, base_after_return}
+use Rattle.xt_window.specs.Answers.{disagrees, return_of, base_past, start_past}
 use Rattle.xt_window.proofs.Undone.{undone}
 use Rattle.xt_rows.specs.Settling.{return_size, return_pc}
 use Rattle.xt_exec.specs.State.{State}
-use Rattle.xt_exec.specs.Turn.{Planned, has_windows, looks, window_check, window_exception, window_step, overflow, underflow, entered, returned, illegal_return}
-use Rattle.xt_exec.specs.Ties.{IsReturnOf, ReturnsAnswer, IllegalReturnsAreBad, OverflowsAnswer, ReturnsUndoEntries}
+use Rattle.xt_exec.specs.Turn.{Planned, has_windows, looks, window_check, window_exception, window_step, overflow, underflow, entered, returned}
+use Rattle.xt_exec.specs.Ties.{ReturnsAnswer, IllegalReturnsAreBad, OverflowsAnswer, ReturnsUndoEntries}
 
 -- ---- a return
 answer_of : (a0 : ℕ) (s : State) (bad there : Bool) → let n = return_size a0 in let r : Return = cond bad Bad (cond there Returned Under) in

@@ -1,6 +1,5 @@
 -- Carries a proof; nothing that a reader must believe.
 -- What the private steps of an instruction answer, in the words of the turn ('profile').
-use Rattle.std.specs.Prelude.{◌≡◌, ℕ, ◌<◌, ◌^◌, Option, Some, None}
 use Rattle.xt_rows.specs.Laws.{IsAny, IsProperWrite}
 use Rattle.xt_exec.specs.declared.step.Step.{Step}
 use Rattle.xt_exec.specs.State.{State}
@@ -14,8 +13,3 @@ turn_of t s = quiet_turn t.kind t.write s
 -- the register that it writes exists
 abbrev pub WritesRegister : Step → Type 0
 WritesRegister t = IsProperWrite IsAny t.write
-
--- what a special register can hold, and 0 where there is none
-abbrev pub IsHeld : Option ℕ → ℕ → Type 0
-IsHeld None u = u ≡ 0
-IsHeld (Some number) u = number ≡ 3 → u < 2 ^ 6

@@ -1,7 +1,7 @@
 -- States laws that are proved; nothing that a reader must believe.
 -- What the turn says of windows is what the crate of windows answers: RETW, the overflow, and
 -- that a RETW undoes an ENTRY.
-use Rattle.std.specs.Prelude.{◌≡◌, ◌≢◌, ◌<◌, ◌+◌, ◌-◌, ◌*◌, ◌^◌, ℕ, Bool, true, false, ◌==◌, ◌||◌}
+use Rattle.std.specs.Prelude.{◌≡◌, ◌≢◌, ◌<◌, ◌-◌, ◌*◌, ◌^◌, ℕ, true, ◌==◌, ◌||◌}
 use Rattle.std.specs.Prelude.{not, Some}
 use Rattle.xt_isa.specs.declared.Insn.{Insn}
 use Rattle.xt_window.specs.declared.windows.Overflow.{Overflow}

@@ -5,12 +5,12 @@ ghost use Rattle.xt_special.specs.Control.{special_of};
 ghost use Rattle.xt_window.specs.Ring.{ahead, visible};
 ghost use Rattle.xt_rows.specs.Effects.{unchanged};
 ghost use Rattle.xt_fetch.specs.Fetching.{Fetches};
-ghost use Rattle.xt_rows.specs.Laws.{AsksWith, IsAny, IsProper, IsProperAwaited, IsRegister};
+ghost use Rattle.xt_rows.specs.Laws.{AsksWith, IsAny, IsHeld, IsProper, IsProperAwaited, IsRegister};
 ghost use Rattle.xt_rows.specs.Outcomes.{outcome_at, value_of};
 ghost use Rattle.xt_exec.specs.States.{state_of};
 ghost use Rattle.xt_exec.specs.Turn.{checked, done, fetched_turn, has_windows, illegal_return, is_illegal, looks, window_check};
 ghost use Rattle.xt_exec.specs.Halves.{IsPlan, awaiting, overflow_at};
-ghost use Rattle.xt_exec.specs.Steps.{IsHeld, WritesRegister, turn_of};
+ghost use Rattle.xt_exec.specs.Steps.{WritesRegister, turn_of};
 
 use crate::plans::{Effect, Pending, Plan};
 use crate::regs::Regs;

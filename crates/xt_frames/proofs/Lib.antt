@@ -1,4 +1,5 @@
 pub mod Stacked
+pub mod Shown
 pub mod StackSteps
 pub mod Sixteen
 pub mod Newest

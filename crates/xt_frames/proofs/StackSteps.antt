@@ -1,16 +1,14 @@
 -- A judged step keeps the chain of stack pointers.
-use Rattle.std.proofs.Common.{◌||◌, ◌&&◌, ◌≡◌, ℕ, ◌*◌, ◌-◌, ◌/◌, ◌%◌, ◌^◌, ◌<◌, ◌≢◌, ℤ, pos, negsuc, Bool, true, false, not, eqb, ltb, List, [], ◌∷◌, Option, Some, None, sym, ◌∙◌, refl, ap, arith, ⊎_elim, cond, subst}
+use Rattle.std.proofs.Common.{◌||◌, ◌≡◌, ℕ, ◌*◌, ◌-◌, ◌/◌, ◌%◌, ◌^◌, ◌<◌, ◌≢◌, ℤ, pos, negsuc, Bool, true, false, not, eqb, ltb, List, [], ◌∷◌, Option, Some, None, sym, ◌∙◌, refl, ap, arith, ⊎_elim, cond, subst}
 use Rattle.std.proofs.Math.ListN.{set}
-use Rattle.std.proofs.lemmas.Bool.{eqb-false, eqb-true, or_from, cond-true, cond-false, cases_Bool, not-false, or_parts, and_parts, ltb-true}
+use Rattle.std.proofs.lemmas.Bool.{eqb-false, or_from, cond-true, cond-false, cases_Bool, not-false, or_parts, and_parts, ltb-true}
 use Rattle.std.proofs.lemmas.List.{get_or-set_other, length-set, get_or-take, get_or_append_left}
 use Rattle.xt_isa.specs.declared.Insn.{Insn}
 use Rattle.xt_isa.specs.declared.Insn.TheVariants as insn
 use Rattle.xt_isa.specs.declared.control.Control.TheVariants as control
-use Rattle.xt_isa.specs.declared.shift.Shift.TheVariants as shift
 use Rattle.xt_isa.specs.Ranges.{in_range, one_register, multiple_within}
 use Rattle.xt_special.specs.Control.{Control}
 use Rattle.xt_special.specs.Interrupts.{pending_of}
-use Rattle.xt_trace.specs.declared.record.RegWrite.{RegWrite}
 use Rattle.xt_trace.specs.declared.record.StepRecord.{StepRecord}
 use Rattle.xt_rows.specs.declared.outcome.Write.{Write}
 use Rattle.xt_rows.specs.declared.outcome.Outcome.{Outcome}
@@ -25,64 +23,16 @@ use Rattle.xt_rows.specs.Settling.{settled_interrupt, settled_wait, written}
 use Rattle.xt_frames.specs.Frames.{Frame, FrameState, known, seen_after_write}
 use Rattle.xt_frames.specs.FrameStep.{FrameTurn, Inputs, laid, in_frame, raised, pushed, popped, popped_from, done_in_frame, fetched_step, laid_step}
 use Rattle.xt_frames.specs.SaveAreas.{Range}
-use Rattle.xt_frames.specs.Breaches.{Bounds, Test, laid_breach, first_shown, insn_tests, fetched_tests, is_sp, shows_sp, writes_sp, may_write_sp, is_movsp, other_frame_size, small_frame, leaves_range, outside, misaligns_sp, opens_nothing}
+use Rattle.xt_frames.specs.Breaches.{Bounds, laid_breach, first_shown, fetched_tests, other_frame_size, small_frame, leaves_range, outside, misaligns_sp, opens_nothing}
 use Rattle.xt_frames.specs.Stacks.{Stack, IsFrame, Moves, Stays, Calls, Leaves}
-use Rattle.xt_rows.specs.Kinds.{Fits, is_entry}
+use Rattle.xt_rows.specs.Kinds.{Fits}
 use Rattle.xt_rows.proofs.Fitting.{outcome_fits}
+use Rattle.xt_frames.proofs.Shown.{NoneShown, none_shown, Sound, sound, KeepsSp, keeps_sp, sp_written, entry_number}
 use Rattle.xt_frames.proofs.Stacked.{enters_stack, leaves_stack, known_is}
 use Rattle.xt_frames.specs.Stacks.{KeepsStack, MovesFrames}
-use Rattle.std.specs.Prelude.{unwrap_or, take, slice_index_or}
+use Rattle.std.specs.Prelude.{unwrap_or, take}
 use Rattle.xt_frames.specs.SaveAreas.{sp_of}
 use Rattle.xt_frames.specs.Frames.{seen_after_return}
-
--- ---- no test is shown
-if_none : {X : Type 0} (b : Bool) (x : X) (o : Option X) → cond b (Some x) o ≡ None → (b ≡ false) × (o ≡ None)
-if_none true x o e = absurd (cc)
-if_none false x o e = (refl, e)
-
-abbrev pub NoneShown : List Test → Type 0
-NoneShown [] = Unit {0}
-NoneShown (t ∷ ts) = (t.shown ≡ false) × NoneShown ts
-
-pub none_shown : (ts : List Test) → first_shown ts ≡ None → NoneShown ts
-none_shown [] e = tt
-none_shown (t ∷ ts) e = let p = if_none t.shown t.kind (first_shown ts) e in (p.0, none_shown ts p.1)
-
--- what the chain of stack pointers needs of a step that shows no breach
-record Sound (b : Bounds) (i : Insn) (rec : StepRecord) (g : FrameState) (u : FrameTurn) : Type 0 where
-  pub written : writes_sp i rec.write u.write ≡ false
-  pub size : other_frame_size b.range i g ≡ false
-  pub low : leaves_range b.range i g ≡ false
-  pub align : misaligns_sp i g ≡ false
-  pub opens : opens_nothing i g ≡ false
-  pub movsp : is_movsp i ≡ false
-
-sound : (b : Bounds) (fresh : Bool) (live stale : ℕ → Bool) (i : Insn) (rec : StepRecord) (g : FrameState) (u : FrameTurn) → NoneShown (insn_tests b fresh live stale i rec g u) → Sound b i rec g u
-sound b fresh live stale i rec g u (unset, (written, (size, (low, (align, (opens, (mismatch, (caller, (saves, (loads, (high, (windowing, (window_register, (woe, (vectors, (lost, (movsp, more))))))))))))))))) =
-    record { written = written; size = size; low = low; align = align; opens = opens; movsp = movsp }
-
-abbrev KeepsSp : Option Write → Type 0
-KeepsSp None = Unit {0}
-KeepsSp (Some w) = w.number ≡ 1 → ⊥
-
-may_write_is : (i : Insn) → is_entry i ≡ false → is_movsp i ≡ false → may_write_sp i ≡ false
-unfolding may_write_sp is_entry is_movsp
-may_write_is (insn.Control (control.Entry number size)) e m = e
-may_write_is (insn.Shift (shift.Movsp t s)) e m = m
-may_write_is _ e m = refl
-
-sp_kept : (o : Option Write) → is_sp o ≡ false → KeepsSp o
-sp_kept None h = tt
-sp_kept (Some w) h = eqb-false _ _ h
-
-keeps_sp : (i : Insn) (shown : Option RegWrite) (o : Option Write) → is_entry i ≡ false → is_movsp i ≡ false → writes_sp i shown o ≡ false → KeepsSp o
-keeps_sp i shown o e m h =
-    let z : (true && (shows_sp shown || is_sp o)) ≡ false = (let x = may_write_is i e m in rw x at h) in
-    sp_kept o (or_parts (shows_sp shown) (is_sp o) z).1
-
-entry_number : (number : ℕ) (size : ℤ) → (range : Range) (g : FrameState) → other_frame_size range (insn.Control (control.Entry number size)) g ≡ false → number ≡ 1
-unfolding other_frame_size
-entry_number number size range g h = eqb-true _ _ (not-false _ (or_parts (not (eqb number 1)) _ h).0)
 
 -- ---- the three kinds of step
 step_taken : (code : ℕ → ℕ) (reply : ℕ) (g : FrameState) → ltb 0 (pending_of g.control) ≡ true → laid_step code reply g ≡ in_frame (settled_interrupt (pending_of g.control) g.control) reply g
@@ -124,12 +74,6 @@ turn_if : (P : FrameTurn → Type 0) (b : Bool) (x y : FrameTurn) → P x → P 
 turn_if P true x y p q = p
 turn_if P false x y p q = q
 
-write_sp : {lo hi : ℕ} {seen : List (Option ℕ)} {frames : List Frame} → Stack lo hi seen frames → (o : Option Write) → KeepsSp o → known (seen_after_write o seen) 1 ≡ known seen 1
-write_sp k None other = refl
-write_sp {seen = seen} k (Some w) other =
-    let apart : 1 ≢ w.number = λ e. other (sym e) in
-    known_is (set seen w.number (Some w.value)) 1 (known seen 1) (get_or-set_other seen w.number 1 (Some w.value) None apart ∙ k.sp)
-
 kept_sp : (seen : List (Option ℕ)) (n : ℕ) → 0 < n → known (take (4 * n) seen) 1 ≡ known seen 1
 kept_sp seen n some = ap (λ (o : Option ℕ). unwrap_or o 0) (get_or-take (4 * n) seen 1 None (omega arith))
 
@@ -146,7 +90,7 @@ stays : {r : Range} {g : FrameState} (u : FrameTurn) → Stack r.lo r.hi g.seen 
 stays {r} {g} u k e f = (rw (e, f) k, Stays f (ap (λ (s : List (Option ℕ)). known s 1) e))
 
 writes : {r : Range} {g : FrameState} (u : FrameTurn) (o : Option Write) → Stack r.lo r.hi g.seen g.frames → KeepsSp o → u.after.seen ≡ seen_after_write o g.seen → u.after.frames ≡ g.frames → KeepsChain r g u
-writes {r} {g} u o k other e f = (rw (e, f) (write_stack k o other), Stays f (ap (λ (s : List (Option ℕ)). known s 1) e ∙ write_sp k o other))
+writes {r} {g} u o k other e f = (rw (e, f) (write_stack k o other), Stays f (ap (λ (s : List (Option ℕ)). known s 1) e ∙ sp_written g.seen o other))
 
 entry_value : (code : ℕ → ℕ) (i : Insn) (number : ℕ) (size : ℤ) (value : ℕ) (ar : ℕ → ℕ) (c : Control) → i ≡ insn.Control (control.Entry number size) → outcome_at code i ar c ≡ Windowed (Enters number value) → minus (ar number) (natural size) ≡ value
 entry_value code i number size value ar c e q = entry_outcome code number size value ar c (rw e at q)
@@ -183,7 +127,7 @@ module _ (b : Bounds) (fresh : Bool) (live stale : ℕ → Bool) (rec : StepReco
       let s : Stack b.range.lo b.range.hi g.seen (f ∷ rest) = rw e at k in
       (leaves_stack b.range.lo b.range.hi g.seen f rest s, Leaves f e (back_sp f g.seen s.shaped.0))
 
-  pushes_entry : (number : ℕ) (size : ℤ) (value len : ℕ) {u : FrameTurn} → in_range (insn.Control (control.Entry number size)) ≡ true → Sound b (insn.Control (control.Entry number size)) rec g u → minus (known g.seen number) (natural size) ≡ value → KeepsChain b.range g (pushed number value len g)
+  pushes_entry : (number : ℕ) (size : ℤ) (value len : ℕ) {u : FrameTurn} → in_range (insn.Control (control.Entry number size)) ≡ true → Sound b fresh live stale (insn.Control (control.Entry number size)) rec g u → minus (known g.seen number) (natural size) ≡ value → KeepsChain b.range g (pushed number value len g)
   unfolding pushed
   pushes_entry number size value len ok o v =
       let one = entry_number number size b.range g o.size in
@@ -191,10 +135,10 @@ module _ (b : Bounds) (fresh : Bool) (live stale : ℕ → Bool) (rec : StepReco
       let w : minus (known g.seen 1) (natural size) ≡ value = rw one at v in
       (rw (one, ← w) q, Calls (record { by = g.control.ps.callinc; kept = take (4 * g.control.ps.callinc) g.seen }) refl (kept_sp g.seen g.control.ps.callinc (entry_called number size g o.opens)))
 
-  pushes : (i : Insn) (number : ℕ) (size : ℤ) (value len : ℕ) {u : FrameTurn} → in_range i ≡ true → Sound b i rec g u → i ≡ insn.Control (control.Entry number size) → minus (known g.seen number) (natural size) ≡ value → KeepsChain b.range g (pushed number value len g)
+  pushes : (i : Insn) (number : ℕ) (size : ℤ) (value len : ℕ) {u : FrameTurn} → in_range i ≡ true → Sound b fresh live stale i rec g u → i ≡ insn.Control (control.Entry number size) → minus (known g.seen number) (natural size) ≡ value → KeepsChain b.range g (pushed number value len g)
   pushes i number size value len ok o e v = pushes_entry number size value len (rw e at ok) (rw e at o) v
 
-  done_keeps : (i : Insn) (len reply : ℕ) (x : Outcome) → outcome_at code i (known g.seen) g.control ≡ x → Fits i x → in_range i ≡ true → Sound b i rec g (done_in_frame x len reply g) → KeepsChain b.range g (done_in_frame x len reply g)
+  done_keeps : (i : Insn) (len reply : ℕ) (x : Outcome) → outcome_at code i (known g.seen) g.control ≡ x → Fits i x → in_range i ≡ true → Sound b fresh live stale i rec g (done_in_frame x len reply g) → KeepsChain b.range g (done_in_frame x len reply g)
   unfolding popped
   done_keeps i len reply (Does e) q f ok o = writes (done_in_frame (Does e) len reply g) e.write k (keeps_sp i rec.write e.write f.2 o.movsp o.written) refl refl
   done_keeps i len reply (Raises cause addr) q f ok o = stays (done_in_frame (Raises cause addr) len reply g) k refl refl

@@ -8,19 +8,11 @@ use Rattle.std.specs.Prelude.{zero, suc, slice_index_or, is_some}
 use Rattle.xt_isa.specs.declared.Insn.{Insn}
 use Rattle.xt_isa.specs.declared.Insn.TheVariants as insn
 use Rattle.xt_isa.specs.declared.shift.Shift.TheVariants as shift
-use Rattle.xt_isa.specs.declared.memory.Memory.TheVariants as memory
 use Rattle.xt_isa.specs.declared.control.Control.TheVariants as control
-use Rattle.xt_isa.specs.declared.control.RetName.TheVariants as RetName
-use Rattle.xt_isa.specs.declared.system.System.TheVariants as system
-use Rattle.xt_isa.specs.declared.system.ReturnName.TheVariants as ReturnName
-use Rattle.xt_isa.specs.declared.system.SpecialName.TheVariants as SpecialName
-use Rattle.xt_isa.specs.declared.density.Density.TheVariants as density
-use Rattle.xt_isa.specs.declared.density.NarrowRetName.TheVariants as NarrowRetName
 use Rattle.xt_map.specs.declared.access.Access.{Access}
 pub use Rattle.xt_map.specs.Touching.{is_load, is_store}
 use Rattle.xt_special.specs.declared.ps.Ps.{Ps}
 use Rattle.xt_special.specs.Numbers as number
-use Rattle.xt_special.specs.Access.{is_window_register}
 use Rattle.xt_special.specs.Control.{special_of}
 use Rattle.xt_special.specs.Interrupts.{pending_of}
 use Rattle.xt_trace.specs.declared.record.StepKind.{StepKind}

@@ -1,6 +1,6 @@
 -- Carries a proof; nothing that a reader must believe.
 -- How the program keeps a frame state, and what its functions answer.
-use Rattle.std.specs.Prelude.{◌≡◌, ℕ, ◌*◌, ◌<◌, ◌≤◌, ◌^◌, true, false, Option, Some, None, List, []}
+use Rattle.std.specs.Prelude.{◌≡◌, ℕ, ◌*◌, ◌<◌, ◌≤◌, true, false, Option, Some, None, List, []}
 use Rattle.std.specs.Prelude.{◌∷◌, map, reverse, take}
 use Rattle.xt_special.specs.Control.{Control}
 use Rattle.xt_special.specs.Interrupts.{pending_of}
@@ -50,11 +50,6 @@ without_newest (f ∷ fs) = fs
 abbrev pub IsSmall : Option Caller → Type 0
 IsSmall None = Unit {0}
 IsSmall (Some c) = c.by < 4
-
--- what a special register can hold, and 0 where there is none
-abbrev pub IsHeld : Option ℕ → ℕ → Type 0
-IsHeld None u = u ≡ 0
-IsHeld (Some number) u = number ≡ 3 → u < 2 ^ 6
 
 -- ---- a step
 

@@ -7,7 +7,7 @@ ghost use Rattle.xt_map.specs.Memory.{constant_byte};
 ghost use Rattle.xt_special.specs.Control.{special_of};
 ghost use Rattle.xt_special.specs.Numbers as numbers;
 ghost use Rattle.xt_special.specs.Timers.{ticked};
-ghost use Rattle.xt_rows.specs.Laws.{IsAny, IsProper, IsProperEffect, IsProperSet, IsProperStep, IsProperWrite, IsRegister};
+ghost use Rattle.xt_rows.specs.Laws.{IsAny, IsHeld, IsProper, IsProperEffect, IsProperSet, IsProperStep, IsProperWrite, IsRegister};
 ghost use Rattle.xt_fetch.specs.Fetching.{Fetched};
 ghost use Rattle.xt_codec.specs.Fetches.{IsFetched, IsGoodFetch};
 ghost use Rattle.xt_rows.specs.Outcomes.{outcome_at, value_of};
@@ -17,7 +17,7 @@ ghost use Rattle.xt_frames.specs.Frames.{Frame, known, opening_frame, seen_after
 ghost use Rattle.xt_frames.specs.FrameStep.{Inputs, done_in_frame, fetched_step, in_frame, laid, laid_step, popped, pushed, raised, windowed_in_frame};
 ghost use Rattle.xt_frames.specs.Breaches.{inputs_of, lacks};
 ghost use Rattle.xt_frames.specs.declared.view.Call.TheVariants.{Stays};
-ghost use Rattle.xt_frames.specs.Parts.{IsGood, IsHeld, IsNewest, IsPlan, IsSmall, Upper, state_at, turn_as};
+ghost use Rattle.xt_frames.specs.Parts.{IsGood, IsNewest, IsPlan, IsSmall, Upper, state_at, turn_as};
 ghost use Rattle.xt_frames.specs.Stepped.{covered_of};
 
 use crate::registers::{Seen, after_call, after_return, kept_of};

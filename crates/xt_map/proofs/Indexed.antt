@@ -104,23 +104,6 @@ named : (segments : List Segment) (starts : List Start) (a count : ℕ) (e : Sta
     → IsStart segments (get_or starts (count - 1) e)
 named segments starts a count e ix upto some = ix.has_starts.sound (count - 1) e (let b : count ≤ length starts = upto.bound in omega arith)
 
--- the last start up to the address is of a segment that has a byte there
-pub found_upto : (segments : List Segment) (starts : List Start) (a count : ℕ) (e : Start) (d : Segment) (bytes : List ℕ) → IsIndexed segments starts → IsCountUpto starts a count → 0 < count
-    → bytes ≡ (get_or segments (get_or starts (count - 1) e).number d).bytes → a - (get_or starts (count - 1) e).addr < length bytes
-    → is_constant (region_of a) ≡ true → slice_index bytes (a - (get_or starts (count - 1) e).addr) ≡ constant_byte segments a
-found_upto segments starts a count e d bytes ix upto some is lt constant =
-    let t = get_or starts (count - 1) e in
-    let names = named segments starts a count e ix upto some in
-    let here = get_or segments t.number d in
-    let addr : t.addr ≡ here.addr = names.addr d in
-    let size : length bytes ≡ length here.bytes = ap (λ (b : List ℕ). length b) is in
-    let before : t.addr ≤ a = upto.upto (count - 1) e (omega arith) in
-    let held : Holds a here = record { loaded = (and_parts (is_loaded here) (nat_lt 0 (length here.bytes)) (names.loaded d)).0; begins = omega arith; ends = omega arith } in
-    let found : find (holds_address a) segments ≡ Some here =
-    find_only (holds_address a) segments t.number d names.number (holds_from a here held)
-    (λ j l h. only_one segments a j t.number d ix.placed l names.number (holds_parts a _ h) held) in
-    ap₂ (λ (b : List ℕ) n. slice_index b (a - n)) is addr ∙ sym (ap (found_byte a) found) ∙ sym (constant_is_loaded segments a constant)
-
 -- the last start up to the address is of a segment that ends before it
 pub none_found : (segments : List Segment) (starts : List Start) (a count : ℕ) (e : Start) (d : Segment) (bytes : List ℕ) → IsIndexed segments starts → IsCountUpto starts a count → 0 < count
     → bytes ≡ (get_or segments (get_or starts (count - 1) e).number d).bytes → length bytes ≤ a - (get_or starts (count - 1) e).addr

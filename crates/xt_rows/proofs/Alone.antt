@@ -1,5 +1,5 @@
 -- An instruction that asks for an access changes nothing else.
-use Rattle.std.proofs.Common.{◌≡◌, ℕ, ℤ, ◌*◌, ◌%◌, ◌^◌, ◌==◌, Bool, true, false, cond, Option, Some, None, refl}
+use Rattle.std.proofs.Common.{ℕ, ℤ, ◌*◌, ◌%◌, ◌^◌, ◌==◌, Bool, true, false, cond, Option, Some, None, refl}
 use Rattle.xt_isa.specs.declared.Insn.{Insn}
 use Rattle.xt_isa.specs.declared.Insn.TheVariants as insn
 use Rattle.xt_isa.specs.declared.three.Three.{Three}

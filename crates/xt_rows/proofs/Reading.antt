@@ -1,6 +1,5 @@
 -- What an instruction reads is at most what it names.
-use Rattle.std.proofs.Common.{◌*◌, ℕ, Option, Some, None, max, arith}
-use Rattle.xt_isa.specs.declared.Insn.{Insn}
+use Rattle.std.proofs.Common.{ℕ, Option, arith}
 use Rattle.xt_isa.specs.declared.Insn.TheVariants as insn
 use Rattle.xt_isa.specs.declared.three.Three.{Three}
 use Rattle.xt_isa.specs.declared.three.Three.TheVariants as three
@@ -22,7 +21,7 @@ use Rattle.xt_isa.specs.declared.system.SpecialName.TheVariants as SpecialName
 use Rattle.xt_isa.specs.declared.system.UserName.TheVariants as UserName
 use Rattle.xt_isa.specs.declared.memory.WindowName.TheVariants as WindowName
 use Rattle.xt_isa.specs.declared.memory.WordName.TheVariants as WordName
-use Rattle.xt_rows.specs.Operands.{callx_size, three_reads, shift_reads, memory_reads, control_reads, system_reads, density_reads, reads, three_named, shift_named, memory_named, control_named, system_named, density_named, named}
+use Rattle.xt_rows.specs.Operands.{three_reads, shift_reads, memory_reads, control_reads, system_reads, density_reads, reads, three_named, shift_named, memory_named, control_named, system_named, density_named, named}
 use Rattle.xt_rows.specs.Kinds.{IsAtMost, ReadsAreNamed}
 
 abbrev AreAtMost : ℕ → Option ℕ × Option ℕ → Type 0

@@ -1,5 +1,5 @@
 -- The registers that an instruction reads and names exist, where its operands are in their ranges.
-use Rattle.std.proofs.Common.{◌≡◌, ℕ, ◌*◌, ◌<◌, true, Option, max, arith, ltb-true}
+use Rattle.std.proofs.Common.{◌≡◌, ℕ, ◌*◌, ◌<◌, true, Option, max, refl, arith, ltb-true}
 use Rattle.std.proofs.lemmas.Bool.{and_parts}
 use Rattle.xt_isa.specs.declared.Insn.{Insn}
 use Rattle.xt_isa.specs.declared.Insn.TheVariants as insn
@@ -27,8 +27,8 @@ use Rattle.xt_isa.specs.declared.density.Density.TheVariants as density
 use Rattle.xt_isa.specs.declared.density.NarrowName.TheVariants as NarrowName
 use Rattle.xt_isa.specs.declared.density.NarrowRetName.TheVariants as NarrowRetName
 use Rattle.xt_isa.specs.Ranges.{one_register, two_registers, three_registers, in_range, three_in_range, shift_in_range, memory_in_range, control_in_range, system_in_range, density_in_range}
-use Rattle.xt_rows.specs.Operands.{call_size, callx_size, three_reads, shift_reads, memory_reads, control_reads, system_reads, density_reads, reads, three_named, shift_named, memory_named, control_named, system_named, density_named, named}
-use Rattle.xt_rows.specs.Laws.{IsRegister}
+use Rattle.xt_rows.specs.Operands.{call_size, callx_size, three_reads, shift_reads, memory_reads, control_reads, system_reads, density_reads, reads, special_reads, three_named, shift_named, memory_named, control_named, system_named, density_named, named}
+use Rattle.xt_rows.specs.Laws.{IsHeld, IsRegister, IsShiftAmount}
 
 abbrev AreRegisters : Option ℕ × Option ℕ → Type 0
 AreRegisters r = IsRegister r.0 × IsRegister r.1
@@ -266,3 +266,16 @@ names_registers (insn.Memory i) ok = memory_names i ok
 names_registers (insn.Control i) ok = control_names i ok
 names_registers (insn.System i) ok = system_names i ok
 names_registers (insn.Density i) ok = density_names i ok
+
+-- a row that shifts by SAR has what SAR can hold
+pub shift_amount : (i : Insn) (u : ℕ) → IsHeld (special_reads i).0 u → IsShiftAmount i u
+unfolding special_reads
+shift_amount (insn.Three (three.Src r s t)) u held = held refl
+shift_amount (insn.Three _) u held = omega (arith, held)
+shift_amount (insn.Shift (shift.Srl name r t)) u held = held refl
+shift_amount (insn.Shift (shift.Sll r s)) u held = held refl
+shift_amount (insn.Shift _) u held = omega (arith, held)
+shift_amount (insn.Memory i) u held = tt
+shift_amount (insn.Control i) u held = tt
+shift_amount (insn.System i) u held = tt
+shift_amount (insn.Density i) u held = tt

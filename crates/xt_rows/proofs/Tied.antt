@@ -1,15 +1,13 @@
 -- What the rows say of special registers and loops is what the crates of these say.
-use Rattle.std.proofs.Common.{◌≡◌, ℕ, ◌+◌, ◌-◌, ◌%◌, ◌^◌, Bool, true, false, eqb, cond, List, length, get_or, refl, sym, ◌∙◌, ap, arith, ⊎_elim}
+use Rattle.std.proofs.Common.{◌≡◌, ℕ, ◌+◌, ◌-◌, ◌%◌, ◌^◌, Bool, true, false, eqb, cond, List, length, refl, arith}
 use Rattle.std.proofs.Math.ListN.{set}
-use Rattle.std.proofs.lemmas.Bool.{cases_Bool, cond-true, cond-false}
 use Rattle.std.proofs.lemmas.List.{get_or-set_same}
 use Rattle.xt_special.specs.Numbers as number
 use Rattle.xt_special.specs.Control.{Control, special_of}
-use Rattle.xt_special.specs.Access.{is_ccompare, timer_bit, without_bits, changed_by, value_kept, special_written}
-use Rattle.xt_loop.specs.Looping.{loops_back, next_past, count_past}
-use Rattle.xt_rows.specs.declared.outcome.Flow.TheVariants.{Falls}
-use Rattle.xt_rows.specs.Effects.{SpecialWrites, special_sets, no_sets, no_set, set_to}
-use Rattle.xt_rows.specs.Settling.{with_sets, after_flow}
+use Rattle.xt_special.specs.Access.{is_ccompare, special_written}
+use Rattle.xt_loop.specs.Looping.{loops_back}
+use Rattle.xt_rows.specs.Effects.{SpecialWrites}
+use Rattle.xt_rows.specs.Settling.{with_sets}
 use Rattle.xt_rows.specs.Ties.{WritesAreAccesses, FallsAreLoops}
 
 sets_by : (b c : Bool) (x y z : SpecialWrites) (special : List ℕ) → with_sets (cond b x (cond c y z)) special ≡ cond b (with_sets x special) (cond c (with_sets y special) (with_sets z special))

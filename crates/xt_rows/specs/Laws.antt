@@ -110,6 +110,11 @@ IsProper W (Asks access awaited e) =
 IsProper W Stops = Unit {0}
 IsProper W (Windowed step) = IsProperStep step
 
+-- what is read of a special register, if one is read, and else 0: SAR has six bits
+abbrev pub IsHeld : Option ℕ → ℕ → Type 0
+IsHeld None u = u ≡ 0
+IsHeld (Some number) u = number ≡ 3 → u < 2 ^ 6
+
 -- an instruction that shifts by SAR has SAR's value, which is below 64
 abbrev pub IsShiftAmount : Insn → ℕ → Type 0
 IsShiftAmount (insn.Three i) u = u < 2 ^ 6

@@ -10,7 +10,6 @@ use Rattle.xt_frames.specs.Breaches.{Bounds}
 use Rattle.xt_frames.specs.Stacks.{Chain, Stack}
 use Rattle.xt_simulation.specs.Stacks.{sp_under}
 use Rattle.xt_simulation.specs.Cores.{word, Related}
-use Rattle.xt_simulation.specs.Stretches as stretches
 use Rattle.xt_simulation.proofs.Modular.{place_at}
 use Rattle.xt_map.proofs.Alike.{touched_at}
 use Rattle.xt_simulation.proofs.Chains.{called_under, live_end}
@@ -55,8 +54,8 @@ same_place w i = place_at (w % 16) w i (omega arith)
 pub same_visible : (regs : List ℕ) (w i : ℕ) → visible regs (w % 16) i ≡ visible regs w i
 same_visible regs w i = ap (λ p. get_or regs p 0) (same_place w i)
 
-finds_same : (lo hi n a b c x y z : ℕ) → a ≡ x → b ≡ y → c ≡ z → stretches.Finds lo hi n x y z → Finds lo hi n a b c
-finds_same lo hi n a b c x y z e f h r = rw (e, f, h) (record { low = r.low; callee_aligned = r.callee_aligned; under = r.under; own_aligned = r.own_aligned; large = r.large; top_aligned = r.top_aligned; high = r.high })
+finds_same : (lo hi n a b c x y z : ℕ) → a ≡ x → b ≡ y → c ≡ z → Finds lo hi n x y z → Finds lo hi n a b c
+finds_same lo hi n a b c x y z e f h r = rw (e, f, h) r
 
 pub found_over : (b : Bounds) (lost : ℕ → Bool) (s : State) (f : FrameState) (front : List Frame) (g : Frame) (rest : List Frame) (m : ℕ → ℕ) → InDram b → IsShaped s → 0 < g.by → g.by ≤ 3 → Related m b lost s f (front ++ g ∷ []) rest → Found Overflow m b s f front g rest
 found_over b lost s f front g rest m d shaped pos small l =

@@ -28,6 +28,7 @@ use Rattle.xt_frames.specs.HandlerSteps.{is_window}
 use Rattle.xt_frames.specs.Breaches.{lost_of, Bounds, writes_sp, opens_nothing, sets_epc1, writes_epc1, falls}
 use Rattle.xt_simulation.specs.Stacks.{sp_under}
 use Rattle.xt_simulation.specs.Relation.{Level}
+use Rattle.xt_frames.proofs.Shown.{Sound, keeps_sp, entry_number}
 use Rattle.xt_simulation.proofs.WindowLemmas.{passes}
 use Rattle.xt_rows.specs.Kinds.{Fits, IsReturn}
 use Rattle.xt_rows.proofs.Fitting.{outcome_fits}
@@ -36,7 +37,7 @@ use Rattle.xt_exec.specs.Finishing.{finished}
 use Rattle.xt_simulation.proofs.Evenly.{even_ticked, even_after}
 use Rattle.xt_simulation.proofs.Ordinary.{in_both, same_outcome, settled_alike}
 use Rattle.xt_simulation.proofs.Moves.{enters, leaves, underflows}
-use Rattle.xt_simulation.proofs.Judged.{Sound, keeps_sp, Target, raise_target, same_excm, may, entry_number, Calls, illegal_excm, excm_step, checked_ahead, has_room, awaited_named, epc1_effect, less_fresh}
+use Rattle.xt_simulation.proofs.Judged.{Target, raise_target, same_excm, may, Calls, illegal_excm, excm_step, checked_ahead, has_room, awaited_named, epc1_effect, less_fresh}
 
 module _ {b : Bounds} {fresh : Bool} {live stale : ℕ → Bool} {rec : StepRecord} {s : State} {g : FrameState} {ring spilled : List Frame} (l : Level b.vecbase (lost_of fresh) s g ring spilled) (i : Insn) (len reply : ℕ) (ok : in_range i ≡ true) (u : FrameTurn) (o : Sound b fresh live stale i rec g u) (legal : is_illegal i s ≡ false) (free : window_check i s ≡ 0) where
   does_target : (e : Effect) → Fits i (Does e) → writes_sp i rec.write e.write ≡ false → Target b.vecbase fresh spilled (sp_under (known g.seen 1) ring) (Fetches i len) s (finished (in_window (settled (Does e) len s.control) s) reply) (in_frame (settled (Does e) len g.control) reply g)

@@ -1,21 +1,18 @@
 -- A judged step keeps both machines level.
 use Rattle.std.proofs.Common.{◌≡◌, ℕ, ◌+◌, ◌/◌, ◌<◌, ◌⊎◌, ℤ, Bool, true, false, ◌||◌, ◌&&◌, not, eqb, leb, ltb, List, [], ◌∷◌, ◌++◌, Option, Some, None, sym, ap, ◌∙◌, refl, arith, inl, inr, ⊎_elim, subst}
-use Rattle.std.proofs.lemmas.Bool.{eqb-true, eq-eqb, ne_eqb, eqb-false, cases_Bool, or_cases, true≢false, both_ways, and_parts, not-true, not-false, or_parts, and_from, and_cases, and_left, and_right, not_from_false, not_from_true, leb-false, cond-true}
+use Rattle.std.proofs.lemmas.Bool.{eq-eqb, ne_eqb, cases_Bool, or_cases, true≢false, both_ways, and_parts, not-true, not-false, and_from, and_cases, and_left, and_right, not_from_false, not_from_true, leb-false, cond-true}
 use Rattle.xt_isa.specs.declared.Insn.{Insn}
 use Rattle.xt_isa.specs.declared.Insn.TheVariants as insn
-use Rattle.xt_isa.specs.declared.shift.Shift.TheVariants as shift
 use Rattle.xt_isa.specs.declared.control.Control.TheVariants as control
 use Rattle.xt_isa.specs.declared.control.RetName.TheVariants as RetName
 use Rattle.xt_isa.specs.declared.density.Density.TheVariants as density
 use Rattle.xt_isa.specs.declared.density.NarrowRetName.TheVariants as NarrowRetName
 use Rattle.xt_isa.specs.Ranges.{in_range}
 use Rattle.xt_special.specs.declared.ps.Ps.{Ps}
-use Rattle.xt_special.specs.Numbers as number
-use Rattle.xt_special.specs.Control.{Control, special_of}
+use Rattle.xt_special.specs.Control.{Control}
 use Rattle.xt_special.specs.Exceptions.{after_exception}
 use Rattle.xt_window.specs.Ring.{visible, ahead}
 use Rattle.xt_window.specs.Moves.{behind}
-use Rattle.xt_trace.specs.declared.record.RegWrite.{RegWrite}
 use Rattle.xt_trace.specs.declared.record.StepRecord.{StepRecord}
 use Rattle.xt_rows.specs.declared.outcome.Write.{Write}
 use Rattle.xt_rows.specs.declared.outcome.Awaited.{Awaited}
@@ -30,57 +27,18 @@ use Rattle.xt_exec.specs.State.{State}
 use Rattle.xt_exec.specs.Turn.{in_window, has_windows, looks, window_check, return_size, is_illegal, illegal_return, written}
 use Rattle.xt_frames.specs.Frames.{Frame, FrameState, known, moved}
 use Rattle.xt_frames.specs.FrameStep.{FrameTurn, raised, fetched_step}
-use Rattle.xt_frames.specs.SaveAreas.{Range}
-use Rattle.xt_frames.specs.Breaches.{lost_of, Bounds, reads_none, may_write_sp, is_sp, shows_sp, writes_sp, other_frame_size, leaves_range, misaligns_sp, opens_nothing, returns_elsewhere, has_no_caller, touches_save_area, loads_stale, names_high, is_windowing, names_window_register, reads_epc1, is_movsp, insn_tests, writes_epc1, falls, fresh_after}
+use Rattle.xt_frames.specs.Breaches.{lost_of, Bounds, names_high, writes_epc1, falls, fresh_after}
 use Rattle.xt_simulation.specs.Stacks.{sp_under}
 use Rattle.xt_simulation.specs.Relation.{Even, Level}
 use Rattle.xt_simulation.proofs.WindowLemmas.{passes}
 use Rattle.xt_simulation.proofs.Behind.{caller_behind, none_behind}
 use Rattle.xt_rows.specs.Kinds.{WritesNamed, AwaitsNamed, IsReturn, is_entry}
-use Rattle.xt_simulation.proofs.Windowed.{NoneShown, a0_known, return_names, return_has_caller, return_is}
+use Rattle.xt_frames.proofs.Shown.{Sound, entry_number}
+use Rattle.xt_simulation.proofs.Windowed.{a0_known, return_names, return_has_caller, return_is}
 use Rattle.xt_exec.specs.Finishing.{Turn, finished}
 use Rattle.xt_simulation.specs.JudgedSteps.{Steps}
 use Rattle.xt_simulation.proofs.Evenly.{same_set_epc1, even_flow, even_ticked, even_raise_epc1, even_after}
-use Rattle.xt_simulation.proofs.Ordinary.{Ends, KeepsSp, HasRoom, in_both, raise_alike}
-
--- ---- a step that shows no breach
-pub record Sound (b : Bounds) (fresh : Bool) (live stale : ℕ → Bool) (i : Insn) (rec : StepRecord) (g : FrameState) (u : FrameTurn) : Type 0 where
-  pub unset : reads_none i g ≡ false
-  pub written : writes_sp i rec.write u.write ≡ false
-  pub size : other_frame_size b.range i g ≡ false
-  pub low : leaves_range b.range i g ≡ false
-  pub align : misaligns_sp i g ≡ false
-  pub opens : opens_nothing i g ≡ false
-  pub mismatch : returns_elsewhere i g ≡ false
-  pub caller : has_no_caller i g ≡ false
-  pub saves : touches_save_area live rec.access ≡ false
-  pub loads : loads_stale live stale rec.access ≡ false
-  pub high : names_high i g ≡ false
-  pub windowing : is_windowing i ≡ false
-  pub window_register : names_window_register i ≡ false
-  pub woe : u.after.control.ps.woe ≡ true
-  pub vectors : special_of u.after.control number.vecbase ≡ b.vecbase
-  pub lost : reads_epc1 fresh i ≡ false
-  pub movsp : is_movsp i ≡ false
-
-pub sound : (b : Bounds) (fresh : Bool) (live stale : ℕ → Bool) (i : Insn) (rec : StepRecord) (g : FrameState) (u : FrameTurn) → NoneShown (insn_tests b fresh live stale i rec g u) → Sound b fresh live stale i rec g u
-sound b fresh live stale i rec g u (unset, (written, (size, (low, (align, (opens, (mismatch, (caller, (saves, (loads, (high, (windowing, (window_register, (woe, (vectors, (lost, (movsp, more))))))))))))))))) =
-    record { unset = unset; written = written; size = size; low = low; align = align; opens = opens; mismatch = mismatch; caller = caller; saves = saves; loads = loads; high = high; windowing = windowing; window_register = window_register; woe = not-false _ woe; vectors = eqb-true _ _ (not-false _ vectors); lost = lost; movsp = movsp }
-
-may_write_is : (i : Insn) → is_entry i ≡ false → is_movsp i ≡ false → may_write_sp i ≡ false
-unfolding may_write_sp is_entry is_movsp
-may_write_is (insn.Control (control.Entry number size)) e m = e
-may_write_is (insn.Shift (shift.Movsp t s)) e m = m
-may_write_is _ e m = refl
-
-sp_kept : (o : Option Write) → is_sp o ≡ false → KeepsSp o
-sp_kept None h = tt
-sp_kept (Some w) h = eqb-false _ _ h
-
-pub keeps_sp : (i : Insn) (shown : Option RegWrite) (o : Option Write) → is_entry i ≡ false → is_movsp i ≡ false → writes_sp i shown o ≡ false → KeepsSp o
-keeps_sp i shown o e m h =
-    let z : (true && (shows_sp shown || is_sp o)) ≡ false = (let x = may_write_is i e m in rw x at h) in
-    sp_kept o (or_parts (shows_sp shown) (is_sp o) z).1
+use Rattle.xt_simulation.proofs.Ordinary.{Ends, HasRoom, in_both, raise_alike}
 
 -- ---- the target
 abbrev pub Target : ℕ → Bool → List Frame → ℕ → Fetched → State → Turn → FrameTurn → Type 0
@@ -134,10 +92,6 @@ return_illegal {s = s} {g = g} [] (f ∷ rest) l i r o bad =
     let n : return_size (visible s.regs s.base 0) ≡ f.by = rw (← a) (return_names f rest i g (return_is i r) l.frames o.mismatch) in
     return_excm s f.by 0 n (none_behind l.windows) l.older.0.moves (inl refl) l.woe bad
 return_illegal {g = g} [] [] l i r o bad = absurd (return_has_caller i g (return_is i r) l.frames o.caller)
-
-pub entry_number : (number : ℕ) (size : ℤ) → (range : Range) (g : FrameState) → other_frame_size range (insn.Control (control.Entry number size)) g ≡ false → number ≡ 1
-unfolding other_frame_size
-entry_number number size range g h = eqb-true _ _ (not-false _ (or_parts (not (eqb number 1)) _ h).0)
 
 -- the two instructions that may be illegal
 abbrev pub Calls : Insn → Type 0

@@ -1,8 +1,7 @@
 -- Equal values give equal outcomes, and an effect applied to both machines keeps them level.
-use Rattle.std.proofs.Common.{◌≡◌, ℕ, ◌+◌, ◌/◌, ◌<◌, ◌≢◌, Bool, true, false, List, Option, Some, None, sym, ap, ◌∙◌, refl, arith, get_or}
+use Rattle.std.proofs.Common.{◌≡◌, ℕ, ◌+◌, ◌/◌, ◌<◌, Bool, true, false, List, Option, Some, None, sym, ap, ◌∙◌, refl, arith, get_or}
 use Rattle.std.specs.Prelude.{unwrap_or}
 use Rattle.std.proofs.lemmas.Bool.{or_parts}
-use Rattle.std.proofs.lemmas.List.{get_or-set_other}
 use Rattle.xt_isa.specs.declared.Insn.{Insn}
 use Rattle.xt_special.specs.Numbers as number
 use Rattle.xt_special.specs.Control.{Control, special_of}
@@ -19,6 +18,7 @@ use Rattle.xt_exec.specs.Turn.{in_window, kind_of, written, with_write}
 use Rattle.xt_frames.specs.Frames.{Frame, FrameState, known, moved, seen_after_write}
 use Rattle.xt_frames.specs.FrameStep.{FrameTurn, in_frame}
 use Rattle.xt_frames.specs.Breaches.{lost_of, lacks, reads_none, reads_lost, reads_epc1}
+use Rattle.xt_frames.proofs.Shown.{KeepsSp, sp_written}
 use Rattle.xt_simulation.specs.Ring.{Windows}
 use Rattle.xt_simulation.specs.Stacks.{sp_under}
 use Rattle.xt_simulation.specs.Relation.{Even, Level}
@@ -89,16 +89,6 @@ write_control o s = (write_keeps o s).2
 pub written_windows : {seen : List (Option ℕ)} {ring : List Frame} {low : ℕ} (s : State) (o : Option Write) → Windows s.regs s.base s.start seen ring low → HasRoom ring o → Windows (with_write o s).regs (with_write o s).base (with_write o s).start (seen_after_write o seen) ring low
 written_windows s None w h = w
 written_windows s (Some x) w h = kept.written w x.number x.value h.0 h.1
-
-abbrev pub KeepsSp : Option Write → Type 0
-KeepsSp None = Unit {0}
-KeepsSp (Some w) = w.number ≡ 1 → ⊥
-
-sp_written : (seen : List (Option ℕ)) (o : Option Write) → KeepsSp o → known (seen_after_write o seen) 1 ≡ known seen 1
-sp_written seen None h = refl
-sp_written seen (Some w) h =
-    let apart : 1 ≢ w.number = λ e. h (sym e) in
-    ap (λ o. unwrap_or o 0) (get_or-set_other seen w.number 1 (Some w.value) None apart)
 
 -- what is known of the states after both steps
 pub record Ends (vecbase : ℕ) (t : Turn) (u : FrameTurn) : Type 0 where

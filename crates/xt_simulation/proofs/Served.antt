@@ -11,7 +11,7 @@ use Rattle.xt_frames.specs.Frames.{Frame, FrameState}
 use Rattle.xt_frames.specs.FrameStep.{FrameTurn, laid_step}
 use Rattle.xt_frames.specs.Breaches.{lost_of, Bounds, fetched_tests, laid_breach, touches_save_area, loads_stale}
 use Rattle.xt_simulation.specs.Relation.{Level}
-use Rattle.xt_simulation.proofs.Windowed.{NoneShown, none_shown}
+use Rattle.xt_frames.proofs.Shown.{NoneShown, none_shown}
 use Rattle.xt_exec.proofs.Finished.{turn_taken, turn_waits}
 use Rattle.xt_simulation.proofs.Evenly.{same_pending}
 use Rattle.xt_simulation.proofs.Whole.{breach_fetches}

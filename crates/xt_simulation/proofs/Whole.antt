@@ -22,13 +22,13 @@ use Rattle.xt_frames.specs.HandlerSteps.{is_window}
 use Rattle.xt_frames.specs.Breaches.{lost_of, Bounds, first_shown, fetched_tests, other_tests, laid_breach, writes_epc1, falls, fresh_after}
 use Rattle.xt_simulation.specs.Stacks.{sp_under}
 use Rattle.xt_simulation.specs.Relation.{Level}
-use Rattle.xt_simulation.proofs.Windowed.{NoneShown, none_shown}
+use Rattle.xt_frames.proofs.Shown.{NoneShown, none_shown, sound}
 use Rattle.xt_exec.proofs.Finished.{turn_taken, turn_waits, turn_fetches}
 use Rattle.xt_exec.specs.Finishing.{Turn, finished}
 use Rattle.xt_simulation.specs.JudgedSteps.{Steps, KeepsLevel}
 use Rattle.xt_simulation.proofs.Evenly.{same_at, even_ticked, even_interrupt, even_interrupt_epc1, even_after, same_pending}
 use Rattle.xt_simulation.proofs.Ordinary.{Ends, in_both}
-use Rattle.xt_simulation.proofs.Judged.{sound, Target, raise_target}
+use Rattle.xt_simulation.proofs.Judged.{Target, raise_target}
 use Rattle.xt_simulation.proofs.Executed.{insn_target}
 
 -- ---- the frame machine's step

@@ -25,9 +25,10 @@ use Rattle.xt_rows.specs.Settling.{Kind, Executed, Raised, Taken, Waited, Stoppe
 use Rattle.xt_exec.specs.State.{State}
 use Rattle.xt_exec.specs.Laws.{IsShaped}
 use Rattle.xt_exec.specs.Turn.{Planned, planned, kind_of, raises, has_windows, looks, window_check, window_exception, overflow, underflow, window_step, entered, returned, resumed, moved_stack, return_size, is_illegal, done, checked, fetched_turn, falls}
+use Rattle.xt_frames.proofs.Shown.{NoneShown, none_shown}
 use Rattle.xt_frames.specs.Frames.{Frame, FrameState, known, moved}
 use Rattle.xt_frames.specs.HandlerSteps.{is_window}
-use Rattle.xt_frames.specs.Breaches.{Test, first_shown, lacks, reads_none, is_return, mismatches, returns_elsewhere, is_empty, has_no_caller, return_tests, fetched_return_breach, is_underflow, window_breach}
+use Rattle.xt_frames.specs.Breaches.{first_shown, lacks, reads_none, is_return, mismatches, returns_elsewhere, is_empty, has_no_caller, return_tests, fetched_return_breach, is_underflow, window_breach}
 use Rattle.xt_simulation.specs.Ring.{oldest_by, Windows}
 use Rattle.xt_simulation.specs.Relation.{Level, Overflows, Underflows, EntersWindow}
 use Rattle.xt_simulation.proofs.Modular.{place_at, bit_at_window}
@@ -165,18 +166,6 @@ pub visible_value : {regs : List ℕ} {base start : ℕ} {seen : List (Option �
 visible_value {base = base} {ring = ring} {low = low} w k v h =
     let p : place base k ≡ place (moved ring + low) k = place_at base (moved ring + low) k (let e = w.based in omega arith) in
     rw p (w.visible k v h)
-
-pub if_none : {X : Type 0} (b : Bool) (x : X) (o : Option X) → cond b (Some x) o ≡ None → (b ≡ false) × (o ≡ None)
-if_none true x o e = absurd (cc)
-if_none false x o e = (refl, e)
-
-abbrev pub NoneShown : List Test → Type 0
-NoneShown [] = Unit {0}
-NoneShown (t ∷ ts) = (t.shown ≡ false) × NoneShown ts
-
-pub none_shown : (ts : List Test) → first_shown ts ≡ None → NoneShown ts
-none_shown [] e = tt
-none_shown (t ∷ ts) e = let p = if_none t.shown t.kind (first_shown ts) e in (p.0, none_shown ts p.1)
 
 return_reads : (i : Insn) → IsReturn i → reads i ≡ (Some 0, None)
 unfolding reads

@@ -1,6 +1,6 @@
 -- Carries a proof; nothing that a reader must believe.
 -- A whole stretch of handler steps, by what the handler's stores and loads are.
-use Rattle.std.specs.Prelude.{◌≡◌, ◌≢◌, ℕ, ◌+◌, ◌-◌, ◌*◌, ◌%◌, ◌<◌, ◌≤◌, Bool, true, false, List}
+use Rattle.std.specs.Prelude.{◌≡◌, ◌≢◌, ℕ, ◌+◌, ◌-◌, ◌*◌, ◌<◌, ◌≤◌, Bool, true, false, List}
 use Rattle.std.specs.Prelude.{[], ◌∷◌, ◌++◌, slice_index, length}
 use Rattle.xt_special.specs.Numbers as number
 use Rattle.xt_special.specs.Control.{Control, special_of}
@@ -10,6 +10,7 @@ use Rattle.xt_window.specs.Ring.{visible, with_bit, without_bit}
 use Rattle.xt_exec.specs.State.{State}
 use Rattle.xt_frames.specs.Frames.{Frame, FrameState, moved}
 use Rattle.xt_frames.specs.Breaches.{lost_of, Bounds}
+use Rattle.xt_stretch.specs.Joined.{Finds}
 use Rattle.xt_simulation.specs.Stacks.{IsElsewhere}
 use Rattle.xt_simulation.specs.Cores.{word, Related}
 use Rattle.xt_simulation.specs.Closing.{Resumes, Changes}
@@ -79,16 +80,7 @@ StretchesEnd =
     → let ps = record now.ps { excm = false } in
     Resumes before (ticked (record now { pc = special_of now (number.epc 1); ps = ps }))
 
--- ---- what a handler finds: the stack pointers of the frame called, of the frame itself and of
--- its caller
-pub record Finds (lo hi n callee own top : ℕ) : Type 0 where
-  pub low : lo + 16 ≤ callee
-  pub callee_aligned : callee % 16 ≡ 0
-  pub under : callee + 16 ≤ own
-  pub own_aligned : own % 16 ≡ 0
-  pub large : own + 16 * n ≤ top
-  pub top_aligned : top % 16 ≡ 0
-  pub high : top ≤ hi
+-- ---- what a handler finds
 
 abbrev pub OverflowsFindFrames : Type 0
 OverflowsFindFrames =

@@ -1,6 +1,6 @@
 use Rattle.std.proofs.Common.{arith}
 use Rattle.xt_map.specs.declared.constants.Start.{Start}
-use Rattle.xt_map.proofs.Indexed.{none_upto, found_upto, none_found}
+use Rattle.xt_map.proofs.Indexed.{none_upto, found_from, none_found}
 use Rattle.xt_map.proofs.constants.byte_in.Goals as goal
 
 pub returns-then-count-eq0 : goal.returns-then-count-eq0
@@ -11,8 +11,8 @@ no_start = record { addr = 0; number = 0 }
 
 pub returns-then-place-bytes : goal.returns-then-place-bytes
 returns-then-place-bytes c =
-    found_upto c.args.segments.now c.args.starts.now c.args.addr c.count_upto-count.result no_start c.index-segments-start.result c.as_slice-bytes.result.now
-    c.requires.indexed c.count_upto-count.ensures (omega arith) c.as_slice-bytes.ensures (omega arith) c.requires.constant
+    found_from c.args.segments.now c.args.starts.now c.args.addr c.args.addr c.count_upto-count.result no_start c.index-segments-start.result c.as_slice-bytes.result.now
+    c.requires.indexed c.count_upto-count.ensures (omega arith) c.as_slice-bytes.ensures (omega arith) (omega arith) c.requires.constant
 
 pub returns-else-place-bytes : goal.returns-else-place-bytes
 returns-else-place-bytes c =

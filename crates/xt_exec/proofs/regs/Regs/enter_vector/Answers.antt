@@ -1,4 +1,4 @@
-use Rattle.std.proofs.Common.{◌≡◌, ℕ, ap, ◌∙◌}
+use Rattle.std.proofs.Common.{ℕ, ap, ◌∙◌}
 use Rattle.xt_special.specs.Control.{Control}
 use Rattle.xt_special.specs.Values.{control_at}
 use Rattle.xt_special.specs.WindowExceptions.{after_window_exception}
