@@ -10,11 +10,17 @@ mod cases;
 mod damage_tests;
 #[cfg(test)]
 mod gate_tests;
+#[cfg(test)]
+mod gen_tests;
+#[cfg(test)]
+mod line_tests;
 mod programs;
 #[cfg(test)]
 mod recording_tests;
 mod recordings;
 mod schedules;
+#[cfg(test)]
+mod top_tests;
 mod verdicts;
 
 use crate::cases::{lines_of, words_of};

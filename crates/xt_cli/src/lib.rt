@@ -26,10 +26,3 @@ pub use tool::{ELF_LIMIT, IMAGE_LIMIT, Job, TEXT_LIMIT, Tool, tool_main};
 pub use top::{Outcome, write_whole, xt_main};
 pub use verdict_lines::{frames_line, handlers_line};
 pub use verdicts::{Whole, judged};
-
-#[cfg(test)]
-mod gen_tests;
-#[cfg(test)]
-mod tests;
-#[cfg(test)]
-mod top_tests;

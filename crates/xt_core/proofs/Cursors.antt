@@ -1,5 +1,5 @@
 -- The next of the records that a core's turns will make.
-use Rattle.std.proofs.Common.{◌≡◌, ℕ, zero, suc, ◌-◌, ◌<◌, Bool, true, false, cond, Option, Some, None, List, [], ◌∷◌, refl, sym, subst, ap, ◌∙◌, arith}
+use Rattle.std.proofs.Common.{◌≡◌, ℕ, zero, suc, ◌-◌, ◌<◌, Bool, true, false, cond, Option, Some, List, ◌∷◌, refl, sym, subst, ap, ◌∙◌, arith}
 use Rattle.xt_map.specs.declared.access.Access.{Access}
 use Rattle.xt_map.specs.declared.access.Entry.{Entry}
 use Rattle.xt_map.specs.History.{replies_of}
@@ -7,7 +7,7 @@ use Rattle.xt_trace.specs.declared.record.StepRecord.{StepRecord}
 use Rattle.xt_trace.specs.Calls.{is_stop}
 use Rattle.xt_trace.specs.Left.{first_of, rest_of}
 use Rattle.xt_runs.specs.Chip.{Chip}
-use Rattle.xt_runs.specs.Traces.{Traced, ended, trace_over, reply_for, replies_past}
+use Rattle.xt_runs.specs.Traces.{ended, trace_over, reply_for, replies_past}
 use Rattle.xt_runs.specs.Worlds.{left_past}
 use Rattle.xt_exec.specs.State.{State}
 use Rattle.xt_exec.specs.Turn.{demand, turn}

@@ -12,7 +12,7 @@ use Rattle.xt_exec.specs.declared.plans.Effect.{Effect}
 use Rattle.xt_exec.specs.declared.plans.Pending.{Pending}
 use Rattle.xt_exec.specs.State.{State}
 use Rattle.xt_exec.specs.Turn.{Planned, planned, demand, turn, reply_where, with_write}
-use Rattle.xt_exec.specs.Halves.{IsEffect, IsAsking, IsFinished, asking, at_end, awaiting, gone_on}
+use Rattle.xt_exec.specs.Halves.{IsEffect, IsAsking, IsFinished, at_end, awaiting, gone_on}
 use Rattle.xt_core.specs.declared.record.Head.{Head}
 use Rattle.xt_core.specs.Turns.{head_of, recorded, Awaits, IsLocal, IsHalf}
 

@@ -1,5 +1,5 @@
 -- What a tick, an exception and an interrupt keep of the special registers.
-use Rattle.std.proofs.Common.{◌≡◌, ℕ, ◌+◌, ◌%◌, ◌^◌, ◌≤◌, ◌≢◌, Bool, true, false, eqb, List, Option, None, ◌∙◌, refl, arith, length, get_or, cond, bit_or}
+use Rattle.std.proofs.Common.{◌≡◌, ℕ, ◌+◌, ◌%◌, ◌^◌, ◌≤◌, ◌≢◌, Bool, true, false, eqb, List, None, ◌∙◌, refl, arith, length, get_or, cond, bit_or}
 use Rattle.std.proofs.Math.ListN.{set}
 use Rattle.std.proofs.lemmas.List.{get_or-set_other, length-set}
 use Rattle.xt_special.specs.Numbers as number

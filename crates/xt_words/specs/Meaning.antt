@@ -13,7 +13,6 @@ use Rattle.xt_words.specs.declared.command.Refusal.{Refusal}
 use Rattle.xt_words.specs.declared.command.Refusal.TheVariants as refusal
 use Rattle.xt_words.specs.declared.command.Name.{Name}
 use Rattle.xt_words.specs.declared.command.Name.TheVariants as name
-use Rattle.xt_words.specs.declared.options.RunOptions.{RunOptions}
 
 -- the commands
 abbrev pub names : List (Text × Name)

@@ -1,4 +1,4 @@
-use Rattle.std.proofs.Common.{Option, ℕ, sym, ap, ◌∙◌}
+use Rattle.std.proofs.Common.{Option, sym, ap, ◌∙◌}
 use Rattle.xt_map.specs.declared.access.Access.{Access}
 use Rattle.xt_map.specs.History.{replies_of}
 use Rattle.xt_map.specs.Memory.{constant_byte}

@@ -1,7 +1,7 @@
 use Rattle.std.proofs.Common.{arith}
 use Rattle.xt_map.specs.Memory.{constant_byte}
 use Rattle.xt_exec.specs.States.{file_state}
-use Rattle.xt_core.proofs.Cursors.{Next, next_is}
+use Rattle.xt_core.proofs.Cursors.{next_is}
 use Rattle.xt_core.proofs.cursor.CursorRecords.next.Goals as goal
 
 pub returns-clause-first : goal.returns-clause-first

@@ -1,6 +1,6 @@
-use crate::{Status, run_lines, status_line};
 use std::alloc::Global;
 use std::test::Fail;
+use xt_cli::{Status, run_lines, status_line};
 use xt_elf::ElfFault;
 use xt_image::ImageFault;
 use xt_lex::AsmPlace;

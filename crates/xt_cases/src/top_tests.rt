@@ -1,8 +1,8 @@
-use crate::{Outcome, Status, Tool, tool_main, xt_main};
 use std::alloc::{AllocError, Global};
 use std::sync::Wait;
 use std::test::Fail;
 use std::thread::Threads;
+use xt_cli::{Outcome, Status, Tool, tool_main, xt_main};
 use xt_elf::ElfFault;
 use xt_image::ImageFault;
 use xt_io::{MemSink, MemSource, OpenGate, SafeSink, SafeSource, Sink, Source};

@@ -1,7 +1,7 @@
-use crate::{Status, Tool, tool_main, xt_main};
 use std::alloc::{AllocError, Global};
 use std::fmt::Write;
 use std::test::Fail;
+use xt_cli::{Status, Tool, tool_main, xt_main};
 use xt_gen::generated;
 use xt_image::write;
 use xt_io::{OpenGate, SafeSink, SafeSource};
