@@ -4,7 +4,7 @@
 ghost use Rattle.std.specs.Prelude.{◌≡◌, ◌<◌, ◌≤◌};
 ghost use Rattle.xt_alu.specs.Shifts.{src, srl, sra, sll, slli, srai, srli, extui, ssr, ssl, ssa8l, ssa8b};
 
-use xt_word::pair_right;
+use xt_word::{field, pair_right};
 
 /// SRC: the low word of the pair (`s`, `t`), shifted right by SAR.
 ///
@@ -102,7 +102,7 @@ pub fn extui(t: u32, n: u8, w: u8) -> u32
     requires high { w ≤ 16 }
     ensures { result ≡ extui t n w }
 {
-    (t >> n) % (1 << w)
+    field(t >> n, 0, w)
 }
 
 /// SSR: the SAR for a shift to the right by `s` modulo 32.

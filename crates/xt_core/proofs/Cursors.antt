@@ -57,10 +57,10 @@ next_is code core s s2 (suc m) left2 es es2 r xs view positive step others lefts
     }
 
 -- a turn by its halves, with the reply that the entries have for it
-pub half_step : (code : ℕ → ℕ) (s s1 : State) (a : Access) (p : Pending) (reply : ℕ) (rs : List ℕ) (x : StepRecord × State)
-    → IsHalf code s s1 a p → (Awaits code s1 p → x ≡ turn code s1 reply) → reply ≡ reply_for (Some a) rs
+pub half_step : (code : ℕ → ℕ) (s s1 : State) (p : Pending) (reply : ℕ) (rs : List ℕ) (x : StepRecord × State)
+    → IsHalf code s s1 p → (Awaits code s1 p → x ≡ turn code s1 reply) → reply ≡ reply_for (Some p.access) rs
     → x ≡ turn code s (reply_for (demand code s) rs)
-half_step code s s1 a p reply rs x h ends is =
+half_step code s s1 p reply rs x h ends is =
     let P : State → Type 0 = λ t. Awaits code t p in
     ends (subst P (sym h.unchanged) h.awaits)
     ∙ ap (λ (t : State). turn code t reply) h.unchanged

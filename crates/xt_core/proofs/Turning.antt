@@ -1,13 +1,13 @@
 -- A turn from its halves.
-use Rattle.std.proofs.Common.{◌≡◌, ℕ, Option, Some, None, refl, sym, subst, ap, ◌∙◌}
+use Rattle.std.proofs.Common.{◌≡◌, ℕ, true, Option, Some, None, refl, sym, subst, ap, ◌∙◌}
 use Rattle.xt_map.specs.declared.access.Access.{Access}
+use Rattle.xt_map.specs.Regions.{is_mapped}
 use Rattle.xt_trace.specs.declared.record.RegWrite.{RegWrite}
 use Rattle.xt_trace.specs.declared.record.StepKind.{StepKind}
 use Rattle.xt_trace.specs.declared.record.StepKind.TheVariants as kind
 use Rattle.xt_trace.specs.declared.record.StepRecord.{StepRecord}
 use Rattle.xt_rows.specs.declared.outcome.Awaited.{Awaited}
-use Rattle.xt_rows.specs.declared.outcome.Write.{Write}
-use Rattle.xt_rows.specs.Settling.{shown, written}
+use Rattle.xt_rows.specs.Settling.{written}
 use Rattle.xt_exec.specs.declared.plans.Effect.{Effect}
 use Rattle.xt_exec.specs.declared.plans.Pending.{Pending}
 use Rattle.xt_exec.specs.State.{State}
@@ -23,7 +23,7 @@ made s k w a reply t = (recorded (head_of s) (record { kind = k; write = w }) a 
 -- the turn, from what it makes before the reply
 abbrev from_plan : State → Planned → ℕ → StepRecord × State
 from_plan s p reply =
-    made s p.kind (shown (written p.write p.awaited reply)) p.access (reply_where p.access reply) (with_write (written p.write p.awaited reply) p.after)
+    made s p.kind (written p.write p.awaited reply) p.access (reply_where p.access reply) (with_write (written p.write p.awaited reply) p.after)
 
 turn_from_plan : (code : ℕ → ℕ) (s : State) (reply : ℕ) → from_plan s (planned code s) reply ≡ turn code s reply
 unfolding turn demand
@@ -33,9 +33,9 @@ quiet : (s : State) (p : Planned) (e : Effect) (after : State) (reply : ℕ) →
     → made s e.kind e.write None 0 (at_end after) ≡ from_plan s p reply
 quiet s p e after reply h =
     ap (λ (x : Effect). made s x.kind x.write None 0 (at_end after)) h.told
-    ∙ ap (made s p.kind (shown p.write) None 0) h.state
-    ∙ sym (ap (λ (a : Option Access). made s p.kind (shown p.write) a (reply_where a reply) (with_write p.write p.after)) h.no_access)
-    ∙ sym (ap (λ (w : Option Awaited). made s p.kind (shown (written p.write w reply)) p.access (reply_where p.access reply) (with_write (written p.write w reply) p.after)) h.no_awaited)
+    ∙ ap (made s p.kind p.write None 0) h.state
+    ∙ sym (ap (λ (a : Option Access). made s p.kind p.write a (reply_where a reply) (with_write p.write p.after)) h.no_access)
+    ∙ sym (ap (λ (w : Option Awaited). made s p.kind (written p.write w reply) p.access (reply_where p.access reply) (with_write (written p.write w reply) p.after)) h.no_awaited)
 
 pub local_turn : (code : ℕ → ℕ) (s : State) (e : Effect) (after : State) → IsEffect e after (planned code s)
     → IsLocal code s (at_end after) (recorded (head_of s) e None 0)
@@ -45,17 +45,17 @@ local_turn code s e after h = record {
   turn = λ reply. quiet s (planned code s) e after reply h ∙ turn_from_plan code s reply;
 }
 
-pub half_turn : (code : ℕ → ℕ) (s : State) (access : Access) (p : Pending) (after : State) → IsAsking access p s after (planned code s) → IsHalf code s after access p
+pub half_turn : (code : ℕ → ℕ) (s : State) (access : Access) (p : Pending) (after : State) → IsAsking access p s after (planned code s) → IsHalf code s after p
 unfolding demand
 half_turn code s access p after h = record {
-  asks = ap (λ (t : Planned). t.access) h.turn ∙ ap (λ (a : Access). Some a) (sym h.access);
-  mapped = h.mapped;
+  asks = ap (λ (t : Planned). t.access) h.turn;
+  mapped = subst (λ (a : Access). is_mapped a ≡ true) h.access h.mapped;
   unchanged = h.unchanged;
   awaits = h.turn;
   target = h.target;
 }
 
-write_at_end : (w : Option Write) (s : State) → at_end (with_write w s) ≡ with_write w (at_end s)
+write_at_end : (w : Option RegWrite) (s : State) → at_end (with_write w s) ≡ with_write w (at_end s)
 write_at_end None s = refl
 write_at_end (Some w) s = refl
 
@@ -64,8 +64,8 @@ pub whole_turn : (code : ℕ → ℕ) (s : State) (p : Pending) (e : Effect) (af
 whole_turn code s p e after reply h awaits =
     let w = written None (awaiting p.target p.signed) reply in
     ap (λ (x : Effect). made s x.kind x.write (Some p.access) reply (at_end after)) h.told
-    ∙ ap (λ (t : State). made s kind.Insn (shown w) (Some p.access) reply (at_end t)) h.state
-    ∙ ap (made s kind.Insn (shown w) (Some p.access) reply) (write_at_end w (gone_on p.len s))
+    ∙ ap (λ (t : State). made s kind.Insn w (Some p.access) reply (at_end t)) h.state
+    ∙ ap (made s kind.Insn w (Some p.access) reply) (write_at_end w (gone_on p.len s))
     ∙ sym (ap (λ (t : Planned). from_plan s t reply) awaits)
     ∙ turn_from_plan code s reply
 

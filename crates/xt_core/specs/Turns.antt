@@ -48,14 +48,13 @@ pub record IsLocal (code : ℕ → ℕ) (before after : State) (r : StepRecord) 
   pub turn : (reply : ℕ) → (r, after) ≡ turn code before reply
 
 -- A turn that asks waits for the reply, and has changed nothing.
-pub record IsHalf
-    (code : ℕ → ℕ) (before after : State) (access : Access) (p : Pending) : Type 0 where
-  pub asks : demand code before ≡ Some access
-  pub mapped : is_mapped access ≡ true
+pub record IsHalf (code : ℕ → ℕ) (before after : State) (p : Pending) : Type 0 where
+  pub asks : demand code before ≡ Some p.access
+  pub mapped : is_mapped p.access ≡ true
   pub unchanged : after ≡ before
   pub awaits : Awaits code before p
   pub target : IsRegister p.target
 
 abbrev pub IsBegun : Begun → (ℕ → ℕ) → State → State → Type 0
 IsBegun (Local r) code before after = IsLocal code before after r
-IsBegun (Asks access p) code before after = IsHalf code before after access p
+IsBegun (Asks p) code before after = IsHalf code before after p

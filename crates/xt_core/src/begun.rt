@@ -1,5 +1,4 @@
 use xt_exec::plans::Pending;
-use xt_map::Access;
 use xt_trace::StepRecord;
 
 /// What a turn that has begun is.
@@ -7,6 +6,6 @@ use xt_trace::StepRecord;
 pub enum Begun {
     /// A whole turn, with this record.
     Local(StepRecord),
-    /// The first half of one, which makes this access.
-    Asks(Access, Pending),
+    /// The first half of one, which waits for the reply to its access.
+    Asks(Pending),
 }

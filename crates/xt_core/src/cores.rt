@@ -61,9 +61,9 @@ impl<W: Windows> Core<W> {
                 self.keep(record);
                 Begin::Local
             }
-            Begun::Asks(access, pending) => {
+            Begun::Asks(pending) => {
                 self.waiting = Some(pending);
-                Begin::Bus(access)
+                Begin::Bus(pending.access)
             }
         }
     }

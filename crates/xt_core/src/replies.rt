@@ -43,7 +43,7 @@ pub fn next_turn<'a>(
 {
     match begin(regs, code) {
         Begun::Local(record) => (record, entries),
-        Begun::Asks(_, pending) => {
+        Begun::Asks(pending) => {
             let (reply, rest) = reply_in(entries, core);
             (end(regs, pending, reply), rest)
         }

@@ -30,7 +30,7 @@ pub fn begin<W: Windows>(r: &mut Regs<W>, code: &Constants) -> Begun
             tick(r);
             Begun::Local(recorded(head, effect, None, 0))
         }
-        Plan::Bus(access, pending) => Begun::Asks(access, pending),
+        Plan::Bus(_, pending) => Begun::Asks(pending),
     }
 }
 

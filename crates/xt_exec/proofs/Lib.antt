@@ -5,3 +5,4 @@ pub mod Finished
 pub mod Served
 pub mod Tied
 pub mod Clear
+pub mod Returns

@@ -18,7 +18,7 @@ use Rattle.xt_rows.specs.Settling.{settled_interrupt, settled_wait}
 use Rattle.xt_special.specs.Control.{special_of}
 use Rattle.xt_special.specs.Numbers as number
 use Rattle.xt_exec.specs.State.{State}
-use Rattle.xt_exec.specs.Turn.{Planned, planned, demand, turn, in_window, raises, overflow, underflow, entered, returned, resumed, moved_stack, windowed, done, checked, is_illegal, window_check, fetched_turn, window_step, falls, return_size, return_pc, written, shown, with_write, reply_where}
+use Rattle.xt_exec.specs.Turn.{Planned, planned, demand, turn, in_window, raises, overflow, underflow, entered, returned, resumed, moved_stack, windowed, done, checked, is_illegal, window_check, fetched_turn, window_step, falls, return_size, return_pc, written, with_write, reply_where}
 
 abbrev Awaits : Planned → Type 0
 Awaits p = p.access ≡ None → p.awaited ≡ None
@@ -88,7 +88,7 @@ made p s awaited access reply =
       record {
         pc = s.control.pc;
         kind = p.kind;
-        write = shown write;
+        write = write;
         access = access;
         reply = reply_where access reply;
         ccount = special_of s.control number.ccount;

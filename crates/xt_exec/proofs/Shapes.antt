@@ -20,7 +20,7 @@ use Rattle.xt_special.specs.Opening.{no_special, opening_special}
 use Rattle.xt_special.specs.WindowExceptions.{after_window_exception}
 use Rattle.xt_window.specs.Ring.{place, visible, bit, with_bit, without_bit, size_at, cleared_regs}
 use Rattle.xt_window.specs.Moves.{base_after_call, base_after_return, base_rotated, behind}
-use Rattle.xt_rows.specs.declared.outcome.Write.{Write}
+use Rattle.xt_trace.specs.declared.record.RegWrite.{RegWrite}
 use Rattle.xt_rows.specs.declared.outcome.Awaited.{Awaited}
 use Rattle.xt_rows.specs.declared.outcome.Flow.TheVariants.{Falls}
 use Rattle.xt_rows.specs.declared.outcome.WindowRegister.{WindowRegister}
@@ -111,7 +111,7 @@ raised cause s p f = record { after = raises_shaped cause None s p tt f; write =
 
 -- ---- instructions that move the window or look at the windows
 
-step_shaped : (write : Option Write) (s : State) → IsProperWrite (λ n. IsWord n) write → IsShaped s → IsShapedPlan (window_step write s)
+step_shaped : (write : Option RegWrite) (s : State) → IsProperWrite (λ n. IsWord n) write → IsShaped s → IsShapedPlan (window_step write s)
 step_shaped write s p f = record { after = with_control s _ f (ticked_shaped s.control f.control); write = p }
 
 falls_shaped : (len : ℕ) (s : State) → IsShaped s → IsShaped (falls len s)
@@ -283,22 +283,22 @@ planned_shaped code s bytes f = by_tests (nat_lt 0 (pending_of s.control)) s.con
     by_tests false false = fetched_shaped (fetched code s.control.pc) code s bytes (fetched_good code s.control.pc bytes f.control.pc) f
 
 -- of the write that is made no more than its value is needed
-IsWordWrite : Option Write → Type 0
+IsWordWrite : Option RegWrite → Type 0
 IsWordWrite None = Unit {0}
 IsWordWrite (Some w) = IsWord w.value
 
-word_write : (write : Option Write) (awaited : Option Awaited) (reply : ℕ) → IsProperWrite (λ n. IsWord n) write → IsWord reply → IsWordWrite (written write awaited reply)
+word_write : (write : Option RegWrite) (awaited : Option Awaited) (reply : ℕ) → IsProperWrite (λ n. IsWord n) write → IsWord reply → IsWordWrite (written write awaited reply)
 unfolding IsWordWrite
 word_write None None reply p q = tt
 word_write (Some w) None reply p q = p.1
 word_write write (Some a) reply p q = extended_small a.signed reply q
 
-write_shaped : (write : Option Write) (s : State) → IsWordWrite write → IsShaped s → IsShaped (with_write write s)
+write_shaped : (write : Option RegWrite) (s : State) → IsWordWrite write → IsShaped s → IsShaped (with_write write s)
 unfolding IsWordWrite
 write_shaped None s p f = f
 write_shaped (Some w) s p f = record {
-  count = length-set s.regs (place s.base w.number) w.value ∙ f.count;
-  words = words_set s.regs (place s.base w.number) w.value f.words p;
+  count = length-set s.regs (place s.base w.reg) w.value ∙ f.count;
+  words = words_set s.regs (place s.base w.reg) w.value f.words p;
   base = f.base;
   start = f.start;
   control = f.control;

@@ -4,18 +4,19 @@ use Rattle.std.proofs.lemmas.List.{length-set}
 use Rattle.std.proofs.lemmas.Nat.{or_lt}
 use Rattle.xt_special.specs.declared.ps.Ps.{Ps}
 use Rattle.xt_special.specs.Control.{Control, special_of, ps_word}
-use Rattle.xt_special.specs.Shape.{IsPs, HasShape, CanHold}
+use Rattle.xt_special.specs.Shape.{IsPs, HasShape, CanHold, IsProperSet}
 use Rattle.xt_special.specs.Timers.{with_timer, ticked_special, ticked}
 use Rattle.xt_special.specs.Exceptions.{with_address, after_general, after_double, after_exception}
 use Rattle.xt_special.specs.Interrupts.{pending_level, after_high_level, after_interrupt}
 use Rattle.xt_special.specs.WindowExceptions.{after_window_exception}
 use Rattle.xt_loop.specs.Looping.{loops_back}
-use Rattle.xt_rows.specs.declared.outcome.SpecialWrite.{SpecialWrite}
+use Rattle.xt_special.specs.declared.writes.SpecialWrite.{SpecialWrite}
 use Rattle.xt_rows.specs.declared.outcome.Flow.{Flow}
 use Rattle.xt_rows.specs.declared.outcome.Flow.TheVariants.{Falls, Goes}
 use Rattle.xt_rows.specs.declared.outcome.Effect.{Effect}
-use Rattle.xt_rows.specs.Laws.{IsWord, IsProperSet, IsProperAddress, IsProperFlow, IsProperEffect}
-use Rattle.xt_rows.specs.Settling.{with_set, after_flow, after_effect}
+use Rattle.xt_rows.specs.Laws.{IsWord, IsProperAddress, IsProperFlow, IsProperEffect}
+use Rattle.xt_special.specs.Access.{with_set}
+use Rattle.xt_rows.specs.Settling.{after_flow, after_effect}
 use Rattle.xt_rows.proofs.Proper.{ps_word_small}
 use Rattle.xt_exec.specs.Laws.{AreWords, IsShapedControl}
 

@@ -8,10 +8,10 @@ use Rattle.xt_window.specs.Ring.{size_at}
 use Rattle.xt_window.specs.declared.windows.Overflow.{Overflow}
 use Rattle.xt_trace.specs.declared.record.StepKind.{StepKind}
 use Rattle.xt_trace.specs.declared.record.StepKind.TheVariants as kind
-use Rattle.xt_rows.specs.declared.outcome.Write.{Write}
+use Rattle.xt_trace.specs.declared.record.RegWrite.{RegWrite}
 use Rattle.xt_rows.specs.declared.outcome.Awaited.{Awaited}
 use Rattle.xt_rows.specs.Effects.{unchanged}
-use Rattle.xt_rows.specs.Settling.{after_effect, shown, written}
+use Rattle.xt_rows.specs.Settling.{after_effect, written}
 use Rattle.xt_rows.specs.Laws.{IsRegister}
 use Rattle.xt_exec.specs.declared.plans.Plan.{Plan}
 use Rattle.xt_exec.specs.declared.plans.Plan.TheVariants as plan
@@ -25,7 +25,7 @@ abbrev pub at_end : State → State
 at_end s = record s { control = ticked s.control }
 
 -- a turn that asks for nothing and leaves this state, but for the register that it writes
-abbrev pub quiet_turn : StepKind → Option Write → State → Planned
+abbrev pub quiet_turn : StepKind → Option RegWrite → State → Planned
 quiet_turn kind write s =
     record { kind = kind; write = write; access = None; awaited = None; after = at_end s }
 
@@ -54,7 +54,7 @@ asking p s = record {
 pub record IsEffect (e : Effect) (s : State) (t : Planned) : Type 0 where
   pub no_access : t.access ≡ None
   pub no_awaited : t.awaited ≡ None
-  pub told : e ≡ record { kind = t.kind; write = shown t.write }
+  pub told : e ≡ record { kind = t.kind; write = t.write }
   pub state : at_end s ≡ with_write t.write t.after
 
 -- A turn that asks leaves the registers as they are. The bus serves its access.
@@ -79,6 +79,6 @@ overflow_at distance s =
 -- the second half of the turn that asks
 pub record IsFinished (e : Effect) (before after : State) (p : Pending) (reply : ℕ) : Type 0 where
   pub told : e
-      ≡ record { kind = kind.Insn; write = shown (written None (awaiting p.target p.signed) reply) }
+      ≡ record { kind = kind.Insn; write = written None (awaiting p.target p.signed) reply }
   pub state :
       after ≡ with_write (written None (awaiting p.target p.signed) reply) (gone_on p.len before)

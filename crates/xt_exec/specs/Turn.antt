@@ -27,7 +27,7 @@ use Rattle.xt_window.specs.Moves.{base_after_call, base_after_return, base_rotat
 use Rattle.xt_trace.specs.declared.record.StepKind.{StepKind}
 use Rattle.xt_trace.specs.declared.record.StepKind.TheVariants as kind
 use Rattle.xt_trace.specs.declared.record.StepRecord.{StepRecord}
-use Rattle.xt_rows.specs.declared.outcome.Write.{Write}
+use Rattle.xt_trace.specs.declared.record.RegWrite.{RegWrite}
 use Rattle.xt_rows.specs.declared.outcome.Awaited.{Awaited}
 use Rattle.xt_rows.specs.declared.outcome.Flow.TheVariants.{Falls}
 use Rattle.xt_rows.specs.declared.outcome.WindowRegister.{WindowRegister}
@@ -45,7 +45,7 @@ use Rattle.xt_rows.specs.Effects.{illegal_instruction, fetch_error, no_caller_wi
 use Rattle.xt_rows.specs.Outcomes.{outcome_at}
 use Rattle.xt_rows.specs.Settling.{Settled, after_flow, settled, settled_exception}
 use Rattle.xt_rows.specs.Settling.{settled_interrupt, settled_wait}
-pub use Rattle.xt_rows.specs.Settling.{kind_of, received, written, shown, return_size, return_pc}
+pub use Rattle.xt_rows.specs.Settling.{kind_of, received, written, return_size, return_pc}
 use Rattle.xt_exec.specs.State.{State}
 
 -- ---- what a turn makes before the reply to its access
@@ -53,7 +53,7 @@ use Rattle.xt_exec.specs.State.{State}
 pub record Planned : Type 0 where
   pub kind : StepKind
   -- the register that is written, where the value is known
-  pub write : Option Write
+  pub write : Option RegWrite
   pub access : Option Access
   -- the register that receives the reply
   pub awaited : Option Awaited
@@ -123,7 +123,7 @@ underflow size s = window_exception (2 * (size - 1) + 1) (base_after_return s.ba
 
 -- the instruction is executed, writes this register of the window in which it
 -- ends, and leaves this state
-abbrev pub window_step : Option Write → State → Planned
+abbrev pub window_step : Option RegWrite → State → Planned
 window_step write after = record {
   kind = kind.Insn;
   write = write;
@@ -246,9 +246,9 @@ demand code s = (planned code s).access
 -- ---- the reply
 
 -- the write goes to the window in which the turn ends
-abbrev pub with_write : Option Write → State → State
+abbrev pub with_write : Option RegWrite → State → State
 with_write None s = s
-with_write (Some w) s = record s { regs = slice_set s.regs (place s.base w.number) w.value }
+with_write (Some w) s = record s { regs = slice_set s.regs (place s.base w.reg) w.value }
 
 abbrev pub reply_where : Option Access → ℕ → ℕ
 reply_where None reply = 0
@@ -262,7 +262,7 @@ turn code s reply =
       record {
         pc = s.control.pc;
         kind = p.kind;
-        write = shown write;
+        write = write;
         access = demand code s;
         reply = reply_where (demand code s) reply;
         ccount = special_of s.control number.ccount;

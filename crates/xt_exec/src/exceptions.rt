@@ -1,6 +1,5 @@
 use crate::plans::Effect;
 use crate::regs::Regs;
-use crate::step::{Step, quiet};
 use xt_trace::StepKind;
 use xt_window::Windows;
 
@@ -13,32 +12,20 @@ impl<W: Windows> Regs<W> {
     ghost use Rattle.xt_exec.specs.Halves.{IsEffect};
     ghost use Rattle.xt_exec.specs.Steps.{WritesRegister, turn_of};
 
-    /// Enters an exception of this cause, with the address that it concerns.
-    #[inline(never)]
-    pub(crate) fn raised(&mut self, cause: u8, addr: Option<u32>) -> Step
-        requires { cause < 64 }
-        ensures turn { let s = state_of W.regs W.base W.start self.old in
-            turn_of result (state_of W.regs W.base W.start self.new) ≡ in_window (settled_exception cause addr s.control) s }
-        ensures register { WritesRegister result }
-    {
-        self.pc = xt_exc::general(&mut self.sr, self.pc, cause, addr);
-        quiet(StepKind::Exc(cause), None)
-    }
-
     /// Enters an exception of this cause (EXCCAUSE), with the address that it concerns.
     ///
     /// Condition: `cause` is below 64.
     #[inline(never)]
     pub fn raise(&mut self, cause: u8, addr: Option<u32>) -> Effect
         requires { cause < 64 }
-        ensures { let s = state_of W.regs W.base W.start self.old in
+        ensures effect { let s = state_of W.regs W.base W.start self.old in
             IsEffect result (state_of W.regs W.base W.start self.new) (in_window (settled_exception cause addr s.control) s) }
+        ensures turn { let s = state_of W.regs W.base W.start self.old in
+            turn_of result (state_of W.regs W.base W.start self.new) ≡ in_window (settled_exception cause addr s.control) s }
+        ensures register { WritesRegister result }
     {
         self.pc = xt_exc::general(&mut self.sr, self.pc, cause, addr);
-        Effect {
-            kind: StepKind::Exc(cause),
-            write: None,
-        }
+        Effect::of(StepKind::Exc(cause), None)
     }
 
     /// Takes an interrupt of this level, which ends waiting.
@@ -53,33 +40,31 @@ impl<W: Windows> Regs<W> {
     {
         self.pc = xt_exc::interrupt(&mut self.sr, self.pc, level);
         self.waiting = false;
-        Effect {
-            kind: StepKind::Interrupt(level),
-            write: None,
-        }
+        Effect::of(StepKind::Interrupt(level), None)
     }
 
-    // Keeps where a window exception came from, and goes to its vector.
+    // Keeps where a window exception came from, and goes to its vector. The window `old` is kept in PS.OWB.
     #[inline(always)]
-    fn enter_vector(&mut self, vector: u8)
-        requires { vector < 6 }
+    pub(crate) fn enter_vector(&mut self, vector: u8, old: u8)
+        requires vector { vector < 6 }
+        requires old { old < 16 }
         ensures { let s = state_of W.regs W.base W.start self.old in
-            state_of W.regs W.base W.start self.new ≡ record s { control = after_window_exception s.base vector s.control } }
+            state_of W.regs W.base W.start self.new ≡ record s { control = after_window_exception old vector s.control } }
     {
-        let base = self.win.base();
-        self.pc = xt_exc::window(&mut self.sr, self.pc, base, vector);
+        self.pc = xt_exc::window(&mut self.sr, self.pc, old, vector);
     }
 
     /// Enters a window exception through the vector of this number, and the window `base`.
     #[inline(always)]
-    pub(crate) fn window_exception(&mut self, vector: u8, base: u8) -> Step
+    pub(crate) fn window_exception(&mut self, vector: u8, base: u8) -> Effect
         requires vector { vector < 6 }
         requires base { base < 16 }
         ensures turn { turn_of result (state_of W.regs W.base W.start self.new) ≡ window_exception vector base (state_of W.regs W.base W.start self.old) }
         ensures register { WritesRegister result }
     {
-        self.enter_vector(vector);
+        let old = self.win.base();
+        self.enter_vector(vector, old);
         self.win.set_base(base);
-        quiet(StepKind::Window(vector), None)
+        Effect::of(StepKind::Window(vector), None)
     }
 }

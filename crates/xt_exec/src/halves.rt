@@ -1,19 +1,18 @@
-ghost use Rattle.std.specs.Prelude.{◌≡◌, true, None};
+ghost use Rattle.std.specs.Prelude.{◌≡◌, true};
 ghost use Rattle.xt_isa.specs.Ranges.{in_range};
 ghost use Rattle.xt_map.specs.Memory.{constant_byte};
 ghost use Rattle.xt_fetch.specs.Fetching.{Fetches};
-ghost use Rattle.xt_rows.specs.Laws.{IsAny, IsProperWrite, IsRegister};
-ghost use Rattle.xt_rows.specs.Settling.{written};
+ghost use Rattle.xt_rows.specs.Laws.{IsProperAwaited, IsRegister};
 ghost use Rattle.xt_exec.specs.States.{state_of};
 ghost use Rattle.xt_exec.specs.Turn.{fetched_turn};
 ghost use Rattle.xt_exec.specs.Halves.{IsFinished, IsPlan, awaiting};
 
 use crate::plans::{Effect, Pending, Plan};
 use crate::regs::Regs;
-use crate::step::shown;
 use xt_isa::Insn;
 use xt_map::Constants;
-use xt_rows::{Write, extended};
+use xt_rows::Awaited;
+use xt_rows::settling::received;
 use xt_trace::StepKind;
 use xt_window::Windows;
 
@@ -39,26 +38,20 @@ pub fn finish<W: Windows>(r: &mut Regs<W>, p: Pending, reply: u32) -> Effect
     ensures { IsFinished result (state_of W.regs W.base W.start r.old) (state_of W.regs W.base W.start r.new) p reply }
 {
     r.go_on(p.len);
-    let write = received(p.target, p.signed, reply);
+    let write = received(awaiting(p.target, p.signed), reply);
     r.write(write);
-    Effect {
-        kind: StepKind::Insn,
-        write: shown(write),
-    }
+    Effect::of(StepKind::Insn, write)
 }
 
-// What is written where a reply is awaited.
+// The register that receives the reply.
 #[inline(always)]
-fn received(target: Option<u8>, signed: bool, reply: u32) -> Option<Write>
+fn awaiting(target: Option<u8>, signed: bool) -> Option<Awaited>
     requires { IsRegister target }
-    ensures value { result ≡ written None (awaiting target signed) reply }
-    ensures register { IsProperWrite IsAny result }
+    ensures value { result ≡ awaiting target signed }
+    ensures register { IsProperAwaited result }
 {
     match target {
-        Some(number) => Some(Write {
-            number,
-            value: extended(signed, reply),
-        }),
+        Some(number) => Some(Awaited { number, signed }),
         None => None,
     }
 }

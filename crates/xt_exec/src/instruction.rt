@@ -1,26 +1,24 @@
-ghost use Rattle.std.specs.Prelude.{◌≡◌, ℕ, ◌<◌, ◌≤◌, Option, true, IfSome};
+ghost use Rattle.std.specs.Prelude.{◌≡◌, ℕ, ◌<◌, ◌≤◌, Option, true, false, IfSome};
 ghost use Rattle.xt_isa.specs.Ranges.{in_range};
 ghost use Rattle.xt_map.specs.Memory.{constant_byte};
-ghost use Rattle.xt_special.specs.Control.{special_of};
 ghost use Rattle.xt_window.specs.Ring.{ahead, visible};
 ghost use Rattle.xt_rows.specs.Effects.{unchanged};
 ghost use Rattle.xt_fetch.specs.Fetching.{Fetches};
-ghost use Rattle.xt_rows.specs.Laws.{AsksWith, IsAny, IsHeld, IsProper, IsProperAwaited, IsRegister};
+ghost use Rattle.xt_rows.specs.Laws.{AsksWith, IsAny, IsProper, IsProperAwaited, IsRegister};
 ghost use Rattle.xt_rows.specs.Outcomes.{outcome_at, value_of};
 ghost use Rattle.xt_exec.specs.States.{state_of};
 ghost use Rattle.xt_exec.specs.Turn.{checked, done, fetched_turn, has_windows, illegal_return, is_illegal, looks, window_check};
 ghost use Rattle.xt_exec.specs.Halves.{IsPlan, awaiting, overflow_at};
-ghost use Rattle.xt_exec.specs.Steps.{WritesRegister, turn_of};
+ghost use Rattle.xt_exec.specs.Steps.{OutcomeGoesBack, WritesRegister, turn_of};
 
 use crate::plans::{Effect, Pending, Plan};
 use crate::regs::Regs;
-use crate::step::{Step, quiet, shown};
 use xt_isa::Insn;
 use xt_isa::control::{Control, RetName};
 use xt_isa::density::{Density, NarrowRetName};
 use xt_map::{Access, Constants};
+use xt_rows::settling::special_value;
 use xt_rows::{Awaited, Outcome, Values, cause, named, outcome_of, reads, special_reads};
-use xt_special::number;
 use xt_trace::StepKind;
 use xt_window::{Overflow, Windows};
 
@@ -79,18 +77,6 @@ impl<W: Windows> Regs<W> {
         }
     }
 
-    #[inline(always)]
-    fn special_value(&self, register: Option<u8>) -> u32
-        ensures value { result ≡ value_of (special_of (state_of W.regs W.base W.start self.now).control) register }
-        ensures held { IsHeld register result }
-    {
-        match register {
-            Some(number::SAR) => self.sr.sar() as u32,
-            Some(number) => self.sr.register(number),
-            None => 0,
-        }
-    }
-
     // What comes of the instruction.
     #[inline(always)]
     fn outcome(&self, code: &Constants, i: Insn) -> Outcome
@@ -104,8 +90,8 @@ impl<W: Windows> Regs<W> {
         let values = Values {
             x: self.visible_value(first),
             y: self.visible_value(second),
-            u: self.special_value(special),
-            v: self.special_value(other),
+            u: special_value(&self.sr, special),
+            v: special_value(&self.sr, other),
         };
         let ps = self.sr.ps_fields();
         outcome_of::<W>(code, i, self.pc, values, ps, self.sr.threadptr())
@@ -138,18 +124,15 @@ impl<W: Windows> Regs<W> {
         self.win.check(self.looks(i))
     }
 
-    // Writes what a step writes, and tells its effect.
+    // Writes the register that a turn writes.
     #[inline(always)]
-    fn done(&mut self, step: Step) -> Plan
-        requires { WritesRegister step }
+    fn done(&mut self, e: Effect) -> Plan
+        requires { WritesRegister e }
         ensures { let s = state_of W.regs W.base W.start self.old in
-            IsPlan result s (state_of W.regs W.base W.start self.new) (turn_of step s) }
+            IsPlan result s (state_of W.regs W.base W.start self.new) (turn_of e s) }
     {
-        self.write(step.write);
-        Plan::Done(Effect {
-            kind: step.kind,
-            write: shown(step.write),
-        })
+        self.write(e.write);
+        Plan::Done(e)
     }
 
     // What comes of an outcome.
@@ -157,23 +140,24 @@ impl<W: Windows> Regs<W> {
     fn carry_out(&mut self, outcome: Outcome, len: u8) -> Plan
         requires proper { IsProper IsAny outcome }
         requires alone { AsksWith (unchanged self.old.sr.ps self.old.sr.threadptr) outcome }
+        requires back { OutcomeGoesBack outcome (state_of W.regs W.base W.start self.old) }
         ensures { let s = state_of W.regs W.base W.start self.old in
             IsPlan result s (state_of W.regs W.base W.start self.new) (done outcome len s) }
     {
         match outcome {
             Outcome::Does(e) => {
                 self.apply(e, len);
-                self.done(quiet(StepKind::Insn, e.write))
+                self.done(Effect::of(StepKind::Insn, e.write))
             }
             Outcome::Raises(cause, addr) => {
-                let step = self.raised(cause, addr);
-                self.done(step)
+                let e = self.raise(cause, addr);
+                self.done(e)
             }
             Outcome::Asks(access, awaited, _) => Plan::Bus(access, pending(access, awaited, len)),
-            Outcome::Stops => self.done(quiet(StepKind::Stop, None)),
+            Outcome::Stops => self.done(Effect::of(StepKind::Stop, None)),
             Outcome::Windowed(step) => {
-                let step = self.windowed(step, len);
-                self.done(step)
+                let e = self.windowed(step, len);
+                self.done(e)
             }
         }
     }
@@ -181,14 +165,15 @@ impl<W: Windows> Regs<W> {
     // An instruction that is not illegal: a window overflows, or it is carried out.
     #[inline(always)]
     fn execute(&mut self, code: &Constants, i: Insn, len: u8) -> Plan
-        requires { in_range i ≡ true }
+        requires range { in_range i ≡ true }
+        requires legal { is_illegal i (state_of W.regs W.base W.start self.old) ≡ false }
         ensures { let s = state_of W.regs W.base W.start self.old in
             IsPlan result s (state_of W.regs W.base W.start self.new) (checked (window_check i s) (constant_byte code.now) i len s) }
     {
         match self.overflowing(i) {
             Some(found) => {
-                let step = self.overflow(found);
-                self.done(step)
+                let e = self.overflow(found);
+                self.done(e)
             }
             None => {
                 let outcome = self.outcome(code, i);
@@ -205,8 +190,8 @@ impl<W: Windows> Regs<W> {
             IsPlan result s (state_of W.regs W.base W.start self.new) (fetched_turn (Fetches i len) (constant_byte code.now) s) }
     {
         if self.is_illegal(i) {
-            let step = self.raised(cause::ILLEGAL_INSTRUCTION, None);
-            self.done(step)
+            let e = self.raise(cause::ILLEGAL_INSTRUCTION, None);
+            self.done(e)
         } else {
             self.execute(code, i, len)
         }

@@ -1,7 +1,7 @@
 //! Laws of the turn. Each is the contract of a function that does nothing.
 #![tactic(auto)]
 
-ghost use Rattle.xt_exec.specs.Ties.{IllegalReturnsAreBad, OverflowsAnswer, ReturnsAnswer, ReturnsUndoEntries};
+ghost use Rattle.xt_exec.specs.Ties.{ReturnsUndoEntries};
 ghost use Rattle.xt_exec.specs.Laws.{DemandsAreServed, IgnoresReplyWithoutAccess, IsOneTurn, KeepsShape, OpensShaped, RecordsWhatItAsks};
 
 /// Each state and reply has exactly one record and next state. It holds of any function, and shows
@@ -35,21 +35,6 @@ pub fn opening_is_shaped()
 /// What a turn asks for is an access that the bus serves.
 pub fn demands_are_served()
     ensures { DemandsAreServed }
-{}
-
-/// The turn of a RETW leaves WINDOWBASE and WINDOWSTART as a return answers.
-pub fn returns_answer()
-    ensures { ReturnsAnswer }
-{}
-
-/// A RETW is illegal where the return is bad, or where windows are not at work.
-pub fn illegal_returns_are_bad()
-    ensures { IllegalReturnsAreBad }
-{}
-
-/// A window overflow is of the window that the window check answers.
-pub fn overflows_answer()
-    ensures { OverflowsAnswer }
 {}
 
 /// A RETW of the size of the call undoes the ENTRY: WINDOWBASE and WINDOWSTART are as before it.

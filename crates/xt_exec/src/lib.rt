@@ -8,7 +8,6 @@ mod instruction;
 pub mod laws;
 pub mod plans;
 mod regs;
-mod step;
 mod windows;
 
 pub use halves::{finish, plan};

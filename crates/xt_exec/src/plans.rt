@@ -1,4 +1,6 @@
 //! What the first half of an instruction answers.
+ghost use Rattle.std.specs.Prelude.{◌≡◌};
+
 use xt_map::Access;
 use xt_trace::{RegWrite, StepKind};
 
@@ -9,6 +11,16 @@ pub struct Effect {
     pub kind: StepKind,
     /// The visible register that it wrote, in the window after the turn.
     pub write: Option<RegWrite>,
+}
+
+impl Effect {
+    /// A turn of this kind that writes this register, or none.
+    #[inline(always)]
+    pub(crate) fn of(kind: StepKind, write: Option<RegWrite>) -> Effect
+        ensures { result ≡ record { kind = kind; write = write } }
+    {
+        Effect { kind, write }
+    }
 }
 
 /// An instruction that waits for the reply to its access.

@@ -1,5 +1,6 @@
-use xt_rows::{Effect, Flow, SpecialWrite, Write};
-use xt_special::{Special, number};
+use xt_rows::{Effect, settling};
+use xt_special::Special;
+use xt_trace::RegWrite;
 use xt_window::Windows;
 
 /// The registers of a core.
@@ -19,8 +20,8 @@ impl<W: Windows> Regs<W> {
     ghost use Rattle.std.specs.Prelude.{◌≡◌, ◌<◌, ◌≤◌, ◌%◌, ◌^◌};
     ghost use Rattle.xt_window.specs.Ring.{cleared_regs};
     ghost use Rattle.xt_exec.specs.State.{opening_state};
-    ghost use Rattle.xt_rows.specs.Laws.{IsAny, IsProperEffect, IsProperSet, IsProperWrite};
-    ghost use Rattle.xt_rows.specs.Settling.{after_effect, with_set};
+    ghost use Rattle.xt_rows.specs.Laws.{IsAny, IsProperEffect, IsProperWrite};
+    ghost use Rattle.xt_rows.specs.Settling.{after_effect};
     ghost use Rattle.xt_exec.specs.States.{state_of};
     ghost use Rattle.xt_exec.specs.Turn.{falls, with_write};
     ghost use Rattle.xt_exec.specs.Halves.{gone_on};
@@ -53,19 +54,11 @@ impl<W: Windows> Regs<W> {
     }
 
     /// Goes on to the next instruction, or back in a loop.
-    #[tactic(auto, unfolding(xt_loop::specs::Looping::loops_back))]
     #[inline(always)]
     pub(crate) fn falls(&mut self, len: u8)
         ensures { state_of W.regs W.base W.start self.new ≡ falls len (state_of W.regs W.base W.start self.old) }
     {
-        let next = self.pc.wrapping_add(len as u32);
-        let count = self.sr.register(number::LCOUNT);
-        if next == self.sr.register(number::LEND) && !self.sr.excm() && count != 0 {
-            self.pc = self.sr.register(number::LBEG);
-            self.sr.set_register(number::LCOUNT, count - 1);
-        } else {
-            self.pc = next;
-        }
+        self.pc = settling::falls(&mut self.sr, self.pc, len);
     }
 
     /// Goes on after a reply: an instruction that asked has no other effect on the control state.
@@ -78,47 +71,25 @@ impl<W: Windows> Regs<W> {
         self.falls(len);
     }
 
-    // Writes a special register.
-    #[inline(always)]
-    fn set(&mut self, set: Option<SpecialWrite>)
-        requires { IsProperSet set }
-        ensures { let s = state_of W.regs W.base W.start self.old in
-            state_of W.regs W.base W.start self.new ≡ record s { control = record s.control { special = with_set set s.control.special } } }
-    {
-        if let Some(w) = set {
-            self.sr.set_register(w.number, w.value);
-        }
-    }
-
     /// What an instruction of this length changes beside the visible registers.
-    #[tactic(auto, unfolding(xt_rows::specs::Settling::after_effect))]
     #[inline(always)]
     pub(crate) fn apply(&mut self, e: Effect, len: u8)
         requires { IsProperEffect IsAny e }
         ensures { let s = state_of W.regs W.base W.start self.old in
             state_of W.regs W.base W.start self.new ≡ record s { control = after_effect e len s.control } }
     {
-        self.sr.set_ps_fields(e.ps);
-        self.sr.set_threadptr(e.threadptr);
+        self.pc = settling::apply(&mut self.sr, self.pc, e, len);
         self.waiting = e.waits;
-        let (first, second, third) = e.sets;
-        self.set(first);
-        self.set(second);
-        self.set(third);
-        match e.flow {
-            Flow::Falls => self.falls(len),
-            Flow::Goes(target) => self.pc = target,
-        }
     }
 
     /// Writes a visible register of the window at hand.
     #[inline(always)]
-    pub(crate) fn write(&mut self, write: Option<Write>)
+    pub(crate) fn write(&mut self, write: Option<RegWrite>)
         requires { IsProperWrite IsAny write }
         ensures { state_of W.regs W.base W.start self.new ≡ with_write write (state_of W.regs W.base W.start self.old) }
     {
         if let Some(w) = write {
-            self.win.write(w.number, w.value);
+            self.win.write(w.reg, w.value);
         }
     }
 }

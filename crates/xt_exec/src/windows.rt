@@ -1,24 +1,24 @@
 ghost use Rattle.std.specs.Prelude.{◌≡◌, ◌<◌, ◌≤◌, ◌+◌, true};
 ghost use Rattle.xt_isa.specs.Ranges.{signed_within};
 ghost use Rattle.xt_window.specs.Ring.{size_at};
-ghost use Rattle.xt_rows.specs.declared.outcome.WindowStep.TheVariants.{Exchanges, Reads, Rotates, Sets};
+ghost use Rattle.xt_rows.specs.declared.outcome.WindowStep.TheVariants.{Exchanges, Reads, Returns, Rotates, Sets};
 ghost use Rattle.xt_rows.specs.Laws.{IsProperStep};
 ghost use Rattle.xt_exec.specs.States.{state_of};
 ghost use Rattle.xt_exec.specs.Turn.{entered, moved_stack, overflow, resumed, returned, window_value, with_window_value, windowed};
-ghost use Rattle.xt_exec.specs.Steps.{WritesRegister, turn_of};
+ghost use Rattle.xt_exec.specs.Steps.{GoesBack, WritesRegister, turn_of};
 
+use crate::plans::Effect;
 use crate::regs::Regs;
-use crate::step::{Step, quiet};
-use xt_rows::{WindowRegister, WindowStep, Write, cause};
+use xt_rows::{WindowRegister, WindowStep, cause, write_to};
 use xt_trace::StepKind;
-use xt_window::ring::{bit, with_bit, without_bit};
-use xt_window::{Overflow, Windows};
+use xt_window::ring::{with_bit, without_bit};
+use xt_window::{Overflow, Return, Windows};
 
 impl<W: Windows> Regs<W> {
     /// The overflow of the window that the check found.
     #[tactic(auto, unfolding(crate::specs::Turn::overflow))]
     #[inline(never)]
-    pub(crate) fn overflow(&mut self, found: Overflow) -> Step
+    pub(crate) fn overflow(&mut self, found: Overflow) -> Effect
         requires size { found.size ≡ size_at (state_of W.regs W.base W.start self.old).start ((state_of W.regs W.base W.start self.old).base + found.by) }
         requires by { found.by < 4 }
         requires low { 1 ≤ found.size }
@@ -33,7 +33,7 @@ impl<W: Windows> Regs<W> {
     /// ENTRY.
     #[tactic(auto, unfolding(crate::specs::Turn::entered))]
     #[inline(always)]
-    fn enter(&mut self, number: u8, value: u32, len: u8) -> Step
+    fn enter(&mut self, number: u8, value: u32, len: u8) -> Effect
         requires { number < 16 }
         ensures after { turn_of result (state_of W.regs W.base W.start self.new) ≡ entered number value len (state_of W.regs W.base W.start self.old) }
         ensures registers { WritesRegister result }
@@ -41,33 +41,37 @@ impl<W: Windows> Regs<W> {
         let size = self.sr.callinc();
         self.falls(len);
         self.win.enter(size);
-        quiet(StepKind::Insn, Some(Write { number, value }))
+        Effect::of(StepKind::Insn, write_to(number, value))
     }
 
-    /// RETW with this value of a0.
-    #[tactic(auto, unfolding(crate::specs::Turn::returned, crate::specs::Turn::underflow))]
+    /// RETW with this value of a0, of a size that is not bad.
+    #[tactic(auto, using(crate::proofs::Returns::is_there, crate::proofs::Returns::is_absent), unfolding(crate::specs::Turn::returned, crate::specs::Turn::underflow))]
     #[inline(always)]
-    fn return_to(&mut self, a0: u32) -> Step
+    fn return_to(&mut self, a0: u32) -> Effect
+        requires { GoesBack (Returns a0) (state_of W.regs W.base W.start self.old) }
         ensures after { turn_of result (state_of W.regs W.base W.start self.new) ≡ returned a0 (state_of W.regs W.base W.start self.old) }
         ensures registers { WritesRegister result }
     {
         let size = (a0 / 0x4000_0000) as u8;
         let old = self.win.base();
-        let base = (old + (16 - size)) % 16;
-        let start = self.win.start();
-        if !bit(start, base) {
-            return self.window_exception(2 * size.saturating_sub(1) + 1, base);
+        match self.win.retw(size) {
+            Return::Returned => {
+                self.pc = self.pc / 0x4000_0000 * 0x4000_0000 + a0 % 0x4000_0000;
+                Effect::of(StepKind::Insn, None)
+            }
+            Return::Under => {
+                let vector = 2 * size.saturating_sub(1) + 1;
+                self.enter_vector(vector, old);
+                Effect::of(StepKind::Window(vector), None)
+            }
+            Return::Bad => unreachable!(),
         }
-        self.win.set_base(base);
-        self.win.set_start(without_bit(start, old));
-        self.pc = self.pc / 0x4000_0000 * 0x4000_0000 + a0 % 0x4000_0000;
-        quiet(StepKind::Insn, None)
     }
 
     /// RFWO and RFWU: back to the instruction at EPC1 and to its window.
     #[tactic(auto, unfolding(crate::specs::Turn::resumed))]
     #[inline(never)]
-    fn resume(&mut self, start: u16, epc1: u32) -> Step
+    fn resume(&mut self, start: u16, epc1: u32) -> Effect
         ensures after { turn_of result (state_of W.regs W.base W.start self.new) ≡ resumed start epc1 (state_of W.regs W.base W.start self.old) }
         ensures registers { WritesRegister result }
     {
@@ -75,22 +79,22 @@ impl<W: Windows> Regs<W> {
         self.win.set_start(start);
         self.pc = epc1;
         self.sr.set_excm(false);
-        quiet(StepKind::Insn, None)
+        Effect::of(StepKind::Insn, None)
     }
 
     /// MOVSP.
     #[tactic(auto, unfolding(crate::specs::Turn::moved_stack))]
     #[inline(never)]
-    fn move_stack(&mut self, number: u8, value: u32, len: u8) -> Step
+    fn move_stack(&mut self, number: u8, value: u32, len: u8) -> Effect
         requires { number < 16 }
         ensures after { turn_of result (state_of W.regs W.base W.start self.new) ≡ moved_stack number value len (state_of W.regs W.base W.start self.old) }
         ensures registers { WritesRegister result }
     {
         if self.win.behind() == 0 {
-            return self.raised(cause::NO_CALLER_WINDOW, None);
+            return self.raise(cause::NO_CALLER_WINDOW, None);
         }
         self.falls(len);
-        quiet(StepKind::Insn, Some(Write { number, value }))
+        Effect::of(StepKind::Insn, write_to(number, value))
     }
 
     #[inline(always)]
@@ -115,30 +119,36 @@ impl<W: Windows> Regs<W> {
 
     /// RSR of a window register.
     #[inline(never)]
-    fn read_window(&mut self, register: WindowRegister, number: u8, len: u8) -> Step
+    fn read_window(&mut self, register: WindowRegister, number: u8, len: u8) -> Effect
         requires { number < 16 }
         ensures after { turn_of result (state_of W.regs W.base W.start self.new) ≡ windowed (Reads register number) len (state_of W.regs W.base W.start self.old) }
         ensures registers { WritesRegister result }
     {
         let value = self.window_value(register);
         self.falls(len);
-        quiet(StepKind::Insn, Some(Write { number, value }))
+        Effect::of(StepKind::Insn, write_to(number, value))
     }
 
     /// WSR of a window register.
     #[inline(never)]
-    fn write_window(&mut self, register: WindowRegister, value: u32, len: u8) -> Step
+    fn write_window(&mut self, register: WindowRegister, value: u32, len: u8) -> Effect
         ensures after { turn_of result (state_of W.regs W.base W.start self.new) ≡ windowed (Sets register value) len (state_of W.regs W.base W.start self.old) }
         ensures registers { WritesRegister result }
     {
         self.falls(len);
         self.set_window_value(register, value);
-        quiet(StepKind::Insn, None)
+        Effect::of(StepKind::Insn, None)
     }
 
     /// XSR of a window register.
     #[inline(never)]
-    fn exchange_window(&mut self, register: WindowRegister, number: u8, value: u32, len: u8) -> Step
+    fn exchange_window(
+        &mut self,
+        register: WindowRegister,
+        number: u8,
+        value: u32,
+        len: u8,
+    ) -> Effect
         requires { number < 16 }
         ensures after { turn_of result (state_of W.regs W.base W.start self.new) ≡ windowed (Exchanges register number value) len (state_of W.regs W.base W.start self.old) }
         ensures registers { WritesRegister result }
@@ -146,26 +156,27 @@ impl<W: Windows> Regs<W> {
         let old = self.window_value(register);
         self.falls(len);
         self.set_window_value(register, value);
-        quiet(StepKind::Insn, Some(Write { number, value: old }))
+        Effect::of(StepKind::Insn, write_to(number, old))
     }
 
     /// ROTW.
     #[tactic(auto, unfolding(xt_isa::specs::Ranges::signed_within))]
     #[inline(never)]
-    fn rotate(&mut self, n: i32, len: u8) -> Step
+    fn rotate(&mut self, n: i32, len: u8) -> Effect
         requires { signed_within 8 n ≡ true }
         ensures after { turn_of result (state_of W.regs W.base W.start self.new) ≡ windowed (Rotates n) len (state_of W.regs W.base W.start self.old) }
         ensures registers { WritesRegister result }
     {
         self.falls(len);
         self.win.rotate(n as i8);
-        quiet(StepKind::Insn, None)
+        Effect::of(StepKind::Insn, None)
     }
 
     /// An instruction that moves the window or looks at the windows.
     // (no hint to inline: with it the whole turn grows past the size at which its own hint is dropped)
-    pub(crate) fn windowed(&mut self, step: WindowStep, len: u8) -> Step
-        requires { IsProperStep step }
+    pub(crate) fn windowed(&mut self, step: WindowStep, len: u8) -> Effect
+        requires proper { IsProperStep step }
+        requires back { GoesBack step (state_of W.regs W.base W.start self.old) }
         ensures after { turn_of result (state_of W.regs W.base W.start self.new) ≡ windowed step len (state_of W.regs W.base W.start self.old) }
         ensures registers { WritesRegister result }
     {

@@ -11,12 +11,11 @@ use Rattle.xt_special.specs.Numbers as number
 use Rattle.xt_special.specs.Control.{special_of}
 use Rattle.xt_trace.specs.declared.record.RegWrite.{RegWrite}
 use Rattle.xt_trace.specs.declared.record.StepRecord.{StepRecord}
-use Rattle.xt_rows.specs.declared.outcome.Write.{Write}
 use Rattle.xt_rows.specs.Kinds.{is_entry}
 use Rattle.xt_frames.specs.Frames.{FrameState, known, seen_after_write}
 use Rattle.xt_frames.specs.FrameStep.{FrameTurn}
 use Rattle.xt_frames.specs.SaveAreas.{Range}
-use Rattle.xt_frames.specs.Breaches.{Bounds, Test, first_shown, insn_tests, reads_none, is_sp, shows_sp, writes_sp, may_write_sp, other_frame_size, leaves_range, misaligns_sp, opens_nothing, returns_elsewhere, has_no_caller, touches_save_area, loads_stale, names_high, is_windowing, names_window_register, reads_epc1, is_movsp}
+use Rattle.xt_frames.specs.Breaches.{Bounds, Test, first_shown, insn_tests, reads_none, is_sp, writes_sp, may_write_sp, other_frame_size, leaves_range, misaligns_sp, opens_nothing, returns_elsewhere, has_no_caller, touches_save_area, loads_stale, names_high, is_windowing, names_window_register, reads_epc1, is_movsp}
 
 -- ---- no test is shown
 if_none : {X : Type 0} (b : Bool) (x : X) (o : Option X) → cond b (Some x) o ≡ None → (b ≡ false) × (o ≡ None)
@@ -56,9 +55,9 @@ sound b fresh live stale i rec g u (unset, (written, (size, (low, (align, (opens
     record { unset = unset; written = written; size = size; low = low; align = align; opens = opens; mismatch = mismatch; caller = caller; saves = saves; loads = loads; high = high; windowing = windowing; window_register = window_register; woe = not-false _ woe; vectors = eqb-true _ _ (not-false _ vectors); lost = lost; movsp = movsp }
 
 -- ---- a1 is as it was
-abbrev pub KeepsSp : Option Write → Type 0
+abbrev pub KeepsSp : Option RegWrite → Type 0
 KeepsSp None = Unit {0}
-KeepsSp (Some w) = w.number ≡ 1 → ⊥
+KeepsSp (Some w) = w.reg ≡ 1 → ⊥
 
 may_write_is : (i : Insn) → is_entry i ≡ false → is_movsp i ≡ false → may_write_sp i ≡ false
 unfolding may_write_sp is_entry is_movsp
@@ -66,21 +65,21 @@ may_write_is (insn.Control (control.Entry number size)) e m = e
 may_write_is (insn.Shift (shift.Movsp t s)) e m = m
 may_write_is _ e m = refl
 
-sp_kept : (o : Option Write) → is_sp o ≡ false → KeepsSp o
+sp_kept : (o : Option RegWrite) → is_sp o ≡ false → KeepsSp o
 sp_kept None h = tt
 sp_kept (Some w) h = eqb-false _ _ h
 
-pub keeps_sp : (i : Insn) (shown : Option RegWrite) (o : Option Write) → is_entry i ≡ false → is_movsp i ≡ false → writes_sp i shown o ≡ false → KeepsSp o
+pub keeps_sp : (i : Insn) (shown : Option RegWrite) (o : Option RegWrite) → is_entry i ≡ false → is_movsp i ≡ false → writes_sp i shown o ≡ false → KeepsSp o
 keeps_sp i shown o e m h =
-    let z : (true && (shows_sp shown || is_sp o)) ≡ false = (let x = may_write_is i e m in rw x at h) in
-    sp_kept o (or_parts (shows_sp shown) (is_sp o) z).1
+    let z : (true && (is_sp shown || is_sp o)) ≡ false = (let x = may_write_is i e m in rw x at h) in
+    sp_kept o (or_parts (is_sp shown) (is_sp o) z).1
 
 pub entry_number : (number : ℕ) (size : ℤ) → (range : Range) (g : FrameState) → other_frame_size range (insn.Control (control.Entry number size)) g ≡ false → number ≡ 1
 unfolding other_frame_size
 entry_number number size range g h = eqb-true _ _ (not-false _ (or_parts (not (eqb number 1)) _ h).0)
 
-pub sp_written : (seen : List (Option ℕ)) (o : Option Write) → KeepsSp o → known (seen_after_write o seen) 1 ≡ known seen 1
+pub sp_written : (seen : List (Option ℕ)) (o : Option RegWrite) → KeepsSp o → known (seen_after_write o seen) 1 ≡ known seen 1
 sp_written seen None h = refl
 sp_written seen (Some w) h =
-    let apart : 1 ≢ w.number = λ e. h (sym e) in
-    ap (λ o. unwrap_or o 0) (get_or-set_other seen w.number 1 (Some w.value) None apart)
+    let apart : 1 ≢ w.reg = λ e. h (sym e) in
+    ap (λ o. unwrap_or o 0) (get_or-set_other seen w.reg 1 (Some w.value) None apart)

@@ -10,7 +10,7 @@ use Rattle.xt_isa.specs.Ranges.{in_range, one_register, multiple_within}
 use Rattle.xt_special.specs.Control.{Control}
 use Rattle.xt_special.specs.Interrupts.{pending_of}
 use Rattle.xt_trace.specs.declared.record.StepRecord.{StepRecord}
-use Rattle.xt_rows.specs.declared.outcome.Write.{Write}
+use Rattle.xt_trace.specs.declared.record.RegWrite.{RegWrite}
 use Rattle.xt_rows.specs.declared.outcome.Outcome.{Outcome}
 use Rattle.xt_rows.specs.declared.outcome.Outcome.TheVariants.{Does, Raises, Asks, Stops, Windowed}
 use Rattle.xt_rows.specs.declared.outcome.WindowStep.TheVariants.{Enters, Returns, EndsOverflow, EndsUnderflow, Rotates, MovesStack, Reads, Sets, Exchanges}
@@ -52,15 +52,15 @@ breach_fetches : (b : Bounds) (fresh : Bool) (code : ℕ → ℕ) (live stale : 
 unfolding laid_breach
 breach_fetches b fresh code live stale rec g e w = cond-false (ltb 0 (pending_of g.control) || g.control.waits) _ _ (or_from _ _ e w)
 
-write_stack : {lo hi : ℕ} {seen : List (Option ℕ)} {frames : List Frame} → Stack lo hi seen frames → (o : Option Write) → KeepsSp o → Stack lo hi (seen_after_write o seen) frames
+write_stack : {lo hi : ℕ} {seen : List (Option ℕ)} {frames : List Frame} → Stack lo hi seen frames → (o : Option RegWrite) → KeepsSp o → Stack lo hi (seen_after_write o seen) frames
 write_stack k None other = k
 write_stack {seen = seen} k (Some w) other =
-    let apart : 1 ≢ w.number = λ e. other (sym e) in
-    let same = get_or-set_other seen w.number 1 (Some w.value) None apart in
-    let at = known_is (set seen w.number (Some w.value)) 1 (known seen 1) (same ∙ k.sp) in
+    let apart : 1 ≢ w.reg = λ e. other (sym e) in
+    let same = get_or-set_other seen w.reg 1 (Some w.value) None apart in
+    let at = known_is (set seen w.reg (Some w.value)) 1 (known seen 1) (same ∙ k.sp) in
     record {
       range = k.range;
-      wide = length-set seen w.number (Some w.value) ∙ k.wide;
+      wide = length-set seen w.reg (Some w.value) ∙ k.wide;
       shaped = k.shaped;
       sp = rw at (same ∙ k.sp);
       chain = rw at k.chain;
@@ -89,7 +89,7 @@ KeepsChain r g u = Stack r.lo r.hi u.after.seen u.after.frames × Moves g u.afte
 stays : {r : Range} {g : FrameState} (u : FrameTurn) → Stack r.lo r.hi g.seen g.frames → u.after.seen ≡ g.seen → u.after.frames ≡ g.frames → KeepsChain r g u
 stays {r} {g} u k e f = (rw (e, f) k, Stays f (ap (λ (s : List (Option ℕ)). known s 1) e))
 
-writes : {r : Range} {g : FrameState} (u : FrameTurn) (o : Option Write) → Stack r.lo r.hi g.seen g.frames → KeepsSp o → u.after.seen ≡ seen_after_write o g.seen → u.after.frames ≡ g.frames → KeepsChain r g u
+writes : {r : Range} {g : FrameState} (u : FrameTurn) (o : Option RegWrite) → Stack r.lo r.hi g.seen g.frames → KeepsSp o → u.after.seen ≡ seen_after_write o g.seen → u.after.frames ≡ g.frames → KeepsChain r g u
 writes {r} {g} u o k other e f = (rw (e, f) (write_stack k o other), Stays f (ap (λ (s : List (Option ℕ)). known s 1) e ∙ sp_written g.seen o other))
 
 entry_value : (code : ℕ → ℕ) (i : Insn) (number : ℕ) (size : ℤ) (value : ℕ) (ar : ℕ → ℕ) (c : Control) → i ≡ insn.Control (control.Entry number size) → outcome_at code i ar c ≡ Windowed (Enters number value) → minus (ar number) (natural size) ≡ value

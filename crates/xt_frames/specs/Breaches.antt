@@ -19,7 +19,6 @@ use Rattle.xt_trace.specs.declared.record.StepKind.{StepKind}
 use Rattle.xt_trace.specs.declared.record.StepKind.TheVariants as kind
 use Rattle.xt_trace.specs.declared.record.RegWrite.{RegWrite}
 use Rattle.xt_trace.specs.declared.record.StepRecord.{StepRecord}
-use Rattle.xt_rows.specs.declared.outcome.Write.{Write}
 use Rattle.xt_fetch.specs.Fetching.{Fetched, Fetches, Fails, SpellsNothing, fetched}
 use Rattle.xt_rows.specs.Numbers.{minus, natural}
 use Rattle.xt_rows.specs.Operands.{reads, special_reads, named}
@@ -61,16 +60,12 @@ may_write_sp (insn.Control (control.Entry number size)) = true
 may_write_sp (insn.Shift (shift.Movsp t s)) = true
 may_write_sp _ = false
 
-abbrev pub is_sp : Option Write → Bool
+abbrev pub is_sp : Option RegWrite → Bool
 is_sp None = false
-is_sp (Some w) = w.number == 1
+is_sp (Some w) = w.reg == 1
 
-abbrev pub shows_sp : Option RegWrite → Bool
-shows_sp None = false
-shows_sp (Some w) = w.reg == 1
-
-abbrev pub writes_sp : Insn → Option RegWrite → Option Write → Bool
-writes_sp i shown write = not (may_write_sp i) && (shows_sp shown || is_sp write)
+abbrev pub writes_sp : Insn → Option RegWrite → Option RegWrite → Bool
+writes_sp i shown write = not (may_write_sp i) && (is_sp shown || is_sp write)
 
 -- ---- ENTRY's tests
 -- The caller's frame is what lies between its stack pointer and its own caller's; of the opening

@@ -4,7 +4,7 @@ use Rattle.std.specs.Prelude.{ℕ, ◌+◌, ◌-◌, ◌*◌, ◌^◌, Option, S
 use Rattle.std.specs.Prelude.{slice_index_or, slice_set, take, drop, replicate, unwrap_or}
 use Rattle.xt_special.specs.Control.{Control}
 use Rattle.xt_special.specs.Opening.{prid_of, opening_control}
-use Rattle.xt_rows.specs.declared.outcome.Write.{Write}
+use Rattle.xt_trace.specs.declared.record.RegWrite.{RegWrite}
 
 -- a frame that has called another: by how many windows the call moved, 1, 2 or 3, and the
 -- registers a0 to a(4n-1) that were kept for it
@@ -38,9 +38,9 @@ seen_after_call seen n = drop (4 * n) seen ++ replicate (4 * n) None
 abbrev pub seen_after_return : List (Option ℕ) → List (Option ℕ) → ℕ → List (Option ℕ)
 seen_after_return kept seen n = kept ++ take (16 - 4 * n) seen
 
-abbrev pub seen_after_write : Option Write → List (Option ℕ) → List (Option ℕ)
+abbrev pub seen_after_write : Option RegWrite → List (Option ℕ) → List (Option ℕ)
 seen_after_write None seen = seen
-seen_after_write (Some w) seen = slice_set seen w.number (Some w.value)
+seen_after_write (Some w) seen = slice_set seen w.reg (Some w.value)
 
 -- ---- the state in which a core opens: the processor's visible registers and special registers
 

@@ -7,7 +7,6 @@ use Rattle.xt_map.specs.declared.access.Entry.{Entry}
 use Rattle.xt_map.specs.declared.contents.MemoryContents.{MemoryContents}
 use Rattle.xt_map.specs.History.{IsLegal}
 use Rattle.xt_trace.specs.declared.record.StepRecord.{StepRecord}
-use Rattle.xt_rows.specs.Settling.{shown}
 use Rattle.xt_frames.specs.declared.kinds.Breach.{Breach}
 use Rattle.xt_frames.specs.declared.kinds.Judged.{Judged}
 use Rattle.xt_frames.specs.declared.kinds.Judged.TheVariants as judged
@@ -128,7 +127,7 @@ verdict checked j = if checked then verdict_on j.breach else judged.Unchecked
 pub record IsStepOf (rec : StepRecord) (pc : ℕ) (u : FrameTurn) : Type 0 where
   pub place : rec.pc ≡ pc
   pub kind : rec.kind ≡ u.kind
-  pub write : rec.write ≡ shown u.write
+  pub write : rec.write ≡ u.write
   pub access : rec.access ≡ u.access
 
 -- the records are those of the frame machine's steps, on their own inputs

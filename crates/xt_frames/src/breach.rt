@@ -9,7 +9,7 @@ ghost use Rattle.xt_codec.specs.Fetches.{IsFetched};
 ghost use Rattle.xt_frames.specs.Frames.{Frame, FrameState};
 ghost use Rattle.xt_frames.specs.SaveAreas.{Range, before};
 ghost use Rattle.xt_frames.specs.FrameStep.{laid_step};
-ghost use Rattle.xt_frames.specs.Breaches.{fetched_return_breach, first_shown, fresh_after, has_no_caller, insn_tests, is_in_vectors, is_movsp, is_return, is_windowing, laid_breach, leaves_range, may_write_sp, misaligns_sp, moves_vectors, names_high, names_window_register, opens_nothing, other_frame_size, other_tests, reads_epc1, reads_lost, reads_none, returns_elsewhere, sets_epc1, small_frame, vector_test, window_breach, writes_epc1, writes_sp};
+ghost use Rattle.xt_frames.specs.Breaches.{fetched_return_breach, first_shown, fresh_after, has_no_caller, insn_tests, is_in_vectors, is_movsp, is_return, is_sp, is_windowing, laid_breach, leaves_range, may_write_sp, misaligns_sp, moves_vectors, names_high, names_window_register, opens_nothing, other_frame_size, other_tests, reads_epc1, reads_lost, reads_none, returns_elsewhere, sets_epc1, small_frame, vector_test, window_breach, writes_epc1, writes_sp};
 ghost use Rattle.xt_frames.specs.declared.view.Step.{Step};
 ghost use Rattle.xt_frames.specs.Parts.{IsGood, IsNewest, IsPlan, Upper, state_at, turn_as};
 ghost use Rattle.xt_frames.specs.Walked.{IsCase, bounds_of, shown_tests};
@@ -24,7 +24,7 @@ use xt_isa::memory::Memory;
 use xt_isa::shift::Shift;
 use xt_isa::system::{ReturnName, SpecialName, System};
 use xt_map::Constants;
-use xt_rows::{Write, minus, named, natural, reads, special_reads};
+use xt_rows::{minus, named, natural, reads, special_reads};
 use xt_special::number;
 use xt_trace::{RegWrite, StepKind, StepRecord};
 
@@ -96,18 +96,19 @@ fn may_write_sp(i: Insn) -> bool
     )
 }
 
-fn writes_sp(i: Insn, shown: Option<RegWrite>, write: Option<Write>) -> bool
-    ensures { result ≡ writes_sp i shown write }
+fn is_sp(write: Option<RegWrite>) -> bool
+    ensures { result ≡ is_sp write }
 {
-    let shows = match shown {
+    match write {
         Some(w) => w.reg == 1,
         None => false,
-    };
-    let is = match write {
-        Some(w) => w.number == 1,
-        None => false,
-    };
-    !may_write_sp(i) && (shows || is)
+    }
+}
+
+fn writes_sp(i: Insn, shown: Option<RegWrite>, write: Option<RegWrite>) -> bool
+    ensures { result ≡ writes_sp i shown write }
+{
+    !may_write_sp(i) && (is_sp(shown) || is_sp(write))
 }
 
 fn small_frame(under: u32, sp: u32, size: u32, by: u8) -> bool

@@ -7,11 +7,11 @@ ghost use Rattle.xt_map.specs.Memory.{constant_byte};
 ghost use Rattle.xt_special.specs.Control.{special_of};
 ghost use Rattle.xt_special.specs.Numbers as numbers;
 ghost use Rattle.xt_special.specs.Timers.{ticked};
-ghost use Rattle.xt_rows.specs.Laws.{IsAny, IsHeld, IsProper, IsProperEffect, IsProperSet, IsProperStep, IsProperWrite, IsRegister};
+ghost use Rattle.xt_rows.specs.Laws.{IsAny, IsProper, IsProperEffect, IsProperStep, IsProperWrite, IsRegister};
 ghost use Rattle.xt_fetch.specs.Fetching.{Fetched};
 ghost use Rattle.xt_codec.specs.Fetches.{IsFetched, IsGoodFetch};
 ghost use Rattle.xt_rows.specs.Outcomes.{outcome_at, value_of};
-ghost use Rattle.xt_rows.specs.Settling.{after_effect, after_flow, settled_interrupt, settled_wait, with_set, written};
+ghost use Rattle.xt_rows.specs.Settling.{after_effect, after_flow, settled_interrupt, settled_wait};
 ghost use Rattle.xt_rows.specs.declared.outcome.Flow.TheVariants.{Falls};
 ghost use Rattle.xt_frames.specs.Frames.{Frame, known, opening_frame, seen_after_write};
 ghost use Rattle.xt_frames.specs.FrameStep.{Inputs, done_in_frame, fetched_step, in_frame, laid, laid_step, popped, pushed, raised, windowed_in_frame};
@@ -25,12 +25,12 @@ use std::marker::Model;
 use xt_codec::{Fetch, instruction_at};
 use xt_isa::Insn;
 use xt_map::{Access, Constants};
+use xt_rows::settling::{self, received, special_value};
 use xt_rows::{
-    Awaited, Effect, Flow, Outcome, SpecialWrite, Values, WindowStep, Write, cause, extended,
-    outcome_of, reads, special_reads,
+    Effect, Outcome, Values, WindowStep, cause, outcome_of, reads, special_reads, write_to,
 };
 use xt_special::{Special, number};
-use xt_trace::{StepKind, StepRecord};
+use xt_trace::{RegWrite, StepKind, StepRecord};
 
 /// A frame that has called another.
 #[derive(Clone, Copy)]
@@ -58,7 +58,7 @@ pub struct Step {
     /// What the step is.
     pub kind: StepKind,
     /// The visible register that it writes.
-    pub write: Option<Write>,
+    pub write: Option<RegWrite>,
     /// The access that it makes.
     pub access: Option<Access>,
     /// What it does to the list of frames.
@@ -108,7 +108,7 @@ impl Model for View {
 }
 
 /// A step that stays in its frame and asks for no access.
-fn without_access(kind: StepKind, write: Option<Write>) -> Step
+fn without_access(kind: StepKind, write: Option<RegWrite>) -> Step
     ensures { result ≡ record { kind = kind; write = write; access = None; call = Stays } }
 {
     Step {
@@ -239,54 +239,27 @@ impl View {
     }
 
     /// Goes on to the next instruction, or back in a loop.
-    #[tactic(auto, unfolding(xt_loop::specs::Looping::loops_back))]
     fn falls(&mut self, len: u8)
         ensures { self.new ≡ record self.old { control = after_flow Falls len self.old.control } }
     {
-        let next = self.pc.wrapping_add(len as u32);
-        let count = self.special.register(number::LCOUNT);
-        if next == self.special.register(number::LEND) && !self.special.excm() && count != 0 {
-            self.pc = self.special.register(number::LBEG);
-            self.special.set_register(number::LCOUNT, count - 1);
-        } else {
-            self.pc = next;
-        }
-    }
-
-    fn set(&mut self, set: Option<SpecialWrite>)
-        requires { IsProperSet set }
-        ensures { self.new ≡ record self.old { control = record self.old.control { special = with_set set self.old.control.special } } }
-    {
-        if let Some(w) = set {
-            self.special.set_register(w.number, w.value);
-        }
+        self.pc = settling::falls(&mut self.special, self.pc, len);
     }
 
     /// What an instruction of this length changes beside the visible registers.
-    #[tactic(auto, unfolding(xt_rows::specs::Settling::after_effect))]
     fn apply(&mut self, e: Effect, len: u8)
         requires { IsProperEffect IsAny e }
         ensures { self.new ≡ record self.old { control = after_effect e len self.old.control } }
     {
-        self.special.set_ps_fields(e.ps);
-        self.special.set_threadptr(e.threadptr);
+        self.pc = settling::apply(&mut self.special, self.pc, e, len);
         self.waits = e.waits;
-        let (first, second, third) = e.sets;
-        self.set(first);
-        self.set(second);
-        self.set(third);
-        match e.flow {
-            Flow::Falls => self.falls(len),
-            Flow::Goes(target) => self.pc = target,
-        }
     }
 
-    fn write(&mut self, write: Option<Write>)
+    fn write(&mut self, write: Option<RegWrite>)
         requires { IsProperWrite IsAny write }
         ensures { self.new ≡ record self.old { seen = seen_after_write write self.old.seen } }
     {
         if let Some(w) = write {
-            self.seen[w.number as usize] = Some(w.value);
+            self.seen[w.reg as usize] = Some(w.value);
         }
     }
 
@@ -331,7 +304,7 @@ impl View {
         self.tick();
         Step {
             kind: StepKind::Insn,
-            write: Some(Write { number, value }),
+            write: write_to(number, value),
             access: None,
             call: Call::Calls(Caller { by, kept }),
         }
@@ -367,17 +340,6 @@ impl View {
         }
     }
 
-    fn special_value(&self, register: Option<u8>) -> u32
-        ensures value { result ≡ value_of (special_of self.now.control) register }
-        ensures held { IsHeld register result }
-    {
-        match register {
-            Some(number::SAR) => self.special.sar() as u32,
-            Some(number) => self.special.register(number),
-            None => 0,
-        }
-    }
-
     /// What comes of the instruction at PC.
     fn outcome(&self, code: &Constants, i: Insn) -> Outcome
         requires { in_range i ≡ true }
@@ -389,8 +351,8 @@ impl View {
         let values = Values {
             x: self.visible_value(first),
             y: self.visible_value(second),
-            u: self.special_value(special),
-            v: self.special_value(other),
+            u: special_value(&self.special, special),
+            v: special_value(&self.special, other),
         };
         let ps = self.special.ps_fields();
         outcome_of::<Self>(code, i, self.pc, values, ps, self.special.threadptr())
@@ -517,18 +479,5 @@ impl View {
             Plan::Waits => self.wait(),
             Plan::Fetched(fetch) => self.fetched_step(code, fetch, reply, newest),
         }
-    }
-}
-
-/// The register that receives a reply, and its value.
-fn received(awaited: Option<Awaited>, reply: u32) -> Option<Write>
-    ensures { result ≡ written None awaited reply }
-{
-    match awaited {
-        Some(a) => Some(Write {
-            number: a.number,
-            value: extended(a.signed, reply),
-        }),
-        None => None,
     }
 }

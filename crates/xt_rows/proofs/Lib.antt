@@ -3,5 +3,4 @@ pub mod Proper
 pub mod Registers
 pub mod Fitting
 pub mod Reading
-pub mod Tied
 pub mod Alone

@@ -60,7 +60,7 @@ use Rattle.xt_map.specs.declared.access.Kind.TheVariants.{Load, Store, Cas}
 use Rattle.xt_map.specs.Regions.{is_mapped, is_constant, region_of}
 use Rattle.xt_special.specs.declared.ps.Ps.{Ps}
 use Rattle.xt_special.specs.Control.{ps_word, ps_of, bit_of}
-use Rattle.xt_special.specs.Access.{value_read, value_kept, changed_by, ps_written, timer_bit, without_bits, is_ccompare, software_bits}
+use Rattle.xt_special.specs.Access.{value_read, value_kept, changed_by, ps_written, timer_bit, without_bits, is_ccompare, software_bits, written_by, set_to, no_set, no_sets, SpecialWrites}
 use Rattle.xt_special.specs.Shape.{IsPs, CanHold}
 use Rattle.xt_alu.specs.Conditions.{holds}
 use Rattle.xt_alu.specs.declared.conditions.Cond.TheVariants as cond_
@@ -73,9 +73,10 @@ use Rattle.xt_rows.specs.declared.outcome.Outcome.{Outcome}
 use Rattle.xt_rows.specs.declared.outcome.Outcome.TheVariants.{Does, Raises, Asks}
 use Rattle.xt_rows.specs.Numbers.{plus, natural, extended, linked, branch_target, address_behind}
 use Rattle.xt_rows.specs.Operands.{call_size, callx_size}
-use Rattle.xt_rows.specs.Effects.{unchanged, puts, moves, divides, goes, branches, calls, loops, asks, aligned, loads, stores, swaps, special_sets, window_register, reads_special, writes_special, exchanges_special, set_to, write_to, no_set, no_sets, SpecialWrites}
+use Rattle.xt_rows.specs.Effects.{unchanged, puts, moves, divides, goes, branches, calls, loops, asks, aligned, loads, stores, swaps, window_register, reads_special, writes_special, exchanges_special, write_to}
 use Rattle.xt_rows.specs.Outcomes.{three_outcome, shift_outcome, memory_outcome, control_outcome, system_outcome, density_outcome, outcome, sets_sar}
-use Rattle.xt_rows.specs.Laws.{IsWord, IsProperSet, AreProperSets, IsProperFlow, IsProperEffect, IsProperAwaited, IsProper, IsGiven, IsAny}
+use Rattle.xt_special.specs.Shape.{IsProperSet, AreProperSets}
+use Rattle.xt_rows.specs.Laws.{IsWord, IsProperFlow, IsProperEffect, IsProperAwaited, IsProper, IsGiven, IsAny}
 use Rattle.xt_rows.proofs.Bounds.{IsSize, One, Two, Four, addx_small, subx_small, mul16u_small, mul16s_small, mull_small, muluh_small, mulsh_small, quou_small, quos_small, remu_small, rems_small, signed_min_small, signed_max_small, min_small, max_small, and_small, or_small, xor_small, neg_small, abs_small, sext_small, clamps_small, nsa_small, nsau_small, src_small, srl_small, sra_small, sll_small, slli_small, srai_small, srli_small, extui_small, ssr_small, ssl_small, ssa8l_small, ssa8b_small, plus_small, minus_small, linked_small, extended_small, code_number_small}
 
 -- ---- registers that are in their range
@@ -406,7 +407,7 @@ compare_holds n x h =
     let high : n ≤ 242 = leb-true n 242 both.1 in
     record { as_sar = λ e. absurd (omega arith); as_vecbase = λ e. absurd (omega arith) }
 
-sets_proper : (n x v : ℕ) → x < 2 ^ 32 → v < 2 ^ 32 → AreProperSets (special_sets n x v)
+sets_proper : (n x v : ℕ) → x < 2 ^ 32 → v < 2 ^ 32 → AreProperSets (written_by n x v)
 sets_proper n x v p q = by_test (eqb n 230) (is_ccompare n) refl
   where
     by_test : (b c : Bool) → is_ccompare n ≡ c

@@ -8,11 +8,9 @@ use Rattle.xt_map.specs.declared.access.Kind.TheVariants.{Load, Store, Cas}
 use Rattle.xt_map.specs.Regions.{region_of, is_constant, is_mapped}
 use Rattle.xt_special.specs.declared.ps.Ps.{Ps}
 use Rattle.xt_special.specs.Numbers as number
-use Rattle.xt_special.specs.Access.{is_ccompare, value_read, ps_written, changed_by, value_kept}
-use Rattle.xt_special.specs.Access.{without_bits, timer_bit}
+use Rattle.xt_special.specs.Access.{value_read, ps_written, written_by, set_to, no_sets}
 use Rattle.xt_fetch.specs.Code.{code_number}
-use Rattle.xt_rows.specs.declared.outcome.Write.{Write}
-use Rattle.xt_rows.specs.declared.outcome.SpecialWrite.{SpecialWrite}
+use Rattle.xt_trace.specs.declared.record.RegWrite.{RegWrite}
 use Rattle.xt_rows.specs.declared.outcome.Awaited.{Awaited}
 use Rattle.xt_rows.specs.declared.outcome.Flow.TheVariants.{Falls, Goes}
 use Rattle.xt_rows.specs.declared.outcome.Effect.{Effect}
@@ -51,16 +49,6 @@ misaligned = 9
 -- Each row begins with the effect e of an instruction that changes nothing and goes on to the next
 -- one, and changes parts of it.
 
-abbrev pub no_set : Option SpecialWrite
-no_set = None
-
--- the writes of special registers, in order
-abbrev pub SpecialWrites : Type 0
-SpecialWrites = Option SpecialWrite × Option SpecialWrite × Option SpecialWrite
-
-abbrev pub no_sets : SpecialWrites
-no_sets = (no_set, no_set, no_set)
-
 abbrev pub unchanged : Ps → ℕ → Effect
 unchanged ps threadptr = record {
   write = None;
@@ -71,8 +59,8 @@ unchanged ps threadptr = record {
   waits = false;
 }
 
-abbrev pub write_to : ℕ → ℕ → Option Write
-write_to number value = Some (record { number = number; value = value })
+abbrev pub write_to : ℕ → ℕ → Option RegWrite
+write_to number value = Some (record { reg = number; value = value })
 
 -- a register receives a value
 abbrev pub puts : ℕ → ℕ → Effect → Outcome
@@ -106,9 +94,6 @@ calls size target pc e =
       ps = record e.ps { callinc = size };
       flow = Goes target;
     })
-
-abbrev pub set_to : ℕ → ℕ → Option SpecialWrite
-set_to number value = Some (record { number = number; value = value })
 
 -- LBEG is the address behind, LEND the target, LCOUNT one less than the count; the body is passed
 -- over where `passes` says so
@@ -158,15 +143,6 @@ swaps expected new number addr e =
 
 -- ---- special registers
 
--- what a write of x to the special register n changes, where INTERRUPT was v: PS is no entry of the
--- list, and a write of a CCOMPARE clears its timer's bit of INTERRUPT
-abbrev pub special_sets : ℕ → ℕ → ℕ → SpecialWrites
-special_sets n x v =
-    if n == number.ps then no_sets
-    else (if is_ccompare n
-    then (set_to n x, set_to number.interrupt (without_bits v (timer_bit n)), no_set)
-    else (set_to (changed_by n) (value_kept n x v), no_set, no_set))
-
 -- WINDOWBASE and WINDOWSTART are kept with the windows
 abbrev pub window_register : ℕ → Option WindowRegister
 window_register n =
@@ -179,14 +155,14 @@ reads_special (Some w) t n u e = Windowed (Reads w t)
 
 abbrev pub writes_special : Option WindowRegister → ℕ → ℕ → ℕ → Effect → Outcome
 writes_special None n x v e =
-    Does (record e { sets = special_sets n x v; ps = ps_written n x e.ps })
+    Does (record e { sets = written_by n x v; ps = ps_written n x e.ps })
 writes_special (Some w) n x v e = Windowed (Sets w x)
 
 abbrev pub exchanges_special : Option WindowRegister → ℕ → ℕ → ℕ → ℕ → ℕ → Effect → Outcome
 exchanges_special None t n x u v e =
     Does (record e {
       write = write_to t (value_read n u e.ps);
-      sets = special_sets n x v;
+      sets = written_by n x v;
       ps = ps_written n x e.ps;
     })
 exchanges_special (Some w) t n x u v e = Windowed (Exchanges w t x)

@@ -18,7 +18,7 @@ use Rattle.xt_map.specs.Regions.{is_mapped}
 use Rattle.xt_special.specs.declared.ps.Ps.{Ps}
 use Rattle.xt_special.specs.Numbers as number
 use Rattle.xt_special.specs.Access.{is_window_register}
-use Rattle.xt_rows.specs.declared.outcome.Write.{Write}
+use Rattle.xt_trace.specs.declared.record.RegWrite.{RegWrite}
 use Rattle.xt_rows.specs.declared.outcome.Awaited.{Awaited}
 use Rattle.xt_rows.specs.declared.outcome.WindowStep.{WindowStep}
 use Rattle.xt_rows.specs.declared.outcome.WindowStep.TheVariants.{Enters, Returns, EndsOverflow}
@@ -28,7 +28,7 @@ use Rattle.xt_rows.specs.declared.outcome.WindowStep.TheVariants.{Exchanges}
 use Rattle.xt_rows.specs.declared.outcome.Outcome.{Outcome}
 use Rattle.xt_rows.specs.declared.outcome.Outcome.TheVariants.{Does, Raises, Asks, Stops, Windowed}
 use Rattle.xt_rows.specs.Operands.{reads, named}
-use Rattle.xt_rows.specs.Effects.{set_to, no_set, SpecialWrites}
+use Rattle.xt_special.specs.Access.{set_to, no_set, SpecialWrites}
 use Rattle.xt_rows.specs.Outcomes.{outcome}
 
 -- ---- kinds of instructions
@@ -68,9 +68,9 @@ sets_epc1 _ = false
 
 -- ---- a row's outcome fits its instruction
 
-abbrev pub WritesNamed : Insn → Option Write → Type 0
+abbrev pub WritesNamed : Insn → Option RegWrite → Type 0
 WritesNamed i None = Unit {0}
-WritesNamed i (Some w) = w.number ≤ named i
+WritesNamed i (Some w) = w.reg ≤ named i
 
 abbrev pub AwaitsNamed : Insn → Option Awaited → Type 0
 AwaitsNamed i None = Unit {0}

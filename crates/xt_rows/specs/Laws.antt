@@ -6,10 +6,9 @@ use Rattle.xt_isa.specs.Ranges.{in_range, signed_within}
 use Rattle.xt_map.specs.Regions.{is_mapped}
 use Rattle.xt_special.specs.declared.ps.Ps.{Ps}
 use Rattle.xt_special.specs.Control.{Control, special_of}
-use Rattle.xt_special.specs.Shape.{IsPs, CanHold}
+use Rattle.xt_special.specs.Shape.{IsPs, AreProperSets}
 use Rattle.xt_fetch.specs.Code.{AreBytes}
-use Rattle.xt_rows.specs.declared.outcome.Write.{Write}
-use Rattle.xt_rows.specs.declared.outcome.SpecialWrite.{SpecialWrite}
+use Rattle.xt_trace.specs.declared.record.RegWrite.{RegWrite}
 use Rattle.xt_rows.specs.declared.outcome.Awaited.{Awaited}
 use Rattle.xt_rows.specs.declared.outcome.Flow.{Flow}
 use Rattle.xt_rows.specs.declared.outcome.Flow.TheVariants.{Falls, Goes}
@@ -22,7 +21,6 @@ use Rattle.xt_rows.specs.declared.outcome.WindowStep.TheVariants.{Exchanges}
 use Rattle.xt_rows.specs.declared.outcome.Outcome.{Outcome}
 use Rattle.xt_rows.specs.declared.outcome.Outcome.TheVariants.{Does, Raises, Asks, Stops, Windowed}
 use Rattle.xt_rows.specs.Operands.{reads, special_reads, named}
-use Rattle.xt_rows.specs.Effects.{SpecialWrites}
 use Rattle.xt_rows.specs.Outcomes.{outcome, outcome_at}
 
 -- ---- a row looks at nothing but the registers that it reads, PC, PS and THREADPTR
@@ -59,17 +57,9 @@ abbrev pub IsWord : ℕ → Type 0
 IsWord n = n < 2 ^ 32
 
 -- the register exists, and W holds of the value
-abbrev pub IsProperWrite : (ℕ → Type 0) → Option Write → Type 0
+abbrev pub IsProperWrite : (ℕ → Type 0) → Option RegWrite → Type 0
 IsProperWrite W None = Unit {0}
-IsProperWrite W (Some w) = (w.number < 16) × W w.value
-
--- SAR keeps six bits, and the low ten of VECBASE are 0
-abbrev pub IsProperSet : Option SpecialWrite → Type 0
-IsProperSet None = Unit {0}
-IsProperSet (Some w) = CanHold w.number w.value × IsWord w.value
-
-abbrev pub AreProperSets : SpecialWrites → Type 0
-AreProperSets w = IsProperSet w.0 × IsProperSet w.1 × IsProperSet w.2
+IsProperWrite W (Some w) = (w.reg < 16) × W w.value
 
 abbrev pub IsProperFlow : Flow → Type 0
 IsProperFlow Falls = Unit {0}

@@ -5,4 +5,3 @@ pub mod Outcomes
 pub mod Settling
 pub mod Laws
 pub mod Kinds
-pub mod Ties

@@ -76,9 +76,10 @@ use Rattle.xt_rows.specs.declared.outcome.Outcome.TheVariants.{Does, Raises, Sto
 use Rattle.xt_rows.specs.Numbers.{plus, minus, natural, branch_target, call_target, literal_address}
 use Rattle.xt_rows.specs.Operands.{call_size, callx_size, reads, special_reads}
 use Rattle.xt_rows.specs.Effects.{illegal_instruction, system_call, unchanged, write_to, puts}
-use Rattle.xt_rows.specs.Effects.{moves, divides, goes, branches, calls, set_to, loops, loads}
+use Rattle.xt_special.specs.Access.{set_to, no_set}
+use Rattle.xt_rows.specs.Effects.{moves, divides, goes, branches, calls, loops, loads}
 use Rattle.xt_rows.specs.Effects.{stores, swaps, window_register, reads_special, writes_special}
-use Rattle.xt_rows.specs.Effects.{exchanges_special, no_set}
+use Rattle.xt_rows.specs.Effects.{exchanges_special}
 
 -- ---- three registers: x is AR[s], y is AR[t], u is SAR
 

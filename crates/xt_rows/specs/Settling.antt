@@ -2,36 +2,27 @@
 -- processor and for a machine with unbounded frames ('profile' for the turn as the unit of time;
 -- the effects are those of the manual's chapters on the options).
 use Rattle.std.specs.Prelude.{ℕ, ◌+◌, ◌-◌, ◌*◌, ◌/◌, ◌%◌, ◌^◌, if◌then◌else◌, Option, Some, None}
-use Rattle.std.specs.Prelude.{List, slice_set}
+use Rattle.std.specs.Prelude.{slice_set}
 use Rattle.xt_map.specs.declared.access.Access.{Access}
 use Rattle.xt_trace.specs.declared.record.StepKind.{StepKind}
 use Rattle.xt_trace.specs.declared.record.StepKind.TheVariants as kind
 use Rattle.xt_trace.specs.declared.record.RegWrite.{RegWrite}
 use Rattle.xt_special.specs.Numbers as number
 use Rattle.xt_special.specs.Control.{Control, special_of}
+use Rattle.xt_special.specs.Access.{with_sets}
 use Rattle.xt_special.specs.Timers.{ticked}
 use Rattle.xt_special.specs.Exceptions.{after_exception}
 use Rattle.xt_special.specs.Interrupts.{after_interrupt}
 use Rattle.xt_loop.specs.Looping.{loops_back}
-use Rattle.xt_rows.specs.declared.outcome.Write.{Write}
-use Rattle.xt_rows.specs.declared.outcome.SpecialWrite.{SpecialWrite}
 use Rattle.xt_rows.specs.declared.outcome.Awaited.{Awaited}
 use Rattle.xt_rows.specs.declared.outcome.Flow.{Flow}
 use Rattle.xt_rows.specs.declared.outcome.Flow.TheVariants.{Falls, Goes}
 use Rattle.xt_rows.specs.declared.outcome.Effect.{Effect}
 use Rattle.xt_rows.specs.Numbers.{extended}
-use Rattle.xt_rows.specs.Effects.{SpecialWrites}
 use Rattle.xt_rows.specs.declared.outcome.Outcome.{Outcome}
 use Rattle.xt_rows.specs.declared.outcome.Outcome.TheVariants.{Does, Raises, Asks, Stops, Windowed}
 
 -- ---- an effect on the control state
-
-abbrev pub with_set : Option SpecialWrite → List ℕ → List ℕ
-with_set None special = special
-with_set (Some w) special = slice_set special w.number w.value
-
-abbrev pub with_sets : SpecialWrites → List ℕ → List ℕ
-with_sets w special = with_set w.2 (with_set w.1 (with_set w.0 special))
 
 -- An instruction that falls through may go back in a loop. A jump, a taken branch, a
 -- call or a return never does.
@@ -72,13 +63,13 @@ pub data Kind : Type 0 where
 pub record Settled : Type 0 where
   pub kind : Kind
   -- the register that is written, where the value is known without a reply
-  pub write : Option Write
+  pub write : Option RegWrite
   pub access : Option Access
   -- the register that receives the reply
   pub awaited : Option Awaited
   pub control : Control
 
-abbrev pub without_access : Kind → Option Write → Control → Settled
+abbrev pub without_access : Kind → Option RegWrite → Control → Settled
 without_access kind write c =
     record { kind = kind; write = write; access = None; awaited = None; control = ticked c }
 
@@ -119,16 +110,12 @@ kind_of Stopped = kind.Stop
 
 -- ---- the reply: what the register that awaited it receives
 
-abbrev pub received : Awaited → ℕ → Write
-received a reply = record { number = a.number; value = extended a.signed reply }
+abbrev pub received : Awaited → ℕ → RegWrite
+received a reply = record { reg = a.number; value = extended a.signed reply }
 
-abbrev pub written : Option Write → Option Awaited → ℕ → Option Write
+abbrev pub written : Option RegWrite → Option Awaited → ℕ → Option RegWrite
 written write None reply = write
 written write (Some a) reply = Some (received a reply)
-
-abbrev pub shown : Option Write → Option RegWrite
-shown None = None
-shown (Some w) = Some (record { reg = w.number; value = w.value })
 
 -- ---- a return (chapter 'Windowed Register Option', RETW)
 

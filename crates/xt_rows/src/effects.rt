@@ -1,16 +1,15 @@
 ghost use Rattle.std.specs.Prelude.{◌≡◌, ◌+◌, ◌*◌, ◌%◌, ◌^◌, ◌<◌, true};
 ghost use Rattle.xt_map.specs.Memory.{constant_byte};
 ghost use Rattle.xt_map.specs.Regions.{is_size};
-ghost use Rattle.xt_rows.specs.Effects.{asks, branches, calls, exchanges_special, goes, loads, loops, moves, puts, reads_special, set_to, special_sets, stores, swaps, unchanged, window_register, write_to, writes_special};
+ghost use Rattle.xt_rows.specs.Effects.{asks, branches, calls, exchanges_special, goes, loads, loops, moves, puts, reads_special, stores, swaps, unchanged, window_register, write_to, writes_special};
 
 use crate::cause;
 use crate::numbers::{address_behind, branch_target, extended, linked, minus};
-use crate::outcome::{
-    Awaited, Effect, Flow, Outcome, SpecialWrite, WindowRegister, WindowStep, Write,
-};
+use crate::outcome::{Awaited, Effect, Flow, Outcome, WindowRegister, WindowStep};
 use xt_fetch::code_number;
 use xt_map::{Access, Constants, Kind, is_constant_at, mapped};
-use xt_special::{Ps, number};
+use xt_special::{Ps, number, set_to};
+use xt_trace::RegWrite;
 
 /// The effect of an instruction that changes nothing and goes on to the next one.
 #[inline(always)]
@@ -28,17 +27,10 @@ pub fn unchanged(ps: Ps, threadptr: u32) -> Effect
 }
 
 #[inline(always)]
-pub fn write_to(number: u8, value: u32) -> Option<Write>
+pub fn write_to(number: u8, value: u32) -> Option<RegWrite>
     ensures { result ≡ write_to number value }
 {
-    Some(Write { number, value })
-}
-
-#[inline(always)]
-pub fn set_to(number: u8, value: u32) -> Option<SpecialWrite>
-    ensures { result ≡ set_to number value }
-{
-    Some(SpecialWrite { number, value })
+    Some(RegWrite { reg: number, value })
 }
 
 /// A register receives a value.

@@ -14,14 +14,13 @@ mod numbers;
 mod operands;
 mod outcome;
 mod rows;
+pub mod settling;
 mod shift;
 mod system;
 mod three;
-pub mod ties;
 
+pub use effects::write_to;
 pub use numbers::{extended, literal_address, minus, natural, plus};
 pub use operands::{named, reads, special_reads};
-pub use outcome::{
-    Awaited, Effect, Flow, Outcome, SpecialWrite, SpecialWrites, WindowRegister, WindowStep, Write,
-};
+pub use outcome::{Awaited, Effect, Flow, Outcome, WindowRegister, WindowStep};
 pub use rows::{Values, outcome_of};

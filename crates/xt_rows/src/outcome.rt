@@ -1,30 +1,6 @@
 use xt_map::Access;
-use xt_special::Ps;
-
-/// A write to a visible register.
-#[derive(Clone, Copy)]
-pub struct Write {
-    /// The visible register, 0 to 15, in the window after the turn.
-    pub number: u8,
-    /// The value.
-    pub value: u32,
-}
-
-/// A write to a special register other than PS.
-#[derive(Clone, Copy)]
-pub struct SpecialWrite {
-    /// The number of the special register.
-    pub number: u8,
-    /// The value that it keeps.
-    pub value: u32,
-}
-
-/// The special registers that an instruction writes, in order: at most three, as LOOP writes LCOUNT, LBEG and LEND.
-pub type SpecialWrites = (
-    Option<SpecialWrite>,
-    Option<SpecialWrite>,
-    Option<SpecialWrite>,
-);
+use xt_special::{Ps, SpecialWrites};
+use xt_trace::RegWrite;
 
 /// The visible register that receives the reply to an access.
 #[derive(Clone, Copy)]
@@ -48,7 +24,7 @@ pub enum Flow {
 #[derive(Clone, Copy)]
 pub struct Effect {
     /// The visible register that it writes, unless it waits for a reply.
-    pub write: Option<Write>,
+    pub write: Option<RegWrite>,
     /// The special registers that it writes.
     pub sets: SpecialWrites,
     /// PS afterwards.

@@ -4,13 +4,13 @@ ghost use Rattle.xt_isa.specs.declared.shift.Shift.TheVariants as shift;
 ghost use Rattle.xt_rows.specs.Numbers.{natural};
 ghost use Rattle.xt_rows.specs.Outcomes.{sets_sar, shift_outcome};
 
-use crate::effects::{puts, set_to};
+use crate::effects::puts;
 use crate::numbers::natural;
 use crate::outcome::{Effect, Outcome, WindowStep};
 use xt_alu::shifts::{extui, sll, slli, sra, srai, srl, srli, ssa8b, ssa8l, ssl, ssr};
 use xt_alu::unary::{abs, clamps, neg, nsa, nsau, sext};
 use xt_isa::shift::{NegName, NsaName, SextName, Shift, SrlName, Ssa8Name, SsrName};
-use xt_special::number;
+use xt_special::{number, set_to};
 
 // An operand within a range of numbers below 256.
 #[tactic(auto, unfolding(crate::specs::Numbers::natural, xt_isa::specs::Ranges::natural_within))]

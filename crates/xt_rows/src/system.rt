@@ -2,18 +2,17 @@ ghost use Rattle.std.specs.Prelude.{◌≡◌, ℕ, ℤ, ◌<◌, true};
 ghost use Rattle.xt_isa.specs.Ranges.{natural_within, system_in_range};
 ghost use Rattle.xt_isa.specs.declared.system.System.TheVariants as system;
 ghost use Rattle.xt_special.specs.Shape.{IsPs};
-ghost use Rattle.xt_rows.specs.Effects.{special_sets};
 ghost use Rattle.xt_rows.specs.Outcomes.{system_outcome};
 
 use crate::cause;
-use crate::effects::{goes, puts, set_to, window_register, write_to};
+use crate::effects::{goes, puts, window_register, write_to};
 use crate::numbers::natural;
-use crate::outcome::{Effect, Flow, Outcome, SpecialWrites, WindowStep};
+use crate::outcome::{Effect, Flow, Outcome, WindowStep};
 use crate::shift::within;
 use xt_isa::system::{
     BreakName, LevelName, ReturnName, SpecialName, SyncName, System, UserName, WaitName,
 };
-use xt_special::{Ps, number, ps_written, timer_bit, value_kept, value_read, without_bits};
+use xt_special::{Ps, ps_written, value_read, written_by};
 
 #[tactic(auto, unfolding(crate::specs::Outcomes::system_outcome))]
 #[inline(always)]
@@ -92,26 +91,6 @@ fn sets_level(name: LevelName, t: u8, level: i32, e: Effect) -> Outcome
     }
 }
 
-// What a write of `x` to the special register `n` changes, where INTERRUPT was `v`.
-#[inline(always)]
-fn special_sets(n: u8, x: u32, v: u32) -> SpecialWrites
-    ensures { result ≡ special_sets n x v }
-{
-    match n {
-        number::PS => (None, None, None),
-        number::CCOMPARE0..=number::CCOMPARE2 => (
-            set_to(n, x),
-            set_to(
-                number::INTERRUPT,
-                without_bits(v, timer_bit(n - number::CCOMPARE0)),
-            ),
-            None,
-        ),
-        number::INTCLEAR => (set_to(number::INTERRUPT, value_kept(n, x, v)), None, None),
-        _ => (set_to(n, value_kept(n, x, v)), None, None),
-    }
-}
-
 #[tactic(auto, unfolding(crate::specs::Outcomes::system_outcome))]
 #[inline(always)]
 fn reads_special(t: u8, n: u8, u: u32, e: Effect) -> Outcome
@@ -132,7 +111,7 @@ fn writes_special(n: u8, x: u32, v: u32, e: Effect) -> Outcome
     match window_register(n) {
         Some(register) => Outcome::Windowed(WindowStep::Sets(register, x)),
         None => Outcome::Does(Effect {
-            sets: special_sets(n, x, v),
+            sets: written_by(n, x, v),
             ps: ps_written(n, x, e.ps),
             ..e
         }),
@@ -149,7 +128,7 @@ fn exchanges_special(t: u8, n: u8, x: u32, u: u32, v: u32, e: Effect) -> Outcome
         Some(register) => Outcome::Windowed(WindowStep::Exchanges(register, t, x)),
         None => Outcome::Does(Effect {
             write: write_to(t, value_read(n, u, e.ps)),
-            sets: special_sets(n, x, v),
+            sets: written_by(n, x, v),
             ps: ps_written(n, x, e.ps),
             ..e
         }),

@@ -9,12 +9,12 @@ use Rattle.xt_special.specs.Timers.{with_timer, ticked_special, ticked}
 use Rattle.xt_special.specs.Exceptions.{with_address, after_general, after_double, after_exception}
 use Rattle.xt_special.specs.Interrupts.{pending_of, after_high_level, after_interrupt, interrupt_cause}
 use Rattle.xt_loop.specs.Looping.{loops_back}
-use Rattle.xt_rows.specs.declared.outcome.SpecialWrite.{SpecialWrite}
+use Rattle.xt_special.specs.declared.writes.SpecialWrite.{SpecialWrite}
 use Rattle.xt_rows.specs.declared.outcome.Flow.{Flow}
 use Rattle.xt_rows.specs.declared.outcome.Flow.TheVariants.{Falls, Goes}
 use Rattle.xt_rows.specs.declared.outcome.Effect.{Effect}
-use Rattle.xt_rows.specs.Effects.{SpecialWrites}
-use Rattle.xt_rows.specs.Settling.{with_set, with_sets, after_flow, after_effect}
+use Rattle.xt_special.specs.Access.{SpecialWrites, with_set, with_sets}
+use Rattle.xt_rows.specs.Settling.{after_flow, after_effect}
 use Rattle.xt_frames.specs.Breaches.{lost_of}
 use Rattle.xt_simulation.specs.Relation.{Same, Even}
 

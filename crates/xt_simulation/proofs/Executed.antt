@@ -32,7 +32,8 @@ use Rattle.xt_frames.proofs.Shown.{Sound, keeps_sp, entry_number}
 use Rattle.xt_simulation.proofs.WindowLemmas.{passes}
 use Rattle.xt_rows.specs.Kinds.{Fits, IsReturn}
 use Rattle.xt_rows.proofs.Fitting.{outcome_fits}
-use Rattle.xt_simulation.proofs.Windowed.{a0_known, return_names, return_has_caller, return_is, return_value, leaves_kind}
+use Rattle.xt_simulation.proofs.Windowed.{a0_known, return_names, return_has_caller, return_is, leaves_kind}
+use Rattle.xt_exec.proofs.Returns.{return_value}
 use Rattle.xt_exec.specs.Finishing.{finished}
 use Rattle.xt_simulation.proofs.Evenly.{even_ticked, even_after}
 use Rattle.xt_simulation.proofs.Ordinary.{in_both, same_outcome, settled_alike}

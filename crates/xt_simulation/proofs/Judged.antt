@@ -14,14 +14,15 @@ use Rattle.xt_special.specs.Exceptions.{after_exception}
 use Rattle.xt_window.specs.Ring.{visible, ahead}
 use Rattle.xt_window.specs.Moves.{behind}
 use Rattle.xt_trace.specs.declared.record.StepRecord.{StepRecord}
-use Rattle.xt_rows.specs.declared.outcome.Write.{Write}
+use Rattle.xt_trace.specs.declared.record.RegWrite.{RegWrite}
 use Rattle.xt_rows.specs.declared.outcome.Awaited.{Awaited}
 use Rattle.xt_rows.specs.declared.outcome.Effect.{Effect}
 use Rattle.xt_fetch.specs.Fetching.{Fetched, Fetches}
-use Rattle.xt_rows.specs.Effects.{illegal_instruction, set_to, no_set}
+use Rattle.xt_special.specs.Access.{set_to, no_set, with_sets}
+use Rattle.xt_rows.specs.Effects.{illegal_instruction}
 use Rattle.xt_rows.specs.Operands.{named}
 use Rattle.xt_rows.specs.Outcomes.{outcome, control_outcome, density_outcome}
-use Rattle.xt_rows.specs.Settling.{settled_exception, after_effect, with_sets}
+use Rattle.xt_rows.specs.Settling.{settled_exception, after_effect}
 use Rattle.xt_rows.proofs.Registers.{names_registers}
 use Rattle.xt_exec.specs.State.{State}
 use Rattle.xt_exec.specs.Turn.{in_window, has_windows, looks, window_check, return_size, is_illegal, illegal_return, written}
@@ -148,7 +149,7 @@ module _ {vecbase : ℕ} {lost : ℕ → Bool} {s : State} {g : FrameState} {rin
       (λ low. passes l.windows (named i / 4) (omega arith) (rw (looks_named i s.control.ps other) at (checked_ahead i low c)))
       (cases_Bool s.control.ps.excm)
 
-  pub has_room : (i : Insn) → in_range i ≡ true → is_entry i ≡ false → names_high i g ≡ false → window_check i s ≡ 0 → (o : Option Write) → WritesNamed i o → HasRoom ring o
+  pub has_room : (i : Insn) → in_range i ≡ true → is_entry i ≡ false → names_high i g ≡ false → window_check i s ≡ 0 → (o : Option RegWrite) → WritesNamed i o → HasRoom ring o
   has_room i ok other high c None h = tt
   has_room i ok other high c (Some w) h =
       let n = names_registers i ok in

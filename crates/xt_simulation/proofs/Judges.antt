@@ -11,7 +11,7 @@ use Rattle.xt_fetch.specs.Fetching.{fetched}
 use Rattle.xt_fetch.specs.Code.{AreBytes}
 use Rattle.xt_exec.specs.State.{State}
 use Rattle.xt_exec.specs.Laws.{IsShaped}
-use Rattle.xt_exec.specs.Turn.{planned, demand, turn, shown, reply_where}
+use Rattle.xt_exec.specs.Turn.{planned, demand, turn, reply_where}
 use Rattle.xt_exec.proofs.Shapes.{turn_shaped}
 use Rattle.xt_frames.specs.Frames.{Frame, FrameState, known}
 use Rattle.xt_frames.specs.FrameStep.{FrameTurn, laid, laid_step}
@@ -136,7 +136,7 @@ module _ (code : ℕ → ℕ) (bytes : AreBytes code) (b : Bounds) (fresh : Bool
         same = record {
           place = l.plain.even.pc;
           kind = p.kind ∙ ap (λ (x : FrameTurn). x.kind) e;
-          write = ap shown p.write ∙ ap (λ (x : FrameTurn). shown x.write) e;
+          write = p.write ∙ ap (λ (x : FrameTurn). x.write) e;
           access = access ∙ ap (λ (x : FrameTurn). x.access) e;
           reply = record_reply code m s ∙ (replies_agree (live_of b f others) stale m framed (demand code s) agree kept ∙ (ap (reply_at framed) access ∙ ap (λ (x : FrameTurn). reply_at framed x.access) e));
         };

@@ -7,7 +7,7 @@ use Rattle.xt_special.specs.Numbers as number
 use Rattle.xt_special.specs.Control.{Control, special_of}
 use Rattle.xt_special.specs.Exceptions.{after_exception}
 use Rattle.xt_window.specs.Ring.{visible}
-use Rattle.xt_rows.specs.declared.outcome.Write.{Write}
+use Rattle.xt_trace.specs.declared.record.RegWrite.{RegWrite}
 use Rattle.xt_rows.specs.declared.outcome.Outcome.{Outcome}
 use Rattle.xt_rows.specs.declared.outcome.Outcome.TheVariants.{Does, Raises, Asks, Stops, Windowed}
 use Rattle.xt_rows.specs.Operands.{reads, special_reads}
@@ -75,20 +75,20 @@ settled_alike Stops len c d h = record { kind = refl; write = refl; access = ref
 settled_alike (Windowed step) len c d h = record { kind = refl; write = refl; access = refl; awaited = refl; even = even_ticked c d h }
 
 -- ---- a write in both machines
-abbrev pub HasRoom : List Frame → Option Write → Type 0
+abbrev pub HasRoom : List Frame → Option RegWrite → Type 0
 HasRoom ring None = Unit {0}
-HasRoom ring (Some w) = (w.number < 16) × (moved ring + w.number / 4 < 16)
+HasRoom ring (Some w) = (w.reg < 16) × (moved ring + w.reg / 4 < 16)
 
-write_keeps : (o : Option Write) (s : State) → ((with_write o s).base ≡ s.base) × ((with_write o s).start ≡ s.start) × ((with_write o s).control ≡ s.control)
+write_keeps : (o : Option RegWrite) (s : State) → ((with_write o s).base ≡ s.base) × ((with_write o s).start ≡ s.start) × ((with_write o s).control ≡ s.control)
 write_keeps None s = (refl, refl, refl)
 write_keeps (Some w) s = (refl, refl, refl)
 
-pub write_control : (o : Option Write) (s : State) → (with_write o s).control ≡ s.control
+pub write_control : (o : Option RegWrite) (s : State) → (with_write o s).control ≡ s.control
 write_control o s = (write_keeps o s).2
 
-pub written_windows : {seen : List (Option ℕ)} {ring : List Frame} {low : ℕ} (s : State) (o : Option Write) → Windows s.regs s.base s.start seen ring low → HasRoom ring o → Windows (with_write o s).regs (with_write o s).base (with_write o s).start (seen_after_write o seen) ring low
+pub written_windows : {seen : List (Option ℕ)} {ring : List Frame} {low : ℕ} (s : State) (o : Option RegWrite) → Windows s.regs s.base s.start seen ring low → HasRoom ring o → Windows (with_write o s).regs (with_write o s).base (with_write o s).start (seen_after_write o seen) ring low
 written_windows s None w h = w
-written_windows s (Some x) w h = kept.written w x.number x.value h.0 h.1
+written_windows s (Some x) w h = kept.written w x.reg x.value h.0 h.1
 
 -- what is known of the states after both steps
 pub record Ends (vecbase : ℕ) (t : Turn) (u : FrameTurn) : Type 0 where

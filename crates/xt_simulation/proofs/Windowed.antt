@@ -24,6 +24,7 @@ use Rattle.xt_rows.specs.Outcomes.{outcome, control_outcome, density_outcome, ou
 use Rattle.xt_rows.specs.Settling.{Kind, Executed, Raised, Taken, Waited, Stopped}
 use Rattle.xt_exec.specs.State.{State}
 use Rattle.xt_exec.specs.Laws.{IsShaped}
+use Rattle.xt_exec.proofs.Returns.{return_value}
 use Rattle.xt_exec.specs.Turn.{Planned, planned, kind_of, raises, has_windows, looks, window_check, window_exception, overflow, underflow, window_step, entered, returned, resumed, moved_stack, return_size, is_illegal, done, checked, fetched_turn, falls}
 use Rattle.xt_frames.proofs.Shown.{NoneShown, none_shown}
 use Rattle.xt_frames.specs.Frames.{Frame, FrameState, known, moved}
@@ -176,11 +177,6 @@ pub return_is : (i : Insn) → IsReturn i → is_return i ≡ true
 unfolding is_return
 return_is i (inl e) = rw e refl
 return_is i (inr e) = rw e refl
-
-pub return_value : (code : ℕ → ℕ) (i : Insn) (f : ℕ → ℕ) (c : Control) (a0 : ℕ) → IsReturn i → outcome_at code i f c ≡ Windowed (Returns a0) → f 0 ≡ a0
-unfolding outcome control_outcome density_outcome reads
-return_value code i f c a0 (inl e) q = let z : outcome_at code (insn.Control (control.Ret RetName.Retw)) f c ≡ Windowed (Returns a0) = rw e at q in cc
-return_value code i f c a0 (inr e) q = let z : outcome_at code (insn.Density (density.Ret NarrowRetName.Retw)) f c ≡ Windowed (Returns a0) = rw e at q in cc
 
 -- a0 is known, and is the processor's
 pub a0_known : {vecbase : ℕ} {lost : ℕ → Bool} {s : State} {g : FrameState} {ring spilled : List Frame} → Level vecbase lost s g ring spilled → (i : Insn) → IsReturn i → reads_none i g ≡ false → known g.seen 0 ≡ visible s.regs s.base 0

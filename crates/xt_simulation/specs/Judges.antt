@@ -5,7 +5,6 @@ use Rattle.xt_map.specs.declared.contents.MemoryContents.{MemoryContents}
 use Rattle.xt_map.specs.Memory.{byte_at}
 use Rattle.xt_trace.specs.declared.record.StepRecord.{StepRecord}
 use Rattle.xt_exec.specs.State.{State}
-use Rattle.xt_exec.specs.Turn.{shown}
 use Rattle.xt_frames.specs.Frames.{FrameState}
 use Rattle.xt_frames.specs.FrameStep.{FrameTurn}
 use Rattle.xt_frames.specs.Breaches.{lost_of, Bounds, stale_after}
@@ -21,7 +20,7 @@ pub record Matches
     (pc : ℕ) (rec : StepRecord) (u : FrameTurn) (framed : MemoryContents) : Type 0 where
   pub place : rec.pc ≡ pc
   pub kind : rec.kind ≡ u.kind
-  pub write : rec.write ≡ shown u.write
+  pub write : rec.write ≡ u.write
   pub access : rec.access ≡ u.access
   pub reply : rec.reply ≡ reply_at framed u.access
 

@@ -7,6 +7,7 @@ use Rattle.std.specs.Prelude.{if◌then◌else◌, Option, Some, None, List, sli
 use Rattle.std.specs.Prelude.{bit_and, bit_or}
 use Rattle.xt_isa.specs.Spelling.{can_read, can_write}
 use Rattle.xt_special.specs.declared.ps.Ps.{Ps}
+use Rattle.xt_special.specs.declared.writes.SpecialWrite.{SpecialWrite}
 use Rattle.xt_special.specs.Numbers as number
 use Rattle.xt_special.specs.Control.{ps_word, ps_of}
 
@@ -70,14 +71,39 @@ value_kept n x v =
     else (if n == number.intclear then without_bits v (bit_and x software_bits)
     else x)))))
 
--- the special registers afterwards: a write of a CCOMPARE clears its timer's bit of INTERRUPT too
+-- the writes of special registers, in order
+abbrev pub no_set : Option SpecialWrite
+no_set = None
+
+abbrev pub set_to : ℕ → ℕ → Option SpecialWrite
+set_to number value = Some (record { number = number; value = value })
+
+abbrev pub SpecialWrites : Type 0
+SpecialWrites = Option SpecialWrite × Option SpecialWrite × Option SpecialWrite
+
+abbrev pub no_sets : SpecialWrites
+no_sets = (no_set, no_set, no_set)
+
+-- what a write of x to the special register n changes, where INTERRUPT was v: PS is no entry of the
+-- list, and a write of a CCOMPARE clears its timer's bit of INTERRUPT
+abbrev pub written_by : ℕ → ℕ → ℕ → SpecialWrites
+written_by n x v =
+    if n == number.ps then no_sets
+    else (if is_ccompare n
+    then (set_to n x, set_to number.interrupt (without_bits v (timer_bit n)), no_set)
+    else (set_to (changed_by n) (value_kept n x v), no_set, no_set))
+
+abbrev pub with_set : Option SpecialWrite → List ℕ → List ℕ
+with_set None special = special
+with_set (Some w) special = slice_set special w.number w.value
+
+abbrev pub with_sets : SpecialWrites → List ℕ → List ℕ
+with_sets w special = with_set w.2 (with_set w.1 (with_set w.0 special))
+
+-- the special registers after a write
 unfoldable pub special_written : ℕ → ℕ → List ℕ → List ℕ
 special_written n x special =
-    let v = slice_index special number.interrupt in
-    if n == number.ps then special
-    else (if is_ccompare n
-    then slice_set (slice_set special n x) number.interrupt (without_bits v (timer_bit n))
-    else slice_set special (changed_by n) (value_kept n x v))
+    with_sets (written_by n x (slice_index special number.interrupt)) special
 
 -- WSR of this number reaches a register here
 abbrev pub can_write_here : ℕ → Bool

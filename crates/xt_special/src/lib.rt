@@ -8,6 +8,8 @@ pub mod laws;
 pub mod number;
 mod ps;
 mod registers;
+mod writes;
 
 pub use ps::Ps;
 pub use registers::{Special, ps_written, timer_bit, value_kept, value_read, without_bits};
+pub use writes::{SpecialWrite, SpecialWrites, set_to, written_by};

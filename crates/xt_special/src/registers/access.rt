@@ -1,12 +1,12 @@
 //! What RSR and WSR do.
 #![tactic(auto)]
 
-ghost use Rattle.std.specs.Prelude.{◌≡◌, ◌≤◌, ◌<◌, ◌^◌, if◌then◌else◌, slice_index, slice_set};
-ghost use Rattle.xt_special.specs.Numbers as numbers;
-ghost use Rattle.xt_special.specs.Shape.{CanHold, IsPs};
-ghost use Rattle.xt_special.specs.Access.{can_write_here, changed_by, ps_written, read_of, special_written, timer_bit, value_kept, value_read, without_bits};
+ghost use Rattle.std.specs.Prelude.{◌≡◌, if◌then◌else◌};
+ghost use Rattle.xt_special.specs.Shape.{AreProperSets, CanHold, IsProperSet, IsPs};
+ghost use Rattle.xt_special.specs.Access.{can_write_here, changed_by, ps_written, read_of, special_written, value_kept, value_read, with_set, with_sets, without_bits};
 
-use super::{Special, timer_bit};
+use super::Special;
+use crate::writes::{SpecialWrite, SpecialWrites, written_by};
 use crate::{Ps, number};
 use xt_isa::special::{can_read, can_write};
 
@@ -73,9 +73,6 @@ impl Special {
 
     /// What WSR writes. The answer is false, and nothing has changed, where it reaches no register of this number, and for
     /// WINDOWBASE and WINDOWSTART.
-    ///
-    /// SAR and EXCCAUSE keep six bits, VECBASE all but the low ten, INTENABLE the bits that there are, EPS2 to EPS7 what PS keeps.
-    /// INTSET and INTCLEAR set and clear the bits of software alone. A write of CCOMPARE clears the timer's bit of INTERRUPT.
     #[tactic(auto, unfolding(crate::specs::Access::special_written))]
     pub fn write(&mut self, n: u8, v: u32) -> bool
         ensures accepted { result ≡ can_write_here n }
@@ -84,33 +81,36 @@ impl Special {
         if !can_write(n) || n == number::WINDOWBASE || n == number::WINDOWSTART {
             return false;
         }
+        let interrupt = self.register(number::INTERRUPT);
+        self.set_registers(written_by(n, v, interrupt));
         if n == number::PS {
             self.set_ps(v);
-        } else if n >= number::CCOMPARE0 && n <= number::CCOMPARE2 {
-            self.set_compare(n, v);
-        } else {
-            let interrupt = self.register(number::INTERRUPT);
-            let changed = if n == number::INTCLEAR {
-                number::INTERRUPT
-            } else {
-                n
-            };
-            self.set_register(changed, value_kept(n, v, interrupt));
         }
         true
     }
 
-    /// Sets CCOMPARE0, 1 or 2, and clears the timer's bit of INTERRUPT.
-    fn set_compare(&mut self, n: u8, v: u32)
-        requires low { 240 ≤ n }
-        requires high { n ≤ 242 }
-        ensures { self.new ≡ record self.old { file = slice_set (slice_set self.old.file n v) numbers.interrupt (without_bits (slice_index self.old.file numbers.interrupt) (timer_bit n)) } }
+    /// Makes a write to a special register, or none.
+    #[inline(always)]
+    fn set_one(&mut self, set: Option<SpecialWrite>)
+        requires { IsProperSet set }
+        ensures { self.new ≡ record self.old { file = with_set set self.old.file } }
     {
-        let interrupt = self.register(number::INTERRUPT);
-        self.set_register(n, v);
-        self.set_register(
-            number::INTERRUPT,
-            without_bits(interrupt, timer_bit(n - number::CCOMPARE0)),
-        );
+        if let Some(w) = set {
+            self.set_register(w.number, w.value);
+        }
+    }
+
+    /// Makes these writes in order, and changes nothing else.
+    ///
+    /// Condition: each register can hold its value.
+    #[inline(always)]
+    pub fn set_registers(&mut self, sets: SpecialWrites)
+        requires { AreProperSets sets }
+        ensures { self.new ≡ record self.old { file = with_sets sets self.old.file } }
+    {
+        let (first, second, third) = sets;
+        self.set_one(first);
+        self.set_one(second);
+        self.set_one(third);
     }
 }

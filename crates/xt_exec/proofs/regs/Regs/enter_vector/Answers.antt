@@ -1,7 +1,5 @@
-use Rattle.std.proofs.Common.{ℕ, ap, ◌∙◌}
+use Rattle.std.proofs.Common.{ap}
 use Rattle.xt_special.specs.Control.{Control}
-use Rattle.xt_special.specs.Values.{control_at}
-use Rattle.xt_special.specs.WindowExceptions.{after_window_exception}
 use Rattle.xt_exec.specs.State.{State}
 use Rattle.xt_exec.proofs.regs.Regs.enter_vector.Goals as goal
 
@@ -9,5 +7,4 @@ pub returns : goal.returns
 returns g c =
     let s = c.args.self.now in
     let state : Control → State = λ k. record { regs = g.W.Windows.regs s.win; base = g.W.Windows.base s.win; start = g.W.Windows.start s.win; control = k } in
-    ap state (c.window-self.ensures s.waiting
-    ∙ ap (λ (n : ℕ). after_window_exception n c.args.vector (control_at s.pc s.waiting s.sr)) c.base-base.ensures.value)
+    ap state (c.window-self.ensures s.waiting)
