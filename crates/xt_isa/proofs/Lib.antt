@@ -1,4 +1,5 @@
 pub mod ApartRows
 pub mod Ranged
+pub mod RowByRow
 pub mod ThirdByte
 pub mod WholeWord

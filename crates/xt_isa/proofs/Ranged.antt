@@ -11,6 +11,7 @@ use Rattle.xt_isa.specs.declared.Insn.{Insn}
 use Rattle.xt_isa.specs.declared.Fields.{Fields}
 use Rattle.xt_isa.specs.Apart.{AllRows}
 use Rattle.xt_isa.specs.Spelling.{fields_at, spelled, all_rows, Row, fits, spell, five, eight, imm8, imm12, imm16, imm18, below, signed, b4const, b4constu, minus_one_or, narrow_constant, can_read, can_write, can_exchange}
+use Rattle.xt_isa.proofs.RowByRow.{◌▸◌}
 use Rattle.xt_isa.specs.Ranges.{AreNibbles, in_range, one_register, two_registers, three_registers, natural_within, signed_within, multiple_within, window_within, literal_within, page_within, call_within, is_b4const, is_b4constu, small_within, narrow_within, holds, HasSpelling}
 
 abbrev pub Ranged : Row → Type 0
@@ -248,9 +249,161 @@ narrow_beqz w n = and_from _ _ (single w n) (natural_low 63 _ (omega arith))
 narrow_break : (w : Fields) → AreNibbles w → natural_within 0 15 (pos w.s) ≡ true
 narrow_break w n = natural_low 15 _ (omega arith)
 
+rows_ranged : AllRows Ranged all_rows
+unfolding all_rows
+rows_ranged =
+    -- three registers
+    three ▸  -- AND
+    three ▸  -- OR
+    three ▸  -- XOR
+    three ▸  -- ADD
+    three ▸  -- ADDX2
+    three ▸  -- ADDX4
+    three ▸  -- ADDX8
+    three ▸  -- SUB
+    three ▸  -- SUBX2
+    three ▸  -- SUBX4
+    three ▸  -- SUBX8
+    three ▸  -- SRC
+    three ▸  -- MUL16U
+    three ▸  -- MUL16S
+    three ▸  -- MULL
+    three ▸  -- MULUH
+    three ▸  -- MULSH
+    three ▸  -- QUOU
+    three ▸  -- QUOS
+    three ▸  -- REMU
+    three ▸  -- REMS
+    three ▸  -- MIN
+    three ▸  -- MAX
+    three ▸  -- MINU
+    three ▸  -- MAXU
+    three ▸  -- MOVEQZ
+    three ▸  -- MOVNEZ
+    three ▸  -- MOVLTZ
+    three ▸  -- MOVGEZ
+    -- shifts, and one source
+    pair_rt ▸  -- NEG
+    pair_rt ▸  -- ABS
+    pair_rt ▸  -- SRL
+    pair_rt ▸  -- SRA
+    pair_rs ▸  -- SLL
+    slli ▸  -- SLLI
+    srai ▸  -- SRAI
+    srli ▸  -- SRLI
+    extui ▸  -- EXTUI
+    sext ▸  -- SEXT
+    sext ▸  -- CLAMPS
+    pair_ts ▸  -- NSA
+    pair_ts ▸  -- NSAU
+    pair_ts ▸  -- MOVSP
+    single ▸  -- SSR
+    single ▸  -- SSL
+    single ▸  -- SSA8L
+    single ▸  -- SSA8B
+    ssai ▸  -- SSAI
+    -- loads, stores and immediates
+    byte ▸  -- L8UI
+    byte ▸  -- S8I
+    halves ▸  -- L16UI
+    halves ▸  -- L16SI
+    halves ▸  -- S16I
+    words ▸  -- L32I
+    words ▸  -- S32I
+    words ▸  -- L32AI
+    words ▸  -- S32RI
+    words ▸  -- S32C1I
+    window ▸  -- L32E
+    window ▸  -- S32E
+    literal ▸  -- L32R
+    movi ▸  -- MOVI
+    addi ▸  -- ADDI
+    addmi ▸  -- ADDMI
+    -- control
+    jump ▸  -- J
+    call ▸  -- CALL0
+    call ▸  -- CALL4
+    call ▸  -- CALL8
+    call ▸  -- CALL12
+    (λ w n. refl) ▸  -- RET
+    (λ w n. refl) ▸  -- RETW
+    single ▸  -- JX
+    single ▸  -- CALLX0
+    single ▸  -- CALLX4
+    single ▸  -- CALLX8
+    single ▸  -- CALLX12
+    beqz ▸  -- BEQZ
+    beqz ▸  -- BNEZ
+    beqz ▸  -- BLTZ
+    beqz ▸  -- BGEZ
+    beqi ▸  -- BEQI
+    beqi ▸  -- BNEI
+    beqi ▸  -- BLTI
+    beqi ▸  -- BGEI
+    bltui ▸  -- BLTUI
+    bltui ▸  -- BGEUI
+    branch ▸  -- BNONE
+    branch ▸  -- BEQ
+    branch ▸  -- BLT
+    branch ▸  -- BLTU
+    branch ▸  -- BALL
+    branch ▸  -- BBC
+    branch ▸  -- BANY
+    branch ▸  -- BNE
+    branch ▸  -- BGE
+    branch ▸  -- BGEU
+    branch ▸  -- BNALL
+    branch ▸  -- BBS
+    bbci ▸  -- BBCI
+    bbci ▸  -- BBSI
+    entry ▸  -- ENTRY
+    loops ▸  -- LOOP
+    loops ▸  -- LOOPNEZ
+    loops ▸  -- LOOPGTZ
+    -- system
+    (λ w n. refl) ▸  -- ILL
+    (λ w n. refl) ▸  -- ISYNC
+    (λ w n. refl) ▸  -- RSYNC
+    (λ w n. refl) ▸  -- ESYNC
+    (λ w n. refl) ▸  -- DSYNC
+    (λ w n. refl) ▸  -- EXCW
+    (λ w n. refl) ▸  -- MEMW
+    (λ w n. refl) ▸  -- EXTW
+    (λ w n. refl) ▸  -- NOP
+    (λ w n. refl) ▸  -- RFE
+    (λ w n. refl) ▸  -- RFDE
+    (λ w n. refl) ▸  -- RFWO
+    (λ w n. refl) ▸  -- RFWU
+    rfi ▸  -- RFI
+    breaks ▸  -- BREAK
+    syscall ▸  -- SYSCALL
+    rsil ▸  -- RSIL
+    waiti ▸  -- WAITI
+    rotw ▸  -- ROTW
+    rsr ▸  -- RSR
+    wsr ▸  -- WSR
+    xsr ▸  -- XSR
+    rur ▸  -- RUR
+    wur ▸  -- WUR
+    -- 16 bits
+    narrow_words ▸  -- L32I.N
+    narrow_words ▸  -- S32I.N
+    three ▸  -- ADD.N
+    narrow_addi ▸  -- ADDI.N
+    narrow_movi ▸  -- MOVI.N
+    narrow_beqz ▸  -- BEQZ.N
+    narrow_beqz ▸  -- BNEZ.N
+    pair_ts ▸  -- MOV.N
+    (λ w n. refl) ▸  -- RET.N
+    (λ w n. refl) ▸  -- RETW.N
+    (λ w n. refl) ▸  -- NOP.N
+    (λ w n. refl) ▸  -- ILL.N
+    narrow_break ▸  -- BREAK.N
+    tt
+
 pub all_ranged : (w : Fields) → AreNibbles w → holds (spelled w) ≡ true
-unfolding spelled all_rows
-all_ranged w n = spell_ranged all_rows (three, (three, (three, (three, (three, (three, (three, (three, (three, (three, (three, (three, (three, (three, (three, (three, (three, (three, (three, (three, (three, (three, (three, (three, (three, (three, (three, (three, (three, (pair_rt, (pair_rt, (pair_rt, (pair_rt, (pair_rs, (slli, (srai, (srli, (extui, (sext, (sext, (pair_ts, (pair_ts, (pair_ts, (single, (single, (single, (single, (ssai, (byte, (byte, (halves, (halves, (halves, (words, (words, (words, (words, (words, (window, (window, (literal, (movi, (addi, (addmi, (jump, (call, (call, (call, (call, (λ w n. refl, (λ w n. refl, (single, (single, (single, (single, (single, (beqz, (beqz, (beqz, (beqz, (beqi, (beqi, (beqi, (beqi, (bltui, (bltui, (branch, (branch, (branch, (branch, (branch, (branch, (branch, (branch, (branch, (branch, (branch, (branch, (bbci, (bbci, (entry, (loops, (loops, (loops, (λ w n. refl, (λ w n. refl, (λ w n. refl, (λ w n. refl, (λ w n. refl, (λ w n. refl, (λ w n. refl, (λ w n. refl, (λ w n. refl, (λ w n. refl, (λ w n. refl, (λ w n. refl, (λ w n. refl, (rfi, (breaks, (syscall, (rsil, (waiti, (rotw, (rsr, (wsr, (xsr, (rur, (wur, (narrow_words, (narrow_words, (three, (narrow_addi, (narrow_movi, (narrow_beqz, (narrow_beqz, (pair_ts, (λ w n. refl, (λ w n. refl, (λ w n. refl, (λ w n. refl, (narrow_break, tt))))))))))))))))))))))))))))))))))))))))))))))))))))))))))))))))))))))))))))))))))))))))))))))))))))))))))))))))))))))))))))))))))))))))))))) w n
+unfolding spelled
+all_ranged w n = spell_ranged all_rows rows_ranged w n
 
 -- an instruction that has a spelling is in range
 pub spelling_in_range : (i : Insn) → HasSpelling i → in_range i ≡ true

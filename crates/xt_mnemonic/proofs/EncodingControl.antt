@@ -4,6 +4,7 @@ use Rattle.xt_isa.specs.declared.Fields.{Fields}
 use Rattle.xt_isa.specs.Ranges.{AreNibbles}
 use Rattle.xt_isa.specs.Apart.{AllRows}
 use Rattle.xt_isa.specs.Spelling.{b4const, b4constu, control_rows, five, imm8, imm12, imm16, imm18, signed}
+use Rattle.xt_isa.proofs.RowByRow.{◌▸◌}
 use Rattle.xt_mnemonic.specs.Encodings.{IsPadded}
 use Rattle.xt_mnemonic.proofs.EncodingWords.{bit, constant, of_18, of_s8, of_s12, of_sr8, of_ts8, unsigned}
 use Rattle.xt_mnemonic.proofs.EncodingParts.{Inverts, Matches, b4const_back, b4constu_back, digit0, full, high_three, low_two, rest1, signed_back, word_is}
@@ -51,4 +52,45 @@ loops w n p m =
     word_is w (full _ _ n.0 m.at0) (full _ _ n.1 m.at1) refl (full _ _ n.3 m.at3) (digit0 _ w.op1 w.op2 n.4 refl) (rest1 _ w.op1 w.op2 n.4 refl)
 
 pub control_inverted : AllRows Inverts control_rows
-control_inverted = (jump, (call, (call, (call, (call, (in_none, (in_none, (in_s, (in_s, (in_s, (in_s, (in_s, (beqz, (beqz, (beqz, (beqz, (beqi, (beqi, (beqi, (beqi, (bltui, (bltui, (branch, (branch, (branch, (branch, (branch, (branch, (branch, (branch, (branch, (branch, (branch, (branch, (bbci, (bbci, (entry, (loops, (loops, (loops, tt))))))))))))))))))))))))))))))))))))))))
+control_inverted =
+    jump ▸  -- J
+    call ▸  -- CALL0
+    call ▸  -- CALL4
+    call ▸  -- CALL8
+    call ▸  -- CALL12
+    in_none ▸  -- RET
+    in_none ▸  -- RETW
+    in_s ▸  -- JX
+    in_s ▸  -- CALLX0
+    in_s ▸  -- CALLX4
+    in_s ▸  -- CALLX8
+    in_s ▸  -- CALLX12
+    beqz ▸  -- BEQZ
+    beqz ▸  -- BNEZ
+    beqz ▸  -- BLTZ
+    beqz ▸  -- BGEZ
+    beqi ▸  -- BEQI
+    beqi ▸  -- BNEI
+    beqi ▸  -- BLTI
+    beqi ▸  -- BGEI
+    bltui ▸  -- BLTUI
+    bltui ▸  -- BGEUI
+    branch ▸  -- BNONE
+    branch ▸  -- BEQ
+    branch ▸  -- BLT
+    branch ▸  -- BLTU
+    branch ▸  -- BALL
+    branch ▸  -- BBC
+    branch ▸  -- BANY
+    branch ▸  -- BNE
+    branch ▸  -- BGE
+    branch ▸  -- BGEU
+    branch ▸  -- BNALL
+    branch ▸  -- BBS
+    bbci ▸  -- BBCI
+    bbci ▸  -- BBSI
+    entry ▸  -- ENTRY
+    loops ▸  -- LOOP
+    loops ▸  -- LOOPNEZ
+    loops ▸  -- LOOPGTZ
+    tt

@@ -5,6 +5,7 @@ use Rattle.xt_isa.specs.declared.Fields.{Fields}
 use Rattle.xt_isa.specs.Ranges.{AreNibbles}
 use Rattle.xt_isa.specs.Apart.{AllRows}
 use Rattle.xt_isa.specs.Spelling.{density_rows, minus_one_or, narrow_constant, nibble}
+use Rattle.xt_isa.proofs.RowByRow.{◌▸◌}
 use Rattle.xt_mnemonic.specs.Encodings.{IsPadded}
 use Rattle.xt_mnemonic.proofs.EncodingWords.{narrow, narrow_none, narrow_s, narrow_s6, narrow_s7, narrow_ts, natural, unsigned}
 use Rattle.xt_mnemonic.proofs.EncodingParts.{Inverts, Matches, digit0, full, high_one, high_two, minus_one_or_back, narrow_constant_back, rest1, word_is}
@@ -43,4 +44,18 @@ breakpoint : (w : Fields) → AreNibbles w → IsPadded w → Matches 0x00F0FF 0
 breakpoint w n p m = narrow_is 0x00F02D w refl p (full _ _ n.0 m.at0) (full _ _ n.1 m.at1) refl (full _ _ n.3 m.at3)
 
 pub density_inverted : AllRows Inverts density_rows
-density_inverted = (words refl, (words refl, (add, (addi, (movi, (beqz refl, (beqz refl, (mov, (ret refl, (ret refl, (ret refl, (ret refl, (breakpoint, tt)))))))))))))
+density_inverted =
+    words refl ▸  -- L32I.N
+    words refl ▸  -- S32I.N
+    add ▸  -- ADD.N
+    addi ▸  -- ADDI.N
+    movi ▸  -- MOVI.N
+    beqz refl ▸  -- BEQZ.N
+    beqz refl ▸  -- BNEZ.N
+    mov ▸  -- MOV.N
+    ret refl ▸  -- RET.N
+    ret refl ▸  -- RETW.N
+    ret refl ▸  -- NOP.N
+    ret refl ▸  -- ILL.N
+    breakpoint ▸  -- BREAK.N
+    tt

@@ -4,6 +4,7 @@ use Rattle.xt_isa.specs.declared.Fields.{Fields}
 use Rattle.xt_isa.specs.Ranges.{AreNibbles}
 use Rattle.xt_isa.specs.Apart.{AllRows}
 use Rattle.xt_isa.specs.Spelling.{below, imm8, imm16, memory_rows, signed}
+use Rattle.xt_isa.proofs.RowByRow.{◌▸◌}
 use Rattle.xt_mnemonic.specs.Encodings.{IsPadded}
 use Rattle.xt_mnemonic.proofs.EncodingWords.{of_t16, of_ts8, rrr, unsigned}
 use Rattle.xt_mnemonic.proofs.EncodingParts.{Inverts, Matches, below_back, full, signed_back}
@@ -39,4 +40,21 @@ addmi : (w : Fields) → AreNibbles w → IsPadded w → Matches 0x00F00F 0x00D0
 addmi w n p m = ts8_is w n m refl (ap (λ k. k / 256) (signed_back 32768 (256 * imm8 w) (omega arith)) ∙ (times_back (imm8 w)).3)
 
 pub memory_inverted : AllRows Inverts memory_rows
-memory_inverted = (byte, (byte, (halves, (halves, (halves, (words, (words, (words, (words, (words, (window, (window, (literal, (movi, (addi, (addmi, tt))))))))))))))))
+memory_inverted =
+    byte ▸  -- L8UI
+    byte ▸  -- S8I
+    halves ▸  -- L16UI
+    halves ▸  -- L16SI
+    halves ▸  -- S16I
+    words ▸  -- L32I
+    words ▸  -- S32I
+    words ▸  -- L32AI
+    words ▸  -- S32RI
+    words ▸  -- S32C1I
+    window ▸  -- L32E
+    window ▸  -- S32E
+    literal ▸  -- L32R
+    movi ▸  -- MOVI
+    addi ▸  -- ADDI
+    addmi ▸  -- ADDMI
+    tt

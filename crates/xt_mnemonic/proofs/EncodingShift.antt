@@ -6,6 +6,7 @@ use Rattle.xt_isa.specs.declared.shift.Shift.TheVariants as shift
 use Rattle.xt_isa.specs.Ranges.{AreNibbles}
 use Rattle.xt_isa.specs.Apart.{AllRows}
 use Rattle.xt_isa.specs.Spelling.{five, shift_rows}
+use Rattle.xt_isa.proofs.RowByRow.{◌▸◌}
 use Rattle.xt_mnemonic.specs.Encodings.{IsPadded}
 use Rattle.xt_mnemonic.proofs.EncodingWords.{amount, extracted, rrr, shifted_s, shifted_t}
 use Rattle.xt_mnemonic.proofs.EncodingParts.{GivesBack, Inverts, Matches, digit0, full, guarded, high_three, rest1, word_is}
@@ -42,4 +43,24 @@ ssai w n p m =
     word_is w (full _ _ n.0 m.at0) (high_three w.t _ _ n.1 m.at1 (rest1 _ w.s (w.t % 2) n.2 refl)) (digit0 _ w.s (w.t % 2) n.2 refl) (full _ _ n.3 m.at3) (full _ _ n.4 m.at4) (full _ _ n.5 m.at5)
 
 pub shift_inverted : AllRows Inverts shift_rows
-shift_inverted = (in_rt, (in_rt, (in_rt, (in_rt, (in_rs, (slli, (srai, (all_three, (extui, (sext, (sext, (in_ts, (in_ts, (in_ts, (in_s, (in_s, (in_s, (in_s, (ssai, tt)))))))))))))))))))
+shift_inverted =
+    in_rt ▸  -- NEG
+    in_rt ▸  -- ABS
+    in_rt ▸  -- SRL
+    in_rt ▸  -- SRA
+    in_rs ▸  -- SLL
+    slli ▸  -- SLLI
+    srai ▸  -- SRAI
+    all_three ▸  -- SRLI
+    extui ▸  -- EXTUI
+    sext ▸  -- SEXT
+    sext ▸  -- CLAMPS
+    in_ts ▸  -- NSA
+    in_ts ▸  -- NSAU
+    in_ts ▸  -- MOVSP
+    in_s ▸  -- SSR
+    in_s ▸  -- SSL
+    in_s ▸  -- SSA8L
+    in_s ▸  -- SSA8B
+    ssai ▸  -- SSAI
+    tt

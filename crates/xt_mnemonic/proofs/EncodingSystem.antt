@@ -7,6 +7,7 @@ use Rattle.xt_isa.specs.declared.system.System.TheVariants as system
 use Rattle.xt_isa.specs.Ranges.{AreNibbles}
 use Rattle.xt_isa.specs.Apart.{AllRows}
 use Rattle.xt_isa.specs.Spelling.{can_exchange, can_read, can_write, eight, signed, system_rows}
+use Rattle.xt_isa.proofs.RowByRow.{◌▸◌}
 use Rattle.xt_mnemonic.specs.Encodings.{IsPadded}
 use Rattle.xt_mnemonic.proofs.EncodingWords.{of_t, rrr, unsigned}
 use Rattle.xt_mnemonic.proofs.EncodingParts.{GivesBack, Inverts, Matches, digit0, guarded, rest1, signed_back}
@@ -31,4 +32,29 @@ xsr : (w : Fields) → AreNibbles w → IsPadded w → Matches 0xFF000F 0x610000
 xsr w n p m = guarded (can_exchange (eight w)) (insn.System (system.Rsr special.Xsr w.t (eight w))) w (λ h. register w n m)
 
 pub system_inverted : AllRows Inverts system_rows
-system_inverted = (in_none, (in_none, (in_none, (in_none, (in_none, (in_none, (in_none, (in_none, (in_none, (in_none, (in_none, (in_none, (in_none, (rfi, (in_ts, (in_none, (in_ts, (in_s, (rotw, (rsr, (wsr, (xsr, (in_r, (in_t, tt))))))))))))))))))))))))
+system_inverted =
+    in_none ▸  -- ILL
+    in_none ▸  -- ISYNC
+    in_none ▸  -- RSYNC
+    in_none ▸  -- ESYNC
+    in_none ▸  -- DSYNC
+    in_none ▸  -- EXCW
+    in_none ▸  -- MEMW
+    in_none ▸  -- EXTW
+    in_none ▸  -- NOP
+    in_none ▸  -- RFE
+    in_none ▸  -- RFDE
+    in_none ▸  -- RFWO
+    in_none ▸  -- RFWU
+    rfi ▸  -- RFI
+    in_ts ▸  -- BREAK
+    in_none ▸  -- SYSCALL
+    in_ts ▸  -- RSIL
+    in_s ▸  -- WAITI
+    rotw ▸  -- ROTW
+    rsr ▸  -- RSR
+    wsr ▸  -- WSR
+    xsr ▸  -- XSR
+    in_r ▸  -- RUR
+    in_t ▸  -- WUR
+    tt

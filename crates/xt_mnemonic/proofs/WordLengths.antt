@@ -11,6 +11,7 @@ use Rattle.xt_isa.specs.declared.system.System.TheVariants as system
 use Rattle.xt_isa.specs.declared.Fields.{Fields}
 use Rattle.xt_isa.specs.Apart.{AllRows, HasItsLength}
 use Rattle.xt_isa.specs.Spelling.{Row, all_rows, can_exchange, can_read, can_write, eight, fits, five, length_of, nibble, spell, spelled}
+use Rattle.xt_isa.proofs.RowByRow.{◌▸◌}
 use Rattle.xt_isa.proofs.ApartRows.{agrees_all}
 use Rattle.xt_isa.proofs.WholeWord.{rows_have_their_length}
 use Rattle.xt_names.specs.Insns.{insn_size}
@@ -29,7 +30,155 @@ guarded b i n e = cond_both b (Some i) None (λ o. is_sized n o ≡ true) (λ _.
 
 rows_are_sized : AllRows IsSized all_rows
 unfolding all_rows
-rows_are_sized = (λ w. refl, (λ w. refl, (λ w. refl, (λ w. refl, (λ w. refl, (λ w. refl, (λ w. refl, (λ w. refl, (λ w. refl, (λ w. refl, (λ w. refl, (λ w. refl, (λ w. refl, (λ w. refl, (λ w. refl, (λ w. refl, (λ w. refl, (λ w. refl, (λ w. refl, (λ w. refl, (λ w. refl, (λ w. refl, (λ w. refl, (λ w. refl, (λ w. refl, (λ w. refl, (λ w. refl, (λ w. refl, (λ w. refl, (λ w. refl, (λ w. refl, (λ w. refl, (λ w. refl, (λ w. refl, (λ w. guarded (not (eqb (five w.t w.op2) 0)) (insn.Shift (shift.Slli w.r w.s (pos (32 - five w.t w.op2)))) 3 refl, (λ w. refl, (λ w. refl, (λ w. refl, (λ w. refl, (λ w. refl, (λ w. refl, (λ w. refl, (λ w. refl, (λ w. refl, (λ w. refl, (λ w. refl, (λ w. refl, (λ w. refl, (λ w. refl, (λ w. refl, (λ w. refl, (λ w. refl, (λ w. refl, (λ w. refl, (λ w. refl, (λ w. refl, (λ w. refl, (λ w. refl, (λ w. refl, (λ w. refl, (λ w. refl, (λ w. refl, (λ w. refl, (λ w. refl, (λ w. refl, (λ w. refl, (λ w. refl, (λ w. refl, (λ w. refl, (λ w. refl, (λ w. refl, (λ w. refl, (λ w. refl, (λ w. refl, (λ w. refl, (λ w. refl, (λ w. refl, (λ w. refl, (λ w. refl, (λ w. refl, (λ w. refl, (λ w. refl, (λ w. refl, (λ w. refl, (λ w. refl, (λ w. refl, (λ w. refl, (λ w. refl, (λ w. refl, (λ w. refl, (λ w. refl, (λ w. refl, (λ w. refl, (λ w. refl, (λ w. refl, (λ w. refl, (λ w. refl, (λ w. refl, (λ w. refl, (λ w. refl, (λ w. refl, (λ w. refl, (λ w. refl, (λ w. refl, (λ w. refl, (λ w. refl, (λ w. refl, (λ w. refl, (λ w. refl, (λ w. refl, (λ w. refl, (λ w. refl, (λ w. refl, (λ w. refl, (λ w. refl, (λ w. refl, (λ w. refl, (λ w. guarded (ltb 1 w.s && ltb w.s 8) (insn.System (system.Rfi (pos w.s))) 3 refl, (λ w. refl, (λ w. refl, (λ w. refl, (λ w. refl, (λ w. refl, (λ w. guarded (can_read (eight w)) (insn.System (system.Rsr special.Rsr w.t (eight w))) 3 refl, (λ w. guarded (can_write (eight w)) (insn.System (system.Rsr special.Wsr w.t (eight w))) 3 refl, (λ w. guarded (can_exchange (eight w)) (insn.System (system.Rsr special.Xsr w.t (eight w))) 3 refl, (λ w. refl, (λ w. refl, (λ w. refl, (λ w. refl, (λ w. refl, (λ w. refl, (λ w. refl, (λ w. refl, (λ w. refl, (λ w. refl, (λ w. refl, (λ w. refl, (λ w. refl, (λ w. refl, (λ w. refl, tt)))))))))))))))))))))))))))))))))))))))))))))))))))))))))))))))))))))))))))))))))))))))))))))))))))))))))))))))))))))))))))))))))))))))))))))
+rows_are_sized =
+    -- three registers
+    (λ w. refl) ▸  -- AND
+    (λ w. refl) ▸  -- OR
+    (λ w. refl) ▸  -- XOR
+    (λ w. refl) ▸  -- ADD
+    (λ w. refl) ▸  -- ADDX2
+    (λ w. refl) ▸  -- ADDX4
+    (λ w. refl) ▸  -- ADDX8
+    (λ w. refl) ▸  -- SUB
+    (λ w. refl) ▸  -- SUBX2
+    (λ w. refl) ▸  -- SUBX4
+    (λ w. refl) ▸  -- SUBX8
+    (λ w. refl) ▸  -- SRC
+    (λ w. refl) ▸  -- MUL16U
+    (λ w. refl) ▸  -- MUL16S
+    (λ w. refl) ▸  -- MULL
+    (λ w. refl) ▸  -- MULUH
+    (λ w. refl) ▸  -- MULSH
+    (λ w. refl) ▸  -- QUOU
+    (λ w. refl) ▸  -- QUOS
+    (λ w. refl) ▸  -- REMU
+    (λ w. refl) ▸  -- REMS
+    (λ w. refl) ▸  -- MIN
+    (λ w. refl) ▸  -- MAX
+    (λ w. refl) ▸  -- MINU
+    (λ w. refl) ▸  -- MAXU
+    (λ w. refl) ▸  -- MOVEQZ
+    (λ w. refl) ▸  -- MOVNEZ
+    (λ w. refl) ▸  -- MOVLTZ
+    (λ w. refl) ▸  -- MOVGEZ
+    -- shifts, and one source
+    (λ w. refl) ▸  -- NEG
+    (λ w. refl) ▸  -- ABS
+    (λ w. refl) ▸  -- SRL
+    (λ w. refl) ▸  -- SRA
+    (λ w. refl) ▸  -- SLL
+    (λ w. guarded (not (eqb (five w.t w.op2) 0)) (insn.Shift (shift.Slli w.r w.s (pos (32 - five w.t w.op2)))) 3 refl) ▸  -- SLLI
+    (λ w. refl) ▸  -- SRAI
+    (λ w. refl) ▸  -- SRLI
+    (λ w. refl) ▸  -- EXTUI
+    (λ w. refl) ▸  -- SEXT
+    (λ w. refl) ▸  -- CLAMPS
+    (λ w. refl) ▸  -- NSA
+    (λ w. refl) ▸  -- NSAU
+    (λ w. refl) ▸  -- MOVSP
+    (λ w. refl) ▸  -- SSR
+    (λ w. refl) ▸  -- SSL
+    (λ w. refl) ▸  -- SSA8L
+    (λ w. refl) ▸  -- SSA8B
+    (λ w. refl) ▸  -- SSAI
+    -- loads, stores and immediates
+    (λ w. refl) ▸  -- L8UI
+    (λ w. refl) ▸  -- S8I
+    (λ w. refl) ▸  -- L16UI
+    (λ w. refl) ▸  -- L16SI
+    (λ w. refl) ▸  -- S16I
+    (λ w. refl) ▸  -- L32I
+    (λ w. refl) ▸  -- S32I
+    (λ w. refl) ▸  -- L32AI
+    (λ w. refl) ▸  -- S32RI
+    (λ w. refl) ▸  -- S32C1I
+    (λ w. refl) ▸  -- L32E
+    (λ w. refl) ▸  -- S32E
+    (λ w. refl) ▸  -- L32R
+    (λ w. refl) ▸  -- MOVI
+    (λ w. refl) ▸  -- ADDI
+    (λ w. refl) ▸  -- ADDMI
+    -- control
+    (λ w. refl) ▸  -- J
+    (λ w. refl) ▸  -- CALL0
+    (λ w. refl) ▸  -- CALL4
+    (λ w. refl) ▸  -- CALL8
+    (λ w. refl) ▸  -- CALL12
+    (λ w. refl) ▸  -- RET
+    (λ w. refl) ▸  -- RETW
+    (λ w. refl) ▸  -- JX
+    (λ w. refl) ▸  -- CALLX0
+    (λ w. refl) ▸  -- CALLX4
+    (λ w. refl) ▸  -- CALLX8
+    (λ w. refl) ▸  -- CALLX12
+    (λ w. refl) ▸  -- BEQZ
+    (λ w. refl) ▸  -- BNEZ
+    (λ w. refl) ▸  -- BLTZ
+    (λ w. refl) ▸  -- BGEZ
+    (λ w. refl) ▸  -- BEQI
+    (λ w. refl) ▸  -- BNEI
+    (λ w. refl) ▸  -- BLTI
+    (λ w. refl) ▸  -- BGEI
+    (λ w. refl) ▸  -- BLTUI
+    (λ w. refl) ▸  -- BGEUI
+    (λ w. refl) ▸  -- BNONE
+    (λ w. refl) ▸  -- BEQ
+    (λ w. refl) ▸  -- BLT
+    (λ w. refl) ▸  -- BLTU
+    (λ w. refl) ▸  -- BALL
+    (λ w. refl) ▸  -- BBC
+    (λ w. refl) ▸  -- BANY
+    (λ w. refl) ▸  -- BNE
+    (λ w. refl) ▸  -- BGE
+    (λ w. refl) ▸  -- BGEU
+    (λ w. refl) ▸  -- BNALL
+    (λ w. refl) ▸  -- BBS
+    (λ w. refl) ▸  -- BBCI
+    (λ w. refl) ▸  -- BBSI
+    (λ w. refl) ▸  -- ENTRY
+    (λ w. refl) ▸  -- LOOP
+    (λ w. refl) ▸  -- LOOPNEZ
+    (λ w. refl) ▸  -- LOOPGTZ
+    -- system
+    (λ w. refl) ▸  -- ILL
+    (λ w. refl) ▸  -- ISYNC
+    (λ w. refl) ▸  -- RSYNC
+    (λ w. refl) ▸  -- ESYNC
+    (λ w. refl) ▸  -- DSYNC
+    (λ w. refl) ▸  -- EXCW
+    (λ w. refl) ▸  -- MEMW
+    (λ w. refl) ▸  -- EXTW
+    (λ w. refl) ▸  -- NOP
+    (λ w. refl) ▸  -- RFE
+    (λ w. refl) ▸  -- RFDE
+    (λ w. refl) ▸  -- RFWO
+    (λ w. refl) ▸  -- RFWU
+    (λ w. guarded (ltb 1 w.s && ltb w.s 8) (insn.System (system.Rfi (pos w.s))) 3 refl) ▸  -- RFI
+    (λ w. refl) ▸  -- BREAK
+    (λ w. refl) ▸  -- SYSCALL
+    (λ w. refl) ▸  -- RSIL
+    (λ w. refl) ▸  -- WAITI
+    (λ w. refl) ▸  -- ROTW
+    (λ w. guarded (can_read (eight w)) (insn.System (system.Rsr special.Rsr w.t (eight w))) 3 refl) ▸  -- RSR
+    (λ w. guarded (can_write (eight w)) (insn.System (system.Rsr special.Wsr w.t (eight w))) 3 refl) ▸  -- WSR
+    (λ w. guarded (can_exchange (eight w)) (insn.System (system.Rsr special.Xsr w.t (eight w))) 3 refl) ▸  -- XSR
+    (λ w. refl) ▸  -- RUR
+    (λ w. refl) ▸  -- WUR
+    -- 16 bits
+    (λ w. refl) ▸  -- L32I.N
+    (λ w. refl) ▸  -- S32I.N
+    (λ w. refl) ▸  -- ADD.N
+    (λ w. refl) ▸  -- ADDI.N
+    (λ w. refl) ▸  -- MOVI.N
+    (λ w. refl) ▸  -- BEQZ.N
+    (λ w. refl) ▸  -- BNEZ.N
+    (λ w. refl) ▸  -- MOV.N
+    (λ w. refl) ▸  -- RET.N
+    (λ w. refl) ▸  -- RETW.N
+    (λ w. refl) ▸  -- NOP.N
+    (λ w. refl) ▸  -- ILL.N
+    (λ w. refl) ▸  -- BREAK.N
+    tt
 
 abbrev have_opcode : List Row → Bool
 have_opcode [] = true
