@@ -1,3 +1,4 @@
+-- Carries a proof; nothing that a reader must believe.
 -- What the code knows of a statement, as the definitions see it.
 use Rattle.std.specs.Prelude.{length, ◌||◌, [], ◌∷◌, ◌≡◌, true, List, Option, Some, Result, Ok, Vec}
 use Rattle.std.specs.Prelude.{option_map}

@@ -1,3 +1,4 @@
+-- Carries a proof; nothing that a reader must believe.
 -- How the words that uses of pools refer to are found.
 use Rattle.std.specs.Prelude.{◌≡◌, ℕ, ℤ, List, Option, Some, None, option_and_then, slice_get}
 use Rattle.std.specs.BTreeMap.{BTreeMap, get}

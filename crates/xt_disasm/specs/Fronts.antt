@@ -1,3 +1,4 @@
+-- Carries a proof; nothing that a reader must believe.
 -- What the code answers for the front of some bytes.
 use Rattle.std.specs.Prelude.{ℕ, ◌≡◌, ◌≤◌, List, length, Option, Some, None}
 use Rattle.xt_isa.specs.declared.Insn.{Insn}

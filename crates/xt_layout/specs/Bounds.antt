@@ -1,3 +1,4 @@
+-- Carries a proof; nothing that a reader must believe.
 -- What the parts of the layout know of one another: the words are those of the lines, and
 -- addresses do not grow too large.
 use Rattle.std.specs.Prelude.{ℕ, ◌+◌, ◌*◌, ◌^◌, ◌≤◌, ◌<◌, ◌≡◌, List, [], ◌∷◌, ◌++◌, length, take}

@@ -1,3 +1,4 @@
+-- Carries a proof; nothing that a reader must believe.
 -- What a function returned, beside what reading gives.
 use Rattle.std.specs.Prelude.{◌≡◌, ℕ, Result, Ok, Err}
 use Rattle.xt_parse.specs.declared.stop.Stop.{Stop}

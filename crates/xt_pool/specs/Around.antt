@@ -1,4 +1,4 @@
--- What stands at a line, given the lines before it and the lines behind it.
+-- What stands at a line, given the lines before it and the lines after it ('profile').
 use Rattle.std.specs.Prelude.{List, [], ◌∷◌, ◌++◌}
 use Rattle.xt_parse.specs.declared.line.Line.{Line}
 

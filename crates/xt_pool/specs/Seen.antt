@@ -1,3 +1,4 @@
+-- Carries a proof; nothing that a reader must believe.
 -- The set of expressions that the uses of one pool have needed so far.
 use Rattle.std.specs.Prelude.{ℕ, Bool, true, false, ◌&&◌, ◌||◌, List, [], ◌∷◌, Option, Some, None}
 use Rattle.std.specs.Prelude.{is_none, if◌then◌else◌, ◌≡◌}
