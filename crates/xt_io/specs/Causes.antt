@@ -1,4 +1,4 @@
--- When a source or a sink may refuse: only where it counted a fault in that call (profile).
+-- When a source or a sink may refuse: only where it counted a fault in that call ('profile').
 use Rattle.std.specs.Prelude.{◌≡◌, ◌≤◌, ◌<◌, ◌+◌, ◌-◌, ◌^◌, ℕ, Bool, if◌then◌else◌, List, min}
 use Rattle.std.specs.Prelude.{length, Result, Ok, OnErr, IsErrOf}
 use Rattle.xt_io.specs.declared.sink.Refused.{Refused}

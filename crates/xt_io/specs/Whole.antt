@@ -1,4 +1,4 @@
--- What reading to the end and writing a whole list of bytes come to (profile).
+-- What reading to the end and writing a whole list of bytes come to ('profile').
 use Rattle.std.specs.Prelude.{◌≡◌, ℕ, List, ◌++◌, length, Option}
 use Rattle.std.specs.Io.KnownBytes.{Appends, Consumes}
 

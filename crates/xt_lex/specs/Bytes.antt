@@ -1,4 +1,4 @@
--- The bytes of an assembly text (profile), and the numbers and strings that they stand for.
+-- The bytes of an assembly text ('profile'), and the numbers and strings that they stand for.
 use Rattle.std.specs.Prelude.{ℕ, ◌+◌, ◌-◌, ◌*◌, Bool, ◌==◌, ◌&&◌, ◌||◌, not, nat_le, if◌then◌else◌}
 use Rattle.std.specs.Prelude.{List, fold, Option, Some, None}
 use Rattle.std.specs.Char.{is_ascii_digit, is_ascii_alphabetic}

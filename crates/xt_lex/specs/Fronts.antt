@@ -1,4 +1,4 @@
--- The token that stands at the front of some bytes (profile): each form of token by itself, and
+-- The token that stands at the front of some bytes ('profile'): each form of token by itself, and
 -- then the longest of them.
 use Rattle.std.specs.Prelude.{ℕ, ◌+◌, ◌^◌, Bool, false, ◌==◌, ◌&&◌, nat_lt, if◌then◌else◌, List, []}
 use Rattle.std.specs.Prelude.{◌∷◌, Option, Some, None}

@@ -1,4 +1,4 @@
--- The lines of an assembly text, or the first fault of the kind Syntax (profile).
+-- The lines of an assembly text, or the first fault of the kind Syntax ('profile').
 use Rattle.std.specs.Prelude.{◌≡◌, ◌+◌, ◌≤◌, ◌==◌, Bool, true, false, ◌||◌, if◌then◌else◌, List, []}
 use Rattle.std.specs.Prelude.{◌∷◌, Result, Ok, Err, All}
 use Rattle.xt_lex.specs.declared.token.Token.{Token}

@@ -1,6 +1,6 @@
--- Reading the tokens of a line from the front (profile): what is read, and the tokens behind it; or
--- how many of the line's tokens are left where the first of these cannot continue the line, or none
--- is left and the line is not complete.
+-- Reading the tokens of a line from the front ('profile'): what is read, and the tokens after it;
+-- or how many of the line's tokens are left where the first of these cannot continue the line, or
+-- none is left and the line is not complete.
 use Rattle.std.specs.Prelude.{ℕ, zero, suc, Bool, true, false, if◌then◌else◌, List, [], ◌∷◌, ◌++◌}
 use Rattle.std.specs.Prelude.{length, Option, Some, None, Result, Ok, Err, codes}
 use Rattle.std.specs.Option.{option_map, option_map_or}

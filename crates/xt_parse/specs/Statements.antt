@@ -1,4 +1,4 @@
--- The statements of the assembly language, and the lines (profile).
+-- The statements of the assembly language, and the lines ('profile').
 use Rattle.std.specs.Prelude.{ℕ, ◌+◌, ◌-◌, ◌==◌, Bool, true, false, ◌&&◌, not, if◌then◌else◌, List}
 use Rattle.std.specs.Prelude.{[], ◌∷◌, length, slice_get, Option, Some, None, Result, Ok, Err}
 use Rattle.std.specs.Option.{option_map, option_map_or, is_some, is_none}
