@@ -70,8 +70,8 @@ pub record IsImageOfText (text : List ℕ) (image : Image) : Type 0 where
   pub read : parsed (tokens_of text) ≡ Ok lines
   pub image_is : IsImageOf lines image
 
--- an image comes exactly where the text has no fault, and is the text's; else its first fault; too
--- little memory aside
+-- an image comes exactly where the text has no fault, and is the text's; else its first fault,
+-- unless memory ran out
 abbrev pub Assembles : Result Image AsmFault → List ℕ → Type 0
 Assembles (Ok image) text = (text_fault text ≡ None) × IsImageOfText text image
 Assembles (Err (fault.Place place)) text = text_fault text ≡ Some place

@@ -106,8 +106,8 @@ abbrev pub status_of : Refusal → Status
 status_of (refusal.Usage rule) = status.Usage rule
 status_of refusal.Memory = status.Memory
 
--- words without a meaning are refused before anything is read or written; there may be too little
--- memory to read them
+-- words without a meaning are refused before anything is read or written; memory may run out while
+-- they are read
 abbrev pub RefusesWords : Refusal → Ends → Status → Type 0
 RefusesWords r e s = ((s ≡ status_of r) ⊎ (s ≡ status.Memory)) × IsUntouched e
 

@@ -207,8 +207,8 @@ pub(crate) fn work<S: Source, K: Sink>(
 ///
 /// Words that ask for `run`, `record` or `gen` are handed back as `Threaded`, and nothing was then read or
 /// written.
-/// After `Answer` the contract says of each status its cause, and what was written; too little
-/// memory is the one free answer.
+/// After `Answer` the contract says of each status its cause, and what was written; running
+/// out of memory is the only outcome left open.
 pub fn tool_main<S: Source, K: Sink>(
     alloc: Global,
     words: &[String],

@@ -169,7 +169,7 @@ fn run_source<S: Source, K: Sink, G: Gate, R: Threads + Wait + Sync>(
 /// that the answers for the window handlers are those of the image's vectors from the run's VECBASE on,
 /// and the verdict that of the run's records; where the handlers pass and the stacks are apart, the run
 /// up to the first breach is one of the machine with unbounded call frames.
-/// `Memory` is the one free answer.
+/// Running out of memory is the only outcome left open.
 pub fn xt_main<S: Source, K: Sink, G: Gate, R: Threads + Wait + Sync>(
     rt: &R,
     alloc: Global,

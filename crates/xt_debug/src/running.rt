@@ -112,7 +112,7 @@ fn run_command(
 ///   breach of the stack discipline comes before it.
 ///
 /// Each line ends with a newline. Addresses, words and registers are eight upper-case hexadecimal
-/// digits, WINDOWSTART four, a byte two; other numbers are decimal. The only error is too little
+/// digits, WINDOWSTART four, a byte two; other numbers are decimal. The only error is running out of
 /// memory; the replay then stands where some of the first commands leave it.
 ///
 /// Condition: each core is 0 or 1, and each N of `mem` at most 64, as in every script that was

@@ -148,7 +148,7 @@ fn push_segment(out: &mut String, number: usize, segment: &Segment) -> Result<()
 }
 
 /// The listing of an image: a line for each segment, and behind that of a segment with code the lines of a walk from its
-/// first byte. The only error is want of memory.
+/// first byte. The only error is running out of memory.
 ///
 /// ```text
 /// segment I ADDR LENGTH REGION

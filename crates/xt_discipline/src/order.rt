@@ -176,7 +176,7 @@ fn written(alloc: Global, run: &Run) -> Result<Vec<u8>, AllocError>
 
 /// The schedule of a run: for each entry of the history in order, the turns of its core after its
 /// previous access, up to and with this one; then the rest of core 0's turns, and then the rest of
-/// core 1's. The only error is too little memory.
+/// core 1's. The only error is running out of memory.
 ///
 /// Condition: the run has a schedule.
 #[tactic(auto, using(crate::proofs::Orders::of_cores))]

@@ -52,7 +52,7 @@ impl Model for Frames {
 
 impl Frames {
     /// A core as it opens, at `pc`. It takes all memory that its frames ever need: room for (HI - LO)/16 + 2 of them. The only error
-    /// is too little memory.
+    /// is running out of memory.
     ///
     /// Conditions: the core is 0 or 1, `vecbase` is a multiple of 1024, and the core's stack range is one of multiples of 16 below
     /// 2^30, of 256 bytes at least.

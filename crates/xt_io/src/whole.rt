@@ -44,8 +44,8 @@ const PIECE: usize = 4096;
 /// Reads all that a source has left, where that is at most `limit` bytes, less than `u64::MAX`.
 ///
 /// `TooLarge` comes exactly where the byte after the limit was read, and no later byte was then
-/// taken. `Fault` comes only where the source counted a fault in this call. `Memory` is want of
-/// memory, and can come at any length.
+/// taken. `Fault` comes only where the source counted a fault in this call. `Memory` says that
+/// memory ran out, and can come at any length.
 pub fn read_to_limit<S: Source>(
     alloc: Global,
     source: &mut S,

@@ -42,7 +42,7 @@ lines_from begun (g ∷ gs) =
 unfoldable pub parsed : List Token → Result (List Line) AsmPlace
 parsed tokens = lines_from false (grouped tokens)
 
--- what was answered is this; want of memory aside
+-- what was answered is this, unless memory ran out
 abbrev pub Parses : Result (List Line) AsmFault → Result (List Line) AsmPlace → Type 0
 Parses (Ok lines) read = read ≡ Ok lines
 Parses (Err (fault.Place place)) read = read ≡ Err place

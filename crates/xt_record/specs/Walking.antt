@@ -164,7 +164,7 @@ pub record Took
   pub adds : Adds code number before other old.memory.contents index (turns + 1) old.points.items
       new.points.items
 
--- the result is that of what the entry shows, too little memory aside
+-- the result is that of what the entry shows, unless memory ran out
 abbrev pub Takes :
     Result Unit RecordFault → (code : ℕ → ℕ) (number : ℕ) (before other after : CoreState)
     (old new : Setting) (index : ℕ) (entry : Entry) → Type 0

@@ -95,7 +95,7 @@ impl<'a> Replay<'a> {
     ghost use Rattle.xt_replay.specs.Stands.{Comes};
 
     /// The run at position 0. All memory is taken here, also that of copies of what the run has at
-    /// each multiple of 65,536 steps; the only error is too little memory.
+    /// each multiple of 65,536 steps; the only error is running out of memory.
     ///
     /// Conditions: the run is the image's. The image's segments lie in one region each and share no
     /// byte, as those of every image that was read.

@@ -98,7 +98,7 @@ impl Pair {
         }
     }
 
-    /// A copy, which has room for so many bytes that are sent. The only error is too little memory.
+    /// A copy, which has room for so many bytes that are sent. The only error is running out of memory.
     ///
     /// Condition: the bytes that were sent find room.
     pub fn mark(&self, alloc: Global, room: usize) -> Result<Mark, AllocError>

@@ -104,6 +104,6 @@ abbrev pub MayWantMemory : List Text → Type 0
 MayWantMemory [] = ⊥
 MayWantMemory (word ∷ rest) = TakesMemory (named word)
 
--- the meaning of words is never too little memory
+-- the meaning of words is never that memory ran out
 abbrev pub NeedsNoMemory : Type 0
 NeedsNoMemory = (words : List Text) → meaning_of words ≢ Err refusal.Memory

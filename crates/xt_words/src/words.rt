@@ -82,7 +82,7 @@ fn gen_meaning(alloc: Global, words: &[String]) -> Result<Command, Refusal>
 /// - `gen` has the number that `generator_number` says, with the rules of usage 3 and 4.
 /// - `replay` is `Replay`, whatever follows: `script_text` reads its words.
 ///
-/// `Memory` is too little memory alone.
+/// `Memory` says only that memory ran out.
 pub fn meaning(alloc: Global, words: &[String]) -> Result<Command, Refusal>
     ensures means { Means result (meaning_of (map string_bytes words.now)) }
     ensures valid { IfOk result HasValidOptions }
