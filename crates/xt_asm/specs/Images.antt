@@ -27,11 +27,11 @@ abbrev pub content : List (Line × List ℕ) → List ℕ
 content [] = []
 content (x ∷ rest) = if is_segment x.0.statement then [] else x.1 ++ content rest
 
--- zeros behind the bytes up to a multiple of 4
+-- zeros after the bytes up to a multiple of 4
 abbrev pub padded : List ℕ → List ℕ
 padded bytes = bytes ++ zeros (padding 4 (length bytes))
 
--- the segment that a statement begins, behind which the lines with their bytes are these
+-- the segment that a statement begins, after which the lines with their bytes are these
 abbrev pub segment_at : Statement → List (Line × List ℕ) → List Segment
 segment_at (Seg start) rest = record { addr = start; bytes = padded (content rest) } ∷ []
 segment_at _ rest = []

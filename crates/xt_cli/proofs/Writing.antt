@@ -11,7 +11,7 @@ use Rattle.xt_trace.specs.Lines.{line_text}
 use Rattle.xt_cli.specs.Reports.{lines_from}
 use Rattle.xt_cli.specs.Writes.{Writes}
 
--- a front of what follows, after what was written whole
+-- a prefix of what follows, after what was written whole
 front_after : (a b c : Option (List ℕ)) (done piece rest whole : List ℕ) → Appends a b done → AppendsFront b c piece
     → whole ≡ done ++ (piece ++ rest) → AppendsFront a c whole
 front_after a b c done piece rest whole appended (front, left, split, more) is = (

@@ -90,7 +90,7 @@ HasRun t o e w P =
     ReadsWhole image_limit e
     (λ input. IsRunOfInput o input w × P (wanted_text t o (image_of input) w))
 
--- nothing was written, or a front of what is written of the input's run
+-- nothing was written, or a prefix of what is written of the input's run
 abbrev pub WritesFront : Wanted → RunOptions → Ends → Type 0
 WritesFront t o e =
     Keeps e.told e.told_after

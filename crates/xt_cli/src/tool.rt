@@ -201,7 +201,7 @@ pub(crate) fn work<S: Source, K: Sink>(
     }
 }
 
-/// What the program does with the words behind its name, a source and a sink, where it needs no
+/// What the program does with the words after its name, a source and a sink, where it needs no
 /// thread: it answers every word that has no meaning, and does the work of `asm`, `elf`, `dis`, `check`,
 /// `migrate` and `replay`. It waits for nobody and returns.
 ///

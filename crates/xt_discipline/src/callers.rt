@@ -32,7 +32,7 @@ fn depths_at(walk: &Walk, judged: Judged) -> Option<(u32, u32)>
     }
 }
 
-/// How many frames of callers core 0 and core 1 have behind the records of a run that come in this
+/// How many frames of callers core 0 and core 1 have after the records of a run that come in this
 /// order, from here on; none where a breach comes.
 fn depths_behind<R: Records>(
     walk: &mut Walk,

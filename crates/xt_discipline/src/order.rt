@@ -123,7 +123,7 @@ impl<'a> Order<'a> {
     }
 
     // Passes the turns of one core that come next in a row: the core, and how many. There are none
-    // behind the last turn.
+    // after the last turn.
     fn piece(&mut self) -> (u8, u32)
         requires { IsOrder self.old }
         ensures { IsPiece self.old self.new result.0 result.1 }

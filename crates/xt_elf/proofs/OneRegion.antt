@@ -158,7 +158,7 @@ by_region first last RtcFastCode device p q = at_range first last 6 (omega arith
 by_region first last Irom device p q = at_range first last 7 (omega arith) (take_range first last (range Irom 0x400D0000 0x403FFFFF) refl (irom_range first p).0 (irom_range last q).1)
 by_region first last RtcSlow device p q = at_range first last 8 (omega arith) (take_range first last (range RtcSlow 0x50000000 0x50001FFF) refl (rtc_slow_range first p).0 (rtc_slow_range last q).1)
 
--- ---- both ways
+-- ---- in both directions
 
 same_answer : (x y : Bool) → (x ≡ true → y ≡ true) → (y ≡ true → x ≡ true) → x ≡ y
 same_answer true y f g = sym (f refl)

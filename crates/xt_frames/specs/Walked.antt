@@ -19,7 +19,7 @@ use Rattle.xt_frames.specs.Stacks as stacks
 use Rattle.xt_frames.specs.Parts.{Upper, frames_of, IsNewest}
 
 -- a core: its number, what it is judged by, its frame state, whether EPC1 has what was last
--- written, and the number of the record behind the last judged one
+-- written, and the number of the record after the last judged one
 pub record Walked : Type 0 where
   pub core : ℕ
   pub bounds : Bounds

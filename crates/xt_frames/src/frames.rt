@@ -21,7 +21,7 @@ use xt_map::Constants;
 use xt_trace::{Options, Stack as Range, StepRecord};
 
 /// A core of the machine with unbounded frames, as it walks over the judged records of its core. Contracts see its number, its stack
-/// range and VECBASE, its frame state, whether EPC1 has what was last written, and the number of the record behind the last judged
+/// range and VECBASE, its frame state, whether EPC1 has what was last written, and the number of the record after the last judged
 /// one.
 ///
 /// Its stack pointers lie in a chain, so that the frames that can stand on its stack are few, and there is room for all of them.
@@ -34,7 +34,7 @@ pub struct Frames {
     callers: Vec<Caller>,
     // Whether EPC1 has what was last written.
     fresh: bool,
-    // The number of the record behind the last judged one.
+    // The number of the record after the last judged one.
     next: u64,
 }
 

@@ -42,7 +42,7 @@ pub fn judge(
     view.lay(rec);
     // (so that what CALLINC can be is known)
     let _by = view.callinc();
-    // The breaches are tested on the state before the step and on the one behind it.
+    // The breaches are tested on the state before the step and on the one after it.
     let before = *view;
     let plan = before.plan(code);
     let step = view.step(code, plan, rec.reply, &case.newest);

@@ -19,7 +19,7 @@ is_printable b = nat_le 32 b && nat_le b 126
 abbrev pub is_plain : ℕ → ℕ → Bool
 is_plain quote b = is_printable b && not (b == quote) && not (b == 92)
 
--- what stands behind a backslash in a string, and the byte that the two stand for
+-- what stands after a backslash in a string, and the byte that the two stand for
 unfoldable pub escaped : ℕ → Option ℕ
 escaped c =
     if c == 110 then Some 10 else

@@ -9,7 +9,7 @@ use Rattle.xt_isa.specs.Spelling.{fields_at, spelled}
 use Rattle.xt_codec.specs.declared.Decoded.TheVariants.{Good}
 use Rattle.xt_codec.specs.Answers.{answer}
 
--- the byte at a place, and zero behind the last
+-- the byte at a place, and zero after the last
 abbrev pub byte : List ℕ → ℕ → ℕ
 byte bytes k = slice_index_or bytes k 0
 

@@ -132,7 +132,7 @@ pub record IsAsRoomy (old new : Pair) : Type 0 where
   pub turns1 : new.core1.turns ≡ old.core1.turns
   pub room : new.memory.room ≡ old.memory.room
 
--- the position is not behind that of a core's step with this number
+-- the position is not after that of a core's step with this number
 pub record Comes (image : Image) (r : Run) (core step p : ℕ) : Type 0 where
   pub most : step_in core (shown_at image r p) ≤ step
   pub behind : step ≡ (trace_in core r).count → step_in core (shown_at image r p) ≡ step

@@ -71,7 +71,7 @@ fn gen_meaning(alloc: Global, words: &[String]) -> Result<Command, Refusal>
     }
 }
 
-/// The command with its options that the words behind the program's name say, or why they say none.
+/// The command with its options that the words after the program's name say, or why they say none.
 ///
 /// - No word is `Usage(1)`, and a first word that is no command `Usage(2)`.
 /// - `asm`, `elf`, `dis` and `migrate` take no further word. Other words after them are `Usage(3)`, as far as `clap` does not take
