@@ -92,7 +92,7 @@ is_taken first behind r t =
     and_from (not (is_device r.region)) (nat_le r.first first && nat_le behind (r.last + 1)) (is_no_device (is_device r.region) t.device)
     (and_from (nat_le r.first first) (nat_le behind (r.last + 1)) (is_at_least r.first first t.low) (is_at_least behind (r.last + 1) t.high))
 
--- the addresses from a first one up to the one behind the last are all of one region, which is no device
+-- the addresses from a first one up to the one after the last are all of one region, which is no device
 pub record InRegion (first behind : ℕ) : Type 0 where
   pub region : Region
   pub device : is_device region ≡ false

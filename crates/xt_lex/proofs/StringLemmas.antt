@@ -7,7 +7,7 @@ use Rattle.xt_lex.specs.Fronts.{begins_with_quote, string_body, string_piece, an
 abbrev pub Body : Type 0
 Body = Option (List ℕ × ℕ)
 
--- a string's rest behind some bytes, which took so many
+-- a string's rest after some bytes, which took so many
 abbrev pub behind : List ℕ → ℕ → Body → Body
 behind held width body = option_map (λ r. (held ++ r.0, width + r.1)) body
 
@@ -32,7 +32,7 @@ piece_goes false false true e b byte taken one two at is1 is2 h =
     rw (sym here, sym wide, is1) refl
 piece_goes false false false e b byte taken one two at is1 is2 h = cc
 
--- where a piece stands at the front, the string goes on behind it
+-- where a piece stands at the front, the string goes on after it
 pub piece_is_front : (bytes : List ℕ) (byte taken : ℕ) → string_piece bytes ≡ Some (byte, taken) → string_body bytes ≡ and_then byte taken (string_body (drop taken bytes))
 unfolding string_piece string_body
 piece_is_front [] byte taken h = cc
