@@ -22,7 +22,7 @@ use Rattle.xt_exec.specs.Chips.{processor}
 use Rattle.xt_frames.specs.Frames.{FrameState}
 use Rattle.xt_frames.specs.Breaches.{Bounds}
 use Rattle.xt_handlers.specs.Vectors.{Handlers}
-use Rattle.xt_simulation.specs.InHandlers.{IsGood}
+use Rattle.xt_simulation.specs.Handling.{IsGood}
 use Rattle.xt_simulation.specs.Steps.{reply_at, memory_after_step, record_now, state_now, memory_now}
 use Rattle.xt_frames.specs.Judging.{Standing, Seen, Handled, Judges, Breaks}
 use Rattle.xt_simulation.specs.Walking.{Entered, World, Moved, entered_by, moved_by, move, Apart}
