@@ -1,20 +1,44 @@
 -- What a handler step and a whole stretch of them have done ('profile').
-use Rattle.std.specs.Prelude.{◌≡◌, ◌≤◌, ◌<◌, ℕ, ◌+◌, ◌*◌, ◌%◌, true, Some, None, List, [], ◌∷◌}
-use Rattle.std.specs.Prelude.{◌++◌, slice_index_or}
+use Rattle.std.specs.Prelude.{◌≡◌, ◌≢◌, ◌≤◌, ◌<◌, ℕ, ◌+◌, ◌*◌, ◌%◌, true, Option, Some, None}
+use Rattle.std.specs.Prelude.{List, [], ◌∷◌, ◌++◌, length, slice_index, slice_index_or}
+use Rattle.xt_special.specs.Numbers as number
+use Rattle.xt_special.specs.Control.{Control}
 use Rattle.xt_exec.specs.State.{State}
 use Rattle.xt_frames.specs.Frames.{Frame, FrameState, moved}
 use Rattle.xt_frames.specs.SaveAreas.{is_live}
 use Rattle.xt_frames.specs.Breaches.{Bounds}
-use Rattle.xt_simulation.specs.Ring.{Holds}
 use Rattle.xt_stretch.specs.declared.Side.{Side}
 use Rattle.xt_stretch.specs.declared.Side.TheVariants.{Overflow, Underflow}
-use Rattle.xt_window.specs.Ring.{visible, with_bit, without_bit}
-use Rattle.xt_simulation.specs.Closing.{Changes}
+use Rattle.xt_window.specs.Ring.{place, visible, with_bit, without_bit}
 use Rattle.xt_stretch.specs.Needs.{save_word}
 use Rattle.xt_stretch.specs.Meaning.{address_of}
 use Rattle.xt_stretch.specs.Running.{Machine, word_at}
 use Rattle.xt_stretch.specs.Kept.{IsElsewhere}
 use Rattle.xt_handlers.specs.Vectors.{vector_at}
+
+-- PC, PS but OWB, and the special registers but EPC1, CCOUNT and INTERRUPT are as before the window
+-- exception
+pub record Resumes (c d : Control) : Type 0 where
+  pub pc : d.pc ≡ c.pc
+  pub ps : d.ps ≡ record c.ps { owb = d.ps.owb }
+  pub threadptr : d.threadptr ≡ c.threadptr
+  pub waits : d.waits ≡ c.waits
+  pub size : length d.special ≡ length c.special
+  pub special : (k : ℕ) → k ≢ number.epc 1 → k ≢ number.interrupt → k ≢ number.ccount
+      → slice_index d.special k ≡ slice_index c.special k
+
+-- only the registers below a(4n) of window `at` may have changed
+pub record Changes (s t : State) (at n : ℕ) : Type 0 where
+  pub base : t.base ≡ s.base
+  pub size : length t.regs ≡ length s.regs
+  pub others : (p : ℕ) → 4 * (at + n) ≤ p → p < 4 * at + 64
+      → slice_index t.regs (p % 64) ≡ slice_index s.regs (p % 64)
+  pub control : Resumes s.control t.control
+
+-- the kept registers that have a value stand in the window w
+abbrev pub Holds : List ℕ → List (Option ℕ) → ℕ → Type 0
+Holds regs kept w =
+    (i v : ℕ) → slice_index_or kept i None ≡ Some v → slice_index regs (place w i) ≡ v
 
 -- the handler's window, with the registers and the bytes at the record of the window exception
 abbrev pub start_of : State → (ℕ → ℕ) → List Frame → Machine
