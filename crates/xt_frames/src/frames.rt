@@ -40,8 +40,8 @@ pub struct Frames {
 
 impl Model for Frames {
     ghost use Rattle.std.specs.Prelude.{vec_capacity};
-    ghost use Rattle.xt_frames.specs.Parts.{frames_of, state_at};
-    ghost use Rattle.xt_frames.specs.Walked.{AreKept, Walked, bounds_of};
+    ghost use Rattle.xt_frames.specs.Parts.{AreKept, frames_of, state_at};
+    ghost use Rattle.xt_frames.specs.Walked.{Walked, bounds_of};
 
     ghost Value = { Walked };
 
