@@ -122,13 +122,3 @@ short_advance P (c ∷ cs) w = short_advance P cs (short_give P c w)
 abbrev pub IsRising : ℕ → List ℕ → ℕ → Type 0
 IsRising i [] n = Unit {0}
 IsRising i (p ∷ ps) n = (i ≤ p) × (p < n) × IsRising (suc p) ps n
-
--- a run has a schedule
-pub record HasSchedule {S : Type 0} (P : Chip S) (o : Opening S) (r : ShortRun S) : Type 0 where
-  pub cores : IsOfCores r.history
-  pub turns0 : r.trace0.count ≤ o.turns0
-  pub turns1 : r.trace1.count ≤ o.turns1
-  pub rise0 : IsRising 0 r.trace0.places r.trace0.count
-  pub rise1 : IsRising 0 r.trace1.places r.trace1.count
-  pub calls0 : length r.trace0.places ≡ length (calls_of 0 r.history)
-  pub calls1 : length r.trace1.places ≡ length (calls_of 1 r.history)
