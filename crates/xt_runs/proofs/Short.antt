@@ -9,8 +9,7 @@ use Rattle.xt_runs.specs.Traces.{Traced, ended, trace_over, reply_for, replies_p
 use Rattle.xt_trace.specs.Calls.{call_before, calls_in}
 use Rattle.xt_map.specs.History.{IsOfCores, calls_of, replies_of}
 use Rattle.xt_runs.specs.Schedule.{place_before, places_from}
-use Rattle.xt_runs.specs.Alone.{answer}
-use Rattle.xt_runs.specs.Worlds.{Core, Line, World, core_past, line_given, core_given, give, advance, left_past}
+use Rattle.xt_runs.specs.Worlds.{Core, Line, World, core_past, line_given, core_given, give, advance, left_past, answer}
 use Rattle.xt_runs.specs.Runs.{Opening, Run, run_at, IsRunOf}
 use Rattle.xt_runs.specs.Short.{ShortTrace, short_trace, ShortRun, short_run, IsShortRunOf, short_schedule, ShortCore, short_core, short_past, short_given, short_line, ShortWorld, short_world, short_give, short_advance, IsRising}
 use Rattle.xt_runs.proofs.Ends.{run_at_is_run}

@@ -10,8 +10,7 @@ use Rattle.xt_trace.specs.Calls.{calls_in, is_stop}
 use Rattle.xt_trace.specs.declared.trace.Stop.{Stop}
 use Rattle.xt_map.specs.History.{calls_of, replies_of}
 use Rattle.xt_runs.specs.Schedule.{place_before, places_from, cores_of}
-use Rattle.xt_runs.specs.Alone.{answer}
-use Rattle.xt_runs.specs.Worlds.{Core, Line, World, line_given, left_past}
+use Rattle.xt_runs.specs.Worlds.{Core, Line, World, line_given, left_past, answer}
 use Rattle.xt_runs.specs.Schedule.{schedule}
 use Rattle.xt_runs.specs.Runs.{Opening, Run}
 

@@ -7,9 +7,8 @@ use Rattle.xt_map.specs.declared.access.Entry.{Entry}
 use Rattle.xt_map.specs.History.{IsLegal, memory_after}
 use Rattle.xt_trace.specs.declared.record.StepRecord.{StepRecord}
 use Rattle.xt_fetch.specs.Code.{AreBytes}
-use Rattle.xt_runs.specs.Alone.{answer}
 use Rattle.xt_runs.specs.Worlds as worlds
-use Rattle.xt_runs.specs.Worlds.{give, core_given, line_given}
+use Rattle.xt_runs.specs.Worlds.{give, core_given, line_given, answer}
 use Rattle.xt_window.specs.Ring.{cleared_regs}
 use Rattle.xt_exec.specs.State.{opening_state, opening_regs}
 use Rattle.xt_frames.specs.Frames.{opening_seen}
