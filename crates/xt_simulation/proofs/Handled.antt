@@ -59,8 +59,8 @@ use Rattle.xt_stretch.proofs.Turning.{turns, done, spared}
 use Rattle.xt_stretch.proofs.Changed.{others_stay_above}
 use Rattle.xt_stretch.proofs.Joins.{save_low, save_high}
 use Rattle.xt_handlers.specs.Vectors.{vector_number, vector_at, vector_bytes, verdict_of, Handlers}
-use Rattle.xt_simulation.specs.Steps.{state_now, memory_now, machine}
-use Rattle.xt_simulation.specs.Handling.{InDram, Somewhere, Begins, Handling, Settles, IsGood, HandlerStep, steps_on, closes_stretch}
+use Rattle.xt_simulation.specs.Steps.{state_now, memory_now}
+use Rattle.xt_simulation.specs.Handling.{machine, InDram, Somewhere, Begins, Handling, Settles, IsGood, HandlerStep, steps_on, closes_stretch}
 use Rattle.xt_simulation.specs.HandlerLaws.{StretchesAreEntered, HandlerStepsAreKept, HandlersAreSpared}
 use Rattle.xt_fetch.specs.Code.{AreBytes}
 use Rattle.xt_simulation.proofs.Fetched.{byte_is as fetched_byte, bytes_length, byte_small, fetched_is, step_is, vector_fetches, vector_handles, fetch_small, length_is}

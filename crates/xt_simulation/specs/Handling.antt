@@ -18,9 +18,10 @@ use Rattle.xt_simulation.specs.Stretches.{InHandler}
 use Rattle.xt_stretch.specs.Symbols.{Effect}
 use Rattle.xt_stretch.specs.declared.Side.{Side}
 use Rattle.xt_stretch.specs.declared.Side.TheVariants.{Overflow, Underflow}
+use Rattle.xt_stretch.specs.Running.{Machine}
 use Rattle.xt_stretch.specs.Kept.{Stands, Handles}
 use Rattle.xt_handlers.specs.Vectors.{vector_at, vector_bytes, Handlers}
-use Rattle.xt_simulation.specs.Steps.{state_now, memory_now, machine}
+use Rattle.xt_simulation.specs.Steps.{state_now, memory_now}
 use Rattle.xt_simulation.specs.InHandlers.{start_of, Untouched, MovesFrame, StoresAlone}
 
 -- the stack range lies in data memory
@@ -47,6 +48,10 @@ abbrev pub Begins : Side → (ℕ → ℕ) → Bounds → (ℕ → Bool) → Sta
     → List Frame → Type 0
 Begins Overflow m b lost s f front g rest = Related m b lost s f (front ++ g ∷ []) rest
 Begins Underflow m b lost s f front g rest = Related m b lost s f [] (g ∷ rest)
+
+-- the registers and memory, as a handler's instructions see them
+abbrev pub machine : MemoryContents → State → Machine
+machine m s = record { ring = s.regs; base = s.base; bytes = byte_at m }
 
 -- `before` is the state before the record of the window exception, and `opened` are the bytes at it
 pub record Handling
