@@ -8,7 +8,7 @@ use std::rt::Env;
 use xt_cli::{Status, status_line, xt_main};
 use xt_io::{OpenGate, StdSink, StdSource};
 
-// The words behind the program's name. Words that are no text match no command.
+// The words after the program's name. Words that are no text match no command.
 fn words_of(rt: &(impl Env + AllocGlobal)) -> Result<Vec<String>, Status> {
     let mut words = Vec::new(rt.alloc());
     let args = match env::args(rt) {

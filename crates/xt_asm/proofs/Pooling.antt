@@ -145,7 +145,7 @@ drop_front : (xs ys : List PoolWord) → drop (length xs) (xs ++ ys) ≡ ys
 drop_front [] ys = refl
 drop_front (x ∷ xs) ys = drop_front xs ys
 
--- the words from a line on are those of its pool, and those behind
+-- the words from a line on are those of its pool, and those after it
 pub record Cut (lines : List Line) (k : ℕ) (l : Line) (rest : List PoolWord) (n : ℕ) : Type 0 where
   pub pool_is : take n rest ≡ pool_at (take k lines) l (drop (k + 1) lines)
   pub behind_is : drop n rest ≡ words_behind (take (k + 1) lines) (drop (k + 1) lines)

@@ -86,7 +86,7 @@ sources_more lines k l lt is =
     let within : k < length (sources_of lines) = omega (arith, length-each (source_at lines) lines) in
     take_more (sources_of lines) k s within ∙ ap (λ x. take k (sources_of lines) ++ x ∷ []) (each_at (source_at lines) lines k s l lt is)
 
--- ---- what is known behind k lines
+-- ---- what is known after k lines
 
 pub record Walks (lines : List Line) (k : ℕ) (rest : List PoolWord) (pieces : List (List ℕ)) : Type 0 where
   pub rest_is : rest ≡ words_behind (take k lines) (drop k lines)

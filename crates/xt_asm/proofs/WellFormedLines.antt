@@ -39,7 +39,7 @@ are_none : (xs : List Finding) → first xs ≡ None → AreNone xs
 are_none [] h = tt
 are_none (x ∷ xs) h = let both = both_none x (first xs) h in (both.0, are_none xs both.1)
 
--- f finds nothing at any of the lines, which stand behind some others
+-- f finds nothing at any of the lines, which stand after some others
 abbrev pub FindsNone : (List Line → Line → List Line → Finding) → List Line → List Line → Type 0
 FindsNone f before [] = Unit {0}
 FindsNone f before (l ∷ rest) = (f before l rest ≡ None) × FindsNone f (before ++ l ∷ []) rest

@@ -36,7 +36,7 @@ map_append f (x ∷ xs) ys = ap (λ zs. f x ∷ zs) (map_append f xs ys)
 
 -- ---- how many bytes the lines have
 
--- how many bytes each of the lines has, which stand behind some others
+-- how many bytes each of the lines has, which stand after some others
 abbrev pub sizes_after : List PoolWord → List Line → List Line → List ℕ
 sizes_after words before rest = each_after (λ before l rest. size (pool_size words (length before)) (address (spot_at words before l)) l.statement) before rest
 
@@ -71,7 +71,7 @@ rest_sizes piece pieces n ns e = cc
 no_sizes : {P : Type 0} (n : ℕ) (ns : List ℕ) → [] ≡ n ∷ ns → P
 no_sizes n ns e = absurd cc
 
--- a segment ends as many bytes behind an address as its lines from there on have
+-- a segment ends as many bytes after an address as its lines from there on have
 end_as_long : (words : List PoolWord) (s : ℕ) (before rest : List Line) (a : ℕ) (pieces : List (List ℕ)) → behind words 0 None before ≡ Some (spot s a) →
     map length pieces ≡ sizes_after words before rest → segment_end words (length before) a rest ≡ a + stretch rest pieces
 end_as_long words s before [] a pieces at sizes = sym (add-zero a)

@@ -1,3 +1,4 @@
+-- Carries a proof; nothing that a reader must believe.
 -- What the code knows of a statement, as the definitions see it.
 use Rattle.std.specs.Prelude.{length, ◌||◌, [], ◌∷◌, ◌≡◌, true, List, Option, Some, Result, Ok, Vec}
 use Rattle.std.specs.Prelude.{option_map}
@@ -54,7 +55,7 @@ abbrev pub piece_source : Context → List PoolWord → Statement → Source
 piece_source c pool s =
     record { site = site_of c; pool = pool; pool_size = length pool; statement = s }
 
--- the answer is this fault; want of memory aside
+-- the answer is this fault, unless memory ran out
 abbrev pub LineFault : AsmFault → Finding → Type 0
 LineFault (fault.Place place) finding = finding ≡ Some place
 LineFault fault.Memory finding = Unit {0}

@@ -27,11 +27,11 @@ abbrev pub content : List (Line × List ℕ) → List ℕ
 content [] = []
 content (x ∷ rest) = if is_segment x.0.statement then [] else x.1 ++ content rest
 
--- zeros behind the bytes up to a multiple of 4
+-- zeros after the bytes up to a multiple of 4
 abbrev pub padded : List ℕ → List ℕ
 padded bytes = bytes ++ zeros (padding 4 (length bytes))
 
--- the segment that a statement begins, behind which the lines with their bytes are these
+-- the segment that a statement begins, after which the lines with their bytes are these
 abbrev pub segment_at : Statement → List (Line × List ℕ) → List Segment
 segment_at (Seg start) rest = record { addr = start; bytes = padded (content rest) } ∷ []
 segment_at _ rest = []
@@ -70,8 +70,8 @@ pub record IsImageOfText (text : List ℕ) (image : Image) : Type 0 where
   pub read : parsed (tokens_of text) ≡ Ok lines
   pub image_is : IsImageOf lines image
 
--- an image comes exactly where the text has no fault, and is the text's; else its first fault; too
--- little memory aside
+-- an image comes exactly where the text has no fault, and is the text's; else its first fault,
+-- unless memory ran out
 abbrev pub Assembles : Result Image AsmFault → List ℕ → Type 0
 Assembles (Ok image) text = (text_fault text ≡ None) × IsImageOfText text image
 Assembles (Err (fault.Place place)) text = text_fault text ≡ Some place

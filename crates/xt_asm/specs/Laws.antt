@@ -1,4 +1,5 @@
--- Laws of assembly. Each is the contract of a function of src/laws.rt.
+-- States laws that are proved; nothing that a reader must believe.
+-- Assembly; each law is the contract of a function of src/laws.rt.
 use Rattle.std.specs.Prelude.{◌≡◌, ℕ, true, false, List, ◌∷◌, ◌++◌, None}
 use Rattle.xt_image.specs.declared.image.Image.{Image}
 use Rattle.xt_image.specs.Parts.{IsWellFormed}

@@ -39,7 +39,7 @@ last_position (l ∷ earlier) =
     if ends_pool l then (if is_position l.statement then Some (length earlier) else None)
     else last_position earlier
 
--- the place of the `.literal_position` whose pool is open behind these lines
+-- the place of the `.literal_position` whose pool is open after these lines
 abbrev pub open_position : List Line → Option ℕ
 open_position before = last_position (reverse before)
 

@@ -44,7 +44,7 @@ zeros n = replicate n 0
 
 -- ---- instructions
 
--- the byte at a place, and zero behind the last
+-- the byte at a place, and zero after the last
 abbrev pub byte : List ℕ → ℕ → ℕ
 byte bytes k = slice_index_or bytes k 0
 

@@ -1,3 +1,4 @@
+-- Carries a proof; nothing that a reader must believe.
 -- How the words that uses of pools refer to are found.
 use Rattle.std.specs.Prelude.{◌≡◌, ℕ, ℤ, List, Option, Some, None, option_and_then, slice_get}
 use Rattle.std.specs.BTreeMap.{BTreeMap, get}
@@ -26,7 +27,7 @@ Indexes index words addresses =
     (q : Key) → option_and_then (λ i. slice_get addresses i) (get key_cmp index q)
     ≡ word_for q.0 q.1.now words addresses
 
--- the place of the pool that is open behind a statement at a place
+-- the place of the pool that is open after a statement at a place
 abbrev pub opened : Option ℕ → ℕ → Statement → Option ℕ
 opened position place statement.Position = Some place
 opened position place (statement.Seg start) = None

@@ -1,3 +1,4 @@
+-- Carries a proof; nothing that a reader must believe.
 -- What is known while the lines of a text are gone through.
 use Rattle.std.specs.Prelude.{ℤ, ◌≡◌, Option, List, map, pos, All}
 use Rattle.std.specs.List.{flat_map}

@@ -36,7 +36,7 @@ fn pad(bytes: &mut Vec<u8>) -> Result<(), AllocError>
     Ok(())
 }
 
-/// Adds the segment that a statement begins, if any; these are the lines behind it, with their bytes.
+/// Adds the segment that a statement begins, if any; these are the lines after it, with their bytes.
 fn add_segment(
     alloc: Global,
     segments: &mut Vec<Segment>,

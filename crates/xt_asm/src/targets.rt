@@ -15,7 +15,7 @@ use xt_pool::{PoolWord, pool_use};
 type Index<'a> = BTreeMap<(u32, &'a [Term]), usize>;
 
 /// The number of each word without a name. The words are gone through from the last to the first, and each takes the
-/// place of those behind it.
+/// place of those after it.
 fn index_of(alloc: Global, words: &[PoolWord]) -> Result<Index<'_>, AllocError>
     ensures { IfOk result (λ index. (addresses : List ℤ) → length addresses ≡ length words.now → Indexes index words.now addresses) }
 {
@@ -64,7 +64,7 @@ fn target<'a>(
     }
 }
 
-/// The place of the pool that is open behind a statement at a place.
+/// The place of the pool that is open after a statement at a place.
 fn open_behind(position: Option<u32>, place: u32, statement: &Statement) -> Option<u32>
     ensures { result ≡ opened position place statement.now }
 {

@@ -1,4 +1,4 @@
--- What contracts see of a memory and of a bus.
+-- What contracts see of a memory and of a bus ('profile').
 use Rattle.std.specs.Prelude.{ℕ, ◌-◌, List, [], ◌∷◌, ◌++◌}
 use Rattle.xt_map.specs.declared.access.Access.{Access}
 use Rattle.xt_map.specs.declared.access.Entry.{Entry}

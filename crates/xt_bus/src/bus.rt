@@ -40,7 +40,7 @@ impl Model for Bus {
 impl Bus {
     /// A bus with no history, that may serve `room` accesses: the opening memory has the bytes of the
     /// loaded segments in file order, and then the words of `links`, each with its address. The only
-    /// error is too little memory.
+    /// error is running out of memory.
     pub fn make(
         alloc: Global,
         segments: &[Segment],

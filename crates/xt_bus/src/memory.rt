@@ -149,7 +149,7 @@ impl Memory {
     }
 
     /// The opening memory of a run: the bytes of the loaded segments in file order, and then the
-    /// words, each with its address. It has room to send `room` bytes. The only error is want of
+    /// words, each with its address. It has room to send `room` bytes. The only error is running out of
     /// memory.
     #[tactic(auto, unfolding(xt_map::specs::Memory::opening_memory))]
     pub fn make(

@@ -1,4 +1,4 @@
-//! Damaged images through `check`: each front of one, and one byte changed; and devices that fail at
+//! Damaged images through `check`: each prefix of one, and one byte changed; and devices that fail at
 //! each of their calls, through each command. The answers follow from the rules of the formats.
 
 use crate::programs::words_with;

@@ -6,7 +6,7 @@ use xt_gen::generated;
 use xt_image::write;
 use xt_io::{OpenGate, SafeSink, SafeSource};
 
-/// What stands behind the table in the text of the image that is made of a number.
+/// What stands after the table in the text of the image that is made of a number.
 const PROGRAM: &str = "\n\
 .seg 0x3FFB0000\ntotal: .word 0\ndone: .word 0\n.seg 0x40080000\n.align 64\ns32e a0, a5, -16\n\
 s32e a1, a5, -12\ns32e a2, a5, -8\ns32e a3, a5, -4\nrfwo\n.align 64\nl32e a0, a5, -16\n\

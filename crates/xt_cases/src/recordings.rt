@@ -36,7 +36,7 @@ fn output_of(
     }
 }
 
-// Whether a recording without checkpoints is in version 2 the same bytes but for the version and, behind
+// Whether a recording without checkpoints is in version 2 the same bytes but for the version and, after
 // those of version 1, the number of its checkpoints; and stays so.
 fn migrates(alloc: Global, bytes: &[u8]) -> Option<bool> {
     let mut second = Vec::new(alloc);

@@ -183,7 +183,7 @@ start: l32r a2, =0x3FF40000\nmovi a3\ns8i a3, a2, 0\nbreak 1, 15\n";
 const ENTRYLESS: &str = ".seg 0x40080400\n.literal_position\n\
 start: l32r a2, =0x3FF40000\nmovi a3, 65\ns8i a3, a2, 0\nbreak 1, 15\n";
 
-/// The text without the position of its pool, and with a label that is defined twice behind the use.
+/// The text without the position of its pool, and with a label that is defined twice after the use.
 const POOLLESS_AND_TWICE: &str = ".seg 0x40080400\n.entry start\n\
 start: l32r a2, =0x3FF40000\nstart:\nmovi a3, 65\ns8i a3, a2, 0\nbreak 1, 15\n";
 

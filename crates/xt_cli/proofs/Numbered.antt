@@ -2,7 +2,7 @@
 use Rattle.std.proofs.Common.{◌≡◌, ℕ, inl, inr, List, length, Option, Some, None, Result, Ok, Err, refl, sym, ap, subst, ◌∙◌, arith}
 use Rattle.std.specs.Io.KnownBytes.{Appends, Keeps}
 use Rattle.xt_io.specs.Causes.{Rose}
-use Rattle.xt_io.specs.Whole.{AppendsFront}
+use Rattle.xt_io.specs.Whole.{AppendsPrefix}
 use Rattle.xt_image.specs.declared.image.Image.{Image}
 use Rattle.xt_image.specs.Parts.{image_bytes}
 use Rattle.xt_gen.specs.Generated.{generated}
@@ -40,7 +40,7 @@ of_size number size image w text long made is = is ∙ ap (λ n. summary_text nu
 -- ---- the endings
 
 pub gen_memory : (number : ℕ) (a b : Option (List ℕ)) (f g : ℕ) (whole : Whole) (s : Status) (w : Option Whole) → s ≡ status.Memory → w ≡ None
-    → IsGenerated number whole → AppendsFront a b (gen_text number whole) → Generates number a b f g s w
+    → IsGenerated number whole → AppendsPrefix a b (gen_text number whole) → Generates number a b f g s w
 gen_memory number a b f g whole s w is none generated front =
     let P : Status → Type 0 = λ x. Generates number a b f g x None in
     let Q : Option Whole → Type 0 = λ x. Generates number a b f g s x in
@@ -52,6 +52,6 @@ gen_done number a b f g w s is generated whole =
     let P : Status → Type 0 = λ x. Generates number a b f g x (Some w) in subst P (sym is) (generated, whole)
 
 pub gen_failed : (number : ℕ) (a b : Option (List ℕ)) (f g : ℕ) (w : Whole) (s : Status) → s ≡ status.WriteFault
-    → IsGenerated number w → AppendsFront a b (gen_text number w) → Rose f g → Generates number a b f g s (Some w)
+    → IsGenerated number w → AppendsPrefix a b (gen_text number w) → Rose f g → Generates number a b f g s (Some w)
 gen_failed number a b f g w s is generated front rose =
     let P : Status → Type 0 = λ x. Generates number a b f g x (Some w) in subst P (sym is) (generated, front, rose)

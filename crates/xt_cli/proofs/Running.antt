@@ -2,7 +2,7 @@
 use Rattle.std.proofs.Common.{◌≡◌, ℕ, inr, List, Option, Some, None, Result, Ok, Err, sym, subst}
 use Rattle.std.specs.Io.KnownBytes.{Appends}
 use Rattle.xt_io.specs.Causes.{Rose}
-use Rattle.xt_io.specs.Whole.{AppendsFront}
+use Rattle.xt_io.specs.Whole.{AppendsPrefix}
 use Rattle.xt_io.specs.declared.sink.Refused.{Refused}
 use Rattle.xt_io.specs.declared.sink.Refused.TheVariants as refused
 use Rattle.xt_image.specs.declared.image.Image.{Image}
@@ -31,15 +31,15 @@ of_input t o input read image w P same (none, is) is_run judged holds =
     (record { image = subst A same none; is_run = subst Q made is_run; judged = subst J made judged }, subst R made holds)
 
 -- what was refused was written in front
-pub front_of : {T : Type 0} (r : Result T Refused) (e : Refused) (a b : Option (List ℕ)) (f g : ℕ) (bytes : List ℕ)
-    → r ≡ Err e → Writes r a b f g bytes → AppendsFront a b bytes
-front_of (Ok v) e a b f g bytes is writes = absurd (cc)
-front_of (Err x) e a b f g bytes is writes = writes.err
+pub prefix_of : {T : Type 0} (r : Result T Refused) (e : Refused) (a b : Option (List ℕ)) (f g : ℕ) (bytes : List ℕ)
+    → r ≡ Err e → Writes r a b f g bytes → AppendsPrefix a b bytes
+prefix_of (Ok v) e a b f g bytes is writes = absurd (cc)
+prefix_of (Err x) e a b f g bytes is writes = writes.err
 
 -- ---- the endings
 
 pub memory : (t : Wanted) (o : RunOptions) (e : Ends) (whole : Whole) (s : Status) (w : Option Whole) → s ≡ status.Memory → w ≡ None
-    → HasRun t o e whole (AppendsFront e.told e.told_after) → Runs t o e s w
+    → HasRun t o e whole (AppendsPrefix e.told e.told_after) → Runs t o e s w
 memory t o e whole s w is none has =
     let P : Status → Type 0 = λ x. Runs t o e x None in
     let Q : Option Whole → Type 0 = λ x. Runs t o e s x in
@@ -51,7 +51,7 @@ done t o e w s is has =
     let P : Status → Type 0 = λ x. Runs t o e x (Some w) in subst P (sym is) has
 
 pub failed : (t : Wanted) (o : RunOptions) (e : Ends) (w : Whole) (s : Status) → s ≡ status.WriteFault
-    → HasRun t o e w (AppendsFront e.told e.told_after) → Rose e.sink_faults e.sink_faults_after
+    → HasRun t o e w (AppendsPrefix e.told e.told_after) → Rose e.sink_faults e.sink_faults_after
     → Runs t o e s (Some w)
 failed t o e w s is has rose =
     let P : Status → Type 0 = λ x. Runs t o e x (Some w) in subst P (sym is) (has, rose)

@@ -3,7 +3,7 @@ use Rattle.std.proofs.Common.{◌≡◌, ℕ, ◌≤◌, ◌+◌, arith, List, [
 use Rattle.std.specs.Io.KnownBytes.{Appends}
 use Rattle.std.proofs.KnownBytes.{Appends-nil, Appends-trans}
 use Rattle.xt_io.specs.Causes.{Rose}
-use Rattle.xt_io.specs.Whole.{AppendsFront}
+use Rattle.xt_io.specs.Whole.{AppendsPrefix}
 use Rattle.xt_io.specs.declared.sink.Refused.{Refused}
 use Rattle.xt_trace.specs.declared.record.StepRecord.{StepRecord}
 use Rattle.xt_trace.specs.Left.{first_of, rest_of}
@@ -11,10 +11,10 @@ use Rattle.xt_trace.specs.Lines.{line_text}
 use Rattle.xt_cli.specs.Reports.{lines_from}
 use Rattle.xt_cli.specs.Writes.{Writes}
 
--- a front of what follows, after what was written whole
-front_after : (a b c : Option (List ℕ)) (done piece rest whole : List ℕ) → Appends a b done → AppendsFront b c piece
-    → whole ≡ done ++ (piece ++ rest) → AppendsFront a c whole
-front_after a b c done piece rest whole appended (front, left, split, more) is = (
+-- a prefix of what follows, after what was written whole
+prefix_after : (a b c : Option (List ℕ)) (done piece rest whole : List ℕ) → Appends a b done → AppendsPrefix b c piece
+    → whole ≡ done ++ (piece ++ rest) → AppendsPrefix a c whole
+prefix_after a b c done piece rest whole appended (front, left, split, more) is = (
   done ++ front,
   left ++ rest,
   is ∙ ap (λ l. done ++ (l ++ rest)) split ∙ ap (λ l. done ++ l) (append_assoc front left rest) ∙ sym (append_assoc done front (left ++ rest)),
@@ -54,7 +54,7 @@ refused : {T U : Type 0} (e : Refused) (a b c : Option (List ℕ)) (f g h : ℕ)
     → Writes {T = U} (Err e) b c g h piece → Appends a b done → f ≤ g → whole ≡ done ++ (piece ++ rest) → Writes {T = T} (Err e) a c f h whole
 refused {T} {U} e a b c f g h done piece rest whole writes appended low is = record {
   ok = tt;
-  err = front_after a b c done piece rest whole appended writes.err is;
+  err = prefix_after a b c done piece rest whole appended writes.err is;
   later = omega (arith, low, writes.later);
   failed = λ failed. rose_since f g h low (writes.failed (same_refusal {T = T} {U = U} e _ failed));
 }

@@ -38,7 +38,7 @@ byte_of entry = if entry.access.addr == uart_transmit then byte_sent entry.acces
 abbrev pub sent_bytes : List Entry → List ℕ
 sent_bytes entries = filter_map byte_of entries
 
--- as a law: they are what memory has sent after the entries, behind what it had sent before
+-- as a law: what memory has sent after the entries is what it had sent before, and then these
 abbrev pub SendsAsMemory : Type 0
 SendsAsMemory =
     (m : MemoryContents) (entries : List Entry)

@@ -4,7 +4,7 @@ use Rattle.std.specs.Prelude.{◌≡◌, ◌≤◌, ◌+◌, ◌⊎◌, ℕ, Lis
 use Rattle.std.specs.Prelude.{Err}
 use Rattle.std.specs.Io.KnownBytes.{Appends, Keeps}
 use Rattle.xt_io.specs.Causes.{Rose}
-use Rattle.xt_io.specs.Whole.{AppendsFront, Takes}
+use Rattle.xt_io.specs.Whole.{AppendsPrefix, Takes}
 use Rattle.std.specs.Option.{option_map}
 use Rattle.xt_image.specs.declared.image.Image.{Image}
 use Rattle.xt_image.specs.Rules.{image_fault}
@@ -90,14 +90,14 @@ HasOutput j e P =
 abbrev pub Makes : Job → Ends → Status → Type 0
 Makes j e status.Done = HasOutput j e (Appends e.told e.told_after)
 Makes j e status.WriteFault =
-    HasOutput j e (AppendsFront e.told e.told_after) × Rose e.sink_faults e.sink_faults_after
+    HasOutput j e (AppendsPrefix e.told e.told_after) × Rose e.sink_faults e.sink_faults_after
 Makes j e status.ReadFault = Rose e.source_faults e.source_faults_after × Keeps e.told e.told_after
 Makes j e (status.TooLarge limit) =
     (limit ≡ limit_of j)
     × Takes e.left e.left_after (λ n. n ≡ limit_of j + 1)
     × Keeps e.told e.told_after
 Makes j e status.Memory =
-    Keeps e.told e.told_after ⊎ HasOutput j e (AppendsFront e.told e.told_after)
+    Keeps e.told e.told_after ⊎ HasOutput j e (AppendsPrefix e.told e.told_after)
 Makes j e s =
     ReadsWhole (limit_of j) e (λ input. refusal_of j input ≡ Some s) × Keeps e.told e.told_after
 
@@ -106,8 +106,8 @@ abbrev pub status_of : Refusal → Status
 status_of (refusal.Usage rule) = status.Usage rule
 status_of refusal.Memory = status.Memory
 
--- words without a meaning are refused before anything is read or written; there may be too little
--- memory to read them
+-- words without a meaning are refused before anything is read or written; memory may run out while
+-- they are read
 abbrev pub RefusesWords : Refusal → Ends → Status → Type 0
 RefusesWords r e s = ((s ≡ status_of r) ⊎ (s ≡ status.Memory)) × IsUntouched e
 

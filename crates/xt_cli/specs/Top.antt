@@ -2,7 +2,7 @@
 use Rattle.std.specs.Prelude.{◌≡◌, ◌≤◌, ◌+◌, ◌⊎◌, ℕ, List, length, Option, Some, None, Result, Ok}
 use Rattle.std.specs.Io.KnownBytes.{Appends, Keeps}
 use Rattle.xt_io.specs.Causes.{Rose}
-use Rattle.xt_io.specs.Whole.{AppendsFront, Takes}
+use Rattle.xt_io.specs.Whole.{AppendsPrefix, Takes}
 use Rattle.xt_image.specs.declared.image.Image.{Image}
 use Rattle.xt_image.specs.Rules.{image_fault}
 use Rattle.xt_image.specs.Format.{image_of}
@@ -90,17 +90,17 @@ HasRun t o e w P =
     ReadsWhole image_limit e
     (λ input. IsRunOfInput o input w × P (wanted_text t o (image_of input) w))
 
--- nothing was written, or a front of what is written of the input's run
-abbrev pub WritesFront : Wanted → RunOptions → Ends → Type 0
-WritesFront t o e =
+-- nothing was written, or a prefix of what is written of the input's run
+abbrev pub WritesPrefix : Wanted → RunOptions → Ends → Type 0
+WritesPrefix t o e =
     Keeps e.told e.told_after
-    ⊎ ((w : Whole) × HasRun t o e w (AppendsFront e.told e.told_after))
+    ⊎ ((w : Whole) × HasRun t o e w (AppendsPrefix e.told e.told_after))
 
 -- each status of a run with these options, with its cause and what was written
 abbrev pub Runs : Wanted → RunOptions → Ends → Status → Option Whole → Type 0
 Runs t o e status.Done (Some w) = HasRun t o e w (Appends e.told e.told_after)
 Runs t o e status.WriteFault (Some w) =
-    HasRun t o e w (AppendsFront e.told e.told_after) × Rose e.sink_faults e.sink_faults_after
+    HasRun t o e w (AppendsPrefix e.told e.told_after) × Rose e.sink_faults e.sink_faults_after
 Runs t o e (status.Image f) None =
     ReadsWhole image_limit e (λ input. image_fault input ≡ Some f) × Keeps e.told e.told_after
 Runs t o e (status.TooLarge limit) None =
@@ -109,7 +109,7 @@ Runs t o e (status.TooLarge limit) None =
     × Keeps e.told e.told_after
 Runs t o e status.ReadFault None =
     Rose e.source_faults e.source_faults_after × Keeps e.told e.told_after
-Runs t o e status.Memory None = WritesFront t o e
+Runs t o e status.Memory None = WritesPrefix t o e
 Runs t o e _ _ = ⊥
 
 -- ---- the statuses of `gen`
@@ -126,11 +126,11 @@ Generates number told told_after faults faults_after status.Done (Some w) =
     IsGenerated number w × Appends told told_after (gen_text number w)
 Generates number told told_after faults faults_after status.WriteFault (Some w) =
     IsGenerated number w
-    × AppendsFront told told_after (gen_text number w)
+    × AppendsPrefix told told_after (gen_text number w)
     × Rose faults faults_after
 Generates number told told_after faults faults_after status.Memory None =
     Keeps told told_after
-    ⊎ ((w : Whole) × IsGenerated number w × AppendsFront told told_after (gen_text number w))
+    ⊎ ((w : Whole) × IsGenerated number w × AppendsPrefix told told_after (gen_text number w))
 Generates number told told_after faults faults_after _ _ = ⊥
 
 -- the source was not touched

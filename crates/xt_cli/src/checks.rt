@@ -48,7 +48,7 @@ fn push_segments(out: &mut String, segments: &[Segment]) -> Result<(), AllocErro
 /// The first line ends in `digest no` where no digest follows the checksum. There is a line for each
 /// segment, as in the listing. N, I and LENGTH are decimal, ADDR has eight upper-case hexadecimal
 /// digits. V is `yes`, or `no` and the offset at which the window handler in the vector from `vecbase`
-/// on fails its check. The only error is too little memory.
+/// on fails its check. The only error is running out of memory.
 ///
 /// Conditions: the image is well formed, and `vecbase` is a multiple of 1024.
 #[tactic(auto, unfolding(crate::specs::Checks::check_text))]

@@ -37,7 +37,7 @@ fn stop_line(alloc: Global, core: u8, trace: &Trace) -> Result<String, AllocErro
 /// ```
 ///
 /// L is the length of the image in bytes, TEXT the bytes that were sent, and S and F are those of the
-/// report. The only error is too little memory.
+/// report. The only error is running out of memory.
 #[tactic(auto, unfolding(crate::specs::Summaries::summary_text))]
 pub fn summary(alloc: Global, number: u32, size: usize, whole: &Whole) -> Result<Text, AllocError>
     ensures { IfOk result (λ text. text ≡ summary_text number size whole.now) }

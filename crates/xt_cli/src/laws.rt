@@ -1,8 +1,8 @@
 //! Laws of the texts. Each is the contract of a function that does nothing.
 ghost use Rattle.xt_cli.specs.Reports.{SendsAsMemory};
 
-/// The bytes that a history sends are those that UART0 has sent after its accesses, behind the ones
-/// that it had sent before them.
+/// What UART0 has sent after the accesses of a history is what it had sent before them, and then the
+/// bytes that the history sends.
 pub fn history_sends_as_memory()
     ensures { SendsAsMemory }
 {}

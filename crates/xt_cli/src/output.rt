@@ -58,7 +58,7 @@ fn write_records<K: Sink, R: Records>(
     Ok(())
 }
 
-/// Writes the report of a run. A refusal is a failed write, or too little memory.
+/// Writes the report of a run. A refusal is a failed write, or running out of memory.
 pub fn write_report<K: Sink>(alloc: Global, whole: &Whole, sink: &mut K) -> Result<(), Refused>
     ensures { Writes result
         (K.told sink.old) (K.told sink.new) (K.faults sink.old) (K.faults sink.new)

@@ -67,7 +67,7 @@ fn history_of(alloc: Global, count: usize) -> Result<String, AllocError>
 ///
 /// S is `break` or `turns`, K the number of the core's turns, and ADDR its last program counter in
 /// eight upper-case hexadecimal digits; N and K are decimal, and the last N is the number of accesses
-/// that the bus served. The only error is too little memory.
+/// that the bus served. The only error is running out of memory.
 #[tactic(auto, unfolding(crate::specs::Reports::run_lines))]
 pub fn run_lines(alloc: Global, run: &Run) -> Result<Text, AllocError>
     ensures { IfOk result (λ text. text ≡ run_lines run.now) }
@@ -92,7 +92,7 @@ pub fn run_lines(alloc: Global, run: &Run) -> Result<Text, AllocError>
 /// ```
 ///
 /// V is `yes`, or `no` and the offset at which the handler fails its check. F is `none` where one
-/// fails, else `whole`, or `breach KIND core C step N`. The only error is too little memory.
+/// fails, else `whole`, or `breach KIND core C step N`. The only error is running out of memory.
 #[tactic(auto, unfolding(crate::specs::Reports::report_text))]
 pub fn report(alloc: Global, whole: &Whole) -> Result<Text, AllocError>
     ensures { IfOk result (λ text. text ≡ report_text whole.now) }

@@ -30,7 +30,7 @@ pub enum Status {
     WriteFault,
     /// The input is longer than this many bytes.
     TooLarge(u32),
-    /// There was too little memory.
+    /// Memory ran out.
     Memory,
 }
 
@@ -132,7 +132,7 @@ fn record_text_of(alloc: Global, fault: &RecordFault) -> Result<String, AllocErr
 /// The line for standard error: `xt:`, the name of the status, the values that it keeps in decimal,
 /// of the fault of an image, an ELF executable or a recording its name and its values, digests as 64
 /// lower-case hexadecimal digits, of a text's fault its line, column and kind, and a newline. The only
-/// error is too little memory.
+/// error is running out of memory.
 #[tactic(auto, unfolding(crate::specs::Statuses::status_text))]
 pub fn status_line(alloc: Global, status: &Status) -> Result<Text, AllocError>
     ensures { IfOk result (λ text. text ≡ status_text status.now) }

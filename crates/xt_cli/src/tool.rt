@@ -201,14 +201,14 @@ pub(crate) fn work<S: Source, K: Sink>(
     }
 }
 
-/// What the program does with the words behind its name, a source and a sink, where it needs no
+/// What the program does with the words after its name, a source and a sink, where it needs no
 /// thread: it answers every word that has no meaning, and does the work of `asm`, `elf`, `dis`, `check`,
 /// `migrate` and `replay`. It waits for nobody and returns.
 ///
 /// Words that ask for `run`, `record` or `gen` are handed back as `Threaded`, and nothing was then read or
 /// written.
-/// After `Answer` the contract says of each status its cause, and what was written; too little
-/// memory is the one free answer.
+/// After `Answer` the contract says of each status its cause, and what was written; running
+/// out of memory is the only outcome left open.
 pub fn tool_main<S: Source, K: Sink>(
     alloc: Global,
     words: &[String],

@@ -48,7 +48,7 @@ pub(crate) fn without_run(status: Status) -> Outcome
 }
 
 /// Writes what `run` writes of a run of an image: the report, and where the words ask for them the
-/// lines of both traces behind it, each before the next is made.
+/// lines of both traces after it, each before the next is made.
 ///
 /// Conditions: the image is well formed, and the run is one of this image.
 #[tactic(auto, unfolding(crate::specs::Top::run_text))]
@@ -153,11 +153,11 @@ fn run_source<S: Source, K: Sink, G: Gate, R: Threads + Wait + Sync>(
     }
 }
 
-/// What the program does with the words behind its name, a source and a sink.
+/// What the program does with the words after its name, a source and a sink.
 ///
 /// Where the words ask for a run, the source is read to its end as an ESP32 application image, both
 /// cores make their turns, each on a thread of its own and through the gate before each access, and
-/// the report is written to the sink, with `--trace` the lines of both traces behind it, each before
+/// the report is written to the sink, with `--trace` the lines of both traces after it, each before
 /// the next is made; or where they ask for it the run's recording. Where they ask for the image that
 /// is made of a number, no input is read, that image runs so, and its summary is written. A run may
 /// wait. All else is `tool_main`'s.
@@ -169,7 +169,7 @@ fn run_source<S: Source, K: Sink, G: Gate, R: Threads + Wait + Sync>(
 /// that the answers for the window handlers are those of the image's vectors from the run's VECBASE on,
 /// and the verdict that of the run's records; where the handlers pass and the stacks are apart, the run
 /// up to the first breach is one of the machine with unbounded call frames.
-/// `Memory` is the one free answer.
+/// Running out of memory is the only outcome left open.
 pub fn xt_main<S: Source, K: Sink, G: Gate, R: Threads + Wait + Sync>(
     rt: &R,
     alloc: Global,

@@ -30,7 +30,7 @@ fn pair_text(
     format!(in alloc; " of{size} {of} uf{size} {uf}")
 }
 
-/// The line of the answers for the six window handlers. The only error is too little memory.
+/// The line of the answers for the six window handlers. The only error is running out of memory.
 pub fn handlers_line(alloc: Global, handlers: &Handlers) -> Result<String, AllocError>
     ensures { IfOk result (λ line. string_bytes line ≡ handlers_line handlers.now) }
 {
@@ -87,7 +87,7 @@ fn frames_text(alloc: Global, judged: Judged) -> Result<String, AllocError>
     }
 }
 
-/// The line of what is judged of a run. The only error is too little memory.
+/// The line of what is judged of a run. The only error is running out of memory.
 pub fn frames_line(alloc: Global, judged: Judged) -> Result<String, AllocError>
     ensures { IfOk result (λ line. string_bytes line ≡ frames_line judged) }
 {

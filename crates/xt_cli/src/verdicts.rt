@@ -46,7 +46,7 @@ fn verdict(
     Ok(judged)
 }
 
-/// A run of an image with what is found of it. The only error is too little memory.
+/// A run of an image with what is found of it. The only error is running out of memory.
 ///
 /// Conditions: the image is well formed, and the run is one of this image.
 pub fn judged(alloc: Global, image: &Image, run: Run) -> Result<Whole, AllocError>

@@ -7,9 +7,8 @@ use Rattle.xt_image.specs.declared.image.Image.{Image}
 use Rattle.xt_runs.specs.Schedule.{places_from}
 use Rattle.xt_runs.specs.Scheduled.{HasSchedule}
 use Rattle.xt_runs.specs.Short.{IsRising, IsShortRunOf, ShortRun, short_trace}
-use Rattle.xt_runs.specs.Short as short
 use Rattle.xt_runs.specs.Traces.{Traced}
-use Rattle.xt_runs.proofs.Short.{run_has_schedule}
+use Rattle.xt_runs.proofs.Short.{HasPlaces, run_has_places}
 use Rattle.xt_exec.specs.Chips.{processor}
 use Rattle.xt_exec.specs.State.{State}
 use Rattle.xt_core.specs.Runs.{IsRunOf, StandsFor, code_of, opening_of, records_of}
@@ -31,7 +30,7 @@ has_schedule image r h =
     let z1 = records_of 1 image r in
     let s : ShortRun State = record { history = r.history; trace0 = short_trace z0; trace1 = short_trace z1 } in
     let is : IsShortRunOf P o s = record { legal = h.legal; cores = h.cores; trace0 = refl; trace1 = refl; calls0 = h.calls0; calls1 = h.calls1 } in
-    let has : short.HasSchedule P o s = run_has_schedule P o s is in
+    let has : HasPlaces P o s = run_has_places P o s is in
     let a = traced 0 r.options.turns0 (length (calls_of 0 r.history)) z0 r.trace0 h.trace0 has.turns0 has.rise0 has.calls0 in
     let b = traced 1 r.options.turns1 (length (calls_of 1 r.history)) z1 r.trace1 h.trace1 has.turns1 has.rise1 has.calls1 in
     record {

@@ -160,7 +160,7 @@ impl<W: Windows + Drop> Core<W> {
     ghost use Rattle.xt_core.specs.Runs.{opening_at, turns_of};
 
     /// A core that opens at `pc`, with this core's turns and stack of the options. All memory that its turns need is taken here; the
-    /// only error is too little memory.
+    /// only error is running out of memory.
     ///
     /// Conditions: the core is 0 or 1, the options are valid, and `win` has 64 registers that hold 0, WINDOWBASE 0 and WINDOWSTART 1.
     pub fn make(

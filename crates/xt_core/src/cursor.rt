@@ -36,7 +36,7 @@ impl<'a> Cursor<'a> {
     ghost use Rattle.xt_map.specs.Placing.{IsPlaced};
     ghost use Rattle.xt_core.specs.Runs.{IsRunOf, records_of};
 
-    /// The records of a core of a run of an image. The only error is too little memory; all of it is taken here.
+    /// The records of a core of a run of an image. The only error is running out of memory; all of it is taken here.
     ///
     /// Conditions: the core is 0 or 1, and the run is the image's. The image's segments lie in one region each and share no byte, as
     /// those of every image that was read.

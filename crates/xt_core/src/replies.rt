@@ -13,7 +13,7 @@ use xt_map::{Constants, Entry};
 use xt_trace::StepRecord;
 use xt_window::WindowFile;
 
-// The reply of the first entry of a core, 0 where there is none, and the entries behind it.
+// The reply of the first entry of a core, 0 where there is none, and the entries after it.
 fn reply_in<'a>(entries: &'a [Entry], core: u8) -> (u32, &'a [Entry])
     ensures reply { (a : Access) → result.0 ≡ reply_for (Some a) (replies_of core entries.now) }
     ensures rest { (a : Access) → replies_of core result.1.now ≡ replies_past (Some a) (replies_of core entries.now) }
@@ -29,7 +29,7 @@ fn reply_in<'a>(entries: &'a [Entry], core: u8) -> (u32, &'a [Entry])
     (0, rest)
 }
 
-/// One turn of a core with the reply that the entries have for it, and the entries behind.
+/// One turn of a core with the reply that the entries have for it, and the entries after that one.
 pub fn next_turn<'a>(
     regs: &mut Regs<WindowFile>,
     code: &Constants,

@@ -6,7 +6,7 @@ use Rattle.xt_image.specs.declared.image.Image.{Image}
 use Rattle.xt_debug.specs.declared.script.Command.{Command}
 use Rattle.xt_debug.specs.Scripts.{Outcome, outcome, script_outcome}
 
--- what is printed and where the replay stands, where a command comes behind others
+-- what is printed and where the replay stands, where a command comes after others
 abbrev pub past : Image → Run → Outcome → Command → Outcome
 past image r o c = record { text = o.text ++ (outcome image r c o.position).text; position = (outcome image r c o.position).position }
 

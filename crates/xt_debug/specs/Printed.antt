@@ -41,7 +41,7 @@ abbrev pub byte_text : Option ℕ → List ℕ
 byte_text None = codes " --"
 byte_text (Some byte) = codes " " ++ hex2 byte
 
--- so many bytes from an address on; behind the last address comes the first
+-- so many bytes from an address on; after the last address comes the first
 abbrev pub bytes_text : (ℕ → Option ℕ) → ℕ → ℕ → List ℕ
 bytes_text byte addr zero = []
 bytes_text byte addr (suc n) = byte_text (byte addr) ++ bytes_text byte ((addr + 1) % 2 ^ 32) n

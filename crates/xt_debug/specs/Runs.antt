@@ -11,13 +11,13 @@ Arrives (Some q) old true new = new ≡ moved old q
 Arrives None old false new = new ≡ old
 Arrives _ old _ new = ⊥
 
--- a command was run, and its text appended; after want of memory the position is as before
+-- a command was run, and its text appended; where memory ran out, the position is as before
 abbrev pub Ran :
     {E : Type 0} → Outcome → ReplayState → List ℕ → Result Unit E → ReplayState → List ℕ → Type 0
 Ran o old before (Ok u) new after = (after ≡ before ++ o.text) × (new ≡ moved old o.position)
 Ran o old before (Err e) new after = new ≡ old
 
--- a script was run; after want of memory the replay stands where some of the first commands leave
+-- a script was run; where memory ran out, the replay stands where some of the first commands leave
 -- it
 abbrev pub RanScript :
     {E : Type 0} → List Command → ReplayState → Result (List ℕ) E → ReplayState → Type 0

@@ -19,7 +19,7 @@ abbrev pub first_from : (ℕ → Bool) → ℕ → ℕ → Option ℕ
 first_from test p zero = None
 first_from test p (suc n) = if test p then Some p else first_from test (suc p) n
 
--- the position behind a run's last step
+-- the position after a run's last step
 abbrev pub end_of : Run → ℕ
 end_of r = length (schedule_in r)
 

@@ -51,7 +51,7 @@ fn of_core(core: u8, found: Option<(u32, u32)>) -> Option<u32>
 
 /// How many frames of callers a core has after the judged steps before the position of a replay;
 /// none where the window handlers do not pass their check, or a breach comes before it. The only
-/// error is too little memory.
+/// error is running out of memory.
 ///
 /// Condition: the core is 0 or 1.
 #[tactic(auto, unfolding(crate::specs::Depths::depth_at))]

@@ -123,7 +123,7 @@ fn is_blank(text: &[u8]) -> bool
 ///
 /// Each number is decimal digits, or `0x` and one to eight hexadecimal digits, below 2^32; C is 0 or 1, and the N of `mem`
 /// at most 64. A text of no bytes but spaces is the script with no command; otherwise a command without words is no
-/// command. `Bad` says that the text is no script, `Memory` is too little memory alone.
+/// command. `Bad` says that the text is no script, `Memory` says only that memory ran out.
 #[tactic(auto, unfolding(crate::specs::Grammar::script_of))]
 pub fn parse_script(alloc: Global, text: &str) -> Result<Script, ScriptFault>
     ensures means { Reads result (script_of text.now) }

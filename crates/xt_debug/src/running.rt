@@ -101,18 +101,18 @@ fn run_command(
 /// - `go C N` moves directly before step N of core C, as `Replay::goto`; `next N` and `back N` move
 ///   by N positions. Each prints `past end`, and moves nowhere, where the run has no such position.
 /// - `break C ADDR` moves to the first later position where core C is next, with this program
-///   counter; `watch ADDR` directly behind the first step from here on that stores into the word at
+///   counter; `watch ADDR` directly after the first step from here on that stores into the word at
 ///   this address, in a memory region. Each prints `none`, and moves nowhere, where there is none.
 /// - `regs C` prints `core C step N pc ADDR ps WORD wb D ws HHHH`, with the number of the core's
 ///   next step, and four lines `aI` with four registers each.
-/// - `mem ADDR N` prints `mem ADDR` and N bytes, `--` for one outside memory and constants; behind
+/// - `mem ADDR N` prints `mem ADDR` and N bytes, `--` for one outside memory and constants; after
 ///   the last address comes the first.
 /// - `frames C` prints `frames C depth D`, the number of frames of callers after the judged steps
 ///   before the position, or `frames C none` where the window handlers do not pass their check or a
 ///   breach of the stack discipline comes before it.
 ///
 /// Each line ends with a newline. Addresses, words and registers are eight upper-case hexadecimal
-/// digits, WINDOWSTART four, a byte two; other numbers are decimal. The only error is too little
+/// digits, WINDOWSTART four, a byte two; other numbers are decimal. The only error is running out of
 /// memory; the replay then stands where some of the first commands leave it.
 ///
 /// Condition: each core is 0 or 1, and each N of `mem` at most 64, as in every script that was

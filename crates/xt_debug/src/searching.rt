@@ -8,7 +8,7 @@ ghost use Rattle.xt_debug.specs.Searches.{break_position, end_of, is_next, store
 use xt_map::{Entry, Kind, is_in_memory};
 use xt_replay::Replay;
 
-/// The position behind a run's last step.
+/// The position after a run's last step.
 pub fn end_of(replay: &Replay) -> u32
     ensures { result ≡ end_of replay.now.run }
 {
@@ -88,7 +88,7 @@ fn step_stores(replay: &mut Replay, addr: u32, next: u32) -> bool
     before < after && any_stores(addr, &replay.run().history.as_slice()[before..after])
 }
 
-/// Moves directly behind the first step from here on that stores into the word at this address.
+/// Moves directly after the first step from here on that stores into the word at this address.
 /// Where there is none, nothing changes.
 pub fn find_store(replay: &mut Replay, addr: u32) -> bool
     ensures { Arrives (watch_position replay.old.image replay.old.run addr replay.old.position) replay.old result replay.new }

@@ -1,4 +1,4 @@
--- Operands behind a mnemonic, one after another.
+-- Operands after a mnemonic, one after another.
 use Rattle.std.proofs.Common.{◌≡◌, ℕ, ◌≤◌, List, [], ◌∷◌, ◌++◌, length, take, map, refl, ap, ◌∙◌, append_assoc}
 use Rattle.std.proofs.lemmas.List.{take_all}
 use Rattle.std.specs.Prelude.{codes}
@@ -7,7 +7,7 @@ use Rattle.xt_disasm.specs.Listing.{arguments}
 use Rattle.xt_disasm.specs.Operands.{operand_text}
 use Rattle.xt_disasm.specs.declared.operand.Operand.{Operand}
 
--- the operands behind the first, each behind a comma and a space
+-- the operands after the first, each after a comma and a space
 abbrev pub behind : List Operand → List ℕ
 behind xs = flat_map (λ o. codes ", " ++ operand_text o) xs
 
@@ -15,7 +15,7 @@ behind-map : (xs : List Operand) → behind xs ≡ flat_map (λ y. codes ", " ++
 behind-map [] = refl
 behind-map (x ∷ xs) = ap (λ rest. (codes ", " ++ operand_text x) ++ rest) (behind-map xs)
 
--- a space, the first operand, and those behind it
+-- a space, the first operand, and those after it
 pub joined : (old : List ℕ) (x : Operand) (others : List Operand) (k : ℕ) → length others ≤ k
     → ((old ++ codes " ") ++ operand_text x) ++ behind (take k others) ≡ old ++ arguments (map operand_text (x ∷ others))
 joined old x others k all =

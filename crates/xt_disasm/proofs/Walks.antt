@@ -35,7 +35,7 @@ enough (suc n) (suc m) pc (b ∷ bytes) a c =
     let some : 0 < k = front_length-positive (b ∷ bytes) in
     ap (λ rest. code_line pc (b ∷ bytes) ++ rest) (enough n m _ (drop k (b ∷ bytes)) (fewer k n b bytes some a) (fewer k m b bytes some c))
 
--- the lines of some bytes: their first line, and the lines of the bytes behind it
+-- the lines of some bytes: their first line, and the lines of the bytes after it
 pub first_line : (pc : ℕ) (bytes : List ℕ) → 0 < length bytes
     → code_lines pc bytes ≡ code_line pc bytes ++ code_lines ((pc + front_length bytes) % 2 ^ 32) (drop (front_length bytes) bytes)
 unfolding code_lines
@@ -45,7 +45,7 @@ first_line pc (b ∷ bytes) some =
     let shown : 0 < k = front_length-positive (b ∷ bytes) in
     ap (λ rest. code_line pc (b ∷ bytes) ++ rest) (enough (length bytes) (length (drop k (b ∷ bytes))) _ (drop k (b ∷ bytes)) (fewer k (length bytes) b bytes shown (omega arith)) (omega arith))
 
--- a line more: what is printed before, the first line of what is left, and the lines behind it
+-- a line more: what is printed before, the first line of what is left, and the lines after it
 pub one_line_more : (old new whole : List ℕ) (pc n : ℕ) (bytes : List ℕ) → 0 < length bytes → n ≡ front_length bytes
     → new ≡ old ++ code_line pc bytes → old ++ code_lines pc bytes ≡ whole
     → new ++ code_lines ((pc + n) % 2 ^ 32) (drop n bytes) ≡ whole

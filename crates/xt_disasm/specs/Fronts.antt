@@ -1,4 +1,5 @@
--- What the code answers for the front of some bytes.
+-- Carries a proof; nothing that a reader must believe.
+-- What the code answers for the instruction that some bytes begin with.
 use Rattle.std.specs.Prelude.{ℕ, ◌≡◌, ◌≤◌, List, length, Option, Some, None}
 use Rattle.xt_isa.specs.declared.Insn.{Insn}
 use Rattle.xt_disasm.specs.Listing.{front, wanted}

@@ -21,7 +21,7 @@ use Rattle.xt_disasm.specs.Operands.{operand_text, operands}
 
 -- ---- an instruction
 
--- the operands behind a mnemonic: a space, and the operands with a comma and
+-- the operands after a mnemonic: a space, and the operands with a comma and
 -- a space between each two
 abbrev pub arguments : List (List ℕ) → List ℕ
 arguments [] = []

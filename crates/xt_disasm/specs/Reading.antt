@@ -1,3 +1,4 @@
+-- States laws that are proved; nothing that a reader must believe.
 -- The text of an instruction is read back.
 use Rattle.std.specs.Prelude.{◌≡◌, ℕ, ◌+◌, ◌^◌, ◌≤◌, true, pos, List, map, Option, Some, Result, Ok}
 use Rattle.std.specs.Option.{option_and_then, option_map}

@@ -147,8 +147,8 @@ fn push_segment(out: &mut String, number: usize, segment: &Segment) -> Result<()
     Ok(())
 }
 
-/// The listing of an image: a line for each segment, and behind that of a segment with code the lines of a walk from its
-/// first byte. The only error is want of memory.
+/// The listing of an image: a line for each segment, and after that of a segment with code the lines of a walk from its
+/// first byte. The only error is running out of memory.
 ///
 /// ```text
 /// segment I ADDR LENGTH REGION

@@ -38,7 +38,7 @@ fn push_operand(out: &mut String, operand: Operand) -> Result<(), AllocError>
     }
 }
 
-/// Appends the operands behind a mnemonic: a space, and the operands with `, ` between each two; nothing where there are
+/// Appends the operands after a mnemonic: a space, and the operands with `, ` between each two; nothing where there are
 /// none.
 pub fn push_operands(out: &mut String, operands: &[Operand]) -> Result<(), AllocError>
     ensures { OnOk result (string_bytes out.new ≡ string_bytes out.old ++ arguments (map operand_text operands.now)) }

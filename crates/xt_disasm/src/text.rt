@@ -98,7 +98,7 @@ pub fn push_insn(out: &mut String, i: Insn, pc: u32) -> Result<(), AllocError>
 }
 
 /// The text of the instruction that stands at the address `pc`: the mnemonic, and the operands in the order of assembly
-/// text, with the address of a target in eight digits, as in `beqz a2, 0x400D0010`. The only error is want of memory.
+/// text, with the address of a target in eight digits, as in `beqz a2, 0x400D0010`. The only error is running out of memory.
 ///
 /// Condition: each operand is in its range, as `xt_codec::fits` says.
 pub fn insn_text(alloc: Global, i: &Insn, pc: u32) -> Result<Text, AllocError>

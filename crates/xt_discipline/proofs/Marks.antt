@@ -42,7 +42,7 @@ pub some_same : (f g : ℕ → Bool) → ((a : ℕ) → f a ≡ g a) → (addr n
 some_same f g h addr zero = refl
 some_same f g h addr (suc n) = ap (λ (b : Bool). b || some_byte f (addr + 1) n) (h addr) ∙ ap (λ (b : Bool). g addr || b) (some_same f g h (addr + 1) n)
 
--- at the byte behind the first k
+-- at the byte after the first k
 pub some_at : (f : ℕ → Bool) (addr size k : ℕ) → k < size → some_byte f (addr + k) (size - k) ≡ (f (addr + k) || some_byte f (addr + (k + 1)) (size - (k + 1)))
 some_at f addr size k h =
     let e : size - k ≡ suc (size - (k + 1)) = omega arith in

@@ -1,4 +1,4 @@
--- How many frames of callers the cores have behind the first steps of a run ('profile').
+-- How many frames of callers the cores have after the first steps of a run ('profile').
 use Rattle.std.specs.Prelude.{ℕ, if◌then◌else◌, Bool, Option, Some, None, List, length, take}
 use Rattle.xt_map.specs.Memory.{constant_byte}
 use Rattle.xt_trace.specs.declared.record.StepRecord.{StepRecord}

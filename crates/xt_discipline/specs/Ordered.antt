@@ -23,7 +23,7 @@ pub record AreLeft (entries : List Entry) (z w : Stretch) : Type 0 where
 abbrev pub IsOrder : Order → Type 0
 IsOrder o = AreLeft o.entries.now o.zero o.one
 
--- the turns behind those that come first, and all
+-- the turns after those that come first, and all
 abbrev pub turns_behind : Order → List ℕ
 turns_behind o = schedule_from (cores_of o.entries.now)
     o.zero.past o.zero.places.now o.zero.count o.one.past o.one.places.now o.one.count

@@ -32,7 +32,7 @@ fn depths_at(walk: &Walk, judged: Judged) -> Option<(u32, u32)>
     }
 }
 
-/// How many frames of callers core 0 and core 1 have behind the records of a run that come in this
+/// How many frames of callers core 0 and core 1 have after the records of a run that come in this
 /// order, from here on; none where a breach comes.
 fn depths_behind<R: Records>(
     walk: &mut Walk,
@@ -57,7 +57,7 @@ fn depths_behind<R: Records>(
 /// How many frames of callers core 0 and core 1 of a run of an image have after the judged ones of
 /// its first `position` steps, in the order of the run's schedule, where the cores have these
 /// records: none where some window handler does not pass the check, or a breach comes in those
-/// steps. The only error is too little memory.
+/// steps. The only error is running out of memory.
 ///
 /// Conditions: as of `judge`, and the position is at most the length of the schedule.
 pub fn depths<R: Records>(

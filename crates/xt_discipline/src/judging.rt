@@ -39,8 +39,8 @@ pub fn are_yes(handlers: &Handlers) -> bool
         && is_yes(handlers.uf12)
 }
 
-/// The answers for the six window handlers of an image from `vecbase` on. The only error is too
-/// little memory.
+/// The answers for the six window handlers of an image from `vecbase` on. The only error is running
+/// out of memory.
 ///
 /// Conditions: `vecbase` is a multiple of 1024. The image's segments lie in one region each and share no byte, as those of every image
 /// that was read.
@@ -54,8 +54,8 @@ pub fn handlers_of(alloc: Global, image: &Image, vecbase: u32) -> Result<Handler
 }
 
 /// What is judged of a run of an image, whose cores have these records: nothing where some window handler does not pass the check;
-/// else the first breach in the order of the run's schedule, handler steps left out, if a judged step shows one. The only error is too
-/// little memory.
+/// else the first breach in the order of the run's schedule, handler steps left out, if a judged step shows one. The only error is
+/// running out of memory.
 ///
 /// Conditions: the run has a schedule. The image's segments lie in one region each and share no byte, as those of every image that was
 /// read. Where a core has fewer records than its turns, the walk ends with its last one.

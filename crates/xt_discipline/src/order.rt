@@ -123,7 +123,7 @@ impl<'a> Order<'a> {
     }
 
     // Passes the turns of one core that come next in a row: the core, and how many. There are none
-    // behind the last turn.
+    // after the last turn.
     fn piece(&mut self) -> (u8, u32)
         requires { IsOrder self.old }
         ensures { IsPiece self.old self.new result.0 result.1 }
@@ -176,7 +176,7 @@ fn written(alloc: Global, run: &Run) -> Result<Vec<u8>, AllocError>
 
 /// The schedule of a run: for each entry of the history in order, the turns of its core after its
 /// previous access, up to and with this one; then the rest of core 0's turns, and then the rest of
-/// core 1's. The only error is too little memory.
+/// core 1's. The only error is running out of memory.
 ///
 /// Condition: the run has a schedule.
 #[tactic(auto, using(crate::proofs::Orders::of_cores))]

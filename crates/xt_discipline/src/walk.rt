@@ -110,7 +110,7 @@ fn turn_of<R: Records>(
 }
 
 impl Walk {
-    /// Both cores as they open. The only error is too little memory; all of it is taken here.
+    /// Both cores as they open. The only error is running out of memory; all of it is taken here.
     pub fn open(
         alloc: Global,
         code: Constants,

@@ -92,7 +92,7 @@ is_taken first behind r t =
     and_from (not (is_device r.region)) (nat_le r.first first && nat_le behind (r.last + 1)) (is_no_device (is_device r.region) t.device)
     (and_from (nat_le r.first first) (nat_le behind (r.last + 1)) (is_at_least r.first first t.low) (is_at_least behind (r.last + 1) t.high))
 
--- the addresses from a first one up to the one behind the last are all of one region, which is no device
+-- the addresses from a first one up to the one after the last are all of one region, which is no device
 pub record InRegion (first behind : ℕ) : Type 0 where
   pub region : Region
   pub device : is_device region ≡ false
@@ -158,7 +158,7 @@ by_region first last RtcFastCode device p q = at_range first last 6 (omega arith
 by_region first last Irom device p q = at_range first last 7 (omega arith) (take_range first last (range Irom 0x400D0000 0x403FFFFF) refl (irom_range first p).0 (irom_range last q).1)
 by_region first last RtcSlow device p q = at_range first last 8 (omega arith) (take_range first last (range RtcSlow 0x50000000 0x50001FFF) refl (rtc_slow_range first p).0 (rtc_slow_range last q).1)
 
--- ---- both ways
+-- ---- in both directions
 
 same_answer : (x y : Bool) → (x ≡ true → y ≡ true) → (y ≡ true → x ≡ true) → x ≡ y
 same_answer true y f g = sym (f refl)

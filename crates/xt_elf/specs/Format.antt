@@ -28,7 +28,7 @@ elf_image bytes = record {
   segments = map (segment_of bytes) (filter is_loaded_header (headers_of bytes));
 }
 
--- the image where no rule fails, else the first fault; too little memory aside
+-- the image where no rule fails, else the first fault, unless memory ran out
 abbrev pub Converts : Result Image ElfFault → List ℕ → Type 0
 Converts (Ok image) bytes = (elf_fault bytes ≡ None) × (image ≡ elf_image bytes)
 Converts (Err e) bytes = e ≢ Memory → elf_fault bytes ≡ Some e

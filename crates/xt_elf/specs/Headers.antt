@@ -41,7 +41,7 @@ header_at bytes place = record {
   memory_size = word_at bytes (place + 20);
 }
 
--- so many, one behind another from a place on
+-- so many, one after another from a place on
 unfoldable pub headers_from : ℕ → List ℕ → ℕ → List Header
 headers_from zero bytes place = []
 headers_from (suc n) bytes place = header_at bytes place ∷ headers_from n bytes (place + 32)

@@ -51,7 +51,7 @@ file_rules bytes =
 
 -- ---- the program headers
 
--- the bytes in the file end behind a place
+-- the bytes in the file end after a place
 abbrev pub ends_behind : ℕ → Header → Bool
 ends_behind end h = is_loaded_header h && nat_lt end (h.offset + h.file_size)
 
@@ -63,11 +63,11 @@ is_larger_in_file h = h.kind == 1 && nat_lt h.memory_size h.file_size
 abbrev pub padding : ℕ → ℕ
 padding n = (4 - n % 4) % 4
 
--- the address behind the last byte, padding included
+-- the address after the last byte, padding included
 abbrev pub padded_end : Header → ℕ
 padded_end h = h.addr + (h.file_size + padding h.file_size)
 
--- all addresses from a first one up to the one behind the last are in the
+-- all addresses from a first one up to the one after the last are in the
 -- range, and it is no device
 abbrev pub takes : ℕ → ℕ → Range → Bool
 takes first behind r =

@@ -4,11 +4,11 @@ ghost use Rattle.xt_elf.specs.declared.fault.ElfFault.TheVariants.{Memory};
 use std::alloc::{AllocError, AllocFailed};
 use thiserror::Error;
 
-/// The first rule of an ELF executable that a file breaks, in the order of the rules, or want of
-/// memory.
+/// The first rule of an ELF executable that a file breaks, in the order of the rules, or running
+/// out of memory.
 ///
 /// Program headers are counted from 0, all of them. A loaded one has type 1 and a file size above
-/// 0. The padded bytes of a header are those at its virtual address with zeros behind them up to a
+/// 0. The padded bytes of a header are those at its virtual address with zeros after them up to a
 /// multiple of 4.
 #[derive(Clone, Copy, Debug, PartialEq, Eq, Error)]
 pub enum ElfFault {

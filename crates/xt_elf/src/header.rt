@@ -63,7 +63,7 @@ pub(crate) fn padding(size: u32) -> usize
     ((4 - size % 4) % 4) as usize
 }
 
-/// The address behind the last byte of a header, padding included.
+/// The address after the last byte of a header, padding included.
 pub(crate) fn padded_end(header: &Header) -> u64
     ensures { result ≡ padded_end header.now }
 {

@@ -48,7 +48,7 @@ pub(crate) fn file_fault(bytes: &[u8]) -> Option<ElfFault>
     None
 }
 
-// The first loaded header whose bytes end behind this place.
+// The first loaded header whose bytes end after this place.
 fn first_ending_behind(end: usize, headers: &[Header]) -> Option<usize>
     ensures { result ≡ position (ends_behind end) headers.now }
 {

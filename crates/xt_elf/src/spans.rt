@@ -5,7 +5,7 @@ ghost use Rattle.xt_elf.specs.Spans.{AreApart, AreInARow, HasSpans};
 use crate::header::{Header, is_loaded, padded_end};
 use std::alloc::{AllocError, Global};
 
-// The addresses that the padded bytes of a header take: the first, and the one behind the last.
+// The addresses that the padded bytes of a header take: the first, and the one after the last.
 #[derive(Clone, Copy)]
 struct Span {
     begins: u32,

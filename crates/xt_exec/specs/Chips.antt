@@ -1,4 +1,4 @@
--- The processor as traces and runs see it.
+-- The processor as traces and runs see it ('profile').
 use Rattle.std.specs.Prelude.{◌≡◌, ℕ, Option, Some}
 use Rattle.std.proofs.Common.{refl, ap}
 use Rattle.xt_map.specs.declared.access.Access.{Access}

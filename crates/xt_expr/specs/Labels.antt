@@ -1,4 +1,4 @@
--- The labels of an assembly text (profile).
+-- The labels of an assembly text ('profile').
 use Rattle.std.specs.Prelude.{ℕ, ℤ, Bool, List, Option, find, slice_get, option_and_then}
 use Rattle.std.specs.Option.{option_map}
 use Rattle.std.specs.Str.{bytes_eq}

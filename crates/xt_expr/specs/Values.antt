@@ -1,4 +1,4 @@
--- The value of an expression of the assembly language (profile): a sum of whole
+-- The value of an expression of the assembly language ('profile'): a sum of whole
 -- numbers, which do not wrap.
 use Rattle.std.specs.Prelude.{ℕ, ℤ, pos, ◌+ℤ◌, ◌-ℤ◌, ◌≤ℤ◌, ◌<ℤ◌, ◌^◌, Bool, if◌then◌else◌, List, []}
 use Rattle.std.specs.Prelude.{◌∷◌, Option, Some, None, Result, Ok, Err, All}

@@ -44,7 +44,7 @@ impl Model for Labels {
 }
 
 // The place of each name's first label: the labels are gone through from the last to the first, and each takes the place
-// of those behind it.
+// of those after it.
 fn places(alloc: Global, items: &[Label]) -> Result<BTreeMap<Name, usize>, AllocError>
     ensures { IfOk result (λ found. (q : List ℕ) → label_at items.now (get (slice_cmp nat_cmp) found q) ≡ first_label q items.now) }
 {

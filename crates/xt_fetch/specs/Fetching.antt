@@ -17,7 +17,7 @@ pub data Fetched : Type 0 where
 abbrev pub can_fetch : ℕ → Bool
 can_fetch a = is_executable (region_of a)
 
--- an address and the two behind it lie in one of the two large executable regions
+-- an address and the two after it lie in one of the two large executable regions
 abbrev pub is_inside : ℕ → Bool
 is_inside a =
     nat_le 0x40070000 a && nat_le (a + 2) 0x4009FFFF

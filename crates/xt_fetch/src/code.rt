@@ -18,7 +18,7 @@ pub fn code_byte(code: &Constants, addr: u32) -> u8
     }
 }
 
-/// The bytes of the constant regions at an address and at the two behind it, 0 elsewhere.
+/// The bytes of the constant regions at an address and at the two after it, 0 elsewhere.
 #[tactic(auto, unfolding(xt_map::specs::Regions::region_of))]
 #[inline(always)]
 pub fn code_three(code: &Constants, addr: u32) -> (u8, u8, u8)

@@ -48,7 +48,7 @@ pub fn unfetchable(addr: u32, len: u8) -> Option<u32>
     unfetchable(addr + 1, len - 1)
 }
 
-/// Whether an address and the two behind it lie in one of the two large executable regions, so that
+/// Whether an address and the two after it lie in one of the two large executable regions, so that
 /// each of the three bytes can be fetched.
 #[tactic(auto, unfolding(xt_map::specs::Regions::region_of))]
 #[inline(always)]

@@ -4,9 +4,8 @@ use Rattle.xt_frames.specs.declared.view.Caller.{Caller}
 use Rattle.xt_frames.specs.Frames.{known, opening_seen}
 use Rattle.std.specs.Prelude.{option_to_list, MatchOption}
 use Rattle.std.proofs.lemmas.List.{length-append}
-use Rattle.xt_frames.specs.Parts.{Upper, frames_of, without_newest}
+use Rattle.xt_frames.specs.Parts.{AreKept, Upper, frames_of, without_newest}
 use Rattle.xt_frames.specs.Stacks.{IsRange, Stack}
-use Rattle.xt_frames.specs.Walked.{AreKept}
 use Rattle.xt_frames.proofs.Newest.{frames_length, frames_none, frames_snoc}
 use Rattle.xt_frames.proofs.Stacked.{chain_depth, chain_top, opening_stack}
 

@@ -17,8 +17,7 @@ use Rattle.xt_frames.specs.declared.kinds.BreachKind.{BreachKind}
 use Rattle.xt_frames.specs.declared.breach.Tested.{Tested}
 use Rattle.xt_frames.specs.Frames.{FrameState}
 use Rattle.xt_frames.specs.Breaches.{Bounds, test, some_byte, touches_save_area, loads_stale, laid_breach, first_shown, vector_test}
-use Rattle.xt_frames.specs.Parts.{IsPlan}
-use Rattle.xt_frames.specs.Walked.{shown_test}
+use Rattle.xt_frames.specs.Parts.{IsPlan, shown_test}
 
 pub row : {A : Type 0} {x y : A} {xs ys : List A} → x ≡ y → xs ≡ ys → (x ∷ xs) ≡ (y ∷ ys)
 row p q = cc

@@ -1,11 +1,14 @@
 -- Carries a proof; nothing that a reader must believe.
 -- How the program keeps a frame state, and what its functions answer.
-use Rattle.std.specs.Prelude.{◌≡◌, ℕ, ◌*◌, ◌<◌, ◌≤◌, true, false, Option, Some, None, List, []}
-use Rattle.std.specs.Prelude.{◌∷◌, map, reverse, take}
+use Rattle.std.specs.Prelude.{◌≡◌, ℕ, ◌+◌, ◌-◌, ◌*◌, ◌/◌, ◌<◌, ◌≤◌, Bool, true, false, Option, Some}
+use Rattle.std.specs.Prelude.{None, List, [], ◌∷◌, map, reverse, take}
 use Rattle.xt_special.specs.Control.{Control}
 use Rattle.xt_special.specs.Interrupts.{pending_of}
+use Rattle.xt_trace.specs.declared.record.StepRecord.{StepRecord}
 use Rattle.xt_fetch.specs.Fetching.{fetched}
 use Rattle.xt_codec.specs.Fetches.{IsFetched, IsGoodFetch}
+use Rattle.xt_frames.specs.declared.breach.Tested.{Tested}
+use Rattle.xt_frames.specs.declared.breach.Case.{Case}
 use Rattle.xt_frames.specs.declared.view.Caller.{Caller}
 use Rattle.xt_frames.specs.declared.view.Call.{Call}
 use Rattle.xt_frames.specs.declared.view.Call.TheVariants.{Stays, Calls, Returns}
@@ -14,6 +17,9 @@ use Rattle.xt_frames.specs.declared.view.Plan.{Plan}
 use Rattle.xt_frames.specs.declared.view.Plan.TheVariants as plan
 use Rattle.xt_frames.specs.Frames.{Frame, FrameState}
 use Rattle.xt_frames.specs.FrameStep.{FrameTurn}
+use Rattle.xt_frames.specs.SaveAreas.{before}
+use Rattle.xt_frames.specs.Breaches.{Test, loads_stale, touches_save_area}
+use Rattle.xt_frames.specs.Stacks as stacks
 
 -- ---- a frame state is kept as a view and the callers, the oldest first
 
@@ -78,3 +84,25 @@ abbrev pub IsGood : Plan → Type 0
 IsGood (plan.Interrupt level) = Unit {0}
 IsGood plan.Waits = Unit {0}
 IsGood (plan.Fetched f) = IsGoodFetch f
+
+-- ---- tests, as the program lists them
+
+abbrev pub shown_test : Tested → Test
+shown_test t = record { kind = t.kind; shown = t.shown }
+
+abbrev pub shown_tests : List Tested → List Test
+shown_tests tests = map shown_test tests
+
+-- what a step is tested by
+pub record IsCase
+    (case : Case) (rec : StepRecord) (frames : List Frame) (live stale : ℕ → Bool) : Type 0 where
+  pub saves : touches_save_area live rec.access ≡ case.saves
+  pub stale_load : loads_stale live stale rec.access ≡ case.stale
+  pub newest : IsNewest case.newest frames
+  pub under : case.under ≡ before case.limits.hi frames
+
+-- ---- the callers as they are kept: their frames are on the stack, and there is room for
+-- all that can stand there
+pub record AreKept (lo hi : ℕ) (v : Upper) (callers : List Caller) (capacity : ℕ) : Type 0 where
+  pub stack : stacks.Stack lo hi v.seen (frames_of callers)
+  pub room : (hi - lo) / 16 + 2 ≤ capacity

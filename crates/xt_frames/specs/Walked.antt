@@ -1,25 +1,20 @@
--- What a contract sees of a core of the machine with unbounded frames, and what its
--- functions answer ('profile').
-use Rattle.std.specs.Prelude.{◌≡◌, ℕ, zero, suc, true, ◌+◌, ◌-◌, ◌/◌, ◌≤◌, Bool, ◌&&◌, ◌==◌, Option}
-use Rattle.std.specs.Prelude.{Some, None, Result, Ok, Err, List, [], ◌∷◌, length, map}
+-- What a contract sees of a core of the machine with unbounded frames, and what its functions
+-- answer ('profile').
+use Rattle.std.specs.Prelude.{◌≡◌, ℕ, zero, suc, true, ◌+◌, ◌-◌, Bool, ◌&&◌, ◌==◌, Option, Some}
+use Rattle.std.specs.Prelude.{None, Result, Ok, Err, List, [], ◌∷◌, length}
 use Rattle.xt_trace.specs.declared.options.Options.{Options}
 use Rattle.xt_trace.specs.declared.options.Stack.{Stack}
 use Rattle.xt_trace.specs.declared.record.StepRecord.{StepRecord}
 use Rattle.xt_frames.specs.declared.kinds.Breach.{Breach}
 use Rattle.xt_frames.specs.declared.kinds.BreachKind.{BreachKind}
 use Rattle.xt_frames.specs.declared.breach.Limits.{Limits}
-use Rattle.xt_frames.specs.declared.breach.Tested.{Tested}
-use Rattle.xt_frames.specs.declared.breach.Case.{Case}
-use Rattle.xt_frames.specs.declared.view.Caller.{Caller}
 use Rattle.xt_frames.specs.Frames.{Frame, FrameState, known, opening_frame}
-use Rattle.xt_frames.specs.SaveAreas.{before, sp_of}
-use Rattle.xt_frames.specs.Breaches.{Bounds, Test, breach_of, loads_stale, touches_save_area}
+use Rattle.xt_frames.specs.SaveAreas.{sp_of}
+use Rattle.xt_frames.specs.Breaches.{Bounds, breach_of}
 use Rattle.xt_frames.specs.Judging.{fresh_on, step_on}
-use Rattle.xt_frames.specs.Stacks as stacks
-use Rattle.xt_frames.specs.Parts.{Upper, frames_of, IsNewest}
 
 -- a core: its number, what it is judged by, its frame state, whether EPC1 has what was last
--- written, and the number of the record behind the last judged one
+-- written, and the number of the record after the last judged one
 pub record Walked : Type 0 where
   pub core : ℕ
   pub bounds : Bounds
@@ -58,28 +53,6 @@ abbrev pub found_in :
     Walked → (ℕ → ℕ) → (ℕ → Bool) → (ℕ → Bool) → ℕ → StepRecord → Option BreachKind
 found_in w code live stale index rec =
     breach_of w.bounds (fresh_before w index) code live stale rec w.state
-
--- ---- tests, as the program lists them
-
-abbrev pub shown_test : Tested → Test
-shown_test t = record { kind = t.kind; shown = t.shown }
-
-abbrev pub shown_tests : List Tested → List Test
-shown_tests tests = map shown_test tests
-
--- what a step is tested by
-pub record IsCase
-    (case : Case) (rec : StepRecord) (frames : List Frame) (live stale : ℕ → Bool) : Type 0 where
-  pub saves : touches_save_area live rec.access ≡ case.saves
-  pub stale_load : loads_stale live stale rec.access ≡ case.stale
-  pub newest : IsNewest case.newest frames
-  pub under : case.under ≡ before case.limits.hi frames
-
--- ---- the callers as they are kept: their frames are on the stack, and there is room for
--- all that can stand there
-pub record AreKept (lo hi : ℕ) (v : Upper) (callers : List Caller) (capacity : ℕ) : Type 0 where
-  pub stack : stacks.Stack lo hi v.seen (frames_of callers)
-  pub room : (hi - lo) / 16 + 2 ≤ capacity
 
 -- ---- a core as it opens, and its frames by number
 

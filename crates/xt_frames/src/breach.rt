@@ -11,8 +11,8 @@ ghost use Rattle.xt_frames.specs.SaveAreas.{Range, before};
 ghost use Rattle.xt_frames.specs.FrameStep.{laid_step};
 ghost use Rattle.xt_frames.specs.Breaches.{fetched_return_breach, first_shown, fresh_after, has_no_caller, insn_tests, is_in_vectors, is_movsp, is_return, is_sp, is_windowing, laid_breach, leaves_range, may_write_sp, misaligns_sp, moves_vectors, names_high, names_window_register, opens_nothing, other_frame_size, other_tests, reads_epc1, reads_lost, reads_none, returns_elsewhere, sets_epc1, small_frame, vector_test, window_breach, writes_epc1, writes_sp};
 ghost use Rattle.xt_frames.specs.declared.view.Step.{Step};
-ghost use Rattle.xt_frames.specs.Parts.{IsGood, IsNewest, IsPlan, Upper, state_at, turn_as};
-ghost use Rattle.xt_frames.specs.Walked.{IsCase, bounds_of, shown_tests};
+ghost use Rattle.xt_frames.specs.Parts.{IsCase, IsGood, IsNewest, IsPlan, Upper, shown_tests, state_at, turn_as};
+ghost use Rattle.xt_frames.specs.Walked.{bounds_of};
 
 use crate::kinds::BreachKind;
 use crate::view::{Caller, Plan, Step, View};

@@ -21,7 +21,7 @@ use xt_map::Constants;
 use xt_trace::{Options, Stack as Range, StepRecord};
 
 /// A core of the machine with unbounded frames, as it walks over the judged records of its core. Contracts see its number, its stack
-/// range and VECBASE, its frame state, whether EPC1 has what was last written, and the number of the record behind the last judged
+/// range and VECBASE, its frame state, whether EPC1 has what was last written, and the number of the record after the last judged
 /// one.
 ///
 /// Its stack pointers lie in a chain, so that the frames that can stand on its stack are few, and there is room for all of them.
@@ -34,14 +34,14 @@ pub struct Frames {
     callers: Vec<Caller>,
     // Whether EPC1 has what was last written.
     fresh: bool,
-    // The number of the record behind the last judged one.
+    // The number of the record after the last judged one.
     next: u64,
 }
 
 impl Model for Frames {
     ghost use Rattle.std.specs.Prelude.{vec_capacity};
-    ghost use Rattle.xt_frames.specs.Parts.{frames_of, state_at};
-    ghost use Rattle.xt_frames.specs.Walked.{AreKept, Walked, bounds_of};
+    ghost use Rattle.xt_frames.specs.Parts.{AreKept, frames_of, state_at};
+    ghost use Rattle.xt_frames.specs.Walked.{Walked, bounds_of};
 
     ghost Value = { Walked };
 
@@ -52,7 +52,7 @@ impl Model for Frames {
 
 impl Frames {
     /// A core as it opens, at `pc`. It takes all memory that its frames ever need: room for (HI - LO)/16 + 2 of them. The only error
-    /// is too little memory.
+    /// is running out of memory.
     ///
     /// Conditions: the core is 0 or 1, `vecbase` is a multiple of 1024, and the core's stack range is one of multiples of 16 below
     /// 2^30, of 256 bytes at least.

@@ -5,8 +5,7 @@ ghost use Rattle.std.specs.Prelude.{◌≡◌, ℕ, Bool, IfOk, List};
 ghost use Rattle.xt_map.specs.Memory.{constant_byte};
 ghost use Rattle.xt_frames.specs.Frames.{Frame};
 ghost use Rattle.xt_frames.specs.Stacks.{Stack};
-ghost use Rattle.xt_frames.specs.Parts.{IsSmall};
-ghost use Rattle.xt_frames.specs.Walked.{IsCase};
+ghost use Rattle.xt_frames.specs.Parts.{IsCase, IsSmall};
 ghost use Rattle.xt_frames.specs.Stepped.{IsDone, IsKept, found_by};
 
 use crate::breach::{Case, breach_of, fresh_after};
@@ -42,7 +41,7 @@ pub fn judge(
     view.lay(rec);
     // (so that what CALLINC can be is known)
     let _by = view.callinc();
-    // The breaches are tested on the state before the step and on the one behind it.
+    // The breaches are tested on the state before the step and on the one after it.
     let before = *view;
     let plan = before.plan(code);
     let step = view.step(code, plan, rec.reply, &case.newest);

@@ -33,7 +33,7 @@ unfolding words_from
 words_small zero x = tt
 words_small (suc count) x = (byte_small _, (byte_small _, (byte_small _, (byte_small _, words_small count (next x)))))
 
--- ---- the loop: so many words are left, and stand behind those that were put there
+-- ---- the loop: so many words are left, and stand after those that were put there
 
 abbrev pub Left : ℕ → ℕ → List ℕ → List ℕ → Type 0
 Left word x bytes whole = (left : ℕ) × (left + word ≡ 32768) × (bytes ++ words_from left x ≡ whole)

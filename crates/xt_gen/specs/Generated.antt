@@ -15,7 +15,7 @@ use Rattle.xt_image.specs.declared.image.Image.{Image}
 abbrev pub next : ℕ → ℕ
 next x = (1664525 * x + 1013904223) % 2 ^ 32
 
--- so many numbers that follow one another behind a number, each a word of four bytes
+-- so many numbers, the first the one that follows a number, each a word of four bytes
 unfoldable pub words_from : ℕ → ℕ → List ℕ
 words_from zero x = []
 words_from (suc count) x = to_le_bytes w32 (next x) ++ words_from count (next x)
@@ -99,7 +99,7 @@ abbrev pub segment_at : ℕ → List ℕ → Segment
 segment_at addr bytes = record { addr = addr; bytes = bytes }
 
 -- the table, the words `total` and `done`, the window handlers, and the program,
--- which begins behind its pool
+-- which begins after its pool
 abbrev pub generated : ℕ → Image
 generated number = record {
   head = made_head;

@@ -57,7 +57,7 @@ fn image_of(alloc: Global, number: u32) -> Result<Image, AllocError>
     })
 }
 
-/// The image that `gen` makes of a number. The only error is too little memory.
+/// The image that `gen` makes of a number. The only error is running out of memory.
 ///
 /// It has the head of an image that is made, a digest, and four segments: at 0x3F400000 the 32,768
 /// numbers that follow the given one, at 0x3FFB0000 the words `total` and `done`, at 0x40080000 the

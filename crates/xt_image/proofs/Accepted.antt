@@ -63,7 +63,7 @@ sum_is i gap behind fits len =
     ap (λ (l : List ℕ). slice_index l (checksum_place i.segments)) (file_parts i gap behind)
     ∙ sum_at ((head_bytes i ++ flat_map segment_bytes i.segments) ++ gap) (digest_bytes i gap ++ behind) (checksum_place i.segments) (checksum i.segments) (summed_length i gap fits len)
 
--- what stands up to a place, and behind it
+-- what stands up to a place, and after it
 pub front_of : (front rest : List ℕ) (n : ℕ) → length front ≡ n → take n (front ++ rest) ≡ front
 front_of front rest n e = ap (λ k. take k (front ++ rest)) (sym e) ∙ take-append_seam front rest
 

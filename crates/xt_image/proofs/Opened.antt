@@ -35,7 +35,7 @@ held m s (b ∷ bs) a sizes h le lt =
 
 -- ---- segments
 
--- what an address holds behind a memory's segments
+-- what an address holds after a memory's segments
 abbrev byte_or : List Segment → ℕ → ℕ → ℕ
 byte_or segments a b = option_map_or (λ s. slice_index s.bytes (a - s.addr)) (find (holds_address a) segments) b
 

@@ -33,7 +33,7 @@ pub no_pair_at_all : {X F : Type 0} (meet : X → X → Bool) (fault : ℕ → �
 unfolding first_pair
 no_pair_at_all meet fault xs j total le so_far = sym (ap (first_pair meet fault (take j xs)) (drop_of_length-le xs le)) ∙ so_far
 
--- ---- each element behind the first ones meets none before it
+-- ---- each element after the first ones meets none before it
 
 Apart : {X : Type 0} → (X → X → Bool) → List X → List X → Type 0
 Apart {X} meet before rest = (i j : ℕ) (d : X) → i < j → length before ≤ j → j < length (before ++ rest)

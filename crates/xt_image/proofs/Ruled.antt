@@ -29,7 +29,7 @@ no_segment = record { addr = 0; bytes = [] }
 four_pass : (a : Bool) (f : ImageFault) (x y z : Finding) → a ≡ false → x ≡ None → y ≡ None → z ≡ None → first (fails a f ∷ x ∷ y ∷ z ∷ []) ≡ None
 four_pass a f x y z p q r s = rw (p, q, r, s) refl
 
--- ---- both ways
+-- ---- in both directions
 
 even : (s : Segment) → length s.bytes % 4 ≡ 0 → is_uneven s ≡ false
 even s h = ap (λ n. not (n == 0)) h

@@ -230,7 +230,7 @@ head_stands bytes fits head count = absurd (omega (arith, head.long))
 
 -- ---- all parts
 
--- a place behind the first part
+-- a place after the first part
 sum_behind : (front rest : List ℕ) (bytes : List ℕ) (g place : ℕ) → bytes ≡ front ++ rest → place ≡ length front + g → slice_index bytes place ≡ slice_index rest g
 sum_behind front rest bytes g place is at = ap₂ (λ (l : List ℕ) n. get_or l n 0) is at ∙ get_or-append-add front rest g 0
 

@@ -113,7 +113,7 @@ head_length i fits = head_length_of i.head.drive i.head.reserved i.head.mode i.h
 regroup : (h f g c d b : List ℕ) → (((((h ++ f) ++ g) ++ c) ++ d) ++ b) ≡ h ++ (f ++ (g ++ (c ++ (d ++ b))))
 regroup h f g c d b = simp append_assoc
 
--- what stands behind the head
+-- what stands after the head
 abbrev pub behind_head : Image → List ℕ → List ℕ → List ℕ
 behind_head i gap behind = flat_map segment_bytes i.segments ++ (gap ++ ((checksum i.segments ∷ []) ++ (digest_bytes i gap ++ behind)))
 

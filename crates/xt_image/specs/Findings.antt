@@ -16,7 +16,7 @@ abbrev pub first : {F : Type 0} → List (Option F) → Option F
 first [] = None
 first (x ∷ xs) = or_else x (first xs)
 
--- of elements behind others: the first that meets one before it, and the first such one; the fault
+-- of elements after others: the first that meets one before it, and the first such one; the fault
 -- is made of the places of both, from 0
 unfoldable pub first_pair :
     {X F : Type 0} → (X → X → Bool) → (ℕ → ℕ → F) → List X → List X → Option F

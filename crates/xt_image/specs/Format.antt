@@ -28,7 +28,7 @@ image_of bytes = record {
   segments = segments_in bytes;
 }
 
--- the image where no rule fails, else the first fault; too little memory aside
+-- the image where no rule fails, else the first fault, unless memory ran out
 abbrev pub Reads : Result Image ImageFault → List ℕ → Finding → Type 0
 Reads (Ok image) bytes fault = (fault ≡ None) × (image ≡ image_of bytes)
 Reads (Err e) bytes fault = e ≢ Memory → fault ≡ Some e

@@ -35,7 +35,7 @@ segments_at (suc n) bytes = option_map_or (λ x. x.0 ∷ segments_at n x.1) (fro
 abbrev pub segments_in : List ℕ → List Segment
 segments_in bytes = segments_at (slice_index bytes 1) (drop 24 bytes)
 
--- the place behind the last segment
+-- the place after the last segment
 abbrev pub end_of : List Segment → ℕ
 end_of segments = 24 + length (flat_map segment_bytes segments)
 

@@ -41,18 +41,18 @@ summed_bytes i gap =
 abbrev pub digest_bytes : Image → List ℕ → List ℕ
 digest_bytes i gap = if i.digest then sha256 (summed_bytes i gap) else []
 
--- the image's file with these bytes in the gap and these behind its end
+-- the image's file with these bytes in the gap and these after its end
 unfoldable pub file_bytes : Image → List ℕ → List ℕ → List ℕ
 file_bytes i gap behind = summed_bytes i gap ++ digest_bytes i gap ++ behind
 
--- a file of the image: its parts joined, with anything in the gap and behind the end
+-- a file of the image: its parts joined, with anything in the gap and after the end
 pub record IsFileOf (i : Image) (bytes : List ℕ) : Type 0 where
   pub gap : List ℕ
   pub behind : List ℕ
   pub gap_fits : length gap ≡ gap_length i
   pub joined : bytes ≡ file_bytes i gap behind
 
--- the image as it is written: zeros in the gap and nothing behind the end
+-- the image as it is written: zeros in the gap and nothing after the end
 unfoldable pub image_bytes : Image → List ℕ
 image_bytes i = file_bytes i (replicate (gap_length i) 0) []
 

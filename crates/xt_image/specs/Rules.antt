@@ -63,7 +63,7 @@ checksum segments = fold bit_xor 0xEF (flat_map (λ s. s.bytes) segments)
 abbrev pub has_digest : List ℕ → Bool
 has_digest bytes = slice_index bytes 23 == 1
 
--- the digest that stands behind a place, and the one of all bytes up to it
+-- the digest that stands after a place, and the one of all bytes up to it
 abbrev pub kept_digest : List ℕ → ℕ → List ℕ
 kept_digest bytes place = take 32 (drop (place + 1) bytes)
 

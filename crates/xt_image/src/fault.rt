@@ -4,7 +4,7 @@ ghost use Rattle.xt_image.specs.declared.fault.ImageFault.TheVariants.{Memory};
 use std::alloc::{AllocError, AllocFailed};
 use thiserror::Error;
 
-/// The first rule of an image that a file breaks, in the order of the rules, or too little memory.
+/// The first rule of an image that a file breaks, in the order of the rules, or running out of memory.
 ///
 /// Segments are counted from 0. A loaded segment is one at the address 0x10000000 or above.
 #[derive(Clone, Copy, Debug, PartialEq, Eq, Error)]

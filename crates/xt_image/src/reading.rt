@@ -71,7 +71,7 @@ fn head_in(bytes: &[u8]) -> Head
 /// The image that the bytes of a file hold, or the first rule that they break.
 ///
 /// The bytes are at most 8,388,608. `ImageFault` has the rules, in their order. What stands
-/// between the last segment and the checksum, and behind the end, may be anything.
+/// between the last segment and the checksum, and after the end, may be anything.
 pub fn read(alloc: Global, bytes: &[u8]) -> Result<Image, ImageFault>
     requires { length bytes.now ≤ 8388608 }
     ensures exact { Reads result bytes.now (image_fault bytes.now) }

@@ -85,7 +85,7 @@ fn whole(alloc: Global, image: &Image) -> Result<Vec<u8>, AllocError>
 }
 
 /// The image as a file, with zeros between the last segment and the checksum, at most 8,388,608
-/// bytes. `read` gives the same image again. The only error is too little memory.
+/// bytes. `read` gives the same image again. The only error is running out of memory.
 pub fn write(alloc: Global, image: &Image) -> Result<Bytes, AllocError>
     requires { IsWellFormed image.now }
     ensures bytes { IfOk result (λ bytes. bytes ≡ image_bytes image.now) }

@@ -1,5 +1,5 @@
 -- For sources and sinks in memory, which tests use; nothing that a reader must believe.
--- Which calls of a source or a sink in memory fail, and how they are counted (profile).
+-- Which calls of a source or a sink in memory fail, and how they are counted ('profile').
 use Rattle.std.specs.Prelude.{◌≡◌, ◌==◌, ℕ, Bool, List}
 use Rattle.std.specs.List.{list_any}
 use Rattle.xt_io.specs.Causes.{one_more, count_after}

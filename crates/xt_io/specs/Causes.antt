@@ -1,4 +1,4 @@
--- When a source or a sink may refuse: only where it counted a fault in that call (profile).
+-- When a source or a sink may refuse: only where it counted a fault in that call ('profile').
 use Rattle.std.specs.Prelude.{◌≡◌, ◌≤◌, ◌<◌, ◌+◌, ◌-◌, ◌^◌, ℕ, Bool, if◌then◌else◌, List, min}
 use Rattle.std.specs.Prelude.{length, Result, Ok, OnErr, IsErrOf}
 use Rattle.xt_io.specs.declared.sink.Refused.{Refused}
@@ -21,8 +21,8 @@ pub record HasCause {T E : Type 0} (before now : ℕ) (result : Result T E) : Ty
   pub later : before ≤ now
   pub failed : OnErr result (Rose before now)
 
--- the same of a write, where taking no byte of a piece that has some is a fault too, and too little
--- memory is none
+-- the same of a write, where taking no byte of a piece that has some is a fault too, and running
+-- out of memory is none
 pub record HasWriteCause
     (before now : ℕ) (result : Result ℕ Refused) (piece : List ℕ) : Type 0 where
   pub later : before ≤ now

@@ -1,5 +1,5 @@
--- What sources and sinks over std's readers and writers hold (std's reader and writer,
--- and the count as profile).
+-- What sources and sinks over std's readers and writers hold (std's reader and writer; the count is
+-- 'profile').
 use Rattle.std.specs.Prelude.{ℕ, Bool, true, ◌==◌, ◌&&◌, nat_lt, List, length, Result, Ok, Err}
 use Rattle.xt_io.specs.declared.sink.Refused.{Refused}
 use Rattle.xt_io.specs.declared.standard.StdSource.{StdSource}

@@ -20,7 +20,7 @@ pub(crate) struct Calls {
 impl Calls {
     ghost use Rattle.xt_io.specs.Calls.{fails_next, IsUnused, CountsCall};
 
-    /// No call was made yet. `most` is at least 1. The error is too little memory.
+    /// No call was made yet. `most` is at least 1. The error is running out of memory.
     pub(crate) fn new(alloc: Global, most: usize, fails: &[u64]) -> Result<Calls, AllocError>
         requires { 1 ≤ most }
         ensures { IfOk result (IsUnused most fails.now) }

@@ -22,7 +22,7 @@ impl MemSource {
     ghost use Rattle.xt_io.specs.Memory.{left_of, calls_of};
 
     /// A source of `bytes`, of which one call hands over at most `most`, at least 1. The calls
-    /// whose numbers, from 0, stand in `fails` fail. The error is too little memory.
+    /// whose numbers, from 0, stand in `fails` fail. The error is running out of memory.
     pub fn make(
         alloc: Global,
         bytes: &[u8],
@@ -81,7 +81,7 @@ impl MemSink {
     ghost use Rattle.xt_io.specs.Memory.{written_to, sink_calls_of};
 
     /// An empty sink, of which one call takes at most `most` bytes, at least 1. The calls whose
-    /// numbers, from 0, stand in `fails` fail. The error is too little memory.
+    /// numbers, from 0, stand in `fails` fail. The error is running out of memory.
     pub fn make(alloc: Global, most: usize, fails: &[u64]) -> Result<MemSink, AllocError>
         requires { 1 ≤ most }
         ensures told { IfOk result (λ s. written_to s ≡ []) }

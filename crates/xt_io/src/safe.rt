@@ -17,7 +17,7 @@ pub struct SafeSource {
 impl SafeSource {
     ghost use Rattle.xt_io.specs.Memory.{safe_left_of};
 
-    /// A source of `bytes`. The error is too little memory.
+    /// A source of `bytes`. The error is running out of memory.
     pub fn make(alloc: Global, bytes: &[u8]) -> Result<SafeSource, AllocError>
         ensures { IfOk result (λ s. safe_left_of s ≡ bytes.now) }
     {
@@ -48,7 +48,7 @@ impl Source for SafeSource {
     }
 }
 
-/// A sink that keeps what is written, and refuses for too little memory alone.
+/// A sink that keeps what is written, and refuses only where memory ran out.
 #[derive(Drop)]
 pub struct SafeSink {
     bytes: Vec<u8>,
@@ -57,7 +57,7 @@ pub struct SafeSink {
 impl SafeSink {
     ghost use Rattle.xt_io.specs.Memory.{safely_written_to};
 
-    /// An empty sink. The error is too little memory.
+    /// An empty sink. The error is running out of memory.
     pub fn make(alloc: Global) -> Result<SafeSink, AllocError>
         ensures { IfOk result (λ s. safely_written_to s ≡ []) }
     {

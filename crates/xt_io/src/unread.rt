@@ -14,7 +14,7 @@ pub(crate) struct Unread {
 impl Unread {
     ghost use Rattle.xt_io.specs.Unread.{unread_bytes};
 
-    /// All of the bytes are left. The error is too little memory.
+    /// All of the bytes are left. The error is running out of memory.
     pub(crate) fn new(alloc: Global, bytes: &[u8]) -> Result<Unread, AllocError>
         ensures { IfOk result (λ u. unread_bytes u ≡ bytes.now) }
     {

@@ -2,7 +2,7 @@
 ghost use Rattle.std.specs.Prelude.{◌≡◌, ◌≢◌, ◌≤◌, ◌<◌, ◌+◌, ◌-◌, ◌^◌, length, IfOk, IfErr, OnOk, OnErr, IsErrOf};
 ghost use Rattle.std.specs.Io.KnownBytes.{Appends, Consumes, IsAtEnd};
 ghost use Rattle.xt_io.specs.Causes.{Rose};
-ghost use Rattle.xt_io.specs.Whole.{Takes, AppendsFront};
+ghost use Rattle.xt_io.specs.Whole.{Takes, AppendsPrefix};
 
 use crate::{Failed, Refused, Sink, Source};
 use std::alloc::{AllocError, Global};
@@ -44,8 +44,8 @@ const PIECE: usize = 4096;
 /// Reads all that a source has left, where that is at most `limit` bytes, less than `u64::MAX`.
 ///
 /// `TooLarge` comes exactly where the byte after the limit was read, and no later byte was then
-/// taken. `Fault` comes only where the source counted a fault in this call. `Memory` is want of
-/// memory, and can come at any length.
+/// taken. `Fault` comes only where the source counted a fault in this call. `Memory` says that
+/// memory ran out, and can come at any length.
 pub fn read_to_limit<S: Source>(
     alloc: Global,
     source: &mut S,
@@ -91,7 +91,7 @@ pub fn read_to_limit<S: Source>(
 /// fault in this call, which it also does where it takes no byte. `Memory` is the sink's.
 pub fn write_all<K: Sink>(sink: &mut K, bytes: &[u8]) -> Result<(), Refused>
     ensures ok { OnOk result (Appends (K.told sink.old) (K.told sink.new) bytes.now) }
-    ensures err { OnErr result (AppendsFront (K.told sink.old) (K.told sink.new) bytes.now) }
+    ensures err { OnErr result (AppendsPrefix (K.told sink.old) (K.told sink.new) bytes.now) }
 
     // The count of faults has not fallen, and has risen where the sink is blamed.
     ensures later { K.faults sink.old ≤ K.faults sink.new }

@@ -1,4 +1,5 @@
--- Laws of the rows: no word is of two rows; the third byte plays no part in a 16-bit word; a row's
+-- States laws that are proved; nothing that a reader must believe.
+-- The rows: no word is of two rows; the third byte plays no part in a 16-bit word; a row's
 -- length is its word's; nibble by nibble or by the whole word, a row fits the same words.
 use Rattle.std.specs.Prelude.{◌≡◌, ◌↔◌, ℕ, ◌+◌, ◌*◌, ◌%◌, true, List, [], ◌∷◌, bit_and}
 use Rattle.xt_isa.specs.declared.Fields.{Fields}

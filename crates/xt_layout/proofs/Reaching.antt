@@ -10,7 +10,7 @@ use Rattle.xt_layout.specs.Sizes.{IsSmall, pool_size, weight}
 use Rattle.xt_layout.specs.Spots.{behind, passes}
 use Rattle.xt_layout.specs.Bounds.{IsBelow, reach}
 
--- behind one line more
+-- after one line more
 pub behind_more : (words : List PoolWord) (j : ℕ) (before : Option Spot) (lines : List Line) (l : Line) →
     behind words j before (lines ++ l ∷ []) ≡ passes (pool_size words (j + length lines)) (behind words j before lines) l.statement
 behind_more words j before [] l = ap (λ k. passes (pool_size words k) before l.statement) (omega arith)

@@ -39,7 +39,7 @@ unfolding size
 seg_spans words k start rest before is pool here = ap (λ j. padded start (segment_end words (j + 1) start rest) ∷ []) is
     ∙ ap (λ a. padded start (segment_end words (k + 1) a rest) ∷ []) (sym (add-zero start))
 
--- the segment that a line with this statement, and the lines behind it, go on
+-- the segment that a line with this statement, and the lines after it, go on
 abbrev goes_on : List PoolWord → Option Spot → ℕ → Statement → List Line → List Span
 goes_on words None k s rest = []
 goes_on words (Some p) k s rest = padded p.start (if is_segment s then p.at else segment_end words (k + 1) (p.at + size (pool_size words k) p.at s) rest) ∷ []

@@ -21,7 +21,7 @@ line_addresses lines = each (λ before l rest. address (spot_at (words_of lines)
 
 -- ---- pool words
 
--- The words of a pool stand one after another, behind the zeros up to a multiple of 4.
+-- The words of a pool stand one after another, after the zeros up to a multiple of 4.
 abbrev pub word_address : List ℕ → List PoolWord → PoolWord → ℕ
 word_address addresses before w =
     slice_index addresses w.position + padding 4 (slice_index addresses w.position)

@@ -1,3 +1,4 @@
+-- Carries a proof; nothing that a reader must believe.
 -- What the parts of the layout know of one another: the words are those of the lines, and
 -- addresses do not grow too large.
 use Rattle.std.specs.Prelude.{ℕ, ◌+◌, ◌*◌, ◌^◌, ◌≤◌, ◌<◌, ◌≡◌, List, [], ◌∷◌, ◌++◌, length, take}
@@ -30,7 +31,7 @@ abbrev pub IsBelow : ℕ → Option Spot → Type 0
 IsBelow n None = Unit {0}
 IsBelow n (Some p) = p.at ≤ n
 
--- no address behind the first k lines is larger
+-- no address after the first k lines is larger
 abbrev pub reach : List Line → List PoolWord → ℕ → ℕ
 reach lines words k =
     2 ^ 32 + (1027 * sum_by weight (take k lines) + 4 * count_by (λ w. nat_lt w.position k) words)
@@ -53,7 +54,7 @@ later words before rest =
     flat_map (λ spans. spans)
     (each_after (λ before l rest. span_at words (length before) l.statement rest) before rest)
 
--- ---- what is known behind k lines
+-- ---- what is known after k lines
 
 pub record Walks
     (lines : List Line) (words : List PoolWord) (k : ℕ) (here : Option Spot)

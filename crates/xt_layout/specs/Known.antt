@@ -1,3 +1,4 @@
+-- Carries a proof; nothing that a reader must believe.
 -- What is known of the lines so far, while they are gone through.
 use Rattle.std.specs.Prelude.{ℕ, Bool, List}
 use Rattle.std.specs.List.{list_any}

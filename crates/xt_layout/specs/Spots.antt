@@ -17,14 +17,14 @@ abbrev pub begins : Option Spot → Statement → Option Spot
 begins before (Seg start) = Some (spot start start)
 begins before _ = before
 
--- behind the bytes of a statement, before which the pool at its place has so many words
+-- after the bytes of a statement, before which the pool at its place has so many words
 abbrev pub moved : ℕ → Statement → Spot → Spot
 moved pool s p = spot p.start (p.at + size pool p.at s)
 
 abbrev pub passes : ℕ → Option Spot → Statement → Option Spot
 passes pool before s = option_map (moved pool s) (begins before s)
 
--- Behind lines, of which the first has the place k: the statements, pools and zeros of a segment
+-- After lines, of which the first has the place k: the statements, pools and zeros of a segment
 -- stand one after another.
 abbrev pub behind : List PoolWord → ℕ → Option Spot → List Line → Option Spot
 behind words k before [] = before

@@ -217,7 +217,7 @@ fn meets_any(own: Span, others: &[Span]) -> bool
     others.iter().any(|other| meet(own, *other))
 }
 
-/// Whether the segment behind n others shares an address with one of them.
+/// Whether the segment after n others shares an address with one of them.
 fn meets_earlier(spans: &[Span], n: usize) -> bool
     ensures { result ≡ option_map_or (λ own. list_any (meet own) (take n spans.now)) (slice_get spans.now n) false }
 {

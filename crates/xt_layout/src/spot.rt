@@ -20,7 +20,7 @@ pub(crate) struct Spot {
 pub(crate) struct Span {
     /// The first address.
     pub(crate) start: u64,
-    /// The address behind the last.
+    /// The address after the last.
     pub(crate) end: u64,
 }
 
@@ -38,7 +38,7 @@ pub(crate) fn begins(before: Option<Spot>, statement: &Statement) -> Option<Spot
     }
 }
 
-/// The spot behind the bytes of a statement.
+/// The spot after the bytes of a statement.
 fn moved(pool: u64, spot: Spot, statement: &Statement) -> Spot
     requires pool { pool < 2 ^ 32 }
     requires items { items statement.now < 2 ^ 32 }
@@ -52,7 +52,7 @@ fn moved(pool: u64, spot: Spot, statement: &Statement) -> Spot
     }
 }
 
-/// The spot behind a statement, at whose place the pool has so many words.
+/// The spot after a statement, at whose place the pool has so many words.
 pub(crate) fn passes(pool: u64, before: Option<Spot>, statement: &Statement) -> Option<Spot>
     requires pool { pool < 2 ^ 32 }
     requires items { items statement.now < 2 ^ 32 }

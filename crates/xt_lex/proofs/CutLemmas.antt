@@ -1,4 +1,4 @@
--- The first line of a text is cut behind its first 0A.
+-- The first line of a text is cut after its first 0A.
 use Rattle.std.proofs.Common.{◌≡◌, ◌+◌, ◌<◌, ◌≤◌, ℕ, suc, Bool, true, false, cond, List, [], ◌∷◌, length, take, drop, refl, sym, ◌∙◌, ap, arith, ◌==◌, nat_lt}
 use Rattle.std.proofs.lemmas.Bool.Decides.{nat_tests}
 use Rattle.std.specs.Prelude.{not}
@@ -65,7 +65,7 @@ inside n m h = grind (arith, nat_tests)
 at_end : (n m : ℕ) → m ≤ n → cond {A = ℕ} (nat_lt n m) (n + 1) n ≡ n
 at_end n m h = grind (arith, nat_tests)
 
--- behind the first 0A
+-- after the first 0A
 pub cut_behind : (text : List ℕ) (n : ℕ) → n ≡ before text → n < length text → lines_of text ≡ take (n + 1) text ∷ lines_of (drop (n + 1) text)
 cut_behind text n e h = at_width text (n + 1) (omega arith) (ap (λ k. cond {A = ℕ} (nat_lt k (length text)) (k + 1) k) (sym e) ∙ inside n (length text) h)
 

@@ -8,7 +8,7 @@ use Rattle.std.proofs.lemmas.Bool.Decides.{nat_tests}
 use Rattle.xt_lex.specs.Tokens.{tokens_from, line_tokens, lines_of, tokens_of_lines, starts_blank, starts_comment, valid, token, bad}
 use Rattle.xt_lex.proofs.WidthLemmas.{valid_is_within}
 
--- what stands behind the first byte of a line
+-- what stands after the first byte of a line
 abbrev step : (ℕ → ℕ → List ℕ → List Token) → Bool → Bool → Front → ℕ → ℕ → List ℕ → List ℕ → List Token
 step next comment blank front line column bytes rest =
     cond comment [] (cond blank (next line (column + 1) rest) (option_map_or (λ x. token line column x.1 x.0 ∷ next line (column + x.1) (drop x.1 bytes)) front (bad line column)))

@@ -7,7 +7,7 @@ use Rattle.xt_lex.specs.Fronts.{begins_with_quote, string_body, string_piece, an
 abbrev pub Body : Type 0
 Body = Option (List ℕ × ℕ)
 
--- a string's rest behind some bytes, which took so many
+-- a string's rest after some bytes, which took so many
 abbrev pub behind : List ℕ → ℕ → Body → Body
 behind held width body = option_map (λ r. (held ++ r.0, width + r.1)) body
 
@@ -32,12 +32,12 @@ piece_goes false false true e b byte taken one two at is1 is2 h =
     rw (sym here, sym wide, is1) refl
 piece_goes false false false e b byte taken one two at is1 is2 h = cc
 
--- where a piece stands at the front, the string goes on behind it
-pub piece_is_front : (bytes : List ℕ) (byte taken : ℕ) → string_piece bytes ≡ Some (byte, taken) → string_body bytes ≡ and_then byte taken (string_body (drop taken bytes))
+-- where a piece stands at the front, the string goes on after it
+pub piece_is_prefix : (bytes : List ℕ) (byte taken : ℕ) → string_piece bytes ≡ Some (byte, taken) → string_body bytes ≡ and_then byte taken (string_body (drop taken bytes))
 unfolding string_piece string_body
-piece_is_front [] byte taken h = cc
-piece_is_front (b ∷ []) byte taken h = cc
-piece_is_front (b ∷ c ∷ rest) byte taken h = piece_goes (b == 34) (b == 92) (is_plain 34 b) (escaped c) b byte taken (string_body (c ∷ rest)) (string_body rest) (λ n. string_body (drop n (b ∷ c ∷ rest))) refl refl h
+piece_is_prefix [] byte taken h = cc
+piece_is_prefix (b ∷ []) byte taken h = cc
+piece_is_prefix (b ∷ c ∷ rest) byte taken h = piece_goes (b == 34) (b == 92) (is_plain 34 b) (escaped c) b byte taken (string_body (c ∷ rest)) (string_body rest) (λ n. string_body (drop n (b ∷ c ∷ rest))) refl refl h
 
 piece_ends : (quote backslash plain : Bool) (e : Option ℕ) (b : ℕ) (one two : Body)
     → cond {A = Option (ℕ × ℕ)} quote None (cond {A = Option (ℕ × ℕ)} backslash (option_map (λ x. (x, 2)) e) (cond {A = Option (ℕ × ℕ)} plain (Some (b, 1)) None)) ≡ None

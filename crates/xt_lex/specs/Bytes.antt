@@ -1,4 +1,4 @@
--- The bytes of an assembly text (profile), and the numbers and strings that they stand for.
+-- The bytes of an assembly text ('profile'), and the numbers and strings that they stand for.
 use Rattle.std.specs.Prelude.{ℕ, ◌+◌, ◌-◌, ◌*◌, Bool, ◌==◌, ◌&&◌, ◌||◌, not, nat_le, if◌then◌else◌}
 use Rattle.std.specs.Prelude.{List, fold, Option, Some, None}
 use Rattle.std.specs.Char.{is_ascii_digit, is_ascii_alphabetic}
@@ -19,7 +19,7 @@ is_printable b = nat_le 32 b && nat_le b 126
 abbrev pub is_plain : ℕ → ℕ → Bool
 is_plain quote b = is_printable b && not (b == quote) && not (b == 92)
 
--- what stands behind a backslash in a string, and the byte that the two stand for
+-- what stands after a backslash in a string, and the byte that the two stand for
 unfoldable pub escaped : ℕ → Option ℕ
 escaped c =
     if c == 110 then Some 10 else

@@ -1,4 +1,4 @@
--- The token that stands at the front of some bytes (profile): each form of token by itself, and
+-- The token that stands at the front of some bytes ('profile'): each form of token by itself, and
 -- then the longest of them.
 use Rattle.std.specs.Prelude.{ℕ, ◌+◌, ◌^◌, Bool, false, ◌==◌, ◌&&◌, nat_lt, if◌then◌else◌, List, []}
 use Rattle.std.specs.Prelude.{◌∷◌, Option, Some, None}
@@ -54,7 +54,7 @@ character_front (b ∷ c ∷ d ∷ _) =
     if b == 39 && d == 39 && is_plain 39 c then Some (Character c, 3) else None
 character_front _ = None
 
--- The bytes that a string stands for, and how many bytes it takes behind its first quote. One byte
+-- The bytes that a string stands for, and how many bytes it takes after its first quote. One byte
 -- stands for itself, and two, of which the first is a backslash, for one.
 abbrev pub and_then : ℕ → ℕ → Option (List ℕ × ℕ) → Option (List ℕ × ℕ)
 and_then byte width body = option_map (λ r. (byte ∷ r.0, width + r.1)) body

@@ -1,4 +1,4 @@
--- The tokens of an assembly text (profile).
+-- The tokens of an assembly text ('profile').
 use Rattle.std.specs.Prelude.{ℕ, zero, suc, ◌+◌, ◌≤◌, Bool, false, ◌==◌, ◌&&◌, ◌||◌, if◌then◌else◌}
 use Rattle.std.specs.Prelude.{List, [], ◌∷◌, ◌++◌, length, drop, Some, None, All, sum_by}
 use Rattle.std.specs.Option.{option_map_or}

@@ -132,7 +132,7 @@ fn begins_with_quote(bytes: &[u8]) -> bool
     }
 }
 
-/// The bytes that a string stands for, and how many bytes it takes behind its first quote.
+/// The bytes that a string stands for, and how many bytes it takes after its first quote.
 pub fn string_rest(alloc: Global, bytes: &[u8]) -> Result<Option<(Vec<u8>, usize)>, AllocError>
     ensures body { IfOk result (λ body. option_map (λ r. (r.0.items, r.1)) body ≡ string_body bytes.now) }
     ensures within { IfOk result (λ body. IfSome body (λ r. r.1 ≤ length bytes.now)) }

@@ -3,8 +3,7 @@ use Rattle.std.proofs.Common.{◌≡◌, ℕ, zero, suc, Bool, true, nat_lt, ◌
 use Rattle.std.proofs.lemmas.Bool.{ltb-true}
 use Rattle.std.proofs.lemmas.List.{take_more}
 use Rattle.xt_runs.specs.Chip.{Chip}
-use Rattle.xt_runs.specs.Alone.{answer}
-use Rattle.xt_runs.specs.Worlds.{Line, World, advance, rest_of, finished}
+use Rattle.xt_runs.specs.Worlds.{Line, World, advance, rest_of, finished, answer}
 use Rattle.xt_runs.specs.Short.{ShortCore, ShortWorld, short_world, short_line, short_given, short_give, short_advance}
 use Rattle.xt_runs.proofs.Ends.{left_at_most}
 use Rattle.xt_runs.proofs.Short.{short_world_advanced}

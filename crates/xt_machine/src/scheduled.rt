@@ -125,9 +125,9 @@ impl Pair {
 }
 
 /// The run of a list of cores, without threads: each number gives that core its next turn, or nothing
-/// where it has ended; then core 0's remaining turns follow, and then core 1's. The only error is too
-/// little memory. Where the six window handlers pass their check and the stacks are apart, the run up
-/// to its first breach is one of the machine with unbounded call frames.
+/// where it has ended; then core 0's remaining turns follow, and then core 1's. The only error is
+/// running out of memory. Where the six window handlers pass their check and the stacks are apart,
+/// the run up to its first breach is one of the machine with unbounded call frames.
 ///
 /// Conditions: the image is well formed, the options are valid, and each number is 0 or 1.
 pub fn run_schedule(

@@ -43,7 +43,7 @@ fn driven<G: Gate, R: Wait>(
 
 impl Machine {
     /// A machine as a run of the image opens. It takes all memory of the run, and the only error is
-    /// too little memory. It opens the bus that the cores share, so it may wait.
+    /// running out of memory. It opens the bus that the cores share, so it may wait.
     ///
     /// Conditions: the image is well formed, and the options are valid.
     pub fn make<R: Wait>(
@@ -120,7 +120,7 @@ impl Machine {
     }
 }
 
-/// The run of an image on two threads. The only error is too little memory. It may wait. Where the six
+/// The run of an image on two threads. The only error is running out of memory. It may wait. Where the six
 /// window handlers pass their check and the stacks are apart, the run up to its first breach is one of
 /// the machine with unbounded call frames.
 ///

@@ -124,7 +124,7 @@ none_found segments starts a count e d bytes ix upto some is le constant =
     let nothing : find (holds_address a) segments ≡ None = find_none (holds_address a) segments d misses in
     sym (ap (found_byte a) nothing) ∙ sym (constant_is_loaded segments a constant)
 
--- the segment of the last start up to an address holds every address behind it, up to the segment's end
+-- the segment of the last start up to an address holds every address after it, up to the segment's end
 pub found_from : (segments : List Segment) (starts : List Start) (a b count : ℕ) (e : Start) (d : Segment) (bytes : List ℕ) → IsIndexed segments starts → IsCountUpto starts a count → 0 < count
     → bytes ≡ (get_or segments (get_or starts (count - 1) e).number d).bytes → a ≤ b → b - (get_or starts (count - 1) e).addr < length bytes
     → is_constant (region_of b) ≡ true → slice_index bytes (b - (get_or starts (count - 1) e).addr) ≡ constant_byte segments b

@@ -58,7 +58,7 @@ PutByteKeepsOthers =
 abbrev pub PutByteKeepsSizes : Type 0
 PutByteKeepsSizes = (m : MemoryContents) (a b : ℕ) → HasSizes m → HasSizes (with_byte m a b)
 
--- an access changes no byte before or behind its own
+-- an access changes no byte before or after its own
 abbrev pub AccessKeepsOtherBytes : Type 0
 AccessKeepsOtherBytes = (m : MemoryContents) (a : Access) (c : ℕ)
     → (c < a.addr) ⊎ (a.addr + a.size ≤ c) → byte_at (memory_past m a) c ≡ byte_at m c

@@ -13,7 +13,7 @@ abbrev pub is_device : Region → Bool
 is_device Uart = true
 is_device _ = false
 
--- the address behind the last byte
+-- the address after the last byte
 abbrev pub end_of_segment : Segment → ℕ
 end_of_segment s = s.addr + length s.bytes
 

@@ -1,4 +1,4 @@
--- The bytes that an access touches, and whether it loads or stores; memories of bytes.
+-- The bytes that an access touches, whether it loads or stores, and memories of bytes ('profile').
 use Rattle.std.specs.Prelude.{◌<◌, ◌^◌, ◌+◌, ◌&&◌, ℕ, Bool, true, false, nat_le, nat_lt}
 use Rattle.xt_map.specs.declared.access.Kind.{Kind}
 use Rattle.xt_map.specs.declared.access.Kind.TheVariants.{Load, Store, Cas}

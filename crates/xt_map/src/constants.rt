@@ -151,7 +151,7 @@ fn three_in(segments: &[Segment], starts: &[Start], addr: u32) -> Option<(u8, u8
 }
 
 impl Constants {
-    /// Copies what the segments load. The only error is too little memory.
+    /// Copies what the segments load. The only error is running out of memory.
     ///
     /// Each segment that is loaded and has a byte lies in one region other than UART0, and no two
     /// of them share a byte; `are_placed` tests this.

@@ -46,7 +46,7 @@ pub fn byte_put_keeps_sizes()
     ensures { PutByteKeepsSizes }
 {}
 
-/// An access leaves every byte before its address and behind its last byte.
+/// An access leaves every byte before its address and after its last byte.
 pub fn stores_keep_other_bytes()
     ensures { AccessKeepsOtherBytes }
 {}

@@ -5,7 +5,7 @@ ghost use Rattle.xt_map.specs.Placing.{IsPlaced, do_overlap, is_well_placed};
 
 use crate::segment::Segment;
 
-// The first address of each region that takes segments, and the one behind its last.
+// The first address of each region that takes segments, and the one after its last.
 const PLACES: [(u128, u128); 7] = [
     (0x3F400000, 0x3F800000),
     (0x3FF80000, 0x3FF82000),
@@ -23,7 +23,7 @@ pub fn is_segment_loaded(segment: &Segment) -> bool
     segment.addr >= 0x10000000
 }
 
-// Whether one of some places has the addresses from the first up to the one behind the last.
+// Whether one of some places has the addresses from the first up to the one after the last.
 fn lies_in(places: &[(u128, u128)], first: u128, behind: u128) -> bool
     ensures { result ≡ list_any (λ p. nat_le p.0 first && nat_le behind p.1) places.now }
 {

@@ -33,7 +33,7 @@ length_two b0 h g = cond-true (within 8 13 (b0 % 16)) 2 3 (and_from _ _ (le-leb 
 length_cases : (b0 : ℕ) → (2 ≤ length_of b0) × (length_of b0 ≤ 3)
 length_cases b0 = cond_both (within 8 13 (b0 % 16)) 2 3 (λ n. (2 ≤ n) × (n ≤ 3)) (λ h. (omega arith, omega arith)) (λ h. (omega arith, omega arith))
 
--- the bytes behind the last are 0
+-- the bytes after the last are 0
 byte_small : (bytes : List ℕ) (k : ℕ) → All (λ x. x < 256) bytes → byte bytes k < 256
 byte_small bytes k small = elim (cases_lt k (length bytes)) [ inl p ↦ small k 0 p | inr q ↦ omega (arith, get_or_past bytes k 0 q) ]
 

@@ -1,4 +1,4 @@
--- The laws of the names.
+-- States laws that are proved; nothing that a reader must believe.
 use Rattle.std.specs.Prelude.{◌≡◌, ℕ, ◌-◌, ◌==◌, Bool, true, ◌&&◌, nat_le, List, length}
 use Rattle.std.specs.Prelude.{slice_index, Some}
 use Rattle.xt_isa.specs.declared.Insn.{Insn}

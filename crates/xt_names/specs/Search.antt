@@ -1,4 +1,5 @@
--- What carries the proof of the searches; nothing here need be believed.
+-- Carries a proof; nothing that a reader must believe.
+-- The searches of names.
 use Rattle.std.specs.Prelude.{Bool, ℕ, ◌+◌, ◌*◌, List, slice_index_or}
 use Rattle.xt_isa.specs.Spelling.{can_exchange}
 use Rattle.xt_names.specs.declared.special.SpecialWord.{SpecialWord}

@@ -1,4 +1,4 @@
-//! What a mnemonic says: the operands behind it, its length, and how it reaches a special register.
+//! What a mnemonic says: the operands after it, its length, and how it reaches a special register.
 
 ghost use Rattle.std.specs.Prelude.{◌≡◌};
 ghost use Rattle.xt_names.specs.Forms.{access_of, is_narrow, shapes_of};

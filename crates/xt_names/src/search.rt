@@ -176,7 +176,7 @@ fn mnemonics() -> &'static [Mnemonic]
     &MNEMONICS
 }
 
-/// A byte of a name, and zero behind the last.
+/// A byte of a name, and zero after the last.
 fn byte_at(name: &[u8], place: usize) -> u64
     ensures value { result ≡ slice_index_or name.now place 0 }
     ensures byte { result < 256 }

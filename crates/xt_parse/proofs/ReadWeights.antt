@@ -19,7 +19,7 @@ use Rattle.xt_parse.specs.Small.{expr_weight, operand_weight}
 abbrev pub tokens_weight : List Token → ℕ
 tokens_weight tokens = sum_by weight tokens
 
--- what was read and the tokens behind it weigh at most n
+-- what was read and the tokens after it weigh at most n
 abbrev pub Fits : {A : Type 0} → (A → ℕ) → ℕ → Reading A → Type 0
 Fits f n (Ok x) = f x.0 + tokens_weight x.1 ≤ n
 Fits f n (Err k) = Unit {0}
@@ -103,7 +103,7 @@ string_fits tokens = first_fits as_string string_weight tokens string_counts
 abbrev with_rest : {A : Type 0} → List Token → A → A × List Token
 with_rest ts a = (a, ts)
 
--- the tokens behind the first
+-- the tokens after the first
 behind_fits : {A : Type 0} (f : TokenKind → Option A) (tokens : List Token) → IfSome (behind f tokens) (λ x. 1 + tokens_weight x.1 ≤ tokens_weight tokens)
 behind_fits f [] = tt
 behind_fits {A} f (t ∷ ts) = by_kind (f t.what)

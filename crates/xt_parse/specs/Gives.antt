@@ -1,9 +1,10 @@
+-- Carries a proof; nothing that a reader must believe.
 -- What a function returned, beside what reading gives.
 use Rattle.std.specs.Prelude.{◌≡◌, ℕ, Result, Ok, Err}
 use Rattle.xt_parse.specs.declared.stop.Stop.{Stop}
 use Rattle.xt_parse.specs.declared.stop.Stop.TheVariants as stop
 
--- a stop is where reading stops; want of memory aside
+-- a stop is where reading stops, unless memory ran out
 abbrev pub Stops : {Y : Type 0} → Stop → Result Y ℕ → Type 0
 Stops (stop.At left) read = read ≡ Err left
 Stops stop.Memory read = Unit {0}

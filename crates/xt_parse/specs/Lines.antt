@@ -1,4 +1,4 @@
--- The lines of an assembly text, or the first fault of the kind Syntax (profile).
+-- The lines of an assembly text, or the first fault of the kind Syntax ('profile').
 use Rattle.std.specs.Prelude.{◌≡◌, ◌+◌, ◌≤◌, ◌==◌, Bool, true, false, ◌||◌, if◌then◌else◌, List, []}
 use Rattle.std.specs.Prelude.{◌∷◌, Result, Ok, Err, All}
 use Rattle.xt_lex.specs.declared.token.Token.{Token}
@@ -42,7 +42,7 @@ lines_from begun (g ∷ gs) =
 unfoldable pub parsed : List Token → Result (List Line) AsmPlace
 parsed tokens = lines_from false (grouped tokens)
 
--- what was answered is this; want of memory aside
+-- what was answered is this, unless memory ran out
 abbrev pub Parses : Result (List Line) AsmFault → Result (List Line) AsmPlace → Type 0
 Parses (Ok lines) read = read ≡ Ok lines
 Parses (Err (fault.Place place)) read = read ≡ Err place

@@ -1,6 +1,6 @@
--- Reading the tokens of a line from the front (profile): what is read, and the tokens behind it; or
--- how many of the line's tokens are left where the first of these cannot continue the line, or none
--- is left and the line is not complete.
+-- Reading the tokens of a line from the front ('profile'): what is read, and the tokens after it;
+-- or how many of the line's tokens are left where the first of these cannot continue the line, or
+-- none is left and the line is not complete.
 use Rattle.std.specs.Prelude.{ℕ, zero, suc, Bool, true, false, if◌then◌else◌, List, [], ◌∷◌, ◌++◌}
 use Rattle.std.specs.Prelude.{length, Option, Some, None, Result, Ok, Err, codes}
 use Rattle.std.specs.Option.{option_map, option_map_or}
@@ -60,7 +60,7 @@ as_term (kind.Character c) = Some (value.Number c)
 as_term (kind.Word name) = if is_label_word name then Some (value.Label name) else None
 as_term _ = None
 
--- whether a sign takes the term behind it away
+-- whether a sign takes away the term after it
 abbrev pub as_sign : TokenKind → Option Bool
 as_sign kind.Plus = Some false
 as_sign kind.Minus = Some true
@@ -78,19 +78,19 @@ abbrev pub as_colon : TokenKind → Option (Unit {0})
 as_colon kind.Colon = Some tt
 as_colon _ = None
 
--- the tokens behind the first, where it is of the wanted kind
+-- the tokens after the first, where it is of the wanted kind
 abbrev pub behind : {A : Type 0} → (TokenKind → Option A) → List Token → Option (A × List Token)
 behind f [] = None
 behind f (t ∷ ts) = option_map (λ a. (a, ts)) (f t.what)
 
 -- ---- expressions
 
--- a term behind its sign
+-- a term after its sign
 abbrev pub term_at : Bool → List Token → Reading Term
 term_at minus tokens =
     first_as as_term tokens >>= λ v. Ok (record { minus = minus; value = v.0 }, v.1)
 
--- the terms that follow, each behind a sign
+-- the terms that follow, each after a sign
 unfoldable pub terms_behind : List Token → Reading (List Term)
 terms_behind [] = Ok ([], [])
 terms_behind (s ∷ []) = option_map_or (λ minus. Err 0) (as_sign s.what) (Ok ([], s ∷ []))
@@ -122,7 +122,7 @@ abbrev pub next_expr : List Token → Result (Option (List Term × List Token)) 
 next_expr tokens =
     option_map_or (λ c. expr_at c.1 >>= λ x. Ok (Some x)) (behind as_comma tokens) (Ok None)
 
--- the expressions that follow, each behind a comma, at most n
+-- the expressions that follow, each after a comma, at most n
 unfoldable pub exprs_behind : ℕ → List Token → Reading (List (List Term))
 exprs_behind zero tokens = Ok ([], tokens)
 exprs_behind (suc n) tokens =
@@ -143,7 +143,7 @@ abbrev pub as_user : TokenKind → Option (List ℕ)
 as_user (kind.Word name) = if bytes_eq name (codes "threadptr") then Some name else None
 as_user _ = None
 
--- an expression behind `=`, or an expression
+-- an expression after `=`, or an expression
 abbrev pub literal_at : List Token → Reading Operand
 literal_at tokens =
     option_map_or (λ e. expr_at e.1 >>= λ x. Ok (operand.Pool x.0, x.1)) (behind as_equals tokens)
@@ -160,7 +160,7 @@ operand_at shape.User tokens = first_as as_user tokens >>= λ x. Ok (one_label x
 abbrev pub next_operand : Shape → List Token → Reading Operand
 next_operand s tokens = first_as as_comma tokens >>= λ c. operand_at s c.1
 
--- operands of these shapes, each behind a comma
+-- operands of these shapes, each after a comma
 unfoldable pub operands_behind : List Shape → List Token → Reading (List Operand)
 operands_behind [] tokens = Ok ([], tokens)
 operands_behind (s ∷ ss) tokens =

@@ -1,4 +1,4 @@
--- What holds of the lines of a text of at most 1,048,576 bytes (profile): their numbers rise, and
+-- What holds of the lines of a text of at most 1,048,576 bytes ('profile'): their numbers rise, and
 -- they hold no more than the text has bytes.
 use Rattle.std.specs.Prelude.{ℕ, ◌+◌, ◌<◌, ◌≤◌, max, List, [], ◌∷◌, length, All, sum_by}
 use Rattle.xt_expr.specs.declared.expr.Expr.{Expr}

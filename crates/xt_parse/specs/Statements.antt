@@ -1,4 +1,4 @@
--- The statements of the assembly language, and the lines (profile).
+-- The statements of the assembly language, and the lines ('profile').
 use Rattle.std.specs.Prelude.{ℕ, ◌+◌, ◌-◌, ◌==◌, Bool, true, false, ◌&&◌, not, if◌then◌else◌, List}
 use Rattle.std.specs.Prelude.{[], ◌∷◌, length, slice_get, Option, Some, None, Result, Ok, Err}
 use Rattle.std.specs.Option.{option_map, option_map_or, is_some, is_none}
@@ -24,13 +24,13 @@ placed_at (t ∷ ts) =
     option_map_or (λ name. Ok (record { column = t.column; name = name }, ts)) (as_label t.what)
     (Err (length (t ∷ ts)))
 
--- `.literal NAME, EXPR` behind its first word
+-- `.literal NAME, EXPR` after its first word
 abbrev pub literal_body_at : List Token → Reading Statement
 literal_body_at tokens =
     placed_at tokens >>= λ p. first_as as_comma p.1 >>= λ c. expr_at c.1
     >>= λ x. Ok (statement.Literal p.0 x.0, x.1)
 
--- the statement behind its first word, which begins this form
+-- the statement after its first word, which begins this form
 unfoldable pub body_at : Form → List Token → Reading Statement
 body_at form.Seg tokens = first_as as_number tokens >>= λ x. Ok (statement.Seg x.0, x.1)
 body_at form.Entry tokens = expr_at tokens >>= λ x. Ok (statement.Entry x.0, x.1)
@@ -108,12 +108,12 @@ to_the_end x = if length x.1 == 0 then Ok x.0 else Err (length x.1)
 abbrev pub whole_parts_at : Bool → List Token → Result Parts ℕ
 whole_parts_at begun tokens = parts_at begun tokens >>= to_the_end
 
--- the column behind the last token
+-- the column after the last token
 abbrev pub column_behind : List Token → ℕ
 column_behind tokens =
     option_map_or (λ t. t.column + t.width) (slice_get tokens (length tokens - 1)) 1
 
--- the column of the fault, where so many tokens are left: that of the first of them, or behind
+-- the column of the fault, where so many tokens are left: that of the first of them, or after
 -- the last token of the line
 abbrev pub fault_column : List Token → ℕ → ℕ
 fault_column tokens left =

@@ -1,4 +1,4 @@
--- The words that begin a statement, and the names of the registers (profile).
+-- The words that begin a statement, and the names of the registers ('profile').
 use Rattle.std.specs.Prelude.{ℕ, Bool, false, ◌==◌, ◌&&◌, not, List, [], ◌∷◌, Option, find, codes}
 use Rattle.std.specs.Option.{option_map, option_or, is_none}
 use Rattle.std.specs.Str.{bytes_eq}

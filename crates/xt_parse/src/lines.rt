@@ -15,7 +15,7 @@ use std::alloc::{AllocError, Global};
 use xt_lex::{Token, TokenKind};
 use xt_names::shapes_of;
 
-// `.literal NAME, EXPR` behind its first word.
+// `.literal NAME, EXPR` after its first word.
 fn literal_body(alloc: Global, tokens: &[Token]) -> Result<(Statement, &[Token]), Stop>
     ensures { Gives (λ x. (x.0, x.1.now)) result (literal_body_at tokens.now) }
 {
@@ -25,7 +25,7 @@ fn literal_body(alloc: Global, tokens: &[Token]) -> Result<(Statement, &[Token])
     Ok((Statement::Literal(name, value), rest))
 }
 
-// A statement behind its first word, which begins this form.
+// A statement after its first word, which begins this form.
 #[tactic(auto, unfolding(crate::specs::Statements::body_at))]
 fn body(alloc: Global, form: Form, tokens: &[Token]) -> Result<(Statement, &[Token]), Stop>
     ensures { Gives (λ x. (x.0, x.1.now)) result (body_at form tokens.now) }

@@ -23,7 +23,7 @@ fn word_operand(alloc: Global, name: Name) -> Result<Operand, AllocError>
     Ok(Operand::Value(Expr::new(terms)))
 }
 
-// A literal behind `=`, or an expression for an address.
+// A literal after `=`, or an expression for an address.
 fn literal(alloc: Global, tokens: &[Token]) -> Result<(Operand, &[Token]), Stop>
     ensures { Gives (λ x. (x.0, x.1.now)) result (literal_at tokens.now) }
 {
@@ -77,7 +77,7 @@ fn further_operand(
     operand(alloc, shape, after)
 }
 
-// The first operand, and operands of these shapes behind it, each behind a comma.
+// The first operand, and operands of these shapes after it, each after a comma.
 fn operands_after<'a>(
     alloc: Global,
     first: Operand,

@@ -12,7 +12,7 @@ use crate::stop::Stop;
 use std::alloc::Global;
 use xt_lex::{AsmFault, AsmPlace, Token, Tokens};
 
-// The column behind the last token.
+// The column after the last token.
 fn column_of_end(tokens: &[Token]) -> u32
     requires { ArePlaced tokens.now }
     ensures { result ≡ column_behind tokens.now }
@@ -101,7 +101,7 @@ fn has_begun(begun: bool, statement: &Statement) -> bool
 ///
 /// A line has this fault where it breaks the grammar, where a mnemonic, a directive or a register does not exist, where it has a token
 /// `Bad`, and where a label, or a statement other than `.seg` and `.entry`, stands before the first `.seg`. The fault's column is that
-/// of the first token that cannot continue the line, or the column behind the line's last token.
+/// of the first token that cannot continue the line, or the column after the line's last token.
 ///
 /// The numbers of the lines rise, and the lines, the terms of their expressions and the bytes of their strings are at most 1,048,576
 /// together.

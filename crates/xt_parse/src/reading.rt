@@ -133,7 +133,7 @@ pub fn user_word_at(tokens: &[Token]) -> Result<(Name, &[Token]), Stop>
     }
 }
 
-/// The tokens behind a comma, where one stands at the front.
+/// The tokens after a comma, where one stands at the front.
 pub fn behind_comma(tokens: &[Token]) -> Option<&[Token]>
     ensures behind { option_map (λ after. (tt, after.now)) result ≡ behind as_comma tokens.now }
     ensures shorter { IfSome result (λ after. length after.now < length tokens.now) }
@@ -147,7 +147,7 @@ pub fn behind_comma(tokens: &[Token]) -> Option<&[Token]>
     }
 }
 
-/// The tokens behind an `=`, where one stands at the front.
+/// The tokens after an `=`, where one stands at the front.
 pub fn behind_equals(tokens: &[Token]) -> Option<&[Token]>
     ensures { option_map (λ after. (tt, after.now)) result ≡ behind as_equals tokens.now }
 {
@@ -160,7 +160,7 @@ pub fn behind_equals(tokens: &[Token]) -> Option<&[Token]>
     }
 }
 
-/// The tokens behind a comma, which must stand at the front.
+/// The tokens after a comma, which must stand at the front.
 pub fn comma_at(tokens: &[Token]) -> Result<&[Token], Stop>
     ensures { Gives (λ after. (tt, after.now)) result (first_as as_comma tokens.now) }
 {
@@ -173,7 +173,7 @@ pub fn comma_at(tokens: &[Token]) -> Result<&[Token], Stop>
     }
 }
 
-/// An optional minus at the front, and what is behind it.
+/// An optional minus at the front, and what is after it.
 pub fn optional_minus(tokens: &[Token]) -> (bool, &[Token])
     ensures minus { (result.0, result.1.now) ≡ minus_at tokens.now }
     ensures within { length result.1.now ≤ length tokens.now }
@@ -187,7 +187,7 @@ pub fn optional_minus(tokens: &[Token]) -> (bool, &[Token])
     }
 }
 
-/// A sign at the front, whether it is a minus, and what is behind it.
+/// A sign at the front, whether it is a minus, and what is after it.
 pub fn sign_at(tokens: &[Token]) -> Option<(bool, &[Token])>
     ensures sign { option_map (λ x. (x.0, x.1.now)) result ≡ behind as_sign tokens.now }
     ensures shorter { IfSome result (λ x. length x.1.now < length tokens.now) }
@@ -215,7 +215,7 @@ fn term_in(what: &TokenKind) -> Result<Option<TermValue>, AllocError>
     }
 }
 
-/// A term at the front, behind its sign.
+/// A term at the front, after its sign.
 pub fn term_with_sign(minus: bool, tokens: &[Token]) -> Result<(Term, &[Token]), Stop>
     ensures term { Gives (λ x. (x.0, x.1.now)) result (term_at minus tokens.now) }
     ensures shorter { IfOk result (λ x. length x.1.now < length tokens.now) }

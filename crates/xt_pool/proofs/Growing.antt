@@ -1,4 +1,4 @@
--- What one line adds to the words, and what the lines behind it add.
+-- What one line adds to the words, and what the lines after it add.
 use Rattle.std.proofs.Common.{◌≡◌, Bool, true, false, not, ◌&&◌, ◌||◌, List, [], ◌∷◌, ◌++◌, refl, sym, ap, ◌∙◌, cond, ℕ, ◌+◌, ◌<◌, ◌≤◌, length, take, drop, get_or, Option, Some, None, if◌then◌else◌, arith}
 use Rattle.std.specs.Prelude.{filter, is_none, option_to_list}
 use Rattle.std.specs.List.{flat_map}
@@ -66,7 +66,7 @@ one_more true false false = refl
 
 -- ---- one line
 
--- what a use adds, and what is left behind it
+-- what a use adds, and what is left after it
 use_adds : (h : Expr → Bool) (p k : ℕ) (e : Expr) (b : Bool) (words : List PoolWord) → b ≡ h e →
     cond (not b) (word p k (None, e) ∷ filter (unseen h) (filter (λ y. not (shares (word p k (None, e)) y)) words)) (filter (unseen h) (filter (λ y. not (shares (word p k (None, e)) y)) words))
     ≡ cond b [] (word p k (None, e) ∷ []) ++ filter (unseen (λ q. h q || same_terms e q)) words
@@ -105,7 +105,7 @@ need_adds_before h p k m n words others e =
 new_pool : (before : List Line) (k : ℕ) (rest : List Line) → length before ≡ k → pool (length before) rest ≡ left (Some k) (λ _. false) (k + 1) rest
 new_pool before k rest is = ap (λ j. pool j rest) is ∙ sym (filter_every (unseen (λ _. false)) (λ w. not_and_false (is_none w.name)) (pool k rest))
 
--- What a line and the lines behind it add, by what the line's statement is: p a position, g a segment, n what it needs.
+-- What a line and the lines after it add, by what the line's statement is: p a position, g a segment, n what it needs.
 abbrev Steps : Option ℕ → (Expr → Bool) → List Line → ℕ → Line → List Line → Bool → Bool → Option (Option Placed × Expr) → Type 0
 Steps None h before k l rest p g n =
     [] ++ ((if p then pool (length before) rest else []) ++ tail (before ++ l ∷ []) rest)
@@ -123,7 +123,7 @@ steps (Some at) h before k l rest Position is same = ap (λ w. w ++ tail (before
 steps (Some at) h before k l rest (Seg start) is same = refl
 steps (Some at) h before k l rest s is same = need_adds_before h at k (need l.statement) (need s) (wanted at (k + 1) (up_to_end rest)) (tail (before ++ l ∷ []) rest) same
 
--- a line and the lines behind it
+-- a line and the lines after it
 pub step : (current : Option ℕ) (h : Expr → Bool) (before : List Line) (k : ℕ) (l : Line) (rest : List Line) → length before ≡ k →
     left current h k (l ∷ rest) ++ tail before (l ∷ rest) ≡ added current h k l ++ (left (opened current k l) (seen_after current h l) (k + 1) rest ++ tail (before ++ l ∷ []) rest)
 step None h before k l rest is = steps None h before k l rest l.statement is refl
@@ -160,7 +160,7 @@ pub none : (words : List PoolWord) (h : Expr → Bool) (lines : List Line) → w
 unfolding words_of
 none words h lines is = ap (λ ws. ws ++ ([] ++ tail [] lines)) is
 
--- behind the last
+-- after the last
 pub every : (words : List PoolWord) (current : Option ℕ) (h : Expr → Bool) (k : ℕ) (lines : List Line) (all : List PoolWord) → length lines ≤ k → Makes words current h k lines all → words ≡ all
 every words None h k lines all le makes = sym (append-nil words) ∙ ap (λ ls. words ++ ([] ++ tail (take k lines) ls)) (sym (drop_all k lines le)) ∙ makes
 every words (Some p) h k lines all le makes = sym (append-nil words) ∙ ap (λ ls. words ++ (left (Some p) h k ls ++ tail (take k lines) ls)) (sym (drop_all k lines le)) ∙ makes

@@ -45,7 +45,7 @@ keep_right : (n : ℕ) (x : Finding) (y : AsmPlace) → y.line ≡ n → IsAbove
 keep_right n None y is above = refl
 keep_right n (Some x) y is above = ap (λ b. if b then Some y else Some x) (sooner_true y.line x.line (rank y.kind) (rank x.kind) (omega arith))
 
--- one line, with what the lines behind it find
+-- one line, with what the lines after it find
 joined : (l : Line) (x y later_x later_y rest : Finding) → IsOf l x → IsOf l y → IsAbove l.number later_x → IsAbove l.number later_y → least later_x later_y ≡ rest →
     least (or_else x later_x) (or_else y later_y) ≡ or_else (least x y) rest
 joined l None None later_x later_y rest of_x of_y above_x above_y e = e

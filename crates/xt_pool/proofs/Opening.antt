@@ -20,7 +20,7 @@ open_more : (before : List Line) (l : Line) → is_open (before ++ l ∷ []) ≡
 open_more before l = ap (λ ls. option_map_or (λ l. is_position l.statement) (find ends_pool ls) false) (reverse-append before (l ∷ []))
     ∙ chosen (is_position l.statement) (is_segment l.statement) l (find ends_pool (reverse before)) refl
 
--- the flag is right, and the first fault is that of the lines behind
+-- the flag is right, and the first fault is that of the lines that follow
 pub record Finds (flag : Bool) (k : ℕ) (lines : List Line) (fault : Finding) : Type 0 where
   pub flag_is : flag ≡ is_open (take k lines)
   pub rest : first (each_after has_no_pool (take k lines) (drop k lines)) ≡ fault

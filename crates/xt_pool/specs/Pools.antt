@@ -103,7 +103,7 @@ IsAmong n w = (w.position < n) × (w.line < n)
 
 -- ---- a literal without a position
 
--- behind these lines a pool takes literals: the last position or segment is a position
+-- after these lines a pool takes literals: the last position or segment is a position
 abbrev pub is_open : List Line → Bool
 is_open before =
     option_map_or (λ l. is_position l.statement) (find ends_pool (reverse before)) false

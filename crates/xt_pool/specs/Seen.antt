@@ -1,3 +1,4 @@
+-- Carries a proof; nothing that a reader must believe.
 -- The set of expressions that the uses of one pool have needed so far.
 use Rattle.std.specs.Prelude.{ℕ, Bool, true, false, ◌&&◌, ◌||◌, List, [], ◌∷◌, Option, Some, None}
 use Rattle.std.specs.Prelude.{is_none, if◌then◌else◌, ◌≡◌}
@@ -42,7 +43,7 @@ added (Some p) h k l =
     option_map_or (λ n. if is_there h (word p k n) then [] else word p k n ∷ []) (need l.statement)
     []
 
--- the position of the pool that is open behind the line
+-- the position of the pool that is open after the line
 abbrev pub opened : Option ℕ → ℕ → Line → Option ℕ
 opened current k l =
     if is_position l.statement then Some k else (if is_segment l.statement then None else current)
@@ -52,11 +53,11 @@ abbrev pub uses : Option ℕ → Line → Expr → Bool
 uses None l e = false
 uses (Some p) l e = option_map_or (λ n. is_none n.0 && same_terms n.1 e) (need l.statement) false
 
--- the uses of the open pool behind the line
+-- the uses of the open pool after the line
 abbrev pub seen_after : Option ℕ → (Expr → Bool) → Line → Expr → Bool
 seen_after current h l e = if is_position l.statement then false else (h e || uses current l e)
 
--- whether a pool is open behind the line
+-- whether a pool is open after the line
 abbrev pub is_open_behind : Bool → Line → Bool
 is_open_behind before l =
     if is_position l.statement then true else (if is_segment l.statement then false else before)

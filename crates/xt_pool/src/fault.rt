@@ -20,7 +20,7 @@ fn unplaced(is_open: bool, line: &Line) -> Option<AsmPlace>
     }
 }
 
-/// Whether a pool is open behind a line.
+/// Whether a pool is open after a line.
 fn is_open_behind(is_open: bool, line: &Line) -> bool
     ensures { result ≡ is_open_behind is_open line.now }
 {

@@ -53,7 +53,7 @@ fn put<'a>(
 }
 
 /// Puts the word of a line, at this place among the lines, into the pool that is open, and answers the position of the pool
-/// that is open behind it.
+/// that is open after it.
 fn advance<'a>(
     alloc: Global,
     words: &mut Vec<PoolWord>,
@@ -97,7 +97,7 @@ fn words_of_lines(alloc: Global, lines: &[Line]) -> Result<Vec<PoolWord>, AllocE
 
 /// The lines with their literal pools.
 ///
-/// A pool stands at each `.literal_position` and holds what the lines behind it need, up to the next position or the end of
+/// A pool stands at each `.literal_position` and holds what the lines after it need, up to the next position or the end of
 /// the segment, in the order of the lines that first need a word. A `.literal` has a word of its own; uses whose expressions
 /// are the same list of terms share one.
 ///

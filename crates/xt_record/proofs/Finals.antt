@@ -132,7 +132,7 @@ points_of_run image o es =
     (λ p. ap (point_of p) (sym (short_world_advanced P (take p s) (opened (opening_of image o))))) l in
     each (filter is_due (range_with_len 0 (length s)))
 
--- the finding of a core behind its last entry
+-- the finding of a core after its last entry
 rest_is : (image : Image) (r : Run) (c : ℕ) (es : List Entry) (next : Option ℕ) → take (length es) es ≡ es
     → slice_get (places_from 0 (records_of c image r).records) (length (calls_of c (take (length es) es))) ≡ next → r.history ≡ es
     → rest_finding image r c ≡ option_map (fault.Turn c) next
@@ -233,7 +233,7 @@ more_zero image o es k0 k1 after s a points h x =
     (shown_beside image o es n list 0 x.free k1 m (Some a) (omega arith) world (x.next_is.left, x.next_is.asks)).more refl
     ∙ ap (λ (c : ℕ). Some (fault.Turn 0 c)) (sym (ap (λ (k : CoreState). k.count) x.next_is.same))
 
--- core 1, behind all turns of core 0
+-- core 1, after all turns of core 0
 pub more_one : (image : Image) (o : Options) (es : List Entry) (k0 k1 k0' after : CoreState) (s : Setting) (a : Access) (mid points : List (List ℕ))
     → StandsAt image o es (length es) k0 k1 s → Arrives (code_of image) 0 k0 k1 k0' s.memory.contents (length es) None s.points.items mid
     → Arrives (code_of image) 1 k1 k0' after s.memory.contents (length es) (Some a) mid points

@@ -42,7 +42,7 @@ same_access_refl a =
     ap₂ (λ x y. x && y) (eq-eqb a.addr a.addr refl)
     (ap₂ (λ x y. x && y) (eq-eqb a.size a.size refl) (same_kind_refl a.kind))
 
--- the call of an entry behind the calls before it
+-- the call of an entry after the calls before it
 call_at : (c : ℕ) (done : List Entry) (e : Entry) (es : List Entry) → e.core ≡ c
     → slice_get (calls_of c (done ++ e ∷ es)) (length (calls_of c done)) ≡ Some (e.access, e.reply)
 call_at c [] e es is =

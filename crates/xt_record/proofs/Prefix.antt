@@ -56,7 +56,7 @@ places_many i (x ∷ xs) =
     let h : length (places_from (suc i) xs) ≡ length (calls_in xs) = places_many (suc i) xs in
     elim x.access as (λ d. length (place_before d i (places_from (suc i) xs)) ≡ length (call_before d x.reply (calls_in xs))) [ None ↦ h | Some a ↦ ap suc h ]
 
--- the element behind a list, and the one behind its end
+-- the element after a list, and the one after its end
 get_behind : {A : Type 0} (xs : List A) (y : A) (ys : List A) → slice_get (xs ++ y ∷ ys) (length xs) ≡ Some y
 get_behind [] y ys = refl
 get_behind (x ∷ xs) y ys = get_behind xs y ys

@@ -12,7 +12,7 @@ use Rattle.xt_exec.specs.State.{State}
 use Rattle.xt_record.specs.Checkpoints.{file_bytes, last_numbers, loop_numbers, saved_numbers, special_bytes, state_bytes}
 use Rattle.xt_record.specs.Fields.{words}
 
--- a word behind those of a list
+-- a word after those of a list
 word_more : (values values' : List ℕ) (v w : ℕ) (old now new : List ℕ) → values' ≡ values ++ w ∷ [] → v ≡ w → now ≡ old ++ words values
     → new ≡ now ++ to_le_bytes w32 v → new ≡ old ++ words values'
 word_more values values' v w old now new more at is grown =
@@ -42,7 +42,7 @@ unfolding file_bytes
 registers_all regs i old now from to is =
     is ∙ ap (λ (k : ℕ). old ++ words (map (slice_index regs) (range_with_len 0 k))) (let e : i ≡ 64 = omega (arith, from, to) in e)
 
--- one part more behind those that are written
+-- one part more after those that are written
 joined : (now part next behind new : List ℕ) → next ≡ now ++ part → new ≡ next ++ behind → new ≡ now ++ (part ++ behind)
 joined now part next behind new is after = after ∙ ap (λ (l : List ℕ). l ++ behind) is ∙ append_assoc now part behind
 

@@ -183,7 +183,7 @@ pub record IsEntryAt (es : List Entry) (i : ℕ) (e : Entry) : Type 0 where
   pub behind : drop i es ≡ e ∷ drop (i + 1) es
   pub size : length (take i es) ≡ i
 
--- the world behind it, where a core makes it
+-- the world after it, where a core makes it
 world_more : (image : Image) (o : Options) (es : List Entry) (i number : ℕ) (own other own' : CoreState) (s s' : Setting) (e : Entry) (list : List ℕ)
     → IsWorld image o list (beside number own other (line_at s.memory.contents (take i es))) → (t : Took (code_of image) number own other own' s s' i e) → IsEntryAt es i e
     → IsWorld image o (list ++ replicate (t.turns + 1) number) (beside number own' other (line_at s'.memory.contents (take (i + 1) es)))

@@ -38,7 +38,7 @@ special_bytes special numbers = words (map (slice_index special) numbers)
 unfoldable pub file_bytes : List ℕ → List ℕ
 file_bytes regs = words (map (slice_index regs) (range_with_len 0 64))
 
--- the 111 words of a core that makes its turn of this number next; the word behind LCOUNT
+-- the 111 words of a core that makes its turn of this number next; the word after LCOUNT
 -- is BR, which is always 0
 unfoldable pub state_bytes : ℕ → State → List ℕ
 state_bytes step s =

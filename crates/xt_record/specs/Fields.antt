@@ -69,7 +69,7 @@ raw_at bytes place = record {
   reply = word_at bytes (place + 16);
 }
 
--- so many, one behind another from a place on
+-- so many, one after another from a place on
 unfoldable pub raws_from : ℕ → List ℕ → ℕ → List RawEntry
 raws_from zero bytes place = []
 raws_from (suc n) bytes place = raw_at bytes place ∷ raws_from n bytes (place + 20)
@@ -90,7 +90,7 @@ access_of e = record { addr = e.addr; size = e.size; kind = kind_of e.kind e.a e
 abbrev pub entry_of : RawEntry → Entry
 entry_of e = record { core = e.core; access = access_of e; reply = e.reply }
 
--- ---- the checkpoints, which version 2 has behind the entries
+-- ---- the checkpoints, which version 2 has after the entries
 
 abbrev pub entries_end : List ℕ → ℕ
 entries_end rest = 36 + 20 * entry_count rest

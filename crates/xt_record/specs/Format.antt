@@ -50,7 +50,7 @@ run_in bytes =
 unfoldable pub recording_fault : List ℕ → Finding
 recording_fault bytes = first (part_rules bytes ++ run_rules bytes (image_in bytes) (run_in bytes))
 
--- the image and the run where no rule fails, else the first fault; too little memory aside
+-- the image and the run where no rule fails, else the first fault, unless memory ran out
 abbrev pub Reads : Result (Image × Run) RecordFault → List ℕ → Finding → Type 0
 Reads (Ok r) bytes finding = (finding ≡ None) × (r.0 ≡ image_in bytes) × (r.1 ≡ run_in bytes)
 Reads (Err e) bytes finding = e ≢ fault.Memory → finding ≡ Some e

@@ -23,14 +23,14 @@ pub record HasParts (bytes : List ℕ) : Type 0 where
   pub image : image_length bytes ≤ 8388608
   pub behind : length (behind_image bytes) ≡ length_behind (version bytes) (behind_image bytes)
 
--- the entries where each is one, else the first that is none; too little memory aside
+-- the entries where each is one, else the first that is none, unless memory ran out
 abbrev pub HasRead : Result (Vec Entry Global) RecordFault → List ℕ → Type 0
 HasRead (Ok entries) rest =
     (shape_finding 0 (raws_in rest) ≡ None) × (entries.items ≡ map entry_of (raws_in rest))
     × All (λ (e : Entry). e.core < 2) entries.items
 HasRead (Err e) rest = e ≢ fault.Memory → shape_finding 0 (raws_in rest) ≡ Some e
 
--- the image, else its fault; too little memory aside
+-- the image, else its fault, unless memory ran out
 abbrev pub HasImage : Result Image RecordFault → List ℕ → Type 0
 HasImage (Ok image) bytes =
     (image_fault bytes ≡ None) × (image ≡ image_of bytes) × IsWellFormed image

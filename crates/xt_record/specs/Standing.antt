@@ -1,5 +1,5 @@
 -- Carries a proof; nothing that a reader must believe.
--- Both cores and memory of a run behind its first entries.
+-- Both cores and memory of a run after its first entries.
 use Rattle.std.specs.Prelude.{◌≡◌, ◌≢◌, ℕ, zero, suc, ◌+◌, ◌≤◌, List, [], ◌∷◌, ◌++◌, length, take}
 use Rattle.std.specs.Prelude.{drop, Some, None, Result, Ok, Err}
 use Rattle.xt_map.specs.declared.access.Entry.{Entry}
@@ -44,7 +44,7 @@ pub record IsFreeAt (core0 core1 : CoreState) (s : Setting) : Type 0 where
 abbrev pub IsFree : Walk → Type 0
 IsFree w = IsFreeAt w.core0 w.core1 w.setting
 
--- ---- a walk behind its first entries
+-- ---- a walk after its first entries
 
 abbrev pub opening_world : Image → Options → ShortWorld State
 opening_world image o = short_world (opened (opening_of image o))

@@ -46,7 +46,7 @@ point_of position w =
     checkpoint_bytes position (length w.line.history) w.core0.count w.core0.state w.core1.count
     w.core1.state w.line.memory
 
--- the same of one core beside the other, behind so many entries
+-- the same of one core beside the other, after so many entries
 abbrev pub point_beside : ℕ → ℕ → CoreState → CoreState → MemoryContents → List ℕ
 point_beside zero entries own other m =
     checkpoint_bytes (own.count + other.count) entries own.count own.state other.count other.state m
@@ -164,7 +164,7 @@ pub record Took
   pub adds : Adds code number before other old.memory.contents index (turns + 1) old.points.items
       new.points.items
 
--- the result is that of what the entry shows, too little memory aside
+-- the result is that of what the entry shows, unless memory ran out
 abbrev pub Takes :
     Result Unit RecordFault → (code : ℕ → ℕ) (number : ℕ) (before other after : CoreState)
     (old new : Setting) (index : ℕ) (entry : Entry) → Type 0

@@ -5,7 +5,7 @@ use std::alloc::{AllocError, AllocFailed};
 use thiserror::Error;
 use xt_image::ImageFault;
 
-/// The first rule of a recording that a file breaks, or too little memory.
+/// The first rule of a recording that a file breaks, or running out of memory.
 ///
 /// The rules are judged in this order: `Short` for fewer than 12 bytes, `Magic`, `Version`; `Short`
 /// and `Trailing` for the length of the parts; `Image`; `Options`; `Entry`; then `Turn` and

@@ -77,7 +77,7 @@ fn put_memory(out: &mut Vec<u8>, memory: &Memory) -> Result<(), AllocError>
     out.extend_from_slice(memory.rtc_slow())
 }
 
-/// Writes the checkpoint of a position, at which both cores and memory stand, behind so many
+/// Writes the checkpoint of a position, at which both cores and memory stand, after so many
 /// entries.
 #[tactic(auto, unfolding(crate::specs::Checkpoints::checkpoint_bytes))]
 pub(crate) fn put_point(

@@ -25,7 +25,7 @@ fn is_due(position: u32) -> bool
     position != 0 && position % STRIDE == 0
 }
 
-// The checkpoint of two cores, of which the first has this number, and of memory, behind so many
+// The checkpoint of two cores, of which the first has this number, and of memory, after so many
 // entries.
 fn point(
     alloc: Global,
@@ -146,7 +146,7 @@ pub(crate) fn take_entry(
     Ok(())
 }
 
-/// Makes the turns that a core has left, behind the last entry.
+/// Makes the turns that a core has left, after the last entry.
 pub(crate) fn end(
     alloc: Global,
     number: u8,

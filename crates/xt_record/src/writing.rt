@@ -107,8 +107,8 @@ fn put_points(out: &mut Vec<u8>, points: &[Bytes]) -> Result<(), AllocError>
     Ok(())
 }
 
-// The checkpoints of a run, which is made again: it breaks no rule of the turns, so that only too
-// little memory stops it.
+// The checkpoints of a run, which is made again: it breaks no rule of the turns, so that only
+// running out of memory stops it.
 fn points_of(alloc: Global, image: &Image, run: &Run) -> Result<Vec<Bytes>, AllocError>
     requires image { IsWellFormed image.now }
     requires run { IsRunOf image.now run.now }
@@ -125,8 +125,8 @@ fn points_of(alloc: Global, image: &Image, run: &Run) -> Result<Vec<Bytes>, Allo
     }
 }
 
-/// The recording of a run: version 2, with its image and its checkpoints. The only error is too
-/// little memory.
+/// The recording of a run: version 2, with its image and its checkpoints. The only error is running
+/// out of memory.
 ///
 /// Conditions: the image is well formed, and the run is the image's.
 #[tactic(auto, unfolding(crate::specs::Written::recording_bytes))]

@@ -52,7 +52,7 @@ pub data Split (es : List Entry) (i : ℕ) (xs : List StepRecord) (j : ℕ) (ys 
   step1 : One es i xs j ys → Split es i xs j ys
   ended : Over es i xs j ys → Split es i xs j ys
 
--- the places of records with a call begin at or behind the number of the first record
+-- the places of records with a call begin at or after the number of the first record
 record First (k : ℕ) (xs : List StepRecord) : Type 0 where
   place : ℕ
   rest : List ℕ

@@ -143,7 +143,7 @@ position_behind : (core step : ℕ) (r : Run) → (trace_in core r).count ≤ st
 position_behind core step r le =
     ap (λ (b : Bool). if b then place_of core step (schedule_in r) else place_behind core step (schedule_in r)) (le-ltb step (trace_in core r).count le)
 
--- behind the last step
+-- after the last step
 pub here_behind : (image : Image) (r : Run) (p core step : ℕ) → Comes image r core step p → step ≡ (trace_in core r).count → steps_at core image r p ≡ step
     → p ≡ position_of core step r
 here_behind image r p core step c end made = c.behind end made ∙ sym (position_behind core step r (omega arith))

@@ -17,7 +17,7 @@ place_of core zero (c ∷ cs) = if c == core then 0 else suc (place_of core zero
 place_of core (suc k) (c ∷ cs) =
     if c == core then suc (place_of core k cs) else suc (place_of core (suc k) cs)
 
--- the place directly behind the core's last number, where the list has so many of
+-- the place directly after the core's last number, where the list has so many of
 -- them; 0 where it has none
 abbrev pub place_behind : ℕ → ℕ → List ℕ → ℕ
 place_behind core zero cs = 0

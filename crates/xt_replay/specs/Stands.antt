@@ -8,9 +8,8 @@ use Rattle.xt_map.specs.declared.contents.MemoryContents.{MemoryContents}
 use Rattle.xt_trace.specs.declared.options.Options.{Options}
 use Rattle.xt_trace.specs.declared.run.Run.{Run}
 use Rattle.xt_image.specs.declared.image.Image.{Image}
-use Rattle.xt_runs.specs.Alone.{answer, memory_left}
 use Rattle.xt_runs.specs.Runs.{Opening}
-use Rattle.xt_runs.specs.Worlds.{Core, World, left_past}
+use Rattle.xt_runs.specs.Worlds.{Core, World, left_past, answer, memory_left}
 use Rattle.xt_exec.specs.State.{State}
 use Rattle.xt_exec.specs.Turn.{demand, turn}
 use Rattle.xt_exec.specs.States.{file_state}
@@ -132,7 +131,7 @@ pub record IsAsRoomy (old new : Pair) : Type 0 where
   pub turns1 : new.core1.turns ≡ old.core1.turns
   pub room : new.memory.room ≡ old.memory.room
 
--- the position is not behind that of a core's step with this number
+-- the position is not after that of a core's step with this number
 pub record Comes (image : Image) (r : Run) (core step p : ℕ) : Type 0 where
   pub most : step_in core (shown_at image r p) ≤ step
   pub behind : step ≡ (trace_in core r).count → step_in core (shown_at image r p) ≡ step

@@ -47,7 +47,7 @@ impl<'a> Model for Replay<'a> {
 }
 
 // The core of the next step of a run that goes on, where so many accesses were served and core 0 has
-// made so many steps: the core of the next entry of the history; behind the last one core 0 as long as
+// made so many steps: the core of the next entry of the history; after the last one core 0 as long as
 // it has steps left.
 fn next_of(run: &Run, used: u32, step0: u32) -> u8
     ensures { result ≡ next_of (drop used run.now.history) step0 run.now.trace0.count }
@@ -62,8 +62,8 @@ impl Checkpoint {
     ghost use Rattle.std.specs.Prelude.{◌≡◌, ◌<◌, ◌≤◌, true};
     ghost use Rattle.xt_replay.specs.Stands.{made_in};
 
-    // Whether it is not behind a position, and another place is behind that position or farther
-    // before it.
+    // Whether it is not after a position, and another place is after that position or farther before
+    // it.
     fn is_closer(&self, from: u32, position: u32) -> bool
         ensures { result ≡ true → self.now.position ≤ position }
     {
@@ -71,7 +71,7 @@ impl Checkpoint {
     }
 
     // Whether a walk on from here comes to a core's step with this number or, where that is how
-    // many steps the core makes in all, to the place behind its last one.
+    // many steps the core makes in all, to the place after its last one.
     fn is_before(&self, core: u8, step: u32, count: u32) -> bool
         ensures most { result ≡ true → made_in core self.now.mark ≤ step }
         ensures left { result ≡ true → made_in core self.now.mark < count }
@@ -95,7 +95,7 @@ impl<'a> Replay<'a> {
     ghost use Rattle.xt_replay.specs.Stands.{Comes};
 
     /// The run at position 0. All memory is taken here, also that of copies of what the run has at
-    /// each multiple of 65,536 steps; the only error is too little memory.
+    /// each multiple of 65,536 steps; the only error is running out of memory.
     ///
     /// Conditions: the run is the image's. The image's segments lie in one region each and share no
     /// byte, as those of every image that was read.
@@ -194,7 +194,7 @@ impl<'a> Replay<'a> {
         self.position += 1;
     }
 
-    // Goes back to the start where it stands behind a position.
+    // Goes back to the start where it stands after a position.
     fn back(&mut self, position: u32)
         ensures moved { self.new ≡ moved self.old self.new.position }
         ensures within { self.new.position ≤ position }
@@ -215,7 +215,7 @@ impl<'a> Replay<'a> {
         }
     }
 
-    // Goes to the last checkpoint that is not behind a position, where the walk from there is
+    // Goes to the last checkpoint that is not after a position, where the walk from there is
     // shorter than from where it stands.
     fn resume_checkpoint(&mut self, position: u32)
         ensures { self.new ≡ moved self.old self.new.position }
@@ -350,7 +350,7 @@ impl<'a> Replay<'a> {
         self.pair.used
     }
 
-    // Whether it stands directly before a core's step with this number, or behind its last.
+    // Whether it stands directly before a core's step with this number, or after its last.
     fn is_at(&self, core: u8, step: u32) -> bool
         requires core { core < 2 }
         requires step { step ≤ (trace_in core self.now.run).count }

@@ -2,7 +2,7 @@
 ghost use Rattle.std.specs.Prelude.{◌≡◌, ◌+◌, ◌<◌, ◌≤◌, None, ◌^◌, ℕ, IfOk, length, if◌then◌else◌};
 ghost use Rattle.xt_map.specs.Memory.{constant_byte};
 ghost use Rattle.xt_trace.specs.Validity.{IsValid};
-ghost use Rattle.xt_runs.specs.Alone.{answer, memory_left};
+ghost use Rattle.xt_runs.specs.Worlds.{answer, memory_left};
 ghost use Rattle.xt_bus.specs.States.{holding};
 ghost use Rattle.xt_exec.specs.Turn.{demand};
 ghost use Rattle.xt_core.specs.Cores.{turned};
@@ -98,7 +98,7 @@ impl Pair {
         }
     }
 
-    /// A copy, which has room for so many bytes that are sent. The only error is too little memory.
+    /// A copy, which has room for so many bytes that are sent. The only error is running out of memory.
     ///
     /// Condition: the bytes that were sent find room.
     pub fn mark(&self, alloc: Global, room: usize) -> Result<Mark, AllocError>

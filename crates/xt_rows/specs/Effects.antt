@@ -95,8 +95,8 @@ calls size target pc e =
       flow = Goes target;
     })
 
--- LBEG is the address behind, LEND the target, LCOUNT one less than the count; the body is passed
--- over where `passes` says so
+-- LBEG is the address of the next instruction, LEND the target, LCOUNT one less than the count; the
+-- body is passed over where `passes` says so
 abbrev pub loops : Bool → ℕ → ℕ → ℤ → Effect → Outcome
 loops passes count pc offset e =
     let end = branch_target pc offset in

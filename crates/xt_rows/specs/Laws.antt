@@ -1,4 +1,5 @@
--- What is said of the rows of all instructions.
+-- States laws of the rows of all instructions. Public contracts also cite its ranges: those of
+-- words, numbers of registers, shift amounts and outcomes.
 use Rattle.std.specs.Prelude.{◌≡◌, ℕ, ◌<◌, ◌^◌, true, Option, Some, None}
 use Rattle.xt_isa.specs.declared.Insn.{Insn}
 use Rattle.xt_isa.specs.declared.Insn.TheVariants as insn

@@ -25,7 +25,7 @@ extended signed n = if signed then sign_extended n 16 else n
 
 -- ---- addresses
 
--- of the instruction behind a call or at the beginning of a loop
+-- of the instruction after a call or at the beginning of a loop
 abbrev pub address_behind : ℕ → ℕ
 address_behind pc = (pc + 3) % 2 ^ 32
 

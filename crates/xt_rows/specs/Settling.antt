@@ -96,7 +96,9 @@ settled (Asks access awaited e) len c =
       control = ticked (after_effect e len c);
     }
 settled Stops len c = without_access Stopped None c
--- each machine has its own cases for the steps of windows, and never comes here with one
+-- The processor has its own case for each step of windows, and never comes here with one. The
+-- machine with unbounded frames has its own cases for ENTRY and RETW alone: any other step of
+-- windows is a breach there, and does nothing here but end its turn.
 settled (Windowed step) len c = without_access Executed None c
 
 -- ---- what the record of a turn shows of it

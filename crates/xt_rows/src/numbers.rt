@@ -40,7 +40,7 @@ pub fn extended(signed: bool, n: u32) -> u32
     if signed { sext(n, 16) } else { n }
 }
 
-/// The address of the instruction behind a call or at the beginning of a loop at `pc`.
+/// The address of the instruction after a call or at the beginning of a loop at `pc`.
 #[inline(always)]
 pub fn address_behind(pc: u32) -> u32
     ensures { result ≡ address_behind pc }

@@ -14,7 +14,7 @@ pub struct Awaited {
 /// Where an instruction goes on.
 #[derive(Clone, Copy)]
 pub enum Flow {
-    /// To the instruction behind it, or back in a loop.
+    /// To the instruction after it, or back in a loop.
     Falls,
     /// To this address, by a jump, a taken branch, a call or a return.
     Goes(u32),

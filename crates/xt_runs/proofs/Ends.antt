@@ -5,8 +5,7 @@ use Rattle.xt_trace.specs.declared.record.StepRecord.{StepRecord}
 use Rattle.xt_trace.specs.Calls.{is_stop}
 use Rattle.xt_runs.specs.Chip.{Chip}
 use Rattle.xt_map.specs.History.{calls_of}
-use Rattle.xt_runs.specs.Alone.{answer}
-use Rattle.xt_runs.specs.Worlds.{Core, Line, World, left_past, core_given, give, advance, rest_of, finished}
+use Rattle.xt_runs.specs.Worlds.{Core, Line, World, left_past, core_given, give, advance, rest_of, finished, answer}
 use Rattle.xt_runs.specs.Runs.{Opening, opened, run_at, IsRunOf, run_of}
 use Rattle.xt_runs.proofs.Driven.{drove_ended}
 use Rattle.xt_runs.proofs.Keeping.{advance_keeps, opened_reached}

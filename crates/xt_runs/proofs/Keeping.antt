@@ -5,8 +5,7 @@ use Rattle.xt_map.specs.declared.access.Access.{Access}
 use Rattle.xt_map.specs.declared.contents.MemoryContents.{MemoryContents}
 use Rattle.xt_map.specs.Serving.{memory_past, reply_to}
 use Rattle.xt_map.specs.History.{memory_after, IsLegal, IsOfCores}
-use Rattle.xt_runs.specs.Alone.{answer}
-use Rattle.xt_runs.specs.Worlds.{entry}
+use Rattle.xt_runs.specs.Worlds.{entry, answer}
 use Rattle.xt_map.proofs.Grown.{calls_of_push, memory_after_push, legal_push, of_cores_push}
 use Rattle.xt_runs.specs.Chip.{Chip}
 use Rattle.xt_trace.specs.Calls.{call_before}

@@ -5,8 +5,7 @@ use Rattle.xt_map.specs.declared.access.Access.{Access}
 use Rattle.xt_map.specs.declared.access.Entry.{Entry}
 use Rattle.xt_map.specs.Serving.{reply_to}
 use Rattle.xt_map.specs.History.{memory_after, IsLegal, IsOfCores}
-use Rattle.xt_runs.specs.Alone.{answer}
-use Rattle.xt_runs.specs.Worlds.{entry}
+use Rattle.xt_runs.specs.Worlds.{entry, answer}
 use Rattle.xt_trace.specs.declared.record.StepRecord.{StepRecord}
 use Rattle.xt_runs.specs.Chip.{Chip}
 use Rattle.xt_runs.specs.Traces.{Traced, trace_over, reply_for, replies_past}

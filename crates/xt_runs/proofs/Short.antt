@@ -7,12 +7,11 @@ use Rattle.xt_trace.specs.Calls.{is_stop}
 use Rattle.xt_runs.specs.Chip.{Chip}
 use Rattle.xt_runs.specs.Traces.{Traced, ended, trace_over, reply_for, replies_past, has_stopped}
 use Rattle.xt_trace.specs.Calls.{call_before, calls_in}
-use Rattle.xt_map.specs.History.{replies_of}
+use Rattle.xt_map.specs.History.{IsOfCores, calls_of, replies_of}
 use Rattle.xt_runs.specs.Schedule.{place_before, places_from}
-use Rattle.xt_runs.specs.Alone.{answer}
-use Rattle.xt_runs.specs.Worlds.{Core, Line, World, core_past, line_given, core_given, give, advance, left_past}
+use Rattle.xt_runs.specs.Worlds.{Core, Line, World, core_past, line_given, core_given, give, advance, left_past, answer}
 use Rattle.xt_runs.specs.Runs.{Opening, Run, run_at, IsRunOf}
-use Rattle.xt_runs.specs.Short.{ShortTrace, short_trace, ShortRun, short_run, IsShortRunOf, short_schedule, ShortCore, short_core, short_past, short_given, short_line, ShortWorld, short_world, short_give, short_advance, IsRising, HasSchedule}
+use Rattle.xt_runs.specs.Short.{ShortTrace, short_trace, ShortRun, short_run, IsShortRunOf, short_schedule, ShortCore, short_core, short_past, short_given, short_line, ShortWorld, short_world, short_give, short_advance, IsRising}
 use Rattle.xt_runs.proofs.Ends.{run_at_is_run}
 use Rattle.xt_runs.proofs.Own.{own_schedule}
 
@@ -116,8 +115,18 @@ places_rise i (x ∷ xs) n e =
     let h : IsRising (suc i) (places_from (suc i) xs) n = places_rise (suc i) xs n (omega arith) in
     elim x.access as (λ d. IsRising i (place_before d i (places_from (suc i) xs)) n) [ None ↦ rising_weaker (suc i) i (places_from (suc i) xs) n (omega arith) h | Some a ↦ (omega arith, omega arith, h) ]
 
-pub run_has_schedule : {S : Type 0} (P : Chip S) (o : Opening S) (r : ShortRun S) → IsShortRunOf P o r → HasSchedule P o r
-run_has_schedule {S = S} P o r h =
+-- the turns of each core are not too many, and the places of its accesses rise and are as many as its entries
+pub record HasPlaces {S : Type 0} (P : Chip S) (o : Opening S) (r : ShortRun S) : Type 0 where
+  pub cores : IsOfCores r.history
+  pub turns0 : r.trace0.count ≤ o.turns0
+  pub turns1 : r.trace1.count ≤ o.turns1
+  pub rise0 : IsRising 0 r.trace0.places r.trace0.count
+  pub rise1 : IsRising 0 r.trace1.places r.trace1.count
+  pub calls0 : length r.trace0.places ≡ length (calls_of 0 r.history)
+  pub calls1 : length r.trace1.places ≡ length (calls_of 1 r.history)
+
+pub run_has_places : {S : Type 0} (P : Chip S) (o : Opening S) (r : ShortRun S) → IsShortRunOf P o r → HasPlaces P o r
+run_has_places {S = S} P o r h =
     let t0 = trace_over P o.state0 o.turns0 (replies_of 0 r.history) in
     let t1 = trace_over P o.state1 o.turns1 (replies_of 1 r.history) in
     record {

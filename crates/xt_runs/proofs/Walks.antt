@@ -17,7 +17,7 @@ use Rattle.xt_runs.specs.Runs.{Opening, Run, opened, IsRunOf, schedule_of}
 use Rattle.xt_runs.specs.Short.{short_run, short_trace, IsRising}
 use Rattle.xt_runs.specs.Walks.{next_record, IsWalk}
 use Rattle.xt_runs.proofs.Own.{own_world}
-use Rattle.xt_runs.proofs.Short.{run_has_schedule}
+use Rattle.xt_runs.proofs.Short.{run_has_places}
 
 -- what one core's turn adds: one record, or nothing where it has none left
 record Adds {S : Type 0} (P : Chip S) (k : Core S) (b : Line) (n : ℕ) : Type 0 where
@@ -117,7 +117,7 @@ unfolding Measured
 own_walk {S = S} P o r h =
     let w = advance P (schedule_of r) (opened o) in
     let is = own_world P o r h in
-    let s = run_has_schedule P o (short_run r) (record {
+    let s = run_has_places P o (short_run r) (record {
       legal = h.legal;
       cores = h.cores;
       trace0 = ap short_trace h.trace0;

@@ -1,6 +1,5 @@
 pub mod Chip
 pub mod Traces
-pub mod Alone
 pub mod Worlds
 pub mod Schedule
 pub mod Runs

@@ -10,8 +10,7 @@ use Rattle.xt_trace.specs.Calls.{calls_in, is_stop}
 use Rattle.xt_trace.specs.declared.trace.Stop.{Stop}
 use Rattle.xt_map.specs.History.{calls_of, replies_of}
 use Rattle.xt_runs.specs.Schedule.{place_before, places_from, cores_of}
-use Rattle.xt_runs.specs.Alone.{answer}
-use Rattle.xt_runs.specs.Worlds.{Core, Line, World, line_given, left_past}
+use Rattle.xt_runs.specs.Worlds.{Core, Line, World, line_given, left_past, answer}
 use Rattle.xt_runs.specs.Schedule.{schedule}
 use Rattle.xt_runs.specs.Runs.{Opening, Run}
 
@@ -122,13 +121,3 @@ short_advance P (c ∷ cs) w = short_advance P cs (short_give P c w)
 abbrev pub IsRising : ℕ → List ℕ → ℕ → Type 0
 IsRising i [] n = Unit {0}
 IsRising i (p ∷ ps) n = (i ≤ p) × (p < n) × IsRising (suc p) ps n
-
--- a run has a schedule
-pub record HasSchedule {S : Type 0} (P : Chip S) (o : Opening S) (r : ShortRun S) : Type 0 where
-  pub cores : IsOfCores r.history
-  pub turns0 : r.trace0.count ≤ o.turns0
-  pub turns1 : r.trace1.count ≤ o.turns1
-  pub rise0 : IsRising 0 r.trace0.places r.trace0.count
-  pub rise1 : IsRising 0 r.trace1.places r.trace1.count
-  pub calls0 : length r.trace0.places ≡ length (calls_of 0 r.history)
-  pub calls1 : length r.trace1.places ≡ length (calls_of 1 r.history)

@@ -3,8 +3,7 @@
 use Rattle.std.specs.Prelude.{◌≡◌, ℕ, zero, suc, ◌<◌, List, [], ◌∷◌, take}
 use Rattle.xt_trace.specs.declared.record.StepRecord.{StepRecord}
 use Rattle.xt_runs.specs.Chip.{Chip}
-use Rattle.xt_runs.specs.Alone.{answer}
-use Rattle.xt_runs.specs.Worlds.{Core, Line, World, give, advance}
+use Rattle.xt_runs.specs.Worlds.{Core, Line, World, give, advance, answer}
 use Rattle.xt_runs.specs.Runs.{Opening, opened}
 
 -- the record of a core's next turn

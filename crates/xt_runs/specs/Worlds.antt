@@ -9,7 +9,15 @@ use Rattle.xt_trace.specs.declared.record.StepRecord.{StepRecord}
 use Rattle.xt_runs.specs.Chip.{Chip}
 use Rattle.xt_trace.specs.Calls.{is_stop}
 use Rattle.xt_runs.specs.Traces.{trace_over}
-use Rattle.xt_runs.specs.Alone.{answer}
+
+-- what the bus answers to a turn that may ask, and what memory is afterwards
+abbrev pub answer : Option Access → MemoryContents → ℕ
+answer None m = 0
+answer (Some a) m = reply_to m a
+
+abbrev pub memory_left : Option Access → MemoryContents → MemoryContents
+memory_left None m = m
+memory_left (Some a) m = memory_past m a
 
 -- a core: its state, the turns that it has left (none after a Stop), and its records so far
 pub record Core (S : Type 0) : Type 0 where

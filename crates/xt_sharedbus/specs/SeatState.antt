@@ -1,4 +1,4 @@
--- What contracts see of a seat.
+-- What contracts see of a seat ('profile').
 use Rattle.std.specs.Prelude.{ℕ, ◌-◌, List, [], ◌∷◌, ◌++◌}
 use Rattle.atomic_table.specs.Seated.{TableId}
 use Rattle.xt_map.specs.declared.contents.MemoryContents.{MemoryContents}

@@ -69,7 +69,7 @@ impl Model for SharedBus {
     ghost invariant = { λ s. ruled_capacity s.queue ≡ 1 };
 }
 
-/// Too little memory. It hands the bus back as it was.
+/// Memory ran out. It hands the bus back as it was.
 #[derive(Drop)]
 pub struct NoMemory {
     /// The bus.

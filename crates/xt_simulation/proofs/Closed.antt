@@ -8,9 +8,10 @@ use Rattle.std.proofs.lemmas.List.{get_or-set_same, get_or-set_other, get_or_pas
 use Rattle.xt_exec.specs.State.{State}
 use Rattle.xt_frames.specs.FrameStep.{laid}
 use Rattle.xt_frames.specs.Frames.{Frame, moved, FrameState}
-use Rattle.xt_simulation.specs.Closing.{Resumes, SpillsKeepPlain, FillsKeepPlain}
+use Rattle.xt_simulation.specs.Closing.{SpillsKeepPlain, FillsKeepPlain}
+use Rattle.xt_simulation.specs.InHandlers.{Resumes, Holds}
 use Rattle.xt_simulation.specs.Relation.{Same, Even, Plain, inputs}
-use Rattle.xt_simulation.specs.Ring.{stands, Holds, InRing, Windows}
+use Rattle.xt_simulation.specs.Ring.{stands, InRing, Windows}
 use Rattle.xt_frames.specs.Stacks.{IsFrame, AreFrames}
 use Rattle.xt_special.specs.declared.ps.Ps.{Ps}
 use Rattle.xt_window.specs.Ring.{place, bit, with_bit, without_bit}

@@ -30,13 +30,12 @@ use Rattle.xt_frames.specs.HandlerSteps.{is_window, closes, fetched_ends, ends_s
 use Rattle.xt_frames.specs.Stacks.{Stack}
 use Rattle.xt_simulation.specs.Relation as relation
 use Rattle.xt_simulation.specs.Relation.{inputs}
-use Rattle.xt_simulation.specs.Closing.{Changes}
+use Rattle.xt_simulation.specs.InHandlers.{Changes, Holds, start_of, Untouched, Stretch, MovesFrame, StoresAlone, above}
 use Rattle.xt_simulation.specs.Cores.{word, Related}
 use Rattle.xt_simulation.specs.Stretches as stretches
 use Rattle.xt_simulation.specs.Stretches.{InHandler}
 use Rattle.xt_simulation.proofs.Chains.{related_spared}
 use Rattle.xt_map.proofs.Alike.{touched_at}
-use Rattle.xt_simulation.specs.Ring.{Holds}
 use Rattle.xt_simulation.proofs.Closed.{in_ring_end}
 use Rattle.xt_simulation.proofs.Windowed.{enters_window, visible_value}
 use Rattle.xt_simulation.proofs.Stretched.{overflows_keep_related, underflows_keep_related, stretches_begin, stretches_go_on, stretches_end, oldest, newest_of}
@@ -60,8 +59,8 @@ use Rattle.xt_stretch.proofs.Turning.{turns, done, spared}
 use Rattle.xt_stretch.proofs.Changed.{others_stay_above}
 use Rattle.xt_stretch.proofs.Joins.{save_low, save_high}
 use Rattle.xt_handlers.specs.Vectors.{vector_number, vector_at, vector_bytes, verdict_of, Handlers}
-use Rattle.xt_simulation.specs.Steps.{state_now, memory_now, machine}
-use Rattle.xt_simulation.specs.InHandlers.{InDram, Somewhere, Begins, start_of, Untouched, Handling, Stretch, Settles, MovesFrame, StoresAlone, above, IsGood, HandlerStep, steps_on, closes_stretch}
+use Rattle.xt_simulation.specs.Steps.{state_now, memory_now}
+use Rattle.xt_simulation.specs.Handling.{machine, InDram, Somewhere, Begins, Handling, Settles, IsGood, HandlerStep, steps_on, closes_stretch}
 use Rattle.xt_simulation.specs.HandlerLaws.{StretchesAreEntered, HandlerStepsAreKept, HandlersAreSpared}
 use Rattle.xt_fetch.specs.Code.{AreBytes}
 use Rattle.xt_simulation.proofs.Fetched.{byte_is as fetched_byte, bytes_length, byte_small, fetched_is, step_is, vector_fetches, vector_handles, fetch_small, length_is}

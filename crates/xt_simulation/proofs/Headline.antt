@@ -7,9 +7,8 @@ use Rattle.xt_map.specs.declared.access.Entry.{Entry}
 use Rattle.xt_map.specs.History.{IsLegal, memory_after}
 use Rattle.xt_trace.specs.declared.record.StepRecord.{StepRecord}
 use Rattle.xt_fetch.specs.Code.{AreBytes}
-use Rattle.xt_runs.specs.Alone.{answer}
 use Rattle.xt_runs.specs.Worlds as worlds
-use Rattle.xt_runs.specs.Worlds.{give, core_given, line_given}
+use Rattle.xt_runs.specs.Worlds.{give, core_given, line_given, answer}
 use Rattle.xt_window.specs.Ring.{cleared_regs}
 use Rattle.xt_exec.specs.State.{opening_state, opening_regs}
 use Rattle.xt_frames.specs.Frames.{opening_seen}
@@ -22,7 +21,7 @@ use Rattle.xt_exec.specs.Chips.{processor}
 use Rattle.xt_frames.specs.Frames.{FrameState}
 use Rattle.xt_frames.specs.Breaches.{Bounds}
 use Rattle.xt_handlers.specs.Vectors.{Handlers}
-use Rattle.xt_simulation.specs.InHandlers.{IsGood}
+use Rattle.xt_simulation.specs.Handling.{IsGood}
 use Rattle.xt_simulation.specs.Steps.{reply_at, memory_after_step, record_now, state_now, memory_now}
 use Rattle.xt_frames.specs.Judging.{Standing, Seen, Handled, Judges, Breaks}
 use Rattle.xt_simulation.specs.Walking.{Entered, World, Moved, entered_by, moved_by, move, Apart}

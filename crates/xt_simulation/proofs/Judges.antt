@@ -27,7 +27,7 @@ use Rattle.xt_simulation.proofs.Chains.{related_spared}
 use Rattle.xt_simulation.proofs.Whole.{keeps_level}
 use Rattle.xt_simulation.proofs.StackSteps.{keeps_stack}
 use Rattle.xt_simulation.specs.Steps.{reply_at, memory_after_step, reply_now, record_now, state_now, memory_now}
-use Rattle.xt_simulation.specs.InHandlers.{Somewhere}
+use Rattle.xt_simulation.specs.Handling.{Somewhere}
 use Rattle.xt_simulation.specs.Memories.{Agree, KeepsAreas}
 use Rattle.xt_map.specs.Touching.{IsMemory}
 use Rattle.xt_simulation.proofs.Memories.{replies_agree, memories_agree, live_kept, keeps_from, reply_small}

@@ -28,7 +28,7 @@ use Rattle.xt_simulation.proofs.RingLemmas.{some_within}
 use Rattle.xt_stretch.specs.Running.{word_at, with_word, is_access}
 use Rattle.xt_stretch.proofs.Words.{word_at-same, word_at-other, access_from}
 use Rattle.xt_map.specs.Touching.{IsMemory}
-use Rattle.xt_simulation.specs.InHandlers.{InDram}
+use Rattle.xt_simulation.specs.Handling.{InDram}
 use Rattle.xt_simulation.proofs.Words.{bytes_stored}
 use Rattle.xt_simulation.specs.Opening.{values_from, frame_of, IsStack, AreSmall}
 use Rattle.xt_simulation.proofs.Judges.{lay}

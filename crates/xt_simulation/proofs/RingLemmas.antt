@@ -4,7 +4,8 @@ use Rattle.std.proofs.Math.ListN.{set}
 use Rattle.std.proofs.lemmas.Bool.{eqb-true, eq-eqb, cases_lt, or_cases, or_right, or_left, false_from_ne_true}
 use Rattle.std.proofs.lemmas.List.{get_or-set_other, get_or_past}
 use Rattle.xt_frames.specs.Frames.{Frame, moved}
-use Rattle.xt_simulation.specs.Ring.{stands, Holds, InRing}
+use Rattle.xt_simulation.specs.Ring.{stands, InRing}
+use Rattle.xt_simulation.specs.InHandlers.{Holds}
 use Rattle.xt_frames.specs.Stacks.{AreFrames}
 use Rattle.xt_window.specs.Ring.{place}
 use Rattle.xt_simulation.proofs.Modular.{one_place}

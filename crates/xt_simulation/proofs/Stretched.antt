@@ -8,7 +8,8 @@ use Rattle.xt_exec.specs.State.{State}
 use Rattle.xt_frames.specs.Frames.{Frame, moved, FrameState, known}
 use Rattle.xt_frames.specs.SaveAreas.{sp_of, before}
 use Rattle.xt_simulation.specs.Cores.{word, Related}
-use Rattle.xt_simulation.specs.Ring.{Holds, InRing}
+use Rattle.xt_simulation.specs.Ring.{InRing}
+use Rattle.xt_simulation.specs.InHandlers.{Holds}
 use Rattle.xt_frames.specs.Stacks.{AreFrames}
 use Rattle.xt_frames.specs.Stacks.{Chain, IsRange}
 use Rattle.xt_simulation.specs.Stacks.{Saved, sp_under}

@@ -24,7 +24,8 @@ use Rattle.xt_frames.specs.Stacks.{Stack}
 use Rattle.xt_simulation.specs.Relation.{inputs}
 use Rattle.xt_simulation.proofs.Chains.{related_spared, live_in_range}
 use Rattle.xt_simulation.specs.Steps.{reply_at, memory_after_step, reply_now, record_now, state_now, memory_now}
-use Rattle.xt_simulation.specs.InHandlers.{IsGood, Somewhere, Handling, MovesFrame, StoresAlone, HandlerStep, steps_on, closes_stretch}
+use Rattle.xt_simulation.specs.InHandlers.{MovesFrame, StoresAlone}
+use Rattle.xt_simulation.specs.Handling.{IsGood, Somewhere, Handling, HandlerStep, steps_on, closes_stretch}
 use Rattle.xt_simulation.specs.Memories.{Agree, KeepsAreas}
 use Rattle.xt_map.specs.Touching.{IsMemory}
 use Rattle.xt_simulation.proofs.Handled.{somewhere_of, handler_steps_are_kept, Next, goes_on, ends, begins_at, handling_stack, untaken_now, handling_steps, handling_spared}

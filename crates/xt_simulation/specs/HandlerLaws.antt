@@ -17,7 +17,7 @@ use Rattle.xt_frames.specs.Breaches.{Bounds, window_breach}
 use Rattle.xt_simulation.specs.Relation.{inputs}
 use Rattle.xt_simulation.specs.Cores.{Related}
 use Rattle.xt_simulation.specs.Steps.{state_now}
-use Rattle.xt_simulation.specs.InHandlers.{IsGood, Handling, HandlerStep}
+use Rattle.xt_simulation.specs.Handling.{IsGood, Handling, HandlerStep}
 
 abbrev pub StretchesAreEntered : Type 0
 StretchesAreEntered =

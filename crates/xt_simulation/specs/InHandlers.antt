@@ -1,57 +1,44 @@
--- What holds of a core inside handler steps, and what a handler step and a whole stretch of them
--- have done ('profile'). All of the relation but the contents of memory is said of the state before
--- the record of the window exception; of the state now: PC and how much of the handler is left, the
--- special registers, and what the handler has moved so far.
-use Rattle.std.specs.Prelude.{◌≡◌, ◌≤◌, ◌<◌, ℕ, ◌+◌, ◌*◌, ◌%◌, ◌^◌, Bool, true, false, Some, None}
-use Rattle.std.specs.Prelude.{List, [], ◌∷◌, ◌++◌, slice_index_or}
-use Rattle.xt_map.specs.declared.contents.MemoryContents.{MemoryContents}
-use Rattle.xt_map.specs.Memory.{byte_at}
+-- What a handler step and a whole stretch of them have done ('profile').
+use Rattle.std.specs.Prelude.{◌≡◌, ◌≢◌, ◌≤◌, ◌<◌, ℕ, ◌+◌, ◌*◌, ◌%◌, true, Option, Some, None}
+use Rattle.std.specs.Prelude.{List, [], ◌∷◌, ◌++◌, length, slice_index, slice_index_or}
+use Rattle.xt_special.specs.Numbers as number
+use Rattle.xt_special.specs.Control.{Control}
 use Rattle.xt_exec.specs.State.{State}
-use Rattle.xt_exec.specs.Laws.{IsShaped}
-use Rattle.xt_exec.specs.Turn.{planned}
-use Rattle.xt_frames.specs.HandlerSteps.{closes}
 use Rattle.xt_frames.specs.Frames.{Frame, FrameState, moved}
 use Rattle.xt_frames.specs.SaveAreas.{is_live}
-use Rattle.xt_frames.specs.Breaches.{lost_of, Bounds}
-use Rattle.xt_simulation.specs.Ring.{Holds}
-use Rattle.xt_simulation.specs.Cores.{Related}
-use Rattle.xt_simulation.specs.Stretches.{InHandler}
-use Rattle.xt_stretch.specs.Symbols.{Effect}
+use Rattle.xt_frames.specs.Breaches.{Bounds}
 use Rattle.xt_stretch.specs.declared.Side.{Side}
 use Rattle.xt_stretch.specs.declared.Side.TheVariants.{Overflow, Underflow}
-use Rattle.xt_window.specs.Ring.{visible, with_bit, without_bit}
-use Rattle.xt_simulation.specs.Closing.{Changes}
+use Rattle.xt_window.specs.Ring.{place, visible, with_bit, without_bit}
 use Rattle.xt_stretch.specs.Needs.{save_word}
 use Rattle.xt_stretch.specs.Meaning.{address_of}
 use Rattle.xt_stretch.specs.Running.{Machine, word_at}
-use Rattle.xt_stretch.specs.Kept.{Stands, Handles, IsElsewhere}
-use Rattle.xt_handlers.specs.Vectors.{vector_at, vector_bytes, Handlers}
-use Rattle.xt_simulation.specs.Steps.{state_now, memory_now, machine}
+use Rattle.xt_stretch.specs.Kept.{IsElsewhere}
+use Rattle.xt_handlers.specs.Vectors.{vector_at}
 
--- the stack range lies in data memory
-pub record InDram (b : Bounds) : Type 0 where
-  pub low : 0x3FFAE000 ≤ b.range.lo
-  pub high : b.range.hi ≤ 0x40000000
+-- PC, PS but OWB, and the special registers but EPC1, CCOUNT and INTERRUPT are as before the window
+-- exception
+pub record Resumes (c d : Control) : Type 0 where
+  pub pc : d.pc ≡ c.pc
+  pub ps : d.ps ≡ record c.ps { owb = d.ps.owb }
+  pub threadptr : d.threadptr ≡ c.threadptr
+  pub waits : d.waits ≡ c.waits
+  pub size : length d.special ≡ length c.special
+  pub special : (k : ℕ) → k ≢ number.epc 1 → k ≢ number.interrupt → k ≢ number.ccount
+      → slice_index d.special k ≡ slice_index c.special k
 
--- so it does, and the six handlers pass the check
-pub record IsGood (code : ℕ → ℕ) (b : Bounds) : Type 0 where
-  pub dram : InDram b
-  pub aligned : b.vecbase % 2 ^ 10 ≡ 0
-  pub handlers : Handlers code b.vecbase
+-- only the registers below a(4n) of window `at` may have changed
+pub record Changes (s t : State) (at n : ℕ) : Type 0 where
+  pub base : t.base ≡ s.base
+  pub size : length t.regs ≡ length s.regs
+  pub others : (p : ℕ) → 4 * (at + n) ≤ p → p < 4 * at + 64
+      → slice_index t.regs (p % 64) ≡ slice_index s.regs (p % 64)
+  pub control : Resumes s.control t.control
 
--- outside handler steps: some frames stand in the ring, and the others are spilled
-pub record Somewhere
-    (m : ℕ → ℕ) (b : Bounds) (lost : ℕ → Bool) (s : State) (f : FrameState) : Type 0 where
-  pub ring : List Frame
-  pub spilled : List Frame
-  pub related : Related m b lost s f ring spilled
-
--- Where a stretch began. The frame g is moved: of an overflow it is the oldest in the ring, below
--- `front`; of an underflow the newest spilled one. In both, `rest` are the frames below it.
-abbrev pub Begins : Side → (ℕ → ℕ) → Bounds → (ℕ → Bool) → State → FrameState → List Frame → Frame
-    → List Frame → Type 0
-Begins Overflow m b lost s f front g rest = Related m b lost s f (front ++ g ∷ []) rest
-Begins Underflow m b lost s f front g rest = Related m b lost s f [] (g ∷ rest)
+-- the kept registers that have a value stand in the window w
+abbrev pub Holds : List ℕ → List (Option ℕ) → ℕ → Type 0
+Holds regs kept w =
+    (i v : ℕ) → slice_index_or kept i None ≡ Some v → slice_index regs (place w i) ≡ v
 
 -- the handler's window, with the registers and the bytes at the record of the window exception
 abbrev pub start_of : State → (ℕ → ℕ) → List Frame → Machine
@@ -61,37 +48,6 @@ start_of before opened rest = record { ring = before.regs; base = moved rest % 1
 abbrev pub Untouched : Side → ℕ → Machine → ℕ → Type 0
 Untouched Overflow n start a = IsElsewhere n start a
 Untouched Underflow n start a = Unit {0}
-
--- `before` is the state before the record of the window exception, and `opened` are the bytes at it
-pub record Handling
-    (code : ℕ → ℕ) (b : Bounds) (m : MemoryContents) (s : State) (f : FrameState)
-    (before : State) (opened : ℕ → ℕ) : Type 0 where
-  pub side : Side
-  pub lost : ℕ → Bool
-  pub front : List Frame
-  pub g : Frame
-  pub rest : List Frame
-  pub begins : Begins side opened b lost before f front g rest
-  pub moves : 0 < g.by
-  pub within : g.by ≤ 3
-  pub low : before.control.ps.excm ≡ false
-  pub running : before.control.waits ≡ false
-  pub shaped : IsShaped before
-  -- how far the handler is, and that the rest of it answers Yes
-  pub offset : ℕ
-  pub effect : Effect
-  pub flags : List Bool
-  pub pc : s.control.pc ≡ vector_at b.vecbase side g.by + offset
-  pub handles : Handles side g.by (vector_bytes code (vector_at b.vecbase side g.by)) offset effect
-  -- PC aside, what the control state was, with EPC1, PS.OWB and exception mode of the window
-  -- exception
-  pub control : InHandler before.control s.control before.base
-  pub bits : s.start ≡ before.start
-  -- what was moved so far
-  pub stands : Stands side g.by (start_of before opened rest) effect flags (machine m s)
-  -- its own live bytes, but those that it stores
-  pub kept : (a : ℕ) → is_live b.range f a ≡ true
-      → Untouched side g.by (start_of before opened rest) a → byte_at m a ≡ opened a
 
 -- What a whole stretch has done, from the state before its record of a window exception to the one
 -- after its RFWO or RFWU: PC, the window, PS but OWB, the special registers but EPC1, CCOUNT and
@@ -109,12 +65,6 @@ pub record Stretch
   pub loaded : side ≡ Underflow → (k : ℕ) → k < 4 * n
       → visible after.regs (moved rest % 16) k ≡ word_at opened
       (address_of (start_of before opened rest) (save_word Underflow n k))
-
--- the relation after it
-abbrev pub Settles :
-    Side → (ℕ → ℕ) → Bounds → State → FrameState → List Frame → Frame → List Frame → Type 0
-Settles Overflow m b t f front g rest = Related m b (lost_of false) t f front (g ∷ rest)
-Settles Underflow m b t f front g rest = Related m b (lost_of false) t f (g ∷ []) rest
 
 -- the callers in the ring above the moved frame
 abbrev pub above : Side → List Frame → List Frame
@@ -154,20 +104,3 @@ pub record StoresAlone
   pub elsewhere : side ≡ Overflow
       → (a : ℕ) → IsElsewhere g.by (start_of before opened rest) a → new a ≡ old a
   pub nowhere : side ≡ Underflow → (a : ℕ) → new a ≡ old a
-
--- one handler step: the handler goes on, and has changed live bytes of its own core alone; or the
--- stretch ends
-pub data HandlerStep
-    (code : ℕ → ℕ) (b : Bounds) (m : MemoryContents) (s : State) (f : FrameState)
-    (before : State) (opened : ℕ → ℕ) : Type 0 where
-  steps_on : closes code (planned code s).kind s.control.pc ≡ false
-      → Handling code b (memory_now code m s) (state_now code m s) f before opened
-      → ((a : ℕ) → is_live b.range f a ≡ false → byte_at (memory_now code m s) a ≡ byte_at m a)
-      → StoresAlone b f before s opened (byte_at m) (byte_at (memory_now code m s))
-      → HandlerStep code b m s f before opened
-  closes_stretch : closes code (planned code s).kind s.control.pc ≡ true
-      → MovesFrame b f before (state_now code m s) opened (byte_at m)
-      → Somewhere (byte_at m) b (lost_of false) (state_now code m s) f
-      → memory_now code m s ≡ m
-      → StoresAlone b f before s opened (byte_at m) (byte_at (memory_now code m s))
-      → HandlerStep code b m s f before opened

@@ -11,7 +11,7 @@ use Rattle.xt_frames.specs.Breaches.{lost_of, Bounds, stale_after}
 use Rattle.xt_frames.specs.Judging.{step_on, live_of, fresh_on}
 use Rattle.xt_simulation.specs.Steps.{reply_at, memory_after_step, record_now, state_now}
 use Rattle.xt_simulation.specs.Steps.{memory_now}
-use Rattle.xt_simulation.specs.InHandlers.{Somewhere}
+use Rattle.xt_simulation.specs.Handling.{Somewhere}
 use Rattle.xt_simulation.specs.Memories.{Agree}
 
 -- PC, kind, write and access of the record are those of the frame step, and the frame machine's

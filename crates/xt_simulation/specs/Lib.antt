@@ -6,6 +6,7 @@ pub mod Stacks
 pub mod Stretches
 pub mod JudgedSteps
 pub mod InHandlers
+pub mod Handling
 pub mod HandlerLaws
 pub mod Memories
 pub mod Steps

@@ -13,7 +13,7 @@ use Rattle.xt_frames.specs.Breaches.{lost_of, Bounds}
 use Rattle.xt_stretch.specs.Joined.{Finds}
 use Rattle.xt_simulation.specs.Stacks.{IsElsewhere}
 use Rattle.xt_simulation.specs.Cores.{word, Related}
-use Rattle.xt_simulation.specs.Closing.{Resumes, Changes}
+use Rattle.xt_simulation.specs.InHandlers.{Resumes, Changes}
 
 -- the stores of an overflow of n from window w
 pub record Stores (old new : ℕ → ℕ) (s : State) (w n : ℕ) : Type 0 where

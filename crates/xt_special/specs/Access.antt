@@ -28,7 +28,7 @@ is_eps n = nat_le 194 n && nat_le n 199
 abbrev pub software_bits : ℕ
 software_bits = 2 ^ 7 + 2 ^ 29
 
--- the timers 0, 1 and 2 have the bits 6, 15 and 16
+-- the timers 0, 1 and 2 have the bits 6, 15 and 16 ('profile')
 unfoldable pub timer_bit : ℕ → ℕ
 timer_bit n = if n == 240 then 2 ^ 6 else (if n == 241 then 2 ^ 15 else 2 ^ 16)
 
@@ -59,8 +59,8 @@ abbrev pub changed_by : ℕ → ℕ
 changed_by n = if n == number.intclear then number.interrupt else n
 
 -- what it then holds, where INTERRUPT was v: SAR and EXCCAUSE keep six bits, VECBASE all but ten,
--- INTENABLE the bits that there are, EPS2 to EPS7 what PS would keep; INTSET sets and INTCLEAR
--- clears the bits of software
+-- INTENABLE the bits that there are (6, 7, 15, 16 and 29: 0x200180C0), EPS2 to EPS7 what PS would
+-- keep; INTSET sets and INTCLEAR clears the bits of software
 unfoldable pub value_kept : ℕ → ℕ → ℕ → ℕ
 value_kept n x v =
     if n == number.sar || n == number.exccause then x % 2 ^ 6

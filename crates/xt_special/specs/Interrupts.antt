@@ -32,7 +32,8 @@ pending_of c = pending_level (special_of c number.interrupt) (special_of c numbe
 abbrev pub interrupt_cause : ℕ
 interrupt_cause = 4
 
--- the vectors of the levels 2, 3, .. stand 0x40 apart, from 0x180 on
+-- the vectors of the levels 2, 3, .. stand 0x40 apart, from 0x180 on; these are the ESP32's
+-- configuration
 abbrev pub after_high_level : ℕ → Control → Control
 after_high_level level c = record c {
   pc = special_of c number.vecbase + 0x100 + 0x40 * level;

@@ -12,7 +12,7 @@ with_timer timer mask special =
     then slice_set special number.interrupt
     (bit_or (slice_index special number.interrupt) mask) else special
 
--- the timers 0, 1 and 2 have the bits 6, 15 and 16
+-- the timers 0, 1 and 2 have the bits 6, 15 and 16 ('profile')
 unfoldable pub ticked_special : List ℕ → List ℕ
 ticked_special special =
     with_timer 2 (2 ^ 16) (with_timer 1 (2 ^ 15) (with_timer 0 (2 ^ 6)

@@ -1,5 +1,5 @@
--- What a contract sees of the special registers that a core keeps, and how they are
--- part of its control state.
+-- What a contract sees of the special registers that a core keeps, and how they are part of its
+-- control state ('profile').
 use Rattle.std.specs.Prelude.{ℕ, Bool, List}
 use Rattle.xt_special.specs.declared.ps.Ps.{Ps}
 use Rattle.xt_special.specs.Control.{Control}

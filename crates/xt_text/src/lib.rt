@@ -23,7 +23,7 @@ pub fn push_hex8(out: &mut String, word: u32) -> Result<(), AllocError>
     write!(out, "{word:08X}")
 }
 
-/// A word, or an address, in eight upper-case hexadecimal digits. The only error is too little
+/// A word, or an address, in eight upper-case hexadecimal digits. The only error is running out of
 /// memory.
 #[tactic(auto, using(crate::proofs::Digits::padded_is_hex8))]
 pub fn hexadecimal(alloc: Global, word: u32) -> Result<String, AllocError>

@@ -39,7 +39,7 @@ static SYNTAX: [Row; 28] = [
     (".seg 'A'", 3, 6, 8),
     ("nop\r nop\n", 3, 4, 8),
     ("nop\r", 3, 4, 8),
-    // The first line with a fault of this kind is answered, also behind lines with faults of other kinds.
+    // The first line with a fault of this kind is answered, also after lines with faults of other kinds.
     (".byte 256\nj nowhere\n.word 1,\nfoo bar", 5, 9, 8),
 ];
 
@@ -117,7 +117,7 @@ static POOL_REACH: [Row; 11] = [
     ("l32r a2, =5", 3, 1, 3),
     ("x: l32r a2, =5", 3, 4, 3),
     (".literal x, 5", 3, 1, 3),
-    // A position serves the lines behind it, up to the end of its segment.
+    // A position serves the lines after it, up to the end of its segment.
     ("l32r a2, =5\n.literal_position", 3, 1, 3),
     (".literal_position\n.seg 0x40090000\nl32r a2, =5", 5, 1, 3),
     // The address of the PC + 3, rounded down to 4, is 40080400 here: the reach is 40040400 to 400803FC.
@@ -303,7 +303,7 @@ fn answer_of(alloc: Global, text: &str) -> Result<AsmPlace, Fail> {
     }
 }
 
-/// The first fault of a row's text behind these lines.
+/// The first fault of a row's text after these lines.
 fn row_answer(alloc: Global, front: &str, row: &Row) -> Result<(AsmPlace, AsmPlace), Fail> {
     let (text, line, column, kind) = *row;
     let text = format!(in alloc; "{front}{text}")?;
@@ -358,7 +358,7 @@ fn far_use(alloc: Global, lines: &str) -> Result<String, Fail> {
 
 #[test]
 fn a_pool_word_reaches_as_far_as_l32r(rt: HostRuntime) -> Result<(), Fail> {
-    // At 40110000 the word is 262144 bytes behind, which is the farthest; at 40110003 it is 4 bytes more.
+    // At 40110000 the word is 262144 bytes before, which is the farthest; at 40110003 it is 4 bytes more.
     let near = far_use(rt.alloc(), "")?;
     assert!(rt; near.len() <= 1_048_576);
     assert!(rt; assemble(rt.alloc(), near.as_bytes()).is_ok());

@@ -11,7 +11,7 @@ type Row = (&'static str, &'static str);
 /// The two lines that stand before each text of `CODE`, whose image has the one segment 400D0000 and that entry.
 const FRONT: &str = ".seg 0x400D0000\n.entry 0x400D0000\n";
 
-/// Texts behind these two lines, and the bytes of the segment, which blanks may part.
+/// Texts after these two lines, and the bytes of the segment, which blanks may part.
 static CODE: [Row; 25] = [
     // Uses of one pool share a word where their terms are the same: here 5 and 2 + 3 are two words.
     (

@@ -8,7 +8,7 @@ use xt_map::can_execute_at;
 pub struct Stack {
     /// The lowest address, a multiple of 16 in the internal data memory.
     pub lo: u32,
-    /// The address behind the highest, a multiple of 16.
+    /// The address after the highest, a multiple of 16.
     pub hi: u32,
 }
 

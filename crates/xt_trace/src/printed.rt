@@ -88,7 +88,7 @@ fn push_access(out: &mut String, access: Option<Access>, reply: u32) -> Result<(
 ///
 /// C is the core, STEP the number of the turn and S the size of the access in bytes, in decimal; addresses and values are
 /// eight upper-case hexadecimal digits. KIND is `insn`, `window V`, `exc CAUSE`, `int LEVEL`, `wait` or `stop`. The only
-/// error is too little memory.
+/// error is running out of memory.
 #[tactic(auto, unfolding(crate::specs::Lines::line_text))]
 pub fn line(alloc: Global, core: u8, step: u32, r: &StepRecord) -> Result<Text, AllocError>
     ensures { IfOk result (λ text. text ≡ line_text core step r.now) }

@@ -29,7 +29,7 @@ back_at ring front w (suc n) i size low high =
     ∙ back_at ring front w n i size (omega arith) (omega arith))
     (cases_eq i n)
 
--- a register behind the first n plays no part
+-- a register after the first n plays no part
 back_before : (ring front : List ℕ) (w n i v : ℕ) → n ≤ i → written_back ring (slice_set front i v) w n ≡ written_back ring front w n
 unfolding written_back
 back_before ring front w zero i v low = refl

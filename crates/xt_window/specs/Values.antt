@@ -1,4 +1,4 @@
--- What a contract sees of the plain register file.
+-- What a contract sees of the plain register file ('profile').
 use Rattle.std.specs.Prelude.{ℕ, List}
 
 pub record WindowState : Type 0 where

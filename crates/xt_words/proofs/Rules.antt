@@ -19,7 +19,7 @@ use Rattle.xt_words.specs.declared.command.Refusal.{Refusal}
 use Rattle.xt_words.specs.declared.command.Refusal.TheVariants as refusal
 use Rattle.xt_words.specs.declared.options.RunOptions.{RunOptions}
 
--- ---- too little memory
+-- ---- running out of memory
 
 unless_broken-answers : (rule : Option ℕ) (o : RunOptions) → unless_broken rule o ≢ Err refusal.Memory
 unless_broken-answers None o = λ e. search (rules, e)

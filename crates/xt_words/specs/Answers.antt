@@ -3,7 +3,7 @@ use Rattle.std.specs.Prelude.{◌≡◌, Result, Ok, Err}
 use Rattle.xt_words.specs.declared.command.Refusal.{Refusal}
 use Rattle.xt_words.specs.declared.command.Refusal.TheVariants as refusal
 
--- what was answered is the meaning, too little memory aside
+-- what was answered is the meaning, unless memory ran out
 abbrev pub Means : {A : Type 0} → Result A Refusal → Result A Refusal → Type 0
 Means (Err refusal.Memory) meant = Unit {0}
 Means answer meant = answer ≡ meant

@@ -1,4 +1,4 @@
--- What the words of the command line behind the program's name mean ('profile'). A word is the list
+-- What the words of the command line after the program's name mean ('profile'). A word is the list
 -- of its bytes.
 use Rattle.std.specs.Prelude.{◌≢◌, List, [], ◌∷◌, Option, Some, None, Result, Ok, Err}
 use Rattle.std.specs.Prelude.{if◌then◌else◌, codes}
@@ -74,7 +74,7 @@ meaning_by (Some name.Migrate) words =
     without_options command.Migrate (rows_by (new_app (codes "migrate")) words)
 meaning_by (Some name.Generate) words = gen_meaning_of words
 
--- the command with its options that the words say, or why they say none; the words behind `replay`
+-- the command with its options that the words say, or why they say none; the words after `replay`
 -- are judged by themselves
 abbrev pub meaning_of : List Text → Result Command Refusal
 meaning_of [] = Err (refusal.Usage 1)
@@ -104,6 +104,6 @@ abbrev pub MayWantMemory : List Text → Type 0
 MayWantMemory [] = ⊥
 MayWantMemory (word ∷ rest) = TakesMemory (named word)
 
--- the meaning of words is never too little memory
+-- the meaning of words is never that memory ran out
 abbrev pub NeedsNoMemory : Type 0
 NeedsNoMemory = (words : List Text) → meaning_of words ≢ Err refusal.Memory

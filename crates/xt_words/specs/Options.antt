@@ -192,7 +192,7 @@ AreValid o = (entry : ℕ) → is_executable (region_of entry) ≡ true → IsVa
 
 -- ---- laws
 
--- the meaning of words is never too little memory
+-- the meaning of words is never that memory ran out
 abbrev pub OptionsNeedNoMemory : Type 0
 OptionsNeedNoMemory =
     (words : List Text)

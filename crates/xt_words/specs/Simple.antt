@@ -17,7 +17,7 @@ rows_without (kind ∷ kinds) rows = None
 unfoldable pub rows_by : App → List Text → Option (List Row)
 rows_by app words = rows_without (fault_of app words) (matches_of app words)
 
--- a refusal says that there are no matches, too little memory aside
+-- a refusal says that there are no matches, unless memory ran out
 abbrev pub Refuses : Refusal → Option (List Row) → Type 0
 Refuses refusal.Memory rows = Unit {0}
 Refuses r rows = (r ≡ refusal.Usage 3) × (rows ≡ None)

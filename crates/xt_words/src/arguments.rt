@@ -25,7 +25,7 @@ fn judge_vecbase(vecbase: Option<u32>) -> Result<u32, Refusal>
 ///
 /// The words are read as a simple command of `clap` with the option `--vecbase N`, whose default is 0x40080000. N is as
 /// for `run`. `Usage` has the first rule that the words break: 3 they do not match, 4 the text is no number, 7 it is no
-/// multiple of 1024. `Memory` is too little memory alone.
+/// multiple of 1024. `Memory` says only that memory ran out.
 pub fn check_vecbase(alloc: Global, words: &[String]) -> Result<u32, Refusal>
     ensures means { Means result (vecbase_of (map string_bytes words.now)) }
     ensures valid { IfOk result IsVecbase }
@@ -47,8 +47,8 @@ fn number_from(text: Option<&str>) -> Result<u32, Refusal>
 /// The number that the words of `gen` say, the first of which stands for the command.
 ///
 /// The words are read as a simple command of `clap` with one text that must be there. It is a number as for `run`.
-/// `Usage` has the first rule that the words break: 3 they do not match, 4 the text is no number. `Memory` is too little
-/// memory alone.
+/// `Usage` has the first rule that the words break: 3 they do not match, 4 the text is no number. `Memory` says only that
+/// memory ran out.
 pub fn generator_number(alloc: Global, words: &[String]) -> Result<u32, Refusal>
     ensures { Means result (generator_number_of (map string_bytes words.now)) }
 {
@@ -59,7 +59,7 @@ pub fn generator_number(alloc: Global, words: &[String]) -> Result<u32, Refusal>
 /// The text of the script that the words of `replay` have, the first of which stands for the command.
 ///
 /// The words are read as a simple command of `clap` with one text that must be there. `Usage(3)` says that they do not
-/// match. `Memory` is too little memory alone.
+/// match. `Memory` says only that memory ran out.
 pub fn script_text<'a>(alloc: Global, words: &'a [String]) -> Result<&'a str, Refusal>
     ensures { MeansAs (λ t. t.now) result (script_text_of (map string_bytes words.now)) }
 {

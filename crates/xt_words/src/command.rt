@@ -35,7 +35,7 @@ pub enum Refusal {
     /// text of theirs is refused (`run_options`, `check_vecbase` and `generator_number` say which is which). Further
     /// numbers are those of callers.
     Usage(u8),
-    /// There was too little memory to read the words.
+    /// Memory ran out while the words were read.
     Memory,
 }
 

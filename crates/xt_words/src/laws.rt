@@ -2,7 +2,7 @@
 ghost use Rattle.xt_words.specs.Meaning.{NeedsNoMemory};
 ghost use Rattle.xt_words.specs.Options.{AcceptsValid, OptionsNeedNoMemory};
 
-/// The meaning of words is never too little memory, so that this answer says nothing of the words.
+/// The meaning of words is never that memory ran out, so that this answer says nothing of the words.
 pub fn meaning_needs_no_memory()
     ensures { NeedsNoMemory }
 {}

@@ -1,6 +1,6 @@
 //! What the words of the command line mean.
 //!
-//! The words are those behind the program's own name; the first is the command. The words of a command that is
+//! The words are those after the program's own name; the first is the command. The words of a command that is
 //! read by `clap` mean what that crate defines for a simple command.
 #![tactic(auto)]
 

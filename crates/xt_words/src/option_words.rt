@@ -112,7 +112,7 @@ fn judged_texts(texts: OptionTexts<'_>) -> Result<RunOptions, Refusal>
 /// `0x` and one to eight hexadecimal digits, below 2^32. `Usage` has the first rule that the words break: 3 they do not
 /// match, 4 a text is no number or range, 5 a number of turns is above 4,000,000, 6 `entry1` is in no executable
 /// region, 7 `vecbase` is no multiple of 1024, 8 a stack is no range of at least 256 bytes in the internal data memory
-/// with ends at multiples of 16. `Memory` is too little memory alone.
+/// with ends at multiples of 16. `Memory` says only that memory ran out.
 pub fn run_options(alloc: Global, words: &[String]) -> Result<RunOptions, Refusal>
     ensures means { Means result (run_options_of (map string_bytes words.now)) }
     ensures valid { IfOk result AreValid }

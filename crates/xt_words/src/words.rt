@@ -71,7 +71,7 @@ fn gen_meaning(alloc: Global, words: &[String]) -> Result<Command, Refusal>
     }
 }
 
-/// The command with its options that the words behind the program's name say, or why they say none.
+/// The command with its options that the words after the program's name say, or why they say none.
 ///
 /// - No word is `Usage(1)`, and a first word that is no command `Usage(2)`.
 /// - `asm`, `elf`, `dis` and `migrate` take no further word. Other words after them are `Usage(3)`, as far as `clap` does not take
@@ -82,7 +82,7 @@ fn gen_meaning(alloc: Global, words: &[String]) -> Result<Command, Refusal>
 /// - `gen` has the number that `generator_number` says, with the rules of usage 3 and 4.
 /// - `replay` is `Replay`, whatever follows: `script_text` reads its words.
 ///
-/// `Memory` is too little memory alone.
+/// `Memory` says only that memory ran out.
 pub fn meaning(alloc: Global, words: &[String]) -> Result<Command, Refusal>
     ensures means { Means result (meaning_of (map string_bytes words.now)) }
     ensures valid { IfOk result HasValidOptions }

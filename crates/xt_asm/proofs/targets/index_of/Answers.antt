@@ -9,7 +9,7 @@ use Rattle.xt_asm.specs.Uses.{key_cmp}
 use Rattle.xt_asm.proofs.Indexing.{pass_by, put_in_front}
 use Rattle.xt_asm.proofs.targets.index_of.Goals as goal
 
--- the words from a place on are the word there and those behind it
+-- the words from a place on are the word there and those after it
 words_cut : (i : ℕ) (words : List PoolWord) (w : PoolWord) → 0 < i → i - 1 < length words → w ≡ get_or words (i - 1) w → drop (i - 1) words ≡ w ∷ drop i words
 words_cut i words w some lt is =
     let next : i - 1 + 1 ≡ i = omega arith in

@@ -1,8 +1,8 @@
 use Rattle.std.proofs.Common.{rules}
 use Rattle.std.specs.Io.KnownBytes.{Appends}
-use Rattle.xt_io.specs.Whole.{AppendsFront}
+use Rattle.xt_io.specs.Whole.{AppendsPrefix}
 use Rattle.xt_cli.specs.Calls.{ends}
-use Rattle.xt_cli.proofs.Running.{done, failed, front_of, memory, of_input}
+use Rattle.xt_cli.proofs.Running.{done, failed, prefix_of, memory, of_input}
 use Rattle.xt_cli.proofs.Writing.{was_appended}
 use Rattle.xt_cli.proofs.top.run_source.Goals as goal
 use Rattle.xt_cli.proofs.top.run_source.Goals.{in-Ok-write_wanted, in-Err-Failed}
@@ -11,7 +11,7 @@ pub returns-in-Err-Memory-write_wanted-clause-answers : goal.returns-in-Err-Memo
 returns-in-Err-Memory-write_wanted-clause-answers g c =
     let e = ends g.S.Source.left g.S.Source.faults c.args.source.now c.read_to_limit.new.source g.K.Sink.told g.K.Sink.faults c.args.sink.now c.write_wanted.new.sink in
     let found = c.in-Ok-judge_image.whole in
-    let front = AppendsFront (g.K.Sink.told c.args.sink.now) (g.K.Sink.told c.write_wanted.new.sink) in
+    let front = AppendsPrefix (g.K.Sink.told c.args.sink.now) (g.K.Sink.told c.write_wanted.new.sink) in
     memory c.args.wanted c.args.options.now e found _ _ c.without_run-in-Err-Memory-write_wanted.ensures.status c.without_run-in-Err-Memory-write_wanted.ensures.whole (record {
       input = c.in-Ok.input.items;
       taken = c.in-Ok.ensures.whole;
@@ -19,14 +19,14 @@ returns-in-Err-Memory-write_wanted-clause-answers g c =
       within = c.in-Ok.ensures.within;
       is = of_input c.args.wanted c.args.options.now c.in-Ok.input.items c.deref.result.now c.in-Ok-image_in.image found front
           c.deref.ensures.value c.in-Ok-image_in.ensures.ok c.in-Ok-judge_image.ensures.run c.in-Ok-judge_image.ensures.judged
-          (front_of _ _ _ _ _ _ _ c.in-Err-Memory-write_wanted.is c.write_wanted.ensures);
+          (prefix_of _ _ _ _ _ _ _ c.in-Err-Memory-write_wanted.is c.write_wanted.ensures);
     })
 
 pub returns-clause-answers : goal.returns-clause-answers
 returns-clause-answers g c =
     let e = ends g.S.Source.left g.S.Source.faults c.args.source.now c.read_to_limit.new.source g.K.Sink.told g.K.Sink.faults c.args.sink.now c.write_wanted.new.sink in
     let found = c.in-Ok-judge_image.whole in
-    let front = AppendsFront (g.K.Sink.told c.args.sink.now) (g.K.Sink.told c.write_wanted.new.sink) in
+    let front = AppendsPrefix (g.K.Sink.told c.args.sink.now) (g.K.Sink.told c.write_wanted.new.sink) in
     let whole = Appends (g.K.Sink.told c.args.sink.now) (g.K.Sink.told c.write_wanted.new.sink) in
     elim c.match-write_wanted.branch [
       | in-Ok-write_wanted w ↦ done c.args.wanted c.args.options.now e found _ w.status-is (record {
@@ -45,6 +45,6 @@ returns-clause-answers g c =
         within = c.in-Ok.ensures.within;
         is = of_input c.args.wanted c.args.options.now c.in-Ok.input.items c.deref.result.now c.in-Ok-image_in.image found front
             c.deref.ensures.value c.in-Ok-image_in.ensures.ok c.in-Ok-judge_image.ensures.run c.in-Ok-judge_image.ensures.judged
-            (front_of _ _ _ _ _ _ _ w.in-Err-Failed.is c.write_wanted.ensures);
+            (prefix_of _ _ _ _ _ _ _ w.in-Err-Failed.is c.write_wanted.ensures);
       }) (search rules)
     ]

@@ -1,4 +1,4 @@
--- The spans so far stand in a row, and none ends behind the end.
+-- The spans so far stand in a row, and none ends after the end.
 use Rattle.std.proofs.Common.{ℕ, ◌<◌, ◌≤◌, get_or}
 use Rattle.xt_elf.specs.declared.spans.Span.{Span}
 use Rattle.xt_elf.proofs.spans.are_in_a_row.Given as goal

@@ -1,6 +1,6 @@
 use Rattle.xt_layout.specs.Bounds.{Walks}
 use Rattle.xt_layout.proofs.spots.walk_of.Given as goal
 
--- what is known behind the lines so far
+-- what is known after the lines so far
 abbrev pub invariant-loop-k : goal.invariant-loop-k
 invariant-loop-k l = Walks l.lines l.words l.k l.here l.spots.items l.spans.items

@@ -1,6 +1,6 @@
 use Rattle.std.proofs.Common.{◌≡◌, ◌+◌, [], sym, ◌∙◌, ap, arith, cond, Some, None, append-nil}
 use Rattle.xt_lex.specs.Fronts.{and_then, string_body}
-use Rattle.xt_lex.proofs.StringLemmas.{Body, behind, behind_more, piece_is_front, no_piece_is_end}
+use Rattle.xt_lex.proofs.StringLemmas.{Body, behind, behind_more, piece_is_prefix, no_piece_is_end}
 use Rattle.xt_lex.proofs.bytes.string_rest.Goals as goal
 
 pub loop-byte-preserved : goal.loop-byte-preserved
@@ -13,7 +13,7 @@ loop-byte-preserved c =
     record {
       body = ap (λ l. behind l (width + taken) (string_body c.split_at.result.1.now)) c.in_ok-push.ensures.items
           ∙ sym (behind_more held width byte taken (string_body c.split_at.result.1.now))
-          ∙ ap (λ b. behind held width b) (ap (λ l. and_then byte taken (string_body l)) c.split_at.ensures.back ∙ sym (piece_is_front rest byte taken (sym c.in-Some.ensures.piece)))
+          ∙ ap (λ b. behind held width b) (ap (λ l. and_then byte taken (string_body l)) c.split_at.ensures.back ∙ sym (piece_is_prefix rest byte taken (sym c.in-Some.ensures.piece)))
           ∙ c.loop-byte.invariant.body;
       width = omega (arith, c.split_at.ensures.back_len, c.loop-byte.invariant.width);
     }

@@ -1,4 +1,4 @@
--- What was copied is a front of the segments.
+-- What was copied is a prefix of the segments.
 use Rattle.std.proofs.Common.{◌≡◌, take}
 use Rattle.xt_map.proofs.constants.copies_of.Given as goal
 

@@ -1,4 +1,4 @@
--- The keys before the part that is searched are less than the wanted one, and those behind it are more.
+-- The keys before the part that is searched are less than the wanted one, and those after it are more.
 use Rattle.std.proofs.Common.{◌-◌, ◌<◌, ◌≤◌, ℕ, length}
 use Rattle.xt_names.specs.Names.{mnemonics}
 use Rattle.xt_names.proofs.Searched.{at, key_of}

@@ -1,4 +1,4 @@
--- The entries so far are those of their fields, and what is wrong is wrong behind them.
+-- The entries so far are those of their fields, and what is wrong is wrong after them.
 use Rattle.xt_record.specs.SoFar.{IsSoFar}
 use Rattle.xt_record.proofs.entries.entries_in.Given as goal
 

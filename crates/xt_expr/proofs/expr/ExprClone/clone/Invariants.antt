@@ -1,4 +1,4 @@
--- What was copied is the front of the terms.
+-- What was copied is a prefix of the terms.
 use Rattle.std.proofs.Common.{◌≡◌, take}
 use Rattle.xt_expr.proofs.expr.ExprClone.clone.Given as goal
 
