@@ -1,5 +1,5 @@
--- States laws of the turn as a whole. Public contracts also cite its ranges: those of the parts of
--- a state.
+-- States laws of the turn as a whole. Conditions of other public laws cite its ranges, those of the
+-- parts of a state.
 use Rattle.std.specs.Prelude.{◌≡◌, ℕ, ◌%◌, ◌^◌, ◌<◌, ◌≤◌, true, Option, Some, None, List, length}
 use Rattle.std.specs.Prelude.{slice_index}
 use Rattle.xt_map.specs.declared.access.Access.{Access}
