@@ -1,7 +1,8 @@
 """The definitions that a clause of a contract names, those that these name, and so on: what a reader has to believe.
 
-A definition is one of a file of specs/, by its name, or a type of the code that the definitions name. Only names are
-followed, and none of the standard library. A name that a variable has too counts as the definition.
+A definition is one of a file of specs/, by its name, or a type of the code that definitions or the call name, with what
+contracts see of it, or a trait that the call asks for, with its contracts. Only names are followed, and none of the
+standard library. A name that a variable has too counts as the definition.
 """
 import functools
 import os
@@ -142,8 +143,10 @@ def named(definition):
         words = re.findall(WORD, text)
         found = [resolve(definition.path, it) for it in words]
     else:
-        found = [type_of(definition.path, it) for it in re.findall(r"\b[A-Z]\w*", " ".join(definition.text[:]))]
-        found += [resolve(definition.path, it) for it in re.findall(WORD, views(definition.path, definition.name))]
+        text = " ".join(definition.text)
+        found = [type_of(definition.path, it) for it in re.findall(r"\b[A-Z]\w*", text)]
+        seen = text if text.startswith("pub trait ") else views(definition.path, definition.name)
+        found += [resolve(definition.path, it) for it in re.findall(WORD, seen)]
     return [it for it in found if it is not None and it is not definition]
 
 
@@ -182,6 +185,19 @@ def clauses(path, function):
     return found
 
 
+def types_of(path, function):
+    """The types and traits that the head of a function names, and of a method its own type."""
+    text, head = lines(path), ""
+    at = next(i for i, it in enumerate(text) if re.match(rf"\s*(pub )?fn {function}\b", it))
+    for line in text[at:]:
+        if re.match(r"\s*(requires|ensures|\{)", line):
+            break
+        head += line + " "
+    if text[at].startswith(" "):
+        head += next(it for it in reversed(text[:at]) if it.startswith("impl"))
+    return [it for it in (type_of(path, word) for word in re.findall(r"\b[A-Z]\w*", head)) if it]
+
+
 def exported(crate):
     """The public functions and methods of the modules that a library makes public, or of which it gives out names."""
     lib = "\n".join(lines(f"crates/{crate}/src/lib.rt"))
@@ -195,9 +211,9 @@ def exported(crate):
                 yield crate, module, found[2], None
 
 
-def reached(path, texts, with_types=True):
+def reached(path, texts, types=(), with_types=True):
     """All that the texts of a file of code name, each with what it was reached from."""
-    found, left = {}, []
+    found, left = {(it.path, it.name): (it, None) for it in types}, [*types]
     for text in texts:
         for it in re.findall(WORD, text):
             here = resolve(path, it)
@@ -222,7 +238,8 @@ def cone(calls):
     found = {}
     for crate, module, function, which in calls:
         path = f"crates/{crate}/src/{module}.rt"
-        found.update(reached(path, [it for label, it in clauses(path, function) if counted(label, which)]))
+        texts = [it for label, it in clauses(path, function) if counted(label, which)]
+        found.update(reached(path, texts, types_of(path, function)))
     return [it for it, _ in found.values()]
 
 
@@ -246,7 +263,7 @@ def unbelieved():
     for crate, module, function, _ in calls:
         path = f"crates/{crate}/src/{module}.rt"
         for label, text in clauses(path, function):
-            found = reached(path, [text], False)
+            found = reached(path, [text], (), False)
             for it, _ in found.values():
                 if is_unbelieved(it.path):
                     yield f"{crate}::{function}", label, it, way(found, it)
