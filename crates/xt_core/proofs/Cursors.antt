@@ -14,7 +14,8 @@ use Rattle.xt_exec.specs.Turn.{demand, turn}
 use Rattle.xt_exec.specs.Chips.{processor}
 use Rattle.xt_exec.specs.declared.plans.Pending.{Pending}
 use Rattle.xt_core.specs.Cursors.{records_over}
-use Rattle.xt_core.specs.Turns.{Awaits, IsHalf}
+use Rattle.xt_core.specs.Turns.{IsHalf}
+use Rattle.xt_core.specs.Cores.{Awaits}
 
 trace_step : {S : Type 0} (P : Chip S) (s : S) (n : ℕ) (rs : List ℕ)
     → (trace_over P s (suc n) rs).records

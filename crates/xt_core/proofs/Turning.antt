@@ -14,7 +14,8 @@ use Rattle.xt_exec.specs.State.{State}
 use Rattle.xt_exec.specs.Turn.{Planned, planned, demand, turn, reply_where, with_write}
 use Rattle.xt_exec.specs.Halves.{IsEffect, IsAsking, IsFinished, at_end, awaiting, gone_on}
 use Rattle.xt_core.specs.declared.record.Head.{Head}
-use Rattle.xt_core.specs.Turns.{head_of, recorded, Awaits, IsLocal, IsHalf}
+use Rattle.xt_core.specs.Turns.{head_of, recorded, IsLocal, IsHalf}
+use Rattle.xt_core.specs.Cores.{Awaits}
 
 -- a record and the state after it, from their parts
 abbrev made : State → StepKind → Option RegWrite → Option Access → ℕ → State → StepRecord × State

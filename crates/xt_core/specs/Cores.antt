@@ -13,10 +13,10 @@ use Rattle.xt_runs.specs.Traces.{stop_where}
 use Rattle.xt_runs.specs.Worlds.{left_past}
 use Rattle.xt_exec.specs.declared.plans.Pending.{Pending}
 use Rattle.xt_exec.specs.State.{State}
-use Rattle.xt_exec.specs.Turn.{demand, turn}
+use Rattle.xt_exec.specs.Turn.{demand, planned, turn}
+use Rattle.xt_exec.specs.Halves.{asking}
 use Rattle.xt_core.specs.declared.begin.Begin.{Begin}
 use Rattle.xt_core.specs.declared.begin.Begin.TheVariants as begin
-use Rattle.xt_core.specs.Turns.{Awaits}
 
 pub record CoreState : Type 0 where
   -- its number, 0 or 1
@@ -69,6 +69,10 @@ kept r k = record k {
 -- after a turn with this reply
 abbrev pub turned : (ℕ → ℕ) → ℕ → CoreState → CoreState
 turned code reply k = let t = turn code k.state reply in kept t.0 (record k { state = t.1 })
+
+-- the next turn from this state asks, and this waits for the reply
+abbrev pub Awaits : (ℕ → ℕ) → State → Pending → Type 0
+Awaits code s p = planned code s ≡ asking p s
 
 -- the next turn asks for an access, and the core waits for the reply
 abbrev pub AwaitsReply : (ℕ → ℕ) → CoreState → Type 0

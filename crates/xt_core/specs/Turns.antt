@@ -12,6 +12,7 @@ use Rattle.xt_exec.specs.declared.plans.Pending.{Pending}
 use Rattle.xt_exec.specs.State.{State}
 use Rattle.xt_exec.specs.Turn.{demand, planned, turn}
 use Rattle.xt_exec.specs.Halves.{asking}
+use Rattle.xt_core.specs.Cores.{Awaits}
 use Rattle.xt_core.specs.declared.begun.Begun.{Begun}
 use Rattle.xt_core.specs.declared.begun.Begun.TheVariants.{Local, Asks}
 use Rattle.xt_core.specs.declared.record.Head.{Head}
@@ -37,10 +38,6 @@ recorded h e access reply = record {
   owb = h.owb;
   interrupt = h.interrupt;
 }
-
--- the next turn from this state asks, and this waits for the reply
-abbrev pub Awaits : (ℕ → ℕ) → State → Pending → Type 0
-Awaits code s p = planned code s ≡ asking p s
 
 -- A turn that asks for no access is done, whatever the reply.
 pub record IsLocal (code : ℕ → ℕ) (before after : State) (r : StepRecord) : Type 0 where

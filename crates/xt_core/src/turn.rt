@@ -5,7 +5,8 @@ ghost use Rattle.xt_fetch.specs.Fetching.{fetched};
 ghost use Rattle.xt_exec.specs.States.{state_of};
 ghost use Rattle.xt_exec.specs.Turn.{fetched_turn, planned, turn};
 ghost use Rattle.xt_exec.specs.Halves.{IsPlan, at_end};
-ghost use Rattle.xt_core.specs.Turns.{Awaits, IsBegun, head_of, recorded};
+ghost use Rattle.xt_core.specs.Turns.{IsBegun, head_of, recorded};
+ghost use Rattle.xt_core.specs.Cores.{Awaits};
 
 use crate::begun::Begun;
 use crate::record::Head;

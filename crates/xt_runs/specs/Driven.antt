@@ -1,4 +1,3 @@
--- Carries a proof; nothing that a reader must believe.
 -- What one core's turns come to, whoever answers them ('profile').
 use Rattle.std.specs.Prelude.{◌≡◌, ℕ, List, ◌++◌, map}
 use Rattle.xt_map.specs.declared.access.Access.{Access}

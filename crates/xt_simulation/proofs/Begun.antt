@@ -17,7 +17,7 @@ use Rattle.xt_simulation.proofs.Stretched.{oldest, newest_of, overflows_find_fra
 use Rattle.xt_stretch.specs.Needs.{callee_sp, link, link_word}
 use Rattle.xt_stretch.specs.declared.Side.{Side}
 use Rattle.xt_stretch.specs.declared.Side.TheVariants.{Overflow, Underflow}
-use Rattle.xt_stretch.specs.Meaning.{meant}
+use Rattle.xt_stretch.specs.Machines.{meant}
 use Rattle.xt_stretch.specs.Frames.{HasFrames, IsOwnByte}
 use Rattle.xt_stretch.specs.Joined.{Finds, IsShaped as HasShape}
 use Rattle.xt_stretch.proofs.Joins.{overflow_frames, underflow_frames, own_link_is, saved_sp_is, saved_link_is}

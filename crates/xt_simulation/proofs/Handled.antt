@@ -48,11 +48,10 @@ use Rattle.xt_stretch.specs.declared.Step.TheVariants.{Rfwo, Rfwu, Foreign}
 use Rattle.xt_stretch.specs.declared.HandlerVerdict.TheVariants.{Yes}
 use Rattle.xt_stretch.specs.Spelled.{step_of_insn, step_of_spelled, step_of}
 use Rattle.xt_stretch.proofs.Lines.{handling_is}
-use Rattle.xt_stretch.specs.Running as small
-use Rattle.xt_stretch.specs.Running.{Machine, word_at}
-use Rattle.xt_stretch.specs.Meaning.{meant, address_of}
+use Rattle.xt_stretch.specs.Machines as small
+use Rattle.xt_stretch.specs.Machines.{Machine, word_at, meant, address_of, IsElsewhere}
 use Rattle.xt_stretch.specs.Frames.{HasFrames, IsOwn, IsOwnByte}
-use Rattle.xt_stretch.specs.Kept.{Does, Stands, Spares, Touches, Turns, Moves, Closes, Done, step_at, ending_of, opening_flags, IsElsewhere}
+use Rattle.xt_stretch.specs.Kept.{Does, Stands, Spares, Touches, Turns, Moves, Closes, Done, step_at, ending_of, opening_flags}
 use Rattle.xt_stretch.proofs.Places.{room_from, saves_own, spares_from}
 use Rattle.xt_stretch.proofs.Runs.{stands_first}
 use Rattle.xt_stretch.proofs.Turning.{turns, done, spared}

@@ -41,7 +41,8 @@ use Rattle.xt_exec.proofs.Finished.{turn_fetches}
 use Rattle.xt_stretch.specs.declared.Step.{Step}
 use Rattle.xt_stretch.specs.declared.Step.TheVariants.{L32e, S32e, Nop, Rfwo, Rfwu, Foreign}
 use Rattle.xt_stretch.specs.Spelled.{step_of_insn}
-use Rattle.xt_stretch.specs.Running.{Machine, address, is_access, word_at, with_word, stepped, MayAccess}
+use Rattle.xt_stretch.specs.Running.{is_access, with_word, stepped, MayAccess}
+use Rattle.xt_stretch.specs.Machines.{Machine, address, word_at}
 use Rattle.xt_simulation.specs.Steps.{reply_at, memory_after_step, reply_now, state_now, memory_now}
 use Rattle.xt_simulation.specs.Handling.{machine}
 use Rattle.xt_simulation.proofs.Words.{loads_ask, stores_ask, word_replied, word_stored, load_keeps}

@@ -18,7 +18,7 @@ use Rattle.xt_simulation.specs.Stretches.{InHandler}
 use Rattle.xt_stretch.specs.Symbols.{Effect}
 use Rattle.xt_stretch.specs.declared.Side.{Side}
 use Rattle.xt_stretch.specs.declared.Side.TheVariants.{Overflow, Underflow}
-use Rattle.xt_stretch.specs.Running.{Machine}
+use Rattle.xt_stretch.specs.Machines.{Machine}
 use Rattle.xt_stretch.specs.Kept.{Stands, Handles}
 use Rattle.xt_handlers.specs.Vectors.{vector_at, vector_bytes, Handlers}
 use Rattle.xt_simulation.specs.Steps.{state_now, memory_now}

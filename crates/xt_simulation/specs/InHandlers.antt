@@ -11,9 +11,7 @@ use Rattle.xt_stretch.specs.declared.Side.{Side}
 use Rattle.xt_stretch.specs.declared.Side.TheVariants.{Overflow, Underflow}
 use Rattle.xt_window.specs.Ring.{place, visible, with_bit, without_bit}
 use Rattle.xt_stretch.specs.Needs.{save_word}
-use Rattle.xt_stretch.specs.Meaning.{address_of}
-use Rattle.xt_stretch.specs.Running.{Machine, word_at}
-use Rattle.xt_stretch.specs.Kept.{IsElsewhere}
+use Rattle.xt_stretch.specs.Machines.{address_of, Machine, word_at, IsElsewhere}
 use Rattle.xt_handlers.specs.Vectors.{vector_at}
 
 -- PC, PS but OWB, and the special registers but EPC1, CCOUNT and INTERRUPT are as before the window

@@ -3,8 +3,7 @@ use Rattle.std.proofs.Common.{◌≡◌, ◌⊎◌, ⊎_elim, inl, inr, ℕ, ◌
 use Rattle.xt_stretch.specs.Needs.{callee_sp, link, link_word, save_word}
 use Rattle.xt_stretch.specs.declared.Side.{Side}
 use Rattle.xt_stretch.specs.declared.Side.TheVariants.{Overflow, Underflow}
-use Rattle.xt_stretch.specs.Running.{Machine, visible, word_at, address}
-use Rattle.xt_stretch.specs.Meaning.{meant, address_of}
+use Rattle.xt_stretch.specs.Machines.{Machine, visible, word_at, address, meant, address_of}
 use Rattle.xt_stretch.specs.Frames.{HasFrames}
 use Rattle.xt_stretch.specs.Kept.{Stores, Loads}
 use Rattle.xt_stretch.specs.Joined.{Finds, IsShaped, own_link, saved_sp, saved_link, IsApart, StoresWords, LoadsWords}

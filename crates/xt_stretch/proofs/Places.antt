@@ -5,8 +5,8 @@ use Rattle.xt_stretch.specs.Symbols.{Word}
 use Rattle.xt_stretch.specs.Needs.{is_among, named_words, callee_sp, link, link_word, save_word}
 use Rattle.xt_stretch.specs.declared.Side.{Side}
 use Rattle.xt_stretch.specs.declared.Side.TheVariants.{Overflow, Underflow}
-use Rattle.xt_stretch.specs.Running.{Machine, word_at, address, is_access}
-use Rattle.xt_stretch.specs.Meaning.{meant, address_of}
+use Rattle.xt_stretch.specs.Running.{is_access}
+use Rattle.xt_stretch.specs.Machines.{Machine, word_at, address, meant, address_of}
 use Rattle.xt_stretch.specs.Frames.{HasFrames, HasRoom, IsOwn, IsOwnByte}
 use Rattle.xt_stretch.specs.Kept.{Spares}
 use Rattle.xt_stretch.proofs.Words.{access_from, address_is}

@@ -13,8 +13,8 @@ use Rattle.xt_stretch.specs.declared.Step.{Step}
 use Rattle.xt_stretch.specs.declared.Step.TheVariants.{L32e, S32e, Nop, Rfwo, Rfwu, Foreign}
 use Rattle.xt_stretch.specs.declared.HandlerVerdict.TheVariants.{Yes}
 use Rattle.xt_stretch.proofs.Stores.{some_marked}
-use Rattle.xt_stretch.specs.Running.{Machine, visible, word_at, then_ran, ran_at, ran}
-use Rattle.xt_stretch.specs.Meaning.{meant, address_of}
+use Rattle.xt_stretch.specs.Running.{then_ran, ran_at, ran}
+use Rattle.xt_stretch.specs.Machines.{Machine, visible, word_at, meant, address_of}
 use Rattle.xt_stretch.specs.Frames.{HasRoom}
 use Rattle.xt_stretch.specs.Kept.{Stands, HaveRegisters, KeepsRegisters, Stores, Loads, Touches, opening_flags}
 use Rattle.xt_stretch.proofs.Wanted.{same_is}

@@ -12,8 +12,8 @@ use Rattle.xt_stretch.specs.declared.Step.{Step}
 use Rattle.xt_stretch.specs.declared.Step.TheVariants.{L32e, S32e}
 use Rattle.xt_stretch.specs.declared.HandlerVerdict.TheVariants.{Yes}
 use Rattle.xt_stretch.proofs.Stores.{nothing_left}
-use Rattle.xt_stretch.specs.Running.{Machine, place, visible, word_at, with_word, address, is_access, stepped, MayAccess}
-use Rattle.xt_stretch.specs.Meaning.{meant, address_of}
+use Rattle.xt_stretch.specs.Running.{with_word, is_access, stepped, MayAccess}
+use Rattle.xt_stretch.specs.Machines.{Machine, place, visible, word_at, address, meant, address_of}
 use Rattle.xt_stretch.specs.Frames.{HasRoom}
 use Rattle.xt_stretch.specs.Kept.{Does, Stands, Touches}
 use Rattle.xt_stretch.proofs.Words.{access_means, words_apart, with_word-elsewhere, word_at-same, word_at-other, places_apart, place_below}

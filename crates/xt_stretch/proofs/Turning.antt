@@ -25,7 +25,7 @@ use Rattle.xt_stretch.specs.declared.Step.{Step}
 use Rattle.xt_stretch.specs.declared.Step.TheVariants.{L32e, S32e, Nop, Rfwo, Rfwu, Foreign}
 use Rattle.xt_stretch.specs.declared.HandlerVerdict.TheVariants.{Yes, No}
 use Rattle.xt_stretch.proofs.Lines.{here, lines_end, lines_cut}
-use Rattle.xt_stretch.specs.Running.{Machine}
+use Rattle.xt_stretch.specs.Machines.{Machine}
 use Rattle.xt_stretch.specs.Frames.{HasRoom}
 use Rattle.xt_stretch.specs.Kept.{Stands, HaveRegisters, Spares, step_at, ending_of, Handles, Turns, Done}
 use Rattle.xt_stretch.proofs.Unspoiled.{ending_yes}

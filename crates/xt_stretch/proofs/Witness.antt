@@ -1,7 +1,8 @@
 -- A chain of stack pointers that exists: every premise can be met.
 use Rattle.std.proofs.Common.{ℕ, zero, suc, ◌<◌, refl, arith, ◌∷◌, replicate, lit<, lit≤}
 use Rattle.xt_stretch.specs.declared.Side.TheVariants.{Overflow, Underflow}
-use Rattle.xt_stretch.specs.Running.{Machine, visible, with_word, address}
+use Rattle.xt_stretch.specs.Running.{with_word}
+use Rattle.xt_stretch.specs.Machines.{Machine, visible, address}
 use Rattle.xt_stretch.specs.Frames.{HasFrames}
 
 -- a13 is the callee's stack pointer, a1 the frame's own

@@ -5,8 +5,8 @@ use Rattle.xt_stretch.specs.Symbols.{Word}
 use Rattle.xt_stretch.specs.Needs.{callee_sp, link_word, link, save_word, is_among, named_words}
 use Rattle.xt_stretch.specs.declared.Side.{Side}
 use Rattle.xt_stretch.specs.declared.Side.TheVariants.{Overflow}
-use Rattle.xt_stretch.specs.Running.{Machine, visible, is_access}
-use Rattle.xt_stretch.specs.Meaning.{meant, address_of}
+use Rattle.xt_stretch.specs.Running.{is_access}
+use Rattle.xt_stretch.specs.Machines.{Machine, visible, meant, address_of}
 
 -- The three stack pointers are a chain in DRAM: that of the frame called, the frame's own, its
 -- caller's.

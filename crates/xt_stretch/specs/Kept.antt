@@ -15,10 +15,11 @@ use Rattle.xt_stretch.specs.declared.Side.TheVariants.{Overflow, Underflow}
 use Rattle.xt_stretch.specs.declared.Step.{Step}
 use Rattle.xt_stretch.specs.declared.Step.TheVariants.{L32e, S32e, Nop, Rfwo, Rfwu, Foreign}
 use Rattle.xt_stretch.specs.declared.HandlerVerdict.TheVariants.{Yes}
-use Rattle.xt_stretch.specs.Running.{Machine, address, place, visible, word_at, stepped, MayAccess}
+use Rattle.xt_stretch.specs.Running.{stepped, MayAccess}
+use Rattle.xt_stretch.specs.Machines.{Machine, address, place, visible, word_at, meant, address_of}
+use Rattle.xt_stretch.specs.Machines.{IsElsewhere}
 use Rattle.xt_stretch.specs.Running.{ran}
 use Rattle.xt_stretch.specs.Frames.{HasFrames}
-use Rattle.xt_stretch.specs.Meaning.{meant, address_of}
 
 -- the effect so far is what the machine has done since the start; `flags` are the saves still
 -- wanted
@@ -37,12 +38,6 @@ pub record Stands
       → word_at now.bytes (address_of start w) ≡ word_at start.bytes (address_of start w)
   pub saved : side ≡ Overflow → (k : ℕ) → k < 4 * n → slice_index_or flags k false ≡ false
       → word_at now.bytes (address_of start (save_word Overflow n k)) ≡ visible start k
-
--- an address that no save of the frame touches
-abbrev pub IsElsewhere : ℕ → Machine → ℕ → Type 0
-IsElsewhere n start a =
-    (k : ℕ) → k < 4 * n → (a < address_of start (save_word Overflow n k))
-    ⊎ (address_of start (save_word Overflow n k) + 4 ≤ a)
 
 abbrev pub HaveRegisters : List Line → Type 0
 HaveRegisters [] = Unit {0}

@@ -1,9 +1,9 @@
 pub mod Symbols
 pub mod Needs
+pub mod Machines
 pub mod Handling
 pub mod Spelled
 pub mod Running
-pub mod Meaning
 pub mod Frames
 pub mod Kept
 pub mod Joined

@@ -1,27 +1,12 @@
 -- Carries a proof; nothing that a reader must believe.
 -- A machine that runs a handler's instructions.
-use Rattle.std.specs.Prelude.{◌≡◌, ℕ, ◌+◌, ◌-◌, ◌*◌, ◌/◌, ◌%◌, ◌==◌, ◌&&◌, nat_le, Bool, true}
-use Rattle.std.specs.Prelude.{if◌then◌else◌, Option, Some, None, List, [], ◌∷◌, slice_index}
+use Rattle.std.specs.Prelude.{◌≡◌, ℕ, ◌+◌, ◌/◌, ◌%◌, ◌==◌, ◌&&◌, nat_le, Bool, true}
+use Rattle.std.specs.Prelude.{if◌then◌else◌, Option, Some, None, List, [], ◌∷◌}
 use Rattle.std.specs.Prelude.{slice_set}
 use Rattle.xt_stretch.specs.Handling.{Line}
+use Rattle.xt_stretch.specs.Machines.{Machine, place, visible, word_at, address}
 use Rattle.xt_stretch.specs.declared.Step.{Step}
 use Rattle.xt_stretch.specs.declared.Step.TheVariants.{L32e, S32e, Nop, Rfwo, Rfwu, Foreign}
-
--- the 64 registers, the window's base, and memory as bytes by address
-pub record Machine : Type 0 where
-  pub ring : List ℕ
-  pub base : ℕ
-  pub bytes : ℕ → ℕ
-
--- where visible register i stands
-abbrev pub place : ℕ → ℕ → ℕ
-place base i = (4 * base + i) % 64
-
-abbrev pub visible : Machine → ℕ → ℕ
-visible m i = slice_index m.ring (place m.base i)
-
-abbrev pub word_at : (ℕ → ℕ) → ℕ → ℕ
-word_at bytes a = bytes a + 256 * bytes (a + 1) + 65536 * bytes (a + 2) + 16777216 * bytes (a + 3)
 
 -- memory after a word was stored
 abbrev pub with_word : (ℕ → ℕ) → ℕ → ℕ → ℕ → ℕ
@@ -31,9 +16,6 @@ with_word bytes a value b =
     else (if b == a + 2 then value / 65536 % 256
     else (if b == a + 3 then value / 16777216 % 256
     else bytes b)))
-
-unfoldable pub address : ℕ → ℕ → ℕ
-address base back = (base + 4294967296 - back) % 4294967296
 
 -- whether a word there is aligned and in DRAM
 unfoldable pub is_access : ℕ → Bool

@@ -6,7 +6,8 @@ ghost use Rattle.xt_stretch.specs.Handling.{handling};
 ghost use Rattle.xt_stretch.specs.Spelled.{lines_of};
 ghost use Rattle.xt_stretch.specs.declared.Side.TheVariants.{Overflow, Underflow};
 ghost use Rattle.xt_stretch.specs.declared.HandlerVerdict.TheVariants.{Yes};
-ghost use Rattle.xt_stretch.specs.Running.{Machine, ran, visible};
+ghost use Rattle.xt_stretch.specs.Running.{ran};
+ghost use Rattle.xt_stretch.specs.Machines.{Machine, visible};
 ghost use Rattle.xt_stretch.specs.Kept.{KeepsRegisters, Reaches};
 ghost use Rattle.xt_stretch.specs.Joined.{Finds, IsShaped, LoadsWords, StoresWords, own_link, saved_link, saved_sp};
 

@@ -4,10 +4,9 @@
 ghost use Rattle.std.specs.Prelude.{◌≡◌, ◌≢◌, ◌<◌, ◌*◌, ℕ, Bool, List, length, slice_index, true};
 ghost use Rattle.xt_stretch.specs.Symbols.{Effect, Word, opening};
 ghost use Rattle.xt_stretch.specs.Needs.{has_effect, is_among, named_words, save_word};
-ghost use Rattle.xt_stretch.specs.Meaning.{address_of};
+ghost use Rattle.xt_stretch.specs.Machines.{address_of, Machine, place};
 ghost use Rattle.xt_stretch.specs.declared.Side.{Side};
 ghost use Rattle.xt_stretch.specs.declared.Side.TheVariants.{Overflow, Underflow};
-ghost use Rattle.xt_stretch.specs.Running.{Machine, place};
 ghost use Rattle.xt_stretch.specs.Frames.{HasFrames, HasRoom, IsOwn, IsOwnByte};
 ghost use Rattle.xt_stretch.specs.Kept.{Done, Handles, KeepsRegisters, Spares, Stands, Turns, opening_flags};
 
