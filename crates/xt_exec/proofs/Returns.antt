@@ -1,5 +1,5 @@
 -- A RETW that is not illegal goes back to a window that is there, or to one that has to be filled.
-use Rattle.std.proofs.Common.{◌≡◌, ◌≢◌, ℕ, Bool, true, false, ◌||◌, not, eqb, cond, refl, sym, subst, inl, inr}
+use Rattle.std.proofs.Common.{◌≡◌, ◌≢◌, ℕ, Bool, true, false, ◌||◌, not, cond, refl, sym, subst, inl, inr}
 use Rattle.xt_isa.specs.declared.Insn.{Insn}
 use Rattle.xt_isa.specs.declared.Insn.TheVariants as insn
 use Rattle.xt_isa.specs.declared.control.Control.TheVariants as control
@@ -9,8 +9,8 @@ use Rattle.xt_isa.specs.declared.density.NarrowRetName.TheVariants as NarrowRetN
 use Rattle.xt_special.specs.Control.{Control}
 use Rattle.xt_window.specs.declared.windows.Return.TheVariants.{Returned, Under, Bad}
 use Rattle.xt_window.specs.Ring.{visible, bit}
-use Rattle.xt_window.specs.Moves.{base_after_return}
-use Rattle.xt_window.specs.Answers.{disagrees, return_of}
+use Rattle.xt_window.specs.Moves.{base_after_return, is_bad}
+use Rattle.xt_window.specs.Answers.{return_of}
 use Rattle.xt_rows.specs.declared.outcome.WindowStep.TheVariants.{Enters, Returns, EndsOverflow, EndsUnderflow, Rotates, MovesStack, Reads, Sets, Exchanges}
 use Rattle.xt_rows.specs.declared.outcome.Outcome.{Outcome}
 use Rattle.xt_rows.specs.declared.outcome.Outcome.TheVariants.{Does, Raises, Asks, Stops, Windowed}
@@ -37,11 +37,11 @@ absent_of false false e = refl
 
 pub is_there : (start base n : ℕ) → return_of start base n ≡ Returned → bit start (base_after_return base n) ≡ true
 unfolding return_of
-is_there start base n e = there_of (eqb n 0 || disagrees start base n) (bit start (base_after_return base n)) e
+is_there start base n e = there_of (is_bad start base n) (bit start (base_after_return base n)) e
 
 pub is_absent : (start base n : ℕ) → return_of start base n ≡ Under → bit start (base_after_return base n) ≡ false
 unfolding return_of
-is_absent start base n e = absent_of (eqb n 0 || disagrees start base n) (bit start (base_after_return base n)) e
+is_absent start base n e = absent_of (is_bad start base n) (bit start (base_after_return base n)) e
 
 -- ---- a RETW that is not illegal
 
@@ -50,16 +50,15 @@ good true there e = absurd cc
 good false true e = λ q. cc
 good false false e = λ q. cc
 
-first_of : (a b c : Bool) → (a || (b || c)) ≡ false → (a || b) ≡ false
-first_of true b c e = e
-first_of false true c e = e
-first_of false false c e = refl
+first_of : (a b : Bool) → (a || b) ≡ false → a ≡ false
+first_of true b e = e
+first_of false b e = refl
 
 legal_return : (s : State) → illegal_return s ≡ false → return_of s.start s.base (return_size (visible s.regs s.base 0)) ≢ Bad
 unfolding return_of
 legal_return s e =
     let n = return_size (visible s.regs s.base 0) in
-    good (eqb n 0 || disagrees s.start s.base n) (bit s.start (base_after_return s.base n)) (first_of (eqb n 0) (disagrees s.start s.base n) (not (has_windows s.control.ps)) e)
+    good (is_bad s.start s.base n) (bit s.start (base_after_return s.base n)) (first_of (is_bad s.start s.base n) (not (has_windows s.control.ps)) e)
 
 legal_insn : (i : Insn) (s : State) → IsReturn i → is_illegal i s ≡ false → illegal_return s ≡ false
 unfolding is_illegal

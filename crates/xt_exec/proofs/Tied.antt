@@ -1,10 +1,10 @@
 -- A return undoes an entry.
-use Rattle.std.proofs.Common.{◌≡◌, ◌≢◌, ℕ, Bool, true, false, ◌||◌, eqb, cond, None, refl, sym, ap, ◌∙◌}
+use Rattle.std.proofs.Common.{◌≡◌, ◌≢◌, ℕ, Bool, true, false, cond, None, refl, sym, ap, ◌∙◌}
 use Rattle.xt_window.specs.declared.windows.Return.{Return}
 use Rattle.xt_window.specs.declared.windows.Return.TheVariants.{Returned, Under, Bad}
 use Rattle.xt_window.specs.Ring.{bit, without_bit}
-use Rattle.xt_window.specs.Moves.{base_after_return}
-use Rattle.xt_window.specs.Answers.{disagrees, return_of, base_past, start_past}
+use Rattle.xt_window.specs.Moves.{base_after_return, is_bad}
+use Rattle.xt_window.specs.Answers.{return_of, base_past, start_past}
 use Rattle.xt_window.proofs.Undone.{undone}
 use Rattle.xt_rows.specs.Settling.{return_size, return_pc}
 use Rattle.xt_exec.specs.State.{State}
@@ -29,7 +29,7 @@ returns_answer : (s : State) (a0 : ℕ) → IsReturnOf s a0
 unfolding returned return_of
 returns_answer s a0 =
     let n = return_size a0 in
-    let bad : Bool = eqb n 0 || disagrees s.start s.base n in
+    let bad : Bool = is_bad s.start s.base n in
     let there : Bool = bit s.start (base_after_return s.base n) in
     record { base = λ ne. (answer_of a0 s bad there ne).0; start = λ ne. (answer_of a0 s bad there ne).1 }
 

@@ -24,6 +24,7 @@ use Rattle.xt_special.specs.Interrupts.{pending_of}
 use Rattle.xt_special.specs.WindowExceptions.{after_window_exception}
 use Rattle.xt_window.specs.Ring.{place, visible, bit, with_bit, without_bit, ahead, size_at}
 use Rattle.xt_window.specs.Moves.{base_after_call, base_after_return, base_rotated, behind}
+use Rattle.xt_window.specs.Moves.{is_bad}
 use Rattle.xt_trace.specs.declared.record.StepKind.{StepKind}
 use Rattle.xt_trace.specs.declared.record.StepKind.TheVariants as kind
 use Rattle.xt_trace.specs.declared.record.StepRecord.{StepRecord}
@@ -203,9 +204,7 @@ windowed (Exchanges register number value) len s =
 -- window if one is near, and both need the window mechanism at work
 abbrev pub illegal_return : State → Bool
 illegal_return s =
-    let size = return_size (visible s.regs s.base 0) in
-    let near = behind s.start s.base in
-    size == 0 || ((not (near == 0) && not (near == size)) || not (has_windows s.control.ps))
+    is_bad s.start s.base (return_size (visible s.regs s.base 0)) || not (has_windows s.control.ps)
 
 unfoldable pub is_illegal : Insn → State → Bool
 is_illegal (insn.Control (control.Entry number size)) s =

@@ -35,8 +35,7 @@ impl<W: Windows> Regs<W> {
         ensures { result ≡ illegal_return (state_of W.regs W.base W.start self.now) }
     {
         let size = (self.win.read(0) / 0x4000_0000) as u8;
-        let near = self.win.behind();
-        size == 0 || (near != 0 && near != size) || !self.has_windows()
+        self.win.is_bad(size) || !self.has_windows()
     }
 
     /// Whether the instruction is illegal for a reason that is tested before the window check.

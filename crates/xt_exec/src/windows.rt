@@ -9,6 +9,7 @@ ghost use Rattle.xt_exec.specs.Steps.{GoesBack, WritesRegister, turn_of};
 
 use crate::plans::Effect;
 use crate::regs::Regs;
+use xt_rows::settling::return_pc;
 use xt_rows::{WindowRegister, WindowStep, cause, write_to};
 use xt_trace::StepKind;
 use xt_window::ring::{with_bit, without_bit};
@@ -56,7 +57,7 @@ impl<W: Windows> Regs<W> {
         let old = self.win.base();
         match self.win.retw(size) {
             Return::Returned => {
-                self.pc = self.pc / 0x4000_0000 * 0x4000_0000 + a0 % 0x4000_0000;
+                self.pc = return_pc(self.pc, a0);
                 Effect::of(StepKind::Insn, None)
             }
             Return::Under => {

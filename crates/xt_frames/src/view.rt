@@ -320,7 +320,7 @@ impl View {
             return self.raise(cause::ILLEGAL_INSTRUCTION, None);
         };
         self.seen = after_return(&caller.kept, &self.seen, caller.by);
-        self.pc = self.pc / 0x4000_0000 * 0x4000_0000 + a0 % 0x4000_0000;
+        self.pc = settling::return_pc(self.pc, a0);
         self.tick();
         Step {
             kind: StepKind::Insn,

@@ -20,7 +20,7 @@ mod system;
 mod three;
 
 pub use effects::write_to;
-pub use numbers::{extended, literal_address, minus, natural, plus};
+pub use numbers::{minus, natural};
 pub use operands::{named, reads, special_reads};
 pub use outcome::{Awaited, Effect, Flow, Outcome, WindowRegister, WindowStep};
 pub use rows::{Values, outcome_of};

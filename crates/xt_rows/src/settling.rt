@@ -7,7 +7,7 @@ ghost use Rattle.xt_special.specs.Values.{control_at};
 ghost use Rattle.xt_rows.specs.declared.outcome.Flow.TheVariants.{Falls};
 ghost use Rattle.xt_rows.specs.Laws.{IsAny, IsHeld, IsProperAwaited, IsProperEffect, IsProperWrite};
 ghost use Rattle.xt_rows.specs.Outcomes.{value_of};
-ghost use Rattle.xt_rows.specs.Settling.{after_effect, after_flow, written};
+ghost use Rattle.xt_rows.specs.Settling.{after_effect, after_flow, return_pc, written};
 
 use crate::numbers::extended;
 use crate::outcome::{Awaited, Effect, Flow};
@@ -64,6 +64,14 @@ pub fn apply(s: &mut Special, pc: u32, e: Effect, len: u8) -> u32
         Flow::Falls => falls(s, pc, len),
         Flow::Goes(target) => target,
     }
+}
+
+/// Where a return goes: `a0` has the low 30 bits, and the top two are those of the program counter.
+#[inline(always)]
+pub fn return_pc(pc: u32, a0: u32) -> u32
+    ensures { result ≡ return_pc pc a0 }
+{
+    pc / 0x4000_0000 * 0x4000_0000 + a0 % 0x4000_0000
 }
 
 /// The register that receives the reply, with the value that it receives.

@@ -1,5 +1,5 @@
 -- An instruction that is executed keeps both machines level.
-use Rattle.std.proofs.Common.{◌≡◌, ℕ, zero, suc, ◌+◌, ◌<◌, ◌≢◌, ℤ, Bool, true, false, not, eqb, List, [], ◌∷◌, ◌++◌, Option, None, sym, ap, ◌∙◌, refl, arith, inl, inr, ⊎_elim, subst}
+use Rattle.std.proofs.Common.{◌≡◌, ℕ, zero, suc, ◌+◌, ◌<◌, ◌≢◌, ℤ, Bool, true, false, not, List, [], ◌∷◌, ◌++◌, Option, None, sym, ap, ◌∙◌, refl, arith, inl, inr, ⊎_elim, subst}
 use Rattle.std.proofs.lemmas.Bool.{eqb-false, cases_Bool, true≢false, both_ways, or_parts, cond-true, cond-false}
 use Rattle.xt_isa.specs.declared.Insn.{Insn}
 use Rattle.xt_isa.specs.declared.Insn.TheVariants as insn
@@ -75,10 +75,10 @@ module _ {b : Bounds} {fresh : Bool} {live stale : ℕ → Bool} {rec : StepReco
       (λ r. ⊎_elim
       (λ e.
       let q : is_illegal (insn.Control (control.Ret RetName.Retw)) s ≡ false = rw e at legal in
-      may s.control.ps (or_parts _ (not (has_windows s.control.ps)) (or_parts (eqb (return_size (visible s.regs s.base 0)) 0) _ q).1).1)
+      may s.control.ps (or_parts _ (not (has_windows s.control.ps)) q).1)
       (λ e.
       let q : is_illegal (insn.Density (density.Ret NarrowRetName.Retw)) s ≡ false = rw e at legal in
-      may s.control.ps (or_parts _ (not (has_windows s.control.ps)) (or_parts (eqb (return_size (visible s.regs s.base 0)) 0) _ q).1).1)
+      may s.control.ps (or_parts _ (not (has_windows s.control.ps)) q).1)
       r)
       (λ e.
       let q : is_illegal (insn.Control (control.Entry e.0 e.1)) s ≡ false = rw e.2 at legal in

@@ -70,18 +70,18 @@ may ps h = not-true _ (and_parts ps.woe (not ps.excm) (not-false _ h)).1
 
 return_excm : (s : State) (n m : ℕ) → return_size (visible s.regs s.base 0) ≡ n → behind s.start s.base ≡ m → 0 < n → (m ≡ 0) ⊎ (m ≡ n) → s.control.ps.woe ≡ true → illegal_return s ≡ true → s.control.ps.excm ≡ true
 return_excm s n m e f pos h woe bad =
-    let b : (eqb n 0 || ((not (eqb m 0) && not (eqb m n)) || not (has_windows s.control.ps))) ≡ true = rw (e, f) at bad in
+    let b : ((eqb n 0 || (not (eqb m 0) && not (eqb m n))) || not (has_windows s.control.ps)) ≡ true = rw (e, f) at bad in
     let zero_not : eqb n 0 ≡ false = ne_eqb _ _ (λ z. omega arith) in
     let same_not : (not (eqb m 0) && not (eqb m n)) ≡ false = ⊎_elim
     (λ z. and_left _ _ (not_from_true _ (eq-eqb m 0 z)))
     (λ z. and_right _ _ (not_from_true _ (eq-eqb m n z))) h in
     ⊎_elim
-    (λ first. absurd (both_ways _ zero_not first))
-    (λ last. ⊎_elim
-    (λ first. absurd (both_ways _ same_not first))
+    (λ first. ⊎_elim
+    (λ zero. absurd (both_ways _ zero_not zero))
+    (λ other. absurd (both_ways _ same_not other))
+    (or_cases (eqb n 0) (not (eqb m 0) && not (eqb m n)) first))
     (λ last. not_may s.control.ps woe last)
-    (or_cases (not (eqb m 0) && not (eqb m n)) (not (has_windows s.control.ps)) last))
-    (or_cases (eqb n 0) ((not (eqb m 0) && not (eqb m n)) || not (has_windows s.control.ps)) b)
+    (or_cases (eqb n 0 || (not (eqb m 0) && not (eqb m n))) (not (has_windows s.control.ps)) b)
 
 return_illegal : {b : Bounds} {fresh : Bool} {live stale : ℕ → Bool} {rec : StepRecord} {u : FrameTurn} {s : State} {g : FrameState} (ring spilled : List Frame) → Level b.vecbase (lost_of fresh) s g ring spilled → (i : Insn) → IsReturn i → Sound b fresh live stale i rec g u → illegal_return s ≡ true → s.control.ps.excm ≡ true
 return_illegal {s = s} {g = g} (f ∷ ring) spilled l i r o bad =

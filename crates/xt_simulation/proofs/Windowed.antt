@@ -9,7 +9,6 @@ use Rattle.xt_isa.specs.declared.control.Control.TheVariants as control
 use Rattle.xt_isa.specs.declared.control.RetName.TheVariants as RetName
 use Rattle.xt_isa.specs.declared.density.Density.TheVariants as density
 use Rattle.xt_isa.specs.declared.density.NarrowRetName.TheVariants as NarrowRetName
-use Rattle.xt_special.specs.Control.{Control}
 use Rattle.xt_special.specs.Interrupts.{pending_of}
 use Rattle.xt_window.specs.Ring.{visible, place, ahead, bit, size_at}
 use Rattle.xt_window.specs.Moves.{base_after_call, base_after_return, behind}
@@ -20,7 +19,7 @@ use Rattle.xt_rows.specs.declared.outcome.Outcome.TheVariants.{Does, Raises, Ask
 use Rattle.xt_fetch.specs.Fetching.{Fetched, Fetches, Fails, SpellsNothing, fetched}
 use Rattle.xt_rows.specs.Effects.{illegal_instruction, write_to, no_caller_window}
 use Rattle.xt_rows.specs.Operands.{reads}
-use Rattle.xt_rows.specs.Outcomes.{outcome, control_outcome, density_outcome, outcome_at, value_of}
+use Rattle.xt_rows.specs.Outcomes.{outcome_at, value_of}
 use Rattle.xt_rows.specs.Settling.{Kind, Executed, Raised, Taken, Waited, Stopped}
 use Rattle.xt_exec.specs.State.{State}
 use Rattle.xt_exec.specs.Laws.{IsShaped}
@@ -217,10 +216,10 @@ return_windows : (i : Insn) (s : State) → IsReturn i → is_illegal i s ≡ fa
 unfolding is_illegal
 return_windows i s (inl e) h =
     let z : is_illegal (insn.Control (control.Ret RetName.Retw)) s ≡ false = rw e at h in
-    not-false _ (or_parts _ (not (has_windows s.control.ps)) (or_parts (eqb (return_size (visible s.regs s.base 0)) 0) _ z).1).1
+    not-false _ (or_parts _ (not (has_windows s.control.ps)) z).1
 return_windows i s (inr e) h =
     let z : is_illegal (insn.Density (density.Ret NarrowRetName.Retw)) s ≡ false = rw e at h in
-    not-false _ (or_parts _ (not (has_windows s.control.ps)) (or_parts (eqb (return_size (visible s.regs s.base 0)) 0) _ z).1).1
+    not-false _ (or_parts _ (not (has_windows s.control.ps)) z).1
 
 under_at : {vecbase : ℕ} {lost : ℕ → Bool} {s : State} {g : FrameState} (ring spilled : List Frame) → Level vecbase lost s g ring spilled → (code : ℕ → ℕ) (i : Insn) (a0 : ℕ) → IsReturn i → s.control.waits ≡ false → is_illegal i s ≡ false
     → visible s.regs s.base 0 ≡ a0 → NoneShown (return_tests i g) → returned a0 s ≡ underflow (return_size a0) s → planned code s ≡ underflow (return_size a0) s → Underflows code s ring spilled

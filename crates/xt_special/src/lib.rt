@@ -11,5 +11,5 @@ mod registers;
 mod writes;
 
 pub use ps::Ps;
-pub use registers::{Special, ps_written, timer_bit, value_kept, value_read, without_bits};
+pub use registers::{Special, ps_written, value_read};
 pub use writes::{SpecialWrite, SpecialWrites, set_to, written_by};

@@ -5,7 +5,8 @@ ghost use Rattle.std.specs.Prelude.{◌≡◌};
 ghost use Rattle.xt_special.specs.Access.{set_to, written_by};
 ghost use Rattle.xt_special.specs.Shape.{AreProperSets};
 
-use crate::{number, timer_bit, value_kept, without_bits};
+use crate::number;
+use crate::registers::{timer_bit, value_kept, without_bits};
 
 /// A write to a special register other than PS.
 #[derive(Clone, Copy)]

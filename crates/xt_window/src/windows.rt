@@ -3,7 +3,7 @@
 
 ghost use Rattle.std.specs.Prelude.{◌≡◌, ℕ, ◌<◌, ◌≤◌, ◌≤ℤ◌, pos, negsuc, List, IfSome, slice_set};
 ghost use Rattle.xt_window.specs.Ring.{place, visible, with_bit};
-ghost use Rattle.xt_window.specs.Moves.{base_after_call, base_rotated, behind};
+ghost use Rattle.xt_window.specs.Moves.{base_after_call, base_rotated, behind, is_bad};
 ghost use Rattle.xt_window.specs.Answers.{overflow_of, return_of, base_past, start_past};
 
 use crate::ring::{ahead, behind, bit, size_at, with_bit, without_bit};
@@ -121,6 +121,14 @@ pub trait Windows {
         self.set_start(start);
     }
 
+    /// Whether a return by `n` windows is illegal: `n` is 0, or the nearest window behind is another.
+    fn is_bad(&self, n: u8) -> bool
+        ensures { result ≡ is_bad (start self.now) (base self.now) n }
+    {
+        let nearest = self.behind();
+        n == 0 || nearest != 0 && nearest != n
+    }
+
     /// Returns to the window that is `n` behind. Where it is the nearest one, the bit of the window that is left is cleared. Where
     /// no window stands among the three behind, the window has moved, no bit has changed, and the answer is `Under`. Where `n` is 0
     /// or the nearest window is another, nothing has changed, and the answer is `Bad`.
@@ -134,12 +142,11 @@ pub trait Windows {
         ensures base { base self.new ≡ base_past result (base self.old) n }
         ensures start { start self.new ≡ start_past result (start self.old) (base self.old) }
     {
-        let start = self.start();
-        let base = self.base();
-        let nearest = self.behind();
-        if n == 0 || nearest != 0 && nearest != n {
+        if self.is_bad(n) {
             return Return::Bad;
         }
+        let start = self.start();
+        let base = self.base();
         let caller = (base + (16 - n)) % 16;
         self.set_base(caller);
         if !bit(start, caller) {
