@@ -19,4 +19,4 @@ pub use laws::{
 };
 pub use made::made_head;
 pub use reading::read;
-pub use writing::write;
+pub use writing::{write, written_length};

@@ -1,6 +1,6 @@
 ghost use Rattle.std.specs.Prelude.{◌≡◌, ◌≤◌, ◌<◌, ◌^◌, ◌+◌, ◌-◌, ◌++◌, [], length, replicate, vec_len, OnOk, IfOk};
 ghost use Rattle.std.specs.List.{flat_map};
-ghost use Rattle.xt_image.specs.Layout.{segment_bytes};
+ghost use Rattle.xt_image.specs.Layout.{end_of, segment_bytes};
 ghost use Rattle.xt_image.specs.Rules.{image_fault};
 ghost use Rattle.xt_image.specs.Format.{Reads};
 ghost use Rattle.xt_image.specs.Parts.{IsWellFormed, file_bytes, gap_length, head_bytes, image_bytes, summed_bytes};
@@ -93,4 +93,26 @@ pub fn write(alloc: Global, image: &Image) -> Result<Bytes, AllocError>
     ensures short { IfOk result (λ bytes. length bytes ≤ 8388608) }
 {
     Ok(Bytes::new(whole(alloc, image)?))
+}
+
+// The place behind the last segment of a file.
+fn end_of(segments: &[Segment]) -> usize
+    requires { length (flat_map segment_bytes segments.now) < 2 ^ 32 }
+    ensures { result ≡ end_of segments.now }
+{
+    let mut end = 24;
+    for segment in segments {
+        end += 8 + segment.bytes.len();
+    }
+    end
+}
+
+/// How many bytes the image has as a file, as `write` makes it. Takes no memory.
+pub fn written_length(image: &Image) -> usize
+    requires { IsWellFormed image.now }
+    ensures { result ≡ length (image_bytes image.now) }
+{
+    let end = end_of(image.segments.as_slice());
+    let digest = if image.digest { 32 } else { 0 };
+    end + (15 - end % 16) + 1 + digest
 }

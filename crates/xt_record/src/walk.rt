@@ -12,7 +12,7 @@ use crate::setting::Setting;
 use crate::walking::{File, end, take_entry};
 use std::alloc::{AllocError, Global};
 use xt_bus::Memory;
-use xt_core::Core;
+use xt_core::{Core, stack_links};
 use xt_image::Image;
 use xt_map::{Bytes, Constants, Entry};
 use xt_trace::{Options, Trace};
@@ -41,10 +41,7 @@ fn opening_setting(alloc: Global, image: &Image, options: &Options) -> Result<Se
     requires valid { IsValid options.now }
     ensures { IfOk result (StandsOpen image.now options.now) }
 {
-    let links = [
-        (options.stack0.hi - 76, options.stack0.hi),
-        (options.stack1.hi - 76, options.stack1.hi),
-    ];
+    let links = stack_links(options);
     let room = options.turns0 + options.turns1;
     let segments = image.segments.as_slice();
     Ok(Setting {
