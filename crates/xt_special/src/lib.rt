@@ -5,9 +5,9 @@
 #![tactic(auto)]
 
 pub mod laws;
-pub mod number;
 mod ps;
 mod registers;
 
 pub use ps::Ps;
 pub use registers::{Special, ps_written, timer_bit, value_kept, value_read, without_bits};
+pub use xt_isa::number;
