@@ -5,7 +5,6 @@ ghost use Rattle.std.specs.Prelude.{◌≡◌, ℕ, ◌+◌, ◌*◌, ◌%◌, �
 ghost use Rattle.xt_isa.specs.Spelling.{spelled};
 
 use crate::immediate::{below, join_five, join_two, plain};
-use xt_isa::Insn;
 use xt_isa::memory::{Memory, WindowName};
 use xt_isa::shift::{SextName, Shift, SrlName};
 use xt_isa::special::{can_exchange, can_read, can_write};
@@ -13,6 +12,7 @@ use xt_isa::system::{SpecialName, System, UserName};
 use xt_isa::three::{
     AddName, AndName, DivideName, MinName, MoveName, Mul16Name, MulHighName, SubName, Three,
 };
+use xt_isa::{Insn, number};
 
 /// SLLI, where the amount is not 32.
 #[inline(always)]
@@ -139,14 +139,14 @@ pub fn rst3(t: u8, s: u8, r: u8, op2: u8) -> Option<Insn>
         11 => Some(Insn::Three(Three::Moveqz(MoveName::Movgez, r, s, t))),
         14 => {
             if s == 14 && t == 7 {
-                Some(Insn::System(System::Rur(UserName::Rur, r, 231)))
+                Some(Insn::System(System::Rur(UserName::Rur, r, number::THREADPTR)))
             } else {
                 None
             }
         }
         15 => {
             if r == 14 && s == 7 {
-                Some(Insn::System(System::Rur(UserName::Wur, t, 231)))
+                Some(Insn::System(System::Rur(UserName::Wur, t, number::THREADPTR)))
             } else {
                 None
             }

@@ -6,6 +6,7 @@
 ghost use Rattle.std.specs.Prelude.{◌≡◌, ℕ, ◌+◌, ◌*◌, ◌/◌, ◌%◌, ◌<◌, ◌≤◌, ◌^◌, ◌==◌, true, ◌&&◌};
 ghost use Rattle.xt_encode.specs.Codes.{IsCodeOf};
 ghost use Rattle.xt_isa.specs.Ranges.{AreNibbles, one_register, natural_within, signed_within};
+ghost use Rattle.xt_isa.specs.Numbers.{threadptr};
 ghost use Rattle.xt_isa.specs.Spelling.{spelled, can_read, can_write, can_exchange};
 ghost use Rattle.xt_isa.specs.declared.Insn.TheVariants as insn;
 ghost use Rattle.xt_isa.specs.declared.system.BreakName.TheVariants as breaks;
@@ -16,9 +17,9 @@ ghost use Rattle.xt_isa.specs.declared.system.System.TheVariants as system;
 use crate::formats::rrr;
 use crate::parts::rotw_part;
 use crate::ranges::{natural_within, one_register};
-use xt_isa::Fields;
 use xt_isa::special::{can_exchange, can_read, can_write};
 use xt_isa::system::{ReturnName, SyncName, UserName, WaitName};
+use xt_isa::{Fields, number};
 
 /// ILL, ISYNC, RSYNC, ESYNC, DSYNC.
 pub fn ill(name: SyncName) -> Option<Fields>
@@ -145,12 +146,12 @@ pub fn xsr(t: u8, number: u8) -> Option<Fields>
 
 /// RUR `ar, threadptr` and WUR `at, threadptr`.
 pub fn rur(name: UserName, r: u8, number: u8) -> Option<Fields>
-    ensures { IsCodeOf (insn.System (system.Rur name r number)) (one_register r && number == 231) result }
+    ensures { IsCodeOf (insn.System (system.Rur name r number)) (one_register r && number == threadptr) result }
 {
     if !one_register(r) {
         return None;
     }
-    if number != 231 {
+    if number != number::THREADPTR {
         return None;
     }
     match name {

@@ -21,6 +21,7 @@ use Rattle.xt_isa.specs.declared.density.Density.TheVariants as density
 use Rattle.xt_isa.specs.declared.system.BreakName.TheVariants.{Break, Syscall}
 use Rattle.xt_isa.specs.declared.system.LevelName.TheVariants.{Rsil, Waiti}
 use Rattle.xt_isa.specs.declared.system.SpecialName.TheVariants.{Rsr, Wsr, Xsr}
+use Rattle.xt_isa.specs.Numbers.{threadptr}
 use Rattle.xt_isa.specs.Spelling.{spelled, can_read, can_write, can_exchange}
 
 -- ---- Ranges of one operand.
@@ -163,7 +164,7 @@ system_in_range (system.Rotw n) = signed_within 8 n
 system_in_range (system.Rsr Rsr t n) = one_register t && can_read n
 system_in_range (system.Rsr Wsr t n) = one_register t && can_write n
 system_in_range (system.Rsr Xsr t n) = one_register t && can_exchange n
-system_in_range (system.Rur name r n) = one_register r && n == 231
+system_in_range (system.Rur name r n) = one_register r && n == threadptr
 
 abbrev pub density_in_range : Density → Bool
 density_in_range (density.L32i name t s off) = two_registers t s && multiple_within 4 16 off

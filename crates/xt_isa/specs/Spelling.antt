@@ -9,6 +9,8 @@ use Rattle.std.specs.Prelude.{ℕ, ◌+◌, ◌-◌, ◌*◌, ◌/◌, ◌%◌, 
 use Rattle.std.specs.Prelude.{◌==◌, ◌&&◌, ◌||◌, nat_lt, nat_le, if◌then◌else◌, Option, Some, None}
 use Rattle.std.specs.Prelude.{List, [], ◌∷◌, bit_and}
 use Rattle.std.specs.Prelude.{slice_index_or, not}
+use Rattle.std.specs.List.{list_any}
+use Rattle.xt_isa.specs.Numbers.{exchanged_numbers, interrupt, intclear, prid, threadptr}
 use Rattle.xt_isa.specs.declared.Insn.{Insn}
 use Rattle.xt_isa.specs.declared.Insn.TheVariants as insn
 use Rattle.xt_isa.specs.declared.Fields.{Fields}
@@ -114,21 +116,17 @@ abbrev pub within : ℕ → ℕ → ℕ → Bool
 within first last n = nat_le first n && nat_le n last
 
 -- ---- The special registers that each of the three accesses reaches, by number ('profile').
--- XSR: LBEG, LEND, LCOUNT and SAR; SCOMPARE1; WINDOWBASE and WINDOWSTART; EPC1 to 7; DEPC; EPS2 to
--- 7; EXCSAVE1 to 7; INTENABLE; PS; VECBASE; EXCCAUSE; CCOUNT; EXCVADDR; CCOMPARE0 to 2; MISC0 to 3
+-- XSR
 unfoldable pub can_exchange : ℕ → Bool
-can_exchange n =
-    nat_le n 3 || n == 12 || n == 72 || n == 73 || within 177 183 n || n == 192 || within 194 199 n
-    || within 209 215 n || n == 228 || n == 230 || n == 231 || n == 232 || n == 234 || n == 238
-    || within 240 242 n || within 244 247 n
+can_exchange n = list_any (λ (number : ℕ). n == number) exchanged_numbers
 
 -- RSR: these, INTERRUPT and PRID
 unfoldable pub can_read : ℕ → Bool
-can_read n = can_exchange n || n == 226 || n == 235
+can_read n = can_exchange n || n == interrupt || n == prid
 
--- WSR: these, INTSET and INTCLEAR
+-- WSR: these, INTSET, which has the number of INTERRUPT, and INTCLEAR
 unfoldable pub can_write : ℕ → Bool
-can_write n = can_exchange n || n == 226 || n == 227
+can_write n = can_exchange n || n == interrupt || n == intclear
 
 -- ---- Rows.
 -- A word of the row has the bits of value wherever mask has a bit. Its other bits give the
@@ -373,8 +371,8 @@ system_rows =
     wide 0xFF000F 0x610000 (λ w. if can_exchange (eight w)
     then Some (insn.System (system.Rsr SpecialName.Xsr w.t (eight w)))
     else None) ∷
-    wide 0xFF0FFF 0xE30E70 (λ w. Some (insn.System (system.Rur UserName.Rur w.r 231))) ∷
-    wide 0xFFFF0F 0xF3E700 (λ w. Some (insn.System (system.Rur UserName.Wur w.t 231))) ∷
+    wide 0xFF0FFF 0xE30E70 (λ w. Some (insn.System (system.Rur UserName.Rur w.r threadptr))) ∷
+    wide 0xFFFF0F 0xF3E700 (λ w. Some (insn.System (system.Rur UserName.Wur w.t threadptr))) ∷
     []
 
 -- The 16-bit instructions.

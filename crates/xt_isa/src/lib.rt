@@ -7,6 +7,7 @@ pub mod control;
 pub mod density;
 pub mod laws;
 pub mod memory;
+pub mod number;
 pub mod shift;
 pub mod special;
 pub mod system;

@@ -3,6 +3,7 @@ use Rattle.std.proofs.Common.{◌≡◌, ℕ, zero, suc, ◌<◌, Bool, true, fa
 use Rattle.std.proofs.lemmas.Bool.{and_parts, cases_lt, eqb-true}
 use Rattle.std.proofs.lemmas.Bool.Decides.{nat_tests}
 use Rattle.xt_isa.specs.Spelling.{can_exchange, can_read, can_write}
+use Rattle.xt_isa.proofs.Reached.{exchange_small}
 use Rattle.xt_names.specs.declared.forms.Access.{Access}
 use Rattle.xt_names.specs.declared.forms.Access.TheVariants.{Read, Write, Exchange, User}
 use Rattle.xt_names.specs.Specials.{AreNamed, exchanged_names, names_of, reaches, special_name, special_number}
@@ -28,10 +29,6 @@ each_below p (suc k) n all small =
 number_is : (o : Option ℕ) (n : ℕ) → is_number o n ≡ true → o ≡ Some n
 number_is None n h = cc
 number_is (Some m) n h = ap Some (eqb-true m n h)
-
-exchange_small : (n : ℕ) → can_exchange n ≡ true → n < 256
-unfolding can_exchange
-exchange_small n h = grind (arith, nat_tests)
 
 read_small : (n : ℕ) → can_read n ≡ true → n < 256
 unfolding can_read

@@ -5,36 +5,41 @@
 use Rattle.std.specs.Prelude.{◌≡◌, ℕ, Bool, true, ◌==◌, List, [], ◌∷◌, Option, Some, find, codes}
 use Rattle.std.specs.Option.{option_map, option_map_or}
 use Rattle.std.specs.Str.{bytes_eq}
+use Rattle.xt_isa.specs.Numbers as number
 use Rattle.xt_isa.specs.Spelling.{can_exchange, can_read, can_write}
 use Rattle.xt_names.specs.declared.forms.Access.{Access}
 use Rattle.xt_names.specs.declared.forms.Access.TheVariants.{Read, Write, Exchange, User}
 
--- the registers that RSR, WSR and XSR reach
+-- the registers that RSR, WSR and XSR reach, in the order of their numbers
 unfoldable pub exchanged_names : List (List ℕ × ℕ)
 exchanged_names =
-    (codes "lbeg", 0) ∷ (codes "lend", 1) ∷ (codes "lcount", 2)
-    ∷ (codes "sar", 3) ∷ (codes "scompare1", 12)
-    ∷ (codes "windowbase", 72) ∷ (codes "windowstart", 73)
-    ∷ (codes "epc1", 177) ∷ (codes "epc2", 178) ∷ (codes "epc3", 179) ∷ (codes "epc4", 180)
-    ∷ (codes "epc5", 181) ∷ (codes "epc6", 182) ∷ (codes "epc7", 183)
-    ∷ (codes "depc", 192)
-    ∷ (codes "eps2", 194) ∷ (codes "eps3", 195) ∷ (codes "eps4", 196)
-    ∷ (codes "eps5", 197) ∷ (codes "eps6", 198) ∷ (codes "eps7", 199)
-    ∷ (codes "excsave1", 209) ∷ (codes "excsave2", 210) ∷ (codes "excsave3", 211)
-    ∷ (codes "excsave4", 212) ∷ (codes "excsave5", 213) ∷ (codes "excsave6", 214)
-    ∷ (codes "excsave7", 215)
-    ∷ (codes "intenable", 228) ∷ (codes "ps", 230) ∷ (codes "vecbase", 231)
-    ∷ (codes "exccause", 232) ∷ (codes "ccount", 234) ∷ (codes "excvaddr", 238)
-    ∷ (codes "ccompare0", 240) ∷ (codes "ccompare1", 241) ∷ (codes "ccompare2", 242)
-    ∷ (codes "misc0", 244) ∷ (codes "misc1", 245) ∷ (codes "misc2", 246) ∷ (codes "misc3", 247) ∷ []
+    (codes "lbeg", number.lbeg) ∷ (codes "lend", number.lend) ∷ (codes "lcount", number.lcount)
+    ∷ (codes "sar", number.sar) ∷ (codes "scompare1", number.scompare1)
+    ∷ (codes "windowbase", number.windowbase) ∷ (codes "windowstart", number.windowstart)
+    ∷ (codes "epc1", number.epc 1) ∷ (codes "epc2", number.epc 2) ∷ (codes "epc3", number.epc 3)
+    ∷ (codes "epc4", number.epc 4) ∷ (codes "epc5", number.epc 5) ∷ (codes "epc6", number.epc 6)
+    ∷ (codes "epc7", number.epc 7) ∷ (codes "depc", number.depc) ∷ (codes "eps2", number.eps 2)
+    ∷ (codes "eps3", number.eps 3) ∷ (codes "eps4", number.eps 4) ∷ (codes "eps5", number.eps 5)
+    ∷ (codes "eps6", number.eps 6) ∷ (codes "eps7", number.eps 7)
+    ∷ (codes "excsave1", number.excsave 1) ∷ (codes "excsave2", number.excsave 2)
+    ∷ (codes "excsave3", number.excsave 3) ∷ (codes "excsave4", number.excsave 4)
+    ∷ (codes "excsave5", number.excsave 5) ∷ (codes "excsave6", number.excsave 6)
+    ∷ (codes "excsave7", number.excsave 7) ∷ (codes "intenable", number.intenable)
+    ∷ (codes "ps", number.ps) ∷ (codes "vecbase", number.vecbase)
+    ∷ (codes "exccause", number.exccause) ∷ (codes "ccount", number.ccount)
+    ∷ (codes "excvaddr", number.excvaddr) ∷ (codes "ccompare0", number.ccompare 0)
+    ∷ (codes "ccompare1", number.ccompare 1) ∷ (codes "ccompare2", number.ccompare 2)
+    ∷ (codes "misc0", number.misc 0) ∷ (codes "misc1", number.misc 1)
+    ∷ (codes "misc2", number.misc 2) ∷ (codes "misc3", number.misc 3) ∷ []
 
 -- the names that an access knows: register 226 is INTERRUPT where it is read and INTSET where it is
 -- written
 unfoldable pub names_of : Access → List (List ℕ × ℕ)
-names_of Read = (codes "interrupt", 226) ∷ (codes "prid", 235) ∷ exchanged_names
-names_of Write = (codes "intset", 226) ∷ (codes "intclear", 227) ∷ exchanged_names
+names_of Read = (codes "interrupt", number.interrupt) ∷ (codes "prid", number.prid) ∷ exchanged_names
+names_of Write =
+    (codes "intset", number.interrupt) ∷ (codes "intclear", number.intclear) ∷ exchanged_names
 names_of Exchange = exchanged_names
-names_of User = (codes "threadptr", 231) ∷ []
+names_of User = (codes "threadptr", number.threadptr) ∷ []
 
 -- the number beside a name, where the list has it
 abbrev pub number_in : List (List ℕ × ℕ) → List ℕ → Option ℕ
@@ -57,7 +62,7 @@ abbrev pub reaches : Access → ℕ → Bool
 reaches Read n = can_read n
 reaches Write n = can_write n
 reaches Exchange n = can_exchange n
-reaches User n = n == 231
+reaches User n = n == number.threadptr
 
 -- as a law: a register that an access reaches is found by its name
 abbrev pub AreNamed : Access → Type 0

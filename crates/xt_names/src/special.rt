@@ -8,6 +8,7 @@ ghost use Rattle.xt_names.specs.Search.{is_exchanged, shown_special};
 ghost use Rattle.xt_names.specs.Specials.{exchanged_names, name_in, number_in, reaches, special_name, special_number};
 
 use crate::forms::Access;
+use xt_isa::number;
 
 /// The name of a special register, and its number.
 struct SpecialWord {
@@ -18,53 +19,53 @@ struct SpecialWord {
 }
 
 macro_rules! specials {
-    ($($number:literal $name:literal;)*) => {
+    ($($number:expr, $name:literal;)*) => {
         [$(SpecialWord { name: $name, number: $number }),*]
     };
 }
 
 static EXCHANGED: [SpecialWord; 41] = specials! {
-    0 "lbeg";
-    1 "lend";
-    2 "lcount";
-    3 "sar";
-    12 "scompare1";
-    72 "windowbase";
-    73 "windowstart";
-    177 "epc1";
-    178 "epc2";
-    179 "epc3";
-    180 "epc4";
-    181 "epc5";
-    182 "epc6";
-    183 "epc7";
-    192 "depc";
-    194 "eps2";
-    195 "eps3";
-    196 "eps4";
-    197 "eps5";
-    198 "eps6";
-    199 "eps7";
-    209 "excsave1";
-    210 "excsave2";
-    211 "excsave3";
-    212 "excsave4";
-    213 "excsave5";
-    214 "excsave6";
-    215 "excsave7";
-    228 "intenable";
-    230 "ps";
-    231 "vecbase";
-    232 "exccause";
-    234 "ccount";
-    238 "excvaddr";
-    240 "ccompare0";
-    241 "ccompare1";
-    242 "ccompare2";
-    244 "misc0";
-    245 "misc1";
-    246 "misc2";
-    247 "misc3";
+    number::LBEG, "lbeg";
+    number::LEND, "lend";
+    number::LCOUNT, "lcount";
+    number::SAR, "sar";
+    number::SCOMPARE1, "scompare1";
+    number::WINDOWBASE, "windowbase";
+    number::WINDOWSTART, "windowstart";
+    number::EPC1, "epc1";
+    number::EPC2, "epc2";
+    number::EPC3, "epc3";
+    number::EPC4, "epc4";
+    number::EPC5, "epc5";
+    number::EPC6, "epc6";
+    number::EPC7, "epc7";
+    number::DEPC, "depc";
+    number::EPS2, "eps2";
+    number::EPS3, "eps3";
+    number::EPS4, "eps4";
+    number::EPS5, "eps5";
+    number::EPS6, "eps6";
+    number::EPS7, "eps7";
+    number::EXCSAVE1, "excsave1";
+    number::EXCSAVE2, "excsave2";
+    number::EXCSAVE3, "excsave3";
+    number::EXCSAVE4, "excsave4";
+    number::EXCSAVE5, "excsave5";
+    number::EXCSAVE6, "excsave6";
+    number::EXCSAVE7, "excsave7";
+    number::INTENABLE, "intenable";
+    number::PS, "ps";
+    number::VECBASE, "vecbase";
+    number::EXCCAUSE, "exccause";
+    number::CCOUNT, "ccount";
+    number::EXCVADDR, "excvaddr";
+    number::CCOMPARE0, "ccompare0";
+    number::CCOMPARE1, "ccompare1";
+    number::CCOMPARE2, "ccompare2";
+    number::MISC0, "misc0";
+    number::MISC1, "misc1";
+    number::MISC2, "misc2";
+    number::MISC3, "misc3";
 };
 
 #[tactic(auto, unfolding(crate::specs::Specials::exchanged_names, xt_isa::specs::Spelling::can_exchange))]
@@ -109,17 +110,17 @@ fn is_named(word: &str, name: &[u8]) -> bool
 
 /// The number of the special register of this name, where this access reaches it; of `threadptr` 231, the number of the
 /// user register.
-#[tactic(auto, unfolding(crate::specs::Specials::special_number, crate::specs::Specials::names_of, xt_isa::specs::Spelling::can_read, xt_isa::specs::Spelling::can_write, xt_isa::specs::Spelling::can_exchange))]
+#[tactic(auto, unfolding(crate::specs::Specials::special_number, crate::specs::Specials::names_of, xt_isa::specs::Spelling::can_read, xt_isa::specs::Spelling::can_write))]
 pub fn special_number(access: Access, name: &[u8]) -> Option<u8>
     ensures number { result ≡ special_number access name.now }
     ensures reached { IfSome result (λ n. reaches access n ≡ true) }
 {
     match access {
-        Access::Read if is_named("interrupt", name) => Some(226),
-        Access::Read if is_named("prid", name) => Some(235),
-        Access::Write if is_named("intset", name) => Some(226),
-        Access::Write if is_named("intclear", name) => Some(227),
-        Access::User if is_named("threadptr", name) => Some(231),
+        Access::Read if is_named("interrupt", name) => Some(number::INTERRUPT),
+        Access::Read if is_named("prid", name) => Some(number::PRID),
+        Access::Write if is_named("intset", name) => Some(number::INTERRUPT),
+        Access::Write if is_named("intclear", name) => Some(number::INTCLEAR),
+        Access::User if is_named("threadptr", name) => Some(number::THREADPTR),
         Access::User => None,
         Access::Read | Access::Write | Access::Exchange => exchanged_number(name),
     }
@@ -132,11 +133,11 @@ pub fn special_name(access: Access, number: u8) -> &'static str
     ensures { result.now ≡ special_name access number }
 {
     match (access, number) {
-        (Access::Read, 226) => "interrupt",
-        (Access::Read, 235) => "prid",
-        (Access::Write, 226) => "intset",
-        (Access::Write, 227) => "intclear",
-        (Access::User, 231) => "threadptr",
+        (Access::Read, number::INTERRUPT) => "interrupt",
+        (Access::Read, number::PRID) => "prid",
+        (Access::Write, number::INTERRUPT) => "intset",
+        (Access::Write, number::INTCLEAR) => "intclear",
+        (Access::User, number::THREADPTR) => "threadptr",
         (Access::User, _) => "",
         _ => exchanged_name(number),
     }

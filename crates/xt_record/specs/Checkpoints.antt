@@ -1,7 +1,10 @@
 -- The checkpoints of a run, as a recording has them ('profile').
-use Rattle.std.specs.Prelude.{ℕ, ◌%◌, Bool, ◌==◌, ◌&&◌, not, List, [], ◌∷◌, ◌++◌, length, map}
+use Rattle.std.specs.Prelude.{ℕ, ◌%◌, Bool, ◌==◌, ◌&&◌, ◌||◌, nat_le, not, List, [], ◌∷◌, ◌++◌, length, map}
 use Rattle.std.specs.Prelude.{filter, slice_index}
 use Rattle.std.specs.List.{range_with_len}
+use Rattle.xt_isa.specs.Numbers.{exchanged_numbers, excsave, intenable, interrupt, lcount, sar}
+use Rattle.xt_isa.specs.Numbers.{vecbase, windowbase, windowstart}
+use Rattle.xt_isa.specs.Spelling.{within}
 use Rattle.xt_map.specs.declared.contents.MemoryContents.{MemoryContents}
 use Rattle.xt_map.specs.Memory.{dram_first, dram_size, rtc_fast_data_first, rtc_fast_data_size}
 use Rattle.xt_map.specs.Memory.{rtc_slow_first, rtc_slow_size}
@@ -16,19 +19,21 @@ use Rattle.xt_record.specs.Fields.{words}
 
 -- ---- one checkpoint
 
--- the special registers of a core by number: LBEG, LEND and LCOUNT; SAR, SCOMPARE1, EPC1 to EPC7,
--- DEPC, EPS2 to EPS7, EXCSAVE1 to EXCSAVE7, INTERRUPT and INTENABLE; VECBASE, EXCCAUSE, CCOUNT,
--- EXCVADDR, CCOMPARE0 to CCOMPARE2 and MISC0 to MISC3
+-- The special registers of a core that a checkpoint has, in the order of their numbers: LBEG, LEND
+-- and LCOUNT; from SAR on to EXCSAVE7, INTERRUPT and INTENABLE; and from VECBASE on.
 abbrev pub loop_numbers : List ℕ
-loop_numbers = 0 ∷ 1 ∷ 2 ∷ []
+loop_numbers = filter (λ (n : ℕ). nat_le n lcount) exchanged_numbers
+
+abbrev pub is_window : ℕ → Bool
+is_window n = n == windowbase || n == windowstart
 
 abbrev pub saved_numbers : List ℕ
 saved_numbers =
-    3 ∷ 12 ∷ 177 ∷ 178 ∷ 179 ∷ 180 ∷ 181 ∷ 182 ∷ 183 ∷ 192 ∷ 194 ∷ 195 ∷ 196 ∷ 197 ∷ 198 ∷ 199
-    ∷ 209 ∷ 210 ∷ 211 ∷ 212 ∷ 213 ∷ 214 ∷ 215 ∷ 226 ∷ 228 ∷ []
+    filter (λ (n : ℕ). within sar (excsave 7) n && not (is_window n)) exchanged_numbers
+    ++ interrupt ∷ intenable ∷ []
 
 abbrev pub last_numbers : List ℕ
-last_numbers = 231 ∷ 232 ∷ 234 ∷ 238 ∷ 240 ∷ 241 ∷ 242 ∷ 244 ∷ 245 ∷ 246 ∷ 247 ∷ []
+last_numbers = filter (λ (n : ℕ). nat_le vecbase n) exchanged_numbers
 
 -- the special registers of these numbers
 unfoldable pub special_bytes : List ℕ → List ℕ → List ℕ

@@ -9,11 +9,56 @@ use std::alloc::AllocError;
 use xt_bus::Memory;
 use xt_core::Core;
 use xt_exec::Regs;
-use xt_special::Special;
+use xt_special::{Special, number};
 use xt_window::Windows;
 
 /// How many bytes a checkpoint has.
 pub(crate) const POINT_SIZE: usize = 353_152;
+
+// The special registers that a checkpoint has, in the order of their numbers.
+const LOOP_NUMBERS: [u8; 3] = [number::LBEG, number::LEND, number::LCOUNT];
+
+const SAVED_NUMBERS: [u8; 25] = [
+    number::SAR,
+    number::SCOMPARE1,
+    number::EPC1,
+    number::EPC2,
+    number::EPC3,
+    number::EPC4,
+    number::EPC5,
+    number::EPC6,
+    number::EPC7,
+    number::DEPC,
+    number::EPS2,
+    number::EPS3,
+    number::EPS4,
+    number::EPS5,
+    number::EPS6,
+    number::EPS7,
+    number::EXCSAVE1,
+    number::EXCSAVE2,
+    number::EXCSAVE3,
+    number::EXCSAVE4,
+    number::EXCSAVE5,
+    number::EXCSAVE6,
+    number::EXCSAVE7,
+    number::INTERRUPT,
+    number::INTENABLE,
+];
+
+const LAST_NUMBERS: [u8; 11] = [
+    number::VECBASE,
+    number::EXCCAUSE,
+    number::CCOUNT,
+    number::EXCVADDR,
+    number::CCOMPARE0,
+    number::CCOMPARE1,
+    number::CCOMPARE2,
+    number::MISC0,
+    number::MISC1,
+    number::MISC2,
+    number::MISC3,
+];
 
 // Writes special registers, by their numbers.
 #[tactic(auto, unfolding(crate::specs::Checkpoints::special_bytes))]
@@ -48,22 +93,11 @@ fn put_state(out: &mut Vec<u8>, step: u32, regs: &Regs<OwnFile>) -> Result<(), A
     let (base, start) = (win.base() as u32, win.start() as u32);
     put_words(out, &[regs.pc, regs.waiting as u32, step, base, start])?;
     put_file(out, win)?;
-    put_registers(out, special, &[0, 1, 2])?;
+    put_registers(out, special, &LOOP_NUMBERS)?;
     put_words(out, &[0])?;
-    put_registers(
-        out,
-        special,
-        &[
-            3, 12, 177, 178, 179, 180, 181, 182, 183, 192, 194, 195, 196, 197, 198, 199, 209, 210,
-            211, 212, 213, 214, 215, 226, 228,
-        ],
-    )?;
+    put_registers(out, special, &SAVED_NUMBERS)?;
     put_words(out, &[special.ps()])?;
-    put_registers(
-        out,
-        special,
-        &[231, 232, 234, 238, 240, 241, 242, 244, 245, 246, 247],
-    )?;
+    put_registers(out, special, &LAST_NUMBERS)?;
     put_words(out, &[special.threadptr()])?;
     Ok(())
 }

@@ -1,4 +1,4 @@
-pub mod Numbers
+pub use Rattle.xt_isa.specs.Numbers
 pub mod Control
 pub mod Values
 pub mod Shape

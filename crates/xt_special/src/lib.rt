@@ -5,7 +5,6 @@
 #![tactic(auto)]
 
 pub mod laws;
-pub mod number;
 mod ps;
 mod registers;
 mod writes;
@@ -13,3 +12,4 @@ mod writes;
 pub use ps::Ps;
 pub use registers::{Special, ps_written, value_read};
 pub use writes::{SpecialWrite, SpecialWrites, set_to, written_by};
+pub use xt_isa::number;
