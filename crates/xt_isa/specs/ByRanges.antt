@@ -1,4 +1,5 @@
--- What carries the proof of the test of a special register's number; nothing here need be believed.
+-- Carries a proof; nothing that a reader must believe.
+-- The numbers of the special registers that XSR reaches, by ranges.
 use Rattle.std.specs.Prelude.{ℕ, Bool, ◌==◌, ◌||◌}
 use Rattle.xt_isa.specs.Spelling.{within}
 
