@@ -6,8 +6,8 @@ use Rattle.xt_io.specs.Whole.{AppendsPrefix}
 use Rattle.xt_image.specs.declared.image.Image.{Image}
 use Rattle.xt_image.specs.Parts.{image_bytes}
 use Rattle.xt_gen.specs.Generated.{generated}
-use Rattle.xt_words.specs.declared.options.RunOptions.{RunOptions}
-use Rattle.xt_words.specs.Options.{AreValid}
+use Rattle.xt_command_line.specs.declared.options.RunOptions.{RunOptions}
+use Rattle.xt_command_line.specs.Options.{AreValid}
 use Rattle.xt_cli.specs.declared.status.Status.{Status}
 use Rattle.xt_cli.specs.declared.status.Status.TheVariants as status
 use Rattle.xt_cli.specs.declared.verdicts.Whole.{Whole}

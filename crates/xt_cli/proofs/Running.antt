@@ -8,7 +8,7 @@ use Rattle.xt_io.specs.declared.sink.Refused.TheVariants as refused
 use Rattle.xt_image.specs.declared.image.Image.{Image}
 use Rattle.xt_image.specs.Rules.{image_fault}
 use Rattle.xt_image.specs.Format.{image_of}
-use Rattle.xt_words.specs.declared.options.RunOptions.{RunOptions}
+use Rattle.xt_command_line.specs.declared.options.RunOptions.{RunOptions}
 use Rattle.xt_cli.specs.declared.status.Status.{Status}
 use Rattle.xt_cli.specs.declared.status.Status.TheVariants as status
 use Rattle.xt_cli.specs.declared.verdicts.Whole.{Whole}

@@ -2,7 +2,7 @@
 use Rattle.std.specs.Prelude.{ℕ, Bool, true, false, List, [], ◌∷◌, ◌++◌, length, codes}
 use Rattle.std.specs.List.{concat, enumerate_from, flat_map}
 use Rattle.std.specs.Fmt.{decimal}
-use Rattle.xt_text.specs.Hexadecimal.{hex8}
+use Rattle.xt_word.specs.Hexadecimal.{hex8}
 use Rattle.xt_map.specs.declared.segment.Segment.{Segment}
 use Rattle.xt_image.specs.declared.image.Image.{Image}
 use Rattle.xt_disasm.specs.Listing.{segment_line}

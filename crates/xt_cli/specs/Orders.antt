@@ -1,12 +1,12 @@
 -- What the words of the command line ask for ('profile'). A word is the list of its bytes.
 use Rattle.std.specs.Prelude.{ℕ, All, List, Option, Some, None, Result, Ok, Err}
-use Rattle.xt_words.specs.Arguments.{IsVecbase, script_text_of}
-use Rattle.xt_words.specs.Meaning.{meaning_of}
-use Rattle.xt_words.specs.Options.{AreValid}
-use Rattle.xt_words.specs.declared.command.Command.{Command}
-use Rattle.xt_words.specs.declared.command.Command.TheVariants as command
-use Rattle.xt_words.specs.declared.command.Refusal.{Refusal}
-use Rattle.xt_words.specs.declared.command.Refusal.TheVariants as refusal
+use Rattle.xt_command_line.specs.Arguments.{IsVecbase, script_text_of}
+use Rattle.xt_command_line.specs.Meaning.{meaning_of}
+use Rattle.xt_command_line.specs.Options.{AreValid}
+use Rattle.xt_command_line.specs.declared.command.Command.{Command}
+use Rattle.xt_command_line.specs.declared.command.Command.TheVariants as command
+use Rattle.xt_command_line.specs.declared.command.Refusal.{Refusal}
+use Rattle.xt_command_line.specs.declared.command.Refusal.TheVariants as refusal
 use Rattle.xt_debug.specs.declared.script.Command as script
 use Rattle.xt_debug.specs.Grammar.{IsInRange, script_of}
 use Rattle.xt_cli.specs.declared.orders.Order.{Order}

@@ -3,7 +3,7 @@ use Rattle.std.specs.Prelude.{◌≡◌, ℕ, ◌+◌, ◌%◌, Bool, true, fals
 use Rattle.std.specs.Prelude.{Some, None, List, [], ◌∷◌, ◌++◌, length, codes}
 use Rattle.std.specs.List.{concat, filter_map}
 use Rattle.std.specs.Fmt.{decimal}
-use Rattle.xt_text.specs.Hexadecimal.{hex8}
+use Rattle.xt_word.specs.Hexadecimal.{hex8}
 use Rattle.xt_map.specs.Regions.{uart_transmit}
 use Rattle.xt_map.specs.History.{memory_after}
 use Rattle.xt_map.specs.declared.contents.MemoryContents.{MemoryContents}

@@ -5,7 +5,7 @@ use Rattle.std.specs.Fmt.{decimal}
 use Rattle.xt_trace.specs.declared.trace.Trace.{Trace}
 use Rattle.xt_image.specs.Parts.{image_bytes}
 use Rattle.xt_gen.specs.Generated.{generated}
-use Rattle.xt_words.specs.declared.options.RunOptions.{RunOptions}
+use Rattle.xt_command_line.specs.declared.options.RunOptions.{RunOptions}
 use Rattle.xt_cli.specs.declared.verdicts.Whole.{Whole}
 use Rattle.xt_cli.specs.Reports.{newline, sent_bytes, stop_text}
 use Rattle.xt_cli.specs.Verdicts.{frames_line}

@@ -20,8 +20,8 @@ use Rattle.xt_record.specs.Format.{recording_fault, run_in}
 use Rattle.xt_record.specs.Written.{recording_bytes}
 use Rattle.xt_debug.specs.declared.script.Command as script
 use Rattle.xt_debug.specs.Scripts.{script_outcome}
-use Rattle.xt_words.specs.declared.command.Refusal.{Refusal}
-use Rattle.xt_words.specs.declared.command.Refusal.TheVariants as refusal
+use Rattle.xt_command_line.specs.declared.command.Refusal.{Refusal}
+use Rattle.xt_command_line.specs.declared.command.Refusal.TheVariants as refusal
 use Rattle.xt_cli.specs.declared.status.Status.{Status}
 use Rattle.xt_cli.specs.declared.status.Status.TheVariants as status
 use Rattle.xt_cli.specs.declared.tool.Job.{Job}

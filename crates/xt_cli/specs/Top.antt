@@ -13,9 +13,9 @@ use Rattle.xt_core.specs.Runs.{IsRunOf, code_of, records_of}
 use Rattle.xt_machine.specs.Lists.{run_of_list, schedule_in}
 use Rattle.xt_machine.specs.Framed.{IsFramed}
 use Rattle.xt_record.specs.Written.{recording_bytes}
-use Rattle.xt_words.specs.Options.{with_entry}
-use Rattle.xt_words.specs.declared.command.Refusal.{Refusal}
-use Rattle.xt_words.specs.declared.options.RunOptions.{RunOptions}
+use Rattle.xt_command_line.specs.Options.{with_entry}
+use Rattle.xt_command_line.specs.declared.command.Refusal.{Refusal}
+use Rattle.xt_command_line.specs.declared.options.RunOptions.{RunOptions}
 use Rattle.xt_cli.specs.declared.status.Status.{Status}
 use Rattle.xt_cli.specs.declared.status.Status.TheVariants as status
 use Rattle.xt_cli.specs.declared.tool.Tool.TheVariants as tool

@@ -9,7 +9,7 @@ use xt_disasm::push_segment_line;
 use xt_discipline::handlers_of;
 use xt_image::{Image, well_formed_is_placed};
 use xt_map::{Segment, Text};
-use xt_text::hexadecimal;
+use xt_word::hexadecimal;
 
 fn yes_or_no(flag: bool) -> &'static str
     ensures { result.now ≡ yes_or_no flag }

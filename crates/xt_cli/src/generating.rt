@@ -2,7 +2,7 @@
 ghost use Rattle.std.specs.Prelude.{◌≡◌, IfOk};
 ghost use Rattle.xt_cli.specs.Summaries.{gen_options, gen_text};
 ghost use Rattle.xt_cli.specs.Top.{FinishesGen, Generates, IsGenerated};
-ghost use Rattle.xt_words.specs.Options.{AreValid};
+ghost use Rattle.xt_command_line.specs.Options.{AreValid};
 
 use crate::gen_report::summary;
 use crate::output::write_text;
@@ -13,12 +13,12 @@ use crate::verdicts::Whole;
 use std::alloc::{AllocError, Global};
 use std::sync::Wait;
 use std::thread::Threads;
+use xt_command_line::{DEFAULT_VECBASE, RunOptions};
 use xt_gen::generated;
 use xt_image::write;
 use xt_io::{Gate, Refused, Sink};
 use xt_map::Text;
 use xt_trace::Stack;
-use xt_words::{DEFAULT_VECBASE, RunOptions};
 
 // The options with which the image of a number runs.
 fn gen_options() -> RunOptions

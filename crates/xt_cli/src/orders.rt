@@ -1,13 +1,13 @@
 //! What the words of the command line ask for.
 ghost use Rattle.std.specs.Prelude.{IfOk, map, string_bytes};
 ghost use Rattle.xt_cli.specs.Orders.{IsFitOrder, order_of, replay_order};
-ghost use Rattle.xt_words.specs.Answers.{Means};
-ghost use Rattle.xt_words.specs.Arguments.{script_text_of};
+ghost use Rattle.xt_command_line.specs.Answers.{Means};
+ghost use Rattle.xt_command_line.specs.Arguments.{script_text_of};
 
 use crate::tool::Job;
 use std::alloc::Global;
+use xt_command_line::{Command, Refusal, RunOptions, meaning, script_text};
 use xt_debug::{ScriptFault, parse_script};
-use xt_words::{Command, Refusal, RunOptions, meaning, script_text};
 
 /// What is written of a run of an image.
 #[derive(Clone, Copy, Debug, PartialEq, Eq)]

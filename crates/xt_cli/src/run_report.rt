@@ -5,8 +5,8 @@ use crate::verdict_lines::{frames_line, handlers_line};
 use crate::verdicts::Whole;
 use std::alloc::{AllocError, Global};
 use xt_map::{Entry, Kind, Text, UART_TRANSMIT};
-use xt_text::hexadecimal;
 use xt_trace::{Run, Stop, Trace};
+use xt_word::hexadecimal;
 
 // The byte that an entry sends.
 fn sent_by(entry: &Entry) -> Option<u8>

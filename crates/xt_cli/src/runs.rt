@@ -2,17 +2,17 @@
 ghost use Rattle.std.specs.Prelude.{IfOk};
 ghost use Rattle.xt_cli.specs.Top.{IsJudged, IsRunOfImage};
 ghost use Rattle.xt_image.specs.Parts.{IsWellFormed};
-ghost use Rattle.xt_words.specs.Options.{AreValid};
+ghost use Rattle.xt_command_line.specs.Options.{AreValid};
 
 use crate::verdicts::{Whole, judged};
 use std::alloc::{AllocError, Global};
 use std::sync::Wait;
 use std::thread::Threads;
+use xt_command_line::RunOptions;
 use xt_image::{Image, well_formed_by_rules};
 use xt_io::Gate;
 use xt_machine::run;
 use xt_trace::Run;
-use xt_words::RunOptions;
 
 // The run of an image with the options of the words, on two threads.
 #[tactic(auto, unfolding(crate::specs::Top::run_of_its_schedule))]

@@ -14,6 +14,7 @@ use crate::recordings::{RECORDING_LIMIT, migrate, replay};
 use crate::status::Status;
 use std::alloc::Global;
 use xt_asm::assemble;
+use xt_command_line::Refusal;
 use xt_debug::Script;
 use xt_disasm::listing;
 use xt_elf::{ElfFault, from_elf};
@@ -21,7 +22,6 @@ use xt_image::{Image, ImageFault, read, write};
 use xt_io::{ReadError, Refused, Sink, Source, read_to_limit, write_all};
 use xt_lex::AsmFault;
 use xt_map::Text;
-use xt_words::Refusal;
 
 /// The most bytes that an image may have.
 pub const IMAGE_LIMIT: usize = 8_388_608;

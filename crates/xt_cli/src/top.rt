@@ -7,7 +7,7 @@ ghost use Rattle.xt_cli.specs.Writes.{Writes};
 ghost use Rattle.xt_core.specs.Runs.{IsRunOf};
 ghost use Rattle.xt_image.specs.Parts.{IsWellFormed};
 ghost use Rattle.xt_record.specs.Written.{recording_bytes};
-ghost use Rattle.xt_words.specs.Options.{AreValid};
+ghost use Rattle.xt_command_line.specs.Options.{AreValid};
 
 use crate::generating::generate;
 use crate::orders::{Order, Wanted, order_in};
@@ -19,12 +19,12 @@ use crate::verdicts::Whole;
 use std::alloc::Global;
 use std::sync::Wait;
 use std::thread::Threads;
+use xt_command_line::RunOptions;
 use xt_core::Cursor;
 use xt_image::{Image, well_formed_is_placed};
 use xt_io::{Gate, ReadError, Refused, Sink, Source, read_to_limit, write_all};
 use xt_record::write_recording;
 use xt_trace::Run;
-use xt_words::RunOptions;
 
 /// How the program ended.
 #[derive(Drop)]

@@ -6,9 +6,9 @@ use Rattle.xt_map.specs.History.{replies_of}
 use Rattle.xt_trace.specs.declared.record.StepRecord.{StepRecord}
 use Rattle.xt_trace.specs.Calls.{is_stop}
 use Rattle.xt_trace.specs.Left.{first_of, rest_of}
-use Rattle.xt_runs.specs.Chip.{Chip}
-use Rattle.xt_runs.specs.Traces.{ended, trace_over, reply_for, replies_past}
-use Rattle.xt_runs.specs.Worlds.{left_past}
+use Rattle.xt_trace.specs.Chip.{Chip}
+use Rattle.xt_trace.specs.Traces.{ended, trace_over, reply_for, replies_past}
+use Rattle.xt_trace.specs.Worlds.{left_past}
 use Rattle.xt_exec.specs.State.{State}
 use Rattle.xt_exec.specs.Turn.{demand, turn}
 use Rattle.xt_exec.specs.Chips.{processor}

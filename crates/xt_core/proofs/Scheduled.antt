@@ -4,11 +4,11 @@ use Rattle.xt_map.specs.History.{calls_of}
 use Rattle.xt_trace.specs.declared.run.Run.{Run}
 use Rattle.xt_trace.specs.declared.trace.Trace.{Trace}
 use Rattle.xt_image.specs.declared.image.Image.{Image}
-use Rattle.xt_runs.specs.Schedule.{places_from}
-use Rattle.xt_runs.specs.Scheduled.{HasSchedule}
-use Rattle.xt_runs.specs.Short.{IsRising, IsShortRunOf, ShortRun, short_trace}
-use Rattle.xt_runs.specs.Traces.{Traced}
-use Rattle.xt_runs.proofs.Short.{HasPlaces, run_has_places}
+use Rattle.xt_trace.specs.Schedule.{places_from}
+use Rattle.xt_trace.specs.Scheduled.{HasSchedule}
+use Rattle.xt_trace.specs.Short.{IsRising, IsShortRunOf, ShortRun, short_trace}
+use Rattle.xt_trace.specs.Traces.{Traced}
+use Rattle.xt_trace.proofs.Short.{HasPlaces, run_has_places}
 use Rattle.xt_exec.specs.Chips.{processor}
 use Rattle.xt_exec.specs.State.{State}
 use Rattle.xt_core.specs.Runs.{IsRunOf, StandsFor, code_of, opening_of, records_of}

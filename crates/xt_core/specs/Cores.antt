@@ -7,10 +7,10 @@ use Rattle.xt_trace.specs.declared.record.StepRecord.{StepRecord}
 use Rattle.xt_trace.specs.declared.trace.Trace.{Trace}
 use Rattle.xt_trace.specs.Calls.{is_stop}
 use Rattle.xt_rows.specs.Laws.{IsRegister}
-use Rattle.xt_runs.specs.Schedule.{place_before}
-use Rattle.xt_runs.specs.Short.{ShortCore}
-use Rattle.xt_runs.specs.Traces.{stop_where}
-use Rattle.xt_runs.specs.Worlds.{left_past}
+use Rattle.xt_trace.specs.Schedule.{place_before}
+use Rattle.xt_trace.specs.Short.{ShortCore}
+use Rattle.xt_trace.specs.Traces.{stop_where}
+use Rattle.xt_trace.specs.Worlds.{left_past}
 use Rattle.xt_exec.specs.declared.plans.Pending.{Pending}
 use Rattle.xt_exec.specs.State.{State}
 use Rattle.xt_exec.specs.Turn.{demand, planned, turn}

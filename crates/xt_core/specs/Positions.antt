@@ -2,9 +2,9 @@
 use Rattle.std.specs.Prelude.{ℕ}
 use Rattle.xt_trace.specs.declared.run.Run.{Run}
 use Rattle.xt_image.specs.declared.image.Image.{Image}
-pub use Rattle.xt_runs.specs.Schedule.{schedule_in}
-use Rattle.xt_runs.specs.Walks.{state_at}
-use Rattle.xt_runs.specs.Worlds.{World}
+pub use Rattle.xt_trace.specs.Schedule.{schedule_in}
+use Rattle.xt_trace.specs.Walks.{state_at}
+use Rattle.xt_trace.specs.Worlds.{World}
 use Rattle.xt_exec.specs.Chips.{processor}
 use Rattle.xt_exec.specs.State.{State}
 use Rattle.xt_core.specs.Runs.{code_of, opening_of}

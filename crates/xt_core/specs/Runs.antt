@@ -10,9 +10,9 @@ use Rattle.xt_trace.specs.declared.run.Run.{Run}
 use Rattle.xt_trace.specs.Calls.{calls_in}
 use Rattle.xt_trace.specs.Validity.{IsValid}
 use Rattle.xt_image.specs.declared.image.Image.{Image}
-use Rattle.xt_runs.specs.Schedule.{places_from}
-use Rattle.xt_runs.specs.Runs.{Opening}
-use Rattle.xt_runs.specs.Traces.{Traced, trace_over, stop_of}
+use Rattle.xt_trace.specs.Schedule.{places_from}
+use Rattle.xt_trace.specs.Runs.{Opening}
+use Rattle.xt_trace.specs.Traces.{Traced, trace_over, stop_of}
 use Rattle.xt_exec.specs.State.{State, opening_state}
 use Rattle.xt_exec.specs.Chips.{processor}
 

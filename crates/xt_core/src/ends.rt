@@ -1,6 +1,6 @@
 ghost use Rattle.std.specs.Prelude.{◌≡◌};
 ghost use Rattle.xt_trace.specs.Calls.{is_stop};
-ghost use Rattle.xt_runs.specs.Worlds.{left_past};
+ghost use Rattle.xt_trace.specs.Worlds.{left_past};
 
 use xt_trace::{StepKind, StepRecord};
 

@@ -2,7 +2,7 @@ ghost use Rattle.std.specs.Prelude.{◌≡◌, Some};
 ghost use Rattle.xt_map.specs.declared.access.Access.{Access};
 ghost use Rattle.xt_map.specs.History.{replies_of};
 ghost use Rattle.xt_map.specs.Memory.{constant_byte};
-ghost use Rattle.xt_runs.specs.Traces.{replies_past, reply_for};
+ghost use Rattle.xt_trace.specs.Traces.{replies_past, reply_for};
 ghost use Rattle.xt_exec.specs.States.{file_state};
 ghost use Rattle.xt_exec.specs.Turn.{demand, turn};
 

@@ -1,7 +1,7 @@
 -- Four hexadecimal digits, two at a time.
 use Rattle.std.proofs.Common.{◌≡◌, ℕ, ◌/◌, ◌%◌, List, ◌++◌, refl, ap, ◌∙◌, arith}
 use mathlib.Core.List.{append_assoc}
-use Rattle.xt_text.specs.Hexadecimal.{hex2}
+use Rattle.xt_word.specs.Hexadecimal.{hex2}
 use Rattle.xt_debug.specs.Printed.{hex4}
 
 halves : (n : ℕ) → hex2 (n / 256) ++ hex2 (n % 256) ≡ hex4 n

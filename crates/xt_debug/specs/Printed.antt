@@ -2,7 +2,7 @@
 use Rattle.std.specs.Prelude.{ℕ, zero, suc, ◌+◌, ◌%◌, ◌^◌, Option, Some, None, List, [], ◌++◌}
 use Rattle.std.specs.Prelude.{codes}
 use Rattle.std.specs.Fmt.{decimal}
-use Rattle.xt_text.specs.Hexadecimal.{hex_digits, hex2, hex8}
+use Rattle.xt_word.specs.Hexadecimal.{hex_digits, hex2, hex8}
 use Rattle.xt_special.specs.Control.{ps_word}
 use Rattle.xt_window.specs.Ring.{visible}
 use Rattle.xt_exec.specs.State.{State}

@@ -6,7 +6,7 @@ ghost use Rattle.xt_debug.specs.Answers.{Reads};
 
 use crate::script::{Command, Script, ScriptFault};
 use std::alloc::{AllocError, Global};
-use xt_words::number;
+use xt_command_line::number;
 
 // The core that a word names.
 #[tactic(auto, unfolding(crate::specs::Grammar::core_of))]

@@ -6,8 +6,8 @@ ghost use Rattle.xt_debug.specs.Printed.{byte_text, core_line, frames_text, hex4
 use std::alloc::AllocError;
 use std::fmt::Write;
 use xt_exec::Regs;
-use xt_text::{push_hex2, push_hex8};
 use xt_window::{WindowFile, Windows};
+use xt_word::{push_hex2, push_hex8};
 
 // Appends 16 bits in four upper-case hexadecimal digits.
 #[tactic(auto, using(crate::proofs::Halves::two_halves))]

@@ -15,7 +15,7 @@ use std::alloc::{AllocError, Global};
 use std::fmt::Write;
 use xt_map::Text;
 use xt_replay::{Replay, State};
-use xt_text::push_hex8;
+use xt_word::push_hex8;
 
 // Moves directly before a core's step of this number, where its trace is that long.
 fn go(replay: &mut Replay, core: u8, step: u32) -> bool

@@ -14,7 +14,7 @@ use Rattle.xt_map.specs.declared.regions.Region.TheVariants.{Drom, Uart, RtcFast
 use Rattle.xt_map.specs.declared.regions.Region.TheVariants.{RtcFastCode, Irom, RtcSlow}
 use Rattle.xt_map.specs.declared.segment.Segment.{Segment}
 use Rattle.xt_image.specs.declared.image.Image.{Image}
-use Rattle.xt_text.specs.Hexadecimal.{hex2, hex8}
+use Rattle.xt_word.specs.Hexadecimal.{hex2, hex8}
 use Rattle.xt_names.specs.Names.{name_of}
 use Rattle.xt_names.specs.Parts.{mnemonic_in, parts_of}
 use Rattle.xt_disasm.specs.Operands.{operand_text, operands}

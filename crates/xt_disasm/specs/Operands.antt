@@ -12,7 +12,7 @@ use Rattle.xt_names.specs.declared.parts.Parts.{Parts}
 use Rattle.xt_names.specs.declared.parts.Parts.TheVariants as parts
 use Rattle.xt_names.specs.Forms.{special_access}
 use Rattle.xt_names.specs.Specials.{special_name}
-use Rattle.xt_text.specs.Hexadecimal.{hex8}
+use Rattle.xt_word.specs.Hexadecimal.{hex8}
 use Rattle.xt_disasm.specs.declared.operand.Operand.{Operand}
 use Rattle.xt_disasm.specs.declared.operand.Operand.TheVariants.{Register, Number, Target, Special}
 

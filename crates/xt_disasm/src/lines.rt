@@ -3,7 +3,7 @@
 
 ghost use Rattle.std.specs.Prelude.{◌≡◌, ◌++◌, ◌<◌, ◌≤◌, IfOk, OnOk, length, string_bytes};
 ghost use Rattle.std.specs.List.{flat_map};
-ghost use Rattle.xt_text.specs.Hexadecimal.{hex2};
+ghost use Rattle.xt_word.specs.Hexadecimal.{hex2};
 ghost use Rattle.xt_disasm.specs.Listing.{byte_at, code_line, code_lines, front_length, is_code, listing_text, place_name, region_name, segment_line, segment_text};
 ghost use Rattle.xt_disasm.specs.Fronts.{IsFront};
 
@@ -15,7 +15,7 @@ use xt_image::Image;
 use xt_isa::Insn;
 use xt_map::regions::Region;
 use xt_map::{Segment, Text, can_execute_at, is_segment_loaded, region};
-use xt_text::{push_hex2, push_hex8};
+use xt_word::{push_hex2, push_hex8};
 
 /// The byte at a place, or 0 past the end.
 fn byte_at(bytes: &[u8], place: usize) -> u8

@@ -8,7 +8,7 @@ ghost use Rattle.xt_disasm.specs.Operands.{operand_text};
 use std::alloc::AllocError;
 use std::fmt::Write;
 use xt_names::{Access, special_name};
-use xt_text::push_hex8;
+use xt_word::push_hex8;
 
 /// One operand of an instruction.
 #[derive(Clone, Copy, Debug, PartialEq, Eq)]

@@ -3,8 +3,8 @@ use Rattle.std.proofs.Common.{◌≡◌, ℕ, zero, suc, ◌+◌, ◌-◌, ◌<�
 use Rattle.std.proofs.lemmas.List.{length-append, length-replicate}
 use Rattle.xt_trace.specs.declared.run.Run.{Run}
 use Rattle.xt_trace.specs.Validity.{most_turns}
-use Rattle.xt_runs.specs.Schedule.{cores_of, schedule_from}
-use Rattle.xt_runs.specs.Short.{IsRising}
+use Rattle.xt_trace.specs.Schedule.{cores_of, schedule_from}
+use Rattle.xt_trace.specs.Short.{IsRising}
 use Rattle.xt_discipline.specs.Schedules.{HasSchedule, schedule_in}
 
 more : (n c : ℕ) (rest : List ℕ) → length (replicate n c ++ rest) ≡ n + length rest

@@ -4,8 +4,8 @@ use Rattle.std.specs.Prelude.{◌≡◌, ℕ, suc, ◌-◌, ◌<◌, ◌≤◌, 
 use Rattle.std.specs.Prelude.{slice_index}
 use Rattle.xt_map.specs.declared.access.Entry.{Entry}
 use Rattle.xt_map.specs.History.{IsOfCores, calls_of}
-use Rattle.xt_runs.specs.Schedule.{cores_of, schedule_from}
-use Rattle.xt_runs.specs.Short.{IsRising}
+use Rattle.xt_trace.specs.Schedule.{cores_of, schedule_from}
+use Rattle.xt_trace.specs.Short.{IsRising}
 use Rattle.xt_discipline.specs.declared.order.Order.{Order}
 use Rattle.xt_discipline.specs.declared.order.Stretch.{Stretch}
 

@@ -1,3 +1,3 @@
 -- The schedule of a run, and when it has one ('profile').
-pub use Rattle.xt_runs.specs.Schedule.{schedule_in}
-pub use Rattle.xt_runs.specs.Scheduled.{HasSchedule, IsTraceIn}
+pub use Rattle.xt_trace.specs.Schedule.{schedule_in}
+pub use Rattle.xt_trace.specs.Scheduled.{HasSchedule, IsTraceIn}

@@ -2,7 +2,7 @@
 use Rattle.std.specs.Prelude.{◌≡◌, ℕ, Option, Some}
 use Rattle.std.proofs.Common.{refl, ap}
 use Rattle.xt_map.specs.declared.access.Access.{Access}
-use Rattle.xt_runs.specs.Chip.{Chip}
+use Rattle.xt_trace.specs.Chip.{Chip}
 use Rattle.xt_exec.specs.State.{State}
 use Rattle.xt_exec.specs.Turn.{demand, turn, reply_where}
 

@@ -3,13 +3,13 @@ use Rattle.std.proofs.Common.{◌≡◌, ℕ, suc, ◌+◌, ◌-◌, ◌<◌, Bo
 use Rattle.std.proofs.lemmas.List.{append-nil, length_push}
 use Rattle.xt_map.specs.declared.access.Access.{Access}
 use Rattle.xt_trace.specs.Calls.{calls_in, is_stop}
-use Rattle.xt_runs.specs.Driven.{replies_in}
-use Rattle.xt_runs.specs.Schedule.{place_before, places_from}
-use Rattle.xt_runs.specs.Traces.{Traced, has_stopped}
-use Rattle.xt_runs.specs.Runs.{traced_so_far}
-use Rattle.xt_runs.specs.Worlds.{Core, core_past, left_past}
-use Rattle.xt_runs.proofs.Driven.{drove_none, drove_local, drove_call, drove_ended}
-use Rattle.xt_runs.proofs.Short.{places_push, stopped_push}
+use Rattle.xt_trace.specs.Driven.{replies_in}
+use Rattle.xt_trace.specs.Schedule.{place_before, places_from}
+use Rattle.xt_trace.specs.Traces.{Traced, has_stopped}
+use Rattle.xt_trace.specs.Runs.{traced_so_far}
+use Rattle.xt_trace.specs.Worlds.{Core, core_past, left_past}
+use Rattle.xt_trace.proofs.Driven.{drove_none, drove_local, drove_call, drove_ended}
+use Rattle.xt_trace.proofs.Short.{places_push, stopped_push}
 use Rattle.xt_exec.specs.declared.plans.Pending.{Pending}
 use Rattle.xt_exec.specs.Chips.{processor}
 use Rattle.xt_exec.specs.State.{State}

@@ -9,14 +9,14 @@ use Rattle.xt_trace.specs.declared.run.Run.{Run}
 use Rattle.xt_trace.specs.declared.trace.Stop.{Stop}
 use Rattle.xt_trace.specs.declared.trace.Trace.{Trace}
 use Rattle.xt_image.specs.declared.image.Image.{Image}
-use Rattle.xt_runs.specs.Chip.{Chip}
-use Rattle.xt_runs.specs.Runs.{opened, run_at}
-use Rattle.xt_runs.specs.Runs as runs
-use Rattle.xt_runs.specs.Schedule.{cores_of, places_from, schedule}
-use Rattle.xt_runs.specs.Short.{ShortWorld, short_advance}
-use Rattle.xt_runs.specs.Traces.{Traced, stop_of}
-use Rattle.xt_runs.proofs.Ends.{run_at_is_run}
-use Rattle.xt_runs.proofs.Own.{own_schedule}
+use Rattle.xt_trace.specs.Chip.{Chip}
+use Rattle.xt_trace.specs.Runs.{opened, run_at}
+use Rattle.xt_trace.specs.Runs as runs
+use Rattle.xt_trace.specs.Schedule.{cores_of, places_from, schedule}
+use Rattle.xt_trace.specs.Short.{ShortWorld, short_advance}
+use Rattle.xt_trace.specs.Traces.{Traced, stop_of}
+use Rattle.xt_trace.proofs.Ends.{run_at_is_run}
+use Rattle.xt_trace.proofs.Own.{own_schedule}
 use Rattle.xt_exec.specs.Chips.{processor}
 use Rattle.xt_exec.specs.State.{State}
 use Rattle.xt_core.specs.Runs.{IsRunOf, StandsFor, code_of, opening_of, records_of}

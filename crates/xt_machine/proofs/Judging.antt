@@ -2,8 +2,8 @@
 use Rattle.std.proofs.Common.{◌≡◌, ℕ, List, length, ◌∙◌, ap}
 use Rattle.xt_trace.specs.declared.run.Run.{Run}
 use Rattle.xt_image.specs.declared.image.Image.{Image}
-use Rattle.xt_runs.specs.Schedule.{cores_of, places_from, schedule}
-use Rattle.xt_runs.specs.Short.{short_schedule}
+use Rattle.xt_trace.specs.Schedule.{cores_of, places_from, schedule}
+use Rattle.xt_trace.specs.Short.{short_schedule}
 use Rattle.xt_core.specs.Runs.{code_of, records_of, IsRunOf}
 use Rattle.xt_frames.specs.Verdict.{Judgement, judgement, opening_known}
 use Rattle.xt_discipline.specs.Schedules.{schedule_in}

@@ -12,8 +12,8 @@ use Rattle.xt_trace.specs.declared.trace.Trace.{Trace}
 use Rattle.xt_trace.specs.Calls.{calls_in}
 use Rattle.xt_trace.specs.Validity.{IsValid}
 use Rattle.xt_image.specs.declared.image.Image.{Image}
-use Rattle.xt_runs.specs.Driven.{replies_in}
-use Rattle.xt_runs.specs.Traces.{Traced, trace_over}
+use Rattle.xt_trace.specs.Driven.{replies_in}
+use Rattle.xt_trace.specs.Traces.{Traced, trace_over}
 use Rattle.xt_exec.specs.Chips.{processor}
 use Rattle.xt_exec.specs.State.{State}
 use Rattle.xt_core.specs.Cores.{CoreState, opened, trace_of}

@@ -2,11 +2,11 @@
 use Rattle.std.proofs.Common.{◌≡◌, ℕ, zero, suc, Bool, true, nat_lt, ◌+◌, ◌-◌, ◌<◌, ◌≤◌, List, [], ◌∷◌, ◌++◌, length, take, get_or, replicate, refl, sym, ap, ◌∙◌, arith}
 use Rattle.std.proofs.lemmas.Bool.{ltb-true}
 use Rattle.std.proofs.lemmas.List.{take_more}
-use Rattle.xt_runs.specs.Chip.{Chip}
-use Rattle.xt_runs.specs.Worlds.{Line, World, advance, rest_of, finished, answer}
-use Rattle.xt_runs.specs.Short.{ShortCore, ShortWorld, short_world, short_line, short_given, short_give, short_advance}
-use Rattle.xt_runs.proofs.Ends.{left_at_most}
-use Rattle.xt_runs.proofs.Short.{short_world_advanced}
+use Rattle.xt_trace.specs.Chip.{Chip}
+use Rattle.xt_trace.specs.Worlds.{Line, World, advance, rest_of, finished, answer}
+use Rattle.xt_trace.specs.Short.{ShortCore, ShortWorld, short_world, short_line, short_given, short_give, short_advance}
+use Rattle.xt_trace.proofs.Ends.{left_at_most}
+use Rattle.xt_trace.proofs.Short.{short_world_advanced}
 
 advance_append : {S : Type 0} (P : Chip S) (xs ys : List ℕ) (w : ShortWorld S) → short_advance P (xs ++ ys) w ≡ short_advance P ys (short_advance P xs w)
 advance_append P [] ys w = refl

@@ -3,9 +3,9 @@ use Rattle.std.specs.Prelude.{◌≡◌, ℕ, ◌+◌, ◌≤◌, ◌||◌, None
 use Rattle.atomic_table.specs.Seated.{TableId}
 use Rattle.xt_map.specs.declared.access.Access.{Access}
 use Rattle.xt_trace.specs.Calls.{calls_in}
-use Rattle.xt_runs.specs.Driven.{replies_in}
-use Rattle.xt_runs.specs.Schedule.{places_from}
-use Rattle.xt_runs.specs.Traces.{Traced, has_stopped, trace_over}
+use Rattle.xt_trace.specs.Driven.{replies_in}
+use Rattle.xt_trace.specs.Schedule.{places_from}
+use Rattle.xt_trace.specs.Traces.{Traced, has_stopped, trace_over}
 use Rattle.xt_sharedbus.specs.SeatState.{SeatState}
 use Rattle.xt_exec.specs.Chips.{processor}
 use Rattle.xt_exec.specs.State.{State}

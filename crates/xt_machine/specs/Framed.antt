@@ -3,7 +3,7 @@ use Rattle.xt_trace.specs.declared.run.Run.{Run}
 use Rattle.xt_image.specs.declared.image.Image.{Image}
 use Rattle.xt_image.specs.Parts.{FitsImage}
 use Rattle.xt_rows.specs.Laws.{IsWord}
-use Rattle.xt_runs.specs.Short.{ShortRun, short_trace, short_schedule}
+use Rattle.xt_trace.specs.Short.{ShortRun, short_trace, short_schedule}
 use Rattle.xt_exec.specs.State.{State}
 use Rattle.xt_core.specs.Runs.{code_of, records_of, IsRunOf}
 use Rattle.xt_frames.specs.Verdict.{Judgement}

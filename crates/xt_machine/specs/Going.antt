@@ -2,10 +2,10 @@
 -- A core that is being driven, beside a core that keeps its records.
 use Rattle.std.specs.Prelude.{◌≡◌, ℕ, ◌+◌, ◌||◌, None, List, [], ◌++◌, length}
 use Rattle.xt_map.specs.declared.access.Access.{Access}
-use Rattle.xt_runs.specs.Driven.{Drove}
-use Rattle.xt_runs.specs.Schedule.{places_from}
-use Rattle.xt_runs.specs.Traces.{has_stopped}
-use Rattle.xt_runs.specs.Worlds.{Core}
+use Rattle.xt_trace.specs.Driven.{Drove}
+use Rattle.xt_trace.specs.Schedule.{places_from}
+use Rattle.xt_trace.specs.Traces.{has_stopped}
+use Rattle.xt_trace.specs.Worlds.{Core}
 use Rattle.xt_exec.specs.Chips.{processor}
 use Rattle.xt_exec.specs.State.{State}
 use Rattle.xt_core.specs.Cores.{CoreState}

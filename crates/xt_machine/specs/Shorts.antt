@@ -6,10 +6,10 @@ use Rattle.xt_image.specs.declared.image.Image.{Image}
 use Rattle.xt_trace.specs.declared.options.Options.{Options}
 use Rattle.xt_trace.specs.declared.run.Run.{Run}
 use Rattle.xt_trace.specs.declared.trace.Trace.{Trace}
-use Rattle.xt_runs.specs.Runs.{opened}
-use Rattle.xt_runs.specs.Short.{ShortCore, ShortWorld, short_world}
-use Rattle.xt_runs.specs.Traces.{stop_where}
-use Rattle.xt_runs.specs.Worlds.{Line, answer}
+use Rattle.xt_trace.specs.Runs.{opened}
+use Rattle.xt_trace.specs.Short.{ShortCore, ShortWorld, short_world}
+use Rattle.xt_trace.specs.Traces.{stop_where}
+use Rattle.xt_trace.specs.Worlds.{Line, answer}
 use Rattle.xt_exec.specs.State.{State}
 use Rattle.xt_exec.specs.Turn.{demand}
 use Rattle.xt_core.specs.Cores.{CoreState, turned, short_of}

@@ -3,7 +3,7 @@ ghost use Rattle.std.specs.Prelude.{◌≡◌, ◌+◌, ◌<◌, ◌≤◌, true
 ghost use Rattle.xt_map.specs.Memory.{constant_byte};
 ghost use Rattle.xt_trace.specs.Validity.{IsValid};
 ghost use Rattle.xt_image.specs.Parts.{IsWellFormed};
-ghost use Rattle.xt_runs.specs.Short.{short_advance, short_give};
+ghost use Rattle.xt_trace.specs.Short.{short_advance, short_give};
 ghost use Rattle.xt_exec.specs.Chips.{processor};
 ghost use Rattle.xt_bus.specs.States.{opened};
 ghost use Rattle.xt_core.specs.Runs.{IsRunOf, stack_words};

@@ -1,7 +1,7 @@
 //! One turn of a core over the bus.
 ghost use Rattle.std.specs.Prelude.{◌≡◌, ◌+◌, ◌<◌, ◌≤◌, true, false, None, nat_lt};
 ghost use Rattle.xt_map.specs.Memory.{constant_byte};
-ghost use Rattle.xt_runs.specs.Short.{short_line};
+ghost use Rattle.xt_trace.specs.Short.{short_line};
 ghost use Rattle.xt_exec.specs.Chips.{processor};
 ghost use Rattle.xt_machine.specs.Shorts.{given, line_of};
 

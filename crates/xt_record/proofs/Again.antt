@@ -8,8 +8,8 @@ use Rattle.xt_trace.specs.declared.run.Run.{Run}
 use Rattle.xt_trace.specs.declared.trace.Stop.{Stop}
 use Rattle.xt_trace.specs.declared.trace.Trace.{Trace}
 use Rattle.xt_image.specs.declared.image.Image.{Image}
-use Rattle.xt_runs.specs.Schedule.{places_from}
-use Rattle.xt_runs.specs.Traces.{Traced, stop_of}
+use Rattle.xt_trace.specs.Schedule.{places_from}
+use Rattle.xt_trace.specs.Traces.{Traced, stop_of}
 use Rattle.xt_exec.specs.State.{State}
 use Rattle.xt_core.specs.Runs.{IsRunOf, StandsFor, records_of}
 use Rattle.xt_record.specs.declared.walk.Walked.{Walked}

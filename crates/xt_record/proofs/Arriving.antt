@@ -3,10 +3,10 @@ use Rattle.std.proofs.Common.{◌≡◌, ℕ, ◌+◌, ◌-◌, ◌<◌, ◌≤�
 use Rattle.std.proofs.lemmas.List.{append-nil, replicate_more}
 use Rattle.xt_map.specs.declared.access.Access.{Access}
 use Rattle.xt_map.specs.declared.contents.MemoryContents.{MemoryContents}
-use Rattle.xt_runs.specs.Short.{short_advance, short_give}
-use Rattle.xt_runs.specs.Worlds.{left_past}
-use Rattle.xt_runs.proofs.Ends.{left_at_most}
-use Rattle.xt_runs.specs.Schedule.{place_before}
+use Rattle.xt_trace.specs.Short.{short_advance, short_give}
+use Rattle.xt_trace.specs.Worlds.{left_past}
+use Rattle.xt_trace.proofs.Ends.{left_at_most}
+use Rattle.xt_trace.specs.Schedule.{place_before}
 use Rattle.xt_exec.specs.Chips.{processor, turn_asks}
 use Rattle.xt_exec.specs.Turn.{demand, turn}
 use Rattle.xt_map.specs.declared.segment.Segment.{Segment}

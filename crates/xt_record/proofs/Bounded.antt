@@ -20,15 +20,15 @@ use Rattle.xt_trace.specs.declared.record.StepRecord.{StepRecord}
 use Rattle.xt_trace.specs.declared.run.Run.{Run}
 use Rattle.xt_trace.specs.Calls.{call_before, calls_in, is_stop}
 use Rattle.xt_image.specs.declared.image.Image.{Image}
-use Rattle.xt_runs.specs.Chip.{Chip}
-use Rattle.xt_runs.specs.Runs as chip
-use Rattle.xt_runs.specs.Runs.{opened, schedule_of}
-use Rattle.xt_runs.specs.Schedule.{cores_of, places_from, schedule, schedule_in}
-use Rattle.xt_runs.specs.Traces.{ended, replies_past, reply_for, trace_over}
-use Rattle.xt_runs.specs.Walks.{IsWalk}
-use Rattle.xt_runs.specs.Worlds.{World, entry, give}
-use Rattle.xt_runs.proofs.Short.{trace_bound}
-use Rattle.xt_runs.proofs.Walks.{own_walk}
+use Rattle.xt_trace.specs.Chip.{Chip}
+use Rattle.xt_trace.specs.Runs as chip
+use Rattle.xt_trace.specs.Runs.{opened, schedule_of}
+use Rattle.xt_trace.specs.Schedule.{cores_of, places_from, schedule, schedule_in}
+use Rattle.xt_trace.specs.Traces.{ended, replies_past, reply_for, trace_over}
+use Rattle.xt_trace.specs.Walks.{IsWalk}
+use Rattle.xt_trace.specs.Worlds.{World, entry, give}
+use Rattle.xt_trace.proofs.Short.{trace_bound}
+use Rattle.xt_trace.proofs.Walks.{own_walk}
 use Rattle.xt_exec.specs.Chips.{processor, turn_asks}
 use Rattle.xt_exec.specs.Laws.{IsServed}
 use Rattle.xt_exec.specs.State.{State}

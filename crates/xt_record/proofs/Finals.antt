@@ -15,13 +15,13 @@ use Rattle.xt_trace.specs.Calls.{calls_in}
 use Rattle.xt_trace.specs.Validity.{IsValid}
 use Rattle.xt_image.specs.declared.image.Image.{Image}
 use Rattle.xt_bus.specs.States.{MemoryState, holding}
-use Rattle.xt_runs.specs.Chip.{Chip}
-use Rattle.xt_runs.specs.Runs.{opened}
-use Rattle.xt_runs.specs.Schedule.{cores_of, places_from, schedule_from}
-use Rattle.xt_runs.specs.Short.{ShortCore, ShortWorld, short_advance, short_core}
-use Rattle.xt_runs.specs.Traces.{Traced, stop_of}
-use Rattle.xt_runs.specs.Worlds.{Core}
-use Rattle.xt_runs.proofs.Short.{short_world_advanced}
+use Rattle.xt_trace.specs.Chip.{Chip}
+use Rattle.xt_trace.specs.Runs.{opened}
+use Rattle.xt_trace.specs.Schedule.{cores_of, places_from, schedule_from}
+use Rattle.xt_trace.specs.Short.{ShortCore, ShortWorld, short_advance, short_core}
+use Rattle.xt_trace.specs.Traces.{Traced, stop_of}
+use Rattle.xt_trace.specs.Worlds.{Core}
+use Rattle.xt_trace.proofs.Short.{short_world_advanced}
 use Rattle.xt_exec.specs.Chips.{processor}
 use Rattle.xt_exec.specs.State.{State}
 use Rattle.xt_core.specs.Cores.{CoreState, short_of, trace_of}

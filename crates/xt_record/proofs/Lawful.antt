@@ -18,7 +18,7 @@ use Rattle.xt_map.specs.History.{calls_of}
 use Rattle.xt_trace.specs.declared.run.Run.{Run}
 use Rattle.xt_trace.specs.Calls.{calls_in}
 use Rattle.xt_image.specs.declared.image.Image.{Image}
-use Rattle.xt_runs.specs.Schedule.{places_from}
+use Rattle.xt_trace.specs.Schedule.{places_from}
 use Rattle.xt_core.specs.Runs.{IsRunOf, records_of}
 use Rattle.xt_record.specs.declared.fault.RecordFault.{RecordFault}
 use Rattle.xt_record.specs.declared.fault.RecordFault.TheVariants as fault

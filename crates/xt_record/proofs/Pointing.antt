@@ -5,8 +5,8 @@ use Rattle.std.proofs.lemmas.List.{length_push, length-replicate, map-append, ap
 use Rattle.std.proofs.lemmas.List.Elements.{filter-append}
 use Rattle.xt_map.specs.declared.contents.MemoryContents.{MemoryContents}
 use Rattle.xt_map.specs.declared.access.Entry.{Entry}
-use Rattle.xt_runs.specs.Chip.{Chip}
-use Rattle.xt_runs.specs.Short.{ShortWorld, short_advance}
+use Rattle.xt_trace.specs.Chip.{Chip}
+use Rattle.xt_trace.specs.Short.{ShortWorld, short_advance}
 use Rattle.xt_exec.specs.Chips.{processor}
 use Rattle.xt_exec.specs.State.{State}
 use Rattle.xt_core.specs.Cores.{CoreState}

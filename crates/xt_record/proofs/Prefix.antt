@@ -8,14 +8,14 @@ use Rattle.xt_map.specs.declared.access.Entry.{Entry}
 use Rattle.xt_map.specs.History.{calls_of, replies_of}
 use Rattle.xt_trace.specs.declared.record.StepRecord.{StepRecord}
 use Rattle.xt_trace.specs.Calls.{call_before, calls_in}
-use Rattle.xt_runs.specs.Chip.{Chip}
-use Rattle.xt_runs.specs.Driven.{Drove}
-use Rattle.xt_runs.specs.Runs.{Opening, opened}
-use Rattle.xt_runs.specs.Schedule.{place_before, places_from}
-use Rattle.xt_runs.specs.Traces.{Traced, replies_past, reply_for, trace_over}
-use Rattle.xt_runs.specs.Worlds.{Core, advance, closed, left_past}
-use Rattle.xt_runs.proofs.Keeping.{advance_keeps, opened_reached}
-use Rattle.xt_runs.proofs.Turns.{core, trace_turn}
+use Rattle.xt_trace.specs.Chip.{Chip}
+use Rattle.xt_trace.specs.Driven.{Drove}
+use Rattle.xt_trace.specs.Runs.{Opening, opened}
+use Rattle.xt_trace.specs.Schedule.{place_before, places_from}
+use Rattle.xt_trace.specs.Traces.{Traced, replies_past, reply_for, trace_over}
+use Rattle.xt_trace.specs.Worlds.{Core, advance, closed, left_past}
+use Rattle.xt_trace.proofs.Keeping.{advance_keeps, opened_reached}
+use Rattle.xt_trace.proofs.Turns.{core, trace_turn}
 
 -- ---- lists
 

@@ -14,14 +14,14 @@ use Rattle.xt_trace.specs.declared.record.StepRecord.{StepRecord}
 use Rattle.xt_trace.specs.declared.run.Run.{Run}
 use Rattle.xt_trace.specs.Calls.{calls_in}
 use Rattle.xt_image.specs.declared.image.Image.{Image}
-use Rattle.xt_runs.specs.Reached.{Reached}
-use Rattle.xt_runs.specs.Runs.{opened}
-use Rattle.xt_runs.specs.Schedule.{cores_of, places_from, schedule_from}
-use Rattle.xt_runs.specs.Short.{ShortCore, ShortWorld, short_advance, short_core, short_world}
-use Rattle.xt_runs.specs.Traces.{Traced, trace_over}
-use Rattle.xt_runs.specs.Worlds.{World, advance}
-use Rattle.xt_runs.proofs.Keeping.{advance_keeps, opened_reached}
-use Rattle.xt_runs.proofs.Short.{short_world_advanced}
+use Rattle.xt_trace.specs.Reached.{Reached}
+use Rattle.xt_trace.specs.Runs.{opened}
+use Rattle.xt_trace.specs.Schedule.{cores_of, places_from, schedule_from}
+use Rattle.xt_trace.specs.Short.{ShortCore, ShortWorld, short_advance, short_core, short_world}
+use Rattle.xt_trace.specs.Traces.{Traced, trace_over}
+use Rattle.xt_trace.specs.Worlds.{World, advance}
+use Rattle.xt_trace.proofs.Keeping.{advance_keeps, opened_reached}
+use Rattle.xt_trace.proofs.Short.{short_world_advanced}
 use Rattle.xt_exec.specs.Chips.{processor}
 use Rattle.xt_exec.specs.State.{State}
 use Rattle.xt_exec.specs.Turn.{demand}

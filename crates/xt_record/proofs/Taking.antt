@@ -11,10 +11,10 @@ use Rattle.xt_map.specs.declared.contents.MemoryContents.{MemoryContents}
 use Rattle.xt_map.specs.Serving.{memory_past, reply_to}
 use Rattle.xt_map.proofs.Sent.{access_sends}
 use Rattle.xt_bus.specs.States.{MemoryState, served}
-use Rattle.xt_runs.specs.Short.{short_advance, short_give}
-use Rattle.xt_runs.specs.Worlds.{entry, left_past}
-use Rattle.xt_runs.proofs.Ends.{left_at_most}
-use Rattle.xt_runs.specs.Schedule.{place_before}
+use Rattle.xt_trace.specs.Short.{short_advance, short_give}
+use Rattle.xt_trace.specs.Worlds.{entry, left_past}
+use Rattle.xt_trace.proofs.Ends.{left_at_most}
+use Rattle.xt_trace.specs.Schedule.{place_before}
 use Rattle.xt_exec.specs.Chips.{processor, turn_asks}
 use Rattle.xt_exec.specs.Turn.{turn}
 use Rattle.xt_core.specs.Cores.{AwaitsReply, Asks, CoreState, turned}

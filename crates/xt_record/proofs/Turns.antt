@@ -4,9 +4,9 @@ use Rattle.xt_map.specs.declared.access.Access.{Access}
 use Rattle.xt_map.specs.declared.access.Entry.{Entry}
 use Rattle.xt_map.specs.declared.contents.MemoryContents.{MemoryContents}
 use Rattle.xt_map.specs.Serving.{memory_past, reply_to}
-use Rattle.xt_runs.specs.Chip.{Chip}
-use Rattle.xt_runs.specs.Short.{ShortWorld, short_advance, short_give, short_given, short_line, short_past}
-use Rattle.xt_runs.specs.Worlds.{Line, entry, line_past, answer}
+use Rattle.xt_trace.specs.Chip.{Chip}
+use Rattle.xt_trace.specs.Short.{ShortWorld, short_advance, short_give, short_given, short_line, short_past}
+use Rattle.xt_trace.specs.Worlds.{Line, entry, line_past, answer}
 use Rattle.xt_exec.specs.Chips.{processor}
 use Rattle.xt_exec.specs.Turn.{demand}
 use Rattle.xt_core.specs.Cores.{CoreState, turned}

@@ -12,7 +12,7 @@ use Rattle.xt_bus.specs.States.{part_bytes}
 use Rattle.xt_special.specs.Control.{bit_of, ps_word}
 use Rattle.xt_trace.specs.declared.run.Run.{Run}
 use Rattle.xt_image.specs.declared.image.Image.{Image}
-use Rattle.xt_runs.specs.Worlds.{World}
+use Rattle.xt_trace.specs.Worlds.{World}
 use Rattle.xt_exec.specs.State.{State}
 use Rattle.xt_core.specs.Positions.{schedule_in, world_at}
 use Rattle.xt_record.specs.Fields.{words}

@@ -7,8 +7,8 @@ use Rattle.xt_trace.specs.declared.options.Options.{Options}
 use Rattle.xt_trace.specs.declared.run.Run.{Run}
 use Rattle.xt_trace.specs.declared.trace.Trace.{Trace}
 use Rattle.xt_image.specs.declared.image.Image.{Image}
-use Rattle.xt_runs.specs.Schedule.{places_from}
-use Rattle.xt_runs.specs.Traces.{stop_of, trace_over}
+use Rattle.xt_trace.specs.Schedule.{places_from}
+use Rattle.xt_trace.specs.Traces.{stop_of, trace_over}
 use Rattle.xt_exec.specs.Chips.{processor}
 use Rattle.xt_core.specs.Runs.{code_of, entry_of, opening_at, turns_of}
 use Rattle.xt_record.specs.declared.fault.RecordFault.{RecordFault}

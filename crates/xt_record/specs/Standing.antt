@@ -8,9 +8,9 @@ use Rattle.xt_bus.specs.States.{holding}
 use Rattle.xt_trace.specs.declared.options.Options.{Options}
 use Rattle.xt_trace.specs.declared.run.Run.{Run}
 use Rattle.xt_image.specs.declared.image.Image.{Image}
-use Rattle.xt_runs.specs.Runs.{opened}
-use Rattle.xt_runs.specs.Schedule.{cores_of, schedule_from}
-use Rattle.xt_runs.specs.Short.{ShortWorld, short_advance, short_world}
+use Rattle.xt_trace.specs.Runs.{opened}
+use Rattle.xt_trace.specs.Schedule.{cores_of, schedule_from}
+use Rattle.xt_trace.specs.Short.{ShortWorld, short_advance, short_world}
 use Rattle.xt_exec.specs.Chips.{processor}
 use Rattle.xt_exec.specs.State.{State}
 use Rattle.xt_core.specs.Cores.{CoreState}

@@ -14,8 +14,8 @@ use Rattle.xt_map.specs.Serving.{reply_to}
 use Rattle.xt_trace.specs.declared.run.Run.{Run}
 use Rattle.xt_trace.specs.Calls.{calls_in}
 use Rattle.xt_image.specs.declared.image.Image.{Image}
-use Rattle.xt_runs.specs.Schedule.{places_from}
-use Rattle.xt_runs.specs.Traces.{Traced}
+use Rattle.xt_trace.specs.Schedule.{places_from}
+use Rattle.xt_trace.specs.Traces.{Traced}
 use Rattle.xt_exec.specs.State.{State}
 use Rattle.xt_core.specs.Runs.{memory_of, records_of}
 use Rattle.xt_record.specs.declared.fault.RecordFault.TheVariants as fault

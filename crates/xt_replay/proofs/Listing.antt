@@ -6,8 +6,8 @@ use Rattle.xt_map.specs.declared.access.Entry.{Entry}
 use Rattle.xt_map.specs.History.{IsOfCores, calls_of}
 use Rattle.xt_trace.specs.declared.record.StepRecord.{StepRecord}
 use Rattle.xt_trace.specs.Calls.{call_before, calls_in}
-use Rattle.xt_runs.specs.Schedule.{cores_of, place_before, places_from, schedule_from}
-use Rattle.xt_runs.specs.Worlds.{entry}
+use Rattle.xt_trace.specs.Schedule.{cores_of, place_before, places_from, schedule_from}
+use Rattle.xt_trace.specs.Worlds.{entry}
 use Rattle.xt_replay.specs.Stands.{next_of}
 
 -- the schedule of these entries and records, where core 0 has made i steps and core 1 has made j

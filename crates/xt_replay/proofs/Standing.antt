@@ -8,11 +8,11 @@ use Rattle.xt_map.proofs.Sent.{access_sends}
 use Rattle.xt_bus.proofs.Opening.{opening_sends_none}
 use Rattle.xt_trace.specs.declared.run.Run.{Run}
 use Rattle.xt_image.specs.declared.image.Image.{Image}
-use Rattle.xt_runs.specs.Runs as runs
-use Rattle.xt_runs.specs.Schedule.{cores_of, places_from, schedule}
-use Rattle.xt_runs.specs.Walks.{state_at}
-use Rattle.xt_runs.specs.Worlds.{Core, Line, World, core_past, left_past, line_past, entry, give, answer, memory_left}
-use Rattle.xt_runs.proofs.Ends.{left_at_most}
+use Rattle.xt_trace.specs.Runs as runs
+use Rattle.xt_trace.specs.Schedule.{cores_of, places_from, schedule}
+use Rattle.xt_trace.specs.Walks.{state_at}
+use Rattle.xt_trace.specs.Worlds.{Core, Line, World, core_past, left_past, line_past, entry, give, answer, memory_left}
+use Rattle.xt_trace.proofs.Ends.{left_at_most}
 use Rattle.xt_exec.specs.Chips.{processor}
 use Rattle.xt_exec.specs.State.{State}
 use Rattle.xt_exec.specs.Turn.{demand, turn}

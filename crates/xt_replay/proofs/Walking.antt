@@ -6,14 +6,14 @@ use Rattle.xt_map.specs.declared.access.Access.{Access}
 use Rattle.xt_map.specs.declared.access.Entry.{Entry}
 use Rattle.xt_map.specs.Serving.{reply_to}
 use Rattle.xt_trace.specs.declared.record.StepRecord.{StepRecord}
-use Rattle.xt_runs.specs.Chip.{Chip}
-use Rattle.xt_runs.specs.Runs.{Opening, Run, opened, IsRunOf, schedule_of}
-use Rattle.xt_runs.specs.Schedule.{cores_of, places_from, schedule_from}
-use Rattle.xt_runs.specs.Walks.{IsWalk, next_record, state_at}
-use Rattle.xt_runs.specs.Worlds.{Core, Line, World, entry, line_past, core_past, line_given, core_given, give, advance, answer}
-use Rattle.xt_runs.proofs.Ends.{advance_append}
-use Rattle.xt_runs.proofs.Own.{done, own_world}
-use Rattle.xt_runs.proofs.Walks.{own_walk}
+use Rattle.xt_trace.specs.Chip.{Chip}
+use Rattle.xt_trace.specs.Runs.{Opening, Run, opened, IsRunOf, schedule_of}
+use Rattle.xt_trace.specs.Schedule.{cores_of, places_from, schedule_from}
+use Rattle.xt_trace.specs.Walks.{IsWalk, next_record, state_at}
+use Rattle.xt_trace.specs.Worlds.{Core, Line, World, entry, line_past, core_past, line_given, core_given, give, advance, answer}
+use Rattle.xt_trace.proofs.Ends.{advance_append}
+use Rattle.xt_trace.proofs.Own.{done, own_world}
+use Rattle.xt_trace.proofs.Walks.{own_walk}
 use Rattle.xt_replay.specs.Stands.{next_of}
 use Rattle.xt_replay.proofs.Listing.{Ahead, One, Split, Zero, ended, listed, past, split, step0, step1}
 

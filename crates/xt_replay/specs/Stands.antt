@@ -8,8 +8,8 @@ use Rattle.xt_map.specs.declared.contents.MemoryContents.{MemoryContents}
 use Rattle.xt_trace.specs.declared.options.Options.{Options}
 use Rattle.xt_trace.specs.declared.run.Run.{Run}
 use Rattle.xt_image.specs.declared.image.Image.{Image}
-use Rattle.xt_runs.specs.Runs.{Opening}
-use Rattle.xt_runs.specs.Worlds.{Core, World, left_past, answer, memory_left}
+use Rattle.xt_trace.specs.Runs.{Opening}
+use Rattle.xt_trace.specs.Worlds.{Core, World, left_past, answer, memory_left}
 use Rattle.xt_exec.specs.State.{State}
 use Rattle.xt_exec.specs.Turn.{demand, turn}
 use Rattle.xt_exec.specs.States.{file_state}

@@ -2,7 +2,7 @@
 ghost use Rattle.std.specs.Prelude.{◌≡◌, ◌+◌, ◌<◌, ◌≤◌, None, ◌^◌, ℕ, IfOk, length, if◌then◌else◌};
 ghost use Rattle.xt_map.specs.Memory.{constant_byte};
 ghost use Rattle.xt_trace.specs.Validity.{IsValid};
-ghost use Rattle.xt_runs.specs.Worlds.{answer, memory_left};
+ghost use Rattle.xt_trace.specs.Worlds.{answer, memory_left};
 ghost use Rattle.xt_bus.specs.States.{holding};
 ghost use Rattle.xt_exec.specs.Turn.{demand};
 ghost use Rattle.xt_core.specs.Cores.{turned};

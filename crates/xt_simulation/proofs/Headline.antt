@@ -7,14 +7,14 @@ use Rattle.xt_map.specs.declared.access.Entry.{Entry}
 use Rattle.xt_map.specs.History.{IsLegal, memory_after}
 use Rattle.xt_trace.specs.declared.record.StepRecord.{StepRecord}
 use Rattle.xt_fetch.specs.Code.{AreBytes}
-use Rattle.xt_runs.specs.Worlds as worlds
-use Rattle.xt_runs.specs.Worlds.{give, core_given, line_given, answer}
+use Rattle.xt_trace.specs.Worlds as worlds
+use Rattle.xt_trace.specs.Worlds.{give, core_given, line_given, answer}
 use Rattle.xt_window.specs.Ring.{cleared_regs}
 use Rattle.xt_exec.specs.State.{opening_state, opening_regs}
 use Rattle.xt_frames.specs.Frames.{opening_seen}
-use Rattle.xt_runs.specs.Runs.{opened, schedule_of}
-use Rattle.xt_runs.proofs.Walks.{own_walk}
-use Rattle.xt_runs.specs.Walks.{IsWalk, next_record}
+use Rattle.xt_trace.specs.Runs.{opened, schedule_of}
+use Rattle.xt_trace.proofs.Walks.{own_walk}
+use Rattle.xt_trace.specs.Walks.{IsWalk, next_record}
 use Rattle.xt_exec.specs.State.{State}
 use Rattle.xt_exec.specs.Turn.{demand, turn}
 use Rattle.xt_exec.specs.Chips.{processor}

@@ -10,10 +10,10 @@ use Rattle.xt_map.specs.History.{replies_of}
 use Rattle.xt_trace.specs.declared.options.Stack.{Stack}
 use Rattle.xt_trace.specs.declared.options.Options.{Options}
 use Rattle.xt_trace.specs.Validity.{IsValidStack}
-use Rattle.xt_runs.specs.Traces.{trace_over}
-use Rattle.xt_runs.specs.Schedule.{schedule, cores_of}
-use Rattle.xt_runs.specs.Short.{ShortRun, IsShortRunOf, short_trace, short_schedule}
-use Rattle.xt_runs.specs.Runs.{Opening, Run, IsRunOf, schedule_of}
+use Rattle.xt_trace.specs.Traces.{trace_over}
+use Rattle.xt_trace.specs.Schedule.{schedule, cores_of}
+use Rattle.xt_trace.specs.Short.{ShortRun, IsShortRunOf, short_trace, short_schedule}
+use Rattle.xt_trace.specs.Runs.{Opening, Run, IsRunOf, schedule_of}
 use Rattle.xt_exec.specs.State.{State}
 use Rattle.xt_exec.specs.Chips.{processor}
 use Rattle.xt_handlers.specs.Vectors.{Handlers}

@@ -2,11 +2,11 @@
 use Rattle.std.proofs.Common.{◌≡◌, ℕ, zero, suc, ◌<◌, Bool, true, false, Option, Some, None, List, [], ◌∷◌, take, sym, ap, ◌∙◌, refl, subst}
 use Rattle.xt_map.specs.declared.contents.MemoryContents.{MemoryContents}
 use Rattle.xt_trace.specs.declared.record.StepRecord.{StepRecord}
-use Rattle.xt_runs.specs.Worlds as worlds
-use Rattle.xt_runs.specs.Worlds.{give, advance}
-use Rattle.xt_runs.specs.Walks.{IsWalk}
-use Rattle.xt_runs.specs.Runs.{opened, schedule_of}
-use Rattle.xt_runs.proofs.Walks.{own_walk}
+use Rattle.xt_trace.specs.Worlds as worlds
+use Rattle.xt_trace.specs.Worlds.{give, advance}
+use Rattle.xt_trace.specs.Walks.{IsWalk}
+use Rattle.xt_trace.specs.Runs.{opened, schedule_of}
+use Rattle.xt_trace.proofs.Walks.{own_walk}
 use Rattle.xt_exec.specs.State.{State}
 use Rattle.xt_exec.specs.Chips.{processor}
 use Rattle.xt_frames.specs.Breaches.{Bounds}

@@ -8,11 +8,11 @@ use Rattle.xt_map.specs.History.{replies_of}
 use Rattle.xt_trace.specs.declared.options.Options.{Options}
 use Rattle.xt_trace.specs.declared.record.StepRecord.{StepRecord}
 use Rattle.xt_fetch.specs.Code.{AreBytes}
-use Rattle.xt_runs.specs.Traces.{trace_over}
-use Rattle.xt_runs.specs.Runs.{Opening, Run, opened, IsRunOf, schedule_of}
-use Rattle.xt_runs.specs.Short.{ShortRun, IsShortRunOf, short_schedule}
-use Rattle.xt_runs.specs.Walks.{IsWalk, state_at}
-use Rattle.xt_runs.specs.Worlds as worlds
+use Rattle.xt_trace.specs.Traces.{trace_over}
+use Rattle.xt_trace.specs.Runs.{Opening, Run, opened, IsRunOf, schedule_of}
+use Rattle.xt_trace.specs.Short.{ShortRun, IsShortRunOf, short_schedule}
+use Rattle.xt_trace.specs.Walks.{IsWalk, state_at}
+use Rattle.xt_trace.specs.Worlds as worlds
 use Rattle.xt_exec.specs.State.{State}
 use Rattle.xt_exec.specs.Chips.{processor}
 use Rattle.xt_frames.specs.Verdict.{Judgement, judgement, opening_known, IsFrameRun}

@@ -2,3 +2,13 @@ pub mod Calls
 pub mod Left
 pub mod Lines
 pub mod Validity
+pub mod Chip
+pub mod Traces
+pub mod Worlds
+pub mod Schedule
+pub mod Runs
+pub mod Driven
+pub mod Reached
+pub mod Short
+pub mod Scheduled
+pub mod Walks

@@ -1,7 +1,7 @@
 -- The line of a record in a printed trace ('profile').
 use Rattle.std.specs.Prelude.{ℕ, Option, Some, None, List, [], ◌++◌, codes}
 use Rattle.std.specs.Fmt.{decimal}
-use Rattle.xt_text.specs.Hexadecimal.{hex8}
+use Rattle.xt_word.specs.Hexadecimal.{hex8}
 use Rattle.xt_map.specs.declared.access.Kind.{Kind}
 use Rattle.xt_map.specs.declared.access.Kind.TheVariants.{Load, Store, Cas}
 use Rattle.xt_map.specs.declared.access.Access.{Access}

@@ -5,7 +5,7 @@ use crate::record::{RegWrite, StepKind, StepRecord};
 use std::alloc::{AllocError, Global};
 use std::fmt::Write;
 use xt_map::{Access, Kind, Text};
-use xt_text::push_hex8;
+use xt_word::push_hex8;
 
 // Appends what a turn was.
 fn push_kind(out: &mut String, kind: StepKind) -> Result<(), AllocError>

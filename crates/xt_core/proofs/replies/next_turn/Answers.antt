@@ -2,7 +2,7 @@ use Rattle.std.proofs.Common.{Option, sym, ap, ◌∙◌}
 use Rattle.xt_map.specs.declared.access.Access.{Access}
 use Rattle.xt_map.specs.History.{replies_of}
 use Rattle.xt_map.specs.Memory.{constant_byte}
-use Rattle.xt_runs.specs.Traces.{replies_past}
+use Rattle.xt_trace.specs.Traces.{replies_past}
 use Rattle.xt_core.proofs.Cursors.{half_step}
 use Rattle.xt_core.proofs.replies.next_turn.Goals as goal
 

@@ -1,7 +1,7 @@
 use Rattle.std.proofs.Common.{◌≡◌, ◌++◌, take}
 use Rattle.std.specs.Prelude.{string_bytes}
 use Rattle.std.specs.List.{flat_map}
-use Rattle.xt_text.specs.Hexadecimal.{hex2}
+use Rattle.xt_word.specs.Hexadecimal.{hex2}
 use Rattle.xt_disasm.proofs.lines.push_bytes.Given as goal
 
 abbrev pub invariant-loop-byte : goal.invariant-loop-byte

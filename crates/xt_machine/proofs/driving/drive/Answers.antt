@@ -1,8 +1,8 @@
 use Rattle.std.proofs.Common.{◌≡◌, ◌-◌, ◌≤◌, ◌∙◌, refl, ap, sym, subst, arith}
 use Rattle.xt_map.specs.Memory.{constant_byte}
 use Rattle.xt_sharedbus.specs.SeatState.{SeatState}
-use Rattle.xt_runs.specs.Worlds.{left_past}
-use Rattle.xt_runs.proofs.Ends.{left_at_most}
+use Rattle.xt_trace.specs.Worlds.{left_past}
+use Rattle.xt_trace.proofs.Ends.{left_at_most}
 use Rattle.xt_exec.specs.Turn.{turn}
 use Rattle.xt_core.specs.Cores.{CoreState, turned}
 use Rattle.xt_machine.specs.Going.{IsGoing}

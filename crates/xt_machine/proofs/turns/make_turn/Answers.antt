@@ -1,8 +1,8 @@
 use Rattle.std.proofs.Common.{◌≡◌, ◌-◌, ◌≤◌, ap, arith}
 use Rattle.xt_map.specs.Memory.{constant_byte}
 use Rattle.xt_bus.specs.States.{BusState}
-use Rattle.xt_runs.specs.Worlds.{left_past}
-use Rattle.xt_runs.proofs.Ends.{left_at_most}
+use Rattle.xt_trace.specs.Worlds.{left_past}
+use Rattle.xt_trace.proofs.Ends.{left_at_most}
 use Rattle.xt_exec.specs.Turn.{turn}
 use Rattle.xt_core.specs.Cores.{CoreState}
 use Rattle.xt_machine.proofs.turns.make_turn.Goals as goal

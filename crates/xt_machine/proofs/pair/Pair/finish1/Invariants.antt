@@ -1,6 +1,6 @@
 use Rattle.std.proofs.Common.{◌≡◌, replicate}
 use Rattle.xt_map.specs.Memory.{constant_byte}
-use Rattle.xt_runs.specs.Short.{short_advance}
+use Rattle.xt_trace.specs.Short.{short_advance}
 use Rattle.xt_exec.specs.Chips.{processor}
 use Rattle.xt_machine.specs.Shorts.{world_of}
 use Rattle.xt_machine.proofs.pair.Pair.finish1.Given as goal

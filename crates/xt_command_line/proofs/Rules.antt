@@ -1,0 +1,117 @@
+-- The rules of usage that options keep.
+use Rattle.std.proofs.Common.{◌≡◌, ◌≢◌, ℕ, ◌≤◌, ◌%◌, ◌&&◌, Bool, true, false, List, [], ◌∷◌, Option, Some, None, Result, Ok, Err, arith, codes, refl, rules}
+use Rattle.std.specs.Prelude.{◌==◌, nat_le, unwrap_or, if◌then◌else◌}
+use Rattle.std.proofs.lemmas.Bool.Decides.{nat_tests}
+use Rattle.clap.specs.Words.{Row, Text, first_of}
+use Rattle.xt_map.specs.Regions.{region_of, is_executable}
+use Rattle.xt_trace.specs.Validity.{IsValid, IsValidStack, most_turns}
+use Rattle.xt_trace.specs.declared.options.Stack.{Stack}
+use Rattle.xt_command_line.specs.Options.{AcceptsValid, OptionsNeedNoMemory, by_rows, first_broken, is_entry, is_stack, judged, options_in, record_app, record_options_of, run_app, run_options_of, said_or, texts_of, unless_broken}
+use Rattle.xt_command_line.specs.Arguments.{check_app, gen_app, generator_number_of, judged_number, judged_vecbase, number_by, number_in, vecbase_by, vecbase_of}
+use Rattle.xt_command_line.specs.Meaning.{NeedsNoMemory, command_with, meaning_by, named, without_options}
+use Rattle.xt_command_line.specs.Numbers.{number_of}
+use Rattle.xt_command_line.specs.Simple.{rows_by}
+use Rattle.xt_command_line.specs.declared.command.Command.{Command}
+use Rattle.xt_command_line.specs.declared.command.Command.TheVariants as command
+use Rattle.xt_command_line.specs.declared.command.Name.{Name}
+use Rattle.xt_command_line.specs.declared.command.Name.TheVariants as name
+use Rattle.xt_command_line.specs.declared.command.Refusal.{Refusal}
+use Rattle.xt_command_line.specs.declared.command.Refusal.TheVariants as refusal
+use Rattle.xt_command_line.specs.declared.options.RunOptions.{RunOptions}
+
+-- ---- running out of memory
+
+unless_broken-answers : (rule : Option ℕ) (o : RunOptions) → unless_broken rule o ≢ Err refusal.Memory
+unless_broken-answers None o = λ e. search (rules, e)
+unless_broken-answers (Some rule) o = λ e. search (rules, e)
+
+judged-answers : (o : Option RunOptions) → judged o ≢ Err refusal.Memory
+judged-answers None = λ e. search (rules, e)
+judged-answers (Some o) = unless_broken-answers _ o
+
+by_rows-answers : (rows : Option (List Row)) → by_rows rows ≢ Err refusal.Memory
+by_rows-answers None = λ e. search (rules, e)
+by_rows-answers (Some rows) = judged-answers (options_in (texts_of rows))
+
+pub need_no_memory : OptionsNeedNoMemory
+need_no_memory words = (by_rows-answers (rows_by run_app words), by_rows-answers (rows_by record_app words))
+
+judged_vecbase-answers : (vecbase : Option ℕ) → judged_vecbase vecbase ≢ Err refusal.Memory
+judged_vecbase-answers None = λ e. search (rules, e)
+judged_vecbase-answers (Some v) = elim (v % 1024 == 0) as (λ b. (if b then Ok v else Err (refusal.Usage 7)) ≢ Err refusal.Memory) [
+  | true ↦ λ e. search (rules, e)
+  | false ↦ λ e. search (rules, e)
+]
+
+vecbase_by-answers : (rows : Option (List Row)) → vecbase_by rows ≢ Err refusal.Memory
+vecbase_by-answers None = λ e. search (rules, e)
+vecbase_by-answers (Some rows) = judged_vecbase-answers (said_or number_of 0x40080000 (first_of (codes "vecbase") rows))
+
+judged_number-answers : (number : Option ℕ) → judged_number number ≢ Err refusal.Memory
+judged_number-answers None = λ e. search (rules, e)
+judged_number-answers (Some n) = λ e. search (rules, e)
+
+number_by-answers : (rows : Option (List Row)) → number_by rows ≢ Err refusal.Memory
+number_by-answers None = λ e. search (rules, e)
+number_by-answers (Some rows) = judged_number-answers (number_in (first_of (codes "number") rows))
+
+command_with-answers : {A : Type 0} (make : A → Command) (r : Result A Refusal) → r ≢ Err refusal.Memory → command_with make r ≢ Err refusal.Memory
+command_with-answers make (Ok o) no_memory = λ e. search (rules, e)
+command_with-answers make (Err r) no_memory = λ e. no_memory (cc)
+
+without_options-answers : (c : Command) (rows : Option (List Row)) → without_options c rows ≢ Err refusal.Memory
+without_options-answers c None = λ e. search (rules, e)
+without_options-answers c (Some rows) = λ e. search (rules, e)
+
+meaning_by-answers : (named : Option Name) (words : List Text) → meaning_by named words ≢ Err refusal.Memory
+meaning_by-answers None words = λ e. search (rules, e)
+meaning_by-answers (Some name.Assemble) words = without_options-answers _ _
+meaning_by-answers (Some name.Convert) words = without_options-answers _ _
+meaning_by-answers (Some name.Disassemble) words = without_options-answers _ _
+meaning_by-answers (Some name.Check) words = command_with-answers command.Check (vecbase_of words) (vecbase_by-answers (rows_by check_app words))
+meaning_by-answers (Some name.Run) words = command_with-answers command.Run (run_options_of words) (need_no_memory words).0
+meaning_by-answers (Some name.Record) words = command_with-answers command.Record (record_options_of words) (need_no_memory words).1
+meaning_by-answers (Some name.Replay) words = λ e. search (rules, e)
+meaning_by-answers (Some name.Migrate) words = without_options-answers _ _
+meaning_by-answers (Some name.Generate) words = command_with-answers command.Generate (generator_number_of words) (number_by-answers (rows_by gen_app words))
+
+pub meaning_needs_none : NeedsNoMemory
+meaning_needs_none [] = λ e. search (rules, e)
+meaning_needs_none (word ∷ rest) = meaning_by-answers (named word) (word ∷ rest)
+
+-- ---- valid options
+
+-- an address at which core 1 can begin
+entry : ℕ
+entry = 0x40080000
+
+entry_is_executable : is_executable (region_of entry) ≡ true
+unfolding entry region_of
+entry_is_executable = refl
+
+turns_kept : (turns0 turns1 : ℕ) → turns0 ≤ most_turns → turns1 ≤ most_turns → (nat_le turns0 most_turns && nat_le turns1 most_turns) ≡ true
+turns_kept turns0 turns1 few few1 = grind (arith, nat_tests)
+
+entry_kept : (address : Option ℕ) (d : ℕ) → is_executable (region_of (unwrap_or address d)) ≡ true → is_entry address ≡ true
+entry_kept None d is = refl
+entry_kept (Some a) d is = is
+
+multiple_kept : (n k : ℕ) → n ≡ k → (n == k) ≡ true
+multiple_kept n k is = grind (arith, nat_tests)
+
+stack_kept : (s : Stack) → IsValidStack s → is_stack s ≡ true
+stack_kept s v = let low = v.low in let high = v.high in let lo = v.lo_aligned in let hi = v.hi_aligned in let size = v.size in grind (arith, nat_tests)
+
+both_kept : (a b : Bool) → a ≡ true → b ≡ true → (a && b) ≡ true
+both_kept a b p q = rw (p, q) refl
+
+all_kept : (a b c d : Bool) (o : RunOptions) → a ≡ true → b ≡ true → c ≡ true → d ≡ true
+    → unless_broken (first_broken ((5, a) ∷ (6, b) ∷ (7, c) ∷ (8, d) ∷ [])) o ≡ Ok o
+all_kept a b c d o p q r s = rw (p, q, r, s) refl
+
+pub accepts : AcceptsValid
+accepts o valid =
+    let v : IsValid _ = valid entry entry_is_executable in
+    all_kept _ _ _ _ o (turns_kept o.turns0 o.turns1 v.turns0 v.turns1) (entry_kept o.entry1 entry v.entry1)
+    (multiple_kept (o.vecbase % 1024) 0 v.vecbase)
+    (both_kept _ _ (stack_kept o.stack0 v.stack0) (stack_kept o.stack1 v.stack1))

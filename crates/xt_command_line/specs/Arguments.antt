@@ -1,0 +1,73 @@
+-- What the words of `check`, `gen` and `replay` say ('profile').
+use Rattle.std.specs.Prelude.{◌≡◌, ℕ, ◌%◌, true, ◌==◌, List, Option, Some, None, Result, Ok, Err}
+use Rattle.std.specs.Prelude.{if◌then◌else◌, codes, option_and_then}
+use Rattle.clap.specs.Words.{App, Row, Rule, Text, first_of, new_app, new_rule, with_rule}
+use Rattle.xt_command_line.specs.Numbers.{number_of}
+use Rattle.xt_command_line.specs.Options.{said_or, with_option}
+use Rattle.xt_command_line.specs.Simple.{rows_by}
+use Rattle.xt_command_line.specs.declared.command.Refusal.{Refusal}
+use Rattle.xt_command_line.specs.declared.command.Refusal.TheVariants as refusal
+
+-- ---- check [--vecbase N]
+
+abbrev pub check_app : App
+check_app = with_option (new_app (codes "check")) (codes "vecbase")
+
+abbrev pub IsVecbase : ℕ → Type 0
+IsVecbase vecbase = vecbase % 1024 ≡ 0
+
+-- a VECBASE, or the first rule of usage that is broken: it is no number, or no multiple of 1024
+abbrev pub judged_vecbase : Option ℕ → Result ℕ Refusal
+judged_vecbase None = Err (refusal.Usage 4)
+judged_vecbase (Some vecbase) =
+    if vecbase % 1024 == 0 then Ok vecbase else Err (refusal.Usage 7)
+
+abbrev pub vecbase_by : Option (List Row) → Result ℕ Refusal
+vecbase_by None = Err (refusal.Usage 3)
+vecbase_by (Some rows) =
+    judged_vecbase (said_or number_of 0x40080000 (first_of (codes "vecbase") rows))
+
+-- the VECBASE that the words of `check` say, or the first rule of usage that they break
+abbrev pub vecbase_of : List Text → Result ℕ Refusal
+vecbase_of words = vecbase_by (rows_by check_app words)
+
+-- ---- gen N
+
+-- a text without a name, that must be there
+abbrev pub positional_rule : Text → Rule
+positional_rule name = record (new_rule name) { required = true }
+
+abbrev pub gen_app : App
+gen_app = with_rule (new_app (codes "gen")) (positional_rule (codes "number"))
+
+abbrev pub number_in : Option Text → Option ℕ
+number_in text = option_and_then number_of text
+
+abbrev pub judged_number : Option ℕ → Result ℕ Refusal
+judged_number None = Err (refusal.Usage 4)
+judged_number (Some number) = Ok number
+
+abbrev pub number_by : Option (List Row) → Result ℕ Refusal
+number_by None = Err (refusal.Usage 3)
+number_by (Some rows) = judged_number (number_in (first_of (codes "number") rows))
+
+-- the number that the words of `gen` say, or the first rule of usage that they break
+abbrev pub generator_number_of : List Text → Result ℕ Refusal
+generator_number_of words = number_by (rows_by gen_app words)
+
+-- ---- replay SCRIPT
+
+abbrev pub replay_app : App
+replay_app = with_rule (new_app (codes "replay")) (positional_rule (codes "script"))
+
+abbrev pub given_text : Option Text → Result Text Refusal
+given_text None = Err (refusal.Usage 3)
+given_text (Some text) = Ok text
+
+abbrev pub script_text_by : Option (List Row) → Result Text Refusal
+script_text_by None = Err (refusal.Usage 3)
+script_text_by (Some rows) = given_text (first_of (codes "script") rows)
+
+-- the text of the script that the words of `replay` have, or the rule of usage that they break
+abbrev pub script_text_of : List Text → Result Text Refusal
+script_text_of words = script_text_by (rows_by replay_app words)

@@ -1,0 +1,203 @@
+-- The options of `run` and `record` ('profile').
+use Rattle.std.specs.Prelude.{◌≡◌, ◌≢◌, ℕ, ◌+◌, ◌%◌, Bool, true, false, ◌==◌, ◌&&◌, nat_le, List}
+use Rattle.std.specs.Prelude.{[], ◌∷◌, fold, Option, Some, None, unwrap_or, option_map, Result, Ok}
+use Rattle.std.specs.Prelude.{Err, if◌then◌else◌, codes}
+use Rattle.std.specs.Option.{option_map_or}
+use Rattle.std.specs.List.{before_first, after_first}
+use Rattle.std.specs.Str.{bytes_eq}
+use Rattle.clap.specs.Words.{App, Row, Rule, Text, first_of, new_app, new_rule, with_rule}
+use Rattle.clap.specs.declared.builder.action.ArgAction.TheVariants.{SetTrue}
+use Rattle.xt_map.specs.Regions.{region_of, is_executable}
+use Rattle.xt_trace.specs.Validity.{IsValid, most_turns}
+use Rattle.xt_trace.specs.declared.options.Stack.{Stack}
+use Rattle.xt_trace.specs.declared.options.Options.{Options}
+use Rattle.xt_command_line.specs.Numbers.{number_of}
+use Rattle.xt_command_line.specs.Simple.{rows_by}
+use Rattle.xt_command_line.specs.declared.command.Refusal.{Refusal}
+use Rattle.xt_command_line.specs.declared.command.Refusal.TheVariants as refusal
+use Rattle.xt_command_line.specs.declared.options.RunOptions.{RunOptions}
+
+-- ---- the simple commands of clap
+
+-- an option `--name` with one text
+abbrev pub option_rule : Text → Rule
+option_rule name = record (new_rule name) { long = Some name }
+
+-- a flag `--name`
+abbrev pub flag_rule : Text → Rule
+flag_rule name = record (new_rule name) { long = Some name; action = Some SetTrue }
+
+abbrev pub with_option : App → Text → App
+with_option app name = with_rule app (option_rule name)
+
+-- [--turns0 N] [--turns1 N] [--entry1 N] [--vecbase N] [--stack0 LO:HI] [--stack1 LO:HI]
+abbrev pub option_names : List Text
+option_names =
+    codes "turns0" ∷ codes "turns1" ∷ codes "entry1"
+    ∷ codes "vecbase" ∷ codes "stack0" ∷ codes "stack1" ∷ []
+
+abbrev pub record_app : App
+record_app = fold with_option (new_app (codes "record")) option_names
+
+-- the same, and [--trace]
+abbrev pub run_app : App
+run_app =
+    with_rule (fold with_option (new_app (codes "run")) option_names) (flag_rule (codes "trace"))
+
+-- ---- the texts of the options
+
+pub record Texts : Type 0 where
+  pub turns0 : Option Text
+  pub turns1 : Option Text
+  pub entry1 : Option Text
+  pub vecbase : Option Text
+  pub stack0 : Option Text
+  pub stack1 : Option Text
+  pub trace : Bool
+
+-- a flag that was given has the text `true`
+abbrev pub is_set : Option Text → Bool
+is_set text = option_map_or (λ t. bytes_eq t (codes "true")) text false
+
+abbrev pub texts_of : List Row → Texts
+texts_of rows = record {
+  turns0 = first_of (codes "turns0") rows;
+  turns1 = first_of (codes "turns1") rows;
+  entry1 = first_of (codes "entry1") rows;
+  vecbase = first_of (codes "vecbase") rows;
+  stack0 = first_of (codes "stack0") rows;
+  stack1 = first_of (codes "stack1") rows;
+  trace = is_set (first_of (codes "trace") rows);
+}
+
+-- ---- the options that the texts say
+
+abbrev pub colon : ℕ
+colon = 58
+
+abbrev pub between : Option ℕ → Option ℕ → Option Stack
+between (Some lo) (Some hi) = Some (record { lo = lo; hi = hi })
+between _ _ = None
+
+-- the range that `LO:HI` says: the numbers before and after the first colon
+unfoldable pub range_of : Text → Option Stack
+range_of text =
+    between
+    (number_of (before_first (λ b. b == colon) text))
+    (number_of (after_first (λ b. b == colon) text))
+
+-- what a text says, or the default where there is no text
+abbrev pub said_or : {A : Type 0} → (Text → Option A) → A → Option Text → Option A
+said_or say default None = Some default
+said_or say default (Some text) = say text
+
+abbrev pub address_of : Text → Option (Option ℕ)
+address_of text = option_map Some (number_of text)
+
+abbrev pub made :
+    Option ℕ → Option ℕ → Option (Option ℕ) → Option ℕ → Option Stack → Option Stack → Bool
+    → Option RunOptions
+made (Some turns0) (Some turns1) (Some entry1) (Some vecbase) (Some stack0) (Some stack1) trace =
+    Some (record {
+      turns0 = turns0;
+      turns1 = turns1;
+      entry1 = entry1;
+      vecbase = vecbase;
+      stack0 = stack0;
+      stack1 = stack1;
+      trace = trace;
+    })
+made _ _ _ _ _ _ trace = None
+
+-- the options that the texts say, each with its default, or none where a text is no number or no
+-- range
+abbrev pub options_in : Texts → Option RunOptions
+options_in t = made
+    (said_or number_of 100000 t.turns0)
+    (said_or number_of 100000 t.turns1)
+    (said_or address_of None t.entry1)
+    (said_or number_of 0x40080000 t.vecbase)
+    (said_or range_of (record { lo = 0x3FFF0000; hi = 0x3FFF8000 }) t.stack0)
+    (said_or range_of (record { lo = 0x3FFF8000; hi = 0x40000000 }) t.stack1)
+    t.trace
+
+-- ---- the rules of usage that options break
+
+-- a range of at least 256 bytes in the internal data memory, whose ends are multiples of 16
+abbrev pub is_stack : Stack → Bool
+is_stack s =
+    nat_le 0x3FFAE000 s.lo && nat_le s.hi 0x40000000 && s.lo % 16 == 0 && s.hi % 16 == 0
+    && nat_le (s.lo + 256) s.hi
+
+-- an address that is given lies in an executable region
+abbrev pub is_entry : Option ℕ → Bool
+is_entry None = true
+is_entry (Some address) = is_executable (region_of address)
+
+-- the rules by their numbers, and whether the options keep them
+abbrev pub limits : RunOptions → List (ℕ × Bool)
+limits o =
+    (5, nat_le o.turns0 most_turns && nat_le o.turns1 most_turns)
+    ∷ (6, is_entry o.entry1)
+    ∷ (7, o.vecbase % 1024 == 0)
+    ∷ (8, is_stack o.stack0 && is_stack o.stack1)
+    ∷ []
+
+-- the number of the first rule that is not kept
+abbrev pub first_broken : List (ℕ × Bool) → Option ℕ
+first_broken [] = None
+first_broken (rule ∷ rest) = if rule.1 then first_broken rest else Some rule.0
+
+abbrev pub unless_broken : Option ℕ → RunOptions → Result RunOptions Refusal
+unless_broken None o = Ok o
+unless_broken (Some rule) o = Err (refusal.Usage rule)
+
+abbrev pub checked : RunOptions → Result RunOptions Refusal
+checked o = unless_broken (first_broken (limits o)) o
+
+abbrev pub judged : Option RunOptions → Result RunOptions Refusal
+judged None = Err (refusal.Usage 4)
+judged (Some o) = checked o
+
+-- ---- the meaning of the words
+
+abbrev pub by_rows : Option (List Row) → Result RunOptions Refusal
+by_rows None = Err (refusal.Usage 3)
+by_rows (Some rows) = judged (options_in (texts_of rows))
+
+-- the options that the words of `run` say, or the first rule of usage that they break
+abbrev pub run_options_of : List Text → Result RunOptions Refusal
+run_options_of words = by_rows (rows_by run_app words)
+
+-- the same of `record`
+abbrev pub record_options_of : List Text → Result RunOptions Refusal
+record_options_of words = by_rows (rows_by record_app words)
+
+-- ---- the options of a run
+
+-- the options of a run of an image with this entry
+abbrev pub with_entry : RunOptions → ℕ → Options
+with_entry o entry = record {
+  turns0 = o.turns0;
+  turns1 = o.turns1;
+  entry1 = unwrap_or o.entry1 entry;
+  vecbase = o.vecbase;
+  stack0 = o.stack0;
+  stack1 = o.stack1;
+}
+
+-- they are valid, whatever the entry, if that is in an executable region
+abbrev pub AreValid : RunOptions → Type 0
+AreValid o = (entry : ℕ) → is_executable (region_of entry) ≡ true → IsValid (with_entry o entry)
+
+-- ---- laws
+
+-- the meaning of words is never that memory ran out
+abbrev pub OptionsNeedNoMemory : Type 0
+OptionsNeedNoMemory =
+    (words : List Text)
+    → (run_options_of words ≢ Err refusal.Memory) × (record_options_of words ≢ Err refusal.Memory)
+
+-- valid options keep every rule
+abbrev pub AcceptsValid : Type 0
+AcceptsValid = (o : RunOptions) → AreValid o → checked o ≡ Ok o

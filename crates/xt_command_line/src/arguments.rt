@@ -1,0 +1,68 @@
+//! The words of `check`, `gen` and `replay`.
+ghost use Rattle.std.specs.Prelude.{◌≡◌, IfOk, map, string_bytes, option_map};
+ghost use Rattle.xt_command_line.specs.Answers.{Means, MeansAs};
+ghost use Rattle.xt_command_line.specs.Arguments.{IsVecbase, generator_number_of, judged_number, judged_vecbase, number_in, script_text_of, vecbase_of};
+
+use crate::command::Refusal;
+use crate::numbers::number;
+use crate::option_commands::{check_matches, generator_matches, replay_matches, text_of};
+use crate::option_words::{DEFAULT_VECBASE, number_or};
+use std::alloc::Global;
+
+// A VECBASE, or the first rule of usage that it breaks.
+fn judge_vecbase(vecbase: Option<u32>) -> Result<u32, Refusal>
+    ensures means { result ≡ judged_vecbase vecbase }
+    ensures valid { IfOk result IsVecbase }
+{
+    match vecbase {
+        None => Err(Refusal::Usage(4)),
+        Some(vecbase) if vecbase % 1024 == 0 => Ok(vecbase),
+        Some(_) => Err(Refusal::Usage(7)),
+    }
+}
+
+/// The VECBASE that the words of `check` say, the first of which stands for the command.
+///
+/// The words are read as a simple command of `clap` with the option `--vecbase N`, whose default is 0x40080000. N is as
+/// for `run`. `Usage` has the first rule that the words break: 3 they do not match, 4 the text is no number, 7 it is no
+/// multiple of 1024. `Memory` says only that memory ran out.
+pub fn check_vecbase(alloc: Global, words: &[String]) -> Result<u32, Refusal>
+    ensures means { Means result (vecbase_of (map string_bytes words.now)) }
+    ensures valid { IfOk result IsVecbase }
+{
+    let matches = check_matches(alloc, words)?;
+    judge_vecbase(number_or(text_of(&matches, "vecbase"), DEFAULT_VECBASE))
+}
+
+// The number of a text.
+fn number_from(text: Option<&str>) -> Result<u32, Refusal>
+    ensures { result ≡ judged_number (number_in (option_map (λ t. t.now) text.entry)) }
+{
+    match text {
+        Some(text) => number(text).ok_or(Refusal::Usage(4)),
+        None => Err(Refusal::Usage(4)),
+    }
+}
+
+/// The number that the words of `gen` say, the first of which stands for the command.
+///
+/// The words are read as a simple command of `clap` with one text that must be there. It is a number as for `run`.
+/// `Usage` has the first rule that the words break: 3 they do not match, 4 the text is no number. `Memory` says only that
+/// memory ran out.
+pub fn generator_number(alloc: Global, words: &[String]) -> Result<u32, Refusal>
+    ensures { Means result (generator_number_of (map string_bytes words.now)) }
+{
+    let matches = generator_matches(alloc, words)?;
+    number_from(text_of(&matches, "number"))
+}
+
+/// The text of the script that the words of `replay` have, the first of which stands for the command.
+///
+/// The words are read as a simple command of `clap` with one text that must be there. `Usage(3)` says that they do not
+/// match. `Memory` says only that memory ran out.
+pub fn script_text<'a>(alloc: Global, words: &'a [String]) -> Result<&'a str, Refusal>
+    ensures { MeansAs (λ t. t.now) result (script_text_of (map string_bytes words.now)) }
+{
+    let matches = replay_matches(alloc, words)?;
+    text_of(&matches, "script").ok_or(Refusal::Usage(3))
+}

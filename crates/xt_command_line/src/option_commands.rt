@@ -1,0 +1,159 @@
+//! The simple commands of `clap` that read the words of `run`, `record`, `check`, `gen` and `replay`.
+ghost use Rattle.std.specs.Prelude.{◌≡◌, IfOk, map, string_bytes, option_map, fold, codes};
+ghost use Rattle.clap.specs.Words.{app_of, first_of, found_of, new_app, rows_of, with_rule};
+ghost use Rattle.xt_command_line.specs.Simple.{Matches, rows_by};
+ghost use Rattle.xt_command_line.specs.Arguments.{check_app, gen_app, positional_rule, replay_app};
+ghost use Rattle.xt_command_line.specs.Options.{flag_rule, is_set, option_names, record_app, run_app, texts_of, with_option};
+ghost use Rattle.xt_command_line.specs.Views.{texts_in};
+
+use crate::command::Refusal;
+use crate::simple::matches_by;
+use clap::{Arg, ArgAction, ArgMatches, Command};
+use std::alloc::{AllocError, Global};
+
+/// The texts of the options, as they were given.
+#[derive(Clone, Copy)]
+pub struct OptionTexts<'a> {
+    pub turns0: Option<&'a str>,
+    pub turns1: Option<&'a str>,
+    pub entry1: Option<&'a str>,
+    pub vecbase: Option<&'a str>,
+    pub stack0: Option<&'a str>,
+    pub stack1: Option<&'a str>,
+    pub trace: bool,
+}
+
+// The command with one more option, `--name TEXT`.
+fn with_one_option<'a>(
+    alloc: Global,
+    command: Command<'a>,
+    name: &'a str,
+) -> Result<Command<'a>, AllocError>
+    ensures { IfOk result (λ c. app_of c ≡ with_option (app_of command.entry) name.entry.now) }
+{
+    command.arg(Arg::new(alloc, name).long(name))
+}
+
+// The command with the flag `--trace` besides.
+fn with_trace<'a>(alloc: Global, command: Command<'a>) -> Result<Command<'a>, AllocError>
+    ensures { IfOk result (λ c. app_of c ≡ with_rule (app_of command.entry) (flag_rule (codes "trace"))) }
+{
+    command.arg(
+        Arg::new(alloc, "trace")
+            .long("trace")
+            .action(ArgAction::SetTrue),
+    )
+}
+
+// The command with the six options that `run` and `record` share.
+fn with_options<'a>(alloc: Global, name: &'a str) -> Result<Command<'a>, AllocError>
+    ensures { IfOk result (λ c. app_of c ≡ fold with_option (new_app name.entry.now) option_names) }
+{
+    let command = Command::new(alloc, name);
+    let command = with_one_option(alloc, command, "turns0")?;
+    let command = with_one_option(alloc, command, "turns1")?;
+    let command = with_one_option(alloc, command, "entry1")?;
+    let command = with_one_option(alloc, command, "vecbase")?;
+    let command = with_one_option(alloc, command, "stack0")?;
+    with_one_option(alloc, command, "stack1")
+}
+
+/// What `clap` matches on the words of `run`.
+pub fn run_matches<'a>(alloc: Global, words: &'a [String]) -> Result<ArgMatches<'a>, Refusal>
+    ensures { Matches result (rows_by run_app (map string_bytes words.now)) }
+{
+    let command = with_options(alloc, "run")?;
+    matches_by(with_trace(alloc, command)?, words)
+}
+
+/// What `clap` matches on the words of `record`.
+pub fn record_matches<'a>(alloc: Global, words: &'a [String]) -> Result<ArgMatches<'a>, Refusal>
+    ensures { Matches result (rows_by record_app (map string_bytes words.now)) }
+{
+    matches_by(with_options(alloc, "record")?, words)
+}
+
+// The command `check` with its option.
+fn check_command<'a>(alloc: Global) -> Result<Command<'a>, AllocError>
+    ensures { IfOk result (λ c. app_of c ≡ check_app) }
+{
+    with_one_option(alloc, Command::new(alloc, "check"), "vecbase")
+}
+
+/// What `clap` matches on the words of `check`.
+pub fn check_matches<'a>(alloc: Global, words: &'a [String]) -> Result<ArgMatches<'a>, Refusal>
+    ensures { Matches result (rows_by check_app (map string_bytes words.now)) }
+{
+    matches_by(check_command(alloc)?, words)
+}
+
+// The command with one text that must be there.
+fn with_positional<'a>(
+    alloc: Global,
+    command: Command<'a>,
+    name: &'a str,
+) -> Result<Command<'a>, AllocError>
+    ensures { IfOk result (λ c. app_of c ≡ with_rule (app_of command.entry) (positional_rule name.entry.now)) }
+{
+    command.arg(Arg::new(alloc, name).required(true))
+}
+
+// The command `gen` with its number.
+fn generator_command<'a>(alloc: Global) -> Result<Command<'a>, AllocError>
+    ensures { IfOk result (λ c. app_of c ≡ gen_app) }
+{
+    with_positional(alloc, Command::new(alloc, "gen"), "number")
+}
+
+/// What `clap` matches on the words of `gen`.
+pub fn generator_matches<'a>(alloc: Global, words: &'a [String]) -> Result<ArgMatches<'a>, Refusal>
+    ensures { Matches result (rows_by gen_app (map string_bytes words.now)) }
+{
+    matches_by(generator_command(alloc)?, words)
+}
+
+// The command `replay` with its script.
+fn replay_command<'a>(alloc: Global) -> Result<Command<'a>, AllocError>
+    ensures { IfOk result (λ c. app_of c ≡ replay_app) }
+{
+    with_positional(alloc, Command::new(alloc, "replay"), "script")
+}
+
+/// What `clap` matches on the words of `replay`.
+pub fn replay_matches<'a>(alloc: Global, words: &'a [String]) -> Result<ArgMatches<'a>, Refusal>
+    ensures { Matches result (rows_by replay_app (map string_bytes words.now)) }
+{
+    matches_by(replay_command(alloc)?, words)
+}
+
+/// The text of an option or of a positional.
+pub fn text_of<'a>(matches: &ArgMatches<'a>, name: &str) -> Option<&'a str>
+    ensures { option_map (λ s. s.now) result ≡ first_of name.now (rows_of (found_of matches.now)) }
+{
+    matches.get_str(name)
+}
+
+// A flag that was given has the text `true`.
+fn is_true(text: Option<&str>) -> bool
+    ensures { result ≡ is_set (option_map (λ s. s.now) text.entry) }
+{
+    match text {
+        Some(text) => text == "true",
+        None => false,
+    }
+}
+
+/// The texts of the options that were matched.
+pub fn texts_from<'a>(matches: &ArgMatches<'a>) -> OptionTexts<'a>
+    ensures { texts_in result ≡ texts_of (rows_of (found_of matches.now)) }
+{
+    OptionTexts {
+        turns0: text_of(matches, "turns0"),
+        turns1: text_of(matches, "turns1"),
+        entry1: text_of(matches, "entry1"),
+        vecbase: text_of(matches, "vecbase"),
+        stack0: text_of(matches, "stack0"),
+        stack1: text_of(matches, "stack1"),
+        trace: is_true(text_of(matches, "trace")),
+    }
+}

@@ -1,0 +1,131 @@
+//! The words of `run` and `record` with all their options.
+ghost use Rattle.std.specs.Prelude.{◌≡◌, IfOk, map, string_bytes, option_map};
+ghost use Rattle.xt_command_line.specs.Answers.{Means};
+ghost use Rattle.xt_command_line.specs.Numbers.{number_of};
+ghost use Rattle.xt_command_line.specs.Options.{AreValid, address_of, between, judged, options_in, range_of, record_options_of, run_options_of, said_or};
+ghost use Rattle.xt_command_line.specs.Views.{texts_in};
+
+use crate::command::Refusal;
+use crate::numbers::number;
+use crate::option_commands::{OptionTexts, record_matches, run_matches, texts_from};
+use crate::options::{RunOptions, within_limits};
+use std::alloc::Global;
+use xt_trace::Stack;
+
+// The range from one number to another, where both are there.
+fn between_both(lo: Option<u32>, hi: Option<u32>) -> Option<Stack>
+    ensures { result ≡ between lo hi }
+{
+    match (lo, hi) {
+        (Some(lo), Some(hi)) => Some(Stack { lo, hi }),
+        _ => None,
+    }
+}
+
+// The range that `LO:HI` says.
+fn range(text: &str) -> Option<Stack>
+    ensures { result ≡ range_of text.now }
+{
+    match text.split_once(':') {
+        Some((lo, hi)) => between_both(number(lo), number(hi)),
+        None => None,
+    }
+}
+
+/// VECBASE where no word says another.
+pub const DEFAULT_VECBASE: u32 = 0x40080000;
+
+/// The number of a text, or the default where there is none.
+pub fn number_or(text: Option<&str>, default: u32) -> Option<u32>
+    ensures { result ≡ said_or number_of default (option_map (λ t. t.now) text.entry) }
+{
+    match text {
+        Some(text) => number(text),
+        None => Some(default),
+    }
+}
+
+// The address of a text, or none where there is no text.
+fn address(text: Option<&str>) -> Option<Option<u32>>
+    ensures { result ≡ said_or address_of None (option_map (λ t. t.now) text.entry) }
+{
+    match text {
+        Some(text) => Some(Some(number(text)?)),
+        None => Some(None),
+    }
+}
+
+// The range of a text, or the default where there is none.
+fn range_or(text: Option<&str>, default: Stack) -> Option<Stack>
+    ensures { result ≡ said_or range_of default (option_map (λ t. t.now) text.entry) }
+{
+    match text {
+        Some(text) => range(text),
+        None => Some(default),
+    }
+}
+
+// The options that the texts say, or none where a text is no number or no range.
+fn options_from(texts: OptionTexts<'_>) -> Option<RunOptions>
+    ensures { result ≡ options_in (texts_in texts.entry) }
+{
+    let turns0 = number_or(texts.turns0, 100_000)?;
+    let turns1 = number_or(texts.turns1, 100_000)?;
+    let entry1 = address(texts.entry1)?;
+    let vecbase = number_or(texts.vecbase, DEFAULT_VECBASE)?;
+    let below = Stack {
+        lo: 0x3FFF0000,
+        hi: 0x3FFF8000,
+    };
+    let stack0 = range_or(texts.stack0, below)?;
+    let above = Stack {
+        lo: 0x3FFF8000,
+        hi: 0x40000000,
+    };
+    let stack1 = range_or(texts.stack1, above)?;
+    Some(RunOptions {
+        turns0,
+        turns1,
+        entry1,
+        vecbase,
+        stack0,
+        stack1,
+        trace: texts.trace,
+    })
+}
+
+// The options that the texts say, or the first rule of usage that they break.
+fn judged_texts(texts: OptionTexts<'_>) -> Result<RunOptions, Refusal>
+    ensures means { result ≡ judged (options_in (texts_in texts.entry)) }
+    ensures valid { IfOk result AreValid }
+{
+    match options_from(texts) {
+        Some(options) => within_limits(options),
+        None => Err(Refusal::Usage(4)),
+    }
+}
+
+/// The options that the words of `run` say, the first of which stands for the command.
+///
+/// The words are read as a simple command of `clap` with the options `--turns0 N`, `--turns1 N`, `--entry1 N`,
+/// `--vecbase N`, `--stack0 LO:HI` and `--stack1 LO:HI` and the flag `--trace`. N, LO and HI are decimal digits, or
+/// `0x` and one to eight hexadecimal digits, below 2^32. `Usage` has the first rule that the words break: 3 they do not
+/// match, 4 a text is no number or range, 5 a number of turns is above 4,000,000, 6 `entry1` is in no executable
+/// region, 7 `vecbase` is no multiple of 1024, 8 a stack is no range of at least 256 bytes in the internal data memory
+/// with ends at multiples of 16. `Memory` says only that memory ran out.
+pub fn run_options(alloc: Global, words: &[String]) -> Result<RunOptions, Refusal>
+    ensures means { Means result (run_options_of (map string_bytes words.now)) }
+    ensures valid { IfOk result AreValid }
+{
+    let matches = run_matches(alloc, words)?;
+    judged_texts(texts_from(&matches))
+}
+
+/// The same of `record`, which has no flag `--trace`.
+pub fn record_options(alloc: Global, words: &[String]) -> Result<RunOptions, Refusal>
+    ensures means { Means result (record_options_of (map string_bytes words.now)) }
+    ensures valid { IfOk result AreValid }
+{
+    let matches = record_matches(alloc, words)?;
+    judged_texts(texts_from(&matches))
+}

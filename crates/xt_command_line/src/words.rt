@@ -1,0 +1,110 @@
+ghost use Rattle.std.specs.Prelude.{◌≡◌, IfOk, map, string_bytes};
+ghost use Rattle.xt_command_line.specs.Answers.{Means};
+ghost use Rattle.xt_command_line.specs.Meaning.{HasValidOptions, MayWantMemory, check_meaning_of, gen_meaning_of, meaning_of, named, record_meaning_of, run_meaning_of};
+ghost use Rattle.xt_command_line.specs.declared.command.Refusal.TheVariants.{Memory};
+
+use crate::arguments::{check_vecbase, generator_number};
+use crate::command::{Command, Name, Refusal};
+use crate::option_words::{record_options, run_options};
+use crate::simple::without_options_meaning;
+use std::alloc::Global;
+
+#[tactic(auto, unfolding(crate::specs::Meaning::named))]
+fn name_of(word: &str) -> Option<Name>
+    ensures { result ≡ named word.now }
+{
+    match word {
+        "asm" => Some(Name::Assemble),
+        "elf" => Some(Name::Convert),
+        "dis" => Some(Name::Disassemble),
+        "check" => Some(Name::Check),
+        "run" => Some(Name::Run),
+        "record" => Some(Name::Record),
+        "replay" => Some(Name::Replay),
+        "migrate" => Some(Name::Migrate),
+        "gen" => Some(Name::Generate),
+        _ => None,
+    }
+}
+
+// The command `run` with the options that its words say.
+fn run_meaning(alloc: Global, words: &[String]) -> Result<Command, Refusal>
+    ensures means { Means result (run_meaning_of (map string_bytes words.now)) }
+    ensures valid { IfOk result HasValidOptions }
+{
+    match run_options(alloc, words) {
+        Ok(options) => Ok(Command::Run(options)),
+        Err(refusal) => Err(refusal),
+    }
+}
+
+// The command `record` with the options that its words say.
+fn record_meaning(alloc: Global, words: &[String]) -> Result<Command, Refusal>
+    ensures means { Means result (record_meaning_of (map string_bytes words.now)) }
+    ensures valid { IfOk result HasValidOptions }
+{
+    match record_options(alloc, words) {
+        Ok(options) => Ok(Command::Record(options)),
+        Err(refusal) => Err(refusal),
+    }
+}
+
+// The command `check` with the VECBASE that its words say.
+fn check_meaning(alloc: Global, words: &[String]) -> Result<Command, Refusal>
+    ensures means { Means result (check_meaning_of (map string_bytes words.now)) }
+    ensures valid { IfOk result HasValidOptions }
+{
+    match check_vecbase(alloc, words) {
+        Ok(vecbase) => Ok(Command::Check(vecbase)),
+        Err(refusal) => Err(refusal),
+    }
+}
+
+// The command `gen` with the number that its words say.
+fn gen_meaning(alloc: Global, words: &[String]) -> Result<Command, Refusal>
+    ensures means { Means result (gen_meaning_of (map string_bytes words.now)) }
+    ensures valid { IfOk result HasValidOptions }
+{
+    match generator_number(alloc, words) {
+        Ok(number) => Ok(Command::Generate(number)),
+        Err(refusal) => Err(refusal),
+    }
+}
+
+/// The command with its options that the words after the program's name say, or why they say none.
+///
+/// - No word is `Usage(1)`, and a first word that is no command `Usage(2)`.
+/// - `asm`, `elf`, `dis` and `migrate` take no further word. Other words after them are `Usage(3)`, as far as `clap` does not take
+///   them: it takes one that is `--`.
+/// - `check` has the option that `check_vecbase` says, with the rules of usage 3, 4 and 7.
+/// - `run` has the options that `run_options` says, with the rules of usage 3 to 8, and `record` those of
+///   `record_options`, with the same.
+/// - `gen` has the number that `generator_number` says, with the rules of usage 3 and 4.
+/// - `replay` is `Replay`, whatever follows: `script_text` reads its words.
+///
+/// `Memory` says only that memory ran out.
+pub fn meaning(alloc: Global, words: &[String]) -> Result<Command, Refusal>
+    ensures means { Means result (meaning_of (map string_bytes words.now)) }
+    ensures valid { IfOk result HasValidOptions }
+    ensures memory { result ≡ Err Memory → MayWantMemory (map string_bytes words.now) }
+{
+    let Some(word) = words.first() else {
+        return Err(Refusal::Usage(1));
+    };
+    match name_of(word.as_str()) {
+        None => Err(Refusal::Usage(2)),
+        Some(Name::Run) => run_meaning(alloc, words),
+        Some(Name::Record) => record_meaning(alloc, words),
+        Some(Name::Assemble) => { without_options_meaning(alloc, "asm", Command::Assemble, words) }
+        Some(Name::Convert) => without_options_meaning(alloc, "elf", Command::Convert, words),
+        Some(Name::Disassemble) => {
+            without_options_meaning(alloc, "dis", Command::Disassemble, words)
+        }
+        Some(Name::Replay) => Ok(Command::Replay),
+        Some(Name::Migrate) => {
+            without_options_meaning(alloc, "migrate", Command::Migrate, words)
+        }
+        Some(Name::Check) => check_meaning(alloc, words),
+        Some(Name::Generate) => gen_meaning(alloc, words),
+    }
+}

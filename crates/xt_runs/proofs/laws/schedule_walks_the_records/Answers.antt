@@ -1,5 +1,0 @@
-use Rattle.xt_runs.proofs.Walks.{own_walk}
-use Rattle.xt_runs.proofs.laws.schedule_walks_the_records.Goals as goal
-
-pub returns : goal.returns
-returns g c = own_walk

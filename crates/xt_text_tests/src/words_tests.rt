@@ -1,0 +1,213 @@
+use std::alloc::Global;
+use std::test::Fail;
+use xt_command_line::{Command, Refusal, RunOptions, meaning, script_text};
+use xt_trace::Stack;
+
+// The words of a line, which stand with one space between them.
+fn words_of(alloc: Global, line: &str) -> Result<Vec<String>, Fail> {
+    let mut words = Vec::new(alloc);
+    for word in line.split(' ') {
+        words.push(String::from_str(alloc, word)?)?;
+    }
+    Ok(words)
+}
+
+#[test]
+fn words_and_meanings(rt: HostRuntime) -> Result<(), Fail> {
+    let alloc = rt.alloc();
+    assert_eq!(rt; meaning(alloc, &[]), Err(Refusal::Usage(1)));
+    let rows = [
+        // the command
+        ("fly", Err(Refusal::Usage(2))),
+        ("", Err(Refusal::Usage(2))),
+        ("--help", Err(Refusal::Usage(2))),
+        ("Run --turns0 10 --turns1 0", Err(Refusal::Usage(2))),
+        ("--turns0 10 --turns1 0 run", Err(Refusal::Usage(2))),
+        ("disasm", Err(Refusal::Usage(2))),
+        ("Elf", Err(Refusal::Usage(2))),
+        // commands that take no option
+        ("asm", Ok(Command::Assemble)),
+        ("elf", Ok(Command::Convert)),
+        ("elf --vecbase 0x40080000", Err(Refusal::Usage(3))),
+        ("dis", Ok(Command::Disassemble)),
+        ("check", Ok(Command::Check(0x4008_0000))),
+        ("check --", Ok(Command::Check(0x4008_0000))),
+        ("check --vecbase 1024", Ok(Command::Check(1024))),
+        (
+            "check --vecbase=0x400D0000",
+            Ok(Command::Check(0x400D_0000)),
+        ),
+        ("check --vecbase", Err(Refusal::Usage(3))),
+        ("check image", Err(Refusal::Usage(3))),
+        ("check --vecbase 0 --vecbase 0", Err(Refusal::Usage(3))),
+        ("check --vecbase x", Err(Refusal::Usage(4))),
+        ("check --vecbase 4294967296", Err(Refusal::Usage(4))),
+        ("check --vecbase 0x40080010", Err(Refusal::Usage(7))),
+        ("check --vecbase 512", Err(Refusal::Usage(7))),
+        ("dis --", Ok(Command::Disassemble)),
+        ("dis --help", Err(Refusal::Usage(3))),
+        ("check -h", Err(Refusal::Usage(3))),
+        ("asm --version", Err(Refusal::Usage(3))),
+        ("asm file", Err(Refusal::Usage(3))),
+        ("dis dis", Err(Refusal::Usage(3))),
+        ("dis -- file", Err(Refusal::Usage(3))),
+        ("dis help", Err(Refusal::Usage(3))),
+        ("dis -", Err(Refusal::Usage(3))),
+        ("dis ", Err(Refusal::Usage(3))),
+        ("migrate", Ok(Command::Migrate)),
+        ("migrate --turns0 1", Err(Refusal::Usage(3))),
+        ("check --trace", Err(Refusal::Usage(3))),
+        // a number
+        ("gen 1", Ok(Command::Generate(1))),
+        ("gen 0xFFFFFFFF", Ok(Command::Generate(4_294_967_295))),
+        ("gen -- 007", Ok(Command::Generate(7))),
+        ("gen", Err(Refusal::Usage(3))),
+        ("gen 1 2", Err(Refusal::Usage(3))),
+        ("gen -1", Err(Refusal::Usage(3))),
+        ("gen --number 1", Err(Refusal::Usage(3))),
+        ("gen ", Err(Refusal::Usage(4))),
+        ("gen 4294967296", Err(Refusal::Usage(4))),
+        ("gen x", Err(Refusal::Usage(4))),
+        // a script, whose words are read by themselves
+        ("replay", Ok(Command::Replay)),
+    ];
+    for (line, answer) in rows {
+        let words = words_of(alloc, line)?;
+        assert_eq!(rt; meaning(alloc, &words), answer, "{line:?}");
+    }
+    Ok(())
+}
+
+#[test]
+fn words_and_scripts(rt: HostRuntime) -> Result<(), Fail> {
+    let alloc = rt.alloc();
+    let rows = [
+        ("replay jump", Ok("jump")),
+        ("replay ", Ok("")),
+        ("replay -- -1", Ok("-1")),
+        ("replay", Err(Refusal::Usage(3))),
+        ("replay go 0 3", Err(Refusal::Usage(3))),
+        ("replay --script jump", Err(Refusal::Usage(3))),
+    ];
+    for (line, answer) in rows {
+        let words = words_of(alloc, line)?;
+        assert_eq!(rt; script_text(alloc, &words), answer, "{line:?}");
+    }
+    Ok(())
+}
+
+#[test]
+fn words_and_options(rt: HostRuntime) -> Result<(), Fail> {
+    let alloc = rt.alloc();
+    let plain = RunOptions {
+        turns0: 100_000,
+        turns1: 100_000,
+        entry1: None,
+        vecbase: 0x4008_0000,
+        stack0: Stack {
+            lo: 0x3FFF_0000,
+            hi: 0x3FFF_8000,
+        },
+        stack1: Stack {
+            lo: 0x3FFF_8000,
+            hi: 0x4000_0000,
+        },
+        trace: false,
+    };
+    let mut given = plain;
+    given.turns0 = 7;
+    given.turns1 = 0;
+    given.entry1 = Some(0x400D_0000);
+    given.vecbase = 0x4009_FC00;
+    given.stack0.lo = 0x3FFA_E000;
+    given.stack0.hi = 0x3FFA_E100;
+    given.stack1.lo = 0x3FFF_FF00;
+    let mut most = plain;
+    most.turns0 = 4_000_000;
+    let mut traced = plain;
+    traced.trace = true;
+    let rows = [
+        ("run", Ok(plain)),
+        ("run --", Ok(plain)),
+        ("run --turns0 4000000", Ok(most)),
+        ("run --turns0=0x3D0900", Ok(most)),
+        ("run --turns0 0x003d0900", Ok(most)),
+        ("run --trace", Ok(traced)),
+        (
+            "run --stack1 0x3FFFFF00:0x40000000 --stack0 1073405952:0x3ffae100 --vecbase 0x4009FC00 --entry1 0x400D0000 --turns1 0 --turns0 007",
+            Ok(given),
+        ),
+        // they do not match
+        ("run file", Err(Refusal::Usage(3))),
+        ("run --help", Err(Refusal::Usage(3))),
+        ("run -h", Err(Refusal::Usage(3))),
+        ("run --version", Err(Refusal::Usage(3))),
+        ("run --turns0", Err(Refusal::Usage(3))),
+        ("run --turns0 -5", Err(Refusal::Usage(3))),
+        ("run --turns0 1 --turns0 1", Err(Refusal::Usage(3))),
+        ("run --trace=x", Err(Refusal::Usage(3))),
+        ("run --turns2 1", Err(Refusal::Usage(3))),
+        // no number, or no range
+        ("run --turns0 x", Err(Refusal::Usage(4))),
+        ("run --turns0=", Err(Refusal::Usage(4))),
+        ("run --turns0=-5", Err(Refusal::Usage(4))),
+        ("run --turns0 +5", Err(Refusal::Usage(4))),
+        ("run --turns1 0X10", Err(Refusal::Usage(4))),
+        ("run --turns1 0x", Err(Refusal::Usage(4))),
+        ("run --turns1 0x000000001", Err(Refusal::Usage(4))),
+        ("run --entry1 4294967296", Err(Refusal::Usage(4))),
+        ("run --vecbase 0x4008000g", Err(Refusal::Usage(4))),
+        ("run --stack0 0x3FFF0000", Err(Refusal::Usage(4))),
+        ("run --stack0 0x3FFF0000-0x3FFF8000", Err(Refusal::Usage(4))),
+        ("run --stack1 :0x40000000", Err(Refusal::Usage(4))),
+        (
+            "run --stack1 0x3FFF8000:0x40000000:0",
+            Err(Refusal::Usage(4)),
+        ),
+        ("run --turns1 4000001 --stack1 x", Err(Refusal::Usage(4))),
+        // a number of turns
+        ("run --turns0 4000001", Err(Refusal::Usage(5))),
+        (
+            "run --vecbase 1 --turns1 4294967295",
+            Err(Refusal::Usage(5)),
+        ),
+        // where core 1 begins
+        (
+            "run --entry1 0x3FFB0000 --vecbase 1",
+            Err(Refusal::Usage(6)),
+        ),
+        ("run --entry1 0x400A0000", Err(Refusal::Usage(6))),
+        ("run --entry1 0", Err(Refusal::Usage(6))),
+        // VECBASE
+        ("run --vecbase 0x40080010", Err(Refusal::Usage(7))),
+        ("run --stack0 0:0 --vecbase 512", Err(Refusal::Usage(7))),
+        // a stack
+        ("run --stack0 0x3FFADFF0:0x3FFF8000", Err(Refusal::Usage(8))),
+        ("run --stack0 0x3FFF0000:0x40000010", Err(Refusal::Usage(8))),
+        ("run --stack1 0x3FFF8008:0x40000000", Err(Refusal::Usage(8))),
+        ("run --stack1 0x3FFF8000:0x3FFFFFF8", Err(Refusal::Usage(8))),
+        ("run --stack1 0x3FFFFF10:0x40000000", Err(Refusal::Usage(8))),
+        ("run --stack1 0x3FFF8000:0x3FFF0000", Err(Refusal::Usage(8))),
+    ];
+    for (line, answer) in rows {
+        let words = words_of(alloc, line)?;
+        let meant = match answer {
+            Ok(options) => Ok(Command::Run(options)),
+            Err(refusal) => Err(refusal),
+        };
+        assert_eq!(rt; meaning(alloc, &words), meant, "{line:?}");
+    }
+    let rows = [
+        ("record", Ok(Command::Record(plain))),
+        ("record --turns0 4000000", Ok(Command::Record(most))),
+        ("record --trace", Err(Refusal::Usage(3))),
+        ("record --turns1 x", Err(Refusal::Usage(4))),
+        ("record --turns1 4000001", Err(Refusal::Usage(5))),
+        ("record --entry1 0 --vecbase 1", Err(Refusal::Usage(6))),
+    ];
+    for (line, answer) in rows {
+        let words = words_of(alloc, line)?;
+        assert_eq!(rt; meaning(alloc, &words), answer, "{line:?}");
+    }
+    Ok(())
+}

@@ -1,5 +1,0 @@
-use Rattle.xt_words.proofs.Rules.{meaning_needs_none}
-use Rattle.xt_words.proofs.laws.meaning_needs_no_memory.Goals as goal
-
-pub returns : goal.returns
-returns c = meaning_needs_none

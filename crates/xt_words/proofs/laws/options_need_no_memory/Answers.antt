@@ -1,5 +1,0 @@
-use Rattle.xt_words.proofs.Rules.{need_no_memory}
-use Rattle.xt_words.proofs.laws.options_need_no_memory.Goals as goal
-
-pub returns : goal.returns
-returns c = need_no_memory
