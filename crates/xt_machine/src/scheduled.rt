@@ -17,7 +17,7 @@ use crate::pair::Pair;
 use crate::turns::make_turn;
 use std::alloc::{AllocError, Global};
 use xt_bus::Bus;
-use xt_core::Core;
+use xt_core::{Core, stack_links};
 use xt_image::{Image, well_formed_is_placed};
 use xt_map::Constants;
 use xt_trace::{Options, Run};
@@ -27,14 +27,10 @@ pub fn opening_bus(alloc: Global, image: &Image, options: &Options) -> Result<Bu
     requires { IsValid options.now }
     ensures { IfOk result (λ b. b ≡ opened image.now.segments (stack_words options.now) (options.now.turns0 + options.now.turns1)) }
 {
-    let links = [
-        (options.stack0.hi - 76, options.stack0.hi),
-        (options.stack1.hi - 76, options.stack1.hi),
-    ];
     Bus::make(
         alloc,
         image.segments.as_slice(),
-        &links,
+        &stack_links(options),
         options.turns0 + options.turns1,
     )
 }

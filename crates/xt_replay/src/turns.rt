@@ -12,7 +12,7 @@ ghost use Rattle.xt_replay.specs.Stands.{entries_past, HasRoom, IsAsRoomy, mark_
 use crate::pair::{Mark, Pair};
 use std::alloc::{AllocError, Global};
 use xt_bus::Memory;
-use xt_core::{Begin, Core};
+use xt_core::{Begin, Core, stack_links};
 use xt_image::Image;
 use xt_map::Constants;
 use xt_trace::Options;
@@ -47,10 +47,7 @@ impl Pair {
         ensures stand { IfOk result (λ p. stand_of p ≡ stand_opening (opening_of image.now options.now)) }
         ensures room { IfOk result (λ p. HasRoom p options.now) }
     {
-        let links = [
-            (options.stack0.hi - 76, options.stack0.hi),
-            (options.stack1.hi - 76, options.stack1.hi),
-        ];
+        let links = stack_links(options);
         let room = options.turns0 + options.turns1;
         Ok(Pair {
             core0: Core::make(alloc, 0, image.entry, options, WindowFile::new())?,
