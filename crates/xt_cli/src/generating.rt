@@ -15,7 +15,7 @@ use std::sync::Wait;
 use std::thread::Threads;
 use xt_command_line::{DEFAULT_VECBASE, RunOptions};
 use xt_gen::generated;
-use xt_image::write;
+use xt_image::written_length;
 use xt_io::{Gate, Refused, Sink};
 use xt_map::Text;
 use xt_trace::Stack;
@@ -53,7 +53,7 @@ fn run_generated<G: Gate, R: Threads + Wait + Sync>(
     ensures text { IfOk result (λ made. made.1 ≡ gen_text number made.0) }
 {
     let image = generated(alloc, number)?;
-    let size = write(alloc, &image)?.len();
+    let size = written_length(&image);
     let options = gen_options();
     let whole = judge_image(rt, alloc, &options, &image, gate)?;
     let text = summary(alloc, number, size, &whole)?;
