@@ -1,5 +1,5 @@
 /* Prints the initials of two names. Its output is right, and its stack is broken: `copy` writes the second name
-   over the end of `kept`. */
+   past the end of `kept`. */
 #include <stdio.h>
 
 static void copy(char *to, const char *from)
@@ -17,8 +17,8 @@ static int initial(const char *name)
 
 int main(void)
 {
-    putchar(initial("Ada"));
-    putchar(initial("Charles Babbage, Esquire"));
+    putchar(initial("Charles Babbage"));
+    putchar(initial("Augusta Ada King, Countess of Lovelace"));
     putchar('\n');
     return 0;
 }

@@ -104,8 +104,7 @@ second: movi a2, main1
 alone:  break 1, 15
 
 # ---- An interrupt of level 1, which only timer 0 is let make: all registers of the window are kept in the
-# core's own part of `kept`, and on_timer is called with further interrupts of level 1 held off. It has to
-# write CCOMPARE0, which takes the interrupt away (timer_after of xt.h does).
+# core's own part of `kept`, and on_timer is called with further interrupts of level 1 held off.
 
         .balign 4
 cause:  wsr a2, misc0
@@ -145,6 +144,8 @@ first:  s32i a0, a2, 0
         s32i a13, a2, 52
         s32i a14, a2, 56
         s32i a15, a2, 60
+        rsr a3, ccompare0
+        wsr a3, ccompare0       # a write takes the interrupt away
         call4 on_timer          # a2 and a3 stay, as on_timer sees a4 as its a0
         l32i a4, a2, 16
         l32i a5, a2, 20
