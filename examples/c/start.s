@@ -1,5 +1,5 @@
 # The start-up code of a C program, for both cores: vectors, the entry, and the handler of the timer. It is
-# assembled behind lx6.inc, and link.ld puts each section at its place.
+# assembled after lx6.inc, and link.ld puts each section at its place.
 #
 # Both cores begin at _start. Core 0 calls main, and core 1 main1 where the program has it; then each stops
 # by BREAK 1, 15. A cause that is no interrupt ends at `unhandled`: the core stops there with EXCCAUSE in a2
