@@ -49,7 +49,7 @@ use Rattle.xt_stretch.specs.declared.HandlerVerdict.TheVariants.{Yes}
 use Rattle.xt_stretch.specs.Spelled.{step_of_insn, step_of_spelled, step_of}
 use Rattle.xt_stretch.proofs.Lines.{handling_is}
 use Rattle.xt_stretch.specs.Machines as small
-use Rattle.xt_stretch.specs.Running as running
+use Rattle.xt_stretch.specs.Running as stepping
 use Rattle.xt_stretch.specs.Machines.{Machine, word_at, meant, address_of, IsElsewhere}
 use Rattle.xt_stretch.specs.Frames.{HasFrames, IsOwn, IsOwnByte}
 use Rattle.xt_stretch.specs.Kept.{Does, Stands, Spares, Touches, Turns, Moves, Closes, Done, step_at, ending_of, opening_flags}
@@ -533,8 +533,8 @@ module _ (code : ℕ → ℕ) (constant : (a : ℕ) → code a < 2 ^ 8) (b : Bou
       step_goes : (mv : Moves h.side n start (vector_bytes code vector) h.offset h.effect h.flags (machine m s)) → IsShaped s → HasSizes m → AtPc → Next
       step_goes mv shaped sizes (no_insn e) = absurd (not_foreign h.side n start h.flags mv.after (machine m s) (step_at (vector_bytes code vector) h.offset) e mv.does)
       step_goes mv shaped sizes (some_insn i at range e) =
-          let is : running.stepped (step_of_insn i) (machine m s) ≡ Some mv.next = subst (λ x. running.stepped x (machine m s) ≡ Some mv.next) e mv.is in
-          let may : running.MayAccess (step_of_insn i) (machine m s) = subst (λ x. running.MayAccess x (machine m s)) e mv.access in
+          let is : stepping.stepped (step_of_insn i) (machine m s) ≡ Some mv.next = subst (λ x. stepping.stepped x (machine m s) ≡ Some mv.next) e mv.is in
+          let may : stepping.MayAccess (step_of_insn i) (machine m s) = subst (λ x. stepping.MayAccess x (machine m s)) e mv.access in
           let does : Does h.side n start h.flags mv.after (machine m s) (step_of_insn i) = subst (λ x. Does h.side n start h.flags mv.after (machine m s) x) e mv.does in
           let t = turned code m s low_now untaken running_now len i (step_of_insn i) mv.next (shown i) at range may (λ k. shaped.words (place s.base k)) sizes is in
           let no : closes code (planned code s).kind s.control.pc ≡ false = ap (λ k. closes code k s.control.pc) t.kind ∙ (ap fetched_ends at ∙ not_ending h.side n start h.flags mv.after (machine m s) (shown i) does) in
