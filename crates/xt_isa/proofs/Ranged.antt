@@ -7,6 +7,9 @@ use Rattle.xt_isa.specs.declared.system.System.TheVariants as system
 use Rattle.xt_isa.specs.declared.system.SpecialName.TheVariants as special
 use Rattle.xt_isa.specs.declared.Insn.TheVariants as insn
 use Rattle.xt_isa.specs.declared.shift.Shift.TheVariants as shift
+use Rattle.xt_isa.specs.declared.boolean.Boolean.TheVariants as boolean
+use Rattle.xt_isa.specs.declared.boolean.FourName.{FourName}
+use Rattle.xt_isa.specs.declared.boolean.EightName.{EightName}
 use Rattle.xt_isa.specs.declared.Insn.{Insn}
 use Rattle.xt_isa.specs.declared.Fields.{Fields}
 use Rattle.xt_isa.specs.Apart.{AllRows}
@@ -249,6 +252,16 @@ narrow_beqz w n = and_from _ _ (single w n) (natural_low 63 _ (omega arith))
 narrow_break : (w : Fields) → AreNibbles w → natural_within 0 15 (pos w.s) ≡ true
 narrow_break w n = natural_low 15 _ (omega arith)
 
+-- four or eight Boolean registers from a multiple of 4 or 8
+four : {name : FourName} (w : Fields) → AreNibbles w → holds (cond (eqb (w.s % 4) 0) (Some (insn.Boolean (boolean.Any4 name w.t w.s))) None) ≡ true
+four {name = name} w n = guarded (eqb (w.s % 4) 0) (insn.Boolean (boolean.Any4 name w.t w.s)) (λ h. and_from _ _ (pair_ts w n) h)
+
+eight_registers : {name : EightName} (w : Fields) → AreNibbles w → holds (cond (eqb (w.s % 8) 0) (Some (insn.Boolean (boolean.Any8 name w.t w.s))) None) ≡ true
+eight_registers {name = name} w n = guarded (eqb (w.s % 8) 0) (insn.Boolean (boolean.Any8 name w.t w.s)) (λ h. and_from _ _ (pair_ts w n) h)
+
+test : (w : Fields) → AreNibbles w → (one_register w.s && signed_within 128 (signed 128 (imm8 w))) ≡ true
+test w n = and_from _ _ (single w n) (signed_ok 128 _ (omega arith) (omega arith))
+
 rows_ranged : AllRows Ranged all_rows
 unfolding all_rows
 rows_ranged =
@@ -399,6 +412,20 @@ rows_ranged =
     (λ w n. refl) ▸  -- NOP.N
     (λ w n. refl) ▸  -- ILL.N
     narrow_break ▸  -- BREAK.N
+    -- Boolean registers
+    three ▸  -- ANDB
+    three ▸  -- ANDBC
+    three ▸  -- ORB
+    three ▸  -- ORBC
+    three ▸  -- XORB
+    four ▸  -- ANY4
+    four ▸  -- ALL4
+    eight_registers ▸  -- ANY8
+    eight_registers ▸  -- ALL8
+    test ▸  -- BF
+    test ▸  -- BT
+    three ▸  -- MOVF
+    three ▸  -- MOVT
     tt
 
 pub all_ranged : (w : Fields) → AreNibbles w → holds (spelled w) ≡ true

@@ -13,6 +13,10 @@ lcount = 2
 abbrev pub sar : ℕ
 sar = 3
 
+-- the sixteen Boolean registers: b0 is bit 0
+abbrev pub br : ℕ
+br = 4
+
 abbrev pub scompare1 : ℕ
 scompare1 = 12
 
@@ -81,7 +85,7 @@ threadptr = 231
 -- are is the profile of this machine.
 abbrev pub exchanged_numbers : List ℕ
 exchanged_numbers =
-    lbeg ∷ lend ∷ lcount ∷ sar ∷ scompare1 ∷ windowbase ∷ windowstart
+    lbeg ∷ lend ∷ lcount ∷ sar ∷ br ∷ scompare1 ∷ windowbase ∷ windowstart
     ∷ epc 1 ∷ epc 2 ∷ epc 3 ∷ epc 4 ∷ epc 5 ∷ epc 6 ∷ epc 7 ∷ depc
     ∷ eps 2 ∷ eps 3 ∷ eps 4 ∷ eps 5 ∷ eps 6 ∷ eps 7
     ∷ excsave 1 ∷ excsave 2 ∷ excsave 3 ∷ excsave 4 ∷ excsave 5 ∷ excsave 6 ∷ excsave 7

@@ -18,6 +18,8 @@ use Rattle.xt_isa.specs.declared.system.System.{System}
 use Rattle.xt_isa.specs.declared.system.System.TheVariants as system
 use Rattle.xt_isa.specs.declared.density.Density.{Density}
 use Rattle.xt_isa.specs.declared.density.Density.TheVariants as density
+use Rattle.xt_isa.specs.declared.boolean.Boolean.{Boolean}
+use Rattle.xt_isa.specs.declared.boolean.Boolean.TheVariants as boolean
 use Rattle.xt_isa.specs.declared.system.BreakName.TheVariants.{Break, Syscall}
 use Rattle.xt_isa.specs.declared.system.LevelName.TheVariants.{Rsil, Waiti}
 use Rattle.xt_isa.specs.declared.system.SpecialName.TheVariants.{Rsr, Wsr, Xsr}
@@ -176,6 +178,13 @@ density_in_range (density.Mov t s) = two_registers t s
 density_in_range (density.Ret name) = true
 density_in_range (density.Break n) = natural_within 0 15 n
 
+abbrev pub boolean_in_range : Boolean → Bool
+boolean_in_range (boolean.Andb name r s t) = three_registers r s t
+boolean_in_range (boolean.Any4 name t s) = two_registers t s && s % 4 == 0
+boolean_in_range (boolean.Any8 name t s) = two_registers t s && s % 8 == 0
+boolean_in_range (boolean.Bf name s off) = one_register s && signed_within 128 off
+boolean_in_range (boolean.Movf name r s t) = three_registers r s t
+
 -- each operand is in its row's range
 abbrev pub in_range : Insn → Bool
 in_range (insn.Three i) = three_in_range i
@@ -184,6 +193,7 @@ in_range (insn.Memory i) = memory_in_range i
 in_range (insn.Control i) = control_in_range i
 in_range (insn.System i) = system_in_range i
 in_range (insn.Density i) = density_in_range i
+in_range (insn.Boolean i) = boolean_in_range i
 
 -- ---- What a spelling is.
 abbrev pub AreNibbles : Fields → Type 0

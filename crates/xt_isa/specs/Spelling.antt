@@ -20,6 +20,7 @@ use Rattle.xt_isa.specs.declared.memory.Memory.TheVariants as memory
 use Rattle.xt_isa.specs.declared.control.Control.TheVariants as control
 use Rattle.xt_isa.specs.declared.system.System.TheVariants as system
 use Rattle.xt_isa.specs.declared.density.Density.TheVariants as density
+use Rattle.xt_isa.specs.declared.boolean.Boolean.TheVariants as boolean
 use Rattle.xt_isa.specs.declared.three.AndName.TheVariants as AndName
 use Rattle.xt_isa.specs.declared.three.AddName.TheVariants as AddName
 use Rattle.xt_isa.specs.declared.three.SubName.TheVariants as SubName
@@ -58,6 +59,11 @@ use Rattle.xt_isa.specs.declared.system.UserName.TheVariants as UserName
 use Rattle.xt_isa.specs.declared.density.NarrowName.TheVariants as NarrowName
 use Rattle.xt_isa.specs.declared.density.NarrowZeroName.TheVariants as NarrowZeroName
 use Rattle.xt_isa.specs.declared.density.NarrowRetName.TheVariants as NarrowRetName
+use Rattle.xt_isa.specs.declared.boolean.LogicName.TheVariants as LogicName
+use Rattle.xt_isa.specs.declared.boolean.FourName.TheVariants as FourName
+use Rattle.xt_isa.specs.declared.boolean.EightName.TheVariants as EightName
+use Rattle.xt_isa.specs.declared.boolean.TestName.TheVariants as TestName
+use Rattle.xt_isa.specs.declared.boolean.ChoiceName.TheVariants as ChoiceName
 
 -- ---- Numbers that are spread over fields.
 -- five bits: four of one field, and the low bit of another
@@ -398,6 +404,35 @@ density_rows =
     narrow 0x00F0FF 0x00F02D (λ w. Some (insn.Density (density.Break (pos w.s)))) ∷
     []
 
+-- Instructions of Boolean registers. The first of four is a multiple of 4, that of eight of 8;
+-- that other words spell nothing is this project's own choice ('profile').
+abbrev pub boolean_rows : List Row
+boolean_rows =
+    wide 0xFF000F 0x020000 (λ w. Some (insn.Boolean (boolean.Andb LogicName.Andb w.r w.s w.t))) ∷
+    wide 0xFF000F 0x120000 (λ w. Some (insn.Boolean (boolean.Andb LogicName.Andbc w.r w.s w.t))) ∷
+    wide 0xFF000F 0x220000 (λ w. Some (insn.Boolean (boolean.Andb LogicName.Orb w.r w.s w.t))) ∷
+    wide 0xFF000F 0x320000 (λ w. Some (insn.Boolean (boolean.Andb LogicName.Orbc w.r w.s w.t))) ∷
+    wide 0xFF000F 0x420000 (λ w. Some (insn.Boolean (boolean.Andb LogicName.Xorb w.r w.s w.t))) ∷
+    wide 0xFFF00F 0x008000 (λ w. if w.s % 4 == 0
+    then Some (insn.Boolean (boolean.Any4 FourName.Any4 w.t w.s))
+    else None) ∷
+    wide 0xFFF00F 0x009000 (λ w. if w.s % 4 == 0
+    then Some (insn.Boolean (boolean.Any4 FourName.All4 w.t w.s))
+    else None) ∷
+    wide 0xFFF00F 0x00A000 (λ w. if w.s % 8 == 0
+    then Some (insn.Boolean (boolean.Any8 EightName.Any8 w.t w.s))
+    else None) ∷
+    wide 0xFFF00F 0x00B000 (λ w. if w.s % 8 == 0
+    then Some (insn.Boolean (boolean.Any8 EightName.All8 w.t w.s))
+    else None) ∷
+    wide 0x00F0FF 0x000076
+    (λ w. Some (insn.Boolean (boolean.Bf TestName.Bf w.s (signed 128 (imm8 w))))) ∷
+    wide 0x00F0FF 0x001076
+    (λ w. Some (insn.Boolean (boolean.Bf TestName.Bt w.s (signed 128 (imm8 w))))) ∷
+    wide 0xFF000F 0xC30000 (λ w. Some (insn.Boolean (boolean.Movf ChoiceName.Movf w.r w.s w.t))) ∷
+    wide 0xFF000F 0xD30000 (λ w. Some (insn.Boolean (boolean.Movf ChoiceName.Movt w.r w.s w.t))) ∷
+    []
+
 abbrev pub joined : List Row → List Row → List Row
 joined [] rows = rows
 joined (row ∷ more) rows = row ∷ joined more rows
@@ -405,7 +440,8 @@ joined (row ∷ more) rows = row ∷ joined more rows
 unfoldable pub all_rows : List Row
 all_rows =
     joined three_rows
-    (joined shift_rows (joined memory_rows (joined control_rows (joined system_rows density_rows))))
+    (joined shift_rows (joined memory_rows (joined control_rows
+    (joined system_rows (joined density_rows boolean_rows)))))
 
 -- ---- What is spelled.
 -- what six fields spell

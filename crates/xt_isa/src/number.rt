@@ -10,6 +10,9 @@ pub const LCOUNT: u8 = 2;
 
 pub const SAR: u8 = 3;
 
+/// The sixteen Boolean registers: b0 is bit 0.
+pub const BR: u8 = 4;
+
 pub const SCOMPARE1: u8 = 12;
 
 pub const WINDOWBASE: u8 = 72;

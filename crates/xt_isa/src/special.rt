@@ -16,7 +16,7 @@ fn is_in_ranges(n: u8) -> bool
 {
     matches!(
         n,
-        number::LBEG..=number::SAR
+        number::LBEG..=number::BR
             | number::SCOMPARE1
             | number::WINDOWBASE..=number::WINDOWSTART
             | number::EPC1..=number::EPC7

@@ -24,7 +24,7 @@ macro_rules! row_table {
     };
 }
 
-static ROWS: [Row; 141] = row_table! {
+static ROWS: [Row; 154] = row_table! {
     // three registers
     0xFF000F 0x100000 3;
     0xFF000F 0x200000 3;
@@ -172,6 +172,20 @@ static ROWS: [Row; 141] = row_table! {
     0x00FFFF 0x00F03D 2;
     0x00FFFF 0x00F06D 2;
     0x00F0FF 0x00F02D 2;
+    // Boolean registers
+    0xFF000F 0x020000 3;
+    0xFF000F 0x120000 3;
+    0xFF000F 0x220000 3;
+    0xFF000F 0x320000 3;
+    0xFF000F 0x420000 3;
+    0xFFF00F 0x008000 3;
+    0xFFF00F 0x009000 3;
+    0xFFF00F 0x00A000 3;
+    0xFFF00F 0x00B000 3;
+    0x00F0FF 0x000076 3;
+    0x00F0FF 0x001076 3;
+    0xFF000F 0xC30000 3;
+    0xFF000F 0xD30000 3;
 };
 
 #[tactic(auto, unfolding(crate::specs::Spelling::all_rows))]
