@@ -10,6 +10,7 @@ use Rattle.xt_isa.specs.declared.memory.Memory.TheVariants as memory
 use Rattle.xt_isa.specs.declared.control.Control.TheVariants as control
 use Rattle.xt_isa.specs.declared.system.System.TheVariants as system
 use Rattle.xt_isa.specs.declared.density.Density.TheVariants as density
+use Rattle.xt_isa.specs.declared.boolean.Boolean.TheVariants as boolean
 use Rattle.xt_isa.specs.declared.system.BreakName.TheVariants.{Break, Syscall}
 use Rattle.xt_isa.specs.declared.system.LevelName.TheVariants.{Rsil, Waiti}
 use Rattle.xt_isa.specs.declared.system.SpecialName.TheVariants.{Rsr, Wsr, Xsr}
@@ -183,3 +184,8 @@ in_range_fits (insn.Density (density.Beqz name s off)) h = natural_near 0 63 off
 in_range_fits (insn.Density (density.Mov t s)) h = refl
 in_range_fits (insn.Density (density.Ret name)) h = refl
 in_range_fits (insn.Density (density.Break n)) h = natural_word 0 15 n (omega arith) h
+in_range_fits (insn.Boolean (boolean.Andb name r s t)) h = refl
+in_range_fits (insn.Boolean (boolean.Any4 name t s)) h = refl
+in_range_fits (insn.Boolean (boolean.Any8 name t s)) h = refl
+in_range_fits (insn.Boolean (boolean.Bf name s off)) h = signed_near 128 off (omega arith) (and_parts (one_register s) (signed_within 128 off) h).1
+in_range_fits (insn.Boolean (boolean.Movf name r s t)) h = refl

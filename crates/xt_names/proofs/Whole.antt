@@ -9,6 +9,7 @@ use Rattle.xt_isa.specs.declared.memory.Memory.TheVariants as memory
 use Rattle.xt_isa.specs.declared.control.Control.TheVariants as control
 use Rattle.xt_isa.specs.declared.system.System.TheVariants as system
 use Rattle.xt_isa.specs.declared.density.Density.TheVariants as density
+use Rattle.xt_isa.specs.declared.boolean.Boolean.TheVariants as boolean
 use Rattle.xt_isa.specs.declared.system.BreakName.TheVariants.{Break, Syscall}
 use Rattle.xt_isa.specs.declared.system.LevelName.TheVariants.{Rsil, Waiti}
 use Rattle.xt_isa.specs.Ranges.{natural_within}
@@ -87,3 +88,8 @@ whole (insn.Density (density.Beqz name s d)) h = refl
 whole (insn.Density (density.Mov t s)) h = refl
 whole (insn.Density (density.Ret name)) h = refl
 whole (insn.Density (density.Break n)) h = refl
+whole (insn.Boolean (boolean.Andb name r s t)) h = refl
+whole (insn.Boolean (boolean.Any4 name t s)) h = refl
+whole (insn.Boolean (boolean.Any8 name t s)) h = refl
+whole (insn.Boolean (boolean.Bf name s d)) h = refl
+whole (insn.Boolean (boolean.Movf name r s t)) h = refl

@@ -25,7 +25,13 @@ use Rattle.xt_names.specs.declared.mnemonic.TwoAndNumber.TheVariants as two_numb
 unfoldable pub shapes_of : Mnemonic → List Shape
 shapes_of (mnemonic.Nothing m) = []
 shapes_of (mnemonic.One m) = shape.Register ∷ []
+shapes_of (mnemonic.Two (two.Any4 name)) = shape.Boolean ∷ shape.Boolean ∷ []
+shapes_of (mnemonic.Two (two.Any8 name)) = shape.Boolean ∷ shape.Boolean ∷ []
 shapes_of (mnemonic.Two m) = shape.Register ∷ shape.Register ∷ []
+shapes_of (mnemonic.Three (triple.Andb name)) =
+    shape.Boolean ∷ shape.Boolean ∷ shape.Boolean ∷ []
+shapes_of (mnemonic.Three (triple.Movf name)) =
+    shape.Register ∷ shape.Register ∷ shape.Boolean ∷ []
 shapes_of (mnemonic.Three m) = shape.Register ∷ shape.Register ∷ shape.Register ∷ []
 shapes_of (mnemonic.Number m) = shape.Value ∷ []
 shapes_of mnemonic.Break = shape.Value ∷ shape.Value ∷ []
@@ -37,6 +43,7 @@ shapes_of (mnemonic.OneAndSpecial (one_special.Rur m)) = shape.Register ∷ shap
 shapes_of mnemonic.Jump = shape.Value ∷ []
 shapes_of (mnemonic.Call m) = shape.Value ∷ []
 shapes_of mnemonic.Literal = shape.Register ∷ shape.Literal ∷ []
+shapes_of (mnemonic.OneAndTarget (one_target.Bf name)) = shape.Boolean ∷ shape.Value ∷ []
 shapes_of (mnemonic.OneAndTarget m) = shape.Register ∷ shape.Value ∷ []
 shapes_of (mnemonic.OneNumberAndTarget m) = shape.Register ∷ shape.Value ∷ shape.Value ∷ []
 shapes_of (mnemonic.TwoAndTarget m) = shape.Register ∷ shape.Register ∷ shape.Value ∷ []

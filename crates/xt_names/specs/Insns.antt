@@ -11,6 +11,7 @@ use Rattle.xt_isa.specs.declared.memory.Memory.TheVariants as memory
 use Rattle.xt_isa.specs.declared.control.Control.TheVariants as control
 use Rattle.xt_isa.specs.declared.system.System.TheVariants as system
 use Rattle.xt_isa.specs.declared.density.Density.TheVariants as density
+use Rattle.xt_isa.specs.declared.boolean.Boolean.TheVariants as boolean
 use Rattle.xt_isa.specs.declared.three.AndName.TheVariants as AndName
 use Rattle.xt_isa.specs.declared.system.BreakName.TheVariants as BreakName
 use Rattle.xt_isa.specs.declared.system.LevelName.TheVariants as LevelName
@@ -61,6 +62,8 @@ of_two (two.Nsa name) t s = insn.Shift (shift.Nsa name t s)
 of_two two.Movsp t s = insn.Shift (shift.Movsp t s)
 of_two two.Mov r s = insn.Three (three.And AndName.Or r s s)
 of_two two.MovNarrow t s = insn.Density (density.Mov t s)
+of_two (two.Any4 name) t s = insn.Boolean (boolean.Any4 name t s)
+of_two (two.Any8 name) t s = insn.Boolean (boolean.Any8 name t s)
 
 abbrev pub of_three : Three → ℕ → ℕ → ℕ → Insn
 of_three (triple.And name) r s t = insn.Three (three.And name r s t)
@@ -74,6 +77,8 @@ of_three (triple.Quou name) r s t = insn.Three (three.Quou name r s t)
 of_three (triple.Min name) r s t = insn.Three (three.Min name r s t)
 of_three (triple.Moveqz name) r s t = insn.Three (three.Moveqz name r s t)
 of_three triple.AddNarrow r s t = insn.Density (density.Add r s t)
+of_three (triple.Andb name) r s t = insn.Boolean (boolean.Andb name r s t)
+of_three (triple.Movf name) r s t = insn.Boolean (boolean.Movf name r s t)
 
 abbrev pub of_number : Number → ℤ → Insn
 of_number numeric.Ssai n = insn.Shift (shift.Ssai n)
@@ -96,6 +101,7 @@ abbrev pub of_one_and_target : OneAndTarget → ℕ → ℤ → Insn
 of_one_and_target (one_target.Beqz name) s d = insn.Control (control.Beqz name s d)
 of_one_and_target (one_target.Loop name) s d = insn.Control (control.Loop name s d)
 of_one_and_target (one_target.BeqzNarrow name) s d = insn.Density (density.Beqz name s d)
+of_one_and_target (one_target.Bf name) s d = insn.Boolean (boolean.Bf name s d)
 
 abbrev pub of_one_number_and_target : OneNumberAndTarget → ℕ → ℤ → ℤ → Insn
 of_one_number_and_target (one_number_target.Beqi name) s n d =

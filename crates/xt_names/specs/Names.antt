@@ -41,6 +41,11 @@ use Rattle.xt_isa.specs.declared.system.UserName.TheVariants as UserName
 use Rattle.xt_isa.specs.declared.density.NarrowName.TheVariants as NarrowName
 use Rattle.xt_isa.specs.declared.density.NarrowZeroName.TheVariants as NarrowZeroName
 use Rattle.xt_isa.specs.declared.density.NarrowRetName.TheVariants as NarrowRetName
+use Rattle.xt_isa.specs.declared.boolean.LogicName.TheVariants as LogicName
+use Rattle.xt_isa.specs.declared.boolean.FourName.TheVariants as FourName
+use Rattle.xt_isa.specs.declared.boolean.EightName.TheVariants as EightName
+use Rattle.xt_isa.specs.declared.boolean.TestName.TheVariants as TestName
+use Rattle.xt_isa.specs.declared.boolean.ChoiceName.TheVariants as ChoiceName
 use Rattle.xt_names.specs.declared.mnemonic.Mnemonic.{Mnemonic}
 use Rattle.xt_names.specs.declared.mnemonic.Mnemonic.TheVariants as mnemonic
 use Rattle.xt_names.specs.declared.mnemonic.Plain.{Plain}
@@ -115,6 +120,10 @@ two_name (two.Nsa NsaName.Nsau) = codes "nsau"
 two_name two.Movsp = codes "movsp"
 two_name two.Mov = codes "mov"
 two_name two.MovNarrow = codes "mov.n"
+two_name (two.Any4 FourName.Any4) = codes "any4"
+two_name (two.Any4 FourName.All4) = codes "all4"
+two_name (two.Any8 EightName.Any8) = codes "any8"
+two_name (two.Any8 EightName.All8) = codes "all8"
 
 -- three registers
 unfoldable pub three_name : Three → List ℕ
@@ -148,6 +157,13 @@ three_name (triple.Moveqz MoveName.Movnez) = codes "movnez"
 three_name (triple.Moveqz MoveName.Movltz) = codes "movltz"
 three_name (triple.Moveqz MoveName.Movgez) = codes "movgez"
 three_name triple.AddNarrow = codes "add.n"
+three_name (triple.Andb LogicName.Andb) = codes "andb"
+three_name (triple.Andb LogicName.Andbc) = codes "andbc"
+three_name (triple.Andb LogicName.Orb) = codes "orb"
+three_name (triple.Andb LogicName.Orbc) = codes "orbc"
+three_name (triple.Andb LogicName.Xorb) = codes "xorb"
+three_name (triple.Movf ChoiceName.Movf) = codes "movf"
+three_name (triple.Movf ChoiceName.Movt) = codes "movt"
 
 -- a number
 unfoldable pub number_name : Number → List ℕ
@@ -183,6 +199,8 @@ one_and_target_name (one_target.Loop LoopName.Loopnez) = codes "loopnez"
 one_and_target_name (one_target.Loop LoopName.Loopgtz) = codes "loopgtz"
 one_and_target_name (one_target.BeqzNarrow NarrowZeroName.Beqz) = codes "beqz.n"
 one_and_target_name (one_target.BeqzNarrow NarrowZeroName.Bnez) = codes "bnez.n"
+one_and_target_name (one_target.Bf TestName.Bf) = codes "bf"
+one_and_target_name (one_target.Bf TestName.Bt) = codes "bt"
 
 -- a register, a number and a target
 unfoldable pub one_number_and_target_name : OneNumberAndTarget → List ℕ
@@ -275,7 +293,13 @@ mnemonics =
     mnemonic.Three (triple.Add AddName.Addx2) ∷
     mnemonic.Three (triple.Add AddName.Addx4) ∷
     mnemonic.Three (triple.Add AddName.Addx8) ∷
+    mnemonic.Two (two.Any4 FourName.All4) ∷
+    mnemonic.Two (two.Any8 EightName.All8) ∷
     mnemonic.Three (triple.And AndName.And) ∷
+    mnemonic.Three (triple.Andb LogicName.Andb) ∷
+    mnemonic.Three (triple.Andb LogicName.Andbc) ∷
+    mnemonic.Two (two.Any4 FourName.Any4) ∷
+    mnemonic.Two (two.Any8 EightName.Any8) ∷
     mnemonic.TwoAndTarget (two_target.Bnone BranchName.Ball) ∷
     mnemonic.TwoAndTarget (two_target.Bany OppositeName.Bany) ∷
     mnemonic.TwoAndTarget (two_target.Bnone BranchName.Bbc) ∷
@@ -286,6 +310,7 @@ mnemonics =
     mnemonic.OneNumberAndTarget (one_number_target.Beqi ConstName.Beqi) ∷
     mnemonic.OneAndTarget (one_target.Beqz ZeroName.Beqz) ∷
     mnemonic.OneAndTarget (one_target.BeqzNarrow NarrowZeroName.Beqz) ∷
+    mnemonic.OneAndTarget (one_target.Bf TestName.Bf) ∷
     mnemonic.TwoAndTarget (two_target.Bany OppositeName.Bge) ∷
     mnemonic.OneNumberAndTarget (one_number_target.Beqi ConstName.Bgei) ∷
     mnemonic.TwoAndTarget (two_target.Bany OppositeName.Bgeu) ∷
@@ -304,6 +329,7 @@ mnemonics =
     mnemonic.TwoAndTarget (two_target.Bnone BranchName.Bnone) ∷
     mnemonic.Break ∷
     mnemonic.Number numeric.BreakNarrow ∷
+    mnemonic.OneAndTarget (one_target.Bf TestName.Bt) ∷
     mnemonic.Call calls.Call0 ∷
     mnemonic.Call calls.Call12 ∷
     mnemonic.Call calls.Call4 ∷
@@ -343,12 +369,14 @@ mnemonics =
     mnemonic.Two two.Mov ∷
     mnemonic.Two two.MovNarrow ∷
     mnemonic.Three (triple.Moveqz MoveName.Moveqz) ∷
+    mnemonic.Three (triple.Movf ChoiceName.Movf) ∷
     mnemonic.Three (triple.Moveqz MoveName.Movgez) ∷
     mnemonic.OneAndNumber one_number.Movi ∷
     mnemonic.OneAndNumber one_number.MoviNarrow ∷
     mnemonic.Three (triple.Moveqz MoveName.Movltz) ∷
     mnemonic.Three (triple.Moveqz MoveName.Movnez) ∷
     mnemonic.Two two.Movsp ∷
+    mnemonic.Three (triple.Movf ChoiceName.Movt) ∷
     mnemonic.Three (triple.Mul16u Mul16Name.Mul16s) ∷
     mnemonic.Three (triple.Mul16u Mul16Name.Mul16u) ∷
     mnemonic.Three triple.Mull ∷
@@ -360,6 +388,8 @@ mnemonics =
     mnemonic.Two (two.Nsa NsaName.Nsa) ∷
     mnemonic.Two (two.Nsa NsaName.Nsau) ∷
     mnemonic.Three (triple.And AndName.Or) ∷
+    mnemonic.Three (triple.Andb LogicName.Orb) ∷
+    mnemonic.Three (triple.Andb LogicName.Orbc) ∷
     mnemonic.Three (triple.Quou DivideName.Quos) ∷
     mnemonic.Three (triple.Quou DivideName.Quou) ∷
     mnemonic.Three (triple.Quou DivideName.Rems) ∷
@@ -407,6 +437,7 @@ mnemonics =
     mnemonic.OneAndSpecial (one_special.Rsr SpecialName.Wsr) ∷
     mnemonic.OneAndSpecial (one_special.Rur UserName.Wur) ∷
     mnemonic.Three (triple.And AndName.Xor) ∷
+    mnemonic.Three (triple.Andb LogicName.Xorb) ∷
     mnemonic.OneAndSpecial (one_special.Rsr SpecialName.Xsr) ∷
     []
 

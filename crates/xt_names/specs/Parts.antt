@@ -15,6 +15,8 @@ use Rattle.xt_isa.specs.declared.system.System.{System}
 use Rattle.xt_isa.specs.declared.system.System.TheVariants as system
 use Rattle.xt_isa.specs.declared.density.Density.{Density}
 use Rattle.xt_isa.specs.declared.density.Density.TheVariants as density
+use Rattle.xt_isa.specs.declared.boolean.Boolean.{Boolean}
+use Rattle.xt_isa.specs.declared.boolean.Boolean.TheVariants as boolean
 use Rattle.xt_isa.specs.declared.system.BreakName.TheVariants.{Break, Syscall}
 use Rattle.xt_isa.specs.declared.system.LevelName.TheVariants.{Rsil, Waiti}
 use Rattle.xt_names.specs.declared.mnemonic.Mnemonic.{Mnemonic}
@@ -137,6 +139,14 @@ density_parts (density.Mov t s) = parts.Two two.MovNarrow (t, s)
 density_parts (density.Ret name) = parts.Nothing (plain.RetNarrow name)
 density_parts (density.Break n) = parts.Number numeric.BreakNarrow n
 
+-- the instructions of Boolean registers
+abbrev pub boolean_parts : Boolean → Parts
+boolean_parts (boolean.Andb name r s t) = parts.Three (triple.Andb name) (r, s, t)
+boolean_parts (boolean.Any4 name t s) = parts.Two (two.Any4 name) (t, s)
+boolean_parts (boolean.Any8 name t s) = parts.Two (two.Any8 name) (t, s)
+boolean_parts (boolean.Bf name s d) = parts.OneAndTarget (one_target.Bf name) (s, d)
+boolean_parts (boolean.Movf name r s t) = parts.Three (triple.Movf name) (r, s, t)
+
 -- the parts of an instruction
 abbrev pub parts_of : Insn → Parts
 parts_of (insn.Three i) = three_parts i
@@ -145,3 +155,4 @@ parts_of (insn.Memory i) = memory_parts i
 parts_of (insn.Control i) = control_parts i
 parts_of (insn.System i) = system_parts i
 parts_of (insn.Density i) = density_parts i
+parts_of (insn.Boolean i) = boolean_parts i

@@ -14,7 +14,7 @@ use Rattle.xt_names.specs.declared.forms.Access.TheVariants.{Read, Write, Exchan
 unfoldable pub exchanged_names : List (List ℕ × ℕ)
 exchanged_names =
     (codes "lbeg", number.lbeg) ∷ (codes "lend", number.lend) ∷ (codes "lcount", number.lcount)
-    ∷ (codes "sar", number.sar) ∷ (codes "scompare1", number.scompare1)
+    ∷ (codes "sar", number.sar) ∷ (codes "br", number.br) ∷ (codes "scompare1", number.scompare1)
     ∷ (codes "windowbase", number.windowbase) ∷ (codes "windowstart", number.windowstart)
     ∷ (codes "epc1", number.epc 1) ∷ (codes "epc2", number.epc 2) ∷ (codes "epc3", number.epc 3)
     ∷ (codes "epc4", number.epc 4) ∷ (codes "epc5", number.epc 5) ∷ (codes "epc6", number.epc 6)

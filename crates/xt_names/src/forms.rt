@@ -26,6 +26,8 @@ pub enum Access {
 pub enum Shape {
     /// A register.
     Register,
+    /// A Boolean register.
+    Boolean,
     /// A number, or the address of a target.
     Value,
     /// The address of a literal.
@@ -44,10 +46,14 @@ pub fn shapes_of(mnemonic: Mnemonic) -> &'static [Shape]
     match mnemonic {
         Mnemonic::Nothing(_) => &[],
         Mnemonic::One(_) => &[Shape::Register],
+        Mnemonic::Two(Two::Any4(_) | Two::Any8(_)) => &[Shape::Boolean, Shape::Boolean],
         Mnemonic::Two(_) => &[Shape::Register, Shape::Register],
+        Mnemonic::Three(Three::Andb(_)) => &[Shape::Boolean, Shape::Boolean, Shape::Boolean],
+        Mnemonic::Three(Three::Movf(_)) => &[Shape::Register, Shape::Register, Shape::Boolean],
         Mnemonic::Three(_) => &[Shape::Register, Shape::Register, Shape::Register],
         Mnemonic::Number(_) | Mnemonic::Jump | Mnemonic::Call(_) => &[Shape::Value],
         Mnemonic::Break => &[Shape::Value, Shape::Value],
+        Mnemonic::OneAndTarget(OneAndTarget::Bf(_)) => &[Shape::Boolean, Shape::Value],
         Mnemonic::OneAndNumber(_) | Mnemonic::OneAndTarget(_) => &[Shape::Register, Shape::Value],
         Mnemonic::TwoAndNumber(_) | Mnemonic::TwoAndTarget(_) => {
             &[Shape::Register, Shape::Register, Shape::Value]

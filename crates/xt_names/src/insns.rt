@@ -10,6 +10,7 @@ use crate::mnemonic::{
     TwoAndNumber, TwoAndTarget,
 };
 use crate::parts::Parts;
+use xt_isa::boolean::Boolean;
 use xt_isa::control::Control;
 use xt_isa::density::Density;
 use xt_isa::memory::Memory;
@@ -56,6 +57,8 @@ fn of_two(name: Two, a: u8, b: u8) -> Insn
         Two::Movsp => Insn::Shift(Shift::Movsp(a, b)),
         Two::Mov => Insn::Three(three::Three::And(AndName::Or, a, b, b)),
         Two::MovNarrow => Insn::Density(Density::Mov(a, b)),
+        Two::Any4(name) => Insn::Boolean(Boolean::Any4(name, a, b)),
+        Two::Any8(name) => Insn::Boolean(Boolean::Any8(name, a, b)),
     }
 }
 
@@ -75,6 +78,8 @@ fn of_three(name: Three, r: u8, s: u8, t: u8) -> Insn
         Three::Min(name) => Insn::Three(three::Three::Min(name, r, s, t)),
         Three::Moveqz(name) => Insn::Three(three::Three::Moveqz(name, r, s, t)),
         Three::AddNarrow => Insn::Density(Density::Add(r, s, t)),
+        Three::Andb(name) => Insn::Boolean(Boolean::Andb(name, r, s, t)),
+        Three::Movf(name) => Insn::Boolean(Boolean::Movf(name, r, s, t)),
     }
 }
 
@@ -121,6 +126,7 @@ fn of_one_and_target(name: OneAndTarget, s: u8, offset: i32) -> Insn
         OneAndTarget::Beqz(name) => Insn::Control(Control::Beqz(name, s, offset)),
         OneAndTarget::Loop(name) => Insn::Control(Control::Loop(name, s, offset)),
         OneAndTarget::BeqzNarrow(name) => Insn::Density(Density::Beqz(name, s, offset)),
+        OneAndTarget::Bf(name) => Insn::Boolean(Boolean::Bf(name, s, offset)),
     }
 }
 

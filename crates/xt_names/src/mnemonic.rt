@@ -1,5 +1,6 @@
 //! The mnemonics as values, by the form of the operands.
 
+use xt_isa::boolean::{ChoiceName, EightName, FourName, LogicName, TestName};
 use xt_isa::control::{
     BitName, BranchName, CallName, CallxName, ConstName, ConstuName, LoopName, OppositeName,
     RetName, ZeroName,
@@ -69,7 +70,7 @@ pub enum One {
     Callx0(CallxName),
 }
 
-/// The instructions of two registers. `Mov` is OR with one source twice.
+/// The instructions of two registers. `Mov` is OR with one source twice; `Any4` and `Any8` name Boolean registers.
 #[derive(Clone, Copy)]
 pub enum Two {
     Neg(NegName),
@@ -79,9 +80,11 @@ pub enum Two {
     Movsp,
     Mov,
     MovNarrow,
+    Any4(FourName),
+    Any8(EightName),
 }
 
-/// The instructions of three registers.
+/// The instructions of three registers. `Andb` names Boolean registers, and `Movf` has one as its third.
 #[derive(Clone, Copy)]
 pub enum Three {
     And(AndName),
@@ -95,6 +98,8 @@ pub enum Three {
     Min(MinName),
     Moveqz(MoveName),
     AddNarrow,
+    Andb(LogicName),
+    Movf(ChoiceName),
 }
 
 /// The instructions of a number.
@@ -123,12 +128,13 @@ pub enum OneAndSpecial {
     Rur(UserName),
 }
 
-/// The instructions of a register and a target.
+/// The instructions of a register and a target. `Bf` names a Boolean register.
 #[derive(Clone, Copy)]
 pub enum OneAndTarget {
     Beqz(ZeroName),
     Loop(LoopName),
     BeqzNarrow(NarrowZeroName),
+    Bf(TestName),
 }
 
 /// The instructions of a register, a number and a target.

@@ -7,6 +7,7 @@ use crate::mnemonic::{
     Mnemonic, Number, One, OneAndNumber, OneAndSpecial, OneAndTarget, OneNumberAndTarget, Plain,
     Three, Two, TwoAndNumber, TwoAndTarget,
 };
+use xt_isa::boolean::{ChoiceName, EightName, FourName, LogicName, TestName};
 use xt_isa::control::{
     BitName, BranchName, CallName, CallxName, ConstName, ConstuName, LoopName, OppositeName,
     RetName, ZeroName,
@@ -79,6 +80,10 @@ fn two_name(mnemonic: Two) -> &'static str
         Two::Movsp => "movsp",
         Two::Mov => "mov",
         Two::MovNarrow => "mov.n",
+        Two::Any4(FourName::Any4) => "any4",
+        Two::Any4(FourName::All4) => "all4",
+        Two::Any8(EightName::Any8) => "any8",
+        Two::Any8(EightName::All8) => "all8",
     }
 }
 
@@ -117,6 +122,13 @@ fn three_name(mnemonic: Three) -> &'static str
         Three::Moveqz(MoveName::Movltz) => "movltz",
         Three::Moveqz(MoveName::Movgez) => "movgez",
         Three::AddNarrow => "add.n",
+        Three::Andb(LogicName::Andb) => "andb",
+        Three::Andb(LogicName::Andbc) => "andbc",
+        Three::Andb(LogicName::Orb) => "orb",
+        Three::Andb(LogicName::Orbc) => "orbc",
+        Three::Andb(LogicName::Xorb) => "xorb",
+        Three::Movf(ChoiceName::Movf) => "movf",
+        Three::Movf(ChoiceName::Movt) => "movt",
     }
 }
 
@@ -172,6 +184,8 @@ fn one_and_target_name(mnemonic: OneAndTarget) -> &'static str
         OneAndTarget::Loop(LoopName::Loopgtz) => "loopgtz",
         OneAndTarget::BeqzNarrow(NarrowZeroName::Beqz) => "beqz.n",
         OneAndTarget::BeqzNarrow(NarrowZeroName::Bnez) => "bnez.n",
+        OneAndTarget::Bf(TestName::Bf) => "bf",
+        OneAndTarget::Bf(TestName::Bt) => "bt",
     }
 }
 

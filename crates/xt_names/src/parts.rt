@@ -1,12 +1,13 @@
 //! An instruction as its mnemonic and its operands.
 
 ghost use Rattle.std.specs.Prelude.{◌≡◌};
-ghost use Rattle.xt_names.specs.Parts.{control_parts, density_parts, memory_parts, mnemonic_in, parts_of, shift_parts, system_parts, three_parts};
+ghost use Rattle.xt_names.specs.Parts.{boolean_parts, control_parts, density_parts, memory_parts, mnemonic_in, parts_of, shift_parts, system_parts, three_parts};
 
 use crate::mnemonic::{
     Mnemonic, Number, One, OneAndNumber, OneAndSpecial, OneAndTarget, OneNumberAndTarget, Plain,
     Three, Two, TwoAndNumber, TwoAndTarget,
 };
+use xt_isa::boolean::Boolean;
 use xt_isa::control::{CallName, Control};
 use xt_isa::density::Density;
 use xt_isa::memory::Memory;
@@ -192,6 +193,18 @@ fn density_parts(i: Density) -> Parts
     }
 }
 
+fn boolean_parts(i: Boolean) -> Parts
+    ensures { result ≡ boolean_parts i }
+{
+    match i {
+        Boolean::Andb(name, r, s, t) => Parts::Three(Three::Andb(name), (r, s, t)),
+        Boolean::Any4(name, t, s) => Parts::Two(Two::Any4(name), (t, s)),
+        Boolean::Any8(name, t, s) => Parts::Two(Two::Any8(name), (t, s)),
+        Boolean::Bf(name, s, d) => Parts::OneAndTarget(OneAndTarget::Bf(name), (s, d)),
+        Boolean::Movf(name, r, s, t) => Parts::Three(Three::Movf(name), (r, s, t)),
+    }
+}
+
 /// The mnemonic and the operands of an instruction.
 pub fn parts_of(i: Insn) -> Parts
     ensures { result ≡ parts_of i }
@@ -203,5 +216,6 @@ pub fn parts_of(i: Insn) -> Parts
         Insn::Control(i) => control_parts(i),
         Insn::System(i) => system_parts(i),
         Insn::Density(i) => density_parts(i),
+        Insn::Boolean(i) => boolean_parts(i),
     }
 }

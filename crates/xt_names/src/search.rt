@@ -10,6 +10,7 @@ use crate::mnemonic::{
     Three, Two, TwoAndNumber, TwoAndTarget,
 };
 use crate::names::name_of;
+use xt_isa::boolean::{ChoiceName, EightName, FourName, LogicName, TestName};
 use xt_isa::control::{
     BitName, BranchName, CallName, CallxName, ConstName, ConstuName, LoopName, OppositeName,
     RetName, ZeroName,
@@ -23,7 +24,7 @@ use xt_isa::three::{
 };
 
 /// The mnemonics, in the order of their names.
-static MNEMONICS: [Mnemonic; 142] = [
+static MNEMONICS: [Mnemonic; 155] = [
     Mnemonic::Two(Two::Neg(NegName::Abs)),
     Mnemonic::Three(Three::Add(AddName::Add)),
     Mnemonic::Three(Three::AddNarrow),
@@ -33,7 +34,13 @@ static MNEMONICS: [Mnemonic; 142] = [
     Mnemonic::Three(Three::Add(AddName::Addx2)),
     Mnemonic::Three(Three::Add(AddName::Addx4)),
     Mnemonic::Three(Three::Add(AddName::Addx8)),
+    Mnemonic::Two(Two::Any4(FourName::All4)),
+    Mnemonic::Two(Two::Any8(EightName::All8)),
     Mnemonic::Three(Three::And(AndName::And)),
+    Mnemonic::Three(Three::Andb(LogicName::Andb)),
+    Mnemonic::Three(Three::Andb(LogicName::Andbc)),
+    Mnemonic::Two(Two::Any4(FourName::Any4)),
+    Mnemonic::Two(Two::Any8(EightName::Any8)),
     Mnemonic::TwoAndTarget(TwoAndTarget::Bnone(BranchName::Ball)),
     Mnemonic::TwoAndTarget(TwoAndTarget::Bany(OppositeName::Bany)),
     Mnemonic::TwoAndTarget(TwoAndTarget::Bnone(BranchName::Bbc)),
@@ -44,6 +51,7 @@ static MNEMONICS: [Mnemonic; 142] = [
     Mnemonic::OneNumberAndTarget(OneNumberAndTarget::Beqi(ConstName::Beqi)),
     Mnemonic::OneAndTarget(OneAndTarget::Beqz(ZeroName::Beqz)),
     Mnemonic::OneAndTarget(OneAndTarget::BeqzNarrow(NarrowZeroName::Beqz)),
+    Mnemonic::OneAndTarget(OneAndTarget::Bf(TestName::Bf)),
     Mnemonic::TwoAndTarget(TwoAndTarget::Bany(OppositeName::Bge)),
     Mnemonic::OneNumberAndTarget(OneNumberAndTarget::Beqi(ConstName::Bgei)),
     Mnemonic::TwoAndTarget(TwoAndTarget::Bany(OppositeName::Bgeu)),
@@ -62,6 +70,7 @@ static MNEMONICS: [Mnemonic; 142] = [
     Mnemonic::TwoAndTarget(TwoAndTarget::Bnone(BranchName::Bnone)),
     Mnemonic::Break,
     Mnemonic::Number(Number::BreakNarrow),
+    Mnemonic::OneAndTarget(OneAndTarget::Bf(TestName::Bt)),
     Mnemonic::Call(CallName::Call0),
     Mnemonic::Call(CallName::Call12),
     Mnemonic::Call(CallName::Call4),
@@ -101,12 +110,14 @@ static MNEMONICS: [Mnemonic; 142] = [
     Mnemonic::Two(Two::Mov),
     Mnemonic::Two(Two::MovNarrow),
     Mnemonic::Three(Three::Moveqz(MoveName::Moveqz)),
+    Mnemonic::Three(Three::Movf(ChoiceName::Movf)),
     Mnemonic::Three(Three::Moveqz(MoveName::Movgez)),
     Mnemonic::OneAndNumber(OneAndNumber::Movi),
     Mnemonic::OneAndNumber(OneAndNumber::MoviNarrow),
     Mnemonic::Three(Three::Moveqz(MoveName::Movltz)),
     Mnemonic::Three(Three::Moveqz(MoveName::Movnez)),
     Mnemonic::Two(Two::Movsp),
+    Mnemonic::Three(Three::Movf(ChoiceName::Movt)),
     Mnemonic::Three(Three::Mul16u(Mul16Name::Mul16s)),
     Mnemonic::Three(Three::Mul16u(Mul16Name::Mul16u)),
     Mnemonic::Three(Three::Mull),
@@ -118,6 +129,8 @@ static MNEMONICS: [Mnemonic; 142] = [
     Mnemonic::Two(Two::Nsa(NsaName::Nsa)),
     Mnemonic::Two(Two::Nsa(NsaName::Nsau)),
     Mnemonic::Three(Three::And(AndName::Or)),
+    Mnemonic::Three(Three::Andb(LogicName::Orb)),
+    Mnemonic::Three(Three::Andb(LogicName::Orbc)),
     Mnemonic::Three(Three::Quou(DivideName::Quos)),
     Mnemonic::Three(Three::Quou(DivideName::Quou)),
     Mnemonic::Three(Three::Quou(DivideName::Rems)),
@@ -165,13 +178,14 @@ static MNEMONICS: [Mnemonic; 142] = [
     Mnemonic::OneAndSpecial(OneAndSpecial::Rsr(SpecialName::Wsr)),
     Mnemonic::OneAndSpecial(OneAndSpecial::Rur(UserName::Wur)),
     Mnemonic::Three(Three::And(AndName::Xor)),
+    Mnemonic::Three(Three::Andb(LogicName::Xorb)),
     Mnemonic::OneAndSpecial(OneAndSpecial::Rsr(SpecialName::Xsr)),
 ];
 
 #[tactic(auto, unfolding(crate::specs::Names::mnemonics))]
 fn mnemonics() -> &'static [Mnemonic]
     ensures all { result.now ≡ mnemonics }
-    ensures count { length result.now ≡ 142 }
+    ensures count { length result.now ≡ 155 }
 {
     &MNEMONICS
 }

@@ -24,11 +24,12 @@ macro_rules! specials {
     };
 }
 
-static EXCHANGED: [SpecialWord; 41] = specials! {
+static EXCHANGED: [SpecialWord; 42] = specials! {
     number::LBEG, "lbeg";
     number::LEND, "lend";
     number::LCOUNT, "lcount";
     number::SAR, "sar";
+    number::BR, "br";
     number::SCOMPARE1, "scompare1";
     number::WINDOWBASE, "windowbase";
     number::WINDOWSTART, "windowstart";
