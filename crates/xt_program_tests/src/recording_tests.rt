@@ -21,8 +21,18 @@ pub(crate) const RECORDED: &str =
 /// Core 0 does nothing for all of its turns.
 const IDLE: &str = ".seg 0x400D0000\n.entry main\nmain: movi a2, 1\nl: j l\n";
 
-/// Where the first checkpoint of its recording begins.
+/// The same, with the Boolean registers b1 to b15 set before.
+const IDLE_WITH_BOOLEANS: &str =
+    ".seg 0x400D0000\n.entry main\nmain: movi a2, -2\nwsr a2, br\nl: j l\n";
+
+/// Where the first checkpoint of the recording of either begins.
 const FIRST: usize = 132;
+
+/// Where BR and SAR of core 0 stand in a checkpoint.
+const BR_0: usize = 296;
+
+/// Where BR and SAR of core 1 stand in a checkpoint.
+const BR_1: usize = 740;
 
 /// How many bytes a checkpoint has.
 const SIZE: usize = 353_152;
@@ -92,25 +102,34 @@ fn recording_of_the_letter_a(rt: HostRuntime) -> Result<(), Fail> {
 #[test]
 fn recording_with_checkpoints(rt: HostRuntime) -> Result<(), Fail> {
     let alloc = rt.alloc();
-    let image = image_of(alloc, IDLE).ok_or(AllocError)?;
-    let file = write(alloc, &image)?;
-    let options = "--turns0 300000 --turns1 0";
-    let (status, sink) = answer(&rt, "record", options, file.as_slice())?;
-    assert_eq!(rt; status, Status::Done);
-    let bytes = sink.bytes();
-    assert_eq!(rt; bytes.len(), FIRST + 2 * SIZE);
-    let rows = [
-        (FIRST - 8, [0, 0, 0, 0, 2, 0, 0, 0]),
-        (FIRST, [0, 0, 2, 0, 0, 0, 0, 0]),
-        (FIRST + SIZE, [0, 0, 4, 0, 0, 0, 0, 0]),
+    let programs = [
+        (IDLE, [0, 0, 0, 0, 0, 0, 0, 0]),
+        (IDLE_WITH_BOOLEANS, [0xFE, 0xFF, 0, 0, 0, 0, 0, 0]),
     ];
-    for (place, words) in rows {
-        assert!(rt; stands_at(bytes, place, &words), "{place}");
+    for (program, br) in programs {
+        let image = image_of(alloc, program).ok_or(AllocError)?;
+        let file = write(alloc, &image)?;
+        let options = "--turns0 300000 --turns1 0";
+        let (status, sink) = answer(&rt, "record", options, file.as_slice())?;
+        assert_eq!(rt; status, Status::Done);
+        let bytes = sink.bytes();
+        assert_eq!(rt; bytes.len(), FIRST + 2 * SIZE);
+        let rows = [
+            (FIRST - 8, [0, 0, 0, 0, 2, 0, 0, 0]),
+            (FIRST, [0, 0, 2, 0, 0, 0, 0, 0]),
+            (FIRST + BR_0, br),
+            (FIRST + BR_1, [0, 0, 0, 0, 0, 0, 0, 0]),
+            (FIRST + SIZE, [0, 0, 4, 0, 0, 0, 0, 0]),
+            (FIRST + SIZE + BR_0, br),
+        ];
+        for (place, words) in rows {
+            assert!(rt; stands_at(bytes, place, &words), "{place}");
+        }
+        let (status, _) = answer(&rt, "migrate", "", bytes)?;
+        assert_eq!(rt; status, Status::Done);
+        let wrong = changed(alloc, bytes, FIRST + SIZE + 8, 0xFF)?;
+        let (status, _) = answer(&rt, "migrate", "", &wrong)?;
+        assert_eq!(rt; status, Status::Recording(RecordFault::Checkpoint(1)));
     }
-    let (status, _) = answer(&rt, "migrate", "", bytes)?;
-    assert_eq!(rt; status, Status::Done);
-    let wrong = changed(alloc, bytes, FIRST + SIZE + 8, 0xFF)?;
-    let (status, _) = answer(&rt, "migrate", "", &wrong)?;
-    assert_eq!(rt; status, Status::Recording(RecordFault::Checkpoint(1)));
     Ok(())
 }
