@@ -28,12 +28,6 @@ const IDLE_WITH_BOOLEANS: &str =
 /// Where the first checkpoint of the recording of either begins.
 const FIRST: usize = 132;
 
-/// Where BR and SAR of core 0 stand in a checkpoint.
-const BR_0: usize = 296;
-
-/// Where BR and SAR of core 1 stand in a checkpoint.
-const BR_1: usize = 740;
-
 /// How many bytes a checkpoint has.
 const SIZE: usize = 353_152;
 
@@ -102,34 +96,40 @@ fn recording_of_the_letter_a(rt: HostRuntime) -> Result<(), Fail> {
 #[test]
 fn recording_with_checkpoints(rt: HostRuntime) -> Result<(), Fail> {
     let alloc = rt.alloc();
-    let programs = [
-        (IDLE, [0, 0, 0, 0, 0, 0, 0, 0]),
-        (IDLE_WITH_BOOLEANS, [0xFE, 0xFF, 0, 0, 0, 0, 0, 0]),
+    let image = image_of(alloc, IDLE).ok_or(AllocError)?;
+    let file = write(alloc, &image)?;
+    let options = "--turns0 300000 --turns1 0";
+    let (status, sink) = answer(&rt, "record", options, file.as_slice())?;
+    assert_eq!(rt; status, Status::Done);
+    let bytes = sink.bytes();
+    assert_eq!(rt; bytes.len(), FIRST + 2 * SIZE);
+    let rows = [
+        (FIRST - 8, [0, 0, 0, 0, 2, 0, 0, 0]),
+        (FIRST, [0, 0, 2, 0, 0, 0, 0, 0]),
+        (FIRST + SIZE, [0, 0, 4, 0, 0, 0, 0, 0]),
     ];
-    for (program, br) in programs {
-        let image = image_of(alloc, program).ok_or(AllocError)?;
-        let file = write(alloc, &image)?;
-        let options = "--turns0 300000 --turns1 0";
-        let (status, sink) = answer(&rt, "record", options, file.as_slice())?;
-        assert_eq!(rt; status, Status::Done);
-        let bytes = sink.bytes();
-        assert_eq!(rt; bytes.len(), FIRST + 2 * SIZE);
-        let rows = [
-            (FIRST - 8, [0, 0, 0, 0, 2, 0, 0, 0]),
-            (FIRST, [0, 0, 2, 0, 0, 0, 0, 0]),
-            (FIRST + BR_0, br),
-            (FIRST + BR_1, [0, 0, 0, 0, 0, 0, 0, 0]),
-            (FIRST + SIZE, [0, 0, 4, 0, 0, 0, 0, 0]),
-            (FIRST + SIZE + BR_0, br),
-        ];
-        for (place, words) in rows {
-            assert!(rt; stands_at(bytes, place, &words), "{place}");
-        }
-        let (status, _) = answer(&rt, "migrate", "", bytes)?;
-        assert_eq!(rt; status, Status::Done);
-        let wrong = changed(alloc, bytes, FIRST + SIZE + 8, 0xFF)?;
-        let (status, _) = answer(&rt, "migrate", "", &wrong)?;
-        assert_eq!(rt; status, Status::Recording(RecordFault::Checkpoint(1)));
+    for (place, words) in rows {
+        assert!(rt; stands_at(bytes, place, &words), "{place}");
+    }
+    let (status, _) = answer(&rt, "migrate", "", bytes)?;
+    assert_eq!(rt; status, Status::Done);
+    let wrong = changed(alloc, bytes, FIRST + SIZE + 8, 0xFF)?;
+    let (status, _) = answer(&rt, "migrate", "", &wrong)?;
+    assert_eq!(rt; status, Status::Recording(RecordFault::Checkpoint(1)));
+    let image = image_of(alloc, IDLE_WITH_BOOLEANS).ok_or(AllocError)?;
+    let file = write(alloc, &image)?;
+    let options = "--turns0 131073 --turns1 0";
+    let (status, sink) = answer(&rt, "record", options, file.as_slice())?;
+    assert_eq!(rt; status, Status::Done);
+    let bytes = sink.bytes();
+    assert_eq!(rt; bytes.len(), FIRST + SIZE);
+    // BR and SAR of core 0, and those of core 1
+    let rows = [
+        (FIRST + 296, [0xFE, 0xFF, 0, 0, 0, 0, 0, 0]),
+        (FIRST + 740, [0, 0, 0, 0, 0, 0, 0, 0]),
+    ];
+    for (place, words) in rows {
+        assert!(rt; stands_at(bytes, place, &words), "{place}");
     }
     Ok(())
 }
