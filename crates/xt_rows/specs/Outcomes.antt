@@ -5,8 +5,8 @@
 -- x and y are the values of the registers that the row reads, u and v those of the special
 -- registers, 0 where there is none.
 -- e is the effect of an instruction that changes nothing and goes on to the next one.
-use Rattle.std.specs.Prelude.{ℕ, ◌%◌, ◌^◌, true, false, Option, Some, None, bit_and, bit_or, bit_xor, min}
-use Rattle.std.specs.Prelude.{max}
+use Rattle.std.specs.Prelude.{ℕ, ◌%◌, ◌^◌, true, false, Option, Some, None, bit_and, bit_or}
+use Rattle.std.specs.Prelude.{bit_xor, min, max}
 use Rattle.xt_isa.specs.declared.Insn.{Insn}
 use Rattle.xt_isa.specs.declared.Insn.TheVariants as insn
 use Rattle.xt_isa.specs.declared.three.Three.{Three}
