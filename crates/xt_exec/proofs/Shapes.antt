@@ -203,6 +203,7 @@ amount (insn.Memory i) g h = tt
 amount (insn.Control i) g h = tt
 amount (insn.System i) g h = tt
 amount (insn.Density i) g h = tt
+amount (insn.Boolean i) g h = tt
 
 outcome_shaped : (code : ℕ → ℕ) (i : Insn) (s : State) → AreBytes code → in_range i ≡ true → IsShaped s
     → IsProper (λ n. IsWord n) (outcome_at code i (visible s.regs s.base) s.control)

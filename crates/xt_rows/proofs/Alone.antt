@@ -50,6 +50,13 @@ use Rattle.xt_isa.specs.declared.density.Density.TheVariants as density
 use Rattle.xt_isa.specs.declared.density.NarrowName.TheVariants as NarrowName
 use Rattle.xt_isa.specs.declared.density.NarrowZeroName.TheVariants as NarrowZeroName
 use Rattle.xt_isa.specs.declared.density.NarrowRetName.TheVariants as NarrowRetName
+use Rattle.xt_isa.specs.declared.boolean.Boolean.{Boolean}
+use Rattle.xt_isa.specs.declared.boolean.Boolean.TheVariants as boolean
+use Rattle.xt_isa.specs.declared.boolean.LogicName.TheVariants as LogicName
+use Rattle.xt_isa.specs.declared.boolean.FourName.TheVariants as FourName
+use Rattle.xt_isa.specs.declared.boolean.EightName.TheVariants as EightName
+use Rattle.xt_isa.specs.declared.boolean.TestName.TheVariants as TestName
+use Rattle.xt_isa.specs.declared.boolean.ChoiceName.TheVariants as ChoiceName
 use Rattle.xt_map.specs.declared.access.Access.{Access}
 use Rattle.xt_map.specs.declared.access.Kind.TheVariants.{Load, Store, Cas}
 use Rattle.xt_map.specs.Regions.{is_mapped, is_constant, region_of}
@@ -64,7 +71,7 @@ use Rattle.xt_rows.specs.declared.outcome.Outcome.{Outcome}
 use Rattle.xt_rows.specs.Numbers.{plus, natural, literal_address, call_target}
 use Rattle.xt_rows.specs.Operands.{call_size, callx_size}
 use Rattle.xt_rows.specs.Effects.{unchanged, moves, divides, branches, calls, asks, aligned, loads, stores, swaps, window_register, reads_special, writes_special, exchanges_special}
-use Rattle.xt_rows.specs.Outcomes.{three_outcome, shift_outcome, memory_outcome, control_outcome, system_outcome, density_outcome, outcome, outcome_from}
+use Rattle.xt_rows.specs.Outcomes.{three_outcome, shift_outcome, memory_outcome, control_outcome, system_outcome, density_outcome, boolean_outcome, outcome, outcome_from}
 use Rattle.xt_rows.specs.Laws.{AsksWith}
 
 -- ---- the words of the formulas
@@ -272,6 +279,22 @@ density_alone code (density.Ret NarrowRetName.Nop) pc x y e = tt
 density_alone code (density.Ret NarrowRetName.Ill) pc x y e = tt
 density_alone code (density.Break n) pc x y e = tt
 
+boolean_alone : (i : Boolean) (pc : ℕ) (x : ℕ) (u : ℕ) (e : Effect) → AsksWith e (boolean_outcome i pc x u e)
+unfolding boolean_outcome
+boolean_alone (boolean.Andb LogicName.Andb r s t) pc x u e = tt
+boolean_alone (boolean.Andb LogicName.Andbc r s t) pc x u e = tt
+boolean_alone (boolean.Andb LogicName.Orb r s t) pc x u e = tt
+boolean_alone (boolean.Andb LogicName.Orbc r s t) pc x u e = tt
+boolean_alone (boolean.Andb LogicName.Xorb r s t) pc x u e = tt
+boolean_alone (boolean.Any4 FourName.Any4 t s) pc x u e = tt
+boolean_alone (boolean.Any4 FourName.All4 t s) pc x u e = tt
+boolean_alone (boolean.Any8 EightName.Any8 t s) pc x u e = tt
+boolean_alone (boolean.Any8 EightName.All8 t s) pc x u e = tt
+boolean_alone (boolean.Bf TestName.Bf s offset) pc x u e = branches_alone (holds cond_.BitClear u s) pc offset e
+boolean_alone (boolean.Bf TestName.Bt s offset) pc x u e = branches_alone (holds cond_.BitSet u s) pc offset e
+boolean_alone (boolean.Movf ChoiceName.Movf r s t) pc x u e = moves_alone (holds cond_.BitClear u t) r x e
+boolean_alone (boolean.Movf ChoiceName.Movt r s t) pc x u e = moves_alone (holds cond_.BitSet u t) r x e
+
 from_alone : (code : ℕ → ℕ) (i : Insn) (pc x y u v : ℕ) (e : Effect) → AsksWith e (outcome_from code i pc x y u v e)
 from_alone code (insn.Three i) pc x y u v e = three_alone i x y u e
 from_alone code (insn.Shift i) pc x y u v e = shift_alone i x u e
@@ -279,6 +302,7 @@ from_alone code (insn.Memory i) pc x y u v e = memory_alone code i pc x y u e
 from_alone code (insn.Control i) pc x y u v e = control_alone i pc x y e
 from_alone code (insn.System i) pc x y u v e = system_alone i x u v e
 from_alone code (insn.Density i) pc x y u v e = density_alone code i pc x y e
+from_alone code (insn.Boolean i) pc x y u v e = boolean_alone i pc x u e
 
 pub outcome_alone : (code : ℕ → ℕ) (i : Insn) (pc x y u v : ℕ) (ps : Ps) (threadptr : ℕ)
     → AsksWith (unchanged ps threadptr) (outcome code i pc x y u v ps threadptr)

@@ -12,6 +12,9 @@ use Rattle.xt_word.specs.Words.{sign_extended}
 use Rattle.xt_alu.specs.Signed.{signed, signed_half, word_of}
 use Rattle.xt_alu.specs.Arithmetic.{addx, subx, mul16u, mul16s, mull, muluh, mulsh, quou, quos, remu, rems, signed_min, signed_max, neg, abs, sext, clamps, nsa, nsau}
 use Rattle.xt_alu.specs.Shifts.{src, srl, sra, sll, slli, srai, srli, extui, ssr, ssl, ssa8l, ssa8b}
+use Rattle.xt_bool.specs.declared.BoolOp.{BoolOp}
+use Rattle.xt_bool.specs.Registers.{logic, group}
+use Rattle.xt_bool.proofs.Bits.{written_small}
 use Rattle.xt_fetch.specs.Code.{code_number}
 use Rattle.xt_rows.specs.Numbers.{plus, minus, extended, linked}
 
@@ -226,6 +229,16 @@ ssa8l_small s = omega arith
 pub ssa8b_small : (s : ℕ) → ssa8b s < 2 ^ 6
 unfolding ssa8b
 ssa8b_small s = omega arith
+
+-- ---- Boolean registers
+
+pub logic_small : (name : BoolOp) (b r s t : ℕ) → b < 2 ^ 16 → r < 16 → logic name b r s t < 2 ^ 16
+unfolding logic
+logic_small name b r s t p q = written_small b r _ p q
+
+pub group_small : (all : Bool) (width b t s : ℕ) → b < 2 ^ 16 → t < 16 → group all width b t s < 2 ^ 16
+unfolding group
+group_small all width b t s p q = written_small b t _ p q
 
 -- ---- numbers and addresses
 

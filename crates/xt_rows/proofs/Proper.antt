@@ -52,7 +52,14 @@ use Rattle.xt_isa.specs.declared.density.Density.TheVariants as density
 use Rattle.xt_isa.specs.declared.density.NarrowName.TheVariants as NarrowName
 use Rattle.xt_isa.specs.declared.density.NarrowZeroName.TheVariants as NarrowZeroName
 use Rattle.xt_isa.specs.declared.density.NarrowRetName.TheVariants as NarrowRetName
-use Rattle.xt_isa.specs.Ranges.{one_register, two_registers, three_registers, natural_within, shift_in_range, three_in_range, memory_in_range, control_in_range, system_in_range, density_in_range}
+use Rattle.xt_isa.specs.declared.boolean.Boolean.{Boolean}
+use Rattle.xt_isa.specs.declared.boolean.Boolean.TheVariants as boolean
+use Rattle.xt_isa.specs.declared.boolean.LogicName.TheVariants as LogicName
+use Rattle.xt_isa.specs.declared.boolean.FourName.TheVariants as FourName
+use Rattle.xt_isa.specs.declared.boolean.EightName.TheVariants as EightName
+use Rattle.xt_isa.specs.declared.boolean.TestName.TheVariants as TestName
+use Rattle.xt_isa.specs.declared.boolean.ChoiceName.TheVariants as ChoiceName
+use Rattle.xt_isa.specs.Ranges.{one_register, two_registers, three_registers, natural_within, shift_in_range, three_in_range, memory_in_range, control_in_range, system_in_range, density_in_range, boolean_in_range}
 use Rattle.xt_isa.specs.declared.control.CallName.{CallName}
 use Rattle.xt_isa.specs.declared.control.CallxName.{CallxName}
 use Rattle.xt_map.specs.declared.access.Access.{Access}
@@ -74,10 +81,10 @@ use Rattle.xt_rows.specs.declared.outcome.Outcome.TheVariants.{Does, Raises, Ask
 use Rattle.xt_rows.specs.Numbers.{plus, natural, extended, linked, branch_target, address_behind}
 use Rattle.xt_rows.specs.Operands.{call_size, callx_size}
 use Rattle.xt_rows.specs.Effects.{unchanged, puts, moves, divides, goes, branches, calls, loops, asks, aligned, loads, stores, swaps, window_register, reads_special, writes_special, exchanges_special, write_to}
-use Rattle.xt_rows.specs.Outcomes.{three_outcome, shift_outcome, memory_outcome, control_outcome, system_outcome, density_outcome, outcome, sets_sar}
+use Rattle.xt_rows.specs.Outcomes.{three_outcome, shift_outcome, memory_outcome, control_outcome, system_outcome, density_outcome, boolean_outcome, booleans, outcome, sets_br, sets_sar}
 use Rattle.xt_special.specs.Shape.{IsProperSet, AreProperSets}
 use Rattle.xt_rows.specs.Laws.{IsWord, IsProperFlow, IsProperEffect, IsProperAwaited, IsProper, IsGiven, IsAny}
-use Rattle.xt_rows.proofs.Bounds.{IsSize, One, Two, Four, addx_small, subx_small, mul16u_small, mul16s_small, mull_small, muluh_small, mulsh_small, quou_small, quos_small, remu_small, rems_small, signed_min_small, signed_max_small, min_small, max_small, and_small, or_small, xor_small, neg_small, abs_small, sext_small, clamps_small, nsa_small, nsau_small, src_small, srl_small, sra_small, sll_small, slli_small, srai_small, srli_small, extui_small, ssr_small, ssl_small, ssa8l_small, ssa8b_small, plus_small, minus_small, linked_small, extended_small, code_number_small}
+use Rattle.xt_rows.proofs.Bounds.{IsSize, One, Two, Four, addx_small, subx_small, mul16u_small, mul16s_small, mull_small, muluh_small, mulsh_small, quou_small, quos_small, remu_small, rems_small, signed_min_small, signed_max_small, min_small, max_small, and_small, or_small, xor_small, neg_small, abs_small, sext_small, clamps_small, nsa_small, nsau_small, src_small, srl_small, sra_small, sll_small, slli_small, srai_small, srli_small, extui_small, ssr_small, ssl_small, ssa8l_small, ssa8b_small, plus_small, minus_small, linked_small, extended_small, code_number_small, logic_small, group_small}
 
 -- ---- registers that are in their range
 
@@ -360,20 +367,21 @@ control_proper W weak (control.Loop LoopName.Loopgtz s offset) pc x y e ok hx f 
 
 -- ---- special registers
 
-kept_small : (b1 b2 b3 b4 b5 b6 : Bool) (x v : ℕ) → x < 2 ^ 32 → v < 2 ^ 32
-    → cond b1 (x % 2 ^ 6) (cond b2 (x / 2 ^ 10 * 2 ^ 10) (cond b3 (bit_and x 0x200180C0) (cond b4 (ps_word (ps_of x))
-    (cond b5 (bit_or v (bit_and x software_bits)) (cond b6 (without_bits v (bit_and x software_bits)) x))))) < 2 ^ 32
-kept_small true b2 b3 b4 b5 b6 x v p q = omega arith
-kept_small false true b3 b4 b5 b6 x v p q = omega arith
-kept_small false false true b4 b5 b6 x v p q = and_small x 0x200180C0 p
-kept_small false false false true b5 b6 x v p q = ps_word_small (ps_of x) (ps_of_proper x)
-kept_small false false false false true b6 x v p q = or_small v (bit_and x software_bits) q (and_small x software_bits p)
-kept_small false false false false false true x v p q = without_small v (bit_and x software_bits) q
-kept_small false false false false false false x v p q = p
+kept_small : (b1 b2 b3 b4 b5 b6 b7 : Bool) (x v : ℕ) → x < 2 ^ 32 → v < 2 ^ 32
+    → cond b1 (x % 2 ^ 6) (cond b2 (x % 2 ^ 16) (cond b3 (x / 2 ^ 10 * 2 ^ 10) (cond b4 (bit_and x 0x200180C0) (cond b5 (ps_word (ps_of x))
+    (cond b6 (bit_or v (bit_and x software_bits)) (cond b7 (without_bits v (bit_and x software_bits)) x)))))) < 2 ^ 32
+kept_small true b2 b3 b4 b5 b6 b7 x v p q = omega arith
+kept_small false true b3 b4 b5 b6 b7 x v p q = omega arith
+kept_small false false true b4 b5 b6 b7 x v p q = omega arith
+kept_small false false false true b5 b6 b7 x v p q = and_small x 0x200180C0 p
+kept_small false false false false true b6 b7 x v p q = ps_word_small (ps_of x) (ps_of_proper x)
+kept_small false false false false false true b7 x v p q = or_small v (bit_and x software_bits) q (and_small x software_bits p)
+kept_small false false false false false false true x v p q = without_small v (bit_and x software_bits) q
+kept_small false false false false false false false x v p q = p
 
 value_kept_small : (n x v : ℕ) → x < 2 ^ 32 → v < 2 ^ 32 → value_kept n x v < 2 ^ 32
 unfolding value_kept
-value_kept_small n x v p q = kept_small _ _ _ _ _ _ x v p q
+value_kept_small n x v p q = kept_small _ _ _ _ _ _ _ x v p q
 
 sar_kept : (x v : ℕ) → value_kept 3 x v < 2 ^ 6
 unfolding value_kept
@@ -481,6 +489,27 @@ density_proper W weak code (density.Ret NarrowRetName.Nop) pc x y e bytes ok hx 
 density_proper W weak code (density.Ret NarrowRetName.Ill) pc x y e bytes ok hx f = (omega arith, tt)
 density_proper W weak code (density.Break n) pc x y e bytes ok hx f = tt
 
+-- ---- instructions of Boolean registers
+
+br_proper : (W : ℕ → Type 0) (weak : Weak W) (value : ℕ) (e : Effect) → value < 2 ^ 16 → IsProperEffect W e → IsProper W (sets_br value e)
+br_proper W weak value e p f = with_sets W weak e _ ((holds_any 4 value refl refl, omega arith), tt, tt) f
+
+boolean_proper : (W : ℕ → Type 0) (weak : Weak W) (i : Boolean) (pc x u : ℕ) (e : Effect) → boolean_in_range i ≡ true → x < 2 ^ 32 → IsProperEffect W e → IsProper W (boolean_outcome i pc x u e)
+unfolding boolean_outcome
+boolean_proper W weak (boolean.Andb LogicName.Andb r s t) pc x u e ok hx f = br_proper W weak _ e (logic_small _ (booleans u) r s t (omega arith) (first_of_3 r s t ok)) f
+boolean_proper W weak (boolean.Andb LogicName.Andbc r s t) pc x u e ok hx f = br_proper W weak _ e (logic_small _ (booleans u) r s t (omega arith) (first_of_3 r s t ok)) f
+boolean_proper W weak (boolean.Andb LogicName.Orb r s t) pc x u e ok hx f = br_proper W weak _ e (logic_small _ (booleans u) r s t (omega arith) (first_of_3 r s t ok)) f
+boolean_proper W weak (boolean.Andb LogicName.Orbc r s t) pc x u e ok hx f = br_proper W weak _ e (logic_small _ (booleans u) r s t (omega arith) (first_of_3 r s t ok)) f
+boolean_proper W weak (boolean.Andb LogicName.Xorb r s t) pc x u e ok hx f = br_proper W weak _ e (logic_small _ (booleans u) r s t (omega arith) (first_of_3 r s t ok)) f
+boolean_proper W weak (boolean.Any4 FourName.Any4 t s) pc x u e ok hx f = br_proper W weak _ e (group_small false 4 (booleans u) t s (omega arith) (first t s (and_parts _ _ ok).0)) f
+boolean_proper W weak (boolean.Any4 FourName.All4 t s) pc x u e ok hx f = br_proper W weak _ e (group_small true 4 (booleans u) t s (omega arith) (first t s (and_parts _ _ ok).0)) f
+boolean_proper W weak (boolean.Any8 EightName.Any8 t s) pc x u e ok hx f = br_proper W weak _ e (group_small false 8 (booleans u) t s (omega arith) (first t s (and_parts _ _ ok).0)) f
+boolean_proper W weak (boolean.Any8 EightName.All8 t s) pc x u e ok hx f = br_proper W weak _ e (group_small true 8 (booleans u) t s (omega arith) (first t s (and_parts _ _ ok).0)) f
+boolean_proper W weak (boolean.Bf TestName.Bf s offset) pc x u e ok hx f = branches_proper W weak (holds cond_.BitClear u s) pc offset e f
+boolean_proper W weak (boolean.Bf TestName.Bt s offset) pc x u e ok hx f = branches_proper W weak (holds cond_.BitSet u s) pc offset e f
+boolean_proper W weak (boolean.Movf ChoiceName.Movf r s t) pc x u e ok hx f = moves_proper W weak (holds cond_.BitClear u t) r x e (first_of_3 r s t ok) hx f
+boolean_proper W weak (boolean.Movf ChoiceName.Movt r s t) pc x u e ok hx f = moves_proper W weak (holds cond_.BitSet u t) r x e (first_of_3 r s t ok) hx f
+
 -- ---- all rows
 
 unchanged_proper : (W : ℕ → Type 0) (weak : Weak W) (ps : Ps) (threadptr : ℕ) → IsPs ps → threadptr < 2 ^ 32 → IsProperEffect W (unchanged ps threadptr)
@@ -494,6 +523,7 @@ outcome_proper W weak code (insn.Memory i) pc x y u v ps tp loaded g = memory_pr
 outcome_proper W weak code (insn.Control i) pc x y u v ps tp loaded g = control_proper W weak i pc x y _ g.range g.x_word (unchanged_proper W weak ps tp g.fields g.threadptr_word)
 outcome_proper W weak code (insn.System i) pc x y u v ps tp loaded g = system_proper W weak i x u v _ g.range g.x_word g.u_word g.v_word (unchanged_proper W weak ps tp g.fields g.threadptr_word)
 outcome_proper W weak code (insn.Density i) pc x y u v ps tp loaded g = density_proper W weak code i pc x y _ loaded g.range g.x_word (unchanged_proper W weak ps tp g.fields g.threadptr_word)
+outcome_proper W weak code (insn.Boolean i) pc x y u v ps tp loaded g = boolean_proper W weak i pc x u _ g.range g.x_word (unchanged_proper W weak ps tp g.fields g.threadptr_word)
 
 -- what is loaded is a word, where constant memory is of bytes
 loaded_word : (code : ℕ → ℕ) → AreBytes code → Loaded IsWord code

@@ -13,6 +13,8 @@ use Rattle.xt_isa.specs.declared.system.System.{System}
 use Rattle.xt_isa.specs.declared.system.System.TheVariants as system
 use Rattle.xt_isa.specs.declared.density.Density.{Density}
 use Rattle.xt_isa.specs.declared.density.Density.TheVariants as density
+use Rattle.xt_isa.specs.declared.boolean.Boolean.{Boolean}
+use Rattle.xt_isa.specs.declared.boolean.Boolean.TheVariants as boolean
 use Rattle.xt_isa.specs.declared.memory.ByteName.TheVariants as ByteName
 use Rattle.xt_isa.specs.declared.memory.HalfName.TheVariants as HalfName
 use Rattle.xt_isa.specs.declared.density.NarrowName.TheVariants as NarrowName
@@ -21,7 +23,7 @@ use Rattle.xt_isa.specs.declared.system.SpecialName.TheVariants as SpecialName
 use Rattle.xt_isa.specs.declared.system.UserName.TheVariants as UserName
 use Rattle.xt_isa.specs.declared.memory.WindowName.TheVariants as WindowName
 use Rattle.xt_isa.specs.declared.memory.WordName.TheVariants as WordName
-use Rattle.xt_rows.specs.Operands.{three_reads, shift_reads, memory_reads, control_reads, system_reads, density_reads, reads, three_named, shift_named, memory_named, control_named, system_named, density_named, named}
+use Rattle.xt_rows.specs.Operands.{three_reads, shift_reads, memory_reads, control_reads, system_reads, density_reads, boolean_reads, reads, three_named, shift_named, memory_named, control_named, system_named, density_named, boolean_named, named}
 use Rattle.xt_rows.specs.Kinds.{IsAtMost, ReadsAreNamed}
 
 abbrev AreAtMost : ℕ → Option ℕ × Option ℕ → Type 0
@@ -107,6 +109,13 @@ density_reads_named (density.Ret NarrowRetName.Nop) = (tt, tt)
 density_reads_named (density.Ret NarrowRetName.Ill) = (tt, tt)
 density_reads_named (density.Break n) = (tt, tt)
 
+boolean_reads_named : (i : Boolean) → AreAtMost (boolean_named i) (boolean_reads i)
+boolean_reads_named (boolean.Andb name r s t) = (tt, tt)
+boolean_reads_named (boolean.Any4 name t s) = (tt, tt)
+boolean_reads_named (boolean.Any8 name t s) = (tt, tt)
+boolean_reads_named (boolean.Bf name s offset) = (tt, tt)
+boolean_reads_named (boolean.Movf name r s t) = (omega arith, tt)
+
 pub reads_named : ReadsAreNamed
 unfolding reads named
 reads_named (insn.Three i) = (three_reads_named i)
@@ -115,3 +124,4 @@ reads_named (insn.Memory i) = (memory_reads_named i)
 reads_named (insn.Control i) = (control_reads_named i)
 reads_named (insn.System i) = (system_reads_named i)
 reads_named (insn.Density i) = (density_reads_named i)
+reads_named (insn.Boolean i) = (boolean_reads_named i)

@@ -26,8 +26,10 @@ use Rattle.xt_isa.specs.declared.density.Density.{Density}
 use Rattle.xt_isa.specs.declared.density.Density.TheVariants as density
 use Rattle.xt_isa.specs.declared.density.NarrowName.TheVariants as NarrowName
 use Rattle.xt_isa.specs.declared.density.NarrowRetName.TheVariants as NarrowRetName
-use Rattle.xt_isa.specs.Ranges.{one_register, two_registers, three_registers, in_range, three_in_range, shift_in_range, memory_in_range, control_in_range, system_in_range, density_in_range}
-use Rattle.xt_rows.specs.Operands.{call_size, callx_size, three_reads, shift_reads, memory_reads, control_reads, system_reads, density_reads, reads, special_reads, three_named, shift_named, memory_named, control_named, system_named, density_named, named}
+use Rattle.xt_isa.specs.declared.boolean.Boolean.{Boolean}
+use Rattle.xt_isa.specs.declared.boolean.Boolean.TheVariants as boolean
+use Rattle.xt_isa.specs.Ranges.{one_register, two_registers, three_registers, in_range, three_in_range, shift_in_range, memory_in_range, control_in_range, system_in_range, density_in_range, boolean_in_range}
+use Rattle.xt_rows.specs.Operands.{call_size, callx_size, three_reads, shift_reads, memory_reads, control_reads, system_reads, density_reads, boolean_reads, reads, special_reads, three_named, shift_named, memory_named, control_named, system_named, density_named, boolean_named, named}
 use Rattle.xt_rows.specs.Laws.{IsHeld, IsRegister, IsShiftAmount}
 
 abbrev AreRegisters : Option ℕ × Option ℕ → Type 0
@@ -249,6 +251,20 @@ density_names (density.Ret NarrowRetName.Nop) ok = omega arith
 density_names (density.Ret NarrowRetName.Ill) ok = omega arith
 density_names (density.Break n) ok = omega arith
 
+boolean_read : (i : Boolean) → boolean_in_range i ≡ true → AreRegisters (boolean_reads i)
+boolean_read (boolean.Andb name r s t) ok = (tt, tt)
+boolean_read (boolean.Any4 name t s) ok = (tt, tt)
+boolean_read (boolean.Any8 name t s) ok = (tt, tt)
+boolean_read (boolean.Bf name s offset) ok = (tt, tt)
+boolean_read (boolean.Movf name r s t) ok = ((last_2 r s t ok).0, tt)
+
+boolean_names : (i : Boolean) → boolean_in_range i ≡ true → boolean_named i < 16
+boolean_names (boolean.Andb name r s t) ok = omega arith
+boolean_names (boolean.Any4 name t s) ok = omega arith
+boolean_names (boolean.Any8 name t s) ok = omega arith
+boolean_names (boolean.Bf name s offset) ok = omega arith
+boolean_names (boolean.Movf name r s t) ok = let p = all r s t ok in max_2 r s p.0 p.1
+
 pub reads_registers : (i : Insn) → in_range i ≡ true → AreRegisters (reads i)
 unfolding reads
 reads_registers (insn.Three i) ok = three_read i ok
@@ -257,6 +273,7 @@ reads_registers (insn.Memory i) ok = memory_read i ok
 reads_registers (insn.Control i) ok = control_read i ok
 reads_registers (insn.System i) ok = system_read i ok
 reads_registers (insn.Density i) ok = density_read i ok
+reads_registers (insn.Boolean i) ok = boolean_read i ok
 
 pub names_registers : (i : Insn) → in_range i ≡ true → named i < 16
 unfolding named
@@ -266,6 +283,7 @@ names_registers (insn.Memory i) ok = memory_names i ok
 names_registers (insn.Control i) ok = control_names i ok
 names_registers (insn.System i) ok = system_names i ok
 names_registers (insn.Density i) ok = density_names i ok
+names_registers (insn.Boolean i) ok = boolean_names i ok
 
 -- a row that shifts by SAR has what SAR can hold
 pub shift_amount : (i : Insn) (u : ℕ) → IsHeld (special_reads i).0 u → IsShiftAmount i u
@@ -279,3 +297,4 @@ shift_amount (insn.Memory i) u held = tt
 shift_amount (insn.Control i) u held = tt
 shift_amount (insn.System i) u held = tt
 shift_amount (insn.Density i) u held = tt
+shift_amount (insn.Boolean i) u held = tt

@@ -8,7 +8,8 @@ use Rattle.xt_map.specs.declared.access.Kind.TheVariants.{Load, Store, Cas}
 use Rattle.xt_map.specs.Regions.{region_of, is_constant, is_mapped}
 use Rattle.xt_special.specs.declared.ps.Ps.{Ps}
 use Rattle.xt_special.specs.Numbers as number
-use Rattle.xt_special.specs.Access.{value_read, ps_written, written_by, set_to, no_sets}
+use Rattle.xt_special.specs.Access.{value_read, ps_written, written_by, set_to, no_set}
+use Rattle.xt_special.specs.Access.{no_sets}
 use Rattle.xt_fetch.specs.Code.{code_number}
 use Rattle.xt_trace.specs.declared.record.RegWrite.{RegWrite}
 use Rattle.xt_rows.specs.declared.outcome.Awaited.{Awaited}
@@ -142,6 +143,10 @@ swaps expected new number addr e =
     (Some (record { number = number; signed = false })) e)
 
 -- ---- special registers
+
+-- a special register receives a value that it can hold
+abbrev pub sets_special : ℕ → ℕ → Effect → Outcome
+sets_special number value e = Does (record e { sets = (set_to number value, no_set, no_set) })
 
 -- WINDOWBASE and WINDOWSTART are kept with the windows
 abbrev pub window_register : ℕ → Option WindowRegister

@@ -27,6 +27,8 @@ use Rattle.xt_isa.specs.declared.density.Density.{Density}
 use Rattle.xt_isa.specs.declared.density.Density.TheVariants as density
 use Rattle.xt_isa.specs.declared.density.NarrowName.TheVariants as NarrowName
 use Rattle.xt_isa.specs.declared.density.NarrowRetName.TheVariants as NarrowRetName
+use Rattle.xt_isa.specs.declared.boolean.Boolean.{Boolean}
+use Rattle.xt_isa.specs.declared.boolean.Boolean.TheVariants as boolean
 use Rattle.xt_special.specs.Numbers as number
 use Rattle.xt_special.specs.Access.{is_ccompare}
 use Rattle.xt_rows.specs.Numbers.{natural}
@@ -136,6 +138,14 @@ density_reads (density.Ret NarrowRetName.Nop) = nothing
 density_reads (density.Ret NarrowRetName.Ill) = nothing
 density_reads (density.Break n) = nothing
 
+-- Boolean registers are no visible registers; the register that MOVF and MOVT write is not read
+abbrev pub boolean_reads : Boolean → Option ℕ × Option ℕ
+boolean_reads (boolean.Andb name r s t) = nothing
+boolean_reads (boolean.Any4 name t s) = nothing
+boolean_reads (boolean.Any8 name t s) = nothing
+boolean_reads (boolean.Bf name s offset) = nothing
+boolean_reads (boolean.Movf name r s t) = one s
+
 unfoldable pub reads : Insn → Option ℕ × Option ℕ
 reads (insn.Three i) = three_reads i
 reads (insn.Shift i) = shift_reads i
@@ -143,6 +153,7 @@ reads (insn.Memory i) = memory_reads i
 reads (insn.Control i) = control_reads i
 reads (insn.System i) = system_reads i
 reads (insn.Density i) = density_reads i
+reads (insn.Boolean i) = boolean_reads i
 
 -- ---- the special registers whose values the row uses, at most two; PS and
 -- THREADPTR are at every row's hand
@@ -185,6 +196,7 @@ special_reads (insn.Memory i) = memory_special_reads i
 special_reads (insn.Control i) = nothing
 special_reads (insn.System i) = system_special_reads i
 special_reads (insn.Density i) = nothing
+special_reads (insn.Boolean i) = one number.br
 
 -- ---- the highest visible register that the instruction names, or 0 where it names none
 
@@ -258,6 +270,13 @@ density_named (density.Mov t s) = max t s
 density_named (density.Ret name) = 0
 density_named (density.Break n) = 0
 
+abbrev pub boolean_named : Boolean → ℕ
+boolean_named (boolean.Andb name r s t) = 0
+boolean_named (boolean.Any4 name t s) = 0
+boolean_named (boolean.Any8 name t s) = 0
+boolean_named (boolean.Bf name s offset) = 0
+boolean_named (boolean.Movf name r s t) = max r s
+
 unfoldable pub named : Insn → ℕ
 named (insn.Three i) = three_named i
 named (insn.Shift i) = shift_named i
@@ -265,3 +284,4 @@ named (insn.Memory i) = memory_named i
 named (insn.Control i) = control_named i
 named (insn.System i) = system_named i
 named (insn.Density i) = density_named i
+named (insn.Boolean i) = boolean_named i

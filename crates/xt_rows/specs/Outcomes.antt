@@ -5,8 +5,8 @@
 -- x and y are the values of the registers that the row reads, u and v those of the special
 -- registers, 0 where there is none.
 -- e is the effect of an instruction that changes nothing and goes on to the next one.
-use Rattle.std.specs.Prelude.{ℕ, true, false, Option, Some, None, bit_and, bit_or, bit_xor, min}
-use Rattle.std.specs.Prelude.{max}
+use Rattle.std.specs.Prelude.{ℕ, ◌%◌, ◌^◌, true, false, Option, Some, None, bit_and, bit_or}
+use Rattle.std.specs.Prelude.{bit_xor, min, max}
 use Rattle.xt_isa.specs.declared.Insn.{Insn}
 use Rattle.xt_isa.specs.declared.Insn.TheVariants as insn
 use Rattle.xt_isa.specs.declared.three.Three.{Three}
@@ -57,12 +57,21 @@ use Rattle.xt_isa.specs.declared.density.Density.TheVariants as density
 use Rattle.xt_isa.specs.declared.density.NarrowName.TheVariants as NarrowName
 use Rattle.xt_isa.specs.declared.density.NarrowZeroName.TheVariants as NarrowZeroName
 use Rattle.xt_isa.specs.declared.density.NarrowRetName.TheVariants as NarrowRetName
+use Rattle.xt_isa.specs.declared.boolean.Boolean.{Boolean}
+use Rattle.xt_isa.specs.declared.boolean.Boolean.TheVariants as boolean
+use Rattle.xt_isa.specs.declared.boolean.LogicName.TheVariants as LogicName
+use Rattle.xt_isa.specs.declared.boolean.FourName.TheVariants as FourName
+use Rattle.xt_isa.specs.declared.boolean.EightName.TheVariants as EightName
+use Rattle.xt_isa.specs.declared.boolean.TestName.TheVariants as TestName
+use Rattle.xt_isa.specs.declared.boolean.ChoiceName.TheVariants as ChoiceName
 use Rattle.xt_alu.specs.Arithmetic.{addx, subx, mul16u, mul16s, mull, muluh, mulsh, quou, quos}
 use Rattle.xt_alu.specs.Arithmetic.{remu, rems, signed_min, signed_max, neg, abs, sext, clamps, nsa}
 use Rattle.xt_alu.specs.Arithmetic.{nsau}
 use Rattle.xt_alu.specs.Shifts.{src, srl, sra, sll, slli, srai, srli, extui, ssr, ssl, ssa8l, ssa8b}
 use Rattle.xt_alu.specs.Conditions.{holds}
 use Rattle.xt_alu.specs.declared.conditions.Cond.TheVariants as cond
+use Rattle.xt_bool.specs.Registers.{logic, group}
+use Rattle.xt_bool.specs.declared.BoolOp.TheVariants as op
 use Rattle.xt_special.specs.declared.ps.Ps.{Ps}
 use Rattle.xt_special.specs.Numbers as number
 use Rattle.xt_special.specs.Control.{special_of, ps_word, ps_of}
@@ -77,10 +86,9 @@ use Rattle.xt_rows.specs.declared.outcome.Outcome.TheVariants.{Does, Raises, Sto
 use Rattle.xt_rows.specs.Numbers.{plus, minus, natural, branch_target, call_target, literal_address}
 use Rattle.xt_rows.specs.Operands.{call_size, callx_size, reads, special_reads}
 use Rattle.xt_rows.specs.Effects.{illegal_instruction, system_call, unchanged, write_to, puts}
-use Rattle.xt_special.specs.Access.{set_to, no_set}
 use Rattle.xt_rows.specs.Effects.{moves, divides, goes, branches, calls, loops, loads}
 use Rattle.xt_rows.specs.Effects.{stores, swaps, window_register, reads_special, writes_special}
-use Rattle.xt_rows.specs.Effects.{exchanges_special}
+use Rattle.xt_rows.specs.Effects.{exchanges_special, sets_special}
 
 -- ---- three registers: x is AR[s], y is AR[t], u is SAR
 
@@ -118,7 +126,7 @@ three_outcome (three.Moveqz MoveName.Movgez r s t) x y u e = moves (holds cond.G
 -- ---- shifts, and one source: x is its value, u is SAR
 
 abbrev pub sets_sar : ℕ → Effect → Outcome
-sets_sar amount e = Does (record e { sets = (set_to number.sar amount, no_set, no_set) })
+sets_sar amount e = sets_special number.sar amount e
 
 unfoldable pub shift_outcome : Shift → ℕ → ℕ → Effect → Outcome
 shift_outcome (shift.Neg NegName.Neg r t) x u e = puts r (neg x) e
@@ -290,6 +298,42 @@ density_outcome code (density.Ret NarrowRetName.Nop) pc x y e = Does e
 density_outcome code (density.Ret NarrowRetName.Ill) pc x y e = Raises illegal_instruction None
 density_outcome code (density.Break n) pc x y e = Stops
 
+-- ---- instructions of Boolean registers: x is AR[s], u is BR
+
+-- the sixteen Boolean registers are the bits that BR keeps
+abbrev pub booleans : ℕ → ℕ
+booleans u = u % 2 ^ 16
+
+abbrev pub sets_br : ℕ → Effect → Outcome
+sets_br value e = sets_special number.br value e
+
+unfoldable pub boolean_outcome : Boolean → ℕ → ℕ → ℕ → Effect → Outcome
+boolean_outcome (boolean.Andb LogicName.Andb r s t) pc x u e =
+    sets_br (logic op.And (booleans u) r s t) e
+boolean_outcome (boolean.Andb LogicName.Andbc r s t) pc x u e =
+    sets_br (logic op.AndNot (booleans u) r s t) e
+boolean_outcome (boolean.Andb LogicName.Orb r s t) pc x u e =
+    sets_br (logic op.Or (booleans u) r s t) e
+boolean_outcome (boolean.Andb LogicName.Orbc r s t) pc x u e =
+    sets_br (logic op.OrNot (booleans u) r s t) e
+boolean_outcome (boolean.Andb LogicName.Xorb r s t) pc x u e =
+    sets_br (logic op.Xor (booleans u) r s t) e
+boolean_outcome (boolean.Any4 FourName.Any4 t s) pc x u e =
+    sets_br (group false 4 (booleans u) t s) e
+boolean_outcome (boolean.Any4 FourName.All4 t s) pc x u e =
+    sets_br (group true 4 (booleans u) t s) e
+boolean_outcome (boolean.Any8 EightName.Any8 t s) pc x u e =
+    sets_br (group false 8 (booleans u) t s) e
+boolean_outcome (boolean.Any8 EightName.All8 t s) pc x u e =
+    sets_br (group true 8 (booleans u) t s) e
+boolean_outcome (boolean.Bf TestName.Bf s offset) pc x u e =
+    branches (holds cond.BitClear u s) pc offset e
+boolean_outcome (boolean.Bf TestName.Bt s offset) pc x u e =
+    branches (holds cond.BitSet u s) pc offset e
+boolean_outcome (boolean.Movf ChoiceName.Movf r s t) pc x u e =
+    moves (holds cond.BitClear u t) r x e
+boolean_outcome (boolean.Movf ChoiceName.Movt r s t) pc x u e = moves (holds cond.BitSet u t) r x e
+
 -- ---- all rows
 
 abbrev pub outcome_from : (ℕ → ℕ) → Insn → ℕ → ℕ → ℕ → ℕ → ℕ → Effect → Outcome
@@ -299,6 +343,7 @@ outcome_from code (insn.Memory i) pc x y u v e = memory_outcome code i pc x y u 
 outcome_from code (insn.Control i) pc x y u v e = control_outcome i pc x y e
 outcome_from code (insn.System i) pc x y u v e = system_outcome i x u v e
 outcome_from code (insn.Density i) pc x y u v e = density_outcome code i pc x y e
+outcome_from code (insn.Boolean i) pc x y u v e = boolean_outcome i pc x u e
 
 unfoldable pub outcome : (ℕ → ℕ) → Insn → ℕ → ℕ → ℕ → ℕ → ℕ → Ps → ℕ → Outcome
 outcome code i pc x y u v ps threadptr = outcome_from code i pc x y u v (unchanged ps threadptr)

@@ -1,7 +1,7 @@
 ghost use Rattle.std.specs.Prelude.{◌≡◌, ◌+◌, ◌*◌, ◌%◌, ◌^◌, ◌<◌, true};
 ghost use Rattle.xt_map.specs.Memory.{constant_byte};
 ghost use Rattle.xt_map.specs.Regions.{is_size};
-ghost use Rattle.xt_rows.specs.Effects.{asks, branches, calls, exchanges_special, goes, loads, loops, moves, puts, reads_special, stores, swaps, unchanged, window_register, write_to, writes_special};
+ghost use Rattle.xt_rows.specs.Effects.{asks, branches, calls, exchanges_special, goes, loads, loops, moves, puts, reads_special, sets_special, stores, swaps, unchanged, window_register, write_to, writes_special};
 
 use crate::cause;
 use crate::numbers::{address_behind, branch_target, extended, linked, minus};
@@ -212,6 +212,17 @@ pub fn swaps(expected: u32, new: u32, number: u8, addr: u32, e: Effect) -> Outco
         }),
         e,
     )
+}
+
+/// A special register receives a value that it can hold.
+#[inline(always)]
+pub fn sets_special(number: u8, value: u32, e: Effect) -> Outcome
+    ensures { result ≡ sets_special number value e }
+{
+    Outcome::Does(Effect {
+        sets: (set_to(number, value), None, None),
+        ..e
+    })
 }
 
 /// The register that is kept with the windows, if this number is one's.

@@ -4,6 +4,7 @@
 //! the processor and a machine with unbounded frames alike.
 #![tactic(auto)]
 
+mod boolean;
 pub mod cause;
 mod control;
 mod density;

@@ -2,10 +2,11 @@ ghost use Rattle.std.specs.Prelude.{◌≡◌, ◌<◌, true};
 ghost use Rattle.xt_isa.specs.Ranges.{in_range, natural_within};
 ghost use Rattle.xt_special.specs.Numbers as number;
 ghost use Rattle.xt_rows.specs.Numbers.{natural};
-ghost use Rattle.xt_rows.specs.Operands.{call_size, callx_size, changes_interrupt, control_named, control_reads, density_named, density_reads, memory_named, memory_reads, named, reads, shift_named, shift_reads, special_reads, system_named, system_reads, system_special_reads, three_named, three_reads, two};
+ghost use Rattle.xt_rows.specs.Operands.{boolean_named, boolean_reads, call_size, callx_size, changes_interrupt, control_named, control_reads, density_named, density_reads, memory_named, memory_reads, named, reads, shift_named, shift_reads, special_reads, system_named, system_reads, system_special_reads, three_named, three_reads, two};
 
 use crate::numbers::natural;
 use xt_isa::Insn;
+use xt_isa::boolean::Boolean;
 use xt_isa::control::{CallName, CallxName, Control};
 use xt_isa::density::{Density, NarrowName, NarrowRetName};
 use xt_isa::memory::{ByteName, HalfName, Memory, WindowName, WordName};
@@ -151,6 +152,19 @@ fn density_reads(i: Density) -> Registers
     }
 }
 
+#[inline(always)]
+fn boolean_reads(i: Boolean) -> Registers
+    ensures { result ≡ boolean_reads i }
+{
+    match i {
+        Boolean::Movf(_, _, s, _) => (Some(s), None),
+        Boolean::Andb(_, _, _, _)
+        | Boolean::Any4(_, _, _)
+        | Boolean::Any8(_, _, _)
+        | Boolean::Bf(_, _, _) => (None, None),
+    }
+}
+
 /// The visible registers whose values the instruction uses.
 #[tactic(auto, unfolding(crate::specs::Operands::reads))]
 #[inline(always)]
@@ -164,6 +178,7 @@ pub fn reads(i: Insn) -> Registers
         Insn::Control(i) => control_reads(i),
         Insn::System(i) => system_reads(i),
         Insn::Density(i) => density_reads(i),
+        Insn::Boolean(i) => boolean_reads(i),
     }
 }
 
@@ -217,6 +232,7 @@ pub fn special_reads(i: Insn) -> Registers
         Insn::Shift(Shift::Srl(_, _, _) | Shift::Sll(_, _)) => (Some(3), None),
         Insn::Memory(Memory::S32c1i(_, _, _)) => (Some(12), None),
         Insn::System(i) => system_special_reads(i),
+        Insn::Boolean(_) => (Some(4), None),
         _ => (None, None),
     }
 }
@@ -316,6 +332,19 @@ fn density_named(i: Density) -> u8
     }
 }
 
+#[inline(always)]
+fn boolean_named(i: Boolean) -> u8
+    ensures { result ≡ boolean_named i }
+{
+    match i {
+        Boolean::Movf(_, r, s, _) => r.max(s),
+        Boolean::Andb(_, _, _, _)
+        | Boolean::Any4(_, _, _)
+        | Boolean::Any8(_, _, _)
+        | Boolean::Bf(_, _, _) => 0,
+    }
+}
+
 /// The highest visible register that the instruction names, or 0 where it names none.
 #[tactic(auto, unfolding(crate::specs::Operands::named))]
 #[inline(always)]
@@ -329,5 +358,6 @@ pub fn named(i: Insn) -> u8
         Insn::Control(i) => control_named(i),
         Insn::System(i) => system_named(i),
         Insn::Density(i) => density_named(i),
+        Insn::Boolean(i) => boolean_named(i),
     }
 }

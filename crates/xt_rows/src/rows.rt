@@ -6,6 +6,7 @@ ghost use Rattle.xt_rows.specs.Laws.{AsksWith, IsAny, IsProper, IsShiftAmount};
 ghost use Rattle.xt_rows.specs.Effects.{unchanged};
 ghost use Rattle.xt_rows.specs.Outcomes.{outcome};
 
+use crate::boolean::boolean_outcome;
 use crate::control::control_outcome;
 use crate::density::density_outcome;
 use crate::effects::unchanged;
@@ -56,6 +57,7 @@ fn row_outcome<U>(
         Insn::Control(i) => control_outcome::<U>(i, pc, x, y, e),
         Insn::System(i) => system_outcome::<U>(i, x, u, v, e),
         Insn::Density(i) => density_outcome::<U>(code, i, pc, x, y, e),
+        Insn::Boolean(i) => boolean_outcome::<U>(i, pc, x, u, e),
     }
 }
 

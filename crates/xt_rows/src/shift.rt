@@ -4,13 +4,13 @@ ghost use Rattle.xt_isa.specs.declared.shift.Shift.TheVariants as shift;
 ghost use Rattle.xt_rows.specs.Numbers.{natural};
 ghost use Rattle.xt_rows.specs.Outcomes.{sets_sar, shift_outcome};
 
-use crate::effects::puts;
+use crate::effects::{puts, sets_special};
 use crate::numbers::natural;
 use crate::outcome::{Effect, Outcome, WindowStep};
 use xt_alu::shifts::{extui, sll, slli, sra, srai, srl, srli, ssa8b, ssa8l, ssl, ssr};
 use xt_alu::unary::{abs, clamps, neg, nsa, nsau, sext};
 use xt_isa::shift::{NegName, NsaName, SextName, Shift, SrlName, Ssa8Name, SsrName};
-use xt_special::{number, set_to};
+use xt_special::number;
 
 // An operand within a range of numbers below 256.
 #[tactic(auto, unfolding(crate::specs::Numbers::natural, xt_isa::specs::Ranges::natural_within))]
@@ -28,10 +28,7 @@ pub fn within(n: i32, first: u8, last: u8) -> u8
 fn sets_sar(amount: u32, e: Effect) -> Outcome
     ensures { result ≡ sets_sar amount e }
 {
-    Outcome::Does(Effect {
-        sets: (set_to(number::SAR, amount), None, None),
-        ..e
-    })
+    sets_special(number::SAR, amount, e)
 }
 
 #[tactic(auto, unfolding(crate::specs::Outcomes::shift_outcome))]

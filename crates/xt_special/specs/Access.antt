@@ -58,18 +58,19 @@ ps_written n x ps = if n == number.ps then ps_of x else ps
 abbrev pub changed_by : ℕ → ℕ
 changed_by n = if n == number.intclear then number.interrupt else n
 
--- what it then holds, where INTERRUPT was v: SAR and EXCCAUSE keep six bits, VECBASE all but ten,
--- INTENABLE the bits that there are (6, 7, 15, 16 and 29: 0x200180C0), EPS2 to EPS7 what PS would
--- keep; INTSET sets and INTCLEAR clears the bits of software
+-- what it then holds, where INTERRUPT was v: SAR and EXCCAUSE keep six bits, BR sixteen, VECBASE
+-- all but ten, INTENABLE the bits that there are (6, 7, 15, 16 and 29: 0x200180C0), EPS2 to EPS7
+-- what PS would keep; INTSET sets and INTCLEAR clears the bits of software
 unfoldable pub value_kept : ℕ → ℕ → ℕ → ℕ
 value_kept n x v =
     if n == number.sar || n == number.exccause then x % 2 ^ 6
+    else (if n == number.br then x % 2 ^ 16
     else (if n == number.vecbase then x / 2 ^ 10 * 2 ^ 10
     else (if n == number.intenable then bit_and x 0x200180C0
     else (if is_eps n then ps_word (ps_of x)
     else (if n == number.interrupt then bit_or v (bit_and x software_bits)
     else (if n == number.intclear then without_bits v (bit_and x software_bits)
-    else x)))))
+    else x))))))
 
 -- the writes of special registers, in order
 abbrev pub no_set : Option SpecialWrite

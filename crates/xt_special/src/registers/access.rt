@@ -34,6 +34,7 @@ pub fn value_kept(n: u8, v: u32, interrupt: u32) -> u32
 {
     match n {
         number::SAR | number::EXCCAUSE => v % 64,
+        number::BR => v % 0x1_0000,
         number::VECBASE => v / 1024 * 1024,
         number::INTENABLE => v & ENABLED_BITS,
         number::EPS2..=number::EPS7 => Ps::of_word(v).word(),
