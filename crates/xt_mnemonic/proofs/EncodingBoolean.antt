@@ -1,4 +1,4 @@
--- The rows of Boolean registers, inverted.
+-- The rows of Boolean registers, each inverted and of its length.
 use Rattle.std.proofs.Common.{◌≡◌, ℕ, ◌%◌, cond, eqb, Some, None, refl}
 use Rattle.xt_isa.specs.declared.Insn.TheVariants as insn
 use Rattle.xt_isa.specs.declared.Fields.{Fields}
@@ -12,7 +12,7 @@ use Rattle.xt_isa.proofs.RowByRow.{◌▸◌}
 use Rattle.xt_mnemonic.specs.Encodings.{IsPadded}
 use Rattle.xt_mnemonic.proofs.EncodingWords.{of_s8, unsigned}
 use Rattle.xt_mnemonic.proofs.EncodingControl.{near}
-use Rattle.xt_mnemonic.proofs.EncodingParts.{GivesBack, Inverts, Matches, digit0, full, guarded, rest1, word_is}
+use Rattle.xt_mnemonic.proofs.EncodingParts.{GivesBack, IsEncoded, Matches, digit0, full, guarded, rest1, word_is, sized}
 use Rattle.xt_mnemonic.proofs.EncodingFormats.{all_three, in_ts}
 
 any4 : (w : Fields) → AreNibbles w → IsPadded w → Matches 0xFFF00F 0x008000 w → GivesBack w (cond (eqb (w.s % 4) 0) (Some (insn.Boolean (boolean.Any4 FourName.Any4 w.t w.s))) None)
@@ -31,19 +31,19 @@ test : {v : ℕ} (w : Fields) → AreNibbles w → IsPadded w → Matches 0x00F0
 test w n p m =
     word_is w (full _ _ n.0 m.at0) (full _ _ n.1 m.at1) refl (full _ _ n.3 m.at3) (digit0 _ w.op1 w.op2 n.4 (near w n)) (rest1 _ w.op1 w.op2 n.4 (near w n))
 
-pub boolean_inverted : AllRows Inverts boolean_rows
-boolean_inverted =
-    all_three ▸  -- ANDB
-    all_three ▸  -- ANDBC
-    all_three ▸  -- ORB
-    all_three ▸  -- ORBC
-    all_three ▸  -- XORB
-    any4 ▸  -- ANY4
-    all4 ▸  -- ALL4
-    any8 ▸  -- ANY8
-    all8 ▸  -- ALL8
-    test ▸  -- BF
-    test ▸  -- BT
-    all_three ▸  -- MOVF
-    all_three ▸  -- MOVT
+pub boolean_encoded : AllRows IsEncoded boolean_rows
+boolean_encoded =
+    (all_three, λ w. refl) ▸  -- ANDB
+    (all_three, λ w. refl) ▸  -- ANDBC
+    (all_three, λ w. refl) ▸  -- ORB
+    (all_three, λ w. refl) ▸  -- ORBC
+    (all_three, λ w. refl) ▸  -- XORB
+    (any4, λ w. sized (eqb (w.s % 4) 0) (insn.Boolean (boolean.Any4 FourName.Any4 w.t w.s)) 3 refl) ▸  -- ANY4
+    (all4, λ w. sized (eqb (w.s % 4) 0) (insn.Boolean (boolean.Any4 FourName.All4 w.t w.s)) 3 refl) ▸  -- ALL4
+    (any8, λ w. sized (eqb (w.s % 8) 0) (insn.Boolean (boolean.Any8 EightName.Any8 w.t w.s)) 3 refl) ▸  -- ANY8
+    (all8, λ w. sized (eqb (w.s % 8) 0) (insn.Boolean (boolean.Any8 EightName.All8 w.t w.s)) 3 refl) ▸  -- ALL8
+    (test, λ w. refl) ▸  -- BF
+    (test, λ w. refl) ▸  -- BT
+    (all_three, λ w. refl) ▸  -- MOVF
+    (all_three, λ w. refl) ▸  -- MOVT
     tt

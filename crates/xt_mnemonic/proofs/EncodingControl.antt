@@ -1,4 +1,4 @@
--- The rows of jumps, calls, branches, ENTRY and loops, inverted.
+-- The rows of jumps, calls, branches, ENTRY and loops, each inverted and of its length.
 use Rattle.std.proofs.Common.{◌≡◌, ℕ, ◌+◌, ◌*◌, ◌/◌, ◌%◌, ◌<◌, refl, ap, ◌∙◌, arith}
 use Rattle.xt_isa.specs.declared.Fields.{Fields}
 use Rattle.xt_isa.specs.Ranges.{AreNibbles}
@@ -7,7 +7,7 @@ use Rattle.xt_isa.specs.Spelling.{b4const, b4constu, control_rows, five, imm8, i
 use Rattle.xt_isa.proofs.RowByRow.{◌▸◌}
 use Rattle.xt_mnemonic.specs.Encodings.{IsPadded}
 use Rattle.xt_mnemonic.proofs.EncodingWords.{bit, constant, of_18, of_s8, of_s12, of_sr8, of_ts8, unsigned}
-use Rattle.xt_mnemonic.proofs.EncodingParts.{Inverts, Matches, b4const_back, b4constu_back, digit0, full, high_three, low_two, rest1, signed_back, word_is}
+use Rattle.xt_mnemonic.proofs.EncodingParts.{IsEncoded, Matches, b4const_back, b4constu_back, digit0, full, high_three, low_two, rest1, signed_back, word_is}
 use Rattle.xt_mnemonic.proofs.EncodingFormats.{in_none, in_s, s12_is, sr8_is, t16_is, times_back, ts8_is}
 
 two_bits : (k q x : ℕ) → q < 4 → k ≡ q + 4 * x → (k % 4 ≡ q) × (k / 4 ≡ x)
@@ -51,46 +51,46 @@ loops : {v : ℕ} (w : Fields) → AreNibbles w → IsPadded w → Matches 0x00F
 loops w n p m =
     word_is w (full _ _ n.0 m.at0) (full _ _ n.1 m.at1) refl (full _ _ n.3 m.at3) (digit0 _ w.op1 w.op2 n.4 refl) (rest1 _ w.op1 w.op2 n.4 refl)
 
-pub control_inverted : AllRows Inverts control_rows
-control_inverted =
-    jump ▸  -- J
-    call ▸  -- CALL0
-    call ▸  -- CALL4
-    call ▸  -- CALL8
-    call ▸  -- CALL12
-    in_none ▸  -- RET
-    in_none ▸  -- RETW
-    in_s ▸  -- JX
-    in_s ▸  -- CALLX0
-    in_s ▸  -- CALLX4
-    in_s ▸  -- CALLX8
-    in_s ▸  -- CALLX12
-    beqz ▸  -- BEQZ
-    beqz ▸  -- BNEZ
-    beqz ▸  -- BLTZ
-    beqz ▸  -- BGEZ
-    beqi ▸  -- BEQI
-    beqi ▸  -- BNEI
-    beqi ▸  -- BLTI
-    beqi ▸  -- BGEI
-    bltui ▸  -- BLTUI
-    bltui ▸  -- BGEUI
-    branch ▸  -- BNONE
-    branch ▸  -- BEQ
-    branch ▸  -- BLT
-    branch ▸  -- BLTU
-    branch ▸  -- BALL
-    branch ▸  -- BBC
-    branch ▸  -- BANY
-    branch ▸  -- BNE
-    branch ▸  -- BGE
-    branch ▸  -- BGEU
-    branch ▸  -- BNALL
-    branch ▸  -- BBS
-    bbci ▸  -- BBCI
-    bbci ▸  -- BBSI
-    entry ▸  -- ENTRY
-    loops ▸  -- LOOP
-    loops ▸  -- LOOPNEZ
-    loops ▸  -- LOOPGTZ
+pub control_encoded : AllRows IsEncoded control_rows
+control_encoded =
+    (jump, λ w. refl) ▸  -- J
+    (call, λ w. refl) ▸  -- CALL0
+    (call, λ w. refl) ▸  -- CALL4
+    (call, λ w. refl) ▸  -- CALL8
+    (call, λ w. refl) ▸  -- CALL12
+    (in_none, λ w. refl) ▸  -- RET
+    (in_none, λ w. refl) ▸  -- RETW
+    (in_s, λ w. refl) ▸  -- JX
+    (in_s, λ w. refl) ▸  -- CALLX0
+    (in_s, λ w. refl) ▸  -- CALLX4
+    (in_s, λ w. refl) ▸  -- CALLX8
+    (in_s, λ w. refl) ▸  -- CALLX12
+    (beqz, λ w. refl) ▸  -- BEQZ
+    (beqz, λ w. refl) ▸  -- BNEZ
+    (beqz, λ w. refl) ▸  -- BLTZ
+    (beqz, λ w. refl) ▸  -- BGEZ
+    (beqi, λ w. refl) ▸  -- BEQI
+    (beqi, λ w. refl) ▸  -- BNEI
+    (beqi, λ w. refl) ▸  -- BLTI
+    (beqi, λ w. refl) ▸  -- BGEI
+    (bltui, λ w. refl) ▸  -- BLTUI
+    (bltui, λ w. refl) ▸  -- BGEUI
+    (branch, λ w. refl) ▸  -- BNONE
+    (branch, λ w. refl) ▸  -- BEQ
+    (branch, λ w. refl) ▸  -- BLT
+    (branch, λ w. refl) ▸  -- BLTU
+    (branch, λ w. refl) ▸  -- BALL
+    (branch, λ w. refl) ▸  -- BBC
+    (branch, λ w. refl) ▸  -- BANY
+    (branch, λ w. refl) ▸  -- BNE
+    (branch, λ w. refl) ▸  -- BGE
+    (branch, λ w. refl) ▸  -- BGEU
+    (branch, λ w. refl) ▸  -- BNALL
+    (branch, λ w. refl) ▸  -- BBS
+    (bbci, λ w. refl) ▸  -- BBCI
+    (bbci, λ w. refl) ▸  -- BBSI
+    (entry, λ w. refl) ▸  -- ENTRY
+    (loops, λ w. refl) ▸  -- LOOP
+    (loops, λ w. refl) ▸  -- LOOPNEZ
+    (loops, λ w. refl) ▸  -- LOOPGTZ
     tt

@@ -1,4 +1,4 @@
--- The rows of the 16-bit instructions, inverted.
+-- The rows of the 16-bit instructions, each inverted and of its length.
 use Rattle.std.proofs.Common.{◌≡◌, ℕ, ◌+◌, ◌*◌, ◌/◌, ◌%◌, ltb, true, refl, sym, arith}
 use Rattle.std.proofs.lemmas.Bool.{ltb-true}
 use Rattle.xt_isa.specs.declared.Fields.{Fields}
@@ -8,7 +8,7 @@ use Rattle.xt_isa.specs.Spelling.{density_rows, minus_one_or, narrow_constant, n
 use Rattle.xt_isa.proofs.RowByRow.{◌▸◌}
 use Rattle.xt_mnemonic.specs.Encodings.{IsPadded}
 use Rattle.xt_mnemonic.proofs.EncodingWords.{narrow, narrow_none, narrow_s, narrow_s6, narrow_s7, narrow_ts, natural, unsigned}
-use Rattle.xt_mnemonic.proofs.EncodingParts.{Inverts, Matches, digit0, full, high_one, high_two, minus_one_or_back, narrow_constant_back, rest1, word_is}
+use Rattle.xt_mnemonic.proofs.EncodingParts.{IsEncoded, Matches, digit0, full, high_one, high_two, minus_one_or_back, narrow_constant_back, rest1, word_is}
 use Rattle.xt_mnemonic.proofs.EncodingFormats.{times_back}
 
 narrow_is : (v : ℕ) {r s t : ℕ} (w : Fields) → ltb 7 (nibble v 0) ≡ true → IsPadded w → nibble v 0 ≡ w.op0 → t ≡ w.t → s ≡ w.s → r ≡ w.r → narrow v r s t ≡ w
@@ -43,19 +43,19 @@ ret {v = v} h w n p m = narrow_is v w h p (full _ _ n.0 m.at0) (full _ _ n.1 m.a
 breakpoint : (w : Fields) → AreNibbles w → IsPadded w → Matches 0x00F0FF 0x00F02D w → narrow_s 0x00F02D w.s ≡ w
 breakpoint w n p m = narrow_is 0x00F02D w refl p (full _ _ n.0 m.at0) (full _ _ n.1 m.at1) refl (full _ _ n.3 m.at3)
 
-pub density_inverted : AllRows Inverts density_rows
-density_inverted =
-    words refl ▸  -- L32I.N
-    words refl ▸  -- S32I.N
-    add ▸  -- ADD.N
-    addi ▸  -- ADDI.N
-    movi ▸  -- MOVI.N
-    beqz refl ▸  -- BEQZ.N
-    beqz refl ▸  -- BNEZ.N
-    mov ▸  -- MOV.N
-    ret refl ▸  -- RET.N
-    ret refl ▸  -- RETW.N
-    ret refl ▸  -- NOP.N
-    ret refl ▸  -- ILL.N
-    breakpoint ▸  -- BREAK.N
+pub density_encoded : AllRows IsEncoded density_rows
+density_encoded =
+    (words refl, λ w. refl) ▸  -- L32I.N
+    (words refl, λ w. refl) ▸  -- S32I.N
+    (add, λ w. refl) ▸  -- ADD.N
+    (addi, λ w. refl) ▸  -- ADDI.N
+    (movi, λ w. refl) ▸  -- MOVI.N
+    (beqz refl, λ w. refl) ▸  -- BEQZ.N
+    (beqz refl, λ w. refl) ▸  -- BNEZ.N
+    (mov, λ w. refl) ▸  -- MOV.N
+    (ret refl, λ w. refl) ▸  -- RET.N
+    (ret refl, λ w. refl) ▸  -- RETW.N
+    (ret refl, λ w. refl) ▸  -- NOP.N
+    (ret refl, λ w. refl) ▸  -- ILL.N
+    (breakpoint, λ w. refl) ▸  -- BREAK.N
     tt

@@ -1,4 +1,4 @@
--- The rows of loads, stores and immediates, inverted.
+-- The rows of loads, stores and immediates, each inverted and of its length.
 use Rattle.std.proofs.Common.{◌≡◌, ℕ, ◌+◌, ◌*◌, ◌/◌, ◌%◌, ◌<◌, refl, ap, ◌∙◌, arith}
 use Rattle.xt_isa.specs.declared.Fields.{Fields}
 use Rattle.xt_isa.specs.Ranges.{AreNibbles}
@@ -7,7 +7,7 @@ use Rattle.xt_isa.specs.Spelling.{below, imm8, imm16, memory_rows, signed}
 use Rattle.xt_isa.proofs.RowByRow.{◌▸◌}
 use Rattle.xt_mnemonic.specs.Encodings.{IsPadded}
 use Rattle.xt_mnemonic.proofs.EncodingWords.{of_t16, of_ts8, rrr, unsigned}
-use Rattle.xt_mnemonic.proofs.EncodingParts.{Inverts, Matches, below_back, full, signed_back}
+use Rattle.xt_mnemonic.proofs.EncodingParts.{IsEncoded, Matches, below_back, full, signed_back}
 use Rattle.xt_mnemonic.proofs.EncodingFormats.{rrr_is, t16_is, times_back, ts8_is}
 
 byte : {v : ℕ} (w : Fields) → AreNibbles w → IsPadded w → Matches 0x00F00F v w → of_ts8 v w.t w.s (imm8 w) ≡ w
@@ -39,22 +39,22 @@ addi w n p m = ts8_is w n m refl (signed_back 128 (imm8 w) (omega arith))
 addmi : (w : Fields) → AreNibbles w → IsPadded w → Matches 0x00F00F 0x00D002 w → of_ts8 0x00D002 w.t w.s (unsigned 32768 (signed 32768 (256 * imm8 w)) / 256) ≡ w
 addmi w n p m = ts8_is w n m refl (ap (λ k. k / 256) (signed_back 32768 (256 * imm8 w) (omega arith)) ∙ (times_back (imm8 w)).3)
 
-pub memory_inverted : AllRows Inverts memory_rows
-memory_inverted =
-    byte ▸  -- L8UI
-    byte ▸  -- S8I
-    halves ▸  -- L16UI
-    halves ▸  -- L16SI
-    halves ▸  -- S16I
-    words ▸  -- L32I
-    words ▸  -- S32I
-    words ▸  -- L32AI
-    words ▸  -- S32RI
-    words ▸  -- S32C1I
-    window ▸  -- L32E
-    window ▸  -- S32E
-    literal ▸  -- L32R
-    movi ▸  -- MOVI
-    addi ▸  -- ADDI
-    addmi ▸  -- ADDMI
+pub memory_encoded : AllRows IsEncoded memory_rows
+memory_encoded =
+    (byte, λ w. refl) ▸  -- L8UI
+    (byte, λ w. refl) ▸  -- S8I
+    (halves, λ w. refl) ▸  -- L16UI
+    (halves, λ w. refl) ▸  -- L16SI
+    (halves, λ w. refl) ▸  -- S16I
+    (words, λ w. refl) ▸  -- L32I
+    (words, λ w. refl) ▸  -- S32I
+    (words, λ w. refl) ▸  -- L32AI
+    (words, λ w. refl) ▸  -- S32RI
+    (words, λ w. refl) ▸  -- S32C1I
+    (window, λ w. refl) ▸  -- L32E
+    (window, λ w. refl) ▸  -- S32E
+    (literal, λ w. refl) ▸  -- L32R
+    (movi, λ w. refl) ▸  -- MOVI
+    (addi, λ w. refl) ▸  -- ADDI
+    (addmi, λ w. refl) ▸  -- ADDMI
     tt

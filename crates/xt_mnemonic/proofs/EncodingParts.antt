@@ -9,6 +9,7 @@ use Rattle.xt_isa.specs.Apart.{AllRows}
 use Rattle.xt_isa.specs.Spelling.{Row, b4const, b4constu, below, fits, joined, minus_one_or, narrow_constant, nibble, signed, spell}
 use Rattle.xt_isa.proofs.ApartRows.{agrees_all}
 use Rattle.xt_isa.proofs.Ranged.{below_negative}
+use Rattle.xt_names.specs.Insns.{insn_size}
 use Rattle.xt_mnemonic.specs.Encodings.{IsPadded}
 use Rattle.xt_mnemonic.proofs.EncodingWords.{constant, fields_from, natural, unsigned}
 
@@ -47,14 +48,26 @@ either : (b : Bool) (x y : Option Insn) (w : Fields) → (b ≡ true → GivesBa
 either true x y w here later = here refl
 either false x y w here later = later
 
-pub spell_inverts : (rows : List Row) → AllRows Inverts rows → (w : Fields) → AreNibbles w → IsPadded w → GivesBack w (spell rows w)
+-- what a row makes of a word, if anything, has so many bytes
+abbrev pub is_sized : ℕ → Option Insn → Bool
+is_sized n None = true
+is_sized n (Some i) = eqb (insn_size i) n
+
+pub sized : (b : Bool) (i : Insn) (n : ℕ) → is_sized n (Some i) ≡ true → is_sized n (cond b (Some i) None) ≡ true
+sized b i n e = cond_both b (Some i) None (λ o. is_sized n o ≡ true) (λ _. e) (λ _. refl)
+
+-- what a row makes of a word gives the word back, and has the length of the row
+abbrev pub IsEncoded : Row → Type 0
+IsEncoded row = Inverts row × ((w : Fields) → is_sized row.len (row.operands w) ≡ true)
+
+pub spell_inverts : (rows : List Row) → AllRows IsEncoded rows → (w : Fields) → AreNibbles w → IsPadded w → GivesBack w (spell rows w)
 spell_inverts [] a w n p = tt
 spell_inverts (row ∷ rows) a w n p =
-    either (fits row w) (row.operands w) (spell rows w) w (λ h. a.0 w n p (matches row w h)) (spell_inverts rows a.1 w n p)
+    either (fits row w) (row.operands w) (spell rows w) w (λ h. a.0.0 w n p (matches row w h)) (spell_inverts rows a.1 w n p)
 
-pub inverts_joined : (rows more : List Row) → AllRows Inverts rows → AllRows Inverts more → AllRows Inverts (joined rows more)
-inverts_joined [] more a b = b
-inverts_joined (row ∷ rows) more a b = (a.0, inverts_joined rows more a.1 b)
+pub encoded_joined : (rows more : List Row) → AllRows IsEncoded rows → AllRows IsEncoded more → AllRows IsEncoded (joined rows more)
+encoded_joined [] more a b = b
+encoded_joined (row ∷ rows) more a b = (a.0, encoded_joined rows more a.1 b)
 
 pub guarded : (b : Bool) (i : Insn) (w : Fields) → (b ≡ true → fields_from i ≡ w) → GivesBack w (cond b (Some i) None)
 guarded b i w h = cond_both b (Some i) None (GivesBack w) h (λ _. tt)

@@ -1,4 +1,4 @@
--- The rows of shifts and of one source, inverted.
+-- The rows of shifts and of one source, each inverted and of its length.
 use Rattle.std.proofs.Common.{◌≡◌, ℕ, ◌+◌, ◌-◌, ◌%◌, ◌<◌, cond, eqb, not, Some, None, pos, refl, arith}
 use Rattle.xt_isa.specs.declared.Insn.TheVariants as insn
 use Rattle.xt_isa.specs.declared.Fields.{Fields}
@@ -9,7 +9,7 @@ use Rattle.xt_isa.specs.Spelling.{five, shift_rows}
 use Rattle.xt_isa.proofs.RowByRow.{◌▸◌}
 use Rattle.xt_mnemonic.specs.Encodings.{IsPadded}
 use Rattle.xt_mnemonic.proofs.EncodingWords.{amount, extracted, rrr, shifted_s, shifted_t}
-use Rattle.xt_mnemonic.proofs.EncodingParts.{GivesBack, Inverts, Matches, digit0, full, guarded, high_three, rest1, word_is}
+use Rattle.xt_mnemonic.proofs.EncodingParts.{GivesBack, IsEncoded, Matches, digit0, full, guarded, high_three, rest1, word_is, sized}
 use Rattle.xt_mnemonic.proofs.EncodingFormats.{all_three, in_rs, in_rt, in_s, in_ts, rrr_is}
 
 left : (w : Fields) (k : ℕ) → AreNibbles w → Matches 0xEF000F 0x010000 w → k ≡ five w.t w.op2 → shifted_t 0x010000 w.r w.s k ≡ w
@@ -42,25 +42,25 @@ ssai : (w : Fields) → AreNibbles w → IsPadded w → Matches 0xFFF0EF 0x40400
 ssai w n p m =
     word_is w (full _ _ n.0 m.at0) (high_three w.t _ _ n.1 m.at1 (rest1 _ w.s (w.t % 2) n.2 refl)) (digit0 _ w.s (w.t % 2) n.2 refl) (full _ _ n.3 m.at3) (full _ _ n.4 m.at4) (full _ _ n.5 m.at5)
 
-pub shift_inverted : AllRows Inverts shift_rows
-shift_inverted =
-    in_rt ▸  -- NEG
-    in_rt ▸  -- ABS
-    in_rt ▸  -- SRL
-    in_rt ▸  -- SRA
-    in_rs ▸  -- SLL
-    slli ▸  -- SLLI
-    srai ▸  -- SRAI
-    all_three ▸  -- SRLI
-    extui ▸  -- EXTUI
-    sext ▸  -- SEXT
-    sext ▸  -- CLAMPS
-    in_ts ▸  -- NSA
-    in_ts ▸  -- NSAU
-    in_ts ▸  -- MOVSP
-    in_s ▸  -- SSR
-    in_s ▸  -- SSL
-    in_s ▸  -- SSA8L
-    in_s ▸  -- SSA8B
-    ssai ▸  -- SSAI
+pub shift_encoded : AllRows IsEncoded shift_rows
+shift_encoded =
+    (in_rt, λ w. refl) ▸  -- NEG
+    (in_rt, λ w. refl) ▸  -- ABS
+    (in_rt, λ w. refl) ▸  -- SRL
+    (in_rt, λ w. refl) ▸  -- SRA
+    (in_rs, λ w. refl) ▸  -- SLL
+    (slli, λ w. sized (not (eqb (five w.t w.op2) 0)) (insn.Shift (shift.Slli w.r w.s (pos (32 - five w.t w.op2)))) 3 refl) ▸  -- SLLI
+    (srai, λ w. refl) ▸  -- SRAI
+    (all_three, λ w. refl) ▸  -- SRLI
+    (extui, λ w. refl) ▸  -- EXTUI
+    (sext, λ w. refl) ▸  -- SEXT
+    (sext, λ w. refl) ▸  -- CLAMPS
+    (in_ts, λ w. refl) ▸  -- NSA
+    (in_ts, λ w. refl) ▸  -- NSAU
+    (in_ts, λ w. refl) ▸  -- MOVSP
+    (in_s, λ w. refl) ▸  -- SSR
+    (in_s, λ w. refl) ▸  -- SSL
+    (in_s, λ w. refl) ▸  -- SSA8L
+    (in_s, λ w. refl) ▸  -- SSA8B
+    (ssai, λ w. refl) ▸  -- SSAI
     tt

@@ -1,4 +1,4 @@
--- The rows of system instructions, inverted.
+-- The rows of system instructions, each inverted and of its length.
 use Rattle.std.proofs.Common.{◌≡◌, ℕ, ◌/◌, ◌%◌, ◌&&◌, cond, ltb, Some, None, pos, refl}
 use Rattle.xt_isa.specs.declared.Insn.TheVariants as insn
 use Rattle.xt_isa.specs.declared.Fields.{Fields}
@@ -10,7 +10,7 @@ use Rattle.xt_isa.specs.Spelling.{can_exchange, can_read, can_write, eight, sign
 use Rattle.xt_isa.proofs.RowByRow.{◌▸◌}
 use Rattle.xt_mnemonic.specs.Encodings.{IsPadded}
 use Rattle.xt_mnemonic.proofs.EncodingWords.{of_t, rrr, unsigned}
-use Rattle.xt_mnemonic.proofs.EncodingParts.{GivesBack, Inverts, Matches, digit0, guarded, rest1, signed_back}
+use Rattle.xt_mnemonic.proofs.EncodingParts.{GivesBack, IsEncoded, Matches, digit0, guarded, rest1, signed_back, sized}
 use Rattle.xt_mnemonic.proofs.EncodingFormats.{in_none, in_r, in_s, in_t, in_ts, rrr_is, t_is}
 
 rfi : (w : Fields) → AreNibbles w → IsPadded w → Matches 0xFFF0FF 0x003010 w → GivesBack w (cond (ltb 1 w.s && ltb w.s 8) (Some (insn.System (system.Rfi (pos w.s)))) None)
@@ -31,30 +31,30 @@ wsr w n p m = guarded (can_write (eight w)) (insn.System (system.Rsr special.Wsr
 xsr : (w : Fields) → AreNibbles w → IsPadded w → Matches 0xFF000F 0x610000 w → GivesBack w (cond (can_exchange (eight w)) (Some (insn.System (system.Rsr special.Xsr w.t (eight w)))) None)
 xsr w n p m = guarded (can_exchange (eight w)) (insn.System (system.Rsr special.Xsr w.t (eight w))) w (λ h. register w n m)
 
-pub system_inverted : AllRows Inverts system_rows
-system_inverted =
-    in_none ▸  -- ILL
-    in_none ▸  -- ISYNC
-    in_none ▸  -- RSYNC
-    in_none ▸  -- ESYNC
-    in_none ▸  -- DSYNC
-    in_none ▸  -- EXCW
-    in_none ▸  -- MEMW
-    in_none ▸  -- EXTW
-    in_none ▸  -- NOP
-    in_none ▸  -- RFE
-    in_none ▸  -- RFDE
-    in_none ▸  -- RFWO
-    in_none ▸  -- RFWU
-    rfi ▸  -- RFI
-    in_ts ▸  -- BREAK
-    in_none ▸  -- SYSCALL
-    in_ts ▸  -- RSIL
-    in_s ▸  -- WAITI
-    rotw ▸  -- ROTW
-    rsr ▸  -- RSR
-    wsr ▸  -- WSR
-    xsr ▸  -- XSR
-    in_r ▸  -- RUR
-    in_t ▸  -- WUR
+pub system_encoded : AllRows IsEncoded system_rows
+system_encoded =
+    (in_none, λ w. refl) ▸  -- ILL
+    (in_none, λ w. refl) ▸  -- ISYNC
+    (in_none, λ w. refl) ▸  -- RSYNC
+    (in_none, λ w. refl) ▸  -- ESYNC
+    (in_none, λ w. refl) ▸  -- DSYNC
+    (in_none, λ w. refl) ▸  -- EXCW
+    (in_none, λ w. refl) ▸  -- MEMW
+    (in_none, λ w. refl) ▸  -- EXTW
+    (in_none, λ w. refl) ▸  -- NOP
+    (in_none, λ w. refl) ▸  -- RFE
+    (in_none, λ w. refl) ▸  -- RFDE
+    (in_none, λ w. refl) ▸  -- RFWO
+    (in_none, λ w. refl) ▸  -- RFWU
+    (rfi, λ w. sized (ltb 1 w.s && ltb w.s 8) (insn.System (system.Rfi (pos w.s))) 3 refl) ▸  -- RFI
+    (in_ts, λ w. refl) ▸  -- BREAK
+    (in_none, λ w. refl) ▸  -- SYSCALL
+    (in_ts, λ w. refl) ▸  -- RSIL
+    (in_s, λ w. refl) ▸  -- WAITI
+    (rotw, λ w. refl) ▸  -- ROTW
+    (rsr, λ w. sized (can_read (eight w)) (insn.System (system.Rsr special.Rsr w.t (eight w))) 3 refl) ▸  -- RSR
+    (wsr, λ w. sized (can_write (eight w)) (insn.System (system.Rsr special.Wsr w.t (eight w))) 3 refl) ▸  -- WSR
+    (xsr, λ w. sized (can_exchange (eight w)) (insn.System (system.Rsr special.Xsr w.t (eight w))) 3 refl) ▸  -- XSR
+    (in_r, λ w. refl) ▸  -- RUR
+    (in_t, λ w. refl) ▸  -- WUR
     tt
