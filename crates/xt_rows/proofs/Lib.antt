@@ -2,5 +2,3 @@ pub mod Bounds
 pub mod Proper
 pub mod Registers
 pub mod Fitting
-pub mod Reading
-pub mod Alone

@@ -3,7 +3,7 @@ use Rattle.xt_map.specs.Memory.{constant_byte}
 use Rattle.xt_rows.specs.declared.outcome.Outcome.{Outcome}
 use Rattle.xt_rows.specs.Effects.{unchanged}
 use Rattle.xt_rows.specs.Laws.{AsksWith, IsAny, IsProper}
-use Rattle.xt_rows.proofs.Alone.{outcome_alone}
+use Rattle.xt_rows.proofs.Fitting.{outcome_alone}
 use Rattle.xt_rows.proofs.Proper.{outcome_fit}
 use Rattle.xt_rows.proofs.rows.outcome_of.Goals as goal
 
