@@ -11,7 +11,7 @@ use xt_window::WindowFile;
 /// The records of one core of a run, made again one by one. Contracts see the list of the records that are left.
 #[derive(Drop)]
 pub struct Cursor<'a> {
-    code: Constants,
+    code: Constants<'a>,
     core: u8,
     regs: Regs<WindowFile>,
     left: u32,

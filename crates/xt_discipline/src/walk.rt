@@ -26,8 +26,8 @@ use xt_trace::{Options, Records, Run};
 
 /// The walk so far.
 #[derive(Drop)]
-pub struct Walk {
-    code: Constants,
+pub struct Walk<'a> {
+    code: Constants<'a>,
     side0: Side,
     side1: Side,
     // What is known of each byte of internal data memory.
@@ -109,16 +109,16 @@ fn turn_of<R: Records>(
     }
 }
 
-impl Walk {
+impl<'a> Walk<'a> {
     /// Both cores as they open. The only error is running out of memory; all of it is taken here.
     pub fn open(
         alloc: Global,
-        code: Constants,
+        code: Constants<'a>,
         entry: u32,
         options: &Options,
-    ) -> Result<Walk, AllocError>
+    ) -> Result<Walk<'a>, AllocError>
         requires { IsValid options.now }
-        ensures { IfOk result (λ w. IsOpened w code entry options.now) }
+        ensures { IfOk result (λ w. IsOpened w code.entry entry options.now) }
     {
         let side0 = side_of(alloc, 0, entry, options, options.stack0.hi)?;
         let side1 = side_of(alloc, 1, options.entry1, options, options.stack1.hi)?;

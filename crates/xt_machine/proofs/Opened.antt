@@ -52,15 +52,15 @@ made_from image core s n segments before after old list history t same opens emp
     let D : Trace → Type 0 = λ x. IsMade (code_of image) core s n history x in
     subst D (sym told) (driven_made (code_of image) core s n after list history (subst C empty (subst B opens (subst A same d))) is)
 
-pub both_made : (image : Image) (o : Options) (segments : List Segment) (k0 k1 e0 e1 : CoreState) (old0 old1 list0 list1 : List (Access × ℕ)) (m : MemoryContents) (h : List Entry) (t0 t1 : Trace)
-    → IsValid o → segments ≡ image.segments
+pub both_made : (image : Image) (o : Options) (segments0 segments1 : List Segment) (k0 k1 e0 e1 : CoreState) (old0 old1 list0 list1 : List (Access × ℕ)) (m : MemoryContents) (h : List Entry) (t0 t1 : Trace)
+    → IsValid o → segments0 ≡ image.segments → segments1 ≡ image.segments
     → k0 ≡ opened 0 (opening_at 0 (entry_of 0 image o) o) (turns_of 0 o) → k1 ≡ opened 1 (opening_at 1 (entry_of 1 image o) o) (turns_of 1 o) → old0 ≡ [] → old1 ≡ []
-    → WasDriven (constant_byte segments) k0 e0 old0 list0 → WasDriven (constant_byte segments) k1 e1 old1 list1
+    → WasDriven (constant_byte segments0) k0 e0 old0 list0 → WasDriven (constant_byte segments1) k1 e1 old1 list1
     → m ≡ memory_of image o → IsLegal m h → IsOfCores h → calls_of 0 h ≡ list0 → calls_of 1 h ≡ list1 → t0 ≡ trace_of e0 → t1 ≡ trace_of e1
     → (r : Run) → ◌≡◌ {A = Run} r (record { options = o; history = h; trace0 = t0; trace1 = t1 }) → IsRunOf image r
-both_made image o segments k0 k1 e0 e1 old0 old1 list0 list1 m h t0 t1 valid same opens0 opens1 empty0 empty1 d0 d1 memory legal cores calls0 calls1 told0 told1 r is =
-    let made0 = made_from image 0 (opening_at 0 (entry_of 0 image o) o) (turns_of 0 o) segments k0 e0 old0 list0 h t0 same opens0 empty0 d0 calls0 told0 in
-    let made1 = made_from image 1 (opening_at 1 (entry_of 1 image o) o) (turns_of 1 o) segments k1 e1 old1 list1 h t1 same opens1 empty1 d1 calls1 told1 in
+both_made image o segments0 segments1 k0 k1 e0 e1 old0 old1 list0 list1 m h t0 t1 valid same0 same1 opens0 opens1 empty0 empty1 d0 d1 memory legal cores calls0 calls1 told0 told1 r is =
+    let made0 = made_from image 0 (opening_at 0 (entry_of 0 image o) o) (turns_of 0 o) segments0 k0 e0 old0 list0 h t0 same0 opens0 empty0 d0 calls0 told0 in
+    let made1 = made_from image 1 (opening_at 1 (entry_of 1 image o) o) (turns_of 1 o) segments1 k1 e1 old1 list1 h t1 same1 opens1 empty1 d1 calls1 told1 in
     let L : MemoryContents → Type 0 = λ x. IsLegal x h in
     let R : Run → Type 0 = λ x. IsRunOf image x in
     subst R (sym is) (record {

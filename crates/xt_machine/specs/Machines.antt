@@ -16,7 +16,8 @@ opens core image o = opened core (opening_at core (entry_of core image o) o) (tu
 -- opens, and no access was made.
 pub record IsOpened (image : Image) (m : Machine) : Type 0 where
   pub valid : IsValid m.options
-  pub code : m.code ≡ image.segments
+  pub code0 : m.code0 ≡ image.segments
+  pub code1 : m.code1 ≡ image.segments
   pub core0 : m.core0 ≡ opens 0 image m.options
   pub core1 : m.core1 ≡ opens 1 image m.options
   pub seat0 : m.seat0 ≡ fresh m.shared 0 (turns_of 0 m.options) (memory_of image m.options)

@@ -10,9 +10,11 @@ use xt_trace::Options;
 /// Two cores at their opening, each with its seat at one bus that they share. It has all memory of
 /// its run.
 #[derive(Drop)]
-pub struct Machine {
+pub struct Machine<'a> {
     pub(crate) options: Options,
-    pub(crate) code: Constants,
+    // Those of each core, over the same segments.
+    pub(crate) code0: Constants<'a>,
+    pub(crate) code1: Constants<'a>,
     pub(crate) shared: SharedBus,
     pub(crate) seat0: CoreSeat,
     pub(crate) seat1: CoreSeat,

@@ -1,5 +1,6 @@
 //! Runs of two small images: the smallest one, and one of which each core makes fifty stores.
 ghost use Rattle.std.specs.Prelude.{IfOk};
+ghost use Rattle.xt_map.specs.Index.{IsIndexed};
 ghost use Rattle.xt_trace.specs.Validity.{IsValid};
 ghost use Rattle.xt_image.specs.Parts.{IsWellFormed};
 ghost use Rattle.xt_machine.specs.Driving.{MayDrive};
@@ -16,7 +17,7 @@ use std::thread::{Threads, join};
 use xt_core::Core;
 use xt_image::{Image, read, well_formed_is_placed};
 use xt_io::{Gate, OpenGate};
-use xt_map::Constants;
+use xt_map::{Constants, Index, Segment};
 use xt_sharedbus::{CoreSeat, NoMemory, SharedBus};
 use xt_trace::{Options, Run, Stack, Stop, Trace};
 
@@ -152,14 +153,17 @@ fn both_cores_meet_in_go(rt: HostRuntime) -> Result<(), Fail> {
 fn drive_one<R: Wait>(
     rt: &R,
     mut core: Core<File>,
-    code: &Constants,
+    segments: &[Segment],
+    index: Index,
     bus: &SharedBus,
     mut seat: CoreSeat,
     gate: &Meet,
 )
-    requires { MayDrive bus.now core seat }
+    requires drives { MayDrive bus.now core seat }
+    requires indexed { IsIndexed segments.now index }
 {
-    drive(rt, &mut core, code, bus, &mut seat, gate);
+    let code = Constants::from_parts(segments, index);
+    drive(rt, &mut core, &code, bus, &mut seat, gate);
 }
 
 /// Drives both cores of the image of fifty stores, each on a thread of the test.
@@ -167,7 +171,9 @@ fn drive_both<R: Threads + Wait + Sync>(rt: &R, alloc: Global, gate: &Meet) -> R
     let image = image_in(alloc, &FIFTY_STORES)?;
     let options = options_of(1000, 1000, 0x40080400)?;
     well_formed_is_placed();
-    let code = Constants::make(alloc, image.segments.as_slice())?;
+    let segments = image.segments.as_slice();
+    let (segments0, index0) = Constants::make(alloc, segments)?.into_parts();
+    let (segments1, index1) = Constants::make(alloc, segments)?.into_parts();
     let core0 = Core::make(alloc, 0, image.entry, &options, opening_file())?;
     let core1 = Core::make(alloc, 1, options.entry1, &options, opening_file())?;
     let bus = opening_bus(alloc, &image, &options)?;
@@ -176,15 +182,17 @@ fn drive_both<R: Threads + Wait + Sync>(rt: &R, alloc: Global, gate: &Meet) -> R
         Ok(made) => made,
         Err(NoMemory { .. }) => return Err(AllocError.into()),
     };
-    let (bus, bytes) = (&shared, &code);
+    let bus = &shared;
     join(
         rt,
         move ||
-            requires { MayDrive bus.now core0 seat0 }
-        { drive_one(rt, core0, bytes, bus, seat0, gate) },
+            requires drives { MayDrive bus.now core0 seat0 }
+            requires indexed { IsIndexed segments0.now index0 }
+        { drive_one(rt, core0, segments0, index0, bus, seat0, gate) },
         move ||
-            requires { MayDrive bus.now core1 seat1 }
-        { drive_one(rt, core1, bytes, bus, seat1, gate) },
+            requires drives { MayDrive bus.now core1 seat1 }
+            requires indexed { IsIndexed segments1.now index1 }
+        { drive_one(rt, core1, segments1, index1, bus, seat1, gate) },
     );
     Ok(())
 }

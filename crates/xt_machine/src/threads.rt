@@ -1,5 +1,6 @@
 //! Two cores on two threads.
 ghost use Rattle.std.specs.Prelude.{◌≡◌, ◌≤◌, None, IfOk};
+ghost use Rattle.xt_map.specs.Index.{IsIndexed};
 ghost use Rattle.xt_map.specs.Memory.{constant_byte};
 ghost use Rattle.xt_trace.specs.Validity.{IsValid};
 ghost use Rattle.xt_image.specs.declared.image.Image.{Image};
@@ -21,7 +22,7 @@ use std::thread::{Threads, join};
 use xt_core::Core;
 use xt_image::{Image, well_formed_is_placed};
 use xt_io::Gate;
-use xt_map::Constants;
+use xt_map::{Constants, Index, Segment};
 use xt_sharedbus::{CoreSeat, NoMemory, SharedBus};
 use xt_trace::{Options, Run};
 
@@ -29,19 +30,22 @@ use xt_trace::{Options, Run};
 fn driven<G: Gate, R: Wait>(
     rt: &R,
     mut core: Core<File>,
-    code: &Constants,
+    segments: &[Segment],
+    index: Index,
     bus: &SharedBus,
     mut seat: CoreSeat,
     gate: &G,
 ) -> (Core<File>, CoreSeat)
-    requires { MayDrive bus.now core seat }
-    ensures { HasDriven (constant_byte code.now) core seat result.0 result.1 }
+    requires drives { MayDrive bus.now core seat }
+    requires indexed { IsIndexed segments.now index }
+    ensures { HasDriven (constant_byte segments.now) core seat result.0 result.1 }
 {
-    drive(rt, &mut core, code, bus, &mut seat, gate);
+    let code = Constants::from_parts(segments, index);
+    drive(rt, &mut core, &code, bus, &mut seat, gate);
     (core, seat)
 }
 
-impl Machine {
+impl<'a> Machine<'a> {
     /// A machine as a run of the image opens. It takes all memory of the run, and the only error is
     /// running out of memory. It opens the bus that the cores share, so it may wait.
     ///
@@ -49,16 +53,18 @@ impl Machine {
     pub fn make<R: Wait>(
         rt: &R,
         alloc: Global,
-        image: &Image,
+        image: &'a Image,
         options: &Options,
-    ) -> Result<Machine, AllocError>
+    ) -> Result<Machine<'a>, AllocError>
         requires image { IsWellFormed image.now }
         requires valid { IsValid options.now }
         ensures options { IfOk result (λ m. m.options ≡ options.now) }
         ensures opened { IfOk result (λ m. IsOpened image.now m) }
     {
         well_formed_is_placed();
-        let code = Constants::make(alloc, image.segments.as_slice())?;
+        let segments = image.segments.as_slice();
+        let code0 = Constants::make(alloc, segments)?;
+        let code1 = Constants::make(alloc, segments)?;
         let core0 = Core::make(alloc, 0, image.entry, options, opening_file())?;
         let core1 = Core::make(alloc, 1, options.entry1, options, opening_file())?;
         let bus = opening_bus(alloc, image, options)?;
@@ -66,7 +72,8 @@ impl Machine {
         match SharedBus::make(rt, alloc, bus, turns0, turns1) {
             Ok((shared, seat0, seat1)) => Ok(Machine {
                 options: *options,
-                code,
+                code0,
+                code1,
                 shared,
                 seat0,
                 seat1,
@@ -81,14 +88,15 @@ impl Machine {
     /// window handlers pass their check and the stacks are apart, the run up to its first breach is one
     /// of the machine with unbounded call frames.
     pub fn go<G: Gate, R: Threads + Wait + Sync>(self, rt: &R, gate: &G) -> Run
-        ensures options { result.options ≡ self.options }
-        ensures run { (image : Image) → IsOpened image self → IsRunOf image result }
-        ensures own { (image : Image) → IsOpened image self → run_of_list image self.options (schedule_in result) ≡ result }
-        ensures framed { (image : Image) → FitsImage image → IsOpened image self → IsFramed image result }
+        ensures options { result.options ≡ self.entry.options }
+        ensures run { (image : Image) → IsOpened image self.entry → IsRunOf image result }
+        ensures own { (image : Image) → IsOpened image self.entry → run_of_list image self.entry.options (schedule_in result) ≡ result }
+        ensures framed { (image : Image) → FitsImage image → IsOpened image self.entry → IsFramed image result }
     {
         let Machine {
             options,
-            code,
+            code0,
+            code1,
             shared,
             seat0,
             seat1,
@@ -98,17 +106,21 @@ impl Machine {
         is_word(options.vecbase);
         is_word(options.entry1);
         let bus = &shared;
-        let bytes = &code;
+        // A closure that captures a struct with a lifetime loses its contract, so each has the parts.
+        let (segments0, index0) = code0.into_parts();
+        let (segments1, index1) = code1.into_parts();
         let ((core0, seat0), (core1, seat1)) = join(
             rt,
             move || -> (Core<File>, CoreSeat)
-                requires { MayDrive bus.now core0 seat0 }
-                ensures { HasDriven (constant_byte bytes.entry.now) core0 seat0 result.0 result.1 }
-            { driven(rt, core0, bytes, bus, seat0, gate) },
+                requires drives { MayDrive bus.now core0 seat0 }
+                requires indexed { IsIndexed segments0.now index0 }
+                ensures { HasDriven (constant_byte segments0.entry.now) core0 seat0 result.0 result.1 }
+            { driven(rt, core0, segments0, index0, bus, seat0, gate) },
             move || -> (Core<File>, CoreSeat)
-                requires { MayDrive bus.now core1 seat1 }
-                ensures { HasDriven (constant_byte bytes.entry.now) core1 seat1 result.0 result.1 }
-            { driven(rt, core1, bytes, bus, seat1, gate) },
+                requires drives { MayDrive bus.now core1 seat1 }
+                requires indexed { IsIndexed segments1.now index1 }
+                ensures { HasDriven (constant_byte segments1.entry.now) core1 seat1 result.0 result.1 }
+            { driven(rt, core1, segments1, index1, bus, seat1, gate) },
         );
         let bus = shared.close(rt, seat0, seat1);
         Run {

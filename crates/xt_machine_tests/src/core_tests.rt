@@ -101,7 +101,7 @@ impl Words {
 }
 
 // The handlers and a program, which stand apart.
-fn code(rt: &impl Abort, alloc: Global, at: u32, bytes: &[u8]) -> Result<Constants, AllocError> {
+fn segments_of(alloc: Global, at: u32, bytes: &[u8]) -> Result<[Segment; 2], AllocError> {
     let handlers = Segment {
         addr: VECTORS,
         bytes: Bytes::new(Vec::from_slice(alloc, &HANDLERS)?),
@@ -110,9 +110,17 @@ fn code(rt: &impl Abort, alloc: Global, at: u32, bytes: &[u8]) -> Result<Constan
         addr: at,
         bytes: Bytes::new(Vec::from_slice(alloc, bytes)?),
     };
-    let segments = [handlers, program];
-    assert!(rt; are_placed(&segments));
-    Constants::make(alloc, &segments)
+    Ok([handlers, program])
+}
+
+// What segments load.
+fn code<'a>(
+    rt: &impl Abort,
+    alloc: Global,
+    segments: &'a [Segment],
+) -> Result<Constants<'a>, AllocError> {
+    assert!(rt; are_placed(segments));
+    Constants::make(alloc, segments)
 }
 
 // A core that opens at an address.
@@ -189,7 +197,8 @@ fn in_window_14(regs: &mut Regs<WindowFile>) {
 #[test]
 fn calls_overflow_and_underflow(rt: HostRuntime) -> Result<(), Fail> {
     let alloc = rt.alloc();
-    let code = code(&rt, alloc, MAIN, &NINE_CALLS).ok().ok_or("memory")?;
+    let segments = segments_of(alloc, MAIN, &NINE_CALLS).ok().ok_or("memory")?;
+    let code = code(&rt, alloc, &segments).ok().ok_or("memory")?;
     let links = [(0x3FFF7FB4, 0x3FFF8000)];
     let mut words = Words {
         words: Vec::from_slice(alloc, &links).ok().ok_or("memory")?,
@@ -241,7 +250,8 @@ fn loops_and_window_checks(rt: HostRuntime) -> Result<(), Fail> {
         (&FAR_REGISTER[..], true, 13, 0, 1, 0, MAIN),
     ];
     for (program, far, turns, a2, a12, count, epc1) in rows {
-        let code = code(&rt, alloc, MAIN, program).ok().ok_or("memory")?;
+        let segments = segments_of(alloc, MAIN, program).ok().ok_or("memory")?;
+        let code = code(&rt, alloc, &segments).ok().ok_or("memory")?;
         let links = [(0x3FFF01F4, 0x3FFF0300)];
         let mut words = Words {
             words: Vec::from_slice(alloc, &links).ok().ok_or("memory")?,

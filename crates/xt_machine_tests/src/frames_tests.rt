@@ -1,5 +1,4 @@
 use std::alloc::{AllocError, Global};
-use std::process::Abort;
 use std::test::Fail;
 use xt_frames::{Breach, BreachKind, Frames};
 use xt_map::{Bytes, Constants, Segment, are_placed};
@@ -25,13 +24,11 @@ const OPTIONS: Options = Options {
     },
 };
 
-fn code(rt: &impl Abort, alloc: Global) -> Result<Constants, AllocError> {
-    let segments = [Segment {
+fn segments(alloc: Global) -> Result<[Segment; 1], AllocError> {
+    Ok([Segment {
         addr: MAIN,
         bytes: Bytes::new(Vec::from_slice(alloc, &CODE)?),
-    }];
-    assert!(rt; are_placed(&segments));
-    Constants::make(alloc, &segments)
+    }])
 }
 
 fn record(pc: u32, kind: StepKind, write: Option<RegWrite>) -> StepRecord {
@@ -51,7 +48,9 @@ fn record(pc: u32, kind: StepKind, write: Option<RegWrite>) -> StepRecord {
 // the opening frame returns.
 #[test]
 fn a_call_and_its_registers(rt: HostRuntime) -> Result<(), Fail> {
-    let code = code(&rt, rt.alloc())?;
+    let segments = segments(rt.alloc())?;
+    assert!(rt; are_placed(&segments));
+    let code = Constants::make(rt.alloc(), &segments)?;
     let mut frames = Frames::make(rt.alloc(), 0, MAIN, &OPTIONS)?;
     let write = RegWrite {
         reg: 1,

@@ -6,7 +6,6 @@ ghost use Rattle.std.specs.List.Sorted.{IsNonDecreasingBy};
 ghost use Rattle.xt_map.specs.declared.constants.Start.{Start};
 ghost use Rattle.xt_map.specs.Index.{HasStarts, IsCountUpto, IsIndexed, has_bytes};
 
-use crate::bytes::Bytes;
 use crate::placing::is_segment_loaded;
 use crate::segment::Segment;
 use std::alloc::{AllocError, Global};
@@ -19,48 +18,43 @@ struct Start {
     number: usize,
 }
 
+/// Where segments start, by which their bytes are found. It borrows nothing and has none of the bytes.
+/// Contracts see the starts of the segments that have bytes, in the order of the addresses.
+#[derive(Drop)]
+pub struct Index {
+    starts: Vec<Start>,
+}
+
+impl Model for Index {
+    ghost use Rattle.std.specs.Prelude.{List};
+    ghost use Rattle.xt_map.specs.declared.constants.Start.{Start};
+
+    ghost Value = { List Start };
+
+    ghost view = { λ i. i.starts.items };
+}
+
 /// The contents of the constant regions, from which instructions are fetched and constants are
-/// loaded. Contracts see the segments that it was made of.
+/// loaded. It borrows the segments that it is made of, and contracts see those.
 ///
 /// A byte is found by a binary search over the segments in the order of their addresses.
 #[derive(Drop)]
-pub struct Constants {
-    segments: Vec<Segment>,
+pub struct Constants<'a> {
+    segments: &'a [Segment],
     // The starts of the segments that have bytes, in the order of the addresses.
     starts: Vec<Start>,
 }
 
-impl Model for Constants {
+impl<'a> Model for Constants<'a> {
     ghost use Rattle.std.specs.Prelude.{List};
     ghost use Rattle.xt_map.specs.declared.segment.Segment.{Segment};
     ghost use Rattle.xt_map.specs.Index.{IsIndexed};
 
     ghost Value = { List Segment };
 
-    ghost view = { λ c. c.segments.items };
+    ghost view = { λ c. c.segments.now };
 
-    ghost invariant = { λ c. IsIndexed c.segments.items c.starts.items };
-}
-
-// A copy of a segment.
-fn copy_of(alloc: Global, segment: &Segment) -> Result<Segment, AllocError>
-    ensures { IfOk result (λ copy. copy ≡ segment.now) }
-{
-    Ok(Segment {
-        addr: segment.addr,
-        bytes: Bytes::new(Vec::from_slice(alloc, segment.bytes.as_slice())?),
-    })
-}
-
-// Copies of segments.
-fn copies_of(alloc: Global, segments: &[Segment]) -> Result<Vec<Segment>, AllocError>
-    ensures { IfOk result (λ copies. copies.items ≡ segments.now) }
-{
-    let mut copies = Vec::new(alloc);
-    for segment in segments {
-        copies.push(copy_of(alloc, segment)?)?;
-    }
-    Ok(copies)
+    ghost invariant = { λ c. IsIndexed c.segments.now c.starts.items };
 }
 
 // Whether a segment is loaded and has a byte.
@@ -150,18 +144,37 @@ fn three_in(segments: &[Segment], starts: &[Start], addr: u32) -> Option<(u8, u8
     }
 }
 
-impl Constants {
-    /// Copies what the segments load. The only error is running out of memory.
+impl<'a> Constants<'a> {
+    /// What the segments load. The only error is running out of memory.
     ///
     /// Each segment that is loaded and has a byte lies in one region other than UART0, and no two
     /// of them share a byte; `are_placed` tests this.
-    pub fn make(alloc: Global, segments: &[Segment]) -> Result<Constants, AllocError>
+    pub fn make(alloc: Global, segments: &'a [Segment]) -> Result<Constants<'a>, AllocError>
         requires { IsPlaced segments.now }
         ensures { IfOk result (λ c. c ≡ segments.now) }
     {
-        let starts = sorted_starts_of(alloc, segments)?;
-        let segments = copies_of(alloc, segments)?;
-        Ok(Constants { segments, starts })
+        Ok(Constants {
+            segments,
+            starts: sorted_starts_of(alloc, segments)?,
+        })
+    }
+
+    /// What segments load, whose index this is. It takes no memory.
+    pub fn from_parts(segments: &'a [Segment], index: Index) -> Constants<'a>
+        requires { IsIndexed segments.now index }
+        ensures { result ≡ segments.now }
+    {
+        let Index { starts } = index;
+        Constants { segments, starts }
+    }
+
+    /// The segments, and their index.
+    pub fn into_parts(self) -> (&'a [Segment], Index)
+        ensures segments { result.0.now ≡ self.entry }
+        ensures indexed { IsIndexed result.0.now result.1 }
+    {
+        let Constants { segments, starts } = self;
+        (segments, Index { starts })
     }
 
     /// The byte at an address of a constant region: what a loaded segment has there, else 0.
@@ -172,7 +185,7 @@ impl Constants {
         requires { is_constant (region_of addr) ≡ true }
         ensures { result ≡ constant_byte self.now addr }
     {
-        byte_in(&self.segments, &self.starts, addr)
+        byte_in(self.segments, &self.starts, addr)
     }
 
     /// Three bytes from an address on, all of constant regions. They are found by one search.
@@ -184,7 +197,7 @@ impl Constants {
         requires place { addr + 2 < 2 ^ 32 }
         ensures { result ≡ (constant_byte self.now addr, constant_byte self.now (addr + 1), constant_byte self.now (addr + 2)) }
     {
-        match three_in(&self.segments, &self.starts, addr) {
+        match three_in(self.segments, &self.starts, addr) {
             Some(bytes) => bytes,
             None => (self.byte(addr), self.byte(addr + 1), self.byte(addr + 2)),
         }

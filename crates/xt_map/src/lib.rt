@@ -19,7 +19,7 @@ mod segment;
 
 pub use access::{Access, Entry, Kind};
 pub use bytes::{Bytes, Text};
-pub use constants::Constants;
+pub use constants::{Constants, Index};
 pub use contents::MemoryContents;
 pub use history::History;
 pub use laws::{

@@ -24,7 +24,7 @@ pub(crate) struct Walk<'a> {
     pub options: Options,
     pub core0: File,
     pub core1: File,
-    pub setting: Setting,
+    pub setting: Setting<'a>,
 }
 
 /// What is made from the entries of a run: both traces, and the checkpoints.
@@ -36,7 +36,11 @@ pub(crate) struct Walked {
 }
 
 // What both cores work on as a run of the image opens.
-fn opening_setting(alloc: Global, image: &Image, options: &Options) -> Result<Setting, AllocError>
+fn opening_setting<'a>(
+    alloc: Global,
+    image: &'a Image,
+    options: &Options,
+) -> Result<Setting<'a>, AllocError>
     requires placed { IsPlaced image.now.segments }
     requires valid { IsValid options.now }
     ensures { IfOk result (StandsOpen image.now options.now) }

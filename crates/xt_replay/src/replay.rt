@@ -26,7 +26,7 @@ pub struct PastEnd;
 pub struct Replay<'a> {
     image: &'a Image,
     run: &'a Run,
-    code: Constants,
+    code: Constants<'a>,
     pair: Pair,
     opening: Mark,
     checkpoints: Vec<Checkpoint>,

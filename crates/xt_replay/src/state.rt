@@ -18,7 +18,7 @@ pub struct State<'s> {
     pub(crate) core0: &'s Core<WindowFile>,
     pub(crate) core1: &'s Core<WindowFile>,
     pub(crate) memory: &'s Memory,
-    pub(crate) code: &'s Constants,
+    pub(crate) code: &'s Constants<'s>,
     pub(crate) step0: u32,
     pub(crate) step1: u32,
 }

@@ -1,4 +1,4 @@
-use Rattle.std.proofs.Common.{arith, ◌≡◌, ℕ, ◌+◌}
+use Rattle.std.proofs.Common.{arith}
 use Rattle.xt_map.specs.declared.constants.Start.{Start}
 use Rattle.xt_map.proofs.Indexed.{found_from, found_behind, three_same}
 use Rattle.xt_map.proofs.constants.three_in.Goals as goal
