@@ -9,7 +9,7 @@
 # is not even 1 + 2 + .. + count any more.
 #
 # So the outcome differs from run to run, and the report is what one order of the accesses gave. The bus serves the accesses
-# one behind the other, and the history has that order: `schedule_of` of the library reads a schedule from the run, and
+# one after the other, and the history has that order: `schedule_of` of the library reads a schedule from the run, and
 # `run_schedule` makes the same run again from it. What is the same in every run:
 #
 #   - each core makes the same turns up to the S32C1I on `done`, since nothing here waits for the other core: both stop at the
@@ -22,7 +22,7 @@
 
 .seg 0x3FFB0000                 # internal data memory, which both cores reach
 count:  .word 0                 # the record,
-sum:    .word 0                 # 4 behind the count
+sum:    .word 0                 # 4 bytes after the count
 done:   .word 0
 
 .seg 0x400D0000
@@ -56,7 +56,7 @@ next:   l32i a4, a2, 0
         l32i a4, a2, 0
         movi a5, 1000           # the weight of the first of four digits
 first:  quou a3, a4, a5         # the digit,
-        remu a4, a4, a5         # and what is left behind it
+        remu a4, a4, a5         # and what is left after it
         addi a3, a3, '0'
         s8i a3, a6, 0
         quou a5, a5, a7         # 1000, 100, 10, 1, and then 0

@@ -3,4 +3,3 @@ pub mod InRange
 pub mod Searched
 pub mod Specials
 pub mod Walked
-pub mod Whole

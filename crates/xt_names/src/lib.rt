@@ -5,7 +5,6 @@
 #![tactic(auto)]
 
 mod forms;
-mod insns;
 pub mod laws;
 mod mnemonic;
 mod names;
@@ -14,12 +13,11 @@ mod search;
 mod special;
 
 pub use forms::{Access, Shape, access_of, is_narrow, shapes_of};
-pub use insns::insn_of;
 pub use mnemonic::{
     Mnemonic, Number, One, OneAndNumber, OneAndSpecial, OneAndTarget, OneNumberAndTarget, Plain,
     Three, Two, TwoAndNumber, TwoAndTarget,
 };
 pub use names::name_of;
-pub use parts::{Parts, mnemonic_in, parts_of};
+pub use parts::{Parts, insn_of, mnemonic_in, parts_of};
 pub use search::mnemonic_of;
 pub use special::{special_name, special_number};

@@ -27,7 +27,7 @@ pub fn special_value(s: &Special, register: Option<u8>) -> u32
     }
 }
 
-/// The next program counter after an instruction of this length that falls through: the instruction behind it, or the first one of
+/// The next program counter after an instruction of this length that falls through: the instruction after it, or the first one of
 /// a loop, which then has one pass less to make.
 #[tactic(auto, unfolding(xt_loop::specs::Looping::loops_back))]
 #[inline(always)]

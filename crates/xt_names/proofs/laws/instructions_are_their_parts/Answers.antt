@@ -1,4 +1,4 @@
-use Rattle.xt_names.proofs.Whole.{whole}
+use Rattle.xt_names.proofs.InRange.{whole}
 use Rattle.xt_names.proofs.laws.instructions_are_their_parts.Goals as goal
 
 pub returns : goal.returns
