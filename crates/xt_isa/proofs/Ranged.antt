@@ -253,11 +253,11 @@ narrow_break : (w : Fields) → AreNibbles w → natural_within 0 15 (pos w.s) �
 narrow_break w n = natural_low 15 _ (omega arith)
 
 -- four or eight Boolean registers from a multiple of 4 or 8
-four : {name : FourName} (w : Fields) → AreNibbles w → holds (cond (eqb (w.s % 4) 0) (Some (insn.Boolean (boolean.Any4 name w.t w.s))) None) ≡ true
-four {name = name} w n = guarded (eqb (w.s % 4) 0) (insn.Boolean (boolean.Any4 name w.t w.s)) (λ h. and_from _ _ (pair_ts w n) h)
+four : (name : FourName) (w : Fields) → AreNibbles w → holds (cond (eqb (w.s % 4) 0) (Some (insn.Boolean (boolean.Any4 name w.t w.s))) None) ≡ true
+four name w n = guarded (eqb (w.s % 4) 0) (insn.Boolean (boolean.Any4 name w.t w.s)) (λ h. and_from _ _ (pair_ts w n) h)
 
-eight_registers : {name : EightName} (w : Fields) → AreNibbles w → holds (cond (eqb (w.s % 8) 0) (Some (insn.Boolean (boolean.Any8 name w.t w.s))) None) ≡ true
-eight_registers {name = name} w n = guarded (eqb (w.s % 8) 0) (insn.Boolean (boolean.Any8 name w.t w.s)) (λ h. and_from _ _ (pair_ts w n) h)
+eight_registers : (name : EightName) (w : Fields) → AreNibbles w → holds (cond (eqb (w.s % 8) 0) (Some (insn.Boolean (boolean.Any8 name w.t w.s))) None) ≡ true
+eight_registers name w n = guarded (eqb (w.s % 8) 0) (insn.Boolean (boolean.Any8 name w.t w.s)) (λ h. and_from _ _ (pair_ts w n) h)
 
 test : (w : Fields) → AreNibbles w → (one_register w.s && signed_within 128 (signed 128 (imm8 w))) ≡ true
 test w n = and_from _ _ (single w n) (signed_ok 128 _ (omega arith) (omega arith))
@@ -418,10 +418,10 @@ rows_ranged =
     three ▸  -- ORB
     three ▸  -- ORBC
     three ▸  -- XORB
-    four ▸  -- ANY4
-    four ▸  -- ALL4
-    eight_registers ▸  -- ANY8
-    eight_registers ▸  -- ALL8
+    four _ ▸  -- ANY4
+    four _ ▸  -- ALL4
+    eight_registers _ ▸  -- ANY8
+    eight_registers _ ▸  -- ALL8
     test ▸  -- BF
     test ▸  -- BT
     three ▸  -- MOVF
