@@ -6,6 +6,7 @@ ghost use Rattle.xt_isa.specs.Spelling.{spelled};
 
 use crate::immediate::{b4const, b4constu, imm12, imm18, join_five, join_two, plain, signed};
 use xt_isa::Insn;
+use xt_isa::boolean::{Boolean, TestName};
 use xt_isa::control::{
     BitName, BranchName, CallName, ConstName, ConstuName, Control, LoopName, OppositeName, ZeroName,
 };
@@ -53,6 +54,8 @@ pub fn si(t: u8, s: u8, r: u8, op1: u8, op2: u8) -> Option<Insn>
         14 => Some(Insn::Control(Control::Beqi(ConstName::Bgei, s, b4const(r), near))),
         3 => Some(Insn::Control(Control::Entry(s, plain(8 * imm12(r, op1, op2))))),
         7 => match r {
+            0 => Some(Insn::Boolean(Boolean::Bf(TestName::Bf, s, near))),
+            1 => Some(Insn::Boolean(Boolean::Bf(TestName::Bt, s, near))),
             8 => Some(Insn::Control(Control::Loop(
                 LoopName::Loop,
                 s,

@@ -5,6 +5,7 @@ ghost use Rattle.std.specs.Prelude.{◌≡◌, ℕ, ◌+◌, ◌*◌, ◌%◌, �
 ghost use Rattle.xt_isa.specs.Spelling.{spelled};
 
 use crate::immediate::{below, join_five, join_two, plain};
+use xt_isa::boolean::{Boolean, ChoiceName, LogicName};
 use xt_isa::memory::{Memory, WindowName};
 use xt_isa::shift::{SextName, Shift, SrlName};
 use xt_isa::special::{can_exchange, can_read, can_write};
@@ -90,6 +91,11 @@ pub fn rst2(t: u8, s: u8, r: u8, op2: u8) -> Option<Insn>
     ensures { result ≡ spelled (record { op0 = 0; t = t; s = s; r = r; op1 = 2; op2 = op2 }) }
 {
     match op2 {
+        0 => Some(Insn::Boolean(Boolean::Andb(LogicName::Andb, r, s, t))),
+        1 => Some(Insn::Boolean(Boolean::Andb(LogicName::Andbc, r, s, t))),
+        2 => Some(Insn::Boolean(Boolean::Andb(LogicName::Orb, r, s, t))),
+        3 => Some(Insn::Boolean(Boolean::Andb(LogicName::Orbc, r, s, t))),
+        4 => Some(Insn::Boolean(Boolean::Andb(LogicName::Xorb, r, s, t))),
         8 => Some(Insn::Three(Three::Mull(r, s, t))),
         10 => Some(Insn::Three(Three::Muluh(MulHighName::Muluh, r, s, t))),
         11 => Some(Insn::Three(Three::Muluh(MulHighName::Mulsh, r, s, t))),
@@ -137,6 +143,8 @@ pub fn rst3(t: u8, s: u8, r: u8, op2: u8) -> Option<Insn>
         9 => Some(Insn::Three(Three::Moveqz(MoveName::Movnez, r, s, t))),
         10 => Some(Insn::Three(Three::Moveqz(MoveName::Movltz, r, s, t))),
         11 => Some(Insn::Three(Three::Moveqz(MoveName::Movgez, r, s, t))),
+        12 => Some(Insn::Boolean(Boolean::Movf(ChoiceName::Movf, r, s, t))),
+        13 => Some(Insn::Boolean(Boolean::Movf(ChoiceName::Movt, r, s, t))),
         14 => {
             if s == 14 && t == 7 {
                 Some(Insn::System(System::Rur(UserName::Rur, r, number::THREADPTR)))

@@ -1,11 +1,14 @@
 //! The words whose minor operation codes are 0.
 #![tactic(auto, unfolding(xt_isa::specs::Spelling::spelled, xt_isa::specs::Spelling::all_rows))]
 
-ghost use Rattle.std.specs.Prelude.{◌≡◌, ℕ, ◌+◌, ◌*◌, ◌%◌, ◌<◌};
+ghost use Rattle.std.specs.Prelude.{◌≡◌, ℕ, ◌+◌, ◌*◌, ◌%◌, ◌<◌, ◌==◌, Some, None};
+ghost use Rattle.std.specs.Prelude.{if◌then◌else◌};
 ghost use Rattle.xt_isa.specs.Spelling.{spelled};
+ghost use Rattle.xt_isa.specs.declared.Insn.TheVariants as insn;
 
 use crate::immediate::{join_five, plain, signed};
 use xt_isa::Insn;
+use xt_isa::boolean::{Boolean, EightName, FourName};
 use xt_isa::control::{CallxName, Control, RetName};
 use xt_isa::shift::{NegName, NsaName, Shift, Ssa8Name, SsrName};
 use xt_isa::system::{BreakName, LevelName, ReturnName, SyncName, System, WaitName};
@@ -79,6 +82,20 @@ fn rfei(t: u8, s: u8) -> Option<Insn>
     }
 }
 
+/// An instruction of `count` Boolean registers from s on, where s is a multiple of their number.
+#[tactic(auto)]
+#[inline(always)]
+fn group(count: u8, s: u8, i: Boolean) -> Option<Insn>
+    requires { 0 < count }
+    ensures { result ≡ if s % count == 0 then Some (insn.Boolean i) else None }
+{
+    if s % count == 0 {
+        Some(Insn::Boolean(i))
+    } else {
+        None
+    }
+}
+
 /// The opcode map ST0, by r.
 #[inline(never)]
 pub fn st0(t: u8, s: u8, r: u8) -> Option<Insn>
@@ -108,6 +125,10 @@ pub fn st0(t: u8, s: u8, r: u8) -> Option<Insn>
                 None
             }
         }
+        8 => group(4, s, Boolean::Any4(FourName::Any4, t, s)),
+        9 => group(4, s, Boolean::Any4(FourName::All4, t, s)),
+        10 => group(8, s, Boolean::Any8(EightName::Any8, t, s)),
+        11 => group(8, s, Boolean::Any8(EightName::All8, t, s)),
         _ => None,
     }
 }
