@@ -6,16 +6,21 @@ use Rattle.std.proofs.lemmas.Bool.{and_parts}
 use Rattle.std.proofs.lemmas.Bool.Decides.{nat_tests}
 use Rattle.xt_names.specs.declared.forms.Access.TheVariants.{User}
 use Rattle.xt_names.specs.declared.mnemonic.OneAndSpecial.TheVariants as one_special
+use Rattle.xt_names.specs.declared.mnemonic.OneAndTarget.{OneAndTarget}
+use Rattle.xt_names.specs.declared.mnemonic.OneAndTarget.TheVariants as one_target
+use Rattle.xt_names.specs.declared.mnemonic.Three.{Three}
+use Rattle.xt_names.specs.declared.mnemonic.Three.TheVariants as triple
+use Rattle.xt_names.specs.declared.mnemonic.Two.{Two}
+use Rattle.xt_names.specs.declared.mnemonic.Two.TheVariants as two
 use Rattle.xt_names.specs.declared.mnemonic.Mnemonic.TheVariants as mnemonic
 use Rattle.xt_names.specs.declared.parts.Parts.{Parts}
 use Rattle.xt_names.specs.declared.parts.Parts.TheVariants as parts
-use Rattle.xt_names.specs.Forms.{special_access}
+use Rattle.xt_names.specs.Forms.{shapes_of, special_access}
 use Rattle.xt_names.specs.Parts.{mnemonic_in, parts_of}
 use Rattle.xt_names.specs.Specials.{reaches}
 use Rattle.xt_names.proofs.Found.{found}
-use Rattle.xt_names.proofs.InRange.{fits, in_range_fits, is_near, is_word as in_word}
+use Rattle.xt_names.proofs.InRange.{fits, in_range_fits, is_near, is_word as in_word, whole}
 use Rattle.xt_names.proofs.Specials.{all_named}
-use Rattle.xt_names.proofs.Whole.{whole}
 use Rattle.xt_mnemonic.specs.declared.argument.Argument.TheVariants as argument
 use Rattle.xt_mnemonic.specs.declared.argument.OperandFault.{OperandFault}
 use Rattle.xt_mnemonic.specs.declared.argument.OperandFault.TheVariants.{Range, Misaligned, OutOfReach}
@@ -26,7 +31,7 @@ use Rattle.xt_names.specs.Names.{mnemonic_of}
 use Rattle.xt_mnemonic.specs.Making.{checked, instruction_of, parts_in}
 use Rattle.xt_mnemonic.specs.Operands.{all_known, and_then, call_offset, call_reaches, counted, is_aligned, is_word, literal_offset, literal_reaches}
 use Rattle.xt_disasm.specs.Operands.{address_from, call_target, jump_target, literal_target, operands}
-use Rattle.xt_disasm.specs.Reading.{IsReadBack, argument_of}
+use Rattle.xt_disasm.specs.Reading.{IsReadBack, arguments_of}
 
 -- ---- numbers
 
@@ -126,14 +131,50 @@ literal_back base d even least most within =
 
 -- what is made of the parts' mnemonic and the operands that are printed
 abbrev pub remade : Parts → ℕ → Option (Result Parts OperandFault)
-remade p pc = option_map (λ arguments. parts_in (mnemonic_in p) (pos pc) arguments) (all_known (map argument_of (operands p pc)))
+remade p pc = option_map (λ arguments. parts_in (mnemonic_in p) (pos pc) arguments) (all_known (arguments_of (shapes_of (mnemonic_in p)) (operands p pc)))
+
+two_back : (name : Two) (a b pc : ℕ) → remade (parts.Two name (a, b)) pc ≡ Some (Ok (parts.Two name (a, b)))
+unfolding parts_in operands shapes_of
+two_back (two.Neg name) a b pc = refl
+two_back (two.Srl name) a b pc = refl
+two_back two.Sll a b pc = refl
+two_back (two.Nsa name) a b pc = refl
+two_back two.Movsp a b pc = refl
+two_back two.Mov a b pc = refl
+two_back two.MovNarrow a b pc = refl
+two_back (two.Any4 name) a b pc = refl
+two_back (two.Any8 name) a b pc = refl
+
+three_back : (name : Three) (r s t pc : ℕ) → remade (parts.Three name (r, s, t)) pc ≡ Some (Ok (parts.Three name (r, s, t)))
+unfolding parts_in operands shapes_of
+three_back (triple.And name) r s t pc = refl
+three_back (triple.Add name) r s t pc = refl
+three_back (triple.Sub name) r s t pc = refl
+three_back triple.Src r s t pc = refl
+three_back (triple.Mul16u name) r s t pc = refl
+three_back triple.Mull r s t pc = refl
+three_back (triple.Muluh name) r s t pc = refl
+three_back (triple.Quou name) r s t pc = refl
+three_back (triple.Min name) r s t pc = refl
+three_back (triple.Moveqz name) r s t pc = refl
+three_back triple.AddNarrow r s t pc = refl
+three_back (triple.Andb name) r s t pc = refl
+three_back (triple.Movf name) r s t pc = refl
+
+-- the offset of a branch or a loop, with its register
+branch_back : (name : OneAndTarget) (s : ℕ) (d : ℤ) (pc : ℕ) → counted (pos (pc + 4)) (pos (address_from (pc + 4) d)) ≡ Ok d → remade (parts.OneAndTarget name (s, d)) pc ≡ Some (Ok (parts.OneAndTarget name (s, d)))
+unfolding parts_in operands shapes_of jump_target
+branch_back (one_target.Beqz name) s d pc e = ap (λ a. Some (and_then (and_then a (λ n. Ok (s, n))) (λ o. Ok (parts.OneAndTarget (one_target.Beqz name) o)))) e
+branch_back (one_target.Loop name) s d pc e = ap (λ a. Some (and_then (and_then a (λ n. Ok (s, n))) (λ o. Ok (parts.OneAndTarget (one_target.Loop name) o)))) e
+branch_back (one_target.BeqzNarrow name) s d pc e = ap (λ a. Some (and_then (and_then a (λ n. Ok (s, n))) (λ o. Ok (parts.OneAndTarget (one_target.BeqzNarrow name) o)))) e
+branch_back (one_target.Bf name) s d pc e = ap (λ a. Some (and_then (and_then a (λ n. Ok (s, n))) (λ o. Ok (parts.OneAndTarget (one_target.Bf name) o)))) e
 
 pub parts_back : (p : Parts) (pc : ℕ) → 1048576 ≤ pc → pc + 1048576 ≤ 4294967296 → fits p ≡ true → remade p pc ≡ Some (Ok p)
-unfolding parts_in operands jump_target call_target literal_target
+unfolding parts_in operands shapes_of jump_target call_target literal_target
 parts_back (parts.Nothing name) pc least most h = refl
 parts_back (parts.One name s) pc least most h = refl
-parts_back (parts.Two name (a, b)) pc least most h = refl
-parts_back (parts.Three name (r, s, t)) pc least most h = refl
+parts_back (parts.Two name (a, b)) pc least most h = two_back name a b pc
+parts_back (parts.Three name (r, s, t)) pc least most h = three_back name r s t pc
 parts_back (parts.Number name n) pc least most h = ap (λ x. Some (and_then x (λ n. Ok (parts.Number name n)))) (counted_zero n (word_is n h))
 parts_back (parts.Break (x, y)) pc least most h =
     let each = and_parts (in_word x) (in_word y) h in
@@ -152,7 +193,7 @@ parts_back (parts.OneAndSpecial (one_special.Rur name) (t, n)) pc least most h =
 parts_back (parts.Jump d) pc least most h = ap (λ a. Some (and_then a (λ d. Ok (parts.Jump d)))) (counted_back (pc + 4) d (omega arith) (omega arith) h)
 parts_back (parts.Call name d) pc least most h = ap (λ a. Some (and_then a (λ d. Ok (parts.Call name d)))) (call_back (pc / 4 * 4 + 4) d (omega arith) (omega arith) (omega arith) h)
 parts_back (parts.Literal (t, d)) pc least most h = ap (λ a. Some (and_then (and_then a (λ n. Ok (t, n))) (λ o. Ok (parts.Literal o)))) (literal_back ((pc + 3) / 4 * 4) d (omega arith) (omega arith) (omega arith) h)
-parts_back (parts.OneAndTarget name (s, d)) pc least most h = ap (λ a. Some (and_then (and_then a (λ n. Ok (s, n))) (λ o. Ok (parts.OneAndTarget name o)))) (counted_back (pc + 4) d (omega arith) (omega arith) h)
+parts_back (parts.OneAndTarget name (s, d)) pc least most h = branch_back name s d pc (counted_back (pc + 4) d (omega arith) (omega arith) h)
 parts_back (parts.OneNumberAndTarget name (s, n, d)) pc least most h =
     let each = and_parts (in_word n) (is_near d) h in
     ap (λ a. Some (and_then (and_then a (λ m. and_then (counted (pos pc +ℤ pos 4) (pos (address_from (pc + 4) d))) (λ k. Ok (s, m, k)))) (λ o. Ok (parts.OneNumberAndTarget name o)))) (counted_zero n (word_is n each.0))
@@ -170,9 +211,9 @@ unfolding instruction_of
 read_back i h pc least most =
     let p = parts_of i in
     let m = mnemonic_in p in
-    let known = all_known (map argument_of (operands p pc)) in
+    let known = all_known (arguments_of (shapes_of m) (operands p pc)) in
     let made = parts_back p pc (omega (arith, least)) (omega (arith, most)) (in_range_fits i h) in
-    ap (λ o. option_and_then (λ m. option_map (λ arguments. instruction_of m arguments (pos pc)) known) o) (found m).0
+    ap (λ o. option_and_then (λ n. option_map (λ arguments. instruction_of n arguments (pos pc)) (all_known (arguments_of (shapes_of n) (operands p pc)))) o) (found m).0
     ∙ composed (λ r. and_then r (λ p. checked (insn_of p))) (λ arguments. parts_in m (pos pc) arguments) known
     ∙ ap (λ o. option_map (λ r. and_then r (λ p. checked (insn_of p))) o) made
     ∙ ap (λ j. Some (checked j)) (whole i h)

@@ -8,19 +8,27 @@ use Rattle.std.specs.Int.{w32, cast_unsigned}
 use Rattle.xt_names.specs.declared.forms.Access.TheVariants.{User}
 use Rattle.xt_names.specs.declared.mnemonic.OneAndSpecial.{OneAndSpecial}
 use Rattle.xt_names.specs.declared.mnemonic.OneAndSpecial.TheVariants as one_special
+use Rattle.xt_names.specs.declared.mnemonic.OneAndTarget.{OneAndTarget}
+use Rattle.xt_names.specs.declared.mnemonic.OneAndTarget.TheVariants as one_target
+use Rattle.xt_names.specs.declared.mnemonic.Three.{Three}
+use Rattle.xt_names.specs.declared.mnemonic.Three.TheVariants as triple
+use Rattle.xt_names.specs.declared.mnemonic.Two.{Two}
+use Rattle.xt_names.specs.declared.mnemonic.Two.TheVariants as two
 use Rattle.xt_names.specs.declared.parts.Parts.{Parts}
 use Rattle.xt_names.specs.declared.parts.Parts.TheVariants as parts
 use Rattle.xt_names.specs.Forms.{special_access}
 use Rattle.xt_names.specs.Specials.{special_name}
 use Rattle.xt_word.specs.Hexadecimal.{hex8}
 use Rattle.xt_disasm.specs.declared.operand.Operand.{Operand}
-use Rattle.xt_disasm.specs.declared.operand.Operand.TheVariants.{Register, Number, Target, Special}
+use Rattle.xt_disasm.specs.declared.operand.Operand.TheVariants.{Register, Boolean, Number, Target}
+use Rattle.xt_disasm.specs.declared.operand.Operand.TheVariants.{Special}
 
 -- ---- one operand
 
 -- the text of an operand
 abbrev pub operand_text : Operand → List ℕ
 operand_text (Register n) = codes "a" ++ decimal n
+operand_text (Boolean n) = codes "b" ++ decimal n
 operand_text (Number n) = signed_decimal n
 operand_text (Target address) = codes "0x" ++ hex8 address
 operand_text (Special access n) = special_name access n
@@ -46,14 +54,31 @@ abbrev pub special : OneAndSpecial → ℕ → Operand
 special (one_special.Rsr name) n = Special (special_access name) n
 special (one_special.Rur name) n = Special User n
 
+-- ---- the registers of a mnemonic, each of its kind
+
+abbrev pub two_registers : Two → ℕ → ℕ → List Operand
+two_registers (two.Any4 name) t s = Boolean t ∷ Boolean s ∷ []
+two_registers (two.Any8 name) t s = Boolean t ∷ Boolean s ∷ []
+two_registers name a b = Register a ∷ Register b ∷ []
+
+abbrev pub three_registers : Three → ℕ → ℕ → ℕ → List Operand
+three_registers (triple.Andb name) r s t = Boolean r ∷ Boolean s ∷ Boolean t ∷ []
+three_registers (triple.Movf name) r s t = Register r ∷ Register s ∷ Boolean t ∷ []
+three_registers name r s t = Register r ∷ Register s ∷ Register t ∷ []
+
+-- the register that stands before a target
+abbrev pub tested_register : OneAndTarget → ℕ → Operand
+tested_register (one_target.Bf name) s = Boolean s
+tested_register name s = Register s
+
 -- ---- the operands
 
 -- the operands of an instruction of these parts, which stands at an address
 unfoldable pub operands : Parts → ℕ → List Operand
 operands (parts.Nothing name) pc = []
 operands (parts.One name s) pc = Register s ∷ []
-operands (parts.Two name (a, b)) pc = Register a ∷ Register b ∷ []
-operands (parts.Three name (r, s, t)) pc = Register r ∷ Register s ∷ Register t ∷ []
+operands (parts.Two name (a, b)) pc = two_registers name a b
+operands (parts.Three name (r, s, t)) pc = three_registers name r s t
 operands (parts.Number name n) pc = Number n ∷ []
 operands (parts.Break (x, y)) pc = Number x ∷ Number y ∷ []
 operands (parts.OneAndNumber name (s, n)) pc = Register s ∷ Number n ∷ []
@@ -63,7 +88,7 @@ operands (parts.OneAndSpecial name (t, n)) pc = Register t ∷ special name n �
 operands (parts.Jump d) pc = jump_target pc d ∷ []
 operands (parts.Call name d) pc = call_target pc d ∷ []
 operands (parts.Literal (t, d)) pc = Register t ∷ literal_target pc d ∷ []
-operands (parts.OneAndTarget name (s, d)) pc = Register s ∷ jump_target pc d ∷ []
+operands (parts.OneAndTarget name (s, d)) pc = tested_register name s ∷ jump_target pc d ∷ []
 operands (parts.OneNumberAndTarget name (s, n, d)) pc =
     Register s ∷ Number n ∷ jump_target pc d ∷ []
 operands (parts.TwoAndTarget name (s, t, d)) pc = Register s ∷ Register t ∷ jump_target pc d ∷ []

@@ -15,6 +15,8 @@ use xt_word::push_hex8;
 pub enum Operand {
     /// An address register, 0 to 15.
     Register(u8),
+    /// A Boolean register, 0 to 15.
+    Boolean(u8),
     /// An immediate number.
     Number(i32),
     /// The address of a target.
@@ -23,12 +25,13 @@ pub enum Operand {
     Special(Access, u8),
 }
 
-/// Appends an operand: `a3`, `-16`, `0x400D0000`, or the name of a register.
+/// Appends an operand: `a3`, `b3`, `-16`, `0x400D0000`, or the name of a special register.
 fn push_operand(out: &mut String, operand: Operand) -> Result<(), AllocError>
     ensures { OnOk result (string_bytes out.new ≡ string_bytes out.old ++ operand_text operand) }
 {
     match operand {
         Operand::Register(number) => write!(out, "a{number}"),
+        Operand::Boolean(number) => write!(out, "b{number}"),
         Operand::Number(number) => write!(out, "{number}"),
         Operand::Target(address) => {
             out.push_str("0x")?;

@@ -3,16 +3,18 @@
 
 ghost use Rattle.std.specs.Prelude.{◌≡◌, ◌++◌, map, true, IfOk, OnOk, string_bytes};
 ghost use Rattle.xt_isa.specs.Ranges.{in_range};
-ghost use Rattle.xt_disasm.specs.Operands.{call_target, jump_target, literal_target, operand_text, operands, special};
+ghost use Rattle.xt_disasm.specs.Operands.{call_target, jump_target, literal_target, operand_text, operands, special, tested_register, three_registers, two_registers};
 ghost use Rattle.xt_disasm.specs.Listing.{arguments, insn_text};
 
-use crate::operand::Operand::{Number, Register, Special, Target};
+use crate::operand::Operand::{Boolean, Number, Register, Special, Target};
 use crate::operand::{Operand, push_operands};
 use std::alloc::{AllocError, Global};
 use xt_isa::Insn;
 use xt_isa::system::SpecialName;
 use xt_map::Text;
-use xt_names::{Access, OneAndSpecial, Parts, mnemonic_in, name_of, parts_of};
+use xt_names::{
+    Access, OneAndSpecial, OneAndTarget, Parts, Three, Two, mnemonic_in, name_of, parts_of,
+};
 
 /// The target of a jump, a branch or a loop at `pc`: its offset is counted from PC + 4.
 #[tactic(auto, unfolding(crate::specs::Operands::jump_target))]
@@ -50,6 +52,37 @@ fn special(name: OneAndSpecial, number: u8) -> Operand
     }
 }
 
+/// The two registers of a mnemonic, each of its kind.
+fn two_registers(name: Two, a: u8, b: u8) -> [Operand; 2]
+    ensures { result ≡ two_registers name a b }
+{
+    match name {
+        Two::Any4(_) | Two::Any8(_) => [Boolean(a), Boolean(b)],
+        _ => [Register(a), Register(b)],
+    }
+}
+
+/// The three registers of a mnemonic, each of its kind.
+fn three_registers(name: Three, r: u8, s: u8, t: u8) -> [Operand; 3]
+    ensures { result ≡ three_registers name r s t }
+{
+    match name {
+        Three::Andb(_) => [Boolean(r), Boolean(s), Boolean(t)],
+        Three::Movf(_) => [Register(r), Register(s), Boolean(t)],
+        _ => [Register(r), Register(s), Register(t)],
+    }
+}
+
+/// The register that stands before a target.
+fn tested_register(name: OneAndTarget, s: u8) -> Operand
+    ensures { result ≡ tested_register name s }
+{
+    match name {
+        OneAndTarget::Bf(_) => Boolean(s),
+        _ => Register(s),
+    }
+}
+
 /// Appends the operands of an instruction of these parts, which stands at the address `pc`.
 #[tactic(auto, unfolding(crate::specs::Operands::operands))]
 fn push_parts(out: &mut String, parts: Parts, pc: u32) -> Result<(), AllocError>
@@ -58,10 +91,8 @@ fn push_parts(out: &mut String, parts: Parts, pc: u32) -> Result<(), AllocError>
     match parts {
         Parts::Nothing(_) => Ok(()),
         Parts::One(_, s) => push_operands(out, &[Register(s)]),
-        Parts::Two(_, (a, b)) => push_operands(out, &[Register(a), Register(b)]),
-        Parts::Three(_, (r, s, t)) => {
-            push_operands(out, &[Register(r), Register(s), Register(t)])
-        }
+        Parts::Two(name, (a, b)) => push_operands(out, &two_registers(name, a, b)),
+        Parts::Three(name, (r, s, t)) => push_operands(out, &three_registers(name, r, s, t)),
         Parts::Number(_, n) => push_operands(out, &[Number(n)]),
         Parts::Break((x, y)) => push_operands(out, &[Number(x), Number(y)]),
         Parts::OneAndNumber(_, (s, n)) => push_operands(out, &[Register(s), Number(n)]),
@@ -77,7 +108,9 @@ fn push_parts(out: &mut String, parts: Parts, pc: u32) -> Result<(), AllocError>
         Parts::Jump(d) => push_operands(out, &[jump_target(pc, d)]),
         Parts::Call(_, d) => push_operands(out, &[call_target(pc, d)]),
         Parts::Literal((t, d)) => push_operands(out, &[Register(t), literal_target(pc, d)]),
-        Parts::OneAndTarget(_, (s, d)) => { push_operands(out, &[Register(s), jump_target(pc, d)]) }
+        Parts::OneAndTarget(name, (s, d)) => {
+            push_operands(out, &[tested_register(name, s), jump_target(pc, d)])
+        }
         Parts::OneNumberAndTarget(_, (s, n, d)) => {
             push_operands(out, &[Register(s), Number(n), jump_target(pc, d)])
         }

@@ -12,7 +12,7 @@ use Rattle.xt_names.specs.declared.forms.Shape.{Shape}
 use Rattle.xt_names.specs.declared.forms.Shape.TheVariants as shape
 use Rattle.xt_parse.specs.declared.statement.Operand.{Operand}
 use Rattle.xt_parse.specs.declared.statement.Operand.TheVariants as operand
-use Rattle.xt_parse.specs.Reading.{◌>>=◌, Reading, first_as, with_front, as_string, as_register, as_label, as_term, as_sign, as_comma, as_equals, as_minus, as_user, behind, term_at, terms_behind, minus_at, expr_at, exprs_behind, exprs_at, one_label, literal_at, operand_at, next_operand, operands_behind, operands_at}
+use Rattle.xt_parse.specs.Reading.{◌>>=◌, Reading, first_as, with_front, as_string, as_address, as_boolean, as_label, as_term, as_sign, as_comma, as_equals, as_minus, as_user, behind, term_at, terms_behind, minus_at, expr_at, exprs_behind, exprs_at, one_label, literal_at, operand_at, next_operand, operands_behind, operands_at}
 use Rattle.xt_parse.specs.Small.{expr_weight, operand_weight}
 
 -- how much tokens weigh
@@ -193,6 +193,10 @@ exprs_fit tokens =
 
 -- ---- operands
 
+-- a register weighs nothing
+register_fits : (f : TokenKind → Option ℕ) (tokens : List Token) → Fits operand_weight (tokens_weight tokens) (first_as f tokens >>= λ x. Ok (operand.Reg x.0, x.1))
+register_fits f tokens = fits_then one operand_weight (tokens_weight tokens) (first_as f tokens) (λ x. Ok (operand.Reg x.0, x.1)) (first_counts f tokens) (λ x. omega arith)
+
 -- a word is an expression of one label
 word_fits : (f : TokenKind → Option (List ℕ)) (tokens : List Token) → Fits operand_weight (tokens_weight tokens) (first_as f tokens >>= λ x. Ok (one_label x.0, x.1))
 word_fits f tokens = fits_then one operand_weight (tokens_weight tokens) (first_as f tokens) (λ x. Ok (one_label x.0, x.1)) (first_counts f tokens) (λ x. omega arith)
@@ -213,7 +217,8 @@ literal_fits tokens = by_equals (behind as_equals tokens) (behind_fits as_equals
 
 operand_fits : (s : Shape) (tokens : List Token) → Fits operand_weight (tokens_weight tokens) (operand_at s tokens)
 unfolding operand_at
-operand_fits shape.Register tokens = fits_then one operand_weight (tokens_weight tokens) (first_as as_register tokens) (λ x. Ok (operand.Reg x.0, x.1)) (first_counts as_register tokens) (λ x. omega arith)
+operand_fits shape.Register tokens = register_fits as_address tokens
+operand_fits shape.Boolean tokens = register_fits as_boolean tokens
 operand_fits shape.Value tokens = value_fits tokens
 operand_fits shape.Literal tokens = literal_fits tokens
 operand_fits shape.Special tokens = word_fits as_label tokens

@@ -3,7 +3,7 @@
 -- none is left and the line is not complete.
 use Rattle.std.specs.Prelude.{ℕ, zero, suc, Bool, true, false, if◌then◌else◌, List, [], ◌∷◌, ◌++◌}
 use Rattle.std.specs.Prelude.{length, Option, Some, None, Result, Ok, Err, codes}
-use Rattle.std.specs.Option.{option_map, option_map_or}
+use Rattle.std.specs.Option.{option_and_then, option_map, option_map_or}
 use Rattle.std.specs.Str.{bytes_eq}
 use Rattle.xt_lex.specs.declared.token.Token.{Token}
 use Rattle.xt_lex.specs.declared.token.TokenKind.{TokenKind}
@@ -15,7 +15,7 @@ use Rattle.xt_parse.specs.declared.statement.Operand.{Operand}
 use Rattle.xt_parse.specs.declared.statement.Operand.TheVariants as operand
 use Rattle.xt_names.specs.declared.forms.Shape.{Shape}
 use Rattle.xt_names.specs.declared.forms.Shape.TheVariants as shape
-use Rattle.xt_parse.specs.Words.{is_label_word, register_of}
+use Rattle.xt_parse.specs.Words.{address_number, boolean_number, is_label_word, register_of}
 
 infixl 10 ◌>>=◌
 abbrev pub ◌>>=◌ : {A B E : Type 0} → Result A E → (A → Result B E) → Result B E
@@ -44,9 +44,15 @@ abbrev pub as_string : TokenKind → Option (List ℕ)
 as_string (kind.Str bytes) = Some bytes
 as_string _ = None
 
-abbrev pub as_register : TokenKind → Option ℕ
-as_register (kind.Word name) = register_of name
-as_register _ = None
+-- the name of an address register, by its number
+abbrev pub as_address : TokenKind → Option ℕ
+as_address (kind.Word name) = option_and_then address_number (register_of name)
+as_address _ = None
+
+-- the name of a Boolean register, by its number
+abbrev pub as_boolean : TokenKind → Option ℕ
+as_boolean (kind.Word name) = option_and_then boolean_number (register_of name)
+as_boolean _ = None
 
 -- a word that may be a label
 abbrev pub as_label : TokenKind → Option (List ℕ)
@@ -150,7 +156,8 @@ literal_at tokens =
     (expr_at tokens >>= λ x. Ok (operand.Value x.0, x.1))
 
 unfoldable pub operand_at : Shape → List Token → Reading Operand
-operand_at shape.Register tokens = first_as as_register tokens >>= λ x. Ok (operand.Reg x.0, x.1)
+operand_at shape.Register tokens = first_as as_address tokens >>= λ x. Ok (operand.Reg x.0, x.1)
+operand_at shape.Boolean tokens = first_as as_boolean tokens >>= λ x. Ok (operand.Reg x.0, x.1)
 operand_at shape.Value tokens = expr_at tokens >>= λ x. Ok (operand.Value x.0, x.1)
 operand_at shape.Literal tokens = literal_at tokens
 operand_at shape.Special tokens = first_as as_label tokens >>= λ x. Ok (one_label x.0, x.1)

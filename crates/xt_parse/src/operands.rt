@@ -3,7 +3,9 @@ ghost use Rattle.xt_parse.specs.Gives.{Gives};
 ghost use Rattle.xt_parse.specs.Reading.{literal_at, operand_at, next_operand, one_label, with_front, operands_behind, operands_at};
 
 use crate::exprs::expr;
-use crate::reading::{behind_equals, comma_at, label_word_at, register_at, user_word_at};
+use crate::reading::{
+    address_register_at, behind_equals, boolean_register_at, comma_at, label_word_at, user_word_at,
+};
 use crate::statement::{Operand, Operands};
 use crate::stop::Stop;
 use std::alloc::{AllocError, Global};
@@ -46,7 +48,11 @@ fn operand(alloc: Global, shape: Shape, tokens: &[Token]) -> Result<(Operand, &[
 {
     match shape {
         Shape::Register => {
-            let (number, rest) = register_at(tokens)?;
+            let (number, rest) = address_register_at(tokens)?;
+            Ok((Operand::Reg(number), rest))
+        }
+        Shape::Boolean => {
+            let (number, rest) = boolean_register_at(tokens)?;
             Ok((Operand::Reg(number), rest))
         }
         Shape::Value => {

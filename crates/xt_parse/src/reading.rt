@@ -1,12 +1,12 @@
 ghost use Rattle.std.specs.Prelude.{◌≡◌, ◌<◌, ◌≤◌, length, IfOk, IfSome};
 ghost use Rattle.std.specs.Option.{is_some, option_map};
 ghost use Rattle.xt_parse.specs.Gives.{Gives};
-ghost use Rattle.xt_parse.specs.Reading.{first_as, behind, as_number, as_string, as_register, as_label, as_term, as_sign, as_comma, as_equals, as_minus, as_user, minus_at, term_at};
+ghost use Rattle.xt_parse.specs.Reading.{first_as, behind, as_number, as_string, as_address, as_boolean, as_label, as_term, as_sign, as_comma, as_equals, as_minus, as_user, minus_at, term_at};
 ghost use Rattle.xt_parse.specs.Statements.{placed_at};
 
 use crate::line::Placed;
 use crate::stop::Stop;
-use crate::words::{may_be_label, register_of_word};
+use crate::words::{Register, may_be_label, register_of_word};
 use std::alloc::{AllocError, Global};
 use xt_expr::{Term, TermValue};
 use xt_lex::{Name, Token, TokenKind};
@@ -37,21 +37,49 @@ pub fn string_at(tokens: &[Token]) -> Result<(Name, &[Token]), Stop>
     }
 }
 
-fn register_in(what: &TokenKind) -> Option<u8>
-    ensures { result ≡ as_register what.now }
+fn address_register_in(what: &TokenKind) -> Option<u8>
+    ensures { result ≡ as_address what.now }
 {
     match what {
-        TokenKind::Word(name) => register_of_word(name.as_slice()),
+        TokenKind::Word(name) => match register_of_word(name.as_slice()) {
+            Some(Register::Address(number)) => Some(number),
+            _ => None,
+        },
         _ => None,
     }
 }
 
-/// A register at the front.
-pub fn register_at(tokens: &[Token]) -> Result<(u8, &[Token]), Stop>
-    ensures { Gives (λ x. (x.0, x.1.now)) result (first_as as_register tokens.now) }
+/// An address register at the front.
+pub fn address_register_at(tokens: &[Token]) -> Result<(u8, &[Token]), Stop>
+    ensures { Gives (λ x. (x.0, x.1.now)) result (first_as as_address tokens.now) }
 {
     match tokens {
-        [token, after @ ..] => match register_in(&token.what) {
+        [token, after @ ..] => match address_register_in(&token.what) {
+            Some(number) => Ok((number, after)),
+            None => Err(Stop::At(tokens.len())),
+        },
+        [] => Err(Stop::At(0)),
+    }
+}
+
+fn boolean_register_in(what: &TokenKind) -> Option<u8>
+    ensures { result ≡ as_boolean what.now }
+{
+    match what {
+        TokenKind::Word(name) => match register_of_word(name.as_slice()) {
+            Some(Register::Boolean(number)) => Some(number),
+            _ => None,
+        },
+        _ => None,
+    }
+}
+
+/// A Boolean register at the front.
+pub fn boolean_register_at(tokens: &[Token]) -> Result<(u8, &[Token]), Stop>
+    ensures { Gives (λ x. (x.0, x.1.now)) result (first_as as_boolean tokens.now) }
+{
+    match tokens {
+        [token, after @ ..] => match boolean_register_in(&token.what) {
             Some(number) => Ok((number, after)),
             None => Err(Stop::At(tokens.len())),
         },

@@ -9,7 +9,7 @@ use xt_names::Mnemonic;
 /// An operand of an instruction.
 #[derive(Drop)]
 pub enum Operand {
-    /// A register, 0 to 15.
+    /// A register, 0 to 15: an address register or a Boolean one, as the mnemonic says.
     Reg(u8),
     /// An expression: a number, a target's address, or the name of a special register as a single label.
     Value(Expr),

@@ -59,38 +59,63 @@ pub fn form_of_word(name: &[u8]) -> Option<Form>
     }
 }
 
-/// A name of a register, and its number.
+/// A register by its kind and its number, 0 to 15.
+#[derive(Clone, Copy)]
+pub enum Register {
+    /// An address register.
+    Address(u8),
+    /// A Boolean register.
+    Boolean(u8),
+}
+
+/// A name of a register, and the register.
 pub struct RegisterWord {
     /// The word.
     pub name: &'static str,
-    /// The number, 0 to 15.
-    pub number: u8,
+    /// The register.
+    pub register: Register,
 }
 
 macro_rules! registers {
-    ($($number:literal $name:literal;)*) => {
-        [$(RegisterWord { name: $name, number: $number }),*]
+    ($($name:literal => $register:expr;)*) => {
+        [$(RegisterWord { name: $name, register: $register }),*]
     };
 }
 
-static REGISTERS: [RegisterWord; 17] = registers! {
-    0 "a0";
-    1 "a1";
-    2 "a2";
-    3 "a3";
-    4 "a4";
-    5 "a5";
-    6 "a6";
-    7 "a7";
-    8 "a8";
-    9 "a9";
-    10 "a10";
-    11 "a11";
-    12 "a12";
-    13 "a13";
-    14 "a14";
-    15 "a15";
-    1 "sp";
+static REGISTERS: [RegisterWord; 33] = registers! {
+    "a0" => Register::Address(0);
+    "a1" => Register::Address(1);
+    "a2" => Register::Address(2);
+    "a3" => Register::Address(3);
+    "a4" => Register::Address(4);
+    "a5" => Register::Address(5);
+    "a6" => Register::Address(6);
+    "a7" => Register::Address(7);
+    "a8" => Register::Address(8);
+    "a9" => Register::Address(9);
+    "a10" => Register::Address(10);
+    "a11" => Register::Address(11);
+    "a12" => Register::Address(12);
+    "a13" => Register::Address(13);
+    "a14" => Register::Address(14);
+    "a15" => Register::Address(15);
+    "sp" => Register::Address(1);
+    "b0" => Register::Boolean(0);
+    "b1" => Register::Boolean(1);
+    "b2" => Register::Boolean(2);
+    "b3" => Register::Boolean(3);
+    "b4" => Register::Boolean(4);
+    "b5" => Register::Boolean(5);
+    "b6" => Register::Boolean(6);
+    "b7" => Register::Boolean(7);
+    "b8" => Register::Boolean(8);
+    "b9" => Register::Boolean(9);
+    "b10" => Register::Boolean(10);
+    "b11" => Register::Boolean(11);
+    "b12" => Register::Boolean(12);
+    "b13" => Register::Boolean(13);
+    "b14" => Register::Boolean(14);
+    "b15" => Register::Boolean(15);
 };
 
 #[tactic(auto, unfolding(crate::specs::Words::register_words))]
@@ -100,13 +125,13 @@ fn registers() -> &'static [RegisterWord]
     &REGISTERS
 }
 
-/// The number of a register, where the word is its name.
-pub fn register_of_word(name: &[u8]) -> Option<u8>
+/// The register, where the word is the name of one.
+pub fn register_of_word(name: &[u8]) -> Option<Register>
     ensures { result ≡ register_of name.now }
 {
-    for register in registers() {
-        if register.name.as_bytes() == name {
-            return Some(register.number);
+    for word in registers() {
+        if word.name.as_bytes() == name {
+            return Some(word.register);
         }
     }
     None

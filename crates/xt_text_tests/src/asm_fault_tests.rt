@@ -6,7 +6,7 @@ use xt_asm::assemble;
 use xt_lex::{AsmFault, AsmPlace};
 
 /// A text, and the line, the column and the kind of its first fault.
-type Row = (&'static str, u32, u32, u8);
+pub type Row = (&'static str, u32, u32, u8);
 
 /// The two lines that stand before each text of the tables below but the last, so that these texts begin at line 3.
 const FRONT: &str = ".seg 0x40080400\n.entry 0x40080400\n";
@@ -304,7 +304,7 @@ fn answer_of(alloc: Global, text: &str) -> Result<AsmPlace, Fail> {
 }
 
 /// The first fault of a row's text after these lines.
-fn row_answer(alloc: Global, front: &str, row: &Row) -> Result<(AsmPlace, AsmPlace), Fail> {
+pub fn row_answer(alloc: Global, front: &str, row: &Row) -> Result<(AsmPlace, AsmPlace), Fail> {
     let (text, line, column, kind) = *row;
     let text = format!(in alloc; "{front}{text}")?;
     let wanted = AsmPlace { line, column, kind };

@@ -9,6 +9,8 @@ mod asm_fault_tests;
 #[cfg(test)]
 mod asm_good_tests;
 #[cfg(test)]
+mod boolean_tests;
+#[cfg(test)]
 mod debug_parsing_tests;
 #[cfg(test)]
 mod disasm_tests;

@@ -7,9 +7,9 @@ use Rattle.xt_parse.proofs.words.register_of_word.Goals as goal
 
 pub returns-then-eq : goal.returns-then-eq
 unfolding register_of
-returns-then-eq c = sym (ap (λ o. option_map (λ row. row.1) o) (found shown_register (λ row. bytes_eq row.0 c.args.name.now) register_words c.registers-register-items.result.now c.loop-register.register-index _ c.registers-register-items.ensures c.loop-register-test.true c.loop-register.invariant
+returns-then-eq c = sym (ap (λ o. option_map (λ row. row.1) o) (found shown_register (λ row. bytes_eq row.0 c.args.name.now) register_words c.registers-word-items.result.now c.loop-word.word-index _ c.registers-word-items.ensures c.loop-word-test.true c.loop-word.invariant
     (ap (λ b. bytes_eq b c.args.name.now) (sym c.as_bytes.ensures.value) ∙ sym c.eq.ensures ∙ c.if-eq.true)))
 
 pub returns : goal.returns
 unfolding register_of
-returns c = sym (ap (λ o. option_map (λ row. row.1) o) (not_found shown_register (λ row. bytes_eq row.0 c.args.name.now) register_words c.registers-register-items.result.now c.loop-register.register-index c.registers-register-items.ensures c.loop-register-test.false c.loop-register.invariant))
+returns c = sym (ap (λ o. option_map (λ row. row.1) o) (not_found shown_register (λ row. bytes_eq row.0 c.args.name.now) register_words c.registers-word-items.result.now c.loop-word.word-index c.registers-word-items.ensures c.loop-word-test.false c.loop-word.invariant))

@@ -4,5 +4,5 @@ use Rattle.std.specs.Str.{bytes_eq}
 use Rattle.xt_parse.specs.Words.{shown_register}
 use Rattle.xt_parse.proofs.words.register_of_word.Given as goal
 
-abbrev pub invariant-loop-register : goal.invariant-loop-register
-invariant-loop-register l = find (λ row. bytes_eq row.0 l.name) (map shown_register (drop l.register-index l.register-items)) ≡ find (λ row. bytes_eq row.0 l.name) (map shown_register l.register-items)
+abbrev pub invariant-loop-word : goal.invariant-loop-word
+invariant-loop-word l = find (λ row. bytes_eq row.0 l.name) (map shown_register (drop l.word-index l.word-items)) ≡ find (λ row. bytes_eq row.0 l.name) (map shown_register l.word-items)

@@ -1,0 +1,498 @@
+//! The lines of listings with Boolean registers, and of words that spell no instruction.
+
+/// Words like those of ANY4, ALL4, ANY8 and ALL8 that spell nothing: from registers where no four or eight begin, and with
+/// r from 12 to 15.
+pub const GROUPS: &str = "\
+.byte 0x70, 0x81, 0x00
+.byte 0xE0, 0x82, 0x00
+.byte 0x00, 0x83, 0x00
+.byte 0xE0, 0x85, 0x00
+.byte 0x00, 0x86, 0x00
+.byte 0x70, 0x87, 0x00
+.byte 0x00, 0x89, 0x00
+.byte 0x70, 0x8A, 0x00
+.byte 0xE0, 0x8B, 0x00
+.byte 0x70, 0x8D, 0x00
+.byte 0xE0, 0x8E, 0x00
+.byte 0x00, 0x8F, 0x00
+.byte 0x70, 0x91, 0x00
+.byte 0xE0, 0x92, 0x00
+.byte 0x00, 0x93, 0x00
+.byte 0xE0, 0x95, 0x00
+.byte 0x00, 0x96, 0x00
+.byte 0x70, 0x97, 0x00
+.byte 0x00, 0x99, 0x00
+.byte 0x70, 0x9A, 0x00
+.byte 0xE0, 0x9B, 0x00
+.byte 0x70, 0x9D, 0x00
+.byte 0xE0, 0x9E, 0x00
+.byte 0x00, 0x9F, 0x00
+.byte 0x70, 0xA1, 0x00
+.byte 0xE0, 0xA2, 0x00
+.byte 0x00, 0xA3, 0x00
+.byte 0x70, 0xA4, 0x00
+.byte 0xE0, 0xA5, 0x00
+.byte 0x00, 0xA6, 0x00
+.byte 0x70, 0xA7, 0x00
+.byte 0x00, 0xA9, 0x00
+.byte 0x70, 0xAA, 0x00
+.byte 0xE0, 0xAB, 0x00
+.byte 0x00, 0xAC, 0x00
+.byte 0x70, 0xAD, 0x00
+.byte 0xE0, 0xAE, 0x00
+.byte 0x00, 0xAF, 0x00
+.byte 0x70, 0xB1, 0x00
+.byte 0xE0, 0xB2, 0x00
+.byte 0x00, 0xB3, 0x00
+.byte 0x70, 0xB4, 0x00
+.byte 0xE0, 0xB5, 0x00
+.byte 0x00, 0xB6, 0x00
+.byte 0x70, 0xB7, 0x00
+.byte 0x00, 0xB9, 0x00
+.byte 0x70, 0xBA, 0x00
+.byte 0xE0, 0xBB, 0x00
+.byte 0x00, 0xBC, 0x00
+.byte 0x70, 0xBD, 0x00
+.byte 0xE0, 0xBE, 0x00
+.byte 0x00, 0xBF, 0x00
+.byte 0x10, 0xC0, 0x00
+.byte 0x10, 0xD0, 0x00
+.byte 0x10, 0xE0, 0x00
+.byte 0x10, 0xF0, 0x00
+";
+
+/// The listing of `GROUPS`, each line with three NOP.N after it.
+pub const GROUPS_LISTED: &str = "\
+segment 0 400D0000 508 IROM
+400D0000 F02000 nop
+400D0003 70 .byte 0x70
+400D0004 81003D l32r a8, 0x4009F404
+400D0007 F03DF0 subx8 a3, a13, a15
+400D000A 3DF0 nop.n
+400D000C E0 .byte 0xE0
+400D000D 82003D l8ui a8, a0, 61
+400D0010 F03DF0 subx8 a3, a13, a15
+400D0013 3DF0 nop.n
+400D0015 00 .byte 0x00
+400D0016 83 .byte 0x83
+400D0017 003DF0 subx8 a3, a13, a0
+400D001A 3DF0 nop.n
+400D001C 3DF0 nop.n
+400D001E E0 .byte 0xE0
+400D001F 85003D call0 0x4010D028
+400D0022 F03DF0 subx8 a3, a13, a15
+400D0025 3DF0 nop.n
+400D0027 00 .byte 0x00
+400D0028 86003D j 0x400DF42E
+400D002B F03DF0 subx8 a3, a13, a15
+400D002E 3DF0 nop.n
+400D0030 70 .byte 0x70
+400D0031 87003D bnone a0, a8, 0x400D0072
+400D0034 F03DF0 subx8 a3, a13, a15
+400D0037 3DF0 nop.n
+400D0039 00 .byte 0x00
+400D003A 8900 s32i.n a8, a0, 0
+400D003C 3DF0 nop.n
+400D003E 3DF0 nop.n
+400D0040 3DF0 nop.n
+400D0042 70 .byte 0x70
+400D0043 8A00 add.n a0, a0, a8
+400D0045 3DF0 nop.n
+400D0047 3DF0 nop.n
+400D0049 3DF0 nop.n
+400D004B E0 .byte 0xE0
+400D004C 8B00 addi.n a0, a0, 8
+400D004E 3DF0 nop.n
+400D0050 3DF0 nop.n
+400D0052 3DF0 nop.n
+400D0054 70 .byte 0x70
+400D0055 8D00 mov.n a8, a0
+400D0057 3DF0 nop.n
+400D0059 3DF0 nop.n
+400D005B 3DF0 nop.n
+400D005D E0 .byte 0xE0
+400D005E 8E .byte 0x8E
+400D005F 003DF0 subx8 a3, a13, a0
+400D0062 3DF0 nop.n
+400D0064 3DF0 nop.n
+400D0066 00 .byte 0x00
+400D0067 8F .byte 0x8F
+400D0068 003DF0 subx8 a3, a13, a0
+400D006B 3DF0 nop.n
+400D006D 3DF0 nop.n
+400D006F 70 .byte 0x70
+400D0070 91003D l32r a9, 0x4009F470
+400D0073 F03DF0 subx8 a3, a13, a15
+400D0076 3DF0 nop.n
+400D0078 E0 .byte 0xE0
+400D0079 92003D l8ui a9, a0, 61
+400D007C F03DF0 subx8 a3, a13, a15
+400D007F 3DF0 nop.n
+400D0081 00 .byte 0x00
+400D0082 93 .byte 0x93
+400D0083 003DF0 subx8 a3, a13, a0
+400D0086 3DF0 nop.n
+400D0088 3DF0 nop.n
+400D008A E0 .byte 0xE0
+400D008B 95003D call4 0x4010D094
+400D008E F03DF0 subx8 a3, a13, a15
+400D0091 3DF0 nop.n
+400D0093 00 .byte 0x00
+400D0094 96003D bltz a0, 0x400D0468
+400D0097 F03DF0 subx8 a3, a13, a15
+400D009A 3DF0 nop.n
+400D009C 70 .byte 0x70
+400D009D 97003D bnone a0, a9, 0x400D00DE
+400D00A0 F03DF0 subx8 a3, a13, a15
+400D00A3 3DF0 nop.n
+400D00A5 00 .byte 0x00
+400D00A6 9900 s32i.n a9, a0, 0
+400D00A8 3DF0 nop.n
+400D00AA 3DF0 nop.n
+400D00AC 3DF0 nop.n
+400D00AE 70 .byte 0x70
+400D00AF 9A00 add.n a0, a0, a9
+400D00B1 3DF0 nop.n
+400D00B3 3DF0 nop.n
+400D00B5 3DF0 nop.n
+400D00B7 E0 .byte 0xE0
+400D00B8 9B00 addi.n a0, a0, 9
+400D00BA 3DF0 nop.n
+400D00BC 3DF0 nop.n
+400D00BE 3DF0 nop.n
+400D00C0 70 .byte 0x70
+400D00C1 9D00 mov.n a9, a0
+400D00C3 3DF0 nop.n
+400D00C5 3DF0 nop.n
+400D00C7 3DF0 nop.n
+400D00C9 E0 .byte 0xE0
+400D00CA 9E .byte 0x9E
+400D00CB 003DF0 subx8 a3, a13, a0
+400D00CE 3DF0 nop.n
+400D00D0 3DF0 nop.n
+400D00D2 00 .byte 0x00
+400D00D3 9F .byte 0x9F
+400D00D4 003DF0 subx8 a3, a13, a0
+400D00D7 3DF0 nop.n
+400D00D9 3DF0 nop.n
+400D00DB 70 .byte 0x70
+400D00DC A1003D l32r a10, 0x4009F4DC
+400D00DF F03DF0 subx8 a3, a13, a15
+400D00E2 3DF0 nop.n
+400D00E4 E0 .byte 0xE0
+400D00E5 A2003D l8ui a10, a0, 61
+400D00E8 F03DF0 subx8 a3, a13, a15
+400D00EB 3DF0 nop.n
+400D00ED 00 .byte 0x00
+400D00EE A3 .byte 0xA3
+400D00EF 003DF0 subx8 a3, a13, a0
+400D00F2 3DF0 nop.n
+400D00F4 3DF0 nop.n
+400D00F6 70 .byte 0x70
+400D00F7 A4 .byte 0xA4
+400D00F8 003DF0 subx8 a3, a13, a0
+400D00FB 3DF0 nop.n
+400D00FD 3DF0 nop.n
+400D00FF E0 .byte 0xE0
+400D0100 A5003D call8 0x4010D10C
+400D0103 F03DF0 subx8 a3, a13, a15
+400D0106 3DF0 nop.n
+400D0108 00 .byte 0x00
+400D0109 A6003D blti a0, -1, 0x400D014A
+400D010C F03DF0 subx8 a3, a13, a15
+400D010F 3DF0 nop.n
+400D0111 70 .byte 0x70
+400D0112 A7003D bnone a0, a10, 0x400D0153
+400D0115 F03DF0 subx8 a3, a13, a15
+400D0118 3DF0 nop.n
+400D011A 00 .byte 0x00
+400D011B A900 s32i.n a10, a0, 0
+400D011D 3DF0 nop.n
+400D011F 3DF0 nop.n
+400D0121 3DF0 nop.n
+400D0123 70 .byte 0x70
+400D0124 AA00 add.n a0, a0, a10
+400D0126 3DF0 nop.n
+400D0128 3DF0 nop.n
+400D012A 3DF0 nop.n
+400D012C E0 .byte 0xE0
+400D012D AB00 addi.n a0, a0, 10
+400D012F 3DF0 nop.n
+400D0131 3DF0 nop.n
+400D0133 3DF0 nop.n
+400D0135 00 .byte 0x00
+400D0136 AC00 beqz.n a0, 0x400D015A
+400D0138 3DF0 nop.n
+400D013A 3DF0 nop.n
+400D013C 3DF0 nop.n
+400D013E 70 .byte 0x70
+400D013F AD00 mov.n a10, a0
+400D0141 3DF0 nop.n
+400D0143 3DF0 nop.n
+400D0145 3DF0 nop.n
+400D0147 E0 .byte 0xE0
+400D0148 AE .byte 0xAE
+400D0149 003DF0 subx8 a3, a13, a0
+400D014C 3DF0 nop.n
+400D014E 3DF0 nop.n
+400D0150 00 .byte 0x00
+400D0151 AF .byte 0xAF
+400D0152 003DF0 subx8 a3, a13, a0
+400D0155 3DF0 nop.n
+400D0157 3DF0 nop.n
+400D0159 70 .byte 0x70
+400D015A B1003D l32r a11, 0x4009F55C
+400D015D F03DF0 subx8 a3, a13, a15
+400D0160 3DF0 nop.n
+400D0162 E0 .byte 0xE0
+400D0163 B2003D l8ui a11, a0, 61
+400D0166 F03DF0 subx8 a3, a13, a15
+400D0169 3DF0 nop.n
+400D016B 00 .byte 0x00
+400D016C B3 .byte 0xB3
+400D016D 003DF0 subx8 a3, a13, a0
+400D0170 3DF0 nop.n
+400D0172 3DF0 nop.n
+400D0174 70 .byte 0x70
+400D0175 B4 .byte 0xB4
+400D0176 003DF0 subx8 a3, a13, a0
+400D0179 3DF0 nop.n
+400D017B 3DF0 nop.n
+400D017D E0 .byte 0xE0
+400D017E B5003D call12 0x4010D188
+400D0181 F03DF0 subx8 a3, a13, a15
+400D0184 3DF0 nop.n
+400D0186 00 .byte 0x00
+400D0187 B6003D bltui a0, 32768, 0x400D01C8
+400D018A F03DF0 subx8 a3, a13, a15
+400D018D 3DF0 nop.n
+400D018F 70 .byte 0x70
+400D0190 B7003D bnone a0, a11, 0x400D01D1
+400D0193 F03DF0 subx8 a3, a13, a15
+400D0196 3DF0 nop.n
+400D0198 00 .byte 0x00
+400D0199 B900 s32i.n a11, a0, 0
+400D019B 3DF0 nop.n
+400D019D 3DF0 nop.n
+400D019F 3DF0 nop.n
+400D01A1 70 .byte 0x70
+400D01A2 BA00 add.n a0, a0, a11
+400D01A4 3DF0 nop.n
+400D01A6 3DF0 nop.n
+400D01A8 3DF0 nop.n
+400D01AA E0 .byte 0xE0
+400D01AB BB00 addi.n a0, a0, 11
+400D01AD 3DF0 nop.n
+400D01AF 3DF0 nop.n
+400D01B1 3DF0 nop.n
+400D01B3 00 .byte 0x00
+400D01B4 BC00 beqz.n a0, 0x400D01E8
+400D01B6 3DF0 nop.n
+400D01B8 3DF0 nop.n
+400D01BA 3DF0 nop.n
+400D01BC 70 .byte 0x70
+400D01BD BD00 mov.n a11, a0
+400D01BF 3DF0 nop.n
+400D01C1 3DF0 nop.n
+400D01C3 3DF0 nop.n
+400D01C5 E0 .byte 0xE0
+400D01C6 BE .byte 0xBE
+400D01C7 003DF0 subx8 a3, a13, a0
+400D01CA 3DF0 nop.n
+400D01CC 3DF0 nop.n
+400D01CE 00 .byte 0x00
+400D01CF BF .byte 0xBF
+400D01D0 003DF0 subx8 a3, a13, a0
+400D01D3 3DF0 nop.n
+400D01D5 3DF0 nop.n
+400D01D7 10 .byte 0x10
+400D01D8 C0 .byte 0xC0
+400D01D9 003DF0 subx8 a3, a13, a0
+400D01DC 3DF0 nop.n
+400D01DE 3DF0 nop.n
+400D01E0 10 .byte 0x10
+400D01E1 D0 .byte 0xD0
+400D01E2 003DF0 subx8 a3, a13, a0
+400D01E5 3DF0 nop.n
+400D01E7 3DF0 nop.n
+400D01E9 10 .byte 0x10
+400D01EA E0 .byte 0xE0
+400D01EB 003DF0 subx8 a3, a13, a0
+400D01EE 3DF0 nop.n
+400D01F0 3DF0 nop.n
+400D01F2 10 .byte 0x10
+400D01F3 F0 .byte 0xF0
+400D01F4 003DF0 subx8 a3, a13, a0
+400D01F7 3DF0 nop.n
+400D01F9 3DF0 nop.n
+400D01FB 00 .byte 0x00
+";
+
+/// Words beside those of XORB, BT and the three accesses of BR.
+pub const PLACES: &str = "\
+.byte 0x30, 0x12, 0x52
+.byte 0x30, 0x12, 0x62
+.byte 0x30, 0x12, 0x72
+.byte 0x30, 0x12, 0x92
+.byte 0x76, 0x22, 0x04
+.byte 0x76, 0x32, 0x04
+.byte 0x76, 0x42, 0x04
+.byte 0x76, 0x52, 0x04
+.byte 0x76, 0x62, 0x04
+.byte 0x76, 0x72, 0x04
+.byte 0x76, 0xB2, 0x04
+.byte 0x76, 0xC2, 0x04
+.byte 0x76, 0xD2, 0x04
+.byte 0x76, 0xE2, 0x04
+.byte 0x76, 0xF2, 0x04
+.byte 0x20, 0x05, 0x03
+.byte 0x20, 0x05, 0x13
+.byte 0x20, 0x05, 0x61
+";
+
+/// The listing of `PLACES`, each line with three NOP.N after it.
+pub const PLACES_LISTED: &str = "\
+segment 0 400D0000 168 IROM
+400D0000 F02000 nop
+400D0003 30 .byte 0x30
+400D0004 12523D s16i a1, a2, 122
+400D0007 F03DF0 subx8 a3, a13, a15
+400D000A 3DF0 nop.n
+400D000C 30 .byte 0x30
+400D000D 12623D s32i a1, a2, 244
+400D0010 F03DF0 subx8 a3, a13, a15
+400D0013 3DF0 nop.n
+400D0015 30 .byte 0x30
+400D0016 12 .byte 0x12
+400D0017 72 .byte 0x72
+400D0018 3DF0 nop.n
+400D001A 3DF0 nop.n
+400D001C 3DF0 nop.n
+400D001E 30 .byte 0x30
+400D001F 12923D l16si a1, a2, 122
+400D0022 F03DF0 subx8 a3, a13, a15
+400D0025 3DF0 nop.n
+400D0027 76 .byte 0x76
+400D0028 22043D l8ui a2, a4, 61
+400D002B F03DF0 subx8 a3, a13, a15
+400D002E 3DF0 nop.n
+400D0030 76 .byte 0x76
+400D0031 32043D l8ui a3, a4, 61
+400D0034 F03DF0 subx8 a3, a13, a15
+400D0037 3DF0 nop.n
+400D0039 76 .byte 0x76
+400D003A 42043D l8ui a4, a4, 61
+400D003D F03DF0 subx8 a3, a13, a15
+400D0040 3DF0 nop.n
+400D0042 76 .byte 0x76
+400D0043 52043D l8ui a5, a4, 61
+400D0046 F03DF0 subx8 a3, a13, a15
+400D0049 3DF0 nop.n
+400D004B 76 .byte 0x76
+400D004C 62043D l8ui a6, a4, 61
+400D004F F03DF0 subx8 a3, a13, a15
+400D0052 3DF0 nop.n
+400D0054 76 .byte 0x76
+400D0055 72043D l8ui a7, a4, 61
+400D0058 F03DF0 subx8 a3, a13, a15
+400D005B 3DF0 nop.n
+400D005D 76 .byte 0x76
+400D005E B2043D l8ui a11, a4, 61
+400D0061 F03DF0 subx8 a3, a13, a15
+400D0064 3DF0 nop.n
+400D0066 76 .byte 0x76
+400D0067 C2043D l8ui a12, a4, 61
+400D006A F03DF0 subx8 a3, a13, a15
+400D006D 3DF0 nop.n
+400D006F 76 .byte 0x76
+400D0070 D2043D l8ui a13, a4, 61
+400D0073 F03DF0 subx8 a3, a13, a15
+400D0076 3DF0 nop.n
+400D0078 76 .byte 0x76
+400D0079 E2043D l8ui a14, a4, 61
+400D007C F03DF0 subx8 a3, a13, a15
+400D007F 3DF0 nop.n
+400D0081 76 .byte 0x76
+400D0082 F2043D l8ui a15, a4, 61
+400D0085 F03DF0 subx8 a3, a13, a15
+400D0088 3DF0 nop.n
+400D008A 20 .byte 0x20
+400D008B 05033D call0 0x4010D0BC
+400D008E F03DF0 subx8 a3, a13, a15
+400D0091 3DF0 nop.n
+400D0093 20 .byte 0x20
+400D0094 05133D call0 0x4010D1C8
+400D0097 F03DF0 subx8 a3, a13, a15
+400D009A 3DF0 nop.n
+400D009C 20 .byte 0x20
+400D009D 05613D call0 0x4010D6B0
+400D00A0 F03DF0 subx8 a3, a13, a15
+400D00A3 3DF0 nop.n
+400D00A5 000000 ill
+";
+
+/// Each instruction.
+pub const ROWS: &str = "\
+.seg 0x400D0000
+.entry start
+start: nop
+andb b1, b2, b3
+andbc b1, b2, b3
+orb b1, b2, b3
+orbc b1, b2, b3
+xorb b1, b2, b3
+any4 b1, b4
+all4 b1, b8
+any8 b1, b0
+all8 b1, b8
+bf b1, start
+bt b1, start
+movf a1, a2, b3
+movt a1, a2, b3
+rsr a2, br
+wsr a2, br
+xsr a2, br
+";
+
+/// The listing of `ROWS`.
+pub const ROWS_LISTED: &str = "\
+segment 0 400D0000 52 IROM
+400D0000 F02000 nop
+400D0003 301202 andb b1, b2, b3
+400D0006 301212 andbc b1, b2, b3
+400D0009 301222 orb b1, b2, b3
+400D000C 301232 orbc b1, b2, b3
+400D000F 301242 xorb b1, b2, b3
+400D0012 108400 any4 b1, b4
+400D0015 109800 all4 b1, b8
+400D0018 10A000 any8 b1, b0
+400D001B 10B800 all8 b1, b8
+400D001E 7601DE bf b1, 0x400D0000
+400D0021 7611DB bt b1, 0x400D0000
+400D0024 3012C3 movf a1, a2, b3
+400D0027 3012D3 movt a1, a2, b3
+400D002A 200403 rsr a2, br
+400D002D 200413 wsr a2, br
+400D0030 200461 xsr a2, br
+400D0033 00 .byte 0x00
+";
+
+/// Bytes that are too few for an instruction at the end of a segment, and a segment that is not executable.
+pub const CUT: &str = "\
+.seg 0x400D0000
+.entry start
+start: nop
+.byte 0x30, 0x12, 0x02, 0x76, 0x12
+.seg 0x3FFB0000
+.byte 0x30, 0x12, 0x02, 0x00
+";
+
+/// The listing of `CUT`.
+pub const CUT_LISTED: &str = "\
+segment 0 400D0000 8 IROM
+400D0000 F02000 nop
+400D0003 301202 andb b1, b2, b3
+400D0006 76 .byte 0x76
+400D0007 12 .byte 0x12
+segment 1 3FFB0000 4 DRAM
+";
