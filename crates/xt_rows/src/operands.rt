@@ -5,7 +5,6 @@ ghost use Rattle.xt_rows.specs.Numbers.{natural};
 ghost use Rattle.xt_rows.specs.Operands.{boolean_named, boolean_reads, call_size, callx_size, changes_interrupt, control_named, control_reads, density_named, density_reads, memory_named, memory_reads, named, reads, shift_named, shift_reads, special_reads, system_named, system_reads, system_special_reads, three_named, three_reads, two};
 
 use crate::numbers::natural;
-use xt_isa::Insn;
 use xt_isa::boolean::Boolean;
 use xt_isa::control::{CallName, CallxName, Control};
 use xt_isa::density::{Density, NarrowName, NarrowRetName};
@@ -13,6 +12,7 @@ use xt_isa::memory::{ByteName, HalfName, Memory, WindowName, WordName};
 use xt_isa::shift::Shift;
 use xt_isa::system::{LevelName, ReturnName, SpecialName, System, UserName};
 use xt_isa::three::Three;
+use xt_isa::{Insn, number};
 
 /// Up to two registers by number.
 pub type Registers = (Option<u8>, Option<u8>);
@@ -188,7 +188,9 @@ fn changes_interrupt(n: u8) -> Option<u8>
     ensures { result ≡ changes_interrupt n }
 {
     match n {
-        226 | 227 | 240..=242 => Some(226),
+        number::INTERRUPT | number::INTCLEAR | number::CCOMPARE0..=number::CCOMPARE2 => {
+            Some(number::INTERRUPT)
+        }
         _ => None,
     }
 }
@@ -199,8 +201,11 @@ fn system_special_reads(i: System) -> Registers
     ensures { result ≡ system_special_reads i }
 {
     match i {
-        System::Rfe(ReturnName::Rfe | ReturnName::Rfwo | ReturnName::Rfwu) => (Some(177), None),
-        System::Rfe(ReturnName::Rfde) => (Some(192), None),
+        System::Rfe(ReturnName::Rfe | ReturnName::Rfwo | ReturnName::Rfwu) => (
+            Some(number::EPC1),
+            None,
+        ),
+        System::Rfe(ReturnName::Rfde) => (Some(number::DEPC), None),
         System::Rfi(level) => return_registers(level),
         System::Rsr(SpecialName::Rsr, _, n) => (Some(n), None),
         System::Rsr(SpecialName::Wsr, _, n) => (None, changes_interrupt(n)),
@@ -217,7 +222,8 @@ fn return_registers(level: i32) -> Registers
     ensures { result ≡ two (number.epc (natural level)) (number.eps (natural level)) }
 {
     let level = natural(level) as u8;
-    (Some(176 + level), Some(192 + level))
+    let above = level - 2;
+    (Some(number::EPC2 + above), Some(number::EPS2 + above))
 }
 
 /// The special registers whose values the instruction uses, beside PS and THREADPTR.
@@ -228,11 +234,11 @@ pub fn special_reads(i: Insn) -> Registers
     ensures { result ≡ special_reads i }
 {
     match i {
-        Insn::Three(Three::Src(_, _, _)) => (Some(3), None),
-        Insn::Shift(Shift::Srl(_, _, _) | Shift::Sll(_, _)) => (Some(3), None),
-        Insn::Memory(Memory::S32c1i(_, _, _)) => (Some(12), None),
+        Insn::Three(Three::Src(_, _, _)) => (Some(number::SAR), None),
+        Insn::Shift(Shift::Srl(_, _, _) | Shift::Sll(_, _)) => (Some(number::SAR), None),
+        Insn::Memory(Memory::S32c1i(_, _, _)) => (Some(number::SCOMPARE1), None),
         Insn::System(i) => system_special_reads(i),
-        Insn::Boolean(_) => (Some(4), None),
+        Insn::Boolean(_) => (Some(number::BR), None),
         _ => (None, None),
     }
 }
