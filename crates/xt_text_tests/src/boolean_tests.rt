@@ -1,9 +1,7 @@
 //! Texts with Boolean registers: the first fault of each faulty one, the image of each good one, and listings, from
 //! outside.
 use crate::asm_fault_tests::{Row, row_answer};
-use listings::{
-    CUT, CUT_LISTED, GROUPS, GROUPS_LISTED, PLACES, PLACES_LISTED, ROWS, ROWS_LISTED,
-};
+use listings::{CUT, CUT_LISTED, GROUPS, GROUPS_LISTED, PLACES, PLACES_LISTED, ROWS, ROWS_LISTED};
 use std::alloc::Global;
 use std::fmt::Write;
 use std::test::Fail;
@@ -44,7 +42,12 @@ static FAULTS: [Row; 62] = [
     // The name of a Boolean register is no label, wherever it stands.
     ("start: nop\nb0: nop", 4, 1, 8),
     ("start: nop\nb15: andb b1, b2, b3", 4, 1, 8),
-    ("start: movi a2, 3\nagain: addi a2, a2, -1\nb3:\nbnez a2, again", 5, 1, 8),
+    (
+        "start: movi a2, 3\nagain: addi a2, a2, -1\nb3:\nbnez a2, again",
+        5,
+        1,
+        8,
+    ),
     ("start: j b3", 3, 10, 8),
     ("start: bt b2, b3", 3, 15, 8),
     ("start: beqz a2, b3", 3, 17, 8),
@@ -93,9 +96,19 @@ static FAULTS: [Row; 62] = [
 
 /// Whole texts with a fault.
 static WHOLE: [Row; 3] = [
-    ("andb b1, b2, b3\n.seg 0x400D0000\n.entry start\nstart: nop", 1, 1, 8),
+    (
+        "andb b1, b2, b3\n.seg 0x400D0000\n.entry start\nstart: nop",
+        1,
+        1,
+        8,
+    ),
     (".seg 0x400D0000\n.entry b3\nnop", 2, 8, 8),
-    (".seg 0x4009FFFC\n.entry start\nstart: andb b1, b2, b3\nandb b1, b2, b3", 4, 1, 6),
+    (
+        ".seg 0x4009FFFC\n.entry start\nstart: andb b1, b2, b3\nandb b1, b2, b3",
+        4,
+        1,
+        6,
+    ),
 ];
 
 /// Texts, and the bytes of their images.
