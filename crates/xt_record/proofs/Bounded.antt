@@ -8,6 +8,7 @@ use Rattle.std.proofs.lemmas.List.Elements.{All-cons, All-head, All-map, All-nil
 use Rattle.std.specs.List.{filter, range_with_len}
 use Rattle.std.proofs.lemmas.List.{length-map}
 use Rattle.std.proofs.lemmas.List.FromFn.{length-map-range_with_len, length-range_with_len}
+use Rattle.xt_isa.specs.Numbers.{br}
 use Rattle.xt_map.specs.declared.access.Access.{Access}
 use Rattle.xt_map.specs.declared.access.Entry.{Entry}
 use Rattle.xt_map.specs.declared.contents.MemoryContents.{MemoryContents}
@@ -154,7 +155,7 @@ state_long : (step : ℕ) (s : State) → length (state_bytes step s) ≡ 444
 unfolding state_bytes
 state_long step s =
     let c = s.control in
-    long_eight (words (c.pc ∷ bit_of c.waits ∷ step ∷ s.base ∷ s.start ∷ [])) (file_bytes s.regs) (special_bytes c.special loop_numbers) (words (0 ∷ []))
+    long_eight (words (c.pc ∷ bit_of c.waits ∷ step ∷ s.base ∷ s.start ∷ [])) (file_bytes s.regs) (special_bytes c.special loop_numbers) (words (slice_index c.special br ∷ []))
     (special_bytes c.special saved_numbers) (words (ps_word c.ps ∷ [])) (special_bytes c.special last_numbers) (words (c.threadptr ∷ []))
     ∙ ap₂ (λ x y. 20 + x + y + 4 + length (special_bytes c.special saved_numbers) + 4 + length (special_bytes c.special last_numbers) + 4) (file_long s.regs) (special_long c.special loop_numbers)
     ∙ ap₂ (λ x y. 20 + 256 + 12 + 4 + x + 4 + y + 4) (special_long c.special saved_numbers) (special_long c.special last_numbers)

@@ -6,6 +6,7 @@ use Rattle.std.specs.Int.{w32, to_le_bytes}
 use Rattle.std.proofs.lemmas.List.{append-nil}
 use Rattle.std.proofs.lemmas.List.FromFn.{map-range_with_len_more}
 use Rattle.std.proofs.lemmas.Grind.{flat_map-append}
+use Rattle.xt_isa.specs.Numbers.{br}
 use Rattle.xt_window.specs.Ring.{place, visible}
 use Rattle.xt_special.specs.Control.{bit_of, ps_word}
 use Rattle.xt_exec.specs.State.{State}
@@ -50,7 +51,7 @@ pub state_joined : (step : ℕ) (s : State) (old l1 l2 l3 l4 l5 l6 l7 l8 : List 
     → l1 ≡ old ++ words (s.control.pc ∷ bit_of s.control.waits ∷ step ∷ s.base ∷ s.start ∷ [])
     → l2 ≡ l1 ++ file_bytes s.regs
     → l3 ≡ l2 ++ special_bytes s.control.special loop_numbers
-    → l4 ≡ l3 ++ words (0 ∷ [])
+    → l4 ≡ l3 ++ words (slice_index s.control.special br ∷ [])
     → l5 ≡ l4 ++ special_bytes s.control.special saved_numbers
     → l6 ≡ l5 ++ words (ps_word s.control.ps ∷ [])
     → l7 ≡ l6 ++ special_bytes s.control.special last_numbers

@@ -2,7 +2,7 @@
 use Rattle.std.specs.Prelude.{ℕ, ◌%◌, Bool, ◌==◌, ◌&&◌, ◌||◌, nat_le, not, List, [], ◌∷◌, ◌++◌, length, map}
 use Rattle.std.specs.Prelude.{filter, slice_index}
 use Rattle.std.specs.List.{range_with_len}
-use Rattle.xt_isa.specs.Numbers.{exchanged_numbers, excsave, intenable, interrupt, lcount, sar}
+use Rattle.xt_isa.specs.Numbers.{br, exchanged_numbers, excsave, intenable, interrupt, lcount, sar}
 use Rattle.xt_isa.specs.Numbers.{vecbase, windowbase, windowstart}
 use Rattle.xt_isa.specs.Spelling.{within}
 use Rattle.xt_map.specs.declared.contents.MemoryContents.{MemoryContents}
@@ -19,17 +19,19 @@ use Rattle.xt_record.specs.Fields.{words}
 
 -- ---- one checkpoint
 
--- The special registers of a core that a checkpoint has, in the order of their numbers: LBEG, LEND
--- and LCOUNT; from SAR on to EXCSAVE7, INTERRUPT and INTENABLE; and from VECBASE on.
+-- The special registers of a core that a checkpoint has, in the order of their numbers but for BR,
+-- which comes after LCOUNT: LBEG, LEND and LCOUNT; from SAR on to EXCSAVE7, INTERRUPT and INTENABLE;
+-- and from VECBASE on.
 abbrev pub loop_numbers : List ℕ
 loop_numbers = filter (λ (n : ℕ). nat_le n lcount) exchanged_numbers
 
-abbrev pub is_window : ℕ → Bool
-is_window n = n == windowbase || n == windowstart
+-- BR, WINDOWBASE and WINDOWSTART have places of their own
+abbrev pub stands_apart : ℕ → Bool
+stands_apart n = n == br || (n == windowbase || n == windowstart)
 
 abbrev pub saved_numbers : List ℕ
 saved_numbers =
-    filter (λ (n : ℕ). within sar (excsave 7) n && not (is_window n)) exchanged_numbers
+    filter (λ (n : ℕ). within sar (excsave 7) n && not (stands_apart n)) exchanged_numbers
     ++ interrupt ∷ intenable ∷ []
 
 abbrev pub last_numbers : List ℕ
@@ -43,14 +45,13 @@ special_bytes special numbers = words (map (slice_index special) numbers)
 unfoldable pub file_bytes : List ℕ → List ℕ
 file_bytes regs = words (map (slice_index regs) (range_with_len 0 64))
 
--- the 111 words of a core that makes its turn of this number next; the word after LCOUNT
--- is BR, which is always 0
+-- the 111 words of a core that makes its turn of this number next; BR comes after LCOUNT
 unfoldable pub state_bytes : ℕ → State → List ℕ
 state_bytes step s =
     words (s.control.pc ∷ bit_of s.control.waits ∷ step ∷ s.base ∷ s.start ∷ [])
     ++ file_bytes s.regs
     ++ special_bytes s.control.special loop_numbers
-    ++ words (0 ∷ [])
+    ++ words (slice_index s.control.special br ∷ [])
     ++ special_bytes s.control.special saved_numbers
     ++ words (ps_word s.control.ps ∷ [])
     ++ special_bytes s.control.special last_numbers

@@ -94,7 +94,7 @@ fn put_state(out: &mut Vec<u8>, step: u32, regs: &Regs<OwnFile>) -> Result<(), A
     put_words(out, &[regs.pc, regs.waiting as u32, step, base, start])?;
     put_file(out, win)?;
     put_registers(out, special, &LOOP_NUMBERS)?;
-    put_words(out, &[0])?;
+    put_words(out, &[special.register(number::BR)])?;
     put_registers(out, special, &SAVED_NUMBERS)?;
     put_words(out, &[special.ps()])?;
     put_registers(out, special, &LAST_NUMBERS)?;
