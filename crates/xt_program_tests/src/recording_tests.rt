@@ -2,6 +2,7 @@
 
 use crate::damage_tests::LETTER;
 use crate::programs::{image_of, words_with};
+use crate::recordings::output_of;
 use std::alloc::{AllocError, Global};
 use std::sync::Wait;
 use std::test::Fail;
@@ -71,13 +72,18 @@ fn recording_of_the_letter_a(rt: HostRuntime) -> Result<(), Fail> {
     assert_eq!(rt; sink.bytes(), recorded.as_slice());
     for length in 0..136usize {
         let front = &recorded.as_slice()[..length.min(recorded.len())];
-        let (status, sink) = answer(&rt, "migrate", "", front)?;
-        assert_eq!(rt;
-            status,
-            Status::Recording(RecordFault::Short),
-            "the first {length} bytes"
-        );
-        assert!(rt; sink.bytes().is_empty(), "the first {length} bytes");
+        for (command, script) in [("migrate", None), ("replay", Some(""))] {
+            let (status, sink) = output_of(alloc, command, script, front).ok_or(AllocError)?;
+            assert_eq!(rt;
+                status,
+                Status::Recording(RecordFault::Short),
+                "{command} of the first {length} bytes"
+            );
+            assert!(rt;
+                sink.bytes().is_empty(),
+                "{command} of the first {length} bytes"
+            );
+        }
     }
     let rows = [
         (128, 1, Status::Recording(RecordFault::Illegal(0, 1, 0))),
@@ -114,8 +120,20 @@ fn recording_with_checkpoints(rt: HostRuntime) -> Result<(), Fail> {
     let (status, _) = answer(&rt, "migrate", "", bytes)?;
     assert_eq!(rt; status, Status::Done);
     let wrong = changed(alloc, bytes, FIRST + SIZE + 8, 0xFF)?;
-    let (status, _) = answer(&rt, "migrate", "", &wrong)?;
-    assert_eq!(rt; status, Status::Recording(RecordFault::Checkpoint(1)));
+    let mut too_few = changed(alloc, bytes, FIRST - 4, 1)?;
+    too_few.truncate(FIRST + SIZE);
+    let mut too_many = changed(alloc, bytes, FIRST - 4, 3)?;
+    too_many.extend_from_slice(&bytes[bytes.len().saturating_sub(SIZE)..])?;
+    for (damaged, index) in [(wrong, 1), (too_few, 1), (too_many, 2)] {
+        let (status, _) = answer(&rt, "migrate", "", &damaged)?;
+        assert_eq!(rt; status, Status::Recording(RecordFault::Checkpoint(index)));
+    }
+    Ok(())
+}
+
+#[test]
+fn boolean_registers_in_a_checkpoint(rt: HostRuntime) -> Result<(), Fail> {
+    let alloc = rt.alloc();
     let image = image_of(alloc, IDLE_WITH_BOOLEANS).ok_or(AllocError)?;
     let file = write(alloc, &image)?;
     let options = "--turns0 131073 --turns1 0";
@@ -131,5 +149,62 @@ fn recording_with_checkpoints(rt: HostRuntime) -> Result<(), Fail> {
     for (place, words) in rows {
         assert!(rt; stands_at(bytes, place, &words), "{place}");
     }
+    Ok(())
+}
+
+/// Core 0 counts in a2, and stores each number at its stack pointer. From turn 1 on three turns are one round: turn n finds
+/// (n + 1) / 3 in a2, and n / 3 in memory.
+const COUNTING: &str = "\
+.seg 0x400D0000\n.entry main\nmain: movi a2, 0\nl: addi a2, a2, 1\ns32i a2, a1, 0\nj l\n";
+
+/// To turn 200,000 and back over three times 65,536 turns, on, and back over once as many.
+const WALK: &str = "go 0 200000; regs 0; mem 0x3FFF7FC0 4; back 149999; regs 0; mem 0x3FFF7FC0 4; \
+next 90000; regs 0; mem 0x3FFF7FC0 4; back 65536; regs 0; mem 0x3FFF7FC0 4; go 0 1; regs 0; mem 0x3FFF7FC0 4";
+
+/// What it prints: 66,667 and 66,666; 16,667 twice; 46,667 twice; 24,822 and 24,821; and 0 twice.
+const WALKED: &str = "\
+core 0 step 200000 pc 400D0006 ps 00060020 wb 0 ws 0001
+a0 00000000 3FFF7FC0 0001046B 00000000
+a4 00000000 00000000 00000000 00000000
+a8 80000000 00000000 00000000 00000000
+a12 00000000 00000000 00000000 00000000
+mem 3FFF7FC0 6A 04 01 00
+core 0 step 50001 pc 400D0009 ps 00060020 wb 0 ws 0001
+a0 00000000 3FFF7FC0 0000411B 00000000
+a4 00000000 00000000 00000000 00000000
+a8 80000000 00000000 00000000 00000000
+a12 00000000 00000000 00000000 00000000
+mem 3FFF7FC0 1B 41 00 00
+core 0 step 140001 pc 400D0009 ps 00060020 wb 0 ws 0001
+a0 00000000 3FFF7FC0 0000B64B 00000000
+a4 00000000 00000000 00000000 00000000
+a8 80000000 00000000 00000000 00000000
+a12 00000000 00000000 00000000 00000000
+mem 3FFF7FC0 4B B6 00 00
+core 0 step 74465 pc 400D0006 ps 00060020 wb 0 ws 0001
+a0 00000000 3FFF7FC0 000060F6 00000000
+a4 00000000 00000000 00000000 00000000
+a8 80000000 00000000 00000000 00000000
+a12 00000000 00000000 00000000 00000000
+mem 3FFF7FC0 F5 60 00 00
+core 0 step 1 pc 400D0003 ps 00060020 wb 0 ws 0001
+a0 00000000 3FFF7FC0 00000000 00000000
+a4 00000000 00000000 00000000 00000000
+a8 80000000 00000000 00000000 00000000
+a12 00000000 00000000 00000000 00000000
+mem 3FFF7FC0 00 00 00 00
+";
+
+#[test]
+fn replay_on_and_back_over_many_turns(rt: HostRuntime) -> Result<(), Fail> {
+    let alloc = rt.alloc();
+    let image = image_of(alloc, COUNTING).ok_or(AllocError)?;
+    let file = write(alloc, &image)?;
+    let options = "--turns0 250000 --turns1 0";
+    let (status, sink) = answer(&rt, "record", options, file.as_slice())?;
+    assert_eq!(rt; status, Status::Done);
+    let (status, printed) = output_of(alloc, "replay", Some(WALK), sink.bytes()).ok_or(AllocError)?;
+    assert_eq!(rt; status, Status::Done);
+    assert_eq!(rt; printed.bytes(), WALKED.as_bytes());
     Ok(())
 }

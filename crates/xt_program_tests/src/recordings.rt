@@ -15,9 +15,9 @@ fn bytes_of(alloc: Global, case: &str) -> Option<Vec<u8>> {
     hex::decode(alloc, digits.as_str()).ok()
 }
 
-// What the program ends with over these bytes, and what it writes. The words are the command, and its
-// one word more, if there is one.
-fn output_of(
+/// What the program ends with over these bytes, and what it writes. The words are the command, and its
+/// one word more, if there is one.
+pub fn output_of(
     alloc: Global,
     command: &str,
     word: Option<&str>,

@@ -1,3 +1,8 @@
+ghost use Rattle.std.specs.Prelude.{None};
+ghost use Rattle.std.specs.Io.{ReadsAtMost};
+ghost use Rattle.std.specs.Io.KnownBytes.{ReadConsumes};
+ghost use Rattle.xt_io.specs.Causes.{HasCause};
+
 use std::alloc::{AllocError, Global};
 use std::sync::Wait;
 use std::test::Fail;
@@ -5,8 +10,9 @@ use std::thread::Threads;
 use xt_cli::{Outcome, Status, Tool, tool_main, xt_main};
 use xt_elf::ElfFault;
 use xt_image::ImageFault;
-use xt_io::{MemSink, MemSource, OpenGate, SafeSink, SafeSource, Sink, Source};
+use xt_io::{Failed, MemSink, MemSource, OpenGate, SafeSink, SafeSource, Sink, Source};
 use xt_lex::AsmPlace;
+use xt_record::RecordFault;
 
 /// An image that sends the letter A and stops, in hexadecimal digits: a head, one segment with the
 /// constant 0x3FF40000 and the instructions `l32r a2, 0x40080400`, `movi a3, 65`, `s8i a3, a2, 0` and
@@ -270,6 +276,29 @@ fn words_that_need_no_input(rt: HostRuntime) -> Result<(), Fail> {
     Ok(())
 }
 
+/// A source of so many zeros, which tells nothing of them.
+#[derive(Drop)]
+struct Zeros {
+    left: usize,
+}
+
+impl Source for Zeros {
+    ghost left = { λ _. None };
+
+    ghost faults = { λ _. 0 };
+
+    fn read(&mut self, buf: &mut [u8]) -> Result<usize, Failed>
+        ensures bound { ReadsAtMost result buf.new }
+        ensures bytes { ReadConsumes None None result buf.new }
+        ensures cause { HasCause 0 0 result }
+    {
+        let count = self.left.min(buf.len());
+        buf[..count].fill(0);
+        self.left -= count;
+        Ok(count)
+    }
+}
+
 #[test]
 fn too_long_an_input_is_refused(rt: HostRuntime) -> Result<(), Fail> {
     let image = hex::decode(rt.alloc(), LETTER)?;
@@ -296,6 +325,31 @@ fn too_long_an_input_is_refused(rt: HostRuntime) -> Result<(), Fail> {
         let mut sink = SafeSink::make(rt.alloc())?;
         let outcome = answer(&rt, words, &mut source, &mut sink)?;
         assert_eq!(rt; outcome.status, status, "{words}");
+    }
+    // A command, its limit, and how it refuses as many zeros.
+    let rows = [
+        ("run", 8_388_608, Status::Image(ImageFault::Magic(0))),
+        ("record", 8_388_608, Status::Image(ImageFault::Magic(0))),
+        ("elf", 67_108_864, Status::Elf(ElfFault::Magic)),
+        (
+            "migrate",
+            201_326_592,
+            Status::Recording(RecordFault::Magic),
+        ),
+        (
+            "replay ",
+            201_326_592,
+            Status::Recording(RecordFault::Magic),
+        ),
+    ];
+    for (words, limit, refused) in rows {
+        for (more, status) in [(0, refused), (1, Status::TooLarge(limit))] {
+            let left = (limit as usize).saturating_add(more);
+            let mut sink = SafeSink::make(rt.alloc())?;
+            let outcome = answer(&rt, words, &mut Zeros { left }, &mut sink)?;
+            assert_eq!(rt; outcome.status, status, "{words}");
+            assert!(rt; sink.bytes().is_empty(), "{words}");
+        }
     }
     Ok(())
 }

@@ -17,3 +17,4 @@ pub mod Finals
 pub mod Through
 pub mod Ruling
 pub mod Blocks
+pub mod Settled

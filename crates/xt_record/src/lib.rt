@@ -17,6 +17,6 @@ mod words;
 mod writing;
 
 pub use fault::RecordFault;
-pub use laws::round_trip;
+pub use laws::{migrated_once, round_trip};
 pub use reading::read_recording;
 pub use writing::write_recording;

@@ -1,9 +1,11 @@
 //! A recording, written.
-ghost use Rattle.std.specs.Prelude.{◌≡◌, ◌≤◌, ◌++◌, length, IfOk, OnOk};
+ghost use Rattle.std.specs.Prelude.{◌≡◌, ◌≤◌, ◌++◌, length, IfOk, Ok, OnOk};
 ghost use Rattle.std.specs.List.{concat, flat_map};
 ghost use Rattle.xt_image.specs.Parts.{IsWellFormed};
 ghost use Rattle.xt_core.specs.Runs.{IsRunOf};
 ghost use Rattle.xt_record.specs.Checkpoints.{checkpoints_of};
+ghost use Rattle.xt_record.specs.Fitting.{FitsRun};
+ghost use Rattle.xt_record.specs.Format.{Reads, recording_fault};
 ghost use Rattle.xt_record.specs.Written.{recording_bytes};
 ghost use Rattle.xt_record.specs.Parts.{entry_bytes, first_operand, kind_number, options_bytes, second_operand};
 
@@ -126,14 +128,16 @@ fn points_of(alloc: Global, image: &Image, run: &Run) -> Result<Vec<Bytes>, Allo
 }
 
 /// The recording of a run: version 2, with its image and its checkpoints. The only error is running
-/// out of memory.
+/// out of memory. What was written reads again as this image and this run, whose numbers are in the
+/// ranges of their types.
 ///
 /// Conditions: the image is well formed, and the run is the image's.
 #[tactic(auto, unfolding(crate::specs::Written::recording_bytes))]
 pub fn write_recording(alloc: Global, image: &Image, run: &Run) -> Result<Bytes, AllocError>
     requires image { IsWellFormed image.now }
     requires run { IsRunOf image.now run.now }
-    ensures { IfOk result (λ bytes. bytes ≡ recording_bytes image.now run.now) }
+    ensures bytes { IfOk result (λ bytes. bytes ≡ recording_bytes image.now run.now) }
+    ensures again { FitsRun run.now → IfOk result (λ bytes. Reads (Ok (image.now, run.now)) bytes (recording_fault bytes)) }
 {
     let file = xt_image::write(alloc, image)?;
     let points = points_of(alloc, image, run)?;

@@ -12,7 +12,12 @@ type Row = (&'static str, &'static str);
 const FRONT: &str = ".seg 0x400D0000\n.entry 0x400D0000\n";
 
 /// Texts after these two lines, and the bytes of the segment, which blanks may part.
-static CODE: [Row; 25] = [
+static CODE: [Row; 26] = [
+    // Instructions of each length, with their operands in the manual's order.
+    (
+        "entry a1, 32\nretw.n\ns32e a0, a5, -16\nslli a2, a2, 4\nmovi.n a2, 5\nextui a2, a2, 0, 8",
+        "364100 1DF0 00C549 C02211 0C52 202074",
+    ),
     // Uses of one pool share a word where their terms are the same: here 5 and 2 + 3 are two words.
     (
         ".literal_position\nl32r a2, =5\nl32r a3, =5\nl32r a4, =2 + 3",

@@ -60,6 +60,11 @@ fn kinds_of_segment(rt: HostRuntime) -> Result<(), Fail> {
     segments.push(segment(alloc, 0x400D0010, &[0x0F, 0x00, 0x00])?)?;
     segments.push(segment(alloc, 0x0FFFFFFC, &[0x1D, 0xF0])?)?;
     segments.push(segment(alloc, 0x10000000, &[])?)?;
+    let six = [
+        0x36, 0x41, 0x00, 0x1D, 0xF0, 0x00, 0xC5, 0x49, 0xC0, 0x22, 0x11, 0x0C, 0x52, 0x20, 0x20,
+        0x74,
+    ];
+    segments.push(segment(alloc, 0x400D0020, &six)?)?;
     let lines = listing(alloc, &image(segments))?;
     let want = "\
 segment 0 40080400 16 IRAM
@@ -89,6 +94,13 @@ segment 10 400D0010 3 IROM
 400D0012 00 .byte 0x00
 segment 11 0FFFFFFC 2 PAD
 segment 12 10000000 0 NONE
+segment 13 400D0020 16 IROM
+400D0020 364100 entry a1, 32
+400D0023 1DF0 retw.n
+400D0025 00C549 s32e a0, a5, -16
+400D0028 C02211 slli a2, a2, 4
+400D002B 0C52 movi.n a2, 5
+400D002D 202074 extui a2, a2, 0, 8
 ";
     assert_eq!(rt; lines.as_slice(), want.as_bytes());
     Ok(())
