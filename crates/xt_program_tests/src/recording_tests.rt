@@ -178,8 +178,7 @@ fn replay_on_and_back_over_many_turns(rt: HostRuntime) -> Result<(), Fail> {
     let options = "--turns0 250000 --turns1 0";
     let (status, sink) = answer(&rt, "record", options, file.as_slice())?;
     assert_eq!(rt; status, Status::Done);
-    let (status, printed) =
-        output_of(alloc, "replay", Some(WALK), sink.bytes()).ok_or(AllocError)?;
+    let (status, printed) = output_of(alloc, "replay", Some(WALK), sink.bytes()).ok_or(AllocError)?;
     assert_eq!(rt; status, Status::Done);
     assert_eq!(rt; printed.bytes(), WALKED.as_bytes());
     Ok(())
