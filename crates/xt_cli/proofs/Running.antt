@@ -14,8 +14,9 @@ use Rattle.xt_cli.specs.declared.status.Status.TheVariants as status
 use Rattle.xt_cli.specs.declared.verdicts.Whole.{Whole}
 use Rattle.xt_cli.specs.declared.orders.Wanted.{Wanted}
 use Rattle.xt_cli.specs.Calls.{Ends}
-use Rattle.xt_cli.specs.Top.{HasRun, IsJudged, IsRunOfImage, IsRunOfInput, Runs, wanted_text}
+use Rattle.xt_cli.specs.Top.{HasRun, IsJudged, IsRunOfImage, IsRunOfInput, Runs, image_limit, wanted_text}
 use Rattle.xt_cli.specs.Writes.{Writes}
+use Rattle.xt_cli.proofs.Working.{taken_within}
 
 -- what is so of the image that was read is so of the input
 pub of_input : (t : Wanted) (o : RunOptions) (input read : List ℕ) (image : Image) (w : Whole) (P : List ℕ → Type 0)
@@ -43,7 +44,7 @@ pub memory : (t : Wanted) (o : RunOptions) (e : Ends) (whole : Whole) (s : Statu
 memory t o e whole s w is none has =
     let P : Status → Type 0 = λ x. Runs t o e x None in
     let Q : Option Whole → Type 0 = λ x. Runs t o e s x in
-    subst Q (sym none) (subst P (sym is) (inr (whole, has)))
+    subst Q (sym none) (subst P (sym is) (taken_within image_limit e has.input has.taken has.within, inr (whole, has)))
 
 pub done : (t : Wanted) (o : RunOptions) (e : Ends) (w : Whole) (s : Status) → s ≡ status.Done
     → HasRun t o e w (Appends e.told e.told_after) → Runs t o e s (Some w)

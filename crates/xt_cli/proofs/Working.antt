@@ -1,6 +1,6 @@
 -- What a command makes of an input that was read to its end.
-use Rattle.std.proofs.Common.{◌≡◌, ◌≢◌, ℕ, inl, List, Option, Some, None, refl, subst}
-use Rattle.std.specs.Io.KnownBytes.{Keeps}
+use Rattle.std.proofs.Common.{◌≡◌, ◌≢◌, ◌≤◌, ℕ, inl, List, length, Option, Some, None, refl, subst}
+use Rattle.std.specs.Io.KnownBytes.{Consumes, Keeps}
 use Rattle.std.specs.Option.{option_map}
 use Rattle.xt_image.specs.Rules.{image_fault}
 use Rattle.xt_elf.specs.Rules.{elf_fault}
@@ -10,12 +10,16 @@ use Rattle.xt_cli.specs.declared.status.Status.{Status}
 use Rattle.xt_cli.specs.declared.status.Status.TheVariants as status
 use Rattle.xt_cli.specs.declared.tool.Job.{Job}
 use Rattle.xt_cli.specs.declared.tool.Job.TheVariants as job
-use Rattle.xt_cli.specs.Calls.{Ends, ReadsWhole}
+use Rattle.xt_cli.specs.Calls.{Ends, ReadsWhole, TakesWithin}
 use Rattle.xt_cli.specs.Tools.{Makes, limit_of, refusal_of}
 
 pub keeps_same : (known : Option (List ℕ)) → Keeps known known
 keeps_same None = tt
 keeps_same (Some bytes) = refl
+
+-- an input that was read to its end
+pub taken_within : (limit : ℕ) (e : Ends) (input : List ℕ) → Consumes e.left e.left_after input → length input ≤ limit → TakesWithin limit e
+taken_within limit e input taken within = (input, taken, within)
 
 -- ---- a refusal of an input is a fault of a text, of an ELF executable, of an image or of a recording
 
@@ -44,7 +48,7 @@ abbrev IsRefusal : Job → Status → List ℕ → Type 0
 IsRefusal j s input = s ≢ status.Memory → refusal_of j input ≡ Some s
 
 pub refuses : (j : Job) (e : Ends) (s : Status) → Keeps e.told e.told_after → ReadsWhole (limit_of j) e (IsRefusal j s) → Makes j e s
-refuses j e status.Memory k r = inl k
+refuses j e status.Memory k r = (taken_within (limit_of j) e r.input r.taken r.within, inl k)
 refuses j e (status.Image f) k r = (record { input = r.input; taken = r.taken; end = r.end; within = r.within; is = r.is (λ p. cc) }, k)
 refuses j e (status.Elf f) k r = (record { input = r.input; taken = r.taken; end = r.end; within = r.within; is = r.is (λ p. cc) }, k)
 refuses j e (status.Recording f) k r = (record { input = r.input; taken = r.taken; end = r.end; within = r.within; is = r.is (λ p. cc) }, k)

@@ -1,6 +1,7 @@
 -- A call of the program's functions: the source and the sink before it and after it ('profile').
 use Rattle.std.specs.Prelude.{◌≡◌, ◌≤◌, ℕ, List, length, Option}
 use Rattle.std.specs.Io.KnownBytes.{Consumes, IsAtEnd}
+use Rattle.xt_io.specs.Whole.{Takes}
 
 -- what the source and the sink tell, and their counts of faults
 pub record Ends : Type 0 where
@@ -38,6 +39,10 @@ pub record ReadsWhole (limit : ℕ) (e : Ends) (P : List ℕ → Type 0) : Type 
   pub end : IsAtEnd e.left_after
   pub within : length input ≤ limit
   pub is : P input
+
+-- no more bytes were taken than the limit
+abbrev pub TakesWithin : ℕ → Ends → Type 0
+TakesWithin limit e = Takes e.left e.left_after (λ n. n ≤ limit)
 
 -- neither the source nor the sink was touched
 pub record IsUntouched (e : Ends) : Type 0 where

@@ -8,3 +8,4 @@ pub mod Summaries
 pub mod Orders
 pub mod Tools
 pub mod Top
+pub mod Endings

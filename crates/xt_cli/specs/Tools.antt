@@ -28,7 +28,7 @@ use Rattle.xt_cli.specs.declared.tool.Job.{Job}
 use Rattle.xt_cli.specs.declared.tool.Job.TheVariants as job
 use Rattle.xt_cli.specs.declared.tool.Tool.{Tool}
 use Rattle.xt_cli.specs.declared.tool.Tool.TheVariants as tool
-use Rattle.xt_cli.specs.Calls.{Ends, IsUntouched, ReadsWhole}
+use Rattle.xt_cli.specs.Calls.{Ends, IsUntouched, ReadsWhole, TakesWithin}
 use Rattle.xt_cli.specs.Checks.{check_text}
 use Rattle.xt_cli.specs.declared.orders.Order.{Order}
 use Rattle.xt_cli.specs.declared.orders.Order.TheVariants as order
@@ -85,19 +85,23 @@ abbrev pub HasOutput : Job → Ends → (List ℕ → Type 0) → Type 0
 HasOutput j e P =
     (bytes : List ℕ) × ReadsWhole (limit_of j) e (λ input. IsMade j input bytes) × P bytes
 
--- each status of a command, with its cause and what was written; the last line is that of the
--- input's first fault
+-- Each status of a command, with its cause and what was written; the last line is that of the
+-- input's first fault. The byte after the limit was taken exactly where it is `TooLarge`.
 abbrev pub Makes : Job → Ends → Status → Type 0
 Makes j e status.Done = HasOutput j e (Appends e.told e.told_after)
 Makes j e status.WriteFault =
     HasOutput j e (AppendsPrefix e.told e.told_after) × Rose e.sink_faults e.sink_faults_after
-Makes j e status.ReadFault = Rose e.source_faults e.source_faults_after × Keeps e.told e.told_after
+Makes j e status.ReadFault =
+    Rose e.source_faults e.source_faults_after
+    × TakesWithin (limit_of j) e
+    × Keeps e.told e.told_after
 Makes j e (status.TooLarge limit) =
     (limit ≡ limit_of j)
     × Takes e.left e.left_after (λ n. n ≡ limit_of j + 1)
     × Keeps e.told e.told_after
 Makes j e status.Memory =
-    Keeps e.told e.told_after ⊎ HasOutput j e (AppendsPrefix e.told e.told_after)
+    TakesWithin (limit_of j) e
+    × (Keeps e.told e.told_after ⊎ HasOutput j e (AppendsPrefix e.told e.told_after))
 Makes j e s =
     ReadsWhole (limit_of j) e (λ input. refusal_of j input ≡ Some s) × Keeps e.told e.told_after
 

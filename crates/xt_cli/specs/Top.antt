@@ -25,7 +25,7 @@ use Rattle.xt_cli.specs.declared.orders.Wanted.{Wanted}
 use Rattle.xt_cli.specs.declared.orders.Wanted.TheVariants as wanted
 use Rattle.xt_cli.specs.declared.verdicts.Whole.{Whole}
 use Rattle.xt_cli.specs.declared.top.Outcome.{Outcome}
-use Rattle.xt_cli.specs.Calls.{Ends, ReadsWhole}
+use Rattle.xt_cli.specs.Calls.{Ends, ReadsWhole, TakesWithin}
 use Rattle.xt_cli.specs.Tools as tools
 use Rattle.xt_cli.specs.Reports.{output_text}
 use Rattle.xt_cli.specs.Summaries.{gen_options, gen_text}
@@ -96,7 +96,8 @@ WritesPrefix t o e =
     Keeps e.told e.told_after
     ⊎ ((w : Whole) × HasRun t o e w (AppendsPrefix e.told e.told_after))
 
--- each status of a run with these options, with its cause and what was written
+-- Each status of a run with these options, with its cause and what was written. The byte after the
+-- limit was taken exactly where it is `TooLarge`.
 abbrev pub Runs : Wanted → RunOptions → Ends → Status → Option Whole → Type 0
 Runs t o e status.Done (Some w) = HasRun t o e w (Appends e.told e.told_after)
 Runs t o e status.WriteFault (Some w) =
@@ -108,8 +109,10 @@ Runs t o e (status.TooLarge limit) None =
     × Takes e.left e.left_after (λ n. n ≡ image_limit + 1)
     × Keeps e.told e.told_after
 Runs t o e status.ReadFault None =
-    Rose e.source_faults e.source_faults_after × Keeps e.told e.told_after
-Runs t o e status.Memory None = WritesPrefix t o e
+    Rose e.source_faults e.source_faults_after
+    × TakesWithin image_limit e
+    × Keeps e.told e.told_after
+Runs t o e status.Memory None = TakesWithin image_limit e × WritesPrefix t o e
 Runs t o e _ _ = ⊥
 
 -- ---- the statuses of `gen`

@@ -2,6 +2,7 @@
 #![tactic(auto)]
 
 mod checks;
+mod ending;
 mod gen_report;
 mod generating;
 mod laws;
@@ -17,6 +18,7 @@ mod verdict_lines;
 mod verdicts;
 
 pub use checks::check_text;
+pub use ending::{End, program_words, xt_program};
 pub use gen_report::summary;
 pub use laws::history_sends_as_memory;
 pub use recordings::RECORDING_LIMIT;

@@ -1,5 +1,5 @@
 //! Runs the cases of the files that its words name, and prints the name of each case that does not
-//! agree, and how many of a file's cases agree.
+//! agree, and how many of a file's cases agree. Then it ends as `xt check` does over its standard input.
 //!
 //! A case is a program with what comes out of it; the head of each file says which parts it has.
 //! What comes out was found without this program, by other means.
@@ -8,6 +8,7 @@
 mod cases;
 #[cfg(test)]
 mod damage_tests;
+mod ends;
 #[cfg(test)]
 mod gate_tests;
 #[cfg(test)]
@@ -24,12 +25,15 @@ mod top_tests;
 mod verdicts;
 
 use crate::cases::{lines_of, words_of};
+use crate::programs::words_with;
 use std::alloc::Global;
 use std::process::ExitCode;
 use std::rt::{Env, Files};
 use std::sync::Wait;
 use std::thread::Threads;
-use std::{env, fs};
+use std::{env, fs, io};
+use xt_cli::{Status, xt_program};
+use xt_io::{OpenGate, StdSink, StdSource};
 
 // The text of a case's program: its part `program`, or the file that it names.
 fn program_of<R: Files + AllocGlobal>(rt: &R, case: &str, handlers: &str) -> Option<String> {
@@ -52,6 +56,9 @@ fn agrees<R: Files + Threads + Wait + Sync + AllocGlobal>(
     }
     if !words_of(case, "answer").is_empty() {
         return recordings::agrees(rt.alloc(), case);
+    }
+    if !words_of(case, "code").is_empty() {
+        return ends::agrees(rt, case);
     }
     let program = program_of(rt, case, handlers)?;
     if !words_of(case, "handlers").is_empty() {
@@ -91,15 +98,19 @@ fn show<R: Files + Print + Threads + Wait + Sync + AllocGlobal>(
 
 fn main(rt: HostRuntime) -> ExitCode {
     let Ok(words) = env::args(&rt) else {
-        return ExitCode::from(1);
+        return ExitCode::from(9);
     };
     let Ok(handlers) = fs::read_to_string(&rt, "handlers.s") else {
-        return ExitCode::from(1);
+        return ExitCode::from(9);
     };
     for name in words.skip(1) {
         if show(&rt, name.as_str(), handlers.as_str()).is_none() {
-            return ExitCode::from(2);
+            return ExitCode::from(9);
         }
     }
-    ExitCode::from(0)
+    let words = words_with(rt.alloc(), "check", "").ok_or(Status::Memory);
+    let mut source = StdSource::new(rt.reader());
+    let mut sink = StdSink::new(io::writer(&rt));
+    let end = xt_program(&rt, rt.alloc(), &words, &mut source, &mut sink, &OpenGate);
+    ExitCode::from(end.code)
 }

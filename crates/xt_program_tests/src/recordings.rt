@@ -5,8 +5,8 @@ use std::alloc::Global;
 use xt_cli::{Status, Tool, status_line, tool_main};
 use xt_io::{SafeSink, SafeSource};
 
-// The bytes that a case has.
-fn bytes_of(alloc: Global, case: &str) -> Option<Vec<u8>> {
+/// The bytes that a case has.
+pub fn bytes_of(alloc: Global, case: &str) -> Option<Vec<u8>> {
     let lines = lines_of(alloc, case, "bytes", "").ok()?;
     let mut digits = String::new(alloc);
     for line in lines.as_str().lines() {

@@ -1,13 +1,12 @@
 ghost use Rattle.std.specs.Prelude.{None};
-ghost use Rattle.std.specs.Io.{ReadsAtMost};
-ghost use Rattle.std.specs.Io.KnownBytes.{ReadConsumes};
-ghost use Rattle.xt_io.specs.Causes.{HasCause};
 
 use std::alloc::{AllocError, Global};
+use std::env::FillError;
+use std::rt::Env;
 use std::sync::Wait;
 use std::test::Fail;
 use std::thread::Threads;
-use xt_cli::{Outcome, Status, Tool, tool_main, xt_main};
+use xt_cli::{Outcome, Status, Tool, program_words, tool_main, xt_main, xt_program};
 use xt_elf::ElfFault;
 use xt_image::ImageFault;
 use xt_io::{Failed, MemSink, MemSource, OpenGate, SafeSink, SafeSource, Sink, Source};
@@ -276,7 +275,57 @@ fn words_that_need_no_input(rt: HostRuntime) -> Result<(), Fail> {
     Ok(())
 }
 
-/// A source of so many zeros, which tells nothing of them.
+/// The environment of a program that was called with these words.
+#[derive(Clone, Copy)]
+struct Called {
+    words: [&'static [u8]; 3],
+}
+
+impl Env for Called {
+    fn arg(&self, i: usize, buf: &mut [u8]) -> Result<usize, FillError> {
+        let Some(word) = self.words.get(i).copied() else {
+            return Err(FillError::NotPresent);
+        };
+        if buf.len() < word.len() {
+            return Err(FillError::TooLong);
+        }
+        buf[..word.len()].copy_from_slice(word);
+        Ok(word.len())
+    }
+
+    fn var(&self, _name: &str, _buf: &mut [u8]) -> Result<usize, FillError> {
+        Err(FillError::NotPresent)
+    }
+
+    fn var_at(&self, _i: usize, _buf: &mut [u8]) -> Result<usize, FillError> {
+        Err(FillError::NotPresent)
+    }
+}
+
+#[test]
+fn words_that_are_no_text(rt: HostRuntime) -> Result<(), Fail> {
+    // The word after `check`, and the code of the end.
+    let rows = [
+        (b"--".as_slice(), 0),
+        (b"\xFF".as_slice(), 1),
+        (b"\xC3\x28".as_slice(), 1),
+    ];
+    let image = hex::decode(rt.alloc(), LETTER)?;
+    for (word, code) in rows {
+        let called = Called {
+            words: [b"xt".as_slice(), b"check".as_slice(), word],
+        };
+        let words = program_words(&(called, rt.alloc()));
+        let mut source = SafeSource::make(rt.alloc(), &image)?;
+        let mut sink = SafeSink::make(rt.alloc())?;
+        let end = xt_program(&rt, rt.alloc(), &words, &mut source, &mut sink, &OpenGate);
+        assert_eq!(rt; end.code, code);
+        assert_eq!(rt; sink.bytes().is_empty(), code == 1);
+    }
+    Ok(())
+}
+
+/// A source of so many bytes, which leaves the buffer as it is and tells nothing: of zeros, over a buffer of zeros.
 #[derive(Drop)]
 struct Zeros {
     left: usize,
@@ -287,13 +336,8 @@ impl Source for Zeros {
 
     ghost faults = { λ _. 0 };
 
-    fn read(&mut self, buf: &mut [u8]) -> Result<usize, Failed>
-        ensures bound { ReadsAtMost result buf.new }
-        ensures bytes { ReadConsumes None None result buf.new }
-        ensures cause { HasCause 0 0 result }
-    {
+    fn read(&mut self, buf: &mut [u8]) -> Result<usize, Failed> {
         let count = self.left.min(buf.len());
-        buf[..count].fill(0);
         self.left -= count;
         Ok(count)
     }

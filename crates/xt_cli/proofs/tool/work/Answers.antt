@@ -41,14 +41,21 @@ returns-in-Err-Failed-clause-answers g c = (
 )
 
 pub returns-clause-answers : goal.returns-clause-answers
-returns-clause-answers g c = inr (
-  c.in-Ok-make.text,
-  record {
-    input = c.in-Ok.input.items;
-    taken = c.in-Ok.ensures.whole;
-    end = c.in-Ok.ensures.end;
-    within = let Q : ℕ → Type 0 = λ n. length c.in-Ok.input.items ≤ n in subst Q c.limit_of-limit.ensures c.in-Ok.ensures.within;
-    is = let P : List ℕ → Type 0 = λ input. IsMade c.args.job.now input c.in-Ok-make.text in subst P c.deref.ensures.value c.in-Ok-make.ensures.ok;
-  },
-  search rules,
+returns-clause-answers g c = (
+  (
+    c.in-Ok.input.items,
+    c.in-Ok.ensures.whole,
+    let Q : ℕ → Type 0 = λ n. length c.in-Ok.input.items ≤ n in subst Q c.limit_of-limit.ensures c.in-Ok.ensures.within,
+  ),
+  inr (
+    c.in-Ok-make.text,
+    record {
+      input = c.in-Ok.input.items;
+      taken = c.in-Ok.ensures.whole;
+      end = c.in-Ok.ensures.end;
+      within = let Q : ℕ → Type 0 = λ n. length c.in-Ok.input.items ≤ n in subst Q c.limit_of-limit.ensures c.in-Ok.ensures.within;
+      is = let P : List ℕ → Type 0 = λ input. IsMade c.args.job.now input c.in-Ok-make.text in subst P c.deref.ensures.value c.in-Ok-make.ensures.ok;
+    },
+    search rules,
+  ),
 )
