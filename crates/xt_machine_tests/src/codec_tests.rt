@@ -1,5 +1,6 @@
 //! Every 16-bit word against a search over the rows, and operands outside their ranges. The words of each mnemonic are in `xt_text_tests`.
 use xt_codec::{Code, Decoded, decode, encode, fits, round_trip};
+use xt_isa::boolean::{Boolean, EightName, FourName, TestName};
 use xt_isa::control::Control;
 use xt_isa::density::Density;
 use xt_isa::memory::Memory;
@@ -62,6 +63,9 @@ fn out_of_range(rt: HostRuntime) {
         Insn::System(System::Rsr(SpecialName::Xsr, 1, 226)),
         Insn::Density(Density::Addi(1, 2, 0)),
         Insn::Density(Density::Movi(1, 96)),
+        Insn::Boolean(Boolean::Any4(FourName::All4, 1, 2)),
+        Insn::Boolean(Boolean::Any8(EightName::Any8, 1, 12)),
+        Insn::Boolean(Boolean::Bf(TestName::Bt, 1, 128)),
     ] {
         assert!(rt; !fits(&insn), "at {insn:?}");
     }
@@ -91,7 +95,7 @@ fn row_of(word: u32) -> Option<Row> {
 
 #[test]
 fn rows_of_words(rt: HostRuntime) {
-    assert_eq!(rt; rows().len(), 141);
+    assert_eq!(rt; rows().len(), 154);
     // add a3, a4, a5; l32r; ret.n; s8i a2, a3, 4; and a word of no row
     for (word, mask, value, len) in [
         (0x803450, 0xFF000F, 0x800000, 3),
@@ -106,11 +110,12 @@ fn rows_of_words(rt: HostRuntime) {
 
 #[test]
 fn special_registers(rt: HostRuntime) {
-    // LBEG, SAR, number 4, INTERRUPT or INTSET, INTCLEAR, PS, PRID
+    // LBEG, SAR, BR, number 5, INTERRUPT or INTSET, INTCLEAR, PS, PRID
     for (number, read, write, exchange) in [
         (0, true, true, true),
         (3, true, true, true),
-        (4, false, false, false),
+        (4, true, true, true),
+        (5, false, false, false),
         (226, true, true, false),
         (227, false, true, false),
         (230, true, true, true),

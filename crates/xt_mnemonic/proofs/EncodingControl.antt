@@ -27,7 +27,7 @@ call w n p m = offset18 w n m (ap (λ k. k / 4) (signed_back 524288 (4 * imm18 w
 beqz : {v : ℕ} (w : Fields) → AreNibbles w → IsPadded w → Matches 0x0000FF v w → of_s12 v w.s (unsigned 2048 (signed 2048 (imm12 w))) ≡ w
 beqz w n p m = s12_is w n m (signed_back 2048 (imm12 w) (omega arith))
 
-near : (w : Fields) → AreNibbles w → unsigned 128 (signed 128 (imm8 w)) ≡ imm8 w
+pub near : (w : Fields) → AreNibbles w → unsigned 128 (signed 128 (imm8 w)) ≡ imm8 w
 near w n = signed_back 128 (imm8 w) (omega arith)
 
 beqi : {v : ℕ} (w : Fields) → AreNibbles w → IsPadded w → Matches 0x0000FF v w → of_sr8 v w.s (constant (b4const w.r)) (unsigned 128 (signed 128 (imm8 w))) ≡ w

@@ -16,6 +16,8 @@ use Rattle.xt_isa.specs.declared.system.System.{System}
 use Rattle.xt_isa.specs.declared.system.System.TheVariants as system
 use Rattle.xt_isa.specs.declared.density.Density.{Density}
 use Rattle.xt_isa.specs.declared.density.Density.TheVariants as density
+use Rattle.xt_isa.specs.declared.boolean.Boolean.{Boolean}
+use Rattle.xt_isa.specs.declared.boolean.Boolean.TheVariants as boolean
 use Rattle.xt_isa.specs.declared.three.AndName.TheVariants as AndName
 use Rattle.xt_isa.specs.declared.three.AddName.TheVariants as AddName
 use Rattle.xt_isa.specs.declared.three.SubName.TheVariants as SubName
@@ -54,6 +56,11 @@ use Rattle.xt_isa.specs.declared.system.UserName.TheVariants as UserName
 use Rattle.xt_isa.specs.declared.density.NarrowName.TheVariants as NarrowName
 use Rattle.xt_isa.specs.declared.density.NarrowZeroName.TheVariants as NarrowZeroName
 use Rattle.xt_isa.specs.declared.density.NarrowRetName.TheVariants as NarrowRetName
+use Rattle.xt_isa.specs.declared.boolean.LogicName.TheVariants as LogicName
+use Rattle.xt_isa.specs.declared.boolean.FourName.TheVariants as FourName
+use Rattle.xt_isa.specs.declared.boolean.EightName.TheVariants as EightName
+use Rattle.xt_isa.specs.declared.boolean.TestName.TheVariants as TestName
+use Rattle.xt_isa.specs.declared.boolean.ChoiceName.TheVariants as ChoiceName
 use Rattle.xt_isa.specs.Spelling.{nibble}
 
 -- ---- Numbers out of integers.
@@ -310,6 +317,21 @@ density_fields (density.Ret NarrowRetName.Nop) = narrow_none 0x00F03D
 density_fields (density.Ret NarrowRetName.Ill) = narrow_none 0x00F06D
 density_fields (density.Break n) = narrow_s 0x00F02D (natural n)
 
+abbrev boolean_fields : Boolean → Fields
+boolean_fields (boolean.Andb LogicName.Andb r s t) = rrr 0x020000 r s t
+boolean_fields (boolean.Andb LogicName.Andbc r s t) = rrr 0x120000 r s t
+boolean_fields (boolean.Andb LogicName.Orb r s t) = rrr 0x220000 r s t
+boolean_fields (boolean.Andb LogicName.Orbc r s t) = rrr 0x320000 r s t
+boolean_fields (boolean.Andb LogicName.Xorb r s t) = rrr 0x420000 r s t
+boolean_fields (boolean.Any4 FourName.Any4 t s) = of_ts 0x008000 t s
+boolean_fields (boolean.Any4 FourName.All4 t s) = of_ts 0x009000 t s
+boolean_fields (boolean.Any8 EightName.Any8 t s) = of_ts 0x00A000 t s
+boolean_fields (boolean.Any8 EightName.All8 t s) = of_ts 0x00B000 t s
+boolean_fields (boolean.Bf TestName.Bf s n) = of_s8 0x000076 s (unsigned 128 n)
+boolean_fields (boolean.Bf TestName.Bt s n) = of_s8 0x001076 s (unsigned 128 n)
+boolean_fields (boolean.Movf ChoiceName.Movf r s t) = rrr 0xC30000 r s t
+boolean_fields (boolean.Movf ChoiceName.Movt r s t) = rrr 0xD30000 r s t
+
 abbrev pub fields_from : Insn → Fields
 fields_from (insn.Three i) = three_fields i
 fields_from (insn.Shift i) = shift_fields i
@@ -317,3 +339,4 @@ fields_from (insn.Memory i) = memory_fields i
 fields_from (insn.Control i) = control_fields i
 fields_from (insn.System i) = system_fields i
 fields_from (insn.Density i) = density_fields i
+fields_from (insn.Boolean i) = boolean_fields i

@@ -1,4 +1,5 @@
 pub mod Encoding
+pub mod EncodingBoolean
 pub mod EncodingBytes
 pub mod EncodingControl
 pub mod EncodingDensity

@@ -8,6 +8,9 @@ use Rattle.xt_isa.specs.declared.Insn.TheVariants as insn
 use Rattle.xt_isa.specs.declared.shift.Shift.TheVariants as shift
 use Rattle.xt_isa.specs.declared.system.SpecialName.TheVariants as special
 use Rattle.xt_isa.specs.declared.system.System.TheVariants as system
+use Rattle.xt_isa.specs.declared.boolean.Boolean.TheVariants as boolean
+use Rattle.xt_isa.specs.declared.boolean.FourName.TheVariants as FourName
+use Rattle.xt_isa.specs.declared.boolean.EightName.TheVariants as EightName
 use Rattle.xt_isa.specs.declared.Fields.{Fields}
 use Rattle.xt_isa.specs.Apart.{AllRows, HasItsLength}
 use Rattle.xt_isa.specs.Spelling.{Row, all_rows, can_exchange, can_read, can_write, eight, fits, five, length_of, nibble, spell, spelled}
@@ -178,6 +181,20 @@ rows_are_sized =
     (λ w. refl) ▸  -- NOP.N
     (λ w. refl) ▸  -- ILL.N
     (λ w. refl) ▸  -- BREAK.N
+    -- Boolean registers
+    (λ w. refl) ▸  -- ANDB
+    (λ w. refl) ▸  -- ANDBC
+    (λ w. refl) ▸  -- ORB
+    (λ w. refl) ▸  -- ORBC
+    (λ w. refl) ▸  -- XORB
+    (λ w. guarded (eqb (w.s % 4) 0) (insn.Boolean (boolean.Any4 FourName.Any4 w.t w.s)) 3 refl) ▸  -- ANY4
+    (λ w. guarded (eqb (w.s % 4) 0) (insn.Boolean (boolean.Any4 FourName.All4 w.t w.s)) 3 refl) ▸  -- ALL4
+    (λ w. guarded (eqb (w.s % 8) 0) (insn.Boolean (boolean.Any8 EightName.Any8 w.t w.s)) 3 refl) ▸  -- ANY8
+    (λ w. guarded (eqb (w.s % 8) 0) (insn.Boolean (boolean.Any8 EightName.All8 w.t w.s)) 3 refl) ▸  -- ALL8
+    (λ w. refl) ▸  -- BF
+    (λ w. refl) ▸  -- BT
+    (λ w. refl) ▸  -- MOVF
+    (λ w. refl) ▸  -- MOVT
     tt
 
 abbrev have_opcode : List Row → Bool
