@@ -6,6 +6,8 @@
 #[cfg(test)]
 mod alu_tests;
 #[cfg(test)]
+mod bool_tests;
+#[cfg(test)]
 mod bus_tests;
 #[cfg(test)]
 mod codec_tests;

@@ -2,9 +2,10 @@
 use xt_special::{Special, number};
 
 // a number, what is written, and what is read afterwards
-const KEPT: [(u8, u32, Option<u32>); 14] = [
+const KEPT: [(u8, u32, Option<u32>); 15] = [
     (number::LBEG, 0x1234_5678, Some(0x1234_5678)),
     (number::SAR, 0xFF, Some(0x3F)),
+    (number::BR, 0xFFFF_FFFF, Some(0xFFFF)),
     (number::WINDOWBASE, 1, None),
     (number::EPC1, 0xFFFF_FFFF, Some(0xFFFF_FFFF)),
     (number::EPS2, 0xFFFF_FFFF, Some(0x0007_0FFF)),
