@@ -1,6 +1,6 @@
 -- The words that begin a statement, and the names of the registers ('profile').
-use Rattle.std.specs.Prelude.{ℕ, Bool, false, ◌==◌, ◌&&◌, not, List, [], ◌∷◌, Option, Some, None, find}
-use Rattle.std.specs.Prelude.{codes}
+use Rattle.std.specs.Prelude.{ℕ, Bool, false, ◌==◌, ◌&&◌, not, List, [], ◌∷◌, Option, Some, None}
+use Rattle.std.specs.Prelude.{find, codes}
 use Rattle.std.specs.Option.{option_map, option_or, is_none}
 use Rattle.std.specs.Str.{bytes_eq}
 use Rattle.xt_names.specs.Names.{mnemonic_of}
