@@ -1,4 +1,5 @@
 mod Numbered
+mod Refusing
 mod Running
 mod Sending
 mod Working
