@@ -69,9 +69,9 @@ pub fn xt_program<S: Source, K: Sink, G: Gate, R: Threads + Wait + Sync>(
 ) -> End
     ensures { MatchResult words.now
         (λ given. IsEndOfCall (map string_bytes given.items)
-            (ends S.left S.faults source.old source.new K.told K.faults sink.old sink.new) result)
+        (ends S.left S.faults source.old source.new K.told K.faults sink.old sink.new) result)
         (λ status. IsEndOf status result
-            × IsUntouched (ends S.left S.faults source.old source.new K.told K.faults sink.old sink.new)) }
+        × IsUntouched (ends S.left S.faults source.old source.new K.told K.faults sink.old sink.new)) }
 {
     match words {
         Ok(given) => {
