@@ -3,19 +3,24 @@
 
 use std::io;
 use std::process::ExitCode;
-use xt_cli::{program_words, xt_program};
+use xt_cli::{End, program_words, xt_program};
 use xt_io::{OpenGate, StdSink, StdSource};
 
-// Where standard error does not take the line, the exit code alone tells the status.
+// Prints the line of an end to standard error. Where standard error takes nothing, the exit code alone
+// tells the status.
+fn tell(rt: &(impl Eprint + AllocGlobal), end: &End) {
+    if let Some(line) = &end.line {
+        if let Ok(text) = std::str::from_utf8(line.as_slice()) {
+            let _ = eprint!(rt; "{text}");
+        }
+    }
+}
+
 fn main(rt: HostRuntime) -> ExitCode {
     let mut source = StdSource::new(rt.reader());
     let mut sink = StdSink::new(io::writer(&rt));
     let words = program_words(&rt);
     let end = xt_program(&rt, rt.alloc(), &words, &mut source, &mut sink, &OpenGate);
-    if let Some(line) = end.line
-        && let Ok(text) = std::str::from_utf8(line.as_slice())
-    {
-        let _ = eprint!(rt; "{text}");
-    }
+    tell(&rt, &end);
     ExitCode::from(end.code)
 }
