@@ -64,6 +64,7 @@ kind_text kind.VecbaseMoved = codes "VecbaseMoved"
 kind_text kind.EpcLost = codes "EpcLost"
 kind_text kind.Movsp = codes "Movsp"
 kind_text kind.VectorEntered = codes "VectorEntered"
+kind_text kind.Nested = codes "Nested"
 
 -- `breach KIND core C step N`
 abbrev pub breach_text : Breach → List ℕ

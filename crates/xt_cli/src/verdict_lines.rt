@@ -63,6 +63,7 @@ fn kind_text(kind: BreachKind) -> &'static str
         BreachKind::EpcLost => "EpcLost",
         BreachKind::Movsp => "Movsp",
         BreachKind::VectorEntered => "VectorEntered",
+        BreachKind::Nested => "Nested",
     }
 }
 

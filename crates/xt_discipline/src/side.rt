@@ -6,20 +6,21 @@ ghost use Rattle.xt_map.specs.Memory.{constant_byte};
 ghost use Rattle.xt_frames.specs.Frames.{Frame, FrameState, known};
 ghost use Rattle.xt_frames.specs.FrameStep.{laid};
 ghost use Rattle.xt_fetch.specs.Fetching.{fetched};
-ghost use Rattle.xt_frames.specs.HandlerSteps.{closes, ends_stretch, fetched_ends, is_window};
-ghost use Rattle.xt_frames.specs.Judging.{seen, seen_step};
+ghost use Rattle.xt_frames.specs.HandlerSteps.{closes, ends_stretch, fetched_ends, is_window, mode_after, returns};
+ghost use Rattle.xt_frames.specs.Judging.{seen, seen_judged};
+ghost use Rattle.xt_frames.specs.Nesting.{current};
 ghost use Rattle.xt_frames.specs.Stacks.{Moves, Stack};
-ghost use Rattle.xt_frames.specs.Breaches.{breach_of, inputs_of, stores_at, window_breach};
-ghost use Rattle.xt_frames.specs.Walked.{IsTested, fresh_before, sp_at};
+ghost use Rattle.xt_frames.specs.Breaches.{inputs_of, stores_at, window_breach};
+ghost use Rattle.xt_frames.specs.Walked.{IsTested, sp_at};
 ghost use Rattle.xt_discipline.specs.Bytes.{AreChanged, KnowsOf, either, opened_at};
 ghost use Rattle.xt_discipline.specs.declared.bytes.Change.TheVariants.{Stored};
-ghost use Rattle.xt_discipline.specs.Sides.{Begins, IsCallOf, IsFollowed, IsSeen, IsSide, in_areas, live_in, standing_of};
+ghost use Rattle.xt_discipline.specs.Sides.{Begins, IsCallOf, IsFollowed, IsSeen, IsSide, in_areas, live_in, mode_of, standing_of};
 
 use crate::accesses::{loads, saves};
 use crate::bytes::{Change, Held, change_bytes};
 use xt_codec::{Fetch, instruction_at};
 use xt_fetch::code_three;
-use xt_frames::{Breach, Frames};
+use xt_frames::{Breach, Frames, ends_nested, is_nesting};
 use xt_isa::Insn;
 use xt_isa::system::{ReturnName, System};
 use xt_map::{Access, Constants, Kind};
@@ -36,14 +37,24 @@ pub struct Areas {
     pub size: u32,
 }
 
+/// What the next record is.
+#[derive(Clone, Copy)]
+pub enum Mode {
+    /// Judged, or the first of handler steps.
+    Plain,
+    /// A handler step, or the first of a nested interrupt.
+    Handles,
+    /// Nested, and judged.
+    Nests,
+}
+
 /// One core of the walk.
 #[derive(Drop)]
 pub struct Side {
     pub core: u8,
     pub hi: u32,
     pub frames: Frames,
-    // Whether the records are handler steps.
-    pub handles: bool,
+    pub mode: Mode,
     // The number of the next record.
     pub steps: u32,
 }
@@ -126,6 +137,19 @@ fn closes(code: &Constants, rec: &StepRecord) -> bool
     }
 }
 
+/// Whether a record is of an RFI 5, by the bytes at its PC.
+fn returns(code: &Constants, rec: &StepRecord) -> bool
+    ensures { result ≡ returns (constant_byte code.now) rec.now.kind rec.now.pc }
+{
+    match rec.kind {
+        StepKind::Insn => match instruction_at::<Side>(code, rec.pc) {
+            Fetch::Insn(insn, _) => ends_nested(insn),
+            _ => false,
+        },
+        _ => false,
+    }
+}
+
 /// Whether a record is that of a window exception.
 fn is_window(kind: StepKind) -> bool
     ensures { result ≡ is_window kind }
@@ -193,29 +217,32 @@ impl Side {
         }
     }
 
-    /// Judges a record outside handler steps: a breach, after which nothing has changed, or the frame step, whose save areas the marks
-    /// follow.
+    /// Judges a record that is no handler step: a breach, after which nothing has changed, or the frame step, whose save areas the marks
+    /// follow, and then the mode is the next one.
     fn judge(
         &mut self,
         code: &Constants,
         marks: &mut [Held],
         rec: &StepRecord,
+        nested: bool,
+        next: Mode,
     ) -> Result<(), Breach>
         requires side { IsSide self.old }
         requires room { self.old.steps + 1 < 2 ^ 32 }
-        requires plain { self.old.handles ≡ false }
+        requires next { mode_of next ≡ mode_after (constant_byte code.now) (mode_of self.old.mode) rec.now }
         requires len { length marks.old ≡ 0x52000 }
         ensures len { length marks.new ≡ length marks.old }
         ensures seen { (others stale : ℕ → Bool) → KnowsOf self.old.core marks.old (live_in self.old.frames) others stale
             → IsSeen self.old self.new marks.new others stale
-            (seen_step (breach_of self.old.frames.bounds (fresh_before self.old.frames self.old.steps) (constant_byte code.now) (either (live_in self.old.frames) others) stale rec.now self.old.frames.state)
-            (constant_byte code.now) self.old.frames.bounds (standing_of self.old) others stale rec.now) result }
+            (seen_judged (constant_byte code.now) self.old.frames.bounds (standing_of self.old) others stale nested rec.now) result }
     {
         let saves = saves(marks, rec.access);
         let stale = loads(marks, rec.access);
         let depth = self.frames.depth();
         let call = self.newest();
-        self.frames.judge(code, self.steps, rec, saves, stale)?;
+        self.frames
+            .judge(code, self.steps, rec, nested, saves, stale)?;
+        self.mode = next;
         self.steps += 1;
         store(marks, rec.access);
         self.follow(marks, depth, call);
@@ -226,10 +253,10 @@ impl Side {
     /// handler steps.
     fn begin(&mut self, code: &Constants, rec: &StepRecord) -> Result<(), Breach>
         requires { self.old.steps + 1 < 2 ^ 32 }
-        ensures { Begins (window_breach (constant_byte code.now) rec.now.kind (laid (inputs_of rec.now) self.old.frames.state)) self.old result self.new }
+        ensures { Begins (window_breach (constant_byte code.now) rec.now.kind (laid (inputs_of rec.now) (current self.old.frames.state))) self.old result self.new }
     {
         self.frames.test(code, self.steps, rec)?;
-        self.handles = true;
+        self.mode = Mode::Handles;
         self.steps += 1;
         Ok(())
     }
@@ -249,14 +276,31 @@ impl Side {
             → IsSeen self.old self.new marks.new others stale
             (seen (constant_byte code.now) self.old.frames.bounds (standing_of self.old) others stale rec.now) result }
     {
-        if self.handles {
-            self.handles = !closes(code, rec);
-            self.steps += 1;
-            return Ok(());
+        match self.mode {
+            Mode::Plain => {
+                if is_window(rec.kind) {
+                    return self.begin(code, rec);
+                }
+                self.judge(code, marks, rec, false, Mode::Plain)
+            }
+            Mode::Handles => {
+                if is_nesting(rec.kind) {
+                    return self.judge(code, marks, rec, true, Mode::Nests);
+                }
+                if closes(code, rec) {
+                    self.mode = Mode::Plain;
+                }
+                self.steps += 1;
+                Ok(())
+            }
+            Mode::Nests => {
+                let next = if returns(code, rec) {
+                    Mode::Handles
+                } else {
+                    Mode::Nests
+                };
+                self.judge(code, marks, rec, true, next)
+            }
         }
-        if is_window(rec.kind) {
-            return self.begin(code, rec);
-        }
-        self.judge(code, marks, rec)
     }
 }

@@ -14,11 +14,12 @@ ghost use Rattle.xt_discipline.specs.Bytes.{AreOpened, IsEnd, KnowsOf, held_at, 
 ghost use Rattle.xt_discipline.specs.Schedules.{HasSchedule, schedule_in};
 ghost use Rattle.xt_discipline.specs.Sides.{IsSide, live_in};
 ghost use Rattle.xt_discipline.specs.Ended.{HasEnded};
+ghost use Rattle.xt_discipline.specs.declared.side.Mode.TheVariants as mode;
 ghost use Rattle.xt_discipline.specs.Walks.{IsOpened, IsTurned, Knows, Turns, found_on};
 
 use crate::bytes::{Change, Held, change_bytes, nothing};
 use crate::order::Order;
-use crate::side::Side;
+use crate::side::{Mode, Side};
 use std::alloc::{AllocError, Global};
 use xt_frames::{Frames, Judged};
 use xt_map::Constants;
@@ -40,13 +41,13 @@ fn side_of(alloc: Global, core: u8, pc: u32, options: &Options, hi: u32) -> Resu
     requires core { core < 2 }
     requires valid { IsValid options.now }
     requires end { hi ≡ (stack_of core options.now).hi }
-    ensures { IfOk result (λ s. s ≡ record { core = core; hi = hi; frames = opened core pc options.now; handles = false; steps = 0 }) }
+    ensures { IfOk result (λ s. s ≡ record { core = core; hi = hi; frames = opened core pc options.now; mode = mode.Plain; steps = 0 }) }
 {
     Ok(Side {
         core,
         hi,
         frames: Frames::make(alloc, core, pc, options)?,
-        handles: false,
+        mode: Mode::Plain,
         steps: 0,
     })
 }

@@ -29,6 +29,9 @@ const LEVEL_1_BITS: u32 = 0x0000_00C0;
 /// The bits of INTERRUPT of level 3: timer 1 and a software interrupt.
 const LEVEL_3_BITS: u32 = 0x2000_8000;
 
+/// The bit of INTERRUPT of level 5: timer 2.
+const LEVEL_5_BITS: u32 = 0x0001_0000;
+
 /// The current level. In exception mode it is at least 3.
 #[inline(always)]
 fn current_level(s: &Special) -> u8
@@ -46,10 +49,12 @@ fn current_level(s: &Special) -> u8
 #[inline(always)]
 pub fn pending(s: &Special) -> Option<u8>
     ensures value { result ≡ level_taken s.now }
-    ensures range { IfSome result (λ level. (1 ≤ level) × (level ≤ 3)) }
+    ensures range { IfSome result (λ level. (1 ≤ level) × (level ≤ 5)) }
 {
     let bits = s.register(number::INTERRUPT) & s.register(number::INTENABLE);
-    if bits & LEVEL_3_BITS != 0 && current_level(s) < 3 {
+    if bits & LEVEL_5_BITS != 0 && current_level(s) < 5 {
+        Some(5)
+    } else if bits & LEVEL_3_BITS != 0 && current_level(s) < 3 {
         Some(3)
     } else if bits & LEVEL_1_BITS != 0 && current_level(s) < 1 {
         Some(1)

@@ -123,16 +123,17 @@ exception_shaped cause address c small a f = by_test c.ps.excm
 
 -- ---- interrupts
 
-three_or_one : (b d : Bool) → cond b 3 (cond d 1 0) ≤ 3
-three_or_one true d = omega arith
-three_or_one false true = omega arith
-three_or_one false false = omega arith
+five_at_most : (a b d : Bool) → cond a 5 (cond b 3 (cond d 1 0)) ≤ 5
+five_at_most true b d = omega arith
+five_at_most false true d = omega arith
+five_at_most false false true = omega arith
+five_at_most false false false = omega arith
 
-pub level_small : (interrupt enabled : ℕ) (ps : Ps) → pending_level interrupt enabled ps ≤ 3
+pub level_small : (interrupt enabled : ℕ) (ps : Ps) → pending_level interrupt enabled ps ≤ 5
 unfolding pending_level
-level_small interrupt enabled ps = three_or_one _ _
+level_small interrupt enabled ps = five_at_most _ _ _
 
-high_shaped : (level : ℕ) (c : Control) → level ≤ 3 → IsShapedControl c → IsShapedControl (after_high_level level c)
+high_shaped : (level : ℕ) (c : Control) → level ≤ 5 → IsShapedControl c → IsShapedControl (after_high_level level c)
 high_shaped level c small f =
     control_with (special_of c 231 + 0x100 + 0x40 * level) (slice_set (slice_set c.special (176 + level) c.pc) (192 + level) (ps_word c.ps)) (record c.ps { intlevel = level; excm = true }) c.threadptr c.waits
     (let v : special_of c 231 + (0x100 + 0x40 * level) < 2 ^ 32 = vector_small c (0x100 + 0x40 * level) (omega arith) f in omega arith)
@@ -144,7 +145,7 @@ high_shaped level c small f =
 awake : (c : Control) → IsShapedControl c → IsShapedControl (record c { waits = false })
 awake c f = control_with c.pc c.special c.ps c.threadptr false f.pc (special_shaped c f) f.ps f.threadptr
 
-pub interrupt_shaped : (level : ℕ) (c : Control) → level ≤ 3 → IsShapedControl c → IsShapedControl (after_interrupt level c)
+pub interrupt_shaped : (level : ℕ) (c : Control) → level ≤ 5 → IsShapedControl c → IsShapedControl (after_interrupt level c)
 unfolding after_interrupt
 interrupt_shaped level c small f = by_test (eqb level 1)
   where

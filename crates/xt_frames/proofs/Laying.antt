@@ -6,6 +6,7 @@ use Rattle.xt_special.specs.Numbers as number
 use Rattle.xt_frames.specs.declared.view.Covered.{Covered}
 use Rattle.xt_frames.specs.Frames.{Frame, FrameState}
 use Rattle.xt_frames.specs.FrameStep.{Inputs, laid}
+use Rattle.xt_frames.specs.declared.holes.Holes.{Holes}
 use Rattle.xt_frames.specs.Parts.{Upper, state_at}
 use Rattle.xt_frames.specs.Stepped.{covered_of}
 
@@ -22,8 +23,8 @@ put_back special a b =
     ∙ ap (λ (xs : List ℕ). set xs number.interrupt b) (set-set special number.ccount a c0 ∙ set-get_or special number.ccount 0))
     ∙ (set-set special number.interrupt b i0 ∙ set-get_or special number.interrupt 0)
 
-pub uncovered : (old v : Upper) (inp : Inputs) (frames : List Frame) → state_at frames v ≡ laid inp (state_at frames old) → covered_by v (covered_of old) ≡ old
-uncovered old v inp frames e =
+pub uncovered : (old v : Upper) (inp : Inputs) (frames : List Frame) (h : Holes) → state_at frames h v ≡ laid inp (state_at frames h old) → covered_by v (covered_of old) ≡ old
+uncovered old v inp frames h e =
     let G : FrameState → Upper = λ f. covered_by (record { seen = f.seen; control = f.control }) (covered_of old) in
     let H : List ℕ → Upper = λ xs. record { seen = old.seen; control = record old.control { special = xs } } in
     ap G e ∙ ap H (put_back old.control.special inp.ccount inp.interrupt)

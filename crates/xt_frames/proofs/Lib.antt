@@ -6,3 +6,4 @@ pub mod Newest
 pub mod Kept
 pub mod TestRows
 pub mod Laying
+pub mod Inside

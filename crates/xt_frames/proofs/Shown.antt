@@ -15,7 +15,7 @@ use Rattle.xt_rows.specs.Kinds.{is_entry}
 use Rattle.xt_frames.specs.Frames.{FrameState, known, seen_after_write}
 use Rattle.xt_frames.specs.FrameStep.{FrameTurn}
 use Rattle.xt_frames.specs.SaveAreas.{Range}
-use Rattle.xt_frames.specs.Breaches.{Bounds, Test, first_shown, insn_tests, reads_none, is_sp, writes_sp, may_write_sp, other_frame_size, leaves_range, misaligns_sp, opens_nothing, returns_elsewhere, has_no_caller, touches_save_area, loads_stale, names_high, is_windowing, names_window_register, reads_epc1, is_movsp}
+use Rattle.xt_frames.specs.Breaches.{Bounds, Test, first_shown, insn_tests, reads_none, is_sp, writes_sp, may_write_sp, other_frame_size, leaves_range, misaligns_sp, opens_nothing, returns_elsewhere, has_no_caller, touches_save_area, loads_stale, names_high, is_windowing, names_window_register, loses_epc1, is_movsp, breaks_nested}
 
 -- ---- no test is shown
 if_none : {X : Type 0} (b : Bool) (x : X) (o : Option X) → cond b (Some x) o ≡ None → (b ≡ false) × (o ≡ None)
@@ -47,12 +47,13 @@ pub record Sound (b : Bounds) (fresh : Bool) (live stale : ℕ → Bool) (i : In
   pub window_register : names_window_register i ≡ false
   pub woe : u.after.control.ps.woe ≡ true
   pub vectors : special_of u.after.control number.vecbase ≡ b.vecbase
-  pub lost : reads_epc1 fresh i ≡ false
+  pub lost : loses_epc1 g.nested fresh i ≡ false
   pub movsp : is_movsp i ≡ false
+  pub nested : breaks_nested g.nested i u ≡ false
 
 pub sound : (b : Bounds) (fresh : Bool) (live stale : ℕ → Bool) (i : Insn) (rec : StepRecord) (g : FrameState) (u : FrameTurn) → NoneShown (insn_tests b fresh live stale i rec g u) → Sound b fresh live stale i rec g u
-sound b fresh live stale i rec g u (unset, (written, (size, (low, (align, (opens, (mismatch, (caller, (saves, (loads, (high, (windowing, (window_register, (woe, (vectors, (lost, (movsp, more))))))))))))))))) =
-    record { unset = unset; written = written; size = size; low = low; align = align; opens = opens; mismatch = mismatch; caller = caller; saves = saves; loads = loads; high = high; windowing = windowing; window_register = window_register; woe = not-false _ woe; vectors = eqb-true _ _ (not-false _ vectors); lost = lost; movsp = movsp }
+sound b fresh live stale i rec g u (unset, (written, (size, (low, (align, (opens, (mismatch, (caller, (saves, (loads, (high, (windowing, (window_register, (woe, (vectors, (lost, (movsp, (vector, (nested, more))))))))))))))))))) =
+    record { unset = unset; written = written; size = size; low = low; align = align; opens = opens; mismatch = mismatch; caller = caller; saves = saves; loads = loads; high = high; windowing = windowing; window_register = window_register; woe = not-false _ woe; vectors = eqb-true _ _ (not-false _ vectors); lost = lost; movsp = movsp; nested = nested }
 
 -- ---- a1 is as it was
 abbrev pub KeepsSp : Option RegWrite → Type 0

@@ -35,15 +35,15 @@ use Rattle.xt_frames.specs.SaveAreas.{sp_of}
 use Rattle.xt_frames.specs.Frames.{seen_after_return}
 
 -- ---- the three kinds of step
-step_taken : (code : ℕ → ℕ) (reply : ℕ) (g : FrameState) → ltb 0 (pending_of g.control) ≡ true → laid_step code reply g ≡ in_frame (settled_interrupt (pending_of g.control) g.control) reply g
+pub step_taken : (code : ℕ → ℕ) (reply : ℕ) (g : FrameState) → ltb 0 (pending_of g.control) ≡ true → laid_step code reply g ≡ in_frame (settled_interrupt (pending_of g.control) g.control) reply g
 unfolding laid_step
 step_taken code reply g e = cond-true (ltb 0 (pending_of g.control)) _ _ e
 
-step_waits : (code : ℕ → ℕ) (reply : ℕ) (g : FrameState) → ltb 0 (pending_of g.control) ≡ false → g.control.waits ≡ true → laid_step code reply g ≡ in_frame (settled_wait g.control) reply g
+pub step_waits : (code : ℕ → ℕ) (reply : ℕ) (g : FrameState) → ltb 0 (pending_of g.control) ≡ false → g.control.waits ≡ true → laid_step code reply g ≡ in_frame (settled_wait g.control) reply g
 unfolding laid_step
 step_waits code reply g e w = cond-false (ltb 0 (pending_of g.control)) _ _ e ∙ cond-true g.control.waits _ _ w
 
-step_fetches : (code : ℕ → ℕ) (reply : ℕ) (g : FrameState) → ltb 0 (pending_of g.control) ≡ false → g.control.waits ≡ false → laid_step code reply g ≡ fetched_step (fetched code g.control.pc) code reply g
+pub step_fetches : (code : ℕ → ℕ) (reply : ℕ) (g : FrameState) → ltb 0 (pending_of g.control) ≡ false → g.control.waits ≡ false → laid_step code reply g ≡ fetched_step (fetched code g.control.pc) code reply g
 unfolding laid_step
 step_fetches code reply g e w = cond-false (ltb 0 (pending_of g.control)) _ _ e ∙ cond-false g.control.waits _ _ w
 
@@ -195,3 +195,9 @@ pub moves_as : (inp : Inputs) (f u : FrameState) → Moves (laid inp f) u → Mo
 moves_as inp f u (Stays frames sp) = Stays frames sp
 moves_as inp f u (Calls g frames sp) = Calls g frames sp
 moves_as inp f u (Leaves g frames sp) = Leaves g frames sp
+
+-- nor do the numbers of special registers
+pub moves_unset : (f u : FrameState) (unset : List Bool) → Moves f u → Moves f (record u { unset = unset })
+moves_unset f u unset (Stays frames sp) = Stays frames sp
+moves_unset f u unset (Calls g frames sp) = Calls g frames sp
+moves_unset f u unset (Leaves g frames sp) = Leaves g frames sp

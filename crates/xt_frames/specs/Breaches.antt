@@ -5,6 +5,7 @@
 use Rattle.std.specs.Prelude.{ℕ, ◌+◌, ◌*◌, ◌/◌, ◌%◌, ◌^◌, Bool, true, false, ◌==◌, ◌&&◌, ◌||◌, not}
 use Rattle.std.specs.Prelude.{nat_lt, nat_le, if◌then◌else◌, Option, Some, None, List, [], ◌∷◌}
 use Rattle.std.specs.Prelude.{zero, suc, slice_index_or, is_some}
+use Rattle.xt_frames.specs.declared.holes.Nested.{Nested}
 use Rattle.xt_isa.specs.declared.Insn.{Insn}
 use Rattle.xt_isa.specs.declared.Insn.TheVariants as insn
 use Rattle.xt_isa.specs.declared.shift.Shift.TheVariants as shift
@@ -28,6 +29,8 @@ use Rattle.xt_frames.specs.declared.kinds.BreachKind.{BreachKind}
 use Rattle.xt_frames.specs.declared.kinds.BreachKind.TheVariants as breach
 use Rattle.xt_frames.specs.Frames.{Frame, FrameState, known}
 use Rattle.xt_frames.specs.FrameStep.{Inputs, FrameTurn, laid, laid_step}
+use Rattle.xt_frames.specs.Marks.{are_own_marks, moves_marks}
+use Rattle.xt_frames.specs.Nesting.{begins, current, disturbs_nested, ends_nested}
 use Rattle.xt_frames.specs.SaveAreas.{Range, before, touches}
 
 -- a kind of breach, and whether the step shows it
@@ -49,8 +52,30 @@ abbrev pub lacks : List (Option ℕ) → Option ℕ → Bool
 lacks seen None = false
 lacks seen (Some i) = not (is_some (slice_index_or seen i None))
 
+abbrev pub is_unset : List Bool → Option ℕ → Bool
+is_unset unset None = false
+is_unset unset (Some n) = slice_index_or unset n false
+
+abbrev pub reads_unset : Insn → FrameState → Bool
+reads_unset i f =
+    lacks f.seen (reads i).0
+    || (lacks f.seen (reads i).1
+    || (is_unset f.unset (special_reads i).0 || is_unset f.unset (special_reads i).1))
+
+-- RSR, WSR and XSR that move marks read a number or a mark, one register of each kind at most
+abbrev pub reads_no_mark : Insn → Nested → FrameState → Bool
+reads_no_mark i x f =
+    (lacks f.seen (reads i).0 && lacks x.marks (reads i).0)
+    || (is_unset f.unset (special_reads i).0 && lacks x.saved (special_reads i).0)
+
+-- in a nested interrupt RFI 5 reads neither EPC5 nor EPS5
+abbrev pub reads_none_in : Option Nested → Insn → FrameState → Bool
+reads_none_in None i f = reads_unset i f
+reads_none_in (Some x) i f =
+    if moves_marks i then reads_no_mark i x f else not (ends_nested i) && reads_unset i f
+
 abbrev pub reads_none : Insn → FrameState → Bool
-reads_none i f = lacks f.seen (reads i).0 || lacks f.seen (reads i).1
+reads_none i f = reads_none_in f.nested i f
 
 -- ---- the stack pointer
 -- It is written by ENTRY and MOVSP alone. Both the register that the record shows and that of the
@@ -151,6 +176,23 @@ reads_lost fresh (Some n) = lost_of fresh n
 abbrev pub reads_epc1 : Bool → Insn → Bool
 reads_epc1 fresh i = reads_lost fresh (special_reads i).0 || reads_lost fresh (special_reads i).1
 
+-- in a nested interrupt it is neither read nor written
+abbrev pub loses_epc1 : Option Nested → Bool → Insn → Bool
+loses_epc1 None fresh i = reads_epc1 fresh i
+loses_epc1 (Some x) fresh i = reads_epc1 false i || sets_epc1 i
+
+-- ---- nested interrupts
+-- One ends by RFI 5 alone, with the registers as they were for the window handler.
+abbrev pub is_exception : StepKind → Bool
+is_exception (kind.Exc cause) = true
+is_exception _ = false
+
+abbrev pub breaks_nested : Option Nested → Insn → FrameTurn → Bool
+breaks_nested None i u = false
+breaks_nested (Some x) i u =
+    is_exception u.kind
+    || (disturbs_nested i || (ends_nested i && not (are_own_marks x.marks)))
+
 -- ---- the first breach of a step
 
 -- what a core is judged by: its stack range, and VECBASE as it opened
@@ -188,12 +230,14 @@ insn_tests b fresh live stale i rec f u =
     ∷ test breach.WindowRegister (names_window_register i)
     ∷ test breach.WoeCleared (not u.after.control.ps.woe)
     ∷ test breach.VecbaseMoved (moves_vectors b u)
-    ∷ test breach.EpcLost (reads_epc1 fresh i)
+    ∷ test breach.EpcLost (loses_epc1 f.nested fresh i)
     ∷ test breach.Movsp (is_movsp i)
     ∷ vector_test b f
+    ∷ test breach.Nested (breaks_nested f.nested i u)
     ∷ []
 
--- of a step that fetches none: a turn of cause 2, or of cause 0 because nothing spells the bytes
+-- of a step that fetches none: a turn of cause 2, or of cause 0 because nothing spells the bytes,
+-- either of which is an exception
 abbrev pub other_tests :
     Bounds → (ℕ → Bool) → (ℕ → Bool) → StepRecord → FrameState → FrameTurn → List Test
 other_tests b live stale rec f u =
@@ -202,6 +246,7 @@ other_tests b live stale rec f u =
     ∷ test breach.WoeCleared (not u.after.control.ps.woe)
     ∷ test breach.VecbaseMoved (moves_vectors b u)
     ∷ vector_test b f
+    ∷ test breach.Nested (is_some f.nested)
     ∷ []
 
 abbrev pub fetched_tests :
@@ -215,8 +260,8 @@ abbrev pub inputs_of : StepRecord → Inputs
 inputs_of rec =
     record { ccount = rec.ccount; interrupt = rec.interrupt; owb = rec.owb % 16; reply = rec.reply }
 
--- of a state over which the inputs are laid; an interrupt or a turn of waiting shows VectorEntered
--- alone
+-- of a state over which the inputs are laid, in a nested interrupt that inside; an interrupt or a
+-- turn of waiting shows VectorEntered alone
 unfoldable pub laid_breach :
     Bounds → Bool → (ℕ → ℕ) → (ℕ → Bool) → (ℕ → Bool) → StepRecord → FrameState → Option BreachKind
 laid_breach b fresh code live stale rec f =
@@ -226,15 +271,19 @@ laid_breach b fresh code live stale rec f =
     first_shown (fetched_tests b fresh live stale (fetched code f.control.pc) rec f u)
 
 -- The first breach of a judged step, where `live` and `stale` are the bytes before it, of both
--- cores, and EPC1 has what was last written where `fresh` says so.
+-- cores, EPC1 has what was last written where `fresh` says so, and the record is nested where
+-- `nested` does. The step that begins a nested interrupt shows none.
 abbrev pub breach_of :
-    Bounds → Bool → (ℕ → ℕ) → (ℕ → Bool) → (ℕ → Bool) → StepRecord → FrameState → Option BreachKind
-breach_of b fresh code live stale rec f =
-    laid_breach b fresh code live stale rec (laid (inputs_of rec) f)
+    Bounds → Bool → (ℕ → ℕ) → (ℕ → Bool) → (ℕ → Bool) → Bool → StepRecord → FrameState
+    → Option BreachKind
+breach_of b fresh code live stale nested rec f =
+    if begins nested rec.kind f then None
+    else laid_breach b fresh code live stale rec (laid (inputs_of rec) (current f))
 
 -- the first that one core alone shows: any kind but SaveStore and StaleLoad
-abbrev pub own_breach : Bounds → Bool → (ℕ → ℕ) → StepRecord → FrameState → Option BreachKind
-own_breach b fresh code rec f = breach_of b fresh code (λ a. false) (λ a. false) rec f
+abbrev pub own_breach : Bounds → Bool → (ℕ → ℕ) → Bool → StepRecord → FrameState → Option BreachKind
+own_breach b fresh code nested rec f =
+    breach_of b fresh code (λ a. false) (λ a. false) nested rec f
 
 -- ---- the record of an underflow
 -- It is tested for the RETW at the frame state's PC, and begins handler steps where it shows

@@ -124,6 +124,3 @@ laid_step code reply f =
     if nat_lt 0 level then in_frame (settled_interrupt level f.control) reply f
     else (if f.control.waits then in_frame (settled_wait f.control) reply f
     else fetched_step (fetched code f.control.pc) code reply f)
-
-abbrev pub frame_step : (ℕ → ℕ) → Inputs → FrameState → FrameTurn
-frame_step code inp f = laid_step code inp.reply (laid inp f)

@@ -1,10 +1,12 @@
 -- The state of the machine with unbounded call frames ('profile'): no ring of registers, no window
 -- base, no vector of a window exception and no save area is in it.
-use Rattle.std.specs.Prelude.{ℕ, ◌+◌, ◌-◌, ◌*◌, ◌^◌, Option, Some, None, List, [], ◌∷◌, ◌++◌}
-use Rattle.std.specs.Prelude.{slice_index_or, slice_set, take, drop, replicate, unwrap_or}
+use Rattle.std.specs.Prelude.{ℕ, ◌+◌, ◌-◌, ◌*◌, ◌^◌, Bool, false, Option, Some, None, List, []}
+use Rattle.std.specs.Prelude.{◌∷◌, ◌++◌, slice_index_or, slice_set, take, drop, replicate}
+use Rattle.std.specs.Prelude.{unwrap_or}
 use Rattle.xt_special.specs.Control.{Control}
 use Rattle.xt_special.specs.Opening.{prid_of, opening_control}
 use Rattle.xt_trace.specs.declared.record.RegWrite.{RegWrite}
+use Rattle.xt_frames.specs.declared.holes.Nested.{Nested}
 
 -- a frame that has called another: by how many windows the call moved, 1, 2 or 3, and the
 -- registers a0 to a(4n-1) that were kept for it
@@ -20,6 +22,10 @@ pub record FrameState : Type 0 where
   -- PC, PS, THREADPTR, the waiting flag, and the special registers without WINDOWBASE and
   -- WINDOWSTART
   pub control : Control
+  -- of each special register, by its number, whether it has no number
+  pub unset : List Bool
+  -- in a nested interrupt its PC, registers and PS: those above are then kept for its end
+  pub nested : Option Nested
 
 -- the value of a visible register, 0 where it has none
 abbrev pub known : List (Option ℕ) → ℕ → ℕ
@@ -50,9 +56,15 @@ unfoldable pub opening_seen : ℕ → List (Option ℕ)
 opening_seen stack_end =
     slice_set (slice_set (replicate 16 (Some 0)) 1 (Some (stack_end - 64))) 8 (Some (2 ^ 31))
 
+-- each special register has a number
+unfoldable pub all_set : List Bool
+all_set = replicate 256 false
+
 abbrev pub opening_frame : ℕ → ℕ → ℕ → ℕ → FrameState
 opening_frame core pc vecbase stack_end = record {
   seen = opening_seen stack_end;
   frames = [];
   control = opening_control pc (prid_of core) vecbase;
+  unset = all_set;
+  nested = None;
 }

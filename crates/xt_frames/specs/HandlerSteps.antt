@@ -1,6 +1,6 @@
 -- Which records are handler steps ('profile'): a machine of modes over the records of one core.
 -- From the record of a window exception on through the next RFWO or RFWU, or to the end of the
--- trace.
+-- trace, but for nested interrupts: those of level 5, each through its RFI 5.
 use Rattle.std.specs.Prelude.{ℕ, Bool, true, false, if◌then◌else◌}
 use Rattle.xt_isa.specs.declared.Insn.{Insn}
 use Rattle.xt_isa.specs.declared.Insn.TheVariants as insn
@@ -10,12 +10,15 @@ use Rattle.xt_trace.specs.declared.record.StepKind.{StepKind}
 use Rattle.xt_trace.specs.declared.record.StepKind.TheVariants as kind
 use Rattle.xt_trace.specs.declared.record.StepRecord.{StepRecord}
 use Rattle.xt_fetch.specs.Fetching.{Fetched, Fetches, Fails, SpellsNothing, fetched}
+use Rattle.xt_frames.specs.Nesting.{ends_nested, is_nesting}
 
--- The mode before a record: in the plain mode a record of kind Window is a handler step, in the
--- other each record is one.
+-- The mode before a record: in the plain mode a record of kind Window is a handler step; in the
+-- handler mode each record is one, but an interrupt of level 5, which is nested; in the nested mode
+-- each record is nested.
 pub data Mode : Type 0 where
   Plain : Mode
   Handles : Mode
+  Nests : Mode
 
 unfoldable pub ends_stretch : Insn → Bool
 ends_stretch (insn.System (system.Rfe ReturnName.Rfwo)) = true
@@ -36,6 +39,19 @@ abbrev pub closes : (ℕ → ℕ) → StepKind → ℕ → Bool
 closes code kind.Insn pc = fetched_ends (fetched code pc)
 closes code _ pc = false
 
+-- a record of kind Insn whose instruction is RFI 5
+abbrev pub fetched_returns : Fetched → Bool
+fetched_returns (Fetches i len) = ends_nested i
+fetched_returns (Fails address) = false
+fetched_returns SpellsNothing = false
+
+abbrev pub returns : (ℕ → ℕ) → StepKind → ℕ → Bool
+returns code kind.Insn pc = fetched_returns (fetched code pc)
+returns code _ pc = false
+
 abbrev pub mode_after : (ℕ → ℕ) → Mode → StepRecord → Mode
 mode_after code Plain rec = if is_window rec.kind then Handles else Plain
-mode_after code Handles rec = if closes code rec.kind rec.pc then Plain else Handles
+mode_after code Handles rec =
+    if is_nesting rec.kind then Nests
+    else (if closes code rec.kind rec.pc then Plain else Handles)
+mode_after code Nests rec = if returns code rec.kind rec.pc then Handles else Nests

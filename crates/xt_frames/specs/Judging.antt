@@ -1,33 +1,47 @@
 -- The judge's view of one core ('profile'): a walk over its records, by the frame states alone.
 use Rattle.std.specs.Prelude.{ℕ, Bool, true, false, ◌||◌, if◌then◌else◌, Option, Some, None}
+use Rattle.xt_trace.specs.declared.record.RegWrite.{RegWrite}
 use Rattle.xt_trace.specs.declared.record.StepRecord.{StepRecord}
 use Rattle.xt_fetch.specs.Fetching.{fetched}
 use Rattle.xt_frames.specs.declared.kinds.BreachKind.{BreachKind}
 use Rattle.xt_frames.specs.Frames.{FrameState}
-use Rattle.xt_frames.specs.FrameStep.{FrameTurn, laid, frame_step}
+use Rattle.xt_frames.specs.FrameStep.{FrameTurn, laid}
+use Rattle.xt_frames.specs.Nesting.{begins, current, frame_step, is_nesting}
 use Rattle.xt_frames.specs.SaveAreas.{is_live}
-use Rattle.xt_frames.specs.HandlerSteps.{Mode, Plain, Handles, is_window, mode_after}
+use Rattle.xt_frames.specs.HandlerSteps.{Mode, Plain, Handles, Nests, is_window}
+use Rattle.xt_frames.specs.HandlerSteps.{mode_after}
 use Rattle.xt_frames.specs.Breaches.{Bounds, inputs_of, breach_of, window_breach, fresh_after}
 use Rattle.xt_frames.specs.Breaches.{stale_after}
 
--- the frame machine's step on the inputs of a record
-abbrev pub step_on : (ℕ → ℕ) → StepRecord → FrameState → FrameTurn
-step_on code rec f = frame_step code (inputs_of rec) f
+-- the value of the written register, 0 where none is written
+abbrev pub value_in : Option RegWrite → ℕ
+value_in None = 0
+value_in (Some w) = w.value
+
+-- The frame machine's step on the inputs of a record, which is nested where `nested` says so. In a
+-- nested interrupt the value of the record's written register is an input too, and so is the PC of
+-- the record that begins one.
+abbrev pub step_on : (ℕ → ℕ) → Bool → StepRecord → FrameState → FrameTurn
+step_on code nested rec f =
+    frame_step code (begins nested rec.kind f) (value_in rec.write) (inputs_of rec) f
+
+abbrev pub place_on : Bool → StepRecord → FrameState → ℕ
+place_on nested rec f = if begins nested rec.kind f then rec.pc else (current f).control.pc
 
 -- live bytes of this core, and of the other
 abbrev pub live_of : Bounds → FrameState → (ℕ → Bool) → ℕ → Bool
 live_of b f others a = is_live b.range f a || others a
 
 -- EPC1 has what was last written, after a judged step
-abbrev pub fresh_on : Bool → (ℕ → ℕ) → StepRecord → FrameState → Bool
-fresh_on fresh code rec f =
-    let u = step_on code rec f in
+abbrev pub fresh_on : Bool → (ℕ → ℕ) → Bool → StepRecord → FrameState → Bool
+fresh_on fresh code nested rec f =
+    let u = step_on code nested rec f in
     fresh_after
     fresh
     u.kind
-    (fetched code f.control.pc)
-    (laid (inputs_of rec) f).control.ps
-    u.after.control.ps
+    (fetched code (current f).control.pc)
+    (laid (inputs_of rec) (current f)).control.ps
+    (current u.after).control.ps
 
 -- what the judge knows of one core
 pub record Standing : Type 0 where
@@ -54,35 +68,57 @@ seen_window (Some kind) f = Breaks kind
 
 -- the record is judged; `others` are the live bytes of the other core
 abbrev pub seen_step :
-    Option BreachKind → (ℕ → ℕ) → Bounds → Standing → (ℕ → Bool) → (ℕ → Bool) → StepRecord → Seen
-seen_step None code b standing others stale rec =
+    Option BreachKind → (ℕ → ℕ) → Bounds → Standing → (ℕ → Bool) → (ℕ → Bool) → Bool → StepRecord
+    → Seen
+seen_step None code b standing others stale nested rec =
     let f = standing.frame in
-    let u = step_on code rec f in
+    let u = step_on code nested rec f in
     Judges
-    (record { frame = u.after; fresh = fresh_on standing.fresh code rec f; mode = Plain })
+    (record {
+      frame = u.after;
+      fresh = fresh_on standing.fresh code nested rec f;
+      mode = mode_after code standing.mode rec;
+    })
     (stale_after (live_of b u.after others) (live_of b f others) stale rec.access)
-seen_step (Some kind) code b standing others stale rec = Breaks kind
+seen_step (Some kind) code b standing others stale nested rec = Breaks kind
 
-abbrev pub seen_plain :
-    (ℕ → ℕ) → Bounds → Standing → (ℕ → Bool) → (ℕ → Bool) → StepRecord → Seen
-seen_plain code b standing others stale rec =
+abbrev pub seen_judged :
+    (ℕ → ℕ) → Bounds → Standing → (ℕ → Bool) → (ℕ → Bool) → Bool → StepRecord → Seen
+seen_judged code b standing others stale nested rec =
     let f = standing.frame in
-    if is_window rec.kind then seen_window (window_breach code rec.kind (laid (inputs_of rec) f)) f
-    else
     seen_step
-    (breach_of b standing.fresh code (live_of b f others) stale rec f)
+    (breach_of b standing.fresh code (live_of b f others) stale nested rec f)
     code
     b
     standing
     others
     stale
+    nested
     rec
+
+abbrev pub seen_plain :
+    (ℕ → ℕ) → Bounds → Standing → (ℕ → Bool) → (ℕ → Bool) → StepRecord → Seen
+seen_plain code b standing others stale rec =
+    let f = standing.frame in
+    if is_window rec.kind
+    then seen_window (window_breach code rec.kind (laid (inputs_of rec) (current f))) f
+    else seen_judged code b standing others stale false rec
+
+abbrev pub handled : (ℕ → ℕ) → Standing → StepRecord → Seen
+handled code standing rec =
+    Handled (record {
+      frame = standing.frame;
+      fresh = false;
+      mode = mode_after code standing.mode rec;
+    })
 
 abbrev pub seen_in :
     Mode → (ℕ → ℕ) → Bounds → Standing → (ℕ → Bool) → (ℕ → Bool) → StepRecord → Seen
 seen_in Plain code b standing others stale rec = seen_plain code b standing others stale rec
 seen_in Handles code b standing others stale rec =
-    Handled (record { frame = standing.frame; fresh = false; mode = mode_after code Handles rec })
+    if is_nesting rec.kind then seen_judged code b standing others stale true rec
+    else handled code standing rec
+seen_in Nests code b standing others stale rec = seen_judged code b standing others stale true rec
 
 -- one record of a core
 abbrev pub seen : (ℕ → ℕ) → Bounds → Standing → (ℕ → Bool) → (ℕ → Bool) → StepRecord → Seen

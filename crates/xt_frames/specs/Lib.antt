@@ -1,5 +1,7 @@
 pub mod Frames
 pub mod FrameStep
+pub mod Marks
+pub mod Nesting
 pub mod SaveAreas
 pub mod HandlerSteps
 pub mod Breaches

@@ -1,34 +1,46 @@
 -- Carries a proof; nothing that a reader must believe.
 -- How the program keeps a frame state, and what its functions answer.
-use Rattle.std.specs.Prelude.{◌≡◌, ℕ, ◌+◌, ◌-◌, ◌*◌, ◌/◌, ◌<◌, ◌≤◌, Bool, true, false, Option, Some}
-use Rattle.std.specs.Prelude.{None, List, [], ◌∷◌, map, reverse, take}
+use Rattle.std.specs.Prelude.{◌≡◌, ◌≢◌, ℕ, ◌+◌, ◌-◌, ◌*◌, ◌/◌, ◌<◌, ◌≤◌, Bool, true, false, Option}
+use Rattle.std.specs.Prelude.{Some, None, List, [], ◌∷◌, map, reverse, take}
 use Rattle.xt_special.specs.Control.{Control}
 use Rattle.xt_special.specs.Interrupts.{pending_of}
+use Rattle.xt_trace.specs.declared.record.StepKind.{StepKind}
+use Rattle.xt_trace.specs.declared.record.StepKind.TheVariants as kind
 use Rattle.xt_trace.specs.declared.record.StepRecord.{StepRecord}
 use Rattle.xt_fetch.specs.Fetching.{fetched}
 use Rattle.xt_codec.specs.Fetches.{IsFetched, IsGoodFetch}
 use Rattle.xt_frames.specs.declared.breach.Tested.{Tested}
 use Rattle.xt_frames.specs.declared.breach.Case.{Case}
+use Rattle.xt_frames.specs.declared.holes.Holes.{Holes}
 use Rattle.xt_frames.specs.declared.view.Caller.{Caller}
 use Rattle.xt_frames.specs.declared.view.Call.{Call}
 use Rattle.xt_frames.specs.declared.view.Call.TheVariants.{Stays, Calls, Returns}
 use Rattle.xt_frames.specs.declared.view.Step.{Step}
 use Rattle.xt_frames.specs.declared.view.Plan.{Plan}
 use Rattle.xt_frames.specs.declared.view.Plan.TheVariants as plan
-use Rattle.xt_frames.specs.Frames.{Frame, FrameState}
+use Rattle.xt_frames.specs.Frames.{Frame, FrameState, all_set}
 use Rattle.xt_frames.specs.FrameStep.{FrameTurn}
 use Rattle.xt_frames.specs.SaveAreas.{before}
 use Rattle.xt_frames.specs.Breaches.{Test, loads_stale, touches_save_area}
 use Rattle.xt_frames.specs.Stacks as stacks
 
--- ---- a frame state is kept as a view and the callers, the oldest first
+-- ---- a frame state is kept as a view, its holes and the callers, the oldest first
 
 pub record Upper : Type 0 where
   pub seen : List (Option ℕ)
   pub control : Control
 
-abbrev pub state_at : List Frame → Upper → FrameState
-state_at frames v = record { seen = v.seen; frames = frames; control = v.control }
+abbrev pub no_holes : Holes
+no_holes = record { unset = all_set; nested = None }
+
+abbrev pub state_at : List Frame → Holes → Upper → FrameState
+state_at frames h v = record {
+  seen = v.seen;
+  frames = frames;
+  control = v.control;
+  unset = h.unset;
+  nested = h.nested;
+}
 
 abbrev pub frame_of : Caller → Frame
 frame_of c = record { by = c.by; kept = take (4 * c.by) c.kept }
@@ -65,20 +77,26 @@ frames_after Stays frames = frames
 frames_after (Calls c) frames = frame_of c ∷ frames
 frames_after Returns frames = without_newest frames
 
-abbrev pub turn_as : Step → List Frame → Upper → FrameTurn
-turn_as t frames v = record {
+abbrev pub turn_as : Step → List Frame → Holes → Upper → FrameTurn
+turn_as t frames h v = record {
   kind = t.kind;
   write = t.write;
   access = t.access;
-  after = state_at (frames_after t.call frames) v;
+  after = state_at (frames_after t.call frames) h v;
 }
 
 -- what the next step is
 abbrev pub IsPlan : Plan → (ℕ → ℕ) → Control → Type 0
-IsPlan (plan.Interrupt level) code c = (pending_of c ≡ level) × (1 ≤ level) × (level ≤ 3)
+IsPlan (plan.Interrupt level) code c = (pending_of c ≡ level) × (1 ≤ level) × (level ≤ 5)
 IsPlan plan.Waits code c = (pending_of c ≡ 0) × (c.waits ≡ true)
 IsPlan (plan.Fetched f) code c =
     (pending_of c ≡ 0) × (c.waits ≡ false) × IsFetched f (fetched code c.pc)
+
+-- a step that was planned so is of this kind
+abbrev pub IsKindOf : Plan → StepKind → Type 0
+IsKindOf (plan.Interrupt level) k = k ≡ kind.Interrupt level
+IsKindOf plan.Waits k = k ≡ kind.Wait
+IsKindOf (plan.Fetched f) k = (level : ℕ) → k ≢ kind.Interrupt level
 
 abbrev pub IsGood : Plan → Type 0
 IsGood (plan.Interrupt level) = Unit {0}

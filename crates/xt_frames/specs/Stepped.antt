@@ -8,11 +8,11 @@ use Rattle.xt_frames.specs.declared.kinds.BreachKind.{BreachKind}
 use Rattle.xt_frames.specs.declared.breach.Case.{Case}
 use Rattle.xt_frames.specs.declared.judged.Done.{Done}
 use Rattle.xt_frames.specs.declared.view.Covered.{Covered}
-use Rattle.xt_frames.specs.Frames.{Frame}
+use Rattle.xt_frames.specs.Frames.{Frame, FrameState}
 use Rattle.xt_frames.specs.Breaches.{breach_of}
 use Rattle.xt_frames.specs.Judging.{fresh_on, step_on}
 use Rattle.xt_frames.specs.Stacks.{Moves, Stack}
-use Rattle.xt_frames.specs.Parts.{Upper, frames_after, state_at}
+use Rattle.xt_frames.specs.Parts.{Upper, frames_after}
 use Rattle.xt_frames.specs.Walked.{bounds_of}
 
 -- what the inputs of a record are laid over
@@ -23,25 +23,25 @@ covered_of v = record {
   owb = v.control.ps.owb;
 }
 
--- the answer where a step shows this breach, and what it leaves of a view
+-- The answer where a step of f shows this breach, and what it leaves: `new` has the view and the
+-- holes, and takes the frames.
 abbrev pub IsDone :
-    Option BreachKind → Bool → (ℕ → ℕ) → StepRecord → List Frame → Upper → Result Done BreachKind
-    → Upper → Type 0
-IsDone found fresh code rec frames old (Ok done) new =
+    Option BreachKind → Bool → (ℕ → ℕ) → Bool → StepRecord → FrameState → Result Done BreachKind
+    → (List Frame → FrameState) → Type 0
+IsDone found fresh code nested rec f (Ok done) new =
     (found ≡ None)
-    × (state_at (frames_after done.call frames) new
-    ≡ (step_on code rec (state_at frames old)).after)
-    × (done.fresh ≡ fresh_on fresh code rec (state_at frames old))
-IsDone found fresh code rec frames old (Err kind) new = (found ≡ Some kind) × (new ≡ old)
+    × (new (frames_after done.call f.frames) ≡ (step_on code nested rec f).after)
+    × (done.fresh ≡ fresh_on fresh code nested rec f)
+IsDone found fresh code nested rec f (Err kind) new = (found ≡ Some kind) × (new f.frames ≡ f)
 
 -- the first breach of a record that is tested by this
 abbrev pub found_by :
-    Case → (ℕ → ℕ) → (ℕ → Bool) → (ℕ → Bool) → StepRecord → List Frame → Upper → Option BreachKind
-found_by case code live stale rec frames v =
-    breach_of (bounds_of case.limits) case.fresh code live stale rec (state_at frames v)
+    Case → (ℕ → ℕ) → (ℕ → Bool) → (ℕ → Bool) → Bool → StepRecord → FrameState → Option BreachKind
+found_by case code live stale nested rec f =
+    breach_of (bounds_of case.limits) case.fresh code live stale nested rec f
 
 -- the frames stay on their stack, and are one more or less at most
-abbrev pub IsKept : (lo hi : ℕ) → List Frame → Upper → Done → Upper → Type 0
-IsKept lo hi frames old done new =
-    Stack lo hi new.seen (frames_after done.call frames)
-    × Moves (state_at frames old) (state_at (frames_after done.call frames) new)
+abbrev pub IsKept : (lo hi : ℕ) → FrameState → Done → (List Frame → FrameState) → Type 0
+IsKept lo hi f done new =
+    let after = new (frames_after done.call f.frames) in
+    Stack lo hi after.seen after.frames × Moves f after

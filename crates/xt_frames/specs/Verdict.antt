@@ -1,7 +1,7 @@
 -- The verdict on a run ('profile'): its records, walked in the order of its schedule, by the frame
 -- states alone; and what it is that judged records are a run of the machine with unbounded frames.
-use Rattle.std.specs.Prelude.{◌≡◌, ℕ, zero, suc, Bool, false, if◌then◌else◌, Option, Some, None}
-use Rattle.std.specs.Prelude.{List, [], ◌∷◌, ◌++◌}
+use Rattle.std.specs.Prelude.{◌≡◌, ℕ, zero, suc, Bool, true, false, if◌then◌else◌, Option, Some}
+use Rattle.std.specs.Prelude.{None, List, [], ◌∷◌, ◌++◌}
 use Rattle.xt_map.specs.declared.access.Access.{Access}
 use Rattle.xt_map.specs.declared.access.Entry.{Entry}
 use Rattle.xt_map.specs.declared.contents.MemoryContents.{MemoryContents}
@@ -15,7 +15,8 @@ use Rattle.xt_frames.specs.FrameStep.{FrameTurn}
 use Rattle.xt_frames.specs.SaveAreas.{is_live}
 use Rattle.xt_frames.specs.Breaches.{Bounds}
 use Rattle.xt_frames.specs.Judging.{Standing, opening_standing, Seen, Handled, Judges, Breaks}
-use Rattle.xt_frames.specs.Judging.{step_on, seen}
+use Rattle.xt_frames.specs.Judging.{place_on, step_on, seen}
+use Rattle.xt_frames.specs.HandlerSteps.{Mode, Plain, Handles, Nests}
 
 -- ---- the walk
 
@@ -24,11 +25,11 @@ pub record Known : Type 0 where
   pub standing0 : Standing
   pub standing1 : Standing
   pub stale : ℕ → Bool
-  -- how many records of each core it has seen, and which were judged
+  -- how many records of each core it has seen, and which were judged, with whether each is nested
   pub steps0 : ℕ
   pub steps1 : ℕ
-  pub judged0 : List StepRecord
-  pub judged1 : List StepRecord
+  pub judged0 : List (Bool × StepRecord)
+  pub judged1 : List (Bool × StepRecord)
   -- the accesses of the judged records with their replies, in order
   pub entries : List Entry
 
@@ -55,13 +56,18 @@ past_handled_0 standing k = record k { standing0 = standing; steps0 = suc k.step
 abbrev pub past_handled_1 : Standing → Known → Known
 past_handled_1 standing k = record k { standing1 = standing; steps1 = suc k.steps1 }
 
--- what is known past a judged step
+-- what is known past a judged step, which is nested in any mode but the plain one
+abbrev pub is_nested : Mode → Bool
+is_nested Plain = false
+is_nested Handles = true
+is_nested Nests = true
+
 abbrev pub past_judged_0 : Standing → (ℕ → Bool) → StepRecord → Known → Known
 past_judged_0 standing stale rec k = record k {
   standing0 = standing;
   stale = stale;
   steps0 = suc k.steps0;
-  judged0 = k.judged0 ++ rec ∷ [];
+  judged0 = k.judged0 ++ (is_nested k.standing0.mode, rec) ∷ [];
   entries = k.entries ++ entry_of 0 rec.access rec.reply;
 }
 
@@ -70,7 +76,7 @@ past_judged_1 standing stale rec k = record k {
   standing1 = standing;
   stale = stale;
   steps1 = suc k.steps1;
-  judged1 = k.judged1 ++ rec ∷ [];
+  judged1 = k.judged1 ++ (is_nested k.standing1.mode, rec) ∷ [];
   entries = k.entries ++ entry_of 1 rec.access rec.reply;
 }
 
@@ -131,10 +137,11 @@ pub record IsStepOf (rec : StepRecord) (pc : ℕ) (u : FrameTurn) : Type 0 where
   pub access : rec.access ≡ u.access
 
 -- the records are those of the frame machine's steps, on their own inputs
-abbrev pub IsFrameTrace : (ℕ → ℕ) → FrameState → List StepRecord → Type 0
+abbrev pub IsFrameTrace : (ℕ → ℕ) → FrameState → List (Bool × StepRecord) → Type 0
 IsFrameTrace code f [] = Unit {0}
 IsFrameTrace code f (r ∷ rest) =
-    IsStepOf r f.control.pc (step_on code r f) × IsFrameTrace code (step_on code r f).after rest
+    IsStepOf r.1 (place_on r.0 r.1 f) (step_on code r.0 r.1 f)
+    × IsFrameTrace code (step_on code r.0 r.1 f).after rest
 
 -- the judged records are those of both frame machines, and their accesses and replies, in order,
 -- are a legal history

@@ -31,11 +31,11 @@ abbrev pub fresh_before : Walked → ℕ → Bool
 fresh_before w index = w.fresh && (w.next == index)
 
 -- a core after a judged record of this number
-abbrev pub walked_past : Walked → (ℕ → ℕ) → ℕ → StepRecord → Walked
-walked_past w code index rec =
+abbrev pub walked_past : Walked → (ℕ → ℕ) → ℕ → Bool → StepRecord → Walked
+walked_past w code index nested rec =
     record w {
-      state = (step_on code rec w.state).after;
-      fresh = fresh_on (fresh_before w index) code rec w.state;
+      state = (step_on code nested rec w.state).after;
+      fresh = fresh_on (fresh_before w index) code nested rec w.state;
       next = index + 1;
     }
 
@@ -44,15 +44,17 @@ abbrev pub IsBreach : Option BreachKind → Walked → ℕ → Breach → Type 0
 IsBreach found w index b = found ≡ Some b.kind × (b.core ≡ w.core) × (b.step ≡ index)
 
 abbrev pub IsJudged :
-    Option BreachKind → Walked → (ℕ → ℕ) → ℕ → StepRecord → Result Unit Breach → Walked → Type 0
-IsJudged found w code index rec (Ok u) new = (found ≡ None) × (new ≡ walked_past w code index rec)
-IsJudged found w code index rec (Err b) new = IsBreach found w index b × (new ≡ w)
+    Option BreachKind → Walked → (ℕ → ℕ) → ℕ → Bool → StepRecord → Result Unit Breach → Walked
+    → Type 0
+IsJudged found w code index nested rec (Ok u) new =
+    (found ≡ None) × (new ≡ walked_past w code index nested rec)
+IsJudged found w code index nested rec (Err b) new = IsBreach found w index b × (new ≡ w)
 
 -- the first breach of a record of this number
 abbrev pub found_in :
-    Walked → (ℕ → ℕ) → (ℕ → Bool) → (ℕ → Bool) → ℕ → StepRecord → Option BreachKind
-found_in w code live stale index rec =
-    breach_of w.bounds (fresh_before w index) code live stale rec w.state
+    Walked → (ℕ → ℕ) → (ℕ → Bool) → (ℕ → Bool) → ℕ → Bool → StepRecord → Option BreachKind
+found_in w code live stale index nested rec =
+    breach_of w.bounds (fresh_before w index) code live stale nested rec w.state
 
 -- ---- a core as it opens, and its frames by number
 

@@ -9,11 +9,16 @@ ghost use Rattle.xt_codec.specs.Fetches.{IsFetched};
 ghost use Rattle.xt_frames.specs.Frames.{Frame, FrameState};
 ghost use Rattle.xt_frames.specs.SaveAreas.{Range, before};
 ghost use Rattle.xt_frames.specs.FrameStep.{laid_step};
-ghost use Rattle.xt_frames.specs.Breaches.{fetched_return_breach, first_shown, fresh_after, has_no_caller, insn_tests, is_in_vectors, is_movsp, is_return, is_sp, is_windowing, laid_breach, leaves_range, may_write_sp, misaligns_sp, moves_vectors, names_high, names_window_register, opens_nothing, other_frame_size, other_tests, reads_epc1, reads_lost, reads_none, returns_elsewhere, sets_epc1, small_frame, vector_test, window_breach, writes_epc1, writes_sp};
+ghost use Rattle.xt_frames.specs.Breaches.{breaks_nested, fetched_return_breach, first_shown, fresh_after, has_no_caller, insn_tests, is_exception, is_in_vectors, is_movsp, is_return, is_sp, is_windowing, laid_breach, leaves_range, loses_epc1, may_write_sp, misaligns_sp, moves_vectors, names_high, names_window_register, opens_nothing, other_frame_size, other_tests, reads_epc1, reads_lost, reads_no_mark, reads_none, reads_unset, returns_elsewhere, sets_epc1, small_frame, vector_test, window_breach, writes_epc1, writes_sp};
 ghost use Rattle.xt_frames.specs.declared.view.Step.{Step};
+ghost use Rattle.xt_frames.specs.declared.holes.Holes.{Holes};
 ghost use Rattle.xt_frames.specs.Parts.{IsCase, IsGood, IsNewest, IsPlan, Upper, shown_tests, state_at, turn_as};
 ghost use Rattle.xt_frames.specs.Walked.{bounds_of};
 
+use crate::holes::{
+    Holes, Nested, disturbs_nested, ends_nested, has_own_marks, is_unset, lacks_mark, lacks_saved,
+    moves_marks,
+};
 use crate::kinds::BreachKind;
 use crate::view::{Caller, Plan, Step, View};
 use xt_codec::{Fetch, instruction_at};
@@ -78,12 +83,44 @@ fn first_shown(tests: &[Tested]) -> Option<BreachKind>
     None
 }
 
-fn reads_none(i: Insn, view: &View) -> bool
+/// Whether it reads a visible or special register that has no number.
+fn reads_unset(i: Insn, view: &View, holes: &Holes) -> bool
     requires { in_range i ≡ true }
-    ensures { (frames : List Frame) → result ≡ reads_none i (state_at frames view.now) }
+    ensures { (frames : List Frame) → result ≡ reads_unset i (state_at frames holes.now view.now) }
 {
     let (first, second) = reads(i);
-    view.lacks(first) || view.lacks(second)
+    let (special, other) = special_reads(i);
+    view.lacks(first)
+        || view.lacks(second)
+        || is_unset(&holes.unset, special)
+        || is_unset(&holes.unset, other)
+}
+
+/// Whether it reads a register that has neither a number nor a mark.
+fn reads_no_mark(i: Insn, x: &Nested, view: &View, holes: &Holes) -> bool
+    requires { in_range i ≡ true }
+    ensures { (frames : List Frame) → result ≡ reads_no_mark i x.now (state_at frames holes.now view.now) }
+{
+    let (register, _second) = reads(i);
+    let (special, _other) = special_reads(i);
+    (view.lacks(register) && lacks_mark(x, register))
+        || (is_unset(&holes.unset, special) && lacks_saved(x, special))
+}
+
+fn reads_none(i: Insn, view: &View, holes: &Holes) -> bool
+    requires { in_range i ≡ true }
+    ensures { (frames : List Frame) → result ≡ reads_none i (state_at frames holes.now view.now) }
+{
+    match &holes.nested {
+        None => reads_unset(i, view, holes),
+        Some(x) => {
+            if moves_marks(i) {
+                reads_no_mark(i, x, view, holes)
+            } else {
+                !ends_nested(i) && reads_unset(i, view, holes)
+            }
+        }
+    }
 }
 
 #[tactic(auto, unfolding(crate::specs::Breaches::may_write_sp))]
@@ -112,14 +149,14 @@ fn writes_sp(i: Insn, shown: Option<RegWrite>, write: Option<RegWrite>) -> bool
 }
 
 fn small_frame(under: u32, sp: u32, size: u32, by: u8) -> bool
-    ensures { (hi : ℕ) (frames : List Frame) → under ≡ before hi frames → result ≡ small_frame hi sp size by frames }
+    ensures { (hi : ℕ) (frames : List Frame) (h : Holes) → under ≡ before hi frames → result ≡ small_frame hi sp size by frames }
 {
     size < 16 || u64::from(under) < u64::from(sp) + 16 * u64::from(by)
 }
 
 #[tactic(auto, unfolding(crate::specs::Breaches::other_frame_size))]
 fn other_frame_size(i: Insn, view: &View, under: u32) -> bool
-    ensures { (r : Range) (frames : List Frame) → under ≡ before r.hi frames → result ≡ other_frame_size r i (state_at frames view.now) }
+    ensures { (r : Range) (frames : List Frame) (h : Holes) → under ≡ before r.hi frames → result ≡ other_frame_size r i (state_at frames h view.now) }
 {
     match i {
         Insn::Control(Control::Entry(number, size)) => {
@@ -131,7 +168,7 @@ fn other_frame_size(i: Insn, view: &View, under: u32) -> bool
 
 #[tactic(auto, unfolding(crate::specs::Breaches::leaves_range))]
 fn leaves_range(i: Insn, view: &View, limits: Limits) -> bool
-    ensures { (frames : List Frame) → result ≡ leaves_range (bounds_of limits).range i (state_at frames view.now) }
+    ensures { (frames : List Frame) (h : Holes) → result ≡ leaves_range (bounds_of limits).range i (state_at frames h view.now) }
 {
     match i {
         Insn::Control(Control::Entry(_, size)) => {
@@ -144,7 +181,7 @@ fn leaves_range(i: Insn, view: &View, limits: Limits) -> bool
 
 #[tactic(auto, unfolding(crate::specs::Breaches::misaligns_sp))]
 fn misaligns_sp(i: Insn, view: &View) -> bool
-    ensures { (frames : List Frame) → result ≡ misaligns_sp i (state_at frames view.now) }
+    ensures { (frames : List Frame) (h : Holes) → result ≡ misaligns_sp i (state_at frames h view.now) }
 {
     match i {
         Insn::Control(Control::Entry(_, size)) => { minus(view.known(1), natural(size)) % 16 != 0 }
@@ -154,7 +191,7 @@ fn misaligns_sp(i: Insn, view: &View) -> bool
 
 #[tactic(auto, unfolding(crate::specs::Breaches::opens_nothing))]
 fn opens_nothing(i: Insn, view: &View) -> bool
-    ensures { (frames : List Frame) → result ≡ opens_nothing i (state_at frames view.now) }
+    ensures { (frames : List Frame) (h : Holes) → result ≡ opens_nothing i (state_at frames h view.now) }
 {
     match i {
         Insn::Control(Control::Entry(_, _)) => view.callinc() == 0,
@@ -174,7 +211,7 @@ fn is_return(i: Insn) -> bool
 }
 
 fn returns_elsewhere(i: Insn, view: &View, newest: &Option<Caller>) -> bool
-    ensures { (frames : List Frame) → IsNewest newest.now frames → result ≡ returns_elsewhere i (state_at frames view.now) }
+    ensures { (frames : List Frame) (h : Holes) → IsNewest newest.now frames → result ≡ returns_elsewhere i (state_at frames h view.now) }
 {
     is_return(i)
         && match *newest {
@@ -184,7 +221,7 @@ fn returns_elsewhere(i: Insn, view: &View, newest: &Option<Caller>) -> bool
 }
 
 fn has_no_caller(i: Insn, newest: &Option<Caller>) -> bool
-    ensures { (frames : List Frame) (v : Upper) → IsNewest newest.now frames → result ≡ has_no_caller i (state_at frames v) }
+    ensures { (frames : List Frame) (h : Holes) (v : Upper) → IsNewest newest.now frames → result ≡ has_no_caller i (state_at frames h v) }
 {
     is_return(i) && newest.is_none()
 }
@@ -229,6 +266,34 @@ fn reads_epc1(fresh: bool, i: Insn) -> bool
     reads_lost(fresh, first) || reads_lost(fresh, second)
 }
 
+fn loses_epc1(holes: &Holes, fresh: bool, i: Insn) -> bool
+    requires { in_range i ≡ true }
+    ensures { result ≡ loses_epc1 holes.now.nested fresh i }
+{
+    if holes.nested.is_none() {
+        reads_epc1(fresh, i)
+    } else {
+        reads_epc1(false, i) || sets_epc1(i)
+    }
+}
+
+fn is_exception(kind: StepKind) -> bool
+    ensures { result ≡ is_exception kind }
+{
+    matches!(kind, StepKind::Exc(_))
+}
+
+fn breaks_nested(holes: &Holes, i: Insn, step: &Step) -> bool
+    ensures { (frames : List Frame) (after : Upper) → result ≡ breaks_nested holes.now.nested i (turn_as step.now frames holes.now after) }
+{
+    match &holes.nested {
+        None => false,
+        Some(x) => {
+            is_exception(step.kind) || disturbs_nested(i) || (ends_nested(i) && !has_own_marks(x))
+        }
+    }
+}
+
 #[tactic(auto, unfolding(crate::specs::Breaches::is_movsp))]
 fn is_movsp(i: Insn) -> bool
     ensures { result ≡ is_movsp i }
@@ -243,13 +308,13 @@ fn is_in_vectors(limits: Limits, pc: u32) -> bool
 }
 
 fn names_high(i: Insn, view: &View) -> bool
-    ensures { (frames : List Frame) → result ≡ names_high i (state_at frames view.now) }
+    ensures { (frames : List Frame) (h : Holes) → result ≡ names_high i (state_at frames h view.now) }
 {
     view.excm() && 4 <= named(i)
 }
 
 fn moves_vectors(limits: Limits, after: &View) -> bool
-    ensures { (frames : List Frame) (step : Step) → result ≡ moves_vectors (bounds_of limits) (turn_as step frames after.now) }
+    ensures { (frames : List Frame) (h : Holes) (step : Step) → result ≡ moves_vectors (bounds_of limits) (turn_as step frames h after.now) }
 {
     after.vecbase() != limits.vecbase
 }
@@ -257,6 +322,7 @@ fn moves_vectors(limits: Limits, after: &View) -> bool
 /// The first breach of a step that fetches an instruction.
 fn insn_breach(
     case: &Case,
+    holes: &Holes,
     i: Insn,
     rec: &StepRecord,
     view: &View,
@@ -265,13 +331,13 @@ fn insn_breach(
 ) -> Option<BreachKind>
     requires { in_range i ≡ true }
     ensures { (frames : List Frame) (live stale : ℕ → Bool) → IsCase case.now rec.now frames live stale
-        → result ≡ first_shown (insn_tests (bounds_of case.now.limits) case.now.fresh live stale i rec.now (state_at frames view.now) (turn_as step.now frames after.now)) }
+        → result ≡ first_shown (insn_tests (bounds_of case.now.limits) case.now.fresh live stale i rec.now (state_at frames holes.now view.now) (turn_as step.now frames holes.now after.now)) }
 {
     let limits = case.limits;
     let newest = &case.newest;
     let tests = [
-        // reads a register that has no value
-        test(BreachKind::Unset, reads_none(i, view)),
+        // reads a register that has no value, or a mark other than by moving it
+        test(BreachKind::Unset, reads_none(i, view, holes)),
         // has a1 as the written register, by another instruction than ENTRY or MOVSP
         test(BreachKind::SpWritten, writes_sp(i, rec.write, step.write)),
         // ENTRY with s other than 1, size below 16, or a caller whose frame is too small
@@ -303,12 +369,14 @@ fn insn_breach(
         test(BreachKind::WoeCleared, !after.woe()),
         // leaves VECBASE other than it opened
         test(BreachKind::VecbaseMoved, moves_vectors(limits, after)),
-        // reads EPC1 after EXCM has fallen since it was last written
-        test(BreachKind::EpcLost, reads_epc1(case.fresh, i)),
+        // reads EPC1 after EXCM has fallen since it was last written, or reads or writes it in a nested interrupt
+        test(BreachKind::EpcLost, loses_epc1(holes, case.fresh, i)),
         // a MOVSP
         test(BreachKind::Movsp, is_movsp(i)),
         // PC is in VECBASE + 000..17F
         test(BreachKind::VectorEntered, is_in_vectors(limits, view.pc())),
+        // in a nested interrupt ends it otherwise than it should
+        test(BreachKind::Nested, breaks_nested(holes, i, step)),
     ];
     first_shown(&tests)
 }
@@ -316,13 +384,14 @@ fn insn_breach(
 /// The first breach of a step that fetches none: a turn of cause 2, or of cause 0 because nothing spells the bytes.
 fn other_breach(
     case: &Case,
+    holes: &Holes,
     rec: &StepRecord,
     view: &View,
     step: &Step,
     after: &View,
 ) -> Option<BreachKind>
     ensures { (frames : List Frame) (live stale : ℕ → Bool) → IsCase case.now rec.now frames live stale
-        → result ≡ first_shown (other_tests (bounds_of case.now.limits) live stale rec.now (state_at frames view.now) (turn_as step.now frames after.now)) }
+        → result ≡ first_shown (other_tests (bounds_of case.now.limits) live stale rec.now (state_at frames holes.now view.now) (turn_as step.now frames holes.now after.now)) }
 {
     let limits = case.limits;
     let tests = [
@@ -331,13 +400,14 @@ fn other_breach(
         test(BreachKind::WoeCleared, !after.woe()),
         test(BreachKind::VecbaseMoved, moves_vectors(limits, after)),
         test(BreachKind::VectorEntered, is_in_vectors(limits, view.pc())),
+        test(BreachKind::Nested, holes.nested.is_some()),
     ];
     first_shown(&tests)
 }
 
 /// An interrupt or a turn of waiting shows VectorEntered alone.
 fn vector_breach(limits: Limits, view: &View) -> Option<BreachKind>
-    ensures { (frames : List Frame) → result ≡ first_shown (vector_test (bounds_of limits) (state_at frames view.now) ∷ []) }
+    ensures { (frames : List Frame) (h : Holes) → result ≡ first_shown (vector_test (bounds_of limits) (state_at frames h view.now) ∷ []) }
 {
     if is_in_vectors(limits, view.pc()) {
         Some(BreachKind::VectorEntered)
@@ -350,6 +420,7 @@ fn vector_breach(limits: Limits, view: &View) -> Option<BreachKind>
 #[tactic(auto, unfolding(crate::specs::Breaches::laid_breach))]
 pub fn breach_of(
     case: &Case,
+    holes: &Holes,
     plan: Plan,
     rec: &StepRecord,
     view: &View,
@@ -358,28 +429,33 @@ pub fn breach_of(
 ) -> Option<BreachKind>
     requires { IsGood plan }
     ensures { (code : ℕ → ℕ) (frames : List Frame) (live stale : ℕ → Bool) → IsCase case.now rec.now frames live stale
-        → IsPlan plan code view.now.control → turn_as step.now frames after.now ≡ laid_step code rec.now.reply (state_at frames view.now)
-        → result ≡ laid_breach (bounds_of case.now.limits) case.now.fresh code live stale rec.now (state_at frames view.now) }
+        → IsPlan plan code view.now.control → turn_as step.now frames holes.now after.now ≡ laid_step code rec.now.reply (state_at frames holes.now view.now)
+        → result ≡ laid_breach (bounds_of case.now.limits) case.now.fresh code live stale rec.now (state_at frames holes.now view.now) }
 {
     match plan {
         Plan::Interrupt(_) | Plan::Waits => vector_breach(case.limits, view),
-        Plan::Fetched(Fetch::Insn(i, _)) => insn_breach(case, i, rec, view, step, after),
+        Plan::Fetched(Fetch::Insn(i, _)) => insn_breach(case, holes, i, rec, view, step, after),
         Plan::Fetched(Fetch::Fails(_) | Fetch::Nothing) => {
-            other_breach(case, rec, view, step, after)
+            other_breach(case, holes, rec, view, step, after)
         }
     }
 }
 
 /// The first breach that the record of an underflow shows of the RETW at PC.
-pub fn return_breach(code: &Constants, view: &View, newest: &Option<Caller>) -> Option<BreachKind>
+pub fn return_breach(
+    code: &Constants,
+    view: &View,
+    holes: &Holes,
+    newest: &Option<Caller>,
+) -> Option<BreachKind>
     ensures { (frames : List Frame) → IsNewest newest.now frames
-        → result ≡ fetched_return_breach (fetched (constant_byte code.now) view.now.control.pc) (state_at frames view.now) }
+        → result ≡ fetched_return_breach (fetched (constant_byte code.now) view.now.control.pc) (state_at frames holes.now view.now) }
 {
     match instruction_at::<Caller>(code, view.pc()) {
         Fetch::Insn(i, _) => {
             if is_return(i) {
                 let tests = [
-                    test(BreachKind::Unset, reads_none(i, view)),
+                    test(BreachKind::Unset, reads_none(i, view, holes)),
                     test(
                         BreachKind::ReturnMismatch,
                         returns_elsewhere(i, view, newest),
@@ -418,7 +494,7 @@ pub fn underflows(kind: StepKind) -> bool
 }
 
 /// What the bytes at PC are, which the plan of a step has found where it fetches.
-fn planned(plan: Plan, code: &Constants, view: &View) -> Fetch
+pub fn planned(plan: Plan, code: &Constants, view: &View) -> Fetch
     requires { IsPlan plan (constant_byte code.now) view.now.control }
     ensures { IsFetched result (fetched (constant_byte code.now) view.now.control.pc) }
 {

@@ -4,6 +4,7 @@
 ghost use Rattle.std.specs.Prelude.{◌≡◌, ◌≤◌, ◌<◌, ◌+◌, ◌%◌, ◌^◌, ℕ, Bool, length, IfOk};
 ghost use Rattle.xt_map.specs.Memory.{constant_byte};
 ghost use Rattle.xt_frames.specs.FrameStep.{laid};
+ghost use Rattle.xt_frames.specs.Nesting.{current};
 ghost use Rattle.xt_frames.specs.SaveAreas.{before};
 ghost use Rattle.xt_frames.specs.Breaches.{inputs_of, loads_stale, own_breach, touches_save_area, window_breach};
 ghost use Rattle.xt_frames.specs.Parts.{IsNewest, IsSmall, state_at};
@@ -12,6 +13,7 @@ ghost use Rattle.xt_frames.specs.Walked.{IsJudged, IsTested, bounds_of, calls_at
 
 use crate::breach::{Case, Limits, return_breach, underflows};
 use crate::callers::{calls_in, change, depth_of, newest_of, sp_in, under};
+use crate::holes::Holes;
 use crate::judged::judge;
 use crate::kinds::{Breach, BreachKind};
 use crate::view::{Caller, View};
@@ -30,6 +32,7 @@ pub struct Frames {
     core: u8,
     limits: Limits,
     view: View,
+    holes: Holes,
     // The callers, the oldest first.
     callers: Vec<Caller>,
     // Whether EPC1 has what was last written.
@@ -45,9 +48,12 @@ impl Model for Frames {
 
     ghost Value = { Walked };
 
-    ghost view = { λ f. record { core = f.core; bounds = bounds_of f.limits; state = state_at (frames_of f.callers.items) f.view; fresh = f.fresh; next = f.next } };
+    ghost view = { λ f. record { core = f.core; bounds = bounds_of f.limits; state = state_at (frames_of f.callers.items) f.holes f.view; fresh = f.fresh; next = f.next } };
 
-    ghost invariant = { λ f. AreKept f.limits.lo f.limits.hi f.view f.callers.items (vec_capacity f.callers) };
+    ghost use Rattle.std.specs.Prelude.{IfSome};
+    ghost use Rattle.xt_special.specs.Shape.{IsPs};
+
+    ghost invariant = { λ f. AreKept f.limits.lo f.limits.hi f.view f.callers.items (vec_capacity f.callers) × IfSome f.holes.nested (λ x. IsPs x.ps) };
 }
 
 impl Frames {
@@ -74,6 +80,10 @@ impl Frames {
                 vecbase: options.vecbase,
             },
             view,
+            holes: Holes {
+                unset: [false; 256],
+                nested: None,
+            },
             callers,
             fresh: true,
             next: 0,
@@ -125,17 +135,18 @@ impl Frames {
         }
     }
 
-    /// The state without its callers, over which the inputs of a record are laid.
+    /// The state without its callers, in a nested interrupt that inside, over which the inputs of a record are laid.
     fn laid_view(&self, rec: &StepRecord) -> View
-        ensures { state_at self.now.state.frames result ≡ laid (inputs_of rec.now) self.now.state }
+        ensures { (h : Holes) → h.unset ≡ self.now.state.unset → h.nested ≡ self.now.state.nested
+            → state_at self.now.state.frames h result ≡ laid (inputs_of rec.now) (current self.now.state) }
     {
-        let mut view = self.view;
+        let mut view = self.view.current(&self.holes);
         view.lay(rec);
         view
     }
 
-    /// Judges a record of this number, by the inputs, the written register and the access of the record alone: a breach, or the
-    /// frame step. After a breach nothing has changed. Takes no memory.
+    /// Judges a record of this number, by the inputs, the written register and the access of the record, and by whether it is nested,
+    /// alone: a breach, or the frame step. After a breach nothing has changed. Takes no memory.
     ///
     /// `saves` says whether the record's access is a store or S32C1I that touches a live save area of either core, and `stale`
     /// whether it is a load or S32C1I that touches a stale byte, or a load that touches a live save area.
@@ -146,16 +157,17 @@ impl Frames {
         code: &Constants,
         index: u32,
         rec: &StepRecord,
+        nested: bool,
         saves: bool,
         stale: bool,
     ) -> Result<(), Breach>
         requires { (live : ℕ → Bool) × (dead : ℕ → Bool) × (touches_save_area live rec.now.access ≡ saves) × (loads_stale live dead rec.now.access ≡ stale) }
         ensures judged { (live dead : ℕ → Bool) → touches_save_area live rec.now.access ≡ saves → loads_stale live dead rec.now.access ≡ stale
-            → IsJudged (found_in self.old (constant_byte code.now) live dead index rec.now) self.old (constant_byte code.now) index rec.now result self.new }
+            → IsJudged (found_in self.old (constant_byte code.now) live dead index nested rec.now) self.old (constant_byte code.now) index nested rec.now result self.new }
         ensures moves { IfOk result (λ u. Moves self.old.state self.new.state) }
     {
         let case = self.case(index, saves, stale);
-        match judge(&mut self.view, &case, code, rec) {
+        match judge(&mut self.view, &mut self.holes, &case, code, rec, nested) {
             Ok(done) => {
                 self.fresh = done.fresh;
                 self.next = u64::from(index) + 1;
@@ -172,22 +184,28 @@ impl Frames {
 
     /// Judges a record of this number by what one core alone shows: the first breach of a kind other than SaveStore and StaleLoad,
     /// or the frame step. After a breach nothing has changed. Takes no memory.
-    pub fn step(&mut self, code: &Constants, index: u32, rec: &StepRecord) -> Result<(), Breach>
-        ensures { IsJudged (own_breach self.old.bounds (fresh_before self.old index) (constant_byte code.now) rec.now self.old.state) self.old (constant_byte code.now) index rec.now result self.new }
+    pub fn step(
+        &mut self,
+        code: &Constants,
+        index: u32,
+        rec: &StepRecord,
+        nested: bool,
+    ) -> Result<(), Breach>
+        ensures { IsJudged (own_breach self.old.bounds (fresh_before self.old index) (constant_byte code.now) nested rec.now self.old.state) self.old (constant_byte code.now) index nested rec.now result self.new }
     {
-        self.judge(code, index, rec, false, false)
+        self.judge(code, index, rec, nested, false, false)
     }
 
     /// Tests the record of a window exception: of an underflow the RETW at the frame state's PC is tested for Unset, ReturnMismatch
     /// and NoCaller. No other record shows anything.
     pub fn test(&self, code: &Constants, index: u32, rec: &StepRecord) -> Result<(), Breach>
-        ensures { IsTested (window_breach (constant_byte code.now) rec.now.kind (laid (inputs_of rec.now) self.now.state)) self.now index result }
+        ensures { IsTested (window_breach (constant_byte code.now) rec.now.kind (laid (inputs_of rec.now) (current self.now.state))) self.now index result }
     {
         if !underflows(rec.kind) {
             return Ok(());
         }
         let view = self.laid_view(rec);
-        match return_breach(code, &view, &self.newest()) {
+        match return_breach(code, &view, &self.holes, &self.newest()) {
             Some(kind) => Err(self.breach(index, kind)),
             None => Ok(()),
         }

@@ -4,7 +4,7 @@
 /// How a judged step leaves the stack discipline. Where a step shows several kinds, the first counts.
 #[derive(Clone, Copy, Debug, PartialEq, Eq)]
 pub enum BreachKind {
-    /// It reads a register that has no value.
+    /// It reads a register that has no value, or a mark other than by moving it.
     Unset,
     /// It writes a1 by another instruction than ENTRY or MOVSP.
     SpWritten,
@@ -35,12 +35,15 @@ pub enum BreachKind {
     WoeCleared,
     /// It leaves VECBASE other than it opened.
     VecbaseMoved,
-    /// It reads EPC1 after exception mode has ended since EPC1 was last written.
+    /// It reads EPC1 after exception mode has ended since EPC1 was last written, or reads or writes it in a nested interrupt.
     EpcLost,
     /// A MOVSP.
     Movsp,
     /// It stands in a vector of a window exception.
     VectorEntered,
+    /// In a nested interrupt an exception, a write of PS, EPC5 or EPS5, RSIL, WAITI, RFE, RFDE or RFI of another level, or RFI 5 while
+    /// one of a0 to a3 does not hold its own mark.
+    Nested,
 }
 
 /// A breach: the core, the number of the record in its trace, and the kind.

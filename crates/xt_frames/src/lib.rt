@@ -5,10 +5,13 @@
 mod breach;
 mod callers;
 mod frames;
+mod holes;
 mod judged;
 mod kinds;
+mod nested;
 mod registers;
 mod view;
 
 pub use frames::Frames;
+pub use holes::{ends_nested, is_nesting};
 pub use kinds::{Breach, BreachKind, Judged};

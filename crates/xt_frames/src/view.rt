@@ -1,7 +1,7 @@
 //! A frame state without its list of frames, and its step.
 #![tactic(auto)]
 
-ghost use Rattle.std.specs.Prelude.{◌≡◌, ◌<◌, ◌≤◌, ◌^◌, ◌%◌, ℕ, List, [], None, true};
+ghost use Rattle.std.specs.Prelude.{◌≡◌, ◌<◌, ◌≤◌, ◌^◌, ◌%◌, ℕ, IfSome, List, [], None, true};
 ghost use Rattle.xt_isa.specs.Ranges.{in_range};
 ghost use Rattle.xt_map.specs.Memory.{constant_byte};
 ghost use Rattle.xt_special.specs.Control.{special_of};
@@ -17,9 +17,13 @@ ghost use Rattle.xt_frames.specs.Frames.{Frame, known, opening_frame, seen_after
 ghost use Rattle.xt_frames.specs.FrameStep.{Inputs, done_in_frame, fetched_step, in_frame, laid, laid_step, popped, pushed, raised, windowed_in_frame};
 ghost use Rattle.xt_frames.specs.Breaches.{inputs_of, lacks};
 ghost use Rattle.xt_frames.specs.declared.view.Call.TheVariants.{Stays};
-ghost use Rattle.xt_frames.specs.Parts.{IsGood, IsNewest, IsPlan, IsSmall, Upper, state_at, turn_as};
+ghost use Rattle.xt_special.specs.Shape.{IsPs};
+ghost use Rattle.xt_frames.specs.Nesting.{current, inside, keeping};
+ghost use Rattle.xt_frames.specs.declared.holes.Holes.{Holes};
+ghost use Rattle.xt_frames.specs.Parts.{IsGood, IsNewest, IsPlan, IsSmall, Upper, no_holes, state_at, turn_as};
 ghost use Rattle.xt_frames.specs.Stepped.{covered_of};
 
+use crate::holes::{Holes, Nested};
 use crate::registers::{Seen, after_call, after_return, kept_of};
 use std::marker::Model;
 use xt_codec::{Fetch, instruction_at};
@@ -29,7 +33,7 @@ use xt_rows::settling::{self, received, special_value};
 use xt_rows::{
     Effect, Outcome, Values, WindowStep, cause, outcome_of, reads, special_reads, write_to,
 };
-use xt_special::{Special, number};
+use xt_special::{Ps, Special, number};
 use xt_trace::{RegWrite, StepKind, StepRecord};
 
 /// A frame that has called another.
@@ -127,7 +131,7 @@ impl View {
     pub fn open(core: u8, pc: u32, vecbase: u32, stack_end: u32) -> View
         requires vecbase { vecbase % 2 ^ 10 ≡ 0 }
         requires stack { 64 ≤ stack_end }
-        ensures { state_at [] result ≡ opening_frame core pc vecbase stack_end }
+        ensures { state_at [] no_holes result ≡ opening_frame core pc vecbase stack_end }
     {
         let prid = if core == 0 { 0xCDCD } else { 0xABAB };
         let mut seen = [Some(0); 16];
@@ -143,7 +147,7 @@ impl View {
 
     /// The inputs of a record, laid over the state.
     pub fn lay(&mut self, rec: &StepRecord)
-        ensures { (frames : List Frame) → state_at frames self.new ≡ laid (inputs_of rec.now) (state_at frames self.old) }
+        ensures { (frames : List Frame) (h : Holes) → state_at frames h self.new ≡ laid (inputs_of rec.now) (state_at frames h self.old) }
     {
         self.special.set_register(number::CCOUNT, rec.ccount);
         self.special.set_register(number::INTERRUPT, rec.interrupt);
@@ -165,8 +169,8 @@ impl View {
     /// Takes the inputs of a record off again.
     pub fn uncover(&mut self, covered: Covered)
         requires { covered.owb < 16 }
-        ensures { (old : Upper) (inp : Inputs) (frames : List Frame) → covered ≡ covered_of old
-            → state_at frames self.old ≡ laid inp (state_at frames old) → self.new ≡ old }
+        ensures { (old : Upper) (inp : Inputs) (frames : List Frame) (h : Holes) → covered ≡ covered_of old
+            → state_at frames h self.old ≡ laid inp (state_at frames h old) → self.new ≡ old }
     {
         self.special.set_register(number::CCOUNT, covered.ccount);
         self.special
@@ -194,6 +198,54 @@ impl View {
             Some(i) => self.seen[i as usize].is_none(),
             None => false,
         }
+    }
+
+    /// The state of a nested interrupt: its PC, registers and PS, and all else of this.
+    pub fn inside(&self, nested: &Nested) -> View
+        requires { IsPs nested.now.ps }
+        ensures { (frames : List Frame) (h : Holes) → state_at frames h result ≡ inside nested.now (state_at frames h self.now) }
+    {
+        let mut view = *self;
+        view.pc = nested.pc;
+        view.seen = nested.seen;
+        view.special.set_ps_fields(nested.ps);
+        view
+    }
+
+    /// What the next step finds: the state of a nested interrupt where there is one.
+    pub fn current(&self, holes: &Holes) -> View
+        requires { IfSome holes.now.nested (λ x. IsPs x.ps) }
+        ensures { (frames : List Frame) → state_at frames holes.now result ≡ current (state_at frames holes.now self.now) }
+    {
+        match &holes.nested {
+            Some(nested) => self.inside(nested),
+            None => *self,
+        }
+    }
+
+    /// Takes what a step has left, but for PC, registers and PS.
+    pub fn keep(&mut self, after: &View)
+        ensures { (frames : List Frame) (h : Holes) → state_at frames h self.new ≡ keeping (state_at frames h self.old) (state_at frames h after.now) }
+    {
+        let ps = self.special.ps_fields();
+        self.special = after.special;
+        self.special.set_ps_fields(ps);
+        self.waits = after.waits;
+    }
+
+    /// The 16 visible registers.
+    pub fn seen(&self) -> Seen
+        ensures { result ≡ self.now.seen }
+    {
+        self.seen
+    }
+
+    /// PS.
+    pub fn ps(&self) -> Ps
+        ensures value { result ≡ self.now.control.ps }
+        ensures range { IsPs result }
+    {
+        self.special.ps_fields()
     }
 
     /// The program counter.
@@ -265,17 +317,20 @@ impl View {
 
     fn raise(&mut self, cause: u8, addr: Option<u32>) -> Step
         requires { cause < 64 }
-        ensures { (frames : List Frame) → turn_as result frames self.new ≡ raised cause addr (state_at frames self.old) }
+        ensures turn { (frames : List Frame) (h : Holes) → turn_as result frames h self.new ≡ raised cause addr (state_at frames h self.old) }
+        ensures write { IsProperWrite IsAny result.write }
     {
         self.pc = xt_exc::general(&mut self.special, self.pc, cause, addr);
         self.tick();
         without_access(StepKind::Exc(cause), None)
     }
 
-    fn interrupt(&mut self, level: u8) -> Step
+    /// Takes an interrupt.
+    pub fn interrupt(&mut self, level: u8) -> Step
         requires low { 1 ≤ level }
         requires high { level ≤ 5 }
-        ensures { (frames : List Frame) → turn_as result frames self.new ≡ in_frame (settled_interrupt level self.old.control) 0 (state_at frames self.old) }
+        ensures turn { (frames : List Frame) (h : Holes) → turn_as result frames h self.new ≡ in_frame (settled_interrupt level self.old.control) 0 (state_at frames h self.old) }
+        ensures write { IsProperWrite IsAny result.write }
     {
         self.pc = xt_exc::interrupt(&mut self.special, self.pc, level);
         self.waits = false;
@@ -284,7 +339,8 @@ impl View {
     }
 
     fn wait(&mut self) -> Step
-        ensures { (frames : List Frame) → turn_as result frames self.new ≡ in_frame (settled_wait self.old.control) 0 (state_at frames self.old) }
+        ensures turn { (frames : List Frame) (h : Holes) → turn_as result frames h self.new ≡ in_frame (settled_wait self.old.control) 0 (state_at frames h self.old) }
+        ensures write { IsProperWrite IsAny result.write }
     {
         self.tick();
         without_access(StepKind::Wait, None)
@@ -294,7 +350,8 @@ impl View {
     #[tactic(auto, unfolding(crate::specs::FrameStep::pushed))]
     fn enter(&mut self, number: u8, value: u32, len: u8) -> Step
         requires { number < 16 }
-        ensures { (frames : List Frame) → turn_as result frames self.new ≡ pushed number value len (state_at frames self.old) }
+        ensures turn { (frames : List Frame) (h : Holes) → turn_as result frames h self.new ≡ pushed number value len (state_at frames h self.old) }
+        ensures write { IsProperWrite IsAny result.write }
     {
         let by = self.special.callinc();
         let kept = kept_of(&self.seen);
@@ -314,7 +371,8 @@ impl View {
     #[tactic(auto, unfolding(crate::specs::FrameStep::popped))]
     fn leave(&mut self, a0: u32, newest: &Option<Caller>) -> Step
         requires { IsSmall newest.now }
-        ensures { (frames : List Frame) → IsNewest newest.now frames → turn_as result frames self.new ≡ popped a0 (state_at frames self.old) }
+        ensures turn { (frames : List Frame) (h : Holes) → IsNewest newest.now frames → turn_as result frames h self.new ≡ popped a0 (state_at frames h self.old) }
+        ensures write { IsProperWrite IsAny result.write }
     {
         let Some(caller) = *newest else {
             return self.raise(cause::ILLEGAL_INSTRUCTION, None);
@@ -361,7 +419,8 @@ impl View {
     fn windowed(&mut self, step: WindowStep, len: u8, newest: &Option<Caller>) -> Step
         requires proper { IsProperStep step }
         requires small { IsSmall newest.now }
-        ensures { (frames : List Frame) (reply : ℕ) → IsNewest newest.now frames → turn_as result frames self.new ≡ windowed_in_frame step len reply (state_at frames self.old) }
+        ensures turn { (frames : List Frame) (h : Holes) (reply : ℕ) → IsNewest newest.now frames → turn_as result frames h self.new ≡ windowed_in_frame step len reply (state_at frames h self.old) }
+        ensures write { IsProperWrite IsAny result.write }
     {
         match step {
             WindowStep::Enters(number, value) => {
@@ -389,7 +448,8 @@ impl View {
     fn carry_out(&mut self, outcome: Outcome, len: u8, reply: u32, newest: &Option<Caller>) -> Step
         requires proper { IsProper IsAny outcome }
         requires small { IsSmall newest.now }
-        ensures { (frames : List Frame) → IsNewest newest.now frames → turn_as result frames self.new ≡ done_in_frame outcome len reply (state_at frames self.old) }
+        ensures turn { (frames : List Frame) (h : Holes) → IsNewest newest.now frames → turn_as result frames h self.new ≡ done_in_frame outcome len reply (state_at frames h self.old) }
+        ensures write { IsProperWrite IsAny result.write }
     {
         match outcome {
             Outcome::Does(e) => {
@@ -446,8 +506,9 @@ impl View {
     ) -> Step
         requires small { IsSmall newest.now }
         requires good { IsGoodFetch fetch }
-        ensures { (frames : List Frame) (f : Fetched) → IsFetched fetch f → IsNewest newest.now frames
-            → turn_as result frames self.new ≡ fetched_step f (constant_byte code.now) reply (state_at frames self.old) }
+        ensures turn { (frames : List Frame) (h : Holes) (f : Fetched) → IsFetched fetch f → IsNewest newest.now frames
+            → turn_as result frames h self.new ≡ fetched_step f (constant_byte code.now) reply (state_at frames h self.old) }
+        ensures write { IsProperWrite IsAny result.write }
     {
         match fetch {
             Fetch::Fails(addr) => self.raise(cause::FETCH_ERROR, Some(addr)),
@@ -471,8 +532,9 @@ impl View {
         requires plan { IsPlan plan (constant_byte code.now) self.old.control }
         requires small { IsSmall newest.now }
         requires good { IsGood plan }
-        ensures { (frames : List Frame) → IsNewest newest.now frames
-            → turn_as result frames self.new ≡ laid_step (constant_byte code.now) reply (state_at frames self.old) }
+        ensures turn { (frames : List Frame) (h : Holes) → IsNewest newest.now frames
+            → turn_as result frames h self.new ≡ laid_step (constant_byte code.now) reply (state_at frames h self.old) }
+        ensures write { IsProperWrite IsAny result.write }
     {
         match plan {
             Plan::Interrupt(level) => self.interrupt(level),

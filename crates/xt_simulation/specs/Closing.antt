@@ -1,12 +1,11 @@
 -- Carries a proof; nothing that a reader must believe.
 -- What a handler leaves, and that the relation holds again after it.
-use Rattle.std.specs.Prelude.{◌≡◌, ℕ, Bool, false, List, [], ◌∷◌, ◌++◌}
-use Rattle.xt_frames.specs.Breaches.{lost_of}
+use Rattle.std.specs.Prelude.{◌≡◌, ℕ, Bool, List, [], ◌∷◌, ◌++◌}
 use Rattle.xt_window.specs.Ring.{with_bit, without_bit}
 use Rattle.xt_exec.specs.State.{State}
 use Rattle.xt_frames.specs.Frames.{Frame, FrameState, moved}
 use Rattle.xt_simulation.specs.InHandlers.{Changes, Holds}
-use Rattle.xt_simulation.specs.Relation.{Plain}
+use Rattle.xt_simulation.specs.Relation.{Plain, without_epc1}
 
 -- an overflow's handler moves the oldest frame of the ring to the spilled ones
 abbrev pub SpillsKeepPlain : Type 0
@@ -16,7 +15,7 @@ SpillsKeepPlain =
     → Plain vecbase lost s f (ring ++ g ∷ []) spilled
     → Changes s t (moved spilled) g.by
     → t.start ≡ without_bit s.start (moved spilled)
-    → Plain vecbase (lost_of false) t f ring (g ∷ spilled)
+    → Plain vecbase (without_epc1 lost) t f ring (g ∷ spilled)
 
 -- an underflow's handler moves the newest of the spilled frames back into the ring
 abbrev pub FillsKeepPlain : Type 0
@@ -26,4 +25,4 @@ FillsKeepPlain =
     → Changes s t (moved rest) g.by
     → Holds t.regs g.kept (moved rest)
     → t.start ≡ with_bit s.start (moved rest)
-    → Plain vecbase (lost_of false) t f (g ∷ []) rest
+    → Plain vecbase (without_epc1 lost) t f (g ∷ []) rest

@@ -12,7 +12,8 @@ use Rattle.xt_exec.specs.Turn.{planned}
 use Rattle.xt_frames.specs.HandlerSteps.{closes}
 use Rattle.xt_frames.specs.Frames.{Frame, FrameState}
 use Rattle.xt_frames.specs.SaveAreas.{is_live}
-use Rattle.xt_frames.specs.Breaches.{lost_of, Bounds}
+use Rattle.xt_frames.specs.Breaches.{Bounds}
+use Rattle.xt_simulation.specs.Relation.{lost_at}
 use Rattle.xt_simulation.specs.Cores.{Related}
 use Rattle.xt_simulation.specs.Stretches.{InHandler}
 use Rattle.xt_stretch.specs.Symbols.{Effect}
@@ -58,11 +59,11 @@ pub record Handling
     (code : ℕ → ℕ) (b : Bounds) (m : MemoryContents) (s : State) (f : FrameState)
     (before : State) (opened : ℕ → ℕ) : Type 0 where
   pub side : Side
-  pub lost : ℕ → Bool
+  pub fresh : Bool
   pub front : List Frame
   pub g : Frame
   pub rest : List Frame
-  pub begins : Begins side opened b lost before f front g rest
+  pub begins : Begins side opened b (lost_at fresh f) before f front g rest
   pub moves : 0 < g.by
   pub within : g.by ≤ 3
   pub low : before.control.ps.excm ≡ false
@@ -87,8 +88,8 @@ pub record Handling
 -- the relation after it
 abbrev pub Settles :
     Side → (ℕ → ℕ) → Bounds → State → FrameState → List Frame → Frame → List Frame → Type 0
-Settles Overflow m b t f front g rest = Related m b (lost_of false) t f front (g ∷ rest)
-Settles Underflow m b t f front g rest = Related m b (lost_of false) t f (g ∷ []) rest
+Settles Overflow m b t f front g rest = Related m b (lost_at false f) t f front (g ∷ rest)
+Settles Underflow m b t f front g rest = Related m b (lost_at false f) t f (g ∷ []) rest
 
 -- one handler step: the handler goes on, and has changed live bytes of its own core alone; or the
 -- stretch ends
@@ -102,7 +103,7 @@ pub data HandlerStep
       → HandlerStep code b m s f before opened
   closes_stretch : closes code (planned code s).kind s.control.pc ≡ true
       → MovesFrame b f before (state_now code m s) opened (byte_at m)
-      → Somewhere (byte_at m) b (lost_of false) (state_now code m s) f
+      → Somewhere (byte_at m) b (lost_at false f) (state_now code m s) f
       → memory_now code m s ≡ m
       → StoresAlone b f before s opened (byte_at m) (byte_at (memory_now code m s))
       → HandlerStep code b m s f before opened

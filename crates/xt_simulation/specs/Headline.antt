@@ -19,7 +19,8 @@ use Rattle.xt_frames.specs.Verdict.{Judgement, judgement, opening_known, IsFrame
 use Rattle.xt_stretch.specs.declared.Side.TheVariants.{Overflow, Underflow}
 use Rattle.xt_stretch.specs.declared.HandlerVerdict.TheVariants.{Yes}
 use Rattle.xt_handlers.specs.Vectors.{verdict_of, Handlers}
-use Rattle.xt_simulation.specs.Walking.{World, walked, KeepsStretches, IsWorldRun, Apart}
+use Rattle.xt_simulation.specs.Walking.{World, walked, GivesBack, KeepsStretches}
+use Rattle.xt_simulation.specs.Walking.{IsWorldRun, Apart}
 use Rattle.xt_simulation.specs.Opening.{Openings, IsOpening, bounds0, bounds1, state0, state1}
 use Rattle.xt_simulation.specs.Opening.{frame0, frame1, memory_of, frame_of, opening_world}
 use Rattle.xt_simulation.specs.Opening.{openings_of, IsRunnable}
@@ -61,6 +62,15 @@ StretchesMoveFrames =
     → walked code (bounds0 o) (bounds1 o) cores (Some (opening_world o)) ≡ Some w
     → KeepsStretches code (bounds0 o) w.memory w.core0
     × KeepsStretches code (bounds1 o) w.memory w.core1
+
+-- where a core's next turn ends a nested interrupt, the window handler goes on as it was
+abbrev pub NestedGiveBack : Type 0
+NestedGiveBack =
+    (o : Openings) (code : ℕ → ℕ) → IsCovered o code
+    → (cores : List Bool) (w : World)
+    → walked code (bounds0 o) (bounds1 o) cores (Some (opening_world o)) ≡ Some w
+    → GivesBack code (bounds0 o) (bounds1 o) 0 w.core0 w.core1 w.memory w.stale
+    × GivesBack code (bounds1 o) (bounds0 o) 1 w.core1 w.core0 w.memory w.stale
 
 -- what a run of the processor opens with
 abbrev pub opening_of : Openings → ℕ → ℕ → Opening State

@@ -1,6 +1,6 @@
 -- What a handler step and a whole stretch of them have done ('profile').
 use Rattle.std.specs.Prelude.{◌≡◌, ◌≢◌, ◌≤◌, ◌<◌, ℕ, ◌+◌, ◌*◌, ◌%◌, true, Option, Some, None}
-use Rattle.std.specs.Prelude.{List, [], ◌∷◌, ◌++◌, length, slice_index, slice_index_or}
+use Rattle.std.specs.Prelude.{List, [], ◌∷◌, ◌++◌, length, slice_index, slice_index_or, slice_set}
 use Rattle.xt_special.specs.Numbers as number
 use Rattle.xt_special.specs.Control.{Control}
 use Rattle.xt_exec.specs.State.{State}
@@ -24,6 +24,40 @@ pub record Resumes (c d : Control) : Type 0 where
   pub size : length d.special ≡ length c.special
   pub special : (k : ℕ) → k ≢ number.epc 1 → k ≢ number.interrupt → k ≢ number.ccount
       → slice_index d.special k ≡ slice_index c.special k
+
+-- The state before a stretch, with THREADPTR and the special registers as a nested step has left
+-- them, but EPC1, CCOUNT and INTERRUPT. No other step of the stretch writes any of them.
+abbrev pub special_left : List ℕ → List ℕ → List ℕ
+special_left old new =
+    slice_set
+    (slice_set
+    (slice_set new (number.epc 1) (slice_index old (number.epc 1)))
+    number.interrupt
+    (slice_index old number.interrupt))
+    number.ccount
+    (slice_index old number.ccount)
+
+abbrev pub as_left : State → State → State
+as_left before now = record before {
+  control = record before.control {
+    special = special_left before.control.special now.control.special;
+    threadptr = now.control.threadptr;
+  };
+}
+
+-- A nested interrupt that has ended leaves these as they were when it was taken, and all live bytes
+-- of its core.
+pub record LeavesHandler
+    (b : Bounds) (f : FrameState) (suspended after : State) (held now : ℕ → ℕ) : Type 0 where
+  pub seen : (i : ℕ) → i < 4
+      → visible after.regs after.base i ≡ visible suspended.regs suspended.base i
+  pub epc1 : slice_index after.control.special (number.epc 1) ≡ slice_index
+      suspended.control.special
+      (number.epc 1)
+  pub ps : after.control.ps ≡ suspended.control.ps
+  pub base : after.base ≡ suspended.base
+  pub start : after.start ≡ suspended.start
+  pub areas : (a : ℕ) → is_live b.range f a ≡ true → now a ≡ held a
 
 -- only the registers below a(4n) of window `at` may have changed
 pub record Changes (s t : State) (at n : ℕ) : Type 0 where

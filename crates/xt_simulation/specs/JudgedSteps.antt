@@ -1,6 +1,6 @@
 -- Carries a proof; nothing that a reader must believe.
 -- A judged step keeps the relation: what is said of it.
-use Rattle.std.specs.Prelude.{◌≡◌, ◌<◌, ℕ, Bool, false, None, List}
+use Rattle.std.specs.Prelude.{◌≡◌, ◌<◌, ℕ, Bool, false, None, List, []}
 use Rattle.xt_trace.specs.declared.record.StepRecord.{StepRecord}
 use Rattle.xt_fetch.specs.Code.{AreBytes}
 use Rattle.xt_exec.specs.State.{State}
@@ -9,11 +9,12 @@ use Rattle.xt_exec.specs.Turn.{planned, turn}
 use Rattle.xt_frames.specs.Frames.{Frame, FrameState, known}
 use Rattle.xt_frames.specs.FrameStep.{FrameTurn, laid_step}
 use Rattle.xt_frames.specs.HandlerSteps.{is_window}
-use Rattle.xt_frames.specs.Breaches.{lost_of, Bounds, laid_breach, fresh_after}
+use Rattle.xt_frames.specs.Breaches.{Bounds, laid_breach, fresh_after}
+use Rattle.xt_frames.specs.Nesting.{unset_after}
 use Rattle.xt_fetch.specs.Fetching.{fetched}
 use Rattle.xt_frames.specs.Stacks.{Stack}
 use Rattle.xt_simulation.specs.Stacks.{sp_under}
-use Rattle.xt_simulation.specs.Relation.{Level}
+use Rattle.xt_simulation.specs.Relation.{Level, lost_at}
 use Rattle.xt_exec.specs.Finishing.{Turn, finished}
 
 -- a turn and a frame step with one record, after which the machines are level and the same frames
@@ -31,6 +32,14 @@ pub record Steps
 abbrev pub turn_of : (ℕ → ℕ) → State → ℕ → Turn
 turn_of code s reply = finished (planned code s) reply
 
+-- and the frame step, with the special registers to which it gives numbers
+abbrev pub plain_after : (ℕ → ℕ) → ℕ → FrameState → FrameTurn
+plain_after code reply g =
+    let u = laid_step code reply g in
+    record u {
+      after = record u.after { unset = unset_after u.kind (fetched code g.control.pc) g.unset };
+    }
+
 abbrev pub fresh_turn : Bool → (ℕ → ℕ) → ℕ → State → Bool
 fresh_turn fresh code reply s =
     fresh_after fresh (planned code s).kind (fetched code s.control.pc) s.control.ps
@@ -43,13 +52,14 @@ KeepsLevel =
     (code : ℕ → ℕ) → AreBytes code
     → (b : Bounds) (fresh : Bool) (live stale : ℕ → Bool) (s : State) (g : FrameState)
     (ring spilled : List Frame) (reply : ℕ)
-    → Level b.vecbase (lost_of fresh) s g ring spilled
+    → Level b.vecbase (lost_at fresh g) s g ring spilled → g.nested ≡ None
     → IsShaped s → IsShaped (turn code s reply).1
     → (turn code s reply).0.reply ≡ reply
     → is_window (planned code s).kind ≡ false
     → laid_breach b fresh code live stale (turn code s reply).0 g ≡ None
-    → Steps b.vecbase (lost_of (fresh_turn fresh code reply s)) spilled
-    (sp_under (known g.seen 1) ring) (turn_of code s reply) (laid_step code reply g)
+    → let u = plain_after code reply g in
+    Steps b.vecbase (lost_at (fresh_turn fresh code reply s) u.after) spilled
+    (sp_under (known g.seen 1) ring) (turn_of code s reply) u
 
 -- the chain of stack pointers is the frame machine's alone
 abbrev pub KeepsStack : Type 0

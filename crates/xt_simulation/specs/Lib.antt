@@ -7,6 +7,7 @@ pub mod Stretches
 pub mod JudgedSteps
 pub mod InHandlers
 pub mod Handling
+pub mod Nested
 pub mod HandlerLaws
 pub mod Memories
 pub mod Steps

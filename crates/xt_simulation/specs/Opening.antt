@@ -1,5 +1,6 @@
 -- How both machines open ('profile').
 use Rattle.std.specs.Prelude.{◌≡◌, ◌≤◌, ◌<◌, ◌^◌, ◌%◌, ◌+◌, ◌-◌, ℕ, zero, suc, false, Option, Some}
+use Rattle.std.specs.Prelude.{None}
 use Rattle.std.specs.Prelude.{List, [], ◌∷◌, slice_index}
 use Rattle.xt_map.specs.declared.segment.Segment.{Segment}
 use Rattle.xt_map.specs.declared.contents.MemoryContents.{MemoryContents}
@@ -10,7 +11,7 @@ use Rattle.xt_trace.specs.Validity.{IsValid}
 use Rattle.xt_window.specs.Ring.{visible}
 use Rattle.xt_rows.specs.Laws.{IsWord}
 use Rattle.xt_exec.specs.State.{State, opening_state}
-use Rattle.xt_frames.specs.Frames.{FrameState, opening_frame}
+use Rattle.xt_frames.specs.Frames.{FrameState, all_set, opening_frame}
 use Rattle.xt_frames.specs.SaveAreas.{Range}
 use Rattle.xt_frames.specs.Breaches.{Bounds}
 use Rattle.xt_frames.specs.Judging.{opening_standing}
@@ -25,13 +26,19 @@ values_from f i (suc n) = Some (f i) ∷ values_from f (suc i) n
 -- the same special registers
 abbrev pub frame_of : State → FrameState
 frame_of s =
-    record { seen = values_from (visible s.regs s.base) 0 16; frames = []; control = s.control }
+    record {
+      seen = values_from (visible s.regs s.base) 0 16;
+      frames = [];
+      control = s.control;
+      unset = all_set;
+      nested = None;
+    }
 
 abbrev pub opening_core : State → Core
 opening_core s =
     record {
       state = s;
-      entered = record { before = s; opened = λ a. 0 };
+      entered = record { before = s; opened = λ a. 0; suspended = s; held = λ a. 0 };
       standing = opening_standing (frame_of s);
       judged = [];
     }

@@ -2,7 +2,7 @@
 -- The relation between the processor with windows and the machine with frames, outside handler
 -- steps.
 use Rattle.std.specs.Prelude.{◌≡◌, ◌⊎◌, ℕ, ◌+◌, ◌-◌, ◌*◌, ◌%◌, ◌<◌, ◌≤◌, Bool, true, false, None}
-use Rattle.std.specs.Prelude.{List, [], ◌∷◌, ◌++◌, slice_index, length}
+use Rattle.std.specs.Prelude.{◌==◌, ◌||◌, List, [], ◌∷◌, ◌++◌, slice_index, slice_index_or, length}
 use Rattle.xt_special.specs.Numbers as number
 use Rattle.xt_special.specs.Control.{Control, special_of}
 use Rattle.xt_exec.specs.State.{State}
@@ -11,15 +11,31 @@ use Rattle.xt_exec.specs.Turn.{planned, window_exception}
 use Rattle.xt_frames.specs.Frames.{Frame, FrameState, moved}
 use Rattle.xt_frames.specs.FrameStep.{Inputs, laid}
 use Rattle.xt_frames.specs.HandlerSteps.{is_window}
-use Rattle.xt_frames.specs.Breaches.{window_breach}
+use Rattle.xt_frames.specs.Breaches.{lost_of, window_breach}
+use Rattle.xt_frames.specs.Marks.{holds_marks}
+use Rattle.xt_frames.specs.Nesting.{nested_level}
 use Rattle.xt_frames.specs.Stacks.{AreFrames}
 use Rattle.xt_simulation.specs.Ring.{Windows}
 
--- Special registers that are equal, but for those that are lost. EPC1 alone can be: a window
--- exception writes it, which the frame machine does not see.
+-- the special registers that the frame machine does not know: EPC1, where it is lost, and those
+-- that have no number
+abbrev pub lost_at : Bool → FrameState → ℕ → Bool
+lost_at fresh f n = lost_of fresh n || slice_index_or f.unset n false
+
+-- a window exception writes EPC1, which the frame machine does not see
+abbrev pub without_epc1 : (ℕ → Bool) → ℕ → Bool
+without_epc1 lost n = lost_of false n || lost n
+
+-- a nested interrupt leaves EPC5 and EPS5 without a number, and those that hold marks
+abbrev pub can_be_lost : ℕ → Bool
+can_be_lost n =
+    n == number.epc 1
+    || (n == number.epc nested_level || (n == number.eps nested_level || holds_marks n))
+
+-- special registers that are equal, but for those that are lost
 pub record Same (lost : ℕ → Bool) (xs ys : List ℕ) : Type 0 where
   pub size : length xs ≡ length ys
-  pub only : (k : ℕ) → lost k ≡ true → k ≡ number.epc 1
+  pub only : (k : ℕ) → lost k ≡ true → can_be_lost k ≡ true
   pub at : (k : ℕ) → lost k ≡ false → slice_index xs k ≡ slice_index ys k
 
 pub record Even (lost : ℕ → Bool) (c d : Control) : Type 0 where

@@ -9,10 +9,11 @@ use Rattle.xt_special.specs.WindowExceptions.{after_window_exception}
 use Rattle.xt_window.specs.Ring.{visible, with_bit, without_bit}
 use Rattle.xt_exec.specs.State.{State}
 use Rattle.xt_frames.specs.Frames.{Frame, FrameState, moved}
-use Rattle.xt_frames.specs.Breaches.{lost_of, Bounds}
+use Rattle.xt_frames.specs.Breaches.{Bounds}
 use Rattle.xt_stretch.specs.Joined.{Finds}
 use Rattle.xt_simulation.specs.Stacks.{IsElsewhere}
 use Rattle.xt_simulation.specs.Cores.{word, Related}
+use Rattle.xt_simulation.specs.Relation.{without_epc1}
 use Rattle.xt_simulation.specs.InHandlers.{Resumes, Changes}
 
 -- the stores of an overflow of n from window w
@@ -41,7 +42,7 @@ OverflowsKeepRelated =
     → Changes s t (moved spilled) g.by
     → t.start ≡ without_bit s.start (moved spilled)
     → Stores old new s (moved spilled) g.by
-    → Related new b (lost_of false) t f ring (g ∷ spilled)
+    → Related new b (without_epc1 lost) t f ring (g ∷ spilled)
 
 abbrev pub UnderflowsKeepRelated : Type 0
 UnderflowsKeepRelated =
@@ -51,7 +52,7 @@ UnderflowsKeepRelated =
     → Changes s t (moved rest) g.by
     → t.start ≡ with_bit s.start (moved rest)
     → Loads m s t (moved rest) g.by
-    → Related m b (lost_of false) t f (g ∷ []) rest
+    → Related m b (without_epc1 lost) t f (g ∷ []) rest
 
 -- ---- PC, PS and the special registers within a stretch
 pub record InHandler (before now : Control) (base : ℕ) : Type 0 where

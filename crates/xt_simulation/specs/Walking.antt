@@ -10,25 +10,28 @@ use Rattle.xt_frames.specs.Frames.{FrameState}
 use Rattle.xt_frames.specs.SaveAreas.{Range, is_live}
 use Rattle.xt_frames.specs.Breaches.{Bounds}
 use Rattle.xt_simulation.specs.Steps.{record_now, state_now, memory_now}
-use Rattle.xt_simulation.specs.InHandlers.{MovesFrame, StoresAlone}
+use Rattle.xt_simulation.specs.InHandlers.{LeavesHandler, MovesFrame, StoresAlone, as_left}
 use Rattle.xt_map.specs.Memory.{byte_at}
 use Rattle.xt_exec.specs.Turn.{planned}
-use Rattle.xt_frames.specs.HandlerSteps.{Mode, Plain, Handles, closes}
+use Rattle.xt_frames.specs.HandlerSteps.{Mode, Plain, Handles, Nests, closes, returns}
 use Rattle.xt_frames.specs.Judging.{Standing, Seen, Handled, Judges, Breaks, step_on, seen}
-use Rattle.xt_frames.specs.Verdict.{entry_of, IsFrameTrace}
+use Rattle.xt_frames.specs.Verdict.{entry_of, is_nested, IsFrameTrace}
 
--- where a core's last window exception was entered: the state before its record, and the bytes at
--- it
+-- where a core's last window exception was entered: the state before its record, with the special
+-- registers and THREADPTR as nested steps have left them, and the bytes at it; and where its last
+-- nested interrupt was taken
 pub record Entered : Type 0 where
   pub before : State
   pub opened : ℕ → ℕ
+  pub suspended : State
+  pub held : ℕ → ℕ
 
 -- one core: its state, what the judge knows of it, and its judged records
 pub record Core : Type 0 where
   pub state : State
   pub entered : Entered
   pub standing : Standing
-  pub judged : List StepRecord
+  pub judged : List (Bool × StepRecord)
 
 pub record World : Type 0 where
   pub core0 : Core
@@ -46,8 +49,16 @@ pub record Moved : Type 0 where
 
 -- a handler step outside handler steps is the record of a window exception
 abbrev pub entered_by : Mode → State → MemoryContents → Entered → Entered
-entered_by Plain s m e = record { before = s; opened = byte_at m }
+entered_by Plain s m e = record e { before = s; opened = byte_at m }
 entered_by Handles s m e = e
+entered_by Nests s m e = e
+
+-- a judged step in the handler mode takes a nested interrupt
+abbrev pub entered_past : Mode → State → MemoryContents → State → Entered → Entered
+entered_past Plain s m next e = e
+entered_past Handles s m next e =
+    record e { before = as_left e.before next; suspended = s; held = byte_at m }
+entered_past Nests s m next e = record e { before = as_left e.before next }
 
 abbrev pub moved_by :
     Seen → ℕ → Core → MemoryContents → State → StepRecord → (ℕ → Bool) → Option Moved
@@ -64,9 +75,9 @@ moved_by (Handled standing) core mine m next rec stale = Some (record {
 moved_by (Judges standing stale_then) core mine m next rec stale = Some (record {
   mine = record {
     state = next;
-    entered = mine.entered;
+    entered = entered_past mine.standing.mode mine.state m next mine.entered;
     standing = standing;
-    judged = mine.judged ++ rec ∷ [];
+    judged = mine.judged ++ (is_nested mine.standing.mode, rec) ∷ [];
   };
   stale = stale_then;
   entries = entry_of core rec.access rec.reply;
@@ -120,9 +131,9 @@ walked code b0 b1 (c ∷ cs) (Some w) = walked code b0 b1 cs (given code b0 b1 c
 
 -- ---- a frame run
 
-abbrev pub frame_after : (ℕ → ℕ) → FrameState → List StepRecord → FrameState
+abbrev pub frame_after : (ℕ → ℕ) → FrameState → List (Bool × StepRecord) → FrameState
 frame_after code f [] = f
-frame_after code f (r ∷ rest) = frame_after code (step_on code r f).after rest
+frame_after code f (r ∷ rest) = frame_after code (step_on code r.0 r.1 f).after rest
 
 -- the judged records so far are a run of both frame machines over one memory
 pub record IsWorldRun
@@ -163,3 +174,21 @@ HandlesAlone code b m c =
 
 abbrev pub KeepsStretches : (ℕ → ℕ) → Bounds → MemoryContents → Core → Type 0
 KeepsStretches code b m c = EndsWell code b m c × HandlesAlone code b m c
+
+-- ---- nested interrupts
+
+-- where the core's next turn ends a nested interrupt and shows no breach, the window handler goes
+-- on as it was
+abbrev pub GivesBack :
+    (ℕ → ℕ) → Bounds → Bounds → ℕ → Core → Core → MemoryContents → (ℕ → Bool) → Type 0
+GivesBack code b c core mine theirs m stale =
+    (x : Moved) → move code b c core mine theirs m stale ≡ Some x
+    → mine.standing.mode ≡ Nests
+    → returns code (planned code mine.state).kind mine.state.control.pc ≡ true
+    → LeavesHandler
+    b
+    mine.standing.frame
+    mine.entered.suspended
+    x.mine.state
+    mine.entered.held
+    (byte_at m)

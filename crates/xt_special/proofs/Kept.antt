@@ -53,7 +53,7 @@ exception_kept cause c = if_kept c c.ps.excm (after_double cause None c) (after_
     (refl, two_others c.special 192 232 c.pc cause (λ e. omega arith) (λ e. omega arith))
     (refl, two_others c.special 177 232 c.pc cause (λ e. omega arith) (λ e. omega arith))
 
-pub interrupt_kept : (level : ℕ) (c : Control) → level ≤ 3 → Kept c (after_interrupt level c)
+pub interrupt_kept : (level : ℕ) (c : Control) → level ≤ 5 → Kept c (after_interrupt level c)
 unfolding after_interrupt
 interrupt_kept level c small = awake_kept (cond (eqb level 1) (after_exception interrupt_cause None c) (after_high_level level c)) (if_kept c (eqb level 1) (after_exception interrupt_cause None c) (after_high_level level c)
     (exception_kept interrupt_cause c)

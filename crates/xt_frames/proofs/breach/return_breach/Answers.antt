@@ -14,10 +14,11 @@ of_return at i len f e r = ap (λ x. fetched_return_breach x f) e ∙ cond-true 
 
 pub returns-then-is_return : goal.returns-then-is_return
 returns-then-is_return c = λ frames new.
+    let h = c.args.holes.now in
     let at : fetched (constant_byte c.args.code.now) c.args.view.now.control.pc ≡ Fetches c.in-Insn.i c.in-Insn.field-1 =
     ap (fetched (constant_byte c.args.code.now)) (sym c.pc.ensures) ∙ c.in-Insn.ensures.fetched.0 in
     c.first_shown.ensures ∙ (ap first_shown
     (row (one _ _ _ _ c.test.ensures (c.reads_none.ensures frames))
-    (row (one _ _ _ _ c.test-then-is_return.ensures (c.returns_elsewhere.ensures frames new))
-    (last (one _ _ _ _ c.test-then-is_return-2.ensures (c.has_no_caller.ensures frames c.args.view.now new)))))
-    ∙ sym (of_return (fetched (constant_byte c.args.code.now) c.args.view.now.control.pc) c.in-Insn.i c.in-Insn.field-1 (state_at frames c.args.view.now) at (sym c.is_return.ensures ∙ c.if-is_return.true)))
+    (row (one _ _ _ _ c.test-then-is_return.ensures (c.returns_elsewhere.ensures frames h new))
+    (last (one _ _ _ _ c.test-then-is_return-2.ensures (c.has_no_caller.ensures frames h c.args.view.now new)))))
+    ∙ sym (of_return (fetched (constant_byte c.args.code.now) c.args.view.now.control.pc) c.in-Insn.i c.in-Insn.field-1 (state_at frames h c.args.view.now) at (sym c.is_return.ensures ∙ c.if-is_return.true)))

@@ -1,60 +1,53 @@
-use Rattle.std.proofs.Common.{◌≡◌, ℕ, ◌<◌, Bool, None, sym, ◌∙◌, ap, subst}
+use Rattle.std.specs.Prelude.{is_some}
+use Rattle.std.proofs.Common.{◌≡◌, ◌&&◌, ℕ, Bool, true, false, not, List, Option, None, refl, sym, ◌∙◌, ap, cond, subst}
+use Rattle.std.proofs.lemmas.Bool.{and_left, and_right}
 use Rattle.xt_map.specs.Memory.{constant_byte}
 use Rattle.xt_fetch.specs.Fetching.{fetched}
-use Rattle.xt_frames.specs.Frames.{FrameState}
-use Rattle.xt_frames.specs.FrameStep.{FrameTurn, laid, laid_step}
+use Rattle.xt_frames.specs.declared.kinds.BreachKind.{BreachKind}
+use Rattle.xt_frames.specs.declared.holes.Nested.{Nested}
+use Rattle.xt_frames.specs.Frames.{FrameState, known}
+use Rattle.xt_frames.specs.FrameStep.{FrameTurn, laid}
 use Rattle.xt_frames.specs.Breaches.{fresh_after, inputs_of, laid_breach}
-use Rattle.xt_frames.specs.Parts.{state_at, turn_as}
-use Rattle.xt_frames.specs.Stacks.{Moves, Stack}
+use Rattle.xt_frames.specs.Judging.{value_in}
+use Rattle.xt_frames.specs.Nesting.{begins, current, frame_step, is_nesting}
+use Rattle.xt_frames.specs.Parts.{state_at}
+use Rattle.xt_frames.specs.Stacks.{Stack, Stays}
 use Rattle.xt_frames.specs.Walked.{bounds_of}
-use Rattle.xt_frames.proofs.StackSteps.{keeps_stack, moves_as, moves_frames}
-use Rattle.xt_frames.proofs.TestRows.{plan_ranges}
+use Rattle.xt_frames.proofs.Inside.{as_plain, fresh_begun}
+use Rattle.xt_frames.proofs.judged.judge.Goals.{else-nested-via-then-nested+else-is_nesting, else-nested-via-else-nested}
 use Rattle.xt_frames.proofs.judged.judge.Goals as goal
 
-pub returns-in-Some-clause-done : goal.returns-in-Some-clause-done
-returns-in-Some-clause-done c = λ frames live stale k.
+pub returns-then-is_nesting-clause-done : goal.returns-then-is_nesting-clause-done
+returns-then-is_nesting-clause-done c = λ frames live stale k.
     let code = constant_byte c.args.code.now in
     let rec = c.args.rec.now in
     let case = c.args.case.now in
-    let B = λ (f : FrameState). laid_breach (bounds_of case.limits) case.fresh code live stale rec f in
-    let over = c.lay.ensures frames in
-    let found = c.breach_of.ensures code frames live stale k c.plan-plan.ensures.plan (c.step-step.ensures frames k.newest) in
-    (ap B (sym over) ∙ (sym found ∙ c.in-Some.is), c.uncover.ensures c.args.view.now (inputs_of rec) frames c.covered-covered.ensures.value over)
+    let f = state_at frames c.args.holes.now c.args.view.now in
+    let inp = inputs_of rec in
+    let starts : begins c.args.nested rec.kind f ≡ true = ap (λ (b : Bool). b && (is_nesting rec.kind && not (is_some f.nested))) c.if-nested.true
+    ∙ (ap (λ (b : Bool). b && not (is_some f.nested)) (sym c.is_nesting.ensures ∙ c.if-is_nesting.true)
+    ∙ ap (λ (o : Option Nested). not (is_some o)) c.in-None.is) in
+    let none : Option BreachKind = None in
+    let B : Bool → Option BreachKind = λ b. cond b none (laid_breach (bounds_of case.limits) case.fresh code live stale rec (laid inp (current f))) in
+    let T : Bool → FrameTurn = λ b. frame_step code b (value_in rec.write) inp f in
+    let F : Bool → Bool = λ b. fresh_after case.fresh (T b).kind (fetched code (current f).control.pc) (laid inp (current f)).control.ps (current (T b).after).control.ps in
+    (ap B starts, c.begin.ensures.state frames ∙ sym (ap (λ (b : Bool). (T b).after) starts), fresh_begun case.fresh (fetched code (current f).control.pc) (laid inp (current f)) (laid inp f) ∙ sym (ap F starts))
 
-pub returns-clause-done : goal.returns-clause-done
-returns-clause-done c = λ frames live stale k.
-    let code = constant_byte c.args.code.now in
-    let rec = c.args.rec.now in
-    let case = c.args.case.now in
-    let B = λ (f : FrameState). laid_breach (bounds_of case.limits) case.fresh code live stale rec f in
-    let over = c.lay.ensures frames in
-    let turn = c.step-step.ensures frames k.newest in
-    let found = c.breach_of.ensures code frames live stale k c.plan-plan.ensures.plan turn in
-    let past = turn ∙ ap (laid_step code rec.reply) over in
-    let F : FrameTurn → FrameState → Bool = λ u g. fresh_after case.fresh u.kind (fetched code g.control.pc) g.control.ps u.after.control.ps in
-    let f = state_at frames c.args.view.now in
-    let fresh = c.fresh_after.ensures ∙ (ap (λ (u : FrameTurn). F u (state_at frames c.lay.new.self)) past ∙ ap (F (laid_step code rec.reply (laid (inputs_of rec) f))) over) in
-    (ap B (sym over) ∙ (sym found ∙ c.in_default.is), ap (λ (u : FrameTurn). u.after) past, fresh)
+pub returns-then-is_nesting-clause-kept : goal.returns-then-is_nesting-clause-kept
+returns-then-is_nesting-clause-kept c = λ frames live stale k on.
+    let limits = c.args.case.now.limits in
+    let seen : c.begin.new.view.seen ≡ c.args.view.now.seen = ap (λ (s : FrameState). s.seen) (c.begin.ensures.state frames) in
+    let P : List (Option ℕ) → Type 0 = λ xs. Stack limits.lo limits.hi xs frames in
+    (subst P (sym seen) on, Stays refl (ap (λ (xs : List (Option ℕ)). known xs 1) seen))
 
-pub returns-clause-kept : goal.returns-clause-kept
-returns-clause-kept c = λ frames live stale k on.
+pub returns-else-nested-clause-done : goal.returns-else-nested-clause-done
+returns-else-nested-clause-done c = λ frames live stale k.
     let code = constant_byte c.args.code.now in
     let rec = c.args.rec.now in
-    let case = c.args.case.now in
-    let over = c.lay.ensures frames in
-    let turn = c.step-step.ensures frames k.newest in
-    let b = bounds_of case.limits in
-    let g : FrameState = state_at frames c.lay.new.self in
-    let none : laid_breach b case.fresh code live stale rec g ≡ None = sym (c.breach_of.ensures code frames live stale k c.plan-plan.ensures.plan turn) ∙ c.in_default.is in
-    let P : FrameState → Type 0 = λ f. Stack case.limits.lo case.limits.hi f.seen f.frames in
-    let stack : P g = subst P (sym over) on in
-    let C : ℕ → Type 0 = λ n. n < 4 in
-    let calls : C g.control.ps.callinc = subst C c.callinc-by.ensures.value c.callinc-by.ensures.range in
-    let ranges = plan_ranges c.plan-plan.result code g.control c.plan-plan.ensures.plan in
-    let kept = keeps_stack code b case.fresh live stale rec g stack calls ranges none in
-    let moved = moves_frames code b case.fresh live stale rec g stack calls ranges none in
-    let after : FrameState = (turn_as c.step-step.result frames c.step-step.new.self).after in
-    let T : FrameTurn → Type 0 = λ u. P u.after in
-    let M : FrameTurn → Type 0 = λ u. Moves g u.after in
-    let G : FrameState → Type 0 = λ f. Moves f after in
-    (subst T (sym turn) kept, moves_as (inputs_of rec) (state_at frames c.args.view.now) after (subst G over (subst M (sym turn) moved)))
+    let f = state_at frames c.args.holes.now c.args.view.now in
+    let off : begins c.args.nested rec.kind f ≡ false =
+    elim c.else-nested.branch [
+      | else-nested-via-then-nested+else-is_nesting w ↦ and_right c.args.nested _ (and_left (is_nesting rec.kind) _ (sym w.is_nesting.ensures ∙ w.if-is_nesting.false))
+      | else-nested-via-else-nested w ↦ and_left c.args.nested _ w.if-nested.false
+    ] in
+    as_plain c.args.case.now code live stale c.args.nested rec f c.judge_plain.result (λ fs. state_at fs c.judge_plain.new.holes c.judge_plain.new.view) off (c.judge_plain.ensures.done frames live stale k)

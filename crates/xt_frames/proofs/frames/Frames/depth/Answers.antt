@@ -10,7 +10,7 @@ use Rattle.xt_frames.proofs.frames.Frames.depth.Goals as goal
 pub depth_of-requires : goal.depth_of-requires
 depth_of-requires c =
     let items = c.self.inside.callers.items in
-    let k = c.self.invariant.stack in
+    let k = c.self.invariant.0.stack in
     let top = k.range.top in
     let deep = chain_depth c.self.inside.limits.lo c.self.inside.limits.hi (known c.self.inside.view.seen 1) (frames_of items) k.chain in
     let l = frames_length items in
@@ -22,4 +22,4 @@ returns c =
     let items = c.self.inside.callers.items in
     let e = c.depth_of.ensures ∙ (ap length c.deref.ensures.value ∙ (sym (frames_length items) ∙ ap (λ (w : Walked). length w.state.frames) c.self.view_is)) in
     let P : Walked → Type 0 = λ w. Stack w.bounds.range.lo w.bounds.range.hi w.state.seen w.state.frames in
-    record { depth = e; stack = subst P c.self.view_is c.self.invariant.stack }
+    record { depth = e; stack = subst P c.self.view_is c.self.invariant.0.stack }

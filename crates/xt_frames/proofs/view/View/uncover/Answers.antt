@@ -7,7 +7,7 @@ use Rattle.xt_frames.proofs.Laying.{covered_by, uncovered}
 use Rattle.xt_frames.proofs.view.View.uncover.Goals as goal
 
 pub returns : goal.returns
-returns c = λ old inp frames covered over.
+returns c = λ old inp frames h covered over.
     let i = c.self.inside in
     let k = c.args.covered in
     let V : Specials → Upper = λ s. record { seen = i.seen; control = control_at i.pc i.waits s } in
@@ -16,4 +16,4 @@ returns c = λ old inp frames covered over.
     ap V (c.set_owb.ensures ∙ ap O (c.set_register-2.ensures ∙ ap I c.set_register.ensures))
     ∙ (ap (λ (v : Upper). covered_by v k) c.self.view_is
     ∙ (ap (covered_by c.args.self.now) covered
-    ∙ uncovered old c.args.self.now inp frames over))
+    ∙ uncovered old c.args.self.now inp frames h over))

@@ -1,0 +1,177 @@
+-- A step in a nested interrupt, and the step that begins one.
+use Rattle.std.proofs.Common.{◌≢◌, ◌&&◌, ◌≡◌, ℕ, ◌<◌, Bool, true, false, not, ltb, List, [], ◌∷◌, Option, Some, None, sym, ◌∙◌, refl, ap, arith, cond, subst, ltb-true}
+use Rattle.std.specs.Prelude.{Result, Ok, Err, is_some, unwrap_or}
+use Rattle.std.proofs.lemmas.Bool.{and_right, and_parts, lt-ltb}
+use Rattle.xt_isa.specs.declared.Insn.{Insn}
+use Rattle.xt_isa.specs.declared.Insn.TheVariants as insn
+use Rattle.xt_isa.specs.declared.system.System.TheVariants as system
+use Rattle.xt_isa.specs.declared.system.SpecialName.TheVariants as SpecialName
+use Rattle.xt_isa.specs.Ranges.{in_range, one_register}
+use Rattle.xt_special.specs.Interrupts.{after_interrupt, pending_of}
+use Rattle.xt_trace.specs.declared.record.StepKind.{StepKind}
+use Rattle.xt_trace.specs.declared.record.StepKind.TheVariants as kind
+use Rattle.xt_rows.specs.declared.outcome.Outcome.{Outcome}
+use Rattle.xt_rows.specs.declared.outcome.Outcome.TheVariants.{Windowed}
+use Rattle.xt_rows.specs.declared.outcome.WindowStep.{WindowStep}
+use Rattle.xt_rows.specs.declared.outcome.WindowStep.TheVariants.{Enters, Returns}
+use Rattle.xt_rows.specs.Outcomes.{outcome_at}
+use Rattle.xt_trace.specs.declared.record.StepRecord.{StepRecord}
+use Rattle.xt_fetch.specs.Fetching.{Fetched, Fetches, Fails, SpellsNothing, fetched}
+use Rattle.xt_codec.specs.Fetches.{IsFetched, IsGoodFetch}
+use Rattle.xt_codec.specs.declared.fetch.Fetch.{Fetch}
+use Rattle.xt_codec.specs.declared.fetch.Fetch.TheVariants as fetch
+use Rattle.xt_frames.specs.declared.kinds.BreachKind.{BreachKind}
+use Rattle.xt_frames.specs.declared.judged.Done.{Done}
+use Rattle.xt_frames.specs.declared.breach.Case.{Case}
+use Rattle.xt_frames.specs.declared.holes.Nested.{Nested}
+use Rattle.xt_frames.specs.Frames.{Frame, FrameState, known}
+use Rattle.xt_frames.specs.FrameStep.{FrameTurn, done_in_frame, fetched_step, laid, laid_step, popped, popped_from, pushed, windowed_in_frame}
+use Rattle.xt_frames.specs.Marks.{moved_to}
+use Rattle.xt_frames.specs.Nesting.{begins, begun, current, current_in, ends_nested, frame_step, inside, is_nesting, nested_fetched, nested_turn, plain_turn, turn_in}
+use Rattle.xt_frames.specs.Breaches.{fresh_after, inputs_of, laid_breach, writes_epc1}
+use Rattle.xt_frames.specs.Judging.{fresh_on, step_on, value_in}
+use Rattle.xt_frames.specs.Parts.{IsKindOf, IsPlan}
+use Rattle.xt_frames.specs.declared.view.Plan.{Plan}
+use Rattle.xt_frames.specs.declared.view.Plan.TheVariants as plan
+use Rattle.xt_frames.proofs.StackSteps.{step_fetches, step_taken, step_waits}
+use Rattle.xt_frames.specs.Stepped.{IsDone, found_by}
+use Rattle.xt_frames.specs.Walked.{bounds_of}
+
+-- ---- operands
+small : (n : ℕ) → one_register n ≡ true → n < 16
+unfolding one_register
+small n e = ltb-true n 16 e
+
+-- the visible register that WSR or XSR reads is there
+pub moved_range : (i : Insn) (t n : ℕ) → in_range i ≡ true → moved_to i ≡ Some (t, n) → t < 16
+unfolding moved_to
+moved_range (insn.System (system.Rsr SpecialName.Wsr s m)) t n ok e = let same : s ≡ t = ap (λ (o : Option (ℕ × ℕ)). (unwrap_or o (0, 0)).0) e in subst (λ x. x < 16) same (small s (and_parts _ _ ok).0)
+moved_range (insn.System (system.Rsr SpecialName.Xsr s m)) t n ok e = let same : s ≡ t = ap (λ (o : Option (ℕ × ℕ)). (unwrap_or o (0, 0)).0) e in subst (λ x. x < 16) same (small s (and_parts _ _ ok).0)
+moved_range _ t n ok e = absurd cc
+
+pub good_fetch : (x : Fetch) (at : Fetched) → IsFetched x at → IsGoodFetch x
+good_fetch (fetch.Insn i len) at h = h.1
+good_fetch (fetch.Fails address) at h = tt
+good_fetch fetch.Nothing at h = tt
+
+-- ---- where nothing begins, it does not matter whether the record is nested
+pub as_plain : (case : Case) (code : ℕ → ℕ) (live stale : ℕ → Bool) (nested : Bool) (rec : StepRecord) (f : FrameState) (result : Result Done BreachKind) (new : List Frame → FrameState)
+    → begins nested rec.kind f ≡ false → IsDone (found_by case code live stale false rec f) case.fresh code false rec f result new
+    → IsDone (found_by case code live stale nested rec f) case.fresh code nested rec f result new
+as_plain case code live stale nested rec f (Ok done) new e h =
+    let none : Option BreachKind = None in
+    let B : Bool → Option BreachKind = λ b. cond b none (laid_breach (bounds_of case.limits) case.fresh code live stale rec (laid (inputs_of rec) (current f))) in
+    let T : Bool → FrameTurn = λ b. frame_step code b (value_in rec.write) (inputs_of rec) f in
+    let F : Bool → Bool = λ b. fresh_after case.fresh (T b).kind (fetched code (current f).control.pc) (laid (inputs_of rec) (current f)).control.ps (current (T b).after).control.ps in
+    (ap B e ∙ h.0, h.1 ∙ sym (ap (λ b. (T b).after) e), h.2 ∙ sym (ap F e))
+as_plain case code live stale nested rec f (Err kind) new e h =
+    let none : Option BreachKind = None in
+    let B : Bool → Option BreachKind = λ b. cond b none (laid_breach (bounds_of case.limits) case.fresh code live stale rec (laid (inputs_of rec) (current f))) in
+    (ap B e ∙ h.0, h.1)
+
+-- ---- outside nested interrupts
+pub found_plain : (case : Case) (code : ℕ → ℕ) (live stale : ℕ → Bool) (rec : StepRecord) (f : FrameState) → f.nested ≡ None
+    → found_by case code live stale false rec f ≡ laid_breach (bounds_of case.limits) case.fresh code live stale rec (laid (inputs_of rec) f)
+found_plain case code live stale rec f e =
+    ap (λ (o : Option Nested). laid_breach (bounds_of case.limits) case.fresh code live stale rec (laid (inputs_of rec) (current_in o f))) e
+
+pub step_plain : (code : ℕ → ℕ) (rec : StepRecord) (f : FrameState) → f.nested ≡ None
+    → step_on code false rec f ≡ plain_turn code (inputs_of rec) f
+step_plain code rec f e = ap (λ (o : Option Nested). turn_in o code (value_in rec.write) (inputs_of rec) f) e
+
+-- ---- inside one
+no_beginning : (nested : Bool) (kind : StepKind) → (nested && (is_nesting kind && false)) ≡ false
+no_beginning nested kind = and_right nested _ (and_right (is_nesting kind) false refl)
+
+pub found_inside : (case : Case) (code : ℕ → ℕ) (live stale : ℕ → Bool) (nested : Bool) (rec : StepRecord) (f : FrameState) (x : Nested) → f.nested ≡ Some x
+    → found_by case code live stale nested rec f ≡ laid_breach (bounds_of case.limits) case.fresh code live stale rec (laid (inputs_of rec) (inside x f))
+found_inside case code live stale nested rec f x e =
+    let none : Option BreachKind = None in
+    let L : Option BreachKind = laid_breach (bounds_of case.limits) case.fresh code live stale rec (laid (inputs_of rec) (inside x f)) in
+    let B : Option Nested → Option BreachKind = λ o. cond (nested && (is_nesting rec.kind && not (is_some o))) none (laid_breach (bounds_of case.limits) case.fresh code live stale rec (laid (inputs_of rec) (current_in o f))) in
+    ap B e ∙ ap (λ (b : Bool). cond b none L) (no_beginning nested rec.kind)
+
+pub step_inside : (code : ℕ → ℕ) (nested : Bool) (rec : StepRecord) (f : FrameState) (x : Nested) → f.nested ≡ Some x
+    → step_on code nested rec f ≡ nested_turn code (value_in rec.write) (inputs_of rec) x f
+step_inside code nested rec f x e =
+    let S : Option Nested → FrameTurn = λ o. cond (nested && (is_nesting rec.kind && not (is_some o))) (begun (laid (inputs_of rec) f)) (turn_in o code (value_in rec.write) (inputs_of rec) f) in
+    ap S e ∙ ap (λ (b : Bool). cond b (begun (laid (inputs_of rec) f)) (nested_turn code (value_in rec.write) (inputs_of rec) x f)) (no_beginning nested rec.kind)
+
+insn_kind : (b : Bool) (u v : FrameTurn) (k : StepKind) → u.kind ≡ k → v.kind ≡ k → (cond b u v).kind ≡ k
+insn_kind true u v k p q = p
+insn_kind false u v k p q = q
+
+pub kind_inside : (at : Fetched) (value : ℕ) (x : Nested) (f : FrameState) (u : FrameTurn) → (nested_fetched at value x f u).kind ≡ u.kind
+kind_inside (Fetches i len) value x f u = insn_kind (ends_nested i) _ _ _ refl refl
+kind_inside (Fails address) value x f u = refl
+kind_inside SpellsNothing value x f u = refl
+
+pub fresh_inside : (fresh : Bool) (code : ℕ → ℕ) (nested : Bool) (rec : StepRecord) (f : FrameState) (x : Nested) → f.nested ≡ Some x
+    → fresh_on fresh code nested rec f ≡ (let g = laid (inputs_of rec) (inside x f) in let u = nested_turn code (value_in rec.write) (inputs_of rec) x f in
+    fresh_after fresh (laid_step code rec.reply g).kind (fetched code g.control.pc) g.control.ps (current u.after).control.ps)
+fresh_inside fresh code nested rec f x e =
+    let F : FrameTurn → FrameState → StepKind → Bool = λ u s k. fresh_after fresh k (fetched code s.control.pc) (laid (inputs_of rec) s).control.ps (current u.after).control.ps in
+    let u = nested_turn code (value_in rec.write) (inputs_of rec) x f in
+    ap (λ (u : FrameTurn). F u (current f) u.kind) (step_inside code nested rec f x e)
+    ∙ (ap (λ (o : Option Nested). F u (current_in o f) u.kind) e
+    ∙ ap (F u (inside x f)) (kind_inside (fetched code x.pc) (value_in rec.write) x f (laid_step code rec.reply (laid (inputs_of rec) (inside x f)))))
+
+-- ---- the step that begins one
+and_true : (b : Bool) → (b && true) ≡ b
+and_true true = refl
+and_true false = refl
+
+pub fresh_begun : (fresh : Bool) (at : Fetched) (f g : FrameState) → fresh ≡ fresh_after fresh (begun g).kind at f.control.ps (current (begun g).after).control.ps
+unfolding after_interrupt writes_epc1
+fresh_begun fresh at f g =
+    sym (ap (λ (b : Bool). fresh && not b) (and_right f.control.ps.excm false refl) ∙ and_true fresh)
+
+-- ---- what a planned step is
+one_not : (b : Bool) (u v : FrameTurn) → ((level : ℕ) → u.kind ≢ kind.Interrupt level) → ((level : ℕ) → v.kind ≢ kind.Interrupt level) → (level : ℕ) → (cond b u v).kind ≢ kind.Interrupt level
+one_not true u v p q = p
+one_not false u v p q = q
+
+pushed_not : (number value len : ℕ) (f : FrameState) (level : ℕ) → (pushed number value len f).kind ≢ kind.Interrupt level
+unfolding pushed
+pushed_not number value len f level = λ e. cc
+
+popped_from_not : (frames : List Frame) (a0 : ℕ) (f : FrameState) (level : ℕ) → (popped_from frames a0 f).kind ≢ kind.Interrupt level
+popped_from_not [] a0 f level = λ e. cc
+popped_from_not (g ∷ rest) a0 f level = λ e. cc
+
+popped_not : (a0 : ℕ) (f : FrameState) (level : ℕ) → (popped a0 f).kind ≢ kind.Interrupt level
+unfolding popped
+popped_not a0 f = popped_from_not f.frames a0 f
+
+windowed_not : (step : WindowStep) (len reply : ℕ) (f : FrameState) (level : ℕ) → (windowed_in_frame step len reply f).kind ≢ kind.Interrupt level
+windowed_not (Enters number value) len reply f = one_not f.control.ps.excm _ _ (λ level e. cc) (pushed_not number value len f)
+windowed_not (Returns a0) len reply f = one_not f.control.ps.excm _ _ (λ level e. cc) (popped_not a0 f)
+windowed_not _ len reply f = λ level e. cc
+
+done_not : (o : Outcome) (len reply : ℕ) (f : FrameState) (level : ℕ) → (done_in_frame o len reply f).kind ≢ kind.Interrupt level
+done_not (Windowed step) len reply f = windowed_not step len reply f
+done_not _ len reply f = λ level e. cc
+
+fetched_not : (at : Fetched) (code : ℕ → ℕ) (reply : ℕ) (f : FrameState) (level : ℕ) → (fetched_step at code reply f).kind ≢ kind.Interrupt level
+fetched_not (Fetches i len) code reply f = done_not (outcome_at code i (known f.seen) f.control) len reply f
+fetched_not (Fails address) code reply f = λ level e. cc
+fetched_not SpellsNothing code reply f = λ level e. cc
+
+pub kind_planned : (p : Plan) (code : ℕ → ℕ) (reply : ℕ) (g : FrameState) → IsPlan p code g.control → IsKindOf p (laid_step code reply g).kind
+kind_planned (plan.Interrupt level) code reply g k =
+    let is = k.0 in
+    let low = k.1 in
+    ap (λ (u : FrameTurn). u.kind) (step_taken code reply g (lt-ltb 0 (pending_of g.control) (omega (arith, is, low)))) ∙ ap kind.Interrupt is
+kind_planned plan.Waits code reply g k = ap (λ (u : FrameTurn). u.kind) (step_waits code reply g (ap (ltb 0) k.0) k.1)
+kind_planned (plan.Fetched f) code reply g k = λ level e.
+    fetched_not (fetched code g.control.pc) code reply g level (sym (ap (λ (u : FrameTurn). u.kind) (step_fetches code reply g (ap (ltb 0) k.0) k.1)) ∙ e)
+
+pub fresh_plain : (fresh : Bool) (code : ℕ → ℕ) (rec : StepRecord) (f : FrameState) → f.nested ≡ None → (laid_step code rec.reply (laid (inputs_of rec) f)).after.nested ≡ None
+    → fresh_on fresh code false rec f ≡ (let g = laid (inputs_of rec) f in let u = laid_step code rec.reply g in
+    fresh_after fresh u.kind (fetched code g.control.pc) g.control.ps u.after.control.ps)
+fresh_plain fresh code rec f e kept =
+    let F : FrameTurn → FrameState → FrameState → Bool = λ u s v. fresh_after fresh u.kind (fetched code s.control.pc) (laid (inputs_of rec) s).control.ps v.control.ps in
+    let u = plain_turn code (inputs_of rec) f in
+    ap (λ (u : FrameTurn). F u (current f) (current u.after)) (step_plain code rec f e)
+    ∙ (ap (λ (o : Option Nested). F u (current_in o f) (current u.after)) e
+    ∙ ap (λ (o : Option Nested). F u f (current_in o u.after)) kept)
