@@ -4,6 +4,7 @@
 -- between a0 to a3 and some special registers, and nothing else can be done with one. Marks are a
 -- list beside the numbers of the 16 registers, and one beside those of the special registers. Where
 -- a mark stands, there is no number.
+unfoldable pub use Rattle.xt_rows.specs.Kinds.{moved_to}
 use Rattle.std.specs.Prelude.{ℕ, Bool, false, ◌==◌, ◌&&◌, ◌||◌, nat_lt, nat_le, Option, Some}
 use Rattle.std.specs.Prelude.{None, List, ◌∷◌, is_some, replicate, slice_index_or}
 use Rattle.std.specs.Prelude.{slice_set}
@@ -65,12 +66,6 @@ marks_after mark None marks = marks
 marks_after mark (Some w) marks = slice_set marks w.reg mark
 
 -- ---- a special register that is written
-
--- WSR and XSR: the visible register that is read, and the special register that is written
-unfoldable pub moved_to : Insn → Option (ℕ × ℕ)
-moved_to (insn.System (system.Rsr SpecialName.Wsr t n)) = Some (t, n)
-moved_to (insn.System (system.Rsr SpecialName.Xsr t n)) = Some (t, n)
-moved_to _ = None
 
 -- the special register receives what the visible one holds: a number, or in a nested interrupt a
 -- mark

@@ -1,11 +1,14 @@
 -- States laws of the rows of all instructions. Public contracts also cite its ranges: those of
 -- words, numbers of registers, shift amounts and outcomes.
-use Rattle.std.specs.Prelude.{◌≡◌, ℕ, ◌<◌, ◌^◌, true, Option, Some, None}
+use Rattle.std.specs.Prelude.{◌≡◌, ◌==◌, ℕ, ◌<◌, ◌^◌, Bool, true, false, Option, Some, None}
 use Rattle.xt_isa.specs.declared.Insn.{Insn}
 use Rattle.xt_isa.specs.declared.Insn.TheVariants as insn
+use Rattle.xt_isa.specs.declared.system.System.TheVariants as system
+use Rattle.xt_isa.specs.declared.system.SpecialName.TheVariants as SpecialName
 use Rattle.xt_isa.specs.Ranges.{in_range, signed_within}
 use Rattle.xt_map.specs.Regions.{is_mapped}
 use Rattle.xt_special.specs.declared.ps.Ps.{Ps}
+use Rattle.xt_special.specs.Numbers as number
 use Rattle.xt_special.specs.Control.{Control, special_of}
 use Rattle.xt_special.specs.Shape.{IsPs, AreProperSets}
 use Rattle.xt_fetch.specs.Code.{AreBytes}
@@ -22,6 +25,7 @@ use Rattle.xt_rows.specs.declared.outcome.WindowStep.TheVariants.{Exchanges}
 use Rattle.xt_rows.specs.declared.outcome.Outcome.{Outcome}
 use Rattle.xt_rows.specs.declared.outcome.Outcome.TheVariants.{Does, Raises, Asks, Stops, Windowed}
 use Rattle.xt_rows.specs.Operands.{reads, special_reads, named}
+use Rattle.xt_rows.specs.Effects.{unchanged}
 use Rattle.xt_rows.specs.Outcomes.{outcome, outcome_at}
 
 -- ---- a row looks at nothing but the registers that it reads, PC, PS and THREADPTR
@@ -140,3 +144,25 @@ IsAny n = Unit {0}
 abbrev pub AsksWith : Effect → Outcome → Type 0
 AsksWith e (Asks access awaited rest) = rest ≡ e
 AsksWith e _ = Unit {0}
+
+-- ---- which instructions set INTLEVEL and EXCM, or wait
+
+-- WSR and XSR of PS, RSIL, WAITI and the returns
+unfoldable pub sets_mode : Insn → Bool
+sets_mode (insn.System (system.Rsr SpecialName.Wsr t n)) = n == number.ps
+sets_mode (insn.System (system.Rsr SpecialName.Xsr t n)) = n == number.ps
+sets_mode (insn.System (system.Rsil name t level)) = true
+sets_mode (insn.System (system.Rfe name)) = true
+sets_mode (insn.System (system.Rfi level)) = true
+sets_mode _ = false
+
+abbrev pub KeepsMode : Effect → Outcome → Type 0
+KeepsMode e (Does rest) =
+    (rest.ps.intlevel ≡ e.ps.intlevel) × (rest.ps.excm ≡ e.ps.excm) × (rest.waits ≡ e.waits)
+KeepsMode e _ = Unit {0}
+
+-- no row of another does
+abbrev pub ModesAreKept : Type 0
+ModesAreKept =
+    (code : ℕ → ℕ) (i : Insn) (pc x y u v : ℕ) (ps : Ps) (threadptr : ℕ) → sets_mode i ≡ false
+    → KeepsMode (unchanged ps threadptr) (outcome code i pc x y u v ps threadptr)

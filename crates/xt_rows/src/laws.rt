@@ -2,7 +2,7 @@
 #![tactic(auto)]
 
 ghost use Rattle.xt_rows.specs.Kinds.{OutcomesFit, ReadsAreNamed};
-ghost use Rattle.xt_rows.specs.Laws.{OutcomesAreProper, ReadsOnlyItsRegisters, RegistersExist};
+ghost use Rattle.xt_rows.specs.Laws.{ModesAreKept, OutcomesAreProper, ReadsOnlyItsRegisters, RegistersExist};
 
 /// A row looks at nothing but the registers that it reads, PC, PS and THREADPTR: where these are
 /// equal, its outcomes are.
@@ -32,4 +32,10 @@ pub fn outcomes_fit_their_instructions()
 /// What an instruction reads is at most the highest register that it names.
 pub fn reads_are_named()
     ensures { ReadsAreNamed }
+{}
+
+/// No instruction but WSR and XSR of PS, RSIL, WAITI and the returns changes INTLEVEL or EXCM, or
+/// waits.
+pub fn modes_are_kept()
+    ensures { ModesAreKept }
 {}
