@@ -28,3 +28,8 @@ pub mod Served
 pub mod Walk
 pub mod Positions
 pub mod Images
+pub mod Inner
+pub mod InnerRows
+pub mod InnerMarks
+pub mod Carried
+pub mod Suspended

@@ -1,0 +1,1 @@
+-- The relation of a window handler over special registers that a nested step has changed.

@@ -1,0 +1,1 @@
+-- A nested step that moves a mark: RSR, WSR or XSR between a0 to a3 and a register that can hold one.

@@ -1,0 +1,1 @@
+-- A nested step that moves no mark: both machines compute the same outcome.

@@ -1,0 +1,1 @@
+-- Nested interrupts: the step that begins one, those inside, and RFI 5.
