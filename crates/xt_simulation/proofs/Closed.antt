@@ -1,18 +1,19 @@
 -- After a handler the relation holds again, with one frame moved.
-use Rattle.std.proofs.Common.{◌≡◌, ℕ, ◌+◌, ◌-◌, ◌*◌, ◌%◌, ◌<◌, ◌≤◌, ◌≢◌, ◌⊎◌, Bool, true, false, ◌||◌, eqb, List, [], ◌∷◌, ◌++◌, Option, sym, ap, ◌∙◌, refl, arith, inl, inr, ⊎_elim, length, get_or, append_assoc}
+use Rattle.std.proofs.Common.{◌≡◌, ℕ, ◌+◌, ◌-◌, ◌*◌, ◌%◌, ◌<◌, ◌≤◌, ◌≢◌, ◌⊎◌, Bool, true, false, ◌||◌, ◌&&◌, not, eqb, List, [], ◌∷◌, ◌++◌, Option, sym, ap, ◌∙◌, refl, arith, inl, inr, ⊎_elim, length, get_or, append_assoc}
 use Rattle.std.proofs.Math.ListN.{set}
-use Rattle.xt_frames.specs.Breaches.{lost_of}
-use Rattle.xt_simulation.proofs.Evenly.{only_epc1}
-use Rattle.std.proofs.lemmas.Bool.{and_from, eq-eqb, ne_eqb, cases_eq, cases_lt, or_right, or_from, false_from_ne_true, false≢true}
+use Rattle.xt_frames.specs.Breaches.{Bounds, lost_of}
+use Rattle.std.proofs.lemmas.Bool.{and_from, and_parts, eq-eqb, ne_eqb, cases_eq, cases_lt, or_left, or_right, or_from, or_parts, or_cases, false_from_ne_true, false≢true}
 use Rattle.std.proofs.lemmas.List.{get_or-set_same, get_or-set_other, get_or_past, length-set}
 use Rattle.xt_exec.specs.State.{State}
 use Rattle.xt_frames.specs.FrameStep.{laid}
 use Rattle.xt_frames.specs.Frames.{Frame, moved, FrameState}
 use Rattle.xt_simulation.specs.Closing.{SpillsKeepPlain, FillsKeepPlain}
+use Rattle.xt_simulation.specs.Cores.{Related}
 use Rattle.xt_simulation.specs.InHandlers.{Resumes, Holds}
-use Rattle.xt_simulation.specs.Relation.{Same, Even, Plain, inputs}
+use Rattle.xt_simulation.specs.Relation.{Same, Even, Level, Plain, inputs, lost_at, without_epc1, can_be_lost}
 use Rattle.xt_simulation.specs.Ring.{stands, InRing, Windows}
 use Rattle.xt_frames.specs.Stacks.{IsFrame, AreFrames}
+use Rattle.xt_special.specs.Control.{Control}
 use Rattle.xt_special.specs.declared.ps.Ps.{Ps}
 use Rattle.xt_window.specs.Ring.{place, bit, with_bit, without_bit}
 use Rattle.xt_simulation.proofs.Modular.{one_window, bit_at_window, bit_with_same, bit_with_other, bit_without_same, bit_without_other}
@@ -85,35 +86,36 @@ overlaid_own xs ys len k which =
     rw b (get_or-set_other (set ys 234 (get_or xs 234 0)) 226 234 (get_or xs 226 0) 0 other ∙ set_own xs ys 234 len))
     which
 
-not_epc1 : (k : ℕ) → lost_of false k ≡ false → k ≢ 177
-not_epc1 k known e = false≢true (sym known ∙ and_from (eqb k 177) true (eq-eqb k 177 e) refl)
+-- EPC1 aside
+not_epc1 : (lost : ℕ → Bool) (k : ℕ) → without_epc1 lost k ≡ false → k ≢ 177
+not_epc1 lost k known e = false≢true (sym (or_parts (lost_of false k) (lost k) known).0 ∙ and_from (eqb k 177) true (eq-eqb k 177 e) refl)
 
-same_overlaid : (xs ys zs : List ℕ) (count bits : ℕ) → Same (lost_of false) xs (overlaid ys count bits) → length zs ≡ length xs → ((k : ℕ) → k ≢ 177 → k ≢ 226 → k ≢ 234 → get_or zs k 0 ≡ get_or xs k 0) → Same (lost_of false) zs (overlaid ys (get_or zs 234 0) (get_or zs 226 0))
-same_overlaid xs ys zs count bits e len same =
+can_lose : {lost : ℕ → Bool} {xs ys : List ℕ} → Same lost xs ys → (k : ℕ) → without_epc1 lost k ≡ true → can_be_lost k ≡ true
+can_lose {lost = lost} s k h = ⊎_elim
+    (λ epc. or_left (eqb k 177) _ (and_parts (eqb k 177) true epc).0)
+    (λ other. s.only k other)
+    (or_cases (lost_of false k) (lost k) h)
+
+same_overlaid : {lost : ℕ → Bool} (xs ys zs : List ℕ) (count bits : ℕ) → Same lost xs (overlaid ys count bits) → length zs ≡ length xs → ((k : ℕ) → k ≢ 177 → k ≢ 226 → k ≢ 234 → get_or zs k 0 ≡ get_or xs k 0) → Same (without_epc1 lost) zs (overlaid ys (get_or zs 234 0) (get_or zs 226 0))
+same_overlaid {lost = lost} xs ys zs count bits e len same =
     let l0 : length zs ≡ length ys = len ∙ (e.size ∙ overlaid_length ys count bits) in
     record {
       size = l0 ∙ sym (overlaid_length ys (get_or zs 234 0) (get_or zs 226 0));
-      only = only_epc1 false;
+      only = can_lose e;
       at = λ k known.
           ⊎_elim
           (λ a. sym (overlaid_own zs ys l0 k (inl a)))
           (λ not_a. ⊎_elim
           (λ b. sym (overlaid_own zs ys l0 k (inr b)))
           (λ not_b.
-          let not_epc : k ≢ 177 = not_epc1 k known in
-          same k not_epc not_a not_b ∙ (e.at k known ∙ (overlaid_other ys count bits k not_a not_b ∙ sym (overlaid_other ys (get_or zs 234 0) (get_or zs 226 0) k not_a not_b))))
+          let not_epc : k ≢ 177 = not_epc1 lost k known in
+          let before : lost k ≡ false = (or_parts (lost_of false k) (lost k) known).1 in
+          same k not_epc not_a not_b ∙ (e.at k before ∙ (overlaid_other ys count bits k not_a not_b ∙ sym (overlaid_other ys (get_or zs 234 0) (get_or zs 226 0) k not_a not_b))))
           (cases_eq k 234))
           (cases_eq k 226);
     }
 
-less_known : {lost : ℕ → Bool} {xs ys : List ℕ} → Same lost xs ys → Same (lost_of false) xs ys
-less_known {lost = lost} s = record {
-  size = s.size;
-  only = only_epc1 false;
-  at = λ k known. s.at k (false_from_ne_true (lost k) (λ h. not_epc1 k known (s.only k h)));
-}
-
-resumed : {vecbase : ℕ} {lost : ℕ → Bool} {s : State} {ring spilled : List Frame} (f : FrameState) → Plain vecbase lost s f ring spilled → (t : State) → Resumes s.control t.control → Even (lost_of false) t.control (laid (inputs 0 t) f).control
+resumed : {vecbase : ℕ} {lost : ℕ → Bool} {s : State} {ring spilled : List Frame} (f : FrameState) → Plain vecbase lost s f ring spilled → (t : State) → Resumes s.control t.control → Even (without_epc1 lost) t.control (laid (inputs 0 t) f).control
 unfolding overlaid
 resumed {s = s} f l t r =
     let e = l.even in
@@ -122,8 +124,29 @@ resumed {s = s} f l t r =
       ps = r.ps ∙ ap (λ (p : Ps). (let q : Ps = record p { owb = t.control.ps.owb } in q)) e.ps;
       threadptr = r.threadptr ∙ e.threadptr;
       waits = r.waits ∙ e.waits;
-      special = same_overlaid s.control.special f.control.special t.control.special _ _ (less_known e.special) r.size r.special;
+      special = same_overlaid s.control.special f.control.special t.control.special _ _ e.special r.size r.special;
     }
+
+-- ---- what is lost, said in another way
+pub same_lost : {lost other : ℕ → Bool} {xs ys : List ℕ} → ((k : ℕ) → other k ≡ lost k) → Same lost xs ys → Same other xs ys
+same_lost e s = record { size = s.size; only = λ k h. s.only k (sym (e k) ∙ h); at = λ k h. s.at k (sym (e k) ∙ h) }
+
+pub even_lost : {lost other : ℕ → Bool} {c d : Control} → ((k : ℕ) → other k ≡ lost k) → Even lost c d → Even other c d
+even_lost e h = record { pc = h.pc; ps = h.ps; threadptr = h.threadptr; waits = h.waits; special = same_lost e h.special }
+
+pub level_lost : {vecbase : ℕ} {lost other : ℕ → Bool} {s : State} {g : FrameState} {ring spilled : List Frame} → ((k : ℕ) → other k ≡ lost k) → Level vecbase lost s g ring spilled → Level vecbase other s g ring spilled
+level_lost e l = record { windows = l.windows; frames = l.frames; older = l.older; even = even_lost e l.even; woe = l.woe; calls = l.calls; vectors = l.vectors }
+
+pub related_lost : {m : ℕ → ℕ} {b : Bounds} {lost other : ℕ → Bool} {s : State} {f : FrameState} {ring spilled : List Frame} → ((k : ℕ) → other k ≡ lost k) → Related m b lost s f ring spilled → Related m b other s f ring spilled
+related_lost e l = record { plain = level_lost e l.plain; stack = l.stack; saved = l.saved }
+
+epc1_or : (is fresh unset : Bool) → ((is && true) || unset) ≡ ((is && true) || ((is && not fresh) || unset))
+epc1_or true fresh unset = refl
+epc1_or false fresh unset = refl
+
+-- after a window exception EPC1 is lost, whatever it was before
+pub epc1_lost : (fresh : Bool) (f : FrameState) (k : ℕ) → lost_at false f k ≡ without_epc1 (lost_at fresh f) k
+epc1_lost fresh f k = epc1_or (eqb k 177) fresh (get_or f.unset k false)
 
 or_none : (b : Bool) → (b || false) ≡ b
 or_none true = refl

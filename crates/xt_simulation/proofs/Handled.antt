@@ -1,7 +1,8 @@
 -- Inside handler steps: what holds is entered at the record of a window exception, kept by each handler step and by the other core's
 -- accesses, and left at RFWO and RFWU.
-use Rattle.std.proofs.Common.{append_assoc, ◌≡◌, ◌⊎◌, ⊎_elim, inl, inr, ℕ, ◌+◌, ◌-◌, ◌*◌, ◌%◌, ◌^◌, ◌<◌, ◌≤◌, Bool, true, false, ◌||◌, cond, leb, ltb, refl, sym, ◌∙◌, ap, arith, List, [], ◌∷◌, ◌++◌, length, get_or, subst, Some, None, Option}
-use Rattle.std.proofs.lemmas.Bool.{cases_Bool, cases_lt, or_parts, or_from, or_left, or_right, and_parts, cond-true, cond-false, false≢true, false_from_ne_true, leb-true, ltb-true}
+use Rattle.std.proofs.Common.{append_assoc, ◌≡◌, ◌⊎◌, ⊎_elim, inl, inr, ℕ, ◌+◌, ◌-◌, ◌*◌, ◌%◌, ◌^◌, ◌<◌, ◌≤◌, Bool, true, false, ◌||◌, ◌&&◌, cond, leb, ltb, refl, sym, ◌∙◌, ap, arith, List, [], ◌∷◌, ◌++◌, length, get_or, subst, Some, None, Option}
+use Rattle.std.proofs.lemmas.Bool.{le-ltb, cases_Bool, cases_lt, or_parts, or_from, or_left, or_right, and_parts, cond-true, cond-false, false≢true, false_from_ne_true, leb-true, ltb-true}
+use Rattle.std.specs.Prelude.{max}
 use Rattle.xt_isa.specs.declared.Insn.{Insn}
 use Rattle.xt_isa.specs.declared.Insn.TheVariants as insn
 use Rattle.xt_isa.specs.declared.system.System.TheVariants as system
@@ -15,28 +16,29 @@ use Rattle.xt_special.specs.declared.ps.Ps.{Ps}
 use Rattle.xt_special.specs.Numbers as number
 use Rattle.xt_special.specs.Control.{special_of}
 use Rattle.xt_special.specs.Timers.{ticked}
-use Rattle.xt_special.specs.Interrupts.{pending_of}
+use Rattle.xt_special.specs.Interrupts.{pending_level, pending_of}
 use Rattle.xt_window.specs.Ring.{place, visible, with_bit, without_bit}
 use Rattle.xt_trace.specs.declared.record.StepKind.TheVariants as kind
 use Rattle.xt_fetch.specs.Fetching.{Fetches, fetched, can_fetch, read_as}
+use Rattle.xt_exec.proofs.Finished.{turn_taken}
 use Rattle.xt_exec.specs.State.{State}
 use Rattle.xt_exec.specs.Laws.{IsShaped}
 use Rattle.xt_exec.specs.Turn.{Planned, planned, demand, turn, window_exception}
 use Rattle.xt_frames.specs.Frames.{Frame, FrameState, moved}
 use Rattle.xt_frames.specs.FrameStep.{laid}
 use Rattle.xt_frames.specs.SaveAreas.{sp_of, touches, is_live}
-use Rattle.xt_frames.specs.Breaches.{lost_of, Bounds, window_breach}
+use Rattle.xt_frames.specs.Breaches.{Bounds, window_breach}
+use Rattle.xt_frames.specs.Nesting.{is_nesting}
 use Rattle.xt_frames.specs.HandlerSteps.{is_window, closes, fetched_ends, ends_stretch}
 use Rattle.xt_frames.specs.Stacks.{Stack}
 use Rattle.xt_simulation.specs.Relation as relation
-use Rattle.xt_simulation.specs.Relation.{inputs}
+use Rattle.xt_simulation.specs.Relation.{inputs, lost_at, without_epc1}
 use Rattle.xt_simulation.specs.InHandlers.{Changes, Holds, start_of, Untouched, Stretch, MovesFrame, StoresAlone, above}
 use Rattle.xt_simulation.specs.Cores.{word, Related}
 use Rattle.xt_simulation.specs.Stretches as stretches
-use Rattle.xt_simulation.specs.Stretches.{InHandler}
 use Rattle.xt_simulation.proofs.Chains.{related_spared}
 use Rattle.xt_map.proofs.Alike.{touched_at}
-use Rattle.xt_simulation.proofs.Closed.{in_ring_end}
+use Rattle.xt_simulation.proofs.Closed.{in_ring_end, related_lost, epc1_lost}
 use Rattle.xt_simulation.proofs.Windowed.{enters_window, visible_value}
 use Rattle.xt_simulation.proofs.Stretched.{overflows_keep_related, underflows_keep_related, stretches_begin, stretches_go_on, stretches_end, oldest, newest_of}
 use Rattle.xt_stretch.specs.Symbols.{Effect, applied, opening}
@@ -64,8 +66,38 @@ use Rattle.xt_simulation.specs.Handling.{machine, InDram, Somewhere, Begins, Han
 use Rattle.xt_simulation.specs.HandlerLaws.{StretchesAreEntered, HandlerStepsAreKept, HandlersAreSpared}
 use Rattle.xt_fetch.specs.Code.{AreBytes}
 use Rattle.xt_simulation.proofs.Fetched.{byte_is as fetched_byte, bytes_length, byte_small, fetched_is, step_is, vector_fetches, vector_handles, fetch_small, length_is}
-use Rattle.xt_simulation.proofs.Turns.{quiet, Shown, shown, turned, Turned, load, store, wide_nop, narrow_nop, ends_overflow, ends_underflow, other, Ended, ends_with_rfwo, ends_with_rfwu}
+use Rattle.xt_simulation.proofs.Turns.{Shown, shown, turned, Turned, load, store, wide_nop, narrow_nop, ends_overflow, ends_underflow, other, Ended, ends_with_rfwo, ends_with_rfwu}
 use Rattle.xt_simulation.proofs.Begun.{Found, found, stack_of, own_live, same_visible}
+
+-- ---- interrupts in exception mode
+-- the level, where those up to 3 are masked
+abbrev masked : Bool → Bool → Bool → ℕ
+masked a b c = cond a 5 (cond (b && false) 3 (cond (c && false) 1 0))
+
+five_or_none : (a b c : Bool) → (masked a b c ≡ 0) ⊎ (masked a b c ≡ 5)
+five_or_none true b c = inr refl
+five_or_none false true true = inl refl
+five_or_none false true false = inl refl
+five_or_none false false true = inl refl
+five_or_none false false false = inl refl
+
+masked_level : (interrupt enabled : ℕ) (ps : Ps) → ps.excm ≡ true → (pending_level interrupt enabled ps ≡ 0) ⊎ (pending_level interrupt enabled ps ≡ 5)
+unfolding pending_level
+masked_level interrupt enabled ps e =
+    let three : ltb (max ps.intlevel 3) 3 ≡ false = le-ltb (max ps.intlevel 3) 3 (omega arith) in
+    let one : ltb (max ps.intlevel 3) 1 ≡ false = le-ltb (max ps.intlevel 3) 1 (omega arith) in
+    rw (e, three, one) (five_or_none _ _ _)
+
+nesting_taken : (code : ℕ → ℕ) (s : State) → pending_of s.control ≡ 5 → is_nesting (planned code s).kind ≡ true
+nesting_taken code s five =
+    let taken : ltb 0 (pending_of s.control) ≡ true = rw five refl in
+    ap (λ (p : Planned). is_nesting p.kind) (turn_taken code s taken) ∙ rw five refl
+
+untaken : (code : ℕ → ℕ) (s : State) → s.control.ps.excm ≡ true → is_nesting (planned code s).kind ≡ false → ltb 0 (pending_of s.control) ≡ false
+untaken code s low calm = ⊎_elim
+    (λ (none : pending_of s.control ≡ 0). rw none refl)
+    (λ (five : pending_of s.control ≡ 5). absurd (false≢true (sym calm ∙ nesting_taken code s five)))
+    (masked_level (special_of s.control number.interrupt) (special_of s.control number.intenable) s.control.ps low)
 
 -- ---- the handler's state, where another memory has the same bytes
 same_bytes : (side : Side) (n : ℕ) (start : Machine) (old new : ℕ → ℕ) → ((a : ℕ) → new a ≡ old a) → Spares side n start old new
@@ -277,7 +309,7 @@ module _ (b : Bounds) (lost : ℕ → Bool) (before t : State) (f : FrameState) 
       top_large : 16 * g.by ≤ over_top
       top_large = let t = (oldest b f front g rest opened l).top in let large = r.chain.0.large in omega arith
 
-  pub over_end : Changes before t (moved rest) g.by → t.start ≡ without_bit before.start (moved rest) → Related now b (lost_of false) t f front (g ∷ rest)
+  pub over_end : Changes before t (moved rest) g.by → t.start ≡ without_bit before.start (moved rest) → Related now b (without_epc1 lost) t f front (g ∷ rest)
   unfolding new_bytes
   over_end changes bits =
       let middle = overflows_keep_related b lost before t f front g rest opened new_bytes l changes bits stored in
@@ -305,13 +337,30 @@ module _ (b : Bounds) (lost : ℕ → Bool) (before t : State) (f : FrameState) 
             sym (same_visible t.regs (moved rest) i) ∙ (loaded i k ∙ ap (word opened) (save_high Underflow g.by i (start_of before opened rest) r.frames big_i k ∙ ap (λ x. x - 16 * g.by + 4 * (i - 4)) top));
       }
 
-  pub under_end : Changes before t (moved rest) g.by → t.start ≡ with_bit before.start (moved rest) → Related now b (lost_of false) t f (g ∷ []) rest
+  pub under_end : Changes before t (moved rest) g.by → t.start ≡ with_bit before.start (moved rest) → Related now b (without_epc1 lost) t f (g ∷ []) rest
   under_end changes bits = related_spared opened now b f kept (underflows_keep_related b lost before t f g rest opened l changes bits under_loads)
 
 -- ---- what a whole stretch has done
-pub somewhere_of : (side : Side) (m : ℕ → ℕ) (b : Bounds) (t : State) (f : FrameState) (front : List Frame) (g : Frame) (rest : List Frame) → Settles side m b t f front g rest → Somewhere m b (lost_of false) t f
+pub somewhere_of : (side : Side) (m : ℕ → ℕ) (b : Bounds) (t : State) (f : FrameState) (front : List Frame) (g : Frame) (rest : List Frame) → Settles side m b t f front g rest → Somewhere m b (lost_at false f) t f
 somewhere_of Overflow m b t f front g rest l = record { ring = front; spilled = g ∷ rest; related = l }
 somewhere_of Underflow m b t f front g rest l = record { ring = g ∷ []; spilled = rest; related = l }
+
+-- where a stretch began, as one relation for both sides
+abbrev pub ring_at : Side → List Frame → Frame → List Frame
+ring_at Overflow front g = front ++ g ∷ []
+ring_at Underflow front g = []
+
+abbrev pub spilled_at : Side → Frame → List Frame → List Frame
+spilled_at Overflow g rest = rest
+spilled_at Underflow g rest = g ∷ rest
+
+pub related_at : (side : Side) (m : ℕ → ℕ) (b : Bounds) (lost : ℕ → Bool) (s : State) (f : FrameState) (front : List Frame) (g : Frame) (rest : List Frame) → Begins side m b lost s f front g rest → Related m b lost s f (ring_at side front g) (spilled_at side g rest)
+related_at Overflow m b lost s f front g rest l = l
+related_at Underflow m b lost s f front g rest l = l
+
+pub begins_from : (side : Side) (m : ℕ → ℕ) (b : Bounds) (lost : ℕ → Bool) (s : State) (f : FrameState) (front : List Frame) (g : Frame) (rest : List Frame) → Related m b lost s f (ring_at side front g) (spilled_at side g rest) → Begins side m b lost s f front g rest
+begins_from Overflow m b lost s f front g rest l = l
+begins_from Underflow m b lost s f front g rest l = l
 
 frames_at : (side : Side) (m : ℕ → ℕ) (b : Bounds) (lost : ℕ → Bool) (s : State) (f : FrameState) (front : List Frame) (g : Frame) (rest : List Frame) → Begins side m b lost s f front g rest → f.frames ≡ above side front ++ g ∷ rest
 frames_at Overflow m b lost s f front g rest l = l.plain.frames ∙ append_assoc front (g ∷ []) rest
@@ -360,22 +409,22 @@ moves_frame side b m before after opened f front g rest lost begins settles stre
 
 module _ (code : ℕ → ℕ) (constant : (a : ℕ) → code a < 2 ^ 8) (b : Bounds) (dram : InDram b) (aligned : b.vecbase % 2 ^ 10 ≡ 0) (handlers : Handlers code b.vecbase) where
   -- ---- the record of a window exception
-  entered : (side : Side) (m : MemoryContents) (lost : ℕ → Bool) (s : State) (f : FrameState) (front : List Frame) (g : Frame) (rest : List Frame) → Begins side (byte_at m) b lost s f front g rest → special_of s.control number.vecbase ≡ b.vecbase
+  entered : (side : Side) (m : MemoryContents) (fresh : Bool) (s : State) (f : FrameState) (front : List Frame) (g : Frame) (rest : List Frame) → Begins side (byte_at m) b (lost_at fresh f) s f front g rest → special_of s.control number.vecbase ≡ b.vecbase
       → 0 < g.by → g.by ≤ 3 → s.control.ps.excm ≡ false → s.control.waits ≡ false → IsShaped s → planned code s ≡ window_exception (vector_number side g.by) (moved rest % 16) s
       → (demand code s ≡ None) × Handling code b m (state_now code m s) f s (byte_at m)
   unfolding demand turn
-  entered side m lost s f front g rest begins vectors moves within low running shaped is =
+  entered side m fresh s f front g rest begins vectors moves within low running shaped is =
       let start = start_of s (byte_at m) rest in
       let d : demand code s ≡ None = ap (λ (p : Planned). p.access) is in
       let t : state_now code m s ≡ (window_exception (vector_number side g.by) (moved rest % 16) s).after = (rw is refl) in
-      let r : Found side (byte_at m) b s f front g rest = found side b lost s f front g rest (byte_at m) dram shaped moves within begins in
+      let r : Found side (byte_at m) b s f front g rest = found side b (lost_at fresh f) s f front g rest (byte_at m) dram shaped moves within begins in
       let long : number.epc 1 < length s.control.special = (let c = shaped.control.count in omega arith) in
       let answered = handlers side g.by moves (omega arith) in
       let P : State → Type 0 = λ t. Handling code b m t f s (byte_at m) in (
         d,
         subst P (sym t) (record {
           side = side;
-          lost = lost;
+          fresh = fresh;
           front = front;
           g = g;
           rest = rest;
@@ -397,22 +446,22 @@ module _ (code : ℕ → ℕ) (constant : (a : ℕ) → code a < 2 ^ 8) (b : Bou
         }),
       )
 
-  pub begins_at : (m : MemoryContents) (lost : ℕ → Bool) (s : State) (f : FrameState) (ring spilled : List Frame) (reply : ℕ) → Related (byte_at m) b lost s f ring spilled → IsShaped s → is_window (planned code s).kind ≡ true
+  pub begins_at : (m : MemoryContents) (fresh : Bool) (s : State) (f : FrameState) (ring spilled : List Frame) (reply : ℕ) → Related (byte_at m) b (lost_at fresh f) s f ring spilled → IsShaped s → is_window (planned code s).kind ≡ true
       → window_breach code (planned code s).kind (laid (inputs reply s) f) ≡ None → (demand code s ≡ None) × Handling code b m (state_now code m s) f s (byte_at m)
-  begins_at m lost s f ring spilled reply l shaped window none =
+  begins_at m fresh s f ring spilled reply l shaped window none =
       ⊎_elim
       (λ (o : relation.Overflows code s ring spilled).
-      entered Overflow m lost s f o.front o.g spilled (subst (λ r. Related (byte_at m) b lost s f r spilled) o.last l) l.plain.vectors o.moves o.within o.low o.running shaped o.is)
+      entered Overflow m fresh s f o.front o.g spilled (subst (λ r. Related (byte_at m) b (lost_at fresh f) s f r spilled) o.last l) l.plain.vectors o.moves o.within o.low o.running shaped o.is)
       (λ (u : relation.Underflows code s ring spilled).
-      entered Underflow m lost s f [] u.g u.rest (subst (λ r. Related (byte_at m) b lost s f [] r) u.older (subst (λ r. Related (byte_at m) b lost s f r spilled) u.empty l)) l.plain.vectors u.moves u.within u.low u.running shaped u.is)
-      (enters_window b.vecbase code lost s f ring spilled reply l.plain shaped window none)
+      entered Underflow m fresh s f [] u.g u.rest (subst (λ r. Related (byte_at m) b (lost_at fresh f) s f [] r) u.older (subst (λ r. Related (byte_at m) b (lost_at fresh f) s f r spilled) u.empty l)) l.plain.vectors u.moves u.within u.low u.running shaped u.is)
+      (enters_window b.vecbase code (lost_at fresh f) s f ring spilled reply l.plain shaped window none)
 
   module _ {m : MemoryContents} {s : State} {f : FrameState} {before : State} {opened : ℕ → ℕ} (h : Handling code b m s f before opened) where
     at_start : Found h.side opened b before f h.front h.g h.rest
-    at_start = found h.side b h.lost before f h.front h.g h.rest opened dram h.shaped h.moves h.within h.begins
+    at_start = found h.side b (lost_at h.fresh f) before f h.front h.g h.rest opened dram h.shaped h.moves h.within h.begins
 
     pub handling_stack : Stack b.range.lo b.range.hi f.seen f.frames
-    handling_stack = stack_of h.side b h.lost before f h.front h.g h.rest opened h.begins
+    handling_stack = stack_of h.side b (lost_at h.fresh f) before f h.front h.g h.rest opened h.begins
 
     abbrev n : ℕ
     n = h.g.by
@@ -426,15 +475,27 @@ module _ (code : ℕ → ℕ) (constant : (a : ℕ) → code a < 2 ^ 8) (b : Bou
     answered : verdict_of code b.vecbase h.side n ≡ Yes
     answered = handlers h.side n h.moves (let w = h.within in omega arith)
 
-    low_now : s.control.ps.excm ≡ true
+    pub low_now : s.control.ps.excm ≡ true
     low_now = let e = h.control.ps in rw e refl
 
-    -- in exception mode no interrupt up to level 3 is taken
-    pub untaken_now : ltb 0 (pending_of s.control) ≡ false
-    untaken_now = quiet s.control low_now
+    -- the judge takes an interrupt of level 5 as a nested one; the others are masked
+    pub untaken_now : is_nesting (planned code s).kind ≡ false → ltb 0 (pending_of s.control) ≡ false
+    untaken_now calm = untaken code s low_now calm
 
-    running_now : s.control.waits ≡ false
+    pub running_now : s.control.waits ≡ false
     running_now = h.control.waits ∙ h.running
+
+    related_before : Related opened b (lost_at h.fresh f) before f (ring_at h.side h.front h.g) (spilled_at h.side h.g h.rest)
+    related_before = related_at h.side opened b (lost_at h.fresh f) before f h.front h.g h.rest h.begins
+
+    pub woe_now : s.control.ps.woe ≡ true
+    woe_now = ap (λ (p : Ps). p.woe) h.control.ps ∙ related_before.plain.woe
+
+    pub calls_now : s.control.ps.callinc < 4
+    calls_now = let e : s.control.ps.callinc ≡ before.control.ps.callinc = ap (λ (p : Ps). p.callinc) h.control.ps in rw e related_before.plain.calls
+
+    pub vectors_now : special_of s.control number.vecbase ≡ b.vecbase
+    vectors_now = h.control.special 231 (λ e. omega arith) (λ e. omega arith) (λ e. omega arith) ∙ related_before.plain.vectors
 
     turn_here : Turns h.side n start (vector_bytes code vector) h.offset h.effect h.flags (machine m s)
     turn_here = turns h.side n start (vector_bytes code vector) h.offset h.effect h.flags (machine m s) (room_from h.side n start at_start.frames) (bytes_length code vector 64) (λ i. byte_small code vector 64 i constant) h.stands h.handles
@@ -507,7 +568,7 @@ module _ (code : ℕ → ℕ) (constant : (a : ℕ) → code a < 2 ^ 8) (b : Bou
         let P : State → Type 0 = λ x. Handling code b (memory_now code m s) x f before opened in
         subst P (sym t.after) (record {
           side = h.side;
-          lost = h.lost;
+          fresh = h.fresh;
           front = h.front;
           g = h.g;
           rest = h.rest;
@@ -560,25 +621,25 @@ module _ (code : ℕ → ℕ) (constant : (a : ℕ) → code a < 2 ^ 8) (b : Bou
       over_ends : h.side ≡ Overflow → has_effect h.side n h.effect ≡ true → Ended code m s low_now untaken running_now len (without_bit s.start s.base) → Settles h.side (byte_at m) b (state_now code m s) f h.front h.g h.rest
       over_ends e has x =
           let d = done h.side n start h.effect h.flags (machine m s) (let w = h.within in omega arith) h.stands has in
-          let l : Begins Overflow opened b h.lost before f h.front h.g h.rest = subst (λ z. Begins z opened b h.lost before f h.front h.g h.rest) e h.begins in
+          let l : Begins Overflow opened b (lost_at h.fresh f) before f h.front h.g h.rest = subst (λ z. Begins z opened b (lost_at h.fresh f) before f h.front h.g h.rest) e h.begins in
           let r : Found Overflow opened b before f h.front h.g h.rest = subst (λ z. Found z opened b before f h.front h.g h.rest) e at_start in
           let kept : (a : ℕ) → is_live b.range f a ≡ true → IsElsewhere n start a → byte_at m a ≡ opened a = λ a live away. h.kept a live (subst (λ z. Untouched z n start a) (sym e) away) in
           let bits : without_bit s.start s.base ≡ without_bit before.start (moved h.rest) = (let p = h.bits in let q = base_is in rw (p, q) (without_same before.start (moved h.rest))) in
           let P : State → Type 0 = λ t. Settles Overflow (byte_at m) b t f h.front h.g h.rest in
           let Q : Side → Type 0 = λ z. Settles z (byte_at m) b (state_now code m s) f h.front h.g h.rest in
-          subst Q (sym e) (subst P (sym x.after) (over_end b h.lost before _ f h.front h.g h.rest opened (byte_at m) r l (d.saved e) kept (changes_from (without_bit s.start s.base) d) bits))
+          subst Q (sym e) (subst P (sym x.after) (related_lost (epc1_lost h.fresh f) (over_end b (lost_at h.fresh f) before _ f h.front h.g h.rest opened (byte_at m) r l (d.saved e) kept (changes_from (without_bit s.start s.base) d) bits)))
 
       under_ends : h.side ≡ Underflow → has_effect h.side n h.effect ≡ true → Ended code m s low_now untaken running_now len (with_bit s.start s.base) → Settles h.side (byte_at m) b (state_now code m s) f h.front h.g h.rest
       under_ends e has x =
           let d = done h.side n start h.effect h.flags (machine m s) (let w = h.within in omega arith) h.stands has in
-          let l : Begins Underflow opened b h.lost before f h.front h.g h.rest = subst (λ z. Begins z opened b h.lost before f h.front h.g h.rest) e h.begins in
+          let l : Begins Underflow opened b (lost_at h.fresh f) before f h.front h.g h.rest = subst (λ z. Begins z opened b (lost_at h.fresh f) before f h.front h.g h.rest) e h.begins in
           let r : Found Underflow opened b before f h.front h.g h.rest = subst (λ z. Found z opened b before f h.front h.g h.rest) e at_start in
           let kept : (a : ℕ) → is_live b.range f a ≡ true → byte_at m a ≡ opened a = λ a live. h.kept a live (subst (λ z. Untouched z n start a) (sym e) tt) in
           let bits : with_bit s.start s.base ≡ with_bit before.start (moved h.rest) = (let p = h.bits in let q = base_is in rw (p, q) (with_same before.start (moved h.rest))) in
           let loaded : (k : ℕ) → k < 4 * n → visible s.regs (moved h.rest % 16) k ≡ word_at opened (address_of start (save_word Underflow n k)) = λ k l. ap (λ x. visible s.regs x k) (sym base_is) ∙ d.loaded e k l in
           let P : State → Type 0 = λ t. Settles Underflow (byte_at m) b t f h.front h.g h.rest in
           let Q : Side → Type 0 = λ z. Settles z (byte_at m) b (state_now code m s) f h.front h.g h.rest in
-          subst Q (sym e) (subst P (sym x.after) (under_end b h.lost before _ f h.front h.g h.rest opened (byte_at m) r l loaded kept (changes_from (with_bit s.start s.base) d) bits))
+          subst Q (sym e) (subst P (sym x.after) (related_lost (epc1_lost h.fresh f) (under_end b (lost_at h.fresh f) before _ f h.front h.g h.rest opened (byte_at m) r l loaded kept (changes_from (with_bit s.start s.base) d) bits)))
 
       over_stretch : h.side ≡ Overflow → has_effect h.side n h.effect ≡ true → Ended code m s low_now untaken running_now len (without_bit s.start s.base) → Stretch h.side n before (state_now code m s) opened (byte_at m) h.rest
       over_stretch e has x =
@@ -636,7 +697,7 @@ module _ (code : ℕ → ℕ) (constant : (a : ℕ) → code a < 2 ^ 8) (b : Bou
       front = h.front;
       g = h.g;
       rest = h.rest;
-      frames = frames_at h.side opened b h.lost before f h.front h.g h.rest h.begins;
+      frames = frames_at h.side opened b (lost_at h.fresh f) before f h.front h.g h.rest h.begins;
       vector_low = (let p = h.pc in omega arith);
       vector_high = (let p = h.pc in let i = inside in let l = length_is (code (vector + h.offset)) in ⊎_elim (λ q. omega arith) (λ q. omega arith) l);
       window = h.stands.base;
@@ -648,7 +709,7 @@ module _ (code : ℕ → ℕ) (constant : (a : ℕ) → code a < 2 ^ 8) (b : Bou
     pub handling_spared : (new : MemoryContents) → ((a : ℕ) → is_live b.range f a ≡ true → byte_at new a ≡ byte_at m a) → Handling code b new s f before opened
     handling_spared new same = record {
       side = h.side;
-      lost = h.lost;
+      fresh = h.fresh;
       front = h.front;
       g = h.g;
       rest = h.rest;
@@ -671,17 +732,17 @@ module _ (code : ℕ → ℕ) (constant : (a : ℕ) → code a < 2 ^ 8) (b : Bou
 
 -- ---- as laws
 pub stretches_are_entered : StretchesAreEntered
-stretches_are_entered code bytes b good m lost s f ring spilled reply l shaped window none = begins_at code bytes b good.dram good.aligned good.handlers m lost s f ring spilled reply l shaped window none
+stretches_are_entered code bytes b good m fresh s f ring spilled reply l shaped window none = begins_at code bytes b good.dram good.aligned good.handlers m fresh s f ring spilled reply l shaped window none
 
 handler_step : (code : ℕ → ℕ) (bytes : AreBytes code) (b : Bounds) (good : IsGood code b) (m : MemoryContents) (s : State) (f : FrameState) (before : State) (opened : ℕ → ℕ) (h : Handling code b m s f before opened) → Next code bytes b good.dram good.aligned good.handlers h → HandlerStep code b m s f before opened
 handler_step code bytes b good m s f before opened h (goes_on open_ inside only free) =
     steps_on open_ inside only (stores_alone code bytes b good.dram good.aligned good.handlers h (byte_at (memory_now code m s)) free)
 handler_step code bytes b good m s f before opened h (ends closed_ settles same stretch) =
-    closes_stretch closed_ (moves_frame h.side b m before (state_now code m s) opened f h.front h.g h.rest h.lost h.begins settles stretch h.kept) (somewhere_of h.side (byte_at m) b (state_now code m s) f h.front h.g h.rest settles) same
+    closes_stretch closed_ (moves_frame h.side b m before (state_now code m s) opened f h.front h.g h.rest (lost_at h.fresh f) h.begins settles stretch h.kept) (somewhere_of h.side (byte_at m) b (state_now code m s) f h.front h.g h.rest settles) same
     (stores_alone code bytes b good.dram good.aligned good.handlers h (byte_at (memory_now code m s)) (λ a free. ap (λ x. byte_at x a) same))
 
 pub handler_steps_are_kept : HandlerStepsAreKept
-handler_steps_are_kept code bytes b good m s f before opened h shaped sizes = handler_step code bytes b good m s f before opened h (handling_steps code bytes b good.dram good.aligned good.handlers h (untaken_now code bytes b good.dram good.aligned good.handlers h) shaped sizes)
+handler_steps_are_kept code bytes b good m s f before opened h shaped sizes calm = handler_step code bytes b good m s f before opened h (handling_steps code bytes b good.dram good.aligned good.handlers h (untaken_now code bytes b good.dram good.aligned good.handlers h calm) shaped sizes)
 
 pub handlers_are_spared : HandlersAreSpared
 handlers_are_spared code bytes b good old new s f before opened h same = handling_spared code bytes b good.dram good.aligned good.handlers h new same
