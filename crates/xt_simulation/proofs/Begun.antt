@@ -21,13 +21,8 @@ use Rattle.xt_stretch.specs.Machines.{meant}
 use Rattle.xt_stretch.specs.Frames.{HasFrames, IsOwnByte}
 use Rattle.xt_stretch.specs.Joined.{Finds, IsShaped as HasShape}
 use Rattle.xt_stretch.proofs.Joins.{overflow_frames, underflow_frames, own_link_is, saved_sp_is, saved_link_is}
-use Rattle.xt_simulation.specs.InHandlers.{start_of}
+use Rattle.xt_simulation.specs.InHandlers.{start_of, above}
 use Rattle.xt_simulation.specs.Handling.{InDram, Begins}
-
--- the frames above the one that is moved
-abbrev pub above : Side → List Frame → List Frame
-above Overflow front = front
-above Underflow front = []
 
 -- the stack pointers at the start
 pub record Found (side : Side) (opened : ℕ → ℕ) (b : Bounds) (start : State) (f : FrameState) (front : List Frame) (g : Frame) (rest : List Frame) : Type 0 where

@@ -32,7 +32,7 @@ or_either : (a b c : Bool) → (a || (b || c)) ≡ (a || b || c)
 or_either true b c = refl
 or_either false b c = refl
 
-stands_end : (w : ℕ) (ring : List Frame) (g : Frame) (low : ℕ) → stands w (ring ++ g ∷ []) low ≡ (stands w ring (g.by + low) || eqb w low)
+pub stands_end : (w : ℕ) (ring : List Frame) (g : Frame) (low : ℕ) → stands w (ring ++ g ∷ []) low ≡ (stands w ring (g.by + low) || eqb w low)
 stands_end w [] g low = ap (λ x. eqb w x || eqb w low) (let e : g.by + 0 + low ≡ g.by + low = omega arith in e)
 stands_end w (f ∷ fs) g low =
     let e : f.by + moved (fs ++ g ∷ []) + low ≡ f.by + moved fs + (g.by + low) = (let m = moved_end fs g in omega arith) in

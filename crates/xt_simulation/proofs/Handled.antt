@@ -53,9 +53,9 @@ use Rattle.xt_stretch.proofs.Lines.{handling_is}
 use Rattle.xt_stretch.specs.Machines as small
 use Rattle.xt_stretch.specs.Running as stepping
 use Rattle.xt_stretch.specs.Machines.{Machine, word_at, meant, address_of, IsElsewhere}
-use Rattle.xt_stretch.specs.Frames.{HasFrames, IsOwn, IsOwnByte}
+use Rattle.xt_stretch.specs.Frames.{HasFrames, IsOwnByte}
 use Rattle.xt_stretch.specs.Kept.{Does, Stands, Spares, Touches, Turns, Moves, Closes, Done, step_at, ending_of, opening_flags}
-use Rattle.xt_stretch.proofs.Places.{room_from, saves_own, spares_from}
+use Rattle.xt_stretch.proofs.Places.{room_from, spares_from}
 use Rattle.xt_stretch.proofs.Runs.{stands_first}
 use Rattle.xt_stretch.proofs.Turning.{turns, done, spared}
 use Rattle.xt_stretch.proofs.Changed.{others_stay_above}
@@ -67,6 +67,7 @@ use Rattle.xt_simulation.specs.HandlerLaws.{StretchesAreEntered, HandlerStepsAre
 use Rattle.xt_fetch.specs.Code.{AreBytes}
 use Rattle.xt_simulation.proofs.Fetched.{byte_is as fetched_byte, bytes_length, byte_small, fetched_is, step_is, vector_fetches, vector_handles, fetch_small, length_is}
 use Rattle.xt_simulation.proofs.Turns.{Shown, shown, turned, Turned, load, store, wide_nop, narrow_nop, ends_overflow, ends_underflow, other, Ended, ends_with_rfwo, ends_with_rfwu}
+use Rattle.xt_simulation.proofs.SaveWords.{save_covers, in_areas, stood_before, spilled_before}
 use Rattle.xt_simulation.proofs.Begun.{Found, found, stack_of, own_live, same_visible}
 
 -- ---- interrupts in exception mode
@@ -110,19 +111,11 @@ same_bytes side n start old new same = record {
     same_word_at a = let e0 = same a in let e1 = same (a + 1) in let e2 = same (a + 2) in let e3 = same (a + 3) in rw (e0, e1, e2, e3) refl
 
 -- ---- an address that no save of the frame touches
-save_covers : (n : ℕ) (start : Machine) (f : HasFrames Overflow n start) (k a : ℕ) → k < 4 * n → address_of start (save_word Overflow n k) ≤ a → a < address_of start (save_word Overflow n k) + 4 → IsOwnByte Overflow n start a
-save_covers n start f k a l low up = bytes_of (saves_own Overflow n k start f l)
-  where
-    bytes_of : IsOwn Overflow n start (address_of start (save_word Overflow n k)) → IsOwnByte Overflow n start a
-    bytes_of (inl h) = inl (omega (arith, h.0), omega (arith, h.1))
-    bytes_of (inr (two, inl h)) = inr (two, inl (omega (arith, h.0), omega (arith, h.1)))
-    bytes_of (inr (two, inr h)) = inr (two, inr (omega (arith, h), omega (arith, h)))
-
 elsewhere_from : (n : ℕ) (start : Machine) (a : ℕ) → HasFrames Overflow n start → (IsOwnByte Overflow n start a → ⊥) → IsElsewhere n start a
 elsewhere_from n start a f not_own = λ k l. ⊎_elim
     (λ below. inl below)
     (λ above. ⊎_elim
-    (λ inside. absurd (not_own (save_covers n start f k a l above inside)))
+    (λ inside. absurd (not_own (save_covers Overflow n start f k a l above inside)))
     (λ beyond. inr beyond)
     (cases_lt a (address_of start (save_word Overflow n k) + 4)))
     (cases_lt a (address_of start (save_word Overflow n k)))
@@ -391,15 +384,18 @@ under_free Underflow n start a e = tt
 under_free Overflow n start a e = absurd cc
 
 moves_frame : (side : Side) (b : Bounds) (m : MemoryContents) (before after : State) (opened : ℕ → ℕ) (f : FrameState) (front : List Frame) (g : Frame) (rest : List Frame) (lost : ℕ → Bool) → Begins side opened b lost before f front g rest
-    → Settles side (byte_at m) b after f front g rest → Stretch side g.by before after opened (byte_at m) rest
+    → Found side opened b before f front g rest → Settles side (byte_at m) b after f front g rest → Stretch side g.by before after opened (byte_at m) rest
     → ((a : ℕ) → is_live b.range f a ≡ true → Untouched side g.by (start_of before opened rest) a → byte_at m a ≡ opened a)
     → MovesFrame b f before after opened (byte_at m)
-moves_frame side b m before after opened f front g rest lost begins settles stretch kept = record {
+moves_frame side b m before after opened f front g rest lost begins r settles stretch kept = record {
   side = side;
   front = front;
   g = g;
   rest = rest;
   frames = frames_at side opened b lost before f front g rest begins;
+  areas = in_areas r;
+  stood = stood_before side opened b lost before f front g rest begins;
+  spilled = spilled_before side opened b lost before f front g rest begins;
   stretch = stretch;
   seen = λ i v e. (seen_before side opened b lost before f front g rest begins i v e, seen_after side (byte_at m) b after f front g rest settles i v e);
   stored = stored_frame side opened b lost before f front g rest begins;
@@ -457,7 +453,7 @@ module _ (code : ℕ → ℕ) (constant : (a : ℕ) → code a < 2 ^ 8) (b : Bou
       (enters_window b.vecbase code (lost_at fresh f) s f ring spilled reply l.plain shaped window none)
 
   module _ {m : MemoryContents} {s : State} {f : FrameState} {before : State} {opened : ℕ → ℕ} (h : Handling code b m s f before opened) where
-    at_start : Found h.side opened b before f h.front h.g h.rest
+    pub at_start : Found h.side opened b before f h.front h.g h.rest
     at_start = found h.side b (lost_at h.fresh f) before f h.front h.g h.rest opened dram h.shaped h.moves h.within h.begins
 
     pub handling_stack : Stack b.range.lo b.range.hi f.seen f.frames
@@ -698,6 +694,7 @@ module _ (code : ℕ → ℕ) (constant : (a : ℕ) → code a < 2 ^ 8) (b : Bou
       g = h.g;
       rest = h.rest;
       frames = frames_at h.side opened b (lost_at h.fresh f) before f h.front h.g h.rest h.begins;
+      areas = in_areas at_start;
       vector_low = (let p = h.pc in omega arith);
       vector_high = (let p = h.pc in let i = inside in let l = length_is (code (vector + h.offset)) in ⊎_elim (λ q. omega arith) (λ q. omega arith) l);
       window = h.stands.base;
@@ -738,7 +735,7 @@ handler_step : (code : ℕ → ℕ) (bytes : AreBytes code) (b : Bounds) (good :
 handler_step code bytes b good m s f before opened h (goes_on open_ inside only free) =
     steps_on open_ inside only (stores_alone code bytes b good.dram good.aligned good.handlers h (byte_at (memory_now code m s)) free)
 handler_step code bytes b good m s f before opened h (ends closed_ settles same stretch) =
-    closes_stretch closed_ (moves_frame h.side b m before (state_now code m s) opened f h.front h.g h.rest (lost_at h.fresh f) h.begins settles stretch h.kept) (somewhere_of h.side (byte_at m) b (state_now code m s) f h.front h.g h.rest settles) same
+    closes_stretch closed_ (moves_frame h.side b m before (state_now code m s) opened f h.front h.g h.rest (lost_at h.fresh f) h.begins (at_start code bytes b good.dram good.aligned good.handlers h) settles stretch h.kept) (somewhere_of h.side (byte_at m) b (state_now code m s) f h.front h.g h.rest settles) same
     (stores_alone code bytes b good.dram good.aligned good.handlers h (byte_at (memory_now code m s)) (λ a free. ap (λ x. byte_at x a) same))
 
 pub handler_steps_are_kept : HandlerStepsAreKept

@@ -17,6 +17,7 @@ pub mod StackSteps
 pub mod Whole
 pub mod Begun
 pub mod Fetched
+pub mod SaveWords
 pub mod Handled
 pub mod Memories
 pub mod Turns

@@ -1,15 +1,16 @@
 -- What a handler step and a whole stretch of them have done ('profile').
-use Rattle.std.specs.Prelude.{◌≡◌, ◌≢◌, ◌≤◌, ◌<◌, ℕ, ◌+◌, ◌*◌, ◌%◌, true, Option, Some, None}
+use Rattle.std.specs.Prelude.{◌≡◌, ◌≢◌, ◌≤◌, ◌<◌, ℕ, ◌+◌, ◌-◌, ◌*◌, ◌%◌, true, false, nat_lt}
+use Rattle.std.specs.Prelude.{if◌then◌else◌, Option, Some, None}
 use Rattle.std.specs.Prelude.{List, [], ◌∷◌, ◌++◌, length, slice_index, slice_index_or, slice_set}
 use Rattle.xt_special.specs.Numbers as number
 use Rattle.xt_special.specs.Control.{Control}
 use Rattle.xt_exec.specs.State.{State}
-use Rattle.xt_frames.specs.Frames.{Frame, FrameState, moved}
-use Rattle.xt_frames.specs.SaveAreas.{is_live}
+use Rattle.xt_frames.specs.Frames.{Frame, FrameState, known, moved}
+use Rattle.xt_frames.specs.SaveAreas.{is_live, sp_of, before as sp_before}
 use Rattle.xt_frames.specs.Breaches.{Bounds}
 use Rattle.xt_stretch.specs.declared.Side.{Side}
 use Rattle.xt_stretch.specs.declared.Side.TheVariants.{Overflow, Underflow}
-use Rattle.xt_window.specs.Ring.{place, visible, with_bit, without_bit}
+use Rattle.xt_window.specs.Ring.{place, visible, bit, with_bit, without_bit}
 use Rattle.xt_stretch.specs.Needs.{save_word}
 use Rattle.xt_stretch.specs.Machines.{address_of, Machine, word_at, IsElsewhere}
 use Rattle.xt_handlers.specs.Vectors.{vector_at}
@@ -103,6 +104,29 @@ abbrev pub above : Side → List Frame → List Frame
 above Overflow front = front
 above Underflow front = []
 
+-- the stack pointer of the oldest of these callers, or the newest frame's where there are none
+abbrev pub sp_under : ℕ → List Frame → ℕ
+sp_under sp [] = sp
+sp_under sp (f ∷ fs) = sp_under (sp_of f) fs
+
+-- Where register k of the frame g is saved, in the save areas of the machine with unbounded frames,
+-- whose frames are newer ++ g ∷ rest: the first four in the 16 bytes below the stack pointer of the
+-- frame that g called, the others in the bytes that end 16 below its caller's.
+abbrev pub saved_at : Bounds → FrameState → List Frame → Frame → List Frame → ℕ → ℕ
+saved_at b f newer g rest k =
+    if nat_lt k 4 then sp_under (known f.seen 1) newer - 16 + 4 * k
+    else sp_before b.range.hi rest - 16 * g.by + 4 * (k - 4)
+
+-- the handler's save words are these, and they lie in live save areas of the core
+pub record InAreas
+    (b : Bounds) (f : FrameState) (side : Side) (newer : List Frame) (g : Frame)
+    (rest : List Frame) (start : Machine) : Type 0 where
+  pub addresses : (k : ℕ) → k < 4 * g.by
+      → address_of start (save_word side g.by k) ≡ saved_at b f newer g rest k
+  pub live : (k a : ℕ) → k < 4 * g.by
+      → saved_at b f newer g rest k ≤ a → a < saved_at b f newer g rest k + 4
+      → is_live b.range f a ≡ true
+
 -- A stretch has moved one frame: the oldest in the ring to its save areas, or the newest of the
 -- others back. What it stores is the frame's kept registers, what it loads are they. No visible
 -- register that has a value has changed, and no live byte of the core but those of its stores.
@@ -113,6 +137,10 @@ pub record MovesFrame
   pub g : Frame
   pub rest : List Frame
   pub frames : f.frames ≡ above side front ++ g ∷ rest
+  pub areas : InAreas b f side (above side front) g rest (start_of before opened rest)
+  -- its window stood before an overflow, and not before an underflow
+  pub stood : side ≡ Overflow → bit before.start (moved rest) ≡ true
+  pub spilled : side ≡ Underflow → bit before.start (moved rest) ≡ false
   pub stretch : Stretch side g.by before after opened now rest
   pub seen : (i v : ℕ) → slice_index_or f.seen i None ≡ Some v
       → (visible before.regs before.base i ≡ v) × (visible after.regs after.base i ≡ v)
@@ -130,6 +158,7 @@ pub record StoresAlone
   pub g : Frame
   pub rest : List Frame
   pub frames : f.frames ≡ above side front ++ g ∷ rest
+  pub areas : InAreas b f side (above side front) g rest (start_of before opened rest)
   pub vector_low : vector_at b.vecbase side g.by ≤ s.control.pc
   pub vector_high : s.control.pc < vector_at b.vecbase side g.by + 64
   pub window : s.base ≡ moved rest % 16

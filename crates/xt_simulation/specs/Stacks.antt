@@ -5,6 +5,7 @@ use Rattle.std.specs.Prelude.{◌∷◌, slice_index_or}
 use Rattle.xt_frames.specs.Stacks.{AreFrames, Chain, IsRange}
 use Rattle.xt_frames.specs.Frames.{Frame}
 use Rattle.xt_frames.specs.SaveAreas.{sp_of, before}
+pub use Rattle.xt_simulation.specs.InHandlers.{sp_under}
 
 -- ---- what stands in the areas of spilled frames
 abbrev pub SavedLow : (ℕ → ℕ) → List (Option ℕ) → ℕ → Type 0
@@ -40,8 +41,3 @@ SpillsAreSaved =
     → SavedLow new g.kept sp → SavedHigh new g.kept g.by (before hi rest)
     → ((a : ℕ) → IsElsewhere a sp (before hi rest) g.by → new a ≡ old a)
     → Saved new hi sp (g ∷ rest)
-
--- the stack pointer of the last frame that these callers called, from that of the newest
-abbrev pub sp_under : ℕ → List Frame → ℕ
-sp_under sp [] = sp
-sp_under sp (f ∷ fs) = sp_under (sp_of f) fs
