@@ -175,8 +175,8 @@ even_now only fewer e = record { pc = e.pc; ps = e.ps; threadptr = e.threadptr; 
 pub even_less : {lost : ℕ → Bool} (n : ℕ) {c d : Control} → ((k : ℕ) → lost k ≡ true → can_be_lost k ≡ true) → Even (except n lost) c d → Even lost c d
 even_less {lost = lost} n only e = even_now only (λ k h. and_left (lost k) (not (eqb k n)) h) e
 
-pub at_given : {lost : ℕ → Bool} (n : ℕ) {c d : Control} → Even (except n lost) c d → get_or c.special n 0 ≡ get_or d.special n 0
-at_given {lost = lost} n e = e.special.at n (and_right (lost n) (not (eqb n n)) (not_from_true (eqb n n) (eq-eqb n n refl)))
+pub at_given : (lost : ℕ → Bool) (n : ℕ) {c d : Control} → Even (except n lost) c d → get_or c.special n 0 ≡ get_or d.special n 0
+at_given lost n e = e.special.at n (and_right (lost n) (not (eqb n n)) (not_from_true (eqb n n) (eq-eqb n n refl)))
 
 pub even_raise : {lost : ℕ → Bool} (cause : ℕ) (addr : Option ℕ) (c d : Control) → Even lost c d → Even lost (after_exception cause addr c) (after_exception cause addr d)
 unfolding after_exception
@@ -241,8 +241,8 @@ Numbers old new c d = (k : ℕ) → (get_or new k false ≡ get_or old k false) 
 pub same_numbers : (unset : List Bool) (c d : Control) → Numbers unset unset c d
 same_numbers unset c d k = inl refl
 
-still_lost : {fresh : Bool} {old : List Bool} (now : Bool) (new : List Bool) (c d : Control) → Even (lost_in fresh old) c d → Numbers old new c d → (k : ℕ) → lost_in now new k ≡ true → can_be_lost k ≡ true
-still_lost {fresh = fresh} {old = old} now new c d e n k h = ⊎_elim
+still_lost : (fresh : Bool) (old : List Bool) (now : Bool) (new : List Bool) (c d : Control) → Even (lost_in fresh old) c d → Numbers old new c d → (k : ℕ) → lost_in now new k ≡ true → can_be_lost k ≡ true
+still_lost fresh old now new c d e n k h = ⊎_elim
     (λ a. lost_epc1 now k a)
     (λ b. ⊎_elim
     (λ q. e.special.only k (or_right (lost_of fresh k) (get_or old k false) (sym q ∙ b)))
@@ -251,13 +251,13 @@ still_lost {fresh = fresh} {old = old} now new c d e n k h = ⊎_elim
     (or_cases (lost_of now k) (get_or new k false) h)
 
 -- EPC1 is fresh as before, or equal
-epc1_now : (fresh written kept : Bool) {old : List Bool} (c d : Control) → Even (lost_in fresh old) c d → (written ≡ true → get_or c.special 177 0 ≡ get_or d.special 177 0) → (k : ℕ) → lost_of (written || (fresh && kept)) k ≡ false → get_or old k false ≡ false → get_or c.special k 0 ≡ get_or d.special k 0
-epc1_now fresh true kept {old = old} c d e w k h q = ⊎_elim
+epc1_now : (fresh written kept : Bool) (old : List Bool) (c d : Control) → Even (lost_in fresh old) c d → (written ≡ true → get_or c.special 177 0 ≡ get_or d.special 177 0) → (k : ℕ) → lost_of (written || (fresh && kept)) k ≡ false → get_or old k false ≡ false → get_or c.special k 0 ≡ get_or d.special k 0
+epc1_now fresh true kept old c d e w k h q = ⊎_elim
     (λ same. rw same (w refl))
     (λ other. e.special.at k (or_from (lost_of fresh k) (get_or old k false) (and_left (eqb k 177) (not fresh) (ne_eqb k 177 other)) q))
     (cases_eq k 177)
-epc1_now true false kept {old = old} c d e w k h q = e.special.at k (or_from (lost_of true k) (get_or old k false) (none_lost k) q)
-epc1_now false false kept {old = old} c d e w k h q = e.special.at k (or_from (lost_of false k) (get_or old k false) h q)
+epc1_now true false kept old c d e w k h q = e.special.at k (or_from (lost_of true k) (get_or old k false) (none_lost k) q)
+epc1_now false false kept old c d e w k h q = e.special.at k (or_from (lost_of false k) (get_or old k false) h q)
 
 pub even_after : (fresh written kept : Bool) (old new : List Bool) (c d : Control) → Even (lost_in fresh old) c d → (written ≡ true → get_or c.special 177 0 ≡ get_or d.special 177 0) → Numbers old new c d → Even (lost_in (written || (fresh && kept)) new) c d
 even_after fresh written kept old new c d e w n = record {
@@ -267,11 +267,11 @@ even_after fresh written kept old new c d e w n = record {
   waits = e.waits;
   special = record {
     size = e.special.size;
-    only = still_lost (written || (fresh && kept)) new c d e n;
+    only = still_lost fresh old (written || (fresh && kept)) new c d e n;
     at = λ k known.
         let p = or_parts (lost_of (written || (fresh && kept)) k) (get_or new k false) known in
         ⊎_elim
-        (λ q. epc1_now fresh written kept c d e w k p.0 (sym q ∙ p.1))
+        (λ q. epc1_now fresh written kept old c d e w k p.0 (sym q ∙ p.1))
         (λ q. q.1)
         (n k);
   };
@@ -296,17 +296,17 @@ numbers_set old mid n c d given rest k = ⊎_elim
 -- of level 1 an interrupt is taken outside exception mode alone
 pub interrupt_numbers : {lost : ℕ → Bool} (level : ℕ) (old : List Bool) (c d : Control) → (eqb level 1 ≡ true → c.ps.excm ≡ false) → Even lost c d
     → Numbers old (set (set old (176 + level) false) (192 + level) false) (ticked (after_interrupt level c)) (ticked (after_interrupt level d))
-interrupt_numbers level old c d low e =
+interrupt_numbers {lost = lost} level old c d low e =
     let x : Control = ticked (after_interrupt level c) in
     let y : Control = ticked (after_interrupt level d) in
     let both : (get_or x.special (176 + level) 0 ≡ get_or y.special (176 + level) 0) × (get_or x.special (192 + level) 0 ≡ get_or y.special (192 + level) 0) = ⊎_elim
     (λ one.
     let is : level ≡ 1 = eqb-true level 1 one in
-    let a = at_given 177 (even_ticked _ _ (even_interrupt_epc1 level c d (and_from _ _ one (not_from_false _ (low one))) e)) in
+    let a = at_given lost 177 (even_ticked _ _ (even_interrupt_epc1 level c d (and_from _ _ one (not_from_false _ (low one))) e)) in
     let b = same_at (even_ticked _ _ (even_interrupt level c d e)).special 193 refl in
     (subst (λ n. get_or x.special (176 + n) 0 ≡ get_or y.special (176 + n) 0) (sym is) a, subst (λ n. get_or x.special (192 + n) 0 ≡ get_or y.special (192 + n) 0) (sym is) b))
     (λ high.
     let h = even_ticked _ _ (even_interrupt_high level c d high e) in
-    (at_given (176 + level) (even_less (192 + level) (λ k z. e.special.only k (and_parts _ _ z).0) h), at_given (192 + level) h))
+    (at_given lost (176 + level) (even_less (192 + level) (λ k z. e.special.only k (and_parts _ _ z).0) h), at_given (except (176 + level) lost) (192 + level) h))
     (cases_Bool (eqb level 1)) in
     numbers_set old (set old (176 + level) false) (192 + level) x y both.1 (numbers_set old old (176 + level) x y both.0 (same_numbers old x y))
