@@ -1,7 +1,7 @@
 -- Equal values give equal outcomes, and an effect applied to both machines keeps them level.
-use Rattle.std.proofs.Common.{◌≡◌, ℕ, ◌+◌, ◌/◌, ◌<◌, Bool, true, false, List, Option, Some, None, sym, ap, ◌∙◌, refl, arith, get_or}
+use Rattle.std.proofs.Common.{◌≡◌, ℕ, ◌+◌, ◌/◌, ◌<◌, Bool, true, false, ◌||◌, List, Option, Some, None, sym, ap, ◌∙◌, refl, subst, get_or}
 use Rattle.std.specs.Prelude.{unwrap_or}
-use Rattle.std.proofs.lemmas.Bool.{or_parts}
+use Rattle.std.proofs.lemmas.Bool.{or_from, or_parts}
 use Rattle.xt_isa.specs.declared.Insn.{Insn}
 use Rattle.xt_special.specs.Numbers as number
 use Rattle.xt_special.specs.Control.{Control, special_of}
@@ -17,11 +17,12 @@ use Rattle.xt_exec.specs.State.{State}
 use Rattle.xt_exec.specs.Turn.{in_window, kind_of, written, with_write}
 use Rattle.xt_frames.specs.Frames.{Frame, FrameState, known, moved, seen_after_write}
 use Rattle.xt_frames.specs.FrameStep.{FrameTurn, in_frame}
-use Rattle.xt_frames.specs.Breaches.{lost_of, lacks, reads_none, reads_lost, reads_epc1}
+use Rattle.xt_frames.specs.declared.holes.Nested.{Nested}
+use Rattle.xt_frames.specs.Breaches.{lost_of, lacks, is_unset, reads_none, reads_none_in, reads_unset, reads_lost, reads_epc1, loses_epc1}
 use Rattle.xt_frames.proofs.Shown.{KeepsSp, sp_written}
 use Rattle.xt_simulation.specs.Ring.{Windows}
 use Rattle.xt_simulation.specs.Stacks.{sp_under}
-use Rattle.xt_simulation.specs.Relation.{Even, Level}
+use Rattle.xt_simulation.specs.Relation.{Even, Level, lost_at}
 use Rattle.xt_simulation.proofs.Kept as kept
 use Rattle.xt_simulation.proofs.Windowed.{some_value, visible_value}
 use Rattle.xt_exec.specs.Finishing.{Turn, finished}
@@ -38,19 +39,37 @@ module _ {vecbase : ℕ} {lost : ℕ → Bool} {s : State} {g : FrameState} {rin
       let b : known g.seen k ≡ v.0 = ap (λ o. unwrap_or o 0) v.1 in
       a ∙ sym b
 
-module _ {vecbase : ℕ} (fresh : Bool) {s : State} {g : FrameState} {ring spilled : List Frame} (l : Level vecbase (lost_of fresh) s g ring spilled) where
-  same_special : (o : Option ℕ) → reads_lost fresh o ≡ false → value_of (special_of s.control) o ≡ value_of (special_of g.control) o
-  same_special None h = refl
-  same_special (Some k) h = l.even.special.at k h
+-- what an instruction outside nested interrupts reads
+record Reads (fresh : Bool) (i : Insn) (g : FrameState) : Type 0 where
+  first : lacks g.seen (reads i).0 ≡ false
+  second : lacks g.seen (reads i).1 ≡ false
+  special : is_unset g.unset (special_reads i).0 ≡ false
+  other : is_unset g.unset (special_reads i).1 ≡ false
+  lost : reads_lost fresh (special_reads i).0 ≡ false
+  other_lost : reads_lost fresh (special_reads i).1 ≡ false
 
-  pub same_outcome : (code : ℕ → ℕ) (i : Insn) → reads_none i g ≡ false → reads_epc1 fresh i ≡ false → outcome_at code i (visible s.regs s.base) s.control ≡ outcome_at code i (known g.seen) g.control
-  same_outcome code i unset none =
-      let u = or_parts (lacks g.seen (reads i).0) (lacks g.seen (reads i).1) unset in
-      let e = or_parts (reads_lost fresh (special_reads i).0) (reads_lost fresh (special_reads i).1) none in
-      let x = same_value l (reads i).0 u.0 in
-      let y = same_value l (reads i).1 u.1 in
-      let p = same_special (special_reads i).0 e.0 in
-      let q = same_special (special_reads i).1 e.1 in
+what_is_read : (fresh : Bool) (i : Insn) (g : FrameState) → g.nested ≡ None → reads_none i g ≡ false → loses_epc1 g.nested fresh i ≡ false → Reads fresh i g
+what_is_read fresh i g plain unset lost =
+    let u : reads_unset i g ≡ false = subst (λ (o : Option Nested). reads_none_in o i g ≡ false) plain unset in
+    let n : reads_epc1 fresh i ≡ false = subst (λ (o : Option Nested). loses_epc1 o fresh i ≡ false) plain lost in
+    let a = or_parts (lacks g.seen (reads i).0) (lacks g.seen (reads i).1 || (is_unset g.unset (special_reads i).0 || is_unset g.unset (special_reads i).1)) u in
+    let b = or_parts (lacks g.seen (reads i).1) (is_unset g.unset (special_reads i).0 || is_unset g.unset (special_reads i).1) a.1 in
+    let c = or_parts (is_unset g.unset (special_reads i).0) (is_unset g.unset (special_reads i).1) b.1 in
+    let e = or_parts (reads_lost fresh (special_reads i).0) (reads_lost fresh (special_reads i).1) n in
+    record { first = a.0; second = b.0; special = c.0; other = c.1; lost = e.0; other_lost = e.1 }
+
+module _ {vecbase : ℕ} (fresh : Bool) {s : State} {g : FrameState} {ring spilled : List Frame} (l : Level vecbase (lost_at fresh g) s g ring spilled) where
+  same_special : (o : Option ℕ) → reads_lost fresh o ≡ false → is_unset g.unset o ≡ false → value_of (special_of s.control) o ≡ value_of (special_of g.control) o
+  same_special None h u = refl
+  same_special (Some k) h u = l.even.special.at k (or_from (lost_of fresh k) (get_or g.unset k false) h u)
+
+  pub same_outcome : (code : ℕ → ℕ) (i : Insn) → g.nested ≡ None → reads_none i g ≡ false → loses_epc1 g.nested fresh i ≡ false → outcome_at code i (visible s.regs s.base) s.control ≡ outcome_at code i (known g.seen) g.control
+  same_outcome code i plain unset lost =
+      let r = what_is_read fresh i g plain unset lost in
+      let x = same_value l (reads i).0 r.first in
+      let y = same_value l (reads i).1 r.second in
+      let p = same_special (special_reads i).0 r.lost r.special in
+      let q = same_special (special_reads i).1 r.other_lost r.other in
       let a = l.even.pc in
       let b = l.even.ps in
       let c = l.even.threadptr in
@@ -97,7 +116,7 @@ pub record Ends (vecbase : ℕ) (t : Turn) (u : FrameTurn) : Type 0 where
   pub vectors : special_of u.after.control number.vecbase ≡ vecbase
 
 pub even_level : {vecbase : ℕ} {lost : ℕ → Bool} {c d : Control} → Even lost c d → special_of d number.vecbase ≡ vecbase → special_of c number.vecbase ≡ vecbase
-even_level e v = same_at e.special 231 (λ e. omega arith) ∙ v
+even_level e v = same_at e.special 231 refl ∙ v
 
 pub in_both : {vecbase : ℕ} {old lost : ℕ → Bool} {s : State} {g : FrameState} {ring spilled : List Frame} → Level vecbase old s g ring spilled → (t u : Settled) (reply : ℕ) → Alike lost t u
     → HasRoom ring (written t.write t.awaited reply) → KeepsSp (written t.write t.awaited reply) → Ends vecbase (finished (in_window t s) reply) (in_frame u reply g)

@@ -18,7 +18,7 @@ use Rattle.xt_rows.specs.declared.outcome.Outcome.{Outcome}
 use Rattle.xt_rows.specs.declared.outcome.Outcome.TheVariants.{Does, Raises, Asks, Stops, Windowed}
 use Rattle.xt_fetch.specs.Fetching.{Fetched, Fetches, Fails, SpellsNothing, fetched}
 use Rattle.xt_rows.specs.Effects.{illegal_instruction, write_to, no_caller_window}
-use Rattle.xt_rows.specs.Operands.{reads}
+use Rattle.xt_rows.specs.Operands.{reads, special_reads}
 use Rattle.xt_rows.specs.Outcomes.{outcome_at, value_of}
 use Rattle.xt_rows.specs.Settling.{Kind, Executed, Raised, Taken, Waited, Stopped}
 use Rattle.xt_exec.specs.State.{State}
@@ -28,7 +28,10 @@ use Rattle.xt_exec.specs.Turn.{Planned, planned, kind_of, raises, has_windows, l
 use Rattle.xt_frames.proofs.Shown.{NoneShown, none_shown}
 use Rattle.xt_frames.specs.Frames.{Frame, FrameState, known, moved}
 use Rattle.xt_frames.specs.HandlerSteps.{is_window}
-use Rattle.xt_frames.specs.Breaches.{first_shown, lacks, reads_none, is_return, mismatches, returns_elsewhere, is_empty, has_no_caller, return_tests, fetched_return_breach, is_underflow, window_breach}
+use Rattle.xt_frames.specs.declared.holes.Nested.{Nested}
+use Rattle.xt_frames.specs.Marks.{moves_marks}
+use Rattle.xt_frames.specs.Nesting.{ends_nested}
+use Rattle.xt_frames.specs.Breaches.{first_shown, lacks, is_unset, reads_none, reads_none_in, reads_unset, is_return, mismatches, returns_elsewhere, is_empty, has_no_caller, return_tests, fetched_return_breach, is_underflow, window_breach}
 use Rattle.xt_simulation.specs.Ring.{oldest_by, Windows}
 use Rattle.xt_simulation.specs.Relation.{Level, Overflows, Underflows, EntersWindow}
 use Rattle.xt_simulation.proofs.Modular.{place_at, bit_at_window}
@@ -177,12 +180,20 @@ unfolding is_return
 return_is i (inl e) = rw e refl
 return_is i (inr e) = rw e refl
 
+-- it moves no mark
+none_unset : (i : Insn) → IsReturn i → (o : Option Nested) (g : FrameState) → reads_none_in o i g ≡ false → reads_unset i g ≡ false
+unfolding moves_marks ends_nested
+none_unset i r None g h = h
+none_unset i (inl e) (Some x) g h = let q : reads_unset (insn.Control (control.Ret RetName.Retw)) g ≡ false = rw e at h in rw e q
+none_unset i (inr e) (Some x) g h = let q : reads_unset (insn.Density (density.Ret NarrowRetName.Retw)) g ≡ false = rw e at h in rw e q
+
 -- a0 is known, and is the processor's
 pub a0_known : {vecbase : ℕ} {lost : ℕ → Bool} {s : State} {g : FrameState} {ring spilled : List Frame} → Level vecbase lost s g ring spilled → (i : Insn) → IsReturn i → reads_none i g ≡ false → known g.seen 0 ≡ visible s.regs s.base 0
 a0_known {g = g} l i r h =
     let e = return_reads i r in
-    let u : (lacks g.seen (Some 0) || lacks g.seen None) ≡ false = rw e at h in
-    let v = some_value (get_or g.seen 0 None) (or_parts (lacks g.seen (Some 0)) (lacks g.seen None) u).0 in
+    let u : lacks g.seen (reads i).0 ≡ false = (or_parts (lacks g.seen (reads i).0) (lacks g.seen (reads i).1 || (is_unset g.unset (special_reads i).0 || is_unset g.unset (special_reads i).1)) (none_unset i r g.nested g h)).0 in
+    let k : lacks g.seen (Some 0) ≡ false = subst (λ (o : Option ℕ × Option ℕ). lacks g.seen o.0 ≡ false) e u in
+    let v = some_value (get_or g.seen 0 None) k in
     let b : known g.seen 0 ≡ v.0 = ap (λ o. unwrap_or o 0) v.1 in
     b ∙ sym (visible_value l.windows 0 v.0 v.1)
 
