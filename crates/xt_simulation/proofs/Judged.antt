@@ -1,15 +1,21 @@
 -- A judged step keeps both machines level.
-use Rattle.std.proofs.Common.{◌≡◌, ℕ, ◌+◌, ◌/◌, ◌<◌, ◌⊎◌, ℤ, Bool, true, false, ◌||◌, ◌&&◌, not, eqb, leb, ltb, List, [], ◌∷◌, ◌++◌, Option, Some, None, sym, ap, ◌∙◌, refl, arith, inl, inr, ⊎_elim, subst}
-use Rattle.std.proofs.lemmas.Bool.{eq-eqb, ne_eqb, cases_Bool, or_cases, true≢false, both_ways, and_parts, not-true, not-false, and_from, and_cases, and_left, and_right, not_from_false, not_from_true, leb-false, cond-true}
+use Rattle.std.proofs.Common.{◌≡◌, ℕ, ◌+◌, ◌/◌, ◌<◌, ◌≤◌, ◌⊎◌, ℤ, Bool, true, false, ◌||◌, ◌&&◌, not, eqb, leb, ltb, List, [], ◌∷◌, ◌++◌, Option, Some, None, sym, ap, ◌∙◌, refl, arith, inl, inr, ⊎_elim, subst, get_or}
+use Rattle.std.specs.Prelude.{is_some}
+use Rattle.std.proofs.Math.ListN.{set}
+use Rattle.std.proofs.lemmas.List.{get_or_past}
+use Rattle.std.proofs.lemmas.Bool.{eq-eqb, ne_eqb, eqb-true, le-leb, leb-true, or_left, or_right, false_from_ne_true, cases_Bool, or_cases, true≢false, both_ways, and_parts, not-true, not-false, and_from, and_cases, and_left, and_right, not_from_false, not_from_true, leb-false, cond-true}
 use Rattle.xt_isa.specs.declared.Insn.{Insn}
 use Rattle.xt_isa.specs.declared.Insn.TheVariants as insn
 use Rattle.xt_isa.specs.declared.control.Control.TheVariants as control
 use Rattle.xt_isa.specs.declared.control.RetName.TheVariants as RetName
 use Rattle.xt_isa.specs.declared.density.Density.TheVariants as density
 use Rattle.xt_isa.specs.declared.density.NarrowRetName.TheVariants as NarrowRetName
+use Rattle.xt_isa.specs.declared.system.System.TheVariants as system
+use Rattle.xt_isa.specs.declared.system.SpecialName.TheVariants as SpecialName
 use Rattle.xt_isa.specs.Ranges.{in_range}
 use Rattle.xt_special.specs.declared.ps.Ps.{Ps}
 use Rattle.xt_special.specs.Control.{Control}
+use Rattle.xt_special.specs.Timers.{ticked}
 use Rattle.xt_special.specs.Exceptions.{after_exception}
 use Rattle.xt_window.specs.Ring.{visible, ahead}
 use Rattle.xt_window.specs.Moves.{behind}
@@ -28,30 +34,35 @@ use Rattle.xt_exec.specs.State.{State}
 use Rattle.xt_exec.specs.Turn.{in_window, has_windows, looks, window_check, return_size, is_illegal, illegal_return, written}
 use Rattle.xt_frames.specs.Frames.{Frame, FrameState, known, moved}
 use Rattle.xt_frames.specs.FrameStep.{FrameTurn, raised, fetched_step}
-use Rattle.xt_frames.specs.Breaches.{lost_of, Bounds, names_high, writes_epc1, falls, fresh_after}
+use Rattle.xt_frames.specs.Marks.{holds_marks, unset_by, unset_written}
+use Rattle.xt_frames.specs.Nesting.{unset_after}
+use Rattle.xt_frames.specs.Breaches.{Bounds, sets_epc1, names_high, writes_epc1, falls, fresh_after}
 use Rattle.xt_simulation.specs.Stacks.{sp_under}
-use Rattle.xt_simulation.specs.Relation.{Even, Level}
+use Rattle.xt_simulation.specs.Relation.{Even, Level, can_be_lost, lost_at}
 use Rattle.xt_simulation.proofs.WindowLemmas.{passes}
 use Rattle.xt_simulation.proofs.Behind.{caller_behind, none_behind}
-use Rattle.xt_rows.specs.Kinds.{WritesNamed, AwaitsNamed, IsReturn, is_entry}
+use Rattle.xt_rows.specs.Kinds.{SetsOne, SetsSaved, is_saved, moved_to, WritesNamed, AwaitsNamed, IsReturn, is_entry}
 use Rattle.xt_frames.proofs.Shown.{Sound, entry_number}
 use Rattle.xt_simulation.proofs.Windowed.{a0_known, return_names, return_has_caller, return_is}
 use Rattle.xt_exec.specs.Finishing.{Turn, finished}
 use Rattle.xt_simulation.specs.JudgedSteps.{Steps}
-use Rattle.xt_simulation.proofs.Evenly.{same_set_epc1, even_flow, even_ticked, even_raise_epc1, even_after}
+use Rattle.xt_simulation.proofs.Evenly.{Numbers, at_given, except, lost_in, numbers_set, same_at, same_given, same_numbers, even_effect, even_flow, even_ticked, even_raise_epc1, even_after}
 use Rattle.xt_simulation.proofs.Ordinary.{Ends, HasRoom, in_both, raise_alike}
 
 -- ---- the target
-abbrev pub Target : ℕ → Bool → List Frame → ℕ → Fetched → State → Turn → FrameTurn → Type 0
-Target vecbase fresh spilled under at s t u = Ends vecbase t u → Steps vecbase (lost_of (fresh_after fresh t.kind at s.control.ps t.after.control.ps)) spilled under t u
+-- `unset` are the registers that have no number before the step
+abbrev pub Target : ℕ → Bool → List Bool → List Frame → ℕ → Fetched → State → Turn → FrameTurn → Type 0
+Target vecbase fresh unset spilled under at s t u = Ends vecbase t u → Steps vecbase (lost_in (fresh_after fresh t.kind at s.control.ps t.after.control.ps) (unset_after t.kind at unset)) spilled under t u
 
-module _ {vecbase : ℕ} (fresh : Bool) {s : State} {g : FrameState} {ring spilled : List Frame} (l : Level vecbase (lost_of fresh) s g ring spilled) where
-  pub raise_target : (at : Fetched) (cause reply : ℕ) (addr : Option ℕ) → Target vecbase fresh spilled (sp_under (known g.seen 1) ring) at s (finished (in_window (settled_exception cause addr s.control) s) reply) (raised cause addr g)
+module _ {vecbase : ℕ} (fresh : Bool) {s : State} {g : FrameState} {ring spilled : List Frame} (l : Level vecbase (lost_at fresh g) s g ring spilled) where
+  pub raise_target : (at : Fetched) (cause reply : ℕ) (addr : Option ℕ) → Target vecbase fresh g.unset spilled (sp_under (known g.seen 1) ring) at s (finished (in_window (settled_exception cause addr s.control) s) reply) (raised cause addr g)
   unfolding writes_epc1
   raise_target at cause reply addr ends =
       let a = raise_alike cause addr s.control g.control l.even in
+      let c : Control = (settled_exception cause addr s.control).control in
+      let d : Control = (settled_exception cause addr g.control).control in
       in_both l (settled_exception cause addr s.control) (settled_exception cause addr g.control) reply
-      (record { kind = refl; write = refl; access = refl; awaited = refl; even = even_after fresh (not s.control.ps.excm) (not (falls s.control.ps (after_exception cause addr s.control).ps)) _ _ a.even (λ w. even_ticked _ _ (even_raise_epc1 cause addr s.control g.control (not-true _ w) l.even)) })
+      (record { kind = refl; write = refl; access = refl; awaited = refl; even = even_after fresh (not s.control.ps.excm) (not (falls s.control.ps (after_exception cause addr s.control).ps)) g.unset g.unset c d a.even (λ w. at_given (lost_at fresh g) 177 (even_ticked _ _ (even_raise_epc1 cause addr s.control g.control (not-true _ w) l.even))) (same_numbers g.unset c d) })
       tt tt ends
 
 module _ {vecbase : ℕ} {lost : ℕ → Bool} {s : State} {g : FrameState} {ring spilled : List Frame} (l : Level vecbase lost s g ring spilled) where
@@ -83,7 +94,7 @@ return_excm s n m e f pos h woe bad =
     (λ last. not_may s.control.ps woe last)
     (or_cases (eqb n 0 || (not (eqb m 0) && not (eqb m n))) (not (has_windows s.control.ps)) b)
 
-return_illegal : {b : Bounds} {fresh : Bool} {live stale : ℕ → Bool} {rec : StepRecord} {u : FrameTurn} {s : State} {g : FrameState} (ring spilled : List Frame) → Level b.vecbase (lost_of fresh) s g ring spilled → (i : Insn) → IsReturn i → Sound b fresh live stale i rec g u → illegal_return s ≡ true → s.control.ps.excm ≡ true
+return_illegal : {b : Bounds} {fresh : Bool} {live stale : ℕ → Bool} {rec : StepRecord} {u : FrameTurn} {s : State} {g : FrameState} (ring spilled : List Frame) → Level b.vecbase (lost_at fresh g) s g ring spilled → (i : Insn) → IsReturn i → Sound b fresh live stale i rec g u → illegal_return s ≡ true → s.control.ps.excm ≡ true
 return_illegal {s = s} {g = g} (f ∷ ring) spilled l i r o bad =
     let a = a0_known l i r o.unset in
     let n : return_size (visible s.regs s.base 0) ≡ f.by = rw (← a) (return_names f (ring ++ spilled) i g (return_is i r) l.frames o.mismatch) in
@@ -98,7 +109,7 @@ return_illegal {g = g} [] [] l i r o bad = absurd (return_has_caller i g (return
 abbrev pub Calls : Insn → Type 0
 Calls i = IsReturn i ⊎ ((number : ℕ) × (size : ℤ) × (i ≡ insn.Control (control.Entry number size)))
 
-pub illegal_excm : {b : Bounds} {fresh : Bool} {live stale : ℕ → Bool} {rec : StepRecord} {u : FrameTurn} {s : State} {g : FrameState} {ring spilled : List Frame} → Level b.vecbase (lost_of fresh) s g ring spilled → (i : Insn) → Sound b fresh live stale i rec g u → is_illegal i s ≡ true → (s.control.ps.excm ≡ true) × Calls i
+pub illegal_excm : {b : Bounds} {fresh : Bool} {live stale : ℕ → Bool} {rec : StepRecord} {u : FrameTurn} {s : State} {g : FrameState} {ring spilled : List Frame} → Level b.vecbase (lost_at fresh g) s g ring spilled → (i : Insn) → Sound b fresh live stale i rec g u → is_illegal i s ≡ true → (s.control.ps.excm ≡ true) × Calls i
 unfolding is_illegal
 illegal_excm {ring = ring} {spilled = spilled} l (insn.Control (control.Ret RetName.Retw)) o bad = (return_illegal ring spilled l (insn.Control (control.Ret RetName.Retw)) (inl refl) o bad, inl (inl refl))
 illegal_excm {ring = ring} {spilled = spilled} l (insn.Density (density.Ret NarrowRetName.Retw)) o bad = (return_illegal ring spilled l (insn.Density (density.Ret NarrowRetName.Retw)) (inr refl) o bad, inl (inr refl))
@@ -161,17 +172,83 @@ pub awaited_named : (i : Insn) (awaited : Option Awaited) (reply : ℕ) → Awai
 awaited_named i None reply h = tt
 awaited_named i (Some a) reply h = h
 
-pub epc1_effect : {lost : ℕ → Bool} (e : Effect) (len x : ℕ) (c d : Control) → e.sets ≡ (set_to 177 x, no_set, no_set) → Even lost c d → Even (lost_of true) (after_effect e len c) (after_effect e len d)
+-- where a WSR or XSR writes the register n, both machines give it one value
+given_effect : {lost : ℕ → Bool} (n x : ℕ) (e : Effect) (len : ℕ) (c d : Control) → e.sets ≡ (set_to n x, no_set, no_set) → Even lost c d → Even (except n lost) (after_effect e len c) (after_effect e len d)
 unfolding after_effect
-epc1_effect e len x c d q h =
+given_effect n x e len c d q h =
     even_flow e.flow len
     (record { pc = c.pc; special = with_sets e.sets c.special; ps = e.ps; threadptr = e.threadptr; waits = e.waits })
     (record { pc = d.pc; special = with_sets e.sets d.special; ps = e.ps; threadptr = e.threadptr; waits = e.waits })
-    (record { pc = h.pc; ps = refl; threadptr = refl; waits = refl; special = rw q (same_set_epc1 h.special x) })
+    (record { pc = h.pc; ps = refl; threadptr = refl; waits = refl; special = rw q (same_given h.special n x) })
+
+-- a register that can be lost saves another, or is MISC
+saved_low : (n : ℕ) → 177 ≤ n → n ≤ 215 → is_saved n ≡ true
+saved_low n low high = or_left _ _ (and_from _ _ (le-leb 177 n low) (le-leb n 215 high))
+
+pub lost_saved : (n : ℕ) → can_be_lost n ≡ true → is_saved n ≡ true
+lost_saved n h = ⊎_elim
+    (λ a. let q = eqb-true n 177 a in saved_low n (omega arith) (omega arith))
+    (λ b. ⊎_elim
+    (λ a. let q = eqb-true n 181 a in saved_low n (omega arith) (omega arith))
+    (λ c. ⊎_elim
+    (λ a. let q = eqb-true n 197 a in saved_low n (omega arith) (omega arith))
+    (λ d. ⊎_elim
+    (λ a. let q = and_parts (leb 209 n) (leb n 215) a in let x = leb-true 209 n q.0 in let y = leb-true n 215 q.1 in saved_low n (omega arith) (omega arith))
+    (λ a. or_right _ _ a)
+    (or_cases (leb 209 n && leb n 215) (leb 244 n && leb n 247) d))
+    (or_cases (eqb n 197) (holds_marks n) c))
+    (or_cases (eqb n 181) (eqb n 197 || holds_marks n) b))
+    (or_cases (eqb n 177) (eqb n 181 || (eqb n 197 || holds_marks n)) h)
+
+-- the register that it names has a number
+named_given : {lost : ℕ → Bool} (i : Insn) (e : Effect) (len t n : ℕ) (c d : Control) → moved_to i ≡ Some (t, n) → SetsSaved i e.sets → Even lost c d → get_or (ticked (after_effect e len c)).special n 0 ≡ get_or (ticked (after_effect e len d)).special n 0
+named_given {lost = lost} i e len t n c d is sets h =
+    let x : Control = ticked (after_effect e len c) in
+    let y : Control = ticked (after_effect e len d) in
+    ⊎_elim
+    (λ can.
+    let one : SetsOne (Some (t, n)) n e.sets = subst (λ (o : Option (ℕ × ℕ)). SetsOne o n e.sets) is (sets n (lost_saved n can)) in
+    let q = one.0 refl in
+    at_given lost n (even_ticked _ _ (given_effect n q.0 e len c d q.1 h)))
+    (λ sure. same_at (even_ticked _ _ (even_effect e len c d h)).special n sure)
+    (cases_Bool (can_be_lost n))
+
+abbrev no_mark : Option ℕ
+no_mark = None
+
+pub effect_numbers : {lost : ℕ → Bool} (i : Insn) (e : Effect) (len : ℕ) (c d : Control) (old : List Bool) → SetsSaved i e.sets → Even lost c d → Numbers old (unset_written i [] old) (ticked (after_effect e len c)) (ticked (after_effect e len d))
+effect_numbers {lost = lost} i e len c d old sets h = by (moved_to i) refl
+  where
+    x : Control
+    x = ticked (after_effect e len c)
+    y : Control
+    y = ticked (after_effect e len d)
+    by : (o : Option (ℕ × ℕ)) → moved_to i ≡ o → Numbers old (unset_by o [] old) x y
+    by None is = same_numbers old x y
+    by (Some p) is =
+        let none : is_some (get_or [] p.0 no_mark) ≡ false = ap is_some (get_or_past [] p.0 no_mark (omega arith)) in
+        subst (λ v. Numbers old (set old p.1 v) x y) (sym none) (numbers_set old old p.1 x y (named_given i e len p.0 p.1 c d is sets h) (same_numbers old x y))
+
+-- WSR and XSR of EPC1
+sets_moved : (i : Insn) → sets_epc1 i ≡ true → (t : ℕ) × (moved_to i ≡ Some (t, 177))
+unfolding sets_epc1 moved_to
+sets_moved (insn.System (system.Rsr SpecialName.Wsr t n)) h = (t, ap (λ n. Some (t, n)) (eqb-true n 177 h))
+sets_moved (insn.System (system.Rsr SpecialName.Xsr t n)) h = (t, ap (λ n. Some (t, n)) (eqb-true n 177 h))
+sets_moved _ h = absurd (true≢false (sym h))
+
+pub epc1_effect : {lost : ℕ → Bool} (i : Insn) (e : Effect) (len : ℕ) (c d : Control) → SetsSaved i e.sets → Even lost c d → sets_epc1 i ≡ true → get_or (ticked (after_effect e len c)).special 177 0 ≡ get_or (ticked (after_effect e len d)).special 177 0
+epc1_effect i e len c d sets h w = let q = sets_moved i w in named_given i e len q.0 177 c d q.1 sets h
+
+-- another instruction writes neither EPC1 nor another
+pub not_moved : (i : Insn) → moved_to i ≡ None → sets_epc1 i ≡ false
+not_moved i is = false_from_ne_true (sets_epc1 i) (λ h. let q = sets_moved i h in let bad : Some (q.0, 177) ≡ None = sym q.1 ∙ is in absurd cc)
+
+pub not_written : (i : Insn) (old : List Bool) → moved_to i ≡ None → unset_written i [] old ≡ old
+not_written i old is = ap (λ (o : Option (ℕ × ℕ)). unset_by o [] old) is
 
 -- ---- a step with another freshness
-pub less_fresh : {vecbase : ℕ} (fresh : Bool) {spilled : List Frame} {under : ℕ} {t : Turn} {u : FrameTurn} (written kept : Bool) → written ≡ false → Steps vecbase (lost_of fresh) spilled under t u → Steps vecbase (lost_of (written || (fresh && kept))) spilled under t u
-less_fresh fresh written kept w p = record {
+pub less_fresh : {vecbase : ℕ} (fresh : Bool) {spilled : List Frame} {under : ℕ} {t : Turn} {u : FrameTurn} (old new : List Bool) (writes kept : Bool) → writes ≡ false → new ≡ old → Steps vecbase (lost_in fresh old) spilled under t u → Steps vecbase (lost_in (writes || (fresh && kept)) new) spilled under t u
+less_fresh fresh {t = t} {u = u} old new writes kept w same p = record {
   kind = p.kind;
   write = p.write;
   access = p.access;
@@ -181,7 +258,7 @@ less_fresh fresh written kept w p = record {
     windows = p.level.windows;
     frames = p.level.frames;
     older = p.level.older;
-    even = even_after fresh written kept _ _ p.level.even (λ t. absurd (both_ways _ w t));
+    even = even_after fresh writes kept old new t.after.control u.after.control p.level.even (λ t. absurd (both_ways _ w t)) (λ k. inl (ap (λ xs. get_or xs k false) same));
     woe = p.level.woe;
     calls = p.level.calls;
     vectors = p.level.vectors;
