@@ -1,5 +1,5 @@
 -- An instruction that is executed keeps both machines level.
-use Rattle.std.proofs.Common.{◌≡◌, ℕ, zero, suc, ◌+◌, ◌<◌, ◌≢◌, ℤ, Bool, true, false, not, List, [], ◌∷◌, ◌++◌, Option, None, sym, ap, ◌∙◌, refl, arith, inl, inr, ⊎_elim, subst}
+use Rattle.std.proofs.Common.{◌≡◌, ℕ, zero, suc, ◌+◌, ◌<◌, ◌≢◌, ℤ, Bool, true, false, not, List, [], ◌∷◌, ◌++◌, Option, None, sym, ap, ◌∙◌, refl, arith, inl, inr, ⊎_elim, subst, get_or}
 use Rattle.std.proofs.lemmas.Bool.{eqb-false, cases_Bool, true≢false, both_ways, or_parts, cond-true, cond-false}
 use Rattle.xt_isa.specs.declared.Insn.{Insn}
 use Rattle.xt_isa.specs.declared.Insn.TheVariants as insn
@@ -9,6 +9,8 @@ use Rattle.xt_isa.specs.declared.density.Density.TheVariants as density
 use Rattle.xt_isa.specs.declared.density.NarrowRetName.TheVariants as NarrowRetName
 use Rattle.xt_isa.specs.Ranges.{in_range}
 use Rattle.xt_map.specs.declared.access.Access.{Access}
+use Rattle.xt_special.specs.Control.{Control}
+use Rattle.xt_special.specs.Timers.{ticked}
 use Rattle.xt_window.specs.Ring.{visible}
 use Rattle.xt_trace.specs.declared.record.StepRecord.{StepRecord}
 use Rattle.xt_rows.specs.declared.outcome.Awaited.{Awaited}
@@ -25,47 +27,53 @@ use Rattle.xt_exec.specs.Turn.{Planned, in_window, raises, has_windows, window_c
 use Rattle.xt_frames.specs.Frames.{Frame, FrameState, known, moved}
 use Rattle.xt_frames.specs.FrameStep.{FrameTurn, in_frame, raised, pushed, popped, windowed_in_frame, done_in_frame, fetched_step}
 use Rattle.xt_frames.specs.HandlerSteps.{is_window}
-use Rattle.xt_frames.specs.Breaches.{lost_of, Bounds, writes_sp, opens_nothing, sets_epc1, writes_epc1, falls}
+use Rattle.xt_frames.specs.Marks.{unset_written}
+use Rattle.xt_frames.specs.Nesting.{unset_after}
+use Rattle.xt_frames.specs.Breaches.{Bounds, writes_sp, opens_nothing, sets_epc1, writes_epc1, falls}
 use Rattle.xt_simulation.specs.Stacks.{sp_under}
-use Rattle.xt_simulation.specs.Relation.{Level}
+use Rattle.xt_simulation.specs.Relation.{Level, lost_at}
 use Rattle.xt_frames.proofs.Shown.{Sound, keeps_sp, entry_number}
 use Rattle.xt_simulation.proofs.WindowLemmas.{passes}
-use Rattle.xt_rows.specs.Kinds.{Fits, IsReturn}
+use Rattle.xt_rows.specs.Kinds.{Fits, IsReturn, moved_to}
 use Rattle.xt_rows.proofs.Fitting.{outcome_fits}
 use Rattle.xt_simulation.proofs.Windowed.{a0_known, return_names, return_has_caller, return_is, leaves_kind}
 use Rattle.xt_exec.proofs.Returns.{return_value}
 use Rattle.xt_exec.specs.Finishing.{finished}
-use Rattle.xt_simulation.proofs.Evenly.{even_ticked, even_after}
+use Rattle.xt_simulation.proofs.Evenly.{same_numbers, even_ticked, even_after}
 use Rattle.xt_simulation.proofs.Ordinary.{in_both, same_outcome, settled_alike}
 use Rattle.xt_simulation.proofs.Moves.{enters, leaves, underflows}
-use Rattle.xt_simulation.proofs.Judged.{Target, raise_target, same_excm, may, Calls, illegal_excm, excm_step, checked_ahead, has_room, awaited_named, epc1_effect, less_fresh}
+use Rattle.xt_simulation.proofs.Judged.{Target, raise_target, same_excm, may, Calls, illegal_excm, excm_step, checked_ahead, has_room, awaited_named, effect_numbers, epc1_effect, less_fresh, not_moved, not_written}
 
-module _ {b : Bounds} {fresh : Bool} {live stale : ℕ → Bool} {rec : StepRecord} {s : State} {g : FrameState} {ring spilled : List Frame} (l : Level b.vecbase (lost_of fresh) s g ring spilled) (i : Insn) (len reply : ℕ) (ok : in_range i ≡ true) (u : FrameTurn) (o : Sound b fresh live stale i rec g u) (legal : is_illegal i s ≡ false) (free : window_check i s ≡ 0) where
-  does_target : (e : Effect) → Fits i (Does e) → writes_sp i rec.write e.write ≡ false → Target b.vecbase fresh spilled (sp_under (known g.seen 1) ring) (Fetches i len) s (finished (in_window (settled (Does e) len s.control) s) reply) (in_frame (settled (Does e) len g.control) reply g)
+module _ {b : Bounds} {fresh : Bool} {live stale : ℕ → Bool} {rec : StepRecord} {s : State} {g : FrameState} {ring spilled : List Frame} (l : Level b.vecbase (lost_at fresh g) s g ring spilled) (i : Insn) (len reply : ℕ) (ok : in_range i ≡ true) (u : FrameTurn) (o : Sound b fresh live stale i rec g u) (legal : is_illegal i s ≡ false) (free : window_check i s ≡ 0) where
+  does_target : (e : Effect) → Fits i (Does e) → writes_sp i rec.write e.write ≡ false → Target b.vecbase fresh g.unset spilled (sp_under (known g.seen 1) ring) (Fetches i len) s (finished (in_window (settled (Does e) len s.control) s) reply) (in_frame (settled (Does e) len g.control) reply g)
   unfolding writes_epc1
   does_target e f sp ends =
       let a = settled_alike (Does e) len s.control g.control l.even in
+      let c : Control = (settled (Does e) len s.control).control in
+      let d : Control = (settled (Does e) len g.control).control in
       in_both l (settled (Does e) len s.control) (settled (Does e) len g.control) reply
-      (record { kind = refl; write = refl; access = refl; awaited = refl; even = even_after fresh (sets_epc1 i) (not (falls s.control.ps (with_write e.write (record s { control = (settled (Does e) len s.control).control })).control.ps)) _ _ a.even (λ w. let q = f.1 w in even_ticked _ _ (epc1_effect e len q.0 s.control g.control q.1 l.even)) })
+      (record { kind = refl; write = refl; access = refl; awaited = refl; even = even_after fresh (sets_epc1 i) (not (falls s.control.ps (with_write e.write (record s { control = c })).control.ps)) g.unset (unset_written i [] g.unset) c d a.even (epc1_effect i e len s.control g.control f.1 l.even) (effect_numbers i e len s.control g.control g.unset f.1 l.even) })
       (has_room l i ok f.2 o.high free e.write f.0)
       (keeps_sp i rec.write e.write f.2 o.movsp sp)
       ends
 
-  asks_target : (access : Access) (awaited : Option Awaited) (e : Effect) → Fits i (Asks access awaited e) → writes_sp i rec.write (written None awaited reply) ≡ false → Target b.vecbase fresh spilled (sp_under (known g.seen 1) ring) (Fetches i len) s (finished (in_window (settled (Asks access awaited e) len s.control) s) reply) (in_frame (settled (Asks access awaited e) len g.control) reply g)
+  asks_target : (access : Access) (awaited : Option Awaited) (e : Effect) → Fits i (Asks access awaited e) → writes_sp i rec.write (written None awaited reply) ≡ false → Target b.vecbase fresh g.unset spilled (sp_under (known g.seen 1) ring) (Fetches i len) s (finished (in_window (settled (Asks access awaited e) len s.control) s) reply) (in_frame (settled (Asks access awaited e) len g.control) reply g)
   unfolding writes_epc1
   asks_target access awaited e f sp ends =
       let a = settled_alike (Asks access awaited e) len s.control g.control l.even in
+      let c : Control = (settled (Asks access awaited e) len s.control).control in
+      let d : Control = (settled (Asks access awaited e) len g.control).control in
       in_both l (settled (Asks access awaited e) len s.control) (settled (Asks access awaited e) len g.control) reply
-      (record { kind = refl; write = refl; access = refl; awaited = refl; even = even_after fresh (sets_epc1 i) (not (falls s.control.ps (with_write (written None awaited reply) (record s { control = (settled (Asks access awaited e) len s.control).control })).control.ps)) _ _ a.even (λ w. absurd (both_ways _ f.1 w)) })
+      (record { kind = refl; write = refl; access = refl; awaited = refl; even = even_after fresh (sets_epc1 i) (not (falls s.control.ps (with_write (written None awaited reply) (record s { control = c })).control.ps)) g.unset (unset_written i [] g.unset) c d a.even (λ w. absurd (both_ways _ (not_moved i f.1) w)) (λ k. inl (ap (λ xs. get_or xs k false) (not_written i g.unset f.1))) })
       (has_room l i ok f.2 o.high free (written None awaited reply) (awaited_named i awaited reply f.0))
       (keeps_sp i rec.write (written None awaited reply) f.2 o.movsp sp)
       ends
 
-  stops_target : Target b.vecbase fresh spilled (sp_under (known g.seen 1) ring) (Fetches i len) s (finished (in_window (settled Stops len s.control) s) reply) (in_frame (settled Stops len g.control) reply g)
+  stops_target : Target b.vecbase fresh g.unset spilled (sp_under (known g.seen 1) ring) (Fetches i len) s (finished (in_window (settled Stops len s.control) s) reply) (in_frame (settled Stops len g.control) reply g)
   unfolding writes_epc1
   stops_target ends =
       in_both l (settled Stops len s.control) (settled Stops len g.control) reply
-      (record { kind = refl; write = refl; access = refl; awaited = refl; even = even_after fresh false (not (falls s.control.ps s.control.ps)) _ _ (even_ticked s.control g.control l.even) (λ w. absurd (true≢false (sym w))) })
+      (record { kind = refl; write = refl; access = refl; awaited = refl; even = even_after fresh false (not (falls s.control.ps s.control.ps)) g.unset g.unset (ticked s.control) (ticked g.control) (even_ticked s.control g.control l.even) (λ w. absurd (true≢false (sym w))) (same_numbers g.unset (ticked s.control) (ticked g.control)) })
       tt tt ends
 
   -- ---- ENTRY
@@ -101,25 +109,25 @@ module _ {b : Bounds} {fresh : Bool} {live stale : ℕ → Bool} {rec : StepReco
       let c = l.calls in
       passes l.windows s.control.ps.callinc (omega arith) (checked_ahead l (insn.Control (control.Entry number size)) low q)
 
-  entry_not_epc1 : (number : ℕ) (size : ℤ) → i ≡ insn.Control (control.Entry number size) → sets_epc1 i ≡ false
-  unfolding sets_epc1
-  entry_not_epc1 number size e = rw e refl
+  entry_moves_none : (number : ℕ) (size : ℤ) → i ≡ insn.Control (control.Entry number size) → moved_to i ≡ None
+  unfolding moved_to
+  entry_moves_none number size e = rw e refl
 
-  enters_target : (number value : ℕ) (size : ℤ) → i ≡ insn.Control (control.Entry number size) → Target b.vecbase fresh spilled (sp_under (known g.seen 1) ring) (Fetches i len) s (finished (entered number value len s) reply) (windowed_in_frame (Enters number value) len reply g)
+  enters_target : (number value : ℕ) (size : ℤ) → i ≡ insn.Control (control.Entry number size) → Target b.vecbase fresh g.unset spilled (sp_under (known g.seen 1) ring) (Fetches i len) s (finished (entered number value len s) reply) (windowed_in_frame (Enters number value) len reply g)
   unfolding entered writes_epc1
   enters_target number value size e =
       let low = not_excm (inr (number, size, e)) in
       let other : g.control.ps.excm ≡ false = sym (same_excm l) ∙ low in
       let one : number ≡ 1 = entry_number number size b.range g (rw e at o.size) in
-      let P : FrameTurn → Type 0 = λ u. Target b.vecbase fresh spilled (sp_under (known g.seen 1) ring) (Fetches i len) s (finished (entered number value len s) reply) u in
-      let Q : ℕ → Type 0 = λ n. Target b.vecbase fresh spilled (sp_under (known g.seen 1) ring) (Fetches i len) s (finished (entered n value len s) reply) (pushed n value len g) in
+      let P : FrameTurn → Type 0 = λ u. Target b.vecbase fresh g.unset spilled (sp_under (known g.seen 1) ring) (Fetches i len) s (finished (entered number value len s) reply) u in
+      let Q : ℕ → Type 0 = λ n. Target b.vecbase fresh g.unset spilled (sp_under (known g.seen 1) ring) (Fetches i len) s (finished (entered n value len s) reply) (pushed n value len g) in
       subst P (sym (cond-false g.control.ps.excm (raised illegal_instruction None g) (pushed number value len g) other))
-      (subst Q (sym one) (λ ends. less_fresh fresh (sets_epc1 i) _ (entry_not_epc1 number size e) (enters l value len reply (opens_some number size e) (room_ahead number size e) ends)))
+      (let none = entry_moves_none number size e in subst Q (sym one) (λ ends. less_fresh fresh g.unset (unset_written i [] g.unset) (sets_epc1 i) _ (not_moved i none) (not_written i g.unset none) (enters l value len reply (opens_some number size e) (room_ahead number size e) ends)))
 
   -- ---- RETW
-  return_not_epc1 : IsReturn i → sets_epc1 i ≡ false
-  unfolding sets_epc1
-  return_not_epc1 r = ⊎_elim (λ e. rw e refl) (λ e. rw e refl) r
+  return_moves_none : IsReturn i → moved_to i ≡ None
+  unfolding moved_to
+  return_moves_none r = ⊎_elim (λ e. rw e refl) (λ e. rw e refl) r
 
 window_not : (p q : Planned) → p ≡ q → is_window q.kind ≡ true → is_window p.kind ≡ false → ⊥
 window_not p q e is isnt = let f : is_window p.kind ≡ true = rw e is in both_ways _ isnt f
@@ -132,18 +140,20 @@ pub overflow_window : (n : ℕ) (s : State) → is_window (overflow n s).kind �
 unfolding overflow
 overflow_window n s = refl
 
-pub returns_target : {b : Bounds} {fresh : Bool} {live stale : ℕ → Bool} {rec : StepRecord} {u : FrameTurn} {s : State} {g : FrameState} (ring spilled : List Frame) (i : Insn) (len reply : ℕ) → IsReturn i → in_range i ≡ true → Level b.vecbase (lost_of fresh) s g ring spilled → Sound b fresh live stale i rec g u → is_illegal i s ≡ false → window_check i s ≡ 0
-    → (a0 : ℕ) → visible s.regs s.base 0 ≡ a0 → is_window (returned a0 s).kind ≡ false → Target b.vecbase fresh spilled (sp_under (known g.seen 1) ring) (Fetches i len) s (finished (returned a0 s) reply) (windowed_in_frame (Returns a0) len reply g)
+pub returns_target : {b : Bounds} {fresh : Bool} {live stale : ℕ → Bool} {rec : StepRecord} {u : FrameTurn} {s : State} {g : FrameState} (ring spilled : List Frame) (i : Insn) (len reply : ℕ) → IsReturn i → in_range i ≡ true → Level b.vecbase (lost_at fresh g) s g ring spilled → Sound b fresh live stale i rec g u → is_illegal i s ≡ false → window_check i s ≡ 0
+    → (a0 : ℕ) → visible s.regs s.base 0 ≡ a0 → is_window (returned a0 s).kind ≡ false → Target b.vecbase fresh g.unset spilled (sp_under (known g.seen 1) ring) (Fetches i len) s (finished (returned a0 s) reply) (windowed_in_frame (Returns a0) len reply g)
 unfolding writes_epc1
 returns_target {b = b} {fresh = fresh} {u = u} {s = s} {g = g} (f ∷ ring) spilled i len reply r ok l o legal free a0 v nowindow =
     let a = a0_known l i r o.unset in
     let n : return_size a0 ≡ f.by = rw (← v, ← a) (return_names f (ring ++ spilled) i g (return_is i r) l.frames o.mismatch) in
     let k = leaves_kind l a0 n in
     let other : g.control.ps.excm ≡ false = sym (same_excm l) ∙ not_excm l i len reply ok u o legal free (inl r) in
-    let w : writes_epc1 (returned a0 s).kind (Fetches i len) s.control.ps ≡ false = rw k (return_not_epc1 l i len reply ok u o legal free r) in
-    let P : FrameTurn → Type 0 = λ u. Target b.vecbase fresh spilled (sp_under (known g.seen 1) (f ∷ ring)) (Fetches i len) s (finished (returned a0 s) reply) u in
+    let none = return_moves_none l i len reply ok u o legal free r in
+    let w : writes_epc1 (returned a0 s).kind (Fetches i len) s.control.ps ≡ false = rw k (not_moved i none) in
+    let same : unset_after (returned a0 s).kind (Fetches i len) g.unset ≡ g.unset = rw k (not_written i g.unset none) in
+    let P : FrameTurn → Type 0 = λ u. Target b.vecbase fresh g.unset spilled (sp_under (known g.seen 1) (f ∷ ring)) (Fetches i len) s (finished (returned a0 s) reply) u in
     subst P (sym (cond-false g.control.ps.excm (raised illegal_instruction None g) (popped a0 g) other))
-    (λ ends. less_fresh fresh (writes_epc1 (returned a0 s).kind (Fetches i len) s.control.ps) _ w (leaves l a0 reply n ends))
+    (λ ends. less_fresh fresh g.unset (unset_after (returned a0 s).kind (Fetches i len) g.unset) (writes_epc1 (returned a0 s).kind (Fetches i len) s.control.ps) _ w same (leaves l a0 reply n ends))
 returns_target {s = s} {g = g} [] (f ∷ rest) i len reply r ok l o legal free a0 v nowindow =
     let a = a0_known l i r o.unset in
     let n : return_size a0 ≡ f.by = rw (← v, ← a) (return_names f rest i g (return_is i r) l.frames o.mismatch) in
@@ -154,8 +164,8 @@ returns_target {s = s} {g = g} [] (f ∷ rest) i len reply r ok l o legal free a
 returns_target {g = g} [] [] i len reply r ok l o legal free a0 v nowindow = absurd (return_has_caller i g (return_is i r) l.frames o.caller)
 
 -- ---- the instruction, by its outcome
-module _ {b : Bounds} {fresh : Bool} {live stale : ℕ → Bool} {rec : StepRecord} {s : State} {g : FrameState} {ring spilled : List Frame} (l : Level b.vecbase (lost_of fresh) s g ring spilled) (code : ℕ → ℕ) (i : Insn) (len reply : ℕ) (ok : in_range i ≡ true) (u : FrameTurn) (o : Sound b fresh live stale i rec g u) (legal : is_illegal i s ≡ false) (free : window_check i s ≡ 0) where
-  done_target : (x : Outcome) → outcome_at code i (visible s.regs s.base) s.control ≡ x → Fits i x → is_window (done x len s).kind ≡ false → writes_sp i rec.write (done_in_frame x len reply g).write ≡ false → Target b.vecbase fresh spilled (sp_under (known g.seen 1) ring) (Fetches i len) s (finished (done x len s) reply) (done_in_frame x len reply g)
+module _ {b : Bounds} {fresh : Bool} {live stale : ℕ → Bool} {rec : StepRecord} {s : State} {g : FrameState} {ring spilled : List Frame} (l : Level b.vecbase (lost_at fresh g) s g ring spilled) (plain : g.nested ≡ None) (code : ℕ → ℕ) (i : Insn) (len reply : ℕ) (ok : in_range i ≡ true) (u : FrameTurn) (o : Sound b fresh live stale i rec g u) (legal : is_illegal i s ≡ false) (free : window_check i s ≡ 0) where
+  done_target : (x : Outcome) → outcome_at code i (visible s.regs s.base) s.control ≡ x → Fits i x → is_window (done x len s).kind ≡ false → writes_sp i rec.write (done_in_frame x len reply g).write ≡ false → Target b.vecbase fresh g.unset spilled (sp_under (known g.seen 1) ring) (Fetches i len) s (finished (done x len s) reply) (done_in_frame x len reply g)
   done_target (Does e) q f nowindow sp = does_target l i len reply ok u o legal free e f sp
   done_target (Raises cause addr) q f nowindow sp = raise_target fresh l (Fetches i len) cause reply addr
   done_target (Asks access awaited e) q f nowindow sp = asks_target l i len reply ok u o legal free access awaited e f sp
@@ -170,30 +180,30 @@ module _ {b : Bounds} {fresh : Bool} {live stale : ℕ → Bool} {rec : StepReco
   done_target (Windowed (Sets register value)) q f nowindow sp = absurd (both_ways _ o.window_register f)
   done_target (Windowed (Exchanges register number value)) q f nowindow sp = absurd (both_ways _ o.window_register f)
 
-  executed_target : is_window (done (outcome_at code i (visible s.regs s.base) s.control) len s).kind ≡ false → writes_sp i rec.write (fetched_step (Fetches i len) code reply g).write ≡ false → Target b.vecbase fresh spilled (sp_under (known g.seen 1) ring) (Fetches i len) s (finished (done (outcome_at code i (visible s.regs s.base) s.control) len s) reply) (fetched_step (Fetches i len) code reply g)
+  executed_target : is_window (done (outcome_at code i (visible s.regs s.base) s.control) len s).kind ≡ false → writes_sp i rec.write (fetched_step (Fetches i len) code reply g).write ≡ false → Target b.vecbase fresh g.unset spilled (sp_under (known g.seen 1) ring) (Fetches i len) s (finished (done (outcome_at code i (visible s.regs s.base) s.control) len s) reply) (fetched_step (Fetches i len) code reply g)
   executed_target nowindow sp =
-      let same = same_outcome fresh l code i o.unset o.lost in
-      let P : Outcome → Type 0 = λ x. writes_sp i rec.write (done_in_frame x len reply g).write ≡ false → Target b.vecbase fresh spilled (sp_under (known g.seen 1) ring) (Fetches i len) s (finished (done (outcome_at code i (visible s.regs s.base) s.control) len s) reply) (done_in_frame x len reply g) in
+      let same = same_outcome fresh l code i plain o.unset o.lost in
+      let P : Outcome → Type 0 = λ x. writes_sp i rec.write (done_in_frame x len reply g).write ≡ false → Target b.vecbase fresh g.unset spilled (sp_under (known g.seen 1) ring) (Fetches i len) s (finished (done (outcome_at code i (visible s.regs s.base) s.control) len s) reply) (done_in_frame x len reply g) in
       subst P same (done_target (outcome_at code i (visible s.regs s.base) s.control) refl (outcome_fits code i s.control.pc _ _ _ _ s.control.ps s.control.threadptr) nowindow) sp
 
 -- ---- the fetched instruction
-module _ {b : Bounds} {fresh : Bool} {live stale : ℕ → Bool} {rec : StepRecord} {s : State} {g : FrameState} {ring spilled : List Frame} (l : Level b.vecbase (lost_of fresh) s g ring spilled) (code : ℕ → ℕ) (i : Insn) (len reply : ℕ) (ok : in_range i ≡ true) (o : Sound b fresh live stale i rec g (fetched_step (Fetches i len) code reply g)) where
-  checked_target : (k : ℕ) → window_check i s ≡ k → is_illegal i s ≡ false → is_window (checked k code i len s).kind ≡ false → Target b.vecbase fresh spilled (sp_under (known g.seen 1) ring) (Fetches i len) s (finished (checked k code i len s) reply) (fetched_step (Fetches i len) code reply g)
-  checked_target zero c legal nowindow = executed_target l code i len reply ok (fetched_step (Fetches i len) code reply g) o legal c nowindow o.written
+module _ {b : Bounds} {fresh : Bool} {live stale : ℕ → Bool} {rec : StepRecord} {s : State} {g : FrameState} {ring spilled : List Frame} (l : Level b.vecbase (lost_at fresh g) s g ring spilled) (plain : g.nested ≡ None) (code : ℕ → ℕ) (i : Insn) (len reply : ℕ) (ok : in_range i ≡ true) (o : Sound b fresh live stale i rec g (fetched_step (Fetches i len) code reply g)) where
+  checked_target : (k : ℕ) → window_check i s ≡ k → is_illegal i s ≡ false → is_window (checked k code i len s).kind ≡ false → Target b.vecbase fresh g.unset spilled (sp_under (known g.seen 1) ring) (Fetches i len) s (finished (checked k code i len s) reply) (fetched_step (Fetches i len) code reply g)
+  checked_target zero c legal nowindow = executed_target l plain code i len reply ok (fetched_step (Fetches i len) code reply g) o legal c nowindow o.written
   checked_target (suc k) c legal nowindow = absurd (both_ways _ nowindow (overflow_window (suc k) s))
 
-  pub insn_target : is_window (fetched_turn (Fetches i len) code s).kind ≡ false → Target b.vecbase fresh spilled (sp_under (known g.seen 1) ring) (Fetches i len) s (finished (fetched_turn (Fetches i len) code s) reply) (fetched_step (Fetches i len) code reply g)
+  pub insn_target : is_window (fetched_turn (Fetches i len) code s).kind ≡ false → Target b.vecbase fresh g.unset spilled (sp_under (known g.seen 1) ring) (Fetches i len) s (finished (fetched_turn (Fetches i len) code s) reply) (fetched_step (Fetches i len) code reply g)
   insn_target nowindow =
       ⊎_elim
       (λ bad.
       let x = illegal_excm l i o bad in
       let other : g.control.ps.excm ≡ true = sym (same_excm l) ∙ x.0 in
       let u = excm_step code i len reply g x.1 other in
-      let P : FrameTurn → Type 0 = λ u. Target b.vecbase fresh spilled (sp_under (known g.seen 1) ring) (Fetches i len) s (finished (raises illegal_instruction s) reply) u in
-      let Q : Planned → Type 0 = λ t. Target b.vecbase fresh spilled (sp_under (known g.seen 1) ring) (Fetches i len) s (finished t reply) (fetched_step (Fetches i len) code reply g) in
+      let P : FrameTurn → Type 0 = λ u. Target b.vecbase fresh g.unset spilled (sp_under (known g.seen 1) ring) (Fetches i len) s (finished (raises illegal_instruction s) reply) u in
+      let Q : Planned → Type 0 = λ t. Target b.vecbase fresh g.unset spilled (sp_under (known g.seen 1) ring) (Fetches i len) s (finished t reply) (fetched_step (Fetches i len) code reply g) in
       subst Q (sym (cond-true (is_illegal i s) (raises illegal_instruction s) (checked (window_check i s) code i len s) bad)) (subst P (sym u) (raise_target fresh l (Fetches i len) 0 reply None)))
       (λ legal.
       let t = cond-false (is_illegal i s) (raises illegal_instruction s) (checked (window_check i s) code i len s) legal in
-      let Q : Planned → Type 0 = λ t. is_window t.kind ≡ false → Target b.vecbase fresh spilled (sp_under (known g.seen 1) ring) (Fetches i len) s (finished t reply) (fetched_step (Fetches i len) code reply g) in
+      let Q : Planned → Type 0 = λ t. is_window t.kind ≡ false → Target b.vecbase fresh g.unset spilled (sp_under (known g.seen 1) ring) (Fetches i len) s (finished t reply) (fetched_step (Fetches i len) code reply g) in
       subst Q (sym t) (checked_target (window_check i s) refl legal) nowindow)
       (cases_Bool (is_illegal i s))

@@ -1,8 +1,8 @@
 -- What the processor's turn is at an instruction of a handler.
-use Rattle.std.proofs.Common.{◌≡◌, ℕ, ◌+◌, ◌*◌, ◌%◌, ◌^◌, ◌<◌, ℤ, pos, negsuc, Bool, true, false, ◌&&◌, cond, eqb, ltb, refl, sym, ◌∙◌, ap, arith, Some, None, subst}
+use Rattle.std.proofs.Common.{◌≡◌, ℕ, ◌+◌, ◌*◌, ◌%◌, ◌^◌, ◌<◌, ◌≤◌, ◌⊎◌, inl, inr, ⊎_elim, ℤ, pos, negsuc, Bool, true, false, ◌&&◌, cond, eqb, ltb, refl, sym, ◌∙◌, ap, arith, Some, None, subst}
 use Rattle.std.specs.Prelude.{unsigned_abs, max}
 use Rattle.std.proofs.Math.ListN.{set}
-use Rattle.std.proofs.lemmas.Bool.{cond-false, and_parts, and_right, le-ltb, ltb-true, true≢false}
+use Rattle.std.proofs.lemmas.Bool.{both_ways, cond-false, cond_both, and_parts, and_right, eq-eqb, eqb-true, false_from_ne_true, le-ltb, lt-ltb, ltb-true, true≢false}
 use Rattle.xt_isa.specs.declared.Insn.{Insn}
 use Rattle.xt_isa.specs.declared.Insn.TheVariants as insn
 use Rattle.xt_isa.specs.declared.memory.WindowName.{WindowName}
@@ -21,7 +21,7 @@ use Rattle.xt_special.specs.declared.ps.Ps.{Ps}
 use Rattle.xt_special.specs.Numbers as number
 use Rattle.xt_special.specs.Control.{Control, special_of}
 use Rattle.xt_special.specs.Timers.{ticked}
-use Rattle.xt_special.specs.Interrupts.{pending_level, pending_of}
+use Rattle.xt_special.specs.Interrupts.{current_level, pending_level, pending_of}
 use Rattle.xt_loop.specs.Looping.{loops_back}
 use Rattle.xt_window.specs.Ring.{place, visible, ahead, with_bit, without_bit}
 use Rattle.xt_trace.specs.declared.record.StepKind.TheVariants as kind
@@ -37,7 +37,8 @@ use Rattle.xt_rows.specs.Outcomes.{outcome, memory_outcome, system_outcome, dens
 use Rattle.xt_rows.specs.Settling.{after_flow, after_effect}
 use Rattle.xt_exec.specs.State.{State}
 use Rattle.xt_exec.specs.Turn.{Planned, planned, demand, turn, written, with_write, raises, has_windows, looks, window_check, is_illegal, done, checked, fetched_turn, resumed}
-use Rattle.xt_exec.proofs.Finished.{turn_fetches}
+use Rattle.xt_exec.proofs.Finished.{turn_fetches, turn_taken}
+use Rattle.xt_frames.specs.Nesting.{is_nesting, nested_level}
 use Rattle.xt_stretch.specs.declared.Step.{Step}
 use Rattle.xt_stretch.specs.declared.Step.TheVariants.{L32e, S32e, Nop, Rfwo, Rfwu, Foreign}
 use Rattle.xt_stretch.specs.Spelled.{step_of_insn}
@@ -67,22 +68,61 @@ shown (insn.System (system.Rfe return.Rfwo)) = ends_overflow
 shown (insn.System (system.Rfe return.Rfwu)) = ends_underflow
 shown _ = other
 
--- ---- within a handler no interrupt is taken, no window is checked, and no loop goes back
-two_false : (b c : Bool) (x y : ℕ) → cond (b && false) x (cond (c && false) y 0) ≡ 0
-two_false true true x y = refl
-two_false true false x y = refl
-two_false false true x y = refl
-two_false false false x y = refl
+-- ---- within a handler no interrupt but a nested one is taken, no window is checked, and no loop goes back
+abbrev level_of : Bool → Bool → Bool → ℕ
+level_of a b c = cond a 5 (cond b 3 (cond c 1 0))
 
-quiet_level : (interrupt enabled : ℕ) (ps : Ps) → ps.excm ≡ true → pending_level interrupt enabled ps ≡ 0
+first_of : (a b c : Bool) → (level_of a (b && false) (c && false) ≡ 5) ⊎ (level_of a (b && false) (c && false) ≡ 0)
+first_of true b c = inl refl
+first_of false true true = inr refl
+first_of false true false = inr refl
+first_of false false true = inr refl
+first_of false false false = inr refl
+
+-- exception mode masks the levels up to 3
+five_or_none : (interrupt enabled : ℕ) (ps : Ps) → ps.excm ≡ true → (pending_level interrupt enabled ps ≡ 5) ⊎ (pending_level interrupt enabled ps ≡ 0)
 unfolding pending_level
-quiet_level interrupt enabled ps e =
+five_or_none interrupt enabled ps e =
     let three : ltb (max ps.intlevel 3) 3 ≡ false = le-ltb (max ps.intlevel 3) 3 (omega arith) in
     let one : ltb (max ps.intlevel 3) 1 ≡ false = le-ltb (max ps.intlevel 3) 1 (omega arith) in
-    rw (e, three, one) (two_false _ _ 3 1)
+    rw (e, three, one) (first_of _ _ _)
 
-pub quiet : (c : Control) → c.ps.excm ≡ true → ltb 0 (pending_of c) ≡ false
-quiet c e = let p = quiet_level (special_of c number.interrupt) (special_of c number.intenable) c.ps e in rw p refl
+pub quiet_level : (code : ℕ → ℕ) (s : State) → s.control.ps.excm ≡ true → is_nesting (planned code s).kind ≡ false → pending_of s.control ≡ 0
+quiet_level code s e h = ⊎_elim
+    (λ five.
+    let taken = turn_taken code s (lt-ltb 0 (pending_of s.control) (omega (arith, five))) in
+    let is : is_nesting (planned code s).kind ≡ eqb (pending_of s.control) 5 = ap (λ (p : Planned). is_nesting p.kind) taken in
+    absurd (both_ways _ h (is ∙ eq-eqb (pending_of s.control) 5 five)))
+    (λ none. none)
+    (five_or_none (special_of s.control number.interrupt) (special_of s.control number.intenable) s.control.ps e)
+
+-- an interrupt of level 1 is taken outside exception mode
+pub low_level : (c : Control) → eqb (pending_of c) 1 ≡ true → c.ps.excm ≡ false
+low_level c h = false_from_ne_true c.ps.excm (λ e.
+    let one = eqb-true (pending_of c) 1 h in
+    ⊎_elim (λ five. omega (arith, five, one)) (λ none. omega (arith, none, one))
+    (five_or_none (special_of c number.interrupt) (special_of c number.intenable) c.ps e))
+
+-- nor is one in a nested interrupt
+all_masked : (a b c : Bool) → level_of (a && false) (b && false) (c && false) ≡ 0
+all_masked a b c =
+    let x = and_right a false refl in
+    let y = and_right b false refl in
+    let z = and_right c false refl in
+    rw (x, y, z) refl
+
+none_above : (interrupt enabled : ℕ) (ps : Ps) → 5 ≤ current_level ps → pending_level interrupt enabled ps ≡ 0
+unfolding pending_level
+none_above interrupt enabled ps high =
+    let five : ltb (current_level ps) 5 ≡ false = le-ltb (current_level ps) 5 high in
+    let three : ltb (current_level ps) 3 ≡ false = le-ltb (current_level ps) 3 (omega arith) in
+    let one : ltb (current_level ps) 1 ≡ false = le-ltb (current_level ps) 1 (omega arith) in
+    rw (five, three, one) (all_masked _ _ _)
+
+pub quiet_nested : (c : Control) → c.ps.intlevel ≡ nested_level → pending_of c ≡ 0
+quiet_nested c is =
+    none_above (special_of c number.interrupt) (special_of c number.intenable) c.ps
+    (cond_both c.ps.excm (max c.ps.intlevel 3) c.ps.intlevel (λ n. 5 ≤ n) (λ e. omega (arith, is)) (λ e. omega (arith, is)))
 
 no_windows : (ps : Ps) → ps.excm ≡ true → has_windows ps ≡ false
 no_windows ps e = rw e (and_right ps.woe false refl)

@@ -2,6 +2,7 @@
 use Rattle.xt_special.proofs.Kept.{Kept, interrupt_kept, tick_kept}
 use Rattle.xt_fetch.proofs.Fetches.{fetched_range}
 use Rattle.std.proofs.Common.{◌≡◌, ℕ, ◌<◌, Bool, true, false, ◌||◌, ◌&&◌, not, eqb, ltb, List, Some, None, sym, ap, ◌∙◌, refl, arith, ⊎_elim, subst}
+use Rattle.std.proofs.Math.ListN.{set}
 use Rattle.std.proofs.lemmas.Bool.{cases_Bool, true≢false, or_from, cond-true, cond-false, not-false, eqb-true}
 use Rattle.xt_isa.specs.declared.Insn.{Insn}
 use Rattle.xt_isa.specs.Ranges.{in_range}
@@ -14,19 +15,23 @@ use Rattle.xt_fetch.specs.Fetching.{Fetched, Fetches, Fails, SpellsNothing, fetc
 use Rattle.xt_rows.specs.Effects.{illegal_instruction, fetch_error}
 use Rattle.xt_rows.specs.Settling.{settled_interrupt, settled_wait}
 use Rattle.xt_exec.proofs.Specials.{level_small}
+use Rattle.xt_fetch.specs.Code.{AreBytes}
 use Rattle.xt_exec.specs.State.{State}
+use Rattle.xt_exec.specs.Laws.{IsShaped}
 use Rattle.xt_exec.specs.Turn.{Planned, planned, in_window, fetched_turn, turn}
 use Rattle.xt_frames.specs.Frames.{Frame, FrameState, known}
 use Rattle.xt_frames.specs.FrameStep.{FrameTurn, in_frame, fetched_step, laid_step}
 use Rattle.xt_frames.specs.HandlerSteps.{is_window}
-use Rattle.xt_frames.specs.Breaches.{lost_of, Bounds, first_shown, fetched_tests, other_tests, laid_breach, writes_epc1, falls, fresh_after}
+use Rattle.xt_frames.specs.Nesting.{unset_after}
+use Rattle.xt_frames.specs.Breaches.{Bounds, first_shown, fetched_tests, other_tests, laid_breach, writes_epc1, falls, fresh_after}
 use Rattle.xt_simulation.specs.Stacks.{sp_under}
-use Rattle.xt_simulation.specs.Relation.{Level}
+use Rattle.xt_simulation.specs.Relation.{Level, lost_at}
 use Rattle.xt_frames.proofs.Shown.{NoneShown, none_shown, sound}
 use Rattle.xt_exec.proofs.Finished.{turn_taken, turn_waits, turn_fetches}
 use Rattle.xt_exec.specs.Finishing.{Turn, finished}
-use Rattle.xt_simulation.specs.JudgedSteps.{Steps, KeepsLevel}
-use Rattle.xt_simulation.proofs.Evenly.{same_at, even_ticked, even_interrupt, even_interrupt_epc1, even_after, same_pending}
+use Rattle.xt_simulation.specs.JudgedSteps.{Steps, KeepsLevel, fresh_turn, plain_after, turn_of}
+use Rattle.xt_simulation.proofs.Evenly.{at_given, interrupt_numbers, lost_in, same_at, same_numbers, even_ticked, even_interrupt, even_interrupt_epc1, even_after, same_pending}
+use Rattle.xt_simulation.proofs.Turns.{low_level}
 use Rattle.xt_simulation.proofs.Ordinary.{Ends, in_both}
 use Rattle.xt_simulation.proofs.Judged.{Target, raise_target}
 use Rattle.xt_simulation.proofs.Executed.{insn_target}
@@ -49,26 +54,37 @@ pub breach_fetches : (b : Bounds) (fresh : Bool) (code : ℕ → ℕ) (live stal
 unfolding laid_breach
 breach_fetches b fresh code live stale rec g e w = cond-false (ltb 0 (pending_of g.control) || g.control.waits) _ _ (or_from _ _ e w)
 
-module _ {vecbase : ℕ} (fresh : Bool) {s : State} {g : FrameState} {ring spilled : List Frame} (l : Level vecbase (lost_of fresh) s g ring spilled) (at : Fetched) (reply : ℕ) where
-  taken_target : (level : ℕ) → Target vecbase fresh spilled (sp_under (known g.seen 1) ring) at s (finished (in_window (settled_interrupt level s.control) s) reply) (in_frame (settled_interrupt level g.control) reply g)
+module _ {vecbase : ℕ} (fresh : Bool) {s : State} {g : FrameState} {ring spilled : List Frame} (l : Level vecbase (lost_at fresh g) s g ring spilled) (at : Fetched) (reply : ℕ) where
+  taken_target : (level : ℕ) → (eqb level 1 ≡ true → s.control.ps.excm ≡ false) → Target vecbase fresh g.unset spilled (sp_under (known g.seen 1) ring) at s (finished (in_window (settled_interrupt level s.control) s) reply) (in_frame (settled_interrupt level g.control) reply g)
   unfolding writes_epc1
-  taken_target level ends =
+  taken_target level low ends =
+      let c : Control = ticked (after_interrupt level s.control) in
+      let d : Control = ticked (after_interrupt level g.control) in
       in_both l (settled_interrupt level s.control) (settled_interrupt level g.control) reply
-      (record { kind = refl; write = refl; access = refl; awaited = refl; even = even_after fresh (eqb level 1 && not s.control.ps.excm) (not (falls s.control.ps (after_interrupt level s.control).ps)) _ _ (even_ticked _ _ (even_interrupt level s.control g.control l.even)) (λ w. even_ticked _ _ (even_interrupt_epc1 level s.control g.control w l.even)) })
+      (record {
+        kind = refl;
+        write = refl;
+        access = refl;
+        awaited = refl;
+        even = even_after fresh (eqb level 1 && not s.control.ps.excm) (not (falls s.control.ps (after_interrupt level s.control).ps)) g.unset (set (set g.unset (number.epc level) false) (number.eps level) false) c d
+            (even_ticked _ _ (even_interrupt level s.control g.control l.even))
+            (λ w. at_given (lost_at fresh g) 177 (even_ticked _ _ (even_interrupt_epc1 level s.control g.control w l.even)))
+            (interrupt_numbers level g.unset s.control g.control low l.even);
+      })
       tt tt ends
 
-  waits_target : Target vecbase fresh spilled (sp_under (known g.seen 1) ring) at s (finished (in_window (settled_wait s.control) s) reply) (in_frame (settled_wait g.control) reply g)
+  waits_target : Target vecbase fresh g.unset spilled (sp_under (known g.seen 1) ring) at s (finished (in_window (settled_wait s.control) s) reply) (in_frame (settled_wait g.control) reply g)
   unfolding writes_epc1
   waits_target ends =
       in_both l (settled_wait s.control) (settled_wait g.control) reply
-      (record { kind = refl; write = refl; access = refl; awaited = refl; even = even_after fresh false (not (falls s.control.ps s.control.ps)) _ _ (even_ticked s.control g.control l.even) (λ w. absurd (true≢false (sym w))) })
+      (record { kind = refl; write = refl; access = refl; awaited = refl; even = even_after fresh false (not (falls s.control.ps s.control.ps)) g.unset g.unset (ticked s.control) (ticked g.control) (even_ticked s.control g.control l.even) (λ w. absurd (true≢false (sym w))) (same_numbers g.unset (ticked s.control) (ticked g.control)) })
       tt tt ends
 
 module _ {vecbase : ℕ} {lost : ℕ → Bool} {s : State} {g : FrameState} {ring spilled : List Frame} (l : Level vecbase lost s g ring spilled) where
   from_level : (d : Control) (t : Turn) (u : FrameTurn) → u.after.control ≡ d → Kept g.control d → t.after.control.ps.callinc < 4 → Ends vecbase t u
   from_level d t u is k calls =
       let e = l.even.ps in
-      let v = same_at l.even.special 231 (λ e. omega arith) in
+      let v = same_at l.even.special 231 refl in
       record {
         calls = calls;
         woe = ap (λ (c : Control). c.ps.woe) is ∙ (k.0 ∙ (sym (ap (λ p. p.woe) e) ∙ l.woe));
@@ -79,22 +95,25 @@ module _ {vecbase : ℕ} {lost : ℕ → Bool} {s : State} {g : FrameState} {rin
 other_ends : (b : Bounds) (live stale : ℕ → Bool) (rec : StepRecord) (g : FrameState) (t : Turn) (u : FrameTurn) → NoneShown (other_tests b live stale rec g u) → t.after.control.ps.callinc < 4 → Ends b.vecbase t u
 other_ends b live stale rec g t u (saves, (loads, (woe, (vectors, more)))) calls = record { calls = calls; woe = not-false _ woe; vectors = eqb-true _ _ (not-false _ vectors) }
 
-fetched_target : (b : Bounds) (live stale : ℕ → Bool) (rec : StepRecord) (fresh : Bool) {s : State} {g : FrameState} {ring spilled : List Frame} → Level b.vecbase (lost_of fresh) s g ring spilled → (code : ℕ → ℕ) (at : Fetched) (reply : ℕ) → ((i : Insn) (len : ℕ) → at ≡ Fetches i len → in_range i ≡ true)
+fetched_target : (b : Bounds) (live stale : ℕ → Bool) (rec : StepRecord) (fresh : Bool) {s : State} {g : FrameState} {ring spilled : List Frame} → Level b.vecbase (lost_at fresh g) s g ring spilled → g.nested ≡ None → (code : ℕ → ℕ) (at : Fetched) (reply : ℕ) → ((i : Insn) (len : ℕ) → at ≡ Fetches i len → in_range i ≡ true)
     → NoneShown (fetched_tests b fresh live stale at rec g (fetched_step at code reply g)) → is_window (fetched_turn at code s).kind ≡ false → (finished (fetched_turn at code s) reply).after.control.ps.callinc < 4
-    → Steps b.vecbase (lost_of (fresh_after fresh (fetched_turn at code s).kind at s.control.ps (finished (fetched_turn at code s) reply).after.control.ps)) spilled (sp_under (known g.seen 1) ring) (finished (fetched_turn at code s) reply) (fetched_step at code reply g)
-fetched_target b live stale rec fresh {g = g} l code (Fails addr) reply ok none nowindow calls = raise_target fresh l (Fails addr) fetch_error reply (Some addr) (other_ends b live stale rec g _ _ none calls)
-fetched_target b live stale rec fresh {g = g} l code SpellsNothing reply ok none nowindow calls = raise_target fresh l SpellsNothing illegal_instruction reply None (other_ends b live stale rec g _ _ none calls)
-fetched_target b live stale rec fresh {g = g} l code (Fetches i len) reply ok none nowindow calls =
+    → Steps b.vecbase (lost_in (fresh_after fresh (fetched_turn at code s).kind at s.control.ps (finished (fetched_turn at code s) reply).after.control.ps) (unset_after (fetched_turn at code s).kind at g.unset)) spilled (sp_under (known g.seen 1) ring) (finished (fetched_turn at code s) reply) (fetched_step at code reply g)
+fetched_target b live stale rec fresh {g = g} l plain code (Fails addr) reply ok none nowindow calls = raise_target fresh l (Fails addr) fetch_error reply (Some addr) (other_ends b live stale rec g _ _ none calls)
+fetched_target b live stale rec fresh {g = g} l plain code SpellsNothing reply ok none nowindow calls = raise_target fresh l SpellsNothing illegal_instruction reply None (other_ends b live stale rec g _ _ none calls)
+fetched_target b live stale rec fresh {g = g} l plain code (Fetches i len) reply ok none nowindow calls =
     let o = sound b fresh live stale i rec g (fetched_step (Fetches i len) code reply g) none in
-    insn_target l code i len reply (ok i len refl) o nowindow (record { calls = calls; woe = o.woe; vectors = o.vectors })
+    insn_target l plain code i len reply (ok i len refl) o nowindow (record { calls = calls; woe = o.woe; vectors = o.vectors })
 
-pub keeps_level : KeepsLevel
+-- the frame step, before it gives numbers
+whole_turn : (code : ℕ → ℕ) → AreBytes code → (b : Bounds) (fresh : Bool) (live stale : ℕ → Bool) (s : State) (g : FrameState) (ring spilled : List Frame) (reply : ℕ)
+    → Level b.vecbase (lost_at fresh g) s g ring spilled → g.nested ≡ None → IsShaped s → IsShaped (turn code s reply).1 → (turn code s reply).0.reply ≡ reply → is_window (planned code s).kind ≡ false → laid_breach b fresh code live stale (turn code s reply).0 g ≡ None
+    → Steps b.vecbase (lost_in (fresh_turn fresh code reply s) (unset_after (planned code s).kind (fetched code s.control.pc) g.unset)) spilled (sp_under (known g.seen 1) ring) (turn_of code s reply) (laid_step code reply g)
 unfolding turn
-keeps_level code bytes b fresh live stale s g ring spilled reply l shaped after reply_is nowindow none =
+whole_turn code bytes b fresh live stale s g ring spilled reply l plain shaped after reply_is nowindow none =
     let p = same_pending s.control g.control l.even in
     let under = sp_under (known g.seen 1) ring in
     let at = fetched code s.control.pc in
-    let P : Planned → Type 0 = λ t. is_window t.kind ≡ false → (finished t reply).after.control.ps.callinc < 4 → Steps b.vecbase (lost_of (fresh_after fresh t.kind at s.control.ps (finished t reply).after.control.ps)) spilled under (finished t reply) (laid_step code reply g) in
+    let P : Planned → Type 0 = λ t. is_window t.kind ≡ false → (finished t reply).after.control.ps.callinc < 4 → Steps b.vecbase (lost_in (fresh_after fresh t.kind at s.control.ps (finished t reply).after.control.ps) (unset_after t.kind at g.unset)) spilled under (finished t reply) (laid_step code reply g) in
     let calls : (finished (planned code s) reply).after.control.ps.callinc < 4 = after.control.ps.callinc_fits in
     ⊎_elim
     (λ yes.
@@ -103,15 +122,15 @@ keeps_level code bytes b fresh live stale s g ring spilled reply l shaped after 
     let u0 = step_taken code reply g yes_g in
     let u : laid_step code reply g ≡ in_frame (settled_interrupt (pending_of s.control) g.control) reply g = u0 ∙ ap (λ x. in_frame (settled_interrupt x g.control) reply g) (sym p) in
     let small = level_small (special_of s.control number.interrupt) (special_of s.control number.intenable) s.control.ps in
-    let Q : FrameTurn → Type 0 = λ u. Steps b.vecbase (lost_of (fresh_after fresh (in_window (settled_interrupt (pending_of s.control) s.control) s).kind at s.control.ps (finished (in_window (settled_interrupt (pending_of s.control) s.control) s) reply).after.control.ps)) spilled under (finished (in_window (settled_interrupt (pending_of s.control) s.control) s) reply) u in
-    subst P (sym t) (λ h c. subst Q (sym u) (taken_target fresh l at reply (pending_of s.control) (from_level l (ticked (after_interrupt (pending_of s.control) g.control)) _ _ refl (tick_kept g.control (after_interrupt (pending_of s.control) g.control) (interrupt_kept (pending_of s.control) g.control small)) c))) nowindow calls)
+    let Q : FrameTurn → Type 0 = λ u. Steps b.vecbase (lost_in (fresh_after fresh (in_window (settled_interrupt (pending_of s.control) s.control) s).kind at s.control.ps (finished (in_window (settled_interrupt (pending_of s.control) s.control) s) reply).after.control.ps) (unset_after (in_window (settled_interrupt (pending_of s.control) s.control) s).kind at g.unset)) spilled under (finished (in_window (settled_interrupt (pending_of s.control) s.control) s) reply) u in
+    subst P (sym t) (λ h c. subst Q (sym u) (taken_target fresh l at reply (pending_of s.control) (low_level s.control) (from_level l (ticked (after_interrupt (pending_of s.control) g.control)) _ _ refl (tick_kept g.control (after_interrupt (pending_of s.control) g.control) (interrupt_kept (pending_of s.control) g.control small)) c))) nowindow calls)
     (λ no.
     let no_g : ltb 0 (pending_of g.control) ≡ false = subst (λ x. ltb 0 x ≡ false) p no in
     ⊎_elim
     (λ w.
     let t = turn_waits code s no w in
     let u = step_waits code reply g no_g (sym l.even.waits ∙ w) in
-    let Q : FrameTurn → Type 0 = λ u. Steps b.vecbase (lost_of (fresh_after fresh (in_window (settled_wait s.control) s).kind at s.control.ps (finished (in_window (settled_wait s.control) s) reply).after.control.ps)) spilled under (finished (in_window (settled_wait s.control) s) reply) u in
+    let Q : FrameTurn → Type 0 = λ u. Steps b.vecbase (lost_in (fresh_after fresh (in_window (settled_wait s.control) s).kind at s.control.ps (finished (in_window (settled_wait s.control) s) reply).after.control.ps) (unset_after (in_window (settled_wait s.control) s).kind at g.unset)) spilled under (finished (in_window (settled_wait s.control) s) reply) u in
     subst P (sym t) (λ h c. subst Q (sym u) (waits_target fresh l at reply (from_level l (ticked g.control) _ _ refl (tick_kept g.control g.control (refl, refl)) c))) nowindow calls)
     (λ w.
     let w_g = sym l.even.waits ∙ w in
@@ -124,7 +143,34 @@ keeps_level code bytes b fresh live stale s g ring spilled reply l shaped after 
     let h2 : first_shown (fetched_tests b fresh live stale (fetched code g.control.pc) rec g (fetched_step (fetched code g.control.pc) code reply g)) ≡ None = subst (λ v. first_shown (fetched_tests b fresh live stale (fetched code g.control.pc) rec g v) ≡ None) u h1 in
     let h3 : first_shown (fetched_tests b fresh live stale at rec g (fetched_step at code reply g)) ≡ None = subst (λ x. first_shown (fetched_tests b fresh live stale (fetched code x) rec g (fetched_step (fetched code x) code reply g)) ≡ None) (sym l.even.pc) h2 in
     let here : laid_step code reply g ≡ fetched_step at code reply g = u ∙ ap (λ x. fetched_step (fetched code x) code reply g) (sym l.even.pc) in
-    let Q : FrameTurn → Type 0 = λ u. Steps b.vecbase (lost_of (fresh_after fresh (fetched_turn at code s).kind at s.control.ps (finished (fetched_turn at code s) reply).after.control.ps)) spilled under (finished (fetched_turn at code s) reply) u in
-    subst P (sym t) (λ h c. subst Q (sym here) (fetched_target b live stale rec fresh l code at reply (λ i len e. fetched_range code s.control.pc i len bytes e) (none_shown (fetched_tests b fresh live stale at rec g (fetched_step at code reply g)) h3) h c)) nowindow calls)
+    let Q : FrameTurn → Type 0 = λ u. Steps b.vecbase (lost_in (fresh_after fresh (fetched_turn at code s).kind at s.control.ps (finished (fetched_turn at code s) reply).after.control.ps) (unset_after (fetched_turn at code s).kind at g.unset)) spilled under (finished (fetched_turn at code s) reply) u in
+    subst P (sym t) (λ h c. subst Q (sym here) (fetched_target b live stale rec fresh l plain code at reply (λ i len e. fetched_range code s.control.pc i len bytes e) (none_shown (fetched_tests b fresh live stale at rec g (fetched_step at code reply g)) h3) h c)) nowindow calls)
     (cases_Bool s.control.waits))
     (cases_Bool (ltb 0 (pending_of s.control)))
+
+-- ---- the registers to which it gives numbers
+numbered : {vecbase : ℕ} {lost : ℕ → Bool} {spilled : List Frame} {under : ℕ} {t : Turn} {u : FrameTurn} (unset : List Bool) → Steps vecbase lost spilled under t u → Steps vecbase lost spilled under t (record u { after = record u.after { unset = unset } })
+numbered unset p = record {
+  kind = p.kind;
+  write = p.write;
+  access = p.access;
+  ring = p.ring;
+  same = p.same;
+  level = record {
+    windows = p.level.windows;
+    frames = p.level.frames;
+    older = p.level.older;
+    even = p.level.even;
+    woe = p.level.woe;
+    calls = p.level.calls;
+    vectors = p.level.vectors;
+  };
+}
+
+pub keeps_level : KeepsLevel
+keeps_level code bytes b fresh live stale s g ring spilled reply l plain shaped after reply_is nowindow none =
+    let w = whole_turn code bytes b fresh live stale s g ring spilled reply l plain shaped after reply_is nowindow none in
+    let u = plain_after code reply g in
+    let same : unset_after (planned code s).kind (fetched code s.control.pc) g.unset ≡ u.after.unset =
+    ap (λ k. unset_after k (fetched code s.control.pc) g.unset) w.kind ∙ ap (λ pc. unset_after (laid_step code reply g).kind (fetched code pc) g.unset) l.even.pc in
+    subst (λ x. Steps b.vecbase (lost_in (fresh_turn fresh code reply s) x) spilled (sp_under (known g.seen 1) ring) (turn_of code s reply) u) same (numbered u.after.unset w)
