@@ -17,21 +17,25 @@ use Rattle.xt_frames.specs.Frames.{Frame, FrameState, known}
 use Rattle.xt_frames.specs.FrameStep.{FrameTurn, laid, laid_step}
 use Rattle.xt_frames.specs.SaveAreas.{is_live}
 use Rattle.xt_frames.specs.HandlerSteps.{is_window}
-use Rattle.xt_frames.specs.Breaches.{lost_of, Bounds, inputs_of, laid_breach, breach_of, fresh_after, stale_after}
+use Rattle.xt_frames.specs.declared.holes.Nested.{Nested}
+use Rattle.xt_frames.specs.Nesting.{current_in}
+use Rattle.xt_frames.proofs.Inside.{step_plain, fresh_plain}
+use Rattle.xt_frames.specs.Breaches.{Bounds, inputs_of, laid_breach, breach_of, fresh_after, stale_after}
 use Rattle.xt_frames.specs.Stacks.{Stack}
 use Rattle.xt_simulation.specs.Stacks.{Saved, sp_under}
-use Rattle.xt_simulation.specs.Relation.{Same, Level, Plain, inputs}
+use Rattle.xt_simulation.specs.Relation.{Same, Level, Plain, inputs, lost_at}
 use Rattle.xt_simulation.specs.Cores.{word, Related}
 use Rattle.xt_simulation.proofs.Closed.{set_own}
 use Rattle.xt_simulation.proofs.Chains.{related_spared}
 use Rattle.xt_simulation.proofs.Whole.{keeps_level}
-use Rattle.xt_simulation.proofs.StackSteps.{keeps_stack}
+use Rattle.xt_simulation.proofs.StackSteps.{keeps_stack, step_leaves}
+use Rattle.xt_simulation.specs.JudgedSteps.{fresh_turn, plain_after, turn_of}
 use Rattle.xt_simulation.specs.Steps.{reply_at, memory_after_step, reply_now, record_now, state_now, memory_now}
 use Rattle.xt_simulation.specs.Handling.{Somewhere}
 use Rattle.xt_simulation.specs.Memories.{Agree, KeepsAreas}
 use Rattle.xt_map.specs.Touching.{IsMemory}
 use Rattle.xt_simulation.proofs.Memories.{replies_agree, memories_agree, live_kept, keeps_from, reply_small}
-use Rattle.xt_frames.specs.Judging.{step_on, live_of}
+use Rattle.xt_frames.specs.Judging.{step_on, live_of, fresh_on}
 use Rattle.xt_simulation.specs.Judges.{After}
 use Rattle.xt_exec.proofs.Served.{demand_served}
 use Rattle.xt_simulation.proofs.Served.{areas_kept}
@@ -85,8 +89,8 @@ pub shaped_now : (code : ℕ → ℕ) (m : MemoryContents) (s : State) → AreBy
 shaped_now code m s bytes shaped im = turn_shaped code s (reply_now code m s) bytes shaped (reply_small m (demand code s) im (demand_served code s))
 
 module _ (code : ℕ → ℕ) (bytes : AreBytes code) (b : Bounds) (fresh : Bool) (s : State) (f : FrameState) (ring spilled : List Frame) (m framed : MemoryContents) (others stale : ℕ → Bool)
-    (l : Related (byte_at m) b (lost_of fresh) s f ring spilled) (shaped : IsShaped s) (real : IsMemory m) (sizes : HasSizes framed) (agree : Agree (live_of b f others) stale m framed)
-    (nowindow : is_window (planned code s).kind ≡ false) (none : breach_of b fresh code (live_of b f others) stale (record_now code m s) f ≡ None) where
+    (l : Related (byte_at m) b (lost_at fresh f) s f ring spilled) (plain : f.nested ≡ None) (shaped : IsShaped s) (real : IsMemory m) (sizes : HasSizes framed) (agree : Agree (live_of b f others) stale m framed)
+    (nowindow : is_window (planned code s).kind ≡ false) (none : breach_of b fresh code (live_of b f others) stale false (record_now code m s) f ≡ None) where
   abbrev g : FrameState
   g = laid (inputs 0 s) f
 
@@ -94,10 +98,17 @@ module _ (code : ℕ → ℕ) (bytes : AreBytes code) (b : Bounds) (fresh : Bool
   same_g = same_laid code s (reply_now code m s) f shaped.control.ps.owb_fits
 
   none_g : laid_breach b fresh code (live_of b f others) stale (record_now code m s) g ≡ None
-  none_g = subst (λ x. laid_breach b fresh code (live_of b f others) stale (record_now code m s) x ≡ None) same_g none
+  none_g =
+      let laid_none : laid_breach b fresh code (live_of b f others) stale (record_now code m s) (laid (inputs_of (record_now code m s)) f) ≡ None =
+      subst (λ (o : Option Nested). laid_breach b fresh code (live_of b f others) stale (record_now code m s) (laid (inputs_of (record_now code m s)) (current_in o f)) ≡ None) plain none in
+      subst (λ x. laid_breach b fresh code (live_of b f others) stale (record_now code m s) x ≡ None) same_g laid_none
 
-  same_step : step_on code (record_now code m s) f ≡ laid_step code (reply_now code m s) g
-  same_step = ap (λ x. laid_step code (record_now code m s).reply x) same_g ∙ ap (λ x. laid_step code x g) (record_reply code m s)
+  same_step : step_on code false (record_now code m s) f ≡ plain_after code (reply_now code m s) g
+  same_step = step_plain code (record_now code m s) f plain ∙ (ap (λ x. plain_after code (record_now code m s).reply x) same_g ∙ ap (λ x. plain_after code x g) (record_reply code m s))
+
+  -- and a step outside nested interrupts begins none
+  pub judge_plain : (step_on code false (record_now code m s) f).after.nested ≡ None
+  judge_plain = ap (λ (x : FrameTurn). x.after.nested) same_step ∙ ((step_leaves code (reply_now code m s) g).0 ∙ plain)
 
   calls : g.control.ps.callinc < 4
   calls = rw (← ap (λ q. q.callinc) l.plain.even.ps) l.plain.calls
@@ -106,7 +117,7 @@ module _ (code : ℕ → ℕ) (bytes : AreBytes code) (b : Bounds) (fresh : Bool
   kept = let k = areas_kept code b fresh (live_of b f others) stale s g ring spilled (reply_now code m s) l.plain none_g in keeps_from (live_of b f others) stale (demand code s) k.0 k.1
 
   abbrev u : FrameTurn
-  u = laid_step code (reply_now code m s) g
+  u = plain_after code (reply_now code m s) g
 
   stack_after : Stack b.range.lo b.range.hi u.after.seen u.after.frames
   stack_after =
@@ -116,20 +127,24 @@ module _ (code : ℕ → ℕ) (bytes : AreBytes code) (b : Bounds) (fresh : Bool
   saved_after : Saved (word (byte_at (memory_now code m s))) b.range.hi (sp_under (known f.seen 1) ring) spilled
   saved_after = (related_spared (byte_at m) (byte_at (memory_now code m s)) b f (λ a live. live_kept (live_of b f others) stale m (demand code s) a kept (or_left (is_live b.range f a) (others a) live)) l).saved
 
-  same_fresh : (planned code s).kind ≡ u.kind → (turn code s (reply_now code m s)).1.control.ps ≡ u.after.control.ps → fresh_after fresh (planned code s).kind (fetched code s.control.pc) s.control.ps (turn code s (reply_now code m s)).1.control.ps ≡ fresh_after fresh u.kind (fetched code f.control.pc) (laid (inputs_of (record_now code m s)) f).control.ps u.after.control.ps
-  unfolding turn
+  same_fresh : (planned code s).kind ≡ u.kind → (turn_of code s (reply_now code m s)).after.control.ps ≡ u.after.control.ps → fresh_turn fresh code (reply_now code m s) s ≡ fresh_on fresh code false (record_now code m s) f
   same_fresh kind after =
-      let pc : s.control.pc ≡ f.control.pc = l.plain.even.pc in
-      let ps : s.control.ps ≡ (laid (inputs_of (record_now code m s)) f).control.ps = l.plain.even.ps ∙ ap (λ (x : FrameState). x.control.ps) (sym same_g) in
-      ap (λ x. fresh_after fresh (planned code s).kind (fetched code x) s.control.ps (turn code s (reply_now code m s)).1.control.ps) pc
-      ∙ (ap (λ x. fresh_after fresh (planned code s).kind (fetched code f.control.pc) x (turn code s (reply_now code m s)).1.control.ps) ps
-      ∙ (ap (λ x. fresh_after fresh (planned code s).kind (fetched code f.control.pc) (laid (inputs_of (record_now code m s)) f).control.ps x) after
-      ∙ ap (λ x. fresh_after fresh x (fetched code f.control.pc) (laid (inputs_of (record_now code m s)) f).control.ps u.after.control.ps) kind))
+      let rec = record_now code m s in
+      let ps : s.control.ps ≡ g.control.ps = l.plain.even.ps in
+      let kept : (laid_step code rec.reply (laid (inputs_of rec) f)).after.nested ≡ None = (step_leaves code rec.reply (laid (inputs_of rec) f)).0 ∙ plain in
+      let F : FrameState → ℕ → Bool = λ x reply. fresh_after fresh (laid_step code reply x).kind (fetched code x.control.pc) x.control.ps (laid_step code reply x).after.control.ps in
+      ap (λ pc. fresh_after fresh (planned code s).kind (fetched code pc) s.control.ps (turn_of code s (reply_now code m s)).after.control.ps) l.plain.even.pc
+      ∙ (ap (λ x. fresh_after fresh (planned code s).kind (fetched code g.control.pc) x (turn_of code s (reply_now code m s)).after.control.ps) ps
+      ∙ (ap (λ x. fresh_after fresh (planned code s).kind (fetched code g.control.pc) g.control.ps x) after
+      ∙ (ap (λ x. fresh_after fresh x (fetched code g.control.pc) g.control.ps u.after.control.ps) kind
+      ∙ (ap (F g) (sym (record_reply code m s))
+      ∙ (ap (λ x. F x rec.reply) (sym same_g)
+      ∙ sym (fresh_plain fresh code rec f plain kept))))))
 
   pub judge_keeps : After code b fresh s f m framed others stale
   unfolding turn demand
   judge_keeps =
-      let p = keeps_level code bytes b fresh (live_of b f others) stale s g ring spilled (reply_now code m s) l.plain shaped (shaped_now code m s bytes shaped real) (record_reply code m s) nowindow none_g in
+      let p = keeps_level code bytes b fresh (live_of b f others) stale s g ring spilled (reply_now code m s) l.plain plain shaped (shaped_now code m s bytes shaped real) (record_reply code m s) nowindow none_g in
       let e = sym same_step in
       let access : (demand code s) ≡ u.access = p.access in
       record {
@@ -140,8 +155,8 @@ module _ (code : ℕ → ℕ) (bytes : AreBytes code) (b : Bounds) (fresh : Bool
           access = access ∙ ap (λ (x : FrameTurn). x.access) e;
           reply = record_reply code m s ∙ (replies_agree (live_of b f others) stale m framed (demand code s) agree kept ∙ (ap (reply_at framed) access ∙ ap (λ (x : FrameTurn). reply_at framed x.access) e));
         };
-        somewhere = subst (λ (x : FrameTurn). Somewhere (byte_at (memory_now code m s)) b (lost_of (fresh_after fresh x.kind (fetched code f.control.pc) (laid (inputs_of (record_now code m s)) f).control.ps x.after.control.ps)) (state_now code m s) x.after) e
-            (subst (λ z. Somewhere (byte_at (memory_now code m s)) b (lost_of z) (state_now code m s) u.after) (same_fresh p.kind p.level.even.ps) (record {
+        somewhere = subst (λ (x : FrameTurn). Somewhere (byte_at (memory_now code m s)) b (lost_at (fresh_on fresh code false (record_now code m s) f) x.after) (state_now code m s) x.after) e
+            (subst (λ z. Somewhere (byte_at (memory_now code m s)) b (lost_at z u.after) (state_now code m s) u.after) (same_fresh p.kind p.level.even.ps) (record {
               ring = p.ring;
               spilled = spilled;
               related = record { plain = lay p.level; stack = stack_after; saved = rw p.same saved_after };
