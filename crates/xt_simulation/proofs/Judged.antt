@@ -221,8 +221,10 @@ effect_numbers {lost = lost} i e len c d old sets h = by (moved_to i) refl
   where
     x : Control
     x = ticked (after_effect e len c)
+
     y : Control
     y = ticked (after_effect e len d)
+
     by : (o : Option (ℕ × ℕ)) → moved_to i ≡ o → Numbers old (unset_by o [] old) x y
     by None is = same_numbers old x y
     by (Some p) is =

@@ -1,5 +1,5 @@
--- A step that shows no breach keeps the chain of stack pointers, where the code is of bytes; and no step but of a nested interrupt begins or ends one.
-use Rattle.std.proofs.Common.{◌≡◌, ℕ, ltb, Bool, true, false, cond, List, [], ◌∷◌, Option, Some, None, refl}
+-- A step that shows no breach keeps the chain of stack pointers, where the code is of bytes. No frame step by itself begins or ends a nested interrupt, or gives a register a number.
+use Rattle.std.proofs.Common.{◌≡◌, ℕ, ltb, Bool, true, false, cond, List, [], ◌∷◌, None, refl}
 use Rattle.xt_special.specs.Interrupts.{pending_of}
 use Rattle.xt_fetch.specs.Fetching.{Fetched, Fetches, Fails, SpellsNothing, fetched}
 use Rattle.xt_fetch.proofs.Fetches.{fetched_range}
