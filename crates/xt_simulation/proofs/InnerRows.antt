@@ -1,1 +1,371 @@
 -- A nested step that moves no mark: both machines compute the same outcome.
+use Rattle.std.proofs.Common.{◌≡◌, ◌⊎◌, ℕ, ◌<◌, ◌≢◌, Bool, true, false, ◌||◌, ◌&&◌, not, cond, eqb, leb, ltb, List, [], ◌∷◌, Option, Some, None, sym, ap, ◌∙◌, refl, arith, inl, inr, ⊎_elim, subst, length, get_or}
+use Rattle.std.specs.Prelude.{is_some, unwrap_or, max}
+use Rattle.std.proofs.lemmas.Bool.{cases_Bool, true≢false, both_ways, or_parts, or_from, or_right, and_cases, and_right, le-ltb, leb-false, eqb-false, not-false, not-true, cond-true, cond-false}
+use Rattle.std.proofs.lemmas.List.{get_or-set_other, length-set}
+use Rattle.xt_isa.specs.declared.Insn.{Insn}
+use Rattle.xt_isa.specs.declared.Insn.TheVariants as insn
+use Rattle.xt_isa.specs.declared.control.Control.TheVariants as control
+use Rattle.xt_isa.specs.declared.control.RetName.TheVariants as RetName
+use Rattle.xt_isa.specs.declared.density.Density.TheVariants as density
+use Rattle.xt_isa.specs.declared.density.NarrowRetName.TheVariants as NarrowRetName
+use Rattle.xt_isa.specs.declared.system.System.TheVariants as system
+use Rattle.xt_isa.specs.declared.system.ReturnName.TheVariants as ReturnName
+use Rattle.xt_isa.specs.declared.system.SpecialName.TheVariants as SpecialName
+use Rattle.xt_map.specs.declared.access.Access.{Access}
+use Rattle.xt_map.specs.declared.contents.MemoryContents.{MemoryContents}
+use Rattle.xt_special.specs.declared.ps.Ps.{Ps}
+use Rattle.xt_special.specs.Numbers as number
+use Rattle.xt_special.specs.Control.{Control, special_of}
+use Rattle.xt_special.specs.Timers.{ticked}
+use Rattle.xt_special.specs.Interrupts.{pending_level, pending_of}
+use Rattle.xt_window.specs.Ring.{visible, ahead}
+use Rattle.xt_trace.specs.declared.record.RegWrite.{RegWrite}
+use Rattle.xt_trace.specs.declared.record.StepRecord.{StepRecord}
+use Rattle.xt_rows.specs.declared.outcome.Awaited.{Awaited}
+use Rattle.xt_rows.specs.declared.outcome.Effect.{Effect}
+use Rattle.xt_rows.specs.declared.outcome.Outcome.{Outcome}
+use Rattle.xt_rows.specs.declared.outcome.Outcome.TheVariants.{Does, Raises, Asks, Stops, Windowed}
+use Rattle.xt_rows.specs.declared.outcome.WindowStep.{WindowStep}
+use Rattle.xt_rows.specs.declared.outcome.WindowStep.TheVariants.{Enters, Returns, EndsOverflow, EndsUnderflow, Rotates, MovesStack, Reads, Sets, Exchanges}
+use Rattle.xt_rows.specs.declared.outcome.WindowRegister.{WindowRegister}
+use Rattle.xt_rows.specs.Effects.{illegal_instruction, unchanged, window_register, writes_special, exchanges_special}
+use Rattle.xt_rows.specs.Kinds.{is_saved, is_entry, is_return, moved_to, names_window_register, sets_epc1, is_windowing, is_movsp, AllSpare, SetsOne, SetsSaved, WritesNamed, AwaitsNamed, Fits}
+use Rattle.xt_rows.specs.Laws.{sets_mode, KeepsMode, AsksWith}
+use Rattle.xt_rows.specs.Operands.{reads, special_reads, named}
+use Rattle.xt_rows.specs.Outcomes.{outcome, control_outcome, density_outcome, system_outcome, outcome_at, value_of}
+use Rattle.xt_rows.specs.Settling.{Settled, after_effect, kind_of, settled, written}
+use Rattle.xt_rows.proofs.Fitting.{outcome_fits, outcome_alone}
+use Rattle.xt_rows.proofs.Modes.{modes_kept}
+use Rattle.xt_fetch.specs.Code.{AreBytes}
+use Rattle.xt_fetch.specs.Fetching.{Fetched, Fetches, Fails, SpellsNothing, fetched}
+use Rattle.xt_exec.specs.State.{State}
+use Rattle.xt_exec.specs.Laws.{IsShaped}
+use Rattle.xt_exec.specs.Turn.{Planned, planned, demand, turn, in_window, raises, has_windows, looks, window_check, illegal_return, is_illegal, done, checked, fetched_turn, reply_where, with_write}
+use Rattle.xt_exec.proofs.Finished.{turn_fetches}
+use Rattle.xt_frames.specs.declared.holes.Nested.{Nested}
+use Rattle.xt_frames.specs.declared.kinds.BreachKind.{BreachKind}
+use Rattle.xt_frames.specs.Frames.{FrameState, known, seen_after_write}
+use Rattle.xt_frames.specs.FrameStep.{FrameTurn, in_frame, raised, pushed, popped, windowed_in_frame, done_in_frame, fetched_step, laid, laid_step}
+use Rattle.xt_frames.specs.Marks.{moves_marks, mark_read, marked_write, unset_by, unset_written}
+use Rattle.xt_frames.specs.Nesting.{begun, current_in, disturbs_nested, ends_nested, inside, is_nesting, keeping, nested_after, nested_fetched, nested_insn, nested_turn, turn_in}
+use Rattle.xt_frames.specs.Breaches.{Bounds, breach_of, breaks_nested, fetched_tests, first_shown, insn_tests, inputs_of, is_exception, is_unset, lacks, laid_breach, loses_epc1, lost_of, names_high, other_tests, reads_epc1, reads_lost, reads_none, reads_none_in, reads_unset, writes_sp}
+use Rattle.xt_frames.specs.Judging.{step_on, value_in}
+use Rattle.xt_frames.proofs.Inside.{step_inside}
+use Rattle.xt_frames.proofs.Shown.{NoneShown, Sound, KeepsSp, keeps_sp, none_shown, sound}
+use Rattle.xt_frames.proofs.StackSteps.{step_fetches}
+use Rattle.xt_simulation.specs.Relation.{Even, Same, can_be_lost, lost_at, inputs}
+use Rattle.xt_simulation.specs.Steps.{reply_at, reply_now, record_now, state_now}
+use Rattle.xt_simulation.specs.Nested.{IsInside, IsSpare, marked}
+use Rattle.xt_simulation.proofs.Evenly.{even_ticked}
+use Rattle.xt_simulation.proofs.Inner.{Inner}
+use Rattle.xt_simulation.proofs.InnerSteps.{Elsewhere, IsNarrow, ReadsNumber, after_write, all_spare, can_saved, effect_even, effect_mode, effect_spares, even_laid, lost_in, same_moved, saved_left, ticked_saved, write_base, write_control, write_marks, write_numbers, write_others, write_size, write_start}
+
+-- ---- what the tests of a nested step deny
+-- `u` is the step of the state inside
+pub record Quiet (i : Insn) (x : Nested) (g : FrameState) (u : FrameTurn) : Type 0 where
+  pub reads : cond (moves_marks i) false (not (ends_nested i) && reads_unset i g) ≡ false
+  pub lost : reads_epc1 false i ≡ false
+  pub epc1 : sets_epc1 i ≡ false
+  pub disturbs : disturbs_nested i ≡ false
+  pub kind : is_exception u.kind ≡ false
+
+unmarked_reads : (b c d : Bool) → cond b c d ≡ false → cond b false d ≡ false
+unmarked_reads true c d e = refl
+unmarked_reads false c d e = e
+
+pub quiet_of : (b : Bounds) (live stale : ℕ → Bool) (i : Insn) (rec : StepRecord) (g : FrameState) (u : FrameTurn) (x : Nested) → g.nested ≡ Some x → Sound b false live stale i rec g u → Quiet i x g u
+quiet_of b live stale i rec g u x is o =
+    let reads : reads_none_in (Some x) i g ≡ false = subst (λ (n : Option Nested). reads_none_in n i g ≡ false) is o.unset in
+    let lost : loses_epc1 (Some x) false i ≡ false = subst (λ (n : Option Nested). loses_epc1 n false i ≡ false) is o.lost in
+    let breaks : breaks_nested (Some x) i u ≡ false = subst (λ (n : Option Nested). breaks_nested n i u ≡ false) is o.nested in
+    let l = or_parts (reads_epc1 false i) (sets_epc1 i) lost in
+    let n = or_parts (is_exception u.kind) _ breaks in
+    record {
+      reads = unmarked_reads (moves_marks i) _ _ reads;
+      lost = l.0;
+      epc1 = l.1;
+      disturbs = (or_parts (disturbs_nested i) _ n.1).0;
+      kind = n.0;
+    }
+
+-- ---- no interrupt, and no window check
+five_quiet : (b c d : Bool) → cond (b && false) 5 (cond (c && false) 3 (cond (d && false) 1 0)) ≡ 0
+five_quiet b c d = rw (and_right b false refl, and_right c false refl, and_right d false refl) refl
+
+quiet_at : (interrupt enabled : ℕ) (ps : Ps) → ps.excm ≡ true → ps.intlevel ≡ 5 → pending_level interrupt enabled ps ≡ 0
+unfolding pending_level
+quiet_at interrupt enabled ps e l =
+    let five : ltb (max ps.intlevel 3) 5 ≡ false = le-ltb (max ps.intlevel 3) 5 (omega arith) in
+    let three : ltb (max ps.intlevel 3) 3 ≡ false = le-ltb (max ps.intlevel 3) 3 (omega arith) in
+    let one : ltb (max ps.intlevel 3) 1 ≡ false = le-ltb (max ps.intlevel 3) 1 (omega arith) in
+    rw (e, five, three, one) (five_quiet _ _ _)
+
+pub untaken : (c : Control) → c.ps.excm ≡ true → c.ps.intlevel ≡ 5 → ltb 0 (pending_of c) ≡ false
+untaken c e l = ap (λ n. ltb 0 n) (quiet_at (special_of c number.interrupt) (special_of c number.intenable) c.ps e l)
+
+closed_windows : (ps : Ps) → ps.excm ≡ true → has_windows ps ≡ false
+closed_windows ps e = rw e (and_right ps.woe false refl)
+
+unchecked : (i : Insn) (s : State) → s.control.ps.excm ≡ true → window_check i s ≡ 0
+unchecked i s e = cond-false (has_windows s.control.ps) (ahead s.start s.base (looks i s.control.ps)) 0 (closed_windows s.control.ps e)
+
+-- ---- what the turn's record shows
+module _ (code : ℕ → ℕ) (s : State) (reply : ℕ) (t : Settled) where
+  state_is : planned code s ≡ in_window t s → (turn code s reply).1 ≡ after_write (written t.write t.awaited reply) t.control s
+  unfolding turn
+  state_is is = ap (λ (p : Planned). with_write (written p.write p.awaited reply) p.after) is
+
+  kind_is : planned code s ≡ in_window t s → (turn code s reply).0.kind ≡ kind_of t.kind
+  unfolding turn
+  kind_is is = ap (λ (p : Planned). p.kind) is
+
+  write_is : planned code s ≡ in_window t s → (turn code s reply).0.write ≡ written t.write t.awaited reply
+  unfolding turn
+  write_is is = ap (λ (p : Planned). written p.write p.awaited reply) is
+
+  access_is : planned code s ≡ in_window t s → (turn code s reply).0.access ≡ t.access
+  unfolding turn demand
+  access_is is = ap (λ (p : Planned). p.access) is
+
+-- ---- the controls that a row leaves, where c is the processor's and d the frame machine's
+abbrev pub unset_left : Insn → FrameState → Nested → List Bool
+unset_left i f x = unset_written i x.marks f.unset
+
+pub record Leaves (s : State) (f : FrameState) (x : Nested) (i : Insn) (c d : Control) : Type 0 where
+  pub even : Even (lost_in (unset_left i f x)) c d
+  pub level : c.ps.intlevel ≡ s.control.ps.intlevel
+  pub mode : c.ps.excm ≡ s.control.ps.excm
+  pub running : c.waits ≡ false
+  pub spared : (n : ℕ) → is_saved n ≡ true → Elsewhere (moved_to i) n → special_of c n ≡ special_of s.control n
+  pub framed : Elsewhere (moved_to i) 177 → special_of d 177 ≡ special_of (laid (inputs 0 s) (inside x f)).control 177
+
+-- and the step of the state inside leaves this
+abbrev pub left_turn : Insn → Nested → FrameState → FrameTurn → FrameTurn
+left_turn i x f u = record u {
+  after = record (keeping f u.after) { unset = unset_left i f x; nested = Some (nested_after i None x u) };
+}
+
+pub left_is : (i : Insn) (value : ℕ) (x : Nested) (f : FrameState) (u : FrameTurn) → ends_nested i ≡ false → mark_read i x.saved ≡ None → nested_insn i value x f u ≡ left_turn i x f u
+left_is i value x f u goes_on none =
+    cond-false (ends_nested i) _ _ goes_on
+    ∙ ap (λ (mark : Option ℕ). (let v : FrameTurn = record u {
+      write = marked_write mark value u.write;
+      after = record (keeping f u.after) { unset = unset_left i f x; nested = Some (nested_after i mark x u) };
+    } in v)) none
+
+seen_size : (w : Option RegWrite) (seen : List (Option ℕ)) → length (seen_after_write w seen) ≡ length seen
+seen_size None seen = refl
+seen_size (Some w) seen = length-set seen w.reg (Some w.value)
+
+module _ {suspended s : State} {f : FrameState} {x : Nested} (h : IsInside suspended s f x) where
+  -- the frame machine's state before the step, over which the inputs are laid
+  abbrev before : FrameState
+  before = laid (inputs 0 s) (inside x f)
+
+  special_saved : (n k : ℕ) → get_or x.saved n None ≡ Some k → is_saved n ≡ true
+  special_saved n k e = can_saved n (h.even.special.only n (or_right (lost_of false n) (get_or f.unset n false) (h.saved n k e).1))
+
+  module _ (count : length s.regs ≡ 64) (wide : length x.marks ≡ 16) (i : Insn) (v : Settled) (reply : ℕ) (narrow : IsNarrow (written v.write v.awaited reply)) (c : Control) (l : Leaves s f x i c v.control) (reads : ReadsNumber (moved_to i) x.marks) (epc : Elsewhere (moved_to i) 181) (eps : Elsewhere (moved_to i) 197) where
+    pub left_inside : IsInside suspended (after_write (written v.write v.awaited reply) c s) (left_turn i x f (in_frame v reply (laid (inputs 0 s) (inside x f)))).after (nested_after i None x (in_frame v reply (laid (inputs 0 s) (inside x f))))
+    left_inside =
+        let w : Option RegWrite = written v.write v.awaited reply in
+        let t : State = after_write w c s in
+        let u : FrameTurn = in_frame v reply (laid (inputs 0 s) (inside x f)) in
+        let is : t.control ≡ c = write_control c s w in
+        let left : FrameState = inside (nested_after i None x u) (left_turn i x f u).after in
+        let even : Even (lost_in (unset_left i f x)) c left.control = record { pc = l.even.pc; ps = l.even.ps; threadptr = l.even.threadptr; waits = l.even.waits; special = l.even.special } in
+        record {
+          even = even_laid t left (subst (λ (q : Control). Even (lost_in (unset_left i f x)) q left.control) (sym is) even);
+          level = ap (λ (q : Control). q.ps.intlevel) is ∙ (l.level ∙ h.level);
+          mode = ap (λ (q : Control). q.ps.excm) is ∙ (l.mode ∙ h.mode);
+          running = ap (λ (q : Control). q.waits) is ∙ l.running;
+          woe = h.woe;
+          epc = ap (λ (q : Control). special_of q 181) is ∙ (l.spared 181 refl epc ∙ h.epc);
+          eps = ap (λ (q : Control). special_of q 197) is ∙ (l.spared 197 refl eps ∙ h.eps);
+          base = write_base c s w ∙ h.base;
+          start = write_start c s w ∙ h.start;
+          size = write_size c s w ∙ h.size;
+          wide = seen_size w x.seen ∙ h.wide;
+          others = λ p other. write_others c s w narrow p other ∙ h.others p (λ e. other (subst (λ (q : ℕ). IsSpare q p) (sym (write_base c s w)) e));
+          numbers = write_numbers c s w narrow count x.seen h.wide h.numbers;
+          marks = write_marks c s w narrow (marked suspended) x.seen x.marks wide h.marks;
+          saved = λ n k e.
+              let q = saved_left (moved_to i) x.marks x.saved f.unset n k reads e in
+              let was = h.saved n k q.0 in
+              (ap (λ (q : Control). special_of q n) is ∙ (l.spared n (special_saved n k q.0) q.1 ∙ was.0), q.2 ∙ was.1);
+        }
+
+  -- ---- what an effect leaves, and BREAK
+  module _ (i : Insn) (reads : ReadsNumber (moved_to i) x.marks) where
+    pub effect_leaves : (e : Effect) (len : ℕ) → ((n : ℕ) → is_saved n ≡ true → SetsOne (moved_to i) n e.sets) → e.ps.intlevel ≡ s.control.ps.intlevel → e.ps.excm ≡ s.control.ps.excm → e.waits ≡ false
+        → Leaves s f x i (ticked (after_effect e len s.control)) (ticked (after_effect e len (laid (inputs 0 s) (inside x f)).control))
+    effect_leaves e len sets level mode running =
+        let c : Control = s.control in
+        let d : Control = (laid (inputs 0 s) (inside x f)).control in
+        let m = effect_mode e len c in
+        record {
+          even = even_ticked (after_effect e len c) (after_effect e len d) (effect_even e len c d h.even.pc (same_moved (moved_to i) e.sets x.marks f.unset h.even.special reads sets));
+          level = ap (λ (p : Ps). p.intlevel) m.0 ∙ level;
+          mode = ap (λ (p : Ps). p.excm) m.0 ∙ mode;
+          running = m.1 ∙ running;
+          spared = λ n is other. ticked_saved (after_effect e len c) n is ∙ effect_spares e len c n is (all_spare (moved_to i) n e.sets (sets n is) other);
+          framed = λ other. ticked_saved (after_effect e len d) 177 refl ∙ effect_spares e len d 177 refl (all_spare (moved_to i) 177 e.sets (sets 177 refl) other);
+        }
+
+    pub stops_leaves : moved_to i ≡ None → Leaves s f x i (ticked s.control) (ticked (laid (inputs 0 s) (inside x f)).control)
+    stops_leaves none =
+        let c : Control = s.control in
+        let d : Control = (laid (inputs 0 s) (inside x f)).control in
+        record {
+          even = subst (λ (o : Option (ℕ × ℕ)). Even (lost_in (unset_by o x.marks f.unset)) (ticked c) (ticked d)) (sym none) (even_ticked c d h.even);
+          level = refl;
+          mode = refl;
+          running = h.running;
+          spared = λ n is other. ticked_saved c n is;
+          framed = λ other. ticked_saved d 177 refl;
+        }
+
+-- ---- the register that is written
+names_low : (i : Insn) (g : FrameState) → g.control.ps.excm ≡ true → names_high i g ≡ false → named i < 4
+names_low i g e high =
+    ⊎_elim
+    (λ low. absurd (both_ways _ low e))
+    (λ low. leb-false 4 (named i) low)
+    (and_cases g.control.ps.excm (leb 4 (named i)) high)
+
+narrow_write : (i : Insn) (w : Option RegWrite) → named i < 4 → WritesNamed i w → KeepsSp w → IsNarrow w
+narrow_write i None low within keeps = tt
+narrow_write i (Some w) low within keeps = (omega arith, keeps)
+
+awaits_named : (i : Insn) (awaited : Option Awaited) (reply : ℕ) → AwaitsNamed i awaited → WritesNamed i (written None awaited reply)
+awaits_named i None reply h = tt
+awaits_named i (Some a) reply h = h
+
+-- ---- what the instruction reads
+pub none_from : (o : Option ℕ) → ((k : ℕ) → o ≡ Some k → ⊥) → o ≡ None
+none_from None h = refl
+none_from (Some k) h = absurd (h k refl)
+
+pub number_at : (seen : List (Option ℕ)) (k : ℕ) → lacks seen (Some k) ≡ false → (v : ℕ) × (get_or seen k None ≡ Some v)
+number_at seen k h = some_of (get_or seen k None) h
+  where
+    some_of : (o : Option ℕ) → not (is_some o) ≡ false → (v : ℕ) × (o ≡ Some v)
+    some_of None h = absurd (true≢false h)
+    some_of (Some v) h = (v, refl)
+
+module _ {suspended s : State} {f : FrameState} {x : Nested} (h : IsInside suspended s f x) where
+  no_mark_at : (t : ℕ) → lacks x.seen (Some t) ≡ false → get_or x.marks t None ≡ None
+  no_mark_at t e =
+      let v = number_at x.seen t e in
+      none_from (get_or x.marks t None) (λ k m. let none = (h.marks t k m).1 in let bad : None ≡ Some v.0 = sym none ∙ v.1 in cc)
+
+  no_saved_at : (n : ℕ) → is_unset f.unset (Some n) ≡ false → get_or x.saved n None ≡ None
+  no_saved_at n e = none_from (get_or x.saved n None) (λ k m. both_ways _ e (h.saved n k m).1)
+
+  reads_number : (i : Insn) → lacks x.seen (reads i).0 ≡ false → ReadsNumber (moved_to i) x.marks
+  unfolding moved_to reads
+  reads_number (insn.System (system.Rsr SpecialName.Wsr t n)) e = no_mark_at t e
+  reads_number (insn.System (system.Rsr SpecialName.Xsr t n)) e = no_mark_at t e
+  reads_number _ e = tt
+
+  reads_saved : (i : Insn) → is_unset f.unset (special_reads i).0 ≡ false → mark_read i x.saved ≡ None
+  unfolding mark_read special_reads
+  reads_saved (insn.System (system.Rsr SpecialName.Rsr t n)) e = no_saved_at n e
+  reads_saved (insn.System (system.Rsr SpecialName.Xsr t n)) e = no_saved_at n e
+  reads_saved _ e = refl
+
+  same_value : (o : Option ℕ) → lacks x.seen o ≡ false → value_of (visible s.regs s.base) o ≡ value_of (known x.seen) o
+  same_value None e = refl
+  same_value (Some k) e =
+      let v = number_at x.seen k e in
+      let a = h.numbers k v.0 v.1 in
+      let b : known x.seen k ≡ v.0 = ap (λ (o : Option ℕ). unwrap_or o 0) v.1 in
+      a ∙ sym b
+
+  same_special : (o : Option ℕ) → reads_lost false o ≡ false → is_unset f.unset o ≡ false → value_of (special_of s.control) o ≡ value_of (special_of (laid (inputs 0 s) (inside x f)).control) o
+  same_special None e u = refl
+  same_special (Some k) e u = h.even.special.at k (or_from (lost_of false k) (get_or f.unset k false) e u)
+
+  pub record Read (i : Insn) : Type 0 where
+    pub number : ReadsNumber (moved_to i) x.marks
+    pub mark : mark_read i x.saved ≡ None
+    pub outcome : (code : ℕ → ℕ) → outcome_at code i (visible s.regs s.base) s.control ≡ outcome_at code i (known x.seen) (laid (inputs 0 s) (inside x f)).control
+
+  pub read_by : (i : Insn) → reads_unset i (laid (inputs 0 s) (inside x f)) ≡ false → reads_epc1 false i ≡ false → Read i
+  read_by i unset none =
+      let g : FrameState = laid (inputs 0 s) (inside x f) in
+      let first = or_parts (lacks x.seen (reads i).0) _ unset in
+      let rest = or_parts (lacks x.seen (reads i).1) _ first.1 in
+      let special = or_parts (is_unset f.unset (special_reads i).0) (is_unset f.unset (special_reads i).1) rest.1 in
+      let e = or_parts (reads_lost false (special_reads i).0) (reads_lost false (special_reads i).1) none in
+      record {
+        number = reads_number i first.0;
+        mark = reads_saved i special.0;
+        outcome = λ code.
+            let x0 = same_value (reads i).0 first.0 in
+            let y0 = same_value (reads i).1 rest.0 in
+            let p = same_special (special_reads i).0 e.0 special.0 in
+            let q = same_special (special_reads i).1 e.1 special.1 in
+            let a = h.even.pc in
+            let b = h.even.ps in
+            let c = h.even.threadptr in
+            cc;
+      }
+
+-- ---- what kind of instruction it is
+kept_apart : (n k : ℕ) → eqb n k ≡ false → n ≢ k
+kept_apart n k e = eqb-false n k e
+
+kept_elsewhere : (i : Insn) → disturbs_nested i ≡ false → Elsewhere (moved_to i) 181 × Elsewhere (moved_to i) 197
+unfolding disturbs_nested moved_to
+kept_elsewhere (insn.System (system.Rsr SpecialName.Wsr t n)) e = let p = or_parts (eqb n 181) (eqb n 197) (or_parts (eqb n 230) _ e).1 in (kept_apart n 181 p.0, kept_apart n 197 p.1)
+kept_elsewhere (insn.System (system.Rsr SpecialName.Xsr t n)) e = let p = or_parts (eqb n 181) (eqb n 197) (or_parts (eqb n 230) _ e).1 in (kept_apart n 181 p.0, kept_apart n 197 p.1)
+kept_elsewhere _ e = (tt, tt)
+
+epc1_elsewhere : (i : Insn) → sets_epc1 i ≡ false → Elsewhere (moved_to i) 177
+unfolding sets_epc1 moved_to
+epc1_elsewhere (insn.System (system.Rsr SpecialName.Wsr t n)) e = kept_apart n 177 e
+epc1_elsewhere (insn.System (system.Rsr SpecialName.Xsr t n)) e = kept_apart n 177 e
+epc1_elsewhere _ e = tt
+
+quiet_mode : (i : Insn) → disturbs_nested i ≡ false → ends_nested i ≡ false → is_windowing i ≡ false → sets_mode i ≡ false
+unfolding disturbs_nested ends_nested is_windowing sets_mode
+quiet_mode (insn.System (system.Rsr SpecialName.Wsr t n)) d e w = (or_parts (eqb n 230) _ d).0
+quiet_mode (insn.System (system.Rsr SpecialName.Xsr t n)) d e w = (or_parts (eqb n 230) _ d).0
+quiet_mode (insn.System (system.Rsil name t level)) d e w = absurd (true≢false d)
+quiet_mode (insn.System (system.Rfe ReturnName.Rfe)) d e w = absurd (true≢false d)
+quiet_mode (insn.System (system.Rfe ReturnName.Rfde)) d e w = absurd (true≢false d)
+quiet_mode (insn.System (system.Rfe ReturnName.Rfwo)) d e w = absurd (true≢false w)
+quiet_mode (insn.System (system.Rfe ReturnName.Rfwu)) d e w = absurd (true≢false w)
+quiet_mode (insn.System (system.Rfi level)) d e w = absurd (both_ways _ e (not-false _ d))
+quiet_mode _ d e w = refl
+
+-- a row of WSR or XSR is no stop
+writes_on : (w : Option WindowRegister) (n x v : ℕ) (e : Effect) → writes_special w n x v e ≢ Stops
+writes_on None n x v e q = cc
+writes_on (Some w) n x v e q = cc
+
+exchanges_on : (w : Option WindowRegister) (t n x u v : ℕ) (e : Effect) → exchanges_special w t n x u v e ≢ Stops
+exchanges_on None t n x u v e q = cc
+exchanges_on (Some w) t n x u v e q = cc
+
+stops_move_none : (code : ℕ → ℕ) (i : Insn) (pc x y u v : ℕ) (ps : Ps) (threadptr : ℕ) → outcome code i pc x y u v ps threadptr ≡ Stops → moved_to i ≡ None
+unfolding outcome system_outcome moved_to
+stops_move_none code (insn.System (system.Rsr SpecialName.Wsr t n)) pc x y u v ps threadptr is = absurd (writes_on (window_register n) n x v (unchanged ps threadptr) is)
+stops_move_none code (insn.System (system.Rsr SpecialName.Xsr t n)) pc x y u v ps threadptr is = absurd (exchanges_on (window_register n) t n x u v (unchanged ps threadptr) is)
+stops_move_none code _ pc x y u v ps threadptr is = refl
+
+-- ---- ENTRY and RETW are illegal in exception mode
+entry_raises : (number value len reply : ℕ) (g : FrameState) → g.control.ps.excm ≡ true → is_exception (windowed_in_frame (Enters number value) len reply g).kind ≡ true
+entry_raises number value len reply g e = ap (λ (u : FrameTurn). is_exception u.kind) (cond-true g.control.ps.excm (raised illegal_instruction None g) (pushed number value len g) e)
+
+return_raises : (a0 len reply : ℕ) (g : FrameState) → g.control.ps.excm ≡ true → is_exception (windowed_in_frame (Returns a0) len reply g).kind ≡ true
+return_raises a0 len reply g e = ap (λ (u : FrameTurn). is_exception u.kind) (cond-true g.control.ps.excm (raised illegal_instruction None g) (popped a0 g) e)
+
+illegal_raises : (code : ℕ → ℕ) (i : Insn) (len reply : ℕ) (s : State) (g : FrameState) → g.control.ps.excm ≡ true → is_illegal i s ≡ true → is_exception (fetched_step (Fetches i len) code reply g).kind ≡ true
+unfolding is_illegal outcome control_outcome density_outcome
+illegal_raises code (insn.Control (control.Entry number size)) len reply s g e bad = entry_raises _ _ len reply g e
+illegal_raises code (insn.Control (control.Ret RetName.Retw)) len reply s g e bad = return_raises _ len reply g e
+illegal_raises code (insn.Density (density.Ret NarrowRetName.Retw)) len reply s g e bad = return_raises _ len reply g e
+illegal_raises code _ len reply s g e bad = absurd (true≢false (sym bad))
