@@ -1,7 +1,8 @@
 -- A nested step that moves no mark: both machines compute the same outcome.
-use Rattle.std.proofs.Common.{◌≡◌, ◌⊎◌, ℕ, ◌<◌, ◌≢◌, Bool, true, false, ◌||◌, ◌&&◌, not, cond, eqb, leb, ltb, List, [], ◌∷◌, Option, Some, None, sym, ap, ◌∙◌, refl, arith, inl, inr, ⊎_elim, subst, length, get_or}
+use Rattle.std.proofs.Common.{◌≡◌, ◌⊎◌, ℕ, ◌+◌, ◌*◌, ◌%◌, ◌^◌, ◌<◌, ◌≢◌, Bool, true, false, ◌||◌, ◌&&◌, not, cond, eqb, leb, ltb, List, [], ◌∷◌, Option, Some, None, sym, ap, ◌∙◌, refl, arith, inl, inr, ⊎_elim, subst, length, get_or}
 use Rattle.std.specs.Prelude.{is_some, unwrap_or, max}
-use Rattle.std.proofs.lemmas.Bool.{cases_Bool, true≢false, both_ways, or_parts, or_from, or_right, and_cases, and_right, le-ltb, leb-false, eqb-false, not-false, not-true, cond-true, cond-false}
+use Rattle.std.proofs.Math.ListN.{set}
+use Rattle.std.proofs.lemmas.Bool.{cases_Bool, true≢false, both_ways, or_parts, or_from, or_right, and_cases, and_right, le-ltb, leb-false, eqb-false, not-false, false_from_ne_true, cond-true, cond-false}
 use Rattle.std.proofs.lemmas.List.{get_or-set_other, length-set}
 use Rattle.xt_isa.specs.declared.Insn.{Insn}
 use Rattle.xt_isa.specs.declared.Insn.TheVariants as insn
@@ -34,7 +35,7 @@ use Rattle.xt_rows.specs.Kinds.{is_saved, is_entry, is_return, moved_to, names_w
 use Rattle.xt_rows.specs.Laws.{sets_mode, KeepsMode, AsksWith}
 use Rattle.xt_rows.specs.Operands.{reads, special_reads, named}
 use Rattle.xt_rows.specs.Outcomes.{outcome, control_outcome, density_outcome, system_outcome, outcome_at, value_of}
-use Rattle.xt_rows.specs.Settling.{Settled, after_effect, kind_of, settled, written}
+use Rattle.xt_rows.specs.Settling.{Kind, Executed, Stopped, Settled, after_effect, kind_of, settled, written}
 use Rattle.xt_rows.proofs.Fitting.{outcome_fits, outcome_alone}
 use Rattle.xt_rows.proofs.Modes.{modes_kept}
 use Rattle.xt_fetch.specs.Code.{AreBytes}
@@ -90,8 +91,11 @@ quiet_of b live stale i rec g u x is o =
     }
 
 -- ---- no interrupt, and no window check
-five_quiet : (b c d : Bool) → cond (b && false) 5 (cond (c && false) 3 (cond (d && false) 1 0)) ≡ 0
-five_quiet b c d = rw (and_right b false refl, and_right c false refl, and_right d false refl) refl
+three_false : (b c d : Bool) (x y z : ℕ) → cond (b && false) x (cond (c && false) y (cond (d && false) z 0)) ≡ 0
+three_false b c d x y z =
+    cond-false (b && false) x (cond (c && false) y (cond (d && false) z 0)) (and_right b false refl)
+    ∙ (cond-false (c && false) y (cond (d && false) z 0) (and_right c false refl)
+    ∙ cond-false (d && false) z 0 (and_right d false refl))
 
 quiet_at : (interrupt enabled : ℕ) (ps : Ps) → ps.excm ≡ true → ps.intlevel ≡ 5 → pending_level interrupt enabled ps ≡ 0
 unfolding pending_level
@@ -99,7 +103,7 @@ quiet_at interrupt enabled ps e l =
     let five : ltb (max ps.intlevel 3) 5 ≡ false = le-ltb (max ps.intlevel 3) 5 (omega arith) in
     let three : ltb (max ps.intlevel 3) 3 ≡ false = le-ltb (max ps.intlevel 3) 3 (omega arith) in
     let one : ltb (max ps.intlevel 3) 1 ≡ false = le-ltb (max ps.intlevel 3) 1 (omega arith) in
-    rw (e, five, three, one) (five_quiet _ _ _)
+    rw (e, five, three, one) (three_false _ _ _ 5 3 1)
 
 pub untaken : (c : Control) → c.ps.excm ≡ true → c.ps.intlevel ≡ 5 → ltb 0 (pending_of c) ≡ false
 untaken c e l = ap (λ n. ltb 0 n) (quiet_at (special_of c number.interrupt) (special_of c number.intenable) c.ps e l)
@@ -369,3 +373,232 @@ illegal_raises code (insn.Control (control.Entry number size)) len reply s g e b
 illegal_raises code (insn.Control (control.Ret RetName.Retw)) len reply s g e bad = return_raises _ len reply g e
 illegal_raises code (insn.Density (density.Ret NarrowRetName.Retw)) len reply s g e bad = return_raises _ len reply g e
 illegal_raises code _ len reply s g e bad = absurd (true≢false (sym bad))
+
+-- ---- a step of one core, where f has the nested interrupt x
+module _ (code : ℕ → ℕ) (b : Bounds) (m : MemoryContents) (s : State) (f : FrameState) (suspended : State) (live stale : ℕ → Bool) (x : Nested) (h : IsInside suspended s f x) (shaped : IsShaped s) (wide : length x.marks ≡ 16) (i : Insn) (len : ℕ) where
+  framed_excm : (laid (inputs 0 s) (inside x f)).control.ps.excm ≡ true
+  framed_excm = sym (ap (λ (p : Ps). p.excm) h.even.ps) ∙ h.mode
+
+  framed_epc1 : special_of (laid (inputs 0 s) (inside x f)).control 177 ≡ special_of f.control 177
+  framed_epc1 =
+      let xs : List ℕ = set f.control.special 234 (special_of s.control 234) in
+      get_or-set_other xs 226 177 (special_of s.control 226) 0 (λ e. omega (arith, e))
+      ∙ get_or-set_other f.control.special 234 177 (special_of s.control 234) 0 (λ e. omega (arith, e))
+
+  left_inner : (k : Kind) (write : Option RegWrite) (access : Option Access) (awaited : Option Awaited) (c d : Control)
+      → let t : Settled = record { kind = k; write = write; access = access; awaited = awaited; control = c } in
+      let v : Settled = record { kind = k; write = write; access = access; awaited = awaited; control = d } in
+      planned code s ≡ in_window t s → IsNarrow (written write awaited (reply_now code m s)) → Leaves s f x i c d → ReadsNumber (moved_to i) x.marks → Elsewhere (moved_to i) 181 → Elsewhere (moved_to i) 197 → Elsewhere (moved_to i) 177
+      → special_of d 231 ≡ b.vecbase
+      → Inner code b m s f suspended (left_turn i x f (in_frame v (reply_now code m s) (laid (inputs 0 s) (inside x f))))
+  left_inner k write access awaited c d is narrow l reads epc eps epc1 vectors =
+      let t : Settled = record { kind = k; write = write; access = access; awaited = awaited; control = c } in
+      let v : Settled = record { kind = k; write = write; access = access; awaited = awaited; control = d } in
+      let reply : ℕ = reply_now code m s in
+      let u : FrameTurn = in_frame v reply (laid (inputs 0 s) (inside x f)) in
+      let w : Option RegWrite = written write awaited reply in
+      let now : (turn code s reply).1 ≡ after_write w c s = state_is code s reply t is in
+      record {
+        x = nested_after i None x u;
+        nested = refl;
+        inside = subst (λ (z : State). IsInside suspended z (left_turn i x f u).after (nested_after i None x u)) (sym now) (left_inside h shaped.count wide i v reply narrow c l reads epc eps);
+        epc1 = ap (λ (z : State). special_of z.control 177) now ∙ (ap (λ (q : Control). special_of q 177) (write_control c s w) ∙ l.spared 177 refl epc1);
+        framed_epc1 = l.framed epc1 ∙ framed_epc1;
+        vectors = vectors;
+        seen = refl;
+        frames = refl;
+        pc = refl;
+        ps = refl;
+        kind = kind_is code s reply t is;
+        write = write_is code s reply t is;
+        access = access_is code s reply t is;
+      }
+
+  -- what is known of its row
+  module _ (u : FrameTurn) (o : Sound b false live stale i (record_now code m s) (laid (inputs 0 s) (inside x f)) u) (q : Quiet i x (laid (inputs 0 s) (inside x f)) u) (r : Read h i) (goes_on : ends_nested i ≡ false) where
+    does_inner : (e : Effect) → outcome_at code i (visible s.regs s.base) s.control ≡ Does e → Fits i (Does e) → planned code s ≡ done (Does e) len s → writes_sp i (record_now code m s).write e.write ≡ false
+        → special_of (settled (Does e) len (laid (inputs 0 s) (inside x f)).control).control 231 ≡ b.vecbase
+        → Inner code b m s f suspended (left_turn i x f (done_in_frame (Does e) len (reply_now code m s) (laid (inputs 0 s) (inside x f))))
+    does_inner e same fit is sp vectors =
+        let mode : KeepsMode (unchanged s.control.ps s.control.threadptr) (Does e) = subst (KeepsMode (unchanged s.control.ps s.control.threadptr)) same (modes_kept code i s.control.pc _ _ _ _ s.control.ps s.control.threadptr (quiet_mode i q.disturbs goes_on o.windowing)) in
+        let other = kept_elsewhere i q.disturbs in
+        left_inner Executed e.write None None _ _ is
+        (narrow_write i e.write (names_low i (laid (inputs 0 s) (inside x f)) framed_excm o.high) fit.0 (keeps_sp i (record_now code m s).write e.write fit.2 o.movsp sp))
+        (effect_leaves h i r.number e len fit.1 mode.0 mode.1 mode.2)
+        r.number other.0 other.1 (epc1_elsewhere i q.epc1) vectors
+
+    asks_inner : (access : Access) (awaited : Option Awaited) (e : Effect) → outcome_at code i (visible s.regs s.base) s.control ≡ Asks access awaited e → Fits i (Asks access awaited e) → planned code s ≡ done (Asks access awaited e) len s → writes_sp i (record_now code m s).write (written None awaited (reply_now code m s)) ≡ false
+        → special_of (settled (Asks access awaited e) len (laid (inputs 0 s) (inside x f)).control).control 231 ≡ b.vecbase
+        → Inner code b m s f suspended (left_turn i x f (done_in_frame (Asks access awaited e) len (reply_now code m s) (laid (inputs 0 s) (inside x f))))
+    asks_inner access awaited e same fit is sp vectors =
+        let alone : e ≡ unchanged s.control.ps s.control.threadptr = subst (AsksWith (unchanged s.control.ps s.control.threadptr)) same (outcome_alone code i s.control.pc _ _ _ _ s.control.ps s.control.threadptr) in
+        let other = kept_elsewhere i q.disturbs in
+        let sets : (n : ℕ) → is_saved n ≡ true → SetsOne (moved_to i) n e.sets = λ n h. subst (λ (o : Option (ℕ × ℕ)). SetsOne o n e.sets) (sym fit.1) (subst (λ (z : Effect). AllSpare n z.sets) (sym alone) (tt, tt, tt)) in
+        left_inner Executed None (Some access) awaited _ _ is
+        (narrow_write i (written None awaited (reply_now code m s)) (names_low i (laid (inputs 0 s) (inside x f)) framed_excm o.high) (awaits_named i awaited _ fit.0) (keeps_sp i (record_now code m s).write (written None awaited (reply_now code m s)) fit.2 o.movsp sp))
+        (effect_leaves h i r.number e len sets (ap (λ (z : Effect). z.ps.intlevel) alone) (ap (λ (z : Effect). z.ps.excm) alone) (ap (λ (z : Effect). z.waits) alone))
+        r.number other.0 other.1 (epc1_elsewhere i q.epc1) vectors
+
+    stops_inner : outcome_at code i (visible s.regs s.base) s.control ≡ Stops → planned code s ≡ done Stops len s
+        → special_of (ticked (laid (inputs 0 s) (inside x f)).control) 231 ≡ b.vecbase
+        → Inner code b m s f suspended (left_turn i x f (done_in_frame Stops len (reply_now code m s) (laid (inputs 0 s) (inside x f))))
+    stops_inner same is vectors =
+        let other = kept_elsewhere i q.disturbs in
+        left_inner Stopped None None None _ _ is tt
+        (stops_leaves h i r.number (stops_move_none code i s.control.pc _ _ _ _ s.control.ps s.control.threadptr same))
+        r.number other.0 other.1 (epc1_elsewhere i q.epc1) vectors
+
+    row_inner : (y : Outcome) → outcome_at code i (visible s.regs s.base) s.control ≡ y → Fits i y → planned code s ≡ done y len s
+        → let g : FrameState = laid (inputs 0 s) (inside x f) in
+        let v : FrameTurn = done_in_frame y len (reply_now code m s) g in
+        is_exception v.kind ≡ false → writes_sp i (record_now code m s).write v.write ≡ false → special_of v.after.control 231 ≡ b.vecbase
+        → Inner code b m s f suspended (left_turn i x f v)
+    row_inner (Does e) same fit is kind sp vectors = does_inner e same fit is sp vectors
+    row_inner (Raises cause addr) same fit is kind sp vectors = absurd (true≢false kind)
+    row_inner (Asks access awaited e) same fit is kind sp vectors = asks_inner access awaited e same fit is sp vectors
+    row_inner Stops same fit is kind sp vectors = stops_inner same is vectors
+    row_inner (Windowed (Enters number value)) same fit is kind sp vectors = absurd (both_ways _ kind (entry_raises number value len _ _ framed_excm))
+    row_inner (Windowed (Returns a0)) same fit is kind sp vectors = absurd (both_ways _ kind (return_raises a0 len _ _ framed_excm))
+    row_inner (Windowed (EndsOverflow epc1)) same fit is kind sp vectors = absurd (both_ways _ o.windowing fit)
+    row_inner (Windowed (EndsUnderflow epc1)) same fit is kind sp vectors = absurd (both_ways _ o.windowing fit)
+    row_inner (Windowed (Rotates n)) same fit is kind sp vectors = absurd (both_ways _ o.windowing fit)
+    row_inner (Windowed (MovesStack number value)) same fit is kind sp vectors = absurd (both_ways _ o.movsp fit)
+    row_inner (Windowed (Reads register number)) same fit is kind sp vectors = absurd (both_ways _ o.window_register fit)
+    row_inner (Windowed (Sets register value)) same fit is kind sp vectors = absurd (both_ways _ o.window_register fit)
+    row_inner (Windowed (Exchanges register number value)) same fit is kind sp vectors = absurd (both_ways _ o.window_register fit)
+
+  -- an instruction that moves no mark
+  pub unmarked_inner : (value : ℕ) → let g : FrameState = laid (inputs 0 s) (inside x f) in
+      let u : FrameTurn = fetched_step (Fetches i len) code (reply_now code m s) g in
+      Sound b false live stale i (record_now code m s) g u → f.nested ≡ Some x → moves_marks i ≡ false → ends_nested i ≡ false
+      → planned code s ≡ done (outcome_at code i (visible s.regs s.base) s.control) len s
+      → Inner code b m s f suspended (nested_insn i value x f u)
+  unmarked_inner value o nested unmoved goes_on is =
+      let g : FrameState = laid (inputs 0 s) (inside x f) in
+      let reply : ℕ = reply_now code m s in
+      let u : FrameTurn = fetched_step (Fetches i len) code reply g in
+      let q = quiet_of b live stale i (record_now code m s) g u x nested o in
+      let unset : (not (ends_nested i) && reads_unset i g) ≡ false = sym (cond-false (moves_marks i) false (not (ends_nested i) && reads_unset i g) unmoved) ∙ q.reads in
+      let reads : reads_unset i g ≡ false = ⊎_elim (λ bad. absurd (both_ways _ goes_on (not-false _ bad))) (λ e. e) (and_cases (not (ends_nested i)) (reads_unset i g) unset) in
+      let r = read_by h i reads q.lost in
+      let same = r.outcome code in
+      let P : Outcome → Type 0 = λ y. (let v : FrameTurn = done_in_frame y len reply g in is_exception v.kind ≡ false → writes_sp i (record_now code m s).write v.write ≡ false → special_of v.after.control 231 ≡ b.vecbase → Inner code b m s f suspended (left_turn i x f v)) in
+      let inner : P (outcome_at code i (known x.seen) g.control) = subst P same (row_inner u o q r goes_on (outcome_at code i (visible s.regs s.base) s.control) refl (outcome_fits code i s.control.pc _ _ _ _ s.control.ps s.control.threadptr) is) in
+      subst (λ (z : FrameTurn). Inner code b m s f suspended z) (sym (left_is i value x f u goes_on r.mark)) (inner q.kind o.written o.vectors)
+
+-- ---- a step that moves a mark: stated here, proved in InnerMarks
+abbrev pub MovesMarks : Type 0
+MovesMarks =
+    (code : ℕ → ℕ) (b : Bounds) (m : MemoryContents) (s : State) (f : FrameState) (suspended : State) (live stale : ℕ → Bool) (x : Nested) (i : Insn) (len : ℕ)
+    → f.nested ≡ Some x → IsInside suspended s f x → IsShaped s → length f.unset ≡ 256 → length x.marks ≡ 16
+    → fetched code s.control.pc ≡ Fetches i len → moves_marks i ≡ true
+    → planned code s ≡ done (outcome_at code i (visible s.regs s.base) s.control) len s
+    → let g : FrameState = laid (inputs 0 s) (inside x f) in
+    let u : FrameTurn = fetched_step (Fetches i len) code (reply_now code m s) g in
+    Sound b false live stale i (record_now code m s) g u
+    → Inner code b m s f suspended (nested_insn i (value_in (record_now code m s).write) x f u)
+
+-- ---- RFI 5: u is the frame machine's step of the record
+pub record Ending
+    (code : ℕ → ℕ) (b : Bounds) (m : MemoryContents) (s : State) (f : FrameState) (x : Nested)
+    (live stale : ℕ → Bool) (u : FrameTurn) : Type 0 where
+  pub insn : Insn
+  pub len : ℕ
+  pub at : fetched code s.control.pc ≡ Fetches insn len
+  pub ends : ends_nested insn ≡ true
+  pub sound : Sound b false live stale insn (record_now code m s) (laid (inputs 0 s) (inside x f)) (fetched_step (Fetches insn len) code (reply_now code m s) (laid (inputs 0 s) (inside x f)))
+  pub quiet : Quiet insn x (laid (inputs 0 s) (inside x f)) (fetched_step (Fetches insn len) code (reply_now code m s) (laid (inputs 0 s) (inside x f)))
+  pub plan : planned code s ≡ done (outcome_at code insn (visible s.regs s.base) s.control) len s
+  pub step : u ≡ nested_insn insn (value_in (record_now code m s).write) x f (fetched_step (Fetches insn len) code (reply_now code m s) (laid (inputs 0 s) (inside x f)))
+
+-- ---- the record's inputs and reply
+inputs_same : (code : ℕ → ℕ) (s : State) (reply : ℕ) (f : FrameState) → s.control.ps.owb < 16 → laid (inputs_of (turn code s reply).0) f ≡ laid (inputs 0 s) f
+unfolding turn
+inputs_same code s reply f small = let e : s.control.ps.owb % 16 ≡ s.control.ps.owb = omega arith in rw e refl
+
+reply_same : (code : ℕ → ℕ) (m : MemoryContents) (s : State) → (record_now code m s).reply ≡ reply_now code m s
+unfolding turn
+reply_same code m s = from_demand (demand code s)
+  where
+    from_demand : (o : Option Access) → reply_where o (reply_at m o) ≡ reply_at m o
+    from_demand None = refl
+    from_demand (Some a) = refl
+
+-- ---- the breach of a nested step
+breach_inside : (b : Bounds) (code : ℕ → ℕ) (live stale : ℕ → Bool) (rec : StepRecord) (f : FrameState) (x : Nested) → f.nested ≡ Some x
+    → breach_of b false code live stale true rec f ≡ laid_breach b false code live stale rec (laid (inputs_of rec) (inside x f))
+breach_inside b code live stale rec f x e =
+    let none : Option BreachKind = None in
+    let L : Option BreachKind = laid_breach b false code live stale rec (laid (inputs_of rec) (inside x f)) in
+    let B : Option Nested → Option BreachKind = λ o. cond (is_nesting rec.kind && not (is_some o)) none (laid_breach b false code live stale rec (laid (inputs_of rec) (current_in o f))) in
+    ap B e ∙ ap (λ (c : Bool). cond c none L) (and_right (is_nesting rec.kind) false refl)
+
+breach_fetches : (b : Bounds) (code : ℕ → ℕ) (live stale : ℕ → Bool) (rec : StepRecord) (g : FrameState) → ltb 0 (pending_of g.control) ≡ false → g.control.waits ≡ false
+    → laid_breach b false code live stale rec g ≡ first_shown (fetched_tests b false live stale (fetched code g.control.pc) rec g (laid_step code rec.reply g))
+unfolding laid_breach
+breach_fetches b code live stale rec g e w = cond-false (ltb 0 (pending_of g.control) || g.control.waits) _ _ (or_from _ _ e w)
+
+-- a step that fetches no instruction is a breach
+other_breaks : (b : Bounds) (live stale : ℕ → Bool) (rec : StepRecord) (g : FrameState) (u : FrameTurn) (x : Nested) → g.nested ≡ Some x → NoneShown (other_tests b live stale rec g u) → ⊥
+other_breaks b live stale rec g u x is (saves, (loads, (woe, (vectors, (vector, (nested, more)))))) = both_ways (is_some g.nested) nested (ap (λ (o : Option Nested). is_some o) is)
+
+module _ (moves : MovesMarks) (code : ℕ → ℕ) (bytes : AreBytes code) (b : Bounds) (m : MemoryContents) (s : State) (f : FrameState) (suspended : State) (live stale : ℕ → Bool) (x : Nested) (nested : f.nested ≡ Some x) (h : IsInside suspended s f x) (shaped : IsShaped s) (all : length f.unset ≡ 256) (wide : length x.marks ≡ 16) where
+  abbrev Next : FrameTurn → Type 0
+  Next u = Ending code b m s f x live stale u ⊎ Inner code b m s f suspended u
+
+  insn_next : (i : Insn) (len : ℕ) → fetched code s.control.pc ≡ Fetches i len → planned code s ≡ fetched_turn (Fetches i len) code s
+      → let g : FrameState = laid (inputs 0 s) (inside x f) in
+      let u : FrameTurn = fetched_step (Fetches i len) code (reply_now code m s) g in
+      NoneShown (insn_tests b false live stale i (record_now code m s) g u) → Next (nested_insn i (value_in (record_now code m s).write) x f u)
+  insn_next i len at is none =
+      let g : FrameState = laid (inputs 0 s) (inside x f) in
+      let u : FrameTurn = fetched_step (Fetches i len) code (reply_now code m s) g in
+      let o = sound b false live stale i (record_now code m s) g u none in
+      let q = quiet_of b live stale i (record_now code m s) g u x nested o in
+      let mode : g.control.ps.excm ≡ true = framed_excm code b m s f suspended live stale x h shaped wide i len in
+      let legal : is_illegal i s ≡ false = false_from_ne_true (is_illegal i s) (λ bad. both_ways _ q.kind (illegal_raises code i len (reply_now code m s) s g mode bad)) in
+      let plan : planned code s ≡ done (outcome_at code i (visible s.regs s.base) s.control) len s =
+      is ∙ (cond-false (is_illegal i s) (raises illegal_instruction s) (checked (window_check i s) code i len s) legal ∙ ap (λ k. checked k code i len s) (unchecked i s h.mode)) in
+      ⊎_elim
+      (λ ends. inl (record { insn = i; len = len; at = at; ends = ends; sound = o; quiet = q; plan = plan; step = refl }))
+      (λ goes_on. ⊎_elim
+      (λ moved. inr (moves code b m s f suspended live stale x i len nested h shaped all wide at moved plan o))
+      (λ unmoved. inr (unmarked_inner code b m s f suspended live stale x h shaped wide i len (value_in (record_now code m s).write) o nested unmoved goes_on plan))
+      (cases_Bool (moves_marks i)))
+      (cases_Bool (ends_nested i))
+
+  fetched_next : (at : Fetched) → fetched code s.control.pc ≡ at → planned code s ≡ fetched_turn at code s
+      → let g : FrameState = laid (inputs 0 s) (inside x f) in
+      let u : FrameTurn = fetched_step at code (reply_now code m s) g in
+      NoneShown (fetched_tests b false live stale at (record_now code m s) g u) → Next (nested_fetched at (value_in (record_now code m s).write) x f u)
+  fetched_next (Fails address) at is none = absurd (other_breaks b live stale _ _ _ x nested none)
+  fetched_next SpellsNothing at is none = absurd (other_breaks b live stale _ _ _ x nested none)
+  fetched_next (Fetches i len) at is none = insn_next i len at is none
+
+  pub inner_by : breach_of b false code live stale true (record_now code m s) f ≡ None → Next (step_on code true (record_now code m s) f)
+  inner_by none =
+      let rec : StepRecord = record_now code m s in
+      let reply : ℕ = reply_now code m s in
+      let g : FrameState = laid (inputs 0 s) (inside x f) in
+      let value : ℕ = value_in rec.write in
+      let at : Fetched = fetched code s.control.pc in
+      let same : laid (inputs_of rec) (inside x f) ≡ g = inputs_same code s reply (inside x f) shaped.control.ps.owb_fits in
+      let mode : g.control.ps.excm ≡ true = sym (ap (λ (p : Ps). p.excm) h.even.ps) ∙ h.mode in
+      let level : g.control.ps.intlevel ≡ 5 = sym (ap (λ (p : Ps). p.intlevel) h.even.ps) ∙ h.level in
+      let quiet : ltb 0 (pending_of g.control) ≡ false = untaken g.control mode level in
+      let running : g.control.waits ≡ false = sym h.even.waits ∙ h.running in
+      let here : laid_step code rec.reply g ≡ fetched_step at code reply g =
+      ap (λ y. laid_step code y g) (reply_same code m s) ∙ (step_fetches code reply g quiet running ∙ ap (λ p. fetched_step (fetched code p) code reply g) (sym h.even.pc)) in
+      let shown : first_shown (fetched_tests b false live stale (fetched code g.control.pc) rec g (laid_step code rec.reply g)) ≡ None =
+      sym (breach_fetches b code live stale rec g quiet running) ∙ (sym (ap (λ (y : FrameState). laid_breach b false code live stale rec y) same) ∙ (sym (breach_inside b code live stale rec f x nested) ∙ none)) in
+      let at_pc : first_shown (fetched_tests b false live stale at rec g (laid_step code rec.reply g)) ≡ None =
+      ap (λ p. first_shown (fetched_tests b false live stale (fetched code p) rec g (laid_step code rec.reply g))) h.even.pc ∙ shown in
+      let tests : first_shown (fetched_tests b false live stale at rec g (fetched_step at code reply g)) ≡ None =
+      sym (ap (λ (v : FrameTurn). first_shown (fetched_tests b false live stale at rec g v)) here) ∙ at_pc in
+      let plan : planned code s ≡ fetched_turn at code s = turn_fetches code s (untaken s.control h.mode h.level) h.running in
+      let step : step_on code true rec f ≡ nested_fetched at value x f (fetched_step at code reply g) =
+      step_inside code true rec f x nested
+      ∙ (ap (λ (y : FrameState). nested_fetched (fetched code y.control.pc) value x f (laid_step code rec.reply y)) same
+      ∙ (ap (λ p. nested_fetched (fetched code p) value x f (laid_step code rec.reply g)) (sym h.even.pc)
+      ∙ ap (λ (v : FrameTurn). nested_fetched at value x f v) here)) in
+      subst Next (sym step) (fetched_next at refl plan (none_shown (fetched_tests b false live stale at rec g (fetched_step at code reply g)) tests))
