@@ -457,8 +457,8 @@ module _ (code : ℕ → ℕ) (b : Bounds) (m : MemoryContents) (s : State) (f :
     row_inner (Raises cause addr) same fit is kind sp vectors = absurd (true≢false kind)
     row_inner (Asks access awaited e) same fit is kind sp vectors = asks_inner access awaited e same fit is sp vectors
     row_inner Stops same fit is kind sp vectors = stops_inner same is vectors
-    row_inner (Windowed (Enters number value)) same fit is kind sp vectors = absurd (both_ways _ kind (entry_raises number value len _ _ framed_excm))
-    row_inner (Windowed (Returns a0)) same fit is kind sp vectors = absurd (both_ways _ kind (return_raises a0 len _ _ framed_excm))
+    row_inner (Windowed (Enters number value)) same fit is kind sp vectors = absurd (both_ways _ kind (entry_raises number value len (reply_now code m s) (laid (inputs 0 s) (inside x f)) framed_excm))
+    row_inner (Windowed (Returns a0)) same fit is kind sp vectors = absurd (both_ways _ kind (return_raises a0 len (reply_now code m s) (laid (inputs 0 s) (inside x f)) framed_excm))
     row_inner (Windowed (EndsOverflow epc1)) same fit is kind sp vectors = absurd (both_ways _ o.windowing fit)
     row_inner (Windowed (EndsUnderflow epc1)) same fit is kind sp vectors = absurd (both_ways _ o.windowing fit)
     row_inner (Windowed (Rotates n)) same fit is kind sp vectors = absurd (both_ways _ o.windowing fit)

@@ -30,6 +30,7 @@ pub mod Walk
 pub mod Positions
 pub mod Images
 pub mod Inner
+pub mod Holes
 pub mod InnerSteps
 pub mod InnerRows
 pub mod InnerMarks
