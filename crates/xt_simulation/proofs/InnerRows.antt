@@ -571,8 +571,8 @@ module _ (moves : MovesMarks) (code : ℕ → ℕ) (bytes : AreBytes code) (b : 
       → let g : FrameState = laid (inputs 0 s) (inside x f) in
       let u : FrameTurn = fetched_step at code (reply_now code m s) g in
       NoneShown (fetched_tests b false live stale at (record_now code m s) g u) → Next (nested_fetched at (value_in (record_now code m s).write) x f u)
-  fetched_next (Fails address) at is none = absurd (other_breaks b live stale _ _ _ x nested none)
-  fetched_next SpellsNothing at is none = absurd (other_breaks b live stale _ _ _ x nested none)
+  fetched_next (Fails address) at is none = absurd (other_breaks b live stale (record_now code m s) (laid (inputs 0 s) (inside x f)) (fetched_step (Fails address) code (reply_now code m s) (laid (inputs 0 s) (inside x f))) x nested none)
+  fetched_next SpellsNothing at is none = absurd (other_breaks b live stale (record_now code m s) (laid (inputs 0 s) (inside x f)) (fetched_step SpellsNothing code (reply_now code m s) (laid (inputs 0 s) (inside x f))) x nested none)
   fetched_next (Fetches i len) at is none = insn_next i len at is none
 
   pub inner_by : breach_of b false code live stale true (record_now code m s) f ≡ None → Next (step_on code true (record_now code m s) f)
