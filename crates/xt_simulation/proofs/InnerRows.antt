@@ -59,7 +59,9 @@ use Rattle.xt_simulation.specs.Relation.{Even, Same, can_be_lost, lost_at, input
 use Rattle.xt_simulation.specs.Steps.{reply_at, reply_now, record_now, state_now}
 use Rattle.xt_simulation.specs.Nested.{IsInside, IsSpare, marked}
 use Rattle.xt_simulation.proofs.Evenly.{even_ticked}
+use Rattle.xt_simulation.proofs.Holes.{HasHoles, marks_wide}
 use Rattle.xt_simulation.proofs.Inner.{Inner}
+use Rattle.xt_simulation.proofs.InnerMarks.{marks_moved}
 use Rattle.xt_simulation.proofs.InnerSteps.{Elsewhere, IsNarrow, ReadsNumber, after_write, all_spare, can_saved, effect_even, effect_mode, effect_spares, even_laid, lost_in, same_moved, saved_left, ticked_saved, write_base, write_control, write_marks, write_numbers, write_others, write_size, write_start}
 
 -- ---- what the tests of a nested step deny
@@ -486,18 +488,6 @@ module _ (code : ℕ → ℕ) (b : Bounds) (m : MemoryContents) (s : State) (f :
       let inner : P (outcome_at code i (known x.seen) g.control) = subst P same (row_inner u o q r goes_on (outcome_at code i (visible s.regs s.base) s.control) refl (outcome_fits code i s.control.pc _ _ _ _ s.control.ps s.control.threadptr) is) in
       subst (λ (z : FrameTurn). Inner code b m s f suspended z) (sym (left_is i value x f u goes_on r.mark)) (inner q.kind o.written o.vectors)
 
--- ---- a step that moves a mark: stated here, proved in InnerMarks
-abbrev pub MovesMarks : Type 0
-MovesMarks =
-    (code : ℕ → ℕ) (b : Bounds) (m : MemoryContents) (s : State) (f : FrameState) (suspended : State) (live stale : ℕ → Bool) (x : Nested) (i : Insn) (len : ℕ)
-    → f.nested ≡ Some x → IsInside suspended s f x → IsShaped s → length f.unset ≡ 256 → length x.marks ≡ 16
-    → fetched code s.control.pc ≡ Fetches i len → moves_marks i ≡ true
-    → planned code s ≡ done (outcome_at code i (visible s.regs s.base) s.control) len s
-    → let g : FrameState = laid (inputs 0 s) (inside x f) in
-    let u : FrameTurn = fetched_step (Fetches i len) code (reply_now code m s) g in
-    Sound b false live stale i (record_now code m s) g u
-    → Inner code b m s f suspended (nested_insn i (value_in (record_now code m s).write) x f u)
-
 -- ---- RFI 5: u is the frame machine's step of the record
 pub record Ending
     (code : ℕ → ℕ) (b : Bounds) (m : MemoryContents) (s : State) (f : FrameState) (x : Nested)
@@ -542,7 +532,13 @@ breach_fetches b code live stale rec g e w = cond-false (ltb 0 (pending_of g.con
 other_breaks : (b : Bounds) (live stale : ℕ → Bool) (rec : StepRecord) (g : FrameState) (u : FrameTurn) (x : Nested) → g.nested ≡ Some x → NoneShown (other_tests b live stale rec g u) → ⊥
 other_breaks b live stale rec g u x is (saves, (loads, (woe, (vectors, (vector, (nested, more)))))) = both_ways (is_some g.nested) nested (ap (λ (o : Option Nested). is_some o) is)
 
-module _ (moves : MovesMarks) (code : ℕ → ℕ) (bytes : AreBytes code) (b : Bounds) (m : MemoryContents) (s : State) (f : FrameState) (suspended : State) (live stale : ℕ → Bool) (x : Nested) (nested : f.nested ≡ Some x) (h : IsInside suspended s f x) (shaped : IsShaped s) (all : length f.unset ≡ 256) (wide : length x.marks ≡ 16) where
+module _ (code : ℕ → ℕ) (b : Bounds) (m : MemoryContents) (s : State) (f : FrameState) (suspended : State) (live stale : ℕ → Bool) (x : Nested) (nested : f.nested ≡ Some x) (h : IsInside suspended s f x) (shaped : IsShaped s) (holes : HasHoles f) where
+  all : length f.unset ≡ 256
+  all = holes.unset
+
+  wide : length x.marks ≡ 16
+  wide = marks_wide holes x nested
+
   abbrev Next : FrameTurn → Type 0
   Next u = Ending code b m s f x live stale u ⊎ Inner code b m s f suspended u
 
@@ -562,7 +558,7 @@ module _ (moves : MovesMarks) (code : ℕ → ℕ) (bytes : AreBytes code) (b : 
       ⊎_elim
       (λ ends. inl (record { insn = i; len = len; at = at; ends = ends; sound = o; quiet = q; plan = plan; step = refl }))
       (λ goes_on. ⊎_elim
-      (λ moved. inr (moves code b m s f suspended live stale x i len nested h shaped all wide at moved plan o))
+      (λ moved. inr (marks_moved code b m s f suspended live stale x i len nested h shaped all wide at moved plan o))
       (λ unmoved. inr (unmarked_inner code b m s f suspended live stale x h shaped wide i len (value_in (record_now code m s).write) o nested unmoved goes_on plan))
       (cases_Bool (moves_marks i)))
       (cases_Bool (ends_nested i))
@@ -575,8 +571,8 @@ module _ (moves : MovesMarks) (code : ℕ → ℕ) (bytes : AreBytes code) (b : 
   fetched_next SpellsNothing at is none = absurd (other_breaks b live stale (record_now code m s) (laid (inputs 0 s) (inside x f)) (fetched_step SpellsNothing code (reply_now code m s) (laid (inputs 0 s) (inside x f))) x nested none)
   fetched_next (Fetches i len) at is none = insn_next i len at is none
 
-  pub inner_by : breach_of b false code live stale true (record_now code m s) f ≡ None → Next (step_on code true (record_now code m s) f)
-  inner_by none =
+  next_step : breach_of b false code live stale true (record_now code m s) f ≡ None → Next (step_on code true (record_now code m s) f)
+  next_step none =
       let rec : StepRecord = record_now code m s in
       let reply : ℕ = reply_now code m s in
       let g : FrameState = laid (inputs 0 s) (inside x f) in
@@ -602,3 +598,13 @@ module _ (moves : MovesMarks) (code : ℕ → ℕ) (bytes : AreBytes code) (b : 
       ∙ (ap (λ p. nested_fetched (fetched code p) value x f (laid_step code rec.reply g)) (sym h.even.pc)
       ∙ ap (λ (v : FrameTurn). nested_fetched at value x f v) here)) in
       subst Next (sym step) (fetched_next at refl plan (none_shown (fetched_tests b false live stale at rec g (fetched_step at code reply g)) tests))
+
+-- a step of a nested interrupt that shows no breach is RFI 5, or goes on in it
+pub inner_step :
+    (code : ℕ → ℕ) → AreBytes code
+    → (b : Bounds) (m : MemoryContents) (s : State) (f : FrameState) (suspended : State) (live stale : ℕ → Bool) (x : Nested)
+    → f.nested ≡ Some x → IsInside suspended s f x → IsShaped s → HasHoles f
+    → breach_of b false code live stale true (record_now code m s) f ≡ None
+    → let u : FrameTurn = step_on code true (record_now code m s) f in
+    Ending code b m s f x live stale u ⊎ Inner code b m s f suspended u
+inner_step code bytes b m s f suspended live stale x nested h shaped holes none = next_step code b m s f suspended live stale x nested h shaped holes none
