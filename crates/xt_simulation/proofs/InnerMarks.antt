@@ -1,1 +1,511 @@
 -- A nested step that moves a mark: RSR, WSR or XSR between a0 to a3 and a register that can hold one.
+-- The frame machine has no value where a mark stands, so the two outcomes differ; both are known by
+-- computation.
+use Rattle.std.proofs.Common.{◌≡◌, ℕ, ◌+◌, ◌*◌, ◌%◌, ◌^◌, ◌<◌, ◌≤◌, ◌≢◌, ◌⊎◌, Bool, true, false, ◌||◌, ◌&&◌, not, eqb, leb, ltb, List, Option, Some, None, is_some, inl, inr, sym, ap, ◌∙◌, refl, arith, ⊎_elim, subst, length, get_or}
+use Rattle.std.specs.Prelude.{unwrap_or}
+use Rattle.std.proofs.Math.ListN.{set}
+use Rattle.std.proofs.lemmas.Bool.{cases_eq, cases_lt, true≢false, and_parts, and_cases, or_parts, or_cases, or_from, or_right, ne_eqb, eqb-false, leb-true, ltb-true, false_from_ne_true, cond-false}
+use Rattle.std.proofs.lemmas.List.{get_or-set_same, get_or-set_other, length-set, get_or_past}
+use Rattle.xt_isa.specs.declared.Insn.{Insn}
+use Rattle.xt_isa.specs.declared.Insn.TheVariants as insn
+use Rattle.xt_isa.specs.declared.system.System.TheVariants as system
+use Rattle.xt_isa.specs.declared.system.SpecialName.TheVariants as SpecialName
+use Rattle.xt_map.specs.declared.contents.MemoryContents.{MemoryContents}
+use Rattle.xt_special.specs.declared.ps.Ps.{Ps}
+use Rattle.xt_special.specs.Numbers as number
+use Rattle.xt_special.specs.Control.{Control, special_of, ps_word}
+use Rattle.xt_special.specs.Access.{SpecialWrites, is_ccompare, is_eps, no_set, no_sets, ps_written, set_to, value_kept, value_read, with_sets, written_by}
+use Rattle.xt_special.specs.Timers.{ticked, ticked_special}
+use Rattle.xt_special.proofs.Kept.{ticked_other}
+use Rattle.xt_window.specs.Ring.{place, visible}
+use Rattle.xt_trace.specs.declared.record.StepKind.TheVariants as kind
+use Rattle.xt_trace.specs.declared.record.RegWrite.{RegWrite}
+use Rattle.xt_rows.specs.declared.outcome.Effect.{Effect}
+use Rattle.xt_rows.specs.declared.outcome.Outcome.{Outcome}
+use Rattle.xt_rows.specs.declared.outcome.Outcome.TheVariants.{Does}
+use Rattle.xt_rows.specs.declared.outcome.WindowRegister.{WindowRegister}
+use Rattle.xt_rows.specs.Effects.{exchanges_special, reads_special, unchanged, window_register, write_to, writes_special}
+use Rattle.xt_rows.specs.Kinds.{moved_to}
+use Rattle.xt_rows.specs.Operands.{changes_interrupt, reads, special_reads}
+use Rattle.xt_rows.specs.Outcomes.{outcome, outcome_at, system_outcome, value_of}
+use Rattle.xt_rows.specs.Settling.{Executed, after_effect, written}
+use Rattle.xt_exec.specs.State.{State}
+use Rattle.xt_exec.specs.Laws.{IsShaped}
+use Rattle.xt_exec.specs.Turn.{Planned, demand, done, planned, turn, with_write}
+use Rattle.xt_frames.specs.declared.holes.Nested.{Nested}
+use Rattle.xt_frames.specs.Frames.{FrameState, known, seen_after_write}
+use Rattle.xt_frames.specs.FrameStep.{FrameTurn, done_in_frame, in_frame, laid}
+use Rattle.xt_frames.specs.Marks.{holds_marks, mark_read, marked_seen, marked_write, marks_after, moves_marks}
+use Rattle.xt_frames.specs.Nesting.{ends_nested, inside, nested_insn}
+use Rattle.xt_frames.specs.Breaches.{Bounds, is_sp, is_unset, lacks, lost_of, may_write_sp, reads_no_mark, writes_sp}
+use Rattle.xt_frames.specs.Judging.{step_on, value_in}
+use Rattle.xt_simulation.specs.Relation.{Even, Same, can_be_lost, inputs, lost_at}
+use Rattle.xt_simulation.specs.Steps.{record_now, reply_now, state_now}
+use Rattle.xt_simulation.specs.Nested.{IsInside, IsSpare, marked}
+use Rattle.xt_simulation.proofs.Closed.{set_own}
+use Rattle.xt_simulation.proofs.Evenly.{even_ticked}
+use Rattle.xt_simulation.proofs.Inner.{Inner}
+use Rattle.xt_simulation.proofs.Modular.{one_place, place_below}
+use Rattle.xt_simulation.proofs.RingLemmas.{some_within}
+use Rattle.xt_simulation.proofs.Turns.{falls_on}
+use Rattle.xt_simulation.proofs.Windowed.{some_value}
+
+-- ---- the inputs of the next step, laid over an even control state
+same_own : {lost : ℕ → Bool} {xs ys : List ℕ} → Same lost xs ys → (k : ℕ) → Same lost xs (set ys k (get_or xs k 0))
+same_own {xs = xs} {ys = ys} e k = record {
+  size = e.size ∙ sym (length-set ys k (get_or xs k 0));
+  only = e.only;
+  at = λ j known. ⊎_elim
+      (λ same. rw same (sym (set_own xs ys k e.size)))
+      (λ other. e.at j known ∙ sym (get_or-set_other ys k j (get_or xs k 0) 0 other))
+      (cases_eq j k);
+}
+
+pub even_laid : {lost : ℕ → Bool} (s : State) (f : FrameState) → Even lost s.control f.control → Even lost s.control (laid (inputs 0 s) f).control
+even_laid s f e = record {
+  pc = e.pc;
+  ps = ap (λ (p : Ps). (let q : Ps = record p { owb = s.control.ps.owb } in q)) e.ps;
+  threadptr = e.threadptr;
+  waits = e.waits;
+  special = same_own (same_own e.special 234) 226;
+}
+
+-- ---- a register that can hold a mark
+module _ (n : ℕ) (holds : holds_marks n ≡ true) where
+  mark_range : ((209 ≤ n) × (n ≤ 215)) ⊎ ((244 ≤ n) × (n ≤ 247))
+  mark_range = ⊎_elim
+      (λ a. let p = and_parts (leb 209 n) (leb n 215) a in inl (leb-true 209 n p.0, leb-true n 215 p.1))
+      (λ a. let p = and_parts (leb 244 n) (leb n 247) a in inr (leb-true 244 n p.0, leb-true n 247 p.1))
+      (or_cases (leb 209 n && leb n 215) (leb 244 n && leb n 247) holds)
+
+  is_other : (k : ℕ) → holds_marks k ≡ false → n ≢ k
+  is_other k h e = true≢false (sym holds ∙ (ap (λ j. holds_marks j) e ∙ h))
+
+  not_number : (k : ℕ) → holds_marks k ≡ false → eqb n k ≡ false
+  not_number k h = ne_eqb n k (is_other k h)
+
+  mark_below : n < 256
+  mark_below = ⊎_elim (λ r. let u = r.1 in omega arith) (λ r. let u = r.1 in omega arith) mark_range
+
+  not_eps : is_eps n ≡ false
+  not_eps = false_from_ne_true (is_eps n) (λ e.
+      let p = and_parts (leb 194 n) (leb n 199) e in
+      let u = leb-true n 199 p.1 in
+      ⊎_elim (λ r. let l = r.0 in omega arith) (λ r. let l = r.0 in omega arith) mark_range)
+
+  not_ccompare : is_ccompare n ≡ false
+  not_ccompare = false_from_ne_true (is_ccompare n) (λ e.
+      let p = and_parts (leb 240 n) (leb n 242) e in
+      let l = leb-true 240 n p.0 in
+      let u = leb-true n 242 p.1 in
+      ⊎_elim (λ r. let h = r.1 in omega arith) (λ r. let h = r.0 in omega arith) mark_range)
+
+  -- it keeps all bits of a value
+  kept_whole : (v w : ℕ) → value_kept n v w ≡ v
+  unfolding value_kept
+  kept_whole v w = rw (not_number 3 refl, not_number 232 refl, not_number 4 refl, not_number 231 refl, not_number 228 refl, not_eps, not_number 226 refl, not_number 227 refl) refl
+
+  written_whole : (v w : ℕ) → written_by n v w ≡ (set_to n v, no_set, no_set)
+  written_whole v w = rw (not_number 230 refl, not_ccompare, not_number 227 refl, kept_whole v w) refl
+
+  no_window : window_register n ≡ None
+  no_window = rw (not_number 72 refl, not_number 73 refl) refl
+
+  read_whole : (v : ℕ) (ps : Ps) → value_read n v ps ≡ v
+  read_whole v ps = cond-false (eqb n 230) (ps_word ps) v (not_number 230 refl)
+
+  ps_whole : (v : ℕ) (ps : Ps) → ps_written n v ps ≡ ps
+  ps_whole v ps = cond-false (eqb n 230) _ ps (not_number 230 refl)
+
+  mark_can_be_lost : can_be_lost n ≡ true
+  mark_can_be_lost = or_right (eqb n 177) _ (or_right (eqb n 181) _ (or_right (eqb n 197) _ holds))
+
+-- ---- the three rows
+abbrev pub moving : Option RegWrite → SpecialWrites → Control → Effect
+moving w sets c = record (unchanged c.ps c.threadptr) { write = w; sets = sets }
+
+abbrev pub sets_one : ℕ → ℕ → SpecialWrites
+sets_one n v = (set_to n v, no_set, no_set)
+
+module _ (code : ℕ → ℕ) (t n : ℕ) (holds : holds_marks n ≡ true) (regs : ℕ → ℕ) (c : Control) where
+  rsr_is : outcome_at code (insn.System (system.Rsr SpecialName.Rsr t n)) regs c ≡ Does (moving (write_to t (special_of c n)) no_sets c)
+  unfolding outcome system_outcome reads special_reads
+  rsr_is =
+      ap (λ (w : Option WindowRegister). reads_special w t n (special_of c n) (unchanged c.ps c.threadptr)) (no_window n holds)
+      ∙ ap (λ v. Does (moving (write_to t v) no_sets c)) (read_whole n holds (special_of c n) c.ps)
+
+  wsr_is : outcome_at code (insn.System (system.Rsr SpecialName.Wsr t n)) regs c ≡ Does (moving None (sets_one n (regs t)) c)
+  unfolding outcome system_outcome reads special_reads
+  wsr_is =
+      let v : ℕ = value_of (special_of c) (changes_interrupt n) in
+      ap (λ (w : Option WindowRegister). writes_special w n (regs t) v (unchanged c.ps c.threadptr)) (no_window n holds)
+      ∙ (ap (λ z. (let e : Effect = record (unchanged c.ps c.threadptr) { sets = z; ps = ps_written n (regs t) c.ps } in Does e)) (written_whole n holds (regs t) v)
+      ∙ ap (λ p. (let e : Effect = record (unchanged c.ps c.threadptr) { sets = sets_one n (regs t); ps = p } in Does e)) (ps_whole n holds (regs t) c.ps))
+
+  xsr_is : outcome_at code (insn.System (system.Rsr SpecialName.Xsr t n)) regs c ≡ Does (moving (write_to t (special_of c n)) (sets_one n (regs t)) c)
+  unfolding outcome system_outcome reads special_reads
+  xsr_is =
+      let v : ℕ = value_of (special_of c) (changes_interrupt n) in
+      let u : ℕ = special_of c n in
+      ap (λ (w : Option WindowRegister). exchanges_special w t n (regs t) u v (unchanged c.ps c.threadptr)) (no_window n holds)
+      ∙ (ap (λ z. (let e : Effect = record (unchanged c.ps c.threadptr) { write = write_to t (value_read n u c.ps); sets = z; ps = ps_written n (regs t) c.ps } in Does e)) (written_whole n holds (regs t) v)
+      ∙ (ap (λ p. (let e : Effect = record (unchanged c.ps c.threadptr) { write = write_to t (value_read n u c.ps); sets = sets_one n (regs t); ps = p } in Does e)) (ps_whole n holds (regs t) c.ps)
+      ∙ ap (λ z. Does (moving (write_to t z) (sets_one n (regs t)) c)) (read_whole n holds u c.ps)))
+
+-- ---- what such a row leaves: in exception mode no loop goes back
+abbrev pub moved_on : SpecialWrites → ℕ → Control → Control
+moved_on sets len c = record { pc = (c.pc + len) % 2 ^ 32; special = with_sets sets c.special; ps = c.ps; threadptr = c.threadptr; waits = false }
+
+effect_is : (w : Option RegWrite) (sets : SpecialWrites) (len : ℕ) (c : Control) → c.ps.excm ≡ true → after_effect (moving w sets c) len c ≡ moved_on sets len c
+unfolding after_effect
+effect_is w sets len c e = falls_on (record { pc = c.pc; special = with_sets sets c.special; ps = c.ps; threadptr = c.threadptr; waits = false }) len e
+
+abbrev regs_after : Option RegWrite → State → List ℕ
+regs_after None s = s.regs
+regs_after (Some w) s = set s.regs (place s.base w.reg) w.value
+
+abbrev moved_state : Option RegWrite → SpecialWrites → ℕ → State → State
+moved_state w sets len s = record { regs = regs_after w s; base = s.base; start = s.start; control = ticked (moved_on sets len s.control) }
+
+with_write_is : (w : Option RegWrite) (s : State) (c : Control) → with_write w (record s { control = c }) ≡ record { regs = regs_after w s; base = s.base; start = s.start; control = c }
+with_write_is None s c = refl
+with_write_is (Some w) s c = refl
+
+module _ (code : ℕ → ℕ) (m : MemoryContents) (s : State) (len : ℕ) (w : Option RegWrite) (sets : SpecialWrites) (plan : planned code s ≡ done (Does (moving w sets s.control)) len s) where
+  state_is : s.control.ps.excm ≡ true → state_now code m s ≡ moved_state w sets len s
+  unfolding turn
+  state_is e =
+      ap (λ (p : Planned). with_write (written p.write p.awaited (reply_now code m s)) p.after) plan
+      ∙ (with_write_is w s (ticked (after_effect (moving w sets s.control) len s.control))
+      ∙ ap (λ (c : Control). (let t : State = record { regs = regs_after w s; base = s.base; start = s.start; control = ticked c } in t)) (effect_is w sets len s.control e))
+
+  kind_is : (record_now code m s).kind ≡ kind.Insn
+  unfolding turn
+  kind_is = ap (λ (p : Planned). p.kind) plan
+
+  write_is : (record_now code m s).write ≡ w
+  unfolding turn
+  write_is = ap (λ (p : Planned). written p.write p.awaited (reply_now code m s)) plan
+
+  access_is : (record_now code m s).access ≡ None
+  unfolding turn demand
+  access_is = ap (λ (p : Planned). p.access) plan
+
+abbrev moved_frame : Option RegWrite → SpecialWrites → ℕ → ℕ → FrameState → FrameTurn
+moved_frame w sets len reply g = in_frame (record { kind = Executed; write = w; access = None; awaited = None; control = ticked (moved_on sets len g.control) }) reply g
+
+frame_is : (o : Outcome) (w : Option RegWrite) (sets : SpecialWrites) (len reply : ℕ) (g : FrameState) → o ≡ Does (moving w sets g.control) → g.control.ps.excm ≡ true → done_in_frame o len reply g ≡ moved_frame w sets len reply g
+frame_is o w sets len reply g is e =
+    ap (λ o. done_in_frame o len reply g) is
+    ∙ ap (λ (c : Control). in_frame (record { kind = Executed; write = w; access = None; awaited = None; control = ticked c }) reply g) (effect_is w sets len g.control e)
+
+-- ---- special registers
+abbrev lost_in : List Bool → ℕ → Bool
+lost_in unset k = lost_of false k || get_or unset k false
+
+-- what holds of them in a nested interrupt
+pub record InSpecials (suspended : State) (xs ys : List ℕ) (unset : List Bool) (saved : List (Option ℕ)) : Type 0 where
+  pub size : length xs ≡ 256
+  pub count : length unset ≡ 256
+  pub same : Same (lost_in unset) xs ys
+  pub stored : (n k : ℕ) → get_or saved n None ≡ Some k → (get_or xs n 0 ≡ marked suspended k) × (get_or unset n false ≡ true)
+
+set_mark : (saved : List (Option ℕ)) (n k : ℕ) (mark : Option ℕ) → get_or (set saved n mark) n None ≡ Some k → mark ≡ Some k
+set_mark saved n k mark e = ⊎_elim
+    (λ within. sym (get_or-set_same saved n mark None within) ∙ e)
+    (λ past. let none : None ≡ Some k = sym (get_or_past (set saved n mark) n None (let l = length-set saved n mark in omega arith)) ∙ e in cc)
+    (cases_lt n (length saved))
+
+-- one is written: with a mark, or with an equal value
+module _ {suspended : State} {xs ys : List ℕ} {unset : List Bool} {saved : List (Option ℕ)} (r : InSpecials suspended xs ys unset saved)
+    (n : ℕ) (holds : holds_marks n ≡ true) (v w : ℕ) (mark : Option ℕ) (equal : is_some mark ≡ false → v ≡ w) (means : (k : ℕ) → mark ≡ Some k → v ≡ marked suspended k) where
+  lost_other : (k : ℕ) → k ≢ n → lost_in (set unset n (is_some mark)) k ≡ lost_in unset k
+  lost_other k other = ap (λ b. lost_of false k || b) (get_or-set_other unset n k (is_some mark) false other)
+
+  unset_at : get_or (set unset n (is_some mark)) n false ≡ is_some mark
+  unset_at = get_or-set_same unset n (is_some mark) false (let c = r.count in let b = mark_below n holds in omega arith)
+
+  equal_at : lost_in (set unset n (is_some mark)) n ≡ false → get_or (set xs n v) n 0 ≡ get_or (set ys n w) n 0
+  equal_at known =
+      let b = mark_below n holds in
+      let x = r.size in
+      let y = r.same.size in
+      let lose : is_some mark ≡ false = sym unset_at ∙ (or_parts (lost_of false n) (get_or (set unset n (is_some mark)) n false) known).1 in
+      get_or-set_same xs n v 0 (omega arith) ∙ (equal lose ∙ sym (get_or-set_same ys n w 0 (omega arith)))
+
+  same_moved : Same (lost_in (set unset n (is_some mark))) (set xs n v) (set ys n w)
+  same_moved = record {
+    size = length-set xs n v ∙ (r.same.size ∙ sym (length-set ys n w));
+    only = λ k lost. ⊎_elim
+        (λ e. subst (λ j. can_be_lost j ≡ true) (sym e) (mark_can_be_lost n holds))
+        (λ other. r.same.only k (sym (lost_other k other) ∙ lost))
+        (cases_eq k n);
+    at = λ k known. ⊎_elim
+        (λ e. subst (λ j. get_or (set xs n v) j 0 ≡ get_or (set ys n w) j 0) (sym e) (equal_at (subst (λ j. lost_in (set unset n (is_some mark)) j ≡ false) e known)))
+        (λ other. get_or-set_other xs n k v 0 other ∙ (r.same.at k (sym (lost_other k other) ∙ known) ∙ sym (get_or-set_other ys n k w 0 other)))
+        (cases_eq k n);
+  }
+
+  stored_at : (k : ℕ) → mark ≡ Some k → (get_or (set xs n v) n 0 ≡ marked suspended k) × (get_or (set unset n (is_some mark)) n false ≡ true)
+  stored_at k is =
+      let b = mark_below n holds in
+      let x = r.size in
+      (get_or-set_same xs n v 0 (omega arith) ∙ means k is, unset_at ∙ ap (λ (o : Option ℕ). is_some o) is)
+
+  specials_moved : InSpecials suspended (set xs n v) (set ys n w) (set unset n (is_some mark)) (set saved n mark)
+  specials_moved = record {
+    size = length-set xs n v ∙ r.size;
+    count = length-set unset n (is_some mark) ∙ r.count;
+    same = same_moved;
+    stored = λ j k at. ⊎_elim
+        (λ e.
+        let here : mark ≡ Some k = set_mark saved n k mark (subst (λ i. get_or (set saved n mark) i None ≡ Some k) e at) in
+        subst (λ i. (get_or (set xs n v) i 0 ≡ marked suspended k) × (get_or (set unset n (is_some mark)) i false ≡ true)) (sym e) (stored_at k here))
+        (λ other.
+        let old = r.stored j k (sym (get_or-set_other saved n j mark None other) ∙ at) in
+        (get_or-set_other xs n j v 0 other ∙ old.0, get_or-set_other unset n j (is_some mark) false other ∙ old.1))
+        (cases_eq j n);
+  }
+
+-- other registers are as they were
+abbrev SparesOthers : SpecialWrites → Type 0
+SparesOthers sets = (xs : List ℕ) (k : ℕ) → holds_marks k ≡ false → get_or (with_sets sets xs) k 0 ≡ get_or xs k 0
+
+none_spares : SparesOthers no_sets
+none_spares xs k h = refl
+
+one_spares : (n v : ℕ) → holds_marks n ≡ true → SparesOthers (sets_one n v)
+one_spares n v holds xs k h = get_or-set_other xs n k v 0 (λ e. is_other n holds k h (sym e))
+
+-- ---- visible registers
+pub record InRegisters (suspended : State) (base : ℕ) (regs : List ℕ) (seen held : List (Option ℕ)) : Type 0 where
+  pub size : length regs ≡ length suspended.regs
+  pub wide : length seen ≡ 16
+  pub spread : length held ≡ 16
+  pub others : (p : ℕ) → (IsSpare base p → ⊥) → get_or regs p 0 ≡ get_or suspended.regs p 0
+  pub numbers : (i v : ℕ) → get_or seen i None ≡ Some v → visible regs base i ≡ v
+  pub marks : (i k : ℕ) → get_or held i None ≡ Some k → (visible regs base i ≡ marked suspended k) × (get_or seen i None ≡ None)
+
+no_some : (k : ℕ) → None ≡ Some k → ⊥
+no_some k e = cc
+
+some_same : (v w : ℕ) → Some v ≡ Some w → v ≡ w
+some_same v w e = ap (λ (o : Option ℕ). unwrap_or o 0) e
+
+abbrev IsWritable : ℕ → Type 0
+IsWritable t = (t ≡ 0) ⊎ ((t ≡ 2) ⊎ (t ≡ 3))
+
+-- one is written
+module _ {suspended : State} {base : ℕ} {regs : List ℕ} {seen held : List (Option ℕ)} (r : InRegisters suspended base regs seen held)
+    (all : length regs ≡ 64) (t : ℕ) (writable : IsWritable t) (v w : ℕ) where
+  small : t < 16
+  small = ⊎_elim (λ e. omega arith) (λ o. ⊎_elim (λ e. omega arith) (λ e. omega arith) o) writable
+
+  spare : IsSpare base (place base t)
+  spare = ⊎_elim (λ e. inl (ap (place base) e)) (λ o. inr (⊎_elim (λ e. inl (ap (place base) e)) (λ e. inr (ap (place base) e)) o)) writable
+
+  here : visible (set regs (place base t) v) base t ≡ v
+  here = get_or-set_same regs (place base t) v 0 (let p = place_below base t in omega arith)
+
+  there : (i : ℕ) → i < 16 → i ≢ t → visible (set regs (place base t) v) base i ≡ visible regs base i
+  there i low other =
+      let s = small in
+      get_or-set_other regs (place base t) (place base i) v 0 (λ same. let one = one_place (4 * base + i) (4 * base + t) (omega arith) (omega arith) same in other (omega arith))
+
+  others_after : (p : ℕ) → (IsSpare base p → ⊥) → get_or (set regs (place base t) v) p 0 ≡ get_or suspended.regs p 0
+  others_after p none = get_or-set_other regs (place base t) p v 0 (λ e. none (subst (IsSpare base) (sym e) spare)) ∙ r.others p none
+
+  seen_at : get_or (set seen t (Some w)) t None ≡ Some w
+  seen_at = get_or-set_same seen t (Some w) None (let l = r.wide in let s = small in omega arith)
+
+  held_at : (mark : Option ℕ) → get_or (set held t mark) t None ≡ mark
+  held_at mark = get_or-set_same held t mark None (let l = r.spread in let s = small in omega arith)
+
+  held_below : (i k : ℕ) → get_or held i None ≡ Some k → i < 16
+  held_below i k e = let within = some_within held i k e in let l = r.spread in omega arith
+
+  seen_below : (i u : ℕ) → get_or seen i None ≡ Some u → i < 16
+  seen_below i u e = let within = some_within seen i u e in let l = r.wide in omega arith
+
+  -- with a number
+  registers_written : v ≡ w → InRegisters suspended base (set regs (place base t) v) (set seen t (Some w)) (set held t None)
+  registers_written same = record {
+    size = length-set regs (place base t) v ∙ r.size;
+    wide = length-set seen t (Some w) ∙ r.wide;
+    spread = length-set held t None ∙ r.spread;
+    others = others_after;
+    numbers = λ i u at. ⊎_elim
+        (λ e.
+        let value : w ≡ u = some_same w u (sym seen_at ∙ subst (λ j. get_or (set seen t (Some w)) j None ≡ Some u) e at) in
+        subst (λ j. visible (set regs (place base t) v) base j ≡ u) (sym e) (here ∙ (same ∙ value)))
+        (λ other.
+        let old : get_or seen i None ≡ Some u = sym (get_or-set_other seen t i (Some w) None other) ∙ at in
+        there i (seen_below i u old) other ∙ r.numbers i u old)
+        (cases_eq i t);
+    marks = λ i k at. ⊎_elim
+        (λ e. absurd (no_some k (sym (held_at None) ∙ subst (λ j. get_or (set held t None) j None ≡ Some k) e at)))
+        (λ other.
+        let old : get_or held i None ≡ Some k = sym (get_or-set_other held t i None None other) ∙ at in
+        let was = r.marks i k old in
+        (there i (held_below i k old) other ∙ was.0, get_or-set_other seen t i (Some w) None other ∙ was.1))
+        (cases_eq i t);
+  }
+
+  -- with a mark
+  emptied : get_or (set (set seen t (Some w)) t None) t None ≡ None
+  emptied = get_or-set_same (set seen t (Some w)) t None None (let l = length-set seen t (Some w) in let n = r.wide in let s = small in omega arith)
+
+  seen_other : (i : ℕ) → i ≢ t → get_or (set (set seen t (Some w)) t None) i None ≡ get_or seen i None
+  seen_other i other = get_or-set_other (set seen t (Some w)) t i None None other ∙ get_or-set_other seen t i (Some w) None other
+
+  registers_marked : (mark : ℕ) → v ≡ marked suspended mark → InRegisters suspended base (set regs (place base t) v) (set (set seen t (Some w)) t None) (set held t (Some mark))
+  registers_marked mark means = record {
+    size = length-set regs (place base t) v ∙ r.size;
+    wide = length-set (set seen t (Some w)) t None ∙ (length-set seen t (Some w) ∙ r.wide);
+    spread = length-set held t (Some mark) ∙ r.spread;
+    others = others_after;
+    numbers = λ i u at. ⊎_elim
+        (λ e. absurd (no_some u (sym emptied ∙ subst (λ j. get_or (set (set seen t (Some w)) t None) j None ≡ Some u) e at)))
+        (λ other.
+        let old : get_or seen i None ≡ Some u = sym (seen_other i other) ∙ at in
+        there i (seen_below i u old) other ∙ r.numbers i u old)
+        (cases_eq i t);
+    marks = λ i k at. ⊎_elim
+        (λ e.
+        let same : mark ≡ k = some_same mark k (sym (held_at (Some mark)) ∙ subst (λ j. get_or (set held t (Some mark)) j None ≡ Some k) e at) in
+        subst (λ j. (visible (set regs (place base t) v) base j ≡ marked suspended k) × (get_or (set (set seen t (Some w)) t None) j None ≡ None)) (sym e) (here ∙ (means ∙ ap (marked suspended) same), emptied))
+        (λ other.
+        let old : get_or held i None ≡ Some k = sym (get_or-set_other held t i (Some mark) None other) ∙ at in
+        let was = r.marks i k old in
+        (there i (held_below i k old) other ∙ was.0, seen_other i other ∙ was.1))
+        (cases_eq i t);
+  }
+
+  -- with what was read: a mark, or an equal value
+  registers_moved : (mark : Option ℕ) → (mark ≡ None → v ≡ w) → ((k : ℕ) → mark ≡ Some k → v ≡ marked suspended k)
+      → InRegisters suspended base (set regs (place base t) v) (marked_seen mark (write_to t w) (set seen t (Some w))) (marks_after mark (write_to t w) held)
+  registers_moved None equal means = registers_written (equal refl)
+  registers_moved (Some k) equal means = registers_marked k (means k refl)
+
+-- ---- the state after the step
+abbrev next_nested : Control → List (Option ℕ) → List (Option ℕ) → List (Option ℕ) → Nested
+next_nested c seen held saved = record { pc = c.pc; seen = seen; ps = c.ps; marks = held; saved = saved }
+
+abbrev next_frame : Control → List Bool → Nested → FrameState → FrameState
+next_frame c unset x f = record {
+  seen = f.seen;
+  frames = f.frames;
+  control = record c { pc = f.control.pc; ps = f.control.ps };
+  unset = unset;
+  nested = Some x;
+}
+
+-- the frame machine's: it reads this mark, or none
+abbrev moved_nested : Option ℕ → Option RegWrite → SpecialWrites → List (Option ℕ) → ℕ → Nested → FrameState → Nested
+moved_nested mark w sets saved len x g =
+    next_nested (ticked (moved_on sets len g.control)) (marked_seen mark w (seen_after_write w x.seen)) (marks_after mark w x.marks) saved
+
+abbrev moved_turn : Option ℕ → ℕ → Option RegWrite → SpecialWrites → List Bool → List (Option ℕ) → ℕ → Nested → FrameState → FrameState → FrameTurn
+moved_turn mark value w sets unset saved len x f g = record {
+  kind = kind.Insn;
+  write = marked_write mark value w;
+  access = None;
+  after = next_frame (ticked (moved_on sets len g.control)) unset (moved_nested mark w sets saved len x g) f;
+}
+
+not_timed : (k : ℕ) → can_be_lost k ≡ true → (k ≢ 226) × (k ≢ 234)
+not_timed k h = (λ e. true≢false (sym h ∙ ap (λ j. can_be_lost j) e), λ e. true≢false (sym h ∙ ap (λ j. can_be_lost j) e))
+
+module _ (code : ℕ → ℕ) (b : Bounds) (m : MemoryContents) (s : State) (f : FrameState) (suspended : State) (x : Nested) (h : IsInside suspended s f x) (shaped : IsShaped s)
+    (count : length f.unset ≡ 256) (spread : length x.marks ≡ 16) (len reply : ℕ) where
+  abbrev g : FrameState
+  g = laid (inputs 0 s) (inside x f)
+
+  mode_g : g.control.ps.excm ≡ true
+  mode_g = sym (ap (λ (p : Ps). p.excm) h.even.ps) ∙ h.mode
+
+  specials_now : InSpecials suspended s.control.special g.control.special f.unset x.saved
+  specials_now = record { size = shaped.control.count; count = count; same = h.even.special; stored = h.saved }
+
+  registers_now : InRegisters suspended s.base s.regs x.seen x.marks
+  registers_now = record { size = h.size; wide = h.wide; spread = spread; others = h.others; numbers = h.numbers; marks = h.marks }
+
+  framed_other : (k : ℕ) → k ≢ 226 → k ≢ 234 → get_or g.control.special k 0 ≡ special_of f.control k
+  framed_other k a c = get_or-set_other _ 226 k (special_of s.control 226) 0 a ∙ get_or-set_other f.control.special 234 k (special_of s.control 234) 0 c
+
+  module _ (w v : Option RegWrite) (sets framed : SpecialWrites) (mark : Option ℕ) (unset : List Bool) (saved : List (Option ℕ))
+      (plan : planned code s ≡ done (Does (moving w sets s.control)) len s)
+      (registers : InRegisters suspended s.base (regs_after w s) (marked_seen mark v (seen_after_write v x.seen)) (marks_after mark v x.marks))
+      (specials : InSpecials suspended (with_sets sets s.control.special) (with_sets framed g.control.special) unset saved)
+      (spares : SparesOthers sets) (spares_framed : SparesOthers framed) where
+    abbrev c : Control
+    c = ticked (moved_on sets len s.control)
+
+    abbrev d : Control
+    d = ticked (moved_on framed len g.control)
+
+    abbrev y : Nested
+    y = moved_nested mark v framed saved len x g
+
+    abbrev u : FrameState
+    u = next_frame d unset y f
+
+    kept : (k : ℕ) → holds_marks k ≡ false → k ≢ 226 → k ≢ 234 → get_or c.special k 0 ≡ special_of s.control k
+    kept k none a e = ticked_other (with_sets sets s.control.special) k a e ∙ spares s.control.special k none
+
+    kept_framed : (k : ℕ) → holds_marks k ≡ false → k ≢ 226 → k ≢ 234 → get_or d.special k 0 ≡ special_of f.control k
+    kept_framed k none a e = ticked_other (with_sets framed g.control.special) k a e ∙ (spares_framed g.control.special k none ∙ framed_other k a e)
+
+    even_moved : Even (lost_in unset) c d
+    even_moved = even_ticked (moved_on sets len s.control) (moved_on framed len g.control) (record {
+      pc = ap (λ p. (p + len) % 2 ^ 32) h.even.pc;
+      ps = h.even.ps;
+      threadptr = h.even.threadptr;
+      waits = refl;
+      special = specials.same;
+    })
+
+    stored_after : (n k : ℕ) → get_or saved n None ≡ Some k → (get_or c.special n 0 ≡ marked suspended k) × (get_or unset n false ≡ true)
+    stored_after n k at =
+        let now = specials.stored n k at in
+        let apart = not_timed n (specials.same.only n (or_right (lost_of false n) (get_or unset n false) now.1)) in
+        (ticked_other (with_sets sets s.control.special) n apart.0 apart.1 ∙ now.0, now.1)
+
+    inside_moved : IsInside suspended (moved_state w sets len s) u y
+    inside_moved = record {
+      even = even_laid (moved_state w sets len s) (inside y u) even_moved;
+      level = h.level;
+      mode = h.mode;
+      running = refl;
+      woe = h.woe;
+      epc = kept 181 refl (λ e. omega arith) (λ e. omega arith) ∙ h.epc;
+      eps = kept 197 refl (λ e. omega arith) (λ e. omega arith) ∙ h.eps;
+      base = h.base;
+      start = h.start;
+      size = registers.size;
+      wide = registers.wide;
+      others = registers.others;
+      numbers = registers.numbers;
+      marks = registers.marks;
+      saved = stored_after;
+    }
+
+    inner_moved : special_of d number.vecbase ≡ b.vecbase → (record_now code m s).write ≡ marked_write mark (value_in (record_now code m s).write) v
+        → Inner code b m s f suspended (moved_turn mark (value_in (record_now code m s).write) v framed unset saved len x f g)
+    inner_moved vectors write =
+        let state = state_is code m s len w sets plan h.mode in
+        record {
+          x = y;
+          nested = refl;
+          inside = subst (λ t. IsInside suspended t u y) (sym state) inside_moved;
+          epc1 = ap (λ (t : State). special_of t.control 177) state ∙ kept 177 refl (λ e. omega arith) (λ e. omega arith);
+          framed_epc1 = kept_framed 177 refl (λ e. omega arith) (λ e. omega arith);
+          vectors = vectors;
+          seen = refl;
+          frames = refl;
+          pc = refl;
+          ps = refl;
+          kind = kind_is code m s len w sets plan;
+          write = write;
+          access = access_is code m s len w sets plan;
+        }
