@@ -4,7 +4,7 @@
 use Rattle.std.proofs.Common.{◌≡◌, ℕ, ◌+◌, ◌*◌, ◌%◌, ◌^◌, ◌<◌, ◌≤◌, ◌≢◌, ◌⊎◌, Bool, true, false, ◌||◌, ◌&&◌, not, eqb, leb, ltb, List, Option, Some, None, is_some, inl, inr, sym, ap, ◌∙◌, refl, arith, ⊎_elim, subst, length, get_or}
 use Rattle.std.specs.Prelude.{unwrap_or}
 use Rattle.std.proofs.Math.ListN.{set}
-use Rattle.std.proofs.lemmas.Bool.{cases_eq, cases_lt, true≢false, and_parts, and_cases, or_parts, or_cases, or_from, or_right, ne_eqb, eqb-false, leb-true, ltb-true, false_from_ne_true, cond-false}
+use Rattle.std.proofs.lemmas.Bool.{cases_eq, cases_lt, true≢false, and_parts, and_cases, and_left, or_parts, or_cases, or_from, or_right, ne_eqb, eqb-false, leb-true, ltb-true, false_from_ne_true, cond-false}
 use Rattle.std.proofs.lemmas.List.{get_or-set_same, get_or-set_other, length-set, get_or_past}
 use Rattle.xt_isa.specs.declared.Insn.{Insn}
 use Rattle.xt_isa.specs.declared.Insn.TheVariants as insn
@@ -413,6 +413,11 @@ moved_turn mark value w sets unset saved len x f g = record {
   after = next_frame (ticked (moved_on sets len g.control)) unset (moved_nested mark w sets saved len x g) f;
 }
 
+-- the record's write: where a mark is read, its value is an input
+write_alike : (mark : Option ℕ) (t a c : ℕ) (o : Option RegWrite) → o ≡ write_to t a → (mark ≡ None → a ≡ c) → o ≡ marked_write mark (value_in o) (write_to t c)
+write_alike None t a c o is equal = is ∙ ap (write_to t) (equal refl)
+write_alike (Some k) t a c o is equal = subst (λ p. p ≡ marked_write (Some k) (value_in p) (write_to t c)) (sym is) refl
+
 not_timed : (k : ℕ) → can_be_lost k ≡ true → (k ≢ 226) × (k ≢ 234)
 not_timed k h = (λ e. true≢false (sym h ∙ ap (λ j. can_be_lost j) e), λ e. true≢false (sym h ∙ ap (λ j. can_be_lost j) e))
 
@@ -509,3 +514,125 @@ module _ (code : ℕ → ℕ) (b : Bounds) (m : MemoryContents) (s : State) (f :
           write = write;
           access = access_is code m s len w sets plan;
         }
+
+  -- ---- what the row reads: a mark, or the core's value
+  read_register : (t : ℕ) → (lacks x.seen (Some t) && lacks x.marks (Some t)) ≡ false → is_some (get_or x.marks t None) ≡ false → visible s.regs s.base t ≡ known x.seen t
+  read_register t told none = ⊎_elim
+      (λ e.
+      let v = some_value (get_or x.seen t None) e in
+      h.numbers t v.0 v.1 ∙ sym (ap (λ (o : Option ℕ). unwrap_or o 0) v.1))
+      (λ e. absurd (true≢false (sym (ap not none) ∙ e)))
+      (and_cases (lacks x.seen (Some t)) (lacks x.marks (Some t)) told)
+
+  read_special : (n : ℕ) → holds_marks n ≡ true → (is_unset f.unset (Some n) && lacks x.saved (Some n)) ≡ false → get_or x.saved n None ≡ None → special_of s.control n ≡ special_of g.control n
+  read_special n holds told none = ⊎_elim
+      (λ e. h.even.special.at n (or_from (lost_of false n) (get_or f.unset n false) (and_left (eqb n 177) _ (not_number n holds 177 refl)) e))
+      (λ e. absurd (true≢false (sym (ap (λ (o : Option ℕ). not (is_some o)) none) ∙ e)))
+      (and_cases (is_unset f.unset (Some n)) (lacks x.saved (Some n)) told)
+
+  -- ---- the whole step
+  abbrev IsPlanned : Insn → Type 0
+  IsPlanned i = planned code s ≡ done (outcome_at code i (visible s.regs s.base) s.control) len s
+
+  -- the frame machine executes the instruction on the state inside
+  abbrev laid_turn : Insn → FrameTurn
+  laid_turn i = done_in_frame (outcome_at code i (known x.seen) g.control) len reply g
+
+  abbrev IsFramed : Insn → Type 0
+  IsFramed i = step_on code true (record_now code m s) f ≡ nested_insn i (value_in (record_now code m s).write) x f (laid_turn i)
+
+  closing : (i : Insn) (w v : Option RegWrite) (sets framed : SpecialWrites) (mark : Option ℕ) (unset : List Bool) (saved : List (Option ℕ))
+      → IsPlanned i → IsFramed i → special_of (laid_turn i).after.control number.vecbase ≡ b.vecbase
+      → outcome_at code i (visible s.regs s.base) s.control ≡ Does (moving w sets s.control)
+      → outcome_at code i (known x.seen) g.control ≡ Does (moving v framed g.control)
+      → ((value : ℕ) → nested_insn i value x f (moved_frame v framed len reply g) ≡ moved_turn mark value v framed unset saved len x f g)
+      → InRegisters suspended s.base (regs_after w s) (marked_seen mark v (seen_after_write v x.seen)) (marks_after mark v x.marks)
+      → InSpecials suspended (with_sets sets s.control.special) (with_sets framed g.control.special) unset saved
+      → SparesOthers sets → SparesOthers framed
+      → ((o : Option RegWrite) → o ≡ w → o ≡ marked_write mark (value_in o) v)
+      → Inner code b m s f suspended (step_on code true (record_now code m s) f)
+  closing i w v sets framed mark unset saved plan step vectors does does_framed nested registers specials spares spares_framed write =
+      let plan_is : planned code s ≡ done (Does (moving w sets s.control)) len s = plan ∙ ap (λ o. done o len s) does in
+      let turn_is : laid_turn i ≡ moved_frame v framed len reply g = frame_is (outcome_at code i (known x.seen) g.control) v framed len reply g does_framed mode_g in
+      let value : ℕ = value_in (record_now code m s).write in
+      subst (λ u. Inner code b m s f suspended u) (sym (step ∙ (ap (λ u. nested_insn i value x f u) turn_is ∙ nested value)))
+      (inner_moved w v sets framed mark unset saved plan_is registers specials spares spares_framed
+      (subst (λ (u : FrameTurn). special_of u.after.control 231 ≡ b.vecbase) turn_is vectors)
+      (write (record_now code m s).write (write_is code m s len w sets plan_is)))
+
+  module _ (t n : ℕ) (low : t < 4) (holds : holds_marks n ≡ true) where
+    abbrev read_mark : Option ℕ
+    read_mark = get_or x.saved n None
+
+    abbrev moved_mark : Option ℕ
+    moved_mark = get_or x.marks t None
+
+    registers_read : IsWritable t → (is_unset f.unset (Some n) && lacks x.saved (Some n)) ≡ false
+        → InRegisters suspended s.base (set s.regs (place s.base t) (special_of s.control n)) (marked_seen read_mark (write_to t (special_of g.control n)) (set x.seen t (Some (special_of g.control n)))) (marks_after read_mark (write_to t (special_of g.control n)) x.marks)
+    registers_read writable told =
+        registers_moved registers_now shaped.count t writable (special_of s.control n) (special_of g.control n) read_mark (read_special n holds told) (λ k e. (h.saved n k e).0)
+
+    specials_set : (lacks x.seen (Some t) && lacks x.marks (Some t)) ≡ false
+        → InSpecials suspended (set s.control.special n (visible s.regs s.base t)) (set g.control.special n (known x.seen t)) (set f.unset n (is_some moved_mark)) (set x.saved n moved_mark)
+    specials_set told =
+        specials_moved specials_now n holds (visible s.regs s.base t) (known x.seen t) moved_mark (read_register t told) (λ k e. (h.marks t k e).0)
+
+    rsr_inside : (let i = insn.System (system.Rsr SpecialName.Rsr t n) in
+        IsWritable t → reads_no_mark i x (inside x f) ≡ false → IsPlanned i → IsFramed i → special_of (laid_turn i).after.control number.vecbase ≡ b.vecbase
+        → Inner code b m s f suspended (step_on code true (record_now code m s) f))
+    unfolding reads special_reads ends_nested mark_read moved_to
+    rsr_inside writable told plan step vectors =
+        let parts = or_parts (lacks x.seen None && lacks x.marks None) (is_unset f.unset (Some n) && lacks x.saved (Some n)) told in
+        closing (insn.System (system.Rsr SpecialName.Rsr t n)) (write_to t (special_of s.control n)) (write_to t (special_of g.control n)) no_sets no_sets read_mark f.unset x.saved
+        plan step vectors (rsr_is code t n holds (visible s.regs s.base) s.control) (rsr_is code t n holds (known x.seen) g.control) (λ value. refl)
+        (registers_read writable parts.1) specials_now none_spares none_spares
+        (λ o is. write_alike read_mark t (special_of s.control n) (special_of g.control n) o is (read_special n holds parts.1))
+
+    wsr_inside : (let i = insn.System (system.Rsr SpecialName.Wsr t n) in
+        reads_no_mark i x (inside x f) ≡ false → IsPlanned i → IsFramed i → special_of (laid_turn i).after.control number.vecbase ≡ b.vecbase
+        → Inner code b m s f suspended (step_on code true (record_now code m s) f))
+    unfolding reads special_reads ends_nested mark_read moved_to
+    wsr_inside told plan step vectors =
+        let parts = or_parts (lacks x.seen (Some t) && lacks x.marks (Some t)) (is_unset f.unset None && lacks x.saved None) told in
+        closing (insn.System (system.Rsr SpecialName.Wsr t n)) None None (sets_one n (visible s.regs s.base t)) (sets_one n (known x.seen t)) None (set f.unset n (is_some moved_mark)) (set x.saved n moved_mark)
+        plan step vectors (wsr_is code t n holds (visible s.regs s.base) s.control) (wsr_is code t n holds (known x.seen) g.control) (λ value. refl)
+        registers_now (specials_set parts.0) (one_spares n (visible s.regs s.base t) holds) (one_spares n (known x.seen t) holds)
+        (λ o is. is)
+
+    xsr_inside : (let i = insn.System (system.Rsr SpecialName.Xsr t n) in
+        IsWritable t → reads_no_mark i x (inside x f) ≡ false → IsPlanned i → IsFramed i → special_of (laid_turn i).after.control number.vecbase ≡ b.vecbase
+        → Inner code b m s f suspended (step_on code true (record_now code m s) f))
+    unfolding reads special_reads ends_nested mark_read moved_to
+    xsr_inside writable told plan step vectors =
+        let parts = or_parts (lacks x.seen (Some t) && lacks x.marks (Some t)) (is_unset f.unset (Some n) && lacks x.saved (Some n)) told in
+        closing (insn.System (system.Rsr SpecialName.Xsr t n)) (write_to t (special_of s.control n)) (write_to t (special_of g.control n)) (sets_one n (visible s.regs s.base t)) (sets_one n (known x.seen t)) read_mark (set f.unset n (is_some moved_mark)) (set x.saved n moved_mark)
+        plan step vectors (xsr_is code t n holds (visible s.regs s.base) s.control) (xsr_is code t n holds (known x.seen) g.control) (λ value. refl)
+        (registers_read writable parts.1) (specials_set parts.0) (one_spares n (visible s.regs s.base t) holds) (one_spares n (known x.seen t) holds)
+        (λ o is. write_alike read_mark t (special_of s.control n) (special_of g.control n) o is (read_special n holds parts.1))
+
+  -- RSR and XSR write no a1
+  writable_by : (t v : ℕ) (i : Insn) → t < 4 → may_write_sp i ≡ false → (shown : Option RegWrite) → writes_sp i (record_now code m s).write shown ≡ false → (record_now code m s).write ≡ write_to t v → IsWritable t
+  writable_by t v i low none shown written is =
+      let one : (is_sp (record_now code m s).write || is_sp shown) ≡ false = ap (λ y. not y && (is_sp (record_now code m s).write || is_sp shown)) (sym none) ∙ written in
+      let sp : eqb t 1 ≡ false = ap is_sp (sym is) ∙ (or_parts (is_sp (record_now code m s).write) (is_sp shown) one).0 in
+      let other = eqb-false t 1 sp in
+      ⊎_elim (λ e. inl e) (λ a. inr (⊎_elim (λ e. inl e) (λ c. inr (omega arith)) (cases_eq t 2))) (cases_eq t 0)
+
+  pub marks_inside : (i : Insn) → moves_marks i ≡ true → reads_no_mark i x (inside x f) ≡ false → (shown : Option RegWrite) → writes_sp i (record_now code m s).write shown ≡ false
+      → IsPlanned i → IsFramed i → special_of (laid_turn i).after.control number.vecbase ≡ b.vecbase
+      → Inner code b m s f suspended (step_on code true (record_now code m s) f)
+  unfolding moves_marks may_write_sp
+  marks_inside (insn.System (system.Rsr SpecialName.Rsr t n)) moves told shown written plan step vectors =
+      let both = and_parts (ltb t 4) (holds_marks n) moves in
+      let low = ltb-true t 4 both.0 in
+      let is = write_is code m s len (write_to t (special_of s.control n)) no_sets (plan ∙ ap (λ o. done o len s) (rsr_is code t n both.1 (visible s.regs s.base) s.control)) in
+      rsr_inside t n low both.1 (writable_by t (special_of s.control n) (insn.System (system.Rsr SpecialName.Rsr t n)) low refl shown written is) told plan step vectors
+  marks_inside (insn.System (system.Rsr SpecialName.Wsr t n)) moves told shown written plan step vectors =
+      let both = and_parts (ltb t 4) (holds_marks n) moves in
+      wsr_inside t n (ltb-true t 4 both.0) both.1 told plan step vectors
+  marks_inside (insn.System (system.Rsr SpecialName.Xsr t n)) moves told shown written plan step vectors =
+      let both = and_parts (ltb t 4) (holds_marks n) moves in
+      let low = ltb-true t 4 both.0 in
+      let is = write_is code m s len (write_to t (special_of s.control n)) (sets_one n (visible s.regs s.base t)) (plan ∙ ap (λ o. done o len s) (xsr_is code t n both.1 (visible s.regs s.base) s.control)) in
+      xsr_inside t n low both.1 (writable_by t (special_of s.control n) (insn.System (system.Rsr SpecialName.Xsr t n)) low refl shown written is) told plan step vectors
+  marks_inside _ moves told shown written plan step vectors = absurd (true≢false (sym moves))
