@@ -4,7 +4,7 @@
 use Rattle.std.proofs.Common.{◌≡◌, ℕ, ◌+◌, ◌*◌, ◌%◌, ◌^◌, ◌<◌, ◌≤◌, ◌≢◌, ◌⊎◌, Bool, true, false, ◌||◌, ◌&&◌, not, eqb, leb, ltb, List, Option, Some, None, is_some, inl, inr, sym, ap, ◌∙◌, refl, arith, ⊎_elim, subst, length, get_or}
 use Rattle.std.specs.Prelude.{unwrap_or}
 use Rattle.std.proofs.Math.ListN.{set}
-use Rattle.std.proofs.lemmas.Bool.{cases_eq, cases_lt, true≢false, and_parts, and_cases, and_left, or_parts, or_cases, or_from, or_right, ne_eqb, eqb-false, leb-true, ltb-true, false_from_ne_true, cond-false}
+use Rattle.std.proofs.lemmas.Bool.{cases_eq, cases_lt, true≢false, and_parts, and_cases, and_left, or_parts, or_cases, or_from, or_right, ne_eqb, eqb-false, leb-true, ltb-true, false_from_ne_true, cond-true, cond-false}
 use Rattle.std.proofs.lemmas.List.{get_or-set_same, get_or-set_other, length-set, get_or_past}
 use Rattle.xt_isa.specs.declared.Insn.{Insn}
 use Rattle.xt_isa.specs.declared.Insn.TheVariants as insn
@@ -29,16 +29,18 @@ use Rattle.xt_rows.specs.Kinds.{moved_to}
 use Rattle.xt_rows.specs.Operands.{changes_interrupt, reads, special_reads}
 use Rattle.xt_rows.specs.Outcomes.{outcome, outcome_at, system_outcome, value_of}
 use Rattle.xt_rows.specs.Settling.{Executed, after_effect, written}
+use Rattle.xt_fetch.specs.Fetching.{Fetches}
 use Rattle.xt_exec.specs.State.{State}
 use Rattle.xt_exec.specs.Laws.{IsShaped}
 use Rattle.xt_exec.specs.Turn.{Planned, demand, done, planned, turn, with_write}
 use Rattle.xt_frames.specs.declared.holes.Nested.{Nested}
 use Rattle.xt_frames.specs.Frames.{FrameState, known, seen_after_write}
-use Rattle.xt_frames.specs.FrameStep.{FrameTurn, done_in_frame, in_frame, laid}
+use Rattle.xt_frames.specs.FrameStep.{FrameTurn, done_in_frame, fetched_step, in_frame, laid}
 use Rattle.xt_frames.specs.Marks.{holds_marks, mark_read, marked_seen, marked_write, marks_after, moves_marks}
 use Rattle.xt_frames.specs.Nesting.{ends_nested, inside, nested_insn}
-use Rattle.xt_frames.specs.Breaches.{Bounds, is_sp, is_unset, lacks, lost_of, may_write_sp, reads_no_mark, writes_sp}
-use Rattle.xt_frames.specs.Judging.{step_on, value_in}
+use Rattle.xt_frames.specs.Breaches.{Bounds, is_sp, is_unset, lacks, lost_of, may_write_sp, reads_no_mark, reads_none_in, writes_sp}
+use Rattle.xt_frames.specs.Judging.{value_in}
+use Rattle.xt_frames.proofs.Shown.{Sound}
 use Rattle.xt_simulation.specs.Relation.{Even, Same, can_be_lost, inputs, lost_at}
 use Rattle.xt_simulation.specs.Steps.{record_now, reply_now, state_now}
 use Rattle.xt_simulation.specs.Nested.{IsInside, IsSpare, marked}
@@ -538,11 +540,12 @@ module _ (code : ℕ → ℕ) (b : Bounds) (m : MemoryContents) (s : State) (f :
   abbrev laid_turn : Insn → FrameTurn
   laid_turn i = done_in_frame (outcome_at code i (known x.seen) g.control) len reply g
 
-  abbrev IsFramed : Insn → Type 0
-  IsFramed i = step_on code true (record_now code m s) f ≡ nested_insn i (value_in (record_now code m s).write) x f (laid_turn i)
+  -- what is left of it, where the record's write is an input
+  abbrev IsLeft : Insn → Type 0
+  IsLeft i = Inner code b m s f suspended (nested_insn i (value_in (record_now code m s).write) x f (laid_turn i))
 
   closing : (i : Insn) (w v : Option RegWrite) (sets framed : SpecialWrites) (mark : Option ℕ) (unset : List Bool) (saved : List (Option ℕ))
-      → IsPlanned i → IsFramed i → special_of (laid_turn i).after.control number.vecbase ≡ b.vecbase
+      → IsPlanned i → special_of (laid_turn i).after.control number.vecbase ≡ b.vecbase
       → outcome_at code i (visible s.regs s.base) s.control ≡ Does (moving w sets s.control)
       → outcome_at code i (known x.seen) g.control ≡ Does (moving v framed g.control)
       → ((value : ℕ) → nested_insn i value x f (moved_frame v framed len reply g) ≡ moved_turn mark value v framed unset saved len x f g)
@@ -550,12 +553,12 @@ module _ (code : ℕ → ℕ) (b : Bounds) (m : MemoryContents) (s : State) (f :
       → InSpecials suspended (with_sets sets s.control.special) (with_sets framed g.control.special) unset saved
       → SparesOthers sets → SparesOthers framed
       → ((o : Option RegWrite) → o ≡ w → o ≡ marked_write mark (value_in o) v)
-      → Inner code b m s f suspended (step_on code true (record_now code m s) f)
-  closing i w v sets framed mark unset saved plan step vectors does does_framed nested registers specials spares spares_framed write =
+      → IsLeft i
+  closing i w v sets framed mark unset saved plan vectors does does_framed nested registers specials spares spares_framed write =
       let plan_is : planned code s ≡ done (Does (moving w sets s.control)) len s = plan ∙ ap (λ o. done o len s) does in
       let turn_is : laid_turn i ≡ moved_frame v framed len reply g = frame_is (outcome_at code i (known x.seen) g.control) v framed len reply g does_framed mode_g in
       let value : ℕ = value_in (record_now code m s).write in
-      subst (λ u. Inner code b m s f suspended u) (sym (step ∙ (ap (λ u. nested_insn i value x f u) turn_is ∙ nested value)))
+      subst (λ u. Inner code b m s f suspended u) (sym (ap (λ u. nested_insn i value x f u) turn_is ∙ nested value))
       (inner_moved w v sets framed mark unset saved plan_is registers specials spares spares_framed
       (subst (λ (u : FrameTurn). special_of u.after.control 231 ≡ b.vecbase) turn_is vectors)
       (write (record_now code m s).write (write_is code m s len w sets plan_is)))
@@ -578,35 +581,32 @@ module _ (code : ℕ → ℕ) (b : Bounds) (m : MemoryContents) (s : State) (f :
         specials_moved specials_now n holds (visible s.regs s.base t) (known x.seen t) moved_mark (read_register t told) (λ k e. (h.marks t k e).0)
 
     rsr_inside : (let i = insn.System (system.Rsr SpecialName.Rsr t n) in
-        IsWritable t → reads_no_mark i x (inside x f) ≡ false → IsPlanned i → IsFramed i → special_of (laid_turn i).after.control number.vecbase ≡ b.vecbase
-        → Inner code b m s f suspended (step_on code true (record_now code m s) f))
+        IsWritable t → reads_no_mark i x (inside x f) ≡ false → IsPlanned i → special_of (laid_turn i).after.control number.vecbase ≡ b.vecbase → IsLeft i)
     unfolding reads special_reads ends_nested mark_read moved_to
-    rsr_inside writable told plan step vectors =
+    rsr_inside writable told plan vectors =
         let parts = or_parts (lacks x.seen None && lacks x.marks None) (is_unset f.unset (Some n) && lacks x.saved (Some n)) told in
         closing (insn.System (system.Rsr SpecialName.Rsr t n)) (write_to t (special_of s.control n)) (write_to t (special_of g.control n)) no_sets no_sets read_mark f.unset x.saved
-        plan step vectors (rsr_is code t n holds (visible s.regs s.base) s.control) (rsr_is code t n holds (known x.seen) g.control) (λ value. refl)
+        plan vectors (rsr_is code t n holds (visible s.regs s.base) s.control) (rsr_is code t n holds (known x.seen) g.control) (λ value. refl)
         (registers_read writable parts.1) specials_now none_spares none_spares
         (λ o is. write_alike read_mark t (special_of s.control n) (special_of g.control n) o is (read_special n holds parts.1))
 
     wsr_inside : (let i = insn.System (system.Rsr SpecialName.Wsr t n) in
-        reads_no_mark i x (inside x f) ≡ false → IsPlanned i → IsFramed i → special_of (laid_turn i).after.control number.vecbase ≡ b.vecbase
-        → Inner code b m s f suspended (step_on code true (record_now code m s) f))
+        reads_no_mark i x (inside x f) ≡ false → IsPlanned i → special_of (laid_turn i).after.control number.vecbase ≡ b.vecbase → IsLeft i)
     unfolding reads special_reads ends_nested mark_read moved_to
-    wsr_inside told plan step vectors =
+    wsr_inside told plan vectors =
         let parts = or_parts (lacks x.seen (Some t) && lacks x.marks (Some t)) (is_unset f.unset None && lacks x.saved None) told in
         closing (insn.System (system.Rsr SpecialName.Wsr t n)) None None (sets_one n (visible s.regs s.base t)) (sets_one n (known x.seen t)) None (set f.unset n (is_some moved_mark)) (set x.saved n moved_mark)
-        plan step vectors (wsr_is code t n holds (visible s.regs s.base) s.control) (wsr_is code t n holds (known x.seen) g.control) (λ value. refl)
+        plan vectors (wsr_is code t n holds (visible s.regs s.base) s.control) (wsr_is code t n holds (known x.seen) g.control) (λ value. refl)
         registers_now (specials_set parts.0) (one_spares n (visible s.regs s.base t) holds) (one_spares n (known x.seen t) holds)
         (λ o is. is)
 
     xsr_inside : (let i = insn.System (system.Rsr SpecialName.Xsr t n) in
-        IsWritable t → reads_no_mark i x (inside x f) ≡ false → IsPlanned i → IsFramed i → special_of (laid_turn i).after.control number.vecbase ≡ b.vecbase
-        → Inner code b m s f suspended (step_on code true (record_now code m s) f))
+        IsWritable t → reads_no_mark i x (inside x f) ≡ false → IsPlanned i → special_of (laid_turn i).after.control number.vecbase ≡ b.vecbase → IsLeft i)
     unfolding reads special_reads ends_nested mark_read moved_to
-    xsr_inside writable told plan step vectors =
+    xsr_inside writable told plan vectors =
         let parts = or_parts (lacks x.seen (Some t) && lacks x.marks (Some t)) (is_unset f.unset (Some n) && lacks x.saved (Some n)) told in
         closing (insn.System (system.Rsr SpecialName.Xsr t n)) (write_to t (special_of s.control n)) (write_to t (special_of g.control n)) (sets_one n (visible s.regs s.base t)) (sets_one n (known x.seen t)) read_mark (set f.unset n (is_some moved_mark)) (set x.saved n moved_mark)
-        plan step vectors (xsr_is code t n holds (visible s.regs s.base) s.control) (xsr_is code t n holds (known x.seen) g.control) (λ value. refl)
+        plan vectors (xsr_is code t n holds (visible s.regs s.base) s.control) (xsr_is code t n holds (known x.seen) g.control) (λ value. refl)
         (registers_read writable parts.1) (specials_set parts.0) (one_spares n (visible s.regs s.base t) holds) (one_spares n (known x.seen t) holds)
         (λ o is. write_alike read_mark t (special_of s.control n) (special_of g.control n) o is (read_special n holds parts.1))
 
@@ -618,21 +618,29 @@ module _ (code : ℕ → ℕ) (b : Bounds) (m : MemoryContents) (s : State) (f :
       let other = eqb-false t 1 sp in
       ⊎_elim (λ e. inl e) (λ a. inr (⊎_elim (λ e. inl e) (λ c. inr (omega arith)) (cases_eq t 2))) (cases_eq t 0)
 
-  pub marks_inside : (i : Insn) → moves_marks i ≡ true → reads_no_mark i x (inside x f) ≡ false → (shown : Option RegWrite) → writes_sp i (record_now code m s).write shown ≡ false
-      → IsPlanned i → IsFramed i → special_of (laid_turn i).after.control number.vecbase ≡ b.vecbase
-      → Inner code b m s f suspended (step_on code true (record_now code m s) f)
+  marks_inside : (i : Insn) → moves_marks i ≡ true → reads_no_mark i x (inside x f) ≡ false → (shown : Option RegWrite) → writes_sp i (record_now code m s).write shown ≡ false
+      → IsPlanned i → special_of (laid_turn i).after.control number.vecbase ≡ b.vecbase → IsLeft i
   unfolding moves_marks may_write_sp
-  marks_inside (insn.System (system.Rsr SpecialName.Rsr t n)) moves told shown written plan step vectors =
+  marks_inside (insn.System (system.Rsr SpecialName.Rsr t n)) moves told shown written plan vectors =
       let both = and_parts (ltb t 4) (holds_marks n) moves in
       let low = ltb-true t 4 both.0 in
       let is = write_is code m s len (write_to t (special_of s.control n)) no_sets (plan ∙ ap (λ o. done o len s) (rsr_is code t n both.1 (visible s.regs s.base) s.control)) in
-      rsr_inside t n low both.1 (writable_by t (special_of s.control n) (insn.System (system.Rsr SpecialName.Rsr t n)) low refl shown written is) told plan step vectors
-  marks_inside (insn.System (system.Rsr SpecialName.Wsr t n)) moves told shown written plan step vectors =
+      rsr_inside t n low both.1 (writable_by t (special_of s.control n) (insn.System (system.Rsr SpecialName.Rsr t n)) low refl shown written is) told plan vectors
+  marks_inside (insn.System (system.Rsr SpecialName.Wsr t n)) moves told shown written plan vectors =
       let both = and_parts (ltb t 4) (holds_marks n) moves in
-      wsr_inside t n (ltb-true t 4 both.0) both.1 told plan step vectors
-  marks_inside (insn.System (system.Rsr SpecialName.Xsr t n)) moves told shown written plan step vectors =
+      wsr_inside t n (ltb-true t 4 both.0) both.1 told plan vectors
+  marks_inside (insn.System (system.Rsr SpecialName.Xsr t n)) moves told shown written plan vectors =
       let both = and_parts (ltb t 4) (holds_marks n) moves in
       let low = ltb-true t 4 both.0 in
       let is = write_is code m s len (write_to t (special_of s.control n)) (sets_one n (visible s.regs s.base t)) (plan ∙ ap (λ o. done o len s) (xsr_is code t n both.1 (visible s.regs s.base) s.control)) in
-      xsr_inside t n low both.1 (writable_by t (special_of s.control n) (insn.System (system.Rsr SpecialName.Xsr t n)) low refl shown written is) told plan step vectors
-  marks_inside _ moves told shown written plan step vectors = absurd (true≢false (sym moves))
+      xsr_inside t n low both.1 (writable_by t (special_of s.control n) (insn.System (system.Rsr SpecialName.Xsr t n)) low refl shown written is) told plan vectors
+  marks_inside _ moves told shown written plan vectors = absurd (true≢false (sym moves))
+
+  -- an instruction that moves a mark and shows no breach
+  pub marked_inner : (live stale : ℕ → Bool) (i : Insn) → let u : FrameTurn = fetched_step (Fetches i len) code reply g in
+      Sound b false live stale i (record_now code m s) g u → f.nested ≡ Some x → moves_marks i ≡ true → IsPlanned i
+      → Inner code b m s f suspended (nested_insn i (value_in (record_now code m s).write) x f u)
+  marked_inner live stale i o nested moves plan =
+      let reads : reads_none_in (Some x) i g ≡ false = subst (λ (n : Option Nested). reads_none_in n i g ≡ false) nested o.unset in
+      let told : reads_no_mark i x g ≡ false = sym (cond-true (moves_marks i) (reads_no_mark i x g) _ moves) ∙ reads in
+      marks_inside i moves told (fetched_step (Fetches i len) code reply g).write o.written plan o.vectors
