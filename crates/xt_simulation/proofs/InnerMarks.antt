@@ -15,7 +15,7 @@ use Rattle.xt_special.specs.declared.ps.Ps.{Ps}
 use Rattle.xt_special.specs.Numbers as number
 use Rattle.xt_special.specs.Control.{Control, special_of, ps_word}
 use Rattle.xt_special.specs.Access.{SpecialWrites, is_ccompare, is_eps, no_set, no_sets, ps_written, set_to, value_kept, value_read, with_sets, written_by}
-use Rattle.xt_special.specs.Timers.{ticked, ticked_special}
+use Rattle.xt_special.specs.Timers.{ticked}
 use Rattle.xt_special.proofs.Kept.{ticked_other}
 use Rattle.xt_window.specs.Ring.{place, visible}
 use Rattle.xt_trace.specs.declared.record.StepKind.TheVariants as kind
@@ -36,12 +36,12 @@ use Rattle.xt_exec.specs.Turn.{Planned, demand, done, planned, turn, with_write}
 use Rattle.xt_frames.specs.declared.holes.Nested.{Nested}
 use Rattle.xt_frames.specs.Frames.{FrameState, known, seen_after_write}
 use Rattle.xt_frames.specs.FrameStep.{FrameTurn, done_in_frame, fetched_step, in_frame, laid}
-use Rattle.xt_frames.specs.Marks.{holds_marks, mark_read, marked_seen, marked_write, marks_after, moves_marks}
-use Rattle.xt_frames.specs.Nesting.{ends_nested, inside, nested_insn}
+use Rattle.xt_frames.specs.Marks.{holds_marks, mark_read, marked_seen, marked_write, marks_after, moves_marks, unset_by, unset_written}
+use Rattle.xt_frames.specs.Nesting.{ends_nested, inside, keeping, nested_after, nested_insn}
 use Rattle.xt_frames.specs.Breaches.{Bounds, is_sp, is_unset, lacks, lost_of, may_write_sp, reads_no_mark, reads_none_in, writes_sp}
 use Rattle.xt_frames.specs.Judging.{value_in}
 use Rattle.xt_frames.proofs.Shown.{Sound}
-use Rattle.xt_simulation.specs.Relation.{Even, Same, can_be_lost, inputs, lost_at}
+use Rattle.xt_simulation.specs.Relation.{Even, Same, can_be_lost, inputs}
 use Rattle.xt_simulation.specs.Steps.{record_now, reply_now, state_now}
 use Rattle.xt_simulation.specs.Nested.{IsInside, IsSpare, marked}
 use Rattle.xt_simulation.proofs.Closed.{set_own}
@@ -63,7 +63,7 @@ same_own {xs = xs} {ys = ys} e k = record {
       (cases_eq j k);
 }
 
-pub even_laid : {lost : ℕ → Bool} (s : State) (f : FrameState) → Even lost s.control f.control → Even lost s.control (laid (inputs 0 s) f).control
+even_laid : {lost : ℕ → Bool} (s : State) (f : FrameState) → Even lost s.control f.control → Even lost s.control (laid (inputs 0 s) f).control
 even_laid s f e = record {
   pc = e.pc;
   ps = ap (λ (p : Ps). (let q : Ps = record p { owb = s.control.ps.owb } in q)) e.ps;
@@ -644,3 +644,30 @@ module _ (code : ℕ → ℕ) (b : Bounds) (m : MemoryContents) (s : State) (f :
       let reads : reads_none_in (Some x) i g ≡ false = subst (λ (n : Option Nested). reads_none_in n i g ≡ false) nested o.unset in
       let told : reads_no_mark i x g ≡ false = sym (cond-true (moves_marks i) (reads_no_mark i x g) _ moves) ∙ reads in
       marks_inside i moves told (fetched_step (Fetches i len) code reply g).write o.written plan o.vectors
+
+-- ---- the lists of the next state have as many entries
+unset_by_length : (o : Option (ℕ × ℕ)) (held : List (Option ℕ)) (unset : List Bool) → length (unset_by o held unset) ≡ length unset
+unset_by_length None held unset = refl
+unset_by_length (Some p) held unset = length-set unset p.1 _
+
+marks_after_length : (mark : Option ℕ) (w : Option RegWrite) (held : List (Option ℕ)) → length (marks_after mark w held) ≡ length held
+marks_after_length mark None held = refl
+marks_after_length mark (Some w) held = length-set held w.reg mark
+
+-- what a step that is not RFI 5 leaves of the registers that have no number, and of the marks
+pub record KeepsLengths (f : FrameState) (x : Nested) (u : FrameTurn) : Type 0 where
+  pub unset : length u.after.unset ≡ length f.unset
+  pub marks : (y : Nested) → u.after.nested ≡ Some y → length y.marks ≡ length x.marks
+
+pub lengths_kept : (i : Insn) (value : ℕ) (x : Nested) (f : FrameState) (u : FrameTurn) → ends_nested i ≡ false → KeepsLengths f x (nested_insn i value x f u)
+lengths_kept i value x f u goes_on =
+    let mark : Option ℕ = mark_read i x.saved in
+    let left : FrameTurn = record u {
+      write = marked_write mark value u.write;
+      after = record (keeping f u.after) { unset = unset_written i x.marks f.unset; nested = Some (nested_after i mark x u) };
+    } in
+    let kept : KeepsLengths f x left = record {
+      unset = unset_by_length (moved_to i) x.marks f.unset;
+      marks = λ y is. ap (λ (o : Option Nested). length (unwrap_or o x).marks) (sym is) ∙ marks_after_length mark u.write x.marks;
+    } in
+    subst (λ v. KeepsLengths f x v) (sym (cond-false (ends_nested i) _ left goes_on)) kept
