@@ -29,7 +29,7 @@ use Rattle.xt_rows.specs.Kinds.{moved_to}
 use Rattle.xt_rows.specs.Operands.{changes_interrupt, reads, special_reads}
 use Rattle.xt_rows.specs.Outcomes.{outcome, outcome_at, system_outcome, value_of}
 use Rattle.xt_rows.specs.Settling.{Executed, after_effect, written}
-use Rattle.xt_fetch.specs.Fetching.{Fetches}
+use Rattle.xt_fetch.specs.Fetching.{Fetches, fetched}
 use Rattle.xt_exec.specs.State.{State}
 use Rattle.xt_exec.specs.Laws.{IsShaped}
 use Rattle.xt_exec.specs.Turn.{Planned, demand, done, planned, turn, with_write}
@@ -637,13 +637,25 @@ module _ (code : ℕ → ℕ) (b : Bounds) (m : MemoryContents) (s : State) (f :
   marks_inside _ moves told shown written plan vectors = absurd (true≢false (sym moves))
 
   -- an instruction that moves a mark and shows no breach
-  pub marked_inner : (live stale : ℕ → Bool) (i : Insn) → let u : FrameTurn = fetched_step (Fetches i len) code reply g in
+  marked_inner : (live stale : ℕ → Bool) (i : Insn) → let u : FrameTurn = fetched_step (Fetches i len) code reply g in
       Sound b false live stale i (record_now code m s) g u → f.nested ≡ Some x → moves_marks i ≡ true → IsPlanned i
       → Inner code b m s f suspended (nested_insn i (value_in (record_now code m s).write) x f u)
   marked_inner live stale i o nested moves plan =
       let reads : reads_none_in (Some x) i g ≡ false = subst (λ (n : Option Nested). reads_none_in n i g ≡ false) nested o.unset in
       let told : reads_no_mark i x g ≡ false = sym (cond-true (moves_marks i) (reads_no_mark i x g) _ moves) ∙ reads in
       marks_inside i moves told (fetched_step (Fetches i len) code reply g).write o.written plan o.vectors
+
+pub marks_moved :
+    (code : ℕ → ℕ) (b : Bounds) (m : MemoryContents) (s : State) (f : FrameState) (suspended : State) (live stale : ℕ → Bool) (x : Nested) (i : Insn) (len : ℕ)
+    → f.nested ≡ Some x → IsInside suspended s f x → IsShaped s → length f.unset ≡ 256 → length x.marks ≡ 16
+    → fetched code s.control.pc ≡ Fetches i len → moves_marks i ≡ true
+    → planned code s ≡ done (outcome_at code i (visible s.regs s.base) s.control) len s
+    → let g : FrameState = laid (inputs 0 s) (inside x f) in
+    let u : FrameTurn = fetched_step (Fetches i len) code (reply_now code m s) g in
+    Sound b false live stale i (record_now code m s) g u
+    → Inner code b m s f suspended (nested_insn i (value_in (record_now code m s).write) x f u)
+marks_moved code b m s f suspended live stale x i len nested h shaped count spread at moves plan o =
+    marked_inner code b m s f suspended x h shaped count spread len (reply_now code m s) live stale i o nested moves plan
 
 -- ---- the lists of the next state have as many entries
 unset_by_length : (o : Option (ℕ × ℕ)) (held : List (Option ℕ)) (unset : List Bool) → length (unset_by o held unset) ≡ length unset
