@@ -1,7 +1,6 @@
 -- The lists of a frame state that say where it has no number are as long as there are registers:
 -- so they open, and so each step leaves them.
 use Rattle.std.proofs.Common.{◌≡◌, ℕ, ◌+◌, Bool, true, false, cond, ltb, List, [], ◌∷◌, Option, Some, None, sym, ap, ◌∙◌, refl, subst, length}
-use Rattle.std.specs.Prelude.{is_some}
 use Rattle.std.proofs.Math.ListN.{set}
 use Rattle.std.proofs.lemmas.List.{length-set, length-replicate}
 use Rattle.xt_isa.specs.declared.Insn.{Insn}
@@ -20,8 +19,8 @@ use Rattle.xt_rows.specs.Outcomes.{outcome_at}
 use Rattle.xt_frames.specs.declared.holes.Nested.{Nested}
 use Rattle.xt_frames.specs.Frames.{Frame, FrameState, all_set, known, opening_frame}
 use Rattle.xt_frames.specs.FrameStep.{FrameTurn, Inputs, done_in_frame, fetched_step, laid, laid_step, popped, popped_from, pushed, windowed_in_frame}
-use Rattle.xt_frames.specs.Marks.{mark_read, marks_after, own_marks, unset_by, unset_written}
-use Rattle.xt_frames.specs.Nesting.{begins, begun, ends_nested, frame_step, inside, nested_fetched, nested_insn, turn_in, unset_after}
+use Rattle.xt_frames.specs.Marks.{mark_read, marks_after, unset_by}
+use Rattle.xt_frames.specs.Nesting.{begins, begun, ends_nested, inside, nested_fetched, nested_insn, turn_in, unset_after}
 use Rattle.xt_frames.specs.Breaches.{inputs_of}
 use Rattle.xt_frames.specs.Judging.{step_on, value_in}
 

@@ -1,8 +1,8 @@
 -- A nested step that moves no mark: both machines compute the same outcome.
-use Rattle.std.proofs.Common.{◌≡◌, ◌⊎◌, ℕ, ◌+◌, ◌*◌, ◌%◌, ◌^◌, ◌<◌, ◌≢◌, Bool, true, false, ◌||◌, ◌&&◌, not, cond, eqb, leb, ltb, List, [], ◌∷◌, Option, Some, None, sym, ap, ◌∙◌, refl, arith, inl, inr, ⊎_elim, subst, length, get_or}
-use Rattle.std.specs.Prelude.{is_some, unwrap_or, max}
+use Rattle.std.proofs.Common.{◌≡◌, ◌⊎◌, ℕ, ◌<◌, ◌≢◌, Bool, true, false, ◌||◌, ◌&&◌, not, cond, eqb, leb, ltb, List, Option, Some, None, sym, ap, ◌∙◌, refl, arith, inl, inr, ⊎_elim, subst, length, get_or}
+use Rattle.std.specs.Prelude.{is_some, unwrap_or}
 use Rattle.std.proofs.Math.ListN.{set}
-use Rattle.std.proofs.lemmas.Bool.{cases_Bool, true≢false, both_ways, or_parts, or_from, or_right, and_cases, and_right, le-ltb, leb-false, eqb-false, not-false, false_from_ne_true, cond-true, cond-false}
+use Rattle.std.proofs.lemmas.Bool.{cases_Bool, true≢false, both_ways, or_parts, or_from, or_right, and_cases, and_right, leb-false, eqb-false, not-false, false_from_ne_true, cond-true, cond-false}
 use Rattle.std.proofs.lemmas.List.{get_or-set_other, length-set}
 use Rattle.xt_isa.specs.declared.Insn.{Insn}
 use Rattle.xt_isa.specs.declared.Insn.TheVariants as insn
@@ -19,7 +19,7 @@ use Rattle.xt_special.specs.declared.ps.Ps.{Ps}
 use Rattle.xt_special.specs.Numbers as number
 use Rattle.xt_special.specs.Control.{Control, special_of}
 use Rattle.xt_special.specs.Timers.{ticked}
-use Rattle.xt_special.specs.Interrupts.{pending_level, pending_of}
+use Rattle.xt_special.specs.Interrupts.{pending_of}
 use Rattle.xt_window.specs.Ring.{visible, ahead}
 use Rattle.xt_trace.specs.declared.record.RegWrite.{RegWrite}
 use Rattle.xt_trace.specs.declared.record.StepRecord.{StepRecord}
@@ -27,11 +27,10 @@ use Rattle.xt_rows.specs.declared.outcome.Awaited.{Awaited}
 use Rattle.xt_rows.specs.declared.outcome.Effect.{Effect}
 use Rattle.xt_rows.specs.declared.outcome.Outcome.{Outcome}
 use Rattle.xt_rows.specs.declared.outcome.Outcome.TheVariants.{Does, Raises, Asks, Stops, Windowed}
-use Rattle.xt_rows.specs.declared.outcome.WindowStep.{WindowStep}
 use Rattle.xt_rows.specs.declared.outcome.WindowStep.TheVariants.{Enters, Returns, EndsOverflow, EndsUnderflow, Rotates, MovesStack, Reads, Sets, Exchanges}
 use Rattle.xt_rows.specs.declared.outcome.WindowRegister.{WindowRegister}
 use Rattle.xt_rows.specs.Effects.{illegal_instruction, unchanged, window_register, writes_special, exchanges_special}
-use Rattle.xt_rows.specs.Kinds.{is_saved, is_entry, is_return, moved_to, names_window_register, sets_epc1, is_windowing, is_movsp, AllSpare, SetsOne, SetsSaved, WritesNamed, AwaitsNamed, Fits}
+use Rattle.xt_rows.specs.Kinds.{is_saved, moved_to, sets_epc1, is_windowing, AllSpare, SetsOne, WritesNamed, Fits}
 use Rattle.xt_rows.specs.Laws.{sets_mode, KeepsMode, AsksWith}
 use Rattle.xt_rows.specs.Operands.{reads, special_reads, named}
 use Rattle.xt_rows.specs.Outcomes.{outcome, control_outcome, density_outcome, system_outcome, outcome_at, value_of}
@@ -42,27 +41,29 @@ use Rattle.xt_fetch.specs.Code.{AreBytes}
 use Rattle.xt_fetch.specs.Fetching.{Fetched, Fetches, Fails, SpellsNothing, fetched}
 use Rattle.xt_exec.specs.State.{State}
 use Rattle.xt_exec.specs.Laws.{IsShaped}
-use Rattle.xt_exec.specs.Turn.{Planned, planned, demand, turn, in_window, raises, has_windows, looks, window_check, illegal_return, is_illegal, done, checked, fetched_turn, reply_where, with_write}
+use Rattle.xt_exec.specs.Turn.{Planned, planned, demand, turn, in_window, raises, has_windows, looks, window_check, is_illegal, done, checked, fetched_turn, with_write}
 use Rattle.xt_exec.proofs.Finished.{turn_fetches}
 use Rattle.xt_frames.specs.declared.holes.Nested.{Nested}
 use Rattle.xt_frames.specs.declared.kinds.BreachKind.{BreachKind}
 use Rattle.xt_frames.specs.Frames.{FrameState, known, seen_after_write}
 use Rattle.xt_frames.specs.FrameStep.{FrameTurn, in_frame, raised, pushed, popped, windowed_in_frame, done_in_frame, fetched_step, laid, laid_step}
 use Rattle.xt_frames.specs.Marks.{moves_marks, mark_read, marked_write, unset_by, unset_written}
-use Rattle.xt_frames.specs.Nesting.{begun, current_in, disturbs_nested, ends_nested, inside, is_nesting, keeping, nested_after, nested_fetched, nested_insn, nested_turn, turn_in}
-use Rattle.xt_frames.specs.Breaches.{Bounds, breach_of, breaks_nested, fetched_tests, first_shown, insn_tests, inputs_of, is_exception, is_unset, lacks, laid_breach, loses_epc1, lost_of, names_high, other_tests, reads_epc1, reads_lost, reads_none, reads_none_in, reads_unset, writes_sp}
+use Rattle.xt_frames.specs.Nesting.{current_in, disturbs_nested, ends_nested, inside, is_nesting, keeping, nested_after, nested_fetched, nested_insn}
+use Rattle.xt_frames.specs.Breaches.{Bounds, breach_of, breaks_nested, fetched_tests, first_shown, insn_tests, inputs_of, is_exception, is_unset, lacks, laid_breach, loses_epc1, lost_of, names_high, other_tests, reads_epc1, reads_lost, reads_none_in, reads_unset, writes_sp}
 use Rattle.xt_frames.specs.Judging.{step_on, value_in}
 use Rattle.xt_frames.proofs.Inside.{step_inside}
 use Rattle.xt_frames.proofs.Shown.{NoneShown, Sound, KeepsSp, keeps_sp, none_shown, sound}
 use Rattle.xt_frames.proofs.StackSteps.{step_fetches}
-use Rattle.xt_simulation.specs.Relation.{Even, Same, can_be_lost, lost_at, inputs}
-use Rattle.xt_simulation.specs.Steps.{reply_at, reply_now, record_now, state_now}
+use Rattle.xt_simulation.specs.Relation.{Even, inputs}
+use Rattle.xt_simulation.specs.Steps.{reply_now, record_now}
 use Rattle.xt_simulation.specs.Nested.{IsInside, IsSpare, marked}
-use Rattle.xt_simulation.proofs.Evenly.{even_ticked}
-use Rattle.xt_simulation.proofs.Holes.{HasHoles, marks_wide}
+use Rattle.xt_simulation.proofs.Evenly.{even_ticked, lost_in}
+use Rattle.xt_simulation.proofs.Judged.{awaited_named}
+use Rattle.xt_simulation.proofs.Judges.{record_reply, same_laid}
+use Rattle.xt_simulation.proofs.Turns.{quiet_nested}
 use Rattle.xt_simulation.proofs.Inner.{Inner}
 use Rattle.xt_simulation.proofs.InnerMarks.{marks_moved}
-use Rattle.xt_simulation.proofs.InnerSteps.{Elsewhere, IsNarrow, ReadsNumber, after_write, all_spare, can_saved, effect_even, effect_mode, effect_spares, even_laid, lost_in, same_moved, saved_left, ticked_saved, write_base, write_control, write_marks, write_numbers, write_others, write_size, write_start}
+use Rattle.xt_simulation.proofs.InnerSteps.{Elsewhere, IsNarrow, ReadsNumber, after_write, all_spare, can_saved, effect_even, effect_mode, effect_spares, even_laid, same_moved, saved_left, ticked_saved, write_base, write_control, write_marks, write_numbers, write_others, write_size, write_start}
 
 -- ---- what the tests of a nested step deny
 -- `u` is the step of the state inside
@@ -93,22 +94,8 @@ quiet_of b live stale i rec g u x is o =
     }
 
 -- ---- no interrupt, and no window check
-three_false : (b c d : Bool) (x y z : ℕ) → cond (b && false) x (cond (c && false) y (cond (d && false) z 0)) ≡ 0
-three_false b c d x y z =
-    cond-false (b && false) x (cond (c && false) y (cond (d && false) z 0)) (and_right b false refl)
-    ∙ (cond-false (c && false) y (cond (d && false) z 0) (and_right c false refl)
-    ∙ cond-false (d && false) z 0 (and_right d false refl))
-
-quiet_at : (interrupt enabled : ℕ) (ps : Ps) → ps.excm ≡ true → ps.intlevel ≡ 5 → pending_level interrupt enabled ps ≡ 0
-unfolding pending_level
-quiet_at interrupt enabled ps e l =
-    let five : ltb (max ps.intlevel 3) 5 ≡ false = le-ltb (max ps.intlevel 3) 5 (omega arith) in
-    let three : ltb (max ps.intlevel 3) 3 ≡ false = le-ltb (max ps.intlevel 3) 3 (omega arith) in
-    let one : ltb (max ps.intlevel 3) 1 ≡ false = le-ltb (max ps.intlevel 3) 1 (omega arith) in
-    rw (e, five, three, one) (three_false _ _ _ 5 3 1)
-
-pub untaken : (c : Control) → c.ps.excm ≡ true → c.ps.intlevel ≡ 5 → ltb 0 (pending_of c) ≡ false
-untaken c e l = ap (λ n. ltb 0 n) (quiet_at (special_of c number.interrupt) (special_of c number.intenable) c.ps e l)
+untaken : (c : Control) → c.ps.intlevel ≡ 5 → ltb 0 (pending_of c) ≡ false
+untaken c level = ap (λ n. ltb 0 n) (quiet_nested c level)
 
 closed_windows : (ps : Ps) → ps.excm ≡ true → has_windows ps ≡ false
 closed_windows ps e = rw e (and_right ps.woe false refl)
@@ -139,7 +126,7 @@ abbrev pub unset_left : Insn → FrameState → Nested → List Bool
 unset_left i f x = unset_written i x.marks f.unset
 
 pub record Leaves (s : State) (f : FrameState) (x : Nested) (i : Insn) (c d : Control) : Type 0 where
-  pub even : Even (lost_in (unset_left i f x)) c d
+  pub even : Even (lost_in false (unset_left i f x)) c d
   pub level : c.ps.intlevel ≡ s.control.ps.intlevel
   pub mode : c.ps.excm ≡ s.control.ps.excm
   pub running : c.waits ≡ false
@@ -180,9 +167,9 @@ module _ {suspended s : State} {f : FrameState} {x : Nested} (h : IsInside suspe
         let u : FrameTurn = in_frame v reply (laid (inputs 0 s) (inside x f)) in
         let is : t.control ≡ c = write_control c s w in
         let left : FrameState = inside (nested_after i None x u) (left_turn i x f u).after in
-        let even : Even (lost_in (unset_left i f x)) c left.control = record { pc = l.even.pc; ps = l.even.ps; threadptr = l.even.threadptr; waits = l.even.waits; special = l.even.special } in
+        let even : Even (lost_in false (unset_left i f x)) c left.control = record { pc = l.even.pc; ps = l.even.ps; threadptr = l.even.threadptr; waits = l.even.waits; special = l.even.special } in
         record {
-          even = even_laid t left (subst (λ (q : Control). Even (lost_in (unset_left i f x)) q left.control) (sym is) even);
+          even = even_laid t left (subst (λ (q : Control). Even (lost_in false (unset_left i f x)) q left.control) (sym is) even);
           level = ap (λ (q : Control). q.ps.intlevel) is ∙ (l.level ∙ h.level);
           mode = ap (λ (q : Control). q.ps.excm) is ∙ (l.mode ∙ h.mode);
           running = ap (λ (q : Control). q.waits) is ∙ l.running;
@@ -224,7 +211,7 @@ module _ {suspended s : State} {f : FrameState} {x : Nested} (h : IsInside suspe
         let c : Control = s.control in
         let d : Control = (laid (inputs 0 s) (inside x f)).control in
         record {
-          even = subst (λ (o : Option (ℕ × ℕ)). Even (lost_in (unset_by o x.marks f.unset)) (ticked c) (ticked d)) (sym none) (even_ticked c d h.even);
+          even = subst (λ (o : Option (ℕ × ℕ)). Even (lost_in false (unset_by o x.marks f.unset)) (ticked c) (ticked d)) (sym none) (even_ticked c d h.even);
           level = refl;
           mode = refl;
           running = h.running;
@@ -243,10 +230,6 @@ names_low i g e high =
 narrow_write : (i : Insn) (w : Option RegWrite) → named i < 4 → WritesNamed i w → KeepsSp w → IsNarrow w
 narrow_write i None low within keeps = tt
 narrow_write i (Some w) low within keeps = (omega arith, keeps)
-
-awaits_named : (i : Insn) (awaited : Option Awaited) (reply : ℕ) → AwaitsNamed i awaited → WritesNamed i (written None awaited reply)
-awaits_named i None reply h = tt
-awaits_named i (Some a) reply h = h
 
 -- ---- what the instruction reads
 pub none_from : (o : Option ℕ) → ((k : ℕ) → o ≡ Some k → ⊥) → o ≡ None
@@ -320,19 +303,17 @@ module _ {suspended s : State} {f : FrameState} {x : Nested} (h : IsInside suspe
       }
 
 -- ---- what kind of instruction it is
-kept_apart : (n k : ℕ) → eqb n k ≡ false → n ≢ k
-kept_apart n k e = eqb-false n k e
 
 kept_elsewhere : (i : Insn) → disturbs_nested i ≡ false → Elsewhere (moved_to i) 181 × Elsewhere (moved_to i) 197
 unfolding disturbs_nested moved_to
-kept_elsewhere (insn.System (system.Rsr SpecialName.Wsr t n)) e = let p = or_parts (eqb n 181) (eqb n 197) (or_parts (eqb n 230) _ e).1 in (kept_apart n 181 p.0, kept_apart n 197 p.1)
-kept_elsewhere (insn.System (system.Rsr SpecialName.Xsr t n)) e = let p = or_parts (eqb n 181) (eqb n 197) (or_parts (eqb n 230) _ e).1 in (kept_apart n 181 p.0, kept_apart n 197 p.1)
+kept_elsewhere (insn.System (system.Rsr SpecialName.Wsr t n)) e = let p = or_parts (eqb n 181) (eqb n 197) (or_parts (eqb n 230) _ e).1 in (eqb-false n 181 p.0, eqb-false n 197 p.1)
+kept_elsewhere (insn.System (system.Rsr SpecialName.Xsr t n)) e = let p = or_parts (eqb n 181) (eqb n 197) (or_parts (eqb n 230) _ e).1 in (eqb-false n 181 p.0, eqb-false n 197 p.1)
 kept_elsewhere _ e = (tt, tt)
 
 epc1_elsewhere : (i : Insn) → sets_epc1 i ≡ false → Elsewhere (moved_to i) 177
 unfolding sets_epc1 moved_to
-epc1_elsewhere (insn.System (system.Rsr SpecialName.Wsr t n)) e = kept_apart n 177 e
-epc1_elsewhere (insn.System (system.Rsr SpecialName.Xsr t n)) e = kept_apart n 177 e
+epc1_elsewhere (insn.System (system.Rsr SpecialName.Wsr t n)) e = eqb-false n 177 e
+epc1_elsewhere (insn.System (system.Rsr SpecialName.Xsr t n)) e = eqb-false n 177 e
 epc1_elsewhere _ e = tt
 
 quiet_mode : (i : Insn) → disturbs_nested i ≡ false → ends_nested i ≡ false → is_windowing i ≡ false → sets_mode i ≡ false
@@ -437,7 +418,7 @@ module _ (code : ℕ → ℕ) (b : Bounds) (m : MemoryContents) (s : State) (f :
         let other = kept_elsewhere i q.disturbs in
         let sets : (n : ℕ) → is_saved n ≡ true → SetsOne (moved_to i) n e.sets = λ n h. subst (λ (o : Option (ℕ × ℕ)). SetsOne o n e.sets) (sym fit.1) (subst (λ (z : Effect). AllSpare n z.sets) (sym alone) (tt, tt, tt)) in
         left_inner Executed None (Some access) awaited _ _ is
-        (narrow_write i (written None awaited (reply_now code m s)) (names_low i (laid (inputs 0 s) (inside x f)) framed_excm o.high) (awaits_named i awaited _ fit.0) (keeps_sp i (record_now code m s).write (written None awaited (reply_now code m s)) fit.2 o.movsp sp))
+        (narrow_write i (written None awaited (reply_now code m s)) (names_low i (laid (inputs 0 s) (inside x f)) framed_excm o.high) (awaited_named i awaited (reply_now code m s) fit.0) (keeps_sp i (record_now code m s).write (written None awaited (reply_now code m s)) fit.2 o.movsp sp))
         (effect_leaves h i r.number e len sets (ap (λ (z : Effect). z.ps.intlevel) alone) (ap (λ (z : Effect). z.ps.excm) alone) (ap (λ (z : Effect). z.waits) alone))
         r.number other.0 other.1 (epc1_elsewhere i q.epc1) vectors
 
@@ -501,19 +482,6 @@ pub record Ending
   pub plan : planned code s ≡ done (outcome_at code insn (visible s.regs s.base) s.control) len s
   pub step : u ≡ nested_insn insn (value_in (record_now code m s).write) x f (fetched_step (Fetches insn len) code (reply_now code m s) (laid (inputs 0 s) (inside x f)))
 
--- ---- the record's inputs and reply
-inputs_same : (code : ℕ → ℕ) (s : State) (reply : ℕ) (f : FrameState) → s.control.ps.owb < 16 → laid (inputs_of (turn code s reply).0) f ≡ laid (inputs 0 s) f
-unfolding turn
-inputs_same code s reply f small = let e : s.control.ps.owb % 16 ≡ s.control.ps.owb = omega arith in rw e refl
-
-reply_same : (code : ℕ → ℕ) (m : MemoryContents) (s : State) → (record_now code m s).reply ≡ reply_now code m s
-unfolding turn
-reply_same code m s = from_demand (demand code s)
-  where
-    from_demand : (o : Option Access) → reply_where o (reply_at m o) ≡ reply_at m o
-    from_demand None = refl
-    from_demand (Some a) = refl
-
 -- ---- the breach of a nested step
 breach_inside : (b : Bounds) (code : ℕ → ℕ) (live stale : ℕ → Bool) (rec : StepRecord) (f : FrameState) (x : Nested) → f.nested ≡ Some x
     → breach_of b false code live stale true rec f ≡ laid_breach b false code live stale rec (laid (inputs_of rec) (inside x f))
@@ -532,13 +500,7 @@ breach_fetches b code live stale rec g e w = cond-false (ltb 0 (pending_of g.con
 other_breaks : (b : Bounds) (live stale : ℕ → Bool) (rec : StepRecord) (g : FrameState) (u : FrameTurn) (x : Nested) → g.nested ≡ Some x → NoneShown (other_tests b live stale rec g u) → ⊥
 other_breaks b live stale rec g u x is (saves, (loads, (woe, (vectors, (vector, (nested, more)))))) = both_ways (is_some g.nested) nested (ap (λ (o : Option Nested). is_some o) is)
 
-module _ (code : ℕ → ℕ) (b : Bounds) (m : MemoryContents) (s : State) (f : FrameState) (suspended : State) (live stale : ℕ → Bool) (x : Nested) (nested : f.nested ≡ Some x) (h : IsInside suspended s f x) (shaped : IsShaped s) (holes : HasHoles f) where
-  all : length f.unset ≡ 256
-  all = holes.unset
-
-  wide : length x.marks ≡ 16
-  wide = marks_wide holes x nested
-
+module _ (code : ℕ → ℕ) (b : Bounds) (m : MemoryContents) (s : State) (f : FrameState) (suspended : State) (live stale : ℕ → Bool) (x : Nested) (nested : f.nested ≡ Some x) (h : IsInside suspended s f x) (shaped : IsShaped s) (all : length f.unset ≡ 256) (wide : length x.marks ≡ 16) where
   abbrev Next : FrameTurn → Type 0
   Next u = Ending code b m s f x live stale u ⊎ Inner code b m s f suspended u
 
@@ -578,20 +540,19 @@ module _ (code : ℕ → ℕ) (b : Bounds) (m : MemoryContents) (s : State) (f :
       let g : FrameState = laid (inputs 0 s) (inside x f) in
       let value : ℕ = value_in rec.write in
       let at : Fetched = fetched code s.control.pc in
-      let same : laid (inputs_of rec) (inside x f) ≡ g = inputs_same code s reply (inside x f) shaped.control.ps.owb_fits in
-      let mode : g.control.ps.excm ≡ true = sym (ap (λ (p : Ps). p.excm) h.even.ps) ∙ h.mode in
+      let same : laid (inputs_of rec) (inside x f) ≡ g = same_laid code s reply (inside x f) shaped.control.ps.owb_fits in
       let level : g.control.ps.intlevel ≡ 5 = sym (ap (λ (p : Ps). p.intlevel) h.even.ps) ∙ h.level in
-      let quiet : ltb 0 (pending_of g.control) ≡ false = untaken g.control mode level in
+      let quiet : ltb 0 (pending_of g.control) ≡ false = untaken g.control level in
       let running : g.control.waits ≡ false = sym h.even.waits ∙ h.running in
       let here : laid_step code rec.reply g ≡ fetched_step at code reply g =
-      ap (λ y. laid_step code y g) (reply_same code m s) ∙ (step_fetches code reply g quiet running ∙ ap (λ p. fetched_step (fetched code p) code reply g) (sym h.even.pc)) in
+      ap (λ y. laid_step code y g) (record_reply code m s) ∙ (step_fetches code reply g quiet running ∙ ap (λ p. fetched_step (fetched code p) code reply g) (sym h.even.pc)) in
       let shown : first_shown (fetched_tests b false live stale (fetched code g.control.pc) rec g (laid_step code rec.reply g)) ≡ None =
       sym (breach_fetches b code live stale rec g quiet running) ∙ (sym (ap (λ (y : FrameState). laid_breach b false code live stale rec y) same) ∙ (sym (breach_inside b code live stale rec f x nested) ∙ none)) in
       let at_pc : first_shown (fetched_tests b false live stale at rec g (laid_step code rec.reply g)) ≡ None =
       ap (λ p. first_shown (fetched_tests b false live stale (fetched code p) rec g (laid_step code rec.reply g))) h.even.pc ∙ shown in
       let tests : first_shown (fetched_tests b false live stale at rec g (fetched_step at code reply g)) ≡ None =
       sym (ap (λ (v : FrameTurn). first_shown (fetched_tests b false live stale at rec g v)) here) ∙ at_pc in
-      let plan : planned code s ≡ fetched_turn at code s = turn_fetches code s (untaken s.control h.mode h.level) h.running in
+      let plan : planned code s ≡ fetched_turn at code s = turn_fetches code s (untaken s.control h.level) h.running in
       let step : step_on code true rec f ≡ nested_fetched at value x f (fetched_step at code reply g) =
       step_inside code true rec f x nested
       ∙ (ap (λ (y : FrameState). nested_fetched (fetched code y.control.pc) value x f (laid_step code rec.reply y)) same
@@ -603,8 +564,8 @@ module _ (code : ℕ → ℕ) (b : Bounds) (m : MemoryContents) (s : State) (f :
 pub inner_step :
     (code : ℕ → ℕ) → AreBytes code
     → (b : Bounds) (m : MemoryContents) (s : State) (f : FrameState) (suspended : State) (live stale : ℕ → Bool) (x : Nested)
-    → f.nested ≡ Some x → IsInside suspended s f x → IsShaped s → HasHoles f
+    → f.nested ≡ Some x → IsInside suspended s f x → IsShaped s → length f.unset ≡ 256 → length x.marks ≡ 16
     → breach_of b false code live stale true (record_now code m s) f ≡ None
     → let u : FrameTurn = step_on code true (record_now code m s) f in
     Ending code b m s f x live stale u ⊎ Inner code b m s f suspended u
-inner_step code bytes b m s f suspended live stale x nested h shaped holes none = next_step code b m s f suspended live stale x nested h shaped holes none
+inner_step code bytes b m s f suspended live stale x nested h shaped all wide none = next_step code b m s f suspended live stale x nested h shaped all wide none

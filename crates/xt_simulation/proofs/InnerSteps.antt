@@ -1,14 +1,13 @@
 -- What a nested step that moves no mark does to the registers, and to the special registers.
 use Rattle.std.proofs.Common.{◌≡◌, ℕ, ◌+◌, ◌*◌, ◌<◌, ◌≢◌, Bool, true, false, ◌||◌, cond, List, Option, Some, None, sym, ap, ◌∙◌, refl, arith, inl, inr, ⊎_elim, subst, length, get_or}
-use Rattle.std.specs.Prelude.{is_some, unwrap_or}
+use Rattle.std.specs.Prelude.{is_some}
 use Rattle.std.proofs.Math.ListN.{set}
-use Rattle.std.proofs.lemmas.Bool.{cases_eq, cases_lt, cases_Bool, true≢false, both_ways, or_cases, or_from, or_left, or_right, and_parts, and_from, eqb-true, leb-true, le-leb, false_from_ne_true}
+use Rattle.std.proofs.lemmas.Bool.{cases_eq, cases_lt, cases_Bool, both_ways, or_cases, or_left, or_right, and_parts, and_from, eqb-true, leb-true, le-leb, false_from_ne_true}
 use Rattle.std.proofs.lemmas.List.{get_or-set_same, get_or-set_other, length-set, get_or_past}
-use Rattle.xt_isa.specs.declared.Insn.{Insn}
 use Rattle.xt_special.specs.Control.{Control, special_of}
 use Rattle.xt_special.specs.declared.ps.Ps.{Ps}
 use Rattle.xt_special.specs.declared.writes.SpecialWrite.{SpecialWrite}
-use Rattle.xt_special.specs.Access.{SpecialWrites, set_to, no_set, with_set, with_sets}
+use Rattle.xt_special.specs.Access.{SpecialWrites, with_set, with_sets}
 use Rattle.xt_special.specs.Timers.{ticked}
 use Rattle.xt_special.proofs.Kept.{ticked_other}
 use Rattle.xt_window.specs.Ring.{place, visible}
@@ -16,20 +15,20 @@ use Rattle.xt_trace.specs.declared.record.RegWrite.{RegWrite}
 use Rattle.xt_rows.specs.declared.outcome.Flow.{Flow}
 use Rattle.xt_rows.specs.declared.outcome.Flow.TheVariants.{Falls, Goes}
 use Rattle.xt_rows.specs.declared.outcome.Effect.{Effect}
-use Rattle.xt_rows.specs.Kinds.{is_saved, Spares, AllSpare, SetsOne, SetsSaved}
+use Rattle.xt_rows.specs.Kinds.{is_saved, Spares, AllSpare, SetsOne}
 use Rattle.xt_rows.specs.Settling.{after_flow, after_effect}
 use Rattle.xt_exec.specs.State.{State}
 use Rattle.xt_exec.specs.Turn.{with_write}
-use Rattle.xt_frames.specs.declared.holes.Nested.{Nested}
 use Rattle.xt_frames.specs.Frames.{FrameState, seen_after_write}
 use Rattle.xt_frames.specs.FrameStep.{laid}
-use Rattle.xt_frames.specs.Marks.{holds_marks, marks_after, saved_by, unset_by}
+use Rattle.xt_frames.specs.Marks.{marks_after, saved_by, unset_by}
 use Rattle.xt_frames.specs.Breaches.{lost_of}
 use Rattle.xt_simulation.specs.Relation.{Same, Even, can_be_lost, inputs}
 use Rattle.xt_simulation.specs.Nested.{IsSpare}
 use Rattle.xt_simulation.proofs.Modular.{one_place, place_below}
 use Rattle.xt_simulation.proofs.RingLemmas.{some_within}
-use Rattle.xt_simulation.proofs.Evenly.{same_sets, even_flow, even_ticked}
+use Rattle.xt_simulation.proofs.Closed.{set_own}
+use Rattle.xt_simulation.proofs.Evenly.{lost_in, same_sets, even_flow}
 
 -- ---- lists
 abbrev no_mark : Option ℕ
@@ -165,13 +164,10 @@ abbrev pub ReadsNumber : Option (ℕ × ℕ) → List (Option ℕ) → Type 0
 ReadsNumber None marks = Unit {0}
 ReadsNumber (Some p) marks = get_or marks p.0 None ≡ None
 
-abbrev pub lost_in : List Bool → ℕ → Bool
-lost_in unset n = lost_of false n || get_or unset n false
-
 moved_unset : (p : ℕ × ℕ) (marks : List (Option ℕ)) (unset : List Bool) → get_or marks p.0 None ≡ None → unset_by (Some p) marks unset ≡ set unset p.1 false
 moved_unset p marks unset none = ap (λ (o : Option ℕ). set unset p.1 (is_some o)) none
 
-lost_less : (p : ℕ × ℕ) (unset : List Bool) (k : ℕ) → lost_in (set unset p.1 false) k ≡ true → lost_in unset k ≡ true
+lost_less : (p : ℕ × ℕ) (unset : List Bool) (k : ℕ) → lost_in false (set unset p.1 false) k ≡ true → lost_in false unset k ≡ true
 lost_less p unset k e =
     ⊎_elim
     (λ first. or_left _ _ first)
@@ -181,7 +177,7 @@ lost_less p unset k e =
     (cases_eq k p.1))
     (or_cases (lost_of false k) (get_or (set unset p.1 false) k false) e)
 
-lost_other : (p : ℕ × ℕ) (unset : List Bool) (k : ℕ) → k ≢ p.1 → lost_in (set unset p.1 false) k ≡ false → lost_in unset k ≡ false
+lost_other : (p : ℕ × ℕ) (unset : List Bool) (k : ℕ) → k ≢ p.1 → lost_in false (set unset p.1 false) k ≡ false → lost_in false unset k ≡ false
 lost_other p unset k other e = ap (λ v. lost_of false k || v) (sym (get_or-set_other unset p.1 k false false other)) ∙ e
 
 set_one : (p : ℕ × ℕ) (sets : SpecialWrites) (xs ys : List ℕ) (k : ℕ) → length xs ≡ length ys → k ≡ p.1 → SetsOne (Some p) k sets → get_or (with_sets sets xs) k 0 ≡ get_or (with_sets sets ys) k 0
@@ -190,23 +186,23 @@ set_one p sets xs ys k len same one =
     subst (λ (st : SpecialWrites). get_or (with_sets st xs) k 0 ≡ get_or (with_sets st ys) k 0) (sym is.1) (set_both xs ys k is.0 len)
 
 -- a special register that is written has a number then
-pub same_moved : (o : Option (ℕ × ℕ)) (sets : SpecialWrites) (marks : List (Option ℕ)) (unset : List Bool) {xs ys : List ℕ} → Same (lost_in unset) xs ys → ReadsNumber o marks → ((n : ℕ) → is_saved n ≡ true → SetsOne o n sets)
-    → Same (lost_in (unset_by o marks unset)) (with_sets sets xs) (with_sets sets ys)
+pub same_moved : (o : Option (ℕ × ℕ)) (sets : SpecialWrites) (marks : List (Option ℕ)) (unset : List Bool) {xs ys : List ℕ} → Same (lost_in false unset) xs ys → ReadsNumber o marks → ((n : ℕ) → is_saved n ≡ true → SetsOne o n sets)
+    → Same (lost_in false (unset_by o marks unset)) (with_sets sets xs) (with_sets sets ys)
 same_moved None sets marks unset s reads saved = same_sets sets s
 same_moved (Some p) sets marks unset {xs = xs} {ys = ys} s reads saved =
     let t = same_sets sets s in
-    let now : Same (lost_in (set unset p.1 false)) (with_sets sets xs) (with_sets sets ys) = record {
+    let now : Same (lost_in false (set unset p.1 false)) (with_sets sets xs) (with_sets sets ys) = record {
       size = t.size;
       only = λ k e. s.only k (lost_less p unset k e);
       at = λ k e. ⊎_elim
           (λ same. ⊎_elim
           (λ is. set_one p sets xs ys k s.size same (saved k is))
-          (λ isnt. t.at k (false_from_ne_true (lost_in unset k) (λ h. both_ways (is_saved k) isnt (can_saved k (s.only k h)))))
+          (λ isnt. t.at k (false_from_ne_true (lost_in false unset k) (λ h. both_ways (is_saved k) isnt (can_saved k (s.only k h)))))
           (cases_Bool (is_saved k)))
           (λ other. t.at k (lost_other p unset k other e))
           (cases_eq k p.1);
     } in
-    subst (λ (u : List Bool). Same (lost_in u) (with_sets sets xs) (with_sets sets ys)) (sym (moved_unset p marks unset reads)) now
+    subst (λ (u : List Bool). Same (lost_in false u) (with_sets sets xs) (with_sets sets ys)) (sym (moved_unset p marks unset reads)) now
 
 -- ---- an effect
 pub effect_even : {lost : ℕ → Bool} (e : Effect) (len : ℕ) (c d : Control) → c.pc ≡ d.pc → Same lost (with_sets e.sets c.special) (with_sets e.sets d.special) → Even lost (after_effect e len c) (after_effect e len d)
@@ -284,20 +280,10 @@ laid_own {xs = xs} {ys = ys} e k = record {
   size = e.size ∙ sym (length-set ys k (get_or xs k 0));
   only = e.only;
   at = λ j known. ⊎_elim
-      (λ same. rw same (sym (own xs ys k e.size)))
+      (λ same. rw same (sym (set_own xs ys k e.size)))
       (λ other. e.at j known ∙ sym (get_or-set_other ys k j (get_or xs k 0) 0 other))
       (cases_eq j k);
 }
-  where
-    own : (xs ys : List ℕ) (k : ℕ) → length xs ≡ length ys → get_or (set ys k (get_or xs k 0)) k 0 ≡ get_or xs k 0
-    own xs ys k len =
-        ⊎_elim
-        (λ within. get_or-set_same ys k (get_or xs k 0) 0 (omega arith))
-        (λ past.
-        let a = get_or_past (set ys k (get_or xs k 0)) k 0 (let l = length-set ys k (get_or xs k 0) in omega arith) in
-        let b = get_or_past xs k 0 past in
-        a ∙ sym b)
-        (cases_lt k (length xs))
 
 pub even_laid : {lost : ℕ → Bool} (s : State) (f : FrameState) → Even lost s.control f.control → Even lost s.control (laid (inputs 0 s) f).control
 even_laid s f e = record {
