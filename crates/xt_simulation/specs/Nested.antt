@@ -87,7 +87,7 @@ NestedBegin =
     (code : ℕ → ℕ) → AreBytes code → (b : Bounds) → IsGood code b
     → (m : MemoryContents) (s : State) (f : FrameState) (before : State) (opened : ℕ → ℕ)
     → Handling code b m s f before opened → f.nested ≡ None → IsShaped s
-    → is_nesting (planned code s).kind ≡ true
+    → length f.unset ≡ 256 → is_nesting (planned code s).kind ≡ true
     → Suspends code b m (state_now code m s)
     (step_on code true (record_now code m s) f).after
     (as_left before (state_now code m s)) opened s
@@ -108,7 +108,7 @@ NestedStepsAreKept =
     → Suspends code b m s f before opened suspended → IsShaped s → HasSizes m
     → Agree (live_of b f others) stale m framed
     → breach_of b false code (live_of b f others) stale true (record_now code m s) f ≡ None
-    → (x : Nested) → f.nested ≡ Some x
+    → (x : Nested) → f.nested ≡ Some x → length f.unset ≡ 256 → length x.marks ≡ 16
     → Matches x.pc (record_now code m s) (step_on code true (record_now code m s) f) framed
     × Continues code b (memory_now code m s) (state_now code m s)
     (step_on code true (record_now code m s) f).after
