@@ -35,4 +35,6 @@ pub mod InnerSteps
 pub mod InnerRows
 pub mod InnerMarks
 pub mod Carried
+pub mod Taken
+pub mod Resumed
 pub mod Suspended
