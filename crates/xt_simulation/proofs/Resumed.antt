@@ -48,8 +48,8 @@ use Rattle.xt_simulation.specs.Steps.{reply_at, reply_now, record_now, state_now
 use Rattle.xt_simulation.specs.Handling.{Handling}
 use Rattle.xt_simulation.specs.Nested.{IsInside, resumed}
 use Rattle.xt_simulation.proofs.Carried.{Carries, carried, laid_length, laid_other}
-use Rattle.xt_simulation.proofs.InnerRows.{untaken}
 use Rattle.xt_simulation.proofs.Judges.{same_laid}
+use Rattle.xt_simulation.proofs.Turns.{quiet_nested}
 use Rattle.xt_simulation.proofs.Taken.{beside, laid_after, same_ticked}
 
 -- ---- the instruction
@@ -181,7 +181,7 @@ module _ {code : ℕ → ℕ} {b : Bounds} {m : MemoryContents} {s : State} {f :
   plan = e.is ∙ ap (λ (o : Outcome). done o e.len s) (back_outcome code e.i (visible s.regs s.base) s.control e.ends)
 
   quiet_g : ltb 0 (pending_of g.control) ≡ false
-  quiet_g = untaken g.control (ap (λ (p : Ps). p.excm) (sym h.even.ps) ∙ h.mode) (ap (λ (p : Ps). p.intlevel) (sym h.even.ps) ∙ h.level)
+  quiet_g = ap (ltb 0) (quiet_nested g.control (ap (λ (p : Ps). p.intlevel) (sym h.even.ps) ∙ h.level))
 
   pub ends_step : step_on code true (record_now code m s) f ≡ back_turn f g
   ends_step = back_step code (record_now code m s) e.i e.len f x g nested (same_laid code s (reply_now code m s) (inside x f) shaped.control.ps.owb_fits) e.ends quiet_g (sym h.even.waits ∙ h.running) (ap (fetched code) (sym h.even.pc) ∙ e.at)

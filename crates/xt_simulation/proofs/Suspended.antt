@@ -1,6 +1,6 @@
 -- Nested interrupts: the step that begins one, those inside, RFI 5, and the other core's accesses.
 use Rattle.std.specs.Prelude.{unwrap_or}
-use Rattle.std.proofs.Common.{◌≡◌, ◌⊎◌, ℕ, Bool, true, false, not, ◌&&◌, Option, Some, None, sym, ap, ◌∙◌, refl, arith, inl, inr, ⊎_elim, subst}
+use Rattle.std.proofs.Common.{◌≡◌, ◌⊎◌, ℕ, Bool, true, false, not, ◌&&◌, length, Option, Some, None, sym, ap, ◌∙◌, refl, arith, inl, inr, ⊎_elim, subst}
 use Rattle.std.proofs.lemmas.Bool.{not-false, or_left, or_parts}
 use Rattle.xt_isa.specs.declared.Insn.{Insn}
 use Rattle.xt_map.specs.declared.contents.MemoryContents.{MemoryContents}
@@ -31,7 +31,6 @@ use Rattle.xt_simulation.specs.Nested.{Continues, NestedAreSpared, NestedBegin, 
 use Rattle.xt_simulation.proofs.Memories.{live_kept, replies_agree}
 use Rattle.xt_simulation.proofs.Judges.{record_access, record_reply}
 use Rattle.xt_simulation.proofs.Handled.{handlers_are_spared}
-use Rattle.xt_simulation.proofs.Holes.{HasHoles, HasMarks}
 use Rattle.xt_simulation.proofs.Inner.{Inner}
 use Rattle.xt_simulation.proofs.InnerRows.{Ending, inner_step}
 use Rattle.xt_simulation.proofs.NestedSteps.{nested_areas}
@@ -158,17 +157,16 @@ module _ (code : ℕ → ℕ) (bytes : AreBytes code) (b : Bounds) (good : IsGoo
     inl (record { x = i.x; nested = i.nested; inside = i.inside; handling = past_access i.seen i.frames (carried (inner_carries i) h.handling) }),
   )
 
-  kept : HasHoles f → Kept
-  kept holes = ⊎_elim
+  kept : length f.unset ≡ 256 → length h.x.marks ≡ 16 → Kept
+  kept count spread = ⊎_elim
       (λ e. kept_ending (ends_of e))
       (λ i. kept_inner i)
-      (inner_step code bytes b m s f suspended (live_of b f others) stale h.x h.nested h.inside shaped holes none)
+      (inner_step code bytes b m s f suspended (live_of b f others) stale h.x h.nested h.inside shaped count spread none)
 
 pub nested_steps_are_kept : NestedStepsAreKept
 nested_steps_are_kept code bytes b good m framed s f before opened suspended others stale h shaped sizes agree none x nested count spread =
-    let k = kept code bytes b good m framed s f before opened suspended others stale h shaped agree none
-    (record { unset = count; marks = subst (λ (o : Option Nested). HasMarks o) (sym nested) spread }) in
-    let same : h.x ≡ x = ap (λ (o : Option Nested). unwrap_or o x) (sym h.nested ∙ nested) in (
+    let same : h.x ≡ x = ap (λ (o : Option Nested). unwrap_or o x) (sym h.nested ∙ nested) in
+    let k = kept code bytes b good m framed s f before opened suspended others stale h shaped agree none count (ap (λ (y : Nested). length y.marks) same ∙ spread) in (
       subst (λ (y : Nested). Matches y.pc (record_now code m s) (step_on code true (record_now code m s) f) framed) same k.0,
       k.1,
     )
