@@ -24,11 +24,11 @@ use Rattle.xt_handlers.specs.Vectors.{Handlers}
 use Rattle.xt_simulation.specs.Handling.{IsGood}
 use Rattle.xt_simulation.specs.Steps.{reply_at, memory_after_step, record_now, state_now, memory_now}
 use Rattle.xt_frames.specs.Judging.{Standing, Seen, Handled, Judges, Breaks}
-use Rattle.xt_simulation.specs.Walking.{Entered, World, Moved, entered_by, moved_by, move, Apart}
+use Rattle.xt_simulation.specs.Walking.{Entered, World, Moved, entered_by, entered_past, moved_by, move, Apart}
 use Rattle.xt_simulation.specs.Opening.{Openings, IsOpening, OpensAlike, bounds0, bounds1, state0, state1, frame0, frame1, memory_of, frame_of, opening_core, opening_world}
-use Rattle.xt_frames.specs.Verdict.{Known, Judgement, entry_of, judgement, opening_known, past_handled_0, past_handled_1, past_judged_0, past_judged_1, seen_0, seen_1, passed_0, passed_1, IsFrameRun}
-use Rattle.xt_simulation.specs.Headline.{StretchesMoveFrames, TurnsAreFrames, WalksAreFrames, RunsAreFrames, opening_of}
-use Rattle.xt_simulation.proofs.Walk.{both_end, InCore, Holds, moved0_keeps, moved1_keeps, move0_keeps, move1_keeps, walked_keeps, frame_run}
+use Rattle.xt_frames.specs.Verdict.{Known, Judgement, entry_of, is_nested, judgement, opening_known, past_handled_0, past_handled_1, past_judged_0, past_judged_1, seen_0, seen_1, passed_0, passed_1, IsFrameRun}
+use Rattle.xt_simulation.specs.Headline.{StretchesMoveFrames, NestedGiveBack, TurnsAreFrames, WalksAreFrames, RunsAreFrames, opening_of}
+use Rattle.xt_simulation.proofs.Walk.{both_end, InCore, Holds, moved0_keeps, moved1_keeps, move0_keeps, move1_keeps, gives0, gives1, walked_keeps, frame_run}
 use Rattle.xt_simulation.proofs.Opened.{dram_of, opening_related, stack_shaped, opening_links, opening_is_memory}
 
 pub good_of : (o : Openings) (code : ℕ → ℕ) → IsOpening o → Handlers code o.vecbase → IsGood code (bounds0 o) × IsGood code (bounds1 o)
@@ -51,8 +51,8 @@ opening_holds o code bytes i apart =
     let s1 = stack_shaped 1 o.pc1 o.vecbase o.range1 i.stack1 i.entry1 i.aligned i.vectors in
     record {
       both = record {
-        first = record { ring = []; spilled = []; related = opening_related 0 o.pc0 (bounds0 o) _ i.stack0 s0 links.0 };
-        second = record { ring = []; spilled = []; related = opening_related 1 o.pc1 (bounds1 o) _ i.stack1 s1 links.1 };
+        first = (record { ring = []; spilled = []; related = opening_related 0 o.pc0 (bounds0 o) _ i.stack0 s0 links.0 }, refl);
+        second = (record { ring = []; spilled = []; related = opening_related 1 o.pc1 (bounds1 o) _ i.stack1 s1 links.1 }, refl);
         shaped_first = s0;
         shaped_second = s1;
         real = m;
@@ -77,6 +77,14 @@ stretches_move_frames o code c cores w e =
     let f1 = frame_of (state1 o) in
     let h = walked_keeps code c.bytes (bounds0 o) (bounds1 o) good.0 good.1 c.apart (memory_of o) f0 f1 cores (opening_world o) w (opening_holds o code c.bytes c.opening c.apart) e in
     both_end code c.bytes (bounds0 o) (bounds1 o) good.0 good.1 w.core0 w.core1 w.memory (memory_after (memory_of o) w.entries) w.stale h.both
+
+pub nested_give_back : NestedGiveBack
+nested_give_back o code c cores w e =
+    let good = good_of o code c.opening c.handlers in
+    let f0 = frame_of (state0 o) in
+    let f1 = frame_of (state1 o) in
+    let h = walked_keeps code c.bytes (bounds0 o) (bounds1 o) good.0 good.1 c.apart (memory_of o) f0 f1 cores (opening_world o) w (opening_holds o code c.bytes c.opening c.apart) e in
+    (gives0 code c.bytes (bounds0 o) (bounds1 o) good.0 good.1 c.apart (memory_of o) f0 f1 w h, gives1 code c.bytes (bounds0 o) (bounds1 o) good.0 good.1 c.apart (memory_of o) f0 f1 w h)
 
 -- ---- a run of the processor beside the judge
 same_answer : (o : Option Access) (m : MemoryContents) → answer o m ≡ reply_at m o
@@ -125,7 +133,7 @@ module _ (code : ℕ → ℕ) where
     frame_run_of w k (e0, e1, h) = record { first = h.leads0.trace; second = h.leads1.trace; legal = h.legal }
 
     -- the next state and memory are those of the run
-    given0 : (w : worlds.World State) (e0 e1 : Entered) (standing : Standing) (stale : ℕ → Bool) (judged : List StepRecord) (entries : List Entry) (k : Known) → 0 < w.core0.left
+    given0 : (w : worlds.World State) (e0 e1 : Entered) (standing : Standing) (stale : ℕ → Bool) (judged : List (Bool × StepRecord)) (entries : List Entry) (k : Known) → 0 < w.core0.left
         → Holds code bytes b0 b1 opening f0 f1 (record { core0 = record { state = state_now code w.line.memory w.core0.state; entered = e0; standing = standing; judged = judged }; core1 = (world_of w k e0 e1).core1; memory = memory_now code w.line.memory w.core0.state; stale = stale; entries = entries })
         → Holds code bytes b0 b1 opening f0 f1 (record { core0 = record { state = (give (processor code) 0 w).core0.state; entered = e0; standing = standing; judged = judged }; core1 = (world_of w k e0 e1).core1; memory = (give (processor code) 0 w).line.memory; stale = stale; entries = entries })
     given0 w e0 e1 standing stale judged entries k pos h =
@@ -133,7 +141,7 @@ module _ (code : ℕ → ℕ) where
         let R : MemoryContents → Type 0 = λ m. Holds code bytes b0 b1 opening f0 f1 (record { core0 = record { state = (give (processor code) 0 w).core0.state; entered = e0; standing = standing; judged = judged }; core1 = (world_of w k e0 e1).core1; memory = m; stale = stale; entries = entries }) in
         subst R (sym (line_next 0 w.core0 w.line w.core0.left pos)) (subst Q (sym (core_next w.core0 w.line w.core0.left refl pos)) h)
 
-    given1 : (w : worlds.World State) (e0 e1 : Entered) (standing : Standing) (stale : ℕ → Bool) (judged : List StepRecord) (entries : List Entry) (k : Known) → 0 < w.core1.left
+    given1 : (w : worlds.World State) (e0 e1 : Entered) (standing : Standing) (stale : ℕ → Bool) (judged : List (Bool × StepRecord)) (entries : List Entry) (k : Known) → 0 < w.core1.left
         → Holds code bytes b0 b1 opening f0 f1 (record { core0 = (world_of w k e0 e1).core0; core1 = record { state = state_now code w.line.memory w.core1.state; entered = e1; standing = standing; judged = judged }; memory = memory_now code w.line.memory w.core1.state; stale = stale; entries = entries })
         → Holds code bytes b0 b1 opening f0 f1 (record { core0 = (world_of w k e0 e1).core0; core1 = record { state = (give (processor code) 1 w).core1.state; entered = e1; standing = standing; judged = judged }; memory = (give (processor code) 1 w).line.memory; stale = stale; entries = entries })
     given1 w e0 e1 standing stale judged entries k pos h =
@@ -161,9 +169,10 @@ module _ (code : ℕ → ℕ) where
     step0 w k (e0, e1, h) pos (Judges standing stale) e rest more =
         let s = w.core0.state in
         let rec = record_now code w.line.memory s in
-        let x : Moved = record { mine = record { state = state_now code w.line.memory s; entered = e0; standing = standing; judged = k.judged0 ++ rec ∷ [] }; stale = stale; entries = entry_of 0 rec.access rec.reply } in
+        let at : Entered = entered_past k.standing0.mode s w.line.memory (state_now code w.line.memory s) e0 in
+        let x : Moved = record { mine = record { state = state_now code w.line.memory s; entered = at; standing = standing; judged = k.judged0 ++ (is_nested k.standing0.mode, rec) ∷ [] }; stale = stale; entries = entry_of 0 rec.access rec.reply } in
         let m = passed0 w k e0 e1 x h (ap (λ o. moved_by o 0 (world_of w k e0 e1).core0 w.line.memory (state_now code w.line.memory s) rec k.stale) e) in
-        more (past_judged_0 standing stale rec k) (e0, e1, given0 w e0 e1 standing stale (k.judged0 ++ rec ∷ []) (k.entries ++ entry_of 0 rec.access rec.reply) k pos m)
+        more (past_judged_0 standing stale rec k) (at, e1, given0 w at e1 standing stale (k.judged0 ++ (is_nested k.standing0.mode, rec) ∷ []) (k.entries ++ entry_of 0 rec.access rec.reply) k pos m)
 
     step1 : (w : worlds.World State) (k : Known) → Stands w k → 0 < w.core1.left → (o : Seen) → seen_1 code b0 b1 k (record_now code w.line.memory w.core1.state) ≡ o → (rest : Known → Judgement)
         → ((n : Known) → Stands (give (processor code) 1 w) n → IsFrameRun code opening f0 f1 (rest n).known)
@@ -178,9 +187,10 @@ module _ (code : ℕ → ℕ) where
     step1 w k (e0, e1, h) pos (Judges standing stale) e rest more =
         let s = w.core1.state in
         let rec = record_now code w.line.memory s in
-        let x : Moved = record { mine = record { state = state_now code w.line.memory s; entered = e1; standing = standing; judged = k.judged1 ++ rec ∷ [] }; stale = stale; entries = entry_of 1 rec.access rec.reply } in
+        let at : Entered = entered_past k.standing1.mode s w.line.memory (state_now code w.line.memory s) e1 in
+        let x : Moved = record { mine = record { state = state_now code w.line.memory s; entered = at; standing = standing; judged = k.judged1 ++ (is_nested k.standing1.mode, rec) ∷ [] }; stale = stale; entries = entry_of 1 rec.access rec.reply } in
         let m = passed1 w k e0 e1 x h (ap (λ o. moved_by o 1 (world_of w k e0 e1).core1 w.line.memory (state_now code w.line.memory s) rec k.stale) e) in
-        more (past_judged_1 standing stale rec k) (e0, e1, given1 w e0 e1 standing stale (k.judged1 ++ rec ∷ []) (k.entries ++ entry_of 1 rec.access rec.reply) k pos m)
+        more (past_judged_1 standing stale rec k) (e0, at, given1 w e0 at standing stale (k.judged1 ++ (is_nested k.standing1.mode, rec) ∷ []) (k.entries ++ entry_of 1 rec.access rec.reply) k pos m)
 
     run_judged : (cores : List ℕ) (w : worlds.World State) (k : Known) (xs ys : List StepRecord) → Stands w k → IsWalk (processor code) cores w xs ys → IsFrameRun code opening f0 f1 (judgement code b0 b1 cores xs ys k).known
     run_judged [] w k xs ys h walk = frame_run_of w k h

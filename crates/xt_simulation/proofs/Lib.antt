@@ -26,6 +26,7 @@ pub mod Headline
 pub mod Judges
 pub mod Opened
 pub mod Served
+pub mod NestedSteps
 pub mod Walk
 pub mod Positions
 pub mod Images

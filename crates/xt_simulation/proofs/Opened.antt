@@ -1,7 +1,7 @@
 -- The opening states are related.
-use Rattle.std.proofs.Common.{◌≡◌, ℕ, zero, suc, ◌+◌, ◌-◌, ◌%◌, ◌^◌, ◌<◌, ◌≤◌, ◌⊎◌, Bool, true, false, eqb, List, [], ◌∷◌, Option, Some, None, ap, ◌∙◌, refl, arith, inl, inr, ⊎_elim, subst, length, get_or, cond, replicate}
+use Rattle.std.proofs.Common.{◌≡◌, ℕ, zero, suc, ◌+◌, ◌-◌, ◌%◌, ◌^◌, ◌<◌, ◌≤◌, ◌⊎◌, Bool, true, false, eqb, List, [], ◌∷◌, Option, Some, None, sym, ap, ◌∙◌, refl, arith, inl, inr, ⊎_elim, subst, length, get_or, cond, replicate}
 use Rattle.std.proofs.Math.ListN.{set}
-use Rattle.std.proofs.lemmas.Bool.{agree_below_at, cases_lt}
+use Rattle.std.proofs.lemmas.Bool.{agree_below_at, and_right, cases_lt, false≢true, or_from}
 use Rattle.std.proofs.lemmas.List.{get_or_past, get_or-set_same, length-set, length-replicate, get_or-replicate}
 use Rattle.xt_map.specs.declared.segment.Segment.{Segment}
 use Rattle.xt_map.specs.declared.contents.MemoryContents.{MemoryContents}
@@ -20,10 +20,10 @@ use Rattle.xt_exec.proofs.Shapes.{opening_shaped}
 use Rattle.xt_frames.specs.Frames.{known}
 use Rattle.xt_frames.specs.SaveAreas.{Range}
 use Rattle.xt_frames.specs.Breaches.{lost_of, Bounds}
+use Rattle.xt_frames.specs.Frames.{all_set}
 use Rattle.xt_frames.specs.Stacks.{IsRange}
-use Rattle.xt_simulation.specs.Relation.{Level}
+use Rattle.xt_simulation.specs.Relation.{Level, lost_at, can_be_lost}
 use Rattle.xt_simulation.specs.Cores.{word, Related}
-use Rattle.xt_simulation.proofs.Evenly.{only_epc1}
 use Rattle.xt_simulation.proofs.RingLemmas.{some_within}
 use Rattle.xt_stretch.specs.Running.{with_word, is_access}
 use Rattle.xt_stretch.specs.Machines.{word_at}
@@ -53,6 +53,17 @@ opening_vecbase : (prid vecbase : ℕ) → get_or (opening_special prid vecbase)
 unfolding opening_special no_special
 opening_vecbase prid vecbase = get_or-set_same (set no_special 235 prid) 231 vecbase 0 (let l = length-set no_special 235 prid in let r = length-replicate {A = ℕ} 256 0 in omega arith)
 
+-- ---- no special register is lost
+all_false : (n i : ℕ) → get_or (replicate n false) i false ≡ false
+all_false n i = ⊎_elim (λ h. get_or-replicate {A = Bool} n i false false h) (λ h. let xs : List Bool = replicate n false in get_or_past xs i false (let l = length-replicate {A = Bool} n false in omega arith)) (cases_lt i n)
+
+none_unset : (k : ℕ) → get_or all_set k false ≡ false
+unfolding all_set
+none_unset k = all_false 256 k
+
+none_lost : (s : State) (k : ℕ) → lost_at true (frame_of s) k ≡ false
+none_lost s k = or_from (lost_of true k) (get_or all_set k false) (and_right (eqb k 177) false refl) (none_unset k)
+
 module _ (core pc vecbase hi : ℕ) where
   abbrev s : State
   s = opening_state core pc vecbase hi
@@ -65,7 +76,7 @@ module _ (core pc vecbase hi : ℕ) where
   unfolding opening_state opening_regs cleared_regs
   opening_sp = refl
 
-  opening_level : length s.regs ≡ 64 → Level vecbase (lost_of true) s (frame_of s) [] []
+  opening_level : length s.regs ≡ 64 → Level vecbase (lost_at true (frame_of s)) s (frame_of s) [] []
   opening_level size =
       let zero_base = opens_at.0 in
       let one = opens_at.1 in
@@ -89,7 +100,7 @@ module _ (core pc vecbase hi : ℕ) where
         };
         frames = refl;
         older = tt;
-        even = record { pc = refl; ps = refl; threadptr = refl; waits = refl; special = record { size = refl; only = only_epc1 true; at = λ k h. refl } };
+        even = record { pc = refl; ps = refl; threadptr = refl; waits = refl; special = record { size = refl; only = λ k h. absurd (false≢true (sym (none_lost s k) ∙ h)); at = λ k h. refl } };
         woe = ap (λ (c : Control). c.ps.woe) control;
         calls = (let e : s.control.ps.callinc ≡ 2 = ap (λ (c : Control). c.ps.callinc) control in omega arith);
         vectors = ap (λ (c : Control). special_of c 231) control ∙ opening_vecbase (prid_of core) vecbase;
@@ -102,7 +113,7 @@ pub dram_of : (b : Bounds) → IsStack b.range → InDram b
 dram_of b i = record { low = i.low; high = i.high }
 
 pub opening_related : (core pc : ℕ) (b : Bounds) (m : ℕ → ℕ) → IsStack b.range → IsShaped (opening_state core pc b.vecbase b.range.hi) → word m (b.range.hi - 76) ≡ b.range.hi
-    → Related m b (lost_of true) (opening_state core pc b.vecbase b.range.hi) (frame_of (opening_state core pc b.vecbase b.range.hi)) [] []
+    → Related m b (lost_at true (frame_of (opening_state core pc b.vecbase b.range.hi))) (opening_state core pc b.vecbase b.range.hi) (frame_of (opening_state core pc b.vecbase b.range.hi)) [] []
 opening_related core pc b m i shaped link =
     let sp = opening_sp core pc b.vecbase b.range.hi in
     record {

@@ -9,8 +9,8 @@ use Rattle.xt_exec.specs.State.{State}
 use Rattle.xt_exec.specs.Turn.{Planned, demand, turn}
 use Rattle.xt_frames.specs.Frames.{Frame, FrameState}
 use Rattle.xt_frames.specs.FrameStep.{FrameTurn, laid_step}
-use Rattle.xt_frames.specs.Breaches.{lost_of, Bounds, fetched_tests, laid_breach, touches_save_area, loads_stale}
-use Rattle.xt_simulation.specs.Relation.{Level}
+use Rattle.xt_frames.specs.Breaches.{Bounds, fetched_tests, laid_breach, touches_save_area, loads_stale}
+use Rattle.xt_simulation.specs.Relation.{Level, lost_at}
 use Rattle.xt_frames.proofs.Shown.{NoneShown, none_shown}
 use Rattle.xt_exec.proofs.Finished.{turn_taken, turn_waits}
 use Rattle.xt_simulation.proofs.Evenly.{same_pending}
@@ -20,15 +20,15 @@ use Rattle.xt_simulation.proofs.Whole.{breach_fetches}
 abbrev pub Keeps : (ℕ → Bool) → (ℕ → Bool) → Option Access → Type 0
 Keeps live stale o = (touches_save_area live o ≡ false) × (loads_stale live stale o ≡ false)
 
-tests_keep : (b : Bounds) (fresh : Bool) (live stale : ℕ → Bool) (at : Fetched) (rec : StepRecord) (g : FrameState) (u : FrameTurn) → NoneShown (fetched_tests b fresh live stale at rec g u) → Keeps live stale rec.access
-tests_keep b fresh live stale (Fetches i len) rec g u (unset, (written, (size, (low, (align, (opens, (mismatch, (caller, (saves, (loads, more)))))))))) = (saves, loads)
-tests_keep b fresh live stale (Fails address) rec g u (saves, (loads, more)) = (saves, loads)
-tests_keep b fresh live stale SpellsNothing rec g u (saves, (loads, more)) = (saves, loads)
+pub areas_fetched : (b : Bounds) (fresh : Bool) (live stale : ℕ → Bool) (at : Fetched) (rec : StepRecord) (g : FrameState) (u : FrameTurn) → NoneShown (fetched_tests b fresh live stale at rec g u) → Keeps live stale rec.access
+areas_fetched b fresh live stale (Fetches i len) rec g u (unset, (written, (size, (low, (align, (opens, (mismatch, (caller, (saves, (loads, more)))))))))) = (saves, loads)
+areas_fetched b fresh live stale (Fails address) rec g u (saves, (loads, more)) = (saves, loads)
+areas_fetched b fresh live stale SpellsNothing rec g u (saves, (loads, more)) = (saves, loads)
 
 none_asked : (live stale : ℕ → Bool) (o : Option Access) → o ≡ None → Keeps live stale o
 none_asked live stale o e = rw e (refl, refl)
 
-pub areas_kept : (code : ℕ → ℕ) (b : Bounds) (fresh : Bool) (live stale : ℕ → Bool) (s : State) (g : FrameState) (ring spilled : List Frame) (reply : ℕ) → Level b.vecbase (lost_of fresh) s g ring spilled → laid_breach b fresh code live stale (turn code s reply).0 g ≡ None → Keeps live stale (demand code s)
+pub areas_kept : (code : ℕ → ℕ) (b : Bounds) (fresh : Bool) (live stale : ℕ → Bool) (s : State) (g : FrameState) (ring spilled : List Frame) (reply : ℕ) → Level b.vecbase (lost_at fresh g) s g ring spilled → laid_breach b fresh code live stale (turn code s reply).0 g ≡ None → Keeps live stale (demand code s)
 unfolding turn demand
 areas_kept code b fresh live stale s g ring spilled reply l none =
     let p = same_pending s.control g.control l.even in
@@ -42,6 +42,6 @@ areas_kept code b fresh live stale s g ring spilled reply l none =
     let w_g = sym l.even.waits ∙ w in
     let rec = (turn code s reply).0 in
     let f = breach_fetches b fresh code live stale rec g no_g w_g in
-    tests_keep b fresh live stale (fetched code g.control.pc) rec g (laid_step code rec.reply g) (none_shown (fetched_tests b fresh live stale (fetched code g.control.pc) rec g (laid_step code rec.reply g)) (sym f ∙ none)))
+    areas_fetched b fresh live stale (fetched code g.control.pc) rec g (laid_step code rec.reply g) (none_shown (fetched_tests b fresh live stale (fetched code g.control.pc) rec g (laid_step code rec.reply g)) (sym f ∙ none)))
     (cases_Bool s.control.waits))
     (cases_Bool (ltb 0 (pending_of s.control)))

@@ -4,7 +4,7 @@
 ghost use Rattle.xt_simulation.specs.Closing.{FillsKeepPlain, SpillsKeepPlain};
 ghost use Rattle.xt_simulation.specs.Cores.{LiveInRange, SavedInAreas};
 ghost use Rattle.xt_simulation.specs.HandlerLaws.{HandlerStepsAreKept, HandlersAreSpared, StretchesAreEntered};
-ghost use Rattle.xt_simulation.specs.Headline.{RunsAreFrames, SixSuffice, StretchesMoveFrames, StretchesOfImages, StretchesOfRuns, TurnsAreFrames, WalksAreFrames, WindowsAreFrames};
+ghost use Rattle.xt_simulation.specs.Headline.{NestedGiveBack, RunsAreFrames, SixSuffice, StretchesMoveFrames, StretchesOfImages, StretchesOfRuns, TurnsAreFrames, WalksAreFrames, WindowsAreFrames};
 ghost use Rattle.xt_simulation.specs.Opening.{OpensAlike};
 ghost use Rattle.xt_simulation.specs.JudgedSteps.{KeepsLevel, KeepsStack};
 ghost use Rattle.xt_simulation.specs.Relation.{EntersWindow};
@@ -117,6 +117,13 @@ pub fn turns_are_frames()
 /// the frame's save words.
 pub fn stretches_move_frames()
     ensures { StretchesMoveFrames }
+{}
+
+/// And where a core's turn ends a nested interrupt and shows no breach, the window handler goes on as
+/// it was: a0 to a3, EPC1, PS, the window and the live bytes of the core are those that the interrupt
+/// found.
+pub fn nested_give_back()
+    ensures { NestedGiveBack }
 {}
 
 /// A walk with the records of both traces judges a frame run.

@@ -1,0 +1,417 @@
+-- What a nested step leaves, as the walk over both cores asks it: of the record that begins a nested interrupt, of a step of it, and of
+-- RFI 5.
+use Rattle.std.specs.Prelude.{is_some}
+use Rattle.std.proofs.Common.{◌≡◌, ℕ, zero, suc, ◌<◌, Bool, true, false, ◌&&◌, ◌||◌, not, cond, eqb, ltb, List, [], ◌∷◌, Option, Some, None, sym, ap, ◌∙◌, refl, arith, inl, inr, ⊎_elim, subst, get_or}
+use Rattle.std.proofs.lemmas.Bool.{cond-true, cond-false, cases_Bool, and_right, and_parts, or_parts, or_from, not-false, eqb-true, false≢true, false_from_ne_true}
+use Rattle.xt_isa.specs.declared.Insn.{Insn}
+use Rattle.xt_isa.specs.declared.Insn.TheVariants as insn
+use Rattle.xt_isa.specs.declared.system.System.TheVariants as system
+use Rattle.xt_map.specs.declared.contents.MemoryContents.{MemoryContents}
+use Rattle.xt_map.specs.Memory.{byte_at}
+use Rattle.xt_special.specs.declared.ps.Ps.{Ps}
+use Rattle.xt_special.specs.Numbers as number
+use Rattle.xt_special.specs.Shape.{IsPs}
+use Rattle.xt_special.specs.Control.{Control, special_of, ps_of, ps_word}
+use Rattle.xt_special.specs.Interrupts.{pending_of, pending_level}
+use Rattle.xt_special.proofs.PsWords.{of_word_of_fields}
+use Rattle.xt_window.specs.Ring.{visible}
+use Rattle.xt_trace.specs.declared.record.StepRecord.{StepRecord}
+use Rattle.xt_trace.specs.declared.record.StepKind.{StepKind}
+use Rattle.xt_trace.specs.declared.record.StepKind.TheVariants as kind
+use Rattle.xt_rows.specs.declared.outcome.Outcome.{Outcome}
+use Rattle.xt_rows.specs.declared.outcome.Outcome.TheVariants.{Does, Windowed}
+use Rattle.xt_rows.specs.declared.outcome.WindowStep.{WindowStep}
+use Rattle.xt_rows.specs.declared.outcome.WindowStep.TheVariants.{Enters, Returns, EndsOverflow, EndsUnderflow, MovesStack}
+use Rattle.xt_rows.specs.Numbers.{natural}
+use Rattle.xt_rows.specs.Effects.{illegal_instruction}
+use Rattle.xt_rows.specs.Operands.{special_reads}
+use Rattle.xt_rows.specs.Outcomes.{outcome, system_outcome, outcome_at}
+use Rattle.xt_rows.specs.Settling.{after_effect, settled_interrupt, return_size}
+use Rattle.xt_fetch.specs.Fetching.{Fetched, Fetches, Fails, SpellsNothing, fetched}
+use Rattle.xt_exec.specs.State.{State}
+use Rattle.xt_exec.specs.Laws.{IsShaped}
+use Rattle.xt_exec.specs.Turn.{Planned, planned, demand, turn, in_window, windowed, entered, returned, resumed, overflow, underflow, moved_stack, done, checked, fetched_turn, is_illegal, raises, window_check, has_windows, looks, with_write, written, reply_where}
+use Rattle.xt_exec.proofs.Finished.{turn_taken, turn_waits, turn_fetches}
+use Rattle.xt_window.specs.Ring.{bit, ahead}
+use Rattle.xt_window.specs.Moves.{base_after_return, behind}
+use Rattle.xt_frames.specs.declared.holes.Nested.{Nested}
+use Rattle.xt_frames.specs.declared.kinds.BreachKind.{BreachKind}
+use Rattle.xt_frames.specs.Frames.{Frame, FrameState, known}
+use Rattle.xt_frames.specs.FrameStep.{FrameTurn, laid, laid_step, pushed, popped, popped_from, windowed_in_frame, done_in_frame, fetched_step}
+use Rattle.xt_frames.specs.Marks.{are_own_marks, is_mark}
+use Rattle.xt_frames.specs.Nesting.{begins, begun, current, current_in, disturbs_nested, ends_nested, inside, is_nesting, nested_fetched, nested_level, nested_turn}
+use Rattle.xt_frames.specs.SaveAreas.{Range, areas, covers_byte, is_live}
+use Rattle.xt_frames.specs.HandlerSteps.{closes, returns, fetched_returns}
+use Rattle.xt_frames.specs.Breaches.{Bounds, inputs_of, laid_breach, breach_of, fetched_tests, fetched_sets_epc1, writes_epc1, fresh_after, loses_epc1, breaks_nested, reads_epc1, sets_epc1, is_exception, touches_save_area, loads_stale}
+use Rattle.xt_frames.specs.Judging.{fresh_on, step_on, value_in, place_on}
+use Rattle.xt_frames.proofs.Inside.{step_inside, step_plain, fresh_inside, fresh_begun}
+use Rattle.xt_frames.proofs.Shown.{NoneShown, none_shown, Sound, sound}
+use Rattle.xt_simulation.specs.Relation.{inputs, lost_at, Even}
+use Rattle.xt_simulation.specs.Steps.{reply_at, reply_now, record_now, state_now, memory_now}
+use Rattle.xt_simulation.specs.Memories.{KeepsAreas}
+use Rattle.xt_simulation.specs.Judges.{Matches}
+use Rattle.xt_simulation.specs.Nested.{IsInside, Suspends, marked}
+use Rattle.xt_simulation.proofs.Memories.{keeps_from}
+use Rattle.xt_simulation.proofs.Judges.{same_laid, record_access}
+use Rattle.xt_simulation.proofs.Served.{areas_fetched}
+use Rattle.xt_simulation.proofs.Whole.{breach_fetches}
+
+-- ---- the save areas of the frame state are as they were
+abbrev pub Still : FrameState → FrameTurn → Type 0
+Still f u = (u.after.seen ≡ f.seen) × (u.after.frames ≡ f.frames)
+
+pub same_live : (r : Range) (f : FrameState) (u : FrameTurn) (a : ℕ) → Still f u → is_live r u.after a ≡ is_live r f a
+same_live r f u a e = ap (λ (x : List (Option ℕ)). covers_byte (areas r.hi (known x 1) 1 u.after.frames) a) e.0 ∙ ap (λ (x : List Frame). covers_byte (areas r.hi (known f.seen 1) 1 x) a) e.1
+
+if_still : (b : Bool) (f : FrameState) (u v : FrameTurn) → Still f u → Still f v → Still f (cond b u v)
+if_still true f u v p q = p
+if_still false f u v p q = q
+
+still_fetched : (at : Fetched) (value : ℕ) (x : Nested) (f : FrameState) (u : FrameTurn) → Still f (nested_fetched at value x f u)
+still_fetched (Fetches i len) value x f u = if_still (ends_nested i) f _ _ (refl, refl) (refl, refl)
+still_fetched (Fails address) value x f u = (refl, refl)
+still_fetched SpellsNothing value x f u = (refl, refl)
+
+pub still_inside : (code : ℕ → ℕ) (rec : StepRecord) (f : FrameState) (x : Nested) → f.nested ≡ Some x → Still f (step_on code true rec f)
+still_inside code rec f x e = subst (Still f) (sym (step_inside code true rec f x e)) (still_fetched (fetched code (laid (inputs_of rec) (inside x f)).control.pc) (value_in rec.write) x f (laid_step code rec.reply (laid (inputs_of rec) (inside x f))))
+
+-- ---- outside nested interrupts
+pub place_plain : (rec : StepRecord) (f : FrameState) → f.nested ≡ None → place_on false rec f ≡ f.control.pc
+place_plain rec f e = ap (λ (o : Option Nested). (current_in o f).control.pc) e
+
+pub place_inside : (rec : StepRecord) (f : FrameState) (x : Nested) → f.nested ≡ Some x → place_on true rec f ≡ x.pc
+place_inside rec f x e =
+    ap (λ (o : Option Nested). cond (true && (is_nesting rec.kind && not (is_some o))) rec.pc (current_in o f).control.pc) e
+    ∙ ap (λ b. cond b rec.pc x.pc) (and_right (is_nesting rec.kind) false refl)
+
+turn_keeps : (b : Bool) (g : FrameState) (u v : FrameTurn) → u.after.nested ≡ g.nested → v.after.nested ≡ g.nested → (cond b u v).after.nested ≡ g.nested
+turn_keeps true g u v p q = p
+turn_keeps false g u v p q = q
+
+popped_keeps : (frames : List Frame) (a0 : ℕ) (g : FrameState) → (popped_from frames a0 g).after.nested ≡ g.nested
+popped_keeps [] a0 g = refl
+popped_keeps (f ∷ rest) a0 g = refl
+
+windowed_keeps : (step : WindowStep) (len reply : ℕ) (g : FrameState) → (windowed_in_frame step len reply g).after.nested ≡ g.nested
+unfolding pushed popped
+windowed_keeps (Enters number value) len reply g = turn_keeps g.control.ps.excm g _ _ refl refl
+windowed_keeps (Returns a0) len reply g = turn_keeps g.control.ps.excm g _ _ refl (popped_keeps g.frames a0 g)
+windowed_keeps _ len reply g = refl
+
+done_keeps : (o : Outcome) (len reply : ℕ) (g : FrameState) → (done_in_frame o len reply g).after.nested ≡ g.nested
+done_keeps (Windowed step) len reply g = windowed_keeps step len reply g
+done_keeps _ len reply g = refl
+
+fetched_keeps : (at : Fetched) (code : ℕ → ℕ) (reply : ℕ) (g : FrameState) → (fetched_step at code reply g).after.nested ≡ g.nested
+fetched_keeps (Fetches i len) code reply g = done_keeps (outcome_at code i (known g.seen) g.control) len reply g
+fetched_keeps (Fails address) code reply g = refl
+fetched_keeps SpellsNothing code reply g = refl
+
+step_keeps : (code : ℕ → ℕ) (reply : ℕ) (g : FrameState) → (laid_step code reply g).after.nested ≡ g.nested
+unfolding laid_step
+step_keeps code reply g = turn_keeps (ltb 0 (pending_of g.control)) g _ _ refl (turn_keeps g.control.waits g _ _ refl (fetched_keeps (fetched code g.control.pc) code reply g))
+
+pub nested_plain : (code : ℕ → ℕ) (rec : StepRecord) (f : FrameState) → f.nested ≡ None → (step_on code false rec f).after.nested ≡ None
+nested_plain code rec f e = ap (λ (u : FrameTurn). u.after.nested) (step_plain code rec f e) ∙ (step_keeps code rec.reply (laid (inputs_of rec) f) ∙ e)
+
+-- ---- RFI 5 alone ends one
+pub some_none : {X : Type 0} (x : X) → Some x ≡ None → ⊥
+some_none x e = cc
+
+if_ends : (b : Bool) (u v : FrameTurn) → b ≡ true → u.after.nested ≡ None → (cond b u v).after.nested ≡ None
+if_ends true u v e n = n
+if_ends false u v e n = absurd cc
+
+if_open : (b : Bool) (u v : FrameTurn) (y : Nested) → b ≡ false → v.after.nested ≡ Some y → (cond b u v).after.nested ≡ None → ⊥
+if_open true u v y e s n = cc
+if_open false u v y e s n = cc
+
+ended_fetched : (at : Fetched) (value : ℕ) (x : Nested) (f : FrameState) (u : FrameTurn) → fetched_returns at ≡ true → (nested_fetched at value x f u).after.nested ≡ None
+ended_fetched (Fetches i len) value x f u e = if_ends (ends_nested i) _ _ e refl
+ended_fetched (Fails address) value x f u e = absurd cc
+ended_fetched SpellsNothing value x f u e = absurd cc
+
+open_fetched : (at : Fetched) (value : ℕ) (x : Nested) (f : FrameState) (u : FrameTurn) → fetched_returns at ≡ false → (nested_fetched at value x f u).after.nested ≡ None → ⊥
+open_fetched (Fetches i len) value x f u e n = if_open (ends_nested i) _ _ _ e refl n
+open_fetched (Fails address) value x f u e n = cc
+open_fetched SpellsNothing value x f u e n = cc
+
+returns_fetched : (code : ℕ → ℕ) (k : StepKind) (pc : ℕ) → returns code k pc ≡ true → fetched_returns (fetched code pc) ≡ true
+returns_fetched code kind.Insn pc e = e
+returns_fetched code _ pc e = absurd cc
+
+pub closes_plain : (code : ℕ → ℕ) (k : StepKind) (pc : ℕ) → closes code k pc ≡ true → is_nesting k ≡ false
+closes_plain code kind.Insn pc e = refl
+closes_plain code _ pc e = absurd cc
+
+-- ---- no interrupt is taken inside one
+three_false : (b c d : Bool) → cond (b && false) 5 (cond (c && false) 3 (cond (d && false) 1 0)) ≡ 0
+three_false true true true = refl
+three_false true true false = refl
+three_false true false true = refl
+three_false true false false = refl
+three_false false true true = refl
+three_false false true false = refl
+three_false false false true = refl
+three_false false false false = refl
+
+quiet_level : (interrupt enabled : ℕ) (ps : Ps) → ps.excm ≡ true → ps.intlevel ≡ 5 → pending_level interrupt enabled ps ≡ 0
+unfolding pending_level
+quiet_level interrupt enabled ps e l = rw (e, l) (three_false _ _ _)
+
+pub quiet_inside : (c : Control) → c.ps.excm ≡ true → c.ps.intlevel ≡ 5 → ltb 0 (pending_of c) ≡ false
+quiet_inside c e l = let p = quiet_level (special_of c number.interrupt) (special_of c number.intenable) c.ps e l in rw p refl
+
+-- ---- what RFI 5 leaves
+record Goes (s : State) (p : Planned) : Type 0 where
+  kind : p.kind ≡ kind.Insn
+  write : (reply : ℕ) → written p.write p.awaited reply ≡ None
+  regs : p.after.regs ≡ s.regs
+  base : p.after.base ≡ s.base
+  start : p.after.start ≡ s.start
+  ps : p.after.control.ps ≡ ps_of (special_of s.control (number.eps nested_level))
+
+rfi_goes : (code : ℕ → ℕ) (i : Insn) (len : ℕ) (s : State) → ends_nested i ≡ true → Goes s (done (outcome_at code i (visible s.regs s.base) s.control) len s)
+unfolding ends_nested outcome system_outcome special_reads after_effect
+rfi_goes code (insn.System (system.Rfi level)) len s e =
+    let five : natural level ≡ nested_level = eqb-true _ _ e in
+    record { kind = refl; write = λ reply. refl; regs = refl; base = refl; start = refl; ps = ap (λ n. ps_of (special_of s.control (number.eps n))) five }
+rfi_goes code _ len s e = absurd cc
+
+rfi_legal : (i : Insn) (s : State) → ends_nested i ≡ true → is_illegal i s ≡ false
+unfolding ends_nested is_illegal
+rfi_legal (insn.System (system.Rfi level)) s e = refl
+rfi_legal _ s e = absurd cc
+
+no_windows : (ps : Ps) → ps.excm ≡ true → has_windows ps ≡ false
+no_windows ps e = rw e (and_right ps.woe false refl)
+
+goes_now : (code : ℕ → ℕ) (s : State) (at : Fetched) → s.control.ps.excm ≡ true → ltb 0 (pending_of s.control) ≡ false → s.control.waits ≡ false → fetched code s.control.pc ≡ at → fetched_returns at ≡ true → Goes s (planned code s)
+goes_now code s (Fetches i len) e quiet running at ends =
+    let unchecked : window_check i s ≡ 0 = cond-false (has_windows s.control.ps) (ahead s.start s.base (looks i s.control.ps)) 0 (no_windows s.control.ps e) in
+    let is : planned code s ≡ done (outcome_at code i (visible s.regs s.base) s.control) len s =
+    turn_fetches code s quiet running
+    ∙ (ap (λ f. fetched_turn f code s) at
+    ∙ (cond-false (is_illegal i s) (raises illegal_instruction s) (checked (window_check i s) code i len s) (rfi_legal i s ends)
+    ∙ ap (λ k. checked k code i len s) unchecked)) in
+    subst (Goes s) (sym is) (rfi_goes code i len s ends)
+goes_now code s (Fails address) e quiet running at ends = absurd cc
+goes_now code s SpellsNothing e quiet running at ends = absurd cc
+
+pub record Back (s t suspended : State) : Type 0 where
+  pub regs : t.regs ≡ s.regs
+  pub base : t.base ≡ suspended.base
+  pub start : t.start ≡ suspended.start
+  pub ps : t.control.ps ≡ suspended.control.ps
+
+back_now : (code : ℕ → ℕ) (s suspended : State) (reply : ℕ) → Goes s (planned code s) → s.base ≡ suspended.base → s.start ≡ suspended.start → special_of s.control (number.eps nested_level) ≡ ps_word suspended.control.ps → IsPs suspended.control.ps → Back s (turn code s reply).1 suspended
+unfolding turn
+back_now code s suspended reply g base start eps is =
+    let p = planned code s in
+    let none : with_write (written p.write p.awaited reply) p.after ≡ p.after = ap (λ (o : _). with_write o p.after) (g.write reply) in
+    record {
+      regs = ap (λ (t : State). t.regs) none ∙ g.regs;
+      base = ap (λ (t : State). t.base) none ∙ (g.base ∙ base);
+      start = ap (λ (t : State). t.start) none ∙ (g.start ∙ start);
+      ps = ap (λ (t : State). t.control.ps) none ∙ (g.ps ∙ (ap ps_of eps ∙ of_word_of_fields suspended.control.ps is));
+    }
+
+-- ---- the record that begins one
+plan_if : (b : Bool) (p q : Planned) → is_nesting p.kind ≡ false → is_nesting q.kind ≡ false → is_nesting (cond b p q).kind ≡ false
+plan_if true p q e d = e
+plan_if false p q e d = d
+
+windowed_not : (step : WindowStep) (len : ℕ) (s : State) → is_nesting (windowed step len s).kind ≡ false
+unfolding entered returned underflow resumed moved_stack
+windowed_not (Returns a0) len s = plan_if (bit s.start (base_after_return s.base (return_size a0))) _ _ refl refl
+windowed_not (MovesStack number value) len s = plan_if (eqb (behind s.start s.base) 0) _ _ refl refl
+windowed_not _ len s = refl
+
+done_not : (o : Outcome) (len : ℕ) (s : State) → is_nesting (done o len s).kind ≡ false
+done_not (Windowed step) len s = windowed_not step len s
+done_not _ len s = refl
+
+checked_not : (distance : ℕ) (code : ℕ → ℕ) (i : Insn) (len : ℕ) (s : State) → is_nesting (checked distance code i len s).kind ≡ false
+unfolding overflow
+checked_not zero code i len s = done_not (outcome_at code i (visible s.regs s.base) s.control) len s
+checked_not (suc distance) code i len s = refl
+
+fetched_not : (at : Fetched) (code : ℕ → ℕ) (s : State) → is_nesting (fetched_turn at code s).kind ≡ false
+fetched_not (Fetches i len) code s = plan_if (is_illegal i s) _ _ refl (checked_not (window_check i s) code i len s)
+fetched_not (Fails address) code s = refl
+fetched_not SpellsNothing code s = refl
+
+nesting_planned : (code : ℕ → ℕ) (s : State) → is_nesting (planned code s).kind ≡ true → planned code s ≡ in_window (settled_interrupt nested_level s.control) s
+nesting_planned code s e = ⊎_elim
+    (λ yes.
+    let t = turn_taken code s yes in
+    let five : pending_of s.control ≡ nested_level = eqb-true _ _ (sym (ap (λ (p : Planned). is_nesting p.kind) t) ∙ e) in
+    t ∙ ap (λ l. in_window (settled_interrupt l s.control) s) five)
+    (λ no. ⊎_elim
+    (λ w. absurd (false≢true (sym (ap (λ (p : Planned). is_nesting p.kind) (turn_waits code s no w)) ∙ e)))
+    (λ w. absurd (false≢true (sym (ap (λ (p : Planned). is_nesting p.kind) (turn_fetches code s no w) ∙ fetched_not (fetched code s.control.pc) code s) ∙ e)))
+    (cases_Bool s.control.waits))
+    (cases_Bool (ltb 0 (pending_of s.control)))
+
+begins_true : (rec : StepRecord) (f : FrameState) → is_nesting rec.kind ≡ true → f.nested ≡ None → begins true rec.kind f ≡ true
+begins_true rec f e n = ap (λ (o : Option Nested). is_nesting rec.kind && not (is_some o)) n ∙ ap (λ b. b && true) e
+
+begun_on : (code : ℕ → ℕ) (rec : StepRecord) (f : FrameState) → is_nesting rec.kind ≡ true → f.nested ≡ None → step_on code true rec f ≡ begun (laid (inputs_of rec) f)
+begun_on code rec f e n = cond-true (begins true rec.kind f) _ _ (begins_true rec f e n)
+
+module _ (code : ℕ → ℕ) (m : MemoryContents) (s : State) (f : FrameState) (nesting : is_nesting (planned code s).kind ≡ true) (none : f.nested ≡ None) where
+  nesting_rec : is_nesting (record_now code m s).kind ≡ true
+  unfolding turn
+  nesting_rec = nesting
+
+  step_begins : step_on code true (record_now code m s) f ≡ begun (laid (inputs_of (record_now code m s)) f)
+  step_begins = begun_on code (record_now code m s) f nesting_rec none
+
+  pub still_begun : Still f (step_on code true (record_now code m s) f)
+  still_begun = subst (Still f) (sym step_begins) (refl, refl)
+
+  pub no_access : demand code s ≡ None
+  unfolding demand
+  no_access = ap (λ (p : Planned). p.access) (nesting_planned code s nesting)
+
+  pub begin_matches : (framed : MemoryContents) → Matches (place_on true (record_now code m s) f) (record_now code m s) (step_on code true (record_now code m s) f) framed
+  unfolding turn
+  begin_matches framed =
+      let p = nesting_planned code s nesting in
+      record {
+        place = sym (cond-true (begins true (record_now code m s).kind f) (record_now code m s).pc (current f).control.pc (begins_true (record_now code m s) f nesting_rec none));
+        kind = ap (λ (p : Planned). p.kind) p ∙ sym (ap (λ (u : FrameTurn). u.kind) step_begins);
+        write = ap (λ (p : Planned). written p.write p.awaited (reply_now code m s)) p ∙ sym (ap (λ (u : FrameTurn). u.write) step_begins);
+        access = no_access ∙ sym (ap (λ (u : FrameTurn). u.access) step_begins);
+        reply = ap (λ o. reply_where o (reply_now code m s)) no_access ∙ sym (ap (λ (u : FrameTurn). reply_at framed u.access) step_begins);
+      }
+
+  pub begin_fresh : (fresh : Bool) → fresh_on fresh code true (record_now code m s) f ≡ fresh
+  begin_fresh fresh =
+      let rec = record_now code m s in
+      let at = fetched code (current f).control.pc in
+      ap (λ (u : FrameTurn). fresh_after fresh u.kind at (laid (inputs_of rec) (current f)).control.ps (current u.after).control.ps) step_begins
+      ∙ sym (fresh_begun fresh at (laid (inputs_of rec) (current f)) (laid (inputs_of rec) f))
+
+-- ---- a step inside one that shows no breach
+breach_inside : (b : Bounds) (fresh : Bool) (code : ℕ → ℕ) (live stale : ℕ → Bool) (rec : StepRecord) (f : FrameState) (x : Nested) → f.nested ≡ Some x
+    → breach_of b fresh code live stale true rec f ≡ laid_breach b fresh code live stale rec (laid (inputs_of rec) (inside x f))
+breach_inside b fresh code live stale rec f x e =
+    let none : Option BreachKind = None in
+    let L : Option BreachKind = laid_breach b fresh code live stale rec (laid (inputs_of rec) (inside x f)) in
+    let B : Option Nested → Option BreachKind = λ o. cond (true && (is_nesting rec.kind && not (is_some o))) none (laid_breach b fresh code live stale rec (laid (inputs_of rec) (current_in o f))) in
+    ap B e ∙ ap (λ (z : Bool). cond z none L) (and_right (is_nesting rec.kind) false refl)
+
+not_written : (k : StepKind) (at : Fetched) (ps : Ps) → ps.excm ≡ true → fetched_sets_epc1 at ≡ false → writes_epc1 k at ps ≡ false
+unfolding writes_epc1
+not_written (kind.Exc cause) at ps e w = ap not e
+not_written (kind.Interrupt level) at ps e w = ap (λ b. (eqb level 1) && not b) e ∙ and_right (eqb level 1) false refl
+not_written kind.Insn at ps e w = w
+not_written _ at ps e w = refl
+
+sets_none : (b : Bounds) (fresh : Bool) (live stale : ℕ → Bool) (at : Fetched) (rec : StepRecord) (g : FrameState) (u : FrameTurn) (x : Nested) → g.nested ≡ Some x → NoneShown (fetched_tests b fresh live stale at rec g u) → fetched_sets_epc1 at ≡ false
+sets_none b fresh live stale (Fetches i len) rec g u x e t =
+    let lost = ap (λ (o : Option Nested). loses_epc1 o fresh i) (sym e) ∙ (sound b fresh live stale i rec g u t).lost in
+    (or_parts (reads_epc1 false i) (sets_epc1 i) lost).1
+sets_none b fresh live stale (Fails address) rec g u x e t = refl
+sets_none b fresh live stale SpellsNothing rec g u x e t = refl
+
+-- RFI 5 finds a0 to a3 as the window handler had them
+own_at : (b : Bounds) (fresh : Bool) (live stale : ℕ → Bool) (at : Fetched) (rec : StepRecord) (g : FrameState) (u : FrameTurn) (x : Nested) → g.nested ≡ Some x → NoneShown (fetched_tests b fresh live stale at rec g u) → fetched_returns at ≡ true → are_own_marks x.marks ≡ true
+own_at b fresh live stale (Fetches i len) rec g u x e t ends =
+    let broken = ap (λ (o : Option Nested). breaks_nested o i u) (sym e) ∙ (sound b fresh live stale i rec g u t).nested in
+    let marks = (or_parts (disturbs_nested i) (ends_nested i && not (are_own_marks x.marks)) (or_parts (is_exception u.kind) _ broken).1).1 in
+    let own : not (are_own_marks x.marks) ≡ false = ap (λ z. z && not (are_own_marks x.marks)) (sym ends) ∙ marks in
+    not-false _ own
+own_at b fresh live stale (Fails address) rec g u x e t ends = absurd cc
+own_at b fresh live stale SpellsNothing rec g u x e t ends = absurd cc
+
+mark_is : (k : ℕ) (o : Option ℕ) → is_mark k o ≡ true → o ≡ Some k
+mark_is k None e = absurd cc
+mark_is k (Some mark) e = ap Some (eqb-true _ _ e)
+
+own_mark : (marks : List (Option ℕ)) → are_own_marks marks ≡ true → (k : ℕ) → k < 4 → get_or marks k None ≡ Some k
+own_mark marks e zero l = mark_is 0 _ (and_parts _ _ e).0
+own_mark marks e (suc zero) l = mark_is 1 _ (and_parts _ _ (and_parts _ _ e).1).0
+own_mark marks e (suc (suc zero)) l = mark_is 2 _ (and_parts _ _ (and_parts _ _ (and_parts _ _ e).1).1).0
+own_mark marks e (suc (suc (suc zero))) l = mark_is 3 _ (and_parts _ _ (and_parts _ _ (and_parts _ _ e).1).1).1
+own_mark marks e (suc (suc (suc (suc k)))) l = absurd (omega arith)
+
+module _ {code : ℕ → ℕ} {b : Bounds} {m : MemoryContents} {s : State} {f : FrameState} {before : State} {opened : ℕ → ℕ} {suspended : State} (h : Suspends code b m s f before opened suspended) (shaped : IsShaped s) (live stale : ℕ → Bool)
+    (none : breach_of b false code live stale true (record_now code m s) f ≡ None) where
+  abbrev rec : StepRecord
+  rec = record_now code m s
+
+  abbrev g : FrameState
+  g = laid (inputs 0 s) (inside h.x f)
+
+  same_g : laid (inputs_of rec) (inside h.x f) ≡ g
+  same_g = same_laid code s (reply_now code m s) (inside h.x f) shaped.control.ps.owb_fits
+
+  none_g : laid_breach b false code live stale rec g ≡ None
+  none_g = subst (λ y. laid_breach b false code live stale rec y ≡ None) same_g (sym (breach_inside b false code live stale rec f h.x h.nested) ∙ none)
+
+  excm_g : g.control.ps.excm ≡ true
+  excm_g = ap (λ (p : Ps). p.excm) (sym h.inside.even.ps) ∙ h.inside.mode
+
+  quiet_g : ltb 0 (pending_of g.control) ≡ false
+  quiet_g = quiet_inside g.control excm_g (ap (λ (p : Ps). p.intlevel) (sym h.inside.even.ps) ∙ h.inside.level)
+
+  waits_g : g.control.waits ≡ false
+  waits_g = sym h.inside.even.waits ∙ h.inside.running
+
+  tests : NoneShown (fetched_tests b false live stale (fetched code g.control.pc) rec g (laid_step code rec.reply g))
+  tests = none_shown (fetched_tests b false live stale (fetched code g.control.pc) rec g (laid_step code rec.reply g)) (sym (breach_fetches b false code live stale rec g quiet_g waits_g) ∙ none_g)
+
+  pub nested_areas : KeepsAreas live stale (demand code s)
+  nested_areas =
+      let k = areas_fetched b false live stale (fetched code g.control.pc) rec g (laid_step code rec.reply g) tests in
+      let a = record_access code s (reply_now code m s) in
+      keeps_from live stale (demand code s) (ap (touches_save_area live) (sym a) ∙ k.0) (ap (loads_stale live stale) (sym a) ∙ k.1)
+
+  pub nested_fresh : fresh_on false code true rec f ≡ false
+  nested_fresh =
+      let y = laid (inputs_of rec) (inside h.x f) in
+      let none_sets : fetched_sets_epc1 (fetched code y.control.pc) ≡ false = sets_none b false live stale (fetched code g.control.pc) rec g (laid_step code rec.reply g) h.x h.nested tests in
+      let excm_y : y.control.ps.excm ≡ true = ap (λ (z : FrameState). z.control.ps.excm) same_g ∙ excm_g in
+      fresh_inside false code true rec f h.x h.nested ∙ or_from _ _ (not_written (laid_step code rec.reply y).kind (fetched code y.control.pc) y.control.ps excm_y none_sets) refl
+
+  -- ---- and whether it ends the interrupt
+  here : fetched_returns (fetched code s.control.pc) ≡ true → Goes s (planned code s)
+  here ends = goes_now code s (fetched code s.control.pc) h.inside.mode (quiet_inside s.control h.inside.mode h.inside.level) h.inside.running refl ends
+
+  pc_same : s.control.pc ≡ h.x.pc
+  pc_same = h.inside.even.pc
+
+  after_is : step_on code true rec f ≡ nested_turn code (value_in rec.write) (inputs_of rec) h.x f
+  after_is = step_inside code true rec f h.x h.nested
+
+  pub nested_ends : returns code (planned code s).kind s.control.pc ≡ true → (step_on code true rec f).after.nested ≡ None
+  nested_ends e =
+      let at : fetched_returns (fetched code h.x.pc) ≡ true = subst (λ pc. fetched_returns (fetched code pc) ≡ true) pc_same (returns_fetched code (planned code s).kind s.control.pc e) in
+      ap (λ (u : FrameTurn). u.after.nested) after_is ∙ ended_fetched (fetched code h.x.pc) (value_in rec.write) h.x f (laid_step code rec.reply (laid (inputs_of rec) (inside h.x f))) at
+
+  pub nested_goes_on : returns code (planned code s).kind s.control.pc ≡ false → (step_on code true rec f).after.nested ≡ None → ⊥
+  nested_goes_on e n =
+      let open : fetched_returns (fetched code h.x.pc) ≡ false = false_from_ne_true _ (λ t.
+          let at : fetched_returns (fetched code s.control.pc) ≡ true = subst (λ pc. fetched_returns (fetched code pc) ≡ true) (sym pc_same) t in
+          false≢true (sym e ∙ (ap (λ k. returns code k s.control.pc) (here at).kind ∙ at))) in
+      open_fetched (fetched code h.x.pc) (value_in rec.write) h.x f (laid_step code rec.reply (laid (inputs_of rec) (inside h.x f))) open (sym (ap (λ (u : FrameTurn). u.after.nested) after_is) ∙ n)
+
+  ps_shaped : IsPs suspended.control.ps
+  ps_shaped =
+      let p = h.handling.shaped.control.ps in
+      let is = h.handling.control.ps in
+      let fits : IsPs (record before.control.ps { owb = before.base; excm = true }) = record { intlevel_fits = p.intlevel_fits; ring_fits = p.ring_fits; owb_fits = h.handling.shaped.base; callinc_fits = p.callinc_fits } in
+      subst IsPs (sym is) fits
+
+  pub nested_back : returns code (planned code s).kind s.control.pc ≡ true → Back s (state_now code m s) suspended
+  nested_back e = back_now code s suspended (reply_now code m s) (here (returns_fetched code (planned code s).kind s.control.pc e)) h.inside.base h.inside.start h.inside.eps ps_shaped
+
+  pub nested_seen : returns code (planned code s).kind s.control.pc ≡ true → (i : ℕ) → i < 4 → visible (state_now code m s).regs (state_now code m s).base i ≡ visible suspended.regs suspended.base i
+  nested_seen e i l =
+      let back = nested_back e in
+      let at : fetched_returns (fetched code g.control.pc) ≡ true = subst (λ pc. fetched_returns (fetched code pc) ≡ true) pc_same (returns_fetched code (planned code s).kind s.control.pc e) in
+      let own = own_at b false live stale (fetched code g.control.pc) rec g (laid_step code rec.reply g) h.x h.nested tests at in
+      ap (λ r. visible r (state_now code m s).base i) back.regs
+      ∙ (ap (λ x. visible s.regs x i) (back.base ∙ sym h.inside.base) ∙ (h.inside.marks i i (own_mark h.x.marks own i l)).0)
