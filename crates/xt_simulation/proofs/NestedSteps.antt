@@ -145,19 +145,16 @@ closes_plain code kind.Insn pc e = refl
 closes_plain code _ pc e = absurd cc
 
 -- ---- no interrupt is taken inside one
-three_false : (b c d : Bool) → cond (b && false) 5 (cond (c && false) 3 (cond (d && false) 1 0)) ≡ 0
-three_false true true true = refl
-three_false true true false = refl
-three_false true false true = refl
-three_false true false false = refl
-three_false false true true = refl
-three_false false true false = refl
-three_false false false true = refl
-three_false false false false = refl
+three_false : (b c d : Bool) (x y z : ℕ) → cond (b && false) x (cond (c && false) y (cond (d && false) z 0)) ≡ 0
+three_false b c d x y z =
+    let p = and_right b false refl in
+    let q = and_right c false refl in
+    let r = and_right d false refl in
+    rw (p, q, r) refl
 
 quiet_level : (interrupt enabled : ℕ) (ps : Ps) → ps.excm ≡ true → ps.intlevel ≡ 5 → pending_level interrupt enabled ps ≡ 0
 unfolding pending_level
-quiet_level interrupt enabled ps e l = rw (e, l) (three_false _ _ _)
+quiet_level interrupt enabled ps e l = rw (e, l) (three_false _ _ _ 5 3 1)
 
 pub quiet_inside : (c : Control) → c.ps.excm ≡ true → c.ps.intlevel ≡ 5 → ltb 0 (pending_of c) ≡ false
 quiet_inside c e l = let p = quiet_level (special_of c number.interrupt) (special_of c number.intenable) c.ps e l in rw p refl
@@ -330,12 +327,25 @@ mark_is : (k : ℕ) (o : Option ℕ) → is_mark k o ≡ true → o ≡ Some k
 mark_is k None e = absurd cc
 mark_is k (Some mark) e = ap Some (eqb-true _ _ e)
 
+all_four : (a b c d : Bool) → (a && (b && (c && d))) ≡ true → (a ≡ true) × (b ≡ true) × (c ≡ true) × (d ≡ true)
+all_four a b c d e =
+    let p = and_parts a (b && (c && d)) e in
+    let q = and_parts b (c && d) p.1 in
+    let r = and_parts c d q.1 in
+    (p.0, q.0, r.0, r.1)
+
 own_mark : (marks : List (Option ℕ)) → are_own_marks marks ≡ true → (k : ℕ) → k < 4 → get_or marks k None ≡ Some k
-own_mark marks e zero l = mark_is 0 _ (and_parts _ _ e).0
-own_mark marks e (suc zero) l = mark_is 1 _ (and_parts _ _ (and_parts _ _ e).1).0
-own_mark marks e (suc (suc zero)) l = mark_is 2 _ (and_parts _ _ (and_parts _ _ (and_parts _ _ e).1).1).0
-own_mark marks e (suc (suc (suc zero))) l = mark_is 3 _ (and_parts _ _ (and_parts _ _ (and_parts _ _ e).1).1).1
-own_mark marks e (suc (suc (suc (suc k)))) l = absurd (omega arith)
+own_mark marks e k l = at k l
+  where
+    four : (is_mark 0 (get_or marks 0 None) ≡ true) × (is_mark 1 (get_or marks 1 None) ≡ true) × (is_mark 2 (get_or marks 2 None) ≡ true) × (is_mark 3 (get_or marks 3 None) ≡ true)
+    four = all_four (is_mark 0 (get_or marks 0 None)) (is_mark 1 (get_or marks 1 None)) (is_mark 2 (get_or marks 2 None)) (is_mark 3 (get_or marks 3 None)) e
+
+    at : (k : ℕ) → k < 4 → get_or marks k None ≡ Some k
+    at zero l = mark_is 0 (get_or marks 0 None) four.0
+    at (suc zero) l = mark_is 1 (get_or marks 1 None) four.1
+    at (suc (suc zero)) l = mark_is 2 (get_or marks 2 None) four.2
+    at (suc (suc (suc zero))) l = mark_is 3 (get_or marks 3 None) four.3
+    at (suc (suc (suc (suc k)))) l = absurd (omega arith)
 
 module _ {code : ℕ → ℕ} {b : Bounds} {m : MemoryContents} {s : State} {f : FrameState} {before : State} {opened : ℕ → ℕ} {suspended : State} (h : Suspends code b m s f before opened suspended) (shaped : IsShaped s) (live stale : ℕ → Bool)
     (none : breach_of b false code live stale true (record_now code m s) f ≡ None) where
@@ -391,12 +401,13 @@ module _ {code : ℕ → ℕ} {b : Bounds} {m : MemoryContents} {s : State} {f :
       let at : fetched_returns (fetched code h.x.pc) ≡ true = subst (λ pc. fetched_returns (fetched code pc) ≡ true) pc_same (returns_fetched code (planned code s).kind s.control.pc e) in
       ap (λ (u : FrameTurn). u.after.nested) after_is ∙ ended_fetched (fetched code h.x.pc) (value_in rec.write) h.x f (laid_step code rec.reply (laid (inputs_of rec) (inside h.x f))) at
 
+  stays_at : returns code (planned code s).kind s.control.pc ≡ false → fetched_returns (fetched code s.control.pc) ≡ true → ⊥
+  stays_at e at = false≢true (sym e ∙ (ap (λ k. returns code k s.control.pc) (here at).kind ∙ at))
+
   pub nested_goes_on : returns code (planned code s).kind s.control.pc ≡ false → (step_on code true rec f).after.nested ≡ None → ⊥
   nested_goes_on e n =
-      let open : fetched_returns (fetched code h.x.pc) ≡ false = false_from_ne_true _ (λ t.
-          let at : fetched_returns (fetched code s.control.pc) ≡ true = subst (λ pc. fetched_returns (fetched code pc) ≡ true) (sym pc_same) t in
-          false≢true (sym e ∙ (ap (λ k. returns code k s.control.pc) (here at).kind ∙ at))) in
-      open_fetched (fetched code h.x.pc) (value_in rec.write) h.x f (laid_step code rec.reply (laid (inputs_of rec) (inside h.x f))) open (sym (ap (λ (u : FrameTurn). u.after.nested) after_is) ∙ n)
+      let away : fetched_returns (fetched code h.x.pc) ≡ false = false_from_ne_true (fetched_returns (fetched code h.x.pc)) (λ t. stays_at e (subst (λ pc. fetched_returns (fetched code pc) ≡ true) (sym pc_same) t)) in
+      open_fetched (fetched code h.x.pc) (value_in rec.write) h.x f (laid_step code rec.reply (laid (inputs_of rec) (inside h.x f))) away (sym (ap (λ (u : FrameTurn). u.after.nested) after_is) ∙ n)
 
   ps_shaped : IsPs suspended.control.ps
   ps_shaped =

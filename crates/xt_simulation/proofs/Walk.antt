@@ -108,15 +108,15 @@ handling_stack : {code : ℕ → ℕ} {b : Bounds} {m : MemoryContents} {s : Sta
 handling_stack {b = b} {f = f} {before = before} {opened = opened} h = begins_stack h.side opened b (lost_at h.fresh f) before f h.front h.g h.rest h.begins
 
 -- in a nested interrupt: the live bytes are those at its beginning, and so is EPC1
-record Held (m : MemoryContents) (b : Bounds) (f : FrameState) (e : Entered) : Type 0 where
-  bytes : (a : ℕ) → is_live b.range f a ≡ true → byte_at m a ≡ e.held a
-  epc1 : special_of e.suspended.control (number.epc 1) ≡ e.before.control.pc
+pub record Held (m : MemoryContents) (b : Bounds) (f : FrameState) (e : Entered) : Type 0 where
+  pub bytes : (a : ℕ) → is_live b.range f a ≡ true → byte_at m a ≡ e.held a
+  pub epc1 : special_of e.suspended.control (number.epc 1) ≡ e.before.control.pc
 
 module _ (code : ℕ → ℕ) (bytes : AreBytes code) where
   unfoldable pub InCore : Mode → MemoryContents → Bounds → Bool → State → FrameState → Entered → Type 0
   InCore Plain m b fresh s f e = Somewhere (byte_at m) b (lost_at fresh f) s f × (f.nested ≡ None)
-  InCore Handles m b fresh s f e = Handling code b m s f e.before e.opened × ((f.nested ≡ None) × (fresh ≡ false))
-  InCore Nests m b fresh s f e = Suspends code b m s f e.before e.opened e.suspended × (Held m b f e × (fresh ≡ false))
+  InCore Handles m b fresh s f e = Handling code b m s f e.before e.opened × (f.nested ≡ None) × (fresh ≡ false)
+  InCore Nests m b fresh s f e = Suspends code b m s f e.before e.opened e.suspended × Held m b f e × (fresh ≡ false)
 
   core_stack : (mode : Mode) (m : MemoryContents) (b : Bounds) (fresh : Bool) (s : State) (f : FrameState) (e : Entered) → InCore mode m b fresh s f e → Stack b.range.lo b.range.hi f.seen f.frames
   unfolding InCore
@@ -127,11 +127,11 @@ module _ (code : ℕ → ℕ) (bytes : AreBytes code) where
   core_spared : (mode : Mode) (old new : MemoryContents) (b : Bounds) (good : IsGood code b) (fresh : Bool) (s : State) (f : FrameState) (e : Entered) → ((a : ℕ) → is_live b.range f a ≡ true → byte_at new a ≡ byte_at old a) → InCore mode old b fresh s f e → InCore mode new b fresh s f e
   unfolding InCore
   core_spared Plain old new b good fresh s f e same h = (record { ring = h.0.ring; spilled = h.0.spilled; related = related_spared (byte_at old) (byte_at new) b f same h.0.related }, h.1)
-  core_spared Handles old new b good fresh s f e same h = (handlers_are_spared code bytes b good old new s f e.before e.opened h.0 same, h.1)
+  core_spared Handles old new b good fresh s f e same h = (handlers_are_spared code bytes b good old new s f e.before e.opened h.0 same, h.1, h.2)
   core_spared Nests old new b good fresh s f e same h = (
     nested_are_spared code bytes b good old new s f e.before e.opened e.suspended h.0 same,
-    record { bytes = λ a live. same a live ∙ h.1.0.bytes a live; epc1 = h.1.0.epc1 },
-    h.1.1,
+    record { bytes = λ a live. same a live ∙ h.1.bytes a live; epc1 = h.1.epc1 },
+    h.2,
   )
 
   pub record Both (b c : Bounds) (mine theirs : Core) (m framed : MemoryContents) (stale : ℕ → Bool) : Type 0 where
@@ -256,10 +256,10 @@ module _ (code : ℕ → ℕ) (bytes : AreBytes code) where
 
         by_step : HandlerStep code b m s f at.before at.opened → P (mode_after code Handles rec)
         by_step (steps_on open_ inside only alone) =
-            to_mode Handles (cond-false (closes code rec.kind rec.pc) Plain Handles (closes_is false open_)) (stands_still Handles Handles h (inside, h.first.1.0, refl) only)
+            to_mode Handles (cond-false (closes code rec.kind rec.pc) Plain Handles (closes_is false open_)) (stands_still Handles Handles h (inside, h.first.1, refl) only)
         by_step (closes_stretch closed_ moves somewhere same alone) =
             to_mode Plain (cond-true (closes code rec.kind rec.pc) Plain Handles (closes_is true closed_))
-            (stands_still Handles Plain h (subst (λ x. Somewhere (byte_at x) b (lost_at false f) (state_now code m s) f) (sym same) somewhere, h.first.1.0) (λ a dead. ap (λ x. byte_at x a) same))
+            (stands_still Handles Plain h (subst (λ x. Somewhere (byte_at x) b (lost_at false f) (state_now code m s) f) (sym same) somewhere, h.first.1) (λ a dead. ap (λ x. byte_at x a) same))
 
     -- ---- a window exception
     kind_is : is_window rec.kind ≡ true → is_window (planned code s).kind ≡ true
@@ -309,7 +309,7 @@ module _ (code : ℕ → ℕ) (bytes : AreBytes code) where
     begin_keeps (Some kind) nesting h x k = absurd cc
     begin_keeps None nesting h x k =
         let here = nesting_is true nesting in
-        let outside = h.first.1.0 in
+        let outside = h.first.1 in
         let u : FrameTurn = step_on code true rec f in
         let next : mode_after code Handles rec ≡ Nests = cond-true (is_nesting rec.kind) Nests (cond (closes code rec.kind rec.pc) Plain Handles) nesting in
         let entered : Entered = entered_past Handles s m (state_now code m s) at in
@@ -317,7 +317,7 @@ module _ (code : ℕ → ℕ) (bytes : AreBytes code) where
         let suspends : Suspends code b (memory_now code m s) (state_now code m s) u.after entered.before entered.opened s =
         subst (λ y. Suspends code b y (state_now code m s) u.after entered.before entered.opened s) (sym same) (nested_begin code bytes b good m s f at.before at.opened h.first.0 outside h.shaped_first here) in
         let held : Held (memory_now code m s) b u.after entered = record { bytes = λ a live. ap (λ y. byte_at y a) same; epc1 = h.first.0.control.epc1 } in
-        let lost : fresh_on fresh code true rec f ≡ false = begin_fresh code m s f here outside fresh ∙ h.first.1.1 in
+        let lost : fresh_on fresh code true rec f ≡ false = begin_fresh code m s f here outside fresh ∙ h.first.2 in
         let areas : KeepsAreas (live_of b f others) stale (demand code s) = subst (KeepsAreas (live_of b f others) stale) (sym (no_access code m s f here outside)) tt in
         subst (Keeps b c (core_in Handles) theirs m framed) (some_is _ x k)
         (subst (λ mode. Keeps b c (core_in Handles) theirs m framed (judged_to true mode (fresh_on fresh code true rec f) entered)) (sym next)
@@ -336,7 +336,7 @@ module _ (code : ℕ → ℕ) (bytes : AreBytes code) where
 
     nested_lost : breach_of b false code (live_of b f others) stale true rec f ≡ None → Both b c (core_in Nests) theirs m framed stale → fresh_on fresh code true rec f ≡ false
     unfolding InCore
-    nested_lost none h = ap (λ z. fresh_on z code true rec f) h.first.1.1 ∙ nested_fresh h.first.0 h.shaped_first (live_of b f others) stale none
+    nested_lost none h = ap (λ z. fresh_on z code true rec f) h.first.2 ∙ nested_fresh h.first.0 h.shaped_first (live_of b f others) stale none
 
     nested_held : breach_of b false code (live_of b f others) stale true rec f ≡ None → Both b c (core_in Nests) theirs m framed stale → Held (memory_now code m s) b (step_on code true rec f).after nested_next
     unfolding InCore
@@ -346,8 +346,8 @@ module _ (code : ℕ → ℕ) (bytes : AreBytes code) where
         record {
           bytes = λ a live.
               let before = sym (same_live b.range f (step_on code true rec f) a (still_inside code rec f inside.x inside.nested)) ∙ live in
-              live_kept (live_of b f others) stale m (demand code s) a areas (or_left (is_live b.range f a) (others a) before) ∙ h.first.1.0.bytes a before;
-          epc1 = h.first.1.0.epc1;
+              live_kept (live_of b f others) stale m (demand code s) a areas (or_left (is_live b.range f a) (others a) before) ∙ h.first.1.bytes a before;
+          epc1 = h.first.1.epc1;
         }
 
     nested_step : breach_of b false code (live_of b f others) stale true rec f ≡ None → Both b c (core_in Nests) theirs m framed stale
@@ -374,10 +374,10 @@ module _ (code : ℕ → ℕ) (bytes : AreBytes code) where
     unfolding InCore
     nested_to true e none h = let back = nested_resumes e none h in (back.1, back.0, nested_lost none h)
     nested_to false e none h =
-        let open = nested_goes_on h.first.0 h.shaped_first (live_of b f others) stale none (returns_is false e) in
+        let away = nested_goes_on h.first.0 h.shaped_first (live_of b f others) stale none (returns_is false e) in
         ⊎_elim
         (λ (goes : Suspends code b (memory_now code m s) (state_now code m s) (step_on code true rec f).after nested_next.before at.opened at.suspended). (goes, nested_held none h, nested_lost none h))
-        (λ (back : ((step_on code true rec f).after.nested ≡ None) × Handling code b (memory_now code m s) (state_now code m s) (step_on code true rec f).after nested_next.before at.opened). absurd (open back.0))
+        (λ (back : ((step_on code true rec f).after.nested ≡ None) × Handling code b (memory_now code m s) (state_now code m s) (step_on code true rec f).after nested_next.before at.opened). absurd (away back.0))
         (nested_step none h).1
 
     nested_keeps : (o : Option BreachKind) → breach_of b fresh code (live_of b f others) stale true rec f ≡ o → Both b c (core_in Nests) theirs m framed stale → (x : Moved)
@@ -385,7 +385,7 @@ module _ (code : ℕ → ℕ) (bytes : AreBytes code) where
     unfolding InCore
     nested_keeps (Some kind) e h x k = absurd cc
     nested_keeps None e h x k =
-        let none = no_breach h.first.1.1 e in
+        let none = no_breach h.first.2 e in
         subst (Keeps b c (core_in Nests) theirs m framed) (some_is _ x k)
         (judged_on Nests true (mode_after code Nests rec) (fresh_on fresh code true rec f) nested_next h (nested_to (returns code rec.kind rec.pc) refl none h) (nested_step none h).0 (nested_areas h.first.0 h.shaped_first (live_of b f others) stale none))
 
@@ -395,16 +395,16 @@ module _ (code : ℕ → ℕ) (bytes : AreBytes code) where
     unfolding InCore
     nested_leaves (Some kind) e h x k ends = absurd cc
     nested_leaves None e h x k ends =
-        let none = no_breach h.first.1.1 e in
+        let none = no_breach h.first.2 e in
         let now = returns_is true ends in
         let back = nested_back h.first.0 h.shaped_first (live_of b f others) stale none now in
         subst (λ t. LeavesHandler b f at.suspended t at.held (byte_at m)) (ap (λ (y : Moved). y.mine.state) (some_is _ x k)) (record {
           seen = nested_seen h.first.0 h.shaped_first (live_of b f others) stale none now;
-          epc1 = (nested_resumes ends none h).1.control.epc1 ∙ sym h.first.1.0.epc1;
+          epc1 = (nested_resumes ends none h).1.control.epc1 ∙ sym h.first.1.epc1;
           ps = back.ps;
           base = back.base;
           start = back.start;
-          areas = h.first.1.0.bytes;
+          areas = h.first.1.bytes;
         })
 
     -- ---- any turn
@@ -465,7 +465,7 @@ module _ (code : ℕ → ℕ) (bytes : AreBytes code) where
   unfolding InCore
   mode_alone Handles b good m fresh s f e h shaped real is = ⊎_elim
       (λ nesting.
-      let same : memory_now code m s ≡ m = ap (memory_after_step m) (no_access code m s f nesting h.1.0) in
+      let same : memory_now code m s ≡ m = ap (memory_after_step m) (no_access code m s f nesting h.1) in
       stores_alone code bytes b good.dram good.aligned good.handlers h.0 (byte_at (memory_now code m s)) (λ a free. ap (λ x. byte_at x a) same))
       (λ other_kind. step_alone b m s f e (handler_steps_are_kept code bytes b good m s f e.before e.opened h.0 shaped real.sizes other_kind))
       (cases_Bool (is_nesting (planned code s).kind))
