@@ -53,15 +53,14 @@ use Rattle.xt_simulation.specs.Judges.{Matches}
 use Rattle.xt_simulation.specs.Nested.{IsInside, Suspends, marked}
 use Rattle.xt_simulation.proofs.Memories.{keeps_from}
 use Rattle.xt_simulation.proofs.Judges.{same_laid, record_access}
+use Rattle.xt_simulation.proofs.Taken.{nesting_taken}
+use Rattle.xt_simulation.proofs.Turns.{quiet_nested}
 use Rattle.xt_simulation.proofs.Served.{areas_fetched}
 use Rattle.xt_simulation.proofs.Whole.{breach_fetches}
 
 -- ---- the save areas of the frame state are as they were
 abbrev pub Still : FrameState → FrameTurn → Type 0
 Still f u = (u.after.seen ≡ f.seen) × (u.after.frames ≡ f.frames)
-
-pub same_live : (r : Range) (f : FrameState) (u : FrameTurn) (a : ℕ) → Still f u → is_live r u.after a ≡ is_live r f a
-same_live r f u a e = ap (λ (x : List (Option ℕ)). covers_byte (areas r.hi (known x 1) 1 u.after.frames) a) e.0 ∙ ap (λ (x : List Frame). covers_byte (areas r.hi (known f.seen 1) 1 x) a) e.1
 
 if_still : (b : Bool) (f : FrameState) (u v : FrameTurn) → Still f u → Still f v → Still f (cond b u v)
 if_still true f u v p q = p
@@ -83,36 +82,6 @@ pub place_inside : (rec : StepRecord) (f : FrameState) (x : Nested) → f.nested
 place_inside rec f x e =
     ap (λ (o : Option Nested). cond (true && (is_nesting rec.kind && not (is_some o))) rec.pc (current_in o f).control.pc) e
     ∙ ap (λ b. cond b rec.pc x.pc) (and_right (is_nesting rec.kind) false refl)
-
-turn_keeps : (b : Bool) (g : FrameState) (u v : FrameTurn) → u.after.nested ≡ g.nested → v.after.nested ≡ g.nested → (cond b u v).after.nested ≡ g.nested
-turn_keeps true g u v p q = p
-turn_keeps false g u v p q = q
-
-popped_keeps : (frames : List Frame) (a0 : ℕ) (g : FrameState) → (popped_from frames a0 g).after.nested ≡ g.nested
-popped_keeps [] a0 g = refl
-popped_keeps (f ∷ rest) a0 g = refl
-
-windowed_keeps : (step : WindowStep) (len reply : ℕ) (g : FrameState) → (windowed_in_frame step len reply g).after.nested ≡ g.nested
-unfolding pushed popped
-windowed_keeps (Enters number value) len reply g = turn_keeps g.control.ps.excm g _ _ refl refl
-windowed_keeps (Returns a0) len reply g = turn_keeps g.control.ps.excm g _ _ refl (popped_keeps g.frames a0 g)
-windowed_keeps _ len reply g = refl
-
-done_keeps : (o : Outcome) (len reply : ℕ) (g : FrameState) → (done_in_frame o len reply g).after.nested ≡ g.nested
-done_keeps (Windowed step) len reply g = windowed_keeps step len reply g
-done_keeps _ len reply g = refl
-
-fetched_keeps : (at : Fetched) (code : ℕ → ℕ) (reply : ℕ) (g : FrameState) → (fetched_step at code reply g).after.nested ≡ g.nested
-fetched_keeps (Fetches i len) code reply g = done_keeps (outcome_at code i (known g.seen) g.control) len reply g
-fetched_keeps (Fails address) code reply g = refl
-fetched_keeps SpellsNothing code reply g = refl
-
-step_keeps : (code : ℕ → ℕ) (reply : ℕ) (g : FrameState) → (laid_step code reply g).after.nested ≡ g.nested
-unfolding laid_step
-step_keeps code reply g = turn_keeps (ltb 0 (pending_of g.control)) g _ _ refl (turn_keeps g.control.waits g _ _ refl (fetched_keeps (fetched code g.control.pc) code reply g))
-
-pub nested_plain : (code : ℕ → ℕ) (rec : StepRecord) (f : FrameState) → f.nested ≡ None → (step_on code false rec f).after.nested ≡ None
-nested_plain code rec f e = ap (λ (u : FrameTurn). u.after.nested) (step_plain code rec f e) ∙ (step_keeps code rec.reply (laid (inputs_of rec) f) ∙ e)
 
 -- ---- RFI 5 alone ends one
 pub some_none : {X : Type 0} (x : X) → Some x ≡ None → ⊥
@@ -145,19 +114,8 @@ closes_plain code kind.Insn pc e = refl
 closes_plain code _ pc e = absurd cc
 
 -- ---- no interrupt is taken inside one
-three_false : (b c d : Bool) (x y z : ℕ) → cond (b && false) x (cond (c && false) y (cond (d && false) z 0)) ≡ 0
-three_false b c d x y z =
-    let p = and_right b false refl in
-    let q = and_right c false refl in
-    let r = and_right d false refl in
-    rw (p, q, r) refl
-
-quiet_level : (interrupt enabled : ℕ) (ps : Ps) → ps.excm ≡ true → ps.intlevel ≡ 5 → pending_level interrupt enabled ps ≡ 0
-unfolding pending_level
-quiet_level interrupt enabled ps e l = rw (e, l) (three_false _ _ _ 5 3 1)
-
-pub quiet_inside : (c : Control) → c.ps.excm ≡ true → c.ps.intlevel ≡ 5 → ltb 0 (pending_of c) ≡ false
-quiet_inside c e l = let p = quiet_level (special_of c number.interrupt) (special_of c number.intenable) c.ps e l in rw p refl
+quiet_inside : (c : Control) → c.ps.intlevel ≡ nested_level → ltb 0 (pending_of c) ≡ false
+quiet_inside c level = ap (ltb 0) (quiet_nested c level)
 
 -- ---- what RFI 5 leaves
 record Goes (s : State) (p : Planned) : Type 0 where
@@ -214,42 +172,6 @@ back_now code s suspended reply g base start eps is =
     }
 
 -- ---- the record that begins one
-plan_if : (b : Bool) (p q : Planned) → is_nesting p.kind ≡ false → is_nesting q.kind ≡ false → is_nesting (cond b p q).kind ≡ false
-plan_if true p q e d = e
-plan_if false p q e d = d
-
-windowed_not : (step : WindowStep) (len : ℕ) (s : State) → is_nesting (windowed step len s).kind ≡ false
-unfolding entered returned underflow resumed moved_stack
-windowed_not (Returns a0) len s = plan_if (bit s.start (base_after_return s.base (return_size a0))) _ _ refl refl
-windowed_not (MovesStack number value) len s = plan_if (eqb (behind s.start s.base) 0) _ _ refl refl
-windowed_not _ len s = refl
-
-done_not : (o : Outcome) (len : ℕ) (s : State) → is_nesting (done o len s).kind ≡ false
-done_not (Windowed step) len s = windowed_not step len s
-done_not _ len s = refl
-
-checked_not : (distance : ℕ) (code : ℕ → ℕ) (i : Insn) (len : ℕ) (s : State) → is_nesting (checked distance code i len s).kind ≡ false
-unfolding overflow
-checked_not zero code i len s = done_not (outcome_at code i (visible s.regs s.base) s.control) len s
-checked_not (suc distance) code i len s = refl
-
-fetched_not : (at : Fetched) (code : ℕ → ℕ) (s : State) → is_nesting (fetched_turn at code s).kind ≡ false
-fetched_not (Fetches i len) code s = plan_if (is_illegal i s) _ _ refl (checked_not (window_check i s) code i len s)
-fetched_not (Fails address) code s = refl
-fetched_not SpellsNothing code s = refl
-
-nesting_planned : (code : ℕ → ℕ) (s : State) → is_nesting (planned code s).kind ≡ true → planned code s ≡ in_window (settled_interrupt nested_level s.control) s
-nesting_planned code s e = ⊎_elim
-    (λ yes.
-    let t = turn_taken code s yes in
-    let five : pending_of s.control ≡ nested_level = eqb-true _ _ (sym (ap (λ (p : Planned). is_nesting p.kind) t) ∙ e) in
-    t ∙ ap (λ l. in_window (settled_interrupt l s.control) s) five)
-    (λ no. ⊎_elim
-    (λ w. absurd (false≢true (sym (ap (λ (p : Planned). is_nesting p.kind) (turn_waits code s no w)) ∙ e)))
-    (λ w. absurd (false≢true (sym (ap (λ (p : Planned). is_nesting p.kind) (turn_fetches code s no w) ∙ fetched_not (fetched code s.control.pc) code s) ∙ e)))
-    (cases_Bool s.control.waits))
-    (cases_Bool (ltb 0 (pending_of s.control)))
-
 begins_true : (rec : StepRecord) (f : FrameState) → is_nesting rec.kind ≡ true → f.nested ≡ None → begins true rec.kind f ≡ true
 begins_true rec f e n = ap (λ (o : Option Nested). is_nesting rec.kind && not (is_some o)) n ∙ ap (λ b. b && true) e
 
@@ -269,12 +191,12 @@ module _ (code : ℕ → ℕ) (m : MemoryContents) (s : State) (f : FrameState) 
 
   pub no_access : demand code s ≡ None
   unfolding demand
-  no_access = ap (λ (p : Planned). p.access) (nesting_planned code s nesting)
+  no_access = ap (λ (p : Planned). p.access) (nesting_taken code s nesting)
 
   pub begin_matches : (framed : MemoryContents) → Matches (place_on true (record_now code m s) f) (record_now code m s) (step_on code true (record_now code m s) f) framed
   unfolding turn
   begin_matches framed =
-      let p = nesting_planned code s nesting in
+      let p = nesting_taken code s nesting in
       record {
         place = sym (cond-true (begins true (record_now code m s).kind f) (record_now code m s).pc (current f).control.pc (begins_true (record_now code m s) f nesting_rec none));
         kind = ap (λ (p : Planned). p.kind) p ∙ sym (ap (λ (u : FrameTurn). u.kind) step_begins);
@@ -365,7 +287,7 @@ module _ {code : ℕ → ℕ} {b : Bounds} {m : MemoryContents} {s : State} {f :
   excm_g = ap (λ (p : Ps). p.excm) (sym h.inside.even.ps) ∙ h.inside.mode
 
   quiet_g : ltb 0 (pending_of g.control) ≡ false
-  quiet_g = quiet_inside g.control excm_g (ap (λ (p : Ps). p.intlevel) (sym h.inside.even.ps) ∙ h.inside.level)
+  quiet_g = quiet_inside g.control (ap (λ (p : Ps). p.intlevel) (sym h.inside.even.ps) ∙ h.inside.level)
 
   waits_g : g.control.waits ≡ false
   waits_g = sym h.inside.even.waits ∙ h.inside.running
@@ -388,7 +310,7 @@ module _ {code : ℕ → ℕ} {b : Bounds} {m : MemoryContents} {s : State} {f :
 
   -- ---- and whether it ends the interrupt
   here : fetched_returns (fetched code s.control.pc) ≡ true → Goes s (planned code s)
-  here ends = goes_now code s (fetched code s.control.pc) h.inside.mode (quiet_inside s.control h.inside.mode h.inside.level) h.inside.running refl ends
+  here ends = goes_now code s (fetched code s.control.pc) h.inside.mode (quiet_inside s.control h.inside.level) h.inside.running refl ends
 
   pc_same : s.control.pc ≡ h.x.pc
   pc_same = h.inside.even.pc

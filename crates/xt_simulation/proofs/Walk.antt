@@ -41,10 +41,12 @@ use Rattle.xt_simulation.specs.Judges.{Matches, After}
 use Rattle.xt_simulation.specs.Walking.{Entered, Core, World, Moved, entered_by, entered_past, KeepsStretches, GivesBack, moved_by, move, moved0, moved1, given, walked, frame_after, IsWorldRun, Apart}
 use Rattle.xt_simulation.proofs.Chains.{related_spared, live_in_range}
 use Rattle.xt_simulation.proofs.Handled.{stretches_are_entered, handler_steps_are_kept, handlers_are_spared, stores_alone}
+use Rattle.xt_simulation.proofs.Carried.{live_same}
 use Rattle.xt_simulation.proofs.Suspended.{nested_begin, nested_steps_are_kept, nested_are_spared}
 use Rattle.xt_simulation.proofs.Memories.{live_kept, step_memory, memories_agree}
-use Rattle.xt_simulation.proofs.Judges.{judge_keeps, judge_areas, shaped_now, same_laid, record_access}
-use Rattle.xt_simulation.proofs.NestedSteps.{some_none, place_plain, place_inside, nested_plain, closes_plain, same_live, still_inside, no_access, begin_matches, begin_fresh, nested_areas, nested_fresh, nested_ends, nested_goes_on, nested_back, nested_seen}
+use Rattle.xt_simulation.proofs.Judges.{judge_keeps, judge_areas, judge_plain, shaped_now, same_laid, record_access}
+use Rattle.xt_simulation.proofs.Holes.{HasHoles, marks_wide, step_holes}
+use Rattle.xt_simulation.proofs.NestedSteps.{some_none, place_plain, place_inside, closes_plain, still_inside, no_access, begin_matches, begin_fresh, nested_areas, nested_fresh, nested_ends, nested_goes_on, nested_back, nested_seen}
 
 -- ---- histories that grow
 abbrev pub Answers : MemoryContents → List Entry → Type 0
@@ -139,6 +141,8 @@ module _ (code : ℕ → ℕ) (bytes : AreBytes code) where
     pub second : InCore theirs.standing.mode m c theirs.standing.fresh theirs.state theirs.standing.frame theirs.entered
     pub shaped_first : IsShaped mine.state
     pub shaped_second : IsShaped theirs.state
+    pub holes_first : HasHoles mine.standing.frame
+    pub holes_second : HasHoles theirs.standing.frame
     pub real : IsMemory m
     pub frames : IsMemory framed
     pub agree : Agree (live_of b mine.standing.frame (is_live c.range theirs.standing.frame)) stale m framed
@@ -149,6 +153,8 @@ module _ (code : ℕ → ℕ) (bytes : AreBytes code) where
     second = h.first;
     shaped_first = h.shaped_second;
     shaped_second = h.shaped_first;
+    holes_first = h.holes_second;
+    holes_second = h.holes_first;
     real = h.real;
     frames = h.frames;
     agree = λ a live. h.agree a (or_turned (is_live c.range theirs.standing.frame a) (is_live b.range mine.standing.frame a) live);
@@ -186,6 +192,8 @@ module _ (code : ℕ → ℕ) (bytes : AreBytes code) where
             second = core_spared theirs.standing.mode m (memory_now code m s) c other theirs.standing.fresh theirs.state theirs.standing.frame theirs.entered (λ a live. only a (live_apart b.range c.range f theirs.standing.frame a apart mine yours live)) h.second;
             shaped_first = shaped_now code m s bytes h.shaped_first h.real;
             shaped_second = h.shaped_second;
+            holes_first = h.holes_first;
+            holes_second = h.holes_second;
             real = step_memory m (demand code s) h.real;
             frames = h.frames;
             agree = λ a live st. only a (or_parts (is_live b.range f a) (others a) live).0 ∙ h.agree a live st;
@@ -224,6 +232,8 @@ module _ (code : ℕ → ℕ) (bytes : AreBytes code) where
             second = core_spared theirs.standing.mode m (memory_now code m s) c other theirs.standing.fresh theirs.state theirs.standing.frame theirs.entered (λ a live. live_kept (live_of b f others) stale m (demand code s) a areas (or_right (is_live b.range f a) (others a) live)) h.second;
             shaped_first = shaped_now code m s bytes h.shaped_first h.real;
             shaped_second = h.shaped_second;
+            holes_first = step_holes code nested rec f h.holes_first;
+            holes_second = h.holes_second;
             real = step_memory m (demand code s) h.real;
             frames = entries_sized (entry_of core rec.access rec.reply) framed h.frames;
             agree = subst (λ y. Agree (live_of b u.after others) (stale_after (live_of b u.after others) (live_of b f others) stale rec.access) (memory_now code m s) y) (entry_memory core rec.access rec.reply framed) alike;
@@ -296,7 +306,7 @@ module _ (code : ℕ → ℕ) (bytes : AreBytes code) where
         let j : After code b fresh s f m framed others stale = judge_keeps code bytes b fresh s f somewhere.ring somewhere.spilled m framed others stale somewhere.related h.first.1 h.shaped_first h.real h.frames.sizes h.agree (kind_isnt nowindow) e in
         let areas : KeepsAreas (live_of b f others) stale (demand code s) = judge_areas code bytes b fresh s f somewhere.ring somewhere.spilled m framed others stale somewhere.related h.first.1 h.shaped_first h.real h.frames.sizes h.agree (kind_isnt nowindow) e in
         let same : Matches (place_on false rec f) rec (step_on code false rec f) framed = subst (λ pc. Matches pc rec (step_on code false rec f) framed) (sym (place_plain rec f h.first.1)) j.same in
-        let none : (step_on code false rec f).after.nested ≡ None = nested_plain code rec f h.first.1 in
+        let none : (step_on code false rec f).after.nested ≡ None = judge_plain code bytes b fresh s f somewhere.ring somewhere.spilled m framed others stale somewhere.related h.first.1 h.shaped_first h.real h.frames.sizes h.agree (kind_isnt nowindow) e in
         let next : mode_after code Plain rec ≡ Plain = cond-false (is_window rec.kind) Handles Plain nowindow in
         subst (Keeps b c (core_in Plain) theirs m framed) (some_is _ x k)
         (subst (λ mode. Keeps b c (core_in Plain) theirs m framed (judged_to false mode (fresh_on fresh code false rec f) at)) (sym next)
@@ -315,7 +325,7 @@ module _ (code : ℕ → ℕ) (bytes : AreBytes code) where
         let entered : Entered = entered_past Handles s m (state_now code m s) at in
         let same : memory_now code m s ≡ m = ap (memory_after_step m) (no_access code m s f here outside) in
         let suspends : Suspends code b (memory_now code m s) (state_now code m s) u.after entered.before entered.opened s =
-        subst (λ y. Suspends code b y (state_now code m s) u.after entered.before entered.opened s) (sym same) (nested_begin code bytes b good m s f at.before at.opened h.first.0 outside h.shaped_first here) in
+        subst (λ y. Suspends code b y (state_now code m s) u.after entered.before entered.opened s) (sym same) (nested_begin code bytes b good m s f at.before at.opened h.first.0 outside h.shaped_first h.holes_first.unset here) in
         let held : Held (memory_now code m s) b u.after entered = record { bytes = λ a live. ap (λ y. byte_at y a) same; epc1 = h.first.0.control.epc1 } in
         let lost : fresh_on fresh code true rec f ≡ false = begin_fresh code m s f here outside fresh ∙ h.first.2 in
         let areas : KeepsAreas (live_of b f others) stale (demand code s) = subst (KeepsAreas (live_of b f others) stale) (sym (no_access code m s f here outside)) tt in
@@ -345,7 +355,8 @@ module _ (code : ℕ → ℕ) (bytes : AreBytes code) where
         let areas = nested_areas inside h.shaped_first (live_of b f others) stale none in
         record {
           bytes = λ a live.
-              let before = sym (same_live b.range f (step_on code true rec f) a (still_inside code rec f inside.x inside.nested)) ∙ live in
+              let still = still_inside code rec f inside.x inside.nested in
+              let before = sym (live_same b f (step_on code true rec f).after still.0 still.1 a) ∙ live in
               live_kept (live_of b f others) stale m (demand code s) a areas (or_left (is_live b.range f a) (others a) before) ∙ h.first.1.bytes a before;
           epc1 = h.first.1.epc1;
         }
@@ -355,7 +366,7 @@ module _ (code : ℕ → ℕ) (bytes : AreBytes code) where
     unfolding InCore
     nested_step none h =
         let inside = h.first.0 in
-        let step = nested_steps_are_kept code bytes b good m framed s f at.before at.opened at.suspended others stale inside h.shaped_first h.real.sizes h.agree none inside.x inside.nested in
+        let step = nested_steps_are_kept code bytes b good m framed s f at.before at.opened at.suspended others stale inside h.shaped_first h.real.sizes h.agree none inside.x inside.nested h.holes_first.unset (marks_wide h.holes_first inside.x inside.nested) in
         (subst (λ pc. Matches pc rec (step_on code true rec f) framed) (sym (place_inside rec f inside.x inside.nested)) step.0, step.1)
 
     -- RFI 5 goes back to the window handler
