@@ -1,58 +1,52 @@
 -- What a nested step leaves, as the walk over both cores asks it: of the record that begins a nested interrupt, of a step of it, and of
 -- RFI 5.
 use Rattle.std.specs.Prelude.{is_some}
-use Rattle.std.proofs.Common.{◌≡◌, ℕ, zero, suc, ◌<◌, Bool, true, false, ◌&&◌, ◌||◌, not, cond, eqb, ltb, List, [], ◌∷◌, Option, Some, None, sym, ap, ◌∙◌, refl, arith, inl, inr, ⊎_elim, subst, get_or}
-use Rattle.std.proofs.lemmas.Bool.{cond-true, cond-false, cases_Bool, and_right, and_parts, or_parts, or_from, not-false, eqb-true, false≢true, false_from_ne_true}
+use Rattle.std.proofs.Common.{◌≡◌, ℕ, Bool, true, false, ◌&&◌, not, cond, eqb, ltb, Option, Some, None, sym, ap, ◌∙◌, refl, subst}
+use Rattle.std.proofs.lemmas.Bool.{cond-true, cond-false, and_right, or_parts, or_from, not-false, eqb-true, false≢true, false_from_ne_true}
 use Rattle.xt_isa.specs.declared.Insn.{Insn}
 use Rattle.xt_isa.specs.declared.Insn.TheVariants as insn
 use Rattle.xt_isa.specs.declared.system.System.TheVariants as system
 use Rattle.xt_map.specs.declared.contents.MemoryContents.{MemoryContents}
-use Rattle.xt_map.specs.Memory.{byte_at}
 use Rattle.xt_special.specs.declared.ps.Ps.{Ps}
 use Rattle.xt_special.specs.Numbers as number
 use Rattle.xt_special.specs.Shape.{IsPs}
 use Rattle.xt_special.specs.Control.{Control, special_of, ps_of, ps_word}
-use Rattle.xt_special.specs.Interrupts.{pending_of, pending_level}
+use Rattle.xt_special.specs.Interrupts.{pending_of}
 use Rattle.xt_special.proofs.PsWords.{of_word_of_fields}
 use Rattle.xt_window.specs.Ring.{visible}
 use Rattle.xt_trace.specs.declared.record.StepRecord.{StepRecord}
 use Rattle.xt_trace.specs.declared.record.StepKind.{StepKind}
 use Rattle.xt_trace.specs.declared.record.StepKind.TheVariants as kind
-use Rattle.xt_rows.specs.declared.outcome.Outcome.{Outcome}
-use Rattle.xt_rows.specs.declared.outcome.Outcome.TheVariants.{Does, Windowed}
-use Rattle.xt_rows.specs.declared.outcome.WindowStep.{WindowStep}
-use Rattle.xt_rows.specs.declared.outcome.WindowStep.TheVariants.{Enters, Returns, EndsOverflow, EndsUnderflow, MovesStack}
 use Rattle.xt_rows.specs.Numbers.{natural}
 use Rattle.xt_rows.specs.Effects.{illegal_instruction}
 use Rattle.xt_rows.specs.Operands.{special_reads}
 use Rattle.xt_rows.specs.Outcomes.{outcome, system_outcome, outcome_at}
-use Rattle.xt_rows.specs.Settling.{after_effect, settled_interrupt, return_size}
+use Rattle.xt_rows.specs.Settling.{after_effect}
 use Rattle.xt_fetch.specs.Fetching.{Fetched, Fetches, Fails, SpellsNothing, fetched}
 use Rattle.xt_exec.specs.State.{State}
 use Rattle.xt_exec.specs.Laws.{IsShaped}
-use Rattle.xt_exec.specs.Turn.{Planned, planned, demand, turn, in_window, windowed, entered, returned, resumed, overflow, underflow, moved_stack, done, checked, fetched_turn, is_illegal, raises, window_check, has_windows, looks, with_write, written, reply_where}
-use Rattle.xt_exec.proofs.Finished.{turn_taken, turn_waits, turn_fetches}
-use Rattle.xt_window.specs.Ring.{bit, ahead}
-use Rattle.xt_window.specs.Moves.{base_after_return, behind}
+use Rattle.xt_exec.specs.Turn.{Planned, planned, demand, turn, done, checked, fetched_turn, is_illegal, raises, window_check, has_windows, looks, with_write, written, reply_where}
+use Rattle.xt_exec.proofs.Finished.{turn_fetches}
+use Rattle.xt_window.specs.Ring.{ahead}
 use Rattle.xt_frames.specs.declared.holes.Nested.{Nested}
 use Rattle.xt_frames.specs.declared.kinds.BreachKind.{BreachKind}
-use Rattle.xt_frames.specs.Frames.{Frame, FrameState, known}
-use Rattle.xt_frames.specs.FrameStep.{FrameTurn, laid, laid_step, pushed, popped, popped_from, windowed_in_frame, done_in_frame, fetched_step}
-use Rattle.xt_frames.specs.Marks.{are_own_marks, is_mark}
+use Rattle.xt_frames.specs.Frames.{FrameState}
+use Rattle.xt_frames.specs.FrameStep.{FrameTurn, laid, laid_step}
+use Rattle.xt_frames.specs.Marks.{are_own_marks}
 use Rattle.xt_frames.specs.Nesting.{begins, begun, current, current_in, disturbs_nested, ends_nested, inside, is_nesting, nested_fetched, nested_level, nested_turn}
-use Rattle.xt_frames.specs.SaveAreas.{Range, areas, covers_byte, is_live}
 use Rattle.xt_frames.specs.HandlerSteps.{closes, returns, fetched_returns}
 use Rattle.xt_frames.specs.Breaches.{Bounds, inputs_of, laid_breach, breach_of, fetched_tests, fetched_sets_epc1, writes_epc1, fresh_after, loses_epc1, breaks_nested, reads_epc1, sets_epc1, is_exception, touches_save_area, loads_stale}
 use Rattle.xt_frames.specs.Judging.{fresh_on, step_on, value_in, place_on}
-use Rattle.xt_frames.proofs.Inside.{step_inside, step_plain, fresh_inside, fresh_begun}
-use Rattle.xt_frames.proofs.Shown.{NoneShown, none_shown, Sound, sound}
-use Rattle.xt_simulation.specs.Relation.{inputs, lost_at, Even}
-use Rattle.xt_simulation.specs.Steps.{reply_at, reply_now, record_now, state_now, memory_now}
+use Rattle.xt_frames.proofs.Inside.{step_inside, fresh_inside, fresh_begun}
+use Rattle.xt_frames.proofs.Shown.{NoneShown, none_shown, sound}
+use Rattle.xt_simulation.specs.Relation.{inputs}
+use Rattle.xt_simulation.specs.Steps.{reply_at, reply_now, record_now, state_now}
 use Rattle.xt_simulation.specs.Memories.{KeepsAreas}
 use Rattle.xt_simulation.specs.Judges.{Matches}
-use Rattle.xt_simulation.specs.Nested.{IsInside, Suspends, marked}
+use Rattle.xt_simulation.specs.Nested.{Suspends}
 use Rattle.xt_simulation.proofs.Memories.{keeps_from}
 use Rattle.xt_simulation.proofs.Judges.{same_laid, record_access}
+use Rattle.xt_simulation.proofs.Resumed.{same_regs}
 use Rattle.xt_simulation.proofs.Taken.{nesting_taken}
 use Rattle.xt_simulation.proofs.Turns.{quiet_nested}
 use Rattle.xt_simulation.proofs.Served.{areas_fetched}
@@ -153,6 +147,7 @@ goes_now code s (Fetches i len) e quiet running at ends =
 goes_now code s (Fails address) e quiet running at ends = absurd cc
 goes_now code s SpellsNothing e quiet running at ends = absurd cc
 
+-- t is the state after it, where `suspended` is that at the beginning of the interrupt
 pub record Back (s t suspended : State) : Type 0 where
   pub regs : t.regs ≡ s.regs
   pub base : t.base ≡ suspended.base
@@ -185,9 +180,6 @@ module _ (code : ℕ → ℕ) (m : MemoryContents) (s : State) (f : FrameState) 
 
   step_begins : step_on code true (record_now code m s) f ≡ begun (laid (inputs_of (record_now code m s)) f)
   step_begins = begun_on code (record_now code m s) f nesting_rec none
-
-  pub still_begun : Still f (step_on code true (record_now code m s) f)
-  still_begun = subst (Still f) (sym step_begins) (refl, refl)
 
   pub no_access : demand code s ≡ None
   unfolding demand
@@ -245,30 +237,6 @@ own_at b fresh live stale (Fetches i len) rec g u x e t ends =
 own_at b fresh live stale (Fails address) rec g u x e t ends = absurd cc
 own_at b fresh live stale SpellsNothing rec g u x e t ends = absurd cc
 
-mark_is : (k : ℕ) (o : Option ℕ) → is_mark k o ≡ true → o ≡ Some k
-mark_is k None e = absurd cc
-mark_is k (Some mark) e = ap Some (eqb-true _ _ e)
-
-all_four : (a b c d : Bool) → (a && (b && (c && d))) ≡ true → (a ≡ true) × (b ≡ true) × (c ≡ true) × (d ≡ true)
-all_four a b c d e =
-    let p = and_parts a (b && (c && d)) e in
-    let q = and_parts b (c && d) p.1 in
-    let r = and_parts c d q.1 in
-    (p.0, q.0, r.0, r.1)
-
-own_mark : (marks : List (Option ℕ)) → are_own_marks marks ≡ true → (k : ℕ) → k < 4 → get_or marks k None ≡ Some k
-own_mark marks e k l = at k l
-  where
-    four : (is_mark 0 (get_or marks 0 None) ≡ true) × (is_mark 1 (get_or marks 1 None) ≡ true) × (is_mark 2 (get_or marks 2 None) ≡ true) × (is_mark 3 (get_or marks 3 None) ≡ true)
-    four = all_four (is_mark 0 (get_or marks 0 None)) (is_mark 1 (get_or marks 1 None)) (is_mark 2 (get_or marks 2 None)) (is_mark 3 (get_or marks 3 None)) e
-
-    at : (k : ℕ) → k < 4 → get_or marks k None ≡ Some k
-    at zero l = mark_is 0 (get_or marks 0 None) four.0
-    at (suc zero) l = mark_is 1 (get_or marks 1 None) four.1
-    at (suc (suc zero)) l = mark_is 2 (get_or marks 2 None) four.2
-    at (suc (suc (suc zero))) l = mark_is 3 (get_or marks 3 None) four.3
-    at (suc (suc (suc (suc k)))) l = absurd (omega arith)
-
 module _ {code : ℕ → ℕ} {b : Bounds} {m : MemoryContents} {s : State} {f : FrameState} {before : State} {opened : ℕ → ℕ} {suspended : State} (h : Suspends code b m s f before opened suspended) (shaped : IsShaped s) (live stale : ℕ → Bool)
     (none : breach_of b false code live stale true (record_now code m s) f ≡ None) where
   abbrev rec : StepRecord
@@ -308,7 +276,7 @@ module _ {code : ℕ → ℕ} {b : Bounds} {m : MemoryContents} {s : State} {f :
       let excm_y : y.control.ps.excm ≡ true = ap (λ (z : FrameState). z.control.ps.excm) same_g ∙ excm_g in
       fresh_inside false code true rec f h.x h.nested ∙ or_from _ _ (not_written (laid_step code rec.reply y).kind (fetched code y.control.pc) y.control.ps excm_y none_sets) refl
 
-  -- ---- and whether it ends the interrupt
+  -- ---- whether it ends the interrupt
   here : fetched_returns (fetched code s.control.pc) ≡ true → Goes s (planned code s)
   here ends = goes_now code s (fetched code s.control.pc) h.inside.mode (quiet_inside s.control h.inside.level) h.inside.running refl ends
 
@@ -341,10 +309,9 @@ module _ {code : ℕ → ℕ} {b : Bounds} {m : MemoryContents} {s : State} {f :
   pub nested_back : returns code (planned code s).kind s.control.pc ≡ true → Back s (state_now code m s) suspended
   nested_back e = back_now code s suspended (reply_now code m s) (here (returns_fetched code (planned code s).kind s.control.pc e)) h.inside.base h.inside.start h.inside.eps ps_shaped
 
-  pub nested_seen : returns code (planned code s).kind s.control.pc ≡ true → (i : ℕ) → i < 4 → visible (state_now code m s).regs (state_now code m s).base i ≡ visible suspended.regs suspended.base i
-  nested_seen e i l =
+  pub nested_seen : returns code (planned code s).kind s.control.pc ≡ true → (i : ℕ) → visible (state_now code m s).regs (state_now code m s).base i ≡ visible suspended.regs suspended.base i
+  nested_seen e i =
       let back = nested_back e in
       let at : fetched_returns (fetched code g.control.pc) ≡ true = subst (λ pc. fetched_returns (fetched code pc) ≡ true) pc_same (returns_fetched code (planned code s).kind s.control.pc e) in
       let own = own_at b false live stale (fetched code g.control.pc) rec g (laid_step code rec.reply g) h.x h.nested tests at in
-      ap (λ r. visible r (state_now code m s).base i) back.regs
-      ∙ (ap (λ x. visible s.regs x i) (back.base ∙ sym h.inside.base) ∙ (h.inside.marks i i (own_mark h.x.marks own i l)).0)
+      ap (λ r. visible r (state_now code m s).base i) (back.regs ∙ same_regs h.inside own) ∙ ap (λ x. visible suspended.regs x i) back.base

@@ -22,7 +22,7 @@ use Rattle.xt_frames.specs.SaveAreas.{Range}
 use Rattle.xt_frames.specs.Breaches.{lost_of, Bounds}
 use Rattle.xt_frames.specs.Frames.{all_set}
 use Rattle.xt_frames.specs.Stacks.{IsRange}
-use Rattle.xt_simulation.specs.Relation.{Level, lost_at, can_be_lost}
+use Rattle.xt_simulation.specs.Relation.{Level, lost_at}
 use Rattle.xt_simulation.specs.Cores.{word, Related}
 use Rattle.xt_simulation.proofs.RingLemmas.{some_within}
 use Rattle.xt_stretch.specs.Running.{with_word, is_access}

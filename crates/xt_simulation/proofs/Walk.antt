@@ -410,7 +410,7 @@ module _ (code : ℕ → ℕ) (bytes : AreBytes code) where
         let now = returns_is true ends in
         let back = nested_back h.first.0 h.shaped_first (live_of b f others) stale none now in
         subst (λ t. LeavesHandler b f at.suspended t at.held (byte_at m)) (ap (λ (y : Moved). y.mine.state) (some_is _ x k)) (record {
-          seen = nested_seen h.first.0 h.shaped_first (live_of b f others) stale none now;
+          seen = λ i within. nested_seen h.first.0 h.shaped_first (live_of b f others) stale none now i;
           epc1 = (nested_resumes ends none h).1.control.epc1 ∙ sym h.first.1.epc1;
           ps = back.ps;
           base = back.base;
