@@ -1,7 +1,6 @@
 -- No row but those that set PS changes INTLEVEL or EXCM, or waits.
-use Rattle.std.proofs.Common.{◌≡◌, ◌<◌, ◌⊎◌, ◌&&◌, leb, ◌≢◌, ⊎_elim, ℕ, ◌*◌, ◌%◌, ◌≤◌, ℤ, Bool, true, false, ◌||◌, cond, eqb, Option, Some, None, max, inl, inr, refl, sym, ◌∙◌, arith, ◌^◌, ◌==◌}
-use Rattle.std.specs.Prelude.{if◌then◌else◌, ◌^◌, bit_and, bit_or, bit_xor, min}
-use Rattle.std.proofs.lemmas.Bool.{eqb-true, leb-true, and_parts, or_cases, false_from_ne_true, true≢false}
+use Rattle.std.proofs.Common.{◌≡◌, ℕ, ◌*◌, ◌%◌, ℤ, Bool, true, false, cond, eqb, Option, Some, None, refl, ◌^◌, ◌==◌}
+use Rattle.std.specs.Prelude.{◌^◌}
 use Rattle.xt_isa.specs.declared.Insn.{Insn}
 use Rattle.xt_isa.specs.declared.Insn.TheVariants as insn
 use Rattle.xt_isa.specs.declared.three.Three.{Three}
@@ -62,31 +61,20 @@ use Rattle.xt_isa.specs.declared.boolean.ChoiceName.TheVariants as ChoiceName
 use Rattle.xt_map.specs.declared.access.Access.{Access}
 use Rattle.xt_map.specs.declared.access.Kind.TheVariants.{Load, Store, Cas}
 use Rattle.xt_map.specs.Regions.{is_mapped, is_constant, region_of}
-use Rattle.xt_special.specs.declared.writes.SpecialWrite.{SpecialWrite}
-use Rattle.xt_special.specs.Access.{value_kept, timer_bit, without_bits, is_window_register, written_by, set_to, no_set, SpecialWrites}
 use Rattle.xt_alu.specs.Conditions.{holds}
 use Rattle.xt_alu.specs.declared.conditions.Cond.TheVariants as cond_
-use Rattle.xt_alu.specs.Arithmetic.{addx, subx, mul16u, mul16s, mull, muluh, mulsh, quou, quos, remu, rems, signed_min, signed_max, neg, abs, sext, clamps, nsa, nsau}
-use Rattle.xt_alu.specs.Shifts.{src, srl, sra, sll, slli, srai, srli, extui}
-use Rattle.xt_fetch.specs.Code.{code_number}
+use Rattle.xt_alu.specs.Arithmetic.{quou, quos, remu, rems}
 use Rattle.xt_rows.specs.declared.outcome.Awaited.{Awaited}
-use Rattle.xt_rows.specs.declared.outcome.Flow.TheVariants.{Goes}
 use Rattle.xt_rows.specs.declared.outcome.Effect.{Effect}
 use Rattle.xt_rows.specs.declared.outcome.WindowRegister.{WindowRegister}
-use Rattle.xt_rows.specs.declared.outcome.WindowRegister.TheVariants as window
 use Rattle.xt_rows.specs.declared.outcome.Outcome.{Outcome}
-use Rattle.xt_rows.specs.declared.outcome.Outcome.TheVariants.{Does, Raises, Asks}
-use Rattle.xt_rows.specs.Numbers.{plus, natural, call_target, literal_address, extended, linked, address_behind}
-use Rattle.xt_rows.specs.Operands.{call_size, callx_size, named}
-use Rattle.xt_rows.specs.Effects.{unchanged, puts, moves, divides, branches, calls, asks, aligned, loads, stores, swaps, window_register, reads_special, writes_special, exchanges_special, write_to}
+use Rattle.xt_rows.specs.Numbers.{plus, natural, call_target, literal_address}
+use Rattle.xt_rows.specs.Operands.{call_size, callx_size}
+use Rattle.xt_rows.specs.Effects.{unchanged, puts, moves, divides, branches, calls, asks, aligned, loads, stores, swaps, window_register, reads_special, writes_special, exchanges_special}
 use Rattle.xt_rows.specs.Outcomes.{three_outcome, shift_outcome, memory_outcome, control_outcome, system_outcome, density_outcome, boolean_outcome, outcome, outcome_from}
-use Rattle.xt_rows.specs.Kinds.{is_entry, is_movsp, is_windowing, names_window_register, moved_to, is_saved, WritesNamed, AwaitsNamed, Spares, AllSpare, SetsOne, SetsSaved, Fits, OutcomesFit}
 use Rattle.xt_special.specs.declared.ps.Ps.{Ps}
 use Rattle.xt_rows.specs.Laws.{sets_mode, KeepsMode, ModesAreKept}
-
 use Rattle.xt_special.specs.Control.{ps_of}
-use Rattle.xt_rows.specs.Numbers.{minus, branch_target}
-use Rattle.xt_alu.specs.Shifts.{ssr, ssl, ssa8l, ssa8b}
 
 -- ---- the words of the formulas
 puts_mode : (number value : ℕ) (e : Effect) → KeepsMode e (puts number value e)
