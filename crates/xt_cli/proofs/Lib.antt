@@ -4,3 +4,4 @@ mod Running
 mod Sending
 mod Working
 mod Writing
+pub mod Joined

@@ -11,7 +11,10 @@ use Rattle.xt_trace.specs.declared.run.Run.{Run}
 use Rattle.xt_gen.specs.Generated.{generated}
 use Rattle.xt_core.specs.Runs.{IsRunOf, code_of, records_of}
 use Rattle.xt_machine.specs.Lists.{run_of_list, schedule_in}
-use Rattle.xt_machine.specs.Framed.{IsFramed}
+use Rattle.xt_frames.specs.declared.kinds.Judged.TheVariants as judged
+use Rattle.xt_machine.specs.Framed.{IsFramed, judgement_of, opening}
+use Rattle.xt_simulation.specs.Walking.{Apart}
+use Rattle.xt_simulation.specs.Headline.{AreFrames}
 use Rattle.xt_record.specs.Written.{recording_bytes}
 use Rattle.xt_command_line.specs.Options.{with_entry}
 use Rattle.xt_command_line.specs.declared.command.Refusal.{Refusal}
@@ -53,17 +56,23 @@ pub record IsRunOfImage (o : RunOptions) (image : Image) (run : Run) : Type 0 wh
   pub options : run.options ≡ options_for o image
   pub of_image : IsRunOf image run
   pub own : run_of_its_schedule o image run ≡ run
-  -- where the six window handlers pass their check and the two stacks are apart, it is a run of the
-  -- machine with unbounded call frames, up to the first breach of the stack discipline
+  -- where the six answers for the window handlers are `yes` and the two stacks are apart, it is a
+  -- run of the machine with unbounded call frames, up to the first breach of the stack discipline
   pub framed : IsFramed image run
 
 -- What is found of a run of the image: the answers for the image's window handlers are those of the
 -- six vectors from the VECBASE on with which the run opens, and the verdict is that of the run's
--- records. So where it is not `none`, the handlers pass, and with `framed` above the run up to the
--- first breach is one of the machine with unbounded call frames, if the two stacks are apart.
+-- records.
 pub record IsJudged (image : Image) (w : Whole) : Type 0 where
   pub handlers : w.handlers ≡ handlers_of (code_of image) w.run.options.vecbase
   pub verdict : w.judged ≡ judged_of w.handlers image w.run
+  -- where the verdict is not `none` and the two stacks are apart, the judged steps before the first
+  -- breach are a run of the machine with unbounded call frames; where it is `whole`, that is all of
+  -- them
+  pub frames : (w.judged ≡ judged.Unchecked → ⊥)
+      → Apart (opening image w.run).range0 (opening image w.run).range1
+      → AreFrames (opening image w.run) (code_of image) (judgement_of image w.run)
+  pub whole : w.judged ≡ judged.Whole → (judgement_of image w.run).breach ≡ None
 
 -- the input is an image, and this is its run, and what is found of it
 pub record IsRunOfInput (o : RunOptions) (input : List ℕ) (w : Whole) : Type 0 where

@@ -4,6 +4,7 @@ ghost use Rattle.xt_cli.specs.Top.{IsJudged};
 ghost use Rattle.xt_cli.specs.Verdicts.{judged_of};
 ghost use Rattle.xt_core.specs.Runs.{IsRunOf};
 ghost use Rattle.xt_image.specs.Parts.{IsWellFormed};
+ghost use Rattle.xt_machine.specs.Framed.{IsFramed};
 
 use std::alloc::{AllocError, Global};
 use xt_core::Cursor;
@@ -48,10 +49,12 @@ fn verdict(
 
 /// A run of an image with what is found of it. The only error is running out of memory.
 ///
-/// Conditions: the image is well formed, and the run is one of this image.
+/// Conditions: the image is well formed, and the run is one of this image, which is framed.
+#[tactic(auto, using(crate::proofs::Joined::is_judged))]
 pub fn judged(alloc: Global, image: &Image, run: Run) -> Result<Whole, AllocError>
     requires image { IsWellFormed image.now }
     requires run { IsRunOf image.now run }
+    requires framed { IsFramed image.now run }
     ensures run { IfOk result (λ w. w.run ≡ run) }
     ensures judged { IfOk result (λ w. IsJudged image.now w) }
 {

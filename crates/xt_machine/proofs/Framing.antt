@@ -1,18 +1,25 @@
 -- A run of an image is framed.
-use Rattle.std.proofs.Common.{◌≡◌, ◌<◌, ℕ, zero, suc, List, [], ◌∷◌, arith, refl, sym, subst}
+use Rattle.std.proofs.Common.{◌≡◌, ◌<◌, ℕ, true, zero, suc, List, [], ◌∷◌, arith, refl, sym, subst}
 use Rattle.std.specs.Prelude.{slice_index}
 use Rattle.std.specs.List.{AllByRecursion}
 use Rattle.std.proofs.lemmas.List.Elements.{recursion_from_All}
+use Rattle.std.proofs.lemmas.Bool.{and_parts}
 use Rattle.xt_map.specs.declared.segment.Segment.{Segment}
 use Rattle.xt_trace.specs.declared.options.Options.{Options}
 use Rattle.xt_trace.specs.declared.run.Run.{Run}
 use Rattle.xt_image.specs.declared.image.Image.{Image}
 use Rattle.xt_image.specs.Parts.{FitsImage, FitsSegment}
 use Rattle.xt_rows.specs.Laws.{IsWord}
-use Rattle.xt_core.specs.Runs.{IsRunOf}
+use Rattle.xt_core.specs.Runs.{IsRunOf, code_of}
+use Rattle.xt_stretch.specs.declared.HandlerVerdict.{HandlerVerdict}
+use Rattle.xt_stretch.specs.declared.HandlerVerdict.TheVariants.{Yes, No}
+use Rattle.xt_stretch.specs.declared.Side.TheVariants.{Overflow, Underflow}
+use Rattle.xt_handlers.specs.Vectors.{Handlers, verdict_of}
+use Rattle.xt_handlers.specs.Answers.{handlers_of}
+use Rattle.xt_discipline.specs.Verdicts.{is_yes, are_yes}
 use Rattle.xt_simulation.specs.Opening.{AreSmall, IsRunnable}
 use Rattle.xt_simulation.specs.Headline.{IsRunOfImage}
-use Rattle.xt_simulation.proofs.Images.{windows_are_frames, stretches_of_images}
+use Rattle.xt_simulation.proofs.Images.{six_suffice, windows_are_frames, stretches_of_images}
 use Rattle.xt_machine.specs.Framed.{short_of, AreTyped, IsFramed, RunsAreFramed}
 
 bytes_small : (bytes : List ℕ) → AllByRecursion (λ b. b < 256) bytes → (k : ℕ) → slice_index bytes k < 256
@@ -36,8 +43,23 @@ given_by image r t h = record {
 run_by : (image : Image) (r : Run) → IsRunOf image r → IsRunOfImage image.segments image.entry r.options (short_of image r)
 run_by image r h = record { legal = h.legal; cores = h.cores; trace0 = refl; trace1 = refl; calls0 = h.calls0; calls1 = h.calls1 }
 
+yes_is : (v : HandlerVerdict) → is_yes v ≡ true → v ≡ Yes
+yes_is Yes h = refl
+yes_is (No offset) h = absurd cc
+
+-- six answers `yes` are the premise of the headline
+passes : (code : ℕ → ℕ) (vecbase : ℕ) → are_yes (handlers_of code vecbase) ≡ true → Handlers code vecbase
+unfolding handlers_of
+passes code vecbase h =
+    let a = and_parts (is_yes (verdict_of code vecbase Overflow 1)) _ h in
+    let b = and_parts (is_yes (verdict_of code vecbase Underflow 1)) _ a.1 in
+    let c = and_parts (is_yes (verdict_of code vecbase Overflow 2)) _ b.1 in
+    let d = and_parts (is_yes (verdict_of code vecbase Underflow 2)) _ c.1 in
+    let e = and_parts (is_yes (verdict_of code vecbase Overflow 3)) _ d.1 in
+    six_suffice code vecbase (record { of4 = yes_is _ a.0; uf4 = yes_is _ b.0; of8 = yes_is _ c.0; uf8 = yes_is _ d.0; of12 = yes_is _ e.0; uf12 = yes_is _ e.1 })
+
 pub runs_are_framed : RunsAreFramed
-runs_are_framed image r t h handlers apart = (
+runs_are_framed image r t h yes apart = let handlers = passes (code_of image) r.options.vecbase yes in (
   windows_are_frames image.segments image.entry r.options (short_of image r) (given_by image r t h) handlers apart (run_by image r h),
   stretches_of_images image.segments image.entry r.options (short_of image r) (given_by image r t h) handlers apart (run_by image r h),
 )

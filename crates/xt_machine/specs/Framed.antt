@@ -1,4 +1,5 @@
 -- The headline in the words of an image and its run ('profile').
+use Rattle.std.specs.Prelude.{◌≡◌, true}
 use Rattle.xt_trace.specs.declared.run.Run.{Run}
 use Rattle.xt_image.specs.declared.image.Image.{Image}
 use Rattle.xt_image.specs.Parts.{FitsImage}
@@ -7,7 +8,8 @@ use Rattle.xt_trace.specs.Short.{ShortRun, short_trace, short_schedule}
 use Rattle.xt_exec.specs.State.{State}
 use Rattle.xt_core.specs.Runs.{code_of, records_of, IsRunOf}
 use Rattle.xt_frames.specs.Verdict.{Judgement}
-use Rattle.xt_handlers.specs.Vectors.{Handlers}
+use Rattle.xt_handlers.specs.Answers.{handlers_of}
+use Rattle.xt_discipline.specs.Verdicts.{are_yes}
 use Rattle.xt_simulation.specs.Walking.{Apart}
 use Rattle.xt_simulation.specs.Opening.{Openings, openings_of}
 use Rattle.xt_simulation.specs.Headline as headline
@@ -29,12 +31,13 @@ opening image r = openings_of image.segments image.entry r.options
 abbrev pub judgement_of : Image → Run → Judgement
 judgement_of image r = headline.judgement_of image.segments image.entry r.options (short_of image r)
 
--- Where the six window handlers pass their check and the two stacks are apart, the judged records
--- before the first breach are a run of the machine with unbounded call frames, over one legal
--- history; and at each position before it each whole stretch of handler steps has moved one frame.
+-- Where the answers for the six window handlers are all `yes` and the two stacks are apart, the
+-- judged records before the first breach are a run of the machine with unbounded call frames, over
+-- one legal history; and at each position before it each whole stretch of handler steps has moved
+-- one frame.
 abbrev pub IsFramed : Image → Run → Type 0
 IsFramed image r =
-    Handlers (code_of image) r.options.vecbase
+    are_yes (handlers_of (code_of image) r.options.vecbase) ≡ true
     → Apart (opening image r).range0 (opening image r).range1
     → AreFrames (opening image r) (code_of image) (judgement_of image r)
     × HaveMovedFrames
