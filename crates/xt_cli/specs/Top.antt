@@ -1,5 +1,5 @@
 -- What each status of the program says ('profile').
-use Rattle.std.specs.Prelude.{◌≡◌, ◌≤◌, ◌+◌, ◌⊎◌, ℕ, List, length, Option, Some, None, Result, Ok}
+use Rattle.std.specs.Prelude.{◌≡◌, ◌≢◌, ◌≤◌, ◌+◌, ◌⊎◌, ℕ, List, length, Option, Some, None, Result, Ok}
 use Rattle.std.specs.Io.KnownBytes.{Appends, Keeps}
 use Rattle.xt_io.specs.Causes.{Rose}
 use Rattle.xt_io.specs.Whole.{AppendsPrefix, Takes}
@@ -12,9 +12,7 @@ use Rattle.xt_gen.specs.Generated.{generated}
 use Rattle.xt_core.specs.Runs.{IsRunOf, code_of, records_of}
 use Rattle.xt_machine.specs.Lists.{run_of_list, schedule_in}
 use Rattle.xt_frames.specs.declared.kinds.Judged.TheVariants as judged
-use Rattle.xt_machine.specs.Framed.{IsFramed, judgement_of, opening}
-use Rattle.xt_simulation.specs.Walking.{Apart}
-use Rattle.xt_simulation.specs.Headline.{AreFrames}
+use Rattle.xt_machine.specs.Framed.{IsFramed, IsFrameRunOf, judgement_of}
 use Rattle.xt_record.specs.Written.{recording_bytes}
 use Rattle.xt_command_line.specs.Options.{with_entry}
 use Rattle.xt_command_line.specs.declared.command.Refusal.{Refusal}
@@ -69,9 +67,7 @@ pub record IsJudged (image : Image) (w : Whole) : Type 0 where
   -- where the verdict is not `none` and the two stacks are apart, the judged steps before the first
   -- breach are a run of the machine with unbounded call frames; where it is `whole`, that is all of
   -- them
-  pub frames : (w.judged ≡ judged.Unchecked → ⊥)
-      → Apart (opening image w.run).range0 (opening image w.run).range1
-      → AreFrames (opening image w.run) (code_of image) (judgement_of image w.run)
+  pub frames : w.judged ≢ judged.Unchecked → IsFrameRunOf image w.run
   pub whole : w.judged ≡ judged.Whole → (judgement_of image w.run).breach ≡ None
 
 -- the input is an image, and this is its run, and what is found of it

@@ -47,6 +47,12 @@ IsFramed image r =
     r.options.turns1
     (short_schedule (short_of image r))
 
+-- without the premise on the handlers
+abbrev pub IsFrameRunOf : Image → Run → Type 0
+IsFrameRunOf image r =
+    Apart (opening image r).range0 (opening image r).range1
+    → AreFrames (opening image r) (code_of image) (judgement_of image r)
+
 -- the numbers of an image and of the addresses of a run's options are in the ranges of their types
 pub record AreTyped (image : Image) (r : Run) : Type 0 where
   pub image_fits : FitsImage image
