@@ -9,7 +9,7 @@ use xt_io::{OpenGate, StdSink, StdSource};
 // Prints the line of an end to standard error. Where standard error takes nothing, the exit code alone
 // tells the status.
 fn tell(rt: &(impl Eprint + AllocGlobal), end: &End) {
-    if let Some(line) = &end.line {
+    if let Ok(Some(line)) = &end.line {
         if let Ok(text) = std::str::from_utf8(line.as_slice()) {
             let _ = eprint!(rt; "{text}");
         }

@@ -1,5 +1,5 @@
 -- How the program ends: its line on standard error, and its code ('profile').
-use Rattle.std.specs.Prelude.{◌≡◌, ℕ, List, None, IfSome}
+use Rattle.std.specs.Prelude.{◌≡◌, ℕ, List, Option, Some, None, IfOk}
 use Rattle.xt_cli.specs.declared.ending.End.{End}
 use Rattle.xt_cli.specs.declared.status.Status.{Status}
 use Rattle.xt_cli.specs.declared.status.Status.TheVariants as status
@@ -9,12 +9,15 @@ use Rattle.xt_cli.specs.Orders.{order_of}
 use Rattle.xt_cli.specs.Statuses.{status_code, status_text}
 use Rattle.xt_cli.specs.Top.{Answers, IsComplete}
 
--- The code is the status's, and so is the line. There is none where the status is Done, and there
--- may be none where memory ran out.
+-- none where the status is Done
+abbrev pub line_of : Status → Option (List ℕ)
+line_of status.Done = None
+line_of s = Some (status_text s)
+
+-- the code and the line are the status's
 pub record IsEndOf (s : Status) (e : End) : Type 0 where
   pub code : e.code ≡ status_code s
-  pub line : IfSome e.line (λ text. text ≡ status_text s)
-  pub done : s ≡ status.Done → e.line ≡ None
+  pub line : IfOk e.line (λ line. line ≡ line_of s)
 
 -- a call with these words ends so: in the status of the top call
 pub record IsEndOfCall (words : List (List ℕ)) (c : Ends) (e : End) : Type 0 where

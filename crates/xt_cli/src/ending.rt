@@ -5,7 +5,7 @@ ghost use Rattle.xt_cli.specs.Endings.{IsEndOf, IsEndOfCall};
 
 use crate::status::{Status, status_line};
 use crate::top::xt_main;
-use std::alloc::Global;
+use std::alloc::{AllocError, Global};
 use std::env;
 use std::io::ErrorKind;
 use std::rt::Env;
@@ -17,9 +17,9 @@ use xt_map::Text;
 /// How the program ends.
 #[derive(Drop)]
 pub struct End {
-    /// The line for standard error. None where the command did all of its work, and where there was no
-    /// memory for it: then the code alone tells the status.
-    pub line: Option<Text>,
+    /// The line for standard error, None where the command did all of its work. The only error is
+    /// running out of memory: then the code alone tells the status.
+    pub line: Result<Option<Text>, AllocError>,
     /// The code with which the program ends.
     pub code: u8,
 }
@@ -47,8 +47,8 @@ fn ended(alloc: Global, status: &Status) -> End
     ensures { IsEndOf status.now result }
 {
     let line = match status {
-        Status::Done => None,
-        _ => status_line(alloc, status).ok(),
+        Status::Done => Ok(None),
+        _ => status_line(alloc, status).map(Some),
     };
     End {
         line,

@@ -30,8 +30,9 @@ pub fn agrees<R: Threads + Wait + Sync + AllocGlobal>(rt: &R, case: &str) -> Opt
     let code = words_of(case, "code").parse::<u8>().ok()?;
     let wanted = lines_of(alloc, case, "line", "").ok()?;
     let line = match &end.line {
-        Some(line) => line.as_slice(),
-        None => b"".as_slice(),
+        Ok(Some(line)) => line.as_slice(),
+        Ok(None) => b"".as_slice(),
+        Err(_) => return None,
     };
     Some(end.code == code && line == wanted.as_bytes())
 }
