@@ -7,3 +7,6 @@ pub mod Kept
 pub mod TestRows
 pub mod Laying
 pub mod Inside
+pub mod Prefixes
+pub mod Earlier
+pub mod FirstBreach

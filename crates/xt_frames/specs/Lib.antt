@@ -7,6 +7,7 @@ pub mod HandlerSteps
 pub mod Breaches
 pub mod Judging
 pub mod Verdict
+pub mod FirstBreach
 pub mod Stacks
 pub mod Parts
 pub mod Walked

@@ -8,6 +8,7 @@ mod frames;
 mod holes;
 mod judged;
 mod kinds;
+pub mod laws;
 mod nested;
 mod registers;
 mod view;
