@@ -1,11 +1,26 @@
 -- Stale bytes and EPC1 before a turn, and before the next: what the judge keeps of them decides what is said by all earlier turns.
-use Rattle.std.proofs.Common.{◌≡◌, ℕ, zero, suc, ◌<◌, ◌≤◌, Bool, true, false, cond, ◌==◌, ◌&&◌, ◌||◌, not, if◌then◌else◌, sym, ap, ◌∙◌, refl, arith, inl, inr, ⊎_elim, subst, Decides}
-use Rattle.std.proofs.lemmas.Bool.{cond-true, cond-false, cases_Bool, both_ways, not-true, and_parts, and_from, and_cases, and_left, and_right, or_cases, or_parts, or_from, or_left, or_right, not_from_true, not_from_false, not-false, eq-eqb}
+use Rattle.std.proofs.Common.{◌≡◌, ℕ, suc, ◌<◌, ◌≤◌, Bool, true, false, ◌==◌, ◌&&◌, ◌||◌, not, sym, ap, ◌∙◌, refl, arith, inl, inr, ⊎_elim, subst, Decides, Option, Some, None, ◌⊎◌}
+use Rattle.std.proofs.lemmas.Bool.{cases_Bool, both_ways, not-true, and_parts, and_from, and_cases, and_left, and_right, or_cases, or_parts, or_from, or_left, or_right, not_from_true, not_from_false, not-false, eq-eqb}
+use Rattle.std.proofs.lemmas.Option.{none-some}
 use Rattle.std.proofs.lemmas.Bool.Decides.{Decides-like}
+use Rattle.xt_map.specs.declared.access.Access.{Access}
+use Rattle.xt_map.specs.Touching.{is_store, touches}
 use Rattle.xt_trace.specs.declared.record.StepRecord.{StepRecord}
-use Rattle.xt_frames.specs.Breaches.{stale_after, stores_at}
-use Rattle.xt_frames.specs.FirstBreach.{Course, IsJudgedTurn, IsLost, IsStale, IsTurn, LeavesByte, LeavesEpc1, Turn, falls_at, is_judged, live_before, mode_before, turn_of, writes_at}
+use Rattle.xt_frames.specs.Breaches.{falls, stale_after, stores_at}
+use Rattle.xt_frames.specs.Nesting.{current}
+use Rattle.xt_frames.specs.FirstBreach.{Course, EndsMode, IsJudgedTurn, IsLost, IsStale, IsTurn, LeavesByte, LeavesEpc1, Turn, given, is_judged, step_at, live_before, mode_before, writes_at}
 use Rattle.xt_frames.proofs.Prefixes.{before_or_at, same_turn}
+
+-- ---- a store that touches a byte
+untouched : (o : Option Access) (x : Access) (a : ℕ) → stores_at o a ≡ false → o ≡ Some x → is_store x.kind ≡ true → touches x.addr x.size a ≡ false
+untouched None x a e at s = absurd (none-some x at)
+untouched (Some y) x a e at s =
+    let same : stores_at (Some x) a ≡ false = subst (λ o. stores_at o a ≡ false) at e in
+    ⊎_elim (λ n. absurd (both_ways (is_store x.kind) n s)) (λ t. t) (and_cases (is_store x.kind) (touches x.addr x.size a) same)
+
+unstored : (o : Option Access) (a : ℕ) → ((x : Access) → o ≡ Some x → is_store x.kind ≡ true → touches x.addr x.size a ≡ false) → stores_at o a ≡ false
+unstored None a h = refl
+unstored (Some y) a h = ⊎_elim (λ s. and_right (is_store y.kind) (touches y.addr y.size a) (h y refl s)) (λ n. and_left (is_store y.kind) (touches y.addr y.size a) n) (cases_Bool (is_store y.kind))
 
 module _ (r : Course) (p core : ℕ) (rec : StepRecord) (turn : IsTurn r p core rec) where
   -- the turn is not judged, so no turn of its number is
@@ -20,31 +35,34 @@ module _ (r : Course) (p core : ℕ) (rec : StepRecord) (turn : IsTurn r p core 
 
   -- ---- stale bytes
   no_store : (a : ℕ) → stores_at rec.access a ≡ false → LeavesByte r p a
-  no_store a e c q t = subst (λ (x : StepRecord). stores_at x.access a ≡ false) (same_rec c q t.turn) e
+  no_store a e c q x t at s = untouched q.access x a (subst (λ (y : StepRecord). stores_at y.access a ≡ false) (same_rec c q t.turn) e) at s
 
-  bytes_more : (last a : ℕ) → ((i : ℕ) → last < i → i < p → LeavesByte r i a) → LeavesByte r p a → (i : ℕ) → last < i → i < suc p → LeavesByte r i a
-  bytes_more last a h now i l u = ⊎_elim (λ b. h i l b) (λ e. subst (λ x. LeavesByte r x a) (sym e) now) (before_or_at i p u)
+  no_touch : (a : ℕ) → is_judged (mode_before r core p) rec.kind ≡ true → LeavesByte r p a → stores_at rec.access a ≡ false
+  no_touch a j h = unstored rec.access a (λ x at s. h core rec x (record { turn = turn; judged = j }) at s)
+
+  bytes_more : (once a : ℕ) → ((i : ℕ) → once < i → i < p → LeavesByte r i a) → LeavesByte r p a → (i : ℕ) → once < i → i < suc p → LeavesByte r i a
+  bytes_more once a h now i l u = ⊎_elim (λ b. h i l b) (λ e. subst (λ x. LeavesByte r x a) (sym e) now) (before_or_at i p u)
 
   stale_later : (a : ℕ) → live_before r (suc p) a ≡ false → LeavesByte r p a → IsStale r p a → IsStale r (suc p) a
   stale_later a gone now h =
       let earlier = h.earlier in
-      record { gone = gone; last = h.last; earlier = omega (arith, earlier); live = h.live; since = bytes_more h.last a h.since now }
+      record { gone = gone; once = h.once; earlier = omega (arith, earlier); live = h.live; since = bytes_more h.once a h.since now }
 
   stale_now : (a : ℕ) → live_before r (suc p) a ≡ false → live_before r p a ≡ true → IsStale r (suc p) a
-  stale_now a gone live = record { gone = gone; last = p; earlier = omega arith; live = live; since = λ i l u. absurd (omega (arith, l, u)) }
+  stale_now a gone live = record { gone = gone; once = p; earlier = omega arith; live = live; since = λ i l u. absurd (omega (arith, l, u)) }
 
   stale_earlier : (a : ℕ) → live_before r p a ≡ false → IsStale r (suc p) a → IsStale r p a
   stale_earlier a gone h = ⊎_elim
-      (λ l. record { gone = gone; last = h.last; earlier = l; live = h.live; since = λ i x y. h.since i x (omega (arith, y)) })
+      (λ l. record { gone = gone; once = h.once; earlier = l; live = h.live; since = λ i x y. h.since i x (omega (arith, y)) })
       (λ e. absurd (both_ways (live_before r p a) gone (subst (λ x. live_before r x a ≡ true) e h.live)))
-      (before_or_at h.last p h.earlier)
+      (before_or_at h.once p h.earlier)
 
   -- a stale byte that was not live before this turn was so at an earlier one
   spared : (a : ℕ) → is_judged (mode_before r core p) rec.kind ≡ true → live_before r p a ≡ false → IsStale r (suc p) a → stores_at rec.access a ≡ false
   spared a j gone h = ⊎_elim
-      (λ l. h.since p l (omega arith) core rec (record { turn = turn; judged = j }))
+      (λ l. no_touch a j (h.since p l (omega arith)))
       (λ e. absurd (both_ways (live_before r p a) gone (subst (λ x. live_before r x a ≡ true) e h.live)))
-      (before_or_at h.last p h.earlier)
+      (before_or_at h.once p h.earlier)
 
   pub stale_judged : (stale : ℕ → Bool) (a : ℕ) → is_judged (mode_before r core p) rec.kind ≡ true → Decides (stale a) (IsStale r p a) → Decides (stale_after (live_before r (suc p)) (live_before r p) stale rec.access a) (IsStale r (suc p) a)
   stale_judged stale a j d = (there, back)
@@ -57,6 +75,7 @@ module _ (r : Course) (p core : ℕ) (rec : StepRecord) (turn : IsTurn r p core 
           (λ live. stale_now a gone live)
           (λ q. let qs = and_parts (stale a) (not (stores_at rec.access a)) q in stale_later a gone (no_store a (not-true (stores_at rec.access a) qs.1)) (d.0 qs.0))
           (or_cases (live_before r p a) (stale a && not (stores_at rec.access a)) parts.1)
+
       back : IsStale r (suc p) a → (not (live_before r (suc p) a) && (live_before r p a || (stale a && not (stores_at rec.access a)))) ≡ true
       back h = and_from (not (live_before r (suc p) a)) (live_before r p a || (stale a && not (stores_at rec.access a))) (not_from_false (live_before r (suc p) a) h.gone) (⊎_elim
           (λ live. or_left (live_before r p a) (stale a && not (stores_at rec.access a)) live)
@@ -66,7 +85,7 @@ module _ (r : Course) (p core : ℕ) (rec : StepRecord) (turn : IsTurn r p core 
   pub stale_handled : (stale : Bool) (a : ℕ) → is_judged (mode_before r core p) rec.kind ≡ false → live_before r (suc p) a ≡ live_before r p a → Decides stale (IsStale r p a) → Decides stale (IsStale r (suc p) a)
   stale_handled stale a j same d = Decides-like
       stale
-      (λ h. stale_later a (same ∙ h.gone) (λ c q t. absurd (not_judged j c q t)) h)
+      (λ h. stale_later a (same ∙ h.gone) (λ c q x t at s. absurd (not_judged j c q t)) h)
       (λ h. stale_earlier a (sym same ∙ h.gone) h)
       d
 
@@ -74,18 +93,17 @@ module _ (r : Course) (p core : ℕ) (rec : StepRecord) (turn : IsTurn r p core 
   no_write : writes_at r p core rec ≡ false → LeavesEpc1 r core p
   no_write e q t = subst (λ (x : StepRecord). writes_at r p core x ≡ false) (same_rec core q t.turn) e
 
-  epc_more : (c last : ℕ) → ((i : ℕ) → last ≤ i → i < p → LeavesEpc1 r c i) → LeavesEpc1 r c p → (i : ℕ) → last ≤ i → i < suc p → LeavesEpc1 r c i
-  epc_more c last h now i l u = ⊎_elim (λ b. h i l b) (λ e. subst (λ x. LeavesEpc1 r c x) (sym e) now) (before_or_at i p u)
+  epc_more : (c once : ℕ) → ((i : ℕ) → once ≤ i → i < p → LeavesEpc1 r c i) → LeavesEpc1 r c p → (i : ℕ) → once ≤ i → i < suc p → LeavesEpc1 r c i
+  epc_more c once h now i l u = ⊎_elim (λ b. h i l b) (λ e. subst (λ x. LeavesEpc1 r c x) (sym e) now) (before_or_at i p u)
 
   lost_later : (c : ℕ) → LeavesEpc1 r c p → IsLost r c p → IsLost r c (suc p)
   lost_later c now h =
       let earlier = h.earlier in
-      record { last = h.last; earlier = omega (arith, earlier); rec = h.rec; turn = h.turn; loses = h.loses; since = epc_more c h.last h.since now }
+      record { once = h.once; earlier = omega (arith, earlier); rec = h.rec; turn = h.turn; loses = h.loses; since = epc_more c h.once h.since now }
 
-
-  lost_now : (if is_judged (mode_before r core p) rec.kind then falls_at r p core rec else true) ≡ true → LeavesEpc1 r core p → IsLost r core (suc p)
+  lost_now : (is_judged (mode_before r core p) rec.kind ≡ false) ⊎ EndsMode r p core rec → LeavesEpc1 r core p → IsLost r core (suc p)
   lost_now loses now = record {
-    last = p;
+    once = p;
     earlier = omega arith;
     rec = rec;
     turn = turn;
@@ -93,38 +111,56 @@ module _ (r : Course) (p core : ℕ) (rec : StepRecord) (turn : IsTurn r p core 
     since = epc_more core p (λ i l u. absurd (omega (arith, l, u))) now;
   }
 
-  lost_earlier : (c : ℕ) → (h : IsLost r c (suc p)) → h.last < p → IsLost r c p
-  lost_earlier c h l = record { last = h.last; earlier = l; rec = h.rec; turn = h.turn; loses = h.loses; since = λ i x y. h.since i x (omega (arith, y)) }
+  lost_earlier : (c : ℕ) → (h : IsLost r c (suc p)) → h.once < p → IsLost r c p
+  lost_earlier c h l = record { once = h.once; earlier = l; rec = h.rec; turn = h.turn; loses = h.loses; since = λ i x y. h.since i x (omega (arith, y)) }
 
-  pub lost_judged : (fresh : Bool) → is_judged (mode_before r core p) rec.kind ≡ true → Decides (not fresh) (IsLost r core p) → Decides (not (writes_at r p core rec || (fresh && not (falls_at r p core rec)))) (IsLost r core (suc p))
+  abbrev writes : Bool
+  writes = writes_at r p core rec
+
+  abbrev falling : Bool
+  falling = falls (given r p core rec).control.ps (current (step_at r p core rec).after).control.ps
+
+  fell : (h : IsLost r core (suc p)) → is_judged (mode_before r core p) rec.kind ≡ true → h.once ≡ p → falling ≡ true
+  fell h j e =
+      let at : IsTurn r p core h.rec = subst (λ x. IsTurn r x core h.rec) e h.turn in
+      let loses : (is_judged (mode_before r core p) h.rec.kind ≡ false) ⊎ EndsMode r p core h.rec = subst (λ x. (is_judged (mode_before r core x) h.rec.kind ≡ false) ⊎ EndsMode r x core h.rec) e h.loses in
+      let own : (is_judged (mode_before r core p) rec.kind ≡ false) ⊎ EndsMode r p core rec = subst (λ (x : StepRecord). (is_judged (mode_before r core p) x.kind ≡ false) ⊎ EndsMode r p core x) (sym (same_rec core h.rec at)) loses in
+      ⊎_elim
+      (λ n. absurd (both_ways (is_judged (mode_before r core p) rec.kind) n j))
+      (λ m. and_from (given r p core rec).control.ps.excm (not (current (step_at r p core rec).after).control.ps.excm) m.0 (not_from_false (current (step_at r p core rec).after).control.ps.excm m.1))
+      own
+
+  ends_mode : falling ≡ true → EndsMode r p core rec
+  ends_mode e =
+      let parts = and_parts (given r p core rec).control.ps.excm (not (current (step_at r p core rec).after).control.ps.excm) e in
+      (parts.0, not-true (current (step_at r p core rec).after).control.ps.excm parts.1)
+
+  pub lost_judged : (fresh : Bool) → is_judged (mode_before r core p) rec.kind ≡ true → Decides (not fresh) (IsLost r core p) → Decides (not (writes || (fresh && not falling))) (IsLost r core (suc p))
   lost_judged fresh j d = (there, back)
     where
-      there : not (writes_at r p core rec || (fresh && not (falls_at r p core rec))) ≡ true → IsLost r core (suc p)
+      there : not (writes || (fresh && not falling)) ≡ true → IsLost r core (suc p)
       there t =
-          let parts = or_parts (writes_at r p core rec) (fresh && not (falls_at r p core rec)) (not-true (writes_at r p core rec || (fresh && not (falls_at r p core rec))) t) in
+          let parts = or_parts writes (fresh && not falling) (not-true (writes || (fresh && not falling)) t) in
           let now = no_write parts.0 in
           ⊎_elim
           (λ stale. lost_later core now (d.0 (not_from_false fresh stale)))
-          (λ kept. lost_now (cond-true (is_judged (mode_before r core p) rec.kind) (falls_at r p core rec) true j ∙ not-false (falls_at r p core rec) kept) now)
-          (and_cases fresh (not (falls_at r p core rec)) parts.1)
-      fell : (h : IsLost r core (suc p)) → h.last ≡ p → falls_at r p core rec ≡ true
-      fell h e =
-          let at : IsTurn r p core h.rec = subst (λ x. IsTurn r x core h.rec) e h.turn in
-          let loses : (if is_judged (mode_before r core p) h.rec.kind then falls_at r p core h.rec else true) ≡ true = subst (λ x. (if is_judged (mode_before r core x) h.rec.kind then falls_at r x core h.rec else true) ≡ true) e h.loses in
-          let own : (if is_judged (mode_before r core p) rec.kind then falls_at r p core rec else true) ≡ true = subst (λ (x : StepRecord). (if is_judged (mode_before r core p) x.kind then falls_at r p core x else true) ≡ true) (sym (same_rec core h.rec at)) loses in
-          sym (cond-true (is_judged (mode_before r core p) rec.kind) (falls_at r p core rec) true j) ∙ own
-      unwritten : (h : IsLost r core (suc p)) → writes_at r p core rec ≡ false
+          (λ kept. lost_now (inr (ends_mode (not-false falling kept))) now)
+          (and_cases fresh (not falling) parts.1)
+
+      unwritten : (h : IsLost r core (suc p)) → writes ≡ false
       unwritten h = let earlier = h.earlier in h.since p (omega (arith, earlier)) (omega arith) rec (record { turn = turn; judged = j })
-      unfresh : (h : IsLost r core (suc p)) → (fresh && not (falls_at r p core rec)) ≡ false
+
+      unfresh : (h : IsLost r core (suc p)) → (fresh && not falling) ≡ false
       unfresh h = ⊎_elim
-          (λ l. and_left fresh (not (falls_at r p core rec)) (not-true fresh (d.1 (lost_earlier core h l))))
-          (λ e. and_right fresh (not (falls_at r p core rec)) (not_from_true (falls_at r p core rec) (fell h e)))
-          (before_or_at h.last p h.earlier)
-      back : IsLost r core (suc p) → not (writes_at r p core rec || (fresh && not (falls_at r p core rec))) ≡ true
-      back h = not_from_false (writes_at r p core rec || (fresh && not (falls_at r p core rec))) (or_from (writes_at r p core rec) (fresh && not (falls_at r p core rec)) (unwritten h) (unfresh h))
+          (λ l. and_left fresh (not falling) (not-true fresh (d.1 (lost_earlier core h l))))
+          (λ e. and_right fresh (not falling) (not_from_true falling (fell h j e)))
+          (before_or_at h.once p h.earlier)
+
+      back : IsLost r core (suc p) → not (writes || (fresh && not falling)) ≡ true
+      back h = not_from_false (writes || (fresh && not falling)) (or_from writes (fresh && not falling) (unwritten h) (unfresh h))
 
   pub lost_handled : is_judged (mode_before r core p) rec.kind ≡ false → Decides true (IsLost r core (suc p))
-  lost_handled j = (λ t. lost_now (cond-false (is_judged (mode_before r core p) rec.kind) (falls_at r p core rec) true j) (λ q t. absurd (not_judged j core q t)), λ h. refl)
+  lost_handled j = (λ t. lost_now (inl j) (λ q t. absurd (not_judged j core q t)), λ h. refl)
 
   -- the other core's stays as it was
   not_of : (other : ℕ) → (core == other) ≡ false → (q : StepRecord) → IsTurn r p other q → ⊥
@@ -137,7 +173,7 @@ module _ (r : Course) (p core : ℕ) (rec : StepRecord) (turn : IsTurn r p core 
       lost
       (λ h. lost_later other (λ q t. absurd (not_of other apart q t.turn)) h)
       (λ h. ⊎_elim
-          (λ l. lost_earlier other h l)
-          (λ e. absurd (not_of other apart h.rec (subst (λ x. IsTurn r x other h.rec) e h.turn)))
-          (before_or_at h.last p h.earlier))
+      (λ l. lost_earlier other h l)
+      (λ e. absurd (not_of other apart h.rec (subst (λ x. IsTurn r x other h.rec) e h.turn)))
+      (before_or_at h.once p h.earlier))
       d

@@ -1,5 +1,5 @@
 -- The walk of the judge finds the first breach of a run: what it keeps at each turn is what is said by the turns before it.
-use Rattle.std.proofs.Common.{◌≡◌, ℕ, zero, suc, ◌<◌, ◌≤◌, Bool, true, false, ◌==◌, ◌||◌, not, if◌then◌else◌, List, [], ◌∷◌, ◌++◌, Option, Some, None, sym, ap, ◌∙◌, refl, arith, inl, inr, ⊎_elim, subst, length, drop, Decides}
+use Rattle.std.proofs.Common.{◌≡◌, ℕ, zero, suc, ◌<◌, ◌≤◌, Bool, true, false, ◌==◌, ◌||◌, not, List, [], ◌∷◌, Option, Some, None, sym, ap, ◌∙◌, refl, arith, ⊎_elim, subst, length, drop, Decides}
 use Rattle.std.proofs.lemmas.Bool.{cond-true, cond-false, cases_Bool, both_ways, not-true, not-false, false≢true}
 use Rattle.std.proofs.lemmas.Option.{slice_get_within}
 use Rattle.xt_map.specs.declared.access.Entry.{Entry}
@@ -11,9 +11,9 @@ use Rattle.xt_frames.specs.Nesting.{current, is_nesting}
 use Rattle.xt_frames.specs.SaveAreas.{is_live}
 use Rattle.xt_frames.specs.HandlerSteps.{Mode, Plain, Handles, Nests, is_window, mode_after}
 use Rattle.xt_frames.specs.Breaches.{Bounds, breach_of, inputs_of, stale_after, window_breach}
-use Rattle.xt_frames.specs.Judging.{Breaks, Handled, Judges, Seen, Standing, fresh_on, handled, live_of, seen, seen_in, seen_judged, seen_step, seen_window, step_on}
+use Rattle.xt_frames.specs.Judging.{Breaks, Handled, Judges, Seen, Standing, fresh_on, handled, live_of, seen, seen_in, seen_judged, seen_step, seen_window}
 use Rattle.xt_frames.specs.Verdict.{Judgement, Known, is_nested, judgement, opening_known, passed_0, passed_1, past_handled_0, past_handled_1, past_judged_0, past_judged_1, seen_0, seen_1}
-use Rattle.xt_frames.specs.FirstBreach.{Course, IsBreach, IsFirstBreach, IsJudgement, IsLost, IsStale, IsTurn, Shows, Turn, WalkFindsFirstBreach, by_core, entries_before, frame_before, handler_shows, is_judged, judged_before, live_before, mode_before, record_shows, records_before, step_at, turn_of, turns}
+use Rattle.xt_frames.specs.FirstBreach.{Course, IsJudgement, IsLost, IsStale, IsTurn, Shows, Turn, WalkFindsFirstBreach, by_core, entries_before, frame_before, handler_shows, is_judged, judged_before, live_before, mode_before, records_before, step_at, turn_of, turns}
 use Rattle.xt_frames.proofs.Prefixes.{before_or_at, drop_get, drop_none, drop_rest, kept_entries, kept_frame, other_frame, other_judged, other_mode, other_records, own_count, own_entries, own_frame, own_judged, own_mode, own_skipped, same_turn}
 use Rattle.xt_frames.proofs.Earlier.{lost_handled, lost_judged, lost_other, stale_handled, stale_judged}
 
@@ -179,9 +179,9 @@ quiet_more : (r : Course) (p core : ℕ) (rec : StepRecord) → IsTurn r p core 
 quiet_more r p core rec turn h now i c q l t = ⊎_elim
     (λ b. h i c q b t)
     (λ e.
-        let at : IsTurn r p c q = subst (λ x. IsTurn r x c q) e t in
-        let here : Shows r p c q None = subst (λ (x : Turn). Shows r p x.core x.rec None) (same_turn r p core rec turn c q at) now in
-        subst (λ x. Shows r x c q None) (sym e) here)
+    let at : IsTurn r p c q = subst (λ x. IsTurn r x c q) e t in
+    let here : Shows r p c q None = subst (λ (x : Turn). Shows r p x.core x.rec None) (same_turn r p core rec turn c q at) now in
+    subst (λ x. Shows r x c q None) (sym e) here)
     (before_or_at i p l)
 
 within_more : (r : Course) (p core : ℕ) (rec : StepRecord) → IsTurn r p core rec → suc p ≤ length r.turns
@@ -219,10 +219,10 @@ module _ (r : Course) (p : ℕ) (rec : StepRecord) (lost0 lost1 : Bool) (stale :
       is_stale = e;
     }
 
-    goes_on_0 : (out : Seen) → Outcome r p 0 rec stale out → IsJudgement r (passed_0 out here rec rest)
-    goes_on_0 out (breaks kind e shows) = subst (λ x. IsJudgement r (passed_0 x here rec rest)) (sym e) (broken 0 kind turn shows)
-    goes_on_0 out (judges lost after e d f j shows) = subst (λ x. IsJudgement r (passed_0 x here rec rest)) (sym e) (subst (λ x. IsJudgement r (rest x)) (sym (judged_0 lost after j)) (more lost after (reached_0 lost after d f shows)))
-    goes_on_0 out (handles e f j shows) = subst (λ x. IsJudgement r (passed_0 x here rec rest)) (sym e) (subst (λ x. IsJudgement r (rest x)) (sym (handled_0 j)) (more true stale (reached_0 true stale (lost_handled r p 0 rec turn j) f shows)))
+    goes_on_0 : (sight : Seen) → Outcome r p 0 rec stale sight → IsJudgement r (passed_0 sight here rec rest)
+    goes_on_0 sight (breaks kind e shows) = subst (λ x. IsJudgement r (passed_0 x here rec rest)) (sym e) (broken 0 kind turn shows)
+    goes_on_0 sight (judges lost after e d f j shows) = subst (λ x. IsJudgement r (passed_0 x here rec rest)) (sym e) (subst (λ x. IsJudgement r (rest x)) (sym (judged_0 lost after j)) (more lost after (reached_0 lost after d f shows)))
+    goes_on_0 sight (handles e f j shows) = subst (λ x. IsJudgement r (passed_0 x here rec rest)) (sym e) (subst (λ x. IsJudgement r (rest x)) (sym (handled_0 j)) (more true stale (reached_0 true stale (lost_handled r p 0 rec turn j) f shows)))
 
   module _ (turn : IsTurn r p 1 rec) (more : (lost : Bool) (after : ℕ → Bool) → Reached r (suc p) lost0 lost after → IsJudgement r (rest (known_at r (suc p) lost0 lost after))) where
     judged_1 : (lost : Bool) (after : ℕ → Bool) → is_judged (mode_before r 1 p) rec.kind ≡ true → past_judged_1 (standing_at r 1 (suc p) lost) after rec here ≡ known_at r (suc p) lost0 lost after
@@ -240,10 +240,10 @@ module _ (r : Course) (p : ℕ) (rec : StepRecord) (lost0 lost1 : Bool) (stale :
       is_stale = e;
     }
 
-    goes_on_1 : (out : Seen) → Outcome r p 1 rec stale out → IsJudgement r (passed_1 out here rec rest)
-    goes_on_1 out (breaks kind e shows) = subst (λ x. IsJudgement r (passed_1 x here rec rest)) (sym e) (broken 1 kind turn shows)
-    goes_on_1 out (judges lost after e d f j shows) = subst (λ x. IsJudgement r (passed_1 x here rec rest)) (sym e) (subst (λ x. IsJudgement r (rest x)) (sym (judged_1 lost after j)) (more lost after (reached_1 lost after d f shows)))
-    goes_on_1 out (handles e f j shows) = subst (λ x. IsJudgement r (passed_1 x here rec rest)) (sym e) (subst (λ x. IsJudgement r (rest x)) (sym (handled_1 j)) (more true stale (reached_1 true stale (lost_handled r p 1 rec turn j) f shows)))
+    goes_on_1 : (sight : Seen) → Outcome r p 1 rec stale sight → IsJudgement r (passed_1 sight here rec rest)
+    goes_on_1 sight (breaks kind e shows) = subst (λ x. IsJudgement r (passed_1 x here rec rest)) (sym e) (broken 1 kind turn shows)
+    goes_on_1 sight (judges lost after e d f j shows) = subst (λ x. IsJudgement r (passed_1 x here rec rest)) (sym e) (subst (λ x. IsJudgement r (rest x)) (sym (judged_1 lost after j)) (more lost after (reached_1 lost after d f shows)))
+    goes_on_1 sight (handles e f j shows) = subst (λ x. IsJudgement r (passed_1 x here rec rest)) (sym e) (subst (λ x. IsJudgement r (rest x)) (sym (handled_1 j)) (more true stale (reached_1 true stale (lost_handled r p 1 rec turn j) f shows)))
 
 -- the live bytes do not depend on which core is looked at first
 live_0 : (r : Course) (q : ℕ) → live_of (r.bounds 0) (frame_before r 0 q) (is_live (r.bounds 1).range (frame_before r 1 q)) ≡ live_before r q

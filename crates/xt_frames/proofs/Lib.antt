@@ -10,3 +10,4 @@ pub mod Inside
 pub mod Prefixes
 pub mod Earlier
 pub mod FirstBreach
+pub mod OneBreach

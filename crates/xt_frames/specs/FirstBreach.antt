@@ -1,10 +1,12 @@
 -- The verdict on a run as a whole ('profile'): the first of its turns that shows a breach. What a
 -- turn shows is said by all turns before it, and the walk of the judge plays no part: a law ties it
 -- to what is said here.
-use Rattle.std.specs.Prelude.{◌≡◌, ℕ, zero, suc, ◌<◌, ◌≤◌, Bool, true, false, ◌==◌, ◌||◌, not}
+use Rattle.std.specs.Prelude.{◌≡◌, ℕ, zero, suc, ◌<◌, ◌≤◌, Bool, true, false, ◌==◌, ◌||◌, not, ◌⊎◌}
 use Rattle.std.specs.Prelude.{if◌then◌else◌, Option, Some, None, List, [], ◌∷◌, ◌++◌, length, take}
 use Rattle.std.specs.Prelude.{slice_get, Decides}
+use Rattle.xt_map.specs.declared.access.Access.{Access}
 use Rattle.xt_map.specs.declared.access.Entry.{Entry}
+use Rattle.xt_map.specs.Touching.{is_store, touches}
 use Rattle.xt_trace.specs.declared.record.StepKind.{StepKind}
 use Rattle.xt_trace.specs.declared.record.StepRecord.{StepRecord}
 use Rattle.xt_fetch.specs.Fetching.{fetched}
@@ -16,7 +18,6 @@ use Rattle.xt_frames.specs.Nesting.{current, is_nesting}
 use Rattle.xt_frames.specs.SaveAreas.{is_live}
 use Rattle.xt_frames.specs.HandlerSteps.{Mode, Plain, Handles, Nests, is_window, mode_after}
 use Rattle.xt_frames.specs.Breaches.{Bounds, inputs_of, breach_of, window_breach, writes_epc1}
-use Rattle.xt_frames.specs.Breaches.{falls, stores_at}
 use Rattle.xt_frames.specs.Judging.{step_on}
 use Rattle.xt_frames.specs.Verdict.{is_nested, entry_of, opening_known, Judgement, judgement}
 
@@ -118,49 +119,51 @@ live_before r p a =
 -- turn i is no judged store that touches the byte
 abbrev pub LeavesByte : Course → ℕ → ℕ → Type 0
 LeavesByte r i a =
-    (core : ℕ) (rec : StepRecord) → IsJudgedTurn r i core rec → stores_at rec.access a ≡ false
+    (core : ℕ) (rec : StepRecord) (access : Access)
+    → IsJudgedTurn r i core rec → rec.access ≡ Some access → is_store access.kind ≡ true
+    → touches access.addr access.size a ≡ false
 
--- Before turn p the byte is stale: it is not live, it was live before a turn `last`, and no judged
--- store has touched it between the two.
+-- Before turn p the byte is stale: it is not live, it was live before turn `once`, and no judged
+-- store has touched it since.
 pub record IsStale (r : Course) (p a : ℕ) : Type 0 where
   pub gone : live_before r p a ≡ false
-  pub last : ℕ
-  pub earlier : last < p
-  pub live : live_before r last a ≡ true
-  pub since : (i : ℕ) → last < i → i < p → LeavesByte r i a
+  pub once : ℕ
+  pub earlier : once < p
+  pub live : live_before r once a ≡ true
+  pub since : (i : ℕ) → once < i → i < p → LeavesByte r i a
 
 -- ---- EPC1
 
--- the judged step at turn i writes EPC1
+-- the frame state before turn i, with the inputs of its record
+abbrev pub given : Course → ℕ → ℕ → StepRecord → FrameState
+given r i core rec = laid (inputs_of rec) (current (frame_before r core i))
+
+-- exception mode ends at the frame machine's step
+abbrev pub EndsMode : Course → ℕ → ℕ → StepRecord → Type 0
+EndsMode r i core rec =
+    ((given r i core rec).control.ps.excm ≡ true)
+    × ((current (step_at r i core rec).after).control.ps.excm ≡ false)
+
+-- the step writes EPC1
 abbrev pub writes_at : Course → ℕ → ℕ → StepRecord → Bool
 writes_at r i core rec =
-    let f = frame_before r core i in
-    writes_epc1
-    (step_at r i core rec).kind
-    (fetched r.code (current f).control.pc)
-    (laid (inputs_of rec) (current f)).control.ps
-
--- exception mode ends at the judged step at turn i
-abbrev pub falls_at : Course → ℕ → ℕ → StepRecord → Bool
-falls_at r i core rec =
-    falls
-    (laid (inputs_of rec) (current (frame_before r core i))).control.ps
-    (current (step_at r i core rec).after).control.ps
+    let f = given r i core rec in
+    writes_epc1 (step_at r i core rec).kind (fetched r.code f.control.pc) f.control.ps
 
 -- turn i is no judged step of the core that writes EPC1
 abbrev pub LeavesEpc1 : Course → ℕ → ℕ → Type 0
 LeavesEpc1 r core i = (rec : StepRecord) → IsJudgedTurn r i core rec → writes_at r i core rec ≡ false
 
--- Before turn p EPC1 of a core is lost: an earlier turn of the core was a handler step, or exception
--- mode ended there, and no judged step from that one on has written EPC1.
+-- Before turn p EPC1 of a core is lost: at an earlier turn of the core, `once`, there was a handler
+-- step or exception mode ended, and no judged step from that one on has written EPC1.
 pub record IsLost (r : Course) (core p : ℕ) : Type 0 where
-  pub last : ℕ
-  pub earlier : last < p
+  pub once : ℕ
+  pub earlier : once < p
   pub rec : StepRecord
-  pub turn : IsTurn r last core rec
+  pub turn : IsTurn r once core rec
   pub loses :
-    (if is_judged (mode_before r core last) rec.kind then falls_at r last core rec else true) ≡ true
-  pub since : (i : ℕ) → last ≤ i → i < p → LeavesEpc1 r core i
+      (is_judged (mode_before r core once) rec.kind ≡ false) ⊎ EndsMode r once core rec
+  pub since : (i : ℕ) → once ≤ i → i < p → LeavesEpc1 r core i
 
 -- ---- what a turn shows
 
@@ -188,16 +191,16 @@ pub record Shows
   pub stale : ℕ → Bool
   pub is_stale : (a : ℕ) → Decides (stale a) (IsStale r p a)
   pub shown :
-    record_shows
-    r.code
-    (r.bounds core)
-    (mode_before r core p)
-    (frame_before r core p)
-    lost
-    (live_before r p)
-    stale
-    rec
-    ≡ found
+      record_shows
+      r.code
+      (r.bounds core)
+      (mode_before r core p)
+      (frame_before r core p)
+      lost
+      (live_before r p)
+      stale
+      rec
+      ≡ found
 
 -- ---- the first breach
 
@@ -216,7 +219,7 @@ EndsIn r p (Some b) = IsBreach r p b
 -- is none.
 pub record IsFirstBreach (r : Course) (p : ℕ) (found : Option Breach) : Type 0 where
   pub before :
-    (i core : ℕ) (rec : StepRecord) → i < p → IsTurn r i core rec → Shows r i core rec None
+      (i core : ℕ) (rec : StepRecord) → i < p → IsTurn r i core rec → Shows r i core rec None
   pub here : EndsIn r p found
 
 -- ---- the walk of the judge
@@ -257,3 +260,9 @@ WalkFindsFirstBreach =
       turns = turns cores xs ys;
     })
     (judgement code b0 b1 cores xs ys (opening_known f0 f1))
+
+-- a run has one first breach, or none
+abbrev pub FirstBreachIsOne : Type 0
+FirstBreachIsOne =
+    (r : Course) (p q : ℕ) (one other : Option Breach)
+    → IsFirstBreach r p one → IsFirstBreach r q other → one ≡ other
