@@ -4,7 +4,7 @@ use Rattle.xt_trace.specs.declared.run.Run.{Run}
 use Rattle.xt_image.specs.declared.image.Image.{Image}
 use Rattle.xt_image.specs.Parts.{FitsImage}
 use Rattle.xt_rows.specs.Laws.{IsWord}
-use Rattle.xt_trace.specs.Short.{ShortRun, short_trace, short_schedule}
+use Rattle.xt_trace.specs.Short.{ShortRun, short_trace}
 use Rattle.xt_exec.specs.State.{State}
 use Rattle.xt_core.specs.Runs.{code_of, records_of, IsRunOf}
 use Rattle.xt_frames.specs.Verdict.{Judgement}
@@ -13,7 +13,7 @@ use Rattle.xt_discipline.specs.Verdicts.{are_yes}
 use Rattle.xt_simulation.specs.Walking.{Apart}
 use Rattle.xt_simulation.specs.Opening.{Openings, openings_of}
 use Rattle.xt_simulation.specs.Headline as headline
-use Rattle.xt_simulation.specs.Headline.{AreFrames, HaveMovedFrames}
+use Rattle.xt_simulation.specs.Headline.{AreFrames, RunHasMovedFrames}
 
 -- a run with what is kept of its records
 abbrev pub short_of : Image → Run → ShortRun State
@@ -34,18 +34,13 @@ judgement_of image r = headline.judgement_of image.segments image.entry r.option
 -- Where the answers for the six window handlers are all `yes` and the two stacks are apart, the
 -- judged records before the first breach are a run of the machine with unbounded call frames, over
 -- one legal history; and at each position before it each whole stretch of handler steps has moved
--- one frame.
+-- one frame, and each nested interrupt gives the window handler back what it had.
 abbrev pub IsFramed : Image → Run → Type 0
 IsFramed image r =
     are_yes (handlers_of (code_of image) r.options.vecbase) ≡ true
     → Apart (opening image r).range0 (opening image r).range1
     → AreFrames (opening image r) (code_of image) (judgement_of image r)
-    × HaveMovedFrames
-    (opening image r)
-    (code_of image)
-    r.options.turns0
-    r.options.turns1
-    (short_schedule (short_of image r))
+    × RunHasMovedFrames image.segments image.entry r.options (short_of image r)
 
 -- without the premise on the handlers
 abbrev pub IsFrameRunOf : Image → Run → Type 0

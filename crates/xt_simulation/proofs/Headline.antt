@@ -100,7 +100,7 @@ line_memory c (Some a) l = refl
 
 module _ (code : ℕ → ℕ) where
   -- what stands where the cores are and what the judge knows
-  abbrev world_of : worlds.World State → Known → Entered → Entered → World
+  abbrev pub world_of : worlds.World State → Known → Entered → Entered → World
   world_of w k e0 e1 = record {
     core0 = record { state = w.core0.state; entered = e0; standing = k.standing0; judged = k.judged0 };
     core1 = record { state = w.core1.state; entered = e1; standing = k.standing1; judged = k.judged1 };
@@ -109,7 +109,7 @@ module _ (code : ℕ → ℕ) where
     entries = k.entries;
   }
 
-  next_is : (k : worlds.Core State) (l : worlds.Line) → next_record (processor code) k l ≡ record_now code l.memory k.state
+  pub next_is : (k : worlds.Core State) (l : worlds.Line) → next_record (processor code) k l ≡ record_now code l.memory k.state
   next_is k l = ap (λ r. (turn code k.state r).0) (same_answer (demand code k.state) l.memory)
 
   pub core_next : (k : worlds.Core State) (l : worlds.Line) (n : ℕ) → k.left ≡ n → 0 < n → (core_given (processor code) n k l).state ≡ state_now code l.memory k.state
@@ -219,10 +219,10 @@ pub opens_alike : OpensAlike
 unfolding opening_state opening_regs cleared_regs opening_seen
 opens_alike core pc vecbase stack_end = refl
 
-alike0 : (o : Openings) → frame_of (state0 o) ≡ frame0 o
+pub alike0 : (o : Openings) → frame_of (state0 o) ≡ frame0 o
 alike0 o = opens_alike 0 o.pc0 o.vecbase o.range0.hi
 
-alike1 : (o : Openings) → frame_of (state1 o) ≡ frame1 o
+pub alike1 : (o : Openings) → frame_of (state1 o) ≡ frame1 o
 alike1 o = opens_alike 1 o.pc1 o.vecbase o.range1.hi
 
 pub walks_are_frames : WalksAreFrames

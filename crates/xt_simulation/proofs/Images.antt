@@ -103,8 +103,10 @@ windows_are_frames segments entry o r given handlers apart run =
     subst P (same_schedule opening code r run) (runs_are_frames at code o.turns0 o.turns1 (with_records opening code r) (covered_by segments entry o given handlers apart) (is_run opening code r run))
 
 pub stretches_of_images : StretchesOfImages
+unfolding with_records
 stretches_of_images segments entry o r given handlers apart run =
     let at = openings_of segments entry o in
     let code = constant_byte segments in
     let opening : Opening State = opening_of at o.turns0 o.turns1 in
-    subst (HaveMovedFrames at code o.turns0 o.turns1) (same_schedule opening code r run) (stretches_of_runs at code o.turns0 o.turns1 (with_records opening code r) (covered_by segments entry o given handlers apart) (is_run opening code r run))
+    let P : List ℕ → Type 0 = λ cores. HaveMovedFrames at code o.turns0 o.turns1 cores (records0 at code o.turns0 r) (records1 at code o.turns1 r) in
+    subst P (same_schedule opening code r run) (stretches_of_runs at code o.turns0 o.turns1 (with_records opening code r) (covered_by segments entry o given handlers apart) (is_run opening code r run))

@@ -28,6 +28,7 @@ pub mod Opened
 pub mod Served
 pub mod NestedSteps
 pub mod Walk
+pub mod OneWalk
 pub mod Positions
 pub mod Images
 pub mod Inner

@@ -1,89 +1,44 @@
--- The walk beside the judge stands where the run does, at each position before the first breach.
-use Rattle.std.proofs.Common.{◌≡◌, ℕ, zero, suc, ◌<◌, Bool, true, false, Option, Some, None, List, [], ◌∷◌, take, sym, ap, ◌∙◌, refl, subst}
-use Rattle.xt_map.specs.declared.contents.MemoryContents.{MemoryContents}
-use Rattle.xt_trace.specs.declared.record.StepRecord.{StepRecord}
-use Rattle.xt_trace.specs.Worlds as worlds
-use Rattle.xt_trace.specs.Worlds.{give, advance}
-use Rattle.xt_trace.specs.Walks.{IsWalk}
+-- What holds at each position of a run before the first breach.
+use Rattle.std.proofs.Common.{◌≡◌, ℕ, Some, None, List, take, sym, refl, subst}
 use Rattle.xt_trace.specs.Runs.{opened, schedule_of}
+use Rattle.xt_trace.specs.Walks.{state_at}
 use Rattle.xt_trace.proofs.Walks.{own_walk}
-use Rattle.xt_exec.specs.State.{State}
 use Rattle.xt_exec.specs.Chips.{processor}
-use Rattle.xt_frames.specs.Breaches.{Bounds}
-use Rattle.xt_frames.specs.Judging.{Seen, Handled, Judges, Breaks}
-use Rattle.xt_simulation.specs.Steps.{state_now, memory_now}
-use Rattle.xt_simulation.specs.Walking.{Core, World, Moved, moved_by, move, moved0, moved1, given, walked}
-use Rattle.xt_simulation.specs.Opening.{opening_world, bounds0, bounds1}
-use Rattle.xt_simulation.specs.Headline.{StandsAt, turns_of, opening_of, StretchesOfRuns}
-use Rattle.xt_simulation.proofs.Headline.{core_next, line_next, stretches_move_frames}
+use Rattle.xt_frames.specs.Frames.{FrameState}
+use Rattle.xt_frames.specs.Verdict.{Known, judgement, opening_known}
+use Rattle.xt_simulation.specs.Opening.{Openings, opening_core, opening_world, bounds0, bounds1, state0, state1, frame0, frame_of}
+use Rattle.xt_simulation.specs.Headline.{IsCovered, StandsAt, Knows, Position, turns_of, opening_of, StretchesOfRuns}
+use Rattle.xt_simulation.proofs.Headline.{world_of, alike0, alike1, stretches_move_frames, nested_give_back}
+use Rattle.xt_simulation.proofs.OneWalk.{Reaches, one_walk}
 
--- each turn of the list is one of a core that has a turn left
-abbrev pub HaveTurns : (ℕ → ℕ) → List ℕ → worlds.World State → Type 0
-HaveTurns code [] v = Unit {0}
-HaveTurns code (zero ∷ cs) v = (0 < v.core0.left) × HaveTurns code cs (give (processor code) 0 v)
-HaveTurns code (suc c ∷ cs) v = (0 < v.core1.left) × HaveTurns code cs (give (processor code) 1 v)
-
-some_is : {X : Type 0} (y x : X) → Some y ≡ Some x → y ≡ x
-some_is y x e = cc
-
-module _ (code : ℕ → ℕ) where
-  walk_turns : (cores : List ℕ) (v : worlds.World State) (xs ys : List StepRecord) → IsWalk (processor code) cores v xs ys → HaveTurns code cores v
-  walk_turns [] v xs ys w = tt
-  walk_turns (zero ∷ cs) v xs ys (rest, is, pos, more) = (pos, walk_turns cs (give (processor code) 0 v) rest ys more)
-  walk_turns (suc c ∷ cs) v xs ys (rest, is, pos, more) = (pos, walk_turns cs (give (processor code) 1 v) xs rest more)
-
-  take_turns : (p : ℕ) (cores : List ℕ) (v : worlds.World State) → HaveTurns code cores v → HaveTurns code (take p cores) v
-  take_turns zero cores v h = tt
-  take_turns (suc p) [] v h = tt
-  take_turns (suc p) (zero ∷ cs) v h = (h.0, take_turns p cs (give (processor code) 0 v) h.1)
-  take_turns (suc p) (suc c ∷ cs) v h = (h.0, take_turns p cs (give (processor code) 1 v) h.1)
-
-  -- a core that has made a turn is in its next state
-  next_state : (o : Seen) (core : ℕ) (mine : Core) (m : MemoryContents) (next : State) (rec : StepRecord) (stale : ℕ → Bool) (x : Moved) → moved_by o core mine m next rec stale ≡ Some x → x.mine.state ≡ next
-  next_state (Handled standing) core mine m next rec stale x e = sym (ap (λ (y : Moved). y.mine.state) (some_is _ x e))
-  next_state (Judges standing stale_then) core mine m next rec stale x e = sym (ap (λ (y : Moved). y.mine.state) (some_is _ x e))
-  next_state (Breaks kind) core mine m next rec stale x e = absurd cc
-
-  module _ (b0 b1 : Bounds) where
-    stands0 : (w u : World) (v : worlds.World State) (o : Option Moved) → StandsAt w v → 0 < v.core0.left → move code b0 b1 0 w.core0 w.core1 w.memory w.stale ≡ o → moved0 code w o ≡ Some u → StandsAt u (give (processor code) 0 v)
-    stands0 w u v None at pos is e = absurd cc
-    stands0 w u v (Some x) at pos is e =
-        subst (λ z. StandsAt z (give (processor code) 0 v)) (some_is _ u e) (record {
-          state0 = next_state _ 0 w.core0 w.memory _ _ w.stale x is
-              ∙ (ap (λ m. state_now code m w.core0.state) at.memory ∙ (ap (state_now code v.line.memory) at.state0
-              ∙ sym (core_next code v.core0 v.line v.core0.left refl pos)));
-          state1 = at.state1;
-          memory = ap (λ m. memory_now code m w.core0.state) at.memory ∙ (ap (memory_now code v.line.memory) at.state0
-              ∙ sym (line_next code 0 v.core0 v.line v.core0.left pos));
-        })
-
-    stands1 : (w u : World) (v : worlds.World State) (o : Option Moved) → StandsAt w v → 0 < v.core1.left → move code b1 b0 1 w.core1 w.core0 w.memory w.stale ≡ o → moved1 code w o ≡ Some u → StandsAt u (give (processor code) 1 v)
-    stands1 w u v None at pos is e = absurd cc
-    stands1 w u v (Some x) at pos is e =
-        subst (λ z. StandsAt z (give (processor code) 1 v)) (some_is _ u e) (record {
-          state0 = at.state0;
-          state1 = next_state _ 1 w.core1 w.memory _ _ w.stale x is
-              ∙ (ap (λ m. state_now code m w.core1.state) at.memory ∙ (ap (state_now code v.line.memory) at.state1
-              ∙ sym (core_next code v.core1 v.line v.core1.left refl pos)));
-          memory = ap (λ m. memory_now code m w.core1.state) at.memory ∙ (ap (memory_now code v.line.memory) at.state1
-              ∙ sym (line_next code 1 v.core1 v.line v.core1.left pos));
-        })
-
-    walk_stands : (cores : List ℕ) (o : Option World) (v : worlds.World State) (u : World) → ((w : World) → o ≡ Some w → StandsAt w v) → HaveTurns code cores v → walked code b0 b1 (turns_of cores) o ≡ Some u → StandsAt u (advance (processor code) cores v)
-    walk_stands [] o v u h t e = h u e
-    walk_stands (zero ∷ cs) None v u h t e = absurd cc
-    walk_stands (suc c ∷ cs) None v u h t e = absurd cc
-    walk_stands (zero ∷ cs) (Some w) v u h t e =
-        walk_stands cs (given code b0 b1 true w) (give (processor code) 0 v) u (λ x is. stands0 w x v (move code b0 b1 0 w.core0 w.core1 w.memory w.stale) (h w refl) t.0 refl is) t.1 e
-    walk_stands (suc c ∷ cs) (Some w) v u h t e =
-        walk_stands cs (given code b0 b1 false w) (give (processor code) 1 v) u (λ x is. stands1 w x v (move code b1 b0 1 w.core1 w.core0 w.memory w.stale) (h w refl) t.0 refl is) t.1 e
+-- where the walk has come, beside the judge
+position : (o : Openings) (code : ℕ → ℕ) (turns0 turns1 : ℕ) (cores : List ℕ) (p : ℕ) (k : Known) → IsCovered o code
+    → Reaches code (bounds0 o) (bounds1 o) (turns_of (take p cores)) (Some (opening_world o)) (state_at (processor code) (opening_of o turns0 turns1) cores p) k
+    → Position o code turns0 turns1 cores p k
+position o code turns0 turns1 cores p k c r =
+    let w = world_of code (state_at (processor code) (opening_of o turns0 turns1) cores p) k r.entered0 r.entered1 in
+    let ends = stretches_move_frames o code c (turns_of (take p cores)) w r.walk in
+    let back = nested_give_back o code c (turns_of (take p cores)) w r.walk in
+    record {
+      world = w;
+      reached = r.walk;
+      knows = record { standing0 = refl; standing1 = refl; stale = refl; judged0 = refl; judged1 = refl; entries = refl };
+      stands = record { state0 = refl; state1 = refl; memory = refl };
+      moves0 = ends.0;
+      moves1 = ends.1;
+      returns0 = back.0;
+      returns1 = back.1;
+    }
 
 pub stretches_of_runs : StretchesOfRuns
-stretches_of_runs o code turns0 turns1 r c run p w e =
+stretches_of_runs o code turns0 turns1 r c run p =
     let opening = opening_of o turns0 turns1 in
-    let turns = walk_turns code (schedule_of r) (opened opening) r.trace0.records r.trace1.records (own_walk (processor code) opening r run) in
-    let at : (x : World) → Some (opening_world o) ≡ Some x → StandsAt x (opened opening) =
-    λ x is. subst (λ z. StandsAt z (opened opening)) (some_is (opening_world o) x is) (record { state0 = refl; state1 = refl; memory = refl }) in
-    let s = walk_stands code (bounds0 o) (bounds1 o) (take p (schedule_of r)) (Some (opening_world o)) (opened opening) w at (take_turns code p (schedule_of r) (opened opening) turns) e in
-    let ends = stretches_move_frames o code c (turns_of (take p (schedule_of r))) w e in
-    (s, ends.0, ends.1)
+    let cores = schedule_of r in
+    let walk = own_walk (processor code) opening r run in
+    let P : FrameState → FrameState → Type 0 = λ f0 f1. (judgement code (bounds0 o) (bounds1 o) (take p cores) r.trace0.records r.trace1.records (opening_known f0 f1)).breach ≡ None
+        → Position o code turns0 turns1 cores p (judgement code (bounds0 o) (bounds1 o) (take p cores) r.trace0.records r.trace1.records (opening_known f0 f1)).known in
+    let f0 = frame_of (state0 o) in
+    let f1 = frame_of (state1 o) in
+    let here : P f0 f1 = λ whole. position o code turns0 turns1 cores p _ c
+        (one_walk code (bounds0 o) (bounds1 o) p cores (opened opening) (opening_known f0 f1) (opening_core (state0 o)).entered (opening_core (state1 o)).entered r.trace0.records r.trace1.records walk whole) in
+    subst (P (frame0 o)) (alike1 o) (subst (λ f. P f f1) (alike0 o) here)

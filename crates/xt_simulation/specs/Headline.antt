@@ -1,7 +1,8 @@
 -- Windows are frames: the judged part of a run of the processor with windows is a
 -- run of the machine with unbounded call frames ('profile': the definitions of
 -- xt_frames over the processor's).
-use Rattle.std.specs.Prelude.{◌≡◌, ℕ, zero, suc, Bool, true, false, Some, List, [], ◌∷◌, take}
+use Rattle.std.specs.Prelude.{◌≡◌, ℕ, zero, suc, Bool, true, false, Some, None, List, [], ◌∷◌}
+use Rattle.std.specs.Prelude.{take}
 use Rattle.xt_map.specs.declared.segment.Segment.{Segment}
 use Rattle.xt_map.specs.Memory.{constant_byte}
 use Rattle.xt_map.specs.History.{replies_of}
@@ -15,7 +16,7 @@ use Rattle.xt_trace.specs.Walks.{IsWalk, state_at}
 use Rattle.xt_trace.specs.Worlds as worlds
 use Rattle.xt_exec.specs.State.{State}
 use Rattle.xt_exec.specs.Chips.{processor}
-use Rattle.xt_frames.specs.Verdict.{Judgement, judgement, opening_known, IsFrameRun}
+use Rattle.xt_frames.specs.Verdict.{Known, Judgement, judgement, opening_known, IsFrameRun}
 use Rattle.xt_stretch.specs.declared.Side.TheVariants.{Overflow, Underflow}
 use Rattle.xt_stretch.specs.declared.HandlerVerdict.TheVariants.{Yes}
 use Rattle.xt_handlers.specs.Vectors.{verdict_of, Handlers}
@@ -120,23 +121,50 @@ pub record StandsAt (w : World) (v : worlds.World State) : Type 0 where
   pub state1 : w.core1.state ≡ v.core1.state
   pub memory : w.memory ≡ v.line.memory
 
-abbrev pub HaveMovedFrames : Openings → (ℕ → ℕ) → ℕ → ℕ → List ℕ → Type 0
-HaveMovedFrames o code turns0 turns1 cores =
-    (p : ℕ) (w : World)
-    → walked code (bounds0 o) (bounds1 o) (turns_of (take p cores)) (Some (opening_world o))
-    ≡ Some w
-    → StandsAt w (state_at (processor code) (opening_of o turns0 turns1) cores p)
-    × KeepsStretches code (bounds0 o) w.memory w.core0
-    × KeepsStretches code (bounds1 o) w.memory w.core1
+-- and knows what the judge knows
+pub record Knows (w : World) (k : Known) : Type 0 where
+  pub standing0 : w.core0.standing ≡ k.standing0
+  pub standing1 : w.core1.standing ≡ k.standing1
+  pub stale : w.stale ≡ k.stale
+  pub judged0 : w.core0.judged ≡ k.judged0
+  pub judged1 : w.core1.judged ≡ k.judged1
+  pub entries : w.entries ≡ k.entries
 
--- Whole stretches of a run: at each position p before the first breach the walk stands
--- where the run does, and where a core's next turn ends a stretch of handler steps, the
--- stretch has moved one frame.
+-- The first p turns of a schedule have been walked, beside a judge that knows k past them. The walk
+-- stands where the run does. Where a core's next turn ends a stretch of handler steps, the stretch
+-- has moved one frame; where it ends a nested interrupt and shows no breach, the window handler gets
+-- back what it had.
+pub record Position
+    (o : Openings) (code : ℕ → ℕ) (turns0 turns1 : ℕ) (cores : List ℕ) (p : ℕ) (k : Known)
+    : Type 0 where
+  pub world : World
+  pub reached : walked code (bounds0 o) (bounds1 o) (turns_of (take p cores))
+      (Some (opening_world o)) ≡ Some world
+  pub knows : Knows world k
+  pub stands : StandsAt world
+      (state_at (processor code) (opening_of o turns0 turns1) cores p)
+  pub moves0 : KeepsStretches code (bounds0 o) world.memory world.core0
+  pub moves1 : KeepsStretches code (bounds1 o) world.memory world.core1
+  pub returns0 : GivesBack code (bounds0 o) (bounds1 o) 0 world.core0 world.core1 world.memory
+      world.stale
+  pub returns1 : GivesBack code (bounds1 o) (bounds0 o) 1 world.core1 world.core0 world.memory
+      world.stale
+
+-- At each position p before the first breach, which is the verdict's: where the judge's own walk over
+-- the first p turns of the schedule and these records of both cores shows none.
+abbrev pub HaveMovedFrames :
+    Openings → (ℕ → ℕ) → ℕ → ℕ → List ℕ → List StepRecord → List StepRecord → Type 0
+HaveMovedFrames o code turns0 turns1 cores xs ys =
+    (p : ℕ)
+    → (judged_in o code (take p cores) xs ys).breach ≡ None
+    → Position o code turns0 turns1 cores p (judged_in o code (take p cores) xs ys).known
+
+-- so of every run, in the order of its schedule
 abbrev pub StretchesOfRuns : Type 0
 StretchesOfRuns =
     (o : Openings) (code : ℕ → ℕ) (turns0 turns1 : ℕ) (r : Run State) → IsCovered o code
     → IsRunOf (processor code) (opening_of o turns0 turns1) r
-    → HaveMovedFrames o code turns0 turns1 (schedule_of r)
+    → HaveMovedFrames o code turns0 turns1 (schedule_of r) r.trace0.records r.trace1.records
 
 -- ---- a run of an image, of which the history and the places of the accesses are kept
 
@@ -157,6 +185,20 @@ judgement_of segments entry o r =
     judged_in
     at
     code
+    (short_schedule r)
+    (records0 at code o.turns0 r)
+    (records1 at code o.turns1 r)
+
+-- and what holds at each position of it before the first breach
+abbrev pub RunHasMovedFrames : List Segment → ℕ → Options → ShortRun State → Type 0
+RunHasMovedFrames segments entry o r =
+    let at = openings_of segments entry o in
+    let code = constant_byte segments in
+    HaveMovedFrames
+    at
+    code
+    o.turns0
+    o.turns1
     (short_schedule r)
     (records0 at code o.turns0 r)
     (records1 at code o.turns1 r)
@@ -184,7 +226,8 @@ WindowsAreFrames =
     (constant_byte segments)
     (judgement_of segments entry o r)
 
--- and its whole stretches of handler steps have each moved one frame
+-- And at each position before the first breach its whole stretches of handler steps have each moved
+-- one frame, and its nested interrupts give the window handler back what it had.
 abbrev pub StretchesOfImages : Type 0
 StretchesOfImages =
     (segments : List Segment) (entry : ℕ) (o : Options) (r : ShortRun State)
@@ -192,9 +235,4 @@ StretchesOfImages =
     → Handlers (constant_byte segments) o.vecbase
     → Apart (openings_of segments entry o).range0 (openings_of segments entry o).range1
     → IsRunOfImage segments entry o r
-    → HaveMovedFrames
-    (openings_of segments entry o)
-    (constant_byte segments)
-    o.turns0
-    o.turns1
-    (short_schedule r)
+    → RunHasMovedFrames segments entry o r

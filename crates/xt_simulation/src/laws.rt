@@ -137,9 +137,11 @@ pub fn runs_are_frames()
     ensures { RunsAreFrames }
 {}
 
-/// At each position of a run before its first breach, a core's turn that ends a stretch of handler
-/// steps has moved one frame between registers and its save areas, and each handler step changes no
-/// byte but those of the frame's save words.
+/// At each position of a run before the verdict's first breach the walk knows what the judge knows and
+/// stands where the run does. A core's turn that ends a stretch of handler steps has moved one frame
+/// between registers and its save areas, and each handler step changes no byte but those of the
+/// frame's save words. A core's turn that ends a nested interrupt and shows no breach gives the window
+/// handler back what it had.
 pub fn stretches_of_runs()
     ensures { StretchesOfRuns }
 {}
@@ -161,9 +163,10 @@ pub fn windows_are_frames()
     ensures { WindowsAreFrames }
 {}
 
-/// And at each position of such a run before its first breach, a core's turn that ends a stretch of
-/// handler steps has moved one frame between registers and its save areas, and each handler step
-/// changes no byte but those of the frame's save words.
+/// And at each position of such a run before its first breach, which is the verdict's, a core's turn
+/// that ends a stretch of handler steps has moved one frame between registers and its save areas, and
+/// each handler step changes no byte but those of the frame's save words. A core's turn that ends a
+/// nested interrupt and shows no breach gives the window handler back what it had.
 pub fn stretches_move_one_frame()
     ensures { StretchesOfImages }
 {}
