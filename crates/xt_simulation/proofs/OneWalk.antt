@@ -9,12 +9,14 @@ use Rattle.xt_trace.specs.Worlds.{give, advance}
 use Rattle.xt_trace.specs.Walks.{IsWalk, next_record}
 use Rattle.xt_exec.specs.State.{State}
 use Rattle.xt_exec.specs.Chips.{processor}
+use Rattle.xt_frames.specs.declared.kinds.Breach.{Breach}
 use Rattle.xt_frames.specs.Breaches.{Bounds}
 use Rattle.xt_frames.specs.Judging.{Standing, Seen, Handled, Judges, Breaks}
-use Rattle.xt_frames.specs.Verdict.{Known, Judgement, entry_of, is_nested, judgement, past_handled_0, past_handled_1, past_judged_0, past_judged_1, seen_0, seen_1, passed_0, passed_1}
+use Rattle.xt_frames.specs.Verdict.{Known, Judgement, entry_of, is_nested, judgement, opening_known, past_handled_0, past_handled_1, past_judged_0, past_judged_1, seen_0, seen_1, passed_0, passed_1}
 use Rattle.xt_simulation.specs.Steps.{record_now, state_now, memory_now}
 use Rattle.xt_simulation.specs.Walking.{Entered, World, entered_by, entered_past, moved_by, moved0, moved1, given, walked}
-use Rattle.xt_simulation.specs.Headline.{turns_of}
+use Rattle.xt_simulation.specs.Opening.{bounds0, bounds1, frame0, frame1}
+use Rattle.xt_simulation.specs.Headline.{turns_of, BreachesStay}
 use Rattle.xt_simulation.proofs.Headline.{world_of, next_is, core_next, line_next}
 
 module _ (code : ℕ → ℕ) (b0 b1 : Bounds) where
@@ -124,3 +126,27 @@ module _ (code : ℕ → ℕ) (b0 b1 : Bounds) where
       let after : IsWalk (processor code) cs next xs ys = subst go last more in
       let goal : StepRecord → Type 0 = λ r. (passed_1 (seen_1 code b0 b1 k r) k r rest).breach ≡ None → Reaches (false ∷ turns_of (take p cs)) (Some (world_of code v k e0 e1)) (advance (processor code) (take p cs) next) (passed_1 (seen_1 code b0 b1 k r) k r rest).known in
       subst goal (sym first) (step1 v k e0 e1 pos (seen_1 code b0 b1 k (record_now code v.line.memory v.core1.state)) refl (turns_of (take p cs)) (advance (processor code) (take p cs) next) rest (λ n at clear. one_walk p cs next n e0 at xs ys after clear)) whole
+
+-- ---- a breach ends the walk
+stays0 : (o : Seen) (k : Known) (rec : StepRecord) (rest all : Known → Judgement) (b : Breach) → ((n : Known) → (rest n).breach ≡ Some b → all n ≡ rest n) → (passed_0 o k rec rest).breach ≡ Some b → passed_0 o k rec all ≡ passed_0 o k rec rest
+stays0 (Handled standing) k rec rest all b more e = more (past_handled_0 standing k) e
+stays0 (Judges standing stale) k rec rest all b more e = more (past_judged_0 standing stale rec k) e
+stays0 (Breaks kind) k rec rest all b more e = refl
+
+stays1 : (o : Seen) (k : Known) (rec : StepRecord) (rest all : Known → Judgement) (b : Breach) → ((n : Known) → (rest n).breach ≡ Some b → all n ≡ rest n) → (passed_1 o k rec rest).breach ≡ Some b → passed_1 o k rec all ≡ passed_1 o k rec rest
+stays1 (Handled standing) k rec rest all b more e = more (past_handled_1 standing k) e
+stays1 (Judges standing stale) k rec rest all b more e = more (past_judged_1 standing stale rec k) e
+stays1 (Breaks kind) k rec rest all b more e = refl
+
+stays : (code : ℕ → ℕ) (b0 b1 : Bounds) (p : ℕ) (cores : List ℕ) (xs ys : List StepRecord) (k : Known) (b : Breach) → (judgement code b0 b1 (take p cores) xs ys k).breach ≡ Some b → judgement code b0 b1 cores xs ys k ≡ judgement code b0 b1 (take p cores) xs ys k
+stays code b0 b1 zero cores xs ys k b e = absurd cc
+stays code b0 b1 (suc p) [] xs ys k b e = absurd cc
+stays code b0 b1 (suc p) (zero ∷ cs) [] ys k b e = absurd cc
+stays code b0 b1 (suc p) (zero ∷ cs) (x ∷ xs) ys k b e =
+    stays0 (seen_0 code b0 b1 k x) k x (λ n. judgement code b0 b1 (take p cs) xs ys n) (λ n. judgement code b0 b1 cs xs ys n) b (λ n f. stays code b0 b1 p cs xs ys n b f) e
+stays code b0 b1 (suc p) (suc c ∷ cs) xs [] k b e = absurd cc
+stays code b0 b1 (suc p) (suc c ∷ cs) xs (y ∷ ys) k b e =
+    stays1 (seen_1 code b0 b1 k y) k y (λ n. judgement code b0 b1 (take p cs) xs ys n) (λ n. judgement code b0 b1 cs xs ys n) b (λ n f. stays code b0 b1 p cs xs ys n b f) e
+
+pub breaches_stay : BreachesStay
+breaches_stay o code cores xs ys p b e = stays code (bounds0 o) (bounds1 o) p cores xs ys (opening_known (frame0 o) (frame1 o)) b e

@@ -1,5 +1,5 @@
 -- What holds at each position of a run before the first breach.
-use Rattle.std.proofs.Common.{◌≡◌, ℕ, Some, None, List, take, sym, refl, subst}
+use Rattle.std.proofs.Common.{◌≡◌, ℕ, Some, None, List, take, refl, subst}
 use Rattle.xt_trace.specs.Runs.{opened, schedule_of}
 use Rattle.xt_trace.specs.Walks.{state_at}
 use Rattle.xt_trace.proofs.Walks.{own_walk}
@@ -7,7 +7,7 @@ use Rattle.xt_exec.specs.Chips.{processor}
 use Rattle.xt_frames.specs.Frames.{FrameState}
 use Rattle.xt_frames.specs.Verdict.{Known, judgement, opening_known}
 use Rattle.xt_simulation.specs.Opening.{Openings, opening_core, opening_world, bounds0, bounds1, state0, state1, frame0, frame_of}
-use Rattle.xt_simulation.specs.Headline.{IsCovered, StandsAt, Knows, Position, turns_of, opening_of, StretchesOfRuns}
+use Rattle.xt_simulation.specs.Headline.{IsCovered, Position, turns_of, opening_of, StretchesOfRuns}
 use Rattle.xt_simulation.proofs.Headline.{world_of, alike0, alike1, stretches_move_frames, nested_give_back}
 use Rattle.xt_simulation.proofs.OneWalk.{Reaches, one_walk}
 
@@ -36,9 +36,9 @@ stretches_of_runs o code turns0 turns1 r c run p =
     let cores = schedule_of r in
     let walk = own_walk (processor code) opening r run in
     let P : FrameState → FrameState → Type 0 = λ f0 f1. (judgement code (bounds0 o) (bounds1 o) (take p cores) r.trace0.records r.trace1.records (opening_known f0 f1)).breach ≡ None
-        → Position o code turns0 turns1 cores p (judgement code (bounds0 o) (bounds1 o) (take p cores) r.trace0.records r.trace1.records (opening_known f0 f1)).known in
+    → Position o code turns0 turns1 cores p (judgement code (bounds0 o) (bounds1 o) (take p cores) r.trace0.records r.trace1.records (opening_known f0 f1)).known in
     let f0 = frame_of (state0 o) in
     let f1 = frame_of (state1 o) in
     let here : P f0 f1 = λ whole. position o code turns0 turns1 cores p _ c
-        (one_walk code (bounds0 o) (bounds1 o) p cores (opened opening) (opening_known f0 f1) (opening_core (state0 o)).entered (opening_core (state1 o)).entered r.trace0.records r.trace1.records walk whole) in
+    (one_walk code (bounds0 o) (bounds1 o) p cores (opened opening) (opening_known f0 f1) (opening_core (state0 o)).entered (opening_core (state1 o)).entered r.trace0.records r.trace1.records walk whole) in
     subst (P (frame0 o)) (alike1 o) (subst (λ f. P f f1) (alike0 o) here)

@@ -16,6 +16,7 @@ use Rattle.xt_trace.specs.Walks.{IsWalk, state_at}
 use Rattle.xt_trace.specs.Worlds as worlds
 use Rattle.xt_exec.specs.State.{State}
 use Rattle.xt_exec.specs.Chips.{processor}
+use Rattle.xt_frames.specs.declared.kinds.Breach.{Breach}
 use Rattle.xt_frames.specs.Verdict.{Known, Judgement, judgement, opening_known, IsFrameRun}
 use Rattle.xt_stretch.specs.declared.Side.TheVariants.{Overflow, Underflow}
 use Rattle.xt_stretch.specs.declared.HandlerVerdict.TheVariants.{Yes}
@@ -114,6 +115,14 @@ abbrev pub turns_of : List ℕ → List Bool
 turns_of [] = []
 turns_of (zero ∷ cores) = true ∷ turns_of cores
 turns_of (suc core ∷ cores) = false ∷ turns_of cores
+
+-- A breach that the judge's walk shows over the first p turns of a schedule is the verdict's, whose
+-- walk ends with it. So where it shows none there, position p is before the verdict's first breach.
+abbrev pub BreachesStay : Type 0
+BreachesStay =
+    (o : Openings) (code : ℕ → ℕ) (cores : List ℕ) (xs ys : List StepRecord) (p : ℕ) (b : Breach)
+    → (judged_in o code (take p cores) xs ys).breach ≡ Some b
+    → judged_in o code cores xs ys ≡ judged_in o code (take p cores) xs ys
 
 -- the walk stands where the run does
 pub record StandsAt (w : World) (v : worlds.World State) : Type 0 where

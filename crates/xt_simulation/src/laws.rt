@@ -4,7 +4,7 @@
 ghost use Rattle.xt_simulation.specs.Closing.{FillsKeepPlain, SpillsKeepPlain};
 ghost use Rattle.xt_simulation.specs.Cores.{LiveInRange, SavedInAreas};
 ghost use Rattle.xt_simulation.specs.HandlerLaws.{HandlerStepsAreKept, HandlersAreSpared, StretchesAreEntered};
-ghost use Rattle.xt_simulation.specs.Headline.{NestedGiveBack, RunsAreFrames, SixSuffice, StretchesMoveFrames, StretchesOfImages, StretchesOfRuns, TurnsAreFrames, WalksAreFrames, WindowsAreFrames};
+ghost use Rattle.xt_simulation.specs.Headline.{BreachesStay, NestedGiveBack, RunsAreFrames, SixSuffice, StretchesMoveFrames, StretchesOfImages, StretchesOfRuns, TurnsAreFrames, WalksAreFrames, WindowsAreFrames};
 ghost use Rattle.xt_simulation.specs.Opening.{OpensAlike};
 ghost use Rattle.xt_simulation.specs.JudgedSteps.{KeepsLevel, KeepsStack};
 ghost use Rattle.xt_simulation.specs.Relation.{EntersWindow};
@@ -135,6 +135,12 @@ pub fn walks_are_frames()
 /// schedule, are a frame run.
 pub fn runs_are_frames()
     ensures { RunsAreFrames }
+{}
+
+/// A breach that the judge's walk shows over the first turns of a schedule is that of the whole walk,
+/// which ends there.
+pub fn breaches_stay()
+    ensures { BreachesStay }
 {}
 
 /// At each position of a run before the verdict's first breach the walk knows what the judge knows and
