@@ -59,7 +59,7 @@ passes code vecbase h =
     six_suffice code vecbase (record { of4 = yes_is _ a.0; uf4 = yes_is _ b.0; of8 = yes_is _ c.0; uf8 = yes_is _ d.0; of12 = yes_is _ e.0; uf12 = yes_is _ e.1 })
 
 pub runs_are_framed : RunsAreFramed
-runs_are_framed image r t h yes apart = let handlers = passes (code_of image) r.options.vecbase yes in (
+runs_are_framed image r t h six apart = let handlers = passes (code_of image) r.options.vecbase six in (
   windows_are_frames image.segments image.entry r.options (short_of image r) (given_by image r t h) handlers apart (run_by image r h),
   stretches_of_images image.segments image.entry r.options (short_of image r) (given_by image r t h) handlers apart (run_by image r h),
 )
