@@ -12,3 +12,4 @@ pub mod Answered
 pub mod Openings
 pub mod Counts
 pub mod Endings
+pub mod Taken

@@ -6,3 +6,4 @@ pub mod Schedules
 pub mod Ordered
 pub mod Verdicts
 pub mod Depths
+pub mod Modes

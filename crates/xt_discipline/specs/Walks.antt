@@ -1,7 +1,7 @@
 -- Carries a proof; nothing that a reader must believe.
 -- The walk over the records of both cores: what it knows is what the
 -- definition of the verdict knows.
-use Rattle.std.specs.Prelude.{◌≡◌, ℕ, suc, ◌+◌, Bool, Result, Ok, Err, List, [], ◌∷◌, length}
+use Rattle.std.specs.Prelude.{◌≡◌, ℕ, zero, suc, ◌+◌, Bool, Result, Ok, Err, List, [], ◌∷◌, length}
 use Rattle.std.specs.Prelude.{drop}
 use Rattle.xt_map.specs.Memory.{constant_byte}
 use Rattle.xt_map.specs.declared.segment.Segment.{Segment}
@@ -10,6 +10,7 @@ use Rattle.xt_trace.specs.declared.record.StepRecord.{StepRecord}
 use Rattle.xt_frames.specs.declared.kinds.Judged.{Judged}
 use Rattle.xt_frames.specs.declared.kinds.Judged.TheVariants.{Whole, Broken}
 use Rattle.xt_frames.specs.Breaches.{Bounds}
+use Rattle.xt_frames.specs.HandlerSteps.{Mode}
 use Rattle.xt_frames.specs.Judging.{Standing, seen}
 use Rattle.xt_frames.specs.Verdict.{Known, judgement, opening_known, verdict_on}
 use Rattle.xt_frames.specs.Walked.{opened}
@@ -17,7 +18,7 @@ use Rattle.xt_discipline.specs.declared.bytes.Held.{Held}
 use Rattle.xt_discipline.specs.declared.side.Side.{Side}
 use Rattle.xt_discipline.specs.declared.walk.Walk.{Walk}
 use Rattle.xt_discipline.specs.Bytes.{KnowsOf}
-use Rattle.xt_discipline.specs.Sides.{IsSeen, IsSide, live_in, standing_of}
+use Rattle.xt_discipline.specs.Sides.{IsSeen, IsSide, live_in, mode_of, standing_of}
 
 -- a core that the definition knows so
 pub record IsKnown (s : Side) (core : ℕ) (b : Bounds) (st : Standing) (steps : ℕ) : Type 0 where
@@ -58,6 +59,11 @@ IsTurned code b0 b1 core k xs ys new xs' ys' (Ok u) =
     × ((cs : List ℕ) → judgement code b0 b1 (core ∷ cs) xs ys k ≡ judgement code b0 b1 cs xs' ys' n)
 IsTurned code b0 b1 core k xs ys new xs' ys' (Err j) =
     (cs : List ℕ) → j ≡ verdict_on (judgement code b0 b1 (core ∷ cs) xs ys k).breach
+
+-- the mode of a core before its next record
+abbrev pub mode_in : ℕ → Walk → Mode
+mode_in zero w = mode_of w.side0.mode
+mode_in (suc core) w = mode_of w.side1.mode
 
 -- both cores as they open
 pub record IsOpened (w : Walk) (code : List Segment) (entry : ℕ) (o : Options) : Type 0 where

@@ -7,9 +7,13 @@ mod callers;
 mod judging;
 mod order;
 mod side;
+pub mod step_modes;
+mod stepping;
 mod walk;
 
 pub use callers::depths;
-pub use judging::{handlers_of, judge};
-pub use order::{Schedule, schedule_of};
+pub use judging::{are_yes, handlers_of, judge};
+pub use order::{Order, Schedule, schedule_of};
+pub use stepping::modes;
+pub use walk::Walk;
 pub use xt_frames::Judged;

@@ -128,7 +128,7 @@ fn ends_at(code: &Constants, pc: u32) -> bool
 }
 
 /// Whether a record is of an RFWO or RFWU, by the bytes at its PC.
-fn closes(code: &Constants, rec: &StepRecord) -> bool
+pub fn closes(code: &Constants, rec: &StepRecord) -> bool
     ensures { result ≡ closes (constant_byte code.now) rec.now.kind rec.now.pc }
 {
     match rec.kind {
@@ -138,7 +138,7 @@ fn closes(code: &Constants, rec: &StepRecord) -> bool
 }
 
 /// Whether a record is of an RFI 5, by the bytes at its PC.
-fn returns(code: &Constants, rec: &StepRecord) -> bool
+pub fn returns(code: &Constants, rec: &StepRecord) -> bool
     ensures { result ≡ returns (constant_byte code.now) rec.now.kind rec.now.pc }
 {
     match rec.kind {
@@ -151,7 +151,7 @@ fn returns(code: &Constants, rec: &StepRecord) -> bool
 }
 
 /// Whether a record is that of a window exception.
-fn is_window(kind: StepKind) -> bool
+pub fn is_window(kind: StepKind) -> bool
     ensures { result ≡ is_window kind }
 {
     matches!(kind, StepKind::Window(_))

@@ -1,7 +1,7 @@
 //! The walk over the records of both cores.
 #![tactic(auto)]
 
-ghost use Rattle.std.specs.Prelude.{◌≡◌, ◌+◌, ◌<◌, ◌^◌, ℕ, Bool, false, [], Err, IfOk, length, replicate};
+ghost use Rattle.std.specs.Prelude.{◌≡◌, ◌+◌, ◌<◌, ◌^◌, ℕ, Bool, false, [], Err, IfOk, OnOk, length, replicate};
 ghost use Rattle.xt_map.specs.Memory.{constant_byte};
 ghost use Rattle.xt_trace.specs.declared.options.Options.{Options};
 ghost use Rattle.xt_trace.specs.Validity.{IsValid};
@@ -11,21 +11,24 @@ ghost use Rattle.xt_frames.specs.Stacks.{IsRange};
 ghost use Rattle.xt_frames.specs.Verdict.{Known, judgement, verdict_on};
 ghost use Rattle.xt_frames.specs.Walked.{opened, stack_of};
 ghost use Rattle.xt_discipline.specs.Bytes.{AreOpened, IsEnd, KnowsOf, held_at, nothing};
+ghost use Rattle.xt_discipline.specs.Modes.{step_mode};
 ghost use Rattle.xt_discipline.specs.Schedules.{HasSchedule, schedule_in};
 ghost use Rattle.xt_discipline.specs.Sides.{IsSide, live_in};
-ghost use Rattle.xt_discipline.specs.Ended.{HasEnded};
+ghost use Rattle.xt_discipline.specs.Ended.{HasEnded, IsFirst, IsTaken};
 ghost use Rattle.xt_discipline.specs.declared.side.Mode.TheVariants as mode;
-ghost use Rattle.xt_discipline.specs.Walks.{IsOpened, IsTurned, Knows, Turns, found_on};
+ghost use Rattle.xt_discipline.specs.Walks.{IsOpened, IsTurned, Knows, Turns, found_on, mode_in};
 
 use crate::bytes::{Change, Held, change_bytes, nothing};
 use crate::order::Order;
 use crate::side::{Mode, Side};
+use crate::step_modes;
+use crate::stepping::step_mode;
 use std::alloc::{AllocError, Global};
 use xt_frames::{Frames, Judged};
 use xt_map::Constants;
-use xt_trace::{Options, Records, Run};
+use xt_trace::{Options, Records, Run, StepKind};
 
-/// The walk so far.
+/// The walk of the judge so far: what it knows of both cores past the turns that were made.
 #[derive(Drop)]
 pub struct Walk<'a> {
     code: Constants<'a>,
@@ -100,6 +103,7 @@ fn turn_of<R: Records>(
     ensures turns { (others stale : ℕ → Bool) → KnowsOf side.old.core marks.old (live_in side.old.frames) others stale
         → Turns (constant_byte code.now) side.old side.new marks.new others stale (R.left records.old) (R.left records.new) result }
     ensures ended { result ≡ Err Whole → (R.left records.old ≡ []) × (side.new ≡ side.old) }
+    ensures taken { OnOk result (IsFirst (R.left records.old) (R.left records.new)) }
 {
     match records.next() {
         None => Err(Judged::Whole),
@@ -139,7 +143,23 @@ impl<'a> Walk<'a> {
         (self.side0.frames.depth(), self.side1.frames.depth())
     }
 
-    /// The next record of this core, if it has one: no breach, or what is judged of the run.
+    /// What the next record of a core is, where it is of this kind.
+    pub fn mode(&self, core: u8, kind: StepKind) -> step_modes::Mode
+        requires { core < 2 }
+        ensures { result ≡ step_mode (mode_in core self.now) kind }
+    {
+        if core == 0 {
+            step_mode(self.side0.mode, kind)
+        } else {
+            step_mode(self.side1.mode, kind)
+        }
+    }
+
+    /// The next record of this core, if it has one, which is taken: no breach, or what is judged of
+    /// the run.
+    ///
+    /// Conditions: the core is 0 or 1, the walk began where both cores open, and fewer than 2^32 turns
+    /// were made.
     pub fn turn<R: Records>(
         &mut self,
         core: u8,
@@ -152,6 +172,7 @@ impl<'a> Walk<'a> {
         ensures turned { (b0 b1 : Bounds) (k : Known) → Knows self.old b0 b1 k
             → IsTurned (constant_byte self.old.code) b0 b1 core k (R.left records0.old) (R.left records1.old) self.new (R.left records0.new) (R.left records1.new) result }
         ensures ended { result ≡ Err Whole → HasEnded core self.old self.new (R.left records0.old) (R.left records1.old) }
+        ensures taken { OnOk result (IsTaken core (R.left records0.old) (R.left records1.old) (R.left records0.new) (R.left records1.new)) }
     {
         if core == 0 {
             turn_of(&self.code, &mut self.side0, &mut self.marks, records0)

@@ -2,6 +2,7 @@ use Rattle.std.proofs.Common.{ℕ, List, length, refl, ◌∙◌, ap, arith}
 use Rattle.xt_discipline.specs.declared.bytes.Held.{Held}
 use Rattle.xt_discipline.specs.Ended.{records_left}
 use Rattle.xt_discipline.specs.Sides.{live_in}
+use Rattle.xt_discipline.proofs.Taken.{taken_one, taken_zero}
 use Rattle.xt_discipline.proofs.Walking.{one_of, turned_one, turned_zero}
 use Rattle.xt_discipline.proofs.walk.Walk.turn.Goals as goal
 
@@ -45,3 +46,12 @@ returns-else-core-eq0-clause-ended g c whole =
       same0 = refl;
       same1 = t.1;
     }
+
+pub returns-then-core-eq0-clause-taken : goal.returns-then-core-eq0-clause-taken
+returns-then-core-eq0-clause-taken g c =
+    taken_zero c.args.core (g.R.Records.left c.args.records0.now) (g.R.Records.left c.args.records1.now) (g.R.Records.left c.turn_of.new.records) c.turn_of.result c.if-core-eq0.true c.turn_of.ensures.taken
+
+pub returns-else-core-eq0-clause-taken : goal.returns-else-core-eq0-clause-taken
+returns-else-core-eq0-clause-taken g c =
+    let one = one_of c.args.core c.requires.core c.if-core-eq0.false in
+    taken_one c.args.core (g.R.Records.left c.args.records0.now) (g.R.Records.left c.args.records1.now) (g.R.Records.left c.turn_of-else-core-eq0.new.records) c.turn_of-else-core-eq0.result one c.turn_of-else-core-eq0.ensures.taken
