@@ -29,6 +29,7 @@ use Rattle.xt_simulation.specs.InHandlers.{as_left, special_left, start_of}
 use Rattle.xt_simulation.specs.Stretches.{InHandler}
 use Rattle.xt_simulation.specs.Handling.{Begins, Handling, machine}
 use Rattle.xt_simulation.proofs.Evenly.{not_lost}
+use Rattle.xt_simulation.proofs.Laid.{laid_length, laid_other, relaid, same_relaid}
 
 -- ---- the special registers as they are left, but EPC1, INTERRUPT and CCOUNT
 pub left_length : (old new : List ℕ) → length (special_left old new) ≡ length new
@@ -53,38 +54,6 @@ left_shape : (old new : List ℕ) → HasShape new → HasShape (special_left ol
 left_shape old new h = record {
   sar_fits = rw (left_other old new 3 (λ e. omega arith) (λ e. omega arith) (λ e. omega arith)) h.sar_fits;
   vecbase_aligned = rw (left_other old new 231 (λ e. omega arith) (λ e. omega arith) (λ e. omega arith)) h.vecbase_aligned;
-}
-
--- ---- inputs laid over special registers
--- CCOUNT and INTERRUPT are those of the other list
-abbrev pub relaid : List ℕ → List ℕ → List ℕ
-relaid xs ys = set (set ys 234 (get_or xs 234 0)) 226 (get_or xs 226 0)
-
-pub laid_other : (ys : List ℕ) (count bits k : ℕ) → k ≢ 226 → k ≢ 234 → get_or (set (set ys 234 count) 226 bits) k 0 ≡ get_or ys k 0
-laid_other ys count bits k a b = get_or-set_other (set ys 234 count) 226 k bits 0 a ∙ get_or-set_other ys 234 k count 0 b
-
-pub laid_length : (ys : List ℕ) (count bits : ℕ) → length (set (set ys 234 count) 226 bits) ≡ length ys
-laid_length ys count bits = length-set (set ys 234 count) 226 bits ∙ length-set ys 234 count
-
-laid_count : (ys : List ℕ) (count bits : ℕ) → 234 < length ys → get_or (set (set ys 234 count) 226 bits) 234 0 ≡ count
-laid_count ys count bits long = get_or-set_other (set ys 234 count) 226 234 bits 0 (λ e. omega arith) ∙ get_or-set_same ys 234 count 0 long
-
-laid_bits : (ys : List ℕ) (count bits : ℕ) → 226 < length ys → get_or (set (set ys 234 count) 226 bits) 226 0 ≡ bits
-laid_bits ys count bits long = let n = length-set ys 234 count in get_or-set_same (set ys 234 count) 226 bits 0 (omega arith)
-
-pub same_relaid : (lost : ℕ → Bool) (xs ys : List ℕ) → 234 < length ys → length xs ≡ length ys → ((k : ℕ) → lost k ≡ true → can_be_lost k ≡ true)
-    → ((k : ℕ) → lost k ≡ false → k ≢ 226 → k ≢ 234 → get_or xs k 0 ≡ get_or ys k 0) → Same lost xs (relaid xs ys)
-same_relaid lost xs ys long size only at = record {
-  size = size ∙ sym (laid_length ys (get_or xs 234 0) (get_or xs 226 0));
-  only = only;
-  at = λ k known.
-      ⊎_elim
-      (λ bits. rw bits (sym (laid_bits ys (get_or xs 234 0) (get_or xs 226 0) (omega arith))))
-      (λ not_bits. ⊎_elim
-      (λ count. rw count (sym (laid_count ys (get_or xs 234 0) (get_or xs 226 0) long)))
-      (λ not_count. at k known not_bits not_count ∙ sym (laid_other ys (get_or xs 234 0) (get_or xs 226 0) k not_bits not_count))
-      (cases_eq k 234))
-      (cases_eq k 226);
 }
 
 -- ---- a step that keeps what RFI 5 gives back
@@ -118,9 +87,6 @@ live_same b f g seen frames a =
     ap (λ s. covers_byte (areas b.range.hi (known s 1) 1 g.frames) a) seen ∙ ap (λ fs. covers_byte (areas b.range.hi (known f.seen 1) 1 fs) a) frames
 
 module _ {b : Bounds} {t after : State} {f g : FrameState} (c : Carries b t after f g) where
-  long : 234 < length g.control.special
-  long = let n = c.special.size in let l = laid_length g.control.special (special_of after.control 234) (special_of after.control 226) in let k = c.count in omega arith
-
   epc1_lost : (k : ℕ) → lost_at false g k ≡ false → k ≢ 177
   epc1_lost k known e = false≢true (sym known ∙ ap (lost_at false g) e)
 
@@ -128,7 +94,7 @@ module _ {b : Bounds} {t after : State} {f g : FrameState} (c : Carries b t afte
   special_even old =
       let count = special_of after.control 234 in
       let bits = special_of after.control 226 in
-      same_relaid (lost_at false g) (special_left old after.control.special) g.control.special long
+      same_relaid (lost_at false g) (special_left old after.control.special) g.control.special
       (left_length old after.control.special ∙ (c.special.size ∙ laid_length g.control.special count bits))
       c.special.only
       (λ k known not_bits not_count.

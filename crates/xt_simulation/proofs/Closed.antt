@@ -16,6 +16,7 @@ use Rattle.xt_frames.specs.Stacks.{IsFrame, AreFrames}
 use Rattle.xt_special.specs.Control.{Control}
 use Rattle.xt_special.specs.declared.ps.Ps.{Ps}
 use Rattle.xt_window.specs.Ring.{place, bit, with_bit, without_bit}
+use Rattle.xt_simulation.proofs.Laid.{laid_length, laid_other, relaid, same_relaid}
 use Rattle.xt_simulation.proofs.Modular.{one_window, bit_at_window, bit_with_same, bit_with_other, bit_without_same, bit_without_other}
 use Rattle.xt_simulation.proofs.RingLemmas.{some_within, stands_within, stands_above}
 
@@ -58,34 +59,6 @@ in_ring_same regs other (f ∷ fs) low at shaped le fit same h =
     )
 
 -- ---- what a handler leaves of the special registers
-pub set_own : (xs ys : List ℕ) (k : ℕ) → length xs ≡ length ys → get_or (set ys k (get_or xs k 0)) k 0 ≡ get_or xs k 0
-set_own xs ys k len = ⊎_elim
-    (λ within. get_or-set_same ys k (get_or xs k 0) 0 within)
-    (λ past. let a = get_or_past (set ys k (get_or xs k 0)) k 0 (let n = length-set ys k (get_or xs k 0) in omega arith) in a ∙ sym (get_or_past xs k 0 (omega arith)))
-    (cases_lt k (length ys))
-
-overlaid : List ℕ → ℕ → ℕ → List ℕ
-overlaid xs count bits = set (set xs 234 count) 226 bits
-
-overlaid_length : (xs : List ℕ) (count bits : ℕ) → length (overlaid xs count bits) ≡ length xs
-unfolding overlaid
-overlaid_length xs count bits = length-set (set xs 234 count) 226 bits ∙ length-set xs 234 count
-
-overlaid_other : (xs : List ℕ) (count bits k : ℕ) → k ≢ 226 → k ≢ 234 → get_or (overlaid xs count bits) k 0 ≡ get_or xs k 0
-unfolding overlaid
-overlaid_other xs count bits k a b = get_or-set_other (set xs 234 count) 226 k bits 0 a ∙ get_or-set_other xs 234 k count 0 b
-
-overlaid_own : (xs ys : List ℕ) → length xs ≡ length ys → (k : ℕ) → (k ≡ 226) ⊎ (k ≡ 234) → get_or (overlaid ys (get_or xs 234 0) (get_or xs 226 0)) k 0 ≡ get_or xs k 0
-unfolding overlaid
-overlaid_own xs ys len k which =
-    let mid = length-set ys 234 (get_or xs 234 0) in
-    ⊎_elim
-    (λ a. rw a (set_own xs (set ys 234 (get_or xs 234 0)) 226 (len ∙ sym mid)))
-    (λ b.
-    let other : 234 ≢ 226 = λ z. omega arith in
-    rw b (get_or-set_other (set ys 234 (get_or xs 234 0)) 226 234 (get_or xs 226 0) 0 other ∙ set_own xs ys 234 len))
-    which
-
 -- EPC1 aside
 not_epc1 : (lost : ℕ → Bool) (k : ℕ) → without_epc1 lost k ≡ false → k ≢ 177
 not_epc1 lost k known e = false≢true (sym (or_parts (lost_of false k) (lost k) known).0 ∙ and_from (eqb k 177) true (eq-eqb k 177 e) refl)
@@ -96,27 +69,14 @@ can_lose {lost = lost} s k h = ⊎_elim
     (λ other. s.only k other)
     (or_cases (lost_of false k) (lost k) h)
 
-same_overlaid : {lost : ℕ → Bool} (xs ys zs : List ℕ) (count bits : ℕ) → Same lost xs (overlaid ys count bits) → length zs ≡ length xs → ((k : ℕ) → k ≢ 177 → k ≢ 226 → k ≢ 234 → get_or zs k 0 ≡ get_or xs k 0) → Same (without_epc1 lost) zs (overlaid ys (get_or zs 234 0) (get_or zs 226 0))
+same_overlaid : {lost : ℕ → Bool} (xs ys zs : List ℕ) (count bits : ℕ) → Same lost xs (set (set ys 234 count) 226 bits) → length zs ≡ length xs → ((k : ℕ) → k ≢ 177 → k ≢ 226 → k ≢ 234 → get_or zs k 0 ≡ get_or xs k 0) → Same (without_epc1 lost) zs (relaid zs ys)
 same_overlaid {lost = lost} xs ys zs count bits e len same =
-    let l0 : length zs ≡ length ys = len ∙ (e.size ∙ overlaid_length ys count bits) in
-    record {
-      size = l0 ∙ sym (overlaid_length ys (get_or zs 234 0) (get_or zs 226 0));
-      only = can_lose e;
-      at = λ k known.
-          ⊎_elim
-          (λ a. sym (overlaid_own zs ys l0 k (inl a)))
-          (λ not_a. ⊎_elim
-          (λ b. sym (overlaid_own zs ys l0 k (inr b)))
-          (λ not_b.
-          let not_epc : k ≢ 177 = not_epc1 lost k known in
-          let before : lost k ≡ false = (or_parts (lost_of false k) (lost k) known).1 in
-          same k not_epc not_a not_b ∙ (e.at k before ∙ (overlaid_other ys count bits k not_a not_b ∙ sym (overlaid_other ys (get_or zs 234 0) (get_or zs 226 0) k not_a not_b))))
-          (cases_eq k 234))
-          (cases_eq k 226);
-    }
+    same_relaid (without_epc1 lost) zs ys (len ∙ (e.size ∙ laid_length ys count bits)) (can_lose e)
+    (λ k known not_bits not_count.
+    let before : lost k ≡ false = (or_parts (lost_of false k) (lost k) known).1 in
+    same k (not_epc1 lost k known) not_bits not_count ∙ (e.at k before ∙ laid_other ys count bits k not_bits not_count))
 
 resumed : {vecbase : ℕ} {lost : ℕ → Bool} {s : State} {ring spilled : List Frame} (f : FrameState) → Plain vecbase lost s f ring spilled → (t : State) → Resumes s.control t.control → Even (without_epc1 lost) t.control (laid (inputs 0 t) f).control
-unfolding overlaid
 resumed {s = s} f l t r =
     let e = l.even in
     record {

@@ -143,7 +143,7 @@ counted xs = set xs 234 ((get_or xs 234 0 + 1) % 2 ^ 32)
 same_counted : {lost : ℕ → Bool} (xs ys : List ℕ) → Same lost xs ys → Same lost (counted xs) (counted ys)
 same_counted xs ys s = let b = same_at s 234 refl in rw b (same_set s 234 ((get_or ys 234 0 + 1) % 2 ^ 32))
 
-same_ticked : {lost : ℕ → Bool} (xs ys : List ℕ) → Same lost xs ys → Same lost (ticked_special xs) (ticked_special ys)
+pub same_ticked : {lost : ℕ → Bool} (xs ys : List ℕ) → Same lost xs ys → Same lost (ticked_special xs) (ticked_special ys)
 unfolding ticked_special
 same_ticked xs ys s =
     same_timer (with_timer 1 (2 ^ 15) (with_timer 0 (2 ^ 6) (counted xs))) (with_timer 1 (2 ^ 15) (with_timer 0 (2 ^ 6) (counted ys))) 2 (2 ^ 16) refl

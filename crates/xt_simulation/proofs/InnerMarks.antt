@@ -44,33 +44,13 @@ use Rattle.xt_frames.proofs.Shown.{Sound}
 use Rattle.xt_simulation.specs.Relation.{Even, Same, can_be_lost, inputs}
 use Rattle.xt_simulation.specs.Steps.{record_now, reply_now, state_now}
 use Rattle.xt_simulation.specs.Nested.{IsInside, IsSpare, marked}
-use Rattle.xt_simulation.proofs.Closed.{set_own}
-use Rattle.xt_simulation.proofs.Evenly.{even_ticked}
+use Rattle.xt_simulation.proofs.Evenly.{even_ticked, lost_in}
 use Rattle.xt_simulation.proofs.Inner.{Inner}
+use Rattle.xt_simulation.proofs.Laid.{even_laid, laid_other}
 use Rattle.xt_simulation.proofs.Modular.{one_place, place_below}
 use Rattle.xt_simulation.proofs.RingLemmas.{some_within}
 use Rattle.xt_simulation.proofs.Turns.{falls_on}
 use Rattle.xt_simulation.proofs.Windowed.{some_value}
-
--- ---- the inputs of the next step, laid over an even control state
-same_own : {lost : ℕ → Bool} {xs ys : List ℕ} → Same lost xs ys → (k : ℕ) → Same lost xs (set ys k (get_or xs k 0))
-same_own {xs = xs} {ys = ys} e k = record {
-  size = e.size ∙ sym (length-set ys k (get_or xs k 0));
-  only = e.only;
-  at = λ j known. ⊎_elim
-      (λ same. rw same (sym (set_own xs ys k e.size)))
-      (λ other. e.at j known ∙ sym (get_or-set_other ys k j (get_or xs k 0) 0 other))
-      (cases_eq j k);
-}
-
-even_laid : {lost : ℕ → Bool} (s : State) (f : FrameState) → Even lost s.control f.control → Even lost s.control (laid (inputs 0 s) f).control
-even_laid s f e = record {
-  pc = e.pc;
-  ps = ap (λ (p : Ps). (let q : Ps = record p { owb = s.control.ps.owb } in q)) e.ps;
-  threadptr = e.threadptr;
-  waits = e.waits;
-  special = same_own (same_own e.special 234) 226;
-}
 
 -- ---- a register that can hold a mark
 module _ (n : ℕ) (holds : holds_marks n ≡ true) where
@@ -202,14 +182,11 @@ frame_is o w sets len reply g is e =
     ∙ ap (λ (c : Control). in_frame (record { kind = Executed; write = w; access = None; awaited = None; control = ticked c }) reply g) (effect_is w sets len g.control e)
 
 -- ---- special registers
-abbrev lost_in : List Bool → ℕ → Bool
-lost_in unset k = lost_of false k || get_or unset k false
-
 -- what holds of them in a nested interrupt
 pub record InSpecials (suspended : State) (xs ys : List ℕ) (unset : List Bool) (saved : List (Option ℕ)) : Type 0 where
   pub size : length xs ≡ 256
   pub count : length unset ≡ 256
-  pub same : Same (lost_in unset) xs ys
+  pub same : Same (lost_in false unset) xs ys
   pub stored : (n k : ℕ) → get_or saved n None ≡ Some k → (get_or xs n 0 ≡ marked suspended k) × (get_or unset n false ≡ true)
 
 set_mark : (saved : List (Option ℕ)) (n k : ℕ) (mark : Option ℕ) → get_or (set saved n mark) n None ≡ Some k → mark ≡ Some k
@@ -221,13 +198,13 @@ set_mark saved n k mark e = ⊎_elim
 -- one is written: with a mark, or with an equal value
 module _ {suspended : State} {xs ys : List ℕ} {unset : List Bool} {saved : List (Option ℕ)} (r : InSpecials suspended xs ys unset saved)
     (n : ℕ) (holds : holds_marks n ≡ true) (v w : ℕ) (mark : Option ℕ) (equal : is_some mark ≡ false → v ≡ w) (means : (k : ℕ) → mark ≡ Some k → v ≡ marked suspended k) where
-  lost_other : (k : ℕ) → k ≢ n → lost_in (set unset n (is_some mark)) k ≡ lost_in unset k
+  lost_other : (k : ℕ) → k ≢ n → lost_in false (set unset n (is_some mark)) k ≡ lost_in false unset k
   lost_other k other = ap (λ b. lost_of false k || b) (get_or-set_other unset n k (is_some mark) false other)
 
   unset_at : get_or (set unset n (is_some mark)) n false ≡ is_some mark
   unset_at = get_or-set_same unset n (is_some mark) false (let c = r.count in let b = mark_below n holds in omega arith)
 
-  equal_at : lost_in (set unset n (is_some mark)) n ≡ false → get_or (set xs n v) n 0 ≡ get_or (set ys n w) n 0
+  equal_at : lost_in false (set unset n (is_some mark)) n ≡ false → get_or (set xs n v) n 0 ≡ get_or (set ys n w) n 0
   equal_at known =
       let b = mark_below n holds in
       let x = r.size in
@@ -235,7 +212,7 @@ module _ {suspended : State} {xs ys : List ℕ} {unset : List Bool} {saved : Lis
       let lose : is_some mark ≡ false = sym unset_at ∙ (or_parts (lost_of false n) (get_or (set unset n (is_some mark)) n false) known).1 in
       get_or-set_same xs n v 0 (omega arith) ∙ (equal lose ∙ sym (get_or-set_same ys n w 0 (omega arith)))
 
-  same_moved : Same (lost_in (set unset n (is_some mark))) (set xs n v) (set ys n w)
+  same_moved : Same (lost_in false (set unset n (is_some mark))) (set xs n v) (set ys n w)
   same_moved = record {
     size = length-set xs n v ∙ (r.same.size ∙ sym (length-set ys n w));
     only = λ k lost. ⊎_elim
@@ -243,7 +220,7 @@ module _ {suspended : State} {xs ys : List ℕ} {unset : List Bool} {saved : Lis
         (λ other. r.same.only k (sym (lost_other k other) ∙ lost))
         (cases_eq k n);
     at = λ k known. ⊎_elim
-        (λ e. subst (λ j. get_or (set xs n v) j 0 ≡ get_or (set ys n w) j 0) (sym e) (equal_at (subst (λ j. lost_in (set unset n (is_some mark)) j ≡ false) e known)))
+        (λ e. subst (λ j. get_or (set xs n v) j 0 ≡ get_or (set ys n w) j 0) (sym e) (equal_at (subst (λ j. lost_in false (set unset n (is_some mark)) j ≡ false) e known)))
         (λ other. get_or-set_other xs n k v 0 other ∙ (r.same.at k (sym (lost_other k other) ∙ known) ∙ sym (get_or-set_other ys n k w 0 other)))
         (cases_eq k n);
   }
@@ -438,7 +415,7 @@ module _ (code : ℕ → ℕ) (b : Bounds) (m : MemoryContents) (s : State) (f :
   registers_now = record { size = h.size; wide = h.wide; spread = spread; others = h.others; numbers = h.numbers; marks = h.marks }
 
   framed_other : (k : ℕ) → k ≢ 226 → k ≢ 234 → get_or g.control.special k 0 ≡ special_of f.control k
-  framed_other k a c = get_or-set_other _ 226 k (special_of s.control 226) 0 a ∙ get_or-set_other f.control.special 234 k (special_of s.control 234) 0 c
+  framed_other k a c = laid_other f.control.special (special_of s.control 234) (special_of s.control 226) k a c
 
   module _ (w v : Option RegWrite) (sets framed : SpecialWrites) (mark : Option ℕ) (unset : List Bool) (saved : List (Option ℕ))
       (plan : planned code s ≡ done (Does (moving w sets s.control)) len s)
@@ -463,7 +440,7 @@ module _ (code : ℕ → ℕ) (b : Bounds) (m : MemoryContents) (s : State) (f :
     kept_framed : (k : ℕ) → holds_marks k ≡ false → k ≢ 226 → k ≢ 234 → get_or d.special k 0 ≡ special_of f.control k
     kept_framed k none a e = ticked_other (with_sets framed g.control.special) k a e ∙ (spares_framed g.control.special k none ∙ framed_other k a e)
 
-    even_moved : Even (lost_in unset) c d
+    even_moved : Even (lost_in false unset) c d
     even_moved = even_ticked (moved_on sets len s.control) (moved_on framed len g.control) (record {
       pc = ap (λ p. (p + len) % 2 ^ 32) h.even.pc;
       ps = h.even.ps;
@@ -656,30 +633,3 @@ pub marks_moved :
     → Inner code b m s f suspended (nested_insn i (value_in (record_now code m s).write) x f u)
 marks_moved code b m s f suspended live stale x i len nested h shaped count spread at moves plan o =
     marked_inner code b m s f suspended x h shaped count spread len (reply_now code m s) live stale i o nested moves plan
-
--- ---- the lists of the next state have as many entries
-unset_by_length : (o : Option (ℕ × ℕ)) (held : List (Option ℕ)) (unset : List Bool) → length (unset_by o held unset) ≡ length unset
-unset_by_length None held unset = refl
-unset_by_length (Some p) held unset = length-set unset p.1 _
-
-marks_after_length : (mark : Option ℕ) (w : Option RegWrite) (held : List (Option ℕ)) → length (marks_after mark w held) ≡ length held
-marks_after_length mark None held = refl
-marks_after_length mark (Some w) held = length-set held w.reg mark
-
--- what a step that is not RFI 5 leaves of the registers that have no number, and of the marks
-pub record KeepsLengths (f : FrameState) (x : Nested) (u : FrameTurn) : Type 0 where
-  pub unset : length u.after.unset ≡ length f.unset
-  pub marks : (y : Nested) → u.after.nested ≡ Some y → length y.marks ≡ length x.marks
-
-pub lengths_kept : (i : Insn) (value : ℕ) (x : Nested) (f : FrameState) (u : FrameTurn) → ends_nested i ≡ false → KeepsLengths f x (nested_insn i value x f u)
-lengths_kept i value x f u goes_on =
-    let mark : Option ℕ = mark_read i x.saved in
-    let left : FrameTurn = record u {
-      write = marked_write mark value u.write;
-      after = record (keeping f u.after) { unset = unset_written i x.marks f.unset; nested = Some (nested_after i mark x u) };
-    } in
-    let kept : KeepsLengths f x left = record {
-      unset = unset_by_length (moved_to i) x.marks f.unset;
-      marks = λ y is. ap (λ (o : Option Nested). length (unwrap_or o x).marks) (sym is) ∙ marks_after_length mark u.write x.marks;
-    } in
-    subst (λ v. KeepsLengths f x v) (sym (cond-false (ends_nested i) _ left goes_on)) kept

@@ -62,8 +62,9 @@ use Rattle.xt_simulation.proofs.Judged.{awaited_named}
 use Rattle.xt_simulation.proofs.Judges.{record_reply, same_laid}
 use Rattle.xt_simulation.proofs.Turns.{quiet_nested}
 use Rattle.xt_simulation.proofs.Inner.{Inner}
+use Rattle.xt_simulation.proofs.Laid.{even_laid, laid_other}
 use Rattle.xt_simulation.proofs.InnerMarks.{marks_moved}
-use Rattle.xt_simulation.proofs.InnerSteps.{Elsewhere, IsNarrow, ReadsNumber, after_write, all_spare, can_saved, effect_even, effect_mode, effect_spares, even_laid, same_moved, saved_left, ticked_saved, write_base, write_control, write_marks, write_numbers, write_others, write_size, write_start}
+use Rattle.xt_simulation.proofs.InnerSteps.{Elsewhere, IsNarrow, ReadsNumber, after_write, all_spare, can_saved, effect_even, effect_mode, effect_spares, same_moved, saved_left, ticked_saved, write_base, write_control, write_marks, write_numbers, write_others, write_size, write_start}
 
 -- ---- what the tests of a nested step deny
 -- `u` is the step of the state inside
@@ -363,10 +364,7 @@ module _ (code : ℕ → ℕ) (b : Bounds) (m : MemoryContents) (s : State) (f :
   framed_excm = sym (ap (λ (p : Ps). p.excm) h.even.ps) ∙ h.mode
 
   framed_epc1 : special_of (laid (inputs 0 s) (inside x f)).control 177 ≡ special_of f.control 177
-  framed_epc1 =
-      let xs : List ℕ = set f.control.special 234 (special_of s.control 234) in
-      get_or-set_other xs 226 177 (special_of s.control 226) 0 (λ e. omega (arith, e))
-      ∙ get_or-set_other f.control.special 234 177 (special_of s.control 234) 0 (λ e. omega (arith, e))
+  framed_epc1 = laid_other f.control.special (special_of s.control 234) (special_of s.control 226) 177 (λ e. omega (arith, e)) (λ e. omega (arith, e))
 
   left_inner : (k : Kind) (write : Option RegWrite) (access : Option Access) (awaited : Option Awaited) (c d : Control)
       → let t : Settled = record { kind = k; write = write; access = access; awaited = awaited; control = c } in

@@ -27,7 +27,6 @@ use Rattle.xt_simulation.specs.Relation.{Same, Even, can_be_lost, inputs}
 use Rattle.xt_simulation.specs.Nested.{IsSpare}
 use Rattle.xt_simulation.proofs.Modular.{one_place, place_below}
 use Rattle.xt_simulation.proofs.RingLemmas.{some_within}
-use Rattle.xt_simulation.proofs.Closed.{set_own}
 use Rattle.xt_simulation.proofs.Evenly.{lost_in, same_sets, even_flow}
 
 -- ---- lists
@@ -273,23 +272,3 @@ saved_left (Some p) marks saved unset n k reads e =
       ap (λ (u : List Bool). get_or u n false) (moved_unset p marks unset reads) ∙ get_or-set_other unset p.1 n false false other,
     ))
     (cases_eq n p.1)
-
--- ---- the inputs of the next step, laid over a state
-laid_own : {lost : ℕ → Bool} {xs ys : List ℕ} → Same lost xs ys → (k : ℕ) → Same lost xs (set ys k (get_or xs k 0))
-laid_own {xs = xs} {ys = ys} e k = record {
-  size = e.size ∙ sym (length-set ys k (get_or xs k 0));
-  only = e.only;
-  at = λ j known. ⊎_elim
-      (λ same. rw same (sym (set_own xs ys k e.size)))
-      (λ other. e.at j known ∙ sym (get_or-set_other ys k j (get_or xs k 0) 0 other))
-      (cases_eq j k);
-}
-
-pub even_laid : {lost : ℕ → Bool} (s : State) (f : FrameState) → Even lost s.control f.control → Even lost s.control (laid (inputs 0 s) f).control
-even_laid s f e = record {
-  pc = e.pc;
-  ps = ap (λ (p : Ps). (let q : Ps = record p { owb = s.control.ps.owb } in q)) e.ps;
-  threadptr = e.threadptr;
-  waits = e.waits;
-  special = laid_own (laid_own e.special 234) 226;
-}

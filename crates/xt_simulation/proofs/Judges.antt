@@ -25,7 +25,7 @@ use Rattle.xt_frames.specs.Stacks.{Stack}
 use Rattle.xt_simulation.specs.Stacks.{Saved, sp_under}
 use Rattle.xt_simulation.specs.Relation.{Same, Level, Plain, inputs, lost_at}
 use Rattle.xt_simulation.specs.Cores.{word, Related}
-use Rattle.xt_simulation.proofs.Closed.{set_own}
+use Rattle.xt_simulation.proofs.Laid.{even_laid}
 use Rattle.xt_simulation.proofs.Chains.{related_spared}
 use Rattle.xt_simulation.proofs.Whole.{keeps_level}
 use Rattle.xt_simulation.proofs.StackSteps.{keeps_stack, step_leaves}
@@ -41,28 +41,12 @@ use Rattle.xt_exec.proofs.Served.{demand_served}
 use Rattle.xt_simulation.proofs.Served.{areas_kept}
 
 -- ---- the inputs of the next step, laid over the frame state
-same_own : {lost : ℕ → Bool} {xs ys : List ℕ} → Same lost xs ys → (k : ℕ) → Same lost xs (set ys k (get_or xs k 0))
-same_own {xs = xs} {ys = ys} e k = record {
-  size = e.size ∙ sym (length-set ys k (get_or xs k 0));
-  only = e.only;
-  at = λ j known. ⊎_elim
-      (λ same. rw same (sym (set_own xs ys k e.size)))
-      (λ other. e.at j known ∙ sym (get_or-set_other ys k j (get_or xs k 0) 0 other))
-      (cases_eq j k);
-}
-
 pub lay : {vecbase : ℕ} {lost : ℕ → Bool} {s : State} {g : FrameState} {ring spilled : List Frame} → Level vecbase lost s g ring spilled → Plain vecbase lost s g ring spilled
 lay {s = s} {g = g} l = record {
   windows = l.windows;
   frames = l.frames;
   older = l.older;
-  even = record {
-    pc = l.even.pc;
-    ps = ap (λ (p : Ps). (let q : Ps = record p { owb = s.control.ps.owb } in q)) l.even.ps;
-    threadptr = l.even.threadptr;
-    waits = l.even.waits;
-    special = same_own (same_own l.even.special 234) 226;
-  };
+  even = even_laid s g l.even;
   woe = l.woe;
   calls = l.calls;
   vectors = l.vectors;

@@ -2,6 +2,7 @@ pub mod Behind
 pub mod Chains
 pub mod Closed
 pub mod Kept
+pub mod Laid
 pub mod Modular
 pub mod RingLemmas
 pub mod Stacked

@@ -47,10 +47,12 @@ use Rattle.xt_simulation.specs.InHandlers.{as_left}
 use Rattle.xt_simulation.specs.Steps.{reply_at, reply_now, record_now, state_now}
 use Rattle.xt_simulation.specs.Handling.{Handling}
 use Rattle.xt_simulation.specs.Nested.{IsInside, resumed}
-use Rattle.xt_simulation.proofs.Carried.{Carries, carried, laid_length, laid_other}
+use Rattle.xt_simulation.proofs.Evenly.{same_ticked}
+use Rattle.xt_simulation.proofs.Carried.{Carries, carried}
 use Rattle.xt_simulation.proofs.Judges.{same_laid}
+use Rattle.xt_simulation.proofs.Laid.{laid_after, laid_other}
 use Rattle.xt_simulation.proofs.Turns.{quiet_nested}
-use Rattle.xt_simulation.proofs.Taken.{beside, laid_after, same_ticked}
+use Rattle.xt_simulation.proofs.Taken.{beside}
 
 -- ---- the instruction
 -- It is fetched, its row follows, and a0 to a3 are as the window handler had them.
@@ -188,10 +190,7 @@ module _ {code : ℕ → ℕ} {b : Bounds} {m : MemoryContents} {s : State} {f :
 
   ends_carries : IsShaped returned → Carries b (resumed suspended s) returned f (given_back f g)
   ends_carries t =
-      let wide = laid_length f.control.special (special_of s.control 234) (special_of s.control 226) in
-      let tick = ticked_length g.control.special in
       let l = beside handling in
-      let long = l.long in
       record {
         regs = same_regs h e.own;
         base = refl;
@@ -200,7 +199,7 @@ module _ {code : ℕ → ℕ} {b : Bounds} {m : MemoryContents} {s : State} {f :
         ps = ap ps_of h.eps ∙ of_word_of_fields suspended.control.ps (handler_ps handling);
         epc1 = ticked_other s.control.special 177 (λ z. omega arith) (λ z. omega arith);
         running = refl;
-        special = laid_after (omega arith) (same_ticked s.control h.even.special);
+        special = laid_after (same_ticked s.control.special g.control.special h.even.special);
         threadptr = h.even.threadptr;
         awake = refl;
         count = t.control.count;

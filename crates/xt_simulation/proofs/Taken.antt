@@ -43,9 +43,10 @@ use Rattle.xt_simulation.specs.InHandlers.{as_left}
 use Rattle.xt_simulation.specs.Steps.{reply_at, reply_now, record_now, state_now}
 use Rattle.xt_simulation.specs.Handling.{Begins, Handling}
 use Rattle.xt_simulation.specs.Nested.{IsInside, Suspends, NestedBegin, resumed}
-use Rattle.xt_simulation.proofs.Carried.{Carries, carried, laid_length, laid_other, relaid, same_relaid}
-use Rattle.xt_simulation.proofs.Evenly.{even_ticked, not_lost}
+use Rattle.xt_simulation.proofs.Carried.{Carries, carried}
+use Rattle.xt_simulation.proofs.Evenly.{not_lost, same_ticked}
 use Rattle.xt_simulation.proofs.Judges.{same_laid}
+use Rattle.xt_simulation.proofs.Laid.{laid_after, laid_length, laid_other, relaid, same_relaid}
 
 -- ---- no instruction is an interrupt
 if_quiet : (b : Bool) (p q : Planned) → is_nesting p.kind ≡ false → is_nesting q.kind ≡ false → is_nesting (cond b p q).kind ≡ false
@@ -143,13 +144,6 @@ same_five lost unset xs ys pc ps other_pc other_ps long s = record {
       five_other xs pc ps k p.0 p.1 ∙ (s.at k p.2 ∙ sym (five_other ys other_pc other_ps k p.0 p.1));
 }
 
-pub same_ticked : {lost : ℕ → Bool} {xs ys : List ℕ} (c : Control) → Same lost xs ys → Same lost (ticked_special xs) (ticked_special ys)
-same_ticked {xs = xs} {ys = ys} c s = (even_ticked (record c { special = xs }) (record c { special = ys }) (record { pc = refl; ps = refl; threadptr = refl; waits = refl; special = s })).special
-
--- the inputs of the next step are laid over what the step has left
-pub laid_after : {lost : ℕ → Bool} {xs ys : List ℕ} → 234 < length ys → Same lost xs ys → Same lost xs (relaid xs ys)
-laid_after {lost = lost} {xs = xs} {ys = ys} long s = same_relaid lost xs ys long s.size s.only (λ k known not_bits not_count. s.at k known)
-
 -- ---- a handler step beside the frame state
 record Opens (b : Bounds) (lost : ℕ → Bool) (before : State) (f : FrameState) : Type 0 where
   even : Even lost before.control (laid (inputs 0 before) f).control
@@ -169,7 +163,6 @@ pub record Beside (b : Bounds) (s : State) (f : FrameState) : Type 0 where
   pub threadptr : s.control.threadptr ≡ f.control.threadptr
   pub woe : s.control.ps.woe ≡ true
   pub vectors : special_of f.control number.vecbase ≡ b.vecbase
-  pub long : 234 < length f.control.special
 
 ps_beside : (p q r : Ps) (base : ℕ) → p ≡ record q { owb = base; excm = true } → q ≡ record r { owb = q.owb } → p ≡ record r { owb = p.owb; excm = true }
 ps_beside p q r base e d =
@@ -192,10 +185,8 @@ beside {b = b} {s = s} {f = f} {before = before} {opened = opened} h =
     let bits = special_of before.control 226 in
     let wide = laid_length f.control.special count bits in
     let size = o.even.special.size in
-    let all = h.shaped.control.count in
-    let long : 234 < length f.control.special = omega arith in
     record {
-      special = same_relaid (lost_at false f) s.control.special f.control.special long (h.control.size ∙ (size ∙ wide))
+      special = same_relaid (lost_at false f) s.control.special f.control.special (h.control.size ∙ (size ∙ wide))
           (λ k lost. ⊎_elim
           (λ epc. or_left (eqb k 177) _ epc)
           (λ more. o.even.special.only k more)
@@ -211,7 +202,6 @@ beside {b = b} {s = s} {f = f} {before = before} {opened = opened} h =
       vectors =
           sym (o.even.special.at 231 (not_lost o.even.special 231 refl) ∙ laid_other f.control.special count bits 231 (λ e. omega arith) (λ e. omega arith))
           ∙ o.vectors;
-      long = long;
     }
 
 -- ---- registers that hold neither number nor mark
@@ -256,12 +246,7 @@ module _ {b : Bounds} {s : State} {f : FrameState} (l : Beside b s f) (shaped : 
   begun_special : Same (lost_at false framed) taken.control.special (relaid taken.control.special framed.control.special)
   unfolding after_interrupt
   begun_special =
-      let wide = laid_length f.control.special (special_of s.control 234) (special_of s.control 226) in
-      let five = five_length g.control.special g.control.pc (ps_word g.control.ps) in
-      let tick = ticked_length (saved_five g.control.special g.control.pc (ps_word g.control.ps)) in
-      let long = l.long in
-      laid_after (omega arith)
-      (same_ticked s.control (same_five (lost_of false) f.unset s.control.special g.control.special s.control.pc (ps_word s.control.ps) g.control.pc (ps_word g.control.ps) (omega arith) l.special))
+      laid_after (same_ticked _ _ (same_five (lost_of false) f.unset s.control.special g.control.special s.control.pc (ps_word s.control.ps) g.control.pc (ps_word g.control.ps) (omega arith) l.special))
 
   taken_other : (k : ℕ) → k ≢ 181 → k ≢ 197 → k ≢ 226 → k ≢ 234 → special_of taken.control k ≡ special_of s.control k
   unfolding after_interrupt
