@@ -1,7 +1,7 @@
 -- A step in a nested interrupt, and the step that begins one.
 use Rattle.std.proofs.Common.{◌≢◌, ◌&&◌, ◌≡◌, ℕ, ◌<◌, Bool, true, false, not, ltb, List, [], ◌∷◌, Option, Some, None, sym, ◌∙◌, refl, ap, arith, cond, subst, ltb-true}
 use Rattle.std.specs.Prelude.{Result, Ok, Err, is_some, unwrap_or}
-use Rattle.std.proofs.lemmas.Bool.{and_right, and_parts, lt-ltb}
+use Rattle.std.proofs.lemmas.Bool.{and_right, and_parts, cond-true, lt-ltb}
 use Rattle.xt_isa.specs.declared.Insn.{Insn}
 use Rattle.xt_isa.specs.declared.Insn.TheVariants as insn
 use Rattle.xt_isa.specs.declared.system.System.TheVariants as system
@@ -28,12 +28,13 @@ use Rattle.xt_frames.specs.Frames.{Frame, FrameState, known}
 use Rattle.xt_frames.specs.FrameStep.{FrameTurn, done_in_frame, fetched_step, laid, laid_step, popped, popped_from, pushed, windowed_in_frame}
 use Rattle.xt_frames.specs.Marks.{moved_to}
 use Rattle.xt_frames.specs.Nesting.{begins, begun, current, current_in, ends_nested, frame_step, inside, is_nesting, nested_fetched, nested_turn, plain_turn, turn_in}
-use Rattle.xt_frames.specs.Breaches.{fresh_after, inputs_of, laid_breach, writes_epc1}
-use Rattle.xt_frames.specs.Judging.{fresh_on, step_on, value_in}
+use Rattle.xt_frames.specs.HandlerSteps.{closes, fetched_returns, returns}
+use Rattle.xt_frames.specs.Breaches.{Bounds, breach_of, fresh_after, inputs_of, laid_breach, writes_epc1}
+use Rattle.xt_frames.specs.Judging.{fresh_on, place_on, step_on, value_in}
 use Rattle.xt_frames.specs.Parts.{IsKindOf, IsPlan}
 use Rattle.xt_frames.specs.declared.view.Plan.{Plan}
 use Rattle.xt_frames.specs.declared.view.Plan.TheVariants as plan
-use Rattle.xt_frames.proofs.StackSteps.{step_fetches, step_taken, step_waits}
+use Rattle.xt_frames.proofs.StackSteps.{turn_if, step_fetches, step_taken, step_waits}
 use Rattle.xt_frames.specs.Stepped.{IsDone, found_by}
 use Rattle.xt_frames.specs.Walked.{bounds_of}
 
@@ -70,10 +71,13 @@ as_plain case code live stale nested rec f (Err kind) new e h =
     (ap B e ∙ h.0, h.1)
 
 -- ---- outside nested interrupts
-pub found_plain : (case : Case) (code : ℕ → ℕ) (live stale : ℕ → Bool) (rec : StepRecord) (f : FrameState) → f.nested ≡ None
-    → found_by case code live stale false rec f ≡ laid_breach (bounds_of case.limits) case.fresh code live stale rec (laid (inputs_of rec) f)
-found_plain case code live stale rec f e =
-    ap (λ (o : Option Nested). laid_breach (bounds_of case.limits) case.fresh code live stale rec (laid (inputs_of rec) (current_in o f))) e
+pub breach_plain : (b : Bounds) (fresh : Bool) (code : ℕ → ℕ) (live stale : ℕ → Bool) (rec : StepRecord) (f : FrameState) → f.nested ≡ None
+    → breach_of b fresh code live stale false rec f ≡ laid_breach b fresh code live stale rec (laid (inputs_of rec) f)
+breach_plain b fresh code live stale rec f e =
+    ap (λ (o : Option Nested). laid_breach b fresh code live stale rec (laid (inputs_of rec) (current_in o f))) e
+
+pub place_plain : (rec : StepRecord) (f : FrameState) → f.nested ≡ None → place_on false rec f ≡ f.control.pc
+place_plain rec f e = ap (λ (o : Option Nested). (current_in o f).control.pc) e
 
 pub step_plain : (code : ℕ → ℕ) (rec : StepRecord) (f : FrameState) → f.nested ≡ None
     → step_on code false rec f ≡ plain_turn code (inputs_of rec) f
@@ -83,13 +87,18 @@ step_plain code rec f e = ap (λ (o : Option Nested). turn_in o code (value_in r
 no_beginning : (nested : Bool) (kind : StepKind) → (nested && (is_nesting kind && false)) ≡ false
 no_beginning nested kind = and_right nested _ (and_right (is_nesting kind) false refl)
 
-pub found_inside : (case : Case) (code : ℕ → ℕ) (live stale : ℕ → Bool) (nested : Bool) (rec : StepRecord) (f : FrameState) (x : Nested) → f.nested ≡ Some x
-    → found_by case code live stale nested rec f ≡ laid_breach (bounds_of case.limits) case.fresh code live stale rec (laid (inputs_of rec) (inside x f))
-found_inside case code live stale nested rec f x e =
+pub breach_inside : (b : Bounds) (fresh : Bool) (code : ℕ → ℕ) (live stale : ℕ → Bool) (nested : Bool) (rec : StepRecord) (f : FrameState) (x : Nested) → f.nested ≡ Some x
+    → breach_of b fresh code live stale nested rec f ≡ laid_breach b fresh code live stale rec (laid (inputs_of rec) (inside x f))
+breach_inside b fresh code live stale nested rec f x e =
     let none : Option BreachKind = None in
-    let L : Option BreachKind = laid_breach (bounds_of case.limits) case.fresh code live stale rec (laid (inputs_of rec) (inside x f)) in
-    let B : Option Nested → Option BreachKind = λ o. cond (nested && (is_nesting rec.kind && not (is_some o))) none (laid_breach (bounds_of case.limits) case.fresh code live stale rec (laid (inputs_of rec) (current_in o f))) in
+    let L : Option BreachKind = laid_breach b fresh code live stale rec (laid (inputs_of rec) (inside x f)) in
+    let B : Option Nested → Option BreachKind = λ o. cond (nested && (is_nesting rec.kind && not (is_some o))) none (laid_breach b fresh code live stale rec (laid (inputs_of rec) (current_in o f))) in
     ap B e ∙ ap (λ (b : Bool). cond b none L) (no_beginning nested rec.kind)
+
+pub place_inside : (rec : StepRecord) (f : FrameState) (x : Nested) → f.nested ≡ Some x → place_on true rec f ≡ x.pc
+place_inside rec f x e =
+    ap (λ (o : Option Nested). cond (true && (is_nesting rec.kind && not (is_some o))) rec.pc (current_in o f).control.pc) e
+    ∙ ap (λ b. cond b rec.pc x.pc) (no_beginning true rec.kind)
 
 pub step_inside : (code : ℕ → ℕ) (nested : Bool) (rec : StepRecord) (f : FrameState) (x : Nested) → f.nested ≡ Some x
     → step_on code nested rec f ≡ nested_turn code (value_in rec.write) (inputs_of rec) x f
@@ -97,12 +106,8 @@ step_inside code nested rec f x e =
     let S : Option Nested → FrameTurn = λ o. cond (nested && (is_nesting rec.kind && not (is_some o))) (begun (laid (inputs_of rec) f)) (turn_in o code (value_in rec.write) (inputs_of rec) f) in
     ap S e ∙ ap (λ (b : Bool). cond b (begun (laid (inputs_of rec) f)) (nested_turn code (value_in rec.write) (inputs_of rec) x f)) (no_beginning nested rec.kind)
 
-insn_kind : (b : Bool) (u v : FrameTurn) (k : StepKind) → u.kind ≡ k → v.kind ≡ k → (cond b u v).kind ≡ k
-insn_kind true u v k p q = p
-insn_kind false u v k p q = q
-
 pub kind_inside : (at : Fetched) (value : ℕ) (x : Nested) (f : FrameState) (u : FrameTurn) → (nested_fetched at value x f u).kind ≡ u.kind
-kind_inside (Fetches i len) value x f u = insn_kind (ends_nested i) _ _ _ refl refl
+kind_inside (Fetches i len) value x f u = turn_if (λ (v : FrameTurn). v.kind ≡ u.kind) (ends_nested i) _ _ refl refl
 kind_inside (Fails address) value x f u = refl
 kind_inside SpellsNothing value x f u = refl
 
@@ -116,6 +121,45 @@ fresh_inside fresh code nested rec f x e =
     ∙ (ap (λ (o : Option Nested). F u (current_in o f) u.kind) e
     ∙ ap (F u (inside x f)) (kind_inside (fetched code x.pc) (value_in rec.write) x f (laid_step code rec.reply (laid (inputs_of rec) (inside x f)))))
 
+-- ---- the save areas of the frame state are as they were
+abbrev pub Still : FrameState → FrameTurn → Type 0
+Still f u = (u.after.seen ≡ f.seen) × (u.after.frames ≡ f.frames)
+
+still_fetched : (at : Fetched) (value : ℕ) (x : Nested) (f : FrameState) (u : FrameTurn) → Still f (nested_fetched at value x f u)
+still_fetched (Fetches i len) value x f u = turn_if (Still f) (ends_nested i) _ _ (refl, refl) (refl, refl)
+still_fetched (Fails address) value x f u = (refl, refl)
+still_fetched SpellsNothing value x f u = (refl, refl)
+
+pub still_inside : (code : ℕ → ℕ) (rec : StepRecord) (f : FrameState) (x : Nested) → f.nested ≡ Some x → Still f (step_on code true rec f)
+still_inside code rec f x e = subst (Still f) (sym (step_inside code true rec f x e)) (still_fetched (fetched code (laid (inputs_of rec) (inside x f)).control.pc) (value_in rec.write) x f (laid_step code rec.reply (laid (inputs_of rec) (inside x f))))
+
+-- ---- RFI 5 alone ends one
+if_ends : (b : Bool) (u v : FrameTurn) → b ≡ true → u.after.nested ≡ None → (cond b u v).after.nested ≡ None
+if_ends true u v e n = n
+if_ends false u v e n = absurd cc
+
+if_open : (b : Bool) (u v : FrameTurn) (y : Nested) → b ≡ false → v.after.nested ≡ Some y → (cond b u v).after.nested ≡ None → ⊥
+if_open true u v y e s n = cc
+if_open false u v y e s n = cc
+
+pub ended_fetched : (at : Fetched) (value : ℕ) (x : Nested) (f : FrameState) (u : FrameTurn) → fetched_returns at ≡ true → (nested_fetched at value x f u).after.nested ≡ None
+ended_fetched (Fetches i len) value x f u e = if_ends (ends_nested i) _ _ e refl
+ended_fetched (Fails address) value x f u e = absurd cc
+ended_fetched SpellsNothing value x f u e = absurd cc
+
+pub open_fetched : (at : Fetched) (value : ℕ) (x : Nested) (f : FrameState) (u : FrameTurn) → fetched_returns at ≡ false → (nested_fetched at value x f u).after.nested ≡ None → ⊥
+open_fetched (Fetches i len) value x f u e n = if_open (ends_nested i) _ _ _ e refl n
+open_fetched (Fails address) value x f u e n = cc
+open_fetched SpellsNothing value x f u e n = cc
+
+pub returns_fetched : (code : ℕ → ℕ) (k : StepKind) (pc : ℕ) → returns code k pc ≡ true → fetched_returns (fetched code pc) ≡ true
+returns_fetched code kind.Insn pc e = e
+returns_fetched code _ pc e = absurd cc
+
+pub closes_plain : (code : ℕ → ℕ) (k : StepKind) (pc : ℕ) → closes code k pc ≡ true → is_nesting k ≡ false
+closes_plain code kind.Insn pc e = refl
+closes_plain code _ pc e = absurd cc
+
 -- ---- the step that begins one
 and_true : (b : Bool) → (b && true) ≡ b
 and_true true = refl
@@ -125,6 +169,12 @@ pub fresh_begun : (fresh : Bool) (at : Fetched) (f g : FrameState) → fresh ≡
 unfolding after_interrupt writes_epc1
 fresh_begun fresh at f g =
     sym (ap (λ (b : Bool). fresh && not b) (and_right f.control.ps.excm false refl) ∙ and_true fresh)
+
+pub begins_now : (rec : StepRecord) (f : FrameState) → is_nesting rec.kind ≡ true → f.nested ≡ None → begins true rec.kind f ≡ true
+begins_now rec f e n = ap (λ (o : Option Nested). is_nesting rec.kind && not (is_some o)) n ∙ ap (λ b. b && true) e
+
+pub step_begins : (code : ℕ → ℕ) (rec : StepRecord) (f : FrameState) → is_nesting rec.kind ≡ true → f.nested ≡ None → step_on code true rec f ≡ begun (laid (inputs_of rec) f)
+step_begins code rec f e n = cond-true (begins true rec.kind f) _ _ (begins_now rec f e n)
 
 -- ---- what a planned step is
 one_not : (b : Bool) (u v : FrameTurn) → ((level : ℕ) → u.kind ≢ kind.Interrupt level) → ((level : ℕ) → v.kind ≢ kind.Interrupt level) → (level : ℕ) → (cond b u v).kind ≢ kind.Interrupt level

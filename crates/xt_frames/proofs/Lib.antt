@@ -7,6 +7,7 @@ pub mod Kept
 pub mod TestRows
 pub mod Laying
 pub mod Inside
+pub mod Lengths
 pub mod Prefixes
 pub mod Earlier
 pub mod FirstBreach

@@ -47,7 +47,7 @@ pub step_fetches : (code : ℕ → ℕ) (reply : ℕ) (g : FrameState) → ltb 0
 unfolding laid_step
 step_fetches code reply g e w = cond-false (ltb 0 (pending_of g.control)) _ _ e ∙ cond-false g.control.waits _ _ w
 
-breach_fetches : (b : Bounds) (fresh : Bool) (code : ℕ → ℕ) (live stale : ℕ → Bool) (rec : StepRecord) (g : FrameState) → ltb 0 (pending_of g.control) ≡ false → g.control.waits ≡ false
+pub breach_fetches : (b : Bounds) (fresh : Bool) (code : ℕ → ℕ) (live stale : ℕ → Bool) (rec : StepRecord) (g : FrameState) → ltb 0 (pending_of g.control) ≡ false → g.control.waits ≡ false
     → laid_breach b fresh code live stale rec g ≡ first_shown (fetched_tests b fresh live stale (fetched code g.control.pc) rec g (laid_step code rec.reply g))
 unfolding laid_breach
 breach_fetches b fresh code live stale rec g e w = cond-false (ltb 0 (pending_of g.control) || g.control.waits) _ _ (or_from _ _ e w)
@@ -70,7 +70,7 @@ entry_outcome : (code : ℕ → ℕ) (number : ℕ) (size : ℤ) (value : ℕ) (
 unfolding outcome control_outcome reads
 entry_outcome code number size value ar c e = cc
 
-turn_if : (P : FrameTurn → Type 0) (b : Bool) (x y : FrameTurn) → P x → P y → P (cond b x y)
+pub turn_if : (P : FrameTurn → Type 0) (b : Bool) (x y : FrameTurn) → P x → P y → P (cond b x y)
 turn_if P true x y p q = p
 turn_if P false x y p q = q
 

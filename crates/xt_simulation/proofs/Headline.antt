@@ -29,7 +29,7 @@ use Rattle.xt_simulation.specs.Opening.{Openings, IsOpening, OpensAlike, bounds0
 use Rattle.xt_frames.specs.Verdict.{Known, Judgement, entry_of, is_nested, judgement, opening_known, past_handled_0, past_handled_1, past_judged_0, past_judged_1, seen_0, seen_1, passed_0, passed_1, IsFrameRun}
 use Rattle.xt_simulation.specs.Headline.{StretchesMoveFrames, NestedGiveBack, TurnsAreFrames, WalksAreFrames, RunsAreFrames, opening_of}
 use Rattle.xt_simulation.proofs.Walk.{both_end, InCore, Holds, moved0_keeps, moved1_keeps, move0_keeps, move1_keeps, gives0, gives1, walked_keeps, frame_run}
-use Rattle.xt_simulation.proofs.Holes.{opening_holes}
+use Rattle.xt_frames.proofs.Lengths.{opening_holes}
 use Rattle.xt_simulation.proofs.Opened.{dram_of, opening_related, stack_shaped, opening_links, opening_is_memory}
 
 pub good_of : (o : Openings) (code : ℕ → ℕ) → IsOpening o → Handlers code o.vecbase → IsGood code (bounds0 o) × IsGood code (bounds1 o)

@@ -51,9 +51,9 @@ use Rattle.xt_frames.specs.Marks.{moves_marks, mark_read, marked_write, unset_by
 use Rattle.xt_frames.specs.Nesting.{current_in, disturbs_nested, ends_nested, inside, is_nesting, keeping, nested_after, nested_fetched, nested_insn}
 use Rattle.xt_frames.specs.Breaches.{Bounds, breach_of, breaks_nested, fetched_tests, first_shown, insn_tests, inputs_of, is_exception, is_unset, lacks, laid_breach, loses_epc1, lost_of, names_high, other_tests, reads_epc1, reads_lost, reads_none_in, reads_unset, writes_sp}
 use Rattle.xt_frames.specs.Judging.{step_on, value_in}
-use Rattle.xt_frames.proofs.Inside.{step_inside}
+use Rattle.xt_frames.proofs.Inside.{breach_inside, step_inside}
 use Rattle.xt_frames.proofs.Shown.{NoneShown, Sound, KeepsSp, keeps_sp, none_shown, sound}
-use Rattle.xt_frames.proofs.StackSteps.{step_fetches}
+use Rattle.xt_frames.proofs.StackSteps.{breach_fetches, step_fetches}
 use Rattle.xt_simulation.specs.Relation.{Even, inputs}
 use Rattle.xt_simulation.specs.Steps.{reply_now, record_now}
 use Rattle.xt_simulation.specs.Nested.{IsInside, IsSpare, marked}
@@ -480,20 +480,6 @@ pub record Ending
   pub plan : planned code s ≡ done (outcome_at code insn (visible s.regs s.base) s.control) len s
   pub step : u ≡ nested_insn insn (value_in (record_now code m s).write) x f (fetched_step (Fetches insn len) code (reply_now code m s) (laid (inputs 0 s) (inside x f)))
 
--- ---- the breach of a nested step
-breach_inside : (b : Bounds) (code : ℕ → ℕ) (live stale : ℕ → Bool) (rec : StepRecord) (f : FrameState) (x : Nested) → f.nested ≡ Some x
-    → breach_of b false code live stale true rec f ≡ laid_breach b false code live stale rec (laid (inputs_of rec) (inside x f))
-breach_inside b code live stale rec f x e =
-    let none : Option BreachKind = None in
-    let L : Option BreachKind = laid_breach b false code live stale rec (laid (inputs_of rec) (inside x f)) in
-    let B : Option Nested → Option BreachKind = λ o. cond (is_nesting rec.kind && not (is_some o)) none (laid_breach b false code live stale rec (laid (inputs_of rec) (current_in o f))) in
-    ap B e ∙ ap (λ (c : Bool). cond c none L) (and_right (is_nesting rec.kind) false refl)
-
-breach_fetches : (b : Bounds) (code : ℕ → ℕ) (live stale : ℕ → Bool) (rec : StepRecord) (g : FrameState) → ltb 0 (pending_of g.control) ≡ false → g.control.waits ≡ false
-    → laid_breach b false code live stale rec g ≡ first_shown (fetched_tests b false live stale (fetched code g.control.pc) rec g (laid_step code rec.reply g))
-unfolding laid_breach
-breach_fetches b code live stale rec g e w = cond-false (ltb 0 (pending_of g.control) || g.control.waits) _ _ (or_from _ _ e w)
-
 -- a step that fetches no instruction is a breach
 other_breaks : (b : Bounds) (live stale : ℕ → Bool) (rec : StepRecord) (g : FrameState) (u : FrameTurn) (x : Nested) → g.nested ≡ Some x → NoneShown (other_tests b live stale rec g u) → ⊥
 other_breaks b live stale rec g u x is (saves, (loads, (woe, (vectors, (vector, (nested, more)))))) = both_ways (is_some g.nested) nested (ap (λ (o : Option Nested). is_some o) is)
@@ -545,7 +531,7 @@ module _ (code : ℕ → ℕ) (b : Bounds) (m : MemoryContents) (s : State) (f :
       let here : laid_step code rec.reply g ≡ fetched_step at code reply g =
       ap (λ y. laid_step code y g) (record_reply code m s) ∙ (step_fetches code reply g quiet running ∙ ap (λ p. fetched_step (fetched code p) code reply g) (sym h.even.pc)) in
       let shown : first_shown (fetched_tests b false live stale (fetched code g.control.pc) rec g (laid_step code rec.reply g)) ≡ None =
-      sym (breach_fetches b code live stale rec g quiet running) ∙ (sym (ap (λ (y : FrameState). laid_breach b false code live stale rec y) same) ∙ (sym (breach_inside b code live stale rec f x nested) ∙ none)) in
+      sym (breach_fetches b false code live stale rec g quiet running) ∙ (sym (ap (λ (y : FrameState). laid_breach b false code live stale rec y) same) ∙ (sym (breach_inside b false code live stale true rec f x nested) ∙ none)) in
       let at_pc : first_shown (fetched_tests b false live stale at rec g (laid_step code rec.reply g)) ≡ None =
       ap (λ p. first_shown (fetched_tests b false live stale (fetched code p) rec g (laid_step code rec.reply g))) h.even.pc ∙ shown in
       let tests : first_shown (fetched_tests b false live stale at rec g (fetched_step at code reply g)) ≡ None =

@@ -19,7 +19,8 @@ use Rattle.xt_frames.specs.SaveAreas.{is_live}
 use Rattle.xt_frames.specs.HandlerSteps.{is_window}
 use Rattle.xt_frames.specs.declared.holes.Nested.{Nested}
 use Rattle.xt_frames.specs.Nesting.{current_in}
-use Rattle.xt_frames.proofs.Inside.{step_plain, fresh_plain}
+use Rattle.xt_frames.proofs.Inside.{breach_plain, step_plain, fresh_plain}
+use Rattle.xt_frames.proofs.Lengths.{laid_stays}
 use Rattle.xt_frames.specs.Breaches.{Bounds, inputs_of, laid_breach, breach_of, fresh_after, stale_after}
 use Rattle.xt_frames.specs.Stacks.{Stack}
 use Rattle.xt_simulation.specs.Stacks.{Saved, sp_under}
@@ -28,7 +29,7 @@ use Rattle.xt_simulation.specs.Cores.{word, Related}
 use Rattle.xt_simulation.proofs.Laid.{even_laid}
 use Rattle.xt_simulation.proofs.Chains.{related_spared}
 use Rattle.xt_simulation.proofs.Whole.{keeps_level}
-use Rattle.xt_simulation.proofs.StackSteps.{keeps_stack, step_leaves}
+use Rattle.xt_simulation.proofs.StackSteps.{keeps_stack}
 use Rattle.xt_simulation.specs.JudgedSteps.{fresh_turn, plain_after, turn_of}
 use Rattle.xt_simulation.specs.Steps.{reply_at, memory_after_step, reply_now, record_now, state_now, memory_now}
 use Rattle.xt_simulation.specs.Handling.{Somewhere}
@@ -82,17 +83,14 @@ module _ (code : ℕ → ℕ) (bytes : AreBytes code) (b : Bounds) (fresh : Bool
   same_g = same_laid code s (reply_now code m s) f shaped.control.ps.owb_fits
 
   none_g : laid_breach b fresh code (live_of b f others) stale (record_now code m s) g ≡ None
-  none_g =
-      let laid_none : laid_breach b fresh code (live_of b f others) stale (record_now code m s) (laid (inputs_of (record_now code m s)) f) ≡ None =
-      subst (λ (o : Option Nested). laid_breach b fresh code (live_of b f others) stale (record_now code m s) (laid (inputs_of (record_now code m s)) (current_in o f)) ≡ None) plain none in
-      subst (λ x. laid_breach b fresh code (live_of b f others) stale (record_now code m s) x ≡ None) same_g laid_none
+  none_g = subst (λ x. laid_breach b fresh code (live_of b f others) stale (record_now code m s) x ≡ None) same_g (sym (breach_plain b fresh code (live_of b f others) stale (record_now code m s) f plain) ∙ none)
 
   same_step : step_on code false (record_now code m s) f ≡ plain_after code (reply_now code m s) g
   same_step = step_plain code (record_now code m s) f plain ∙ (ap (λ x. plain_after code (record_now code m s).reply x) same_g ∙ ap (λ x. plain_after code x g) (record_reply code m s))
 
   -- and a step outside nested interrupts begins none
   pub judge_plain : (step_on code false (record_now code m s) f).after.nested ≡ None
-  judge_plain = ap (λ (x : FrameTurn). x.after.nested) same_step ∙ ((step_leaves code (reply_now code m s) g).0 ∙ plain)
+  judge_plain = ap (λ (x : FrameTurn). x.after.nested) same_step ∙ ((laid_stays code (reply_now code m s) g).0 ∙ plain)
 
   calls : g.control.ps.callinc < 4
   calls = rw (← ap (λ q. q.callinc) l.plain.even.ps) l.plain.calls
@@ -115,7 +113,7 @@ module _ (code : ℕ → ℕ) (bytes : AreBytes code) (b : Bounds) (fresh : Bool
   same_fresh kind after =
       let rec = record_now code m s in
       let ps : s.control.ps ≡ g.control.ps = l.plain.even.ps in
-      let kept : (laid_step code rec.reply (laid (inputs_of rec) f)).after.nested ≡ None = (step_leaves code rec.reply (laid (inputs_of rec) f)).0 ∙ plain in
+      let kept : (laid_step code rec.reply (laid (inputs_of rec) f)).after.nested ≡ None = (laid_stays code rec.reply (laid (inputs_of rec) f)).0 ∙ plain in
       let F : FrameState → ℕ → Bool = λ x reply. fresh_after fresh (laid_step code reply x).kind (fetched code x.control.pc) x.control.ps (laid_step code reply x).after.control.ps in
       ap (λ pc. fresh_after fresh (planned code s).kind (fetched code pc) s.control.ps (turn_of code s (reply_now code m s)).after.control.ps) l.plain.even.pc
       ∙ (ap (λ x. fresh_after fresh (planned code s).kind (fetched code g.control.pc) x (turn_of code s (reply_now code m s)).after.control.ps) ps

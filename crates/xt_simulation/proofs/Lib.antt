@@ -33,7 +33,6 @@ pub mod OneWalk
 pub mod Positions
 pub mod Images
 pub mod Inner
-pub mod Holes
 pub mod InnerSteps
 pub mod InnerRows
 pub mod InnerMarks

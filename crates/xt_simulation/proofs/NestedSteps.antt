@@ -37,7 +37,7 @@ use Rattle.xt_frames.specs.Nesting.{begins, begun, current, current_in, disturbs
 use Rattle.xt_frames.specs.HandlerSteps.{closes, returns, fetched_returns}
 use Rattle.xt_frames.specs.Breaches.{Bounds, inputs_of, laid_breach, breach_of, fetched_tests, fetched_sets_epc1, writes_epc1, fresh_after, loses_epc1, breaks_nested, reads_epc1, sets_epc1, is_exception, touches_save_area, loads_stale}
 use Rattle.xt_frames.specs.Judging.{fresh_on, step_on, value_in, place_on}
-use Rattle.xt_frames.proofs.Inside.{step_inside, fresh_inside, fresh_begun}
+use Rattle.xt_frames.proofs.Inside.{begins_now, breach_inside, ended_fetched, fresh_inside, fresh_begun, open_fetched, returns_fetched, step_begins, step_inside}
 use Rattle.xt_frames.proofs.Shown.{NoneShown, none_shown, sound}
 use Rattle.xt_simulation.specs.Relation.{inputs}
 use Rattle.xt_simulation.specs.Steps.{reply_at, reply_now, record_now, state_now}
@@ -47,65 +47,10 @@ use Rattle.xt_simulation.specs.Nested.{Suspends}
 use Rattle.xt_simulation.proofs.Memories.{keeps_from}
 use Rattle.xt_simulation.proofs.Judges.{same_laid, record_access}
 use Rattle.xt_simulation.proofs.Resumed.{same_regs}
-use Rattle.xt_simulation.proofs.Taken.{nesting_taken}
+use Rattle.xt_simulation.proofs.Taken.{asks_nothing, nesting_now, nesting_taken}
 use Rattle.xt_simulation.proofs.Turns.{quiet_nested}
 use Rattle.xt_simulation.proofs.Served.{areas_fetched}
-use Rattle.xt_simulation.proofs.Whole.{breach_fetches}
-
--- ---- the save areas of the frame state are as they were
-abbrev pub Still : FrameState → FrameTurn → Type 0
-Still f u = (u.after.seen ≡ f.seen) × (u.after.frames ≡ f.frames)
-
-if_still : (b : Bool) (f : FrameState) (u v : FrameTurn) → Still f u → Still f v → Still f (cond b u v)
-if_still true f u v p q = p
-if_still false f u v p q = q
-
-still_fetched : (at : Fetched) (value : ℕ) (x : Nested) (f : FrameState) (u : FrameTurn) → Still f (nested_fetched at value x f u)
-still_fetched (Fetches i len) value x f u = if_still (ends_nested i) f _ _ (refl, refl) (refl, refl)
-still_fetched (Fails address) value x f u = (refl, refl)
-still_fetched SpellsNothing value x f u = (refl, refl)
-
-pub still_inside : (code : ℕ → ℕ) (rec : StepRecord) (f : FrameState) (x : Nested) → f.nested ≡ Some x → Still f (step_on code true rec f)
-still_inside code rec f x e = subst (Still f) (sym (step_inside code true rec f x e)) (still_fetched (fetched code (laid (inputs_of rec) (inside x f)).control.pc) (value_in rec.write) x f (laid_step code rec.reply (laid (inputs_of rec) (inside x f))))
-
--- ---- outside nested interrupts
-pub place_plain : (rec : StepRecord) (f : FrameState) → f.nested ≡ None → place_on false rec f ≡ f.control.pc
-place_plain rec f e = ap (λ (o : Option Nested). (current_in o f).control.pc) e
-
-pub place_inside : (rec : StepRecord) (f : FrameState) (x : Nested) → f.nested ≡ Some x → place_on true rec f ≡ x.pc
-place_inside rec f x e =
-    ap (λ (o : Option Nested). cond (true && (is_nesting rec.kind && not (is_some o))) rec.pc (current_in o f).control.pc) e
-    ∙ ap (λ b. cond b rec.pc x.pc) (and_right (is_nesting rec.kind) false refl)
-
--- ---- RFI 5 alone ends one
-pub some_none : {X : Type 0} (x : X) → Some x ≡ None → ⊥
-some_none x e = cc
-
-if_ends : (b : Bool) (u v : FrameTurn) → b ≡ true → u.after.nested ≡ None → (cond b u v).after.nested ≡ None
-if_ends true u v e n = n
-if_ends false u v e n = absurd cc
-
-if_open : (b : Bool) (u v : FrameTurn) (y : Nested) → b ≡ false → v.after.nested ≡ Some y → (cond b u v).after.nested ≡ None → ⊥
-if_open true u v y e s n = cc
-if_open false u v y e s n = cc
-
-ended_fetched : (at : Fetched) (value : ℕ) (x : Nested) (f : FrameState) (u : FrameTurn) → fetched_returns at ≡ true → (nested_fetched at value x f u).after.nested ≡ None
-ended_fetched (Fetches i len) value x f u e = if_ends (ends_nested i) _ _ e refl
-ended_fetched (Fails address) value x f u e = absurd cc
-ended_fetched SpellsNothing value x f u e = absurd cc
-
-open_fetched : (at : Fetched) (value : ℕ) (x : Nested) (f : FrameState) (u : FrameTurn) → fetched_returns at ≡ false → (nested_fetched at value x f u).after.nested ≡ None → ⊥
-open_fetched (Fetches i len) value x f u e n = if_open (ends_nested i) _ _ _ e refl n
-open_fetched (Fails address) value x f u e n = cc
-open_fetched SpellsNothing value x f u e n = cc
-
-returns_fetched : (code : ℕ → ℕ) (k : StepKind) (pc : ℕ) → returns code k pc ≡ true → fetched_returns (fetched code pc) ≡ true
-returns_fetched code kind.Insn pc e = e
-returns_fetched code _ pc e = absurd cc
-
-pub closes_plain : (code : ℕ → ℕ) (k : StepKind) (pc : ℕ) → closes code k pc ≡ true → is_nesting k ≡ false
-closes_plain code kind.Insn pc e = refl
-closes_plain code _ pc e = absurd cc
+use Rattle.xt_frames.proofs.StackSteps.{breach_fetches}
 
 -- ---- no interrupt is taken inside one
 quiet_inside : (c : Control) → c.ps.intlevel ≡ nested_level → ltb 0 (pending_of c) ≡ false
@@ -167,52 +112,33 @@ back_now code s suspended reply g base start eps is =
     }
 
 -- ---- the record that begins one
-begins_true : (rec : StepRecord) (f : FrameState) → is_nesting rec.kind ≡ true → f.nested ≡ None → begins true rec.kind f ≡ true
-begins_true rec f e n = ap (λ (o : Option Nested). is_nesting rec.kind && not (is_some o)) n ∙ ap (λ b. b && true) e
-
-begun_on : (code : ℕ → ℕ) (rec : StepRecord) (f : FrameState) → is_nesting rec.kind ≡ true → f.nested ≡ None → step_on code true rec f ≡ begun (laid (inputs_of rec) f)
-begun_on code rec f e n = cond-true (begins true rec.kind f) _ _ (begins_true rec f e n)
-
 module _ (code : ℕ → ℕ) (m : MemoryContents) (s : State) (f : FrameState) (nesting : is_nesting (planned code s).kind ≡ true) (none : f.nested ≡ None) where
-  nesting_rec : is_nesting (record_now code m s).kind ≡ true
-  unfolding turn
-  nesting_rec = nesting
-
-  step_begins : step_on code true (record_now code m s) f ≡ begun (laid (inputs_of (record_now code m s)) f)
-  step_begins = begun_on code (record_now code m s) f nesting_rec none
+  begun_now : step_on code true (record_now code m s) f ≡ begun (laid (inputs_of (record_now code m s)) f)
+  begun_now = step_begins code (record_now code m s) f (nesting_now code m s nesting) none
 
   pub no_access : demand code s ≡ None
-  unfolding demand
-  no_access = ap (λ (p : Planned). p.access) (nesting_taken code s nesting)
+  no_access = asks_nothing code s (nesting_taken code s nesting)
 
   pub begin_matches : (framed : MemoryContents) → Matches (place_on true (record_now code m s) f) (record_now code m s) (step_on code true (record_now code m s) f) framed
   unfolding turn
   begin_matches framed =
       let p = nesting_taken code s nesting in
       record {
-        place = sym (cond-true (begins true (record_now code m s).kind f) (record_now code m s).pc (current f).control.pc (begins_true (record_now code m s) f nesting_rec none));
-        kind = ap (λ (p : Planned). p.kind) p ∙ sym (ap (λ (u : FrameTurn). u.kind) step_begins);
-        write = ap (λ (p : Planned). written p.write p.awaited (reply_now code m s)) p ∙ sym (ap (λ (u : FrameTurn). u.write) step_begins);
-        access = no_access ∙ sym (ap (λ (u : FrameTurn). u.access) step_begins);
-        reply = ap (λ o. reply_where o (reply_now code m s)) no_access ∙ sym (ap (λ (u : FrameTurn). reply_at framed u.access) step_begins);
+        place = sym (cond-true (begins true (record_now code m s).kind f) (record_now code m s).pc (current f).control.pc (begins_now (record_now code m s) f (nesting_now code m s nesting) none));
+        kind = ap (λ (p : Planned). p.kind) p ∙ sym (ap (λ (u : FrameTurn). u.kind) begun_now);
+        write = ap (λ (p : Planned). written p.write p.awaited (reply_now code m s)) p ∙ sym (ap (λ (u : FrameTurn). u.write) begun_now);
+        access = no_access ∙ sym (ap (λ (u : FrameTurn). u.access) begun_now);
+        reply = ap (λ o. reply_where o (reply_now code m s)) no_access ∙ sym (ap (λ (u : FrameTurn). reply_at framed u.access) begun_now);
       }
 
   pub begin_fresh : (fresh : Bool) → fresh_on fresh code true (record_now code m s) f ≡ fresh
   begin_fresh fresh =
       let rec = record_now code m s in
       let at = fetched code (current f).control.pc in
-      ap (λ (u : FrameTurn). fresh_after fresh u.kind at (laid (inputs_of rec) (current f)).control.ps (current u.after).control.ps) step_begins
+      ap (λ (u : FrameTurn). fresh_after fresh u.kind at (laid (inputs_of rec) (current f)).control.ps (current u.after).control.ps) begun_now
       ∙ sym (fresh_begun fresh at (laid (inputs_of rec) (current f)) (laid (inputs_of rec) f))
 
 -- ---- a step inside one that shows no breach
-breach_inside : (b : Bounds) (fresh : Bool) (code : ℕ → ℕ) (live stale : ℕ → Bool) (rec : StepRecord) (f : FrameState) (x : Nested) → f.nested ≡ Some x
-    → breach_of b fresh code live stale true rec f ≡ laid_breach b fresh code live stale rec (laid (inputs_of rec) (inside x f))
-breach_inside b fresh code live stale rec f x e =
-    let none : Option BreachKind = None in
-    let L : Option BreachKind = laid_breach b fresh code live stale rec (laid (inputs_of rec) (inside x f)) in
-    let B : Option Nested → Option BreachKind = λ o. cond (true && (is_nesting rec.kind && not (is_some o))) none (laid_breach b fresh code live stale rec (laid (inputs_of rec) (current_in o f))) in
-    ap B e ∙ ap (λ (z : Bool). cond z none L) (and_right (is_nesting rec.kind) false refl)
-
 not_written : (k : StepKind) (at : Fetched) (ps : Ps) → ps.excm ≡ true → fetched_sets_epc1 at ≡ false → writes_epc1 k at ps ≡ false
 unfolding writes_epc1
 not_written (kind.Exc cause) at ps e w = ap not e
@@ -249,7 +175,7 @@ module _ {code : ℕ → ℕ} {b : Bounds} {m : MemoryContents} {s : State} {f :
   same_g = same_laid code s (reply_now code m s) (inside h.x f) shaped.control.ps.owb_fits
 
   none_g : laid_breach b false code live stale rec g ≡ None
-  none_g = subst (λ y. laid_breach b false code live stale rec y ≡ None) same_g (sym (breach_inside b false code live stale rec f h.x h.nested) ∙ none)
+  none_g = subst (λ y. laid_breach b false code live stale rec y ≡ None) same_g (sym (breach_inside b false code live stale true rec f h.x h.nested) ∙ none)
 
   excm_g : g.control.ps.excm ≡ true
   excm_g = ap (λ (p : Ps). p.excm) (sym h.inside.even.ps) ∙ h.inside.mode

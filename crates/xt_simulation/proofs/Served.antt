@@ -14,7 +14,7 @@ use Rattle.xt_simulation.specs.Relation.{Level, lost_at}
 use Rattle.xt_frames.proofs.Shown.{NoneShown, none_shown}
 use Rattle.xt_exec.proofs.Finished.{turn_taken, turn_waits}
 use Rattle.xt_simulation.proofs.Evenly.{same_pending}
-use Rattle.xt_simulation.proofs.Whole.{breach_fetches}
+use Rattle.xt_frames.proofs.StackSteps.{breach_fetches}
 
 -- ---- a step that shows no breach touches no save area
 abbrev pub Keeps : (ℕ → Bool) → (ℕ → Bool) → Option Access → Type 0

@@ -35,6 +35,7 @@ use Rattle.xt_frames.specs.Marks.{own_marks}
 use Rattle.xt_frames.specs.Nesting.{begins, begun, inside, is_nesting}
 use Rattle.xt_frames.specs.Breaches.{Bounds, lost_of}
 use Rattle.xt_frames.specs.Judging.{step_on}
+use Rattle.xt_frames.proofs.Inside.{step_begins}
 use Rattle.xt_stretch.specs.declared.Side.{Side}
 use Rattle.xt_stretch.specs.declared.Side.TheVariants.{Overflow, Underflow}
 use Rattle.xt_simulation.specs.Relation.{Same, Even, inputs, lost_at, can_be_lost}
@@ -337,15 +338,9 @@ pub state_taken : (code : ℕ → ℕ) (s : State) (reply : ℕ) → planned cod
 unfolding turn
 state_taken code s reply is = ap (λ (p : Planned). with_write (written p.write p.awaited reply) p.after) is
 
-begins_on : (code : ℕ → ℕ) (s : State) (reply : ℕ) (f : FrameState) → is_nesting (planned code s).kind ≡ true → f.nested ≡ None → begins true (turn code s reply).0.kind f ≡ true
+pub nesting_now : (code : ℕ → ℕ) (m : MemoryContents) (s : State) → is_nesting (planned code s).kind ≡ true → is_nesting (record_now code m s).kind ≡ true
 unfolding turn
-begins_on code s reply f nesting none = ap (λ (o : Option Nested). is_nesting (planned code s).kind && not (is_some o)) none ∙ ap (λ x. x && true) nesting
-
-pub step_begins : (code : ℕ → ℕ) (m : MemoryContents) (s : State) (f : FrameState) → s.control.ps.owb < 16 → is_nesting (planned code s).kind ≡ true → f.nested ≡ None
-    → step_on code true (record_now code m s) f ≡ begun (laid (inputs 0 s) f)
-step_begins code m s f small nesting none =
-    cond-true (begins true (record_now code m s).kind f) _ _ (begins_on code s (reply_now code m s) f nesting none)
-    ∙ ap begun (same_laid code s (reply_now code m s) f small)
+nesting_now code m s nesting = nesting
 
 pub asks_nothing : (code : ℕ → ℕ) (s : State) → planned code s ≡ in_window (settled_interrupt 5 s.control) s → demand code s ≡ None
 unfolding demand
@@ -355,7 +350,7 @@ pub taken_begin : NestedBegin
 taken_begin code bytes b good m s f before opened h none shaped count nesting =
     let is = nesting_taken code s nesting in
     let state = state_taken code s (reply_now code m s) is in
-    let step = step_begins code m s f shaped.control.ps.owb_fits nesting none in
+    let step = step_begins code (record_now code m s) f (nesting_now code m s nesting) none ∙ ap begun (same_laid code s (reply_now code m s) f shaped.control.ps.owb_fits) in
     let l = beside h in
     let small : reply_now code m s < 2 ^ 32 = subst (λ (o : Option Access). reply_at m o < 2 ^ 32) (sym (asks_nothing code s is)) (omega arith) in
     let next : IsShaped (state_now code m s) = turn_shaped code s (reply_now code m s) bytes shaped small in

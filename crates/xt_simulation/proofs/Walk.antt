@@ -45,8 +45,9 @@ use Rattle.xt_simulation.proofs.Carried.{live_same}
 use Rattle.xt_simulation.proofs.Suspended.{nested_begin, nested_steps_are_kept, nested_are_spared}
 use Rattle.xt_simulation.proofs.Memories.{live_kept, step_memory, memories_agree}
 use Rattle.xt_simulation.proofs.Judges.{judge_keeps, judge_areas, judge_plain, shaped_now, same_laid, record_access}
-use Rattle.xt_simulation.proofs.Holes.{HasHoles, marks_wide, step_holes}
-use Rattle.xt_simulation.proofs.NestedSteps.{some_none, place_plain, place_inside, closes_plain, still_inside, no_access, begin_matches, begin_fresh, nested_areas, nested_fresh, nested_ends, nested_goes_on, nested_back, nested_seen}
+use Rattle.xt_frames.proofs.Inside.{closes_plain, place_inside, place_plain, still_inside}
+use Rattle.xt_frames.proofs.Lengths.{HasHoles, marks_wide, step_holes}
+use Rattle.xt_simulation.proofs.NestedSteps.{no_access, begin_matches, begin_fresh, nested_areas, nested_fresh, nested_ends, nested_goes_on, nested_back, nested_seen}
 
 -- ---- histories that grow
 abbrev pub Answers : MemoryContents → List Entry → Type 0
@@ -376,7 +377,7 @@ module _ (code : ℕ → ℕ) (bytes : AreBytes code) where
     nested_resumes e none h =
         let ended = nested_ends h.first.0 h.shaped_first (live_of b f others) stale none (returns_is true e) in
         ⊎_elim
-        (λ (goes : Suspends code b (memory_now code m s) (state_now code m s) (step_on code true rec f).after nested_next.before at.opened at.suspended). absurd (some_none goes.x (sym goes.nested ∙ ended)))
+        (λ (goes : Suspends code b (memory_now code m s) (state_now code m s) (step_on code true rec f).after nested_next.before at.opened at.suspended). (let none : Some goes.x ≡ None = sym goes.nested ∙ ended in absurd cc))
         (λ (back : ((step_on code true rec f).after.nested ≡ None) × Handling code b (memory_now code m s) (state_now code m s) (step_on code true rec f).after nested_next.before at.opened). back)
         (nested_step none h).1
 

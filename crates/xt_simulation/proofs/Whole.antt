@@ -26,6 +26,7 @@ use Rattle.xt_frames.specs.Nesting.{unset_after}
 use Rattle.xt_frames.specs.Breaches.{Bounds, first_shown, fetched_tests, other_tests, laid_breach, writes_epc1, falls, fresh_after}
 use Rattle.xt_simulation.specs.Stacks.{sp_under}
 use Rattle.xt_simulation.specs.Relation.{Level, lost_at}
+use Rattle.xt_frames.proofs.StackSteps.{breach_fetches, step_fetches, step_taken, step_waits}
 use Rattle.xt_frames.proofs.Shown.{NoneShown, none_shown, sound}
 use Rattle.xt_exec.proofs.Finished.{turn_taken, turn_waits, turn_fetches}
 use Rattle.xt_exec.specs.Finishing.{Turn, finished}
@@ -35,24 +36,6 @@ use Rattle.xt_simulation.proofs.Turns.{low_level}
 use Rattle.xt_simulation.proofs.Ordinary.{Ends, in_both}
 use Rattle.xt_simulation.proofs.Judged.{Target, raise_target}
 use Rattle.xt_simulation.proofs.Executed.{insn_target}
-
--- ---- the frame machine's step
-pub step_taken : (code : ℕ → ℕ) (reply : ℕ) (g : FrameState) → ltb 0 (pending_of g.control) ≡ true → laid_step code reply g ≡ in_frame (settled_interrupt (pending_of g.control) g.control) reply g
-unfolding laid_step
-step_taken code reply g e = cond-true (ltb 0 (pending_of g.control)) _ _ e
-
-pub step_waits : (code : ℕ → ℕ) (reply : ℕ) (g : FrameState) → ltb 0 (pending_of g.control) ≡ false → g.control.waits ≡ true → laid_step code reply g ≡ in_frame (settled_wait g.control) reply g
-unfolding laid_step
-step_waits code reply g e w = cond-false (ltb 0 (pending_of g.control)) _ _ e ∙ cond-true g.control.waits _ _ w
-
-pub step_fetches : (code : ℕ → ℕ) (reply : ℕ) (g : FrameState) → ltb 0 (pending_of g.control) ≡ false → g.control.waits ≡ false → laid_step code reply g ≡ fetched_step (fetched code g.control.pc) code reply g
-unfolding laid_step
-step_fetches code reply g e w = cond-false (ltb 0 (pending_of g.control)) _ _ e ∙ cond-false g.control.waits _ _ w
-
-pub breach_fetches : (b : Bounds) (fresh : Bool) (code : ℕ → ℕ) (live stale : ℕ → Bool) (rec : StepRecord) (g : FrameState) → ltb 0 (pending_of g.control) ≡ false → g.control.waits ≡ false
-    → laid_breach b fresh code live stale rec g ≡ first_shown (fetched_tests b fresh live stale (fetched code g.control.pc) rec g (laid_step code rec.reply g))
-unfolding laid_breach
-breach_fetches b fresh code live stale rec g e w = cond-false (ltb 0 (pending_of g.control) || g.control.waits) _ _ (or_from _ _ e w)
 
 module _ {vecbase : ℕ} (fresh : Bool) {s : State} {g : FrameState} {ring spilled : List Frame} (l : Level vecbase (lost_at fresh g) s g ring spilled) (at : Fetched) (reply : ℕ) where
   taken_target : (level : ℕ) → (eqb level 1 ≡ true → s.control.ps.excm ≡ false) → Target vecbase fresh g.unset spilled (sp_under (known g.seen 1) ring) at s (finished (in_window (settled_interrupt level s.control) s) reply) (in_frame (settled_interrupt level g.control) reply g)

@@ -9,7 +9,7 @@ use Rattle.xt_frames.specs.Stacks.{Moves, Stack}
 use Rattle.xt_frames.specs.Walked.{bounds_of}
 use Rattle.xt_frames.proofs.StackSteps.{keeps_stack, moves_as, moves_frames, moves_unset}
 use Rattle.xt_frames.proofs.TestRows.{plan_ranges}
-use Rattle.xt_frames.proofs.Inside.{found_plain, fresh_plain, kind_planned, step_plain}
+use Rattle.xt_frames.proofs.Inside.{breach_plain, fresh_plain, kind_planned, step_plain}
 use Rattle.xt_trace.specs.declared.record.StepKind.{StepKind}
 use Rattle.xt_frames.specs.Nesting.{unset_after}
 use Rattle.xt_frames.proofs.judged.judge_plain.Goals as goal
@@ -24,7 +24,7 @@ returns-in-Some-clause-done c = λ frames live stale k.
     let B = λ (f : FrameState). laid_breach (bounds_of case.limits) case.fresh code live stale rec f in
     let over = c.lay.ensures frames h in
     let found = c.breach_of.ensures code frames live stale k c.plan-plan.ensures.plan (c.step-step.ensures.turn frames h k.newest) in
-    (found_plain case code live stale rec f c.requires.plain ∙ (ap B (sym over) ∙ (sym found ∙ c.in-Some.is)), ap (state_at frames h) (c.uncover.ensures c.args.view.now (inputs_of rec) frames h c.covered-covered.ensures.value over))
+    (breach_plain (bounds_of case.limits) case.fresh code live stale rec f c.requires.plain ∙ (ap B (sym over) ∙ (sym found ∙ c.in-Some.is)), ap (state_at frames h) (c.uncover.ensures c.args.view.now (inputs_of rec) frames h c.covered-covered.ensures.value over))
 
 pub returns-clause-done : goal.returns-clause-done
 returns-clause-done c = λ frames live stale k.
@@ -51,7 +51,7 @@ returns-clause-done c = λ frames live stale k.
     let step = step_plain code rec f plain in
     let F : FrameTurn → FrameState → Bool = λ u g. fresh_after case.fresh u.kind (fetched code g.control.pc) g.control.ps u.after.control.ps in
     let fresh = c.fresh_after.ensures ∙ (ap (λ (u : FrameTurn). F u laid_f) past ∙ ap (F (laid_step code rec.reply (laid inp f))) over) in
-    (found_plain case code live stale rec f plain ∙ (ap B (sym over) ∙ (sym found ∙ c.in_default.is)), after ∙ sym (ap (λ (u : FrameTurn). u.after) step), fresh ∙ sym (fresh_plain case.fresh code rec f plain (sym (ap (λ (u : FrameTurn). u.after.nested) past) ∙ plain)))
+    (breach_plain (bounds_of case.limits) case.fresh code live stale rec f plain ∙ (ap B (sym over) ∙ (sym found ∙ c.in_default.is)), after ∙ sym (ap (λ (u : FrameTurn). u.after) step), fresh ∙ sym (fresh_plain case.fresh code rec f plain (sym (ap (λ (u : FrameTurn). u.after.nested) past) ∙ plain)))
 
 pub returns-clause-kept : goal.returns-clause-kept
 returns-clause-kept c = λ frames live stale k on.

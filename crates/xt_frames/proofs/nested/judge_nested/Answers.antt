@@ -11,7 +11,7 @@ use Rattle.xt_frames.specs.Nesting.{current, inside, nested_fetched, nested_turn
 use Rattle.xt_frames.specs.Parts.{state_at}
 use Rattle.xt_frames.specs.Stacks.{Stack, Stays}
 use Rattle.xt_frames.specs.Walked.{bounds_of}
-use Rattle.xt_frames.proofs.Inside.{found_inside, fresh_inside, step_inside}
+use Rattle.xt_frames.proofs.Inside.{breach_inside, fresh_inside, step_inside}
 use Rattle.xt_frames.proofs.nested.judge_nested.Goals as goal
 
 pub returns-in-Some-clause-done : goal.returns-in-Some-clause-done
@@ -25,7 +25,7 @@ returns-in-Some-clause-done c = λ begins frames live stale k.
     let B = λ (f : FrameState). laid_breach (bounds_of case.limits) case.fresh code live stale rec f in
     let over = c.lay.ensures frames h ∙ ap (laid (inputs_of rec)) (c.inside-inner.ensures frames h) in
     let found = c.breach_of.ensures code frames live stale k c.plan-plan.ensures.plan (c.step-step.ensures.turn frames h k.newest) in
-    (found_inside case code live stale begins rec f x c.requires.nested ∙ (ap B (sym over) ∙ (sym found ∙ c.in-Some.is)), refl)
+    (breach_inside (bounds_of case.limits) case.fresh code live stale begins rec f x c.requires.nested ∙ (ap B (sym over) ∙ (sym found ∙ c.in-Some.is)), refl)
 
 pub returns-clause-done : goal.returns-clause-done
 returns-clause-done c = λ begins frames live stale k.
@@ -58,7 +58,7 @@ returns-clause-done c = λ begins frames live stale k.
     ∙ (ap (λ (v : FrameTurn). F v.kind laid_f P) past
     ∙ (ap (λ (s : FrameState). F u.kind s P) over
     ∙ sym (fresh_inside case.fresh code begins rec f x is)))) in
-    (found_inside case code live stale begins rec f x is ∙ (ap B (sym over) ∙ (sym found ∙ c.in_default.is)), after ∙ sym (ap (λ (v : FrameTurn). v.after) step), fresh)
+    (breach_inside (bounds_of case.limits) case.fresh code live stale begins rec f x is ∙ (ap B (sym over) ∙ (sym found ∙ c.in_default.is)), after ∙ sym (ap (λ (v : FrameTurn). v.after) step), fresh)
 
 pub returns-clause-kept : goal.returns-clause-kept
 returns-clause-kept c = λ frames on.

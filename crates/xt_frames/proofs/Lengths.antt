@@ -23,6 +23,7 @@ use Rattle.xt_frames.specs.Marks.{mark_read, marks_after, unset_by}
 use Rattle.xt_frames.specs.Nesting.{begins, begun, ends_nested, inside, nested_fetched, nested_insn, turn_in, unset_after}
 use Rattle.xt_frames.specs.Breaches.{inputs_of}
 use Rattle.xt_frames.specs.Judging.{step_on, value_in}
+use Rattle.xt_frames.proofs.StackSteps.{turn_if}
 
 abbrev pub HasMarks : Option Nested → Type 0
 HasMarks None = Unit {0}
@@ -56,54 +57,49 @@ marks_length mark None marks = refl
 marks_length mark (Some w) marks = length-set marks w.reg mark
 
 -- ---- a step of a state over which the inputs are laid changes neither
-abbrev Stays : FrameState → FrameState → Type 0
-Stays g u = (u.nested ≡ g.nested) × (u.unset ≡ g.unset)
+abbrev pub Stays : FrameState → FrameTurn → Type 0
+Stays g u = (u.after.nested ≡ g.nested) × (u.after.unset ≡ g.unset)
 
-stays_if : (g : FrameState) (b : Bool) (u v : FrameTurn) → Stays g u.after → Stays g v.after → Stays g (cond b u v).after
-stays_if g true u v p q = p
-stays_if g false u v p q = q
-
-pushed_stays : (number value len : ℕ) (g : FrameState) → Stays g (pushed number value len g).after
+pushed_stays : (number value len : ℕ) (g : FrameState) → Stays g (pushed number value len g)
 unfolding pushed
 pushed_stays number value len g = (refl, refl)
 
-from_stays : (frames : List Frame) (a0 : ℕ) (g : FrameState) → Stays g (popped_from frames a0 g).after
+from_stays : (frames : List Frame) (a0 : ℕ) (g : FrameState) → Stays g (popped_from frames a0 g)
 from_stays [] a0 g = (refl, refl)
 from_stays (f ∷ rest) a0 g = (refl, refl)
 
-popped_stays : (a0 : ℕ) (g : FrameState) → Stays g (popped a0 g).after
+popped_stays : (a0 : ℕ) (g : FrameState) → Stays g (popped a0 g)
 unfolding popped
 popped_stays a0 g = from_stays g.frames a0 g
 
-windowed_stays : (step : WindowStep) (len reply : ℕ) (g : FrameState) → Stays g (windowed_in_frame step len reply g).after
-windowed_stays (Enters number value) len reply g = stays_if g g.control.ps.excm _ _ (refl, refl) (pushed_stays number value len g)
-windowed_stays (Returns a0) len reply g = stays_if g g.control.ps.excm _ _ (refl, refl) (popped_stays a0 g)
+windowed_stays : (step : WindowStep) (len reply : ℕ) (g : FrameState) → Stays g (windowed_in_frame step len reply g)
+windowed_stays (Enters number value) len reply g = turn_if (Stays g) g.control.ps.excm _ _ (refl, refl) (pushed_stays number value len g)
+windowed_stays (Returns a0) len reply g = turn_if (Stays g) g.control.ps.excm _ _ (refl, refl) (popped_stays a0 g)
 windowed_stays _ len reply g = (refl, refl)
 
-done_stays : (o : Outcome) (len reply : ℕ) (g : FrameState) → Stays g (done_in_frame o len reply g).after
+done_stays : (o : Outcome) (len reply : ℕ) (g : FrameState) → Stays g (done_in_frame o len reply g)
 done_stays (Windowed step) len reply g = windowed_stays step len reply g
 done_stays _ len reply g = (refl, refl)
 
-fetched_stays : (at : Fetched) (code : ℕ → ℕ) (reply : ℕ) (g : FrameState) → Stays g (fetched_step at code reply g).after
+fetched_stays : (at : Fetched) (code : ℕ → ℕ) (reply : ℕ) (g : FrameState) → Stays g (fetched_step at code reply g)
 fetched_stays (Fetches i len) code reply g = done_stays (outcome_at code i (known g.seen) g.control) len reply g
 fetched_stays (Fails address) code reply g = (refl, refl)
 fetched_stays SpellsNothing code reply g = (refl, refl)
 
-pub laid_stays : (code : ℕ → ℕ) (reply : ℕ) (g : FrameState) → Stays g (laid_step code reply g).after
+pub laid_stays : (code : ℕ → ℕ) (reply : ℕ) (g : FrameState) → Stays g (laid_step code reply g)
 unfolding laid_step
-laid_stays code reply g = stays_if g (ltb 0 (pending_of g.control)) _ _ (refl, refl) (stays_if g g.control.waits _ _ (refl, refl) (fetched_stays (fetched code g.control.pc) code reply g))
+laid_stays code reply g = turn_if (Stays g) (ltb 0 (pending_of g.control)) _ _ (refl, refl) (turn_if (Stays g) g.control.waits _ _ (refl, refl) (fetched_stays (fetched code g.control.pc) code reply g))
 
 -- ---- each step
-holes_if : (b : Bool) (u v : FrameTurn) → HasHoles u.after → HasHoles v.after → HasHoles (cond b u v).after
-holes_if true u v p q = p
-holes_if false u v p q = q
+abbrev LeavesHoles : FrameTurn → Type 0
+LeavesHoles u = HasHoles u.after
 
 begun_holes : (g : FrameState) → length g.unset ≡ 256 → HasHoles (begun g).after
 begun_holes g all = record { unset = length-set (set g.unset 181 true) 197 true ∙ (length-set g.unset 181 true ∙ all); marks = refl }
 
 insn_holes : (i : Insn) (value : ℕ) (x : Nested) (f : FrameState) (u : FrameTurn) → length f.unset ≡ 256 → length x.marks ≡ 16 → length u.after.unset ≡ 256 → HasHoles (nested_insn i value x f u).after
 insn_holes i value x f u all wide left =
-    holes_if (ends_nested i) _ _
+    turn_if LeavesHoles (ends_nested i) _ _
     (record { unset = left; marks = tt })
     (record { unset = by_length (moved_to i) x.marks f.unset ∙ all; marks = marks_length (mark_read i x.saved) u.write x.marks ∙ wide })
 
@@ -128,6 +124,6 @@ turn_holes (Some x) code value inp f e all wide =
 
 pub step_holes : (code : ℕ → ℕ) (nested : Bool) (rec : StepRecord) (f : FrameState) → HasHoles f → HasHoles (step_on code nested rec f).after
 step_holes code nested rec f k =
-    holes_if (begins nested rec.kind f) _ _
+    turn_if LeavesHoles (begins nested rec.kind f) _ _
     (begun_holes (laid (inputs_of rec) f) k.unset)
     (turn_holes f.nested code (value_in rec.write) (inputs_of rec) f refl k.unset k.marks)
