@@ -66,39 +66,9 @@ use Rattle.xt_simulation.specs.Handling.{machine, InDram, Somewhere, Begins, Han
 use Rattle.xt_simulation.specs.HandlerLaws.{StretchesAreEntered, HandlerStepsAreKept, HandlersAreSpared}
 use Rattle.xt_fetch.specs.Code.{AreBytes}
 use Rattle.xt_simulation.proofs.Fetched.{byte_is as fetched_byte, bytes_length, byte_small, fetched_is, step_is, vector_fetches, vector_handles, fetch_small, length_is}
-use Rattle.xt_simulation.proofs.Turns.{Shown, shown, turned, Turned, load, store, wide_nop, narrow_nop, ends_overflow, ends_underflow, other, Ended, ends_with_rfwo, ends_with_rfwu}
+use Rattle.xt_simulation.proofs.Turns.{Shown, quiet_level, shown, turned, Turned, load, store, wide_nop, narrow_nop, ends_overflow, ends_underflow, other, Ended, ends_with_rfwo, ends_with_rfwu}
 use Rattle.xt_simulation.proofs.SaveWords.{save_covers, in_areas, stood_before, spilled_before}
 use Rattle.xt_simulation.proofs.Begun.{Found, found, stack_of, own_live, same_visible}
-
--- ---- interrupts in exception mode
--- the level, where those up to 3 are masked
-abbrev masked : Bool → Bool → Bool → ℕ
-masked a b c = cond a 5 (cond (b && false) 3 (cond (c && false) 1 0))
-
-five_or_none : (a b c : Bool) → (masked a b c ≡ 0) ⊎ (masked a b c ≡ 5)
-five_or_none true b c = inr refl
-five_or_none false true true = inl refl
-five_or_none false true false = inl refl
-five_or_none false false true = inl refl
-five_or_none false false false = inl refl
-
-masked_level : (interrupt enabled : ℕ) (ps : Ps) → ps.excm ≡ true → (pending_level interrupt enabled ps ≡ 0) ⊎ (pending_level interrupt enabled ps ≡ 5)
-unfolding pending_level
-masked_level interrupt enabled ps e =
-    let three : ltb (max ps.intlevel 3) 3 ≡ false = le-ltb (max ps.intlevel 3) 3 (omega arith) in
-    let one : ltb (max ps.intlevel 3) 1 ≡ false = le-ltb (max ps.intlevel 3) 1 (omega arith) in
-    rw (e, three, one) (five_or_none _ _ _)
-
-nesting_taken : (code : ℕ → ℕ) (s : State) → pending_of s.control ≡ 5 → is_nesting (planned code s).kind ≡ true
-nesting_taken code s five =
-    let taken : ltb 0 (pending_of s.control) ≡ true = rw five refl in
-    ap (λ (p : Planned). is_nesting p.kind) (turn_taken code s taken) ∙ rw five refl
-
-untaken : (code : ℕ → ℕ) (s : State) → s.control.ps.excm ≡ true → is_nesting (planned code s).kind ≡ false → ltb 0 (pending_of s.control) ≡ false
-untaken code s low calm = ⊎_elim
-    (λ (none : pending_of s.control ≡ 0). rw none refl)
-    (λ (five : pending_of s.control ≡ 5). absurd (false≢true (sym calm ∙ nesting_taken code s five)))
-    (masked_level (special_of s.control number.interrupt) (special_of s.control number.intenable) s.control.ps low)
 
 -- ---- the handler's state, where another memory has the same bytes
 same_bytes : (side : Side) (n : ℕ) (start : Machine) (old new : ℕ → ℕ) → ((a : ℕ) → new a ≡ old a) → Spares side n start old new
@@ -476,7 +446,7 @@ module _ (code : ℕ → ℕ) (constant : (a : ℕ) → code a < 2 ^ 8) (b : Bou
 
     -- the judge takes an interrupt of level 5 as a nested one; the others are masked
     pub untaken_now : is_nesting (planned code s).kind ≡ false → ltb 0 (pending_of s.control) ≡ false
-    untaken_now calm = untaken code s low_now calm
+    untaken_now calm = quiet_level code s low_now calm
 
     pub running_now : s.control.waits ≡ false
     running_now = h.control.waits ∙ h.running

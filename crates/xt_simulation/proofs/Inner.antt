@@ -1,5 +1,9 @@
--- What a step of a nested interrupt that is not RFI 5 leaves, of the core and of the frame state.
-use Rattle.std.specs.Prelude.{◌≡◌, ℕ, Some}
+-- A step of a nested interrupt is RFI 5, or leaves this of the core and of the frame state.
+use Rattle.std.specs.Prelude.{◌≡◌, ℕ, Some, true}
+use Rattle.xt_isa.specs.declared.Insn.{Insn}
+use Rattle.xt_fetch.specs.Fetching.{Fetches, fetched}
+use Rattle.xt_frames.specs.Marks.{are_own_marks}
+use Rattle.xt_frames.specs.Nesting.{ends_nested}
 use Rattle.xt_map.specs.declared.contents.MemoryContents.{MemoryContents}
 use Rattle.xt_special.specs.Numbers as number
 use Rattle.xt_special.specs.Control.{special_of}
@@ -11,6 +15,14 @@ use Rattle.xt_frames.specs.FrameStep.{FrameTurn}
 use Rattle.xt_frames.specs.Breaches.{Bounds}
 use Rattle.xt_simulation.specs.Steps.{record_now, state_now}
 use Rattle.xt_simulation.specs.Nested.{IsInside}
+
+-- RFI 5 is fetched, and a0 to a3 are as the window handler had them
+pub record Ends (code : ℕ → ℕ) (s : State) (x : Nested) : Type 0 where
+  pub i : Insn
+  pub len : ℕ
+  pub at : fetched code s.control.pc ≡ Fetches i len
+  pub ends : ends_nested i ≡ true
+  pub own : are_own_marks x.marks ≡ true
 
 -- u is the frame machine's step of the record
 pub record Inner

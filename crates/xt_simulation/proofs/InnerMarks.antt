@@ -5,6 +5,7 @@ use Rattle.std.proofs.Common.{◌≡◌, ℕ, ◌+◌, ◌*◌, ◌%◌, ◌^◌
 use Rattle.std.specs.Prelude.{unwrap_or}
 use Rattle.std.proofs.Math.ListN.{set}
 use Rattle.std.proofs.lemmas.Bool.{cases_eq, cases_lt, true≢false, and_parts, and_cases, and_left, or_parts, or_cases, or_from, or_right, ne_eqb, eqb-false, leb-true, ltb-true, false_from_ne_true, cond-true, cond-false}
+use Rattle.std.proofs.lemmas.Option.{none-some}
 use Rattle.std.proofs.lemmas.List.{get_or-set_same, get_or-set_other, length-set, get_or_past}
 use Rattle.xt_isa.specs.declared.Insn.{Insn}
 use Rattle.xt_isa.specs.declared.Insn.TheVariants as insn
@@ -265,9 +266,6 @@ pub record InRegisters (suspended : State) (base : ℕ) (regs : List ℕ) (seen 
   pub numbers : (i v : ℕ) → get_or seen i None ≡ Some v → visible regs base i ≡ v
   pub marks : (i k : ℕ) → get_or held i None ≡ Some k → (visible regs base i ≡ marked suspended k) × (get_or seen i None ≡ None)
 
-no_some : (k : ℕ) → None ≡ Some k → ⊥
-no_some k e = cc
-
 some_same : (v w : ℕ) → Some v ≡ Some w → v ≡ w
 some_same v w e = ap (λ (o : Option ℕ). unwrap_or o 0) e
 
@@ -322,7 +320,7 @@ module _ {suspended : State} {base : ℕ} {regs : List ℕ} {seen held : List (O
         there i (seen_below i u old) other ∙ r.numbers i u old)
         (cases_eq i t);
     marks = λ i k at. ⊎_elim
-        (λ e. absurd (no_some k (sym (held_at None) ∙ subst (λ j. get_or (set held t None) j None ≡ Some k) e at)))
+        (λ e. absurd (none-some k (sym (held_at None) ∙ subst (λ j. get_or (set held t None) j None ≡ Some k) e at)))
         (λ other.
         let old : get_or held i None ≡ Some k = sym (get_or-set_other held t i None None other) ∙ at in
         let was = r.marks i k old in
@@ -344,7 +342,7 @@ module _ {suspended : State} {base : ℕ} {regs : List ℕ} {seen held : List (O
     spread = length-set held t (Some mark) ∙ r.spread;
     others = others_after;
     numbers = λ i u at. ⊎_elim
-        (λ e. absurd (no_some u (sym emptied ∙ subst (λ j. get_or (set (set seen t (Some w)) t None) j None ≡ Some u) e at)))
+        (λ e. absurd (none-some u (sym emptied ∙ subst (λ j. get_or (set (set seen t (Some w)) t None) j None ≡ Some u) e at)))
         (λ other.
         let old : get_or seen i None ≡ Some u = sym (seen_other i other) ∙ at in
         there i (seen_below i u old) other ∙ r.numbers i u old)

@@ -47,7 +47,7 @@ use Rattle.xt_frames.specs.declared.holes.Nested.{Nested}
 use Rattle.xt_frames.specs.declared.kinds.BreachKind.{BreachKind}
 use Rattle.xt_frames.specs.Frames.{FrameState, known, seen_after_write}
 use Rattle.xt_frames.specs.FrameStep.{FrameTurn, in_frame, raised, pushed, popped, windowed_in_frame, done_in_frame, fetched_step, laid, laid_step}
-use Rattle.xt_frames.specs.Marks.{moves_marks, mark_read, marked_write, unset_by, unset_written}
+use Rattle.xt_frames.specs.Marks.{are_own_marks, moves_marks, mark_read, marked_write, unset_by, unset_written}
 use Rattle.xt_frames.specs.Nesting.{current_in, disturbs_nested, ends_nested, inside, is_nesting, keeping, nested_after, nested_fetched, nested_insn}
 use Rattle.xt_frames.specs.Breaches.{Bounds, breach_of, breaks_nested, fetched_tests, first_shown, insn_tests, inputs_of, is_exception, is_unset, lacks, laid_breach, loses_epc1, lost_of, names_high, other_tests, reads_epc1, reads_lost, reads_none_in, reads_unset, writes_sp}
 use Rattle.xt_frames.specs.Judging.{step_on, value_in}
@@ -60,8 +60,8 @@ use Rattle.xt_simulation.specs.Nested.{IsInside, IsSpare, marked}
 use Rattle.xt_simulation.proofs.Evenly.{even_ticked, lost_in}
 use Rattle.xt_simulation.proofs.Judged.{awaited_named}
 use Rattle.xt_simulation.proofs.Judges.{record_reply, same_laid}
-use Rattle.xt_simulation.proofs.Turns.{quiet_nested}
-use Rattle.xt_simulation.proofs.Inner.{Inner}
+use Rattle.xt_simulation.proofs.Turns.{quiet_nested, turn_does}
+use Rattle.xt_simulation.proofs.Inner.{Ends, Inner}
 use Rattle.xt_simulation.proofs.Laid.{even_laid, laid_other}
 use Rattle.xt_simulation.proofs.InnerMarks.{marks_moved}
 use Rattle.xt_simulation.proofs.InnerSteps.{Elsewhere, IsNarrow, ReadsNumber, after_write, all_spare, can_saved, effect_even, effect_mode, effect_spares, same_moved, saved_left, ticked_saved, write_base, write_control, write_marks, write_numbers, write_others, write_size, write_start}
@@ -74,6 +74,8 @@ pub record Quiet (i : Insn) (x : Nested) (g : FrameState) (u : FrameTurn) : Type
   pub epc1 : sets_epc1 i ≡ false
   pub disturbs : disturbs_nested i ≡ false
   pub kind : is_exception u.kind ≡ false
+  -- RFI 5 looks at the marks
+  pub own : ends_nested i ≡ true → are_own_marks x.marks ≡ true
 
 unmarked_reads : (b c d : Bool) → cond b c d ≡ false → cond b false d ≡ false
 unmarked_reads true c d e = refl
@@ -86,23 +88,15 @@ quiet_of b live stale i rec g u x is o =
     let breaks : breaks_nested (Some x) i u ≡ false = subst (λ (n : Option Nested). breaks_nested n i u ≡ false) is o.nested in
     let l = or_parts (reads_epc1 false i) (sets_epc1 i) lost in
     let n = or_parts (is_exception u.kind) _ breaks in
+    let d = or_parts (disturbs_nested i) (ends_nested i && not (are_own_marks x.marks)) n.1 in
     record {
       reads = unmarked_reads (moves_marks i) _ _ reads;
       lost = l.0;
       epc1 = l.1;
-      disturbs = (or_parts (disturbs_nested i) _ n.1).0;
+      disturbs = d.0;
       kind = n.0;
+      own = λ ends. not-false (are_own_marks x.marks) (ap (λ e. e && not (are_own_marks x.marks)) (sym ends) ∙ d.1);
     }
-
--- ---- no interrupt, and no window check
-untaken : (c : Control) → c.ps.intlevel ≡ 5 → ltb 0 (pending_of c) ≡ false
-untaken c level = ap (λ n. ltb 0 n) (quiet_nested c level)
-
-closed_windows : (ps : Ps) → ps.excm ≡ true → has_windows ps ≡ false
-closed_windows ps e = rw e (and_right ps.woe false refl)
-
-unchecked : (i : Insn) (s : State) → s.control.ps.excm ≡ true → window_check i s ≡ 0
-unchecked i s e = cond-false (has_windows s.control.ps) (ahead s.start s.base (looks i s.control.ps)) 0 (closed_windows s.control.ps e)
 
 -- ---- what the turn's record shows
 module _ (code : ℕ → ℕ) (s : State) (reply : ℕ) (t : Settled) where
@@ -467,55 +461,42 @@ module _ (code : ℕ → ℕ) (b : Bounds) (m : MemoryContents) (s : State) (f :
       let inner : P (outcome_at code i (known x.seen) g.control) = subst P same (row_inner u o q r goes_on (outcome_at code i (visible s.regs s.base) s.control) refl (outcome_fits code i s.control.pc _ _ _ _ s.control.ps s.control.threadptr) is) in
       subst (λ (z : FrameTurn). Inner code b m s f suspended z) (sym (left_is i value x f u goes_on r.mark)) (inner q.kind o.written o.vectors)
 
--- ---- RFI 5: u is the frame machine's step of the record
-pub record Ending
-    (code : ℕ → ℕ) (b : Bounds) (m : MemoryContents) (s : State) (f : FrameState) (x : Nested)
-    (live stale : ℕ → Bool) (u : FrameTurn) : Type 0 where
-  pub insn : Insn
-  pub len : ℕ
-  pub at : fetched code s.control.pc ≡ Fetches insn len
-  pub ends : ends_nested insn ≡ true
-  pub sound : Sound b false live stale insn (record_now code m s) (laid (inputs 0 s) (inside x f)) (fetched_step (Fetches insn len) code (reply_now code m s) (laid (inputs 0 s) (inside x f)))
-  pub quiet : Quiet insn x (laid (inputs 0 s) (inside x f)) (fetched_step (Fetches insn len) code (reply_now code m s) (laid (inputs 0 s) (inside x f)))
-  pub plan : planned code s ≡ done (outcome_at code insn (visible s.regs s.base) s.control) len s
-  pub step : u ≡ nested_insn insn (value_in (record_now code m s).write) x f (fetched_step (Fetches insn len) code (reply_now code m s) (laid (inputs 0 s) (inside x f)))
-
+-- ---- RFI 5, or another
 -- a step that fetches no instruction is a breach
 other_breaks : (b : Bounds) (live stale : ℕ → Bool) (rec : StepRecord) (g : FrameState) (u : FrameTurn) (x : Nested) → g.nested ≡ Some x → NoneShown (other_tests b live stale rec g u) → ⊥
 other_breaks b live stale rec g u x is (saves, (loads, (woe, (vectors, (vector, (nested, more)))))) = both_ways (is_some g.nested) nested (ap (λ (o : Option Nested). is_some o) is)
 
 module _ (code : ℕ → ℕ) (b : Bounds) (m : MemoryContents) (s : State) (f : FrameState) (suspended : State) (live stale : ℕ → Bool) (x : Nested) (nested : f.nested ≡ Some x) (h : IsInside suspended s f x) (shaped : IsShaped s) (all : length f.unset ≡ 256) (wide : length x.marks ≡ 16) where
   abbrev Next : FrameTurn → Type 0
-  Next u = Ending code b m s f x live stale u ⊎ Inner code b m s f suspended u
+  Next u = Ends code s x ⊎ Inner code b m s f suspended u
 
-  insn_next : (i : Insn) (len : ℕ) → fetched code s.control.pc ≡ Fetches i len → planned code s ≡ fetched_turn (Fetches i len) code s
+  insn_next : (i : Insn) (len : ℕ) → fetched code s.control.pc ≡ Fetches i len
       → let g : FrameState = laid (inputs 0 s) (inside x f) in
       let u : FrameTurn = fetched_step (Fetches i len) code (reply_now code m s) g in
       NoneShown (insn_tests b false live stale i (record_now code m s) g u) → Next (nested_insn i (value_in (record_now code m s).write) x f u)
-  insn_next i len at is none =
+  insn_next i len at none =
       let g : FrameState = laid (inputs 0 s) (inside x f) in
       let u : FrameTurn = fetched_step (Fetches i len) code (reply_now code m s) g in
       let o = sound b false live stale i (record_now code m s) g u none in
       let q = quiet_of b live stale i (record_now code m s) g u x nested o in
       let mode : g.control.ps.excm ≡ true = framed_excm code b m s f suspended live stale x h shaped wide i len in
       let legal : is_illegal i s ≡ false = false_from_ne_true (is_illegal i s) (λ bad. both_ways _ q.kind (illegal_raises code i len (reply_now code m s) s g mode bad)) in
-      let plan : planned code s ≡ done (outcome_at code i (visible s.regs s.base) s.control) len s =
-      is ∙ (cond-false (is_illegal i s) (raises illegal_instruction s) (checked (window_check i s) code i len s) legal ∙ ap (λ k. checked k code i len s) (unchecked i s h.mode)) in
+      let plan = turn_does code s h.mode (quiet_nested s.control h.level) h.running i len at legal in
       ⊎_elim
-      (λ ends. inl (record { insn = i; len = len; at = at; ends = ends; sound = o; quiet = q; plan = plan; step = refl }))
+      (λ ends. inl (record { i = i; len = len; at = at; ends = ends; own = q.own ends }))
       (λ goes_on. ⊎_elim
       (λ moved. inr (marks_moved code b m s f suspended live stale x i len nested h shaped all wide at moved plan o))
       (λ unmoved. inr (unmarked_inner code b m s f suspended live stale x h shaped wide i len (value_in (record_now code m s).write) o nested unmoved goes_on plan))
       (cases_Bool (moves_marks i)))
       (cases_Bool (ends_nested i))
 
-  fetched_next : (at : Fetched) → fetched code s.control.pc ≡ at → planned code s ≡ fetched_turn at code s
+  fetched_next : (at : Fetched) → fetched code s.control.pc ≡ at
       → let g : FrameState = laid (inputs 0 s) (inside x f) in
       let u : FrameTurn = fetched_step at code (reply_now code m s) g in
       NoneShown (fetched_tests b false live stale at (record_now code m s) g u) → Next (nested_fetched at (value_in (record_now code m s).write) x f u)
-  fetched_next (Fails address) at is none = absurd (other_breaks b live stale (record_now code m s) (laid (inputs 0 s) (inside x f)) (fetched_step (Fails address) code (reply_now code m s) (laid (inputs 0 s) (inside x f))) x nested none)
-  fetched_next SpellsNothing at is none = absurd (other_breaks b live stale (record_now code m s) (laid (inputs 0 s) (inside x f)) (fetched_step SpellsNothing code (reply_now code m s) (laid (inputs 0 s) (inside x f))) x nested none)
-  fetched_next (Fetches i len) at is none = insn_next i len at is none
+  fetched_next (Fails address) at none = absurd (other_breaks b live stale (record_now code m s) (laid (inputs 0 s) (inside x f)) (fetched_step (Fails address) code (reply_now code m s) (laid (inputs 0 s) (inside x f))) x nested none)
+  fetched_next SpellsNothing at none = absurd (other_breaks b live stale (record_now code m s) (laid (inputs 0 s) (inside x f)) (fetched_step SpellsNothing code (reply_now code m s) (laid (inputs 0 s) (inside x f))) x nested none)
+  fetched_next (Fetches i len) at none = insn_next i len at none
 
   next_step : breach_of b false code live stale true (record_now code m s) f ≡ None → Next (step_on code true (record_now code m s) f)
   next_step none =
@@ -526,7 +507,7 @@ module _ (code : ℕ → ℕ) (b : Bounds) (m : MemoryContents) (s : State) (f :
       let at : Fetched = fetched code s.control.pc in
       let same : laid (inputs_of rec) (inside x f) ≡ g = same_laid code s reply (inside x f) shaped.control.ps.owb_fits in
       let level : g.control.ps.intlevel ≡ 5 = sym (ap (λ (p : Ps). p.intlevel) h.even.ps) ∙ h.level in
-      let quiet : ltb 0 (pending_of g.control) ≡ false = untaken g.control level in
+      let quiet : ltb 0 (pending_of g.control) ≡ false = quiet_nested g.control level in
       let running : g.control.waits ≡ false = sym h.even.waits ∙ h.running in
       let here : laid_step code rec.reply g ≡ fetched_step at code reply g =
       ap (λ y. laid_step code y g) (record_reply code m s) ∙ (step_fetches code reply g quiet running ∙ ap (λ p. fetched_step (fetched code p) code reply g) (sym h.even.pc)) in
@@ -536,13 +517,12 @@ module _ (code : ℕ → ℕ) (b : Bounds) (m : MemoryContents) (s : State) (f :
       ap (λ p. first_shown (fetched_tests b false live stale (fetched code p) rec g (laid_step code rec.reply g))) h.even.pc ∙ shown in
       let tests : first_shown (fetched_tests b false live stale at rec g (fetched_step at code reply g)) ≡ None =
       sym (ap (λ (v : FrameTurn). first_shown (fetched_tests b false live stale at rec g v)) here) ∙ at_pc in
-      let plan : planned code s ≡ fetched_turn at code s = turn_fetches code s (untaken s.control h.level) h.running in
       let step : step_on code true rec f ≡ nested_fetched at value x f (fetched_step at code reply g) =
       step_inside code true rec f x nested
       ∙ (ap (λ (y : FrameState). nested_fetched (fetched code y.control.pc) value x f (laid_step code rec.reply y)) same
       ∙ (ap (λ p. nested_fetched (fetched code p) value x f (laid_step code rec.reply g)) (sym h.even.pc)
       ∙ ap (λ (v : FrameTurn). nested_fetched at value x f v) here)) in
-      subst Next (sym step) (fetched_next at refl plan (none_shown (fetched_tests b false live stale at rec g (fetched_step at code reply g)) tests))
+      subst Next (sym step) (fetched_next at refl (none_shown (fetched_tests b false live stale at rec g (fetched_step at code reply g)) tests))
 
 -- a step of a nested interrupt that shows no breach is RFI 5, or goes on in it
 pub inner_step :
@@ -551,5 +531,5 @@ pub inner_step :
     → f.nested ≡ Some x → IsInside suspended s f x → IsShaped s → length f.unset ≡ 256 → length x.marks ≡ 16
     → breach_of b false code live stale true (record_now code m s) f ≡ None
     → let u : FrameTurn = step_on code true (record_now code m s) f in
-    Ending code b m s f x live stale u ⊎ Inner code b m s f suspended u
+    Ends code s x ⊎ Inner code b m s f suspended u
 inner_step code bytes b m s f suspended live stale x nested h shaped all wide none = next_step code b m s f suspended live stale x nested h shaped all wide none

@@ -17,7 +17,7 @@ use Rattle.xt_window.specs.Ring.{visible}
 use Rattle.xt_trace.specs.declared.record.StepRecord.{StepRecord}
 use Rattle.xt_trace.specs.declared.record.StepKind.{StepKind}
 use Rattle.xt_trace.specs.declared.record.StepKind.TheVariants as kind
-use Rattle.xt_rows.specs.Numbers.{natural}
+use Rattle.xt_rows.specs.declared.outcome.Outcome.TheVariants.{Does}
 use Rattle.xt_rows.specs.Effects.{illegal_instruction}
 use Rattle.xt_rows.specs.Operands.{special_reads}
 use Rattle.xt_rows.specs.Outcomes.{outcome, system_outcome, outcome_at}
@@ -46,70 +46,20 @@ use Rattle.xt_simulation.specs.Judges.{Matches}
 use Rattle.xt_simulation.specs.Nested.{Suspends}
 use Rattle.xt_simulation.proofs.Memories.{keeps_from}
 use Rattle.xt_simulation.proofs.Judges.{same_laid, record_access}
-use Rattle.xt_simulation.proofs.Resumed.{same_regs}
+use Rattle.xt_simulation.proofs.Resumed.{back, back_at, back_ps, back_state, same_regs}
+use Rattle.xt_simulation.proofs.InnerRows.{quiet_of}
 use Rattle.xt_simulation.proofs.Taken.{asks_nothing, nesting_now, nesting_taken}
 use Rattle.xt_simulation.proofs.Turns.{quiet_nested}
 use Rattle.xt_simulation.proofs.Served.{areas_fetched}
 use Rattle.xt_frames.proofs.StackSteps.{breach_fetches}
 
--- ---- no interrupt is taken inside one
-quiet_inside : (c : Control) → c.ps.intlevel ≡ nested_level → ltb 0 (pending_of c) ≡ false
-quiet_inside c level = ap (ltb 0) (quiet_nested c level)
-
--- ---- what RFI 5 leaves
-record Goes (s : State) (p : Planned) : Type 0 where
-  kind : p.kind ≡ kind.Insn
-  write : (reply : ℕ) → written p.write p.awaited reply ≡ None
-  regs : p.after.regs ≡ s.regs
-  base : p.after.base ≡ s.base
-  start : p.after.start ≡ s.start
-  ps : p.after.control.ps ≡ ps_of (special_of s.control (number.eps nested_level))
-
-rfi_goes : (code : ℕ → ℕ) (i : Insn) (len : ℕ) (s : State) → ends_nested i ≡ true → Goes s (done (outcome_at code i (visible s.regs s.base) s.control) len s)
-unfolding ends_nested outcome system_outcome special_reads after_effect
-rfi_goes code (insn.System (system.Rfi level)) len s e =
-    let five : natural level ≡ nested_level = eqb-true _ _ e in
-    record { kind = refl; write = λ reply. refl; regs = refl; base = refl; start = refl; ps = ap (λ n. ps_of (special_of s.control (number.eps n))) five }
-rfi_goes code _ len s e = absurd cc
-
-rfi_legal : (i : Insn) (s : State) → ends_nested i ≡ true → is_illegal i s ≡ false
-unfolding ends_nested is_illegal
-rfi_legal (insn.System (system.Rfi level)) s e = refl
-rfi_legal _ s e = absurd cc
-
-no_windows : (ps : Ps) → ps.excm ≡ true → has_windows ps ≡ false
-no_windows ps e = rw e (and_right ps.woe false refl)
-
-goes_now : (code : ℕ → ℕ) (s : State) (at : Fetched) → s.control.ps.excm ≡ true → ltb 0 (pending_of s.control) ≡ false → s.control.waits ≡ false → fetched code s.control.pc ≡ at → fetched_returns at ≡ true → Goes s (planned code s)
-goes_now code s (Fetches i len) e quiet running at ends =
-    let unchecked : window_check i s ≡ 0 = cond-false (has_windows s.control.ps) (ahead s.start s.base (looks i s.control.ps)) 0 (no_windows s.control.ps e) in
-    let is : planned code s ≡ done (outcome_at code i (visible s.regs s.base) s.control) len s =
-    turn_fetches code s quiet running
-    ∙ (ap (λ f. fetched_turn f code s) at
-    ∙ (cond-false (is_illegal i s) (raises illegal_instruction s) (checked (window_check i s) code i len s) (rfi_legal i s ends)
-    ∙ ap (λ k. checked k code i len s) unchecked)) in
-    subst (Goes s) (sym is) (rfi_goes code i len s ends)
-goes_now code s (Fails address) e quiet running at ends = absurd cc
-goes_now code s SpellsNothing e quiet running at ends = absurd cc
-
+-- ---- RFI 5
 -- t is the state after it, where `suspended` is that at the beginning of the interrupt
 pub record Back (s t suspended : State) : Type 0 where
   pub regs : t.regs ≡ s.regs
   pub base : t.base ≡ suspended.base
   pub start : t.start ≡ suspended.start
   pub ps : t.control.ps ≡ suspended.control.ps
-
-back_now : (code : ℕ → ℕ) (s suspended : State) (reply : ℕ) → Goes s (planned code s) → s.base ≡ suspended.base → s.start ≡ suspended.start → special_of s.control (number.eps nested_level) ≡ ps_word suspended.control.ps → IsPs suspended.control.ps → Back s (turn code s reply).1 suspended
-unfolding turn
-back_now code s suspended reply g base start eps is =
-    let p = planned code s in
-    let none : with_write (written p.write p.awaited reply) p.after ≡ p.after = ap (λ (o : _). with_write o p.after) (g.write reply) in
-    record {
-      regs = ap (λ (t : State). t.regs) none ∙ g.regs;
-      base = ap (λ (t : State). t.base) none ∙ (g.base ∙ base);
-      start = ap (λ (t : State). t.start) none ∙ (g.start ∙ start);
-      ps = ap (λ (t : State). t.control.ps) none ∙ (g.ps ∙ (ap ps_of eps ∙ of_word_of_fields suspended.control.ps is));
-    }
 
 -- ---- the record that begins one
 module _ (code : ℕ → ℕ) (m : MemoryContents) (s : State) (f : FrameState) (nesting : is_nesting (planned code s).kind ≡ true) (none : f.nested ≡ None) where
@@ -146,22 +96,12 @@ not_written (kind.Interrupt level) at ps e w = ap (λ b. (eqb level 1) && not b)
 not_written kind.Insn at ps e w = w
 not_written _ at ps e w = refl
 
-sets_none : (b : Bounds) (fresh : Bool) (live stale : ℕ → Bool) (at : Fetched) (rec : StepRecord) (g : FrameState) (u : FrameTurn) (x : Nested) → g.nested ≡ Some x → NoneShown (fetched_tests b fresh live stale at rec g u) → fetched_sets_epc1 at ≡ false
-sets_none b fresh live stale (Fetches i len) rec g u x e t =
-    let lost = ap (λ (o : Option Nested). loses_epc1 o fresh i) (sym e) ∙ (sound b fresh live stale i rec g u t).lost in
-    (or_parts (reads_epc1 false i) (sets_epc1 i) lost).1
-sets_none b fresh live stale (Fails address) rec g u x e t = refl
-sets_none b fresh live stale SpellsNothing rec g u x e t = refl
-
--- RFI 5 finds a0 to a3 as the window handler had them
-own_at : (b : Bounds) (fresh : Bool) (live stale : ℕ → Bool) (at : Fetched) (rec : StepRecord) (g : FrameState) (u : FrameTurn) (x : Nested) → g.nested ≡ Some x → NoneShown (fetched_tests b fresh live stale at rec g u) → fetched_returns at ≡ true → are_own_marks x.marks ≡ true
-own_at b fresh live stale (Fetches i len) rec g u x e t ends =
-    let broken = ap (λ (o : Option Nested). breaks_nested o i u) (sym e) ∙ (sound b fresh live stale i rec g u t).nested in
-    let marks = (or_parts (disturbs_nested i) (ends_nested i && not (are_own_marks x.marks)) (or_parts (is_exception u.kind) _ broken).1).1 in
-    let own : not (are_own_marks x.marks) ≡ false = ap (λ z. z && not (are_own_marks x.marks)) (sym ends) ∙ marks in
-    not-false _ own
-own_at b fresh live stale (Fails address) rec g u x e t ends = absurd cc
-own_at b fresh live stale SpellsNothing rec g u x e t ends = absurd cc
+-- it writes no EPC1, and RFI 5 finds a0 to a3 as the window handler had them
+fetched_quiet : (b : Bounds) (live stale : ℕ → Bool) (at : Fetched) (rec : StepRecord) (g : FrameState) (u : FrameTurn) (x : Nested) → g.nested ≡ Some x → NoneShown (fetched_tests b false live stale at rec g u)
+    → (fetched_sets_epc1 at ≡ false) × (fetched_returns at ≡ true → are_own_marks x.marks ≡ true)
+fetched_quiet b live stale (Fetches i len) rec g u x e t = let q = quiet_of b live stale i rec g u x e (sound b false live stale i rec g u t) in (q.epc1, q.own)
+fetched_quiet b live stale (Fails address) rec g u x e t = (refl, λ ends. absurd (false≢true ends))
+fetched_quiet b live stale SpellsNothing rec g u x e t = (refl, λ ends. absurd (false≢true ends))
 
 module _ {code : ℕ → ℕ} {b : Bounds} {m : MemoryContents} {s : State} {f : FrameState} {before : State} {opened : ℕ → ℕ} {suspended : State} (h : Suspends code b m s f before opened suspended) (shaped : IsShaped s) (live stale : ℕ → Bool)
     (none : breach_of b false code live stale true (record_now code m s) f ≡ None) where
@@ -181,13 +121,16 @@ module _ {code : ℕ → ℕ} {b : Bounds} {m : MemoryContents} {s : State} {f :
   excm_g = ap (λ (p : Ps). p.excm) (sym h.inside.even.ps) ∙ h.inside.mode
 
   quiet_g : ltb 0 (pending_of g.control) ≡ false
-  quiet_g = quiet_inside g.control (ap (λ (p : Ps). p.intlevel) (sym h.inside.even.ps) ∙ h.inside.level)
+  quiet_g = quiet_nested g.control (ap (λ (p : Ps). p.intlevel) (sym h.inside.even.ps) ∙ h.inside.level)
 
   waits_g : g.control.waits ≡ false
   waits_g = sym h.inside.even.waits ∙ h.inside.running
 
   tests : NoneShown (fetched_tests b false live stale (fetched code g.control.pc) rec g (laid_step code rec.reply g))
   tests = none_shown (fetched_tests b false live stale (fetched code g.control.pc) rec g (laid_step code rec.reply g)) (sym (breach_fetches b false code live stale rec g quiet_g waits_g) ∙ none_g)
+
+  quiet : (fetched_sets_epc1 (fetched code g.control.pc) ≡ false) × (fetched_returns (fetched code g.control.pc) ≡ true → are_own_marks h.x.marks ≡ true)
+  quiet = fetched_quiet b live stale (fetched code g.control.pc) rec g (laid_step code rec.reply g) h.x h.nested tests
 
   pub nested_areas : KeepsAreas live stale (demand code s)
   nested_areas =
@@ -198,13 +141,12 @@ module _ {code : ℕ → ℕ} {b : Bounds} {m : MemoryContents} {s : State} {f :
   pub nested_fresh : fresh_on false code true rec f ≡ false
   nested_fresh =
       let y = laid (inputs_of rec) (inside h.x f) in
-      let none_sets : fetched_sets_epc1 (fetched code y.control.pc) ≡ false = sets_none b false live stale (fetched code g.control.pc) rec g (laid_step code rec.reply g) h.x h.nested tests in
       let excm_y : y.control.ps.excm ≡ true = ap (λ (z : FrameState). z.control.ps.excm) same_g ∙ excm_g in
-      fresh_inside false code true rec f h.x h.nested ∙ or_from _ _ (not_written (laid_step code rec.reply y).kind (fetched code y.control.pc) y.control.ps excm_y none_sets) refl
+      fresh_inside false code true rec f h.x h.nested ∙ or_from _ _ (not_written (laid_step code rec.reply y).kind (fetched code y.control.pc) y.control.ps excm_y quiet.0) refl
 
   -- ---- whether it ends the interrupt
-  here : fetched_returns (fetched code s.control.pc) ≡ true → Goes s (planned code s)
-  here ends = goes_now code s (fetched code s.control.pc) h.inside.mode (quiet_inside s.control h.inside.level) h.inside.running refl ends
+  here : fetched_returns (fetched code s.control.pc) ≡ true → (len : ℕ) × (planned code s ≡ done (Does (back s.control)) len s)
+  here ends = back_at code s h.inside.mode h.inside.level h.inside.running (fetched code s.control.pc) refl ends
 
   pc_same : s.control.pc ≡ h.x.pc
   pc_same = h.inside.even.pc
@@ -218,26 +160,26 @@ module _ {code : ℕ → ℕ} {b : Bounds} {m : MemoryContents} {s : State} {f :
       ap (λ (u : FrameTurn). u.after.nested) after_is ∙ ended_fetched (fetched code h.x.pc) (value_in rec.write) h.x f (laid_step code rec.reply (laid (inputs_of rec) (inside h.x f))) at
 
   stays_at : returns code (planned code s).kind s.control.pc ≡ false → fetched_returns (fetched code s.control.pc) ≡ true → ⊥
-  stays_at e at = false≢true (sym e ∙ (ap (λ k. returns code k s.control.pc) (here at).kind ∙ at))
+  stays_at e at = false≢true (sym e ∙ (ap (λ k. returns code k s.control.pc) (ap (λ (p : Planned). p.kind) (here at).1) ∙ at))
 
   pub nested_goes_on : returns code (planned code s).kind s.control.pc ≡ false → (step_on code true rec f).after.nested ≡ None → ⊥
   nested_goes_on e n =
       let away : fetched_returns (fetched code h.x.pc) ≡ false = false_from_ne_true (fetched_returns (fetched code h.x.pc)) (λ t. stays_at e (subst (λ pc. fetched_returns (fetched code pc) ≡ true) (sym pc_same) t)) in
       open_fetched (fetched code h.x.pc) (value_in rec.write) h.x f (laid_step code rec.reply (laid (inputs_of rec) (inside h.x f))) away (sym (ap (λ (u : FrameTurn). u.after.nested) after_is) ∙ n)
 
-  ps_shaped : IsPs suspended.control.ps
-  ps_shaped =
-      let p = h.handling.shaped.control.ps in
-      let is = h.handling.control.ps in
-      let fits : IsPs (record before.control.ps { owb = before.base; excm = true }) = record { intlevel_fits = p.intlevel_fits; ring_fits = p.ring_fits; owb_fits = h.handling.shaped.base; callinc_fits = p.callinc_fits } in
-      subst IsPs (sym is) fits
-
   pub nested_back : returns code (planned code s).kind s.control.pc ≡ true → Back s (state_now code m s) suspended
-  nested_back e = back_now code s suspended (reply_now code m s) (here (returns_fetched code (planned code s).kind s.control.pc e)) h.inside.base h.inside.start h.inside.eps ps_shaped
+  nested_back e =
+      let plan = here (returns_fetched code (planned code s).kind s.control.pc e) in
+      let state = back_state code s (reply_now code m s) plan.0 plan.1 in
+      record {
+        regs = ap (λ (t : State). t.regs) state;
+        base = ap (λ (t : State). t.base) state ∙ h.inside.base;
+        start = ap (λ (t : State). t.start) state ∙ h.inside.start;
+        ps = ap (λ (t : State). t.control.ps) state ∙ back_ps h.inside h.handling;
+      }
 
   pub nested_seen : returns code (planned code s).kind s.control.pc ≡ true → (i : ℕ) → visible (state_now code m s).regs (state_now code m s).base i ≡ visible suspended.regs suspended.base i
   nested_seen e i =
       let back = nested_back e in
       let at : fetched_returns (fetched code g.control.pc) ≡ true = subst (λ pc. fetched_returns (fetched code pc) ≡ true) pc_same (returns_fetched code (planned code s).kind s.control.pc e) in
-      let own = own_at b false live stale (fetched code g.control.pc) rec g (laid_step code rec.reply g) h.x h.nested tests at in
-      ap (λ r. visible r (state_now code m s).base i) (back.regs ∙ same_regs h.inside own) ∙ ap (λ x. visible suspended.regs x i) back.base
+      ap (λ r. visible r (state_now code m s).base i) (back.regs ∙ same_regs h.inside (quiet.1 at)) ∙ ap (λ x. visible suspended.regs x i) back.base

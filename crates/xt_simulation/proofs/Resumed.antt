@@ -28,16 +28,17 @@ use Rattle.xt_rows.specs.Operands.{reads, special_reads}
 use Rattle.xt_rows.specs.Outcomes.{outcome, system_outcome, outcome_at}
 use Rattle.xt_rows.specs.Settling.{after_effect}
 use Rattle.xt_fetch.specs.Code.{AreBytes}
-use Rattle.xt_fetch.specs.Fetching.{Fetched, Fetches, fetched}
+use Rattle.xt_fetch.specs.Fetching.{Fetched, Fetches, Fails, SpellsNothing, fetched}
 use Rattle.xt_exec.specs.State.{State}
 use Rattle.xt_exec.specs.Laws.{IsShaped}
-use Rattle.xt_exec.specs.Turn.{Planned, planned, demand, turn, done, with_write, written}
+use Rattle.xt_exec.specs.Turn.{Planned, planned, demand, turn, done, is_illegal, with_write, written}
 use Rattle.xt_exec.proofs.Shapes.{turn_shaped}
 use Rattle.xt_frames.specs.declared.holes.Nested.{Nested}
 use Rattle.xt_frames.specs.Frames.{FrameState, known}
 use Rattle.xt_frames.specs.FrameStep.{FrameTurn, done_in_frame, fetched_step, laid, laid_step}
 use Rattle.xt_frames.specs.Marks.{are_own_marks, is_mark}
-use Rattle.xt_frames.specs.Nesting.{ends_nested, inside, keeping, nested_fetched, nested_insn}
+use Rattle.xt_frames.specs.Nesting.{ends_nested, nested_level, inside, keeping, nested_fetched, nested_insn}
+use Rattle.xt_frames.specs.HandlerSteps.{fetched_returns}
 use Rattle.xt_frames.specs.Breaches.{Bounds, inputs_of}
 use Rattle.xt_frames.specs.Judging.{step_on, value_in}
 use Rattle.xt_frames.proofs.Inside.{step_inside}
@@ -49,25 +50,17 @@ use Rattle.xt_simulation.specs.Handling.{Handling}
 use Rattle.xt_simulation.specs.Nested.{IsInside, resumed}
 use Rattle.xt_simulation.proofs.Evenly.{same_ticked}
 use Rattle.xt_simulation.proofs.Carried.{Carries, carried}
+use Rattle.xt_simulation.proofs.Inner.{Ends}
 use Rattle.xt_simulation.proofs.Judges.{same_laid}
 use Rattle.xt_simulation.proofs.Laid.{laid_after, laid_other}
-use Rattle.xt_simulation.proofs.Turns.{quiet_nested}
+use Rattle.xt_simulation.proofs.Turns.{quiet_nested, turn_does}
 use Rattle.xt_simulation.proofs.Taken.{beside}
 
 -- ---- the instruction
--- It is fetched, its row follows, and a0 to a3 are as the window handler had them.
-pub record Ends (code : ℕ → ℕ) (s : State) (x : Nested) : Type 0 where
-  pub i : Insn
-  pub len : ℕ
-  pub at : fetched code s.control.pc ≡ Fetches i len
-  pub ends : ends_nested i ≡ true
-  pub own : are_own_marks x.marks ≡ true
-  pub is : planned code s ≡ done (outcome_at code i (visible s.regs s.base) s.control) len s
-
-abbrev back : Control → Effect
+abbrev pub back : Control → Effect
 back c = record (unchanged c.ps c.threadptr) { ps = ps_of (special_of c 197); flow = Goes (special_of c 181) }
 
-abbrev back_control : Control → Control
+abbrev pub back_control : Control → Control
 back_control c = record c { pc = special_of c 181; ps = ps_of (special_of c 197); waits = false }
 
 back_outcome : (code : ℕ → ℕ) (i : Insn) (registers : ℕ → ℕ) (c : Control) → ends_nested i ≡ true → outcome_at code i registers c ≡ Does (back c)
@@ -76,9 +69,25 @@ back_outcome code (insn.System (system.Rfi level)) registers c e =
     ap (λ n. Does (record (unchanged c.ps c.threadptr) { ps = ps_of (special_of c (number.eps n)); flow = Goes (special_of c (number.epc n)) })) (eqb-true (natural level) 5 e)
 back_outcome code _ registers c e = absurd cc
 
+rfi_legal : (i : Insn) (s : State) → ends_nested i ≡ true → is_illegal i s ≡ false
+unfolding ends_nested is_illegal
+rfi_legal (insn.System (system.Rfi level)) s e = refl
+rfi_legal _ s e = absurd cc
+
 -- ---- the processor's turn
+module _ (code : ℕ → ℕ) (s : State) (low : s.control.ps.excm ≡ true) (level : s.control.ps.intlevel ≡ nested_level) (running : s.control.waits ≡ false) where
+  back_plan : (i : Insn) (len : ℕ) → fetched code s.control.pc ≡ Fetches i len → ends_nested i ≡ true → planned code s ≡ done (Does (back s.control)) len s
+  back_plan i len at ends =
+      turn_does code s low (quiet_nested s.control level) running i len at (rfi_legal i s ends)
+      ∙ ap (λ (o : Outcome). done o len s) (back_outcome code i (visible s.regs s.base) s.control ends)
+
+  pub back_at : (at : Fetched) → fetched code s.control.pc ≡ at → fetched_returns at ≡ true → (len : ℕ) × (planned code s ≡ done (Does (back s.control)) len s)
+  back_at (Fetches i len) at ends = (len, back_plan i len at ends)
+  back_at (Fails address) at ends = absurd cc
+  back_at SpellsNothing at ends = absurd cc
+
 module _ (code : ℕ → ℕ) (s : State) (reply : ℕ) (len : ℕ) (is : planned code s ≡ done (Does (back s.control)) len s) where
-  back_state : (turn code s reply).1 ≡ record s { control = ticked (back_control s.control) }
+  pub back_state : (turn code s reply).1 ≡ record s { control = ticked (back_control s.control) }
   unfolding turn after_effect
   back_state = ap (λ (p : Planned). with_write (written p.write p.awaited reply) p.after) is
 
@@ -172,6 +181,9 @@ handler_ps {before = before} h =
     let fits : IsPs (record before.control.ps { owb = before.base; excm = true }) = record { intlevel_fits = p.intlevel_fits; ring_fits = p.ring_fits; owb_fits = h.shaped.base; callinc_fits = p.callinc_fits } in
     subst IsPs (sym h.control.ps) fits
 
+pub back_ps : {code : ℕ → ℕ} {b : Bounds} {m : MemoryContents} {s : State} {f : FrameState} {before : State} {opened : ℕ → ℕ} {suspended : State} {x : Nested} → IsInside suspended s f x → Handling code b m (resumed suspended s) f before opened → ps_of (special_of s.control 197) ≡ suspended.control.ps
+back_ps {suspended = suspended} h handling = ap ps_of h.eps ∙ of_word_of_fields suspended.control.ps (handler_ps handling)
+
 module _ {code : ℕ → ℕ} {b : Bounds} {m : MemoryContents} {s : State} {f : FrameState} {before : State} {opened : ℕ → ℕ} {suspended : State} {x : Nested} (nested : f.nested ≡ Some x) (h : IsInside suspended s f x) (handling : Handling code b m (resumed suspended s) f before opened) (shaped : IsShaped s) (e : Ends code s x) where
   abbrev g : FrameState
   g = laid (inputs 0 s) (inside x f)
@@ -180,10 +192,10 @@ module _ {code : ℕ → ℕ} {b : Bounds} {m : MemoryContents} {s : State} {f :
   returned = record s { control = ticked (back_control s.control) }
 
   plan : planned code s ≡ done (Does (back s.control)) e.len s
-  plan = e.is ∙ ap (λ (o : Outcome). done o e.len s) (back_outcome code e.i (visible s.regs s.base) s.control e.ends)
+  plan = back_plan code s h.mode h.level h.running e.i e.len e.at e.ends
 
   quiet_g : ltb 0 (pending_of g.control) ≡ false
-  quiet_g = ap (ltb 0) (quiet_nested g.control (ap (λ (p : Ps). p.intlevel) (sym h.even.ps) ∙ h.level))
+  quiet_g = quiet_nested g.control (ap (λ (p : Ps). p.intlevel) (sym h.even.ps) ∙ h.level)
 
   pub ends_step : step_on code true (record_now code m s) f ≡ back_turn f g
   ends_step = back_step code (record_now code m s) e.i e.len f x g nested (same_laid code s (reply_now code m s) (inside x f) shaped.control.ps.owb_fits) e.ends quiet_g (sym h.even.waits ∙ h.running) (ap (fetched code) (sym h.even.pc) ∙ e.at)
@@ -196,7 +208,7 @@ module _ {code : ℕ → ℕ} {b : Bounds} {m : MemoryContents} {s : State} {f :
         base = refl;
         start = refl;
         pc = h.epc;
-        ps = ap ps_of h.eps ∙ of_word_of_fields suspended.control.ps (handler_ps handling);
+        ps = back_ps h handling;
         epc1 = ticked_other s.control.special 177 (λ z. omega arith) (λ z. omega arith);
         running = refl;
         special = laid_after (same_ticked s.control.special g.control.special h.even.special);

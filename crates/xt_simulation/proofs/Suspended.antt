@@ -31,12 +31,12 @@ use Rattle.xt_simulation.specs.Nested.{Continues, NestedAreSpared, NestedBegin, 
 use Rattle.xt_simulation.proofs.Memories.{live_kept, replies_agree}
 use Rattle.xt_simulation.proofs.Judges.{record_access, record_reply}
 use Rattle.xt_simulation.proofs.Handled.{handlers_are_spared}
-use Rattle.xt_simulation.proofs.Inner.{Inner}
-use Rattle.xt_simulation.proofs.InnerRows.{Ending, inner_step}
+use Rattle.xt_simulation.proofs.Inner.{Ends, Inner}
+use Rattle.xt_simulation.proofs.InnerRows.{inner_step}
 use Rattle.xt_simulation.proofs.NestedSteps.{nested_areas}
 use Rattle.xt_simulation.proofs.Carried.{Carries, carried, live_same}
 use Rattle.xt_simulation.proofs.Taken.{taken_begin}
-use Rattle.xt_simulation.proofs.Resumed.{Ends, ends_access, ends_frames, ends_handling, ends_kind, ends_nothing, ends_seen, ends_write}
+use Rattle.xt_simulation.proofs.Resumed.{ends_access, ends_frames, ends_handling, ends_kind, ends_nothing, ends_seen, ends_write}
 
 -- ---- an access of the other core
 pub nested_are_spared : NestedAreSpared
@@ -65,13 +65,6 @@ control_now : (code : ℕ → ℕ) (m : MemoryContents) (s : State) → AreBytes
 control_now code m s bytes shaped =
     let same : (turn code s 0).1.control ≡ (state_now code m s).control = turn_control code s 0 ∙ sym (turn_control code s (reply_now code m s)) in
     subst (λ (c : Control). IsShapedControl c) same (turn_shaped code s 0 bytes shaped (omega arith)).control
-
--- the tests of RFI 5 look at the marks
-own_left : {b : Bounds} {live stale : ℕ → Bool} {i : Insn} {rec : StepRecord} {g : FrameState} {u : FrameTurn} (x : Nested) → g.nested ≡ Some x → ends_nested i ≡ true → Sound b false live stale i rec g u → are_own_marks x.marks ≡ true
-own_left {i = i} {u = u} x nested ends o =
-    let breaks : breaks_nested (Some x) i u ≡ false = subst (λ (n : Option Nested). breaks_nested n i u ≡ false) nested o.nested in
-    let marks = (or_parts (disturbs_nested i) (ends_nested i && not (are_own_marks x.marks)) (or_parts (is_exception u.kind) _ breaks).1).1 in
-    not-false (are_own_marks x.marks) (ap (λ e. e && not (are_own_marks x.marks)) (sym ends) ∙ marks)
 
 module _ (code : ℕ → ℕ) (bytes : AreBytes code) (b : Bounds) (good : IsGood code b) (m framed : MemoryContents) (s : State) (f : FrameState) (before : State) (opened : ℕ → ℕ) (suspended : State) (others stale : ℕ → Bool)
     (h : Suspends code b m s f before opened suspended) (shaped : IsShaped s) (agree : Agree (live_of b f others) stale m framed)
@@ -108,16 +101,6 @@ module _ (code : ℕ → ℕ) (bytes : AreBytes code) (b : Bounds) (good : IsGoo
   Kept = Matches h.x.pc (record_now code m s) u framed × Continues code b (memory_now code m s) now u.after (as_left before now) opened suspended
 
   -- ---- RFI 5
-  ends_of : Ending code b m s f h.x (live_of b f others) stale u → Ends code s h.x
-  ends_of e = record {
-    i = e.insn;
-    len = e.len;
-    at = e.at;
-    ends = e.ends;
-    own = own_left h.x h.nested e.ends e.sound;
-    is = e.plan;
-  }
-
   kept_ending : Ends code s h.x → Kept
   kept_ending e =
       let back = ends_handling h.nested h.inside h.handling shaped e bytes in (
@@ -159,7 +142,7 @@ module _ (code : ℕ → ℕ) (bytes : AreBytes code) (b : Bounds) (good : IsGoo
 
   kept : length f.unset ≡ 256 → length h.x.marks ≡ 16 → Kept
   kept count spread = ⊎_elim
-      (λ e. kept_ending (ends_of e))
+      (λ e. kept_ending e)
       (λ i. kept_inner i)
       (inner_step code bytes b m s f suspended (live_of b f others) stale h.x h.nested h.inside shaped count spread none)
 

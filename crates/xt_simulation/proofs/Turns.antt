@@ -2,6 +2,7 @@
 use Rattle.std.proofs.Common.{◌≡◌, ℕ, ◌+◌, ◌*◌, ◌%◌, ◌^◌, ◌<◌, ◌≤◌, ◌⊎◌, inl, inr, ⊎_elim, ℤ, pos, negsuc, Bool, true, false, ◌&&◌, cond, eqb, ltb, refl, sym, ◌∙◌, ap, arith, Some, None, subst}
 use Rattle.std.specs.Prelude.{unsigned_abs, max}
 use Rattle.std.proofs.Math.ListN.{set}
+use Rattle.std.proofs.lemmas.Option.{cond_some}
 use Rattle.std.proofs.lemmas.Bool.{both_ways, cond-false, cond_both, and_parts, and_right, eq-eqb, eqb-true, false_from_ne_true, le-ltb, lt-ltb, ltb-true, true≢false}
 use Rattle.xt_isa.specs.declared.Insn.{Insn}
 use Rattle.xt_isa.specs.declared.Insn.TheVariants as insn
@@ -87,13 +88,13 @@ five_or_none interrupt enabled ps e =
     let one : ltb (max ps.intlevel 3) 1 ≡ false = le-ltb (max ps.intlevel 3) 1 (omega arith) in
     rw (e, three, one) (first_of _ _ _)
 
-pub quiet_level : (code : ℕ → ℕ) (s : State) → s.control.ps.excm ≡ true → is_nesting (planned code s).kind ≡ false → pending_of s.control ≡ 0
+pub quiet_level : (code : ℕ → ℕ) (s : State) → s.control.ps.excm ≡ true → is_nesting (planned code s).kind ≡ false → ltb 0 (pending_of s.control) ≡ false
 quiet_level code s e h = ⊎_elim
     (λ five.
     let taken = turn_taken code s (lt-ltb 0 (pending_of s.control) (omega (arith, five))) in
     let is : is_nesting (planned code s).kind ≡ eqb (pending_of s.control) 5 = ap (λ (p : Planned). is_nesting p.kind) taken in
     absurd (both_ways _ h (is ∙ eq-eqb (pending_of s.control) 5 five)))
-    (λ none. none)
+    (λ none. ap (ltb 0) none)
     (five_or_none (special_of s.control number.interrupt) (special_of s.control number.intenable) s.control.ps e)
 
 -- an interrupt of level 1 is taken outside exception mode
@@ -119,10 +120,10 @@ none_above interrupt enabled ps high =
     let one : ltb (current_level ps) 1 ≡ false = le-ltb (current_level ps) 1 (omega arith) in
     rw (five, three, one) (all_masked _ _ _)
 
-pub quiet_nested : (c : Control) → c.ps.intlevel ≡ nested_level → pending_of c ≡ 0
+pub quiet_nested : (c : Control) → c.ps.intlevel ≡ nested_level → ltb 0 (pending_of c) ≡ false
 quiet_nested c is =
-    none_above (special_of c number.interrupt) (special_of c number.intenable) c.ps
-    (cond_both c.ps.excm (max c.ps.intlevel 3) c.ps.intlevel (λ n. 5 ≤ n) (λ e. omega (arith, is)) (λ e. omega (arith, is)))
+    ap (ltb 0) (none_above (special_of c number.interrupt) (special_of c number.intenable) c.ps
+    (cond_both c.ps.excm (max c.ps.intlevel 3) c.ps.intlevel (λ n. 5 ≤ n) (λ e. omega (arith, is)) (λ e. omega (arith, is))))
 
 no_windows : (ps : Ps) → ps.excm ≡ true → has_windows ps ≡ false
 no_windows ps e = rw e (and_right ps.woe false refl)
@@ -145,7 +146,7 @@ calm_effect c len e w = falls_on (record c { waits = false }) len e ∙ rw w ref
 
 -- ---- the turn, where no interrupt is taken
 module _ (code : ℕ → ℕ) (s : State) (low : s.control.ps.excm ≡ true) (untaken : ltb 0 (pending_of s.control) ≡ false) (running : s.control.waits ≡ false) where
-  turn_does : (i : Insn) (len : ℕ) → fetched code s.control.pc ≡ Fetches i len → is_illegal i s ≡ false → planned code s ≡ done (outcome_at code i (visible s.regs s.base) s.control) len s
+  pub turn_does : (i : Insn) (len : ℕ) → fetched code s.control.pc ≡ Fetches i len → is_illegal i s ≡ false → planned code s ≡ done (outcome_at code i (visible s.regs s.base) s.control) len s
   turn_does i len at legal =
       turn_fetches code s untaken running
       ∙ (ap (λ f. fetched_turn f code s) at
@@ -183,10 +184,6 @@ pub record Turned (code : ℕ → ℕ) (m : MemoryContents) (s : State) (len : �
   pub kind : (planned code s).kind ≡ kind.Insn
   pub after : state_now code m s ≡ record { regs = next.ring; base = s.base; start = s.start; control = ticked (record s.control { pc = (s.control.pc + len) % 2 ^ 32 }) }
   pub bytes : (a : ℕ) → byte_at (memory_now code m s) a ≡ next.bytes a
-
-some_next : (b : Bool) (x y : Machine) → b ≡ true → cond b (Some x) None ≡ Some y → x ≡ y
-some_next true x y h e = cc
-some_next false x y h e = absurd (true≢false (sym h))
 
 module _ (code : ℕ → ℕ) (m : MemoryContents) (s : State) (low : s.control.ps.excm ≡ true) (untaken : ltb 0 (pending_of s.control) ≡ false) (running : s.control.waits ≡ false) (len : ℕ) where
   load_outcome : (t r : ℕ) (offset : ℤ) → in_range (insn.Memory (memory.L32e window.L32e t r offset)) ≡ true → is_access (address (visible s.regs s.base r) (unsigned_abs offset)) ≡ true
@@ -246,7 +243,7 @@ module _ (code : ℕ → ℕ) (m : MemoryContents) (s : State) (low : s.control.
       let o : Outcome = Asks (record { addr = a; size = 4; kind = Load }) (Some (record { number = t; signed = false })) (unchanged s.control.ps s.control.threadptr) in
       let p = turn_settles code s low untaken running (insn.Memory (memory.L32e window.L32e t r offset)) len o at (load_legal t r offset window.L32e) (load_outcome t r offset range may) in
       let to : Machine = record { ring = set s.regs (place s.base t) (word_at (byte_at m) a); base = s.base; bytes = byte_at m } in
-      let n : to ≡ next = some_next (is_access a) to next may is in
+      let n : to ≡ next = (cond_some (is_access a) to next is).1 in
       let v = word_replied m a may in
       subst (Turned code m s len) n (from_plan (done o len s) to p refl (rw (v, calm) refl) (λ x. ap (λ n. byte_at n x) (load_keeps m a 4)))
 
@@ -258,7 +255,7 @@ module _ (code : ℕ → ℕ) (m : MemoryContents) (s : State) (low : s.control.
       let o : Outcome = Asks (record { addr = a; size = 4; kind = Store (v % 2 ^ (8 * 4)) }) None (unchanged s.control.ps s.control.threadptr) in
       let p = turn_settles code s low untaken running (insn.Memory (memory.L32e window.S32e t r offset)) len o at (load_legal t r offset window.S32e) (store_outcome t r offset range may) in
       let to : Machine = record { ring = s.regs; base = s.base; bytes = with_word (byte_at m) a v } in
-      let n : to ≡ next = some_next (is_access a) to next may is in
+      let n : to ≡ next = (cond_some (is_access a) to next is).1 in
       subst (Turned code m s len) n (from_plan (done o len s) to p refl (rw calm refl) (λ x. word_stored m a v x sizes may small))
 
   nop_turn : (i : Insn) (next : Machine) → fetched code s.control.pc ≡ Fetches i len → is_illegal i s ≡ false → outcome_at code i (visible s.regs s.base) s.control ≡ Does (unchanged s.control.ps s.control.threadptr)
