@@ -19,7 +19,14 @@ use Rattle.xt_frames.specs.Breaches.{lost_of}
 use Rattle.xt_simulation.specs.Relation.{Same, Even, can_be_lost}
 
 -- ---- lists
-set_even : (xs ys : List ℕ) (k v j : ℕ) → length xs ≡ length ys → (j ≢ k → get_or xs j 0 ≡ get_or ys j 0) → get_or (set xs k v) j 0 ≡ get_or (set ys k v) j 0
+-- an entry that was cleared
+pub cleared : {X : Type 0} (xs : List X) (n : ℕ) (d : X) → get_or (set xs n d) n d ≡ d
+cleared xs n d = ⊎_elim
+    (λ within. get_or-set_same xs n d d within)
+    (λ past. get_or_past (set xs n d) n d (let l = length-set xs n d in omega arith))
+    (cases_lt n (length xs))
+
+pub set_even : (xs ys : List ℕ) (k v j : ℕ) → length xs ≡ length ys → (j ≢ k → get_or xs j 0 ≡ get_or ys j 0) → get_or (set xs k v) j 0 ≡ get_or (set ys k v) j 0
 set_even xs ys k v j len rest =
     ⊎_elim
     (λ same. ⊎_elim
@@ -111,13 +118,16 @@ even_flow {lost = lost} Falls len c d e =
     (record { pc = s0; ps = e.ps; threadptr = e.threadptr; waits = e.waits; special = rw t (same_set e.special 2 (get_or d.special 2 0 - 1)) })
     (record { pc = n; ps = e.ps; threadptr = e.threadptr; waits = e.waits; special = e.special })
 
-pub even_effect : {lost : ℕ → Bool} (e : Effect) (len : ℕ) (c d : Control) → Even lost c d → Even lost (after_effect e len c) (after_effect e len d)
+pub effect_even : {lost : ℕ → Bool} (e : Effect) (len : ℕ) (c d : Control) → c.pc ≡ d.pc → Same lost (with_sets e.sets c.special) (with_sets e.sets d.special) → Even lost (after_effect e len c) (after_effect e len d)
 unfolding after_effect
-even_effect e len c d h =
+effect_even e len c d pc special =
     even_flow e.flow len
     (record { pc = c.pc; special = with_sets e.sets c.special; ps = e.ps; threadptr = e.threadptr; waits = e.waits })
     (record { pc = d.pc; special = with_sets e.sets d.special; ps = e.ps; threadptr = e.threadptr; waits = e.waits })
-    (record { pc = h.pc; ps = refl; threadptr = refl; waits = refl; special = same_sets e.sets h.special })
+    (record { pc = pc; ps = refl; threadptr = refl; waits = refl; special = special })
+
+pub even_effect : {lost : ℕ → Bool} (e : Effect) (len : ℕ) (c d : Control) → Even lost c d → Even lost (after_effect e len c) (after_effect e len d)
+even_effect e len c d h = effect_even e len c d h.pc (same_sets e.sets h.special)
 
 -- ---- the tick
 same_if : {lost : ℕ → Bool} (p q : Bool) (a b c d : List ℕ) → p ≡ q → Same lost a c → Same lost b d → Same lost (cond p a b) (cond q c d)
@@ -278,16 +288,10 @@ even_after fresh written kept old new c d e w n = record {
 }
 
 -- ---- the numbers that an interrupt gives
-set_false : (xs : List Bool) (n : ℕ) → get_or (set xs n false) n false ≡ false
-set_false xs n = ⊎_elim
-    (λ within. get_or-set_same xs n false false within)
-    (λ past. get_or_past (set xs n false) n false (let l = length-set xs n false in omega arith))
-    (cases_lt n (length xs))
-
 -- one register is set, in both machines
 pub numbers_set : (old mid : List Bool) (n : ℕ) (c d : Control) → get_or c.special n 0 ≡ get_or d.special n 0 → Numbers old mid c d → Numbers old (set mid n false) c d
 numbers_set old mid n c d given rest k = ⊎_elim
-    (λ same. inr (rw same (set_false mid n), rw same given))
+    (λ same. inr (rw same (cleared mid n false), rw same given))
     (λ other.
     let q : get_or (set mid n false) k false ≡ get_or mid k false = get_or-set_other mid n k false false other in
     ⊎_elim (λ r. inl (q ∙ r)) (λ r. inr (q ∙ r.0, r.1)) (rest k))

@@ -66,6 +66,7 @@ use Rattle.xt_simulation.specs.Handling.{machine, InDram, Somewhere, Begins, Han
 use Rattle.xt_simulation.specs.HandlerLaws.{StretchesAreEntered, HandlerStepsAreKept, HandlersAreSpared}
 use Rattle.xt_fetch.specs.Code.{AreBytes}
 use Rattle.xt_simulation.proofs.Fetched.{byte_is as fetched_byte, bytes_length, byte_small, fetched_is, step_is, vector_fetches, vector_handles, fetch_small, length_is}
+use Rattle.xt_simulation.proofs.Plans.{plan_asks}
 use Rattle.xt_simulation.proofs.Turns.{Shown, quiet_level, shown, turned, Turned, load, store, wide_nop, narrow_nop, ends_overflow, ends_underflow, other, Ended, ends_with_rfwo, ends_with_rfwu}
 use Rattle.xt_simulation.proofs.SaveWords.{save_covers, in_areas, stood_before, spilled_before}
 use Rattle.xt_simulation.proofs.Begun.{Found, found, stack_of, own_live, same_visible}
@@ -378,10 +379,10 @@ module _ (code : ℕ → ℕ) (constant : (a : ℕ) → code a < 2 ^ 8) (b : Bou
   entered : (side : Side) (m : MemoryContents) (fresh : Bool) (s : State) (f : FrameState) (front : List Frame) (g : Frame) (rest : List Frame) → Begins side (byte_at m) b (lost_at fresh f) s f front g rest → special_of s.control number.vecbase ≡ b.vecbase
       → 0 < g.by → g.by ≤ 3 → s.control.ps.excm ≡ false → s.control.waits ≡ false → IsShaped s → planned code s ≡ window_exception (vector_number side g.by) (moved rest % 16) s
       → (demand code s ≡ None) × Handling code b m (state_now code m s) f s (byte_at m)
-  unfolding demand turn
+  unfolding turn
   entered side m fresh s f front g rest begins vectors moves within low running shaped is =
       let start = start_of s (byte_at m) rest in
-      let d : demand code s ≡ None = ap (λ (p : Planned). p.access) is in
+      let d : demand code s ≡ None = plan_asks code s _ is in
       let t : state_now code m s ≡ (window_exception (vector_number side g.by) (moved rest % 16) s).after = (rw is refl) in
       let r : Found side (byte_at m) b s f front g rest = found side b (lost_at fresh f) s f front g rest (byte_at m) dram shaped moves within begins in
       let long : number.epc 1 < length s.control.special = (let c = shaped.control.count in omega arith) in

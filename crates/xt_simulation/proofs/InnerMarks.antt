@@ -48,7 +48,9 @@ use Rattle.xt_simulation.specs.Nested.{IsInside, IsSpare, marked}
 use Rattle.xt_simulation.proofs.Evenly.{even_ticked, lost_in}
 use Rattle.xt_simulation.proofs.Inner.{Inner}
 use Rattle.xt_simulation.proofs.Laid.{even_laid, laid_other}
-use Rattle.xt_simulation.proofs.Modular.{one_place, place_below}
+use Rattle.xt_simulation.proofs.InnerSteps.{written_marks}
+use Rattle.xt_simulation.proofs.Kept.{set_here, set_there, written_numbers}
+use Rattle.xt_simulation.proofs.Plans.{plan_access, plan_kind, plan_state, plan_write}
 use Rattle.xt_simulation.proofs.RingLemmas.{some_within}
 use Rattle.xt_simulation.proofs.Turns.{falls_on}
 use Rattle.xt_simulation.proofs.Windowed.{some_value}
@@ -156,23 +158,13 @@ with_write_is (Some w) s c = refl
 
 module _ (code : ℕ → ℕ) (m : MemoryContents) (s : State) (len : ℕ) (w : Option RegWrite) (sets : SpecialWrites) (plan : planned code s ≡ done (Does (moving w sets s.control)) len s) where
   state_is : s.control.ps.excm ≡ true → state_now code m s ≡ moved_state w sets len s
-  unfolding turn
   state_is e =
-      ap (λ (p : Planned). with_write (written p.write p.awaited (reply_now code m s)) p.after) plan
+      plan_state code s (done (Does (moving w sets s.control)) len s) plan (reply_now code m s)
       ∙ (with_write_is w s (ticked (after_effect (moving w sets s.control) len s.control))
       ∙ ap (λ (c : Control). (let t : State = record { regs = regs_after w s; base = s.base; start = s.start; control = ticked c } in t)) (effect_is w sets len s.control e))
 
-  kind_is : (record_now code m s).kind ≡ kind.Insn
-  unfolding turn
-  kind_is = ap (λ (p : Planned). p.kind) plan
-
   write_is : (record_now code m s).write ≡ w
-  unfolding turn
-  write_is = ap (λ (p : Planned). written p.write p.awaited (reply_now code m s)) plan
-
-  access_is : (record_now code m s).access ≡ None
-  unfolding turn demand
-  access_is = ap (λ (p : Planned). p.access) plan
+  write_is = plan_write code s (done (Does (moving w sets s.control)) len s) plan (reply_now code m s)
 
 abbrev moved_frame : Option RegWrite → SpecialWrites → ℕ → ℕ → FrameState → FrameTurn
 moved_frame w sets len reply g = in_frame (record { kind = Executed; write = w; access = None; awaited = None; control = ticked (moved_on sets len g.control) }) reply g
@@ -282,18 +274,13 @@ module _ {suspended : State} {base : ℕ} {regs : List ℕ} {seen held : List (O
   spare = ⊎_elim (λ e. inl (ap (place base) e)) (λ o. inr (⊎_elim (λ e. inl (ap (place base) e)) (λ e. inr (ap (place base) e)) o)) writable
 
   here : visible (set regs (place base t) v) base t ≡ v
-  here = get_or-set_same regs (place base t) v 0 (let p = place_below base t in omega arith)
+  here = set_here regs base t v all
 
   there : (i : ℕ) → i < 16 → i ≢ t → visible (set regs (place base t) v) base i ≡ visible regs base i
-  there i low other =
-      let s = small in
-      get_or-set_other regs (place base t) (place base i) v 0 (λ same. let one = one_place (4 * base + i) (4 * base + t) (omega arith) (omega arith) same in other (omega arith))
+  there i low other = set_there regs base t v i small low other
 
   others_after : (p : ℕ) → (IsSpare base p → ⊥) → get_or (set regs (place base t) v) p 0 ≡ get_or suspended.regs p 0
   others_after p none = get_or-set_other regs (place base t) p v 0 (λ e. none (subst (IsSpare base) (sym e) spare)) ∙ r.others p none
-
-  seen_at : get_or (set seen t (Some w)) t None ≡ Some w
-  seen_at = get_or-set_same seen t (Some w) None (let l = r.wide in let s = small in omega arith)
 
   held_at : (mark : Option ℕ) → get_or (set held t mark) t None ≡ mark
   held_at mark = get_or-set_same held t mark None (let l = r.spread in let s = small in omega arith)
@@ -311,21 +298,8 @@ module _ {suspended : State} {base : ℕ} {regs : List ℕ} {seen held : List (O
     wide = length-set seen t (Some w) ∙ r.wide;
     spread = length-set held t None ∙ r.spread;
     others = others_after;
-    numbers = λ i u at. ⊎_elim
-        (λ e.
-        let value : w ≡ u = some_same w u (sym seen_at ∙ subst (λ j. get_or (set seen t (Some w)) j None ≡ Some u) e at) in
-        subst (λ j. visible (set regs (place base t) v) base j ≡ u) (sym e) (here ∙ (same ∙ value)))
-        (λ other.
-        let old : get_or seen i None ≡ Some u = sym (get_or-set_other seen t i (Some w) None other) ∙ at in
-        there i (seen_below i u old) other ∙ r.numbers i u old)
-        (cases_eq i t);
-    marks = λ i k at. ⊎_elim
-        (λ e. absurd (none-some k (sym (held_at None) ∙ subst (λ j. get_or (set held t None) j None ≡ Some k) e at)))
-        (λ other.
-        let old : get_or held i None ≡ Some k = sym (get_or-set_other held t i None None other) ∙ at in
-        let was = r.marks i k old in
-        (there i (held_below i k old) other ∙ was.0, get_or-set_other seen t i (Some w) None other ∙ was.1))
-        (cases_eq i t);
+    numbers = λ i u at. written_numbers regs seen base t v all r.wide small r.numbers i u (subst (λ z. get_or (set seen t (Some z)) i None ≡ Some u) (sym same) at);
+    marks = λ i k at. written_marks regs seen held base t v w (marked suspended) r.spread small r.marks i k at;
   }
 
   -- with a mark
@@ -487,9 +461,9 @@ module _ (code : ℕ → ℕ) (b : Bounds) (m : MemoryContents) (s : State) (f :
           frames = refl;
           pc = refl;
           ps = refl;
-          kind = kind_is code m s len w sets plan;
+          kind = plan_kind code s (done (Does (moving w sets s.control)) len s) plan (reply_now code m s);
           write = write;
-          access = access_is code m s len w sets plan;
+          access = plan_access code s (done (Does (moving w sets s.control)) len s) plan (reply_now code m s);
         }
 
   -- ---- what the row reads: a mark, or the core's value

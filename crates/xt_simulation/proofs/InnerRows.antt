@@ -57,14 +57,16 @@ use Rattle.xt_frames.proofs.StackSteps.{breach_fetches, step_fetches}
 use Rattle.xt_simulation.specs.Relation.{Even, inputs}
 use Rattle.xt_simulation.specs.Steps.{reply_now, record_now}
 use Rattle.xt_simulation.specs.Nested.{IsInside, IsSpare, marked}
-use Rattle.xt_simulation.proofs.Evenly.{even_ticked, lost_in}
+use Rattle.xt_simulation.proofs.Evenly.{effect_even, even_ticked, lost_in}
 use Rattle.xt_simulation.proofs.Judged.{awaited_named}
 use Rattle.xt_simulation.proofs.Judges.{record_reply, same_laid}
 use Rattle.xt_simulation.proofs.Turns.{quiet_nested, turn_does}
 use Rattle.xt_simulation.proofs.Inner.{Ends, Inner}
 use Rattle.xt_simulation.proofs.Laid.{even_laid, laid_other}
+use Rattle.xt_simulation.proofs.Plans.{plan_access, plan_kind, plan_state, plan_write}
+use Rattle.xt_simulation.proofs.Windowed.{some_value}
 use Rattle.xt_simulation.proofs.InnerMarks.{marks_moved}
-use Rattle.xt_simulation.proofs.InnerSteps.{Elsewhere, IsNarrow, ReadsNumber, after_write, all_spare, can_saved, effect_even, effect_mode, effect_spares, same_moved, saved_left, ticked_saved, write_base, write_control, write_marks, write_numbers, write_others, write_size, write_start}
+use Rattle.xt_simulation.proofs.InnerSteps.{Elsewhere, IsNarrow, ReadsNumber, after_write, all_spare, can_saved, effect_mode, effect_spares, same_moved, saved_left, ticked_saved, write_base, write_control, write_marks, write_numbers, write_others, write_size, write_start}
 
 -- ---- what the tests of a nested step deny
 -- `u` is the step of the state inside
@@ -97,24 +99,6 @@ quiet_of b live stale i rec g u x is o =
       kind = n.0;
       own = λ ends. not-false (are_own_marks x.marks) (ap (λ e. e && not (are_own_marks x.marks)) (sym ends) ∙ d.1);
     }
-
--- ---- what the turn's record shows
-module _ (code : ℕ → ℕ) (s : State) (reply : ℕ) (t : Settled) where
-  state_is : planned code s ≡ in_window t s → (turn code s reply).1 ≡ after_write (written t.write t.awaited reply) t.control s
-  unfolding turn
-  state_is is = ap (λ (p : Planned). with_write (written p.write p.awaited reply) p.after) is
-
-  kind_is : planned code s ≡ in_window t s → (turn code s reply).0.kind ≡ kind_of t.kind
-  unfolding turn
-  kind_is is = ap (λ (p : Planned). p.kind) is
-
-  write_is : planned code s ≡ in_window t s → (turn code s reply).0.write ≡ written t.write t.awaited reply
-  unfolding turn
-  write_is is = ap (λ (p : Planned). written p.write p.awaited reply) is
-
-  access_is : planned code s ≡ in_window t s → (turn code s reply).0.access ≡ t.access
-  unfolding turn demand
-  access_is is = ap (λ (p : Planned). p.access) is
 
 -- ---- the controls that a row leaves, where c is the processor's and d the frame machine's
 abbrev pub unset_left : Insn → FrameState → Nested → List Bool
@@ -227,21 +211,14 @@ narrow_write i None low within keeps = tt
 narrow_write i (Some w) low within keeps = (omega arith, keeps)
 
 -- ---- what the instruction reads
-pub none_from : (o : Option ℕ) → ((k : ℕ) → o ≡ Some k → ⊥) → o ≡ None
+none_from : (o : Option ℕ) → ((k : ℕ) → o ≡ Some k → ⊥) → o ≡ None
 none_from None h = refl
 none_from (Some k) h = absurd (h k refl)
-
-pub number_at : (seen : List (Option ℕ)) (k : ℕ) → lacks seen (Some k) ≡ false → (v : ℕ) × (get_or seen k None ≡ Some v)
-number_at seen k h = some_of (get_or seen k None) h
-  where
-    some_of : (o : Option ℕ) → not (is_some o) ≡ false → (v : ℕ) × (o ≡ Some v)
-    some_of None h = absurd (true≢false h)
-    some_of (Some v) h = (v, refl)
 
 module _ {suspended s : State} {f : FrameState} {x : Nested} (h : IsInside suspended s f x) where
   no_mark_at : (t : ℕ) → lacks x.seen (Some t) ≡ false → get_or x.marks t None ≡ None
   no_mark_at t e =
-      let v = number_at x.seen t e in
+      let v = some_value (get_or x.seen t None) e in
       none_from (get_or x.marks t None) (λ k m. let none = (h.marks t k m).1 in let bad : None ≡ Some v.0 = sym none ∙ v.1 in cc)
 
   no_saved_at : (n : ℕ) → is_unset f.unset (Some n) ≡ false → get_or x.saved n None ≡ None
@@ -262,7 +239,7 @@ module _ {suspended s : State} {f : FrameState} {x : Nested} (h : IsInside suspe
   same_value : (o : Option ℕ) → lacks x.seen o ≡ false → value_of (visible s.regs s.base) o ≡ value_of (known x.seen) o
   same_value None e = refl
   same_value (Some k) e =
-      let v = number_at x.seen k e in
+      let v = some_value (get_or x.seen k None) e in
       let a = h.numbers k v.0 v.1 in
       let b : known x.seen k ≡ v.0 = ap (λ (o : Option ℕ). unwrap_or o 0) v.1 in
       a ∙ sym b
@@ -372,7 +349,7 @@ module _ (code : ℕ → ℕ) (b : Bounds) (m : MemoryContents) (s : State) (f :
       let reply : ℕ = reply_now code m s in
       let u : FrameTurn = in_frame v reply (laid (inputs 0 s) (inside x f)) in
       let w : Option RegWrite = written write awaited reply in
-      let now : (turn code s reply).1 ≡ after_write w c s = state_is code s reply t is in
+      let now : (turn code s reply).1 ≡ after_write w c s = plan_state code s (in_window t s) is reply in
       record {
         x = nested_after i None x u;
         nested = refl;
@@ -384,9 +361,9 @@ module _ (code : ℕ → ℕ) (b : Bounds) (m : MemoryContents) (s : State) (f :
         frames = refl;
         pc = refl;
         ps = refl;
-        kind = kind_is code s reply t is;
-        write = write_is code s reply t is;
-        access = access_is code s reply t is;
+        kind = plan_kind code s (in_window t s) is reply;
+        write = plan_write code s (in_window t s) is reply;
+        access = plan_access code s (in_window t s) is reply;
       }
 
   -- what is known of its row

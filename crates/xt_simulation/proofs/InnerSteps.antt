@@ -25,31 +25,13 @@ use Rattle.xt_frames.specs.Marks.{marks_after, saved_by, unset_by}
 use Rattle.xt_frames.specs.Breaches.{lost_of}
 use Rattle.xt_simulation.specs.Relation.{Same, Even, can_be_lost, inputs}
 use Rattle.xt_simulation.specs.Nested.{IsSpare}
-use Rattle.xt_simulation.proofs.Modular.{one_place, place_below}
+use Rattle.xt_simulation.proofs.Kept.{set_there, written_numbers}
 use Rattle.xt_simulation.proofs.RingLemmas.{some_within}
-use Rattle.xt_simulation.proofs.Evenly.{lost_in, same_sets, even_flow}
+use Rattle.xt_simulation.proofs.Evenly.{cleared, lost_in, same_sets, set_even}
 
 -- ---- lists
 abbrev no_mark : Option ℕ
 no_mark = None
-
--- an entry that was cleared
-pub cleared : {X : Type 0} (xs : List X) (n : ℕ) (d : X) → get_or (set xs n d) n d ≡ d
-cleared xs n d =
-    ⊎_elim
-    (λ within. get_or-set_same xs n d d within)
-    (λ past. get_or_past (set xs n d) n d (let l = length-set xs n d in omega arith))
-    (cases_lt n (length xs))
-
-set_both : (xs ys : List ℕ) (k v : ℕ) → length xs ≡ length ys → get_or (set xs k v) k 0 ≡ get_or (set ys k v) k 0
-set_both xs ys k v len =
-    ⊎_elim
-    (λ within. let other : k < length ys = omega arith in get_or-set_same xs k v 0 within ∙ sym (get_or-set_same ys k v 0 other))
-    (λ past.
-    let a = get_or_past (set xs k v) k 0 (let l = length-set xs k v in omega arith) in
-    let b = get_or_past (set ys k v) k 0 (let l = length-set ys k v in omega arith) in
-    a ∙ sym b)
-    (cases_lt k (length xs))
 
 -- ---- a write of a0, a2 or a3, or of no register
 abbrev pub IsNarrow : Option RegWrite → Type 0
@@ -68,6 +50,20 @@ spare_place base r small other =
     (λ b. inr (inr (ap (place base) (let k : r ≡ 3 = omega arith in k))))
     (cases_eq r 2))
     (cases_eq r 0)
+
+-- a number in place of a mark
+pub written_marks : (regs : List ℕ) (seen marks : List (Option ℕ)) (base r v w : ℕ) (held : ℕ → ℕ) → length marks ≡ 16 → r < 16
+    → ((i k : ℕ) → get_or marks i None ≡ Some k → (visible regs base i ≡ held k) × (get_or seen i None ≡ None))
+    → (i k : ℕ) → get_or (set marks r no_mark) i None ≡ Some k → (visible (set regs (place base r) v) base i ≡ held k) × (get_or (set seen r (Some w)) i None ≡ None)
+written_marks regs seen marks base r v w held wide narrow old i k e =
+    let within = some_within (set marks r no_mark) i k e in
+    let l = length-set marks r no_mark in
+    ⊎_elim
+    (λ same. let at : get_or (set marks r no_mark) i None ≡ None = rw same (cleared marks r no_mark) in absurd cc)
+    (λ other.
+    let before = old i k (sym (get_or-set_other marks r i no_mark None other) ∙ e) in
+    (set_there regs base r v i narrow (omega arith) other ∙ before.0, get_or-set_other seen r i (Some w) None other ∙ before.1))
+    (cases_eq i r)
 
 module _ (c : Control) (s : State) where
   pub write_control : (w : Option RegWrite) → (after_write w c s).control ≡ c
@@ -92,45 +88,16 @@ module _ (c : Control) (s : State) where
       let apart : p ≢ place s.base w.reg = λ e. other (subst (λ q. IsSpare s.base q) (sym e) (spare_place s.base w.reg narrow.0 narrow.1)) in
       get_or-set_other s.regs (place s.base w.reg) p w.value 0 apart
 
-  -- another visible register
-  pub visible_other : (r v i : ℕ) → r < 16 → i < 16 → i ≢ r → visible (set s.regs (place s.base r) v) s.base i ≡ visible s.regs s.base i
-  visible_other r v i small narrow other =
-      let apart : place s.base i ≢ place s.base r = λ e. let one = one_place (4 * s.base + i) (4 * s.base + r) (omega arith) (omega arith) e in other (omega arith) in
-      get_or-set_other s.regs (place s.base r) (place s.base i) v 0 apart
-
   pub write_numbers : (w : Option RegWrite) → IsNarrow w → length s.regs ≡ 64 → (seen : List (Option ℕ)) → length seen ≡ 16 → ((i v : ℕ) → get_or seen i None ≡ Some v → visible s.regs s.base i ≡ v)
       → (i v : ℕ) → get_or (seen_after_write w seen) i None ≡ Some v → visible (after_write w c s).regs (after_write w c s).base i ≡ v
   write_numbers None narrow count seen wide old i v e = old i v e
-  write_numbers (Some w) narrow count seen wide old i v e =
-      let small = narrow.0 in
-      let within = some_within (set seen w.reg (Some w.value)) i v e in
-      let l = length-set seen w.reg (Some w.value) in
-      ⊎_elim
-      (λ same.
-      let at : get_or (set seen w.reg (Some w.value)) i None ≡ Some w.value = rw same (get_or-set_same seen w.reg (Some w.value) None (omega arith)) in
-      let one : w.value ≡ v = cc in
-      rw same (get_or-set_same s.regs (place s.base w.reg) w.value 0 (let b = place_below s.base w.reg in omega arith) ∙ one))
-      (λ other.
-      visible_other w.reg w.value i (omega arith) (omega arith) other
-      ∙ old i v (sym (get_or-set_other seen w.reg i (Some w.value) None other) ∙ e))
-      (cases_eq i w.reg)
+  write_numbers (Some w) narrow count seen wide old i v e = let small = narrow.0 in written_numbers s.regs seen s.base w.reg w.value count wide (omega arith) old i v e
 
   pub write_marks : (w : Option RegWrite) → IsNarrow w → (held : ℕ → ℕ) (seen marks : List (Option ℕ)) → length marks ≡ 16
       → ((i k : ℕ) → get_or marks i None ≡ Some k → (visible s.regs s.base i ≡ held k) × (get_or seen i None ≡ None))
       → (i k : ℕ) → get_or (marks_after None w marks) i None ≡ Some k → (visible (after_write w c s).regs (after_write w c s).base i ≡ held k) × (get_or (seen_after_write w seen) i None ≡ None)
   write_marks None narrow held seen marks wide old i k e = old i k e
-  write_marks (Some w) narrow held seen marks wide old i k e =
-      let small = narrow.0 in
-      let within = some_within (set marks w.reg no_mark) i k e in
-      let l = length-set marks w.reg no_mark in
-      ⊎_elim
-      (λ same. let at : get_or (set marks w.reg no_mark) i None ≡ None = rw same (cleared marks w.reg no_mark) in absurd cc)
-      (λ other.
-      let before = old i k (sym (get_or-set_other marks w.reg i no_mark None other) ∙ e) in (
-        visible_other w.reg w.value i (omega arith) (omega arith) other ∙ before.0,
-        get_or-set_other seen w.reg i (Some w.value) None other ∙ before.1,
-      ))
-      (cases_eq i w.reg)
+  write_marks (Some w) narrow held seen marks wide old i k e = let small = narrow.0 in written_marks s.regs seen marks s.base w.reg w.value w.value held wide (omega arith) old i k e
 
 -- ---- registers that have no number
 pub can_saved : (k : ℕ) → can_be_lost k ≡ true → is_saved k ≡ true
@@ -182,7 +149,7 @@ lost_other p unset k other e = ap (λ v. lost_of false k || v) (sym (get_or-set_
 set_one : (p : ℕ × ℕ) (sets : SpecialWrites) (xs ys : List ℕ) (k : ℕ) → length xs ≡ length ys → k ≡ p.1 → SetsOne (Some p) k sets → get_or (with_sets sets xs) k 0 ≡ get_or (with_sets sets ys) k 0
 set_one p sets xs ys k len same one =
     let is = one.0 (sym same) in
-    subst (λ (st : SpecialWrites). get_or (with_sets st xs) k 0 ≡ get_or (with_sets st ys) k 0) (sym is.1) (set_both xs ys k is.0 len)
+    subst (λ (st : SpecialWrites). get_or (with_sets st xs) k 0 ≡ get_or (with_sets st ys) k 0) (sym is.1) (set_even xs ys k is.0 k len (λ other. absurd (other refl)))
 
 -- a special register that is written has a number then
 pub same_moved : (o : Option (ℕ × ℕ)) (sets : SpecialWrites) (marks : List (Option ℕ)) (unset : List Bool) {xs ys : List ℕ} → Same (lost_in false unset) xs ys → ReadsNumber o marks → ((n : ℕ) → is_saved n ≡ true → SetsOne o n sets)
@@ -204,14 +171,6 @@ same_moved (Some p) sets marks unset {xs = xs} {ys = ys} s reads saved =
     subst (λ (u : List Bool). Same (lost_in false u) (with_sets sets xs) (with_sets sets ys)) (sym (moved_unset p marks unset reads)) now
 
 -- ---- an effect
-pub effect_even : {lost : ℕ → Bool} (e : Effect) (len : ℕ) (c d : Control) → c.pc ≡ d.pc → Same lost (with_sets e.sets c.special) (with_sets e.sets d.special) → Even lost (after_effect e len c) (after_effect e len d)
-unfolding after_effect
-effect_even e len c d pc special =
-    even_flow e.flow len
-    (record { pc = c.pc; special = with_sets e.sets c.special; ps = e.ps; threadptr = e.threadptr; waits = e.waits })
-    (record { pc = d.pc; special = with_sets e.sets d.special; ps = e.ps; threadptr = e.threadptr; waits = e.waits })
-    (record { pc = pc; ps = refl; threadptr = refl; waits = refl; special = special })
-
 flow_if : (b : Bool) (x y : Control) (k : ℕ) (v : ℕ) → special_of x k ≡ v → special_of y k ≡ v → special_of (cond b x y) k ≡ v
 flow_if true x y k v p q = p
 flow_if false x y k v p q = q

@@ -6,7 +6,7 @@ use Rattle.std.proofs.lemmas.List.{get_or-set_same, get_or-set_other, length-set
 use Rattle.xt_frames.specs.Frames.{Frame, moved, seen_after_call, seen_after_return}
 use Rattle.xt_simulation.specs.Ring.{stands, Windows}
 use Rattle.xt_window.specs.Moves.{base_after_call, base_after_return}
-use Rattle.xt_window.specs.Ring.{place, bit, with_bit, without_bit}
+use Rattle.xt_window.specs.Ring.{place, visible, bit, with_bit, without_bit}
 use Rattle.xt_simulation.proofs.Modular.{one_window, one_place, place_at, place_below, bit_with_same, bit_with_other, bit_without_same, bit_without_other}
 use Rattle.xt_simulation.proofs.RingLemmas.{some_within, stands_above, in_ring_set}
 
@@ -19,23 +19,30 @@ set_some seen r v i u within e =
     (cases_eq i r)
 
 -- ---- a write
+pub set_here : (regs : List ℕ) (base r v : ℕ) → length regs ≡ 64 → visible (set regs (place base r) v) base r ≡ v
+set_here regs base r v all = get_or-set_same regs (place base r) v 0 (let b = place_below base r in omega arith)
+
+pub set_there : (regs : List ℕ) (base r v i : ℕ) → r < 16 → i < 16 → i ≢ r → visible (set regs (place base r) v) base i ≡ visible regs base i
+set_there regs base r v i narrow small other =
+    let apart : place base i ≢ place base r = λ same. let one = one_place (4 * base + i) (4 * base + r) (omega arith) (omega arith) same in other (omega arith) in
+    get_or-set_other regs (place base r) (place base i) v 0 apart
+
+pub written_numbers : (regs : List ℕ) (seen : List (Option ℕ)) (base r v : ℕ) → length regs ≡ 64 → length seen ≡ 16 → r < 16 → ((i u : ℕ) → get_or seen i None ≡ Some u → visible regs base i ≡ u)
+    → (i u : ℕ) → get_or (set seen r (Some v)) i None ≡ Some u → visible (set regs (place base r) v) base i ≡ u
+written_numbers regs seen base r v all wide narrow old i u e =
+    let small = some_within (set seen r (Some v)) i u e in
+    let len = length-set seen r (Some v) in
+    ⊎_elim
+    (λ h. let same = h.0 in rw same (set_here regs base r v all ∙ h.1))
+    (λ h. set_there regs base r v i narrow (omega arith) h.0 ∙ old i u h.1)
+    (set_some seen r v i u (omega arith) e)
+
 module _ {regs : List ℕ} {base start : ℕ} {seen : List (Option ℕ)} {ring : List Frame} {low : ℕ} (w : Windows regs base start seen ring low) (r v : ℕ) (narrow : r < 16) (free : moved ring + r / 4 < 16) where
   same_place : place base r ≡ place (moved ring + low) r
   same_place = place_at base (moved ring + low) r (let e = w.based in omega arith)
 
   pub visible_after_write : (i u : ℕ) → get_or (set seen r (Some v)) i None ≡ Some u → get_or (set regs (place (moved ring + low) r) v) (place (moved ring + low) i) 0 ≡ u
-  visible_after_write i u e =
-      let n = w.size in
-      let wide = w.wide in
-      let small = some_within (set seen r (Some v)) i u e in
-      let len = length-set seen r (Some v) in
-      ⊎_elim
-      (λ h. let same = h.0 in rw same (get_or-set_same regs (place (moved ring + low) r) v 0 (let b = place_below (moved ring + low) r in omega arith) ∙ h.1))
-      (λ h.
-      let other = h.0 in
-      let apart : place (moved ring + low) i ≢ place (moved ring + low) r = λ same. let one = one_place (4 * (moved ring + low) + i) (4 * (moved ring + low) + r) (omega arith) (omega arith) same in other (omega arith) in
-      get_or-set_other regs (place (moved ring + low) r) (place (moved ring + low) i) v 0 apart ∙ w.visible i u h.1)
-      (set_some seen r v i u (omega arith) e)
+  visible_after_write i u e = written_numbers regs seen (moved ring + low) r v w.size w.wide narrow w.visible i u e
 
   pub room_after_write : (i u : ℕ) → get_or (set seen r (Some v)) i None ≡ Some u → moved ring + i / 4 < 16
   room_after_write i u e =
@@ -59,7 +66,7 @@ module _ {regs : List ℕ} {base start : ℕ} {seen : List (Option ℕ)} {ring :
 abbrev no_value : Option ℕ
 no_value = None
 
-none_in : (n i : ℕ) → get_or (replicate n no_value) i None ≡ None
+pub none_in : (n i : ℕ) → get_or (replicate n no_value) i None ≡ None
 none_in n i = ⊎_elim (λ h. get_or-replicate n i None None h) (λ h. get_or_past (replicate n no_value) i None (let l = length-replicate n no_value in omega arith)) (cases_lt i n)
 
 drop_some : (seen : List (Option ℕ)) (n m i v : ℕ) → length seen ≡ n + m → get_or (drop n seen ++ replicate n None) i None ≡ Some v → get_or seen (n + i) None ≡ Some v

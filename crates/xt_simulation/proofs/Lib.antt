@@ -13,6 +13,7 @@ pub mod Evenly
 pub mod Executed
 pub mod Judged
 pub mod Moves
+pub mod Plans
 pub mod Ordinary
 pub mod StackSteps
 pub mod Whole

@@ -21,11 +21,11 @@ use Rattle.xt_rows.specs.declared.outcome.Outcome.TheVariants.{Does}
 use Rattle.xt_rows.specs.Effects.{illegal_instruction}
 use Rattle.xt_rows.specs.Operands.{special_reads}
 use Rattle.xt_rows.specs.Outcomes.{outcome, system_outcome, outcome_at}
-use Rattle.xt_rows.specs.Settling.{after_effect}
+use Rattle.xt_rows.specs.Settling.{settled_interrupt, after_effect}
 use Rattle.xt_fetch.specs.Fetching.{Fetched, Fetches, Fails, SpellsNothing, fetched}
 use Rattle.xt_exec.specs.State.{State}
 use Rattle.xt_exec.specs.Laws.{IsShaped}
-use Rattle.xt_exec.specs.Turn.{Planned, planned, demand, turn, done, checked, fetched_turn, is_illegal, raises, window_check, has_windows, looks, with_write, written, reply_where}
+use Rattle.xt_exec.specs.Turn.{Planned, in_window, planned, demand, turn, done, checked, fetched_turn, is_illegal, raises, window_check, has_windows, looks, with_write, written, reply_where}
 use Rattle.xt_exec.proofs.Finished.{turn_fetches}
 use Rattle.xt_window.specs.Ring.{ahead}
 use Rattle.xt_frames.specs.declared.holes.Nested.{Nested}
@@ -46,6 +46,7 @@ use Rattle.xt_simulation.specs.Judges.{Matches}
 use Rattle.xt_simulation.specs.Nested.{Suspends}
 use Rattle.xt_simulation.proofs.Memories.{keeps_from}
 use Rattle.xt_simulation.proofs.Judges.{same_laid, record_access}
+use Rattle.xt_simulation.proofs.Plans.{plan_kind, plan_write}
 use Rattle.xt_simulation.proofs.Resumed.{back, back_at, back_ps, back_state, same_regs}
 use Rattle.xt_simulation.proofs.InnerRows.{quiet_of}
 use Rattle.xt_simulation.proofs.Taken.{asks_nothing, nesting_now, nesting_taken}
@@ -75,8 +76,8 @@ module _ (code : ℕ → ℕ) (m : MemoryContents) (s : State) (f : FrameState) 
       let p = nesting_taken code s nesting in
       record {
         place = sym (cond-true (begins true (record_now code m s).kind f) (record_now code m s).pc (current f).control.pc (begins_now (record_now code m s) f (nesting_now code m s nesting) none));
-        kind = ap (λ (p : Planned). p.kind) p ∙ sym (ap (λ (u : FrameTurn). u.kind) begun_now);
-        write = ap (λ (p : Planned). written p.write p.awaited (reply_now code m s)) p ∙ sym (ap (λ (u : FrameTurn). u.write) begun_now);
+        kind = plan_kind code s (in_window (settled_interrupt 5 s.control) s) p (reply_now code m s) ∙ sym (ap (λ (u : FrameTurn). u.kind) begun_now);
+        write = plan_write code s (in_window (settled_interrupt 5 s.control) s) p (reply_now code m s) ∙ sym (ap (λ (u : FrameTurn). u.write) begun_now);
         access = no_access ∙ sym (ap (λ (u : FrameTurn). u.access) begun_now);
         reply = ap (λ o. reply_where o (reply_now code m s)) no_access ∙ sym (ap (λ (u : FrameTurn). reply_at framed u.access) begun_now);
       }

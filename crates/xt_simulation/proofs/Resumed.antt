@@ -53,6 +53,7 @@ use Rattle.xt_simulation.proofs.Carried.{Carries, carried}
 use Rattle.xt_simulation.proofs.Inner.{Ends}
 use Rattle.xt_simulation.proofs.Judges.{same_laid}
 use Rattle.xt_simulation.proofs.Laid.{laid_after, laid_other}
+use Rattle.xt_simulation.proofs.Plans.{plan_asks, plan_kind, plan_state, plan_write}
 use Rattle.xt_simulation.proofs.Turns.{quiet_nested, turn_does}
 use Rattle.xt_simulation.proofs.Taken.{beside}
 
@@ -86,22 +87,9 @@ module _ (code : ℕ → ℕ) (s : State) (low : s.control.ps.excm ≡ true) (le
   back_at (Fails address) at ends = absurd cc
   back_at SpellsNothing at ends = absurd cc
 
-module _ (code : ℕ → ℕ) (s : State) (reply : ℕ) (len : ℕ) (is : planned code s ≡ done (Does (back s.control)) len s) where
-  pub back_state : (turn code s reply).1 ≡ record s { control = ticked (back_control s.control) }
-  unfolding turn after_effect
-  back_state = ap (λ (p : Planned). with_write (written p.write p.awaited reply) p.after) is
-
-  back_kind : (turn code s reply).0.kind ≡ kind.Insn
-  unfolding turn
-  back_kind = ap (λ (p : Planned). p.kind) is
-
-  back_write : (turn code s reply).0.write ≡ None
-  unfolding turn
-  back_write = ap (λ (p : Planned). written p.write p.awaited reply) is
-
-  back_access : demand code s ≡ None
-  unfolding demand
-  back_access = ap (λ (p : Planned). p.access) is
+pub back_state : (code : ℕ → ℕ) (s : State) (reply len : ℕ) → planned code s ≡ done (Does (back s.control)) len s → (turn code s reply).1 ≡ record s { control = ticked (back_control s.control) }
+unfolding after_effect
+back_state code s reply len is = plan_state code s (done (Does (back s.control)) len s) is reply
 
 -- ---- the frame machine's step
 abbrev pub given_back : FrameState → FrameState → FrameState
@@ -227,7 +215,7 @@ module _ {code : ℕ → ℕ} {b : Bounds} {m : MemoryContents} {s : State} {f :
 
   pub ends_shaped : AreBytes code → IsShaped (state_now code m s)
   ends_shaped bytes =
-      let small : reply_now code m s < 2 ^ 32 = subst (λ (o : Option Access). reply_at m o < 2 ^ 32) (sym (back_access code s 0 e.len plan)) (omega arith) in
+      let small : reply_now code m s < 2 ^ 32 = subst (λ (o : Option Access). reply_at m o < 2 ^ 32) (sym (plan_asks code s (done (Does (back s.control)) e.len s) plan)) (omega arith) in
       turn_shaped code s (reply_now code m s) bytes shaped small
 
   pub ends_handling : AreBytes code → Handling code b m (state_now code m s) (step_on code true (record_now code m s) f).after (as_left before (state_now code m s)) opened
@@ -242,13 +230,13 @@ module _ {code : ℕ → ℕ} {b : Bounds} {m : MemoryContents} {s : State} {f :
   ends_nothing = ap (λ (u : FrameTurn). u.after.nested) ends_step
 
   pub ends_kind : (record_now code m s).kind ≡ (step_on code true (record_now code m s) f).kind
-  ends_kind = back_kind code s (reply_now code m s) e.len plan ∙ sym (ap (λ (u : FrameTurn). u.kind) ends_step)
+  ends_kind = plan_kind code s (done (Does (back s.control)) e.len s) plan (reply_now code m s) ∙ sym (ap (λ (u : FrameTurn). u.kind) ends_step)
 
   pub ends_write : (record_now code m s).write ≡ (step_on code true (record_now code m s) f).write
-  ends_write = back_write code s (reply_now code m s) e.len plan ∙ sym (ap (λ (u : FrameTurn). u.write) ends_step)
+  ends_write = plan_write code s (done (Does (back s.control)) e.len s) plan (reply_now code m s) ∙ sym (ap (λ (u : FrameTurn). u.write) ends_step)
 
   pub ends_access : demand code s ≡ (step_on code true (record_now code m s) f).access
-  ends_access = back_access code s 0 e.len plan ∙ sym (ap (λ (u : FrameTurn). u.access) ends_step)
+  ends_access = plan_asks code s (done (Does (back s.control)) e.len s) plan ∙ sym (ap (λ (u : FrameTurn). u.access) ends_step)
 
   pub ends_seen : (step_on code true (record_now code m s) f).after.seen ≡ f.seen
   ends_seen = ap (λ (u : FrameTurn). u.after.seen) ends_step

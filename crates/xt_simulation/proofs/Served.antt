@@ -14,6 +14,7 @@ use Rattle.xt_simulation.specs.Relation.{Level, lost_at}
 use Rattle.xt_frames.proofs.Shown.{NoneShown, none_shown}
 use Rattle.xt_exec.proofs.Finished.{turn_taken, turn_waits}
 use Rattle.xt_simulation.proofs.Evenly.{same_pending}
+use Rattle.xt_simulation.proofs.Plans.{plan_asks}
 use Rattle.xt_frames.proofs.StackSteps.{breach_fetches}
 
 -- ---- a step that shows no breach touches no save area
@@ -33,11 +34,11 @@ unfolding turn demand
 areas_kept code b fresh live stale s g ring spilled reply l none =
     let p = same_pending s.control g.control l.even in
     ⊎_elim
-    (λ yes. none_asked live stale _ (ap (λ (p : Planned). p.access) (turn_taken code s yes)))
+    (λ yes. none_asked live stale _ (plan_asks code s _ (turn_taken code s yes)))
     (λ no.
     let no_g : ltb 0 (pending_of g.control) ≡ false = subst (λ x. ltb 0 x ≡ false) p no in
     ⊎_elim
-    (λ w. none_asked live stale _ (ap (λ (p : Planned). p.access) (turn_waits code s no w)))
+    (λ w. none_asked live stale _ (plan_asks code s _ (turn_waits code s no w)))
     (λ w.
     let w_g = sym l.even.waits ∙ w in
     let rec = (turn code s reply).0 in

@@ -47,6 +47,8 @@ use Rattle.xt_simulation.specs.Nested.{IsInside, Suspends, NestedBegin, resumed}
 use Rattle.xt_simulation.proofs.Carried.{Carries, carried}
 use Rattle.xt_simulation.proofs.Evenly.{not_lost, same_ticked}
 use Rattle.xt_simulation.proofs.Judges.{same_laid}
+use Rattle.xt_simulation.proofs.Kept.{none_in}
+use Rattle.xt_simulation.proofs.Plans.{plan_asks, plan_state}
 use Rattle.xt_simulation.proofs.Laid.{laid_after, laid_length, laid_other, relaid, same_relaid}
 
 -- ---- no instruction is an interrupt
@@ -206,20 +208,12 @@ beside {b = b} {s = s} {f = f} {before = before} {opened = opened} h =
     }
 
 -- ---- registers that hold neither number nor mark
-no_number : (n i : ℕ) → get_or {A = Option ℕ} (replicate n None) i None ≡ None
-no_number n i =
-    let none : Option ℕ = None in
-    ⊎_elim
-    (λ within. get_or-replicate n i none none within)
-    (λ past. get_or_past (replicate n none) i none (let l = length-replicate n none in omega arith))
-    (cases_lt i n)
-
 own_place : (i k : ℕ) → get_or own_marks i None ≡ Some k → i ≡ k
 own_place zero k e = ap (λ (o : Option ℕ). unwrap_or o 0) e
 own_place (suc zero) k e = ap (λ (o : Option ℕ). unwrap_or o 0) e
 own_place (suc (suc zero)) k e = ap (λ (o : Option ℕ). unwrap_or o 0) e
 own_place (suc (suc (suc zero))) k e = ap (λ (o : Option ℕ). unwrap_or o 0) e
-own_place (suc (suc (suc (suc i)))) k e = let n : None ≡ Some k = sym (no_number 12 i) ∙ e in absurd cc
+own_place (suc (suc (suc (suc i)))) k e = let n : None ≡ Some k = sym (none_in 12 i) ∙ e in absurd cc
 
 -- ---- the step that begins one
 module _ {b : Bounds} {s : State} {f : FrameState} (l : Beside b s f) (shaped : IsShaped s) (count : length f.unset ≡ 256) where
@@ -296,9 +290,9 @@ module _ {b : Bounds} {s : State} {f : FrameState} (l : Beside b s f) (shaped : 
     size = refl;
     wide = refl;
     others = λ p spare. refl;
-    numbers = λ i v e. (let n : None ≡ Some v = sym (no_number 16 i) ∙ e in absurd cc);
-    marks = λ i k e. (ap (visible s.regs s.base) (own_place i k e), no_number 16 i);
-    saved = λ n k e. (let z : None ≡ Some k = sym (no_number 256 n) ∙ e in absurd cc);
+    numbers = λ i v e. (let n : None ≡ Some v = sym (none_in 16 i) ∙ e in absurd cc);
+    marks = λ i k e. (ap (visible s.regs s.base) (own_place i k e), none_in 16 i);
+    saved = λ n k e. (let z : None ≡ Some k = sym (none_in 256 n) ∙ e in absurd cc);
   }
 
   framed_vectors : special_of framed.control number.vecbase ≡ b.vecbase
@@ -335,16 +329,14 @@ module _ {b : Bounds} {s : State} {f : FrameState} (l : Beside b s f) (shaped : 
 
 -- ---- as a step of both machines
 pub state_taken : (code : ℕ → ℕ) (s : State) (reply : ℕ) → planned code s ≡ in_window (settled_interrupt 5 s.control) s → (turn code s reply).1 ≡ record s { control = ticked (after_interrupt 5 s.control) }
-unfolding turn
-state_taken code s reply is = ap (λ (p : Planned). with_write (written p.write p.awaited reply) p.after) is
+state_taken code s reply is = plan_state code s (in_window (settled_interrupt 5 s.control) s) is reply
 
 pub nesting_now : (code : ℕ → ℕ) (m : MemoryContents) (s : State) → is_nesting (planned code s).kind ≡ true → is_nesting (record_now code m s).kind ≡ true
 unfolding turn
 nesting_now code m s nesting = nesting
 
 pub asks_nothing : (code : ℕ → ℕ) (s : State) → planned code s ≡ in_window (settled_interrupt 5 s.control) s → demand code s ≡ None
-unfolding demand
-asks_nothing code s is = ap (λ (p : Planned). p.access) is
+asks_nothing code s is = plan_asks code s (in_window (settled_interrupt 5 s.control) s) is
 
 pub taken_begin : NestedBegin
 taken_begin code bytes b good m s f before opened h none shaped count nesting =

@@ -47,6 +47,7 @@ use Rattle.xt_stretch.specs.Running.{is_access, with_word, stepped, MayAccess}
 use Rattle.xt_stretch.specs.Machines.{Machine, address, word_at}
 use Rattle.xt_simulation.specs.Steps.{reply_at, memory_after_step, reply_now, state_now, memory_now}
 use Rattle.xt_simulation.specs.Handling.{machine}
+use Rattle.xt_simulation.proofs.Plans.{plan_asks, plan_state}
 use Rattle.xt_simulation.proofs.Words.{loads_ask, stores_ask, word_replied, word_stored, load_keeps}
 
 -- ---- an instruction, by what it is to a handler
@@ -156,19 +157,6 @@ module _ (code : ℕ → ℕ) (s : State) (low : s.control.ps.excm ≡ true) (un
   turn_settles : (i : Insn) (len : ℕ) (o : Outcome) → fetched code s.control.pc ≡ Fetches i len → is_illegal i s ≡ false → outcome_at code i (visible s.regs s.base) s.control ≡ o → planned code s ≡ done o len s
   turn_settles i len o at legal is = turn_does i len at legal ∙ ap (λ o. done o len s) is
 
-turn_after : (code : ℕ → ℕ) (s : State) (reply : ℕ) → (turn code s reply).1 ≡ with_write (written (planned code s).write (planned code s).awaited reply) (planned code s).after
-unfolding turn
-turn_after code s reply = refl
-
-demand_is : (code : ℕ → ℕ) (s : State) → demand code s ≡ (planned code s).access
-unfolding demand
-demand_is code s = refl
-
--- the kind of a turn's record
-pub turn_kind : (code : ℕ → ℕ) (s : State) (reply : ℕ) → (turn code s reply).0.kind ≡ (planned code s).kind
-unfolding turn
-turn_kind code s reply = refl
-
 -- ---- addresses
 within_means : (offset : ℤ) → window_within offset ≡ true → (x : ℕ) → plus x offset ≡ address x (unsigned_abs offset)
 unfolding window_within plus address
@@ -225,10 +213,10 @@ module _ (code : ℕ → ℕ) (m : MemoryContents) (s : State) (low : s.control.
       → with_write (written p.write p.awaited (reply_at m p.access)) p.after ≡ record { regs = next.ring; base = s.base; start = s.start; control = ticked (record s.control { pc = (s.control.pc + len) % 2 ^ 32 }) }
       → ((a : ℕ) → byte_at (memory_after_step m p.access) a ≡ next.bytes a) → Turned code m s len next
   from_plan p next is k after bytes =
-      let d : demand code s ≡ p.access = demand_is code s ∙ ap (λ (p : Planned). p.access) is in
+      let d : demand code s ≡ p.access = plan_asks code s p is in
       record {
         kind = ap (λ (p : Planned). p.kind) is ∙ k;
-        after = turn_after code s (reply_now code m s) ∙ (ap (λ (p : Planned). with_write (written p.write p.awaited (reply_now code m s)) p.after) is ∙ (ap (λ o. with_write (written p.write p.awaited (reply_at m o)) p.after) d ∙ after));
+        after = plan_state code s p is (reply_now code m s) ∙ (ap (λ o. with_write (written p.write p.awaited (reply_at m o)) p.after) d ∙ after);
         bytes = λ a. ap (λ o. byte_at (memory_after_step m o) a) d ∙ bytes a;
       }
 
@@ -293,10 +281,10 @@ module _ (code : ℕ → ℕ) (m : MemoryContents) (s : State) (low : s.control.
   from_ending : (start : ℕ) → planned code s ≡ resumed start (special_of s.control (number.epc 1)) s → Ended start
   unfolding resumed
   from_ending start is =
-      let d : demand code s ≡ None = demand_is code s ∙ ap (λ (p : Planned). p.access) is in
+      let d : demand code s ≡ None = plan_asks code s _ is in
       record {
         kind = ap (λ (p : Planned). p.kind) is;
-        after = turn_after code s (reply_now code m s) ∙ ap (λ (p : Planned). with_write (written p.write p.awaited (reply_now code m s)) p.after) is;
+        after = plan_state code s _ is (reply_now code m s);
         memory = ap (memory_after_step m) d;
       }
 
