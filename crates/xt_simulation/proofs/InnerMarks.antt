@@ -5,7 +5,7 @@ use Rattle.std.proofs.Common.{◌≡◌, ℕ, ◌+◌, ◌*◌, ◌%◌, ◌^◌
 use Rattle.std.specs.Prelude.{unwrap_or}
 use Rattle.std.proofs.Math.ListN.{set}
 use Rattle.std.proofs.lemmas.Bool.{cases_eq, cases_lt, true≢false, and_parts, and_cases, and_left, or_parts, or_cases, or_from, or_right, ne_eqb, eqb-false, leb-true, ltb-true, false_from_ne_true, cond-true, cond-false}
-use Rattle.std.proofs.lemmas.Option.{none-some}
+use Rattle.std.proofs.lemmas.Option.{none-some, same_Some}
 use Rattle.std.proofs.lemmas.List.{get_or-set_same, get_or-set_other, length-set, get_or_past}
 use Rattle.xt_isa.specs.declared.Insn.{Insn}
 use Rattle.xt_isa.specs.declared.Insn.TheVariants as insn
@@ -258,9 +258,6 @@ pub record InRegisters (suspended : State) (base : ℕ) (regs : List ℕ) (seen 
   pub numbers : (i v : ℕ) → get_or seen i None ≡ Some v → visible regs base i ≡ v
   pub marks : (i k : ℕ) → get_or held i None ≡ Some k → (visible regs base i ≡ marked suspended k) × (get_or seen i None ≡ None)
 
-some_same : (v w : ℕ) → Some v ≡ Some w → v ≡ w
-some_same v w e = ap (λ (o : Option ℕ). unwrap_or o 0) e
-
 abbrev IsWritable : ℕ → Type 0
 IsWritable t = (t ≡ 0) ⊎ ((t ≡ 2) ⊎ (t ≡ 3))
 
@@ -323,7 +320,7 @@ module _ {suspended : State} {base : ℕ} {regs : List ℕ} {seen held : List (O
         (cases_eq i t);
     marks = λ i k at. ⊎_elim
         (λ e.
-        let same : mark ≡ k = some_same mark k (sym (held_at (Some mark)) ∙ subst (λ j. get_or (set held t (Some mark)) j None ≡ Some k) e at) in
+        let same : mark ≡ k = same_Some mark k (sym (held_at (Some mark)) ∙ subst (λ j. get_or (set held t (Some mark)) j None ≡ Some k) e at) in
         subst (λ j. (visible (set regs (place base t) v) base j ≡ marked suspended k) × (get_or (set (set seen t (Some w)) t None) j None ≡ None)) (sym e) (here ∙ (means ∙ ap (marked suspended) same), emptied))
         (λ other.
         let old : get_or held i None ≡ Some k = sym (get_or-set_other held t i (Some mark) None other) ∙ at in

@@ -66,7 +66,8 @@ use Rattle.xt_simulation.proofs.Laid.{even_laid, laid_other}
 use Rattle.xt_simulation.proofs.Plans.{plan_access, plan_kind, plan_state, plan_write}
 use Rattle.xt_simulation.proofs.Windowed.{some_value}
 use Rattle.xt_simulation.proofs.InnerMarks.{marks_moved}
-use Rattle.xt_simulation.proofs.InnerSteps.{Elsewhere, IsNarrow, ReadsNumber, after_write, all_spare, can_saved, effect_mode, effect_spares, same_moved, saved_left, ticked_saved, write_base, write_control, write_marks, write_numbers, write_others, write_size, write_start}
+use Rattle.xt_simulation.proofs.InnerSteps.{Elsewhere, IsNarrow, ReadsNumber, after_write, all_spare, can_saved, effect_mode, effect_spares, same_moved, saved_left, ticked_saved, write_marks, write_numbers, write_others, write_size}
+use Rattle.xt_simulation.proofs.Ordinary.{outcome_read, what_is_read, write_control, write_keeps}
 
 -- ---- what the tests of a nested step deny
 -- `u` is the step of the state inside
@@ -144,7 +145,8 @@ module _ {suspended s : State} {f : FrameState} {x : Nested} (h : IsInside suspe
         let w : Option RegWrite = written v.write v.awaited reply in
         let t : State = after_write w c s in
         let u : FrameTurn = in_frame v reply (laid (inputs 0 s) (inside x f)) in
-        let is : t.control ≡ c = write_control c s w in
+        let keeps = write_keeps w (record s { control = c }) in
+        let is : t.control ≡ c = keeps.2 in
         let left : FrameState = inside (nested_after i None x u) (left_turn i x f u).after in
         let even : Even (lost_in false (unset_left i f x)) c left.control = record { pc = l.even.pc; ps = l.even.ps; threadptr = l.even.threadptr; waits = l.even.waits; special = l.even.special } in
         record {
@@ -155,11 +157,11 @@ module _ {suspended s : State} {f : FrameState} {x : Nested} (h : IsInside suspe
           woe = h.woe;
           epc = ap (λ (q : Control). special_of q 181) is ∙ (l.spared 181 refl epc ∙ h.epc);
           eps = ap (λ (q : Control). special_of q 197) is ∙ (l.spared 197 refl eps ∙ h.eps);
-          base = write_base c s w ∙ h.base;
-          start = write_start c s w ∙ h.start;
+          base = keeps.0 ∙ h.base;
+          start = keeps.1 ∙ h.start;
           size = write_size c s w ∙ h.size;
           wide = seen_size w x.seen ∙ h.wide;
-          others = λ p other. write_others c s w narrow p other ∙ h.others p (λ e. other (subst (λ (q : ℕ). IsSpare q p) (sym (write_base c s w)) e));
+          others = λ p other. write_others c s w narrow p other ∙ h.others p (λ e. other (subst (λ (q : ℕ). IsSpare q p) (sym keeps.0) e));
           numbers = write_numbers c s w narrow count x.seen h.wide h.numbers;
           marks = write_marks c s w narrow (marked suspended) x.seen x.marks wide h.marks;
           saved = λ n k e.
@@ -236,18 +238,6 @@ module _ {suspended s : State} {f : FrameState} {x : Nested} (h : IsInside suspe
   reads_saved (insn.System (system.Rsr SpecialName.Xsr t n)) e = no_saved_at n e
   reads_saved _ e = refl
 
-  same_value : (o : Option ℕ) → lacks x.seen o ≡ false → value_of (visible s.regs s.base) o ≡ value_of (known x.seen) o
-  same_value None e = refl
-  same_value (Some k) e =
-      let v = some_value (get_or x.seen k None) e in
-      let a = h.numbers k v.0 v.1 in
-      let b : known x.seen k ≡ v.0 = ap (λ (o : Option ℕ). unwrap_or o 0) v.1 in
-      a ∙ sym b
-
-  same_special : (o : Option ℕ) → reads_lost false o ≡ false → is_unset f.unset o ≡ false → value_of (special_of s.control) o ≡ value_of (special_of (laid (inputs 0 s) (inside x f)).control) o
-  same_special None e u = refl
-  same_special (Some k) e u = h.even.special.at k (or_from (lost_of false k) (get_or f.unset k false) e u)
-
   pub record Read (i : Insn) : Type 0 where
     pub number : ReadsNumber (moved_to i) x.marks
     pub mark : mark_read i x.saved ≡ None
@@ -256,22 +246,11 @@ module _ {suspended s : State} {f : FrameState} {x : Nested} (h : IsInside suspe
   pub read_by : (i : Insn) → reads_unset i (laid (inputs 0 s) (inside x f)) ≡ false → reads_epc1 false i ≡ false → Read i
   read_by i unset none =
       let g : FrameState = laid (inputs 0 s) (inside x f) in
-      let first = or_parts (lacks x.seen (reads i).0) _ unset in
-      let rest = or_parts (lacks x.seen (reads i).1) _ first.1 in
-      let special = or_parts (is_unset f.unset (special_reads i).0) (is_unset f.unset (special_reads i).1) rest.1 in
-      let e = or_parts (reads_lost false (special_reads i).0) (reads_lost false (special_reads i).1) none in
+      let r = what_is_read false i g unset none in
       record {
-        number = reads_number i first.0;
-        mark = reads_saved i special.0;
-        outcome = λ code.
-            let x0 = same_value (reads i).0 first.0 in
-            let y0 = same_value (reads i).1 rest.0 in
-            let p = same_special (special_reads i).0 e.0 special.0 in
-            let q = same_special (special_reads i).1 e.1 special.1 in
-            let a = h.even.pc in
-            let b = h.even.ps in
-            let c = h.even.threadptr in
-            cc;
+        number = reads_number i r.first;
+        mark = reads_saved i r.special;
+        outcome = λ code. outcome_read false s g h.even h.numbers code i r;
       }
 
 -- ---- what kind of instruction it is
@@ -354,7 +333,7 @@ module _ (code : ℕ → ℕ) (b : Bounds) (m : MemoryContents) (s : State) (f :
         x = nested_after i None x u;
         nested = refl;
         inside = subst (λ (z : State). IsInside suspended z (left_turn i x f u).after (nested_after i None x u)) (sym now) (left_inside h shaped.count wide i v reply narrow c l reads epc eps);
-        epc1 = ap (λ (z : State). special_of z.control 177) now ∙ (ap (λ (q : Control). special_of q 177) (write_control c s w) ∙ l.spared 177 refl epc1);
+        epc1 = ap (λ (z : State). special_of z.control 177) now ∙ (ap (λ (q : Control). special_of q 177) (write_control w (record s { control = c })) ∙ l.spared 177 refl epc1);
         framed_epc1 = l.framed epc1 ∙ framed_epc1;
         vectors = vectors;
         seen = refl;

@@ -66,18 +66,6 @@ written_marks regs seen marks base r v w held wide narrow old i k e =
     (cases_eq i r)
 
 module _ (c : Control) (s : State) where
-  pub write_control : (w : Option RegWrite) → (after_write w c s).control ≡ c
-  write_control None = refl
-  write_control (Some w) = refl
-
-  pub write_base : (w : Option RegWrite) → (after_write w c s).base ≡ s.base
-  write_base None = refl
-  write_base (Some w) = refl
-
-  pub write_start : (w : Option RegWrite) → (after_write w c s).start ≡ s.start
-  write_start None = refl
-  write_start (Some w) = refl
-
   pub write_size : (w : Option RegWrite) → length (after_write w c s).regs ≡ length s.regs
   write_size None = refl
   write_size (Some w) = length-set s.regs (place s.base w.reg) w.value

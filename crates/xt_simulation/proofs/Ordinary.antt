@@ -30,50 +30,52 @@ use Rattle.xt_simulation.specs.JudgedSteps.{Steps}
 use Rattle.xt_simulation.proofs.Evenly.{same_at, even_effect, even_ticked, even_raise}
 
 -- ---- equal values
-module _ {vecbase : ℕ} {lost : ℕ → Bool} {s : State} {g : FrameState} {ring spilled : List Frame} (l : Level vecbase lost s g ring spilled) where
-  pub same_value : (o : Option ℕ) → lacks g.seen o ≡ false → value_of (visible s.regs s.base) o ≡ value_of (known g.seen) o
+-- what an instruction reads
+pub record Reads (fresh : Bool) (i : Insn) (g : FrameState) : Type 0 where
+  pub first : lacks g.seen (reads i).0 ≡ false
+  pub second : lacks g.seen (reads i).1 ≡ false
+  pub special : is_unset g.unset (special_reads i).0 ≡ false
+  pub other : is_unset g.unset (special_reads i).1 ≡ false
+  pub lost : reads_lost fresh (special_reads i).0 ≡ false
+  pub other_lost : reads_lost fresh (special_reads i).1 ≡ false
+
+pub what_is_read : (fresh : Bool) (i : Insn) (g : FrameState) → reads_unset i g ≡ false → reads_epc1 fresh i ≡ false → Reads fresh i g
+what_is_read fresh i g unset lost =
+    let a = or_parts (lacks g.seen (reads i).0) (lacks g.seen (reads i).1 || (is_unset g.unset (special_reads i).0 || is_unset g.unset (special_reads i).1)) unset in
+    let b = or_parts (lacks g.seen (reads i).1) (is_unset g.unset (special_reads i).0 || is_unset g.unset (special_reads i).1) a.1 in
+    let c = or_parts (is_unset g.unset (special_reads i).0) (is_unset g.unset (special_reads i).1) b.1 in
+    let e = or_parts (reads_lost fresh (special_reads i).0) (reads_lost fresh (special_reads i).1) lost in
+    record { first = a.0; second = b.0; special = c.0; other = c.1; lost = e.0; other_lost = e.1 }
+
+module _ (fresh : Bool) (s : State) (g : FrameState) (even : Even (lost_at fresh g) s.control g.control) (numbers : (i v : ℕ) → get_or g.seen i None ≡ Some v → visible s.regs s.base i ≡ v) where
+  same_value : (o : Option ℕ) → lacks g.seen o ≡ false → value_of (visible s.regs s.base) o ≡ value_of (known g.seen) o
   same_value None h = refl
   same_value (Some k) h =
       let v = some_value (get_or g.seen k None) h in
-      let a = visible_value l.windows k v.0 v.1 in
       let b : known g.seen k ≡ v.0 = ap (λ o. unwrap_or o 0) v.1 in
-      a ∙ sym b
+      numbers k v.0 v.1 ∙ sym b
 
--- what an instruction outside nested interrupts reads
-record Reads (fresh : Bool) (i : Insn) (g : FrameState) : Type 0 where
-  first : lacks g.seen (reads i).0 ≡ false
-  second : lacks g.seen (reads i).1 ≡ false
-  special : is_unset g.unset (special_reads i).0 ≡ false
-  other : is_unset g.unset (special_reads i).1 ≡ false
-  lost : reads_lost fresh (special_reads i).0 ≡ false
-  other_lost : reads_lost fresh (special_reads i).1 ≡ false
-
-what_is_read : (fresh : Bool) (i : Insn) (g : FrameState) → g.nested ≡ None → reads_none i g ≡ false → loses_epc1 g.nested fresh i ≡ false → Reads fresh i g
-what_is_read fresh i g plain unset lost =
-    let u : reads_unset i g ≡ false = subst (λ (o : Option Nested). reads_none_in o i g ≡ false) plain unset in
-    let n : reads_epc1 fresh i ≡ false = subst (λ (o : Option Nested). loses_epc1 o fresh i ≡ false) plain lost in
-    let a = or_parts (lacks g.seen (reads i).0) (lacks g.seen (reads i).1 || (is_unset g.unset (special_reads i).0 || is_unset g.unset (special_reads i).1)) u in
-    let b = or_parts (lacks g.seen (reads i).1) (is_unset g.unset (special_reads i).0 || is_unset g.unset (special_reads i).1) a.1 in
-    let c = or_parts (is_unset g.unset (special_reads i).0) (is_unset g.unset (special_reads i).1) b.1 in
-    let e = or_parts (reads_lost fresh (special_reads i).0) (reads_lost fresh (special_reads i).1) n in
-    record { first = a.0; second = b.0; special = c.0; other = c.1; lost = e.0; other_lost = e.1 }
-
-module _ {vecbase : ℕ} (fresh : Bool) {s : State} {g : FrameState} {ring spilled : List Frame} (l : Level vecbase (lost_at fresh g) s g ring spilled) where
   same_special : (o : Option ℕ) → reads_lost fresh o ≡ false → is_unset g.unset o ≡ false → value_of (special_of s.control) o ≡ value_of (special_of g.control) o
   same_special None h u = refl
-  same_special (Some k) h u = l.even.special.at k (or_from (lost_of fresh k) (get_or g.unset k false) h u)
+  same_special (Some k) h u = even.special.at k (or_from (lost_of fresh k) (get_or g.unset k false) h u)
 
-  pub same_outcome : (code : ℕ → ℕ) (i : Insn) → g.nested ≡ None → reads_none i g ≡ false → loses_epc1 g.nested fresh i ≡ false → outcome_at code i (visible s.regs s.base) s.control ≡ outcome_at code i (known g.seen) g.control
-  same_outcome code i plain unset lost =
-      let r = what_is_read fresh i g plain unset lost in
-      let x = same_value l (reads i).0 r.first in
-      let y = same_value l (reads i).1 r.second in
+  pub outcome_read : (code : ℕ → ℕ) (i : Insn) → Reads fresh i g → outcome_at code i (visible s.regs s.base) s.control ≡ outcome_at code i (known g.seen) g.control
+  outcome_read code i r =
+      let x = same_value (reads i).0 r.first in
+      let y = same_value (reads i).1 r.second in
       let p = same_special (special_reads i).0 r.lost r.special in
       let q = same_special (special_reads i).1 r.other_lost r.other in
-      let a = l.even.pc in
-      let b = l.even.ps in
-      let c = l.even.threadptr in
+      let a = even.pc in
+      let b = even.ps in
+      let c = even.threadptr in
       cc
+
+-- outside nested interrupts
+pub same_outcome : {vecbase : ℕ} (fresh : Bool) {s : State} {g : FrameState} {ring spilled : List Frame} → Level vecbase (lost_at fresh g) s g ring spilled → (code : ℕ → ℕ) (i : Insn) → g.nested ≡ None → reads_none i g ≡ false → loses_epc1 g.nested fresh i ≡ false → outcome_at code i (visible s.regs s.base) s.control ≡ outcome_at code i (known g.seen) g.control
+same_outcome fresh {s = s} {g = g} l code i plain unset lost =
+    let u : reads_unset i g ≡ false = subst (λ (o : Option Nested). reads_none_in o i g ≡ false) plain unset in
+    let n : reads_epc1 fresh i ≡ false = subst (λ (o : Option Nested). loses_epc1 o fresh i ≡ false) plain lost in
+    outcome_read fresh s g l.even (visible_value l.windows) code i (what_is_read fresh i g u n)
 
 -- ---- what a turn leaves beside the registers
 pub record Alike (lost : ℕ → Bool) (t u : Settled) : Type 0 where
@@ -98,7 +100,7 @@ abbrev pub HasRoom : List Frame → Option RegWrite → Type 0
 HasRoom ring None = Unit {0}
 HasRoom ring (Some w) = (w.reg < 16) × (moved ring + w.reg / 4 < 16)
 
-write_keeps : (o : Option RegWrite) (s : State) → ((with_write o s).base ≡ s.base) × ((with_write o s).start ≡ s.start) × ((with_write o s).control ≡ s.control)
+pub write_keeps : (o : Option RegWrite) (s : State) → ((with_write o s).base ≡ s.base) × ((with_write o s).start ≡ s.start) × ((with_write o s).control ≡ s.control)
 write_keeps None s = (refl, refl, refl)
 write_keeps (Some w) s = (refl, refl, refl)
 

@@ -34,6 +34,7 @@ use Rattle.xt_simulation.proofs.Handled.{handlers_are_spared}
 use Rattle.xt_simulation.proofs.Inner.{Ends, Inner}
 use Rattle.xt_simulation.proofs.InnerRows.{inner_step}
 use Rattle.xt_simulation.proofs.NestedSteps.{nested_areas}
+use Rattle.xt_simulation.proofs.Ordinary.{write_control}
 use Rattle.xt_simulation.proofs.Carried.{Carries, carried, live_same}
 use Rattle.xt_simulation.proofs.Taken.{taken_begin}
 use Rattle.xt_simulation.proofs.Resumed.{ends_access, ends_frames, ends_handling, ends_kind, ends_nothing, ends_seen, ends_write}
@@ -53,10 +54,6 @@ nested_begin = taken_begin
 
 -- ---- a step inside
 -- a written register is no part of the control state, so the reply is none
-write_control : (w : Option RegWrite) (t : State) → (with_write w t).control ≡ t.control
-write_control None t = refl
-write_control (Some w) t = refl
-
 turn_control : (code : ℕ → ℕ) (s : State) (reply : ℕ) → (turn code s reply).1.control ≡ (planned code s).after.control
 unfolding turn
 turn_control code s reply = write_control (written (planned code s).write (planned code s).awaited reply) (planned code s).after
