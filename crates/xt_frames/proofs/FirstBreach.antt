@@ -1,5 +1,6 @@
 -- The walk of the judge finds the first breach of a run: what it keeps at each turn is what is said by the turns before it.
 use Rattle.std.proofs.Common.{◌≡◌, ℕ, zero, suc, ◌<◌, ◌≤◌, Bool, true, false, ◌==◌, ◌||◌, not, List, [], ◌∷◌, Option, Some, None, sym, ap, ◌∙◌, refl, arith, ⊎_elim, subst, length, drop, Decides}
+use Rattle.std.proofs.Math.Bool.{or_comm}
 use Rattle.std.proofs.lemmas.Bool.{cond-true, cond-false, cases_Bool, both_ways, not-true, not-false, false≢true}
 use Rattle.std.proofs.lemmas.Option.{slice_get_within}
 use Rattle.xt_map.specs.declared.access.Entry.{Entry}
@@ -20,12 +21,6 @@ use Rattle.xt_frames.proofs.Earlier.{lost_handled, lost_judged, lost_other, stal
 double_not : (b : Bool) → not (not b) ≡ b
 double_not true = refl
 double_not false = refl
-
-or_turned : (b c : Bool) → (b || c) ≡ (c || b)
-or_turned true true = refl
-or_turned true false = refl
-or_turned false true = refl
-or_turned false false = refl
 
 -- ---- what the walk sees of a record
 
@@ -250,7 +245,7 @@ live_0 : (r : Course) (q : ℕ) → live_of (r.bounds 0) (frame_before r 0 q) (i
 live_0 r q = refl
 
 live_1 : (r : Course) (q : ℕ) → live_of (r.bounds 1) (frame_before r 1 q) (is_live (r.bounds 0).range (frame_before r 0 q)) ≡ live_before r q
-live_1 r q = λ i a. or_turned (is_live (r.bounds 1).range (frame_before r 1 q) a) (is_live (r.bounds 0).range (frame_before r 0 q) a) i
+live_1 r q = λ i a. or_comm (is_live (r.bounds 1).range (frame_before r 1 q) a) (is_live (r.bounds 0).range (frame_before r 0 q) a) i
 
 module _ (r : Course) where
   ended : (p : ℕ) (lost0 lost1 : Bool) (stale : ℕ → Bool) → Reached r p lost0 lost1 stale → drop p r.turns ≡ [] → IsJudgement r (record { known = known_at r p lost0 lost1 stale; breach = None })

@@ -1,6 +1,7 @@
 -- A step in a nested interrupt, and the step that begins one.
 use Rattle.std.proofs.Common.{◌≢◌, ◌&&◌, ◌≡◌, ℕ, ◌<◌, Bool, true, false, not, ltb, List, [], ◌∷◌, Option, Some, None, sym, ◌∙◌, refl, ap, arith, cond, subst, ltb-true}
 use Rattle.std.specs.Prelude.{Result, Ok, Err, is_some, unwrap_or}
+use Rattle.std.proofs.Math.Bool.{and-true}
 use Rattle.std.proofs.lemmas.Bool.{and_right, and_parts, cond-true, lt-ltb}
 use Rattle.xt_isa.specs.declared.Insn.{Insn}
 use Rattle.xt_isa.specs.declared.Insn.TheVariants as insn
@@ -161,14 +162,10 @@ closes_plain code kind.Insn pc e = refl
 closes_plain code _ pc e = absurd cc
 
 -- ---- the step that begins one
-and_true : (b : Bool) → (b && true) ≡ b
-and_true true = refl
-and_true false = refl
-
 pub fresh_begun : (fresh : Bool) (at : Fetched) (f g : FrameState) → fresh ≡ fresh_after fresh (begun g).kind at f.control.ps (current (begun g).after).control.ps
 unfolding after_interrupt writes_epc1
 fresh_begun fresh at f g =
-    sym (ap (λ (b : Bool). fresh && not b) (and_right f.control.ps.excm false refl) ∙ and_true fresh)
+    sym (ap (λ (b : Bool). fresh && not b) (and_right f.control.ps.excm false refl) ∙ and-true fresh)
 
 pub begins_now : (rec : StepRecord) (f : FrameState) → is_nesting rec.kind ≡ true → f.nested ≡ None → begins true rec.kind f ≡ true
 begins_now rec f e n = ap (λ (o : Option Nested). is_nesting rec.kind && not (is_some o)) n ∙ ap (λ b. b && true) e

@@ -2,6 +2,7 @@
 use Rattle.std.proofs.Common.{◌≡◌, ℕ, ◌+◌, ◌-◌, ◌*◌, ◌%◌, ◌<◌, ◌≤◌, ◌≢◌, ◌⊎◌, Bool, true, false, ◌||◌, ◌&&◌, not, eqb, List, [], ◌∷◌, ◌++◌, Option, sym, ap, ◌∙◌, refl, arith, inl, inr, ⊎_elim, length, get_or, append_assoc}
 use Rattle.std.proofs.Math.ListN.{set}
 use Rattle.xt_frames.specs.Breaches.{Bounds, lost_of}
+use Rattle.std.proofs.Math.Bool.{or-false, or_assoc}
 use Rattle.std.proofs.lemmas.Bool.{and_from, and_parts, eq-eqb, ne_eqb, cases_eq, cases_lt, or_left, or_right, or_from, or_parts, or_cases, false_from_ne_true, false≢true}
 use Rattle.std.proofs.lemmas.List.{get_or-set_same, get_or-set_other, get_or_past, length-set}
 use Rattle.xt_exec.specs.State.{State}
@@ -29,10 +30,6 @@ pub frames_end : (ring : List Frame) (g : Frame) → AreFrames (ring ++ g ∷ []
 frames_end [] g h = (tt, h.0)
 frames_end (f ∷ fs) g h = let r = frames_end fs g h.1 in ((h.0, r.0), r.1)
 
-or_either : (a b c : Bool) → (a || (b || c)) ≡ (a || b || c)
-or_either true b c = refl
-or_either false b c = refl
-
 pub stands_end : (w : ℕ) (ring : List Frame) (g : Frame) (low : ℕ) → stands w (ring ++ g ∷ []) low ≡ (stands w ring (g.by + low) || eqb w low)
 stands_end w [] g low = ap (λ x. eqb w x || eqb w low) (let e : g.by + 0 + low ≡ g.by + low = omega arith in e)
 stands_end w (f ∷ fs) g low =
@@ -40,7 +37,7 @@ stands_end w (f ∷ fs) g low =
     let h = stands_end w fs g low in
     ap (λ x. eqb w x || stands w (fs ++ g ∷ []) low) e
     ∙ (ap (λ y. eqb w (f.by + moved fs + (g.by + low)) || y) h
-    ∙ or_either (eqb w (f.by + moved fs + (g.by + low))) (stands w fs (g.by + low)) (eqb w low))
+    ∙ sym (or_assoc (eqb w (f.by + moved fs + (g.by + low))) (stands w fs (g.by + low)) (eqb w low)))
 
 pub in_ring_end : (regs : List ℕ) (ring : List Frame) (g : Frame) (low : ℕ) → InRing regs (ring ++ g ∷ []) low → InRing regs ring (g.by + low) × Holds regs g.kept low
 in_ring_end regs [] g low h = let e : 0 + low ≡ low = omega arith in (tt, rw e at h.0)
@@ -108,10 +105,6 @@ epc1_or false fresh unset = refl
 pub epc1_lost : (fresh : Bool) (f : FrameState) (k : ℕ) → lost_at false f k ≡ without_epc1 (lost_at fresh f) k
 epc1_lost fresh f k = epc1_or (eqb k 177) fresh (get_or f.unset k false)
 
-or_none : (b : Bool) → (b || false) ≡ b
-or_none true = refl
-or_none false = refl
-
 stands_below : (w : ℕ) (ring : List Frame) (low : ℕ) → w < low → stands w ring low ≡ false
 stands_below w ring low h = false_from_ne_true (stands w ring low) (λ e. let b = stands_within w ring low e in omega arith)
 
@@ -127,7 +120,7 @@ module _ {regs : List ℕ} {base start : ℕ} {seen : List (Option ℕ)} {low : 
       (λ inside.
       let apart : k % 16 ≡ low % 16 → ⊥ = λ e. let z = one_window k low (omega arith) (omega arith) e in omega arith in
       let n : eqb k low ≡ false = ne_eqb _ _ (λ z. omega arith) in
-      bit_without_other start low k apart ∙ (w.bits k (omega arith) inside ∙ (stands_end k ring g low ∙ rw n (or_none (stands k ring (g.by + low))))))
+      bit_without_other start low k apart ∙ (w.bits k (omega arith) inside ∙ (stands_end k ring g low ∙ rw n (or-false (stands k ring (g.by + low))))))
       (λ beyond.
       -- the window is low, or one above it that no frame has
       ⊎_elim
@@ -191,7 +184,7 @@ module _ {regs : List ℕ} {base start : ℕ} {seen : List (Option ℕ)} {low : 
       (λ not_mine.
       let apart : k % 16 ≡ low % 16 → ⊥ = λ e. not_mine (one_window k low (omega arith) (omega arith) e) in
       let n : eqb k low ≡ false = ne_eqb _ _ not_mine in
-      let right : (eqb k (g.by + 0 + low) || eqb k low) ≡ eqb k (g.by + 0 + low) = rw n (or_none (eqb k (g.by + 0 + low))) in
+      let right : (eqb k (g.by + 0 + low) || eqb k low) ≡ eqb k (g.by + 0 + low) = rw n (or-false (eqb k (g.by + 0 + low))) in
       bit_with_other start low k apart
       ∙ (⊎_elim
       (λ low_side.

@@ -249,8 +249,9 @@ pub not_written : (i : Insn) (old : List Bool) → moved_to i ≡ None → unset
 not_written i old is = ap (λ (o : Option (ℕ × ℕ)). unset_by o [] old) is
 
 -- ---- a step with another freshness
-pub less_fresh : {vecbase : ℕ} (fresh : Bool) {spilled : List Frame} {under : ℕ} {t : Turn} {u : FrameTurn} (old new : List Bool) (writes kept : Bool) → writes ≡ false → new ≡ old → Steps vecbase (lost_in fresh old) spilled under t u → Steps vecbase (lost_in (writes || (fresh && kept)) new) spilled under t u
-less_fresh fresh {t = t} {u = u} old new writes kept w same p = record {
+-- with other numbers
+pub steps_with : {vecbase : ℕ} {lost now : ℕ → Bool} {spilled : List Frame} {under : ℕ} {t : Turn} {u : FrameTurn} (unset : List Bool) → Even now t.after.control u.after.control → Steps vecbase lost spilled under t u → Steps vecbase now spilled under t (record u { after = record u.after { unset = unset } })
+steps_with unset even p = record {
   kind = p.kind;
   write = p.write;
   access = p.access;
@@ -260,9 +261,13 @@ less_fresh fresh {t = t} {u = u} old new writes kept w same p = record {
     windows = p.level.windows;
     frames = p.level.frames;
     older = p.level.older;
-    even = even_after fresh writes kept old new t.after.control u.after.control p.level.even (λ t. absurd (both_ways _ w t)) (λ k. inl (ap (λ xs. get_or xs k false) same));
+    even = even;
     woe = p.level.woe;
     calls = p.level.calls;
     vectors = p.level.vectors;
   };
 }
+
+pub less_fresh : {vecbase : ℕ} (fresh : Bool) {spilled : List Frame} {under : ℕ} {t : Turn} {u : FrameTurn} (old new : List Bool) (writes kept : Bool) → writes ≡ false → new ≡ old → Steps vecbase (lost_in fresh old) spilled under t u → Steps vecbase (lost_in (writes || (fresh && kept)) new) spilled under t u
+less_fresh fresh {t = t} {u = u} old new writes kept w same p =
+    steps_with u.after.unset (even_after fresh writes kept old new t.after.control u.after.control p.level.even (λ t. absurd (both_ways _ w t)) (λ k. inl (ap (λ xs. get_or xs k false) same))) p

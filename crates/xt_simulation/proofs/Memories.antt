@@ -3,7 +3,7 @@ use Rattle.xt_exec.specs.Laws.{IsServed}
 use Rattle.xt_map.proofs.Small.{past_memory, to_small}
 use Rattle.xt_map.proofs.Alike.{inside, untouched, touched_alike, same_bytes, same_reply}
 use Rattle.std.proofs.Common.{◌≡◌, ◌⊎◌, ⊎_elim, inl, inr, ℕ, zero, suc, ◌+◌, ◌^◌, ◌<◌, ◌≤◌, Bool, true, false, ◌||◌, ◌&&◌, not, refl, sym, ◌∙◌, ap, arith, Some, None, Option}
-use Rattle.std.proofs.lemmas.Bool.{cases_eq, cases_Bool, or_parts, true≢false, both_ways, false_from_ne_true}
+use Rattle.std.proofs.lemmas.Bool.{and_right, cases_eq, cases_Bool, or_parts, true≢false, both_ways, false_from_ne_true}
 use Rattle.xt_map.specs.declared.access.Access.{Access}
 use Rattle.xt_map.specs.declared.access.Kind.{Kind}
 use Rattle.xt_map.specs.declared.access.Kind.TheVariants.{Load, Store, Cas}
@@ -35,11 +35,7 @@ fresh_byte false false true false n h = absurd (true≢false h)
 fresh_byte false false false stores n h = (refl, λ e. refl)
 
 not_stored : (k : Kind) (addr size a : ℕ) → touches addr size a ≡ false → (is_store k && touches addr size a) ≡ false
-not_stored k addr size a h = rw h (and_false (is_store k))
-  where
-    and_false : (b : Bool) → (b && false) ≡ false
-    and_false true = refl
-    and_false false = refl
+not_stored k addr size a h = and_right (is_store k) _ h
 
 pub memories_agree : (live now stale : ℕ → Bool) (real framed : MemoryContents) (access : Option Access) → HasSizes real → HasSizes framed → IsServed access → Agree live stale real framed → KeepsAreas live stale access
     → Agree now (stale_after now live stale access) (memory_after_step real access) (memory_after_step framed access)

@@ -1,5 +1,7 @@
 -- Both cores at each place of the schedule before the first breach: the machines are related, and the judged records are a frame run.
 use Rattle.std.proofs.Common.{◌≡◌, ℕ, Bool, true, false, ◌||◌, cond, List, [], ◌∷◌, ◌++◌, Option, Some, None, sym, ap, ◌∙◌, refl, arith, inl, inr, ⊎_elim, subst, append_assoc}
+use Rattle.std.proofs.Math.Bool.{or_comm}
+use Rattle.std.proofs.lemmas.Option.{same_Some}
 use Rattle.std.proofs.lemmas.Bool.{cond-true, cond-false, cases_Bool, or_parts, or_from, or_left, or_right, false_from_ne_true, false≢true}
 use Rattle.std.proofs.lemmas.List.{append-nil}
 use Rattle.xt_map.specs.declared.access.Access.{Access}
@@ -97,12 +99,6 @@ live_apart r q f g a apart k j h =
     let x = live_in_range q g a j h in
     false_from_ne_true (is_live r f a) (λ t. let y = live_in_range r f a k t in ⊎_elim (λ p. omega arith) (λ p. omega arith) apart)
 
-or_turned : (b c : Bool) → (b || c) ≡ false → (c || b) ≡ false
-or_turned b c h = let p = or_parts b c h in or_from c b p.1 p.0
-
-some_is : {X : Type 0} (y x : X) → Some y ≡ Some x → y ≡ x
-some_is y x e = cc
-
 begins_stack : (side : Side) (m : ℕ → ℕ) (b : Bounds) (lost : ℕ → Bool) (s : State) (f : FrameState) (front : List Frame) (g : Frame) (rest : List Frame) → Begins side m b lost s f front g rest → Stack b.range.lo b.range.hi f.seen f.frames
 begins_stack Overflow m b lost s f front g rest l = l.stack
 begins_stack Underflow m b lost s f front g rest l = l.stack
@@ -158,7 +154,7 @@ module _ (code : ℕ → ℕ) (bytes : AreBytes code) where
     holes_second = h.holes_first;
     real = h.real;
     frames = h.frames;
-    agree = λ a live. h.agree a (or_turned (is_live c.range theirs.standing.frame a) (is_live b.range mine.standing.frame a) live);
+    agree = λ a live. h.agree a (or_comm (is_live b.range mine.standing.frame a) (is_live c.range theirs.standing.frame a) ∙ live);
   }
 
   -- ---- one turn of one core
@@ -295,7 +291,7 @@ module _ (code : ℕ → ℕ) (bytes : AreBytes code) where
         let entered = stretches_are_entered code bytes b good m fresh s f somewhere.ring somewhere.spilled 0 somewhere.related h.shaped_first (kind_is window) (sym (same_window h.first.1 h.shaped_first) ∙ e) in
         let same : memory_now code m s ≡ m = ap (memory_after_step m) entered.0 in
         let inside : Handling code b (memory_now code m s) (state_now code m s) f s (byte_at m) = subst (λ y. Handling code b y (state_now code m s) f s (byte_at m)) (sym same) entered.1 in
-        subst (Keeps b c (core_in Plain) theirs m framed) (some_is _ x k) (stands_still Plain Handles h (inside, h.first.1, refl) (λ a dead. ap (λ y. byte_at y a) same))
+        subst (Keeps b c (core_in Plain) theirs m framed) (same_Some _ x k) (stands_still Plain Handles h (inside, h.first.1, refl) (λ a dead. ap (λ y. byte_at y a) same))
 
     -- ---- a judged step outside handler steps
     judged_keeps : (o : Option BreachKind) → breach_of b fresh code (live_of b f others) stale false rec f ≡ o → is_window rec.kind ≡ false → Both b c (core_in Plain) theirs m framed stale → (x : Moved)
@@ -309,7 +305,7 @@ module _ (code : ℕ → ℕ) (bytes : AreBytes code) where
         let same : Matches (place_on false rec f) rec (step_on code false rec f) framed = subst (λ pc. Matches pc rec (step_on code false rec f) framed) (sym (place_plain rec f h.first.1)) j.same in
         let none : (step_on code false rec f).after.nested ≡ None = judge_plain code bytes b fresh s f somewhere.ring somewhere.spilled m framed others stale somewhere.related h.first.1 h.shaped_first h.real h.frames.sizes h.agree (kind_isnt nowindow) e in
         let next : mode_after code Plain rec ≡ Plain = cond-false (is_window rec.kind) Handles Plain nowindow in
-        subst (Keeps b c (core_in Plain) theirs m framed) (some_is _ x k)
+        subst (Keeps b c (core_in Plain) theirs m framed) (same_Some _ x k)
         (subst (λ mode. Keeps b c (core_in Plain) theirs m framed (judged_to false mode (fresh_on fresh code false rec f) at)) (sym next)
         (judged_on Plain false Plain (fresh_on fresh code false rec f) at h (j.somewhere, none) same areas))
 
@@ -330,7 +326,7 @@ module _ (code : ℕ → ℕ) (bytes : AreBytes code) where
         let held : Held (memory_now code m s) b u.after entered = record { bytes = λ a live. ap (λ y. byte_at y a) same; epc1 = h.first.0.control.epc1 } in
         let lost : fresh_on fresh code true rec f ≡ false = begin_fresh code m s f here outside fresh ∙ h.first.2 in
         let areas : KeepsAreas (live_of b f others) stale (demand code s) = subst (KeepsAreas (live_of b f others) stale) (sym (no_access code m s f here outside)) tt in
-        subst (Keeps b c (core_in Handles) theirs m framed) (some_is _ x k)
+        subst (Keeps b c (core_in Handles) theirs m framed) (same_Some _ x k)
         (subst (λ mode. Keeps b c (core_in Handles) theirs m framed (judged_to true mode (fresh_on fresh code true rec f) entered)) (sym next)
         (judged_on Handles true Nests (fresh_on fresh code true rec f) entered h (suspends, held, lost) (begin_matches code m s f here outside framed) areas))
 
@@ -398,7 +394,7 @@ module _ (code : ℕ → ℕ) (bytes : AreBytes code) where
     nested_keeps (Some kind) e h x k = absurd cc
     nested_keeps None e h x k =
         let none = no_breach h.first.2 e in
-        subst (Keeps b c (core_in Nests) theirs m framed) (some_is _ x k)
+        subst (Keeps b c (core_in Nests) theirs m framed) (same_Some _ x k)
         (judged_on Nests true (mode_after code Nests rec) (fresh_on fresh code true rec f) nested_next h (nested_to (returns code rec.kind rec.pc) refl none h) (nested_step none h).0 (nested_areas h.first.0 h.shaped_first (live_of b f others) stale none))
 
     -- and what the handler had is as it was
@@ -410,7 +406,7 @@ module _ (code : ℕ → ℕ) (bytes : AreBytes code) where
         let none = no_breach h.first.2 e in
         let now = returns_is true ends in
         let back = nested_back h.first.0 h.shaped_first (live_of b f others) stale none now in
-        subst (λ t. LeavesHandler b f at.suspended t at.held (byte_at m)) (ap (λ (y : Moved). y.mine.state) (some_is _ x k)) (record {
+        subst (λ t. LeavesHandler b f at.suspended t at.held (byte_at m)) (ap (λ (y : Moved). y.mine.state) (same_Some _ x k)) (record {
           seen = λ i within. nested_seen h.first.0 h.shaped_first (live_of b f others) stale none now i;
           epc1 = (nested_resumes ends none h).1.control.epc1 ∙ sym h.first.1.epc1;
           ps = back.ps;
@@ -437,7 +433,7 @@ module _ (code : ℕ → ℕ) (bytes : AreBytes code) where
         let H : Seen = handled code (standing_in Handles) rec in
         ⊎_elim
         (λ nesting. begin_keeps (breach_of b fresh code (live_of b f others) stale true rec f) nesting h x (subst P (cond-true (is_nesting rec.kind) J H nesting) k))
-        (λ other_kind. subst (Keeps b c (core_in Handles) theirs m framed) (some_is _ x (subst P (cond-false (is_nesting rec.kind) J H other_kind) k)) (handles_keeps other_kind h))
+        (λ other_kind. subst (Keeps b c (core_in Handles) theirs m framed) (same_Some _ x (subst P (cond-false (is_nesting rec.kind) J H other_kind) k)) (handles_keeps other_kind h))
         (cases_Bool (is_nesting rec.kind))
 
     pub move_keeps : (mode : Mode) → Both b c (core_in mode) theirs m framed stale → (x : Moved) → move code b c core (core_in mode) theirs m stale ≡ Some x → Keeps b c (core_in mode) theirs m framed x
@@ -508,7 +504,7 @@ module _ (code : ℕ → ℕ) (bytes : AreBytes code) where
     moved0_keeps w v None h k e = absurd cc
     moved0_keeps w v (Some x) h k e =
         let y = k x refl in
-        subst (Holds b0 b1 opening f0 f1) (some_is _ v e) (record {
+        subst (Holds b0 b1 opening f0 f1) (same_Some _ v e) (record {
           both = subst (λ z. Both b0 b1 x.mine w.core1 (memory_now code w.memory w.core0.state) z x.stale) (sym (memory_append opening w.entries x.entries)) y.both;
           legal = legal_append opening w.entries x.entries h.legal y.answers;
           leads0 = y.leads f0 h.leads0;
@@ -519,7 +515,7 @@ module _ (code : ℕ → ℕ) (bytes : AreBytes code) where
     moved1_keeps w v None h k e = absurd cc
     moved1_keeps w v (Some x) h k e =
         let y = k x refl in
-        subst (Holds b0 b1 opening f0 f1) (some_is _ v e) (record {
+        subst (Holds b0 b1 opening f0 f1) (same_Some _ v e) (record {
           both = subst (λ z. Both b0 b1 w.core0 x.mine (memory_now code w.memory w.core1.state) z x.stale) (sym (memory_append opening w.entries x.entries)) (turned b1 b0 x.mine w.core0 (memory_now code w.memory w.core1.state) (memory_after (memory_after opening w.entries) x.entries) x.stale y.both);
           legal = legal_append opening w.entries x.entries h.legal y.answers;
           leads0 = h.leads0;
@@ -548,7 +544,7 @@ module _ (code : ℕ → ℕ) (bytes : AreBytes code) where
     walked_from (c ∷ cs) (Some w) v h e = walked_from cs (given code b0 b1 c w) v (λ x k. given_keeps c w x (h w refl) k) e
 
     pub walked_keeps : (cores : List Bool) (w v : World) → Holds b0 b1 opening f0 f1 w → walked code b0 b1 cores (Some w) ≡ Some v → Holds b0 b1 opening f0 f1 v
-    walked_keeps cores w v h e = walked_from cores (Some w) v (λ x k. subst (Holds b0 b1 opening f0 f1) (some_is w x k) h) e
+    walked_keeps cores w v h e = walked_from cores (Some w) v (λ x k. subst (Holds b0 b1 opening f0 f1) (same_Some w x k) h) e
 
     pub frame_run : (w : World) → Holds b0 b1 opening f0 f1 w → IsWorldRun code opening f0 f1 w
     frame_run w h = record { first = h.leads0.trace; second = h.leads1.trace; legal = h.legal }

@@ -34,7 +34,7 @@ use Rattle.xt_simulation.specs.JudgedSteps.{Steps, KeepsLevel, fresh_turn, plain
 use Rattle.xt_simulation.proofs.Evenly.{at_given, interrupt_numbers, lost_in, same_at, same_numbers, even_ticked, even_interrupt, even_interrupt_epc1, even_after, same_pending}
 use Rattle.xt_simulation.proofs.Turns.{low_level}
 use Rattle.xt_simulation.proofs.Ordinary.{Ends, in_both}
-use Rattle.xt_simulation.proofs.Judged.{Target, raise_target}
+use Rattle.xt_simulation.proofs.Judged.{Target, raise_target, steps_with}
 use Rattle.xt_simulation.proofs.Executed.{insn_target}
 
 module _ {vecbase : ℕ} (fresh : Bool) {s : State} {g : FrameState} {ring spilled : List Frame} (l : Level vecbase (lost_at fresh g) s g ring spilled) (at : Fetched) (reply : ℕ) where
@@ -131,29 +131,11 @@ whole_turn code bytes b fresh live stale s g ring spilled reply l plain shaped a
     (cases_Bool s.control.waits))
     (cases_Bool (ltb 0 (pending_of s.control)))
 
--- ---- the registers to which it gives numbers
-numbered : {vecbase : ℕ} {lost : ℕ → Bool} {spilled : List Frame} {under : ℕ} {t : Turn} {u : FrameTurn} (unset : List Bool) → Steps vecbase lost spilled under t u → Steps vecbase lost spilled under t (record u { after = record u.after { unset = unset } })
-numbered unset p = record {
-  kind = p.kind;
-  write = p.write;
-  access = p.access;
-  ring = p.ring;
-  same = p.same;
-  level = record {
-    windows = p.level.windows;
-    frames = p.level.frames;
-    older = p.level.older;
-    even = p.level.even;
-    woe = p.level.woe;
-    calls = p.level.calls;
-    vectors = p.level.vectors;
-  };
-}
-
+-- ---- and after it has given them
 pub keeps_level : KeepsLevel
 keeps_level code bytes b fresh live stale s g ring spilled reply l plain shaped after reply_is nowindow none =
     let w = whole_turn code bytes b fresh live stale s g ring spilled reply l plain shaped after reply_is nowindow none in
     let u = plain_after code reply g in
     let same : unset_after (planned code s).kind (fetched code s.control.pc) g.unset ≡ u.after.unset =
     ap (λ k. unset_after k (fetched code s.control.pc) g.unset) w.kind ∙ ap (λ pc. unset_after (laid_step code reply g).kind (fetched code pc) g.unset) l.even.pc in
-    subst (λ x. Steps b.vecbase (lost_in (fresh_turn fresh code reply s) x) spilled (sp_under (known g.seen 1) ring) (turn_of code s reply) u) same (numbered u.after.unset w)
+    subst (λ x. Steps b.vecbase (lost_in (fresh_turn fresh code reply s) x) spilled (sp_under (known g.seen 1) ring) (turn_of code s reply) u) same (steps_with u.after.unset w.level.even w)
