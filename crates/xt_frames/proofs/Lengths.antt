@@ -1,6 +1,6 @@
 -- The lists of a frame state that say where it has no number are as long as there are registers:
 -- so they open, and so each step leaves them.
-use Rattle.std.proofs.Common.{◌≡◌, ℕ, ◌+◌, Bool, true, false, cond, ltb, List, [], ◌∷◌, Option, Some, None, sym, ap, ◌∙◌, refl, subst, length}
+use Rattle.std.proofs.Common.{◌≡◌, ℕ, ◌+◌, Bool, true, false, ltb, List, [], ◌∷◌, Option, Some, None, sym, ap, ◌∙◌, refl, subst, length}
 use Rattle.std.proofs.Math.ListN.{set}
 use Rattle.std.proofs.lemmas.List.{length-set, length-replicate}
 use Rattle.xt_isa.specs.declared.Insn.{Insn}

@@ -1,8 +1,8 @@
 -- A window handler's relation, where a step of a nested interrupt has changed THREADPTR and special registers alike in both machines.
-use Rattle.std.proofs.Common.{◌≡◌, ℕ, ◌≢◌, ◌<◌, Bool, true, false, List, length, get_or, sym, ap, ◌∙◌, refl, arith, ⊎_elim, subst}
+use Rattle.std.proofs.Common.{◌≡◌, ℕ, ◌≢◌, Bool, false, List, length, get_or, sym, ap, ◌∙◌, refl, arith, subst}
 use Rattle.std.proofs.Math.ListN.{set}
-use Rattle.std.proofs.lemmas.Bool.{cases_eq, false≢true}
-use Rattle.std.proofs.lemmas.List.{get_or-set_same, get_or-set_other, length-set}
+use Rattle.std.proofs.lemmas.Bool.{false≢true}
+use Rattle.std.proofs.lemmas.List.{get_or-set_other, length-set}
 use Rattle.xt_map.specs.declared.contents.MemoryContents.{MemoryContents}
 use Rattle.xt_special.specs.declared.ps.Ps.{Ps}
 use Rattle.xt_special.specs.Numbers as number
@@ -23,7 +23,7 @@ use Rattle.xt_stretch.specs.Kept.{Stands}
 use Rattle.xt_stretch.specs.Machines.{Machine}
 use Rattle.xt_simulation.specs.Stacks.{Saved, sp_under}
 use Rattle.xt_simulation.specs.Ring.{Windows}
-use Rattle.xt_simulation.specs.Relation.{Same, Plain, inputs, lost_at, can_be_lost}
+use Rattle.xt_simulation.specs.Relation.{Same, Plain, inputs, lost_at}
 use Rattle.xt_simulation.specs.Cores.{word, Related}
 use Rattle.xt_simulation.specs.InHandlers.{as_left, special_left, start_of}
 use Rattle.xt_simulation.specs.Stretches.{InHandler}

@@ -1,8 +1,7 @@
 -- Inside handler steps: what holds is entered at the record of a window exception, kept by each handler step and by the other core's
 -- accesses, and left at RFWO and RFWU.
-use Rattle.std.proofs.Common.{append_assoc, ◌≡◌, ◌⊎◌, ⊎_elim, inl, inr, ℕ, ◌+◌, ◌-◌, ◌*◌, ◌%◌, ◌^◌, ◌<◌, ◌≤◌, Bool, true, false, ◌||◌, ◌&&◌, cond, leb, ltb, refl, sym, ◌∙◌, ap, arith, List, [], ◌∷◌, ◌++◌, length, get_or, subst, Some, None, Option}
-use Rattle.std.proofs.lemmas.Bool.{le-ltb, cases_Bool, cases_lt, or_parts, or_from, or_left, or_right, and_parts, cond-true, cond-false, false≢true, false_from_ne_true, leb-true, ltb-true}
-use Rattle.std.specs.Prelude.{max}
+use Rattle.std.proofs.Common.{append_assoc, ◌≡◌, ◌⊎◌, ⊎_elim, inl, inr, ℕ, ◌+◌, ◌-◌, ◌*◌, ◌%◌, ◌^◌, ◌<◌, ◌≤◌, Bool, true, false, ◌||◌, cond, leb, ltb, refl, sym, ◌∙◌, ap, arith, List, [], ◌∷◌, ◌++◌, length, get_or, subst, Some, None, Option}
+use Rattle.std.proofs.lemmas.Bool.{cases_Bool, cases_lt, or_parts, or_from, or_left, or_right, and_parts, cond-true, cond-false, false≢true, false_from_ne_true, leb-true, ltb-true}
 use Rattle.xt_isa.specs.declared.Insn.{Insn}
 use Rattle.xt_isa.specs.declared.Insn.TheVariants as insn
 use Rattle.xt_isa.specs.declared.system.System.TheVariants as system
@@ -16,14 +15,13 @@ use Rattle.xt_special.specs.declared.ps.Ps.{Ps}
 use Rattle.xt_special.specs.Numbers as number
 use Rattle.xt_special.specs.Control.{special_of}
 use Rattle.xt_special.specs.Timers.{ticked}
-use Rattle.xt_special.specs.Interrupts.{pending_level, pending_of}
+use Rattle.xt_special.specs.Interrupts.{pending_of}
 use Rattle.xt_window.specs.Ring.{place, visible, with_bit, without_bit}
 use Rattle.xt_trace.specs.declared.record.StepKind.TheVariants as kind
 use Rattle.xt_fetch.specs.Fetching.{Fetches, fetched, can_fetch, read_as}
-use Rattle.xt_exec.proofs.Finished.{turn_taken}
 use Rattle.xt_exec.specs.State.{State}
 use Rattle.xt_exec.specs.Laws.{IsShaped}
-use Rattle.xt_exec.specs.Turn.{Planned, planned, demand, turn, window_exception}
+use Rattle.xt_exec.specs.Turn.{planned, demand, turn, window_exception}
 use Rattle.xt_frames.specs.Frames.{Frame, FrameState, moved}
 use Rattle.xt_frames.specs.FrameStep.{laid}
 use Rattle.xt_frames.specs.SaveAreas.{sp_of, touches, is_live}

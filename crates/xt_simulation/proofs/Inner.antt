@@ -8,7 +8,6 @@ use Rattle.xt_map.specs.declared.contents.MemoryContents.{MemoryContents}
 use Rattle.xt_special.specs.Numbers as number
 use Rattle.xt_special.specs.Control.{special_of}
 use Rattle.xt_exec.specs.State.{State}
-use Rattle.xt_exec.specs.Turn.{demand}
 use Rattle.xt_frames.specs.declared.holes.Nested.{Nested}
 use Rattle.xt_frames.specs.Frames.{FrameState}
 use Rattle.xt_frames.specs.FrameStep.{FrameTurn}

@@ -1,7 +1,7 @@
 -- A nested step that moves a mark: RSR, WSR or XSR between a0 to a3 and a register that can hold one.
 -- The frame machine has no value where a mark stands, so the two outcomes differ; both are known by
 -- computation.
-use Rattle.std.proofs.Common.{◌≡◌, ℕ, ◌+◌, ◌*◌, ◌%◌, ◌^◌, ◌<◌, ◌≤◌, ◌≢◌, ◌⊎◌, Bool, true, false, ◌||◌, ◌&&◌, not, eqb, leb, ltb, List, Option, Some, None, is_some, inl, inr, sym, ap, ◌∙◌, refl, arith, ⊎_elim, subst, length, get_or}
+use Rattle.std.proofs.Common.{◌≡◌, ℕ, ◌+◌, ◌%◌, ◌^◌, ◌<◌, ◌≤◌, ◌≢◌, ◌⊎◌, Bool, true, false, ◌||◌, ◌&&◌, not, eqb, leb, ltb, List, Option, Some, None, is_some, inl, inr, sym, ap, ◌∙◌, refl, arith, ⊎_elim, subst, length, get_or}
 use Rattle.std.specs.Prelude.{unwrap_or}
 use Rattle.std.proofs.Math.ListN.{set}
 use Rattle.std.proofs.lemmas.Bool.{cases_eq, cases_lt, true≢false, and_parts, and_cases, and_left, or_parts, or_cases, or_from, or_right, ne_eqb, eqb-false, leb-true, ltb-true, false_from_ne_true, cond-true, cond-false}
@@ -33,12 +33,12 @@ use Rattle.xt_rows.specs.Settling.{Executed, after_effect, written}
 use Rattle.xt_fetch.specs.Fetching.{Fetches, fetched}
 use Rattle.xt_exec.specs.State.{State}
 use Rattle.xt_exec.specs.Laws.{IsShaped}
-use Rattle.xt_exec.specs.Turn.{Planned, demand, done, planned, turn, with_write}
+use Rattle.xt_exec.specs.Turn.{done, planned, with_write}
 use Rattle.xt_frames.specs.declared.holes.Nested.{Nested}
 use Rattle.xt_frames.specs.Frames.{FrameState, known, seen_after_write}
 use Rattle.xt_frames.specs.FrameStep.{FrameTurn, done_in_frame, fetched_step, in_frame, laid}
-use Rattle.xt_frames.specs.Marks.{holds_marks, mark_read, marked_seen, marked_write, marks_after, moves_marks, unset_by, unset_written}
-use Rattle.xt_frames.specs.Nesting.{ends_nested, inside, keeping, nested_after, nested_insn}
+use Rattle.xt_frames.specs.Marks.{holds_marks, mark_read, marked_seen, marked_write, marks_after, moves_marks}
+use Rattle.xt_frames.specs.Nesting.{ends_nested, inside, nested_insn}
 use Rattle.xt_frames.specs.Breaches.{Bounds, is_sp, is_unset, lacks, lost_of, may_write_sp, reads_no_mark, reads_none_in, writes_sp}
 use Rattle.xt_frames.specs.Judging.{value_in}
 use Rattle.xt_frames.proofs.Shown.{Sound}

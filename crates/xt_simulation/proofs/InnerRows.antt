@@ -1,9 +1,8 @@
 -- A nested step that moves no mark: both machines compute the same outcome.
-use Rattle.std.proofs.Common.{◌≡◌, ◌⊎◌, ℕ, ◌<◌, ◌≢◌, Bool, true, false, ◌||◌, ◌&&◌, not, cond, eqb, leb, ltb, List, Option, Some, None, sym, ap, ◌∙◌, refl, arith, inl, inr, ⊎_elim, subst, length, get_or}
-use Rattle.std.specs.Prelude.{is_some, unwrap_or}
-use Rattle.std.proofs.Math.ListN.{set}
-use Rattle.std.proofs.lemmas.Bool.{cases_Bool, true≢false, both_ways, or_parts, or_from, or_right, and_cases, and_right, leb-false, eqb-false, not-false, false_from_ne_true, cond-true, cond-false}
-use Rattle.std.proofs.lemmas.List.{get_or-set_other, length-set}
+use Rattle.std.proofs.Common.{◌≡◌, ◌⊎◌, ℕ, ◌<◌, ◌≢◌, Bool, true, false, ◌&&◌, not, cond, eqb, leb, ltb, List, Option, Some, None, sym, ap, ◌∙◌, refl, arith, inl, inr, ⊎_elim, subst, length, get_or}
+use Rattle.std.specs.Prelude.{is_some}
+use Rattle.std.proofs.lemmas.Bool.{cases_Bool, true≢false, both_ways, or_parts, or_right, and_cases, leb-false, eqb-false, not-false, false_from_ne_true, cond-true, cond-false}
+use Rattle.std.proofs.lemmas.List.{length-set}
 use Rattle.xt_isa.specs.declared.Insn.{Insn}
 use Rattle.xt_isa.specs.declared.Insn.TheVariants as insn
 use Rattle.xt_isa.specs.declared.control.Control.TheVariants as control
@@ -16,11 +15,10 @@ use Rattle.xt_isa.specs.declared.system.SpecialName.TheVariants as SpecialName
 use Rattle.xt_map.specs.declared.access.Access.{Access}
 use Rattle.xt_map.specs.declared.contents.MemoryContents.{MemoryContents}
 use Rattle.xt_special.specs.declared.ps.Ps.{Ps}
-use Rattle.xt_special.specs.Numbers as number
 use Rattle.xt_special.specs.Control.{Control, special_of}
 use Rattle.xt_special.specs.Timers.{ticked}
 use Rattle.xt_special.specs.Interrupts.{pending_of}
-use Rattle.xt_window.specs.Ring.{visible, ahead}
+use Rattle.xt_window.specs.Ring.{visible}
 use Rattle.xt_trace.specs.declared.record.RegWrite.{RegWrite}
 use Rattle.xt_trace.specs.declared.record.StepRecord.{StepRecord}
 use Rattle.xt_rows.specs.declared.outcome.Awaited.{Awaited}
@@ -33,23 +31,21 @@ use Rattle.xt_rows.specs.Effects.{illegal_instruction, unchanged, window_registe
 use Rattle.xt_rows.specs.Kinds.{is_saved, moved_to, sets_epc1, is_windowing, AllSpare, SetsOne, WritesNamed, Fits}
 use Rattle.xt_rows.specs.Laws.{sets_mode, KeepsMode, AsksWith}
 use Rattle.xt_rows.specs.Operands.{reads, special_reads, named}
-use Rattle.xt_rows.specs.Outcomes.{outcome, control_outcome, density_outcome, system_outcome, outcome_at, value_of}
-use Rattle.xt_rows.specs.Settling.{Kind, Executed, Stopped, Settled, after_effect, kind_of, settled, written}
+use Rattle.xt_rows.specs.Outcomes.{outcome, control_outcome, density_outcome, system_outcome, outcome_at}
+use Rattle.xt_rows.specs.Settling.{Kind, Executed, Stopped, Settled, after_effect, settled, written}
 use Rattle.xt_rows.proofs.Fitting.{outcome_fits, outcome_alone}
 use Rattle.xt_rows.proofs.Modes.{modes_kept}
 use Rattle.xt_fetch.specs.Code.{AreBytes}
 use Rattle.xt_fetch.specs.Fetching.{Fetched, Fetches, Fails, SpellsNothing, fetched}
 use Rattle.xt_exec.specs.State.{State}
 use Rattle.xt_exec.specs.Laws.{IsShaped}
-use Rattle.xt_exec.specs.Turn.{Planned, planned, demand, turn, in_window, raises, has_windows, looks, window_check, is_illegal, done, checked, fetched_turn, with_write}
-use Rattle.xt_exec.proofs.Finished.{turn_fetches}
+use Rattle.xt_exec.specs.Turn.{planned, turn, in_window, is_illegal, done}
 use Rattle.xt_frames.specs.declared.holes.Nested.{Nested}
-use Rattle.xt_frames.specs.declared.kinds.BreachKind.{BreachKind}
 use Rattle.xt_frames.specs.Frames.{FrameState, known, seen_after_write}
 use Rattle.xt_frames.specs.FrameStep.{FrameTurn, in_frame, raised, pushed, popped, windowed_in_frame, done_in_frame, fetched_step, laid, laid_step}
 use Rattle.xt_frames.specs.Marks.{are_own_marks, moves_marks, mark_read, marked_write, unset_by, unset_written}
-use Rattle.xt_frames.specs.Nesting.{current_in, disturbs_nested, ends_nested, inside, is_nesting, keeping, nested_after, nested_fetched, nested_insn}
-use Rattle.xt_frames.specs.Breaches.{Bounds, breach_of, breaks_nested, fetched_tests, first_shown, insn_tests, inputs_of, is_exception, is_unset, lacks, laid_breach, loses_epc1, lost_of, names_high, other_tests, reads_epc1, reads_lost, reads_none_in, reads_unset, writes_sp}
+use Rattle.xt_frames.specs.Nesting.{disturbs_nested, ends_nested, inside, keeping, nested_after, nested_fetched, nested_insn}
+use Rattle.xt_frames.specs.Breaches.{Bounds, breach_of, breaks_nested, fetched_tests, first_shown, insn_tests, inputs_of, is_exception, is_unset, lacks, laid_breach, loses_epc1, lost_of, names_high, other_tests, reads_epc1, reads_none_in, reads_unset, writes_sp}
 use Rattle.xt_frames.specs.Judging.{step_on, value_in}
 use Rattle.xt_frames.proofs.Inside.{breach_inside, step_inside}
 use Rattle.xt_frames.proofs.Shown.{NoneShown, Sound, KeepsSp, keeps_sp, none_shown, sound}

@@ -1,11 +1,10 @@
 -- What a nested step that moves no mark does to the registers, and to the special registers.
-use Rattle.std.proofs.Common.{◌≡◌, ℕ, ◌+◌, ◌*◌, ◌<◌, ◌≢◌, Bool, true, false, ◌||◌, cond, List, Option, Some, None, sym, ap, ◌∙◌, refl, arith, inl, inr, ⊎_elim, subst, length, get_or}
+use Rattle.std.proofs.Common.{◌≡◌, ℕ, ◌<◌, ◌≢◌, Bool, true, false, ◌||◌, cond, List, Option, Some, None, sym, ap, ◌∙◌, refl, arith, inl, inr, ⊎_elim, subst, length, get_or}
 use Rattle.std.specs.Prelude.{is_some}
 use Rattle.std.proofs.Math.ListN.{set}
-use Rattle.std.proofs.lemmas.Bool.{cases_eq, cases_lt, cases_Bool, both_ways, or_cases, or_left, or_right, and_parts, and_from, eqb-true, leb-true, le-leb, false_from_ne_true}
-use Rattle.std.proofs.lemmas.List.{get_or-set_same, get_or-set_other, length-set, get_or_past}
+use Rattle.std.proofs.lemmas.Bool.{cases_eq, cases_Bool, both_ways, or_cases, or_left, or_right, and_parts, and_from, eqb-true, leb-true, le-leb, false_from_ne_true}
+use Rattle.std.proofs.lemmas.List.{get_or-set_other, length-set}
 use Rattle.xt_special.specs.Control.{Control, special_of}
-use Rattle.xt_special.specs.declared.ps.Ps.{Ps}
 use Rattle.xt_special.specs.declared.writes.SpecialWrite.{SpecialWrite}
 use Rattle.xt_special.specs.Access.{SpecialWrites, with_set, with_sets}
 use Rattle.xt_special.specs.Timers.{ticked}
@@ -19,11 +18,10 @@ use Rattle.xt_rows.specs.Kinds.{is_saved, Spares, AllSpare, SetsOne}
 use Rattle.xt_rows.specs.Settling.{after_flow, after_effect}
 use Rattle.xt_exec.specs.State.{State}
 use Rattle.xt_exec.specs.Turn.{with_write}
-use Rattle.xt_frames.specs.Frames.{FrameState, seen_after_write}
-use Rattle.xt_frames.specs.FrameStep.{laid}
+use Rattle.xt_frames.specs.Frames.{seen_after_write}
 use Rattle.xt_frames.specs.Marks.{marks_after, saved_by, unset_by}
 use Rattle.xt_frames.specs.Breaches.{lost_of}
-use Rattle.xt_simulation.specs.Relation.{Same, Even, can_be_lost, inputs}
+use Rattle.xt_simulation.specs.Relation.{Same, can_be_lost}
 use Rattle.xt_simulation.specs.Nested.{IsSpare}
 use Rattle.xt_simulation.proofs.Kept.{set_there, written_numbers}
 use Rattle.xt_simulation.proofs.RingLemmas.{some_within}

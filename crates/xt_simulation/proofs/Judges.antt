@@ -1,12 +1,9 @@
 -- A judged step of one core, over both memories.
-use Rattle.std.proofs.Common.{◌≡◌, ℕ, ◌%◌, ◌<◌, Bool, false, Option, Some, None, List, sym, ap, ◌∙◌, refl, arith, ⊎_elim, get_or, subst}
-use Rattle.std.proofs.Math.ListN.{set}
-use Rattle.std.proofs.lemmas.Bool.{cases_eq, or_left}
-use Rattle.std.proofs.lemmas.List.{get_or-set_other, length-set}
+use Rattle.std.proofs.Common.{◌≡◌, ℕ, ◌%◌, ◌<◌, Bool, false, Option, Some, None, List, sym, ap, ◌∙◌, refl, arith, subst}
+use Rattle.std.proofs.lemmas.Bool.{or_left}
 use Rattle.xt_map.specs.declared.access.Access.{Access}
 use Rattle.xt_map.specs.declared.contents.MemoryContents.{MemoryContents}
 use Rattle.xt_map.specs.Memory.{HasSizes, byte_at}
-use Rattle.xt_special.specs.declared.ps.Ps.{Ps}
 use Rattle.xt_fetch.specs.Fetching.{fetched}
 use Rattle.xt_fetch.specs.Code.{AreBytes}
 use Rattle.xt_exec.specs.State.{State}
@@ -17,14 +14,12 @@ use Rattle.xt_frames.specs.Frames.{Frame, FrameState, known}
 use Rattle.xt_frames.specs.FrameStep.{FrameTurn, laid, laid_step}
 use Rattle.xt_frames.specs.SaveAreas.{is_live}
 use Rattle.xt_frames.specs.HandlerSteps.{is_window}
-use Rattle.xt_frames.specs.declared.holes.Nested.{Nested}
-use Rattle.xt_frames.specs.Nesting.{current_in}
 use Rattle.xt_frames.proofs.Inside.{breach_plain, step_plain, fresh_plain}
 use Rattle.xt_frames.proofs.Lengths.{laid_stays}
 use Rattle.xt_frames.specs.Breaches.{Bounds, inputs_of, laid_breach, breach_of, fresh_after, stale_after}
 use Rattle.xt_frames.specs.Stacks.{Stack}
 use Rattle.xt_simulation.specs.Stacks.{Saved, sp_under}
-use Rattle.xt_simulation.specs.Relation.{Same, Level, Plain, inputs, lost_at}
+use Rattle.xt_simulation.specs.Relation.{Level, Plain, inputs, lost_at}
 use Rattle.xt_simulation.specs.Cores.{word, Related}
 use Rattle.xt_simulation.proofs.Laid.{even_laid}
 use Rattle.xt_simulation.proofs.Chains.{related_spared}

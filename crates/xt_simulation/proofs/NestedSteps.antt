@@ -1,41 +1,27 @@
 -- What a nested step leaves, as the walk over both cores asks it: of the record that begins a nested interrupt, of a step of it, and of
 -- RFI 5.
-use Rattle.std.specs.Prelude.{is_some}
-use Rattle.std.proofs.Common.{◌≡◌, ℕ, Bool, true, false, ◌&&◌, not, cond, eqb, ltb, Option, Some, None, sym, ap, ◌∙◌, refl, subst}
-use Rattle.std.proofs.lemmas.Bool.{cond-true, cond-false, and_right, or_parts, or_from, not-false, eqb-true, false≢true, false_from_ne_true}
-use Rattle.xt_isa.specs.declared.Insn.{Insn}
-use Rattle.xt_isa.specs.declared.Insn.TheVariants as insn
-use Rattle.xt_isa.specs.declared.system.System.TheVariants as system
+use Rattle.std.proofs.Common.{◌≡◌, ℕ, Bool, true, false, ◌&&◌, not, eqb, ltb, Some, None, sym, ap, ◌∙◌, refl, subst}
+use Rattle.std.proofs.lemmas.Bool.{cond-true, and_right, or_from, false≢true, false_from_ne_true}
 use Rattle.xt_map.specs.declared.contents.MemoryContents.{MemoryContents}
 use Rattle.xt_special.specs.declared.ps.Ps.{Ps}
-use Rattle.xt_special.specs.Numbers as number
-use Rattle.xt_special.specs.Shape.{IsPs}
-use Rattle.xt_special.specs.Control.{Control, special_of, ps_of, ps_word}
 use Rattle.xt_special.specs.Interrupts.{pending_of}
-use Rattle.xt_special.proofs.PsWords.{of_word_of_fields}
 use Rattle.xt_window.specs.Ring.{visible}
 use Rattle.xt_trace.specs.declared.record.StepRecord.{StepRecord}
 use Rattle.xt_trace.specs.declared.record.StepKind.{StepKind}
 use Rattle.xt_trace.specs.declared.record.StepKind.TheVariants as kind
 use Rattle.xt_rows.specs.declared.outcome.Outcome.TheVariants.{Does}
-use Rattle.xt_rows.specs.Effects.{illegal_instruction}
-use Rattle.xt_rows.specs.Operands.{special_reads}
-use Rattle.xt_rows.specs.Outcomes.{outcome, system_outcome, outcome_at}
-use Rattle.xt_rows.specs.Settling.{settled_interrupt, after_effect}
+use Rattle.xt_rows.specs.Settling.{settled_interrupt}
 use Rattle.xt_fetch.specs.Fetching.{Fetched, Fetches, Fails, SpellsNothing, fetched}
 use Rattle.xt_exec.specs.State.{State}
 use Rattle.xt_exec.specs.Laws.{IsShaped}
-use Rattle.xt_exec.specs.Turn.{Planned, in_window, planned, demand, turn, done, checked, fetched_turn, is_illegal, raises, window_check, has_windows, looks, with_write, written, reply_where}
-use Rattle.xt_exec.proofs.Finished.{turn_fetches}
-use Rattle.xt_window.specs.Ring.{ahead}
+use Rattle.xt_exec.specs.Turn.{Planned, in_window, planned, demand, turn, done, reply_where}
 use Rattle.xt_frames.specs.declared.holes.Nested.{Nested}
-use Rattle.xt_frames.specs.declared.kinds.BreachKind.{BreachKind}
 use Rattle.xt_frames.specs.Frames.{FrameState}
 use Rattle.xt_frames.specs.FrameStep.{FrameTurn, laid, laid_step}
 use Rattle.xt_frames.specs.Marks.{are_own_marks}
-use Rattle.xt_frames.specs.Nesting.{begins, begun, current, current_in, disturbs_nested, ends_nested, inside, is_nesting, nested_fetched, nested_level, nested_turn}
-use Rattle.xt_frames.specs.HandlerSteps.{closes, returns, fetched_returns}
-use Rattle.xt_frames.specs.Breaches.{Bounds, inputs_of, laid_breach, breach_of, fetched_tests, fetched_sets_epc1, writes_epc1, fresh_after, loses_epc1, breaks_nested, reads_epc1, sets_epc1, is_exception, touches_save_area, loads_stale}
+use Rattle.xt_frames.specs.Nesting.{begins, begun, current, inside, is_nesting, nested_turn}
+use Rattle.xt_frames.specs.HandlerSteps.{returns, fetched_returns}
+use Rattle.xt_frames.specs.Breaches.{Bounds, inputs_of, laid_breach, breach_of, fetched_tests, fetched_sets_epc1, writes_epc1, fresh_after, touches_save_area, loads_stale}
 use Rattle.xt_frames.specs.Judging.{fresh_on, step_on, value_in, place_on}
 use Rattle.xt_frames.proofs.Inside.{begins_now, breach_inside, ended_fetched, fresh_inside, fresh_begun, open_fetched, returns_fetched, step_begins, step_inside}
 use Rattle.xt_frames.proofs.Shown.{NoneShown, none_shown, sound}

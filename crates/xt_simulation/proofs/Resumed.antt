@@ -13,7 +13,7 @@ use Rattle.xt_special.specs.Control.{Control, special_of, ps_of}
 use Rattle.xt_special.specs.Shape.{IsPs}
 use Rattle.xt_special.specs.Timers.{ticked}
 use Rattle.xt_special.specs.Interrupts.{pending_of}
-use Rattle.xt_special.proofs.Kept.{ticked_other, ticked_length}
+use Rattle.xt_special.proofs.Kept.{ticked_other}
 use Rattle.xt_special.proofs.PsWords.{of_word_of_fields}
 use Rattle.xt_window.specs.Ring.{place, visible}
 use Rattle.xt_trace.specs.declared.record.StepKind.TheVariants as kind
@@ -31,7 +31,7 @@ use Rattle.xt_fetch.specs.Code.{AreBytes}
 use Rattle.xt_fetch.specs.Fetching.{Fetched, Fetches, Fails, SpellsNothing, fetched}
 use Rattle.xt_exec.specs.State.{State}
 use Rattle.xt_exec.specs.Laws.{IsShaped}
-use Rattle.xt_exec.specs.Turn.{Planned, planned, demand, turn, done, is_illegal, with_write, written}
+use Rattle.xt_exec.specs.Turn.{planned, demand, turn, done, is_illegal}
 use Rattle.xt_exec.proofs.Shapes.{turn_shaped}
 use Rattle.xt_frames.specs.declared.holes.Nested.{Nested}
 use Rattle.xt_frames.specs.Frames.{FrameState, known}

@@ -1,12 +1,12 @@
 -- What a turn asks for is an access that the bus serves, and the tests of save areas and stale bytes look at it.
-use Rattle.std.proofs.Common.{◌≡◌, ℕ, Bool, false, ltb, Option, None, sym, ap, ◌∙◌, refl, ⊎_elim, subst, List}
+use Rattle.std.proofs.Common.{◌≡◌, ℕ, Bool, false, ltb, Option, None, sym, ◌∙◌, refl, ⊎_elim, subst, List}
 use Rattle.std.proofs.lemmas.Bool.{cases_Bool}
 use Rattle.xt_map.specs.declared.access.Access.{Access}
 use Rattle.xt_special.specs.Interrupts.{pending_of}
 use Rattle.xt_trace.specs.declared.record.StepRecord.{StepRecord}
 use Rattle.xt_fetch.specs.Fetching.{Fetched, Fetches, Fails, SpellsNothing, fetched}
 use Rattle.xt_exec.specs.State.{State}
-use Rattle.xt_exec.specs.Turn.{Planned, demand, turn}
+use Rattle.xt_exec.specs.Turn.{demand, turn}
 use Rattle.xt_frames.specs.Frames.{Frame, FrameState}
 use Rattle.xt_frames.specs.FrameStep.{FrameTurn, laid_step}
 use Rattle.xt_frames.specs.Breaches.{Bounds, fetched_tests, laid_breach, touches_save_area, loads_stale}

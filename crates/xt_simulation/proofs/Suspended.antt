@@ -1,27 +1,21 @@
 -- Nested interrupts: the step that begins one, those inside, RFI 5, and the other core's accesses.
 use Rattle.std.specs.Prelude.{unwrap_or}
-use Rattle.std.proofs.Common.{◌≡◌, ◌⊎◌, ℕ, Bool, true, false, not, ◌&&◌, length, Option, Some, None, sym, ap, ◌∙◌, refl, arith, inl, inr, ⊎_elim, subst}
-use Rattle.std.proofs.lemmas.Bool.{not-false, or_left, or_parts}
-use Rattle.xt_isa.specs.declared.Insn.{Insn}
+use Rattle.std.proofs.Common.{◌≡◌, ℕ, Bool, true, false, length, Option, None, sym, ap, ◌∙◌, refl, arith, inl, inr, ⊎_elim, subst}
+use Rattle.std.proofs.lemmas.Bool.{or_left}
 use Rattle.xt_map.specs.declared.contents.MemoryContents.{MemoryContents}
 use Rattle.xt_special.specs.declared.ps.Ps.{Ps}
 use Rattle.xt_special.specs.Control.{Control}
-use Rattle.xt_trace.specs.declared.record.RegWrite.{RegWrite}
-use Rattle.xt_trace.specs.declared.record.StepRecord.{StepRecord}
 use Rattle.xt_fetch.specs.Code.{AreBytes}
 use Rattle.xt_exec.specs.State.{State}
 use Rattle.xt_exec.specs.Laws.{IsShaped, IsShapedControl}
-use Rattle.xt_exec.specs.Turn.{planned, demand, turn, with_write, written}
+use Rattle.xt_exec.specs.Turn.{planned, demand, turn, written}
 use Rattle.xt_exec.proofs.Shapes.{turn_shaped}
 use Rattle.xt_frames.specs.declared.holes.Nested.{Nested}
 use Rattle.xt_frames.specs.Frames.{FrameState}
 use Rattle.xt_frames.specs.FrameStep.{FrameTurn}
-use Rattle.xt_frames.specs.Marks.{are_own_marks}
-use Rattle.xt_frames.specs.Nesting.{disturbs_nested, ends_nested, inside}
 use Rattle.xt_frames.specs.SaveAreas.{is_live}
-use Rattle.xt_frames.specs.Breaches.{Bounds, breach_of, breaks_nested, is_exception}
+use Rattle.xt_frames.specs.Breaches.{Bounds, breach_of}
 use Rattle.xt_frames.specs.Judging.{step_on, live_of}
-use Rattle.xt_frames.proofs.Shown.{Sound}
 use Rattle.xt_simulation.specs.InHandlers.{as_left}
 use Rattle.xt_simulation.specs.Steps.{reply_at, reply_now, record_now, state_now, memory_now}
 use Rattle.xt_simulation.specs.Memories.{Agree, KeepsAreas}

@@ -1,18 +1,18 @@
 -- The step that begins a nested interrupt.
 use Rattle.std.proofs.Common.{◌≡◌, ℕ, ◌≢◌, ◌<◌, ◌^◌, zero, suc, Bool, true, false, not, ◌||◌, ◌&&◌, cond, eqb, ltb, List, length, get_or, replicate, Option, Some, None, sym, ap, ◌∙◌, refl, arith, inl, inr, ⊎_elim, subst, ◌⊎◌, ◌+◌, ◌*◌}
-use Rattle.std.specs.Prelude.{is_some, unwrap_or}
+use Rattle.std.specs.Prelude.{unwrap_or}
 use Rattle.std.proofs.Math.ListN.{set}
-use Rattle.std.proofs.lemmas.Bool.{cases_Bool, cases_eq, cases_lt, cond-true, eqb-true, false≢true, true≢false, or_left, or_parts}
-use Rattle.std.proofs.lemmas.List.{get_or-set_same, get_or-set_other, get_or-replicate, get_or_past, length-set, length-replicate}
+use Rattle.std.proofs.lemmas.Bool.{cases_Bool, cases_eq, eqb-true, false≢true, true≢false, or_left, or_parts}
+use Rattle.std.proofs.lemmas.List.{get_or-set_same, get_or-set_other, length-set}
 use Rattle.xt_isa.specs.declared.Insn.{Insn}
 use Rattle.xt_map.specs.declared.access.Access.{Access}
 use Rattle.xt_map.specs.declared.contents.MemoryContents.{MemoryContents}
 use Rattle.xt_special.specs.declared.ps.Ps.{Ps}
 use Rattle.xt_special.specs.Numbers as number
-use Rattle.xt_special.specs.Control.{Control, special_of, ps_word}
-use Rattle.xt_special.specs.Timers.{ticked, ticked_special}
+use Rattle.xt_special.specs.Control.{special_of, ps_word}
+use Rattle.xt_special.specs.Timers.{ticked}
 use Rattle.xt_special.specs.Interrupts.{pending_of, after_interrupt}
-use Rattle.xt_special.proofs.Kept.{ticked_other, ticked_length}
+use Rattle.xt_special.proofs.Kept.{ticked_other}
 use Rattle.xt_window.specs.Ring.{visible, bit}
 use Rattle.xt_window.specs.Moves.{base_after_return, behind}
 use Rattle.xt_rows.specs.declared.outcome.Outcome.{Outcome}
@@ -32,7 +32,7 @@ use Rattle.xt_frames.specs.declared.holes.Nested.{Nested}
 use Rattle.xt_frames.specs.Frames.{Frame, FrameState}
 use Rattle.xt_frames.specs.FrameStep.{FrameTurn, laid}
 use Rattle.xt_frames.specs.Marks.{own_marks}
-use Rattle.xt_frames.specs.Nesting.{begins, begun, inside, is_nesting}
+use Rattle.xt_frames.specs.Nesting.{begun, inside, is_nesting}
 use Rattle.xt_frames.specs.Breaches.{Bounds, lost_of}
 use Rattle.xt_frames.specs.Judging.{step_on}
 use Rattle.xt_frames.proofs.Inside.{step_begins}

@@ -37,7 +37,7 @@ use Rattle.xt_rows.specs.Effects.{unchanged, loads, stores, illegal_instruction}
 use Rattle.xt_rows.specs.Outcomes.{outcome, memory_outcome, system_outcome, density_outcome, outcome_at}
 use Rattle.xt_rows.specs.Settling.{after_flow, after_effect}
 use Rattle.xt_exec.specs.State.{State}
-use Rattle.xt_exec.specs.Turn.{Planned, planned, demand, turn, written, with_write, raises, has_windows, looks, window_check, is_illegal, done, checked, fetched_turn, resumed}
+use Rattle.xt_exec.specs.Turn.{Planned, planned, demand, written, with_write, raises, has_windows, looks, window_check, is_illegal, done, checked, fetched_turn, resumed}
 use Rattle.xt_exec.proofs.Finished.{turn_fetches, turn_taken}
 use Rattle.xt_frames.specs.Nesting.{is_nesting, nested_level}
 use Rattle.xt_stretch.specs.declared.Step.{Step}

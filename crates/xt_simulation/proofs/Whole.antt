@@ -1,9 +1,9 @@
 -- A whole turn: interrupts first, then waiting, then the instruction.
 use Rattle.xt_special.proofs.Kept.{Kept, interrupt_kept, tick_kept}
 use Rattle.xt_fetch.proofs.Fetches.{fetched_range}
-use Rattle.std.proofs.Common.{◌≡◌, ℕ, ◌<◌, Bool, true, false, ◌||◌, ◌&&◌, not, eqb, ltb, List, Some, None, sym, ap, ◌∙◌, refl, ⊎_elim, subst}
+use Rattle.std.proofs.Common.{◌≡◌, ℕ, ◌<◌, Bool, true, false, ◌&&◌, not, eqb, ltb, List, Some, None, sym, ap, ◌∙◌, refl, ⊎_elim, subst}
 use Rattle.std.proofs.Math.ListN.{set}
-use Rattle.std.proofs.lemmas.Bool.{cases_Bool, true≢false, or_from, cond-true, cond-false, not-false, eqb-true}
+use Rattle.std.proofs.lemmas.Bool.{cases_Bool, true≢false, not-false, eqb-true}
 use Rattle.xt_isa.specs.declared.Insn.{Insn}
 use Rattle.xt_isa.specs.Ranges.{in_range}
 use Rattle.xt_special.specs.Numbers as number
