@@ -50,9 +50,6 @@ same_set {xs = xs} {ys = ys} s k v = record {
 none_lost : (k : ℕ) → lost_of true k ≡ false
 none_lost k = and_right (eqb k 177) false refl
 
-pub only_epc1 : (fresh : Bool) (k : ℕ) → lost_of fresh k ≡ true → k ≡ 177
-only_epc1 fresh k h = eqb-true k 177 (and_parts (eqb k 177) (not fresh) h).0
-
 -- EPC1 is a register that can be lost
 pub lost_epc1 : (fresh : Bool) (k : ℕ) → lost_of fresh k ≡ true → can_be_lost k ≡ true
 lost_epc1 fresh k h = or_left (eqb k 177) _ (and_parts (eqb k 177) (not fresh) h).0

@@ -320,10 +320,6 @@ pub related_at : (side : Side) (m : ℕ → ℕ) (b : Bounds) (lost : ℕ → Bo
 related_at Overflow m b lost s f front g rest l = l
 related_at Underflow m b lost s f front g rest l = l
 
-pub begins_from : (side : Side) (m : ℕ → ℕ) (b : Bounds) (lost : ℕ → Bool) (s : State) (f : FrameState) (front : List Frame) (g : Frame) (rest : List Frame) → Related m b lost s f (ring_at side front g) (spilled_at side g rest) → Begins side m b lost s f front g rest
-begins_from Overflow m b lost s f front g rest l = l
-begins_from Underflow m b lost s f front g rest l = l
-
 frames_at : (side : Side) (m : ℕ → ℕ) (b : Bounds) (lost : ℕ → Bool) (s : State) (f : FrameState) (front : List Frame) (g : Frame) (rest : List Frame) → Begins side m b lost s f front g rest → f.frames ≡ above side front ++ g ∷ rest
 frames_at Overflow m b lost s f front g rest l = l.plain.frames ∙ append_assoc front (g ∷ []) rest
 frames_at Underflow m b lost s f front g rest l = l.plain.frames
@@ -452,15 +448,6 @@ module _ (code : ℕ → ℕ) (constant : (a : ℕ) → code a < 2 ^ 8) (b : Bou
 
     related_before : Related opened b (lost_at h.fresh f) before f (ring_at h.side h.front h.g) (spilled_at h.side h.g h.rest)
     related_before = related_at h.side opened b (lost_at h.fresh f) before f h.front h.g h.rest h.begins
-
-    pub woe_now : s.control.ps.woe ≡ true
-    woe_now = ap (λ (p : Ps). p.woe) h.control.ps ∙ related_before.plain.woe
-
-    pub calls_now : s.control.ps.callinc < 4
-    calls_now = let e : s.control.ps.callinc ≡ before.control.ps.callinc = ap (λ (p : Ps). p.callinc) h.control.ps in rw e related_before.plain.calls
-
-    pub vectors_now : special_of s.control number.vecbase ≡ b.vecbase
-    vectors_now = h.control.special 231 (λ e. omega arith) (λ e. omega arith) (λ e. omega arith) ∙ related_before.plain.vectors
 
     turn_here : Turns h.side n start (vector_bytes code vector) h.offset h.effect h.flags (machine m s)
     turn_here = turns h.side n start (vector_bytes code vector) h.offset h.effect h.flags (machine m s) (room_from h.side n start at_start.frames) (bytes_length code vector 64) (λ i. byte_small code vector 64 i constant) h.stands h.handles

@@ -46,7 +46,7 @@ use Rattle.xt_simulation.specs.Relation.{Even, Same, can_be_lost, inputs}
 use Rattle.xt_simulation.specs.Steps.{record_now, reply_now, state_now}
 use Rattle.xt_simulation.specs.Nested.{IsInside, IsSpare, marked}
 use Rattle.xt_simulation.proofs.Evenly.{even_ticked, lost_in}
-use Rattle.xt_simulation.proofs.Inner.{Inner}
+use Rattle.xt_simulation.proofs.Inner.{Inner, laid_excm}
 use Rattle.xt_simulation.proofs.Laid.{even_laid, laid_other}
 use Rattle.xt_simulation.proofs.InnerSteps.{written_marks}
 use Rattle.xt_simulation.proofs.Kept.{set_here, set_there, written_numbers}
@@ -374,9 +374,6 @@ module _ (code : ℕ → ℕ) (b : Bounds) (m : MemoryContents) (s : State) (f :
   abbrev g : FrameState
   g = laid (inputs 0 s) (inside x f)
 
-  mode_g : g.control.ps.excm ≡ true
-  mode_g = sym (ap (λ (p : Ps). p.excm) h.even.ps) ∙ h.mode
-
   specials_now : InSpecials suspended s.control.special g.control.special f.unset x.saved
   specials_now = record { size = shaped.control.count; count = count; same = h.even.special; stored = h.saved }
 
@@ -502,7 +499,7 @@ module _ (code : ℕ → ℕ) (b : Bounds) (m : MemoryContents) (s : State) (f :
       → IsLeft i
   closing i w v sets framed mark unset saved plan vectors does does_framed nested registers specials spares spares_framed write =
       let plan_is : planned code s ≡ done (Does (moving w sets s.control)) len s = plan ∙ ap (λ o. done o len s) does in
-      let turn_is : laid_turn i ≡ moved_frame v framed len reply g = frame_is (outcome_at code i (known x.seen) g.control) v framed len reply g does_framed mode_g in
+      let turn_is : laid_turn i ≡ moved_frame v framed len reply g = frame_is (outcome_at code i (known x.seen) g.control) v framed len reply g does_framed (laid_excm h) in
       let value : ℕ = value_in (record_now code m s).write in
       subst (λ u. Inner code b m s f suspended u) (sym (ap (λ u. nested_insn i value x f u) turn_is ∙ nested value))
       (inner_moved w v sets framed mark unset saved plan_is registers specials spares spares_framed

@@ -57,7 +57,7 @@ use Rattle.xt_simulation.proofs.Evenly.{effect_even, even_ticked, lost_in}
 use Rattle.xt_simulation.proofs.Judged.{awaited_named}
 use Rattle.xt_simulation.proofs.Judges.{record_reply, same_laid}
 use Rattle.xt_simulation.proofs.Turns.{quiet_nested, turn_does}
-use Rattle.xt_simulation.proofs.Inner.{Ends, Inner}
+use Rattle.xt_simulation.proofs.Inner.{Ends, Inner, laid_excm, laid_quiet, laid_runs, laid_same, laid_tests}
 use Rattle.xt_simulation.proofs.Laid.{even_laid, laid_other}
 use Rattle.xt_simulation.proofs.Plans.{plan_access, plan_kind, plan_state, plan_write}
 use Rattle.xt_simulation.proofs.Windowed.{some_value}
@@ -306,9 +306,6 @@ illegal_raises code _ len reply s g e bad = absurd (true≢false (sym bad))
 
 -- ---- a step of one core, where f has the nested interrupt x
 module _ (code : ℕ → ℕ) (b : Bounds) (m : MemoryContents) (s : State) (f : FrameState) (suspended : State) (live stale : ℕ → Bool) (x : Nested) (h : IsInside suspended s f x) (shaped : IsShaped s) (wide : length x.marks ≡ 16) (i : Insn) (len : ℕ) where
-  framed_excm : (laid (inputs 0 s) (inside x f)).control.ps.excm ≡ true
-  framed_excm = sym (ap (λ (p : Ps). p.excm) h.even.ps) ∙ h.mode
-
   framed_epc1 : special_of (laid (inputs 0 s) (inside x f)).control 177 ≡ special_of f.control 177
   framed_epc1 = laid_other f.control.special (special_of s.control 234) (special_of s.control 226) 177 (λ e. omega (arith, e)) (λ e. omega (arith, e))
 
@@ -350,7 +347,7 @@ module _ (code : ℕ → ℕ) (b : Bounds) (m : MemoryContents) (s : State) (f :
         let mode : KeepsMode (unchanged s.control.ps s.control.threadptr) (Does e) = subst (KeepsMode (unchanged s.control.ps s.control.threadptr)) same (modes_kept code i s.control.pc _ _ _ _ s.control.ps s.control.threadptr (quiet_mode i q.disturbs goes_on o.windowing)) in
         let other = kept_elsewhere i q.disturbs in
         left_inner Executed e.write None None _ _ is
-        (narrow_write i e.write (names_low i (laid (inputs 0 s) (inside x f)) framed_excm o.high) fit.0 (keeps_sp i (record_now code m s).write e.write fit.2 o.movsp sp))
+        (narrow_write i e.write (names_low i (laid (inputs 0 s) (inside x f)) (laid_excm h) o.high) fit.0 (keeps_sp i (record_now code m s).write e.write fit.2 o.movsp sp))
         (effect_leaves h i r.number e len fit.1 mode.0 mode.1 mode.2)
         r.number other.0 other.1 (epc1_elsewhere i q.epc1) vectors
 
@@ -362,7 +359,7 @@ module _ (code : ℕ → ℕ) (b : Bounds) (m : MemoryContents) (s : State) (f :
         let other = kept_elsewhere i q.disturbs in
         let sets : (n : ℕ) → is_saved n ≡ true → SetsOne (moved_to i) n e.sets = λ n h. subst (λ (o : Option (ℕ × ℕ)). SetsOne o n e.sets) (sym fit.1) (subst (λ (z : Effect). AllSpare n z.sets) (sym alone) (tt, tt, tt)) in
         left_inner Executed None (Some access) awaited _ _ is
-        (narrow_write i (written None awaited (reply_now code m s)) (names_low i (laid (inputs 0 s) (inside x f)) framed_excm o.high) (awaited_named i awaited (reply_now code m s) fit.0) (keeps_sp i (record_now code m s).write (written None awaited (reply_now code m s)) fit.2 o.movsp sp))
+        (narrow_write i (written None awaited (reply_now code m s)) (names_low i (laid (inputs 0 s) (inside x f)) (laid_excm h) o.high) (awaited_named i awaited (reply_now code m s) fit.0) (keeps_sp i (record_now code m s).write (written None awaited (reply_now code m s)) fit.2 o.movsp sp))
         (effect_leaves h i r.number e len sets (ap (λ (z : Effect). z.ps.intlevel) alone) (ap (λ (z : Effect). z.ps.excm) alone) (ap (λ (z : Effect). z.waits) alone))
         r.number other.0 other.1 (epc1_elsewhere i q.epc1) vectors
 
@@ -384,8 +381,8 @@ module _ (code : ℕ → ℕ) (b : Bounds) (m : MemoryContents) (s : State) (f :
     row_inner (Raises cause addr) same fit is kind sp vectors = absurd (true≢false kind)
     row_inner (Asks access awaited e) same fit is kind sp vectors = asks_inner access awaited e same fit is sp vectors
     row_inner Stops same fit is kind sp vectors = stops_inner same is vectors
-    row_inner (Windowed (Enters number value)) same fit is kind sp vectors = absurd (both_ways _ kind (entry_raises number value len (reply_now code m s) (laid (inputs 0 s) (inside x f)) framed_excm))
-    row_inner (Windowed (Returns a0)) same fit is kind sp vectors = absurd (both_ways _ kind (return_raises a0 len (reply_now code m s) (laid (inputs 0 s) (inside x f)) framed_excm))
+    row_inner (Windowed (Enters number value)) same fit is kind sp vectors = absurd (both_ways _ kind (entry_raises number value len (reply_now code m s) (laid (inputs 0 s) (inside x f)) (laid_excm h)))
+    row_inner (Windowed (Returns a0)) same fit is kind sp vectors = absurd (both_ways _ kind (return_raises a0 len (reply_now code m s) (laid (inputs 0 s) (inside x f)) (laid_excm h)))
     row_inner (Windowed (EndsOverflow epc1)) same fit is kind sp vectors = absurd (both_ways _ o.windowing fit)
     row_inner (Windowed (EndsUnderflow epc1)) same fit is kind sp vectors = absurd (both_ways _ o.windowing fit)
     row_inner (Windowed (Rotates n)) same fit is kind sp vectors = absurd (both_ways _ o.windowing fit)
@@ -431,7 +428,7 @@ module _ (code : ℕ → ℕ) (b : Bounds) (m : MemoryContents) (s : State) (f :
       let u : FrameTurn = fetched_step (Fetches i len) code (reply_now code m s) g in
       let o = sound b false live stale i (record_now code m s) g u none in
       let q = quiet_of b live stale i (record_now code m s) g u x nested o in
-      let mode : g.control.ps.excm ≡ true = framed_excm code b m s f suspended live stale x h shaped wide i len in
+      let mode : g.control.ps.excm ≡ true = laid_excm h in
       let legal : is_illegal i s ≡ false = false_from_ne_true (is_illegal i s) (λ bad. both_ways _ q.kind (illegal_raises code i len (reply_now code m s) s g mode bad)) in
       let plan = turn_does code s h.mode (quiet_nested s.control h.level) h.running i len at legal in
       ⊎_elim
@@ -457,24 +454,19 @@ module _ (code : ℕ → ℕ) (b : Bounds) (m : MemoryContents) (s : State) (f :
       let g : FrameState = laid (inputs 0 s) (inside x f) in
       let value : ℕ = value_in rec.write in
       let at : Fetched = fetched code s.control.pc in
-      let same : laid (inputs_of rec) (inside x f) ≡ g = same_laid code s reply (inside x f) shaped.control.ps.owb_fits in
-      let level : g.control.ps.intlevel ≡ 5 = sym (ap (λ (p : Ps). p.intlevel) h.even.ps) ∙ h.level in
-      let quiet : ltb 0 (pending_of g.control) ≡ false = quiet_nested g.control level in
-      let running : g.control.waits ≡ false = sym h.even.waits ∙ h.running in
+      let same = laid_same h code m shaped in
       let here : laid_step code rec.reply g ≡ fetched_step at code reply g =
-      ap (λ y. laid_step code y g) (record_reply code m s) ∙ (step_fetches code reply g quiet running ∙ ap (λ p. fetched_step (fetched code p) code reply g) (sym h.even.pc)) in
-      let shown : first_shown (fetched_tests b false live stale (fetched code g.control.pc) rec g (laid_step code rec.reply g)) ≡ None =
-      sym (breach_fetches b false code live stale rec g quiet running) ∙ (sym (ap (λ (y : FrameState). laid_breach b false code live stale rec y) same) ∙ (sym (breach_inside b false code live stale true rec f x nested) ∙ none)) in
-      let at_pc : first_shown (fetched_tests b false live stale at rec g (laid_step code rec.reply g)) ≡ None =
-      ap (λ p. first_shown (fetched_tests b false live stale (fetched code p) rec g (laid_step code rec.reply g))) h.even.pc ∙ shown in
-      let tests : first_shown (fetched_tests b false live stale at rec g (fetched_step at code reply g)) ≡ None =
-      sym (ap (λ (v : FrameTurn). first_shown (fetched_tests b false live stale at rec g v)) here) ∙ at_pc in
+      ap (λ y. laid_step code y g) (record_reply code m s) ∙ (step_fetches code reply g (laid_quiet h) (laid_runs h) ∙ ap (λ p. fetched_step (fetched code p) code reply g) (sym h.even.pc)) in
+      let at_pc : NoneShown (fetched_tests b false live stale at rec g (laid_step code rec.reply g)) =
+      subst (λ p. NoneShown (fetched_tests b false live stale (fetched code p) rec g (laid_step code rec.reply g))) (sym h.even.pc) (laid_tests h code b m live stale nested shaped none) in
+      let tests : NoneShown (fetched_tests b false live stale at rec g (fetched_step at code reply g)) =
+      subst (λ (v : FrameTurn). NoneShown (fetched_tests b false live stale at rec g v)) here at_pc in
       let step : step_on code true rec f ≡ nested_fetched at value x f (fetched_step at code reply g) =
       step_inside code true rec f x nested
       ∙ (ap (λ (y : FrameState). nested_fetched (fetched code y.control.pc) value x f (laid_step code rec.reply y)) same
       ∙ (ap (λ p. nested_fetched (fetched code p) value x f (laid_step code rec.reply g)) (sym h.even.pc)
       ∙ ap (λ (v : FrameTurn). nested_fetched at value x f v) here)) in
-      subst Next (sym step) (fetched_next at refl (none_shown (fetched_tests b false live stale at rec g (fetched_step at code reply g)) tests))
+      subst Next (sym step) (fetched_next at refl tests)
 
 -- a step of a nested interrupt that shows no breach is RFI 5, or goes on in it
 pub inner_step :

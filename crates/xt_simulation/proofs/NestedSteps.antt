@@ -34,6 +34,7 @@ use Rattle.xt_simulation.proofs.Memories.{keeps_from}
 use Rattle.xt_simulation.proofs.Judges.{same_laid, record_access}
 use Rattle.xt_simulation.proofs.Plans.{plan_kind, plan_write}
 use Rattle.xt_simulation.proofs.Resumed.{back, back_at, back_ps, back_state, same_regs}
+use Rattle.xt_simulation.proofs.Inner.{laid_excm, laid_same, laid_tests}
 use Rattle.xt_simulation.proofs.InnerRows.{quiet_of}
 use Rattle.xt_simulation.proofs.Taken.{asks_nothing, nesting_now, nesting_taken}
 use Rattle.xt_simulation.proofs.Turns.{quiet_nested}
@@ -98,23 +99,8 @@ module _ {code : ℕ → ℕ} {b : Bounds} {m : MemoryContents} {s : State} {f :
   abbrev g : FrameState
   g = laid (inputs 0 s) (inside h.x f)
 
-  same_g : laid (inputs_of rec) (inside h.x f) ≡ g
-  same_g = same_laid code s (reply_now code m s) (inside h.x f) shaped.control.ps.owb_fits
-
-  none_g : laid_breach b false code live stale rec g ≡ None
-  none_g = subst (λ y. laid_breach b false code live stale rec y ≡ None) same_g (sym (breach_inside b false code live stale true rec f h.x h.nested) ∙ none)
-
-  excm_g : g.control.ps.excm ≡ true
-  excm_g = ap (λ (p : Ps). p.excm) (sym h.inside.even.ps) ∙ h.inside.mode
-
-  quiet_g : ltb 0 (pending_of g.control) ≡ false
-  quiet_g = quiet_nested g.control (ap (λ (p : Ps). p.intlevel) (sym h.inside.even.ps) ∙ h.inside.level)
-
-  waits_g : g.control.waits ≡ false
-  waits_g = sym h.inside.even.waits ∙ h.inside.running
-
   tests : NoneShown (fetched_tests b false live stale (fetched code g.control.pc) rec g (laid_step code rec.reply g))
-  tests = none_shown (fetched_tests b false live stale (fetched code g.control.pc) rec g (laid_step code rec.reply g)) (sym (breach_fetches b false code live stale rec g quiet_g waits_g) ∙ none_g)
+  tests = laid_tests h.inside code b m live stale h.nested shaped none
 
   quiet : (fetched_sets_epc1 (fetched code g.control.pc) ≡ false) × (fetched_returns (fetched code g.control.pc) ≡ true → are_own_marks h.x.marks ≡ true)
   quiet = fetched_quiet b live stale (fetched code g.control.pc) rec g (laid_step code rec.reply g) h.x h.nested tests
@@ -128,7 +114,7 @@ module _ {code : ℕ → ℕ} {b : Bounds} {m : MemoryContents} {s : State} {f :
   pub nested_fresh : fresh_on false code true rec f ≡ false
   nested_fresh =
       let y = laid (inputs_of rec) (inside h.x f) in
-      let excm_y : y.control.ps.excm ≡ true = ap (λ (z : FrameState). z.control.ps.excm) same_g ∙ excm_g in
+      let excm_y : y.control.ps.excm ≡ true = ap (λ (z : FrameState). z.control.ps.excm) (laid_same h.inside code m shaped) ∙ laid_excm h.inside in
       fresh_inside false code true rec f h.x h.nested ∙ or_from _ _ (not_written (laid_step code rec.reply y).kind (fetched code y.control.pc) y.control.ps excm_y quiet.0) refl
 
   -- ---- whether it ends the interrupt

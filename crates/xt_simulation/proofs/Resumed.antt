@@ -50,7 +50,7 @@ use Rattle.xt_simulation.specs.Handling.{Handling}
 use Rattle.xt_simulation.specs.Nested.{IsInside, resumed}
 use Rattle.xt_simulation.proofs.Evenly.{same_ticked}
 use Rattle.xt_simulation.proofs.Carried.{Carries, carried}
-use Rattle.xt_simulation.proofs.Inner.{Ends}
+use Rattle.xt_simulation.proofs.Inner.{Ends, laid_quiet, laid_runs, laid_same}
 use Rattle.xt_simulation.proofs.Judges.{same_laid}
 use Rattle.xt_simulation.proofs.Laid.{laid_after, laid_other}
 use Rattle.xt_simulation.proofs.Plans.{plan_asks, plan_kind, plan_state, plan_write}
@@ -182,11 +182,8 @@ module _ {code : ℕ → ℕ} {b : Bounds} {m : MemoryContents} {s : State} {f :
   plan : planned code s ≡ done (Does (back s.control)) e.len s
   plan = back_plan code s h.mode h.level h.running e.i e.len e.at e.ends
 
-  quiet_g : ltb 0 (pending_of g.control) ≡ false
-  quiet_g = quiet_nested g.control (ap (λ (p : Ps). p.intlevel) (sym h.even.ps) ∙ h.level)
-
   pub ends_step : step_on code true (record_now code m s) f ≡ back_turn f g
-  ends_step = back_step code (record_now code m s) e.i e.len f x g nested (same_laid code s (reply_now code m s) (inside x f) shaped.control.ps.owb_fits) e.ends quiet_g (sym h.even.waits ∙ h.running) (ap (fetched code) (sym h.even.pc) ∙ e.at)
+  ends_step = back_step code (record_now code m s) e.i e.len f x g nested (laid_same h code m shaped) e.ends (laid_quiet h) (laid_runs h) (ap (fetched code) (sym h.even.pc) ∙ e.at)
 
   ends_carries : IsShaped returned → Carries b (resumed suspended s) returned f (given_back f g)
   ends_carries t =
