@@ -51,11 +51,6 @@ moved_range (insn.System (system.Rsr SpecialName.Wsr s m)) t n ok e = let same :
 moved_range (insn.System (system.Rsr SpecialName.Xsr s m)) t n ok e = let same : s ≡ t = ap (λ (o : Option (ℕ × ℕ)). (unwrap_or o (0, 0)).0) e in subst (λ x. x < 16) same (small s (and_parts _ _ ok).0)
 moved_range _ t n ok e = absurd cc
 
-pub good_fetch : (x : Fetch) (at : Fetched) → IsFetched x at → IsGoodFetch x
-good_fetch (fetch.Insn i len) at h = h.1
-good_fetch (fetch.Fails address) at h = tt
-good_fetch fetch.Nothing at h = tt
-
 -- ---- where nothing begins, it does not matter whether the record is nested
 pub as_plain : (case : Case) (code : ℕ → ℕ) (live stale : ℕ → Bool) (nested : Bool) (rec : StepRecord) (f : FrameState) (result : Result Done BreachKind) (new : List Frame → FrameState)
     → begins nested rec.kind f ≡ false → IsDone (found_by case code live stale false rec f) case.fresh code false rec f result new

@@ -16,10 +16,6 @@ pub no_newest : (frames : List Frame) → newest_of frames ≡ None → frames �
 no_newest [] h = refl
 no_newest (f ∷ fs) h = cc
 
-pub is_newest : (frames : List Frame) (g : Frame) → newest_of frames ≡ Some g → frames ≡ g ∷ without_newest frames
-is_newest [] g h = cc
-is_newest (f ∷ fs) g h = cc
-
 -- ---- the newest caller stands last
 pub snoc_of : (cs : List Caller) (n : ℕ) (d : Caller) → length cs ≡ suc n → cs ≡ take n cs ++ (get_or cs n d ∷ [])
 snoc_of [] n d h = absurd (omega (arith, h))
@@ -81,9 +77,6 @@ pub calls_in-at : (fs : List Frame) (k : ℕ) (d : Frame) → k < length fs → 
 calls_in-at [] k d h = absurd (omega arith)
 calls_in-at (f ∷ fs) zero d h = refl
 calls_in-at (f ∷ fs) (suc k) d h = calls_in-at fs k d (omega arith)
-
-pub before-last : (hi : ℕ) (fs : List Frame) (g : Frame) (rest : List Frame) → fs ≡ g ∷ rest → before hi fs ≡ sp_of g
-before-last hi fs g rest h = ap (before hi) h
 
 pub sp_of_caller : (cs : List Caller) (sp j : ℕ) (d : Caller) → j < length cs → sp_in (frames_of cs) sp (length cs - j) ≡ sp_of (frame_of (get_or cs j d))
 sp_of_caller cs sp j d h =

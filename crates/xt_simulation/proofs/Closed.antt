@@ -65,7 +65,7 @@ can_lose {lost = lost} s k h = ⊎_elim
     (λ other. s.only k other)
     (or_cases (lost_of false k) (lost k) h)
 
-same_overlaid : {lost : ℕ → Bool} (xs ys zs : List ℕ) (count bits : ℕ) → Same lost xs (set (set ys 234 count) 226 bits) → length zs ≡ length xs → ((k : ℕ) → k ≢ 177 → k ≢ 226 → k ≢ 234 → get_or zs k 0 ≡ get_or xs k 0) → Same (without_epc1 lost) zs (relaid zs ys)
+pub same_overlaid : {lost : ℕ → Bool} (xs ys zs : List ℕ) (count bits : ℕ) → Same lost xs (set (set ys 234 count) 226 bits) → length zs ≡ length xs → ((k : ℕ) → k ≢ 177 → k ≢ 226 → k ≢ 234 → get_or zs k 0 ≡ get_or xs k 0) → Same (without_epc1 lost) zs (relaid zs ys)
 same_overlaid {lost = lost} xs ys zs count bits e len same =
     same_relaid (without_epc1 lost) zs ys (len ∙ (e.size ∙ laid_length ys count bits)) (can_lose e)
     (λ k known not_bits not_count.

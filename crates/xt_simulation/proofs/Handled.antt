@@ -307,19 +307,6 @@ pub somewhere_of : (side : Side) (m : ℕ → ℕ) (b : Bounds) (t : State) (f :
 somewhere_of Overflow m b t f front g rest l = record { ring = front; spilled = g ∷ rest; related = l }
 somewhere_of Underflow m b t f front g rest l = record { ring = g ∷ []; spilled = rest; related = l }
 
--- where a stretch began, as one relation for both sides
-abbrev pub ring_at : Side → List Frame → Frame → List Frame
-ring_at Overflow front g = front ++ g ∷ []
-ring_at Underflow front g = []
-
-abbrev pub spilled_at : Side → Frame → List Frame → List Frame
-spilled_at Overflow g rest = rest
-spilled_at Underflow g rest = g ∷ rest
-
-pub related_at : (side : Side) (m : ℕ → ℕ) (b : Bounds) (lost : ℕ → Bool) (s : State) (f : FrameState) (front : List Frame) (g : Frame) (rest : List Frame) → Begins side m b lost s f front g rest → Related m b lost s f (ring_at side front g) (spilled_at side g rest)
-related_at Overflow m b lost s f front g rest l = l
-related_at Underflow m b lost s f front g rest l = l
-
 frames_at : (side : Side) (m : ℕ → ℕ) (b : Bounds) (lost : ℕ → Bool) (s : State) (f : FrameState) (front : List Frame) (g : Frame) (rest : List Frame) → Begins side m b lost s f front g rest → f.frames ≡ above side front ++ g ∷ rest
 frames_at Overflow m b lost s f front g rest l = l.plain.frames ∙ append_assoc front (g ∷ []) rest
 frames_at Underflow m b lost s f front g rest l = l.plain.frames
@@ -445,9 +432,6 @@ module _ (code : ℕ → ℕ) (constant : (a : ℕ) → code a < 2 ^ 8) (b : Bou
 
     pub running_now : s.control.waits ≡ false
     running_now = h.control.waits ∙ h.running
-
-    related_before : Related opened b (lost_at h.fresh f) before f (ring_at h.side h.front h.g) (spilled_at h.side h.g h.rest)
-    related_before = related_at h.side opened b (lost_at h.fresh f) before f h.front h.g h.rest h.begins
 
     turn_here : Turns h.side n start (vector_bytes code vector) h.offset h.effect h.flags (machine m s)
     turn_here = turns h.side n start (vector_bytes code vector) h.offset h.effect h.flags (machine m s) (room_from h.side n start at_start.frames) (bytes_length code vector 64) (λ i. byte_small code vector 64 i constant) h.stands h.handles

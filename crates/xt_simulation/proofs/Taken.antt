@@ -45,6 +45,7 @@ use Rattle.xt_simulation.specs.Steps.{reply_at, reply_now, record_now, state_now
 use Rattle.xt_simulation.specs.Handling.{Begins, Handling}
 use Rattle.xt_simulation.specs.Nested.{IsInside, Suspends, NestedBegin, resumed}
 use Rattle.xt_simulation.proofs.Carried.{Carries, carried}
+use Rattle.xt_simulation.proofs.Closed.{epc1_lost, same_lost, same_overlaid}
 use Rattle.xt_simulation.proofs.Evenly.{not_lost, same_ticked}
 use Rattle.xt_simulation.proofs.Judges.{same_laid}
 use Rattle.xt_simulation.proofs.Kept.{none_in}
@@ -172,33 +173,13 @@ ps_beside p q r base e d =
     e ∙ (ap (λ (q : Ps). (let z : Ps = record q { owb = base; excm = true } in z)) d
     ∙ ap (λ o. (let z : Ps = record r { owb = o; excm = true } in z)) (sym (ap (λ (p : Ps). p.owb) e)))
 
--- where EPC1 is lost, more is lost
-known_more : (epc fresh unset : Bool) → (epc && true || unset) ≡ false → (epc && not fresh || unset) ≡ false
-known_more false fresh unset h = h
-known_more true fresh unset h = absurd (true≢false h)
-
-only_more : (epc fresh unset : Bool) → (epc && true || unset) ≡ true → (epc ≡ true) ⊎ ((epc && not fresh || unset) ≡ true)
-only_more false fresh unset h = inr h
-only_more true fresh unset h = inl refl
-
 pub beside : {code : ℕ → ℕ} {b : Bounds} {m : MemoryContents} {s : State} {f : FrameState} {before : State} {opened : ℕ → ℕ} → Handling code b m s f before opened → Beside b s f
 beside {b = b} {s = s} {f = f} {before = before} {opened = opened} h =
     let o = opens h.side opened b (lost_at h.fresh f) before f h.front h.g h.rest h.begins in
     let count = special_of before.control 234 in
     let bits = special_of before.control 226 in
-    let wide = laid_length f.control.special count bits in
-    let size = o.even.special.size in
     record {
-      special = same_relaid (lost_at false f) s.control.special f.control.special (h.control.size ∙ (size ∙ wide))
-          (λ k lost. ⊎_elim
-          (λ epc. or_left (eqb k 177) _ epc)
-          (λ more. o.even.special.only k more)
-          (only_more (eqb k 177) h.fresh (get_or f.unset k false) lost))
-          (λ k known not_bits not_count.
-          let not_epc : k ≢ 177 = λ e. false≢true (sym known ∙ ap (lost_at false f) e) in
-          h.control.special k not_epc not_bits not_count
-          ∙ (o.even.special.at k (known_more (eqb k 177) h.fresh (get_or f.unset k false) known)
-          ∙ laid_other f.control.special count bits k not_bits not_count));
+      special = same_lost (epc1_lost h.fresh f) (same_overlaid before.control.special f.control.special s.control.special count bits o.even.special h.control.size h.control.special);
       ps = ps_beside s.control.ps before.control.ps f.control.ps before.base h.control.ps o.even.ps;
       threadptr = h.control.threadptr ∙ o.even.threadptr;
       woe = ap (λ (p : Ps). p.woe) h.control.ps ∙ o.woe;

@@ -49,13 +49,6 @@ pub record Checks (code : ℕ → ℕ) (s : State) : Type 0 where
   pub legal : is_illegal insn s ≡ false
   pub same : planned code s ≡ checked (window_check insn s) code insn len s
 
-not_kind : (k : Kind) → is_window (kind_of k) ≡ false
-not_kind Executed = refl
-not_kind (Raised cause) = refl
-not_kind (Taken level) = refl
-not_kind Waited = refl
-not_kind Stopped = refl
-
 not_window : {X : Type 0} (p q : Planned) → p ≡ q → is_window q.kind ≡ false → is_window p.kind ≡ true → X
 not_window p q e isnt is = let f : is_window p.kind ≡ false = rw e isnt in absurd (both_ways _ f is)
 
