@@ -48,7 +48,7 @@ use Rattle.xt_simulation.specs.Nested.{IsInside, IsSpare, marked}
 use Rattle.xt_simulation.proofs.Evenly.{even_ticked, lost_in}
 use Rattle.xt_simulation.proofs.Inner.{Inner, laid_excm}
 use Rattle.xt_simulation.proofs.Laid.{even_laid, laid_other}
-use Rattle.xt_simulation.proofs.InnerSteps.{written_marks}
+use Rattle.xt_simulation.proofs.InnerSteps.{can_saved, spare_place, ticked_saved, written_marks}
 use Rattle.xt_simulation.proofs.Kept.{set_here, set_there, written_numbers}
 use Rattle.xt_simulation.proofs.Plans.{plan_access, plan_kind, plan_state, plan_write}
 use Rattle.xt_simulation.proofs.RingLemmas.{some_within}
@@ -259,16 +259,16 @@ pub record InRegisters (suspended : State) (base : ℕ) (regs : List ℕ) (seen 
   pub marks : (i k : ℕ) → get_or held i None ≡ Some k → (visible regs base i ≡ marked suspended k) × (get_or seen i None ≡ None)
 
 abbrev IsWritable : ℕ → Type 0
-IsWritable t = (t ≡ 0) ⊎ ((t ≡ 2) ⊎ (t ≡ 3))
+IsWritable t = (t < 4) × (t ≢ 1)
 
 -- one is written
 module _ {suspended : State} {base : ℕ} {regs : List ℕ} {seen held : List (Option ℕ)} (r : InRegisters suspended base regs seen held)
     (all : length regs ≡ 64) (t : ℕ) (writable : IsWritable t) (v w : ℕ) where
   small : t < 16
-  small = ⊎_elim (λ e. omega arith) (λ o. ⊎_elim (λ e. omega arith) (λ e. omega arith) o) writable
+  small = let low = writable.0 in omega arith
 
   spare : IsSpare base (place base t)
-  spare = ⊎_elim (λ e. inl (ap (place base) e)) (λ o. inr (⊎_elim (λ e. inl (ap (place base) e)) (λ e. inr (ap (place base) e)) o)) writable
+  spare = spare_place base t writable.0 writable.1
 
   here : visible (set regs (place base t) v) base t ≡ v
   here = set_here regs base t v all
@@ -366,9 +366,6 @@ write_alike : (mark : Option ℕ) (t a c : ℕ) (o : Option RegWrite) → o ≡ 
 write_alike None t a c o is equal = is ∙ ap (write_to t) (equal refl)
 write_alike (Some k) t a c o is equal = subst (λ p. p ≡ marked_write (Some k) (value_in p) (write_to t c)) (sym is) refl
 
-not_timed : (k : ℕ) → can_be_lost k ≡ true → (k ≢ 226) × (k ≢ 234)
-not_timed k h = (λ e. true≢false (sym h ∙ ap (λ j. can_be_lost j) e), λ e. true≢false (sym h ∙ ap (λ j. can_be_lost j) e))
-
 module _ (code : ℕ → ℕ) (b : Bounds) (m : MemoryContents) (s : State) (f : FrameState) (suspended : State) (x : Nested) (h : IsInside suspended s f x) (shaped : IsShaped s)
     (count : length f.unset ≡ 256) (spread : length x.marks ≡ 16) (len reply : ℕ) where
   abbrev g : FrameState
@@ -418,8 +415,8 @@ module _ (code : ℕ → ℕ) (b : Bounds) (m : MemoryContents) (s : State) (f :
     stored_after : (n k : ℕ) → get_or saved n None ≡ Some k → (get_or c.special n 0 ≡ marked suspended k) × (get_or unset n false ≡ true)
     stored_after n k at =
         let now = specials.stored n k at in
-        let apart = not_timed n (specials.same.only n (or_right (lost_of false n) (get_or unset n false) now.1)) in
-        (ticked_other (with_sets sets s.control.special) n apart.0 apart.1 ∙ now.0, now.1)
+        let is = can_saved n (specials.same.only n (or_right (lost_of false n) (get_or unset n false) now.1)) in
+        (ticked_saved (moved_on sets len s.control) n is ∙ now.0, now.1)
 
     inside_moved : IsInside suspended (moved_state w sets len s) u y
     inside_moved = record {
@@ -558,8 +555,7 @@ module _ (code : ℕ → ℕ) (b : Bounds) (m : MemoryContents) (s : State) (f :
   writable_by t v i low none shown written is =
       let one : (is_sp (record_now code m s).write || is_sp shown) ≡ false = ap (λ y. not y && (is_sp (record_now code m s).write || is_sp shown)) (sym none) ∙ written in
       let sp : eqb t 1 ≡ false = ap is_sp (sym is) ∙ (or_parts (is_sp (record_now code m s).write) (is_sp shown) one).0 in
-      let other = eqb-false t 1 sp in
-      ⊎_elim (λ e. inl e) (λ a. inr (⊎_elim (λ e. inl e) (λ c. inr (omega arith)) (cases_eq t 2))) (cases_eq t 0)
+      (low, eqb-false t 1 sp)
 
   marks_inside : (i : Insn) → moves_marks i ≡ true → reads_no_mark i x (inside x f) ≡ false → (shown : Option RegWrite) → writes_sp i (record_now code m s).write shown ≡ false
       → IsPlanned i → special_of (laid_turn i).after.control number.vecbase ≡ b.vecbase → IsLeft i

@@ -39,7 +39,7 @@ IsNarrow (Some w) = (w.reg < 4) × (w.reg ≢ 1)
 abbrev pub after_write : Option RegWrite → Control → State → State
 after_write w c s = with_write w (record s { control = c })
 
-spare_place : (base r : ℕ) → r < 4 → r ≢ 1 → IsSpare base (place base r)
+pub spare_place : (base r : ℕ) → r < 4 → r ≢ 1 → IsSpare base (place base r)
 spare_place base r small other =
     ⊎_elim
     (λ e. inl (ap (place base) e))

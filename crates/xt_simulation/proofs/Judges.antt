@@ -1,5 +1,5 @@
 -- A judged step of one core, over both memories.
-use Rattle.std.proofs.Common.{◌≡◌, ℕ, ◌%◌, ◌<◌, Bool, false, Option, Some, None, List, sym, ap, ◌∙◌, refl, arith, subst}
+use Rattle.std.proofs.Common.{◌≡◌, ℕ, ◌^◌, ◌%◌, ◌<◌, Bool, false, Option, Some, None, List, sym, ap, ◌∙◌, refl, arith, subst}
 use Rattle.std.proofs.lemmas.Bool.{or_left}
 use Rattle.xt_map.specs.declared.access.Access.{Access}
 use Rattle.xt_map.specs.declared.contents.MemoryContents.{MemoryContents}
@@ -67,6 +67,12 @@ record_access code s reply = refl
 
 pub shaped_now : (code : ℕ → ℕ) (m : MemoryContents) (s : State) → AreBytes code → IsShaped s → IsMemory m → IsShaped (state_now code m s)
 shaped_now code m s bytes shaped im = turn_shaped code s (reply_now code m s) bytes shaped (reply_small m (demand code s) im (demand_served code s))
+
+-- a turn that asks nothing
+pub shaped_silent : (code : ℕ → ℕ) (m : MemoryContents) (s : State) → AreBytes code → IsShaped s → demand code s ≡ None → IsShaped (state_now code m s)
+shaped_silent code m s bytes shaped none =
+    let small : reply_now code m s < 2 ^ 32 = subst (λ (o : Option Access). reply_at m o < 2 ^ 32) (sym none) (omega arith) in
+    turn_shaped code s (reply_now code m s) bytes shaped small
 
 module _ (code : ℕ → ℕ) (bytes : AreBytes code) (b : Bounds) (fresh : Bool) (s : State) (f : FrameState) (ring spilled : List Frame) (m framed : MemoryContents) (others stale : ℕ → Bool)
     (l : Related (byte_at m) b (lost_at fresh f) s f ring spilled) (plain : f.nested ≡ None) (shaped : IsShaped s) (real : IsMemory m) (sizes : HasSizes framed) (agree : Agree (live_of b f others) stale m framed)

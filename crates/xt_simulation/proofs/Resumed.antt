@@ -53,6 +53,7 @@ use Rattle.xt_simulation.proofs.Carried.{Carries, carried}
 use Rattle.xt_simulation.proofs.Inner.{Ends, laid_quiet, laid_runs, laid_same}
 use Rattle.xt_simulation.proofs.Judges.{same_laid}
 use Rattle.xt_simulation.proofs.Laid.{laid_after, laid_other}
+use Rattle.xt_simulation.proofs.Judges.{shaped_silent}
 use Rattle.xt_simulation.proofs.Plans.{plan_asks, plan_kind, plan_state, plan_write}
 use Rattle.xt_simulation.proofs.Turns.{quiet_nested, turn_does}
 use Rattle.xt_simulation.proofs.Taken.{beside}
@@ -211,9 +212,7 @@ module _ {code : ℕ → ℕ} {b : Bounds} {m : MemoryContents} {s : State} {f :
       }
 
   pub ends_shaped : AreBytes code → IsShaped (state_now code m s)
-  ends_shaped bytes =
-      let small : reply_now code m s < 2 ^ 32 = subst (λ (o : Option Access). reply_at m o < 2 ^ 32) (sym (plan_asks code s (done (Does (back s.control)) e.len s) plan)) (omega arith) in
-      turn_shaped code s (reply_now code m s) bytes shaped small
+  ends_shaped bytes = shaped_silent code m s bytes shaped (plan_asks code s (done (Does (back s.control)) e.len s) plan)
 
   pub ends_handling : AreBytes code → Handling code b m (state_now code m s) (step_on code true (record_now code m s) f).after (as_left before (state_now code m s)) opened
   ends_handling bytes =

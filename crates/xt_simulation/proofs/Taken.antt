@@ -47,7 +47,7 @@ use Rattle.xt_simulation.specs.Nested.{IsInside, Suspends, NestedBegin, resumed}
 use Rattle.xt_simulation.proofs.Carried.{Carries, carried}
 use Rattle.xt_simulation.proofs.Closed.{epc1_lost, same_lost, same_overlaid}
 use Rattle.xt_simulation.proofs.Evenly.{not_lost, same_ticked}
-use Rattle.xt_simulation.proofs.Judges.{same_laid}
+use Rattle.xt_simulation.proofs.Judges.{same_laid, shaped_silent}
 use Rattle.xt_simulation.proofs.Kept.{none_in}
 use Rattle.xt_simulation.proofs.Plans.{plan_asks, plan_state}
 use Rattle.xt_simulation.proofs.Laid.{laid_after, laid_length, laid_other, relaid, same_relaid}
@@ -325,8 +325,7 @@ taken_begin code bytes b good m s f before opened h none shaped count nesting =
     let state = state_taken code s (reply_now code m s) is in
     let step = step_begins code (record_now code m s) f (nesting_now code m s nesting) none ∙ ap begun (same_laid code s (reply_now code m s) f shaped.control.ps.owb_fits) in
     let l = beside h in
-    let small : reply_now code m s < 2 ^ 32 = subst (λ (o : Option Access). reply_at m o < 2 ^ 32) (sym (asks_nothing code s is)) (omega arith) in
-    let next : IsShaped (state_now code m s) = turn_shaped code s (reply_now code m s) bytes shaped small in
+    let next : IsShaped (state_now code m s) = shaped_silent code m s bytes shaped (asks_nothing code s is) in
     let P : State → Type 0 = λ t. IsShaped t in
     let Q : State → Type 0 = λ t. Suspends code b m t (step_on code true (record_now code m s) f).after (as_left before t) opened s in
     let R : FrameTurn → Type 0 = λ u. Suspends code b m (record s { control = ticked (after_interrupt 5 s.control) }) u.after (as_left before (record s { control = ticked (after_interrupt 5 s.control) })) opened s in
