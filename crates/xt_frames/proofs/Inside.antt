@@ -18,9 +18,6 @@ use Rattle.xt_rows.specs.declared.outcome.WindowStep.TheVariants.{Enters, Return
 use Rattle.xt_rows.specs.Outcomes.{outcome_at}
 use Rattle.xt_trace.specs.declared.record.StepRecord.{StepRecord}
 use Rattle.xt_fetch.specs.Fetching.{Fetched, Fetches, Fails, SpellsNothing, fetched}
-use Rattle.xt_codec.specs.Fetches.{IsFetched, IsGoodFetch}
-use Rattle.xt_codec.specs.declared.fetch.Fetch.{Fetch}
-use Rattle.xt_codec.specs.declared.fetch.Fetch.TheVariants as fetch
 use Rattle.xt_frames.specs.declared.kinds.BreachKind.{BreachKind}
 use Rattle.xt_frames.specs.declared.judged.Done.{Done}
 use Rattle.xt_frames.specs.declared.breach.Case.{Case}

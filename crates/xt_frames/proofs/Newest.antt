@@ -1,10 +1,10 @@
 -- The callers as they are kept, the oldest first, and the frames, the newest first.
-use Rattle.std.proofs.Common.{◌≡◌, ℕ, zero, suc, ◌-◌, ◌<◌, ◌≤◌, Some, None, List, [], ◌∷◌, ◌++◌, refl, ◌∙◌, ap, arith, length, get_or, take, map, reverse}
+use Rattle.std.proofs.Common.{◌≡◌, ℕ, zero, suc, ◌-◌, ◌<◌, ◌≤◌, None, List, [], ◌∷◌, ◌++◌, refl, ◌∙◌, ap, arith, length, get_or, take, map, reverse}
 use Rattle.std.proofs.lemmas.List.{map-append, reverse-append, length-reverse, length-map, get_or-reverse, get_or-map}
 use Rattle.xt_frames.specs.declared.view.Caller.{Caller}
 use Rattle.xt_frames.specs.Frames.{Frame}
-use Rattle.xt_frames.specs.SaveAreas.{before, sp_of}
-use Rattle.xt_frames.specs.Parts.{frame_of, frames_of, newest_of, without_newest}
+use Rattle.xt_frames.specs.SaveAreas.{sp_of}
+use Rattle.xt_frames.specs.Parts.{frame_of, frames_of, newest_of}
 use Rattle.xt_frames.specs.Stacks.{IsFrame, AreFrames}
 use Rattle.xt_frames.specs.Walked.{calls_in, sp_in}
 

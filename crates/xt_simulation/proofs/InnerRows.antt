@@ -1,5 +1,5 @@
 -- A nested step that moves no mark: both machines compute the same outcome.
-use Rattle.std.proofs.Common.{◌≡◌, ◌⊎◌, ℕ, ◌<◌, ◌≢◌, Bool, true, false, ◌&&◌, not, cond, eqb, leb, ltb, List, Option, Some, None, sym, ap, ◌∙◌, refl, arith, inl, inr, ⊎_elim, subst, length, get_or}
+use Rattle.std.proofs.Common.{◌≡◌, ◌⊎◌, ℕ, ◌<◌, ◌≢◌, Bool, true, false, ◌&&◌, not, cond, eqb, leb, List, Option, Some, None, sym, ap, ◌∙◌, refl, arith, inl, inr, ⊎_elim, subst, length, get_or}
 use Rattle.std.specs.Prelude.{is_some}
 use Rattle.std.proofs.lemmas.Bool.{cases_Bool, true≢false, both_ways, or_parts, or_right, and_cases, leb-false, eqb-false, not-false, false_from_ne_true, cond-true, cond-false}
 use Rattle.std.proofs.lemmas.List.{length-set}
@@ -17,7 +17,6 @@ use Rattle.xt_map.specs.declared.contents.MemoryContents.{MemoryContents}
 use Rattle.xt_special.specs.declared.ps.Ps.{Ps}
 use Rattle.xt_special.specs.Control.{Control, special_of}
 use Rattle.xt_special.specs.Timers.{ticked}
-use Rattle.xt_special.specs.Interrupts.{pending_of}
 use Rattle.xt_window.specs.Ring.{visible}
 use Rattle.xt_trace.specs.declared.record.RegWrite.{RegWrite}
 use Rattle.xt_trace.specs.declared.record.StepRecord.{StepRecord}
@@ -45,17 +44,17 @@ use Rattle.xt_frames.specs.Frames.{FrameState, known, seen_after_write}
 use Rattle.xt_frames.specs.FrameStep.{FrameTurn, in_frame, raised, pushed, popped, windowed_in_frame, done_in_frame, fetched_step, laid, laid_step}
 use Rattle.xt_frames.specs.Marks.{are_own_marks, moves_marks, mark_read, marked_write, unset_by, unset_written}
 use Rattle.xt_frames.specs.Nesting.{disturbs_nested, ends_nested, inside, keeping, nested_after, nested_fetched, nested_insn}
-use Rattle.xt_frames.specs.Breaches.{Bounds, breach_of, breaks_nested, fetched_tests, first_shown, insn_tests, inputs_of, is_exception, is_unset, lacks, laid_breach, loses_epc1, lost_of, names_high, other_tests, reads_epc1, reads_none_in, reads_unset, writes_sp}
+use Rattle.xt_frames.specs.Breaches.{Bounds, breach_of, breaks_nested, fetched_tests, insn_tests, is_exception, is_unset, lacks, loses_epc1, lost_of, names_high, other_tests, reads_epc1, reads_none_in, reads_unset, writes_sp}
 use Rattle.xt_frames.specs.Judging.{step_on, value_in}
-use Rattle.xt_frames.proofs.Inside.{breach_inside, step_inside}
-use Rattle.xt_frames.proofs.Shown.{NoneShown, Sound, KeepsSp, keeps_sp, none_shown, sound}
-use Rattle.xt_frames.proofs.StackSteps.{breach_fetches, step_fetches}
+use Rattle.xt_frames.proofs.Inside.{step_inside}
+use Rattle.xt_frames.proofs.Shown.{NoneShown, Sound, KeepsSp, keeps_sp, sound}
+use Rattle.xt_frames.proofs.StackSteps.{step_fetches}
 use Rattle.xt_simulation.specs.Relation.{Even, inputs}
 use Rattle.xt_simulation.specs.Steps.{reply_now, record_now}
 use Rattle.xt_simulation.specs.Nested.{IsInside, IsSpare, marked}
 use Rattle.xt_simulation.proofs.Evenly.{effect_even, even_ticked, lost_in}
 use Rattle.xt_simulation.proofs.Judged.{awaited_named}
-use Rattle.xt_simulation.proofs.Judges.{record_reply, same_laid}
+use Rattle.xt_simulation.proofs.Judges.{record_reply}
 use Rattle.xt_simulation.proofs.Turns.{quiet_nested, turn_does}
 use Rattle.xt_simulation.proofs.Inner.{Ends, Inner, laid_excm, laid_quiet, laid_runs, laid_same, laid_tests}
 use Rattle.xt_simulation.proofs.Laid.{even_laid, laid_other}

@@ -1,10 +1,9 @@
 -- What a nested step leaves, as the walk over both cores asks it: of the record that begins a nested interrupt, of a step of it, and of
 -- RFI 5.
-use Rattle.std.proofs.Common.{◌≡◌, ℕ, Bool, true, false, ◌&&◌, not, eqb, ltb, Some, None, sym, ap, ◌∙◌, refl, subst}
+use Rattle.std.proofs.Common.{◌≡◌, ℕ, Bool, true, false, ◌&&◌, not, eqb, Some, None, sym, ap, ◌∙◌, refl, subst}
 use Rattle.std.proofs.lemmas.Bool.{cond-true, and_right, or_from, false≢true, false_from_ne_true}
 use Rattle.xt_map.specs.declared.contents.MemoryContents.{MemoryContents}
 use Rattle.xt_special.specs.declared.ps.Ps.{Ps}
-use Rattle.xt_special.specs.Interrupts.{pending_of}
 use Rattle.xt_window.specs.Ring.{visible}
 use Rattle.xt_trace.specs.declared.record.StepRecord.{StepRecord}
 use Rattle.xt_trace.specs.declared.record.StepKind.{StepKind}
@@ -21,25 +20,23 @@ use Rattle.xt_frames.specs.FrameStep.{FrameTurn, laid, laid_step}
 use Rattle.xt_frames.specs.Marks.{are_own_marks}
 use Rattle.xt_frames.specs.Nesting.{begins, begun, current, inside, is_nesting, nested_turn}
 use Rattle.xt_frames.specs.HandlerSteps.{returns, fetched_returns}
-use Rattle.xt_frames.specs.Breaches.{Bounds, inputs_of, laid_breach, breach_of, fetched_tests, fetched_sets_epc1, writes_epc1, fresh_after, touches_save_area, loads_stale}
+use Rattle.xt_frames.specs.Breaches.{Bounds, inputs_of, breach_of, fetched_tests, fetched_sets_epc1, writes_epc1, fresh_after, touches_save_area, loads_stale}
 use Rattle.xt_frames.specs.Judging.{fresh_on, step_on, value_in, place_on}
-use Rattle.xt_frames.proofs.Inside.{begins_now, breach_inside, ended_fetched, fresh_inside, fresh_begun, open_fetched, returns_fetched, step_begins, step_inside}
-use Rattle.xt_frames.proofs.Shown.{NoneShown, none_shown, sound}
+use Rattle.xt_frames.proofs.Inside.{begins_now, ended_fetched, fresh_inside, fresh_begun, open_fetched, returns_fetched, step_begins, step_inside}
+use Rattle.xt_frames.proofs.Shown.{NoneShown, sound}
 use Rattle.xt_simulation.specs.Relation.{inputs}
 use Rattle.xt_simulation.specs.Steps.{reply_at, reply_now, record_now, state_now}
 use Rattle.xt_simulation.specs.Memories.{KeepsAreas}
 use Rattle.xt_simulation.specs.Judges.{Matches}
 use Rattle.xt_simulation.specs.Nested.{Suspends}
 use Rattle.xt_simulation.proofs.Memories.{keeps_from}
-use Rattle.xt_simulation.proofs.Judges.{same_laid, record_access}
+use Rattle.xt_simulation.proofs.Judges.{record_access}
 use Rattle.xt_simulation.proofs.Plans.{plan_kind, plan_write}
 use Rattle.xt_simulation.proofs.Resumed.{back, back_at, back_ps, back_state, same_regs}
 use Rattle.xt_simulation.proofs.Inner.{laid_excm, laid_same, laid_tests}
 use Rattle.xt_simulation.proofs.InnerRows.{quiet_of}
 use Rattle.xt_simulation.proofs.Taken.{asks_nothing, nesting_now, nesting_taken}
-use Rattle.xt_simulation.proofs.Turns.{quiet_nested}
 use Rattle.xt_simulation.proofs.Served.{areas_fetched}
-use Rattle.xt_frames.proofs.StackSteps.{breach_fetches}
 
 -- ---- RFI 5
 -- t is the state after it, where `suspended` is that at the beginning of the interrupt

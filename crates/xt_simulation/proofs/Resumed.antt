@@ -1,13 +1,11 @@
 -- RFI 5 of a nested interrupt, with the marks as they stood at its beginning: the window handler goes on.
-use Rattle.std.proofs.Common.{◌≡◌, ℕ, ◌<◌, ◌^◌, true, false, ltb, List, get_or, Option, Some, None, sym, ap, ◌∙◌, refl, arith, ⊎_elim, subst}
+use Rattle.std.proofs.Common.{◌≡◌, ℕ, true, false, ltb, List, get_or, Option, Some, None, sym, ap, ◌∙◌, refl, arith, ⊎_elim, subst}
 use Rattle.std.proofs.lemmas.Bool.{cases_eq, cond-true, and_parts, eqb-true}
 use Rattle.std.proofs.lemmas.List.{ext_get_or}
 use Rattle.xt_isa.specs.declared.Insn.{Insn}
 use Rattle.xt_isa.specs.declared.Insn.TheVariants as insn
 use Rattle.xt_isa.specs.declared.system.System.TheVariants as system
-use Rattle.xt_map.specs.declared.access.Access.{Access}
 use Rattle.xt_map.specs.declared.contents.MemoryContents.{MemoryContents}
-use Rattle.xt_special.specs.declared.ps.Ps.{Ps}
 use Rattle.xt_special.specs.Numbers as number
 use Rattle.xt_special.specs.Control.{Control, special_of, ps_of}
 use Rattle.xt_special.specs.Shape.{IsPs}
@@ -32,7 +30,6 @@ use Rattle.xt_fetch.specs.Fetching.{Fetched, Fetches, Fails, SpellsNothing, fetc
 use Rattle.xt_exec.specs.State.{State}
 use Rattle.xt_exec.specs.Laws.{IsShaped}
 use Rattle.xt_exec.specs.Turn.{planned, demand, turn, done, is_illegal}
-use Rattle.xt_exec.proofs.Shapes.{turn_shaped}
 use Rattle.xt_frames.specs.declared.holes.Nested.{Nested}
 use Rattle.xt_frames.specs.Frames.{FrameState, known}
 use Rattle.xt_frames.specs.FrameStep.{FrameTurn, done_in_frame, fetched_step, laid, laid_step}
@@ -45,13 +42,12 @@ use Rattle.xt_frames.proofs.Inside.{step_inside}
 use Rattle.xt_frames.proofs.StackSteps.{step_fetches}
 use Rattle.xt_simulation.specs.Relation.{inputs}
 use Rattle.xt_simulation.specs.InHandlers.{as_left}
-use Rattle.xt_simulation.specs.Steps.{reply_at, reply_now, record_now, state_now}
+use Rattle.xt_simulation.specs.Steps.{reply_now, record_now, state_now}
 use Rattle.xt_simulation.specs.Handling.{Handling}
 use Rattle.xt_simulation.specs.Nested.{IsInside, resumed}
 use Rattle.xt_simulation.proofs.Evenly.{same_ticked}
 use Rattle.xt_simulation.proofs.Carried.{Carries, carried}
 use Rattle.xt_simulation.proofs.Inner.{Ends, laid_quiet, laid_runs, laid_same}
-use Rattle.xt_simulation.proofs.Judges.{same_laid}
 use Rattle.xt_simulation.proofs.Laid.{laid_after, laid_other}
 use Rattle.xt_simulation.proofs.Judges.{shaped_silent}
 use Rattle.xt_simulation.proofs.Plans.{plan_asks, plan_kind, plan_state, plan_write}

@@ -1,11 +1,10 @@
 -- The step that begins a nested interrupt.
-use Rattle.std.proofs.Common.{◌≡◌, ℕ, ◌≢◌, ◌<◌, ◌^◌, zero, suc, Bool, true, false, not, ◌||◌, ◌&&◌, cond, eqb, ltb, List, length, get_or, replicate, Option, Some, None, sym, ap, ◌∙◌, refl, arith, inl, inr, ⊎_elim, subst, ◌⊎◌, ◌+◌, ◌*◌}
+use Rattle.std.proofs.Common.{◌≡◌, ℕ, ◌≢◌, ◌<◌, zero, suc, Bool, true, false, ◌||◌, cond, eqb, ltb, List, length, get_or, replicate, Option, Some, None, sym, ap, ◌∙◌, refl, arith, ⊎_elim, subst, ◌+◌, ◌*◌}
 use Rattle.std.specs.Prelude.{unwrap_or}
 use Rattle.std.proofs.Math.ListN.{set}
-use Rattle.std.proofs.lemmas.Bool.{cases_Bool, cases_eq, eqb-true, false≢true, true≢false, or_left, or_parts}
+use Rattle.std.proofs.lemmas.Bool.{cases_Bool, cases_eq, eqb-true, false≢true, or_parts}
 use Rattle.std.proofs.lemmas.List.{get_or-set_same, get_or-set_other, length-set}
 use Rattle.xt_isa.specs.declared.Insn.{Insn}
-use Rattle.xt_map.specs.declared.access.Access.{Access}
 use Rattle.xt_map.specs.declared.contents.MemoryContents.{MemoryContents}
 use Rattle.xt_special.specs.declared.ps.Ps.{Ps}
 use Rattle.xt_special.specs.Numbers as number
@@ -27,7 +26,6 @@ use Rattle.xt_exec.specs.Laws.{IsShaped}
 use Rattle.xt_exec.specs.Turn.{Planned, planned, demand, turn, in_window, raises, overflow, underflow, window_step, entered, returned, moved_stack, return_size, falls, is_illegal, window_check, done, checked, fetched_turn, with_write, written}
 use Rattle.xt_exec.specs.Turn as turns
 use Rattle.xt_exec.proofs.Finished.{turn_taken, turn_waits, turn_fetches}
-use Rattle.xt_exec.proofs.Shapes.{turn_shaped}
 use Rattle.xt_frames.specs.declared.holes.Nested.{Nested}
 use Rattle.xt_frames.specs.Frames.{Frame, FrameState}
 use Rattle.xt_frames.specs.FrameStep.{FrameTurn, laid}
@@ -41,7 +39,7 @@ use Rattle.xt_stretch.specs.declared.Side.TheVariants.{Overflow, Underflow}
 use Rattle.xt_simulation.specs.Relation.{Same, Even, inputs, lost_at, can_be_lost}
 use Rattle.xt_simulation.specs.Cores.{Related}
 use Rattle.xt_simulation.specs.InHandlers.{as_left}
-use Rattle.xt_simulation.specs.Steps.{reply_at, reply_now, record_now, state_now}
+use Rattle.xt_simulation.specs.Steps.{reply_now, record_now, state_now}
 use Rattle.xt_simulation.specs.Handling.{Begins, Handling}
 use Rattle.xt_simulation.specs.Nested.{IsInside, Suspends, NestedBegin, resumed}
 use Rattle.xt_simulation.proofs.Carried.{Carries, carried}
@@ -50,7 +48,7 @@ use Rattle.xt_simulation.proofs.Evenly.{not_lost, same_ticked}
 use Rattle.xt_simulation.proofs.Judges.{same_laid, shaped_silent}
 use Rattle.xt_simulation.proofs.Kept.{none_in}
 use Rattle.xt_simulation.proofs.Plans.{plan_asks, plan_state}
-use Rattle.xt_simulation.proofs.Laid.{laid_after, laid_length, laid_other, relaid, same_relaid}
+use Rattle.xt_simulation.proofs.Laid.{laid_after, laid_other, relaid}
 
 -- ---- no instruction is an interrupt
 if_quiet : (b : Bool) (p q : Planned) → is_nesting p.kind ≡ false → is_nesting q.kind ≡ false → is_nesting (cond b p q).kind ≡ false

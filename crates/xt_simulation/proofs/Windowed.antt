@@ -20,11 +20,10 @@ use Rattle.xt_fetch.specs.Fetching.{Fetched, Fetches, Fails, SpellsNothing, fetc
 use Rattle.xt_rows.specs.Effects.{illegal_instruction, write_to, no_caller_window}
 use Rattle.xt_rows.specs.Operands.{reads, special_reads}
 use Rattle.xt_rows.specs.Outcomes.{outcome_at, value_of}
-use Rattle.xt_rows.specs.Settling.{Kind, Executed, Raised, Taken, Waited, Stopped}
 use Rattle.xt_exec.specs.State.{State}
 use Rattle.xt_exec.specs.Laws.{IsShaped}
 use Rattle.xt_exec.proofs.Returns.{return_value}
-use Rattle.xt_exec.specs.Turn.{Planned, planned, kind_of, raises, has_windows, looks, window_check, window_exception, overflow, underflow, window_step, entered, returned, resumed, moved_stack, return_size, is_illegal, done, checked, fetched_turn, falls}
+use Rattle.xt_exec.specs.Turn.{Planned, planned, raises, has_windows, looks, window_check, window_exception, overflow, underflow, window_step, entered, returned, resumed, moved_stack, return_size, is_illegal, done, checked, fetched_turn, falls}
 use Rattle.xt_frames.proofs.Shown.{NoneShown, none_shown}
 use Rattle.xt_frames.specs.Frames.{Frame, FrameState, known, moved}
 use Rattle.xt_frames.specs.HandlerSteps.{is_window}
