@@ -19,8 +19,20 @@ pub fn step_mode(before: Before, kind: StepKind) -> Mode
     ensures { result ≡ step_mode (mode_of before) kind }
 {
     match before {
-        Before::Plain => { if is_window(kind) { Mode::Handler } else { Mode::Plain } }
-        Before::Handles => { if is_nesting(kind) { Mode::Nested } else { Mode::Handler } }
+        Before::Plain => {
+            if is_window(kind) {
+                Mode::Handler
+            } else {
+                Mode::Plain
+            }
+        }
+        Before::Handles => {
+            if is_nesting(kind) {
+                Mode::Nested
+            } else {
+                Mode::Handler
+            }
+        }
         Before::Nests => Mode::Nested,
     }
 }
@@ -30,7 +42,13 @@ fn mode_after(code: &Constants, before: Before, rec: &StepRecord) -> Before
     ensures { mode_of result ≡ mode_after (constant_byte code.now) (mode_of before) rec.now }
 {
     match before {
-        Before::Plain => { if is_window(rec.kind) { Before::Handles } else { Before::Plain } }
+        Before::Plain => {
+            if is_window(rec.kind) {
+                Before::Handles
+            } else {
+                Before::Plain
+            }
+        }
         Before::Handles => {
             if is_nesting(rec.kind) {
                 Before::Nests
@@ -40,7 +58,13 @@ fn mode_after(code: &Constants, before: Before, rec: &StepRecord) -> Before
                 Before::Handles
             }
         }
-        Before::Nests => { if returns(code, rec) { Before::Handles } else { Before::Nests } }
+        Before::Nests => {
+            if returns(code, rec) {
+                Before::Handles
+            } else {
+                Before::Nests
+            }
+        }
     }
 }
 
