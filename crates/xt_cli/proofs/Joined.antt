@@ -15,8 +15,8 @@ use Rattle.xt_cli.specs.Verdicts.{judged_of}
 use Rattle.xt_cli.specs.Top.{IsJudged}
 
 unchecked_or : (b : Bool) (j : Judgement) (v : Judged) → v ≡ verdict b j → (v ≡ judged.Unchecked → ⊥) → b ≡ true
-unchecked_or true j v e no = refl
-unchecked_or false j v e no = absurd (no e)
+unchecked_or true j v e checked = refl
+unchecked_or false j v e checked = absurd (checked e)
 
 breach_none : (o : Option Breach) → verdict_on o ≡ judged.Whole → o ≡ None
 breach_none None e = refl

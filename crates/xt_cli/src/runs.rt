@@ -15,7 +15,6 @@ use xt_machine::run;
 use xt_trace::Run;
 
 // The run of an image with the options of the words, on two threads.
-#[tactic(auto, unfolding(crate::specs::Top::run_of_its_schedule))]
 fn run_image<G: Gate, R: Threads + Wait + Sync>(
     rt: &R,
     alloc: Global,
