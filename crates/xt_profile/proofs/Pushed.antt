@@ -1,0 +1,33 @@
+-- Each frame that stands was pushed.
+use Rattle.std.proofs.Common.{◌≡◌, ℕ, zero, suc, ◌<◌, ◌≤◌, ◌⊎◌, inl, inr, ⊎_elim, List, [], ◌∷◌, length, subst, ap, arith}
+use Rattle.std.proofs.lemmas.Bool.{cases_lt}
+use Rattle.xt_trace.specs.declared.record.StepRecord.{StepRecord}
+use Rattle.xt_frames.specs.Frames.{Frame, FrameState}
+use Rattle.xt_frames.specs.HandlerSteps.{Mode, Plain, mode_after}
+use Rattle.xt_discipline.specs.Modes.{step_mode}
+use Rattle.xt_profile.specs.Steps.{Step, frame_after, step_of, steps_from}
+use Rattle.xt_profile.specs.Laws.{ArePushed, IsPushed}
+
+abbrev Stand : ℕ → List Step → Type 0
+Stand n past = (d : ℕ) → 0 < d → d ≤ n → IsPushed d past
+
+stand_after : (s : Step) (past : List Step) → Stand s.before past → Stand s.after (s ∷ past)
+stand_after s past h d some le =
+    ⊎_elim (λ (lt : s.before < d). inl (lt, le)) (λ (low : d ≤ s.before). inr (h d some low)) (cases_lt s.before d)
+
+steps_pushed : (code : ℕ → ℕ) (m : Mode) (f : FrameState) (past : List Step) (xs : List StepRecord) → Stand (length f.frames) past → ArePushed past → ArePushed (steps_from code m f past xs)
+steps_pushed code m f past [] h a = a
+steps_pushed code m f past (x ∷ xs) h a =
+    let mode = step_mode m x.kind in
+    let g = frame_after code mode x f in
+    let s = step_of mode x f g in
+    steps_pushed code (mode_after code m x) g (s ∷ past) xs (stand_after s past h) (h, a)
+
+impossible : (n d : ℕ) → n ≡ 0 → 0 < d → d ≤ n → ⊥
+impossible n d e some le = omega (arith, e, some, le)
+
+none_stand : (n : ℕ) → n ≡ 0 → Stand n []
+none_stand n e d some le = impossible n d e some le
+
+pub all_pushed : (code : ℕ → ℕ) (f : FrameState) (xs : List StepRecord) → f.frames ≡ [] → ArePushed (steps_from code Plain f [] xs)
+all_pushed code f xs none = steps_pushed code Plain f [] xs (none_stand (length f.frames) (ap (λ (fs : List Frame). length fs) none)) tt

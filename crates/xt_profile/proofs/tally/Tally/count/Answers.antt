@@ -1,0 +1,24 @@
+use Rattle.std.proofs.Common.{◌≤◌, arith}
+use Rattle.xt_profile.proofs.Telling.{handlers_fit, row_fits}
+use Rattle.xt_profile.proofs.tally.Tally.count.Goals as goal
+
+pub overflow_add-self-in-Handler : goal.overflow_add-self-in-Handler
+overflow_add-self-in-Handler c =
+    let t = c.args.self.now in
+    let q = c.requires.known in
+    let le : t.handlers ≤ t.steps = handlers_fit q.0 q.1 t q.2 in
+    omega (arith, le, c.requires.room)
+
+pub overflow_add-self-in-Plain : goal.overflow_add-self-in-Plain
+overflow_add-self-in-Plain c =
+    let t = c.args.self.now in
+    let q = c.requires.known in
+    let le : t.row ≤ t.steps = row_fits q.0 q.1 t q.2 in
+    omega (arith, le, c.requires.room)
+
+pub overflow_add-self-in-Nested : goal.overflow_add-self-in-Nested
+overflow_add-self-in-Nested c =
+    let t = c.args.self.now in
+    let q = c.requires.known in
+    let le : t.row ≤ t.steps = row_fits q.0 q.1 t q.2 in
+    omega (arith, le, c.requires.room)

@@ -1,0 +1,47 @@
+-- The functions that a core is in, and the key of a step ('profile'). Steps stand the latest first.
+use Rattle.std.specs.Prelude.{ℕ, zero, suc, ◌-◌, ◌&&◌, nat_le, nat_lt, if◌then◌else◌}
+use Rattle.std.specs.Prelude.{List, [], ◌∷◌, ◌++◌, length, drop}
+use Rattle.xt_discipline.specs.declared.step_modes.Mode.{Mode}
+use Rattle.xt_discipline.specs.declared.step_modes.Mode.TheVariants.{Plain, Handler, Nested}
+use Rattle.xt_profile.specs.Steps.{Step}
+
+-- The PC of the ENTRY that pushed frame d of those that stand after these steps, where the oldest
+-- is frame 1: of the latest step that took their number from below d to d or more.
+abbrev pub pushed : ℕ → List Step → ℕ
+pushed d [] = 0
+pushed d (s ∷ past) = if nat_lt s.before d && nat_le d s.after then s.pc else pushed d past
+
+-- that of each of the n oldest frames, the oldest first
+abbrev pub pushes : ℕ → List Step → List ℕ
+pushes zero past = []
+pushes (suc d) past = pushes d past ++ pushed (suc d) past ∷ []
+
+-- the function list where n frames stand: the core's opening PC, then the PC of each ENTRY
+abbrev pub functions : ℕ → ℕ → List Step → List ℕ
+functions opening n past = opening ∷ pushes n past
+
+-- the last eight numbers of a list, or all if there are fewer
+abbrev pub last_eight : List ℕ → List ℕ
+last_eight xs = drop (length xs - 8) xs
+
+-- handler steps have no key
+abbrev pub with_key : Mode → List ℕ → List (List ℕ) → List (List ℕ)
+with_key Plain key keys = key ∷ keys
+with_key Handler key keys = keys
+with_key Nested key keys = key ∷ keys
+
+-- the keys of the judged steps, each by the function list before its step
+abbrev pub keys : ℕ → List Step → List (List ℕ)
+keys opening [] = []
+keys opening (s ∷ past) =
+    with_key s.mode (last_eight (functions opening s.before past)) (keys opening past)
+
+abbrev pub with_handler : Mode → ℕ → ℕ
+with_handler Plain n = n
+with_handler Handler n = suc n
+with_handler Nested n = n
+
+-- how many handler steps there are
+abbrev pub handlers : List Step → ℕ
+handlers [] = 0
+handlers (s ∷ past) = with_handler s.mode (handlers past)

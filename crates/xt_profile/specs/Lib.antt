@@ -1,0 +1,9 @@
+pub mod Steps
+pub mod Keys
+pub mod Counts
+pub mod Profiled
+pub mod Texts
+pub mod Peeks
+pub mod Told
+pub mod Laws
+pub mod Follows

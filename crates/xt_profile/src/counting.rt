@@ -1,0 +1,175 @@
+//! The walk over a run that counts its call stacks.
+#![tactic(auto)]
+
+ghost use Rattle.std.specs.Prelude.{◌≡◌, ◌+◌, ◌<◌, ◌^◌, ℕ, IfOk, OnOk, List, length};
+ghost use Rattle.xt_map.specs.Memory.{constant_byte};
+ghost use Rattle.xt_map.specs.Placing.{IsPlaced};
+ghost use Rattle.xt_trace.specs.declared.record.StepRecord.{StepRecord};
+ghost use Rattle.xt_frames.specs.Breaches.{Bounds};
+ghost use Rattle.xt_frames.specs.Verdict.{Known, judgement};
+ghost use Rattle.xt_discipline.specs.Ended.{records_left};
+ghost use Rattle.xt_discipline.specs.Schedules.{HasSchedule, schedule_in};
+ghost use Rattle.xt_discipline.specs.Verdicts.{are_yes};
+ghost use Rattle.xt_discipline.specs.Walks.{Knows};
+ghost use Rattle.xt_handlers.specs.Answers.{handlers_of};
+ghost use Rattle.xt_core.specs.Runs.{IsRunOf, code_of};
+ghost use Rattle.xt_profile.specs.Follows.{AreCut, Follows, IsMade, depth_in};
+ghost use Rattle.xt_profile.specs.Peeks.{peeked};
+ghost use Rattle.xt_profile.specs.Profiled.{AddsUp, CoreAddsUp, core_profile, profile_of};
+
+use crate::peeked::Peeked;
+use crate::profiles::{CoreProfile, Profile};
+use crate::tally::Tally;
+use std::alloc::{AllocError, Global};
+use xt_core::Cursor;
+use xt_discipline::step_modes::Mode;
+use xt_discipline::{Order, Walk, are_yes, handlers_of};
+use xt_image::Image;
+use xt_map::Constants;
+use xt_trace::{Run, StepKind};
+
+/// A turn that was made.
+#[derive(Clone, Copy)]
+pub struct Made {
+    /// Its PC.
+    pub pc: u32,
+    /// What it was.
+    pub mode: Mode,
+    /// How many frames its core has after it.
+    pub after: u32,
+}
+
+/// The PC and the kind of the next record of a core.
+fn peek<'a>(
+    core: u8,
+    records0: &mut Peeked<'a>,
+    records1: &mut Peeked<'a>,
+) -> Option<(u32, StepKind)>
+    requires { core < 2 }
+    ensures same0 { records0.new ≡ records0.old }
+    ensures same1 { records1.new ≡ records1.old }
+    ensures peeked { result ≡ peeked (records_left core records0.old records1.old) }
+{
+    if core == 0 {
+        records0.peek()
+    } else {
+        records1.peek()
+    }
+}
+
+/// How many frames a core has.
+fn depth_of(walk: &Walk, core: u8) -> u32
+    requires { core < 2 }
+    ensures { result ≡ depth_in core walk.now }
+{
+    let (depth0, depth1) = walk.depths();
+    if core == 0 { depth0 } else { depth1 }
+}
+
+/// The next turn of a core: none where the core has no record left, or a breach comes.
+fn turn<'a>(
+    walk: &mut Walk,
+    core: u8,
+    records0: &mut Peeked<'a>,
+    records1: &mut Peeked<'a>,
+) -> Option<Made>
+    requires core { core < 2 }
+    requires known { (b0 : Bounds) × (b1 : Bounds) × (k : Known) × Knows walk.old b0 b1 k }
+    requires room { walk.old.side0.steps + walk.old.side1.steps + 1 < 2 ^ 32 }
+    ensures { (b0 b1 : Bounds) (k : Known) → Knows walk.old b0 b1 k
+        → IsMade (constant_byte walk.old.code) b0 b1 core k records0.old records1.old walk.new records0.new records1.new result }
+{
+    let Some((pc, kind)) = peek(core, records0, records1) else {
+        return None;
+    };
+    let mode = walk.mode(core, kind);
+    match walk.turn(core, records0, records1) {
+        Ok(()) => {
+            let after = depth_of(walk, core);
+            Some(Made { pc, mode, after })
+        }
+        Err(_) => None,
+    }
+}
+
+/// Counts the turns of a run in the order of its schedule, up to the first breach.
+fn follow<'a>(
+    alloc: Global,
+    walk: &mut Walk,
+    run: &Run,
+    records0: &mut Peeked<'a>,
+    records1: &mut Peeked<'a>,
+    tally0: &mut Tally,
+    tally1: &mut Tally,
+) -> Result<(), AllocError>
+    requires schedule { HasSchedule run.now }
+    requires known { (b0 : Bounds) × (b1 : Bounds) × (k : Known) × (e0 : ℕ) × (e1 : ℕ) × Follows (constant_byte walk.old.code) b0 b1 k (schedule_in run.now) e0 e1 records0.old records1.old walk.old 0 records0.old records1.old tally0.old tally1.old }
+    requires room { walk.old.side0.steps + walk.old.side1.steps + length (schedule_in run.now) < 2 ^ 32 }
+    ensures { OnOk result ((b0 b1 : Bounds) (k : Known) (e0 e1 : ℕ)
+        → Follows (constant_byte walk.old.code) b0 b1 k (schedule_in run.now) e0 e1 records0.old records1.old walk.old 0 records0.old records1.old tally0.old tally1.old
+        → AreCut (constant_byte walk.old.code) k e0 e1 records0.old records1.old (judgement (constant_byte walk.old.code) b0 b1 (schedule_in run.now) records0.old records1.old k) tally0.new tally1.new) }
+{
+    for core in Order::of(run) {
+        let Some(made) = turn(walk, core, records0, records1) else {
+            return Ok(());
+        };
+        if core == 0 {
+            tally0.step(alloc, made.pc, made.mode, made.after)?;
+        } else {
+            tally1.step(alloc, made.pc, made.mode, made.after)?;
+        }
+    }
+    Ok(())
+}
+
+/// The profiles of both cores of a run whose window handlers pass the check.
+fn cores(alloc: Global, image: &Image, run: &Run) -> Result<(CoreProfile, CoreProfile), AllocError>
+    requires placed { IsPlaced image.now.segments }
+    requires run { IsRunOf image.now run.now }
+    ensures zero { IfOk result (λ p. p.0 ≡ core_profile 0 image.now run.now) }
+    ensures one { IfOk result (λ p. p.1 ≡ core_profile 1 image.now run.now) }
+    ensures sum0 { IfOk result (λ p. CoreAddsUp p.0 run.now.trace0.count) }
+    ensures sum1 { IfOk result (λ p. CoreAddsUp p.1 run.now.trace1.count) }
+{
+    let code = Constants::make(alloc, image.segments.as_slice())?;
+    let mut walk = Walk::open(alloc, code, image.entry, &run.options)?;
+    let cursor0 = Cursor::make(alloc, image, run, 0)?;
+    let cursor1 = Cursor::make(alloc, image, run, 1)?;
+    let mut records0 = Peeked::new(cursor0);
+    let mut records1 = Peeked::new(cursor1);
+    let mut tally0 = Tally::open(alloc, image.entry)?;
+    let mut tally1 = Tally::open(alloc, run.options.entry1)?;
+    follow(
+        alloc,
+        &mut walk,
+        run,
+        &mut records0,
+        &mut records1,
+        &mut tally0,
+        &mut tally1,
+    )?;
+    let zero = tally0.close(alloc, run.trace0.count)?;
+    let one = tally1.close(alloc, run.trace1.count)?;
+    Ok((zero, one))
+}
+
+/// The call profile of a run of an image: how many of its turns before the first breach each stack
+/// of functions has, and how many are handler steps or come later. Nothing where a window handler
+/// does not pass the check. The only error is running out of memory.
+///
+/// Conditions: the run is the image's. The image's segments lie in one region each and share no
+/// byte, as those of every image that was read.
+#[tactic(auto, unfolding(crate::specs::Profiled::profile_of))]
+pub fn profile(alloc: Global, image: &Image, run: &Run) -> Result<Profile, AllocError>
+    requires placed { IsPlaced image.now.segments }
+    requires run { IsRunOf image.now run.now }
+    ensures profile { IfOk result (λ profile. profile ≡ profile_of image.now run.now) }
+    ensures sums { IfOk result (λ profile. AddsUp profile run.now) }
+{
+    let handlers = handlers_of(alloc, image, run.options.vecbase)?;
+    if !are_yes(&handlers) {
+        return Ok(Profile::Unchecked);
+    }
+    let (zero, one) = cores(alloc, image, run)?;
+    Ok(Profile::Cores(zero, one))
+}

@@ -1,0 +1,109 @@
+//! The call profile of a run.
+ghost use Rattle.std.specs.Prelude.{◌≡◌, length};
+
+use std::marker::Model;
+
+/// The last functions that a core is in, by their addresses, the oldest first. Contracts see the
+/// list.
+#[derive(Drop)]
+pub struct Key {
+    items: Vec<u32>,
+}
+
+impl Model for Key {
+    ghost use Rattle.std.specs.Prelude.{ℕ, List};
+
+    ghost Value = { List ℕ };
+
+    ghost view = { λ k. k.items.items };
+}
+
+impl Key {
+    /// These addresses, without a copy.
+    pub fn new(items: Vec<u32>) -> Key
+        ensures { result ≡ items.items }
+    {
+        Key { items }
+    }
+
+    /// The addresses.
+    pub fn as_slice(&self) -> &[u32]
+        ensures { result.now ≡ self.now }
+    {
+        &self.items
+    }
+
+    /// How many addresses there are.
+    pub fn len(&self) -> usize
+        ensures { result ≡ length self.now }
+    {
+        self.items.len()
+    }
+}
+
+/// How many turns have a key.
+#[derive(Drop)]
+pub struct ProfileLine {
+    /// The key.
+    pub key: Key,
+    /// How many, one at least.
+    pub count: u32,
+}
+
+/// Each key that a turn has, once, in order. Contracts see the list.
+#[derive(Drop)]
+pub struct Lines {
+    items: Vec<ProfileLine>,
+}
+
+impl Model for Lines {
+    ghost use Rattle.std.specs.Prelude.{List};
+    ghost use Rattle.xt_profile.specs.declared.profiles.ProfileLine.{ProfileLine};
+
+    ghost Value = { List ProfileLine };
+
+    ghost view = { λ l. l.items.items };
+}
+
+impl Lines {
+    /// These lines, without a copy.
+    pub fn new(items: Vec<ProfileLine>) -> Lines
+        ensures { result ≡ items.items }
+    {
+        Lines { items }
+    }
+
+    /// The lines.
+    pub fn as_slice(&self) -> &[ProfileLine]
+        ensures { result.now ≡ self.now }
+    {
+        &self.items
+    }
+
+    /// How many lines there are.
+    pub fn len(&self) -> usize
+        ensures { result ≡ length self.now }
+    {
+        self.items.len()
+    }
+}
+
+/// The turns of one core.
+#[derive(Drop)]
+pub struct CoreProfile {
+    /// The judged steps before the first breach, by their keys.
+    pub lines: Lines,
+    /// How many handler steps there are before it.
+    pub handlers: u32,
+    /// How many steps there are from it on.
+    pub after: u32,
+}
+
+/// The call profile of a run.
+#[derive(Drop)]
+pub enum Profile {
+    /// A window handler does not pass the check, so nothing is known of frames.
+    Unchecked,
+    /// Core 0 and core 1.
+    Cores(CoreProfile, CoreProfile),
+}

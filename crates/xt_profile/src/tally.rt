@@ -1,0 +1,170 @@
+//! What is counted of one core, step by step.
+#![tactic(auto)]
+
+ghost use Rattle.std.specs.Prelude.{◌≡◌, ◌+◌, ◌-◌, ◌<◌, ◌≤◌, ◌^◌, ℕ, IfOk, OnOk, List, [], ◌∷◌, length, map, unwrap_or};
+ghost use Rattle.xt_profile.specs.Counts.{compare, lines};
+ghost use Rattle.xt_profile.specs.Keys.{handlers, keys, last_eight};
+ghost use Rattle.xt_profile.specs.Steps.{Step};
+ghost use Rattle.xt_profile.specs.Told.{AreCounted, IsTally, closed, count_in, puts, read, standing};
+
+use crate::profiles::{CoreProfile, Key, Lines, ProfileLine};
+use std::alloc::{AllocError, Global};
+use std::collections::BTreeMap;
+use xt_discipline::step_modes::Mode;
+
+/// How many functions a key has at most.
+const DEPTH: usize = 8;
+
+/// What is counted of a core so far.
+#[derive(Drop)]
+pub struct Tally {
+    // The core's opening PC, and the PC of the ENTRY of each frame that stands, the oldest first.
+    functions: Vec<u32>,
+    // How many steps each key has, but for the last ones in a row.
+    counts: BTreeMap<Vec<u32>, u32>,
+    // How many steps in a row have the key of these functions.
+    row: u32,
+    handlers: u32,
+    // How many steps there are in all.
+    steps: u32,
+}
+
+/// The last eight of these functions, or all if there are fewer.
+fn last_eight(functions: &[u32]) -> &[u32]
+    ensures { result.now ≡ last_eight functions.now }
+{
+    let more = functions.len().saturating_sub(DEPTH);
+    &functions[more..]
+}
+
+/// How many steps a key has so far.
+fn count_in(counts: &BTreeMap<Vec<u32>, u32>, key: &[u32]) -> u32
+    ensures { result ≡ count_in key.now (map read counts.now.entries) }
+{
+    match counts.get(key) {
+        Some(count) => *count,
+        None => 0,
+    }
+}
+
+/// Counts so many steps more of a key.
+fn add(
+    alloc: Global,
+    counts: &mut BTreeMap<Vec<u32>, u32>,
+    key: &[u32],
+    row: u32,
+) -> Result<(), AllocError>
+    requires { count_in key.now (map read counts.old.entries) + row < 2 ^ 32 }
+    ensures { OnOk result (map read counts.new.entries ≡ puts key.now (count_in key.now (map read counts.old.entries) + row) (map read counts.old.entries)) }
+{
+    let count = count_in(counts, key) + row;
+    let key = Vec::from_slice(alloc, key)?;
+    counts.insert(key, count)?;
+    Ok(())
+}
+
+/// The lines of a map, in order.
+fn lines_of(alloc: Global, counts: BTreeMap<Vec<u32>, u32>) -> Result<Lines, AllocError>
+    ensures { IfOk result (λ lines. lines ≡ map read counts.entries) }
+{
+    let mut items = Vec::new(alloc);
+    for (key, count) in counts {
+        items.push(ProfileLine {
+            key: Key::new(key),
+            count,
+        })?;
+    }
+    Ok(Lines::new(items))
+}
+
+impl Tally {
+    /// No steps yet of a core that opens at `pc`.
+    pub fn open(alloc: Global, pc: u32) -> Result<Tally, AllocError>
+        ensures { IfOk result (λ t. IsTally pc [] t) }
+    {
+        let mut functions = Vec::new(alloc);
+        functions.push(pc)?;
+        Ok(Tally {
+            functions,
+            counts: BTreeMap::new(alloc),
+            row: 0,
+            handlers: 0,
+            steps: 0,
+        })
+    }
+
+    /// Puts the steps in a row to those of their key.
+    fn flush(&mut self, alloc: Global) -> Result<(), AllocError>
+        requires room { self.old.steps < 2 ^ 32 }
+        requires known { (opening : ℕ) × (past : List Step) × AreCounted opening past self.old }
+        ensures functions { self.new.functions ≡ self.old.functions }
+        ensures row { OnOk result (self.new.row ≡ 0) }
+        ensures steps { self.new.steps ≡ self.old.steps }
+        ensures counted { OnOk result ((opening : ℕ) (past : List Step) → AreCounted opening past self.old → AreCounted opening past self.new) }
+    {
+        if self.row > 0 {
+            let row = self.row;
+            add(alloc, &mut self.counts, last_eight(&self.functions), row)?;
+            self.row = 0;
+        }
+        Ok(())
+    }
+
+    /// Counts a step, which may change the functions then.
+    fn count(&mut self, mode: Mode)
+        requires room { self.old.steps + 1 < 2 ^ 32 }
+        requires known { (opening : ℕ) × (past : List Step) × AreCounted opening past self.old }
+        ensures functions { self.new.functions ≡ self.old.functions }
+        ensures steps { self.new.steps ≡ self.old.steps + 1 }
+        ensures counted { (opening : ℕ) (past : List Step) (s : Step) → IsTally opening past self.old → s.mode ≡ mode → s.before ≡ standing past → AreCounted opening (s ∷ past) self.new }
+    {
+        self.steps += 1;
+        match mode {
+            Mode::Handler => self.handlers += 1,
+            Mode::Plain => self.row += 1,
+            Mode::Nested => self.row += 1,
+        }
+    }
+
+    /// A step at this PC, after which so many frames stand. The only error is running out of memory.
+    pub fn step(&mut self, alloc: Global, pc: u32, mode: Mode, after: u32) -> Result<(), AllocError>
+        requires room { self.old.steps + 1 < 2 ^ 32 }
+        requires known { (opening : ℕ) × (past : List Step) × IsTally opening past self.old }
+        ensures { OnOk result ((opening : ℕ) (past : List Step) → IsTally opening past self.old
+            → IsTally opening (record { pc = pc; mode = mode; before = standing past; after = after } ∷ past) self.new) }
+    {
+        self.count(mode);
+        let depth = after as usize + 1;
+        let len = self.functions.as_slice().len();
+        if depth == len {
+            return Ok(());
+        }
+        self.flush(alloc)?;
+        self.functions.resize(depth, pc)?;
+        Ok(())
+    }
+
+    /// What was counted of a core that has so many steps in all. The only error is running out of
+    /// memory.
+    pub fn close(self, alloc: Global, count: u32) -> Result<CoreProfile, AllocError>
+        requires known { (opening : ℕ) × (past : List Step) × IsTally opening past self }
+        requires within { self.steps ≤ count }
+        ensures { IfOk result (λ p. (opening : ℕ) (past : List Step) → IsTally opening past self → p ≡ closed opening past count) }
+    {
+        let mut tally = self;
+        tally.flush(alloc)?;
+        let Tally {
+            functions: _,
+            counts,
+            row: _,
+            handlers,
+            steps,
+        } = tally;
+        let lines = lines_of(alloc, counts)?;
+        Ok(CoreProfile {
+            lines,
+            handlers,
+            after: count - steps,
+        })
+    }
+}

@@ -1,0 +1,98 @@
+//! The text of a call profile.
+ghost use Rattle.std.specs.Prelude.{◌≡◌, ◌++◌, IfOk, OnOk, string_bytes};
+ghost use Rattle.std.specs.List.{flat_map};
+ghost use Rattle.xt_profile.specs.Texts.{core_text, key_text, line_text, lines_text, next_text, profile_text, rest_text};
+
+use crate::profiles::{CoreProfile, Profile, ProfileLine};
+use std::alloc::{AllocError, Global};
+use std::fmt::Write;
+use xt_map::Text;
+use xt_word::push_hex8;
+
+// Appends an address behind a `;`.
+fn push_next(out: &mut String, address: u32) -> Result<(), AllocError>
+    ensures { OnOk result (string_bytes out.new ≡ string_bytes out.old ++ next_text address) }
+{
+    out.push_str(";")?;
+    push_hex8(out, address)
+}
+
+// Appends addresses, each behind a `;`.
+fn push_more(out: &mut String, more: &[u32]) -> Result<(), AllocError>
+    ensures { OnOk result (string_bytes out.new ≡ string_bytes out.old ++ flat_map next_text more.now) }
+{
+    for address in more {
+        push_next(out, *address)?;
+    }
+    Ok(())
+}
+
+// Appends a key.
+fn push_key(out: &mut String, key: &[u32]) -> Result<(), AllocError>
+    ensures { OnOk result (string_bytes out.new ≡ string_bytes out.old ++ key_text key.now) }
+{
+    match key.split_first() {
+        Some((address, more)) => {
+            push_hex8(out, *address)?;
+            push_more(out, more)
+        }
+        None => Ok(()),
+    }
+}
+
+// Appends the line of a key.
+#[tactic(auto, unfolding(crate::specs::Texts::line_text))]
+fn push_line(out: &mut String, core: u8, line: &ProfileLine) -> Result<(), AllocError>
+    ensures { OnOk result (string_bytes out.new ≡ string_bytes out.old ++ line_text core line.now) }
+{
+    write!(out, "core {core} ")?;
+    push_key(out, line.key.as_slice())?;
+    let count = line.count;
+    writeln!(out, " {count}")
+}
+
+// Appends the line of each key.
+fn push_lines(out: &mut String, core: u8, lines: &[ProfileLine]) -> Result<(), AllocError>
+    ensures { OnOk result (string_bytes out.new ≡ string_bytes out.old ++ lines_text core lines.now) }
+{
+    for line in lines {
+        push_line(out, core, line)?;
+    }
+    Ok(())
+}
+
+// Appends what has no key.
+#[tactic(auto, unfolding(crate::specs::Texts::rest_text))]
+fn push_rest(out: &mut String, core: u8, profile: &CoreProfile) -> Result<(), AllocError>
+    ensures { OnOk result (string_bytes out.new ≡ string_bytes out.old ++ rest_text core profile.now) }
+{
+    let handlers = profile.handlers;
+    let after = profile.after;
+    writeln!(out, "core {core} handlers {handlers} after {after}")
+}
+
+// Appends the lines of a core.
+fn push_core(out: &mut String, core: u8, profile: &CoreProfile) -> Result<(), AllocError>
+    ensures { OnOk result (string_bytes out.new ≡ string_bytes out.old ++ core_text core profile.now) }
+{
+    push_lines(out, core, profile.lines.as_slice())?;
+    push_rest(out, core, profile)
+}
+
+/// The text of a profile: for core 0 and then core 1 a line `core C KEY N` for each key, with its
+/// addresses joined by `;`, and a line `core C handlers H after A`; or `profile none`. The only
+/// error is running out of memory.
+#[tactic(auto, unfolding(crate::specs::Texts::profile_text))]
+pub fn profile_text(alloc: Global, profile: &Profile) -> Result<Text, AllocError>
+    ensures { IfOk result (λ text. text ≡ profile_text profile.now) }
+{
+    let mut out = String::new(alloc);
+    match profile {
+        Profile::Unchecked => out.push_str("profile none\n")?,
+        Profile::Cores(zero, one) => {
+            push_core(&mut out, 0, zero)?;
+            push_core(&mut out, 1, one)?;
+        }
+    }
+    Ok(Text::new(out.into_bytes()))
+}

@@ -1,0 +1,10 @@
+pub mod Bounds
+pub mod Newest
+pub mod Acquiring
+pub mod Tabled
+pub mod Racing
+pub mod Concluding
+pub mod Stepping
+pub mod Walking
+pub mod Printing
+pub mod Entries

@@ -1,0 +1,150 @@
+//! Entries of a history, with the turns that made them.
+ghost use Rattle.std.specs.Prelude.{◌≡◌};
+ghost use Rattle.xt_map.specs.Memory.{constant_byte};
+ghost use Rattle.xt_fetch.specs.Fetching.{fetched};
+ghost use Rattle.xt_race.specs.Races.{acquires, has_stored, order_in, order_of, releases, synchronises, touches_byte, writes};
+ghost use Rattle.xt_race.specs.Clashes.{clash, shares_byte, touches_memory};
+
+use crate::places::is_in_memory;
+use xt_codec::{Fetch, instruction_at};
+use xt_isa::Insn;
+use xt_isa::memory::{Memory, WordName};
+use xt_map::{Constants, Entry, Kind};
+use xt_trace::StepRecord;
+
+/// How an instruction orders the accesses of its core for the other one.
+#[derive(Clone, Copy, Debug, PartialEq, Eq)]
+pub enum Order {
+    /// Not at all.
+    Plain,
+    /// L32AI: what comes after it comes after what it acquires.
+    Acquire,
+    /// S32RI: what comes before it is released with it.
+    Release,
+    /// S32C1I: it acquires, and releases where it stored.
+    Swap,
+}
+
+/// An entry of a history, and the turn of its core that made it.
+#[derive(Clone, Copy)]
+pub struct Event {
+    /// The entry.
+    pub entry: Entry,
+    /// The number of the turn, from 0.
+    pub turn: u32,
+    /// The record of the turn.
+    pub step: StepRecord,
+    /// How the instruction that the record executes orders.
+    pub order: Order,
+}
+
+// How an instruction orders.
+#[tactic(auto, unfolding(crate::specs::Races::order_in))]
+fn order_in(insn: Insn) -> Order
+    ensures { result ≡ order_in insn }
+{
+    match insn {
+        Insn::Memory(Memory::L32i(WordName::L32ai, _, _, _)) => Order::Acquire,
+        Insn::Memory(Memory::L32i(WordName::S32ri, _, _, _)) => Order::Release,
+        Insn::Memory(Memory::S32c1i(_, _, _)) => Order::Swap,
+        _ => Order::Plain,
+    }
+}
+
+/// How the instruction at an address orders.
+pub fn order_at(code: &Constants, pc: u32) -> Order
+    ensures { result ≡ order_of (fetched (constant_byte code.now) pc) }
+{
+    match instruction_at::<Event>(code, pc) {
+        Fetch::Insn(insn, _) => order_in(insn),
+        _ => Order::Plain,
+    }
+}
+
+// Whether an access with this reply has written.
+fn has_stored(kind: Kind, reply: u32) -> bool
+    ensures { result ≡ has_stored kind reply }
+{
+    match kind {
+        Kind::Load => false,
+        Kind::Store(_) => true,
+        Kind::Cas(expected, _) => reply == expected,
+    }
+}
+
+impl Event {
+    /// Whether it writes: a store, or a compare-and-swap that stored.
+    pub fn writes(&self) -> bool
+        ensures { result ≡ writes self.now }
+    {
+        has_stored(self.entry.access.kind, self.entry.reply)
+    }
+
+    /// Whether it releases: S32RI, or S32C1I that stored.
+    pub fn releases(&self) -> bool
+        ensures { result ≡ releases self.now }
+    {
+        match self.order {
+            Order::Release => true,
+            Order::Swap => self.writes(),
+            _ => false,
+        }
+    }
+
+    /// Whether it acquires: L32AI or S32C1I.
+    pub fn acquires(&self) -> bool
+        ensures { result ≡ acquires self.now }
+    {
+        match self.order {
+            Order::Acquire | Order::Swap => true,
+            _ => false,
+        }
+    }
+
+    /// Whether it synchronises: L32AI, S32RI or S32C1I.
+    pub fn synchronises(&self) -> bool
+        ensures { result ≡ synchronises self.now }
+    {
+        match self.order {
+            Order::Plain => false,
+            _ => true,
+        }
+    }
+
+    // Whether it touches the byte at an address.
+    fn touches_byte(&self, addr: u64) -> bool
+        ensures { result ≡ touches_byte self.now addr }
+    {
+        let first = u64::from(self.entry.access.addr);
+        first <= addr && addr < first + u64::from(self.entry.access.size)
+    }
+
+    // Whether it touches the byte at an address, which is one of the memory regions.
+    fn touches_memory(&self, addr: u64) -> bool
+        ensures { result ≡ touches_memory self.now addr }
+    {
+        self.touches_byte(addr) && is_in_memory(addr)
+    }
+
+    // Whether both touch a common byte of the memory regions.
+    fn shares_byte(&self, other: &Event) -> bool
+        ensures { result ≡ shares_byte self.now other.now }
+    {
+        for k in 0..self.entry.access.size {
+            if other.touches_memory(u64::from(self.entry.access.addr) + u64::from(k)) {
+                return true;
+            }
+        }
+        false
+    }
+
+    /// Whether they conflict: their cores differ, they touch a common byte of the memory regions, at least one writes, and not both
+    /// synchronise.
+    pub(crate) fn conflicts(&self, other: &Event) -> bool
+        ensures { result ≡ clash self.now other.now }
+    {
+        self.entry.core != other.entry.core
+            && ((self.writes() || other.writes())
+                && (!(self.synchronises() && other.synchronises()) && self.shares_byte(other)))
+    }
+}

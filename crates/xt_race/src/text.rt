@@ -1,0 +1,65 @@
+//! What is printed of the first race.
+ghost use Rattle.std.specs.Prelude.{◌≡◌, ◌++◌, IfOk, codes};
+ghost use Rattle.std.specs.Fmt.{decimal};
+ghost use Rattle.xt_map.specs.Placing.{IsPlaced};
+ghost use Rattle.xt_core.specs.Runs.{IsRunOf};
+ghost use Rattle.xt_race.specs.Races.{events_of};
+ghost use Rattle.xt_race.specs.Texts.{IsRaceText, event_line};
+
+use crate::event::Event;
+use crate::race::{Pair, pair_of};
+use std::alloc::{AllocError, Global};
+use xt_image::Image;
+use xt_map::Text;
+use xt_trace::{Run, line};
+
+// The trace line of an entry's record.
+fn event_line(alloc: Global, event: &Event) -> Result<Text, AllocError>
+    ensures { IfOk result (λ text. text ≡ event_line event.now) }
+{
+    line(alloc, event.entry.core, event.turn, &event.step)
+}
+
+// What is printed of a race with these entries.
+fn pair_text(alloc: Global, pair: &Pair) -> Result<Text, AllocError>
+    ensures { IfOk result (λ text. text ≡ codes "race " ++ decimal pair.now.race.first ++ codes " " ++ decimal pair.now.race.second ++ codes "\n" ++ event_line pair.now.first ++ event_line pair.now.second) }
+{
+    let first = event_line(alloc, &pair.first)?;
+    let second = event_line(alloc, &pair.second)?;
+    let head = format!(in alloc; "race {} {}\n", pair.race.first, pair.race.second)?;
+    let mut out = head.into_bytes();
+    out.extend_from_slice(first.as_slice())?;
+    out.extend_from_slice(second.as_slice())?;
+    Ok(Text::new(out))
+}
+
+// What is printed where there is no race.
+fn none_text(alloc: Global) -> Result<Text, AllocError>
+    ensures { IfOk result (λ text. text ≡ codes "race none\n") }
+{
+    let text = format!(in alloc; "race none\n")?;
+    Ok(Text::new(text.into_bytes()))
+}
+
+/// What is printed of the first race of a run of an image: `race none`; or `race I J`, the places of its entries, and then the trace lines
+/// of the records of these entries. The only error is running out of memory.
+///
+/// Conditions: the run is the image's. The image's segments lie in one region each and share no byte, as those of every image that was
+/// read.
+pub fn race_text(alloc: Global, image: &Image, run: &Run) -> Result<Text, AllocError>
+    requires run { IsRunOf image.now run.now }
+    requires placed { IsPlaced image.now.segments }
+    ensures { IfOk result (IsRaceText (events_of image.now run.now)) }
+{
+    let found = pair_of(alloc, image, run)?;
+    match found {
+        None => {
+            let none = none_text(alloc)?;
+            Ok(none)
+        }
+        Some(pair) => {
+            let text = pair_text(alloc, &pair)?;
+            Ok(text)
+        }
+    }
+}
