@@ -1,0 +1,4 @@
+pub mod Halves
+pub mod Apart
+pub mod Following
+pub mod Turned

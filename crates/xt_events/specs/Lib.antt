@@ -1,0 +1,5 @@
+pub mod Events
+pub mod Noted
+pub mod Lines
+pub mod Left
+pub mod Laws

@@ -1,0 +1,17 @@
+//! What happened in a run: how often each kind of turn came, and each turn as a line of text, in the
+//! order of the run's schedule.
+#![tactic(auto)]
+
+mod counting;
+mod event;
+mod event_text;
+mod laws;
+mod told;
+mod turn_line;
+mod turn_lines;
+
+pub use counting::events_of;
+pub use event::{Event, Events};
+pub use event_text::events_text;
+pub use laws::positions_have_turns;
+pub use turn_lines::TurnLines;
