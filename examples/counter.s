@@ -8,6 +8,9 @@
 # still holds the word in SCOMPARE1, and answers the word that it found there. If that is another word than the expected one,
 # the other core came between, and this one tries again.
 #
+# L32AI is a load before which no later access of the core is made ('acquire'). A plain load of a word that the other core may
+# store would be a data race; so `xt race` finds none here, in any run.
+#
 # Then each core adds 1 to `done` in the same way. The one that found 1 there is the second, so all two hundred additions are
 # made, and it prints the total: `200` and a newline, in every order in which the cores take their turns.
 
@@ -22,7 +25,7 @@ done:   .word 0
 main:   entry a1, 32            # each core has a stack of its own
         l32r a2, =total
         movi a3, 100            # how many additions are left
-again:  l32i a4, a2, 0          # the word as it is now
+again:  l32ai a4, a2, 0         # the word as it is now
         wsr a4, scompare1       # it is the one that is expected
         addi a5, a4, 1          # the word as it should become
         s32c1i a5, a2, 0        # stores a5 where memory still holds the expected word; a5 becomes the word that was found
@@ -31,7 +34,7 @@ again:  l32i a4, a2, 0          # the word as it is now
         bnez a3, again
 
         l32r a2, =done
-next:   l32i a4, a2, 0
+next:   l32ai a4, a2, 0
         wsr a4, scompare1
         addi a5, a4, 1
         s32c1i a5, a2, 0

@@ -15,7 +15,8 @@
 # L32AI is a load before which no later access of the core is made ('acquire'), S32RI a store that is made only when all earlier
 # accesses are ('release'). A plain load or store promises neither on the chip: the other core could see the lock free before
 # it sees the record that was stored under it. In this machine the bus serves each access before the core goes on, so here
-# L32I and S32I would give the same; the text is written for the chip.
+# L32I and S32I would give the same; the text is written for the chip, and `xt race` finds no race in any of its runs. With
+# L32I in place of an L32AI it finds one: that load, and the exchange or the store of the other core that it may meet.
 #
 # Each core makes a thousand additions. Then each adds 1 to `done` as in counter.s, and the one that is second prints the
 # record: `2000 2001000` and a newline, in every order in which the cores take their turns. How many turns they make differs
@@ -56,7 +57,7 @@ again:  l32ai a4, a2, 0         # acquire: what is loaded below is loaded later
         bnez a3, again
 
         l32r a2, =done
-next:   l32i a4, a2, 0
+next:   l32ai a4, a2, 0
         wsr a4, scompare1
         addi a5, a4, 1
         s32c1i a5, a2, 0

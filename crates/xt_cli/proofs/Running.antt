@@ -14,22 +14,28 @@ use Rattle.xt_cli.specs.declared.status.Status.TheVariants as status
 use Rattle.xt_cli.specs.declared.verdicts.Whole.{Whole}
 use Rattle.xt_cli.specs.declared.orders.Wanted.{Wanted}
 use Rattle.xt_cli.specs.Calls.{Ends}
-use Rattle.xt_cli.specs.Top.{HasRun, IsJudged, IsRunOfImage, IsRunOfInput, Runs, image_limit, wanted_text}
+use Rattle.xt_cli.specs.Analyses.{AreAnalyses}
+use Rattle.xt_cli.specs.Top.{HasRun, IsJudged, IsOutput, IsRunOfImage, IsRunOfInput, Runs, image_limit, wanted_text}
 use Rattle.xt_cli.specs.Writes.{Writes}
 use Rattle.xt_cli.proofs.Working.{taken_within}
 
 -- what is so of the image that was read is so of the input
-pub of_input : (t : Wanted) (o : RunOptions) (input read : List ℕ) (image : Image) (w : Whole) (P : List ℕ → Type 0)
-    → read ≡ input → (image_fault read ≡ None) × (image ≡ image_of read) → IsRunOfImage o image w.run → IsJudged image w → P (wanted_text t o image w)
-    → IsRunOfInput o input w × P (wanted_text t o (image_of input) w)
-of_input t o input read image w P same (none, is) is_run judged holds =
+pub of_input : (t : Wanted) (o : RunOptions) (input read : List ℕ) (image : Image) (w : Whole) (analyses : List ℕ) (P : List ℕ → Type 0)
+    → read ≡ input → (image_fault read ≡ None) × (image ≡ image_of read) → IsRunOfImage o image w.run → IsJudged image w → AreAnalyses o image w.run analyses
+    → P (wanted_text t o image w analyses) → IsOutput t o P w analyses input
+of_input t o input read image w analyses P same (none, is) is_run judged told holds =
     let A : List ℕ → Type 0 = λ bytes. image_fault bytes ≡ None in
     let B : List ℕ → Type 0 = λ bytes. image ≡ image_of bytes in
     let made : image ≡ image_of input = subst B same is in
     let Q : Image → Type 0 = λ i. IsRunOfImage o i w.run in
     let J : Image → Type 0 = λ i. IsJudged i w in
-    let R : Image → Type 0 = λ i. P (wanted_text t o i w) in
-    (record { image = subst A same none; is_run = subst Q made is_run; judged = subst J made judged }, subst R made holds)
+    let T : Image → Type 0 = λ i. AreAnalyses o i w.run analyses in
+    let R : Image → Type 0 = λ i. P (wanted_text t o i w analyses) in
+    record {
+      is_run = record { image = subst A same none; is_run = subst Q made is_run; judged = subst J made judged };
+      are_analyses = subst T made told;
+      written = subst R made holds;
+    }
 
 -- what was refused was written in front
 pub prefix_of : {T : Type 0} (r : Result T Refused) (e : Refused) (a b : Option (List ℕ)) (f g : ℕ) (bytes : List ℕ)
@@ -41,10 +47,10 @@ prefix_of (Err x) e a b f g bytes is writes = writes.err
 
 pub memory : (t : Wanted) (o : RunOptions) (e : Ends) (whole : Whole) (s : Status) (w : Option Whole) → s ≡ status.Memory → w ≡ None
     → HasRun t o e whole (AppendsPrefix e.told e.told_after) → Runs t o e s w
-memory t o e whole s w is none has =
+memory t o e whole s w is none (analyses, has) =
     let P : Status → Type 0 = λ x. Runs t o e x None in
     let Q : Option Whole → Type 0 = λ x. Runs t o e s x in
-    subst Q (sym none) (subst P (sym is) (taken_within image_limit e has.input has.taken has.within, inr (whole, has)))
+    subst Q (sym none) (subst P (sym is) (taken_within image_limit e has.input has.taken has.within, inr (whole, (analyses, has))))
 
 pub done : (t : Wanted) (o : RunOptions) (e : Ends) (w : Whole) (s : Status) → s ≡ status.Done
     → HasRun t o e w (Appends e.told e.told_after) → Runs t o e s (Some w)

@@ -1,17 +1,25 @@
 -- What a command makes of an input that was read to its end.
-use Rattle.std.proofs.Common.{◌≡◌, ◌≢◌, ◌≤◌, ℕ, inl, List, length, Option, Some, None, refl, subst}
-use Rattle.std.specs.Io.KnownBytes.{Consumes, Keeps}
+use Rattle.std.proofs.Common.{◌≡◌, ◌≢◌, ◌≤◌, ℕ, inl, inr, List, ◌++◌, length, Option, Some, None, Result, Ok, Err, refl, sym, ap, ◌∙◌, subst, append-nil}
+use Rattle.std.specs.Io.KnownBytes.{Appends, Consumes, IsAtEnd, Keeps}
 use Rattle.std.specs.Option.{option_map}
 use Rattle.xt_image.specs.Rules.{image_fault}
 use Rattle.xt_elf.specs.Rules.{elf_fault}
 use Rattle.xt_asm.specs.Kinds.{text_fault}
-use Rattle.xt_record.specs.Format.{recording_fault}
+use Rattle.xt_record.specs.Fields.{image_in}
+use Rattle.xt_record.specs.Format.{recording_fault, run_in}
+use Rattle.xt_events.specs.Lines.{turns_text}
 use Rattle.xt_cli.specs.declared.status.Status.{Status}
 use Rattle.xt_cli.specs.declared.status.Status.TheVariants as status
 use Rattle.xt_cli.specs.declared.tool.Job.{Job}
 use Rattle.xt_cli.specs.declared.tool.Job.TheVariants as job
 use Rattle.xt_cli.specs.Calls.{Ends, ReadsWhole, TakesWithin}
-use Rattle.xt_cli.specs.Tools.{Makes, limit_of, refusal_of}
+use Rattle.xt_io.specs.Whole.{AppendsPrefix}
+use Rattle.xt_command_line.specs.declared.command.Span.{Span}
+use Rattle.xt_io.specs.declared.sink.Refused.{Refused}
+use Rattle.xt_io.specs.declared.sink.Refused.TheVariants as refused
+use Rattle.xt_cli.specs.Puts.{HasText, IsWhole, Puts, status_after}
+use Rattle.xt_cli.specs.Writes.{Writes}
+use Rattle.xt_cli.specs.Tools.{Finishes, HasInput, HasOutput, IsMade, Makes, limit_of, refusal_of, traced}
 
 pub keeps_same : (known : Option (List ℕ)) → Keeps known known
 keeps_same None = tt
@@ -43,18 +51,103 @@ refusal_is_fault job.List input s h = mapped status.Image (λ f. tt) (image_faul
 refusal_is_fault (job.Check vecbase) input s h = mapped status.Image (λ f. tt) (image_fault input) s h
 refusal_is_fault job.Migrate input s h = mapped status.Recording (λ f. tt) (recording_fault input) s h
 refusal_is_fault (job.Replay commands) input s h = mapped status.Recording (λ f. tt) (recording_fault input) s h
+refusal_is_fault job.Events input s h = mapped status.Recording (λ f. tt) (recording_fault input) s h
+refusal_is_fault (job.Trace span) input s h = mapped status.Recording (λ f. tt) (recording_fault input) s h
+refusal_is_fault job.Race input s h = mapped status.Recording (λ f. tt) (recording_fault input) s h
+refusal_is_fault job.Profile input s h = mapped status.Recording (λ f. tt) (recording_fault input) s h
 
-abbrev IsRefusal : Job → Status → List ℕ → Type 0
-IsRefusal j s input = s ≢ status.Memory → refusal_of j input ≡ Some s
+-- ---- what was written of an input that was read to its end
 
-pub refuses : (j : Job) (e : Ends) (s : Status) → Keeps e.told e.told_after → ReadsWhole (limit_of j) e (IsRefusal j s) → Makes j e s
-refuses j e status.Memory k r = (taken_within (limit_of j) e r.input r.taken r.within, inl k)
-refuses j e (status.Image f) k r = (record { input = r.input; taken = r.taken; end = r.end; within = r.within; is = r.is (λ p. cc) }, k)
-refuses j e (status.Elf f) k r = (record { input = r.input; taken = r.taken; end = r.end; within = r.within; is = r.is (λ p. cc) }, k)
-refuses j e (status.Recording f) k r = (record { input = r.input; taken = r.taken; end = r.end; within = r.within; is = r.is (λ p. cc) }, k)
-refuses j e (status.Asm place) k r = (record { input = r.input; taken = r.taken; end = r.end; within = r.within; is = r.is (λ p. cc) }, k)
-refuses j e status.Done k r = absurd (refusal_is_fault j r.input status.Done (r.is (λ p. cc)))
-refuses j e (status.Usage rule) k r = absurd (refusal_is_fault j r.input (status.Usage rule) (r.is (λ p. cc)))
-refuses j e status.ReadFault k r = absurd (refusal_is_fault j r.input status.ReadFault (r.is (λ p. cc)))
-refuses j e status.WriteFault k r = absurd (refusal_is_fault j r.input status.WriteFault (r.is (λ p. cc)))
-refuses j e (status.TooLarge limit) k r = absurd (refusal_is_fault j r.input (status.TooLarge limit) (r.is (λ p. cc)))
+read_so : (j : Job) (e : Ends) (input : List ℕ) (P : List ℕ → Type 0) → Consumes e.left e.left_after input → IsAtEnd e.left_after → length input ≤ limit_of j → P input
+    → ReadsWhole (limit_of j) e P
+read_so j e input P taken end within is = record { input = input; taken = taken; end = end; within = within; is = is }
+
+made_so : (j : Job) (e : Ends) (input : List ℕ) (P : List ℕ → Type 0) → Consumes e.left e.left_after input → IsAtEnd e.left_after → length input ≤ limit_of j
+    → HasText j input P → HasOutput j e P
+made_so j e input P taken end within (bytes, made, holds) = (bytes, read_so j e input (λ i. IsMade j i bytes) taken end within made, holds)
+
+pub puts_makes : (j : Job) (e : Ends) (input : List ℕ) (s : Status) → Consumes e.left e.left_after input → IsAtEnd e.left_after → length input ≤ limit_of j
+    → Puts j input e.told e.told_after e.sink_faults e.sink_faults_after s → Makes j e s
+puts_makes j e input status.Done taken end within puts = made_so j e input (Appends e.told e.told_after) taken end within puts
+puts_makes j e input status.WriteFault taken end within (text, rose) = (made_so j e input (AppendsPrefix e.told e.told_after) taken end within text, rose)
+puts_makes j e input status.Memory taken end within (inl keeps) = (taken_within (limit_of j) e input taken within, inl keeps)
+puts_makes j e input status.Memory taken end within (inr text) =
+    (taken_within (limit_of j) e input taken within, inr (made_so j e input (AppendsPrefix e.told e.told_after) taken end within text))
+puts_makes j e input status.ReadFault taken end within (refused, keeps) = absurd (refusal_is_fault j input status.ReadFault refused)
+puts_makes j e input (status.TooLarge limit) taken end within (refused, keeps) = absurd (refusal_is_fault j input (status.TooLarge limit) refused)
+puts_makes j e input (status.Usage rule) taken end within (refused, keeps) = absurd (refusal_is_fault j input (status.Usage rule) refused)
+puts_makes j e input (status.Image f) taken end within (refused, keeps) = (read_so j e input (λ i. refusal_of j i ≡ Some (status.Image f)) taken end within refused, keeps)
+puts_makes j e input (status.Elf f) taken end within (refused, keeps) = (read_so j e input (λ i. refusal_of j i ≡ Some (status.Elf f)) taken end within refused, keeps)
+puts_makes j e input (status.Asm place) taken end within (refused, keeps) = (read_so j e input (λ i. refusal_of j i ≡ Some (status.Asm place)) taken end within refused, keeps)
+puts_makes j e input (status.Recording f) taken end within (refused, keeps) = (read_so j e input (λ i. refusal_of j i ≡ Some (status.Recording f)) taken end within refused, keeps)
+
+-- the bytes that the source told are those that were read
+same_input : (left after : Option (List ℕ)) (told input : List ℕ) → left ≡ Some told → Consumes left after input → IsAtEnd after → told ≡ input
+same_input None after told input is taken end = absurd (cc)
+same_input (Some xs) None told input is taken end = absurd taken
+same_input (Some xs) (Some ys) told input is taken end =
+    let same : xs ≡ told = cc in sym same ∙ taken ∙ ap (λ (l : List ℕ). input ++ l) end ∙ append-nil input
+
+not_refused : (j : Job) (e : Ends) (input : List ℕ) (s : Status) → HasInput j e.left → Consumes e.left e.left_after input → IsAtEnd e.left_after → refusal_of j input ≡ Some s → ⊥
+not_refused j e input s h taken end refused =
+    let none : ◌≡◌ {A = Option Status} None (Some s) = sym h.accepted ∙ ap (refusal_of j) (same_input e.left e.left_after h.input input h.told taken end) ∙ refused in cc
+
+pub puts_finish : (j : Job) (e : Ends) (input : List ℕ) (s : Status) → Consumes e.left e.left_after input → IsAtEnd e.left_after
+    → Puts j input e.told e.told_after e.sink_faults e.sink_faults_after s → Finishes j e s
+puts_finish j e input status.Done taken end puts h source sink = inl refl
+puts_finish j e input status.Memory taken end puts h source sink = inr refl
+puts_finish j e input status.WriteFault taken end (text, rose) h source sink = absurd (sink rose)
+puts_finish j e input status.ReadFault taken end (refused, keeps) h source sink = absurd (not_refused j e input status.ReadFault h taken end refused)
+puts_finish j e input (status.TooLarge limit) taken end (refused, keeps) h source sink = absurd (not_refused j e input (status.TooLarge limit) h taken end refused)
+puts_finish j e input (status.Usage rule) taken end (refused, keeps) h source sink = absurd (not_refused j e input (status.Usage rule) h taken end refused)
+puts_finish j e input (status.Image f) taken end (refused, keeps) h source sink = absurd (not_refused j e input (status.Image f) h taken end refused)
+puts_finish j e input (status.Elf f) taken end (refused, keeps) h source sink = absurd (not_refused j e input (status.Elf f) h taken end refused)
+puts_finish j e input (status.Asm place) taken end (refused, keeps) h source sink = absurd (not_refused j e input (status.Asm place) h taken end refused)
+puts_finish j e input (status.Recording f) taken end (refused, keeps) h source sink = absurd (not_refused j e input (status.Recording f) h taken end refused)
+
+-- a command whose words ask for no turns makes its whole text
+pub whole_unless : (j : Job) → ((span : Span) → j ≡ job.Trace span → ⊥) → IsWhole j
+whole_unless (job.Trace span) others = absurd (others span refl)
+whole_unless job.Assemble others = tt
+whole_unless job.Convert others = tt
+whole_unless job.List others = tt
+whole_unless (job.Check vecbase) others = tt
+whole_unless job.Migrate others = tt
+whole_unless (job.Replay commands) others = tt
+whole_unless job.Events others = tt
+whole_unless job.Race others = tt
+whole_unless job.Profile others = tt
+
+-- ---- a refusal, before anything was written
+
+pub refused_puts : (j : Job) (input : List ℕ) (told : Option (List ℕ)) (faults : ℕ) (s : Status) → (s ≢ status.Memory → refusal_of j input ≡ Some s)
+    → Puts j input told told faults faults s
+refused_puts j input told faults status.Memory refused = inl (keeps_same told)
+refused_puts j input told faults status.Done refused = absurd (refusal_is_fault j input status.Done (refused (λ p. cc)))
+refused_puts j input told faults status.WriteFault refused = absurd (refusal_is_fault j input status.WriteFault (refused (λ p. cc)))
+refused_puts j input told faults status.ReadFault refused = (refused (λ p. cc), keeps_same told)
+refused_puts j input told faults (status.TooLarge limit) refused = (refused (λ p. cc), keeps_same told)
+refused_puts j input told faults (status.Usage rule) refused = (refused (λ p. cc), keeps_same told)
+refused_puts j input told faults (status.Image f) refused = (refused (λ p. cc), keeps_same told)
+refused_puts j input told faults (status.Elf f) refused = (refused (λ p. cc), keeps_same told)
+refused_puts j input told faults (status.Asm place) refused = (refused (λ p. cc), keeps_same told)
+refused_puts j input told faults (status.Recording f) refused = (refused (λ p. cc), keeps_same told)
+
+-- ---- a text that was written, or a prefix of it
+
+written_by : (j : Job) (input : List ℕ) (r : Result Unit Refused) (a b : Option (List ℕ)) (f g : ℕ) (bytes : List ℕ) → IsMade j input bytes → Writes r a b f g bytes
+    → Puts j input a b f g (status_after r)
+written_by j input (Ok u) a b f g bytes made writes = (bytes, made, writes.ok)
+written_by j input (Err refused.Failed) a b f g bytes made writes = ((bytes, made, writes.err), writes.failed refl)
+written_by j input (Err refused.Memory) a b f g bytes made writes = inr (bytes, made, writes.err)
+
+pub written_puts : (j : Job) (input : List ℕ) (r : Result Unit Refused) (s : Status) (a b : Option (List ℕ)) (f g : ℕ) (bytes : List ℕ) → IsMade j input bytes
+    → Writes r a b f g bytes → s ≡ status_after r → Puts j input a b f g s
+written_puts j input r s a b f g bytes made writes is =
+    let P : Status → Type 0 = λ x. Puts j input a b f g x in subst P (sym is) (written_by j input r a b f g bytes made writes)
+
+-- the lines of turns are the text of `trace`
+pub turns_made : (span : Span) (input : List ℕ) (bytes : List ℕ) → recording_fault input ≡ None → bytes ≡ turns_text (image_in input) (run_in input) span.from span.to
+    → IsMade (job.Trace span) input bytes
+unfolding refusal_of traced
+turns_made span input bytes none is = record { accepted = ap (option_map status.Recording) none; written = is }

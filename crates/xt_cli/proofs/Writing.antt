@@ -5,6 +5,9 @@ use Rattle.std.proofs.KnownBytes.{Appends-nil, Appends-trans}
 use Rattle.xt_io.specs.Causes.{Rose}
 use Rattle.xt_io.specs.Whole.{AppendsPrefix}
 use Rattle.xt_io.specs.declared.sink.Refused.{Refused}
+use Rattle.xt_io.specs.declared.sink.Refused.TheVariants as refusal
+use Rattle.std.specs.List.{concat}
+use Rattle.xt_events.specs.Lines.{Gives, LinesState, lines_in}
 use Rattle.xt_trace.specs.declared.record.StepRecord.{StepRecord}
 use Rattle.xt_trace.specs.Left.{first_of, rest_of}
 use Rattle.xt_trace.specs.Lines.{line_text}
@@ -83,3 +86,21 @@ written_after (Ok v) a b c f g h done piece appended low writes = record {
 }
 written_after (Err e) a b c f g h done piece appended low writes =
     refused e a b c f g h done piece [] (done ++ piece) writes appended low (ap (λ l. done ++ l) (sym (append-nil piece)))
+
+-- memory ran out, after what was written
+pub wanting : {T : Type 0} (s : Result T Refused) (a b : Option (List ℕ)) (f g : ℕ) (done rest whole : List ℕ) → s ≡ Err refusal.Memory → Appends a b done → f ≤ g
+    → whole ≡ done ++ rest → Writes s a b f g whole
+wanting {T} s a b f g done rest whole is appended low split =
+    let P : Result T Refused → Type 0 = λ x. Writes x a b f g whole in
+    subst P (sym is) (record {
+      ok = tt;
+      err = (done, rest, split, appended);
+      later = low;
+      failed = λ failed. absurd (let e : ◌≡◌ {A = Result T Refused} (Err refusal.Memory) (Err refusal.Failed) = failed in cc);
+    })
+
+-- the line that was given stands before those that are left
+pub given_line : {E : Type 0} (r : Result (Option (List ℕ)) E) (o : Option (List ℕ)) (text : List ℕ) (old new : LinesState) → r ≡ Ok o → o ≡ Some text → Gives r old new
+    → lines_in old ≡ text ∷ lines_in new
+given_line {E} r o text old new was is gives =
+    let F : Result (Option (List ℕ)) E → Type 0 = λ x. Gives x old new in subst F (was ∙ ap (λ (x : Option (List ℕ)). let y : Result (Option (List ℕ)) E = Ok x in y) is) gives

@@ -91,7 +91,9 @@ lines_from core step (r ∷ rest) = line_text core step r ++ lines_from core (st
 abbrev pub trace_text : List StepRecord → List StepRecord → List ℕ
 trace_text records0 records1 = lines_from 0 0 records0 ++ lines_from 1 0 records1
 
--- what `run` writes: the report, and with `--trace` the lines of both traces
-abbrev pub output_text : Bool → Whole → List StepRecord → List StepRecord → List ℕ
-output_text false w records0 records1 = report_text w
-output_text true w records0 records1 = report_text w ++ trace_text records0 records1
+-- what `run` writes: the report, the texts of analyses, and with `--trace` the lines of both traces
+abbrev pub output_text :
+    Bool → Whole → List ℕ → List StepRecord → List StepRecord → List ℕ
+output_text false w analyses records0 records1 = report_text w ++ analyses
+output_text true w analyses records0 records1 =
+    report_text w ++ (analyses ++ trace_text records0 records1)

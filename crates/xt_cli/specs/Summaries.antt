@@ -20,6 +20,9 @@ gen_options = record {
   stack0 = record { lo = 0x3FFF0000; hi = 0x3FFF8000 };
   stack1 = record { lo = 0x3FFF8000; hi = 0x40000000 };
   trace = false;
+  events = false;
+  race = false;
+  profile = false;
 }
 
 -- `gen N`, and `image L`: the length of the image in bytes

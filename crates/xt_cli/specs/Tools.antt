@@ -20,6 +20,13 @@ use Rattle.xt_record.specs.Format.{recording_fault, run_in}
 use Rattle.xt_record.specs.Written.{recording_bytes}
 use Rattle.xt_debug.specs.declared.script.Command as script
 use Rattle.xt_debug.specs.Scripts.{script_outcome}
+use Rattle.xt_events.specs.Events.{events_text}
+use Rattle.xt_events.specs.Lines.{turns_text}
+use Rattle.xt_race.specs.Races.{events_of}
+use Rattle.xt_race.specs.Texts.{IsRaceText}
+use Rattle.xt_profile.specs.Profiled.{profile_of}
+use Rattle.xt_profile.specs.Texts.{profile_text}
+use Rattle.xt_command_line.specs.declared.command.Span.{Span}
 use Rattle.xt_command_line.specs.declared.command.Refusal.{Refusal}
 use Rattle.xt_command_line.specs.declared.command.Refusal.TheVariants as refusal
 use Rattle.xt_cli.specs.declared.status.Status.{Status}
@@ -44,6 +51,10 @@ limit_of job.List = 8388608
 limit_of (job.Check vecbase) = 8388608
 limit_of job.Migrate = 201326592
 limit_of (job.Replay commands) = 201326592
+limit_of job.Events = 201326592
+limit_of (job.Trace span) = 201326592
+limit_of job.Race = 201326592
+limit_of job.Profile = 201326592
 
 -- the status with which a command refuses a whole input, where it does: that of the input's first
 -- fault
@@ -54,6 +65,10 @@ refusal_of job.List input = option_map status.Image (image_fault input)
 refusal_of (job.Check vecbase) input = option_map status.Image (image_fault input)
 refusal_of job.Migrate input = option_map status.Recording (recording_fault input)
 refusal_of (job.Replay commands) input = option_map status.Recording (recording_fault input)
+refusal_of job.Events input = option_map status.Recording (recording_fault input)
+refusal_of (job.Trace span) input = option_map status.Recording (recording_fault input)
+refusal_of job.Race input = option_map status.Recording (recording_fault input)
+refusal_of job.Profile input = option_map status.Recording (recording_fault input)
 
 -- the recording, in version 2, of the run that a recording holds
 unfoldable pub migrated : List ℕ → List ℕ
@@ -62,6 +77,22 @@ migrated input = recording_bytes (image_in input) (run_in input)
 -- what a script prints over that run
 unfoldable pub replayed : List script.Command → List ℕ → List ℕ
 replayed commands input = (script_outcome (image_in input) (run_in input) commands 0).text
+
+-- what happened to each core in that run
+unfoldable pub happened : List ℕ → List ℕ
+happened input = events_text (image_in input) (run_in input)
+
+-- the lines of these turns of that run
+unfoldable pub traced : Span → List ℕ → List ℕ
+traced span input = turns_text (image_in input) (run_in input) span.from span.to
+
+-- the first race in that run, or that there is none
+abbrev pub IsRaceTold : List ℕ → List ℕ → Type 0
+IsRaceTold input bytes = IsRaceText (events_of (image_in input) (run_in input)) bytes
+
+-- the call profile of that run
+unfoldable pub profiled : List ℕ → List ℕ
+profiled input = profile_text (profile_of (image_in input) (run_in input))
 
 -- the bytes that a command writes for an input that it does not refuse
 abbrev pub IsWritten : Job → List ℕ → List ℕ → Type 0
@@ -72,6 +103,10 @@ IsWritten job.List input bytes = bytes ≡ listing_text (image_of input)
 IsWritten (job.Check vecbase) input bytes = bytes ≡ check_text (image_of input) vecbase
 IsWritten job.Migrate input bytes = bytes ≡ migrated input
 IsWritten (job.Replay commands) input bytes = bytes ≡ replayed commands input
+IsWritten job.Events input bytes = bytes ≡ happened input
+IsWritten (job.Trace span) input bytes = bytes ≡ traced span input
+IsWritten job.Race input bytes = IsRaceTold input bytes
+IsWritten job.Profile input bytes = bytes ≡ profiled input
 
 -- the command does not refuse the input, and writes these bytes
 pub record IsMade (j : Job) (input bytes : List ℕ) : Type 0 where

@@ -28,6 +28,7 @@ use Rattle.xt_cli.specs.declared.verdicts.Whole.{Whole}
 use Rattle.xt_cli.specs.declared.top.Outcome.{Outcome}
 use Rattle.xt_cli.specs.Calls.{Ends, ReadsWhole, TakesWithin}
 use Rattle.xt_cli.specs.Tools as tools
+use Rattle.xt_cli.specs.Analyses.{AreAnalyses}
 use Rattle.xt_cli.specs.Reports.{output_text}
 use Rattle.xt_cli.specs.Summaries.{gen_options, gen_text}
 use Rattle.xt_handlers.specs.Answers.{handlers_of}
@@ -76,24 +77,32 @@ pub record IsRunOfInput (o : RunOptions) (input : List ℕ) (w : Whole) : Type 0
   pub is_run : IsRunOfImage o (image_of input) w.run
   pub judged : IsJudged (image_of input) w
 
--- what `run` writes of a run of an image: its report, and where the words ask for them the lines of
--- its traces, which are those of the records that the processor's turns make
-unfoldable pub run_text : RunOptions → Image → Whole → List ℕ
-run_text o image w =
-    output_text o.trace w (records_of 0 image w.run).records (records_of 1 image w.run).records
+-- what `run` writes of a run of an image: its report, the texts of the analyses that the words ask
+-- for, and where they ask for them the lines of its traces, which are those of the records that the
+-- processor's turns make
+unfoldable pub run_text : RunOptions → Image → Whole → List ℕ → List ℕ
+run_text o image w analyses =
+    output_text o.trace w analyses
+    (records_of 0 image w.run).records (records_of 1 image w.run).records
 
 -- what is written of it: that, or its recording
-abbrev pub wanted_text : Wanted → RunOptions → Image → Whole → List ℕ
-wanted_text wanted.Report o image w = run_text o image w
-wanted_text wanted.Recording o image w = recording_bytes image w.run
+abbrev pub wanted_text : Wanted → RunOptions → Image → Whole → List ℕ → List ℕ
+wanted_text wanted.Report o image w analyses = run_text o image w analyses
+wanted_text wanted.Recording o image w analyses = recording_bytes image w.run
 
 -- ---- the statuses of a run
+
+-- this is the run of an input, these are its analyses, and this is so of what is written of them
+pub record IsOutput (t : Wanted) (o : RunOptions) (P : List ℕ → Type 0) (w : Whole)
+    (analyses input : List ℕ) : Type 0 where
+  pub is_run : IsRunOfInput o input w
+  pub are_analyses : AreAnalyses o (image_of input) w.run analyses
+  pub written : P (wanted_text t o (image_of input) w analyses)
 
 -- the input was read to its end, this is its run, and this is so of what is written of it
 abbrev pub HasRun : Wanted → RunOptions → Ends → Whole → (List ℕ → Type 0) → Type 0
 HasRun t o e w P =
-    ReadsWhole image_limit e
-    (λ input. IsRunOfInput o input w × P (wanted_text t o (image_of input) w))
+    (analyses : List ℕ) × ReadsWhole image_limit e (IsOutput t o P w analyses)
 
 -- nothing was written, or a prefix of what is written of the input's run
 abbrev pub WritesPrefix : Wanted → RunOptions → Ends → Type 0

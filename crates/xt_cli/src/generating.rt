@@ -39,6 +39,9 @@ fn gen_options() -> RunOptions
             hi: 0x4000_0000,
         },
         trace: false,
+        events: false,
+        race: false,
+        profile: false,
     }
 }
 

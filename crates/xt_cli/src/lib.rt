@@ -1,6 +1,7 @@
 //! The program behind its `main`: its top calls, and the texts that it prints.
 #![tactic(auto)]
 
+mod analyses;
 mod checks;
 mod ending;
 mod gen_report;
@@ -17,6 +18,7 @@ mod top;
 mod verdict_lines;
 mod verdicts;
 
+pub use analyses::analyses_text;
 pub use checks::check_text;
 pub use ending::{End, program_words, xt_program};
 pub use gen_report::summary;

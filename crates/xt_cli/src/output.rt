@@ -1,12 +1,15 @@
 //! Writing what a run comes to, piece by piece.
 ghost use Rattle.std.specs.Prelude.{◌≡◌, ◌++◌, length};
+ghost use Rattle.std.specs.List.{concat};
 ghost use Rattle.xt_cli.specs.Reports.{lines_from, report_text, trace_text};
 ghost use Rattle.xt_cli.specs.Writes.{Writes};
 ghost use Rattle.xt_trace.specs.Lines.{line_text};
+ghost use Rattle.xt_events.specs.Lines.{lines_in};
 
 use crate::run_report::report;
 use crate::verdicts::Whole;
 use std::alloc::Global;
+use xt_events::TurnLines;
 use xt_io::{Refused, Sink, write_all};
 use xt_map::Text;
 use xt_trace::{Records, Run, StepRecord, line};
@@ -58,14 +61,29 @@ fn write_records<K: Sink, R: Records>(
     Ok(())
 }
 
-/// Writes the report of a run. A refusal is a failed write, or running out of memory.
-pub fn write_report<K: Sink>(alloc: Global, whole: &Whole, sink: &mut K) -> Result<(), Refused>
+// Writes the report of a run. A refusal is a failed write, or running out of memory.
+fn write_report<K: Sink>(alloc: Global, whole: &Whole, sink: &mut K) -> Result<(), Refused>
     ensures { Writes result
         (K.told sink.old) (K.told sink.new) (K.faults sink.old) (K.faults sink.new)
         (report_text whole.now) }
 {
     let text = report(alloc, whole)?;
     write_all(sink, text.as_slice())
+}
+
+/// Writes the report of a run, and then the texts of its analyses.
+pub fn write_analyzed<K: Sink>(
+    alloc: Global,
+    whole: &Whole,
+    analyses: &Text,
+    sink: &mut K,
+) -> Result<(), Refused>
+    ensures { Writes result
+        (K.told sink.old) (K.told sink.new) (K.faults sink.old) (K.faults sink.new)
+        (report_text whole.now ++ analyses.now) }
+{
+    write_report(alloc, whole, sink)?;
+    write_text(analyses, sink)
 }
 
 // Writes the lines of both traces, each before the next is made.
@@ -86,10 +104,11 @@ fn write_traces<K: Sink, R: Records>(
     write_records(alloc, 1, run.trace1.count, records1, sink)
 }
 
-/// Writes the report of a run, and then the lines of both traces.
+/// Writes the report of a run, the texts of its analyses, and then the lines of both traces.
 pub fn write_traced<K: Sink, R: Records>(
     alloc: Global,
     whole: &Whole,
+    analyses: &Text,
     records0: &mut R,
     records1: &mut R,
     sink: &mut K,
@@ -98,8 +117,29 @@ pub fn write_traced<K: Sink, R: Records>(
     requires one { length (R.left records1.old) ≡ whole.now.run.trace1.count }
     ensures { Writes result
         (K.told sink.old) (K.told sink.new) (K.faults sink.old) (K.faults sink.new)
-        (report_text whole.now ++ trace_text (R.left records0.old) (R.left records1.old)) }
+        (report_text whole.now ++ (analyses.now ++ trace_text (R.left records0.old) (R.left records1.old))) }
 {
     write_report(alloc, whole, sink)?;
+    write_text(analyses, sink)?;
     write_traces(alloc, &whole.run, records0, records1, sink)
+}
+
+/// Writes the lines of turns that are left, each before the next is made.
+pub fn write_turns<K: Sink>(
+    alloc: Global,
+    lines: &mut TurnLines,
+    sink: &mut K,
+) -> Result<(), Refused>
+    ensures { Writes result
+        (K.told sink.old) (K.told sink.new) (K.faults sink.old) (K.faults sink.new)
+        (concat (lines_in lines.old)) }
+{
+    let count = lines.left();
+    for _ in 0..count {
+        match lines.next(alloc)? {
+            Some(text) => write_text(&text, sink)?,
+            None => return Ok(()),
+        }
+    }
+    Ok(())
 }

@@ -6,20 +6,22 @@ ghost use Rattle.xt_image.specs.Parts.{IsWellFormed};
 ghost use Rattle.xt_image.specs.Rules.{image_fault};
 ghost use Rattle.xt_cli.specs.Calls.{ends};
 ghost use Rattle.xt_cli.specs.Orders.{IsFit, order_of};
+ghost use Rattle.xt_cli.specs.Puts.{IsWhole, Puts, status_after};
 ghost use Rattle.xt_cli.specs.Tools.{Answers, Finishes, IsComplete, IsMade, Makes, limit_of, refusal_of, status_of};
 
 use crate::checks::check_text;
 use crate::orders::{Order, order_in};
-use crate::recordings::{RECORDING_LIMIT, migrate, replay};
+use crate::output::write_text;
+use crate::recordings::{RECORDING_LIMIT, events, migrate, profile, race, replay, trace};
 use crate::status::Status;
 use std::alloc::Global;
 use xt_asm::assemble;
-use xt_command_line::Refusal;
+use xt_command_line::{Refusal, Span};
 use xt_debug::Script;
 use xt_disasm::listing;
 use xt_elf::{ElfFault, from_elf};
 use xt_image::{Image, ImageFault, read, write};
-use xt_io::{ReadError, Refused, Sink, Source, read_to_limit, write_all};
+use xt_io::{ReadError, Refused, Sink, Source, read_to_limit};
 use xt_lex::AsmFault;
 use xt_map::Text;
 
@@ -47,6 +49,14 @@ pub enum Job {
     Migrate,
     /// `replay`: what this script prints over a recording.
     Replay(Script),
+    /// `events`: what happened to each core in a recorded run.
+    Events,
+    /// `trace`: the lines of these turns of a recorded run.
+    Trace(Span),
+    /// `race`: the first data race of a recorded run.
+    Race,
+    /// `profile`: the call profile of a recorded run.
+    Profile,
 }
 
 /// What `tool_main` answers.
@@ -68,6 +78,17 @@ pub(crate) fn status_of(refusal: Refusal) -> Status
     }
 }
 
+// The status that a write comes to.
+pub(crate) fn status_after(written: Result<(), Refused>) -> Status
+    ensures { result ≡ status_after written }
+{
+    match written {
+        Ok(()) => Status::Done,
+        Err(Refused::Failed) => Status::WriteFault,
+        Err(Refused::Memory) => Status::Memory,
+    }
+}
+
 // The most bytes that the input of a command may have.
 fn limit_of(job: &Job) -> usize
     ensures { result ≡ limit_of job.now }
@@ -76,7 +97,8 @@ fn limit_of(job: &Job) -> usize
         Job::Assemble => TEXT_LIMIT,
         Job::Convert => ELF_LIMIT,
         Job::List | Job::Check(_) => IMAGE_LIMIT,
-        Job::Migrate | Job::Replay(_) => RECORDING_LIMIT,
+        Job::Migrate | Job::Replay(_) | Job::Events | Job::Trace(_) | Job::Race | Job::Profile =>
+            RECORDING_LIMIT,
     }
 }
 
@@ -153,8 +175,9 @@ fn check(alloc: Global, vecbase: u32, input: &[u8]) -> Result<Text, Status>
     check_text(alloc, &image, vecbase).map_err(|_| Status::Memory)
 }
 
-// What a command writes for an input, or the status with which it refuses it.
+// What a command writes for an input, or the status with which it refuses it. Its whole text is made.
 fn make(alloc: Global, job: &Job, input: &[u8]) -> Result<Text, Status>
+    requires at_once { IsWhole job.now }
     requires fit { IsFit job.now }
     requires limit { length input.now ≤ limit_of job.now }
     ensures ok { IfOk result (λ bytes. IsMade job.now input.now bytes) }
@@ -167,6 +190,24 @@ fn make(alloc: Global, job: &Job, input: &[u8]) -> Result<Text, Status>
         Job::Check(vecbase) => check(alloc, *vecbase, input),
         Job::Migrate => migrate(alloc, input),
         Job::Replay(script) => replay(alloc, script, input),
+        Job::Events => events(alloc, input),
+        Job::Race => race(alloc, input),
+        Job::Profile => profile(alloc, input),
+        Job::Trace(_) => unreachable!(),
+    }
+}
+
+// Makes the text of a command, and then writes it.
+fn put<K: Sink>(alloc: Global, job: &Job, input: &[u8], sink: &mut K) -> Status
+    requires at_once { IsWhole job.now }
+    requires fit { IsFit job.now }
+    requires limit { length input.now ≤ limit_of job.now }
+    ensures { Puts job.now input.now
+        (K.told sink.old) (K.told sink.new) (K.faults sink.old) (K.faults sink.new) result }
+{
+    match make(alloc, job, input) {
+        Ok(text) => status_after(write_text(&text, sink)),
+        Err(status) => status,
     }
 }
 
@@ -190,20 +231,15 @@ pub(crate) fn work<S: Source, K: Sink>(
         Err(ReadError::TooLarge) => return Status::TooLarge(limit as u32),
         Err(ReadError::Memory) => return Status::Memory,
     };
-    let text = match make(alloc, job, &input) {
-        Ok(text) => text,
-        Err(status) => return status,
-    };
-    match write_all(sink, text.as_slice()) {
-        Ok(()) => Status::Done,
-        Err(Refused::Failed) => Status::WriteFault,
-        Err(Refused::Memory) => Status::Memory,
+    match job {
+        Job::Trace(span) => trace(alloc, *span, &input, sink),
+        _ => put(alloc, job, &input, sink),
     }
 }
 
 /// What the program does with the words after its name, a source and a sink, where it needs no
 /// thread: it answers every word that has no meaning, and does the work of `asm`, `elf`, `dis`, `check`,
-/// `migrate` and `replay`. It waits for nobody and returns.
+/// `migrate`, `replay`, `events`, `trace`, `race` and `profile`. It waits for nobody and returns.
 ///
 /// Words that ask for `run`, `record` or `gen` are handed back as `Threaded`, and nothing was then read or
 /// written.

@@ -1,5 +1,6 @@
 //! The top call.
 ghost use Rattle.std.specs.Prelude.{◌≡◌, map, string_bytes, IfOk, None};
+ghost use Rattle.xt_cli.specs.Analyses.{AreAnalyses};
 ghost use Rattle.xt_cli.specs.Calls.{ends};
 ghost use Rattle.xt_cli.specs.Orders.{order_of};
 ghost use Rattle.xt_cli.specs.Top.{Answers, FinishesRun, IsComplete, Runs, run_text, wanted_text};
@@ -9,9 +10,10 @@ ghost use Rattle.xt_image.specs.Parts.{IsWellFormed};
 ghost use Rattle.xt_record.specs.Written.{recording_bytes};
 ghost use Rattle.xt_command_line.specs.Options.{AreValid};
 
+use crate::analyses::analyses_text;
 use crate::generating::generate;
 use crate::orders::{Order, Wanted, order_in};
-use crate::output::{write_report, write_traced};
+use crate::output::{write_analyzed, write_traced};
 use crate::runs::judge_image;
 use crate::status::Status;
 use crate::tool::{IMAGE_LIMIT, image_in, status_of, work};
@@ -23,6 +25,7 @@ use xt_command_line::RunOptions;
 use xt_core::Cursor;
 use xt_image::{Image, well_formed_is_placed};
 use xt_io::{Gate, ReadError, Refused, Sink, Source, read_to_limit, write_all};
+use xt_map::Text;
 use xt_record::write_recording;
 use xt_trace::Run;
 
@@ -47,8 +50,8 @@ pub(crate) fn without_run(status: Status) -> Outcome
     }
 }
 
-/// Writes what `run` writes of a run of an image: the report, and where the words ask for them the
-/// lines of both traces after it, each before the next is made.
+/// Writes what `run` writes of a run of an image: the report, the texts of its analyses, and where the
+/// words ask for them the lines of both traces, each before the next is made.
 ///
 /// Conditions: the image is well formed, and the run is one of this image.
 #[tactic(auto, unfolding(crate::specs::Top::run_text))]
@@ -57,21 +60,22 @@ pub fn write_whole<K: Sink>(
     options: &RunOptions,
     image: &Image,
     whole: &Whole,
+    analyses: &Text,
     sink: &mut K,
 ) -> Result<(), Refused>
     requires image { IsWellFormed image.now }
     requires run { IsRunOf image.now whole.now.run }
     ensures { Writes result
         (K.told sink.old) (K.told sink.new) (K.faults sink.old) (K.faults sink.new)
-        (run_text options.now image.now whole.now) }
+        (run_text options.now image.now whole.now analyses.now) }
 {
     if options.trace {
         well_formed_is_placed();
         let mut records0 = Cursor::make(alloc, image, &whole.run, 0)?;
         let mut records1 = Cursor::make(alloc, image, &whole.run, 1)?;
-        write_traced(alloc, whole, &mut records0, &mut records1, sink)
+        write_traced(alloc, whole, analyses, &mut records0, &mut records1, sink)
     } else {
-        write_report(alloc, whole, sink)
+        write_analyzed(alloc, whole, analyses, sink)
     }
 }
 
@@ -99,16 +103,17 @@ fn write_wanted<K: Sink>(
     options: &RunOptions,
     image: &Image,
     whole: &Whole,
+    analyses: &Text,
     sink: &mut K,
 ) -> Result<(), Refused>
     requires image { IsWellFormed image.now }
     requires run { IsRunOf image.now whole.now.run }
     ensures { Writes result
         (K.told sink.old) (K.told sink.new) (K.faults sink.old) (K.faults sink.new)
-        (wanted_text wanted options.now image.now whole.now) }
+        (wanted_text wanted options.now image.now whole.now analyses.now) }
 {
     match wanted {
-        Wanted::Report => write_whole(alloc, options, image, whole, sink),
+        Wanted::Report => write_whole(alloc, options, image, whole, analyses, sink),
         Wanted::Recording => write_recorded(alloc, image, &whole.run, sink),
     }
 }
@@ -142,7 +147,10 @@ fn run_source<S: Source, K: Sink, G: Gate, R: Threads + Wait + Sync>(
     let Ok(whole) = judge_image(rt, alloc, options, &image, gate) else {
         return without_run(Status::Memory);
     };
-    let status = match write_wanted(alloc, wanted, options, &image, &whole, sink) {
+    let Ok(analyses) = analyses_text(alloc, options, &image, &whole.run) else {
+        return without_run(Status::Memory);
+    };
+    let status = match write_wanted(alloc, wanted, options, &image, &whole, &analyses, sink) {
         Ok(()) => Status::Done,
         Err(Refused::Failed) => Status::WriteFault,
         Err(Refused::Memory) => return without_run(Status::Memory),
@@ -157,8 +165,8 @@ fn run_source<S: Source, K: Sink, G: Gate, R: Threads + Wait + Sync>(
 ///
 /// Where the words ask for a run, the source is read to its end as an ESP32 application image, both
 /// cores make their turns, each on a thread of its own and through the gate before each access, and
-/// the report is written to the sink, with `--trace` the lines of both traces after it, each before
-/// the next is made; or where they ask for it the run's recording. Where they ask for the image that
+/// the report is written to the sink, after it the texts of the analyses that the words ask for, and
+/// with `--trace` the lines of both traces, each before the next is made; or where they ask for it the run's recording. Where they ask for the image that
 /// is made of a number, no input is read, that image runs so, and its summary is written. A run may
 /// wait. All else is `tool_main`'s.
 ///

@@ -7,7 +7,7 @@ use Rattle.xt_map.specs.Regions.{region_of, is_executable}
 use Rattle.xt_trace.specs.Validity.{IsValid, IsValidStack, most_turns}
 use Rattle.xt_trace.specs.declared.options.Stack.{Stack}
 use Rattle.xt_command_line.specs.Options.{AcceptsValid, OptionsNeedNoMemory, by_rows, first_broken, is_entry, is_stack, judged, options_in, record_app, record_options_of, run_app, run_options_of, said_or, texts_of, unless_broken}
-use Rattle.xt_command_line.specs.Arguments.{check_app, gen_app, generator_number_of, judged_number, judged_vecbase, number_by, number_in, vecbase_by, vecbase_of}
+use Rattle.xt_command_line.specs.Arguments.{check_app, gen_app, generator_number_of, judged_number, judged_vecbase, number_by, number_in, span_by, span_of, spanned, trace_app, vecbase_by, vecbase_of}
 use Rattle.xt_command_line.specs.Meaning.{NeedsNoMemory, command_with, meaning_by, named, without_options}
 use Rattle.xt_command_line.specs.Numbers.{number_of}
 use Rattle.xt_command_line.specs.Simple.{rows_by}
@@ -55,6 +55,16 @@ number_by-answers : (rows : Option (List Row)) → number_by rows ≢ Err refusa
 number_by-answers None = λ e. search (rules, e)
 number_by-answers (Some rows) = judged_number-answers (number_in (first_of (codes "number") rows))
 
+spanned-answers : (from to : Option ℕ) → spanned from to ≢ Err refusal.Memory
+spanned-answers None None = λ e. search (rules, e)
+spanned-answers None (Some to) = λ e. search (rules, e)
+spanned-answers (Some from) None = λ e. search (rules, e)
+spanned-answers (Some from) (Some to) = λ e. search (rules, e)
+
+span_by-answers : (rows : Option (List Row)) → span_by rows ≢ Err refusal.Memory
+span_by-answers None = λ e. search (rules, e)
+span_by-answers (Some rows) = spanned-answers (said_or number_of 0 (first_of (codes "from") rows)) (said_or number_of 0xFFFFFFFF (first_of (codes "to") rows))
+
 command_with-answers : {A : Type 0} (make : A → Command) (r : Result A Refusal) → r ≢ Err refusal.Memory → command_with make r ≢ Err refusal.Memory
 command_with-answers make (Ok o) no_memory = λ e. search (rules, e)
 command_with-answers make (Err r) no_memory = λ e. no_memory (cc)
@@ -73,6 +83,10 @@ meaning_by-answers (Some name.Run) words = command_with-answers command.Run (run
 meaning_by-answers (Some name.Record) words = command_with-answers command.Record (record_options_of words) (need_no_memory words).1
 meaning_by-answers (Some name.Replay) words = λ e. search (rules, e)
 meaning_by-answers (Some name.Migrate) words = without_options-answers _ _
+meaning_by-answers (Some name.Events) words = without_options-answers _ _
+meaning_by-answers (Some name.Race) words = without_options-answers _ _
+meaning_by-answers (Some name.Profile) words = without_options-answers _ _
+meaning_by-answers (Some name.Trace) words = command_with-answers command.Trace (span_of words) (span_by-answers (rows_by trace_app words))
 meaning_by-answers (Some name.Generate) words = command_with-answers command.Generate (generator_number_of words) (number_by-answers (rows_by gen_app words))
 
 pub meaning_needs_none : NeedsNoMemory

@@ -6,7 +6,7 @@ use Rattle.std.specs.Str.{bytes_eq}
 use Rattle.clap.specs.Words.{Row, Text, new_app}
 use Rattle.xt_command_line.specs.Simple.{rows_by}
 use Rattle.xt_command_line.specs.Options.{AreValid, record_options_of, run_options_of}
-use Rattle.xt_command_line.specs.Arguments.{IsVecbase, generator_number_of, vecbase_of}
+use Rattle.xt_command_line.specs.Arguments.{IsVecbase, generator_number_of, span_of, vecbase_of}
 use Rattle.xt_command_line.specs.declared.command.Command.{Command}
 use Rattle.xt_command_line.specs.declared.command.Command.TheVariants as command
 use Rattle.xt_command_line.specs.declared.command.Refusal.{Refusal}
@@ -25,6 +25,10 @@ names =
     ∷ (codes "record", name.Record)
     ∷ (codes "replay", name.Replay)
     ∷ (codes "migrate", name.Migrate)
+    ∷ (codes "events", name.Events)
+    ∷ (codes "trace", name.Trace)
+    ∷ (codes "race", name.Race)
+    ∷ (codes "profile", name.Profile)
     ∷ (codes "gen", name.Generate)
     ∷ []
 
@@ -58,6 +62,9 @@ record_meaning_of words = command_with command.Record (record_options_of words)
 abbrev pub gen_meaning_of : List Text → Result Command Refusal
 gen_meaning_of words = command_with command.Generate (generator_number_of words)
 
+abbrev pub trace_meaning_of : List Text → Result Command Refusal
+trace_meaning_of words = command_with command.Trace (span_of words)
+
 abbrev pub meaning_by : Option Name → List Text → Result Command Refusal
 meaning_by None words = Err (refusal.Usage 2)
 meaning_by (Some name.Assemble) words =
@@ -72,6 +79,13 @@ meaning_by (Some name.Record) words = record_meaning_of words
 meaning_by (Some name.Replay) words = Ok command.Replay
 meaning_by (Some name.Migrate) words =
     without_options command.Migrate (rows_by (new_app (codes "migrate")) words)
+meaning_by (Some name.Events) words =
+    without_options command.Events (rows_by (new_app (codes "events")) words)
+meaning_by (Some name.Trace) words = trace_meaning_of words
+meaning_by (Some name.Race) words =
+    without_options command.Race (rows_by (new_app (codes "race")) words)
+meaning_by (Some name.Profile) words =
+    without_options command.Profile (rows_by (new_app (codes "profile")) words)
 meaning_by (Some name.Generate) words = gen_meaning_of words
 
 -- the command with its options that the words say, or why they say none; the words after `replay`
@@ -96,6 +110,10 @@ TakesMemory (Some name.Check) = Unit {0}
 TakesMemory (Some name.Run) = Unit {0}
 TakesMemory (Some name.Record) = Unit {0}
 TakesMemory (Some name.Migrate) = Unit {0}
+TakesMemory (Some name.Events) = Unit {0}
+TakesMemory (Some name.Trace) = Unit {0}
+TakesMemory (Some name.Race) = Unit {0}
+TakesMemory (Some name.Profile) = Unit {0}
 TakesMemory (Some name.Generate) = Unit {0}
 TakesMemory _ = ⊥
 

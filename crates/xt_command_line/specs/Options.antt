@@ -30,6 +30,9 @@ flag_rule name = record (new_rule name) { long = Some name; action = Some SetTru
 abbrev pub with_option : App → Text → App
 with_option app name = with_rule app (option_rule name)
 
+abbrev pub with_flag : App → Text → App
+with_flag app name = with_rule app (flag_rule name)
+
 -- [--turns0 N] [--turns1 N] [--entry1 N] [--vecbase N] [--stack0 LO:HI] [--stack1 LO:HI]
 abbrev pub option_names : List Text
 option_names =
@@ -39,10 +42,13 @@ option_names =
 abbrev pub record_app : App
 record_app = fold with_option (new_app (codes "record")) option_names
 
--- the same, and [--trace]
+-- [--events] [--race] [--profile] [--trace]
+abbrev pub flag_names : List Text
+flag_names = codes "events" ∷ codes "race" ∷ codes "profile" ∷ codes "trace" ∷ []
+
+-- the same options, and the flags
 abbrev pub run_app : App
-run_app =
-    with_rule (fold with_option (new_app (codes "run")) option_names) (flag_rule (codes "trace"))
+run_app = fold with_flag (fold with_option (new_app (codes "run")) option_names) flag_names
 
 -- ---- the texts of the options
 
@@ -54,6 +60,9 @@ pub record Texts : Type 0 where
   pub stack0 : Option Text
   pub stack1 : Option Text
   pub trace : Bool
+  pub events : Bool
+  pub race : Bool
+  pub profile : Bool
 
 -- a flag that was given has the text `true`
 abbrev pub is_set : Option Text → Bool
@@ -68,6 +77,9 @@ texts_of rows = record {
   stack0 = first_of (codes "stack0") rows;
   stack1 = first_of (codes "stack1") rows;
   trace = is_set (first_of (codes "trace") rows);
+  events = is_set (first_of (codes "events") rows);
+  race = is_set (first_of (codes "race") rows);
+  profile = is_set (first_of (codes "profile") rows);
 }
 
 -- ---- the options that the texts say
@@ -94,10 +106,11 @@ said_or say default (Some text) = say text
 abbrev pub address_of : Text → Option (Option ℕ)
 address_of text = option_map Some (number_of text)
 
+-- the options of these numbers and ranges, where each is there, with the flags as they were given
 abbrev pub made :
-    Option ℕ → Option ℕ → Option (Option ℕ) → Option ℕ → Option Stack → Option Stack → Bool
+    Texts → Option ℕ → Option ℕ → Option (Option ℕ) → Option ℕ → Option Stack → Option Stack
     → Option RunOptions
-made (Some turns0) (Some turns1) (Some entry1) (Some vecbase) (Some stack0) (Some stack1) trace =
+made t (Some turns0) (Some turns1) (Some entry1) (Some vecbase) (Some stack0) (Some stack1) =
     Some (record {
       turns0 = turns0;
       turns1 = turns1;
@@ -105,21 +118,23 @@ made (Some turns0) (Some turns1) (Some entry1) (Some vecbase) (Some stack0) (Som
       vecbase = vecbase;
       stack0 = stack0;
       stack1 = stack1;
-      trace = trace;
+      trace = t.trace;
+      events = t.events;
+      race = t.race;
+      profile = t.profile;
     })
-made _ _ _ _ _ _ trace = None
+made t _ _ _ _ _ _ = None
 
 -- the options that the texts say, each with its default, or none where a text is no number or no
 -- range
 abbrev pub options_in : Texts → Option RunOptions
-options_in t = made
+options_in t = made t
     (said_or number_of 100000 t.turns0)
     (said_or number_of 100000 t.turns1)
     (said_or address_of None t.entry1)
     (said_or number_of 0x40080000 t.vecbase)
     (said_or range_of (record { lo = 0x3FFF0000; hi = 0x3FFF8000 }) t.stack0)
     (said_or range_of (record { lo = 0x3FFF8000; hi = 0x40000000 }) t.stack1)
-    t.trace
 
 -- ---- the rules of usage that options break
 

@@ -4,6 +4,15 @@ ghost use Rattle.xt_command_line.specs.declared.command.Refusal.TheVariants.{Mem
 use crate::options::RunOptions;
 use std::alloc::AllocError;
 
+/// Positions of a run's schedule.
+#[derive(Clone, Copy, Debug, PartialEq, Eq)]
+pub struct Span {
+    /// The first of them.
+    pub from: u32,
+    /// The first after them.
+    pub to: u32,
+}
+
 /// A command with its options.
 #[derive(Clone, Copy, Debug, PartialEq, Eq)]
 pub enum Command {
@@ -23,6 +32,14 @@ pub enum Command {
     Replay,
     /// `migrate`: writes a recording again, in version 2.
     Migrate,
+    /// `events`: says what happened to each core of a recorded run.
+    Events,
+    /// `trace`: prints these turns of a recorded run.
+    Trace(Span),
+    /// `race`: looks for a data race in a recorded run.
+    Race,
+    /// `profile`: counts the turns of each call stack of a recorded run.
+    Profile,
     /// `gen`: runs the image that is made from this number.
     Generate(u32),
 }
@@ -32,8 +49,8 @@ pub enum Command {
 pub enum Refusal {
     /// The number of the first rule of usage that the words break:
     /// 1 there is no word, 2 the command is unknown, 3 the further words do not match what the command takes, 4 to 8 a
-    /// text of theirs is refused (`run_options`, `check_vecbase` and `generator_number` say which is which). Further
-    /// numbers are those of callers.
+    /// text of theirs is refused (`run_options`, `check_vecbase`, `trace_span` and `generator_number` say which is
+    /// which). Further numbers are those of callers.
     Usage(u8),
     /// Memory ran out while the words were read.
     Memory,
@@ -66,6 +83,14 @@ pub enum Name {
     Replay,
     /// `migrate`
     Migrate,
+    /// `events`
+    Events,
+    /// `trace`
+    Trace,
+    /// `race`
+    Race,
+    /// `profile`
+    Profile,
     /// `gen`
     Generate,
 }

@@ -14,8 +14,8 @@ mod options;
 mod simple;
 mod words;
 
-pub use arguments::{check_vecbase, generator_number, script_text};
-pub use command::{Command, Refusal};
+pub use arguments::{check_vecbase, generator_number, script_text, trace_span};
+pub use command::{Command, Refusal, Span};
 pub use laws::{meaning_needs_no_memory, options_need_no_memory, valid_options_are_accepted};
 pub use numbers::number;
 pub use option_words::{DEFAULT_VECBASE, record_options, run_options};

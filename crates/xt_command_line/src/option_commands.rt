@@ -1,9 +1,9 @@
-//! The simple commands of `clap` that read the words of `run`, `record`, `check`, `gen` and `replay`.
-ghost use Rattle.std.specs.Prelude.{◌≡◌, IfOk, map, string_bytes, option_map, fold, codes};
+//! The simple commands of `clap` that read the words of `run`, `record`, `check`, `gen`, `replay` and `trace`.
+ghost use Rattle.std.specs.Prelude.{◌≡◌, IfOk, map, string_bytes, option_map, fold};
 ghost use Rattle.clap.specs.Words.{app_of, first_of, found_of, new_app, rows_of, with_rule};
 ghost use Rattle.xt_command_line.specs.Simple.{Matches, rows_by};
-ghost use Rattle.xt_command_line.specs.Arguments.{check_app, gen_app, positional_rule, replay_app};
-ghost use Rattle.xt_command_line.specs.Options.{flag_rule, is_set, option_names, record_app, run_app, texts_of, with_option};
+ghost use Rattle.xt_command_line.specs.Arguments.{check_app, gen_app, positional_rule, replay_app, trace_app};
+ghost use Rattle.xt_command_line.specs.Options.{flag_names, is_set, option_names, record_app, run_app, texts_of, with_flag, with_option};
 ghost use Rattle.xt_command_line.specs.Views.{texts_in};
 
 use crate::command::Refusal;
@@ -21,6 +21,9 @@ pub struct OptionTexts<'a> {
     pub stack0: Option<&'a str>,
     pub stack1: Option<&'a str>,
     pub trace: bool,
+    pub events: bool,
+    pub race: bool,
+    pub profile: bool,
 }
 
 // The command with one more option, `--name TEXT`.
@@ -34,15 +37,15 @@ fn with_one_option<'a>(
     command.arg(Arg::new(alloc, name).long(name))
 }
 
-// The command with the flag `--trace` besides.
-fn with_trace<'a>(alloc: Global, command: Command<'a>) -> Result<Command<'a>, AllocError>
-    ensures { IfOk result (λ c. app_of c ≡ with_rule (app_of command.entry) (flag_rule (codes "trace"))) }
+// The command with one more flag, `--name`.
+fn with_one_flag<'a>(
+    alloc: Global,
+    command: Command<'a>,
+    name: &'a str,
+) -> Result<Command<'a>, AllocError>
+    ensures { IfOk result (λ c. app_of c ≡ with_flag (app_of command.entry) name.entry.now) }
 {
-    command.arg(
-        Arg::new(alloc, "trace")
-            .long("trace")
-            .action(ArgAction::SetTrue),
-    )
+    command.arg(Arg::new(alloc, name).long(name).action(ArgAction::SetTrue))
 }
 
 // The command with the six options that `run` and `record` share.
@@ -58,12 +61,28 @@ fn with_options<'a>(alloc: Global, name: &'a str) -> Result<Command<'a>, AllocEr
     with_one_option(alloc, command, "stack1")
 }
 
+// The command with the four flags that `run` alone has.
+fn with_flags<'a>(alloc: Global, command: Command<'a>) -> Result<Command<'a>, AllocError>
+    ensures { IfOk result (λ c. app_of c ≡ fold with_flag (app_of command.entry) flag_names) }
+{
+    let command = with_one_flag(alloc, command, "events")?;
+    let command = with_one_flag(alloc, command, "race")?;
+    let command = with_one_flag(alloc, command, "profile")?;
+    with_one_flag(alloc, command, "trace")
+}
+
+// The command `run` with its options and flags.
+fn run_command<'a>(alloc: Global) -> Result<Command<'a>, AllocError>
+    ensures { IfOk result (λ c. app_of c ≡ run_app) }
+{
+    with_flags(alloc, with_options(alloc, "run")?)
+}
+
 /// What `clap` matches on the words of `run`.
 pub fn run_matches<'a>(alloc: Global, words: &'a [String]) -> Result<ArgMatches<'a>, Refusal>
     ensures { Matches result (rows_by run_app (map string_bytes words.now)) }
 {
-    let command = with_options(alloc, "run")?;
-    matches_by(with_trace(alloc, command)?, words)
+    matches_by(run_command(alloc)?, words)
 }
 
 /// What `clap` matches on the words of `record`.
@@ -126,6 +145,21 @@ pub fn replay_matches<'a>(alloc: Global, words: &'a [String]) -> Result<ArgMatch
     matches_by(replay_command(alloc)?, words)
 }
 
+// The command `trace` with its options.
+fn trace_command<'a>(alloc: Global) -> Result<Command<'a>, AllocError>
+    ensures { IfOk result (λ c. app_of c ≡ trace_app) }
+{
+    let command = with_one_option(alloc, Command::new(alloc, "trace"), "from")?;
+    with_one_option(alloc, command, "to")
+}
+
+/// What `clap` matches on the words of `trace`.
+pub fn trace_matches<'a>(alloc: Global, words: &'a [String]) -> Result<ArgMatches<'a>, Refusal>
+    ensures { Matches result (rows_by trace_app (map string_bytes words.now)) }
+{
+    matches_by(trace_command(alloc)?, words)
+}
+
 /// The text of an option or of a positional.
 pub fn text_of<'a>(matches: &ArgMatches<'a>, name: &str) -> Option<&'a str>
     ensures { option_map (λ s. s.now) result ≡ first_of name.now (rows_of (found_of matches.now)) }
@@ -155,5 +189,8 @@ pub fn texts_from<'a>(matches: &ArgMatches<'a>) -> OptionTexts<'a>
         stack0: text_of(matches, "stack0"),
         stack1: text_of(matches, "stack1"),
         trace: is_true(text_of(matches, "trace")),
+        events: is_true(text_of(matches, "events")),
+        race: is_true(text_of(matches, "race")),
+        profile: is_true(text_of(matches, "profile")),
     }
 }

@@ -91,6 +91,9 @@ fn options_from(texts: OptionTexts<'_>) -> Option<RunOptions>
         stack0,
         stack1,
         trace: texts.trace,
+        events: texts.events,
+        race: texts.race,
+        profile: texts.profile,
     })
 }
 
@@ -108,11 +111,11 @@ fn judged_texts(texts: OptionTexts<'_>) -> Result<RunOptions, Refusal>
 /// The options that the words of `run` say, the first of which stands for the command.
 ///
 /// The words are read as a simple command of `clap` with the options `--turns0 N`, `--turns1 N`, `--entry1 N`,
-/// `--vecbase N`, `--stack0 LO:HI` and `--stack1 LO:HI` and the flag `--trace`. N, LO and HI are decimal digits, or
-/// `0x` and one to eight hexadecimal digits, below 2^32. `Usage` has the first rule that the words break: 3 they do not
-/// match, 4 a text is no number or range, 5 a number of turns is above 4,000,000, 6 `entry1` is in no executable
-/// region, 7 `vecbase` is no multiple of 1024, 8 a stack is no range of at least 256 bytes in the internal data memory
-/// with ends at multiples of 16. `Memory` says only that memory ran out.
+/// `--vecbase N`, `--stack0 LO:HI` and `--stack1 LO:HI` and the flags `--events`, `--race`, `--profile` and `--trace`.
+/// N, LO and HI are decimal digits, or `0x` and one to eight hexadecimal digits, below 2^32. `Usage` has the first rule
+/// that the words break: 3 they do not match, 4 a text is no number or range, 5 a number of turns is above 4,000,000, 6
+/// `entry1` is in no executable region, 7 `vecbase` is no multiple of 1024, 8 a stack is no range of at least 256 bytes
+/// in the internal data memory with ends at multiples of 16. `Memory` says only that memory ran out.
 pub fn run_options(alloc: Global, words: &[String]) -> Result<RunOptions, Refusal>
     ensures means { Means result (run_options_of (map string_bytes words.now)) }
     ensures valid { IfOk result AreValid }
@@ -121,7 +124,7 @@ pub fn run_options(alloc: Global, words: &[String]) -> Result<RunOptions, Refusa
     judged_texts(texts_from(&matches))
 }
 
-/// The same of `record`, which has no flag `--trace`.
+/// The same of `record`, which has none of the four flags.
 pub fn record_options(alloc: Global, words: &[String]) -> Result<RunOptions, Refusal>
     ensures means { Means result (record_options_of (map string_bytes words.now)) }
     ensures valid { IfOk result AreValid }

@@ -26,6 +26,12 @@ pub struct RunOptions {
     pub stack1: Stack,
     /// Whether the lines of the trace are wanted (`--trace`, of `run` alone).
     pub trace: bool,
+    /// Whether the text of `events` is wanted (`--events`, of `run` alone).
+    pub events: bool,
+    /// Whether the text of `race` is wanted (`--race`, of `run` alone).
+    pub race: bool,
+    /// Whether the text of `profile` is wanted (`--profile`, of `run` alone).
+    pub profile: bool,
 }
 
 impl RunOptions {

@@ -1,9 +1,9 @@
 ghost use Rattle.std.specs.Prelude.{◌≡◌, IfOk, map, string_bytes};
 ghost use Rattle.xt_command_line.specs.Answers.{Means};
-ghost use Rattle.xt_command_line.specs.Meaning.{HasValidOptions, MayWantMemory, check_meaning_of, gen_meaning_of, meaning_of, named, record_meaning_of, run_meaning_of};
+ghost use Rattle.xt_command_line.specs.Meaning.{HasValidOptions, MayWantMemory, check_meaning_of, gen_meaning_of, meaning_of, named, record_meaning_of, run_meaning_of, trace_meaning_of};
 ghost use Rattle.xt_command_line.specs.declared.command.Refusal.TheVariants.{Memory};
 
-use crate::arguments::{check_vecbase, generator_number};
+use crate::arguments::{check_vecbase, generator_number, trace_span};
 use crate::command::{Command, Name, Refusal};
 use crate::option_words::{record_options, run_options};
 use crate::simple::without_options_meaning;
@@ -22,6 +22,10 @@ fn name_of(word: &str) -> Option<Name>
         "record" => Some(Name::Record),
         "replay" => Some(Name::Replay),
         "migrate" => Some(Name::Migrate),
+        "events" => Some(Name::Events),
+        "trace" => Some(Name::Trace),
+        "race" => Some(Name::Race),
+        "profile" => Some(Name::Profile),
         "gen" => Some(Name::Generate),
         _ => None,
     }
@@ -60,6 +64,17 @@ fn check_meaning(alloc: Global, words: &[String]) -> Result<Command, Refusal>
     }
 }
 
+// The command `trace` with the positions that its words say.
+fn trace_meaning(alloc: Global, words: &[String]) -> Result<Command, Refusal>
+    ensures means { Means result (trace_meaning_of (map string_bytes words.now)) }
+    ensures valid { IfOk result HasValidOptions }
+{
+    match trace_span(alloc, words) {
+        Ok(span) => Ok(Command::Trace(span)),
+        Err(refusal) => Err(refusal),
+    }
+}
+
 // The command `gen` with the number that its words say.
 fn gen_meaning(alloc: Global, words: &[String]) -> Result<Command, Refusal>
     ensures means { Means result (gen_meaning_of (map string_bytes words.now)) }
@@ -74,12 +89,13 @@ fn gen_meaning(alloc: Global, words: &[String]) -> Result<Command, Refusal>
 /// The command with its options that the words after the program's name say, or why they say none.
 ///
 /// - No word is `Usage(1)`, and a first word that is no command `Usage(2)`.
-/// - `asm`, `elf`, `dis` and `migrate` take no further word. Other words after them are `Usage(3)`, as far as `clap` does not take
-///   them: it takes one that is `--`.
+/// - `asm`, `elf`, `dis`, `migrate`, `events`, `race` and `profile` take no further word. Other words after them are
+///   `Usage(3)`, as far as `clap` does not take them: it takes one that is `--`.
 /// - `check` has the option that `check_vecbase` says, with the rules of usage 3, 4 and 7.
 /// - `run` has the options that `run_options` says, with the rules of usage 3 to 8, and `record` those of
 ///   `record_options`, with the same.
-/// - `gen` has the number that `generator_number` says, with the rules of usage 3 and 4.
+/// - `trace` has the positions that `trace_span` says, with the rules of usage 3 and 4.
+/// - `gen` has the number that `generator_number` says, with the same.
 /// - `replay` is `Replay`, whatever follows: `script_text` reads its words.
 ///
 /// `Memory` says only that memory ran out.
@@ -103,6 +119,12 @@ pub fn meaning(alloc: Global, words: &[String]) -> Result<Command, Refusal>
         Some(Name::Replay) => Ok(Command::Replay),
         Some(Name::Migrate) => {
             without_options_meaning(alloc, "migrate", Command::Migrate, words)
+        }
+        Some(Name::Events) => { without_options_meaning(alloc, "events", Command::Events, words) }
+        Some(Name::Trace) => trace_meaning(alloc, words),
+        Some(Name::Race) => without_options_meaning(alloc, "race", Command::Race, words),
+        Some(Name::Profile) => {
+            without_options_meaning(alloc, "profile", Command::Profile, words)
         }
         Some(Name::Check) => check_meaning(alloc, words),
         Some(Name::Generate) => gen_meaning(alloc, words),

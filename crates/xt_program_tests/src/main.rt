@@ -5,6 +5,7 @@
 //! What comes out was found without this program, by other means.
 #![tactic(auto)]
 
+mod analyses;
 mod cases;
 #[cfg(test)]
 mod damage_tests;
@@ -65,6 +66,8 @@ fn agrees<R: Files + Threads + Wait + Sync + AllocGlobal>(
         verdicts::checks(rt.alloc(), case, program.as_str())
     } else if !words_of(case, "steps").is_empty() {
         schedules::agrees(rt.alloc(), case, program.as_str())
+    } else if !words_of(case, "analysis").is_empty() {
+        analyses::agrees(rt.alloc(), case, program.as_str())
     } else if case.contains("\nschedule") {
         verdicts::agrees(rt.alloc(), case, program.as_str())
     } else {

@@ -10,7 +10,7 @@ use std::alloc::{AllocError, Global};
 use std::sync::Wait;
 use std::thread::Threads;
 use xt_asm::assemble;
-use xt_cli::{Status, Whole, judged, write_whole, xt_main};
+use xt_cli::{Status, Whole, analyses_text, judged, write_whole, xt_main};
 use xt_command_line::{Command, RunOptions, meaning};
 use xt_image::{Image, well_formed_by_rules, write};
 use xt_io::{OpenGate, SafeSink, SafeSource};
@@ -93,6 +93,22 @@ fn whole_over(
     judged(alloc, image, run)
 }
 
+// What the program writes of a run.
+fn output_of_run(
+    alloc: Global,
+    options: &RunOptions,
+    image: &Image,
+    whole: &Whole,
+) -> Option<String>
+    requires image { IsWellFormed image.now }
+    requires run { IsRunOf image.now whole.now.run }
+{
+    let analyses = analyses_text(alloc, options, image, &whole.run).ok()?;
+    let mut sink = SafeSink::make(alloc).ok()?;
+    write_whole(alloc, options, image, whole, &analyses, &mut sink).ok()?;
+    text_in(alloc, &sink)
+}
+
 /// What the program writes of the run of an image over a list of cores, after which core 0 makes the
 /// rest of its turns, and then core 1.
 pub fn output_over(
@@ -106,9 +122,7 @@ pub fn output_over(
     requires cores { All (λ core. core < 2) list.now }
 {
     let whole = whole_over(alloc, options, image, list).ok()?;
-    let mut sink = SafeSink::make(alloc).ok()?;
-    write_whole(alloc, options, image, &whole, &mut sink).ok()?;
-    text_in(alloc, &sink)
+    output_of_run(alloc, options, image, &whole)
 }
 
 // The report of a case: its lines on the run, and those on the handlers and the verdict.

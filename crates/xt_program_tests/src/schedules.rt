@@ -67,8 +67,8 @@ fn text_of(alloc: Global, list: &[u8]) -> Option<String> {
     Some(text)
 }
 
-// The options that the words of `run` say, for an image.
-fn options_of(alloc: Global, words: &str, image: &Image) -> Option<Options>
+/// The options that the words of `run` say, for an image.
+pub fn options_of(alloc: Global, words: &str, image: &Image) -> Option<Options>
     requires { IsWellFormed image.now }
     ensures { IfSome result IsValid }
 {

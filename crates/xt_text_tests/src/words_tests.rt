@@ -1,6 +1,6 @@
 use std::alloc::Global;
 use std::test::Fail;
-use xt_command_line::{Command, Refusal, RunOptions, meaning, script_text};
+use xt_command_line::{Command, Refusal, RunOptions, Span, meaning, script_text};
 use xt_trace::Stack;
 
 // The words of a line, which stand with one space between them.
@@ -57,6 +57,43 @@ fn words_and_meanings(rt: HostRuntime) -> Result<(), Fail> {
         ("migrate", Ok(Command::Migrate)),
         ("migrate --turns0 1", Err(Refusal::Usage(3))),
         ("check --trace", Err(Refusal::Usage(3))),
+        ("events", Ok(Command::Events)),
+        ("events --", Ok(Command::Events)),
+        ("events 0", Err(Refusal::Usage(3))),
+        ("race", Ok(Command::Race)),
+        ("race file", Err(Refusal::Usage(3))),
+        ("profile", Ok(Command::Profile)),
+        ("profile --core 0", Err(Refusal::Usage(3))),
+        ("events --from 0", Err(Refusal::Usage(3))),
+        // positions
+        (
+            "trace",
+            Ok(Command::Trace(Span {
+                from: 0,
+                to: u32::MAX,
+            })),
+        ),
+        (
+            "trace --from 35",
+            Ok(Command::Trace(Span {
+                from: 35,
+                to: u32::MAX,
+            })),
+        ),
+        (
+            "trace --to 0x10 --from=12",
+            Ok(Command::Trace(Span { from: 12, to: 16 })),
+        ),
+        (
+            "trace --from 9 --to 3",
+            Ok(Command::Trace(Span { from: 9, to: 3 })),
+        ),
+        ("trace 3", Err(Refusal::Usage(3))),
+        ("trace --from", Err(Refusal::Usage(3))),
+        ("trace --from 1 --from 1", Err(Refusal::Usage(3))),
+        ("trace --core 0", Err(Refusal::Usage(3))),
+        ("trace --from x", Err(Refusal::Usage(4))),
+        ("trace --to 4294967296", Err(Refusal::Usage(4))),
         // a number
         ("gen 1", Ok(Command::Generate(1))),
         ("gen 0xFFFFFFFF", Ok(Command::Generate(4_294_967_295))),
@@ -113,6 +150,9 @@ fn words_and_options(rt: HostRuntime) -> Result<(), Fail> {
             hi: 0x4000_0000,
         },
         trace: false,
+        events: false,
+        race: false,
+        profile: false,
     };
     let mut given = plain;
     given.turns0 = 7;
@@ -126,6 +166,11 @@ fn words_and_options(rt: HostRuntime) -> Result<(), Fail> {
     most.turns0 = 4_000_000;
     let mut traced = plain;
     traced.trace = true;
+    let mut raced = plain;
+    raced.race = true;
+    let mut told = traced;
+    told.events = true;
+    told.profile = true;
     let rows = [
         ("run", Ok(plain)),
         ("run --", Ok(plain)),
@@ -133,6 +178,8 @@ fn words_and_options(rt: HostRuntime) -> Result<(), Fail> {
         ("run --turns0=0x3D0900", Ok(most)),
         ("run --turns0 0x003d0900", Ok(most)),
         ("run --trace", Ok(traced)),
+        ("run --race", Ok(raced)),
+        ("run --profile --trace --events", Ok(told)),
         (
             "run --stack1 0x3FFFFF00:0x40000000 --stack0 1073405952:0x3ffae100 --vecbase 0x4009FC00 --entry1 0x400D0000 --turns1 0 --turns0 007",
             Ok(given),
@@ -146,6 +193,7 @@ fn words_and_options(rt: HostRuntime) -> Result<(), Fail> {
         ("run --turns0 -5", Err(Refusal::Usage(3))),
         ("run --turns0 1 --turns0 1", Err(Refusal::Usage(3))),
         ("run --trace=x", Err(Refusal::Usage(3))),
+        ("run --race --race", Err(Refusal::Usage(3))),
         ("run --turns2 1", Err(Refusal::Usage(3))),
         // no number, or no range
         ("run --turns0 x", Err(Refusal::Usage(4))),
@@ -201,6 +249,7 @@ fn words_and_options(rt: HostRuntime) -> Result<(), Fail> {
         ("record", Ok(Command::Record(plain))),
         ("record --turns0 4000000", Ok(Command::Record(most))),
         ("record --trace", Err(Refusal::Usage(3))),
+        ("record --events", Err(Refusal::Usage(3))),
         ("record --turns1 x", Err(Refusal::Usage(4))),
         ("record --turns1 4000001", Err(Refusal::Usage(5))),
         ("record --entry1 0 --vecbase 1", Err(Refusal::Usage(6))),

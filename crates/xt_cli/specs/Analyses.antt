@@ -1,0 +1,35 @@
+-- What `run` writes behind its report of the analyses that its words ask for ('profile').
+use Rattle.std.specs.Prelude.{◌≡◌, ℕ, Bool, true, false, List, [], ◌++◌}
+use Rattle.xt_image.specs.declared.image.Image.{Image}
+use Rattle.xt_trace.specs.declared.run.Run.{Run}
+use Rattle.xt_events.specs.Events.{events_text}
+use Rattle.xt_race.specs.Races.{events_of}
+use Rattle.xt_race.specs.Texts.{IsRaceText}
+use Rattle.xt_profile.specs.Profiled.{profile_of}
+use Rattle.xt_profile.specs.Texts.{profile_text}
+use Rattle.xt_command_line.specs.declared.options.RunOptions.{RunOptions}
+
+-- this is the text of an analysis of the run of an image
+abbrev pub IsEventsOf : Image → Run → List ℕ → Type 0
+IsEventsOf image run text = text ≡ events_text image run
+
+abbrev pub IsRaceOf : Image → Run → List ℕ → Type 0
+IsRaceOf image run text = IsRaceText (events_of image run) text
+
+abbrev pub IsProfileOf : Image → Run → List ℕ → Type 0
+IsProfileOf image run text = text ≡ profile_text (profile_of image run)
+
+-- the text of an analysis that is wanted, or nothing
+abbrev pub IsWanted : Bool → (List ℕ → Type 0) → List ℕ → Type 0
+IsWanted true Is text = Is text
+IsWanted false Is text = text ≡ []
+
+-- the texts that the words ask for, one after another
+pub record AreAnalyses (o : RunOptions) (image : Image) (run : Run) (text : List ℕ) : Type 0 where
+  pub events : List ℕ
+  pub race : List ℕ
+  pub profile : List ℕ
+  pub are_events : IsWanted o.events (IsEventsOf image run) events
+  pub is_race : IsWanted o.race (IsRaceOf image run) race
+  pub is_profile : IsWanted o.profile (IsProfileOf image run) profile
+  pub are_all : text ≡ events ++ (race ++ profile)

@@ -1,0 +1,67 @@
+//! Cases of what a command says of the recording of a run over a list of cores.
+ghost use Rattle.std.specs.Prelude.{◌<◌, All};
+ghost use Rattle.xt_image.specs.Parts.{IsWellFormed};
+
+use crate::cases::{lines_of, words_of};
+use crate::programs::{image_of, options_in, output_over, text_in, words_with};
+use crate::schedules::{list_of, options_of};
+use std::alloc::Global;
+use xt_cli::{Status, Tool, tool_main};
+use xt_image::Image;
+use xt_io::{SafeSink, SafeSource};
+use xt_machine::run_schedule;
+use xt_record::write_recording;
+
+// What the command of a case prints over the recording of its run.
+fn printed(alloc: Global, case: &str, image: &Image, list: &[u8]) -> Option<String>
+    requires image { IsWellFormed image.now }
+    requires cores { All (λ core. core < 2) list.now }
+{
+    let options = options_of(alloc, words_of(case, "options"), image)?;
+    let run = run_schedule(alloc, image, &options, list).ok()?;
+    let bytes = write_recording(alloc, image, &run).ok()?;
+    let words = words_with(alloc, words_of(case, "analysis"), "")?;
+    let mut source = SafeSource::make(alloc, bytes.as_slice()).ok()?;
+    let mut sink = SafeSink::make(alloc).ok()?;
+    if tool_main(alloc, &words, &mut source, &mut sink) != Tool::Answer(Status::Done) {
+        return None;
+    }
+    text_in(alloc, &sink)
+}
+
+// What `run`, with this flag, writes of the run of a case.
+fn run_output(alloc: Global, case: &str, flag: &str, image: &Image, list: &[u8]) -> Option<String>
+    requires image { IsWellFormed image.now }
+    requires cores { All (λ core. core < 2) list.now }
+{
+    let command = format!(in alloc; "run {flag}").ok()?;
+    let words = words_with(alloc, command.as_str(), words_of(case, "options"))?;
+    let options = options_in(alloc, &words)?;
+    output_over(alloc, &options, image, list)
+}
+
+// Whether `run` writes, with the flag of a command, its report and then what the command prints.
+fn has_flag(alloc: Global, case: &str, image: &Image, list: &[u8], output: &str) -> Option<bool>
+    requires image { IsWellFormed image.now }
+    requires cores { All (λ core. core < 2) list.now }
+{
+    let flag = format!(in alloc; "--{}", words_of(case, "analysis")).ok()?;
+    let report = run_output(alloc, case, "", image, list)?;
+    let whole = run_output(alloc, case, flag.as_str(), image, list)?;
+    Some(whole.as_str().strip_prefix(report.as_str()) == Some(output))
+}
+
+/// Whether the command of a case prints, over the recording of its run, what the case says, and `run`
+/// with the command's flag prints it behind its report.
+pub fn agrees(alloc: Global, case: &str, program: &str) -> Option<bool> {
+    let image = image_of(alloc, program)?;
+    let list = list_of(alloc, words_of(case, "schedule"))?;
+    let output = lines_of(alloc, case, "output", "").ok()?;
+    if printed(alloc, case, &image, &list)? != output {
+        return Some(false);
+    }
+    if words_of(case, "analysis").starts_with("trace") {
+        return Some(true);
+    }
+    has_flag(alloc, case, &image, &list, output.as_str())
+}
