@@ -1,7 +1,7 @@
 # Nine calls, one inside the other: more frames than the ring of registers holds.
 #
 #   xt asm < calls.s > calls.img
-#   xt dis < calls.img
+#   xt dis --flow < calls.img
 #
 # `main` calls `f` with the number 8, and `f` calls itself with one less until the number is 0. Each frame takes eight registers
 # more, so the ring of 64 has room for eight frames. With the opening frame and that of `main` there are eleven. So three times

@@ -1,7 +1,7 @@
 # A timer interrupt that is taken between a CALL8 and its ENTRY.
 #
 #   xt asm < interrupt.s > interrupt.img
-#   xt dis < interrupt.img
+#   xt dis --flow < interrupt.img
 #
 # Each turn of a core raises its counter CCOUNT by one. When CCOUNT comes to CCOMPARE0, timer 0 sets its bit 6 of INTERRUPT; where
 # INTENABLE has the bit too, and nothing forbids it, the next turn is the entry into the interrupt. Here that is turn 7, directly

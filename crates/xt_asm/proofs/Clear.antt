@@ -41,7 +41,7 @@ neither true b e = absurd (cc)
 
 pub record IsClear (site : Site) (s : Statement) (made : Option (Result Insn OperandFault)) : Type 0 where
   pub known : has_unknown site.labels s ≡ false
-  pub fits : has_misfit site.labels s ≡ false
+  pub fits : has_misfit site s ≡ false
   pub ranged : is_range made ≡ false
   pub aligned : is_misaligned_target made ≡ false
   pub executable : is_stray_entry site.labels s ≡ false
@@ -50,14 +50,14 @@ pub record IsClear (site : Site) (s : Statement) (made : Option (Result Insn Ope
 
 pub clear_line : (site : Site) (l : Line) (made : Option (Result Insn OperandFault)) → own_fault site l made ≡ None → IsClear site l.statement made
 clear_line site l made e =
-    let a = or_else_none (fails (has_unknown site.labels l.statement) (at_statement l 1)) (first (fails (has_misfit site.labels l.statement || is_range made) (at_statement l 2) ∷ fails (is_misaligned_target made) (at_statement l 5)
+    let a = or_else_none (fails (has_unknown site.labels l.statement) (at_statement l 1)) (first (fails (has_misfit site l.statement || is_range made) (at_statement l 2) ∷ fails (is_misaligned_target made) (at_statement l 5)
     ∷ fails (is_stray_entry site.labels l.statement) (at_statement l 6) ∷ fails (has_no_word site l.statement || is_out_of_reach made) (at_statement l 3) ∷ [])) e in
-    let b = or_else_none (fails (has_misfit site.labels l.statement || is_range made) (at_statement l 2)) (first (fails (is_misaligned_target made) (at_statement l 5)
+    let b = or_else_none (fails (has_misfit site l.statement || is_range made) (at_statement l 2)) (first (fails (is_misaligned_target made) (at_statement l 5)
     ∷ fails (is_stray_entry site.labels l.statement) (at_statement l 6) ∷ fails (has_no_word site l.statement || is_out_of_reach made) (at_statement l 3) ∷ [])) a.1 in
     let d = or_else_none (fails (is_misaligned_target made) (at_statement l 5)) (first (fails (is_stray_entry site.labels l.statement) (at_statement l 6) ∷ fails (has_no_word site l.statement || is_out_of_reach made) (at_statement l 3) ∷ [])) b.1 in
     let f = or_else_none (fails (is_stray_entry site.labels l.statement) (at_statement l 6)) (first (fails (has_no_word site l.statement || is_out_of_reach made) (at_statement l 3) ∷ [])) d.1 in
     let g = or_else_none (fails (has_no_word site l.statement || is_out_of_reach made) (at_statement l 3)) None f.1 in
-    let range = neither (has_misfit site.labels l.statement) (is_range made) (not_failed (has_misfit site.labels l.statement || is_range made) (at_statement l 2) b.0) in
+    let range = neither (has_misfit site l.statement) (is_range made) (not_failed (has_misfit site l.statement || is_range made) (at_statement l 2) b.0) in
     let reach = neither (has_no_word site l.statement) (is_out_of_reach made) (not_failed (has_no_word site l.statement || is_out_of_reach made) (at_statement l 3) g.0) in
     record {
       known = not_failed (has_unknown site.labels l.statement) (at_statement l 1) a.0;

@@ -124,9 +124,9 @@ unfolding lines_fault
 fault_there lines earlier own place above earlier_is own_is e =
     ap (λ x. or_else x (no_entry lines)) (sym (all_merged lines above) ∙ ap (λ x. least x (own_first lines)) (sym earlier_is) ∙ ap (least earlier) own_is ∙ e)
 
-pub fault_found : (e : AsmFault) (lines : List Line) (earlier : Finding) → AreAbove 0 lines → earlier ≡ least (pool_fault lines) (layout_fault lines) → LineFault e (least earlier (own_first lines)) → AssemblesLines (Err e) lines
-fault_found (fault.Place place) lines earlier above earlier_is found = fault_there lines earlier (own_first lines) place above earlier_is refl found
-fault_found fault.Memory lines earlier above earlier_is found = tt
+pub fault_alone : (e : AsmFault) (lines : List Line) (earlier : Finding) → AreAbove 0 lines → earlier ≡ least (pool_fault lines) (layout_fault lines) → earlier ≡ None → LineFault e (own_first lines) → AssemblesLines (Err e) lines
+fault_alone (fault.Place place) lines earlier above earlier_is none found = fault_there lines earlier (own_first lines) place above earlier_is refl (ap (λ x. least x (own_first lines)) none ∙ found)
+fault_alone fault.Memory lines earlier above earlier_is none found = tt
 
 pub fault_last : (lines : List Line) (earlier : Finding) → AreAbove 0 lines → earlier ≡ least (pool_fault lines) (layout_fault lines) → own_first lines ≡ None → earlier ≡ None → lines_fault lines ≡ no_entry lines
 unfolding lines_fault

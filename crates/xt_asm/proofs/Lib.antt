@@ -15,3 +15,4 @@ pub mod WellFormedNumbers
 pub mod WellFormed
 pub mod OneImage
 pub mod Serving
+pub mod Mapping

@@ -130,7 +130,7 @@ abbrev own_list : List Line → List Line → Line → List Finding
 own_list lines before l =
     let site = site_at lines before l in
     let made = insn_at site l.statement in
-    None ∷ fails (has_unknown site.labels l.statement) (at_statement l 1) ∷ fails (has_misfit site.labels l.statement || is_range made) (at_statement l 2)
+    None ∷ fails (has_unknown site.labels l.statement) (at_statement l 1) ∷ fails (has_misfit site l.statement || is_range made) (at_statement l 2)
     ∷ fails (is_misaligned_target made) (at_statement l 5) ∷ fails (is_stray_entry site.labels l.statement) (at_statement l 6) ∷ None
     ∷ fails (has_no_word site l.statement || is_out_of_reach made) (at_statement l 3) ∷ []
 
@@ -187,7 +187,7 @@ line_merged lines before l rest =
     let made = insn_at site l.statement in
     let t : Finding = twice (defines before) (has_entry before) l in
     let u : Finding = fails (has_unknown site.labels l.statement) (at_statement l 1) in
-    let r : Finding = or_else (is_too_many (segments_in before) l) (fails (has_misfit site.labels l.statement || is_range made) (at_statement l 2)) in
+    let r : Finding = or_else (is_too_many (segments_in before) l) (fails (has_misfit site l.statement || is_range made) (at_statement l 2)) in
     let m : Finding = or_else (is_misaligned here l) (fails (is_misaligned_target made) (at_statement l 5)) in
     let s : Finding = or_else (is_outside (pool_size (words_of lines) (length before)) here l (is_last rest)) (fails (is_stray_entry site.labels l.statement) (at_statement l 6)) in
     let v : Finding = overlaps (spans_of lines) (segments_in before) l in

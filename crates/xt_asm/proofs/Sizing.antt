@@ -18,10 +18,10 @@ use Rattle.xt_expr.specs.declared.expr.Expr.{Expr}
 use Rattle.xt_parse.specs.declared.statement.Statement.{Statement}
 use Rattle.xt_parse.specs.declared.statement.Statement.TheVariants as statement
 use Rattle.xt_pool.specs.declared.word.PoolWord.{PoolWord}
-use Rattle.xt_layout.specs.Sizes.{is_alignment, padding, size}
+use Rattle.xt_layout.specs.Sizes.{is_alignment, is_space, padding, size}
 use Rattle.xt_asm.specs.Contexts.{IsMade, IsMadeOf}
 use Rattle.xt_asm.specs.Operands.{Site, insn_at}
-use Rattle.xt_asm.specs.Pieces.{AreCode, Spells, StandFor, byte, byte_of, word_bytes, zeros}
+use Rattle.xt_asm.specs.Pieces.{AreCode, Spells, StandFor, byte, byte_of, short_bytes, word_bytes, zeros}
 
 -- ---- instructions
 
@@ -76,6 +76,13 @@ words_long : (labels : List Label) (es : List Expr) → length (flat_map (word_b
 words_long labels [] = refl
 words_long labels (e ∷ es) = omega (arith, length-append (word_bytes labels e) (flat_map (word_bytes labels) es), word_long labels e, words_long labels es)
 
+short_long : (labels : List Label) (e : Expr) → length (short_bytes labels e) ≡ 2
+short_long labels e = refl
+
+shorts_long : (labels : List Label) (es : List Expr) → length (flat_map (short_bytes labels) es) ≡ 2 * length es
+shorts_long labels [] = refl
+shorts_long labels (e ∷ es) = omega (arith, length-append (short_bytes labels e) (flat_map (short_bytes labels) es), short_long labels e, shorts_long labels es)
+
 pool_long : (labels : List Label) (ws : List PoolWord) → length (flat_map (λ w. word_bytes labels w.value) ws) ≡ 4 * length ws
 pool_long labels [] = refl
 pool_long labels (w ∷ ws) = omega (arith, length-append (word_bytes labels w.value) (flat_map (λ w. word_bytes labels w.value) ws), word_long labels w.value, pool_long labels ws)
@@ -97,7 +104,9 @@ piece_long site pool statement.Position made bytes is sound all e =
     ∙ ap (λ n. n + length (flat_map (λ w. word_bytes site.labels w.value) pool)) (length-replicate (padding 4 site.at) 0)
     ∙ ap (λ n. padding 4 site.at + n) (pool_long site.labels pool)
 piece_long site pool (statement.Words values) made bytes is sound all e = ap length e ∙ words_long site.labels values
+piece_long site pool (statement.Shorts values) made bytes is sound all e = ap length e ∙ shorts_long site.labels values
 piece_long site pool (statement.Bytes values) made bytes is sound all e = ap length e ∙ length-map values (byte_of site.labels)
 piece_long site pool (statement.Ascii text) made bytes is sound all e = ap length e
 piece_long site pool (statement.Align n) made bytes is sound all e = ap length e ∙ aligned_long (is_alignment n) (padding n site.at)
+piece_long site pool (statement.Space n) made bytes is sound all e = ap length e ∙ aligned_long (is_space n site.at) n
 piece_long site pool _ made bytes is sound all e = ap length e

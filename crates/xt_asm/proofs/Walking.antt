@@ -1,11 +1,13 @@
 -- One line more of a text whose lines are gone through.
-use Rattle.std.proofs.Common.{◌≡◌, ℕ, ℤ, pos, ◌+◌, ◌<◌, ◌≤◌, List, [], ◌∷◌, ◌++◌, Option, None, length, take, drop, get_or, eqb, refl, sym, ap, ◌∙◌, subst, arith}
+use Rattle.std.proofs.Common.{◌≡◌, ℕ, ℤ, pos, ◌+◌, ◌<◌, ◌≤◌, List, [], ◌∷◌, ◌++◌, Option, None, Result, length, take, drop, get_or, eqb, refl, sym, ap, ◌∙◌, subst, arith}
 use Rattle.std.specs.Prelude.{All, map}
 use Rattle.std.specs.List.{prefix_len}
 use Rattle.std.proofs.lemmas.List.{length-take-le, length-map, take_more, take_all}
 use Rattle.std.proofs.lemmas.List.Elements.{All-drop}
 use Rattle.xt_lex.specs.declared.fault.AsmFault.{AsmFault}
 use Rattle.xt_lex.specs.declared.fault.AsmFault.TheVariants as fault
+use Rattle.xt_isa.specs.declared.Insn.{Insn}
+use Rattle.xt_mnemonic.specs.declared.argument.OperandFault.{OperandFault}
 use Rattle.xt_expr.specs.declared.labels.Label.{Label}
 use Rattle.xt_parse.specs.declared.line.Line.{Line}
 use Rattle.xt_pool.specs.declared.word.PoolWord.{PoolWord}
@@ -61,6 +63,14 @@ site_here lines words labels addresses targets k l context d t of lt is labels_i
     ap (λ ls. let s : Site = record { labels = ls; target = context.target; at = context.at } in s) (labels_is ∙ of.labels_are)
     ∙ ap (λ x. let s : Site = record { labels = labels_of lines; target = x; at = context.at } in s) target
     ∙ ap (λ n. let s : Site = record { labels = labels_of lines; target = target_of (words_of lines) (map pos (word_addresses lines)) (open_position (take k lines)) l.statement; at = n } in s) at
+
+-- the fault of a line by its own
+pub own_here : (lines : List Line) (labels : List Label) (addresses : List ℤ) (targets : List (Option ℤ)) (k : ℕ) (l : Line) (context : Context) (made : Option (Result Insn OperandFault)) (d : ℤ) (t : Option ℤ) →
+    AreOf lines (words_of lines) labels addresses targets → k < length lines → l ≡ get_or lines k l → context.labels.now ≡ labels → context.target ≡ get_or targets k t → pos context.at ≡ get_or addresses k d →
+    made ≡ insn_at (site_of context) l.statement → own_fault (site_of context) l made ≡ own_at lines (take k lines) l (drop (k + 1) lines)
+own_here lines labels addresses targets k l context made d t of lt is labels_is target_is at_is made_is =
+    ap (λ m. own_fault (site_of context) l m) made_is
+    ∙ ap (λ s. own_fault s l (insn_at s l.statement)) (site_here lines (words_of lines) labels addresses targets k l context d t of lt is labels_is target_is at_is)
 
 pub source_here : (lines : List Line) (k : ℕ) (l : Line) (context : Context) (pool : List PoolWord) → k < length lines → l ≡ get_or lines k l → site_of context ≡ site_at lines (take k lines) l →
     pool ≡ pool_at (take k lines) l (drop (k + 1) lines) → piece_source context pool l.statement ≡ source_at lines (take k lines) l (drop (k + 1) lines)

@@ -81,7 +81,7 @@ findings_at lines before l rest =
     let made = insn_at site l.statement in
     twice (defines before) (has_entry before) l
     ∷ fails (has_unknown site.labels l.statement) (at_statement l 1)
-    ∷ or_else (is_too_many (segments_in before) l) (fails (has_misfit site.labels l.statement || is_range made) (at_statement l 2))
+    ∷ or_else (is_too_many (segments_in before) l) (fails (has_misfit site l.statement || is_range made) (at_statement l 2))
     ∷ or_else (is_misaligned here l) (fails (is_misaligned_target made) (at_statement l 5))
     ∷ or_else (is_outside (pool_size (words_of lines) (length before)) here l (is_last rest)) (fails (is_stray_entry site.labels l.statement) (at_statement l 6))
     ∷ overlaps (spans_of lines) (segments_in before) l
@@ -123,7 +123,7 @@ faultless lines h =
     record {
       some = counted lines segments;
       few = finds_none_by (kinds_at lines) too_many (λ before l rest at.
-          (both_none (too_many before l rest) (fails (has_misfit (labels_of lines) l.statement || is_range (insn_at (site_at lines before l) l.statement)) (at_statement l 2)) (all_at lines before l rest at).1.1.0).0) [] lines none;
+          (both_none (too_many before l rest) (fails (has_misfit (site_at lines before l) l.statement || is_range (insn_at (site_at lines before l) l.statement)) (at_statement l 2)) (all_at lines before l rest at).1.1.0).0) [] lines none;
       inside = finds_none_by (kinds_at lines) (outside (words_of lines)) (λ before l rest at.
           (both_none (outside (words_of lines) before l rest) (stray (labels_of lines) before l rest) (all_at lines before l rest at).1.1.1.1.0).0) [] lines none;
       apart = finds_none_by (kinds_at lines) (overlapping meet (spans_of lines)) (λ before l rest at. (all_at lines before l rest at).1.1.1.1.1.0) [] lines none;

@@ -63,7 +63,7 @@ LineFault fault.Memory finding = Unit {0}
 -- the first fault of a line that no earlier pass finds, where its instruction is made
 abbrev pub own_fault : Site → Line → Option (Result Insn OperandFault) → Finding
 own_fault site l made = first (fails (has_unknown site.labels l.statement) (at_statement l 1)
-    ∷ fails (has_misfit site.labels l.statement || is_range made) (at_statement l 2)
+    ∷ fails (has_misfit site l.statement || is_range made) (at_statement l 2)
     ∷ fails (is_misaligned_target made) (at_statement l 5)
     ∷ fails (is_stray_entry site.labels l.statement) (at_statement l 6)
     ∷ fails (has_no_word site l.statement || is_out_of_reach made) (at_statement l 3)

@@ -26,7 +26,7 @@ use Rattle.xt_pool.specs.Findings.{Finding, at_statement, fails, first, or_else}
 use Rattle.xt_pool.specs.Pools.{has_no_pool, is_segment, words_of}
 use Rattle.xt_layout.specs.Faults.{defines, has_entry, is_last, is_misaligned, is_outside}
 use Rattle.xt_layout.specs.Faults.{is_too_many, overlaps, segments_in, twice}
-use Rattle.xt_layout.specs.Sizes.{is_alignment, pool_size}
+use Rattle.xt_layout.specs.Sizes.{is_alignment, is_space, pool_size}
 use Rattle.xt_layout.specs.Spans.{spans_of}
 use Rattle.xt_layout.specs.Spots.{spot_at}
 use Rattle.xt_asm.specs.Operands.{Site, insn_at, site_at, special_in}
@@ -47,17 +47,22 @@ abbrev pub has_unknown : List Label → Statement → Bool
 has_unknown labels (statement.Entry e) = is_unknown labels e
 has_unknown labels (statement.Literal name e) = is_unknown labels e
 has_unknown labels (statement.Words values) = list_any (is_unknown labels) values
+has_unknown labels (statement.Shorts values) = list_any (is_unknown labels) values
 has_unknown labels (statement.Bytes values) = list_any (is_unknown labels) values
 has_unknown labels (statement.Insn m operands) =
     list_any (is_unknown_operand labels (access_of m)) operands
 has_unknown labels _ = false
 
--- ---- 2, Range: a value that its bytes cannot hold, an alignment that is none, or an
--- operand outside its row's range
+-- ---- 2, Range: a value that its bytes cannot hold, an alignment that is none, zeros past
+-- FFFFFFFF, or an operand outside its row's range
 
 -- -2^31 to 2^32 - 1
 abbrev pub fits_word : ℤ → Bool
 fits_word v = int_le (pos 0 -ℤ pos (2 ^ 31)) v && int_le v (pos (2 ^ 32 - 1))
+
+-- -32768 to 65535
+abbrev pub fits_short : ℤ → Bool
+fits_short v = int_le (pos 0 -ℤ pos 32768) v && int_le v (pos 65535)
 
 -- -128 to 255
 abbrev pub fits_byte : ℤ → Bool
@@ -72,13 +77,15 @@ abbrev pub misfits_pool : List Label → Operand → Bool
 misfits_pool labels (operand.Pool e) = misfits fits_word labels e
 misfits_pool labels _ = false
 
-abbrev pub has_misfit : List Label → Statement → Bool
-has_misfit labels (statement.Literal name e) = misfits fits_word labels e
-has_misfit labels (statement.Words values) = list_any (misfits fits_word labels) values
-has_misfit labels (statement.Bytes values) = list_any (misfits fits_byte labels) values
-has_misfit labels (statement.Align n) = not (is_alignment n)
-has_misfit labels (statement.Insn name operands) = list_any (misfits_pool labels) operands
-has_misfit labels _ = false
+abbrev pub has_misfit : Site → Statement → Bool
+has_misfit site (statement.Literal name e) = misfits fits_word site.labels e
+has_misfit site (statement.Words values) = list_any (misfits fits_word site.labels) values
+has_misfit site (statement.Shorts values) = list_any (misfits fits_short site.labels) values
+has_misfit site (statement.Bytes values) = list_any (misfits fits_byte site.labels) values
+has_misfit site (statement.Align n) = not (is_alignment n)
+has_misfit site (statement.Space n) = not (is_space n site.at)
+has_misfit site (statement.Insn name operands) = list_any (misfits_pool site.labels) operands
+has_misfit site _ = false
 
 abbrev pub is_range : Option (Result Insn OperandFault) → Bool
 is_range (Some (Err operand_fault.Range)) = true
@@ -125,7 +132,7 @@ kinds_at lines before l rest =
     first (twice (defines before) (has_entry before) l
     ∷ fails (has_unknown site.labels l.statement) (at_statement l 1)
     ∷ or_else (is_too_many (segments_in before) l)
-    (fails (has_misfit site.labels l.statement || is_range made) (at_statement l 2))
+    (fails (has_misfit site l.statement || is_range made) (at_statement l 2))
     ∷ or_else (is_misaligned here l) (fails (is_misaligned_target made) (at_statement l 5))
     ∷ or_else (is_outside (pool_size (words_of lines) (length before)) here l (is_last rest))
     (fails (is_stray_entry site.labels l.statement) (at_statement l 6))

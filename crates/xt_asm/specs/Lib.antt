@@ -6,3 +6,4 @@ pub mod Uses
 pub mod Contexts
 pub mod Walks
 pub mod Laws
+pub mod Maps

@@ -3,7 +3,7 @@
 use Rattle.std.specs.Prelude.{◌^◌, unsigned_abs, if◌then◌else◌, ◌≡◌, ℕ, ◌<◌, ◌++◌, All, ℤ, pos}
 use Rattle.std.specs.Prelude.{List, [], ◌∷◌, length, map, replicate, slice_index_or, flat_map}
 use Rattle.std.specs.Prelude.{Option, Some, unwrap_or, Result, Ok}
-use Rattle.std.specs.Int.{w32, int_rem_euclid, to_le_bytes}
+use Rattle.std.specs.Int.{w16, w32, int_rem_euclid, to_le_bytes}
 use Rattle.xt_isa.specs.declared.Insn.{Insn}
 use Rattle.xt_isa.specs.Spelling.{fields_at, spelled}
 use Rattle.xt_codec.specs.declared.Decoded.TheVariants.{Good}
@@ -18,7 +18,7 @@ use Rattle.xt_parse.specs.declared.statement.Statement.TheVariants as statement
 use Rattle.xt_pool.specs.declared.word.PoolWord.{PoolWord}
 use Rattle.xt_pool.specs.Around.{each}
 use Rattle.xt_pool.specs.Pools.{pool_at, words_of}
-use Rattle.xt_layout.specs.Sizes.{is_alignment, padding, pool_size, size}
+use Rattle.xt_layout.specs.Sizes.{is_alignment, is_space, padding, pool_size, size}
 use Rattle.xt_asm.specs.Operands.{Site, insn_at, site_at}
 
 -- ---- values
@@ -34,6 +34,10 @@ residue v m = unsigned_abs (int_rem_euclid v (pos m))
 -- the four bytes of a value mod 2^32, the least first
 abbrev pub word_bytes : List Label → Expr → List ℕ
 word_bytes labels e = to_le_bytes w32 (residue (value_at labels e) (2 ^ 32))
+
+-- the two bytes of a value mod 2^16, the least first
+abbrev pub short_bytes : List Label → Expr → List ℕ
+short_bytes labels e = to_le_bytes w16 (residue (value_at labels e) (2 ^ 16))
 
 -- a value mod 2^8
 abbrev pub byte_of : List Label → Expr → ℕ
@@ -74,9 +78,11 @@ abbrev pub plain_bytes : Site → List PoolWord → Statement → List ℕ
 plain_bytes site pool statement.Position =
     zeros (padding 4 site.at) ++ flat_map (λ w. word_bytes site.labels w.value) pool
 plain_bytes site pool (statement.Words values) = flat_map (word_bytes site.labels) values
+plain_bytes site pool (statement.Shorts values) = flat_map (short_bytes site.labels) values
 plain_bytes site pool (statement.Bytes values) = map (byte_of site.labels) values
 plain_bytes site pool (statement.Ascii bytes) = bytes
 plain_bytes site pool (statement.Align n) = if is_alignment n then zeros (padding n site.at) else []
+plain_bytes site pool (statement.Space n) = if is_space n site.at then zeros n else []
 plain_bytes site pool _ = []
 
 -- what the statement says, the bytes are

@@ -1,16 +1,19 @@
-//! From a text to its image.
+//! From a text to its image or its map.
 ghost use Rattle.std.specs.Prelude.{◌≡◌, ◌≤◌, length, IfOk};
 ghost use Rattle.xt_lex.specs.Tokens.{tokens_of};
 ghost use Rattle.xt_parse.specs.Lines.{Parses, parsed};
 ghost use Rattle.xt_parse.specs.Small.{IsParsed};
 ghost use Rattle.xt_image.specs.Parts.{IsWellFormed};
 ghost use Rattle.xt_asm.specs.Images.{Assembles};
+ghost use Rattle.xt_asm.specs.Maps.{Maps};
 
 use crate::image::image_of;
+use crate::map::map_of;
 use std::alloc::Global;
 use xt_image::Image;
 use xt_layout::layout;
 use xt_lex::{AsmFault, lex};
+use xt_map::Text;
 use xt_parse::{Lines, parse};
 use xt_pool::place;
 
@@ -41,4 +44,24 @@ pub fn assemble(alloc: Global, text: &[u8]) -> Result<Image, AsmFault>
     let pooled = place(alloc, lines)?;
     let laid = layout(alloc, &pooled)?;
     image_of(alloc, &pooled, &laid)
+}
+
+/// The labels of an assembly text of at most 1,048,576 bytes, or the first fault of the text, as `assemble` has it.
+///
+/// A line `XXXXXXXX NAME` for each label and each name of a `.literal`: the address in eight upper-case hexadecimal digits and
+/// the name, by address and then by the bytes of the name. A text without labels has an empty map.
+pub fn label_map(alloc: Global, text: &[u8]) -> Result<Text, AsmFault>
+    requires { length text.now ≤ 1048576 }
+    ensures { Maps result text.now }
+{
+    let lines = match lines_of(alloc, text) {
+        Ok(lines) => lines,
+        Err(fault) => return Err(fault),
+    };
+    let pooled = place(alloc, lines)?;
+    let laid = layout(alloc, &pooled)?;
+    match image_of(alloc, &pooled, &laid) {
+        Ok(_) => Ok(map_of(alloc, laid.labels())?),
+        Err(fault) => Err(fault),
+    }
 }

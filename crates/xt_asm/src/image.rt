@@ -5,10 +5,9 @@ ghost use Rattle.xt_lex.specs.declared.fault.AsmFault.TheVariants.{Place};
 ghost use Rattle.xt_expr.specs.Values.{HaveAddresses};
 ghost use Rattle.xt_parse.specs.declared.line.Line.{Line};
 ghost use Rattle.xt_parse.specs.Small.{HasShortExprs, IsParsed};
-ghost use Rattle.xt_pool.specs.Findings.{Finding, least};
+ghost use Rattle.xt_pool.specs.Findings.{least};
 ghost use Rattle.xt_layout.specs.Addresses.{labels_of};
 ghost use Rattle.xt_layout.specs.Faults.{HasAddresses, layout_of};
-ghost use Rattle.xt_asm.specs.Contexts.{LineFault};
 ghost use Rattle.xt_asm.specs.Images.{AssemblesLines, Closes, entry_of};
 ghost use Rattle.xt_asm.specs.Kinds.{has_segment, is_code};
 ghost use Rattle.xt_asm.specs.Pieces.{ArePieces, sources_of};
@@ -16,7 +15,7 @@ ghost use Rattle.xt_asm.specs.Walks.{own_first};
 
 use crate::segments::{entry_of, segments_of};
 use crate::targets::targets_of;
-use crate::walk::pieces_of;
+use crate::walk::{first_own_fault, pieces_of};
 use std::alloc::Global;
 use xt_expr::Labels;
 use xt_image::{Image, made_head};
@@ -93,23 +92,13 @@ fn closed_image(
     })
 }
 
-/// The first of two faults, of which the second is there.
-fn first_of(earlier: Option<AsmPlace>, own: AsmPlace) -> AsmPlace
-    ensures { Some result ≡ least earlier (Some own) }
+/// The first of a fault and another that may be there.
+fn sooner(earlier: AsmPlace, own: Option<AsmPlace>) -> AsmPlace
+    ensures { Some result ≡ least (Some earlier) own }
 {
-    match least(earlier, Some(own)) {
+    match least(Some(earlier), own) {
         Some(place) => place,
-        None => own,
-    }
-}
-
-/// The walk's fault, or an earlier one of the passes before it.
-fn sooner(earlier: Option<AsmPlace>, fault: AsmFault) -> AsmFault
-    ensures { (own : Finding) → LineFault fault own → LineFault result (least earlier own) }
-{
-    match fault {
-        AsmFault::Place(own) => AsmFault::Place(first_of(earlier, own)),
-        AsmFault::Memory => AsmFault::Memory,
+        None => earlier,
     }
 }
 
@@ -122,21 +111,17 @@ pub(crate) fn image_of(alloc: Global, pooled: &Pooled, laid: &Laid) -> Result<Im
 {
     let lines = pooled.lines();
     let words = pooled.words();
-    let targets = targets_of(alloc, lines, words, laid.words())?;
-    let earlier = least(pooled.fault(), laid.fault());
     let labels = laid.labels();
-    match pieces_of(
-        alloc,
-        lines,
-        words,
-        labels,
-        laid.lines(),
-        targets.as_slice(),
-    ) {
-        Ok(pieces) => match earlier {
-            Some(place) => Err(AsmFault::Place(place)),
-            None => closed_image(alloc, lines, labels, pieces.as_slice()),
-        },
-        Err(fault) => Err(sooner(earlier, fault)),
+    let addresses = laid.lines();
+    let targets = targets_of(alloc, lines, words, laid.words())?;
+    let targets = targets.as_slice();
+    let earlier = least(pooled.fault(), laid.fault());
+    if let Some(place) = earlier {
+        let own = first_own_fault(alloc, lines, labels, addresses, targets)?;
+        return Err(AsmFault::Place(sooner(place, own)));
+    }
+    match pieces_of(alloc, lines, words, labels, addresses, targets) {
+        Ok(pieces) => closed_image(alloc, lines, labels, pieces.as_slice()),
+        Err(fault) => Err(fault),
     }
 }

@@ -1,15 +1,15 @@
 //! The faults of a line that no earlier pass finds.
-ghost use Rattle.std.specs.Prelude.{◌≡◌, All, Some};
+ghost use Rattle.std.specs.Prelude.{◌≡◌, ◌<◌, ◌^◌, All, Some};
 ghost use Rattle.std.specs.List.{list_any};
 ghost use Rattle.xt_expr.specs.Values.{HaveAddresses};
 ghost use Rattle.xt_parse.specs.Small.{HasShortExprs, IsShort, IsShortOperand};
 ghost use Rattle.xt_pool.specs.Findings.{at_statement};
-ghost use Rattle.xt_asm.specs.Kinds.{fits_byte, fits_word, has_misfit, has_no_word, has_unknown, is_code, is_misaligned_target, is_out_of_reach, is_range, is_stray_entry, is_unknown, is_unknown_operand, lacks_word, misfits, misfits_pool};
+ghost use Rattle.xt_asm.specs.Kinds.{fits_byte, fits_short, fits_word, has_misfit, has_no_word, has_unknown, is_code, is_misaligned_target, is_out_of_reach, is_range, is_stray_entry, is_unknown, is_unknown_operand, lacks_word, misfits, misfits_pool};
 ghost use Rattle.xt_asm.specs.Contexts.{own_fault, site_of};
 
 use crate::operands::{Context, Made, special_in, value_of};
 use xt_expr::{Expr, Labels};
-use xt_layout::is_alignment;
+use xt_layout::{is_alignment, is_space};
 use xt_lex::AsmPlace;
 use xt_map::can_execute_at;
 use xt_mnemonic::OperandFault;
@@ -79,7 +79,7 @@ fn has_unknown(labels: &Labels, statement: &Statement) -> bool
 {
     match statement {
         Statement::Entry(e) | Statement::Literal(_, e) => is_unknown(labels, e),
-        Statement::Words(values) | Statement::Bytes(values) => {
+        Statement::Words(values) | Statement::Shorts(values) | Statement::Bytes(values) => {
             any_unknown(labels, values.as_slice())
         }
         Statement::Insn(mnemonic, operands) => {
@@ -98,6 +98,13 @@ fn fits_word(value: i64) -> bool
     -0x8000_0000 <= value && value <= 0xFFFF_FFFF
 }
 
+/// Whether a value is -32768 to 65535.
+fn fits_short(value: i64) -> bool
+    ensures { result ≡ fits_short value }
+{
+    -0x8000 <= value && value <= 0xFFFF
+}
+
 /// Whether a value is -128 to 255.
 fn fits_byte(value: i64) -> bool
     ensures { result ≡ fits_byte value }
@@ -113,6 +120,18 @@ fn misfits_word(labels: &Labels, e: &Expr) -> bool
 {
     match value_of(labels, e) {
         Some(value) => !fits_word(value),
+        None => false,
+    }
+}
+
+/// Whether the value of an expression is known and no half-word can hold it.
+fn misfits_short(labels: &Labels, e: &Expr) -> bool
+    requires short { IsShort e.now }
+    requires addresses { HaveAddresses labels.now }
+    ensures { result ≡ misfits fits_short labels.now e.now }
+{
+    match value_of(labels, e) {
+        Some(value) => !fits_short(value),
         None => false,
     }
 }
@@ -140,6 +159,20 @@ fn any_misfits_word(labels: &Labels, exprs: &[Expr]) -> bool
             requires short { IsShort e.now }
             requires addresses { HaveAddresses labels.now }
         { misfits_word(labels, e) },
+    )
+}
+
+/// Whether no half-word can hold one of some values.
+fn any_misfits_short(labels: &Labels, exprs: &[Expr]) -> bool
+    requires short { All IsShort exprs.now }
+    requires addresses { HaveAddresses labels.now }
+    ensures { result ≡ list_any (misfits fits_short labels.now) exprs.now }
+{
+    exprs.iter().any(
+        |e|
+            requires short { IsShort e.now }
+            requires addresses { HaveAddresses labels.now }
+        { misfits_short(labels, e) },
     )
 }
 
@@ -183,17 +216,21 @@ fn any_misfits_pool(labels: &Labels, operands: &[Operand]) -> bool
     )
 }
 
-/// Whether a statement has a value that its bytes cannot hold, or an alignment that is none.
-fn has_misfit(labels: &Labels, statement: &Statement) -> bool
+/// Whether a statement has a value that its bytes cannot hold, an alignment that is none, or zeros past FFFFFFFF.
+fn has_misfit(context: &Context<'_>, statement: &Statement) -> bool
     requires short { HasShortExprs statement.now }
-    requires addresses { HaveAddresses labels.now }
-    ensures { result ≡ has_misfit labels.now statement.now }
+    requires addresses { HaveAddresses context.now.labels.now }
+    requires at { context.now.at < 2 ^ 40 }
+    ensures { result ≡ has_misfit (site_of context.now) statement.now }
 {
+    let labels = context.labels;
     match statement {
         Statement::Literal(_, e) => misfits_word(labels, e),
         Statement::Words(values) => any_misfits_word(labels, values.as_slice()),
+        Statement::Shorts(values) => any_misfits_short(labels, values.as_slice()),
         Statement::Bytes(values) => any_misfits_byte(labels, values.as_slice()),
         Statement::Align(n) => !is_alignment(*n),
+        Statement::Space(n) => !is_space(*n, context.at),
         Statement::Insn(_, operands) => any_misfits_pool(labels, operands.as_slice()),
         _ => false,
     }
@@ -298,12 +335,13 @@ fn at_statement(line: &Line, kind: u8) -> Option<AsmPlace>
 pub(crate) fn own_fault(context: &Context<'_>, line: &Line, made: &Made) -> Option<AsmPlace>
     requires short { HasShortExprs line.now.statement }
     requires addresses { HaveAddresses context.now.labels.now }
+    requires at { context.now.at < 2 ^ 40 }
     ensures { result ≡ own_fault (site_of context.now) line.now made.now }
 {
     if has_unknown(context.labels, &line.statement) {
         return at_statement(line, 1);
     }
-    if has_misfit(context.labels, &line.statement) || is_range(made) {
+    if has_misfit(context, &line.statement) || is_range(made) {
         return at_statement(line, 2);
     }
     if is_misaligned_target(made) {

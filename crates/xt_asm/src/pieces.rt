@@ -5,7 +5,7 @@ ghost use Rattle.xt_isa.specs.Ranges.{in_range};
 ghost use Rattle.xt_parse.specs.Small.{HasShortExprs, IsShort};
 ghost use Rattle.xt_layout.specs.Sizes.{padding};
 ghost use Rattle.xt_asm.specs.Operands.{insn_at};
-ghost use Rattle.xt_asm.specs.Pieces.{IsPiece, Spells, StandFor, byte_of, plain_bytes, residue, value_at, word_bytes, zeros};
+ghost use Rattle.xt_asm.specs.Pieces.{IsPiece, Spells, StandFor, byte_of, plain_bytes, residue, short_bytes, value_at, word_bytes, zeros};
 ghost use Rattle.xt_asm.specs.Contexts.{IsShortWord, IsMadeOf, IsWhole, LineFault, own_fault, piece_source, site_of};
 
 use crate::kinds::own_fault;
@@ -14,7 +14,7 @@ use std::alloc::{AllocError, Global};
 use xt_codec::encode;
 use xt_expr::{Expr, Labels};
 use xt_isa::Insn;
-use xt_layout::is_alignment;
+use xt_layout::{is_alignment, is_space};
 use xt_lex::AsmFault;
 use xt_map::Bytes;
 use xt_parse::{Line, Statement};
@@ -35,10 +35,17 @@ fn value_at(labels: &Labels, e: &Expr) -> i64
 }
 
 /// A value mod 2^32.
-fn word_of(value: i64) -> u32
+pub(crate) fn word_of(value: i64) -> u32
     ensures { result ≡ residue value (2 ^ 32) }
 {
     value.rem_euclid(0x1_0000_0000) as u32
+}
+
+/// A value mod 2^16.
+fn short_of(value: i64) -> u16
+    ensures { result ≡ residue value (2 ^ 16) }
+{
+    value.rem_euclid(0x1_0000) as u16
 }
 
 /// A value mod 2^8.
@@ -66,6 +73,18 @@ fn put_words(bytes: &mut Vec<u8>, labels: &Labels, exprs: &[Expr]) -> Result<(),
 {
     for e in exprs {
         put_word(bytes, labels, e)?;
+    }
+    Ok(())
+}
+
+/// Adds the bytes of some half-words.
+fn put_shorts(bytes: &mut Vec<u8>, labels: &Labels, exprs: &[Expr]) -> Result<(), AllocError>
+    requires short { All IsShort exprs.now }
+    requires addresses { HaveAddresses labels.now }
+    ensures { OnOk result (bytes.new.items ≡ bytes.old.items ++ flat_map (short_bytes labels.now) exprs.now) }
+{
+    for e in exprs {
+        bytes.extend_from_slice(&short_of(value_at(labels, e)).to_le_bytes())?;
     }
     Ok(())
 }
@@ -113,6 +132,7 @@ fn plain_bytes(
     requires short { HasShortExprs statement.now }
     requires short_words { All IsShortWord pool.now }
     requires addresses { HaveAddresses context.now.labels.now }
+    requires at { context.now.at < 2 ^ 40 }
     ensures { IfOk result (λ bytes. bytes.items ≡ plain_bytes (site_of context.now) pool.now statement.now) }
 {
     let mut bytes = Vec::new(alloc);
@@ -122,10 +142,14 @@ fn plain_bytes(
             put_pool(&mut bytes, context.labels, pool)?;
         }
         Statement::Words(values) => put_words(&mut bytes, context.labels, values.as_slice())?,
+        Statement::Shorts(values) => put_shorts(&mut bytes, context.labels, values.as_slice())?,
         Statement::Bytes(values) => put_bytes(&mut bytes, context.labels, values.as_slice())?,
         Statement::Ascii(text) => bytes.extend_from_slice(text.as_slice())?,
         Statement::Align(n) if is_alignment(*n) => {
             bytes = zeros_to(alloc, *n as u64, context.at)?;
+        }
+        Statement::Space(n) if is_space(*n, context.at) => {
+            bytes = vec![in alloc; 0u8; *n as usize]?;
         }
         _ => {}
     }
@@ -158,6 +182,7 @@ fn bytes_of(
     requires short { HasShortExprs statement.now }
     requires short_words { All IsShortWord pool.now }
     requires addresses { HaveAddresses context.now.labels.now }
+    requires at { context.now.at < 2 ^ 40 }
     requires made { made.now ≡ insn_at (site_of context.now) statement.now }
     requires sound { IsMadeOf statement.now made.now }
     requires whole { IsWhole statement.now made.now }

@@ -3,13 +3,15 @@ ghost use Rattle.std.specs.Prelude.{◌≡◌, ◌≤◌, ◌<◌, ◌≤ℤ◌,
 ghost use Rattle.std.specs.List.{prefix_len};
 ghost use Rattle.xt_asm.specs.Contexts.{LineFault};
 ghost use Rattle.xt_asm.specs.Pieces.{ArePieces, sources_of};
+ghost use Rattle.xt_pool.specs.Pools.{words_of};
 ghost use Rattle.xt_asm.specs.Walks.{AreOf, own_first};
 
-use crate::operands::Context;
+use crate::kinds::own_fault;
+use crate::operands::{Context, insn_at};
 use crate::pieces::piece_of;
-use std::alloc::Global;
+use std::alloc::{AllocError, Global};
 use xt_expr::Labels;
-use xt_lex::AsmFault;
+use xt_lex::{AsmFault, AsmPlace};
 use xt_map::Bytes;
 use xt_parse::Line;
 use xt_pool::PoolWord;
@@ -44,6 +46,28 @@ fn context_at<'a>(
         target: targets[k],
         at: addresses[k] as u64,
     }
+}
+
+/// The first fault that no earlier pass finds. It makes no bytes, so that a text with a fault takes little memory however
+/// many bytes its lines ask for.
+pub(crate) fn first_own_fault(
+    alloc: Global,
+    lines: &[Line],
+    labels: &Labels,
+    addresses: &[i64],
+    targets: &[Option<i64>],
+) -> Result<Option<AsmPlace>, AllocError>
+    requires { AreOf lines.now (words_of lines.now) labels.now addresses.now targets.now }
+    ensures { IfOk result (λ fault. fault ≡ own_first lines.now) }
+{
+    for (k, line) in lines.iter().enumerate() {
+        let context = context_at(labels, targets, addresses, k);
+        let made = insn_at(alloc, &context, &line.statement)?;
+        if let Some(place) = own_fault(&context, line, &made) {
+            return Ok(Some(place));
+        }
+    }
+    Ok(None)
 }
 
 /// The bytes of each line, or the first fault that no earlier pass finds.

@@ -1,6 +1,5 @@
 -- What the report says of the window handlers and of the frames, beside the headline.
 use Rattle.std.proofs.Common.{◌≡◌, Bool, true, false, None, Option, Some, refl, sym, ◌∙◌, ap}
-use Rattle.std.proofs.lemmas.Bool.{cases_Bool}
 use Rattle.xt_image.specs.declared.image.Image.{Image}
 use Rattle.xt_core.specs.Runs.{code_of}
 use Rattle.xt_handlers.specs.Answers.{handlers_of}

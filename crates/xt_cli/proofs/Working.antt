@@ -47,7 +47,8 @@ refusal_is_fault : (j : Job) (input : List ℕ) (s : Status) → refusal_of j in
 unfolding refusal_of
 refusal_is_fault job.Assemble input s h = mapped status.Asm (λ place. tt) (text_fault input) s h
 refusal_is_fault job.Convert input s h = mapped status.Elf (λ f. tt) (elf_fault input) s h
-refusal_is_fault job.List input s h = mapped status.Image (λ f. tt) (image_fault input) s h
+refusal_is_fault (job.List listing) input s h = mapped status.Image (λ f. tt) (image_fault input) s h
+refusal_is_fault job.Map input s h = mapped status.Asm (λ place. tt) (text_fault input) s h
 refusal_is_fault (job.Check vecbase) input s h = mapped status.Image (λ f. tt) (image_fault input) s h
 refusal_is_fault job.Migrate input s h = mapped status.Recording (λ f. tt) (recording_fault input) s h
 refusal_is_fault (job.Replay commands) input s h = mapped status.Recording (λ f. tt) (recording_fault input) s h
@@ -110,7 +111,8 @@ pub whole_unless : (j : Job) → ((span : Span) → j ≡ job.Trace span → ⊥
 whole_unless (job.Trace span) others = absurd (others span refl)
 whole_unless job.Assemble others = tt
 whole_unless job.Convert others = tt
-whole_unless job.List others = tt
+whole_unless (job.List listing) others = tt
+whole_unless job.Map others = tt
 whole_unless (job.Check vecbase) others = tt
 whole_unless job.Migrate others = tt
 whole_unless (job.Replay commands) others = tt

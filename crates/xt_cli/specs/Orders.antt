@@ -1,6 +1,7 @@
 -- What the words of the command line ask for ('profile'). A word is the list of its bytes.
 use Rattle.std.specs.Prelude.{ℕ, All, List, Option, Some, None, Result, Ok, Err}
 use Rattle.xt_command_line.specs.Arguments.{IsVecbase, script_text_of}
+use Rattle.xt_command_line.specs.Listings.{IsListing}
 use Rattle.xt_command_line.specs.Meaning.{meaning_of}
 use Rattle.xt_command_line.specs.Options.{AreValid}
 use Rattle.xt_command_line.specs.declared.command.Command.{Command}
@@ -30,7 +31,8 @@ replay_order (Ok text) = scripted (script_of text)
 abbrev pub order_by : List (List ℕ) → Result Command Refusal → Result Order Refusal
 order_by words (Ok command.Assemble) = Ok (order.Work job.Assemble)
 order_by words (Ok command.Convert) = Ok (order.Work job.Convert)
-order_by words (Ok command.Disassemble) = Ok (order.Work job.List)
+order_by words (Ok (command.Disassemble listing)) = Ok (order.Work (job.List listing))
+order_by words (Ok command.Map) = Ok (order.Work job.Map)
 order_by words (Ok (command.Check vecbase)) = Ok (order.Work (job.Check vecbase))
 order_by words (Ok command.Migrate) = Ok (order.Work job.Migrate)
 order_by words (Ok command.Replay) = replay_order (script_text_of words)
@@ -49,8 +51,9 @@ order_of words = order_by words (meaning_of words)
 
 -- ---- orders that can be carried out
 
--- the VECBASE of a command is one, and its script can be run
+-- the VECBASE of a command is one, its listing begins at openings, and its script can be run
 abbrev pub IsFit : Job → Type 0
+IsFit (job.List listing) = IsListing listing
 IsFit (job.Check vecbase) = IsVecbase vecbase
 IsFit (job.Replay commands) = All IsInRange commands
 IsFit _ = Unit {0}

@@ -1,5 +1,5 @@
 -- What `gen` writes of the run of the image that is made of a number ('profile').
-use Rattle.std.specs.Prelude.{ℕ, Option, None, List, [], ◌∷◌, ◌++◌, length, codes, false}
+use Rattle.std.specs.Prelude.{ℕ, None, List, [], ◌∷◌, ◌++◌, length, codes, false}
 use Rattle.std.specs.List.{concat}
 use Rattle.std.specs.Fmt.{decimal}
 use Rattle.xt_trace.specs.declared.trace.Trace.{Trace}
@@ -23,6 +23,7 @@ gen_options = record {
   events = false;
   race = false;
   profile = false;
+  seed = None;
 }
 
 -- `gen N`, and `image L`: the length of the image in bytes

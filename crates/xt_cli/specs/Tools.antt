@@ -1,6 +1,6 @@
 -- The commands whose output is a function of their input, and what each status of them says
 -- ('profile').
-use Rattle.std.specs.Prelude.{◌≡◌, ◌≤◌, ◌+◌, ◌⊎◌, ℕ, List, length, Option, Some, None, Result, Ok}
+use Rattle.std.specs.Prelude.{◌≡◌, ◌≤◌, ◌+◌, ◌⊎◌, ℕ, List, length, Option, Some, None, unwrap_or, Result, Ok}
 use Rattle.std.specs.Prelude.{Err}
 use Rattle.std.specs.Io.KnownBytes.{Appends, Keeps}
 use Rattle.xt_io.specs.Causes.{Rose}
@@ -14,7 +14,9 @@ use Rattle.xt_elf.specs.Format.{elf_image}
 use Rattle.xt_elf.specs.Rules.{elf_fault}
 use Rattle.xt_asm.specs.Kinds.{text_fault}
 use Rattle.xt_asm.specs.Images.{IsImageOfText}
+use Rattle.xt_asm.specs.Maps.{IsMapOfText}
 use Rattle.xt_disasm.specs.Listing.{listing_text}
+use Rattle.xt_flow.specs.Printing.{IsFlowText}
 use Rattle.xt_record.specs.Fields.{image_in}
 use Rattle.xt_record.specs.Format.{recording_fault, run_in}
 use Rattle.xt_record.specs.Written.{recording_bytes}
@@ -26,6 +28,8 @@ use Rattle.xt_race.specs.Races.{events_of}
 use Rattle.xt_race.specs.Texts.{IsRaceText}
 use Rattle.xt_profile.specs.Profiled.{profile_of}
 use Rattle.xt_profile.specs.Texts.{profile_text}
+use Rattle.xt_command_line.specs.declared.command.Listing.{Listing}
+use Rattle.xt_command_line.specs.declared.command.Listing.TheVariants as listing
 use Rattle.xt_command_line.specs.declared.command.Span.{Span}
 use Rattle.xt_command_line.specs.declared.command.Refusal.{Refusal}
 use Rattle.xt_command_line.specs.declared.command.Refusal.TheVariants as refusal
@@ -47,7 +51,8 @@ use Rattle.xt_cli.specs.declared.orders.Order.TheVariants as order
 abbrev pub limit_of : Job → ℕ
 limit_of job.Assemble = 1048576
 limit_of job.Convert = 67108864
-limit_of job.List = 8388608
+limit_of (job.List listing) = 8388608
+limit_of job.Map = 1048576
 limit_of (job.Check vecbase) = 8388608
 limit_of job.Migrate = 201326592
 limit_of (job.Replay commands) = 201326592
@@ -61,7 +66,8 @@ limit_of job.Profile = 201326592
 unfoldable pub refusal_of : Job → List ℕ → Option Status
 refusal_of job.Assemble input = option_map status.Asm (text_fault input)
 refusal_of job.Convert input = option_map status.Elf (elf_fault input)
-refusal_of job.List input = option_map status.Image (image_fault input)
+refusal_of (job.List listing) input = option_map status.Image (image_fault input)
+refusal_of job.Map input = option_map status.Asm (text_fault input)
 refusal_of (job.Check vecbase) input = option_map status.Image (image_fault input)
 refusal_of job.Migrate input = option_map status.Recording (recording_fault input)
 refusal_of (job.Replay commands) input = option_map status.Recording (recording_fault input)
@@ -69,6 +75,14 @@ refusal_of job.Events input = option_map status.Recording (recording_fault input
 refusal_of (job.Trace span) input = option_map status.Recording (recording_fault input)
 refusal_of job.Race input = option_map status.Recording (recording_fault input)
 refusal_of job.Profile input = option_map status.Recording (recording_fault input)
+
+-- the listing of an image: each executable segment from its first byte on, or what control reaches
+-- from the image's entry, that of core 1, which is the image's where the words say none, and the
+-- vectors
+abbrev pub IsListed : Listing → Image → List ℕ → Type 0
+IsListed listing.Sweep image bytes = bytes ≡ listing_text image
+IsListed (listing.Flow o) image bytes =
+    IsFlowText image o.vecbase (unwrap_or o.entry1 image.entry) bytes
 
 -- the recording, in version 2, of the run that a recording holds
 unfoldable pub migrated : List ℕ → List ℕ
@@ -99,7 +113,8 @@ abbrev pub IsWritten : Job → List ℕ → List ℕ → Type 0
 IsWritten job.Assemble input bytes =
     (image : Image) × IsImageOfText input image × (bytes ≡ image_bytes image)
 IsWritten job.Convert input bytes = bytes ≡ image_bytes (elf_image input)
-IsWritten job.List input bytes = bytes ≡ listing_text (image_of input)
+IsWritten (job.List listing) input bytes = IsListed listing (image_of input) bytes
+IsWritten job.Map input bytes = IsMapOfText input bytes
 IsWritten (job.Check vecbase) input bytes = bytes ≡ check_text (image_of input) vecbase
 IsWritten job.Migrate input bytes = bytes ≡ migrated input
 IsWritten (job.Replay commands) input bytes = bytes ≡ replayed commands input

@@ -9,6 +9,7 @@ use Rattle.xt_image.specs.Format.{image_of}
 use Rattle.xt_trace.specs.declared.options.Options.{Options}
 use Rattle.xt_trace.specs.declared.run.Run.{Run}
 use Rattle.xt_gen.specs.Generated.{generated}
+use Rattle.xt_gen.specs.Orders.{seeded_order}
 use Rattle.xt_core.specs.Runs.{IsRunOf, code_of, records_of}
 use Rattle.xt_machine.specs.Lists.{run_of_list, schedule_in}
 use Rattle.xt_frames.specs.declared.kinds.Judged.TheVariants as judged
@@ -48,6 +49,12 @@ options_for o image = with_entry o image.entry
 unfoldable pub run_of_its_schedule : RunOptions → Image → Run → Run
 run_of_its_schedule o image run = run_of_list image (options_for o image) (schedule_in run)
 
+-- where the words give a seed, the run is that of the list of cores that the seed makes
+abbrev pub IsOrdered : Option ℕ → RunOptions → Image → Run → Type 0
+IsOrdered None o image run = Unit {0}
+IsOrdered (Some seed) o image run =
+    run ≡ run_of_list image (options_for o image) (seeded_order seed (o.turns0 + o.turns1))
+
 -- This is a run of the image with the options of the words. It is, in its history and in
 -- its traces' counts, places, stops and last program counters, the run of the schedule
 -- read from its own history.
@@ -58,6 +65,7 @@ pub record IsRunOfImage (o : RunOptions) (image : Image) (run : Run) : Type 0 wh
   -- where the six answers for the window handlers are `yes` and the two stacks are apart, it is a
   -- run of the machine with unbounded call frames, up to the first breach of the stack discipline
   pub framed : IsFramed image run
+  pub ordered : IsOrdered o.seed o image run
 
 -- What is found of a run of the image: the answers for the image's window handlers are those of the
 -- six vectors from the VECBASE on with which the run opens, and the verdict is that of the run's

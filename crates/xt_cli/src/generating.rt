@@ -42,6 +42,7 @@ fn gen_options() -> RunOptions
         events: false,
         race: false,
         profile: false,
+        seed: None,
     }
 }
 

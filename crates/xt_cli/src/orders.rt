@@ -54,7 +54,8 @@ pub(crate) fn order_in(alloc: Global, words: &[String]) -> Result<Order, Refusal
     match meaning(alloc, words) {
         Ok(Command::Assemble) => Ok(Order::Work(Job::Assemble)),
         Ok(Command::Convert) => Ok(Order::Work(Job::Convert)),
-        Ok(Command::Disassemble) => Ok(Order::Work(Job::List)),
+        Ok(Command::Disassemble(listing)) => Ok(Order::Work(Job::List(listing))),
+        Ok(Command::Map) => Ok(Order::Work(Job::Map)),
         Ok(Command::Check(vecbase)) => Ok(Order::Work(Job::Check(vecbase))),
         Ok(Command::Migrate) => Ok(Order::Work(Job::Migrate)),
         Ok(Command::Replay) => replay_order(alloc, words),

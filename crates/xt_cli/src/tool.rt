@@ -7,19 +7,20 @@ ghost use Rattle.xt_image.specs.Rules.{image_fault};
 ghost use Rattle.xt_cli.specs.Calls.{ends};
 ghost use Rattle.xt_cli.specs.Orders.{IsFit, order_of};
 ghost use Rattle.xt_cli.specs.Puts.{IsWhole, Puts, status_after};
-ghost use Rattle.xt_cli.specs.Tools.{Answers, Finishes, IsComplete, IsMade, Makes, limit_of, refusal_of, status_of};
+ghost use Rattle.xt_cli.specs.Tools.{Answers, Finishes, IsComplete, IsListed, IsMade, Makes, limit_of, refusal_of, status_of};
 
 use crate::checks::check_text;
 use crate::orders::{Order, order_in};
 use crate::output::write_text;
 use crate::recordings::{RECORDING_LIMIT, events, migrate, profile, race, replay, trace};
 use crate::status::Status;
-use std::alloc::Global;
-use xt_asm::assemble;
-use xt_command_line::{Refusal, Span};
+use std::alloc::{AllocError, Global};
+use xt_asm::{assemble, label_map};
+use xt_command_line::{Listing, Refusal, Span};
 use xt_debug::Script;
 use xt_disasm::listing;
 use xt_elf::{ElfFault, from_elf};
+use xt_flow::flow_listing;
 use xt_image::{Image, ImageFault, read, write};
 use xt_io::{ReadError, Refused, Sink, Source, read_to_limit};
 use xt_lex::AsmFault;
@@ -41,8 +42,10 @@ pub enum Job {
     Assemble,
     /// `elf`: the image of an ELF executable.
     Convert,
-    /// `dis`: an image's listing.
-    List,
+    /// `dis`: an image's listing, in this way.
+    List(Listing),
+    /// `map`: the labels of an assembly text.
+    Map,
     /// `check`: what an image holds, with its window handlers from this VECBASE on.
     Check(u32),
     /// `migrate`: a recording in version 2.
@@ -94,9 +97,9 @@ fn limit_of(job: &Job) -> usize
     ensures { result ≡ limit_of job.now }
 {
     match job {
-        Job::Assemble => TEXT_LIMIT,
+        Job::Assemble | Job::Map => TEXT_LIMIT,
         Job::Convert => ELF_LIMIT,
-        Job::List | Job::Check(_) => IMAGE_LIMIT,
+        Job::List(_) | Job::Check(_) => IMAGE_LIMIT,
         Job::Migrate | Job::Replay(_) | Job::Events | Job::Trace(_) | Job::Race | Job::Profile =>
             RECORDING_LIMIT,
     }
@@ -117,6 +120,20 @@ fn image_file(alloc: Global, input: &[u8]) -> Result<Text, Status>
     match write(alloc, &image) {
         Ok(bytes) => Ok(Text::new(bytes.into_vec())),
         Err(_) => Err(Status::Memory),
+    }
+}
+
+// The map of a text, or the status of the text's first fault.
+#[tactic(auto, unfolding(crate::specs::Tools::refusal_of))]
+fn map_text(alloc: Global, input: &[u8]) -> Result<Text, Status>
+    requires { length input.now ≤ 1048576 }
+    ensures ok { IfOk result (λ bytes. IsMade Job.Map input.now bytes) }
+    ensures refused { IfErr result (λ status. status ≢ Status.Memory → refusal_of Job.Map input.now ≡ Some status) }
+{
+    match label_map(alloc, input) {
+        Ok(map) => Ok(map),
+        Err(AsmFault::Place(place)) => Err(Status::Asm(place)),
+        Err(AsmFault::Memory) => Err(Status::Memory),
     }
 }
 
@@ -152,15 +169,29 @@ pub(crate) fn image_in(alloc: Global, input: &[u8]) -> Result<Image, Status>
     }
 }
 
+// The listing of an image.
+fn listed(alloc: Global, way: Listing, image: &Image) -> Result<Text, AllocError>
+    requires { IsWellFormed image.now }
+    ensures { IfOk result (λ text. IsListed way image.now text) }
+{
+    match way {
+        Listing::Sweep => listing(alloc, image),
+        Listing::Flow(from) => {
+            let entry1 = from.entry1.unwrap_or(image.entry);
+            flow_listing(alloc, image, from.vecbase, entry1)
+        }
+    }
+}
+
 // An image's listing.
 #[tactic(auto, unfolding(crate::specs::Tools::refusal_of))]
-fn list(alloc: Global, input: &[u8]) -> Result<Text, Status>
+fn list(alloc: Global, way: Listing, input: &[u8]) -> Result<Text, Status>
     requires { length input.now ≤ 8388608 }
-    ensures ok { IfOk result (λ bytes. IsMade Job.List input.now bytes) }
-    ensures refused { IfErr result (λ status. status ≢ Status.Memory → refusal_of Job.List input.now ≡ Some status) }
+    ensures ok { IfOk result (λ bytes. IsMade (Job.List way) input.now bytes) }
+    ensures refused { IfErr result (λ status. status ≢ Status.Memory → refusal_of (Job.List way) input.now ≡ Some status) }
 {
     let image = image_in(alloc, input)?;
-    listing(alloc, &image).map_err(|_| Status::Memory)
+    listed(alloc, way, &image).map_err(|_| Status::Memory)
 }
 
 // What an image holds.
@@ -186,7 +217,8 @@ fn make(alloc: Global, job: &Job, input: &[u8]) -> Result<Text, Status>
     match job {
         Job::Assemble => image_file(alloc, input),
         Job::Convert => converted_file(alloc, input),
-        Job::List => list(alloc, input),
+        Job::List(way) => list(alloc, *way, input),
+        Job::Map => map_text(alloc, input),
         Job::Check(vecbase) => check(alloc, *vecbase, input),
         Job::Migrate => migrate(alloc, input),
         Job::Replay(script) => replay(alloc, script, input),
@@ -238,7 +270,7 @@ pub(crate) fn work<S: Source, K: Sink>(
 }
 
 /// What the program does with the words after its name, a source and a sink, where it needs no
-/// thread: it answers every word that has no meaning, and does the work of `asm`, `elf`, `dis`, `check`,
+/// thread: it answers every word that has no meaning, and does the work of `asm`, `elf`, `dis`, `map`, `check`,
 /// `migrate`, `replay`, `events`, `trace`, `race` and `profile`. It waits for nobody and returns.
 ///
 /// Words that ask for `run`, `record` or `gen` are handed back as `Threaded`, and nothing was then read or

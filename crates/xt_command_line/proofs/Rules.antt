@@ -6,22 +6,26 @@ use Rattle.clap.specs.Words.{Row, Text, first_of}
 use Rattle.xt_map.specs.Regions.{region_of, is_executable}
 use Rattle.xt_trace.specs.Validity.{IsValid, IsValidStack, most_turns}
 use Rattle.xt_trace.specs.declared.options.Stack.{Stack}
-use Rattle.xt_command_line.specs.Options.{AcceptsValid, OptionsNeedNoMemory, by_rows, first_broken, is_entry, is_stack, judged, options_in, record_app, record_options_of, run_app, run_options_of, said_or, texts_of, unless_broken}
+use Rattle.xt_command_line.specs.Options.{AcceptsValid, OptionsNeedNoMemory, by_rows, first_broken, is_entry, is_set, is_stack, judged, options_in, record_app, record_options_of, run_app, run_options_of, said_or, texts_of, unless_broken}
 use Rattle.xt_command_line.specs.Arguments.{check_app, gen_app, generator_number_of, judged_number, judged_vecbase, number_by, number_in, span_by, span_of, spanned, trace_app, vecbase_by, vecbase_of}
-use Rattle.xt_command_line.specs.Meaning.{NeedsNoMemory, command_with, meaning_by, named, without_options}
+use Rattle.xt_command_line.specs.Answers.{answer_with}
+use Rattle.xt_command_line.specs.Listings.{dis_app, judged_openings, listing_by, listing_in, listing_of, openings_in}
+use Rattle.xt_command_line.specs.Meaning.{NeedsNoMemory, meaning_by, named, without_options}
 use Rattle.xt_command_line.specs.Numbers.{number_of}
 use Rattle.xt_command_line.specs.Simple.{rows_by}
 use Rattle.xt_command_line.specs.declared.command.Command.{Command}
 use Rattle.xt_command_line.specs.declared.command.Command.TheVariants as command
+use Rattle.xt_command_line.specs.declared.command.Listing.TheVariants as listing
 use Rattle.xt_command_line.specs.declared.command.Name.{Name}
 use Rattle.xt_command_line.specs.declared.command.Name.TheVariants as name
+use Rattle.xt_command_line.specs.declared.command.Openings.{Openings}
 use Rattle.xt_command_line.specs.declared.command.Refusal.{Refusal}
 use Rattle.xt_command_line.specs.declared.command.Refusal.TheVariants as refusal
 use Rattle.xt_command_line.specs.declared.options.RunOptions.{RunOptions}
 
 -- ---- running out of memory
 
-unless_broken-answers : (rule : Option ℕ) (o : RunOptions) → unless_broken rule o ≢ Err refusal.Memory
+unless_broken-answers : {A : Type 0} (rule : Option ℕ) (o : A) → unless_broken rule o ≢ Err refusal.Memory
 unless_broken-answers None o = λ e. search (rules, e)
 unless_broken-answers (Some rule) o = λ e. search (rules, e)
 
@@ -65,9 +69,23 @@ span_by-answers : (rows : Option (List Row)) → span_by rows ≢ Err refusal.Me
 span_by-answers None = λ e. search (rules, e)
 span_by-answers (Some rows) = spanned-answers (said_or number_of 0 (first_of (codes "from") rows)) (said_or number_of 0xFFFFFFFF (first_of (codes "to") rows))
 
-command_with-answers : {A : Type 0} (make : A → Command) (r : Result A Refusal) → r ≢ Err refusal.Memory → command_with make r ≢ Err refusal.Memory
-command_with-answers make (Ok o) no_memory = λ e. search (rules, e)
-command_with-answers make (Err r) no_memory = λ e. no_memory (cc)
+answer_with-answers : {A B : Type 0} (make : A → B) (r : Result A Refusal) → r ≢ Err refusal.Memory → answer_with make r ≢ Err refusal.Memory
+answer_with-answers make (Ok o) no_memory = λ e. search (rules, e)
+answer_with-answers make (Err r) no_memory = λ e. no_memory (cc)
+
+judged_openings-answers : (o : Option Openings) → judged_openings o ≢ Err refusal.Memory
+judged_openings-answers None = λ e. search (rules, e)
+judged_openings-answers (Some o) = unless_broken-answers _ o
+
+listing_in-answers : (flow : Bool) (vecbase entry1 : Option Text) → listing_in flow vecbase entry1 ≢ Err refusal.Memory
+listing_in-answers true vecbase entry1 = answer_with-answers listing.Flow (judged_openings (openings_in vecbase entry1)) (judged_openings-answers (openings_in vecbase entry1))
+listing_in-answers false None None = λ e. search (rules, e)
+listing_in-answers false None (Some entry1) = λ e. search (rules, e)
+listing_in-answers false (Some vecbase) entry1 = λ e. search (rules, e)
+
+listing_by-answers : (rows : Option (List Row)) → listing_by rows ≢ Err refusal.Memory
+listing_by-answers None = λ e. search (rules, e)
+listing_by-answers (Some rows) = listing_in-answers (is_set (first_of (codes "flow") rows)) (first_of (codes "vecbase") rows) (first_of (codes "entry1") rows)
 
 without_options-answers : (c : Command) (rows : Option (List Row)) → without_options c rows ≢ Err refusal.Memory
 without_options-answers c None = λ e. search (rules, e)
@@ -77,17 +95,18 @@ meaning_by-answers : (named : Option Name) (words : List Text) → meaning_by na
 meaning_by-answers None words = λ e. search (rules, e)
 meaning_by-answers (Some name.Assemble) words = without_options-answers _ _
 meaning_by-answers (Some name.Convert) words = without_options-answers _ _
-meaning_by-answers (Some name.Disassemble) words = without_options-answers _ _
-meaning_by-answers (Some name.Check) words = command_with-answers command.Check (vecbase_of words) (vecbase_by-answers (rows_by check_app words))
-meaning_by-answers (Some name.Run) words = command_with-answers command.Run (run_options_of words) (need_no_memory words).0
-meaning_by-answers (Some name.Record) words = command_with-answers command.Record (record_options_of words) (need_no_memory words).1
+meaning_by-answers (Some name.Disassemble) words = answer_with-answers command.Disassemble (listing_of words) (listing_by-answers (rows_by dis_app words))
+meaning_by-answers (Some name.Map) words = without_options-answers _ _
+meaning_by-answers (Some name.Check) words = answer_with-answers command.Check (vecbase_of words) (vecbase_by-answers (rows_by check_app words))
+meaning_by-answers (Some name.Run) words = answer_with-answers command.Run (run_options_of words) (need_no_memory words).0
+meaning_by-answers (Some name.Record) words = answer_with-answers command.Record (record_options_of words) (need_no_memory words).1
 meaning_by-answers (Some name.Replay) words = λ e. search (rules, e)
 meaning_by-answers (Some name.Migrate) words = without_options-answers _ _
 meaning_by-answers (Some name.Events) words = without_options-answers _ _
 meaning_by-answers (Some name.Race) words = without_options-answers _ _
 meaning_by-answers (Some name.Profile) words = without_options-answers _ _
-meaning_by-answers (Some name.Trace) words = command_with-answers command.Trace (span_of words) (span_by-answers (rows_by trace_app words))
-meaning_by-answers (Some name.Generate) words = command_with-answers command.Generate (generator_number_of words) (number_by-answers (rows_by gen_app words))
+meaning_by-answers (Some name.Trace) words = answer_with-answers command.Trace (span_of words) (span_by-answers (rows_by trace_app words))
+meaning_by-answers (Some name.Generate) words = answer_with-answers command.Generate (generator_number_of words) (number_by-answers (rows_by gen_app words))
 
 pub meaning_needs_none : NeedsNoMemory
 meaning_needs_none [] = λ e. search (rules, e)

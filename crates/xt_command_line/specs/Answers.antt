@@ -3,6 +3,11 @@ use Rattle.std.specs.Prelude.{◌≡◌, Result, Ok, Err}
 use Rattle.xt_command_line.specs.declared.command.Refusal.{Refusal}
 use Rattle.xt_command_line.specs.declared.command.Refusal.TheVariants as refusal
 
+-- what is made of an answer, or the same refusal
+abbrev pub answer_with : {A B : Type 0} → (A → B) → Result A Refusal → Result B Refusal
+answer_with make (Ok answer) = Ok (make answer)
+answer_with make (Err r) = Err r
+
 -- what was answered is the meaning, unless memory ran out
 abbrev pub Means : {A : Type 0} → Result A Refusal → Result A Refusal → Type 0
 Means (Err refusal.Memory) meant = Unit {0}

@@ -5,8 +5,10 @@ use Rattle.std.specs.Prelude.{if◌then◌else◌, codes}
 use Rattle.std.specs.Str.{bytes_eq}
 use Rattle.clap.specs.Words.{Row, Text, new_app}
 use Rattle.xt_command_line.specs.Simple.{rows_by}
+use Rattle.xt_command_line.specs.Answers.{answer_with}
 use Rattle.xt_command_line.specs.Options.{AreValid, record_options_of, run_options_of}
 use Rattle.xt_command_line.specs.Arguments.{IsVecbase, generator_number_of, span_of, vecbase_of}
+use Rattle.xt_command_line.specs.Listings.{IsListing, listing_of}
 use Rattle.xt_command_line.specs.declared.command.Command.{Command}
 use Rattle.xt_command_line.specs.declared.command.Command.TheVariants as command
 use Rattle.xt_command_line.specs.declared.command.Refusal.{Refusal}
@@ -20,6 +22,7 @@ names =
     (codes "asm", name.Assemble)
     ∷ (codes "elf", name.Convert)
     ∷ (codes "dis", name.Disassemble)
+    ∷ (codes "map", name.Map)
     ∷ (codes "check", name.Check)
     ∷ (codes "run", name.Run)
     ∷ (codes "record", name.Record)
@@ -46,24 +49,23 @@ without_options command (Some rows) = Ok command
 without_options command None = Err (refusal.Usage 3)
 
 -- a command with what its words say, or the rule of usage that they break
-abbrev pub command_with : {A : Type 0} → (A → Command) → Result A Refusal → Result Command Refusal
-command_with make (Ok said) = Ok (make said)
-command_with make (Err refusal) = Err refusal
+abbrev pub dis_meaning_of : List Text → Result Command Refusal
+dis_meaning_of words = answer_with command.Disassemble (listing_of words)
 
 abbrev pub check_meaning_of : List Text → Result Command Refusal
-check_meaning_of words = command_with command.Check (vecbase_of words)
+check_meaning_of words = answer_with command.Check (vecbase_of words)
 
 abbrev pub run_meaning_of : List Text → Result Command Refusal
-run_meaning_of words = command_with command.Run (run_options_of words)
+run_meaning_of words = answer_with command.Run (run_options_of words)
 
 abbrev pub record_meaning_of : List Text → Result Command Refusal
-record_meaning_of words = command_with command.Record (record_options_of words)
+record_meaning_of words = answer_with command.Record (record_options_of words)
 
 abbrev pub gen_meaning_of : List Text → Result Command Refusal
-gen_meaning_of words = command_with command.Generate (generator_number_of words)
+gen_meaning_of words = answer_with command.Generate (generator_number_of words)
 
 abbrev pub trace_meaning_of : List Text → Result Command Refusal
-trace_meaning_of words = command_with command.Trace (span_of words)
+trace_meaning_of words = answer_with command.Trace (span_of words)
 
 abbrev pub meaning_by : Option Name → List Text → Result Command Refusal
 meaning_by None words = Err (refusal.Usage 2)
@@ -71,8 +73,9 @@ meaning_by (Some name.Assemble) words =
     without_options command.Assemble (rows_by (new_app (codes "asm")) words)
 meaning_by (Some name.Convert) words =
     without_options command.Convert (rows_by (new_app (codes "elf")) words)
-meaning_by (Some name.Disassemble) words =
-    without_options command.Disassemble (rows_by (new_app (codes "dis")) words)
+meaning_by (Some name.Disassemble) words = dis_meaning_of words
+meaning_by (Some name.Map) words =
+    without_options command.Map (rows_by (new_app (codes "map")) words)
 meaning_by (Some name.Check) words = check_meaning_of words
 meaning_by (Some name.Run) words = run_meaning_of words
 meaning_by (Some name.Record) words = record_meaning_of words
@@ -94,8 +97,9 @@ abbrev pub meaning_of : List Text → Result Command Refusal
 meaning_of [] = Err (refusal.Usage 1)
 meaning_of (word ∷ rest) = meaning_by (named word) (word ∷ rest)
 
--- the options of a command are valid for a run, and its VECBASE is one
+-- the options of a command are valid for a run, or for a listing, and its VECBASE is one
 abbrev pub HasValidOptions : Command → Type 0
+HasValidOptions (command.Disassemble listing) = IsListing listing
 HasValidOptions (command.Check vecbase) = IsVecbase vecbase
 HasValidOptions (command.Run options) = AreValid options
 HasValidOptions (command.Record options) = AreValid options
@@ -106,6 +110,7 @@ abbrev pub TakesMemory : Option Name → Type 0
 TakesMemory (Some name.Assemble) = Unit {0}
 TakesMemory (Some name.Convert) = Unit {0}
 TakesMemory (Some name.Disassemble) = Unit {0}
+TakesMemory (Some name.Map) = Unit {0}
 TakesMemory (Some name.Check) = Unit {0}
 TakesMemory (Some name.Run) = Unit {0}
 TakesMemory (Some name.Record) = Unit {0}

@@ -34,10 +34,11 @@ abbrev pub with_flag : App → Text → App
 with_flag app name = with_rule app (flag_rule name)
 
 -- [--turns0 N] [--turns1 N] [--entry1 N] [--vecbase N] [--stack0 LO:HI] [--stack1 LO:HI]
+-- [--seed N]
 abbrev pub option_names : List Text
 option_names =
     codes "turns0" ∷ codes "turns1" ∷ codes "entry1"
-    ∷ codes "vecbase" ∷ codes "stack0" ∷ codes "stack1" ∷ []
+    ∷ codes "vecbase" ∷ codes "stack0" ∷ codes "stack1" ∷ codes "seed" ∷ []
 
 abbrev pub record_app : App
 record_app = fold with_option (new_app (codes "record")) option_names
@@ -59,6 +60,7 @@ pub record Texts : Type 0 where
   pub vecbase : Option Text
   pub stack0 : Option Text
   pub stack1 : Option Text
+  pub seed : Option Text
   pub trace : Bool
   pub events : Bool
   pub race : Bool
@@ -76,6 +78,7 @@ texts_of rows = record {
   vecbase = first_of (codes "vecbase") rows;
   stack0 = first_of (codes "stack0") rows;
   stack1 = first_of (codes "stack1") rows;
+  seed = first_of (codes "seed") rows;
   trace = is_set (first_of (codes "trace") rows);
   events = is_set (first_of (codes "events") rows);
   race = is_set (first_of (codes "race") rows);
@@ -103,14 +106,17 @@ abbrev pub said_or : {A : Type 0} → (Text → Option A) → A → Option Text 
 said_or say default None = Some default
 said_or say default (Some text) = say text
 
-abbrev pub address_of : Text → Option (Option ℕ)
-address_of text = option_map Some (number_of text)
+-- the number of a text that is given
+abbrev pub given_number_of : Text → Option (Option ℕ)
+given_number_of text = option_map Some (number_of text)
 
 -- the options of these numbers and ranges, where each is there, with the flags as they were given
 abbrev pub made :
     Texts → Option ℕ → Option ℕ → Option (Option ℕ) → Option ℕ → Option Stack → Option Stack
-    → Option RunOptions
-made t (Some turns0) (Some turns1) (Some entry1) (Some vecbase) (Some stack0) (Some stack1) =
+    → Option (Option ℕ) → Option RunOptions
+made
+    t (Some turns0) (Some turns1) (Some entry1) (Some vecbase) (Some stack0) (Some stack1)
+    (Some seed) =
     Some (record {
       turns0 = turns0;
       turns1 = turns1;
@@ -118,12 +124,13 @@ made t (Some turns0) (Some turns1) (Some entry1) (Some vecbase) (Some stack0) (S
       vecbase = vecbase;
       stack0 = stack0;
       stack1 = stack1;
+      seed = seed;
       trace = t.trace;
       events = t.events;
       race = t.race;
       profile = t.profile;
     })
-made t _ _ _ _ _ _ = None
+made t _ _ _ _ _ _ _ = None
 
 -- the options that the texts say, each with its default, or none where a text is no number or no
 -- range
@@ -131,10 +138,11 @@ abbrev pub options_in : Texts → Option RunOptions
 options_in t = made t
     (said_or number_of 100000 t.turns0)
     (said_or number_of 100000 t.turns1)
-    (said_or address_of None t.entry1)
+    (said_or given_number_of None t.entry1)
     (said_or number_of 0x40080000 t.vecbase)
     (said_or range_of (record { lo = 0x3FFF0000; hi = 0x3FFF8000 }) t.stack0)
     (said_or range_of (record { lo = 0x3FFF8000; hi = 0x40000000 }) t.stack1)
+    (said_or given_number_of None t.seed)
 
 -- ---- the rules of usage that options break
 
@@ -163,9 +171,9 @@ abbrev pub first_broken : List (ℕ × Bool) → Option ℕ
 first_broken [] = None
 first_broken (rule ∷ rest) = if rule.1 then first_broken rest else Some rule.0
 
-abbrev pub unless_broken : Option ℕ → RunOptions → Result RunOptions Refusal
-unless_broken None o = Ok o
-unless_broken (Some rule) o = Err (refusal.Usage rule)
+abbrev pub unless_broken : {A : Type 0} → Option ℕ → A → Result A Refusal
+unless_broken None answer = Ok answer
+unless_broken (Some rule) answer = Err (refusal.Usage rule)
 
 abbrev pub checked : RunOptions → Result RunOptions Refusal
 checked o = unless_broken (first_broken (limits o)) o

@@ -12,6 +12,7 @@ texts_in t = record {
   vecbase = option_map (λ s. s.now) t.vecbase;
   stack0 = option_map (λ s. s.now) t.stack0;
   stack1 = option_map (λ s. s.now) t.stack1;
+  seed = option_map (λ s. s.now) t.seed;
   trace = t.trace;
   events = t.events;
   race = t.race;

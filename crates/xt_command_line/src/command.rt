@@ -13,6 +13,24 @@ pub struct Span {
     pub to: u32,
 }
 
+/// Where control begins in an image, beside its entry.
+#[derive(Clone, Copy, Debug, PartialEq, Eq)]
+pub struct Openings {
+    /// VECBASE, the address where the vectors of both cores begin (`--vecbase`), a multiple of 1024.
+    pub vecbase: u32,
+    /// The address where core 1 begins (`--entry1`), in an executable region; none stands for the image's entry.
+    pub entry1: Option<u32>,
+}
+
+/// Which bytes of an image a listing takes as instructions.
+#[derive(Clone, Copy, Debug, PartialEq, Eq)]
+pub enum Listing {
+    /// Every executable segment from its first byte on.
+    Sweep,
+    /// What control reaches, from these openings on (`--flow`).
+    Flow(Openings),
+}
+
 /// A command with its options.
 #[derive(Clone, Copy, Debug, PartialEq, Eq)]
 pub enum Command {
@@ -20,8 +38,10 @@ pub enum Command {
     Assemble,
     /// `elf`: makes an image of an ELF executable.
     Convert,
-    /// `dis`: lists an image.
-    Disassemble,
+    /// `dis`: lists an image, in this way.
+    Disassemble(Listing),
+    /// `map`: lists the labels of an assembly text.
+    Map,
     /// `check`: checks an image, and its window handlers from this VECBASE on.
     Check(u32),
     /// `run`: runs an image, with these options.
@@ -49,8 +69,8 @@ pub enum Command {
 pub enum Refusal {
     /// The number of the first rule of usage that the words break:
     /// 1 there is no word, 2 the command is unknown, 3 the further words do not match what the command takes, 4 to 8 a
-    /// text of theirs is refused (`run_options`, `check_vecbase`, `trace_span` and `generator_number` say which is
-    /// which). Further numbers are those of callers.
+    /// text of theirs is refused (`run_options`, `listing`, `check_vecbase`, `trace_span` and `generator_number` say
+    /// which is which). Further numbers are those of callers.
     Usage(u8),
     /// Memory ran out while the words were read.
     Memory,
@@ -73,6 +93,8 @@ pub enum Name {
     Convert,
     /// `dis`
     Disassemble,
+    /// `map`
+    Map,
     /// `check`
     Check,
     /// `run`

@@ -7,6 +7,7 @@
 mod arguments;
 mod command;
 mod laws;
+mod listings;
 mod numbers;
 mod option_commands;
 mod option_words;
@@ -15,8 +16,9 @@ mod simple;
 mod words;
 
 pub use arguments::{check_vecbase, generator_number, script_text, trace_span};
-pub use command::{Command, Refusal, Span};
+pub use command::{Command, Listing, Openings, Refusal, Span};
 pub use laws::{meaning_needs_no_memory, options_need_no_memory, valid_options_are_accepted};
+pub use listings::listing;
 pub use numbers::number;
 pub use option_words::{DEFAULT_VECBASE, record_options, run_options};
 pub use options::{MOST_TURNS, RunOptions, within_limits};

@@ -1,8 +1,10 @@
-//! The simple commands of `clap` that read the words of `run`, `record`, `check`, `gen`, `replay` and `trace`.
+//! The simple commands of `clap` that read the words of `run`, `record`, `dis`, `check`, `gen`, `replay` and
+//! `trace`.
 ghost use Rattle.std.specs.Prelude.{◌≡◌, IfOk, map, string_bytes, option_map, fold};
 ghost use Rattle.clap.specs.Words.{app_of, first_of, found_of, new_app, rows_of, with_rule};
 ghost use Rattle.xt_command_line.specs.Simple.{Matches, rows_by};
 ghost use Rattle.xt_command_line.specs.Arguments.{check_app, gen_app, positional_rule, replay_app, trace_app};
+ghost use Rattle.xt_command_line.specs.Listings.{dis_app};
 ghost use Rattle.xt_command_line.specs.Options.{flag_names, is_set, option_names, record_app, run_app, texts_of, with_flag, with_option};
 ghost use Rattle.xt_command_line.specs.Views.{texts_in};
 
@@ -20,6 +22,7 @@ pub struct OptionTexts<'a> {
     pub vecbase: Option<&'a str>,
     pub stack0: Option<&'a str>,
     pub stack1: Option<&'a str>,
+    pub seed: Option<&'a str>,
     pub trace: bool,
     pub events: bool,
     pub race: bool,
@@ -48,7 +51,7 @@ fn with_one_flag<'a>(
     command.arg(Arg::new(alloc, name).long(name).action(ArgAction::SetTrue))
 }
 
-// The command with the six options that `run` and `record` share.
+// The command with the seven options that `run` and `record` share.
 fn with_options<'a>(alloc: Global, name: &'a str) -> Result<Command<'a>, AllocError>
     ensures { IfOk result (λ c. app_of c ≡ fold with_option (new_app name.entry.now) option_names) }
 {
@@ -58,7 +61,8 @@ fn with_options<'a>(alloc: Global, name: &'a str) -> Result<Command<'a>, AllocEr
     let command = with_one_option(alloc, command, "entry1")?;
     let command = with_one_option(alloc, command, "vecbase")?;
     let command = with_one_option(alloc, command, "stack0")?;
-    with_one_option(alloc, command, "stack1")
+    let command = with_one_option(alloc, command, "stack1")?;
+    with_one_option(alloc, command, "seed")
 }
 
 // The command with the four flags that `run` alone has.
@@ -90,6 +94,22 @@ pub fn record_matches<'a>(alloc: Global, words: &'a [String]) -> Result<ArgMatch
     ensures { Matches result (rows_by record_app (map string_bytes words.now)) }
 {
     matches_by(with_options(alloc, "record")?, words)
+}
+
+// The command `dis` with its options and its flag.
+fn dis_command<'a>(alloc: Global) -> Result<Command<'a>, AllocError>
+    ensures { IfOk result (λ c. app_of c ≡ dis_app) }
+{
+    let command = with_one_option(alloc, Command::new(alloc, "dis"), "vecbase")?;
+    let command = with_one_option(alloc, command, "entry1")?;
+    with_one_flag(alloc, command, "flow")
+}
+
+/// What `clap` matches on the words of `dis`.
+pub fn dis_matches<'a>(alloc: Global, words: &'a [String]) -> Result<ArgMatches<'a>, Refusal>
+    ensures { Matches result (rows_by dis_app (map string_bytes words.now)) }
+{
+    matches_by(dis_command(alloc)?, words)
 }
 
 // The command `check` with its option.
@@ -167,8 +187,8 @@ pub fn text_of<'a>(matches: &ArgMatches<'a>, name: &str) -> Option<&'a str>
     matches.get_str(name)
 }
 
-// A flag that was given has the text `true`.
-fn is_true(text: Option<&str>) -> bool
+/// A flag that was given has the text `true`.
+pub fn is_true(text: Option<&str>) -> bool
     ensures { result ≡ is_set (option_map (λ s. s.now) text.entry) }
 {
     match text {
@@ -188,6 +208,7 @@ pub fn texts_from<'a>(matches: &ArgMatches<'a>) -> OptionTexts<'a>
         vecbase: text_of(matches, "vecbase"),
         stack0: text_of(matches, "stack0"),
         stack1: text_of(matches, "stack1"),
+        seed: text_of(matches, "seed"),
         trace: is_true(text_of(matches, "trace")),
         events: is_true(text_of(matches, "events")),
         race: is_true(text_of(matches, "race")),

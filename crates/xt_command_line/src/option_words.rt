@@ -2,7 +2,7 @@
 ghost use Rattle.std.specs.Prelude.{◌≡◌, IfOk, map, string_bytes, option_map};
 ghost use Rattle.xt_command_line.specs.Answers.{Means};
 ghost use Rattle.xt_command_line.specs.Numbers.{number_of};
-ghost use Rattle.xt_command_line.specs.Options.{AreValid, address_of, between, judged, options_in, range_of, record_options_of, run_options_of, said_or};
+ghost use Rattle.xt_command_line.specs.Options.{AreValid, between, given_number_of, judged, options_in, range_of, record_options_of, run_options_of, said_or};
 ghost use Rattle.xt_command_line.specs.Views.{texts_in};
 
 use crate::command::Refusal;
@@ -45,9 +45,9 @@ pub fn number_or(text: Option<&str>, default: u32) -> Option<u32>
     }
 }
 
-// The address of a text, or none where there is no text.
-fn address(text: Option<&str>) -> Option<Option<u32>>
-    ensures { result ≡ said_or address_of None (option_map (λ t. t.now) text.entry) }
+/// The number of a text that is given. Nothing says that a text which is given is no number.
+pub fn given_number(text: Option<&str>) -> Option<Option<u32>>
+    ensures { result ≡ said_or given_number_of None (option_map (λ t. t.now) text.entry) }
 {
     match text {
         Some(text) => Some(Some(number(text)?)),
@@ -71,7 +71,7 @@ fn options_from(texts: OptionTexts<'_>) -> Option<RunOptions>
 {
     let turns0 = number_or(texts.turns0, 100_000)?;
     let turns1 = number_or(texts.turns1, 100_000)?;
-    let entry1 = address(texts.entry1)?;
+    let entry1 = given_number(texts.entry1)?;
     let vecbase = number_or(texts.vecbase, DEFAULT_VECBASE)?;
     let below = Stack {
         lo: 0x3FFF0000,
@@ -83,6 +83,7 @@ fn options_from(texts: OptionTexts<'_>) -> Option<RunOptions>
         hi: 0x40000000,
     };
     let stack1 = range_or(texts.stack1, above)?;
+    let seed = given_number(texts.seed)?;
     Some(RunOptions {
         turns0,
         turns1,
@@ -90,6 +91,7 @@ fn options_from(texts: OptionTexts<'_>) -> Option<RunOptions>
         vecbase,
         stack0,
         stack1,
+        seed,
         trace: texts.trace,
         events: texts.events,
         race: texts.race,
@@ -111,11 +113,11 @@ fn judged_texts(texts: OptionTexts<'_>) -> Result<RunOptions, Refusal>
 /// The options that the words of `run` say, the first of which stands for the command.
 ///
 /// The words are read as a simple command of `clap` with the options `--turns0 N`, `--turns1 N`, `--entry1 N`,
-/// `--vecbase N`, `--stack0 LO:HI` and `--stack1 LO:HI` and the flags `--events`, `--race`, `--profile` and `--trace`.
-/// N, LO and HI are decimal digits, or `0x` and one to eight hexadecimal digits, below 2^32. `Usage` has the first rule
-/// that the words break: 3 they do not match, 4 a text is no number or range, 5 a number of turns is above 4,000,000, 6
-/// `entry1` is in no executable region, 7 `vecbase` is no multiple of 1024, 8 a stack is no range of at least 256 bytes
-/// in the internal data memory with ends at multiples of 16. `Memory` says only that memory ran out.
+/// `--vecbase N`, `--stack0 LO:HI`, `--stack1 LO:HI` and `--seed N` and the flags `--events`, `--race`, `--profile` and
+/// `--trace`. N, LO and HI are decimal digits, or `0x` and one to eight hexadecimal digits, below 2^32. `Usage` has the
+/// first rule that the words break: 3 they do not match, 4 a text is no number or range, 5 a number of turns is above
+/// 4,000,000, 6 `entry1` is in no executable region, 7 `vecbase` is no multiple of 1024, 8 a stack is no range of at
+/// least 256 bytes in the internal data memory with ends at multiples of 16. `Memory` says only that memory ran out.
 pub fn run_options(alloc: Global, words: &[String]) -> Result<RunOptions, Refusal>
     ensures means { Means result (run_options_of (map string_bytes words.now)) }
     ensures valid { IfOk result AreValid }

@@ -24,6 +24,8 @@ pub struct RunOptions {
     pub stack0: Stack,
     /// The stack of core 1 (`--stack1`).
     pub stack1: Stack,
+    /// What the order of the turns of both cores is made of (`--seed`); none stands for two threads.
+    pub seed: Option<u32>,
     /// Whether the lines of the trace are wanted (`--trace`, of `run` alone).
     pub trace: bool,
     /// Whether the text of `events` is wanted (`--events`, of `run` alone).
@@ -50,8 +52,8 @@ impl RunOptions {
     }
 }
 
-// No address is given, or it lies in an executable region.
-fn is_good_entry(address: Option<u32>) -> bool
+/// No address is given, or it lies in an executable region.
+pub fn is_good_entry(address: Option<u32>) -> bool
     ensures { result ≡ is_entry address }
 {
     match address {

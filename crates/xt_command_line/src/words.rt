@@ -1,10 +1,11 @@
 ghost use Rattle.std.specs.Prelude.{◌≡◌, IfOk, map, string_bytes};
 ghost use Rattle.xt_command_line.specs.Answers.{Means};
-ghost use Rattle.xt_command_line.specs.Meaning.{HasValidOptions, MayWantMemory, check_meaning_of, gen_meaning_of, meaning_of, named, record_meaning_of, run_meaning_of, trace_meaning_of};
+ghost use Rattle.xt_command_line.specs.Meaning.{HasValidOptions, MayWantMemory, check_meaning_of, dis_meaning_of, gen_meaning_of, meaning_of, named, record_meaning_of, run_meaning_of, trace_meaning_of};
 ghost use Rattle.xt_command_line.specs.declared.command.Refusal.TheVariants.{Memory};
 
 use crate::arguments::{check_vecbase, generator_number, trace_span};
 use crate::command::{Command, Name, Refusal};
+use crate::listings::listing;
 use crate::option_words::{record_options, run_options};
 use crate::simple::without_options_meaning;
 use std::alloc::Global;
@@ -17,6 +18,7 @@ fn name_of(word: &str) -> Option<Name>
         "asm" => Some(Name::Assemble),
         "elf" => Some(Name::Convert),
         "dis" => Some(Name::Disassemble),
+        "map" => Some(Name::Map),
         "check" => Some(Name::Check),
         "run" => Some(Name::Run),
         "record" => Some(Name::Record),
@@ -49,6 +51,17 @@ fn record_meaning(alloc: Global, words: &[String]) -> Result<Command, Refusal>
 {
     match record_options(alloc, words) {
         Ok(options) => Ok(Command::Record(options)),
+        Err(refusal) => Err(refusal),
+    }
+}
+
+// The command `dis` with the listing that its words say.
+fn dis_meaning(alloc: Global, words: &[String]) -> Result<Command, Refusal>
+    ensures means { Means result (dis_meaning_of (map string_bytes words.now)) }
+    ensures valid { IfOk result HasValidOptions }
+{
+    match listing(alloc, words) {
+        Ok(listing) => Ok(Command::Disassemble(listing)),
         Err(refusal) => Err(refusal),
     }
 }
@@ -89,8 +102,9 @@ fn gen_meaning(alloc: Global, words: &[String]) -> Result<Command, Refusal>
 /// The command with its options that the words after the program's name say, or why they say none.
 ///
 /// - No word is `Usage(1)`, and a first word that is no command `Usage(2)`.
-/// - `asm`, `elf`, `dis`, `migrate`, `events`, `race` and `profile` take no further word. Other words after them are
+/// - `asm`, `elf`, `map`, `migrate`, `events`, `race` and `profile` take no further word. Other words after them are
 ///   `Usage(3)`, as far as `clap` does not take them: it takes one that is `--`.
+/// - `dis` has the listing that `listing` says, with the rules of usage 3, 4, 6 and 7.
 /// - `check` has the option that `check_vecbase` says, with the rules of usage 3, 4 and 7.
 /// - `run` has the options that `run_options` says, with the rules of usage 3 to 8, and `record` those of
 ///   `record_options`, with the same.
@@ -113,9 +127,8 @@ pub fn meaning(alloc: Global, words: &[String]) -> Result<Command, Refusal>
         Some(Name::Record) => record_meaning(alloc, words),
         Some(Name::Assemble) => { without_options_meaning(alloc, "asm", Command::Assemble, words) }
         Some(Name::Convert) => without_options_meaning(alloc, "elf", Command::Convert, words),
-        Some(Name::Disassemble) => {
-            without_options_meaning(alloc, "dis", Command::Disassemble, words)
-        }
+        Some(Name::Disassemble) => dis_meaning(alloc, words),
+        Some(Name::Map) => without_options_meaning(alloc, "map", Command::Map, words),
         Some(Name::Replay) => Ok(Command::Replay),
         Some(Name::Migrate) => {
             without_options_meaning(alloc, "migrate", Command::Migrate, words)

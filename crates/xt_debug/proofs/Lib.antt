@@ -5,3 +5,5 @@ pub mod Bytes
 pub mod Scripts
 pub mod Sought
 pub mod Stores
+pub mod Ranges
+pub mod Lines

@@ -18,12 +18,12 @@ at_most most (Some n) = if nat_le n most then Some n else None
 unfoldable pub core_of : List ℕ → Option ℕ
 core_of word = at_most 1 (number_of word)
 
--- the most bytes that `mem` prints
-abbrev pub most_bytes : ℕ
-most_bytes = 64
+-- the most bytes that `mem` prints, and words that `words` does
+abbrev pub most_shown : ℕ
+most_shown = 64
 
-unfoldable pub byte_count_of : List ℕ → Option ℕ
-byte_count_of word = at_most most_bytes (number_of word)
+unfoldable pub count_of : List ℕ → Option ℕ
+count_of word = at_most most_shown (number_of word)
 
 -- ---- commands
 
@@ -38,7 +38,10 @@ command_of_one name word =
     if bytes_eq name (codes "next") then option_map command.Next (number_of word)
     else if bytes_eq name (codes "back") then option_map command.Back (number_of word)
     else if bytes_eq name (codes "watch") then option_map command.Watch (number_of word)
+    else if bytes_eq name (codes "trace") then option_map command.Trace (number_of word)
     else if bytes_eq name (codes "regs") then option_map command.Regs (core_of word)
+    else if bytes_eq name (codes "ring") then option_map command.Ring (core_of word)
+    else if bytes_eq name (codes "special") then option_map command.Special (core_of word)
     else if bytes_eq name (codes "frames") then option_map command.Frames (core_of word)
     else None
 
@@ -49,7 +52,9 @@ command_of_two name first second =
     else if bytes_eq name (codes "break") then
     with_both command.Break (core_of first) (number_of second)
     else if bytes_eq name (codes "mem") then
-    with_both command.Mem (number_of first) (byte_count_of second)
+    with_both command.Mem (number_of first) (count_of second)
+    else if bytes_eq name (codes "words") then
+    with_both command.Words (number_of first) (count_of second)
     else None
 
 abbrev pub command_of_words : List (List ℕ) → Option Command
@@ -84,13 +89,17 @@ script_of text =
 
 -- ---- commands that can be run
 
--- the core is 0 or 1, and not too many bytes are printed
+-- the core is 0 or 1, and not too many bytes or words are printed
 abbrev pub IsInRange : Command → Type 0
 IsInRange (command.Go c n) = c < 2
 IsInRange (command.Break c addr) = c < 2
 IsInRange (command.Regs c) = c < 2
+IsInRange (command.Ring c) = c < 2
+IsInRange (command.Special c) = c < 2
 IsInRange (command.Frames c) = c < 2
-IsInRange (command.Mem addr n) = n ≤ most_bytes
+IsInRange (command.Mem addr n) = n ≤ most_shown
+IsInRange (command.Words addr n) = n ≤ most_shown
 IsInRange (command.Next n) = Unit {0}
 IsInRange (command.Back n) = Unit {0}
 IsInRange (command.Watch addr) = Unit {0}
+IsInRange (command.Trace n) = Unit {0}

@@ -1,10 +1,16 @@
 -- What the commands of scripts print ('profile').
-use Rattle.std.specs.Prelude.{ℕ, zero, suc, ◌+◌, ◌%◌, ◌^◌, Option, Some, None, List, [], ◌++◌}
-use Rattle.std.specs.Prelude.{codes}
+use Rattle.std.specs.Prelude.{ℕ, zero, suc, ◌+◌, ◌%◌, ◌^◌, ◌==◌, if◌then◌else◌, Option, Some, None}
+use Rattle.std.specs.Prelude.{List, [], ◌++◌, codes, filter}
+use Rattle.std.specs.List.{flat_map, range_with_len}
 use Rattle.std.specs.Fmt.{decimal}
 use Rattle.xt_word.specs.Hexadecimal.{hex_digits, hex2, hex8}
-use Rattle.xt_special.specs.Control.{ps_word}
-use Rattle.xt_window.specs.Ring.{visible}
+use Rattle.xt_isa.specs.Numbers as number
+use Rattle.xt_isa.specs.Spelling.{can_read}
+use Rattle.xt_names.specs.declared.forms.Access.TheVariants.{Read}
+use Rattle.xt_names.specs.Specials.{special_name}
+use Rattle.xt_special.specs.Access.{value_read}
+use Rattle.xt_special.specs.Control.{ps_word, special_of}
+use Rattle.xt_window.specs.Ring.{bit, visible}
 use Rattle.xt_exec.specs.State.{State}
 
 -- ---- `regs C`
@@ -34,12 +40,70 @@ regs_text core step s =
     core_line core step s ++ registers_line s 0 ++ registers_line s 4 ++ registers_line s 8
     ++ registers_line s 12
 
+-- ---- `ring C`
+
+-- the first line of what `ring` and `special` print
+unfoldable pub heading : ℕ → List ℕ
+heading core = codes "core " ++ decimal core ++ codes "\n"
+
+-- a register of window w, as four of the ring's 64 registers are its a0 to a3
+abbrev pub register_of : State → ℕ → ℕ → List ℕ
+register_of s w i = codes " " ++ hex8 (visible s.regs w i)
+
+-- ` base` for the window at WINDOWBASE
+abbrev pub base_mark : State → ℕ → List ℕ
+base_mark s w = if w == s.base then codes " base" else []
+
+-- ` start` for a window whose bit of WINDOWSTART is set
+abbrev pub start_mark : State → ℕ → List ℕ
+start_mark s w = if bit s.start w then codes " start" else []
+
+-- `W: `, a0 to a3 of window W, and its marks
+unfoldable pub window_line : State → ℕ → List ℕ
+window_line s w =
+    decimal w ++ codes ":" ++ register_of s w 0 ++ register_of s w 1 ++ register_of s w 2
+    ++ register_of s w 3 ++ base_mark s w ++ start_mark s w ++ codes "\n"
+
+-- the windows whose a0 to a3 are the whole ring
+unfoldable pub windows : List ℕ
+windows = range_with_len 0 16
+
+unfoldable pub ring_text : ℕ → State → List ℕ
+ring_text core s = heading core ++ flat_map (window_line s) windows
+
+-- ---- `special C`
+
+-- what RSR of this number reads
+abbrev pub special_value : State → ℕ → ℕ
+special_value s n =
+    if n == number.windowbase then s.base
+    else (if n == number.windowstart then s.start
+    else value_read n (special_of s.control n) s.control.ps)
+
+-- `NAME WORD`
+unfoldable pub special_line : State → ℕ → List ℕ
+special_line s n =
+    special_name Read n ++ codes " " ++ hex8 (special_value s n) ++ codes "\n"
+
+-- the registers that RSR reads, by their numbers
+unfoldable pub specials : List ℕ
+specials = filter can_read (range_with_len 0 256)
+
+-- these, and then the one user register
+unfoldable pub special_text : ℕ → State → List ℕ
+special_text core s =
+    heading core ++ flat_map (special_line s) specials
+    ++ codes "threadptr " ++ hex8 s.control.threadptr ++ codes "\n"
+
 -- ---- `mem ADDR N`
 
 -- two hexadecimal digits, or `--` where there is no byte
+abbrev pub digits : Option ℕ → List ℕ
+digits None = codes "--"
+digits (Some byte) = hex2 byte
+
 abbrev pub byte_text : Option ℕ → List ℕ
-byte_text None = codes " --"
-byte_text (Some byte) = codes " " ++ hex2 byte
+byte_text byte = codes " " ++ digits byte
 
 -- so many bytes from an address on; after the last address comes the first
 abbrev pub bytes_text : (ℕ → Option ℕ) → ℕ → ℕ → List ℕ
@@ -48,6 +112,22 @@ bytes_text byte addr (suc n) = byte_text (byte addr) ++ bytes_text byte ((addr +
 
 unfoldable pub mem_text : (ℕ → Option ℕ) → ℕ → ℕ → List ℕ
 mem_text byte addr n = codes "mem " ++ hex8 addr ++ bytes_text byte addr n ++ codes "\n"
+
+-- ---- `words ADDR N`
+
+-- the word at an address, whose lowest byte is the first
+unfoldable pub word_text : (ℕ → Option ℕ) → ℕ → List ℕ
+word_text byte addr =
+    codes " " ++ digits (byte ((addr + 3) % 2 ^ 32)) ++ digits (byte ((addr + 2) % 2 ^ 32))
+    ++ digits (byte ((addr + 1) % 2 ^ 32)) ++ digits (byte addr)
+
+-- so many words
+abbrev pub words_from : (ℕ → Option ℕ) → ℕ → ℕ → List ℕ
+words_from byte addr zero = []
+words_from byte addr (suc n) = word_text byte addr ++ words_from byte ((addr + 4) % 2 ^ 32) n
+
+unfoldable pub words_text : (ℕ → Option ℕ) → ℕ → ℕ → List ℕ
+words_text byte addr n = codes "words " ++ hex8 addr ++ words_from byte addr n ++ codes "\n"
 
 -- ---- `frames C`
 

@@ -2,11 +2,15 @@
 #![tactic(auto)]
 
 mod depths;
+mod memory;
 mod parsing;
 mod printing;
+mod ring;
 mod running;
 mod script;
 mod searching;
+mod special;
+mod turns;
 
 pub use parsing::parse_script;
 pub use running::run_script;

@@ -1,7 +1,7 @@
 //! Which script a text is.
 ghost use Rattle.std.specs.Prelude.{◌≡◌, ◌<◌, ◌≤◌, ◌==◌, All, IfOk, IfSome, map};
 ghost use Rattle.std.specs.List.{list_all, slice_split};
-ghost use Rattle.xt_debug.specs.Grammar.{byte_count_of, command_of_one, command_of_two, command_of_words, commands_of, core_of, script_of, words_of, IsInRange};
+ghost use Rattle.xt_debug.specs.Grammar.{command_of_one, command_of_two, command_of_words, commands_of, core_of, count_of, script_of, words_of, IsInRange};
 ghost use Rattle.xt_debug.specs.Answers.{Reads};
 
 use crate::script::{Command, Script, ScriptFault};
@@ -21,10 +21,10 @@ fn core_in(word: &str) -> Option<u8>
     }
 }
 
-// The number of bytes that a word asks for.
-#[tactic(auto, unfolding(crate::specs::Grammar::byte_count_of))]
-fn byte_count_in(word: &str) -> Option<u32>
-    ensures value { result ≡ byte_count_of word.now }
+// How many bytes or words a word asks for.
+#[tactic(auto, unfolding(crate::specs::Grammar::count_of))]
+fn count_in(word: &str) -> Option<u32>
+    ensures value { result ≡ count_of word.now }
     ensures range { IfSome result (λ count. count ≤ 64) }
 {
     let count = number(word)?;
@@ -40,7 +40,10 @@ fn command_with_one(name: &str, word: &str) -> Option<Command>
         "next" => Some(Command::Next(number(word)?)),
         "back" => Some(Command::Back(number(word)?)),
         "watch" => Some(Command::Watch(number(word)?)),
+        "trace" => Some(Command::Trace(number(word)?)),
         "regs" => Some(Command::Regs(core_in(word)?)),
+        "ring" => Some(Command::Ring(core_in(word)?)),
+        "special" => Some(Command::Special(core_in(word)?)),
         "frames" => Some(Command::Frames(core_in(word)?)),
         _ => None,
     }
@@ -54,7 +57,8 @@ fn command_with_two(name: &str, first: &str, second: &str) -> Option<Command>
     match name {
         "go" => Some(Command::Go(core_in(first)?, number(second)?)),
         "break" => Some(Command::Break(core_in(first)?, number(second)?)),
-        "mem" => Some(Command::Mem(number(first)?, byte_count_in(second)?)),
+        "mem" => Some(Command::Mem(number(first)?, count_in(second)?)),
+        "words" => Some(Command::Words(number(first)?, count_in(second)?)),
         _ => None,
     }
 }
@@ -118,11 +122,12 @@ fn is_blank(text: &[u8]) -> bool
 /// The script that a text is: commands that `;` separates, of words that spaces separate.
 ///
 /// ```text
-/// go C N      next N      back N      break C ADDR      watch ADDR      regs C      mem ADDR N      frames C
+/// go C N      next N      back N      break C ADDR      watch ADDR      trace N
+/// regs C      ring C      special C   mem ADDR N        words ADDR N    frames C
 /// ```
 ///
 /// Each number is decimal digits, or `0x` and one to eight hexadecimal digits, below 2^32; C is 0 or 1, and the N of `mem`
-/// at most 64. A text of no bytes but spaces is the script with no command; otherwise a command without words is no
+/// and of `words` at most 64. A text of no bytes but spaces is the script with no command; otherwise a command without words is no
 /// command. `Bad` says that the text is no script, `Memory` says only that memory ran out.
 #[tactic(auto, unfolding(crate::specs::Grammar::script_of))]
 pub fn parse_script(alloc: Global, text: &str) -> Result<Script, ScriptFault>

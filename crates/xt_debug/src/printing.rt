@@ -1,9 +1,9 @@
-//! What commands print.
+//! What `regs` and `frames` print.
 ghost use Rattle.std.specs.Prelude.{◌≡◌, ◌<◌, ◌++◌, OnOk, string_bytes};
 ghost use Rattle.xt_exec.specs.States.{file_state};
-ghost use Rattle.xt_debug.specs.Printed.{byte_text, core_line, frames_text, hex4, register, registers_line, regs_text};
+ghost use Rattle.xt_debug.specs.Printed.{core_line, frames_text, hex4, register, registers_line, regs_text};
 
-use std::alloc::AllocError;
+use std::alloc::{AllocError, Global};
 use std::fmt::Write;
 use xt_exec::Regs;
 use xt_window::{WindowFile, Windows};
@@ -62,40 +62,36 @@ fn push_registers(out: &mut String, regs: &Regs<WindowFile>, i: u8) -> Result<()
 /// 16 visible registers. `step` is the number of its next step.
 #[tactic(auto, unfolding(crate::specs::Printed::regs_text))]
 pub fn push_regs(
-    out: &mut String,
+    alloc: Global,
+    out: &mut Vec<u8>,
     core: u8,
     step: u32,
     regs: &Regs<WindowFile>,
 ) -> Result<(), AllocError>
-    ensures { OnOk result (string_bytes out.new ≡ string_bytes out.old ++ regs_text core step (file_state regs.now)) }
+    ensures { OnOk result (out.new.items ≡ out.old.items ++ regs_text core step (file_state regs.now)) }
 {
-    push_core(out, core, step, regs)?;
-    push_registers(out, regs, 0)?;
-    push_registers(out, regs, 4)?;
-    push_registers(out, regs, 8)?;
-    push_registers(out, regs, 12)
-}
-
-/// Appends a byte, or `--` where there is none.
-pub fn push_byte(out: &mut String, byte: Option<u8>) -> Result<(), AllocError>
-    ensures { OnOk result (string_bytes out.new ≡ string_bytes out.old ++ byte_text byte) }
-{
-    match byte {
-        None => out.push_str(" --"),
-        Some(byte) => {
-            out.push_str(" ")?;
-            push_hex2(out, byte)
-        }
-    }
+    let mut text = String::new(alloc);
+    push_core(&mut text, core, step, regs)?;
+    push_registers(&mut text, regs, 0)?;
+    push_registers(&mut text, regs, 4)?;
+    push_registers(&mut text, regs, 8)?;
+    push_registers(&mut text, regs, 12)?;
+    out.extend_from_slice(text.as_bytes())
 }
 
 /// Appends the line of how many frames a core has.
 #[tactic(auto, unfolding(crate::specs::Printed::frames_text))]
-pub fn push_frames(out: &mut String, core: u8, depth: Option<u32>) -> Result<(), AllocError>
-    ensures { OnOk result (string_bytes out.new ≡ string_bytes out.old ++ frames_text core depth) }
+pub fn push_frames(
+    alloc: Global,
+    out: &mut Vec<u8>,
+    core: u8,
+    depth: Option<u32>,
+) -> Result<(), AllocError>
+    ensures { OnOk result (out.new.items ≡ out.old.items ++ frames_text core depth) }
 {
-    match depth {
-        None => write!(out, "frames {core} none\n"),
-        Some(depth) => write!(out, "frames {core} depth {depth}\n"),
-    }
+    let text = match depth {
+        None => format!(in alloc; "frames {core} none\n")?,
+        Some(depth) => format!(in alloc; "frames {core} depth {depth}\n")?,
+    };
+    out.extend_from_slice(text.as_bytes())
 }

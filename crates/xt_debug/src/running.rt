@@ -1,21 +1,22 @@
 //! Running the commands of a script.
-ghost use Rattle.std.specs.Prelude.{◌≡◌, ◌<◌, ◌+◌, ◌++◌, [], false, All, MatchResult, OnOk, string_bytes, if◌then◌else◌};
-ghost use Rattle.xt_replay.specs.Shown.{byte_in};
+ghost use Rattle.std.specs.Prelude.{◌≡◌, ◌<◌, ◌+◌, ◌++◌, [], false, All, MatchResult, if◌then◌else◌};
+ghost use Rattle.xt_events.specs.Lines.{turns_text};
 ghost use Rattle.xt_debug.specs.Grammar.{IsInRange};
-ghost use Rattle.xt_debug.specs.Printed.{bytes_text, mem_text};
 ghost use Rattle.xt_debug.specs.Runs.{Arrives, Ran, RanScript};
-ghost use Rattle.xt_debug.specs.Scripts.{outcome, position_back};
+ghost use Rattle.xt_debug.specs.Scripts.{outcome, position_back, shows};
 ghost use Rattle.xt_debug.specs.Searches.{step_position, within};
 
 use crate::depths::depth_at;
-use crate::printing::{push_byte, push_frames, push_regs};
+use crate::memory::{push_mem, push_words};
+use crate::printing::{push_frames, push_regs};
+use crate::ring::push_ring;
 use crate::script::{Command, Script};
 use crate::searching::{end_of, find_break, find_store};
+use crate::special::push_special_registers;
+use crate::turns::push_turns;
 use std::alloc::{AllocError, Global};
-use std::fmt::Write;
 use xt_map::Text;
-use xt_replay::{Replay, State};
-use xt_word::push_hex8;
+use xt_replay::Replay;
 
 // Moves directly before a core's step of this number, where its trace is that long.
 fn go(replay: &mut Replay, core: u8, step: u32) -> bool
@@ -42,31 +43,34 @@ fn step_back(replay: &mut Replay, count: u32) -> bool
 }
 
 // Appends why there is no position to move to, where none was found.
-fn push_refusal(out: &mut String, found: bool, refusal: &str) -> Result<(), AllocError>
-    ensures { MatchResult result (λ _. string_bytes out.new ≡ string_bytes out.old ++ (if found then [] else refusal.now)) (λ _. found ≡ false) }
+fn push_refusal(out: &mut Vec<u8>, found: bool, refusal: &str) -> Result<(), AllocError>
+    ensures { MatchResult result (λ _. out.new.items ≡ out.old.items ++ (if found then [] else refusal.now)) (λ _. found ≡ false) }
 {
-    if found { Ok(()) } else { out.push_str(refusal) }
-}
-
-// Appends the line of so many bytes from an address on.
-#[tactic(auto, unfolding(crate::specs::Printed::mem_text))]
-fn push_mem(out: &mut String, state: &State, addr: u32, count: u32) -> Result<(), AllocError>
-    ensures { OnOk result (string_bytes out.new ≡ string_bytes out.old ++ mem_text (λ a. byte_in a state.now) addr count) }
-{
-    out.push_str("mem ")?;
-    push_hex8(out, addr)?;
-    push_bytes(out, state, addr, count)?;
-    out.push_str("\n")
-}
-
-fn push_bytes(out: &mut String, state: &State, addr: u32, count: u32) -> Result<(), AllocError>
-    ensures { OnOk result (string_bytes out.new ≡ string_bytes out.old ++ bytes_text (λ a. byte_in a state.now) addr count) }
-{
-    let mut at = addr;
-    for _ in 0..count {
-        push_byte(out, state.byte(at))?;
-        at = at.wrapping_add(1);
+    if found {
+        Ok(())
+    } else {
+        out.extend_from_slice(refusal.as_bytes())
     }
+}
+
+// Goes so many positions on, and appends the lines of the turns on the way, where the run has that
+// position; otherwise appends why not.
+fn trace(
+    alloc: Global,
+    replay: &mut Replay,
+    count: u32,
+    out: &mut Vec<u8>,
+) -> Result<(), AllocError>
+    ensures { let p = replay.old.position in
+        Ran (shows (within replay.old.run (p + count)) (turns_text replay.old.image replay.old.run p (p + count)) p) replay.old out.old.items result replay.new out.new.items }
+{
+    let position = replay.position();
+    if end_of(replay) - position < count {
+        return out.extend_from_slice(b"past end\n");
+    }
+    let to = position + count;
+    push_turns(alloc, out, replay.image(), replay.run(), position, to)?;
+    let _ = replay.seek(to);
     Ok(())
 }
 
@@ -75,10 +79,10 @@ fn run_command(
     alloc: Global,
     replay: &mut Replay,
     command: Command,
-    out: &mut String,
+    out: &mut Vec<u8>,
 ) -> Result<(), AllocError>
     requires { IsInRange command }
-    ensures { Ran (outcome replay.old.image replay.old.run command replay.old.position) replay.old (string_bytes out.old) result replay.new (string_bytes out.new) }
+    ensures { Ran (outcome replay.old.image replay.old.run command replay.old.position) replay.old out.old.items result replay.new out.new.items }
 {
     match command {
         Command::Go(core, step) => push_refusal(out, go(replay, core, step), "past end\n"),
@@ -86,12 +90,18 @@ fn run_command(
         Command::Back(count) => push_refusal(out, step_back(replay, count), "past end\n"),
         Command::Break(core, pc) => push_refusal(out, find_break(replay, core, pc), "none\n"),
         Command::Watch(addr) => push_refusal(out, find_store(replay, addr), "none\n"),
+        Command::Trace(count) => trace(alloc, replay, count, out),
         Command::Regs(core) => {
             let state = replay.state();
-            push_regs(out, core, state.step(core), state.regs(core))
+            push_regs(alloc, out, core, state.step(core), state.regs(core))
         }
-        Command::Mem(addr, count) => push_mem(out, &replay.state(), addr, count),
-        Command::Frames(core) => push_frames(out, core, depth_at(alloc, replay, core)?),
+        Command::Ring(core) => push_ring(alloc, out, core, replay.state().regs(core)),
+        Command::Special(core) => {
+            push_special_registers(alloc, out, core, replay.state().regs(core))
+        }
+        Command::Mem(addr, count) => push_mem(alloc, out, &replay.state(), addr, count),
+        Command::Words(addr, count) => push_words(alloc, out, &replay.state(), addr, count),
+        Command::Frames(core) => push_frames(alloc, out, core, depth_at(alloc, replay, core)?),
     }
 }
 
@@ -103,10 +113,18 @@ fn run_command(
 /// - `break C ADDR` moves to the first later position where core C is next, with this program
 ///   counter; `watch ADDR` directly after the first step from here on that stores into the word at
 ///   this address, in a memory region. Each prints `none`, and moves nowhere, where there is none.
+/// - `trace N` moves as `next N` does, and prints the line of each turn on the way, as `TurnLines`
+///   gives it.
 /// - `regs C` prints `core C step N pc ADDR ps WORD wb D ws HHHH`, with the number of the core's
 ///   next step, and four lines `aI` with four registers each.
+/// - `ring C` prints `core C`, and for each window W a line `W:` with the four registers of the ring
+///   that are its a0 to a3, ` base` where W is WINDOWBASE, and ` start` where its bit of WINDOWSTART
+///   is set.
+/// - `special C` prints `core C`, and for each register that RSR reads, by their numbers, and for
+///   THREADPTR a line `NAME WORD`.
 /// - `mem ADDR N` prints `mem ADDR` and N bytes, `--` for one outside memory and constants; after
-///   the last address comes the first.
+///   the last address comes the first. `words ADDR N` prints `words ADDR` and N words, each with
+///   the digits of its four bytes, the last one first.
 /// - `frames C` prints `frames C depth D`, the number of frames of callers after the judged steps
 ///   before the position, or `frames C none` where the window handlers do not pass their check or a
 ///   breach of the stack discipline comes before it.
@@ -115,15 +133,15 @@ fn run_command(
 /// digits, WINDOWSTART four, a byte two; other numbers are decimal. The only error is running out of
 /// memory; the replay then stands where some of the first commands leave it.
 ///
-/// Condition: each core is 0 or 1, and each N of `mem` at most 64, as in every script that was
-/// parsed.
+/// Condition: each core is 0 or 1, and each N of `mem` and `words` at most 64, as in every script
+/// that was parsed.
 pub fn run_script(alloc: Global, replay: &mut Replay, script: &Script) -> Result<Text, AllocError>
     requires { All IsInRange script.now }
     ensures { RanScript script.now replay.old result replay.new }
 {
-    let mut out = String::new(alloc);
+    let mut out = Vec::new(alloc);
     for command in script.as_slice() {
         run_command(alloc, replay, *command, &mut out)?;
     }
-    Ok(Text::new(out.into_bytes()))
+    Ok(Text::new(out))
 }

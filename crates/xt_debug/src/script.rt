@@ -18,10 +18,18 @@ pub enum Command {
     Break(u8, u32),
     /// `watch ADDR`: directly after the next step that stores into the word at this address.
     Watch(u32),
+    /// `trace N`: this many positions on; prints the line of each turn on the way.
+    Trace(u32),
     /// `regs C`: prints the registers of this core.
     Regs(u8),
+    /// `ring C`: prints the 64 registers of this core's ring.
+    Ring(u8),
+    /// `special C`: prints the special registers of this core.
+    Special(u8),
     /// `mem ADDR N`: prints this many bytes, at most 64, from this address on.
     Mem(u32, u32),
+    /// `words ADDR N`: prints this many words, at most 64, from this address on.
+    Words(u32, u32),
     /// `frames C`: prints how many frames of callers this core has.
     Frames(u8),
 }

@@ -37,17 +37,27 @@ operand_text (Special access n) = special_name access n
 abbrev pub address_from : ℕ → ℤ → ℕ
 address_from base offset = (base + cast_unsigned w32 offset) % 2 ^ 32
 
--- the target of a jump, a branch or a loop: its offset is counted from PC + 4
-unfoldable pub jump_target : ℕ → ℤ → Operand
-jump_target pc offset = Target (address_from (pc + 4) offset)
+-- the address that a jump, a branch or a loop names: its offset is counted from PC + 4
+abbrev pub jump_address : ℕ → ℤ → ℕ
+jump_address pc offset = address_from (pc + 4) offset
 
--- the target of a call: from PC rounded down to a multiple of 4, plus 4
-unfoldable pub call_target : ℕ → ℤ → Operand
-call_target pc offset = Target (address_from (pc / 4 * 4 + 4) offset)
+-- the address that a call names: from PC rounded down to a multiple of 4, plus 4
+abbrev pub call_address : ℕ → ℤ → ℕ
+call_address pc offset = address_from (pc / 4 * 4 + 4) offset
 
 -- the address of a literal: from PC + 3, rounded down to a multiple of 4
+abbrev pub literal_address : ℕ → ℤ → ℕ
+literal_address pc offset = address_from ((pc + 3) / 4 * 4) offset
+
+-- each as the operand that is printed
+unfoldable pub jump_target : ℕ → ℤ → Operand
+jump_target pc offset = Target (jump_address pc offset)
+
+unfoldable pub call_target : ℕ → ℤ → Operand
+call_target pc offset = Target (call_address pc offset)
+
 unfoldable pub literal_target : ℕ → ℤ → Operand
-literal_target pc offset = Target (address_from ((pc + 3) / 4 * 4) offset)
+literal_target pc offset = Target (literal_address pc offset)
 
 -- a special or user register, as a mnemonic names it
 abbrev pub special : OneAndSpecial → ℕ → Operand

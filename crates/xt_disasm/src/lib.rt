@@ -6,5 +6,5 @@ mod lines;
 mod operand;
 mod text;
 
-pub use lines::{listing, push_segment_line};
-pub use text::insn_text;
+pub use lines::{front, is_code, listing, push_bytes, push_line, push_segment_line};
+pub use text::{call_address, insn_text, jump_address, literal_address};

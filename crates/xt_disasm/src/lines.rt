@@ -25,7 +25,7 @@ fn byte_at(bytes: &[u8], place: usize) -> u8
 }
 
 /// The instruction that the bytes begin with, and its length, where they spell one and are not too few for it.
-fn front(bytes: &[u8]) -> Option<(Insn, usize)>
+pub fn front(bytes: &[u8]) -> Option<(Insn, usize)>
     ensures { IsFront bytes.now result }
 {
     match decode(byte_at(bytes, 0), byte_at(bytes, 1), byte_at(bytes, 2)) {
@@ -35,7 +35,7 @@ fn front(bytes: &[u8]) -> Option<(Insn, usize)>
 }
 
 /// Appends bytes in upper-case hexadecimal digits.
-fn push_bytes(out: &mut String, bytes: &[u8]) -> Result<(), AllocError>
+pub fn push_bytes(out: &mut String, bytes: &[u8]) -> Result<(), AllocError>
     ensures { OnOk result (string_bytes out.new ≡ string_bytes out.old ++ flat_map hex2 bytes.now) }
 {
     for byte in bytes {
@@ -45,7 +45,7 @@ fn push_bytes(out: &mut String, bytes: &[u8]) -> Result<(), AllocError>
 }
 
 /// Appends the first line of the bytes, which stand at the address `pc`, and answers how many of them it shows.
-fn push_line(out: &mut String, pc: u32, bytes: &[u8]) -> Result<usize, AllocError>
+pub fn push_line(out: &mut String, pc: u32, bytes: &[u8]) -> Result<usize, AllocError>
     requires { 0 < length bytes.now }
     ensures shown { IfOk result (λ n. n ≡ front_length bytes.now) }
     ensures fits { IfOk result (λ n. (0 < n) × (n ≤ length bytes.now)) }
@@ -115,7 +115,7 @@ fn place_name(segment: &Segment) -> &'static str
 }
 
 /// Whether a segment holds code: it is loaded, to an executable region.
-fn is_code(segment: &Segment) -> bool
+pub fn is_code(segment: &Segment) -> bool
     ensures { result ≡ is_code segment.now }
 {
     is_segment_loaded(segment) && can_execute_at(segment.addr)

@@ -3,7 +3,7 @@
 
 ghost use Rattle.std.specs.Prelude.{◌≡◌, ◌++◌, map, true, IfOk, OnOk, string_bytes};
 ghost use Rattle.xt_isa.specs.Ranges.{in_range};
-ghost use Rattle.xt_disasm.specs.Operands.{call_target, jump_target, literal_target, operand_text, operands, special, tested_register, three_registers, two_registers};
+ghost use Rattle.xt_disasm.specs.Operands.{call_address, call_target, jump_address, jump_target, literal_address, literal_target, operand_text, operands, special, tested_register, three_registers, two_registers};
 ghost use Rattle.xt_disasm.specs.Listing.{arguments, insn_text};
 
 use crate::operand::Operand::{Boolean, Number, Register, Special, Target};
@@ -16,28 +16,51 @@ use xt_names::{
     Access, OneAndSpecial, OneAndTarget, Parts, Three, Two, mnemonic_in, name_of, parts_of,
 };
 
-/// The target of a jump, a branch or a loop at `pc`: its offset is counted from PC + 4.
+/// The address that a jump, a branch or a loop at `pc` names: its offset is counted from PC + 4. Addresses wrap at 2^32.
+pub fn jump_address(pc: u32, offset: i32) -> u32
+    ensures { result ≡ jump_address pc offset }
+{
+    pc.wrapping_add(4).wrapping_add_signed(offset)
+}
+
+/// The address that a call at `pc` names: its offset is counted from PC rounded down to a multiple of 4, plus 4. Addresses
+/// wrap at 2^32.
+pub fn call_address(pc: u32, offset: i32) -> u32
+    ensures { result ≡ call_address pc offset }
+{
+    (pc / 4 * 4).wrapping_add(4).wrapping_add_signed(offset)
+}
+
+/// The address of the literal of an L32R at `pc`: its offset is counted from PC + 3, rounded down to a multiple of 4.
+/// Addresses wrap at 2^32.
+pub fn literal_address(pc: u32, offset: i32) -> u32
+    ensures { result ≡ literal_address pc offset }
+{
+    (pc.wrapping_add(3) / 4 * 4).wrapping_add_signed(offset)
+}
+
+/// The target of a jump, a branch or a loop at `pc`.
 #[tactic(auto, unfolding(crate::specs::Operands::jump_target))]
 fn jump_target(pc: u32, offset: i32) -> Operand
     ensures { result ≡ jump_target pc offset }
 {
-    Target(pc.wrapping_add(4).wrapping_add_signed(offset))
+    Target(jump_address(pc, offset))
 }
 
-/// The target of a call at `pc`: its offset is counted from PC rounded down to a multiple of 4, plus 4.
+/// The target of a call at `pc`.
 #[tactic(auto, unfolding(crate::specs::Operands::call_target))]
 fn call_target(pc: u32, offset: i32) -> Operand
     ensures { result ≡ call_target pc offset }
 {
-    Target((pc / 4 * 4).wrapping_add(4).wrapping_add_signed(offset))
+    Target(call_address(pc, offset))
 }
 
-/// The address of the literal of an L32R at `pc`: its offset is counted from PC + 3, rounded down to a multiple of 4.
+/// The literal of an L32R at `pc`.
 #[tactic(auto, unfolding(crate::specs::Operands::literal_target))]
 fn literal_target(pc: u32, offset: i32) -> Operand
     ensures { result ≡ literal_target pc offset }
 {
-    Target((pc.wrapping_add(3) / 4 * 4).wrapping_add_signed(offset))
+    Target(literal_address(pc, offset))
 }
 
 /// A special register as an access of a mnemonic names it.

@@ -1,7 +1,7 @@
 # Both cores add to one word of memory, and no addition is lost.
 #
 #   xt asm < counter.s > counter.img
-#   xt dis < counter.img
+#   xt dis --flow < counter.img
 #
 # Each core adds 1 to `total` a hundred times. A load, an addition and a store would not do: between the load and the store the
 # other core may have stored, and its addition would be lost. S32C1I does both in one: it stores the new value only where memory

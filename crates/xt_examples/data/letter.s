@@ -1,7 +1,7 @@
 # Sends the letter A and stops.
 #
 #   xt asm < letter.s > letter.img
-#   xt dis < letter.img
+#   xt dis --flow < letter.img
 #
 # A store of a byte to 3FF40000 makes UART0 send it. That address has 32 bits, and no instruction of 24 bits can hold it. So it
 # stands in memory as a word of its own, and L32R fetches it from there. L32R looks backwards only: the word has to stand before

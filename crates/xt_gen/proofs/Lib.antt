@@ -1,2 +1,3 @@
+mod Ordered
 mod Standing
 mod Tabled

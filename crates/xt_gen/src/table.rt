@@ -5,8 +5,8 @@ ghost use Rattle.xt_gen.specs.Generated.{next, table_of};
 use std::alloc::{AllocError, Global};
 use xt_map::Bytes;
 
-// The number that follows a number.
-fn next(x: u32) -> u32
+/// The number that follows a number.
+pub fn next(x: u32) -> u32
     ensures { result ≡ next x }
 {
     x.wrapping_mul(1_664_525).wrapping_add(1_013_904_223)

@@ -4,7 +4,7 @@ use Rattle.std.proofs.lemmas.List.Sums.{sum_by-cons}
 use Rattle.xt_expr.specs.declared.expr.Expr.{Expr}
 use Rattle.xt_parse.specs.declared.line.Line.{Line}
 use Rattle.xt_parse.specs.declared.statement.Statement.{Statement}
-use Rattle.xt_parse.specs.declared.statement.Statement.TheVariants.{Empty, Seg, Entry, Position, Literal, Words, Bytes, Ascii, Align, Insn}
+use Rattle.xt_parse.specs.declared.statement.Statement.TheVariants.{Empty, Seg, Entry, Position, Literal, Words, Shorts, Bytes, Ascii, Align, Space, Insn}
 use Rattle.xt_parse.specs.Small.{expr_weight, statement_weight, line_weight, IsParsed}
 use Rattle.xt_layout.specs.Sizes.{items, weight, IsSmall}
 
@@ -20,9 +20,11 @@ items_weigh (Entry e) = omega arith
 items_weigh Position = omega arith
 items_weigh (Literal name e) = omega arith
 items_weigh (Words es) = values_weigh es
+items_weigh (Shorts es) = values_weigh es
 items_weigh (Bytes es) = values_weigh es
 items_weigh (Ascii bytes) = omega arith
 items_weigh (Align n) = omega arith
+items_weigh (Space n) = omega arith
 items_weigh (Insn name os) = omega arith
 
 lines_weigh : (lines : List Line) → sum_by weight lines ≤ sum_by line_weight lines

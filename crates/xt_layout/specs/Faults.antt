@@ -14,7 +14,7 @@ use Rattle.xt_expr.specs.Values.{HaveAddresses, IsAddress}
 use Rattle.xt_parse.specs.declared.line.Line.{Line}
 use Rattle.xt_parse.specs.declared.line.Placed.{Placed}
 use Rattle.xt_parse.specs.declared.statement.Statement.{Statement}
-use Rattle.xt_parse.specs.declared.statement.Statement.TheVariants.{Empty, Seg, Entry, Words}
+use Rattle.xt_parse.specs.declared.statement.Statement.TheVariants.{Empty, Seg, Entry, Words, Shorts}
 use Rattle.xt_pool.specs.declared.word.PoolWord.{PoolWord}
 use Rattle.xt_pool.specs.Around.{each}
 use Rattle.xt_pool.specs.Findings.{Finding, at_statement, fails, first}
@@ -66,16 +66,19 @@ segments_in before = count_by (λ l. is_segment l.statement) before
 abbrev pub is_too_many : ℕ → Line → Finding
 is_too_many before l = fails (is_segment l.statement && nat_le 16 before) (at_statement l 2)
 
--- ---- 5, Misaligned: a `.seg` or a `.word` at an address that is no multiple of 4
+-- ---- 5, Misaligned: a `.seg` or a `.word` at an address that is no multiple of 4, or a `.short`
+-- at one that is no multiple of 2
 
-abbrev pub wants_a_multiple : Statement → Bool
-wants_a_multiple (Seg start) = true
-wants_a_multiple (Words values) = true
-wants_a_multiple _ = false
+-- the number of which a statement's address has to be a multiple
+abbrev pub wanted_multiple : Statement → ℕ
+wanted_multiple (Seg start) = 4
+wanted_multiple (Words values) = 4
+wanted_multiple (Shorts values) = 2
+wanted_multiple _ = 1
 
 abbrev pub is_misaligned : Option Spot → Line → Finding
 is_misaligned here l =
-    fails (wants_a_multiple l.statement && not (address here % 4 == 0)) (at_statement l 5)
+    fails (not (address here % wanted_multiple l.statement == 0)) (at_statement l 5)
 
 -- ---- 6, OutOfMap: bytes outside the region of the segment's start
 

@@ -8,7 +8,7 @@ ghost use Rattle.xt_pool.specs.Findings.{at_statement, fails, or_else, first};
 ghost use Rattle.xt_pool.specs.Pools.{is_segment};
 ghost use Rattle.xt_layout.specs.Addresses.{label_name, literal_name};
 ghost use Rattle.xt_layout.specs.Bounds.{ArePools, IsBelow, IsText, IsWalk};
-ghost use Rattle.xt_layout.specs.Faults.{again, bytes_at, is_empty, is_entry, is_last, is_misaligned, is_outside, is_too_many, leaves, layout_fault, names_at, overlaps, twice, wants_a_multiple};
+ghost use Rattle.xt_layout.specs.Faults.{again, bytes_at, is_empty, is_entry, is_last, is_misaligned, is_outside, is_too_many, leaves, layout_fault, names_at, overlaps, twice, wanted_multiple};
 ghost use Rattle.xt_layout.specs.Known.{has_name};
 ghost use Rattle.xt_layout.specs.Sizes.{items};
 ghost use Rattle.xt_layout.specs.Spans.{meet};
@@ -128,18 +128,23 @@ fn too_many(segments: usize, line: &Line) -> Option<AsmPlace>
     }
 }
 
-/// Whether a statement wants an address that is a multiple of 4.
-fn wants_a_multiple(statement: &Statement) -> bool
-    ensures { result ≡ wants_a_multiple statement.now }
+/// The number of which a statement's address has to be a multiple.
+fn wanted_multiple(statement: &Statement) -> u64
+    ensures multiple { result ≡ wanted_multiple statement.now }
+    ensures some { 0 < result }
 {
-    matches!(statement, Statement::Seg(_) | Statement::Words(_))
+    match statement {
+        Statement::Seg(_) | Statement::Words(_) => 4,
+        Statement::Shorts(_) => 2,
+        _ => 1,
+    }
 }
 
-/// A `.seg` or a `.word` at an address that is no multiple of 4 (kind 5).
+/// A `.seg`, `.word` or `.short` at an address that is no multiple of the number that it wants (kind 5).
 fn misaligned(here: Option<Spot>, line: &Line) -> Option<AsmPlace>
     ensures { result ≡ is_misaligned here line.now }
 {
-    if wants_a_multiple(&line.statement) && address(here) % 4 != 0 {
+    if address(here) % wanted_multiple(&line.statement) != 0 {
         Some(at_statement(line, 5))
     } else {
         None

@@ -56,7 +56,8 @@ impl Laid {
     }
 
     /// The first fault among a seventeenth segment (kind 2), a name or an `.entry` that was there before (kind 4), a `.seg` or
-    /// `.word` at no multiple of 4 (kind 5), bytes outside their region (kind 6) and segments that share an address (kind 7);
+    /// `.word` at no multiple of 4 or a `.short` at no multiple of 2 (kind 5), bytes outside their region (kind 6) and segments
+    /// that share an address (kind 7);
     /// of one line the first in the order 4, 2, 5, 6, 7. None exactly where there is none.
     pub fn fault(&self) -> Option<AsmPlace>
         ensures { result ≡ self.now.fault }

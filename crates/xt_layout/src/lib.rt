@@ -16,4 +16,4 @@ mod spots;
 
 pub use laid::{Laid, layout};
 pub use laws::parsed_lines_are_small;
-pub use size::is_alignment;
+pub use size::{is_alignment, is_space};

@@ -44,7 +44,7 @@ fn moved(pool: u64, spot: Spot, statement: &Statement) -> Spot
     requires items { items statement.now < 2 ^ 32 }
     requires below { spot.at ≤ 2 ^ 62 }
     ensures value { result ≡ moved pool statement.now spot }
-    ensures below { result.at ≤ spot.at + (1027 + 4 * items statement.now + 4 * pool) }
+    ensures below { (n : ℕ) → 2 ^ 32 ≤ n → spot.at ≤ n → result.at ≤ n + (1027 + 4 * items statement.now + 4 * pool) }
 {
     Spot {
         start: spot.start,

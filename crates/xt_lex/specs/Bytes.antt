@@ -3,9 +3,9 @@ use Rattle.std.specs.Prelude.{ℕ, ◌+◌, ◌-◌, ◌*◌, Bool, ◌==◌, �
 use Rattle.std.specs.Prelude.{List, fold, Option, Some, None}
 use Rattle.std.specs.Char.{is_ascii_digit, is_ascii_alphabetic}
 
--- a word begins with a letter, `_` or `.`
+-- a word begins with a letter, `_`, `.` or `$`
 abbrev pub is_word_start : ℕ → Bool
-is_word_start b = is_ascii_alphabetic b || b == 95 || b == 46
+is_word_start b = is_ascii_alphabetic b || b == 95 || b == 46 || b == 36
 
 -- and goes on with these and digits
 abbrev pub is_word_byte : ℕ → Bool

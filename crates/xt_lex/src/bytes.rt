@@ -7,11 +7,11 @@ ghost use Rattle.xt_lex.specs.Fronts.{begins_with_quote, string_piece, string_bo
 
 use std::alloc::{AllocError, Global};
 
-/// Whether a word begins with this byte: a letter, `_` or `.`.
+/// Whether a word begins with this byte: a letter, `_`, `.` or `$`.
 pub fn begins_word(byte: u8) -> bool
     ensures { result ≡ is_word_start byte }
 {
-    byte.is_ascii_alphabetic() || byte == b'_' || byte == b'.'
+    byte.is_ascii_alphabetic() || byte == b'_' || byte == b'.' || byte == b'$'
 }
 
 /// Whether a word goes on with this byte.

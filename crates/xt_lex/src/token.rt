@@ -6,7 +6,7 @@ use std::marker::Model;
 /// What a token is.
 #[derive(Drop)]
 pub enum TokenKind {
-    /// A word: it begins with a letter, `_` or `.` and goes on with these and digits.
+    /// A word: it begins with a letter, `_`, `.` or `$` and goes on with these and digits.
     Word(Name),
     /// A number below 2^32, which was decimal digits, or `0x` and hexadecimal digits.
     Number(u32),

@@ -1,6 +1,7 @@
 -- A line weighs no more than its tokens.
-use Rattle.std.proofs.Common.{◌≡◌, ◌+◌, ◌-◌, ◌≤◌, ◌==◌, ℕ, Bool, true, false, not, ◌&&◌, if◌then◌else◌, List, [], ◌∷◌, length, Option, Some, None, Ok, Err, IfOk, IfSome, refl, arith}
+use Rattle.std.proofs.Common.{◌≡◌, ◌+◌, ◌-◌, ◌≤◌, ◌==◌, ℕ, Bool, true, false, not, ◌&&◌, if◌then◌else◌, List, [], ◌∷◌, ◌++◌, length, Option, Some, None, Ok, Err, IfOk, IfSome, refl, arith}
 use Rattle.std.specs.Option.{option_map, option_map_or}
+use Rattle.std.proofs.lemmas.List.{length-append}
 use Rattle.xt_lex.specs.declared.token.Token.{Token}
 use Rattle.xt_parse.specs.declared.form.Form.{Form}
 use Rattle.xt_parse.specs.declared.form.Form.TheVariants as form
@@ -46,9 +47,13 @@ body_fits form.Entry tokens = fits_then expr_weight statement_weight (tokens_wei
 body_fits form.Position tokens = omega arith
 body_fits form.Literal tokens = literal_fits tokens
 body_fits form.Word tokens = fits_then exprs_weight statement_weight (tokens_weight tokens) (exprs_at tokens) (λ x. Ok (statement.Words x.0, x.1)) (exprs_fit tokens) (λ x. omega arith)
+body_fits form.Short tokens = fits_then exprs_weight statement_weight (tokens_weight tokens) (exprs_at tokens) (λ x. Ok (statement.Shorts x.0, x.1)) (exprs_fit tokens) (λ x. omega arith)
 body_fits form.Byte tokens = fits_then exprs_weight statement_weight (tokens_weight tokens) (exprs_at tokens) (λ x. Ok (statement.Bytes x.0, x.1)) (exprs_fit tokens) (λ x. omega arith)
 body_fits form.Ascii tokens = fits_then string_weight statement_weight (tokens_weight tokens) (first_as as_string tokens) (λ x. Ok (statement.Ascii x.0, x.1)) (string_fits tokens) (λ x. omega arith)
+body_fits form.Asciz tokens =
+    fits_then string_weight statement_weight (tokens_weight tokens) (first_as as_string tokens) (λ x. Ok (statement.Ascii (x.0 ++ 0 ∷ []), x.1)) (string_fits tokens) (λ x. omega (arith, length-append x.0 (0 ∷ [])))
 body_fits form.Align tokens = fits_then one statement_weight (tokens_weight tokens) (first_as as_number tokens) (λ x. Ok (statement.Align x.0, x.1)) (first_counts as_number tokens) (λ x. omega arith)
+body_fits form.Space tokens = fits_then one statement_weight (tokens_weight tokens) (first_as as_number tokens) (λ x. Ok (statement.Space x.0, x.1)) (first_counts as_number tokens) (λ x. omega arith)
 body_fits (form.Insn m) tokens =
     fits_then operands_weight statement_weight (tokens_weight tokens) (operands_at (shapes_of m) tokens) (λ x. Ok (statement.Insn m x.0, x.1)) (operands_fit (shapes_of m) tokens) (λ x. omega arith)
 

@@ -119,9 +119,11 @@ statement_is_short (statement.Entry e) h = expr_is_short e h
 statement_is_short statement.Position h = tt
 statement_is_short (statement.Literal name e) h = expr_is_short e h
 statement_is_short (statement.Words es) h = each_is expr_weight IsShort 1048576 expr_is_short es h
+statement_is_short (statement.Shorts es) h = each_is expr_weight IsShort 1048576 expr_is_short es h
 statement_is_short (statement.Bytes es) h = each_is expr_weight IsShort 1048576 expr_is_short es h
 statement_is_short (statement.Ascii bytes) h = tt
 statement_is_short (statement.Align n) h = tt
+statement_is_short (statement.Space n) h = tt
 statement_is_short (statement.Insn name os) h = each_is operand_weight IsShortOperand 1048576 operand_is_short os h
 
 lines_are_short : (lines : List Line) → lines_weight lines ≤ 1048576 → All (λ (l : Line). HasShortExprs l.statement) lines

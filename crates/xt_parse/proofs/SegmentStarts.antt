@@ -183,9 +183,12 @@ body_starts_low form.Literal tokens h =
     (λ p. then_always (first_as as_comma p.1) (λ c. expr_at c.1 >>= λ x. Ok (statement.Literal p.0 x.0, x.1)) (λ x. StartsLow x.0)
     (λ c. then_always (expr_at c.1) (λ x. Ok (statement.Literal p.0 x.0, x.1)) (λ x. StartsLow x.0) (λ x. tt)))
 body_starts_low form.Word tokens h = then_always (exprs_at tokens) (λ x. Ok (statement.Words x.0, x.1)) (λ x. StartsLow x.0) (λ x. tt)
+body_starts_low form.Short tokens h = then_always (exprs_at tokens) (λ x. Ok (statement.Shorts x.0, x.1)) (λ x. StartsLow x.0) (λ x. tt)
 body_starts_low form.Byte tokens h = then_always (exprs_at tokens) (λ x. Ok (statement.Bytes x.0, x.1)) (λ x. StartsLow x.0) (λ x. tt)
 body_starts_low form.Ascii tokens h = then_always (first_as as_string tokens) (λ x. Ok (statement.Ascii x.0, x.1)) (λ x. StartsLow x.0) (λ x. tt)
+body_starts_low form.Asciz tokens h = then_always (first_as as_string tokens) (λ x. Ok (statement.Ascii (x.0 ++ 0 ∷ []), x.1)) (λ x. StartsLow x.0) (λ x. tt)
 body_starts_low form.Align tokens h = then_always (first_as as_number tokens) (λ x. Ok (statement.Align x.0, x.1)) (λ x. StartsLow x.0) (λ x. tt)
+body_starts_low form.Space tokens h = then_always (first_as as_number tokens) (λ x. Ok (statement.Space x.0, x.1)) (λ x. StartsLow x.0) (λ x. tt)
 body_starts_low (form.Insn m) tokens h = then_always (operands_at (shapes_of m) tokens) (λ x. Ok (statement.Insn m x.0, x.1)) (λ x. StartsLow x.0) (λ x. tt)
 
 abbrev StatementStartsLow : Reading (ℕ × Statement) → Type 0

@@ -7,7 +7,7 @@ use Rattle.xt_parse.specs.declared.statement.Operand.{Operand}
 use Rattle.xt_parse.specs.declared.statement.Operand.TheVariants.{Reg, Value, Pool}
 use Rattle.xt_parse.specs.declared.statement.Statement.{Statement}
 use Rattle.xt_parse.specs.declared.statement.Statement.TheVariants.{Entry, Literal, Words, Bytes}
-use Rattle.xt_parse.specs.declared.statement.Statement.TheVariants.{Ascii, Insn}
+use Rattle.xt_parse.specs.declared.statement.Statement.TheVariants.{Shorts, Ascii, Insn}
 
 -- the numbers of the lines rise, and are above n
 abbrev pub AreAbove : ℕ → List Line → Type 0
@@ -31,6 +31,7 @@ abbrev pub statement_weight : Statement → ℕ
 statement_weight (Entry e) = expr_weight e
 statement_weight (Literal name e) = expr_weight e
 statement_weight (Words es) = sum_by expr_weight es
+statement_weight (Shorts es) = sum_by expr_weight es
 statement_weight (Bytes es) = sum_by expr_weight es
 statement_weight (Ascii bytes) = length bytes
 statement_weight (Insn name operands) = sum_by operand_weight operands
@@ -56,6 +57,7 @@ abbrev pub HasShortExprs : Statement → Type 0
 HasShortExprs (Entry e) = IsShort e
 HasShortExprs (Literal name e) = IsShort e
 HasShortExprs (Words es) = All IsShort es
+HasShortExprs (Shorts es) = All IsShort es
 HasShortExprs (Bytes es) = All IsShort es
 HasShortExprs (Insn name operands) = All IsShortOperand operands
 HasShortExprs _ = Unit {0}

@@ -1,6 +1,6 @@
 -- The statements of the assembly language, and the lines ('profile').
 use Rattle.std.specs.Prelude.{ℕ, ◌+◌, ◌-◌, ◌==◌, Bool, true, false, ◌&&◌, not, if◌then◌else◌, List}
-use Rattle.std.specs.Prelude.{[], ◌∷◌, length, slice_get, Option, Some, None, Result, Ok, Err}
+use Rattle.std.specs.Prelude.{[], ◌∷◌, ◌++◌, length, slice_get, Option, Some, None, Result, Ok, Err}
 use Rattle.std.specs.Option.{option_map, option_map_or, is_some, is_none}
 use Rattle.xt_lex.specs.declared.token.Token.{Token}
 use Rattle.xt_lex.specs.declared.token.TokenKind.{TokenKind}
@@ -37,9 +37,13 @@ body_at form.Entry tokens = expr_at tokens >>= λ x. Ok (statement.Entry x.0, x.
 body_at form.Position tokens = Ok (statement.Position, tokens)
 body_at form.Literal tokens = literal_body_at tokens
 body_at form.Word tokens = exprs_at tokens >>= λ x. Ok (statement.Words x.0, x.1)
+body_at form.Short tokens = exprs_at tokens >>= λ x. Ok (statement.Shorts x.0, x.1)
 body_at form.Byte tokens = exprs_at tokens >>= λ x. Ok (statement.Bytes x.0, x.1)
 body_at form.Ascii tokens = first_as as_string tokens >>= λ x. Ok (statement.Ascii x.0, x.1)
+body_at form.Asciz tokens =
+    first_as as_string tokens >>= λ x. Ok (statement.Ascii (x.0 ++ 0 ∷ []), x.1)
 body_at form.Align tokens = first_as as_number tokens >>= λ x. Ok (statement.Align x.0, x.1)
+body_at form.Space tokens = first_as as_number tokens >>= λ x. Ok (statement.Space x.0, x.1)
 body_at (form.Insn m) tokens =
     operands_at (shapes_of m) tokens >>= λ x. Ok (statement.Insn m x.0, x.1)
 

@@ -6,7 +6,7 @@ use Rattle.std.specs.Str.{bytes_eq}
 use Rattle.xt_names.specs.Names.{mnemonic_of}
 use Rattle.xt_parse.specs.declared.form.Form.{Form}
 use Rattle.xt_parse.specs.declared.form.Form.TheVariants.{Seg, Entry, Position, Literal, Word, Byte}
-use Rattle.xt_parse.specs.declared.form.Form.TheVariants.{Ascii, Align, Insn}
+use Rattle.xt_parse.specs.declared.form.Form.TheVariants.{Short, Ascii, Asciz, Align, Space, Insn}
 use Rattle.xt_parse.specs.declared.words.DirectiveWord.{DirectiveWord}
 use Rattle.xt_parse.specs.declared.words.Register.{Register}
 use Rattle.xt_parse.specs.declared.words.Register.TheVariants.{Address, Boolean}
@@ -18,8 +18,9 @@ use Rattle.xt_parse.specs.declared.words.RegisterWord.{RegisterWord}
 unfoldable pub directive_words : List (List ℕ × Form)
 directive_words =
     (codes ".seg", Seg) ∷ (codes ".entry", Entry) ∷ (codes ".literal_position", Position)
-    ∷ (codes ".literal", Literal) ∷ (codes ".word", Word) ∷ (codes ".byte", Byte)
-    ∷ (codes ".ascii", Ascii) ∷ (codes ".align", Align) ∷ []
+    ∷ (codes ".literal", Literal) ∷ (codes ".word", Word) ∷ (codes ".short", Short)
+    ∷ (codes ".byte", Byte) ∷ (codes ".ascii", Ascii) ∷ (codes ".asciz", Asciz)
+    ∷ (codes ".align", Align) ∷ (codes ".space", Space) ∷ []
 
 abbrev pub shown : DirectiveWord → List ℕ × Form
 shown w = (w.name.now, w.form)
@@ -68,10 +69,12 @@ boolean_number (Boolean n) = Some n
 
 -- ---- labels
 
-abbrev pub starts_with_dot : List ℕ → Bool
-starts_with_dot [] = false
-starts_with_dot (b ∷ _) = b == 46
+-- a dot, which no `L` follows
+abbrev pub starts_as_directive : List ℕ → Bool
+starts_as_directive [] = false
+starts_as_directive (b ∷ []) = b == 46
+starts_as_directive (b ∷ c ∷ _) = b == 46 && not (c == 76)
 
--- a label's word neither begins with a dot nor is the name of a register
+-- a label's word is not the name of a register, and begins with a dot only as `.L`
 abbrev pub is_label_word : List ℕ → Bool
-is_label_word name = not (starts_with_dot name) && is_none (register_of name)
+is_label_word name = not (starts_as_directive name) && is_none (register_of name)

@@ -13,12 +13,18 @@ pub enum Form {
     Literal,
     /// `.word`
     Word,
+    /// `.short`
+    Short,
     /// `.byte`
     Byte,
     /// `.ascii`
     Ascii,
+    /// `.asciz`
+    Asciz,
     /// `.align`
     Align,
+    /// `.space`
+    Space,
     /// An instruction of this mnemonic.
     Insn(Mnemonic),
 }

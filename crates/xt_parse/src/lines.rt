@@ -1,4 +1,4 @@
-ghost use Rattle.std.specs.Prelude.{◌≡◌, ◌<◌, length, IfOk};
+ghost use Rattle.std.specs.Prelude.{◌≡◌, ◌<◌, [], ◌∷◌, ◌++◌, length, IfOk};
 ghost use Rattle.std.specs.Option.{option_map};
 ghost use Rattle.xt_parse.specs.Gives.{Gives};
 ghost use Rattle.xt_parse.specs.Statements.{literal_body_at, body_at, as_statement, statement_at, label_at, awaits_colon, is_opening, opens, behind_label, without_label, parts_at, whole_parts_at};
@@ -12,7 +12,7 @@ use crate::statement::Statement;
 use crate::stop::Stop;
 use crate::words::form_of_word;
 use std::alloc::{AllocError, Global};
-use xt_lex::{Token, TokenKind};
+use xt_lex::{Name, Token, TokenKind};
 use xt_names::shapes_of;
 
 // `.literal NAME, EXPR` after its first word.
@@ -23,6 +23,15 @@ fn literal_body(alloc: Global, tokens: &[Token]) -> Result<(Statement, &[Token])
     let after = comma_at(after)?;
     let (value, rest) = expr(alloc, after)?;
     Ok((Statement::Literal(name, value), rest))
+}
+
+// The bytes of a string with a zero after them.
+fn ended(text: Name) -> Result<Name, AllocError>
+    ensures { IfOk result (λ bytes. bytes ≡ text ++ 0 ∷ []) }
+{
+    let mut bytes = text.into_vec();
+    bytes.push(0)?;
+    Ok(Name::new(bytes))
 }
 
 // A statement after its first word, which begins this form.
@@ -45,6 +54,10 @@ fn body(alloc: Global, form: Form, tokens: &[Token]) -> Result<(Statement, &[Tok
             let (values, rest) = exprs(alloc, tokens)?;
             Ok((Statement::Words(values), rest))
         }
+        Form::Short => {
+            let (values, rest) = exprs(alloc, tokens)?;
+            Ok((Statement::Shorts(values), rest))
+        }
         Form::Byte => {
             let (values, rest) = exprs(alloc, tokens)?;
             Ok((Statement::Bytes(values), rest))
@@ -53,9 +66,17 @@ fn body(alloc: Global, form: Form, tokens: &[Token]) -> Result<(Statement, &[Tok
             let (bytes, rest) = string_at(tokens)?;
             Ok((Statement::Ascii(bytes), rest))
         }
+        Form::Asciz => {
+            let (bytes, rest) = string_at(tokens)?;
+            Ok((Statement::Ascii(ended(bytes)?), rest))
+        }
         Form::Align => {
             let (number, rest) = number_at(tokens)?;
             Ok((Statement::Align(number), rest))
+        }
+        Form::Space => {
+            let (number, rest) = number_at(tokens)?;
+            Ok((Statement::Space(number), rest))
         }
         Form::Insn(mnemonic) => {
             let (found, rest) = operands(alloc, shapes_of(mnemonic), tokens)?;

@@ -32,12 +32,16 @@ pub enum Statement {
     Literal(Placed, Expr),
     /// `.word EXPR, ..`: words.
     Words(Exprs),
+    /// `.short EXPR, ..`: half-words of two bytes.
+    Shorts(Exprs),
     /// `.byte EXPR, ..`: bytes.
     Bytes(Exprs),
-    /// `.ascii STRING`: the bytes of the string.
+    /// `.ascii STRING`: the bytes of the string; of `.asciz STRING` with a zero after them.
     Ascii(Name),
     /// `.align NUMBER`: zeros up to a multiple of the number.
     Align(u32),
+    /// `.space NUMBER`: this many zeros.
+    Space(u32),
     /// An instruction by its mnemonic, with the operands in the order of the text.
     Insn(Mnemonic, Operands),
 }

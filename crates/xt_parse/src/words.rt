@@ -1,5 +1,5 @@
 ghost use Rattle.std.specs.Prelude.{◌≡◌, map};
-ghost use Rattle.xt_parse.specs.Words.{directive_of, directive_words, form_of, is_label_word, register_of, register_words, shown, shown_register, starts_with_dot};
+ghost use Rattle.xt_parse.specs.Words.{directive_of, directive_words, form_of, is_label_word, register_of, register_words, shown, shown_register, starts_as_directive};
 
 use crate::form::Form;
 use xt_names::mnemonic_of;
@@ -18,15 +18,18 @@ macro_rules! directives {
     };
 }
 
-static DIRECTIVES: [DirectiveWord; 8] = directives! {
+static DIRECTIVES: [DirectiveWord; 11] = directives! {
     ".seg" => Form::Seg;
     ".entry" => Form::Entry;
     ".literal_position" => Form::Position;
     ".literal" => Form::Literal;
     ".word" => Form::Word;
+    ".short" => Form::Short;
     ".byte" => Form::Byte;
     ".ascii" => Form::Ascii;
+    ".asciz" => Form::Asciz;
     ".align" => Form::Align;
+    ".space" => Form::Space;
 };
 
 #[tactic(auto, unfolding(crate::specs::Words::directive_words))]
@@ -137,18 +140,20 @@ pub fn register_of_word(name: &[u8]) -> Option<Register>
     None
 }
 
-fn starts_with_dot(name: &[u8]) -> bool
-    ensures { result ≡ starts_with_dot name.now }
+// Whether a word begins with a dot, which no `L` follows.
+fn starts_as_directive(name: &[u8]) -> bool
+    ensures { result ≡ starts_as_directive name.now }
 {
     match name {
+        [b'.', b'L', ..] => false,
         [b'.', ..] => true,
         _ => false,
     }
 }
 
-/// Whether a word may be a label: it neither begins with a dot nor is the name of a register.
+/// Whether a word may be a label: it is not the name of a register, and begins with a dot only as `.L`.
 pub fn may_be_label(name: &[u8]) -> bool
     ensures { result ≡ is_label_word name.now }
 {
-    !starts_with_dot(name) && register_of_word(name).is_none()
+    !starts_as_directive(name) && register_of_word(name).is_none()
 }

@@ -6,22 +6,51 @@ use crate::cases::{lines_of, words_of};
 use crate::programs::{image_of, options_in, output_over, text_in, words_with};
 use crate::schedules::{list_of, options_of};
 use std::alloc::Global;
-use xt_cli::{Status, Tool, tool_main};
-use xt_image::Image;
-use xt_io::{SafeSink, SafeSource};
+use std::sync::Wait;
+use std::thread::Threads;
+use xt_cli::{Status, Tool, tool_main, xt_main};
+use xt_image::{Image, write};
+use xt_io::{OpenGate, SafeSink, SafeSource};
 use xt_machine::run_schedule;
 use xt_record::write_recording;
 
-// What the command of a case prints over the recording of its run.
-fn printed(alloc: Global, case: &str, image: &Image, list: &[u8]) -> Option<String>
+// The recording of a case's run over a list of cores.
+fn recorded(alloc: Global, case: &str, image: &Image, list: &[u8]) -> Option<Vec<u8>>
     requires image { IsWellFormed image.now }
     requires cores { All (λ core. core < 2) list.now }
 {
     let options = options_of(alloc, words_of(case, "options"), image)?;
     let run = run_schedule(alloc, image, &options, list).ok()?;
     let bytes = write_recording(alloc, image, &run).ok()?;
-    let words = words_with(alloc, words_of(case, "analysis"), "")?;
+    Some(bytes.into_vec())
+}
+
+// What `record` writes where a case's options have a seed, which orders the run.
+fn recorded_by_seed<R: Threads + Wait + Sync + AllocGlobal>(
+    rt: &R,
+    case: &str,
+    image: &Image,
+) -> Option<Vec<u8>>
+    requires { IsWellFormed image.now }
+{
+    let alloc = rt.alloc();
+    let words = words_with(alloc, "record", words_of(case, "options"))?;
+    let bytes = write(alloc, image).ok()?;
     let mut source = SafeSource::make(alloc, bytes.as_slice()).ok()?;
+    let mut sink = SafeSink::make(alloc).ok()?;
+    let outcome = xt_main(rt, alloc, &words, &mut source, &mut sink, &OpenGate);
+    if outcome.status != Status::Done {
+        return None;
+    }
+    let mut recording = Vec::new(alloc);
+    recording.extend_from_slice(sink.bytes()).ok()?;
+    Some(recording)
+}
+
+// What the command of a case prints over a recording.
+fn printed(alloc: Global, case: &str, recording: &[u8]) -> Option<String> {
+    let words = words_with(alloc, words_of(case, "analysis"), "")?;
+    let mut source = SafeSource::make(alloc, recording).ok()?;
     let mut sink = SafeSink::make(alloc).ok()?;
     if tool_main(alloc, &words, &mut source, &mut sink) != Tool::Answer(Status::Done) {
         return None;
@@ -53,11 +82,21 @@ fn has_flag(alloc: Global, case: &str, image: &Image, list: &[u8], output: &str)
 
 /// Whether the command of a case prints, over the recording of its run, what the case says, and `run`
 /// with the command's flag prints it behind its report.
-pub fn agrees(alloc: Global, case: &str, program: &str) -> Option<bool> {
+pub fn agrees<R: Threads + Wait + Sync + AllocGlobal>(
+    rt: &R,
+    case: &str,
+    program: &str,
+) -> Option<bool> {
+    let alloc = rt.alloc();
     let image = image_of(alloc, program)?;
     let list = list_of(alloc, words_of(case, "schedule"))?;
     let output = lines_of(alloc, case, "output", "").ok()?;
-    if printed(alloc, case, &image, &list)? != output {
+    let recording = if words_of(case, "options").contains("--seed") {
+        recorded_by_seed(rt, case, &image)?
+    } else {
+        recorded(alloc, case, &image, &list)?
+    };
+    if printed(alloc, case, &recording)? != output {
         return Some(false);
     }
     if words_of(case, "analysis").starts_with("trace") {

@@ -7,6 +7,7 @@
 
 mod analyses;
 mod cases;
+mod commands;
 #[cfg(test)]
 mod damage_tests;
 mod ends;
@@ -61,13 +62,18 @@ fn agrees<R: Files + Threads + Wait + Sync + AllocGlobal>(
     if !words_of(case, "code").is_empty() {
         return ends::agrees(rt, case);
     }
+    if !words_of(case, "cores").is_empty() {
+        return commands::has_order(rt.alloc(), case);
+    }
     let program = program_of(rt, case, handlers)?;
     if !words_of(case, "handlers").is_empty() {
         verdicts::checks(rt.alloc(), case, program.as_str())
     } else if !words_of(case, "steps").is_empty() {
         schedules::agrees(rt.alloc(), case, program.as_str())
+    } else if !words_of(case, "command").is_empty() {
+        commands::agrees(rt.alloc(), case, program.as_str())
     } else if !words_of(case, "analysis").is_empty() {
-        analyses::agrees(rt.alloc(), case, program.as_str())
+        analyses::agrees(rt, case, program.as_str())
     } else if case.contains("\nschedule") {
         verdicts::agrees(rt.alloc(), case, program.as_str())
     } else {

@@ -11,7 +11,11 @@ pub type Row = (&'static str, u32, u32, u8);
 /// The two lines that stand before each text of the tables below but the last, so that these texts begin at line 3.
 const FRONT: &str = ".seg 0x40080400\n.entry 0x40080400\n";
 
-static SYNTAX: [Row; 28] = [
+static SYNTAX: [Row; 32] = [
+    (".space -1", 3, 8, 8),
+    (".space 4 + 4", 3, 10, 8),
+    (".L9 nop", 3, 5, 8),
+    (".bss: nop", 3, 1, 8),
     ("movi a2", 3, 8, 8),
     ("movi a2, 5 6", 3, 12, 8),
     ("movi a2, a3", 3, 10, 8),
@@ -59,7 +63,10 @@ static UNKNOWN: [Row; 12] = [
     ("pss: wsr a2, pss", 3, 6, 1),
 ];
 
-static RANGE: [Row; 44] = [
+static RANGE: [Row; 47] = [
+    (".short 65536", 3, 1, 2),
+    (".short 7, -32769", 3, 1, 2),
+    (".space 3220700161", 3, 1, 2),
     (".byte 256", 3, 1, 2),
     (".byte -129", 3, 1, 2),
     (".byte 1, 2, 255 + 1", 3, 1, 2),
@@ -153,7 +160,8 @@ static TWICE: [Row; 13] = [
     ("x: nop\n.literal x, 4294967295 + 1", 4, 10, 4),
 ];
 
-static MISALIGNED: [Row; 13] = [
+static MISALIGNED: [Row; 14] = [
+    (".byte 1\n.short 1", 4, 1, 5),
     (".seg 0x40090002", 3, 1, 5),
     (".seg 0x60000001", 3, 1, 5),
     (".byte 1\n.word 2", 4, 1, 5),
@@ -171,7 +179,8 @@ static MISALIGNED: [Row; 13] = [
     ("nop\n.seg 0x40080402\n.byte 1", 4, 1, 5),
 ];
 
-static OUT_OF_MAP: [Row; 13] = [
+static OUT_OF_MAP: [Row; 14] = [
+    ("nop\n.space 130046", 4, 1, 6),
     (".seg 0x60000000\n.byte 1", 4, 1, 6),
     (".seg 0x60000000\n\nx:\n y: nop", 6, 5, 6),
     (".seg 0x3FF40000\n.word 1", 4, 1, 6),

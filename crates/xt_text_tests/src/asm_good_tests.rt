@@ -12,7 +12,14 @@ type Row = (&'static str, &'static str);
 const FRONT: &str = ".seg 0x400D0000\n.entry 0x400D0000\n";
 
 /// Texts after these two lines, and the bytes of the segment, which blanks may part.
-static CODE: [Row; 26] = [
+static CODE: [Row; 28] = [
+    // Halfwords, zeros, and a text with its last byte 0.
+    (
+        ".short 7, -2, 65535\n.space 5\n.asciz \"hi\\n\"",
+        "0700 FEFF FFFF 0000000000 68690A00 00",
+    ),
+    // Labels as a compiler writes them.
+    ("j .L4\n.L4: nop\n$d: nop", "C6FFFF F02000 F02000 000000"),
     // Instructions of each length, with their operands in the manual's order.
     (
         "entry a1, 32\nretw.n\ns32e a0, a5, -16\nslli a2, a2, 4\nmovi.n a2, 5\nextui a2, a2, 0, 8",

@@ -53,6 +53,17 @@ fn scripts(rt: HostRuntime) -> Result<(), Fail> {
     check(
         &rt,
         alloc,
+        "trace 5; ring 01;special 0x1; words 0x3FFB0000 64",
+        &[
+            Command::Trace(5),
+            Command::Ring(1),
+            Command::Special(1),
+            Command::Words(0x3FFB_0000, 64),
+        ],
+    )?;
+    check(
+        &rt,
+        alloc,
         "  next   0 ;back 0;go 1 0  ;  frames 1",
         &[
             Command::Next(0),
@@ -99,6 +110,14 @@ fn texts_that_are_no_scripts(rt: HostRuntime) -> Result<(), Fail> {
         "back",
         "regs 0;regs 1;x",
         "next 1.5",
+        "ring",
+        "ring 2",
+        "rings 0",
+        "special sar",
+        "words 0",
+        "words 0 65",
+        "trace 0 1",
+        "trace 4294967296",
     ];
     for text in texts {
         match parse_script(alloc, text) {

@@ -1,6 +1,8 @@
 use std::alloc::Global;
 use std::test::Fail;
-use xt_command_line::{Command, Refusal, RunOptions, Span, meaning, script_text};
+use xt_command_line::{
+    Command, Listing, Openings, Refusal, RunOptions, Span, meaning, script_text,
+};
 use xt_trace::Stack;
 
 // The words of a line, which stand with one space between them.
@@ -29,7 +31,11 @@ fn words_and_meanings(rt: HostRuntime) -> Result<(), Fail> {
         ("asm", Ok(Command::Assemble)),
         ("elf", Ok(Command::Convert)),
         ("elf --vecbase 0x40080000", Err(Refusal::Usage(3))),
-        ("dis", Ok(Command::Disassemble)),
+        ("dis", Ok(Command::Disassemble(Listing::Sweep))),
+        ("map", Ok(Command::Map)),
+        ("map --", Ok(Command::Map)),
+        ("map file", Err(Refusal::Usage(3))),
+        ("map --flow", Err(Refusal::Usage(3))),
         ("check", Ok(Command::Check(0x4008_0000))),
         ("check --", Ok(Command::Check(0x4008_0000))),
         ("check --vecbase 1024", Ok(Command::Check(1024))),
@@ -44,7 +50,35 @@ fn words_and_meanings(rt: HostRuntime) -> Result<(), Fail> {
         ("check --vecbase 4294967296", Err(Refusal::Usage(4))),
         ("check --vecbase 0x40080010", Err(Refusal::Usage(7))),
         ("check --vecbase 512", Err(Refusal::Usage(7))),
-        ("dis --", Ok(Command::Disassemble)),
+        ("dis --", Ok(Command::Disassemble(Listing::Sweep))),
+        // the code that control reaches
+        (
+            "dis --flow",
+            Ok(Command::Disassemble(Listing::Flow(Openings {
+                vecbase: 0x4008_0000,
+                entry1: None,
+            }))),
+        ),
+        (
+            "dis --entry1 0x400D0000 --vecbase=1024 --flow",
+            Ok(Command::Disassemble(Listing::Flow(Openings {
+                vecbase: 1024,
+                entry1: Some(0x400D_0000),
+            }))),
+        ),
+        ("dis --flow --flow", Err(Refusal::Usage(3))),
+        ("dis --flow file", Err(Refusal::Usage(3))),
+        ("dis --vecbase 1024", Err(Refusal::Usage(3))),
+        ("dis --vecbase x", Err(Refusal::Usage(3))),
+        ("dis --entry1 0x400D0000", Err(Refusal::Usage(3))),
+        ("dis --flow --seed 1", Err(Refusal::Usage(3))),
+        ("dis --flow --entry1 0 --vecbase x", Err(Refusal::Usage(4))),
+        ("dis --flow --entry1 4294967296", Err(Refusal::Usage(4))),
+        ("dis --flow --entry1 0 --vecbase 1", Err(Refusal::Usage(6))),
+        (
+            "dis --flow --entry1 0x400D0000 --vecbase 512",
+            Err(Refusal::Usage(7)),
+        ),
         ("dis --help", Err(Refusal::Usage(3))),
         ("check -h", Err(Refusal::Usage(3))),
         ("asm --version", Err(Refusal::Usage(3))),
@@ -149,6 +183,7 @@ fn words_and_options(rt: HostRuntime) -> Result<(), Fail> {
             lo: 0x3FFF_8000,
             hi: 0x4000_0000,
         },
+        seed: None,
         trace: false,
         events: false,
         race: false,
@@ -166,11 +201,20 @@ fn words_and_options(rt: HostRuntime) -> Result<(), Fail> {
     most.turns0 = 4_000_000;
     let mut traced = plain;
     traced.trace = true;
+    let mut told = plain;
+    told.events = true;
     let mut raced = plain;
     raced.race = true;
-    let mut told = traced;
-    told.events = true;
-    told.profile = true;
+    let mut counted = plain;
+    counted.profile = true;
+    let mut whole = plain;
+    whole.trace = true;
+    whole.events = true;
+    whole.race = true;
+    whole.profile = true;
+    whole.seed = Some(4_294_967_295);
+    let mut seeded = plain;
+    seeded.seed = Some(0);
     let rows = [
         ("run", Ok(plain)),
         ("run --", Ok(plain)),
@@ -178,8 +222,14 @@ fn words_and_options(rt: HostRuntime) -> Result<(), Fail> {
         ("run --turns0=0x3D0900", Ok(most)),
         ("run --turns0 0x003d0900", Ok(most)),
         ("run --trace", Ok(traced)),
+        ("run --events", Ok(told)),
         ("run --race", Ok(raced)),
-        ("run --profile --trace --events", Ok(told)),
+        ("run --profile", Ok(counted)),
+        (
+            "run --profile --seed 4294967295 --trace --race --events",
+            Ok(whole),
+        ),
+        ("run --seed=0x0", Ok(seeded)),
         (
             "run --stack1 0x3FFFFF00:0x40000000 --stack0 1073405952:0x3ffae100 --vecbase 0x4009FC00 --entry1 0x400D0000 --turns1 0 --turns0 007",
             Ok(given),
@@ -193,7 +243,12 @@ fn words_and_options(rt: HostRuntime) -> Result<(), Fail> {
         ("run --turns0 -5", Err(Refusal::Usage(3))),
         ("run --turns0 1 --turns0 1", Err(Refusal::Usage(3))),
         ("run --trace=x", Err(Refusal::Usage(3))),
-        ("run --race --race", Err(Refusal::Usage(3))),
+        ("run --events --events", Err(Refusal::Usage(3))),
+        ("run --race --trace --race", Err(Refusal::Usage(3))),
+        ("run --profile=1", Err(Refusal::Usage(3))),
+        ("run --seed", Err(Refusal::Usage(3))),
+        ("run --seed 1 --seed 1", Err(Refusal::Usage(3))),
+        ("run --flow", Err(Refusal::Usage(3))),
         ("run --turns2 1", Err(Refusal::Usage(3))),
         // no number, or no range
         ("run --turns0 x", Err(Refusal::Usage(4))),
@@ -206,6 +261,8 @@ fn words_and_options(rt: HostRuntime) -> Result<(), Fail> {
         ("run --entry1 4294967296", Err(Refusal::Usage(4))),
         ("run --vecbase 0x4008000g", Err(Refusal::Usage(4))),
         ("run --stack0 0x3FFF0000", Err(Refusal::Usage(4))),
+        ("run --seed x", Err(Refusal::Usage(4))),
+        ("run --seed 4294967296", Err(Refusal::Usage(4))),
         ("run --stack0 0x3FFF0000-0x3FFF8000", Err(Refusal::Usage(4))),
         ("run --stack1 :0x40000000", Err(Refusal::Usage(4))),
         (
@@ -250,6 +307,10 @@ fn words_and_options(rt: HostRuntime) -> Result<(), Fail> {
         ("record --turns0 4000000", Ok(Command::Record(most))),
         ("record --trace", Err(Refusal::Usage(3))),
         ("record --events", Err(Refusal::Usage(3))),
+        ("record --race", Err(Refusal::Usage(3))),
+        ("record --profile", Err(Refusal::Usage(3))),
+        ("record --seed 0", Ok(Command::Record(seeded))),
+        ("record --seed +1", Err(Refusal::Usage(4))),
         ("record --turns1 x", Err(Refusal::Usage(4))),
         ("record --turns1 4000001", Err(Refusal::Usage(5))),
         ("record --entry1 0 --vecbase 1", Err(Refusal::Usage(6))),

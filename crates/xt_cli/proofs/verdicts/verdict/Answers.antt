@@ -1,5 +1,4 @@
-use Rattle.std.proofs.Common.{◌≡◌, ap, ap₂, ◌∙◌}
-use Rattle.xt_core.specs.Runs.{records_of}
+use Rattle.std.proofs.Common.{ap, ap₂, ◌∙◌}
 use Rattle.xt_frames.specs.Verdict.{verdict}
 use Rattle.xt_discipline.specs.Verdicts.{are_yes, judgement_in}
 use Rattle.xt_machine.proofs.Judging.{judgement_is}

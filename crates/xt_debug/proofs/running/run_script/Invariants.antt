@@ -1,6 +1,5 @@
 -- The commands so far have printed the text and left the position of a script of them alone.
 use Rattle.std.proofs.Common.{◌≡◌, take}
-use Rattle.std.specs.Prelude.{string_bytes}
 use Rattle.xt_replay.specs.Shown.{moved}
 use Rattle.xt_debug.specs.Scripts.{script_outcome}
 use Rattle.xt_debug.proofs.running.run_script.Given as goal
@@ -10,6 +9,6 @@ invariant-loop-command l =
     let r = l.initial.replay in
     let o = script_outcome r.image r.run (take l.command-index l.script) r.position in
     record {
-      text : string_bytes l.out ≡ o.text;
+      text : l.out.items ≡ o.text;
       replay : l.replay ≡ moved r o.position;
     }

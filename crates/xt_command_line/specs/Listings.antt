@@ -1,0 +1,70 @@
+-- What the words of `dis` say ('profile').
+use Rattle.std.specs.Prelude.{◌≡◌, ℕ, ◌%◌, Bool, true, false, ◌==◌, List, [], ◌∷◌, Option, Some}
+use Rattle.std.specs.Prelude.{None, Result, Ok, Err, codes}
+use Rattle.clap.specs.Words.{App, Row, Text, first_of, new_app}
+use Rattle.xt_command_line.specs.Answers.{answer_with}
+use Rattle.xt_command_line.specs.Arguments.{IsVecbase}
+use Rattle.xt_command_line.specs.Numbers.{number_of}
+use Rattle.xt_command_line.specs.Options.{first_broken, given_number_of, is_entry, is_set}
+use Rattle.xt_command_line.specs.Options.{said_or, unless_broken, with_flag, with_option}
+use Rattle.xt_command_line.specs.Simple.{rows_by}
+use Rattle.xt_command_line.specs.declared.command.Listing.{Listing}
+use Rattle.xt_command_line.specs.declared.command.Listing.TheVariants as listing
+use Rattle.xt_command_line.specs.declared.command.Openings.{Openings}
+use Rattle.xt_command_line.specs.declared.command.Refusal.{Refusal}
+use Rattle.xt_command_line.specs.declared.command.Refusal.TheVariants as refusal
+
+-- dis [--flow] [--vecbase N] [--entry1 N]
+abbrev pub dis_app : App
+dis_app =
+    with_flag
+    (with_option (with_option (new_app (codes "dis")) (codes "vecbase")) (codes "entry1"))
+    (codes "flow")
+
+-- the openings of these numbers, where each is there
+abbrev pub opened : Option ℕ → Option (Option ℕ) → Option Openings
+opened (Some vecbase) (Some entry1) = Some (record { vecbase = vecbase; entry1 = entry1 })
+opened _ _ = None
+
+-- the openings that the texts of `--vecbase` and `--entry1` say, each with its default, or none
+-- where a text is no number
+abbrev pub openings_in : Option Text → Option Text → Option Openings
+openings_in vecbase entry1 =
+    opened (said_or number_of 0x40080000 vecbase) (said_or given_number_of None entry1)
+
+-- the rules by their numbers, and whether the openings keep them
+abbrev pub opening_limits : Openings → List (ℕ × Bool)
+opening_limits o = (6, is_entry o.entry1) ∷ (7, o.vecbase % 1024 == 0) ∷ []
+
+abbrev pub judged_openings : Option Openings → Result Openings Refusal
+judged_openings None = Err (refusal.Usage 4)
+judged_openings (Some o) = unless_broken (first_broken (opening_limits o)) o
+
+-- the listing by whether `--flow` was given and by the texts of `--vecbase` and `--entry1`, which
+-- stand with `--flow` alone
+abbrev pub listing_in : Bool → Option Text → Option Text → Result Listing Refusal
+listing_in true vecbase entry1 =
+    answer_with listing.Flow (judged_openings (openings_in vecbase entry1))
+listing_in false None None = Ok listing.Sweep
+listing_in false _ _ = Err (refusal.Usage 3)
+
+abbrev pub listing_by : Option (List Row) → Result Listing Refusal
+listing_by None = Err (refusal.Usage 3)
+listing_by (Some rows) =
+    listing_in
+    (is_set (first_of (codes "flow") rows))
+    (first_of (codes "vecbase") rows)
+    (first_of (codes "entry1") rows)
+
+-- the listing that the words of `dis` say, or the first rule of usage that they break
+abbrev pub listing_of : List Text → Result Listing Refusal
+listing_of words = listing_by (rows_by dis_app words)
+
+-- openings with a VECBASE, at which core 1 can begin where they say that it does
+abbrev pub AreOpenings : Openings → Type 0
+AreOpenings o = IsVecbase o.vecbase × (is_entry o.entry1 ≡ true)
+
+-- a listing from valid openings on
+abbrev pub IsListing : Listing → Type 0
+IsListing listing.Sweep = Unit {0}
+IsListing (listing.Flow openings) = AreOpenings openings

@@ -1,0 +1,9 @@
+pub mod Finding
+pub mod Joined
+pub mod Placed
+pub mod Reaching
+pub mod Runs
+pub mod Steps
+pub mod Tables
+pub mod Walks
+pub mod Words

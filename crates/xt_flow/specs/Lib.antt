@@ -1,0 +1,5 @@
+pub mod Following
+pub mod Kept
+pub mod Laws
+pub mod Printing
+pub mod Starts

@@ -1,0 +1,18 @@
+//! Laws of the listing. Each is the contract of a function that does nothing.
+#![tactic(auto)]
+
+ghost use Rattle.std.specs.Prelude.{ℕ};
+ghost use Rattle.xt_special.specs.Control.{Control};
+ghost use Rattle.xt_image.specs.declared.image.Image.{Image};
+ghost use Rattle.xt_flow.specs.Laws.{EntersVectors, HasOneText};
+
+/// An image has one listing for each VECBASE and each entry of the second core.
+pub fn listing_is_one()
+    ensures { (image : Image) (vecbase entry1 : ℕ) → HasOneText image vecbase entry1 }
+{}
+
+/// The vectors are those of the processor: each exception, each interrupt of level 2 to 5 and each window exception goes to
+/// one of the thirteen.
+pub fn vectors_are_entered()
+    ensures { (c : Control) → EntersVectors c }
+{}

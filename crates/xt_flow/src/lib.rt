@@ -1,0 +1,11 @@
+//! The listing of an image that follows the code: from the addresses where control can come in, along all that the
+//! instructions themselves say of where it goes.
+#![tactic(auto)]
+
+mod code;
+pub mod laws;
+mod listing;
+mod table;
+mod visits;
+
+pub use listing::flow_listing;
