@@ -1,4 +1,5 @@
 use crate::ends::left_past;
+use crate::file::OwnFile;
 use crate::replies::next_turn;
 use std::alloc::{AllocError, Global};
 use std::marker::Model;
@@ -6,14 +7,13 @@ use xt_exec::Regs;
 use xt_image::Image;
 use xt_map::{Constants, Entry};
 use xt_trace::{Records, Run, StepRecord};
-use xt_window::WindowFile;
 
 /// The records of one core of a run, made again one by one. Contracts see the list of the records that are left.
 #[derive(Drop)]
 pub struct Cursor<'a> {
     code: Constants<'a>,
     core: u8,
-    regs: Regs<WindowFile>,
+    regs: Regs<OwnFile>,
     left: u32,
     entries: &'a [Entry],
 }
@@ -60,7 +60,7 @@ impl<'a> Cursor<'a> {
         Ok(Cursor {
             code: Constants::make(alloc, image.segments.as_slice())?,
             core,
-            regs: Regs::open(core, entry, options.vecbase, stack.hi, WindowFile::new()),
+            regs: Regs::open(core, entry, options.vecbase, stack.hi, OwnFile::new()),
             left: turns,
             entries: run.history.as_slice(),
         })

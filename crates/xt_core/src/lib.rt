@@ -6,6 +6,7 @@ mod begun;
 mod cores;
 mod cursor;
 mod ends;
+mod file;
 mod links;
 mod record;
 mod replies;

@@ -7,11 +7,11 @@ ghost use Rattle.xt_exec.specs.States.{file_state};
 ghost use Rattle.xt_exec.specs.Turn.{demand, turn};
 
 use crate::begun::Begun;
+use crate::file::OwnFile;
 use crate::turn::{begin, end};
 use xt_exec::Regs;
 use xt_map::{Constants, Entry};
 use xt_trace::StepRecord;
-use xt_window::WindowFile;
 
 // The reply of the first entry of a core, 0 where there is none, and the entries after it.
 fn reply_in<'a>(entries: &'a [Entry], core: u8) -> (u32, &'a [Entry])
@@ -31,7 +31,7 @@ fn reply_in<'a>(entries: &'a [Entry], core: u8) -> (u32, &'a [Entry])
 
 /// One turn of a core with the reply that the entries have for it, and the entries after that one.
 pub fn next_turn<'a>(
-    regs: &mut Regs<WindowFile>,
+    regs: &mut Regs<OwnFile>,
     code: &Constants,
     core: u8,
     entries: &'a [Entry],

@@ -1,12 +1,11 @@
 -- A visit, as the loop of the walk makes it.
-use Rattle.std.proofs.Common.{◌≡◌, ℕ, ◌+◌, ◌*◌, ◌<◌, Bool, true, List, [], ◌∷◌, ◌++◌, length, sym, ap, subst, ◌∙◌, arith}
+use Rattle.std.proofs.Common.{◌≡◌, ℕ, ◌<◌, Bool, true, List, [], ◌∷◌, ◌++◌, sym, ap, subst, ◌∙◌}
 use Rattle.std.specs.Prelude.{All}
 use Rattle.xt_map.specs.declared.segment.Segment.{Segment}
 use Rattle.xt_map.specs.Placing.{is_well_placed}
 use Rattle.xt_image.specs.declared.image.Image.{Image}
 use Rattle.xt_flow.specs.Kept.{pending_after, reads_after, starts_after}
 use Rattle.xt_flow.proofs.Reaching.{Going, goes_on, left, less_left}
-use Rattle.xt_flow.proofs.Tables.{count_free}
 
 module _ (image : Image) (vecbase entry1 : ℕ) (starts new_starts reads new_reads : List Bool) (pending rest new_pending : List ℕ) (a : ℕ) (segments : List Segment)
     (placed : All (λ s. is_well_placed s ≡ true) image.segments) (same : segments ≡ image.segments) (popped : pending ≡ rest ++ a ∷ [])

@@ -1,7 +1,7 @@
 -- A walk over code, line by line.
 use Rattle.std.proofs.Common.{◌≡◌, ℕ, zero, suc, ◌+◌, ◌-◌, ◌<◌, ◌≤◌, Bool, true, false, ◌&&◌, ◌||◌, List, [], ◌∷◌, ◌++◌, length, drop, refl, sym, ap, ◌∙◌, append_assoc, length-drop, arith}
 use mathlib.Core.List.{append-nil}
-use Rattle.std.specs.Prelude.{if◌then◌else◌, nat_le, not}
+use Rattle.std.specs.Prelude.{if◌then◌else◌, not}
 use Rattle.std.proofs.lemmas.Bool.{leb-true}
 use Rattle.xt_disasm.specs.Listing.{front_length}
 use Rattle.xt_flow.specs.Printing.{Marks, byte_run, first_line, flow_lines, is_byte, is_space, is_word, lines_of, shown, to_next, zero_run}

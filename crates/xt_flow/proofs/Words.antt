@@ -1,11 +1,11 @@
 -- The marks of the two tables are right.
-use Rattle.std.proofs.Common.{◌≡◌, ◌↔◌, ℕ, zero, suc, ◌+◌, ◌-◌, ◌%◌, ◌<◌, ◌≤◌, Bool, true, false, ◌&&◌, ◌||◌, List, length, ◌⊎◌, inl, inr, ⊎_elim, refl, sym, ap, subst, ◌∙◌, arith}
+use Rattle.std.proofs.Common.{◌≡◌, ℕ, zero, suc, ◌+◌, ◌-◌, ◌%◌, ◌<◌, ◌≤◌, Bool, true, false, ◌&&◌, ◌||◌, List, ◌⊎◌, inl, inr, ⊎_elim, sym, ap, ◌∙◌, arith}
 use Rattle.std.specs.Prelude.{if◌then◌else◌, is_some, nat_lt, not, IfOk, Result, Ok, Err}
-use Rattle.std.proofs.lemmas.Bool.{and_from, and_parts, cases_lt, false_from_ne_true, lt-ltb, ltb-true, not-true, not_from_false, or_cases, or_from, or_parts}
+use Rattle.std.proofs.lemmas.Bool.{and_from, and_parts, cases_lt, false_from_ne_true, lt-ltb, ltb-true, not-true, not_from_false, or_from, or_parts}
 use Rattle.xt_map.specs.declared.segment.Segment.{Segment}
 use Rattle.xt_image.specs.declared.image.Image.{Image}
 use Rattle.xt_isa.specs.Spelling.{within}
-use Rattle.xt_disasm.specs.Listing.{byte_at, wanted}
+use Rattle.xt_disasm.specs.Listing.{byte_at}
 use Rattle.xt_flow.specs.Following.{code_from, insn_at, length_at}
 use Rattle.xt_flow.specs.Kept.{IsVisited, first_place, is_free, is_long, is_marked, is_reached, marks_of, starts_within}
 use Rattle.xt_flow.specs.Printing.{IsFlowText, IsMarked, text_by}

@@ -1,7 +1,7 @@
 -- Carries a proof; nothing that a reader must believe.
 -- The tables that the code keeps, and what they say of each address.
-use Rattle.std.specs.Prelude.{◌≡◌, ◌↔◌, ℕ, ◌+◌, ◌-◌, ◌*◌, ◌<◌, ◌≤◌, Bool, true, false, ◌&&◌, ◌||◌}
-use Rattle.std.specs.Prelude.{not, nat_le, nat_lt, if◌then◌else◌, Option, Some, None, List, [], ◌∷◌}
+use Rattle.std.specs.Prelude.{◌≡◌, ◌↔◌, ℕ, ◌+◌, ◌-◌, Bool, true, false, ◌&&◌, ◌||◌}
+use Rattle.std.specs.Prelude.{not, nat_le, nat_lt, if◌then◌else◌, Option, Some, None, List}
 use Rattle.std.specs.Prelude.{◌++◌, length, slice_index_or, slice_set, is_some, replicate}
 use Rattle.xt_map.specs.declared.segment.Segment.{Segment}
 use Rattle.xt_image.specs.declared.image.Image.{Image}

@@ -21,7 +21,8 @@ StandsAtVector c after =
 
 -- each exception, each interrupt of level 2 to 5 and each window exception goes to one of them
 pub record EntersVectors (c : Control) : Type 0 where
-  pub exceptions : (cause : ℕ) (address : Option ℕ) → StandsAtVector c (after_exception cause address c)
+  pub exceptions : (cause : ℕ) (address : Option ℕ)
+      → StandsAtVector c (after_exception cause address c)
   pub interrupts : (level : ℕ) → 2 ≤ level → level ≤ 5 → StandsAtVector c (after_high_level level c)
   pub windows : (base vector : ℕ) → vector < 6
       → StandsAtVector c (after_window_exception base vector c)

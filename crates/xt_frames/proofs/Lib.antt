@@ -12,3 +12,5 @@ pub mod Prefixes
 pub mod Earlier
 pub mod FirstBreach
 pub mod OneBreach
+pub mod Mild
+pub mod Quickly

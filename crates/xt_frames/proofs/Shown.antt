@@ -66,7 +66,7 @@ may_write_is (insn.Control (control.Entry number size)) e m = e
 may_write_is (insn.Shift (shift.Movsp t s)) e m = m
 may_write_is _ e m = refl
 
-sp_kept : (o : Option RegWrite) → is_sp o ≡ false → KeepsSp o
+pub sp_kept : (o : Option RegWrite) → is_sp o ≡ false → KeepsSp o
 sp_kept None h = tt
 sp_kept (Some w) h = eqb-false _ _ h
 

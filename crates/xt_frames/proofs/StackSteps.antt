@@ -52,7 +52,7 @@ pub breach_fetches : (b : Bounds) (fresh : Bool) (code : ℕ → ℕ) (live stal
 unfolding laid_breach
 breach_fetches b fresh code live stale rec g e w = cond-false (ltb 0 (pending_of g.control) || g.control.waits) _ _ (or_from _ _ e w)
 
-write_stack : {lo hi : ℕ} {seen : List (Option ℕ)} {frames : List Frame} → Stack lo hi seen frames → (o : Option RegWrite) → KeepsSp o → Stack lo hi (seen_after_write o seen) frames
+pub write_stack : {lo hi : ℕ} {seen : List (Option ℕ)} {frames : List Frame} → Stack lo hi seen frames → (o : Option RegWrite) → KeepsSp o → Stack lo hi (seen_after_write o seen) frames
 write_stack k None other = k
 write_stack {seen = seen} k (Some w) other =
     let apart : 1 ≢ w.reg = λ e. other (sym e) in

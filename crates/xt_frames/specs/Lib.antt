@@ -12,3 +12,4 @@ pub mod Stacks
 pub mod Parts
 pub mod Walked
 pub mod Stepped
+pub mod Quick

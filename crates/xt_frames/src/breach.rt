@@ -133,7 +133,7 @@ fn may_write_sp(i: Insn) -> bool
     )
 }
 
-fn is_sp(write: Option<RegWrite>) -> bool
+pub fn is_sp(write: Option<RegWrite>) -> bool
     ensures { result ≡ is_sp write }
 {
     match write {
@@ -249,7 +249,7 @@ fn names_window_register(i: Insn) -> bool
     }
 }
 
-fn reads_lost(fresh: bool, register: Option<u8>) -> bool
+pub fn reads_lost(fresh: bool, register: Option<u8>) -> bool
     ensures { result ≡ reads_lost fresh register }
 {
     match register {
@@ -301,7 +301,7 @@ fn is_movsp(i: Insn) -> bool
     matches!(i, Insn::Shift(Shift::Movsp(_, _)))
 }
 
-fn is_in_vectors(limits: Limits, pc: u32) -> bool
+pub fn is_in_vectors(limits: Limits, pc: u32) -> bool
     ensures { result ≡ is_in_vectors limits.vecbase pc }
 {
     limits.vecbase <= pc && u64::from(pc) < u64::from(limits.vecbase) + 0x180

@@ -1,7 +1,7 @@
 //! A core of the machine with unbounded frames.
 #![tactic(auto)]
 
-ghost use Rattle.std.specs.Prelude.{◌≡◌, ◌≤◌, ◌<◌, ◌+◌, ◌%◌, ◌^◌, ℕ, Bool, length, IfOk};
+ghost use Rattle.std.specs.Prelude.{◌≡◌, ◌≤◌, ◌<◌, ◌+◌, ◌%◌, ◌^◌, ℕ, Bool, true, false, None, length, IfOk};
 ghost use Rattle.xt_map.specs.Memory.{constant_byte};
 ghost use Rattle.xt_frames.specs.FrameStep.{laid};
 ghost use Rattle.xt_frames.specs.Nesting.{current};
@@ -9,7 +9,7 @@ ghost use Rattle.xt_frames.specs.SaveAreas.{before};
 ghost use Rattle.xt_frames.specs.Breaches.{inputs_of, loads_stale, own_breach, touches_save_area, window_breach};
 ghost use Rattle.xt_frames.specs.Parts.{IsNewest, IsSmall, state_at};
 ghost use Rattle.xt_frames.specs.Stacks.{IsRange, Moves, Stack};
-ghost use Rattle.xt_frames.specs.Walked.{IsJudged, IsTested, bounds_of, calls_at, found_in, fresh_before, opened, sp_at, stack_of};
+ghost use Rattle.xt_frames.specs.Walked.{IsJudged, IsTested, bounds_of, calls_at, found_in, fresh_before, opened, sp_at, stack_of, walked_past};
 
 use crate::breach::{Case, Limits, return_breach, underflows};
 use crate::callers::{calls_in, change, depth_of, newest_of, sp_in, under};
@@ -145,6 +145,42 @@ impl Frames {
         view
     }
 
+    /// Whether EPC1 has what was last written, before the record of this number.
+    #[inline(always)]
+    fn is_fresh(&self, index: u32) -> bool
+        ensures { result ≡ fresh_before self.now index }
+    {
+        self.fresh && self.next == u64::from(index)
+    }
+
+    /// Makes the step of a record of this number, if it shows no breach and stays in its frame: whether it did. Else nothing has
+    /// changed.
+    fn quick(
+        &mut self,
+        code: &Constants,
+        index: u32,
+        rec: &StepRecord,
+        nested: bool,
+        saves: bool,
+        stale: bool,
+    ) -> bool
+        ensures judged { result ≡ true → (live dead : ℕ → Bool) → touches_save_area live rec.now.access ≡ saves → loads_stale live dead rec.now.access ≡ stale
+            → (found_in self.old (constant_byte code.now) live dead index nested rec.now ≡ None) × (self.new ≡ walked_past self.old (constant_byte code.now) index nested rec.now) }
+        ensures moves { result ≡ true → Moves self.old.state self.new.state }
+        ensures other { result ≡ false → self.new ≡ self.old }
+    {
+        if nested || saves || stale || self.holes.nested.is_some() {
+            return false;
+        }
+        let fresh = self.is_fresh(index);
+        let made = self.view.quick(&self.holes, self.limits, fresh, code, rec);
+        if made {
+            self.fresh = fresh;
+            self.next = u64::from(index) + 1;
+        }
+        made
+    }
+
     /// Judges a record of this number, by the inputs, the written register and the access of the record, and by whether it is nested,
     /// alone: a breach, or the frame step. After a breach nothing has changed. Takes no memory.
     ///
@@ -152,7 +188,8 @@ impl Frames {
     /// whether it is a load or S32C1I that touches a stale byte, or a load that touches a live save area.
     ///
     /// Condition: there are live and stale bytes for which both are so.
-    pub fn judge(
+    #[inline(never)]
+    fn judge_whole(
         &mut self,
         code: &Constants,
         index: u32,
@@ -179,6 +216,34 @@ impl Frames {
                 step: index,
                 kind,
             }),
+        }
+    }
+
+    /// Judges a record of this number, by the inputs, the written register and the access of the record, and by whether it is nested,
+    /// alone: a breach, or the frame step. After a breach nothing has changed. Takes no memory.
+    ///
+    /// `saves` says whether the record's access is a store or S32C1I that touches a live save area of either core, and `stale`
+    /// whether it is a load or S32C1I that touches a stale byte, or a load that touches a live save area.
+    ///
+    /// Condition: there are live and stale bytes for which both are so.
+    pub fn judge(
+        &mut self,
+        code: &Constants,
+        index: u32,
+        rec: &StepRecord,
+        nested: bool,
+        saves: bool,
+        stale: bool,
+    ) -> Result<(), Breach>
+        requires { (live : ℕ → Bool) × (dead : ℕ → Bool) × (touches_save_area live rec.now.access ≡ saves) × (loads_stale live dead rec.now.access ≡ stale) }
+        ensures judged { (live dead : ℕ → Bool) → touches_save_area live rec.now.access ≡ saves → loads_stale live dead rec.now.access ≡ stale
+            → IsJudged (found_in self.old (constant_byte code.now) live dead index nested rec.now) self.old (constant_byte code.now) index nested rec.now result self.new }
+        ensures moves { IfOk result (λ u. Moves self.old.state self.new.state) }
+    {
+        if self.quick(code, index, rec, nested, saves, stale) {
+            Ok(())
+        } else {
+            self.judge_whole(code, index, rec, nested, saves, stale)
         }
     }
 

@@ -10,6 +10,7 @@ mod judged;
 mod kinds;
 pub mod laws;
 mod nested;
+mod quick;
 mod registers;
 mod view;
 

@@ -249,6 +249,7 @@ impl View {
     }
 
     /// The program counter.
+    #[inline(always)]
     pub fn pc(&self) -> u32
         ensures { result ≡ self.now.control.pc }
     {
@@ -256,6 +257,7 @@ impl View {
     }
 
     /// Exception mode.
+    #[inline(always)]
     pub fn excm(&self) -> bool
         ensures { result ≡ self.now.control.ps.excm }
     {
@@ -278,13 +280,15 @@ impl View {
     }
 
     /// VECBASE.
+    #[inline(always)]
     pub fn vecbase(&self) -> u32
         ensures { result ≡ special_of self.now.control numbers.vecbase }
     {
         self.special.vecbase()
     }
 
-    fn tick(&mut self)
+    #[inline(always)]
+    pub(crate) fn tick(&mut self)
         ensures { self.new ≡ record self.old { control = ticked self.old.control } }
     {
         xt_timer::tick(&mut self.special);
@@ -298,7 +302,8 @@ impl View {
     }
 
     /// What an instruction of this length changes beside the visible registers.
-    fn apply(&mut self, e: Effect, len: u8)
+    #[inline(always)]
+    pub(crate) fn apply(&mut self, e: Effect, len: u8)
         requires { IsProperEffect IsAny e }
         ensures { self.new ≡ record self.old { control = after_effect e len self.old.control } }
     {
@@ -306,7 +311,8 @@ impl View {
         self.waits = e.waits;
     }
 
-    fn write(&mut self, write: Option<RegWrite>)
+    #[inline(always)]
+    pub(crate) fn write(&mut self, write: Option<RegWrite>)
         requires { IsProperWrite IsAny write }
         ensures { self.new ≡ record self.old { seen = seen_after_write write self.old.seen } }
     {
@@ -388,7 +394,8 @@ impl View {
         }
     }
 
-    fn visible_value(&self, register: Option<u8>) -> u32
+    #[inline(always)]
+    pub(crate) fn visible_value(&self, register: Option<u8>) -> u32
         requires { IsRegister register }
         ensures { result ≡ value_of (known self.now.seen) register }
     {

@@ -1,7 +1,7 @@
-use Rattle.std.proofs.Common.{◌≡◌, ℕ, Bool, true, false, ◌↔◌, List, refl, sym, ap, ◌∙◌}
+use Rattle.std.proofs.Common.{◌≡◌, ℕ, Bool, true, false, ◌↔◌, refl, sym, ap, ◌∙◌}
 use mathlib.Core.Path.{fun_ext}
 use Rattle.xt_image.specs.declared.image.Image.{Image}
-use Rattle.xt_flow.specs.Printing.{IsFlowText, IsMarked, Marks, text_by}
+use Rattle.xt_flow.specs.Printing.{IsMarked, Marks, text_by}
 use Rattle.xt_flow.proofs.laws.listing_is_one.Goals as goal
 
 -- tests that agree are one

@@ -1,11 +1,11 @@
-use Rattle.std.proofs.Common.{◌≡◌, ℕ, zero, suc, ◌+◌, ◌*◌, ◌<◌, ◌≤◌, Bool, true, false, Option, map, refl, arith}
+use Rattle.std.proofs.Common.{ℕ, zero, suc, ◌+◌, ◌<◌, ◌≤◌, Bool, true, false, Option, map, refl, arith}
 use Rattle.std.specs.Prelude.{if◌then◌else◌, Contains}
 use Rattle.xt_special.specs.Control.{Control, special_of}
 use Rattle.xt_special.specs.Exceptions.{after_double, after_exception, after_general}
 use Rattle.xt_special.specs.Interrupts.{after_high_level}
 use Rattle.xt_special.specs.Numbers as number
 use Rattle.xt_special.specs.WindowExceptions.{after_window_exception}
-use Rattle.xt_flow.specs.Laws.{EntersVectors, StandsAtVector}
+use Rattle.xt_flow.specs.Laws.{StandsAtVector}
 use Rattle.xt_flow.specs.Starts.{vector_offsets}
 use Rattle.xt_flow.proofs.laws.vectors_are_entered.Goals as goal
 

@@ -1,4 +1,4 @@
-use Rattle.std.proofs.Common.{◌≡◌, ◌+◌, ◌^◌, ◌++◌, ◌<◌, ◌≤◌, ◌∙◌, ap, sym, length, length-drop, drop, take, string_bytes, rules, arith}
+use Rattle.std.proofs.Common.{◌≡◌, ◌+◌, ◌++◌, ◌<◌, ◌∙◌, ap, length, length-drop, string_bytes, rules, arith}
 use Rattle.std.proofs.lemmas.List.{take_rest}
 use Rattle.std.proofs.lemmas.Bool.Decides.{nat_tests}
 use Rattle.xt_flow.specs.Kept.{marks_of}

@@ -1,6 +1,6 @@
-use Rattle.std.proofs.Common.{◌≡◌, ◌∙◌, sym, arith}
+use Rattle.std.proofs.Common.{◌∙◌, sym}
 use Rattle.xt_flow.specs.Kept.{is_marked}
-use Rattle.xt_flow.proofs.Runs.{next_ends, next_goes_on, next_stops}
+use Rattle.xt_flow.proofs.Runs.{next_goes_on}
 use Rattle.xt_flow.proofs.listing.to_next.Goals as goal
 
 pub loop-k-preserved : goal.loop-k-preserved

@@ -1,7 +1,6 @@
-use Rattle.std.proofs.Common.{◌≡◌, ◌-◌, ◌<◌, ◌++◌, ◌∷◌, [], ◌∙◌, sym, ap, subst, take}
+use Rattle.std.proofs.Common.{◌≡◌, ◌-◌, [], ◌∙◌, sym, ap, subst, take}
 use mathlib.Core.List.{append-nil}
 use Rattle.xt_flow.specs.Kept.{table_size, unmarked}
-use Rattle.xt_flow.specs.Starts.{openings}
 use Rattle.xt_flow.proofs.Reaching.{Going, begins, ends}
 use Rattle.xt_flow.proofs.Steps.{visit_goes_on, visit_is_less}
 use Rattle.xt_flow.proofs.visits.visit_all.Goals as goal

@@ -1,4 +1,3 @@
-use Rattle.std.proofs.Common.{◌≡◌, ◌+◌, ◌*◌, length}
 use Rattle.xt_flow.proofs.Reaching.{Going, left}
 use Rattle.xt_flow.proofs.visits.visit_all.Given as goal
 
