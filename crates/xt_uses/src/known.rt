@@ -1,0 +1,168 @@
+//! Which bits are known of the register that an instruction writes.
+#![tactic(auto)]
+
+ghost use Rattle.std.specs.Prelude.{◌≡◌, ◌<◌, ◌≤◌, ◌^◌, true};
+ghost use Rattle.xt_isa.specs.Ranges.{in_range, natural_within, shift_in_range};
+ghost use Rattle.xt_rows.specs.Laws.{IsShiftAmount};
+ghost use Rattle.xt_rows.specs.Numbers.{extended, natural};
+ghost use Rattle.xt_uses.specs.Known.{boolean_mask, density_mask, loaded_mask, memory_mask, result_mask, shift_mask, src_mask, system_mask, three_mask, where_both};
+
+use crate::words::{ALL_BITS, Word, and_mask, both_mask, flipped, is_whole, mask_where, or_mask};
+use xt_alu::{extui, sext, sll, slli, sra, srai, src, srl, srli};
+use xt_isa::Insn;
+use xt_isa::boolean::Boolean;
+use xt_isa::density::Density;
+use xt_isa::memory::{HalfName, Memory};
+use xt_isa::shift::{SextName, Shift, SrlName};
+use xt_isa::system::{SpecialName, System, UserName};
+use xt_isa::three::{AndName, Three};
+use xt_rows::natural;
+
+// An operand within a range of numbers below 256.
+#[tactic(auto, unfolding(xt_rows::specs::Numbers::natural, xt_isa::specs::Ranges::natural_within))]
+fn within(n: i32, first: u8, last: u8) -> u8
+    requires { natural_within first last n ≡ true }
+    ensures value { result ≡ natural n }
+    ensures low { first ≤ result }
+    ensures high { result ≤ last }
+{
+    natural(n) as u8
+}
+
+fn where_both(x: Word, y: Word) -> u32
+    ensures { result ≡ where_both x y }
+{
+    mask_where(is_whole(x) && is_whole(y))
+}
+
+fn src_mask(x: Word, y: Word, sar: u8) -> u32
+    requires { sar < 64 }
+    ensures { result ≡ src_mask x y sar }
+{
+    flipped(src(flipped(x.mask), flipped(y.mask), sar))
+}
+
+#[tactic(auto, unfolding(crate::specs::Known::three_mask))]
+fn three_mask(i: Three, x: Word, y: Word, sar: u8) -> u32
+    requires { sar < 64 }
+    ensures { result ≡ three_mask i x y sar }
+{
+    match i {
+        Three::And(AndName::And, _, _, _) => and_mask(x, y),
+        Three::And(AndName::Or, _, _, _) => or_mask(x, y),
+        Three::And(AndName::Xor, _, _, _) => both_mask(x, y),
+        Three::Src(_, _, _) => src_mask(x, y, sar),
+        Three::Moveqz(_, _, _, _) => x.mask,
+        _ => where_both(x, y),
+    }
+}
+
+// The bits that are not known move as the values do.
+#[tactic(auto, unfolding(crate::specs::Known::shift_mask))]
+fn shift_mask(i: Shift, x: Word, sar: u8) -> u32
+    requires range { shift_in_range i ≡ true }
+    requires sar { sar < 64 }
+    ensures { result ≡ shift_mask i x sar }
+{
+    let lacks = flipped(x.mask);
+    match i {
+        Shift::Srl(SrlName::Srl, _, _) => flipped(srl(lacks, sar)),
+        Shift::Srl(SrlName::Sra, _, _) => flipped(sra(lacks, sar)),
+        Shift::Sll(_, _) => flipped(sll(lacks, sar)),
+        Shift::Slli(_, _, n) => flipped(slli(lacks, within(n, 1, 31))),
+        Shift::Srai(_, _, n) => flipped(srai(lacks, within(n, 0, 31))),
+        Shift::Srli(_, _, n) => flipped(srli(lacks, within(n, 0, 15))),
+        Shift::Extui(_, _, n, width) => {
+            flipped(extui(lacks, within(n, 0, 31), within(width, 1, 16)))
+        }
+        Shift::Sext(SextName::Sext, _, _, b) => flipped(sext(lacks, within(b, 7, 22))),
+        _ => mask_where(is_whole(x)),
+    }
+}
+
+#[tactic(auto, unfolding(xt_rows::specs::Numbers::extended))]
+fn extended(signed: bool, n: u32) -> u32
+    ensures { result ≡ extended signed n }
+{
+    if signed { xt_word::sext(n, 16) } else { n }
+}
+
+fn loaded_mask(signed: bool, reply: u32) -> u32
+    ensures { result ≡ loaded_mask signed reply }
+{
+    flipped(extended(signed, flipped(reply)))
+}
+
+#[tactic(auto, unfolding(crate::specs::Known::memory_mask))]
+fn memory_mask(i: Memory, x: Word, reply: u32) -> u32
+    ensures { result ≡ memory_mask i x reply }
+{
+    match i {
+        Memory::L8ui(_, _, _, _) => loaded_mask(false, reply),
+        Memory::L16ui(HalfName::L16si, _, _, _) => loaded_mask(true, reply),
+        Memory::L16ui(_, _, _, _) => loaded_mask(false, reply),
+        Memory::L32i(_, _, _, _) => loaded_mask(false, reply),
+        Memory::S32c1i(_, _, _) => loaded_mask(false, reply),
+        Memory::L32e(_, _, _, _) => loaded_mask(false, reply),
+        Memory::L32r(_, _) => loaded_mask(false, reply),
+        Memory::Movi(_, _) => ALL_BITS,
+        Memory::Addi(_, _, _) => mask_where(is_whole(x)),
+        Memory::Addmi(_, _, _) => mask_where(is_whole(x)),
+    }
+}
+
+#[tactic(auto, unfolding(crate::specs::Known::system_mask))]
+fn system_mask(i: System, u: Word, pointer: u32) -> u32
+    ensures { result ≡ system_mask i u pointer }
+{
+    match i {
+        System::Rsr(SpecialName::Rsr, _, _) => u.mask,
+        System::Rsr(SpecialName::Xsr, _, _) => u.mask,
+        System::Rur(UserName::Rur, _, _) => pointer,
+        _ => ALL_BITS,
+    }
+}
+
+#[tactic(auto, unfolding(crate::specs::Known::density_mask))]
+fn density_mask(i: Density, x: Word, y: Word, reply: u32) -> u32
+    ensures { result ≡ density_mask i x y reply }
+{
+    match i {
+        Density::L32i(_, _, _, _) => loaded_mask(false, reply),
+        Density::Add(_, _, _) => where_both(x, y),
+        Density::Addi(_, _, _) => mask_where(is_whole(x)),
+        Density::Mov(_, _) => x.mask,
+        _ => ALL_BITS,
+    }
+}
+
+#[tactic(auto, unfolding(crate::specs::Known::boolean_mask))]
+fn boolean_mask(i: Boolean, x: Word) -> u32
+    ensures { result ≡ boolean_mask i x }
+{
+    match i {
+        Boolean::Movf(_, _, _, _) => x.mask,
+        _ => ALL_BITS,
+    }
+}
+
+/// The known bits of the register that an instruction writes: x and y are the words of the registers that it reads, u that of its
+/// special register, `pointer` the mask of THREADPTR and `reply` that of the reply.
+///
+/// Conditions: its operands are in their ranges, and where it shifts by SAR, that is below 64.
+#[tactic(auto, unfolding(crate::specs::Known::result_mask))]
+pub fn result_mask(i: Insn, x: Word, y: Word, u: Word, pointer: u32, reply: u32) -> u32
+    requires range { in_range i ≡ true }
+    requires sar { IsShiftAmount i u.value }
+    ensures { result ≡ result_mask i x y u pointer reply }
+{
+    match i {
+        Insn::Three(i) => three_mask(i, x, y, u.value as u8),
+        Insn::Shift(i) => shift_mask(i, x, u.value as u8),
+        Insn::Memory(i) => memory_mask(i, x, reply),
+        Insn::Control(_) => ALL_BITS,
+        Insn::System(i) => system_mask(i, u, pointer),
+        Insn::Density(i) => density_mask(i, x, y, reply),
+        Insn::Boolean(i) => boolean_mask(i, x),
+    }
+}
