@@ -1,0 +1,98 @@
+-- The record that begins a nested interrupt: nothing is known of the interrupt's registers.
+use Rattle.std.specs.Prelude.{unwrap_or, is_some}
+use Rattle.std.proofs.Common.{◌≡◌, ℕ, ◌≢◌, Bool, true, false, ◌&&◌, not, List, Option, None, sym, ap, ◌∙◌, refl, arith, ⊎_elim, subst, get_or, replicate}
+use Rattle.std.proofs.Math.ListN.{set}
+use Rattle.std.proofs.lemmas.Bool.{both_ways, cases_eq, cases_lt, cond-true}
+use Rattle.std.proofs.lemmas.List.{get_or-set_same, get_or-set_other, get_or_past, length-set, length-replicate}
+use Rattle.xt_trace.specs.declared.record.StepRecord.{StepRecord}
+use Rattle.xt_rows.specs.Settling.{settled_interrupt}
+use Rattle.xt_frames.specs.declared.holes.Nested.{Nested}
+use Rattle.xt_frames.specs.Frames.{FrameState, known}
+use Rattle.xt_frames.specs.FrameStep.{Inputs, in_frame, laid}
+use Rattle.xt_frames.specs.Marks.{holds_marks}
+use Rattle.xt_frames.specs.Nesting.{begins, begun, is_nesting}
+use Rattle.xt_frames.specs.Breaches.{inputs_of}
+use Rattle.xt_uses.specs.Words.{cut}
+use Rattle.xt_uses.specs.UseState.{UseState}
+use Rattle.xt_uses.specs.UseStep.{inner_unknown, other_turn, use_step, value_step}
+use Rattle.xt_use_run.specs.Knowing.{ControlFit, Follows, Knows, SeenFit, UnsetFit}
+use Rattle.xt_use_run.proofs.Lists.{laid_fits}
+use Rattle.xt_use_run.proofs.NestedFollow.{placed_fits}
+use Rattle.xt_use_run.proofs.Seen.{blank, cut_zero}
+use Rattle.xt_use_run.proofs.Specials.{taken_fits, ticked_fits}
+
+-- a special register that keeps nothing unknown loses its number in both
+plain_unset : {special : List ℕ} {xs ys : List Bool} → UnsetFit special xs ys → (n : ℕ) (b : Bool) → holds_marks n ≡ false → UnsetFit special (set xs n b) (set ys n b)
+plain_unset {special = special} {xs = xs} {ys = ys} u n b plain =
+    let size = u.size in
+    let wide = u.wide in
+    record {
+      size = length-set xs n b ∙ size;
+      wide = length-set ys n b ∙ wide;
+      equal = λ k other. ⊎_elim
+          (λ is. ⊎_elim
+          (λ low.
+          let a : get_or (set xs n b) n false ≡ b = get_or-set_same xs n b false (omega arith) in
+          let c : get_or (set ys n b) n false ≡ b = get_or-set_same ys n b false (omega arith) in
+          rw is (a ∙ sym c))
+          (λ high.
+          let a = get_or_past (set xs n b) n false (let l = length-set xs n b in omega arith) in
+          let c = get_or_past (set ys n b) n false (let l = length-set ys n b in omega arith) in
+          rw is (a ∙ sym c))
+          (cases_lt n 256))
+          (λ apart. get_or-set_other xs n k b false apart ∙ (u.equal k other ∙ sym (get_or-set_other ys n k b false apart)))
+          (cases_eq k n);
+      lacks = λ k mark has.
+          let apart : k ≢ n = λ is. both_ways (holds_marks n) plain (subst (λ j. holds_marks j ≡ true) is mark) in
+          u.lacks k mark (sym (get_or-set_other xs n k b false apart) ∙ has);
+    }
+
+abbrev no_number : Option ℕ
+no_number = None
+
+blank_fits : SeenFit 16 (replicate 16 0) (replicate 16 no_number) (replicate 16 no_number)
+blank_fits = record {
+  size = length-replicate 16 no_number;
+  wide = length-replicate 16 no_number;
+  spread = length-replicate {A = ℕ} 16 0;
+  fits = λ i.
+      let v : known (replicate 16 no_number) i ≡ 0 = ap (λ (o : Option ℕ). unwrap_or o 0) (blank 16 i no_number) in
+      ap (λ z. cut z (known (replicate 16 no_number) i)) (blank 16 i 0) ∙ (cut_zero (known (replicate 16 no_number) i) ∙ sym v);
+  lacks = λ i e. blank 16 i 0;
+}
+
+pub use_begins : (code : ℕ → ℕ) (rec : StepRecord) (bytes : ℕ → ℕ) (s : UseState) → is_nesting rec.kind ≡ true → s.frame.nested ≡ None → use_step code true rec bytes s ≡ other_turn (inner_unknown s.masks) (begun (laid (inputs_of rec) s.frame))
+unfolding value_step
+use_begins code rec bytes s nesting sn =
+    let start : begins true rec.kind s.frame ≡ true = ap (λ (o : Option Nested). is_nesting rec.kind && not (is_some o)) sn ∙ ap (λ b. b && true) nesting in
+    cond-true (begins true rec.kind s.frame) _ _ start
+
+module _ {f : FrameState} {s : UseState} (k : Knows f s) (inp : Inputs) where
+  laid_control : ControlFit s.masks.special s.masks.threadptr (laid inp f).control (laid inp s.frame).control
+  laid_control = laid_fits inp f s.frame k.control
+
+  taken : ControlFit s.masks.special s.masks.threadptr (in_frame (settled_interrupt 5 (laid inp f).control) 0 (laid inp f)).after.control (in_frame (settled_interrupt 5 (laid inp s.frame).control) 0 (laid inp s.frame)).after.control
+  taken = ticked_fits (taken_fits laid_control 5 (omega arith))
+
+  pub begin_follows : Follows (other_turn (inner_unknown s.masks) (begun (laid inp s.frame))) (begun (laid inp f))
+  begin_follows = record {
+    kind = refl;
+    write = tt;
+    access = tt;
+    sent = tt;
+    knows = record {
+      seen = k.seen;
+      sp = k.sp;
+      frames = k.frames;
+      control = placed_fits taken (laid inp f).control.pc (laid inp s.frame).control.pc (laid inp f).control.ps (laid inp s.frame).control.ps laid_control.even.pc laid_control.even.ps;
+      unset = plain_unset (plain_unset k.unset 181 true refl) 197 true refl;
+      nested = record {
+        seen = blank_fits;
+        pc = taken.even.pc;
+        ps = taken.even.ps;
+        marks = refl;
+        spread = refl;
+        saved = refl;
+      };
+    };
+  }

@@ -1,0 +1,132 @@
+-- The effects of a row that agree, applied to control states that fit.
+use Rattle.std.proofs.Common.{◌≡◌, ℕ, ◌^◌, ◌<◌, ◌≢◌, true, false, List, Option, Some, None, sym, ap, ◌∙◌, refl, arith, ⊎_elim, subst, length, get_or}
+use Rattle.std.proofs.Math.ListN.{set}
+use Rattle.std.proofs.lemmas.Bool.{cases_Bool, cases_eq, both_ways}
+use Rattle.std.proofs.lemmas.List.{get_or-set_same, get_or-set_other, length-set}
+use Rattle.xt_special.specs.Control.{Control, special_of}
+use Rattle.xt_special.specs.Access.{SpecialWrites, set_to, no_set, with_sets}
+use Rattle.xt_rows.specs.declared.outcome.Effect.{Effect}
+use Rattle.xt_rows.specs.Kinds.{is_saved, SetsOne}
+use Rattle.xt_rows.specs.Settling.{after_flow, after_effect}
+use Rattle.xt_frames.specs.Marks.{holds_marks}
+use Rattle.xt_simulation.specs.Relation.{Same, Even}
+use Rattle.xt_simulation.proofs.Evenly.{even_flow, same_sets}
+use Rattle.xt_simulation.proofs.InnerSteps.{Elsewhere, all_spare, effect_spares}
+use Rattle.xt_uses.specs.declared.words.Word.{Word}
+use Rattle.xt_uses.specs.Words.{Fits, cut}
+use Rattle.xt_uses.specs.UseLaws.{SetsAgree}
+use Rattle.xt_use_run.specs.Knowing.{ControlFit, with_pointer}
+use Rattle.xt_use_run.proofs.Specials.{mark_range, mark_saved, flow_special, flow_pointer, flow_threadptr}
+
+-- the masks of the special registers after a WSR or XSR
+abbrev pub moved_masks : Option (ℕ × ℕ) → ℕ → List ℕ → List ℕ
+moved_masks None mask xs = xs
+moved_masks (Some p) mask xs = set xs p.1 mask
+
+-- both machines set a register that may hold what is not known
+mark_same : {xs ys : List ℕ} → Same holds_marks xs ys → (n x y : ℕ) → holds_marks n ≡ true → Same holds_marks (set xs n x) (set ys n y)
+mark_same {xs = xs} {ys = ys} s n x y h = record {
+  size = length-set xs n x ∙ (s.size ∙ sym (length-set ys n y));
+  only = s.only;
+  at = λ k known.
+      let other : k ≢ n = λ e. both_ways (holds_marks n) (subst (λ j. holds_marks j ≡ false) e known) h in
+      get_or-set_other xs n k x 0 other ∙ (s.at k known ∙ sym (get_or-set_other ys n k y 0 other));
+}
+
+pub masks_length : (o : Option (ℕ × ℕ)) (mask : ℕ) (xs : List ℕ) → length (moved_masks o mask xs) ≡ length xs
+masks_length None mask xs = refl
+masks_length (Some p) mask xs = length-set xs p.1 mask
+
+masks_elsewhere : (o : Option (ℕ × ℕ)) (mask : ℕ) (xs : List ℕ) (n : ℕ) → Elsewhere o n → get_or (moved_masks o mask xs) n 0 ≡ get_or xs n 0
+masks_elsewhere None mask xs n e = refl
+masks_elsewhere (Some p) mask xs n e = get_or-set_other xs p.1 n mask 0 (λ is. e (sym is))
+
+-- which writes of special registers these are: those of a WSR or XSR of a register that may hold what is not known
+abbrev pub GivesTo : Option (ℕ × ℕ) → ℕ → SpecialWrites → Type 0
+GivesTo o x sets = (p : ℕ × ℕ) → o ≡ Some p → holds_marks p.1 ≡ true → sets ≡ (set_to p.1 x, no_set, no_set)
+
+module _ (o : Option (ℕ × ℕ)) {special : List ℕ} {bits : ℕ} {c d : Control} (f : ControlFit special bits c d) (count : length c.special ≡ 256) (x : ℕ) (a : Word) (word : Fits x a) (m e : Effect) (sets : SetsAgree o a.mask m.sets e.sets)
+    (first : (n : ℕ) → is_saved n ≡ true → SetsOne o n m.sets) (second : (n : ℕ) → is_saved n ≡ true → SetsOne o n e.sets) (gives : GivesTo o x m.sets) (gives_too : GivesTo o a.value e.sets) where
+  sets_even : Same holds_marks (with_sets m.sets c.special) (with_sets e.sets d.special)
+  sets_even = by_row o refl sets
+    where
+      by_row : (p : Option (ℕ × ℕ)) → o ≡ p → SetsAgree p a.mask m.sets e.sets → Same holds_marks (with_sets m.sets c.special) (with_sets e.sets d.special)
+      by_row None is same = subst (λ (w : SpecialWrites). Same holds_marks (with_sets m.sets c.special) (with_sets w d.special)) same (same_sets m.sets f.even.special)
+      by_row (Some p) is s = ⊎_elim
+          (λ h.
+          let q = gives p is h in
+          let r = gives_too p is h in
+          subst (λ (w : SpecialWrites). Same holds_marks (with_sets w c.special) (with_sets e.sets d.special)) (sym q)
+          (subst (λ (w : SpecialWrites). Same holds_marks (set c.special p.1 x) (with_sets w d.special)) (sym r) (mark_same f.even.special p.1 x a.value h)))
+          (λ h. subst (λ (w : SpecialWrites). Same holds_marks (with_sets m.sets c.special) (with_sets w d.special)) (s.1 h) (same_sets m.sets f.even.special))
+          (cases_Bool (holds_marks p.1))
+
+  set_value : (w : Effect) (len n y : ℕ) (k : Control) → length k.special ≡ 256 → holds_marks n ≡ true → w.sets ≡ (set_to n y, no_set, no_set) → special_of (after_effect w len k) n ≡ y
+  unfolding after_effect
+  set_value w len n y k size h is =
+      let low : n < 256 = ⊎_elim (λ r. let hi = r.1 in omega arith) (λ r. let hi = r.1 in omega arith) (mark_range n h) in
+      let other : n ≢ 2 = λ z. ⊎_elim (λ r. let lo = r.0 in omega arith) (λ r. let lo = r.0 in omega arith) (mark_range n h) in
+      flow_special w.flow len (record { pc = k.pc; special = with_sets w.sets k.special; ps = w.ps; threadptr = w.threadptr; waits = w.waits }) n other
+      ∙ (ap (λ (v : SpecialWrites). get_or (with_sets v k.special) n 0) is ∙ get_or-set_same k.special n y 0 (omega arith))
+
+  marks_fit : (len n : ℕ) → holds_marks n ≡ true → cut (get_or (moved_masks o a.mask special) n 0) (special_of (after_effect m len c) n) ≡ special_of (after_effect e len d) n
+  marks_fit len n h = by_row o refl
+    where
+      apart : Elsewhere o n → cut (get_or (moved_masks o a.mask special) n 0) (special_of (after_effect m len c) n) ≡ special_of (after_effect e len d) n
+      apart else =
+          let saved = mark_saved n h in
+          let p = effect_spares m len c n saved (all_spare o n m.sets (first n saved) else) in
+          let q = effect_spares e len d n saved (all_spare o n e.sets (second n saved) else) in
+          let r = masks_elsewhere o a.mask special n else in
+          ap (λ z. cut z (special_of (after_effect m len c) n)) r ∙ (ap (cut (get_or special n 0)) p ∙ (f.fits n h ∙ sym q))
+
+      by_row : (p : Option (ℕ × ℕ)) → o ≡ p → cut (get_or (moved_masks o a.mask special) n 0) (special_of (after_effect m len c) n) ≡ special_of (after_effect e len d) n
+      by_row None is = apart (subst (λ (p : Option (ℕ × ℕ)). Elsewhere p n) (sym is) tt)
+      by_row (Some p) is = ⊎_elim
+          (λ same.
+          let h2 : holds_marks p.1 ≡ true = subst (λ k. holds_marks k ≡ true) (sym same) h in
+          let low : n < 256 = ⊎_elim (λ r. let hi = r.1 in omega arith) (λ r. let hi = r.1 in omega arith) (mark_range n h) in
+          let spread = f.spread in
+          let q : special_of (after_effect m len c) n ≡ x = set_value m len n x c count h (subst (λ k. m.sets ≡ (set_to k x, no_set, no_set)) same (gives p is h2)) in
+          let r : special_of (after_effect e len d) n ≡ a.value = set_value e len n a.value d (sym f.even.special.size ∙ count) h (subst (λ k. e.sets ≡ (set_to k a.value, no_set, no_set)) same (gives_too p is h2)) in
+          let z : get_or (moved_masks o a.mask special) n 0 ≡ a.mask =
+          ap (λ (p : Option (ℕ × ℕ)). get_or (moved_masks p a.mask special) n 0) is ∙ (ap (λ k. get_or (set special k a.mask) n 0) same ∙ get_or-set_same special n a.mask 0 (omega arith)) in
+          ap (λ k. cut k (special_of (after_effect m len c) n)) z ∙ (ap (cut a.mask) q ∙ (word ∙ sym r)))
+          (λ other. apart (subst (λ (p : Option (ℕ × ℕ)). Elsewhere p n) (sym is) other))
+          (cases_eq p.1 n)
+
+  words_stay : (len n : ℕ) → x < 2 ^ 32 → holds_marks n ≡ true → special_of (after_effect m len c) n < 2 ^ 32
+  words_stay len n small h = by_row o refl
+    where
+      apart : Elsewhere o n → special_of (after_effect m len c) n < 2 ^ 32
+      apart else = subst (λ z. z < 2 ^ 32) (sym (effect_spares m len c n (mark_saved n h) (all_spare o n m.sets (first n (mark_saved n h)) else))) (f.words n h)
+
+      by_row : (p : Option (ℕ × ℕ)) → o ≡ p → special_of (after_effect m len c) n < 2 ^ 32
+      by_row None is = apart (subst (λ (p : Option (ℕ × ℕ)). Elsewhere p n) (sym is) tt)
+      by_row (Some p) is = ⊎_elim
+          (λ same.
+          let h2 : holds_marks p.1 ≡ true = subst (λ k. holds_marks k ≡ true) (sym same) h in
+          subst (λ z. z < 2 ^ 32) (sym (set_value m len n x c count h (subst (λ k. m.sets ≡ (set_to k x, no_set, no_set)) same (gives p is h2)))) small)
+          (λ other. apart (subst (λ (p : Option (ℕ × ℕ)). Elsewhere p n) (sym is) other))
+          (cases_eq p.1 n)
+
+  effect_pointer : (w : Effect) (len : ℕ) (k : Control) → (after_effect w len k).threadptr ≡ w.threadptr
+  unfolding after_effect
+  effect_pointer w len k = flow_threadptr w.flow len (record { pc = k.pc; special = with_sets w.sets k.special; ps = w.ps; threadptr = w.threadptr; waits = w.waits })
+
+  effect_even : (len : ℕ) → m.ps ≡ e.ps → m.flow ≡ e.flow → m.waits ≡ e.waits → Even holds_marks (after_effect m len c) (with_pointer m.threadptr (after_effect e len d))
+  unfolding after_effect
+  effect_even len ps flow waits =
+      let before : Control = record { pc = c.pc; special = with_sets m.sets c.special; ps = m.ps; threadptr = m.threadptr; waits = m.waits } in
+      let after : Control = record { pc = d.pc; special = with_sets e.sets d.special; ps = e.ps; threadptr = e.threadptr; waits = e.waits } in
+      let even : Even holds_marks before (with_pointer m.threadptr after) = record { pc = f.even.pc; ps = ps; threadptr = refl; waits = waits; special = sets_even } in
+      subst (Even holds_marks (after_flow m.flow len before)) (ap (λ w. after_flow w len (with_pointer m.threadptr after)) flow ∙ sym (flow_pointer e.flow len after m.threadptr)) (even_flow m.flow len before (with_pointer m.threadptr after) even)
+
+  pub effect_fits : (len pointer : ℕ) → x < 2 ^ 32 → m.ps ≡ e.ps → m.flow ≡ e.flow → m.waits ≡ e.waits → cut pointer m.threadptr ≡ e.threadptr → ControlFit (moved_masks o a.mask special) pointer (after_effect m len c) (after_effect e len d)
+  effect_fits len pointer small ps flow waits cuts = record {
+    even = subst (λ t. Even holds_marks (after_effect m len c) (with_pointer t (after_effect e len d))) (sym (effect_pointer m len c)) (effect_even len ps flow waits);
+    pointer = ap (cut pointer) (effect_pointer m len c) ∙ (cuts ∙ sym (effect_pointer e len d));
+    spread = masks_length o a.mask special ∙ f.spread;
+    words = λ n h. words_stay len n small h;
+    fits = marks_fit len;
+  }

@@ -1,0 +1,7 @@
+//! The processor with windows runs as the machine of uses.
+//!
+//! What the machine of uses knows of a run is so, up to the first use of what is not known. Each law
+//! is the contract of a function that does nothing.
+#![tactic(auto)]
+
+pub mod laws;
