@@ -49,7 +49,7 @@ use Rattle.xt_uses.specs.UseLaws.{AccessesAgree, EffectsAgree, IsSent, OutcomesA
 use Rattle.xt_use_run.specs.Knowing.{ControlFit, NowFit}
 use Rattle.xt_use_run.proofs.Effects.{GivesTo, effect_fits, moved_masks}
 use Rattle.xt_use_run.proofs.Operands.{row_masks, word_fits, word_value}
-use Rattle.xt_use_run.proofs.Pointer.{HasPointer, pointer_left}
+use Rattle.xt_use_run.proofs.Pointer.{LeavesPointer, pointer_left}
 use Rattle.xt_uses.specs.Used.{low_bits, used_are_known}
 use Rattle.xt_use_run.proofs.Sent.{HasSent, KindSent, second_sent}
 use Rattle.xt_use_run.proofs.Seen.{cut_twice}
@@ -258,8 +258,8 @@ module _ {s : UseState} {g h : FrameState} (f : NowFit s g h) (code : ℕ → �
   does_ordinary len reply m e q r agree =
       let fo : Fits i (Does m) = subst (Fits i) q (outcome_fits code i g.control.pc _ _ _ _ g.control.ps g.control.threadptr) in
       let fp : Fits i (Does e) = subst (Fits i) r (outcome_fits code i h.control.pc _ _ _ _ h.control.ps h.control.threadptr) in
-      let tm : HasPointer (pointer_mask i x g.control.threadptr) (Does m) = subst (HasPointer (pointer_mask i x g.control.threadptr)) q (pointer_left code i g.control.pc x _ _ _ g.control.ps g.control.threadptr) in
-      let te : HasPointer (pointer_mask i (value_of (known h.seen) (reads i).0) h.control.threadptr) (Does e) = subst (HasPointer (pointer_mask i (value_of (known h.seen) (reads i).0) h.control.threadptr)) r (pointer_left code i h.control.pc (value_of (known h.seen) (reads i).0) _ _ _ h.control.ps h.control.threadptr) in
+      let tm : LeavesPointer (pointer_mask i x g.control.threadptr) (Does m) = subst (LeavesPointer (pointer_mask i x g.control.threadptr)) q (pointer_left code i g.control.pc x _ _ _ g.control.ps g.control.threadptr) in
+      let te : LeavesPointer (pointer_mask i (value_of (known h.seen) (reads i).0) h.control.threadptr) (Does e) = subst (LeavesPointer (pointer_mask i (value_of (known h.seen) (reads i).0) h.control.threadptr)) r (pointer_left code i h.control.pc (value_of (known h.seen) (reads i).0) _ _ _ h.control.ps h.control.threadptr) in
       record {
         kind = refl;
         kind_too = refl;
@@ -298,8 +298,8 @@ module _ {s : UseState} {g h : FrameState} (f : NowFit s g h) (code : ℕ → �
       let ae : AsksWith (unchanged h.control.ps h.control.threadptr) (Asks d w e) = subst (AsksWith (unchanged h.control.ps h.control.threadptr)) r (outcome_alone code i h.control.pc _ _ _ _ h.control.ps h.control.threadptr) in
       let sm : m.sets ≡ no_sets = ap (λ (z : Effect). z.sets) am in
       let se : e.sets ≡ no_sets = ap (λ (z : Effect). z.sets) ae in
-      let tm : HasPointer (pointer_mask i x g.control.threadptr) (Asks c v m) = subst (HasPointer (pointer_mask i x g.control.threadptr)) q (pointer_left code i g.control.pc x _ _ _ g.control.ps g.control.threadptr) in
-      let te : HasPointer (pointer_mask i (value_of (known h.seen) (reads i).0) h.control.threadptr) (Asks d w e) = subst (HasPointer (pointer_mask i (value_of (known h.seen) (reads i).0) h.control.threadptr)) r (pointer_left code i h.control.pc (value_of (known h.seen) (reads i).0) _ _ _ h.control.ps h.control.threadptr) in
+      let tm : LeavesPointer (pointer_mask i x g.control.threadptr) (Asks c v m) = subst (LeavesPointer (pointer_mask i x g.control.threadptr)) q (pointer_left code i g.control.pc x _ _ _ g.control.ps g.control.threadptr) in
+      let te : LeavesPointer (pointer_mask i (value_of (known h.seen) (reads i).0) h.control.threadptr) (Asks d w e) = subst (LeavesPointer (pointer_mask i (value_of (known h.seen) (reads i).0) h.control.threadptr)) r (pointer_left code i h.control.pc (value_of (known h.seen) (reads i).0) _ _ _ h.control.ps h.control.threadptr) in
       record {
         kind = refl;
         kind_too = refl;
