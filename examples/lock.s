@@ -15,7 +15,7 @@
 # L32AI is a load before which no later access of the core is made ('acquire'), S32RI a store that is made only when all earlier
 # accesses are ('release'). A plain load or store promises neither on the chip: the other core could see the lock free before
 # it sees the record that was stored under it. In this machine the bus serves each access before the core goes on, so here
-# L32I and S32I would give the same; the text is written for the chip, and `xt race` finds no race in any of its runs. With
+# L32I and S32I would give the same; the text is written for the chip, and `xt race` found no race in twenty of its runs. With
 # L32I in place of an L32AI it finds one: that load, and the exchange or the store of the other core that it may meet.
 #
 # Each core makes a thousand additions. Then each adds 1 to `done` as in counter.s, and the one that is second prints the

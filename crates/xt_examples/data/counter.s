@@ -9,7 +9,7 @@
 # the other core came between, and this one tries again.
 #
 # L32AI is a load before which no later access of the core is made ('acquire'). A plain load of a word that the other core may
-# store would be a data race; so `xt race` finds none here, in any run.
+# store would be a data race; with L32AI `xt race` found none in twenty runs.
 #
 # Then each core adds 1 to `done` in the same way. The one that found 1 there is the second, so all two hundred additions are
 # made, and it prints the total: `200` and a newline, in every order in which the cores take their turns.
