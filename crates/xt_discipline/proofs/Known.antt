@@ -126,13 +126,13 @@ enters_stale zero false h = refl
 enters_stale (suc core) true h = refl
 enters_stale (suc core) false h = refl
 
-leaves_own : (core : ℕ) (o : Bool) (h : Held) → own_live core (cond o (changed (Leaves core) h) h) ≡ (not o && own_live core h)
+pub leaves_own : (core : ℕ) (o : Bool) (h : Held) → own_live core (cond o (changed (Leaves core) h) h) ≡ (not o && own_live core h)
 leaves_own zero true h = refl
 leaves_own zero false h = refl
 leaves_own (suc core) true h = refl
 leaves_own (suc core) false h = refl
 
-leaves_other : (core : ℕ) (o : Bool) (h : Held) → other_live core (cond o (changed (Leaves core) h) h) ≡ other_live core h
+pub leaves_other : (core : ℕ) (o : Bool) (h : Held) → other_live core (cond o (changed (Leaves core) h) h) ≡ other_live core h
 leaves_other zero true h = refl
 leaves_other zero false h = refl
 leaves_other (suc core) true h = refl
@@ -156,7 +156,7 @@ call_stale : (o l k s t : Bool) → ((l || k) ≡ true → s ≡ false) → (not
 call_stale true l k s t f = refl
 call_stale false l k s t f = stays_stale l k s t f
 
-return_own : (o l : Bool) → (o ≡ true → l ≡ false) → (not o && (o || l)) ≡ l
+pub return_own : (o l : Bool) → (o ≡ true → l ≡ false) → (not o && (o || l)) ≡ l
 return_own true l f = sym (f refl)
 return_own false l f = refl
 
@@ -221,7 +221,7 @@ known_returns core old mid new own own_now others stale opened access k c d insi
 either_turned : (f g : ℕ → Bool) (a : ℕ) → either f g a ≡ either g f a
 either_turned f g a = or_turned (f a) (g a)
 
-saves_turned : (f g : ℕ → Bool) (access : Option Access) → touches_save_area (either f g) access ≡ touches_save_area (either g f) access
+pub saves_turned : (f g : ℕ → Bool) (access : Option Access) → touches_save_area (either f g) access ≡ touches_save_area (either g f) access
 saves_turned f g None = refl
 saves_turned f g (Some x) = ap (λ (b : Bool). not (is_load x.kind) && b) (some_same (either f g) (either g f) (either_turned f g) x.addr x.size)
 

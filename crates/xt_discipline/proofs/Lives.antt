@@ -17,7 +17,7 @@ swap false true z rest e = refl
 swap false false z rest e = ap (λ (b : Bool). b || rest) (sym e)
 
 -- a call by n windows, beside one by 1
-called : (hi s n : ℕ) (fs : List Frame) (a : ℕ) → covers_byte (areas hi s n fs) a ≡ (touches (before hi fs - 16 * n) (16 * (n - 1)) a || covers_byte (areas hi s 1 fs) a)
+pub called : (hi s n : ℕ) (fs : List Frame) (a : ℕ) → covers_byte (areas hi s n fs) a ≡ (touches (before hi fs - 16 * n) (16 * (n - 1)) a || covers_byte (areas hi s 1 fs) a)
 called hi s n [] a = swap (touches (hi - 76) 4 a) (touches (hi - 16 * n) (16 * (n - 1)) a) (touches (hi - 16 * 1) (16 * (1 - 1)) a) false (touches_none (hi - 16) a)
 called hi s n (g ∷ gs) a = swap (touches (s - 16) 16 a) (touches (sp_of g - 16 * n) (16 * (n - 1)) a) (touches (sp_of g - 16 * 1) (16 * (1 - 1)) a) (covers_byte (areas hi (sp_of g) g.by gs) a) (touches_none (sp_of g - 16) a)
 
@@ -33,10 +33,10 @@ live_more hi sp f fs a =
     (touches_none (sp_of f - 16) a) (called hi (sp_of f) f.by fs a)
 
 -- ---- where they lie
-touches_in : (from size a : ℕ) → touches from size a ≡ true → (from ≤ a) × (a < from + size)
+pub touches_in : (from size a : ℕ) → touches from size a ≡ true → (from ≤ a) × (a < from + size)
 touches_in from size a h = let p = and_parts (leb from a) (ltb a (from + size)) h in (leb-true from a p.0, ltb-true a (from + size) p.1)
 
-touches_below : (from size a : ℕ) → a < from → touches from size a ≡ false
+pub touches_below : (from size a : ℕ) → a < from → touches from size a ≡ false
 touches_below from size a h = grind (arith, nat_tests)
 
 touches_above : (from size a : ℕ) → from + size ≤ a → touches from size a ≡ false

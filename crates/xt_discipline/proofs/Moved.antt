@@ -18,7 +18,7 @@ use Rattle.xt_discipline.proofs.Known.{known_calls, known_returns, known_stays}
 pub in_marks : (a : ℕ) → first ≤ a → a < 2 ^ 30 → (leb first a && ltb a (first + 0x52000)) ≡ true
 in_marks a l h = grind (arith, nat_tests)
 
-marked_in : (marks : List Held) (lo hi a : ℕ) → length marks ≡ 0x52000 → first ≤ lo → hi ≤ 2 ^ 30 → (lo ≤ a) × (a < hi) → is_marked marks a ≡ true
+pub marked_in : (marks : List Held) (lo hi a : ℕ) → length marks ≡ 0x52000 → first ≤ lo → hi ≤ 2 ^ 30 → (lo ≤ a) × (a < hi) → is_marked marks a ≡ true
 marked_in marks lo hi a len low high i =
     let l = i.0 in
     let h = i.1 in

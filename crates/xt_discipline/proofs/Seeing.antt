@@ -24,27 +24,27 @@ use Rattle.xt_discipline.specs.Bytes.{AreChanged, KnowsOf, either}
 use Rattle.xt_discipline.specs.Sides.{Begins, IsFollowed, IsPast, IsSeen, IsSide, live_in, mode_of, standing_of}
 use Rattle.xt_discipline.proofs.Moved.{known_moves}
 
-late : (x : Bool) (next steps : ℕ) → next ≤ steps → (x && (next == steps + 1)) ≡ false
+pub late : (x : Bool) (next steps : ℕ) → next ≤ steps → (x && (next == steps + 1)) ≡ false
 late true next steps h = ne_eqb next (steps + 1) (λ e. let at : next ≡ steps + 1 = e in omega arith)
 late false next steps h = refl
 
-at_last : (x : Bool) (n : ℕ) → (x && (n == n)) ≡ x
+pub at_last : (x : Bool) (n : ℕ) → (x && (n == n)) ≡ x
 at_last true n = eq-eqb n n refl
 at_last false n = refl
 
-le_more : (a b : ℕ) → a ≤ b → a ≤ b + 1
+pub le_more : (a b : ℕ) → a ≤ b → a ≤ b + 1
 le_more a b h = omega arith
 
-le_same : (a : ℕ) → a ≤ a
+pub le_same : (a : ℕ) → a ≤ a
 le_same a = omega arith
 
-next_is : (n : ℕ) → n + 1 ≡ suc n
+pub next_is : (n : ℕ) → n + 1 ≡ suc n
 next_is n = omega arith
 
 abbrev standing : FrameState → Bool → Mode → Standing
 standing f fresh mode = record { frame = f; fresh = fresh; mode = mode }
 
-breach_is : (b : Breach) (core step : ℕ) → b.core ≡ core → b.step ≡ step → b ≡ record { core = core; step = step; kind = b.kind }
+pub breach_is : (b : Breach) (core step : ℕ) → b.core ≡ core → b.step ≡ step → b ≡ record { core = core; step = step; kind = b.kind }
 breach_is b core step e f =
     let at : ℕ → ℕ → Breach = λ c s. record { core = c; step = s; kind = b.kind } in
     ap (λ (c : ℕ). at c b.step) e ∙ ap (λ (s : ℕ). at core s) f

@@ -11,9 +11,12 @@ pub mod step_modes;
 mod stepping;
 mod walk;
 
+pub use accesses::saves;
+pub use bytes::{Change, Held, change_bytes, held_at};
 pub use callers::depths;
 pub use judging::{are_yes, handlers_of, judge};
 pub use order::{Order, Schedule, schedule_of};
+pub use side::{Areas, Mode, change_areas, closes, is_window, returns};
 pub use stepping::modes;
-pub use walk::Walk;
+pub use walk::{Walk, opening_marks};
 pub use xt_frames::Judged;

@@ -60,7 +60,7 @@ pub struct Side {
 }
 
 /// Changes what is known of the bytes of two areas.
-fn change_areas(marks: &mut [Held], change: Change, areas: Areas)
+pub fn change_areas(marks: &mut [Held], change: Change, areas: Areas)
     ensures len { length marks.new ≡ length marks.old }
     ensures bytes { AreChanged change (in_areas areas) marks.old marks.new }
 {

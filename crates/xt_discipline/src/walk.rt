@@ -79,7 +79,7 @@ fn unmarked(alloc: Global, count: u32) -> Result<Vec<Held>, AllocError>
 }
 
 /// What is known of the bytes as both cores open.
-fn opening_marks(alloc: Global, options: &Options) -> Result<Vec<Held>, AllocError>
+pub fn opening_marks(alloc: Global, options: &Options) -> Result<Vec<Held>, AllocError>
     requires { IsValid options.now }
     ensures len { IfOk result (λ marks. length marks.items ≡ 0x52000) }
     ensures marks { IfOk result (λ marks. AreOpened marks.items options.now.stack0.hi options.now.stack1.hi) }

@@ -12,7 +12,7 @@ use Rattle.xt_frames.specs.FirstBreach.{Course, EndsMode, IsJudgedTurn, IsLost, 
 use Rattle.xt_frames.proofs.Prefixes.{before_or_at, same_turn}
 
 -- ---- a store that touches a byte
-untouched : (o : Option Access) (x : Access) (a : ℕ) → stores_at o a ≡ false → o ≡ Some x → is_store x.kind ≡ true → touches x.addr x.size a ≡ false
+pub untouched : (o : Option Access) (x : Access) (a : ℕ) → stores_at o a ≡ false → o ≡ Some x → is_store x.kind ≡ true → touches x.addr x.size a ≡ false
 untouched None x a e at s = absurd (none-some x at)
 untouched (Some y) x a e at s =
     let same : stores_at (Some x) a ≡ false = subst (λ o. stores_at o a ≡ false) at e in

@@ -118,7 +118,7 @@ fresh_inside fresh code nested rec f x e =
 abbrev pub Still : FrameState → FrameTurn → Type 0
 Still f u = (u.after.seen ≡ f.seen) × (u.after.frames ≡ f.frames)
 
-still_fetched : (at : Fetched) (value : ℕ) (x : Nested) (f : FrameState) (u : FrameTurn) → Still f (nested_fetched at value x f u)
+pub still_fetched : (at : Fetched) (value : ℕ) (x : Nested) (f : FrameState) (u : FrameTurn) → Still f (nested_fetched at value x f u)
 still_fetched (Fetches i len) value x f u = turn_if (Still f) (ends_nested i) _ _ (refl, refl) (refl, refl)
 still_fetched (Fails address) value x f u = (refl, refl)
 still_fetched SpellsNothing value x f u = (refl, refl)

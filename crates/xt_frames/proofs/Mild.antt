@@ -105,37 +105,37 @@ pub record IsRead (fresh : Bool) (i : Insn) (rec : StepRecord) (h : Holes) (v : 
   pub reads : (frames : List Frame) → reads_unset i (state_at frames h v) ≡ false
   pub lost : reads_epc1 fresh i ≡ false
 
-row_of : (fresh : Bool) (i : Insn) (len : ℕ) (code : ℕ → ℕ) (rec : StepRecord) (h : Holes) (v w : Upper) (e : Effect) (write : Option RegWrite)
-    → IsRead fresh i rec h v → IsMade true e len write v w → Turns (outcome_at code i (known v.seen) v.control) len rec.reply write h v w → IsRow fresh i len code rec h v w
-row_of fresh i len code rec h v w e write k made turns =
+row_of : (fresh : Bool) (i : Insn) (len : ℕ) (code : ℕ → ℕ) (rec : StepRecord) (h : Holes) (v w : Upper) (wrote : Option RegWrite) (e : Effect) (write : Option RegWrite)
+    → IsRead fresh i rec h v → IsMade (Some wrote) e len write v w → Turns (outcome_at code i (known v.seen) v.control) len rec.reply write h v w → IsRow fresh i len code rec h wrote v w
+row_of fresh i len code rec h v w wrote e write k made turns =
     let kept = mild_keeps e len v.control made.0 in
-    let C : Upper → Control = λ u. u.control in
-    record {
+    let row : IsRow fresh i len code rec h write v w = record {
       common = k.common;
       shown = k.shown;
       reads = k.reads;
       lost = k.lost;
-      write = write;
       free = made.1;
+      proper = made.4;
       seen = ap (λ (u : Upper). u.seen) made.2;
       turn = turns;
       woe = ap (λ (u : Upper). u.control.ps.woe) made.2 ∙ kept.woe;
       vectors = ap (λ (u : Upper). get_or u.control.special 231 0) made.2 ∙ kept.vectors;
-    }
+    } in
+    subst (λ (o : Option RegWrite). IsRow fresh i len code rec h o v w) (sym made.3) row
 
-pub does_row : (made : Bool) (fresh : Bool) (i : Insn) (len : ℕ) (code : ℕ → ℕ) (rec : StepRecord) (h : Holes) (v w : Upper) (e : Effect)
+pub does_row : (made : Option (Option RegWrite)) (fresh : Bool) (i : Insn) (len : ℕ) (code : ℕ → ℕ) (rec : StepRecord) (h : Holes) (v w : Upper) (e : Effect)
     → IsRead fresh i rec h v → outcome_at code i (known v.seen) v.control ≡ Does e → IsMade made e len e.write v w → IsRowOr made fresh i len code rec h v w
-does_row true fresh i len code rec h v w e k does made = row_of fresh i len code rec h v w e e.write k made (does_turn _ e len rec.reply h v w does made.2)
-does_row false fresh i len code rec h v w e k does made = made
+does_row (Some wrote) fresh i len code rec h v w e k does made = row_of fresh i len code rec h v w wrote e e.write k made (does_turn _ e len rec.reply h v w does made.2)
+does_row None fresh i len code rec h v w e k does made = made
 
-asks_made : (fresh : Bool) (i : Insn) (len : ℕ) (code : ℕ → ℕ) (rec : StepRecord) (h : Holes) (v w : Upper) (access : Access) (awaited : Option Awaited) (e : Effect)
-    → IsRead fresh i rec h v → outcome_at code i (known v.seen) v.control ≡ Asks access awaited e → IsMade true e len (written None awaited rec.reply) v w → IsRow fresh i len code rec h v w
-asks_made fresh i len code rec h v w access awaited e k asks made = row_of fresh i len code rec h v w e (written None awaited rec.reply) k made (asks_turn _ access awaited e len rec.reply h v w asks made.2)
+asks_made : (fresh : Bool) (i : Insn) (len : ℕ) (code : ℕ → ℕ) (rec : StepRecord) (h : Holes) (v w : Upper) (wrote : Option RegWrite) (access : Access) (awaited : Option Awaited) (e : Effect)
+    → IsRead fresh i rec h v → outcome_at code i (known v.seen) v.control ≡ Asks access awaited e → IsMade (Some wrote) e len (written None awaited rec.reply) v w → IsRow fresh i len code rec h wrote v w
+asks_made fresh i len code rec h v w wrote access awaited e k asks made = row_of fresh i len code rec h v w wrote e (written None awaited rec.reply) k made (asks_turn _ access awaited e len rec.reply h v w asks made.2)
 
-pub asks_row : (made : Bool) (fresh : Bool) (i : Insn) (len : ℕ) (code : ℕ → ℕ) (rec : StepRecord) (h : Holes) (v w : Upper) (access : Access) (awaited : Option Awaited) (e : Effect) (write : Option RegWrite)
+pub asks_row : (made : Option (Option RegWrite)) (fresh : Bool) (i : Insn) (len : ℕ) (code : ℕ → ℕ) (rec : StepRecord) (h : Holes) (v w : Upper) (access : Access) (awaited : Option Awaited) (e : Effect) (write : Option RegWrite)
     → write ≡ written None awaited rec.reply → IsRead fresh i rec h v → outcome_at code i (known v.seen) v.control ≡ Asks access awaited e → IsMade made e len write v w → IsRowOr made fresh i len code rec h v w
-asks_row true fresh i len code rec h v w access awaited e write is k asks made = asks_made fresh i len code rec h v w access awaited e k asks (subst (λ (o : Option RegWrite). IsMade true e len o v w) is made)
-asks_row false fresh i len code rec h v w access awaited e write is k asks made = made
+asks_row (Some wrote) fresh i len code rec h v w access awaited e write is k asks made = asks_made fresh i len code rec h v w wrote access awaited e k asks (subst (λ (o : Option RegWrite). IsMade (Some wrote) e len o v w) is made)
+asks_row None fresh i len code rec h v w access awaited e write is k asks made = made
 
 -- ---- it shows no breach
 none_of : (ts : List Test) → NoneShown ts → first_shown ts ≡ None
@@ -149,7 +149,7 @@ pub record IsNoEntry (r : Range) (i : Insn) (f : FrameState) : Type 0 where
   pub opens : opens_nothing i f ≡ false
   pub movsp : is_movsp i ≡ false
 
-no_entry : (r : Range) (i : Insn) (f : FrameState) → may_write_sp i ≡ false → IsNoEntry r i f
+pub no_entry : (r : Range) (i : Insn) (f : FrameState) → may_write_sp i ≡ false → IsNoEntry r i f
 unfolding may_write_sp other_frame_size leaves_range misaligns_sp opens_nothing is_movsp
 no_entry r (insn.Control (control.Entry number size)) f h = absurd cc
 no_entry r (insn.Shift (shift.Movsp t s)) f h = absurd cc
@@ -161,13 +161,13 @@ pub record IsStill (limits : Limits) (code : ℕ → ℕ) (i : Insn) (len : ℕ)
   pub rest : IsAtRest limits v
   pub at : fetched code v.control.pc ≡ Fetches i len
 
-module _ (limits : Limits) (fresh : Bool) (code : ℕ → ℕ) (rec : StepRecord) (h : Holes) (v w : Upper) (i : Insn) (len : ℕ) (s : IsStill limits code i len h v) (k : IsRow fresh i len code rec h v w) (frames : List Frame) where
+module _ (limits : Limits) (fresh : Bool) (code : ℕ → ℕ) (rec : StepRecord) (h : Holes) (write : Option RegWrite) (v w : Upper) (i : Insn) (len : ℕ) (s : IsStill limits code i len h v) (k : IsRow fresh i len code rec h write v w) (frames : List Frame) where
   step_is : laid_step code rec.reply (state_at frames h v) ≡ done_in_frame (outcome_at code i (known v.seen) v.control) len rec.reply (state_at frames h v)
   step_is =
       let f = state_at frames h v in
       step_fetches code rec.reply f (ap (ltb 0) s.rest.quiet) s.rest.goes ∙ ap (λ (x : Fetched). fetched_step x code rec.reply f) s.at
 
-  tests_shown : (u : FrameTurn) (live stale : ℕ → Bool) → IsTurn u k.write frames h w → touches_save_area live rec.access ≡ false → loads_stale live stale rec.access ≡ false
+  pub tests_shown : (u : FrameTurn) (live stale : ℕ → Bool) → IsTurn u write frames h w → touches_save_area live rec.access ≡ false → loads_stale live stale rec.access ≡ false
       → NoneShown (insn_tests (bounds_of limits) fresh live stale i rec (state_at frames h v) u)
   tests_shown u live stale turn saves loads =
       let f = state_at frames h v in
@@ -230,8 +230,8 @@ module _ (limits : Limits) (fresh : Bool) (code : ℕ → ℕ) (rec : StepRecord
         ),
       )
 
-  turn_is : IsTurn (laid_step code rec.reply (state_at frames h v)) k.write frames h w
-  turn_is = subst (λ (u : FrameTurn). IsTurn u k.write frames h w) (sym step_is) (k.turn frames)
+  turn_is : IsTurn (laid_step code rec.reply (state_at frames h v)) write frames h w
+  turn_is = subst (λ (u : FrameTurn). IsTurn u write frames h w) (sym step_is) (k.turn frames)
 
   none_is : (live stale : ℕ → Bool) → touches_save_area live rec.access ≡ false → loads_stale live stale rec.access ≡ false
       → laid_breach (bounds_of limits) fresh code live stale rec (state_at frames h v) ≡ None
@@ -263,17 +263,19 @@ module _ (limits : Limits) (fresh : Bool) (code : ℕ → ℕ) (rec : StepRecord
       ∙ (ap (λ (b : Bool). b || (fresh && not (falls before after))) writes_none
       ∙ (ap (λ (b : Bool). fresh && not b) no_fall ∙ and-true fresh)))
 
-quick_of : (limits : Limits) (fresh : Bool) (code : ℕ → ℕ) (rec : StepRecord) (h : Holes) (v w : Upper) (i : Insn) (len : ℕ) → IsStill limits code i len h v → IsRow fresh i len code rec h v w → IsQuick limits fresh code rec h v w
-quick_of limits fresh code rec h v w i len s k = record {
-  none = λ frames live stale saves loads. none_is limits fresh code rec h v w i len s k frames live stale saves loads;
-  after = λ frames. (turn_is limits fresh code rec h v w i len s k frames).after;
-  unset = λ frames. unset_is limits fresh code rec h v w i len s k frames;
-  kept = λ frames. kept_is limits fresh code rec h v w i len s k frames;
-  write = k.write;
-  free = k.free;
-  seen = k.seen;
+quick_of : (limits : Limits) (fresh : Bool) (code : ℕ → ℕ) (rec : StepRecord) (h : Holes) (write : Option RegWrite) (v w : Upper) (i : Insn) (len : ℕ) → IsStill limits code i len h v → IsRow fresh i len code rec h write v w → IsQuick limits fresh code rec h write v w
+quick_of limits fresh code rec h write v w i len s k = record {
+  i = i;
+  len = len;
+  rest = s.rest;
+  at = s.at;
+  row = k;
+  none = λ frames live stale saves loads. none_is limits fresh code rec h write v w i len s k frames live stale saves loads;
+  turn = λ frames. turn_is limits fresh code rec h write v w i len s k frames;
+  unset = λ frames. unset_is limits fresh code rec h write v w i len s k frames;
+  kept = λ frames. kept_is limits fresh code rec h write v w i len s k frames;
 }
 
-pub quick_or : (made : Bool) (limits : Limits) (fresh : Bool) (code : ℕ → ℕ) (rec : StepRecord) (h : Holes) (v w : Upper) (i : Insn) (len : ℕ) → IsStill limits code i len h v → IsRowOr made fresh i len code rec h v w → IsQuickOr made limits fresh code rec h v w
-quick_or true limits fresh code rec h v w i len s k = quick_of limits fresh code rec h v w i len s k
-quick_or false limits fresh code rec h v w i len s k = k
+pub quick_or : (made : Option (Option RegWrite)) (limits : Limits) (fresh : Bool) (code : ℕ → ℕ) (rec : StepRecord) (h : Holes) (v w : Upper) (i : Insn) (len : ℕ) → IsStill limits code i len h v → IsRowOr made fresh i len code rec h v w → IsQuickOr made limits fresh code rec h v w
+quick_or (Some write) limits fresh code rec h v w i len s k = quick_of limits fresh code rec h write v w i len s k
+quick_or None limits fresh code rec h v w i len s k = k

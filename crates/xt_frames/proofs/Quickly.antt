@@ -1,5 +1,6 @@
 -- What a quick step is to the judge.
 use Rattle.std.proofs.Common.{◌≡◌, ℕ, ◌+◌, ◌&&◌, eqb, Bool, false, Option, Some, None, List, [], refl, sym, ◌∙◌, ap, subst}
+use Rattle.xt_trace.specs.declared.record.RegWrite.{RegWrite}
 use Rattle.xt_trace.specs.declared.record.StepRecord.{StepRecord}
 use Rattle.xt_fetch.specs.Fetching.{fetched}
 use Rattle.xt_frames.specs.declared.breach.Limits.{Limits}
@@ -26,12 +27,12 @@ none_is None h = refl
 none_is (Some x) h = absurd cc
 
 -- the inputs of a record lie over v, which gives g, and x is what the step leaves
-pub record IsOver (limits : Limits) (fresh : Bool) (code : ℕ → ℕ) (rec : StepRecord) (h : Holes) (v g x : Upper) : Type 0 where
+pub record IsOver (limits : Limits) (fresh : Bool) (code : ℕ → ℕ) (rec : StepRecord) (h : Holes) (write : Option RegWrite) (v g x : Upper) : Type 0 where
   pub plain : h.nested ≡ None
   pub over : (frames : List Frame) → state_at frames h g ≡ laid (inputs_of rec) (state_at frames h v)
-  pub quick : IsQuick limits fresh code rec h g x
+  pub quick : IsQuick limits fresh code rec h write g x
 
-module _ (limits : Limits) (fresh : Bool) (code : ℕ → ℕ) (rec : StepRecord) (h : Holes) (v g x : Upper) (k : IsOver limits fresh code rec h v g x) where
+module _ (limits : Limits) (fresh : Bool) (code : ℕ → ℕ) (rec : StepRecord) (h : Holes) (write : Option RegWrite) (v g x : Upper) (k : IsOver limits fresh code rec h write v g x) where
   quick_found : (frames : List Frame) (live dead : ℕ → Bool) → touches_save_area live rec.access ≡ false → loads_stale live dead rec.access ≡ false
       → breach_of (bounds_of limits) fresh code live dead false rec (state_at frames h v) ≡ None
   quick_found frames live dead saves loads =
@@ -47,7 +48,7 @@ module _ (limits : Limits) (fresh : Bool) (code : ℕ → ℕ) (rec : StepRecord
       let U : FrameState → FrameState = λ s. record s { unset = unset_after u.kind (fetched code g.control.pc) h.unset } in
       let X : List Bool → FrameState = λ unset. record (state_at frames h x) { unset = unset } in
       ap (λ (t : FrameTurn). t.after) (step_plain code rec f k.plain)
-      ∙ (ap N (sym (k.over frames)) ∙ (ap U (k.quick.after frames) ∙ ap X (k.quick.unset frames)))
+      ∙ (ap N (sym (k.over frames)) ∙ (ap U (k.quick.turn frames).after ∙ ap X (k.quick.unset frames)))
 
   quick_fresh : (frames : List Frame) → fresh_on fresh code false rec (state_at frames h v) ≡ fresh
   quick_fresh frames =
@@ -56,21 +57,21 @@ module _ (limits : Limits) (fresh : Bool) (code : ℕ → ℕ) (rec : StepRecord
       let F : FrameState → Bool = λ s. fresh_after fresh (laid_step code rec.reply s).kind (fetched code s.control.pc) s.control.ps (laid_step code rec.reply s).after.control.ps in
       let G : FrameState → Bool = λ s. fresh_after fresh u.kind (fetched code g.control.pc) g.control.ps s.control.ps in
       let nested : (laid_step code rec.reply (laid (inputs_of rec) f)).after.nested ≡ None =
-      ap (λ (s : FrameState). (laid_step code rec.reply s).after.nested) (sym (k.over frames)) ∙ (ap (λ (s : FrameState). s.nested) (k.quick.after frames) ∙ k.plain) in
+      ap (λ (s : FrameState). (laid_step code rec.reply s).after.nested) (sym (k.over frames)) ∙ (ap (λ (s : FrameState). s.nested) (k.quick.turn frames).after ∙ k.plain) in
       fresh_plain fresh code rec f k.plain nested
-      ∙ (ap F (sym (k.over frames)) ∙ (ap G (k.quick.after frames) ∙ k.quick.kept frames))
+      ∙ (ap F (sym (k.over frames)) ∙ (ap G (k.quick.turn frames).after ∙ k.quick.kept frames))
 
-  seen_is : x.seen ≡ seen_after_write k.quick.write v.seen
+  pub seen_is : x.seen ≡ seen_after_write write v.seen
   seen_is =
       let none : List Frame = [] in
-      k.quick.seen ∙ ap (λ (s : FrameState). seen_after_write k.quick.write s.seen) (k.over none)
+      k.quick.row.seen ∙ ap (λ (s : FrameState). seen_after_write write s.seen) (k.over none)
 
   pub quick_moves : (frames : List Frame) → Moves (state_at frames h v) (state_at frames h x)
-  quick_moves frames = Stays refl (ap (λ (s : List (Option ℕ)). known s 1) seen_is ∙ sp_written v.seen k.quick.write (sp_kept k.quick.write k.quick.free))
+  quick_moves frames = Stays refl (ap (λ (s : List (Option ℕ)). known s 1) seen_is ∙ sp_written v.seen write (sp_kept write k.quick.row.free))
 
   pub quick_kept : (lo hi : ℕ) (callers : List Caller) (capacity : ℕ) → AreKept lo hi v callers capacity → AreKept lo hi x callers capacity
   quick_kept lo hi callers capacity a = record {
-    stack = subst (λ (s : List (Option ℕ)). Stack lo hi s (frames_of callers)) (sym seen_is) (write_stack a.stack k.quick.write (sp_kept k.quick.write k.quick.free));
+    stack = subst (λ (s : List (Option ℕ)). Stack lo hi s (frames_of callers)) (sym seen_is) (write_stack a.stack write (sp_kept write k.quick.row.free));
     room = a.room;
   }
 

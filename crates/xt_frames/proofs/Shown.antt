@@ -55,6 +55,18 @@ pub sound : (b : Bounds) (fresh : Bool) (live stale : ℕ → Bool) (i : Insn) (
 sound b fresh live stale i rec g u (unset, (written, (size, (low, (align, (opens, (mismatch, (caller, (saves, (loads, (high, (windowing, (window_register, (woe, (vectors, (lost, (movsp, (vector, (nested, more))))))))))))))))))) =
     record { unset = unset; written = written; size = size; low = low; align = align; opens = opens; mismatch = mismatch; caller = caller; saves = saves; loads = loads; high = high; windowing = windowing; window_register = window_register; woe = not-false _ woe; vectors = eqb-true _ _ (not-false _ vectors); lost = lost; movsp = movsp; nested = nested }
 
+-- those of them that keep the chain of stack pointers
+pub record Keeping (b : Bounds) (i : Insn) (rec : StepRecord) (g : FrameState) (u : FrameTurn) : Type 0 where
+  pub written : writes_sp i rec.write u.write ≡ false
+  pub size : other_frame_size b.range i g ≡ false
+  pub low : leaves_range b.range i g ≡ false
+  pub align : misaligns_sp i g ≡ false
+  pub opens : opens_nothing i g ≡ false
+  pub movsp : is_movsp i ≡ false
+
+pub keeping_of : (b : Bounds) (fresh : Bool) (live stale : ℕ → Bool) (i : Insn) (rec : StepRecord) (g : FrameState) (u : FrameTurn) → Sound b fresh live stale i rec g u → Keeping b i rec g u
+keeping_of b fresh live stale i rec g u s = record { written = s.written; size = s.size; low = s.low; align = s.align; opens = s.opens; movsp = s.movsp }
+
 -- ---- a1 is as it was
 abbrev pub KeepsSp : Option RegWrite → Type 0
 KeepsSp None = Unit {0}

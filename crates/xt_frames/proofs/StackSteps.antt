@@ -27,7 +27,7 @@ use Rattle.xt_frames.specs.Breaches.{Bounds, laid_breach, first_shown, fetched_t
 use Rattle.xt_frames.specs.Stacks.{Stack, IsFrame, Moves, Stays, Calls, Leaves}
 use Rattle.xt_rows.specs.Kinds.{Fits}
 use Rattle.xt_rows.proofs.Fitting.{outcome_fits}
-use Rattle.xt_frames.proofs.Shown.{NoneShown, none_shown, Sound, sound, KeepsSp, keeps_sp, sp_written, entry_number}
+use Rattle.xt_frames.proofs.Shown.{none_shown, sound, Keeping, keeping_of, KeepsSp, keeps_sp, sp_written, entry_number}
 use Rattle.xt_frames.proofs.Stacked.{enters_stack, leaves_stack, known_is}
 use Rattle.xt_frames.specs.Stacks.{KeepsStack, MovesFrames}
 use Rattle.std.specs.Prelude.{unwrap_or, take}
@@ -83,10 +83,10 @@ back_sp f seen k =
     let some = k.moves in
     ap (λ (o : Option ℕ). unwrap_or o 0) (get_or_append_left f.kept (take (16 - 4 * f.by) seen) None 1 (omega arith))
 
-abbrev KeepsChain : Range → FrameState → FrameTurn → Type 0
+abbrev pub KeepsChain : Range → FrameState → FrameTurn → Type 0
 KeepsChain r g u = Stack r.lo r.hi u.after.seen u.after.frames × Moves g u.after
 
-stays : {r : Range} {g : FrameState} (u : FrameTurn) → Stack r.lo r.hi g.seen g.frames → u.after.seen ≡ g.seen → u.after.frames ≡ g.frames → KeepsChain r g u
+pub stays : {r : Range} {g : FrameState} (u : FrameTurn) → Stack r.lo r.hi g.seen g.frames → u.after.seen ≡ g.seen → u.after.frames ≡ g.frames → KeepsChain r g u
 stays {r} {g} u k e f = (rw (e, f) k, Stays f (ap (λ (s : List (Option ℕ)). known s 1) e))
 
 writes : {r : Range} {g : FrameState} (u : FrameTurn) (o : Option RegWrite) → Stack r.lo r.hi g.seen g.frames → KeepsSp o → u.after.seen ≡ seen_after_write o g.seen → u.after.frames ≡ g.frames → KeepsChain r g u
@@ -120,14 +120,14 @@ natural_small (negsuc n) h = omega arith
 entry_small : (number : ℕ) (size : ℤ) → in_range (insn.Control (control.Entry number size)) ≡ true → natural size < 2 ^ 16
 entry_small number size h = natural_small size (and_parts (one_register number) (multiple_within 8 4096 size) h).1
 
-module _ (b : Bounds) (fresh : Bool) (live stale : ℕ → Bool) (rec : StepRecord) (code : ℕ → ℕ) (g : FrameState) (k : Stack b.range.lo b.range.hi g.seen g.frames) (calls : g.control.ps.callinc < 4) where
+module _ (b : Bounds) (rec : StepRecord) (code : ℕ → ℕ) (g : FrameState) (k : Stack b.range.lo b.range.hi g.seen g.frames) (calls : g.control.ps.callinc < 4) where
   pops : (frames : List Frame) → g.frames ≡ frames → (a0 : ℕ) → KeepsChain b.range g (popped_from frames a0 g)
   pops [] e a0 = stays (popped_from [] a0 g) k refl refl
   pops (f ∷ rest) e a0 =
       let s : Stack b.range.lo b.range.hi g.seen (f ∷ rest) = rw e at k in
       (leaves_stack b.range.lo b.range.hi g.seen f rest s, Leaves f e (back_sp f g.seen s.shaped.0))
 
-  pushes_entry : (number : ℕ) (size : ℤ) (value len : ℕ) {u : FrameTurn} → in_range (insn.Control (control.Entry number size)) ≡ true → Sound b fresh live stale (insn.Control (control.Entry number size)) rec g u → minus (known g.seen number) (natural size) ≡ value → KeepsChain b.range g (pushed number value len g)
+  pushes_entry : (number : ℕ) (size : ℤ) (value len : ℕ) {u : FrameTurn} → in_range (insn.Control (control.Entry number size)) ≡ true → Keeping b (insn.Control (control.Entry number size)) rec g u → minus (known g.seen number) (natural size) ≡ value → KeepsChain b.range g (pushed number value len g)
   unfolding pushed
   pushes_entry number size value len ok o v =
       let one = entry_number number size b.range g o.size in
@@ -135,10 +135,10 @@ module _ (b : Bounds) (fresh : Bool) (live stale : ℕ → Bool) (rec : StepReco
       let w : minus (known g.seen 1) (natural size) ≡ value = rw one at v in
       (rw (one, ← w) q, Calls (record { by = g.control.ps.callinc; kept = take (4 * g.control.ps.callinc) g.seen }) refl (kept_sp g.seen g.control.ps.callinc (entry_called number size g o.opens)))
 
-  pushes : (i : Insn) (number : ℕ) (size : ℤ) (value len : ℕ) {u : FrameTurn} → in_range i ≡ true → Sound b fresh live stale i rec g u → i ≡ insn.Control (control.Entry number size) → minus (known g.seen number) (natural size) ≡ value → KeepsChain b.range g (pushed number value len g)
+  pushes : (i : Insn) (number : ℕ) (size : ℤ) (value len : ℕ) {u : FrameTurn} → in_range i ≡ true → Keeping b i rec g u → i ≡ insn.Control (control.Entry number size) → minus (known g.seen number) (natural size) ≡ value → KeepsChain b.range g (pushed number value len g)
   pushes i number size value len ok o e v = pushes_entry number size value len (rw e at ok) (rw e at o) v
 
-  done_keeps : (i : Insn) (len reply : ℕ) (x : Outcome) → outcome_at code i (known g.seen) g.control ≡ x → Fits i x → in_range i ≡ true → Sound b fresh live stale i rec g (done_in_frame x len reply g) → KeepsChain b.range g (done_in_frame x len reply g)
+  done_keeps : (i : Insn) (len reply : ℕ) (x : Outcome) → outcome_at code i (known g.seen) g.control ≡ x → Fits i x → in_range i ≡ true → Keeping b i rec g (done_in_frame x len reply g) → KeepsChain b.range g (done_in_frame x len reply g)
   unfolding popped
   done_keeps i len reply (Does e) q f ok o = writes (done_in_frame (Does e) len reply g) e.write k (keeps_sp i rec.write e.write f.2 o.movsp o.written) refl refl
   done_keeps i len reply (Raises cause addr) q f ok o = stays (done_in_frame (Raises cause addr) len reply g) k refl refl
@@ -158,13 +158,17 @@ module _ (b : Bounds) (fresh : Bool) (live stale : ℕ → Bool) (rec : StepReco
   done_keeps i len reply (Windowed (Sets register value)) q f ok o = stays (done_in_frame (Windowed (Sets register value)) len reply g) k refl refl
   done_keeps i len reply (Windowed (Exchanges register number value)) q f ok o = stays (done_in_frame (Windowed (Exchanges register number value)) len reply g) k refl refl
 
-  fetched_keeps : (at : Fetched) (reply : ℕ) → ((i : Insn) (len : ℕ) → at ≡ Fetches i len → in_range i ≡ true) → NoneShown (fetched_tests b fresh live stale at rec g (fetched_step at code reply g)) → KeepsChain b.range g (fetched_step at code reply g)
-  fetched_keeps (Fails addr) reply ok none = stays (fetched_step (Fails addr) code reply g) k refl refl
-  fetched_keeps SpellsNothing reply ok none = stays (fetched_step SpellsNothing code reply g) k refl refl
-  fetched_keeps (Fetches i len) reply ok none =
-      let s = ok i len refl in
-      let o = sound b fresh live stale i rec g (fetched_step (Fetches i len) code reply g) none in
-      done_keeps i len reply (outcome_at code i (known g.seen) g.control) refl (outcome_fits code i g.control.pc _ _ _ _ g.control.ps g.control.threadptr) s o
+  pub fetched_keeps : (at : Fetched) (reply : ℕ) → ((i : Insn) (len : ℕ) → at ≡ Fetches i len → in_range i ≡ true) → ((i : Insn) (len : ℕ) → at ≡ Fetches i len → Keeping b i rec g (fetched_step (Fetches i len) code reply g)) → KeepsChain b.range g (fetched_step at code reply g)
+  fetched_keeps (Fails addr) reply ok o = stays (fetched_step (Fails addr) code reply g) k refl refl
+  fetched_keeps SpellsNothing reply ok o = stays (fetched_step SpellsNothing code reply g) k refl refl
+  fetched_keeps (Fetches i len) reply ok o = done_keeps i len reply (outcome_at code i (known g.seen) g.control) refl (outcome_fits code i g.control.pc _ _ _ _ g.control.ps g.control.threadptr) (ok i len refl) (o i len refl)
+
+-- what the tests of a fetched instruction deny
+denied : (b : Bounds) (fresh : Bool) (code : ℕ → ℕ) (live stale : ℕ → Bool) (rec : StepRecord) (g : FrameState) (at : Fetched) (reply : ℕ) → first_shown (fetched_tests b fresh live stale at rec g (fetched_step at code reply g)) ≡ None → (i : Insn) (len : ℕ) → at ≡ Fetches i len → Keeping b i rec g (fetched_step (Fetches i len) code reply g)
+denied b fresh code live stale rec g at reply none i len e =
+    let h = subst (λ x. first_shown (fetched_tests b fresh live stale x rec g (fetched_step x code reply g)) ≡ None) e none in
+    let u = fetched_step (Fetches i len) code reply g in
+    keeping_of b fresh live stale i rec g u (sound b fresh live stale i rec g u (none_shown (fetched_tests b fresh live stale (Fetches i len) rec g u) h))
 
 keeps_both : (code : ℕ → ℕ) (b : Bounds) (fresh : Bool) (live stale : ℕ → Bool) (rec : StepRecord) (g : FrameState)
     → Stack b.range.lo b.range.hi g.seen g.frames → g.control.ps.callinc < 4
@@ -180,7 +184,7 @@ keeps_both code b fresh live stale rec g k calls ok none =
     let u = step_fetches code reply g quiet w in
     let h0 : first_shown (fetched_tests b fresh live stale (fetched code g.control.pc) rec g (laid_step code reply g)) ≡ None = sym (breach_fetches b fresh code live stale rec g quiet w) ∙ none in
     let h1 = subst (λ v. first_shown (fetched_tests b fresh live stale (fetched code g.control.pc) rec g v) ≡ None) u h0 in
-    subst (KeepsChain b.range g) (sym u) (fetched_keeps b fresh live stale rec code g k calls (fetched code g.control.pc) reply (λ i len e. ok i len quiet w e) (none_shown (fetched_tests b fresh live stale (fetched code g.control.pc) rec g (fetched_step (fetched code g.control.pc) code reply g)) h1)))
+    subst (KeepsChain b.range g) (sym u) (fetched_keeps b rec code g k calls (fetched code g.control.pc) reply (λ i len e. ok i len quiet w e) (denied b fresh code live stale rec g (fetched code g.control.pc) reply h1)))
     (cases_Bool g.control.waits))
     (cases_Bool (ltb 0 (pending_of g.control)))
 

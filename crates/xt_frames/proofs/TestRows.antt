@@ -29,7 +29,7 @@ pub one : (t : Tested) (kind : BreachKind) (b shown : Bool) → t ≡ record { k
 one t kind b shown p q = cc
 
 -- ---- where no byte is live or stale
-no_byte : (addr n : ℕ) → some_byte (λ a. false) addr n ≡ false
+pub no_byte : (addr n : ℕ) → some_byte (λ a. false) addr n ≡ false
 no_byte addr zero = refl
 no_byte addr (suc n) = no_byte (addr + 1) n
 

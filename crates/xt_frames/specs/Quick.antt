@@ -1,8 +1,10 @@
 -- Carries a proof; nothing that a reader must believe.
--- What the program answers of a judged step that shows no breach and stays in its frame.
+-- What the program answers of a judged step that shows no breach and stays in its frame: where it
+-- was made, the write of its register, if any.
 use Rattle.std.specs.Prelude.{◌≡◌, ℕ, Bool, true, false, ◌==◌, ◌&&◌, not, Option, Some, None}
 use Rattle.std.specs.Prelude.{List}
 use Rattle.xt_isa.specs.declared.Insn.{Insn}
+use Rattle.xt_isa.specs.declared.Insn.TheVariants as insn
 use Rattle.xt_special.specs.declared.writes.SpecialWrite.{SpecialWrite}
 use Rattle.xt_special.specs.Control.{special_of}
 use Rattle.xt_special.specs.Interrupts.{pending_of}
@@ -11,8 +13,9 @@ use Rattle.xt_special.specs.Timers.{ticked}
 use Rattle.xt_trace.specs.declared.record.RegWrite.{RegWrite}
 use Rattle.xt_trace.specs.declared.record.StepKind.TheVariants as kind
 use Rattle.xt_trace.specs.declared.record.StepRecord.{StepRecord}
-use Rattle.xt_fetch.specs.Fetching.{fetched}
+use Rattle.xt_fetch.specs.Fetching.{Fetches, fetched}
 use Rattle.xt_rows.specs.declared.outcome.Effect.{Effect}
+use Rattle.xt_rows.specs.Laws.{IsAny, IsProperWrite}
 use Rattle.xt_rows.specs.Outcomes.{outcome_at}
 use Rattle.xt_rows.specs.Settling.{after_effect}
 use Rattle.xt_frames.specs.declared.breach.Limits.{Limits}
@@ -29,6 +32,11 @@ use Rattle.xt_frames.specs.Breaches.{touches_save_area}
 use Rattle.xt_frames.specs.Parts.{Upper, state_at}
 use Rattle.xt_frames.specs.Walked.{bounds_of}
 
+-- a system instruction
+unfoldable pub is_system : Insn → Bool
+is_system (insn.System i) = true
+is_system _ = false
+
 -- an instruction that no breach names, and that writes no special register by its number
 pub record IsCommon (i : Insn) : Type 0 where
   pub stack : may_write_sp i ≡ false
@@ -37,6 +45,7 @@ pub record IsCommon (i : Insn) : Type 0 where
   pub register : names_window_register i ≡ false
   pub moves : moved_to i ≡ None
   pub epc1 : sets_epc1 i ≡ false
+  pub user : is_system i ≡ false
 
 abbrev pub sets_vecbase : Option SpecialWrite → Bool
 sets_vecbase None = false
@@ -49,9 +58,10 @@ is_mild e =
     && (not (sets_vecbase e.sets.0)
     && (not (sets_vecbase e.sets.1) && not (sets_vecbase e.sets.2)))
 
--- the answer whether such an effect was made, and what it leaves
-abbrev pub IsMade : Bool → Effect → ℕ → Option RegWrite → Upper → Upper → Type 0
-IsMade true e len write v w =
+-- the write of such an effect, if it was made, and what it leaves
+abbrev pub IsMade :
+    Option (Option RegWrite) → Effect → ℕ → Option RegWrite → Upper → Upper → Type 0
+IsMade (Some made) e len write v w =
     (is_mild e ≡ true)
     × (is_sp write ≡ false)
     × (w
@@ -59,7 +69,9 @@ IsMade true e len write v w =
       seen = seen_after_write write v.seen;
       control = ticked (after_effect e len v.control);
     })
-IsMade false e len write v w = w ≡ v
+    × (made ≡ write)
+    × IsProperWrite IsAny write
+IsMade None e len write v w = w ≡ v
 
 -- a state whose next step executes the instruction at PC, outside exception mode
 pub record IsAtRest (limits : Limits) (v : Upper) : Type 0 where
@@ -85,13 +97,13 @@ turn_at code i len reply v f =
 -- what is known of a fetched instruction that was made
 pub record IsRow
     (fresh : Bool) (i : Insn) (len : ℕ) (code : ℕ → ℕ) (rec : StepRecord) (h : Holes)
-    (v w : Upper) : Type 0 where
+    (write : Option RegWrite) (v w : Upper) : Type 0 where
   pub common : IsCommon i
   pub shown : is_sp rec.write ≡ false
   pub reads : (frames : List Frame) → reads_unset i (state_at frames h v) ≡ false
   pub lost : reads_epc1 fresh i ≡ false
-  pub write : Option RegWrite
   pub free : is_sp write ≡ false
+  pub proper : IsProperWrite IsAny write
   pub seen : w.seen ≡ seen_after_write write v.seen
   pub turn :
       (frames : List Frame)
@@ -100,9 +112,10 @@ pub record IsRow
   pub vectors : special_of w.control number.vecbase ≡ special_of v.control number.vecbase
 
 abbrev pub IsRowOr :
-    Bool → Bool → Insn → ℕ → (ℕ → ℕ) → StepRecord → Holes → Upper → Upper → Type 0
-IsRowOr true fresh i len code rec h v w = IsRow fresh i len code rec h v w
-IsRowOr false fresh i len code rec h v w = w ≡ v
+    Option (Option RegWrite) → Bool → Insn → ℕ → (ℕ → ℕ) → StepRecord → Holes → Upper → Upper
+    → Type 0
+IsRowOr (Some write) fresh i len code rec h v w = IsRow fresh i len code rec h write v w
+IsRowOr None fresh i len code rec h v w = w ≡ v
 
 -- the step of the state v
 abbrev pub step_at : (ℕ → ℕ) → ℕ → List Frame → Holes → Upper → FrameTurn
@@ -111,13 +124,18 @@ step_at code reply frames h v = laid_step code reply (state_at frames h v)
 -- what is known of a step that was made, from a state over which the inputs are laid
 pub record IsQuick
     (limits : Limits) (fresh : Bool) (code : ℕ → ℕ) (rec : StepRecord) (h : Holes)
-    (v w : Upper) : Type 0 where
+    (write : Option RegWrite) (v w : Upper) : Type 0 where
+  pub i : Insn
+  pub len : ℕ
+  pub rest : IsAtRest limits v
+  pub at : fetched code v.control.pc ≡ Fetches i len
+  pub row : IsRow fresh i len code rec h write v w
   pub none :
       (frames : List Frame) (live stale : ℕ → Bool)
       → touches_save_area live rec.access ≡ false → loads_stale live stale rec.access ≡ false
       → laid_breach (bounds_of limits) fresh code live stale rec (state_at frames h v) ≡ None
-  pub after :
-      (frames : List Frame) → (step_at code rec.reply frames h v).after ≡ state_at frames h w
+  pub turn :
+      (frames : List Frame) → IsTurn (step_at code rec.reply frames h v) write frames h w
   pub unset :
       (frames : List Frame)
       → unset_after (step_at code rec.reply frames h v).kind (fetched code v.control.pc) h.unset
@@ -131,11 +149,9 @@ pub record IsQuick
       v.control.ps
       w.control.ps
       ≡ fresh
-  pub write : Option RegWrite
-  pub free : is_sp write ≡ false
-  pub seen : w.seen ≡ seen_after_write write v.seen
 
 abbrev pub IsQuickOr :
-    Bool → Limits → Bool → (ℕ → ℕ) → StepRecord → Holes → Upper → Upper → Type 0
-IsQuickOr true limits fresh code rec h v w = IsQuick limits fresh code rec h v w
-IsQuickOr false limits fresh code rec h v w = w ≡ v
+    Option (Option RegWrite) → Limits → Bool → (ℕ → ℕ) → StepRecord → Holes → Upper → Upper
+    → Type 0
+IsQuickOr (Some write) limits fresh code rec h v w = IsQuick limits fresh code rec h write v w
+IsQuickOr None limits fresh code rec h v w = w ≡ v

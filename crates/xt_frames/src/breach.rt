@@ -9,7 +9,7 @@ ghost use Rattle.xt_codec.specs.Fetches.{IsFetched};
 ghost use Rattle.xt_frames.specs.Frames.{Frame, FrameState};
 ghost use Rattle.xt_frames.specs.SaveAreas.{Range, before};
 ghost use Rattle.xt_frames.specs.FrameStep.{laid_step};
-ghost use Rattle.xt_frames.specs.Breaches.{breaks_nested, fetched_return_breach, first_shown, fresh_after, has_no_caller, insn_tests, is_exception, is_in_vectors, is_movsp, is_return, is_sp, is_windowing, laid_breach, leaves_range, loses_epc1, may_write_sp, misaligns_sp, moves_vectors, names_high, names_window_register, opens_nothing, other_frame_size, other_tests, reads_epc1, reads_lost, reads_no_mark, reads_none, reads_unset, returns_elsewhere, sets_epc1, small_frame, vector_test, window_breach, writes_epc1, writes_sp};
+ghost use Rattle.xt_frames.specs.Breaches.{breaks_nested, fetched_return_breach, first_shown, fresh_after, has_no_caller, insn_tests, is_exception, is_in_vectors, is_movsp, is_return, is_sp, is_windowing, laid_breach, leaves_range, loses_epc1, may_write_sp, misaligns_sp, moves_vectors, names_high, names_window_register, opens_nothing, other_frame_size, other_tests, reads_epc1, reads_lost, reads_no_mark, reads_none, reads_unset, return_tests, returns_elsewhere, sets_epc1, small_frame, vector_test, window_breach, writes_epc1, writes_sp};
 ghost use Rattle.xt_frames.specs.declared.view.Step.{Step};
 ghost use Rattle.xt_frames.specs.declared.holes.Holes.{Holes};
 ghost use Rattle.xt_frames.specs.Parts.{IsCase, IsGood, IsNewest, IsPlan, Upper, shown_tests, state_at, turn_as};
@@ -72,7 +72,7 @@ fn test(kind: BreachKind, shown: bool) -> Tested
 }
 
 /// The first kind that is shown.
-fn first_shown(tests: &[Tested]) -> Option<BreachKind>
+pub fn first_shown(tests: &[Tested]) -> Option<BreachKind>
     ensures { result ≡ first_shown (shown_tests tests.now) }
 {
     for t in tests {
@@ -199,8 +199,9 @@ fn opens_nothing(i: Insn, view: &View) -> bool
     }
 }
 
+/// Whether it is RETW.
 #[tactic(auto, unfolding(crate::specs::Breaches::is_return))]
-fn is_return(i: Insn) -> bool
+pub fn is_return(i: Insn) -> bool
     ensures { result ≡ is_return i }
 {
     matches!(
@@ -319,8 +320,8 @@ fn moves_vectors(limits: Limits, after: &View) -> bool
     after.vecbase() != limits.vecbase
 }
 
-/// The first breach of a step that fetches an instruction.
-fn insn_breach(
+/// The tests of a step that fetches an instruction, in their order: `view` is what it finds, and `after` what it leaves.
+pub fn insn_tests(
     case: &Case,
     holes: &Holes,
     i: Insn,
@@ -328,14 +329,14 @@ fn insn_breach(
     view: &View,
     step: &Step,
     after: &View,
-) -> Option<BreachKind>
+) -> [Tested; 19]
     requires { in_range i ≡ true }
     ensures { (frames : List Frame) (live stale : ℕ → Bool) → IsCase case.now rec.now frames live stale
-        → result ≡ first_shown (insn_tests (bounds_of case.now.limits) case.now.fresh live stale i rec.now (state_at frames holes.now view.now) (turn_as step.now frames holes.now after.now)) }
+        → shown_tests result ≡ insn_tests (bounds_of case.now.limits) case.now.fresh live stale i rec.now (state_at frames holes.now view.now) (turn_as step.now frames holes.now after.now) }
 {
     let limits = case.limits;
     let newest = &case.newest;
-    let tests = [
+    [
         // reads a register that has no value, or a mark other than by moving it
         test(BreachKind::Unset, reads_none(i, view, holes)),
         // has a1 as the written register, by another instruction than ENTRY or MOVSP
@@ -377,11 +378,51 @@ fn insn_breach(
         test(BreachKind::VectorEntered, is_in_vectors(limits, view.pc())),
         // in a nested interrupt ends it otherwise than it should
         test(BreachKind::Nested, breaks_nested(holes, i, step)),
-    ];
+    ]
+}
+
+/// The first breach of a step that fetches an instruction.
+fn insn_breach(
+    case: &Case,
+    holes: &Holes,
+    i: Insn,
+    rec: &StepRecord,
+    view: &View,
+    step: &Step,
+    after: &View,
+) -> Option<BreachKind>
+    requires { in_range i ≡ true }
+    ensures { (frames : List Frame) (live stale : ℕ → Bool) → IsCase case.now rec.now frames live stale
+        → result ≡ first_shown (insn_tests (bounds_of case.now.limits) case.now.fresh live stale i rec.now (state_at frames holes.now view.now) (turn_as step.now frames holes.now after.now)) }
+{
+    let tests = insn_tests(case, holes, i, rec, view, step, after);
     first_shown(&tests)
 }
 
-/// The first breach of a step that fetches none: a turn of cause 2, or of cause 0 because nothing spells the bytes.
+/// The tests of a step that fetches none: a turn of cause 2, or of cause 0 because nothing spells the bytes.
+pub fn other_tests(
+    case: &Case,
+    holes: &Holes,
+    rec: &StepRecord,
+    view: &View,
+    step: &Step,
+    after: &View,
+) -> [Tested; 6]
+    ensures { (frames : List Frame) (live stale : ℕ → Bool) → IsCase case.now rec.now frames live stale
+        → shown_tests result ≡ other_tests (bounds_of case.now.limits) live stale rec.now (state_at frames holes.now view.now) (turn_as step.now frames holes.now after.now) }
+{
+    let limits = case.limits;
+    [
+        test(BreachKind::SaveStore, case.saves),
+        test(BreachKind::StaleLoad, case.stale),
+        test(BreachKind::WoeCleared, !after.woe()),
+        test(BreachKind::VecbaseMoved, moves_vectors(limits, after)),
+        test(BreachKind::VectorEntered, is_in_vectors(limits, view.pc())),
+        test(BreachKind::Nested, holes.nested.is_some()),
+    ]
+}
+
+/// The first breach of a step that fetches none.
 fn other_breach(
     case: &Case,
     holes: &Holes,
@@ -393,20 +434,12 @@ fn other_breach(
     ensures { (frames : List Frame) (live stale : ℕ → Bool) → IsCase case.now rec.now frames live stale
         → result ≡ first_shown (other_tests (bounds_of case.now.limits) live stale rec.now (state_at frames holes.now view.now) (turn_as step.now frames holes.now after.now)) }
 {
-    let limits = case.limits;
-    let tests = [
-        test(BreachKind::SaveStore, case.saves),
-        test(BreachKind::StaleLoad, case.stale),
-        test(BreachKind::WoeCleared, !after.woe()),
-        test(BreachKind::VecbaseMoved, moves_vectors(limits, after)),
-        test(BreachKind::VectorEntered, is_in_vectors(limits, view.pc())),
-        test(BreachKind::Nested, holes.nested.is_some()),
-    ];
+    let tests = other_tests(case, holes, rec, view, step, after);
     first_shown(&tests)
 }
 
 /// An interrupt or a turn of waiting shows VectorEntered alone.
-fn vector_breach(limits: Limits, view: &View) -> Option<BreachKind>
+pub fn vector_breach(limits: Limits, view: &View) -> Option<BreachKind>
     ensures { (frames : List Frame) (h : Holes) → result ≡ first_shown (vector_test (bounds_of limits) (state_at frames h view.now) ∷ []) }
 {
     if is_in_vectors(limits, view.pc()) {
@@ -441,6 +474,21 @@ pub fn breach_of(
     }
 }
 
+/// The tests of the record of an underflow, where this RETW stands at PC.
+pub fn return_tests(i: Insn, view: &View, holes: &Holes, newest: &Option<Caller>) -> [Tested; 3]
+    requires { in_range i ≡ true }
+    ensures { (frames : List Frame) → IsNewest newest.now frames → shown_tests result ≡ return_tests i (state_at frames holes.now view.now) }
+{
+    [
+        test(BreachKind::Unset, reads_none(i, view, holes)),
+        test(
+            BreachKind::ReturnMismatch,
+            returns_elsewhere(i, view, newest),
+        ),
+        test(BreachKind::NoCaller, has_no_caller(i, newest)),
+    ]
+}
+
 /// The first breach that the record of an underflow shows of the RETW at PC.
 pub fn return_breach(
     code: &Constants,
@@ -454,14 +502,7 @@ pub fn return_breach(
     match instruction_at::<Caller>(code, view.pc()) {
         Fetch::Insn(i, _) => {
             if is_return(i) {
-                let tests = [
-                    test(BreachKind::Unset, reads_none(i, view, holes)),
-                    test(
-                        BreachKind::ReturnMismatch,
-                        returns_elsewhere(i, view, newest),
-                    ),
-                    test(BreachKind::NoCaller, has_no_caller(i, newest)),
-                ];
+                let tests = return_tests(i, view, holes, newest);
                 first_shown(&tests)
             } else {
                 None

@@ -173,12 +173,14 @@ impl Frames {
             return false;
         }
         let fresh = self.is_fresh(index);
-        let made = self.view.quick(&self.holes, self.limits, fresh, code, rec);
-        if made {
-            self.fresh = fresh;
-            self.next = u64::from(index) + 1;
+        match self.view.quick(&self.holes, self.limits, fresh, code, rec) {
+            Some(_) => {
+                self.fresh = fresh;
+                self.next = u64::from(index) + 1;
+                true
+            }
+            None => false,
         }
-        made
     }
 
     /// Judges a record of this number, by the inputs, the written register and the access of the record, and by whether it is nested,

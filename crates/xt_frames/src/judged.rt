@@ -32,7 +32,7 @@ pub struct Done {
 }
 
 /// The special registers to which a step of this kind, which was planned so, gives a number have one.
-fn give_numbers(unset: &mut [bool; 256], kind: StepKind, plan: Plan)
+pub fn give_numbers(unset: &mut [bool; 256], kind: StepKind, plan: Plan)
     requires { IsGood plan }
     ensures { (code : ℕ → ℕ) (c : Control) → IsPlan plan code c → IsKindOf plan kind → unset.new ≡ unset_after kind (fetched code c.pc) unset.old }
 {

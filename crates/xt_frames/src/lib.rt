@@ -14,6 +14,14 @@ mod quick;
 mod registers;
 mod view;
 
+pub use breach::{
+    Case, Limits, Tested, first_shown, fresh_after, insn_tests, is_return, other_tests, planned,
+    return_tests, vector_breach,
+};
+pub use callers::{calls_in, change, depth_of, newest_of, sp_in, under};
 pub use frames::Frames;
-pub use holes::{ends_nested, is_nesting};
+pub use holes::{Holes, Nested, ends_nested, is_nesting, mark_read, moved_to, moves_marks};
+pub use judged::give_numbers;
 pub use kinds::{Breach, BreachKind, Judged};
+pub use nested::{begin, go_on};
+pub use view::{Call, Caller, Plan, Step, View};

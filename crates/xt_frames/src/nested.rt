@@ -113,7 +113,7 @@ fn continued(i: Insn, old: &Nested, unset: &mut [bool; 256], step: &Step, inner:
 }
 
 /// What is left beside a view by a step inside, where this stood at its PC.
-fn go_on(holes: &mut Holes, nested: &Nested, fetch: Fetch, step: &Step, inner: &View)
+pub fn go_on(holes: &mut Holes, nested: &Nested, fetch: Fetch, step: &Step, inner: &View)
     requires fetch { IsGoodFetch fetch }
     requires write { IsProperWrite IsAny step.now.write }
     ensures state { (frames : List Frame) (v w : Upper) (at : Fetched) (value : ℕ) → IsFetched fetch at

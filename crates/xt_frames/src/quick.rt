@@ -2,10 +2,11 @@
 //! others are left to the whole judge.
 #![tactic(auto)]
 
-ghost use Rattle.std.specs.Prelude.{◌≡◌, ℕ, Bool, true, false, List, None};
+ghost use Rattle.std.specs.Prelude.{◌≡◌, ℕ, Bool, true, false, List, None, Option, Some};
 ghost use Rattle.xt_isa.specs.Ranges.{in_range};
 ghost use Rattle.xt_map.specs.Memory.{constant_byte};
 ghost use Rattle.xt_special.specs.Interrupts.{pending_of};
+ghost use Rattle.xt_trace.specs.declared.record.RegWrite.{RegWrite};
 ghost use Rattle.xt_rows.specs.Laws.{IsAny, IsProper, IsProperEffect, IsProperWrite};
 ghost use Rattle.xt_rows.specs.Outcomes.{outcome_at};
 ghost use Rattle.xt_frames.specs.Frames.{Frame, known};
@@ -30,7 +31,7 @@ use xt_special::{SpecialWrite, number};
 use xt_trace::{RegWrite, StepRecord};
 
 /// Whether no breach names the instruction, and it is no system instruction.
-#[tactic(auto, unfolding(crate::specs::Breaches::may_write_sp, crate::specs::Breaches::is_return, crate::specs::Breaches::is_windowing, crate::specs::Breaches::names_window_register, crate::specs::Marks::moved_to, crate::specs::Breaches::sets_epc1))]
+#[tactic(auto, unfolding(crate::specs::Breaches::may_write_sp, crate::specs::Breaches::is_return, crate::specs::Breaches::is_windowing, crate::specs::Breaches::names_window_register, crate::specs::Marks::moved_to, crate::specs::Breaches::sets_epc1, crate::specs::Quick::is_system))]
 #[inline(always)]
 fn is_common(i: Insn) -> bool
     ensures { result ≡ true → IsCommon i }
@@ -65,21 +66,21 @@ fn is_mild(e: Effect) -> bool
 }
 
 impl View {
-    /// Makes an effect of an instruction of this length, and writes this register: whether that shows no breach. Else nothing has
-    /// changed.
+    /// Makes an effect of an instruction of this length, and writes this register, if that shows no breach: what it has written. Else
+    /// nothing has changed.
     #[inline(always)]
-    fn make(&mut self, e: Effect, len: u8, write: Option<RegWrite>) -> bool
+    fn make(&mut self, e: Effect, len: u8, write: Option<RegWrite>) -> Option<Option<RegWrite>>
         requires effect { IsProperEffect IsAny e }
         requires write { IsProperWrite IsAny write }
         ensures { IsMade result e len write self.old self.new }
     {
         if !is_mild(e) || is_sp(write) {
-            return false;
+            return None;
         }
         self.apply(e, len);
         self.tick();
         self.write(write);
-        true
+        Some(write)
     }
 
     /// What comes of an instruction. It is worked out before all tests: behind so many it would be
@@ -123,8 +124,8 @@ impl View {
         true
     }
 
-    /// Makes an instruction of this length with this outcome, if it shows no breach and stays in its frame: whether it did. Else
-    /// nothing has changed.
+    /// Makes an instruction of this length with this outcome, if it shows no breach and stays in its frame: what it has written.
+    /// Else nothing has changed.
     #[inline(always)]
     fn quick_insn(
         &mut self,
@@ -134,17 +135,17 @@ impl View {
         len: u8,
         outcome: Outcome,
         rec: &StepRecord,
-    ) -> bool
+    ) -> Option<Option<RegWrite>>
         requires range { in_range i ≡ true }
         requires proper { IsProper IsAny outcome }
         ensures { (code : ℕ → ℕ) → outcome ≡ outcome_at code i (known self.old.seen) self.old.control
             → IsRowOr result fresh i len code rec.now holes.now self.old self.new }
     {
         if !is_common(i) || is_sp(rec.write) {
-            return false;
+            return None;
         }
         if !self.reads_numbers(holes, fresh, i) {
-            return false;
+            return None;
         }
         match outcome {
             Outcome::Does(e) => self.make(e, len, e.write),
@@ -152,7 +153,7 @@ impl View {
                 let write = received(awaited, rec.reply);
                 self.make(e, len, write)
             }
-            _ => false,
+            _ => None,
         }
     }
 
@@ -179,8 +180,8 @@ impl View {
             && !is_in_vectors(limits, self.pc())
     }
 
-    /// Makes the step of a state over which the inputs are laid, if it shows no breach and stays in its frame: whether it did. Else
-    /// nothing has changed.
+    /// Makes the step of a state over which the inputs are laid, if it shows no breach and stays in its frame: what it has
+    /// written. Else nothing has changed.
     #[inline(always)]
     fn laid_quick(
         &mut self,
@@ -189,7 +190,7 @@ impl View {
         fresh: bool,
         code: &Constants,
         rec: &StepRecord,
-    ) -> bool
+    ) -> Option<Option<RegWrite>>
         requires { holes.now.nested ≡ None }
         ensures { IsQuickOr result limits fresh (constant_byte code.now) rec.now holes.now self.old self.new }
     {
@@ -199,15 +200,15 @@ impl View {
                 if self.is_at_rest(limits) {
                     self.quick_insn(holes, fresh, i, len, outcome, rec)
                 } else {
-                    false
+                    None
                 }
             }
-            Fetch::Fails(_) | Fetch::Nothing => false,
+            Fetch::Fails(_) | Fetch::Nothing => None,
         }
     }
 
-    /// Steps a view outside nested interrupts by a record, if the step shows no breach and stays in its frame: whether it did. Else
-    /// nothing has changed.
+    /// Steps a view outside nested interrupts by a record, if the step shows no breach and stays in its frame: the write of
+    /// its register, if any. Else nothing has changed.
     pub fn quick(
         &mut self,
         holes: &Holes,
@@ -215,18 +216,20 @@ impl View {
         fresh: bool,
         code: &Constants,
         rec: &StepRecord,
-    ) -> bool
+    ) -> Option<Option<RegWrite>>
         requires { holes.now.nested ≡ None }
-        ensures quick { result ≡ true → (laid_upper : Upper) × ((frames : List Frame) → state_at frames holes.now laid_upper ≡ laid (inputs_of rec.now) (state_at frames holes.now self.old))
-            × IsQuick limits fresh (constant_byte code.now) rec.now holes.now laid_upper self.new }
-        ensures other { result ≡ false → self.new ≡ self.old }
+        ensures quick { (write : Option RegWrite) → result ≡ Some write → (laid_upper : Upper) × ((frames : List Frame) → state_at frames holes.now laid_upper ≡ laid (inputs_of rec.now) (state_at frames holes.now self.old))
+            × IsQuick limits fresh (constant_byte code.now) rec.now holes.now write laid_upper self.new }
+        ensures other { result ≡ None → self.new ≡ self.old }
     {
         let covered = self.covered();
         self.lay(rec);
-        let made = self.laid_quick(holes, limits, fresh, code, rec);
-        if !made {
-            self.uncover(covered);
+        match self.laid_quick(holes, limits, fresh, code, rec) {
+            Some(write) => Some(write),
+            None => {
+                self.uncover(covered);
+                None
+            }
         }
-        made
     }
 }

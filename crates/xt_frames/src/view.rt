@@ -1,17 +1,19 @@
 //! A frame state without its list of frames, and its step.
 #![tactic(auto)]
 
-ghost use Rattle.std.specs.Prelude.{◌≡◌, ◌<◌, ◌≤◌, ◌^◌, ◌%◌, ℕ, IfSome, List, [], None, true};
+ghost use Rattle.std.specs.Prelude.{◌≡◌, ◌<◌, ◌≤◌, ◌^◌, ◌%◌, ℕ, IfSome, List, [], None, true, slice_index_or, slice_set};
 ghost use Rattle.xt_isa.specs.Ranges.{in_range};
 ghost use Rattle.xt_map.specs.Memory.{constant_byte};
 ghost use Rattle.xt_special.specs.Control.{special_of};
 ghost use Rattle.xt_special.specs.Numbers as numbers;
 ghost use Rattle.xt_special.specs.Timers.{ticked};
-ghost use Rattle.xt_rows.specs.Laws.{IsAny, IsProper, IsProperEffect, IsProperStep, IsProperWrite, IsRegister};
+ghost use Rattle.xt_rows.specs.Effects.{puts, unchanged};
+ghost use Rattle.xt_rows.specs.Laws.{IsAny, IsProper, IsProperEffect, IsProperStep, IsProperWrite, IsRegister, IsShiftAmount};
+ghost use Rattle.xt_rows.specs.Operands.{special_reads};
 ghost use Rattle.xt_fetch.specs.Fetching.{Fetched};
 ghost use Rattle.xt_codec.specs.Fetches.{IsFetched, IsGoodFetch};
 ghost use Rattle.xt_rows.specs.Outcomes.{outcome_at, value_of};
-ghost use Rattle.xt_rows.specs.Settling.{after_effect, after_flow, settled_interrupt, settled_wait};
+ghost use Rattle.xt_rows.specs.Settling.{after_effect, after_flow, settled, settled_interrupt, settled_wait};
 ghost use Rattle.xt_rows.specs.declared.outcome.Flow.TheVariants.{Falls};
 ghost use Rattle.xt_frames.specs.Frames.{Frame, known, opening_frame, seen_after_write};
 ghost use Rattle.xt_frames.specs.FrameStep.{Inputs, done_in_frame, fetched_step, in_frame, laid, laid_step, popped, pushed, raised, windowed_in_frame};
@@ -31,7 +33,7 @@ use xt_isa::Insn;
 use xt_map::{Access, Constants};
 use xt_rows::settling::{self, received, special_value};
 use xt_rows::{
-    Effect, Outcome, Values, WindowStep, cause, outcome_of, reads, special_reads, write_to,
+    Effect, Flow, Outcome, Values, WindowStep, cause, outcome_of, reads, special_reads, write_to,
 };
 use xt_special::{Ps, Special, number};
 use xt_trace::{RegWrite, StepKind, StepRecord};
@@ -187,6 +189,32 @@ impl View {
             Some(value) => value,
             None => 0,
         }
+    }
+
+    /// A visible register, with its value or none.
+    pub fn visible(&self, i: u8) -> Option<u32>
+        requires { i < 16 }
+        ensures { result ≡ slice_index_or self.now.seen i None }
+    {
+        self.seen[i as usize]
+    }
+
+    /// A visible register receives a value or none.
+    pub fn put(&mut self, i: u8, value: Option<u32>)
+        requires { i < 16 }
+        ensures { self.new ≡ record self.old { seen = slice_set self.old.seen i value } }
+    {
+        self.seen[i as usize] = value;
+    }
+
+    /// The value of the first special register that an instruction reads, 0 where it reads none.
+    pub fn special_read(&self, i: Insn) -> u32
+        requires { in_range i ≡ true }
+        ensures value { result ≡ value_of (special_of self.now.control) (special_reads i).0 }
+        ensures sar { IsShiftAmount i result }
+    {
+        let (special, _other) = special_reads(i);
+        special_value(&self.special, special)
     }
 
     /// Whether there is a register, and it has no value.
@@ -394,8 +422,9 @@ impl View {
         }
     }
 
+    /// The value of the register, 0 where there is none, or it has no value.
     #[inline(always)]
-    pub(crate) fn visible_value(&self, register: Option<u8>) -> u32
+    pub fn visible_value(&self, register: Option<u8>) -> u32
         requires { IsRegister register }
         ensures { result ≡ value_of (known self.now.seen) register }
     {
@@ -484,6 +513,27 @@ impl View {
             }
             Outcome::Windowed(step) => self.windowed(step, len, newest),
         }
+    }
+
+    /// MOVSP of this length, where it raises nothing: the register receives the value.
+    pub fn move_stack(&mut self, number: u8, value: u32, len: u8) -> Step
+        requires { number < 16 }
+        ensures turn { (frames : List Frame) (h : Holes) → turn_as result frames h self.new
+            ≡ in_frame (settled (puts number value (unchanged self.old.control.ps self.old.control.threadptr)) len self.old.control) 0 (state_at frames h self.old) }
+        ensures write { IsProperWrite IsAny result.write }
+    {
+        let e = Effect {
+            write: write_to(number, value),
+            sets: (None, None, None),
+            ps: self.special.ps_fields(),
+            threadptr: self.special.threadptr(),
+            flow: Flow::Falls,
+            waits: false,
+        };
+        self.apply(e, len);
+        self.tick();
+        self.write(e.write);
+        without_access(StepKind::Insn, e.write)
     }
 
     /// What the next step is, where the inputs of a record are laid over the state.

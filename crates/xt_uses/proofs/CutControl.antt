@@ -1,9 +1,8 @@
 -- What exceptions, interrupts, the tick and rows leave of THREADPTR, EXCSAVE and MISC.
-use Rattle.std.proofs.Common.{◌≡◌, ◌≢◌, ℕ, ◌+◌, ◌-◌, ◌*◌, ◌%◌, ◌^◌, ◌<◌, ◌≤◌, Bool, true, false, cond, eqb, List, Option, Some, None, length, get_or, refl, sym, ap, ◌∙◌, ⊎_elim, subst, arith}
+use Rattle.std.proofs.Common.{◌≡◌, ◌≢◌, ℕ, ◌+◌, ◌%◌, ◌^◌, ◌<◌, ◌≤◌, Bool, true, false, cond, eqb, List, Option, Some, None, length, get_or, refl, sym, ap, ◌∙◌, subst, arith}
 use Rattle.std.proofs.Math.ListN.{set}
 use Rattle.std.proofs.lemmas.Bool.{both_ways, cond_both, false_from_ne_true}
 use Rattle.std.proofs.lemmas.List.{get_or-set_other, get_or-set_same, length-set}
-use Rattle.xt_special.specs.declared.ps.Ps.{Ps}
 use Rattle.xt_special.specs.declared.writes.SpecialWrite.{SpecialWrite}
 use Rattle.xt_special.specs.Access.{SpecialWrites, no_set, set_to, with_set, with_sets}
 use Rattle.xt_special.specs.Control.{Control, special_of}
@@ -16,7 +15,6 @@ use Rattle.xt_rows.specs.declared.outcome.Flow.{Flow}
 use Rattle.xt_rows.specs.declared.outcome.Flow.TheVariants.{Falls, Goes}
 use Rattle.xt_rows.specs.Kinds.{AllSpare, Spares}
 use Rattle.xt_rows.specs.Settling.{after_effect, after_flow}
-use Rattle.xt_frames.specs.FrameStep.{Inputs}
 use Rattle.xt_frames.specs.Marks.{holds_marks}
 use Rattle.xt_uses.proofs.WholeStates.{special_high}
 

@@ -1,5 +1,5 @@
 -- A step of the machine of uses in a nested interrupt keeps its values cut.
-use Rattle.std.proofs.Common.{◌≡◌, ℕ, ◌+◌, ◌*◌, ◌<◌, ◌≤◌, ℤ, Bool, true, false, not, cond, ltb, ◌&&◌, ◌||◌, List, [], ◌∷◌, Option, Some, None, length, get_or, refl, sym, ap, ◌∙◌, ⊎_elim, subst}
+use Rattle.std.proofs.Common.{◌≡◌, ℕ, ◌+◌, ℤ, Bool, true, false, not, cond, ltb, ◌&&◌, ◌||◌, List, Option, Some, None, get_or, refl, sym, ap, ◌∙◌, ⊎_elim, subst}
 use Rattle.std.proofs.Math.ListN.{set}
 use Rattle.std.specs.Prelude.{is_some}
 use Rattle.std.proofs.lemmas.Bool.{and_left, and_parts, and_right, both_ways, cases_Bool, cond-false, cond-true, cond_both, false_from_ne_true, not_from_false, not_from_true, or_parts}
@@ -12,7 +12,7 @@ use Rattle.xt_isa.specs.declared.system.System.TheVariants as system
 use Rattle.xt_isa.specs.declared.system.SpecialName.TheVariants as SpecialName
 use Rattle.xt_map.specs.declared.access.Access.{Access}
 use Rattle.xt_special.specs.declared.ps.Ps.{Ps}
-use Rattle.xt_special.specs.Access.{SpecialWrites, no_set, no_sets, set_to, with_sets}
+use Rattle.xt_special.specs.Access.{SpecialWrites, no_set, set_to, with_sets}
 use Rattle.xt_special.specs.Control.{Control, ps_of, special_of}
 use Rattle.xt_rows.specs.Numbers.{natural}
 use Rattle.xt_rows.specs.declared.outcome.Flow.TheVariants.{Goes}
@@ -28,7 +28,7 @@ use Rattle.xt_rows.specs.declared.outcome.Outcome.{Outcome}
 use Rattle.xt_rows.specs.declared.outcome.Outcome.TheVariants.{Does, Raises, Asks, Stops, Windowed}
 use Rattle.xt_rows.specs.declared.outcome.WindowStep.TheVariants.{Enters, Returns, EndsOverflow, EndsUnderflow, Rotates, MovesStack, Reads, Sets, Exchanges}
 use Rattle.xt_rows.specs.Effects.{illegal_instruction, unchanged}
-use Rattle.xt_rows.specs.Kinds.{Fits, SetsOne, is_entry, is_movsp, is_return, is_windowing, moved_to}
+use Rattle.xt_rows.specs.Kinds.{Fits, SetsOne, is_entry, is_movsp, is_return, moved_to}
 use Rattle.xt_rows.specs.Laws.{AsksWith, KeepsMode}
 use Rattle.xt_rows.specs.Operands.{reads, special_reads}
 use Rattle.xt_rows.specs.Outcomes.{outcome, system_outcome, outcome_at, value_of}
@@ -46,11 +46,11 @@ use Rattle.xt_frames.proofs.Shown.{NoneShown}
 use Rattle.xt_frames.proofs.StackSteps.{step_fetches}
 use Rattle.xt_uses.specs.Words.{all_bits, cut}
 use Rattle.xt_uses.specs.Known.{result_mask, system_mask}
-use Rattle.xt_uses.specs.UseState.{Masks, UseState, first_word, second_word, special_mask, special_operand, visible_word}
+use Rattle.xt_uses.specs.UseState.{Masks, UseState, first_word, second_word, special_operand, visible_word}
 use Rattle.xt_uses.specs.UseStep.{UseTurn, called, cut_number, cut_seen, executed, frames_moved, pointer_written, returned, special_written, use_turn, visible_written}
 use Rattle.xt_uses.specs.UseBreaches.{breaks_stack, fetched_uses, holds_mark, laid_use, reads_mark, swaps_unknown, uses_unknown}
 use Rattle.xt_uses.specs.UseLaws.{AreCut, IsCutAt}
-use Rattle.xt_uses.proofs.CutControl.{Keeps, Spared, keeps_effect, keeps_same, keeps_tick, sets_size, sets_spare, spared_same, spared_set}
+use Rattle.xt_uses.proofs.CutControl.{Spared, keeps_effect, keeps_same, keeps_tick, sets_size, sets_spare, spared_same, spared_set}
 use Rattle.xt_uses.proofs.CutLists.{cut_at, cut_marked, cut_put, cut_value}
 use Rattle.xt_uses.proofs.CutPlain.{none_moved}
 use Rattle.xt_uses.proofs.CutRows.{LeavesPointer, marks_saved, moved_value, pointer_kept, pointer_left}

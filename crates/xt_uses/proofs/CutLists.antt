@@ -1,11 +1,11 @@
 -- Values beside their masks: a bit that is not known is 0 in the value, and where there is no number nothing is known.
-use Rattle.std.proofs.Common.{◌≡◌, ℕ, zero, suc, ◌+◌, ◌-◌, ◌*◌, ◌<◌, ◌≤◌, Bool, true, false, List, [], ◌∷◌, ◌++◌, Option, Some, None, length, take, drop, get_or, replicate, refl, sym, ap, ◌∙◌, arith, subst}
+use Rattle.std.proofs.Common.{◌≡◌, ℕ, zero, suc, List, [], ◌∷◌, ◌++◌, Option, Some, None, length, take, drop, get_or, replicate, refl, ap, ◌∙◌}
 use Rattle.std.proofs.Math.ListN.{set}
 use Rattle.std.specs.Prelude.{bit_and}
 use Rattle.std.specs.Int.Bits.{and_self}
 use Rattle.std.proofs.lemmas.Nat.{and_assoc}
 use Rattle.xt_trace.specs.declared.record.RegWrite.{RegWrite}
-use Rattle.xt_frames.specs.Frames.{Frame, known, seen_after_write}
+use Rattle.xt_frames.specs.Frames.{known, seen_after_write}
 use Rattle.xt_uses.specs.Words.{cut}
 use Rattle.xt_uses.specs.UseStep.{cut_number, cut_seen}
 use Rattle.xt_uses.specs.UseLaws.{AreCut, IsCutAt}

@@ -1,5 +1,5 @@
 -- A step of the machine of uses outside nested interrupts keeps its values cut.
-use Rattle.std.proofs.Common.{◌≡◌, ℕ, ◌+◌, ◌*◌, ◌<◌, ◌≤◌, ℤ, Bool, true, false, not, cond, ltb, ◌&&◌, ◌||◌, List, [], ◌∷◌, Option, Some, None, length, take, get_or, refl, sym, ap, ◌∙◌, ⊎_elim, subst, arith}
+use Rattle.std.proofs.Common.{◌≡◌, ℕ, ◌+◌, ◌*◌, ◌≤◌, ℤ, Bool, true, false, cond, ltb, ◌||◌, List, [], ◌∷◌, Option, Some, None, take, get_or, refl, sym, ◌∙◌, ⊎_elim, subst, arith}
 use Rattle.std.proofs.Math.ListN.{set}
 use Rattle.std.proofs.lemmas.Bool.{both_ways, cases_Bool, cond-false, cond-true, or_from, or_left, or_right}
 use Rattle.std.proofs.lemmas.Option.{none-some}
@@ -8,9 +8,6 @@ use Rattle.xt_isa.specs.declared.Insn.{Insn}
 use Rattle.xt_isa.specs.declared.Insn.TheVariants as insn
 use Rattle.xt_isa.specs.declared.shift.Shift.TheVariants as shift
 use Rattle.xt_isa.specs.declared.control.Control.TheVariants as control
-use Rattle.xt_isa.specs.declared.control.RetName.TheVariants as RetName
-use Rattle.xt_isa.specs.declared.density.Density.TheVariants as density
-use Rattle.xt_isa.specs.declared.density.NarrowRetName.TheVariants as NarrowRetName
 use Rattle.xt_map.specs.declared.access.Access.{Access}
 use Rattle.xt_special.specs.Access.{SpecialWrites, no_set, no_sets, set_to, with_sets}
 use Rattle.xt_special.specs.Control.{Control}
@@ -29,19 +26,19 @@ use Rattle.xt_rows.specs.declared.outcome.WindowStep.TheVariants.{Enters, Return
 use Rattle.xt_rows.specs.Effects.{illegal_instruction, unchanged, write_to}
 use Rattle.xt_rows.specs.Kinds.{Fits, IsReturn, SetsOne, is_entry, is_movsp, is_return, is_windowing, moved_to, names_window_register}
 use Rattle.xt_rows.specs.Laws.{AsksWith}
-use Rattle.xt_rows.specs.Operands.{reads, special_reads}
-use Rattle.xt_rows.specs.Outcomes.{outcome, outcome_at, value_of}
-use Rattle.xt_rows.specs.Settling.{after_effect, after_flow, settled_exception, settled_interrupt, settled_wait}
+use Rattle.xt_rows.specs.Operands.{reads}
+use Rattle.xt_rows.specs.Outcomes.{outcome_at, value_of}
+use Rattle.xt_rows.specs.Settling.{after_effect, settled_interrupt, settled_wait}
 use Rattle.xt_rows.proofs.Fitting.{outcome_alone, outcome_fits}
 use Rattle.xt_frames.specs.Frames.{Frame, FrameState, known, seen_after_call, seen_after_return, seen_after_write}
 use Rattle.xt_frames.specs.FrameStep.{FrameTurn, Inputs, done_in_frame, fetched_step, in_frame, laid, laid_step, popped, popped_from, pushed, raised}
 use Rattle.xt_frames.specs.Marks.{holds_marks, unset_by}
-use Rattle.xt_frames.specs.Nesting.{plain_turn, unset_after}
+use Rattle.xt_frames.specs.Nesting.{unset_after}
 use Rattle.xt_frames.proofs.StackSteps.{step_fetches, step_taken, step_waits, turn_if}
-use Rattle.xt_uses.specs.Words.{all_bits, cut}
+use Rattle.xt_uses.specs.Words.{cut}
 use Rattle.xt_uses.specs.Known.{result_mask}
 use Rattle.xt_uses.specs.UseState.{Masks, UseState, first_word, second_word, special_operand, visible_word}
-use Rattle.xt_uses.specs.UseStep.{UseTurn, called, cut_seen, executed, fetched_movsp, frames_moved, masks_past, movsp_of, pointer_written, returned, special_written, stack_moved, turn_or, use_turn, visible_written}
+use Rattle.xt_uses.specs.UseStep.{UseTurn, called, executed, fetched_movsp, frames_moved, movsp_of, returned, turn_or, use_turn}
 use Rattle.xt_frames.specs.Breaches.{Bounds}
 use Rattle.xt_frames.proofs.Shown.{NoneShown}
 use Rattle.xt_uses.specs.UseBreaches.{breaks_stack, fetched_uses, laid_use, swaps_unknown, uses_unknown}

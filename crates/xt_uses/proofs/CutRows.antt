@@ -1,5 +1,5 @@
 -- What a row leaves of THREADPTR, and what WSR and XSR give to EXCSAVE and MISC.
-use Rattle.std.proofs.Common.{◌≡◌, ℕ, ◌+◌, ◌*◌, ◌%◌, ◌^◌, ◌≤◌, ◌==◌, ℤ, Bool, true, false, cond, eqb, leb, ◌&&◌, ◌||◌, ◌⊎◌, inl, inr, ⊎_elim, Option, Some, None, refl, sym, ap, ◌∙◌, subst, arith}
+use Rattle.std.proofs.Common.{◌≡◌, ℕ, ◌*◌, ◌%◌, ◌^◌, ◌≤◌, ◌==◌, ℤ, Bool, true, false, cond, eqb, leb, ◌&&◌, ◌||◌, ◌⊎◌, inl, inr, ⊎_elim, Option, Some, None, refl, sym, ap, ◌∙◌, subst, arith}
 use Rattle.std.proofs.lemmas.Bool.{and_from, and_parts, both_ways, cond-false, eqb-true, false_from_ne_true, leb-true, le-leb, or_cases, or_from, or_left, or_right}
 use Rattle.xt_isa.specs.declared.Insn.{Insn}
 use Rattle.xt_isa.specs.declared.Insn.TheVariants as insn
@@ -68,10 +68,10 @@ use Rattle.xt_rows.specs.declared.outcome.Awaited.{Awaited}
 use Rattle.xt_rows.specs.declared.outcome.Effect.{Effect}
 use Rattle.xt_rows.specs.declared.outcome.WindowRegister.{WindowRegister}
 use Rattle.xt_rows.specs.declared.outcome.Outcome.{Outcome}
-use Rattle.xt_rows.specs.declared.outcome.Outcome.TheVariants.{Does, Raises, Asks, Stops, Windowed}
+use Rattle.xt_rows.specs.declared.outcome.Outcome.TheVariants.{Does, Asks}
 use Rattle.xt_rows.specs.Numbers.{plus, natural, call_target, literal_address}
 use Rattle.xt_rows.specs.Operands.{call_size, callx_size}
-use Rattle.xt_rows.specs.Effects.{unchanged, puts, moves, divides, branches, calls, asks, aligned, loads, stores, swaps, window_register, reads_special, writes_special, exchanges_special}
+use Rattle.xt_rows.specs.Effects.{unchanged, moves, divides, branches, calls, asks, aligned, loads, stores, swaps, window_register, reads_special, writes_special, exchanges_special}
 use Rattle.xt_rows.specs.Outcomes.{three_outcome, shift_outcome, memory_outcome, control_outcome, system_outcome, density_outcome, boolean_outcome, outcome, outcome_from}
 use Rattle.xt_special.specs.declared.ps.Ps.{Ps}
 use Rattle.xt_special.specs.Access.{SpecialWrites, is_ccompare, is_eps, no_set, set_to, value_kept, written_by}

@@ -1,19 +1,18 @@
 -- Before each turn of a run up to the first use of what is not known, the values of both cores are cut to their known bits.
-use Rattle.std.proofs.Common.{◌≡◌, ℕ, zero, suc, ◌-◌, ◌%◌, ◌^◌, ◌<◌, ◌≤◌, Bool, true, false, not, cond, List, [], ◌∷◌, Option, Some, None, length, get_or, replicate, refl, sym, ap, ◌∙◌, ⊎_elim, subst, arith}
+use Rattle.std.proofs.Common.{◌≡◌, ℕ, zero, suc, ◌-◌, ◌^◌, ◌<◌, ◌≤◌, Bool, false, not, Option, Some, None, length, get_or, replicate, refl, sym, ◌∙◌, ⊎_elim, subst, arith}
 use Rattle.std.proofs.Math.ListN.{set}
 use Rattle.std.proofs.lemmas.Bool.{cond-true, true≢false}
-use Rattle.std.proofs.lemmas.List.{get_or-replicate, length-replicate, length-set}
+use Rattle.std.proofs.lemmas.List.{length-replicate}
 use Rattle.xt_special.specs.Opening.{no_special, opening_special, prid_of}
 use Rattle.xt_trace.specs.declared.record.StepRecord.{StepRecord}
 use Rattle.xt_frames.specs.declared.kinds.BreachKind.{BreachKind}
-use Rattle.xt_frames.specs.Frames.{FrameState, all_set, opening_frame, opening_seen}
+use Rattle.xt_frames.specs.Frames.{all_set, opening_frame, opening_seen}
 use Rattle.xt_frames.specs.Verdict.{is_nested}
-use Rattle.xt_frames.specs.Marks.{holds_marks}
-use Rattle.xt_frames.specs.FirstBreach.{Course, IsJudgedTurn, IsTurn, is_judged, mode_before}
+use Rattle.xt_frames.specs.FirstBreach.{Course, IsJudgedTurn, is_judged, mode_before}
 use Rattle.xt_uses.specs.Words.{all_bits, cut}
 use Rattle.xt_uses.specs.UseState.{UseState, whole_masks}
 use Rattle.xt_uses.specs.UseBreaches.{use_breach}
-use Rattle.xt_uses.specs.FirstUse.{History, IsHistory, Shows, handler_use, live_at, use_at}
+use Rattle.xt_uses.specs.FirstUse.{History, IsHistory, Shows, handler_use, live_at}
 use Rattle.xt_uses.specs.UseLaws.{AreCut, IsOpening, IsUnused, ValuesAreCut}
 use Rattle.xt_uses.proofs.CutControl.{Spared, spared_same, spared_set}
 use Rattle.xt_uses.proofs.CutLists.{cut_set}

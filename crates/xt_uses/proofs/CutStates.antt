@@ -1,10 +1,9 @@
 -- A state of the machine of uses whose values are cut to their known bits: how what a step does changes it.
-use Rattle.std.proofs.Common.{◌≡◌, ◌≢◌, ℕ, zero, suc, ◌+◌, ◌-◌, ◌*◌, ◌<◌, ◌≤◌, Bool, true, false, not, List, [], ◌∷◌, ◌++◌, Option, Some, None, length, take, drop, get_or, replicate, refl, sym, ap, ◌∙◌, ⊎_elim, arith, subst}
+use Rattle.std.proofs.Common.{◌≡◌, ℕ, ◌-◌, ◌*◌, ◌<◌, ◌≤◌, Bool, true, false, List, [], ◌∷◌, ◌++◌, Option, Some, None, length, take, drop, get_or, replicate, refl, sym, ap, ◌∙◌, ⊎_elim, arith, subst}
 use Rattle.std.proofs.Math.ListN.{set}
-use Rattle.std.specs.Prelude.{is_some}
-use Rattle.std.proofs.lemmas.Bool.{cases_eq, both_ways, true≢false}
+use Rattle.std.proofs.lemmas.Bool.{cases_eq, true≢false}
 use Rattle.std.proofs.lemmas.Option.{none-some}
-use Rattle.std.proofs.lemmas.List.{get_or-replicate, get_or-set_other, get_or-set_same, length-append, length-drop, length-replicate, length-set, length-take}
+use Rattle.std.proofs.lemmas.List.{get_or-set_other, get_or-set_same, length-append, length-drop, length-replicate, length-set, length-take}
 use Rattle.xt_isa.specs.declared.Insn.{Insn}
 use Rattle.xt_isa.specs.declared.Insn.TheVariants as insn
 use Rattle.xt_isa.specs.declared.system.System.TheVariants as system
@@ -14,9 +13,9 @@ use Rattle.xt_special.specs.Access.{SpecialWrites, no_set, set_to, with_sets}
 use Rattle.xt_trace.specs.declared.record.RegWrite.{RegWrite}
 use Rattle.xt_rows.specs.Kinds.{SetsOne}
 use Rattle.xt_frames.specs.declared.holes.Nested.{Nested}
-use Rattle.xt_frames.specs.Frames.{Frame, FrameState, opening_frame, seen_after_call, seen_after_return, seen_after_write}
+use Rattle.xt_frames.specs.Frames.{Frame, FrameState, seen_after_call, seen_after_return, seen_after_write}
 use Rattle.xt_frames.specs.Marks.{holds_marks, unset_by}
-use Rattle.xt_uses.specs.Words.{all_bits, cut}
+use Rattle.xt_uses.specs.Words.{cut}
 use Rattle.xt_uses.specs.UseState.{Masks}
 use Rattle.xt_uses.specs.UseStep.{called, cut_number, cut_seen, inner_unknown, pointer_written, returned, special_written, visible_written}
 use Rattle.xt_uses.specs.UseLaws.{AreCut, AreKeptCut, InnerIsCut, IsCutState}
@@ -24,7 +23,7 @@ use Rattle.xt_uses.proofs.CutControl.{Spared, marks_apart, sets_one, sets_size, 
 use Rattle.xt_uses.proofs.CutLists.{cut_append, cut_drop, cut_length, cut_none, cut_take, cut_visible}
 use Rattle.xt_uses.proofs.CutRows.{marks_between, pointer_left}
 use Rattle.xt_uses.proofs.WholeLists.{held, held_both, replicated}
-use Rattle.xt_uses.proofs.WholeStates.{AreFull, IsInner, IsInside, begun_inner}
+use Rattle.xt_uses.proofs.WholeStates.{AreFull, IsInside, begun_inner}
 
 pub record Cut (seen : List (Option ℕ)) (frames : List Frame) (special : List ℕ) (unset : List Bool) (threadptr : ℕ) (nested : Option Nested) (waits : Bool) (m : Masks) : Type 0 where
   pub seen_cut : AreCut seen m.seen

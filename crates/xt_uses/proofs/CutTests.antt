@@ -1,10 +1,10 @@
 -- What a step that shows no breach of uses denies.
-use Rattle.std.proofs.Common.{◌≡◌, ℕ, Bool, true, false, ltb, ◌||◌, Option, Some, None, refl, sym, ap, ◌∙◌, subst}
+use Rattle.std.proofs.Common.{◌≡◌, ℕ, Bool, false, ltb, ◌||◌, None, sym, ◌∙◌, subst}
 use Rattle.std.proofs.lemmas.Bool.{cond-false, or_from}
 use Rattle.xt_isa.specs.declared.Insn.{Insn}
 use Rattle.xt_special.specs.Interrupts.{pending_of}
 use Rattle.xt_trace.specs.declared.record.StepRecord.{StepRecord}
-use Rattle.xt_fetch.specs.Fetching.{Fetched, fetched}
+use Rattle.xt_fetch.specs.Fetching.{fetched}
 use Rattle.xt_rows.specs.Kinds.{is_windowing, names_window_register}
 use Rattle.xt_frames.specs.Frames.{FrameState}
 use Rattle.xt_frames.specs.FrameStep.{FrameTurn, fetched_step, laid_step}

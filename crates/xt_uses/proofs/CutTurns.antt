@@ -1,29 +1,24 @@
 -- A judged step that shows no breach of uses keeps the values of the machine cut to their known bits; and a core opens so.
-use Rattle.std.proofs.Common.{◌≡◌, ℕ, Bool, true, false, not, cond, ◌&&◌, List, Option, Some, None, length, replicate, refl, sym, ap, ◌∙◌, subst, ⊎_elim, arith}
-use Rattle.std.specs.Prelude.{bit_and}
-use Rattle.std.proofs.lemmas.Bool.{and_right, true≢false}
-use Rattle.std.proofs.lemmas.List.{get_or-replicate, length-replicate, length-set}
+use Rattle.std.proofs.Common.{◌≡◌, ℕ, Bool, true, false, cond, ◌&&◌, List, Option, Some, None, refl, sym, subst, arith}
+use Rattle.std.proofs.lemmas.Bool.{and_right}
 use Rattle.xt_special.specs.Control.{Control}
 use Rattle.xt_special.specs.Interrupts.{after_interrupt}
-use Rattle.xt_special.specs.Opening.{no_special, opening_special, prid_of}
 use Rattle.xt_trace.specs.declared.record.StepRecord.{StepRecord}
 use Rattle.xt_fetch.specs.Fetching.{Fetched, fetched}
 use Rattle.xt_frames.specs.declared.holes.Nested.{Nested}
 use Rattle.xt_frames.specs.declared.kinds.BreachKind.{BreachKind}
-use Rattle.xt_frames.specs.Frames.{Frame, FrameState, all_set, opening_frame, opening_seen}
+use Rattle.xt_frames.specs.Frames.{Frame, FrameState}
 use Rattle.xt_frames.specs.FrameStep.{Inputs, laid}
-use Rattle.xt_frames.specs.Marks.{holds_marks}
-use Rattle.xt_frames.specs.Nesting.{begins, begun, current, inside, is_nesting, plain_turn}
+use Rattle.xt_frames.specs.Nesting.{begins, current, is_nesting}
 use Rattle.xt_frames.specs.Breaches.{Bounds, inputs_of}
 use Rattle.xt_frames.specs.Judging.{value_in}
-use Rattle.xt_uses.specs.UseState.{Masks, UseState, whole_masks}
+use Rattle.xt_uses.specs.UseState.{Masks, UseState}
 use Rattle.xt_uses.specs.UseStep.{UseTurn, executed, inner_unknown, other_turn, reply_mask, use_step, use_turn, value_step}
 use Rattle.xt_uses.specs.UseBreaches.{laid_use, use_breach}
-use Rattle.xt_uses.proofs.CutControl.{Spared, keeps_interrupt, keeps_tick, spared_same, spared_set}
+use Rattle.xt_uses.proofs.CutControl.{keeps_interrupt, keeps_tick, spared_same, spared_set}
 use Rattle.xt_uses.proofs.CutInner.{inner_cut}
 use Rattle.xt_uses.proofs.CutPlain.{plain_cut}
-use Rattle.xt_uses.proofs.CutStates.{Cut, IsCut, cut_begun, cut_spared}
-use Rattle.xt_uses.proofs.WholeStates.{IsWholeState}
+use Rattle.xt_uses.proofs.CutStates.{IsCut, cut_begun, cut_spared}
 
 module _ (code : ℕ → ℕ) (b : Bounds) (fresh : Bool) (live : ℕ → Bool) (nested : Bool) (rec : StepRecord) (bytes : ℕ → ℕ) (m : Masks) where
   abbrev inp : Inputs

@@ -42,7 +42,7 @@ none_first [] h = refl
 none_first (t ∷ ts) h = cond-false t.shown (Some t.kind) (first_shown ts) h.0 ∙ none_first ts h.1
 
 module _ (b : Bounds) (fresh : Bool) (live stale : ℕ → Bool) (rec : StepRecord) (g : FrameState) (u : FrameTurn) (unset swap movsp : Bool) where
-  insn_quiet : (i : Insn) → unset ≡ false → swap ≡ false → movsp ≡ false → NoneShown (insn_tests b fresh live stale i rec g u) → NoneShown (use_tests unset swap movsp (insn_tests b fresh live nowhere i rec g u))
+  pub insn_quiet : (i : Insn) → unset ≡ false → swap ≡ false → movsp ≡ false → NoneShown (insn_tests b fresh live stale i rec g u) → NoneShown (use_tests unset swap movsp (insn_tests b fresh live nowhere i rec g u))
   insn_quiet i k s m (reads, (written, (size, (low, (align, (opens, (mismatch, (caller, (saves, (loads, (high, (windowing, (window_register, (woe, (vectors, (lost, (moves, (vector, (nested, more))))))))))))))))))) =
       (k, (written, (size, (low, (align, (opens, (mismatch, (caller, (saves, (s, (high, (windowing, (window_register, (woe, (vectors, (lost, (m, (vector, (nested, tt)))))))))))))))))))
 
@@ -53,7 +53,7 @@ module _ (b : Bounds) (fresh : Bool) (live stale : ℕ → Bool) (rec : StepReco
   return_quiet i k (reads, (mismatch, (caller, more))) = (k, (mismatch, (caller, tt)))
 
 -- ---- MOVSP
-stays_on_stack : (range : Range) (i : Insn) (k : StepKind) (g : FrameState) → is_movsp i ≡ false → breaks_stack range i k g ≡ false
+pub stays_on_stack : (range : Range) (i : Insn) (k : StepKind) (g : FrameState) → is_movsp i ≡ false → breaks_stack range i k g ≡ false
 unfolding is_movsp breaks_stack
 stays_on_stack range (insn.Shift (shift.Movsp t s)) k g e = absurd cc
 stays_on_stack range _ k g e = refl
@@ -83,7 +83,7 @@ not_changed n h = cond-false (eqb n 226 || (eqb n 227 || is_ccompare n)) (Some 2
     (or_cases (eqb n 227) (is_ccompare n) q))
     (or_cases (eqb n 226) (eqb n 227 || is_ccompare n) changes)))
 
-no_numbers : (i : Insn) (g : FrameState) → reads_unset i g ≡ false → reads_no_number i g ≡ false
+pub no_numbers : (i : Insn) (g : FrameState) → reads_unset i g ≡ false → reads_no_number i g ≡ false
 no_numbers i g h =
     let a = or_parts (lacks g.seen (reads i).0) _ h in
     let b = or_parts (lacks g.seen (reads i).1) _ a.1 in

@@ -1,18 +1,16 @@
 -- The law of a row between a processor's control state and registers, and a state of the machine of
 -- uses whose words fit them.
-use Rattle.std.proofs.Common.{◌≡◌, ℕ, ◌^◌, ◌<◌, Bool, true, false, if◌then◌else◌, Option, Some, None, refl, subst, arith}
+use Rattle.std.proofs.Common.{◌≡◌, ℕ, ◌^◌, ◌<◌, true, Option, Some, None, refl, subst, arith}
 use Rattle.std.specs.Prelude.{slice_index_or}
 use Rattle.xt_isa.specs.declared.Insn.{Insn}
 use Rattle.xt_special.specs.Control.{Control, special_of}
-use Rattle.xt_special.specs.declared.ps.Ps.{Ps}
 use Rattle.xt_rows.specs.Laws.{IsGiven, IsRegister}
 use Rattle.xt_rows.specs.Operands.{reads, special_reads}
 use Rattle.xt_rows.specs.Outcomes.{outcome, outcome_at, value_of}
 use Rattle.xt_frames.specs.Frames.{FrameState, known}
-use Rattle.xt_frames.specs.Marks.{holds_marks}
-use Rattle.xt_uses.specs.Words.{Word, Fits, all_bits, cut, is_whole, whole_word}
+use Rattle.xt_uses.specs.Words.{Fits, cut}
 use Rattle.xt_uses.specs.Used.{used_are_known}
-use Rattle.xt_uses.specs.UseState.{UseState, current_masks, first_word, second_word, special_mask, special_operand, special_word, visible_word}
+use Rattle.xt_uses.specs.UseState.{UseState, current_masks, first_word, second_word, special_operand, special_word, visible_word}
 use Rattle.xt_uses.specs.UseLaws.{IsKnownNumber, OutcomesAgree, masks_of_row}
 use Rattle.xt_uses.proofs.RowsAll.{all_agree}
 

@@ -1,6 +1,5 @@
 -- What a load writes has the mask of its reply: no other row awaits one.
-use Rattle.std.proofs.Common.{◌≡◌, ℕ, ◌+◌, ◌*◌, ◌%◌, ◌^◌, ◌<◌, ◌==◌, ℤ, Bool, true, false, cond, Option, Some, None, refl, sym, ap, subst}
-use Rattle.std.specs.Prelude.{bit_and, bit_or, bit_xor, min, max}
+use Rattle.std.proofs.Common.{◌≡◌, ℕ, ◌*◌, ◌%◌, ◌^◌, ◌==◌, ℤ, Bool, true, false, cond, Option, Some, None, refl}
 use Rattle.xt_isa.specs.declared.Insn.{Insn}
 use Rattle.xt_isa.specs.declared.Insn.TheVariants as insn
 use Rattle.xt_isa.specs.declared.three.Three.{Three}
@@ -69,10 +68,10 @@ use Rattle.xt_rows.specs.declared.outcome.Awaited.{Awaited}
 use Rattle.xt_rows.specs.declared.outcome.Effect.{Effect}
 use Rattle.xt_rows.specs.declared.outcome.WindowRegister.{WindowRegister}
 use Rattle.xt_rows.specs.declared.outcome.Outcome.{Outcome}
-use Rattle.xt_rows.specs.declared.outcome.Outcome.TheVariants.{Does, Raises, Asks, Stops, Windowed}
+use Rattle.xt_rows.specs.declared.outcome.Outcome.TheVariants.{Raises, Asks}
 use Rattle.xt_rows.specs.Numbers.{plus, natural, call_target, literal_address}
 use Rattle.xt_rows.specs.Operands.{call_size, callx_size}
-use Rattle.xt_rows.specs.Effects.{unchanged, moves, divides, branches, calls, asks, aligned, loads, stores, swaps, window_register, reads_special, writes_special, exchanges_special}
+use Rattle.xt_rows.specs.Effects.{unchanged, moves, divides, branches, calls, asks, loads, stores, swaps, window_register, reads_special, writes_special, exchanges_special}
 use Rattle.xt_rows.specs.Outcomes.{three_outcome, shift_outcome, memory_outcome, control_outcome, system_outcome, density_outcome, boolean_outcome, outcome}
 use Rattle.xt_uses.specs.Words.{Word}
 use Rattle.xt_uses.specs.Known.{loaded_mask, memory_mask, density_mask, result_mask}

@@ -1,5 +1,5 @@
 -- What is written of an outcome and a reply agrees, in the mask that the table gives.
-use Rattle.std.proofs.Common.{◌≡◌, ℕ, ◌^◌, ◌<◌, Option, Some, None, refl, sym, ap, subst}
+use Rattle.std.proofs.Common.{◌≡◌, ℕ, ◌^◌, ◌<◌, Option, Some, None, refl, sym, subst}
 use Rattle.xt_isa.specs.declared.Insn.{Insn}
 use Rattle.xt_map.specs.declared.access.Access.{Access}
 use Rattle.xt_special.specs.Control.{Control}
@@ -9,8 +9,6 @@ use Rattle.xt_rows.specs.declared.outcome.Outcome.{Outcome}
 use Rattle.xt_rows.specs.declared.outcome.Outcome.TheVariants.{Does, Raises, Asks, Stops, Windowed}
 use Rattle.xt_rows.specs.Numbers.{extended}
 use Rattle.xt_rows.specs.Settling.{settled, written}
-use Rattle.xt_uses.specs.Words.{Word, all_bits}
-use Rattle.xt_uses.specs.Known.{result_mask}
 use Rattle.xt_uses.specs.UseLaws.{AgreeIn, OutcomesAgree, RowMasks, WritesAgree}
 use Rattle.xt_uses.proofs.Agreeing.{moved_agrees}
 use Rattle.xt_uses.proofs.Moves.{extended_moves}

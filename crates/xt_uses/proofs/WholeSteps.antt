@@ -73,7 +73,7 @@ module _ (s : UseState) (g : FrameState) where
   used_true i r = (λ j. used_are_known i (r.first j) (r.second j)) ∙ used_whole i (first_word i s g).value (second_word i s g).value
 
 -- ---- words of which each bit is known are not cut
-uncut_number : (o : Option ℕ) → ((n : ℕ) → o ≡ Some n → n < 2 ^ 32) → cut_number all_bits o ≡ o
+pub uncut_number : (o : Option ℕ) → ((n : ℕ) → o ≡ Some n → n < 2 ^ 32) → cut_number all_bits o ≡ o
 uncut_number None h = refl
 uncut_number (Some n) h = ap (λ k. Some k) (and_all n (h n refl))
 

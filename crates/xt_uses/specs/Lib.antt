@@ -6,3 +6,8 @@ pub mod UseStep
 pub mod UseBreaches
 pub mod FirstUse
 pub mod UseLaws
+pub mod UseParts
+pub mod UseQuick
+pub mod Lacks
+pub mod UseWalk
+pub mod Snapshots

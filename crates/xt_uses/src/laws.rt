@@ -2,6 +2,7 @@
 #![tactic(auto)]
 
 ghost use Rattle.xt_uses.specs.UseLaws.{RepliesAgree, RowsAgree, UseRunIsFrameRun, UsesAreLater, ValuesAreCut, VerdictIsOne, WholeIsFrames};
+ghost use Rattle.xt_uses.specs.UseWalk.{WalkFindsFirstUse};
 
 /// A row looks at nothing but the bits that it uses.
 pub fn rows_agree()
@@ -38,4 +39,9 @@ pub fn uses_are_later()
 /// breach of the stack discipline.
 pub fn use_run_is_frame_run()
     ensures { UseRunIsFrameRun }
+{}
+
+/// The walk over the turns of a run answers its first use, and counts what is carried.
+pub fn walk_finds_first_use()
+    ensures { WalkFindsFirstUse }
 {}

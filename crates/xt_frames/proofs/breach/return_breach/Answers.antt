@@ -6,7 +6,6 @@ use Rattle.xt_fetch.specs.Fetching.{Fetched, Fetches, fetched}
 use Rattle.xt_frames.specs.Frames.{FrameState}
 use Rattle.xt_frames.specs.Breaches.{first_shown, is_return, return_tests, fetched_return_breach}
 use Rattle.xt_frames.specs.Parts.{state_at}
-use Rattle.xt_frames.proofs.TestRows.{row, last, one}
 use Rattle.xt_frames.proofs.breach.return_breach.Goals as goal
 
 of_return : (at : Fetched) (i : Insn) (len : ℕ) (f : FrameState) → at ≡ Fetches i len → is_return i ≡ true → fetched_return_breach at f ≡ first_shown (return_tests i f)
@@ -17,8 +16,5 @@ returns-then-is_return c = λ frames new.
     let h = c.args.holes.now in
     let at : fetched (constant_byte c.args.code.now) c.args.view.now.control.pc ≡ Fetches c.in-Insn.i c.in-Insn.field-1 =
     ap (fetched (constant_byte c.args.code.now)) (sym c.pc.ensures) ∙ c.in-Insn.ensures.fetched.0 in
-    c.first_shown.ensures ∙ (ap first_shown
-    (row (one _ _ _ _ c.test.ensures (c.reads_none.ensures frames))
-    (row (one _ _ _ _ c.test-then-is_return.ensures (c.returns_elsewhere.ensures frames h new))
-    (last (one _ _ _ _ c.test-then-is_return-2.ensures (c.has_no_caller.ensures frames h c.args.view.now new)))))
+    c.first_shown.ensures ∙ (ap first_shown (c.return_tests-tests.ensures frames new)
     ∙ sym (of_return (fetched (constant_byte c.args.code.now) c.args.view.now.control.pc) c.in-Insn.i c.in-Insn.field-1 (state_at frames h c.args.view.now) at (sym c.is_return.ensures ∙ c.if-is_return.true)))

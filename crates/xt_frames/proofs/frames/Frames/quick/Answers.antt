@@ -12,38 +12,41 @@ invariant_of-self c =
     let i = c.self.inside in
     let code = constant_byte c.args.code.now in
     let rec = c.args.rec.now in
-    let x = c.quick-made.new.self in
+    let x = c.quick.new.self in
     let fresh = c.is_fresh-fresh.result in
-    let q = c.quick-made.ensures.quick c.if-made.true in
-    let k : IsOver i.limits fresh code rec i.holes i.view q.0 x = record { plain = none_is i.holes.nested (sym c.is_some.ensures ∙ c.if-is_some.false); over = q.1; quick = q.2 } in
-    (quick_kept i.limits fresh code rec i.holes i.view q.0 x k i.limits.lo i.limits.hi i.callers.items (vec_capacity i.callers) c.self.invariant.0, c.self.invariant.1)
+    let write = c.in-Some.field-0 in
+    let q = c.quick.ensures.quick write c.in-Some.is in
+    let k : IsOver i.limits fresh code rec i.holes write i.view q.0 x = record { plain = none_is i.holes.nested (sym c.is_some.ensures ∙ c.if-is_some.false); over = q.1; quick = q.2 } in
+    (quick_kept i.limits fresh code rec i.holes write i.view q.0 x k i.limits.lo i.limits.hi i.callers.items (vec_capacity i.callers) c.self.invariant.0, c.self.invariant.1)
 
-pub returns-then-made-clause-judged : goal.returns-then-made-clause-judged
-returns-then-made-clause-judged c = λ made live dead saves stale.
+pub returns-in-Some-clause-judged : goal.returns-in-Some-clause-judged
+returns-in-Some-clause-judged c = λ made live dead saves stale.
     let i = c.self.inside in
     let code = constant_byte c.args.code.now in
     let rec = c.args.rec.now in
-    let x = c.quick-made.new.self in
+    let x = c.quick.new.self in
     let fresh = c.is_fresh-fresh.result in
-    let q = c.quick-made.ensures.quick c.if-made.true in
-    let k : IsOver i.limits fresh code rec i.holes i.view q.0 x = record { plain = none_is i.holes.nested (sym c.is_some.ensures ∙ c.if-is_some.false); over = q.1; quick = q.2 } in
+    let write = c.in-Some.field-0 in
+    let q = c.quick.ensures.quick write c.in-Some.is in
+    let k : IsOver i.limits fresh code rec i.holes write i.view q.0 x = record { plain = none_is i.holes.nested (sym c.is_some.ensures ∙ c.if-is_some.false); over = q.1; quick = q.2 } in
     let w = c.args.self.now in
     let frames = frames_of i.callers.items in
     let N : ℕ → Walked = λ n. record { core = i.core; bounds = bounds_of i.limits; state = state_at frames i.holes x; fresh = fresh; next = n + 1 } in
     let P : Bool → Type 0 = λ b. (found_in w code live dead c.args.index b rec ≡ None) × (N c.args.index ≡ walked_past w code c.args.index b rec) in
-    let judged = quick_judged i.limits fresh code rec i.holes i.view q.0 x k i.core i.next c.args.index i.fresh frames live dead w c.is_fresh-fresh.ensures c.self.view_is (saves ∙ c.if-saves.false) (stale ∙ c.if-stale.false) in
+    let judged = quick_judged i.limits fresh code rec i.holes write i.view q.0 x k i.core i.next c.args.index i.fresh frames live dead w c.is_fresh-fresh.ensures c.self.view_is (saves ∙ c.if-saves.false) (stale ∙ c.if-stale.false) in
     let as_asked = subst P (sym c.if-nested.false) judged in
     (as_asked.0, ap N c.from.ensures ∙ as_asked.1)
 
-pub returns-then-made-clause-moves : goal.returns-then-made-clause-moves
-returns-then-made-clause-moves c = λ made.
+pub returns-in-Some-clause-moves : goal.returns-in-Some-clause-moves
+returns-in-Some-clause-moves c = λ made.
     let i = c.self.inside in
     let code = constant_byte c.args.code.now in
     let rec = c.args.rec.now in
-    let x = c.quick-made.new.self in
+    let x = c.quick.new.self in
     let fresh = c.is_fresh-fresh.result in
-    let q = c.quick-made.ensures.quick c.if-made.true in
-    let k : IsOver i.limits fresh code rec i.holes i.view q.0 x = record { plain = none_is i.holes.nested (sym c.is_some.ensures ∙ c.if-is_some.false); over = q.1; quick = q.2 } in
+    let write = c.in-Some.field-0 in
+    let q = c.quick.ensures.quick write c.in-Some.is in
+    let k : IsOver i.limits fresh code rec i.holes write i.view q.0 x = record { plain = none_is i.holes.nested (sym c.is_some.ensures ∙ c.if-is_some.false); over = q.1; quick = q.2 } in
     let frames = frames_of i.callers.items in
     let M : Walked → Type 0 = λ y. Moves y.state (state_at frames i.holes x) in
-    subst M c.self.view_is (quick_moves i.limits fresh code rec i.holes i.view q.0 x k frames)
+    subst M c.self.view_is (quick_moves i.limits fresh code rec i.holes write i.view q.0 x k frames)

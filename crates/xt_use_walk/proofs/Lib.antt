@@ -1,0 +1,13 @@
+pub mod Places
+pub mod Served
+pub mod Stores
+pub mod Following
+pub mod Moving
+pub mod Seen
+pub mod Sideways
+pub mod Walking
+pub mod Reaching
+pub mod Numbered
+pub mod Said
+pub mod Openings
+pub mod Turning

@@ -1,0 +1,197 @@
+-- A record of a core, as the definition of the walk sees it.
+use Rattle.std.proofs.Common.{◌≡◌, ℕ, suc, ◌+◌, ◌≤◌, Bool, true, false, ◌||◌, cond, Option, None, Result, Ok, Err, refl, sym, ◌∙◌, ap, subst, arith}
+use Rattle.std.specs.Prelude.{IfSome, OnOk}
+use Rattle.std.proofs.lemmas.Bool.{cond-true, cond-false}
+use Rattle.xt_map.specs.Regions.{is_mapped}
+use Rattle.xt_trace.specs.declared.record.StepRecord.{StepRecord}
+use Rattle.xt_frames.specs.declared.kinds.BreachKind.{BreachKind}
+use Rattle.xt_frames.specs.Breaches.{Bounds}
+use Rattle.xt_frames.specs.Frames.{FrameState}
+use Rattle.xt_frames.specs.SaveAreas.{is_live}
+use Rattle.xt_frames.specs.HandlerSteps.{Mode, Handles, is_window, mode_after}
+use Rattle.xt_frames.specs.Nesting.{is_nesting}
+use Rattle.xt_discipline.specs.declared.side.Mode as declared
+use Rattle.xt_discipline.specs.declared.side.Mode.TheVariants as mode
+use Rattle.xt_discipline.specs.Bytes.{Agrees, either, held_at}
+use Rattle.xt_discipline.specs.Sides.{mode_of}
+use Rattle.xt_discipline.proofs.Seeing.{at_last, breach_is, late, le_more, le_same, next_is}
+use Rattle.xt_uses.specs.declared.testing.Touched.{Touched}
+use Rattle.xt_uses.specs.declared.told.Used.{Used}
+use Rattle.xt_uses.specs.declared.told.Stopped.{Stopped}
+use Rattle.xt_uses.specs.declared.told.Stopped.TheVariants.{Breaks, NoMemory}
+use Rattle.xt_uses.specs.UseBreaches.{use_breach, window_use}
+use Rattle.xt_uses.specs.UseParts.{IsTouched, IsUseJudged, IsUsed, UseMoves, UseWalked, fresh_at, fresh_use, use_past}
+use Rattle.xt_uses.specs.UseState.{UseState}
+use Rattle.xt_uses.specs.UseStep.{carries, use_step}
+use Rattle.xt_uses.specs.UseWalk.{UseHandled, UseSeen, UseStanding, count_of, handled_past, live_with, mask_stored, masks_after, use_seen, use_seen_in, use_seen_judged, use_seen_step, use_seen_window}
+use Rattle.xt_use_walk.specs.declared.side.Bytes.{Bytes}
+use Rattle.xt_use_walk.specs.declared.side.Side.{Side}
+use Rattle.xt_use_walk.specs.Bytes.{KnowsBytes, mask_at, without}
+use Rattle.xt_use_walk.specs.Sides.{BeginsUse, IsFollowed, IsUsePast, IsUseSeen, IsUseSide, live_in, standing_of}
+use Rattle.xt_use_walk.proofs.Following.{knows_same, saves_told}
+use Rattle.xt_use_walk.proofs.Served.{reply_same, swaps_same}
+
+abbrev standing : UseState → Bool → Mode → ℕ → ℕ → UseStanding
+standing state fresh mode steps carried = record { state = state; fresh = fresh; mode = mode; steps = steps; carried = carried }
+
+counted_more : (a b n : ℕ) → a ≤ b → n ≤ 1 → a + n ≤ b + 1
+counted_more a b n h k = omega arith
+
+-- ---- handler steps
+-- a core past one, in this mode
+handled : (old : Side) (bytes : Bytes) (others : ℕ → Bool) (masks : ℕ → ℕ) (next : declared.Mode) (m : Mode) → mode_of next ≡ m → IsUseSide old → KnowsBytes old.core bytes (live_in old.uses) others masks
+    → IsUsePast old (record old { mode = next; steps = old.steps + 1 }) bytes others masks (standing old.uses.state false m (suc old.steps) old.carried)
+handled old bytes others masks next m n k known =
+    let past = k.past in
+    record {
+      side = record { core_is = k.core_is; end_is = k.end_is; low = k.low; high = k.high; past = le_more old.uses.next old.steps past; counted = le_more old.carried old.steps k.counted };
+      core_is = refl;
+      bounds_are = refl;
+      steps_are = next_is old.steps;
+      standing_is =
+          ap (λ (b : Bool). standing old.uses.state b (mode_of next) (old.steps + 1) old.carried) (late old.uses.fresh old.uses.next old.steps past)
+          ∙ (ap (λ (x : Mode). standing old.uses.state false x (old.steps + 1) old.carried) n ∙ ap (λ (s : ℕ). standing old.uses.state false m s old.carried) (next_is old.steps));
+      bytes_are = known;
+    }
+
+pub handled_seen : (old new : Side) (bytes : Bytes) (others : ℕ → Bool) (masks : ℕ → ℕ) (code : ℕ → ℕ) (rec : StepRecord) (u : Unit) (next : declared.Mode) → old.mode ≡ mode.Handles → is_nesting rec.kind ≡ false
+    → mode_of next ≡ mode_after code (mode_of old.mode) rec → IsUseSide old → new ≡ record old { mode = next; steps = old.steps + 1 } → KnowsBytes old.core bytes (live_in old.uses) others masks
+    → IsUseSeen old new bytes others masks (use_seen code old.uses.bounds (standing_of old) others masks rec) (Ok u)
+handled_seen old new bytes others masks code rec u next h q n k e known =
+    let st = handled_past code (standing_of old) rec in
+    let z : use_seen code old.uses.bounds (standing_of old) others masks rec ≡ UseHandled st =
+    ap (λ (m : declared.Mode). use_seen_in (mode_of m) code old.uses.bounds (standing_of old) others masks rec) h ∙ cond-false (is_nesting rec.kind) _ _ q in
+    let P : Side → Type 0 = λ s. IsUsePast old s bytes others masks st in
+    let there : P (record old { mode = next; steps = old.steps + 1 }) = handled old bytes others masks next (mode_after code (mode_of old.mode) rec) n k known in
+    subst (λ (s : UseSeen). IsUseSeen old new bytes others masks s (Ok u)) (sym z) (subst P (sym e) there)
+
+-- ---- records in the plain mode
+plain_seen : (old : Side) (others : ℕ → Bool) (masks : ℕ → ℕ) (code : ℕ → ℕ) (rec : StepRecord) → old.mode ≡ mode.Plain → is_window rec.kind ≡ true
+    → use_seen code old.uses.bounds (standing_of old) others masks rec ≡ use_seen_window (window_use code rec old.uses.state) code (standing_of old) rec
+plain_seen old others masks code rec h w =
+    ap (λ (m : declared.Mode). use_seen_in (mode_of m) code old.uses.bounds (standing_of old) others masks rec) h ∙ cond-true (is_window rec.kind) _ _ w
+
+plain_handles : (code : ℕ → ℕ) (old : declared.Mode) (rec : StepRecord) → old ≡ mode.Plain → is_window rec.kind ≡ true → mode_after code (mode_of old) rec ≡ Handles
+plain_handles code old rec h w = ap (λ (m : declared.Mode). mode_after code (mode_of m) rec) h ∙ cond-true (is_window rec.kind) _ _ w
+
+pub begin_seen : (old new : Side) (bytes : Bytes) (others : ℕ → Bool) (masks : ℕ → ℕ) (code : ℕ → ℕ) (rec : StepRecord) (r : Result Unit Stopped) → old.mode ≡ mode.Plain → is_window rec.kind ≡ true → IsUseSide old
+    → BeginsUse (window_use code rec old.uses.state) old r new → KnowsBytes old.core bytes (live_in old.uses) others masks
+    → IsUseSeen old new bytes others masks (use_seen code old.uses.bounds (standing_of old) others masks rec) r
+begin_seen old new bytes others masks code rec (Ok u) h w k begins known =
+    let st = handled_past code (standing_of old) rec in
+    let z = plain_seen old others masks code rec h w ∙ ap (λ (o : Option BreachKind). use_seen_window o code (standing_of old) rec) begins.0 in
+    let P : Side → Type 0 = λ s. IsUsePast old s bytes others masks st in
+    let there : P (record old { mode = mode.Handles; steps = old.steps + 1 }) = handled old bytes others masks mode.Handles (mode_after code (mode_of old.mode) rec) (sym (plain_handles code old.mode rec h w)) k known in
+    subst (λ (s : UseSeen). IsUseSeen old new bytes others masks s (Ok u)) (sym z) (subst P (sym begins.1) there)
+begin_seen old new bytes others masks code rec (Err (Breaks b)) h w k begins known =
+    let z = plain_seen old others masks code rec h w ∙ ap (λ (o : Option BreachKind). use_seen_window o code (standing_of old) rec) begins.0 in
+    let r : Result Unit Stopped = Err (Breaks b) in
+    subst (λ (s : UseSeen). IsUseSeen old new bytes others masks s r) (sym z) (breach_is b old.core old.steps (begins.1 ∙ k.core_is) begins.2, begins.3)
+begin_seen old new bytes others masks code rec (Err (NoMemory e)) h w k begins known = tt
+
+-- ---- judged records
+pub plain_judged : (old : Side) (others : ℕ → Bool) (masks : ℕ → ℕ) (code : ℕ → ℕ) (rec : StepRecord) → old.mode ≡ mode.Plain → is_window rec.kind ≡ false
+    → use_seen code old.uses.bounds (standing_of old) others masks rec ≡ use_seen_judged code old.uses.bounds (standing_of old) others masks false rec
+plain_judged old others masks code rec h w =
+    ap (λ (m : declared.Mode). use_seen_in (mode_of m) code old.uses.bounds (standing_of old) others masks rec) h ∙ cond-false (is_window rec.kind) _ _ w
+
+pub nesting_judged : (old : Side) (others : ℕ → Bool) (masks : ℕ → ℕ) (code : ℕ → ℕ) (rec : StepRecord) → old.mode ≡ mode.Handles → is_nesting rec.kind ≡ true
+    → use_seen code old.uses.bounds (standing_of old) others masks rec ≡ use_seen_judged code old.uses.bounds (standing_of old) others masks true rec
+nesting_judged old others masks code rec h w =
+    ap (λ (m : declared.Mode). use_seen_in (mode_of m) code old.uses.bounds (standing_of old) others masks rec) h ∙ cond-true (is_nesting rec.kind) _ _ w
+
+pub nested_judged : (old : Side) (others : ℕ → Bool) (masks : ℕ → ℕ) (code : ℕ → ℕ) (rec : StepRecord) → old.mode ≡ mode.Nests
+    → use_seen code old.uses.bounds (standing_of old) others masks rec ≡ use_seen_judged code old.uses.bounds (standing_of old) others masks true rec
+nested_judged old others masks code rec h = ap (λ (m : declared.Mode). use_seen_in (mode_of m) code old.uses.bounds (standing_of old) others masks rec) h
+
+pub step_seen : (old new : Side) (bytes : Bytes) (others : ℕ → Bool) (masks : ℕ → ℕ) (s t : UseSeen) (r : Result Unit Stopped) → s ≡ t → IsUseSeen old new bytes others masks t r → IsUseSeen old new bytes others masks s r
+step_seen old new bytes others masks s t r same judged = subst (λ (x : UseSeen). IsUseSeen old new bytes others masks x r) (sym same) judged
+
+-- what a record touches, by these live bytes and masks
+pub touched_for : (core : ℕ) (x : Bytes) (own others : ℕ → Bool) (masks : ℕ → ℕ) (rec : StepRecord) (t : Touched) → IfSome rec.access (λ a. is_mapped a ≡ true)
+    → ((live0 live1 stale : ℕ → Bool) → Agrees x.marks.items live0 live1 stale → IsTouched t rec (either live0 live1) (mask_at x.masks)) → KnowsBytes core x own others masks → IsTouched t rec (either own others) masks
+touched_for core x own others masks rec t served told k =
+    let at = told (λ a. (held_at x.marks.items a).live0) (λ a. (held_at x.marks.items a).live1) (λ a. (held_at x.marks.items a).stale) (record { first_core = λ a. refl; second_core = λ a. refl; no_longer = λ a. refl }) in
+    record {
+      saves = saves_told core x.marks.items own others rec.access t.saves (λ live0 live1 stale agrees. (told live0 live1 stale agrees).saves) k.live;
+      swaps = sym (swaps_same (mask_at x.masks) masks k.masks_are rec.access served) ∙ at.swaps;
+      reply = sym (reply_same (mask_at x.masks) masks k.masks_are rec.access served) ∙ at.reply;
+    }
+
+-- the first breach of a record
+abbrev pub found_by : Side → (ℕ → Bool) → (ℕ → ℕ) → (ℕ → ℕ) → Bool → StepRecord → Option BreachKind
+found_by old others masks code nested rec = use_breach old.uses.bounds (fresh_at old.uses old.steps) code (either (live_in old.uses) others) masks nested rec old.uses.state
+
+-- ---- the answer of the machine
+pub past_where : (found : Option BreachKind) (w new : UseWalked) (code : ℕ → ℕ) (index : ℕ) (nested : Bool) (rec : StepRecord) (bytes : ℕ → ℕ) (r : Result Used Stopped) (used : Used) → r ≡ Ok used → IsUseJudged found w code index nested rec bytes r new
+    → (found ≡ None) × (new ≡ use_past w code index nested rec bytes) × IsUsed code nested rec bytes w.state used
+past_where found w new code index nested rec bytes r used e j = subst (λ (x : Result Used Stopped). IsUseJudged found w code index nested rec bytes x new) e j
+
+pub moves_where : (g f : FrameState) (r : Result Used Stopped) (used : Used) → r ≡ Ok used → OnOk r (UseMoves g f) → UseMoves g f
+moves_where g f r used e m = subst (λ (x : Result Used Stopped). OnOk x (UseMoves g f)) e m
+
+-- the core past a judged step
+pub side_past : (s : Side) (uses : UseWalked) (code : ℕ → ℕ) (nested : Bool) (rec : StepRecord) (bytes : ℕ → ℕ) (next : declared.Mode) (n : ℕ) → IsUseSide s → uses ≡ use_past s.uses code s.steps nested rec bytes → n ≤ 1
+    → IsUseSide (record s { uses = uses; mode = next; steps = s.steps + 1; carried = s.carried + n })
+side_past s uses code nested rec bytes next n k is few =
+    let P : UseWalked → Type 0 = λ w. IsUseSide (record s { uses = w; mode = next; steps = s.steps + 1; carried = s.carried + n }) in
+    let there : P (use_past s.uses code s.steps nested rec bytes) = record { core_is = k.core_is; end_is = k.end_is; low = k.low; high = k.high; past = le_same (s.steps + 1); counted = counted_more s.carried s.steps n k.counted few } in
+    subst P (sym is) there
+
+-- the bytes have followed, by the bounds of the core before
+pub followed_on : (core : ℕ) (b c : Bounds) (g u : FrameState) (old new : Bytes) → c ≡ b → IsFollowed core c.range g u old new → (others : ℕ → Bool) (masks : ℕ → ℕ) → KnowsBytes core old (is_live b.range g) others masks
+    → KnowsBytes core new (is_live b.range u) others (without (λ a. is_live b.range u a || others a) masks)
+followed_on core b c g u old new e f = subst (λ (x : Bounds). IsFollowed core x.range g u old new) e f
+
+over_two : (n b : Bool) (m : ℕ) → cond n 0 (cond b 0 m) ≡ cond (n || b) 0 m
+over_two true b m = refl
+over_two false b m = refl
+
+-- a judged step that shows no breach
+pub judged_past : (old new : Side) (uses : UseWalked) (bytes : Bytes) (others : ℕ → Bool) (masks : ℕ → ℕ) (code : ℕ → ℕ) (rec : StepRecord) (found : Option BreachKind) (u : Unit) (nested : Bool) (next : declared.Mode) (stored n : ℕ)
+    → mode_of next ≡ mode_after code (mode_of old.mode) rec → IsUseSide old → found ≡ None → uses ≡ use_past old.uses code old.steps nested rec masks
+    → stored ≡ (use_step code nested rec masks old.uses.state).stored → n ≡ count_of (carries code rec old.uses.state (use_step code nested rec masks old.uses.state)) → n ≤ 1
+    → new ≡ record old { uses = uses; mode = next; steps = old.steps + 1; carried = old.carried + n }
+    → KnowsBytes old.core bytes (is_live old.uses.bounds.range uses.state.frame) others
+    (without (λ a. is_live old.uses.bounds.range uses.state.frame a || others a) (without (λ a. live_in old.uses a || others a) (mask_stored stored rec.access masks)))
+    → IsUseSeen old new bytes others masks (use_seen_step found code old.uses.bounds (standing_of old) others masks nested rec) (Ok u)
+judged_past old new uses bytes others masks code rec found u nested next stored n h k none is stores counts few made known =
+    let r = old.uses.bounds.range in
+    let t = use_step code nested rec masks old.uses.state in
+    let w = use_past old.uses code old.steps nested rec masks in
+    let fresh = fresh_use (fresh_at old.uses old.steps) code nested rec masks old.uses.state in
+    let m = mode_after code (mode_of old.mode) rec in
+    let st = standing t.after fresh m (suc old.steps) (old.carried + count_of (carries code rec old.uses.state t)) in
+    let at : UseWalked → ℕ → Side = λ x i. record old { uses = x; mode = next; steps = old.steps + 1; carried = old.carried + i } in
+    let after : (ℕ → ℕ) = masks_after (live_with old.uses.bounds t.after.frame others) (live_with old.uses.bounds old.uses.state.frame others) t.stored rec.access masks in
+    let K : UseWalked → ℕ → Type 0 = λ x s. KnowsBytes old.core bytes (is_live r x.state.frame) others (without (λ a. is_live r x.state.frame a || others a) (without (λ a. live_in old.uses a || others a) (mask_stored s rec.access masks))) in
+    let moved : K w t.stored = subst (λ (s : ℕ). K w s) stores (subst (λ (x : UseWalked). K x stored) is known) in
+    let P : Side → Type 0 = λ s. IsUsePast old s bytes others after st in
+    let there : P (at w n) = record {
+      side = side_past old w code nested rec masks next n k refl few;
+      core_is = refl;
+      bounds_are = refl;
+      steps_are = next_is old.steps;
+      standing_is =
+          ap (λ (b : Bool). standing t.after b (mode_of next) (old.steps + 1) (old.carried + n)) (at_last fresh (old.steps + 1))
+          ∙ (ap (λ (x : Mode). standing t.after fresh x (old.steps + 1) (old.carried + n)) h
+          ∙ (ap (λ (s : ℕ). standing t.after fresh m s (old.carried + n)) (next_is old.steps) ∙ ap (λ (i : ℕ). standing t.after fresh m (suc old.steps) (old.carried + i)) counts));
+      bytes_are =
+          knows_same old.core bytes (is_live r t.after.frame) others (without (λ a. is_live r t.after.frame a || others a) (without (λ a. live_in old.uses a || others a) (mask_stored t.stored rec.access masks))) after
+          (λ a. over_two (is_live r t.after.frame a || others a) (live_in old.uses a || others a) (mask_stored t.stored rec.access masks a)) moved;
+    } in
+    let new_is : new ≡ at w n = made ∙ ap (λ (x : UseWalked). at x n) is in
+    subst (λ (o : Option BreachKind). IsUseSeen old new bytes others masks (use_seen_step o code old.uses.bounds (standing_of old) others masks nested rec) (Ok u)) (sym none) (subst P (sym new_is) there)
+
+-- and one that shows one, or finds too little memory
+pub judged_stops : (old new : Side) (bytes : Bytes) (others : ℕ → Bool) (masks : ℕ → ℕ) (code : ℕ → ℕ) (nested : Bool) (rec : StepRecord) (uses : UseWalked) (s : Stopped) (r : Result Used Stopped)
+    → IsUseSide old → r ≡ Err s → IsUseJudged (found_by old others masks code nested rec) old.uses code old.steps nested rec masks r uses → new ≡ record old { uses = uses }
+    → IsUseSeen old new bytes others masks (use_seen_judged code old.uses.bounds (standing_of old) others masks nested rec) (Err s)
+judged_stops old new bytes others masks code nested rec uses (Breaks b) r k is j made =
+    let out : Result Used Stopped = Err (Breaks b) in
+    let at : IsUseJudged (found_by old others masks code nested rec) old.uses code old.steps nested rec masks out uses = subst (λ (x : Result Used Stopped). IsUseJudged (found_by old others masks code nested rec) old.uses code old.steps nested rec masks x uses) is j in
+    let answer : Result Unit Stopped = Err (Breaks b) in
+    let same : new ≡ old = made ∙ ap (λ (x : UseWalked). record old { uses = x }) at.1 in
+    subst (λ (o : Option BreachKind). IsUseSeen old new bytes others masks (use_seen_step o code old.uses.bounds (standing_of old) others masks nested rec) answer) (sym at.0.0)
+    (breach_is b old.core old.steps (at.0.1 ∙ k.core_is) at.0.2, same)
+judged_stops old new bytes others masks code nested rec uses (NoMemory e) r k is j made = tt

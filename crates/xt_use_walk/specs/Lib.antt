@@ -1,0 +1,4 @@
+pub mod Bytes
+pub mod Sides
+pub mod Verdicts
+pub mod Walks

@@ -1,0 +1,10 @@
+//! The walk of the discipline of uses: where a run first uses something that is not known.
+#![tactic(auto)]
+
+mod bytes;
+mod judging;
+mod side;
+mod walk;
+
+pub use judging::judge_uses;
+pub use walk::{FirstUse, Uses};
