@@ -47,7 +47,7 @@ kind_now : (code : ℕ → ℕ) (m : MemoryContents) (s : State) → (record_now
 unfolding turn
 kind_now code m s = refl
 
-pc_now : (code : ℕ → ℕ) (m : MemoryContents) (s : State) → (record_now code m s).pc ≡ s.control.pc
+pub pc_now : (code : ℕ → ℕ) (m : MemoryContents) (s : State) → (record_now code m s).pc ≡ s.control.pc
 unfolding turn
 pc_now code m s = refl
 

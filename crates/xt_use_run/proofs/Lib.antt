@@ -46,3 +46,13 @@ pub mod LostTurn
 pub mod OneTurn
 pub mod Ranges
 pub mod TwoCores
+pub mod Before
+pub mod BeforeTurn
+pub mod JudgedPlace
+pub mod OneSide
+pub mod Taken
+pub mod UseRuns
+pub mod WordsTold
+pub mod OrdinaryRuns
+pub mod ImageRuns
+pub mod ImageUses

@@ -281,7 +281,7 @@ module _ (rows : RowsAgree) (code : ℕ → ℕ) (bytes : AreBytes code) (b : Bo
         kinds_of : {mask : ℕ} → RowStep i us g h mask u v → u.kind ≡ v.kind
         kinds_of (Executes x) = x.kind ∙ sym x.kind_too
         kinds_of (Rests x why) = x.kind
-        kinds_of (Pushes number value n low entry size is small eu ev) = absurd (both_ways g.control.ps.excm low mode_g)
+        kinds_of (Pushes number _ n low entry size is small eu ev) = absurd (both_ways g.control.ps.excm low mode_g)
         kinds_of (Pops a0 low return_ eu ev) = absurd (both_ways g.control.ps.excm low mode_g)
 
         asked : rec.access ≡ (step_on code true rec f).access
@@ -324,7 +324,7 @@ module _ (rows : RowsAgree) (code : ℕ → ℕ) (bytes : AreBytes code) (b : Bo
             subst (λ z. Follows (use_turn z k us h turn_v) (nested_insn i value q.x f u)) (sym (x.idle (Fetches i len)))
             (subst (λ (z : FrameTurn). Follows (other_turn us.masks z) (nested_insn i value q.x f u)) (sym going_v)
             (subst (Follows (other_turn us.masks (goes_on_turn i value mark y us.frame v))) (sym (going_is i value q.x f u goes)) here))
-        by_row (Pushes number value n low entry size is small eu ev) = absurd (both_ways g.control.ps.excm low mode_g)
+        by_row (Pushes number _ n low entry size is small eu ev) = absurd (both_ways g.control.ps.excm low mode_g)
         by_row (Pops a0 low return_ eu ev) = absurd (both_ways g.control.ps.excm low mode_g)
 
         pub goes_target : target
