@@ -56,6 +56,7 @@ refusal_is_fault job.Events input s h = mapped status.Recording (λ f. tt) (reco
 refusal_is_fault (job.Trace span) input s h = mapped status.Recording (λ f. tt) (recording_fault input) s h
 refusal_is_fault job.Race input s h = mapped status.Recording (λ f. tt) (recording_fault input) s h
 refusal_is_fault job.Profile input s h = mapped status.Recording (λ f. tt) (recording_fault input) s h
+refusal_is_fault job.Uses input s h = mapped status.Recording (λ f. tt) (recording_fault input) s h
 
 -- ---- what was written of an input that was read to its end
 
@@ -119,6 +120,7 @@ whole_unless (job.Replay commands) others = tt
 whole_unless job.Events others = tt
 whole_unless job.Race others = tt
 whole_unless job.Profile others = tt
+whole_unless job.Uses others = tt
 
 -- ---- a refusal, before anything was written
 

@@ -28,6 +28,7 @@ use Rattle.xt_race.specs.Races.{events_of}
 use Rattle.xt_race.specs.Texts.{IsRaceText}
 use Rattle.xt_profile.specs.Profiled.{profile_of}
 use Rattle.xt_profile.specs.Texts.{profile_text}
+use Rattle.xt_use_report.specs.Told.{IsUsesTold}
 use Rattle.xt_command_line.specs.declared.command.Listing.{Listing}
 use Rattle.xt_command_line.specs.declared.command.Listing.TheVariants as listing
 use Rattle.xt_command_line.specs.declared.command.Span.{Span}
@@ -60,6 +61,7 @@ limit_of job.Events = 201326592
 limit_of (job.Trace span) = 201326592
 limit_of job.Race = 201326592
 limit_of job.Profile = 201326592
+limit_of job.Uses = 201326592
 
 -- the status with which a command refuses a whole input, where it does: that of the input's first
 -- fault
@@ -75,6 +77,7 @@ refusal_of job.Events input = option_map status.Recording (recording_fault input
 refusal_of (job.Trace span) input = option_map status.Recording (recording_fault input)
 refusal_of job.Race input = option_map status.Recording (recording_fault input)
 refusal_of job.Profile input = option_map status.Recording (recording_fault input)
+refusal_of job.Uses input = option_map status.Recording (recording_fault input)
 
 -- the listing of an image: each executable segment from its first byte on, or what control reaches
 -- from the image's entry, that of core 1, which is the image's where the words say none, and the
@@ -122,6 +125,7 @@ IsWritten job.Events input bytes = bytes ≡ happened input
 IsWritten (job.Trace span) input bytes = bytes ≡ traced span input
 IsWritten job.Race input bytes = IsRaceTold input bytes
 IsWritten job.Profile input bytes = bytes ≡ profiled input
+IsWritten job.Uses input bytes = IsUsesTold (image_in input) (run_in input) bytes
 
 -- the command does not refuse the input, and writes these bytes
 pub record IsMade (j : Job) (input bytes : List ℕ) : Type 0 where

@@ -11,11 +11,9 @@ use Rattle.xt_image.specs.declared.image.Image.{Image}
 use Rattle.xt_frames.specs.Verdict.{verdict}
 use Rattle.xt_discipline.specs.Verdicts.{are_yes}
 use Rattle.xt_machine.specs.Framed.{judgement_of}
-use Rattle.xt_frames.specs.declared.kinds.Breach.{Breach}
-use Rattle.xt_frames.specs.declared.kinds.BreachKind.{BreachKind}
-use Rattle.xt_frames.specs.declared.kinds.BreachKind.TheVariants as kind
 use Rattle.xt_frames.specs.declared.kinds.Judged.{Judged}
 use Rattle.xt_frames.specs.declared.kinds.Judged.TheVariants as judged
+use Rattle.xt_use_report.specs.Breaches.{breach_text}
 
 -- ---- the handlers
 
@@ -44,33 +42,6 @@ handlers_line h = concat (
 -- is `no`; else the first breach of the walk over its records, in the order of its schedule
 abbrev pub judged_of : Handlers → Image → Run → Judged
 judged_of handlers image run = verdict (are_yes handlers) (judgement_of image run)
-
-abbrev pub kind_text : BreachKind → List ℕ
-kind_text kind.Unset = codes "Unset"
-kind_text kind.SpWritten = codes "SpWritten"
-kind_text kind.FrameSize = codes "FrameSize"
-kind_text kind.StackRange = codes "StackRange"
-kind_text kind.SpAlign = codes "SpAlign"
-kind_text kind.OpeningCall = codes "OpeningCall"
-kind_text kind.ReturnMismatch = codes "ReturnMismatch"
-kind_text kind.NoCaller = codes "NoCaller"
-kind_text kind.SaveStore = codes "SaveStore"
-kind_text kind.StaleLoad = codes "StaleLoad"
-kind_text kind.ExcmRegister = codes "ExcmRegister"
-kind_text kind.WindowInstruction = codes "WindowInstruction"
-kind_text kind.WindowRegister = codes "WindowRegister"
-kind_text kind.WoeCleared = codes "WoeCleared"
-kind_text kind.VecbaseMoved = codes "VecbaseMoved"
-kind_text kind.EpcLost = codes "EpcLost"
-kind_text kind.Movsp = codes "Movsp"
-kind_text kind.VectorEntered = codes "VectorEntered"
-kind_text kind.Nested = codes "Nested"
-
--- `breach KIND core C step N`
-abbrev pub breach_text : Breach → List ℕ
-breach_text b =
-    codes "breach " ++ (kind_text b.kind
-    ++ (codes " core " ++ (decimal b.core ++ (codes " step " ++ decimal b.step))))
 
 -- `none`, `whole`, or the breach
 abbrev pub frames_text : Judged → List ℕ

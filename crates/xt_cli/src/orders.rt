@@ -63,6 +63,7 @@ pub(crate) fn order_in(alloc: Global, words: &[String]) -> Result<Order, Refusal
         Ok(Command::Trace(span)) => Ok(Order::Work(Job::Trace(span))),
         Ok(Command::Race) => Ok(Order::Work(Job::Race)),
         Ok(Command::Profile) => Ok(Order::Work(Job::Profile)),
+        Ok(Command::Uses) => Ok(Order::Work(Job::Uses)),
         Ok(Command::Run(options)) => Ok(Order::Run(Wanted::Report, options)),
         Ok(Command::Record(options)) => Ok(Order::Run(Wanted::Recording, options)),
         Ok(Command::Generate(number)) => Ok(Order::Generate(number)),

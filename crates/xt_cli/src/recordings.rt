@@ -24,6 +24,7 @@ use xt_race::race_text;
 use xt_record::{RecordFault, read_recording, write_recording};
 use xt_replay::Replay;
 use xt_trace::Run;
+use xt_use_report::uses_text;
 
 /// The most bytes that a recording may have.
 pub const RECORDING_LIMIT: usize = 201_326_592;
@@ -110,6 +111,17 @@ pub(crate) fn profile(alloc: Global, input: &[u8]) -> Result<Text, Status>
         return Err(Status::Memory);
     };
     profile_text(alloc, &found).map_err(|_| Status::Memory)
+}
+
+/// The first use of something that is not known in a recorded run, or the status of the recording's first fault.
+#[tactic(auto, unfolding(crate::specs::Tools::refusal_of))]
+pub(crate) fn uses(alloc: Global, input: &[u8]) -> Result<Text, Status>
+    requires { length input.now ≤ 201326592 }
+    ensures ok { IfOk result (λ bytes. IsMade Job.Uses input.now bytes) }
+    ensures refused { IfErr result (λ status. status ≢ Status.Memory → refusal_of Job.Uses input.now ≡ Some status) }
+{
+    let (image, run) = recording_in(alloc, input)?;
+    uses_text(alloc, &image, &run).map_err(|_| Status::Memory)
 }
 
 /// Writes the lines of these turns of a recorded run, each before the next is made, or ends with the

@@ -12,7 +12,7 @@ ghost use Rattle.xt_cli.specs.Tools.{Answers, Finishes, IsComplete, IsListed, Is
 use crate::checks::check_text;
 use crate::orders::{Order, order_in};
 use crate::output::write_text;
-use crate::recordings::{RECORDING_LIMIT, events, migrate, profile, race, replay, trace};
+use crate::recordings::{RECORDING_LIMIT, events, migrate, profile, race, replay, trace, uses};
 use crate::status::Status;
 use std::alloc::{AllocError, Global};
 use xt_asm::{assemble, label_map};
@@ -60,6 +60,8 @@ pub enum Job {
     Race,
     /// `profile`: the call profile of a recorded run.
     Profile,
+    /// `uses`: the first use of something that is not known in a recorded run.
+    Uses,
 }
 
 /// What `tool_main` answers.
@@ -100,8 +102,13 @@ fn limit_of(job: &Job) -> usize
         Job::Assemble | Job::Map => TEXT_LIMIT,
         Job::Convert => ELF_LIMIT,
         Job::List(_) | Job::Check(_) => IMAGE_LIMIT,
-        Job::Migrate | Job::Replay(_) | Job::Events | Job::Trace(_) | Job::Race | Job::Profile =>
-            RECORDING_LIMIT,
+        Job::Migrate
+        | Job::Replay(_)
+        | Job::Events
+        | Job::Trace(_)
+        | Job::Race
+        | Job::Profile
+        | Job::Uses => RECORDING_LIMIT,
     }
 }
 
@@ -225,6 +232,7 @@ fn make(alloc: Global, job: &Job, input: &[u8]) -> Result<Text, Status>
         Job::Events => events(alloc, input),
         Job::Race => race(alloc, input),
         Job::Profile => profile(alloc, input),
+        Job::Uses => uses(alloc, input),
         Job::Trace(_) => unreachable!(),
     }
 }
@@ -271,7 +279,7 @@ pub(crate) fn work<S: Source, K: Sink>(
 
 /// What the program does with the words after its name, a source and a sink, where it needs no
 /// thread: it answers every word that has no meaning, and does the work of `asm`, `elf`, `dis`, `map`, `check`,
-/// `migrate`, `replay`, `events`, `trace`, `race` and `profile`. It waits for nobody and returns.
+/// `migrate`, `replay`, `events`, `trace`, `race`, `profile` and `uses`. It waits for nobody and returns.
 ///
 /// Words that ask for `run`, `record` or `gen` are handed back as `Threaded`, and nothing was then read or
 /// written.

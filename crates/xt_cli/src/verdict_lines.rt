@@ -1,10 +1,11 @@
 //! The lines of what is found of an image and its run.
 ghost use Rattle.std.specs.Prelude.{◌≡◌, IfOk, string_bytes};
-ghost use Rattle.xt_cli.specs.Verdicts.{breach_text, frames_line, frames_text, handlers_line, kind_text, pair_text, verdict_text};
+ghost use Rattle.xt_cli.specs.Verdicts.{frames_line, frames_text, handlers_line, pair_text, verdict_text};
 
 use std::alloc::{AllocError, Global};
-use xt_frames::{Breach, BreachKind, Judged};
+use xt_frames::Judged;
 use xt_handlers::{HandlerVerdict, Handlers};
+use xt_use_report::breach_text;
 
 // The answer for a handler, in a word.
 fn verdict_text(alloc: Global, verdict: HandlerVerdict) -> Result<String, AllocError>
@@ -38,43 +39,6 @@ pub fn handlers_line(alloc: Global, handlers: &Handlers) -> Result<String, Alloc
     let by8 = pair_text(alloc, "8", handlers.of8, handlers.uf8)?;
     let by12 = pair_text(alloc, "12", handlers.of12, handlers.uf12)?;
     format!(in alloc; "handlers{by4}{by8}{by12}\n")
-}
-
-// The name of a kind of breach.
-fn kind_text(kind: BreachKind) -> &'static str
-    ensures { result.now ≡ kind_text kind }
-{
-    match kind {
-        BreachKind::Unset => "Unset",
-        BreachKind::SpWritten => "SpWritten",
-        BreachKind::FrameSize => "FrameSize",
-        BreachKind::StackRange => "StackRange",
-        BreachKind::SpAlign => "SpAlign",
-        BreachKind::OpeningCall => "OpeningCall",
-        BreachKind::ReturnMismatch => "ReturnMismatch",
-        BreachKind::NoCaller => "NoCaller",
-        BreachKind::SaveStore => "SaveStore",
-        BreachKind::StaleLoad => "StaleLoad",
-        BreachKind::ExcmRegister => "ExcmRegister",
-        BreachKind::WindowInstruction => "WindowInstruction",
-        BreachKind::WindowRegister => "WindowRegister",
-        BreachKind::WoeCleared => "WoeCleared",
-        BreachKind::VecbaseMoved => "VecbaseMoved",
-        BreachKind::EpcLost => "EpcLost",
-        BreachKind::Movsp => "Movsp",
-        BreachKind::VectorEntered => "VectorEntered",
-        BreachKind::Nested => "Nested",
-    }
-}
-
-// A breach, in words.
-fn breach_text(alloc: Global, breach: Breach) -> Result<String, AllocError>
-    ensures { IfOk result (λ text. string_bytes text ≡ breach_text breach) }
-{
-    let kind = kind_text(breach.kind);
-    let core = breach.core;
-    let step = breach.step;
-    format!(in alloc; "breach {kind} core {core} step {step}")
 }
 
 // What is judged of a run, in words.

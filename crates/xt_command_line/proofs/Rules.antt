@@ -105,6 +105,7 @@ meaning_by-answers (Some name.Migrate) words = without_options-answers _ _
 meaning_by-answers (Some name.Events) words = without_options-answers _ _
 meaning_by-answers (Some name.Race) words = without_options-answers _ _
 meaning_by-answers (Some name.Profile) words = without_options-answers _ _
+meaning_by-answers (Some name.Uses) words = without_options-answers _ _
 meaning_by-answers (Some name.Trace) words = answer_with-answers command.Trace (span_of words) (span_by-answers (rows_by trace_app words))
 meaning_by-answers (Some name.Generate) words = answer_with-answers command.Generate (generator_number_of words) (number_by-answers (rows_by gen_app words))
 

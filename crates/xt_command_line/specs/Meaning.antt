@@ -32,6 +32,7 @@ names =
     ∷ (codes "trace", name.Trace)
     ∷ (codes "race", name.Race)
     ∷ (codes "profile", name.Profile)
+    ∷ (codes "uses", name.Uses)
     ∷ (codes "gen", name.Generate)
     ∷ []
 
@@ -89,6 +90,8 @@ meaning_by (Some name.Race) words =
     without_options command.Race (rows_by (new_app (codes "race")) words)
 meaning_by (Some name.Profile) words =
     without_options command.Profile (rows_by (new_app (codes "profile")) words)
+meaning_by (Some name.Uses) words =
+    without_options command.Uses (rows_by (new_app (codes "uses")) words)
 meaning_by (Some name.Generate) words = gen_meaning_of words
 
 -- the command with its options that the words say, or why they say none; the words after `replay`
@@ -119,6 +122,7 @@ TakesMemory (Some name.Events) = Unit {0}
 TakesMemory (Some name.Trace) = Unit {0}
 TakesMemory (Some name.Race) = Unit {0}
 TakesMemory (Some name.Profile) = Unit {0}
+TakesMemory (Some name.Uses) = Unit {0}
 TakesMemory (Some name.Generate) = Unit {0}
 TakesMemory _ = ⊥
 

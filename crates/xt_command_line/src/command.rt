@@ -60,6 +60,8 @@ pub enum Command {
     Race,
     /// `profile`: counts the turns of each call stack of a recorded run.
     Profile,
+    /// `uses`: looks for the first use of something that is not known in a recorded run.
+    Uses,
     /// `gen`: runs the image that is made from this number.
     Generate(u32),
 }
@@ -113,6 +115,8 @@ pub enum Name {
     Race,
     /// `profile`
     Profile,
+    /// `uses`
+    Uses,
     /// `gen`
     Generate,
 }

@@ -28,6 +28,7 @@ fn name_of(word: &str) -> Option<Name>
         "trace" => Some(Name::Trace),
         "race" => Some(Name::Race),
         "profile" => Some(Name::Profile),
+        "uses" => Some(Name::Uses),
         "gen" => Some(Name::Generate),
         _ => None,
     }
@@ -102,7 +103,7 @@ fn gen_meaning(alloc: Global, words: &[String]) -> Result<Command, Refusal>
 /// The command with its options that the words after the program's name say, or why they say none.
 ///
 /// - No word is `Usage(1)`, and a first word that is no command `Usage(2)`.
-/// - `asm`, `elf`, `map`, `migrate`, `events`, `race` and `profile` take no further word. Other words after them are
+/// - `asm`, `elf`, `map`, `migrate`, `events`, `race`, `profile` and `uses` take no further word. Other words after them are
 ///   `Usage(3)`, as far as `clap` does not take them: it takes one that is `--`.
 /// - `dis` has the listing that `listing` says, with the rules of usage 3, 4, 6 and 7.
 /// - `check` has the option that `check_vecbase` says, with the rules of usage 3, 4 and 7.
@@ -139,6 +140,7 @@ pub fn meaning(alloc: Global, words: &[String]) -> Result<Command, Refusal>
         Some(Name::Profile) => {
             without_options_meaning(alloc, "profile", Command::Profile, words)
         }
+        Some(Name::Uses) => without_options_meaning(alloc, "uses", Command::Uses, words),
         Some(Name::Check) => check_meaning(alloc, words),
         Some(Name::Generate) => gen_meaning(alloc, words),
     }

@@ -3,12 +3,12 @@ ghost use Rattle.std.specs.Prelude.{◌<◌, All};
 ghost use Rattle.xt_image.specs.Parts.{IsWellFormed};
 
 use crate::cases::{lines_of, words_of};
-use crate::programs::{image_of, options_in, output_over, text_in, words_with};
+use crate::programs::{image_of, options_in, output_over, text_in, whole_over, words_with};
 use crate::schedules::{list_of, options_of};
 use std::alloc::Global;
 use std::sync::Wait;
 use std::thread::Threads;
-use xt_cli::{Status, Tool, tool_main, xt_main};
+use xt_cli::{Status, Tool, frames_line, tool_main, xt_main};
 use xt_image::{Image, write};
 use xt_io::{OpenGate, SafeSink, SafeSource};
 use xt_machine::run_schedule;
@@ -80,8 +80,21 @@ fn has_flag(alloc: Global, case: &str, image: &Image, list: &[u8], output: &str)
     Some(whole.as_str().strip_prefix(report.as_str()) == Some(output))
 }
 
-/// Whether the command of a case prints, over the recording of its run, what the case says, and `run`
-/// with the command's flag prints it behind its report.
+// Whether the stack discipline says of a case's run what the case says: the last line of the report of `run`.
+fn has_frames(alloc: Global, case: &str, image: &Image, list: &[u8]) -> Option<bool>
+    requires image { IsWellFormed image.now }
+    requires cores { All (λ core. core < 2) list.now }
+{
+    let words = words_with(alloc, "run", words_of(case, "options"))?;
+    let options = options_in(alloc, &words)?;
+    let whole = whole_over(alloc, &options, image, list).ok()?;
+    let line = frames_line(alloc, whole.judged).ok()?;
+    let wanted = format!(in alloc; "frames {}\n", words_of(case, "frames")).ok()?;
+    Some(line == wanted)
+}
+
+/// Whether the command of a case prints, over the recording of its run, what the case says. And `run` with the command's flag prints
+/// that behind its report; `uses` is no flag of `run`, and the stack discipline says of the run what the case says.
 pub fn agrees<R: Threads + Wait + Sync + AllocGlobal>(
     rt: &R,
     case: &str,
@@ -99,8 +112,12 @@ pub fn agrees<R: Threads + Wait + Sync + AllocGlobal>(
     if printed(alloc, case, &recording)? != output {
         return Some(false);
     }
-    if words_of(case, "analysis").starts_with("trace") {
-        return Some(true);
+    let analysis = words_of(case, "analysis");
+    if analysis.starts_with("trace") {
+        Some(true)
+    } else if analysis == "uses" {
+        has_frames(alloc, case, &image, &list)
+    } else {
+        has_flag(alloc, case, &image, &list, output.as_str())
     }
-    has_flag(alloc, case, &image, &list, output.as_str())
 }

@@ -75,8 +75,8 @@ fn output_of<R: Threads + Wait + Sync + AllocGlobal>(
     text_in(alloc, &sink)
 }
 
-// The run of an image over a list of cores, with what is found of it.
-fn whole_over(
+/// The run of an image over a list of cores, with what is found of it.
+pub fn whole_over(
     alloc: Global,
     options: &RunOptions,
     image: &Image,

@@ -98,6 +98,9 @@ fn words_and_meanings(rt: HostRuntime) -> Result<(), Fail> {
         ("race file", Err(Refusal::Usage(3))),
         ("profile", Ok(Command::Profile)),
         ("profile --core 0", Err(Refusal::Usage(3))),
+        ("uses", Ok(Command::Uses)),
+        ("uses --", Ok(Command::Uses)),
+        ("uses all", Err(Refusal::Usage(3))),
         ("events --from 0", Err(Refusal::Usage(3))),
         // positions
         (

@@ -1,0 +1,3 @@
+mod Served
+mod Courses
+mod Fetching

@@ -1,0 +1,47 @@
+-- What is so of the uses of a run of an image ('profile').
+use Rattle.std.specs.Prelude.{◌≡◌, ℕ, ◌≤◌, Bool, true, Option, None}
+use Rattle.xt_trace.specs.declared.run.Run.{Run}
+use Rattle.xt_image.specs.declared.image.Image.{Image}
+use Rattle.xt_core.specs.Runs.{code_of, records_of}
+use Rattle.xt_frames.specs.declared.kinds.Breach.{Breach}
+use Rattle.xt_frames.specs.FirstBreach.{Course, IsFirstBreach}
+use Rattle.xt_handlers.specs.Answers.{handlers_of}
+use Rattle.xt_discipline.specs.Verdicts.{are_yes}
+use Rattle.xt_simulation.specs.Opening.{Openings, memory_of, openings_of}
+use Rattle.xt_simulation.specs.Walking.{Apart}
+use Rattle.xt_uses.specs.FirstUse.{History, IsFirstUse, IsHistory, carried}
+use Rattle.xt_uses.specs.UseLaws.{IsUseRun}
+use Rattle.xt_use_walk.specs.Verdicts.{course_in}
+
+-- a run of an image, to be judged: the records of both cores, in the order of its schedule
+abbrev pub course_of : Image → Run → Course
+course_of image r = course_in image r (records_of 0 image r).records (records_of 1 image r).records
+
+-- the six window handlers pass their check
+abbrev pub is_checked : Image → Run → Bool
+is_checked image r = are_yes (handlers_of (code_of image) r.options.vecbase)
+
+-- how both machines open
+abbrev pub opening : Image → Run → Openings
+opening image r = openings_of image.segments image.entry r.options
+
+-- Where the handlers pass and the two stacks are apart: of each judged record before the first
+-- breach the machine of uses has the PC, the kind, and what is known of the write, the access and
+-- the reply, over one memory.
+abbrev pub AreUsesSo : Image → Run → Type 0
+AreUsesSo image r =
+    is_checked image r ≡ true
+    → Apart (opening image r).range0 (opening image r).range1
+    → IsUseRun (course_of image r) (memory_of (opening image r))
+
+-- The first breach of uses is never before that of the stack discipline; where that shows none,
+-- there is none of uses, and nothing unknown is carried.
+abbrev pub IsLater : Course → Type 0
+IsLater c =
+    (h : History) (p q : ℕ) (breach found : Option Breach)
+    → IsHistory c h → IsFirstBreach c p breach → IsFirstUse c h q found
+    → (p ≤ q)
+    × (breach ≡ None → (found ≡ None) × (carried c h 0 q ≡ 0) × (carried c h 1 q ≡ 0))
+
+abbrev pub AreUsesLater : Image → Run → Type 0
+AreUsesLater image r = IsLater (course_of image r)

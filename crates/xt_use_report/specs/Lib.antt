@@ -1,0 +1,4 @@
+pub mod Breaches
+pub mod Texts
+pub mod Held
+pub mod Told

@@ -1,0 +1,47 @@
+//! What the discipline of uses says of a run of an image.
+ghost use Rattle.std.specs.Prelude.{IfOk};
+ghost use Rattle.xt_core.specs.Runs.{IsRunOf};
+ghost use Rattle.xt_rows.specs.Laws.{IsWord};
+ghost use Rattle.xt_image.specs.Parts.{IsWellFormed};
+ghost use Rattle.xt_use_walk.specs.Verdicts.{IsUsesOf};
+ghost use Rattle.xt_use_report.specs.Held.{AreUsesLater, AreUsesSo, course_of, is_checked};
+
+use std::alloc::{AllocError, Global};
+use xt_core::Cursor;
+use xt_discipline::handlers_of;
+use xt_image::{Image, well_formed_is_placed};
+use xt_trace::Run;
+use xt_use_run::laws::{uses_are_so, uses_of_runs_are_later};
+use xt_use_walk::{Uses, judge_uses};
+
+// A number of 32 bits is a word, by its type.
+fn is_word(number: u32)
+    ensures { IsWord number }
+{}
+
+/// What the discipline of uses says of a run of an image, over the records of both cores, which are made one by one: nothing where some
+/// window handler does not pass its check; else the first breach in the order of the run's schedule, or how much of what is not known
+/// each core has carried. The only error is running out of memory.
+///
+/// Conditions: the image is well formed, and the run is the image's.
+///
+/// Of a run whose handlers pass and whose stacks are apart, what the machine of uses knows of each judged record before the first breach
+/// is so. And no breach of uses comes before one of the stack discipline.
+pub fn uses_of(alloc: Global, image: &Image, run: &Run) -> Result<Uses, AllocError>
+    requires image { IsWellFormed image.now }
+    requires run { IsRunOf image.now run.now }
+    ensures uses { IfOk result (IsUsesOf (is_checked image.now run.now) (course_of image.now run.now)) }
+    ensures so { IfOk result (λ uses. AreUsesSo image.now run.now) }
+    ensures later { IfOk result (λ uses. AreUsesLater image.now run.now) }
+{
+    well_formed_is_placed();
+    uses_are_so();
+    uses_of_runs_are_later();
+    is_word(run.options.vecbase);
+    is_word(run.options.entry1);
+    let handlers = handlers_of(alloc, image, run.options.vecbase)?;
+    let mut records0 = Cursor::make(alloc, image, run, 0)?;
+    let mut records1 = Cursor::make(alloc, image, run, 1)?;
+    let uses = judge_uses(alloc, image, &handlers, run, &mut records0, &mut records1)?;
+    Ok(uses)
+}
