@@ -1,6 +1,6 @@
 # shellcheck shell=sh disable=SC2016,SC2034,SC2154,SC3013
-# Read by bin/xt, bin/build and bin/unproved, which set `top`: which sources a program is made of, and whether a
-# built program is that of its sources as they are now.
+# Read by bin/xt, bin/build and bin/unproved, which set `top`: which sources a program is made of, whether a built
+# program is that of its sources as they are now, and how a build that was killed is ended.
 
 # What awk knows of crates.txt: the crates that the program stands on, and the program, in `crate` in the order of
 # the file, and whether one stands on another in `on`.
@@ -55,6 +55,13 @@ unedited_since() {
 # Gives a file the time of this many seconds, from `date +%s`: an edit later than that is an edit since then.
 set_time() {
     touch -d "@$2" "$1"
+}
+
+# Ends what works in a folder: end_work FOLDER.
+end_work() {
+    for process in /proc/[0-9]*; do
+        case $(readlink "$process/cwd") in "$1"/*) kill -KILL "${process#/proc/}" ;; esac
+    done 2>/dev/null
 }
 
 # Whether a proved program is that of its sources: stands PROGRAM. Where a file was edited, or a folder, the
