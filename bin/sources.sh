@@ -81,7 +81,7 @@ stands() {
             -type f -newer "$built" -print -quit)" ] || return 1
     fi
     # Where nothing can be written there, the next call looks again.
-    { : >"$built.seen" && set_time "$built.seen" "$looked"; } 2>/dev/null
+    set_time "$built.seen" "$looked" 2>/dev/null
     return 0
 }
 
