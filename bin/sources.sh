@@ -85,11 +85,15 @@ stands() {
     return 0
 }
 
-# The program that is compiled without proofs, in `program`, and the minutes that its proofs take, in `minutes`, where
-# bin/unproved has kept it and no source was edited since.
-find_unproved() {
+# The program that bin/unproved kept last, in `program`, and the minutes that its proofs take, in `minutes`.
+read_unproved() {
     unproved=$top/.unproved
     [ -f "$unproved/current" ] && read -r key minutes <"$unproved/current" || return 1
     program=$unproved/program.$key
-    [ -x "$program" ] && unedited_since "$unproved/current"
+    [ -x "$program" ]
+}
+
+# The same, where no source was edited since.
+find_unproved() {
+    read_unproved && unedited_since "$unproved/current"
 }
