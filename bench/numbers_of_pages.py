@@ -175,8 +175,19 @@ def number(word):
     return int(word) if word.isdigit() else WORDS.index(word)
 
 
+def changing_definitions():
+    """The crates of which a wrong version changes a definition, and those that the page names."""
+    paths = glob.glob(f"{TOP}/crates/*/must-fail/*.edit")
+    found = {it.split("/")[-3] for it in paths if counted(r"^file: specs/", os.path.relpath(it, TOP))}
+    sentence = re.search(r"In ((?:[`\w]+,?\s+(?:and\s+)?)+)edits also change a definition", read(PROVED))
+    return found, set(re.findall(r"`(\w+)`", sentence[1] if sentence else ""))
+
+
 def wrong():
     """A line for each place whose words are not there, or whose number is another than is counted."""
+    found, named = changing_definitions()
+    if found != named:
+        yield f"{PROVED}: wrong versions change definitions of {', '.join(sorted(found))}, and it names {', '.join(sorted(named))}"
     one = rf"(\d[\d,]*\d|\d|{'|'.join(WORDS)})"
     for page, words, count in PLACES:
         parts = [r"\s+".join(map(re.escape, it.split(" "))) for it in words.split("#")]
