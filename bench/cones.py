@@ -1,12 +1,14 @@
 """The definitions that a clause of a contract names, those that these name, and so on: what a reader has to believe.
 
 A definition is one of a file of specs/, by its name, or a type of the code that definitions or the call name, with what
-contracts see of it, or a trait that the call asks for, with its contracts. Only names are followed, and none of the
-standard library. A name that a variable has too counts as the definition.
+contracts see of it, or a trait that the call asks for, with its contracts. Only names are followed, those of the kit's
+libraries by `kit`. A name that a variable has too counts as the definition.
 """
 import functools
 import os
 import re
+
+import kit
 
 TOP = os.path.dirname(os.path.dirname(os.path.abspath(__file__)))
 # The first line of a file of specs/ that a reader need not believe ends so.
@@ -20,6 +22,7 @@ CLAIMS = (
         (("xt_machine", "threads", "run", "-framed"), ("xt_machine", "scheduled", "run_schedule", "-framed")),
     ),
     ("windows are frames", (("xt_machine", "threads", "run", "+framed"),)),
+    ("what is not known decides nothing", (("xt_use_report", "report", "uses_of", None),)),
     ("all of `xt_main`", (("xt_cli", "top", "xt_main", None),)),
 )
 WORD = r"[A-Za-z_]\w*(?:\.[A-Za-z_]\w*)*"
@@ -244,13 +247,16 @@ def cone(calls):
 
 
 def rows():
-    """For each claim: its calls, the lines of its definitions, how many they are, and the lines of types of the code."""
+    """For each claim: its calls, the lines of its definitions, how many they are, the lines of types of the code, and
+    the lines and the number of the kit's definitions."""
     for claim, calls in CLAIMS:
         found = {(it.path, it.name): it for it in cone(calls)}.values()
         specs = [it for it in found if it.path.endswith(".antt")]
         types = [it for it in found if it.path.endswith(".rt")]
         said = ", ".join(f"`{crate}::{function}`" for crate, _, function, _ in calls)
-        yield claim, said, sum(it.size() for it in specs), len(specs), sum(it.size() for it in types)
+        below = kit.reached((f"{TOP}/{it.path}", it.text) for it in specs)
+        own = sum(it.size() for it in specs), len(specs), sum(it.size() for it in types)
+        yield claim, said, *own, sum(map(len, below)), len(below)
 
 
 def unbelieved():

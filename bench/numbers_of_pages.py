@@ -1,0 +1,200 @@
+"""Numbers that the pages print, each with the place where it is printed and how it is counted from the files.
+
+A place is a page and the words around the number, in which `#` stands for the number and a blank for any white space; of
+several numbers the sum is counted. Numbers are digits with or without commas, or words up to twenty.
+"""
+import functools
+import glob
+import os
+import re
+
+TOP = os.path.dirname(os.path.dirname(os.path.abspath(__file__)))
+WORDS = """zero one two three four five six seven eight nine ten eleven twelve thirteen fourteen fifteen sixteen
+seventeen eighteen nineteen twenty""".split()
+CASES, TESTS = "crates/xt_program_tests/data", "crates/{}/src/{}.rt"
+
+
+@functools.cache
+def read(path):
+    with open(f"{TOP}/{path}", encoding="utf-8") as file:
+        return file.read()
+
+
+# ---- what is counted
+
+
+@functools.cache
+def below():
+    """The crates of crates.txt with those that each stands on."""
+    lines = [it for it in read("crates.txt").splitlines() if it.strip() and not it.startswith("#")]
+    found = {head.split()[0]: tail.split() for head, tail in (it.split(":", 1) for it in lines)}
+    return {crate: [it for it in on if it in found] for crate, on in found.items()}
+
+
+def reach(crate):
+    return {crate}.union(*map(reach, below()[crate]))
+
+
+def level(crate):
+    return 1 + max(map(level, below()[crate]), default=0)
+
+
+def counted(pattern, *paths):
+    """How often a pattern is in these files."""
+    return sum(len(re.findall(pattern, read(it), re.M)) for it in paths)
+
+
+def functions(crate):
+    paths = glob.glob(f"{TOP}/crates/{crate}/src/**/*.rt", recursive=True)
+    return counted(r"^\s*(?:pub(?:\(crate\))? )?fn ", *(os.path.relpath(it, TOP) for it in paths))
+
+
+def cases(part, *files):
+    """The cases of files of programs that have a part, or all of them: `case`."""
+    return counted(rf"^{part}\b", *(f"{CASES}/{it}.txt" for it in files))
+
+
+def rows(crate, module, names=r"\w+"):
+    """The rows of lists of texts in a file of tests."""
+    found = rf"^static (?:{names}): \[(?:Row|\(&str, &str\)); (\d+)\]"
+    return sum(map(int, re.findall(found, read(TESTS.format(crate, module)), re.M)))
+
+
+def block(crate, module, name):
+    """The text of a constant of a file of tests, which stands in lines of its own."""
+    return re.search(rf'\b{name}: &str = "\\\n(.*?)"', read(TESTS.format(crate, module)), re.S)[1]
+
+
+def lines_of(crate, module, name):
+    return len(block(crate, module, name).split("\n")) - block(crate, module, name).endswith("\n")
+
+
+def words_of(crate, module, name):
+    return len(block(crate, module, name).split())
+
+
+def enum(path, name):
+    """The variants of a type, but for that of running out of memory."""
+    body = re.search(rf"^pub enum {name} {{\n(.*?)^}}", read(path), re.M | re.S)[1]
+    return len(re.findall(r"^    (?!Memory\b)[A-Z]\w*", body, re.M))
+
+
+def faulty():
+    return rows("xt_text_tests", "asm_fault_tests") + rows("xt_text_tests", "boolean_tests", "FAULTS|WHOLE")
+
+
+def good():
+    return rows("xt_text_tests", "asm_good_tests") + rows("xt_text_tests", "boolean_tests", "IMAGES")
+
+
+def listed_words():
+    """The rows of the lists of words with their meanings."""
+    return counted(r"^        \((?=\"|$)", TESTS.format("xt_text_tests", "words_tests"))
+
+
+def followed():
+    """The functions that the listings along the code of the examples name."""
+    return sum(map(int, re.findall(r"followed: (\d+) functions", read("crates/xt_examples/stdout"))))
+
+
+def built(folder):
+    """The programs of a folder that bench/c builds."""
+    found = re.search(rf'^for name in (.*?); do try \$name "{re.escape(folder)}/', read("bench/c"), re.M)
+    return len(found[1].split())
+
+
+def builds():
+    """The programs of both folders at each level."""
+    levels = re.search(r"^ *for level in (.*?); do", read("bench/c"), re.M)[1].split()
+    return len(levels) * (built("$c") + built("$top/examples/programs"))
+
+
+# ---- where it is printed
+
+INSNS = functools.partial(counted, r"^    (?:wide|narrow) 0x", "crates/xt_isa/specs/Spelling.antt")
+KINDS = functools.partial(enum, "crates/xt_frames/src/kinds.rt", "BreachKind")
+IMAGE_RULES = functools.partial(enum, "crates/xt_image/src/fault.rt", "ImageFault")
+PROVED, README, GUIDE, MAP = "docs/PROVED.md", "README.md", "CONTRIBUTING.md", "docs/ARCHITECTURE.md"
+PLACES = [
+    (README, "proves all # crates and builds", lambda: len(reach("xt"))),
+    (README, "the # rules of [docs/IMAGE_FORMAT.md]", IMAGE_RULES),
+    (README, "All # instructions of the table", INSNS),
+    (MAP, "the # rows that spell them", INSNS),
+    (MAP, "the first of # rules that the bytes break", IMAGE_RULES),
+    ("CHANGELOG.md", "The table has # instructions", INSNS),
+    ("CHANGELOG.md", "names the first of # rules that the file breaks", lambda: enum("crates/xt_elf/src/fault.rt", "ElfFault")),
+    ("CHANGELOG.md", "The reader names the first of # rules that a file breaks", IMAGE_RULES),
+    ("docs/C.md", "`bench/c` builds # programs of `examples/c`", lambda: built("$c")),
+    ("docs/C.md", "and the # of `examples/programs`", lambda: built("$top/examples/programs")),
+    ("docs/C.md", "of the #, `run` names", builds),
+    (PROVED, "one of the # kinds", KINDS),
+    (PROVED, "The spellings: # words and", lambda: lines_of("xt_text_tests", "spelling_tests/spellings", "SPELLINGS")),
+    (PROVED, "words and # illegal ones", lambda: words_of("xt_text_tests", "spelling_tests/spellings", "ILLEGAL")),
+    (PROVED, "; # words of Boolean registers", lambda: lines_of("xt_text_tests", "spelling_tests/boolean", "SPELLINGS")),
+    (PROVED, "and # beside them that spell nothing", lambda: words_of("xt_text_tests", "spelling_tests/boolean", "ILLEGAL")),
+    (PROVED, "Assembly texts: # faulty ones", faulty),
+    (PROVED, "and # good ones with all their bytes", good),
+    (PROVED, "Images: # worked by hand and # by an outside writer", lambda: lines_of("xt_machine_tests", "image_tests", "IMAGES")),
+    (PROVED, "damaged; # files by a program apart", lambda: lines_of("xt_machine_tests", "elf_tests", "FILES")),
+    (PROVED, "found without this program: # with their whole traces", lambda: cases("case", "traces")),
+    (PROVED, "whole traces, # worked by hand", lambda: cases("case", "worked")),
+    (PROVED, "worked by hand, # that run wild", lambda: cases("case", "wild")),
+    (PROVED, "wild, # of two cores over schedules", lambda: cases("case", "schedules")),
+    (PROVED, "schedule; # that a C compiler made", lambda: cases("case", "programs")),
+    (PROVED, "that a C compiler made, # of them on two threads", lambda: cases("threads", "programs")),
+    (PROVED, "; # texts on two threads", lambda: cases("case", "threads")),
+    (PROVED, "runs each; #, and", lambda: cases("case", "verdicts")),
+    (PROVED, ", and # whose window handlers are interrupted", lambda: cases("report", "nested")),
+    (PROVED, "; # images with what `check` says", lambda: cases("case", "checks")),
+    (PROVED, "Found without this program: # listings", lambda: cases("command dis", "chosen")),
+    (PROVED, "listings that follow the code, # maps", lambda: cases("command map", "chosen")),
+    (PROVED, "maps, # recordings in the order of a seed", lambda: cases("analysis", "chosen")),
+    (PROVED, "the lists of # seeds", lambda: cases("seed", "chosen")),
+    (PROVED, "each of the # functions that they call", followed),
+    (PROVED, "what `events` prints of # runs", lambda: cases("case", "events")),
+    (PROVED, "runs and `trace` of #,", lambda: cases("case", "turns")),
+    (PROVED, "or none, of # runs of two cores", lambda: cases("case", "races")),
+    (PROVED, "the profiles of #.", lambda: cases("case", "profiles")),
+    (PROVED, "What `uses` prints of # runs", lambda: cases("case", "uses")),
+    (PROVED, "runs, # of them of programs that a C compiler made", lambda: cases("file", "uses")),
+    (PROVED, "Recordings: #, good and damaged", lambda: cases("answer", "recordings", "nested")),
+    (PROVED, "and # with interrupts inside window handlers", lambda: cases("answer", "nested")),
+    (PROVED, "; # scripts with what they print", lambda: cases("script", "scripts", "nested")),
+    (PROVED, "# lines of words with what they mean", listed_words),
+    (PROVED, "# ends with their lines", lambda: cases("case", "ends")),
+    (GUIDE, "today one has #, up to `xt_cli`", lambda: level("xt_cli")),
+    (GUIDE, "(today `xt_frames` has #,", lambda: functions("xt_frames")),
+    (GUIDE, "`xt_uses` #, `xt_rows`", lambda: functions("xt_uses")),
+    (GUIDE, "`xt_rows` # and", lambda: functions("xt_rows")),
+    (GUIDE, "`xt_encode` #)", lambda: functions("xt_encode")),
+]
+
+
+def number(word):
+    word = word.lower().replace(",", "")
+    return int(word) if word.isdigit() else WORDS.index(word)
+
+
+def changing_definitions():
+    """The crates of which a wrong version changes a definition, and those that the page names."""
+    paths = glob.glob(f"{TOP}/crates/*/must-fail/*.edit")
+    found = {it.split("/")[-3] for it in paths if counted(r"^file: specs/", os.path.relpath(it, TOP))}
+    sentence = re.search(r"In ((?:[`\w]+,?\s+(?:and\s+)?)+)edits also change a definition", read(PROVED))
+    return found, set(re.findall(r"`(\w+)`", sentence[1] if sentence else ""))
+
+
+def wrong():
+    """A line for each place whose words are not there, or whose number is another than is counted."""
+    found, named = changing_definitions()
+    if found != named:
+        yield f"{PROVED}: wrong versions change definitions of {', '.join(sorted(found))}, and it names {', '.join(sorted(named))}"
+    one = rf"(\d[\d,]*\d|\d|{'|'.join(WORDS)})"
+    for page, words, count in PLACES:
+        parts = [r"\s+".join(map(re.escape, it.split(" "))) for it in words.split("#")]
+        found = [*re.finditer(one.join(parts), read(page), re.I)]
+        if len(found) != 1:
+            yield f"{page}: the words `{words}` of bench/numbers.py stand there {len(found)} times"
+        for it in found:
+            line, counts = read(page).count("\n", 0, it.start(1)) + 1, count()
+            if sum(map(number, it.groups())) != counts:
+                yield f"{page}:{line}: says {' and '.join(it.groups())} in `{words}`, and {counts} are counted"
