@@ -60,7 +60,7 @@ set_time() {
 # Ends what works in a folder: end_work FOLDER.
 end_work() {
     for process in /proc/[0-9]*; do
-        case $(readlink "$process/cwd") in "$1"/*) kill -KILL "${process#/proc/}" ;; esac
+        case $(readlink "$process/cwd") in "$1" | "$1"/*) kill -KILL "${process#/proc/}" ;; esac
     done 2>/dev/null
 }
 
