@@ -361,6 +361,13 @@ fn too_long_an_input_is_refused(rt: HostRuntime) -> Result<(), Fail> {
             1_048_577,
             Status::TooLarge(1_048_576),
         ),
+        ("map", TEXT.as_bytes(), 1_048_576, Status::Done),
+        (
+            "map",
+            TEXT.as_bytes(),
+            1_048_577,
+            Status::TooLarge(1_048_576),
+        ),
     ];
     for (words, front, length, status) in rows {
         let mut input = front.to_vec(rt.alloc())?;
@@ -371,20 +378,18 @@ fn too_long_an_input_is_refused(rt: HostRuntime) -> Result<(), Fail> {
         assert_eq!(rt; outcome.status, status, "{words}");
     }
     // A command, its limit, and how it refuses as many zeros.
+    let recording = Status::Recording(RecordFault::Magic);
     let rows = [
         ("run", 8_388_608, Status::Image(ImageFault::Magic(0))),
         ("record", 8_388_608, Status::Image(ImageFault::Magic(0))),
         ("elf", 67_108_864, Status::Elf(ElfFault::Magic)),
-        (
-            "migrate",
-            201_326_592,
-            Status::Recording(RecordFault::Magic),
-        ),
-        (
-            "replay ",
-            201_326_592,
-            Status::Recording(RecordFault::Magic),
-        ),
+        ("migrate", 201_326_592, recording),
+        ("replay ", 201_326_592, recording),
+        ("events", 201_326_592, recording),
+        ("trace", 201_326_592, recording),
+        ("race", 201_326_592, recording),
+        ("profile", 201_326_592, recording),
+        ("uses", 201_326_592, recording),
     ];
     for (words, limit, refused) in rows {
         for (more, status) in [(0, refused), (1, Status::TooLarge(limit))] {
