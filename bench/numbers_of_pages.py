@@ -164,9 +164,8 @@ PLACES = [
     (PROVED, "# ends with their lines", lambda: cases("case", "ends")),
     (GUIDE, "today one has #, up to `xt_cli`", lambda: level("xt_cli")),
     (GUIDE, "(today `xt_frames` has #,", lambda: functions("xt_frames")),
-    (GUIDE, "`xt_uses` #, `xt_rows`", lambda: functions("xt_uses")),
-    (GUIDE, "`xt_rows` # and", lambda: functions("xt_rows")),
-    (GUIDE, "`xt_encode` #)", lambda: functions("xt_encode")),
+    (GUIDE, "`xt_uses` # and", lambda: functions("xt_uses")),
+    (GUIDE, "`xt_rows` #)", lambda: functions("xt_rows")),
 ]
 
 

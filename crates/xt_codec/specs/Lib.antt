@@ -1,2 +1,4 @@
 pub mod Answers
+pub mod Codes
+pub mod Encoding
 pub mod Fetches

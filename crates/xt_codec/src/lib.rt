@@ -5,21 +5,27 @@
 
 mod branch;
 mod fetch;
+mod formats;
 mod immediate;
 mod memory;
 mod narrow;
+mod operands;
+mod ranges;
 mod rst;
+mod words;
 mod zero;
 
 ghost use Rattle.std.specs.Prelude.{◌≡◌, ◌↔◌, ℕ, ◌+◌, ◌*◌, ◌%◌, ◌<◌, ◌≤◌, ◌⊎◌, IsTrue, true, Some};
 ghost use Rattle.xt_isa.specs.Spelling.{spelled, fields_at};
 ghost use Rattle.xt_isa.specs.Ranges.{HasSpelling, in_range};
+ghost use Rattle.xt_codec.specs.Codes.{IsCodeOf};
 ghost use Rattle.xt_codec.specs.Answers.{answer, byte, GoodIsInRange, IsSpellingOf};
 ghost use Rattle.xt_codec.specs.declared.Decoded.TheVariants.{Good};
 
 pub use fetch::{Fetch, instruction_at};
-use xt_encode::fields_of;
-use xt_isa::Insn;
+use operands::in_range;
+use words::fields_from;
+use xt_isa::{Fields, Insn};
 
 /// What three bytes spell.
 #[derive(Clone, Copy, Debug, PartialEq, Eq)]
@@ -98,15 +104,24 @@ pub fn decode(b0: u8, b1: u8, b2: u8) -> Decoded
     }
 }
 
+/// The fields of a word that spells the instruction, or none if an operand is outside its range, and so nothing spells
+/// it. Of a 16-bit word the fields of the third byte are 0.
+pub fn fields_of(i: Insn) -> Option<Fields>
+    ensures { IsCodeOf i (in_range i) result }
+{
+    if in_range(i) {
+        Some(fields_from(i))
+    } else {
+        None
+    }
+}
+
 /// Whether each operand of the instruction is in its range, which is exactly where some word spells it.
 pub fn fits(i: &Insn) -> bool
     ensures range { result ≡ in_range i.now }
     ensures spelling { IsTrue result ↔ HasSpelling i.now }
 {
-    match fields_of(*i) {
-        Some(_) => true,
-        None => false,
-    }
+    in_range(*i)
 }
 
 /// The bytes that spell the instruction.

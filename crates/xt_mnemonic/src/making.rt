@@ -12,7 +12,7 @@ use crate::operands::{
     one_and_two_numbers_in, one_in, three_in, two_and_number_in, two_and_two_numbers_in, two_in,
     two_numbers_in,
 };
-use xt_encode::fields_of;
+use xt_codec::fields_of;
 use xt_isa::Insn;
 use xt_names::{Mnemonic, Parts, insn_of};
 

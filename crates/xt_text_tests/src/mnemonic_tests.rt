@@ -1,7 +1,7 @@
 //! Words as GNU's and QEMU's disassemblers print them, and the faults.
 
 use std::test::Fail;
-use xt_encode::fields_of;
+use xt_codec::fields_of;
 use xt_mnemonic::Argument::{Register, Special, Value};
 use xt_mnemonic::OperandFault::{Misaligned, OutOfReach, Range};
 use xt_mnemonic::{Argument, OperandFault, instruction};
