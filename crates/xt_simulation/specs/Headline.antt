@@ -56,7 +56,7 @@ TurnsAreFrames =
     → IsWorldRun code (memory_of o) (frame_of (state0 o)) (frame_of (state1 o)) w
 
 -- and at each place of it, where a core's next turn ends a stretch of handler steps, the stretch
--- has moved one frame
+-- has moved one frame; and where it begins a nested interrupt, the frame state has it pending too
 abbrev pub StretchesMoveFrames : Type 0
 StretchesMoveFrames =
     (o : Openings) (code : ℕ → ℕ) → IsCovered o code
@@ -141,8 +141,8 @@ pub record Knows (w : World) (k : Known) : Type 0 where
 
 -- The first p turns of a schedule have been walked, beside a judge that knows k past them. The walk
 -- stands where the run does. Where a core's next turn ends a stretch of handler steps, the stretch
--- has moved one frame; where it ends a nested interrupt and shows no breach, the window handler gets
--- back what it had.
+-- has moved one frame; where it begins a nested interrupt, that is pending in the frame state too;
+-- where it ends one and shows no breach, the window handler gets back what it had.
 pub record Position
     (o : Openings) (code : ℕ → ℕ) (turns0 turns1 : ℕ) (cores : List ℕ) (p : ℕ) (k : Known)
     : Type 0 where
@@ -236,7 +236,8 @@ WindowsAreFrames =
     (judgement_of segments entry o r)
 
 -- And at each position before the first breach its whole stretches of handler steps have each moved
--- one frame, and its nested interrupts give the window handler back what it had.
+-- one frame, and its nested interrupts are pending in that machine too, and give the window handler
+-- back what it had.
 abbrev pub StretchesOfImages : Type 0
 StretchesOfImages =
     (segments : List Segment) (entry : ℕ) (o : Options) (r : ShortRun State)
