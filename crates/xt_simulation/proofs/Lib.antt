@@ -40,5 +40,6 @@ pub mod InnerMarks
 pub mod Carried
 pub mod Taken
 pub mod Pending
+pub mod AllJudged
 pub mod Resumed
 pub mod Suspended

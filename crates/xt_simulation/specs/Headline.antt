@@ -17,6 +17,8 @@ use Rattle.xt_trace.specs.Worlds as worlds
 use Rattle.xt_exec.specs.State.{State}
 use Rattle.xt_exec.specs.Chips.{processor}
 use Rattle.xt_frames.specs.declared.kinds.Breach.{Breach}
+use Rattle.xt_frames.specs.FirstBreach.{judged_of}
+use Rattle.xt_frames.specs.HandlerSteps.{Plain}
 use Rattle.xt_frames.specs.Verdict.{Known, Judgement, judgement, opening_known, IsFrameRun}
 use Rattle.xt_stretch.specs.declared.Side.TheVariants.{Overflow, Underflow}
 use Rattle.xt_stretch.specs.declared.HandlerVerdict.TheVariants.{Yes}
@@ -175,6 +177,22 @@ StretchesOfRuns =
     → IsRunOf (processor code) (opening_of o turns0 turns1) r
     → HaveMovedFrames o code turns0 turns1 (schedule_of r) r.trace0.records r.trace1.records
 
+-- where the judge's walk shows no breach, the records that it has judged are all of both traces but
+-- their handler steps
+abbrev pub AreAllJudged :
+    Openings → (ℕ → ℕ) → List ℕ → List StepRecord → List StepRecord → Type 0
+AreAllJudged o code cores xs ys =
+    (judged_in o code cores xs ys).breach ≡ None
+    → ((judged_in o code cores xs ys).known.judged0 ≡ judged_of code Plain xs)
+    × ((judged_in o code cores xs ys).known.judged1 ≡ judged_of code Plain ys)
+
+-- so of every run
+abbrev pub RunsAreAllJudged : Type 0
+RunsAreAllJudged =
+    (o : Openings) (code : ℕ → ℕ) (turns0 turns1 : ℕ) (r : Run State)
+    → IsRunOf (processor code) (opening_of o turns0 turns1) r
+    → AreAllJudged o code (schedule_of r) r.trace0.records r.trace1.records
+
 -- ---- a run of an image, of which the history and the places of the accesses are kept
 
 -- the records of its traces, which are the processor's over the replies of its history
@@ -208,6 +226,18 @@ RunHasMovedFrames segments entry o r =
     code
     o.turns0
     o.turns1
+    (short_schedule r)
+    (records0 at code o.turns0 r)
+    (records1 at code o.turns1 r)
+
+-- and where there is none, what it has judged is all that is judged of its traces
+abbrev pub RunIsAllJudged : List Segment → ℕ → Options → ShortRun State → Type 0
+RunIsAllJudged segments entry o r =
+    let at = openings_of segments entry o in
+    let code = constant_byte segments in
+    AreAllJudged
+    at
+    code
     (short_schedule r)
     (records0 at code o.turns0 r)
     (records1 at code o.turns1 r)
@@ -246,3 +276,10 @@ StretchesOfImages =
     → Apart (openings_of segments entry o).range0 (openings_of segments entry o).range1
     → IsRunOfImage segments entry o r
     → RunHasMovedFrames segments entry o r
+
+-- Where there is no first breach, the judged records are all records of both traces but their
+-- handler steps.
+abbrev pub ImagesAreAllJudged : Type 0
+ImagesAreAllJudged =
+    (segments : List Segment) (entry : ℕ) (o : Options) (r : ShortRun State)
+    → IsRunOfImage segments entry o r → RunIsAllJudged segments entry o r

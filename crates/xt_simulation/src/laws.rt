@@ -4,7 +4,7 @@
 ghost use Rattle.xt_simulation.specs.Closing.{FillsKeepPlain, SpillsKeepPlain};
 ghost use Rattle.xt_simulation.specs.Cores.{LiveInRange, SavedInAreas};
 ghost use Rattle.xt_simulation.specs.HandlerLaws.{HandlerStepsAreKept, HandlersAreSpared, StretchesAreEntered};
-ghost use Rattle.xt_simulation.specs.Headline.{BreachesStay, NestedGiveBack, RunsAreFrames, SixSuffice, StretchesMoveFrames, StretchesOfImages, StretchesOfRuns, TurnsAreFrames, WalksAreFrames, WindowsAreFrames};
+ghost use Rattle.xt_simulation.specs.Headline.{BreachesStay, ImagesAreAllJudged, NestedGiveBack, RunsAreFrames, SixSuffice, StretchesMoveFrames, StretchesOfImages, StretchesOfRuns, TurnsAreFrames, WalksAreFrames, WindowsAreFrames};
 ghost use Rattle.xt_simulation.specs.Opening.{OpensAlike};
 ghost use Rattle.xt_simulation.specs.JudgedSteps.{KeepsLevel, KeepsStack};
 ghost use Rattle.xt_simulation.specs.Relation.{EntersWindow};
@@ -176,4 +176,10 @@ pub fn windows_are_frames()
 /// the window handler back what it had.
 pub fn stretches_move_one_frame()
     ensures { StretchesOfImages }
+{}
+
+/// Where a run of an image shows no breach, the records that the judge's walk has judged are all records
+/// of both traces but their handler steps.
+pub fn all_records_are_judged()
+    ensures { ImagesAreAllJudged }
 {}
