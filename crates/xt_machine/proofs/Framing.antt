@@ -19,7 +19,7 @@ use Rattle.xt_handlers.specs.Answers.{handlers_of}
 use Rattle.xt_discipline.specs.Verdicts.{is_yes, are_yes}
 use Rattle.xt_simulation.specs.Opening.{AreSmall, IsRunnable}
 use Rattle.xt_simulation.specs.Headline.{IsRunOfImage}
-use Rattle.xt_simulation.proofs.Images.{six_suffice, windows_are_frames, stretches_of_images}
+use Rattle.xt_simulation.proofs.Images.{six_suffice, windows_are_frames, stretches_of_images, images_are_all_judged}
 use Rattle.xt_machine.specs.Framed.{short_of, AreTyped, IsFramed, RunsAreFramed}
 
 bytes_small : (bytes : List ℕ) → AllByRecursion (λ b. b < 256) bytes → (k : ℕ) → slice_index bytes k < 256
@@ -59,10 +59,18 @@ passes code vecbase h =
     six_suffice code vecbase (record { of4 = yes_is _ a.0; uf4 = yes_is _ b.0; of8 = yes_is _ c.0; uf8 = yes_is _ d.0; of12 = yes_is _ e.0; uf12 = yes_is _ e.1 })
 
 pub runs_are_framed : RunsAreFramed
-runs_are_framed image r t h six apart = let handlers = passes (code_of image) r.options.vecbase six in (
-  windows_are_frames image.segments image.entry r.options (short_of image r) (given_by image r t h) handlers apart (run_by image r h),
-  stretches_of_images image.segments image.entry r.options (short_of image r) (given_by image r t h) handlers apart (run_by image r h),
-)
+runs_are_framed image r t h six apart =
+    let handlers = passes (code_of image) r.options.vecbase six in
+    let given = given_by image r t h in
+    let run = run_by image r h in
+    let all = images_are_all_judged image.segments image.entry r.options (short_of image r) run in (
+      record {
+        frames = windows_are_frames image.segments image.entry r.options (short_of image r) given handlers apart run;
+        all0 = λ whole. (all whole).0;
+        all1 = λ whole. (all whole).1;
+      },
+      stretches_of_images image.segments image.entry r.options (short_of image r) given handlers apart run,
+    )
 
 -- a run with given options, whose addresses are words by their types
 pub run_framed : (image : Image) (o : Options) (r : Run) → FitsImage image → IsWord o.vecbase → IsWord o.entry1 → r.options ≡ o → IsRunOf image r → IsFramed image r

@@ -4,3 +4,4 @@ pub mod Opened
 pub mod Rests
 pub mod Framing
 pub mod Judging
+pub mod Bits

@@ -1,5 +1,6 @@
 -- The headline in the words of an image and its run ('profile').
-use Rattle.std.specs.Prelude.{◌≡◌, true}
+use Rattle.std.specs.Prelude.{◌≡◌, ℕ, Bool, true, None, List}
+use Rattle.xt_trace.specs.declared.record.StepRecord.{StepRecord}
 use Rattle.xt_trace.specs.declared.run.Run.{Run}
 use Rattle.xt_image.specs.declared.image.Image.{Image}
 use Rattle.xt_image.specs.Parts.{FitsImage}
@@ -7,6 +8,8 @@ use Rattle.xt_rows.specs.Laws.{IsWord}
 use Rattle.xt_trace.specs.Short.{ShortRun, short_trace}
 use Rattle.xt_exec.specs.State.{State}
 use Rattle.xt_core.specs.Runs.{code_of, records_of, IsRunOf}
+use Rattle.xt_frames.specs.FirstBreach.{judged_of}
+use Rattle.xt_frames.specs.HandlerSteps.{Plain}
 use Rattle.xt_frames.specs.Verdict.{Judgement}
 use Rattle.xt_handlers.specs.Answers.{handlers_of}
 use Rattle.xt_discipline.specs.Verdicts.{are_yes}
@@ -31,22 +34,34 @@ opening image r = openings_of image.segments image.entry r.options
 abbrev pub judgement_of : Image → Run → Judgement
 judgement_of image r = headline.judgement_of image.segments image.entry r.options (short_of image r)
 
--- Where the answers for the six window handlers are all `yes` and the two stacks are apart, the
--- judged records before the first breach are a run of the machine with unbounded call frames, over
--- one legal history; and at each position before it each whole stretch of handler steps has moved
--- one frame, and each nested interrupt gives the window handler back what it had.
+-- the judged records of a core's trace: all but its handler steps, each with whether it is nested
+abbrev pub judged_of_core : ℕ → Image → Run → List (Bool × StepRecord)
+judged_of_core core image r = judged_of (code_of image) Plain (records_of core image r).records
+
+-- The judged records before the first breach are a run of the machine with unbounded call frames,
+-- over one legal history; and where there is no breach, they are all judged records of both traces.
+pub record IsRunOfFrames (image : Image) (r : Run) : Type 0 where
+  pub frames : AreFrames (opening image r) (code_of image) (judgement_of image r)
+  pub all0 : (judgement_of image r).breach ≡ None
+      → (judgement_of image r).known.judged0 ≡ judged_of_core 0 image r
+  pub all1 : (judgement_of image r).breach ≡ None
+      → (judgement_of image r).known.judged1 ≡ judged_of_core 1 image r
+
+-- Where the answers for the six window handlers are all `yes` and the two stacks are apart, it is a
+-- run of that machine; and at each position before the first breach each whole stretch of handler
+-- steps has moved one frame, and each nested interrupt is pending in that machine too, and gives
+-- the window handler back what it had.
 abbrev pub IsFramed : Image → Run → Type 0
 IsFramed image r =
     are_yes (handlers_of (code_of image) r.options.vecbase) ≡ true
     → Apart (opening image r).range0 (opening image r).range1
-    → AreFrames (opening image r) (code_of image) (judgement_of image r)
+    → IsRunOfFrames image r
     × RunHasMovedFrames image.segments image.entry r.options (short_of image r)
 
 -- without the premise on the handlers
 abbrev pub IsFrameRunOf : Image → Run → Type 0
 IsFrameRunOf image r =
-    Apart (opening image r).range0 (opening image r).range1
-    → AreFrames (opening image r) (code_of image) (judgement_of image r)
+    Apart (opening image r).range0 (opening image r).range1 → IsRunOfFrames image r
 
 -- the numbers of an image and of the addresses of a run's options are in the ranges of their types
 pub record AreTyped (image : Image) (r : Run) : Type 0 where

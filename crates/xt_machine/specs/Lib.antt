@@ -4,3 +4,4 @@ pub mod Machines
 pub mod Going
 pub mod Shorts
 pub mod Framed
+pub mod InterruptBits

@@ -7,6 +7,7 @@ ghost use Rattle.xt_image.specs.declared.image.Image.{Image};
 ghost use Rattle.xt_rows.specs.Laws.{IsWord};
 ghost use Rattle.xt_core.specs.Runs.{IsRunOf};
 ghost use Rattle.xt_machine.specs.Framed.{RunsAreFramed};
+ghost use Rattle.xt_machine.specs.InterruptBits.{BitsAgree};
 ghost use Rattle.xt_machine.specs.Lists.{HasSchedule, run_of_list, schedule_in};
 
 /// The run of any list of cores is a run of the image.
@@ -30,6 +31,12 @@ pub fn run_has_schedule()
 /// unbounded call frames, and each whole stretch of handler steps has moved one frame.
 pub fn runs_are_framed()
     ensures { RunsAreFramed }
+{}
+
+/// The five definitions of the bits of interrupts agree: each bit of a level is software's or a timer's,
+/// INTENABLE keeps these, and a timer sets the bit that a write of its CCOMPARE clears.
+pub fn interrupt_bits_agree()
+    ensures { BitsAgree }
 {}
 
 /// A number of 32 bits is a word, by its type.

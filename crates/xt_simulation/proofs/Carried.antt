@@ -1,8 +1,6 @@
 -- A window handler's relation, where a step of a nested interrupt has changed THREADPTR and special registers alike in both machines.
-use Rattle.std.proofs.Common.{◌≡◌, ℕ, ◌≢◌, Bool, false, List, length, get_or, sym, ap, ◌∙◌, refl, arith, subst}
-use Rattle.std.proofs.Math.ListN.{set}
-use Rattle.std.proofs.lemmas.Bool.{false≢true}
-use Rattle.std.proofs.lemmas.List.{get_or-set_other, length-set}
+use Rattle.std.proofs.Common.{◌≡◌, ℕ, zero, suc, ◌≢◌, Bool, false, eqb, List, [], ◌∷◌, length, get_or, sym, ap, ◌∙◌, refl, arith, ⊎_elim, subst}
+use Rattle.std.proofs.lemmas.Bool.{cases_Bool, cond-true, cond-false, eqb-true, false≢true}
 use Rattle.xt_map.specs.declared.contents.MemoryContents.{MemoryContents}
 use Rattle.xt_special.specs.declared.ps.Ps.{Ps}
 use Rattle.xt_special.specs.Numbers as number
@@ -11,7 +9,6 @@ use Rattle.xt_special.specs.Shape.{HasShape}
 use Rattle.xt_rows.specs.Laws.{IsWord}
 use Rattle.xt_exec.specs.State.{State}
 use Rattle.xt_exec.specs.Laws.{AreWords, IsShaped}
-use Rattle.xt_exec.proofs.Specials.{words_set}
 use Rattle.xt_frames.specs.Frames.{Frame, FrameState, known, moved}
 use Rattle.xt_frames.specs.FrameStep.{laid}
 use Rattle.xt_frames.specs.SaveAreas.{areas, covers_byte, is_live}
@@ -25,36 +22,41 @@ use Rattle.xt_simulation.specs.Stacks.{Saved, sp_under}
 use Rattle.xt_simulation.specs.Ring.{Windows}
 use Rattle.xt_simulation.specs.Relation.{Same, Plain, inputs, lost_at}
 use Rattle.xt_simulation.specs.Cores.{word, Related}
-use Rattle.xt_simulation.specs.InHandlers.{as_left, special_left, start_of}
+use Rattle.xt_simulation.specs.InHandlers.{as_left, left, special_left, start_of}
 use Rattle.xt_simulation.specs.Stretches.{InHandler}
 use Rattle.xt_simulation.specs.Handling.{Begins, Handling, machine}
 use Rattle.xt_simulation.proofs.Evenly.{not_lost}
 use Rattle.xt_simulation.proofs.Laid.{laid_length, laid_other, relaid, same_relaid}
 
--- ---- the special registers as they are left, but EPC1, INTERRUPT and CCOUNT
-pub left_length : (old new : List ℕ) → length (special_left old new) ≡ length new
-left_length old new =
-    let epc = set new 177 (get_or old 177 0) in
-    let bits = set epc 226 (get_or old 226 0) in
-    length-set bits 234 (get_or old 234 0) ∙ (length-set epc 226 (get_or old 226 0) ∙ length-set new 177 (get_or old 177 0))
+-- ---- the special registers as they are left
+left_is : (old from to : ℕ) → from ≡ old → left old from to ≡ to
+left_is old from to e = ⊎_elim
+    (λ same. cond-true (eqb to from) old to same ∙ (sym e ∙ sym (eqb-true to from same)))
+    (λ other. cond-false (eqb to from) old to other)
+    (cases_Bool (eqb to from))
 
-pub left_other : (old new : List ℕ) (k : ℕ) → k ≢ 177 → k ≢ 226 → k ≢ 234 → get_or (special_left old new) k 0 ≡ get_or new k 0
-left_other old new k a b c =
-    let epc = set new 177 (get_or old 177 0) in
-    let bits = set epc 226 (get_or old 226 0) in
-    get_or-set_other bits 234 k (get_or old 234 0) 0 c ∙ (get_or-set_other epc 226 k (get_or old 226 0) 0 b ∙ get_or-set_other new 177 k (get_or old 177 0) 0 a)
+left_word : (old from to : ℕ) → IsWord old → IsWord to → IsWord (left old from to)
+left_word old from to a b = ⊎_elim
+    (λ same. subst IsWord (sym (cond-true (eqb to from) old to same)) a)
+    (λ other. subst IsWord (sym (cond-false (eqb to from) old to other)) b)
+    (cases_Bool (eqb to from))
 
-left_words : (old new : List ℕ) → AreWords old → AreWords new → AreWords (special_left old new)
-left_words old new o n =
-    let epc = set new 177 (get_or old 177 0) in
-    let bits = set epc 226 (get_or old 226 0) in
-    words_set bits 234 (get_or old 234 0) (words_set epc 226 (get_or old 226 0) (words_set new 177 (get_or old 177 0) n (o 177)) (o 226)) (o 234)
+left_length : (old from to : List ℕ) → length old ≡ length to → length from ≡ length to → length (special_left old from to) ≡ length to
+left_length [] [] [] a b = refl
+left_length (x ∷ xs) (y ∷ ys) (z ∷ zs) a b = let rest = left_length xs ys zs (omega arith) (omega arith) in omega arith
+left_length [] froms (z ∷ zs) a b = omega arith
+left_length (x ∷ xs) froms [] a b = omega arith
+left_length (x ∷ xs) [] (z ∷ zs) a b = omega arith
+left_length [] (y ∷ ys) [] a b = omega arith
 
-left_shape : (old new : List ℕ) → HasShape new → HasShape (special_left old new)
-left_shape old new h = record {
-  sar_fits = rw (left_other old new 3 (λ e. omega arith) (λ e. omega arith) (λ e. omega arith)) h.sar_fits;
-  vecbase_aligned = rw (left_other old new 231 (λ e. omega arith) (λ e. omega arith) (λ e. omega arith)) h.vecbase_aligned;
-}
+left_at : (old from to : List ℕ) → length old ≡ length to → length from ≡ length to → (k : ℕ) → get_or (special_left old from to) k 0 ≡ left (get_or old k 0) (get_or from k 0) (get_or to k 0)
+left_at [] [] [] a b k = refl
+left_at (x ∷ xs) (y ∷ ys) (z ∷ zs) a b zero = refl
+left_at (x ∷ xs) (y ∷ ys) (z ∷ zs) a b (suc k) = left_at xs ys zs (omega arith) (omega arith) k
+left_at [] froms (z ∷ zs) a b k = absurd (omega arith)
+left_at (x ∷ xs) froms [] a b k = absurd (omega arith)
+left_at (x ∷ xs) [] (z ∷ zs) a b k = absurd (omega arith)
+left_at [] (y ∷ ys) [] a b k = absurd (omega arith)
 
 -- ---- a step that keeps what RFI 5 gives back
 -- Of the states t before it and `after` after it, and of the frame states f and g, where PC, PS, registers and window are those that
@@ -90,103 +92,135 @@ module _ {b : Bounds} {t after : State} {f g : FrameState} (c : Carries b t afte
   epc1_lost : (k : ℕ) → lost_at false g k ≡ false → k ≢ 177
   epc1_lost k known e = false≢true (sym known ∙ ap (lost_at false g) e)
 
-  special_even : (old : List ℕ) → Same (lost_at false g) (special_left old after.control.special) (relaid (special_left old after.control.special) g.control.special)
-  special_even old =
-      let count = special_of after.control 234 in
-      let bits = special_of after.control 226 in
-      same_relaid (lost_at false g) (special_left old after.control.special) g.control.special
-      (left_length old after.control.special ∙ (c.special.size ∙ laid_length g.control.special count bits))
-      c.special.only
-      (λ k known not_bits not_count.
-      left_other old after.control.special k (epc1_lost k known) not_bits not_count ∙ (c.special.at k known ∙ laid_other g.control.special count bits k not_bits not_count))
-
   -- ---- where the handler began
-  vectors_left : (before : State) → special_of (as_left before after).control number.vecbase ≡ b.vecbase
-  vectors_left before =
-      left_other before.control.special after.control.special 231 (λ e. omega arith) (λ e. omega arith) (λ e. omega arith)
-      ∙ (c.special.at 231 (not_lost c.special 231 refl)
-      ∙ (laid_other g.control.special (special_of after.control 234) (special_of after.control 226) 231 (λ e. omega arith) (λ e. omega arith)
-      ∙ c.vectors))
+  module _ {before : State} (i : InHandler before.control t.control before.base) (begun : IsShaped before) where
+    abbrev special : List ℕ
+    special = special_left before.control.special t.control.special after.control.special
 
-  module _ {lost : ℕ → Bool} {before : State} {ring spilled : List Frame} (running : before.control.waits ≡ false) where
-    plain_left : Plain b.vecbase lost before f ring spilled → Plain b.vecbase (lost_at false g) (as_left before after) g ring spilled
-    plain_left l = record {
-      windows = subst (λ seen. Windows before.regs before.base before.start seen ring (moved spilled)) (sym c.seen) l.windows;
-      frames = c.frames ∙ l.frames;
-      older = l.older;
-      even = record {
-        pc = l.even.pc ∙ sym c.framed_pc;
-        ps = l.even.ps ∙ sym (c.framed_ps before.control.ps.owb);
-        threadptr = c.threadptr;
-        waits = running ∙ sym c.awake;
-        special = special_even before.control.special;
+    from_size : length t.control.special ≡ length after.control.special
+    from_size = i.size ∙ (begun.control.count ∙ sym c.count)
+
+    old_size : length before.control.special ≡ length after.control.special
+    old_size = begun.control.count ∙ sym c.count
+
+    left_size : length special ≡ length after.control.special
+    left_size = left_length before.control.special t.control.special after.control.special old_size from_size
+
+    at : (k : ℕ) → get_or special k 0 ≡ left (get_or before.control.special k 0) (get_or t.control.special k 0) (get_or after.control.special k 0)
+    at k = left_at before.control.special t.control.special after.control.special old_size from_size k
+
+    -- but EPC1, INTERRUPT and CCOUNT
+    left_other : (k : ℕ) → k ≢ 177 → k ≢ 226 → k ≢ 234 → get_or special k 0 ≡ get_or after.control.special k 0
+    left_other k not_epc not_bits not_count =
+        at k ∙ left_is (get_or before.control.special k 0) (get_or t.control.special k 0) (get_or after.control.special k 0) (i.special k not_epc not_bits not_count)
+
+    left_words : AreWords special
+    left_words k = subst IsWord (sym (at k)) (left_word (get_or before.control.special k 0) (get_or t.control.special k 0) (get_or after.control.special k 0) (begun.control.words k) (c.words k))
+
+    left_shape : HasShape special
+    left_shape = record {
+      sar_fits = rw (left_other 3 (λ e. omega arith) (λ e. omega arith) (λ e. omega arith)) c.shape.sar_fits;
+      vecbase_aligned = rw (left_other 231 (λ e. omega arith) (λ e. omega arith) (λ e. omega arith)) c.shape.vecbase_aligned;
+    }
+
+    left_threadptr : left before.control.threadptr t.control.threadptr after.control.threadptr ≡ after.control.threadptr
+    left_threadptr = left_is before.control.threadptr t.control.threadptr after.control.threadptr i.threadptr
+
+    special_even : Same (lost_at false g) special (relaid special g.control.special)
+    special_even =
+        let count = special_of after.control 234 in
+        let bits = special_of after.control 226 in
+        same_relaid (lost_at false g) special g.control.special
+        (left_size ∙ (c.special.size ∙ laid_length g.control.special count bits))
+        c.special.only
+        (λ k known not_bits not_count. left_other k (epc1_lost k known) not_bits not_count ∙ (c.special.at k known ∙ laid_other g.control.special count bits k not_bits not_count))
+
+    vectors_left : special_of (as_left before t after).control number.vecbase ≡ b.vecbase
+    vectors_left =
+        left_other 231 (λ e. omega arith) (λ e. omega arith) (λ e. omega arith)
+        ∙ (c.special.at 231 (not_lost c.special 231 refl)
+        ∙ (laid_other g.control.special (special_of after.control 234) (special_of after.control 226) 231 (λ e. omega arith) (λ e. omega arith)
+        ∙ c.vectors))
+
+    module _ {lost : ℕ → Bool} {ring spilled : List Frame} (running : before.control.waits ≡ false) where
+      plain_left : Plain b.vecbase lost before f ring spilled → Plain b.vecbase (lost_at false g) (as_left before t after) g ring spilled
+      plain_left l = record {
+        windows = subst (λ seen. Windows before.regs before.base before.start seen ring (moved spilled)) (sym c.seen) l.windows;
+        frames = c.frames ∙ l.frames;
+        older = l.older;
+        even = record {
+          pc = l.even.pc ∙ sym c.framed_pc;
+          ps = l.even.ps ∙ sym (c.framed_ps before.control.ps.owb);
+          threadptr = left_threadptr ∙ c.threadptr;
+          waits = running ∙ sym c.awake;
+          special = special_even;
+        };
+        woe = l.woe;
+        calls = l.calls;
+        vectors = vectors_left;
+      }
+
+      related_left : {m : ℕ → ℕ} → Related m b lost before f ring spilled → Related m b (lost_at false g) (as_left before t after) g ring spilled
+      related_left {m = m} r = record {
+        plain = plain_left r.plain;
+        stack = subst (λ seen. Stack b.range.lo b.range.hi seen g.frames) (sym c.seen) (subst (λ frames. Stack b.range.lo b.range.hi f.seen frames) (sym c.frames) r.stack);
+        saved = subst (λ seen. Saved (word m) b.range.hi (sp_under (known seen 1) ring) spilled) (sym c.seen) r.saved;
+      }
+
+    begins_left : (side : Side) (lost : ℕ → Bool) (opened : ℕ → ℕ) (front : List Frame) (moving : Frame) (rest : List Frame) → before.control.waits ≡ false
+        → Begins side opened b lost before f front moving rest → Begins side opened b (lost_at false g) (as_left before t after) g front moving rest
+    begins_left Overflow lost opened front moving rest running r = related_left running r
+    begins_left Underflow lost opened front moving rest running r = related_left running r
+
+    shaped_left : IsShaped (as_left before t after)
+    shaped_left = record {
+      count = begun.count;
+      words = begun.words;
+      base = begun.base;
+      start = begun.start;
+      control = record {
+        pc = begun.control.pc;
+        count = left_size ∙ c.count;
+        words = left_words;
+        shape = left_shape;
+        ps = begun.control.ps;
+        threadptr = left_word before.control.threadptr t.control.threadptr after.control.threadptr begun.control.threadptr c.pointer;
       };
-      woe = l.woe;
-      calls = l.calls;
-      vectors = vectors_left before;
     }
 
-    related_left : {m : ℕ → ℕ} → Related m b lost before f ring spilled → Related m b (lost_at false g) (as_left before after) g ring spilled
-    related_left {m = m} r = record {
-      plain = plain_left r.plain;
-      stack = subst (λ seen. Stack b.range.lo b.range.hi seen g.frames) (sym c.seen) (subst (λ frames. Stack b.range.lo b.range.hi f.seen frames) (sym c.frames) r.stack);
-      saved = subst (λ seen. Saved (word m) b.range.hi (sp_under (known seen 1) ring) spilled) (sym c.seen) r.saved;
+    -- ---- how far it is
+    control_left : before.control.waits ≡ false → InHandler (as_left before t after).control after.control before.base
+    control_left running = record {
+      ps = c.ps ∙ i.ps;
+      epc1 = c.epc1 ∙ i.epc1;
+      threadptr = sym left_threadptr;
+      waits = c.running ∙ sym running;
+      size = sym left_size;
+      special = λ k not_epc not_bits not_count. sym (left_other k not_epc not_bits not_count);
     }
-
-  begins_left : (side : Side) (lost : ℕ → Bool) (before : State) (opened : ℕ → ℕ) (front : List Frame) (moving : Frame) (rest : List Frame) → before.control.waits ≡ false
-      → Begins side opened b lost before f front moving rest → Begins side opened b (lost_at false g) (as_left before after) g front moving rest
-  begins_left Overflow lost before opened front moving rest running r = related_left running r
-  begins_left Underflow lost before opened front moving rest running r = related_left running r
-
-  shaped_left : (before : State) → IsShaped before → IsShaped (as_left before after)
-  shaped_left before s = record {
-    count = s.count;
-    words = s.words;
-    base = s.base;
-    start = s.start;
-    control = record {
-      pc = s.control.pc;
-      count = left_length before.control.special after.control.special ∙ c.count;
-      words = left_words before.control.special after.control.special s.control.words c.words;
-      shape = left_shape before.control.special after.control.special c.shape;
-      ps = s.control.ps;
-      threadptr = c.pointer;
-    };
-  }
-
-  -- ---- how far it is
-  control_left : (before : State) → before.control.waits ≡ false → InHandler before.control t.control before.base → InHandler (as_left before after).control after.control before.base
-  control_left before running h = record {
-    ps = c.ps ∙ h.ps;
-    epc1 = c.epc1 ∙ h.epc1;
-    threadptr = refl;
-    waits = c.running ∙ sym running;
-    size = sym (left_length before.control.special after.control.special);
-    special = λ k not_epc not_bits not_count. sym (left_other before.control.special after.control.special k not_epc not_bits not_count);
-  }
 
   same_machine : (m : MemoryContents) → machine m t ≡ machine m after
   same_machine m = let r = sym c.regs in let w = sym c.base in rw (r, w) refl
 
-  pub carried : {code : ℕ → ℕ} {m : MemoryContents} {before : State} {opened : ℕ → ℕ} → Handling code b m t f before opened → Handling code b m after g (as_left before after) opened
+  pub carried : {code : ℕ → ℕ} {m : MemoryContents} {before : State} {opened : ℕ → ℕ} → Handling code b m t f before opened → Handling code b m after g (as_left before t after) opened
   carried {m = m} {before = before} {opened = opened} h = record {
     side = h.side;
     fresh = false;
     front = h.front;
     g = h.g;
     rest = h.rest;
-    begins = begins_left h.side (lost_at h.fresh f) before opened h.front h.g h.rest h.running h.begins;
+    begins = begins_left h.control h.shaped h.side (lost_at h.fresh f) opened h.front h.g h.rest h.running h.begins;
     moves = h.moves;
     within = h.within;
     low = h.low;
     running = h.running;
-    shaped = shaped_left before h.shaped;
+    shaped = shaped_left h.control h.shaped;
     offset = h.offset;
     effect = h.effect;
     flags = h.flags;
     pc = c.pc ∙ h.pc;
     handles = h.handles;
-    control = control_left before h.running h.control;
+    control = control_left h.control h.shaped h.running;
     bits = c.start ∙ h.bits;
     stands = subst (λ (x : Machine). Stands h.side h.g.by (start_of before opened h.rest) h.effect h.flags x) (same_machine m) h.stands;
     kept = λ a live free. h.kept a (sym (live_same b f g c.seen c.frames a) ∙ live) free;

@@ -66,7 +66,7 @@ use Rattle.xt_fetch.specs.Code.{AreBytes}
 use Rattle.xt_simulation.proofs.Fetched.{byte_is as fetched_byte, bytes_length, byte_small, fetched_is, step_is, vector_fetches, vector_handles, fetch_small, length_is}
 use Rattle.xt_simulation.proofs.Plans.{plan_asks}
 use Rattle.xt_simulation.proofs.Turns.{Shown, quiet_level, shown, turned, Turned, load, store, wide_nop, narrow_nop, ends_overflow, ends_underflow, other, Ended, ends_with_rfwo, ends_with_rfwu}
-use Rattle.xt_simulation.proofs.SaveWords.{save_covers, in_areas, stood_before, spilled_before}
+use Rattle.xt_simulation.proofs.SaveWords.{save_covers, in_areas, stood_before, spilled_before, newest_before, oldest_before}
 use Rattle.xt_simulation.proofs.Begun.{Found, found, stack_of, own_live, same_visible}
 
 -- ---- the handler's state, where another memory has the same bytes
@@ -347,6 +347,8 @@ moves_frame side b m before after opened f front g rest lost begins r settles st
   frames = frames_at side opened b lost before f front g rest begins;
   areas = in_areas r;
   stood = stood_before side opened b lost before f front g rest begins;
+  newest = newest_before side opened b lost before f front g rest begins;
+  oldest = oldest_before side opened b lost before f front g rest begins;
   spilled = spilled_before side opened b lost before f front g rest begins;
   stretch = stretch;
   seen = λ i v e. (seen_before side opened b lost before f front g rest begins i v e, seen_after side (byte_at m) b after f front g rest settles i v e);

@@ -27,8 +27,10 @@ use Rattle.xt_simulation.specs.Walking.{Apart}
 use Rattle.xt_simulation.specs.Opening.{IsOpening, IsStack, AreSmall, IsRunnable, openings_of, range_of}
 use Rattle.xt_simulation.specs.Headline.{IsCovered, WindowsAreFrames, AreFrames, opening_of, judged_in, records0, records1}
 use Rattle.xt_simulation.specs.Headline.{HaveMovedFrames, StretchesOfImages}
+use Rattle.xt_simulation.specs.Headline.{AreAllJudged, ImagesAreAllJudged}
 use Rattle.xt_simulation.proofs.Headline.{runs_are_frames}
 use Rattle.xt_simulation.proofs.Positions.{stretches_of_runs}
+use Rattle.xt_simulation.proofs.AllJudged.{runs_are_all_judged}
 
 -- the run with its records
 with_records : (o : Opening State) (code : ℕ → ℕ) → ShortRun State → Run State
@@ -110,3 +112,12 @@ stretches_of_images segments entry o r given handlers apart run =
     let opening : Opening State = opening_of at o.turns0 o.turns1 in
     let P : List ℕ → Type 0 = λ cores. HaveMovedFrames at code o.turns0 o.turns1 cores (records0 at code o.turns0 r) (records1 at code o.turns1 r) in
     subst P (same_schedule opening code r run) (stretches_of_runs at code o.turns0 o.turns1 (with_records opening code r) (covered_by segments entry o given handlers apart) (is_run opening code r run))
+
+pub images_are_all_judged : ImagesAreAllJudged
+unfolding with_records
+images_are_all_judged segments entry o r run =
+    let at = openings_of segments entry o in
+    let code = constant_byte segments in
+    let opening : Opening State = opening_of at o.turns0 o.turns1 in
+    let P : List ℕ → Type 0 = λ cores. AreAllJudged at code cores (records0 at code o.turns0 r) (records1 at code o.turns1 r) in
+    subst P (same_schedule opening code r run) (runs_are_all_judged at code o.turns0 o.turns1 (with_records opening code r) (is_run opening code r run))

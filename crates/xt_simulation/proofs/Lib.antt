@@ -39,5 +39,7 @@ pub mod InnerRows
 pub mod InnerMarks
 pub mod Carried
 pub mod Taken
+pub mod Pending
+pub mod AllJudged
 pub mod Resumed
 pub mod Suspended

@@ -210,12 +210,12 @@ module _ {code : ℕ → ℕ} {b : Bounds} {m : MemoryContents} {s : State} {f :
   pub ends_shaped : AreBytes code → IsShaped (state_now code m s)
   ends_shaped bytes = shaped_silent code m s bytes shaped (plan_asks code s (done (Does (back s.control)) e.len s) plan)
 
-  pub ends_handling : AreBytes code → Handling code b m (state_now code m s) (step_on code true (record_now code m s) f).after (as_left before (state_now code m s)) opened
+  pub ends_handling : AreBytes code → Handling code b m (state_now code m s) (step_on code true (record_now code m s) f).after (as_left before s (state_now code m s)) opened
   ends_handling bytes =
       let state : state_now code m s ≡ returned = back_state code s (reply_now code m s) e.len plan in
       let P : State → Type 0 = λ t. IsShaped t in
-      let Q : State → Type 0 = λ t. Handling code b m t (step_on code true (record_now code m s) f).after (as_left before t) opened in
-      let R : FrameTurn → Type 0 = λ u. Handling code b m returned u.after (as_left before returned) opened in
+      let Q : State → Type 0 = λ t. Handling code b m t (step_on code true (record_now code m s) f).after (as_left before s t) opened in
+      let R : FrameTurn → Type 0 = λ u. Handling code b m returned u.after (as_left before s returned) opened in
       subst Q (sym state) (subst R (sym ends_step) (carried (ends_carries (subst P state (ends_shaped bytes))) handling))
 
   pub ends_nothing : (step_on code true (record_now code m s) f).after.nested ≡ None

@@ -1,5 +1,5 @@
 -- The words that a handler stores or loads are those of the moved frame's save areas, and its window stands or does not.
-use Rattle.std.proofs.Common.{◌≡◌, ⊎_elim, inl, inr, ℕ, ◌+◌, ◌-◌, ◌*◌, ◌<◌, ◌≤◌, Bool, true, false, ltb, eqb, sym, refl, ◌∙◌, ap, arith, List}
+use Rattle.std.proofs.Common.{◌≡◌, ⊎_elim, inl, inr, ℕ, ◌+◌, ◌-◌, ◌*◌, ◌%◌, ◌<◌, ◌≤◌, Bool, true, false, ltb, eqb, sym, refl, ◌∙◌, ap, arith, List, [], ◌∷◌, ◌++◌}
 use Rattle.std.proofs.lemmas.Bool.{cases_lt, cond-true, cond-false, lt-ltb, le-ltb, or_right, eq-eqb, ne_eqb}
 use Rattle.xt_exec.specs.State.{State}
 use Rattle.xt_window.specs.Ring.{bit}
@@ -16,6 +16,7 @@ use Rattle.xt_simulation.specs.InHandlers.{start_of, above, saved_at, InAreas}
 use Rattle.xt_simulation.specs.Handling.{Begins}
 use Rattle.xt_simulation.proofs.Modular.{bit_at_window}
 use Rattle.xt_simulation.proofs.Closed.{stands_end}
+use Rattle.xt_simulation.proofs.RingLemmas.{stands_above}
 use Rattle.xt_simulation.proofs.Begun.{Found, own_live}
 
 -- a byte of a save word is the frame's own
@@ -57,3 +58,19 @@ spilled_before Underflow m b lost s f front g rest l e =
     bit_at_window s.start (moved rest) (moved rest + 16) (omega arith)
     ∙ (l.plain.windows.bits (moved rest + 16) (omega arith) (omega arith) ∙ ne_eqb (moved rest + 16) (g.by + moved rest) (λ z. omega arith))
 spilled_before Overflow m b lost s f front g rest l e = absurd cc
+
+-- ---- which frame it is
+moved_both : (xs ys : List Frame) → moved (xs ++ ys) ≡ moved xs + moved ys
+moved_both [] ys = omega arith
+moved_both (x ∷ xs) ys = let rest = moved_both xs ys in omega arith
+
+pub newest_before : (side : Side) (m : ℕ → ℕ) (b : Bounds) (lost : ℕ → Bool) (s : State) (f : FrameState) (front : List Frame) (g : Frame) (rest : List Frame) → Begins side m b lost s f front g rest → s.base ≡ moved f.frames % 16
+newest_before Overflow m b lost s f front g rest l = l.plain.windows.based ∙ ap (λ n. n % 16) (sym (ap moved l.plain.frames ∙ moved_both (front ++ g ∷ []) rest))
+newest_before Underflow m b lost s f front g rest l = l.plain.windows.based ∙ ap (λ n. n % 16) (sym (ap moved l.plain.frames ∙ moved_both [] (g ∷ rest)))
+
+pub oldest_before : (side : Side) (m : ℕ → ℕ) (b : Bounds) (lost : ℕ → Bool) (s : State) (f : FrameState) (front : List Frame) (g : Frame) (rest : List Frame) → Begins side m b lost s f front g rest
+    → side ≡ Overflow → (w : ℕ) → moved f.frames < w → w < moved rest + 16 → bit s.start w ≡ false
+oldest_before Overflow m b lost s f front g rest l e w above_newest below =
+    let all : moved f.frames ≡ moved (front ++ g ∷ []) + moved rest = ap moved l.plain.frames ∙ moved_both (front ++ g ∷ []) rest in
+    l.plain.windows.bits w (omega arith) (omega arith) ∙ stands_above w (front ++ g ∷ []) (moved rest) (omega arith)
+oldest_before Underflow m b lost s f front g rest l e w above_newest below = absurd cc

@@ -89,7 +89,7 @@ module _ (code : ℕ → ℕ) (bytes : AreBytes code) (b : Bounds) (good : IsGoo
       (λ a live. live_kept (live_of b f others) stale m (demand code s) a areas (or_left (is_live b.range f a) (others a) (sym (live_same b f g seen frames a) ∙ live)))
 
   abbrev Kept : Type 0
-  Kept = Matches h.x.pc (record_now code m s) u framed × Continues code b (memory_now code m s) now u.after (as_left before now) opened suspended
+  Kept = Matches h.x.pc (record_now code m s) u framed × Continues code b (memory_now code m s) now u.after (as_left before s now) opened suspended
 
   -- ---- RFI 5
   kept_ending : Ends code s h.x → Kept

@@ -2,7 +2,7 @@
 use Rattle.std.proofs.Common.{◌≡◌, ℕ, ◌≢◌, ◌<◌, zero, suc, Bool, true, false, ◌||◌, cond, eqb, ltb, List, length, get_or, replicate, Option, Some, None, sym, ap, ◌∙◌, refl, arith, ⊎_elim, subst, ◌+◌, ◌*◌}
 use Rattle.std.specs.Prelude.{unwrap_or}
 use Rattle.std.proofs.Math.ListN.{set}
-use Rattle.std.proofs.lemmas.Bool.{cases_Bool, cases_eq, eqb-true, false≢true, or_parts}
+use Rattle.std.proofs.lemmas.Bool.{cases_Bool, cases_eq, eqb-true, false≢true, lt-ltb, or_parts}
 use Rattle.std.proofs.lemmas.List.{get_or-set_same, get_or-set_other, length-set}
 use Rattle.xt_isa.specs.declared.Insn.{Insn}
 use Rattle.xt_map.specs.declared.contents.MemoryContents.{MemoryContents}
@@ -84,17 +84,19 @@ fetched_quiet (Fails address) code s = refl
 fetched_quiet SpellsNothing code s = refl
 fetched_quiet (Fetches i len) code s = if_quiet (is_illegal i s) (raises illegal_instruction s) (checked (window_check i s) code i len s) refl (checked_quiet (window_check i s) code i len s)
 
-pub nesting_taken : (code : ℕ → ℕ) (s : State) → is_nesting (planned code s).kind ≡ true → planned code s ≡ in_window (settled_interrupt 5 s.control) s
-nesting_taken code s h = ⊎_elim
-    (λ yes_.
-    let t = turn_taken code s yes_ in
-    let five : eqb (pending_of s.control) 5 ≡ true = sym (ap (λ (p : Planned). is_nesting p.kind) t) ∙ h in
-    t ∙ ap (λ n. in_window (settled_interrupt n s.control) s) (eqb-true (pending_of s.control) 5 five))
+pub level_taken : (code : ℕ → ℕ) (s : State) → is_nesting (planned code s).kind ≡ true → pending_of s.control ≡ 5
+level_taken code s h = ⊎_elim
+    (λ yes_. eqb-true (pending_of s.control) 5 (sym (ap (λ (p : Planned). is_nesting p.kind) (turn_taken code s yes_)) ∙ h))
     (λ quiet. ⊎_elim
     (λ waits. absurd (false≢true (sym (ap (λ (p : Planned). is_nesting p.kind) (turn_waits code s quiet waits)) ∙ h)))
     (λ runs. absurd (false≢true (sym (fetched_quiet (fetched code s.control.pc) code s) ∙ (sym (ap (λ (p : Planned). is_nesting p.kind) (turn_fetches code s quiet runs)) ∙ h))))
     (cases_Bool s.control.waits))
     (cases_Bool (ltb 0 (pending_of s.control)))
+
+pub nesting_taken : (code : ℕ → ℕ) (s : State) → is_nesting (planned code s).kind ≡ true → planned code s ≡ in_window (settled_interrupt 5 s.control) s
+nesting_taken code s h =
+    let five = level_taken code s h in
+    turn_taken code s (lt-ltb 0 (pending_of s.control) (omega (arith, five))) ∙ ap (λ n. in_window (settled_interrupt n s.control) s) five
 
 -- ---- EPC5 and EPS5
 -- they have no number then
@@ -325,8 +327,8 @@ taken_begin code bytes b good m s f before opened h none shaped count nesting =
     let l = beside h in
     let next : IsShaped (state_now code m s) = shaped_silent code m s bytes shaped (asks_nothing code s is) in
     let P : State → Type 0 = λ t. IsShaped t in
-    let Q : State → Type 0 = λ t. Suspends code b m t (step_on code true (record_now code m s) f).after (as_left before t) opened s in
-    let R : FrameTurn → Type 0 = λ u. Suspends code b m (record s { control = ticked (after_interrupt 5 s.control) }) u.after (as_left before (record s { control = ticked (after_interrupt 5 s.control) })) opened s in
+    let Q : State → Type 0 = λ t. Suspends code b m t (step_on code true (record_now code m s) f).after (as_left before s t) opened s in
+    let R : FrameTurn → Type 0 = λ u. Suspends code b m (record s { control = ticked (after_interrupt 5 s.control) }) u.after (as_left before s (record s { control = ticked (after_interrupt 5 s.control) })) opened s in
     subst Q (sym state) (subst R (sym step) (record {
       x = fresh_nested l shaped count;
       nested = begun_nested l shaped count;

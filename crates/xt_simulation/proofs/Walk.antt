@@ -18,6 +18,7 @@ use Rattle.xt_exec.specs.Laws.{IsShaped}
 use Rattle.xt_exec.specs.Turn.{planned, demand, turn}
 use Rattle.xt_special.specs.Numbers as number
 use Rattle.xt_special.specs.Control.{special_of}
+use Rattle.xt_special.specs.Interrupts.{pending_of}
 use Rattle.xt_exec.proofs.Served.{demand_served}
 use Rattle.xt_stretch.specs.declared.Side.{Side}
 use Rattle.xt_stretch.specs.declared.Side.TheVariants.{Overflow, Underflow}
@@ -25,7 +26,7 @@ use Rattle.xt_frames.specs.declared.kinds.BreachKind.{BreachKind}
 use Rattle.xt_frames.specs.declared.holes.Nested.{Nested}
 use Rattle.xt_frames.specs.Frames.{Frame, FrameState}
 use Rattle.xt_frames.specs.FrameStep.{FrameTurn, laid}
-use Rattle.xt_frames.specs.Nesting.{current, current_in, is_nesting}
+use Rattle.xt_frames.specs.Nesting.{current, current_in, is_nesting, nested_level}
 use Rattle.xt_frames.specs.SaveAreas.{Range, is_live}
 use Rattle.xt_frames.specs.HandlerSteps.{Mode, Plain, Handles, Nests, is_window, closes, returns, mode_after}
 use Rattle.xt_frames.specs.Breaches.{Bounds, inputs_of, breach_of, window_breach, stale_after}
@@ -44,6 +45,7 @@ use Rattle.xt_simulation.specs.Walking.{Entered, Core, World, Moved, entered_by,
 use Rattle.xt_simulation.proofs.Chains.{related_spared, live_in_range}
 use Rattle.xt_simulation.proofs.Handled.{stretches_are_entered, handler_steps_are_kept, handlers_are_spared, stores_alone}
 use Rattle.xt_simulation.proofs.Carried.{live_same}
+use Rattle.xt_simulation.proofs.Pending.{pending_in_frames}
 use Rattle.xt_simulation.proofs.Suspended.{nested_begin, nested_steps_are_kept, nested_are_spared}
 use Rattle.xt_simulation.proofs.Memories.{live_kept, step_memory, memories_agree}
 use Rattle.xt_simulation.proofs.Judges.{judge_keeps, judge_areas, judge_plain, shaped_now, same_laid, record_access}
@@ -480,10 +482,19 @@ module _ (code : ℕ → ℕ) (bytes : AreBytes code) where
   mode_alone Plain b good m fresh s f e h shaped real is = absurd cc
   mode_alone Nests b good m fresh s f e h shaped real is = absurd cc
 
+  -- a nested interrupt is taken where the frame state has it pending
+  mode_pending : (mode : Mode) (b : Bounds) (m : MemoryContents) (fresh : Bool) (s : State) (f : FrameState) (e : Entered) → InCore mode m b fresh s f e → IsShaped s
+      → mode ≡ Handles → is_nesting (planned code s).kind ≡ true → pending_of (laid (inputs_of (record_now code m s)) f).control ≡ nested_level
+  unfolding InCore
+  mode_pending Handles b m fresh s f e h shaped is nesting = pending_in_frames h.0 shaped nesting
+  mode_pending Plain b m fresh s f e h shaped is nesting = absurd cc
+  mode_pending Nests b m fresh s f e h shaped is nesting = absurd cc
+
   core_keeps : (b : Bounds) (good : IsGood code b) (m : MemoryContents) (c : Core) → InCore c.standing.mode m b c.standing.fresh c.state c.standing.frame c.entered → IsShaped c.state → IsMemory m → KeepsStretches code b m c
   core_keeps b good m c h shaped real = (
     (λ is closed_. mode_ends c.standing.mode b good m c.standing.fresh c.state c.standing.frame c.entered h shaped real is closed_),
     (λ is. mode_alone c.standing.mode b good m c.standing.fresh c.state c.standing.frame c.entered h shaped real is),
+    (λ is nesting. mode_pending c.standing.mode b m c.standing.fresh c.state c.standing.frame c.entered h shaped is nesting),
   )
 
   pub both_end : (b c : Bounds) (good : IsGood code b) (other : IsGood code c) (mine theirs : Core) (m framed : MemoryContents) (stale : ℕ → Bool) → Both b c mine theirs m framed stale → KeepsStretches code b m mine × KeepsStretches code c m theirs

@@ -17,6 +17,8 @@ use Rattle.xt_trace.specs.Worlds as worlds
 use Rattle.xt_exec.specs.State.{State}
 use Rattle.xt_exec.specs.Chips.{processor}
 use Rattle.xt_frames.specs.declared.kinds.Breach.{Breach}
+use Rattle.xt_frames.specs.FirstBreach.{judged_of}
+use Rattle.xt_frames.specs.HandlerSteps.{Plain}
 use Rattle.xt_frames.specs.Verdict.{Known, Judgement, judgement, opening_known, IsFrameRun}
 use Rattle.xt_stretch.specs.declared.Side.TheVariants.{Overflow, Underflow}
 use Rattle.xt_stretch.specs.declared.HandlerVerdict.TheVariants.{Yes}
@@ -56,7 +58,7 @@ TurnsAreFrames =
     → IsWorldRun code (memory_of o) (frame_of (state0 o)) (frame_of (state1 o)) w
 
 -- and at each place of it, where a core's next turn ends a stretch of handler steps, the stretch
--- has moved one frame
+-- has moved one frame; and where it begins a nested interrupt, the frame state has it pending too
 abbrev pub StretchesMoveFrames : Type 0
 StretchesMoveFrames =
     (o : Openings) (code : ℕ → ℕ) → IsCovered o code
@@ -141,8 +143,8 @@ pub record Knows (w : World) (k : Known) : Type 0 where
 
 -- The first p turns of a schedule have been walked, beside a judge that knows k past them. The walk
 -- stands where the run does. Where a core's next turn ends a stretch of handler steps, the stretch
--- has moved one frame; where it ends a nested interrupt and shows no breach, the window handler gets
--- back what it had.
+-- has moved one frame; where it begins a nested interrupt, that is pending in the frame state too;
+-- where it ends one and shows no breach, the window handler gets back what it had.
 pub record Position
     (o : Openings) (code : ℕ → ℕ) (turns0 turns1 : ℕ) (cores : List ℕ) (p : ℕ) (k : Known)
     : Type 0 where
@@ -174,6 +176,22 @@ StretchesOfRuns =
     (o : Openings) (code : ℕ → ℕ) (turns0 turns1 : ℕ) (r : Run State) → IsCovered o code
     → IsRunOf (processor code) (opening_of o turns0 turns1) r
     → HaveMovedFrames o code turns0 turns1 (schedule_of r) r.trace0.records r.trace1.records
+
+-- where the judge's walk shows no breach, the records that it has judged are all of both traces but
+-- their handler steps
+abbrev pub AreAllJudged :
+    Openings → (ℕ → ℕ) → List ℕ → List StepRecord → List StepRecord → Type 0
+AreAllJudged o code cores xs ys =
+    (judged_in o code cores xs ys).breach ≡ None
+    → ((judged_in o code cores xs ys).known.judged0 ≡ judged_of code Plain xs)
+    × ((judged_in o code cores xs ys).known.judged1 ≡ judged_of code Plain ys)
+
+-- so of every run
+abbrev pub RunsAreAllJudged : Type 0
+RunsAreAllJudged =
+    (o : Openings) (code : ℕ → ℕ) (turns0 turns1 : ℕ) (r : Run State)
+    → IsRunOf (processor code) (opening_of o turns0 turns1) r
+    → AreAllJudged o code (schedule_of r) r.trace0.records r.trace1.records
 
 -- ---- a run of an image, of which the history and the places of the accesses are kept
 
@@ -212,6 +230,18 @@ RunHasMovedFrames segments entry o r =
     (records0 at code o.turns0 r)
     (records1 at code o.turns1 r)
 
+-- and where there is none, what it has judged is all that is judged of its traces
+abbrev pub RunIsAllJudged : List Segment → ℕ → Options → ShortRun State → Type 0
+RunIsAllJudged segments entry o r =
+    let at = openings_of segments entry o in
+    let code = constant_byte segments in
+    AreAllJudged
+    at
+    code
+    (short_schedule r)
+    (records0 at code o.turns0 r)
+    (records1 at code o.turns1 r)
+
 -- it is a run of the processor from the image's opening
 abbrev pub IsRunOfImage : List Segment → ℕ → Options → ShortRun State → Type 0
 IsRunOfImage segments entry o r =
@@ -236,7 +266,8 @@ WindowsAreFrames =
     (judgement_of segments entry o r)
 
 -- And at each position before the first breach its whole stretches of handler steps have each moved
--- one frame, and its nested interrupts give the window handler back what it had.
+-- one frame, and its nested interrupts are pending in that machine too, and give the window handler
+-- back what it had.
 abbrev pub StretchesOfImages : Type 0
 StretchesOfImages =
     (segments : List Segment) (entry : ℕ) (o : Options) (r : ShortRun State)
@@ -245,3 +276,10 @@ StretchesOfImages =
     → Apart (openings_of segments entry o).range0 (openings_of segments entry o).range1
     → IsRunOfImage segments entry o r
     → RunHasMovedFrames segments entry o r
+
+-- Where there is no first breach, the judged records are all records of both traces but their
+-- handler steps.
+abbrev pub ImagesAreAllJudged : Type 0
+ImagesAreAllJudged =
+    (segments : List Segment) (entry : ℕ) (o : Options) (r : ShortRun State)
+    → IsRunOfImage segments entry o r → RunIsAllJudged segments entry o r

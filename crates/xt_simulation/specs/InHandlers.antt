@@ -1,7 +1,7 @@
 -- What a handler step and a whole stretch of them have done ('profile').
 use Rattle.std.specs.Prelude.{◌≡◌, ◌≢◌, ◌≤◌, ◌<◌, ℕ, ◌+◌, ◌-◌, ◌*◌, ◌%◌, true, false, nat_lt}
-use Rattle.std.specs.Prelude.{if◌then◌else◌, Option, Some, None}
-use Rattle.std.specs.Prelude.{List, [], ◌∷◌, ◌++◌, length, slice_index, slice_index_or, slice_set}
+use Rattle.std.specs.Prelude.{◌==◌, if◌then◌else◌, Option, Some, None}
+use Rattle.std.specs.Prelude.{List, [], ◌∷◌, ◌++◌, length, slice_index, slice_index_or}
 use Rattle.xt_special.specs.Numbers as number
 use Rattle.xt_special.specs.Control.{Control}
 use Rattle.xt_exec.specs.State.{State}
@@ -26,23 +26,22 @@ pub record Resumes (c d : Control) : Type 0 where
   pub special : (k : ℕ) → k ≢ number.epc 1 → k ≢ number.interrupt → k ≢ number.ccount
       → slice_index d.special k ≡ slice_index c.special k
 
--- The state before a stretch, with THREADPTR and the special registers as a nested step has left
--- them, but EPC1, CCOUNT and INTERRUPT. No other step of the stretch writes any of them.
-abbrev pub special_left : List ℕ → List ℕ → List ℕ
-special_left old new =
-    slice_set
-    (slice_set
-    (slice_set new (number.epc 1) (slice_index old (number.epc 1)))
-    number.interrupt
-    (slice_index old number.interrupt))
-    number.ccount
-    (slice_index old number.ccount)
+-- a register after a nested step that has changed it, and else as it was before the stretch
+abbrev pub left : ℕ → ℕ → ℕ → ℕ
+left old from to = if to == from then old else to
 
-abbrev pub as_left : State → State → State
-as_left before now = record before {
+abbrev pub special_left : List ℕ → List ℕ → List ℕ → List ℕ
+special_left (old ∷ olds) (from ∷ froms) (to ∷ tos) =
+    left old from to ∷ special_left olds froms tos
+special_left _ _ _ = []
+
+-- The state before a stretch, with THREADPTR and the special registers that a nested step from this
+-- state to that one has changed.
+abbrev pub as_left : State → State → State → State
+as_left before from to = record before {
   control = record before.control {
-    special = special_left before.control.special now.control.special;
-    threadptr = now.control.threadptr;
+    special = special_left before.control.special from.control.special to.control.special;
+    threadptr = left before.control.threadptr from.control.threadptr to.control.threadptr;
   };
 }
 
@@ -140,6 +139,11 @@ pub record MovesFrame
   pub areas : InAreas b f side (above side front) g rest (start_of before opened rest)
   -- its window stood before an overflow, and not before an underflow
   pub stood : side ≡ Overflow → bit before.start (moved rest) ≡ true
+  -- and in an overflow it is the oldest in the ring: from the newest frame's window round to its
+  -- own no other stands
+  pub newest : before.base ≡ moved f.frames % 16
+  pub oldest : side ≡ Overflow
+      → (w : ℕ) → moved f.frames < w → w < moved rest + 16 → bit before.start w ≡ false
   pub spilled : side ≡ Underflow → bit before.start (moved rest) ≡ false
   pub stretch : Stretch side g.by before after opened now rest
   pub seen : (i v : ℕ) → slice_index_or f.seen i None ≡ Some v

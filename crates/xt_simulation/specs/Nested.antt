@@ -90,7 +90,7 @@ NestedBegin =
     → length f.unset ≡ 256 → is_nesting (planned code s).kind ≡ true
     → Suspends code b m (state_now code m s)
     (step_on code true (record_now code m s) f).after
-    (as_left before (state_now code m s)) opened s
+    (as_left before s (state_now code m s)) opened s
 
 -- the relation after a nested step: of the interrupt, or after RFI 5 of the handler
 abbrev pub Continues :
@@ -112,7 +112,7 @@ NestedStepsAreKept =
     → Matches x.pc (record_now code m s) (step_on code true (record_now code m s) f) framed
     × Continues code b (memory_now code m s) (state_now code m s)
     (step_on code true (record_now code m s) f).after
-    (as_left before (state_now code m s)) opened suspended
+    (as_left before s (state_now code m s)) opened suspended
 
 -- an access of the other core that touches no live byte
 abbrev pub NestedAreSpared : Type 0

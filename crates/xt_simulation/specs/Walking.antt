@@ -5,10 +5,13 @@ use Rattle.xt_map.specs.declared.access.Entry.{Entry}
 use Rattle.xt_map.specs.declared.contents.MemoryContents.{MemoryContents}
 use Rattle.xt_map.specs.History.{IsLegal}
 use Rattle.xt_trace.specs.declared.record.StepRecord.{StepRecord}
+use Rattle.xt_special.specs.Interrupts.{pending_of}
 use Rattle.xt_exec.specs.State.{State}
 use Rattle.xt_frames.specs.Frames.{FrameState}
 use Rattle.xt_frames.specs.SaveAreas.{Range, is_live}
-use Rattle.xt_frames.specs.Breaches.{Bounds}
+use Rattle.xt_frames.specs.FrameStep.{laid}
+use Rattle.xt_frames.specs.Nesting.{is_nesting, nested_level}
+use Rattle.xt_frames.specs.Breaches.{Bounds, inputs_of}
 use Rattle.xt_simulation.specs.Steps.{record_now, state_now, memory_now}
 use Rattle.xt_simulation.specs.InHandlers.{LeavesHandler, MovesFrame, StoresAlone, as_left}
 use Rattle.xt_map.specs.Memory.{byte_at}
@@ -18,7 +21,7 @@ use Rattle.xt_frames.specs.Judging.{Standing, Seen, Handled, Judges, Breaks, ste
 use Rattle.xt_frames.specs.Verdict.{entry_of, is_nested, IsFrameTrace}
 
 -- where a core's last window exception was entered: the state before its record, with the special
--- registers and THREADPTR as nested steps have left them, and the bytes at it; and where its last
+-- registers and THREADPTR that nested steps have changed, and the bytes at it; and where its last
 -- nested interrupt was taken
 pub record Entered : Type 0 where
   pub before : State
@@ -57,8 +60,8 @@ entered_by Nests s m e = e
 abbrev pub entered_past : Mode → State → MemoryContents → State → Entered → Entered
 entered_past Plain s m next e = e
 entered_past Handles s m next e =
-    record e { before = as_left e.before next; suspended = s; held = byte_at m }
-entered_past Nests s m next e = record e { before = as_left e.before next }
+    record e { before = as_left e.before s next; suspended = s; held = byte_at m }
+entered_past Nests s m next e = record e { before = as_left e.before s next }
 
 abbrev pub moved_by :
     Seen → ℕ → Core → MemoryContents → State → StepRecord → (ℕ → Bool) → Option Moved
@@ -172,8 +175,16 @@ HandlesAlone code b m c =
     (byte_at m)
     (byte_at (memory_now code m c.state))
 
+-- where the core's next turn begins a nested interrupt, level 5 is pending in the machine with
+-- frames too: by the INTERRUPT that it is told, and by its own INTENABLE and PS
+abbrev pub IsPending : (ℕ → ℕ) → MemoryContents → Core → Type 0
+IsPending code m c =
+    c.standing.mode ≡ Handles → is_nesting (planned code c.state).kind ≡ true
+    → pending_of (laid (inputs_of (record_now code m c.state)) c.standing.frame).control
+    ≡ nested_level
+
 abbrev pub KeepsStretches : (ℕ → ℕ) → Bounds → MemoryContents → Core → Type 0
-KeepsStretches code b m c = EndsWell code b m c × HandlesAlone code b m c
+KeepsStretches code b m c = EndsWell code b m c × HandlesAlone code b m c × IsPending code m c
 
 -- ---- nested interrupts
 

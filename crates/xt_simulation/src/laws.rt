@@ -4,7 +4,7 @@
 ghost use Rattle.xt_simulation.specs.Closing.{FillsKeepPlain, SpillsKeepPlain};
 ghost use Rattle.xt_simulation.specs.Cores.{LiveInRange, SavedInAreas};
 ghost use Rattle.xt_simulation.specs.HandlerLaws.{HandlerStepsAreKept, HandlersAreSpared, StretchesAreEntered};
-ghost use Rattle.xt_simulation.specs.Headline.{BreachesStay, NestedGiveBack, RunsAreFrames, SixSuffice, StretchesMoveFrames, StretchesOfImages, StretchesOfRuns, TurnsAreFrames, WalksAreFrames, WindowsAreFrames};
+ghost use Rattle.xt_simulation.specs.Headline.{BreachesStay, ImagesAreAllJudged, NestedGiveBack, RunsAreFrames, SixSuffice, StretchesMoveFrames, StretchesOfImages, StretchesOfRuns, TurnsAreFrames, WalksAreFrames, WindowsAreFrames};
 ghost use Rattle.xt_simulation.specs.Opening.{OpensAlike};
 ghost use Rattle.xt_simulation.specs.JudgedSteps.{KeepsLevel, KeepsStack};
 ghost use Rattle.xt_simulation.specs.Relation.{EntersWindow};
@@ -114,7 +114,7 @@ pub fn turns_are_frames()
 
 /// At each place of such a schedule, a core's turn that ends a stretch of handler steps has moved one
 /// frame between registers and its save areas, and each handler step changes no byte but those of
-/// the frame's save words.
+/// the frame's save words. A turn that begins a nested interrupt finds it pending in the frame state.
 pub fn stretches_move_frames()
     ensures { StretchesMoveFrames }
 {}
@@ -146,8 +146,8 @@ pub fn breaches_stay()
 /// At each position of a run before the verdict's first breach the walk knows what the judge knows and
 /// stands where the run does. A core's turn that ends a stretch of handler steps has moved one frame
 /// between registers and its save areas, and each handler step changes no byte but those of the
-/// frame's save words. A core's turn that ends a nested interrupt and shows no breach gives the window
-/// handler back what it had.
+/// frame's save words. A core's turn that begins a nested interrupt finds it pending in the frame state,
+/// and one that ends it and shows no breach gives the window handler back what it had.
 pub fn stretches_of_runs()
     ensures { StretchesOfRuns }
 {}
@@ -171,8 +171,15 @@ pub fn windows_are_frames()
 
 /// And at each position of such a run before its first breach, which is the verdict's, a core's turn
 /// that ends a stretch of handler steps has moved one frame between registers and its save areas, and
-/// each handler step changes no byte but those of the frame's save words. A core's turn that ends a
-/// nested interrupt and shows no breach gives the window handler back what it had.
+/// each handler step changes no byte but those of the frame's save words. A core's turn that begins a
+/// nested interrupt finds it pending in the frame state, and one that ends it and shows no breach gives
+/// the window handler back what it had.
 pub fn stretches_move_one_frame()
     ensures { StretchesOfImages }
+{}
+
+/// Where a run of an image shows no breach, the records that the judge's walk has judged are all records
+/// of both traces but their handler steps.
+pub fn all_records_are_judged()
+    ensures { ImagesAreAllJudged }
 {}

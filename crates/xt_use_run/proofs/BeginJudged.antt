@@ -51,7 +51,7 @@ begin_judged code bytes b good m s us live kb {f = f} {before = before} {opened 
     let follows : Follows t u = subst (λ z. Follows z u) (sym (use_begins code rec kb us kind sn)) (subst (Follows _) (sym framed) (begin_follows kn (inputs_of rec))) in
     let same = begin_matches code m s f nesting fn m in
     let memory : memory_now code m s ≡ m = ap (memory_after_step m) (no_access code m s f nesting fn) in
-    let suspends : Suspends code b m (state_now code m s) u.after (as_left before (state_now code m s)) opened s = nested_begin code bytes b good m s f before opened h fn shaped kn.unset.size nesting in
+    let suspends : Suspends code b m (state_now code m s) u.after (as_left before s (state_now code m s)) opened s = nested_begin code bytes b good m s f before opened h fn shaped kn.unset.size nesting in
     let asked : rec.access ≡ None = record_access code s (reply_now code m s) ∙ no_access code m s f nesting fn in
     record {
       sent = subst (λ (a : Option Access). IsSent t.stored a) (sym asked) tt;
@@ -60,5 +60,5 @@ begin_judged code bytes b good m s us live kb {f = f} {before = before} {opened 
       kind = same.kind ∙ follows.kind;
       write = subst (λ (w : Option RegWrite). WriteFits t.mask w t.turn.write) (sym same.write) follows.write;
       access = subst (λ (a : Option Access). AccessFits t.stored a t.turn.access) (sym same.access) follows.access;
-      next = StaysIn u.after (as_left before (state_now code m s)) (begin_last code (planned code s).kind s.control.pc nesting) (subst (λ (z : MemoryContents). Suspends code b z (state_now code m s) u.after (as_left before (state_now code m s)) opened s) (sym memory) suspends) follows.knows;
+      next = StaysIn u.after (as_left before s (state_now code m s)) (begin_last code (planned code s).kind s.control.pc nesting) (subst (λ (z : MemoryContents). Suspends code b z (state_now code m s) u.after (as_left before s (state_now code m s)) opened s) (sym memory) suspends) follows.knows;
     }

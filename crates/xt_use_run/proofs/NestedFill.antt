@@ -69,7 +69,7 @@ module _ {code : ℕ → ℕ} {b : Bounds} {m : MemoryContents} {s : State} {f :
     at_r : get_or (set h.x.seen r (Some real)) r None ≡ Some real
     at_r = get_or-set_same h.x.seen r (Some real) None (let wide = h.inside.wide in omega arith)
 
-    pub inner_filled : Suspends code b m s g (as_left before (resumed suspended s)) opened suspended
+    pub inner_filled : Suspends code b m s g (as_left before (resumed suspended s) (resumed suspended s)) opened suspended
     inner_filled = record {
       x = x;
       nested = refl;
@@ -140,7 +140,7 @@ module _ {code : ℕ → ℕ} {b : Bounds} {m : MemoryContents} {s : State} {f :
     not_vectors : special_of k.control number.vecbase ≡ special_of f.control number.vecbase
     not_vectors = get_or-set_other f.control.special n 231 value 0 (λ e. both_ways (holds_marks n) (subst (λ j. holds_marks j ≡ false) e refl) mark)
 
-    pub special_filled : Suspends code b m s k (as_left before (resumed suspended s)) opened suspended
+    pub special_filled : Suspends code b m s k (as_left before (resumed suspended s) (resumed suspended s)) opened suspended
     special_filled = record {
       x = h.x;
       nested = h.nested;

@@ -170,7 +170,7 @@ module _ (code : ℕ → ℕ) (bytes : AreBytes code) (b : Bounds) (good : IsGoo
         kind = kind ∙ follows.kind;
         write = subst (λ (w : Option RegWrite). WriteFits t.mask w t.turn.write) (sym write) follows.write;
         access = subst (λ (a : Option Access). AccessFits t.stored a t.turn.access) (sym access) follows.access;
-        next = GoesBack u.after (as_left before now) (ends_last e) (ends_nothing h.nested h.inside h.handling shaped e) (past_access (ends_seen h.nested h.inside h.handling shaped e) (ends_frames h.nested h.inside h.handling shaped e) back) follows.knows;
+        next = GoesBack u.after (as_left before s now) (ends_last e) (ends_nothing h.nested h.inside h.handling shaped e) (past_access (ends_seen h.nested h.inside h.handling shaped e) (ends_frames h.nested h.inside h.handling shaped e) back) follows.knows;
       })
       (λ i. record {
         saves = saves;
@@ -179,6 +179,6 @@ module _ (code : ℕ → ℕ) (bytes : AreBytes code) (b : Bounds) (good : IsGoo
         kind = i.kind ∙ follows.kind;
         write = subst (λ (w : Option RegWrite). WriteFits t.mask w t.turn.write) (sym i.write) follows.write;
         access = subst (λ (a : Option Access). AccessFits t.stored a t.turn.access) (sym i.access) follows.access;
-        next = StaysIn u.after (as_left before now) (inner_last i) (record { x = i.x; nested = i.nested; inside = i.inside; handling = past_access i.seen i.frames (carried (inner_carries i) h.handling) }) follows.knows;
+        next = StaysIn u.after (as_left before s now) (inner_last i) (record { x = i.x; nested = i.nested; inside = i.inside; handling = past_access i.seen i.frames (carried (inner_carries i) h.handling) }) follows.knows;
       })
       next
