@@ -1,7 +1,7 @@
 //! The parts of a machine of two threads.
 ghost use Rattle.std.specs.Prelude.{◌≡◌, ◌≤◌, None};
 
-use crate::files::File;
+use crate::files::ThreadFile;
 use xt_core::Core;
 use xt_map::Constants;
 use xt_sharedbus::{CoreSeat, SharedBus};
@@ -18,8 +18,8 @@ pub struct Machine<'a> {
     pub(crate) shared: SharedBus,
     pub(crate) seat0: CoreSeat,
     pub(crate) seat1: CoreSeat,
-    pub(crate) core0: Core<File>,
-    pub(crate) core1: Core<File>,
+    pub(crate) core0: Core<ThreadFile>,
+    pub(crate) core1: Core<ThreadFile>,
     ghost buses: { (seat0.bus ≡ shared) × (seat1.bus ≡ shared) },
     ghost seats: { (seat0.core ≡ 0) × (seat1.core ≡ 1) },
     ghost cores: { (core0.core ≡ 0) × (core1.core ≡ 1) },

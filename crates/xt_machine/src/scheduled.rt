@@ -11,7 +11,7 @@ ghost use Rattle.xt_machine.specs.Framed.{IsFramed};
 ghost use Rattle.xt_machine.specs.Lists.{run_of_list};
 ghost use Rattle.xt_machine.specs.Shorts.{opened_world, run_in, world_of};
 
-use crate::files::opening_file;
+use crate::files::File;
 use crate::laws::is_word;
 use crate::pair::Pair;
 use crate::turns::make_turn;
@@ -42,8 +42,8 @@ impl Pair {
         ensures { IfOk result (λ p. world_of p ≡ opened_world image.now options.now) }
     {
         let bus = opening_bus(alloc, image, options)?;
-        let core0 = Core::make(alloc, 0, image.entry, options, opening_file())?;
-        let core1 = Core::make(alloc, 1, options.entry1, options, opening_file())?;
+        let core0 = Core::make(alloc, 0, image.entry, options, File::new())?;
+        let core1 = Core::make(alloc, 1, options.entry1, options, File::new())?;
         Ok(Pair { bus, core0, core1 })
     }
 

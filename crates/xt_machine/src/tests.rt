@@ -5,7 +5,7 @@ ghost use Rattle.xt_trace.specs.Validity.{IsValid};
 ghost use Rattle.xt_image.specs.Parts.{IsWellFormed};
 ghost use Rattle.xt_machine.specs.Driving.{MayDrive};
 
-use crate::files::{File, opening_file};
+use crate::files::File;
 use crate::scheduled::opening_bus;
 use crate::{Machine, drive, run, run_has_schedule, run_schedule, schedule_of};
 use std::alloc::{AllocError, Global};
@@ -174,8 +174,8 @@ fn drive_both<R: Threads + Wait + Sync>(rt: &R, alloc: Global, gate: &Meet) -> R
     let segments = image.segments.as_slice();
     let (segments0, index0) = Constants::make(alloc, segments)?.into_parts();
     let (segments1, index1) = Constants::make(alloc, segments)?.into_parts();
-    let core0 = Core::make(alloc, 0, image.entry, &options, opening_file())?;
-    let core1 = Core::make(alloc, 1, options.entry1, &options, opening_file())?;
+    let core0 = Core::make(alloc, 0, image.entry, &options, File::new())?;
+    let core1 = Core::make(alloc, 1, options.entry1, &options, File::new())?;
     let bus = opening_bus(alloc, &image, &options)?;
     let made = SharedBus::make(rt, alloc, bus, options.turns0, options.turns1);
     let (shared, seat0, seat1) = match made {

@@ -12,7 +12,7 @@ ghost use Rattle.xt_machine.specs.Lists.{run_of_list, schedule_in};
 ghost use Rattle.xt_machine.specs.Machines.{IsOpened};
 
 use crate::driving::drive;
-use crate::files::{File, opening_file};
+use crate::files::ThreadFile;
 use crate::laws::is_word;
 use crate::machine::Machine;
 use crate::scheduled::opening_bus;
@@ -29,13 +29,13 @@ use xt_trace::{Options, Run};
 // Drives a core to its end.
 fn driven<G: Gate, R: Wait>(
     rt: &R,
-    mut core: Core<File>,
+    mut core: Core<ThreadFile>,
     segments: &[Segment],
     index: Index,
     bus: &SharedBus,
     mut seat: CoreSeat,
     gate: &G,
-) -> (Core<File>, CoreSeat)
+) -> (Core<ThreadFile>, CoreSeat)
     requires drives { MayDrive bus.now core seat }
     requires indexed { IsIndexed segments.now index }
     ensures { HasDriven (constant_byte segments.now) core seat result.0 result.1 }
@@ -65,8 +65,8 @@ impl<'a> Machine<'a> {
         let segments = image.segments.as_slice();
         let code0 = Constants::make(alloc, segments)?;
         let code1 = Constants::make(alloc, segments)?;
-        let core0 = Core::make(alloc, 0, image.entry, options, opening_file())?;
-        let core1 = Core::make(alloc, 1, options.entry1, options, opening_file())?;
+        let core0 = Core::make(alloc, 0, image.entry, options, ThreadFile::opening())?;
+        let core1 = Core::make(alloc, 1, options.entry1, options, ThreadFile::opening())?;
         let bus = opening_bus(alloc, image, options)?;
         let (turns0, turns1) = (options.turns0, options.turns1);
         match SharedBus::make(rt, alloc, bus, turns0, turns1) {
@@ -111,12 +111,12 @@ impl<'a> Machine<'a> {
         let (segments1, index1) = code1.into_parts();
         let ((core0, seat0), (core1, seat1)) = join(
             rt,
-            move || -> (Core<File>, CoreSeat)
+            move || -> (Core<ThreadFile>, CoreSeat)
                 requires drives { MayDrive bus.now core0 seat0 }
                 requires indexed { IsIndexed segments0.now index0 }
                 ensures { HasDriven (constant_byte segments0.entry.now) core0 seat0 result.0 result.1 }
             { driven(rt, core0, segments0, index0, bus, seat0, gate) },
-            move || -> (Core<File>, CoreSeat)
+            move || -> (Core<ThreadFile>, CoreSeat)
                 requires drives { MayDrive bus.now core1 seat1 }
                 requires indexed { IsIndexed segments1.now index1 }
                 ensures { HasDriven (constant_byte segments1.entry.now) core1 seat1 result.0 result.1 }
