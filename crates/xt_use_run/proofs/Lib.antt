@@ -35,7 +35,6 @@ pub mod NestedJudged
 pub mod NestedRow
 pub mod NestedTop
 pub mod BeginJudged
-pub mod ResultWords
 pub mod NestedWhole
 pub mod MaskStep
 pub mod MaskWords

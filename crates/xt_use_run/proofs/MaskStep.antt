@@ -24,8 +24,9 @@ use Rattle.xt_uses.specs.Words.{all_bits, flipped}
 use Rattle.xt_uses.specs.Known.{result_mask}
 use Rattle.xt_uses.specs.UseState.{UseState, current_masks, first_word, second_word, special_operand, special_word, visible_word}
 use Rattle.xt_uses.specs.UseStep.{executed, inner_unknown, other_turn, reply_mask, unknown_bits, use_step, use_turn, value_step}
+use Rattle.xt_uses.proofs.Bits.{flipped_word}
+use Rattle.xt_uses.proofs.RowsWords.{result_word}
 use Rattle.xt_use_run.proofs.MaskWords.{AreSmall, MaskWords, begin_small, now_small, past_small}
-use Rattle.xt_use_run.proofs.ResultWords.{flipped_small, result_small}
 
 -- ---- of a reply
 unknown_small : (kb : ℕ → ℕ) (a n : ℕ) → n ≤ 4 → unknown_bits kb a n < 2 ^ 32
@@ -41,7 +42,7 @@ reply_small kb None mapped = omega arith
 reply_small kb (Some a) mapped = by_region (is_memory (region_of a.addr) && not (is_store a.kind))
   where
     by_region : (t : Bool) → cond t (flipped (unknown_bits kb a.addr a.size)) all_bits < 2 ^ 32
-    by_region true = flipped_small (unknown_bits kb a.addr a.size) (unknown_small kb a.addr a.size (size_small a (mapped a refl)))
+    by_region true = flipped_word (unknown_bits kb a.addr a.size) (unknown_small kb a.addr a.size (size_small a (mapped a refl)))
     by_region false = omega arith
 
 -- ---- of the words that a row reads
@@ -76,7 +77,7 @@ turn_small (Some i) reply s f u ok h w =
     let y = visible_word_small s f (reads i).1 w in
     let z = special_word_small s f (special_reads i).0 w in
     past_small i (result_mask i (first_word i s f) (second_word i s f) (special_operand i s f) s.masks.threadptr reply) s f u
-    (result_small i (first_word i s f) (second_word i s f) (special_operand i s f) s.masks.threadptr reply (ok i refl) x y z w.threadptr h)
+    (result_word (first_word i s f) (second_word i s f) x y i (ok i refl) (special_operand i s f) s.masks.threadptr reply z w.threadptr h)
     x
     w
 

@@ -133,6 +133,7 @@ module _ {s : UseState} {g h : FrameState} (f : NowFit s g h) where
         first = word_fits (reads i).0;
         second = word_fits (reads i).1;
         special = special_fits (special_reads i).0 given.u_word;
+        same = λ e. (ap (value_of (known g.seen)) e, ap (visible_word s h) e);
         first_mask = mask_small s h small (reads i).0;
         second_mask = mask_small s h small (reads i).1;
         number = known_number s h (special_reads i).0;

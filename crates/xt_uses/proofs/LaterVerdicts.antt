@@ -46,7 +46,7 @@ module _ (r : Course) (h : History) where
   never_later p q None (Some c) x y l = let end = x.here in let there = is_there q c y.here in omega (arith, end, there, l)
   never_later p q (Some b) other x y l = quiet_there p q b other x.here y l
 
-  same_place : (p q : ℕ) (one other : Option Breach) → IsFirstUse r h p one → IsFirstUse r h q other → p ≡ q
+  pub same_place : (p q : ℕ) (one other : Option Breach) → IsFirstUse r h p one → IsFirstUse r h q other → p ≡ q
   same_place p q one other x y = ⊎_elim
       (λ e. e)
       (λ apart. ⊎_elim (λ l. absurd (never_later p q one other x y l)) (λ l. absurd (never_later q p other one y x l)) apart)

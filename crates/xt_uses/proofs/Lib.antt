@@ -2,6 +2,7 @@ pub mod Bits
 pub mod Agreeing
 pub mod Moves
 pub mod Wholes
+pub mod Sums
 pub mod Agreed
 pub mod RowsUsed
 pub mod RowsPairs

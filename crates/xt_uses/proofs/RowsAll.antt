@@ -7,7 +7,7 @@ use Rattle.xt_isa.specs.declared.shift.Shift.{Shift}
 use Rattle.xt_isa.specs.declared.shift.Shift.TheVariants as shift
 use Rattle.xt_isa.specs.declared.memory.Memory.{Memory}
 use Rattle.xt_isa.specs.declared.memory.Memory.TheVariants as memory
-use Rattle.xt_rows.specs.Operands.{special_reads}
+use Rattle.xt_rows.specs.Operands.{reads, special_reads}
 use Rattle.xt_rows.specs.Effects.{unchanged}
 use Rattle.xt_rows.specs.Outcomes.{outcome, three_outcome, shift_outcome, memory_outcome, boolean_outcome}
 use Rattle.xt_uses.specs.Words.{Word, is_whole, cut}
@@ -67,12 +67,12 @@ memory_special (memory.Addi q s n) c known = known
 memory_special (memory.Addmi q s n) c known = known
 
 pub all_agree : RowsAgree
-unfolding outcome result_mask used_are_known pointer_mask special_reads
+unfolding outcome result_mask used_are_known pointer_mask special_reads reads
 all_agree code (insn.Three i) pc x y u v ps t pointer a b c given row =
     subst (λ z. OutcomesAgree (insn.Three i) (masks_of_row (insn.Three i) a b c pointer) (three_outcome i x y z (unchanged ps t)) (three_outcome i a.value b.value c.value (unchanged ps (cut pointer t))))
     (whole_value u c row.special given.u_word (three_special i c row.number))
     (three_agrees x y c.value a b row.first row.second given.x_word given.y_word (value_word x a row.first given.x_word) (value_word y b row.second given.y_word) row.first_mask row.second_mask
-    ps t (cut pointer t) a.mask pointer b.mask (cut_agrees pointer t) i row.used)
+    ps t (cut pointer t) a.mask pointer b.mask (cut_agrees pointer t) i row.used row.same)
 all_agree code (insn.Shift i) pc x y u v ps t pointer a b c given row =
     subst (λ z. OutcomesAgree (insn.Shift i) (masks_of_row (insn.Shift i) a b c pointer) (shift_outcome i x z (unchanged ps t)) (shift_outcome i a.value c.value (unchanged ps (cut pointer t))))
     (whole_value u c row.special given.u_word (shift_special i c row.number))
@@ -80,13 +80,13 @@ all_agree code (insn.Shift i) pc x y u v ps t pointer a b c given row =
 all_agree code (insn.Memory i) pc x y u v ps t pointer a b c given row =
     subst (λ z. OutcomesAgree (insn.Memory i) (masks_of_row (insn.Memory i) a b c pointer) (memory_outcome code i pc x y z (unchanged ps t)) (memory_outcome code i pc a.value b.value c.value (unchanged ps (cut pointer t))))
     (whole_value u c row.special given.u_word (memory_special i c row.number))
-    (memory_agrees pc x y c.value a b row.first row.second given.x_word given.y_word ps t (cut pointer t) a.mask pointer (cut_agrees pointer t) code i row.used)
+    (memory_agrees pc x y c.value a b row.first row.second given.x_word given.y_word ps t (cut pointer t) a.mask pointer (cut_agrees pointer t) code i row.first_mask row.used)
 all_agree code (insn.Control i) pc x y u v ps t pointer a b c given row =
     control_agrees pc x y a b row.first row.second given.x_word given.y_word ps t (cut pointer t) a.mask pointer b.mask (cut_agrees pointer t) i row.used
 all_agree code (insn.System i) pc x y u v ps t pointer a b c given row =
     system_agrees x u v a c row.first row.special given.x_word given.u_word ps t (cut pointer t) pointer b.mask (cut_agrees pointer t) i given.range row.number row.used
 all_agree code (insn.Density i) pc x y u v ps t pointer a b c given row =
-    density_agrees pc x y a b row.first row.second given.x_word given.y_word ps t (cut pointer t) a.mask pointer (cut_agrees pointer t) code i row.used
+    density_agrees pc x y a b row.first row.second given.x_word given.y_word ps t (cut pointer t) a.mask pointer (cut_agrees pointer t) code i row.first_mask row.used row.same
 all_agree code (insn.Boolean i) pc x y u v ps t pointer a b c given row =
     subst (λ z. OutcomesAgree (insn.Boolean i) (masks_of_row (insn.Boolean i) a b c pointer) (boolean_outcome i pc x z (unchanged ps t)) (boolean_outcome i pc a.value c.value (unchanged ps (cut pointer t))))
     (whole_value u c row.special given.u_word (row.number refl))

@@ -1,6 +1,6 @@
 -- The law of a row between a processor's control state and registers, and a state of the machine of
 -- uses whose words fit them.
-use Rattle.std.proofs.Common.{◌≡◌, ℕ, ◌^◌, ◌<◌, true, Option, Some, None, refl, subst, arith}
+use Rattle.std.proofs.Common.{◌≡◌, ℕ, ◌^◌, ◌<◌, true, Option, Some, None, refl, subst, ap, arith}
 use Rattle.std.specs.Prelude.{slice_index_or}
 use Rattle.xt_isa.specs.declared.Insn.{Insn}
 use Rattle.xt_special.specs.Control.{Control, special_of}
@@ -75,6 +75,7 @@ module _ (code : ℕ → ℕ) (i : Insn) (registers : ℕ → ℕ) (c : Control)
         first = r.first;
         second = r.second;
         special = r.special;
+        same = λ e. (ap (value_of registers) e, ap (visible_word s f) e);
         first_mask = r.first_mask;
         second_mask = r.second_mask;
         number = special_number s f (special_reads i).0;

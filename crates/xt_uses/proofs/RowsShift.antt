@@ -31,6 +31,7 @@ use Rattle.xt_uses.proofs.Agreed.{puts_agree, sets_agree}
 use Rattle.xt_uses.proofs.RowsPairs.{srl_moves, sll_moves}
 use Rattle.xt_uses.proofs.RowsSigned.{sra_moves, srai_moves}
 use Rattle.xt_uses.proofs.RowsUsed.{low_known}
+use Rattle.xt_uses.proofs.Sums.{neg_agrees}
 
 -- ---- the other shifts, and the extension, move bits
 pub slli_moves : (k : ℕ) → IsMove (λ n. slli n k)
@@ -64,7 +65,7 @@ module _ (x u : ℕ) (a : Word) (f : Fits x a) (h : x < 2 ^ 32) (m : a.mask < 2 
 
   pub shift_agrees : (i : Shift) → in_range (insn.Shift i) ≡ true → shift_used i a ≡ true → OutcomesAgree (insn.Shift i) (masks i) (shift_outcome i x u (unchanged ps t)) (shift_outcome i a.value u (unchanged ps k))
   unfolding shift_outcome shift_mask shift_used moved_to ssr ssl ssa8l ssa8b
-  shift_agrees (shift.Neg NegName.Neg r q) range used = puts_agree (insn.Shift (shift.Neg NegName.Neg r q)) (masks (shift.Neg NegName.Neg r q)) ps t k p refl r (neg x) (neg a.value) (where_first x a f h (λ z. neg z))
+  shift_agrees (shift.Neg NegName.Neg r q) range used = puts_agree (insn.Shift (shift.Neg NegName.Neg r q)) (masks (shift.Neg NegName.Neg r q)) ps t k p refl r (neg x) (neg a.value) (neg_agrees a.mask m x a.value h (value_word x a f h) (fits_agree x a f))
   shift_agrees (shift.Neg NegName.Abs r q) range used = puts_agree (insn.Shift (shift.Neg NegName.Abs r q)) (masks (shift.Neg NegName.Abs r q)) ps t k p refl r (abs x) (abs a.value) (where_first x a f h (λ z. abs z))
   shift_agrees (shift.Srl SrlName.Srl r q) range used = puts_agree (insn.Shift (shift.Srl SrlName.Srl r q)) (masks (shift.Srl SrlName.Srl r q)) ps t k p refl r (srl x u) (srl a.value u) (moved (λ z. srl z u) (srl_moves u))
   shift_agrees (shift.Srl SrlName.Sra r q) range used = puts_agree (insn.Shift (shift.Srl SrlName.Sra r q)) (masks (shift.Srl SrlName.Sra r q)) ps t k p refl r (sra x u) (sra a.value u) (moved (λ z. sra z u) (sra_moves u))

@@ -8,8 +8,11 @@ use Rattle.xt_isa.specs.declared.Insn.TheVariants as insn
 use Rattle.xt_isa.specs.declared.three.Three.{Three}
 use Rattle.xt_isa.specs.declared.three.Three.TheVariants as three
 use Rattle.xt_isa.specs.declared.three.AndName.TheVariants as AndName
+use Rattle.xt_isa.specs.declared.three.AddName.TheVariants as AddName
+use Rattle.xt_isa.specs.declared.three.SubName.TheVariants as SubName
 use Rattle.xt_isa.specs.declared.shift.Shift.{Shift}
 use Rattle.xt_isa.specs.declared.shift.Shift.TheVariants as shift
+use Rattle.xt_isa.specs.declared.shift.NegName.TheVariants as NegName
 use Rattle.xt_isa.specs.declared.shift.SrlName.TheVariants as SrlName
 use Rattle.xt_isa.specs.declared.shift.SextName.TheVariants as SextName
 use Rattle.xt_isa.specs.declared.memory.Memory.{Memory}
@@ -32,6 +35,7 @@ use Rattle.xt_uses.specs.Known.{loaded_mask, three_mask, shift_mask, memory_mask
 use Rattle.xt_uses.proofs.Bits.{flipped_word}
 use Rattle.xt_uses.proofs.Agreeing.{IsMove}
 use Rattle.xt_uses.proofs.Moves.{extended_moves}
+use Rattle.xt_uses.proofs.Sums.{add_word, below_word, scaled_sum_word, sum_word}
 use Rattle.xt_uses.proofs.RowsPairs.{src_word, srl_moves, sll_moves}
 use Rattle.xt_uses.proofs.RowsSigned.{sra_moves, srai_moves}
 use Rattle.xt_uses.proofs.RowsShift.{slli_moves, srli_moves, extui_moves, sext_moves, sign_number}
@@ -49,19 +53,19 @@ moved_word move mask h is = flipped_word (move (flipped mask)) (is.word (flipped
 loaded_word : (signed : Bool) (reply : ℕ) → reply < 2 ^ 32 → loaded_mask signed reply < 2 ^ 32
 loaded_word signed reply h = moved_word (λ z. extended signed z) reply h (extended_moves signed)
 
-memory_word : (i : Memory) (a : Word) (reply : ℕ) → reply < 2 ^ 32 → memory_mask i a reply < 2 ^ 32
+memory_word : (i : Memory) (a : Word) (reply : ℕ) → a.mask < 2 ^ 32 → reply < 2 ^ 32 → memory_mask i a reply < 2 ^ 32
 unfolding memory_mask
-memory_word (memory.L8ui name t s offset) a reply h = loaded_word false reply h
-memory_word (memory.L16ui HalfName.L16ui t s offset) a reply h = loaded_word false reply h
-memory_word (memory.L16ui HalfName.L16si t s offset) a reply h = loaded_word true reply h
-memory_word (memory.L16ui HalfName.S16i t s offset) a reply h = loaded_word false reply h
-memory_word (memory.L32i name t s offset) a reply h = loaded_word false reply h
-memory_word (memory.S32c1i t s offset) a reply h = loaded_word false reply h
-memory_word (memory.L32e name t s offset) a reply h = loaded_word false reply h
-memory_word (memory.L32r t offset) a reply h = loaded_word false reply h
-memory_word (memory.Movi t n) a reply h = all_word
-memory_word (memory.Addi t s n) a reply h = where_word (is_whole a)
-memory_word (memory.Addmi t s n) a reply h = where_word (is_whole a)
+memory_word (memory.L8ui name t s offset) a reply m h = loaded_word false reply h
+memory_word (memory.L16ui HalfName.L16ui t s offset) a reply m h = loaded_word false reply h
+memory_word (memory.L16ui HalfName.L16si t s offset) a reply m h = loaded_word true reply h
+memory_word (memory.L16ui HalfName.S16i t s offset) a reply m h = loaded_word false reply h
+memory_word (memory.L32i name t s offset) a reply m h = loaded_word false reply h
+memory_word (memory.S32c1i t s offset) a reply m h = loaded_word false reply h
+memory_word (memory.L32e name t s offset) a reply m h = loaded_word false reply h
+memory_word (memory.L32r t offset) a reply m h = loaded_word false reply h
+memory_word (memory.Movi t n) a reply m h = all_word
+memory_word (memory.Addi t s n) a reply m h = below_word a.mask m
+memory_word (memory.Addmi t s n) a reply m h = below_word a.mask m
 
 system_word : (i : System) (c : Word) (pointer : ℕ) → c.mask < 2 ^ 32 → pointer < 2 ^ 32 → system_mask i c pointer < 2 ^ 32
 unfolding system_mask
@@ -107,10 +111,16 @@ module _ (a b : Word) (h : a.mask < 2 ^ 32) (g : b.mask < 2 ^ 32) where
   three_word (three.And AndName.And r s t) u = and_word
   three_word (three.And AndName.Or r s t) u = or_word
   three_word (three.And AndName.Xor r s t) u = both_word
-  three_word (three.Add name r s t) u = where_word (is_whole a && is_whole b)
-  three_word (three.Sub name r s t) u = where_word (is_whole a && is_whole b)
+  three_word (three.Add AddName.Add r s t) u = add_word s t a b h
+  three_word (three.Add AddName.Addx2 r s t) u = scaled_sum_word 1 a b h
+  three_word (three.Add AddName.Addx4 r s t) u = scaled_sum_word 2 a b h
+  three_word (three.Add AddName.Addx8 r s t) u = scaled_sum_word 3 a b h
+  three_word (three.Sub SubName.Sub r s t) u = sum_word a.mask b.mask h
+  three_word (three.Sub SubName.Subx2 r s t) u = scaled_sum_word 1 a b h
+  three_word (three.Sub SubName.Subx4 r s t) u = scaled_sum_word 2 a b h
+  three_word (three.Sub SubName.Subx8 r s t) u = scaled_sum_word 3 a b h
   three_word (three.Mul16u name r s t) u = where_word (is_whole a && is_whole b)
-  three_word (three.Mull r s t) u = where_word (is_whole a && is_whole b)
+  three_word (three.Mull r s t) u = sum_word a.mask b.mask h
   three_word (three.Muluh name r s t) u = where_word (is_whole a && is_whole b)
   three_word (three.Quou name r s t) u = where_word (is_whole a && is_whole b)
   three_word (three.Min name r s t) u = where_word (is_whole a && is_whole b)
@@ -119,7 +129,8 @@ module _ (a b : Word) (h : a.mask < 2 ^ 32) (g : b.mask < 2 ^ 32) where
 
   shift_word : (i : Shift) → in_range (insn.Shift i) ≡ true → (u : ℕ) → shift_mask i a u < 2 ^ 32
   unfolding shift_mask
-  shift_word (shift.Neg name r t) range u = where_word (is_whole a)
+  shift_word (shift.Neg NegName.Neg r t) range u = below_word a.mask h
+  shift_word (shift.Neg NegName.Abs r t) range u = where_word (is_whole a)
   shift_word (shift.Srl SrlName.Srl r t) range u = moved_word (λ z. srl z u) a.mask h (srl_moves u)
   shift_word (shift.Srl SrlName.Sra r t) range u = moved_word (λ z. sra z u) a.mask h (sra_moves u)
   shift_word (shift.Sll r s) range u = moved_word (λ z. sll z u) a.mask h (sll_moves u)
@@ -138,8 +149,8 @@ module _ (a b : Word) (h : a.mask < 2 ^ 32) (g : b.mask < 2 ^ 32) where
   density_word : (i : Density) (reply : ℕ) → reply < 2 ^ 32 → density_mask i a b reply < 2 ^ 32
   unfolding density_mask
   density_word (density.L32i name t s offset) reply l = loaded_word false reply l
-  density_word (density.Add r s t) reply l = where_word (is_whole a && is_whole b)
-  density_word (density.Addi r s n) reply l = where_word (is_whole a)
+  density_word (density.Add r s t) reply l = add_word s t a b h
+  density_word (density.Addi r s n) reply l = below_word a.mask h
   density_word (density.Movi s n) reply l = all_word
   density_word (density.Beqz name s offset) reply l = all_word
   density_word (density.Mov t s) reply l = h
@@ -150,7 +161,7 @@ module _ (a b : Word) (h : a.mask < 2 ^ 32) (g : b.mask < 2 ^ 32) where
   unfolding result_mask
   result_word (insn.Three i) range c pointer reply l m n = three_word i c.value
   result_word (insn.Shift i) range c pointer reply l m n = shift_word i range c.value
-  result_word (insn.Memory i) range c pointer reply l m n = memory_word i a reply n
+  result_word (insn.Memory i) range c pointer reply l m n = memory_word i a reply h n
   result_word (insn.Control i) range c pointer reply l m n = all_word
   result_word (insn.System i) range c pointer reply l m n = system_word i c pointer l m
   result_word (insn.Density i) range c pointer reply l m n = density_word i reply n

@@ -10,8 +10,11 @@ use Rattle.xt_isa.specs.declared.Insn.TheVariants as insn
 use Rattle.xt_isa.specs.declared.three.Three.{Three}
 use Rattle.xt_isa.specs.declared.three.Three.TheVariants as three
 use Rattle.xt_isa.specs.declared.three.AndName.TheVariants as AndName
+use Rattle.xt_isa.specs.declared.three.AddName.TheVariants as AddName
+use Rattle.xt_isa.specs.declared.three.SubName.TheVariants as SubName
 use Rattle.xt_isa.specs.declared.shift.Shift.{Shift}
 use Rattle.xt_isa.specs.declared.shift.Shift.TheVariants as shift
+use Rattle.xt_isa.specs.declared.shift.NegName.TheVariants as NegName
 use Rattle.xt_isa.specs.declared.shift.SrlName.TheVariants as SrlName
 use Rattle.xt_isa.specs.declared.shift.SextName.TheVariants as SextName
 use Rattle.xt_isa.specs.declared.memory.Memory.{Memory}
@@ -43,7 +46,8 @@ use Rattle.xt_alu.specs.Signed.{signed}
 use Rattle.xt_rows.specs.Numbers.{natural, extended, plus}
 use Rattle.xt_uses.specs.Words.{all_bits, and_mask, and_word, cut, flipped, is_whole, knows, moved_mask, not_word, ones, or_mask, whole_word, zeros}
 use Rattle.xt_uses.specs.Used.{bit_number, control_used, density_used, memory_used, shift_used, store_used, system_used, tested_known, three_used, used_are_known}
-use Rattle.xt_uses.specs.Known.{boolean_mask, density_mask, loaded_mask, memory_mask, result_mask, shift_mask, system_mask, three_mask}
+use Rattle.xt_uses.specs.Known.{add_mask, boolean_mask, density_mask, loaded_mask, memory_mask, result_mask, scaled_mask, scaled_sum, shift_mask, sum_mask, system_mask, three_mask}
+use Rattle.xt_uses.proofs.Sums.{below_whole}
 
 -- ---- with all bits
 pub and_all : (n : ℕ) → n < 2 ^ 32 → bit_and n all_bits ≡ n
@@ -130,18 +134,39 @@ unfolding extended
 extended_none true = refl
 extended_none false = refl
 
+-- ---- sums
+scaled_whole : (k a b : ℕ) → scaled_sum k (whole_word a) (whole_word b) ≡ all_bits
+scaled_whole k a b = ap (λ (n : ℕ). sum_mask (flipped n) all_bits) (slli_none k) ∙ below_whole
+
+add_whole : (s t a b : ℕ) → add_mask s t (whole_word a) (whole_word b) ≡ all_bits
+add_whole s t a b = by_test (eqb s t)
+  where
+    by_test : (p : Bool) → cond p (scaled_mask 1 all_bits) (sum_mask all_bits all_bits) ≡ all_bits
+    by_test true = ap (λ (n : ℕ). flipped n) (slli_none 1)
+    by_test false = below_whole
+
 -- ---- masks
 three_whole : (i : Three) (a b sar : ℕ) → three_mask i (whole_word a) (whole_word b) sar ≡ all_bits
 unfolding three_mask
 three_whole (three.And AndName.And r s t) a b sar = and_whole a b
 three_whole (three.And AndName.Or r s t) a b sar = or_whole a b
 three_whole (three.And AndName.Xor r s t) a b sar = refl
+three_whole (three.Add AddName.Add r s t) a b sar = add_whole s t a b
+three_whole (three.Add AddName.Addx2 r s t) a b sar = scaled_whole 1 a b
+three_whole (three.Add AddName.Addx4 r s t) a b sar = scaled_whole 2 a b
+three_whole (three.Add AddName.Addx8 r s t) a b sar = scaled_whole 3 a b
+three_whole (three.Sub SubName.Sub r s t) a b sar = below_whole
+three_whole (three.Sub SubName.Subx2 r s t) a b sar = scaled_whole 1 a b
+three_whole (three.Sub SubName.Subx4 r s t) a b sar = scaled_whole 2 a b
+three_whole (three.Sub SubName.Subx8 r s t) a b sar = scaled_whole 3 a b
+three_whole (three.Mull r s t) a b sar = below_whole
 three_whole (three.Src r s t) a b sar = ap (λ (n : ℕ). flipped n) (src_none sar)
 three_whole (three.Moveqz name r s t) a b sar = refl
 three_whole _ a b sar = refl
 
 shift_whole : (i : Shift) (a sar : ℕ) → shift_mask i (whole_word a) sar ≡ all_bits
 unfolding shift_mask
+shift_whole (shift.Neg NegName.Neg r t) a sar = below_whole
 shift_whole (shift.Srl SrlName.Srl r t) a sar = ap (λ (n : ℕ). flipped n) (srl_none sar)
 shift_whole (shift.Srl SrlName.Sra r t) a sar = ap (λ (n : ℕ). flipped n) (sra_none sar)
 shift_whole (shift.Sll r s) a sar = ap (λ (n : ℕ). flipped n) (sll_none sar)
@@ -159,8 +184,8 @@ memory_whole : (i : Memory) (a : ℕ) → memory_mask i (whole_word a) all_bits 
 unfolding memory_mask
 memory_whole (memory.L16ui HalfName.L16si t s offset) a = loaded_whole true
 memory_whole (memory.Movi t n) a = refl
-memory_whole (memory.Addi t s n) a = refl
-memory_whole (memory.Addmi t s n) a = refl
+memory_whole (memory.Addi t s n) a = below_whole
+memory_whole (memory.Addmi t s n) a = below_whole
 memory_whole _ a = loaded_whole false
 
 system_whole : (i : System) (c : ℕ) → system_mask i (whole_word c) all_bits ≡ all_bits
@@ -173,6 +198,8 @@ system_whole _ c = refl
 density_whole : (i : Density) (a b : ℕ) → density_mask i (whole_word a) (whole_word b) all_bits ≡ all_bits
 unfolding density_mask
 density_whole (density.L32i name t s offset) a b = loaded_whole false
+density_whole (density.Add r s t) a b = add_whole s t a b
+density_whole (density.Addi r s n) a b = below_whole
 density_whole _ a b = refl
 
 boolean_whole : (i : Boolean) (a : ℕ) → boolean_mask i (whole_word a) ≡ all_bits

@@ -4,14 +4,17 @@
 --
 -- x and y are the words of the registers that the row reads, u that of its special register, `sar`
 -- the value of SAR where the row has it, `reply` the mask of the reply to its access.
-use Rattle.std.specs.Prelude.{ℕ, Bool, true, false, ◌&&◌}
+use Rattle.std.specs.Prelude.{ℕ, Bool, true, false, ◌&&◌, ◌==◌, bit_and, if◌then◌else◌}
 use Rattle.xt_isa.specs.declared.Insn.{Insn}
 use Rattle.xt_isa.specs.declared.Insn.TheVariants as insn
 use Rattle.xt_isa.specs.declared.three.Three.{Three}
 use Rattle.xt_isa.specs.declared.three.Three.TheVariants as three
 use Rattle.xt_isa.specs.declared.three.AndName.TheVariants as AndName
+use Rattle.xt_isa.specs.declared.three.AddName.TheVariants as AddName
+use Rattle.xt_isa.specs.declared.three.SubName.TheVariants as SubName
 use Rattle.xt_isa.specs.declared.shift.Shift.{Shift}
 use Rattle.xt_isa.specs.declared.shift.Shift.TheVariants as shift
+use Rattle.xt_isa.specs.declared.shift.NegName.TheVariants as NegName
 use Rattle.xt_isa.specs.declared.shift.SrlName.TheVariants as SrlName
 use Rattle.xt_isa.specs.declared.shift.SextName.TheVariants as SextName
 use Rattle.xt_isa.specs.declared.memory.Memory.{Memory}
@@ -28,13 +31,28 @@ use Rattle.xt_isa.specs.declared.boolean.Boolean.TheVariants as boolean
 use Rattle.xt_alu.specs.Arithmetic.{sext}
 use Rattle.xt_alu.specs.Shifts.{src, srl, sra, sll, slli, srai, srli, extui}
 use Rattle.xt_rows.specs.Numbers.{natural, extended}
-use Rattle.xt_uses.specs.Words.{Word, all_bits, and_mask, both_mask, flipped, is_whole, mask_where}
-use Rattle.xt_uses.specs.Words.{moved_mask, or_mask}
+use Rattle.xt_uses.specs.Words.{Word, all_bits, and_mask, below_unknown, both_mask, flipped}
+use Rattle.xt_uses.specs.Words.{is_whole, mask_where, moved_mask, or_mask}
 
 -- ---- three registers: x is AR[s], y is AR[t]
 
 abbrev pub where_both : Word → Word → ℕ
 where_both x y = mask_where (is_whole x && is_whole y)
+
+-- A sum, a difference or a product keeps the bits below the lowest that is unknown in either word,
+-- since no carry goes down. k is by how many bits AR[s] is shifted first.
+abbrev pub sum_mask : ℕ → ℕ → ℕ
+sum_mask x y = below_unknown (bit_and x y)
+
+abbrev pub scaled_mask : ℕ → ℕ → ℕ
+scaled_mask k x = moved_mask (λ bits. slli bits k) x
+
+abbrev pub scaled_sum : ℕ → Word → Word → ℕ
+scaled_sum k x y = sum_mask (scaled_mask k x.mask) y.mask
+
+-- a register added to itself is shifted by 1
+abbrev pub add_mask : ℕ → ℕ → Word → Word → ℕ
+add_mask s t x y = if s == t then scaled_mask 1 x.mask else sum_mask x.mask y.mask
 
 -- SRC shifts the pair of both registers
 abbrev pub src_mask : Word → Word → ℕ → ℕ
@@ -44,6 +62,15 @@ unfoldable pub three_mask : Three → Word → Word → ℕ → ℕ
 three_mask (three.And AndName.And r s t) x y sar = and_mask x y
 three_mask (three.And AndName.Or r s t) x y sar = or_mask x y
 three_mask (three.And AndName.Xor r s t) x y sar = both_mask x y
+three_mask (three.Add AddName.Add r s t) x y sar = add_mask s t x y
+three_mask (three.Add AddName.Addx2 r s t) x y sar = scaled_sum 1 x y
+three_mask (three.Add AddName.Addx4 r s t) x y sar = scaled_sum 2 x y
+three_mask (three.Add AddName.Addx8 r s t) x y sar = scaled_sum 3 x y
+three_mask (three.Sub SubName.Sub r s t) x y sar = sum_mask x.mask y.mask
+three_mask (three.Sub SubName.Subx2 r s t) x y sar = scaled_sum 1 x y
+three_mask (three.Sub SubName.Subx4 r s t) x y sar = scaled_sum 2 x y
+three_mask (three.Sub SubName.Subx8 r s t) x y sar = scaled_sum 3 x y
+three_mask (three.Mull r s t) x y sar = sum_mask x.mask y.mask
 three_mask (three.Src r s t) x y sar = src_mask x y sar
 three_mask (three.Moveqz name r s t) x y sar = x.mask
 three_mask _ x y sar = where_both x y
@@ -51,6 +78,7 @@ three_mask _ x y sar = where_both x y
 -- ---- shifts, and one source: x is its word
 
 unfoldable pub shift_mask : Shift → Word → ℕ → ℕ
+shift_mask (shift.Neg NegName.Neg r t) x sar = below_unknown x.mask
 shift_mask (shift.Srl SrlName.Srl r t) x sar = moved_mask (λ bits. srl bits sar) x.mask
 shift_mask (shift.Srl SrlName.Sra r t) x sar = moved_mask (λ bits. sra bits sar) x.mask
 shift_mask (shift.Sll r s) x sar = moved_mask (λ bits. sll bits sar) x.mask
@@ -78,8 +106,8 @@ memory_mask (memory.S32c1i t s offset) x reply = loaded_mask false reply
 memory_mask (memory.L32e name t s offset) x reply = loaded_mask false reply
 memory_mask (memory.L32r t offset) x reply = loaded_mask false reply
 memory_mask (memory.Movi t n) x reply = all_bits
-memory_mask (memory.Addi t s n) x reply = mask_where (is_whole x)
-memory_mask (memory.Addmi t s n) x reply = mask_where (is_whole x)
+memory_mask (memory.Addi t s n) x reply = below_unknown x.mask
+memory_mask (memory.Addmi t s n) x reply = below_unknown x.mask
 
 -- ---- system instructions: u is the word of the special register, `pointer` the mask of THREADPTR
 
@@ -93,8 +121,8 @@ system_mask _ u pointer = all_bits
 
 unfoldable pub density_mask : Density → Word → Word → ℕ → ℕ
 density_mask (density.L32i name t s offset) x y reply = loaded_mask false reply
-density_mask (density.Add r s t) x y reply = where_both x y
-density_mask (density.Addi r s n) x y reply = mask_where (is_whole x)
+density_mask (density.Add r s t) x y reply = add_mask s t x y
+density_mask (density.Addi r s n) x y reply = below_unknown x.mask
 density_mask (density.Mov t s) x y reply = x.mask
 density_mask _ x y reply = all_bits
 

@@ -27,7 +27,7 @@ use Rattle.xt_rows.specs.declared.outcome.Outcome.TheVariants.{Does, Asks}
 use Rattle.xt_rows.specs.Kinds.{moved_to}
 use Rattle.xt_rows.specs.Laws.{IsGiven, IsWord}
 use Rattle.xt_rows.specs.Numbers.{extended}
-use Rattle.xt_rows.specs.Operands.{special_reads}
+use Rattle.xt_rows.specs.Operands.{reads, special_reads}
 use Rattle.xt_rows.specs.Outcomes.{outcome}
 use Rattle.xt_frames.specs.declared.kinds.Breach.{Breach}
 use Rattle.xt_frames.specs.declared.holes.Nested.{Nested}
@@ -116,6 +116,8 @@ pub record IsRow (i : Insn) (x y u : ℕ) (a b c : Word) : Type 0 where
   pub first : Fits x a
   pub second : Fits y b
   pub special : Fits u c
+  -- one register has one word
+  pub same : (reads i).0 ≡ (reads i).1 → (x ≡ y) × (a ≡ b)
   -- masks are words
   pub first_mask : a.mask < 2 ^ 32
   pub second_mask : b.mask < 2 ^ 32

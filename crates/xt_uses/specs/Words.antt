@@ -4,6 +4,7 @@
 -- is known. A bit that is not known is 0 in the value.
 use Rattle.std.specs.Prelude.{◌≡◌, ℕ, ◌-◌, ◌^◌, Bool, ◌==◌, if◌then◌else◌, bit_and, bit_or}
 use Rattle.std.specs.Prelude.{bit_xor}
+use Rattle.std.specs.Int.{trailing_ones, w32}
 pub use Rattle.xt_uses.specs.declared.words.Word.{Word}
 
 abbrev pub all_bits : ℕ
@@ -59,6 +60,10 @@ or_mask x y = bit_or (both_mask x y) (bit_or (ones x) (ones y))
 -- not known are moved and copied in the same way, and the zeros are known.
 abbrev pub moved_mask : (ℕ → ℕ) → ℕ → ℕ
 moved_mask move mask = flipped (move (flipped mask))
+
+-- the bits below the lowest that is not known
+abbrev pub below_unknown : ℕ → ℕ
+below_unknown mask = 2 ^ trailing_ones w32 mask - 1
 
 -- all bits where the condition holds, else none
 abbrev pub mask_where : Bool → ℕ

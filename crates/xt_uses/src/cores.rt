@@ -17,6 +17,7 @@ ghost use Rattle.xt_frames.specs.declared.holes.Holes.{Holes};
 ghost use Rattle.xt_uses.specs.Lacks.{lack_of, lacks_among, lacks_before, mark_in};
 ghost use Rattle.xt_uses.specs.UseBreaches.{use_breach, window_use};
 ghost use Rattle.xt_uses.specs.Words.{all_bits};
+ghost use Rattle.xt_uses.specs.UseQuick.{StandsStill};
 ghost use Rattle.xt_uses.specs.UseParts.{AreFew, IsNewestMasks, IsTouched, IsUseJudged, IsUseTested, KeepsFew, UseMoves, fresh_at, kept_after, kept_of, opened_use};
 
 use crate::lacking::Lack;
@@ -197,9 +198,11 @@ impl UseCore {
         self.fresh && self.next == u64::from(index)
     }
 
-    /// Makes the step of a record of this number, if it shows no breach, stays in its frame, and reads and writes words of which each
-    /// bit is known: whether it did. Else nothing has changed.
-    fn quick(
+    /// Makes the step of a record of this number, if it shows no breach, stays in its frame with the stack pointer as it was, and reads
+    /// and writes words of which each bit is known: whether it did. Else nothing has changed.
+    ///
+    /// Condition: the record's access is one that the bus serves.
+    pub fn quick(
         &mut self,
         code: &Constants,
         index: u32,
@@ -210,7 +213,7 @@ impl UseCore {
         requires { IfSome rec.now.access (λ a. is_mapped a ≡ true) }
         ensures judged { result ≡ true → (live : ℕ → Bool) (bytes : ℕ → ℕ) → IsTouched touched.now rec.now live bytes
             → IsUseJudged (use_breach self.old.bounds (fresh_at self.old index) (constant_byte code.now) live bytes nested rec.now self.old.state) self.old (constant_byte code.now) index nested rec.now bytes (Ok (record { stored = all_bits; carries = false })) self.new }
-        ensures moves { result ≡ true → UseMoves self.old.state.frame self.new.state.frame }
+        ensures still { result ≡ true → StandsStill self.old.state.frame self.new.state.frame }
         ensures other { result ≡ false → self.new ≡ self.old }
     {
         if nested {
@@ -231,7 +234,7 @@ impl UseCore {
     ///
     /// Conditions: the record's access is one that the bus serves, and there are live bytes and masks of bytes that it touches so.
     #[inline(never)]
-    fn judge_whole(
+    pub fn judge(
         &mut self,
         code: &Constants,
         index: u32,
@@ -265,34 +268,6 @@ impl UseCore {
                 step: index,
                 kind,
             })),
-        }
-    }
-
-    /// Judges a record of this number, which is nested where `nested` says so, by what it touches: a breach, after which nothing has
-    /// changed, or the step. Where memory runs out, nothing is said of the core from then on.
-    ///
-    /// Conditions: the record's access is one that the bus serves, and there are live bytes and masks of bytes that it touches so.
-    pub fn judge(
-        &mut self,
-        code: &Constants,
-        index: u32,
-        rec: &StepRecord,
-        nested: bool,
-        touched: &Touched,
-    ) -> Result<Used, Stopped>
-        requires access { IfSome rec.now.access (λ a. is_mapped a ≡ true) }
-        requires touched { (live : ℕ → Bool) × (bytes : ℕ → ℕ) × IsTouched touched.now rec.now live bytes }
-        ensures judged { (live : ℕ → Bool) (bytes : ℕ → ℕ) → IsTouched touched.now rec.now live bytes
-            → IsUseJudged (use_breach self.old.bounds (fresh_at self.old index) (constant_byte code.now) live bytes nested rec.now self.old.state) self.old (constant_byte code.now) index nested rec.now bytes result self.new }
-        ensures moves { OnOk result (UseMoves self.old.state.frame self.new.state.frame) }
-    {
-        if self.quick(code, index, rec, nested, touched) {
-            Ok(Used {
-                stored: ALL_BITS,
-                carries: false,
-            })
-        } else {
-            self.judge_whole(code, index, rec, nested, touched)
         }
     }
 

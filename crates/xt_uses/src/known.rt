@@ -5,17 +5,19 @@ ghost use Rattle.std.specs.Prelude.{◌≡◌, ◌<◌, ◌≤◌, ◌^◌, true
 ghost use Rattle.xt_isa.specs.Ranges.{in_range, natural_within, shift_in_range};
 ghost use Rattle.xt_rows.specs.Laws.{IsShiftAmount};
 ghost use Rattle.xt_rows.specs.Numbers.{extended, natural};
-ghost use Rattle.xt_uses.specs.Known.{boolean_mask, density_mask, loaded_mask, memory_mask, result_mask, shift_mask, src_mask, system_mask, three_mask, where_both};
+ghost use Rattle.xt_uses.specs.Known.{add_mask, boolean_mask, density_mask, loaded_mask, memory_mask, result_mask, scaled_mask, scaled_sum, shift_mask, src_mask, sum_mask, system_mask, three_mask, where_both};
 
-use crate::words::{ALL_BITS, Word, and_mask, both_mask, flipped, is_whole, mask_where, or_mask};
+use crate::words::{
+    ALL_BITS, Word, and_mask, below_unknown, both_mask, flipped, is_whole, mask_where, or_mask,
+};
 use xt_alu::{extui, sext, sll, slli, sra, srai, src, srl, srli};
 use xt_isa::Insn;
 use xt_isa::boolean::Boolean;
 use xt_isa::density::Density;
 use xt_isa::memory::{HalfName, Memory};
-use xt_isa::shift::{SextName, Shift, SrlName};
+use xt_isa::shift::{NegName, SextName, Shift, SrlName};
 use xt_isa::system::{SpecialName, System, UserName};
-use xt_isa::three::{AndName, Three};
+use xt_isa::three::{AddName, AndName, SubName, Three};
 use xt_rows::natural;
 
 // An operand within a range of numbers below 256.
@@ -35,6 +37,39 @@ fn where_both(x: Word, y: Word) -> u32
     mask_where(is_whole(x) && is_whole(y))
 }
 
+// Of a sum, a difference or a product.
+fn sum_mask(x: u32, y: u32) -> u32
+    ensures { result ≡ sum_mask x y }
+{
+    below_unknown(x & y)
+}
+
+fn scaled_mask(k: u8, x: u32) -> u32
+    requires low { 1 ≤ k }
+    requires high { k < 32 }
+    ensures { result ≡ scaled_mask k x }
+{
+    flipped(slli(flipped(x), k))
+}
+
+fn scaled_sum(k: u8, x: Word, y: Word) -> u32
+    requires low { 1 ≤ k }
+    requires high { k < 32 }
+    ensures { result ≡ scaled_sum k x y }
+{
+    sum_mask(scaled_mask(k, x.mask), y.mask)
+}
+
+fn add_mask(s: u8, t: u8, x: Word, y: Word) -> u32
+    ensures { result ≡ add_mask s t x y }
+{
+    if s == t {
+        scaled_mask(1, x.mask)
+    } else {
+        sum_mask(x.mask, y.mask)
+    }
+}
+
 fn src_mask(x: Word, y: Word, sar: u8) -> u32
     requires { sar < 64 }
     ensures { result ≡ src_mask x y sar }
@@ -51,6 +86,15 @@ fn three_mask(i: Three, x: Word, y: Word, sar: u8) -> u32
         Three::And(AndName::And, _, _, _) => and_mask(x, y),
         Three::And(AndName::Or, _, _, _) => or_mask(x, y),
         Three::And(AndName::Xor, _, _, _) => both_mask(x, y),
+        Three::Add(AddName::Add, _, s, t) => add_mask(s, t, x, y),
+        Three::Add(AddName::Addx2, _, _, _) => scaled_sum(1, x, y),
+        Three::Add(AddName::Addx4, _, _, _) => scaled_sum(2, x, y),
+        Three::Add(AddName::Addx8, _, _, _) => scaled_sum(3, x, y),
+        Three::Sub(SubName::Sub, _, _, _) => sum_mask(x.mask, y.mask),
+        Three::Sub(SubName::Subx2, _, _, _) => scaled_sum(1, x, y),
+        Three::Sub(SubName::Subx4, _, _, _) => scaled_sum(2, x, y),
+        Three::Sub(SubName::Subx8, _, _, _) => scaled_sum(3, x, y),
+        Three::Mull(_, _, _) => sum_mask(x.mask, y.mask),
         Three::Src(_, _, _) => src_mask(x, y, sar),
         Three::Moveqz(_, _, _, _) => x.mask,
         _ => where_both(x, y),
@@ -66,6 +110,7 @@ fn shift_mask(i: Shift, x: Word, sar: u8) -> u32
 {
     let lacks = flipped(x.mask);
     match i {
+        Shift::Neg(NegName::Neg, _, _) => below_unknown(x.mask),
         Shift::Srl(SrlName::Srl, _, _) => flipped(srl(lacks, sar)),
         Shift::Srl(SrlName::Sra, _, _) => flipped(sra(lacks, sar)),
         Shift::Sll(_, _) => flipped(sll(lacks, sar)),
@@ -106,8 +151,8 @@ fn memory_mask(i: Memory, x: Word, reply: u32) -> u32
         Memory::L32e(_, _, _, _) => loaded_mask(false, reply),
         Memory::L32r(_, _) => loaded_mask(false, reply),
         Memory::Movi(_, _) => ALL_BITS,
-        Memory::Addi(_, _, _) => mask_where(is_whole(x)),
-        Memory::Addmi(_, _, _) => mask_where(is_whole(x)),
+        Memory::Addi(_, _, _) => below_unknown(x.mask),
+        Memory::Addmi(_, _, _) => below_unknown(x.mask),
     }
 }
 
@@ -129,8 +174,8 @@ fn density_mask(i: Density, x: Word, y: Word, reply: u32) -> u32
 {
     match i {
         Density::L32i(_, _, _, _) => loaded_mask(false, reply),
-        Density::Add(_, _, _) => where_both(x, y),
-        Density::Addi(_, _, _) => mask_where(is_whole(x)),
+        Density::Add(_, s, t) => add_mask(s, t, x, y),
+        Density::Addi(_, _, _) => below_unknown(x.mask),
         Density::Mov(_, _) => x.mask,
         _ => ALL_BITS,
     }

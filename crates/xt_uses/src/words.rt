@@ -2,7 +2,7 @@
 #![tactic(auto)]
 
 ghost use Rattle.std.specs.Prelude.{◌≡◌};
-ghost use Rattle.xt_uses.specs.Words.{and_mask, and_word, both_mask, flipped, is_whole, knows, mask_where, not_word, ones, or_mask, whole_word, zeros};
+ghost use Rattle.xt_uses.specs.Words.{and_mask, and_word, below_unknown, both_mask, flipped, is_whole, knows, mask_where, not_word, ones, or_mask, whole_word, zeros};
 
 /// A value, and a mask of the bits of it that are known. The others are 0 in the value.
 #[derive(Clone, Copy, Debug, PartialEq, Eq)]
@@ -78,6 +78,17 @@ pub fn or_mask(x: Word, y: Word) -> u32
     ensures { result ≡ or_mask x y }
 {
     both_mask(x, y) | (ones(x) | ones(y))
+}
+
+/// The bits below the lowest that is not known.
+pub fn below_unknown(mask: u32) -> u32
+    ensures { result ≡ below_unknown mask }
+{
+    if mask == ALL_BITS {
+        mask
+    } else {
+        (1 << mask.trailing_ones()) - 1
+    }
 }
 
 /// All bits where the condition holds, else none.

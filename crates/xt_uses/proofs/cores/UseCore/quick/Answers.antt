@@ -10,8 +10,8 @@ use Rattle.xt_frames.specs.Walked.{bounds_of}
 use Rattle.xt_uses.specs.Words.{all_bits}
 use Rattle.xt_uses.specs.UseState.{UseState}
 use Rattle.xt_uses.specs.UseBreaches.{use_breach}
-use Rattle.xt_uses.specs.UseParts.{IsUseJudged, Stands, UseMoves, UseWalked, fresh_at, kept_of, use_at}
-use Rattle.xt_uses.specs.UseQuick.{done_quick}
+use Rattle.xt_uses.specs.UseParts.{IsUseJudged, UseWalked, fresh_at, kept_of, use_at}
+use Rattle.xt_uses.specs.UseQuick.{StandsStill, done_quick}
 use Rattle.xt_uses.proofs.UseCores.{use_left, use_told}
 use Rattle.xt_uses.proofs.cores.UseCore.quick.Goals as goal
 
@@ -49,9 +49,10 @@ returns-then-quick-clause-judged c = λ made live bytes touched.
     let P : Bool → Type 0 = λ b. IsUseJudged (use_breach w.bounds (fresh_at w index) code live bytes b rec w.state) w code index b rec bytes (Ok (record { stored = all_bits; carries = false })) X in
     subst P (sym c.if-nested.false) (found, left, told)
 
-pub returns-then-quick-clause-moves : goal.returns-then-quick-clause-moves
-returns-then-quick-clause-moves c = λ made.
+pub returns-then-quick-clause-still : goal.returns-then-quick-clause-still
+returns-then-quick-clause-still c = λ made.
     let i = c.self.inside in
     let new = c.quick.new.self in
     let frames = frames_of i.callers.items in
-    subst (λ (x : UseWalked). UseMoves x.state.frame (state_at frames new.holes new.view)) c.self.view_is (Stands refl)
+    let S : UseWalked → Type 0 = λ x. StandsStill x.state.frame (state_at frames new.holes new.view) in
+    subst S c.self.view_is (record { frames = refl; sp = c.quick.ensures.sp c.if-quick.true })

@@ -1,9 +1,10 @@
-use Rattle.std.proofs.Common.{◌≡◌, None, sym, ◌∙◌, ap}
+use Rattle.std.proofs.Common.{◌≡◌, ℕ, List, None, Option, sym, ◌∙◌, ap}
 use Rattle.xt_map.specs.Memory.{constant_byte}
 use Rattle.xt_fetch.specs.Fetching.{Fetches, fetched}
-use Rattle.xt_frames.specs.Frames.{FrameState}
+use Rattle.xt_frames.specs.Frames.{FrameState, known}
 use Rattle.xt_frames.specs.Parts.{state_at}
-use Rattle.xt_frames.proofs.Quickly.{IsOver, none_is, quick_kept}
+use Rattle.xt_frames.proofs.Quickly.{IsOver, none_is, quick_kept, seen_is}
+use Rattle.xt_frames.proofs.Shown.{sp_kept, sp_written}
 use Rattle.xt_uses.proofs.QuickUses.{quick_use}
 use Rattle.xt_uses.proofs.stepping.Top.quick.Goals as goal
 
@@ -34,3 +35,14 @@ returns-in-Some-clause-kept c = λ made lo hi callers capacity kept.
     let k : IsOver c.args.limits c.args.fresh (constant_byte c.args.code.now) c.args.rec.now h write top.view q.0 c.quick.new.self =
     record { plain = none_is h.nested (sym c.is_some.ensures ∙ c.if-is_some.false); over = q.1; quick = q.2 } in
     quick_kept c.args.limits c.args.fresh (constant_byte c.args.code.now) c.args.rec.now h write top.view q.0 c.quick.new.self k lo hi callers capacity kept
+
+pub returns-in-Some-clause-sp : goal.returns-in-Some-clause-sp
+returns-in-Some-clause-sp c = λ made.
+    let top = c.args.self.now in
+    let h = top.holes in
+    let write = c.in-Some.write in
+    let q = c.quick.ensures.quick write c.in-Some.is in
+    let k : IsOver c.args.limits c.args.fresh (constant_byte c.args.code.now) c.args.rec.now h write top.view q.0 c.quick.new.self =
+    record { plain = none_is h.nested (sym c.is_some.ensures ∙ c.if-is_some.false); over = q.1; quick = q.2 } in
+    ap (λ (s : List (Option ℕ)). known s 1) (seen_is c.args.limits c.args.fresh (constant_byte c.args.code.now) c.args.rec.now h write top.view q.0 c.quick.new.self k)
+    ∙ sp_written top.view.seen write (sp_kept write k.quick.row.free)
