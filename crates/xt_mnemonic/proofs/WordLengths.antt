@@ -1,5 +1,5 @@
 -- A word that spells an instruction has the instruction's length.
-use Rattle.std.proofs.Common.{◌≡◌, ℕ, ◌<◌, ◌%◌, Bool, true, false, ◌&&◌, eqb, List, [], ◌∷◌, Option, Some, refl, sym, ap, ◌∙◌, arith, bit_and}
+use Rattle.std.proofs.Common.{◌≡◌, ◌<◌, ◌%◌, Bool, true, false, ◌&&◌, eqb, List, [], ◌∷◌, Option, Some, refl, sym, ap, ◌∙◌, arith, bit_and}
 use Rattle.std.proofs.lemmas.Bool.{eqb-true, and_parts}
 use Rattle.std.proofs.lemmas.Option.{none-some}
 use Rattle.std.proofs.lemmas.Grind.{numeral_and}
