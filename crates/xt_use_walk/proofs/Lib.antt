@@ -2,6 +2,7 @@ pub mod Places
 pub mod Served
 pub mod Stores
 pub mod Following
+pub mod Sparing
 pub mod Moving
 pub mod Seen
 pub mod Sideways
@@ -11,3 +12,4 @@ pub mod Numbered
 pub mod Said
 pub mod Openings
 pub mod Turning
+pub mod OneAnswer

@@ -90,7 +90,7 @@ same_low : (hi s t : ℕ) (frames : List Frame) (a : ℕ) → (0 < length frames
 same_low hi s t [] a low = refl
 same_low hi s t (f ∷ fs) a low = ap (λ (n : ℕ). touches n 16 a || (touches (sp_of f - 16 * 1) (16 * (1 - 1)) a || covers_byte (areas hi (sp_of f) f.by fs) a)) (low (omega arith))
 
-stands_same : (r : Range) (g u : FrameState) → u.frames ≡ g.frames → (0 < length g.frames → known u.seen 1 - 16 ≡ known g.seen 1 - 16) → (a : ℕ) → is_live r u a ≡ is_live r g a
+pub stands_same : (r : Range) (g u : FrameState) → u.frames ≡ g.frames → (0 < length g.frames → known u.seen 1 - 16 ≡ known g.seen 1 - 16) → (a : ℕ) → is_live r u a ≡ is_live r g a
 stands_same r g u e low a = ap (λ (fs : List Frame). covers_byte (areas r.hi (known u.seen 1) 1 fs) a) e ∙ same_low r.hi (known u.seen 1) (known g.seen 1) g.frames a low
 
 -- nobody has called, before or after

@@ -2,7 +2,7 @@
 -- What the walk keeps of the bytes of memory: of those of internal data memory, in which live save
 -- areas they lie, and of each byte of the three memory regions the mask with which it is read.
 use Rattle.std.specs.Prelude.{◌≡◌, ℕ, ◌+◌, ◌-◌, ◌<◌, ◌≤◌, Bool, true, ◌||◌, ◌==◌, nat_le}
-use Rattle.std.specs.Prelude.{if◌then◌else◌, Option, List, length, slice_index_or}
+use Rattle.std.specs.Prelude.{if◌then◌else◌, Option, Some, None, List, length, slice_index_or}
 use Rattle.xt_map.specs.declared.access.Access.{Access}
 use Rattle.xt_map.specs.Regions.{is_memory, region_of}
 use Rattle.xt_map.specs.Touching.{touches}
@@ -68,6 +68,15 @@ abbrev pub stored_on : List Held → ℕ → ℕ → ℕ → (ℕ → ℕ) → �
 stored_on marks stored addr size masks a =
     if is_live_byte marks a then masks a
     else (if touches addr size a then stored_byte stored addr a else masks a)
+
+-- each bit is known of so many bytes from an address on
+abbrev pub AreKnown : (ℕ → ℕ) → ℕ → ℕ → Type 0
+AreKnown masks addr size = (a : ℕ) → addr ≤ a → a < addr + size → masks a ≡ 255
+
+-- each bit is known of the bytes of memory that an access touches
+abbrev pub KnowsAccess : (ℕ → ℕ) → Option Access → Type 0
+KnowsAccess masks None = Unit {0}
+KnowsAccess masks (Some x) = is_memory (region_of x.addr) ≡ true → AreKnown masks x.addr x.size
 
 -- the masks after a judged store, where a live byte keeps its own
 abbrev pub stored_over : List Held → ℕ → Option Access → (ℕ → ℕ) → ℕ → ℕ

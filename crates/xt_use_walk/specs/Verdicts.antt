@@ -50,3 +50,9 @@ IsSaid r (Broken first) = IsBroken r first
 abbrev pub IsUsesOf : Bool → Course → Uses → Type 0
 IsUsesOf false r uses = uses ≡ Unchecked
 IsUsesOf true r uses = IsSaid r uses
+
+-- a run has one answer
+abbrev pub UsesAreOne : Type 0
+UsesAreOne =
+    (checked : Bool) (r : Course) (one other : Uses)
+    → IsUsesOf checked r one → IsUsesOf checked r other → one ≡ other

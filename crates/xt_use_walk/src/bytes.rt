@@ -7,7 +7,7 @@ ghost use Rattle.xt_map.specs.Touching.{touches};
 ghost use Rattle.xt_frames.specs.Breaches.{some_byte};
 ghost use Rattle.xt_uses.specs.UseBreaches.{swaps_unknown};
 ghost use Rattle.xt_uses.specs.UseStep.{reply_mask, unknown_bits};
-ghost use Rattle.xt_use_walk.specs.Bytes.{AreBytes, AreMasks, IsFull, is_byte, mask_at, place, put_at, without};
+ghost use Rattle.xt_use_walk.specs.Bytes.{AreBytes, AreMasks, IsFull, KnowsAccess, is_byte, mask_at, place, put_at, without};
 
 use std::alloc::{AllocError, Global};
 use xt_map::{Access, Kind, is_in_memory};
@@ -107,6 +107,35 @@ impl ByteMasks {
             return true;
         }
         self.either_unknown(addr + 2)
+    }
+
+    /// Whether each bit is known of so many bytes of memory.
+    pub fn are_known(&self, addr: u32, size: u8) -> bool
+        requires full { IsFull self.now }
+        requires size { is_size size ≡ true }
+        requires bytes { AreBytes addr size }
+        ensures { result ≡ not (some_byte (λ a. not (mask_at self.now a == 255)) addr size) }
+    {
+        match size {
+            1 => !self.is_unknown(addr),
+            2 => !self.either_unknown(addr),
+            _ => !self.some_unknown(addr),
+        }
+    }
+
+    /// Whether an access touches no byte of memory of which a bit is not known.
+    pub fn knows(&self, access: Option<Access>) -> bool
+        requires full { IsFull self.now }
+        requires served { IfSome access (λ a. is_mapped a ≡ true) }
+        ensures { result ≡ true → KnowsAccess (mask_at self.now) access }
+    {
+        let Some(a) = access else {
+            return true;
+        };
+        if !is_in_memory(a.addr) {
+            return true;
+        }
+        self.are_known(a.addr, a.size)
     }
 
     /// Whether the access is an S32C1I that touches a byte of which a bit is not known.

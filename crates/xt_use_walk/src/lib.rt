@@ -3,6 +3,7 @@
 
 mod bytes;
 mod judging;
+pub mod laws;
 mod side;
 mod walk;
 

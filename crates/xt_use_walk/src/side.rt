@@ -3,7 +3,7 @@
 
 ghost use Rattle.std.specs.Prelude.{◌≡◌, ◌≤◌, ◌<◌, ◌+◌, ◌-◌, ◌^◌, ℕ, Bool, true, IfSome, length};
 ghost use Rattle.xt_map.specs.Memory.{constant_byte};
-ghost use Rattle.xt_map.specs.Regions.{is_mapped};
+ghost use Rattle.xt_map.specs.Regions.{is_mapped, is_size};
 ghost use Rattle.xt_map.specs.Touching.{touches};
 ghost use Rattle.xt_frames.specs.Frames.{FrameState};
 ghost use Rattle.xt_frames.specs.HandlerSteps.{mode_after};
@@ -26,7 +26,7 @@ use xt_discipline::{
 use xt_frames::is_nesting;
 use xt_map::{Access, Constants, Kind, is_in_memory};
 use xt_trace::StepRecord;
-use xt_uses::{Lack, Stopped, Touched, UseCore};
+use xt_uses::{ALL_BITS, Lack, Stopped, Touched, UseCore};
 
 /// What is known of the bytes of memory.
 #[derive(Drop)]
@@ -79,8 +79,9 @@ fn count_of(carries: bool) -> u32
 }
 
 impl Bytes {
-    /// What the access of a record touches.
-    fn touched(&self, rec: &StepRecord) -> Touched
+    /// What the access of a record touches, byte by byte.
+    #[inline(never)]
+    fn found(&self, rec: &StepRecord) -> Touched
         requires full { AreFull self.now }
         requires served { IfSome rec.now.access (λ a. is_mapped a ≡ true) }
         ensures { (live0 live1 stale : ℕ → Bool) → Agrees self.now.marks.items live0 live1 stale
@@ -91,6 +92,24 @@ impl Bytes {
             swaps: self.masks.swaps_unknown(rec.access),
             reply: self.masks.reply_mask(rec.access),
         }
+    }
+
+    /// What the access of a record touches: of bytes that are known none is live, so most are not looked at one by one.
+    fn touched(&self, rec: &StepRecord) -> Touched
+        requires full { AreFull self.now }
+        requires served { IfSome rec.now.access (λ a. is_mapped a ≡ true) }
+        ensures some { (live : ℕ → Bool) × (masks : ℕ → ℕ) × IsTouched result rec.now live masks }
+        ensures touched { (core : ℕ) (own others : ℕ → Bool) (masks : ℕ → ℕ) → KnowsBytes core self.now own others masks
+            → IsTouched result rec.now (either own others) masks }
+    {
+        if self.masks.knows(rec.access) {
+            return Touched {
+                saves: false,
+                swaps: false,
+                reply: ALL_BITS,
+            };
+        }
+        self.found(rec)
     }
 
     /// A byte of memory gets this mask, unless it is live.
@@ -121,6 +140,21 @@ impl Bytes {
         }
     }
 
+    /// The same, where bytes that are known stay so without being looked at one by one.
+    fn store_some(&mut self, addr: u32, size: u8, stored: u32)
+        requires full { AreFull self.old }
+        requires bytes { AreBytes addr size }
+        requires size { is_size size ≡ true }
+        ensures full { AreFull self.new }
+        ensures marks { self.new.marks.items ≡ self.old.marks.items }
+        ensures masks { AreMasks self.new.masks (stored_on self.old.marks.items stored addr size (mask_at self.old.masks)) }
+    {
+        if stored == ALL_BITS && self.masks.are_known(addr, size) {
+            return;
+        }
+        self.store_bytes(addr, u32::from(size), stored);
+    }
+
     /// A judged store gives the bytes that it touches what is known of the value. Nothing is known of a live byte.
     fn store(&mut self, access: Option<Access>, stored: u32)
         requires full { AreFull self.old }
@@ -132,7 +166,7 @@ impl Bytes {
         if let Some(a) = access {
             if let Kind::Store(_) = a.kind {
                 if is_in_memory(a.addr) {
-                    self.store_bytes(a.addr, u32::from(a.size), stored);
+                    self.store_some(a.addr, a.size, stored);
                 }
             }
         }
@@ -237,8 +271,44 @@ impl Side {
         }
     }
 
+    /// Judges a record that is no handler step and touches this: a breach, after which nothing has changed, or the step, whose save areas
+    /// and stores the bytes follow, and then the mode is the next one.
+    #[inline(never)]
+    fn judge_whole(
+        &mut self,
+        code: &Constants,
+        bytes: &mut Bytes,
+        rec: &StepRecord,
+        nested: bool,
+        next: Mode,
+        touched: &Touched,
+    ) -> Result<(), Stopped>
+        requires side { IsUseSide self.old }
+        requires room { self.old.steps + 1 < 2 ^ 32 }
+        requires served { IfSome rec.now.access (λ a. is_mapped a ≡ true) }
+        requires next { mode_of next ≡ mode_after (constant_byte code.now) (mode_of self.old.mode) rec.now }
+        requires full { AreFull bytes.old }
+        requires touched { (live : ℕ → Bool) × (masks : ℕ → ℕ) × IsTouched touched.now rec.now live masks }
+        ensures full { AreFull bytes.new }
+        ensures seen { (others : ℕ → Bool) (masks : ℕ → ℕ) → KnowsBytes self.old.core bytes.old (live_in self.old.uses) others masks
+            → IsTouched touched.now rec.now (either (live_in self.old.uses) others) masks
+            → IsUseSeen self.old self.new bytes.new others masks
+            (use_seen_judged (constant_byte code.now) self.old.uses.bounds (standing_of self.old) others masks nested rec.now) result }
+    {
+        let depth = self.uses.depth();
+        let call = self.newest();
+        let used = self.uses.judge(code, self.steps, rec, nested, touched)?;
+        self.mode = next;
+        self.steps += 1;
+        self.carried += count_of(used.carries);
+        bytes.store(rec.access, used.stored);
+        self.follow(bytes, depth, call);
+        Ok(())
+    }
+
     /// Judges a record that is no handler step: a breach, after which nothing has changed, or the step, whose save areas and stores the
-    /// bytes follow, and then the mode is the next one.
+    /// bytes follow, and then the mode is the next one. A quick step leaves the frames and the stack pointer as they are, and so the save
+    /// areas.
     fn judge(
         &mut self,
         code: &Constants,
@@ -257,16 +327,14 @@ impl Side {
             → IsUseSeen self.old self.new bytes.new others masks
             (use_seen_judged (constant_byte code.now) self.old.uses.bounds (standing_of self.old) others masks nested rec.now) result }
     {
-        let depth = self.uses.depth();
-        let call = self.newest();
         let touched = bytes.touched(rec);
-        let used = self.uses.judge(code, self.steps, rec, nested, &touched)?;
-        self.mode = next;
-        self.steps += 1;
-        self.carried += count_of(used.carries);
-        bytes.store(rec.access, used.stored);
-        self.follow(bytes, depth, call);
-        Ok(())
+        if self.uses.quick(code, self.steps, rec, nested, &touched) {
+            self.mode = next;
+            self.steps += 1;
+            bytes.store(rec.access, ALL_BITS);
+            return Ok(());
+        }
+        self.judge_whole(code, bytes, rec, nested, next, &touched)
     }
 
     /// Tests the record of a window exception outside handler steps: a breach, after which nothing has changed, or the first of the

@@ -1,14 +1,13 @@
-use Rattle.std.proofs.Common.{ℕ, refl, sym, ◌∙◌, ap, subst}
+use Rattle.std.proofs.Common.{refl, sym, ◌∙◌, ap}
 use Rattle.xt_map.specs.Touching.{is_store}
-use Rattle.xt_use_walk.specs.Bytes.{AreBytes, mask_at}
+use Rattle.xt_use_walk.specs.Bytes.{mask_at}
 use Rattle.xt_use_walk.proofs.Served.{served_bytes, served_some}
 use Rattle.xt_use_walk.proofs.Stores.{sends, stored_at}
 use Rattle.xt_use_walk.proofs.side.Bytes.store.Goals as goal
 
-pub store_bytes-requires-clause-bytes : goal.store_bytes-requires-clause-bytes
-store_bytes-requires-clause-bytes c =
-    let a = c.in-Some.a in
-    subst (λ (n : ℕ). AreBytes a.addr n) (sym c.from.ensures) (served_bytes a (served_some c.args.access a c.in-Some.is c.requires.served) (sym c.is_in_memory.ensures ∙ c.if-is_in_memory.true))
+pub store_some-requires-clause-bytes : goal.store_some-requires-clause-bytes
+store_some-requires-clause-bytes c =
+    served_bytes c.in-Some.a (served_some c.args.access c.in-Some.a c.in-Some.is c.requires.served) (sym c.is_in_memory.ensures ∙ c.if-is_in_memory.true)
 
 pub returns-else-is_in_memory-clause-masks : goal.returns-else-is_in_memory-clause-masks
 returns-else-is_in_memory-clause-masks c =

@@ -1,79 +1,33 @@
-use Rattle.std.proofs.Common.{◌≡◌, ℕ, ◌+◌, Bool, ◌||◌, Result, Err, refl, sym, ◌∙◌, ap, subst, rules}
+use Rattle.std.proofs.Common.{◌≡◌, ◌+◌, ◌-◌, ◌||◌, ap, arith}
 use Rattle.xt_map.specs.Memory.{constant_byte}
-use Rattle.xt_frames.specs.Breaches.{Bounds}
-use Rattle.xt_discipline.specs.Bytes.{Agrees, either, held_at}
-use Rattle.xt_uses.specs.declared.told.Stopped.{Stopped}
-use Rattle.xt_uses.specs.UseBreaches.{use_breach}
-use Rattle.xt_uses.specs.UseParts.{UseWalked, fresh_at}
-use Rattle.xt_uses.specs.UseWalk.{count_of, mask_stored, use_seen_judged}
+use Rattle.xt_discipline.specs.Bytes.{either}
+use Rattle.xt_uses.specs.Words.{all_bits}
+use Rattle.xt_uses.specs.UseWalk.{count_of, mask_stored}
 use Rattle.xt_use_walk.specs.declared.side.Side.{Side}
-use Rattle.xt_use_walk.specs.Bytes.{mask_at, without}
-use Rattle.xt_use_walk.specs.Sides.{IsUseSeen, StackOf, live_in, standing_of}
+use Rattle.xt_use_walk.specs.Bytes.{without}
+use Rattle.xt_use_walk.specs.Sides.{live_in}
 use Rattle.xt_use_walk.proofs.Following.{knows_stored}
-use Rattle.xt_use_walk.proofs.Seen.{followed_on, found_by, judged_past, judged_stops, moves_where, past_where, side_past, touched_for}
+use Rattle.xt_use_walk.proofs.Moving.{follows_same, stands_same}
+use Rattle.xt_use_walk.proofs.Seen.{found_by, judged_past}
 use Rattle.xt_use_walk.proofs.side.Side.judge.Goals as goal
 
-pub judge-requires-clause-touched : goal.judge-requires-clause-touched
-judge-requires-clause-touched c =
-    let marks = c.args.bytes.now.marks.items in
-    let live0 : ℕ → Bool = λ a. (held_at marks a).live0 in
-    let live1 : ℕ → Bool = λ a. (held_at marks a).live1 in
-    let stale : ℕ → Bool = λ a. (held_at marks a).stale in
-    let own : Agrees marks live0 live1 stale = record { first_core = λ a. refl; second_core = λ a. refl; no_longer = λ a. refl } in
-    (either live0 live1, mask_at c.args.bytes.now.masks, c.touched-touched.ensures live0 live1 stale own)
-
-pub returns-in_err-used-clause-seen : goal.returns-in_err-used-clause-seen
-returns-in_err-used-clause-seen c others masks known =
+pub returns-then-quick-clause-seen : goal.returns-then-quick-clause-seen
+returns-then-quick-clause-seen c others masks known =
     let s = c.args.self.now in
     let code = constant_byte c.args.code.now in
     let rec = c.args.rec.now in
     let nested = c.args.nested in
-    let e = c.in_err-used.field-0.0 in
-    let touched = touched_for s.core c.args.bytes.now (live_in s.uses) others masks rec c.touched-touched.result c.requires.served c.touched-touched.ensures known in
-    let judged = c.judge.ensures.judged (either (live_in s.uses) others) masks touched in
-    let same : c.from_residual.result ≡ Err e = search rules in
-    let new : Side = record s { uses = c.judge.new.self } in
-    subst (λ (r : Result Unit Stopped). IsUseSeen s new c.args.bytes.now others masks (use_seen_judged code s.uses.bounds (standing_of s) others masks nested rec) r) (sym same)
-    (judged_stops s new c.args.bytes.now others masks code nested rec c.judge.new.self e c.judge.result c.requires.side c.in_err-used.was judged refl)
-
-pub returns-clause-seen : goal.returns-clause-seen
-returns-clause-seen c others masks known =
-    let s = c.args.self.now in
-    let code = constant_byte c.args.code.now in
-    let rec = c.args.rec.now in
-    let nested = c.args.nested in
-    let uses = c.judge.new.self in
-    let used = c.in_ok-used.used in
-    let touched = touched_for s.core c.args.bytes.now (live_in s.uses) others masks rec c.touched-touched.result c.requires.served c.touched-touched.ensures known in
-    let judged = c.judge.ensures.judged (either (live_in s.uses) others) masks touched in
-    let past = past_where (found_by s others masks code nested rec) s.uses uses code s.steps nested rec masks c.judge.result used c.in_ok-used.was judged in
-    let moves = moves_where s.uses.state.frame uses.state.frame c.judge.result used c.in_ok-used.was c.judge.ensures.moves in
-    let store = c.store.ensures in
+    let uses = c.quick.new.self in
     let own = live_in s.uses in
-    let middle = knows_stored s.core c.args.bytes.now c.store.new.self own others masks used.stored rec.access known store.full store.marks store.masks in
-    let bounds : uses.bounds ≡ s.uses.bounds = ap (λ (w : UseWalked). w.bounds) past.1 in
-    let core : uses.core ≡ s.core = ap (λ (w : UseWalked). w.core) past.1 ∙ c.requires.side.core_is in
-    let followed = c.follow.ensures.follows s.uses.state.frame moves (subst (λ (b : Bounds). StackOf b s.uses.state.frame) (sym bounds) c.depth-depth.ensures.stack) c.depth-depth.ensures.depth c.newest-call.ensures in
-    let bytes = followed_on s.core s.uses.bounds uses.bounds s.uses.state.frame uses.state.frame c.store.new.self c.follow.new.bytes bounds followed others (without (λ a. own a || others a) (mask_stored used.stored rec.access masks)) middle in
-    let n = c.count_of.result in
-    let new : Side = record s { uses = uses; mode = c.args.next; steps = s.steps + 1; carried = s.carried + n } in
-    judged_past s new uses c.follow.new.bytes others masks code rec (found_by s others masks code nested rec) tt nested c.args.next used.stored n c.requires.next c.requires.side past.0 past.1 past.2.stores (c.count_of.ensures.value ∙ ap count_of past.2.unknown) c.count_of.ensures.small refl bytes
-
-pub follow-requires-clause-side : goal.follow-requires-clause-side
-follow-requires-clause-side c =
-    let s = c.args.self.now in
-    let code = constant_byte c.args.code.now in
-    let rec = c.args.rec.now in
-    let nested = c.args.nested in
-    let marks = c.args.bytes.now.marks.items in
-    let live0 : ℕ → Bool = λ a. (held_at marks a).live0 in
-    let live1 : ℕ → Bool = λ a. (held_at marks a).live1 in
-    let stale : ℕ → Bool = λ a. (held_at marks a).stale in
-    let own : Agrees marks live0 live1 stale = record { first_core = λ a. refl; second_core = λ a. refl; no_longer = λ a. refl } in
-    let masks = mask_at c.args.bytes.now.masks in
-    let uses = c.judge.new.self in
-    let used = c.in_ok-used.used in
-    let found = use_breach s.uses.bounds (fresh_at s.uses s.steps) code (either live0 live1) masks nested rec s.uses.state in
-    let past = past_where found s.uses uses code s.steps nested rec masks c.judge.result used c.in_ok-used.was (c.judge.ensures.judged (either live0 live1) masks (c.touched-touched.ensures live0 live1 stale own)) in
-    let n = c.count_of.result in
-    side_past s uses code nested rec masks c.args.next n c.requires.side past.1 c.count_of.ensures.small
+    let g = s.uses.state.frame in
+    let u = uses.state.frame in
+    let touched = c.touched-touched.ensures.touched s.core own others masks known in
+    let past = c.quick.ensures.judged c.if-quick.true (either own others) masks touched in
+    let still = c.quick.ensures.still c.if-quick.true in
+    let store = c.store.ensures in
+    let middle = knows_stored s.core c.args.bytes.now c.store.new.self own others masks all_bits rec.access known store.full store.marks store.masks in
+    let bytes = follows_same s.core s.uses.bounds.range g u c.store.new.self (stands_same s.uses.bounds.range g u still.frames (λ some. ap (λ n. n - 16) still.sp)) others (without (λ a. own a || others a) (mask_stored all_bits rec.access masks)) middle in
+    let new : Side = record s { uses = uses; mode = c.args.next; steps = s.steps + 1 } in
+    let none : s.carried ≡ s.carried + 0 = omega arith in
+    judged_past s new uses c.store.new.self others masks code rec (found_by s others masks code nested rec) tt nested c.args.next all_bits 0 c.requires.next c.requires.side past.0 past.1 past.2.stores (ap count_of past.2.unknown) (omega arith)
+    (ap (λ n. record s { uses = uses; mode = c.args.next; steps = s.steps + 1; carried = n }) none) bytes
