@@ -1,9 +1,11 @@
 -- What is so of the uses of a run, in the words of an image and its run.
-use Rattle.std.proofs.Common.{◌≡◌, ◌<◌, ℕ, true, zero, suc, List, [], ◌∷◌, length, arith, refl, ap, sym, ◌∙◌, subst}
+use Rattle.std.proofs.Common.{◌≡◌, ◌<◌, ℕ, Bool, true, false, Some, None, zero, suc, List, [], ◌∷◌, length, arith, refl, ap, sym, ◌∙◌, subst}
 use Rattle.std.specs.Prelude.{slice_index}
 use Rattle.std.specs.List.{AllByRecursion}
 use Rattle.std.proofs.lemmas.List.Elements.{recursion_from_All}
 use Rattle.std.proofs.lemmas.Bool.{and_parts}
+use Rattle.std.proofs.lemmas.Option.{none-some}
+use Rattle.xt_map.specs.declared.contents.MemoryContents.{MemoryContents}
 use Rattle.xt_map.specs.declared.segment.Segment.{Segment}
 use Rattle.xt_trace.specs.declared.record.StepRecord.{StepRecord}
 use Rattle.xt_trace.specs.declared.run.Run.{Run}
@@ -14,7 +16,7 @@ use Rattle.xt_image.specs.Parts.{FitsImage, FitsSegment}
 use Rattle.xt_rows.specs.Laws.{IsWord}
 use Rattle.xt_exec.specs.State.{State}
 use Rattle.xt_core.specs.Runs.{IsRunOf, code_of, records_of}
-use Rattle.xt_frames.specs.FirstBreach.{Course, by_core, turns}
+use Rattle.xt_frames.specs.FirstBreach.{Course, IsFirstBreach, by_core, turns}
 use Rattle.xt_stretch.specs.declared.HandlerVerdict.{HandlerVerdict}
 use Rattle.xt_stretch.specs.declared.HandlerVerdict.TheVariants.{Yes, No}
 use Rattle.xt_stretch.specs.declared.Side.TheVariants.{Overflow, Underflow}
@@ -27,10 +29,11 @@ use Rattle.xt_simulation.specs.Opening.{AreSmall, IsRunnable, memory_of}
 use Rattle.xt_simulation.proofs.Images.{six_suffice}
 use Rattle.xt_uses.specs.UseLaws.{IsUseRun}
 use Rattle.xt_use_walk.specs.declared.walk.Uses.{Uses}
-use Rattle.xt_use_walk.specs.Verdicts.{IsUsesOf, course_in}
+use Rattle.xt_use_walk.specs.declared.walk.Uses.TheVariants.{Unchecked, Whole, Broken}
+use Rattle.xt_use_walk.specs.Verdicts.{IsSaid, IsUsesOf, UsesAreOne, course_in}
 use Rattle.xt_use_run.specs.Laws as laws
 use Rattle.xt_use_run.specs.Laws.{UsesAreSo, UsesOfRunsAreLater}
-use Rattle.xt_use_report.specs.Held.{AreUsesLater, AreUsesSo, IsLater, course_of, is_checked, opening}
+use Rattle.xt_use_report.specs.Held.{AreSo, AreUsesLater, AreUsesSo, IsLater, IsOnly, course_of, is_checked, opening}
 
 -- ---- a run of an image with what is kept of its records
 
@@ -109,11 +112,39 @@ uses_are image r handlers xs ys uses answers first second h =
 
 -- ---- the laws
 
-pub are_so : (image : Image) (r : Run) → UsesAreSo → FitsImage image → IsWord r.options.vecbase → IsWord r.options.entry1 → IsRunOf image r → AreUsesSo image r
-are_so image r law fits vecbase entry1 h checked apart =
-    let so = law image.segments image.entry r.options (short_of image r) (runnable image r fits vecbase entry1 h) (passes (code_of image) r.options.vecbase checked) apart (run_by image r h) in
-    subst (λ (c : Course). IsUseRun c (memory_of (opening image r))) (course_is image r h) so
+-- where the breach of an answer stands, or the run ends
+said_so : (c : Course) (opening : MemoryContents) (uses : Uses) → IsSaid c uses → IsUseRun c opening → AreSo c opening uses
+said_so c opening Unchecked said fits = absurd said
+said_so c opening (Whole n m) said fits = record { history = said.history; is_history = said.is_history; place = said.place; is_first = said.first; fits = fits }
+said_so c opening (Broken first) said fits = record { history = said.history; is_history = said.is_history; place = said.place; is_first = said.is_first; fits = fits }
 
-pub are_later : (image : Image) (r : Run) → UsesOfRunsAreLater → FitsImage image → IsWord r.options.vecbase → IsWord r.options.entry1 → IsRunOf image r → AreUsesLater image r
-are_later image r law fits vecbase entry1 h =
-    subst IsLater (course_is image r h) (law image.segments image.entry r.options (short_of image r) (runnable image r fits vecbase entry1 h) (run_by image r h))
+said_of : (checked : Bool) (c : Course) (uses : Uses) → checked ≡ true → IsUsesOf checked c uses → IsSaid c uses
+said_of true c uses e said = said
+said_of false c uses e said = absurd cc
+
+pub are_so : (image : Image) (r : Run) (uses : Uses) → UsesAreSo → FitsImage image → IsWord r.options.vecbase → IsWord r.options.entry1 → IsRunOf image r → IsUsesOf (is_checked image r) (course_of image r) uses → AreUsesSo image r uses
+are_so image r uses law fits vecbase entry1 h of checked apart =
+    let so = law image.segments image.entry r.options (short_of image r) (runnable image r fits vecbase entry1 h) (passes (code_of image) r.options.vecbase checked) apart (run_by image r h) in
+    said_so (course_of image r) (memory_of (opening image r)) uses (said_of (is_checked image r) (course_of image r) uses checked of)
+    (subst (λ (c : Course). IsUseRun c (memory_of (opening image r))) (course_is image r h) so)
+
+whole_said : (c : Course) (uses : Uses) → IsLater c → IsSaid c uses → (p : ℕ) → IsFirstBreach c p None → uses ≡ Whole 0 0
+whole_said c Unchecked later said p first = absurd said
+whole_said c (Whole n m) later said p first =
+    let both = (later said.history p said.place None None said.is_history first said.first).1 refl in
+    let a = said.counts0 ∙ both.1 in
+    let b = said.counts1 ∙ both.2 in
+    λ i. Whole (a i) (b i)
+whole_said c (Broken named) later said p first =
+    absurd (none-some named.breach (sym ((later said.history p said.place None (Some named.breach) said.is_history first said.is_first).1 refl).0))
+
+pub are_later : (image : Image) (r : Run) (uses : Uses) → UsesOfRunsAreLater → FitsImage image → IsWord r.options.vecbase → IsWord r.options.entry1 → IsRunOf image r → IsUsesOf (is_checked image r) (course_of image r) uses → AreUsesLater image r uses
+are_later image r uses law fits vecbase entry1 h of =
+    let later : IsLater (course_of image r) = subst IsLater (course_is image r h) (law image.segments image.entry r.options (short_of image r) (runnable image r fits vecbase entry1 h) (run_by image r h)) in
+    record {
+      later = later;
+      whole = λ checked. whole_said (course_of image r) uses later (said_of (is_checked image r) (course_of image r) uses checked of);
+    }
+
+pub is_only : (image : Image) (r : Run) (uses : Uses) → UsesAreOne → IsUsesOf (is_checked image r) (course_of image r) uses → IsOnly image r uses
+is_only image r uses law of other said = law (is_checked image r) (course_of image r) other uses said of

@@ -1,5 +1,6 @@
 -- What is so of the uses of a run of an image ('profile').
-use Rattle.std.specs.Prelude.{◌≡◌, ℕ, ◌≤◌, Bool, true, Option, None}
+use Rattle.std.specs.Prelude.{◌≡◌, ℕ, ◌≤◌, Bool, true, Option, Some, None}
+use Rattle.xt_map.specs.declared.contents.MemoryContents.{MemoryContents}
 use Rattle.xt_trace.specs.declared.run.Run.{Run}
 use Rattle.xt_image.specs.declared.image.Image.{Image}
 use Rattle.xt_core.specs.Runs.{code_of, records_of}
@@ -11,7 +12,9 @@ use Rattle.xt_simulation.specs.Opening.{Openings, memory_of, openings_of}
 use Rattle.xt_simulation.specs.Walking.{Apart}
 use Rattle.xt_uses.specs.FirstUse.{History, IsFirstUse, IsHistory, carried}
 use Rattle.xt_uses.specs.UseLaws.{IsUseRun}
-use Rattle.xt_use_walk.specs.Verdicts.{course_in}
+use Rattle.xt_use_walk.specs.declared.walk.Uses.{Uses}
+use Rattle.xt_use_walk.specs.declared.walk.Uses.TheVariants.{Unchecked, Whole, Broken}
+use Rattle.xt_use_walk.specs.Verdicts.{IsUsesOf, course_in}
 
 -- a run of an image, to be judged: the records of both cores, in the order of its schedule
 abbrev pub course_of : Image → Run → Course
@@ -25,14 +28,28 @@ is_checked image r = are_yes (handlers_of (code_of image) r.options.vecbase)
 abbrev pub opening : Image → Run → Openings
 opening image r = openings_of image.segments image.entry r.options
 
--- Where the handlers pass and the two stacks are apart: of each judged record before the first
--- breach the machine of uses has the PC, the kind, and what is known of the write, the access and
--- the reply, over one memory.
-abbrev pub AreUsesSo : Image → Run → Type 0
-AreUsesSo image r =
+-- the breach that an answer names, if it names one
+abbrev pub found_in : Uses → Option Breach
+found_in Unchecked = None
+found_in (Whole n m) = None
+found_in (Broken first) = Some first.breach
+
+-- Where the handlers pass and the two stacks are apart: the breach of the answer stands at this
+-- turn, or none does and it is the end; and of each judged record before the first breach the
+-- machine of uses has the PC, the kind, and what is known of the write, the access and the reply,
+-- over one memory.
+pub record AreSo (c : Course) (opening : MemoryContents) (uses : Uses) : Type 0 where
+  pub history : History
+  pub is_history : IsHistory c history
+  pub place : ℕ
+  pub is_first : IsFirstUse c history place (found_in uses)
+  pub fits : IsUseRun c opening
+
+abbrev pub AreUsesSo : Image → Run → Uses → Type 0
+AreUsesSo image r uses =
     is_checked image r ≡ true
     → Apart (opening image r).range0 (opening image r).range1
-    → IsUseRun (course_of image r) (memory_of (opening image r))
+    → AreSo (course_of image r) (memory_of (opening image r)) uses
 
 -- The first breach of uses is never before that of the stack discipline; where that shows none,
 -- there is none of uses, and nothing unknown is carried.
@@ -43,5 +60,15 @@ IsLater c =
     → (p ≤ q)
     × (breach ≡ None → (found ≡ None) × (carried c h 0 q ≡ 0) × (carried c h 1 q ≡ 0))
 
-abbrev pub AreUsesLater : Image → Run → Type 0
-AreUsesLater image r = IsLater (course_of image r)
+-- so where the stack discipline shows none, the answer is that uses are whole and carry nothing
+pub record AreLater (c : Course) (checked : Bool) (uses : Uses) : Type 0 where
+  pub later : IsLater c
+  pub whole : checked ≡ true → (p : ℕ) → IsFirstBreach c p None → uses ≡ Whole 0 0
+
+abbrev pub AreUsesLater : Image → Run → Uses → Type 0
+AreUsesLater image r uses = AreLater (course_of image r) (is_checked image r) uses
+
+-- no other answer is one of the run
+abbrev pub IsOnly : Image → Run → Uses → Type 0
+IsOnly image r uses =
+    (other : Uses) → IsUsesOf (is_checked image r) (course_of image r) other → other ≡ uses

@@ -5,14 +5,15 @@ use Rattle.xt_image.specs.declared.image.Image.{Image}
 use Rattle.xt_core.specs.Runs.{code_of}
 use Rattle.xt_use_walk.specs.declared.walk.Uses.{Uses}
 use Rattle.xt_use_walk.specs.Verdicts.{IsUsesOf}
-use Rattle.xt_use_report.specs.Held.{AreUsesLater, AreUsesSo, course_of, is_checked}
+use Rattle.xt_use_report.specs.Held.{AreUsesLater, AreUsesSo, IsOnly, course_of, is_checked}
 use Rattle.xt_use_report.specs.Texts.{uses_text}
 
--- This is the text of what the discipline of uses says of the run. What it knows of the run is so,
--- and it shows no breach before the stack discipline does.
+-- This is the text of what the discipline of uses says of the run, and it says nothing else of it.
+-- What it knows of the run is so, and it shows no breach before the stack discipline does.
 pub record IsUsesTold (image : Image) (r : Run) (text : List ℕ) : Type 0 where
   pub uses : Uses
   pub is_uses : IsUsesOf (is_checked image r) (course_of image r) uses
   pub text_is : text ≡ uses_text (code_of image) uses
-  pub so : AreUsesSo image r
-  pub later : AreUsesLater image r
+  pub only : IsOnly image r uses
+  pub so : AreUsesSo image r uses
+  pub later : AreUsesLater image r uses

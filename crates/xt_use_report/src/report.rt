@@ -4,7 +4,7 @@ ghost use Rattle.xt_core.specs.Runs.{IsRunOf};
 ghost use Rattle.xt_rows.specs.Laws.{IsWord};
 ghost use Rattle.xt_image.specs.Parts.{IsWellFormed};
 ghost use Rattle.xt_use_walk.specs.Verdicts.{IsUsesOf};
-ghost use Rattle.xt_use_report.specs.Held.{AreUsesLater, AreUsesSo, course_of, is_checked};
+ghost use Rattle.xt_use_report.specs.Held.{AreUsesLater, AreUsesSo, IsOnly, course_of, is_checked};
 
 use std::alloc::{AllocError, Global};
 use xt_core::Cursor;
@@ -12,6 +12,7 @@ use xt_discipline::handlers_of;
 use xt_image::{Image, well_formed_is_placed};
 use xt_trace::Run;
 use xt_use_run::laws::{uses_are_so, uses_of_runs_are_later};
+use xt_use_walk::laws::uses_are_one;
 use xt_use_walk::{Uses, judge_uses};
 
 // A number of 32 bits is a word, by its type.
@@ -25,18 +26,21 @@ fn is_word(number: u32)
 ///
 /// Conditions: the image is well formed, and the run is the image's.
 ///
-/// Of a run whose handlers pass and whose stacks are apart, what the machine of uses knows of each judged record before the first breach
-/// is so. And no breach of uses comes before one of the stack discipline.
+/// No other answer is one of the run. Of a run whose handlers pass and whose stacks are apart, what the machine of uses knows of each
+/// judged record before the breach that the answer names, or of all where it names none, is so. No breach of uses comes before one of
+/// the stack discipline, and where that shows none, the answer is that uses are whole and carry nothing.
 pub fn uses_of(alloc: Global, image: &Image, run: &Run) -> Result<Uses, AllocError>
     requires image { IsWellFormed image.now }
     requires run { IsRunOf image.now run.now }
     ensures uses { IfOk result (IsUsesOf (is_checked image.now run.now) (course_of image.now run.now)) }
-    ensures so { IfOk result (λ uses. AreUsesSo image.now run.now) }
-    ensures later { IfOk result (λ uses. AreUsesLater image.now run.now) }
+    ensures only { IfOk result (IsOnly image.now run.now) }
+    ensures so { IfOk result (AreUsesSo image.now run.now) }
+    ensures later { IfOk result (AreUsesLater image.now run.now) }
 {
     well_formed_is_placed();
     uses_are_so();
     uses_of_runs_are_later();
+    uses_are_one();
     is_word(run.options.vecbase);
     is_word(run.options.entry1);
     let handlers = handlers_of(alloc, image, run.options.vecbase)?;

@@ -1,18 +1,16 @@
 -- A run has one answer: the breach, its record, and the registers that its instruction reads and of which not every bit is known.
-use Rattle.std.proofs.Common.{◌≡◌, ℕ, Bool, true, false, Option, Some, None, refl, sym, ◌∙◌, ap, subst}
+use Rattle.std.proofs.Common.{◌≡◌, true, false, Some, None, refl, sym, ◌∙◌, ap, subst}
 use Rattle.std.proofs.lemmas.Option.{none-some, same_Some}
-use Rattle.xt_trace.specs.declared.record.StepRecord.{StepRecord}
-use Rattle.xt_frames.specs.declared.kinds.Breach.{Breach}
 use Rattle.xt_frames.specs.FirstBreach.{Course, IsTurn, Turn}
 use Rattle.xt_frames.proofs.Prefixes.{same_turn}
-use Rattle.xt_uses.specs.FirstUse.{History, IsFirstUse, IsVerdict, carried}
+use Rattle.xt_uses.specs.FirstUse.{IsFirstUse, IsVerdict, carried}
 use Rattle.xt_uses.specs.Lacks.{lacks_before}
 use Rattle.xt_uses.proofs.LaterHistories.{history_is_one}
 use Rattle.xt_uses.proofs.LaterVerdicts.{same_place, verdict_one}
 use Rattle.xt_use_walk.specs.declared.walk.FirstUse as walk
 use Rattle.xt_use_walk.specs.declared.walk.Uses.{Uses}
 use Rattle.xt_use_walk.specs.declared.walk.Uses.TheVariants.{Unchecked, Whole, Broken}
-use Rattle.xt_use_walk.specs.Verdicts.{IsBroken, IsSaid, IsUsesOf, UsesAreOne}
+use Rattle.xt_use_walk.specs.Verdicts.{IsBroken, IsSaid, UsesAreOne}
 
 verdict_of : (r : Course) (first : walk.FirstUse) (b : IsBroken r first) → IsVerdict r (Some first.breach) (carried r b.history 0 b.place) (carried r b.history 1 b.place)
 verdict_of r first b = record { history = b.history; is_history = b.is_history; place = b.place; first = b.is_first; counts0 = refl; counts1 = refl }

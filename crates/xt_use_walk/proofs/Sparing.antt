@@ -1,8 +1,7 @@
 -- An access of bytes that are known touches no live byte, and a store of what is known leaves them as they are.
-use Rattle.std.proofs.Common.{◌≡◌, ◌⊎◌, ⊎_elim, ℕ, zero, suc, ◌+◌, ◌-◌, ◌*◌, ◌/◌, ◌%◌, ◌^◌, ◌<◌, ◌≤◌, Bool, true, false, not, ◌&&◌, ◌||◌, cond, eqb, Option, Some, None, List, length, leb, ltb, refl, sym, ◌∙◌, ap, subst, arith}
+use Rattle.std.proofs.Common.{◌≡◌, ⊎_elim, ℕ, zero, suc, ◌+◌, ◌-◌, ◌*◌, ◌/◌, ◌%◌, ◌^◌, ◌<◌, ◌≤◌, Bool, true, false, not, ◌&&◌, ◌||◌, cond, eqb, Option, Some, None, List, length, leb, ltb, refl, sym, ◌∙◌, ap, arith}
 use Rattle.std.specs.Prelude.{IfSome}
-use Rattle.std.proofs.lemmas.Bool.{true≢false, cases_Bool, cases_eq, cond-true, cond-false, eqb-true, and_parts, leb-true, ltb-true}
-use Rattle.std.proofs.lemmas.Bool.Decides.{nat_tests}
+use Rattle.std.proofs.lemmas.Bool.{true≢false, cases_Bool, cases_eq, cond-false, eqb-true, and_parts, leb-true, ltb-true}
 use Rattle.xt_map.specs.declared.access.Access.{Access}
 use Rattle.xt_map.specs.declared.access.Kind.{Kind}
 use Rattle.xt_map.specs.declared.access.Kind.TheVariants.{Load, Store, Cas}
@@ -13,7 +12,6 @@ use Rattle.xt_trace.specs.declared.record.StepRecord.{StepRecord}
 use Rattle.xt_frames.specs.Breaches.{is_load, some_byte, touches_save_area}
 use Rattle.xt_discipline.specs.declared.bytes.Held.{Held}
 use Rattle.xt_discipline.specs.Bytes.{either, first, held_at, is_marked, nothing, other_live, own_live}
-use Rattle.xt_uses.specs.declared.testing.Touched.{Touched}
 use Rattle.xt_uses.specs.FirstUse.{stored_byte}
 use Rattle.xt_uses.specs.UseBreaches.{is_swap, swaps_unknown}
 use Rattle.xt_uses.specs.UseParts.{IsTouched}
@@ -21,7 +19,7 @@ use Rattle.xt_uses.specs.UseStep.{reply_mask, unknown_bits}
 use Rattle.xt_uses.specs.Words.{all_bits, flipped}
 use Rattle.xt_use_walk.specs.declared.bytes.ByteMasks.{ByteMasks}
 use Rattle.xt_use_walk.specs.declared.side.Bytes.{Bytes}
-use Rattle.xt_use_walk.specs.Bytes.{AreBytes, AreFull, AreKnown, AreMasks, KnowsAccess, KnowsBytes, TellsLive, is_byte, is_live_byte, mask_at, stored_on}
+use Rattle.xt_use_walk.specs.Bytes.{AreKnown, AreMasks, KnowsAccess, KnowsBytes, TellsLive, is_byte, is_live_byte, mask_at, stored_on}
 use Rattle.xt_use_walk.proofs.Places.{dram_byte}
 use Rattle.xt_use_walk.proofs.Served.{served_bytes, swap_memory, touches_no_byte}
 

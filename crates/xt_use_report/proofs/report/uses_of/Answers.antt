@@ -3,7 +3,7 @@ use Rattle.std.specs.Prelude.{All}
 use Rattle.xt_trace.specs.declared.record.StepRecord.{StepRecord}
 use Rattle.xt_core.proofs.Scheduled.{has_schedule}
 use Rattle.xt_use_walk.specs.Verdicts.{IsServed}
-use Rattle.xt_use_report.proofs.Courses.{are_later, are_so, uses_are}
+use Rattle.xt_use_report.proofs.Courses.{are_later, are_so, is_only, uses_are}
 use Rattle.xt_use_report.proofs.Served.{records_served}
 use Rattle.xt_use_report.proofs.report.uses_of.Goals as goal
 
@@ -23,10 +23,13 @@ returns-clause-uses c =
     uses_are c.args.image.now c.args.run.now c.in_ok-handlers.handlers c.in_ok-records0.records0 c.in_ok-records1.records1 c.in_ok-uses.uses
     c.in_ok-handlers.ensures c.in_ok-records0.ensures c.in_ok-records1.ensures c.in_ok-uses.ensures
 
+pub returns-clause-only : goal.returns-clause-only
+returns-clause-only c = is_only c.args.image.now c.args.run.now c.in_ok-uses.uses c.uses_are_one.ensures (returns-clause-uses c)
+
 pub returns-clause-so : goal.returns-clause-so
 returns-clause-so c =
-    are_so c.args.image.now c.args.run.now c.uses_are_so.ensures c.requires.image.fits c.is_word.ensures c.is_word-2.ensures c.requires.run
+    are_so c.args.image.now c.args.run.now c.in_ok-uses.uses c.uses_are_so.ensures c.requires.image.fits c.is_word.ensures c.is_word-2.ensures c.requires.run (returns-clause-uses c)
 
 pub returns-clause-later : goal.returns-clause-later
 returns-clause-later c =
-    are_later c.args.image.now c.args.run.now c.uses_of_runs_are_later.ensures c.requires.image.fits c.is_word.ensures c.is_word-2.ensures c.requires.run
+    are_later c.args.image.now c.args.run.now c.in_ok-uses.uses c.uses_of_runs_are_later.ensures c.requires.image.fits c.is_word.ensures c.is_word-2.ensures c.requires.run (returns-clause-uses c)

@@ -1,4 +1,4 @@
-use Rattle.std.proofs.Common.{◌≡◌, ℕ, ◌+◌, ◌-◌, Bool, false, ◌||◌, Result, Ok, refl, sym, ◌∙◌, ap, subst, arith}
+use Rattle.std.proofs.Common.{◌≡◌, ◌+◌, ◌-◌, ◌||◌, ap, arith}
 use Rattle.xt_map.specs.Memory.{constant_byte}
 use Rattle.xt_discipline.specs.Bytes.{either}
 use Rattle.xt_uses.specs.Words.{all_bits}
