@@ -1,62 +1,37 @@
 -- What a command makes of an input that was read to its end.
-use Rattle.std.proofs.Common.{◌≡◌, ◌≢◌, ◌≤◌, ℕ, inl, inr, List, ◌++◌, length, Option, Some, None, Result, Ok, Err, refl, sym, ap, ◌∙◌, subst, append-nil}
-use Rattle.std.specs.Io.KnownBytes.{Appends, Consumes, IsAtEnd, Keeps}
-use Rattle.std.specs.Option.{option_map}
-use Rattle.xt_image.specs.Rules.{image_fault}
-use Rattle.xt_elf.specs.Rules.{elf_fault}
-use Rattle.xt_asm.specs.Kinds.{text_fault}
-use Rattle.xt_record.specs.Fields.{image_in}
-use Rattle.xt_record.specs.Format.{recording_fault, run_in}
-use Rattle.xt_events.specs.Lines.{turns_text}
-use Rattle.xt_cli.specs.declared.status.Status.{Status}
-use Rattle.xt_cli.specs.declared.status.Status.TheVariants as status
+use Rattle.std.proofs.Common.{◌≡◌, ◌≢◌, ◌≤◌, ℕ, inl, inr, List, ◌++◌, length, Option, Some, None, Result, refl, sym, ap, ◌∙◌, append-nil}
+use Rattle.std.specs.Io.KnownBytes.{Appends, Consumes, IsAtEnd}
+use Rattle.xt_status.specs.declared.status.Status.{Status}
+use Rattle.xt_status.specs.declared.status.Status.TheVariants as status
+use Rattle.xt_status.specs.Calls.{Ends, ReadsWhole}
+use Rattle.xt_status.specs.Statuses.{status_after}
+use Rattle.xt_status.specs.Writes.{Writes}
+use Rattle.xt_status.proofs.Quiet.{taken_within}
+use Rattle.xt_io.specs.Whole.{AppendsPrefix}
+use Rattle.xt_io.specs.declared.sink.Refused.{Refused}
+use Rattle.xt_command_line.specs.declared.command.Span.{Span}
+use Rattle.xt_tools.proofs.Putting as putting
+use Rattle.xt_tools.proofs.Putting.{IsOfFault, elf_is_fault, image_is_fault, recording_is_fault, text_is_fault}
 use Rattle.xt_cli.specs.declared.tool.Job.{Job}
 use Rattle.xt_cli.specs.declared.tool.Job.TheVariants as job
-use Rattle.xt_cli.specs.Calls.{Ends, ReadsWhole, TakesWithin}
-use Rattle.xt_io.specs.Whole.{AppendsPrefix}
-use Rattle.xt_command_line.specs.declared.command.Span.{Span}
-use Rattle.xt_io.specs.declared.sink.Refused.{Refused}
-use Rattle.xt_io.specs.declared.sink.Refused.TheVariants as refused
-use Rattle.xt_cli.specs.Puts.{HasText, IsWhole, Puts, status_after}
-use Rattle.xt_cli.specs.Writes.{Writes}
-use Rattle.xt_cli.specs.Tools.{Finishes, HasInput, HasOutput, IsMade, Makes, limit_of, refusal_of, traced}
-
-pub keeps_same : (known : Option (List ℕ)) → Keeps known known
-keeps_same None = tt
-keeps_same (Some bytes) = refl
-
--- an input that was read to its end
-pub taken_within : (limit : ℕ) (e : Ends) (input : List ℕ) → Consumes e.left e.left_after input → length input ≤ limit → TakesWithin limit e
-taken_within limit e input taken within = (input, taken, within)
+use Rattle.xt_cli.specs.Puts.{HasText, IsWhole, Puts}
+use Rattle.xt_cli.specs.Tools.{Finishes, HasInput, HasOutput, IsMade, IsWritten, Makes, limit_of, refusal_of}
 
 -- ---- a refusal of an input is a fault of a text, of an ELF executable, of an image or of a recording
 
--- the statuses of such faults
-abbrev IsOfFault : Status → Type 0
-IsOfFault (status.Asm place) = Unit {0}
-IsOfFault (status.Image f) = Unit {0}
-IsOfFault (status.Elf f) = Unit {0}
-IsOfFault (status.Recording f) = Unit {0}
-IsOfFault _ = ⊥
-
-mapped : {A : Type 0} → (f : A → Status) → ((a : A) → IsOfFault (f a)) → (o : Option A) (s : Status) → option_map f o ≡ Some s → IsOfFault s
-mapped f is None s h = absurd (cc)
-mapped f is (Some a) s h = let e : f a ≡ s = cc in subst IsOfFault e (is a)
-
 refusal_is_fault : (j : Job) (input : List ℕ) (s : Status) → refusal_of j input ≡ Some s → IsOfFault s
-unfolding refusal_of
-refusal_is_fault job.Assemble input s h = mapped status.Asm (λ place. tt) (text_fault input) s h
-refusal_is_fault job.Convert input s h = mapped status.Elf (λ f. tt) (elf_fault input) s h
-refusal_is_fault (job.List listing) input s h = mapped status.Image (λ f. tt) (image_fault input) s h
-refusal_is_fault job.Map input s h = mapped status.Asm (λ place. tt) (text_fault input) s h
-refusal_is_fault (job.Check vecbase) input s h = mapped status.Image (λ f. tt) (image_fault input) s h
-refusal_is_fault job.Migrate input s h = mapped status.Recording (λ f. tt) (recording_fault input) s h
-refusal_is_fault (job.Replay commands) input s h = mapped status.Recording (λ f. tt) (recording_fault input) s h
-refusal_is_fault job.Events input s h = mapped status.Recording (λ f. tt) (recording_fault input) s h
-refusal_is_fault (job.Trace span) input s h = mapped status.Recording (λ f. tt) (recording_fault input) s h
-refusal_is_fault job.Race input s h = mapped status.Recording (λ f. tt) (recording_fault input) s h
-refusal_is_fault job.Profile input s h = mapped status.Recording (λ f. tt) (recording_fault input) s h
-refusal_is_fault job.Uses input s h = mapped status.Recording (λ f. tt) (recording_fault input) s h
+refusal_is_fault job.Assemble input s h = text_is_fault input s h
+refusal_is_fault job.Convert input s h = elf_is_fault input s h
+refusal_is_fault (job.List listing) input s h = image_is_fault input s h
+refusal_is_fault job.Map input s h = text_is_fault input s h
+refusal_is_fault (job.Check vecbase) input s h = image_is_fault input s h
+refusal_is_fault job.Migrate input s h = recording_is_fault input s h
+refusal_is_fault (job.Replay commands) input s h = recording_is_fault input s h
+refusal_is_fault job.Events input s h = recording_is_fault input s h
+refusal_is_fault (job.Trace span) input s h = recording_is_fault input s h
+refusal_is_fault job.Race input s h = recording_is_fault input s h
+refusal_is_fault job.Profile input s h = recording_is_fault input s h
+refusal_is_fault job.Uses input s h = recording_is_fault input s h
 
 -- ---- what was written of an input that was read to its end
 
@@ -126,32 +101,10 @@ whole_unless job.Uses others = tt
 
 pub refused_puts : (j : Job) (input : List ℕ) (told : Option (List ℕ)) (faults : ℕ) (s : Status) → (s ≢ status.Memory → refusal_of j input ≡ Some s)
     → Puts j input told told faults faults s
-refused_puts j input told faults status.Memory refused = inl (keeps_same told)
-refused_puts j input told faults status.Done refused = absurd (refusal_is_fault j input status.Done (refused (λ p. cc)))
-refused_puts j input told faults status.WriteFault refused = absurd (refusal_is_fault j input status.WriteFault (refused (λ p. cc)))
-refused_puts j input told faults status.ReadFault refused = (refused (λ p. cc), keeps_same told)
-refused_puts j input told faults (status.TooLarge limit) refused = (refused (λ p. cc), keeps_same told)
-refused_puts j input told faults (status.Usage rule) refused = (refused (λ p. cc), keeps_same told)
-refused_puts j input told faults (status.Image f) refused = (refused (λ p. cc), keeps_same told)
-refused_puts j input told faults (status.Elf f) refused = (refused (λ p. cc), keeps_same told)
-refused_puts j input told faults (status.Asm place) refused = (refused (λ p. cc), keeps_same told)
-refused_puts j input told faults (status.Recording f) refused = (refused (λ p. cc), keeps_same told)
+refused_puts j input told faults s refused = putting.refused_puts (refusal_of j input) (IsWritten j input) told faults s (refusal_is_fault j input) refused
 
 -- ---- a text that was written, or a prefix of it
 
-written_by : (j : Job) (input : List ℕ) (r : Result Unit Refused) (a b : Option (List ℕ)) (f g : ℕ) (bytes : List ℕ) → IsMade j input bytes → Writes r a b f g bytes
-    → Puts j input a b f g (status_after r)
-written_by j input (Ok u) a b f g bytes made writes = (bytes, made, writes.ok)
-written_by j input (Err refused.Failed) a b f g bytes made writes = ((bytes, made, writes.err), writes.failed refl)
-written_by j input (Err refused.Memory) a b f g bytes made writes = inr (bytes, made, writes.err)
-
 pub written_puts : (j : Job) (input : List ℕ) (r : Result Unit Refused) (s : Status) (a b : Option (List ℕ)) (f g : ℕ) (bytes : List ℕ) → IsMade j input bytes
     → Writes r a b f g bytes → s ≡ status_after r → Puts j input a b f g s
-written_puts j input r s a b f g bytes made writes is =
-    let P : Status → Type 0 = λ x. Puts j input a b f g x in subst P (sym is) (written_by j input r a b f g bytes made writes)
-
--- the lines of turns are the text of `trace`
-pub turns_made : (span : Span) (input : List ℕ) (bytes : List ℕ) → recording_fault input ≡ None → bytes ≡ turns_text (image_in input) (run_in input) span.from span.to
-    → IsMade (job.Trace span) input bytes
-unfolding refusal_of traced
-turns_made span input bytes none is = record { accepted = ap (option_map status.Recording) none; written = is }
+written_puts j input r s a b f g bytes made writes is = putting.written_puts (refusal_of j input) (IsWritten j input) r s a b f g bytes made writes is

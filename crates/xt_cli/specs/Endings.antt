@@ -1,12 +1,12 @@
 -- How the program ends: its line on standard error, and its code ('profile').
 use Rattle.std.specs.Prelude.{◌≡◌, ℕ, List, Option, Some, None, IfOk}
 use Rattle.xt_cli.specs.declared.ending.End.{End}
-use Rattle.xt_cli.specs.declared.status.Status.{Status}
-use Rattle.xt_cli.specs.declared.status.Status.TheVariants as status
-use Rattle.xt_cli.specs.declared.top.Outcome.{Outcome}
-use Rattle.xt_cli.specs.Calls.{Ends}
+use Rattle.xt_status.specs.declared.status.Status.{Status}
+use Rattle.xt_status.specs.declared.status.Status.TheVariants as status
+use Rattle.xt_runs.specs.declared.outcome.Outcome.{Outcome}
+use Rattle.xt_status.specs.Calls.{Ends}
 use Rattle.xt_cli.specs.Orders.{order_of}
-use Rattle.xt_cli.specs.Statuses.{status_code, status_text}
+use Rattle.xt_status.specs.Statuses.{status_code, status_text}
 use Rattle.xt_cli.specs.Top.{Answers, IsComplete}
 
 -- none where the status is Done

@@ -1,13 +1,6 @@
-pub mod Verdicts
-pub mod Reports
-pub mod Analyses
-pub mod Checks
-pub mod Statuses
-pub mod Calls
-pub mod Writes
-pub mod Summaries
 pub mod Orders
 pub mod Tools
 pub mod Puts
+pub mod Threads
 pub mod Top
 pub mod Endings

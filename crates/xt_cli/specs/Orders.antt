@@ -12,7 +12,7 @@ use Rattle.xt_debug.specs.declared.script.Command as script
 use Rattle.xt_debug.specs.Grammar.{IsInRange, script_of}
 use Rattle.xt_cli.specs.declared.orders.Order.{Order}
 use Rattle.xt_cli.specs.declared.orders.Order.TheVariants as order
-use Rattle.xt_cli.specs.declared.orders.Wanted.TheVariants as wanted
+use Rattle.xt_runs.specs.declared.outcome.Wanted.TheVariants as wanted
 use Rattle.xt_cli.specs.declared.tool.Job.{Job}
 use Rattle.xt_cli.specs.declared.tool.Job.TheVariants as job
 

@@ -1,47 +1,31 @@
 -- The commands whose output is a function of their input, and what each status of them says
 -- ('profile').
-use Rattle.std.specs.Prelude.{◌≡◌, ◌≤◌, ◌+◌, ◌⊎◌, ℕ, List, length, Option, Some, None, unwrap_or, Result, Ok}
-use Rattle.std.specs.Prelude.{Err}
+use Rattle.std.specs.Prelude.{◌≡◌, ◌≤◌, ◌+◌, ◌⊎◌, ℕ, List, length, Option, Some, None, Result}
+use Rattle.std.specs.Prelude.{Ok, Err}
 use Rattle.std.specs.Io.KnownBytes.{Appends, Keeps}
 use Rattle.xt_io.specs.Causes.{Rose}
 use Rattle.xt_io.specs.Whole.{AppendsPrefix, Takes}
-use Rattle.std.specs.Option.{option_map}
-use Rattle.xt_image.specs.declared.image.Image.{Image}
-use Rattle.xt_image.specs.Rules.{image_fault}
 use Rattle.xt_image.specs.Format.{image_of}
-use Rattle.xt_image.specs.Parts.{image_bytes}
-use Rattle.xt_elf.specs.Format.{elf_image}
-use Rattle.xt_elf.specs.Rules.{elf_fault}
-use Rattle.xt_asm.specs.Kinds.{text_fault}
-use Rattle.xt_asm.specs.Images.{IsImageOfText}
 use Rattle.xt_asm.specs.Maps.{IsMapOfText}
-use Rattle.xt_disasm.specs.Listing.{listing_text}
-use Rattle.xt_flow.specs.Printing.{IsFlowText}
 use Rattle.xt_record.specs.Fields.{image_in}
-use Rattle.xt_record.specs.Format.{recording_fault, run_in}
-use Rattle.xt_record.specs.Written.{recording_bytes}
+use Rattle.xt_record.specs.Format.{run_in}
 use Rattle.xt_debug.specs.declared.script.Command as script
 use Rattle.xt_debug.specs.Scripts.{script_outcome}
-use Rattle.xt_events.specs.Events.{events_text}
-use Rattle.xt_events.specs.Lines.{turns_text}
-use Rattle.xt_race.specs.Races.{events_of}
-use Rattle.xt_race.specs.Texts.{IsRaceText}
-use Rattle.xt_profile.specs.Profiled.{profile_of}
-use Rattle.xt_profile.specs.Texts.{profile_text}
 use Rattle.xt_use_report.specs.Told.{IsUsesTold}
-use Rattle.xt_command_line.specs.declared.command.Listing.{Listing}
-use Rattle.xt_command_line.specs.declared.command.Listing.TheVariants as listing
-use Rattle.xt_command_line.specs.declared.command.Span.{Span}
 use Rattle.xt_command_line.specs.declared.command.Refusal.{Refusal}
 use Rattle.xt_command_line.specs.declared.command.Refusal.TheVariants as refusal
-use Rattle.xt_cli.specs.declared.status.Status.{Status}
-use Rattle.xt_cli.specs.declared.status.Status.TheVariants as status
+use Rattle.xt_report.specs.Checks.{check_text}
+use Rattle.xt_status.specs.declared.status.Status.{Status}
+use Rattle.xt_status.specs.declared.status.Status.TheVariants as status
+use Rattle.xt_status.specs.Calls.{Ends, IsUntouched, ReadsWhole, TakesWithin}
+use Rattle.xt_status.specs.Inputs.{image_refusal, recording_refusal}
+use Rattle.xt_tools.specs.Commands as commands
+use Rattle.xt_tools.specs.Commands.{IsAssembled, IsListed, IsRaceTold, converted, elf_refusal}
+use Rattle.xt_tools.specs.Commands.{happened, migrated, profiled, text_refusal, traced}
 use Rattle.xt_cli.specs.declared.tool.Job.{Job}
 use Rattle.xt_cli.specs.declared.tool.Job.TheVariants as job
 use Rattle.xt_cli.specs.declared.tool.Tool.{Tool}
 use Rattle.xt_cli.specs.declared.tool.Tool.TheVariants as tool
-use Rattle.xt_cli.specs.Calls.{Ends, IsUntouched, ReadsWhole, TakesWithin}
-use Rattle.xt_cli.specs.Checks.{check_text}
 use Rattle.xt_cli.specs.declared.orders.Order.{Order}
 use Rattle.xt_cli.specs.declared.orders.Order.TheVariants as order
 
@@ -65,57 +49,28 @@ limit_of job.Uses = 201326592
 
 -- the status with which a command refuses a whole input, where it does: that of the input's first
 -- fault
-unfoldable pub refusal_of : Job → List ℕ → Option Status
-refusal_of job.Assemble input = option_map status.Asm (text_fault input)
-refusal_of job.Convert input = option_map status.Elf (elf_fault input)
-refusal_of (job.List listing) input = option_map status.Image (image_fault input)
-refusal_of job.Map input = option_map status.Asm (text_fault input)
-refusal_of (job.Check vecbase) input = option_map status.Image (image_fault input)
-refusal_of job.Migrate input = option_map status.Recording (recording_fault input)
-refusal_of (job.Replay commands) input = option_map status.Recording (recording_fault input)
-refusal_of job.Events input = option_map status.Recording (recording_fault input)
-refusal_of (job.Trace span) input = option_map status.Recording (recording_fault input)
-refusal_of job.Race input = option_map status.Recording (recording_fault input)
-refusal_of job.Profile input = option_map status.Recording (recording_fault input)
-refusal_of job.Uses input = option_map status.Recording (recording_fault input)
+abbrev pub refusal_of : Job → List ℕ → Option Status
+refusal_of job.Assemble input = text_refusal input
+refusal_of job.Convert input = elf_refusal input
+refusal_of (job.List listing) input = image_refusal input
+refusal_of job.Map input = text_refusal input
+refusal_of (job.Check vecbase) input = image_refusal input
+refusal_of job.Migrate input = recording_refusal input
+refusal_of (job.Replay commands) input = recording_refusal input
+refusal_of job.Events input = recording_refusal input
+refusal_of (job.Trace span) input = recording_refusal input
+refusal_of job.Race input = recording_refusal input
+refusal_of job.Profile input = recording_refusal input
+refusal_of job.Uses input = recording_refusal input
 
--- the listing of an image: each executable segment from its first byte on, or what control reaches
--- from the image's entry, that of core 1, which is the image's where the words say none, and the
--- vectors
-abbrev pub IsListed : Listing → Image → List ℕ → Type 0
-IsListed listing.Sweep image bytes = bytes ≡ listing_text image
-IsListed (listing.Flow o) image bytes =
-    IsFlowText image o.vecbase (unwrap_or o.entry1 image.entry) bytes
-
--- the recording, in version 2, of the run that a recording holds
-unfoldable pub migrated : List ℕ → List ℕ
-migrated input = recording_bytes (image_in input) (run_in input)
-
--- what a script prints over that run
+-- what a script prints over the run that a recording holds
 unfoldable pub replayed : List script.Command → List ℕ → List ℕ
 replayed commands input = (script_outcome (image_in input) (run_in input) commands 0).text
 
--- what happened to each core in that run
-unfoldable pub happened : List ℕ → List ℕ
-happened input = events_text (image_in input) (run_in input)
-
--- the lines of these turns of that run
-unfoldable pub traced : Span → List ℕ → List ℕ
-traced span input = turns_text (image_in input) (run_in input) span.from span.to
-
--- the first race in that run, or that there is none
-abbrev pub IsRaceTold : List ℕ → List ℕ → Type 0
-IsRaceTold input bytes = IsRaceText (events_of (image_in input) (run_in input)) bytes
-
--- the call profile of that run
-unfoldable pub profiled : List ℕ → List ℕ
-profiled input = profile_text (profile_of (image_in input) (run_in input))
-
 -- the bytes that a command writes for an input that it does not refuse
 abbrev pub IsWritten : Job → List ℕ → List ℕ → Type 0
-IsWritten job.Assemble input bytes =
-    (image : Image) × IsImageOfText input image × (bytes ≡ image_bytes image)
-IsWritten job.Convert input bytes = bytes ≡ image_bytes (elf_image input)
+IsWritten job.Assemble input bytes = IsAssembled input bytes
+IsWritten job.Convert input bytes = bytes ≡ converted input
 IsWritten (job.List listing) input bytes = IsListed listing (image_of input) bytes
 IsWritten job.Map input bytes = IsMapOfText input bytes
 IsWritten (job.Check vecbase) input bytes = bytes ≡ check_text (image_of input) vecbase
@@ -128,9 +83,8 @@ IsWritten job.Profile input bytes = bytes ≡ profiled input
 IsWritten job.Uses input bytes = IsUsesTold (image_in input) (run_in input) bytes
 
 -- the command does not refuse the input, and writes these bytes
-pub record IsMade (j : Job) (input bytes : List ℕ) : Type 0 where
-  pub accepted : refusal_of j input ≡ None
-  pub written : IsWritten j input bytes
+abbrev pub IsMade : Job → List ℕ → List ℕ → Type 0
+IsMade j input bytes = commands.IsMade (refusal_of j input) (IsWritten j input bytes)
 
 -- ---- what each status says
 

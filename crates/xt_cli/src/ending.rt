@@ -1,9 +1,8 @@
 //! How the program ends: its line on standard error, and its code.
 ghost use Rattle.std.specs.Prelude.{◌≡◌, ◌⊎◌, map, string_bytes, IfErr, MatchResult};
-ghost use Rattle.xt_cli.specs.Calls.{ends, IsUntouched};
+ghost use Rattle.xt_status.specs.Calls.{ends, IsUntouched};
 ghost use Rattle.xt_cli.specs.Endings.{IsEndOf, IsEndOfCall};
 
-use crate::status::{Status, status_line};
 use crate::top::xt_main;
 use std::alloc::{AllocError, Global};
 use std::env;
@@ -13,6 +12,7 @@ use std::sync::Wait;
 use std::thread::Threads;
 use xt_io::{Gate, Sink, Source};
 use xt_map::Text;
+use xt_status::{Status, status_line};
 
 /// How the program ends.
 #[derive(Drop)]

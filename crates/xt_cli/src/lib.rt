@@ -1,32 +1,18 @@
-//! The program behind its `main`: its top calls, and the texts that it prints.
+//! The program behind its `main`: its top calls.
 #![tactic(auto)]
 
-mod analyses;
-mod checks;
 mod ending;
-mod gen_report;
-mod generating;
-mod laws;
 mod orders;
-mod output;
-mod recordings;
-mod run_report;
-mod runs;
-mod status;
 mod tool;
 mod top;
-mod verdict_lines;
-mod verdicts;
 
-pub use analyses::analyses_text;
-pub use checks::check_text;
 pub use ending::{End, program_words, xt_program};
-pub use gen_report::summary;
-pub use laws::history_sends_as_memory;
-pub use recordings::RECORDING_LIMIT;
-pub use run_report::{report, run_lines};
-pub use status::{Status, status_line};
-pub use tool::{ELF_LIMIT, IMAGE_LIMIT, Job, TEXT_LIMIT, Tool, tool_main};
-pub use top::{Outcome, write_whole, xt_main};
-pub use verdict_lines::{frames_line, handlers_line};
-pub use verdicts::{Whole, judged};
+pub use tool::{Job, Tool, tool_main};
+pub use top::xt_main;
+pub use xt_report::{
+    Whole, check_text, frames_line, handlers_line, history_sends_as_memory, report, run_lines,
+    summary,
+};
+pub use xt_runs::{Outcome, analyses_text, judged, write_whole};
+pub use xt_status::{IMAGE_LIMIT, RECORDING_LIMIT, Status, status_line};
+pub use xt_tools::{ELF_LIMIT, TEXT_LIMIT};

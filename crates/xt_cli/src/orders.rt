@@ -8,15 +8,7 @@ use crate::tool::Job;
 use std::alloc::Global;
 use xt_command_line::{Command, Refusal, RunOptions, meaning, script_text};
 use xt_debug::{ScriptFault, parse_script};
-
-/// What is written of a run of an image.
-#[derive(Clone, Copy, Debug, PartialEq, Eq)]
-pub enum Wanted {
-    /// `run`: the report, and where the words ask for them the lines of the traces.
-    Report,
-    /// `record`: the recording.
-    Recording,
-}
+use xt_runs::Wanted;
 
 /// A command with all that its words say.
 #[derive(Drop)]

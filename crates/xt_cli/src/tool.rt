@@ -1,39 +1,24 @@
 //! The commands whose output is a function of their input.
-ghost use Rattle.std.specs.Prelude.{◌≡◌, ◌≢◌, ◌≤◌, ◌%◌, length, map, string_bytes, IfOk, IfErr, None, Some};
-ghost use Rattle.std.specs.Option.{option_map};
-ghost use Rattle.xt_image.specs.Format.{image_of};
-ghost use Rattle.xt_image.specs.Parts.{IsWellFormed};
-ghost use Rattle.xt_image.specs.Rules.{image_fault};
-ghost use Rattle.xt_cli.specs.Calls.{ends};
+ghost use Rattle.std.specs.Prelude.{◌≡◌, ◌≢◌, ◌≤◌, All, length, map, string_bytes, IfOk, IfErr, Some};
+ghost use Rattle.xt_debug.specs.Grammar.{IsInRange};
+ghost use Rattle.xt_status.specs.Calls.{ends};
 ghost use Rattle.xt_cli.specs.Orders.{IsFit, order_of};
-ghost use Rattle.xt_cli.specs.Puts.{IsWhole, Puts, status_after};
-ghost use Rattle.xt_cli.specs.Tools.{Answers, Finishes, IsComplete, IsListed, IsMade, Makes, limit_of, refusal_of, status_of};
+ghost use Rattle.xt_cli.specs.Puts.{IsWhole, Puts};
+ghost use Rattle.xt_cli.specs.Tools.{Answers, Finishes, IsComplete, IsMade, Makes, limit_of, refusal_of, status_of};
 
-use crate::checks::check_text;
 use crate::orders::{Order, order_in};
-use crate::output::write_text;
-use crate::recordings::{RECORDING_LIMIT, events, migrate, profile, race, replay, trace, uses};
-use crate::status::Status;
-use std::alloc::{AllocError, Global};
-use xt_asm::{assemble, label_map};
+use std::alloc::Global;
 use xt_command_line::{Listing, Refusal, Span};
-use xt_debug::Script;
-use xt_disasm::listing;
-use xt_elf::{ElfFault, from_elf};
-use xt_flow::flow_listing;
-use xt_image::{Image, ImageFault, read, write};
-use xt_io::{ReadError, Refused, Sink, Source, read_to_limit};
-use xt_lex::AsmFault;
+use xt_debug::{Script, run_script};
+use xt_image::well_formed_is_placed;
+use xt_io::{ReadError, Sink, Source, read_to_limit};
 use xt_map::Text;
-
-/// The most bytes that an image may have.
-pub const IMAGE_LIMIT: usize = 8_388_608;
-
-/// The most bytes that an assembly text may have.
-pub const TEXT_LIMIT: usize = 1_048_576;
-
-/// The most bytes that an ELF executable may have.
-pub const ELF_LIMIT: usize = 67_108_864;
+use xt_replay::Replay;
+use xt_status::{IMAGE_LIMIT, RECORDING_LIMIT, Status, recording_in, status_after, write_text};
+use xt_tools::{
+    ELF_LIMIT, TEXT_LIMIT, check, converted_file, events, image_file, list, map_text, migrate,
+    profile, race, trace, uses,
+};
 
 /// A command whose output is a function of its input.
 #[derive(Drop)]
@@ -83,17 +68,6 @@ pub(crate) fn status_of(refusal: Refusal) -> Status
     }
 }
 
-// The status that a write comes to.
-pub(crate) fn status_after(written: Result<(), Refused>) -> Status
-    ensures { result ≡ status_after written }
-{
-    match written {
-        Ok(()) => Status::Done,
-        Err(Refused::Failed) => Status::WriteFault,
-        Err(Refused::Memory) => Status::Memory,
-    }
-}
-
 // The most bytes that the input of a command may have.
 fn limit_of(job: &Job) -> usize
     ensures { result ≡ limit_of job.now }
@@ -112,105 +86,19 @@ fn limit_of(job: &Job) -> usize
     }
 }
 
-// The image of a text as a file, or the status of the text's first fault.
-#[tactic(auto, unfolding(crate::specs::Tools::refusal_of))]
-fn image_file(alloc: Global, input: &[u8]) -> Result<Text, Status>
-    requires { length input.now ≤ 1048576 }
-    ensures ok { IfOk result (λ bytes. IsMade Job.Assemble input.now bytes) }
-    ensures refused { IfErr result (λ status. status ≢ Status.Memory → refusal_of Job.Assemble input.now ≡ Some status) }
+// What a script prints over a recording, or the status of the recording's first fault.
+#[tactic(auto, unfolding(crate::specs::Tools::replayed))]
+fn replay(alloc: Global, script: &Script, input: &[u8]) -> Result<Text, Status>
+    requires { All IsInRange script.now }
+    ensures ok { IfOk result (λ bytes. IsMade (Job.Replay script.now) input.now bytes) }
+    ensures refused { IfErr result (λ status. status ≢ Status.Memory → refusal_of (Job.Replay script.now) input.now ≡ Some status) }
 {
-    let image = match assemble(alloc, input) {
-        Ok(image) => image,
-        Err(AsmFault::Place(place)) => return Err(Status::Asm(place)),
-        Err(AsmFault::Memory) => return Err(Status::Memory),
+    let (image, run) = recording_in(alloc, input)?;
+    well_formed_is_placed();
+    let Ok(mut replay) = Replay::make(alloc, &image, &run) else {
+        return Err(Status::Memory);
     };
-    match write(alloc, &image) {
-        Ok(bytes) => Ok(Text::new(bytes.into_vec())),
-        Err(_) => Err(Status::Memory),
-    }
-}
-
-// The map of a text, or the status of the text's first fault.
-#[tactic(auto, unfolding(crate::specs::Tools::refusal_of))]
-fn map_text(alloc: Global, input: &[u8]) -> Result<Text, Status>
-    requires { length input.now ≤ 1048576 }
-    ensures ok { IfOk result (λ bytes. IsMade Job.Map input.now bytes) }
-    ensures refused { IfErr result (λ status. status ≢ Status.Memory → refusal_of Job.Map input.now ≡ Some status) }
-{
-    match label_map(alloc, input) {
-        Ok(map) => Ok(map),
-        Err(AsmFault::Place(place)) => Err(Status::Asm(place)),
-        Err(AsmFault::Memory) => Err(Status::Memory),
-    }
-}
-
-// The image of an ELF executable as a file, or the status of the executable's first fault.
-#[tactic(auto, unfolding(crate::specs::Tools::refusal_of))]
-fn converted_file(alloc: Global, input: &[u8]) -> Result<Text, Status>
-    requires { length input.now ≤ 67108864 }
-    ensures ok { IfOk result (λ bytes. IsMade Job.Convert input.now bytes) }
-    ensures refused { IfErr result (λ status. status ≢ Status.Memory → refusal_of Job.Convert input.now ≡ Some status) }
-{
-    let image = match from_elf(alloc, input) {
-        Ok(image) => image,
-        Err(ElfFault::Memory) => return Err(Status::Memory),
-        Err(fault) => return Err(Status::Elf(fault)),
-    };
-    match write(alloc, &image) {
-        Ok(bytes) => Ok(Text::new(bytes.into_vec())),
-        Err(_) => Err(Status::Memory),
-    }
-}
-
-// The image that an input is, or the status of its first fault.
-pub(crate) fn image_in(alloc: Global, input: &[u8]) -> Result<Image, Status>
-    requires { length input.now ≤ 8388608 }
-    ensures ok { IfOk result (λ image. (image_fault input.now ≡ None) × (image ≡ image_of input.now)) }
-    ensures well_formed { IfOk result IsWellFormed }
-    ensures refused { IfErr result (λ status. status ≢ Status.Memory → option_map Status.Image (image_fault input.now) ≡ Some status) }
-{
-    match read(alloc, input) {
-        Ok(image) => Ok(image),
-        Err(ImageFault::Memory) => Err(Status::Memory),
-        Err(fault) => Err(Status::Image(fault)),
-    }
-}
-
-// The listing of an image.
-fn listed(alloc: Global, way: Listing, image: &Image) -> Result<Text, AllocError>
-    requires { IsWellFormed image.now }
-    ensures { IfOk result (λ text. IsListed way image.now text) }
-{
-    match way {
-        Listing::Sweep => listing(alloc, image),
-        Listing::Flow(from) => {
-            let entry1 = from.entry1.unwrap_or(image.entry);
-            flow_listing(alloc, image, from.vecbase, entry1)
-        }
-    }
-}
-
-// An image's listing.
-#[tactic(auto, unfolding(crate::specs::Tools::refusal_of))]
-fn list(alloc: Global, way: Listing, input: &[u8]) -> Result<Text, Status>
-    requires { length input.now ≤ 8388608 }
-    ensures ok { IfOk result (λ bytes. IsMade (Job.List way) input.now bytes) }
-    ensures refused { IfErr result (λ status. status ≢ Status.Memory → refusal_of (Job.List way) input.now ≡ Some status) }
-{
-    let image = image_in(alloc, input)?;
-    listed(alloc, way, &image).map_err(|_| Status::Memory)
-}
-
-// What an image holds.
-#[tactic(auto, unfolding(crate::specs::Tools::refusal_of))]
-fn check(alloc: Global, vecbase: u32, input: &[u8]) -> Result<Text, Status>
-    requires aligned { vecbase % 1024 ≡ 0 }
-    requires limit { length input.now ≤ 8388608 }
-    ensures ok { IfOk result (λ bytes. IsMade (Job.Check vecbase) input.now bytes) }
-    ensures refused { IfErr result (λ status. status ≢ Status.Memory → refusal_of (Job.Check vecbase) input.now ≡ Some status) }
-{
-    let image = image_in(alloc, input)?;
-    check_text(alloc, &image, vecbase).map_err(|_| Status::Memory)
+    run_script(alloc, &mut replay, script).map_err(|_| Status::Memory)
 }
 
 // What a command writes for an input, or the status with which it refuses it. Its whole text is made.
@@ -252,12 +140,7 @@ fn put<K: Sink>(alloc: Global, job: &Job, input: &[u8], sink: &mut K) -> Status
 }
 
 // Reads the input of a command to its end, and writes what the command makes of it.
-pub(crate) fn work<S: Source, K: Sink>(
-    alloc: Global,
-    job: &Job,
-    source: &mut S,
-    sink: &mut K,
-) -> Status
+fn work<S: Source, K: Sink>(alloc: Global, job: &Job, source: &mut S, sink: &mut K) -> Status
     requires { IsFit job.now }
     ensures answers { Makes job.now
         (ends S.left S.faults source.old source.new K.told K.faults sink.old sink.new) result }

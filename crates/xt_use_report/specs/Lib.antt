@@ -1,4 +1,3 @@
-pub mod Breaches
 pub mod Texts
 pub mod Held
 pub mod Told

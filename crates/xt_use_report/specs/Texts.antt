@@ -11,7 +11,7 @@ use Rattle.xt_uses.specs.declared.lacking.Lack.{Lack}
 use Rattle.xt_use_walk.specs.declared.walk.FirstUse.{FirstUse}
 use Rattle.xt_use_walk.specs.declared.walk.Uses.{Uses}
 use Rattle.xt_use_walk.specs.declared.walk.Uses.TheVariants.{Unchecked, Whole, Broken}
-use Rattle.xt_use_report.specs.Breaches.{breach_text}
+use Rattle.xt_report.specs.Breaches.{breach_text}
 
 -- ---- the instruction
 

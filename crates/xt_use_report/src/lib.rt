@@ -1,10 +1,8 @@
 //! What the discipline of uses says of a run of an image, and its text.
 #![tactic(auto)]
 
-mod breaches;
 mod report;
 mod text;
 
-pub use breaches::breach_text;
 pub use report::uses_of;
 pub use text::uses_text;

@@ -7,7 +7,6 @@ ghost use Rattle.xt_image.specs.Parts.{IsWellFormed};
 ghost use Rattle.xt_use_report.specs.Texts.{broken_text, held_text, insn_text, lack_text, lacks_text, listed_at, uses_text, whole_text};
 ghost use Rattle.xt_use_report.specs.Told.{IsUsesTold};
 
-use crate::breaches::breach_text;
 use crate::report::uses_of;
 use std::alloc::{AllocError, Global};
 use std::fmt::Write;
@@ -17,6 +16,7 @@ use xt_fetch::code_three;
 use xt_frames::BreachKind;
 use xt_image::{Image, well_formed_is_placed};
 use xt_map::{Constants, Text};
+use xt_report::breach_text;
 use xt_trace::{Run, line};
 use xt_use_walk::{FirstUse, Uses};
 use xt_uses::Lack;

@@ -1,4 +1,3 @@
-use Rattle.std.proofs.Common.{rules}
 use Rattle.xt_cli.proofs.Refusing.{tool_refuses}
 use Rattle.xt_cli.proofs.tool.tool_main.Goals as goal
 

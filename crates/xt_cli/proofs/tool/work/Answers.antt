@@ -1,6 +1,6 @@
 use Rattle.std.proofs.Common.{ℕ, ◌≤◌, List, length, sym, subst}
 use Rattle.xt_cli.specs.declared.tool.Job.{Job}
-use Rattle.xt_cli.specs.Calls.{ends}
+use Rattle.xt_status.specs.Calls.{ends}
 use Rattle.xt_cli.specs.Puts.{Puts}
 use Rattle.xt_cli.proofs.Working.{puts_finish, puts_makes, whole_unless}
 use Rattle.xt_cli.proofs.tool.work.Goals as goal

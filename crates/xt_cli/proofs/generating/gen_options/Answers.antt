@@ -1,5 +1,0 @@
-use Rattle.xt_cli.proofs.Numbered.{options_are_valid}
-use Rattle.xt_cli.proofs.generating.gen_options.Goals as goal
-
-pub returns-clause-valid : goal.returns-clause-valid
-returns-clause-valid c = options_are_valid

@@ -1,0 +1,5 @@
+pub mod Breaches
+pub mod Verdicts
+pub mod Reports
+pub mod Checks
+pub mod Summaries

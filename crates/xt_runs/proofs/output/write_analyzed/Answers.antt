@@ -1,0 +1,15 @@
+use Rattle.std.proofs.Common.{◌≡◌, Err, rules}
+use Rattle.xt_report.specs.Reports.{report_text}
+use Rattle.xt_status.proofs.Writing.{was_appended, refused_early, written_after}
+use Rattle.xt_runs.proofs.output.write_analyzed.Goals as goal
+
+pub returns-in_err-write_report : goal.returns-in_err-write_report
+returns-in_err-write_report g c =
+    let same : c.from_residual.result ≡ Err c.in_err-write_report.field-0.0 = search rules in
+    refused_early _ _ _ _ _ _ _ (report_text c.args.whole.now) c.args.analyses.now c.in_err-write_report.was same c.write_report.ensures
+
+pub returns : goal.returns
+returns g c =
+    let report = report_text c.args.whole.now in
+    written_after _ _ _ _ _ _ _ report c.args.analyses.now
+    (was_appended _ _ _ _ _ _ report c.in_ok-write_report.was c.write_report.ensures) c.write_report.ensures.later c.write_text.ensures

@@ -1,0 +1,162 @@
+-- What each status of `run`, `record` and `gen` says ('profile').
+use Rattle.std.specs.Prelude.{◌≡◌, ◌≤◌, ◌+◌, ◌⊎◌, ℕ, List, length, Option, Some, None}
+use Rattle.std.specs.Io.KnownBytes.{Appends, Keeps}
+use Rattle.xt_io.specs.Causes.{Rose}
+use Rattle.xt_io.specs.Whole.{AppendsPrefix, Takes}
+use Rattle.xt_image.specs.declared.image.Image.{Image}
+use Rattle.xt_image.specs.Rules.{image_fault}
+use Rattle.xt_image.specs.Format.{image_of}
+use Rattle.xt_trace.specs.declared.options.Options.{Options}
+use Rattle.xt_trace.specs.declared.run.Run.{Run}
+use Rattle.xt_gen.specs.Generated.{generated}
+use Rattle.xt_gen.specs.Orders.{seeded_order}
+use Rattle.xt_core.specs.Runs.{IsRunOf, records_of}
+use Rattle.xt_machine.specs.Lists.{run_of_list, schedule_in}
+use Rattle.xt_machine.specs.Framed.{IsFramed}
+use Rattle.xt_record.specs.Written.{recording_bytes}
+use Rattle.xt_command_line.specs.Options.{with_entry}
+use Rattle.xt_command_line.specs.declared.options.RunOptions.{RunOptions}
+use Rattle.xt_status.specs.declared.status.Status.{Status}
+use Rattle.xt_status.specs.declared.status.Status.TheVariants as status
+use Rattle.xt_status.specs.Calls.{Ends, ReadsWhole, TakesWithin}
+use Rattle.xt_report.specs.declared.whole.Whole.{Whole}
+use Rattle.xt_runs.specs.declared.outcome.Wanted.{Wanted}
+use Rattle.xt_runs.specs.declared.outcome.Wanted.TheVariants as wanted
+use Rattle.xt_runs.specs.Analyses.{AreAnalyses}
+use Rattle.xt_runs.specs.Traces.{output_text}
+use Rattle.xt_runs.specs.Generating.{gen_options, gen_text}
+use Rattle.xt_runs.specs.Verdicts.{IsJudged}
+
+abbrev pub image_limit : ℕ
+image_limit = 8388608
+
+-- ---- one input
+
+-- the options of a run of this image: core 1 begins at the image's entry where the words do not say
+-- where
+abbrev pub options_for : RunOptions → Image → Options
+options_for o image = with_entry o image.entry
+
+-- the run of the schedule that is read from this run's own history
+unfoldable pub run_of_its_schedule : RunOptions → Image → Run → Run
+run_of_its_schedule o image run = run_of_list image (options_for o image) (schedule_in run)
+
+-- where the words give a seed, the run is that of the list of cores that the seed makes
+abbrev pub IsOrdered : Option ℕ → RunOptions → Image → Run → Type 0
+IsOrdered None o image run = Unit {0}
+IsOrdered (Some seed) o image run =
+    run ≡ run_of_list image (options_for o image) (seeded_order seed (o.turns0 + o.turns1))
+
+-- This is a run of the image with the options of the words. It is, in its history and in
+-- its traces' counts, places, stops and last program counters, the run of the schedule
+-- read from its own history.
+pub record IsRunOfImage (o : RunOptions) (image : Image) (run : Run) : Type 0 where
+  pub options : run.options ≡ options_for o image
+  pub of_image : IsRunOf image run
+  pub own : run_of_its_schedule o image run ≡ run
+  -- where the six answers for the window handlers are `yes` and the two stacks are apart, it is a
+  -- run of the machine with unbounded call frames, up to the first breach of the stack discipline
+  pub framed : IsFramed image run
+  pub ordered : IsOrdered o.seed o image run
+
+-- the input is an image, and this is its run, and what is found of it
+pub record IsRunOfInput (o : RunOptions) (input : List ℕ) (w : Whole) : Type 0 where
+  pub image : image_fault input ≡ None
+  pub is_run : IsRunOfImage o (image_of input) w.run
+  pub judged : IsJudged (image_of input) w
+
+-- what `run` writes of a run of an image: its report, the texts of the analyses that the words ask
+-- for, and where they ask for them the lines of its traces, which are those of the records that the
+-- processor's turns make
+unfoldable pub run_text : RunOptions → Image → Whole → List ℕ → List ℕ
+run_text o image w analyses =
+    output_text o.trace w analyses
+    (records_of 0 image w.run).records (records_of 1 image w.run).records
+
+-- what is written of it: that, or its recording
+abbrev pub wanted_text : Wanted → RunOptions → Image → Whole → List ℕ → List ℕ
+wanted_text wanted.Report o image w analyses = run_text o image w analyses
+wanted_text wanted.Recording o image w analyses = recording_bytes image w.run
+
+-- ---- the statuses of a run
+
+-- this is the run of an input, these are its analyses, and this is so of what is written of them
+pub record IsOutput (t : Wanted) (o : RunOptions) (P : List ℕ → Type 0) (w : Whole)
+    (analyses input : List ℕ) : Type 0 where
+  pub is_run : IsRunOfInput o input w
+  pub are_analyses : AreAnalyses o (image_of input) w.run analyses
+  pub written : P (wanted_text t o (image_of input) w analyses)
+
+-- the input was read to its end, this is its run, and this is so of what is written of it
+abbrev pub HasRun : Wanted → RunOptions → Ends → Whole → (List ℕ → Type 0) → Type 0
+HasRun t o e w P =
+    (analyses : List ℕ) × ReadsWhole image_limit e (IsOutput t o P w analyses)
+
+-- nothing was written, or a prefix of what is written of the input's run
+abbrev pub WritesPrefix : Wanted → RunOptions → Ends → Type 0
+WritesPrefix t o e =
+    Keeps e.told e.told_after
+    ⊎ ((w : Whole) × HasRun t o e w (AppendsPrefix e.told e.told_after))
+
+-- Each status of a run with these options, with its cause and what was written. The byte after the
+-- limit was taken exactly where it is `TooLarge`.
+abbrev pub Runs : Wanted → RunOptions → Ends → Status → Option Whole → Type 0
+Runs t o e status.Done (Some w) = HasRun t o e w (Appends e.told e.told_after)
+Runs t o e status.WriteFault (Some w) =
+    HasRun t o e w (AppendsPrefix e.told e.told_after) × Rose e.sink_faults e.sink_faults_after
+Runs t o e (status.Image f) None =
+    ReadsWhole image_limit e (λ input. image_fault input ≡ Some f) × Keeps e.told e.told_after
+Runs t o e (status.TooLarge limit) None =
+    (limit ≡ image_limit)
+    × Takes e.left e.left_after (λ n. n ≡ image_limit + 1)
+    × Keeps e.told e.told_after
+Runs t o e status.ReadFault None =
+    Rose e.source_faults e.source_faults_after
+    × TakesWithin image_limit e
+    × Keeps e.told e.told_after
+Runs t o e status.Memory None = TakesWithin image_limit e × WritesPrefix t o e
+Runs t o e _ _ = ⊥
+
+-- ---- the statuses of `gen`
+
+-- this is a run of the image that is made of the number, and what is found of it
+pub record IsGenerated (number : ℕ) (w : Whole) : Type 0 where
+  pub is_run : IsRunOfImage gen_options (generated number) w.run
+  pub judged : IsJudged (generated number) w
+
+-- each status, with its cause and what was written
+abbrev pub Generates :
+    ℕ → Option (List ℕ) → Option (List ℕ) → ℕ → ℕ → Status → Option Whole → Type 0
+Generates number told told_after faults faults_after status.Done (Some w) =
+    IsGenerated number w × Appends told told_after (gen_text number w)
+Generates number told told_after faults faults_after status.WriteFault (Some w) =
+    IsGenerated number w
+    × AppendsPrefix told told_after (gen_text number w)
+    × Rose faults faults_after
+Generates number told told_after faults faults_after status.Memory None =
+    Keeps told told_after
+    ⊎ ((w : Whole) × IsGenerated number w × AppendsPrefix told told_after (gen_text number w))
+Generates number told told_after faults faults_after _ _ = ⊥
+
+-- ---- completeness
+
+-- the source tells its bytes, and they are a whole input that is an image
+pub record HasImage (left : Option (List ℕ)) : Type 0 where
+  pub input : List ℕ
+  pub told : left ≡ Some input
+  pub within : length input ≤ image_limit
+  pub image : image_fault input ≡ None
+
+-- a whole input that is an image, and no fault of the source or the sink in this call, end in Done,
+-- or in Memory
+abbrev pub FinishesRun : Ends → Status → Type 0
+FinishesRun e s =
+    HasImage e.left
+    → (Rose e.source_faults e.source_faults_after → ⊥)
+    → (Rose e.sink_faults e.sink_faults_after → ⊥)
+    → (s ≡ status.Done) ⊎ (s ≡ status.Memory)
+
+-- no fault of the sink in this call ends in Done, or in Memory
+abbrev pub FinishesGen : ℕ → ℕ → Status → Type 0
+FinishesGen faults faults_after s =
+    (Rose faults faults_after → ⊥) → (s ≡ status.Done) ⊎ (s ≡ status.Memory)

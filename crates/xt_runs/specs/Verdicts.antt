@@ -1,0 +1,50 @@
+-- What is judged of a run of an image ('profile').
+use Rattle.std.specs.Prelude.{◌≡◌, ◌≢◌, ℕ, None, Some}
+use Rattle.xt_trace.specs.declared.run.Run.{Run}
+use Rattle.xt_image.specs.declared.image.Image.{Image}
+use Rattle.xt_core.specs.Runs.{code_of, records_of}
+use Rattle.xt_frames.specs.FirstBreach.{Course, IsFirstBreach, by_core, turns}
+use Rattle.xt_frames.specs.Verdict.{verdict}
+use Rattle.xt_frames.specs.declared.kinds.Judged.{Judged}
+use Rattle.xt_frames.specs.declared.kinds.Judged.TheVariants as judged
+use Rattle.xt_handlers.specs.declared.Handlers.{Handlers}
+use Rattle.xt_handlers.specs.Answers.{handlers_of}
+use Rattle.xt_discipline.specs.Schedules.{schedule_in}
+use Rattle.xt_discipline.specs.Verdicts.{are_yes, opened0, opened1}
+use Rattle.xt_machine.specs.Framed.{IsFrameRunOf, judgement_of}
+use Rattle.xt_report.specs.declared.whole.Whole.{Whole}
+
+-- what is judged of a run of an image whose handlers have these answers: nothing where one of them
+-- is `no`; else the first breach of the walk over its records, in the order of its schedule
+abbrev pub judged_of : Handlers → Image → Run → Judged
+judged_of handlers image run = verdict (are_yes handlers) (judgement_of image run)
+
+-- the turns of a run in the order of its schedule, with how both cores open
+abbrev pub course_of : Image → Run → Course
+course_of image r = record {
+  code = code_of image;
+  bounds = by_core (opened0 image r.options).bounds (opened1 r.options).bounds;
+  opening = by_core (opened0 image r.options).state (opened1 r.options).state;
+  turns = turns (schedule_in r) (records_of 0 image r).records (records_of 1 image r).records;
+}
+
+-- by the definition over the whole lists of records: no turn before the breach shows one, and its
+-- own turn shows it; or no turn at all shows one
+abbrev pub IsFirstOf : Course → Judged → Type 0
+IsFirstOf course judged.Unchecked = Unit {0}
+IsFirstOf course judged.Whole = (p : ℕ) × IsFirstBreach course p None
+IsFirstOf course (judged.Broken b) = (p : ℕ) × IsFirstBreach course p (Some b)
+
+-- What is found of a run of the image: the answers for the image's window handlers are those of the
+-- six vectors from the VECBASE on with which the run opens, and the verdict is that of the run's
+-- records.
+pub record IsJudged (image : Image) (w : Whole) : Type 0 where
+  pub handlers : w.handlers ≡ handlers_of (code_of image) w.run.options.vecbase
+  pub verdict : w.judged ≡ judged_of w.handlers image w.run
+  -- the breach that it names is the first of the run, and it names one where there is one
+  pub first : IsFirstOf (course_of image w.run) w.judged
+  -- where the verdict is not `none` and the two stacks are apart, the judged steps before the first
+  -- breach are a run of the machine with unbounded call frames; where it is `whole`, that is all of
+  -- them
+  pub frames : w.judged ≢ judged.Unchecked → IsFrameRunOf image w.run
+  pub whole : w.judged ≡ judged.Whole → (judgement_of image w.run).breach ≡ None

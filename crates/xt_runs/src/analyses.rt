@@ -1,0 +1,86 @@
+//! The texts that `run` writes behind its report, of the analyses that its words ask for.
+ghost use Rattle.std.specs.Prelude.{◌≡◌, ◌++◌, IfOk};
+ghost use Rattle.xt_runs.specs.Analyses.{AreAnalyses, IsEventsOf, IsProfileOf, IsRaceOf, IsWanted};
+ghost use Rattle.xt_core.specs.Runs.{IsRunOf};
+ghost use Rattle.xt_image.specs.Parts.{IsWellFormed};
+ghost use Rattle.xt_map.specs.Placing.{IsPlaced};
+
+use std::alloc::{AllocError, Global};
+use xt_command_line::RunOptions;
+use xt_events::events_text;
+use xt_image::{Image, well_formed_is_placed};
+use xt_map::Text;
+use xt_profile::{profile, profile_text};
+use xt_race::race_text;
+use xt_trace::Run;
+
+// The text of `events`, where it is wanted.
+fn events(alloc: Global, wanted: bool, image: &Image, run: &Run) -> Result<Text, AllocError>
+    requires run { IsRunOf image.now run.now }
+    requires placed { IsPlaced image.now.segments }
+    ensures { IfOk result (λ text. IsWanted wanted (IsEventsOf image.now run.now) text) }
+{
+    if wanted {
+        events_text(alloc, image, run)
+    } else {
+        Ok(Text::new(Vec::new(alloc)))
+    }
+}
+
+// The text of `race`, where it is wanted.
+fn race(alloc: Global, wanted: bool, image: &Image, run: &Run) -> Result<Text, AllocError>
+    requires run { IsRunOf image.now run.now }
+    requires placed { IsPlaced image.now.segments }
+    ensures { IfOk result (λ text. IsWanted wanted (IsRaceOf image.now run.now) text) }
+{
+    if wanted {
+        race_text(alloc, image, run)
+    } else {
+        Ok(Text::new(Vec::new(alloc)))
+    }
+}
+
+// The text of `profile`, where it is wanted.
+fn profiled(alloc: Global, wanted: bool, image: &Image, run: &Run) -> Result<Text, AllocError>
+    requires run { IsRunOf image.now run.now }
+    requires placed { IsPlaced image.now.segments }
+    ensures { IfOk result (λ text. IsWanted wanted (IsProfileOf image.now run.now) text) }
+{
+    if wanted {
+        let profile = profile(alloc, image, run)?;
+        profile_text(alloc, &profile)
+    } else {
+        Ok(Text::new(Vec::new(alloc)))
+    }
+}
+
+// Three texts, one after another.
+fn joined(events: Text, race: &Text, profile: &Text) -> Result<Text, AllocError>
+    ensures { IfOk result (λ text. text ≡ events ++ (race.now ++ profile.now)) }
+{
+    let mut text = events.into_vec();
+    text.extend_from_slice(race.as_slice())?;
+    text.extend_from_slice(profile.as_slice())?;
+    Ok(Text::new(text))
+}
+
+/// The texts of the analyses of a run that the words ask for, one after another: that of `events`,
+/// that of `race`, that of `profile`. The only error is running out of memory.
+///
+/// Conditions: the image is well formed, and the run is one of this image.
+pub fn analyses_text(
+    alloc: Global,
+    options: &RunOptions,
+    image: &Image,
+    run: &Run,
+) -> Result<Text, AllocError>
+    requires image { IsWellFormed image.now }
+    requires run { IsRunOf image.now run.now }
+    ensures { IfOk result (λ text. AreAnalyses options.now image.now run.now text) }
+{
+    well_formed_is_placed();
+    let events = events(alloc, options.events, image, run)?;
+    let race = race(alloc, options.race, image, run)?;
+    let profile = profiled(alloc, options.profile, image, run)?;
+    joined(events, &race, &profile)
+}

@@ -1,0 +1,89 @@
+//! The command `gen`.
+ghost use Rattle.std.specs.Prelude.{◌≡◌, IfOk};
+ghost use Rattle.xt_runs.specs.Generating.{gen_options, gen_text};
+ghost use Rattle.xt_runs.specs.Runs.{FinishesGen, Generates, IsGenerated};
+ghost use Rattle.xt_command_line.specs.Options.{AreValid};
+
+use crate::outcome::{Outcome, without_run};
+use crate::runs::judge_image;
+use std::alloc::{AllocError, Global};
+use std::sync::Wait;
+use std::thread::Threads;
+use xt_command_line::{DEFAULT_VECBASE, RunOptions};
+use xt_gen::generated;
+use xt_image::written_length;
+use xt_io::{Gate, Refused, Sink};
+use xt_map::Text;
+use xt_report::{Whole, summary};
+use xt_status::{Status, write_text};
+use xt_trace::Stack;
+
+// The options with which the image of a number runs.
+fn gen_options() -> RunOptions
+    ensures is { result ≡ gen_options }
+    ensures valid { AreValid result }
+{
+    RunOptions {
+        turns0: 200_000,
+        turns1: 200_000,
+        entry1: None,
+        vecbase: DEFAULT_VECBASE,
+        stack0: Stack {
+            lo: 0x3FFF_0000,
+            hi: 0x3FFF_8000,
+        },
+        stack1: Stack {
+            lo: 0x3FFF_8000,
+            hi: 0x4000_0000,
+        },
+        trace: false,
+        events: false,
+        race: false,
+        profile: false,
+        seed: None,
+    }
+}
+
+// The run of the image of a number, with what is found of it, and its summary.
+fn run_generated<G: Gate, R: Threads + Wait + Sync>(
+    rt: &R,
+    alloc: Global,
+    number: u32,
+    gate: &G,
+) -> Result<(Whole, Text), AllocError>
+    ensures run { IfOk result (λ made. IsGenerated number made.0) }
+    ensures text { IfOk result (λ made. made.1 ≡ gen_text number made.0) }
+{
+    let image = generated(alloc, number)?;
+    let size = written_length(&image);
+    let options = gen_options();
+    let whole = judge_image(rt, alloc, &options, &image, gate)?;
+    let text = summary(alloc, number, size, &whole)?;
+    Ok((whole, text))
+}
+
+/// Runs the image of a number, and writes its summary. It may wait.
+pub fn generate<K: Sink, G: Gate, R: Threads + Wait + Sync>(
+    rt: &R,
+    alloc: Global,
+    number: u32,
+    sink: &mut K,
+    gate: &G,
+) -> Outcome
+    ensures answers { Generates number (K.told sink.old) (K.told sink.new) (K.faults sink.old) (K.faults sink.new)
+        result.status result.whole }
+    ensures complete { FinishesGen (K.faults sink.old) (K.faults sink.new) result.status }
+{
+    let Ok((whole, text)) = run_generated(rt, alloc, number, gate) else {
+        return without_run(Status::Memory);
+    };
+    let status = match write_text(&text, sink) {
+        Ok(()) => Status::Done,
+        Err(Refused::Failed) => Status::WriteFault,
+        Err(Refused::Memory) => return without_run(Status::Memory),
+    };
+    Outcome {
+        status,
+        whole: Some(whole),
+    }
+}

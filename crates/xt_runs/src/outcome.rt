@@ -1,0 +1,35 @@
+//! What is wanted of a run, and how it ended.
+ghost use Rattle.std.specs.Prelude.{◌≡◌, None};
+
+use xt_report::Whole;
+use xt_status::Status;
+
+/// What is written of a run of an image.
+#[derive(Clone, Copy, Debug, PartialEq, Eq)]
+pub enum Wanted {
+    /// `run`: the report, and where the words ask for them the lines of the traces.
+    Report,
+    /// `record`: the recording.
+    Recording,
+}
+
+/// How the program ended.
+#[derive(Drop)]
+pub struct Outcome {
+    /// The status, which says the exit code and the line for standard error.
+    pub status: Status,
+    /// The run, with what is found of it, exactly where the command is `run`, `record` or `gen` and the
+    /// status is `Done` or `WriteFault`.
+    pub whole: Option<Whole>,
+}
+
+// An end without a run.
+pub fn without_run(status: Status) -> Outcome
+    ensures status { result.status ≡ status }
+    ensures whole { result.whole ≡ None }
+{
+    Outcome {
+        status,
+        whole: None,
+    }
+}

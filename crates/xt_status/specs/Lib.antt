@@ -1,0 +1,4 @@
+pub mod Statuses
+pub mod Calls
+pub mod Writes
+pub mod Inputs

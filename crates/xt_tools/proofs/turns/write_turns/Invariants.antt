@@ -1,0 +1,15 @@
+-- The lines that are gone were written.
+use Rattle.std.proofs.Common.{◌≡◌, ◌++◌, length, ℕ, ◌+◌, ◌≤◌, List}
+use Rattle.std.specs.List.{concat}
+use Rattle.std.specs.Io.KnownBytes.{Appends}
+use Rattle.xt_events.specs.Lines.{lines_in}
+use Rattle.xt_tools.proofs.turns.write_turns.Given as goal
+
+abbrev pub invariant-loop : goal.invariant-loop
+invariant-loop g l = record {
+  bytes : (done : List ℕ)
+      × (concat (lines_in l.fn.lines) ≡ done ++ concat (lines_in l.lines))
+      × Appends (g.K.Sink.told l.fn.sink) (g.K.Sink.told l.sink) done;
+  left : length (lines_in l.lines) + l.counter ≡ l.count;
+  later : g.K.Sink.faults l.fn.sink ≤ g.K.Sink.faults l.sink;
+}

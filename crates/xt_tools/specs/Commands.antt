@@ -1,0 +1,79 @@
+-- What each command over a text, an ELF executable, an image or a recording makes of its input, and
+-- what it refuses ('profile').
+use Rattle.std.specs.Prelude.{◌≡◌, ℕ, List, Option, None, unwrap_or}
+use Rattle.std.specs.Option.{option_map}
+use Rattle.xt_image.specs.declared.image.Image.{Image}
+use Rattle.xt_image.specs.Parts.{image_bytes}
+use Rattle.xt_elf.specs.Format.{elf_image}
+use Rattle.xt_elf.specs.Rules.{elf_fault}
+use Rattle.xt_asm.specs.Kinds.{text_fault}
+use Rattle.xt_asm.specs.Images.{IsImageOfText}
+use Rattle.xt_disasm.specs.Listing.{listing_text}
+use Rattle.xt_flow.specs.Printing.{IsFlowText}
+use Rattle.xt_record.specs.Fields.{image_in}
+use Rattle.xt_record.specs.Format.{run_in}
+use Rattle.xt_record.specs.Written.{recording_bytes}
+use Rattle.xt_events.specs.Events.{events_text}
+use Rattle.xt_events.specs.Lines.{turns_text}
+use Rattle.xt_race.specs.Races.{events_of}
+use Rattle.xt_race.specs.Texts.{IsRaceText}
+use Rattle.xt_profile.specs.Profiled.{profile_of}
+use Rattle.xt_profile.specs.Texts.{profile_text}
+use Rattle.xt_command_line.specs.declared.command.Listing.{Listing}
+use Rattle.xt_command_line.specs.declared.command.Listing.TheVariants as listing
+use Rattle.xt_command_line.specs.declared.command.Span.{Span}
+use Rattle.xt_status.specs.declared.status.Status.{Status}
+use Rattle.xt_status.specs.declared.status.Status.TheVariants as status
+
+-- ---- what is refused
+
+-- the status of an input's first fault as an assembly text, if it has one
+unfoldable pub text_refusal : List ℕ → Option Status
+text_refusal input = option_map status.Asm (text_fault input)
+
+-- the same of an input that is to be an ELF executable
+unfoldable pub elf_refusal : List ℕ → Option Status
+elf_refusal input = option_map status.Elf (elf_fault input)
+
+-- the input is not refused, and this is so of what is made of it
+pub record IsMade (refusal : Option Status) (Written : Type 0) : Type 0 where
+  pub accepted : refusal ≡ None
+  pub written : Written
+
+-- ---- what is made of an input
+
+-- the image of an assembly text as a file
+abbrev pub IsAssembled : List ℕ → List ℕ → Type 0
+IsAssembled input bytes = (image : Image) × IsImageOfText input image × (bytes ≡ image_bytes image)
+
+-- the image of an ELF executable as a file
+unfoldable pub converted : List ℕ → List ℕ
+converted input = image_bytes (elf_image input)
+
+-- the listing of an image: each executable segment from its first byte on, or what control reaches
+-- from the image's entry, that of core 1, which is the image's where the words say none, and the
+-- vectors
+abbrev pub IsListed : Listing → Image → List ℕ → Type 0
+IsListed listing.Sweep image bytes = bytes ≡ listing_text image
+IsListed (listing.Flow o) image bytes =
+    IsFlowText image o.vecbase (unwrap_or o.entry1 image.entry) bytes
+
+-- the recording, in version 2, of the run that a recording holds
+unfoldable pub migrated : List ℕ → List ℕ
+migrated input = recording_bytes (image_in input) (run_in input)
+
+-- what happened to each core in that run
+unfoldable pub happened : List ℕ → List ℕ
+happened input = events_text (image_in input) (run_in input)
+
+-- the lines of these turns of that run
+unfoldable pub traced : Span → List ℕ → List ℕ
+traced span input = turns_text (image_in input) (run_in input) span.from span.to
+
+-- the first race in that run, or that there is none
+abbrev pub IsRaceTold : List ℕ → List ℕ → Type 0
+IsRaceTold input bytes = IsRaceText (events_of (image_in input) (run_in input)) bytes
+
+-- the call profile of that run
+unfoldable pub profiled : List ℕ → List ℕ
+profiled input = profile_text (profile_of (image_in input) (run_in input))

@@ -1,0 +1,95 @@
+//! The commands over recordings.
+ghost use Rattle.std.specs.Prelude.{◌≡◌, ◌≢◌, IfOk, IfErr, Some};
+ghost use Rattle.xt_record.specs.Fields.{image_in};
+ghost use Rattle.xt_record.specs.Format.{run_in};
+ghost use Rattle.xt_status.specs.Inputs.{recording_refusal};
+ghost use Rattle.xt_tools.specs.Commands.{IsMade, IsRaceTold, happened, migrated, profiled, traced};
+ghost use Rattle.xt_tools.specs.Puts.{Puts};
+ghost use Rattle.xt_use_report.specs.Told.{IsUsesTold};
+
+use crate::turns::write_turns;
+use std::alloc::Global;
+use xt_command_line::Span;
+use xt_events::{TurnLines, events_text};
+use xt_image::well_formed_is_placed;
+use xt_io::Sink;
+use xt_map::Text;
+use xt_profile::profile_text;
+use xt_race::race_text;
+use xt_record::write_recording;
+use xt_status::{Status, recording_in, status_after};
+use xt_use_report::uses_text;
+
+/// The same recording in version 2, or the status of its first fault.
+#[tactic(auto, unfolding(crate::specs::Commands::migrated))]
+pub fn migrate(alloc: Global, input: &[u8]) -> Result<Text, Status>
+    ensures ok { IfOk result (λ bytes. IsMade (recording_refusal input.now) (bytes ≡ migrated input.now)) }
+    ensures refused { IfErr result (λ status. status ≢ Status.Memory → recording_refusal input.now ≡ Some status) }
+{
+    let (image, run) = recording_in(alloc, input)?;
+    match write_recording(alloc, &image, &run) {
+        Ok(bytes) => Ok(Text::new(bytes.into_vec())),
+        Err(_) => Err(Status::Memory),
+    }
+}
+
+/// What happened to each core in a recorded run, or the status of the recording's first fault.
+#[tactic(auto, unfolding(crate::specs::Commands::happened))]
+pub fn events(alloc: Global, input: &[u8]) -> Result<Text, Status>
+    ensures ok { IfOk result (λ bytes. IsMade (recording_refusal input.now) (bytes ≡ happened input.now)) }
+    ensures refused { IfErr result (λ status. status ≢ Status.Memory → recording_refusal input.now ≡ Some status) }
+{
+    let (image, run) = recording_in(alloc, input)?;
+    well_formed_is_placed();
+    events_text(alloc, &image, &run).map_err(|_| Status::Memory)
+}
+
+/// The first data race of a recorded run, or the status of the recording's first fault.
+pub fn race(alloc: Global, input: &[u8]) -> Result<Text, Status>
+    ensures ok { IfOk result (λ bytes. IsMade (recording_refusal input.now) (IsRaceTold input.now bytes)) }
+    ensures refused { IfErr result (λ status. status ≢ Status.Memory → recording_refusal input.now ≡ Some status) }
+{
+    let (image, run) = recording_in(alloc, input)?;
+    well_formed_is_placed();
+    race_text(alloc, &image, &run).map_err(|_| Status::Memory)
+}
+
+/// The call profile of a recorded run, or the status of the recording's first fault.
+#[tactic(auto, unfolding(crate::specs::Commands::profiled))]
+pub fn profile(alloc: Global, input: &[u8]) -> Result<Text, Status>
+    ensures ok { IfOk result (λ bytes. IsMade (recording_refusal input.now) (bytes ≡ profiled input.now)) }
+    ensures refused { IfErr result (λ status. status ≢ Status.Memory → recording_refusal input.now ≡ Some status) }
+{
+    let (image, run) = recording_in(alloc, input)?;
+    well_formed_is_placed();
+    let Ok(found) = xt_profile::profile(alloc, &image, &run) else {
+        return Err(Status::Memory);
+    };
+    profile_text(alloc, &found).map_err(|_| Status::Memory)
+}
+
+/// The first use of something that is not known in a recorded run, or the status of the recording's first fault.
+pub fn uses(alloc: Global, input: &[u8]) -> Result<Text, Status>
+    ensures ok { IfOk result (λ bytes. IsMade (recording_refusal input.now) (IsUsesTold (image_in input.now) (run_in input.now) bytes)) }
+    ensures refused { IfErr result (λ status. status ≢ Status.Memory → recording_refusal input.now ≡ Some status) }
+{
+    let (image, run) = recording_in(alloc, input)?;
+    uses_text(alloc, &image, &run).map_err(|_| Status::Memory)
+}
+
+/// Writes the lines of these turns of a recorded run, each before the next is made, or ends with the
+/// status of the recording's first fault.
+pub fn trace<K: Sink>(alloc: Global, span: Span, input: &[u8], sink: &mut K) -> Status
+    ensures { Puts (recording_refusal input.now) (λ bytes. bytes ≡ traced span input.now)
+        (K.told sink.old) (K.told sink.new) (K.faults sink.old) (K.faults sink.new) result }
+{
+    let (image, run) = match recording_in(alloc, input) {
+        Ok(read) => read,
+        Err(status) => return status,
+    };
+    well_formed_is_placed();
+    let Ok(mut lines) = TurnLines::make(alloc, &image, &run, span.from, span.to) else {
+        return Status::Memory;
+    };
+    status_after(write_turns(alloc, &mut lines, sink))
+}
