@@ -5,23 +5,25 @@ use Rattle.xt_map.specs.declared.access.Access.{Access}
 use Rattle.xt_trace.specs.declared.record.StepRecord.{StepRecord}
 use Rattle.xt_frames.specs.declared.kinds.Breach.{Breach}
 use Rattle.xt_frames.specs.declared.kinds.BreachKind.{BreachKind}
-use Rattle.xt_frames.specs.Frames.{FrameState}
+use Rattle.xt_frames.specs.Frames.{Frame, FrameState}
 use Rattle.xt_frames.specs.FrameStep.{laid}
 use Rattle.xt_frames.specs.SaveAreas.{is_live}
 use Rattle.xt_frames.specs.Breaches.{Bounds, breach_of, inputs_of, stale_after, stores_at, window_breach}
-use Rattle.xt_frames.specs.Stacks.{Moves, Stack}
+use Rattle.xt_frames.specs.Stacks.{Moves, Stays, Calls, Stack}
+use Rattle.xt_frames.specs.Stacks as moves
 use Rattle.xt_frames.specs.HandlerSteps.{Mode, Handles, is_window, mode_after}
 use Rattle.xt_frames.specs.Nesting.{current, is_nesting}
 use Rattle.xt_discipline.specs.declared.side.Mode as declared
 use Rattle.xt_discipline.specs.declared.side.Mode.TheVariants as mode
 use Rattle.xt_frames.specs.Judging.{Standing, Seen, Handled, seen, seen_in, seen_judged, seen_plain, seen_step, seen_window, fresh_on, step_on}
 use Rattle.std.specs.Prelude.{IfOk}
-use Rattle.xt_frames.specs.Walked.{IsBreach, IsJudged, Walked, fresh_before, walked_past}
+use Rattle.xt_frames.specs.Walked.{IsBreach, IsJudged, Walked, found_in, fresh_before, walked_past}
 use Rattle.xt_discipline.specs.declared.bytes.Held.{Held}
+use Rattle.xt_discipline.specs.declared.side.Areas.{Areas}
 use Rattle.xt_discipline.specs.declared.side.Side.{Side}
 use Rattle.xt_discipline.specs.declared.bytes.Change.TheVariants.{Stored}
 use Rattle.xt_discipline.specs.Bytes.{AreChanged, KnowsOf, either}
-use Rattle.xt_discipline.specs.Sides.{Begins, IsFollowed, IsPast, IsSeen, IsSide, live_in, mode_of, standing_of}
+use Rattle.xt_discipline.specs.Sides.{Begins, IsCallOf, IsFollowed, IsPast, IsSeen, IsSide, live_in, mode_of, standing_of}
 use Rattle.xt_discipline.proofs.Moved.{known_moves}
 
 pub late : (x : Bool) (next steps : ℕ) → next ≤ steps → (x && (next == steps + 1)) ≡ false
@@ -189,3 +191,23 @@ side_past s frames code nested rec next k is =
     let P : Walked → Type 0 = λ w. IsSide (record s { frames = w; mode = next; steps = s.steps + 1 }) in
     let there : P (walked_past s.frames code s.steps nested rec) = record { core_is = k.core_is; end_is = k.end_is; low = k.low; high = k.high; past = le_same (s.steps + 1) } in
     subst P (sym is) there
+
+-- a step that stays in its frame changes no marks
+longer : (n : ℕ) → suc n ≡ n → ⊥
+longer n e = omega arith
+
+pub followed_still : (core hi : ℕ) (g u : FrameState) (m : Moves g u) (marks : List Held) → u.frames ≡ g.frames → IsFollowed core hi g u m marks marks
+followed_still core hi g u (Stays e s) marks h = refl
+followed_still core hi g u (Calls f e s) marks h = absurd (longer (length g.frames) (ap (λ (fs : List Frame). length fs) (sym e ∙ h)))
+followed_still core hi g u (moves.Leaves f e s) marks h = absurd (longer (length u.frames) (ap (λ (fs : List Frame). length fs) (sym e ∙ sym h)))
+
+-- what a frame state that the quick judge has left as it was says of the one before
+pub judged_still : (s : Side) (w new : Walked) (code : ℕ → ℕ) (nested : Bool) (rec : StepRecord) (live stale : ℕ → Bool) (r : Result Unit Breach) → w ≡ s.frames
+    → IsJudged (found_in w code live stale s.steps nested rec) w code s.steps nested rec r new → IsJudged (found_in s.frames code live stale s.steps nested rec) s.frames code s.steps nested rec r new
+judged_still s w new code nested rec live stale r same judged = subst (λ (x : Walked). IsJudged (found_in x code live stale s.steps nested rec) x code s.steps nested rec r new) same judged
+
+pub moves_still : (s : Side) (w new : Walked) (r : Result Unit Breach) → w ≡ s.frames → IfOk r (λ (u : Unit). Moves w.state new.state) → IfOk r (λ (u : Unit). Moves s.frames.state new.state)
+moves_still s w new r same moves = subst (λ (x : Walked). IfOk r (λ (u : Unit). Moves x.state new.state)) same moves
+
+pub call_still : (s : Side) (w : Walked) (call : Option Areas) → w ≡ s.frames → IsCallOf call s.hi w.state → IsCallOf call s.hi s.frames.state
+call_still s w call same is = subst (λ (x : Walked). IsCallOf call s.hi x.state) same is

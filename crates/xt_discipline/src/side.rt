@@ -239,9 +239,21 @@ impl Side {
         let saves = saves(marks, rec.access);
         let stale = loads(marks, rec.access);
         let depth = self.frames.depth();
+        // The areas of the newest call are worked out only for a step that may leave its frame.
+        if self
+            .frames
+            .quick(code, self.steps, rec, nested, saves, stale)
+        {
+            // (so that what its stack is past the step is known)
+            let _depth = self.frames.depth();
+            self.mode = next;
+            self.steps += 1;
+            store(marks, rec.access);
+            return Ok(());
+        }
         let call = self.newest();
         self.frames
-            .judge(code, self.steps, rec, nested, saves, stale)?;
+            .judge_whole(code, self.steps, rec, nested, saves, stale)?;
         self.mode = next;
         self.steps += 1;
         store(marks, rec.access);

@@ -154,8 +154,8 @@ impl Frames {
     }
 
     /// Makes the step of a record of this number, if it shows no breach and stays in its frame: whether it did. Else nothing has
-    /// changed.
-    fn quick(
+    /// changed. Most steps are such. `judge_whole` serves all others.
+    pub fn quick(
         &mut self,
         code: &Constants,
         index: u32,
@@ -167,6 +167,7 @@ impl Frames {
         ensures judged { result ≡ true → (live dead : ℕ → Bool) → touches_save_area live rec.now.access ≡ saves → loads_stale live dead rec.now.access ≡ stale
             → (found_in self.old (constant_byte code.now) live dead index nested rec.now ≡ None) × (self.new ≡ walked_past self.old (constant_byte code.now) index nested rec.now) }
         ensures moves { result ≡ true → Moves self.old.state self.new.state }
+        ensures frames { result ≡ true → self.new.state.frames ≡ self.old.state.frames }
         ensures other { result ≡ false → self.new ≡ self.old }
     {
         if nested || saves || stale || self.holes.nested.is_some() {
@@ -191,7 +192,7 @@ impl Frames {
     ///
     /// Condition: there are live and stale bytes for which both are so.
     #[inline(never)]
-    fn judge_whole(
+    pub fn judge_whole(
         &mut self,
         code: &Constants,
         index: u32,

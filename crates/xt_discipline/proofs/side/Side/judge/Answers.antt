@@ -7,11 +7,11 @@ use Rattle.xt_discipline.specs.declared.side.Side.{Side}
 use Rattle.xt_discipline.specs.Bytes.{Agrees, either, held_at}
 use Rattle.xt_discipline.specs.Sides.{IsSeen, live_in, standing_of}
 use Rattle.xt_discipline.proofs.Known.{loads_for, saves_for}
-use Rattle.xt_discipline.proofs.Seeing.{breach_where, found_by, judged_breaks, judged_marks, judged_past, moves_where, past_where, side_past}
+use Rattle.xt_discipline.proofs.Seeing.{breach_where, followed_still, found_by, judged_breaks, judged_marks, judged_past, judged_still, call_still, moves_still, moves_where, past_where, side_past}
 use Rattle.xt_discipline.proofs.side.Side.judge.Goals as goal
 
-pub judge-requires : goal.judge-requires
-judge-requires c =
+pub judge_whole-requires : goal.judge_whole-requires
+judge_whole-requires c =
     let marks = c.args.marks.now in
     let live0 : ℕ → Bool = λ a. (held_at marks a).live0 in
     let live1 : ℕ → Bool = λ a. (held_at marks a).live1 in
@@ -19,20 +19,21 @@ judge-requires c =
     let own : Agrees marks live0 live1 stale = record { first_core = λ a. refl; second_core = λ a. refl; no_longer = λ a. refl } in
     (either live0 live1, stale, c.saves-saves.ensures live0 live1 stale own, c.loads-stale.ensures live0 live1 stale own)
 
-pub returns-in_err-judge-clause-seen : goal.returns-in_err-judge-clause-seen
-returns-in_err-judge-clause-seen c others stale known =
+pub returns-in_err-judge_whole-clause-seen : goal.returns-in_err-judge_whole-clause-seen
+returns-in_err-judge_whole-clause-seen c others stale known =
     let s = c.args.self.now in
     let code = constant_byte c.args.code.now in
     let rec = c.args.rec.now in
     let nested = c.args.nested in
-    let b = c.in_err-judge.field-0.0 in
+    let b = c.in_err-judge_whole.field-0.0 in
     let saves = saves_for s.core c.args.marks.now (live_in s.frames) others stale rec.access c.saves-saves.result c.saves-saves.ensures known in
     let loads = loads_for s.core c.args.marks.now (live_in s.frames) others stale rec.access c.loads-stale.result c.loads-stale.ensures known in
     let found = found_by s others stale code nested rec in
-    let is : c.judge.result ≡ Err b = c.in_err-judge.was in
-    let breach = breach_where s.frames c.judge.new.self code s.steps nested rec found c.judge.result b is (c.judge.ensures.judged (either (live_in s.frames) others) stale saves loads) in
+    let is : c.judge_whole.result ≡ Err b = c.in_err-judge_whole.was in
+    let breach = breach_where s.frames c.judge_whole.new.self code s.steps nested rec found c.judge_whole.result b is
+    (judged_still s c.quick.new.self c.judge_whole.new.self code nested rec (either (live_in s.frames) others) stale c.judge_whole.result (c.quick.ensures.other c.if-quick.false) (c.judge_whole.ensures.judged (either (live_in s.frames) others) stale saves loads)) in
     let same : c.from_residual.result ≡ Err b = search rules in
-    let new : Side = record { core = s.core; hi = s.hi; frames = c.judge.new.self; mode = s.mode; steps = s.steps } in
+    let new : Side = record { core = s.core; hi = s.hi; frames = c.judge_whole.new.self; mode = s.mode; steps = s.steps } in
     subst (λ (r : Result Unit Breach). IsSeen s new c.args.marks.now others stale (seen_step found code s.frames.bounds (standing_of s) others stale nested rec) r) (sym same)
     (judged_breaks s new c.args.marks.now others stale code nested rec found b c.requires.side breach)
 
@@ -48,10 +49,11 @@ follow-requires c =
     let stale : ℕ → Bool = λ a. (held_at marks a).stale in
     let own : Agrees marks live0 live1 stale = record { first_core = λ a. refl; second_core = λ a. refl; no_longer = λ a. refl } in
     let found = found_in s.frames code (either live0 live1) stale s.steps nested rec in
-    let is : c.judge.result ≡ Ok c.in_ok-judge.field-0 = c.in_ok-judge.was in
-    let past = past_where s.frames c.judge.new.self code s.steps nested rec found c.judge.result c.in_ok-judge.field-0 is
-    (c.judge.ensures.judged (either live0 live1) stale (c.saves-saves.ensures live0 live1 stale own) (c.loads-stale.ensures live0 live1 stale own)) in
-    side_past s c.judge.new.self code nested rec c.args.next c.requires.side past.1
+    let is : c.judge_whole.result ≡ Ok c.in_ok-judge_whole.field-0 = c.in_ok-judge_whole.was in
+    let past = past_where s.frames c.judge_whole.new.self code s.steps nested rec found c.judge_whole.result c.in_ok-judge_whole.field-0 is
+    (judged_still s c.quick.new.self c.judge_whole.new.self code nested rec (either live0 live1) stale c.judge_whole.result (c.quick.ensures.other c.if-quick.false)
+    (c.judge_whole.ensures.judged (either live0 live1) stale (c.saves-saves.ensures live0 live1 stale own) (c.loads-stale.ensures live0 live1 stale own))) in
+    side_past s c.judge_whole.new.self code nested rec c.args.next c.requires.side past.1
 
 pub returns-clause-seen : goal.returns-clause-seen
 returns-clause-seen c others stale known =
@@ -59,18 +61,40 @@ returns-clause-seen c others stale known =
     let code = constant_byte c.args.code.now in
     let rec = c.args.rec.now in
     let nested = c.args.nested in
-    let f = c.judge.new.self in
+    let f = c.judge_whole.new.self in
     let saves = saves_for s.core c.args.marks.now (live_in s.frames) others stale rec.access c.saves-saves.result c.saves-saves.ensures known in
     let loads = loads_for s.core c.args.marks.now (live_in s.frames) others stale rec.access c.loads-stale.result c.loads-stale.ensures known in
     let found = found_by s others stale code nested rec in
-    let is : c.judge.result ≡ Ok c.in_ok-judge.field-0 = c.in_ok-judge.was in
-    let past = past_where s.frames f code s.steps nested rec found c.judge.result c.in_ok-judge.field-0 is (c.judge.ensures.judged (either (live_in s.frames) others) stale saves loads) in
-    let moves = moves_where s.frames.state f.state c.judge.result c.in_ok-judge.field-0 is c.judge.ensures.moves in
+    let is : c.judge_whole.result ≡ Ok c.in_ok-judge_whole.field-0 = c.in_ok-judge_whole.was in
+    let past = past_where s.frames f code s.steps nested rec found c.judge_whole.result c.in_ok-judge_whole.field-0 is
+    (judged_still s c.quick.new.self c.judge_whole.new.self code nested rec (either (live_in s.frames) others) stale c.judge_whole.result (c.quick.ensures.other c.if-quick.false) (c.judge_whole.ensures.judged (either (live_in s.frames) others) stale saves loads)) in
+    let moves = moves_where s.frames.state f.state c.judge_whole.result c.in_ok-judge_whole.field-0 is (moves_still s c.quick.new.self f c.judge_whole.result (c.quick.ensures.other c.if-quick.false) c.judge_whole.ensures.moves) in
     let bounds : f.bounds ≡ s.frames.bounds = ap (λ (w : Walked). w.bounds) past.1 in
     let core : f.core ≡ s.core = ap (λ (w : Walked). w.core) past.1 ∙ c.requires.side.core_is in
-    let store = c.store.ensures in
-    let len : length c.store.new.marks ≡ 0x52000 = store.len ∙ c.requires.len in
-    let followed = c.follow.ensures.follows s.frames.state moves c.depth-depth.ensures.depth c.newest-call.ensures in
-    let marks = judged_marks s f moves c.args.marks.now c.store.new.marks c.follow.new.marks others stale rec.access c.requires.side bounds len c.depth-depth.ensures.stack c.follow.ensures.stack known store.bytes followed in
+    let store = c.store-2.ensures in
+    let len : length c.store-2.new.marks ≡ 0x52000 = store.len ∙ c.requires.len in
+    let followed = c.follow.ensures.follows s.frames.state moves c.depth-depth.ensures.depth (call_still s c.quick.new.self c.newest-call.result (c.quick.ensures.other c.if-quick.false) c.newest-call.ensures) in
+    let marks = judged_marks s f moves c.args.marks.now c.store-2.new.marks c.follow.new.marks others stale rec.access c.requires.side bounds len c.depth-depth.ensures.stack c.follow.ensures.stack known store.bytes followed in
     let new : Side = record { core = s.core; hi = s.hi; frames = f; mode = c.args.next; steps = s.steps + 1 } in
     judged_past s new f c.follow.new.marks others stale code rec found tt nested c.args.next c.requires.next c.requires.side past.0 past.1 refl marks
+
+pub returns-then-quick-clause-seen : goal.returns-then-quick-clause-seen
+returns-then-quick-clause-seen c others stale known =
+    let s = c.args.self.now in
+    let code = constant_byte c.args.code.now in
+    let rec = c.args.rec.now in
+    let nested = c.args.nested in
+    let f = c.quick.new.self in
+    let made = c.if-quick.true in
+    let saves = saves_for s.core c.args.marks.now (live_in s.frames) others stale rec.access c.saves-saves.result c.saves-saves.ensures known in
+    let loads = loads_for s.core c.args.marks.now (live_in s.frames) others stale rec.access c.loads-stale.result c.loads-stale.ensures known in
+    let found = found_by s others stale code nested rec in
+    let past = c.quick.ensures.judged made (either (live_in s.frames) others) stale saves loads in
+    let moves = c.quick.ensures.moves made in
+    let bounds : f.bounds ≡ s.frames.bounds = ap (λ (w : Walked). w.bounds) past.1 in
+    let store = c.store.ensures in
+    let len : length c.store.new.marks ≡ 0x52000 = store.len ∙ c.requires.len in
+    let followed = followed_still s.core s.hi s.frames.state f.state moves c.store.new.marks (c.quick.ensures.frames made) in
+    let marks = judged_marks s f moves c.args.marks.now c.store.new.marks c.store.new.marks others stale rec.access c.requires.side bounds len c.depth-depth.ensures.stack c.depth-depth-then-quick.ensures.stack known store.bytes followed in
+    let new : Side = record { core = s.core; hi = s.hi; frames = f; mode = c.args.next; steps = s.steps + 1 } in
+    judged_past s new f c.store.new.marks others stale code rec found tt nested c.args.next c.requires.next c.requires.side past.0 past.1 refl marks

@@ -1,4 +1,4 @@
-use Rattle.std.proofs.Common.{◌≡◌, ℕ, ◌+◌, Bool, None, sym, ◌∙◌, ap, subst}
+use Rattle.std.proofs.Common.{◌≡◌, ℕ, ◌+◌, Bool, None, refl, sym, ◌∙◌, ap, subst}
 use Rattle.std.specs.Vec.{vec_capacity}
 use Rattle.xt_map.specs.Memory.{constant_byte}
 use Rattle.xt_frames.specs.Parts.{frames_of, state_at}
@@ -50,3 +50,10 @@ returns-in-Some-clause-moves c = λ made.
     let frames = frames_of i.callers.items in
     let M : Walked → Type 0 = λ y. Moves y.state (state_at frames i.holes x) in
     subst M c.self.view_is (quick_moves i.limits fresh code rec i.holes write i.view q.0 x k frames)
+
+pub returns-in-Some-clause-frames : goal.returns-in-Some-clause-frames
+returns-in-Some-clause-frames c = λ made.
+    let i = c.self.inside in
+    let frames = frames_of i.callers.items in
+    let F : Walked → Type 0 = λ y. frames ≡ y.state.frames in
+    subst F c.self.view_is refl
