@@ -15,8 +15,8 @@ use Rattle.xt_frames.specs.Walked.{opened}
 use Rattle.xt_discipline.specs.declared.walk.Walk.{Walk}
 use Rattle.xt_discipline.specs.Verdicts.{judgement_in}
 use Rattle.xt_discipline.specs.Schedules.{schedule_in}
-use Rattle.xt_discipline.specs.Walks.{IsOpened, Knows}
-use Rattle.xt_core.specs.Runs.{IsRunOf, code_of, entry_of, records_of}
+use Rattle.xt_discipline.specs.Walks.{IsOpened}
+use Rattle.xt_core.specs.Runs.{IsRunOf, code_of, entry_of}
 use Rattle.xt_profile.specs.declared.profiles.CoreProfile.{CoreProfile}
 use Rattle.xt_profile.specs.declared.tally.Tally.{Tally}
 use Rattle.xt_profile.specs.Steps.{Step, frame_after, step_of, steps_from}
@@ -25,6 +25,7 @@ use Rattle.xt_profile.specs.Counts.{lines, total}
 use Rattle.xt_profile.specs.Profiled.{CoreAddsUp, core_profile, cut, records, steps}
 use Rattle.xt_profile.specs.Told.{IsTally, closed}
 use Rattle.xt_profile.specs.Follows.{AreCut, Follows, IsCut}
+use Rattle.xt_profile.proofs.Cutting.{cut0_is, cut1_is}
 use Rattle.xt_profile.proofs.Following.{core_begins}
 use Rattle.xt_profile.proofs.Putting.{total_is}
 use Rattle.xt_profile.proofs.Telling.{keys_count}
@@ -86,14 +87,14 @@ pub zero_is : (w : Walk) (segments : List Segment) (image : Image) (r : Run) (xs
     → Cut w image r xs ys t0 t1 → ((opening : ℕ) (past : List Step) → IsTally opening past t0 → p ≡ closed opening past r.trace0.count) → p ≡ core_profile 0 image r
 zero_is w segments image r xs ys t0 t1 p a b e f run h is =
     let j = judged_is w segments image r xs ys a b e f in
-    core_is 0 image.entry image r (constant_byte w.code) (opened 0 image.entry r.options).state xs _ r.trace0.count t0 p (ap constant_byte (a ∙ b)) e refl (ap (λ (v : Judgement). v.known.steps0) j) refl
+    core_is 0 image.entry image r (constant_byte w.code) (opened 0 image.entry r.options).state xs _ r.trace0.count t0 p (ap constant_byte (a ∙ b)) e refl (ap (λ (v : Judgement). v.known.steps0) j ∙ cut0_is image r) refl
     (run.trace0.count_is ∙ ap (λ (l : List StepRecord). length l) (sym e)) h.core0 (is image.entry h.core0.past h.core0.tally)
 
 pub one_is : (w : Walk) (segments : List Segment) (image : Image) (r : Run) (xs ys : List StepRecord) (t0 t1 : Tally) (p : CoreProfile) → w.code ≡ segments → segments ≡ image.segments → xs ≡ records 0 image r → ys ≡ records 1 image r → IsRunOf image r
     → Cut w image r xs ys t0 t1 → ((opening : ℕ) (past : List Step) → IsTally opening past t1 → p ≡ closed opening past r.trace1.count) → p ≡ core_profile 1 image r
 one_is w segments image r xs ys t0 t1 p a b e f run h is =
     let j = judged_is w segments image r xs ys a b e f in
-    core_is 1 r.options.entry1 image r (constant_byte w.code) (opened 1 r.options.entry1 r.options).state ys _ r.trace1.count t1 p (ap constant_byte (a ∙ b)) f refl (ap (λ (v : Judgement). v.known.steps1) j) refl
+    core_is 1 r.options.entry1 image r (constant_byte w.code) (opened 1 r.options.entry1 r.options).state ys _ r.trace1.count t1 p (ap constant_byte (a ∙ b)) f refl (ap (λ (v : Judgement). v.known.steps1) j ∙ cut1_is image r) refl
     (run.trace1.count_is ∙ ap (λ (l : List StepRecord). length l) (sym f)) h.core1 (is r.options.entry1 h.core1.past h.core1.tally)
 
 -- the steps that were counted are no more than all

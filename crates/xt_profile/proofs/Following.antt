@@ -1,5 +1,5 @@
 -- Both cores along the schedule of a run.
-use Rattle.std.proofs.Common.{◌≡◌, ℕ, zero, suc, ◌+◌, ◌<◌, ◌≤◌, ◌^◌, Option, Some, None, Result, Ok, OnOk, List, [], ◌∷◌, length, drop, take, get_or, refl, sym, ap, ap₂, subst, ◌∙◌, arith}
+use Rattle.std.proofs.Common.{◌≡◌, ℕ, suc, ◌+◌, ◌<◌, ◌≤◌, ◌^◌, Option, Some, None, List, [], ◌∷◌, length, drop, take, get_or, refl, sym, ap, ap₂, subst, ◌∙◌, arith}
 use Rattle.std.proofs.lemmas.List.{drop_more, drop_all}
 use Rattle.xt_map.specs.Memory.{constant_byte}
 use Rattle.xt_trace.specs.declared.record.StepRecord.{StepRecord}
@@ -12,12 +12,11 @@ use Rattle.xt_frames.specs.Verdict.{Known, Judgement, judgement}
 use Rattle.xt_discipline.specs.declared.step_modes.Mode.{Mode}
 use Rattle.xt_discipline.specs.declared.walk.Walk.{Walk}
 use Rattle.xt_discipline.specs.Modes.{step_mode}
-use Rattle.xt_discipline.specs.Walks.{IsTurned, Knows, Reaches}
 use Rattle.xt_profile.specs.declared.counting.Made.{Made}
 use Rattle.xt_profile.specs.declared.tally.Tally.{Tally}
-use Rattle.xt_profile.specs.Steps.{Step, frame_after, step_of, steps_from}
+use Rattle.xt_profile.specs.Steps.{Step, frame_after, steps_from}
 use Rattle.xt_profile.specs.Told.{IsTally, standing}
-use Rattle.xt_profile.specs.Follows.{AreCut, Follows, IsCore, IsCut, IsMade, IsNext, IsPassed, IsStep}
+use Rattle.xt_profile.specs.Follows.{AreCut, Follows, IsCore, IsCut, IsMade, IsPassed, IsStep}
 
 -- ---- one core
 none_before : (m : ℕ) → 0 + m ≡ m

@@ -4,5 +4,6 @@ pub mod Passing
 pub mod Making
 pub mod Following
 pub mod Telling
+pub mod Cutting
 pub mod Closing
 pub mod Pushed

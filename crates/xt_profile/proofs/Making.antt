@@ -1,5 +1,5 @@
 -- One turn of the walk.
-use Rattle.std.proofs.Common.{◌≡◌, ℕ, zero, suc, ◌+◌, Bool, Option, Some, None, Result, Ok, Err, OnOk, List, [], ◌∷◌, length, refl, sym, ap, subst, ◌∙◌, arith}
+use Rattle.std.proofs.Common.{◌≡◌, ℕ, zero, suc, Option, Some, None, Result, Ok, Err, OnOk, List, [], ◌∷◌, length, refl, sym, ap, subst, ◌∙◌}
 use Rattle.xt_trace.specs.declared.record.StepKind.{StepKind}
 use Rattle.xt_trace.specs.declared.record.StepRecord.{StepRecord}
 use Rattle.xt_frames.specs.declared.kinds.Breach.{Breach}
@@ -8,7 +8,7 @@ use Rattle.xt_frames.specs.declared.kinds.Judged.TheVariants.{Whole, Broken, Unc
 use Rattle.xt_frames.specs.Breaches.{Bounds}
 use Rattle.xt_frames.specs.HandlerSteps as before
 use Rattle.xt_frames.specs.Judging.{Standing}
-use Rattle.xt_frames.specs.Verdict.{Known, Judgement, judgement, verdict_on}
+use Rattle.xt_frames.specs.Verdict.{Known, judgement, verdict_on}
 use Rattle.xt_discipline.specs.declared.step_modes.Mode.{Mode}
 use Rattle.xt_discipline.specs.declared.walk.Walk.{Walk}
 use Rattle.xt_discipline.specs.Ended.{HasEnded, IsTaken, records_left}
@@ -16,9 +16,9 @@ use Rattle.xt_discipline.specs.Modes.{step_mode}
 use Rattle.xt_discipline.specs.Walks.{IsKnown, IsTurned, Knows, mode_in}
 use Rattle.xt_discipline.specs.declared.side.Side.{Side}
 use Rattle.xt_profile.specs.declared.counting.Made.{Made}
-use Rattle.xt_profile.specs.Follows.{IsMade, IsNext, IsPassed, IsStep, depth_in}
+use Rattle.xt_profile.specs.Follows.{IsMade, IsNext, IsStep, depth_in}
 use Rattle.xt_profile.specs.Peeks.{peeked}
-use Rattle.xt_profile.proofs.Passing.{Past0, Past1, broken_known, past_0_is, past_1_is}
+use Rattle.xt_profile.proofs.Passing.{broken_known, past_0_is, past_1_is}
 
 -- ---- a turn that was made
 depth_is : (s : Side) (core : ℕ) (b : Bounds) (st : Standing) (steps : ℕ) → IsKnown s core b st steps → length s.frames.state.frames ≡ length st.frame.frames

@@ -1,17 +1,15 @@
 -- What is known of a core past a record that shows no breach.
-use Rattle.std.proofs.Common.{◌≡◌, ℕ, zero, suc, ◌+◌, Bool, true, false, if◌then◌else◌, Option, Some, None, List, [], ◌∷◌, length, refl, sym, ap, subst, ◌∙◌, arith}
-use Rattle.xt_trace.specs.declared.record.StepKind.{StepKind}
+use Rattle.std.proofs.Common.{◌≡◌, ℕ, zero, suc, Bool, true, false, if◌then◌else◌, Option, Some, None, List, [], ◌∷◌, refl, sym, ap, subst, ◌∙◌}
 use Rattle.xt_trace.specs.declared.record.StepRecord.{StepRecord}
 use Rattle.xt_frames.specs.declared.kinds.Breach.{Breach}
 use Rattle.xt_frames.specs.declared.kinds.BreachKind.{BreachKind}
 use Rattle.xt_frames.specs.Breaches.{Bounds, breach_of, inputs_of, window_breach}
-use Rattle.xt_frames.specs.Frames.{FrameState}
 use Rattle.xt_frames.specs.FrameStep.{laid}
-use Rattle.xt_frames.specs.HandlerSteps.{Mode, Plain, Handles, Nests, closes, is_window, mode_after}
+use Rattle.xt_frames.specs.HandlerSteps.{Mode, Plain, Handles, Nests, is_window, mode_after}
 use Rattle.xt_frames.specs.Nesting.{current, is_nesting}
 use Rattle.xt_frames.specs.SaveAreas.{is_live}
-use Rattle.xt_frames.specs.Judging.{Standing, Seen, Handled, Judges, Breaks, handled, live_of, seen, seen_in, seen_judged, seen_step, seen_window, step_on}
-use Rattle.xt_frames.specs.Verdict.{Known, Judgement, judgement, passed_0, passed_1, past_handled_0, past_handled_1, past_judged_0, past_judged_1, seen_0, seen_1}
+use Rattle.xt_frames.specs.Judging.{Standing, Seen, Handled, Judges, Breaks, handled, live_of, seen_in, seen_judged, seen_step, seen_window, step_on}
+use Rattle.xt_frames.specs.Verdict.{Known, Judgement, judgement, passed_0, passed_1, seen_0, seen_1}
 use Rattle.xt_discipline.specs.declared.step_modes.Mode as declared
 use Rattle.xt_discipline.specs.declared.step_modes.Mode.TheVariants as step
 use Rattle.xt_discipline.specs.Modes.{step_mode}

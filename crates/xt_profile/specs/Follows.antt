@@ -13,7 +13,7 @@ use Rattle.xt_discipline.specs.Modes.{step_mode}
 use Rattle.xt_discipline.specs.Walks.{Knows, Reaches}
 use Rattle.xt_profile.specs.declared.counting.Made.{Made}
 use Rattle.xt_profile.specs.declared.tally.Tally.{Tally}
-use Rattle.xt_profile.specs.Steps.{Step, frame_after, step_of, steps_from}
+use Rattle.xt_profile.specs.Steps.{Step, frame_after, steps_from}
 use Rattle.xt_profile.specs.Told.{IsTally, standing}
 
 -- ---- one turn

@@ -1,10 +1,17 @@
 -- Laws of call profiles.
-use Rattle.std.specs.Prelude.{◌≡◌, ℕ, ◌+◌, ◌<◌, ◌≤◌, ◌⊎◌, List, [], ◌∷◌, length}
+use Rattle.std.specs.Prelude.{◌≡◌, ℕ, ◌+◌, ◌<◌, ◌≤◌, ◌⊎◌, Option, None, List, [], ◌∷◌}
+use Rattle.std.specs.Prelude.{length}
+use Rattle.xt_image.specs.declared.image.Image.{Image}
 use Rattle.xt_trace.specs.declared.record.StepRecord.{StepRecord}
+use Rattle.xt_trace.specs.declared.run.Run.{Run}
+use Rattle.xt_frames.specs.declared.kinds.Breach.{Breach}
+use Rattle.xt_frames.specs.FirstBreach.{Course, IsFirstBreach}
 use Rattle.xt_frames.specs.Frames.{FrameState}
 use Rattle.xt_frames.specs.HandlerSteps.{Plain}
+use Rattle.xt_core.specs.Runs.{IsRunOf}
 use Rattle.xt_profile.specs.Steps.{Step, steps_from}
 use Rattle.xt_profile.specs.Keys.{functions}
+use Rattle.xt_profile.specs.Profiled.{course_of, cut, end_of, records}
 
 -- the function list has one number more than frames stand
 abbrev pub FunctionsAreFrames : Type 0
@@ -27,3 +34,20 @@ abbrev pub FramesArePushed : Type 0
 FramesArePushed =
     (code : ℕ → ℕ) (f : FrameState) (xs : List StepRecord) → f.frames ≡ []
     → ArePushed (steps_from code Plain f [] xs)
+
+-- turn p shows the first breach, or p counts all turns and there is none; no other number does so
+pub record IsOnlyEnd (c : Course) (p : ℕ) : Type 0 where
+  pub found : Option Breach
+  pub first : IsFirstBreach c p found
+  pub only : (q : ℕ) (other : Option Breach) → IsFirstBreach c q other → q ≡ p
+
+-- the cut of both cores, which counts the turns before `end_of`, stands at the first breach
+abbrev pub ProfileEndsAtFirstBreach : Type 0
+ProfileEndsAtFirstBreach =
+    (image : Image) (r : Run) → IsOnlyEnd (course_of image r) (end_of image r)
+
+-- if a run has no breach, the cut of each core stands after all of its records
+abbrev pub WithoutBreachAllIsCounted : Type 0
+WithoutBreachAllIsCounted =
+    (image : Image) (r : Run) (p : ℕ) → IsRunOf image r → IsFirstBreach (course_of image r) p None
+    → (cut 0 image r ≡ length (records 0 image r)) × (cut 1 image r ≡ length (records 1 image r))

@@ -1,13 +1,15 @@
 -- The call profile of a run of an image ('profile').
-use Rattle.std.specs.Prelude.{◌≡◌, ℕ, zero, suc, ◌+◌, if◌then◌else◌, List, [], take, drop, length}
+use Rattle.std.specs.Prelude.{◌≡◌, ℕ, ◌+◌, if◌then◌else◌, List, [], take, drop, length}
 use Rattle.xt_image.specs.declared.image.Image.{Image}
 use Rattle.xt_trace.specs.declared.record.StepRecord.{StepRecord}
 use Rattle.xt_trace.specs.declared.run.Run.{Run}
 use Rattle.xt_handlers.specs.Answers.{handlers_of}
+use Rattle.xt_frames.specs.FirstBreach.{Course, by_core, records_before, turns}
 use Rattle.xt_frames.specs.HandlerSteps.{Plain}
 use Rattle.xt_frames.specs.Verdict.{Known}
 use Rattle.xt_frames.specs.Walked.{opened}
-use Rattle.xt_discipline.specs.Verdicts.{are_yes, judgement_in}
+use Rattle.xt_discipline.specs.Schedules.{schedule_in}
+use Rattle.xt_discipline.specs.Verdicts.{are_yes, judgement_in, opened0, opened1}
 use Rattle.xt_core.specs.Runs.{code_of, entry_of, records_of}
 use Rattle.xt_profile.specs.declared.profiles.CoreProfile.{CoreProfile}
 use Rattle.xt_profile.specs.declared.profiles.Profile.{Profile}
@@ -20,14 +22,28 @@ use Rattle.xt_profile.specs.Counts.{lines, total}
 abbrev pub records : ℕ → Image → Run → List StepRecord
 records core image r = (records_of core image r).records
 
-abbrev pub seen_of : ℕ → Known → ℕ
-seen_of zero k = k.steps0
-seen_of (suc core) k = k.steps1
+-- the turns of both cores of a run of an image, in the order of its schedule, to be judged
+abbrev pub course_of : Image → Run → Course
+course_of image r = record {
+  code = code_of image;
+  bounds = by_core (opened0 image r.options).bounds (opened1 r.options).bounds;
+  opening = by_core (opened0 image r.options).state (opened1 r.options).state;
+  turns = turns (schedule_in r) (records 0 image r) (records 1 image r);
+}
 
--- how many of a core's records stand before the cut: before the first breach in the order of the
--- run's schedule, or in the whole schedule where there is none
+abbrev pub turns_seen : Known → ℕ
+turns_seen k = k.steps0 + k.steps1
+
+-- How many turns stand before the first breach; all, if there is none. The number is read off the
+-- walk of the judge, and the law `profile_ends_at_first_breach` says that `IsFirstBreach` allows it
+-- and no other.
+abbrev pub end_of : Image → Run → ℕ
+end_of image r =
+    turns_seen (judgement_in image r (records 0 image r) (records 1 image r)).known
+
+-- how many of these are turns of a core: so many of its records stand before the cut
 abbrev pub cut : ℕ → Image → Run → ℕ
-cut core image r = seen_of core (judgement_in image r (records 0 image r) (records 1 image r)).known
+cut core image r = length (records_before (course_of image r) core (end_of image r))
 
 -- the steps of a core before the cut, the latest first
 abbrev pub steps : ℕ → Image → Run → List Step

@@ -1,7 +1,7 @@
 //! Laws of call profiles, whose functions do nothing.
 #![tactic(auto)]
 
-ghost use Rattle.xt_profile.specs.Laws.{FramesArePushed, FunctionsAreFrames};
+ghost use Rattle.xt_profile.specs.Laws.{FramesArePushed, FunctionsAreFrames, ProfileEndsAtFirstBreach, WithoutBreachAllIsCounted};
 
 /// The function list has one number more than frames stand.
 pub fn functions_are_frames()
@@ -11,4 +11,15 @@ pub fn functions_are_frames()
 /// Each frame that stands before a step was pushed by an earlier step.
 pub fn frames_are_pushed()
     ensures { FramesArePushed }
+{}
+
+/// What is counted of both cores ends at the first breach in the order of the run's schedule, or
+/// with the last turn if there is none.
+pub fn profile_ends_at_first_breach()
+    ensures { ProfileEndsAtFirstBreach }
+{}
+
+/// All turns of a run without a breach are counted.
+pub fn without_breach_all_is_counted()
+    ensures { WithoutBreachAllIsCounted }
 {}

@@ -9,5 +9,8 @@ mod tally;
 mod texts;
 
 pub use counting::profile;
-pub use laws::{frames_are_pushed, functions_are_frames};
+pub use laws::{
+    frames_are_pushed, functions_are_frames, profile_ends_at_first_breach,
+    without_breach_all_is_counted,
+};
 pub use texts::profile_text;
