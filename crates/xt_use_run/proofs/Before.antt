@@ -8,6 +8,7 @@ use Rattle.xt_exec.specs.State.{State}
 use Rattle.xt_frames.specs.FirstBreach.{Course, mode_before}
 use Rattle.xt_simulation.specs.Handling.{IsGood}
 use Rattle.xt_simulation.specs.Walking.{Apart}
+use Rattle.xt_uses.specs.declared.discipline.Discipline.{Discipline}
 use Rattle.xt_uses.specs.FirstUse.{History, IsHistory, IsLost}
 use Rattle.xt_use_run.proofs.TwoCores.{TwoUse}
 use Rattle.xt_use_run.proofs.TwoMemories.{MemoriesAlike}
@@ -18,7 +19,8 @@ pub record Grounds (r : Course) (h : History) : Type 0 where
   pub good0 : IsGood r.code (r.bounds 0)
   pub good1 : IsGood r.code (r.bounds 1)
   pub apart : Apart (r.bounds 0).range (r.bounds 1).range
-  pub history : IsHistory r h
+  pub discipline : Discipline
+  pub history : IsHistory discipline r h
 
 -- s and t are the states of core 0 and core 1, m is real memory, and of `framed` judged accesses alone have written
 pub record Before (r : Course) (h : History) (p : ℕ) (m framed : MemoryContents) (s t : State) : Type 0 where

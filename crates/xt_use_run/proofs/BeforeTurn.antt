@@ -17,6 +17,7 @@ use Rattle.xt_simulation.specs.Steps.{memory_now, record_now, state_now}
 use Rattle.xt_simulation.specs.Walking.{Apart}
 use Rattle.xt_simulation.proofs.Headline.{opens_alike}
 use Rattle.xt_simulation.proofs.Opened.{opening_is_memory, opening_links, opening_related, stack_shaped}
+use Rattle.xt_uses.specs.declared.discipline.Discipline.{Discipline}
 use Rattle.xt_uses.specs.FirstUse.{History, IsHistory, IsLost, Shows, live_at}
 use Rattle.xt_uses.specs.UseLaws.{FitsStep}
 use Rattle.xt_uses.specs.UseState.{UseState, opening_use}
@@ -36,28 +37,28 @@ opens_plain r core = refl
 never_lost : (r : Course) (h : History) (core : ℕ) → Decides false (IsLost r h core 0)
 never_lost r h core = (λ e. absurd (false≢true e), λ l. let early = l.earlier in absurd (omega arith))
 
-module _ (r : Course) (h : History) (history : IsHistory r h) (core at pc : ℕ) (b : Bounds) (m : MemoryContents) (bounds : r.bounds core ≡ b) (frame : r.opening core ≡ opening_frame at pc b.vecbase b.range.hi) where
+module _ (d : Discipline) (r : Course) (h : History) (history : IsHistory d r h) (core at pc : ℕ) (b : Bounds) (m : MemoryContents) (bounds : r.bounds core ≡ b) (frame : r.opening core ≡ opening_frame at pc b.vecbase b.range.hi) where
   abbrev s : State
   s = opening_state at pc b.vecbase b.range.hi
 
   -- all is known
-  opens_state : h.state core 0 ≡ opening_use (frame_of s)
-  opens_state = history.opens core ∙ ap opening_use (frame ∙ sym (opens_alike at pc b.vecbase b.range.hi))
+  opens_state : h.state core 0 ≡ opening_use d (frame_of s)
+  opens_state = history.opens core ∙ ap (opening_use d) (frame ∙ sym (opens_alike at pc b.vecbase b.range.hi))
 
   opens_core : IsStack b.range → IsShaped s → word (byte_at m) (b.range.hi - 76) ≡ b.range.hi → InCoreUse r.code (mode_before r core 0) m (r.bounds core) true s (h.state core 0)
   opens_core stack shaped link =
-      let plain : PlainUse m b true s (opening_use (frame_of s)) = record { frame = frame_of s; ring = []; spilled = []; related = opening_related at pc b (byte_at m) stack shaped link; none = refl; knows = opens_known s shaped } in
+      let plain : PlainUse m b true s (opening_use d (frame_of s)) = record { frame = frame_of s; ring = []; spilled = []; related = opening_related at pc b (byte_at m) stack shaped link; none = refl; knows = opens_known s shaped d } in
       subst (λ (mode : Mode). InCoreUse r.code mode m (r.bounds core) true s (h.state core 0)) (sym (opens_plain r core))
       (subst (λ (c : Bounds). PlainUse m c true s (h.state core 0)) (sym bounds)
       (subst (λ (u : UseState). PlainUse m b true s u) (sym opens_state) plain))
 
   opens_words : MaskWords (h.state core 0).masks
-  opens_words = subst (λ (u : UseState). MaskWords u.masks) (sym opens_state) opening_small
+  opens_words = subst (λ (u : UseState). MaskWords u.masks) (sym opens_state) (opening_small d)
 
-pub before_opens : (r : Course) (h : History) (o : Openings) → IsHistory r h → IsOpening o → Apart o.range0 o.range1
+pub before_opens : (d : Discipline) (r : Course) (h : History) (o : Openings) → IsHistory d r h → IsOpening o → Apart o.range0 o.range1
     → r.bounds 0 ≡ bounds0 o → r.bounds 1 ≡ bounds1 o → r.opening 0 ≡ frame0 o → r.opening 1 ≡ frame1 o
     → Before r h 0 (memory_of o) (memory_of o) (state0 o) (state1 o)
-before_opens r h o history opening apart b0 b1 f0 f1 =
+before_opens d r h o history opening apart b0 b1 f0 f1 =
     let links = opening_links o.segments o.range0 o.range1 opening.stack0 opening.stack1 apart in
     let memory = opening_is_memory o.segments o.range0 o.range1 opening.segments in
     let shaped0 = stack_shaped 0 o.pc0 o.vecbase o.range0 opening.stack0 opening.entry0 opening.aligned opening.vectors in
@@ -68,13 +69,13 @@ before_opens r h o history opening apart b0 b1 f0 f1 =
       is_lost0 = never_lost r h 0;
       is_lost1 = never_lost r h 1;
       both = record {
-        first = opens_core r h history 0 0 o.pc0 (bounds0 o) (memory_of o) b0 f0 opening.stack0 shaped0 links.0;
-        second = opens_core r h history 1 1 o.pc1 (bounds1 o) (memory_of o) b1 f1 opening.stack1 shaped1 links.1;
+        first = opens_core d r h history 0 0 o.pc0 (bounds0 o) (memory_of o) b0 f0 opening.stack0 shaped0 links.0;
+        second = opens_core d r h history 1 1 o.pc1 (bounds1 o) (memory_of o) b1 f1 opening.stack1 shaped1 links.1;
         shaped_first = shaped0;
         shaped_second = shaped1;
         real = memory;
-        words_first = opens_words r h history 0 0 o.pc0 (bounds0 o) (memory_of o) b0 f0;
-        words_second = opens_words r h history 1 1 o.pc1 (bounds1 o) (memory_of o) b1 f1;
+        words_first = opens_words d r h history 0 0 o.pc0 (bounds0 o) (memory_of o) b0 f0;
+        words_second = opens_words d r h history 1 1 o.pc1 (bounds1 o) (memory_of o) b1 f1;
       };
       alike = open_alike r h (memory_of o);
       frames = memory;

@@ -28,7 +28,7 @@ use Rattle.xt_simulation.proofs.NestedSteps.{begin_matches, no_access}
 use Rattle.xt_simulation.proofs.Suspended.{nested_begin}
 use Rattle.xt_simulation.proofs.Taken.{nesting_now}
 use Rattle.xt_uses.specs.UseState.{UseState}
-use Rattle.xt_uses.specs.UseStep.{UseTurn, use_step}
+use Rattle.xt_uses.specs.UseStep.{UseTurn, full_step}
 use Rattle.xt_uses.specs.UseLaws.{AccessFits, IsSent, WriteFits}
 use Rattle.xt_use_run.specs.Knowing.{Follows, Knows}
 use Rattle.xt_use_run.proofs.Beginning.{begin_follows, use_begins}
@@ -41,11 +41,11 @@ begin_last code _ pc e = refl
 
 pub begin_judged : (code : ℕ → ℕ) → AreBytes code → (b : Bounds) → IsGood code b → (m : MemoryContents) (s : State) (us : UseState) (live : ℕ → Bool) (kb : ℕ → ℕ) {f : FrameState} {before : State} {opened : ℕ → ℕ}
     → Handling code b m s f before opened → Knows f us → f.nested ≡ None → us.frame.nested ≡ None → IsShaped s → is_nesting (planned code s).kind ≡ true
-    → InnerUse code b m s opened s live kb (use_step code true (record_now code m s) kb us)
+    → InnerUse code b m s opened s live kb (full_step code true (record_now code m s) kb us)
 begin_judged code bytes b good m s us live kb {f = f} {before = before} {opened = opened} h kn fn sn shaped nesting =
     let rec : StepRecord = record_now code m s in
     let kind : is_nesting rec.kind ≡ true = nesting_now code m s nesting in
-    let t : UseTurn = use_step code true rec kb us in
+    let t : UseTurn = full_step code true rec kb us in
     let u : FrameTurn = step_on code true rec f in
     let framed : u ≡ begun (laid (inputs_of rec) f) = step_begins code rec f kind fn in
     let follows : Follows t u = subst (λ z. Follows z u) (sym (use_begins code rec kb us kind sn)) (subst (Follows _) (sym framed) (begin_follows kn (inputs_of rec))) in

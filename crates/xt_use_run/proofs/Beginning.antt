@@ -14,7 +14,7 @@ use Rattle.xt_frames.specs.Nesting.{begins, begun, is_nesting}
 use Rattle.xt_frames.specs.Breaches.{inputs_of}
 use Rattle.xt_uses.specs.Words.{cut}
 use Rattle.xt_uses.specs.UseState.{UseState}
-use Rattle.xt_uses.specs.UseStep.{inner_unknown, other_turn, use_step, value_step}
+use Rattle.xt_uses.specs.UseStep.{full_step, inner_unknown, other_turn, value_step}
 use Rattle.xt_use_run.specs.Knowing.{ControlFit, Follows, Knows, SeenFit, UnsetFit}
 use Rattle.xt_use_run.proofs.Lists.{laid_fits}
 use Rattle.xt_use_run.proofs.NestedFollow.{placed_fits}
@@ -61,7 +61,7 @@ blank_fits = record {
   lacks = λ i e. blank 16 i 0;
 }
 
-pub use_begins : (code : ℕ → ℕ) (rec : StepRecord) (bytes : ℕ → ℕ) (s : UseState) → is_nesting rec.kind ≡ true → s.frame.nested ≡ None → use_step code true rec bytes s ≡ other_turn (inner_unknown s.masks) (begun (laid (inputs_of rec) s.frame))
+pub use_begins : (code : ℕ → ℕ) (rec : StepRecord) (bytes : ℕ → ℕ) (s : UseState) → is_nesting rec.kind ≡ true → s.frame.nested ≡ None → full_step code true rec bytes s ≡ other_turn (inner_unknown s.masks) (begun (laid (inputs_of rec) s.frame))
 unfolding value_step
 use_begins code rec bytes s nesting sn =
     let start : begins true rec.kind s.frame ≡ true = ap (λ (o : Option Nested). is_nesting rec.kind && not (is_some o)) sn ∙ ap (λ b. b && true) nesting in

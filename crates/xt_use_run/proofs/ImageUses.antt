@@ -7,6 +7,7 @@ use Rattle.xt_frames.specs.FirstBreach.{Course}
 use Rattle.xt_simulation.specs.Opening.{Openings, memory_of, openings_of}
 use Rattle.xt_simulation.specs.Headline.{opening_of, records0, records1}
 use Rattle.xt_simulation.proofs.Headline.{good_of}
+use Rattle.xt_uses.specs.declared.discipline.Discipline.{Discipline}
 use Rattle.xt_uses.specs.FirstUse.{History, IsHistory}
 use Rattle.xt_use_run.specs.Laws.{UsesAreSo, course_of}
 use Rattle.xt_use_run.proofs.Before.{Grounds}
@@ -20,7 +21,7 @@ uses_are_so segments entry o r given handlers apart run =
     let course : Course = course_of segments entry o r in
     let is = opening_is segments entry o given in
     let good = good_of at (constant_byte segments) is handlers in
-    let grounds : (h : History) → IsHistory course h → Grounds course h = λ h history. record { bytes = code_bytes segments given.bytes; good0 = good.0; good1 = good.1; apart = apart; history = history } in
+    let grounds : (d : Discipline) (h : History) → IsHistory d course h → Grounds course h = λ d h history. record { discipline = d; bytes = code_bytes segments given.bytes; good0 = good.0; good1 = good.1; apart = apart; history = history } in
     use_run course (short_schedule r) (opened (opening_of at o.turns0 o.turns1)) (records0 at (constant_byte segments) o.turns0 r) (records1 at (constant_byte segments) o.turns1 r) (image_walk segments entry o given r run) refl (memory_of at)
     grounds
-    (λ h history. before_opens course h at history is apart refl refl refl refl)
+    (λ d h history. before_opens d course h at history is apart refl refl refl refl)

@@ -36,6 +36,7 @@ pub mod NestedRow
 pub mod NestedTop
 pub mod BeginJudged
 pub mod NestedWhole
+pub mod Leaves
 pub mod MaskStep
 pub mod MaskWords
 pub mod Sent

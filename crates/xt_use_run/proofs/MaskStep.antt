@@ -23,9 +23,10 @@ use Rattle.xt_frames.specs.Judging.{value_in}
 use Rattle.xt_uses.specs.Words.{all_bits, flipped}
 use Rattle.xt_uses.specs.Known.{result_mask}
 use Rattle.xt_uses.specs.UseState.{UseState, current_masks, first_word, second_word, special_operand, special_word, visible_word}
-use Rattle.xt_uses.specs.UseStep.{executed, inner_unknown, other_turn, reply_mask, unknown_bits, use_step, use_turn, value_step}
+use Rattle.xt_uses.specs.UseStep.{executed, full_step, inner_unknown, other_turn, reply_mask, unknown_bits, use_step, use_turn, value_step}
 use Rattle.xt_uses.proofs.Bits.{flipped_word}
 use Rattle.xt_uses.proofs.RowsWords.{result_word}
+use Rattle.xt_use_run.proofs.Leaves.{words_left}
 use Rattle.xt_use_run.proofs.MaskWords.{AreSmall, MaskWords, begin_small, now_small, past_small}
 
 -- ---- of a reply
@@ -81,8 +82,8 @@ turn_small (Some i) reply s f u ok h w =
     x
     w
 
-pub step_small : (code : ℕ → ℕ) → AreBytes code → (nested : Bool) (rec : StepRecord) (kb : ℕ → ℕ) (s : UseState) → reply_mask kb rec.access < 2 ^ 32 → MaskWords s.masks → MaskWords (use_step code nested rec kb s).after.masks
-step_small code bytes nested rec kb s reply w = by_begin (begins nested rec.kind s.frame)
+full_small : (code : ℕ → ℕ) → AreBytes code → (nested : Bool) (rec : StepRecord) (kb : ℕ → ℕ) (s : UseState) → reply_mask kb rec.access < 2 ^ 32 → MaskWords s.masks → MaskWords (full_step code nested rec kb s).after.masks
+full_small code bytes nested rec kb s reply w = by_begin (begins nested rec.kind s.frame)
   where
     f : FrameState
     f = laid (inputs_of rec) (current s.frame)
@@ -96,3 +97,6 @@ step_small code bytes nested rec kb s reply w = by_begin (begins nested rec.kind
     by_begin : (b : Bool) → MaskWords (cond b (other_turn (inner_unknown s.masks) (value_step code true (value_in rec.write) (inputs_of rec) s.frame)) (use_turn (executed u.kind (fetched code f.control.pc)) (reply_mask kb rec.access) s f u)).after.masks
     by_begin true = begin_small s.masks w
     by_begin false = other
+
+pub step_small : (code : ℕ → ℕ) → AreBytes code → (nested : Bool) (rec : StepRecord) (kb : ℕ → ℕ) (s : UseState) → reply_mask kb rec.access < 2 ^ 32 → MaskWords s.masks → MaskWords (use_step code nested rec kb s).after.masks
+step_small code bytes nested rec kb s reply w = words_left _ s (full_step code nested rec kb s).after (full_small code bytes nested rec kb s reply w)

@@ -13,6 +13,7 @@ use Rattle.xt_frames.specs.FrameStep.{FrameTurn}
 use Rattle.xt_frames.specs.Frames.{FrameState}
 use Rattle.xt_rows.specs.Kinds.{is_entry, is_return, moved_to}
 use Rattle.xt_uses.specs.Words.{all_bits}
+use Rattle.xt_uses.specs.declared.discipline.Discipline.{Discipline}
 use Rattle.xt_uses.specs.UseState.{Masks, UseState, first_word, whole_masks}
 use Rattle.xt_uses.specs.UseStep.{called, frames_moved, inner_unknown, masks_past, pointer_written, returned, special_written, visible_written}
 use Rattle.xt_use_run.proofs.Operands.{AreMasks}
@@ -129,5 +130,5 @@ whole_small n i = ⊎_elim
     (λ high. subst (λ z. z < 2 ^ 32) (sym (get_or_past (replicate n all_bits) i 0 (let l = length-replicate n all_bits in omega arith))) (omega arith))
     (cases_lt i n)
 
-pub opening_small : MaskWords whole_masks
-opening_small = record { seen = whole_small 16; kept = tt; special = whole_small 256; threadptr = omega arith; inner = whole_small 16 }
+pub opening_small : (d : Discipline) → MaskWords (whole_masks d)
+opening_small d = record { seen = whole_small 16; kept = tt; special = whole_small 256; threadptr = omega arith; inner = whole_small 16 }

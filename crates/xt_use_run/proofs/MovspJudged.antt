@@ -45,7 +45,7 @@ use Rattle.xt_uses.specs.Words.{is_whole}
 use Rattle.xt_uses.specs.Used.{shift_used, used_are_known}
 use Rattle.xt_uses.specs.UseState.{UseState, first_word, second_word, visible_word}
 use Rattle.xt_uses.specs.UseBreaches.{is_insn, keeps_stack}
-use Rattle.xt_uses.specs.UseStep.{UseTurn, executed, fetched_movsp, insn_turn, movsp_of, reply_mask, stack_moved, turn_or, use_step, use_turn, value_step}
+use Rattle.xt_uses.specs.UseStep.{UseTurn, executed, fetched_movsp, full_step, insn_turn, movsp_of, reply_mask, stack_moved, turn_or, use_turn, value_step}
 use Rattle.xt_uses.specs.UseLaws.{AccessFits, IsSent, WriteFits}
 use Rattle.xt_uses.proofs.Wholes.{whole_value}
 use Rattle.xt_use_run.specs.Knowing.{Follows, Knows, NowFit, with_pointer}
@@ -66,7 +66,7 @@ move_at t q len h = refl
 
 pub use_moves : (code : ℕ → ℕ) (rec : StepRecord) (bytes : ℕ → ℕ) (s : UseState) (w : FrameTurn) → s.frame.nested ≡ None → movsp_of code (laid (inputs_of rec) s.frame) ≡ Some w
     → let h = laid (inputs_of rec) s.frame in
-    use_step code false rec bytes s ≡ use_turn (executed w.kind (fetched code h.control.pc)) (reply_mask bytes rec.access) s h w
+    full_step code false rec bytes s ≡ use_turn (executed w.kind (fetched code h.control.pc)) (reply_mask bytes rec.access) s h w
 unfolding value_step
 use_moves code rec bytes s w sn some =
     let inp = inputs_of rec in
@@ -211,13 +211,13 @@ module _ (code : ℕ → ℕ) (bytes : AreBytes code) (b : Bounds) (fresh : Bool
     abbrev k : ℕ
     k = reply_mask kb rec.access
 
-    same_use : use_step code false rec kb us ≡ insn_turn (movsp 1 q) k us h turn_v
+    same_use : full_step code false rec kb us ≡ insn_turn (movsp 1 q) k us h turn_v
     same_use = use_moves code rec kb us turn_v sn moves ∙ (ap (λ z. use_turn (executed step.Insn z) k us h turn_v) at_h ∙ ap (λ z. use_turn z k us h turn_v) (executed_insn (movsp 1 q) len))
 
     abbrev turn_u : FrameTurn
     turn_u = stack_moved 1 x len (laid (inputs 0 s) r.frame)
 
-    follows : Follows (use_step code false rec kb us) turn_u
+    follows : Follows (full_step code false rec kb us) turn_u
     follows =
         subst (λ z. Follows z turn_u) (sym same_use)
         (subst (λ (z : FrameState). Follows (insn_turn (movsp 1 q) k us h turn_v) (stack_moved 1 x len z)) same_g (move_follows r.knows r.nested sn (inputs_of rec) q len x x_known x_word whole (count_of shaped r.related) k))
@@ -259,14 +259,14 @@ module _ (code : ℕ → ℕ) (bytes : AreBytes code) (b : Bounds) (fresh : Bool
           saved = rw (← under) r.related.saved;
         })
 
-    pub movsp_judged : JudgedUse code b fresh m s live kb (use_step code false rec kb us)
+    pub movsp_judged : JudgedUse code b fresh m s live kb (full_step code false rec kb us)
     movsp_judged = record {
       saves = d.saves;
       swaps = d.loads;
       kind = plan_kind code s plan is reply ∙ follows.kind;
-      write = subst (λ (w : Option RegWrite). WriteFits (use_step code false rec kb us).mask w (use_step code false rec kb us).turn.write) (sym (plan_write code s plan is reply)) follows.write;
-      access = subst (λ (a : Option Access). AccessFits (use_step code false rec kb us).stored a (use_step code false rec kb us).turn.access) (sym (plan_access code s plan is reply)) follows.access;
-      sent = subst (λ (a : Option Access). IsSent (use_step code false rec kb us).stored a) (sym (plan_access code s plan is reply)) tt;
+      write = subst (λ (w : Option RegWrite). WriteFits (full_step code false rec kb us).mask w (full_step code false rec kb us).turn.write) (sym (plan_write code s plan is reply)) follows.write;
+      access = subst (λ (a : Option Access). AccessFits (full_step code false rec kb us).stored a (full_step code false rec kb us).turn.access) (sym (plan_access code s plan is reply)) follows.access;
+      sent = subst (λ (a : Option Access). IsSent (full_step code false rec kb us).stored a) (sym (plan_access code s plan is reply)) tt;
       frame = turn_u.after;
       ring = ring;
       spilled = spilled;

@@ -39,7 +39,7 @@ use Rattle.xt_exec.specs.Turn.{written}
 use Rattle.xt_exec.proofs.Shapes.{turn_shaped}
 use Rattle.xt_uses.specs.UseBreaches.{laid_use, swaps_unknown, use_breach}
 use Rattle.xt_uses.specs.UseState.{UseState}
-use Rattle.xt_uses.specs.UseStep.{UseTurn, executed, movsp_of, reply_mask, turn_or, use_step, use_turn, value_step}
+use Rattle.xt_uses.specs.UseStep.{UseTurn, executed, full_step, movsp_of, reply_mask, turn_or, use_turn, value_step}
 use Rattle.xt_uses.specs.UseLaws.{AccessFits, IsSent, WriteFits}
 use Rattle.xt_use_run.specs.Knowing.{Follows, Knows}
 use Rattle.xt_use_run.proofs.Following.{sent_back}
@@ -69,7 +69,7 @@ no_move_inside code h y e = cond-true (is_some h.nested || (ltb 0 (pending_of h.
 
 pub use_inside : (code : ℕ → ℕ) (rec : StepRecord) (bytes : ℕ → ℕ) (s : UseState) (y : Nested) → s.frame.nested ≡ Some y
     → let h = laid (inputs_of rec) (inside y s.frame) in let w = nested_turn code (value_in rec.write) (inputs_of rec) y s.frame in
-    use_step code true rec bytes s ≡ use_turn (executed w.kind (fetched code h.control.pc)) (reply_mask bytes rec.access) s h w
+    full_step code true rec bytes s ≡ use_turn (executed w.kind (fetched code h.control.pc)) (reply_mask bytes rec.access) s h w
 unfolding value_step
 use_inside code rec bytes s y sy =
     let inp = inputs_of rec in

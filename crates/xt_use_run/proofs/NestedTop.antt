@@ -55,7 +55,7 @@ use Rattle.xt_uses.specs.Used.{used_are_known}
 use Rattle.xt_uses.specs.UseBreaches.{has_no_number, holds_mark, nowhere, reads_mark, reads_no_number}
 use Rattle.xt_uses.specs.UseState.{UseState, first_word, second_word, special_operand}
 use Rattle.xt_uses.specs.Known.{result_mask}
-use Rattle.xt_uses.specs.UseStep.{UseTurn, executed, insn_turn, other_turn, reply_mask, use_step, use_turn}
+use Rattle.xt_uses.specs.UseStep.{UseTurn, executed, full_step, insn_turn, other_turn, reply_mask, use_turn}
 use Rattle.xt_uses.specs.UseLaws.{OutcomesAgree, RowsAgree}
 use Rattle.xt_use_run.specs.Knowing.{Follows, InnerFit, Knows, NestedFit, NowFit, with_pointer}
 use Rattle.xt_use_run.proofs.Agreed.{Uses, uses_known}
@@ -103,7 +103,7 @@ module _ (rows : RowsAgree) (code : ℕ → ℕ) (bytes : AreBytes code) (b : Bo
   h = laid (inputs_of rec) (inside y us.frame)
 
   abbrev target : Type 0
-  target = InnerUse code b m s opened suspended live kb (use_step code true rec kb us)
+  target = InnerUse code b m s opened suspended live kb (full_step code true rec kb us)
 
   -- ---- a frame state that has all that is read
   module _ {f : FrameState} {before : State} (q : Suspends code b m s f before opened suspended) (kn : Knows f us) where
@@ -177,7 +177,7 @@ module _ (rows : RowsAgree) (code : ℕ → ℕ) (bytes : AreBytes code) (b : Bo
       abbrev turn_v : FrameTurn
       turn_v = nested_insn i value y us.frame v
 
-      used : use_step code true rec kb us ≡ use_turn (executed v.kind (Fetches i len)) k us h turn_v
+      used : full_step code true rec kb us ≡ use_turn (executed v.kind (Fetches i len)) k us h turn_v
       used =
           let U : Fetched → FrameTurn → UseTurn = λ z w. use_turn (executed (nested_fetched z value y us.frame w).kind z) k us h (nested_fetched z value y us.frame w) in
           use_inside code rec kb us y sy ∙ (ap (U (fetched code h.control.pc)) step_h ∙ (ap (λ z. U z v) at_h ∙ ap (λ z. use_turn (executed z (Fetches i len)) k us h turn_v) (kind_inside (Fetches i len) value y us.frame v)))

@@ -29,7 +29,7 @@ use Rattle.xt_simulation.specs.Steps.{record_now}
 use Rattle.xt_uses.specs.Used.{used_are_known}
 use Rattle.xt_uses.specs.UseBreaches.{breaks_stack, fetched_uses, has_no_number, holds_mark, nowhere, reads_mark, reads_no_number, swaps_unknown, use_breach, use_tests, uses_unknown}
 use Rattle.xt_uses.specs.UseState.{UseState, first_word, second_word}
-use Rattle.xt_uses.specs.UseStep.{use_step}
+use Rattle.xt_uses.specs.UseStep.{full_step}
 use Rattle.xt_uses.specs.UseLaws.{RowsAgree}
 use Rattle.xt_use_run.specs.Knowing.{InnerFit, Knows, NestedFit}
 use Rattle.xt_use_run.proofs.Agreed.{uses_known}
@@ -72,7 +72,7 @@ module _ (rows : RowsAgree) (code : ℕ → ℕ) (bytes : AreBytes code) (b : Bo
   h = laid (inputs_of rec) (inside y us.frame)
 
   abbrev target : Type 0
-  target = InnerUse code b m s opened suspended live kb (use_step code true rec kb us)
+  target = InnerUse code b m s opened suspended live kb (full_step code true rec kb us)
 
   still : ltb 0 (pending_of h.control) ≡ false
   still = still_h rows code bytes b good fresh m s shaped opened suspended us y sy masks live own kb q kn

@@ -23,6 +23,7 @@ use Rattle.xt_simulation.specs.Steps.{memory_after_step, memory_now, record_now,
 use Rattle.xt_simulation.specs.Walking.{Apart}
 use Rattle.xt_simulation.proofs.Judges.{record_access, record_reply}
 use Rattle.xt_simulation.proofs.Memories.{step_memory}
+use Rattle.xt_uses.specs.declared.discipline.Discipline.{Discipline}
 use Rattle.xt_uses.specs.FirstUse.{History, IsHistory, IsLost, Shows, live_at, record_use, use_at, writes_at}
 use Rattle.xt_uses.specs.UseState.{UseState}
 use Rattle.xt_uses.specs.UseStep.{reply_mask}
@@ -57,7 +58,7 @@ reply_known : (kb : ℕ → ℕ) (real framed : MemoryContents) → IsMemory rea
 reply_known kb real framed m n same None served = tt
 reply_known kb real framed m n same (Some access) served = reply_fits kb real framed m n same access served
 
-module _ (r : Course) (h : History) (bytes : AreBytes r.code) (history : IsHistory r h) (p core other : ℕ) (apart : (core == other) ≡ false) (good : IsGood r.code (r.bounds core)) (good2 : IsGood r.code (r.bounds other))
+module _ (r : Course) (h : History) (bytes : AreBytes r.code) {d : Discipline} (history : IsHistory d r h) (p core other : ℕ) (apart : (core == other) ≡ false) (good : IsGood r.code (r.bounds core)) (good2 : IsGood r.code (r.bounds other))
     (ranges : Apart (r.bounds core).range (r.bounds other).range) (own : (a : ℕ) → is_live (r.bounds core).range (h.state core p).frame a ≡ true → live_at r h p a ≡ true)
     (theirs : (a : ℕ) → is_live (r.bounds other).range (h.state other p).frame a ≡ true → live_at r h p a ≡ true) (opening : MemoryContents) (m : MemoryContents) (s t : State)
     (before : Beside r h p core other m (memory_after opening (entries_before r p)) s t) (turn : IsTurn r p core (record_now r.code m s)) (shows : Shows r h p core (record_now r.code m s) None) where

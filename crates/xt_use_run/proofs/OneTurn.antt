@@ -13,8 +13,11 @@ use Rattle.xt_frames.specs.HandlerSteps.{Mode, Plain, Handles, Nests, closes, is
 use Rattle.xt_frames.specs.Nesting.{is_nesting}
 use Rattle.xt_frames.specs.SaveAreas.{is_live}
 use Rattle.xt_frames.specs.Breaches.{Bounds}
+use Rattle.xt_frames.specs.Stacks.{AreFrames}
+use Rattle.xt_stretch.specs.declared.Side.{Side}
+use Rattle.xt_stretch.specs.declared.Side.TheVariants.{Overflow, Underflow}
 use Rattle.xt_simulation.specs.Cores.{Related}
-use Rattle.xt_simulation.specs.Handling.{Handling, HandlerStep, IsGood, closes_stretch, steps_on}
+use Rattle.xt_simulation.specs.Handling.{Begins, Handling, HandlerStep, IsGood, closes_stretch, steps_on}
 use Rattle.xt_simulation.specs.JudgedSteps.{fresh_turn}
 use Rattle.xt_simulation.specs.Nested.{Suspends}
 use Rattle.xt_simulation.specs.Relation.{lost_at}
@@ -24,10 +27,11 @@ use Rattle.xt_simulation.proofs.Handled.{handler_steps_are_kept, handlers_are_sp
 use Rattle.xt_simulation.proofs.Suspended.{nested_are_spared}
 use Rattle.xt_uses.specs.UseBreaches.{use_breach, window_use}
 use Rattle.xt_uses.specs.UseState.{UseState}
-use Rattle.xt_uses.specs.UseStep.{UseTurn, use_step}
+use Rattle.xt_uses.specs.UseStep.{UseTurn, full_step, use_step}
 use Rattle.xt_uses.specs.UseLaws.{RowsAgree}
 use Rattle.xt_use_run.specs.Knowing.{Knows, NestedFit}
 use Rattle.xt_use_run.proofs.BeginJudged.{begin_judged}
+use Rattle.xt_use_run.proofs.Leaves.{knows_left}
 use Rattle.xt_use_run.proofs.NestedJudged.{GoesBack, InnerUse, NextUse, StaysIn}
 use Rattle.xt_use_run.proofs.NestedWhole.{nested_judged}
 use Rattle.xt_use_run.proofs.Operands.{AreMasks}
@@ -79,6 +83,14 @@ nested_some masks None p x k e = absurd cc
 
 pub no_nested : {f : FrameState} {us : UseState} → Knows f us → f.nested ≡ None → us.frame.nested ≡ None
 no_nested {f = f} {us = us} k e = nested_none us.masks.inner f.nested us.frame.nested k.nested e
+
+-- the frames that a handler keeps
+begins_shaped : (side : Side) (m : ℕ → ℕ) (b : Bounds) (lost : ℕ → Bool) (s : State) (f : FrameState) (front : List Frame) (g : Frame) (rest : List Frame) → Begins side m b lost s f front g rest → AreFrames f.frames
+begins_shaped Overflow m b lost s f front g rest r = r.stack.shaped
+begins_shaped Underflow m b lost s f front g rest r = r.stack.shaped
+
+frames_shaped : {code : ℕ → ℕ} {b : Bounds} {m : MemoryContents} {s : State} {f : FrameState} {before : State} {opened : ℕ → ℕ} → Handling code b m s f before opened → AreFrames f.frames
+frames_shaped {b = b} {f = f} {before = before} {opened = opened} h = begins_shaped h.side opened b (lost_at h.fresh f) before f h.front h.g h.rest h.begins
 
 module _ (code : ℕ → ℕ) (bytes : AreBytes code) (b : Bounds) (good : IsGood code b) where
   -- ---- a change of bytes that are not live for the core
@@ -145,11 +157,18 @@ module _ (code : ℕ → ℕ) (bytes : AreBytes code) (b : Bounds) (good : IsGoo
       abbrev nested_turn : UseTurn
       nested_turn = use_step code true (record_now code m s) kb us
 
+      -- before a return forgets registers
+      abbrev plain_full : UseTurn
+      plain_full = full_step code false (record_now code m s) kb us
+
+      abbrev nested_full : UseTurn
+      nested_full = full_step code true (record_now code m s) kb us
+
       pub core_judged : RowsAgree → AreMasks us → (fresh : Bool) → PlainUse m b fresh s us → IsMemory m → is_window (planned code s).kind ≡ false → use_breach b fresh code live kb false (record_now code m s) us ≡ None
-          → JudgedUse code b fresh m s live kb plain_turn × PlainUse (memory_now code m s) b (fresh_turn fresh code (reply_now code m s) s) (state_now code m s) plain_turn.after
+          → JudgedUse code b fresh m s live kb plain_full × PlainUse (memory_now code m s) b (fresh_turn fresh code (reply_now code m s) s) (state_now code m s) plain_turn.after
       core_judged rows masks fresh h real nowindow none =
           let j = plain_judged rows code bytes b fresh s m shaped real nowindow us (no_nested h.knows h.none) masks live own kb h.related h.knows h.none none in
-          (j, record { frame = j.frame; ring = j.ring; spilled = j.spilled; related = j.related; none = j.nested; knows = j.knows })
+          (j, record { frame = j.frame; ring = j.ring; spilled = j.spilled; related = j.related; none = j.nested; knows = knows_left _ h.frame us h.knows h.related.stack.shaped j.frame plain_full.after j.knows })
 
       -- in a nested interrupt, which goes on or has ended
       abbrev NestsOn : Type 0
@@ -158,14 +177,17 @@ module _ (code : ℕ → ℕ) (bytes : AreBytes code) (b : Bounds) (good : IsGoo
       to_mode : (last mode : Bool) → last ≡ mode → InCoreUse code (cond mode Handles Nests) (memory_now code m s) b false (state_now code m s) nested_turn.after → InCoreUse code (cond last Handles Nests) (memory_now code m s) b false (state_now code m s) nested_turn.after
       to_mode last mode same h = subst (λ z. InCoreUse code (cond z Handles Nests) (memory_now code m s) b false (state_now code m s) nested_turn.after) (sym same) h
 
-      next_mode : {opened : ℕ → ℕ} {suspended : State} → NextUse code b (memory_now code m s) (state_now code m s) opened suspended nested_turn.after (returns code (planned code s).kind s.control.pc) → NestsOn
-      next_mode {opened = opened} {suspended = suspended} (StaysIn f left last h k) = to_mode (returns code (planned code s).kind s.control.pc) false last (record { frame = f; before = left; opened = opened; suspended = suspended; suspends = h; knows = k })
-      next_mode {opened = opened} (GoesBack f left last none h k) = to_mode (returns code (planned code s).kind s.control.pc) true last (record { frame = f; before = left; opened = opened; handling = h; none = none; knows = k })
+      abbrev Leaves : Type 0
+      Leaves = (f : FrameState) → Knows f nested_full.after → Knows f nested_turn.after
 
-      pub core_begins : (h : HandlesUse code m b s us) → is_nesting (planned code s).kind ≡ true → InnerUse code b m s h.opened s live kb nested_turn × NestsOn
-      core_begins h nesting = let j = begin_judged code bytes b good m s us live kb h.handling h.knows h.none (no_nested h.knows h.none) shaped nesting in (j, next_mode j.next)
+      next_mode : {opened : ℕ → ℕ} {suspended : State} → Leaves → NextUse code b (memory_now code m s) (state_now code m s) opened suspended nested_full.after (returns code (planned code s).kind s.control.pc) → NestsOn
+      next_mode {opened = opened} {suspended = suspended} leaves (StaysIn f left last h k) = to_mode (returns code (planned code s).kind s.control.pc) false last (record { frame = f; before = left; opened = opened; suspended = suspended; suspends = h; knows = leaves f k })
+      next_mode {opened = opened} leaves (GoesBack f left last none h k) = to_mode (returns code (planned code s).kind s.control.pc) true last (record { frame = f; before = left; opened = opened; handling = h; none = none; knows = leaves f k })
 
-      pub core_nests : RowsAgree → AreMasks us → (fresh : Bool) → (h : NestsUse code m b s us) → use_breach b fresh code live kb true (record_now code m s) us ≡ None → InnerUse code b m s h.opened h.suspended live kb nested_turn × NestsOn
+      pub core_begins : (h : HandlesUse code m b s us) → is_nesting (planned code s).kind ≡ true → InnerUse code b m s h.opened s live kb nested_full × NestsOn
+      core_begins h nesting = let j = begin_judged code bytes b good m s us live kb h.handling h.knows h.none (no_nested h.knows h.none) shaped nesting in (j, next_mode (λ f k. knows_left _ h.frame us h.knows (frames_shaped h.handling) f nested_full.after k) j.next)
+
+      pub core_nests : RowsAgree → AreMasks us → (fresh : Bool) → (h : NestsUse code m b s us) → use_breach b fresh code live kb true (record_now code m s) us ≡ None → InnerUse code b m s h.opened h.suspended live kb nested_full × NestsOn
       core_nests rows masks fresh h none =
           let y = nested_some us.masks.inner h.frame.nested us.frame.nested h.suspends.x h.knows.nested h.suspends.nested in
-          let j = nested_judged rows code bytes b good fresh m s shaped h.opened h.suspended us y.0 y.1 masks live own kb h.suspends h.knows none in (j, next_mode j.next)
+          let j = nested_judged rows code bytes b good fresh m s shaped h.opened h.suspended us y.0 y.1 masks live own kb h.suspends h.knows none in (j, next_mode (λ f k. knows_left _ h.frame us h.knows (frames_shaped h.suspends.handling) f nested_full.after k) j.next)

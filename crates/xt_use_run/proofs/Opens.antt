@@ -12,6 +12,7 @@ use Rattle.xt_frames.specs.Frames.{FrameState, all_set, known}
 use Rattle.xt_simulation.specs.Opening.{frame_of, values_from}
 use Rattle.xt_simulation.proofs.Headline.{opens_alike}
 use Rattle.xt_uses.specs.Words.{all_bits, cut}
+use Rattle.xt_uses.specs.declared.discipline.Discipline.{Discipline}
 use Rattle.xt_uses.specs.UseState.{opening_use}
 use Rattle.xt_use_run.specs.Knowing.{ControlFit, Knows, SeenFit, UnsetFit}
 use Rattle.xt_use_run.specs.Laws.{ShadowsOpen}
@@ -77,8 +78,8 @@ module _ (s : State) (shaped : IsShaped s) where
       blank_at : (n : ℕ) → get_or (replicate 256 false) n false ≡ false
       blank_at n = ⊎_elim (λ low. get_or-replicate 256 n false false low) (λ high. get_or_past (replicate 256 false) n false (let l = length-replicate 256 false in omega arith)) (cases_lt n 256)
 
-  pub opens_known : Knows (frame_of s) (opening_use (frame_of s))
-  opens_known = record {
+  pub opens_known : (d : Discipline) → Knows (frame_of s) (opening_use d (frame_of s))
+  opens_known d = record {
     seen = seen_fit;
     sp = refl;
     frames = tt;
@@ -88,5 +89,5 @@ module _ (s : State) (shaped : IsShaped s) where
   }
 
 pub shadows_open : ShadowsOpen
-shadows_open core pc vecbase stack_end p aligned v low high =
-    subst (λ (f : FrameState). Knows f (opening_use f)) (opens_alike core pc vecbase stack_end) (opens_known (opening_state core pc vecbase stack_end) (opening_shaped core pc vecbase stack_end p aligned v low high))
+shadows_open d core pc vecbase stack_end p aligned v low high =
+    subst (λ (f : FrameState). Knows f (opening_use d f)) (opens_alike core pc vecbase stack_end) (opens_known (opening_state core pc vecbase stack_end) (opening_shaped core pc vecbase stack_end p aligned v low high) d)

@@ -34,7 +34,7 @@ use Rattle.xt_simulation.proofs.Judges.{record_access, same_laid}
 use Rattle.xt_simulation.proofs.Plans.{plan_asks}
 use Rattle.xt_uses.specs.UseBreaches.{fetched_uses, laid_use, swaps_unknown, use_breach, use_tests, uses_unknown, breaks_stack, nowhere}
 use Rattle.xt_uses.specs.UseState.{UseState}
-use Rattle.xt_uses.specs.UseStep.{fetched_movsp, use_step}
+use Rattle.xt_uses.specs.UseStep.{fetched_movsp, full_step}
 use Rattle.xt_uses.specs.UseLaws.{RowsAgree}
 use Rattle.xt_use_run.specs.Knowing.{Knows, NowFit, with_pointer}
 use Rattle.xt_use_run.proofs.Following.{now_plain}
@@ -101,7 +101,7 @@ module _ (rows : RowsAgree) (code : ℕ → ℕ) (bytes : AreBytes code) (b : Bo
   swaps_none e = ap (swaps_unknown kb) (record_access code s (reply_now code m s) ∙ e)
 
   abbrev target : Type 0
-  target = JudgedUse code b fresh m s live kb (use_step code false rec kb us)
+  target = JudgedUse code b fresh m s live kb (full_step code false rec kb us)
 
   vector_free : laid_use b fresh code live kb rec us h ≡ None → (ltb 0 (pending_of h.control) || h.control.waits) ≡ true → (vector_test b h).shown ≡ false
   vector_free none e = (none_shown (vector_test b h ∷ []) (sym (laid_pends b fresh code live kb rec us h e) ∙ none)).0

@@ -35,7 +35,7 @@ use Rattle.xt_simulation.proofs.Evenly.{same_pending}
 use Rattle.xt_simulation.proofs.Judges.{record_reply, same_laid}
 use Rattle.xt_uses.specs.UseBreaches.{nowhere, swaps_unknown, use_tests}
 use Rattle.xt_uses.specs.UseState.{UseState}
-use Rattle.xt_uses.specs.UseStep.{executed, fetched_movsp, movsp_of, reply_mask, use_step, use_turn}
+use Rattle.xt_uses.specs.UseStep.{executed, fetched_movsp, full_step, movsp_of, reply_mask, use_turn}
 use Rattle.xt_use_run.specs.Knowing.{Follows, Knows, NowFit, with_pointer}
 use Rattle.xt_use_run.proofs.Following.{now_plain, quiet_follows, with_unset}
 use Rattle.xt_use_run.proofs.PlainStep.{JudgedUse, finish, use_plain}
@@ -94,7 +94,7 @@ module _ (code : ℕ → ℕ) (bytes : AreBytes code) (b : Bounds) (fresh : Bool
   plain_is = ap (plain_after code (reply_now code m s)) (sym same_g) ∙ ap (λ z. plain_after code z g) (sym (record_reply code m s))
 
   -- both states are quiet, and the frame state shows nothing
-  quiet_judged : Quiet us g h (laid_step code rec.reply g) v → movsp_of code h ≡ None → laid_breach b fresh code nowhere nowhere rec g ≡ None → touches_save_area live rec.access ≡ false → swaps_unknown kb rec.access ≡ false → JudgedUse code b fresh m s live kb (use_step code false rec kb us)
+  quiet_judged : Quiet us g h (laid_step code rec.reply g) v → movsp_of code h ≡ None → laid_breach b fresh code nowhere nowhere rec g ≡ None → touches_save_area live rec.access ≡ false → swaps_unknown kb rec.access ≡ false → JudgedUse code b fresh m s live kb (full_step code false rec kb us)
   quiet_judged q none quiet saves swaps =
       let at = fetched code h.control.pc in
       let k = reply_mask kb rec.access in
@@ -103,7 +103,7 @@ module _ (code : ℕ → ℕ) (bytes : AreBytes code) (b : Bounds) (fresh : Bool
       let same : fetched code g.control.pc ≡ at = ap (fetched code) now.control.even.pc in
       let there : Follows (use_turn (executed v.kind at) k us h (with_unset (unset_after v.kind at us.frame.unset) v)) turn_of_f =
       subst (λ z. Follows (use_turn (executed v.kind at) k us h (with_unset (unset_after v.kind at us.frame.unset) v)) (with_unset (unset_after (laid_step code rec.reply g).kind z f.unset) (laid_step code rec.reply g))) (sym same) here in
-      let follows : Follows (use_step code false rec kb us) (plain_after code (reply_now code m s) (laid (inputs 0 s) f)) =
+      let follows : Follows (full_step code false rec kb us) (plain_after code (reply_now code m s) (laid (inputs 0 s) f)) =
       subst (λ z. Follows z (plain_after code (reply_now code m s) (laid (inputs 0 s) f))) (sym (use_plain code rec kb us sn none)) (subst (Follows (use_turn (executed v.kind at) k us h (with_unset (unset_after v.kind at us.frame.unset) v))) (sym plain_is) there) in
       finish code bytes b fresh s m shaped real nowindow l fn quiet live kb kn own saves swaps follows (ap (λ (z : FrameTurn). z.after.nested) plain_is ∙ ((laid_stays code rec.reply g).0 ∙ fn))
 
@@ -111,7 +111,7 @@ module _ (code : ℕ → ℕ) (bytes : AreBytes code) (b : Bounds) (fresh : Bool
   same_wait = same_pending g.control (with_pointer g.control.threadptr h.control) now.control.even
 
   -- ---- an interrupt
-  pub taken_judged : ltb 0 (pending_of h.control) ≡ true → (vector_test b h).shown ≡ false → touches_save_area live rec.access ≡ false → swaps_unknown kb rec.access ≡ false → JudgedUse code b fresh m s live kb (use_step code false rec kb us)
+  pub taken_judged : ltb 0 (pending_of h.control) ≡ true → (vector_test b h).shown ≡ false → touches_save_area live rec.access ≡ false → swaps_unknown kb rec.access ≡ false → JudgedUse code b fresh m s live kb (full_step code false rec kb us)
   unfolding laid_breach
   taken_judged pends vector saves swaps =
       let yes_g : ltb 0 (pending_of g.control) ≡ true = ap (λ n. ltb 0 n) same_wait ∙ pends in
@@ -126,7 +126,7 @@ module _ (code : ℕ → ℕ) (bytes : AreBytes code) (b : Bounds) (fresh : Bool
       quiet_judged q none quiet saves swaps
 
   -- ---- a turn of waiting
-  pub waits_judged : ltb 0 (pending_of h.control) ≡ false → h.control.waits ≡ true → (vector_test b h).shown ≡ false → touches_save_area live rec.access ≡ false → swaps_unknown kb rec.access ≡ false → JudgedUse code b fresh m s live kb (use_step code false rec kb us)
+  pub waits_judged : ltb 0 (pending_of h.control) ≡ false → h.control.waits ≡ true → (vector_test b h).shown ≡ false → touches_save_area live rec.access ≡ false → swaps_unknown kb rec.access ≡ false → JudgedUse code b fresh m s live kb (full_step code false rec kb us)
   unfolding laid_breach
   waits_judged none_pends w vector saves swaps =
       let no_g : ltb 0 (pending_of g.control) ≡ false = ap (λ n. ltb 0 n) same_wait ∙ none_pends in
@@ -142,7 +142,7 @@ module _ (code : ℕ → ℕ) (bytes : AreBytes code) (b : Bounds) (fresh : Bool
   -- ---- nothing is fetched
   pub fails_judged : ltb 0 (pending_of h.control) ≡ false → h.control.waits ≡ false → (at : Fetched) → fetched code h.control.pc ≡ at → ((f : FrameState) → fetched_movsp at f ≡ None) → (cause : ℕ) (addr : Option ℕ) → ((x : FrameState) → fetched_step at code rec.reply x ≡ raised cause addr x)
       → ((x : FrameState) (w : FrameTurn) (live : ℕ → Bool) → fetched_tests b fresh live nowhere at rec x w ≡ other_tests b live nowhere rec x w)
-      → NoneShown (use_tests false (swaps_unknown kb rec.access) false (other_tests b live nowhere rec h v)) → JudgedUse code b fresh m s live kb (use_step code false rec kb us)
+      → NoneShown (use_tests false (swaps_unknown kb rec.access) false (other_tests b live nowhere rec h v)) → JudgedUse code b fresh m s live kb (full_step code false rec kb us)
   fails_judged none_pends w at is movsp cause addr raise tests shown =
       let no_g : ltb 0 (pending_of g.control) ≡ false = ap (λ n. ltb 0 n) same_wait ∙ none_pends in
       let w_g : g.control.waits ≡ false = now.control.even.waits ∙ w in

@@ -53,7 +53,7 @@ use Rattle.xt_simulation.proofs.Windowed.{return_has_caller}
 use Rattle.xt_uses.specs.Words.{all_bits}
 use Rattle.xt_uses.specs.UseBreaches.{has_no_number, nowhere, reads_no_number}
 use Rattle.xt_uses.specs.UseState.{UseState}
-use Rattle.xt_uses.specs.UseStep.{UseTurn, executed, fetched_movsp, movsp_of, reply_mask, use_step, use_turn}
+use Rattle.xt_uses.specs.UseStep.{UseTurn, executed, fetched_movsp, full_step, movsp_of, reply_mask, use_turn}
 use Rattle.xt_uses.specs.UseLaws.{OutcomesAgree, RowsAgree}
 use Rattle.xt_use_run.specs.Knowing.{Follows, Knows, NowFit, with_pointer}
 use Rattle.xt_use_run.proofs.Agreed.{Uses, alike_after, return_whole, sp_tested, uses_known}
@@ -289,7 +289,7 @@ module _ (rows : RowsAgree) (code : ℕ → ℕ) (bytes : AreBytes code) (b : Bo
     by_row (Pops a0 low return_ eu ev) =
         pops_follows r.knows sn (inputs_of rec) now.control i return_ a0 len r.related.stack.shaped (λ e. return_has_caller i g return_ e (caller_too tested b.range d.caller)) k u v eu ev
 
-    same_use : use_step code false rec kb us ≡ use_turn (executed v.kind (Fetches i len)) k us h turn_v
+    same_use : full_step code false rec kb us ≡ use_turn (executed v.kind (Fetches i len)) k us h turn_v
     same_use =
         let U : Fetched → FrameTurn → UseTurn = λ z w. use_turn (executed w.kind z) k us h (with_unset (unset_after w.kind z us.frame.unset) w) in
         use_plain code rec kb us sn no_move ∙ (ap (U (fetched code h.control.pc)) step_h ∙ ap (λ z. U z v) at_h)
@@ -304,8 +304,8 @@ module _ (rows : RowsAgree) (code : ℕ → ℕ) (bytes : AreBytes code) (b : Bo
     nested_after : turn_u.after.nested ≡ None
     nested_after = ap (λ (z : FrameTurn). z.after.nested) (sym step_g) ∙ ((laid_stays code rec.reply g).0 ∙ r.nested)
 
-    pub row_judged : JudgedUse code b fresh m s live kb (use_step code false rec kb us)
+    pub row_judged : JudgedUse code b fresh m s live kb (full_step code false rec kb us)
     row_judged =
-        let follows : Follows (use_step code false rec kb us) (plain_after code (reply_now code m s) (laid (inputs 0 s) r.frame)) =
+        let follows : Follows (full_step code false rec kb us) (plain_after code (reply_now code m s) (laid (inputs 0 s) r.frame)) =
         subst (λ z. Follows z (plain_after code (reply_now code m s) (laid (inputs 0 s) r.frame))) (sym same_use) (subst (Follows (use_turn (executed v.kind (Fetches i len)) k us h turn_v)) (sym plain_is) (by_row real_row)) in
         finish code bytes b fresh s m shaped real nowindow r.related r.nested quiet live kb r.knows own d.saves d.loads follows (ap (λ (z : FrameTurn). z.after.nested) plain_is ∙ nested_after)

@@ -38,7 +38,7 @@ use Rattle.xt_simulation.proofs.StackSteps.{keeps_stack}
 use Rattle.xt_simulation.proofs.Whole.{keeps_level}
 use Rattle.xt_uses.specs.UseBreaches.{nowhere, swaps_unknown}
 use Rattle.xt_uses.specs.UseState.{UseState}
-use Rattle.xt_uses.specs.UseStep.{UseTurn, executed, fetched_movsp, movsp_of, reply_mask, turn_or, use_step, use_turn, value_step}
+use Rattle.xt_uses.specs.UseStep.{UseTurn, executed, fetched_movsp, full_step, movsp_of, reply_mask, turn_or, use_turn, value_step}
 use Rattle.xt_uses.specs.UseLaws.{AccessFits, IsSent, WriteFits}
 use Rattle.xt_use_run.specs.Knowing.{Follows, Knows}
 use Rattle.xt_use_run.proofs.Following.{sent_back, with_unset}
@@ -68,7 +68,7 @@ row_moves_none _ len f h = refl
 
 pub use_plain : (code : ℕ → ℕ) (rec : StepRecord) (bytes : ℕ → ℕ) (s : UseState) → s.frame.nested ≡ None → movsp_of code (laid (inputs_of rec) s.frame) ≡ None
     → let h = laid (inputs_of rec) s.frame in let v = laid_step code rec.reply h in
-    use_step code false rec bytes s ≡ use_turn (executed v.kind (fetched code h.control.pc)) (reply_mask bytes rec.access) s h (with_unset (unset_after v.kind (fetched code h.control.pc) s.frame.unset) v)
+    full_step code false rec bytes s ≡ use_turn (executed v.kind (fetched code h.control.pc)) (reply_mask bytes rec.access) s h (with_unset (unset_after v.kind (fetched code h.control.pc) s.frame.unset) v)
 unfolding value_step
 use_plain code rec bytes s sn none =
     let inp = inputs_of rec in

@@ -79,16 +79,16 @@ pub record Survives (r : Course) (h : History) (p a mask : ℕ) : Type 0 where
 pub mask_back : (r : Course) (h : History) (p a mask : ℕ) → IsMask r h (suc p) a mask → mask ≢ 0 → Survives r h p a mask
 mask_back r h p a mask (IsLive live none) some = absurd (some none)
 mask_back r h p a mask (HasLeft once earlier live free unstored none) some = absurd (some none)
-mask_back r h p a mask (IsStored once earlier stores free unstored) some = record {
+mask_back r h p a mask (IsStored once earlier stores free held unstored) some = record {
   back = ⊎_elim
-      (λ less. Stood (IsStored once less stores (λ i lo up. free i lo (omega arith)) (λ i lo up. unstored i lo (omega arith))) (unstored p (omega arith) (omega arith)))
+      (λ less. Stood (IsStored once less stores (λ i lo up. free i lo (omega arith)) (λ i lo up. held i lo (omega arith)) (λ i lo up. unstored i lo (omega arith))) (unstored p (omega arith) (omega arith)))
       (λ here. let same : once ≡ p = omega arith in StoredNow (subst (λ i. StoresByte r h i a mask) same stores))
       (cases_lt once p);
   before = free p (omega arith) (omega arith);
   after = free (suc p) (omega arith) (omega arith);
 }
-mask_back r h p a mask (Opens free unstored whole) some = record {
-  back = Stood (Opens (λ i lo up. free i lo (omega arith)) (λ i lo up. unstored i lo (omega arith)) whole) (unstored p (omega arith) (omega arith));
+mask_back r h p a mask (Opens free held unstored whole) some = record {
+  back = Stood (Opens (λ i lo up. free i lo (omega arith)) (λ i lo up. held i lo (omega arith)) (λ i lo up. unstored i lo (omega arith)) whole) (unstored p (omega arith) (omega arith));
   before = free p (omega arith) (omega arith);
   after = free (suc p) (omega arith) (omega arith);
 }

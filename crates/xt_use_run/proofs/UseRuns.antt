@@ -11,6 +11,7 @@ use Rattle.xt_exec.specs.Chips.{processor}
 use Rattle.xt_frames.specs.declared.kinds.Breach.{Breach}
 use Rattle.xt_frames.specs.FirstBreach.{Course, IsJudgedTurn, IsTurn, Turn, entries_before, turn_of, turns}
 use Rattle.xt_simulation.specs.Steps.{record_now}
+use Rattle.xt_uses.specs.declared.discipline.Discipline.{Discipline}
 use Rattle.xt_uses.specs.FirstUse.{History, IsFirstUse, IsHistory}
 use Rattle.xt_uses.specs.UseLaws.{FitsStep, IsUseRun}
 use Rattle.xt_use_run.proofs.Before.{Before, Grounds}
@@ -61,5 +62,5 @@ module _ (r : Course) (cores : List ℕ) (w : worlds.World State) (xs ys : List 
         let turn : slice_get (turns cores xs ys) p ≡ Some (turn_of core rec) = sym (ap (λ (ts : List Turn). slice_get ts p) same) ∙ judged.turn in
         fits_here p core rec less judged before (turn_taken r.code p cores w xs ys core rec walk turn)
 
-  pub use_run : ((h : History) → IsHistory r h → Grounds r h) → ((h : History) → IsHistory r h → Before r h 0 w.line.memory opening w.core0.state w.core1.state) → IsUseRun r opening
-  use_run grounds begins h q found history first p core rec less judged = use_fits h (grounds h history) (begins h history) q found first p core rec less judged
+  pub use_run : ((d : Discipline) (h : History) → IsHistory d r h → Grounds r h) → ((d : Discipline) (h : History) → IsHistory d r h → Before r h 0 w.line.memory opening w.core0.state w.core1.state) → IsUseRun r opening
+  use_run grounds begins d h q found history first p core rec less judged = use_fits h (grounds d h history) (begins d h history) q found first p core rec less judged

@@ -17,6 +17,8 @@ use Rattle.xt_simulation.specs.Opening.{IsRunnable, bounds0, bounds1, frame0, fr
 use Rattle.xt_simulation.specs.Opening.{openings_of}
 use Rattle.xt_simulation.specs.Headline.{IsRunOfImage, records0, records1}
 use Rattle.xt_simulation.specs.Walking.{Apart}
+use Rattle.xt_uses.specs.declared.discipline.Discipline.{Discipline}
+use Rattle.xt_uses.specs.declared.discipline.Discipline.TheVariants.{Lenient}
 use Rattle.xt_uses.specs.UseState.{opening_use}
 use Rattle.xt_uses.specs.FirstUse.{History, IsFirstUse, IsHistory, carried}
 use Rattle.xt_uses.specs.UseLaws.{IsOrdinary, IsUseRun, TellsWords}
@@ -25,10 +27,10 @@ use Rattle.xt_use_run.specs.Knowing.{Knows}
 -- both machines open alike, and all is known
 abbrev pub ShadowsOpen : Type 0
 ShadowsOpen =
-    (core pc vecbase stack_end : ℕ)
+    (d : Discipline) (core pc vecbase stack_end : ℕ)
     → IsWord pc → vecbase % 2 ^ 10 ≡ 0 → IsWord vecbase → 64 ≤ stack_end → IsWord stack_end
     → let f = opening_frame core pc vecbase stack_end in
-    Knows f (opening_use f)
+    Knows f (opening_use d f)
 
 -- ---- a run of an image, of which the history and the places of the accesses are kept
 
@@ -69,15 +71,15 @@ RunsAreOrdinary =
     × TellsWords (course_of segments entry o r)
     × IsMemory (memory_of (openings_of segments entry o))
 
--- So its first breach of uses comes no sooner than its first of the stack discipline; and where it
--- keeps the stack discipline, it shows no breach of uses, and carries nothing that is not known.
+-- So its first breach of the lenient discipline comes no sooner than its first of the stack discipline; and where it
+-- keeps the stack discipline, it shows none of that, and carries nothing that is not known.
 abbrev pub UsesOfRunsAreLater : Type 0
 UsesOfRunsAreLater =
     (segments : List Segment) (entry : ℕ) (o : Options) (r : ShortRun State)
     → IsRunnable segments entry o
     → IsRunOfImage segments entry o r
     → (h : History) (p q : ℕ) (breach found : Option Breach)
-    → IsHistory (course_of segments entry o r) h
+    → IsHistory Lenient (course_of segments entry o r) h
     → IsFirstBreach (course_of segments entry o r) p breach
     → IsFirstUse (course_of segments entry o r) h q found
     → (p ≤ q)

@@ -10,6 +10,7 @@ use Rattle.xt_frames.specs.Frames.{all_set, opening_frame, opening_seen}
 use Rattle.xt_frames.specs.Verdict.{is_nested}
 use Rattle.xt_frames.specs.FirstBreach.{Course, IsJudgedTurn, is_judged, mode_before}
 use Rattle.xt_uses.specs.Words.{all_bits, cut}
+use Rattle.xt_uses.specs.Disciplines.{Discipline}
 use Rattle.xt_uses.specs.UseState.{UseState, whole_masks}
 use Rattle.xt_uses.specs.UseBreaches.{use_breach}
 use Rattle.xt_uses.specs.FirstUse.{History, IsHistory, Shows, handler_use, live_at}
@@ -42,9 +43,9 @@ wide_opening : (stack_end : ℕ) → 16 ≤ length (opening_seen stack_end)
 unfolding opening_seen
 wide_opening stack_end = omega arith
 
-pub cut_opens : (core pc vecbase stack_end : ℕ) → stack_end < 2 ^ 32 → IsCut (opening_frame core pc vecbase stack_end) whole_masks
+pub cut_opens : (core pc vecbase stack_end : ℕ) → stack_end < 2 ^ 32 → (d : Discipline) → IsCut (opening_frame core pc vecbase stack_end) (whole_masks d)
 unfolding all_set
-cut_opens core pc vecbase stack_end small =
+cut_opens core pc vecbase stack_end small d =
     let s = special_spared (prid_of core) vecbase in
     record {
       seen_cut = opening_cut stack_end small;
@@ -62,7 +63,7 @@ cut_opens core pc vecbase stack_end small =
     }
 
 -- ---- before each turn
-module _ (r : Course) (h : History) (opens : (core : ℕ) → IsOpening (r.opening core)) (is : IsHistory r h) where
+module _ (r : Course) (h : History) (opens : (core : ℕ) → IsOpening (r.opening core)) (d : Discipline) (is : IsHistory d r h) where
   step_cut : (p core : ℕ) (rec : StepRecord) → IsJudgedTurn r p core rec → Shows r h p core rec None → IsCut (h.state core p).frame (h.state core p).masks → IsCut (h.state core (suc p)).frame (h.state core (suc p)).masks
   step_cut p core rec j shows w =
       let found : Option BreachKind = use_breach (r.bounds core) (not shows.lost) r.code (live_at r h p) (h.mask p) (is_nested (mode_before r core p)) rec (h.state core p) in
@@ -73,11 +74,11 @@ module _ (r : Course) (h : History) (opens : (core : ℕ) → IsOpening (r.openi
   pub cut_before : (p : ℕ) → IsUnused r h p → (core : ℕ) → IsCut (h.state core p).frame (h.state core p).masks
   cut_before zero none core =
       let o = opens core in
-      subst (λ (s : UseState). IsCut s.frame s.masks) (sym (is.opens core)) (subst (λ f. IsCut f whole_masks) (sym o.opens) (cut_opens o.core o.pc o.vecbase o.stack_end o.stack_word))
+      subst (λ (s : UseState). IsCut s.frame s.masks) (sym (is.opens core)) (subst (λ f. IsCut f (whole_masks d)) (sym o.opens) (cut_opens o.core o.pc o.vecbase o.stack_end o.stack_word d))
   cut_before (suc p) none core = ⊎_elim
       (λ j. step_cut p core j.0 j.1 (none p core j.0 (omega arith) j.1.turn) (cut_before p (λ i c q l t. none i c q (omega (arith, l)) t) core))
       (λ idle. subst (λ (s : UseState). IsCut s.frame s.masks) (sym (is.stays p core idle)) (cut_before p (λ i c q l t. none i c q (omega (arith, l)) t) core))
       (judged_or_idle r p core)
 
 pub values_cut : ValuesAreCut
-values_cut r h p core ordinary is none = state_cut (h.state core p).frame (h.state core p).masks (cut_before r h ordinary.opens is p none core)
+values_cut d r h p core ordinary is none = state_cut (h.state core p).frame (h.state core p).masks (cut_before r h ordinary.opens d is p none core)

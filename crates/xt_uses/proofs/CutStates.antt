@@ -16,12 +16,13 @@ use Rattle.xt_frames.specs.declared.holes.Nested.{Nested}
 use Rattle.xt_frames.specs.Frames.{Frame, FrameState, seen_after_call, seen_after_return, seen_after_write}
 use Rattle.xt_frames.specs.Marks.{holds_marks, unset_by}
 use Rattle.xt_uses.specs.Words.{cut}
-use Rattle.xt_uses.specs.UseState.{Masks}
-use Rattle.xt_uses.specs.UseStep.{called, cut_number, cut_seen, inner_unknown, pointer_written, returned, special_written, visible_written}
+use Rattle.xt_uses.specs.UseState.{Masks, UseState}
+use Rattle.xt_uses.specs.UseStep.{called, cut_number, cut_seen, inner_unknown, leave_results, pointer_written, returned, special_written, visible_written}
 use Rattle.xt_uses.specs.UseLaws.{AreCut, AreKeptCut, InnerIsCut, IsCutState}
 use Rattle.xt_uses.proofs.CutControl.{Spared, marks_apart, sets_one, sets_size, sets_spare}
 use Rattle.xt_uses.proofs.CutLists.{cut_append, cut_drop, cut_length, cut_none, cut_take, cut_visible}
 use Rattle.xt_uses.proofs.CutRows.{marks_between, pointer_left}
+use Rattle.xt_uses.proofs.Left.{cut_left, left_length}
 use Rattle.xt_uses.proofs.WholeLists.{held, held_both, replicated}
 use Rattle.xt_uses.proofs.WholeStates.{AreFull, IsInside, begun_inner}
 
@@ -247,3 +248,24 @@ cut_begun {seen} {frames} {special} {unset} {threadptr} {waits} {m} w pc ps excm
     saved = λ n j e. absurd (none-some j (sym (replicated {A = Option ℕ} 256 n None) ∙ e));
   };
 }
+
+-- ---- a return of the strict discipline forgets registers
+pub cut_results : (frames : List Frame) (u : UseState) → IsCut u.frame u.masks → IsCut (leave_results frames u).frame (leave_results frames u).masks
+cut_results [] u w = w
+cut_results (g ∷ rest) u w =
+    let wide = w.wide in
+    let l = left_length None (4 * g.by) 0 u.frame.seen in
+    record {
+      seen_cut = cut_left (4 * g.by) 0 u.frame.seen u.masks.seen w.seen_cut;
+      kept = w.kept;
+      special_cut = w.special_cut;
+      lost = w.lost;
+      pointer = w.pointer;
+      inner = w.inner;
+      count = w.count;
+      values = w.values;
+      holes = w.holes;
+      wide = omega (arith, wide, l);
+      full = w.full;
+      inside = w.inside;
+    }

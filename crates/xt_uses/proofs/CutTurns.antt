@@ -13,12 +13,13 @@ use Rattle.xt_frames.specs.Nesting.{begins, current, is_nesting}
 use Rattle.xt_frames.specs.Breaches.{Bounds, inputs_of}
 use Rattle.xt_frames.specs.Judging.{value_in}
 use Rattle.xt_uses.specs.UseState.{Masks, UseState}
-use Rattle.xt_uses.specs.UseStep.{UseTurn, executed, inner_unknown, other_turn, reply_mask, use_step, use_turn, value_step}
+use Rattle.xt_uses.specs.UseStep.{UseTurn, executed, full_step, inner_unknown, other_turn, reply_mask, use_step, use_turn, value_step}
 use Rattle.xt_uses.specs.UseBreaches.{laid_use, use_breach}
 use Rattle.xt_uses.proofs.CutControl.{keeps_interrupt, keeps_tick, spared_same, spared_set}
 use Rattle.xt_uses.proofs.CutInner.{inner_cut}
 use Rattle.xt_uses.proofs.CutPlain.{plain_cut}
-use Rattle.xt_uses.proofs.CutStates.{IsCut, cut_begun, cut_spared}
+use Rattle.xt_uses.proofs.CutStates.{IsCut, cut_begun, cut_results, cut_spared}
+use Rattle.xt_uses.proofs.Returning.{left_holds}
 
 module _ (code : ℕ → ℕ) (b : Bounds) (fresh : Bool) (live : ℕ → Bool) (nested : Bool) (rec : StepRecord) (bytes : ℕ → ℕ) (m : Masks) where
   abbrev inp : Inputs
@@ -83,6 +84,15 @@ module _ (code : ℕ → ℕ) (b : Bounds) (fresh : Bool) (live : ℕ → Bool) 
       (sym (and_right nested (is_nesting rec.kind && false) (and_right (is_nesting rec.kind) false refl)))
       (inner_keeps f.seen f.frames f.control f.unset x w))
 
+  cut_full : (f : FrameState) → IsCut f m → use_breach b fresh code live bytes nested rec (record { frame = f; masks = m }) ≡ None
+      → (let t : UseTurn = full_step code nested rec bytes (record { frame = f; masks = m }) in IsCut t.after.frame t.after.masks)
+  cut_full f w none = with_nested f f.nested refl w none
+
+  -- and past a return that forgets registers
   pub cut_kept : (f : FrameState) → IsCut f m → use_breach b fresh code live bytes nested rec (record { frame = f; masks = m }) ≡ None
       → (let t : UseTurn = use_step code nested rec bytes (record { frame = f; masks = m }) in IsCut t.after.frame t.after.masks)
-  cut_kept f w none = with_nested f f.nested refl w none
+  cut_kept f w none =
+      let s : UseState = record { frame = f; masks = m } in
+      let u = (full_step code nested rec bytes s).after in
+      let c = cut_full f w none in
+      left_holds (λ t. IsCut t.frame t.masks) (executed (full_step code nested rec bytes s).turn.kind (at f)) s u c (cut_results f.frames u c)

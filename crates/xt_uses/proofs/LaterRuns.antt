@@ -24,6 +24,7 @@ use Rattle.xt_frames.specs.Judging.{place_on, step_on, value_in}
 use Rattle.xt_frames.specs.Verdict.{IsFrameTrace, IsStepOf, entry_of, is_nested}
 use Rattle.xt_frames.proofs.Prefixes.{own_judged}
 use Rattle.xt_uses.specs.Words.{all_bits, cut}
+use Rattle.xt_uses.specs.Disciplines.{Lenient}
 use Rattle.xt_uses.specs.UseStep.{UseTurn, executed, receives_mark, reply_mask, value_step}
 use Rattle.xt_uses.specs.FirstUse.{History, IsFirstUse, IsHistory, use_at}
 use Rattle.xt_uses.specs.UseLaws.{AccessFits, AgreeIn, FitsStep, IsOrdinary, IsUnbroken, IsUseRun, ReplyFits, TellsWords, UseRunIsFrameRun}
@@ -46,7 +47,7 @@ write_word : (o : Option RegWrite) → ((w : RegWrite) → o ≡ Some w → IsWo
 write_word None h = (tt, omega arith)
 write_word (Some w) h = (h w refl, h w refl)
 
-module _ (r : Course) (h : History) (opening : MemoryContents) (p q : ℕ) (found : Option Breach) (ordinary : IsOrdinary r) (tells : TellsWords r) (memory : IsMemory opening) (is : IsHistory r h) (unbroken : IsUnbroken r p) (order : p ≤ q) (y : IsFirstUse r h q found) (runs : IsUseRun r opening) where
+module _ (r : Course) (h : History) (opening : MemoryContents) (p q : ℕ) (found : Option Breach) (ordinary : IsOrdinary r) (tells : TellsWords r) (memory : IsMemory opening) (is : IsHistory Lenient r h) (unbroken : IsUnbroken r p) (order : p ≤ q) (y : IsFirstUse r h q found) (runs : IsUseRun r opening) where
   module _ (i core : ℕ) (rec : StepRecord) (l : i < p) (j : IsJudgedTurn r i core rec) where
     before : Agrees r h i
     before = agrees_to r h i ordinary is (λ k c o b t. unbroken k c o (omega (arith, b, l)) t)
@@ -67,7 +68,7 @@ module _ (r : Course) (h : History) (opening : MemoryContents) (p q : ℕ) (foun
     t = use_at r h i core rec
 
     fits : FitsStep r h opening i core rec
-    fits = runs h q found is y i core rec (omega (arith, l, order)) j
+    fits = runs Lenient h q found is y i core rec (omega (arith, l, order)) j
 
     frame : (h.state core i).frame ≡ f
     frame = before.frame i core (omega arith)

@@ -14,6 +14,7 @@ use Rattle.xt_frames.specs.Nesting.{current}
 use Rattle.xt_frames.specs.Breaches.{inputs_of, writes_epc1}
 use Rattle.xt_frames.specs.FirstBreach as frames
 use Rattle.xt_frames.specs.FirstBreach.{Course, IsFirstBreach, IsJudgedTurn, IsTurn, Turn, frame_before, is_judged, live_before, mode_before, step_at, turn_of}
+use Rattle.xt_uses.specs.Disciplines.{Lenient}
 use Rattle.xt_uses.specs.UseStep.{UseTurn, carries, executed, receives_mark, stores_unknown, writes_unknown}
 use Rattle.xt_uses.specs.FirstUse.{EndsMode, History, IsFirstUse, IsHistory, IsLost, Shows, carried, carries_at, live_at, record_use, use_at, writes_at}
 use Rattle.xt_uses.specs.UseLaws.{IsOrdinary, IsUnbroken, UsesAreLater}
@@ -22,7 +23,7 @@ use Rattle.xt_uses.proofs.LaterVerdicts.{is_there}
 use Rattle.xt_uses.proofs.WholeBytes.{stores_known, swaps_known}
 use Rattle.xt_uses.proofs.WholeRuns.{Agrees, agrees_to, byte_known, live_same}
 
-module _ (r : Course) (h : History) (p : ℕ) (ordinary : IsOrdinary r) (is : IsHistory r h) (agrees : Agrees r h p) where
+module _ (r : Course) (h : History) (p : ℕ) (ordinary : IsOrdinary r) (is : IsHistory Lenient r h) (agrees : Agrees r h p) where
   -- ---- EPC1
   writes_same : (i core : ℕ) (rec : StepRecord) → i < p → IsJudgedTurn r i core rec → writes_at r h i core rec ≡ frames.writes_at r i core rec
   writes_same i core rec l j =
@@ -120,7 +121,7 @@ turns_end : (r : Course) (p : ℕ) (breach : Option Breach) → IsFirstBreach r 
 turns_end r p None x = let end = x.here in omega (arith, end)
 turns_end r p (Some b) x = let there = slice_get_within r.turns p (turn_of b.core x.here.rec) x.here.turn in omega (arith, there)
 
-never_before : (r : Course) (h : History) (p q : ℕ) (breach found : Option Breach) → IsOrdinary r → IsHistory r h → IsFirstBreach r p breach → IsFirstUse r h q found → q < p → ⊥
+never_before : (r : Course) (h : History) (p q : ℕ) (breach found : Option Breach) → IsOrdinary r → IsHistory Lenient r h → IsFirstBreach r p breach → IsFirstUse r h q found → q < p → ⊥
 never_before r h p q breach None ordinary is x y l = let end = y.here in let last = turns_end r p breach x in omega (arith, end, last, l)
 never_before r h p q breach (Some c) ordinary is x y l =
     let unbroken : IsUnbroken r q = λ i core rec b turn. x.before i core rec (omega (arith, b, l)) turn in

@@ -56,8 +56,8 @@ module _ (r : Course) (h : History) where
   same_found p q one other x y = at_one p one other x (subst (λ n. IsFirstUse r h n other) (sym (same_place p q one other x y)) y)
 
 pub verdict_one : VerdictIsOne
-verdict_one r one other n m k l x y =
-    let same = history_is_one r x.history y.history x.is_history y.is_history in
+verdict_one d r one other n m k l x y =
+    let same = history_is_one d r x.history y.history x.is_history y.is_history in
     let there : IsFirstUse r x.history y.place other = subst (λ h. IsFirstUse r h y.place other) (sym same) y.first in
     let place = same_place r x.history x.place y.place one other x.first there in (
       same_found r x.history x.place y.place one other x.first there,

@@ -63,3 +63,6 @@ pub mod UseRanges
 pub mod UsePlans
 pub mod UseCores
 pub mod QuickUses
+pub mod Left
+pub mod Returning
+pub mod Constant

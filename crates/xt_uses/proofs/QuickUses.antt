@@ -34,7 +34,8 @@ use Rattle.xt_uses.specs.declared.masks.TopMasks.{TopMasks}
 use Rattle.xt_uses.specs.Words.{Word, all_bits, whole_word}
 use Rattle.xt_uses.specs.Known.{result_mask}
 use Rattle.xt_uses.specs.UseState.{Masks, UseState, first_word, second_word, special_operand}
-use Rattle.xt_uses.specs.UseStep.{UseTurn, carries, cut_seen, cut_state, executed, fetched_movsp, frames_moved, insn_turn, masks_past, movsp_of, pointer_written, receives_mark, reply_mask, special_written, stores_unknown, turn_or, use_step, use_turn, value_step, visible_written}
+use Rattle.xt_uses.specs.UseStep.{UseTurn, carries, cut_seen, cut_state, executed, fetched_movsp, frames_moved, full_step, insn_turn, left_after, masks_past, movsp_of, pointer_written, receives_mark, reply_mask, special_written, stores_unknown, turn_or, use_step, use_turn, value_step, visible_written}
+use Rattle.xt_uses.proofs.Returning.{no_return_left}
 use Rattle.xt_uses.specs.UseBreaches.{breaks_stack, fetched_uses, laid_use, nowhere, reads_mark, swaps_unknown, use_breach, use_tests, uses_unknown}
 use Rattle.xt_uses.specs.UseParts.{IsTaken, fresh_use, masks_at, use_at}
 use Rattle.xt_uses.specs.UseQuick.{AreWhole, IsQuickUse, done_quick}
@@ -194,9 +195,13 @@ module _ (limits : Limits) (fresh : Bool) (code : ℕ → ℕ) (rec : StepRecord
         ap (λ (n : StepKind). executed n (fetched code found.control.pc)) values_are.kind
         ∙ (ap (λ (r : FrameState). executed kind.Insn (fetched code r.control.pc)) found_is
         ∙ (ap (executed kind.Insn) k.quick.at ∙ executed_insn i k.quick.len)) in
+        let full : full_step code false rec bytes s ≡ made =
         ap (λ (o : Option Insn). use_turn o (reply_mask bytes rec.access) s found values) at
         ∙ (ap (λ (n : ℕ). insn_turn i n s found values) reply
-        ∙ ap (λ (r : FrameState). insn_turn i all_bits s r values) found_is)
+        ∙ ap (λ (r : FrameState). insn_turn i all_bits s r values) found_is) in
+        ap (λ (t : UseTurn). record t { after = left_after (executed t.turn.kind (fetched code found.control.pc)) s t.after }) full
+        ∙ (ap (λ (o : Option Insn). record made { after = left_after o s made.after }) at
+        ∙ ap (λ (u : UseState). record made { after = u }) (no_return_left i s made.after k.quick.row.common.return))
 
     mask_is : made.mask ≡ all_bits
     mask_is =

@@ -1,5 +1,5 @@
 -- The walk finds the first use of a run: what it keeps at each turn is what is said by the turns before it.
-use Rattle.std.proofs.Common.{◌≡◌, ℕ, zero, suc, ◌+◌, ◌<◌, ◌≤◌, Bool, true, false, ◌==◌, ◌&&◌, not, List, [], ◌∷◌, Option, Some, None, sym, ap, ◌∙◌, refl, arith, ⊎_elim, subst, length, drop, cond, Decides}
+use Rattle.std.proofs.Common.{◌≡◌, ℕ, zero, suc, ◌+◌, ◌<◌, ◌≤◌, Bool, true, false, ◌==◌, ◌&&◌, ◌||◌, not, List, [], ◌∷◌, Option, Some, None, sym, ap, ◌∙◌, refl, arith, ⊎_elim, subst, length, drop, cond, Decides}
 use Rattle.std.proofs.Math.Bool.{or_comm}
 use Rattle.std.proofs.lemmas.Bool.{and_from, and_left, and_right, cond-true, cond-false, cases_Bool, both_ways, eq-eqb, not-true, not-false, false≢true}
 use Rattle.std.proofs.lemmas.Option.{slice_get_within}
@@ -12,15 +12,20 @@ use Rattle.xt_frames.specs.Breaches.{Bounds}
 use Rattle.xt_frames.specs.Verdict.{is_nested}
 use Rattle.xt_frames.specs.FirstBreach.{Course, IsTurn, Turn, by_core, is_judged, mode_before, records_before, turn_of, turns}
 use Rattle.xt_frames.proofs.Prefixes.{before_or_at, drop_get, drop_none, drop_rest, other_mode, other_records, own_count, own_mode, same_turn}
-use Rattle.xt_uses.specs.UseState.{UseState}
+use Rattle.xt_uses.specs.Disciplines.{Discipline}
+use Rattle.xt_uses.specs.UseState.{UseState, forgets}
 use Rattle.xt_uses.specs.UseStep.{UseTurn, carries}
 use Rattle.xt_uses.specs.UseBreaches.{use_breach, window_use}
 use Rattle.xt_uses.specs.UseParts.{fresh_use}
 use Rattle.xt_uses.specs.FirstUse.{History, IsLost, Shows, carried, carries_at, handler_use, live_at, use_at}
-use Rattle.xt_uses.specs.UseWalk.{IsUseJudgement, UseBroken, UseHandled, UseJudged, UseJudgement, UseKnown, UseSeen, UseStanding, WalkFindsFirstUse, count_of, handled_past, live_with, masks_after, opening_use_known, use_judgement, use_passed_0, use_passed_1, use_seen, use_seen_in, use_seen_judged, use_seen_step, use_seen_window}
-use Rattle.xt_uses.specs.Snapshots.{Snapshot, history_of, live_in, snapshot, states_past}
-use Rattle.xt_uses.proofs.UseHistories.{is_history, next_handled, next_judged, other_state, own_state}
+use Rattle.xt_uses.specs.UseWalk.{IsUseJudgement, UseBroken, UseHandled, UseJudged, UseJudgement, UseKnown, UseSeen, UseStanding, WalkFindsFirstUse, count_of, handled_past, live_with, lost_with, masks_after, opening_use_known, use_judgement, use_passed_0, use_passed_1, use_seen, use_seen_in, use_seen_judged, use_seen_step, use_seen_window}
+use Rattle.xt_uses.specs.Snapshots.{Snapshot, gone_in, history_of, live_in, lost_in, snapshot, states_past}
+use Rattle.xt_uses.proofs.UseHistories.{forgets_none, is_history, next_handled, next_judged, other_state, own_state}
 use Rattle.xt_uses.proofs.UseEpc.{lost_handled, lost_judged, lost_other}
+
+or_false : (b c : Bool) → c ≡ false → (b || c) ≡ b
+or_false true c e = refl
+or_false false c e = e
 
 double_not : (b : Bool) → not (not b) ≡ b
 double_not true = refl
@@ -55,14 +60,14 @@ standing s fresh mode n k = record { state = s; fresh = fresh; mode = mode; step
 standing_same : (s t : UseState) (x y : Bool) (m n : Mode) (a b k l : ℕ) → s ≡ t → x ≡ y → m ≡ n → a ≡ b → k ≡ l → standing s x m a k ≡ standing t y n b l
 standing_same s t x y m n a b k l p q e f g = λ i. standing (p i) (q i) (e i) (f i) (g i)
 
-abbrev standing_at : Course → ℕ → ℕ → Bool → UseStanding
-standing_at r core p lost = standing ((history_of r).state core p) (not lost) (mode_before r core p) (length (records_before r core p)) (carried r (history_of r) core p)
+abbrev standing_at : Discipline → Course → ℕ → ℕ → Bool → UseStanding
+standing_at d r core p lost = standing ((history_of d r).state core p) (not lost) (mode_before r core p) (length (records_before r core p)) (carried r (history_of d r) core p)
 
 -- what the walk sees of turn p, and what it keeps before the next
-data Outcome (r : Course) (p core : ℕ) (rec : StepRecord) (out : UseSeen) : Type 0 where
-  breaks : (kind : BreachKind) → out ≡ UseBroken kind → Shows r (history_of r) p core rec (Some kind) → Outcome r p core rec out
-  judges : (lost : Bool) → out ≡ UseJudged (standing_at r core (suc p) lost) ((history_of r).mask (suc p)) → Decides lost (IsLost r (history_of r) core (suc p)) → Shows r (history_of r) p core rec None → Outcome r p core rec out
-  handles : out ≡ UseHandled (standing_at r core (suc p) true) → (history_of r).mask (suc p) ≡ (history_of r).mask p → Decides true (IsLost r (history_of r) core (suc p)) → Shows r (history_of r) p core rec None → Outcome r p core rec out
+data Outcome (d : Discipline) (r : Course) (p core : ℕ) (rec : StepRecord) (out : UseSeen) : Type 0 where
+  breaks : (kind : BreachKind) → out ≡ UseBroken kind → Shows r (history_of d r) p core rec (Some kind) → Outcome d r p core rec out
+  judges : (lost : Bool) → out ≡ UseJudged (standing_at d r core (suc p) lost) ((history_of d r).mask (suc p)) → Decides lost (IsLost r (history_of d r) core (suc p)) → Shows r (history_of d r) p core rec None → Outcome d r p core rec out
+  handles : out ≡ UseHandled (standing_at d r core (suc p) true) → (history_of d r).mask (suc p) ≡ (history_of d r).mask p → Decides true (IsLost r (history_of d r) core (suc p)) → Shows r (history_of d r) p core rec None → Outcome d r p core rec out
 
 abbrev made : UseStanding → UseStanding → (ℕ → ℕ) → UseKnown
 made s t masks = record { first = s; second = t; masks = masks }
@@ -70,21 +75,21 @@ made s t masks = record { first = s; second = t; masks = masks }
 made_same : (s s' t t' : UseStanding) (m m' : ℕ → ℕ) → s ≡ s' → t ≡ t' → m ≡ m' → made s t m ≡ made s' t' m'
 made_same s s' t t' m m' a b c = λ i. made (a i) (b i) (c i)
 
-abbrev known_at : Course → ℕ → Bool → Bool → UseKnown
-known_at r p lost0 lost1 = made (standing_at r 0 p lost0) (standing_at r 1 p lost1) ((history_of r).mask p)
+abbrev known_at : Discipline → Course → ℕ → Bool → Bool → UseKnown
+known_at d r p lost0 lost1 = made (standing_at d r 0 p lost0) (standing_at d r 1 p lost1) ((history_of d r).mask p)
 
-abbrev IsQuiet : Course → ℕ → Type 0
-IsQuiet r p = (i core : ℕ) (rec : StepRecord) → i < p → IsTurn r i core rec → Shows r (history_of r) i core rec None
+abbrev IsQuiet : Discipline → Course → ℕ → Type 0
+IsQuiet d r p = (i core : ℕ) (rec : StepRecord) → i < p → IsTurn r i core rec → Shows r (history_of d r) i core rec None
 
-record Reached (r : Course) (p : ℕ) (lost0 lost1 : Bool) : Type 0 where
-  quiet : IsQuiet r p
+record Reached (d : Discipline) (r : Course) (p : ℕ) (lost0 lost1 : Bool) : Type 0 where
+  quiet : IsQuiet d r p
   within : p ≤ length r.turns
-  is_lost0 : Decides lost0 (IsLost r (history_of r) 0 p)
-  is_lost1 : Decides lost1 (IsLost r (history_of r) 1 p)
+  is_lost0 : Decides lost0 (IsLost r (history_of d r) 0 p)
+  is_lost1 : Decides lost1 (IsLost r (history_of d r) 1 p)
 
-module _ (r : Course) where
+module _ (d : Discipline) (r : Course) where
   abbrev h : History
-  h = history_of r
+  h = history_of d r
 
   -- ---- what is carried past a turn
   module _ (p core : ℕ) (rec : StepRecord) (turn : IsTurn r p core rec) where
@@ -116,7 +121,7 @@ module _ (r : Course) where
         ∙ ap (λ (b : Bool). carried r h other p + cond (b && carries r.code rec (h.state other p) (use_at r h p other rec)) 1 0) off in
         omega (arith, e)
 
-  module _ (core other : ℕ) (apart : (core == other) ≡ false) (live_all : (s : ℕ → UseState) → live_with (r.bounds core) (s core).frame (is_live (r.bounds other).range (s other).frame) ≡ live_in r s) (p : ℕ) (rec : StepRecord) (turn : IsTurn r p core rec) (lost : Bool) (is_lost : Decides lost (IsLost r h core p)) where
+  module _ (core other : ℕ) (apart : (core == other) ≡ false) (live_all : (s : ℕ → UseState) → live_with (r.bounds core) (s core).frame (is_live (r.bounds other).range (s other).frame) ≡ live_in r s) (gone_all : (s t : ℕ → UseState) → s other ≡ t other → (a : ℕ) → forgets (s core) (t core) a ≡ gone_in s t a) (p : ℕ) (rec : StepRecord) (turn : IsTurn r p core rec) (lost : Bool) (is_lost : Decides lost (IsLost r h core p)) where
     abbrev others : ℕ → Bool
     others = is_live (r.bounds other).range (h.state other p).frame
 
@@ -124,7 +129,7 @@ module _ (r : Course) where
     mode = mode_before r core p
 
     abbrev st : UseStanding
-    st = standing_at r core p lost
+    st = standing_at d r core p lost
 
     abbrev out : UseSeen
     out = use_seen r.code (r.bounds core) st others (h.mask p) rec
@@ -142,7 +147,7 @@ module _ (r : Course) where
     shows_told o j e = record { lost = lost; is_lost = is_lost; shown = cond-false (is_judged mode rec.kind) found told j ∙ e }
 
     live_now : live_with (r.bounds core) (h.state core p).frame others ≡ live_at r h p
-    live_now = live_all (snapshot r p).states
+    live_now = live_all (snapshot d r p).states
 
     -- a judged step
     abbrev after_found : Option BreachKind → UseSeen
@@ -159,31 +164,39 @@ module _ (r : Course) where
     abbrev fresh_next : Bool
     fresh_next = fresh_use (not lost) r.code (is_nested mode) rec (h.mask p) (h.state core p)
 
-    standing_next : is_judged mode rec.kind ≡ true → standing u.after fresh_next (mode_after r.code mode rec) (suc (length (records_before r core p))) (carried r h core p + count_of (carries r.code rec (h.state core p) u)) ≡ standing_at r core (suc p) (not fresh_next)
+    standing_next : is_judged mode rec.kind ≡ true → standing u.after fresh_next (mode_after r.code mode rec) (suc (length (records_before r core p))) (carried r h core p + count_of (carries r.code rec (h.state core p) u)) ≡ standing_at d r core (suc p) (not fresh_next)
     standing_next j = standing_same u.after (h.state core (suc p)) fresh_next (not (not fresh_next)) (mode_after r.code mode rec) (mode_before r core (suc p)) (suc (length (records_before r core p))) (length (records_before r core (suc p))) (carried r h core p + count_of (carries r.code rec (h.state core p) u)) (carried r h core (suc p))
-        (sym (own_state r p core rec turn j)) (sym (double_not fresh_next)) (sym (own_mode r p core rec turn)) (own_count r p core rec turn) (own_carried p core rec turn j)
+        (sym (own_state d r p core rec turn j)) (sym (double_not fresh_next)) (sym (own_mode r p core rec turn)) (own_count r p core rec turn) (own_carried p core rec turn j)
 
     abbrev next_states : ℕ → UseState
-    next_states = states_past r p (turn_of core rec) (snapshot r p)
+    next_states = states_past r p (turn_of core rec) (snapshot d r p)
 
     live_next : live_with (r.bounds core) u.after.frame others ≡ live_in r next_states
     live_next =
-        sym (ap (λ (s : UseState). live_with (r.bounds core) s.frame (is_live (r.bounds other).range (next_states other).frame)) (cond-true (core == core) u.after ((snapshot r p).states core) (eq-eqb core core refl))
-        ∙ ap (λ (s : UseState). live_with (r.bounds core) u.after.frame (is_live (r.bounds other).range s.frame)) (cond-false (core == other) u.after ((snapshot r p).states other) apart))
+        sym (ap (λ (s : UseState). live_with (r.bounds core) s.frame (is_live (r.bounds other).range (next_states other).frame)) (cond-true (core == core) u.after ((snapshot d r p).states core) (eq-eqb core core refl))
+        ∙ ap (λ (s : UseState). live_with (r.bounds core) u.after.frame (is_live (r.bounds other).range s.frame)) (cond-false (core == other) u.after ((snapshot d r p).states other) apart))
         ∙ live_all next_states
 
-    masks_next : is_judged mode rec.kind ≡ true → masks_after (live_with (r.bounds core) u.after.frame others) (live_with (r.bounds core) (h.state core p).frame others) u.stored rec.access (h.mask p) ≡ h.mask (suc p)
+    gone_now : (a : ℕ) → forgets (h.state core p) u.after a ≡ gone_in (snapshot d r p).states next_states a
+    gone_now a =
+        ap (λ (x : UseState). forgets (h.state core p) x a) (sym (cond-true (core == core) u.after ((snapshot d r p).states core) (eq-eqb core core refl)))
+        ∙ gone_all (snapshot d r p).states next_states (sym (cond-false (core == other) u.after ((snapshot d r p).states other) apart)) a
+
+    lost_now : lost_with (r.bounds core) (h.state core p) u.after others ≡ lost_in r (snapshot d r p).states next_states
+    lost_now = λ i a. live_now i a || gone_now a i
+
+    masks_next : is_judged mode rec.kind ≡ true → masks_after (live_with (r.bounds core) u.after.frame others) (lost_with (r.bounds core) (h.state core p) u.after others) u.stored rec.access (h.mask p) ≡ h.mask (suc p)
     masks_next j =
-        ap (λ live. masks_after live (live_with (r.bounds core) (h.state core p).frame others) u.stored rec.access (h.mask p)) live_next
-        ∙ (ap (λ live. masks_after (live_in r next_states) live u.stored rec.access (h.mask p)) live_now
-        ∙ sym (ap (λ (x : Snapshot). x.mask) (next_judged r p core rec turn j)))
+        ap (λ live. masks_after live (lost_with (r.bounds core) (h.state core p) u.after others) u.stored rec.access (h.mask p)) live_next
+        ∙ (ap (λ lost. masks_after (live_in r next_states) lost u.stored rec.access (h.mask p)) lost_now
+        ∙ sym (ap (λ (x : Snapshot). x.mask) (next_judged d r p core rec turn j)))
 
-    judges_next : is_judged mode rec.kind ≡ true → after_found None ≡ UseJudged (standing_at r core (suc p) (not fresh_next)) (h.mask (suc p))
+    judges_next : is_judged mode rec.kind ≡ true → after_found None ≡ UseJudged (standing_at d r core (suc p) (not fresh_next)) (h.mask (suc p))
     judges_next j =
-        ap (λ (s : UseStanding). UseJudged s (masks_after (live_with (r.bounds core) u.after.frame others) (live_with (r.bounds core) (h.state core p).frame others) u.stored rec.access (h.mask p))) (standing_next j)
-        ∙ ap (UseJudged (standing_at r core (suc p) (not fresh_next))) (masks_next j)
+        ap (λ (s : UseStanding). UseJudged s (masks_after (live_with (r.bounds core) u.after.frame others) (lost_with (r.bounds core) (h.state core p) u.after others) u.stored rec.access (h.mask p))) (standing_next j)
+        ∙ ap (UseJudged (standing_at d r core (suc p) (not fresh_next))) (masks_next j)
 
-    outcome_judged : is_judged mode rec.kind ≡ true → (o : Option BreachKind) → found ≡ o → Outcome r p core rec out
+    outcome_judged : is_judged mode rec.kind ≡ true → (o : Option BreachKind) → found ≡ o → Outcome d r p core rec out
     outcome_judged j (Some kind) e = breaks kind (out_judged j ∙ ap after_found e) (shows_found (Some kind) j e)
     outcome_judged j None e = judges
         (not fresh_next)
@@ -198,23 +211,23 @@ module _ (r : Course) where
     out_told : is_judged mode rec.kind ≡ false → out ≡ after_told told
     out_told j = seen_as_handler mode r.code (r.bounds core) st others (h.mask p) rec j
 
-    handles_next : is_judged mode rec.kind ≡ false → after_told None ≡ UseHandled (standing_at r core (suc p) true)
+    handles_next : is_judged mode rec.kind ≡ false → after_told None ≡ UseHandled (standing_at d r core (suc p) true)
     handles_next j = ap UseHandled (standing_same (h.state core p) (h.state core (suc p)) false false (mode_after r.code mode rec) (mode_before r core (suc p)) (suc (length (records_before r core p))) (length (records_before r core (suc p))) (carried r h core p) (carried r h core (suc p))
-        (sym (ap (λ (x : Snapshot). x.states core) (next_handled r p core rec turn j))) refl (sym (own_mode r p core rec turn)) (own_count r p core rec turn) (kept_carried p core rec turn j))
+        (sym (ap (λ (x : Snapshot). x.states core) (next_handled d r p core rec turn j))) refl (sym (own_mode r p core rec turn)) (own_count r p core rec turn) (kept_carried p core rec turn j))
 
-    outcome_handled : is_judged mode rec.kind ≡ false → (o : Option BreachKind) → told ≡ o → Outcome r p core rec out
+    outcome_handled : is_judged mode rec.kind ≡ false → (o : Option BreachKind) → told ≡ o → Outcome d r p core rec out
     outcome_handled j (Some kind) e = breaks kind (out_told j ∙ ap after_told e) (shows_told (Some kind) j e)
     outcome_handled j None e = handles
         (out_told j ∙ (ap after_told e ∙ handles_next j))
-        (ap (λ (x : Snapshot). x.mask) (next_handled r p core rec turn j))
+        (ap (λ (x : Snapshot). x.mask) (next_handled d r p core rec turn j))
         (lost_handled r h p core rec turn j)
         (shows_told None j e)
 
-    outcome : Outcome r p core rec out
+    outcome : Outcome d r p core rec out
     outcome = ⊎_elim (λ j. outcome_judged j found refl) (λ j. outcome_handled j told refl) (cases_Bool (is_judged mode rec.kind))
 
   -- ---- the walk
-  quiet_more : (p core : ℕ) (rec : StepRecord) → IsTurn r p core rec → IsQuiet r p → Shows r h p core rec None → IsQuiet r (suc p)
+  quiet_more : (p core : ℕ) (rec : StepRecord) → IsTurn r p core rec → IsQuiet d r p → Shows r h p core rec None → IsQuiet d r (suc p)
   quiet_more p core rec turn before now i c q l t = ⊎_elim
       (λ b. before i c q b t)
       (λ e.
@@ -226,18 +239,18 @@ module _ (r : Course) where
   within_more : (p core : ℕ) (rec : StepRecord) → IsTurn r p core rec → suc p ≤ length r.turns
   within_more p core rec turn = slice_get_within r.turns p (turn_of core rec) turn
 
-  other_standing : (p core : ℕ) (rec : StepRecord) → IsTurn r p core rec → (other : ℕ) (lost : Bool) → (core == other) ≡ false → standing_at r other p lost ≡ standing_at r other (suc p) lost
+  other_standing : (p core : ℕ) (rec : StepRecord) → IsTurn r p core rec → (other : ℕ) (lost : Bool) → (core == other) ≡ false → standing_at d r other p lost ≡ standing_at d r other (suc p) lost
   other_standing p core rec turn other lost apart = standing_same (h.state other p) (h.state other (suc p)) (not lost) (not lost) (mode_before r other p) (mode_before r other (suc p)) (length (records_before r other p)) (length (records_before r other (suc p))) (carried r h other p) (carried r h other (suc p))
-      (sym (other_state r p core rec turn other apart)) refl (sym (other_mode r p core rec turn other apart)) (ap length (sym (other_records r p core rec turn other apart))) (other_carried p core rec turn other apart)
+      (sym (other_state d r p core rec turn other apart)) refl (sym (other_mode r p core rec turn other apart)) (ap length (sym (other_records r p core rec turn other apart))) (other_carried p core rec turn other apart)
 
-  module _ (p : ℕ) (rec : StepRecord) (lost0 lost1 : Bool) (s : Reached r p lost0 lost1) (rest : UseKnown → UseJudgement) where
+  module _ (p : ℕ) (rec : StepRecord) (lost0 lost1 : Bool) (s : Reached d r p lost0 lost1) (rest : UseKnown → UseJudgement) where
     abbrev here : UseKnown
-    here = known_at r p lost0 lost1
+    here = known_at d r p lost0 lost1
 
-    broken : (core : ℕ) (kind : BreachKind) → IsTurn r p core rec → Shows r h p core rec (Some kind) → IsUseJudgement r (record { known = here; breach = Some (record { core = core; step = length (records_before r core p); kind = kind }) })
+    broken : (core : ℕ) (kind : BreachKind) → IsTurn r p core rec → Shows r h p core rec (Some kind) → IsUseJudgement d r (record { known = here; breach = Some (record { core = core; step = length (records_before r core p); kind = kind }) })
     broken core kind turn shows = record {
       history = h;
-      is_history = is_history r;
+      is_history = is_history d r;
       place = p;
       finds = record { before = s.quiet; here = record { rec = rec; turn = turn; number = refl; shows = shows } };
       state0 = refl;
@@ -246,39 +259,39 @@ module _ (r : Course) where
       carried1 = refl;
     }
 
-    module _ (turn : IsTurn r p 0 rec) (more : (lost : Bool) → Reached r (suc p) lost lost1 → IsUseJudgement r (rest (known_at r (suc p) lost lost1))) where
-      reached_0 : (lost : Bool) → Decides lost (IsLost r h 0 (suc p)) → Shows r h p 0 rec None → Reached r (suc p) lost lost1
-      reached_0 lost d shows = record {
+    module _ (turn : IsTurn r p 0 rec) (more : (lost : Bool) → Reached d r (suc p) lost lost1 → IsUseJudgement d r (rest (known_at d r (suc p) lost lost1))) where
+      reached_0 : (lost : Bool) → Decides lost (IsLost r h 0 (suc p)) → Shows r h p 0 rec None → Reached d r (suc p) lost lost1
+      reached_0 lost w shows = record {
         quiet = quiet_more p 0 rec turn s.quiet shows;
         within = within_more p 0 rec turn;
-        is_lost0 = d;
+        is_lost0 = w;
         is_lost1 = lost_other r h p 0 rec turn 1 lost1 refl s.is_lost1;
       }
 
-      known_0 : (lost : Bool) (masks : ℕ → ℕ) → masks ≡ h.mask (suc p) → made (standing_at r 0 (suc p) lost) (standing_at r 1 p lost1) masks ≡ known_at r (suc p) lost lost1
+      known_0 : (lost : Bool) (masks : ℕ → ℕ) → masks ≡ h.mask (suc p) → made (standing_at d r 0 (suc p) lost) (standing_at d r 1 p lost1) masks ≡ known_at d r (suc p) lost lost1
       known_0 lost masks e = made_same _ _ _ _ _ _ refl (other_standing p 0 rec turn 1 lost1 refl) e
 
-      goes_on_0 : (sight : UseSeen) → Outcome r p 0 rec sight → IsUseJudgement r (use_passed_0 sight here rest)
-      goes_on_0 sight (breaks kind e shows) = subst (λ x. IsUseJudgement r (use_passed_0 x here rest)) (sym e) (broken 0 kind turn shows)
-      goes_on_0 sight (judges lost e d shows) = subst (λ x. IsUseJudgement r (use_passed_0 x here rest)) (sym e) (subst (λ x. IsUseJudgement r (rest x)) (sym (known_0 lost (h.mask (suc p)) refl)) (more lost (reached_0 lost d shows)))
-      goes_on_0 sight (handles e same d shows) = subst (λ x. IsUseJudgement r (use_passed_0 x here rest)) (sym e) (subst (λ x. IsUseJudgement r (rest x)) (sym (known_0 true (h.mask p) (sym same))) (more true (reached_0 true d shows)))
+      goes_on_0 : (sight : UseSeen) → Outcome d r p 0 rec sight → IsUseJudgement d r (use_passed_0 sight here rest)
+      goes_on_0 sight (breaks kind e shows) = subst (λ x. IsUseJudgement d r (use_passed_0 x here rest)) (sym e) (broken 0 kind turn shows)
+      goes_on_0 sight (judges lost e w shows) = subst (λ x. IsUseJudgement d r (use_passed_0 x here rest)) (sym e) (subst (λ x. IsUseJudgement d r (rest x)) (sym (known_0 lost (h.mask (suc p)) refl)) (more lost (reached_0 lost w shows)))
+      goes_on_0 sight (handles e same w shows) = subst (λ x. IsUseJudgement d r (use_passed_0 x here rest)) (sym e) (subst (λ x. IsUseJudgement d r (rest x)) (sym (known_0 true (h.mask p) (sym same))) (more true (reached_0 true w shows)))
 
-    module _ (turn : IsTurn r p 1 rec) (more : (lost : Bool) → Reached r (suc p) lost0 lost → IsUseJudgement r (rest (known_at r (suc p) lost0 lost))) where
-      reached_1 : (lost : Bool) → Decides lost (IsLost r h 1 (suc p)) → Shows r h p 1 rec None → Reached r (suc p) lost0 lost
-      reached_1 lost d shows = record {
+    module _ (turn : IsTurn r p 1 rec) (more : (lost : Bool) → Reached d r (suc p) lost0 lost → IsUseJudgement d r (rest (known_at d r (suc p) lost0 lost))) where
+      reached_1 : (lost : Bool) → Decides lost (IsLost r h 1 (suc p)) → Shows r h p 1 rec None → Reached d r (suc p) lost0 lost
+      reached_1 lost w shows = record {
         quiet = quiet_more p 1 rec turn s.quiet shows;
         within = within_more p 1 rec turn;
         is_lost0 = lost_other r h p 1 rec turn 0 lost0 refl s.is_lost0;
-        is_lost1 = d;
+        is_lost1 = w;
       }
 
-      known_1 : (lost : Bool) (masks : ℕ → ℕ) → masks ≡ h.mask (suc p) → made (standing_at r 0 p lost0) (standing_at r 1 (suc p) lost) masks ≡ known_at r (suc p) lost0 lost
+      known_1 : (lost : Bool) (masks : ℕ → ℕ) → masks ≡ h.mask (suc p) → made (standing_at d r 0 p lost0) (standing_at d r 1 (suc p) lost) masks ≡ known_at d r (suc p) lost0 lost
       known_1 lost masks e = made_same _ _ _ _ _ _ (other_standing p 1 rec turn 0 lost0 refl) refl e
 
-      goes_on_1 : (sight : UseSeen) → Outcome r p 1 rec sight → IsUseJudgement r (use_passed_1 sight here rest)
-      goes_on_1 sight (breaks kind e shows) = subst (λ x. IsUseJudgement r (use_passed_1 x here rest)) (sym e) (broken 1 kind turn shows)
-      goes_on_1 sight (judges lost e d shows) = subst (λ x. IsUseJudgement r (use_passed_1 x here rest)) (sym e) (subst (λ x. IsUseJudgement r (rest x)) (sym (known_1 lost (h.mask (suc p)) refl)) (more lost (reached_1 lost d shows)))
-      goes_on_1 sight (handles e same d shows) = subst (λ x. IsUseJudgement r (use_passed_1 x here rest)) (sym e) (subst (λ x. IsUseJudgement r (rest x)) (sym (known_1 true (h.mask p) (sym same))) (more true (reached_1 true d shows)))
+      goes_on_1 : (sight : UseSeen) → Outcome d r p 1 rec sight → IsUseJudgement d r (use_passed_1 sight here rest)
+      goes_on_1 sight (breaks kind e shows) = subst (λ x. IsUseJudgement d r (use_passed_1 x here rest)) (sym e) (broken 1 kind turn shows)
+      goes_on_1 sight (judges lost e w shows) = subst (λ x. IsUseJudgement d r (use_passed_1 x here rest)) (sym e) (subst (λ x. IsUseJudgement d r (rest x)) (sym (known_1 lost (h.mask (suc p)) refl)) (more lost (reached_1 lost w shows)))
+      goes_on_1 sight (handles e same w shows) = subst (λ x. IsUseJudgement d r (use_passed_1 x here rest)) (sym e) (subst (λ x. IsUseJudgement d r (rest x)) (sym (known_1 true (h.mask p) (sym same))) (more true (reached_1 true w shows)))
 
   -- the live bytes do not depend on which core is looked at first
   live_0 : (s : ℕ → UseState) → live_with (r.bounds 0) (s 0).frame (is_live (r.bounds 1).range (s 1).frame) ≡ live_in r s
@@ -287,13 +300,20 @@ module _ (r : Course) where
   live_1 : (s : ℕ → UseState) → live_with (r.bounds 1) (s 1).frame (is_live (r.bounds 0).range (s 0).frame) ≡ live_in r s
   live_1 s = λ i a. or_comm (is_live (r.bounds 1).range (s 1).frame a) (is_live (r.bounds 0).range (s 0).frame a) i
 
-  ended : (p : ℕ) (lost0 lost1 : Bool) → Reached r p lost0 lost1 → drop p r.turns ≡ [] → IsUseJudgement r (record { known = known_at r p lost0 lost1; breach = None })
+  -- nor does the other core forget a byte
+  gone_0 : (s t : ℕ → UseState) → s 1 ≡ t 1 → (a : ℕ) → forgets (s 0) (t 0) a ≡ gone_in s t a
+  gone_0 s t e a = sym (or_false (forgets (s 0) (t 0) a) (forgets (s 1) (t 1) a) (ap (λ x. forgets (s 1) x a) (sym e) ∙ forgets_none (s 1) a))
+
+  gone_1 : (s t : ℕ → UseState) → s 0 ≡ t 0 → (a : ℕ) → forgets (s 1) (t 1) a ≡ gone_in s t a
+  gone_1 s t e a = sym (ap (λ b. b || forgets (s 1) (t 1) a) (ap (λ x. forgets (s 0) x a) (sym e) ∙ forgets_none (s 0) a))
+
+  ended : (p : ℕ) (lost0 lost1 : Bool) → Reached d r p lost0 lost1 → drop p r.turns ≡ [] → IsUseJudgement d r (record { known = known_at d r p lost0 lost1; breach = None })
   ended p lost0 lost1 s e =
       let all = drop_none p r.turns e in
       let within = s.within in
       record {
         history = h;
-        is_history = is_history r;
+        is_history = is_history d r;
         place = p;
         finds = record { before = s.quiet; here = omega (arith, all, within) };
         state0 = refl;
@@ -302,7 +322,7 @@ module _ (r : Course) where
         carried1 = refl;
       }
 
-  walk : (cores : List ℕ) (xs ys : List StepRecord) (p : ℕ) (lost0 lost1 : Bool) → Reached r p lost0 lost1 → drop p r.turns ≡ turns cores xs ys → IsUseJudgement r (use_judgement r.code (r.bounds 0) (r.bounds 1) cores xs ys (known_at r p lost0 lost1))
+  walk : (cores : List ℕ) (xs ys : List StepRecord) (p : ℕ) (lost0 lost1 : Bool) → Reached d r p lost0 lost1 → drop p r.turns ≡ turns cores xs ys → IsUseJudgement d r (use_judgement r.code (r.bounds 0) (r.bounds 1) cores xs ys (known_at d r p lost0 lost1))
   walk [] xs ys p lost0 lost1 s e = ended p lost0 lost1 s e
   walk (zero ∷ cores) [] ys p lost0 lost1 s e = ended p lost0 lost1 s e
   walk (zero ∷ cores) (x ∷ xs) ys p lost0 lost1 s e =
@@ -316,8 +336,8 @@ module _ (r : Course) where
       (λ k. use_judgement r.code (r.bounds 0) (r.bounds 1) cores xs ys k)
       turn
       (λ lost t. walk cores xs ys (suc p) lost lost1 t (drop_rest p r.turns (turn_of 0 x) (turns cores xs ys) e))
-      (use_seen r.code (r.bounds 0) (standing_at r 0 p lost0) (is_live (r.bounds 1).range (h.state 1 p).frame) (h.mask p) x)
-      (outcome 0 1 refl live_0 p x turn lost0 s.is_lost0)
+      (use_seen r.code (r.bounds 0) (standing_at d r 0 p lost0) (is_live (r.bounds 1).range (h.state 1 p).frame) (h.mask p) x)
+      (outcome 0 1 refl live_0 gone_0 p x turn lost0 s.is_lost0)
   walk (suc core ∷ cores) xs [] p lost0 lost1 s e = ended p lost0 lost1 s e
   walk (suc core ∷ cores) xs (y ∷ ys) p lost0 lost1 s e =
       let turn = drop_get p r.turns (turn_of 1 y) (turns cores xs ys) e in
@@ -330,14 +350,14 @@ module _ (r : Course) where
       (λ k. use_judgement r.code (r.bounds 0) (r.bounds 1) cores xs ys k)
       turn
       (λ lost t. walk cores xs ys (suc p) lost0 lost t (drop_rest p r.turns (turn_of 1 y) (turns cores xs ys) e))
-      (use_seen r.code (r.bounds 1) (standing_at r 1 p lost1) (is_live (r.bounds 0).range (h.state 0 p).frame) (h.mask p) y)
-      (outcome 1 0 refl live_1 p y turn lost1 s.is_lost1)
+      (use_seen r.code (r.bounds 1) (standing_at d r 1 p lost1) (is_live (r.bounds 0).range (h.state 0 p).frame) (h.mask p) y)
+      (outcome 1 0 refl live_1 gone_1 p y turn lost1 s.is_lost1)
 
   -- ---- before the first turn
   nothing_lost : (core : ℕ) → Decides false (IsLost r h core 0)
   nothing_lost core = (λ e. absurd (false≢true e), λ l. let earlier = l.earlier in absurd (omega (arith, earlier)))
 
-  reached_none : Reached r 0 false false
+  reached_none : Reached d r 0 false false
   reached_none = record {
     quiet = λ i core rec l t. absurd (omega (arith, l));
     within = omega arith;
@@ -345,14 +365,14 @@ module _ (r : Course) where
     is_lost1 = nothing_lost 1;
   }
 
-  opening_at : opening_use_known (r.bounds 0) (r.bounds 1) (r.opening 0) (r.opening 1) ≡ known_at r 0 false false
+  opening_at : opening_use_known d (r.bounds 0) (r.bounds 1) (r.opening 0) (r.opening 1) ≡ known_at d r 0 false false
   unfolding mode_before records_before
   opening_at = refl
 
 pub walk_finds : WalkFindsFirstUse
-walk_finds code b0 b1 cores xs ys f0 f1 =
+walk_finds d code b0 b1 cores xs ys f0 f1 =
     let r : Course = record { code = code; bounds = by_core b0 b1; opening = by_core f0 f1; turns = turns cores xs ys } in
     subst
-    (λ k. IsUseJudgement r (use_judgement code b0 b1 cores xs ys k))
-    (sym (opening_at r))
-    (walk r cores xs ys 0 false false (reached_none r) refl)
+    (λ k. IsUseJudgement d r (use_judgement code b0 b1 cores xs ys k))
+    (sym (opening_at d r))
+    (walk d r cores xs ys 0 false false (reached_none d r) refl)

@@ -16,7 +16,8 @@ use Rattle.xt_frames.specs.Judging.{value_in}
 use Rattle.xt_frames.specs.Stacks.{Stack}
 use Rattle.xt_frames.proofs.Inside.{kind_inside, still_fetched}
 use Rattle.xt_uses.specs.UseState.{UseState, special_operand}
-use Rattle.xt_uses.specs.UseStep.{UseTurn, executed, movsp_of, reply_mask, turn_or, use_step, use_turn, value_step}
+use Rattle.xt_uses.specs.UseStep.{UseTurn, executed, full_step, left_after, movsp_of, reply_mask, turn_or, use_step, use_turn, value_step}
+use Rattle.xt_uses.proofs.Returning.{left_stack}
 use Rattle.xt_uses.specs.UseBreaches.{laid_use}
 use Rattle.xt_uses.specs.UseParts.{UseMoves, Stands, Calls, Leaves}
 use Rattle.xt_uses.proofs.UseSteps.{fetched_register, no_movsp, numbered, value_nested, value_plain}
@@ -44,18 +45,18 @@ module _ (b : Bounds) (fresh : Bool) (code : ℕ → ℕ) (live : ℕ → Bool) 
       → laid_use b fresh code live bytes rec s g ≡ None
       → executed u.kind (fetched code g.control.pc) ≡ executed (turn_or (movsp_of code g) (laid_step code rec.reply g)).kind (fetched code g.control.pc)
       → is_sp u.write ≡ is_sp (turn_or (movsp_of code g) (laid_step code rec.reply g)).write
-      → KeepsAll lo hi s.frame (use_step code nested rec bytes s).after.frame
+      → KeepsAll lo hi s.frame (full_step code nested rec bytes s).after.frame
   past_cut g is u values stack moves none kinds writes =
       let r = reply_mask bytes rec.access in
       let i = executed u.kind (fetched code g.control.pc) in
       let T : FrameState → FrameTurn → UseTurn = λ x v. use_turn (executed v.kind (fetched code x.control.pc)) r s x v in
-      let step : T g u ≡ use_step code nested rec bytes s = ap (λ (v : FrameTurn). T g v) values ∙ (ap (λ (x : FrameState). T x (value_step code false (value_in rec.write) (inputs_of rec) s.frame)) is ∙ sym (cond-false (begins nested rec.kind s.frame) _ _ off)) in
+      let step : T g u ≡ full_step code nested rec bytes s = ap (λ (v : FrameTurn). T g v) values ∙ (ap (λ (x : FrameState). T x (value_step code false (value_in rec.write) (inputs_of rec) s.frame)) is ∙ sym (cond-false (begins nested rec.kind s.frame) _ _ off)) in
       let cut = turn_stack lo hi i r s g u stack (λ j e sp. whole_written b fresh live bytes rec code s g none j (sym kinds ∙ e) (sym writes ∙ sp) (special_operand j s g) s.masks.threadptr r) in
       subst (λ (t : UseTurn). KeepsAll lo hi s.frame t.after.frame) step (cut.0.0, moves (T g u).after.frame cut.1 cut.0.1)
 
   plain_keeps : s.frame.nested ≡ None → (let g = laid (inputs_of rec) s.frame in g.control.ps.callinc < 4
       → ((i : Insn) (len : ℕ) → ltb 0 (pending_of g.control) ≡ false → g.control.waits ≡ false → fetched code g.control.pc ≡ Fetches i len → in_range i ≡ true)
-      → laid_use b fresh code live bytes rec s g ≡ None → KeepsAll lo hi s.frame (use_step code nested rec bytes s).after.frame)
+      → laid_use b fresh code live bytes rec s g ≡ None → KeepsAll lo hi s.frame (full_step code nested rec bytes s).after.frame)
   plain_keeps plain calls ok none =
       let f = s.frame in
       let g = laid (inputs_of rec) f in
@@ -64,7 +65,7 @@ module _ (b : Bounds) (fresh : Bool) (code : ℕ → ℕ) (live : ℕ → Bool) 
       past_cut g (ap (λ (o : Option Nested). laid (inputs_of rec) (current_in o f)) (sym plain)) (numbered (fetched code g.control.pc) f.unset V) (value_plain code (value_in rec.write) rec f plain) chain.0
       (λ a fs sp. moves_past f g V.after a refl refl fs sp chain.1) none refl refl
 
-  nested_keeps : (x : Nested) → s.frame.nested ≡ Some x → laid_use b fresh code live bytes rec s (laid (inputs_of rec) (inside x s.frame)) ≡ None → KeepsAll lo hi s.frame (use_step code nested rec bytes s).after.frame
+  nested_keeps : (x : Nested) → s.frame.nested ≡ Some x → laid_use b fresh code live bytes rec s (laid (inputs_of rec) (inside x s.frame)) ≡ None → KeepsAll lo hi s.frame (full_step code nested rec bytes s).after.frame
   nested_keeps x some none =
       let f = s.frame in
       let g = laid (inputs_of rec) (inside x f) in
@@ -80,13 +81,24 @@ module _ (b : Bounds) (fresh : Bool) (code : ℕ → ℕ) (live : ℕ → Bool) 
       (ap (λ (n : StepKind). executed n at) (kind_inside at (value_in rec.write) x f L) ∙ sym (ap (λ (v : FrameTurn). executed v.kind at) same))
       (is_sp_same u.write L.write (fetched_register at (value_in rec.write) x f L) ∙ sym (ap (λ (v : FrameTurn). is_sp v.write) same))
 
-  pub keeps_all : (o : Option Nested) → s.frame.nested ≡ o → (let g = laid (inputs_of rec) (current s.frame) in g.control.ps.callinc < 4
+  keeps_full : (o : Option Nested) → s.frame.nested ≡ o → (let g = laid (inputs_of rec) (current s.frame) in g.control.ps.callinc < 4
       → ((i : Insn) (len : ℕ) → ltb 0 (pending_of g.control) ≡ false → g.control.waits ≡ false → fetched code g.control.pc ≡ Fetches i len → in_range i ≡ true)
-      → laid_use b fresh code live bytes rec s g ≡ None → KeepsAll lo hi s.frame (use_step code nested rec bytes s).after.frame)
-  keeps_all None e calls ok none =
+      → laid_use b fresh code live bytes rec s g ≡ None → KeepsAll lo hi s.frame (full_step code nested rec bytes s).after.frame)
+  keeps_full None e calls ok none =
       let same : laid (inputs_of rec) (current s.frame) ≡ laid (inputs_of rec) s.frame = ap (λ (o : Option Nested). laid (inputs_of rec) (current_in o s.frame)) e in
       let P : FrameState → Type 0 = λ g. (i : Insn) (len : ℕ) → ltb 0 (pending_of g.control) ≡ false → g.control.waits ≡ false → fetched code g.control.pc ≡ Fetches i len → in_range i ≡ true in
       plain_keeps e (subst (λ (g : FrameState). g.control.ps.callinc < 4) same calls) (subst P same ok) (subst (λ (g : FrameState). laid_use b fresh code live bytes rec s g ≡ None) same none)
-  keeps_all (Some x) e calls ok none =
+  keeps_full (Some x) e calls ok none =
       let same : laid (inputs_of rec) (current s.frame) ≡ laid (inputs_of rec) (inside x s.frame) = ap (λ (o : Option Nested). laid (inputs_of rec) (current_in o s.frame)) e in
       nested_keeps x e (subst (λ (g : FrameState). laid_use b fresh code live bytes rec s g ≡ None) same none)
+
+  -- and past a return that forgets registers
+  keeps_left : (i : Option Insn) (u : UseState) → KeepsAll lo hi s.frame u.frame → KeepsAll lo hi s.frame (left_after i s u).frame
+  keeps_left i u all =
+      let left = left_stack lo hi i s u k.shaped all.0 in
+      (left.0, moves_past s.frame s.frame u.frame (left_after i s u).frame refl refl left.1 left.2 all.1)
+
+  pub keeps_all : (o : Option Nested) → s.frame.nested ≡ o → (let g = laid (inputs_of rec) (current s.frame) in g.control.ps.callinc < 4
+      → ((i : Insn) (len : ℕ) → ltb 0 (pending_of g.control) ≡ false → g.control.waits ≡ false → fetched code g.control.pc ≡ Fetches i len → in_range i ≡ true)
+      → laid_use b fresh code live bytes rec s g ≡ None → KeepsAll lo hi s.frame (use_step code nested rec bytes s).after.frame)
+  keeps_all o e calls ok none = keeps_left _ (full_step code nested rec bytes s).after (keeps_full o e calls ok none)

@@ -1,6 +1,6 @@
 -- Up to the first breach of the stack discipline the machine of uses is that of frames.
-use Rattle.std.proofs.Common.{◌≡◌, ℕ, zero, suc, ◌<◌, ◌≤◌, Bool, true, false, not, ◌||◌, inl, inr, ⊎_elim, Option, None, sym, ap, ◌∙◌, subst, arith, Decides}
-use Rattle.std.proofs.lemmas.Bool.{both_ways, cases_lt, cond-true}
+use Rattle.std.proofs.Common.{◌≡◌, ℕ, zero, suc, ◌<◌, ◌≤◌, Bool, true, false, not, ◌||◌, ◌&&◌, leb, ltb, inl, inr, ⊎_elim, Option, None, refl, sym, ap, ◌∙◌, subst, arith, Decides}
+use Rattle.std.proofs.lemmas.Bool.{both_ways, cases_lt, cond-false, cond-true, or_from}
 use Rattle.xt_map.specs.Touching.{touches}
 use Rattle.xt_trace.specs.declared.record.StepRecord.{StepRecord}
 use Rattle.xt_fetch.specs.Fetching.{Fetched, fetched}
@@ -13,9 +13,11 @@ use Rattle.xt_frames.specs.Breaches.{breach_of, inputs_of}
 use Rattle.xt_frames.specs.Verdict.{is_nested}
 use Rattle.xt_frames.specs.FirstBreach.{Course, IsJudgedTurn, IsStale, IsTurn, Shows, frame_before, handler_shows, is_judged, live_before, mode_before, step_at}
 use Rattle.xt_frames.proofs.Prefixes.{before_or_at, own_frame}
-use Rattle.xt_uses.specs.UseState.{UseState, whole_masks}
+use Rattle.xt_uses.specs.Disciplines.{Lenient, is_strict}
+use Rattle.xt_uses.specs.UseState.{UseState, opens_unknown, rises_over, stack_pointer, whole_masks}
+use Rattle.xt_uses.proofs.Constant.{discipline_is}
 use Rattle.xt_uses.specs.UseStep.{use_step}
-use Rattle.xt_uses.specs.FirstUse.{HasLeft, History, IsHistory, IsLive, IsMask, IsStored, Opens, StoresByte, live_at, stored_byte, use_at}
+use Rattle.xt_uses.specs.FirstUse.{HasLeft, History, IsHistory, IsLive, IsMask, IsStored, Opens, StoresByte, gone_at, live_at, opening_mask, stored_byte, use_at}
 use Rattle.xt_uses.specs.UseLaws.{IsHidden, IsOrdinary, IsUnbroken, IsWholeAt, WholeIsFrames}
 use Rattle.xt_uses.proofs.WholeLists.{AreWords, InnerAreWords}
 use Rattle.xt_uses.proofs.CutWords.{frame_shaped, inner_words}
@@ -26,6 +28,10 @@ use Rattle.xt_uses.proofs.WholeStates.{IsWholeState, masks_whole, whole_opens}
 use Rattle.xt_uses.proofs.WholeSteps.{Steps}
 use Rattle.xt_uses.proofs.WholeTurns.{turn_steps}
 
+or_false : (b c : Bool) → c ≡ false → (b || c) ≡ b
+or_false true c e = refl
+or_false false c e = e
+
 -- ---- what holds up to turn p
 abbrev pub fetched_at : Course → ℕ → ℕ → StepRecord → Fetched
 fetched_at r i core rec = fetched r.code (laid (inputs_of rec) (current (frame_before r core i))).control.pc
@@ -35,7 +41,7 @@ pub record Agrees (r : Course) (h : History) (p : ℕ) : Type 0 where
   pub whole : (i core : ℕ) → i ≤ p → IsWholeState (frame_before r core i) (h.state core i).masks
   pub steps : (i core : ℕ) (rec : StepRecord) → i < p → IsJudgedTurn r i core rec → Steps (frame_before r core i) (fetched_at r i core rec) (step_at r i core rec) (use_at r h i core rec)
 
-module _ (r : Course) (h : History) (p : ℕ) (ordinary : IsOrdinary r) (is : IsHistory r h) (agrees : Agrees r h p) where
+module _ (r : Course) (h : History) (p : ℕ) (ordinary : IsOrdinary r) (is : IsHistory Lenient r h) (agrees : Agrees r h p) where
   pub live_same : (i a : ℕ) → i ≤ p → live_at r h i a ≡ live_before r i a
   live_same i a l = λ j. is_live (r.bounds 0).range (agrees.frame i 0 l j) a || is_live (r.bounds 1).range (agrees.frame i 1 l j) a
 
@@ -52,6 +58,22 @@ module _ (r : Course) (h : History) (p : ℕ) (ordinary : IsOrdinary r) (is : Is
   free_of : (from i a : ℕ) → ((j : ℕ) → from ≤ j → j ≤ p → live_at r h j a ≡ false) → from ≤ i → i ≤ p → live_before r i a ≡ true → ⊥
   free_of from i a free l u live = both_ways (live_before r i a) (sym (live_same i a u) ∙ free i l u) live
 
+  -- nothing is forgotten
+  never_gone : (i a : ℕ) → gone_at h i a ≡ false
+  never_gone i a =
+      or_from _ _
+      (ap (λ d. is_strict d && rises_over (stack_pointer (h.state 0 i)) (stack_pointer (h.state 0 (suc i))) a) (discipline_is Lenient r h is i 0))
+      (ap (λ d. is_strict d && rises_over (stack_pointer (h.state 1 i)) (stack_pointer (h.state 1 (suc i))) a) (discipline_is Lenient r h is i 1))
+
+  opens_known : (a : ℕ) → opening_mask r h a ≡ 255
+  opens_known a =
+      let s0 = h.state 0 0 in
+      let s1 = h.state 1 0 in
+      cond-false (opens_unknown (r.bounds 0).range s0 a || opens_unknown (r.bounds 1).range s1 a) 0 255
+      (or_from _ _
+      (ap (λ d. is_strict d && (leb (r.bounds 0).range.lo a && ltb a (stack_pointer s0))) (discipline_is Lenient r h is 0 0))
+      (ap (λ d. is_strict d && (leb (r.bounds 1).range.lo a && ltb a (stack_pointer s1))) (discipline_is Lenient r h is 0 1)))
+
   told : (a mask : ℕ) → IsMask r h p a mask → Told a mask
   told a mask (IsLive live none) = (λ hidden. none, λ n. absurd (n (inl (sym (live_same p a (omega arith)) ∙ live))))
   told a mask (HasLeft i l was free none e) = (
@@ -60,11 +82,11 @@ module _ (r : Course) (h : History) (p : ℕ) (ordinary : IsOrdinary r) (is : Is
       gone = sym (live_same p a (omega arith)) ∙ free p l (omega arith);
       once = i;
       earlier = l;
-      live = sym (live_same i a (omega (arith, l))) ∙ was;
+      live = sym (live_same i a (omega (arith, l))) ∙ (sym (or_false (live_at r h i a) (gone_at h i a) (never_gone i a)) ∙ was);
       since = λ j b u. none j b u;
     }))),
   )
-  told a mask (IsStored i l s free none) = (
+  told a mask (IsStored i l s free kept none) = (
     λ hidden. ⊎_elim
         (λ live. absurd (free_of i p a free (omega (arith, l)) (omega arith) live))
         (λ stale. ⊎_elim
@@ -74,12 +96,12 @@ module _ (r : Course) (h : History) (p : ℕ) (ordinary : IsOrdinary r) (is : Is
         hidden,
     λ n. stored_there i a mask l s,
   )
-  told a mask (Opens free none e) = (
+  told a mask (Opens free kept none e) = (
     λ hidden. ⊎_elim
         (λ live. absurd (free_of 0 p a free (omega arith) (omega arith) live))
         (λ stale. let earlier = stale.earlier in absurd (free_of 0 stale.once a free (omega arith) (omega (arith, earlier)) stale.live))
         hidden,
-    λ n. e,
+    λ n. e ∙ opens_known a,
   )
 
   pub byte_told : (a : ℕ) → Told a (h.mask p a)
@@ -110,7 +132,7 @@ module _ (r : Course) (h : History) (p : ℕ) (ordinary : IsOrdinary r) (is : Is
         (λ i. record { frame = sym (agrees.frame p core (omega arith)) i; masks = (h.state core p).masks })
         (turn_steps r.code (r.bounds core) (not shows.lost) (live_before r p) shows.stale (is_nested (mode_before r core p)) rec (h.mask p)
         (reply_known (live_before r p) shows.stale (h.mask p) (byte_known shows.stale shows.is_stale) rec.access)
-        (h.state core p).masks (frame_before r core p) (agrees.whole p core (omega arith)) none
+        (h.state core p).masks (frame_before r core p) (discipline_is Lenient r h is p core) (agrees.whole p core (omega arith)) none
         (subst (λ (f : FrameState). AreWords f.seen) next (frame_shaped r ordinary core (suc p)).seen)
         (subst (λ (f : FrameState). InnerAreWords f.nested) next (inner_words (frame_before r core (suc p)).nested (frame_shaped r ordinary core (suc p)).nested)))
 
@@ -147,13 +169,13 @@ module _ (r : Course) (h : History) (p : ℕ) (ordinary : IsOrdinary r) (is : Is
     }
 
 -- ---- the opening
-opening_stands : (r : Course) (h : History) (core : ℕ) → IsOrdinary r → IsHistory r h → ((h.state core 0).frame ≡ frame_before r core 0) × IsWholeState (frame_before r core 0) (h.state core 0).masks
+opening_stands : (r : Course) (h : History) (core : ℕ) → IsOrdinary r → IsHistory Lenient r h → ((h.state core 0).frame ≡ frame_before r core 0) × IsWholeState (frame_before r core 0) (h.state core 0).masks
 opening_stands r h core ordinary is =
     let o = ordinary.opens core in
     subst (λ (s : UseState). (s.frame ≡ frame_before r core 0) × IsWholeState (frame_before r core 0) s.masks) (sym (is.opens core))
-    (sym (opening_at r core), subst (λ f. IsWholeState f whole_masks) (sym (opening_at r core ∙ o.opens)) (whole_opens o.core o.pc o.vecbase o.stack_end))
+    (sym (opening_at r core), subst (λ f. IsWholeState f (whole_masks Lenient)) (sym (opening_at r core ∙ o.opens)) (whole_opens o.core o.pc o.vecbase o.stack_end))
 
-pub agrees_to : (r : Course) (h : History) (p : ℕ) → IsOrdinary r → IsHistory r h → IsUnbroken r p → Agrees r h p
+pub agrees_to : (r : Course) (h : History) (p : ℕ) → IsOrdinary r → IsHistory Lenient r h → IsUnbroken r p → Agrees r h p
 agrees_to r h zero ordinary is none = record {
   frame = λ i core l. subst (λ n. (h.state core n).frame ≡ frame_before r core n) {x = 0} (omega (arith, l)) (opening_stands r h core ordinary is).0;
   whole = λ i core l. subst (λ n. IsWholeState (frame_before r core n) (h.state core n).masks) {x = 0} (omega (arith, l)) (opening_stands r h core ordinary is).1;

@@ -16,6 +16,7 @@ use Rattle.xt_frames.specs.declared.holes.Nested.{Nested}
 use Rattle.xt_frames.specs.Frames.{Frame, FrameState, all_set, opening_frame, opening_seen, seen_after_call, seen_after_return, seen_after_write}
 use Rattle.xt_frames.specs.Marks.{holds_marks, marked_seen, marks_after, own_marks, saved_by, unset_by}
 use Rattle.xt_uses.specs.Words.{all_bits, mask_where}
+use Rattle.xt_uses.specs.Disciplines.{Lenient}
 use Rattle.xt_uses.specs.UseState.{Masks, whole_masks}
 use Rattle.xt_uses.specs.UseStep.{called, inner_unknown, pointer_written, returned, special_written, visible_written}
 use Rattle.xt_uses.specs.UseLaws.{InnerIsWhole, MasksAreWhole, number_mask}
@@ -334,7 +335,7 @@ special_high n h = ⊎_elim
     (λ q. let l = leb-true 244 n (and_parts (leb 244 n) (leb n 247) q).0 in omega (arith, l))
     (or_cases (leb 209 n && leb n 215) (leb 244 n && leb n 247) h)
 
-pub whole_opens : (core pc vecbase stack_end : ℕ) → IsWholeState (opening_frame core pc vecbase stack_end) whole_masks
+pub whole_opens : (core pc vecbase stack_end : ℕ) → IsWholeState (opening_frame core pc vecbase stack_end) (whole_masks Lenient)
 unfolding opening_seen all_set
 whole_opens core pc vecbase stack_end = record {
   seen_masks = refl;

@@ -14,7 +14,9 @@ use Rattle.xt_frames.specs.Breaches.{Bounds, breach_of, inputs_of, laid_breach, 
 use Rattle.xt_frames.specs.Judging.{step_on, value_in}
 use Rattle.xt_uses.specs.Words.{all_bits}
 use Rattle.xt_uses.specs.UseState.{Masks, UseState}
-use Rattle.xt_uses.specs.UseStep.{UseTurn, executed, inner_unknown, other_turn, reply_mask, turn_or, use_step, use_turn, value_step}
+use Rattle.xt_uses.specs.UseStep.{UseTurn, executed, full_step, inner_unknown, other_turn, reply_mask, turn_or, use_step, use_turn, value_step}
+use Rattle.xt_uses.specs.Disciplines.{Lenient}
+use Rattle.xt_uses.proofs.Returning.{lenient_left}
 use Rattle.xt_uses.proofs.WholeLists.{AreWords, InnerAreWords}
 use Rattle.xt_uses.proofs.WholeInner.{inner_holds}
 use Rattle.xt_uses.proofs.WholePlain.{plain_holds, plain_movsp}
@@ -89,10 +91,20 @@ module _ (code : ℕ → ℕ) (b : Bounds) (fresh : Bool) (live stale : ℕ → 
       (sym (and_right nested (is_nesting rec.kind && false) (and_right (is_nesting rec.kind) false refl)))
       (inner_steps f.seen f.frames f.control f.unset x w))
 
-  pub turn_steps : (f : FrameState) → IsWholeState f m → breach_of b fresh code live stale nested rec f ≡ None
+  full_turn : (f : FrameState) → IsWholeState f m → breach_of b fresh code live stale nested rec f ≡ None
+      → AreWords (step_on code nested rec f).after.seen → InnerAreWords (step_on code nested rec f).after.nested
+      → Steps f (at f) (step_on code nested rec f) (full_step code nested rec bytes (record { frame = f; masks = m }))
+  full_turn f w none words inner = with_nested f f.nested refl w none words inner
+
+  pub turn_steps : (f : FrameState) → m.discipline ≡ Lenient → IsWholeState f m → breach_of b fresh code live stale nested rec f ≡ None
       → AreWords (step_on code nested rec f).after.seen → InnerAreWords (step_on code nested rec f).after.nested
       → Steps f (at f) (step_on code nested rec f) (use_step code nested rec bytes (record { frame = f; masks = m }))
-  turn_steps f w none words inner = with_nested f f.nested refl w none words inner
+  turn_steps f lenient w none words inner =
+      let s : UseState = record { frame = f; masks = m } in
+      let t = full_step code nested rec bytes s in
+      subst (λ (u : UseState). Steps f (at f) (step_on code nested rec f) (record t { after = u }))
+      (sym (lenient_left (executed t.turn.kind (at f)) s t.after lenient))
+      (full_turn f w none words inner)
 
   -- ---- the values of the step are those of the machine of frames
   abbrev Same : FrameState → Bool → Type 0

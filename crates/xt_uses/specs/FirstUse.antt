@@ -20,7 +20,8 @@ use Rattle.xt_frames.specs.Breaches.{Bounds, inputs_of, writes_epc1}
 use Rattle.xt_frames.specs.Verdict.{is_nested}
 use Rattle.xt_frames.specs.FirstBreach.{Course, IsJudgedTurn, IsTurn, LeavesByte, Turn, is_judged}
 use Rattle.xt_frames.specs.FirstBreach.{mode_before, records_before}
-use Rattle.xt_uses.specs.UseState.{UseState, opening_use}
+use Rattle.xt_uses.specs.Disciplines.{Discipline}
+use Rattle.xt_uses.specs.UseState.{UseState, forgets, one_opens_unknown, opening_use}
 use Rattle.xt_uses.specs.UseStep.{UseTurn, carries, use_step}
 use Rattle.xt_uses.specs.UseBreaches.{use_breach, window_use}
 
@@ -43,6 +44,15 @@ live_at r h p a =
     is_live (r.bounds 0).range (h.state 0 p).frame a
     || is_live (r.bounds 1).range (h.state 1 p).frame a
 
+-- turn p forgets the byte
+abbrev pub gone_at : History → ℕ → ℕ → Bool
+gone_at h p a =
+    forgets (h.state 0 p) (h.state 0 (suc p)) a || forgets (h.state 1 p) (h.state 1 (suc p)) a
+
+-- the byte is live before turn p, or turn p forgets it
+abbrev pub lost_at : Course → History → ℕ → ℕ → Bool
+lost_at r h p a = live_at r h p a || gone_at h p a
+
 -- ---- the masks of bytes
 
 -- of the byte at an address, in a value that is stored from another address on
@@ -52,6 +62,10 @@ stored_byte mask addr a = mask / 2 ^ (8 * (a - addr)) % 2 ^ 8
 -- the byte is live before no turn from one on up to turn p
 abbrev pub StaysFree : Course → History → ℕ → ℕ → ℕ → Type 0
 StaysFree r h from p a = (i : ℕ) → from ≤ i → i ≤ p → live_at r h i a ≡ false
+
+-- no turn from one on and before turn p forgets the byte
+abbrev pub StaysKept : History → ℕ → ℕ → ℕ → Type 0
+StaysKept h from p a = (i : ℕ) → from ≤ i → i < p → gone_at h i a ≡ false
 
 -- no turn from one on and before turn p is a judged store that touches the byte
 abbrev pub StaysUnstored : Course → ℕ → ℕ → ℕ → Type 0
@@ -68,15 +82,22 @@ pub record StoresByte (r : Course) (h : History) (i a mask : ℕ) : Type 0 where
   pub touched : touches access.addr access.size a ≡ true
   pub bits : mask ≡ stored_byte (use_at r h i core rec).stored access.addr a
 
--- Before turn p a byte has this mask: it is live; it left its last live area at turn `once`; it was
--- last stored at turn `once`; or it has been as it opened.
+-- the mask with which the byte opens, where it is not live
+abbrev pub opening_mask : Course → History → ℕ → ℕ
+opening_mask r h a =
+    if one_opens_unknown (r.bounds 0).range (r.bounds 1).range (h.state 0 0) (h.state 1 0) a then 0
+    else 255
+
+-- Before turn p a byte has this mask: it is live; it left its last live area, or was forgotten, at
+-- turn `once`; it was last stored at turn `once`; or it has been as it opened.
 pub data IsMask (r : Course) (h : History) (p a mask : ℕ) : Type 0 where
   IsLive : live_at r h p a ≡ true → mask ≡ 0 → IsMask r h p a mask
-  HasLeft : (once : ℕ) → once < p → live_at r h once a ≡ true → StaysFree r h (suc once) p a
+  HasLeft : (once : ℕ) → once < p → lost_at r h once a ≡ true → StaysFree r h (suc once) p a
       → StaysUnstored r (suc once) p a → mask ≡ 0 → IsMask r h p a mask
   IsStored : (once : ℕ) → once < p → StoresByte r h once a mask → StaysFree r h once p a
-      → StaysUnstored r (suc once) p a → IsMask r h p a mask
-  Opens : StaysFree r h 0 p a → StaysUnstored r 0 p a → mask ≡ 255 → IsMask r h p a mask
+      → StaysKept h once p a → StaysUnstored r (suc once) p a → IsMask r h p a mask
+  Opens : StaysFree r h 0 p a → StaysKept h 0 p a → StaysUnstored r 0 p a
+      → mask ≡ opening_mask r h a → IsMask r h p a mask
 
 -- ---- the states of the cores
 
@@ -84,8 +105,8 @@ pub data IsMask (r : Course) (h : History) (p a mask : ℕ) : Type 0 where
 abbrev pub IsIdle : Course → ℕ → ℕ → Type 0
 IsIdle r core p = (rec : StepRecord) → IsJudgedTurn r p core rec → ⊥
 
-pub record IsHistory (r : Course) (h : History) : Type 0 where
-  pub opens : (core : ℕ) → h.state core 0 ≡ opening_use (r.opening core)
+pub record IsHistory (d : Discipline) (r : Course) (h : History) : Type 0 where
+  pub opens : (core : ℕ) → h.state core 0 ≡ opening_use d (r.opening core)
   pub steps :
       (p core : ℕ) (rec : StepRecord) → IsJudgedTurn r p core rec
       → h.state core (suc p) ≡ (use_at r h p core rec).after
@@ -195,9 +216,9 @@ carried r h core (suc p) = carried r h core p + carries_at r h core p (slice_get
 -- ---- the verdict, where the six window handlers pass their check
 
 pub record IsVerdict
-    (r : Course) (found : Option Breach) (carried0 carried1 : ℕ) : Type 0 where
+    (d : Discipline) (r : Course) (found : Option Breach) (carried0 carried1 : ℕ) : Type 0 where
   pub history : History
-  pub is_history : IsHistory r history
+  pub is_history : IsHistory d r history
   pub place : ℕ
   pub first : IsFirstUse r history place found
   pub counts0 : carried0 ≡ carried r history 0 place

@@ -1,3 +1,4 @@
+pub mod Disciplines
 pub mod Words
 pub mod Used
 pub mod Known

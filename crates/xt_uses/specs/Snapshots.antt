@@ -5,7 +5,8 @@ use Rattle.std.specs.Prelude.{slice_get}
 use Rattle.xt_frames.specs.FirstBreach.{Course, Turn, is_judged, mode_before}
 use Rattle.xt_frames.specs.SaveAreas.{is_live}
 use Rattle.xt_frames.specs.Verdict.{is_nested}
-use Rattle.xt_uses.specs.UseState.{UseState, opening_use}
+use Rattle.xt_uses.specs.Disciplines.{Discipline}
+use Rattle.xt_uses.specs.UseState.{UseState, forgets, one_opens_unknown, opening_use}
 use Rattle.xt_uses.specs.UseStep.{UseTurn, use_step}
 use Rattle.xt_uses.specs.FirstUse.{History}
 use Rattle.xt_uses.specs.UseWalk.{masks_after}
@@ -19,10 +20,24 @@ abbrev pub live_in : Course → (ℕ → UseState) → ℕ → Bool
 live_in r states a =
     is_live (r.bounds 0).range (states 0).frame a || is_live (r.bounds 1).range (states 1).frame a
 
-abbrev pub opening_snapshot : Course → Snapshot
-opening_snapshot r =
-    let states : ℕ → UseState = λ core. opening_use (r.opening core) in
-    record { states = states; mask = λ a. if live_in r states a then 0 else 255 }
+-- a step that leaves the cores so forgets the byte
+abbrev pub gone_in : (ℕ → UseState) → (ℕ → UseState) → ℕ → Bool
+gone_in states after a = forgets (states 0) (after 0) a || forgets (states 1) (after 1) a
+
+abbrev pub lost_in : Course → (ℕ → UseState) → (ℕ → UseState) → ℕ → Bool
+lost_in r states after a = live_in r states a || gone_in states after a
+
+abbrev pub opens_unknown_in : Course → (ℕ → UseState) → ℕ → Bool
+opens_unknown_in r states a =
+    one_opens_unknown (r.bounds 0).range (r.bounds 1).range (states 0) (states 1) a
+
+abbrev pub opening_snapshot : Discipline → Course → Snapshot
+opening_snapshot d r =
+    let states : ℕ → UseState = λ core. opening_use d (r.opening core) in
+    record {
+      states = states;
+      mask = λ a. if live_in r states a || opens_unknown_in r states a then 0 else 255;
+    }
 
 abbrev pub step_in : Course → ℕ → Turn → Snapshot → UseTurn
 step_in r p t s =
@@ -37,7 +52,7 @@ judged_past r p t s = record {
   mask =
       masks_after
       (live_in r (states_past r p t s))
-      (live_in r s.states)
+      (lost_in r s.states (states_past r p t s))
       (step_in r p t s).stored
       t.rec.access
       s.mask;
@@ -49,10 +64,10 @@ turn_past r p (Some t) s =
     if is_judged (mode_before r t.core p) t.rec.kind then judged_past r p t s else s
 
 -- before turn p
-abbrev pub snapshot : Course → ℕ → Snapshot
-snapshot r zero = opening_snapshot r
-snapshot r (suc p) = turn_past r p (slice_get r.turns p) (snapshot r p)
+abbrev pub snapshot : Discipline → Course → ℕ → Snapshot
+snapshot d r zero = opening_snapshot d r
+snapshot d r (suc p) = turn_past r p (slice_get r.turns p) (snapshot d r p)
 
-abbrev pub history_of : Course → History
-history_of r =
-    record { state = λ core p. (snapshot r p).states core; mask = λ p. (snapshot r p).mask }
+abbrev pub history_of : Discipline → Course → History
+history_of d r =
+    record { state = λ core p. (snapshot d r p).states core; mask = λ p. (snapshot d r p).mask }

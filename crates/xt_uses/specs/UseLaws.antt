@@ -38,6 +38,7 @@ use Rattle.xt_frames.specs.FirstBreach.{mode_before}
 use Rattle.xt_frames.specs.Judging.{place_on}
 use Rattle.xt_frames.specs.Marks.{holds_marks}
 use Rattle.xt_frames.specs.Verdict.{IsFrameTrace, is_nested}
+use Rattle.xt_uses.specs.Disciplines.{Discipline, Lenient}
 use Rattle.xt_uses.specs.Words.{Fits, Word, all_bits, cut, is_whole, mask_where}
 use Rattle.xt_uses.specs.Used.{low_bits, used_are_known}
 use Rattle.xt_uses.specs.Known.{loaded_mask, result_mask}
@@ -202,7 +203,8 @@ pub record FitsStep
 -- of each judged record before the first breach
 abbrev pub IsUseRun : Course → MemoryContents → Type 0
 IsUseRun r opening =
-    (h : History) (q : ℕ) (found : Option Breach) → IsHistory r h → IsFirstUse r h q found
+    (d : Discipline) (h : History) (q : ℕ) (found : Option Breach)
+    → IsHistory d r h → IsFirstUse r h q found
     → (p core : ℕ) (rec : StepRecord) → p < q → IsJudgedTurn r p core rec
     → FitsStep r h opening p core rec
 
@@ -210,8 +212,8 @@ IsUseRun r opening =
 
 abbrev pub VerdictIsOne : Type 0
 VerdictIsOne =
-    (r : Course) (one other : Option Breach) (n m k l : ℕ)
-    → IsVerdict r one n m → IsVerdict r other k l → (one ≡ other) × (n ≡ k) × (m ≡ l)
+    (d : Discipline) (r : Course) (one other : Option Breach) (n m k l : ℕ)
+    → IsVerdict d r one n m → IsVerdict d r other k l → (one ≡ other) × (n ≡ k) × (m ≡ l)
 
 -- ---- where the stack discipline shows no breach, the machine of uses is that of frames, and what
 -- has no number there is what is not known here
@@ -275,7 +277,7 @@ IsUnbroken r p =
 abbrev pub WholeIsFrames : Type 0
 WholeIsFrames =
     (r : Course) (h : History) (p : ℕ)
-    → IsOrdinary r → IsHistory r h → IsUnbroken r p → IsWholeAt r h p
+    → IsOrdinary r → IsHistory Lenient r h → IsUnbroken r p → IsWholeAt r h p
 
 -- ---- a bit that is not known is 0 in the value, and of what has no number nothing is known
 
@@ -316,8 +318,8 @@ IsUnused r h p =
 
 abbrev pub ValuesAreCut : Type 0
 ValuesAreCut =
-    (r : Course) (h : History) (p core : ℕ)
-    → IsOrdinary r → IsHistory r h → IsUnused r h p
+    (d : Discipline) (r : Course) (h : History) (p core : ℕ)
+    → IsOrdinary r → IsHistory d r h → IsUnused r h p
     → IsCutState (h.state core p).frame (h.state core p).masks
 
 -- ---- no breach of uses comes before one of the stack discipline
@@ -325,7 +327,7 @@ ValuesAreCut =
 abbrev pub UsesAreLater : Type 0
 UsesAreLater =
     (r : Course) (h : History) (p q : ℕ) (breach found : Option Breach)
-    → IsOrdinary r → IsHistory r h → IsFirstBreach r p breach → IsFirstUse r h q found
+    → IsOrdinary r → IsHistory Lenient r h → IsFirstBreach r p breach → IsFirstUse r h q found
     → (p ≤ q)
     × (breach ≡ None → (found ≡ None) × (carried r h 0 q ≡ 0) × (carried r h 1 q ≡ 0))
 
@@ -348,7 +350,7 @@ abbrev pub UseRunIsFrameRun : Type 0
 UseRunIsFrameRun =
     (r : Course) (h : History) (opening : MemoryContents) (p q : ℕ) (breach found : Option Breach)
     → IsOrdinary r → TellsWords r → IsMemory opening
-    → IsHistory r h → IsFirstBreach r p breach → IsFirstUse r h q found → IsUseRun r opening
+    → IsHistory Lenient r h → IsFirstBreach r p breach → IsFirstUse r h q found → IsUseRun r opening
     → IsFrameTrace r.code (r.opening 0) (judged_before r 0 p)
     × IsFrameTrace r.code (r.opening 1) (judged_before r 1 p)
     × IsLegal opening (entries_before r p)

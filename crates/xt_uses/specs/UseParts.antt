@@ -1,7 +1,8 @@
 -- Carries a proof; nothing that a reader must believe.
 -- How the program keeps a state of the machine of uses, and what its functions answer.
-use Rattle.std.specs.Prelude.{◌≡◌, ℕ, ◌+◌, ◌*◌, ◌<◌, Bool, true, ◌&&◌, ◌==◌, Option}
-use Rattle.std.specs.Prelude.{Some, None, Result, Ok, Err, List, [], ◌∷◌, map, reverse, take}
+use Rattle.std.specs.Prelude.{◌≡◌, ℕ, suc, ◌+◌, ◌*◌, ◌<◌, Bool, true, ◌&&◌, ◌||◌, ◌==◌, nat_le, Option}
+use Rattle.std.specs.Prelude.{Some, None, if◌then◌else◌, Result, Ok, Err, List, [], ◌∷◌, map}
+use Rattle.std.specs.Prelude.{reverse, slice_set, take}
 use Rattle.xt_isa.specs.declared.Insn.{Insn}
 use Rattle.xt_isa.specs.declared.Insn.TheVariants as insn
 use Rattle.xt_isa.specs.declared.shift.Shift.TheVariants as shift
@@ -37,9 +38,11 @@ use Rattle.xt_uses.specs.declared.told.Stopped.{Stopped}
 use Rattle.xt_uses.specs.declared.told.Stopped.TheVariants.{Breaks, NoMemory}
 use Rattle.xt_uses.specs.declared.stepping.Done.{Done}
 use Rattle.xt_uses.specs.declared.stepping.Made.{Made}
+use Rattle.xt_uses.specs.declared.stepping.Top.{Top}
+use Rattle.xt_uses.specs.Disciplines.{Discipline}
 use Rattle.xt_uses.specs.Words.{all_bits}
 use Rattle.xt_uses.specs.UseState.{Masks, UseState, opening_use, special_mask}
-use Rattle.xt_uses.specs.UseStep.{carries, reply_mask, use_step}
+use Rattle.xt_uses.specs.UseStep.{carries, is_left, reply_mask, use_step}
 use Rattle.xt_uses.specs.UseBreaches.{swaps_unknown, use_breach}
 
 -- ---- the masks of the frames that have called are kept with their sizes, the oldest first
@@ -52,6 +55,7 @@ kept_of kept = reverse (map kept_mask kept)
 
 abbrev pub masks_at : List (List ℕ) → TopMasks → Masks
 masks_at kept m = record {
+  discipline = m.discipline;
   seen = m.seen;
   kept = kept;
   special = m.special;
@@ -96,7 +100,21 @@ abbrev pub mask_of : Masks → Option ℕ → ℕ
 mask_of m None = all_bits
 mask_of m (Some n) = special_mask m n
 
+-- ---- what a return leaves, where the registers before number n have been gone over
+
+abbrev pub forgot_to : {A : Type 0} → A → ℕ → ℕ → ℕ → List A → List A
+forgot_to none first n i [] = []
+forgot_to none first n i (x ∷ xs) =
+    (if is_left first i || nat_le n i then x else none) ∷ forgot_to none first n (suc i) xs
+
 -- ---- a state without its lists of frames
+
+-- nothing is known of a visible register
+abbrev pub without_register : ℕ → Top → Top
+without_register i t = record t {
+  view = record t.view { seen = slice_set t.view.seen i None };
+  masks = record t.masks { seen = slice_set t.masks.seen i 0 };
+}
 
 abbrev pub use_at : List Frame → List (List ℕ) → Holes → Upper → TopMasks → UseState
 use_at frames kept h v m = record { frame = state_at frames h v; masks = masks_at kept m }
@@ -220,14 +238,14 @@ pub record UseWalked : Type 0 where
 abbrev pub fresh_at : UseWalked → ℕ → Bool
 fresh_at w index = w.fresh && (w.next == index)
 
-abbrev pub opened_use : ℕ → ℕ → Options → UseWalked
-opened_use core pc o = record {
+abbrev pub opened_use : Discipline → ℕ → ℕ → Options → UseWalked
+opened_use d core pc o = record {
   core = core;
   bounds = record {
     range = record { lo = (stack_of core o).lo; hi = (stack_of core o).hi };
     vecbase = o.vecbase;
   };
-  state = opening_use (opening_frame core pc o.vecbase (stack_of core o).hi);
+  state = opening_use d (opening_frame core pc o.vecbase (stack_of core o).hi);
   fresh = true;
   next = 0;
 }

@@ -14,7 +14,8 @@ use Rattle.xt_frames.specs.Frames.{FrameState}
 use Rattle.xt_frames.specs.HandlerSteps.{Mode, Plain, Handles, Nests, is_window, mode_after}
 use Rattle.xt_frames.specs.Nesting.{is_nesting}
 use Rattle.xt_frames.specs.SaveAreas.{is_live}
-use Rattle.xt_uses.specs.UseState.{UseState, opening_use}
+use Rattle.xt_uses.specs.Disciplines.{Discipline}
+use Rattle.xt_uses.specs.UseState.{UseState, forgets, one_opens_unknown, opening_use}
 use Rattle.xt_uses.specs.UseStep.{carries, use_step}
 use Rattle.xt_uses.specs.UseBreaches.{use_breach, window_use}
 use Rattle.xt_uses.specs.UseParts.{fresh_use}
@@ -28,11 +29,11 @@ mask_stored stored None masks a = masks a
 mask_stored stored (Some x) masks a =
     if is_store x.kind && touches x.addr x.size a then stored_byte stored x.addr a else masks a
 
--- nothing is known of a byte that is live, or was live before the step
+-- nothing is known of a byte that is live, or was live before the step, or that the step forgets
 abbrev pub masks_after :
     (ℕ → Bool) → (ℕ → Bool) → ℕ → Option Access → (ℕ → ℕ) → ℕ → ℕ
-masks_after now before stored access masks a =
-    if now a || before a then 0 else mask_stored stored access masks a
+masks_after now lost stored access masks a =
+    if now a || lost a then 0 else mask_stored stored access masks a
 
 -- ---- one core
 
@@ -44,9 +45,9 @@ pub record UseStanding : Type 0 where
   pub steps : ℕ
   pub carried : ℕ
 
-abbrev pub opening_use_standing : FrameState → UseStanding
-opening_use_standing f =
-    record { state = opening_use f; fresh = true; mode = Plain; steps = 0; carried = 0 }
+abbrev pub opening_use_standing : Discipline → FrameState → UseStanding
+opening_use_standing d f =
+    record { state = opening_use d f; fresh = true; mode = Plain; steps = 0; carried = 0 }
 
 -- a record that was seen: a handler step; a judged step, with the masks of bytes after it; or the
 -- first breach
@@ -76,6 +77,10 @@ standing_past code st masks nested rec =
 abbrev pub live_with : Bounds → FrameState → (ℕ → Bool) → ℕ → Bool
 live_with b f others a = is_live b.range f a || others a
 
+-- a byte that was live before the step, which leaves the core so, or that it forgets
+abbrev pub lost_with : Bounds → UseState → UseState → (ℕ → Bool) → ℕ → Bool
+lost_with b s after others a = live_with b s.frame others a || forgets s after a
+
 abbrev pub use_seen_step :
     Option BreachKind → (ℕ → ℕ) → Bounds → UseStanding → (ℕ → Bool) → (ℕ → ℕ) → Bool
     → StepRecord → UseSeen
@@ -86,7 +91,7 @@ use_seen_step None code b st others masks nested rec =
     (standing_past code st masks nested rec)
     (masks_after
     (live_with b u.after.frame others)
-    (live_with b st.state.frame others)
+    (lost_with b st.state u.after others)
     u.stored
     rec.access
     masks)
@@ -143,16 +148,21 @@ pub record UseKnown : Type 0 where
   pub second : UseStanding
   pub masks : ℕ → ℕ
 
--- a byte that is live as both cores open is not known
-abbrev pub opening_masks : Bounds → Bounds → FrameState → FrameState → ℕ → ℕ
-opening_masks b0 b1 f0 f1 a =
-    if is_live b0.range f0 a || is_live b1.range f1 a then 0 else 255
+-- as both cores open, a byte that is live is not known; nor is in the strict discipline one below
+-- its stack pointer
+abbrev pub opening_masks : Discipline → Bounds → Bounds → FrameState → FrameState → ℕ → ℕ
+opening_masks d b0 b1 f0 f1 a =
+    if (is_live b0.range f0 a || is_live b1.range f1 a)
+    || one_opens_unknown b0.range b1.range (opening_use d f0) (opening_use d f1) a
+    then 0
+    else 255
 
-abbrev pub opening_use_known : Bounds → Bounds → FrameState → FrameState → UseKnown
-opening_use_known b0 b1 f0 f1 = record {
-  first = opening_use_standing f0;
-  second = opening_use_standing f1;
-  masks = opening_masks b0 b1 f0 f1;
+abbrev pub opening_use_known :
+    Discipline → Bounds → Bounds → FrameState → FrameState → UseKnown
+opening_use_known d b0 b1 f0 f1 = record {
+  first = opening_use_standing d f0;
+  second = opening_use_standing d f1;
+  masks = opening_masks d b0 b1 f0 f1;
 }
 
 -- how the walk ends: what is known then, and the breach
@@ -194,9 +204,9 @@ use_judgement code b0 b1 (suc core ∷ cores) xs (y ∷ ys) k =
 -- ---- what the walk finds
 
 -- the first breach of the run, the states of both cores there, and what they have carried
-pub record IsUseJudgement (r : Course) (j : UseJudgement) : Type 0 where
+pub record IsUseJudgement (d : Discipline) (r : Course) (j : UseJudgement) : Type 0 where
   pub history : History
-  pub is_history : IsHistory r history
+  pub is_history : IsHistory d r history
   pub place : ℕ
   pub finds : IsFirstUse r history place j.breach
   pub state0 : history.state 0 place ≡ j.known.first.state
@@ -206,12 +216,14 @@ pub record IsUseJudgement (r : Course) (j : UseJudgement) : Type 0 where
 
 abbrev pub WalkFindsFirstUse : Type 0
 WalkFindsFirstUse =
-    (code : ℕ → ℕ) (b0 b1 : Bounds) (cores : List ℕ) (xs ys : List StepRecord) (f0 f1 : FrameState)
+    (d : Discipline) (code : ℕ → ℕ) (b0 b1 : Bounds) (cores : List ℕ) (xs ys : List StepRecord)
+    (f0 f1 : FrameState)
     → IsUseJudgement
+    d
     (record {
       code = code;
       bounds = by_core b0 b1;
       opening = by_core f0 f1;
       turns = turns cores xs ys;
     })
-    (use_judgement code b0 b1 cores xs ys (opening_use_known b0 b1 f0 f1))
+    (use_judgement code b0 b1 cores xs ys (opening_use_known d b0 b1 f0 f1))

@@ -16,10 +16,12 @@ ghost use Rattle.xt_frames.specs.Walked.{bounds_of, calls_in, sp_in, stack_of};
 ghost use Rattle.xt_frames.specs.declared.holes.Holes.{Holes};
 ghost use Rattle.xt_uses.specs.Lacks.{lack_of, lacks_among, lacks_before, mark_in};
 ghost use Rattle.xt_uses.specs.UseBreaches.{use_breach, window_use};
+ghost use Rattle.xt_uses.specs.UseState.{is_strict_in};
 ghost use Rattle.xt_uses.specs.Words.{all_bits};
 ghost use Rattle.xt_uses.specs.UseQuick.{StandsStill};
 ghost use Rattle.xt_uses.specs.UseParts.{AreFew, IsNewestMasks, IsTouched, IsUseJudged, IsUseTested, KeepsFew, UseMoves, fresh_at, kept_after, kept_of, opened_use};
 
+use crate::discipline::{Discipline, is_strict};
 use crate::lacking::Lack;
 use crate::masks::{Keep, KeptMasks, TopMasks};
 use crate::stepping::Top;
@@ -123,16 +125,22 @@ fn mark_in(nested: &Option<Nested>, number: u8) -> Option<u8>
 }
 
 impl UseCore {
-    /// A core as it opens, at `pc`. It takes all memory that its frames ever need: room for (HI - LO)/16 + 2 of them. The only error
+    /// A core of this discipline as it opens, at `pc`. It takes all memory that its frames ever need: room for (HI - LO)/16 + 2 of them. The only error
     /// is running out of memory.
     ///
     /// Conditions: the core is 0 or 1, `vecbase` is a multiple of 1024, and the core's stack range is one of multiples of 16 below
     /// 2^30, of 256 bytes at least.
-    pub fn make(alloc: Global, core: u8, pc: u32, options: &Options) -> Result<UseCore, AllocError>
+    pub fn make(
+        alloc: Global,
+        discipline: Discipline,
+        core: u8,
+        pc: u32,
+        options: &Options,
+    ) -> Result<UseCore, AllocError>
         requires core { core < 2 }
         requires vecbase { options.now.vecbase % 2 ^ 10 ≡ 0 }
         requires stack { IsRange (stack_of core options.now).lo (stack_of core options.now).hi }
-        ensures { IfOk result (λ c. c ≡ opened_use core pc options.now) }
+        ensures { IfOk result (λ c. c ≡ opened_use discipline core pc options.now) }
     {
         let stack = stack_of(core, options);
         let room = (stack.hi - stack.lo) / 16 + 2;
@@ -151,7 +159,7 @@ impl UseCore {
                     unset: [false; 256],
                     nested: None,
                 },
-                masks: TopMasks::whole(),
+                masks: TopMasks::whole(discipline),
             },
             callers,
             kept,
@@ -301,6 +309,13 @@ impl UseCore {
             Some(kind) => Err(self.breach(index, kind)),
             None => Ok(()),
         }
+    }
+
+    /// Whether its discipline is the strict one.
+    pub fn is_strict(&self) -> bool
+        ensures { result ≡ is_strict_in self.now.state }
+    {
+        is_strict(self.top.masks.discipline)
     }
 
     /// How many frames have called another.

@@ -2,9 +2,11 @@
 #![tactic(auto)]
 
 mod cores;
+mod discipline;
 mod known;
 mod lacking;
 pub mod laws;
+mod leaving;
 mod masks;
 mod quick;
 mod stepping;
@@ -14,6 +16,7 @@ mod used;
 mod words;
 
 pub use cores::UseCore;
+pub use discipline::Discipline;
 pub use known::result_mask;
 pub use lacking::Lack;
 pub use testing::Touched;

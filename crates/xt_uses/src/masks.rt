@@ -14,6 +14,7 @@ ghost use Rattle.xt_uses.specs.UseParts.{AreFew, IsNewestMasks, KeepsFew, kept_a
 ghost use Rattle.xt_uses.specs.UseQuick.{AreWhole};
 ghost use Rattle.xt_uses.specs.Words.{all_bits};
 
+use crate::discipline::Discipline;
 use crate::used::keeps_unknown;
 use crate::words::{ALL_BITS, Word, whole_word};
 use xt_frames::{Holes, View, is_return, moved_to};
@@ -46,6 +47,8 @@ pub enum Keep {
 /// The masks but for those of the frames that have called.
 #[derive(Drop)]
 pub struct TopMasks {
+    /// By which discipline.
+    pub discipline: Discipline,
     /// Of the 16 visible registers.
     pub seen: [u32; 16],
     /// Of EXCSAVE1 to EXCSAVE7 and MISC0 to MISC3, by the number of the special register.
@@ -129,10 +132,11 @@ fn is_entry(i: Insn) -> bool
 
 impl TopMasks {
     /// All is known.
-    pub fn whole() -> TopMasks
-        ensures { masks_at [] result ≡ whole_masks }
+    pub fn whole(discipline: Discipline) -> TopMasks
+        ensures { masks_at [] result ≡ whole_masks discipline }
     {
         TopMasks {
+            discipline,
             seen: [ALL_BITS; 16],
             special: [ALL_BITS; 256],
             threadptr: ALL_BITS,

@@ -20,9 +20,10 @@ ghost use Rattle.xt_frames.specs.Stacks.{Stack};
 ghost use Rattle.xt_frames.specs.declared.view.Call.TheVariants.{Stays};
 ghost use Rattle.xt_uses.specs.declared.masks.Keep.TheVariants as keep;
 ghost use Rattle.xt_uses.specs.Words.{all_bits};
-ghost use Rattle.xt_uses.specs.UseStep.{cut_number, cut_state, executed, insn_turn, movsp_of, receives_mark, reply_mask, stores_unknown, turn_or, use_step, use_turn, value_step};
+ghost use Rattle.xt_uses.specs.UseStep.{cut_number, cut_state, executed, forgets_registers, insn_turn, movsp_of, receives_mark, reply_mask, stores_unknown, turn_or, use_step, use_turn, value_step};
 ghost use Rattle.xt_uses.specs.UseParts.{AreFew, IsNewestMasks, IsTouched, IsUseCase, IsUseDone, IsUseKept, IsTaken, KeepsFew, call_in, kept_after, masks_at, register_of, plan_movsp, settled_in, use_at, use_found_by, write_where};
 
+use crate::discipline::{Discipline, is_strict};
 use crate::known::result_mask;
 use crate::masks::{Keep, KeptMasks, TopMasks};
 use crate::testing::{Touched, use_breach};
@@ -30,7 +31,7 @@ use crate::words::ALL_BITS;
 use xt_codec::Fetch;
 use xt_frames::{
     BreachKind, Call, Case, Holes, Plan, Step, View, begin, fresh_after, give_numbers, go_on,
-    is_nesting, mark_read, planned,
+    is_nesting, is_return, mark_read, planned,
 };
 use xt_isa::Insn;
 use xt_isa::shift::Shift;
@@ -70,7 +71,7 @@ struct Made {
 }
 
 /// What the masks leave of a step: the mask of the register that is written, that of the value that is stored, whether it receives a
-/// mark, and the write that is cut.
+/// mark, the write that is cut, and whether it is a return that forgets registers.
 #[derive(Clone, Copy)]
 struct Masked {
     keep: Keep,
@@ -78,6 +79,7 @@ struct Masked {
     stored: u32,
     marked: bool,
     write: Option<RegWrite>,
+    forgets: bool,
 }
 
 /// Whether a record of this kind begins a nested interrupt where none has begun.
@@ -151,6 +153,13 @@ fn stores_unknown(stored: u32, access: Option<Access>) -> bool
         },
         None => false,
     }
+}
+
+/// Whether this is a return of the strict discipline.
+fn forgets_registers(discipline: Discipline, i: Insn) -> bool
+    ensures { result ≡ forgets_registers discipline (Some i) }
+{
+    is_strict(discipline) && is_return(i)
 }
 
 impl Made {
@@ -247,11 +256,13 @@ impl Top {
             → masks_at (kept_after result.keep kept) self.new.masks ≡ (insn_turn i reply (use_at frames kept self.old.holes v self.old.masks) (state_at frames self.old.holes made.now.before) u).after.masks }
         ensures few { KeepsFew result.keep }
         ensures marked { result.marked ≡ receives_mark (Some i) self.old.holes.nested }
+        ensures forgets { result.forgets ≡ forgets_registers self.old.masks.discipline (Some i) }
         ensures write { result.write ≡ made.now.step.write }
         ensures holes { self.new.holes ≡ self.old.holes }
         ensures view { self.new.view ≡ self.old.view }
     {
         let marked = receives_mark(i, &self.holes);
+        let forgets = forgets_registers(self.masks.discipline, i);
         let operands = self.masks.operands(i, &made.before, &self.holes);
         let mask = result_mask(
             i,
@@ -276,6 +287,7 @@ impl Top {
             stored: operands.y.mask,
             marked,
             write: made.step.write,
+            forgets,
         }
     }
 
@@ -297,6 +309,8 @@ impl Top {
         ensures few { KeepsFew result.keep }
         ensures marked { (code : ℕ → ℕ) → IsPlan made.now.plan code made.now.before.control → IsKindOf made.now.plan made.now.step.kind
             → result.marked ≡ receives_mark (executed made.now.step.kind (fetched code made.now.before.control.pc)) self.old.holes.nested }
+        ensures forgets { (code : ℕ → ℕ) → IsPlan made.now.plan code made.now.before.control → IsKindOf made.now.plan made.now.step.kind
+            → result.forgets ≡ forgets_registers self.old.masks.discipline (executed made.now.step.kind (fetched code made.now.before.control.pc)) }
         ensures cut { (code : ℕ → ℕ) → IsPlan made.now.plan code made.now.before.control → IsKindOf made.now.plan made.now.step.kind
             → result.write ≡ write_where (executed made.now.step.kind (fetched code made.now.before.control.pc)) made.now.step.write }
         ensures proper { IsProperWrite IsAny result.write }
@@ -311,6 +325,7 @@ impl Top {
                 stored: ALL_BITS,
                 marked: false,
                 write: None,
+                forgets: false,
             },
         }
     }
@@ -402,6 +417,7 @@ impl Top {
         requires good { IsGood made.now.plan }
         requires write { IsProperWrite IsAny made.now.step.write }
         requires kind { IsKindOf made.now.plan made.now.step.kind }
+        requires small { IsSmall case.now.newest }
         requires few { AreFew newest.now }
         requires ps { IfSome self.old.holes.nested (λ x. IsPs x.ps) }
         requires access { IfSome rec.now.access (λ a. is_mapped a ≡ true) }
@@ -409,7 +425,7 @@ impl Top {
         ensures call { result.call ≡ call_in self.old.holes.nested made.now.step.call }
         ensures few { KeepsFew result.keep }
         ensures taken { (nested : Bool) (frames : List Frame) (kept : List (List ℕ)) (bytes : ℕ → ℕ)
-            → IsNewestMasks newest.now kept → reply_mask bytes rec.now.access ≡ touched.now.reply
+            → IsNewest case.now.newest frames → IsNewestMasks newest.now kept → reply_mask bytes rec.now.access ≡ touched.now.reply
             → begins nested rec.now.kind (state_at frames self.old.holes self.old.view) ≡ false
             → state_at frames self.old.holes made.now.before ≡ laid (inputs_of rec.now) (current (state_at frames self.old.holes self.old.view))
             → settled_in self.old.holes.nested (constant_byte code.now) (value_in rec.now.write) made.now frames self.old.holes self.old.view ≡ value_step (constant_byte code.now) false (value_in rec.now.write) (inputs_of rec.now) (state_at frames self.old.holes self.old.view)
@@ -418,6 +434,7 @@ impl Top {
         let masked = self.mask(made, touched.reply, newest);
         let call = self.settle(code, made);
         self.cut(masked.write, masked.mask);
+        self.leave(masked.forgets, &case.newest);
         self.done(case, code, rec, made, masked, call)
     }
 

@@ -35,4 +35,4 @@ returns c =
     ap (λ (fs : List Frame). F (state_at fs no_holes c.open.result) (masks_at kept top)) (frames_none c.in_ok-callers.callers.items (ap length c.in_ok-callers.ensures.items))
     ∙ (ap (λ (ks : List (List ℕ)). F (state_at [] no_holes c.open.result) (masks_at ks top)) (kept_none c.in_ok-kept.kept.items (ap length c.in_ok-kept.ensures.items))
     ∙ (ap (λ (m : Masks). F (state_at [] no_holes c.open.result) m) c.whole.ensures
-    ∙ (ap (λ (st : FrameState). F st whole_masks) c.open.ensures ∙ ap (λ (r : Stack). G r whole_masks) c.stack_of-stack.ensures)))
+    ∙ (ap (λ (st : FrameState). F st (whole_masks c.args.discipline)) c.open.ensures ∙ ap (λ (r : Stack). G r (whole_masks c.args.discipline)) c.stack_of-stack.ensures)))

@@ -100,7 +100,7 @@ returns-clause-done c = λ frames kept live bytes case touched newest.
     ∙ (ap (λ (u : FrameTurn). turn_or (movsp_of code (state_at frames h first.before)) u) (m.turn frames h case.newest) ∙ sym (ap T same)) in
     let value = settled_is_value h.nested code (value_in rec.write) rec frames h top.view moved refl found turn in (
       cond-false (begins c.args.nested rec.kind s.frame) None _ off ∙ (ap (laid_use b fresh code live bytes rec s) (sym (m.found frames)) ∙ (sym none ∙ c.in_default.is)),
-      c.take.ensures.taken c.args.nested frames kept bytes newest touched.reply off found value,
+      c.take.ensures.taken c.args.nested frames kept bytes case.newest newest touched.reply off found value,
     )
 
 pub returns-clause-kept : goal.returns-clause-kept

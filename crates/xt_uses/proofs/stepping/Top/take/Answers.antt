@@ -1,9 +1,10 @@
-use Rattle.std.specs.Prelude.{is_some}
-use Rattle.std.proofs.Common.{◌≡◌, ◌||◌, ◌&&◌, ℕ, Bool, false, not, eqb, Option, sym, ◌∙◌, ap}
+use Rattle.std.specs.Prelude.{IfSome, is_some}
+use Rattle.std.proofs.Common.{◌≡◌, ◌||◌, ◌&&◌, ℕ, Bool, false, not, cond, eqb, Option, sym, ◌∙◌, ap, subst}
 use Rattle.std.proofs.lemmas.Bool.{cond-false}
 use Rattle.xt_isa.specs.declared.Insn.{Insn}
 use Rattle.xt_map.specs.Memory.{constant_byte}
 use Rattle.xt_special.specs.declared.ps.Ps.{Ps}
+use Rattle.xt_special.specs.Shape.{IsPs}
 use Rattle.xt_trace.specs.declared.record.RegWrite.{RegWrite}
 use Rattle.xt_trace.specs.declared.record.StepKind.{StepKind}
 use Rattle.xt_fetch.specs.Fetching.{Fetched, fetched}
@@ -18,19 +19,19 @@ use Rattle.xt_frames.specs.Parts.{Upper, frames_after, state_at}
 use Rattle.xt_uses.specs.declared.masks.Keep.{Keep}
 use Rattle.xt_uses.specs.Words.{all_bits}
 use Rattle.xt_uses.specs.UseState.{Masks, UseState}
-use Rattle.xt_uses.specs.UseStep.{UseTurn, carries, cut_state, executed, receives_mark, reply_mask, stores_unknown, use_step, use_turn, value_step}
+use Rattle.xt_uses.specs.UseStep.{UseTurn, carries, cut_state, executed, full_step, leave_results, left_after, receives_mark, reply_mask, stores_unknown, use_step, use_turn, value_step}
 use Rattle.xt_uses.specs.UseParts.{call_in, kept_after, masks_at, register_of, settled_in, use_at}
 use Rattle.xt_uses.proofs.UseSteps.{settled_kind, settled_register, turn_frame, turn_kind, turn_write}
 use Rattle.xt_uses.proofs.stepping.Top.take.Goals as goal
 
 pub returns-clause-ps : goal.returns-clause-ps
-returns-clause-ps c = c.cut.ensures.ps (c.settle-call.ensures.ps (rw c.mask-masked.ensures.holes c.requires.ps))
+returns-clause-ps c = subst (λ (h : Holes). IfSome h.nested (λ x. IsPs x.ps)) (sym c.leave.ensures.holes) (c.cut.ensures.ps (c.settle-call.ensures.ps (rw c.mask-masked.ensures.holes c.requires.ps)))
 
 pub returns-clause-call : goal.returns-clause-call
 returns-clause-call c = c.done.ensures.call ∙ (c.settle-call.ensures.call ∙ ap (λ (h : Holes). call_in h.nested c.args.made.now.step.call) c.mask-masked.ensures.holes)
 
 pub returns-clause-taken : goal.returns-clause-taken
-returns-clause-taken c = λ nested frames kept bytes newest reply off found value.
+returns-clause-taken c = λ nested frames kept bytes caller newest reply off found value.
     let code = constant_byte c.args.code.now in
     let rec = c.args.rec.now in
     let made = c.args.made.now in
@@ -56,32 +57,44 @@ returns-clause-taken c = λ nested frames kept bytes newest reply off found valu
     let T : Option Insn → ℕ → FrameState → UseTurn = λ j n x. use_turn j n s x u in
     let pcs : fetched code f.control.pc ≡ at = ap (λ (x : FrameState). fetched code x.control.pc) (sym found) in
     let insns : executed u.kind (fetched code f.control.pc) ≡ i = ap (λ (k : StepKind). executed k (fetched code f.control.pc)) kinds ∙ ap (executed made.step.kind) pcs in
-    let step : use_step code nested rec bytes s ≡ t =
+    let insn : executed t.turn.kind (fetched code f.control.pc) ≡ i = ap (λ (k : StepKind). executed k (fetched code f.control.pc)) (turn_kind i r s g u) ∙ insns in
+    let w : UseTurn = record t { after = left_after i s t.after } in
+    let full : full_step code nested rec bytes s ≡ t =
     cond-false (begins nested rec.kind s.frame) _ _ off
     ∙ (ap (λ (j : Option Insn). T j (reply_mask bytes rec.access) f) insns
     ∙ (ap (λ (n : ℕ). T i n f) reply ∙ ap (T i r) (sym found))) in
+    let step : use_step code nested rec bytes s ≡ w =
+    ap (λ (x : UseTurn). record x { after = left_after (executed x.turn.kind (fetched code f.control.pc)) s x.after }) full
+    ∙ ap (λ (o : Option Insn). record t { after = left_after o s t.after }) insn in
     let call = c.settle-call.result in
     let after = frames_after call frames in
     let set = c.settle-call.new.self in
-    let end = c.cut.new.self in
+    let mid = c.cut.new.self in
+    let end = c.leave.new.self in
     let settled : state_at after set.holes set.view ≡ u.after =
     c.settle-call.ensures.values frames number
     ∙ (ap (λ (x : Holes). (settled_in x.nested code number made frames x c.mask-masked.new.self.view).after) e.holes
     ∙ (ap (λ (x : Upper). (settled_in h.nested code number made frames h x).after) e.view
     ∙ ap (λ (x : FrameTurn). x.after) value)) in
-    let frame : state_at after end.holes end.view ≡ t.after.frame =
+    let cut_is : state_at after mid.holes mid.view ≡ t.after.frame =
     c.cut.ensures.values after
     ∙ (ap (λ (x : FrameState). cut_state m.mask m.write x.nested x) settled
     ∙ (ap (λ (w : Option RegWrite). cut_state m.mask w u.after.nested u.after) (e.cut code plan kind)
     ∙ turn_frame i r s g u m.mask made.step.write same (e.mask code frames kept v u plan kind))) in
-    let masks : masks_at (kept_after m.keep kept) end.masks ≡ t.after.masks =
+    let masks : masks_at (kept_after m.keep kept) mid.masks ≡ t.after.masks =
     ap (masks_at (kept_after m.keep kept)) (c.cut.ensures.masks ∙ c.settle-call.ensures.masks) ∙ e.masks code frames kept v u plan kind newest same in
     let U : FrameState → Masks → UseState = λ x y. record { frame = x; masks = y } in
-    let left : use_at after (kept_after m.keep kept) end.holes end.view end.masks ≡ t.after = ap (λ (x : FrameState). U x (masks_at (kept_after m.keep kept) end.masks)) frame ∙ ap (U t.after.frame) masks in
+    let kept_now = kept_after m.keep kept in
+    let full_left : use_at after kept_now mid.holes mid.view mid.masks ≡ t.after = ap (λ (x : FrameState). U x (masks_at kept_now mid.masks)) cut_is ∙ ap (U t.after.frame) masks in
+    let left : use_at after kept_now end.holes end.view end.masks ≡ w.after =
+    c.leave.ensures.state after frames kept_now caller
+    ∙ (ap (λ (x : UseState). cond m.forgets (leave_results frames x) x) full_left
+    ∙ ap (λ (b : Bool). cond b (leave_results frames t.after) t.after) (e.forgets code plan kind)) in
+    let frame : state_at after end.holes end.view ≡ w.after.frame = ap (λ (x : UseState). x.frame) left in
     let D : Call → Keep → UseState = λ x y. use_at (frames_after x frames) (kept_after y kept) end.holes end.view end.masks in
     let d = c.done.ensures in
     let F : StepKind → Fetched → Ps → Ps → Bool = fresh_after c.args.case.now.fresh in
-    let now = (current t.after.frame).control.ps in
+    let now = (current w.after.frame).control.ps in
     let epc1 : c.done.result.fresh ≡ F t.turn.kind (fetched code f.control.pc) f.control.ps now =
     d.fresh after
     ∙ (ap (λ (x : FrameState). F made.step.kind at made.before.control.ps (current x).control.ps) frame
@@ -91,7 +104,7 @@ returns-clause-taken c = λ nested frames kept bytes newest reply off found valu
     let marked : m.marked ≡ receives_mark (executed t.turn.kind (fetched code f.control.pc)) h.nested =
     e.marked code plan kind ∙ ap (λ (j : Option Insn). receives_mark j h.nested) (sym (ap (λ (k : StepKind). executed k (fetched code f.control.pc)) (turn_kind i r s g u) ∙ insns)) in
     let B : Bool → Bool → ℕ → ℕ → Bool = λ w x n k. (w && not (x || eqb n all_bits)) || stores_unknown k rec.access in
-    let unknown : c.done.result.carries ≡ carries code rec s t =
+    let unknown : c.done.result.carries ≡ carries code rec s w =
     d.carries
     ∙ (ap (λ (w : Bool). B w m.marked m.mask m.stored) (turn_write i r s g u made.step.write same)
     ∙ (ap (λ (x : Bool). B (is_some t.turn.write) x m.mask m.stored) marked
@@ -103,3 +116,6 @@ returns-clause-taken c = λ nested frames kept bytes newest reply off found valu
       stores = d.stored ∙ (e.stored code frames kept v u plan kind ∙ ap (λ (x : UseTurn). x.stored) (sym step));
       unknown = unknown ∙ ap (carries code rec s) (sym step);
     }
+
+pub done-requires-clause-ps : goal.done-requires-clause-ps
+done-requires-clause-ps c = subst (λ (h : Holes). IfSome h.nested (λ x. IsPs x.ps)) (sym c.leave.ensures.holes) (c.cut.ensures.ps (c.settle-call.ensures.ps (rw c.mask-masked.ensures.holes c.requires.ps)))
