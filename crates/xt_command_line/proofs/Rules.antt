@@ -7,8 +7,9 @@ use Rattle.xt_map.specs.Regions.{region_of, is_executable}
 use Rattle.xt_trace.specs.Validity.{IsValid, IsValidStack, most_turns}
 use Rattle.xt_trace.specs.declared.options.Stack.{Stack}
 use Rattle.xt_command_line.specs.Options.{AcceptsValid, OptionsNeedNoMemory, by_rows, first_broken, is_entry, is_set, is_stack, judged, options_in, record_app, record_options_of, run_app, run_options_of, said_or, texts_of, unless_broken}
-use Rattle.xt_command_line.specs.Arguments.{check_app, gen_app, generator_number_of, judged_number, judged_vecbase, number_by, number_in, span_by, span_of, spanned, trace_app, vecbase_by, vecbase_of}
+use Rattle.xt_command_line.specs.Arguments.{check_app, gen_app, generator_number_of, judged_number, judged_vecbase, number_by, number_in, rigor_by, rigor_of, span_by, span_of, spanned, trace_app, uses_app, vecbase_by, vecbase_of}
 use Rattle.xt_command_line.specs.Answers.{answer_with}
+use Rattle.xt_command_line.specs.declared.command.Rigor.TheVariants as rigor
 use Rattle.xt_command_line.specs.Listings.{dis_app, judged_openings, listing_by, listing_in, listing_of, openings_in}
 use Rattle.xt_command_line.specs.Meaning.{NeedsNoMemory, meaning_by, named, without_options}
 use Rattle.xt_command_line.specs.Numbers.{number_of}
@@ -69,6 +70,13 @@ span_by-answers : (rows : Option (List Row)) → span_by rows ≢ Err refusal.Me
 span_by-answers None = λ e. search (rules, e)
 span_by-answers (Some rows) = spanned-answers (said_or number_of 0 (first_of (codes "from") rows)) (said_or number_of 0xFFFFFFFF (first_of (codes "to") rows))
 
+rigor_by-answers : (rows : Option (List Row)) → rigor_by rows ≢ Err refusal.Memory
+rigor_by-answers None = λ e. search (rules, e)
+rigor_by-answers (Some rows) = elim (is_set (first_of (codes "lenient") rows)) as (λ b. (if b then Ok rigor.Lenient else Ok rigor.Strict) ≢ Err refusal.Memory) [
+  | true ↦ λ e. search (rules, e)
+  | false ↦ λ e. search (rules, e)
+]
+
 answer_with-answers : {A B : Type 0} (make : A → B) (r : Result A Refusal) → r ≢ Err refusal.Memory → answer_with make r ≢ Err refusal.Memory
 answer_with-answers make (Ok o) no_memory = λ e. search (rules, e)
 answer_with-answers make (Err r) no_memory = λ e. no_memory (cc)
@@ -105,7 +113,7 @@ meaning_by-answers (Some name.Migrate) words = without_options-answers _ _
 meaning_by-answers (Some name.Events) words = without_options-answers _ _
 meaning_by-answers (Some name.Race) words = without_options-answers _ _
 meaning_by-answers (Some name.Profile) words = without_options-answers _ _
-meaning_by-answers (Some name.Uses) words = without_options-answers _ _
+meaning_by-answers (Some name.Uses) words = answer_with-answers command.Uses (rigor_of words) (rigor_by-answers (rows_by uses_app words))
 meaning_by-answers (Some name.Trace) words = answer_with-answers command.Trace (span_of words) (span_by-answers (rows_by trace_app words))
 meaning_by-answers (Some name.Generate) words = answer_with-answers command.Generate (generator_number_of words) (number_by-answers (rows_by gen_app words))
 

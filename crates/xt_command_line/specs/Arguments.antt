@@ -1,11 +1,13 @@
--- What the words of `check`, `gen`, `replay` and `trace` say ('profile').
+-- What the words of `check`, `gen`, `replay`, `trace` and `uses` say ('profile').
 use Rattle.std.specs.Prelude.{◌≡◌, ℕ, ◌%◌, true, ◌==◌, List, Option, Some, None, Result, Ok, Err}
 use Rattle.std.specs.Prelude.{if◌then◌else◌, codes, option_and_then}
 use Rattle.clap.specs.Words.{App, Row, Rule, Text, first_of, new_app, new_rule, with_rule}
 use Rattle.xt_command_line.specs.Numbers.{number_of}
-use Rattle.xt_command_line.specs.Options.{said_or, with_option}
+use Rattle.xt_command_line.specs.Options.{is_set, said_or, with_flag, with_option}
 use Rattle.xt_command_line.specs.Simple.{rows_by}
 use Rattle.xt_command_line.specs.declared.command.Refusal.{Refusal}
+use Rattle.xt_command_line.specs.declared.command.Rigor.{Rigor}
+use Rattle.xt_command_line.specs.declared.command.Rigor.TheVariants as rigor
 use Rattle.xt_command_line.specs.declared.command.Span.{Span}
 use Rattle.xt_command_line.specs.declared.command.Refusal.TheVariants as refusal
 
@@ -94,3 +96,17 @@ span_by (Some rows) =
 -- the positions that the words of `trace` say, or the first rule of usage that they break
 abbrev pub span_of : List Text → Result Span Refusal
 span_of words = span_by (rows_by trace_app words)
+
+-- ---- uses [--lenient]
+
+abbrev pub uses_app : App
+uses_app = with_flag (new_app (codes "uses")) (codes "lenient")
+
+abbrev pub rigor_by : Option (List Row) → Result Rigor Refusal
+rigor_by None = Err (refusal.Usage 3)
+rigor_by (Some rows) =
+    if is_set (first_of (codes "lenient") rows) then Ok rigor.Lenient else Ok rigor.Strict
+
+-- the rigor that the words of `uses` say, or the rule of usage that they break
+abbrev pub rigor_of : List Text → Result Rigor Refusal
+rigor_of words = rigor_by (rows_by uses_app words)

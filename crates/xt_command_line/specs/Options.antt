@@ -43,9 +43,10 @@ option_names =
 abbrev pub record_app : App
 record_app = fold with_option (new_app (codes "record")) option_names
 
--- [--events] [--race] [--profile] [--trace]
+-- [--events] [--race] [--profile] [--uses] [--trace]
 abbrev pub flag_names : List Text
-flag_names = codes "events" ∷ codes "race" ∷ codes "profile" ∷ codes "trace" ∷ []
+flag_names =
+    codes "events" ∷ codes "race" ∷ codes "profile" ∷ codes "uses" ∷ codes "trace" ∷ []
 
 -- the same options, and the flags
 abbrev pub run_app : App
@@ -65,6 +66,7 @@ pub record Texts : Type 0 where
   pub events : Bool
   pub race : Bool
   pub profile : Bool
+  pub uses : Bool
 
 -- a flag that was given has the text `true`
 abbrev pub is_set : Option Text → Bool
@@ -83,6 +85,7 @@ texts_of rows = record {
   events = is_set (first_of (codes "events") rows);
   race = is_set (first_of (codes "race") rows);
   profile = is_set (first_of (codes "profile") rows);
+  uses = is_set (first_of (codes "uses") rows);
 }
 
 -- ---- the options that the texts say
@@ -129,6 +132,7 @@ made
       events = t.events;
       race = t.race;
       profile = t.profile;
+      uses = t.uses;
     })
 made t _ _ _ _ _ _ _ = None
 

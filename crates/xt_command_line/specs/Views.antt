@@ -17,4 +17,5 @@ texts_in t = record {
   events = t.events;
   race = t.race;
   profile = t.profile;
+  uses = t.uses;
 }

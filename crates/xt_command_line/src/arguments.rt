@@ -1,12 +1,12 @@
-//! The words of `check`, `gen`, `replay` and `trace`.
+//! The words of `check`, `gen`, `replay`, `trace` and `uses`.
 ghost use Rattle.std.specs.Prelude.{◌≡◌, IfOk, map, string_bytes, option_map};
 ghost use Rattle.xt_command_line.specs.Answers.{Means, MeansAs};
-ghost use Rattle.xt_command_line.specs.Arguments.{IsVecbase, generator_number_of, judged_number, judged_vecbase, number_in, script_text_of, span_of, spanned, vecbase_of};
+ghost use Rattle.xt_command_line.specs.Arguments.{IsVecbase, generator_number_of, judged_number, judged_vecbase, number_in, rigor_of, script_text_of, span_of, spanned, vecbase_of};
 
-use crate::command::{Refusal, Span};
+use crate::command::{Refusal, Rigor, Span};
 use crate::numbers::number;
 use crate::option_commands::{
-    check_matches, generator_matches, replay_matches, text_of, trace_matches,
+    check_matches, generator_matches, is_true, replay_matches, text_of, trace_matches, uses_matches,
 };
 use crate::option_words::{DEFAULT_VECBASE, number_or};
 use std::alloc::Global;
@@ -93,4 +93,19 @@ pub fn trace_span(alloc: Global, words: &[String]) -> Result<Span, Refusal>
         number_or(text_of(&matches, "from"), 0),
         number_or(text_of(&matches, "to"), u32::MAX),
     )
+}
+
+/// The rigor that the words of `uses` say, the first of which stands for the command.
+///
+/// The words are read as a simple command of `clap` with the flag `--lenient`. `Usage(3)` says that they do not match.
+/// `Memory` says only that memory ran out.
+pub fn uses_rigor(alloc: Global, words: &[String]) -> Result<Rigor, Refusal>
+    ensures { Means result (rigor_of (map string_bytes words.now)) }
+{
+    let matches = uses_matches(alloc, words)?;
+    if is_true(text_of(&matches, "lenient")) {
+        Ok(Rigor::Lenient)
+    } else {
+        Ok(Rigor::Strict)
+    }
 }

@@ -31,6 +31,15 @@ pub enum Listing {
     Flow(Openings),
 }
 
+/// How much of what a program did not set itself `uses` takes as known.
+#[derive(Clone, Copy, Debug, PartialEq, Eq)]
+pub enum Rigor {
+    /// Nothing that the calling convention gives a function no right to.
+    Strict,
+    /// All but the new registers of an ENTRY and what save areas hold or left behind (`--lenient`).
+    Lenient,
+}
+
 /// A command with its options.
 #[derive(Clone, Copy, Debug, PartialEq, Eq)]
 pub enum Command {
@@ -60,8 +69,8 @@ pub enum Command {
     Race,
     /// `profile`: counts the turns of each call stack of a recorded run.
     Profile,
-    /// `uses`: looks for the first use of something that is not known in a recorded run.
-    Uses,
+    /// `uses`: looks for the first use of something that is not known in a recorded run, with this rigor.
+    Uses(Rigor),
     /// `gen`: runs the image that is made from this number.
     Generate(u32),
 }

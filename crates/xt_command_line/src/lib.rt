@@ -15,8 +15,8 @@ mod options;
 mod simple;
 mod words;
 
-pub use arguments::{check_vecbase, generator_number, script_text, trace_span};
-pub use command::{Command, Listing, Openings, Refusal, Span};
+pub use arguments::{check_vecbase, generator_number, script_text, trace_span, uses_rigor};
+pub use command::{Command, Listing, Openings, Refusal, Rigor, Span};
 pub use laws::{meaning_needs_no_memory, options_need_no_memory, valid_options_are_accepted};
 pub use listings::listing;
 pub use numbers::number;

@@ -1,9 +1,9 @@
-//! The simple commands of `clap` that read the words of `run`, `record`, `dis`, `check`, `gen`, `replay` and
-//! `trace`.
+//! The simple commands of `clap` that read the words of `run`, `record`, `dis`, `check`, `gen`, `replay`, `trace` and
+//! `uses`.
 ghost use Rattle.std.specs.Prelude.{◌≡◌, IfOk, map, string_bytes, option_map, fold};
 ghost use Rattle.clap.specs.Words.{app_of, first_of, found_of, new_app, rows_of, with_rule};
 ghost use Rattle.xt_command_line.specs.Simple.{Matches, rows_by};
-ghost use Rattle.xt_command_line.specs.Arguments.{check_app, gen_app, positional_rule, replay_app, trace_app};
+ghost use Rattle.xt_command_line.specs.Arguments.{check_app, gen_app, positional_rule, replay_app, trace_app, uses_app};
 ghost use Rattle.xt_command_line.specs.Listings.{dis_app};
 ghost use Rattle.xt_command_line.specs.Options.{flag_names, is_set, option_names, record_app, run_app, texts_of, with_flag, with_option};
 ghost use Rattle.xt_command_line.specs.Views.{texts_in};
@@ -27,6 +27,7 @@ pub struct OptionTexts<'a> {
     pub events: bool,
     pub race: bool,
     pub profile: bool,
+    pub uses: bool,
 }
 
 // The command with one more option, `--name TEXT`.
@@ -65,13 +66,14 @@ fn with_options<'a>(alloc: Global, name: &'a str) -> Result<Command<'a>, AllocEr
     with_one_option(alloc, command, "seed")
 }
 
-// The command with the four flags that `run` alone has.
+// The command with the five flags that `run` alone has.
 fn with_flags<'a>(alloc: Global, command: Command<'a>) -> Result<Command<'a>, AllocError>
     ensures { IfOk result (λ c. app_of c ≡ fold with_flag (app_of command.entry) flag_names) }
 {
     let command = with_one_flag(alloc, command, "events")?;
     let command = with_one_flag(alloc, command, "race")?;
     let command = with_one_flag(alloc, command, "profile")?;
+    let command = with_one_flag(alloc, command, "uses")?;
     with_one_flag(alloc, command, "trace")
 }
 
@@ -180,6 +182,20 @@ pub fn trace_matches<'a>(alloc: Global, words: &'a [String]) -> Result<ArgMatche
     matches_by(trace_command(alloc)?, words)
 }
 
+// The command `uses` with its flag.
+fn uses_command<'a>(alloc: Global) -> Result<Command<'a>, AllocError>
+    ensures { IfOk result (λ c. app_of c ≡ uses_app) }
+{
+    with_one_flag(alloc, Command::new(alloc, "uses"), "lenient")
+}
+
+/// What `clap` matches on the words of `uses`.
+pub fn uses_matches<'a>(alloc: Global, words: &'a [String]) -> Result<ArgMatches<'a>, Refusal>
+    ensures { Matches result (rows_by uses_app (map string_bytes words.now)) }
+{
+    matches_by(uses_command(alloc)?, words)
+}
+
 /// The text of an option or of a positional.
 pub fn text_of<'a>(matches: &ArgMatches<'a>, name: &str) -> Option<&'a str>
     ensures { option_map (λ s. s.now) result ≡ first_of name.now (rows_of (found_of matches.now)) }
@@ -213,5 +229,6 @@ pub fn texts_from<'a>(matches: &ArgMatches<'a>) -> OptionTexts<'a>
         events: is_true(text_of(matches, "events")),
         race: is_true(text_of(matches, "race")),
         profile: is_true(text_of(matches, "profile")),
+        uses: is_true(text_of(matches, "uses")),
     }
 }

@@ -96,6 +96,7 @@ fn options_from(texts: OptionTexts<'_>) -> Option<RunOptions>
         events: texts.events,
         race: texts.race,
         profile: texts.profile,
+        uses: texts.uses,
     })
 }
 
@@ -113,7 +114,7 @@ fn judged_texts(texts: OptionTexts<'_>) -> Result<RunOptions, Refusal>
 /// The options that the words of `run` say, the first of which stands for the command.
 ///
 /// The words are read as a simple command of `clap` with the options `--turns0 N`, `--turns1 N`, `--entry1 N`,
-/// `--vecbase N`, `--stack0 LO:HI`, `--stack1 LO:HI` and `--seed N` and the flags `--events`, `--race`, `--profile` and
+/// `--vecbase N`, `--stack0 LO:HI`, `--stack1 LO:HI` and `--seed N` and the flags `--events`, `--race`, `--profile`, `--uses` and
 /// `--trace`. N, LO and HI are decimal digits, or `0x` and one to eight hexadecimal digits, below 2^32. `Usage` has the
 /// first rule that the words break: 3 they do not match, 4 a text is no number or range, 5 a number of turns is above
 /// 4,000,000, 6 `entry1` is in no executable region, 7 `vecbase` is no multiple of 1024, 8 a stack is no range of at

@@ -34,6 +34,8 @@ pub struct RunOptions {
     pub race: bool,
     /// Whether the text of `profile` is wanted (`--profile`, of `run` alone).
     pub profile: bool,
+    /// Whether the text of `uses` is wanted (`--uses`, of `run` alone).
+    pub uses: bool,
 }
 
 impl RunOptions {
