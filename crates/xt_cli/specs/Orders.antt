@@ -8,6 +8,10 @@ use Rattle.xt_command_line.specs.declared.command.Command.{Command}
 use Rattle.xt_command_line.specs.declared.command.Command.TheVariants as command
 use Rattle.xt_command_line.specs.declared.command.Refusal.{Refusal}
 use Rattle.xt_command_line.specs.declared.command.Refusal.TheVariants as refusal
+use Rattle.xt_command_line.specs.declared.command.Rigor.{Rigor}
+use Rattle.xt_command_line.specs.declared.command.Rigor.TheVariants as rigor
+use Rattle.xt_uses.specs.declared.discipline.Discipline.{Discipline}
+use Rattle.xt_uses.specs.declared.discipline.Discipline.TheVariants as discipline
 use Rattle.xt_debug.specs.declared.script.Command as script
 use Rattle.xt_debug.specs.Grammar.{IsInRange, script_of}
 use Rattle.xt_cli.specs.declared.orders.Order.{Order}
@@ -27,6 +31,11 @@ unfoldable pub replay_order : Result (List ℕ) Refusal → Result Order Refusal
 replay_order (Err r) = Err r
 replay_order (Ok text) = scripted (script_of text)
 
+-- the discipline of uses that the words ask for
+abbrev pub discipline_of : Rigor → Discipline
+discipline_of rigor.Strict = discipline.Strict
+discipline_of rigor.Lenient = discipline.Lenient
+
 -- a command, whose words these are
 abbrev pub order_by : List (List ℕ) → Result Command Refusal → Result Order Refusal
 order_by words (Ok command.Assemble) = Ok (order.Work job.Assemble)
@@ -40,7 +49,7 @@ order_by words (Ok command.Events) = Ok (order.Work job.Events)
 order_by words (Ok (command.Trace span)) = Ok (order.Work (job.Trace span))
 order_by words (Ok command.Race) = Ok (order.Work job.Race)
 order_by words (Ok command.Profile) = Ok (order.Work job.Profile)
-order_by words (Ok command.Uses) = Ok (order.Work job.Uses)
+order_by words (Ok (command.Uses rigor)) = Ok (order.Work (job.Uses (discipline_of rigor)))
 order_by words (Ok (command.Run options)) = Ok (order.Run wanted.Report options)
 order_by words (Ok (command.Record options)) = Ok (order.Run wanted.Recording options)
 order_by words (Ok (command.Generate number)) = Ok (order.Generate number)

@@ -1,14 +1,15 @@
 //! What the words of the command line ask for.
 ghost use Rattle.std.specs.Prelude.{IfOk, map, string_bytes};
-ghost use Rattle.xt_cli.specs.Orders.{IsFitOrder, order_of, replay_order};
+ghost use Rattle.xt_cli.specs.Orders.{IsFitOrder, discipline_of, order_of, replay_order};
 ghost use Rattle.xt_command_line.specs.Answers.{Means};
 ghost use Rattle.xt_command_line.specs.Arguments.{script_text_of};
 
 use crate::tool::Job;
 use std::alloc::Global;
-use xt_command_line::{Command, Refusal, RunOptions, meaning, script_text};
+use xt_command_line::{Command, Refusal, Rigor, RunOptions, meaning, script_text};
 use xt_debug::{ScriptFault, parse_script};
 use xt_runs::Wanted;
+use xt_uses::Discipline;
 
 /// A command with all that its words say.
 #[derive(Drop)]
@@ -38,6 +39,16 @@ fn replay_order(alloc: Global, words: &[String]) -> Result<Order, Refusal>
     }
 }
 
+// The discipline of uses that the words ask for.
+fn discipline_of(rigor: Rigor) -> Discipline
+    ensures { result ≡ discipline_of rigor }
+{
+    match rigor {
+        Rigor::Strict => Discipline::Strict,
+        Rigor::Lenient => Discipline::Lenient,
+    }
+}
+
 // What the words ask for, or the first rule of usage that they break.
 pub(crate) fn order_in(alloc: Global, words: &[String]) -> Result<Order, Refusal>
     ensures means { Means result (order_of (map string_bytes words.now)) }
@@ -55,7 +66,7 @@ pub(crate) fn order_in(alloc: Global, words: &[String]) -> Result<Order, Refusal
         Ok(Command::Trace(span)) => Ok(Order::Work(Job::Trace(span))),
         Ok(Command::Race) => Ok(Order::Work(Job::Race)),
         Ok(Command::Profile) => Ok(Order::Work(Job::Profile)),
-        Ok(Command::Uses) => Ok(Order::Work(Job::Uses)),
+        Ok(Command::Uses(rigor)) => Ok(Order::Work(Job::Uses(discipline_of(rigor)))),
         Ok(Command::Run(options)) => Ok(Order::Run(Wanted::Report, options)),
         Ok(Command::Record(options)) => Ok(Order::Run(Wanted::Recording, options)),
         Ok(Command::Generate(number)) => Ok(Order::Generate(number)),

@@ -19,6 +19,7 @@ use xt_tools::{
     ELF_LIMIT, TEXT_LIMIT, check, converted_file, events, image_file, list, map_text, migrate,
     profile, race, trace, uses,
 };
+use xt_uses::Discipline;
 
 /// A command whose output is a function of its input.
 #[derive(Drop)]
@@ -45,8 +46,8 @@ pub enum Job {
     Race,
     /// `profile`: the call profile of a recorded run.
     Profile,
-    /// `uses`: the first use of something that is not known in a recorded run.
-    Uses,
+    /// `uses`: the first breach of a recorded run by this discipline of uses.
+    Uses(Discipline),
 }
 
 /// What `tool_main` answers.
@@ -82,7 +83,7 @@ fn limit_of(job: &Job) -> usize
         | Job::Trace(_)
         | Job::Race
         | Job::Profile
-        | Job::Uses => RECORDING_LIMIT,
+        | Job::Uses(_) => RECORDING_LIMIT,
     }
 }
 
@@ -120,7 +121,7 @@ fn make(alloc: Global, job: &Job, input: &[u8]) -> Result<Text, Status>
         Job::Events => events(alloc, input),
         Job::Race => race(alloc, input),
         Job::Profile => profile(alloc, input),
-        Job::Uses => uses(alloc, input),
+        Job::Uses(discipline) => uses(alloc, *discipline, input),
         Job::Trace(_) => unreachable!(),
     }
 }

@@ -94,7 +94,7 @@ fn has_frames(alloc: Global, case: &str, image: &Image, list: &[u8]) -> Option<b
 }
 
 /// Whether the command of a case prints, over the recording of its run, what the case says. And `run` with the command's flag prints
-/// that behind its report; `uses` is no flag of `run`, and the stack discipline says of the run what the case says.
+/// that behind its report. Of a case of `uses` the stack discipline says of the run what the case says.
 pub fn agrees<R: Threads + Wait + Sync + AllocGlobal>(
     rt: &R,
     case: &str,
@@ -115,8 +115,10 @@ pub fn agrees<R: Threads + Wait + Sync + AllocGlobal>(
     let analysis = words_of(case, "analysis");
     if analysis.starts_with("trace") {
         Some(true)
-    } else if analysis == "uses" {
+    } else if analysis == "uses --lenient" {
         has_frames(alloc, case, &image, &list)
+    } else if analysis == "uses" && !has_frames(alloc, case, &image, &list)? {
+        Some(false)
     } else {
         has_flag(alloc, case, &image, &list, output.as_str())
     }

@@ -7,6 +7,8 @@ use Rattle.xt_race.specs.Races.{events_of}
 use Rattle.xt_race.specs.Texts.{IsRaceText}
 use Rattle.xt_profile.specs.Profiled.{profile_of}
 use Rattle.xt_profile.specs.Texts.{profile_text}
+use Rattle.xt_uses.specs.declared.discipline.Discipline.TheVariants.{Strict}
+use Rattle.xt_use_report.specs.Told.{IsUsesTold}
 use Rattle.xt_command_line.specs.declared.options.RunOptions.{RunOptions}
 
 -- this is the text of an analysis of the run of an image
@@ -19,6 +21,10 @@ IsRaceOf image run text = IsRaceText (events_of image run) text
 abbrev pub IsProfileOf : Image → Run → List ℕ → Type 0
 IsProfileOf image run text = text ≡ profile_text (profile_of image run)
 
+-- the strict discipline of uses
+abbrev pub IsUsesTextOf : Image → Run → List ℕ → Type 0
+IsUsesTextOf image run text = IsUsesTold Strict image run text
+
 -- the text of an analysis that is wanted, or nothing
 abbrev pub IsWanted : Bool → (List ℕ → Type 0) → List ℕ → Type 0
 IsWanted true Is text = Is text
@@ -29,7 +35,9 @@ pub record AreAnalyses (o : RunOptions) (image : Image) (run : Run) (text : List
   pub events : List ℕ
   pub race : List ℕ
   pub profile : List ℕ
+  pub uses : List ℕ
   pub are_events : IsWanted o.events (IsEventsOf image run) events
   pub is_race : IsWanted o.race (IsRaceOf image run) race
   pub is_profile : IsWanted o.profile (IsProfileOf image run) profile
-  pub are_all : text ≡ events ++ (race ++ profile)
+  pub is_uses : IsWanted o.uses (IsUsesTextOf image run) uses
+  pub are_all : text ≡ events ++ (race ++ (profile ++ uses))

@@ -1,6 +1,6 @@
 //! The texts that `run` writes behind its report, of the analyses that its words ask for.
 ghost use Rattle.std.specs.Prelude.{◌≡◌, ◌++◌, IfOk};
-ghost use Rattle.xt_runs.specs.Analyses.{AreAnalyses, IsEventsOf, IsProfileOf, IsRaceOf, IsWanted};
+ghost use Rattle.xt_runs.specs.Analyses.{AreAnalyses, IsEventsOf, IsProfileOf, IsRaceOf, IsUsesTextOf, IsWanted};
 ghost use Rattle.xt_core.specs.Runs.{IsRunOf};
 ghost use Rattle.xt_image.specs.Parts.{IsWellFormed};
 ghost use Rattle.xt_map.specs.Placing.{IsPlaced};
@@ -13,6 +13,8 @@ use xt_map::Text;
 use xt_profile::{profile, profile_text};
 use xt_race::race_text;
 use xt_trace::Run;
+use xt_use_report::uses_text;
+use xt_uses::Discipline;
 
 // The text of `events`, where it is wanted.
 fn events(alloc: Global, wanted: bool, image: &Image, run: &Run) -> Result<Text, AllocError>
@@ -54,18 +56,32 @@ fn profiled(alloc: Global, wanted: bool, image: &Image, run: &Run) -> Result<Tex
     }
 }
 
-// Three texts, one after another.
-fn joined(events: Text, race: &Text, profile: &Text) -> Result<Text, AllocError>
-    ensures { IfOk result (λ text. text ≡ events ++ (race.now ++ profile.now)) }
+// The text of `uses`, by the strict discipline, where it is wanted.
+fn used(alloc: Global, wanted: bool, image: &Image, run: &Run) -> Result<Text, AllocError>
+    requires image { IsWellFormed image.now }
+    requires run { IsRunOf image.now run.now }
+    ensures { IfOk result (λ text. IsWanted wanted (IsUsesTextOf image.now run.now) text) }
+{
+    if wanted {
+        uses_text(alloc, Discipline::Strict, image, run)
+    } else {
+        Ok(Text::new(Vec::new(alloc)))
+    }
+}
+
+// Four texts, one after another.
+fn joined(events: Text, race: &Text, profile: &Text, uses: &Text) -> Result<Text, AllocError>
+    ensures { IfOk result (λ text. text ≡ events ++ (race.now ++ (profile.now ++ uses.now))) }
 {
     let mut text = events.into_vec();
     text.extend_from_slice(race.as_slice())?;
     text.extend_from_slice(profile.as_slice())?;
+    text.extend_from_slice(uses.as_slice())?;
     Ok(Text::new(text))
 }
 
 /// The texts of the analyses of a run that the words ask for, one after another: that of `events`,
-/// that of `race`, that of `profile`. The only error is running out of memory.
+/// that of `race`, that of `profile`, that of `uses`. The only error is running out of memory.
 ///
 /// Conditions: the image is well formed, and the run is one of this image.
 pub fn analyses_text(
@@ -82,5 +98,6 @@ pub fn analyses_text(
     let events = events(alloc, options.events, image, run)?;
     let race = race(alloc, options.race, image, run)?;
     let profile = profiled(alloc, options.profile, image, run)?;
-    joined(events, &race, &profile)
+    let uses = used(alloc, options.uses, image, run)?;
+    joined(events, &race, &profile, &uses)
 }

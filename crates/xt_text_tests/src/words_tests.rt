@@ -1,7 +1,7 @@
 use std::alloc::Global;
 use std::test::Fail;
 use xt_command_line::{
-    Command, Listing, Openings, Refusal, RunOptions, Span, meaning, script_text,
+    Command, Listing, Openings, Refusal, Rigor, RunOptions, Span, meaning, script_text,
 };
 use xt_trace::Stack;
 
@@ -98,8 +98,9 @@ fn words_and_meanings(rt: HostRuntime) -> Result<(), Fail> {
         ("race file", Err(Refusal::Usage(3))),
         ("profile", Ok(Command::Profile)),
         ("profile --core 0", Err(Refusal::Usage(3))),
-        ("uses", Ok(Command::Uses)),
-        ("uses --", Ok(Command::Uses)),
+        ("uses", Ok(Command::Uses(Rigor::Strict))),
+        ("uses --", Ok(Command::Uses(Rigor::Strict))),
+        ("uses --lenient", Ok(Command::Uses(Rigor::Lenient))),
         ("uses all", Err(Refusal::Usage(3))),
         ("events --from 0", Err(Refusal::Usage(3))),
         // positions
@@ -191,6 +192,7 @@ fn words_and_options(rt: HostRuntime) -> Result<(), Fail> {
         events: false,
         race: false,
         profile: false,
+        uses: false,
     };
     let mut given = plain;
     given.turns0 = 7;
@@ -210,6 +212,8 @@ fn words_and_options(rt: HostRuntime) -> Result<(), Fail> {
     raced.race = true;
     let mut counted = plain;
     counted.profile = true;
+    let mut used = plain;
+    used.uses = true;
     let mut whole = plain;
     whole.trace = true;
     whole.events = true;
@@ -228,6 +232,9 @@ fn words_and_options(rt: HostRuntime) -> Result<(), Fail> {
         ("run --events", Ok(told)),
         ("run --race", Ok(raced)),
         ("run --profile", Ok(counted)),
+        ("run --uses", Ok(used)),
+        ("record --uses", Err(Refusal::Usage(3))),
+        ("uses --strict", Err(Refusal::Usage(3))),
         (
             "run --profile --seed 4294967295 --trace --race --events",
             Ok(whole),

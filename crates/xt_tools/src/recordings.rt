@@ -19,6 +19,7 @@ use xt_race::race_text;
 use xt_record::write_recording;
 use xt_status::{Status, recording_in, status_after};
 use xt_use_report::uses_text;
+use xt_uses::Discipline;
 
 /// The same recording in version 2, or the status of its first fault.
 #[tactic(auto, unfolding(crate::specs::Commands::migrated))]
@@ -68,13 +69,13 @@ pub fn profile(alloc: Global, input: &[u8]) -> Result<Text, Status>
     profile_text(alloc, &found).map_err(|_| Status::Memory)
 }
 
-/// The first use of something that is not known in a recorded run, or the status of the recording's first fault.
-pub fn uses(alloc: Global, input: &[u8]) -> Result<Text, Status>
-    ensures ok { IfOk result (λ bytes. IsMade (recording_refusal input.now) (IsUsesTold (image_in input.now) (run_in input.now) bytes)) }
+/// The first breach of a recorded run by this discipline of uses, or the status of the recording's first fault.
+pub fn uses(alloc: Global, discipline: Discipline, input: &[u8]) -> Result<Text, Status>
+    ensures ok { IfOk result (λ bytes. IsMade (recording_refusal input.now) (IsUsesTold discipline (image_in input.now) (run_in input.now) bytes)) }
     ensures refused { IfErr result (λ status. status ≢ Status.Memory → recording_refusal input.now ≡ Some status) }
 {
     let (image, run) = recording_in(alloc, input)?;
-    uses_text(alloc, &image, &run).map_err(|_| Status::Memory)
+    uses_text(alloc, discipline, &image, &run).map_err(|_| Status::Memory)
 }
 
 /// Writes the lines of these turns of a recorded run, each before the next is made, or ends with the
