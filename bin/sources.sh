@@ -64,24 +64,38 @@ end_work() {
     done 2>/dev/null
 }
 
-# Whether a proved program is that of its sources: stands PROGRAM. Where a file was edited, or a folder, the
-# checksum tells, which bin/build wrote beside the program; and where rt itself built it, the times of the files.
+# Writes beside a proved program the checksums of its sources and of itself: note_sources FILE SOURCES.
+note_sources() {
+    echo "$2 $(sha256sum <"$1" | cut -d ' ' -f 1)" >"$1.sources"
+}
+
+# Whether a proved program is that of its sources: stands PROGRAM. Where a file was edited, or a folder, or all files
+# are newer since they are a copy, the checksum tells that was noted beside the program. Where rt itself built the
+# program, nothing is noted yet: the times of the files tell, and it is noted. What bin/build packed has no sources.
 stands() {
     built=$top/crates/$1/out/$1
     [ -x "$built" ] || return 1
+    [ ! -f "$top/PACKED" ] || return 0
     seen=$built
     [ ! "$built.seen" -nt "$built" ] || seen=$built.seen
-    ! unedited_since "$seen" || return 0
+    if unedited_since "$seen"; then
+        [ ! -f "$built.sources" ] || [ "$built" -nt "$built.sources" ] || return 0
+        [ -w "${built%/*}" ] || return 0
+    fi
     looked=$(date +%s)
-    if [ -f "$built.sources" ] && [ ! "$built" -nt "$built.sources" ]; then
-        [ "$(cat "$built.sources")" = "$(proved_sources "$1")" ] || return 1
+    sources=$(proved_sources "$1")
+    noted=
+    of=
+    [ ! -f "$built.sources" ] || read -r noted of <"$built.sources"
+    if [ "$of" = "$(sha256sum <"$built" | cut -d ' ' -f 1)" ]; then
+        [ "$noted" = "$sources" ] || return 1
     else
         # shellcheck disable=SC2046
         [ -z "$(cd "$top" && find crates.txt $(folders_of "$1" src) $(folders_of "$1" specs) \
             -type f -newer "$built" -print -quit)" ] || return 1
     fi
     # Where nothing can be written there, the next call looks again.
-    set_time "$built.seen" "$looked" 2>/dev/null
+    { note_sources "$built" "$sources" && set_time "$built.seen" "$looked"; } 2>/dev/null
     return 0
 }
 

@@ -1,6 +1,6 @@
-# The six window handlers, for a text of your own that begins with its `.seg`:
+# The six window handlers, for a text of your own:
 #
-#   cat examples/handlers.s mine.s | bin/xt asm > mine.img
+#   bin/xt asm mine.s examples/handlers.s > mine.img
 #
 # They stand 64 bytes apart from VECBASE on, which is 40080000. examples/calls.s says what they do, and docs/STACK.md why.
 

@@ -1,7 +1,7 @@
 # An interrupt of level 5 in the middle of a window handler.
 #
-#   cat handlers.s nested.s | xt asm > nested.img
-#   xt run --turns1 0 --trace < nested.img
+#   bin/xt asm examples/nested.s examples/handlers.s > nested.img
+#   bin/xt run --turns1 0 --trace nested.img
 #
 # Timer 2 is due after 32 turns. Exception mode holds back levels 1 and 3, but not level 5, so it comes in the middle of the first
 # overflow: turn 29 is the window exception, 30 and 31 are the handler's first two instructions, and 32 is the interrupt. WINDOWBASE
