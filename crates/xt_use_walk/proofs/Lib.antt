@@ -13,3 +13,4 @@ pub mod Said
 pub mod Openings
 pub mod Turning
 pub mod OneAnswer
+pub mod Forgetting

@@ -13,6 +13,7 @@ use Rattle.xt_frames.specs.FirstBreach.{Course, IsTurn, records_before, turns}
 use Rattle.xt_frames.specs.Walked.{opened}
 use Rattle.xt_discipline.specs.Ended.{records_left}
 use Rattle.xt_discipline.specs.Schedules.{schedule_in}
+use Rattle.xt_uses.specs.declared.discipline.Discipline.{Discipline}
 use Rattle.xt_uses.specs.FirstUse.{IsFirstUse, IsUse, IsVerdict}
 use Rattle.xt_uses.specs.Lacks.{lacks_before}
 use Rattle.xt_uses.specs.UseWalk.{IsUseJudgement, UseJudgement, opening_use_known, use_judgement}
@@ -26,8 +27,8 @@ use Rattle.xt_use_walk.specs.Walks.{IsOpened, IsShown, IsTold, IsWhole, standing
 use Rattle.xt_use_walk.proofs.Numbered.{record_at}
 
 -- ---- no breach
-said_whole : (r : Course) (j : UseJudgement) (n m : ℕ) → IsUseJudgement r j → IsWhole j n m → IsVerdict r None n m
-said_whole r j n m u w = record {
+said_whole : (d : Discipline) (r : Course) (j : UseJudgement) (n m : ℕ) → IsUseJudgement d r j → IsWhole j n m → IsVerdict d r None n m
+said_whole d r j n m u w = record {
   history = u.history;
   is_history = u.is_history;
   place = u.place;
@@ -37,23 +38,23 @@ said_whole r j n m u w = record {
 }
 
 -- ---- a breach
-no_steps : (core : ℕ) (b0 b1 : Bounds) (f0 f1 : FrameState) → (standing_in core (opening_use_known b0 b1 f0 f1)).steps ≡ 0
-no_steps zero b0 b1 f0 f1 = refl
-no_steps (suc core) b0 b1 f0 f1 = refl
+no_steps : (d : Discipline) (core : ℕ) (b0 b1 : Bounds) (f0 f1 : FrameState) → (standing_in core (opening_use_known d b0 b1 f0 f1)).steps ≡ 0
+no_steps d zero b0 b1 f0 f1 = refl
+no_steps d (suc core) b0 b1 f0 f1 = refl
 
-state_at : (core : ℕ) (r : Course) (j : UseJudgement) (u : IsUseJudgement r j) → core < 2 → (standing_in core j.known).state ≡ u.history.state core u.place
-state_at zero r j u two = sym u.state0
-state_at (suc zero) r j u two = sym u.state1
-state_at (suc (suc core)) r j u two = absurd (omega (arith, two))
+state_at : (d : Discipline) (core : ℕ) (r : Course) (j : UseJudgement) (u : IsUseJudgement d r j) → core < 2 → (standing_in core j.known).state ≡ u.history.state core u.place
+state_at d zero r j u two = sym u.state0
+state_at d (suc zero) r j u two = sym u.state1
+state_at d (suc (suc core)) r j u two = absurd (omega (arith, two))
 
-said_broken : (r : Course) (b0 b1 : Bounds) (f0 f1 : FrameState) (cs : List ℕ) (xs ys : List StepRecord) (j : UseJudgement) (first : FirstUse) → r.turns ≡ turns cs xs ys → IsUseJudgement r j
-    → IsShown r.code j (opening_use_known b0 b1 f0 f1) xs ys first → IsBroken r first
-said_broken r b0 b1 f0 f1 cs xs ys j first turns_are u s =
+said_broken : (d : Discipline) (r : Course) (b0 b1 : Bounds) (f0 f1 : FrameState) (cs : List ℕ) (xs ys : List StepRecord) (j : UseJudgement) (first : FirstUse) → r.turns ≡ turns cs xs ys → IsUseJudgement d r j
+    → IsShown r.code j (opening_use_known d b0 b1 f0 f1) xs ys first → IsBroken d r first
+said_broken d r b0 b1 f0 f1 cs xs ys j first turns_are u s =
     let b = first.breach in
-    let k = opening_use_known b0 b1 f0 f1 in
+    let k = opening_use_known d b0 b1 f0 f1 in
     let found : IsFirstUse r u.history u.place (Some b) = subst (λ (o : Option Breach). IsFirstUse r u.history u.place o) s.found u.finds in
     let shows : IsUse r u.history u.place b = found.here in
-    let zero_steps : (standing_in b.core k).steps ≡ 0 = no_steps b.core b0 b1 f0 f1 in
+    let zero_steps : (standing_in b.core k).steps ≡ 0 = no_steps d b.core b0 b1 f0 f1 in
     let number : b.step ≡ (standing_in b.core k).steps + s.count = s.number in
     let counted : b.step ≡ length (records_before r b.core u.place) = shows.number in
     let same_count : s.count ≡ length (records_before r b.core u.place) = omega (arith, zero_steps, number, counted) in
@@ -65,39 +66,39 @@ said_broken r b0 b1 f0 f1 cs xs ys j first turns_are u s =
       place = u.place;
       is_first = found;
       turn = subst (IsTurn r u.place b.core) same shows.turn;
-      lacks = s.lacks ∙ ap (lacks_before r.code first.rec) (state_at b.core r j u s.core);
+      lacks = s.lacks ∙ ap (lacks_before r.code first.rec) (state_at d b.core r j u s.core);
     }
 
-said : (r : Course) (b0 b1 : Bounds) (f0 f1 : FrameState) (cs : List ℕ) (xs ys : List StepRecord) (j : UseJudgement) (uses : Uses) → r.turns ≡ turns cs xs ys → IsUseJudgement r j
-    → IsTold r.code j (opening_use_known b0 b1 f0 f1) xs ys uses → IsSaid r uses
-said r b0 b1 f0 f1 cs xs ys j Unchecked is u t = absurd t
-said r b0 b1 f0 f1 cs xs ys j (Whole n m) is u t = said_whole r j n m u t
-said r b0 b1 f0 f1 cs xs ys j (Broken first) is u t = said_broken r b0 b1 f0 f1 cs xs ys j first is u t
+said : (d : Discipline) (r : Course) (b0 b1 : Bounds) (f0 f1 : FrameState) (cs : List ℕ) (xs ys : List StepRecord) (j : UseJudgement) (uses : Uses) → r.turns ≡ turns cs xs ys → IsUseJudgement d r j
+    → IsTold r.code j (opening_use_known d b0 b1 f0 f1) xs ys uses → IsSaid d r uses
+said d r b0 b1 f0 f1 cs xs ys j Unchecked is u t = absurd t
+said d r b0 b1 f0 f1 cs xs ys j (Whole n m) is u t = said_whole d r j n m u t
+said d r b0 b1 f0 f1 cs xs ys j (Broken first) is u t = said_broken d r b0 b1 f0 f1 cs xs ys j first is u t
 
 -- ---- in the words of the image and its run
-uses_are : (w : Walk) (code : List Segment) (image : Image) (r : Run) (xs ys : List StepRecord) (uses : Uses) (good : Bool) → good ≡ true → IsOpened w code image.entry r.options → code ≡ image.segments
+uses_are : (d : Discipline) (w : Walk) (code : List Segment) (image : Image) (r : Run) (xs ys : List StepRecord) (uses : Uses) (good : Bool) → good ≡ true → IsOpened d w code image.entry r.options → code ≡ image.segments
     → IsTold (constant_byte w.code)
-    (use_judgement (constant_byte w.code) (opened 0 image.entry r.options).bounds (opened 1 r.options.entry1 r.options).bounds (schedule_in r) xs ys (opening_use_known (opened 0 image.entry r.options).bounds (opened 1 r.options.entry1 r.options).bounds (opened 0 image.entry r.options).state (opened 1 r.options.entry1 r.options).state))
-    (opening_use_known (opened 0 image.entry r.options).bounds (opened 1 r.options.entry1 r.options).bounds (opened 0 image.entry r.options).state (opened 1 r.options.entry1 r.options).state) xs ys uses
-    → IsUsesOf good (course_in image r xs ys) uses
-uses_are w code image r xs ys uses good e o code_is told =
+    (use_judgement (constant_byte w.code) (opened 0 image.entry r.options).bounds (opened 1 r.options.entry1 r.options).bounds (schedule_in r) xs ys (opening_use_known d (opened 0 image.entry r.options).bounds (opened 1 r.options.entry1 r.options).bounds (opened 0 image.entry r.options).state (opened 1 r.options.entry1 r.options).state))
+    (opening_use_known d (opened 0 image.entry r.options).bounds (opened 1 r.options.entry1 r.options).bounds (opened 0 image.entry r.options).state (opened 1 r.options.entry1 r.options).state) xs ys uses
+    → IsUsesOf d good (course_in image r xs ys) uses
+uses_are d w code image r xs ys uses good e o code_is told =
     let a = opened 0 image.entry r.options in
     let b = opened 1 r.options.entry1 r.options in
-    let k = opening_use_known a.bounds b.bounds a.state b.state in
+    let k = opening_use_known d a.bounds b.bounds a.state b.state in
     let T : List Segment → Type 0 = λ s. IsTold (constant_byte s) (use_judgement (constant_byte s) a.bounds b.bounds (schedule_in r) xs ys k) k xs ys uses in
     let c = course_in image r xs ys in
     let j = use_judgement (constant_byte image.segments) a.bounds b.bounds (schedule_in r) xs ys k in
-    let found : IsUseJudgement c j = walk_finds (constant_byte image.segments) a.bounds b.bounds (schedule_in r) xs ys a.state b.state in
-    subst (λ (g : Bool). IsUsesOf g c uses) (sym e)
-    (said c a.bounds b.bounds a.state b.state (schedule_in r) xs ys j uses refl found (subst T (o.code_is ∙ code_is) told))
+    let found : IsUseJudgement d c j = walk_finds d (constant_byte image.segments) a.bounds b.bounds (schedule_in r) xs ys a.state b.state in
+    subst (λ (g : Bool). IsUsesOf d g c uses) (sym e)
+    (said d c a.bounds b.bounds a.state b.state (schedule_in r) xs ys j uses refl found (subst T (o.code_is ∙ code_is) told))
 
-pub all_uses_are : {E : Type 0} (w : Walk) (code : List Segment) (image : Image) (r : Run) (xs ys : List StepRecord) (out : Result Uses E) (good : Bool) → good ≡ true → IsOpened w code image.entry r.options → code ≡ image.segments
+pub all_uses_are : {E : Type 0} (d : Discipline) (w : Walk) (code : List Segment) (image : Image) (r : Run) (xs ys : List StepRecord) (out : Result Uses E) (good : Bool) → good ≡ true → IsOpened d w code image.entry r.options → code ≡ image.segments
     → IfOk out (IsTold (constant_byte w.code)
-    (use_judgement (constant_byte w.code) (opened 0 image.entry r.options).bounds (opened 1 r.options.entry1 r.options).bounds (schedule_in r) xs ys (opening_use_known (opened 0 image.entry r.options).bounds (opened 1 r.options.entry1 r.options).bounds (opened 0 image.entry r.options).state (opened 1 r.options.entry1 r.options).state))
-    (opening_use_known (opened 0 image.entry r.options).bounds (opened 1 r.options.entry1 r.options).bounds (opened 0 image.entry r.options).state (opened 1 r.options.entry1 r.options).state) xs ys)
-    → IfOk out (λ uses. IsUsesOf good (course_in image r xs ys) uses)
-all_uses_are w code image r xs ys (Ok uses) good e o code_is told = uses_are w code image r xs ys uses good e o code_is told
-all_uses_are w code image r xs ys (Err error) good e o code_is told = tt
+    (use_judgement (constant_byte w.code) (opened 0 image.entry r.options).bounds (opened 1 r.options.entry1 r.options).bounds (schedule_in r) xs ys (opening_use_known d (opened 0 image.entry r.options).bounds (opened 1 r.options.entry1 r.options).bounds (opened 0 image.entry r.options).state (opened 1 r.options.entry1 r.options).state))
+    (opening_use_known d (opened 0 image.entry r.options).bounds (opened 1 r.options.entry1 r.options).bounds (opened 0 image.entry r.options).state (opened 1 r.options.entry1 r.options).state) xs ys)
+    → IfOk out (λ uses. IsUsesOf d good (course_in image r xs ys) uses)
+all_uses_are d w code image r xs ys (Ok uses) good e o code_is told = uses_are d w code image r xs ys uses good e o code_is told
+all_uses_are d w code image r xs ys (Err error) good e o code_is told = tt
 
-pub none_said : (good : Bool) (r : Course) → good ≡ false → IsUsesOf good r Unchecked
-none_said good r e = subst (λ (g : Bool). IsUsesOf g r Unchecked) (sym e) refl
+pub none_said : (d : Discipline) (good : Bool) (r : Course) → good ≡ false → IsUsesOf d good r Unchecked
+none_said d good r e = subst (λ (g : Bool). IsUsesOf d g r Unchecked) (sym e) refl

@@ -1,5 +1,5 @@
 -- A record of a core, as the definition of the walk sees it.
-use Rattle.std.proofs.Common.{◌≡◌, ℕ, suc, ◌+◌, ◌≤◌, Bool, true, false, ◌||◌, cond, Option, None, Result, Ok, Err, refl, sym, ◌∙◌, ap, subst, arith}
+use Rattle.std.proofs.Common.{◌≡◌, ℕ, suc, ◌+◌, ◌≤◌, Bool, true, false, ◌&&◌, ◌||◌, cond, Option, None, Result, Ok, Err, refl, sym, ◌∙◌, ap, subst, arith}
 use Rattle.std.specs.Prelude.{IfSome, OnOk}
 use Rattle.std.proofs.lemmas.Bool.{cond-true, cond-false}
 use Rattle.xt_map.specs.Regions.{is_mapped}
@@ -21,13 +21,15 @@ use Rattle.xt_uses.specs.declared.told.Stopped.{Stopped}
 use Rattle.xt_uses.specs.declared.told.Stopped.TheVariants.{Breaks, NoMemory}
 use Rattle.xt_uses.specs.UseBreaches.{use_breach, window_use}
 use Rattle.xt_uses.specs.UseParts.{IsTouched, IsUseJudged, IsUsed, UseMoves, UseWalked, fresh_at, fresh_use, use_past}
-use Rattle.xt_uses.specs.UseState.{UseState}
+use Rattle.xt_uses.specs.Disciplines.{is_strict}
+use Rattle.xt_uses.specs.UseState.{UseState, forgets, rises_over, stack_pointer}
+use Rattle.xt_uses.proofs.Constant.{step_same}
 use Rattle.xt_uses.specs.UseStep.{carries, use_step}
-use Rattle.xt_uses.specs.UseWalk.{UseHandled, UseSeen, UseStanding, count_of, handled_past, live_with, mask_stored, masks_after, use_seen, use_seen_in, use_seen_judged, use_seen_step, use_seen_window}
+use Rattle.xt_uses.specs.UseWalk.{UseHandled, UseSeen, UseStanding, count_of, handled_past, live_with, lost_with, mask_stored, masks_after, use_seen, use_seen_in, use_seen_judged, use_seen_step, use_seen_window}
 use Rattle.xt_use_walk.specs.declared.side.Bytes.{Bytes}
 use Rattle.xt_use_walk.specs.declared.side.Side.{Side}
 use Rattle.xt_use_walk.specs.Bytes.{KnowsBytes, mask_at, without}
-use Rattle.xt_use_walk.specs.Sides.{BeginsUse, IsFollowed, IsUsePast, IsUseSeen, IsUseSide, live_in, standing_of}
+use Rattle.xt_use_walk.specs.Sides.{BeginsUse, IsFollowed, IsUsePast, IsUseSeen, IsUseSide, forgotten, live_in, standing_of}
 use Rattle.xt_use_walk.proofs.Following.{knows_same, saves_told}
 use Rattle.xt_use_walk.proofs.Served.{reply_same, swaps_same}
 
@@ -143,19 +145,27 @@ pub followed_on : (core : ℕ) (b c : Bounds) (g u : FrameState) (old new : Byte
     → KnowsBytes core new (is_live b.range u) others (without (λ a. is_live b.range u a || others a) masks)
 followed_on core b c g u old new e f = subst (λ (x : Bounds). IsFollowed core x.range g u old new) e f
 
-over_two : (n b : Bool) (m : ℕ) → cond n 0 (cond b 0 m) ≡ cond (n || b) 0 m
-over_two true b m = refl
-over_two false b m = refl
+over_three : (f n b : Bool) (m : ℕ) → cond f 0 (cond n 0 (cond b 0 m)) ≡ cond (n || (b || f)) 0 m
+over_three true true b m = refl
+over_three true false true m = refl
+over_three true false false m = refl
+over_three false true b m = refl
+over_three false false true m = refl
+over_three false false false m = refl
+
+-- what it forgets, by the state before it
+pub forgotten_by : (s u : UseState) (sp a : ℕ) → sp ≡ stack_pointer s → u.masks.discipline ≡ s.masks.discipline → forgotten u sp a ≡ forgets s u a
+forgotten_by s u sp a e d = λ i. is_strict (d i) && rises_over (e i) (stack_pointer u) a
 
 -- a judged step that shows no breach
 pub judged_past : (old new : Side) (uses : UseWalked) (bytes : Bytes) (others : ℕ → Bool) (masks : ℕ → ℕ) (code : ℕ → ℕ) (rec : StepRecord) (found : Option BreachKind) (u : Unit) (nested : Bool) (next : declared.Mode) (stored n : ℕ)
     → mode_of next ≡ mode_after code (mode_of old.mode) rec → IsUseSide old → found ≡ None → uses ≡ use_past old.uses code old.steps nested rec masks
     → stored ≡ (use_step code nested rec masks old.uses.state).stored → n ≡ count_of (carries code rec old.uses.state (use_step code nested rec masks old.uses.state)) → n ≤ 1
     → new ≡ record old { uses = uses; mode = next; steps = old.steps + 1; carried = old.carried + n }
-    → KnowsBytes old.core bytes (is_live old.uses.bounds.range uses.state.frame) others
-    (without (λ a. is_live old.uses.bounds.range uses.state.frame a || others a) (without (λ a. live_in old.uses a || others a) (mask_stored stored rec.access masks)))
+    → (sp : ℕ) → sp ≡ stack_pointer old.uses.state → KnowsBytes old.core bytes (is_live old.uses.bounds.range uses.state.frame) others
+    (without (forgotten uses.state sp) (without (λ a. is_live old.uses.bounds.range uses.state.frame a || others a) (without (λ a. live_in old.uses a || others a) (mask_stored stored rec.access masks))))
     → IsUseSeen old new bytes others masks (use_seen_step found code old.uses.bounds (standing_of old) others masks nested rec) (Ok u)
-judged_past old new uses bytes others masks code rec found u nested next stored n h k none is stores counts few made known =
+judged_past old new uses bytes others masks code rec found u nested next stored n h k none is stores counts few made sp at_sp known =
     let r = old.uses.bounds.range in
     let t = use_step code nested rec masks old.uses.state in
     let w = use_past old.uses code old.steps nested rec masks in
@@ -163,8 +173,8 @@ judged_past old new uses bytes others masks code rec found u nested next stored 
     let m = mode_after code (mode_of old.mode) rec in
     let st = standing t.after fresh m (suc old.steps) (old.carried + count_of (carries code rec old.uses.state t)) in
     let at : UseWalked → ℕ → Side = λ x i. record old { uses = x; mode = next; steps = old.steps + 1; carried = old.carried + i } in
-    let after : (ℕ → ℕ) = masks_after (live_with old.uses.bounds t.after.frame others) (live_with old.uses.bounds old.uses.state.frame others) t.stored rec.access masks in
-    let K : UseWalked → ℕ → Type 0 = λ x s. KnowsBytes old.core bytes (is_live r x.state.frame) others (without (λ a. is_live r x.state.frame a || others a) (without (λ a. live_in old.uses a || others a) (mask_stored s rec.access masks))) in
+    let after : (ℕ → ℕ) = masks_after (live_with old.uses.bounds t.after.frame others) (lost_with old.uses.bounds old.uses.state t.after others) t.stored rec.access masks in
+    let K : UseWalked → ℕ → Type 0 = λ x s. KnowsBytes old.core bytes (is_live r x.state.frame) others (without (forgotten x.state sp) (without (λ a. is_live r x.state.frame a || others a) (without (λ a. live_in old.uses a || others a) (mask_stored s rec.access masks)))) in
     let moved : K w t.stored = subst (λ (s : ℕ). K w s) stores (subst (λ (x : UseWalked). K x stored) is known) in
     let P : Side → Type 0 = λ s. IsUsePast old s bytes others after st in
     let there : P (at w n) = record {
@@ -177,8 +187,10 @@ judged_past old new uses bytes others masks code rec found u nested next stored 
           ∙ (ap (λ (x : Mode). standing t.after fresh x (old.steps + 1) (old.carried + n)) h
           ∙ (ap (λ (s : ℕ). standing t.after fresh m s (old.carried + n)) (next_is old.steps) ∙ ap (λ (i : ℕ). standing t.after fresh m (suc old.steps) (old.carried + i)) counts));
       bytes_are =
-          knows_same old.core bytes (is_live r t.after.frame) others (without (λ a. is_live r t.after.frame a || others a) (without (λ a. live_in old.uses a || others a) (mask_stored t.stored rec.access masks))) after
-          (λ a. over_two (is_live r t.after.frame a || others a) (live_in old.uses a || others a) (mask_stored t.stored rec.access masks a)) moved;
+          knows_same old.core bytes (is_live r t.after.frame) others (without (forgotten t.after sp) (without (λ a. is_live r t.after.frame a || others a) (without (λ a. live_in old.uses a || others a) (mask_stored t.stored rec.access masks)))) after
+          (λ a.
+          ap (λ b. cond b 0 (cond (is_live r t.after.frame a || others a) 0 (cond (live_in old.uses a || others a) 0 (mask_stored t.stored rec.access masks a)))) (forgotten_by old.uses.state t.after sp a at_sp (step_same code nested rec masks old.uses.state))
+          ∙ over_three (forgets old.uses.state t.after a) (is_live r t.after.frame a || others a) (live_in old.uses a || others a) (mask_stored t.stored rec.access masks a)) moved;
     } in
     let new_is : new ≡ at w n = made ∙ ap (λ (x : UseWalked). at x n) is in
     subst (λ (o : Option BreachKind). IsUseSeen old new bytes others masks (use_seen_step o code old.uses.bounds (standing_of old) others masks nested rec) (Ok u)) (sym none) (subst P (sym new_is) there)

@@ -1,6 +1,6 @@
 -- Carries a proof; nothing that a reader must believe.
 -- One core of the walk of uses.
-use Rattle.std.specs.Prelude.{◌≡◌, ℕ, suc, ◌+◌, ◌-◌, ◌<◌, ◌≤◌, ◌^◌, Bool, ◌||◌, Option, Some}
+use Rattle.std.specs.Prelude.{◌≡◌, ℕ, suc, ◌+◌, ◌-◌, ◌<◌, ◌≤◌, ◌^◌, Bool, ◌&&◌, ◌||◌, Option, Some}
 use Rattle.std.specs.Prelude.{None, Result, Ok, Err, List, ◌∷◌, length}
 use Rattle.xt_frames.specs.declared.kinds.BreachKind.{BreachKind}
 use Rattle.xt_frames.specs.Breaches.{Bounds}
@@ -15,6 +15,7 @@ use Rattle.xt_discipline.specs.Sides.{in_areas, mode_of}
 use Rattle.xt_uses.specs.declared.told.Stopped.{Stopped}
 use Rattle.xt_uses.specs.declared.told.Stopped.TheVariants.{Breaks, NoMemory}
 use Rattle.xt_uses.specs.UseParts.{UseWalked, fresh_at}
+use Rattle.xt_uses.specs.UseState.{UseState, is_strict_in, rises_over, stack_pointer}
 use Rattle.xt_uses.specs.UseWalk.{UseStanding, UseSeen, UseHandled, UseJudged, UseBroken}
 use Rattle.xt_use_walk.specs.declared.side.Bytes.{Bytes}
 use Rattle.xt_use_walk.specs.declared.side.Side.{Side}
@@ -67,6 +68,10 @@ abbrev pub IsFollowed : ℕ → Range → FrameState → FrameState → Bytes �
 IsFollowed core r g u old new =
     (others : ℕ → Bool) (masks : ℕ → ℕ) → KnowsBytes core old (is_live r g) others masks
     → KnowsBytes core new (is_live r u) others (without (λ a. is_live r u a || others a) masks)
+
+-- the bytes that a step forgets, by the state that it leaves and the stack pointer before it
+abbrev pub forgotten : UseState → ℕ → ℕ → Bool
+forgotten s sp a = is_strict_in s && rises_over sp (stack_pointer s) a
 
 -- ---- a record of the core
 

@@ -9,6 +9,7 @@ use Rattle.xt_trace.specs.declared.run.Run.{Run}
 use Rattle.xt_frames.specs.FirstBreach.{Course, IsTurn, by_core, turns}
 use Rattle.xt_discipline.specs.Schedules.{schedule_in}
 use Rattle.xt_discipline.specs.Verdicts.{opened0, opened1}
+use Rattle.xt_uses.specs.declared.discipline.Discipline.{Discipline}
 use Rattle.xt_uses.specs.FirstUse.{History, IsFirstUse, IsHistory, IsVerdict}
 use Rattle.xt_uses.specs.Lacks.{lacks_before}
 use Rattle.xt_use_walk.specs.declared.walk.FirstUse.{FirstUse}
@@ -30,9 +31,9 @@ course_in image r xs ys = record {
 
 -- the first breach, its record, and the registers that the record's instruction reads and of which
 -- not every bit is known
-pub record IsBroken (r : Course) (first : FirstUse) : Type 0 where
+pub record IsBroken (d : Discipline) (r : Course) (first : FirstUse) : Type 0 where
   pub history : History
-  pub is_history : IsHistory r history
+  pub is_history : IsHistory d r history
   pub place : ℕ
   pub is_first : IsFirstUse r history place (Some first.breach)
   pub turn : IsTurn r place first.breach.core first.rec
@@ -41,18 +42,18 @@ pub record IsBroken (r : Course) (first : FirstUse) : Type 0 where
 
 -- where the six window handlers pass their check: the first breach; or none, and how many judged
 -- steps of core 0 and core 1 carry what is not known
-abbrev pub IsSaid : Course → Uses → Type 0
-IsSaid r Unchecked = ⊥
-IsSaid r (Whole n m) = IsVerdict r None n m
-IsSaid r (Broken first) = IsBroken r first
+abbrev pub IsSaid : Discipline → Course → Uses → Type 0
+IsSaid d r Unchecked = ⊥
+IsSaid d r (Whole n m) = IsVerdict d r None n m
+IsSaid d r (Broken first) = IsBroken d r first
 
 -- `checked`: the six window handlers pass the check
-abbrev pub IsUsesOf : Bool → Course → Uses → Type 0
-IsUsesOf false r uses = uses ≡ Unchecked
-IsUsesOf true r uses = IsSaid r uses
+abbrev pub IsUsesOf : Discipline → Bool → Course → Uses → Type 0
+IsUsesOf d false r uses = uses ≡ Unchecked
+IsUsesOf d true r uses = IsSaid d r uses
 
--- a run has one answer
+-- a run has one answer by a discipline
 abbrev pub UsesAreOne : Type 0
 UsesAreOne =
-    (checked : Bool) (r : Course) (one other : Uses)
-    → IsUsesOf checked r one → IsUsesOf checked r other → one ≡ other
+    (d : Discipline) (checked : Bool) (r : Course) (one other : Uses)
+    → IsUsesOf d checked r one → IsUsesOf d checked r other → one ≡ other

@@ -1,16 +1,19 @@
 -- Carries a proof; nothing that a reader must believe.
 -- The walk over the records of both cores: what it knows is what the definition of the walk knows.
 use Rattle.std.specs.Prelude.{◌≡◌, ℕ, zero, suc, ◌+◌, ◌<◌, Bool, Some, None, Result, Ok}
-use Rattle.std.specs.Prelude.{Err, List, [], ◌∷◌, ◌-◌, ◌||◌, if◌then◌else◌, drop, slice_get}
+use Rattle.std.specs.Prelude.{◌&&◌, nat_le, nat_lt, Err, List, [], ◌∷◌, ◌-◌, ◌||◌, if◌then◌else◌, drop, slice_get}
 use Rattle.xt_map.specs.Touching.{touches}
 use Rattle.xt_map.specs.Memory.{constant_byte}
 use Rattle.xt_map.specs.declared.segment.Segment.{Segment}
 use Rattle.xt_trace.specs.declared.options.Options.{Options}
+use Rattle.xt_trace.specs.declared.options.Stack.{Stack}
 use Rattle.xt_trace.specs.declared.record.StepRecord.{StepRecord}
 use Rattle.xt_frames.specs.Breaches.{Bounds}
 use Rattle.xt_frames.specs.Walked.{opened}
 use Rattle.xt_discipline.specs.Ended.{records_left}
 use Rattle.xt_uses.specs.declared.told.Stopped.TheVariants as stopped
+use Rattle.xt_uses.specs.Disciplines.{is_strict}
+use Rattle.xt_uses.specs.declared.discipline.Discipline.{Discipline}
 use Rattle.xt_uses.specs.Lacks.{lacks_before}
 use Rattle.xt_uses.specs.UseWalk.{UseJudgement, UseKnown, UseStanding, opening_use_known}
 use Rattle.xt_uses.specs.UseWalk.{use_judgement, use_seen}
@@ -121,18 +124,25 @@ IsTurned code b0 b1 core k xs ys new xs' ys' (Err end) =
 
 -- ---- both cores as they open
 
--- of each stack the word at HI - 76 lies in a live save area, and all but that is known
-abbrev pub AreOpened : Bytes → ℕ → ℕ → Type 0
-AreOpened bytes hi0 hi1 =
-    KnowsBytes 0 bytes (λ a. touches (hi0 - 76) 4 a) (λ a. touches (hi1 - 76) 4 a)
-    (λ a. if touches (hi0 - 76) 4 a || touches (hi1 - 76) 4 a then 0 else 255)
+-- the bytes of a stack below the stack pointer with which its core opens, in the strict discipline
+abbrev pub below_opening : Discipline → Stack → ℕ → Bool
+below_opening d s a = is_strict d && (nat_le s.lo a && nat_lt a (s.hi - 64))
 
-pub record IsOpened (w : Walk) (code : List Segment) (entry : ℕ) (o : Options) : Type 0 where
+-- of each stack the word at HI - 76 lies in a live save area, and all but that and what lies below
+-- the stack pointers is known
+abbrev pub AreOpened : Discipline → Bytes → Stack → Stack → Type 0
+AreOpened d bytes s0 s1 =
+    KnowsBytes 0 bytes (λ a. touches (s0.hi - 76) 4 a) (λ a. touches (s1.hi - 76) 4 a)
+    (λ a. if (touches (s0.hi - 76) 4 a || touches (s1.hi - 76) 4 a)
+    || (below_opening d s0 a || below_opening d s1 a) then 0 else 255)
+
+pub record IsOpened
+    (d : Discipline) (w : Walk) (code : List Segment) (entry : ℕ) (o : Options) : Type 0 where
   pub code_is : w.code ≡ code
   pub steps0 : w.side0.steps ≡ 0
   pub steps1 : w.side1.steps ≡ 0
   pub knows : Knows w (opened 0 entry o).bounds (opened 1 o.entry1 o).bounds
-      (opening_use_known (opened 0 entry o).bounds (opened 1 o.entry1 o).bounds
+      (opening_use_known d (opened 0 entry o).bounds (opened 1 o.entry1 o).bounds
       (opened 0 entry o).state (opened 1 o.entry1 o).state)
 
 -- ---- along a schedule

@@ -14,8 +14,9 @@ use xt_handlers::Handlers;
 use xt_image::Image;
 use xt_map::Constants;
 use xt_trace::{Records, Run};
+use xt_uses::Discipline;
 
-/// What the discipline of uses says of a run of an image, whose cores have these records: nothing where some window handler does not
+/// What this discipline of uses says of a run of an image, whose cores have these records: nothing where some window handler does not
 /// pass the check; else the first breach in the order of the run's schedule, handler steps left out, if a judged step shows one. The
 /// only error is running out of memory.
 ///
@@ -24,6 +25,7 @@ use xt_trace::{Records, Run};
 /// its last one.
 pub fn judge_uses<R: Records>(
     alloc: Global,
+    discipline: Discipline,
     image: &Image,
     handlers: &Handlers,
     run: &Run,
@@ -34,12 +36,12 @@ pub fn judge_uses<R: Records>(
     requires placed { IsPlaced image.now.segments }
     requires served0 { All IsServed (R.left records0.old) }
     requires served1 { All IsServed (R.left records1.old) }
-    ensures { IfOk result (λ uses. IsUsesOf (are_yes handlers.now) (course_in image.now run.now (R.left records0.old) (R.left records1.old)) uses) }
+    ensures { IfOk result (λ uses. IsUsesOf discipline (are_yes handlers.now) (course_in image.now run.now (R.left records0.old) (R.left records1.old)) uses) }
 {
     if !are_yes(handlers) {
         return Ok(Uses::Unchecked);
     }
     let code = Constants::make(alloc, image.segments.as_slice())?;
-    let mut walk = Walk::open(alloc, code, image.entry, &run.options)?;
+    let mut walk = Walk::open(alloc, code, discipline, image.entry, &run.options)?;
     walk.judge(run, records0, records1)
 }

@@ -16,7 +16,7 @@ ghost use Rattle.xt_uses.specs.UseParts.{IsTouched, UseMoves};
 ghost use Rattle.xt_uses.specs.UseWalk.{count_of, use_seen, use_seen_judged};
 ghost use Rattle.xt_uses.specs.FirstUse.{stored_byte};
 ghost use Rattle.xt_use_walk.specs.Bytes.{AreBytes, AreFull, AreMasks, AreShifted, KnowsBytes, is_byte, mask_at, put_free, stored_on, stored_over, without};
-ghost use Rattle.xt_use_walk.specs.Sides.{AreaBytes, BeginsUse, IsCallOf, IsFollowed, IsNewestCall, IsUseSeen, IsUseSide, StackOf, live_in, sp_at, standing_of};
+ghost use Rattle.xt_use_walk.specs.Sides.{AreaBytes, BeginsUse, IsCallOf, IsFollowed, IsNewestCall, IsUseSeen, IsUseSide, StackOf, forgotten, live_in, sp_at, standing_of};
 
 use crate::bytes::ByteMasks;
 use xt_discipline::{
@@ -271,6 +271,26 @@ impl Side {
         }
     }
 
+    /// Forgets the bytes over which the stack pointer has risen in the strict discipline, where it was `sp` before the step.
+    ///
+    /// Condition: that lay 16 bytes above the beginning of the stack, at least.
+    fn forget(&self, bytes: &mut Bytes, sp: u32)
+        requires side { IsUseSide self.now }
+        requires full { AreFull bytes.old }
+        requires low { self.now.uses.bounds.range.lo + 16 ≤ sp }
+        ensures full { AreFull bytes.new }
+        ensures marks { bytes.new.marks.items ≡ bytes.old.marks.items }
+        ensures masks { AreMasks bytes.new.masks (without (forgotten self.now.uses.state sp) (mask_at bytes.old.masks)) }
+    {
+        if !self.uses.is_strict() {
+            return;
+        }
+        let now = self.uses.sp(self.uses.depth());
+        if sp < now {
+            bytes.masks.forget(sp - 16, now - (sp - 16));
+        }
+    }
+
     /// Judges a record that is no handler step and touches this: a breach, after which nothing has changed, or the step, whose save areas
     /// and stores the bytes follow, and then the mode is the next one.
     #[inline(never)]
@@ -296,6 +316,7 @@ impl Side {
             (use_seen_judged (constant_byte code.now) self.old.uses.bounds (standing_of self.old) others masks nested rec.now) result }
     {
         let depth = self.uses.depth();
+        let sp = self.uses.sp(depth);
         let call = self.newest();
         let used = self.uses.judge(code, self.steps, rec, nested, touched)?;
         self.mode = next;
@@ -303,6 +324,7 @@ impl Side {
         self.carried += count_of(used.carries);
         bytes.store(rec.access, used.stored);
         self.follow(bytes, depth, call);
+        self.forget(bytes, sp);
         Ok(())
     }
 

@@ -4,7 +4,7 @@
 ghost use Rattle.std.specs.Prelude.{◌≡◌, ◌+◌, ◌<◌, ◌^◌, ℕ, Bool, All, IfOk, length};
 ghost use Rattle.xt_map.specs.Memory.{constant_byte};
 ghost use Rattle.xt_trace.specs.declared.options.Options.{Options};
-ghost use Rattle.xt_trace.specs.Validity.{IsValid};
+ghost use Rattle.xt_trace.specs.Validity.{IsValid, IsValidStack};
 ghost use Rattle.xt_frames.specs.Breaches.{Bounds};
 ghost use Rattle.xt_frames.specs.Walked.{stack_of};
 ghost use Rattle.xt_discipline.specs.declared.side.Mode.TheVariants as mode;
@@ -12,10 +12,10 @@ ghost use Rattle.xt_discipline.specs.Schedules.{HasSchedule, schedule_in};
 ghost use Rattle.xt_uses.specs.UseParts.{opened_use};
 ghost use Rattle.xt_uses.specs.UseWalk.{UseKnown, use_judgement};
 ghost use Rattle.xt_use_walk.specs.declared.walk.Uses.TheVariants.{Whole};
-ghost use Rattle.xt_use_walk.specs.Bytes.{AreFull, KnowsBytes};
+ghost use Rattle.xt_use_walk.specs.Bytes.{AreFull, AreMasks, IsFull, KnowsBytes, mask_at, without};
 ghost use Rattle.xt_use_walk.specs.Sides.{IsUseSide, live_in};
 ghost use Rattle.xt_use_walk.specs.Verdicts.{IsServed};
-ghost use Rattle.xt_use_walk.specs.Walks.{AreOpened, IsOpened, IsTold, IsTurned, IsWalked, Knows, Turns};
+ghost use Rattle.xt_use_walk.specs.Walks.{AreOpened, IsOpened, below_opening, IsTold, IsTurned, IsWalked, Knows, Turns};
 
 use crate::bytes::ByteMasks;
 use crate::side::{Bytes, Side};
@@ -23,8 +23,8 @@ use std::alloc::{AllocError, Global};
 use xt_discipline::{Mode, Order, opening_marks};
 use xt_frames::Breach;
 use xt_map::Constants;
-use xt_trace::{Options, Records, Run, StepRecord};
-use xt_uses::{Lack, Stopped, UseCore};
+use xt_trace::{Options, Records, Run, Stack, StepRecord};
+use xt_uses::{Discipline, Lack, Stopped, UseCore};
 
 /// The first use of something that is not known, or another breach.
 #[derive(Clone, Copy)]
@@ -72,31 +72,57 @@ pub enum End {
 
 /// A core as it opens.
 #[tactic(auto, using(xt_discipline::proofs::Opens::range_of_core))]
-fn side_of(alloc: Global, core: u8, pc: u32, options: &Options, hi: u32) -> Result<Side, AllocError>
+fn side_of(
+    alloc: Global,
+    discipline: Discipline,
+    core: u8,
+    pc: u32,
+    options: &Options,
+    hi: u32,
+) -> Result<Side, AllocError>
     requires core { core < 2 }
     requires valid { IsValid options.now }
     requires end { hi ≡ (stack_of core options.now).hi }
-    ensures { IfOk result (λ s. s ≡ record { core = core; hi = hi; uses = opened_use core pc options.now; mode = mode.Plain; steps = 0; carried = 0 }) }
+    ensures { IfOk result (λ s. s ≡ record { core = core; hi = hi; uses = opened_use discipline core pc options.now; mode = mode.Plain; steps = 0; carried = 0 }) }
 {
     Ok(Side {
         core,
         hi,
-        uses: UseCore::make(alloc, core, pc, options)?,
+        uses: UseCore::make(alloc, discipline, core, pc, options)?,
         mode: Mode::Plain,
         steps: 0,
         carried: 0,
     })
 }
 
-/// What is known of the bytes as both cores open: all, but for a word of each stack, 76 below its end, which lies in a live save area.
-fn opening_bytes(alloc: Global, options: &Options) -> Result<Bytes, AllocError>
+/// In the strict discipline nothing is known of a stack below the stack pointer with which its core opens, 64 below its end.
+fn forget_below(masks: &mut ByteMasks, discipline: Discipline, stack: Stack)
+    requires stack { IsValidStack stack }
+    requires full { IsFull masks.old }
+    ensures full { IsFull masks.new }
+    ensures masks { AreMasks masks.new (without (below_opening discipline stack) (mask_at masks.old)) }
+{
+    if discipline == Discipline::Strict {
+        masks.forget(stack.lo, stack.hi - 64 - stack.lo);
+    }
+}
+
+/// What is known of the bytes as both cores open: all, but for a word of each stack, 76 below its end, which lies in a live save area,
+/// and in the strict discipline for what lies below the stack pointers.
+fn opening_bytes(
+    alloc: Global,
+    discipline: Discipline,
+    options: &Options,
+) -> Result<Bytes, AllocError>
     requires { IsValid options.now }
-    ensures { IfOk result (λ bytes. AreOpened bytes options.now.stack0.hi options.now.stack1.hi) }
+    ensures { IfOk result (λ bytes. AreOpened discipline bytes options.now.stack0 options.now.stack1) }
 {
     let marks = opening_marks(alloc, options)?;
     let mut masks = ByteMasks::make(alloc)?;
     masks.forget(options.stack0.hi - 76, 4);
     masks.forget(options.stack1.hi - 76, 4);
+    forget_below(&mut masks, discipline, options.stack0);
+    forget_below(&mut masks, discipline, options.stack1);
     Ok(Bytes { marks, masks })
 }
 
@@ -133,15 +159,23 @@ impl<'a> Walk<'a> {
     pub fn open(
         alloc: Global,
         code: Constants<'a>,
+        discipline: Discipline,
         entry: u32,
         options: &Options,
     ) -> Result<Walk<'a>, AllocError>
         requires { IsValid options.now }
-        ensures { IfOk result (λ w. IsOpened w code.entry entry options.now) }
+        ensures { IfOk result (λ w. IsOpened discipline w code.entry entry options.now) }
     {
-        let side0 = side_of(alloc, 0, entry, options, options.stack0.hi)?;
-        let side1 = side_of(alloc, 1, options.entry1, options, options.stack1.hi)?;
-        let bytes = opening_bytes(alloc, options)?;
+        let side0 = side_of(alloc, discipline, 0, entry, options, options.stack0.hi)?;
+        let side1 = side_of(
+            alloc,
+            discipline,
+            1,
+            options.entry1,
+            options,
+            options.stack1.hi,
+        )?;
+        let bytes = opening_bytes(alloc, discipline, options)?;
         Ok(Walk {
             code,
             side0,

@@ -23,5 +23,5 @@ returns g c =
     let b = opened 1 o.entry1 o in
     let begun = c.in_ok-walk.ensures in
     let good : are_yes c.args.handlers.now ≡ true = sym c.are_yes.ensures ∙ c.if-not-are_yes.false in
-    all_uses_are c.in_ok-walk.walk c.in_ok-code.code image c.args.run.now (g.R.Records.left c.args.records0.now) (g.R.Records.left c.args.records1.now) c.judge.result (are_yes c.args.handlers.now)
-    good begun (c.in_ok-code.ensures ∙ c.as_slice.ensures) (c.judge.ensures a.bounds b.bounds (opening_use_known a.bounds b.bounds a.state b.state) begun.knows)
+    all_uses_are c.args.discipline c.in_ok-walk.walk c.in_ok-code.code image c.args.run.now (g.R.Records.left c.args.records0.now) (g.R.Records.left c.args.records1.now) c.judge.result (are_yes c.args.handlers.now)
+    good begun (c.in_ok-code.ensures ∙ c.as_slice.ensures) (c.judge.ensures a.bounds b.bounds (opening_use_known c.args.discipline a.bounds b.bounds a.state b.state) begun.knows)
