@@ -31,6 +31,8 @@ use Rattle.xt_uses.specs.UseLaws.{IsUseRun}
 use Rattle.xt_use_walk.specs.declared.walk.Uses.{Uses}
 use Rattle.xt_use_walk.specs.declared.walk.Uses.TheVariants.{Unchecked, Whole, Broken}
 use Rattle.xt_use_walk.specs.Verdicts.{IsSaid, IsUsesOf, UsesAreOne, course_in}
+use Rattle.xt_uses.specs.declared.discipline.Discipline.{Discipline}
+use Rattle.xt_uses.specs.declared.discipline.Discipline.TheVariants.{Lenient}
 use Rattle.xt_use_run.specs.Laws as laws
 use Rattle.xt_use_run.specs.Laws.{UsesAreSo, UsesOfRunsAreLater}
 use Rattle.xt_use_report.specs.Held.{AreSo, AreUsesLater, AreUsesSo, IsLater, IsOnly, course_of, is_checked, opening}
@@ -101,34 +103,34 @@ course_is image r h =
     ap C (schedule_is image r h)
 
 -- what was judged over these answers and records
-pub uses_are : (image : Image) (r : Run) (handlers : declared.Handlers) (xs ys : List StepRecord) (uses : Uses)
+pub uses_are : (d : Discipline) (image : Image) (r : Run) (handlers : declared.Handlers) (xs ys : List StepRecord) (uses : Uses)
     → handlers ≡ handlers_of (code_of image) r.options.vecbase → xs ≡ (records_of 0 image r).records → ys ≡ (records_of 1 image r).records
-    → IsUsesOf (are_yes handlers) (course_in image r xs ys) uses → IsUsesOf (is_checked image r) (course_of image r) uses
-uses_are image r handlers xs ys uses answers first second h =
+    → IsUsesOf d (are_yes handlers) (course_in image r xs ys) uses → IsUsesOf d (is_checked image r) (course_of image r) uses
+uses_are d image r handlers xs ys uses answers first second h =
     let zs = (records_of 0 image r).records in
-    let a : IsUsesOf (is_checked image r) (course_in image r xs ys) uses = subst (λ (x : declared.Handlers). IsUsesOf (are_yes x) (course_in image r xs ys) uses) answers h in
-    let b : IsUsesOf (is_checked image r) (course_in image r zs ys) uses = subst (λ (x : List StepRecord). IsUsesOf (is_checked image r) (course_in image r x ys) uses) first a in
-    subst (λ (y : List StepRecord). IsUsesOf (is_checked image r) (course_in image r zs y) uses) second b
+    let a : IsUsesOf d (is_checked image r) (course_in image r xs ys) uses = subst (λ (x : declared.Handlers). IsUsesOf d (are_yes x) (course_in image r xs ys) uses) answers h in
+    let b : IsUsesOf d (is_checked image r) (course_in image r zs ys) uses = subst (λ (x : List StepRecord). IsUsesOf d (is_checked image r) (course_in image r x ys) uses) first a in
+    subst (λ (y : List StepRecord). IsUsesOf d (is_checked image r) (course_in image r zs y) uses) second b
 
 -- ---- the laws
 
 -- where the breach of an answer stands, or the run ends
-said_so : (c : Course) (opening : MemoryContents) (uses : Uses) → IsSaid c uses → IsUseRun c opening → AreSo c opening uses
-said_so c opening Unchecked said fits = absurd said
-said_so c opening (Whole n m) said fits = record { history = said.history; is_history = said.is_history; place = said.place; is_first = said.first; fits = fits }
-said_so c opening (Broken first) said fits = record { history = said.history; is_history = said.is_history; place = said.place; is_first = said.is_first; fits = fits }
+said_so : (d : Discipline) (c : Course) (opening : MemoryContents) (uses : Uses) → IsSaid d c uses → IsUseRun c opening → AreSo d c opening uses
+said_so d c opening Unchecked said fits = absurd said
+said_so d c opening (Whole n m) said fits = record { history = said.history; is_history = said.is_history; place = said.place; is_first = said.first; fits = fits }
+said_so d c opening (Broken first) said fits = record { history = said.history; is_history = said.is_history; place = said.place; is_first = said.is_first; fits = fits }
 
-said_of : (checked : Bool) (c : Course) (uses : Uses) → checked ≡ true → IsUsesOf checked c uses → IsSaid c uses
-said_of true c uses e said = said
-said_of false c uses e said = absurd cc
+said_of : (d : Discipline) (checked : Bool) (c : Course) (uses : Uses) → checked ≡ true → IsUsesOf d checked c uses → IsSaid d c uses
+said_of d true c uses e said = said
+said_of d false c uses e said = absurd cc
 
-pub are_so : (image : Image) (r : Run) (uses : Uses) → UsesAreSo → FitsImage image → IsWord r.options.vecbase → IsWord r.options.entry1 → IsRunOf image r → IsUsesOf (is_checked image r) (course_of image r) uses → AreUsesSo image r uses
-are_so image r uses law fits vecbase entry1 h of checked apart =
+pub are_so : (d : Discipline) (image : Image) (r : Run) (uses : Uses) → UsesAreSo → FitsImage image → IsWord r.options.vecbase → IsWord r.options.entry1 → IsRunOf image r → IsUsesOf d (is_checked image r) (course_of image r) uses → AreUsesSo d image r uses
+are_so d image r uses law fits vecbase entry1 h of checked apart =
     let so = law image.segments image.entry r.options (short_of image r) (runnable image r fits vecbase entry1 h) (passes (code_of image) r.options.vecbase checked) apart (run_by image r h) in
-    said_so (course_of image r) (memory_of (opening image r)) uses (said_of (is_checked image r) (course_of image r) uses checked of)
+    said_so d (course_of image r) (memory_of (opening image r)) uses (said_of d (is_checked image r) (course_of image r) uses checked of)
     (subst (λ (c : Course). IsUseRun c (memory_of (opening image r))) (course_is image r h) so)
 
-whole_said : (c : Course) (uses : Uses) → IsLater c → IsSaid c uses → (p : ℕ) → IsFirstBreach c p None → uses ≡ Whole 0 0
+whole_said : (c : Course) (uses : Uses) → IsLater c → IsSaid Lenient c uses → (p : ℕ) → IsFirstBreach c p None → uses ≡ Whole 0 0
 whole_said c Unchecked later said p first = absurd said
 whole_said c (Whole n m) later said p first =
     let both = (later said.history p said.place None None said.is_history first said.first).1 refl in
@@ -138,13 +140,13 @@ whole_said c (Whole n m) later said p first =
 whole_said c (Broken named) later said p first =
     absurd (none-some named.breach (sym ((later said.history p said.place None (Some named.breach) said.is_history first said.is_first).1 refl).0))
 
-pub are_later : (image : Image) (r : Run) (uses : Uses) → UsesOfRunsAreLater → FitsImage image → IsWord r.options.vecbase → IsWord r.options.entry1 → IsRunOf image r → IsUsesOf (is_checked image r) (course_of image r) uses → AreUsesLater image r uses
-are_later image r uses law fits vecbase entry1 h of =
+pub are_later : (d : Discipline) (image : Image) (r : Run) (uses : Uses) → UsesOfRunsAreLater → FitsImage image → IsWord r.options.vecbase → IsWord r.options.entry1 → IsRunOf image r → IsUsesOf d (is_checked image r) (course_of image r) uses → AreUsesLater d image r uses
+are_later d image r uses law fits vecbase entry1 h of =
     let later : IsLater (course_of image r) = subst IsLater (course_is image r h) (law image.segments image.entry r.options (short_of image r) (runnable image r fits vecbase entry1 h) (run_by image r h)) in
     record {
       later = later;
-      whole = λ checked. whole_said (course_of image r) uses later (said_of (is_checked image r) (course_of image r) uses checked of);
+      whole = λ lenient checked. whole_said (course_of image r) uses later (subst (λ (x : Discipline). IsSaid x (course_of image r) uses) lenient (said_of d (is_checked image r) (course_of image r) uses checked of));
     }
 
-pub is_only : (image : Image) (r : Run) (uses : Uses) → UsesAreOne → IsUsesOf (is_checked image r) (course_of image r) uses → IsOnly image r uses
-is_only image r uses law of other said = law (is_checked image r) (course_of image r) other uses said of
+pub is_only : (d : Discipline) (image : Image) (r : Run) (uses : Uses) → UsesAreOne → IsUsesOf d (is_checked image r) (course_of image r) uses → IsOnly d image r uses
+is_only d image r uses law of other said = law d (is_checked image r) (course_of image r) other uses said of

@@ -10,6 +10,8 @@ use Rattle.xt_handlers.specs.Answers.{handlers_of}
 use Rattle.xt_discipline.specs.Verdicts.{are_yes}
 use Rattle.xt_simulation.specs.Opening.{Openings, memory_of, openings_of}
 use Rattle.xt_simulation.specs.Walking.{Apart}
+use Rattle.xt_uses.specs.declared.discipline.Discipline.TheVariants.{Lenient}
+use Rattle.xt_uses.specs.declared.discipline.Discipline.{Discipline}
 use Rattle.xt_uses.specs.FirstUse.{History, IsFirstUse, IsHistory, carried}
 use Rattle.xt_uses.specs.UseLaws.{IsUseRun}
 use Rattle.xt_use_walk.specs.declared.walk.Uses.{Uses}
@@ -38,37 +40,39 @@ found_in (Broken first) = Some first.breach
 -- turn, or none does and it is the end; and of each judged record before the first breach the
 -- machine of uses has the PC, the kind, and what is known of the write, the access and the reply,
 -- over one memory.
-pub record AreSo (c : Course) (opening : MemoryContents) (uses : Uses) : Type 0 where
+pub record AreSo (d : Discipline) (c : Course) (opening : MemoryContents) (uses : Uses) : Type 0 where
   pub history : History
-  pub is_history : IsHistory c history
+  pub is_history : IsHistory d c history
   pub place : ℕ
   pub is_first : IsFirstUse c history place (found_in uses)
   pub fits : IsUseRun c opening
 
-abbrev pub AreUsesSo : Image → Run → Uses → Type 0
-AreUsesSo image r uses =
+abbrev pub AreUsesSo : Discipline → Image → Run → Uses → Type 0
+AreUsesSo d image r uses =
     is_checked image r ≡ true
     → Apart (opening image r).range0 (opening image r).range1
-    → AreSo (course_of image r) (memory_of (opening image r)) uses
+    → AreSo d (course_of image r) (memory_of (opening image r)) uses
 
--- The first breach of uses is never before that of the stack discipline; where that shows none,
--- there is none of uses, and nothing unknown is carried.
+-- The first breach of the lenient discipline is never before that of the stack discipline; where
+-- that shows none, there is none of uses, and nothing unknown is carried.
 abbrev pub IsLater : Course → Type 0
 IsLater c =
     (h : History) (p q : ℕ) (breach found : Option Breach)
-    → IsHistory c h → IsFirstBreach c p breach → IsFirstUse c h q found
+    → IsHistory Lenient c h → IsFirstBreach c p breach → IsFirstUse c h q found
     → (p ≤ q)
     × (breach ≡ None → (found ≡ None) × (carried c h 0 q ≡ 0) × (carried c h 1 q ≡ 0))
 
--- so where the stack discipline shows none, the answer is that uses are whole and carry nothing
-pub record AreLater (c : Course) (checked : Bool) (uses : Uses) : Type 0 where
+-- so where the stack discipline shows none, the answer of the lenient discipline is that uses are
+-- whole and carry nothing
+pub record AreLater (d : Discipline) (c : Course) (checked : Bool) (uses : Uses) : Type 0 where
   pub later : IsLater c
-  pub whole : checked ≡ true → (p : ℕ) → IsFirstBreach c p None → uses ≡ Whole 0 0
+  pub whole :
+      d ≡ Lenient → checked ≡ true → (p : ℕ) → IsFirstBreach c p None → uses ≡ Whole 0 0
 
-abbrev pub AreUsesLater : Image → Run → Uses → Type 0
-AreUsesLater image r uses = AreLater (course_of image r) (is_checked image r) uses
+abbrev pub AreUsesLater : Discipline → Image → Run → Uses → Type 0
+AreUsesLater d image r uses = AreLater d (course_of image r) (is_checked image r) uses
 
 -- no other answer is one of the run
-abbrev pub IsOnly : Image → Run → Uses → Type 0
-IsOnly image r uses =
-    (other : Uses) → IsUsesOf (is_checked image r) (course_of image r) other → other ≡ uses
+abbrev pub IsOnly : Discipline → Image → Run → Uses → Type 0
+IsOnly d image r uses =
+    (other : Uses) → IsUsesOf d (is_checked image r) (course_of image r) other → other ≡ uses

@@ -14,28 +14,34 @@ use xt_trace::Run;
 use xt_use_run::laws::{uses_are_so, uses_of_runs_are_later};
 use xt_use_walk::laws::uses_are_one;
 use xt_use_walk::{Uses, judge_uses};
+use xt_uses::Discipline;
 
 // A number of 32 bits is a word, by its type.
 fn is_word(number: u32)
     ensures { IsWord number }
 {}
 
-/// What the discipline of uses says of a run of an image, over the records of both cores, which are made one by one: nothing where some
+/// What a discipline of uses says of a run of an image, over the records of both cores, which are made one by one: nothing where some
 /// window handler does not pass its check; else the first breach in the order of the run's schedule, or how much of what is not known
 /// each core has carried. The only error is running out of memory.
 ///
 /// Conditions: the image is well formed, and the run is the image's.
 ///
 /// No other answer is one of the run. Of a run whose handlers pass and whose stacks are apart, what the machine of uses knows of each
-/// judged record before the breach that the answer names, or of all where it names none, is so. No breach of uses comes before one of
-/// the stack discipline, and where that shows none, the answer is that uses are whole and carry nothing.
-pub fn uses_of(alloc: Global, image: &Image, run: &Run) -> Result<Uses, AllocError>
+/// judged record before the breach that the answer names, or of all where it names none, is so. No breach of the lenient discipline comes
+/// before one of the stack discipline, and where that shows none, its answer is that uses are whole and carry nothing.
+pub fn uses_of(
+    alloc: Global,
+    discipline: Discipline,
+    image: &Image,
+    run: &Run,
+) -> Result<Uses, AllocError>
     requires image { IsWellFormed image.now }
     requires run { IsRunOf image.now run.now }
-    ensures uses { IfOk result (IsUsesOf (is_checked image.now run.now) (course_of image.now run.now)) }
-    ensures only { IfOk result (IsOnly image.now run.now) }
-    ensures so { IfOk result (AreUsesSo image.now run.now) }
-    ensures later { IfOk result (AreUsesLater image.now run.now) }
+    ensures uses { IfOk result (IsUsesOf discipline (is_checked image.now run.now) (course_of image.now run.now)) }
+    ensures only { IfOk result (IsOnly discipline image.now run.now) }
+    ensures so { IfOk result (AreUsesSo discipline image.now run.now) }
+    ensures later { IfOk result (AreUsesLater discipline image.now run.now) }
 {
     well_formed_is_placed();
     uses_are_so();
@@ -46,6 +52,6 @@ pub fn uses_of(alloc: Global, image: &Image, run: &Run) -> Result<Uses, AllocErr
     let handlers = handlers_of(alloc, image, run.options.vecbase)?;
     let mut records0 = Cursor::make(alloc, image, run, 0)?;
     let mut records1 = Cursor::make(alloc, image, run, 1)?;
-    let uses = judge_uses(alloc, image, &handlers, run, &mut records0, &mut records1)?;
+    let uses = judge_uses(alloc, discipline, image, &handlers, run, &mut records0, &mut records1)?;
     Ok(uses)
 }

@@ -19,7 +19,7 @@ use xt_image::{Image, well_formed_is_placed};
 use xt_map::{Constants, Text};
 use xt_trace::{Run, line};
 use xt_use_walk::{FirstUse, Uses};
-use xt_uses::Lack;
+use xt_uses::{Discipline, Lack};
 use xt_word::push_hex8;
 
 // Appends the line that a listing has of the bytes at an address and at the two after it.
@@ -139,20 +139,25 @@ fn said_text(alloc: Global, code: &Constants, uses: &Uses) -> Result<Text, Alloc
     }
 }
 
-/// What is printed of the uses of a run of an image: `uses none` where some window handler does not pass its check; `uses whole carried
+/// What is printed of the uses of a run of an image, by this discipline: `uses none` where some window handler does not pass its check; `uses whole carried
 /// N M`, how many judged steps of core 0 and core 1 wrote a register or stored bytes of which a bit is not known; or `uses breach KIND
 /// core C step N`. Behind a breach stand the trace line of its record; where the record's PC fetches an instruction, the line that a
 /// listing has of it; and for Unset a line `aK VALUE known MASK` or `aK mark J` for each register that the instruction reads and of
 /// which not every bit is known before the step, in the order of their numbers. The only error is running out of memory.
 ///
 /// Conditions: the image is well formed, and the run is the image's.
-pub fn uses_text(alloc: Global, image: &Image, run: &Run) -> Result<Text, AllocError>
+pub fn uses_text(
+    alloc: Global,
+    discipline: Discipline,
+    image: &Image,
+    run: &Run,
+) -> Result<Text, AllocError>
     requires image { IsWellFormed image.now }
     requires run { IsRunOf image.now run.now }
-    ensures { IfOk result (IsUsesTold image.now run.now) }
+    ensures { IfOk result (IsUsesTold discipline image.now run.now) }
 {
     well_formed_is_placed();
-    let uses = uses_of(alloc, image, run)?;
+    let uses = uses_of(alloc, discipline, image, run)?;
     let code = Constants::make(alloc, image.segments.as_slice())?;
     let text = said_text(alloc, &code, &uses)?;
     Ok(text)

@@ -20,16 +20,16 @@ judge_uses-requires-clause-served1 c =
 
 pub returns-clause-uses : goal.returns-clause-uses
 returns-clause-uses c =
-    uses_are c.args.image.now c.args.run.now c.in_ok-handlers.handlers c.in_ok-records0.records0 c.in_ok-records1.records1 c.in_ok-uses.uses
+    uses_are c.args.discipline c.args.image.now c.args.run.now c.in_ok-handlers.handlers c.in_ok-records0.records0 c.in_ok-records1.records1 c.in_ok-uses.uses
     c.in_ok-handlers.ensures c.in_ok-records0.ensures c.in_ok-records1.ensures c.in_ok-uses.ensures
 
 pub returns-clause-only : goal.returns-clause-only
-returns-clause-only c = is_only c.args.image.now c.args.run.now c.in_ok-uses.uses c.uses_are_one.ensures (returns-clause-uses c)
+returns-clause-only c = is_only c.args.discipline c.args.image.now c.args.run.now c.in_ok-uses.uses c.uses_are_one.ensures (returns-clause-uses c)
 
 pub returns-clause-so : goal.returns-clause-so
 returns-clause-so c =
-    are_so c.args.image.now c.args.run.now c.in_ok-uses.uses c.uses_are_so.ensures c.requires.image.fits c.is_word.ensures c.is_word-2.ensures c.requires.run (returns-clause-uses c)
+    are_so c.args.discipline c.args.image.now c.args.run.now c.in_ok-uses.uses c.uses_are_so.ensures c.requires.image.fits c.is_word.ensures c.is_word-2.ensures c.requires.run (returns-clause-uses c)
 
 pub returns-clause-later : goal.returns-clause-later
 returns-clause-later c =
-    are_later c.args.image.now c.args.run.now c.in_ok-uses.uses c.uses_of_runs_are_later.ensures c.requires.image.fits c.is_word.ensures c.is_word-2.ensures c.requires.run (returns-clause-uses c)
+    are_later c.args.discipline c.args.image.now c.args.run.now c.in_ok-uses.uses c.uses_of_runs_are_later.ensures c.requires.image.fits c.is_word.ensures c.is_word-2.ensures c.requires.run (returns-clause-uses c)
