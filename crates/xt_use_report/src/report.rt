@@ -52,6 +52,14 @@ pub fn uses_of(
     let handlers = handlers_of(alloc, image, run.options.vecbase)?;
     let mut records0 = Cursor::make(alloc, image, run, 0)?;
     let mut records1 = Cursor::make(alloc, image, run, 1)?;
-    let uses = judge_uses(alloc, discipline, image, &handlers, run, &mut records0, &mut records1)?;
+    let uses = judge_uses(
+        alloc,
+        discipline,
+        image,
+        &handlers,
+        run,
+        &mut records0,
+        &mut records1,
+    )?;
     Ok(uses)
 }

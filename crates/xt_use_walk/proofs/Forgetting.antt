@@ -62,10 +62,10 @@ pub knows_unmoved : (core : ℕ) (x : Bytes) (own others : ℕ → Bool) (masks 
 knows_unmoved core x own others masks s sp e k =
     let none : (a : ℕ) → forgotten s sp a ≡ false = λ a. forgotten_none (is_strict_in s) sp (stack_pointer s) a (not_less sp (stack_pointer s) e) in
     record {
-        full = k.full;
-        live = k.live;
-        masks_are = λ a h. k.masks_are a h ∙ sym (cond-false (forgotten s sp a) 0 (masks a) (none a));
-        unknown = λ a l. zero_over (forgotten s sp a) (own a || others a) (masks a) (k.unknown a l);
+      full = k.full;
+      live = k.live;
+      masks_are = λ a h. k.masks_are a h ∙ sym (cond-false (forgotten s sp a) 0 (masks a) (none a));
+      unknown = λ a l. zero_over (forgotten s sp a) (own a || others a) (masks a) (k.unknown a l);
     }
 
 -- ---- both cores as they open

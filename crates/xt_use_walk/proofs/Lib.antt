@@ -14,3 +14,4 @@ pub mod Openings
 pub mod Turning
 pub mod OneAnswer
 pub mod Forgetting
+pub mod Filling

@@ -74,6 +74,21 @@ same_place a b h k same = by (is_in a h) (is_in b k)
     by (InSlow l u e) (InDram m v f) = omega (arith, same, l, u, e, m, v, f)
     by (InSlow l u e) (InSlow m v f) = omega (arith, same, l, u, e, m, v, f)
 
+-- the next byte has the next place
+pub next_place : (a : ℕ) → is_byte a ≡ true → is_byte (a + 1) ≡ true → place (a + 1) ≡ place a + 1
+next_place a h k = by (is_in a h) (is_in (a + 1) k)
+  where
+    by : IsIn a → IsIn (a + 1) → place (a + 1) ≡ place a + 1
+    by (InFast l u e) (InFast m v f) = omega (arith, l, u, e, m, v, f)
+    by (InFast l u e) (InDram m v f) = omega (arith, l, u, e, m, v, f)
+    by (InFast l u e) (InSlow m v f) = omega (arith, l, u, e, m, v, f)
+    by (InDram l u e) (InFast m v f) = omega (arith, l, u, e, m, v, f)
+    by (InDram l u e) (InDram m v f) = omega (arith, l, u, e, m, v, f)
+    by (InDram l u e) (InSlow m v f) = omega (arith, l, u, e, m, v, f)
+    by (InSlow l u e) (InFast m v f) = omega (arith, l, u, e, m, v, f)
+    by (InSlow l u e) (InDram m v f) = omega (arith, l, u, e, m, v, f)
+    by (InSlow l u e) (InSlow m v f) = omega (arith, l, u, e, m, v, f)
+
 pub dram_byte : (a : ℕ) → 0x3FFAE000 ≤ a → a < 2 ^ 30 → is_byte a ≡ true
 dram_byte a l h = ap is_memory (range_dram a l (omega (arith, h)))
 

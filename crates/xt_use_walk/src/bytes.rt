@@ -200,8 +200,10 @@ impl ByteMasks {
         ensures full { IsFull self.new }
         ensures forgotten { AreMasks self.new (without (touches from size) (mask_at self.old)) }
     {
-        for k in 0..size {
-            self.put(from + k, 0);
+        if size == 0 {
+            return;
         }
+        let first = place(from);
+        self.masks[first..first + size as usize].fill(0);
     }
 }
