@@ -19,6 +19,7 @@ gen_options = record {
   events = false;
   race = false;
   profile = false;
+  uses = false;
   seed = None;
 }
 

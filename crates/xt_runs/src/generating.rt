@@ -40,6 +40,7 @@ fn gen_options() -> RunOptions
         events: false,
         race: false,
         profile: false,
+        uses: false,
         seed: None,
     }
 }
