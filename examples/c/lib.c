@@ -15,26 +15,25 @@ int putchar(int c)
     return (uint8_t)c;
 }
 
-static int put_text(const char *text)
+/* A text, or its first `most` letters. */
+static int put_text(const char *text, int most)
 {
     int count = 0;
-    while (*text) {
-        putchar(*text++);
-        count++;
-    }
+    for (; count < most && text[count]; count++)
+        putchar(text[count]);
     return count;
 }
 
 int puts(const char *text)
 {
-    int count = put_text(text) + 1;
+    int count = put_text(text, INT32_MAX) + 1;
     putchar('\n');
     return count;
 }
 
 /* A number or a text with what a conversion says of it. */
 struct field {
-    int width, left, zeros;
+    int width, left, zeros, most;
 };
 
 static int pad(int count, char with)
@@ -46,13 +45,16 @@ static int pad(int count, char with)
 
 static int put_field(const char *sign, const char *text, struct field field)
 {
-    int missing = field.width - (int)strlen(sign) - (int)strlen(text), count = 0;
+    int length = 0, count = 0;
+    while (length < field.most && text[length])
+        length++;
+    int missing = field.width - (int)strlen(sign) - length;
     if (!field.left && !field.zeros)
         count += pad(missing, ' ');
-    count += put_text(sign);
+    count += put_text(sign, INT32_MAX);
     if (!field.left && field.zeros)
         count += pad(missing, '0');
-    count += put_text(text);
+    count += put_text(text, length);
     if (field.left)
         count += pad(missing, ' ');
     return count;
@@ -74,6 +76,15 @@ static int put_number(uint64_t value, uint32_t base, const char *digits, const c
     return put_field(sign, at, field);
 }
 
+/* Reads the number that stands at a place of the format. */
+static int number_at(const char **format)
+{
+    int number = 0;
+    for (; **format >= '0' && **format <= '9'; (*format)++)
+        number = number * 10 + **format - '0';
+    return number;
+}
+
 int vprintf(const char *format, va_list list)
 {
     static const char small[] = "0123456789abcdef", large[] = "0123456789ABCDEF";
@@ -84,23 +95,36 @@ int vprintf(const char *format, va_list list)
             count++;
             continue;
         }
-        struct field field = {0, 0, 0};
-        int longs = 0;
+        struct field field = {0, 0, 0, INT32_MAX};
+        int longs = 0, halves = 0;
         for (format++; *format == '-' || *format == '0'; format++) {
             if (*format == '-')
                 field.left = 1;
             else
                 field.zeros = 1;
         }
-        for (; *format >= '0' && *format <= '9'; format++)
-            field.width = field.width * 10 + *format - '0';
-        for (; *format == 'l'; format++)
-            longs++;
+        field.width = number_at(&format);
+        if (*format == '.') {
+            format++;
+            field.most = number_at(&format);
+        }
+        if (*format == 'z') {
+            format++;
+        } else if (*format == 'h') {
+            for (; *format == 'h'; format++)
+                halves++;
+        } else {
+            for (; *format == 'l'; format++)
+                longs++;
+        }
+        if (longs > 2 || halves > 2 || (field.most != INT32_MAX && *format != 's'))
+            abort(); /* no conversion of this printf */
         char one[2] = {0, 0};
         switch (*format) {
         case 'd':
         case 'i': {
             int64_t value = longs > 1 ? va_arg(list, int64_t) : va_arg(list, int);
+            value = halves == 0 ? value : halves == 1 ? (int16_t)value : (int8_t)value;
             uint64_t size = value < 0 ? -(uint64_t)value : (uint64_t)value;
             count += put_number(size, 10, small, value < 0 ? "-" : "", field);
             break;
@@ -109,6 +133,7 @@ int vprintf(const char *format, va_list list)
         case 'x':
         case 'X': {
             uint64_t value = longs > 1 ? va_arg(list, uint64_t) : va_arg(list, unsigned);
+            value = halves == 0 ? value : halves == 1 ? (uint16_t)value : (uint8_t)value;
             count += put_number(value, *format == 'u' ? 10 : 16, *format == 'X' ? large : small, "", field);
             break;
         }
@@ -122,13 +147,23 @@ int vprintf(const char *format, va_list list)
         case 's':
             count += put_field("", va_arg(list, const char *), field);
             break;
-        case 0:
-            return count;
-        default:
-            putchar(*format);
+        case '%':
+            putchar('%');
             count++;
+            break;
+        default:
+            abort(); /* no conversion of this printf */
         }
     }
+    return count;
+}
+
+int printf_six_words(const char *format, ...)
+{
+    va_list list;
+    va_start(list, format);
+    int count = vprintf(format, list);
+    va_end(list);
     return count;
 }
 
@@ -250,7 +285,7 @@ void exit(int code)
 void abort(void)
 {
     for (;;)
-        __asm__ volatile("break 1, 1");
+        __asm__ volatile("break 1, 14");
 }
 
 /* ---- Arithmetic that the compiler calls by name. */
@@ -433,31 +468,90 @@ int __clzdi2(uint64_t a)
     return high_of(a) ? __builtin_clz(high_of(a)) : 32 + __builtin_clz((uint32_t)a);
 }
 
-/* ---- <stdatomic.h>, for words. */
+/* ---- <stdatomic.h>, for objects of 1, 2 and 4 bytes. The compiler calls these by name (-fno-inline-atomics). A load
+   is L32AI, and every store S32RI or S32C1I, so the exchange of values orders what the two cores do. */
 
-#define FETCH(name, next)                                                        \
-    uint32_t __atomic_##name##_4(volatile void *word, uint32_t value, int order) \
-    {                                                                            \
-        uint32_t old;                                                            \
-        (void)order;                                                             \
-        do                                                                       \
-            old = *(volatile uint32_t *)word;                                    \
-        while (compare_and_swap(word, old, next) != old);                        \
-        return old;                                                              \
-    }
-FETCH(exchange, value)
-FETCH(fetch_add, old + value)
-FETCH(fetch_sub, old - value)
-FETCH(fetch_and, old &value)
-FETCH(fetch_or, old | value)
-FETCH(fetch_xor, old ^ value)
-
-_Bool __atomic_compare_exchange_4(volatile void *word, void *want, uint32_t next, _Bool weak, int yes, int no)
+/* The word that an object lies in, and how far the object's bits are to the left there. */
+static volatile uint32_t *word_of(const volatile void *object)
 {
-    uint32_t old = compare_and_swap(word, *(uint32_t *)want, next);
-    (void)weak, (void)yes, (void)no;
-    if (old == *(uint32_t *)want)
-        return 1;
-    *(uint32_t *)want = old;
-    return 0;
+    return (volatile uint32_t *)((uintptr_t)object & ~3u);
+}
+
+static uint32_t shift_of(const volatile void *object)
+{
+    return ((uintptr_t)object & 3) * 8;
+}
+
+/* Puts `next` into the bits of `mask` where they are `old`'s, and says whether they were. */
+static _Bool replace(volatile uint32_t *word, uint32_t mask, uint32_t old, uint32_t next)
+{
+    uint32_t was;
+    do {
+        was = load_acquire(word);
+        if ((was & mask) != old)
+            return 0;
+    } while (compare_and_swap(word, was, (was & ~mask) | next) != was);
+    return 1;
+}
+
+#define FETCH(name, size, type, next)                                                     \
+    type __atomic_##name##_##size(volatile void *object, type value, int order)           \
+    {                                                                                     \
+        uint32_t mask = (uint32_t)(type)-1 << shift_of(object);                           \
+        type old;                                                                         \
+        (void)order;                                                                      \
+        do                                                                                \
+            old = (type)(load_acquire(word_of(object)) >> shift_of(object));              \
+        while (!replace(word_of(object), mask, (uint32_t)old << shift_of(object),         \
+                        (uint32_t)(type)(next) << shift_of(object)));                     \
+        return old;                                                                       \
+    }
+
+#define ATOMICS(size, type)                                                                                      \
+    type __atomic_load_##size(const volatile void *object, int order)                                           \
+    {                                                                                                            \
+        (void)order;                                                                                             \
+        return (type)(load_acquire(word_of(object)) >> shift_of(object));                                       \
+    }                                                                                                            \
+    FETCH(exchange, size, type, value)                                                                           \
+    FETCH(fetch_add, size, type, old + value)                                                                    \
+    FETCH(fetch_sub, size, type, old - value)                                                                    \
+    FETCH(fetch_and, size, type, old &value)                                                                     \
+    FETCH(fetch_or, size, type, old | value)                                                                     \
+    FETCH(fetch_xor, size, type, old ^ value)                                                                    \
+    _Bool __atomic_compare_exchange_##size(volatile void *object, void *want, type next, _Bool weak, int yes, int no) \
+    {                                                                                                            \
+        uint32_t mask = (uint32_t)(type)-1 << shift_of(object);                                                  \
+        (void)weak, (void)yes, (void)no;                                                                         \
+        if (replace(word_of(object), mask, (uint32_t) * (type *)want << shift_of(object),                        \
+                    (uint32_t)next << shift_of(object)))                                                         \
+            return 1;                                                                                            \
+        *(type *)want = __atomic_load_##size(object, no);                                                        \
+        return 0;                                                                                                \
+    }
+
+ATOMICS(1, uint8_t)
+ATOMICS(2, uint16_t)
+ATOMICS(4, uint32_t)
+
+void __atomic_store_4(volatile void *object, uint32_t value, int order)
+{
+    (void)order;
+    store_release(object, value);
+}
+
+void __atomic_store_2(volatile void *object, uint16_t value, int order)
+{
+    __atomic_exchange_2(object, value, order);
+}
+
+void __atomic_store_1(volatile void *object, uint8_t value, int order)
+{
+    __atomic_exchange_1(object, value, order);
+}
+
+_Bool __atomic_is_lock_free(size_t size, const volatile void *object)
+{
+    (void)object;
+    return size == 1 || size == 2 || size == 4;
 }

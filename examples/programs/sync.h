@@ -16,7 +16,6 @@ static inline uint32_t cas(volatile uint32_t *word, uint32_t want, uint32_t next
     return __sync_val_compare_and_swap(word, want, next);
 }
 static inline void fence(void) { __sync_synchronize(); }
-#endif
 
 static inline void lock(volatile uint32_t *word)
 {
@@ -24,9 +23,6 @@ static inline void lock(volatile uint32_t *word)
         ;
 }
 
-static inline void unlock(volatile uint32_t *word)
-{
-    fence();
-    *word = 0;
-}
+static inline void unlock(volatile uint32_t *word) { __atomic_store_n(word, 0, __ATOMIC_RELEASE); }
+#endif
 #endif

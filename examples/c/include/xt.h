@@ -1,5 +1,6 @@
 /* What a C program of this machine may want beside the C library: UART0, the core's number, its counter and
-   timer, and an exchange that both cores see as one step. */
+   timer, and what both cores share: an exchange that both see as one step, a lock, and loads and stores that order
+   what the cores do. */
 #ifndef XT_H
 #define XT_H
 #include <stdint.h>
@@ -34,5 +35,30 @@ static inline uint32_t compare_and_swap(volatile uint32_t *word, uint32_t want, 
 {
     __asm__ volatile("wsr %2, scompare1\n\ts32c1i %0, %1, 0" : "+r"(next) : "r"(word), "r"(want) : "memory");
     return next;
+}
+
+/* What the word holds, and with it all that the other core stored before the `store_release` that put it there. */
+static inline uint32_t load_acquire(const volatile uint32_t *word)
+{
+    uint32_t value;
+    __asm__ volatile("l32ai %0, %1, 0" : "=r"(value) : "r"(word) : "memory");
+    return value;
+}
+
+static inline void store_release(volatile uint32_t *word, uint32_t value)
+{
+    __asm__ volatile("s32ri %0, %1, 0" ::"r"(value), "r"(word) : "memory");
+}
+
+/* Waits until no core has the lock, a word that begins as 0, and takes it. */
+static inline void lock(volatile uint32_t *word)
+{
+    while (compare_and_swap(word, 0, 1) != 0)
+        ;
+}
+
+static inline void unlock(volatile uint32_t *word)
+{
+    store_release(word, 0);
 }
 #endif
