@@ -1,14 +1,4 @@
-/* What newlib asks for beside ../link.ld: constructors, and the heap between the variables and the stacks. xtcc defines
-   stack_size. */
-SECTIONS
-{
-    .ctors : {
-        constructors = .;
-        KEEP(*(.ctors .ctors.*))
-        constructors_end = .;
-    } > drom :drom
-}
-INSERT AFTER .rodata;
+/* What newlib asks for beside ../link.ld: the heap, between the variables and the stacks. xtcc defines stack_size. */
 SECTIONS
 {
     heap_begin = ALIGN(ADDR(.bss) + SIZEOF(.bss), 16);
