@@ -28,6 +28,7 @@ SECTIONS
     } > iram :iram
     .text : { *(.literal .literal.* .text .text.*) } > irom :irom
     .rodata : { *(.rodata .rodata.*) } > drom :drom
+    .ctors : { constructors = .; KEEP(*(.ctors .ctors.*)) constructors_end = .; } > drom :drom
     .data : { *(.data .data.*) } > dram :dram
     .bss : { *(.bss .bss.* COMMON) } > dram :dram
 }
