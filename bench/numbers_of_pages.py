@@ -99,7 +99,7 @@ def followed():
 
 def built(folder):
     """The programs of a folder that bench/c builds."""
-    found = re.search(rf'^for name in (.*?); do try \$name "{re.escape(folder)}/', read("bench/c"), re.M)
+    found = re.search(rf'^ *for name in (.*?); do try \$name "{re.escape(folder)}/', read("bench/c"), re.M)
     return len(found[1].split())
 
 
