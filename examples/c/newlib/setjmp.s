@@ -28,7 +28,7 @@ spill4: entry a1, 48
         .align 4
         .global setjmp
         .type setjmp, @function
-setjmp: entry a1, 32
+setjmp: entry a1, 48
         call12 spill
         s32i a0, a2, 52
         addi a3, a1, -16        # a0 to a3 of the caller
@@ -65,7 +65,7 @@ kept:   bnez a3, keep
         .align 4
         .global longjmp
         .type longjmp, @function
-longjmp: entry a1, 32
+longjmp: entry a1, 48
         call12 spill
         l32i a4, a2, 0
         l32i a5, a2, 4
