@@ -1,1 +1,2 @@
-../../include/stdatomic.h
+/* The header of examples/c/include. */
+#include "../../include/stdatomic.h"

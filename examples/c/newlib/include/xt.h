@@ -1,1 +1,2 @@
-../../include/xt.h
+/* The header of examples/c/include. */
+#include "../../include/xt.h"
