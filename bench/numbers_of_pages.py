@@ -155,8 +155,9 @@ PLACES = [
     (PROVED, "runs and `trace` of #,", lambda: cases("case", "turns")),
     (PROVED, "or none, of # runs of two cores", lambda: cases("case", "races")),
     (PROVED, "the profiles of #.", lambda: cases("case", "profiles")),
-    (PROVED, "What `uses` prints of # runs", lambda: cases("case", "uses")),
+    (PROVED, "What `uses --lenient` prints of # runs", lambda: cases("case", "uses")),
     (PROVED, "runs, # of them of programs that a C compiler made", lambda: cases("file", "uses")),
+    (PROVED, "prints by the strict discipline of #.", lambda: cases("case", "strict")),
     (PROVED, "Recordings: #, good and damaged", lambda: cases("answer", "recordings", "nested")),
     (PROVED, "and # with interrupts inside window handlers", lambda: cases("answer", "nested")),
     (PROVED, "; # scripts with what they print", lambda: cases("script", "scripts", "nested")),
@@ -192,7 +193,7 @@ def wrong():
         parts = [r"\s+".join(map(re.escape, it.split(" "))) for it in words.split("#")]
         found = [*re.finditer(one.join(parts), read(page), re.I)]
         if len(found) != 1:
-            yield f"{page}: the words `{words}` of bench/numbers.py stand there {len(found)} times"
+            yield f"{page}: the words `{words}` of bench/numbers_of_pages.py stand there {len(found)} times"
         for it in found:
             line, counts = read(page).count("\n", 0, it.start(1)) + 1, count()
             if sum(map(number, it.groups())) != counts:
