@@ -1,10 +1,5 @@
-/* Prints z. An array of which nothing was set decides, and most runs go well. */
+/* Prints z. An array of which nothing was set decides that, and most runs go well. */
 #include <stdio.h>
-
-static int __attribute__((noipa)) number(void)
-{
-    return 64;
-}
 
 static void __attribute__((noipa)) if_large(int n, int *p)
 {
@@ -12,17 +7,18 @@ static void __attribute__((noipa)) if_large(int n, int *p)
         *p = n;
 }
 
-static int __attribute__((noipa)) any(int n)
+static void __attribute__((noipa)) print_if_none(int n)
 {
     int x[8];
     for (int i = 0; i < 8; i++)
         if_large(n, &x[i]);
-    return x[0] + x[7] ? 'd' : 'z';
+    if (x[0] + x[7] == 0)
+        putchar('z');
 }
 
 int main(void)
 {
-    putchar(any(number()));
+    print_if_none(64);
     putchar('\n');
     return 0;
 }
