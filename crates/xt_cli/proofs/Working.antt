@@ -31,7 +31,7 @@ refusal_is_fault job.Events input s h = recording_is_fault input s h
 refusal_is_fault job.Counts input s h = recording_is_fault input s h
 refusal_is_fault (job.Trace span) input s h = recording_is_fault input s h
 refusal_is_fault job.Race input s h = recording_is_fault input s h
-refusal_is_fault job.Profile input s h = recording_is_fault input s h
+refusal_is_fault (job.Profile depth) input s h = recording_is_fault input s h
 refusal_is_fault (job.Uses d) input s h = recording_is_fault input s h
 
 -- ---- what was written of an input that was read to its end
@@ -96,7 +96,7 @@ whole_unless (job.Replay commands) others = tt
 whole_unless job.Events others = tt
 whole_unless job.Counts others = tt
 whole_unless job.Race others = tt
-whole_unless job.Profile others = tt
+whole_unless (job.Profile depth) others = tt
 whole_unless (job.Uses d) others = tt
 
 -- ---- a refusal, before anything was written

@@ -4,5 +4,6 @@ pub mod Answers
 pub mod Options
 pub mod Arguments
 pub mod Listings
+pub mod Depths
 pub mod Meaning
 pub mod Views

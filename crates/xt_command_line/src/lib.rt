@@ -6,6 +6,7 @@
 
 mod arguments;
 mod command;
+mod depths;
 mod laws;
 mod listings;
 mod numbers;
@@ -17,6 +18,7 @@ mod words;
 
 pub use arguments::{check_vecbase, generator_number, script_text, trace_span, uses_rigor};
 pub use command::{Command, Listing, Openings, Refusal, Rigor, Span};
+pub use depths::{DEFAULT_DEPTH, profile_depth};
 pub use laws::{meaning_needs_no_memory, options_need_no_memory, valid_options_are_accepted};
 pub use listings::listing;
 pub use numbers::number;
