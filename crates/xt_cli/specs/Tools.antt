@@ -1,5 +1,9 @@
 -- The commands whose output is a function of their input, and what each status of them says
 -- ('profile').
+--
+-- Note: `Makes` of `xt_cli`, `Runs` and `Generates` of `xt_runs` have a line for each status;
+-- `Runs` and `Generates` exclude every other. `Memory` says that nothing was written, or a prefix
+-- of the right text.
 use Rattle.std.specs.Prelude.{◌≡◌, ◌≤◌, ◌+◌, ◌⊎◌, ℕ, List, length, Option, Some, None, Result}
 use Rattle.std.specs.Prelude.{Ok, Err}
 use Rattle.std.specs.Io.KnownBytes.{Appends, Keeps}

@@ -1,4 +1,10 @@
 -- The options of `run` and `record` ('profile').
+--
+-- Profile: the words break the first rule of usage that fails: no command, an unknown one, words
+-- that do not match, a text that is no number or range, and then the limits in the order of
+-- `limits`. HELP.txt has what holds without an option.
+-- Note: `entry1` is judged only where it is given; otherwise it is the image's entry, which the
+-- image's rules judge.
 use Rattle.std.specs.Prelude.{◌≡◌, ◌≢◌, ℕ, ◌+◌, ◌%◌, Bool, true, false, ◌==◌, ◌&&◌, nat_le, List}
 use Rattle.std.specs.Prelude.{[], ◌∷◌, fold, Option, Some, None, unwrap_or, option_map, Result, Ok}
 use Rattle.std.specs.Prelude.{Err, if◌then◌else◌, codes}

@@ -1,4 +1,6 @@
 -- The grammar of scripts, and which script a text is ('profile'). A text is the list of its bytes.
+--
+-- Note: an empty text is the empty script, but an empty command between two semicolons is none.
 use Rattle.std.specs.Prelude.{ℕ, ◌<◌, ◌≤◌, ◌==◌, nat_lt, nat_le, if◌then◌else◌, Option, Some, None}
 use Rattle.std.specs.Prelude.{List, [], ◌∷◌, length, filter, codes}
 use Rattle.std.specs.List.{list_all, slice_split}

@@ -1,3 +1,4 @@
+-- Profile: scripts and what they print; DEBUGGING.md shows each command.
 pub mod Grammar
 pub mod Answers
 pub mod Printed

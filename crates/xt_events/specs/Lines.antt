@@ -1,4 +1,13 @@
 -- The turns of a run as lines, in the order of its schedule ('profile').
+--
+-- Profile: the line of a turn is its trace line with what that lacks to be read without the image:
+-- the instruction, and the windows where they moved. A turn that executed nothing has the
+-- instruction at its program counter all the same.
+-- Note: `told_at` takes the record with the number of the core's next step from the core's trace,
+-- and a line would be empty where there is none. The law `positions_have_turns` says that each
+-- position of the schedule has one.
+-- Note: the windows before and after a turn are those of the run at its position and at the next;
+-- no turn of one core changes those of the other.
 use Rattle.std.specs.Prelude.{◌≡◌, ℕ, zero, suc, ◌+◌, ◌-◌, ◌==◌, ◌&&◌, if◌then◌else◌, Option, Some}
 use Rattle.std.specs.Prelude.{None, Result, Ok, Err, List, [], ◌∷◌, ◌++◌, length, take, codes, min}
 use Rattle.std.specs.Prelude.{slice_get}

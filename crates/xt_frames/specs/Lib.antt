@@ -1,3 +1,5 @@
+-- STACK.md explains the machine with unbounded frames, its breaches and the theorem, with an
+-- example.
 pub mod Frames
 pub mod FrameStep
 pub mod Marks

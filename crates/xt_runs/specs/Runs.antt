@@ -1,4 +1,8 @@
 -- What each status of `run`, `record` and `gen` says ('profile').
+--
+-- Note: `IsRunOfImage` is said of the run that is handed out, and `run_text` of what is written;
+-- `IsJudged` ties the report's handlers and verdict to the definitions: `verdict` to the walk,
+-- `first` to the whole lists of records; and `framed` says what the verdict is good for.
 use Rattle.std.specs.Prelude.{◌≡◌, ◌≤◌, ◌+◌, ◌⊎◌, ℕ, List, length, Option, Some, None}
 use Rattle.std.specs.Io.KnownBytes.{Appends, Keeps}
 use Rattle.xt_io.specs.Causes.{Rose}

@@ -1,4 +1,8 @@
 -- The line of a status, and the code with which the program ends ('profile').
+--
+-- Profile: the text of a fault or a status is its name and its numbers, each by a table
+-- (`Statuses`). Three have words of another form behind the name: another digest, a fault inside a
+-- recording's image, a status that holds a fault.
 use Rattle.std.specs.Prelude.{ℕ, List, ◌++◌, codes, Result, Ok, Err}
 use Rattle.std.specs.Fmt.{decimal}
 use Rattle.hex.specs.Hex.{encode_lower}

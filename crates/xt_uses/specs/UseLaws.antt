@@ -1,6 +1,12 @@
 -- States laws of the discipline of uses: a row looks at nothing but the bits that it uses; what the
 -- machine of uses knows of a run is so; and no breach of uses comes before one of the stack
 -- discipline.
+--
+-- Profile: `WholeIsFrames`, `UsesAreLater` and `UseRunIsFrameRun` are about the lenient discipline,
+-- since the strict one may name a use where the stack discipline is whole. The other laws hold for
+-- both.
+-- Note: `UsesAreLater` and its neighbours ask that the records are those that a run can have
+-- (`IsOrdinary`): words, an access of at most 4 bytes, an aligned VECBASE.
 use Rattle.std.specs.Prelude.{◌≡◌, ℕ, ◌%◌, ◌<◌, ◌≤◌, ◌^◌, ◌⊎◌, Bool, true, false, not, Option}
 use Rattle.std.specs.Prelude.{Some, None, List, [], ◌∷◌, map, slice_index_or}
 use Rattle.xt_isa.specs.declared.Insn.{Insn}

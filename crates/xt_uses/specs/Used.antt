@@ -4,6 +4,12 @@
 -- register is written, or a byte that is sent. Copying and computing is none.
 --
 -- x and y are the words of the registers that the row reads, in the order of its table of operands.
+--
+-- Profile: `Used` and `Known` are one page each, a line for a row or a group of rows. The law
+-- `rows_agree` ties them to the rows. Take two lists of operands that agree in all known bits, and
+-- let all used bits be known. Then both give the same kind of outcome, with the same flow, address,
+-- size and special registers, and what they write and store agrees in the bits that the table calls
+-- known. It does not say that the tables are not too strict.
 use Rattle.std.specs.Prelude.{ℕ, ◌-◌, ◌%◌, ◌^◌, Bool, true, ◌==◌, ◌&&◌, ◌||◌, if◌then◌else◌, ℤ}
 use Rattle.xt_isa.specs.declared.Insn.{Insn}
 use Rattle.xt_isa.specs.declared.Insn.TheVariants as insn
