@@ -1,6 +1,7 @@
 pub mod Numbers
 pub mod Simple
 pub mod Answers
+pub mod TurnOrders
 pub mod Options
 pub mod Arguments
 pub mod Listings

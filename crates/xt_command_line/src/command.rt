@@ -41,7 +41,7 @@ pub enum Rigor {
 }
 
 /// A command with its options.
-#[derive(Clone, Copy, Debug, PartialEq, Eq)]
+#[derive(Debug, Drop)]
 pub enum Command {
     /// `asm`: assembles a text.
     Assemble,

@@ -13,6 +13,7 @@ mod option_commands;
 mod option_words;
 mod options;
 mod simple;
+mod turn_orders;
 mod words;
 
 pub use arguments::{check_vecbase, generator_number, script_text, trace_span, uses_rigor};
@@ -22,4 +23,5 @@ pub use listings::listing;
 pub use numbers::number;
 pub use option_words::{DEFAULT_VECBASE, record_options, run_options};
 pub use options::{MOST_TURNS, RunOptions, within_limits};
+pub use turn_orders::{TurnList, TurnOrder, Turns, Which, cores_of};
 pub use words::meaning;

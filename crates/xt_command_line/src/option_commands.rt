@@ -5,7 +5,7 @@ ghost use Rattle.clap.specs.Words.{app_of, first_of, found_of, new_app, rows_of,
 ghost use Rattle.xt_command_line.specs.Simple.{Matches, rows_by};
 ghost use Rattle.xt_command_line.specs.Arguments.{check_app, gen_app, positional_rule, replay_app, trace_app, uses_app};
 ghost use Rattle.xt_command_line.specs.Listings.{dis_app};
-ghost use Rattle.xt_command_line.specs.Options.{flag_names, is_set, option_names, record_app, run_app, texts_of, with_flag, with_option};
+ghost use Rattle.xt_command_line.specs.Options.{flag_names, is_set, option_names, order_names, record_app, run_app, texts_of, with_flag, with_option};
 ghost use Rattle.xt_command_line.specs.Views.{texts_in};
 
 use crate::command::Refusal;
@@ -23,6 +23,7 @@ pub struct OptionTexts<'a> {
     pub stack0: Option<&'a str>,
     pub stack1: Option<&'a str>,
     pub seed: Option<&'a str>,
+    pub order: Option<&'a str>,
     pub trace: bool,
     pub events: bool,
     pub race: bool,
@@ -52,7 +53,15 @@ fn with_one_flag<'a>(
     command.arg(Arg::new(alloc, name).long(name).action(ArgAction::SetTrue))
 }
 
-// The command with the seven options that `run` and `record` share.
+// The command with the two options that say in which order the cores make their turns.
+fn with_orders<'a>(alloc: Global, command: Command<'a>) -> Result<Command<'a>, AllocError>
+    ensures { IfOk result (λ c. app_of c ≡ fold with_option (app_of command.entry) order_names) }
+{
+    let command = with_one_option(alloc, command, "seed")?;
+    with_one_option(alloc, command, "order")
+}
+
+// The command with the eight options that `run` and `record` share.
 fn with_options<'a>(alloc: Global, name: &'a str) -> Result<Command<'a>, AllocError>
     ensures { IfOk result (λ c. app_of c ≡ fold with_option (new_app name.entry.now) option_names) }
 {
@@ -63,7 +72,7 @@ fn with_options<'a>(alloc: Global, name: &'a str) -> Result<Command<'a>, AllocEr
     let command = with_one_option(alloc, command, "vecbase")?;
     let command = with_one_option(alloc, command, "stack0")?;
     let command = with_one_option(alloc, command, "stack1")?;
-    with_one_option(alloc, command, "seed")
+    with_orders(alloc, command)
 }
 
 // The command with the five flags that `run` alone has.
@@ -225,6 +234,7 @@ pub fn texts_from<'a>(matches: &ArgMatches<'a>) -> OptionTexts<'a>
         stack0: text_of(matches, "stack0"),
         stack1: text_of(matches, "stack1"),
         seed: text_of(matches, "seed"),
+        order: text_of(matches, "order"),
         trace: is_true(text_of(matches, "trace")),
         events: is_true(text_of(matches, "events")),
         race: is_true(text_of(matches, "race")),
