@@ -1,7 +1,7 @@
 -- The options of `run` and `record` ('profile').
 --
 -- Profile: the words break the first rule of usage that fails: no command, an unknown one, words
--- that do not match, a text that is no number or range, and then the limits in the order of
+-- that do not match, a text that is no number, range or order, and then the limits in the order of
 -- `limits`. HELP.txt has what holds without an option.
 -- Note: `entry1` is judged only where it is given; otherwise it is the image's entry, which the
 -- image's rules judge.

@@ -1,4 +1,7 @@
 -- The order of turns that the words ask for ('profile'). A text is the list of its bytes.
+--
+-- Note: `turns_in` says which text lists an order, `asked` how many turns it asks for, and `cores_of`
+-- the list of cores that it stands for, whose run `xt_machine` defines (`run_of_list`).
 use Rattle.std.specs.Prelude.{ℕ, ◌+◌, Bool, true, ◌==◌, nat_le, List, [], ◌∷◌, ◌++◌, length}
 use Rattle.std.specs.Prelude.{replicate, Option, Some, None, Result, Ok, Err, if◌then◌else◌}
 use Rattle.std.specs.List.{before_first, after_first, slice_split}
