@@ -152,6 +152,7 @@ PLACES = [
     (PROVED, "maps, # recordings in the order of a seed", lambda: cases("analysis", "chosen")),
     (PROVED, "the lists of # seeds", lambda: cases("seed", "chosen")),
     (PROVED, "each of the # functions that they call", followed),
+    (PROVED, "What `counts` prints of # runs", lambda: cases("case", "counts")),
     (PROVED, "what `events` prints of # runs", lambda: cases("case", "events")),
     (PROVED, "runs and `trace` of #,", lambda: cases("case", "turns")),
     (PROVED, "or none, of # runs of two cores", lambda: cases("case", "races")),

@@ -24,8 +24,8 @@ use Rattle.xt_status.specs.declared.status.Status.TheVariants as status
 use Rattle.xt_status.specs.Calls.{Ends, IsUntouched, ReadsWhole, TakesWithin}
 use Rattle.xt_status.specs.Inputs.{image_refusal, recording_refusal}
 use Rattle.xt_tools.specs.Commands as commands
-use Rattle.xt_tools.specs.Commands.{IsAssembled, IsListed, IsRaceTold, converted, elf_refusal}
-use Rattle.xt_tools.specs.Commands.{happened, migrated, profiled, text_refusal, traced}
+use Rattle.xt_tools.specs.Commands.{IsAssembled, IsCountsTold, IsListed, IsRaceTold, converted}
+use Rattle.xt_tools.specs.Commands.{elf_refusal, happened, migrated, profiled, text_refusal, traced}
 use Rattle.xt_cli.specs.declared.tool.Job.{Job}
 use Rattle.xt_cli.specs.declared.tool.Job.TheVariants as job
 use Rattle.xt_cli.specs.declared.tool.Tool.{Tool}
@@ -46,6 +46,7 @@ limit_of (job.Check vecbase) = 8388608
 limit_of job.Migrate = 201326592
 limit_of (job.Replay commands) = 201326592
 limit_of job.Events = 201326592
+limit_of job.Counts = 201326592
 limit_of (job.Trace span) = 201326592
 limit_of job.Race = 201326592
 limit_of job.Profile = 201326592
@@ -62,6 +63,7 @@ refusal_of (job.Check vecbase) input = image_refusal input
 refusal_of job.Migrate input = recording_refusal input
 refusal_of (job.Replay commands) input = recording_refusal input
 refusal_of job.Events input = recording_refusal input
+refusal_of job.Counts input = recording_refusal input
 refusal_of (job.Trace span) input = recording_refusal input
 refusal_of job.Race input = recording_refusal input
 refusal_of job.Profile input = recording_refusal input
@@ -81,6 +83,7 @@ IsWritten (job.Check vecbase) input bytes = bytes ≡ check_text (image_of input
 IsWritten job.Migrate input bytes = bytes ≡ migrated input
 IsWritten (job.Replay commands) input bytes = bytes ≡ replayed commands input
 IsWritten job.Events input bytes = bytes ≡ happened input
+IsWritten job.Counts input bytes = IsCountsTold input bytes
 IsWritten (job.Trace span) input bytes = bytes ≡ traced span input
 IsWritten job.Race input bytes = IsRaceTold input bytes
 IsWritten job.Profile input bytes = bytes ≡ profiled input

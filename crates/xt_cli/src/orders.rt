@@ -63,6 +63,7 @@ pub(crate) fn order_in(alloc: Global, words: &[String]) -> Result<Order, Refusal
         Ok(Command::Migrate) => Ok(Order::Work(Job::Migrate)),
         Ok(Command::Replay) => replay_order(alloc, words),
         Ok(Command::Events) => Ok(Order::Work(Job::Events)),
+        Ok(Command::Counts) => Ok(Order::Work(Job::Counts)),
         Ok(Command::Trace(span)) => Ok(Order::Work(Job::Trace(span))),
         Ok(Command::Race) => Ok(Order::Work(Job::Race)),
         Ok(Command::Profile) => Ok(Order::Work(Job::Profile)),

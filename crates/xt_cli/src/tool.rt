@@ -16,8 +16,8 @@ use xt_map::Text;
 use xt_replay::Replay;
 use xt_status::{IMAGE_LIMIT, RECORDING_LIMIT, Status, recording_in, status_after, write_text};
 use xt_tools::{
-    ELF_LIMIT, TEXT_LIMIT, check, converted_file, events, image_file, list, map_text, migrate,
-    profile, race, trace, uses,
+    ELF_LIMIT, TEXT_LIMIT, check, converted_file, counts, events, image_file, list, map_text,
+    migrate, profile, race, trace, uses,
 };
 use xt_uses::Discipline;
 
@@ -40,6 +40,8 @@ pub enum Job {
     Replay(Script),
     /// `events`: what happened to each core in a recorded run.
     Events,
+    /// `counts`: how often each core of a recorded run executed the instruction at each address.
+    Counts,
     /// `trace`: the lines of these turns of a recorded run.
     Trace(Span),
     /// `race`: the first data race of a recorded run.
@@ -80,6 +82,7 @@ fn limit_of(job: &Job) -> usize
         Job::Migrate
         | Job::Replay(_)
         | Job::Events
+        | Job::Counts
         | Job::Trace(_)
         | Job::Race
         | Job::Profile
@@ -119,6 +122,7 @@ fn make(alloc: Global, job: &Job, input: &[u8]) -> Result<Text, Status>
         Job::Migrate => migrate(alloc, input),
         Job::Replay(script) => replay(alloc, script, input),
         Job::Events => events(alloc, input),
+        Job::Counts => counts(alloc, input),
         Job::Race => race(alloc, input),
         Job::Profile => profile(alloc, input),
         Job::Uses(discipline) => uses(alloc, *discipline, input),
@@ -163,7 +167,7 @@ fn work<S: Source, K: Sink>(alloc: Global, job: &Job, source: &mut S, sink: &mut
 
 /// What the program does with the words after its name, a source and a sink, where it needs no
 /// thread: it answers every word that has no meaning, and does the work of `asm`, `elf`, `dis`, `map`, `check`,
-/// `migrate`, `replay`, `events`, `trace`, `race`, `profile` and `uses`. It waits for nobody and returns.
+/// `migrate`, `replay`, `events`, `counts`, `trace`, `race`, `profile` and `uses`. It waits for nobody and returns.
 ///
 /// Words that ask for `run`, `record` or `gen` are handed back as `Threaded`, and nothing was then read or
 /// written.

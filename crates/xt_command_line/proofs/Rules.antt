@@ -132,6 +132,7 @@ meaning_by-answers (Some name.Record) words = answer_with-answers command.Record
 meaning_by-answers (Some name.Replay) words = λ e. search (rules, e)
 meaning_by-answers (Some name.Migrate) words = without_options-answers _ _
 meaning_by-answers (Some name.Events) words = without_options-answers _ _
+meaning_by-answers (Some name.Counts) words = without_options-answers _ _
 meaning_by-answers (Some name.Race) words = without_options-answers _ _
 meaning_by-answers (Some name.Profile) words = without_options-answers _ _
 meaning_by-answers (Some name.Uses) words = answer_with-answers command.Uses (rigor_of words) (rigor_by-answers (rows_by uses_app words))

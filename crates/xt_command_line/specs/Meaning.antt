@@ -30,6 +30,7 @@ names =
     ∷ (codes "replay", name.Replay)
     ∷ (codes "migrate", name.Migrate)
     ∷ (codes "events", name.Events)
+    ∷ (codes "counts", name.Counts)
     ∷ (codes "trace", name.Trace)
     ∷ (codes "race", name.Race)
     ∷ (codes "profile", name.Profile)
@@ -89,6 +90,8 @@ meaning_by (Some name.Migrate) words =
     without_options command.Migrate (rows_by (new_app (codes "migrate")) words)
 meaning_by (Some name.Events) words =
     without_options command.Events (rows_by (new_app (codes "events")) words)
+meaning_by (Some name.Counts) words =
+    without_options command.Counts (rows_by (new_app (codes "counts")) words)
 meaning_by (Some name.Trace) words = trace_meaning_of words
 meaning_by (Some name.Race) words =
     without_options command.Race (rows_by (new_app (codes "race")) words)
@@ -122,6 +125,7 @@ TakesMemory (Some name.Run) = Unit {0}
 TakesMemory (Some name.Record) = Unit {0}
 TakesMemory (Some name.Migrate) = Unit {0}
 TakesMemory (Some name.Events) = Unit {0}
+TakesMemory (Some name.Counts) = Unit {0}
 TakesMemory (Some name.Trace) = Unit {0}
 TakesMemory (Some name.Race) = Unit {0}
 TakesMemory (Some name.Profile) = Unit {0}

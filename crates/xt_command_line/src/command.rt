@@ -63,6 +63,8 @@ pub enum Command {
     Migrate,
     /// `events`: says what happened to each core of a recorded run.
     Events,
+    /// `counts`: says how often each core of a recorded run executed the instruction at each address.
+    Counts,
     /// `trace`: prints these turns of a recorded run.
     Trace(Span),
     /// `race`: looks for a data race in a recorded run.
@@ -118,6 +120,8 @@ pub enum Name {
     Migrate,
     /// `events`
     Events,
+    /// `counts`
+    Counts,
     /// `trace`
     Trace,
     /// `race`

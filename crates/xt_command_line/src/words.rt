@@ -25,6 +25,7 @@ fn name_of(word: &str) -> Option<Name>
         "replay" => Some(Name::Replay),
         "migrate" => Some(Name::Migrate),
         "events" => Some(Name::Events),
+        "counts" => Some(Name::Counts),
         "trace" => Some(Name::Trace),
         "race" => Some(Name::Race),
         "profile" => Some(Name::Profile),
@@ -114,8 +115,8 @@ fn gen_meaning(alloc: Global, words: &[String]) -> Result<Command, Refusal>
 /// The command with its options that the words after the program's name say, or why they say none.
 ///
 /// - No word is `Usage(1)`, and a first word that is no command `Usage(2)`.
-/// - `asm`, `elf`, `map`, `migrate`, `events`, `race` and `profile` take no further word. Other words after them are
-///   `Usage(3)`, as far as `clap` does not take them: it takes one that is `--`.
+/// - `asm`, `elf`, `map`, `migrate`, `events`, `counts`, `race` and `profile` take no further word. Other words after
+///   them are `Usage(3)`, as far as `clap` does not take them: it takes one that is `--`.
 /// - `dis` has the listing that `listing` says, with the rules of usage 3, 4, 6 and 7.
 /// - `check` has the option that `check_vecbase` says, with the rules of usage 3, 4 and 7.
 /// - `run` has the options that `run_options` says, with the rules of usage 3 to 8, and `record` those of
@@ -147,6 +148,7 @@ pub fn meaning(alloc: Global, words: &[String]) -> Result<Command, Refusal>
             without_options_meaning(alloc, "migrate", Command::Migrate, words)
         }
         Some(Name::Events) => { without_options_meaning(alloc, "events", Command::Events, words) }
+        Some(Name::Counts) => { without_options_meaning(alloc, "counts", Command::Counts, words) }
         Some(Name::Trace) => trace_meaning(alloc, words),
         Some(Name::Race) => without_options_meaning(alloc, "race", Command::Race, words),
         Some(Name::Profile) => {

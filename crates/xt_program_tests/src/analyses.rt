@@ -93,8 +93,8 @@ fn has_frames(alloc: Global, case: &str, image: &Image, list: &[u8]) -> Option<b
     Some(line == wanted)
 }
 
-/// Whether the command of a case prints, over the recording of its run, what the case says. And `run` with the command's flag prints
-/// that behind its report. Of a case of `uses` the stack discipline says of the run what the case says.
+/// Whether the command of a case prints, over the recording of its run, what the case says. And `run` with the command's flag, if there
+/// is one, prints that behind its report. Of a case of `uses` the stack discipline says of the run what the case says.
 pub fn agrees<R: Threads + Wait + Sync + AllocGlobal>(
     rt: &R,
     case: &str,
@@ -113,7 +113,7 @@ pub fn agrees<R: Threads + Wait + Sync + AllocGlobal>(
         return Some(false);
     }
     let analysis = words_of(case, "analysis");
-    if analysis.starts_with("trace") {
+    if analysis.starts_with("trace") || analysis == "counts" {
         Some(true)
     } else if analysis == "uses --lenient" {
         has_frames(alloc, case, &image, &list)

@@ -386,6 +386,7 @@ fn too_long_an_input_is_refused(rt: HostRuntime) -> Result<(), Fail> {
         ("migrate", 201_326_592, recording),
         ("replay ", 201_326_592, recording),
         ("events", 201_326_592, recording),
+        ("counts", 201_326_592, recording),
         ("trace", 201_326_592, recording),
         ("race", 201_326_592, recording),
         ("profile", 201_326_592, recording),

@@ -15,6 +15,7 @@ use Rattle.xt_record.specs.Format.{run_in}
 use Rattle.xt_record.specs.Written.{recording_bytes}
 use Rattle.xt_events.specs.Events.{events_text}
 use Rattle.xt_events.specs.Lines.{turns_text}
+use Rattle.xt_counts.specs.Texts.{IsCountsText}
 use Rattle.xt_race.specs.Races.{events_of}
 use Rattle.xt_race.specs.Texts.{IsRaceText}
 use Rattle.xt_profile.specs.Profiled.{profile_of}
@@ -69,6 +70,10 @@ happened input = events_text (image_in input) (run_in input)
 -- the lines of these turns of that run
 unfoldable pub traced : Span → List ℕ → List ℕ
 traced span input = turns_text (image_in input) (run_in input) span.from span.to
+
+-- how often each core executed the instruction at each address in that run
+abbrev pub IsCountsTold : List ℕ → List ℕ → Type 0
+IsCountsTold input bytes = IsCountsText (image_in input) (run_in input) bytes
 
 -- the first race in that run, or that there is none
 abbrev pub IsRaceTold : List ℕ → List ℕ → Type 0

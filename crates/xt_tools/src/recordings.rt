@@ -3,13 +3,14 @@ ghost use Rattle.std.specs.Prelude.{◌≡◌, ◌≢◌, IfOk, IfErr, Some};
 ghost use Rattle.xt_record.specs.Fields.{image_in};
 ghost use Rattle.xt_record.specs.Format.{run_in};
 ghost use Rattle.xt_status.specs.Inputs.{recording_refusal};
-ghost use Rattle.xt_tools.specs.Commands.{IsMade, IsRaceTold, happened, migrated, profiled, traced};
+ghost use Rattle.xt_tools.specs.Commands.{IsCountsTold, IsMade, IsRaceTold, happened, migrated, profiled, traced};
 ghost use Rattle.xt_tools.specs.Puts.{Puts};
 ghost use Rattle.xt_use_report.specs.Told.{IsUsesTold};
 
 use crate::turns::write_turns;
 use std::alloc::Global;
 use xt_command_line::Span;
+use xt_counts::counts_text;
 use xt_events::{TurnLines, events_text};
 use xt_image::well_formed_is_placed;
 use xt_io::Sink;
@@ -43,6 +44,17 @@ pub fn events(alloc: Global, input: &[u8]) -> Result<Text, Status>
     let (image, run) = recording_in(alloc, input)?;
     well_formed_is_placed();
     events_text(alloc, &image, &run).map_err(|_| Status::Memory)
+}
+
+/// How often each core of a recorded run executed the instruction at each address, or the status of the
+/// recording's first fault.
+pub fn counts(alloc: Global, input: &[u8]) -> Result<Text, Status>
+    ensures ok { IfOk result (λ bytes. IsMade (recording_refusal input.now) (IsCountsTold input.now bytes)) }
+    ensures refused { IfErr result (λ status. status ≢ Status.Memory → recording_refusal input.now ≡ Some status) }
+{
+    let (image, run) = recording_in(alloc, input)?;
+    well_formed_is_placed();
+    counts_text(alloc, &image, &run).map_err(|_| Status::Memory)
 }
 
 /// The first data race of a recorded run, or the status of the recording's first fault.
