@@ -90,7 +90,7 @@ pub fn uses(alloc: Global, discipline: Discipline, input: &[u8]) -> Result<Text,
     uses_text(alloc, discipline, &image, &run).map_err(|_| Status::Memory)
 }
 
-/// Writes the lines of these turns of a recorded run, each before the next is made, or ends with the
+/// Writes the lines of these turns of a recorded run, in writes of up to 65,536 bytes, or ends with the
 /// status of the recording's first fault.
 pub fn trace<K: Sink>(alloc: Global, span: Span, input: &[u8], sink: &mut K) -> Status
     ensures { Puts (recording_refusal input.now) (λ bytes. bytes ≡ traced span input.now)
