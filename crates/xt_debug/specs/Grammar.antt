@@ -45,6 +45,7 @@ command_of_one name word =
     else if bytes_eq name (codes "ring") then option_map command.Ring (core_of word)
     else if bytes_eq name (codes "special") then option_map command.Special (core_of word)
     else if bytes_eq name (codes "frames") then option_map command.Frames (core_of word)
+    else if bytes_eq name (codes "calls") then option_map command.Calls (core_of word)
     else None
 
 -- a command with two operands
@@ -99,6 +100,7 @@ IsInRange (command.Regs c) = c < 2
 IsInRange (command.Ring c) = c < 2
 IsInRange (command.Special c) = c < 2
 IsInRange (command.Frames c) = c < 2
+IsInRange (command.Calls c) = c < 2
 IsInRange (command.Mem addr n) = n ≤ most_shown
 IsInRange (command.Words addr n) = n ≤ most_shown
 IsInRange (command.Next n) = Unit {0}

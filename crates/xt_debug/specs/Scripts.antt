@@ -7,7 +7,8 @@ use Rattle.xt_replay.specs.Shown.{Shown, byte_in, shown_at, state_in, step_in}
 use Rattle.xt_events.specs.Lines.{turns_text}
 use Rattle.xt_debug.specs.declared.script.Command.{Command}
 use Rattle.xt_debug.specs.declared.script.Command.TheVariants as command
-use Rattle.xt_debug.specs.Depths.{depth_at}
+use Rattle.xt_debug.specs.Calls.{calls_text, stack_end}
+use Rattle.xt_debug.specs.Depths.{depth_at, frame_at}
 use Rattle.xt_debug.specs.Printed.{frames_text, mem_text, none_found, past_end, regs_text}
 use Rattle.xt_debug.specs.Printed.{ring_text, special_text, words_text}
 use Rattle.xt_debug.specs.Searches.{break_position, step_position, watch_position, within}
@@ -58,6 +59,8 @@ outcome image r (command.Mem addr n) p =
 outcome image r (command.Words addr n) p =
     prints (words_text (λ a. byte_in a (shown_at image r p)) addr n) p
 outcome image r (command.Frames core) p = prints (frames_text core (depth_at image r core p)) p
+outcome image r (command.Calls core) p =
+    prints (calls_text core (stack_end core r) (frame_at image r core p)) p
 
 -- one command after another
 abbrev pub script_outcome : Image → Run → List Command → ℕ → Outcome

@@ -1,6 +1,7 @@
 //! Scripts that walk a run in both directions, and what they print.
 #![tactic(auto)]
 
+mod calls;
 mod depths;
 mod memory;
 mod parsing;

@@ -45,6 +45,7 @@ fn command_with_one(name: &str, word: &str) -> Option<Command>
         "ring" => Some(Command::Ring(core_in(word)?)),
         "special" => Some(Command::Special(core_in(word)?)),
         "frames" => Some(Command::Frames(core_in(word)?)),
+        "calls" => Some(Command::Calls(core_in(word)?)),
         _ => None,
     }
 }
@@ -124,6 +125,7 @@ fn is_blank(text: &[u8]) -> bool
 /// ```text
 /// go C N      next N      back N      break C ADDR      watch ADDR      trace N
 /// regs C      ring C      special C   mem ADDR N        words ADDR N    frames C
+/// calls C
 /// ```
 ///
 /// Each number is decimal digits, or `0x` and one to eight hexadecimal digits, below 2^32; C is 0 or 1, and the N of `mem`

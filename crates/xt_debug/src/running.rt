@@ -6,6 +6,7 @@ ghost use Rattle.xt_debug.specs.Runs.{Arrives, Ran, RanScript};
 ghost use Rattle.xt_debug.specs.Scripts.{outcome, position_back, shows};
 ghost use Rattle.xt_debug.specs.Searches.{step_position, within};
 
+use crate::calls::push_calls;
 use crate::depths::depth_at;
 use crate::memory::{push_mem, push_words};
 use crate::printing::{push_frames, push_regs};
@@ -102,6 +103,7 @@ fn run_command(
         Command::Mem(addr, count) => push_mem(alloc, out, &replay.state(), addr, count),
         Command::Words(addr, count) => push_words(alloc, out, &replay.state(), addr, count),
         Command::Frames(core) => push_frames(alloc, out, core, depth_at(alloc, replay, core)?),
+        Command::Calls(core) => push_calls(alloc, out, core, replay),
     }
 }
 
@@ -128,6 +130,12 @@ fn run_command(
 /// - `frames C` prints `frames C depth D`, the number of frames of callers after the judged steps
 ///   before the position, or `frames C none` where the window handlers do not pass their check or a
 ///   breach of the stack discipline comes before it.
+/// - `calls C` prints `calls C`, and for each frame from the newest to the opening frame a line
+///   `J pc ADDR sp ADDR size N call M`, where J is the number of its callers: where it goes on, which is the
+///   program counter for the newest, and for another the address to which the frame that it called
+///   returns (`--------` if that frame's a0 is not known); its stack pointer; and the bytes from there
+///   up to its caller's, or up to the end of the stack; and 4, 8 or 12 for CALL4, CALL8 or CALL12, by
+///   which it called, without ` call M` for the newest. Or `calls C none`, where `frames C` prints that.
 ///
 /// Each line ends with a newline. Addresses, words and registers are eight upper-case hexadecimal
 /// digits, WINDOWSTART four, a byte two; other numbers are decimal. The only error is running out of

@@ -32,6 +32,8 @@ pub enum Command {
     Words(u32, u32),
     /// `frames C`: prints how many frames of callers this core has.
     Frames(u8),
+    /// `calls C`: prints the frames of this core.
+    Calls(u8),
 }
 
 /// A list of commands. Contracts see the list.

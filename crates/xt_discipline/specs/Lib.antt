@@ -4,9 +4,10 @@
 pub mod Bytes
 pub mod Sides
 pub mod Walks
+pub mod Places
 pub mod Ended
 pub mod Schedules
 pub mod Ordered
 pub mod Verdicts
-pub mod Depths
+pub mod Before
 pub mod Modes

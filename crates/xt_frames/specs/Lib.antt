@@ -13,5 +13,6 @@ pub mod FirstBreach
 pub mod Stacks
 pub mod Parts
 pub mod Walked
+pub mod Backtrace
 pub mod Stepped
 pub mod Quick

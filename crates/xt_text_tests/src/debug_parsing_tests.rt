@@ -64,12 +64,13 @@ fn scripts(rt: HostRuntime) -> Result<(), Fail> {
     check(
         &rt,
         alloc,
-        "  next   0 ;back 0;go 1 0  ;  frames 1",
+        "  next   0 ;back 0;go 1 0  ;  frames 1;calls 00",
         &[
             Command::Next(0),
             Command::Back(0),
             Command::Go(1, 0),
             Command::Frames(1),
+            Command::Calls(0),
         ],
     )
 }
@@ -118,6 +119,8 @@ fn texts_that_are_no_scripts(rt: HostRuntime) -> Result<(), Fail> {
         "words 0 65",
         "trace 0 1",
         "trace 4294967296",
+        "calls",
+        "calls 2",
     ];
     for text in texts {
         match parse_script(alloc, text) {

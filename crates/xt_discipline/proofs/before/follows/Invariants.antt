@@ -2,7 +2,7 @@ use Rattle.xt_map.specs.Memory.{constant_byte}
 use Rattle.xt_frames.specs.Breaches.{Bounds}
 use Rattle.xt_frames.specs.Verdict.{Known}
 use Rattle.xt_discipline.specs.Walks.{Knows, Reaches}
-use Rattle.xt_discipline.proofs.callers.depths_behind.Given as goal
+use Rattle.xt_discipline.proofs.before.follows.Given as goal
 
 abbrev pub invariant-loop-core : goal.invariant-loop-core
 invariant-loop-core g l =

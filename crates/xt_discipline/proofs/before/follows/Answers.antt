@@ -1,8 +1,11 @@
-use Rattle.std.proofs.Common.{◌∙◌, get_or, refl}
+use Rattle.std.proofs.Common.{Bool, get_or, refl, sym, subst}
 use Rattle.xt_map.specs.Memory.{constant_byte}
-use Rattle.xt_discipline.proofs.Counts.{depths_all, depths_err}
+use Rattle.xt_frames.specs.Verdict.{judgement}
+use Rattle.xt_discipline.specs.Before.{known_in}
+use Rattle.xt_discipline.specs.Places.{Ends}
+use Rattle.xt_discipline.proofs.Reached.{ends_all, ends_err}
 use Rattle.xt_discipline.proofs.Walking.{reach_none, reach_room, reach_turn}
-use Rattle.xt_discipline.proofs.callers.depths_behind.Goals as goal
+use Rattle.xt_discipline.proofs.before.follows.Goals as goal
 
 pub loop-core-init : goal.loop-core-init
 loop-core-init g c b0 b1 k h =
@@ -25,9 +28,12 @@ returns-in-Err g c b0 b1 k h =
     let r = c.loop-core.invariant b0 b1 k h in
     let i = c.loop-core.core-index in
     let cs = c.args.schedule.now in
-    c.depths_at.ensures ∙ depths_err (constant_byte c.args.walk.now.code) c.loop-core.walk c.turn.new.self b0 b1 k cs i (get_or cs i 0) 0 (g.R.Records.left c.args.records0.now) (g.R.Records.left c.args.records1.now)
+    let code = constant_byte c.args.walk.now.code in
+    let j = judgement code b0 b1 cs (g.R.Records.left c.args.records0.now) (g.R.Records.left c.args.records1.now) k in
+    subst (λ (t : Bool). Ends t c.turn.new.self b0 b1 (known_in j)) (sym c.is_whole.ensures)
+    (ends_err code c.loop-core.walk c.turn.new.self b0 b1 k cs i (get_or cs i 0) 0 (g.R.Records.left c.args.records0.now) (g.R.Records.left c.args.records1.now)
     (g.R.Records.left c.loop-core.records0) (g.R.Records.left c.loop-core.records1) (g.R.Records.left c.turn.new.records0) (g.R.Records.left c.turn.new.records1)
-    c.turn.result c.in-Err.judged c.in-Err.is c.loop-core-test.true refl r (c.turn.ensures.turned b0 b1 r.known r.knows) c.turn.ensures.ended
+    c.turn.result c.in-Err.judged c.in-Err.is c.loop-core-test.true refl r (c.turn.ensures.turned b0 b1 r.known r.knows) c.turn.ensures.ended)
 
 pub loop-core-preserved : goal.loop-core-preserved
 loop-core-preserved g c b0 b1 k h =
@@ -40,5 +46,5 @@ loop-core-preserved g c b0 b1 k h =
 
 pub returns : goal.returns
 returns g c b0 b1 k h =
-    c.depths_at-2.ensures ∙ depths_all (constant_byte c.args.walk.now.code) c.loop-core.walk b0 b1 k c.args.schedule.now c.loop-core.core-index (g.R.Records.left c.args.records0.now) (g.R.Records.left c.args.records1.now)
+    ends_all (constant_byte c.args.walk.now.code) c.loop-core.walk b0 b1 k c.args.schedule.now c.loop-core.core-index (g.R.Records.left c.args.records0.now) (g.R.Records.left c.args.records1.now)
     (g.R.Records.left c.loop-core.records0) (g.R.Records.left c.loop-core.records1) c.loop-core-test.false (c.loop-core.invariant b0 b1 k h)
