@@ -30,7 +30,7 @@ use Rattle.xt_use_run.proofs.Leaves.{words_left}
 use Rattle.xt_use_run.proofs.MaskWords.{AreSmall, MaskWords, begin_small, now_small, past_small}
 
 -- ---- of a reply
-unknown_small : (kb : ℕ → ℕ) (a n : ℕ) → n ≤ 4 → unknown_bits kb a n < 2 ^ 32
+pub unknown_small : (kb : ℕ → ℕ) (a n : ℕ) → n ≤ 4 → unknown_bits kb a n < 2 ^ 32
 unknown_small kb a zero h = omega arith
 unknown_small kb a (suc zero) h = omega arith
 unknown_small kb a (suc (suc zero)) h = omega arith
@@ -50,11 +50,11 @@ reply_small kb (Some a) mapped = by_region (is_memory (region_of a.addr) && not 
 now_word : (s : UseState) → MaskWords s.masks → AreSmall (current_masks s)
 now_word s w = (now_small s w).seen
 
-visible_word_small : (s : UseState) (f : FrameState) (o : Option ℕ) → MaskWords s.masks → (visible_word s f o).mask < 2 ^ 32
+pub visible_word_small : (s : UseState) (f : FrameState) (o : Option ℕ) → MaskWords s.masks → (visible_word s f o).mask < 2 ^ 32
 visible_word_small s f None w = omega arith
 visible_word_small s f (Some i) w = now_word s w i
 
-special_word_small : (s : UseState) (f : FrameState) (o : Option ℕ) → MaskWords s.masks → (special_word s f o).mask < 2 ^ 32
+pub special_word_small : (s : UseState) (f : FrameState) (o : Option ℕ) → MaskWords s.masks → (special_word s f o).mask < 2 ^ 32
 special_word_small s f None w = omega arith
 special_word_small s f (Some n) w = by_mark (holds_marks n)
   where

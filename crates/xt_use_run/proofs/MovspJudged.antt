@@ -60,7 +60,7 @@ use Rattle.xt_use_run.proofs.Reading.{Ready, count_of, read_seats, ready}
 use Rattle.xt_use_run.proofs.Tests.{Denied}
 
 -- ---- the step of the machine of uses
-move_at : (t q len : ℕ) (h : FrameState) → fetched_movsp (Fetches (movsp t q) len) h ≡ Some (stack_moved t (known h.seen q) len h)
+pub move_at : (t q len : ℕ) (h : FrameState) → fetched_movsp (Fetches (movsp t q) len) h ≡ Some (stack_moved t (known h.seen q) len h)
 unfolding fetched_movsp
 move_at t q len h = refl
 
@@ -79,7 +79,7 @@ use_moves code rec bytes s w sn some =
     ) in
     ap (U (movsp_of code (laid inp s.frame))) sn ∙ ap (λ z. U z None) some
 
-move_uses : (t q : ℕ) (s : UseState) (h : FrameState) (y : Word) → used_are_known (movsp t q) (first_word (movsp t q) s h) y ≡ true → is_whole (first_word (movsp t q) s h) ≡ true
+pub move_uses : (t q : ℕ) (s : UseState) (h : FrameState) (y : Word) → used_are_known (movsp t q) (first_word (movsp t q) s h) y ≡ true → is_whole (first_word (movsp t q) s h) ≡ true
 unfolding used_are_known shift_used
 move_uses t q s h y e = e
 
@@ -107,7 +107,7 @@ executed_insn : (i : Insn) (len : ℕ) → executed step.Insn (Fetches i len) �
 unfolding executed
 executed_insn i len = refl
 
-move_word : (t q : ℕ) (s : UseState) (h : FrameState) → first_word (movsp t q) s h ≡ visible_word s h (Some q)
+pub move_word : (t q : ℕ) (s : UseState) (h : FrameState) → first_word (movsp t q) s h ≡ visible_word s h (Some q)
 unfolding reads
 move_word t q s h = refl
 

@@ -127,8 +127,8 @@ module _ {f : FrameState} {s : UseState} (k : Knows f s) (x y : Nested) (fx : f.
     unset = k.unset;
   }
 
-  -- a mark stands where there is no number
-  module _ (bare : (i j : ℕ) → get_or x.marks i None ≡ Some j → get_or x.seen i None ≡ None) where
+  -- nothing is known of a mark
+  module _ (bare : (i j : ℕ) → get_or x.marks i None ≡ Some j → get_or s.masks.inner i 0 ≡ 0) where
     reads_moved : (i : Insn) (p : ℕ × ℕ) → moved_to i ≡ Some p → (reads i).0 ≡ Some p.0
     unfolding moved_to reads
     reads_moved (insn.System (system.Rsr SpecialName.Wsr t n)) p e = ap (λ (o : Option (ℕ × ℕ)). Some (unwrap_or o (0, 0)).0) e
@@ -138,7 +138,7 @@ module _ {f : FrameState} {s : UseState} (k : Knows f s) (x y : Nested) (fx : f.
     mark_mask : (o : Option ℕ) (t : ℕ) → o ≡ Some t → is_some (get_or x.marks t None) ≡ true → (visible_word s h o).mask ≡ 0
     mark_mask o t e has =
         let there : (j : ℕ) × (get_or x.marks t None ≡ Some j) = some_there (get_or x.marks t None) has in
-        let z : get_or s.masks.inner t 0 ≡ 0 = inner.seen.lacks t (bare t there.0 there.1) in
+        let z : get_or s.masks.inner t 0 ≡ 0 = bare t there.0 there.1 in
         ap (λ (o : Option ℕ). (visible_word s h o).mask) e ∙ (ap (λ (m : List ℕ). get_or m t 0) inner_masks ∙ z)
       where
         some_there : (o : Option ℕ) → is_some o ≡ true → (j : ℕ) × (o ≡ Some j)

@@ -70,25 +70,25 @@ use Rattle.xt_use_run.proofs.NestedRow.{inner_of, mark_gone, seen_small, special
 use Rattle.xt_use_run.proofs.PlainRow.{visible_named}
 use Rattle.xt_use_run.proofs.Reading.{numbered}
 
-executed_insn : (i : Insn) (len : ℕ) → executed step.Insn (Fetches i len) ≡ Some i
+pub executed_insn : (i : Insn) (len : ℕ) → executed step.Insn (Fetches i len) ≡ Some i
 unfolding executed
 executed_insn i len = refl
 
-ends_result : (i : Insn) (x y u : Word) (pointer r : ℕ) → ends_nested i ≡ true → result_mask i x y u pointer r ≡ result_mask i x y u pointer all_bits
+pub ends_result : (i : Insn) (x y u : Word) (pointer r : ℕ) → ends_nested i ≡ true → result_mask i x y u pointer r ≡ result_mask i x y u pointer all_bits
 unfolding ends_nested result_mask
 ends_result (insn.System (system.Rfi level)) x y u pointer r e = refl
 ends_result _ x y u pointer r e = absurd (false≢true e)
 
-ending_is : (i : Insn) (value : ℕ) (x : Nested) (f : FrameState) (u : FrameTurn) → ends_nested i ≡ true → nested_insn i value x f u ≡ record u { after = record (keeping f u.after) { nested = None } }
+pub ending_is : (i : Insn) (value : ℕ) (x : Nested) (f : FrameState) (u : FrameTurn) → ends_nested i ≡ true → nested_insn i value x f u ≡ record u { after = record (keeping f u.after) { nested = None } }
 ending_is i value x f u ends = cond-true (ends_nested i) _ _ ends
 
-abbrev goes_on_turn : Insn → ℕ → Option ℕ → Nested → FrameState → FrameTurn → FrameTurn
+abbrev pub goes_on_turn : Insn → ℕ → Option ℕ → Nested → FrameState → FrameTurn → FrameTurn
 goes_on_turn i value mark z q u = record u {
   write = marked_write mark value u.write;
   after = record (keeping q u.after) { unset = unset_written i z.marks q.unset; nested = Some (nested_after i mark z u) };
 }
 
-going_is : (i : Insn) (value : ℕ) (x : Nested) (f : FrameState) (u : FrameTurn) → ends_nested i ≡ false → nested_insn i value x f u ≡ goes_on_turn i value (mark_read i x.saved) x f u
+pub going_is : (i : Insn) (value : ℕ) (x : Nested) (f : FrameState) (u : FrameTurn) → ends_nested i ≡ false → nested_insn i value x f u ≡ goes_on_turn i value (mark_read i x.saved) x f u
 going_is i value x f u goes = cond-false (ends_nested i) _ _ goes
 
 pub count_inside : {code : ℕ → ℕ} {b : Bounds} {m : MemoryContents} {s : State} {f : FrameState} {before : State} {opened : ℕ → ℕ} {suspended : State} → Suspends code b m s f before opened suspended → IsShaped s → length f.control.special ≡ 256
@@ -200,8 +200,8 @@ module _ (rows : RowsAgree) (code : ℕ → ℕ) (bytes : AreBytes code) (b : Bo
           (subst (λ z. Follows z (step_on code true rec f)) (sym used) (subst (Follows (use_turn (executed v.kind (Fetches i len)) k us h turn_v)) (sym framed) follows)) next
 
       -- ---- RFI 5
-      bare : (n j : ℕ) → get_or q.x.marks n None ≡ Some j → get_or q.x.seen n None ≡ None
-      bare n j e = (q.inside.marks n j e).1
+      bare : (n j : ℕ) → get_or q.x.marks n None ≡ Some j → get_or us.masks.inner n 0 ≡ 0
+      bare n j e = inner.seen.lacks n (q.inside.marks n j e).1
 
       ok : in_range i ≡ true
       ok = fetched_range code s.control.pc i len bytes at

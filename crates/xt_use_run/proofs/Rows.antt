@@ -130,7 +130,7 @@ sent_kind b addr (Store v) h store at = eqb-true _ _ (h at)
 sent_kind b addr Load h store at = absurd (false≢true store)
 sent_kind b addr (Cas e n) h store at = absurd (false≢true store)
 
-awaited_named : (i : Insn) (awaited : Option Awaited) (reply : ℕ) → AwaitsNamed i awaited → WritesNamed i (written None awaited reply)
+pub awaited_named : (i : Insn) (awaited : Option Awaited) (reply : ℕ) → AwaitsNamed i awaited → WritesNamed i (written None awaited reply)
 awaited_named i None reply h = tt
 awaited_named i (Some a) reply h = h
 
