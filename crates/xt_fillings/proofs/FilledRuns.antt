@@ -14,7 +14,6 @@ use Rattle.xt_frames.specs.declared.kinds.Breach.{Breach}
 use Rattle.xt_frames.specs.declared.kinds.BreachKind.{BreachKind}
 use Rattle.xt_frames.specs.Frames.{FrameState, opening_frame, opening_seen}
 use Rattle.xt_frames.specs.FrameStep.{FrameTurn}
-use Rattle.xt_frames.specs.Stacks.{AreFrames}
 use Rattle.xt_frames.specs.Verdict.{is_nested}
 use Rattle.xt_frames.specs.FirstBreach.{Course, IsJudgedTurn, Turn, is_judged, mode_before, turn_of}
 use Rattle.xt_uses.specs.declared.discipline.Discipline.{Discipline}
@@ -41,6 +40,7 @@ use Rattle.xt_use_run.proofs.MaskWords.{MaskWords, opening_small}
 use Rattle.xt_use_run.proofs.Specials.{mark_lost}
 use Rattle.xt_fillings.specs.Fillings.{Filling, filled_at, filled_before, filled_past, step_with}
 use Rattle.xt_fillings.specs.Laws.{AsksSame, RecordsAreFollowed, StepsSame, UnknownDecidesNothing}
+use Rattle.xt_fillings.proofs.Numbered.{HasPointer, Held}
 use Rattle.xt_fillings.proofs.FilledSteps.{Beside, place_same, sends_same, step_beside, step_same}
 
 -- ---- the mask of a reply is a word
@@ -56,6 +56,10 @@ sized_small kb (Some a) sizes = by_region (is_memory (region_of a.addr) && not (
 wide_seen : (stack_end : ℕ) → length (opening_seen stack_end) ≡ 16
 unfolding opening_seen
 wide_seen stack_end = refl
+
+opens_pointer : (stack_end : ℕ) → HasPointer (opening_seen stack_end)
+unfolding opening_seen
+opens_pointer stack_end = refl
 
 opens_beside : (d : Discipline) (core pc vecbase stack_end : ℕ) → IsCut (opening_frame core pc vecbase stack_end) (whole_masks d) → IsShapedFrame (opening_frame core pc vecbase stack_end) → Knows (opening_frame core pc vecbase stack_end) (opening_use d (opening_frame core pc vecbase stack_end))
 opens_beside d core pc vecbase stack_end c k = record {
@@ -114,7 +118,7 @@ module _ (rows : RowsAgree) (replies : RepliesAgree) (d : Discipline) (r : Cours
         beside = record {
           knows = subst (λ s. Knows (r.opening core) s) (sym (is.opens core)) knows;
           shaped = shaped;
-          framed = subst (λ (f : FrameState). AreFrames f.frames) (sym o.opens) tt;
+          held = subst (λ (f : FrameState). Held f) (sym o.opens) (record { framed = tt; pointer = opens_pointer o.stack_end; kept = tt });
         };
         masks = subst (λ (s : UseState). MaskWords s.masks) (sym (is.opens core)) (opening_small d);
       }

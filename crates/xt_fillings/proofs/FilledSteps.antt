@@ -19,7 +19,7 @@ use Rattle.xt_frames.specs.Frames.{FrameState}
 use Rattle.xt_frames.specs.FrameStep.{FrameTurn, Inputs, laid}
 use Rattle.xt_frames.specs.Nesting.{begins, current, current_in, is_nesting}
 use Rattle.xt_frames.specs.Breaches.{Bounds, inputs_of}
-use Rattle.xt_frames.specs.Judging.{place_on}
+use Rattle.xt_frames.specs.Judging.{place_on, value_in}
 use Rattle.xt_frames.specs.Stacks.{AreFrames}
 use Rattle.xt_uses.specs.declared.discipline.Discipline.{Discipline}
 use Rattle.xt_uses.specs.Words.{cut, flipped}
@@ -37,9 +37,9 @@ use Rattle.xt_use_run.proofs.Following.{sent_back}
 use Rattle.xt_use_run.proofs.Leaves.{knows_left}
 use Rattle.xt_use_run.proofs.MaskWords.{MaskWords}
 use Rattle.xt_use_run.proofs.Seen.{cut_twice}
-use Rattle.xt_fillings.specs.Fillings.{Numbers, filled, filled_inputs, filled_step}
+use Rattle.xt_fillings.specs.Fillings.{Numbers, filled, filled_record, filled_step}
 use Rattle.xt_fillings.specs.Laws.{AsksSame, DoesSame, SendsSame}
-use Rattle.xt_fillings.proofs.Numbered.{left_frames, left_in, left_shaped, numbered_knows, numbered_shaped, results_knows}
+use Rattle.xt_fillings.proofs.Numbered.{Held, filled_held, left_held, left_in, left_shaped, numbered_knows, numbered_shaped, results_knows}
 use Rattle.xt_fillings.proofs.Outside.{Goes, outside_goes}
 use Rattle.xt_fillings.proofs.Within.{begins_goes, within_goes}
 use Rattle.xt_fillings.proofs.Words.{value_leaves}
@@ -96,7 +96,7 @@ sends_same m (Some a) None h s = absurd h
 pub record Beside (f : FrameState) (s : UseState) : Type 0 where
   pub knows : Knows f s
   pub shaped : IsShapedFrame f
-  pub framed : AreFrames f.frames
+  pub held : Held f
 
 same_some : (inner : List ℕ) (o p : Option Nested) → NestedFit inner o p → is_some o ≡ is_some p
 same_some inner None None k = refl
@@ -124,11 +124,17 @@ module _ (rows : RowsAgree) (replies : RepliesAgree) (code : ℕ → ℕ) (bytes
   abbrev reply : ℕ
   reply = filled (reply_mask kb rec.access) rec.reply n.reply
 
+  abbrev rec2 : StepRecord
+  rec2 = filled_record (reply_mask kb rec.access) n rec
+
   abbrev inp : Inputs
-  inp = filled_inputs (reply_mask kb rec.access) rec n
+  inp = inputs_of rec2
+
+  abbrev value : ℕ
+  value = value_in rec2.write
 
   abbrev goal : Bool → Type 0
-  goal nested = Goes (full_step code nested rec kb us) (value_step code (begins nested rec.kind f) n.mark inp f)
+  goal nested = Goes (full_step code nested rec kb us) (value_step code (begins nested rec.kind f) value inp f)
 
   -- where nothing begins, it does not matter whether the record is nested
   full_same : (one other : Bool) → begins one rec.kind us.frame ≡ false → begins other rec.kind us.frame ≡ false → full_step code one rec kb us ≡ full_step code other rec kb us
@@ -137,21 +143,21 @@ module _ (rows : RowsAgree) (replies : RepliesAgree) (code : ℕ → ℕ) (bytes
   breach_same : (one other : Bool) → begins one rec.kind us.frame ≡ false → begins other rec.kind us.frame ≡ false → use_breach b fresh code live kb one rec us ≡ use_breach b fresh code live kb other rec us
   breach_same one other p q = cond-false (begins one rec.kind us.frame) None _ p ∙ sym (cond-false (begins other rec.kind us.frame) None _ q)
 
-  rest : (one other : Bool) → begins one rec.kind us.frame ≡ false → begins other rec.kind us.frame ≡ false → Goes (full_step code one rec kb us) (value_step code false n.mark inp f) → goal other
+  rest : (one other : Bool) → begins one rec.kind us.frame ≡ false → begins other rec.kind us.frame ≡ false → Goes (full_step code one rec kb us) (value_step code false value inp f) → goal other
   rest one other p q g =
-      subst (λ z. Goes (full_step code other rec kb us) (value_step code z n.mark inp f)) (sym (begins_same k.knows other rec.kind ∙ q))
-      (subst (λ z. Goes z (value_step code false n.mark inp f)) (full_same one other p q) g)
+      subst (λ z. Goes (full_step code other rec kb us) (value_step code z value inp f)) (sym (begins_same k.knows other rec.kind ∙ q))
+      (subst (λ z. Goes z (value_step code false value inp f)) (full_same one other p q) g)
 
   outside : us.frame.nested ≡ None → f.nested ≡ None → (nested : Bool) → begins nested rec.kind us.frame ≡ false → use_breach b fresh code live kb nested rec us ≡ None → goal nested
   outside sn fn nested e none =
       rest false nested refl e
-      (outside_goes rows replies code bytes b fresh live kb rec words reply n.mark mask_word (filled_word (reply_mask kb rec.access) rec.reply n.reply mask_word) (filled_agrees (reply_mask kb rec.access) rec.reply n.reply mask_word) us sn masks k.knows fn k.shaped k.framed
+      (outside_goes rows replies code bytes b fresh live kb rec words reply value mask_word (filled_word (reply_mask kb rec.access) rec.reply n.reply mask_word) (filled_agrees (reply_mask kb rec.access) rec.reply n.reply mask_word) us sn masks k.knows fn k.shaped k.held
       (breach_same false nested refl e ∙ none))
 
   within : (x y : Nested) → f.nested ≡ Some x → us.frame.nested ≡ Some y → (nested : Bool) → use_breach b fresh code live kb nested rec us ≡ None → goal nested
   within x y fx sy nested none =
       rest true nested (off true) (off nested)
-      (within_goes rows replies code bytes b fresh live kb rec words reply n.mark mask_word (filled_word (reply_mask kb rec.access) rec.reply n.reply mask_word) (filled_agrees (reply_mask kb rec.access) rec.reply n.reply mask_word) us masks is_cut k.knows k.shaped k.framed x y fx sy
+      (within_goes rows replies code bytes b fresh live kb rec words reply value mask_word (filled_word (reply_mask kb rec.access) rec.reply n.reply mask_word) (filled_agrees (reply_mask kb rec.access) rec.reply n.reply mask_word) us masks is_cut k.knows k.shaped k.held x y fx sy
       (breach_same true nested (off true) (off nested) ∙ none))
     where
       off : (z : Bool) → begins z rec.kind us.frame ≡ false
@@ -160,7 +166,7 @@ module _ (rows : RowsAgree) (replies : RepliesAgree) (code : ℕ → ℕ) (bytes
   starts : us.frame.nested ≡ None → f.nested ≡ None → is_nesting rec.kind ≡ true → goal true
   starts sn fn nesting =
       let on : begins true rec.kind f ≡ true = ap (λ (o : Option Nested). is_nesting rec.kind && not (is_some o)) fn ∙ ap (λ z. z && true) nesting in
-      subst (λ z. Goes (full_step code true rec kb us) (value_step code z n.mark inp f)) (sym on) (begins_goes code kb rec inp n.mark us refl k.knows nesting sn k.framed)
+      subst (λ z. Goes (full_step code true rec kb us) (value_step code z value inp f)) (sym on) (begins_goes code kb rec inp value us refl k.knows nesting sn k.held)
 
   pub value_goes : (nested : Bool) → use_breach b fresh code live kb nested rec us ≡ None → goal nested
   value_goes nested none = by_nested f.nested us.frame.nested refl refl k.knows.nested
@@ -184,7 +190,7 @@ module _ (rows : RowsAgree) (replies : RepliesAgree) (code : ℕ → ℕ) (bytes
     t = full_step code nested rec kb us
 
     abbrev u : FrameTurn
-    u = value_step code (begins nested rec.kind f) n.mark inp f
+    u = value_step code (begins nested rec.kind f) value inp f
 
     abbrev h : FrameState
     h = laid (inputs_of rec) (current us.frame)
@@ -206,20 +212,20 @@ module _ (rows : RowsAgree) (replies : RepliesAgree) (code : ℕ → ℕ) (bytes
 
     left_knows : Knows (left_in forgets f.frames u.after) (left_after o us t.after)
     left_knows =
-        let first : Knows u.after (left_after o us t.after) = knows_left o f us k.knows k.framed u.after t.after goes.follows.knows in
-        subst (λ z. Knows (left_in z f.frames u.after) (left_after o us t.after)) (sym forgets_same) (results_knows o f us k.knows k.framed u.after t.after first)
-
-    abbrev rec2 : StepRecord
-    rec2 = record rec { reply = reply; write = Some (record { reg = 0; value = n.mark }) }
+        let first : Knows u.after (left_after o us t.after) = knows_left o f us k.knows k.held.framed u.after t.after goes.follows.knows in
+        subst (λ z. Knows (left_in z f.frames u.after) (left_after o us t.after)) (sym forgets_same) (results_knows o f us k.knows k.held.framed u.after t.after first)
 
     shaped_after : IsShapedFrame u.after
     shaped_after = value_leaves code nested rec2 f bytes (record { ccount = words.ccount; interrupt = words.interrupt; owb = words.owb; reply = filled_word (reply_mask kb rec.access) rec.reply n.reply mask_word }) k.shaped
 
+    left_is_held : Held (left_in forgets f.frames u.after)
+    left_is_held = left_held forgets f.frames u.after k.held.framed goes.held
+
     pub step_beside : Beside (filled_step d code nested rec kb n f).after (use_step code nested rec kb us).after
     step_beside = record {
-      knows = numbered_knows n.register left_knows;
+      knows = numbered_knows n.register left_is_held.pointer left_knows;
       shaped = numbered_shaped n.register (left_in forgets f.frames u.after) (left_shaped forgets f.frames u.after shaped_after);
-      framed = subst (λ fs. AreFrames fs) (sym (left_frames forgets f.frames u.after)) goes.framed;
+      held = filled_held n.register (left_in forgets f.frames u.after) left_is_held;
     }
 
     pub step_same : DoesSame (use_step code nested rec kb us) (filled_step d code nested rec kb n f)

@@ -1,3 +1,4 @@
+pub mod Whole
 pub mod Numbered
 pub mod Replied
 pub mod Words

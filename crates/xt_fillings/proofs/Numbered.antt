@@ -1,7 +1,7 @@
 -- What a filling gives to registers that the machine of uses knows nothing of.
-use Rattle.std.specs.Prelude.{unwrap_or}
+use Rattle.std.specs.Prelude.{is_some, unwrap_or}
 use Rattle.std.proofs.Common.{◌≡◌, ℕ, zero, suc, ◌+◌, ◌*◌, ◌<◌, ◌⊎◌, inl, inr, Bool, true, false, ltb, cond, List, [], ◌∷◌, Option, Some, None, sym, ap, ◌∙◌, refl, arith, ⊎_elim, subst, length, get_or}
-use Rattle.std.proofs.lemmas.Bool.{cases_Bool, cond-true, lt-ltb}
+use Rattle.std.proofs.lemmas.Bool.{cases_Bool, true≢false}
 use Rattle.std.proofs.lemmas.Nat.{and_mask}
 use Rattle.xt_isa.specs.declared.Insn.{Insn}
 use Rattle.xt_rows.specs.Laws.{IsWord}
@@ -33,6 +33,14 @@ refit {masks = masks} {xs = xs} {ys = ys} s zs size same = record {
   lacks = λ i none. ⊎_elim (λ e. s.lacks i (sym e ∙ none)) (λ m. m) (same i);
 }
 
+-- ---- a1 has a number
+abbrev pub HasPointer : List (Option ℕ) → Type 0
+HasPointer seen = is_some (get_or seen 1 None) ≡ true
+
+abbrev pub KeepPointers : List Frame → Type 0
+KeepPointers [] = Unit {0}
+KeepPointers (g ∷ rest) = HasPointer g.kept × KeepPointers rest
+
 -- ---- the numbers of a filling
 module _ (n : ℕ → ℕ) where
   pub numbered_length : (j : ℕ) (xs : List (Option ℕ)) → length (numbered n j xs) ≡ length xs
@@ -44,11 +52,6 @@ module _ (n : ℕ → ℕ) where
   numbered_some j (x ∷ xs) zero v e = ap (number_in n j) e
   numbered_some j (x ∷ xs) (suc i) v e = numbered_some (suc j) xs i v e
 
-  numbered_low : (j : ℕ) (xs : List (Option ℕ)) (i : ℕ) → j + i < 4 → get_or xs i None ≡ None → get_or (numbered n j xs) i None ≡ None
-  numbered_low j [] i low e = e
-  numbered_low j (x ∷ xs) zero low e = ap (number_in n j) e ∙ cond-true (ltb j 4) None (Some (cut all_bits (n j))) (lt-ltb j 4 (omega (arith, low)))
-  numbered_low j (x ∷ xs) (suc i) low e = numbered_low (suc j) xs i (omega (arith, low)) e
-
   numbered_fits : {masks : List ℕ} {xs ys : List (Option ℕ)} → SeenFit 16 masks xs ys → SeenFit 16 masks (numbered n 0 xs) ys
   numbered_fits {masks = masks} {xs = xs} s = refit s (numbered n 0 xs) (numbered_length 0 xs ∙ s.size) (λ i. by i (get_or xs i None) refl)
     where
@@ -56,11 +59,11 @@ module _ (n : ℕ → ℕ) where
       by i None e = inr (s.lacks i e)
       by i (Some v) e = inl (numbered_some 0 xs i v e ∙ sym e)
 
-  same_pointer : (xs : List (Option ℕ)) → known (numbered n 0 xs) 1 ≡ known xs 1
-  same_pointer xs = ap (λ (o : Option ℕ). unwrap_or o 0) (by (get_or xs 1 None) refl)
+  same_pointer : (xs : List (Option ℕ)) → HasPointer xs → get_or (numbered n 0 xs) 1 None ≡ get_or xs 1 None
+  same_pointer xs h = by (get_or xs 1 None) refl
     where
       by : (o : Option ℕ) → get_or xs 1 None ≡ o → get_or (numbered n 0 xs) 1 None ≡ get_or xs 1 None
-      by None e = numbered_low 0 xs 1 (omega arith) e ∙ sym e
+      by None e = absurd (true≢false (sym h ∙ ap (λ (o : Option ℕ). is_some o) e))
       by (Some v) e = numbered_some 0 xs 1 v e ∙ sym e
 
   inside_fits : (inner : List ℕ) (o p : Option Nested) → NestedFit inner o p → NestedFit inner (numbered_inside n o) p
@@ -69,10 +72,10 @@ module _ (n : ℕ → ℕ) where
   inside_fits inner None (Some y) k = absurd k
   inside_fits inner (Some x) None k = absurd k
 
-  pub numbered_knows : {f : FrameState} {u : UseState} → Knows f u → Knows (filled_state n f) u
-  numbered_knows {f = f} {u = u} k = record {
+  pub numbered_knows : {f : FrameState} {u : UseState} → HasPointer f.seen → Knows f u → Knows (filled_state n f) u
+  numbered_knows {f = f} {u = u} h k = record {
     seen = numbered_fits k.seen;
-    sp = same_pointer f.seen ∙ k.sp;
+    sp = ap (λ (o : Option ℕ). unwrap_or o 0) (same_pointer f.seen h) ∙ k.sp;
     frames = k.frames;
     control = k.control;
     unset = k.unset;
@@ -81,14 +84,10 @@ module _ (n : ℕ → ℕ) where
 
   -- ---- they are words
   word_in : (j : ℕ) (x : Option ℕ) → ((v : ℕ) → x ≡ Some v → IsWord v) → (v : ℕ) → number_in n j x ≡ Some v → IsWord v
-  word_in j None w v e = by (ltb j 4) e
-    where
-      by : (b : Bool) → cond b None (Some (cut all_bits (n j))) ≡ Some v → IsWord v
-      by true q = absurd cc
-      by false q =
-          let is : cut all_bits (n j) ≡ v = ap (λ (o : Option ℕ). unwrap_or o 0) q in
-          let m = and_mask (n j) 32 in
-          omega (arith, is, m)
+  word_in j None w v e =
+      let is : cut all_bits (n j) ≡ v = ap (λ (o : Option ℕ). unwrap_or o 0) e in
+      let m = and_mask (n j) 32 in
+      omega (arith, is, m)
   word_in j (Some x) w v e = w v e
 
   numbered_words : (j : ℕ) (xs : List (Option ℕ)) → AreWords xs → AreWords (numbered n j xs)
@@ -160,10 +159,21 @@ pub left_shaped : (z : Bool) (frames : List Frame) (f : FrameState) → IsShaped
 left_shaped true frames f k = results_shaped frames f k
 left_shaped false frames f k = k
 
-results_frames : (frames : List Frame) (f : FrameState) → (results_left frames f).frames ≡ f.frames
-results_frames [] f = refl
-results_frames (g ∷ rest) f = refl
+-- ---- each a1 has a number
+pub record IsHeld (seen : List (Option ℕ)) (frames : List Frame) : Type 0 where
+  pub framed : AreFrames frames
+  pub pointer : HasPointer seen
+  pub kept : KeepPointers frames
 
-pub left_frames : (z : Bool) (frames : List Frame) (f : FrameState) → (left_in z frames f).frames ≡ f.frames
-left_frames true frames f = results_frames frames f
-left_frames false frames f = refl
+abbrev pub Held : FrameState → Type 0
+Held f = IsHeld f.seen f.frames
+
+pub left_held : (z : Bool) (frames : List Frame) (f : FrameState) → AreFrames frames → Held f → Held (left_in z frames f)
+left_held false frames f shaped h = h
+left_held true [] f shaped h = h
+left_held true (g ∷ rest) f shaped h =
+    let moves = shaped.0.moves in
+    record { framed = h.framed; pointer = ap (λ (o : Option ℕ). is_some o) (left_get None (4 * g.by) 0 f.seen 1 None (left_own (4 * g.by) 1 (omega (arith, moves)))) ∙ h.pointer; kept = h.kept }
+
+pub filled_held : (n : ℕ → ℕ) (f : FrameState) → Held f → Held (filled_state n f)
+filled_held n f h = record { framed = h.framed; pointer = ap (λ (o : Option ℕ). is_some o) (same_pointer n f.seen h.pointer) ∙ h.pointer; kept = h.kept }

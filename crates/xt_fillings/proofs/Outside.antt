@@ -1,14 +1,16 @@
 -- A judged step outside nested interrupts that shows no breach of uses, beside the machine of frames over a filling.
 use Rattle.std.specs.Prelude.{is_some}
-use Rattle.std.proofs.Common.{◌≡◌, ℕ, ◌*◌, ◌^◌, ◌<◌, ◌≤◌, Bool, true, false, ◌||◌, ◌&&◌, ltb, List, [], ◌∷◌, Option, Some, None, sym, ap, ◌∙◌, refl, arith, ⊎_elim, subst, length, cond}
+use Rattle.std.proofs.Common.{◌≡◌, ℕ, ◌*◌, ◌^◌, ◌<◌, ◌≤◌, Bool, true, false, ◌||◌, ◌&&◌, ltb, List, [], ◌∷◌, Option, Some, None, sym, ap, ◌∙◌, refl, arith, ⊎_elim, subst, length, cond, take, drop, get_or, replicate, ◌-◌}
 use Rattle.std.proofs.lemmas.Bool.{cases_Bool, cond-false, cond-true, or_from, or_left, or_right}
-use Rattle.std.proofs.lemmas.List.{length-take}
+use Rattle.std.proofs.Math.ListN.{set}
+use Rattle.std.proofs.lemmas.List.{get_or-set_same, get_or-set_other, get_or-take, get_or_append_left, length-append, length-drop, length-replicate, length-take}
 use Rattle.xt_isa.specs.declared.Insn.{Insn}
 use Rattle.xt_isa.specs.Ranges.{in_range}
 use Rattle.xt_special.specs.declared.ps.Ps.{Ps}
 use Rattle.xt_special.specs.Numbers as number
 use Rattle.xt_special.specs.Control.{special_of}
 use Rattle.xt_special.specs.Interrupts.{pending_of}
+use Rattle.xt_trace.specs.declared.record.RegWrite.{RegWrite}
 use Rattle.xt_trace.specs.declared.record.StepKind.TheVariants as step
 use Rattle.xt_trace.specs.declared.record.StepRecord.{StepRecord}
 use Rattle.xt_fetch.specs.Code.{AreBytes}
@@ -26,7 +28,7 @@ use Rattle.xt_rows.specs.Settling.{settled_interrupt, settled_wait}
 use Rattle.xt_rows.proofs.Proper.{outcome_words}
 use Rattle.xt_exec.proofs.Specials.{level_small}
 use Rattle.xt_frames.specs.declared.holes.Nested.{Nested}
-use Rattle.xt_frames.specs.Frames.{Frame, FrameState, known}
+use Rattle.xt_frames.specs.Frames.{Frame, FrameState, known, seen_after_call, seen_after_write}
 use Rattle.xt_frames.specs.FrameStep.{FrameTurn, Inputs, fetched_step, in_frame, laid, laid_step, popped, popped_from, pushed, raised}
 use Rattle.xt_frames.specs.Nesting.{current_in, turn_in, unset_after}
 use Rattle.xt_frames.specs.Breaches.{Bounds, first_shown, inputs_of, insn_tests, is_empty, has_no_caller}
@@ -59,13 +61,14 @@ use Rattle.xt_use_run.proofs.PlainRow.{entry_one, entry_some, visible_named}
 use Rattle.xt_use_run.proofs.PlainStep.{row_moves_none, use_plain}
 use Rattle.xt_use_run.proofs.Rows.{EntersWord, Executes, Pops, Pushes, Quiet, Rests, RowStep, raise_quiet, result, taken_quiet, waits_quiet}
 use Rattle.xt_use_run.proofs.Tests.{Denied, caller_row, denied}
+use Rattle.xt_fillings.proofs.Numbered.{Held, IsHeld}
 use Rattle.xt_fillings.proofs.Replied.{replied_row}
 use Rattle.xt_fillings.proofs.Words.{given_words, known_small, laid_words}
 
 -- the machine of uses follows the step, and the frames are frames
 pub record Goes (t : UseTurn) (u : FrameTurn) : Type 0 where
   pub follows : Follows t u
-  pub framed : AreFrames u.after.frames
+  pub held : Held u.after
 
 -- a return has a caller
 pub no_empty : (i : Insn) (g : FrameState) → is_return i ≡ true → has_no_caller i g ≡ false → g.frames ≡ [] → ⊥
@@ -74,24 +77,54 @@ no_empty i g return_ e none =
     let z : true ≡ false = sym (ap is_empty none) ∙ a in
     absurd cc
 
-popped_frames : (frames : List Frame) (a0 : ℕ) (g : FrameState) → g.frames ≡ frames → AreFrames frames → AreFrames (popped_from frames a0 g).after.frames
-popped_frames [] a0 g e k = subst (λ fs. AreFrames fs) (sym e) k
-popped_frames (c ∷ rest) a0 g e k = k.1
+popped_held : (frames : List Frame) (a0 : ℕ) (g : FrameState) → g.frames ≡ frames → IsHeld g.seen frames → Held (popped_from frames a0 g).after
+popped_held [] a0 g e k = subst (IsHeld g.seen) (sym e) k
+popped_held (c ∷ rest) a0 g e k =
+    let moves = k.framed.0.moves in
+    let keeps = k.framed.0.keeps in
+    record {
+      framed = k.framed.1;
+      pointer = ap (λ (o : Option ℕ). is_some o) (get_or_append_left c.kept (take (16 - 4 * c.by) g.seen) None 1 (omega (arith, moves, keeps))) ∙ k.kept.0;
+      kept = k.kept.1;
+    }
 
-pushed_frames : (number value len : ℕ) (g : FrameState) → length g.seen ≡ 16 → 0 < g.control.ps.callinc → g.control.ps.callinc ≤ 3 → AreFrames g.frames → AreFrames (pushed number value len g).after.frames
+pushed_held : (number value len : ℕ) (g : FrameState) → number ≡ 1 → length g.seen ≡ 16 → 0 < g.control.ps.callinc → g.control.ps.callinc ≤ 3 → Held g → Held (pushed number value len g).after
 unfolding pushed
-pushed_frames number value len g wide some three k =
+pushed_held number value len g one wide some three k =
     let n = g.control.ps.callinc in
     let l = length-take (4 * n) g.seen in
-    (record { moves = some; within = three; keeps = omega (arith, l, wide, three) }, k)
+    let d = length-drop (4 * n) g.seen in
+    let r = length-replicate {A = Option ℕ} (4 * n) None in
+    let a = length-append (drop (4 * n) g.seen) (replicate (4 * n) None) in
+    let at : get_or (set (seen_after_call g.seen n) number (Some value)) 1 None ≡ Some value = subst (λ z. get_or (set (seen_after_call g.seen n) z (Some value)) 1 None ≡ Some value) (sym one) (get_or-set_same (seen_after_call g.seen n) 1 (Some value) None (omega (arith, wide, d, r, a, three))) in
+    record {
+      framed = (record { moves = some; within = three; keeps = omega (arith, l, wide, three) }, k.framed);
+      pointer = ap (λ (o : Option ℕ). is_some o) at;
+      kept = (ap (λ (o : Option ℕ). is_some o) (get_or-take (4 * n) g.seen 1 None (omega (arith, some))) ∙ k.pointer, k.kept);
+    }
 
-back_frames : (a0 : ℕ) (g : FrameState) → AreFrames g.frames → AreFrames (popped a0 g).after.frames
+back_held : (a0 : ℕ) (g : FrameState) → Held g → Held (popped a0 g).after
 unfolding popped
-back_frames a0 g k = popped_frames g.frames a0 g refl k
+back_held a0 g k = popped_held g.frames a0 g refl k
+
+written_held : (o : Option RegWrite) (seen : List (Option ℕ)) (frames : List Frame) → KeepsSp o → IsHeld seen frames → IsHeld (seen_after_write o seen) frames
+written_held None seen frames keeps k = k
+written_held (Some w) seen frames keeps k = record {
+  framed = k.framed;
+  pointer = ap (λ (o : Option ℕ). is_some o) (get_or-set_other seen w.reg 1 (Some w.value) None (λ e. keeps (sym e))) ∙ k.pointer;
+  kept = k.kept;
+}
+
+moved_held : (x len : ℕ) (g : FrameState) → length g.seen ≡ 16 → Held g → Held (stack_moved 1 x len g).after
+moved_held x len g wide k = record {
+  framed = k.framed;
+  pointer = ap (λ (o : Option ℕ). is_some o) (get_or-set_same g.seen 1 (Some x) None (omega (arith, wide)));
+  kept = k.kept;
+}
 
 module _ (rows : RowsAgree) (replies : RepliesAgree) (code : ℕ → ℕ) (bytes : AreBytes code) (b : Bounds) (fresh : Bool) (live : ℕ → Bool) (kb : ℕ → ℕ) (rec : StepRecord) (words : AreInputs (inputs_of rec))
     (reply value : ℕ) (mask_word : reply_mask kb rec.access < 2 ^ 32) (reply_word : reply < 2 ^ 32) (same : AgreeIn (reply_mask kb rec.access) reply rec.reply)
-    (us : UseState) (sn : us.frame.nested ≡ None) (masks : MaskWords us.masks) {f : FrameState} (kn : Knows f us) (fn : f.nested ≡ None) (shaped : IsShapedFrame f) (framed : AreFrames f.frames) where
+    (us : UseState) (sn : us.frame.nested ≡ None) (masks : MaskWords us.masks) {f : FrameState} (kn : Knows f us) (fn : f.nested ≡ None) (shaped : IsShapedFrame f) (held : Held f) where
   abbrev inp : Inputs
   inp = record (inputs_of rec) { reply = reply }
 
@@ -137,10 +170,10 @@ module _ (rows : RowsAgree) (replies : RepliesAgree) (code : ℕ → ℕ) (bytes
       let at_same : fetched code g.control.pc ≡ at = ap (fetched code) now.control.even.pc in
       let there : Follows (use_turn (executed v.kind at) k us h (with_unset (unset_after v.kind at us.frame.unset) v)) (value_step code false value inp f) =
       subst (Follows (use_turn (executed v.kind at) k us h (with_unset (unset_after v.kind at us.frame.unset) v))) (sym (plain_step none_g ∙ ap (λ z. with_unset (unset_after u.kind z f.unset) u) at_same)) here in
-      let frames : u.after.frames ≡ f.frames = ap (λ (z : FrameState). z.frames) q.is in
+      let after : Held u.after = subst (λ (z : FrameState). Held z) (sym q.is) held in
       record {
         follows = subst (λ z. Follows z (value_step code false value inp f)) (sym (use_plain code rec kb us sn none)) there;
-        framed = subst (λ fs. AreFrames fs) (sym (ap (λ (z : FrameTurn). z.after.frames) (plain_step none_g) ∙ frames)) framed;
+        held = subst (λ (z : FrameTurn). Held z.after) (sym (plain_step none_g)) after;
       }
 
   move_free : (s : FrameState) → (ltb 0 (pending_of s.control) || s.control.waits) ≡ true → movsp_of code s ≡ None
@@ -216,7 +249,7 @@ module _ (rows : RowsAgree) (replies : RepliesAgree) (code : ℕ → ℕ) (bytes
         let here : Follows (insn_turn (movsp 1 q) k us h turn_v) turn_u = move_follows kn fn sn (inputs_of rec) q len x x_known x_word whole shaped.control.count k in
         record {
           follows = subst (λ z. Follows z (value_step code false value inp f)) (sym same_use) (subst (Follows (insn_turn (movsp 1 q) k us h turn_v)) (sym (moves_step turn_u moves_g)) here);
-          framed = subst (λ (z : FrameTurn). AreFrames z.after.frames) (sym (moves_step turn_u moves_g)) framed;
+          held = subst (λ (z : FrameTurn). Held z.after) (sym (moves_step turn_u moves_g)) (moved_held x len g kn.seen.size held);
         }
       where
         given_word : (q : ℕ) → known g.seen q < 2 ^ 32
@@ -277,11 +310,11 @@ module _ (rows : RowsAgree) (replies : RepliesAgree) (code : ℕ → ℕ) (bytes
       by_row : RowStep i us g h (result now code i shaped_g.control.count given.x_word k) u v → Goes (use_turn (executed v.kind (Fetches i len)) k us h turn_v) turn_u
       by_row (Executes x) = record {
         follows = ordinary_follows kn fn sn (inputs_of rec) i len k u v x (visible_named i ok u.write x.narrow) (keeps_a1 x.no_entry);
-        framed = subst (λ fs. AreFrames fs) (sym (ap (λ (z : FrameState). z.frames) x.is)) framed;
+        held = subst (λ (z : FrameState). Held z) (sym x.is) (written_held u.write g.seen g.frames (keeps_a1 x.no_entry) held);
       }
       by_row (Rests x why) = record {
         follows = quiet_follows kn fn sn (inputs_of rec) (Fetches i len) k u v x;
-        framed = subst (λ fs. AreFrames fs) (sym (ap (λ (z : FrameState). z.frames) x.is)) framed;
+        held = subst (λ (z : FrameState). Held z) (sym x.is) held;
       }
       by_row (Pushes number value n low entry size is small eu ev) =
           let z = entry_some i number size h is d.opens in
@@ -289,11 +322,11 @@ module _ (rows : RowsAgree) (replies : RepliesAgree) (code : ℕ → ℕ) (bytes
           let some : 0 < g.control.ps.callinc = omega (arith, z, q) in
           record {
             follows = pushes_follows kn sn (inputs_of rec) now.control i entry number value n (entry_one i number size b h is d.size) small some three len k u v eu ev;
-            framed = subst (λ (w : FrameTurn). AreFrames w.after.frames) (sym eu) (pushed_frames number value n g kn.seen.size some three framed);
+            held = subst (λ (w : FrameTurn). Held w.after) (sym eu) (pushed_held number value n g (entry_one i number size b h is d.size) kn.seen.size some three held);
           }
       by_row (Pops a0 low return_ eu ev) = record {
-        follows = pops_follows kn sn (inputs_of rec) now.control i return_ a0 len framed (no_empty i g return_ (caller_row i us.masks.kept g h kn.frames d.caller)) k u v eu ev;
-        framed = subst (λ (w : FrameTurn). AreFrames w.after.frames) (sym eu) (back_frames a0 g framed);
+        follows = pops_follows kn sn (inputs_of rec) now.control i return_ a0 len held.framed (no_empty i g return_ (caller_row i us.masks.kept g h kn.frames d.caller)) k u v eu ev;
+        held = subst (λ (w : FrameTurn). Held w.after) (sym eu) (back_held a0 g held);
       }
 
       same_use : full_step code false rec kb us ≡ use_turn (executed v.kind (Fetches i len)) k us h turn_v

@@ -65,18 +65,19 @@ use Rattle.xt_use_run.proofs.Rfi.{ends_moves, ends_ordinary, ends_silent}
 use Rattle.xt_use_run.proofs.Rows.{EntersWord, Executes, Ordinary, Pops, Pushes, Rests, RowStep, result}
 use Rattle.xt_use_run.proofs.Seen.{cut_zero}
 use Rattle.xt_use_run.proofs.Tests.{Denied, denied}
+use Rattle.xt_fillings.proofs.Numbered.{Held}
 use Rattle.xt_fillings.proofs.Outside.{Goes}
 use Rattle.xt_fillings.proofs.Replied.{replied_row}
 use Rattle.xt_fillings.proofs.Words.{given_words, inside_words, laid_words}
 
 -- ---- the step that begins one
-pub begins_goes : (code : ℕ → ℕ) (kb : ℕ → ℕ) (rec : StepRecord) (inp : Inputs) (value : ℕ) (us : UseState) {f : FrameState} → laid inp f ≡ laid (inputs_of rec) f → Knows f us → is_nesting rec.kind ≡ true → us.frame.nested ≡ None → AreFrames f.frames
+pub begins_goes : (code : ℕ → ℕ) (kb : ℕ → ℕ) (rec : StepRecord) (inp : Inputs) (value : ℕ) (us : UseState) {f : FrameState} → laid inp f ≡ laid (inputs_of rec) f → Knows f us → is_nesting rec.kind ≡ true → us.frame.nested ≡ None → Held f
     → Goes (full_step code true rec kb us) (value_step code true value inp f)
 unfolding value_step
-begins_goes code kb rec inp value us {f = f} same kn nesting sn framed =
+begins_goes code kb rec inp value us {f = f} same kn nesting sn held =
     subst (λ (z : FrameState). Goes (full_step code true rec kb us) (begun z)) (sym same) (record {
       follows = subst (λ z. Follows z (begun (laid (inputs_of rec) f))) (sym (use_begins code rec kb us nesting sn)) (begin_follows kn (inputs_of rec));
-      framed = framed;
+      held = held;
     })
 
 -- ---- RFI 5 looks at no reply
@@ -98,12 +99,12 @@ marked_any m value other (Some j) gone (Some v) (Some w) h =
     (h.0, ap (λ k. cut k other) z ∙ (cut_zero other ∙ (sym (cut_zero value) ∙ (ap (λ k. cut k value) (sym z) ∙ h.1))))
 marked_any m value other (Some j) gone (Some v) None h = absurd h
 
-insn_frames : (i : Insn) (value : ℕ) (x : Nested) (f : FrameState) (u : FrameTurn) → (nested_insn i value x f u).after.frames ≡ f.frames
-insn_frames i value x f u = turn_if (λ (v : FrameTurn). v.after.frames ≡ f.frames) (ends_nested i) _ _ refl refl
+insn_held : (i : Insn) (value : ℕ) (x : Nested) (f : FrameState) (u : FrameTurn) → Held f → Held (nested_insn i value x f u).after
+insn_held i value x f u h = turn_if (λ (v : FrameTurn). Held v.after) (ends_nested i) _ _ h h
 
 module _ (rows : RowsAgree) (replies : RepliesAgree) (code : ℕ → ℕ) (bytes : AreBytes code) (b : Bounds) (fresh : Bool) (live : ℕ → Bool) (kb : ℕ → ℕ) (rec : StepRecord) (words : AreInputs (inputs_of rec))
     (reply value : ℕ) (mask_word : reply_mask kb rec.access < 2 ^ 32) (reply_word : reply < 2 ^ 32) (same : AgreeIn (reply_mask kb rec.access) reply rec.reply)
-    (us : UseState) (masks : MaskWords us.masks) (is_cut : IsCut us.frame us.masks) {f : FrameState} (kn : Knows f us) (shaped : IsShapedFrame f) (framed : AreFrames f.frames)
+    (us : UseState) (masks : MaskWords us.masks) (is_cut : IsCut us.frame us.masks) {f : FrameState} (kn : Knows f us) (shaped : IsShapedFrame f) (frames_held : Held f)
     (x y : Nested) (fx : f.nested ≡ Some x) (sy : us.frame.nested ≡ Some y) where
   abbrev inp : Inputs
   inp = record (inputs_of rec) { reply = reply }
@@ -203,7 +204,7 @@ module _ (rows : RowsAgree) (replies : RepliesAgree) (code : ℕ → ℕ) (bytes
     conclude : Follows (use_turn (executed v.kind (Fetches i len)) k us h turn_v) (nested_insn i value x f u) → target
     conclude here = record {
       follows = subst (λ z. Follows z (value_step code false value inp f)) (sym used) (subst (Follows (use_turn (executed v.kind (Fetches i len)) k us h turn_v)) (sym framed_step) here);
-      framed = subst (λ fs. AreFrames fs) (sym (ap (λ (z : FrameTurn). z.after.frames) framed_step ∙ insn_frames i value x f u)) framed;
+      held = subst (λ (z : FrameTurn). Held z.after) (sym framed_step) (insn_held i value x f u frames_held);
     }
 
     ok : in_range i ≡ true

@@ -1,16 +1,17 @@
 -- The machine of frames over any contents ('profile'). Where the machine of uses knows nothing, it
--- has the numbers of a filling: in the new registers of ENTRY and of a nested interrupt, in those of
--- a callee's registers that the discipline forgets, in the bits of a reply that are not known, and
--- where a mark is read.
-use Rattle.std.specs.Prelude.{ℕ, zero, suc, ◌*◌, ◌&&◌, ◌==◌, Bool, bit_or, nat_lt}
+-- has the numbers of a filling: in the new registers of ENTRY and of a nested interrupt, in a
+-- callee's registers that the discipline forgets, and in the bits of a reply that are not known.
+use Rattle.std.specs.Prelude.{ℕ, zero, suc, ◌*◌, ◌&&◌, ◌==◌, Bool, bit_or}
 use Rattle.std.specs.Prelude.{if◌then◌else◌, Option, Some, None, List, [], ◌∷◌, slice_get}
+use Rattle.xt_trace.specs.declared.record.RegWrite.{RegWrite}
 use Rattle.xt_trace.specs.declared.record.StepRecord.{StepRecord}
 use Rattle.xt_fetch.specs.Fetching.{fetched}
 use Rattle.xt_frames.specs.declared.holes.Nested.{Nested}
 use Rattle.xt_frames.specs.Frames.{Frame, FrameState}
-use Rattle.xt_frames.specs.FrameStep.{FrameTurn, Inputs}
+use Rattle.xt_frames.specs.FrameStep.{FrameTurn}
 use Rattle.xt_frames.specs.Nesting.{begins, current}
 use Rattle.xt_frames.specs.Breaches.{inputs_of}
+use Rattle.xt_frames.specs.Judging.{value_in}
 use Rattle.xt_frames.specs.Verdict.{is_nested}
 use Rattle.xt_frames.specs.FirstBreach.{Course, Turn, is_judged, mode_before}
 use Rattle.xt_uses.specs.declared.discipline.Discipline.{Discipline}
@@ -25,8 +26,6 @@ pub record Numbers : Type 0 where
   -- of a visible register, by its number
   pub register : ℕ → ℕ
   pub reply : ℕ
-  -- what is read where a mark stands
-  pub mark : ℕ
 
 -- of each turn
 abbrev pub Filling : Type 0
@@ -36,12 +35,22 @@ Filling = ℕ → Numbers
 abbrev pub filled : ℕ → ℕ → ℕ → ℕ
 filled mask known other = bit_or (cut mask known) (cut (flipped mask) other)
 
--- ---- registers
+abbrev pub filled_write : (ℕ → ℕ) → Option RegWrite → Option RegWrite
+filled_write numbers None = None
+filled_write numbers (Some w) = Some (record w { value = cut all_bits (numbers w.reg) })
 
--- A register from a4 on that has no number receives its own. A frame's a0 to a3 always have one: its
--- caller's stand there. In a nested interrupt marks may stand there.
+-- A record, of whose reply these bits are known. The value of the register that it writes is looked
+-- at where a mark is read, and nowhere else.
+abbrev pub filled_record : ℕ → Numbers → StepRecord → StepRecord
+filled_record mask n rec = record rec {
+  reply = filled mask rec.reply n.reply;
+  write = filled_write n.register rec.write;
+}
+
+-- ---- registers: each that has no number receives its own
+
 abbrev pub number_in : (ℕ → ℕ) → ℕ → Option ℕ → Option ℕ
-number_in numbers i None = if nat_lt i 4 then None else Some (cut all_bits (numbers i))
+number_in numbers i None = Some (cut all_bits (numbers i))
 number_in numbers i (Some n) = Some n
 
 -- of registers from number i on
@@ -53,6 +62,7 @@ abbrev pub numbered_inside : (ℕ → ℕ) → Option Nested → Option Nested
 numbered_inside numbers None = None
 numbered_inside numbers (Some x) = Some (record x { seen = numbered numbers 0 x.seen })
 
+-- in a nested interrupt also those where marks stand
 abbrev pub filled_state : (ℕ → ℕ) → FrameState → FrameState
 filled_state numbers f = record f {
   seen = numbered numbers 0 f.seen;
@@ -66,16 +76,12 @@ results_left (g ∷ rest) f = record f { seen = left_of None (4 * g.by) 0 f.seen
 
 -- ---- the step
 
--- the inputs of a record, of whose reply these bits are known
-abbrev pub filled_inputs : ℕ → StepRecord → Numbers → Inputs
-filled_inputs mask rec n = record (inputs_of rec) { reply = filled mask rec.reply n.reply }
-
--- where `bytes` are the masks with which bytes are read
+-- on the inputs of a record, where `bytes` are the masks with which bytes are read
 abbrev pub filled_step :
     Discipline → (ℕ → ℕ) → Bool → StepRecord → (ℕ → ℕ) → Numbers → FrameState → FrameTurn
 filled_step d code nested rec bytes n f =
-    let inp = filled_inputs (reply_mask bytes rec.access) rec n in
-    let u = value_step code (begins nested rec.kind f) n.mark inp f in
+    let r = filled_record (reply_mask bytes rec.access) n rec in
+    let u = value_step code (begins nested r.kind f) (value_in r.write) (inputs_of r) f in
     let i = executed u.kind (fetched code (current f).control.pc) in
     record u {
       after =

@@ -1,6 +1,6 @@
 -- States that what is not known decides nothing: not where a run goes on, no address, and no byte
 -- that is sent.
-use Rattle.std.specs.Prelude.{◌≡◌, ℕ, ◌<◌, Option, Some, None, List}
+use Rattle.std.specs.Prelude.{◌≡◌, ℕ, ◌<◌, Option, Some, None, List, [], ◌∷◌}
 use Rattle.xt_map.specs.declared.access.Access.{Access}
 use Rattle.xt_map.specs.declared.access.Kind.TheVariants.{Store}
 use Rattle.xt_map.specs.declared.contents.MemoryContents.{MemoryContents}
@@ -12,6 +12,7 @@ use Rattle.xt_trace.specs.declared.record.StepRecord.{StepRecord}
 use Rattle.xt_trace.specs.Short.{ShortRun}
 use Rattle.xt_exec.specs.State.{State}
 use Rattle.xt_frames.specs.declared.kinds.Breach.{Breach}
+use Rattle.xt_frames.specs.declared.holes.Nested.{Nested}
 use Rattle.xt_frames.specs.FrameStep.{FrameTurn}
 use Rattle.xt_frames.specs.Judging.{place_on}
 use Rattle.xt_frames.specs.Verdict.{is_nested}
@@ -24,10 +25,28 @@ use Rattle.xt_uses.specs.declared.discipline.Discipline.{Discipline}
 use Rattle.xt_uses.specs.Used.{low_bits}
 use Rattle.xt_uses.specs.UseStep.{UseTurn}
 use Rattle.xt_uses.specs.FirstUse.{History, IsFirstUse, IsHistory, use_at}
-use Rattle.xt_uses.specs.UseLaws.{AccessFits, AccessesAgree, AgreeIn, IsOrdinary, IsUseRun}
-use Rattle.xt_uses.specs.UseLaws.{WriteFits, WritesAgree}
+use Rattle.xt_uses.specs.UseLaws.{AccessFits, AccessesAgree, AgreeIn, IsOpening, IsOrdinary}
+use Rattle.xt_uses.specs.UseLaws.{IsUseRun, WriteFits, WritesAgree}
 use Rattle.xt_use_run.specs.Laws.{course_of}
 use Rattle.xt_fillings.specs.Fillings.{Filling, filled_at, filled_before}
+
+-- ---- the machine over a filling has a number in each register
+
+abbrev pub HaveNumbers : List (Option ℕ) → Type 0
+HaveNumbers [] = Unit {0}
+HaveNumbers (None ∷ xs) = ⊥
+HaveNumbers (Some n ∷ xs) = HaveNumbers xs
+
+abbrev pub InnerHaveNumbers : Option Nested → Type 0
+InnerHaveNumbers None = Unit {0}
+InnerHaveNumbers (Some x) = HaveNumbers x.seen
+
+abbrev pub RegistersHaveNumbers : Type 0
+RegistersHaveNumbers =
+    (d : Discipline) (r : Course) (h : History) (n : Filling) (core p : ℕ)
+    → IsOpening (r.opening core)
+    → HaveNumbers (filled_before d r h n core p).seen
+    × InnerHaveNumbers (filled_before d r h n core p).nested
 
 -- ---- beside the machine of uses
 
@@ -76,7 +95,8 @@ AsksSame mask _ _ = ⊥
 pub record FollowsRecord
     (d : Discipline) (r : Course) (h : History) (n : Filling) (p core : ℕ) (rec : StepRecord)
     : Type 0 where
-  pub place : rec.pc ≡ place_on (is_nested (mode_before r core p)) rec (filled_before d r h n core p)
+  pub place :
+      rec.pc ≡ place_on (is_nested (mode_before r core p)) rec (filled_before d r h n core p)
   pub kind : rec.kind ≡ (filled_at d r h n p core rec).kind
   pub write :
       WritesAgree (use_at r h p core rec).mask rec.write (filled_at d r h n p core rec).write

@@ -1,7 +1,12 @@
 //! Laws of the machine of frames over any contents.
 #![tactic(auto)]
 
-ghost use Rattle.xt_fillings.specs.Laws.{RecordsAreFollowed, RunsAreDecided, UnknownDecidesNothing};
+ghost use Rattle.xt_fillings.specs.Laws.{RecordsAreFollowed, RegistersHaveNumbers, RunsAreDecided, UnknownDecidesNothing};
+
+/// The machine over a filling has a number in each register.
+pub fn registers_have_numbers()
+    ensures { RegistersHaveNumbers }
+{}
 
 /// Whatever stands where the machine of uses knows nothing, each judged step before the first breach
 /// of uses does the same at the same place.
@@ -15,7 +20,7 @@ pub fn records_are_followed()
 {}
 
 /// In a run of an image whose window handlers pass their check, and whose stacks are apart, nothing
-/// that is not known decides a place, an access or a byte that is sent before the first breach of uses.
+/// that is not known decides a place, an access or a byte sent before the first breach of uses.
 pub fn runs_are_decided()
     ensures { RunsAreDecided }
 {}
