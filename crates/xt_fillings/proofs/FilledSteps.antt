@@ -20,7 +20,6 @@ use Rattle.xt_frames.specs.FrameStep.{FrameTurn, Inputs, laid}
 use Rattle.xt_frames.specs.Nesting.{begins, current, current_in, is_nesting}
 use Rattle.xt_frames.specs.Breaches.{Bounds, inputs_of}
 use Rattle.xt_frames.specs.Judging.{place_on, value_in}
-use Rattle.xt_frames.specs.Stacks.{AreFrames}
 use Rattle.xt_uses.specs.declared.discipline.Discipline.{Discipline}
 use Rattle.xt_uses.specs.Words.{cut, flipped}
 use Rattle.xt_uses.specs.Used.{low_bits}

@@ -32,7 +32,6 @@ use Rattle.xt_frames.specs.Frames.{Frame, FrameState, known, seen_after_call, se
 use Rattle.xt_frames.specs.FrameStep.{FrameTurn, Inputs, fetched_step, in_frame, laid, laid_step, popped, popped_from, pushed, raised}
 use Rattle.xt_frames.specs.Nesting.{current_in, turn_in, unset_after}
 use Rattle.xt_frames.specs.Breaches.{Bounds, first_shown, inputs_of, insn_tests, is_empty, has_no_caller}
-use Rattle.xt_frames.specs.Stacks.{AreFrames}
 use Rattle.xt_frames.proofs.Shown.{KeepsSp, keeps_sp}
 use Rattle.xt_frames.proofs.StackSteps.{step_fetches, step_taken, step_waits}
 use Rattle.xt_simulation.proofs.Evenly.{same_pending}

@@ -29,7 +29,6 @@ use Rattle.xt_frames.specs.Marks.{mark_read, marked_write}
 use Rattle.xt_frames.specs.Nesting.{begun, ends_nested, inside, is_nesting, keeping, nested_fetched, nested_insn, nested_turn, turn_in}
 use Rattle.xt_frames.specs.Breaches.{Bounds, first_shown, inputs_of, insn_tests, is_exception, other_tests}
 use Rattle.xt_frames.specs.Judging.{value_in}
-use Rattle.xt_frames.specs.Stacks.{AreFrames}
 use Rattle.xt_frames.proofs.Inside.{kind_inside}
 use Rattle.xt_frames.proofs.Shown.{none_shown}
 use Rattle.xt_frames.proofs.StackSteps.{step_fetches, turn_if}
