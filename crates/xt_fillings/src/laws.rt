@@ -8,8 +8,8 @@ pub fn registers_have_numbers()
     ensures { RegistersHaveNumbers }
 {}
 
-/// Whatever stands where the machine of uses knows nothing, each judged step before the first breach
-/// of uses does the same at the same place.
+/// Whatever stands where the machine of uses knows nothing, each judged step before the first
+/// breach of uses does the same at the same place.
 pub fn unknown_decides_nothing()
     ensures { UnknownDecidesNothing }
 {}
