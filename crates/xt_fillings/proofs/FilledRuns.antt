@@ -37,7 +37,7 @@ use Rattle.xt_uses.proofs.WholeIdle.{opening_at}
 use Rattle.xt_use_run.specs.Knowing.{Knows}
 use Rattle.xt_use_run.proofs.MaskStep.{step_small, unknown_small}
 use Rattle.xt_use_run.proofs.MaskWords.{MaskWords, opening_small}
-use Rattle.xt_use_run.proofs.Specials.{mark_lost}
+use Rattle.xt_use_run.proofs.Specials.{partial_lost}
 use Rattle.xt_fillings.specs.Fillings.{Filling, filled_at, filled_before, filled_past, step_with}
 use Rattle.xt_fillings.specs.Laws.{AsksSame, RecordsAreFollowed, StepsSame, UnknownDecidesNothing}
 use Rattle.xt_fillings.proofs.Numbered.{HasPointer, Held}
@@ -73,11 +73,12 @@ opens_beside d core pc vecbase stack_end c k = record {
   sp = refl;
   frames = tt;
   control = record {
-    even = record { pc = refl; ps = refl; threadptr = refl; waits = refl; special = record { size = refl; only = mark_lost; at = λ n known. refl } };
+    even = record { pc = refl; ps = refl; threadptr = refl; waits = refl; special = record { size = refl; only = partial_lost; at = λ n known. refl } };
     pointer = c.pointer;
     spread = c.count;
     words = λ n h. k.control.words n;
     fits = c.special_cut;
+    saved = λ n h. refl;
   };
   unset = record { size = c.holes; wide = c.holes; equal = λ n h. refl; lacks = c.lost };
   nested = tt;

@@ -235,7 +235,7 @@ module _ (rows : RowsAgree) (replies : RepliesAgree) (code : ℕ → ℕ) (bytes
     moves : (q len : ℕ) {v : FrameTurn} → fetched code h.control.pc ≡ Fetches (movsp 1 q) len → Denied b fresh live kb (movsp 1 q) rec us h v → target
     moves q len e d =
         let uses : Uses (movsp 1 q) us h = uses_known (movsp 1 q) us h d.unset in
-        let whole : is_whole (first_word (movsp 1 q) us h) ≡ true = move_uses 1 q us h (second_word (movsp 1 q) us h) uses.used in
+        let whole : is_whole (first_word (movsp 1 q) us h) ≡ true = move_uses us.masks.discipline 1 q us h (second_word (movsp 1 q) us h) uses.used in
         let w : is_whole (visible_word us h (Some q)) ≡ true = ap is_whole (sym (move_word 1 q us h)) ∙ whole in
         let x = known g.seen q in
         let x_word : x < 2 ^ 32 = (given_word q) in
@@ -279,14 +279,14 @@ module _ (rows : RowsAgree) (replies : RepliesAgree) (code : ℕ → ℕ) (bytes
       abbrev o : Outcome
       o = outcome_at code i (known g.seen) g.control
 
-      agree : OutcomesAgree i (row_masks i us h) o (outcome_at code i (known h.seen) h.control)
+      agree : OutcomesAgree us.masks.discipline i (row_masks i us h) o (outcome_at code i (known h.seen) h.control)
       agree = row_agrees now rows (now_small us masks) code i given uses.used
 
       proper : EntersWord o
       proper n j q = let p : IsProper IsWord (Windowed (Enters n j)) = subst (IsProper IsWord) q (outcome_words code i g.control.pc _ _ _ _ g.control.ps g.control.threadptr bytes given) in p.1
 
-      small_result : result_mask i (first_word i us h) (second_word i us h) (special_operand i us h) us.masks.threadptr k < 2 ^ 32
-      small_result = result_word (first_word i us h) (second_word i us h) (visible_word_small us h (reads i).0 masks) (visible_word_small us h (reads i).1 masks) i ok (special_operand i us h) us.masks.threadptr k (special_word_small us h (special_reads i).0 masks) masks.threadptr mask_word
+      small_result : result_mask us.masks.discipline i (first_word i us h) (second_word i us h) (special_operand i us h) us.masks.threadptr k < 2 ^ 32
+      small_result = result_word (first_word i us h) (second_word i us h) (visible_word_small us h (reads i).0 masks) (visible_word_small us h (reads i).1 masks) us.masks.discipline i ok (special_operand i us h) us.masks.threadptr k (special_word_small us h (special_reads i).0 masks) masks.threadptr mask_word
 
       row : RowStep i us g h (result now code i shaped_g.control.count given.x_word k) u v
       row = replied_row replies now code i shaped_g.control.count given.x_word k reply rec.reply mask_word reply_word words.reply same small_result len agree proper uses.used d.windowing no_movsp d.window_register

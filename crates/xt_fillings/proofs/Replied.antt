@@ -26,6 +26,7 @@ use Rattle.xt_rows.specs.Settling.{settled, written}
 use Rattle.xt_rows.proofs.Fitting.{outcome_fits}
 use Rattle.xt_frames.specs.Frames.{FrameState, known}
 use Rattle.xt_frames.specs.FrameStep.{FrameTurn, done_in_frame, fetched_step, in_frame, windowed_in_frame}
+use Rattle.xt_uses.specs.declared.discipline.Discipline.{Discipline}
 use Rattle.xt_uses.specs.declared.words.Word.{Word}
 use Rattle.xt_uses.specs.Words.{all_bits}
 use Rattle.xt_uses.specs.Known.{density_mask, loaded_mask, memory_mask, result_mask}
@@ -62,15 +63,15 @@ density_whole (density.Addi a s n) x y r = inl refl
 density_whole (density.Mov t s) x y r = inl refl
 density_whole _ x y r = inl refl
 
-result_whole : (i : Insn) (x y u : Word) (pointer r : ℕ) → (result_mask i x y u pointer r ≡ result_mask i x y u pointer all_bits) ⊎ (result_mask i x y u pointer all_bits ≡ all_bits)
+result_whole : (by : Discipline) (i : Insn) (x y u : Word) (pointer r : ℕ) → (result_mask by i x y u pointer r ≡ result_mask by i x y u pointer all_bits) ⊎ (result_mask by i x y u pointer all_bits ≡ all_bits)
 unfolding result_mask
-result_whole (insn.Three i) x y u pointer r = inl refl
-result_whole (insn.Shift i) x y u pointer r = inl refl
-result_whole (insn.Memory i) x y u pointer r = memory_whole i x r
-result_whole (insn.Control i) x y u pointer r = inl refl
-result_whole (insn.System i) x y u pointer r = inl refl
-result_whole (insn.Density i) x y u pointer r = density_whole i x y r
-result_whole (insn.Boolean i) x y u pointer r = inl refl
+result_whole by (insn.Three i) x y u pointer r = inl refl
+result_whole by (insn.Shift i) x y u pointer r = inl refl
+result_whole by (insn.Memory i) x y u pointer r = memory_whole i x r
+result_whole by (insn.Control i) x y u pointer r = inl refl
+result_whole by (insn.System i) x y u pointer r = inl refl
+result_whole by (insn.Density i) x y u pointer r = density_whole i x y r
+result_whole by (insn.Boolean i) x y u pointer r = inl refl
 
 -- what agrees in each bit agrees in those of a mask
 whole_agrees : (mask x y : ℕ) → mask < 2 ^ 32 → AgreeIn all_bits x y → AgreeIn mask x y
@@ -132,7 +133,7 @@ module _ (replies : RepliesAgree) {s : UseState} {g h : FrameState} (f : NowFit 
   to_mask x y q = ⊎_elim
       (λ e. subst (λ z. AgreeIn z x y) (sym e) q)
       (λ e. whole_agrees (mask r) x y word (subst (λ z. AgreeIn z x y) e q))
-      (result_whole i (first_word i s h) (second_word i s h) (special_operand i s h) s.masks.threadptr r)
+      (result_whole s.masks.discipline i (first_word i s h) (second_word i s h) (special_operand i s h) s.masks.threadptr r)
 
   -- what is received agrees in what is known of the reply
   received : (v w : Option Awaited) → v ≡ w → ((z : Awaited) → v ≡ Some z → mask r ≡ loaded_mask z.signed r) → WritesAgree (mask r) (written None v n) (written None w m)
@@ -144,12 +145,12 @@ module _ (replies : RepliesAgree) {s : UseState} {g h : FrameState} (f : NowFit 
 
   awaits_mask : (c : Access) (v : Option Awaited) (e : Effect) → o ≡ Asks c v e → (z : Awaited) → v ≡ Some z → mask r ≡ loaded_mask z.signed r
   awaits_mask c v e q z is =
-      let a = outcome_masked code i (first_word i s h) (second_word i s h) (special_operand i s h) s.masks.threadptr r g.control.pc _ _ _ _ g.control.ps g.control.threadptr in
+      let a = outcome_masked s.masks.discipline code i (first_word i s h) (second_word i s h) (special_operand i s h) s.masks.threadptr r g.control.pc _ _ _ _ g.control.ps g.control.threadptr in
       let b : AwaitsMask (mask r) r (Asks c v e) = subst (AwaitsMask (mask r) r) q a in
       let d : AwaitsMask (mask r) r (Asks c (Some z) e) = subst (λ (k : Option Awaited). AwaitsMask (mask r) r (Asks c k e)) is b in
       d
 
-  asked_row : (len : ℕ) (c d : Access) (v w : Option Awaited) (a e : Effect) → o ≡ Asks c v a → p ≡ Asks d w e → OutcomesAgree i (row_masks i s h) (Asks c v a) (Asks d w e) → used_are_known i (first_word i s h) (second_word i s h) ≡ true
+  asked_row : (len : ℕ) (c d : Access) (v w : Option Awaited) (a e : Effect) → o ≡ Asks c v a → p ≡ Asks d w e → OutcomesAgree s.masks.discipline i (row_masks i s h) (Asks c v a) (Asks d w e) → used_are_known s.masks.discipline i (first_word i s h) (second_word i s h) ≡ true
       → Ordinary i s g h (mask r) (in_frame (settled (Asks c v a) len g.control) n g) (in_frame (settled (Asks d w e) len h.control) m h)
   asked_row len c d v w a e q k agree used =
       let x = asks_ordinary f code i count small len m (mask r) c d v w a e q k agree.0 agree.1 used agree.2 in
@@ -169,7 +170,7 @@ module _ (replies : RepliesAgree) {s : UseState} {g h : FrameState} (f : NowFit 
         no_return = x.no_return;
       }
 
-  by_outcomes : (len : ℕ) (y z : Outcome) → o ≡ y → p ≡ z → OutcomesAgree i (row_masks i s h) y z → used_are_known i (first_word i s h) (second_word i s h) ≡ true
+  by_outcomes : (len : ℕ) (y z : Outcome) → o ≡ y → p ≡ z → OutcomesAgree s.masks.discipline i (row_masks i s h) y z → used_are_known s.masks.discipline i (first_word i s h) (second_word i s h) ≡ true
       → RowStep i s g h (mask all_bits) (done_in_frame y len m g) (done_in_frame z len m h) → RowStep i s g h (mask r) (done_in_frame y len n g) (done_in_frame z len m h)
   by_outcomes len (Asks c v a) (Asks d w e) q k agree used row = Executes (asked_row len c d v w a e q k agree used)
   by_outcomes len (Does a) z q k agree used row = masked_row to_mask row
@@ -182,6 +183,6 @@ module _ (replies : RepliesAgree) {s : UseState} {g h : FrameState} (f : NowFit 
   by_outcomes len (Asks c v a) (Windowed w) q k agree used row = absurd cc
 
   -- n is the reply of the filling, and m that of the record
-  pub replied_row : (len : ℕ) → OutcomesAgree i (row_masks i s h) o p → EntersWord o → used_are_known i (first_word i s h) (second_word i s h) ≡ true → is_windowing i ≡ false → is_movsp i ≡ false → names_window_register i ≡ false
+  pub replied_row : (len : ℕ) → OutcomesAgree s.masks.discipline i (row_masks i s h) o p → EntersWord o → used_are_known s.masks.discipline i (first_word i s h) (second_word i s h) ≡ true → is_windowing i ≡ false → is_movsp i ≡ false → names_window_register i ≡ false
       → RowStep i s g h (mask r) (fetched_step (Fetches i len) code n g) (fetched_step (Fetches i len) code m h)
   replied_row len agree proper used a b c = by_outcomes len o p refl refl agree used (row_step f code i count small len m all_bits agree proper used a b c (λ e q. refl))

@@ -35,7 +35,7 @@ use Rattle.xt_frames.proofs.StackSteps.{step_fetches, turn_if}
 use Rattle.xt_simulation.proofs.Evenly.{same_pending}
 use Rattle.xt_uses.specs.Words.{all_bits, cut}
 use Rattle.xt_uses.specs.Known.{result_mask}
-use Rattle.xt_uses.specs.Used.{used_are_known}
+use Rattle.xt_uses.specs.Used.{counted_bits, used_are_known}
 use Rattle.xt_uses.specs.UseBreaches.{breaks_stack, fetched_uses, laid_use, nowhere, reads_mark, reads_no_number, swaps_unknown, use_breach, use_tests, uses_unknown}
 use Rattle.xt_uses.specs.UseState.{UseState, first_word, second_word, special_operand, special_word}
 use Rattle.xt_uses.specs.UseStep.{UseTurn, executed, full_step, insn_turn, movsp_of, other_turn, reply_mask, turn_or, use_turn, value_step}
@@ -213,7 +213,7 @@ module _ (rows : RowsAgree) (replies : RepliesAgree) (code : ℕ → ℕ) (bytes
     ends_target : ends_nested i ≡ true → target
     ends_target ends =
         let o : Ordinary i us g h (row_masks i us h).result u v = ends_replied o_same in
-        let o2 : Ordinary i us g h (result_mask i (first_word i us h) (second_word i us h) (special_operand i us h) us.masks.threadptr k) u v = subst (λ z. Ordinary i us g h z u v) (sym (ends_result i (first_word i us h) (second_word i us h) (special_operand i us h) us.masks.threadptr k ends)) o in
+        let o2 : Ordinary i us g h (result_mask us.masks.discipline i (first_word i us h) (second_word i us h) (special_operand i us h) us.masks.threadptr k) u v = subst (λ z. Ordinary i us g h z u v) (sym (ends_result us.masks.discipline i (first_word i us h) (second_word i us h) (special_operand i us h) us.masks.threadptr k ends)) o in
         let here = ends_follows kn x y fx sy inner (inputs_of rec) bare i k u v o2 (ends_moves i ends) (ends_silent code i len rec.reply h ends) in
         let a : executed v.kind (Fetches i len) ≡ Some i = ap (λ z. executed z (Fetches i len)) o.kind_too ∙ executed_insn i len in
         conclude
@@ -238,14 +238,14 @@ module _ (rows : RowsAgree) (replies : RepliesAgree) (code : ℕ → ℕ) (bytes
       abbrev o : Outcome
       o = outcome_at code i (known g.seen) g.control
 
-      agree : OutcomesAgree i (row_masks i us h) o (outcome_at code i (known h.seen) h.control)
+      agree : OutcomesAgree us.masks.discipline i (row_masks i us h) o (outcome_at code i (known h.seen) h.control)
       agree = row_agrees now rows (now_small us masks) code i given uses.used
 
       proper : EntersWord o
       proper n j q = let p : IsProper IsWord (Windowed (Enters n j)) = subst (IsProper IsWord) q (outcome_words code i g.control.pc _ _ _ _ g.control.ps g.control.threadptr bytes given) in p.1
 
-      small_result : result_mask i (first_word i us h) (second_word i us h) (special_operand i us h) us.masks.threadptr k < 2 ^ 32
-      small_result = result_word (first_word i us h) (second_word i us h) (visible_word_small us h (reads i).0 masks) (visible_word_small us h (reads i).1 masks) i ok (special_operand i us h) us.masks.threadptr k (special_word_small us h (special_reads i).0 masks) masks.threadptr mask_word
+      small_result : result_mask us.masks.discipline i (first_word i us h) (second_word i us h) (special_operand i us h) us.masks.threadptr k < 2 ^ 32
+      small_result = result_word (first_word i us h) (second_word i us h) (visible_word_small us h (reads i).0 masks) (visible_word_small us h (reads i).1 masks) us.masks.discipline i ok (special_operand i us h) us.masks.threadptr k (special_word_small us h (special_reads i).0 masks) masks.threadptr mask_word
 
       row : RowStep i us g h (result now code i shaped_g.control.count given.x_word k) u v
       row = replied_row replies now code i shaped_g.control.count given.x_word k reply rec.reply mask_word reply_word words.reply same small_result len agree proper uses.used d.windowing (no_movsp code len y d sy mode_h) d.window_register
@@ -254,9 +254,9 @@ module _ (rows : RowsAgree) (replies : RepliesAgree) (code : ℕ → ℕ) (bytes
       mark = mark_read i x.saved
 
       no_mark_read : reads_mark (Some y) i ≡ false
-      no_mark_read = (or_parts (reads_mark (Some y) i) _ (subst (λ (o : Option Nested). (reads_mark o i || (reads_no_number i h || not (used_are_known i (first_word i us h) (second_word i us h)))) ≡ false) sy d.unset)).0
+      no_mark_read = (or_parts (reads_mark (Some y) i) _ (subst (λ (o : Option Nested). (reads_mark o i || (reads_no_number i h || not (used_are_known us.masks.discipline i (first_word i us h) (second_word i us h)))) ≡ false) sy d.unset)).0
 
-      gone : (j : ℕ) → mark ≡ Some j → result_mask i (first_word i us h) (second_word i us h) (special_operand i us h) us.masks.threadptr k ≡ 0
+      gone : (j : ℕ) → mark ≡ Some j → result_mask us.masks.discipline i (first_word i us h) (second_word i us h) (special_operand i us h) us.masks.threadptr k ≡ 0
       gone j is =
           let at_y : mark_read i y.saved ≡ Some j = ap (mark_read i) (sym inner.saved) ∙ is in
           let moves = reading_moves i j y at_y no_mark_read in
@@ -264,13 +264,13 @@ module _ (rows : RowsAgree) (replies : RepliesAgree) (code : ℕ → ℕ) (bytes
           let zero : get_or us.masks.special p.0 0 ≡ 0 = is_cut.lost p.0 p.2 (held.saved p.0 j p.3).1 in
           moves_result i j y.saved us h k at_y
           ∙ (ap (λ (o : Option ℕ). (special_word us h o).mask) p.1
-          ∙ (ap (λ z. cond z (get_or us.masks.special p.0 0) all_bits) p.2 ∙ zero))
+          ∙ (ap (λ z. cond z (get_or us.masks.special p.0 0) (counted_bits us.masks.discipline p.0)) p.2 ∙ zero))
 
       going_v : turn_v ≡ goes_on_turn i told mark y us.frame v
       going_v = going_is i told y us.frame v goes ∙ ap (λ z. goes_on_turn i told (mark_read i z) y us.frame v) (sym inner.saved)
 
       -- with the value of the filling in place of the record's
-      revalued : {t : UseTurn} → t.mask ≡ result_mask i (first_word i us h) (second_word i us h) (special_operand i us h) us.masks.threadptr k ⊎ (u.write ≡ None) → Follows t (goes_on_turn i told mark x f u) → Follows t (goes_on_turn i value mark x f u)
+      revalued : {t : UseTurn} → t.mask ≡ result_mask us.masks.discipline i (first_word i us h) (second_word i us h) (special_operand i us h) us.masks.threadptr k ⊎ (u.write ≡ None) → Follows t (goes_on_turn i told mark x f u) → Follows t (goes_on_turn i value mark x f u)
       revalued {t = t} masked follows = record {
         kind = follows.kind;
         write = ⊎_elim

@@ -25,6 +25,7 @@ use Rattle.xt_simulation.proofs.Laid.{laid_other}
 use Rattle.xt_uses.specs.Words.{all_bits}
 use Rattle.xt_uses.specs.UseBreaches.{holds_mark, reads_mark}
 use Rattle.xt_uses.specs.UseState.{UseState, first_word, second_word, special_operand, special_word}
+use Rattle.xt_uses.specs.Used.{counted_bits}
 use Rattle.xt_uses.specs.Known.{result_mask, system_mask}
 use Rattle.xt_use_run.specs.Knowing.{InnerFit, Knows, NestedFit}
 
@@ -67,7 +68,7 @@ moves_hold (insn.System (system.Rsr SpecialName.Xsr t n)) j saved e h = (n, refl
 moves_hold _ j saved e h = absurd cc
 
 -- RSR and XSR write what is known of the special register
-pub moves_result : (i : Insn) (j : ℕ) (saved : List (Option ℕ)) (us : UseState) (h : FrameState) (r : ℕ) → mark_read i saved ≡ Some j → result_mask i (first_word i us h) (second_word i us h) (special_operand i us h) us.masks.threadptr r ≡ (special_operand i us h).mask
+pub moves_result : (i : Insn) (j : ℕ) (saved : List (Option ℕ)) (us : UseState) (h : FrameState) (r : ℕ) → mark_read i saved ≡ Some j → result_mask us.masks.discipline i (first_word i us h) (second_word i us h) (special_operand i us h) us.masks.threadptr r ≡ (special_operand i us h).mask
 unfolding mark_read result_mask system_mask
 moves_result (insn.System (system.Rsr SpecialName.Rsr t n)) j saved us h r e = refl
 moves_result (insn.System (system.Rsr SpecialName.Xsr t n)) j saved us h r e = refl
@@ -96,7 +97,7 @@ reading_moves _ j x e h = absurd cc
 
 module _ (code : ℕ → ℕ) {b : Bounds} {m : MemoryContents} {s : State} {f : FrameState} {before : State} {opened : ℕ → ℕ} {suspended : State} (h : Suspends code b m s f before opened suspended) {us : UseState} (kn : Knows f us) where
   -- so its mask is 0
-  pub mark_gone : (i : Insn) (j r : ℕ) (g : FrameState) → mark_read i h.x.saved ≡ Some j → reads_mark (Some h.x) i ≡ false → result_mask i (first_word i us g) (second_word i us g) (special_operand i us g) us.masks.threadptr r ≡ 0
+  pub mark_gone : (i : Insn) (j r : ℕ) (g : FrameState) → mark_read i h.x.saved ≡ Some j → reads_mark (Some h.x) i ≡ false → result_mask us.masks.discipline i (first_word i us g) (second_word i us g) (special_operand i us g) us.masks.threadptr r ≡ 0
   mark_gone i j r g e none =
       let moves = reading_moves i j h.x e none in
       let p = moves_hold i j h.x.saved e moves in
@@ -104,4 +105,4 @@ module _ (code : ℕ → ℕ) {b : Bounds} {m : MemoryContents} {s : State} {f :
       let zero : get_or us.masks.special p.0 0 ≡ 0 = kn.unset.lacks p.0 p.2 has in
       moves_result i j h.x.saved us g r e
       ∙ (ap (λ (o : Option ℕ). (special_word us g o).mask) p.1
-      ∙ (ap (λ z. cond z (get_or us.masks.special p.0 0) all_bits) p.2 ∙ zero))
+      ∙ (ap (λ z. cond z (get_or us.masks.special p.0 0) (counted_bits us.masks.discipline p.0)) p.2 ∙ zero))

@@ -174,7 +174,7 @@ module _ (rows : RowsAgree) (code : ℕ → ℕ) (bytes : AreBytes code) (b : Bo
     abbrev o : Outcome
     o = outcome_at code i (known g.seen) g.control
 
-    agree : OutcomesAgree i (row_masks i us h) o (outcome_at code i (known h.seen) h.control)
+    agree : OutcomesAgree us.masks.discipline i (row_masks i us h) o (outcome_at code i (known h.seen) h.control)
     agree = row_agrees now rows masks code i given uses.used
 
     proper : EntersWord o
@@ -206,7 +206,7 @@ module _ (rows : RowsAgree) (code : ℕ → ℕ) (bytes : AreBytes code) (b : Bo
           nested = r.nested;
           nested_too = sn;
           write = sp_tested r.knows.frames first_row;
-          woe = ap (λ (p : Ps). p.woe) after.0;
+          woe = after.0;
           vectors = after.1;
         }
 
