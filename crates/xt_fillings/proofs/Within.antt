@@ -33,7 +33,7 @@ use Rattle.xt_frames.proofs.Inside.{kind_inside}
 use Rattle.xt_frames.proofs.Shown.{none_shown}
 use Rattle.xt_frames.proofs.StackSteps.{step_fetches, turn_if}
 use Rattle.xt_simulation.proofs.Evenly.{same_pending}
-use Rattle.xt_uses.specs.Words.{all_bits, cut}
+use Rattle.xt_uses.specs.Words.{cut}
 use Rattle.xt_uses.specs.Known.{result_mask}
 use Rattle.xt_uses.specs.Used.{counted_bits, used_are_known}
 use Rattle.xt_uses.specs.UseBreaches.{breaks_stack, fetched_uses, laid_use, nowhere, reads_mark, reads_no_number, swaps_unknown, use_breach, use_tests, uses_unknown}
