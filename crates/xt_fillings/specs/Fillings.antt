@@ -1,6 +1,18 @@
 -- The machine of frames over any contents ('profile'). Where the machine of uses knows nothing, it
 -- has the numbers of a filling: in the new registers of ENTRY and of a nested interrupt, in a
 -- callee's registers that the discipline forgets, and in the bits of a reply that are not known.
+--
+-- Profile: a filling has for each turn a number for each visible register, and one for the reply.
+-- Of a number 32 bits are taken.
+-- Profile: the machine over a filling is that of `xt_frames`, in which MOVSP moves a1. It steps on
+-- the inputs of the records. Of a reply it has the bits that are known there, and the filling's
+-- bits elsewhere (`filled`). After each step every visible register that has no number receives the
+-- filling's (`numbered`). So do the new registers of ENTRY and of a nested interrupt, and in the
+-- strict discipline the callee's registers after RETW, except its results a2 to a5
+-- (`results_left`). In a nested interrupt registers with marks have numbers too, and a register
+-- that receives a mark is written with the filling's number.
+-- Note: `DoesSame` and `StepsSame` of `Laws` compare its steps with those of the machine of uses,
+-- `FollowsRecord` with the records.
 use Rattle.std.specs.Prelude.{ℕ, zero, suc, ◌*◌, ◌&&◌, ◌==◌, Bool, bit_or}
 use Rattle.std.specs.Prelude.{if◌then◌else◌, Option, Some, None, List, [], ◌∷◌, slice_get}
 use Rattle.xt_trace.specs.declared.record.RegWrite.{RegWrite}

@@ -9,7 +9,8 @@
 -- `rows_agree` ties them to the rows. Take two lists of operands that agree in all known bits, and
 -- let all used bits be known. Then both give the same kind of outcome, with the same flow, address,
 -- size and special registers, and what they write and store agrees in the bits that the table calls
--- known. It does not say that the tables are not too strict.
+-- known. In the strict discipline PS and EPS2 to EPS7 are the same but for OWB. It does not say
+-- that the tables are not too strict.
 use Rattle.std.specs.Prelude.{ℕ, ◌-◌, ◌%◌, ◌^◌, Bool, true, ◌==◌, ◌&&◌, ◌||◌, if◌then◌else◌, ℤ}
 use Rattle.xt_isa.specs.declared.Insn.{Insn}
 use Rattle.xt_isa.specs.declared.Insn.TheVariants as insn
