@@ -58,10 +58,13 @@ number_by (Some rows) = judged_number (number_in (first_of (codes "number") rows
 abbrev pub generator_number_of : List Text → Result ℕ Refusal
 generator_number_of words = number_by (rows_by gen_app words)
 
--- ---- replay SCRIPT
+-- ---- replay [--lenient] SCRIPT
 
 abbrev pub replay_app : App
-replay_app = with_rule (new_app (codes "replay")) (positional_rule (codes "script"))
+replay_app =
+    with_flag
+    (with_rule (new_app (codes "replay")) (positional_rule (codes "script")))
+    (codes "lenient")
 
 abbrev pub given_text : Option Text → Result Text Refusal
 given_text None = Err (refusal.Usage 3)

@@ -4,6 +4,7 @@ pub mod Answers
 pub mod TurnOrders
 pub mod Options
 pub mod Arguments
+pub mod Beyond
 pub mod Listings
 pub mod Meaning
 pub mod Views

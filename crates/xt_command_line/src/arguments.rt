@@ -60,8 +60,8 @@ pub fn generator_number(alloc: Global, words: &[String]) -> Result<u32, Refusal>
 
 /// The text of the script that the words of `replay` have, the first of which stands for the command.
 ///
-/// The words are read as a simple command of `clap` with one text that must be there. `Usage(3)` says that they do not
-/// match. `Memory` says only that memory ran out.
+/// The words are read as a simple command of `clap` with one text that must be there and the flag `--lenient`.
+/// `Usage(3)` says that they do not match. `Memory` says only that memory ran out.
 pub fn script_text<'a>(alloc: Global, words: &'a [String]) -> Result<&'a str, Refusal>
     ensures { MeansAs (λ t. t.now) result (script_text_of (map string_bytes words.now)) }
 {

@@ -5,6 +5,7 @@
 #![tactic(auto)]
 
 mod arguments;
+mod beyond;
 mod command;
 mod laws;
 mod listings;
@@ -17,6 +18,7 @@ mod turn_orders;
 mod words;
 
 pub use arguments::{check_vecbase, generator_number, script_text, trace_span, uses_rigor};
+pub use beyond::{Beyond, script_beyond};
 pub use command::{Command, Listing, Openings, Refusal, Rigor, Span};
 pub use laws::{meaning_needs_no_memory, options_need_no_memory, valid_options_are_accepted};
 pub use listings::listing;

@@ -162,11 +162,12 @@ pub fn generator_matches<'a>(alloc: Global, words: &'a [String]) -> Result<ArgMa
     matches_by(generator_command(alloc)?, words)
 }
 
-// The command `replay` with its script.
+// The command `replay` with its script and its flag.
 fn replay_command<'a>(alloc: Global) -> Result<Command<'a>, AllocError>
     ensures { IfOk result (λ c. app_of c ≡ replay_app) }
 {
-    with_positional(alloc, Command::new(alloc, "replay"), "script")
+    let command = with_positional(alloc, Command::new(alloc, "replay"), "script")?;
+    with_one_flag(alloc, command, "lenient")
 }
 
 /// What `clap` matches on the words of `replay`.

@@ -34,6 +34,10 @@ with_both make (Some a) (Some b) = Some (make a b)
 with_both make (Some a) None = None
 with_both make None second = None
 
+-- a command without an operand
+unfoldable pub command_of_none : List ℕ → Option Command
+command_of_none name = if bytes_eq name (codes "end") then Some command.End else None
+
 -- a command with one operand
 unfoldable pub command_of_one : List ℕ → List ℕ → Option Command
 command_of_one name word =
@@ -62,7 +66,7 @@ command_of_two name first second =
 
 abbrev pub command_of_words : List (List ℕ) → Option Command
 command_of_words [] = None
-command_of_words (name ∷ []) = None
+command_of_words (name ∷ []) = command_of_none name
 command_of_words (name ∷ word ∷ []) = command_of_one name word
 command_of_words (name ∷ first ∷ second ∷ []) = command_of_two name first second
 command_of_words (name ∷ first ∷ second ∷ third ∷ more) = None
@@ -103,6 +107,7 @@ IsInRange (command.Frames c) = c < 2
 IsInRange (command.Calls c) = c < 2
 IsInRange (command.Mem addr n) = n ≤ most_shown
 IsInRange (command.Words addr n) = n ≤ most_shown
+IsInRange command.End = Unit {0}
 IsInRange (command.Next n) = Unit {0}
 IsInRange (command.Back n) = Unit {0}
 IsInRange (command.Watch addr) = Unit {0}

@@ -14,5 +14,5 @@ mod special;
 mod turns;
 
 pub use parsing::parse_script;
-pub use running::run_script;
+pub use running::{Printed, run_script};
 pub use script::{Command, Script, ScriptFault};

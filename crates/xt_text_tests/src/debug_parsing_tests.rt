@@ -50,6 +50,7 @@ fn scripts(rt: HostRuntime) -> Result<(), Fail> {
         &[Command::Mem(0x3FFB_0000, 64)],
     )?;
     check(&rt, alloc, "next 4294967295", &[Command::Next(0xFFFF_FFFF)])?;
+    check(&rt, alloc, "end;regs 1", &[Command::End, Command::Regs(1)])?;
     check(
         &rt,
         alloc,
@@ -121,6 +122,8 @@ fn texts_that_are_no_scripts(rt: HostRuntime) -> Result<(), Fail> {
         "trace 4294967296",
         "calls",
         "calls 2",
+        "end 0",
+        "ends",
     ];
     for text in texts {
         match parse_script(alloc, text) {
