@@ -1,8 +1,8 @@
 //! The commands whose output is a function of their input.
-ghost use Rattle.std.specs.Prelude.{◌≡◌, ◌≢◌, ◌≤◌, All, length, map, string_bytes, IfOk, IfErr, Some};
+ghost use Rattle.std.specs.Prelude.{◌≡◌, ◌≢◌, ◌≤◌, All, length, map, string_bytes, IfOk, IfErr, Ok, Some};
 ghost use Rattle.xt_debug.specs.Grammar.{IsInRange};
 ghost use Rattle.xt_status.specs.Calls.{ends};
-ghost use Rattle.xt_cli.specs.Orders.{IsFit, order_of};
+ghost use Rattle.xt_cli.specs.Orders.{IsFit, IsFitOrder, order_of};
 ghost use Rattle.xt_cli.specs.Puts.{IsWhole, Puts, Replays, status_beyond};
 ghost use Rattle.xt_cli.specs.Tools.{Answers, Finishes, IsComplete, IsMade, Makes, done_status, leads_beyond, limit_of, refusal_of, status_of};
 
@@ -209,6 +209,20 @@ fn work<S: Source, K: Sink>(alloc: Global, job: &Job, source: &mut S, sink: &mut
     }
 }
 
+// What an order comes to, where it needs no thread.
+fn carry_out<S: Source, K: Sink>(alloc: Global, order: &Order, source: &mut S, sink: &mut K) -> Tool
+    requires { IsFitOrder order.now }
+    ensures answers { Answers (Ok order.now)
+        (ends S.left S.faults source.old source.new K.told K.faults sink.old sink.new) result }
+    ensures complete { IsComplete (Ok order.now)
+        (ends S.left S.faults source.old source.new K.told K.faults sink.old sink.new) result }
+{
+    match order {
+        Order::Work(job) => Tool::Answer(work(alloc, job, source, sink)),
+        Order::Run(_, _) | Order::Generate(_) => Tool::Threaded,
+    }
+}
+
 /// What the program does with the words after its name, a source and a sink, where it needs no
 /// thread: it answers every word that has no meaning, and does the work of `asm`, `elf`, `dis`, `map`, `check`,
 /// `migrate`, `replay`, `events`, `counts`, `trace`, `race`, `profile` and `uses`. It waits for nobody and returns.
@@ -229,8 +243,7 @@ pub fn tool_main<S: Source, K: Sink>(
         (ends S.left S.faults source.old source.new K.told K.faults sink.old sink.new) result }
 {
     match order_in(alloc, words) {
-        Ok(Order::Work(job)) => Tool::Answer(work(alloc, &job, source, sink)),
-        Ok(Order::Run(_, _) | Order::Generate(_)) => Tool::Threaded,
+        Ok(order) => carry_out(alloc, &order, source, sink),
         Err(refusal) => Tool::Answer(status_of(refusal)),
     }
 }
