@@ -9,7 +9,7 @@ use Rattle.xt_status.specs.Writes.{Writes}
 use Rattle.xt_status.proofs.Quiet.{taken_within}
 use Rattle.xt_io.specs.Whole.{AppendsPrefix}
 use Rattle.xt_io.specs.declared.sink.Refused.{Refused}
-use Rattle.xt_command_line.specs.declared.command.Span.{Span}
+use Rattle.xt_command_line.specs.declared.command.Turns.{Turns}
 use Rattle.xt_tools.proofs.Putting as putting
 use Rattle.xt_tools.proofs.Putting.{IsOfFault, elf_is_fault, image_is_fault, recording_is_fault, text_is_fault}
 use Rattle.xt_cli.specs.declared.tool.Job.{Job}
@@ -28,7 +28,7 @@ refusal_is_fault (job.Check vecbase) input s h = image_is_fault input s h
 refusal_is_fault job.Migrate input s h = recording_is_fault input s h
 refusal_is_fault (job.Replay commands) input s h = recording_is_fault input s h
 refusal_is_fault job.Events input s h = recording_is_fault input s h
-refusal_is_fault (job.Trace span) input s h = recording_is_fault input s h
+refusal_is_fault (job.Trace turns) input s h = recording_is_fault input s h
 refusal_is_fault job.Race input s h = recording_is_fault input s h
 refusal_is_fault job.Profile input s h = recording_is_fault input s h
 refusal_is_fault (job.Uses d) input s h = recording_is_fault input s h
@@ -83,8 +83,8 @@ puts_finish j e input (status.Asm place) taken end (refused, keeps) h source sin
 puts_finish j e input (status.Recording f) taken end (refused, keeps) h source sink = absurd (not_refused j e input (status.Recording f) h taken end refused)
 
 -- a command whose words ask for no turns makes its whole text
-pub whole_unless : (j : Job) → ((span : Span) → j ≡ job.Trace span → ⊥) → IsWhole j
-whole_unless (job.Trace span) others = absurd (others span refl)
+pub whole_unless : (j : Job) → ((turns : Turns) → j ≡ job.Trace turns → ⊥) → IsWhole j
+whole_unless (job.Trace turns) others = absurd (others turns refl)
 whole_unless job.Assemble others = tt
 whole_unless job.Convert others = tt
 whole_unless (job.List listing) others = tt

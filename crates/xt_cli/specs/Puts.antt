@@ -9,7 +9,7 @@ use Rattle.xt_cli.specs.Tools.{IsWritten, refusal_of}
 
 -- its text is made before the first byte is written
 abbrev pub IsWhole : Job → Type 0
-IsWhole (job.Trace span) = ⊥
+IsWhole (job.Trace turns) = ⊥
 IsWhole _ = Unit {0}
 
 -- the command makes bytes of the input, and this is so of the bytes

@@ -3,6 +3,7 @@ pub mod Simple
 pub mod Answers
 pub mod Options
 pub mod Arguments
+pub mod Turns
 pub mod Listings
 pub mod Meaning
 pub mod Views
