@@ -11,7 +11,7 @@ use Rattle.xt_io.specs.Whole.{AppendsPrefix}
 use Rattle.xt_io.specs.declared.sink.Refused.{Refused}
 use Rattle.xt_io.specs.declared.sink.Refused.TheVariants as refused
 use Rattle.xt_command_line.specs.declared.beyond.Beyond.{Beyond}
-use Rattle.xt_command_line.specs.declared.command.Span.{Span}
+use Rattle.xt_command_line.specs.declared.command.Turns.{Turns}
 use Rattle.xt_debug.specs.declared.script.Command.{Command}
 use Rattle.xt_tools.proofs.Putting as putting
 use Rattle.xt_tools.proofs.Putting.{IsOfFault, elf_is_fault, image_is_fault, recording_is_fault, text_is_fault}
@@ -32,7 +32,7 @@ refusal_is_fault job.Migrate input s h = recording_is_fault input s h
 refusal_is_fault (job.Replay commands b) input s h = recording_is_fault input s h
 refusal_is_fault job.Events input s h = recording_is_fault input s h
 refusal_is_fault job.Counts input s h = recording_is_fault input s h
-refusal_is_fault (job.Trace span) input s h = recording_is_fault input s h
+refusal_is_fault (job.Trace turns) input s h = recording_is_fault input s h
 refusal_is_fault job.Race input s h = recording_is_fault input s h
 refusal_is_fault job.Profile input s h = recording_is_fault input s h
 refusal_is_fault (job.Uses d) input s h = recording_is_fault input s h
@@ -140,8 +140,8 @@ replays_finish j e input (status.Asm place) taken end (refused, keeps) h source 
 replays_finish j e input (status.Recording f) taken end (refused, keeps) h source sink = ends_otherwise j e input (status.Recording f) taken end refused h source sink
 
 -- a command whose words ask for no turns and no script makes its whole text
-pub whole_unless : (j : Job) → ((span : Span) → j ≡ job.Trace span → ⊥) → ((commands : List Command) (b : Beyond) → j ≡ job.Replay commands b → ⊥) → IsWhole j
-whole_unless (job.Trace span) others scripts = absurd (others span refl)
+pub whole_unless : (j : Job) → ((turns : Turns) → j ≡ job.Trace turns → ⊥) → ((commands : List Command) (b : Beyond) → j ≡ job.Replay commands b → ⊥) → IsWhole j
+whole_unless (job.Trace turns) others scripts = absurd (others turns refl)
 whole_unless job.Assemble others scripts = tt
 whole_unless job.Convert others scripts = tt
 whole_unless (job.List listing) others scripts = tt
@@ -157,7 +157,7 @@ whole_unless (job.Uses d) others scripts = tt
 
 -- no script leads such a command beyond a run
 pub never_beyond : (j : Job) → IsWhole j → NeverBeyond j
-never_beyond (job.Trace span) whole = absurd whole
+never_beyond (job.Trace turns) whole = absurd whole
 never_beyond (job.Replay commands b) whole = absurd whole
 never_beyond job.Assemble whole = λ input. refl
 never_beyond job.Convert whole = λ input. refl

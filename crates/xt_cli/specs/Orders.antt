@@ -51,7 +51,7 @@ order_by words (Ok command.Replay) =
     replay_order (script_text_of words) (beyond_of words)
 order_by words (Ok command.Events) = Ok (order.Work job.Events)
 order_by words (Ok command.Counts) = Ok (order.Work job.Counts)
-order_by words (Ok (command.Trace span)) = Ok (order.Work (job.Trace span))
+order_by words (Ok (command.Trace turns)) = Ok (order.Work (job.Trace turns))
 order_by words (Ok command.Race) = Ok (order.Work job.Race)
 order_by words (Ok command.Profile) = Ok (order.Work job.Profile)
 order_by words (Ok (command.Uses rigor)) = Ok (order.Work (job.Uses (discipline_of rigor)))

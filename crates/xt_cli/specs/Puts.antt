@@ -11,7 +11,7 @@ use Rattle.xt_cli.specs.Tools.{IsWritten, done_status, leads_beyond, refusal_of}
 
 -- its text is made before the first byte is written, and is all that it is asked for
 abbrev pub IsWhole : Job → Type 0
-IsWhole (job.Trace span) = ⊥
+IsWhole (job.Trace turns) = ⊥
 IsWhole (job.Replay commands b) = ⊥
 IsWhole _ = Unit {0}
 

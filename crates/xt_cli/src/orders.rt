@@ -69,7 +69,7 @@ pub(crate) fn order_in(alloc: Global, words: &[String]) -> Result<Order, Refusal
         Ok(Command::Replay) => replay_order(alloc, words),
         Ok(Command::Events) => Ok(Order::Work(Job::Events)),
         Ok(Command::Counts) => Ok(Order::Work(Job::Counts)),
-        Ok(Command::Trace(span)) => Ok(Order::Work(Job::Trace(span))),
+        Ok(Command::Trace(turns)) => Ok(Order::Work(Job::Trace(turns))),
         Ok(Command::Race) => Ok(Order::Work(Job::Race)),
         Ok(Command::Profile) => Ok(Order::Work(Job::Profile)),
         Ok(Command::Uses(rigor)) => Ok(Order::Work(Job::Uses(discipline_of(rigor)))),

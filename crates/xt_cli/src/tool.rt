@@ -8,7 +8,7 @@ ghost use Rattle.xt_cli.specs.Tools.{Answers, Finishes, IsComplete, IsMade, Make
 
 use crate::orders::{Order, order_in};
 use std::alloc::Global;
-use xt_command_line::{Beyond, Listing, Refusal, Span};
+use xt_command_line::{Beyond, Listing, Refusal, Turns};
 use xt_debug::{Printed, Script, run_script};
 use xt_image::well_formed_is_placed;
 use xt_io::{ReadError, Sink, Source, read_to_limit};
@@ -43,7 +43,7 @@ pub enum Job {
     /// `counts`: how often each core of a recorded run executed the instruction at each address.
     Counts,
     /// `trace`: the lines of these turns of a recorded run.
-    Trace(Span),
+    Trace(Turns),
     /// `race`: the first data race of a recorded run.
     Race,
     /// `profile`: the call profile of a recorded run.
@@ -203,7 +203,7 @@ fn work<S: Source, K: Sink>(alloc: Global, job: &Job, source: &mut S, sink: &mut
         Err(ReadError::Memory) => return Status::Memory,
     };
     match job {
-        Job::Trace(span) => trace(alloc, *span, &input, sink),
+        Job::Trace(turns) => trace(alloc, *turns, &input, sink),
         Job::Replay(script, beyond) => put_replay(alloc, script, *beyond, &input, sink),
         _ => put(alloc, job, &input, sink),
     }

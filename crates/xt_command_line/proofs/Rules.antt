@@ -7,7 +7,8 @@ use Rattle.xt_map.specs.Regions.{region_of, is_executable}
 use Rattle.xt_trace.specs.Validity.{IsValid, IsValidStack, most_turns}
 use Rattle.xt_trace.specs.declared.options.Stack.{Stack}
 use Rattle.xt_command_line.specs.Options.{AcceptsValid, OptionsNeedNoMemory, Texts, by_rows, first_broken, is_entry, is_set, is_stack, judged, judged_with, options_in, record_app, record_options_of, run_app, run_options_of, said_or, texts_of, unless_broken}
-use Rattle.xt_command_line.specs.Arguments.{check_app, gen_app, generator_number_of, judged_number, judged_vecbase, number_by, number_in, rigor_by, rigor_of, span_by, span_of, spanned, trace_app, uses_app, vecbase_by, vecbase_of}
+use Rattle.xt_command_line.specs.Arguments.{check_app, gen_app, generator_number_of, judged_number, judged_vecbase, number_by, number_in, rigor_by, rigor_of, uses_app, vecbase_by, vecbase_of}
+use Rattle.xt_command_line.specs.Turns.{chosen, core_of, trace_app, turns_by, turns_of}
 use Rattle.xt_command_line.specs.Answers.{answer_with}
 use Rattle.xt_command_line.specs.declared.command.Rigor.TheVariants as rigor
 use Rattle.xt_command_line.specs.Listings.{dis_app, judged_openings, listing_by, listing_in, listing_of, openings_in}
@@ -25,7 +26,7 @@ use Rattle.xt_command_line.specs.declared.command.Refusal.{Refusal}
 use Rattle.xt_command_line.specs.declared.command.Refusal.TheVariants as refusal
 use Rattle.xt_command_line.specs.declared.options.RunOptions.{RunOptions}
 use Rattle.xt_command_line.specs.declared.turn_orders.TurnOrder.{TurnOrder}
-use Rattle.xt_command_line.specs.declared.turn_orders.Turns.{Turns}
+use Rattle.xt_command_line.specs.declared.turn_orders.CoreTurns.{CoreTurns}
 
 -- ---- running out of memory
 
@@ -41,7 +42,7 @@ or-answers : (seed : Option ℕ) → seeded seed ≢ Err refusal.Memory
 or-answers None = λ e. search (rules, e)
 or-answers (Some n) = λ e. search (rules, e)
 
-listed-answers : (list : Option (List Turns)) → listed list ≢ Err refusal.Memory
+listed-answers : (list : Option (List CoreTurns)) → listed list ≢ Err refusal.Memory
 listed-answers None = λ e. search (rules, e)
 listed-answers (Some list) = λ e. search (rules, e)
 
@@ -81,15 +82,16 @@ number_by-answers : (rows : Option (List Row)) → number_by rows ≢ Err refusa
 number_by-answers None = λ e. search (rules, e)
 number_by-answers (Some rows) = judged_number-answers (number_in (first_of (codes "number") rows))
 
-spanned-answers : (from to : Option ℕ) → spanned from to ≢ Err refusal.Memory
-spanned-answers None None = λ e. search (rules, e)
-spanned-answers None (Some to) = λ e. search (rules, e)
-spanned-answers (Some from) None = λ e. search (rules, e)
-spanned-answers (Some from) (Some to) = λ e. search (rules, e)
+chosen-answers : (from to : Option ℕ) (core : Option (Option ℕ)) (accesses jumps : Bool) → chosen from to core accesses jumps ≢ Err refusal.Memory
+chosen-answers None to core accesses jumps = λ e. search (rules, e)
+chosen-answers (Some from) None core accesses jumps = λ e. search (rules, e)
+chosen-answers (Some from) (Some to) None accesses jumps = λ e. search (rules, e)
+chosen-answers (Some from) (Some to) (Some core) accesses jumps = λ e. search (rules, e)
 
-span_by-answers : (rows : Option (List Row)) → span_by rows ≢ Err refusal.Memory
-span_by-answers None = λ e. search (rules, e)
-span_by-answers (Some rows) = spanned-answers (said_or number_of 0 (first_of (codes "from") rows)) (said_or number_of 0xFFFFFFFF (first_of (codes "to") rows))
+turns_by-answers : (rows : Option (List Row)) → turns_by rows ≢ Err refusal.Memory
+turns_by-answers None = λ e. search (rules, e)
+turns_by-answers (Some rows) = chosen-answers (said_or number_of 0 (first_of (codes "from") rows)) (said_or number_of 0xFFFFFFFF (first_of (codes "to") rows))
+    (said_or core_of None (first_of (codes "core") rows)) (is_set (first_of (codes "accesses") rows)) (is_set (first_of (codes "jumps") rows))
 
 rigor_by-answers : (rows : Option (List Row)) → rigor_by rows ≢ Err refusal.Memory
 rigor_by-answers None = λ e. search (rules, e)
@@ -136,7 +138,7 @@ meaning_by-answers (Some name.Counts) words = without_options-answers _ _
 meaning_by-answers (Some name.Race) words = without_options-answers _ _
 meaning_by-answers (Some name.Profile) words = without_options-answers _ _
 meaning_by-answers (Some name.Uses) words = answer_with-answers command.Uses (rigor_of words) (rigor_by-answers (rows_by uses_app words))
-meaning_by-answers (Some name.Trace) words = answer_with-answers command.Trace (span_of words) (span_by-answers (rows_by trace_app words))
+meaning_by-answers (Some name.Trace) words = answer_with-answers command.Trace (turns_of words) (turns_by-answers (rows_by trace_app words))
 meaning_by-answers (Some name.Generate) words = answer_with-answers command.Generate (generator_number_of words) (number_by-answers (rows_by gen_app words))
 
 pub meaning_needs_none : NeedsNoMemory

@@ -8,7 +8,7 @@ use Rattle.std.proofs.lemmas.Str.Pattern.{IsSplitOnceResult, split_once_first}
 use Rattle.std.specs.List.{position_or_len, before_first, after_first}
 use Rattle.xt_command_line.specs.Numbers.{number_of}
 use Rattle.xt_command_line.specs.TurnOrders.{all_turns, and_all, are_few, asked, core_of, cores_of, number_of_core, star, turns_by, turns_of}
-use Rattle.xt_command_line.specs.declared.turn_orders.Turns.{Turns}
+use Rattle.xt_command_line.specs.declared.turn_orders.CoreTurns.{CoreTurns}
 use Rattle.xt_command_line.specs.declared.turn_orders.Which.{Which}
 use Rattle.xt_command_line.specs.declared.turn_orders.Which.TheVariants as which
 
@@ -43,19 +43,19 @@ no_turns text r split is = let none = rw is at (split_once_first star text r spl
 -- ---- all parts
 
 -- turns that were read, before what follows
-abbrev pub before : List Turns → Option (List Turns) → Option (List Turns)
+abbrev pub before : List CoreTurns → Option (List CoreTurns) → Option (List CoreTurns)
 before xs None = None
 before xs (Some ys) = Some (xs ++ ys)
 
-pub before_any : (o : Option (List Turns)) → before [] o ≡ o
+pub before_any : (o : Option (List CoreTurns)) → before [] o ≡ o
 before_any None = refl
 before_any (Some ys) = refl
 
-pub one_more : (xs : List Turns) (t : Turns) (o : Option (List Turns)) → before xs (and_all (Some t) o) ≡ before (xs ++ t ∷ []) o
+pub one_more : (xs : List CoreTurns) (t : CoreTurns) (o : Option (List CoreTurns)) → before xs (and_all (Some t) o) ≡ before (xs ++ t ∷ []) o
 one_more xs t None = refl
 one_more xs t (Some ys) = ap Some (sym (append_assoc xs (t ∷ []) ys))
 
-pub no_more : (xs : List Turns) → before xs (all_turns []) ≡ Some xs
+pub no_more : (xs : List CoreTurns) → before xs (all_turns []) ≡ Some xs
 no_more xs = ap Some (append-nil xs)
 
 -- ---- how many they are
@@ -84,7 +84,7 @@ made_one done new rest all n len end c long sum made is =
 pub all_made : (done all : List ℕ) → done ++ cores_of [] ≡ all → done ≡ all
 all_made done all is = sym (append-nil done) ∙ is
 
-pub are_cores : (list : List Turns) → All (λ core. core < 2) (cores_of list)
+pub are_cores : (list : List CoreTurns) → All (λ core. core < 2) (cores_of list)
 are_cores [] = All-nil (λ core. core < 2)
 are_cores (t ∷ ts) =
     All-append (λ core. core < 2) (replicate t.count (number_of_core t.core)) (cores_of ts)

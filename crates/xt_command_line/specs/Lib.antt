@@ -5,6 +5,7 @@ pub mod TurnOrders
 pub mod Options
 pub mod Arguments
 pub mod Beyond
+pub mod Turns
 pub mod Listings
 pub mod Meaning
 pub mod Views

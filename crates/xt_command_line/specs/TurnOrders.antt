@@ -9,7 +9,7 @@ use Rattle.clap.specs.Words.{Text}
 use Rattle.xt_command_line.specs.Numbers.{number_of}
 use Rattle.xt_command_line.specs.declared.command.Refusal.{Refusal}
 use Rattle.xt_command_line.specs.declared.command.Refusal.TheVariants as refusal
-use Rattle.xt_command_line.specs.declared.turn_orders.Turns.{Turns}
+use Rattle.xt_command_line.specs.declared.turn_orders.CoreTurns.{CoreTurns}
 use Rattle.xt_command_line.specs.declared.turn_orders.TurnOrder.{TurnOrder}
 use Rattle.xt_command_line.specs.declared.turn_orders.TurnOrder.TheVariants as order
 use Rattle.xt_command_line.specs.declared.turn_orders.Which.{Which}
@@ -36,29 +36,29 @@ core_at (Some n) =
 unfoldable pub core_of : Text → Option Which
 core_of text = core_at (number_of text)
 
-abbrev pub turns_by : Option Which → Option ℕ → Option Turns
+abbrev pub turns_by : Option Which → Option ℕ → Option CoreTurns
 turns_by (Some core) (Some count) = Some (record { core = core; count = count })
 turns_by _ _ = None
 
 -- so many turns of a core: what stands before and after the first `*`
-unfoldable pub turns_of : Text → Option Turns
+unfoldable pub turns_of : Text → Option CoreTurns
 turns_of text =
     turns_by
     (core_of (before_first (λ b. b == star) text))
     (number_of (after_first (λ b. b == star) text))
 
-abbrev pub and_all : Option Turns → Option (List Turns) → Option (List Turns)
+abbrev pub and_all : Option CoreTurns → Option (List CoreTurns) → Option (List CoreTurns)
 and_all (Some t) (Some ts) = Some (t ∷ ts)
 and_all (Some t) None = None
 and_all None ts = None
 
 -- the turns of these texts, where each says some
-abbrev pub all_turns : List Text → Option (List Turns)
+abbrev pub all_turns : List Text → Option (List CoreTurns)
 all_turns [] = Some []
 all_turns (text ∷ texts) = and_all (turns_of text) (all_turns texts)
 
 -- the turns that a text lists, with commas between them
-unfoldable pub turns_in : Text → Option (List Turns)
+unfoldable pub turns_in : Text → Option (List CoreTurns)
 turns_in text =
     if nat_le (length text) most_bytes
     then all_turns (slice_split (λ b. b == comma) text) else None
@@ -70,7 +70,7 @@ abbrev pub seeded : Option ℕ → Result TurnOrder Refusal
 seeded None = Err (refusal.Usage 4)
 seeded (Some seed) = Ok (order.Seeded seed)
 
-abbrev pub listed : Option (List Turns) → Result TurnOrder Refusal
+abbrev pub listed : Option (List CoreTurns) → Result TurnOrder Refusal
 listed None = Err (refusal.Usage 4)
 listed (Some turns) = Ok (order.Listed turns)
 
@@ -83,12 +83,12 @@ order_in (Some seed) (Some list) = Err (refusal.Usage 3)
 
 -- ---- the turns that an order asks for
 
-abbrev pub asked : List Turns → ℕ
+abbrev pub asked : List CoreTurns → ℕ
 asked [] = 0
 asked (t ∷ ts) = t.count + asked ts
 
 -- at most as many as two cores can have
-abbrev pub are_few : List Turns → Bool
+abbrev pub are_few : List CoreTurns → Bool
 are_few turns = nat_le (asked turns) 8000000
 
 abbrev pub is_short : TurnOrder → Bool
@@ -103,6 +103,6 @@ number_of_core which.Zero = 0
 number_of_core which.One = 1
 
 -- each turn by the core that makes it
-abbrev pub cores_of : List Turns → List ℕ
+abbrev pub cores_of : List CoreTurns → List ℕ
 cores_of [] = []
 cores_of (t ∷ ts) = replicate t.count (number_of_core t.core) ++ cores_of ts

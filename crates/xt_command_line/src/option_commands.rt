@@ -3,7 +3,8 @@
 ghost use Rattle.std.specs.Prelude.{◌≡◌, IfOk, map, string_bytes, option_map, fold};
 ghost use Rattle.clap.specs.Words.{app_of, first_of, found_of, new_app, rows_of, with_rule};
 ghost use Rattle.xt_command_line.specs.Simple.{Matches, rows_by};
-ghost use Rattle.xt_command_line.specs.Arguments.{check_app, gen_app, positional_rule, replay_app, trace_app, uses_app};
+ghost use Rattle.xt_command_line.specs.Arguments.{check_app, gen_app, positional_rule, replay_app, uses_app};
+ghost use Rattle.xt_command_line.specs.Turns.{trace_app};
 ghost use Rattle.xt_command_line.specs.Listings.{dis_app};
 ghost use Rattle.xt_command_line.specs.Options.{flag_names, is_set, option_names, order_names, record_app, run_app, texts_of, with_flag, with_option};
 ghost use Rattle.xt_command_line.specs.Views.{texts_in};
@@ -177,12 +178,15 @@ pub fn replay_matches<'a>(alloc: Global, words: &'a [String]) -> Result<ArgMatch
     matches_by(replay_command(alloc)?, words)
 }
 
-// The command `trace` with its options.
+// The command `trace` with its options and its flags.
 fn trace_command<'a>(alloc: Global) -> Result<Command<'a>, AllocError>
     ensures { IfOk result (λ c. app_of c ≡ trace_app) }
 {
     let command = with_one_option(alloc, Command::new(alloc, "trace"), "from")?;
-    with_one_option(alloc, command, "to")
+    let command = with_one_option(alloc, command, "to")?;
+    let command = with_one_option(alloc, command, "core")?;
+    let command = with_one_flag(alloc, command, "accesses")?;
+    with_one_flag(alloc, command, "jumps")
 }
 
 /// What `clap` matches on the words of `trace`.

@@ -21,7 +21,7 @@ pub enum Which {
 
 /// So many turns of one core, one after another.
 #[derive(Clone, Copy, Debug, PartialEq, Eq)]
-pub struct Turns {
+pub struct CoreTurns {
     /// The core that makes them.
     pub core: Which,
     /// How many.
@@ -31,28 +31,28 @@ pub struct Turns {
 /// Turns of one core, then of one core, and so on. Contracts see the list.
 #[derive(Debug, Drop)]
 pub struct TurnList {
-    items: Vec<Turns>,
+    items: Vec<CoreTurns>,
 }
 
 impl Model for TurnList {
     ghost use Rattle.std.specs.Prelude.{List};
-    ghost use Rattle.xt_command_line.specs.declared.turn_orders.Turns.{Turns};
+    ghost use Rattle.xt_command_line.specs.declared.turn_orders.CoreTurns.{CoreTurns};
 
-    ghost Value = { List Turns };
+    ghost Value = { List CoreTurns };
 
     ghost view = { λ s. s.items.items };
 }
 
 impl TurnList {
     /// These turns, without a copy.
-    pub fn new(items: Vec<Turns>) -> TurnList
+    pub fn new(items: Vec<CoreTurns>) -> TurnList
         ensures { result ≡ items.items }
     {
         TurnList { items }
     }
 
     /// The turns.
-    pub fn as_slice(&self) -> &[Turns]
+    pub fn as_slice(&self) -> &[CoreTurns]
         ensures { result.now ≡ self.now }
     {
         &self.items
@@ -99,17 +99,17 @@ fn core_in(text: &str) -> Option<Which>
 }
 
 // So many turns of a core, where both are there.
-fn turns_by(core: Option<Which>, count: Option<u32>) -> Option<Turns>
+fn turns_by(core: Option<Which>, count: Option<u32>) -> Option<CoreTurns>
     ensures { result ≡ turns_by core count }
 {
     match (core, count) {
-        (Some(core), Some(count)) => Some(Turns { core, count }),
+        (Some(core), Some(count)) => Some(CoreTurns { core, count }),
         _ => None,
     }
 }
 
 // The turns that `C*N` says.
-fn turns_of(text: &str) -> Option<Turns>
+fn turns_of(text: &str) -> Option<CoreTurns>
     ensures { result ≡ turns_of text.now }
 {
     match text.split_once('*') {
@@ -181,7 +181,7 @@ pub fn order_in(alloc: Global, seed: Option<&str>, list: Option<&str>) -> Result
 }
 
 // The turns are 8,000,000 at most.
-fn are_few(list: &[Turns]) -> bool
+fn are_few(list: &[CoreTurns]) -> bool
     ensures { result ≡ are_few list.now }
 {
     let mut left = MOST_ASKED;
@@ -205,7 +205,7 @@ pub fn is_short(order: &TurnOrder) -> bool
 }
 
 // The cores of these turns, one after another.
-fn listed_cores(alloc: Global, list: &[Turns]) -> Result<Vec<u8>, AllocError>
+fn listed_cores(alloc: Global, list: &[CoreTurns]) -> Result<Vec<u8>, AllocError>
     ensures { IfOk result (λ cores. cores.items ≡ cores_of list.now) }
 {
     let mut cores = Vec::new(alloc);
@@ -218,7 +218,7 @@ fn listed_cores(alloc: Global, list: &[Turns]) -> Result<Vec<u8>, AllocError>
 
 /// The list of cores that these turns stand for: each turn by the core that makes it. The only error is running out of
 /// memory.
-pub fn cores_of(alloc: Global, list: &[Turns]) -> Result<Vec<u8>, AllocError>
+pub fn cores_of(alloc: Global, list: &[CoreTurns]) -> Result<Vec<u8>, AllocError>
     ensures list { IfOk result (λ cores. cores.items ≡ cores_of list.now) }
     ensures cores { IfOk result (λ cores. All (λ core. core < 2) cores.items) }
 {

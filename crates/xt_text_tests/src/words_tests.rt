@@ -1,7 +1,7 @@
 use std::alloc::Global;
 use std::test::Fail;
 use xt_command_line::{
-    Command, Listing, Openings, Refusal, Rigor, RunOptions, Span, TurnList, TurnOrder, Turns,
+    Command, CoreTurns, Listing, Openings, Refusal, Rigor, RunOptions, TurnList, TurnOrder, Turns,
     Which, meaning, script_text,
 };
 use xt_trace::Stack;
@@ -18,6 +18,16 @@ fn words_of(alloc: Global, line: &str) -> Result<Vec<String>, Fail> {
 // What words mean, as a text that can be compared.
 fn shown(alloc: Global, meant: &Result<Command, Refusal>) -> Result<String, Fail> {
     Ok(format!(in alloc; "{meant:?}")?)
+}
+
+fn turns(from: u32, to: u32, core: Option<u8>, accesses: bool, jumps: bool) -> Turns {
+    Turns {
+        from,
+        to,
+        core,
+        accesses,
+        jumps,
+    }
 }
 
 #[test]
@@ -113,33 +123,43 @@ fn words_and_meanings(rt: HostRuntime) -> Result<(), Fail> {
         ("uses --lenient", Ok(Command::Uses(Rigor::Lenient))),
         ("uses all", Err(Refusal::Usage(3))),
         ("events --from 0", Err(Refusal::Usage(3))),
-        // positions
+        // turns
         (
             "trace",
-            Ok(Command::Trace(Span {
-                from: 0,
-                to: u32::MAX,
-            })),
+            Ok(Command::Trace(turns(0, u32::MAX, None, false, false))),
         ),
         (
             "trace --from 35",
-            Ok(Command::Trace(Span {
-                from: 35,
-                to: u32::MAX,
-            })),
+            Ok(Command::Trace(turns(35, u32::MAX, None, false, false))),
         ),
         (
             "trace --to 0x10 --from=12",
-            Ok(Command::Trace(Span { from: 12, to: 16 })),
+            Ok(Command::Trace(turns(12, 16, None, false, false))),
         ),
         (
             "trace --from 9 --to 3",
-            Ok(Command::Trace(Span { from: 9, to: 3 })),
+            Ok(Command::Trace(turns(9, 3, None, false, false))),
         ),
+        (
+            "trace --core 1",
+            Ok(Command::Trace(turns(0, u32::MAX, Some(1), false, false))),
+        ),
+        (
+            "trace --core=0x1",
+            Ok(Command::Trace(turns(0, u32::MAX, Some(1), false, false))),
+        ),
+        (
+            "trace --jumps --to 7 --core 0 --accesses",
+            Ok(Command::Trace(turns(0, 7, Some(0), true, true))),
+        ),
+        ("trace --core", Err(Refusal::Usage(3))),
+        ("trace --jumps --jumps", Err(Refusal::Usage(3))),
+        ("trace --accesses=1", Err(Refusal::Usage(3))),
+        ("trace --core 2", Err(Refusal::Usage(4))),
+        ("trace --core x", Err(Refusal::Usage(4))),
         ("trace 3", Err(Refusal::Usage(3))),
         ("trace --from", Err(Refusal::Usage(3))),
         ("trace --from 1 --from 1", Err(Refusal::Usage(3))),
-        ("trace --core 0", Err(Refusal::Usage(3))),
         ("trace --from x", Err(Refusal::Usage(4))),
         ("trace --to 4294967296", Err(Refusal::Usage(4))),
         // a number
@@ -224,7 +244,7 @@ fn seeded() -> RunOptions {
 fn listed(alloc: Global, turns: &[(Which, u32)]) -> Result<RunOptions, Fail> {
     let mut list = Vec::new(alloc);
     for (core, count) in turns {
-        list.push(Turns {
+        list.push(CoreTurns {
             core: *core,
             count: *count,
         })?;
