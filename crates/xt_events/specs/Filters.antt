@@ -1,4 +1,8 @@
 -- Which turns of a run are printed ('profile').
+--
+-- Profile: a filter says of a turn whether it has a line (`holds`). A jump is judged by where the
+-- core goes on, not by the instruction: `jumps` compares the program counter after the turn with PC
+-- and the length of the instruction.
 use Rattle.std.specs.Prelude.{ℕ, ◌+◌, Bool, true, false, ◌==◌, ◌&&◌, ◌||◌, not, Option, Some, None}
 use Rattle.std.specs.Prelude.{is_some}
 use Rattle.xt_fetch.specs.Fetching.{Fetched, Fetches, Fails, SpellsNothing, fetched}
