@@ -1,4 +1,15 @@
 -- How often a core executed the instruction at each address ('profile').
+--
+-- Profile: executed are the kinds `insn` and `stop`. `window` and `exc` raised: the turn tried the
+-- instruction at its PC, or could not fetch one, and an entry into a handler came in its place.
+-- `int` and `wait` count nowhere, since they ask for no instruction.
+-- Profile: taken counts the turns that executed a branch and after which the core stands at the
+-- branch's target. It is the edge that is counted, not the condition: a branch to the next
+-- instruction is taken whenever it is executed.
+-- Note: the PC after a turn is that of the core's next record, and after the last one the PC at
+-- which its trace ends.
+-- Note: `AreCounts` says that the addresses rise, and what a look-up at each address finds. So
+-- there is one list.
 use Rattle.std.specs.Prelude.{◌≡◌, ℕ, suc, Bool, true, false, ◌==◌, ◌&&◌, if◌then◌else◌}
 use Rattle.std.specs.Prelude.{Option, Some, None, List, [], ◌∷◌}
 use Rattle.std.specs.Ordering.{nat_cmp}

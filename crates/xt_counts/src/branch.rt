@@ -23,7 +23,8 @@ fn branch_target(parts: Parts, pc: u32) -> Option<u32>
     }
 }
 
-/// The target of the instruction at an address, where it is a conditional branch, LOOPNEZ or LOOPGTZ.
+/// The target of the instruction at an address, where it is a conditional branch, LOOPNEZ or
+/// LOOPGTZ.
 pub fn target_at(code: &Constants, pc: u32) -> Option<u32>
     ensures { result ≡ target_at (constant_byte code.now) pc }
 {

@@ -30,9 +30,9 @@ fn note(counts: &mut BTreeMap<u32, Tally>, code: &Constants, turn: Turn) -> Resu
     Ok(())
 }
 
-/// What the turns of a core did at each address. These are its records, and `last` is where it stands
-/// at the end. The records are taken one by one, and none is kept. The only error is running out of
-/// memory.
+/// What the turns of a core did at each address. These are its records, and `last` is where it
+/// stands at the end. The records are taken one by one, and none is kept. The only error is
+/// running out of memory.
 ///
 /// Condition: there are fewer than 4,294,967,296 records.
 pub fn counts_of<R: Records>(

@@ -72,20 +72,20 @@ fn push_core(
     push_lines(out, core, counts)
 }
 
-/// What each core of a run did at each address: for core 0 and then core 1, for each address at which a
-/// turn executed or tried an instruction, in rising order, a line
+/// What each core of a run did at each address: for core 0 and then core 1, for each address at
+/// which a turn executed or tried an instruction, in rising order, a line
 ///
 /// ```text
 /// core C ADDR EXECUTED RAISED TAKEN
 /// ```
 ///
-/// EXECUTED says how many turns executed the instruction at ADDR. RAISED says how many tried it and had
-/// an exception or a window exception in its place. TAKEN says how many of EXECUTED went on at its
-/// target, where it is a conditional branch, LOOPNEZ or LOOPGTZ, and is `-` for other instructions. The
-/// only error is running out of memory.
+/// EXECUTED says how many turns executed the instruction at ADDR. RAISED says how many tried it
+/// and had an exception or a window exception in its place. TAKEN says how many of EXECUTED went
+/// on at its target, where it is a conditional branch, LOOPNEZ or LOOPGTZ, and is `-` for other
+/// instructions. The only error is running out of memory.
 ///
-/// Conditions: the run is the image's. The image's segments lie in one region each and share no byte, as
-/// those of every image that was read.
+/// Conditions: the run is the image's. The image's segments lie in one region each and share no
+/// byte, as those of every image that was read.
 pub fn counts_text(alloc: Global, image: &Image, run: &Run) -> Result<Text, AllocError>
     requires run { IsRunOf image.now run.now }
     requires placed { IsPlaced image.now.segments }
