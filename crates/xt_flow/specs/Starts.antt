@@ -3,7 +3,8 @@
 --
 -- Profile: which addresses start an instruction is an inductive type with two constructors: an
 -- opening does, and where control goes from one that does. So it is the least such set, and no walk
--- is believed. No register is known: JX, CALLX and returns lead nowhere.
+-- is believed. Of registers it is known what an L32R has loaded from code, up to the CALLX or JX of
+-- its block (`aims_at`); any other JX or CALLX, and returns, lead nowhere.
 use Rattle.std.specs.Prelude.{◌≡◌, ℕ, ◌+◌, ◌*◌, ◌%◌, ◌^◌, ◌<◌, ◌≤◌, ◌⊎◌, true, Some, List, [], ◌∷◌}
 use Rattle.std.specs.Prelude.{◌++◌, length, map, is_some, Contains}
 use Rattle.xt_special.specs.Exceptions.{double_vector, kernel_vector, user_vector}
