@@ -146,6 +146,7 @@ PLACES = [
     (PROVED, "runs each; #, and", lambda: cases("case", "verdicts")),
     (PROVED, ", and # whose window handlers are interrupted", lambda: cases("report", "nested")),
     (PROVED, "; # images with what `check` says", lambda: cases("case", "checks")),
+    (PROVED, "of their handlers; # of two cores in a written order", lambda: cases("case", "orders")),
     (PROVED, "Found without this program: # listings", lambda: cases("command dis", "chosen")),
     (PROVED, "listings that follow the code, # maps", lambda: cases("command map", "chosen")),
     (PROVED, "maps, # recordings in the order of a seed", lambda: cases("analysis", "chosen")),

@@ -4,7 +4,8 @@
     python3 examples/recording.py show x.rec
     bin/xt trace x.rec | python3 examples/recording.py race x.rec
 
-`show` prints the options, the entries and where each checkpoint stands. `race` prints the first race, as
+`show` prints the options, the numbers of turns decimal and addresses hexadecimal, the entries and where each checkpoint
+stands. `race` prints the first race, as
 `bin/xt race` does; its standard input is what `xt trace` prints, which says what each entry was made by.
 Copy what you need of it: this file is an example. It checks no more of a recording than its lengths.
 """
@@ -103,7 +104,7 @@ def main():
     with open(sys.argv[2], "rb") as file:
         recording = read(file.read())
     if sys.argv[1] == "show":
-        print(" ".join("%s %X" % option for option in recording.options.items()))
+        print(" ".join("%s %s" % (name, ("%d" if name in OPTIONS[:2] else "%08X") % it) for name, it in recording.options.items()))
         for i, entry in enumerate(recording.entries):
             print(i, "core", entry.core, text(entry))
         for point in recording.checkpoints:

@@ -5,6 +5,12 @@
 --
 -- s and t are the words in the registers of these names. The bitwise operations are std's bit_and,
 -- bit_or and bit_xor, and the lesser and the greater of two unsigned words are std's min and max.
+--
+-- Profile: -2^31 divided by -1 gives the word 2^31 and the remainder 0: the quotient of the whole
+-- numbers.
+-- Note: `min` and `max` are of unsigned words (MINU, MAXU); MIN and MAX are `signed_min` and
+-- `signed_max`. SLL shifts the pair (s, 0) right by SAR, so SAR 32 leaves s as it is, and SAR 0
+-- gives 0. A quotient by 0 never comes: the row raises its cause first.
 use Rattle.std.specs.Prelude.{ℕ, ◌+◌, ◌-◌, ◌*◌, ◌/◌, ◌%◌, ◌^◌, ◌*ℤ◌, if◌then◌else◌, nat_lt, int_lt}
 use Rattle.std.specs.Prelude.{int_div, int_rem, unsigned_abs}
 use Rattle.std.specs.Int.{w32, int_shr, saturate_to_bits, leading_zeros}

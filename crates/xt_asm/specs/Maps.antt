@@ -1,4 +1,7 @@
 -- The map of an assembly text: its labels with their addresses ('profile').
+--
+-- Profile: the map of a text (`Maps`) is a sorted permutation of its labels' lines; of two labels
+-- with one name the first counts, which is the one that uses mean.
 use Rattle.std.specs.Prelude.{◌≡◌, ℕ, ◌^◌, ◌==◌, Bool, false, List, ◌∷◌, [], ◌++◌, map, filter, flat_map}
 use Rattle.std.specs.Prelude.{None, Some, Result, Ok, Err, IsPermutation, IsSorted}
 use Rattle.std.specs.Option.{option_map_or}

@@ -1,3 +1,4 @@
+-- Profile: views of a memory and a bus for contracts. What an access does is `Serving` of `xt_map`.
 pub mod Bytes
 pub mod Places
 pub mod States

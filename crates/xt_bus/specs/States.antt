@@ -1,4 +1,7 @@
 -- What contracts see of a memory and of a bus ('profile').
+--
+-- Profile: `room` and `spare` count the bytes and accesses for which memory was taken when the bus
+-- was made, so that an access takes none.
 use Rattle.std.specs.Prelude.{ℕ, ◌-◌, List, [], ◌∷◌, ◌++◌}
 use Rattle.xt_map.specs.declared.access.Access.{Access}
 use Rattle.xt_map.specs.declared.access.Entry.{Entry}

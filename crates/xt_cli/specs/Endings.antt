@@ -1,4 +1,7 @@
 -- How the program ends: its line on standard error, and its code ('profile').
+--
+-- Note: `Ends` compares the source and the sink before and after the call. Of a source that tells
+-- nothing, `ReadsWhole` only says that some input with the property exists.
 use Rattle.std.specs.Prelude.{◌≡◌, ℕ, List, Option, Some, None, IfOk}
 use Rattle.xt_cli.specs.declared.ending.End.{End}
 use Rattle.xt_status.specs.declared.status.Status.{Status}

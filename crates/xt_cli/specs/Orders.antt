@@ -1,9 +1,11 @@
 -- What the words of the command line ask for ('profile'). A word is the list of its bytes.
 use Rattle.std.specs.Prelude.{ℕ, All, List, Option, Some, None, Result, Ok, Err}
 use Rattle.xt_command_line.specs.Arguments.{IsVecbase, script_text_of}
+use Rattle.xt_command_line.specs.Beyond.{beyond_of}
 use Rattle.xt_command_line.specs.Listings.{IsListing}
 use Rattle.xt_command_line.specs.Meaning.{meaning_of}
 use Rattle.xt_command_line.specs.Options.{AreValid}
+use Rattle.xt_command_line.specs.declared.beyond.Beyond.{Beyond}
 use Rattle.xt_command_line.specs.declared.command.Command.{Command}
 use Rattle.xt_command_line.specs.declared.command.Command.TheVariants as command
 use Rattle.xt_command_line.specs.declared.command.Refusal.{Refusal}
@@ -23,13 +25,14 @@ use Rattle.xt_cli.specs.declared.tool.Job.TheVariants as job
 -- ---- the order
 
 -- `replay` with its script; a text that is no script breaks rule 9 of usage
-abbrev pub scripted : Option (List script.Command) → Result Order Refusal
-scripted None = Err (refusal.Usage 9)
-scripted (Some commands) = Ok (order.Work (job.Replay commands))
+abbrev pub scripted : Option (List script.Command) → Beyond → Result Order Refusal
+scripted None b = Err (refusal.Usage 9)
+scripted (Some commands) b = Ok (order.Work (job.Replay commands b))
 
-unfoldable pub replay_order : Result (List ℕ) Refusal → Result Order Refusal
-replay_order (Err r) = Err r
-replay_order (Ok text) = scripted (script_of text)
+unfoldable pub replay_order : Result (List ℕ) Refusal → Result Beyond Refusal → Result Order Refusal
+replay_order (Err r) beyond = Err r
+replay_order (Ok text) (Err r) = Err r
+replay_order (Ok text) (Ok b) = scripted (script_of text) b
 
 -- the discipline of uses that the words ask for
 abbrev pub discipline_of : Rigor → Discipline
@@ -44,10 +47,11 @@ order_by words (Ok (command.Disassemble listing)) = Ok (order.Work (job.List lis
 order_by words (Ok command.Map) = Ok (order.Work job.Map)
 order_by words (Ok (command.Check vecbase)) = Ok (order.Work (job.Check vecbase))
 order_by words (Ok command.Migrate) = Ok (order.Work job.Migrate)
-order_by words (Ok command.Replay) = replay_order (script_text_of words)
+order_by words (Ok command.Replay) =
+    replay_order (script_text_of words) (beyond_of words)
 order_by words (Ok command.Events) = Ok (order.Work job.Events)
 order_by words (Ok command.Counts) = Ok (order.Work job.Counts)
-order_by words (Ok (command.Trace span)) = Ok (order.Work (job.Trace span))
+order_by words (Ok (command.Trace turns)) = Ok (order.Work (job.Trace turns))
 order_by words (Ok command.Race) = Ok (order.Work job.Race)
 order_by words (Ok (command.Profile depth)) = Ok (order.Work (job.Profile depth))
 order_by words (Ok (command.Uses rigor)) = Ok (order.Work (job.Uses (discipline_of rigor)))
@@ -66,7 +70,7 @@ order_of words = order_by words (meaning_of words)
 abbrev pub IsFit : Job → Type 0
 IsFit (job.List listing) = IsListing listing
 IsFit (job.Check vecbase) = IsVecbase vecbase
-IsFit (job.Replay commands) = All IsInRange commands
+IsFit (job.Replay commands b) = All IsInRange commands
 IsFit _ = Unit {0}
 
 -- the options of a run are valid

@@ -1,7 +1,11 @@
 -- The commands whose output is a function of their input, and what each status of them says
 -- ('profile').
-use Rattle.std.specs.Prelude.{◌≡◌, ◌≤◌, ◌+◌, ◌⊎◌, ℕ, List, length, Option, Some, None, Result}
-use Rattle.std.specs.Prelude.{Ok, Err}
+--
+-- Note: `Makes` of `xt_cli`, `Runs` and `Generates` of `xt_runs` have a line for each status;
+-- `Runs` and `Generates` exclude every other. `Memory` says that nothing was written, or a prefix
+-- of the right text.
+use Rattle.std.specs.Prelude.{◌≡◌, ◌≤◌, ◌+◌, ◌⊎◌, ℕ, Bool, true, false, List, length, Option, Some}
+use Rattle.std.specs.Prelude.{None, Result, Ok, Err}
 use Rattle.std.specs.Io.KnownBytes.{Appends, Keeps}
 use Rattle.xt_io.specs.Causes.{Rose}
 use Rattle.xt_io.specs.Whole.{AppendsPrefix, Takes}
@@ -12,6 +16,7 @@ use Rattle.xt_record.specs.Format.{run_in}
 use Rattle.xt_debug.specs.declared.script.Command as script
 use Rattle.xt_debug.specs.Scripts.{script_outcome}
 use Rattle.xt_use_report.specs.Told.{IsUsesTold}
+use Rattle.xt_command_line.specs.declared.beyond.Beyond.{Beyond}
 use Rattle.xt_command_line.specs.declared.command.Refusal.{Refusal}
 use Rattle.xt_command_line.specs.declared.command.Refusal.TheVariants as refusal
 use Rattle.xt_report.specs.Checks.{check_text}
@@ -40,10 +45,10 @@ limit_of (job.List listing) = 8388608
 limit_of job.Map = 1048576
 limit_of (job.Check vecbase) = 8388608
 limit_of job.Migrate = 201326592
-limit_of (job.Replay commands) = 201326592
+limit_of (job.Replay commands b) = 201326592
 limit_of job.Events = 201326592
 limit_of job.Counts = 201326592
-limit_of (job.Trace span) = 201326592
+limit_of (job.Trace turns) = 201326592
 limit_of job.Race = 201326592
 limit_of (job.Profile depth) = 201326592
 limit_of (job.Uses d) = 201326592
@@ -57,17 +62,23 @@ refusal_of (job.List listing) input = image_refusal input
 refusal_of job.Map input = text_refusal input
 refusal_of (job.Check vecbase) input = image_refusal input
 refusal_of job.Migrate input = recording_refusal input
-refusal_of (job.Replay commands) input = recording_refusal input
+refusal_of (job.Replay commands b) input = recording_refusal input
 refusal_of job.Events input = recording_refusal input
 refusal_of job.Counts input = recording_refusal input
-refusal_of (job.Trace span) input = recording_refusal input
+refusal_of (job.Trace turns) input = recording_refusal input
 refusal_of job.Race input = recording_refusal input
 refusal_of (job.Profile depth) input = recording_refusal input
 refusal_of (job.Uses d) input = recording_refusal input
 
 -- what a script prints over the run that a recording holds
-unfoldable pub replayed : List script.Command → List ℕ → List ℕ
-replayed commands input = (script_outcome (image_in input) (run_in input) commands 0).text
+unfoldable pub replayed : List script.Command → Beyond → List ℕ → List ℕ
+replayed commands b input =
+    (script_outcome b (image_in input) (run_in input) commands 0).text
+
+-- it leads beyond that run, and ends there
+unfoldable pub ends_beyond : List script.Command → Beyond → List ℕ → Bool
+ends_beyond commands b input =
+    (script_outcome b (image_in input) (run_in input) commands 0).beyond
 
 -- the bytes that a command writes for an input that it does not refuse
 abbrev pub IsWritten : Job → List ℕ → List ℕ → Type 0
@@ -77,10 +88,10 @@ IsWritten (job.List listing) input bytes = IsListed listing (image_of input) byt
 IsWritten job.Map input bytes = IsMapOfText input bytes
 IsWritten (job.Check vecbase) input bytes = bytes ≡ check_text (image_of input) vecbase
 IsWritten job.Migrate input bytes = bytes ≡ migrated input
-IsWritten (job.Replay commands) input bytes = bytes ≡ replayed commands input
+IsWritten (job.Replay commands b) input bytes = bytes ≡ replayed commands b input
 IsWritten job.Events input bytes = bytes ≡ happened input
 IsWritten job.Counts input bytes = IsCountsTold input bytes
-IsWritten (job.Trace span) input bytes = bytes ≡ traced span input
+IsWritten (job.Trace turns) input bytes = bytes ≡ traced turns input
 IsWritten job.Race input bytes = IsRaceTold input bytes
 IsWritten (job.Profile depth) input bytes = bytes ≡ profiled depth input
 IsWritten (job.Uses d) input bytes = IsUsesTold d (image_in input) (run_in input) bytes
@@ -89,6 +100,11 @@ IsWritten (job.Uses d) input bytes = IsUsesTold d (image_in input) (run_in input
 abbrev pub IsMade : Job → List ℕ → List ℕ → Type 0
 IsMade j input bytes = commands.IsMade (refusal_of j input) (IsWritten j input bytes)
 
+-- the command is a script that leads beyond the run, and ends there
+abbrev pub leads_beyond : Job → List ℕ → Bool
+leads_beyond (job.Replay commands b) input = ends_beyond commands b input
+leads_beyond _ input = false
+
 -- ---- what each status says
 
 -- the input was read to its end, the command makes bytes of it, and this is so of the bytes
@@ -96,10 +112,18 @@ abbrev pub HasOutput : Job → Ends → (List ℕ → Type 0) → Type 0
 HasOutput j e P =
     (bytes : List ℕ) × ReadsWhole (limit_of j) e (λ input. IsMade j input bytes) × P bytes
 
+-- the same where the whole output was written, and a script led beyond the run, or none did
+abbrev pub HasEnded : Job → Ends → Bool → Type 0
+HasEnded j e beyond =
+    (bytes : List ℕ)
+    × ReadsWhole (limit_of j) e (λ input. IsMade j input bytes × (leads_beyond j input ≡ beyond))
+    × Appends e.told e.told_after bytes
+
 -- Each status of a command, with its cause and what was written; the last line is that of the
 -- input's first fault. The byte after the limit was taken exactly where it is `TooLarge`.
 abbrev pub Makes : Job → Ends → Status → Type 0
-Makes j e status.Done = HasOutput j e (Appends e.told e.told_after)
+Makes j e status.Done = HasEnded j e false
+Makes j e status.PastEnd = HasEnded j e true
 Makes j e status.WriteFault =
     HasOutput j e (AppendsPrefix e.told e.told_after) × Rose e.sink_faults e.sink_faults_after
 Makes j e status.ReadFault =
@@ -146,13 +170,19 @@ pub record HasInput (j : Job) (left : Option (List ℕ)) : Type 0 where
   pub within : length input ≤ limit_of j
   pub accepted : refusal_of j input ≡ None
 
--- such an input, and no fault of the source or the sink in this call, end in Done, or in Memory
+-- the status where the whole output was written
+abbrev pub done_status : Bool → Status
+done_status false = status.Done
+done_status true = status.PastEnd
+
+-- such an input, and no fault of the source or the sink in this call, end in Done, or in PastEnd where
+-- a script leads beyond the run, or in Memory
 abbrev pub Finishes : Job → Ends → Status → Type 0
 Finishes j e s =
-    HasInput j e.left
+    (has : HasInput j e.left)
     → (Rose e.source_faults e.source_faults_after → ⊥)
     → (Rose e.sink_faults e.sink_faults_after → ⊥)
-    → (s ≡ status.Done) ⊎ (s ≡ status.Memory)
+    → (s ≡ done_status (leads_beyond j has.input)) ⊎ (s ≡ status.Memory)
 
 abbrev pub IsComplete : Result Order Refusal → Ends → Tool → Type 0
 IsComplete (Ok (order.Work j)) e (tool.Answer s) = Finishes j e s

@@ -3,10 +3,11 @@ ghost use Rattle.std.specs.Prelude.{◌≡◌, IfOk, map, string_bytes};
 ghost use Rattle.xt_cli.specs.Orders.{IsFitOrder, discipline_of, order_of, replay_order};
 ghost use Rattle.xt_command_line.specs.Answers.{Means};
 ghost use Rattle.xt_command_line.specs.Arguments.{script_text_of};
+ghost use Rattle.xt_command_line.specs.Beyond.{beyond_of};
 
 use crate::tool::Job;
 use std::alloc::Global;
-use xt_command_line::{Command, Refusal, Rigor, RunOptions, meaning, script_text};
+use xt_command_line::{Command, Refusal, Rigor, RunOptions, meaning, script_beyond, script_text};
 use xt_debug::{ScriptFault, parse_script};
 use xt_runs::Wanted;
 use xt_uses::Discipline;
@@ -25,15 +26,19 @@ pub enum Order {
 // The command `replay` with the script that its words have.
 #[tactic(auto, unfolding(crate::specs::Orders::replay_order))]
 fn replay_order(alloc: Global, words: &[String]) -> Result<Order, Refusal>
-    ensures means { Means result (replay_order (script_text_of (map string_bytes words.now))) }
+    ensures means { Means result (replay_order (script_text_of (map string_bytes words.now)) (beyond_of (map string_bytes words.now))) }
     ensures fit { IfOk result IsFitOrder }
 {
     let text = match script_text(alloc, words) {
         Ok(text) => text,
         Err(refusal) => return Err(refusal),
     };
+    let beyond = match script_beyond(alloc, words) {
+        Ok(beyond) => beyond,
+        Err(refusal) => return Err(refusal),
+    };
     match parse_script(alloc, text) {
-        Ok(script) => Ok(Order::Work(Job::Replay(script))),
+        Ok(script) => Ok(Order::Work(Job::Replay(script, beyond))),
         Err(ScriptFault::Bad) => Err(Refusal::Usage(9)),
         Err(ScriptFault::Memory) => Err(Refusal::Memory),
     }
@@ -64,7 +69,7 @@ pub(crate) fn order_in(alloc: Global, words: &[String]) -> Result<Order, Refusal
         Ok(Command::Replay) => replay_order(alloc, words),
         Ok(Command::Events) => Ok(Order::Work(Job::Events)),
         Ok(Command::Counts) => Ok(Order::Work(Job::Counts)),
-        Ok(Command::Trace(span)) => Ok(Order::Work(Job::Trace(span))),
+        Ok(Command::Trace(turns)) => Ok(Order::Work(Job::Trace(turns))),
         Ok(Command::Race) => Ok(Order::Work(Job::Race)),
         Ok(Command::Profile(depth)) => Ok(Order::Work(Job::Profile(depth))),
         Ok(Command::Uses(rigor)) => Ok(Order::Work(Job::Uses(discipline_of(rigor)))),

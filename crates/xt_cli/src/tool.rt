@@ -1,15 +1,15 @@
 //! The commands whose output is a function of their input.
-ghost use Rattle.std.specs.Prelude.{◌≡◌, ◌≢◌, ◌≤◌, All, length, map, string_bytes, IfOk, IfErr, Some};
+ghost use Rattle.std.specs.Prelude.{◌≡◌, ◌≢◌, ◌≤◌, All, length, map, string_bytes, IfOk, IfErr, Ok, Some};
 ghost use Rattle.xt_debug.specs.Grammar.{IsInRange};
 ghost use Rattle.xt_status.specs.Calls.{ends};
-ghost use Rattle.xt_cli.specs.Orders.{IsFit, order_of};
-ghost use Rattle.xt_cli.specs.Puts.{IsWhole, Puts};
-ghost use Rattle.xt_cli.specs.Tools.{Answers, Finishes, IsComplete, IsMade, Makes, limit_of, refusal_of, status_of};
+ghost use Rattle.xt_cli.specs.Orders.{IsFit, IsFitOrder, order_of};
+ghost use Rattle.xt_cli.specs.Puts.{IsWhole, Puts, Replays, status_beyond};
+ghost use Rattle.xt_cli.specs.Tools.{Answers, Finishes, IsComplete, IsMade, Makes, done_status, leads_beyond, limit_of, refusal_of, status_of};
 
 use crate::orders::{Order, order_in};
 use std::alloc::Global;
-use xt_command_line::{Listing, Refusal, Span};
-use xt_debug::{Script, run_script};
+use xt_command_line::{Beyond, Listing, Refusal, Turns};
+use xt_debug::{Printed, Script, run_script};
 use xt_image::well_formed_is_placed;
 use xt_io::{ReadError, Sink, Source, read_to_limit};
 use xt_map::Text;
@@ -37,13 +37,13 @@ pub enum Job {
     /// `migrate`: a recording in version 2.
     Migrate,
     /// `replay`: what this script prints over a recording.
-    Replay(Script),
+    Replay(Script, Beyond),
     /// `events`: what happened to each core in a recorded run.
     Events,
     /// `counts`: how often each core of a recorded run executed the instruction at each address.
     Counts,
     /// `trace`: the lines of these turns of a recorded run.
-    Trace(Span),
+    Trace(Turns),
     /// `race`: the first data race of a recorded run.
     Race,
     /// `profile`: the call profile of a recorded run, with keys that are cut at this depth.
@@ -80,7 +80,7 @@ fn limit_of(job: &Job) -> usize
         Job::Convert => ELF_LIMIT,
         Job::List(_) | Job::Check(_) => IMAGE_LIMIT,
         Job::Migrate
-        | Job::Replay(_)
+        | Job::Replay(_, _)
         | Job::Events
         | Job::Counts
         | Job::Trace(_)
@@ -91,18 +91,19 @@ fn limit_of(job: &Job) -> usize
 }
 
 // What a script prints over a recording, or the status of the recording's first fault.
-#[tactic(auto, unfolding(crate::specs::Tools::replayed))]
-fn replay(alloc: Global, script: &Script, input: &[u8]) -> Result<Text, Status>
+#[tactic(auto, unfolding(crate::specs::Tools::replayed, crate::specs::Tools::ends_beyond))]
+fn replay(alloc: Global, script: &Script, beyond: Beyond, input: &[u8]) -> Result<Printed, Status>
     requires { All IsInRange script.now }
-    ensures ok { IfOk result (λ bytes. IsMade (Job.Replay script.now) input.now bytes) }
-    ensures refused { IfErr result (λ status. status ≢ Status.Memory → refusal_of (Job.Replay script.now) input.now ≡ Some status) }
+    ensures ok { IfOk result (λ printed. IsMade (Job.Replay script.now beyond) input.now printed.text) }
+    ensures beyond { IfOk result (λ printed. leads_beyond (Job.Replay script.now beyond) input.now ≡ printed.beyond) }
+    ensures refused { IfErr result (λ status. status ≢ Status.Memory → refusal_of (Job.Replay script.now beyond) input.now ≡ Some status) }
 {
     let (image, run) = recording_in(alloc, input)?;
     well_formed_is_placed();
     let Ok(mut replay) = Replay::make(alloc, &image, &run) else {
         return Err(Status::Memory);
     };
-    run_script(alloc, &mut replay, script).map_err(|_| Status::Memory)
+    run_script(alloc, &mut replay, script, beyond).map_err(|_| Status::Memory)
 }
 
 // What a command writes for an input, or the status with which it refuses it. Its whole text is made.
@@ -120,13 +121,13 @@ fn make(alloc: Global, job: &Job, input: &[u8]) -> Result<Text, Status>
         Job::Map => map_text(alloc, input),
         Job::Check(vecbase) => check(alloc, *vecbase, input),
         Job::Migrate => migrate(alloc, input),
-        Job::Replay(script) => replay(alloc, script, input),
         Job::Events => events(alloc, input),
         Job::Counts => counts(alloc, input),
         Job::Race => race(alloc, input),
         Job::Profile(depth) => profile(alloc, *depth, input),
         Job::Uses(discipline) => uses(alloc, *discipline, input),
         Job::Trace(_) => unreachable!(),
+        Job::Replay(_, _) => unreachable!(),
     }
 }
 
@@ -140,6 +141,48 @@ fn put<K: Sink>(alloc: Global, job: &Job, input: &[u8], sink: &mut K) -> Status
 {
     match make(alloc, job, input) {
         Ok(text) => status_after(write_text(&text, sink)),
+        Err(status) => status,
+    }
+}
+
+// The status where the whole output was written, and a script led beyond the run, or none did.
+fn done_status(beyond: bool) -> Status
+    ensures { result ≡ done_status beyond }
+{
+    if beyond {
+        Status::PastEnd
+    } else {
+        Status::Done
+    }
+}
+
+// The status that writing comes to, where a script led beyond the run, or did not.
+fn status_beyond(beyond: bool, status: Status) -> Status
+    ensures { result ≡ status_beyond beyond status }
+{
+    match status {
+        Status::Done => done_status(beyond),
+        _ => status,
+    }
+}
+
+// Makes what a script prints over a recording, and then writes it.
+fn put_replay<K: Sink>(
+    alloc: Global,
+    script: &Script,
+    beyond: Beyond,
+    input: &[u8],
+    sink: &mut K,
+) -> Status
+    requires { All IsInRange script.now }
+    ensures { Replays (Job.Replay script.now beyond) input.now
+        (K.told sink.old) (K.told sink.new) (K.faults sink.old) (K.faults sink.new) result }
+{
+    match replay(alloc, script, beyond, input) {
+        Ok(printed) => {
+            let written = write_text(&printed.text, sink);
+            status_beyond(printed.beyond, status_after(written))
+        }
         Err(status) => status,
     }
 }
@@ -160,8 +203,23 @@ fn work<S: Source, K: Sink>(alloc: Global, job: &Job, source: &mut S, sink: &mut
         Err(ReadError::Memory) => return Status::Memory,
     };
     match job {
-        Job::Trace(span) => trace(alloc, *span, &input, sink),
+        Job::Trace(turns) => trace(alloc, *turns, &input, sink),
+        Job::Replay(script, beyond) => put_replay(alloc, script, *beyond, &input, sink),
         _ => put(alloc, job, &input, sink),
+    }
+}
+
+// What an order comes to, where it needs no thread.
+fn carry_out<S: Source, K: Sink>(alloc: Global, order: &Order, source: &mut S, sink: &mut K) -> Tool
+    requires { IsFitOrder order.now }
+    ensures answers { Answers (Ok order.now)
+        (ends S.left S.faults source.old source.new K.told K.faults sink.old sink.new) result }
+    ensures complete { IsComplete (Ok order.now)
+        (ends S.left S.faults source.old source.new K.told K.faults sink.old sink.new) result }
+{
+    match order {
+        Order::Work(job) => Tool::Answer(work(alloc, job, source, sink)),
+        Order::Run(_, _) | Order::Generate(_) => Tool::Threaded,
     }
 }
 
@@ -185,8 +243,7 @@ pub fn tool_main<S: Source, K: Sink>(
         (ends S.left S.faults source.old source.new K.told K.faults sink.old sink.new) result }
 {
     match order_in(alloc, words) {
-        Ok(Order::Work(job)) => Tool::Answer(work(alloc, &job, source, sink)),
-        Ok(Order::Run(_, _) | Order::Generate(_)) => Tool::Threaded,
+        Ok(order) => carry_out(alloc, &order, source, sink),
         Err(refusal) => Tool::Answer(status_of(refusal)),
     }
 }

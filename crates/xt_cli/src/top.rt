@@ -43,9 +43,10 @@ fn threaded<S: Source, K: Sink, G: Gate, R: Threads + Wait + Sync>(
 /// Where the words ask for a run, the source is read to its end as an ESP32 application image, both
 /// cores make their turns, each on a thread of its own and through the gate before each access, and
 /// the report is written to the sink, after it the texts of the analyses that the words ask for, and
-/// with `--trace` the lines of both traces, each before the next is made; or where they ask for it the run's recording. Where they ask for the image that
+/// with `--trace` the lines of both traces, in writes of up to 65,536 bytes; or where they ask for it the run's recording. Where they ask for the image that
 /// is made of a number, no input is read, that image runs so, and its summary is written. A run may
-/// wait. All else is done by `tool_main`, which is called first and cannot wait.
+/// wait. Where the words give a seed or an order of turns, the run makes its turns in that order, on one thread.
+/// All else is done by `tool_main`, which is called first and cannot wait.
 ///
 /// The contract says of each status its cause, and what was written; of `Done` and `WriteFault` of
 /// `run`, `record` and `gen` besides that the run that is handed out is the image's: its history is

@@ -2,4 +2,5 @@ pub mod Digits
 pub mod Hexadecimal
 pub mod Parses
 pub mod Ranges
+pub mod TurnTexts
 pub mod Rules

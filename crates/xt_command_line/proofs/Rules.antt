@@ -6,8 +6,9 @@ use Rattle.clap.specs.Words.{Row, Text, first_of}
 use Rattle.xt_map.specs.Regions.{region_of, is_executable}
 use Rattle.xt_trace.specs.Validity.{IsValid, IsValidStack, most_turns}
 use Rattle.xt_trace.specs.declared.options.Stack.{Stack}
-use Rattle.xt_command_line.specs.Options.{AcceptsValid, OptionsNeedNoMemory, by_rows, first_broken, is_entry, is_set, is_stack, judged, options_in, record_app, record_options_of, run_app, run_options_of, said_or, texts_of, unless_broken}
-use Rattle.xt_command_line.specs.Arguments.{check_app, gen_app, generator_number_of, judged_number, judged_vecbase, number_by, number_in, rigor_by, rigor_of, span_by, span_of, spanned, trace_app, uses_app, vecbase_by, vecbase_of}
+use Rattle.xt_command_line.specs.Options.{AcceptsValid, OptionsNeedNoMemory, Texts, by_rows, first_broken, is_entry, is_set, is_stack, judged, judged_with, options_in, record_app, record_options_of, run_app, run_options_of, said_or, texts_of, unless_broken}
+use Rattle.xt_command_line.specs.Arguments.{check_app, gen_app, generator_number_of, judged_number, judged_vecbase, number_by, number_in, rigor_by, rigor_of, uses_app, vecbase_by, vecbase_of}
+use Rattle.xt_command_line.specs.Turns.{chosen, core_of, trace_app, turns_by, turns_of}
 use Rattle.xt_command_line.specs.Answers.{answer_with}
 use Rattle.xt_command_line.specs.declared.command.Rigor.TheVariants as rigor
 use Rattle.xt_command_line.specs.Depths.{depth_by, depth_of, judged_depth, profile_app}
@@ -15,6 +16,7 @@ use Rattle.xt_command_line.specs.Listings.{dis_app, judged_openings, listing_by,
 use Rattle.xt_command_line.specs.Meaning.{NeedsNoMemory, meaning_by, named, without_options}
 use Rattle.xt_command_line.specs.Numbers.{number_of}
 use Rattle.xt_command_line.specs.Simple.{rows_by}
+use Rattle.xt_command_line.specs.TurnOrders.{is_short, listed, order_in, seeded, turns_in}
 use Rattle.xt_command_line.specs.declared.command.Command.{Command}
 use Rattle.xt_command_line.specs.declared.command.Command.TheVariants as command
 use Rattle.xt_command_line.specs.declared.command.Listing.TheVariants as listing
@@ -24,6 +26,8 @@ use Rattle.xt_command_line.specs.declared.command.Openings.{Openings}
 use Rattle.xt_command_line.specs.declared.command.Refusal.{Refusal}
 use Rattle.xt_command_line.specs.declared.command.Refusal.TheVariants as refusal
 use Rattle.xt_command_line.specs.declared.options.RunOptions.{RunOptions}
+use Rattle.xt_command_line.specs.declared.turn_orders.TurnOrder.{TurnOrder}
+use Rattle.xt_command_line.specs.declared.turn_orders.CoreTurns.{CoreTurns}
 
 -- ---- running out of memory
 
@@ -35,9 +39,27 @@ judged-answers : (o : Option RunOptions) → judged o ≢ Err refusal.Memory
 judged-answers None = λ e. search (rules, e)
 judged-answers (Some o) = unless_broken-answers _ o
 
+or-answers : (seed : Option ℕ) → seeded seed ≢ Err refusal.Memory
+or-answers None = λ e. search (rules, e)
+or-answers (Some n) = λ e. search (rules, e)
+
+listed-answers : (list : Option (List CoreTurns)) → listed list ≢ Err refusal.Memory
+listed-answers None = λ e. search (rules, e)
+listed-answers (Some list) = λ e. search (rules, e)
+
+order-answers : (seed list : Option Text) → order_in seed list ≢ Err refusal.Memory
+order-answers None None = λ e. search (rules, e)
+order-answers (Some seed) None = or-answers (number_of seed)
+order-answers None (Some list) = listed-answers (turns_in list)
+order-answers (Some seed) (Some list) = λ e. search (rules, e)
+
+judged_with-answers : (t : Texts) (order : Result TurnOrder Refusal) → order ≢ Err refusal.Memory → judged_with t order ≢ Err refusal.Memory
+judged_with-answers t (Ok order) no_memory = judged-answers (options_in t order)
+judged_with-answers t (Err r) no_memory = λ e. no_memory (cc)
+
 by_rows-answers : (rows : Option (List Row)) → by_rows rows ≢ Err refusal.Memory
 by_rows-answers None = λ e. search (rules, e)
-by_rows-answers (Some rows) = judged-answers (options_in (texts_of rows))
+by_rows-answers (Some rows) = let t = texts_of rows in judged_with-answers t (order_in t.seed t.order) (order-answers t.seed t.order)
 
 pub need_no_memory : OptionsNeedNoMemory
 need_no_memory words = (by_rows-answers (rows_by run_app words), by_rows-answers (rows_by record_app words))
@@ -61,15 +83,16 @@ number_by-answers : (rows : Option (List Row)) → number_by rows ≢ Err refusa
 number_by-answers None = λ e. search (rules, e)
 number_by-answers (Some rows) = judged_number-answers (number_in (first_of (codes "number") rows))
 
-spanned-answers : (from to : Option ℕ) → spanned from to ≢ Err refusal.Memory
-spanned-answers None None = λ e. search (rules, e)
-spanned-answers None (Some to) = λ e. search (rules, e)
-spanned-answers (Some from) None = λ e. search (rules, e)
-spanned-answers (Some from) (Some to) = λ e. search (rules, e)
+chosen-answers : (from to : Option ℕ) (core : Option (Option ℕ)) (accesses jumps : Bool) → chosen from to core accesses jumps ≢ Err refusal.Memory
+chosen-answers None to core accesses jumps = λ e. search (rules, e)
+chosen-answers (Some from) None core accesses jumps = λ e. search (rules, e)
+chosen-answers (Some from) (Some to) None accesses jumps = λ e. search (rules, e)
+chosen-answers (Some from) (Some to) (Some core) accesses jumps = λ e. search (rules, e)
 
-span_by-answers : (rows : Option (List Row)) → span_by rows ≢ Err refusal.Memory
-span_by-answers None = λ e. search (rules, e)
-span_by-answers (Some rows) = spanned-answers (said_or number_of 0 (first_of (codes "from") rows)) (said_or number_of 0xFFFFFFFF (first_of (codes "to") rows))
+turns_by-answers : (rows : Option (List Row)) → turns_by rows ≢ Err refusal.Memory
+turns_by-answers None = λ e. search (rules, e)
+turns_by-answers (Some rows) = chosen-answers (said_or number_of 0 (first_of (codes "from") rows)) (said_or number_of 0xFFFFFFFF (first_of (codes "to") rows))
+    (said_or core_of None (first_of (codes "core") rows)) (is_set (first_of (codes "accesses") rows)) (is_set (first_of (codes "jumps") rows))
 
 rigor_by-answers : (rows : Option (List Row)) → rigor_by rows ≢ Err refusal.Memory
 rigor_by-answers None = λ e. search (rules, e)
@@ -127,7 +150,7 @@ meaning_by-answers (Some name.Counts) words = without_options-answers _ _
 meaning_by-answers (Some name.Race) words = without_options-answers _ _
 meaning_by-answers (Some name.Profile) words = answer_with-answers command.Profile (depth_of words) (depth_by-answers (rows_by profile_app words))
 meaning_by-answers (Some name.Uses) words = answer_with-answers command.Uses (rigor_of words) (rigor_by-answers (rows_by uses_app words))
-meaning_by-answers (Some name.Trace) words = answer_with-answers command.Trace (span_of words) (span_by-answers (rows_by trace_app words))
+meaning_by-answers (Some name.Trace) words = answer_with-answers command.Trace (turns_of words) (turns_by-answers (rows_by trace_app words))
 meaning_by-answers (Some name.Generate) words = answer_with-answers command.Generate (generator_number_of words) (number_by-answers (rows_by gen_app words))
 
 pub meaning_needs_none : NeedsNoMemory
@@ -144,8 +167,8 @@ entry_is_executable : is_executable (region_of entry) ≡ true
 unfolding entry region_of
 entry_is_executable = refl
 
-turns_kept : (turns0 turns1 : ℕ) → turns0 ≤ most_turns → turns1 ≤ most_turns → (nat_le turns0 most_turns && nat_le turns1 most_turns) ≡ true
-turns_kept turns0 turns1 few few1 = grind (arith, nat_tests)
+turns_kept : (turns0 turns1 : ℕ) (short : Bool) → turns0 ≤ most_turns → turns1 ≤ most_turns → short ≡ true → (nat_le turns0 most_turns && nat_le turns1 most_turns && short) ≡ true
+turns_kept turns0 turns1 short few few1 is = grind (arith, nat_tests)
 
 entry_kept : (address : Option ℕ) (d : ℕ) → is_executable (region_of (unwrap_or address d)) ≡ true → is_entry address ≡ true
 entry_kept None d is = refl
@@ -165,8 +188,8 @@ all_kept : (a b c d : Bool) (o : RunOptions) → a ≡ true → b ≡ true → c
 all_kept a b c d o p q r s = rw (p, q, r, s) refl
 
 pub accepts : AcceptsValid
-accepts o valid =
+accepts o valid short =
     let v : IsValid _ = valid entry entry_is_executable in
-    all_kept _ _ _ _ o (turns_kept o.turns0 o.turns1 v.turns0 v.turns1) (entry_kept o.entry1 entry v.entry1)
+    all_kept _ _ _ _ o (turns_kept o.turns0 o.turns1 (is_short o.order) v.turns0 v.turns1 short) (entry_kept o.entry1 entry v.entry1)
     (multiple_kept (o.vecbase % 1024) 0 v.vecbase)
     (both_kept _ _ (stack_kept o.stack0 v.stack0) (stack_kept o.stack1 v.stack1))

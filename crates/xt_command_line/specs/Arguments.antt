@@ -1,4 +1,4 @@
--- What the words of `check`, `gen`, `replay`, `trace` and `uses` say ('profile').
+-- What the words of `check`, `gen`, `replay` and `uses` say ('profile').
 use Rattle.std.specs.Prelude.{◌≡◌, ℕ, ◌%◌, true, ◌==◌, List, Option, Some, None, Result, Ok, Err}
 use Rattle.std.specs.Prelude.{if◌then◌else◌, codes, option_and_then}
 use Rattle.clap.specs.Words.{App, Row, Rule, Text, first_of, new_app, new_rule, with_rule}
@@ -8,7 +8,6 @@ use Rattle.xt_command_line.specs.Simple.{rows_by}
 use Rattle.xt_command_line.specs.declared.command.Refusal.{Refusal}
 use Rattle.xt_command_line.specs.declared.command.Rigor.{Rigor}
 use Rattle.xt_command_line.specs.declared.command.Rigor.TheVariants as rigor
-use Rattle.xt_command_line.specs.declared.command.Span.{Span}
 use Rattle.xt_command_line.specs.declared.command.Refusal.TheVariants as refusal
 
 -- ---- check [--vecbase N]
@@ -58,10 +57,13 @@ number_by (Some rows) = judged_number (number_in (first_of (codes "number") rows
 abbrev pub generator_number_of : List Text → Result ℕ Refusal
 generator_number_of words = number_by (rows_by gen_app words)
 
--- ---- replay SCRIPT
+-- ---- replay [--lenient] SCRIPT
 
 abbrev pub replay_app : App
-replay_app = with_rule (new_app (codes "replay")) (positional_rule (codes "script"))
+replay_app =
+    with_flag
+    (with_rule (new_app (codes "replay")) (positional_rule (codes "script")))
+    (codes "lenient")
 
 abbrev pub given_text : Option Text → Result Text Refusal
 given_text None = Err (refusal.Usage 3)
@@ -74,28 +76,6 @@ script_text_by (Some rows) = given_text (first_of (codes "script") rows)
 -- the text of the script that the words of `replay` have, or the rule of usage that they break
 abbrev pub script_text_of : List Text → Result Text Refusal
 script_text_of words = script_text_by (rows_by replay_app words)
-
--- ---- trace [--from N] [--to N]
-
-abbrev pub trace_app : App
-trace_app = with_option (with_option (new_app (codes "trace")) (codes "from")) (codes "to")
-
--- the positions from one number on to before another; a text that is no number breaks a rule
-abbrev pub spanned : Option ℕ → Option ℕ → Result Span Refusal
-spanned (Some from) (Some to) = Ok (record { from = from; to = to })
-spanned _ _ = Err (refusal.Usage 4)
-
--- where no word says them, the first position is 0 and the last one that of the run
-abbrev pub span_by : Option (List Row) → Result Span Refusal
-span_by None = Err (refusal.Usage 3)
-span_by (Some rows) =
-    spanned
-    (said_or number_of 0 (first_of (codes "from") rows))
-    (said_or number_of 0xFFFFFFFF (first_of (codes "to") rows))
-
--- the positions that the words of `trace` say, or the first rule of usage that they break
-abbrev pub span_of : List Text → Result Span Refusal
-span_of words = span_by (rows_by trace_app words)
 
 -- ---- uses [--lenient]
 

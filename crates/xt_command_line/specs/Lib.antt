@@ -1,8 +1,11 @@
 pub mod Numbers
 pub mod Simple
 pub mod Answers
+pub mod TurnOrders
 pub mod Options
 pub mod Arguments
+pub mod Beyond
+pub mod Turns
 pub mod Listings
 pub mod Depths
 pub mod Meaning

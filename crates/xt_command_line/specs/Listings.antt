@@ -1,4 +1,6 @@
 -- What the words of `dis` say ('profile').
+--
+-- Profile: what `dis` takes stands in `Listings`: the options of `--flow` stand with it alone.
 use Rattle.std.specs.Prelude.{◌≡◌, ℕ, ◌%◌, Bool, true, false, ◌==◌, List, [], ◌∷◌, Option, Some}
 use Rattle.std.specs.Prelude.{None, Result, Ok, Err, codes}
 use Rattle.clap.specs.Words.{App, Row, Text, first_of, new_app}

@@ -7,8 +7,8 @@ use Rattle.clap.specs.Words.{Row, Text, new_app}
 use Rattle.xt_command_line.specs.Simple.{rows_by}
 use Rattle.xt_command_line.specs.Answers.{answer_with}
 use Rattle.xt_command_line.specs.Options.{AreValid, record_options_of, run_options_of}
-use Rattle.xt_command_line.specs.Arguments.{IsVecbase, generator_number_of, rigor_of, span_of}
-use Rattle.xt_command_line.specs.Arguments.{vecbase_of}
+use Rattle.xt_command_line.specs.Arguments.{IsVecbase, generator_number_of, rigor_of, vecbase_of}
+use Rattle.xt_command_line.specs.Turns.{turns_of}
 use Rattle.xt_command_line.specs.Depths.{depth_of}
 use Rattle.xt_command_line.specs.Listings.{IsListing, listing_of}
 use Rattle.xt_command_line.specs.declared.command.Command.{Command}
@@ -69,7 +69,7 @@ abbrev pub gen_meaning_of : List Text → Result Command Refusal
 gen_meaning_of words = answer_with command.Generate (generator_number_of words)
 
 abbrev pub trace_meaning_of : List Text → Result Command Refusal
-trace_meaning_of words = answer_with command.Trace (span_of words)
+trace_meaning_of words = answer_with command.Trace (turns_of words)
 
 abbrev pub uses_meaning_of : List Text → Result Command Refusal
 uses_meaning_of words = answer_with command.Uses (rigor_of words)

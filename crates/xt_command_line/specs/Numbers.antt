@@ -1,4 +1,7 @@
 -- The numbers that words write ('profile'). A word is the list of its bytes.
+--
+-- Profile: a number has at most eight hexadecimal digits and is below 2^32, so that it is read in
+-- one way. Leading zeros are allowed.
 use Rattle.std.specs.Prelude.{ℕ, ◌+◌, ◌-◌, ◌*◌, ◌^◌, Bool, ◌&&◌, nat_lt, nat_le, nat_eq}
 use Rattle.std.specs.Prelude.{if◌then◌else◌, Option, Some, None, List, length, drop, fold, codes}
 use Rattle.std.specs.List.{list_all, starts_with}

@@ -1,4 +1,10 @@
 -- The options of `run` and `record` ('profile').
+--
+-- Profile: the words break the first rule of usage that fails: no command, an unknown one, words
+-- that do not match, a text that is no number, range or order, and then the limits in the order of
+-- `limits`. HELP.txt has what holds without an option.
+-- Note: `entry1` is judged only where it is given; otherwise it is the image's entry, which the
+-- image's rules judge.
 use Rattle.std.specs.Prelude.{◌≡◌, ◌≢◌, ℕ, ◌+◌, ◌%◌, Bool, true, false, ◌==◌, ◌&&◌, nat_le, List}
 use Rattle.std.specs.Prelude.{[], ◌∷◌, fold, Option, Some, None, unwrap_or, option_map, Result, Ok}
 use Rattle.std.specs.Prelude.{Err, if◌then◌else◌, codes}
@@ -13,9 +19,11 @@ use Rattle.xt_trace.specs.declared.options.Stack.{Stack}
 use Rattle.xt_trace.specs.declared.options.Options.{Options}
 use Rattle.xt_command_line.specs.Numbers.{number_of}
 use Rattle.xt_command_line.specs.Simple.{rows_by}
+use Rattle.xt_command_line.specs.TurnOrders.{is_short, order_in}
 use Rattle.xt_command_line.specs.declared.command.Refusal.{Refusal}
 use Rattle.xt_command_line.specs.declared.command.Refusal.TheVariants as refusal
 use Rattle.xt_command_line.specs.declared.options.RunOptions.{RunOptions}
+use Rattle.xt_command_line.specs.declared.turn_orders.TurnOrder.{TurnOrder}
 
 -- ---- the simple commands of clap
 
@@ -34,11 +42,14 @@ abbrev pub with_flag : App → Text → App
 with_flag app name = with_rule app (flag_rule name)
 
 -- [--turns0 N] [--turns1 N] [--entry1 N] [--vecbase N] [--stack0 LO:HI] [--stack1 LO:HI]
--- [--seed N]
+-- [--seed N] [--order LIST]
+abbrev pub order_names : List Text
+order_names = codes "seed" ∷ codes "order" ∷ []
+
 abbrev pub option_names : List Text
 option_names =
     codes "turns0" ∷ codes "turns1" ∷ codes "entry1"
-    ∷ codes "vecbase" ∷ codes "stack0" ∷ codes "stack1" ∷ codes "seed" ∷ []
+    ∷ codes "vecbase" ∷ codes "stack0" ∷ codes "stack1" ∷ order_names
 
 abbrev pub record_app : App
 record_app = fold with_option (new_app (codes "record")) option_names
@@ -62,6 +73,7 @@ pub record Texts : Type 0 where
   pub stack0 : Option Text
   pub stack1 : Option Text
   pub seed : Option Text
+  pub order : Option Text
   pub trace : Bool
   pub events : Bool
   pub race : Bool
@@ -81,6 +93,7 @@ texts_of rows = record {
   stack0 = first_of (codes "stack0") rows;
   stack1 = first_of (codes "stack1") rows;
   seed = first_of (codes "seed") rows;
+  order = first_of (codes "order") rows;
   trace = is_set (first_of (codes "trace") rows);
   events = is_set (first_of (codes "events") rows);
   race = is_set (first_of (codes "race") rows);
@@ -113,13 +126,14 @@ said_or say default (Some text) = say text
 abbrev pub given_number_of : Text → Option (Option ℕ)
 given_number_of text = option_map Some (number_of text)
 
--- the options of these numbers and ranges, where each is there, with the flags as they were given
+-- the options of these numbers and ranges, where each is there, with this order and with the flags
+-- as they were given
 abbrev pub made :
-    Texts → Option ℕ → Option ℕ → Option (Option ℕ) → Option ℕ → Option Stack → Option Stack
-    → Option (Option ℕ) → Option RunOptions
+    Texts → TurnOrder → Option ℕ → Option ℕ → Option (Option ℕ) → Option ℕ → Option Stack
+    → Option Stack → Option RunOptions
 made
-    t (Some turns0) (Some turns1) (Some entry1) (Some vecbase) (Some stack0) (Some stack1)
-    (Some seed) =
+    t order (Some turns0) (Some turns1) (Some entry1) (Some vecbase) (Some stack0)
+    (Some stack1) =
     Some (record {
       turns0 = turns0;
       turns1 = turns1;
@@ -127,26 +141,25 @@ made
       vecbase = vecbase;
       stack0 = stack0;
       stack1 = stack1;
-      seed = seed;
+      order = order;
       trace = t.trace;
       events = t.events;
       race = t.race;
       profile = t.profile;
       uses = t.uses;
     })
-made t _ _ _ _ _ _ _ = None
+made t order _ _ _ _ _ _ = None
 
--- the options that the texts say, each with its default, or none where a text is no number or no
--- range
-abbrev pub options_in : Texts → Option RunOptions
-options_in t = made t
+-- the options that the texts say, each with its default, and with this order, or none where a text
+-- is no number or no range
+abbrev pub options_in : Texts → TurnOrder → Option RunOptions
+options_in t order = made t order
     (said_or number_of 100000 t.turns0)
     (said_or number_of 100000 t.turns1)
     (said_or given_number_of None t.entry1)
     (said_or number_of 0x40080000 t.vecbase)
     (said_or range_of (record { lo = 0x3FFF0000; hi = 0x3FFF8000 }) t.stack0)
     (said_or range_of (record { lo = 0x3FFF8000; hi = 0x40000000 }) t.stack1)
-    (said_or given_number_of None t.seed)
 
 -- ---- the rules of usage that options break
 
@@ -164,7 +177,7 @@ is_entry (Some address) = is_executable (region_of address)
 -- the rules by their numbers, and whether the options keep them
 abbrev pub limits : RunOptions → List (ℕ × Bool)
 limits o =
-    (5, nat_le o.turns0 most_turns && nat_le o.turns1 most_turns)
+    (5, nat_le o.turns0 most_turns && nat_le o.turns1 most_turns && is_short o.order)
     ∷ (6, is_entry o.entry1)
     ∷ (7, o.vecbase % 1024 == 0)
     ∷ (8, is_stack o.stack0 && is_stack o.stack1)
@@ -186,11 +199,20 @@ abbrev pub judged : Option RunOptions → Result RunOptions Refusal
 judged None = Err (refusal.Usage 4)
 judged (Some o) = checked o
 
+-- the options that the texts say with the order that they say, or the first rule of usage that they
+-- break
+abbrev pub judged_with : Texts → Result TurnOrder Refusal → Result RunOptions Refusal
+judged_with t (Err r) = Err r
+judged_with t (Ok order) = judged (options_in t order)
+
+abbrev pub judged_texts : Texts → Result RunOptions Refusal
+judged_texts t = judged_with t (order_in t.seed t.order)
+
 -- ---- the meaning of the words
 
 abbrev pub by_rows : Option (List Row) → Result RunOptions Refusal
 by_rows None = Err (refusal.Usage 3)
-by_rows (Some rows) = judged (options_in (texts_of rows))
+by_rows (Some rows) = judged_texts (texts_of rows)
 
 -- the options that the words of `run` say, or the first rule of usage that they break
 abbrev pub run_options_of : List Text → Result RunOptions Refusal
@@ -225,6 +247,6 @@ OptionsNeedNoMemory =
     (words : List Text)
     → (run_options_of words ≢ Err refusal.Memory) × (record_options_of words ≢ Err refusal.Memory)
 
--- valid options keep every rule
+-- valid options with an order that does not ask for too many turns keep every rule
 abbrev pub AcceptsValid : Type 0
-AcceptsValid = (o : RunOptions) → AreValid o → checked o ≡ Ok o
+AcceptsValid = (o : RunOptions) → AreValid o → is_short o.order ≡ true → checked o ≡ Ok o

@@ -13,6 +13,7 @@ texts_in t = record {
   stack0 = option_map (λ s. s.now) t.stack0;
   stack1 = option_map (λ s. s.now) t.stack1;
   seed = option_map (λ s. s.now) t.seed;
+  order = option_map (λ s. s.now) t.order;
   trace = t.trace;
   events = t.events;
   race = t.race;

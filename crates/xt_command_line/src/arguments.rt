@@ -1,12 +1,12 @@
-//! The words of `check`, `gen`, `replay`, `trace` and `uses`.
+//! The words of `check`, `gen`, `replay` and `uses`.
 ghost use Rattle.std.specs.Prelude.{◌≡◌, IfOk, map, string_bytes, option_map};
 ghost use Rattle.xt_command_line.specs.Answers.{Means, MeansAs};
-ghost use Rattle.xt_command_line.specs.Arguments.{IsVecbase, generator_number_of, judged_number, judged_vecbase, number_in, rigor_of, script_text_of, span_of, spanned, vecbase_of};
+ghost use Rattle.xt_command_line.specs.Arguments.{IsVecbase, generator_number_of, judged_number, judged_vecbase, number_in, rigor_of, script_text_of, vecbase_of};
 
-use crate::command::{Refusal, Rigor, Span};
+use crate::command::{Refusal, Rigor};
 use crate::numbers::number;
 use crate::option_commands::{
-    check_matches, generator_matches, is_true, replay_matches, text_of, trace_matches, uses_matches,
+    check_matches, generator_matches, is_true, replay_matches, text_of, uses_matches,
 };
 use crate::option_words::{DEFAULT_VECBASE, number_or};
 use std::alloc::Global;
@@ -60,39 +60,13 @@ pub fn generator_number(alloc: Global, words: &[String]) -> Result<u32, Refusal>
 
 /// The text of the script that the words of `replay` have, the first of which stands for the command.
 ///
-/// The words are read as a simple command of `clap` with one text that must be there. `Usage(3)` says that they do not
-/// match. `Memory` says only that memory ran out.
+/// The words are read as a simple command of `clap` with one text that must be there and the flag `--lenient`.
+/// `Usage(3)` says that they do not match. `Memory` says only that memory ran out.
 pub fn script_text<'a>(alloc: Global, words: &'a [String]) -> Result<&'a str, Refusal>
     ensures { MeansAs (λ t. t.now) result (script_text_of (map string_bytes words.now)) }
 {
     let matches = replay_matches(alloc, words)?;
     text_of(&matches, "script").ok_or(Refusal::Usage(3))
-}
-
-// The positions from one number on to before another, or the rule of usage that a text breaks which is no
-// number.
-fn judge_span(from: Option<u32>, to: Option<u32>) -> Result<Span, Refusal>
-    ensures { result ≡ spanned from to }
-{
-    match (from, to) {
-        (Some(from), Some(to)) => Ok(Span { from, to }),
-        _ => Err(Refusal::Usage(4)),
-    }
-}
-
-/// The positions that the words of `trace` say, the first of which stands for the command.
-///
-/// The words are read as a simple command of `clap` with the options `--from N`, whose default is 0, and `--to N`, whose
-/// default is above every position. N is as for `run`. `Usage` has the first rule that the words break: 3 they do not
-/// match, 4 a text is no number. `Memory` says only that memory ran out.
-pub fn trace_span(alloc: Global, words: &[String]) -> Result<Span, Refusal>
-    ensures { Means result (span_of (map string_bytes words.now)) }
-{
-    let matches = trace_matches(alloc, words)?;
-    judge_span(
-        number_or(text_of(&matches, "from"), 0),
-        number_or(text_of(&matches, "to"), u32::MAX),
-    )
 }
 
 /// The rigor that the words of `uses` say, the first of which stands for the command.

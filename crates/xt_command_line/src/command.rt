@@ -4,13 +4,20 @@ ghost use Rattle.xt_command_line.specs.declared.command.Refusal.TheVariants.{Mem
 use crate::options::RunOptions;
 use std::alloc::AllocError;
 
-/// Positions of a run's schedule.
+/// Which turns of a recorded run `trace` prints: those of some positions of the run's schedule, of which all
+/// that is asked for holds.
 #[derive(Clone, Copy, Debug, PartialEq, Eq)]
-pub struct Span {
-    /// The first of them.
+pub struct Turns {
+    /// The first position (`--from`).
     pub from: u32,
-    /// The first after them.
+    /// The first position after them (`--to`).
     pub to: u32,
+    /// A turn of this core (`--core`); none asks for no core.
+    pub core: Option<u8>,
+    /// A turn with an access (`--accesses`).
+    pub accesses: bool,
+    /// A turn after which the core goes on elsewhere than behind the instruction (`--jumps`).
+    pub jumps: bool,
 }
 
 /// Where control begins in an image, beside its entry.
@@ -41,7 +48,7 @@ pub enum Rigor {
 }
 
 /// A command with its options.
-#[derive(Clone, Copy, Debug, PartialEq, Eq)]
+#[derive(Debug, Drop)]
 pub enum Command {
     /// `asm`: assembles a text.
     Assemble,
@@ -66,7 +73,7 @@ pub enum Command {
     /// `counts`: says how often each core of a recorded run executed the instruction at each address.
     Counts,
     /// `trace`: prints these turns of a recorded run.
-    Trace(Span),
+    Trace(Turns),
     /// `race`: looks for a data race in a recorded run.
     Race,
     /// `profile`: counts the turns of each call stack of a recorded run, with keys of so many functions at most.
@@ -82,7 +89,7 @@ pub enum Command {
 pub enum Refusal {
     /// The number of the first rule of usage that the words break:
     /// 1 there is no word, 2 the command is unknown, 3 the further words do not match what the command takes, 4 to 8 a
-    /// text of theirs is refused (`run_options`, `listing`, `check_vecbase`, `trace_span` and `generator_number` say
+    /// text of theirs is refused (`run_options`, `listing`, `check_vecbase`, `trace_turns` and `generator_number` say
     /// which is which). Further numbers are those of callers.
     Usage(u8),
     /// Memory ran out while the words were read.

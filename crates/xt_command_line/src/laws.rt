@@ -12,7 +12,8 @@ pub fn options_need_no_memory()
     ensures { OptionsNeedNoMemory }
 {}
 
-/// Options that are valid for a run, whatever the image's entry, break no rule of usage. That options which break none
+/// Options that are valid for a run, whatever the image's entry, and whose order asks for at most 8,000,000 turns break
+/// no rule of usage. That options which break none
 /// are valid stands in the contract of `within_limits`.
 pub fn valid_options_are_accepted()
     ensures { AcceptsValid }

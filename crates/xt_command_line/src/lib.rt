@@ -5,6 +5,7 @@
 #![tactic(auto)]
 
 mod arguments;
+mod beyond;
 mod command;
 mod depths;
 mod laws;
@@ -14,14 +15,19 @@ mod option_commands;
 mod option_words;
 mod options;
 mod simple;
+mod turn_orders;
+mod turns;
 mod words;
 
-pub use arguments::{check_vecbase, generator_number, script_text, trace_span, uses_rigor};
-pub use command::{Command, Listing, Openings, Refusal, Rigor, Span};
+pub use arguments::{check_vecbase, generator_number, script_text, uses_rigor};
+pub use beyond::{Beyond, script_beyond};
+pub use command::{Command, Listing, Openings, Refusal, Rigor, Turns};
 pub use depths::{DEFAULT_DEPTH, profile_depth};
 pub use laws::{meaning_needs_no_memory, options_need_no_memory, valid_options_are_accepted};
 pub use listings::listing;
 pub use numbers::number;
 pub use option_words::{DEFAULT_VECBASE, record_options, run_options};
 pub use options::{MOST_TURNS, RunOptions, within_limits};
+pub use turn_orders::{CoreTurns, TurnList, TurnOrder, Which, cores_of};
+pub use turns::trace_turns;
 pub use words::meaning;

@@ -3,10 +3,11 @@
 ghost use Rattle.std.specs.Prelude.{◌≡◌, IfOk, map, string_bytes, option_map, fold};
 ghost use Rattle.clap.specs.Words.{app_of, first_of, found_of, new_app, rows_of, with_rule};
 ghost use Rattle.xt_command_line.specs.Simple.{Matches, rows_by};
-ghost use Rattle.xt_command_line.specs.Arguments.{check_app, gen_app, positional_rule, replay_app, trace_app, uses_app};
+ghost use Rattle.xt_command_line.specs.Arguments.{check_app, gen_app, positional_rule, replay_app, uses_app};
+ghost use Rattle.xt_command_line.specs.Turns.{trace_app};
 ghost use Rattle.xt_command_line.specs.Depths.{profile_app};
 ghost use Rattle.xt_command_line.specs.Listings.{dis_app};
-ghost use Rattle.xt_command_line.specs.Options.{flag_names, is_set, option_names, record_app, run_app, texts_of, with_flag, with_option};
+ghost use Rattle.xt_command_line.specs.Options.{flag_names, is_set, option_names, order_names, record_app, run_app, texts_of, with_flag, with_option};
 ghost use Rattle.xt_command_line.specs.Views.{texts_in};
 
 use crate::command::Refusal;
@@ -24,6 +25,7 @@ pub struct OptionTexts<'a> {
     pub stack0: Option<&'a str>,
     pub stack1: Option<&'a str>,
     pub seed: Option<&'a str>,
+    pub order: Option<&'a str>,
     pub trace: bool,
     pub events: bool,
     pub race: bool,
@@ -53,7 +55,15 @@ fn with_one_flag<'a>(
     command.arg(Arg::new(alloc, name).long(name).action(ArgAction::SetTrue))
 }
 
-// The command with the seven options that `run` and `record` share.
+// The command with the two options that say in which order the cores make their turns.
+fn with_orders<'a>(alloc: Global, command: Command<'a>) -> Result<Command<'a>, AllocError>
+    ensures { IfOk result (λ c. app_of c ≡ fold with_option (app_of command.entry) order_names) }
+{
+    let command = with_one_option(alloc, command, "seed")?;
+    with_one_option(alloc, command, "order")
+}
+
+// The command with the eight options that `run` and `record` share.
 fn with_options<'a>(alloc: Global, name: &'a str) -> Result<Command<'a>, AllocError>
     ensures { IfOk result (λ c. app_of c ≡ fold with_option (new_app name.entry.now) option_names) }
 {
@@ -64,7 +74,7 @@ fn with_options<'a>(alloc: Global, name: &'a str) -> Result<Command<'a>, AllocEr
     let command = with_one_option(alloc, command, "vecbase")?;
     let command = with_one_option(alloc, command, "stack0")?;
     let command = with_one_option(alloc, command, "stack1")?;
-    with_one_option(alloc, command, "seed")
+    with_orders(alloc, command)
 }
 
 // The command with the five flags that `run` alone has.
@@ -154,11 +164,12 @@ pub fn generator_matches<'a>(alloc: Global, words: &'a [String]) -> Result<ArgMa
     matches_by(generator_command(alloc)?, words)
 }
 
-// The command `replay` with its script.
+// The command `replay` with its script and its flag.
 fn replay_command<'a>(alloc: Global) -> Result<Command<'a>, AllocError>
     ensures { IfOk result (λ c. app_of c ≡ replay_app) }
 {
-    with_positional(alloc, Command::new(alloc, "replay"), "script")
+    let command = with_positional(alloc, Command::new(alloc, "replay"), "script")?;
+    with_one_flag(alloc, command, "lenient")
 }
 
 /// What `clap` matches on the words of `replay`.
@@ -168,12 +179,15 @@ pub fn replay_matches<'a>(alloc: Global, words: &'a [String]) -> Result<ArgMatch
     matches_by(replay_command(alloc)?, words)
 }
 
-// The command `trace` with its options.
+// The command `trace` with its options and its flags.
 fn trace_command<'a>(alloc: Global) -> Result<Command<'a>, AllocError>
     ensures { IfOk result (λ c. app_of c ≡ trace_app) }
 {
     let command = with_one_option(alloc, Command::new(alloc, "trace"), "from")?;
-    with_one_option(alloc, command, "to")
+    let command = with_one_option(alloc, command, "to")?;
+    let command = with_one_option(alloc, command, "core")?;
+    let command = with_one_flag(alloc, command, "accesses")?;
+    with_one_flag(alloc, command, "jumps")
 }
 
 /// What `clap` matches on the words of `trace`.
@@ -240,6 +254,7 @@ pub fn texts_from<'a>(matches: &ArgMatches<'a>) -> OptionTexts<'a>
         stack0: text_of(matches, "stack0"),
         stack1: text_of(matches, "stack1"),
         seed: text_of(matches, "seed"),
+        order: text_of(matches, "order"),
         trace: is_true(text_of(matches, "trace")),
         events: is_true(text_of(matches, "events")),
         race: is_true(text_of(matches, "race")),

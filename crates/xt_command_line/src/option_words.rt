@@ -2,13 +2,14 @@
 ghost use Rattle.std.specs.Prelude.{◌≡◌, IfOk, map, string_bytes, option_map};
 ghost use Rattle.xt_command_line.specs.Answers.{Means};
 ghost use Rattle.xt_command_line.specs.Numbers.{number_of};
-ghost use Rattle.xt_command_line.specs.Options.{AreValid, between, given_number_of, judged, options_in, range_of, record_options_of, run_options_of, said_or};
+ghost use Rattle.xt_command_line.specs.Options.{AreValid, between, given_number_of, judged, options_in, range_of, record_options_of, run_options_of, said_or, judged_texts};
 ghost use Rattle.xt_command_line.specs.Views.{texts_in};
 
 use crate::command::Refusal;
 use crate::numbers::number;
 use crate::option_commands::{OptionTexts, record_matches, run_matches, texts_from};
 use crate::options::{RunOptions, within_limits};
+use crate::turn_orders::{TurnOrder, order_in};
 use std::alloc::Global;
 use xt_trace::Stack;
 
@@ -65,9 +66,9 @@ fn range_or(text: Option<&str>, default: Stack) -> Option<Stack>
     }
 }
 
-// The options that the texts say, or none where a text is no number or no range.
-fn options_from(texts: OptionTexts<'_>) -> Option<RunOptions>
-    ensures { result ≡ options_in (texts_in texts.entry) }
+// The options that the texts say, with this order, or none where a text is no number or no range.
+fn options_from(texts: OptionTexts<'_>, order: TurnOrder) -> Option<RunOptions>
+    ensures { result ≡ options_in (texts_in texts.entry) order }
 {
     let turns0 = number_or(texts.turns0, 100_000)?;
     let turns1 = number_or(texts.turns1, 100_000)?;
@@ -83,7 +84,6 @@ fn options_from(texts: OptionTexts<'_>) -> Option<RunOptions>
         hi: 0x40000000,
     };
     let stack1 = range_or(texts.stack1, above)?;
-    let seed = given_number(texts.seed)?;
     Some(RunOptions {
         turns0,
         turns1,
@@ -91,7 +91,7 @@ fn options_from(texts: OptionTexts<'_>) -> Option<RunOptions>
         vecbase,
         stack0,
         stack1,
-        seed,
+        order,
         trace: texts.trace,
         events: texts.events,
         race: texts.race,
@@ -101,11 +101,12 @@ fn options_from(texts: OptionTexts<'_>) -> Option<RunOptions>
 }
 
 // The options that the texts say, or the first rule of usage that they break.
-fn judged_texts(texts: OptionTexts<'_>) -> Result<RunOptions, Refusal>
-    ensures means { result ≡ judged (options_in (texts_in texts.entry)) }
+fn judged_texts(alloc: Global, texts: OptionTexts<'_>) -> Result<RunOptions, Refusal>
+    ensures means { Means result (judged_texts (texts_in texts.entry)) }
     ensures valid { IfOk result AreValid }
 {
-    match options_from(texts) {
+    let order = order_in(alloc, texts.seed, texts.order)?;
+    match options_from(texts, order) {
         Some(options) => within_limits(options),
         None => Err(Refusal::Usage(4)),
     }
@@ -114,24 +115,26 @@ fn judged_texts(texts: OptionTexts<'_>) -> Result<RunOptions, Refusal>
 /// The options that the words of `run` say, the first of which stands for the command.
 ///
 /// The words are read as a simple command of `clap` with the options `--turns0 N`, `--turns1 N`, `--entry1 N`,
-/// `--vecbase N`, `--stack0 LO:HI`, `--stack1 LO:HI` and `--seed N` and the flags `--events`, `--race`, `--profile`, `--uses` and
-/// `--trace`. N, LO and HI are decimal digits, or `0x` and one to eight hexadecimal digits, below 2^32. `Usage` has the
-/// first rule that the words break: 3 they do not match, 4 a text is no number or range, 5 a number of turns is above
-/// 4,000,000, 6 `entry1` is in no executable region, 7 `vecbase` is no multiple of 1024, 8 a stack is no range of at
-/// least 256 bytes in the internal data memory with ends at multiples of 16. `Memory` says only that memory ran out.
+/// `--vecbase N`, `--stack0 LO:HI`, `--stack1 LO:HI`, `--seed N` and `--order LIST` and the flags `--events`, `--race`,
+/// `--profile`, `--uses` and `--trace`. N, LO and HI are decimal digits, or `0x` and one to eight hexadecimal digits,
+/// below 2^32; LIST is `C*N,C*N,..` of at most 65,536 bytes, where C is a number of value 0 or 1. `Usage` has the first
+/// rule that the words break: 3 they do not match, or `--seed` and `--order` stand together, 4 a text is no number, range
+/// or order, 5 a number of turns is above 4,000,000, or an order asks for more than 8,000,000, 6 `entry1` is in no
+/// executable region, 7 `vecbase` is no multiple of 1024, 8 a stack is no range of at least 256 bytes in the internal
+/// data memory with ends at multiples of 16. `Memory` says only that memory ran out.
 pub fn run_options(alloc: Global, words: &[String]) -> Result<RunOptions, Refusal>
     ensures means { Means result (run_options_of (map string_bytes words.now)) }
     ensures valid { IfOk result AreValid }
 {
     let matches = run_matches(alloc, words)?;
-    judged_texts(texts_from(&matches))
+    judged_texts(alloc, texts_from(&matches))
 }
 
-/// The same of `record`, which has none of the four flags.
+/// The same of `record`, which has none of the five flags.
 pub fn record_options(alloc: Global, words: &[String]) -> Result<RunOptions, Refusal>
     ensures means { Means result (record_options_of (map string_bytes words.now)) }
     ensures valid { IfOk result AreValid }
 {
     let matches = record_matches(alloc, words)?;
-    judged_texts(texts_from(&matches))
+    judged_texts(alloc, texts_from(&matches))
 }

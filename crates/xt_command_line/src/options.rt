@@ -3,6 +3,7 @@ ghost use Rattle.std.specs.Prelude.{◌≡◌, IfOk};
 ghost use Rattle.xt_command_line.specs.Options.{AreValid, checked, is_entry, is_stack, with_entry};
 
 use crate::command::Refusal;
+use crate::turn_orders::{TurnOrder, is_short};
 use xt_map::can_execute_at;
 use xt_trace::{Options, Stack};
 
@@ -10,7 +11,7 @@ use xt_trace::{Options, Stack};
 pub const MOST_TURNS: u32 = 4_000_000;
 
 /// The options of `run` and `record`.
-#[derive(Clone, Copy, Debug, PartialEq, Eq)]
+#[derive(Debug, Drop)]
 pub struct RunOptions {
     /// The turns of core 0 (`--turns0`).
     pub turns0: u32,
@@ -24,8 +25,8 @@ pub struct RunOptions {
     pub stack0: Stack,
     /// The stack of core 1 (`--stack1`).
     pub stack1: Stack,
-    /// What the order of the turns of both cores is made of (`--seed`); none stands for two threads.
-    pub seed: Option<u32>,
+    /// In which order both cores make their turns (`--seed`, `--order`).
+    pub order: TurnOrder,
     /// Whether the lines of the trace are wanted (`--trace`, of `run` alone).
     pub trace: bool,
     /// Whether the text of `events` is wanted (`--events`, of `run` alone).
@@ -77,14 +78,14 @@ fn is_good_stack(stack: Stack) -> bool
 
 /// The options, where they keep the rules of usage 5 to 8, or the first that they break.
 ///
-/// Rule 5: a number of turns is at most 4,000,000. Rule 6: the address where core 1 begins, if it is given, lies in an
+/// Rule 5: a number of turns is at most 4,000,000, and a listed order asks for at most 8,000,000. Rule 6: the address where core 1 begins, if it is given, lies in an
 /// executable region. Rule 7: VECBASE is a multiple of 1024. Rule 8: a stack is a range of at least 256 bytes in the
 /// internal data memory whose ends are multiples of 16.
 pub fn within_limits(options: RunOptions) -> Result<RunOptions, Refusal>
     ensures means { result ≡ checked options }
     ensures valid { IfOk result AreValid }
 {
-    if options.turns0 > MOST_TURNS || options.turns1 > MOST_TURNS {
+    if options.turns0 > MOST_TURNS || options.turns1 > MOST_TURNS || !is_short(&options.order) {
         return Err(Refusal::Usage(5));
     }
     if !is_good_entry(options.entry1) {

@@ -3,12 +3,13 @@ ghost use Rattle.xt_command_line.specs.Answers.{Means};
 ghost use Rattle.xt_command_line.specs.Meaning.{HasValidOptions, MayWantMemory, check_meaning_of, dis_meaning_of, gen_meaning_of, meaning_of, named, profile_meaning_of, record_meaning_of, run_meaning_of, trace_meaning_of, uses_meaning_of};
 ghost use Rattle.xt_command_line.specs.declared.command.Refusal.TheVariants.{Memory};
 
-use crate::arguments::{check_vecbase, generator_number, trace_span, uses_rigor};
+use crate::arguments::{check_vecbase, generator_number, uses_rigor};
 use crate::command::{Command, Name, Refusal};
 use crate::depths::profile_depth;
 use crate::listings::listing;
 use crate::option_words::{record_options, run_options};
 use crate::simple::without_options_meaning;
+use crate::turns::trace_turns;
 use std::alloc::Global;
 
 #[tactic(auto, unfolding(crate::specs::Meaning::named))]
@@ -80,13 +81,13 @@ fn check_meaning(alloc: Global, words: &[String]) -> Result<Command, Refusal>
     }
 }
 
-// The command `trace` with the positions that its words say.
+// The command `trace` with the turns that its words say.
 fn trace_meaning(alloc: Global, words: &[String]) -> Result<Command, Refusal>
     ensures means { Means result (trace_meaning_of (map string_bytes words.now)) }
     ensures valid { IfOk result HasValidOptions }
 {
-    match trace_span(alloc, words) {
-        Ok(span) => Ok(Command::Trace(span)),
+    match trace_turns(alloc, words) {
+        Ok(turns) => Ok(Command::Trace(turns)),
         Err(refusal) => Err(refusal),
     }
 }
@@ -133,7 +134,7 @@ fn gen_meaning(alloc: Global, words: &[String]) -> Result<Command, Refusal>
 /// - `check` has the option that `check_vecbase` says, with the rules of usage 3, 4 and 7.
 /// - `run` has the options that `run_options` says, with the rules of usage 3 to 8, and `record` those of
 ///   `record_options`, with the same.
-/// - `trace` has the positions that `trace_span` says, with the rules of usage 3 and 4.
+/// - `trace` has the turns that `trace_turns` says, with the rules of usage 3 and 4.
 /// - `profile` has the depth that `profile_depth` says, with the rules of usage 3 and 4.
 /// - `uses` has the rigor that `uses_rigor` says, with rule 3.
 /// - `gen` has the number that `generator_number` says, with the same.

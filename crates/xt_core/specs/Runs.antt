@@ -1,4 +1,8 @@
 -- Runs of an image ('profile').
+--
+-- Note: `StandsFor` compares a trace with the records over the replies in the run's own history; no
+-- record is stored. `calls0` and `calls1` say that each access is in the history once and in
+-- program order.
 use Rattle.std.specs.Prelude.{◌≡◌, ℕ, zero, suc, ◌-◌, List, [], ◌∷◌, length}
 use Rattle.xt_map.specs.declared.contents.MemoryContents.{MemoryContents}
 use Rattle.xt_map.specs.Memory.{constant_byte, opening_memory}

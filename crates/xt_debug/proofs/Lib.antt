@@ -7,3 +7,4 @@ pub mod Sought
 pub mod Stores
 pub mod Ranges
 pub mod Lines
+pub mod Knowing

@@ -1,4 +1,6 @@
 -- The grammar of scripts, and which script a text is ('profile'). A text is the list of its bytes.
+--
+-- Note: an empty text is the empty script, but an empty command between two semicolons is none.
 use Rattle.std.specs.Prelude.{ℕ, ◌<◌, ◌≤◌, ◌==◌, nat_lt, nat_le, if◌then◌else◌, Option, Some, None}
 use Rattle.std.specs.Prelude.{List, [], ◌∷◌, length, filter, codes}
 use Rattle.std.specs.List.{list_all, slice_split}
@@ -32,6 +34,10 @@ with_both make (Some a) (Some b) = Some (make a b)
 with_both make (Some a) None = None
 with_both make None second = None
 
+-- a command without an operand
+unfoldable pub command_of_none : List ℕ → Option Command
+command_of_none name = if bytes_eq name (codes "end") then Some command.End else None
+
 -- a command with one operand
 unfoldable pub command_of_one : List ℕ → List ℕ → Option Command
 command_of_one name word =
@@ -43,6 +49,7 @@ command_of_one name word =
     else if bytes_eq name (codes "ring") then option_map command.Ring (core_of word)
     else if bytes_eq name (codes "special") then option_map command.Special (core_of word)
     else if bytes_eq name (codes "frames") then option_map command.Frames (core_of word)
+    else if bytes_eq name (codes "calls") then option_map command.Calls (core_of word)
     else None
 
 -- a command with two operands
@@ -59,7 +66,7 @@ command_of_two name first second =
 
 abbrev pub command_of_words : List (List ℕ) → Option Command
 command_of_words [] = None
-command_of_words (name ∷ []) = None
+command_of_words (name ∷ []) = command_of_none name
 command_of_words (name ∷ word ∷ []) = command_of_one name word
 command_of_words (name ∷ first ∷ second ∷ []) = command_of_two name first second
 command_of_words (name ∷ first ∷ second ∷ third ∷ more) = None
@@ -97,8 +104,10 @@ IsInRange (command.Regs c) = c < 2
 IsInRange (command.Ring c) = c < 2
 IsInRange (command.Special c) = c < 2
 IsInRange (command.Frames c) = c < 2
+IsInRange (command.Calls c) = c < 2
 IsInRange (command.Mem addr n) = n ≤ most_shown
 IsInRange (command.Words addr n) = n ≤ most_shown
+IsInRange command.End = Unit {0}
 IsInRange (command.Next n) = Unit {0}
 IsInRange (command.Back n) = Unit {0}
 IsInRange (command.Watch addr) = Unit {0}

@@ -1,7 +1,9 @@
+-- Profile: scripts and what they print; DEBUGGING.md shows each command.
 pub mod Grammar
 pub mod Answers
 pub mod Printed
 pub mod Searches
 pub mod Depths
+pub mod Calls
 pub mod Scripts
 pub mod Runs

@@ -1,4 +1,9 @@
 -- What the commands of scripts print ('profile').
+--
+-- Note: `special` shows what RSR reads, so INTERRUPT and PRID are there and INTSET and INTCLEAR,
+-- which only WSR reaches, are not; THREADPTR, the one user register, stands last.
+-- Note: `words` shows a word by its four bytes, so one at the edge of a region has `--` for those
+-- that are not there.
 use Rattle.std.specs.Prelude.{ℕ, zero, suc, ◌+◌, ◌%◌, ◌^◌, ◌==◌, if◌then◌else◌, Option, Some, None}
 use Rattle.std.specs.Prelude.{List, [], ◌++◌, codes, filter}
 use Rattle.std.specs.List.{flat_map, range_with_len}

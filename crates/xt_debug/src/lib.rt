@@ -1,6 +1,7 @@
 //! Scripts that walk a run in both directions, and what they print.
 #![tactic(auto)]
 
+mod calls;
 mod depths;
 mod memory;
 mod parsing;
@@ -13,5 +14,5 @@ mod special;
 mod turns;
 
 pub use parsing::parse_script;
-pub use running::run_script;
+pub use running::{Printed, run_script};
 pub use script::{Command, Script, ScriptFault};

@@ -1,7 +1,7 @@
 //! Which script a text is.
 ghost use Rattle.std.specs.Prelude.{◌≡◌, ◌<◌, ◌≤◌, ◌==◌, All, IfOk, IfSome, map};
 ghost use Rattle.std.specs.List.{list_all, slice_split};
-ghost use Rattle.xt_debug.specs.Grammar.{command_of_one, command_of_two, command_of_words, commands_of, core_of, count_of, script_of, words_of, IsInRange};
+ghost use Rattle.xt_debug.specs.Grammar.{command_of_none, command_of_one, command_of_two, command_of_words, commands_of, core_of, count_of, script_of, words_of, IsInRange};
 ghost use Rattle.xt_debug.specs.Answers.{Reads};
 
 use crate::script::{Command, Script, ScriptFault};
@@ -31,6 +31,17 @@ fn count_in(word: &str) -> Option<u32>
     (count <= 64).then_some(count)
 }
 
+#[tactic(auto, unfolding(crate::specs::Grammar::command_of_none))]
+fn command_alone(name: &str) -> Option<Command>
+    ensures value { result ≡ command_of_none name.now }
+    ensures range { IfSome result IsInRange }
+{
+    match name {
+        "end" => Some(Command::End),
+        _ => None,
+    }
+}
+
 #[tactic(auto, unfolding(crate::specs::Grammar::command_of_one))]
 fn command_with_one(name: &str, word: &str) -> Option<Command>
     ensures value { result ≡ command_of_one name.now word.now }
@@ -45,6 +56,7 @@ fn command_with_one(name: &str, word: &str) -> Option<Command>
         "ring" => Some(Command::Ring(core_in(word)?)),
         "special" => Some(Command::Special(core_in(word)?)),
         "frames" => Some(Command::Frames(core_in(word)?)),
+        "calls" => Some(Command::Calls(core_in(word)?)),
         _ => None,
     }
 }
@@ -68,6 +80,7 @@ fn command_in_words(words: &[&str]) -> Option<Command>
     ensures range { IfSome result IsInRange }
 {
     match words {
+        [name] => command_alone(name),
         [name, word] => command_with_one(name, word),
         [name, first, second] => command_with_two(name, first, second),
         _ => None,
@@ -124,10 +137,11 @@ fn is_blank(text: &[u8]) -> bool
 /// ```text
 /// go C N      next N      back N      break C ADDR      watch ADDR      trace N
 /// regs C      ring C      special C   mem ADDR N        words ADDR N    frames C
+/// calls C     end
 /// ```
 ///
 /// Each number is decimal digits, or `0x` and one to eight hexadecimal digits, below 2^32; C is 0 or 1, and the N of `mem`
-/// and of `words` at most 64. A text of no bytes but spaces is the script with no command; otherwise a command without words is no
+/// and of `words` at most 64. A text of no bytes but spaces is the script with no command; otherwise a part without words is no
 /// command. `Bad` says that the text is no script, `Memory` says only that memory ran out.
 #[tactic(auto, unfolding(crate::specs::Grammar::script_of))]
 pub fn parse_script(alloc: Global, text: &str) -> Result<Script, ScriptFault>

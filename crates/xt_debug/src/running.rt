@@ -1,11 +1,13 @@
 //! Running the commands of a script.
-ghost use Rattle.std.specs.Prelude.{◌≡◌, ◌<◌, ◌+◌, ◌++◌, [], false, All, MatchResult, if◌then◌else◌};
+ghost use Rattle.std.specs.Prelude.{◌≡◌, ◌<◌, ◌+◌, ◌++◌, [], false, not, All, MatchResult, Some, if◌then◌else◌};
 ghost use Rattle.xt_events.specs.Lines.{turns_text};
 ghost use Rattle.xt_debug.specs.Grammar.{IsInRange};
+ghost use Rattle.xt_debug.specs.Printed.{none_found, past_end};
 ghost use Rattle.xt_debug.specs.Runs.{Arrives, Ran, RanScript};
-ghost use Rattle.xt_debug.specs.Scripts.{outcome, position_back, shows};
-ghost use Rattle.xt_debug.specs.Searches.{step_position, within};
+ghost use Rattle.xt_debug.specs.Scripts.{Outcome, outcome, position_back, shows, stops};
+ghost use Rattle.xt_debug.specs.Searches.{end_of, step_position, within};
 
+use crate::calls::push_calls;
 use crate::depths::depth_at;
 use crate::memory::{push_mem, push_words};
 use crate::printing::{push_frames, push_regs};
@@ -15,6 +17,7 @@ use crate::searching::{end_of, find_break, find_store};
 use crate::special::push_special_registers;
 use crate::turns::push_turns;
 use std::alloc::{AllocError, Global};
+use xt_command_line::Beyond;
 use xt_map::Text;
 use xt_replay::Replay;
 
@@ -53,63 +56,126 @@ fn push_refusal(out: &mut Vec<u8>, found: bool, refusal: &str) -> Result<(), All
     }
 }
 
+// Appends that a command found no position, where it found none. It did not lead beyond the run.
+fn push_none(out: &mut Vec<u8>, found: bool) -> Result<bool, AllocError>
+    ensures { MatchResult result (λ beyond. (out.new.items ≡ out.old.items ++ (if found then [] else none_found)) × (beyond ≡ false)) (λ _. found ≡ false) }
+{
+    push_refusal(out, found, "none\n")?;
+    Ok(false)
+}
+
+// Appends that a command led beyond the run, where it did not move. The answer is whether it did so.
+fn push_past_end(out: &mut Vec<u8>, moved: bool) -> Result<bool, AllocError>
+    ensures { MatchResult result (λ beyond. (out.new.items ≡ out.old.items ++ (if moved then [] else past_end)) × (beyond ≡ not moved)) (λ _. moved ≡ false) }
+{
+    push_refusal(out, moved, "past end\n")?;
+    Ok(!moved)
+}
+
+// Moves to the end of the run.
+fn go_to_end(replay: &mut Replay) -> bool
+    ensures { Arrives (Some (end_of replay.old.run)) replay.old result replay.new }
+{
+    replay.seek(end_of(replay)).is_ok()
+}
+
 // Goes so many positions on, and appends the lines of the turns on the way, where the run has that
-// position; otherwise appends why not.
+// position; otherwise appends why not. The answer is whether that leads beyond the run.
 fn trace(
     alloc: Global,
     replay: &mut Replay,
     count: u32,
     out: &mut Vec<u8>,
-) -> Result<(), AllocError>
+) -> Result<bool, AllocError>
     ensures { let p = replay.old.position in
         Ran (shows (within replay.old.run (p + count)) (turns_text replay.old.image replay.old.run p (p + count)) p) replay.old out.old.items result replay.new out.new.items }
 {
     let position = replay.position();
     if end_of(replay) - position < count {
-        return out.extend_from_slice(b"past end\n");
+        return push_past_end(out, false);
     }
     let to = position + count;
     push_turns(alloc, out, replay.image(), replay.run(), position, to)?;
     let _ = replay.seek(to);
-    Ok(())
+    Ok(false)
 }
 
-// One command, whose text is appended.
+// One command, whose text is appended. The answer is whether it led beyond the run.
 fn run_command(
     alloc: Global,
     replay: &mut Replay,
     command: Command,
     out: &mut Vec<u8>,
-) -> Result<(), AllocError>
+) -> Result<bool, AllocError>
     requires { IsInRange command }
     ensures { Ran (outcome replay.old.image replay.old.run command replay.old.position) replay.old out.old.items result replay.new out.new.items }
 {
     match command {
-        Command::Go(core, step) => push_refusal(out, go(replay, core, step), "past end\n"),
-        Command::Next(count) => push_refusal(out, step_on(replay, count), "past end\n"),
-        Command::Back(count) => push_refusal(out, step_back(replay, count), "past end\n"),
-        Command::Break(core, pc) => push_refusal(out, find_break(replay, core, pc), "none\n"),
-        Command::Watch(addr) => push_refusal(out, find_store(replay, addr), "none\n"),
+        Command::Go(core, step) => push_past_end(out, go(replay, core, step)),
+        Command::End => push_past_end(out, go_to_end(replay)),
+        Command::Next(count) => push_past_end(out, step_on(replay, count)),
+        Command::Back(count) => push_past_end(out, step_back(replay, count)),
+        Command::Break(core, pc) => push_none(out, find_break(replay, core, pc)),
+        Command::Watch(addr) => push_none(out, find_store(replay, addr)),
         Command::Trace(count) => trace(alloc, replay, count, out),
         Command::Regs(core) => {
             let state = replay.state();
-            push_regs(alloc, out, core, state.step(core), state.regs(core))
+            push_regs(alloc, out, core, state.step(core), state.regs(core))?;
+            Ok(false)
         }
-        Command::Ring(core) => push_ring(alloc, out, core, replay.state().regs(core)),
+        Command::Ring(core) => {
+            push_ring(alloc, out, core, replay.state().regs(core))?;
+            Ok(false)
+        }
         Command::Special(core) => {
-            push_special_registers(alloc, out, core, replay.state().regs(core))
+            push_special_registers(alloc, out, core, replay.state().regs(core))?;
+            Ok(false)
         }
-        Command::Mem(addr, count) => push_mem(alloc, out, &replay.state(), addr, count),
-        Command::Words(addr, count) => push_words(alloc, out, &replay.state(), addr, count),
-        Command::Frames(core) => push_frames(alloc, out, core, depth_at(alloc, replay, core)?),
+        Command::Mem(addr, count) => {
+            push_mem(alloc, out, &replay.state(), addr, count)?;
+            Ok(false)
+        }
+        Command::Words(addr, count) => {
+            push_words(alloc, out, &replay.state(), addr, count)?;
+            Ok(false)
+        }
+        Command::Frames(core) => {
+            push_frames(alloc, out, core, depth_at(alloc, replay, core)?)?;
+            Ok(false)
+        }
+        Command::Calls(core) => {
+            push_calls(alloc, out, core, replay)?;
+            Ok(false)
+        }
+    }
+}
+
+/// What a script printed.
+#[derive(Drop)]
+pub struct Printed {
+    /// Its text.
+    pub text: Text,
+    /// The script led beyond the run, and ended there.
+    pub beyond: bool,
+}
+
+// A script ends at a command that led beyond the run, or not.
+fn stops(beyond: Beyond, led_beyond: bool) -> bool
+    ensures { (o : Outcome) → led_beyond ≡ o.beyond → result ≡ stops beyond o }
+{
+    match beyond {
+        Beyond::Ends => led_beyond,
+        Beyond::GoesOn => false,
     }
 }
 
 /// Runs the commands of a script, one after another, from where the replay stands, and answers what
-/// they print.
+/// they print. A command that prints `past end` leads beyond the run; the script ends there, or goes on, as is
+/// asked for.
 ///
 /// - `go C N` moves directly before step N of core C, as `Replay::goto`; `next N` and `back N` move
-///   by N positions. Each prints `past end`, and moves nowhere, where the run has no such position.
+///   by N positions. Each prints `past end`, and moves nowhere, where the run has no such position. `end`
+///   moves to the position after the last step.
 /// - `break C ADDR` moves to the first later position where core C is next, with this program
 ///   counter; `watch ADDR` directly after the first step from here on that stores into the word at
 ///   this address, in a memory region. Each prints `none`, and moves nowhere, where there is none.
@@ -128,6 +194,12 @@ fn run_command(
 /// - `frames C` prints `frames C depth D`, the number of frames of callers after the judged steps
 ///   before the position, or `frames C none` where the window handlers do not pass their check or a
 ///   breach of the stack discipline comes before it.
+/// - `calls C` prints `calls C`, and for each frame from the newest to the opening frame a line
+///   `J pc ADDR sp ADDR size N call M`, where J is the number of its callers: where it goes on, which is the
+///   program counter for the newest, and for another the address to which the frame that it called
+///   returns (`--------` if that frame's a0 is not known); its stack pointer; and the bytes from there
+///   up to its caller's, or up to the end of the stack; and 4, 8 or 12 for CALL4, CALL8 or CALL12, by
+///   which it called, without ` call M` for the newest. Or `calls C none`, where `frames C` prints that.
 ///
 /// Each line ends with a newline. Addresses, words and registers are eight upper-case hexadecimal
 /// digits, WINDOWSTART four, a byte two; other numbers are decimal. The only error is running out of
@@ -135,13 +207,27 @@ fn run_command(
 ///
 /// Condition: each core is 0 or 1, and each N of `mem` and `words` at most 64, as in every script
 /// that was parsed.
-pub fn run_script(alloc: Global, replay: &mut Replay, script: &Script) -> Result<Text, AllocError>
+pub fn run_script(
+    alloc: Global,
+    replay: &mut Replay,
+    script: &Script,
+    beyond: Beyond,
+) -> Result<Printed, AllocError>
     requires { All IsInRange script.now }
-    ensures { RanScript script.now replay.old result replay.new }
+    ensures { RanScript beyond script.now replay.old result replay.new }
 {
     let mut out = Vec::new(alloc);
     for command in script.as_slice() {
-        run_command(alloc, replay, *command, &mut out)?;
+        let led_beyond = run_command(alloc, replay, *command, &mut out)?;
+        if stops(beyond, led_beyond) {
+            return Ok(Printed {
+                text: Text::new(out),
+                beyond: true,
+            });
+        }
     }
-    Ok(Text::new(out))
+    Ok(Printed {
+        text: Text::new(out),
+        beyond: false,
+    })
 }

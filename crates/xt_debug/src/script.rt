@@ -10,6 +10,8 @@ use thiserror::Error;
 pub enum Command {
     /// `go C N`: to the position directly before this core's step of this number.
     Go(u8, u32),
+    /// `end`: to the position after the run's last step.
+    End,
     /// `next N`: this many positions on.
     Next(u32),
     /// `back N`: this many positions back.
@@ -32,6 +34,8 @@ pub enum Command {
     Words(u32, u32),
     /// `frames C`: prints how many frames of callers this core has.
     Frames(u8),
+    /// `calls C`: prints the frames of this core.
+    Calls(u8),
 }
 
 /// A list of commands. Contracts see the list.

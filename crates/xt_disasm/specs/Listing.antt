@@ -1,4 +1,7 @@
 -- The text of an instruction, and the listing of an image ('profile').
+--
+-- Profile: a segment in an executable region is listed by a walk from its first byte; where the
+-- bytes spell nothing or are too few, one byte is shown and the walk goes on after it.
 use Rattle.std.specs.Prelude.{ℕ, zero, suc, ◌+◌, ◌%◌, ◌^◌, Bool, ◌&&◌, nat_le, if◌then◌else◌}
 use Rattle.std.specs.Prelude.{Option, Some, None, List, [], ◌∷◌, ◌++◌, length, map, take, drop}
 use Rattle.std.specs.Prelude.{slice_index_or, codes}

@@ -1,5 +1,9 @@
 -- States laws that are proved; nothing that a reader must believe.
 -- The text of an instruction is read back.
+--
+-- Note: `IsReadBack` takes each printed operand as the kind that the assembler reads there: a
+-- Boolean register is none in place of an address register. It holds at addresses at least 2^20
+-- bytes from both ends of the address space, where no target wraps.
 use Rattle.std.specs.Prelude.{◌≡◌, ℕ, ◌+◌, ◌^◌, ◌≤◌, true, pos, List, [], ◌∷◌, Option, Some, None}
 use Rattle.std.specs.Prelude.{Result, Ok}
 use Rattle.std.specs.Option.{option_and_then, option_map}

@@ -10,6 +10,6 @@ pub mod Orders
 pub mod Lengths
 pub mod Answered
 pub mod Openings
-pub mod Counts
+pub mod Reached
 pub mod Endings
 pub mod Taken

@@ -1,9 +1,13 @@
+-- Profile: the walk of the judge over an image, a run and two lists of records, in the order of the
+-- run's schedule. `Bytes`, `Sides` and `Walks` say how the code keeps marks of bytes, and carry its
+-- proof.
 pub mod Bytes
 pub mod Sides
 pub mod Walks
+pub mod Places
 pub mod Ended
 pub mod Schedules
 pub mod Ordered
 pub mod Verdicts
-pub mod Depths
+pub mod Before
 pub mod Modes

@@ -1,4 +1,7 @@
 -- What is judged of a run of an image ('profile').
+--
+-- Note: the verdict is Unchecked where one handler is not Yes; otherwise it is given on shared
+-- stacks too.
 use Rattle.std.specs.Prelude.{Bool, true, false, ◌&&◌, List}
 use Rattle.xt_map.specs.Memory.{constant_byte}
 use Rattle.xt_image.specs.declared.image.Image.{Image}

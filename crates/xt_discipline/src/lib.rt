@@ -2,8 +2,8 @@
 #![tactic(auto)]
 
 mod accesses;
+mod before;
 mod bytes;
-mod callers;
 mod judging;
 mod order;
 mod side;
@@ -12,8 +12,8 @@ mod stepping;
 mod walk;
 
 pub use accesses::saves;
+pub use before::walk_before;
 pub use bytes::{Change, Held, change_bytes, held_at};
-pub use callers::depths;
 pub use judging::{are_yes, handlers_of, judge};
 pub use order::{Order, Schedule, schedule_of};
 pub use side::{Areas, Mode, change_areas, closes, is_window, returns};

@@ -12,6 +12,7 @@ ghost use Rattle.xt_frames.specs.Verdict.{Known, judgement, verdict_on};
 ghost use Rattle.xt_frames.specs.Walked.{opened, stack_of};
 ghost use Rattle.xt_discipline.specs.Bytes.{AreOpened, IsEnd, KnowsOf, held_at, nothing};
 ghost use Rattle.xt_discipline.specs.Modes.{step_mode};
+ghost use Rattle.xt_discipline.specs.Places.{frames_in};
 ghost use Rattle.xt_discipline.specs.Schedules.{HasSchedule, schedule_in};
 ghost use Rattle.xt_discipline.specs.Sides.{IsSide, live_in};
 ghost use Rattle.xt_discipline.specs.Ended.{HasEnded, IsFirst, IsTaken};
@@ -141,6 +142,18 @@ impl<'a> Walk<'a> {
         ensures { result ≡ (length self.now.side0.frames.state.frames, length self.now.side1.frames.state.frames) }
     {
         (self.side0.frames.depth(), self.side1.frames.depth())
+    }
+
+    /// The frames of a core.
+    pub fn frames(&self, core: u8) -> &Frames
+        requires { core < 2 }
+        ensures { result.now ≡ frames_in core self.now }
+    {
+        if core == 0 {
+            &self.side0.frames
+        } else {
+            &self.side1.frames
+        }
     }
 
     /// What the next record of a core is, where it is of this kind.

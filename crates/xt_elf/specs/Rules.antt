@@ -1,6 +1,9 @@
 -- The rules of an ELF executable, in their order, each by itself: what is wrong by this rule, or
 -- nothing. Which files are taken, the order of the rules and the names of the faults are this
 -- project's own choice ('profile').
+--
+-- Profile: which files are taken, and the order of the rules. The physical address is not read,
+-- because no boot loader copies here.
 use Rattle.std.specs.Prelude.{ℕ, ◌+◌, ◌-◌, ◌*◌, ◌%◌, ◌++◌, Bool, ◌&&◌, ◌||◌, ◌==◌, not, nat_le}
 use Rattle.std.specs.Prelude.{nat_lt, min, max, List, [], ◌∷◌, length, take, slice_index, Option}
 use Rattle.std.specs.Prelude.{option_map, position}

@@ -18,10 +18,11 @@ use Rattle.xt_replay.specs.Shown.{ReplayState, shown_at, step_in}
 use Rattle.xt_replay.specs.Shown as shown
 use Rattle.xt_replay.specs.Stands.{Stand}
 use Rattle.xt_replay.proofs.Standing.{Step, Steps, bounds, next_step, schedule_long, steps0, steps1}
+use Rattle.xt_events.specs.declared.filter.Filter.{Filter}
 use Rattle.xt_events.specs.declared.told.Told.{Told}
 use Rattle.xt_events.specs.declared.turn_lines.TurnLines.TheInside.{Inside}
 use Rattle.xt_events.specs.Left.{IsAtPosition, IsNext, IsNextOf, records_left, state_of}
-use Rattle.xt_events.specs.Lines.{LinesState, line_at, lines_between, lines_from, lines_in, moved, told_at, told_text}
+use Rattle.xt_events.specs.Lines.{LinesState, line_at, filtered_between, lines_from, lines_in, moved, told_at, told_text}
 
 -- ---- the first of the records that are left
 
@@ -202,46 +203,46 @@ given1 t core given h n one first =
 
 -- ---- the lines that are left
 
-pub lines_long : (image : Image) (r : Run) (p n : ℕ) → length (lines_from image r p n) ≡ n
-lines_long image r p zero = refl
-lines_long image r p (suc n) = ap suc (lines_long image r (suc p) n)
+pub lines_long : (f : Filter) (image : Image) (r : Run) (p n : ℕ) → length (lines_from f image r p n) ≡ n
+lines_long f image r p zero = refl
+lines_long f image r p (suc n) = ap suc (lines_long f image r (suc p) n)
 
 pub none_left : (s : LinesState) → s.end ≤ s.position → lines_in s ≡ []
-none_left s le = ap (lines_from s.image s.run s.position) (let e : s.end - s.position ≡ 0 = omega (arith, le) in e)
+none_left s le = ap (lines_from s.filter s.image s.run s.position) (let e : s.end - s.position ≡ 0 = omega (arith, le) in e)
 
-line_of_core : (image : Image) (r : Run) (p core : ℕ) (o : Option ℕ) → o ≡ Some core → o ≡ slice_get (schedule_in r) p
-    → line_at image r p ≡ told_text (code_of image) (told_at image r p core)
-line_of_core image r p core o is here =
-    ap (λ (x : Option ℕ). option_map_or (λ (c : ℕ). told_text (code_of image) (told_at image r p c)) x []) (sym here ∙ is)
+line_of_core : (f : Filter) (image : Image) (r : Run) (p core : ℕ) (o : Option ℕ) → o ≡ Some core → o ≡ slice_get (schedule_in r) p
+    → line_at f image r p ≡ told_text (code_of image) f (told_at image r p core)
+line_of_core f image r p core o is here =
+    ap (λ (x : Option ℕ). option_map_or (λ (c : ℕ). told_text (code_of image) f (told_at image r p c)) x []) (sym here ∙ is)
 
-pub some_left : (s : LinesState) (core : ℕ) (segments : List Segment) (told : Told) (text : List ℕ) → IsNext s core → segments ≡ s.image.segments → told ≡ told_at s.image s.run s.position core → text ≡ told_text (constant_byte segments) told → lines_in s ≡ text ∷ lines_in (moved s)
+pub some_left : (s : LinesState) (core : ℕ) (segments : List Segment) (told : Told) (text : List ℕ) → IsNext s core → segments ≡ s.image.segments → told ≡ told_at s.image s.run s.position core → text ≡ told_text (constant_byte segments) s.filter told → lines_in s ≡ text ∷ lines_in (moved s)
 some_left s core segments told text n code told_is text_is =
     let rest = s.end - (s.position + 1) in
     let more : s.end - s.position ≡ suc rest = omega (arith, n.more) in
     let next : suc s.position ≡ s.position + 1 = omega arith in
-    let line : line_at s.image s.run s.position ≡ text =
-    line_of_core s.image s.run s.position core (slice_get (schedule_in s.run) s.position) n.is refl
-    ∙ ap (told_text (code_of s.image)) (sym told_is)
-    ∙ ap (λ (segs : List Segment). told_text (constant_byte segs) told) (sym code)
+    let line : line_at s.filter s.image s.run s.position ≡ text =
+    line_of_core s.filter s.image s.run s.position core (slice_get (schedule_in s.run) s.position) n.is refl
+    ∙ ap (told_text (code_of s.image) s.filter) (sym told_is)
+    ∙ ap (λ (segs : List Segment). told_text (constant_byte segs) s.filter told) (sym code)
     ∙ sym text_is in
-    ap (lines_from s.image s.run s.position) more
-    ∙ ap (λ (l : List ℕ). l ∷ lines_from s.image s.run (suc s.position) rest) line
-    ∙ ap (λ (p : ℕ). text ∷ lines_from s.image s.run p rest) next
+    ap (lines_from s.filter s.image s.run s.position) more
+    ∙ ap (λ (l : List ℕ). l ∷ lines_from s.filter s.image s.run (suc s.position) rest) line
+    ∙ ap (λ (p : ℕ). text ∷ lines_from s.filter s.image s.run p rest) next
 
 -- from where the lines begin
-pub lines_start : (image : Image) (r : Run) (from to end start : ℕ) → end ≡ min to (length (schedule_in r)) → start ≡ min from end
-    → lines_from image r start (end - start) ≡ lines_between image r from to
-unfolding lines_between
-lines_start image r from to end start e s = elim (cases_Bool (nat_le from end)) [
+pub lines_start : (f : Filter) (image : Image) (r : Run) (from to end start : ℕ) → end ≡ min to (length (schedule_in r)) → start ≡ min from end
+    → lines_from f image r start (end - start) ≡ filtered_between f image r from to
+unfolding filtered_between
+lines_start f image r from to end start e s = elim (cases_Bool (nat_le from end)) [
   | inl is ↦
       let le : from ≤ end = grind (arith, nat_tests) in
       let same : start ≡ from = omega (arith, s, le) in
-      ap (λ (k : ℕ). lines_from image r k (end - k)) same ∙ ap (λ (n : ℕ). lines_from image r from (n - from)) e
+      ap (λ (k : ℕ). lines_from f image r k (end - k)) same ∙ ap (λ (n : ℕ). lines_from f image r from (n - from)) e
   | inr is ↦
       let lt : end < from = grind (arith, nat_tests) in
       let none : end - start ≡ 0 = omega (arith, s, lt) in
       let past : min to (length (schedule_in r)) - from ≡ 0 = omega (arith, e, lt) in
-      ap (lines_from image r start) none ∙ sym (ap (lines_from image r from) past)
+      ap (lines_from f image r start) none ∙ sym (ap (lines_from f image r from) past)
 ]
 
 -- ---- as the lines are made
@@ -260,13 +261,13 @@ start_there image r old new from to end start q h is e s found =
     let le : start ≤ length (schedule_in r) = omega (arith, e, s, (ends image r h).0) in
     sought old new start (length (schedule_in old.run)) q found (subst F (sym is) le)
 
-pub opened : (image : Image) (r : Run) (s : ReplayState) (code : List Segment) (xs0 xs ys0 ys : List StepRecord) (m n start end : ℕ) → IsRunOf image r
+pub opened : (f : Filter) (image : Image) (r : Run) (s : ReplayState) (code : List Segment) (xs0 xs ys0 ys : List StepRecord) (m n start end : ℕ) → IsRunOf image r
     → s ≡ record { image = image; run = r; position = start } → code ≡ image.segments
     → xs0 ≡ (records_of 0 image r).records → m ≡ step_in 0 (shown_at s.image s.run s.position) → xs ≡ drop m xs0
     → ys0 ≡ (records_of 1 image r).records → n ≡ step_in 1 (shown_at s.image s.run s.position) → ys ≡ drop n ys0
-    → end ≤ length (schedule_in r) → IsAtPosition (record { replay = s; code = code; records0 = xs; records1 = ys; end = end })
-opened image r s code xs0 xs ys0 ys m n start end h there code_is all0 made0_is rest0 all1 made1_is rest1 end_is =
-    let F : ReplayState → Type 0 = λ q. IsAtPosition (record { replay = q; code = code; records0 = xs; records1 = ys; end = end }) in
+    → end ≤ length (schedule_in r) → IsAtPosition (record { replay = s; code = code; records0 = xs; records1 = ys; filter = f; end = end })
+opened f image r s code xs0 xs ys0 ys m n start end h there code_is all0 made0_is rest0 all1 made1_is rest1 end_is =
+    let F : ReplayState → Type 0 = λ q. IsAtPosition (record { replay = q; code = code; records0 = xs; records1 = ys; filter = f; end = end }) in
     subst F (sym there) (record {
       run_is = h;
       code_is = code_is;

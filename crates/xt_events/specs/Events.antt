@@ -1,4 +1,8 @@
 -- What happened to a core: how often each kind of turn came, and when first ('profile').
+--
+-- Profile: a kind of turn is the words of the trace line for it, with their number: `exc 3` and
+-- `exc 9` are two kinds. Kinds stand in the order of their first turns, since the first cause is
+-- what a reader looks for.
 use Rattle.std.specs.Prelude.{ℕ, suc, Bool, true, false, ◌==◌, if◌then◌else◌, List, [], ◌∷◌, ◌++◌}
 use Rattle.std.specs.Prelude.{codes}
 use Rattle.std.specs.Fmt.{decimal}

@@ -14,6 +14,7 @@ abbrev pub state_of : Inside → LinesState
 state_of t = record {
   image = t.replay.image;
   run = t.replay.run;
+  filter = t.filter;
   position = t.replay.position;
   end = t.end;
 }

@@ -5,6 +5,7 @@
 mod counting;
 mod event;
 mod event_text;
+mod filter;
 mod laws;
 mod told;
 mod turn_line;
@@ -13,5 +14,6 @@ mod turn_lines;
 pub use counting::events_of;
 pub use event::{Event, Events};
 pub use event_text::events_text;
+pub use filter::Filter;
 pub use laws::positions_have_turns;
 pub use turn_lines::TurnLines;

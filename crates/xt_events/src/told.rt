@@ -8,7 +8,8 @@ pub struct Window {
     pub start: u16,
 }
 
-/// A turn of a core: its number, its record, and the windows before and after it.
+/// A turn of a core: its number, its record, the windows before and after it, and the program counter
+/// after it.
 #[derive(Clone, Copy)]
 pub struct Told {
     pub core: u8,
@@ -16,4 +17,5 @@ pub struct Told {
     pub turn: Option<StepRecord>,
     pub before: Window,
     pub after: Window,
+    pub next: u32,
 }

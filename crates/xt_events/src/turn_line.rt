@@ -2,8 +2,9 @@
 ghost use Rattle.std.specs.Prelude.{◌≡◌, ◌++◌, IfOk, OnOk, string_bytes};
 ghost use Rattle.xt_map.specs.Memory.{constant_byte};
 ghost use Rattle.xt_fetch.specs.Fetching.{fetched};
-ghost use Rattle.xt_events.specs.Lines.{bare_line, fetched_text, hex4, told_text, turn_text, window_text};
+ghost use Rattle.xt_events.specs.Lines.{bare_line, fetched_text, hex4, kept_text, told_text, turn_text, window_text};
 
+use crate::filter::{Filter, holds};
 use crate::told::{Told, Window};
 use std::alloc::{AllocError, Global};
 use xt_codec::{Fetch, instruction_at};
@@ -91,13 +92,36 @@ fn push_turn(
     Ok(())
 }
 
-/// The line of a turn. The only error is running out of memory.
-pub fn told_line(alloc: Global, code: &Constants, told: &Told) -> Result<Text, AllocError>
-    ensures { IfOk result (λ text. text ≡ told_text (constant_byte code.now) told.now) }
+// Appends the line of a turn with this record, if the filter holds of it.
+fn push_kept(
+    alloc: Global,
+    out: &mut Vec<u8>,
+    code: &Constants,
+    filter: Filter,
+    told: &Told,
+    r: &StepRecord,
+) -> Result<(), AllocError>
+    ensures { OnOk result (out.new.items ≡ out.old.items ++ kept_text (constant_byte code.now) filter told.now r.now) }
+{
+    if !holds(code, filter, told, r) {
+        return Ok(());
+    }
+    push_turn(alloc, out, code, told, r)
+}
+
+/// The line of a turn of which the filter holds, and nothing for another. The only error is running out of
+/// memory.
+pub fn told_line(
+    alloc: Global,
+    code: &Constants,
+    filter: Filter,
+    told: &Told,
+) -> Result<Text, AllocError>
+    ensures { IfOk result (λ text. text ≡ told_text (constant_byte code.now) filter told.now) }
 {
     let mut out = Vec::new(alloc);
     if let Some(r) = told.turn {
-        push_turn(alloc, &mut out, code, told, &r)?;
+        push_kept(alloc, &mut out, code, filter, told, &r)?;
     }
     Ok(Text::new(out))
 }

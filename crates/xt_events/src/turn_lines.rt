@@ -1,6 +1,7 @@
 //! The turns of a run as lines, in the order of its schedule.
 ghost use Rattle.std.specs.Prelude.{◌≡◌, drop};
 
+use crate::filter::Filter;
 use crate::told::{Told, Window};
 use crate::turn_line::told_line;
 use std::alloc::{AllocError, Global};
@@ -14,14 +15,16 @@ use xt_trace::{Records, Run, StepRecord};
 use xt_window::{WindowFile, Windows};
 
 /// The lines of the turns of a run from a position of its schedule on to before another, which are given
-/// one by one. Contracts see the image, the run, the position of the next line and where the lines end;
-/// `lines_in` are those that are left.
+/// one by one. Contracts see the image, the run, the filter, the position of the next line and where the
+/// lines end; `lines_in` are those that are left. A turn of which the filter does not hold has an empty
+/// line.
 #[derive(Drop)]
 pub struct TurnLines<'a> {
     replay: Replay<'a>,
     code: Constants<'a>,
     records0: Cursor<'a>,
     records1: Cursor<'a>,
+    filter: Filter,
     end: u32,
 }
 
@@ -53,14 +56,11 @@ impl<'a> TurnLines<'a> {
     ghost use Rattle.xt_core.specs.Runs.{IsRunOf, records_of};
     ghost use Rattle.xt_replay.specs.Shown.{shown_at, state_in, step_in};
     ghost use Rattle.xt_events.specs.Left.{IsNext, IsNextOf};
-    ghost use Rattle.xt_events.specs.Lines.{Gives, lines_between, lines_in, moved, told_at, window_of};
+    ghost use Rattle.xt_events.specs.Lines.{Gives, filtered_between, lines_between, lines_in, moved, told_at, window_of};
 
-    /// The lines from position `from` on to before position `to`; after the last position of the schedule
-    /// there are none. The only error is running out of memory; all memory but that of the lines is taken
-    /// here.
+    /// The lines of all turns from position `from` on to before position `to`.
     ///
-    /// Conditions: the run is the image's. The image's segments lie in one region each and share no byte,
-    /// as those of every image that was read.
+    /// Conditions: as of `filtered`.
     pub fn make(
         alloc: Global,
         image: &'a Image,
@@ -71,6 +71,27 @@ impl<'a> TurnLines<'a> {
         requires run { IsRunOf image.now run.now }
         requires placed { IsPlaced image.now.segments }
         ensures { IfOk result (λ lines. lines_in lines ≡ lines_between image.now run.now from to) }
+    {
+        TurnLines::filtered(alloc, image, run, Filter::everything(), from, to)
+    }
+
+    /// The lines of the turns of which the filter holds, from position `from` on to before position `to`;
+    /// after the last position of the schedule there are none. The only error is running out of memory; all
+    /// memory but that of the lines is taken here.
+    ///
+    /// Conditions: the run is the image's. The image's segments lie in one region each and share no byte,
+    /// as those of every image that was read.
+    pub fn filtered(
+        alloc: Global,
+        image: &'a Image,
+        run: &'a Run,
+        filter: Filter,
+        from: u32,
+        to: u32,
+    ) -> Result<TurnLines<'a>, AllocError>
+        requires run { IsRunOf image.now run.now }
+        requires placed { IsPlaced image.now.segments }
+        ensures { IfOk result (λ lines. lines_in lines ≡ filtered_between filter image.now run.now from to) }
     {
         let end = to.min(run.trace0.count + run.trace1.count);
         let start = from.min(end);
@@ -86,6 +107,7 @@ impl<'a> TurnLines<'a> {
             code,
             records0,
             records1,
+            filter,
             end,
         })
     }
@@ -128,6 +150,14 @@ impl<'a> TurnLines<'a> {
         self.replay.state().step(core)
     }
 
+    // The program counter of a core.
+    fn pc(&self, core: u8) -> u32
+        requires { core < 2 }
+        ensures { result ≡ (state_in core (shown_at self.now.image self.now.run self.now.position)).control.pc }
+    {
+        self.replay.state().regs(core).pc
+    }
+
     // The record of the next turn, which is this core's, and goes behind it.
     fn turn(&mut self, core: u8) -> Option<StepRecord>
         requires { IsNext self.old core }
@@ -160,6 +190,7 @@ impl<'a> TurnLines<'a> {
             turn,
             before,
             after: self.window(core),
+            next: self.pc(core),
         }
     }
 
@@ -180,7 +211,7 @@ impl<'a> TurnLines<'a> {
             None => Ok(None),
             Some(core) => {
                 let told = self.told(core);
-                let text = told_line(alloc, &self.code, &told)?;
+                let text = told_line(alloc, &self.code, self.filter, &told)?;
                 Ok(Some(text))
             }
         }

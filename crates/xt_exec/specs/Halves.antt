@@ -1,5 +1,7 @@
 -- What the two halves of an instruction answer, in the words of the turn ('profile'). A turn ends
 -- with the tick, which the halves leave to their caller.
+--
+-- Note: `Halves` says the turn of an instruction again in two parts for the code.
 use Rattle.std.specs.Prelude.{◌≡◌, ℕ, ◌+◌, Bool, true, ◌==◌, if◌then◌else◌, Option, Some, None}
 use Rattle.xt_map.specs.declared.access.Access.{Access}
 use Rattle.xt_map.specs.Regions.{is_mapped}

@@ -7,6 +7,17 @@
 -- RETW is illegal (0); a window overflows; and then what its row says, where a row's causes are
 -- ILL (0), SYSCALL (1), MOVSP (5), a divisor of 0 (6), and of an access first its alignment (9)
 -- and then its address (3).
+--
+-- Profile: a turn is an interrupt that can be taken, else a turn of waiting, else the instruction.
+-- The causes of an instruction are tested in this order: it cannot be fetched (2), nothing spells
+-- it (0), an illegal ENTRY or RETW (0), a window overflow, and then its row's own.
+-- Profile: cause 0 is raised by ENTRY of a register above a3; by RETW if a0 names size 0 or another
+-- size than the nearest of the three previous frames; and by both if WOE is 0 or EXCM is 1. So
+-- every state has one next state. RFWO and RFWU go back whatever EXCM is.
+-- Note: `planned` is the turn without the reply; in the next state a reply changes one register at
+-- most. ENTRY computes the new stack pointer in the old window and writes it to the register of the
+-- same number in the new one. The overflow's vector is told by how far the frame that is in the way
+-- moved when it called, not by the instruction.
 use Rattle.std.specs.Prelude.{ℕ, zero, suc, ◌+◌, ◌-◌, ◌*◌, ◌/◌, ◌%◌, ◌^◌, Bool, false, ◌==◌, ◌&&◌}
 use Rattle.std.specs.Prelude.{◌||◌, not, nat_lt, if◌then◌else◌, Option, Some, None, slice_set}
 use Rattle.xt_isa.specs.declared.Insn.{Insn}

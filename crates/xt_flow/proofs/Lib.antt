@@ -1,3 +1,4 @@
+pub mod Calling
 pub mod Finding
 pub mod Joined
 pub mod Placed

@@ -9,7 +9,7 @@ use Rattle.xt_map.specs.declared.segment.Segment.{Segment}
 use Rattle.xt_map.specs.Placing.{is_well_placed}
 use Rattle.xt_names.specs.Parts.{parts_of}
 use Rattle.xt_image.specs.declared.image.Image.{Image}
-use Rattle.xt_flow.specs.Following.{behind, code_from, ends_flow, goes_to, insn_at, length_at, literal_at, target_of}
+use Rattle.xt_flow.specs.Following.{aims_at, behind, code_from, ends_flow, goes_to, insn_at, length_at, literal_at}
 use Rattle.xt_flow.specs.Kept.{IsVisited, first_place, is_in_code, is_marked, is_new, pending_after, reads_after, starts_after, table_size, unmarked, with_mark, with_word}
 use Rattle.xt_flow.specs.Starts.{Follows, HoldsInsn, IsRead, Opens, Starts, openings}
 use Rattle.xt_flow.proofs.Placed.{code_within, insn_within}
@@ -208,12 +208,13 @@ few_behind false x = omega arith
 
 two_at_most : (segments : List Segment) (a : ℕ) → length (goes_to segments a) ≤ 2
 two_at_most segments a =
-    elim (insn_at segments a) as (λ o. length (option_map_or (λ i. behind (parts_of i) a (length_at segments a) ++ option_to_list (target_of (parts_of i) a)) o []) ≤ 2) [
+    let next = (a + length_at segments a) % 2 ^ 32 in
+    elim (insn_at segments a) as (λ o. length (option_map_or (λ i. behind (parts_of i) a (length_at segments a) ++ option_to_list (aims_at segments (parts_of i) a next)) o []) ≤ 2) [
       | None ↦ omega arith
       | Some i ↦
-          let one = few_behind (ends_flow (parts_of i)) ((a + length_at segments a) % 2 ^ 32) in
-          let two = few_targets (target_of (parts_of i) a) in
-          omega (arith, length-append (behind (parts_of i) a (length_at segments a)) (option_to_list (target_of (parts_of i) a)))
+          let one = few_behind (ends_flow (parts_of i)) next in
+          let two = few_targets (aims_at segments (parts_of i) a next) in
+          omega (arith, length-append (behind (parts_of i) a (length_at segments a)) (option_to_list (aims_at segments (parts_of i) a next)))
     ]
 
 -- what is left to do: three for each address without a mark, and the pending ones

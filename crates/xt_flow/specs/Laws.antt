@@ -1,4 +1,7 @@
 -- States laws that are proved; nothing that a reader must believe.
+--
+-- Note: addresses wrap at 2^32, and a law says that each entry into an exception, an interrupt or a
+-- window exception goes to one of the thirteen vectors.
 use Rattle.std.specs.Prelude.{◌≡◌, ℕ, ◌+◌, ◌<◌, ◌≤◌, Option, List, map, Contains}
 use Rattle.xt_special.specs.Control.{Control, special_of}
 use Rattle.xt_special.specs.Exceptions.{after_exception}

@@ -1,4 +1,7 @@
 -- The listing that follows the code ('profile').
+--
+-- Profile: the text is the one over marks that agree with this set at every address, and with the
+-- words that an L32R of the set reads and no instruction of it touches.
 use Rattle.std.specs.Prelude.{◌≡◌, ◌↔◌, ℕ, zero, suc, ◌+◌, ◌-◌, Bool, true, ◌==◌, ◌&&◌, ◌||◌, not}
 use Rattle.std.specs.Prelude.{nat_le, if◌then◌else◌, List, [], ◌∷◌, ◌++◌, length, take, drop, codes}
 use Rattle.std.specs.Prelude.{slice_index}

@@ -1,5 +1,10 @@
 -- Which addresses start an instruction, and where words stand ('profile'; the vectors are those of
 -- the ESP32's configuration).
+--
+-- Profile: which addresses start an instruction is an inductive type with two constructors: an
+-- opening does, and where control goes from one that does. So it is the least such set, and no walk
+-- is believed. Of registers it is known what an L32R has loaded from code, up to the CALLX or JX of
+-- its block (`aims_at`); any other JX or CALLX, and returns, lead nowhere.
 use Rattle.std.specs.Prelude.{◌≡◌, ℕ, ◌+◌, ◌*◌, ◌%◌, ◌^◌, ◌<◌, ◌≤◌, ◌⊎◌, true, Some, List, [], ◌∷◌}
 use Rattle.std.specs.Prelude.{◌++◌, length, map, is_some, Contains}
 use Rattle.xt_special.specs.Exceptions.{double_vector, kernel_vector, user_vector}

@@ -2,6 +2,7 @@
 //! instructions themselves say of where it goes.
 #![tactic(auto)]
 
+mod calls;
 mod code;
 pub mod laws;
 mod listing;

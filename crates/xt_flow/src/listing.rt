@@ -133,7 +133,7 @@ fn push_head(out: &mut String, at: u32, bytes: &[u8]) -> Result<(), AllocError>
 }
 
 /// The number that four bytes make, the least first.
-fn word_of(bytes: &[u8]) -> u32
+pub fn word_of(bytes: &[u8]) -> u32
     requires { length bytes.now ≡ 4 }
     ensures { result ≡ little_endian bytes.now }
 {
@@ -283,7 +283,8 @@ fn text_of(alloc: Global, image: &Image, visited: &Visited) -> Result<Text, Allo
 /// An address starts an instruction where the instruction lies whole in an executable segment and the address is the image's
 /// entry, `entry1` (the entry of the second core), one of the thirteen vectors from `vecbase` on, or where control goes from
 /// an instruction that starts: the next address, unless it is a jump, a return, BREAK or ILL, or the target of a jump, a
-/// branch, a call or a loop. A line is
+/// branch, a call or a loop; of a call or jump through a register it is the word that an L32R of the same block loaded,
+/// if that word lies in code. A line is
 ///
 /// ```text
 /// ADDR BYTES TEXT                   an instruction that starts there, as `listing` shows it

@@ -3,11 +3,12 @@
 
 ghost use Rattle.std.specs.Prelude.{◌≡◌, ◌+◌, ◌%◌, ◌^◌, ◌++◌, ◌<◌, map, IfOk, OnOk, option_to_list};
 ghost use Rattle.xt_map.specs.Placing.{IsPlaced};
-ghost use Rattle.xt_flow.specs.Following.{behind, target_of};
+ghost use Rattle.xt_flow.specs.Following.{aims_at, behind};
 ghost use Rattle.xt_flow.specs.Kept.{IsVisited, pending_after, reads_after, starts_after, with_word};
 ghost use Rattle.xt_flow.specs.Starts.{openings};
 
-use crate::code::{code_from, ends_flow, literal_of, target_of};
+use crate::calls::aims_at;
+use crate::code::{code_from, ends_flow, literal_of};
 use crate::table::{empty_table, is_marked, mark};
 use std::alloc::{AllocError, Global};
 use xt_disasm::front;
@@ -54,18 +55,20 @@ fn openings(alloc: Global, entry: u32, entry1: u32, vecbase: u32) -> Result<Vec<
 
 /// Adds where control goes from an instruction of these parts, `len` bytes long, at the address `at`.
 fn push_successors(
+    segments: &[Segment],
     pending: &mut Vec<u32>,
     parts: Parts,
     at: u32,
     len: usize,
 ) -> Result<(), AllocError>
     requires { len < 4 }
-    ensures { OnOk result (pending.new.items ≡ pending.old.items ++ (behind parts at len ++ option_to_list (target_of parts at))) }
+    ensures { OnOk result (pending.new.items ≡ pending.old.items ++ (behind parts at len ++ option_to_list (aims_at segments.now parts at ((at + len) % 2 ^ 32)))) }
 {
+    let next = at.wrapping_add(len as u32);
     if !ends_flow(parts) {
-        pending.push(at.wrapping_add(len as u32))?;
+        pending.push(next)?;
     }
-    if let Some(target) = target_of(parts, at) {
+    if let Some(target) = aims_at(segments, parts, at, next) {
         pending.push(target)?;
     }
     Ok(())
@@ -103,7 +106,7 @@ fn visit(
     let parts = parts_of(insn);
     mark(&mut visited.starts, at);
     mark_word(segments, &mut visited.reads, literal_of(parts, at));
-    push_successors(pending, parts, at, len)
+    push_successors(segments, pending, parts, at, len)
 }
 
 /// The instructions and the words that are found by following the code.

@@ -1,7 +1,9 @@
 -- The callers as they are kept, the oldest first, and the frames, the newest first.
-use Rattle.std.proofs.Common.{◌≡◌, ℕ, zero, suc, ◌-◌, ◌<◌, ◌≤◌, None, List, [], ◌∷◌, ◌++◌, refl, ◌∙◌, ap, arith, length, get_or, take, map, reverse}
+use Rattle.std.proofs.Common.{◌≡◌, ℕ, zero, suc, ◌-◌, ◌*◌, ◌<◌, ◌≤◌, Option, None, List, [], ◌∷◌, ◌++◌, refl, ◌∙◌, ap, arith, length, get_or, take, map, reverse}
 use Rattle.std.proofs.lemmas.List.{map-append, reverse-append, length-reverse, length-map, get_or-reverse, get_or-map}
+use Rattle.std.specs.Prelude.{slice_index_or}
 use Rattle.xt_frames.specs.declared.view.Caller.{Caller}
+use Rattle.xt_frames.specs.Backtrace.{a0_in}
 use Rattle.xt_frames.specs.Frames.{Frame}
 use Rattle.xt_frames.specs.SaveAreas.{sp_of}
 use Rattle.xt_frames.specs.Parts.{frame_of, frames_of, newest_of}
@@ -93,3 +95,33 @@ calls_of_caller cs j d h =
     let back : length cs - 1 - k ≡ j = omega arith in
     calls_in-at (frames_of cs) k (frame_of d) (let l = frames_length cs in omega (arith, l))
     ∙ ap (λ (x : Frame). x.by) (frame_at cs k d (omega arith) ∙ ap (λ n. frame_of (get_or cs n d)) back)
+
+-- ---- a0 by number
+pub a0_in-newest : (fs : List Frame) (a0 : Option ℕ) → a0_in fs a0 0 ≡ a0
+a0_in-newest [] a0 = refl
+a0_in-newest (f ∷ fs) a0 = refl
+
+pub a0_in-at : (fs : List Frame) (a0 : Option ℕ) (k : ℕ) (d : Frame) → k < length fs → a0_in fs a0 (suc k) ≡ slice_index_or (get_or fs k d).kept 0 None
+a0_in-at [] a0 k d h = absurd (omega arith)
+a0_in-at (f ∷ fs) a0 zero d h = a0_in-newest fs (slice_index_or f.kept 0 None)
+a0_in-at (f ∷ fs) a0 (suc k) d h = a0_in-at fs (slice_index_or f.kept 0 None) k d (omega arith)
+
+first_of : (xs : List (Option ℕ)) (n : ℕ) → slice_index_or (take (suc n) xs) 0 None ≡ slice_index_or xs 0 None
+first_of [] n = refl
+first_of (x ∷ xs) n = refl
+
+-- the first register that is kept, of four at least
+first_kept : (c : Caller) (n : ℕ) → 4 * c.by ≡ suc n → slice_index_or (frame_of c).kept 0 None ≡ slice_index_or c.kept 0 None
+first_kept c n e = ap (λ (m : ℕ). slice_index_or (take m c.kept) 0 None) e ∙ first_of c.kept n
+
+pub a0_of_caller : (cs : List Caller) (a0 : Option ℕ) (j : ℕ) (d : Caller) → AreFrames (frames_of cs) → j < length cs → a0_in (frames_of cs) a0 (length cs - j) ≡ slice_index_or (get_or cs j d).kept 0 None
+a0_of_caller cs a0 j d a h =
+    let k : ℕ = length cs - 1 - j in
+    let e : length cs - j ≡ suc k = omega arith in
+    let back : length cs - 1 - k ≡ j = omega arith in
+    let c = get_or cs j d in
+    let m = (caller_moves cs j d a h).0 in
+    ap (a0_in (frames_of cs) a0) e
+    ∙ (a0_in-at (frames_of cs) a0 k (frame_of d) (let l = frames_length cs in omega (arith, l))
+    ∙ (ap (λ (f : Frame). slice_index_or f.kept 0 None) (frame_at cs k d (omega arith) ∙ ap (λ n. frame_of (get_or cs n d)) back)
+    ∙ first_kept c (4 * c.by - 1) (omega (arith, m))))

@@ -2,6 +2,16 @@
 -- before it, the inputs, the written register and the access of its record, and live and stale
 -- bytes. A kind that names an instruction looks at each judged step that fetches it, whether it is
 -- executed or raises a cause.
+--
+-- Profile: the kinds of breach are the ways in which a program could notice windows or disturb
+-- them. Reading a register without a value or a stale byte would show whether a window exception
+-- came. a1 is written by ENTRY and MOVSP alone, and ENTRY's tests keep the save areas apart. RETW
+-- has to match its call. A store into a live area would change saved registers. In exception mode
+-- no window is checked, so registers above a3 may be another frame's; EPC1 is lost where a window
+-- exception may have written it; and the machine has no window registers, vectors or MOVSP of its
+-- own.
+-- Note: `nested` of `breach_of` and `step_on` is the judge's word for the record, and counts only
+-- where it begins such an interrupt. Any other step is in one where the state has one.
 use Rattle.std.specs.Prelude.{ℕ, ◌+◌, ◌*◌, ◌/◌, ◌%◌, ◌^◌, Bool, true, false, ◌==◌, ◌&&◌, ◌||◌, not}
 use Rattle.std.specs.Prelude.{nat_lt, nat_le, if◌then◌else◌, Option, Some, None, List, [], ◌∷◌}
 use Rattle.std.specs.Prelude.{zero, suc, slice_index_or, is_some}

@@ -1,6 +1,17 @@
 -- The verdict on a run as a whole ('profile'): the first of its turns that shows a breach. What a
 -- turn shows is said by all turns before it, and the walk of the judge plays no part: a law ties it
 -- to what is said here.
+--
+-- Profile: the verdict is the first breach over whole lists (`FirstBreach`). Take the turns of both
+-- cores in the order of the schedule. The mode and the frame state before a turn are those after
+-- the core's records before it. A byte is stale where it is not live, was live before some earlier
+-- turn, and no judged store has touched it since. EPC1 is lost where exception mode ended at an
+-- earlier judged step of the core, or a handler step stood there, and no judged step from that one
+-- on has written it. The first turn that shows a kind by these is the breach. `Judging` and
+-- `Verdict` go through the records one by one instead, as the code does, and keep the stale bytes
+-- and whether EPC1 is lost from step to step. The law `verdict_is_first_breach` ties that walk to
+-- the lists: its breach, the records that it took as judged, and their accesses. By
+-- `first_breach_is_one` there is no other.
 use Rattle.std.specs.Prelude.{◌≡◌, ℕ, zero, suc, ◌<◌, ◌≤◌, Bool, true, false, ◌==◌, ◌||◌, not, ◌⊎◌}
 use Rattle.std.specs.Prelude.{if◌then◌else◌, Option, Some, None, List, [], ◌∷◌, ◌++◌, length, take}
 use Rattle.std.specs.Prelude.{slice_get, Decides}

@@ -1,5 +1,8 @@
 -- The state of the machine with unbounded call frames ('profile'): no ring of registers, no window
 -- base, no vector of a window exception and no save area is in it.
+--
+-- Profile: Boolean registers are no part of a frame: BR is a special register, the same in both
+-- machines, and every bit has a value from the start.
 use Rattle.std.specs.Prelude.{ℕ, ◌+◌, ◌-◌, ◌*◌, ◌^◌, Bool, false, Option, Some, None, List, []}
 use Rattle.std.specs.Prelude.{◌∷◌, ◌++◌, slice_index_or, slice_set, take, drop, replicate}
 use Rattle.std.specs.Prelude.{unwrap_or}

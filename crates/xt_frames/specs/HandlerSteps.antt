@@ -1,6 +1,9 @@
 -- Which records are handler steps ('profile'): a machine of modes over the records of one core.
 -- From the record of a window exception on through the next RFWO or RFWU, or to the end of the
 -- trace, but for nested interrupts: those of level 5, each through its RFI 5.
+--
+-- Profile: `HandlerSteps` reads the records of a core in three modes: the plain one, in handler
+-- steps, in a nested interrupt.
 use Rattle.std.specs.Prelude.{ℕ, Bool, true, false, if◌then◌else◌}
 use Rattle.xt_isa.specs.declared.Insn.{Insn}
 use Rattle.xt_isa.specs.declared.Insn.TheVariants as insn

@@ -1,3 +1,5 @@
+-- STACK.md explains the machine with unbounded frames, its breaches and the theorem, with an
+-- example.
 pub mod Frames
 pub mod FrameStep
 pub mod Marks
@@ -11,5 +13,6 @@ pub mod FirstBreach
 pub mod Stacks
 pub mod Parts
 pub mod Walked
+pub mod Backtrace
 pub mod Stepped
 pub mod Quick

@@ -2,6 +2,18 @@
 -- with unbounded frames has no window handler, and takes such an interrupt before the instruction
 -- that caused the window exception. It keeps PC, the 16 registers and PS for the end of the
 -- interrupt, RFI 5. Meanwhile a0 to a3 hold marks.
+--
+-- Profile: `Marks` is one page: where marks stand and how they are moved. `Nesting` has the
+-- interrupt of level 5 in the middle of a window handler, whose steps move them. `nested` has its
+-- PC, registers, PS and marks, and the state's own fields are those that are kept, so save areas
+-- need no case. A step in it is `laid_step` of the state `inside`, with the numbers that are known,
+-- and then the marks are moved. No step there changes the frames (`keeping`), since ENTRY and RETW
+-- are illegal in exception mode. `unset` says which special registers have no number; one that
+-- holds a mark has none, so nothing is left to do at RFI 5 but to forget the marks.
+-- Note: a special register without a number has some number in `control.special`, which nothing may
+-- read, since that is Unset. EPC5 and EPS5 have the kept PC and PS there, as the interrupt's own
+-- formula puts them; so the row of RFI 5 gives them back, and a step that is tested for WoeCleared
+-- leaves the kept PS.
 use Rattle.std.specs.Prelude.{ℕ, Bool, true, false, ◌==◌, ◌&&◌, ◌||◌, not, if◌then◌else◌, Option}
 use Rattle.std.specs.Prelude.{Some, None, List, [], is_some, replicate, slice_set}
 use Rattle.xt_isa.specs.declared.Insn.{Insn}

@@ -1,5 +1,7 @@
 -- The chain of stack pointers of a core's frames, which calls and returns keep, and that save
 -- areas are apart ('profile').
+--
+-- Note: new stack pointers are taken modulo 2^32 and then compared as whole numbers.
 use Rattle.std.specs.Prelude.{◌≡◌, ℕ, nat_lt, Bool, ◌+◌, ◌*◌, ◌%◌, ◌^◌, ◌<◌, ◌≤◌, true, false, ◌==◌}
 use Rattle.std.specs.Prelude.{Option, Some, None, List, [], ◌∷◌, slice_index_or, slice_set, length}
 use Rattle.std.specs.Prelude.{take}

@@ -2,6 +2,7 @@
 #![tactic(auto)]
 
 ghost use Rattle.std.specs.Prelude.{◌≡◌, ◌≤◌, ◌<◌, ◌-◌, ◌^◌, length, vec_len, vec_capacity};
+ghost use Rattle.xt_frames.specs.Backtrace.{a0_in};
 ghost use Rattle.xt_frames.specs.SaveAreas.{before, sp_of};
 ghost use Rattle.xt_frames.specs.Parts.{IsNewest, IsSmall, frame_of, frames_after, frames_of};
 ghost use Rattle.xt_frames.specs.Stacks.{AreFrames};
@@ -65,6 +66,19 @@ pub fn sp_in(callers: &[Caller], sp: u32, j: u32) -> u32
         sp
     } else {
         sp_of(&callers[j as usize])
+    }
+}
+
+/// The a0 of frame `j`, where this is that of the newest frame; none where it has no value.
+pub fn a0_in(callers: &[Caller], a0: Option<u32>, j: u32) -> Option<u32>
+    requires frames { AreFrames (frames_of callers.now) }
+    requires place { j ≤ length callers.now }
+    ensures { result ≡ a0_in (frames_of callers.now) a0 (length callers.now - j) }
+{
+    if j as usize == callers.len() {
+        a0
+    } else {
+        callers[j as usize].kept[0]
     }
 }
 

@@ -3,6 +3,7 @@
 
 ghost use Rattle.std.specs.Prelude.{◌≡◌, ◌≤◌, ◌<◌, ◌+◌, ◌%◌, ◌^◌, ℕ, Bool, true, false, None, length, IfOk};
 ghost use Rattle.xt_map.specs.Memory.{constant_byte};
+ghost use Rattle.xt_frames.specs.Backtrace.{a0_of_frame, address_of_frame, size_of_frame};
 ghost use Rattle.xt_frames.specs.FrameStep.{laid};
 ghost use Rattle.xt_frames.specs.Nesting.{current};
 ghost use Rattle.xt_frames.specs.SaveAreas.{before};
@@ -12,7 +13,7 @@ ghost use Rattle.xt_frames.specs.Stacks.{IsRange, Moves, Stack};
 ghost use Rattle.xt_frames.specs.Walked.{IsJudged, IsTested, bounds_of, calls_at, found_in, fresh_before, opened, sp_at, stack_of, walked_past};
 
 use crate::breach::{Case, Limits, return_breach, underflows};
-use crate::callers::{calls_in, change, depth_of, newest_of, sp_in, under};
+use crate::callers::{a0_in, calls_in, change, depth_of, newest_of, sp_in, under};
 use crate::holes::Holes;
 use crate::judged::judge;
 use crate::kinds::{Breach, BreachKind};
@@ -20,6 +21,7 @@ use crate::view::{Caller, View};
 use std::alloc::{AllocError, Global};
 use std::marker::Model;
 use xt_map::Constants;
+use xt_rows::settling::return_pc;
 use xt_trace::{Options, Stack as Range, StepRecord};
 
 /// A core of the machine with unbounded frames, as it walks over the judged records of its core. Contracts see its number, its stack
@@ -295,6 +297,46 @@ impl Frames {
         ensures { result ≡ sp_at self.now j }
     {
         sp_in(&self.callers, self.view.known(1), j)
+    }
+
+    /// The a0 of frame `j`; none where it has no value.
+    ///
+    /// Condition: `j` is at most the depth.
+    fn a0(&self, j: u32) -> Option<u32>
+        requires { j ≤ length self.now.state.frames }
+        ensures { result ≡ a0_of_frame self.now.state j }
+    {
+        a0_in(&self.callers, self.view.visible(0), j)
+    }
+
+    /// Where frame `j` goes on: the newest at PC, another where the frame that it called returns to; none where that frame's a0 has
+    /// no value.
+    ///
+    /// Condition: `j` is at most the depth.
+    pub fn address(&self, j: u32) -> Option<u32>
+        requires { j ≤ length self.now.state.frames }
+        ensures { result ≡ address_of_frame self.now.state j }
+    {
+        if j == self.depth() {
+            return Some(self.view.pc());
+        }
+        let a0 = self.a0(j + 1)?;
+        Some(return_pc(self.view.pc(), a0))
+    }
+
+    /// The bytes from the stack pointer of frame `j` up to its caller's, or up to HI.
+    ///
+    /// Condition: `j` is at most the depth.
+    pub fn size(&self, j: u32) -> u32
+        requires { j ≤ length self.now.state.frames }
+        ensures { result ≡ size_of_frame self.now.bounds.range.hi self.now.state j }
+    {
+        let end = if j == 0 {
+            self.limits.hi
+        } else {
+            self.sp(j - 1)
+        };
+        end.saturating_sub(self.sp(j))
     }
 
     /// By how many windows frame `j` called, 1, 2 or 3.

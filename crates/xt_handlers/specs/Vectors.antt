@@ -1,5 +1,7 @@
 -- The vectors of the window handlers, and their answers (the offsets of the vectors from VECBASE
 -- are those of the ESP32's configuration; the offset that a vector that fails has is 'profile').
+--
+-- Note: the offsets are those of the ESP32's configuration.
 use Rattle.std.specs.Prelude.{◌≡◌, ℕ, ◌+◌, ◌-◌, ◌*◌, ◌<◌, if◌then◌else◌, List}
 use Rattle.xt_fetch.specs.Fetching.{can_fetch}
 use Rattle.xt_fetch.specs.Code.{code_bytes}

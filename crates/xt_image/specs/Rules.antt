@@ -1,6 +1,13 @@
 -- The rules of an image (esptool's image format), in their order, each by itself: what is wrong by
 -- this rule, or nothing. The order of the rules, the names of the faults, and the regions that they
 -- allow are this project's own choice ('profile').
+--
+-- Profile: the order of the rules, the names of the faults, the regions that they allow, and the
+-- head of an image that is made here (`made_head`). Any bytes after the end are accepted, since a
+-- signature may follow an image.
+-- Note: the entry is judged last, after checksum and digest. `segments_in` are the segments that
+-- stand whole, so rule 6 compares their number with byte 1. `IsWellFormed` speaks of the image's
+-- written file, not of the file that was read.
 use Rattle.std.specs.Prelude.{ℕ, ◌+◌, ◌%◌, ◌++◌, Bool, List, [], ◌∷◌, length, take, drop}
 use Rattle.std.specs.Prelude.{slice_index, Option, ◌==◌, ◌&&◌, ◌||◌, not, nat_le, nat_lt, fold}
 use Rattle.std.specs.Prelude.{bit_xor, option_map}

@@ -1,4 +1,8 @@
 -- When a source or a sink may refuse: only where it counted a fault in that call ('profile').
+--
+-- Profile: a source and a sink count their faults, and may refuse only where the count rose in that
+-- call. Without a count no clause could rule out a call that always blames the outside. The count
+-- is a u64 that stops at its end, so `Rose` also holds where it stands there.
 use Rattle.std.specs.Prelude.{◌≡◌, ◌≤◌, ◌<◌, ◌+◌, ◌-◌, ◌^◌, ℕ, Bool, if◌then◌else◌, List, min}
 use Rattle.std.specs.Prelude.{length, Result, Ok, OnErr, IsErrOf}
 use Rattle.xt_io.specs.declared.sink.Refused.{Refused}

@@ -1,5 +1,7 @@
 -- For sources and sinks in memory, which tests use; nothing that a reader must believe.
 -- What sources and sinks in memory hold ('profile').
+--
+-- Profile: running out of memory inside a sink is no fault and is not counted.
 use Rattle.std.specs.Prelude.{ℕ, List}
 use Rattle.xt_io.specs.Unread.{unread_bytes}
 use Rattle.xt_io.specs.declared.calls.Calls.{Calls}

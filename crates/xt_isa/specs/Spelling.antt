@@ -5,6 +5,12 @@
 -- jumps, calls, branches and L32R are counted in bytes from the base address that the manual gives
 -- each of them. Which special registers there are, and that THREADPTR is the only user register, is
 -- this project's own choice ('profile').
+--
+-- Profile: a first byte whose low four bits are 14 or 15 is taken as three bytes, which spell
+-- nothing, so that every first byte has a length.
+-- Note: the first row that fits counts; by the law `rows_are_apart` the order plays no part. A row
+-- that fits may still spell nothing, where its operand is out of range (SLLI by 32, RFI outside 2
+-- to 7, ANY4 of b5, a special register that the access does not reach).
 use Rattle.std.specs.Prelude.{ℕ, ◌+◌, ◌-◌, ◌*◌, ◌/◌, ◌%◌, ◌^◌, ℤ, pos, ◌-ℤ◌, Bool, true, false}
 use Rattle.std.specs.Prelude.{◌==◌, ◌&&◌, ◌||◌, nat_lt, nat_le, if◌then◌else◌, Option, Some, None}
 use Rattle.std.specs.Prelude.{List, [], ◌∷◌, bit_and}

@@ -1,4 +1,7 @@
 -- A core that is driven to its end over its seat ('profile').
+--
+-- Note: `WasDriven` speaks of the accesses that the seat's list grew by, whatever the other core
+-- did. Nothing says that two threads ran.
 use Rattle.std.specs.Prelude.{◌≡◌, ℕ, ◌+◌, ◌≤◌, ◌||◌, None, List, ◌++◌, length}
 use Rattle.atomic_table.specs.Seated.{TableId}
 use Rattle.xt_map.specs.declared.access.Access.{Access}

@@ -1,4 +1,8 @@
 -- Legal histories of a sequential memory, and the accesses of one core in a history ('profile').
+--
+-- Note: `reply_to` of a store is 0. `memory_after` makes the accesses of a history and ignores its
+-- replies; `IsLegal` compares each reply with the memory after the entries before it. `is_store` is
+-- false of a compare-and-swap.
 use Rattle.std.specs.Prelude.{◌≡◌, ℕ, ◌<◌, Bool, true, ◌==◌, ◌&&◌, if◌then◌else◌, Some, List, []}
 use Rattle.std.specs.Prelude.{◌∷◌, map, take, slice_get}
 use Rattle.xt_map.specs.declared.access.Access.{Access}

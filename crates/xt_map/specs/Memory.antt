@@ -1,5 +1,9 @@
 -- What memory holds: a list of bytes for each memory region, and the bytes that UART0 has sent.
 -- Which regions there are, and their opening contents, is this project's own choice ('profile').
+--
+-- Profile: memory opens as zeros, the loaded segments in file order, and then two link words: 76
+-- below the end of each stack stands that end, which the handlers need for the opening frame, which
+-- has no caller.
 use Rattle.std.specs.Prelude.{◌≡◌, ℕ, zero, suc, ◌+◌, ◌-◌, ◌*◌, ◌/◌, ◌%◌, Bool, ◌&&◌, nat_le}
 use Rattle.std.specs.Prelude.{nat_lt, if◌then◌else◌, Option, Some, List, [], ◌∷◌, length, replicate}
 use Rattle.std.specs.Prelude.{find, slice_index, slice_set}

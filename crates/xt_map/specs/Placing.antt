@@ -1,5 +1,8 @@
 -- Where the segments of an image may stand. That a loaded segment lies in one region, and that no
 -- two share a byte, is this project's own choice ('profile').
+--
+-- Profile: a loaded segment lies whole in one region other than UART0, and no two share a byte, so
+-- that no byte depends on the order of segments.
 use Rattle.std.specs.Prelude.{◌≡◌, ℕ, ◌+◌, ◌<◌, Bool, true, false, ◌==◌, ◌&&◌, ◌||◌, not, nat_le}
 use Rattle.std.specs.Prelude.{nat_lt, min, max, List, length, slice_index_or, All}
 use Rattle.std.specs.List.{list_any}

@@ -1,6 +1,12 @@
 -- The memory map. The addresses are those of the ESP32 Technical Reference Manual, chapter 'System
 -- and Memory'; which of its regions exist, and that constant regions are never written, is this
 -- project's own choice ('profile').
+--
+-- Profile: only these regions exist, since no image tells what ROM and other peripherals hold; both
+-- cores reach all of them. The two RTC fast regions are two memories, not two views of one.
+-- Profile: flash and the executable regions are constant. So an instruction is a function of the
+-- image and needs no bus access, and no store can change a window handler. A byte of them that no
+-- segment loads is 0.
 use Rattle.std.specs.Prelude.{ℕ, ◌*◌, ◌%◌, ◌^◌, Bool, true, false, ◌==◌, ◌&&◌, ◌||◌, nat_le, nat_lt}
 use Rattle.std.specs.Prelude.{if◌then◌else◌, Option, Some, None, List, [], ◌∷◌}
 use Rattle.xt_map.specs.declared.regions.Region.{Region}

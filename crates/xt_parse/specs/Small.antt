@@ -1,5 +1,8 @@
 -- What holds of the lines of a text of at most 1,048,576 bytes ('profile'): their numbers rise, and
 -- they hold no more than the text has bytes.
+--
+-- Profile: `IsLexed`, `IsParsed` and `IsSmall` say what the limit of a text's bytes means for
+-- tokens and lines, so that later passes cannot overflow.
 use Rattle.std.specs.Prelude.{ℕ, ◌+◌, ◌<◌, ◌≤◌, max, List, [], ◌∷◌, length, All, sum_by}
 use Rattle.xt_expr.specs.declared.expr.Expr.{Expr}
 use Rattle.xt_parse.specs.declared.line.Line.{Line}

@@ -1,4 +1,15 @@
 -- The functions that a core is in, and the key of a step ('profile'). Steps stand the latest first.
+--
+-- Profile: the functions of a core are those of the frames that stand in the machine with unbounded
+-- frames, so a window exception changes nothing, and a function is known by the address of its
+-- ENTRY, since an image has no names.
+-- Profile: the PC of the ENTRY that pushed a frame is found by a search back in the steps: of those
+-- that stand, frame d was pushed by the latest step before which fewer than d frames stood, and
+-- after which d or more.
+-- Profile: a key is cut to as many functions as are asked for, so that a deep recursion has no line
+-- for each depth. A cut key keeps the first function, since a flame graph has one root, and the last
+-- ones, since the innermost is where the turns go.
+-- Note: 0 in a cut key stands for those that are left out; it is no function.
 use Rattle.std.specs.Prelude.{ℕ, zero, suc, ◌-◌, ◌&&◌, nat_le, nat_lt, if◌then◌else◌}
 use Rattle.std.specs.Prelude.{List, [], ◌∷◌, ◌++◌, length, take, drop}
 use Rattle.xt_discipline.specs.declared.step_modes.Mode.{Mode}

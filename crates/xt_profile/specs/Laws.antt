@@ -1,4 +1,4 @@
--- Laws of call profiles.
+-- Laws of call profiles; nothing that a reader must believe.
 use Rattle.std.specs.Prelude.{◌≡◌, ℕ, ◌+◌, ◌<◌, ◌≤◌, ◌⊎◌, Option, None, List, [], ◌∷◌}
 use Rattle.std.specs.Prelude.{length}
 use Rattle.xt_image.specs.declared.image.Image.{Image}

@@ -1,4 +1,13 @@
 -- The call profile of a run of an image ('profile').
+--
+-- Profile: both cores are cut at the first breach of either (`FirstBreach` of `xt_frames`), since
+-- past it frames mean nothing: the cut of a core is the number of its turns before that one, in the
+-- order of the run's schedule. If there is no breach, it is the number of all its records. The turn
+-- that shows the breach counts as after the cut.
+-- Note: `end_of` reads off the judge's walk how many turns stand before the breach. The law
+-- `profile_ends_at_first_breach` says that it is the one number that `IsFirstBreach` allows, so the
+-- walk need not be read. That no record is left over if there is no breach is the law
+-- `without_breach_all_is_counted`.
 use Rattle.std.specs.Prelude.{◌≡◌, ℕ, ◌+◌, if◌then◌else◌, List, [], take, drop, length}
 use Rattle.xt_image.specs.declared.image.Image.{Image}
 use Rattle.xt_trace.specs.declared.record.StepRecord.{StepRecord}

@@ -1,4 +1,7 @@
 -- The steps of a core, as a profile sees them ('profile').
+--
+-- Note: steps stand the latest first. The key of a step is that before it: ENTRY counts for its
+-- caller, RETW for the function that returns.
 use Rattle.std.specs.Prelude.{ℕ, true, false, List, [], ◌∷◌, length}
 use Rattle.xt_trace.specs.declared.record.StepRecord.{StepRecord}
 use Rattle.xt_frames.specs.Frames.{FrameState}

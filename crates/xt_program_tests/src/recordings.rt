@@ -28,6 +28,11 @@ pub fn output_of(
     if let Some(word) = word {
         words.push(String::from_str(alloc, word).ok()?).ok()?;
     }
+    answer_of(alloc, words, bytes)
+}
+
+// The same of these words.
+fn answer_of(alloc: Global, words: Vec<String>, bytes: &[u8]) -> Option<(Status, SafeSink)> {
     let mut source = SafeSource::make(alloc, bytes).ok()?;
     let mut sink = SafeSink::make(alloc).ok()?;
     match tool_main(alloc, &words, &mut source, &mut sink) {
@@ -74,12 +79,41 @@ pub fn agrees(alloc: Global, case: &str) -> Option<bool> {
     Some(line.as_slice() == wanted.as_bytes() && refused == status && written.bytes().is_empty())
 }
 
-/// Whether a script prints what its case says.
+// What `replay --lenient` ends with, and what it writes.
+fn lenient(alloc: Global, script: &str, bytes: &[u8]) -> Option<(Status, SafeSink)> {
+    let mut words = Vec::new(alloc);
+    for word in ["replay", "--lenient", script] {
+        words.push(String::from_str(alloc, word).ok()?).ok()?;
+    }
+    answer_of(alloc, words, bytes)
+}
+
+// What a script prints up to the first command that leads beyond the run, and its status then.
+fn up_to_past_end(alloc: Global, output: &str) -> Option<(Status, String)> {
+    let mut wanted = String::new(alloc);
+    for line in output.lines() {
+        wanted.push_str(line).ok()?;
+        wanted.push_str("\n").ok()?;
+        if line == "past end" {
+            return Some((Status::PastEnd, wanted));
+        }
+    }
+    Some((Status::Done, wanted))
+}
+
+/// Whether a script prints what its case says: all of it with `--lenient`, and without it what comes up to
+/// the first command that leads beyond the run.
 pub fn prints(alloc: Global, case: &str) -> Option<bool> {
     let script = words_of(case, "script")
         .strip_prefix("|")?
         .strip_suffix("|")?;
     let output = lines_of(alloc, case, "output", "").ok()?;
-    let (status, sink) = output_of(alloc, "replay", Some(script), &bytes_of(alloc, case)?)?;
-    Some(status == Status::Done && sink.bytes() == output.as_bytes())
+    let bytes = bytes_of(alloc, case)?;
+    let (status, sink) = lenient(alloc, script, &bytes)?;
+    if status != Status::Done || sink.bytes() != output.as_bytes() {
+        return Some(false);
+    }
+    let (status, sink) = output_of(alloc, "replay", Some(script), &bytes)?;
+    let (end, wanted) = up_to_past_end(alloc, output.as_str())?;
+    Some(status == end && sink.bytes() == wanted.as_bytes())
 }

@@ -1,4 +1,7 @@
 -- Numbers of a run that its rules leave open, in the ranges of their types ('profile').
+--
+-- Note: `FitsRun` is the condition of the round trip: VECBASE, operands and replies below 2^32, as
+-- their types have it.
 use Rattle.std.specs.Prelude.{◌<◌, ◌^◌, All}
 use Rattle.xt_map.specs.declared.access.Entry.{Entry}
 use Rattle.xt_trace.specs.declared.run.Run.{Run}

@@ -1,3 +1,4 @@
+-- Profile: the format is this project's own; RECORDING.md describes it.
 pub mod Fields
 pub mod Parts
 pub mod Fitting

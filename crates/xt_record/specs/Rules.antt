@@ -1,5 +1,8 @@
 -- The rules of the parts of a recording (this project's own format, 'profile'), in their order,
 -- each by itself: what is wrong by this rule, or nothing.
+--
+-- Note: `is_valid` repeats `IsValid` of `xt_trace` as a test; a lemma ties them. The word after
+-- LCOUNT in a checkpoint is BR.
 use Rattle.std.specs.Prelude.{ℕ, suc, ◌+◌, ◌%◌, Bool, true, ◌==◌, ◌&&◌, ◌||◌, not, nat_le, nat_lt}
 use Rattle.std.specs.Prelude.{if◌then◌else◌, List, [], ◌∷◌, ◌++◌, length, take, Option, Some, None}
 use Rattle.std.specs.Prelude.{option_map}

@@ -1,4 +1,8 @@
 -- Where the steps of a core stand in the schedule of a run ('profile').
+--
+-- Profile: a position is a number of turns of the schedule; `position_of` is the one just before a
+-- core's turn, and for the length of its trace the one just after its last turn (0 for an empty
+-- trace).
 use Rattle.std.specs.Prelude.{ℕ, zero, suc, ◌==◌, nat_lt, if◌then◌else◌, List, [], ◌∷◌}
 use Rattle.xt_trace.specs.declared.run.Run.{Run}
 use Rattle.xt_trace.specs.declared.trace.Trace.{Trace}

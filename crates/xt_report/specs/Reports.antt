@@ -1,4 +1,7 @@
 -- The report of a run ('profile').
+--
+-- Profile: the line of sent bytes is printed also where there are none. The limits of inputs bound
+-- the memory that reading takes.
 use Rattle.std.specs.Prelude.{◌≡◌, ℕ, ◌%◌, ◌==◌, if◌then◌else◌, Option}
 use Rattle.std.specs.Prelude.{Some, None, List, [], ◌∷◌, ◌++◌, length, codes}
 use Rattle.std.specs.List.{concat, filter_map}

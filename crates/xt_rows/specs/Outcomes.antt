@@ -5,6 +5,19 @@
 -- x and y are the values of the registers that the row reads, u and v those of the special
 -- registers, 0 where there is none.
 -- e is the effect of an instruction that changes nothing and goes on to the next one.
+--
+-- Profile: BREAK and BREAK.N stop the core, since there is no debugger. ISYNC, RSYNC, ESYNC, DSYNC,
+-- EXCW, MEMW and EXTW change nothing, and L32AI and S32RI are L32I and S32I: the bus serves one
+-- access after another.
+-- Profile: PS.RING is kept and never tested, so no instruction is privileged, and L32E and S32E are
+-- ordinary loads and stores. The options for protection are left out.
+-- Note: a formula takes values by position: x and y are registers, u and v special registers, and 0
+-- stands for one that the row does not read. x is AR[s] and y is AR[t]; but x is the one source of
+-- a shift, and AR[t] of a system instruction. The comment above each table says it. `reads` and
+-- `special_reads` choose what is passed.
+-- Note: LOOPNEZ and LOOPGTZ set LCOUNT to the count less one also where they skip the body (2^32 -
+-- 1 for 0). RFDE leaves EXCM set. `named` is the highest of a0 to a15 that the instruction names,
+-- with a4, a8 or a12 for the calls; RETW names none.
 use Rattle.std.specs.Prelude.{ℕ, ◌%◌, ◌^◌, true, false, Option, Some, None, bit_and, bit_or}
 use Rattle.std.specs.Prelude.{bit_xor, min, max}
 use Rattle.xt_isa.specs.declared.Insn.{Insn}

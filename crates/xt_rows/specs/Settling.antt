@@ -1,6 +1,11 @@
 -- What an outcome, an interrupt or a turn of waiting leaves, beside the registers: the same for the
 -- processor and for a machine with unbounded frames ('profile' for the turn as the unit of time;
 -- the effects are those of the manual's chapters on the options).
+--
+-- Profile: only an instruction that falls through can go back in a loop.
+-- Note: `settled` of a step of windows leaves the core at the instruction. The processor has its
+-- own cases; the machine with frames takes this one for all but ENTRY and RETW, and there the
+-- instruction is a breach.
 use Rattle.std.specs.Prelude.{ℕ, ◌+◌, ◌-◌, ◌*◌, ◌/◌, ◌%◌, ◌^◌, if◌then◌else◌, Option, Some, None}
 use Rattle.std.specs.Prelude.{slice_set}
 use Rattle.xt_map.specs.declared.access.Access.{Access}

@@ -3,6 +3,7 @@ use Rattle.std.specs.Prelude.{ℕ, None, List, length, false}
 use Rattle.xt_image.specs.Parts.{image_bytes}
 use Rattle.xt_gen.specs.Generated.{generated}
 use Rattle.xt_command_line.specs.declared.options.RunOptions.{RunOptions}
+use Rattle.xt_command_line.specs.declared.turn_orders.TurnOrder.TheVariants as order
 use Rattle.xt_report.specs.declared.whole.Whole.{Whole}
 use Rattle.xt_report.specs.Summaries.{summary_text}
 
@@ -20,7 +21,7 @@ gen_options = record {
   race = false;
   profile = false;
   uses = false;
-  seed = None;
+  order = order.Free;
 }
 
 -- the summary of the image that is made of a number, and of its run

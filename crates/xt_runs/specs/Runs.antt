@@ -1,4 +1,8 @@
 -- What each status of `run`, `record` and `gen` says ('profile').
+--
+-- Note: `IsRunOfImage` is said of the run that is handed out, and `run_text` of what is written;
+-- `IsJudged` ties the report's handlers and verdict to the definitions: `verdict` to the walk,
+-- `first` to the whole lists of records; and `framed` says what the verdict is good for.
 use Rattle.std.specs.Prelude.{◌≡◌, ◌≤◌, ◌+◌, ◌⊎◌, ℕ, List, length, Option, Some, None}
 use Rattle.std.specs.Io.KnownBytes.{Appends, Keeps}
 use Rattle.xt_io.specs.Causes.{Rose}
@@ -15,7 +19,10 @@ use Rattle.xt_machine.specs.Lists.{run_of_list, schedule_in}
 use Rattle.xt_machine.specs.Framed.{IsFramed}
 use Rattle.xt_record.specs.Written.{recording_bytes}
 use Rattle.xt_command_line.specs.Options.{with_entry}
+use Rattle.xt_command_line.specs.TurnOrders.{cores_of}
 use Rattle.xt_command_line.specs.declared.options.RunOptions.{RunOptions}
+use Rattle.xt_command_line.specs.declared.turn_orders.TurnOrder.{TurnOrder}
+use Rattle.xt_command_line.specs.declared.turn_orders.TurnOrder.TheVariants as order
 use Rattle.xt_status.specs.declared.status.Status.{Status}
 use Rattle.xt_status.specs.declared.status.Status.TheVariants as status
 use Rattle.xt_status.specs.Calls.{Ends, ReadsWhole, TakesWithin}
@@ -41,11 +48,20 @@ options_for o image = with_entry o image.entry
 unfoldable pub run_of_its_schedule : RunOptions → Image → Run → Run
 run_of_its_schedule o image run = run_of_list image (options_for o image) (schedule_in run)
 
--- where the words give a seed, the run is that of the list of cores that the seed makes
-abbrev pub IsOrdered : Option ℕ → RunOptions → Image → Run → Type 0
+-- the list of cores that an order stands for, with so many turns for both cores: the one that its
+-- seed makes, or that of the turns that it lists
+abbrev pub cores_for : TurnOrder → ℕ → Option (List ℕ)
+cores_for order.Free count = None
+cores_for (order.Seeded seed) count = Some (seeded_order seed count)
+cores_for (order.Listed list) count = Some (cores_of list)
+
+abbrev pub cores_of_options : RunOptions → Option (List ℕ)
+cores_of_options o = cores_for o.order (o.turns0 + o.turns1)
+
+-- where the words give an order, the run is that of its list of cores
+abbrev pub IsOrdered : Option (List ℕ) → RunOptions → Image → Run → Type 0
 IsOrdered None o image run = Unit {0}
-IsOrdered (Some seed) o image run =
-    run ≡ run_of_list image (options_for o image) (seeded_order seed (o.turns0 + o.turns1))
+IsOrdered (Some cores) o image run = run ≡ run_of_list image (options_for o image) cores
 
 -- This is a run of the image with the options of the words. It is, in its history and in
 -- its traces' counts, places, stops and last program counters, the run of the schedule
@@ -57,7 +73,7 @@ pub record IsRunOfImage (o : RunOptions) (image : Image) (run : Run) : Type 0 wh
   -- where the six answers for the window handlers are `yes` and the two stacks are apart, it is a
   -- run of the machine with unbounded call frames, up to the first breach of the stack discipline
   pub framed : IsFramed image run
-  pub ordered : IsOrdered o.seed o image run
+  pub ordered : IsOrdered (cores_of_options o) o image run
 
 -- the input is an image, and this is its run, and what is found of it
 pub record IsRunOfInput (o : RunOptions) (input : List ℕ) (w : Whole) : Type 0 where

@@ -9,7 +9,7 @@ use crate::runs::judge_image;
 use std::alloc::{AllocError, Global};
 use std::sync::Wait;
 use std::thread::Threads;
-use xt_command_line::{DEFAULT_VECBASE, RunOptions};
+use xt_command_line::{DEFAULT_VECBASE, RunOptions, TurnOrder};
 use xt_gen::generated;
 use xt_image::written_length;
 use xt_io::{Gate, Refused, Sink};
@@ -41,7 +41,7 @@ fn gen_options() -> RunOptions
         race: false,
         profile: false,
         uses: false,
-        seed: None,
+        order: TurnOrder::Free,
     }
 }
 

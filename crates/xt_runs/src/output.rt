@@ -3,32 +3,15 @@ ghost use Rattle.std.specs.Prelude.{◌≡◌, ◌++◌, length};
 ghost use Rattle.xt_report.specs.Reports.{report_text};
 ghost use Rattle.xt_runs.specs.Traces.{lines_from, trace_text};
 ghost use Rattle.xt_status.specs.Writes.{Writes};
-ghost use Rattle.xt_trace.specs.Lines.{line_text};
 
 use std::alloc::Global;
 use xt_io::{Refused, Sink, write_all};
 use xt_map::Text;
 use xt_report::{Whole, report};
-use xt_status::write_text;
-use xt_trace::{Records, Run, StepRecord, line};
+use xt_status::{Piece, write_text};
+use xt_trace::{Records, Run, line};
 
-// Writes the line of a record.
-fn write_record<K: Sink>(
-    alloc: Global,
-    core: u8,
-    step: u32,
-    r: &StepRecord,
-    sink: &mut K,
-) -> Result<(), Refused>
-    ensures { Writes result
-        (K.told sink.old) (K.told sink.new) (K.faults sink.old) (K.faults sink.new)
-        (line_text core step r.now) }
-{
-    let text = line(alloc, core, step, r)?;
-    write_all(sink, text.as_slice())
-}
-
-// Writes the lines of a core's records, one by one.
+// Writes the lines of a core's records. It gathers up to 65,536 bytes of them for each write.
 fn write_records<K: Sink, R: Records>(
     alloc: Global,
     core: u8,
@@ -41,13 +24,17 @@ fn write_records<K: Sink, R: Records>(
         (K.told sink.old) (K.told sink.new) (K.faults sink.old) (K.faults sink.new)
         (lines_from core 0 (R.left records.old)) }
 {
+    let mut piece = Piece::make(alloc)?;
     for step in 0..count {
         match records.next() {
-            Some(r) => write_record(alloc, core, step, &r, sink)?,
-            None => return Ok(()),
+            Some(r) => {
+                let text = line(alloc, core, step, &r)?;
+                piece.add(&text, sink)?
+            }
+            None => unreachable!(),
         }
     }
-    Ok(())
+    piece.flush(sink)
 }
 
 // Writes the report of a run. A refusal is a failed write, or running out of memory.
@@ -75,7 +62,7 @@ pub fn write_analyzed<K: Sink>(
     write_text(analyses, sink)
 }
 
-// Writes the lines of both traces, each before the next is made.
+// Writes the lines of both traces.
 fn write_traces<K: Sink, R: Records>(
     alloc: Global,
     run: &Run,

@@ -26,7 +26,7 @@ use xt_status::{IMAGE_LIMIT, Status, image_in};
 use xt_trace::Run;
 
 /// Writes what `run` writes of a run of an image: the report, the texts of its analyses, and where the
-/// words ask for them the lines of both traces, each before the next is made.
+/// words ask for them the lines of both traces, in writes of up to 65,536 bytes.
 ///
 /// Conditions: the image is well formed, and the run is one of this image.
 #[tactic(auto, unfolding(crate::specs::Runs::run_text))]

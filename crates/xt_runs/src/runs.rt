@@ -1,6 +1,6 @@
 //! Runs of an image, with what is found of them.
-ghost use Rattle.std.specs.Prelude.{◌≡◌, IfOk, None, Some};
-ghost use Rattle.xt_runs.specs.Runs.{IsRunOfImage};
+ghost use Rattle.std.specs.Prelude.{◌≡◌, ◌<◌, All, IfOk, IfSome, None, Some, option_map};
+ghost use Rattle.xt_runs.specs.Runs.{IsRunOfImage, cores_for, cores_of_options};
 ghost use Rattle.xt_runs.specs.Verdicts.{IsJudged};
 ghost use Rattle.xt_image.specs.Parts.{IsWellFormed};
 ghost use Rattle.xt_command_line.specs.Options.{AreValid};
@@ -9,7 +9,7 @@ use crate::verdicts::judged;
 use std::alloc::{AllocError, Global};
 use std::sync::Wait;
 use std::thread::Threads;
-use xt_command_line::RunOptions;
+use xt_command_line::{RunOptions, TurnOrder, cores_of};
 use xt_gen::seeded_order;
 use xt_image::{Image, well_formed_by_rules};
 use xt_io::Gate;
@@ -17,23 +17,41 @@ use xt_machine::{run, run_is_that_of_its_schedule, run_schedule};
 use xt_report::Whole;
 use xt_trace::Run;
 
-// The run of an image in the order of the cores that a seed makes.
-fn run_seeded(
+// The list of cores that an order stands for, with so many turns for both cores; none stands for two threads.
+fn cores_for(alloc: Global, order: &TurnOrder, count: u32) -> Result<Option<Vec<u8>>, AllocError>
+    ensures list { IfOk result (λ cores. option_map (λ c. c.items) cores ≡ cores_for order.now count) }
+    ensures cores { IfOk result (λ cores. IfSome cores (λ c. All (λ core. core < 2) c.items)) }
+{
+    match order {
+        TurnOrder::Free => Ok(None),
+        TurnOrder::Seeded(seed) => {
+            let cores = seeded_order(alloc, *seed, count)?;
+            Ok(Some(cores))
+        }
+        TurnOrder::Listed(list) => {
+            let cores = cores_of(alloc, list.as_slice())?;
+            Ok(Some(cores))
+        }
+    }
+}
+
+// The run of an image in the order of a list of cores, which the words ask for.
+fn run_over(
     alloc: Global,
     options: &RunOptions,
-    seed: u32,
     image: &Image,
+    cores: &[u8],
 ) -> Result<Run, AllocError>
     requires valid { AreValid options.now }
-    requires seed { options.now.seed ≡ Some seed }
+    requires asked { cores_of_options options.now ≡ Some cores.now }
+    requires cores { All (λ core. core < 2) cores.now }
     requires image { IsWellFormed image.now }
     ensures { IfOk result (λ run. IsRunOfImage options.now image.now run) }
 {
     well_formed_by_rules();
     run_is_that_of_its_schedule();
     let at = options.with_entry(image.entry);
-    let order = seeded_order(alloc, seed, options.turns0 + options.turns1)?;
-    run_schedule(alloc, image, &at, &order)
+    run_schedule(alloc, image, &at, cores)
 }
 
 // The run of an image with the options of the words, on two threads.
@@ -45,7 +63,7 @@ fn run_free<G: Gate, R: Threads + Wait + Sync>(
     gate: &G,
 ) -> Result<Run, AllocError>
     requires valid { AreValid options.now }
-    requires free { options.now.seed ≡ None }
+    requires free { cores_of_options options.now ≡ None }
     requires image { IsWellFormed image.now }
     ensures { IfOk result (λ run. IsRunOfImage options.now image.now run) }
 {
@@ -66,8 +84,9 @@ fn run_image<G: Gate, R: Threads + Wait + Sync>(
     requires image { IsWellFormed image.now }
     ensures { IfOk result (λ run. IsRunOfImage options.now image.now run) }
 {
-    match options.seed {
-        Some(seed) => run_seeded(alloc, options, seed, image),
+    well_formed_by_rules();
+    match cores_for(alloc, &options.order, options.turns0 + options.turns1)? {
+        Some(cores) => run_over(alloc, options, image, &cores),
         None => run_free(rt, alloc, options, image, gate),
     }
 }

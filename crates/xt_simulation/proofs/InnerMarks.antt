@@ -103,7 +103,7 @@ module _ (n : ℕ) (holds : holds_marks n ≡ true) where
   ps_whole v ps = cond-false (eqb n 230) _ ps (not_number 230 refl)
 
   mark_can_be_lost : can_be_lost n ≡ true
-  mark_can_be_lost = or_right (eqb n 177) _ (or_right (eqb n 181) _ (or_right (eqb n 197) _ holds))
+  mark_can_be_lost = or_right (eqb n 177) _ (or_right (eqb n 181) _ (or_right (is_eps n) _ holds))
 
 -- ---- the three rows
 abbrev pub moving : Option RegWrite → SpecialWrites → Control → Effect

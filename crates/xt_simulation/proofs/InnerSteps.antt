@@ -93,7 +93,11 @@ can_saved k h =
     (λ h. ⊎_elim
     (λ a. let e = eqb-true k 181 a in rw e refl)
     (λ h. ⊎_elim
-    (λ a. let e = eqb-true k 197 a in rw e refl)
+    (λ a.
+    let q = and_parts _ _ a in
+    let low = leb-true 194 k q.0 in
+    let high = leb-true k 199 q.1 in
+    or_left _ _ (and_from _ _ (le-leb 177 k (omega arith)) (le-leb k 215 (omega arith))))
     (λ h. ⊎_elim
     (λ p.
     let q = and_parts _ _ p in

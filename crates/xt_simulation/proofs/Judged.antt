@@ -24,7 +24,7 @@ use Rattle.xt_trace.specs.declared.record.RegWrite.{RegWrite}
 use Rattle.xt_rows.specs.declared.outcome.Awaited.{Awaited}
 use Rattle.xt_rows.specs.declared.outcome.Effect.{Effect}
 use Rattle.xt_fetch.specs.Fetching.{Fetched, Fetches}
-use Rattle.xt_special.specs.Access.{set_to, no_set, with_sets}
+use Rattle.xt_special.specs.Access.{set_to, no_set, with_sets, is_eps}
 use Rattle.xt_rows.specs.Effects.{illegal_instruction}
 use Rattle.xt_rows.specs.Operands.{named}
 use Rattle.xt_rows.specs.Outcomes.{outcome, control_outcome, density_outcome}
@@ -191,14 +191,14 @@ lost_saved n h = ⊎_elim
     (λ b. ⊎_elim
     (λ a. let q = eqb-true n 181 a in saved_low n (omega arith) (omega arith))
     (λ c. ⊎_elim
-    (λ a. let q = eqb-true n 197 a in saved_low n (omega arith) (omega arith))
+    (λ a. let q = and_parts (leb 194 n) (leb n 199) a in let x = leb-true 194 n q.0 in let y = leb-true n 199 q.1 in saved_low n (omega arith) (omega arith))
     (λ d. ⊎_elim
     (λ a. let q = and_parts (leb 209 n) (leb n 215) a in let x = leb-true 209 n q.0 in let y = leb-true n 215 q.1 in saved_low n (omega arith) (omega arith))
     (λ a. or_right _ _ a)
     (or_cases (leb 209 n && leb n 215) (leb 244 n && leb n 247) d))
-    (or_cases (eqb n 197) (holds_marks n) c))
-    (or_cases (eqb n 181) (eqb n 197 || holds_marks n) b))
-    (or_cases (eqb n 177) (eqb n 181 || (eqb n 197 || holds_marks n)) h)
+    (or_cases (is_eps n) (holds_marks n) c))
+    (or_cases (eqb n 181) (is_eps n || holds_marks n) b))
+    (or_cases (eqb n 177) (eqb n 181 || (is_eps n || holds_marks n)) h)
 
 -- the register that it names has a number
 named_given : {lost : ℕ → Bool} (i : Insn) (e : Effect) (len t n : ℕ) (c d : Control) → moved_to i ≡ Some (t, n) → SetsSaved i e.sets → Even lost c d → get_or (ticked (after_effect e len c)).special n 0 ≡ get_or (ticked (after_effect e len d)).special n 0

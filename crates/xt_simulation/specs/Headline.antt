@@ -1,6 +1,24 @@
 -- Windows are frames: the judged part of a run of the processor with windows is a
 -- run of the machine with unbounded call frames ('profile': the definitions of
 -- xt_frames over the processor's).
+--
+-- Note: `WindowsAreFrames` has the conditions of STACK.md, and `IsRunnable`: what is a word by its
+-- type is one and the options are valid.
+-- Note: `StretchesOfImages` is about each position before the first breach, and that is the
+-- verdict's: where the judge's walk over the first p turns of the schedule (`judged_in` over `take
+-- p`) shows no breach, there is a `Position`. If it finds a breach, that breach is the verdict
+-- (`BreachesStay`). At a `Position` the walk beside the judge knows what the judge knows (`Knows`)
+-- and stands where the run does (`StandsAt`), and each core keeps `EndsWell`, `HandlesAlone`,
+-- `IsPending` and `GivesBack`. The first two are about a core whose next turn is a handler's; they
+-- rest on `MovesFrame` and `StoresAlone`, on `Steps` here and on `Machines` of `xt_stretch`. In the
+-- state before the stretch, with which they compare, THREADPTR and each special register that a
+-- nested step has changed are as that step has left them (`as_left`). `IsPending` is about a core
+-- whose next turn begins a nested interrupt: of the frame state, with the INTERRUPT of the record,
+-- level 5 is the one that is taken. `GivesBack` is about a core whose next turn is an RFI 5 that
+-- ends a nested interrupt and shows no breach: the core is afterwards in what `LeavesHandler` names
+-- as it was when the interrupt was taken. `NestedGiveBack` says the same of any list of turns.
+-- Profile: `ImagesAreAllJudged`: where the walk shows no breach, what it has judged is all that is
+-- judged of both traces (`judged_of` of `FirstBreach`).
 use Rattle.std.specs.Prelude.{◌≡◌, ℕ, zero, suc, Bool, true, false, Some, None, List, [], ◌∷◌}
 use Rattle.std.specs.Prelude.{take}
 use Rattle.xt_map.specs.declared.segment.Segment.{Segment}

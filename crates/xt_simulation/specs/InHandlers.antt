@@ -1,4 +1,10 @@
 -- What a handler step and a whole stretch of them have done ('profile').
+--
+-- Profile: the addresses of a stretch's save words are said in the words of the frames (`InAreas`):
+-- by their stack pointers, in live save areas. The moved frame's bit of WINDOWSTART was set before
+-- an overflow and clear before an underflow. In `oldest` windows are counted without end, so that
+-- window w + 16 is window w again: before an overflow no bit is set behind the newest frame's
+-- window, which is `moved f.frames`, before the moved frame's comes again.
 use Rattle.std.specs.Prelude.{◌≡◌, ◌≢◌, ◌≤◌, ◌<◌, ℕ, ◌+◌, ◌-◌, ◌*◌, ◌%◌, true, false, nat_lt}
 use Rattle.std.specs.Prelude.{◌==◌, if◌then◌else◌, Option, Some, None}
 use Rattle.std.specs.Prelude.{List, [], ◌∷◌, ◌++◌, length, slice_index, slice_index_or}

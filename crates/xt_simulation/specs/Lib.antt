@@ -1,3 +1,5 @@
+-- Profile: it joins the definitions above, and `IsFramed` of `xt_machine` repeats its three laws
+-- for a run of an image.
 pub mod Closing
 pub mod Cores
 pub mod Relation

@@ -5,6 +5,7 @@ use Rattle.std.specs.Prelude.{◌≡◌, ◌⊎◌, ℕ, ◌+◌, ◌-◌, ◌*�
 use Rattle.std.specs.Prelude.{◌==◌, ◌||◌, List, [], ◌∷◌, ◌++◌, slice_index, slice_index_or, length}
 use Rattle.xt_special.specs.Numbers as number
 use Rattle.xt_special.specs.Control.{Control, special_of}
+use Rattle.xt_special.specs.Access.{is_eps}
 use Rattle.xt_exec.specs.State.{State}
 use Rattle.xt_exec.specs.Laws.{IsShaped}
 use Rattle.xt_exec.specs.Turn.{planned, window_exception}
@@ -26,11 +27,11 @@ lost_at fresh f n = lost_of fresh n || slice_index_or f.unset n false
 abbrev pub without_epc1 : (ℕ → Bool) → ℕ → Bool
 without_epc1 lost n = lost_of false n || lost n
 
--- a nested interrupt leaves EPC5 and EPS5 without a number, and those that hold marks
+-- a nested interrupt leaves EPC5 and EPS5 without a number, and those that hold marks; of EPS2 to
+-- EPS7 the machine of uses need not know each bit
 abbrev pub can_be_lost : ℕ → Bool
 can_be_lost n =
-    n == number.epc 1
-    || (n == number.epc nested_level || (n == number.eps nested_level || holds_marks n))
+    n == number.epc 1 || (n == number.epc nested_level || (is_eps n || holds_marks n))
 
 -- special registers that are equal, but for those that are lost
 pub record Same (lost : ℕ → Bool) (xs ys : List ℕ) : Type 0 where

@@ -2,6 +2,11 @@
 -- Registers'; which bits a register keeps, and which registers there are, is 'profile'). WINDOWBASE
 -- and WINDOWSTART are kept with the windows and are not among these.
 -- The list of special registers has no PS: that is a record of its own.
+--
+-- Profile: the bits that a register keeps (`value_kept`). SAR and EXCCAUSE keep six and VECBASE all
+-- but its low ten, so a shift and a vector are always defined; BR keeps sixteen, one for each
+-- Boolean register; INTENABLE keeps the interrupts that there are; EPS2 to EPS7 keep what PS keeps;
+-- software sets and clears bits 7 and 29 of INTERRUPT alone.
 use Rattle.std.specs.Prelude.{ℕ, ◌+◌, ◌-◌, ◌*◌, ◌/◌, ◌%◌, ◌^◌, Bool, ◌==◌, ◌&&◌, ◌||◌, not, nat_le}
 use Rattle.std.specs.Prelude.{if◌then◌else◌, Option, Some, None, List, slice_index, slice_set}
 use Rattle.std.specs.Prelude.{bit_and, bit_or}

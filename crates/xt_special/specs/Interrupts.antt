@@ -2,6 +2,11 @@
 -- Option'). Which bits there are, and their levels, is this project's own choice ('profile'): timer
 -- 0 (bit 6) and software (7) have level 1, timer 1 (15) and software (29) have level 3, and timer 2
 -- (16) has level 5.
+--
+-- Profile: the interrupts and their levels, a part of those of the ESP32 (PROCESSOR.md). Exception
+-- mode masks levels up to 3, so timer 2 alone can interrupt a window handler.
+-- Note: `after_high_level` serves levels from 2 on, and `eps` levels from 2 on (192 is DEPC).
+-- Entries into exceptions do not tick; the turn adds the tick.
 use Rattle.std.specs.Prelude.{ℕ, ◌+◌, ◌*◌, ◌^◌, true, false, ◌==◌, ◌&&◌, not, nat_lt, if◌then◌else◌}
 use Rattle.std.specs.Prelude.{None, slice_set, bit_and, max}
 use Rattle.xt_special.specs.declared.ps.Ps.{Ps}

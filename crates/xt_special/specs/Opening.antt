@@ -1,4 +1,7 @@
 -- The control state in which a core opens ('profile').
+--
+-- Profile: a core opens as if a CALL8 had called its first instruction (PROCESSOR.md), so the
+-- program may begin with an ENTRY. PRID is 0xCDCD on core 0 and 0xABAB on core 1.
 use Rattle.std.specs.Prelude.{ℕ, zero, suc, true, false, List, replicate, slice_set}
 use Rattle.xt_special.specs.declared.ps.Ps.{Ps}
 use Rattle.xt_special.specs.Numbers as number

@@ -1,5 +1,7 @@
 -- Carries a proof; nothing that a reader must believe.
 -- Ranges that the special registers keep.
+--
+-- Note: these ranges stand in conditions of public calls.
 use Rattle.std.specs.Prelude.{◌≡◌, ℕ, ◌%◌, ◌<◌, ◌^◌, Option, Some, None, List, slice_index}
 use Rattle.xt_special.specs.declared.ps.Ps.{Ps}
 use Rattle.xt_special.specs.declared.writes.SpecialWrite.{SpecialWrite}

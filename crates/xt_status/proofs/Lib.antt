@@ -1,3 +1,4 @@
 pub mod Writing
+pub mod Gathering
 pub mod Quiet
 mod Words

@@ -53,6 +53,7 @@ plain_status status.ReadFault image elf recording = refl
 plain_status status.WriteFault image elf recording = refl
 plain_status (status.TooLarge limit) image elf recording = refl
 plain_status status.Memory image elf recording = refl
+plain_status status.PastEnd image elf recording = refl
 
 -- a text that says one says the other
 pub said : {S E : Type 0} (bytes : S → List ℕ) (r : Result S E) (a b : List ℕ) → a ≡ b → IfOk r (λ t. bytes t ≡ a) → IfOk r (λ t. bytes t ≡ b)

@@ -2,3 +2,4 @@ pub mod Statuses
 pub mod Calls
 pub mod Writes
 pub mod Inputs
+pub mod Pieces

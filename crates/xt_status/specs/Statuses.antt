@@ -1,4 +1,8 @@
 -- The line of a status, and the code with which the program ends ('profile').
+--
+-- Profile: the text of a fault or a status is its name and its numbers, each by a table
+-- (`Statuses`). Three have words of another form behind the name: another digest, a fault inside a
+-- recording's image, a status that holds a fault.
 use Rattle.std.specs.Prelude.{ℕ, List, ◌++◌, codes, Result, Ok, Err}
 use Rattle.std.specs.Fmt.{decimal}
 use Rattle.hex.specs.Hex.{encode_lower}
@@ -15,7 +19,7 @@ use Rattle.xt_status.specs.declared.numbers.Numbers.TheVariants as numbers
 use Rattle.xt_status.specs.declared.status.Status.{Status}
 use Rattle.xt_status.specs.declared.status.Status.TheVariants.{Done, Usage, Image, Asm}
 use Rattle.xt_status.specs.declared.status.Status.TheVariants.{Elf, Recording, ReadFault}
-use Rattle.xt_status.specs.declared.status.Status.TheVariants.{WriteFault, TooLarge, Memory}
+use Rattle.xt_status.specs.declared.status.Status.TheVariants.{WriteFault, TooLarge, Memory, PastEnd}
 
 -- ---- a name with numbers
 
@@ -139,6 +143,7 @@ status_name ReadFault = codes "ReadFault"
 status_name WriteFault = codes "WriteFault"
 status_name (TooLarge limit) = codes "TooLarge"
 status_name Memory = codes "Memory"
+status_name PastEnd = codes "PastEnd"
 
 -- of a text's first fault its line, its column and its kind
 abbrev pub status_numbers : Status → Numbers
@@ -169,6 +174,7 @@ status_code WriteFault = 6
 status_code (TooLarge limit) = 7
 status_code Memory = 8
 status_code (Elf f) = 10
+status_code PastEnd = 21
 
 -- the status that a write comes to
 abbrev pub status_after : {T : Type 0} → Result T Refused → Status

@@ -4,10 +4,12 @@
 mod faults;
 mod inputs;
 mod numbers;
+mod pieces;
 mod status;
 mod text;
 
 pub use inputs::{IMAGE_LIMIT, RECORDING_LIMIT, image_in, recording_in};
 pub use numbers::Numbers;
+pub use pieces::Piece;
 pub use status::{Status, status_after, status_line};
 pub use text::write_text;

@@ -35,6 +35,8 @@ pub enum Status {
     TooLarge(u32),
     /// Memory ran out.
     Memory,
+    /// The script led beyond the run, and ended there.
+    PastEnd,
 }
 
 impl Status {
@@ -53,6 +55,7 @@ impl Status {
             Status::TooLarge(_) => 7,
             Status::Memory => 8,
             Status::Elf(_) => 10,
+            Status::PastEnd => 21,
         }
     }
 }
@@ -72,6 +75,7 @@ fn status_name(status: &Status) -> &'static str
         Status::WriteFault => "WriteFault",
         Status::TooLarge(_) => "TooLarge",
         Status::Memory => "Memory",
+        Status::PastEnd => "PastEnd",
     }
 }
 
@@ -89,7 +93,8 @@ fn status_numbers(status: &Status) -> Numbers
         | Status::Recording(_)
         | Status::ReadFault
         | Status::WriteFault
-        | Status::Memory => Numbers::Zero,
+        | Status::Memory
+        | Status::PastEnd => Numbers::Zero,
     }
 }
 

@@ -50,6 +50,7 @@ fn scripts(rt: HostRuntime) -> Result<(), Fail> {
         &[Command::Mem(0x3FFB_0000, 64)],
     )?;
     check(&rt, alloc, "next 4294967295", &[Command::Next(0xFFFF_FFFF)])?;
+    check(&rt, alloc, "end;regs 1", &[Command::End, Command::Regs(1)])?;
     check(
         &rt,
         alloc,
@@ -64,12 +65,13 @@ fn scripts(rt: HostRuntime) -> Result<(), Fail> {
     check(
         &rt,
         alloc,
-        "  next   0 ;back 0;go 1 0  ;  frames 1",
+        "  next   0 ;back 0;go 1 0  ;  frames 1;calls 00",
         &[
             Command::Next(0),
             Command::Back(0),
             Command::Go(1, 0),
             Command::Frames(1),
+            Command::Calls(0),
         ],
     )
 }
@@ -118,6 +120,10 @@ fn texts_that_are_no_scripts(rt: HostRuntime) -> Result<(), Fail> {
         "words 0 65",
         "trace 0 1",
         "trace 4294967296",
+        "calls",
+        "calls 2",
+        "end 0",
+        "ends",
     ];
     for text in texts {
         match parse_script(alloc, text) {

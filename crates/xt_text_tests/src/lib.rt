@@ -17,6 +17,8 @@ mod disasm_tests;
 #[cfg(test)]
 mod expr_tests;
 #[cfg(test)]
+mod flow_tests;
+#[cfg(test)]
 mod lex_tests;
 #[cfg(test)]
 mod mnemonic_tests;

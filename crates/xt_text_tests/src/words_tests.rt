@@ -1,7 +1,8 @@
 use std::alloc::Global;
 use std::test::Fail;
 use xt_command_line::{
-    Command, Listing, Openings, Refusal, Rigor, RunOptions, Span, meaning, script_text,
+    Command, CoreTurns, Listing, Openings, Refusal, Rigor, RunOptions, TurnList, TurnOrder, Turns,
+    Which, meaning, script_text,
 };
 use xt_trace::Stack;
 
@@ -14,10 +15,26 @@ fn words_of(alloc: Global, line: &str) -> Result<Vec<String>, Fail> {
     Ok(words)
 }
 
+// What words mean, as a text that can be compared.
+fn shown(alloc: Global, meant: &Result<Command, Refusal>) -> Result<String, Fail> {
+    Ok(format!(in alloc; "{meant:?}")?)
+}
+
+fn turns(from: u32, to: u32, core: Option<u8>, accesses: bool, jumps: bool) -> Turns {
+    Turns {
+        from,
+        to,
+        core,
+        accesses,
+        jumps,
+    }
+}
+
 #[test]
 fn words_and_meanings(rt: HostRuntime) -> Result<(), Fail> {
     let alloc = rt.alloc();
-    assert_eq!(rt; meaning(alloc, &[]), Err(Refusal::Usage(1)));
+    let none = shown(alloc, &meaning(alloc, &[]))?;
+    assert_eq!(rt; none, shown(alloc, &Err(Refusal::Usage(1)))?);
     let rows = [
         // the command
         ("fly", Err(Refusal::Usage(2))),
@@ -111,33 +128,43 @@ fn words_and_meanings(rt: HostRuntime) -> Result<(), Fail> {
         ("uses --lenient", Ok(Command::Uses(Rigor::Lenient))),
         ("uses all", Err(Refusal::Usage(3))),
         ("events --from 0", Err(Refusal::Usage(3))),
-        // positions
+        // turns
         (
             "trace",
-            Ok(Command::Trace(Span {
-                from: 0,
-                to: u32::MAX,
-            })),
+            Ok(Command::Trace(turns(0, u32::MAX, None, false, false))),
         ),
         (
             "trace --from 35",
-            Ok(Command::Trace(Span {
-                from: 35,
-                to: u32::MAX,
-            })),
+            Ok(Command::Trace(turns(35, u32::MAX, None, false, false))),
         ),
         (
             "trace --to 0x10 --from=12",
-            Ok(Command::Trace(Span { from: 12, to: 16 })),
+            Ok(Command::Trace(turns(12, 16, None, false, false))),
         ),
         (
             "trace --from 9 --to 3",
-            Ok(Command::Trace(Span { from: 9, to: 3 })),
+            Ok(Command::Trace(turns(9, 3, None, false, false))),
         ),
+        (
+            "trace --core 1",
+            Ok(Command::Trace(turns(0, u32::MAX, Some(1), false, false))),
+        ),
+        (
+            "trace --core=0x1",
+            Ok(Command::Trace(turns(0, u32::MAX, Some(1), false, false))),
+        ),
+        (
+            "trace --jumps --to 7 --core 0 --accesses",
+            Ok(Command::Trace(turns(0, 7, Some(0), true, true))),
+        ),
+        ("trace --core", Err(Refusal::Usage(3))),
+        ("trace --jumps --jumps", Err(Refusal::Usage(3))),
+        ("trace --accesses=1", Err(Refusal::Usage(3))),
+        ("trace --core 2", Err(Refusal::Usage(4))),
+        ("trace --core x", Err(Refusal::Usage(4))),
         ("trace 3", Err(Refusal::Usage(3))),
         ("trace --from", Err(Refusal::Usage(3))),
         ("trace --from 1 --from 1", Err(Refusal::Usage(3))),
-        ("trace --core 0", Err(Refusal::Usage(3))),
         ("trace --from x", Err(Refusal::Usage(4))),
         ("trace --to 4294967296", Err(Refusal::Usage(4))),
         // a number
@@ -156,7 +183,8 @@ fn words_and_meanings(rt: HostRuntime) -> Result<(), Fail> {
     ];
     for (line, answer) in rows {
         let words = words_of(alloc, line)?;
-        assert_eq!(rt; meaning(alloc, &words), answer, "{line:?}");
+        let meant = shown(alloc, &meaning(alloc, &words))?;
+        assert_eq!(rt; meant, shown(alloc, &answer)?, "{line:?}");
     }
     Ok(())
 }
@@ -179,10 +207,9 @@ fn words_and_scripts(rt: HostRuntime) -> Result<(), Fail> {
     Ok(())
 }
 
-#[test]
-fn words_and_options(rt: HostRuntime) -> Result<(), Fail> {
-    let alloc = rt.alloc();
-    let plain = RunOptions {
+// The options of words that say none.
+fn plain() -> RunOptions {
+    RunOptions {
         turns0: 100_000,
         turns1: 100_000,
         entry1: None,
@@ -195,14 +222,47 @@ fn words_and_options(rt: HostRuntime) -> Result<(), Fail> {
             lo: 0x3FFF_8000,
             hi: 0x4000_0000,
         },
-        seed: None,
+        order: TurnOrder::Free,
         trace: false,
         events: false,
         race: false,
         profile: false,
         uses: false,
-    };
-    let mut given = plain;
+    }
+}
+
+// With as many turns of core 0 as there can be.
+fn most() -> RunOptions {
+    let mut most = plain();
+    most.turns0 = 4_000_000;
+    most
+}
+
+// In the order of the seed 0.
+fn seeded() -> RunOptions {
+    let mut seeded = plain();
+    seeded.order = TurnOrder::Seeded(0);
+    seeded
+}
+
+// With an order of turns, each so many of core 0 or 1.
+fn listed(alloc: Global, turns: &[(Which, u32)]) -> Result<RunOptions, Fail> {
+    let mut list = Vec::new(alloc);
+    for (core, count) in turns {
+        list.push(CoreTurns {
+            core: *core,
+            count: *count,
+        })?;
+    }
+    let mut listed = plain();
+    listed.order = TurnOrder::Listed(TurnList::new(list));
+    Ok(listed)
+}
+
+#[test]
+fn words_and_options(rt: HostRuntime) -> Result<(), Fail> {
+    let alloc = rt.alloc();
+    let mut given = plain();
     given.turns0 = 7;
     given.turns1 = 0;
     given.entry1 = Some(0x400D_0000);
@@ -210,32 +270,28 @@ fn words_and_options(rt: HostRuntime) -> Result<(), Fail> {
     given.stack0.lo = 0x3FFA_E000;
     given.stack0.hi = 0x3FFA_E100;
     given.stack1.lo = 0x3FFF_FF00;
-    let mut most = plain;
-    most.turns0 = 4_000_000;
-    let mut traced = plain;
+    let mut traced = plain();
     traced.trace = true;
-    let mut told = plain;
+    let mut told = plain();
     told.events = true;
-    let mut raced = plain;
+    let mut raced = plain();
     raced.race = true;
-    let mut counted = plain;
+    let mut counted = plain();
     counted.profile = true;
-    let mut used = plain;
+    let mut used = plain();
     used.uses = true;
-    let mut whole = plain;
+    let mut whole = plain();
     whole.trace = true;
     whole.events = true;
     whole.race = true;
     whole.profile = true;
-    whole.seed = Some(4_294_967_295);
-    let mut seeded = plain;
-    seeded.seed = Some(0);
+    whole.order = TurnOrder::Seeded(4_294_967_295);
     let rows = [
-        ("run", Ok(plain)),
-        ("run --", Ok(plain)),
-        ("run --turns0 4000000", Ok(most)),
-        ("run --turns0=0x3D0900", Ok(most)),
-        ("run --turns0 0x003d0900", Ok(most)),
+        ("run", Ok(plain())),
+        ("run --", Ok(plain())),
+        ("run --turns0 4000000", Ok(most())),
+        ("run --turns0=0x3D0900", Ok(most())),
+        ("run --turns0 0x003d0900", Ok(most())),
         ("run --trace", Ok(traced)),
         ("run --events", Ok(told)),
         ("run --race", Ok(raced)),
@@ -247,7 +303,7 @@ fn words_and_options(rt: HostRuntime) -> Result<(), Fail> {
             "run --profile --seed 4294967295 --trace --race --events",
             Ok(whole),
         ),
-        ("run --seed=0x0", Ok(seeded)),
+        ("run --seed=0x0", Ok(seeded())),
         (
             "run --stack1 0x3FFFFF00:0x40000000 --stack0 1073405952:0x3ffae100 --vecbase 0x4009FC00 --entry1 0x400D0000 --turns1 0 --turns0 007",
             Ok(given),
@@ -314,20 +370,21 @@ fn words_and_options(rt: HostRuntime) -> Result<(), Fail> {
     ];
     for (line, answer) in rows {
         let words = words_of(alloc, line)?;
-        let meant = match answer {
+        let wanted = match answer {
             Ok(options) => Ok(Command::Run(options)),
             Err(refusal) => Err(refusal),
         };
-        assert_eq!(rt; meaning(alloc, &words), meant, "{line:?}");
+        let meant = shown(alloc, &meaning(alloc, &words))?;
+        assert_eq!(rt; meant, shown(alloc, &wanted)?, "{line:?}");
     }
     let rows = [
-        ("record", Ok(Command::Record(plain))),
-        ("record --turns0 4000000", Ok(Command::Record(most))),
+        ("record", Ok(Command::Record(plain()))),
+        ("record --turns0 4000000", Ok(Command::Record(most()))),
         ("record --trace", Err(Refusal::Usage(3))),
         ("record --events", Err(Refusal::Usage(3))),
         ("record --race", Err(Refusal::Usage(3))),
         ("record --profile", Err(Refusal::Usage(3))),
-        ("record --seed 0", Ok(Command::Record(seeded))),
+        ("record --seed 0", Ok(Command::Record(seeded()))),
         ("record --seed +1", Err(Refusal::Usage(4))),
         ("record --turns1 x", Err(Refusal::Usage(4))),
         ("record --turns1 4000001", Err(Refusal::Usage(5))),
@@ -335,7 +392,104 @@ fn words_and_options(rt: HostRuntime) -> Result<(), Fail> {
     ];
     for (line, answer) in rows {
         let words = words_of(alloc, line)?;
-        assert_eq!(rt; meaning(alloc, &words), answer, "{line:?}");
+        let meant = shown(alloc, &meaning(alloc, &words))?;
+        assert_eq!(rt; meant, shown(alloc, &answer)?, "{line:?}");
+    }
+    Ok(())
+}
+
+// A line whose last word has so many bytes, `0*1` with zeros before the 1.
+fn long_order(alloc: Global, bytes: usize) -> Result<String, Fail> {
+    let mut line = String::from_str(alloc, "run --order 0*")?;
+    for _zero in 3..bytes {
+        line.push('0')?;
+    }
+    line.push('1')?;
+    Ok(line)
+}
+
+#[test]
+fn words_and_orders(rt: HostRuntime) -> Result<(), Fail> {
+    let alloc = rt.alloc();
+    let zero = Which::Zero;
+    let one = Which::One;
+    let longest = long_order(alloc, 65_536)?;
+    let too_long = long_order(alloc, 65_537)?;
+    let rows = [
+        (
+            "run --order 0*13,1*4",
+            Ok(listed(alloc, &[(zero, 13), (one, 4)])?),
+        ),
+        (
+            "run --order=0x1*0x10,00*0,1*007",
+            Ok(listed(alloc, &[(one, 16), (zero, 0), (one, 7)])?),
+        ),
+        (
+            "run --order 0*4000000,1*4000000",
+            Ok(listed(alloc, &[(zero, 4_000_000), (one, 4_000_000)])?),
+        ),
+        (
+            "run --order 1*8000000",
+            Ok(listed(alloc, &[(one, 8_000_000)])?),
+        ),
+        // they do not match
+        ("run --order", Err(Refusal::Usage(3))),
+        ("run --order 0*1 --order 0*1", Err(Refusal::Usage(3))),
+        ("run --order 0*1 1*1", Err(Refusal::Usage(3))),
+        ("run --seed 1 --order 0*1", Err(Refusal::Usage(3))),
+        ("run --order x --seed x", Err(Refusal::Usage(3))),
+        (
+            "run --seed 1 --turns0 x --order 0*1",
+            Err(Refusal::Usage(3)),
+        ),
+        // no order
+        ("run --order=", Err(Refusal::Usage(4))),
+        ("run --order 0", Err(Refusal::Usage(4))),
+        ("run --order 0*", Err(Refusal::Usage(4))),
+        ("run --order *1", Err(Refusal::Usage(4))),
+        ("run --order 2*1", Err(Refusal::Usage(4))),
+        ("run --order 0*1*1", Err(Refusal::Usage(4))),
+        ("run --order 0*1,", Err(Refusal::Usage(4))),
+        ("run --order ,0*1", Err(Refusal::Usage(4))),
+        ("run --order 0*1,,1*1", Err(Refusal::Usage(4))),
+        ("run --order 0*1;1*1", Err(Refusal::Usage(4))),
+        ("run --order 0*+1", Err(Refusal::Usage(4))),
+        ("run --order 0*4294967296", Err(Refusal::Usage(4))),
+        ("run --order 0*8000001 --stack0 x", Err(Refusal::Usage(4))),
+        // too many turns
+        ("run --order 1*8000001", Err(Refusal::Usage(5))),
+        ("run --order 0*8000000,1*0,1*1", Err(Refusal::Usage(5))),
+        (
+            "run --order 0*4294967295,0*4294967295 --entry1 0",
+            Err(Refusal::Usage(5)),
+        ),
+        // a text of 65,536 bytes, and one more
+        (longest.as_str(), Ok(listed(alloc, &[(zero, 1)])?)),
+        (too_long.as_str(), Err(Refusal::Usage(4))),
+    ];
+    for (line, answer) in rows {
+        let words = words_of(alloc, line)?;
+        let wanted = match answer {
+            Ok(options) => Ok(Command::Run(options)),
+            Err(refusal) => Err(refusal),
+        };
+        let meant = shown(alloc, &meaning(alloc, &words))?;
+        assert_eq!(rt; meant, shown(alloc, &wanted)?, "{line:.60}");
+    }
+    let rows = [
+        (
+            "record --order 1*2,0*3",
+            Ok(Command::Record(listed(alloc, &[(one, 2), (zero, 3)])?)),
+        ),
+        ("record --order 0*1 --seed 0", Err(Refusal::Usage(3))),
+        ("record --order 0*1,1", Err(Refusal::Usage(4))),
+        ("trace --order 0*1", Err(Refusal::Usage(3))),
+        ("dis --flow --order 0*1", Err(Refusal::Usage(3))),
+    ];
+    for (line, answer) in rows {
+        let words = words_of(alloc, line)?;
+        let meant = shown(alloc, &meaning(alloc, &words))?;
+        assert_eq!(rt; meant, shown(alloc, &answer)?, "{line:?}");
     }
     Ok(())
 }

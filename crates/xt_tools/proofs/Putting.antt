@@ -52,6 +52,7 @@ pub refused_puts : (r : Option Status) (Is : List ℕ → Type 0) (told : Option
 refused_puts r Is told faults status.Memory of_fault refused = inl (keeps_same told)
 refused_puts r Is told faults status.Done of_fault refused = absurd (of_fault status.Done (refused (λ p. cc)))
 refused_puts r Is told faults status.WriteFault of_fault refused = absurd (of_fault status.WriteFault (refused (λ p. cc)))
+refused_puts r Is told faults status.PastEnd of_fault refused = (refused (λ p. cc), keeps_same told)
 refused_puts r Is told faults status.ReadFault of_fault refused = (refused (λ p. cc), keeps_same told)
 refused_puts r Is told faults (status.TooLarge limit) of_fault refused = (refused (λ p. cc), keeps_same told)
 refused_puts r Is told faults (status.Usage rule) of_fault refused = (refused (λ p. cc), keeps_same told)

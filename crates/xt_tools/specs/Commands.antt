@@ -14,15 +14,16 @@ use Rattle.xt_record.specs.Fields.{image_in}
 use Rattle.xt_record.specs.Format.{run_in}
 use Rattle.xt_record.specs.Written.{recording_bytes}
 use Rattle.xt_events.specs.Events.{events_text}
-use Rattle.xt_events.specs.Lines.{turns_text}
 use Rattle.xt_counts.specs.Texts.{IsCountsText}
+use Rattle.xt_events.specs.Lines.{filtered_text}
+use Rattle.xt_events.specs.declared.filter.Filter.{Filter}
 use Rattle.xt_race.specs.Races.{events_of}
 use Rattle.xt_race.specs.Texts.{IsRaceText}
 use Rattle.xt_profile.specs.Profiled.{profile_of}
 use Rattle.xt_profile.specs.Texts.{profile_text}
 use Rattle.xt_command_line.specs.declared.command.Listing.{Listing}
 use Rattle.xt_command_line.specs.declared.command.Listing.TheVariants as listing
-use Rattle.xt_command_line.specs.declared.command.Span.{Span}
+use Rattle.xt_command_line.specs.declared.command.Turns.{Turns}
 use Rattle.xt_status.specs.declared.status.Status.{Status}
 use Rattle.xt_status.specs.declared.status.Status.TheVariants as status
 
@@ -67,9 +68,13 @@ migrated input = recording_bytes (image_in input) (run_in input)
 unfoldable pub happened : List ℕ → List ℕ
 happened input = events_text (image_in input) (run_in input)
 
+-- what is asked for of a turn
+abbrev pub filter_of : Turns → Filter
+filter_of t = record { core = t.core; accesses = t.accesses; jumps = t.jumps }
+
 -- the lines of these turns of that run
-unfoldable pub traced : Span → List ℕ → List ℕ
-traced span input = turns_text (image_in input) (run_in input) span.from span.to
+unfoldable pub traced : Turns → List ℕ → List ℕ
+traced t input = filtered_text (filter_of t) (image_in input) (run_in input) t.from t.to
 
 -- how often each core executed the instruction at each address in that run
 abbrev pub IsCountsTold : List ℕ → List ℕ → Type 0

@@ -3,15 +3,15 @@ ghost use Rattle.std.specs.Prelude.{◌≡◌, ◌≢◌, IfOk, IfErr, Some};
 ghost use Rattle.xt_record.specs.Fields.{image_in};
 ghost use Rattle.xt_record.specs.Format.{run_in};
 ghost use Rattle.xt_status.specs.Inputs.{recording_refusal};
-ghost use Rattle.xt_tools.specs.Commands.{IsCountsTold, IsMade, IsRaceTold, happened, migrated, profiled, traced};
+ghost use Rattle.xt_tools.specs.Commands.{IsCountsTold, IsMade, IsRaceTold, filter_of, happened, migrated, profiled, traced};
 ghost use Rattle.xt_tools.specs.Puts.{Puts};
 ghost use Rattle.xt_use_report.specs.Told.{IsUsesTold};
 
 use crate::turns::write_turns;
 use std::alloc::Global;
-use xt_command_line::Span;
+use xt_command_line::Turns;
 use xt_counts::counts_text;
-use xt_events::{TurnLines, events_text};
+use xt_events::{Filter, TurnLines, events_text};
 use xt_image::well_formed_is_placed;
 use xt_io::Sink;
 use xt_map::Text;
@@ -90,10 +90,21 @@ pub fn uses(alloc: Global, discipline: Discipline, input: &[u8]) -> Result<Text,
     uses_text(alloc, discipline, &image, &run).map_err(|_| Status::Memory)
 }
 
-/// Writes the lines of these turns of a recorded run, each before the next is made, or ends with the
+// What is asked for of a turn.
+fn filter_of(turns: Turns) -> Filter
+    ensures { result ≡ filter_of turns }
+{
+    Filter {
+        core: turns.core,
+        accesses: turns.accesses,
+        jumps: turns.jumps,
+    }
+}
+
+/// Writes the lines of these turns of a recorded run, in writes of up to 65,536 bytes, or ends with the
 /// status of the recording's first fault.
-pub fn trace<K: Sink>(alloc: Global, span: Span, input: &[u8], sink: &mut K) -> Status
-    ensures { Puts (recording_refusal input.now) (λ bytes. bytes ≡ traced span input.now)
+pub fn trace<K: Sink>(alloc: Global, turns: Turns, input: &[u8], sink: &mut K) -> Status
+    ensures { Puts (recording_refusal input.now) (λ bytes. bytes ≡ traced turns input.now)
         (K.told sink.old) (K.told sink.new) (K.faults sink.old) (K.faults sink.new) result }
 {
     let (image, run) = match recording_in(alloc, input) {
@@ -101,7 +112,9 @@ pub fn trace<K: Sink>(alloc: Global, span: Span, input: &[u8], sink: &mut K) -> 
         Err(status) => return status,
     };
     well_formed_is_placed();
-    let Ok(mut lines) = TurnLines::make(alloc, &image, &run, span.from, span.to) else {
+    let filter = filter_of(turns);
+    let Ok(mut lines) = TurnLines::filtered(alloc, &image, &run, filter, turns.from, turns.to)
+    else {
         return Status::Memory;
     };
     status_after(write_turns(alloc, &mut lines, sink))

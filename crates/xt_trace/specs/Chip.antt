@@ -1,4 +1,7 @@
 -- A processor, as far as traces and runs see it ('profile').
+--
+-- Profile: Of runs over an abstract processor, in the same crate (`Chip` and what cites it): the
+-- usual notion of one sequential memory; the laws of runs speak of no instruction.
 use Rattle.std.specs.Prelude.{◌≡◌, ℕ, Option, Some}
 use Rattle.xt_map.specs.declared.access.Access.{Access}
 use Rattle.xt_trace.specs.declared.record.StepRecord.{StepRecord}

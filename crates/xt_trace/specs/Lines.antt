@@ -1,4 +1,7 @@
 -- The line of a record in a printed trace ('profile').
+--
+-- Note: a record shows PC, CCOUNT, PS.OWB and INTERRUPT as the turn began, but the written register
+-- by its number in the window in which the turn ends. The reply is 0 where there is no access.
 use Rattle.std.specs.Prelude.{ℕ, Option, Some, None, List, [], ◌++◌, codes}
 use Rattle.std.specs.Fmt.{decimal}
 use Rattle.xt_word.specs.Hexadecimal.{hex8}

@@ -1,4 +1,9 @@
 -- Runs of two cores over one bus, and the run of a list of cores ('profile').
+--
+-- Note: `IsRunOf` relates a history and two traces and says nothing of how they came about; the
+-- laws say that each list of cores gives a run, and that a run is the run of its own schedule. In a
+-- list of cores 0 is core 0 and any other number is core 1; a number whose core has ended gives
+-- nothing.
 use Rattle.std.specs.Prelude.{◌≡◌, ℕ, List, [], length}
 use Rattle.xt_map.specs.declared.access.Entry.{Entry}
 use Rattle.xt_map.specs.declared.contents.MemoryContents.{MemoryContents}

@@ -1,5 +1,9 @@
 -- The schedule of a run, over the cores of its history and the counts and places
 -- of its traces ('profile').
+--
+-- Profile: the schedule of a run is read from its history: the turns of a core stand as late as its
+-- next access allows. Between two accesses a core touches nothing that the other sees, so the order
+-- of such turns tells nothing.
 use Rattle.std.specs.Prelude.{ℕ, zero, suc, ◌-◌, Option, Some, None, List, [], ◌∷◌, ◌++◌, map}
 use Rattle.std.specs.Prelude.{replicate}
 use Rattle.xt_map.specs.declared.access.Access.{Access}

@@ -1,4 +1,7 @@
 -- The trace of a core over the replies to its accesses ('profile').
+--
+-- Profile: a trace is kept as a count and the numbers of the turns with an access, because the
+-- records can be made again from the replies.
 use Rattle.std.specs.Prelude.{ℕ, zero, suc, Bool, if◌then◌else◌, Option, Some, None, List, [], ◌∷◌}
 use Rattle.std.specs.List.{list_any}
 use Rattle.xt_map.specs.declared.access.Access.{Access}

@@ -1,4 +1,10 @@
 -- Which options a run accepts ('profile').
+--
+-- Profile: at most 4,000,000 turns for each core, because every access is kept in memory. A stack
+-- ends at multiples of 16, as stack pointers are, and VECBASE is a multiple of 1024, as the
+-- register keeps it.
+-- Note: valid options may have stacks that overlap; only the theorem about frames asks that they
+-- are apart.
 use Rattle.std.specs.Prelude.{◌≡◌, ℕ, ◌+◌, ◌%◌, ◌≤◌, true}
 use Rattle.xt_map.specs.Regions.{region_of, is_executable}
 use Rattle.xt_trace.specs.declared.options.Stack.{Stack}

@@ -9,38 +9,43 @@ use Rattle.xt_isa.specs.declared.density.Density.TheVariants as density
 use Rattle.xt_isa.specs.declared.density.NarrowRetName.TheVariants as NarrowRetName
 use Rattle.xt_special.specs.Numbers as number
 use Rattle.xt_special.specs.Control.{Control, special_of}
+use Rattle.xt_special.specs.declared.ps.Ps.{Ps}
+use Rattle.xt_special.specs.Timers.{ticked}
 use Rattle.xt_trace.specs.declared.record.RegWrite.{RegWrite}
 use Rattle.xt_rows.specs.Kinds.{is_return}
+use Rattle.xt_rows.specs.declared.outcome.Flow.TheVariants.{Falls}
+use Rattle.xt_rows.specs.Settling.{after_flow}
 use Rattle.xt_rows.specs.Effects.{illegal_instruction}
 use Rattle.xt_rows.specs.Operands.{reads}
 use Rattle.xt_rows.specs.Outcomes.{value_of}
 use Rattle.xt_frames.specs.Frames.{Frame, FrameState, known}
-use Rattle.xt_frames.specs.FrameStep.{FrameTurn, popped, popped_from, pushed}
+use Rattle.xt_frames.specs.FrameStep.{FrameTurn, popped, popped_from, pushed, raised}
 use Rattle.xt_frames.specs.Breaches.{is_sp, may_write_sp, writes_sp}
+use Rattle.xt_uses.specs.declared.discipline.Discipline.{Discipline}
 use Rattle.xt_uses.specs.Used.{control_used, density_used, used_are_known}
 use Rattle.xt_uses.specs.UseBreaches.{uses_unknown, reads_no_number}
 use Rattle.xt_uses.specs.UseLaws.{WritesAgree}
 use Rattle.xt_uses.specs.UseState.{UseState, first_word, second_word}
 use Rattle.xt_uses.proofs.Wholes.{whole_value}
-use Rattle.xt_use_run.specs.Knowing.{ControlFit, FramesFit, NowFit}
+use Rattle.xt_use_run.specs.Knowing.{ControlLeft, FramesFit, NowFit}
 use Rattle.xt_use_run.proofs.Calling.{falls_fits}
 use Rattle.xt_use_run.proofs.Operands.{word_fits}
 use Rattle.xt_use_run.proofs.Rows.{Executes, Pops, Pushes, Rests, RowStep, raise_quiet}
-use Rattle.xt_use_run.proofs.Specials.{ticked_fits}
+use Rattle.xt_use_run.proofs.Specials.{left_fits, ticked_fits}
 
 -- ---- what is used
 pub record Uses (i : Insn) (s : UseState) (h : FrameState) : Type 0 where
   pub number : reads_no_number i h ≡ false
-  pub used : used_are_known i (first_word i s h) (second_word i s h) ≡ true
+  pub used : used_are_known s.masks.discipline i (first_word i s h) (second_word i s h) ≡ true
 
 pub uses_known : (i : Insn) (s : UseState) (h : FrameState) → uses_unknown i s h ≡ false → Uses i s h
 uses_known i s h e =
-    let a = or_parts _ (reads_no_number i h || not (used_are_known i (first_word i s h) (second_word i s h))) e in
-    let b = or_parts (reads_no_number i h) (not (used_are_known i (first_word i s h) (second_word i s h))) a.1 in
+    let a = or_parts _ (reads_no_number i h || not (used_are_known s.masks.discipline i (first_word i s h) (second_word i s h))) e in
+    let b = or_parts (reads_no_number i h) (not (used_are_known s.masks.discipline i (first_word i s h) (second_word i s h))) a.1 in
     record { number = b.0; used = not-false _ b.1 }
 
 -- RETW uses all of a0
-pub return_whole : {s : UseState} {g h : FrameState} → NowFit s g h → (i : Insn) → used_are_known i (first_word i s h) (second_word i s h) ≡ true → value_of (known g.seen) (reads i).0 < 2 ^ 32 → is_return i ≡ true → known g.seen 0 ≡ known h.seen 0
+pub return_whole : {s : UseState} {g h : FrameState} → NowFit s g h → (i : Insn) → used_are_known s.masks.discipline i (first_word i s h) (second_word i s h) ≡ true → value_of (known g.seen) (reads i).0 < 2 ^ 32 → is_return i ≡ true → known g.seen 0 ≡ known h.seen 0
 unfolding is_return reads used_are_known control_used density_used
 return_whole {s = s} {g = g} {h = h} f (insn.Control (control.Ret RetName.Retw)) used small is = sym (whole_value (known g.seen 0) (first_word (insn.Control (control.Ret RetName.Retw)) s h) (word_fits f (Some 0)) small used)
 return_whole {s = s} {g = g} {h = h} f (insn.Density (density.Ret NarrowRetName.Retw)) used small is = sym (whole_value (known g.seen 0) (first_word (insn.Density (density.Ret NarrowRetName.Retw)) s h) (word_fits f (Some 0)) small used)
@@ -72,31 +77,31 @@ sp_tested {i = i} {s = s} {g = g} {h = h} {u = u} {v = v} frames (Pops a0 low re
     by_frames (m ∷ ms) [] gs k = absurd k
     by_frames (m ∷ ms) (c ∷ fs) [] k = absurd k
 
--- ---- PS and VECBASE
+-- ---- PS.WOE and VECBASE
 abbrev pub AlikeAfter : FrameTurn → FrameTurn → Type 0
-AlikeAfter u v = (u.after.control.ps ≡ v.after.control.ps) × (special_of u.after.control number.vecbase ≡ special_of v.after.control number.vecbase)
+AlikeAfter u v = (u.after.control.ps.woe ≡ v.after.control.ps.woe) × (special_of u.after.control number.vecbase ≡ special_of v.after.control number.vecbase)
 
-fit_after : {special : List ℕ} {bits : ℕ} {c d : Control} → ControlFit special bits c d → (c.ps ≡ d.ps) × (special_of c number.vecbase ≡ special_of d number.vecbase)
-fit_after f = (f.even.ps, f.even.special.at 231 refl)
+fit_after : {by : Discipline} {special : List ℕ} {bits : ℕ} {c : Control} (d : Control) → ControlLeft by special bits c d → (c.ps.woe ≡ d.ps.woe) × (special_of c number.vecbase ≡ special_of d number.vecbase)
+fit_after d f = (ap (λ (p : Ps). p.woe) f.even.ps, f.even.special.at 231 refl)
 
 pub alike_after : {i : Insn} {s : UseState} {g h : FrameState} {mask : ℕ} {u v : FrameTurn} → NowFit s g h → RowStep i s g h mask u v → AlikeAfter u v
 unfolding pushed popped
-alike_after f (Executes x) = fit_after x.control
-alike_after f (Rests x why) = fit_after x.control
+alike_after {v = v} f (Executes x) = fit_after v.after.control x.control
+alike_after {v = v} f (Rests x why) = fit_after v.after.control x.control
 alike_after {g = g} {h = h} {u = u} {v = v} f (Pushes number value len low entry size_ is_ word_ eu ev) =
-    let k = fit_after (ticked_fits (falls_fits f.control len)) in (
-      ap (λ (z : FrameTurn). z.after.control.ps) eu ∙ (k.0 ∙ sym (ap (λ (z : FrameTurn). z.after.control.ps) ev)),
+    let k = fit_after (ticked (after_flow Falls len h.control)) (left_fits (ticked_fits (falls_fits f.control len))) in (
+      ap (λ (z : FrameTurn). z.after.control.ps.woe) eu ∙ (k.0 ∙ sym (ap (λ (z : FrameTurn). z.after.control.ps.woe) ev)),
       ap (λ (z : FrameTurn). special_of z.after.control 231) eu ∙ (k.1 ∙ sym (ap (λ (z : FrameTurn). special_of z.after.control 231) ev)),
     )
 alike_after {s = s} {g = g} {h = h} {u = u} {v = v} f (Pops a0 low return_ eu ev) =
     let k = by_frames s.masks.kept g.frames h.frames f.frames in (
-      ap (λ (z : FrameTurn). z.after.control.ps) eu ∙ (k.0 ∙ sym (ap (λ (z : FrameTurn). z.after.control.ps) ev)),
+      ap (λ (z : FrameTurn). z.after.control.ps.woe) eu ∙ (k.0 ∙ sym (ap (λ (z : FrameTurn). z.after.control.ps.woe) ev)),
       ap (λ (z : FrameTurn). special_of z.after.control 231) eu ∙ (k.1 ∙ sym (ap (λ (z : FrameTurn). special_of z.after.control 231) ev)),
     )
   where
     by_frames : (ms : List (List ℕ)) (fs gs : List Frame) → FramesFit ms fs gs → AlikeAfter (popped_from fs a0 g) (popped_from gs a0 h)
-    by_frames [] [] [] k = fit_after (raise_quiet f illegal_instruction None).control
-    by_frames (m ∷ ms) (c ∷ fs) (d ∷ gs) k = let q = fit_after (ticked_fits f.control) in (q.0, q.1)
+    by_frames [] [] [] k = fit_after (raised illegal_instruction None h).after.control (raise_quiet f illegal_instruction None).control
+    by_frames (m ∷ ms) (c ∷ fs) (d ∷ gs) k = let q = fit_after (ticked h.control) (left_fits (ticked_fits f.control)) in (q.0, q.1)
     by_frames [] [] (d ∷ gs) k = absurd k
     by_frames [] (c ∷ fs) gs k = absurd k
     by_frames (m ∷ ms) [] gs k = absurd k

@@ -19,7 +19,7 @@ use Rattle.xt_use_run.specs.Knowing.{ControlFit, Follows, Knows, SeenFit, UnsetF
 use Rattle.xt_use_run.proofs.Lists.{laid_fits}
 use Rattle.xt_use_run.proofs.NestedFollow.{placed_fits}
 use Rattle.xt_use_run.proofs.Seen.{blank, cut_zero}
-use Rattle.xt_use_run.proofs.Specials.{taken_fits, ticked_fits}
+use Rattle.xt_use_run.proofs.Specials.{left_fits, taken_fits, told_ps, ticked_fits}
 
 -- a special register that keeps nothing unknown loses its number in both
 plain_unset : {special : List ℕ} {xs ys : List Bool} → UnsetFit special xs ys → (n : ℕ) (b : Bool) → holds_marks n ≡ false → UnsetFit special (set xs n b) (set ys n b)
@@ -68,10 +68,10 @@ use_begins code rec bytes s nesting sn =
     cond-true (begins true rec.kind s.frame) _ _ start
 
 module _ {f : FrameState} {s : UseState} (k : Knows f s) (inp : Inputs) where
-  laid_control : ControlFit s.masks.special s.masks.threadptr (laid inp f).control (laid inp s.frame).control
+  laid_control : ControlFit s.masks.discipline s.masks.special s.masks.threadptr (laid inp f).control (laid inp s.frame).control
   laid_control = laid_fits inp f s.frame k.control
 
-  taken : ControlFit s.masks.special s.masks.threadptr (in_frame (settled_interrupt 5 (laid inp f).control) 0 (laid inp f)).after.control (in_frame (settled_interrupt 5 (laid inp s.frame).control) 0 (laid inp s.frame)).after.control
+  taken : ControlFit s.masks.discipline s.masks.special s.masks.threadptr (in_frame (settled_interrupt 5 (laid inp f).control) 0 (laid inp f)).after.control (in_frame (settled_interrupt 5 (laid inp s.frame).control) 0 (laid inp s.frame)).after.control
   taken = ticked_fits (taken_fits laid_control 5 (omega arith))
 
   pub begin_follows : Follows (other_turn (inner_unknown s.masks) (begun (laid inp s.frame))) (begun (laid inp f))
@@ -84,12 +84,12 @@ module _ {f : FrameState} {s : UseState} (k : Knows f s) (inp : Inputs) where
       seen = k.seen;
       sp = k.sp;
       frames = k.frames;
-      control = placed_fits taken (laid inp f).control.pc (laid inp s.frame).control.pc (laid inp f).control.ps (laid inp s.frame).control.ps laid_control.even.pc laid_control.even.ps;
+      control = left_fits (placed_fits taken (laid inp f).control.pc (laid inp s.frame).control.pc (laid inp f).control.ps (laid inp s.frame).control.ps laid_control.even.pc laid_control.even.ps);
       unset = plain_unset (plain_unset k.unset 181 true refl) 197 true refl;
       nested = record {
         seen = blank_fits;
         pc = taken.even.pc;
-        ps = taken.even.ps;
+        ps = told_ps taken.even.ps;
         marks = refl;
         spread = refl;
         saved = refl;

@@ -10,6 +10,7 @@ use Rattle.xt_isa.specs.declared.control.Control.TheVariants as control
 use Rattle.xt_isa.specs.declared.control.RetName.TheVariants as RetName
 use Rattle.xt_isa.specs.declared.density.Density.TheVariants as density
 use Rattle.xt_isa.specs.declared.density.NarrowRetName.TheVariants as NarrowRetName
+use Rattle.xt_special.specs.Access.{is_eps}
 use Rattle.xt_special.specs.declared.ps.Ps.{Ps}
 use Rattle.xt_special.specs.Control.{Control}
 use Rattle.xt_special.specs.Timers.{ticked}
@@ -29,18 +30,19 @@ use Rattle.xt_frames.specs.Stacks.{AreFrames}
 use Rattle.xt_frames.specs.declared.holes.Nested.{Nested}
 use Rattle.xt_simulation.proofs.Evenly.{even_flow}
 use Rattle.xt_simulation.specs.Relation.{Even}
+use Rattle.xt_uses.specs.declared.discipline.Discipline.{Discipline}
 use Rattle.xt_uses.specs.Words.{all_bits}
 use Rattle.xt_uses.specs.declared.words.Word.{Word}
 use Rattle.xt_uses.specs.Known.{result_mask}
 use Rattle.xt_uses.specs.UseState.{Masks, UseState, first_word}
 use Rattle.xt_uses.specs.UseStep.{called, cut_number, cut_seen, cut_state, executed, frames_moved, insn_turn, masks_past, pointer_written, returned, special_written, use_turn, visible_written}
 use Rattle.xt_uses.specs.UseLaws.{pointer_mask}
-use Rattle.xt_use_run.specs.Knowing.{ControlFit, Follows, FramesFit, Knows, SeenFit, with_pointer}
+use Rattle.xt_use_run.specs.Knowing.{ControlFit, Follows, FramesFit, Knows, SeenFit, is_partial, with_pointer}
 use Rattle.xt_use_run.proofs.Following.{with_unset}
 use Rattle.xt_use_run.proofs.Lists.{pointer_is, write_fits}
 use Rattle.xt_use_run.proofs.Operands.{cut_all}
 use Rattle.xt_use_run.proofs.Seen.{called_fits, kept_fits, known_same, returned_fits}
-use Rattle.xt_use_run.proofs.Specials.{flow_pointer, flow_special, flow_threadptr, ticked_fits, mark_range}
+use Rattle.xt_use_run.proofs.Specials.{eps_range, flow_pointer, flow_special, flow_threadptr, left_fits, ticked_fits, mark_range}
 use Rattle.xt_use_run.proofs.Specials as specials
 
 -- ---- what ENTRY and RETW leave alone
@@ -49,10 +51,10 @@ unfolding is_entry moved_to
 entry_moves (insn.Control (control.Entry s n)) e = refl
 entry_moves _ e = absurd cc
 
-entry_result : (i : Insn) (a b c : Word) (pointer r : ℕ) → is_entry i ≡ true → result_mask i a b c pointer r ≡ all_bits
+entry_result : (by : Discipline) (i : Insn) (a b c : Word) (pointer r : ℕ) → is_entry i ≡ true → result_mask by i a b c pointer r ≡ all_bits
 unfolding is_entry result_mask
-entry_result (insn.Control (control.Entry s n)) a b c pointer r e = refl
-entry_result _ a b c pointer r e = absurd cc
+entry_result by (insn.Control (control.Entry s n)) a b c pointer r e = refl
+entry_result by _ a b c pointer r e = absurd cc
 
 entry_pointer : (i : Insn) (mask bits : ℕ) → is_entry i ≡ true → pointer_mask i mask bits ≡ bits
 unfolding is_entry pointer_mask
@@ -78,26 +80,29 @@ return_pointer (insn.Density (density.Ret NarrowRetName.Retw)) mask bits e = ref
 return_pointer _ mask bits e = absurd cc
 
 -- to the next instruction, or back in a loop
-pub falls_fits : {special : List ℕ} {bits : ℕ} {c d : Control} → ControlFit special bits c d → (len : ℕ) → ControlFit special bits (after_flow Falls len c) (after_flow Falls len d)
+pub falls_fits : {by : Discipline} {special : List ℕ} {bits : ℕ} {c d : Control} → ControlFit by special bits c d → (len : ℕ) → ControlFit by special bits (after_flow Falls len c) (after_flow Falls len d)
 falls_fits {c = c} {d = d} f len =
     let apart : (n : ℕ) → holds_marks n ≡ true → n ≢ 2 = λ n h e. ⊎_elim (λ r. let lo = r.0 in omega arith) (λ r. let lo = r.0 in omega arith) (mark_range n h) in
+    let far : (n : ℕ) → is_eps n ≡ true → n ≢ 2 = λ n h e. let r = eps_range n h in let lo = r.0 in omega arith in
     specials.kept_fits f (after_flow Falls len c) (after_flow Falls len d)
     (λ n h. flow_special Falls len c n (apart n h))
     (λ n h. flow_special Falls len d n (apart n h))
     (flow_threadptr Falls len c)
     (flow_threadptr Falls len d)
-    (subst (Even holds_marks (after_flow Falls len c)) (sym (flow_pointer Falls len d c.threadptr)) (even_flow Falls len c (with_pointer c.threadptr d) f.even))
+    (subst (Even is_partial (after_flow Falls len c)) (sym (flow_pointer Falls len d c.threadptr)) (even_flow Falls len c (with_pointer c.threadptr d) f.even))
+    (λ n h. specials.saved_as f n (after_flow Falls len c) (after_flow Falls len d) h (flow_special Falls len c n (far n h)) (flow_special Falls len d n (far n h)))
 
-goes_fits : {special : List ℕ} {bits : ℕ} {c d : Control} → ControlFit special bits c d → (pc pc2 : ℕ) → pc ≡ pc2 → ControlFit special bits (record c { pc = pc }) (record d { pc = pc2 })
+goes_fits : {by : Discipline} {special : List ℕ} {bits : ℕ} {c d : Control} → ControlFit by special bits c d → (pc pc2 : ℕ) → pc ≡ pc2 → ControlFit by special bits (record c { pc = pc }) (record d { pc = pc2 })
 goes_fits f pc pc2 e = record {
   even = record { pc = e; ps = f.even.ps; threadptr = refl; waits = f.even.waits; special = f.even.special };
   pointer = f.pointer;
   spread = f.spread;
   words = f.words;
   fits = f.fits;
+  saved = f.saved;
 }
 
-module _ {f : FrameState} {s : UseState} (k : Knows f s) (sn : s.frame.nested ≡ None) (inp : Inputs) (laid_control : ControlFit s.masks.special s.masks.threadptr (laid inp f).control (laid inp s.frame).control) where
+module _ {f : FrameState} {s : UseState} (k : Knows f s) (sn : s.frame.nested ≡ None) (inp : Inputs) (laid_control : ControlFit s.masks.discipline s.masks.special s.masks.threadptr (laid inp f).control (laid inp s.frame).control) where
   abbrev g : FrameState
   g = laid inp f
 
@@ -166,7 +171,7 @@ module _ {f : FrameState} {s : UseState} (k : Knows f s) (sn : s.frame.nested �
       seen = seen_fit;
       sp = sp_u ∙ sym sp_v;
       frames = frames_fit;
-      control = ticked_fits (falls_fits laid_control len);
+      control = left_fits (ticked_fits (falls_fits laid_control len));
       unset = k.unset;
       nested = k.nested;
     }
@@ -189,7 +194,7 @@ module _ {f : FrameState} {s : UseState} (k : Knows f s) (sn : s.frame.nested �
     entry_insn : (r : ℕ) → Follows (insn_turn i r s h (turn_v n)) turn_u
     entry_insn r =
         let mask = (insn_turn i r s h (turn_v n)).mask in
-        let full : mask ≡ all_bits = entry_result i _ _ _ s.masks.threadptr r entry in
+        let full : mask ≡ all_bits = entry_result s.masks.discipline i _ _ _ s.masks.threadptr r entry in
         let m : masks_past i mask s h (turn_v n) ≡ record s.masks { seen = set (drop (4 * n) s.masks.seen ++ replicate (4 * n) 0) number mask; kept = take (4 * n) s.masks.seen ∷ s.masks.kept } = entry_masks mask (turn_v n) refl in
         record {
           kind = refl;
@@ -257,7 +262,7 @@ module _ {f : FrameState} {s : UseState} (k : Knows f s) (sn : s.frame.nested �
           seen = here;
           sp = p ∙ (sp ∙ sym q);
           frames = fit.1.1.1;
-          control = ticked_fits (goes_fits laid_control (return_pc g.control.pc a0) (return_pc h.control.pc a0) (ap (λ z. return_pc z a0) laid_control.even.pc));
+          control = left_fits (ticked_fits (goes_fits laid_control (return_pc g.control.pc a0) (return_pc h.control.pc a0) (ap (λ z. return_pc z a0) laid_control.even.pc)));
           unset = k.unset;
           nested = k.nested;
         }

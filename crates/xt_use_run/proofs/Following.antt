@@ -23,7 +23,7 @@ use Rattle.xt_uses.specs.Words.{all_bits}
 use Rattle.xt_uses.specs.UseState.{Masks, UseState, current_masks, first_word, second_word}
 use Rattle.xt_uses.specs.UseStep.{called, cut_seen, cut_state, cut_write, executed, frames_moved, insn_turn, masks_past, pointer_written, returned, special_written, use_turn, visible_written}
 use Rattle.xt_uses.specs.UseLaws.{AccessFits, IsSent, KindFits, KindsAgree, WriteFits, WritesAgree, pointer_mask}
-use Rattle.xt_use_run.specs.Knowing.{ControlFit, Follows, Knows, NowFit, SeenFit, UnsetFit}
+use Rattle.xt_use_run.specs.Knowing.{ControlLeft, Follows, Knows, NowFit, SeenFit, UnsetFit}
 use Rattle.xt_use_run.proofs.Effects.{moved_masks}
 use Rattle.xt_use_run.proofs.Lists.{IsVisible, laid_fits, moved_unset, pointer_is, rest_unset, special_is, visible_is, write_fits, write_other, written_list}
 use Rattle.xt_use_run.proofs.Rows.{AskedAlike, KindIn, Ordinary, Quiet, StoredIn}
@@ -92,7 +92,7 @@ module _ {f : FrameState} {s : UseState} (k : Knows f s) (fn : f.nested ≡ None
 
   -- the states after it
   module _ (i : Insn) (mask : ℕ) (v w : Option RegWrite) (c d : Control) (us vs : List Bool) (agree : WritesAgree mask v w) (low : IsVisible v) (keeps : KeepsSp v)
-      (special : List ℕ) (bits : ℕ) (control : ControlFit special bits c d) (unset : UnsetFit special us vs) where
+      (special : List ℕ) (bits : ℕ) (control : ControlLeft s.masks.discipline special bits c d) (unset : UnsetFit special us vs) where
     past : Knows (record g { seen = seen_after_write v g.seen; control = c; unset = us })
         (record { frame = record h { seen = cut_seen mask w (seen_after_write w h.seen); control = d; unset = vs }; masks = record s.masks { seen = written_list w mask s.masks.seen; special = special; threadptr = bits } })
     past = record {

@@ -8,6 +8,7 @@ use Rattle.xt_isa.specs.declared.Insn.{Insn}
 use Rattle.xt_isa.specs.declared.Insn.TheVariants as insn
 use Rattle.xt_isa.specs.declared.system.System.TheVariants as system
 use Rattle.xt_isa.specs.declared.system.UserName.TheVariants as UserName
+use Rattle.xt_special.specs.Access.{is_eps}
 use Rattle.xt_special.specs.declared.ps.Ps.{Ps}
 use Rattle.xt_trace.specs.declared.record.RegWrite.{RegWrite}
 use Rattle.xt_trace.specs.declared.record.StepKind.{StepKind}
@@ -18,11 +19,13 @@ use Rattle.xt_frames.specs.FrameStep.{Inputs, laid}
 use Rattle.xt_frames.specs.Marks.{holds_marks, unset_by}
 use Rattle.xt_frames.specs.Nesting.{unset_after}
 use Rattle.xt_simulation.proofs.Evenly.{same_set}
+use Rattle.xt_uses.specs.Used.{counted_bits}
+use Rattle.xt_uses.specs.declared.discipline.Discipline.{Discipline}
 use Rattle.xt_uses.specs.Words.{cut}
 use Rattle.xt_uses.specs.UseState.{Masks}
 use Rattle.xt_uses.specs.UseStep.{cut_number, cut_seen, executed, pointer_written, special_written, visible_written}
 use Rattle.xt_uses.specs.UseLaws.{WritesAgree, pointer_mask}
-use Rattle.xt_use_run.specs.Knowing.{ControlFit, SeenFit, UnsetFit}
+use Rattle.xt_use_run.specs.Knowing.{ControlFit, ControlLeft, SeenFit, UnsetFit}
 use Rattle.xt_use_run.proofs.Effects.{moved_masks}
 use Rattle.xt_use_run.proofs.Seen.{known_other, known_same, set_fits}
 use Rattle.xt_use_run.proofs.Specials.{mark_range}
@@ -172,8 +175,8 @@ rest_unset u step.Insn SpellsNothing idle = u
 rest_unset u _ at idle = u
 
 -- ---- the inputs of a step, laid over both
-pub laid_fits : {special : List ℕ} {bits : ℕ} (inp : Inputs) (f g : FrameState) → ControlFit special bits f.control g.control → ControlFit special bits (laid inp f).control (laid inp g).control
-laid_fits {special = special} inp f g k = record {
+pub laid_fits : {by : Discipline} {special : List ℕ} {bits : ℕ} (inp : Inputs) (f g : FrameState) → ControlLeft by special bits f.control g.control → ControlFit by special bits (laid inp f).control (laid inp g).control
+laid_fits {by = by} {special = special} inp f g k = record {
   even = record {
     pc = k.even.pc;
     ps = ap (λ (p : Ps). (let q : Ps = record p { owb = inp.owb } in q)) k.even.ps;
@@ -193,4 +196,10 @@ laid_fits {special = special} inp f g k = record {
       let a = get_or-set_other (set f.control.special 234 inp.ccount) 226 n inp.interrupt 0 bits_ ∙ get_or-set_other f.control.special 234 n inp.ccount 0 count in
       let b = get_or-set_other (set g.control.special 234 inp.ccount) 226 n inp.interrupt 0 bits_ ∙ get_or-set_other g.control.special 234 n inp.ccount 0 count in
       ap (cut (get_or special n 0)) a ∙ (k.fits n h ∙ sym b);
+  saved = λ n h.
+      let bits_ : n ≢ 226 = λ e. both_ways (is_eps n) (subst (λ j. is_eps j ≡ false) (sym e) refl) h in
+      let count : n ≢ 234 = λ e. both_ways (is_eps n) (subst (λ j. is_eps j ≡ false) (sym e) refl) h in
+      let a = get_or-set_other (set f.control.special 234 inp.ccount) 226 n inp.interrupt 0 bits_ ∙ get_or-set_other f.control.special 234 n inp.ccount 0 count in
+      let b = get_or-set_other (set g.control.special 234 inp.ccount) 226 n inp.interrupt 0 bits_ ∙ get_or-set_other g.control.special 234 n inp.ccount 0 count in
+      ap (cut (counted_bits by n)) a ∙ (k.saved n h ∙ sym (ap (cut (counted_bits by n)) b));
 }

@@ -21,16 +21,18 @@ use Rattle.xt_frames.specs.Nesting.{begins, current}
 use Rattle.xt_frames.specs.Breaches.{inputs_of}
 use Rattle.xt_frames.specs.Judging.{value_in}
 use Rattle.xt_uses.specs.Words.{all_bits, flipped}
+use Rattle.xt_uses.specs.Used.{counted_bits}
 use Rattle.xt_uses.specs.Known.{result_mask}
 use Rattle.xt_uses.specs.UseState.{UseState, current_masks, first_word, second_word, special_operand, special_word, visible_word}
 use Rattle.xt_uses.specs.UseStep.{executed, full_step, inner_unknown, other_turn, reply_mask, unknown_bits, use_step, use_turn, value_step}
 use Rattle.xt_uses.proofs.Bits.{flipped_word}
+use Rattle.xt_uses.proofs.Owb.{counted_word}
 use Rattle.xt_uses.proofs.RowsWords.{result_word}
 use Rattle.xt_use_run.proofs.Leaves.{words_left}
 use Rattle.xt_use_run.proofs.MaskWords.{AreSmall, MaskWords, begin_small, now_small, past_small}
 
 -- ---- of a reply
-unknown_small : (kb : ℕ → ℕ) (a n : ℕ) → n ≤ 4 → unknown_bits kb a n < 2 ^ 32
+pub unknown_small : (kb : ℕ → ℕ) (a n : ℕ) → n ≤ 4 → unknown_bits kb a n < 2 ^ 32
 unknown_small kb a zero h = omega arith
 unknown_small kb a (suc zero) h = omega arith
 unknown_small kb a (suc (suc zero)) h = omega arith
@@ -50,17 +52,17 @@ reply_small kb (Some a) mapped = by_region (is_memory (region_of a.addr) && not 
 now_word : (s : UseState) → MaskWords s.masks → AreSmall (current_masks s)
 now_word s w = (now_small s w).seen
 
-visible_word_small : (s : UseState) (f : FrameState) (o : Option ℕ) → MaskWords s.masks → (visible_word s f o).mask < 2 ^ 32
+pub visible_word_small : (s : UseState) (f : FrameState) (o : Option ℕ) → MaskWords s.masks → (visible_word s f o).mask < 2 ^ 32
 visible_word_small s f None w = omega arith
 visible_word_small s f (Some i) w = now_word s w i
 
-special_word_small : (s : UseState) (f : FrameState) (o : Option ℕ) → MaskWords s.masks → (special_word s f o).mask < 2 ^ 32
+pub special_word_small : (s : UseState) (f : FrameState) (o : Option ℕ) → MaskWords s.masks → (special_word s f o).mask < 2 ^ 32
 special_word_small s f None w = omega arith
 special_word_small s f (Some n) w = by_mark (holds_marks n)
   where
-    by_mark : (b : Bool) → cond b (get_or s.masks.special n 0) all_bits < 2 ^ 32
+    by_mark : (b : Bool) → cond b (get_or s.masks.special n 0) (counted_bits s.masks.discipline n) < 2 ^ 32
     by_mark true = w.special n
-    by_mark false = omega arith
+    by_mark false = counted_word s.masks.discipline n
 
 -- ---- a step
 kind_range : (code : ℕ → ℕ) → AreBytes code → (pc : ℕ) (i : Insn) (k : StepKind) (f : Fetched) → fetched code pc ≡ f → executed k f ≡ Some i → in_range i ≡ true
@@ -77,8 +79,8 @@ turn_small (Some i) reply s f u ok h w =
     let x = visible_word_small s f (reads i).0 w in
     let y = visible_word_small s f (reads i).1 w in
     let z = special_word_small s f (special_reads i).0 w in
-    past_small i (result_mask i (first_word i s f) (second_word i s f) (special_operand i s f) s.masks.threadptr reply) s f u
-    (result_word (first_word i s f) (second_word i s f) x y i (ok i refl) (special_operand i s f) s.masks.threadptr reply z w.threadptr h)
+    past_small i (result_mask s.masks.discipline i (first_word i s f) (second_word i s f) (special_operand i s f) s.masks.threadptr reply) s f u
+    (result_word (first_word i s f) (second_word i s f) x y s.masks.discipline i (ok i refl) (special_operand i s f) s.masks.threadptr reply z w.threadptr h)
     x
     w
 

@@ -40,6 +40,7 @@ use Rattle.xt_simulation.proofs.Judges.{lay, same_laid}
 use Rattle.xt_simulation.proofs.Evenly.{same_pending}
 use Rattle.xt_simulation.proofs.Windowed.{some_value, visible_value}
 use Rattle.xt_simulation.proofs.Plans.{plan_access, plan_asks, plan_kind, plan_state, plan_write}
+use Rattle.xt_uses.specs.declared.discipline.Discipline.{Discipline}
 use Rattle.xt_uses.specs.declared.words.Word.{Word}
 use Rattle.xt_uses.specs.Words.{is_whole}
 use Rattle.xt_uses.specs.Used.{shift_used, used_are_known}
@@ -60,7 +61,7 @@ use Rattle.xt_use_run.proofs.Reading.{Ready, count_of, read_seats, ready}
 use Rattle.xt_use_run.proofs.Tests.{Denied}
 
 -- ---- the step of the machine of uses
-move_at : (t q len : ℕ) (h : FrameState) → fetched_movsp (Fetches (movsp t q) len) h ≡ Some (stack_moved t (known h.seen q) len h)
+pub move_at : (t q len : ℕ) (h : FrameState) → fetched_movsp (Fetches (movsp t q) len) h ≡ Some (stack_moved t (known h.seen q) len h)
 unfolding fetched_movsp
 move_at t q len h = refl
 
@@ -79,9 +80,9 @@ use_moves code rec bytes s w sn some =
     ) in
     ap (U (movsp_of code (laid inp s.frame))) sn ∙ ap (λ z. U z None) some
 
-move_uses : (t q : ℕ) (s : UseState) (h : FrameState) (y : Word) → used_are_known (movsp t q) (first_word (movsp t q) s h) y ≡ true → is_whole (first_word (movsp t q) s h) ≡ true
+pub move_uses : (by : Discipline) (t q : ℕ) (s : UseState) (h : FrameState) (y : Word) → used_are_known by (movsp t q) (first_word (movsp t q) s h) y ≡ true → is_whole (first_word (movsp t q) s h) ≡ true
 unfolding used_are_known shift_used
-move_uses t q s h y e = e
+move_uses by t q s h y e = e
 
 move_reads : (t q : ℕ) → reads (movsp t q) ≡ (Some q, None)
 unfolding reads
@@ -107,7 +108,7 @@ executed_insn : (i : Insn) (len : ℕ) → executed step.Insn (Fetches i len) �
 unfolding executed
 executed_insn i len = refl
 
-move_word : (t q : ℕ) (s : UseState) (h : FrameState) → first_word (movsp t q) s h ≡ visible_word s h (Some q)
+pub move_word : (t q : ℕ) (s : UseState) (h : FrameState) → first_word (movsp t q) s h ≡ visible_word s h (Some q)
 unfolding reads
 move_word t q s h = refl
 
@@ -181,7 +182,7 @@ module _ (code : ℕ → ℕ) (bytes : AreBytes code) (b : Bounds) (fresh : Bool
     x_word = shaped.words (place s.base q)
 
     whole : is_whole (first_word (movsp 1 q) us h) ≡ true
-    whole = move_uses 1 q us h (second_word (movsp 1 q) us h) uses.used
+    whole = move_uses us.masks.discipline 1 q us h (second_word (movsp 1 q) us h) uses.used
 
     x_known : known us.frame.seen q ≡ x
     x_known =

@@ -13,18 +13,19 @@ use Rattle.xt_rows.specs.Kinds.{is_entry, is_return, moved_to}
 use Rattle.xt_frames.specs.declared.holes.Nested.{Nested}
 use Rattle.xt_frames.specs.Frames.{FrameState, known, seen_after_write}
 use Rattle.xt_frames.specs.FrameStep.{FrameTurn, Inputs, laid}
+use Rattle.xt_uses.specs.declared.discipline.Discipline.{Discipline}
 use Rattle.xt_uses.specs.declared.words.Word.{Word}
 use Rattle.xt_uses.specs.Words.{all_bits, is_whole, mask_where}
 use Rattle.xt_uses.specs.Known.{result_mask, shift_mask}
 use Rattle.xt_uses.specs.UseState.{Masks, UseState, first_word}
 use Rattle.xt_uses.specs.UseStep.{cut_number, cut_seen, cut_state, frames_moved, insn_turn, masks_past, pointer_written, special_written, stack_moved, visible_written}
-use Rattle.xt_use_run.specs.Knowing.{ControlFit, Follows, Knows, NowFit}
+use Rattle.xt_use_run.specs.Knowing.{ControlLeft, Follows, Knows, NowFit}
 use Rattle.xt_use_run.proofs.Effects.{effect_fits}
 use Rattle.xt_use_run.proofs.Following.{now_plain}
 use Rattle.xt_use_run.proofs.Lists.{visible_is, write_fits, written_list}
 use Rattle.xt_use_run.proofs.Operands.{cut_all}
 use Rattle.xt_use_run.proofs.Seen.{known_same}
-use Rattle.xt_use_run.proofs.Specials.{ticked_fits}
+use Rattle.xt_use_run.proofs.Specials.{ticked_fits, told_ps}
 
 abbrev pub movsp : ℕ → ℕ → Insn
 movsp t q = insn.Shift (shift.Movsp t q)
@@ -33,9 +34,9 @@ move_masks : (t q : ℕ) (mask : ℕ) (m : Masks) (v : Option RegWrite) (n x : �
 unfolding moved_to is_entry is_return pointer_written
 move_masks t q mask m v n x = visible_is v mask m
 
-move_result : (t q : ℕ) (a b c : Word) (pointer r : ℕ) → is_whole a ≡ true → result_mask (movsp t q) a b c pointer r ≡ all_bits
+move_result : (by : Discipline) (t q : ℕ) (a b c : Word) (pointer r : ℕ) → is_whole a ≡ true → result_mask by (movsp t q) a b c pointer r ≡ all_bits
 unfolding result_mask shift_mask
-move_result t q a b c pointer r h = ap mask_where h
+move_result by t q a b c pointer r h = ap mask_where h
 
 -- ---- both machines move the stack pointer to one value
 module _ {f : FrameState} {s : UseState} (k : Knows f s) (fn : f.nested ≡ None) (sn : s.frame.nested ≡ None) (inp : Inputs) (q len x : ℕ)
@@ -55,10 +56,10 @@ module _ {f : FrameState} {s : UseState} (k : Knows f s) (fn : f.nested ≡ None
   abbrev effect_s : Effect
   effect_s = record (unchanged h.control.ps h.control.threadptr) { write = write_to 1 x }
 
-  pub move_control : ControlFit s.masks.special s.masks.threadptr (stack_moved 1 x len g).after.control (stack_moved 1 x len h).after.control
+  pub move_control : ControlLeft s.masks.discipline s.masks.special s.masks.threadptr (stack_moved 1 x len g).after.control (stack_moved 1 x len h).after.control
   move_control =
       let size : length g.control.special ≡ 256 = length-set (set f.control.special 234 inp.ccount) 226 inp.interrupt ∙ (length-set f.control.special 234 inp.ccount ∙ count) in
-      ticked_fits (effect_fits None now.control size 0 (record { value = 0; mask = 0 }) refl effect_f effect_s refl (λ n h. (tt, tt, tt)) (λ n h. (tt, tt, tt)) (λ p e m. absurd cc) (λ p e m. absurd cc) len s.masks.threadptr (omega arith) now.control.even.ps refl refl now.control.pointer)
+      ticked_fits (effect_fits None now.control size 0 (record { value = 0; mask = 0 }) refl effect_f effect_s refl (λ n h. (tt, tt, tt)) (λ n h. (tt, tt, tt)) (λ p e m. absurd cc) (λ p e m. absurd cc) len s.masks.threadptr (omega arith) (told_ps now.control.even.ps) refl refl now.control.pointer)
 
   move_knows : Knows (stack_moved 1 x len g).after
       (record { frame = record (stack_moved 1 x len h).after { seen = cut_seen all_bits (write_to 1 x) (seen_after_write (write_to 1 x) s.frame.seen) }; masks = record s.masks { seen = written_list (write_to 1 x) all_bits s.masks.seen } })
@@ -82,7 +83,7 @@ module _ {f : FrameState} {s : UseState} (k : Knows f s) (fn : f.nested ≡ None
   move_follows r = subst (λ z. Follows (insn_turn (movsp 1 q) r s h (stack_moved 1 z len h)) (stack_moved 1 x len g)) (sym same) here
     where
       mask_is : (insn_turn (movsp 1 q) r s h (stack_moved 1 x len h)).mask ≡ all_bits
-      mask_is = move_result 1 q (first_word (movsp 1 q) s h) _ _ s.masks.threadptr r whole
+      mask_is = move_result s.masks.discipline 1 q (first_word (movsp 1 q) s h) _ _ s.masks.threadptr r whole
 
       masks_are : (mask : ℕ) → masks_past (movsp 1 q) mask s h (stack_moved 1 x len h) ≡ record s.masks { seen = written_list (write_to 1 x) mask s.masks.seen }
       masks_are mask =

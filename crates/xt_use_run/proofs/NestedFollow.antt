@@ -20,6 +20,7 @@ use Rattle.xt_frames.specs.Frames.{FrameState, known, seen_after_write}
 use Rattle.xt_frames.specs.FrameStep.{FrameTurn, Inputs, laid}
 use Rattle.xt_frames.specs.Marks.{marked_seen, marked_write, marks_after, saved_by, unset_by, unset_written}
 use Rattle.xt_frames.specs.Nesting.{inside, keeping, nested_after}
+use Rattle.xt_uses.specs.declared.discipline.Discipline.{Discipline}
 use Rattle.xt_uses.specs.Words.{all_bits, cut}
 use Rattle.xt_uses.specs.UseState.{Masks, UseState, current_masks, first_word, second_word, visible_word}
 use Rattle.xt_uses.specs.UseStep.{called, cut_number, cut_seen, cut_state, cut_write, frames_moved, insn_turn, masks_past, other_turn, pointer_written, returned, special_written, visible_written}
@@ -32,13 +33,14 @@ use Rattle.xt_use_run.proofs.Rows.{Ordinary, Quiet}
 use Rattle.xt_use_run.proofs.Seen.{cut_zero, known_other, known_same, set_fits}
 
 -- ---- PC and PS of two control states that fit
-pub placed_fits : {special : List ℕ} {bits : ℕ} {c d : Control} → ControlFit special bits c d → (pc pc2 : ℕ) (ps ps2 : Ps) → pc ≡ pc2 → ps ≡ ps2 → ControlFit special bits (record c { pc = pc; ps = ps }) (record d { pc = pc2; ps = ps2 })
+pub placed_fits : {by : Discipline} {special : List ℕ} {bits : ℕ} {c d : Control} → ControlFit by special bits c d → (pc pc2 : ℕ) (ps ps2 : Ps) → pc ≡ pc2 → ps ≡ ps2 → ControlFit by special bits (record c { pc = pc; ps = ps }) (record d { pc = pc2; ps = ps2 })
 placed_fits f pc pc2 ps ps2 e p = record {
   even = record { pc = e; ps = p; threadptr = refl; waits = f.even.waits; special = f.even.special };
   pointer = f.pointer;
   spread = f.spread;
   words = f.words;
   fits = f.fits;
+  saved = f.saved;
 }
 
 -- ---- a write that may be of a mark
@@ -123,12 +125,12 @@ module _ {f : FrameState} {s : UseState} (k : Knows f s) (x y : Nested) (fx : f.
   now_inside = record {
     seen = subst (λ m. SeenFit 16 m x.seen y.seen) (sym inner_masks) inner.seen;
     frames = k.frames;
-    control = laid_fits inp (inside x f) (inside y s.frame) (placed_fits k.control x.pc y.pc x.ps y.ps inner.pc inner.ps);
+    control = laid_fits inp (inside x f) (inside y s.frame) (placed_fits k.control x.pc y.pc x.ps (record y.ps { owb = x.ps.owb }) inner.pc inner.ps);
     unset = k.unset;
   }
 
-  -- a mark stands where there is no number
-  module _ (bare : (i j : ℕ) → get_or x.marks i None ≡ Some j → get_or x.seen i None ≡ None) where
+  -- nothing is known of a mark
+  module _ (bare : (i j : ℕ) → get_or x.marks i None ≡ Some j → get_or s.masks.inner i 0 ≡ 0) where
     reads_moved : (i : Insn) (p : ℕ × ℕ) → moved_to i ≡ Some p → (reads i).0 ≡ Some p.0
     unfolding moved_to reads
     reads_moved (insn.System (system.Rsr SpecialName.Wsr t n)) p e = ap (λ (o : Option (ℕ × ℕ)). Some (unwrap_or o (0, 0)).0) e
@@ -138,7 +140,7 @@ module _ {f : FrameState} {s : UseState} (k : Knows f s) (x y : Nested) (fx : f.
     mark_mask : (o : Option ℕ) (t : ℕ) → o ≡ Some t → is_some (get_or x.marks t None) ≡ true → (visible_word s h o).mask ≡ 0
     mark_mask o t e has =
         let there : (j : ℕ) × (get_or x.marks t None ≡ Some j) = some_there (get_or x.marks t None) has in
-        let z : get_or s.masks.inner t 0 ≡ 0 = inner.seen.lacks t (bare t there.0 there.1) in
+        let z : get_or s.masks.inner t 0 ≡ 0 = bare t there.0 there.1 in
         ap (λ (o : Option ℕ). (visible_word s h o).mask) e ∙ (ap (λ (m : List ℕ). get_or m t 0) inner_masks ∙ z)
       where
         some_there : (o : Option ℕ) → is_some o ≡ true → (j : ℕ) × (o ≡ Some j)
@@ -203,7 +205,7 @@ module _ {f : FrameState} {s : UseState} (k : Knows f s) (x y : Nested) (fx : f.
               seen = k.seen;
               sp = k.sp;
               frames = k.frames;
-              control = placed_fits o.control f.control.pc s.frame.control.pc f.control.ps s.frame.control.ps k.control.even.pc k.control.even.ps;
+              control = placed_fits o.control f.control.pc s.frame.control.pc f.control.ps (record s.frame.control.ps { owb = f.control.ps.owb }) k.control.even.pc k.control.even.ps;
               unset = moved_now i;
               nested = inner_after;
             });
@@ -236,7 +238,7 @@ module _ {f : FrameState} {s : UseState} (k : Knows f s) (x y : Nested) (fx : f.
               seen = k.seen;
               sp = k.sp;
               frames = k.frames;
-              control = placed_fits o.control f.control.pc s.frame.control.pc f.control.ps s.frame.control.ps k.control.even.pc k.control.even.ps;
+              control = placed_fits o.control f.control.pc s.frame.control.pc f.control.ps (record s.frame.control.ps { owb = f.control.ps.owb }) k.control.even.pc k.control.even.ps;
               unset = ended_unset;
               nested = tt;
             }));
@@ -277,7 +279,7 @@ module _ {f : FrameState} {s : UseState} (k : Knows f s) (x y : Nested) (fx : f.
           seen = k.seen;
           sp = k.sp;
           frames = k.frames;
-          control = placed_fits q.control f.control.pc s.frame.control.pc f.control.ps s.frame.control.ps k.control.even.pc k.control.even.ps;
+          control = placed_fits q.control f.control.pc s.frame.control.pc f.control.ps (record s.frame.control.ps { owb = f.control.ps.owb }) k.control.even.pc k.control.even.ps;
           unset = stopped_unset;
           nested = stopped_inner;
         };

@@ -25,6 +25,7 @@ use Rattle.xt_simulation.proofs.Laid.{laid_other}
 use Rattle.xt_uses.specs.Words.{all_bits}
 use Rattle.xt_uses.specs.UseBreaches.{holds_mark, reads_mark}
 use Rattle.xt_uses.specs.UseState.{UseState, first_word, second_word, special_operand, special_word}
+use Rattle.xt_uses.specs.Used.{counted_bits}
 use Rattle.xt_uses.specs.Known.{result_mask, system_mask}
 use Rattle.xt_use_run.specs.Knowing.{InnerFit, Knows, NestedFit}
 
@@ -60,21 +61,21 @@ module _ {code : ℕ → ℕ} {b : Bounds} {m : MemoryContents} {s : State} {f :
           subst (λ z. z < 2 ^ 32) (sym (laid_other f.control.special (special_of s.control 234) (special_of s.control 226) k not_bits not_count)) (kn.control.words k mark)
 
 -- ---- a mark that is read has the mask 0
-moves_hold : (i : Insn) (j : ℕ) (saved : List (Option ℕ)) → mark_read i saved ≡ Some j → moves_marks i ≡ true → (n : ℕ) × ((special_reads i).0 ≡ Some n) × (holds_marks n ≡ true) × (get_or saved n None ≡ Some j)
+pub moves_hold : (i : Insn) (j : ℕ) (saved : List (Option ℕ)) → mark_read i saved ≡ Some j → moves_marks i ≡ true → (n : ℕ) × ((special_reads i).0 ≡ Some n) × (holds_marks n ≡ true) × (get_or saved n None ≡ Some j)
 unfolding mark_read moves_marks special_reads
 moves_hold (insn.System (system.Rsr SpecialName.Rsr t n)) j saved e h = (n, refl, (and_parts (ltb t 4) (holds_marks n) h).1, e)
 moves_hold (insn.System (system.Rsr SpecialName.Xsr t n)) j saved e h = (n, refl, (and_parts (ltb t 4) (holds_marks n) h).1, e)
 moves_hold _ j saved e h = absurd cc
 
 -- RSR and XSR write what is known of the special register
-moves_result : (i : Insn) (j : ℕ) (saved : List (Option ℕ)) (us : UseState) (h : FrameState) (r : ℕ) → mark_read i saved ≡ Some j → result_mask i (first_word i us h) (second_word i us h) (special_operand i us h) us.masks.threadptr r ≡ (special_operand i us h).mask
+pub moves_result : (i : Insn) (j : ℕ) (saved : List (Option ℕ)) (us : UseState) (h : FrameState) (r : ℕ) → mark_read i saved ≡ Some j → result_mask us.masks.discipline i (first_word i us h) (second_word i us h) (special_operand i us h) us.masks.threadptr r ≡ (special_operand i us h).mask
 unfolding mark_read result_mask system_mask
 moves_result (insn.System (system.Rsr SpecialName.Rsr t n)) j saved us h r e = refl
 moves_result (insn.System (system.Rsr SpecialName.Xsr t n)) j saved us h r e = refl
 moves_result _ j saved us h r e = absurd cc
 
 -- a mark is read by what moves marks alone
-reading_moves : (i : Insn) (j : ℕ) (x : Nested) → mark_read i x.saved ≡ Some j → reads_mark (Some x) i ≡ false → moves_marks i ≡ true
+pub reading_moves : (i : Insn) (j : ℕ) (x : Nested) → mark_read i x.saved ≡ Some j → reads_mark (Some x) i ≡ false → moves_marks i ≡ true
 unfolding mark_read moves_marks special_reads reads
 reading_moves (insn.System (system.Rsr SpecialName.Rsr t n)) j x e h = by_test (ltb t 4 && holds_marks n) h
   where
@@ -96,7 +97,7 @@ reading_moves _ j x e h = absurd cc
 
 module _ (code : ℕ → ℕ) {b : Bounds} {m : MemoryContents} {s : State} {f : FrameState} {before : State} {opened : ℕ → ℕ} {suspended : State} (h : Suspends code b m s f before opened suspended) {us : UseState} (kn : Knows f us) where
   -- so its mask is 0
-  pub mark_gone : (i : Insn) (j r : ℕ) (g : FrameState) → mark_read i h.x.saved ≡ Some j → reads_mark (Some h.x) i ≡ false → result_mask i (first_word i us g) (second_word i us g) (special_operand i us g) us.masks.threadptr r ≡ 0
+  pub mark_gone : (i : Insn) (j r : ℕ) (g : FrameState) → mark_read i h.x.saved ≡ Some j → reads_mark (Some h.x) i ≡ false → result_mask us.masks.discipline i (first_word i us g) (second_word i us g) (special_operand i us g) us.masks.threadptr r ≡ 0
   mark_gone i j r g e none =
       let moves = reading_moves i j h.x e none in
       let p = moves_hold i j h.x.saved e moves in
@@ -104,4 +105,4 @@ module _ (code : ℕ → ℕ) {b : Bounds} {m : MemoryContents} {s : State} {f :
       let zero : get_or us.masks.special p.0 0 ≡ 0 = kn.unset.lacks p.0 p.2 has in
       moves_result i j h.x.saved us g r e
       ∙ (ap (λ (o : Option ℕ). (special_word us g o).mask) p.1
-      ∙ (ap (λ z. cond z (get_or us.masks.special p.0 0) all_bits) p.2 ∙ zero))
+      ∙ (ap (λ z. cond z (get_or us.masks.special p.0 0) (counted_bits us.masks.discipline p.0)) p.2 ∙ zero))

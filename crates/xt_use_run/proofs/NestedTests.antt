@@ -127,7 +127,7 @@ module _ {b : Bounds} {fresh : Bool} {live : ℕ → Bool} {kb : ℕ → ℕ} {i
                               (
                                 d.window_register,
                                 (
-                                  ap (λ (p : Ps). not p.woe) after.0 ∙ d.woe,
+                                  ap not after.0 ∙ d.woe,
                                   (
                                     ap (λ n. not (eqb n b.vecbase)) after.1 ∙ d.vectors,
                                     (

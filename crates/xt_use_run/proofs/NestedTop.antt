@@ -14,6 +14,7 @@ use Rattle.xt_special.specs.Control.{special_of}
 use Rattle.xt_special.specs.Interrupts.{pending_of}
 use Rattle.xt_trace.specs.declared.record.StepRecord.{StepRecord}
 use Rattle.xt_trace.specs.declared.record.StepKind.TheVariants as step
+use Rattle.xt_uses.specs.declared.discipline.Discipline.{Discipline}
 use Rattle.xt_uses.specs.declared.words.Word.{Word}
 use Rattle.xt_simulation.proofs.Judges.{record_access}
 use Rattle.xt_simulation.proofs.Resumed.{ends_access}
@@ -70,25 +71,25 @@ use Rattle.xt_use_run.proofs.NestedRow.{inner_of, mark_gone, seen_small, special
 use Rattle.xt_use_run.proofs.PlainRow.{visible_named}
 use Rattle.xt_use_run.proofs.Reading.{numbered}
 
-executed_insn : (i : Insn) (len : ℕ) → executed step.Insn (Fetches i len) ≡ Some i
+pub executed_insn : (i : Insn) (len : ℕ) → executed step.Insn (Fetches i len) ≡ Some i
 unfolding executed
 executed_insn i len = refl
 
-ends_result : (i : Insn) (x y u : Word) (pointer r : ℕ) → ends_nested i ≡ true → result_mask i x y u pointer r ≡ result_mask i x y u pointer all_bits
+pub ends_result : (by : Discipline) (i : Insn) (x y u : Word) (pointer r : ℕ) → ends_nested i ≡ true → result_mask by i x y u pointer r ≡ result_mask by i x y u pointer all_bits
 unfolding ends_nested result_mask
-ends_result (insn.System (system.Rfi level)) x y u pointer r e = refl
-ends_result _ x y u pointer r e = absurd (false≢true e)
+ends_result by (insn.System (system.Rfi level)) x y u pointer r e = refl
+ends_result by _ x y u pointer r e = absurd (false≢true e)
 
-ending_is : (i : Insn) (value : ℕ) (x : Nested) (f : FrameState) (u : FrameTurn) → ends_nested i ≡ true → nested_insn i value x f u ≡ record u { after = record (keeping f u.after) { nested = None } }
+pub ending_is : (i : Insn) (value : ℕ) (x : Nested) (f : FrameState) (u : FrameTurn) → ends_nested i ≡ true → nested_insn i value x f u ≡ record u { after = record (keeping f u.after) { nested = None } }
 ending_is i value x f u ends = cond-true (ends_nested i) _ _ ends
 
-abbrev goes_on_turn : Insn → ℕ → Option ℕ → Nested → FrameState → FrameTurn → FrameTurn
+abbrev pub goes_on_turn : Insn → ℕ → Option ℕ → Nested → FrameState → FrameTurn → FrameTurn
 goes_on_turn i value mark z q u = record u {
   write = marked_write mark value u.write;
   after = record (keeping q u.after) { unset = unset_written i z.marks q.unset; nested = Some (nested_after i mark z u) };
 }
 
-going_is : (i : Insn) (value : ℕ) (x : Nested) (f : FrameState) (u : FrameTurn) → ends_nested i ≡ false → nested_insn i value x f u ≡ goes_on_turn i value (mark_read i x.saved) x f u
+pub going_is : (i : Insn) (value : ℕ) (x : Nested) (f : FrameState) (u : FrameTurn) → ends_nested i ≡ false → nested_insn i value x f u ≡ goes_on_turn i value (mark_read i x.saved) x f u
 going_is i value x f u goes = cond-false (ends_nested i) _ _ goes
 
 pub count_inside : {code : ℕ → ℕ} {b : Bounds} {m : MemoryContents} {s : State} {f : FrameState} {before : State} {opened : ℕ → ℕ} {suspended : State} → Suspends code b m s f before opened suspended → IsShaped s → length f.control.special ≡ 256
@@ -200,8 +201,8 @@ module _ (rows : RowsAgree) (code : ℕ → ℕ) (bytes : AreBytes code) (b : Bo
           (subst (λ z. Follows z (step_on code true rec f)) (sym used) (subst (Follows (use_turn (executed v.kind (Fetches i len)) k us h turn_v)) (sym framed) follows)) next
 
       -- ---- RFI 5
-      bare : (n j : ℕ) → get_or q.x.marks n None ≡ Some j → get_or q.x.seen n None ≡ None
-      bare n j e = (q.inside.marks n j e).1
+      bare : (n j : ℕ) → get_or q.x.marks n None ≡ Some j → get_or us.masks.inner n 0 ≡ 0
+      bare n j e = inner.seen.lacks n (q.inside.marks n j e).1
 
       ok : in_range i ≡ true
       ok = fetched_range code s.control.pc i len bytes at
@@ -209,7 +210,7 @@ module _ (rows : RowsAgree) (code : ℕ → ℕ) (bytes : AreBytes code) (b : Bo
       pub ends_target : ends_nested i ≡ true → target
       ends_target ends =
           let o : Ordinary i us g h (row_masks i us h).result u v = ends_ordinary now code i len rec.reply count ok ends in
-          let o2 : Ordinary i us g h (result_mask i (first_word i us h) (second_word i us h) (special_operand i us h) us.masks.threadptr k) u v = subst (λ z. Ordinary i us g h z u v) (sym (ends_result i (first_word i us h) (second_word i us h) (special_operand i us h) us.masks.threadptr k ends)) o in
+          let o2 : Ordinary i us g h (result_mask us.masks.discipline i (first_word i us h) (second_word i us h) (special_operand i us h) us.masks.threadptr k) u v = subst (λ z. Ordinary i us g h z u v) (sym (ends_result us.masks.discipline i (first_word i us h) (second_word i us h) (special_operand i us h) us.masks.threadptr k ends)) o in
           let here = ends_follows kn q.x y q.nested sy inner (inputs_of rec) bare i k u v o2 (ends_moves i ends) (ends_silent code i len rec.reply h ends) in
           let a : executed v.kind (Fetches i len) ≡ Some i = ap (λ z. executed z (Fetches i len)) o.kind_too ∙ executed_insn i len in
           conclude (Executes o) (o.kind ∙ sym o.kind_too)
@@ -266,14 +267,14 @@ module _ (rows : RowsAgree) (code : ℕ → ℕ) (bytes : AreBytes code) (b : Bo
         abbrev o : Outcome
         o = outcome_at code i (known g.seen) g.control
 
-        agree : OutcomesAgree i (row_masks i us h) o (outcome_at code i (known h.seen) h.control)
+        agree : OutcomesAgree us.masks.discipline i (row_masks i us h) o (outcome_at code i (known h.seen) h.control)
         agree = row_agrees now rows masks code i given uses.used
 
         proper : EntersWord o
         proper n j e = let p : IsProper IsWord (Windowed (Enters n j)) = subst (IsProper IsWord) e (outcome_words code i g.control.pc _ _ _ _ g.control.ps g.control.threadptr bytes given) in p.1
 
         abbrev mask_of : ℕ → ℕ
-        mask_of r = result_mask i (first_word i us h) (second_word i us h) (special_operand i us h) us.masks.threadptr r
+        mask_of r = result_mask us.masks.discipline i (first_word i us h) (second_word i us h) (special_operand i us h) us.masks.threadptr r
 
         row : (r : ℕ) → ((e : Effect) → o ≡ Does e → r ≡ all_bits) → RowStep i us g h (mask_of r) u v
         row r full = row_step now code i count given.x_word len rec.reply r agree proper uses.used d.windowing (no_movsp code len y d sy mode_h) d.window_register full
@@ -304,7 +305,7 @@ module _ (rows : RowsAgree) (code : ℕ → ℕ) (bytes : AreBytes code) (b : Bo
 
         marks_read : reads_mark (Some q.x) i ≡ false
         marks_read =
-            let a : reads_mark (Some y) i ≡ false = (or_parts (reads_mark (Some y) i) _ (subst (λ (o : Option Nested). (reads_mark o i || (reads_no_number i h || not (used_are_known i (first_word i us h) (second_word i us h)))) ≡ false) sy d.unset)).0 in
+            let a : reads_mark (Some y) i ≡ false = (or_parts (reads_mark (Some y) i) _ (subst (λ (o : Option Nested). (reads_mark o i || (reads_no_number i h || not (used_are_known us.masks.discipline i (first_word i us h) (second_word i us h)))) ≡ false) sy d.unset)).0 in
             let R : List (Option ℕ) → List (Option ℕ) → Bool = λ ms ss. not (moves_marks i) && (holds_mark ms (reads i).0 || (holds_mark ms (reads i).1 || (holds_mark ss (special_reads i).0 || holds_mark ss (special_reads i).1))) in
             ap (λ z. R z q.x.saved) inner.marks ∙ (ap (R y.marks) inner.saved ∙ a)
 

@@ -46,7 +46,7 @@ use Rattle.xt_use_run.proofs.NestedTop.{count_inside, ends_target, goes_target, 
 use Rattle.xt_use_run.proofs.NestedReady.{Has, HasSpecial}
 
 -- a step that fetches no instruction is a breach
-other_breaks : (b : Bounds) (live : ℕ → Bool) (kb : ℕ → ℕ) (rec : StepRecord) (h : FrameState) (v : FrameTurn) (y : Nested) → h.nested ≡ Some y → NoneShown (use_tests false (swaps_unknown kb rec.access) false (other_tests b live nowhere rec h v)) → ⊥
+pub other_breaks : (b : Bounds) (live : ℕ → Bool) (kb : ℕ → ℕ) (rec : StepRecord) (h : FrameState) (v : FrameTurn) (y : Nested) → h.nested ≡ Some y → NoneShown (use_tests false (swaps_unknown kb rec.access) false (other_tests b live nowhere rec h v)) → ⊥
 other_breaks b live kb rec h v y is (saves, (loads, (woe, (vectors, (vector, (nested, more)))))) = both_ways (is_some h.nested) nested (ap (λ (o : Option Nested). is_some o) is)
 
 numbers_inside : (i : Insn) (h : FrameState) → ends_nested i ≡ false → reads_no_number i h ≡ false → (has_no_number h.unset (special_reads i).0 ≡ false) × (has_no_number h.unset (special_reads i).1 ≡ false)
@@ -58,7 +58,7 @@ numbers_inside i h goes e =
 
 marks_none : {masks : List ℕ} (i : Insn) (us : UseState) (h : FrameState) (x y : Nested) → InnerFit masks x y → h.nested ≡ Some y → uses_unknown i us h ≡ false → reads_mark (Some x) i ≡ false
 marks_none i us h x y inner sy unset =
-    let a : reads_mark (Some y) i ≡ false = (or_parts (reads_mark (Some y) i) _ (subst (λ (o : Option Nested). (reads_mark o i || (reads_no_number i h || not (used_are_known i (first_word i us h) (second_word i us h)))) ≡ false) sy unset)).0 in
+    let a : reads_mark (Some y) i ≡ false = (or_parts (reads_mark (Some y) i) _ (subst (λ (o : Option Nested). (reads_mark o i || (reads_no_number i h || not (used_are_known us.masks.discipline i (first_word i us h) (second_word i us h)))) ≡ false) sy unset)).0 in
     let R : List (Option ℕ) → List (Option ℕ) → Bool = λ ms ss. not (moves_marks i) && (holds_mark ms (reads i).0 || (holds_mark ms (reads i).1 || (holds_mark ss (special_reads i).0 || holds_mark ss (special_reads i).1))) in
     ap (λ z. R z x.saved) inner.marks ∙ (ap (R y.marks) inner.saved ∙ a)
 

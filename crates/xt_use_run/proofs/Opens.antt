@@ -18,7 +18,7 @@ use Rattle.xt_use_run.specs.Knowing.{ControlFit, Knows, SeenFit, UnsetFit}
 use Rattle.xt_use_run.specs.Laws.{ShadowsOpen}
 use Rattle.xt_use_run.proofs.Operands.{cut_all}
 use Rattle.xt_use_run.proofs.Seen.{cut_zero}
-use Rattle.xt_use_run.proofs.Specials.{mark_lost, mark_range}
+use Rattle.xt_use_run.proofs.Specials.{left_fits, mark_range, partial_lost}
 
 values_size : (f : ℕ → ℕ) (i n : ℕ) → length (values_from f i n) ≡ n
 values_size f i zero = refl
@@ -55,15 +55,16 @@ module _ (s : State) (shaped : IsShaped s) where
         (cases_lt i 16);
   }
 
-  opens_control : ControlFit (replicate 256 all_bits) all_bits s.control s.control
-  opens_control = record {
-    even = record { pc = refl; ps = refl; threadptr = refl; waits = refl; special = record { size = refl; only = mark_lost; at = λ k known. refl } };
+  opens_control : (d : Discipline) → ControlFit d (replicate 256 all_bits) all_bits s.control s.control
+  opens_control d = record {
+    even = record { pc = refl; ps = refl; threadptr = refl; waits = refl; special = record { size = refl; only = partial_lost; at = λ k known. refl } };
     pointer = cut_all s.control.threadptr shaped.control.threadptr;
     spread = length-replicate 256 all_bits;
     words = λ n h. shaped.control.words n;
     fits = λ n h.
         let low : n < 256 = ⊎_elim (λ r. let hi = r.1 in omega arith) (λ r. let hi = r.1 in omega arith) (mark_range n h) in
         ap (λ z. cut z (special_of s.control n)) (get_or-replicate 256 n all_bits 0 low) ∙ cut_all (special_of s.control n) (shaped.control.words n);
+    saved = λ n h. refl;
   }
 
   opens_unset : UnsetFit (replicate 256 all_bits) all_set all_set
@@ -83,7 +84,7 @@ module _ (s : State) (shaped : IsShaped s) where
     seen = seen_fit;
     sp = refl;
     frames = tt;
-    control = opens_control;
+    control = left_fits (opens_control d);
     unset = opens_unset;
     nested = tt;
   }

@@ -47,20 +47,20 @@ use Rattle.xt_use_run.proofs.PlainRow.{row_judged}
 use Rattle.xt_use_run.proofs.PlainStep.{JudgedUse}
 use Rattle.xt_use_run.proofs.Tests.{Denied, denied}
 
-movsp_form : (i : Insn) → is_movsp i ≡ true → (t : ℕ) × (q : ℕ) × (i ≡ movsp t q)
+pub movsp_form : (i : Insn) → is_movsp i ≡ true → (t : ℕ) × (q : ℕ) × (i ≡ movsp t q)
 unfolding is_movsp
 movsp_form (insn.Shift (shift.Movsp t q)) h = (t, q, refl)
 movsp_form _ h = absurd (false≢true h)
 
-no_move_fails : (a : ℕ) (f : FrameState) → fetched_movsp (Fails a) f ≡ None
+pub no_move_fails : (a : ℕ) (f : FrameState) → fetched_movsp (Fails a) f ≡ None
 unfolding fetched_movsp
 no_move_fails a f = refl
 
-no_move_spells : (f : FrameState) → fetched_movsp SpellsNothing f ≡ None
+pub no_move_spells : (f : FrameState) → fetched_movsp SpellsNothing f ≡ None
 unfolding fetched_movsp
 no_move_spells f = refl
 
-laid_pends : (b : Bounds) (fresh : Bool) (code : ℕ → ℕ) (live : ℕ → Bool) (kb : ℕ → ℕ) (rec : StepRecord) (s : UseState) (h : FrameState) → (ltb 0 (pending_of h.control) || h.control.waits) ≡ true → laid_use b fresh code live kb rec s h ≡ first_shown (vector_test b h ∷ [])
+pub laid_pends : (b : Bounds) (fresh : Bool) (code : ℕ → ℕ) (live : ℕ → Bool) (kb : ℕ → ℕ) (rec : StepRecord) (s : UseState) (h : FrameState) → (ltb 0 (pending_of h.control) || h.control.waits) ≡ true → laid_use b fresh code live kb rec s h ≡ first_shown (vector_test b h ∷ [])
 unfolding laid_use
 laid_pends b fresh code live kb rec s h e = cond-true (ltb 0 (pending_of h.control) || h.control.waits) _ _ e
 

@@ -44,7 +44,7 @@ use Rattle.xt_use_run.proofs.Tests.{nowhere_loads, nowhere_saves, shown_none}
 
 -- the tests where nothing is fetched
 others_too : (b : Bounds) (live : ℕ → Bool) (kb : ℕ → ℕ) (rec : StepRecord) (g h : FrameState) (u v : FrameTurn) → NoneShown (use_tests false (swaps_unknown kb rec.access) false (other_tests b live nowhere rec h v))
-    → g.control.pc ≡ h.control.pc → g.nested ≡ None → u.after.control.ps ≡ v.after.control.ps → special_of u.after.control number.vecbase ≡ special_of v.after.control number.vecbase
+    → g.control.pc ≡ h.control.pc → g.nested ≡ None → u.after.control.ps.woe ≡ v.after.control.ps.woe → special_of u.after.control number.vecbase ≡ special_of v.after.control number.vecbase
     → (first_shown (other_tests b nowhere nowhere rec g u) ≡ None) × ((touches_save_area live rec.access ≡ false) × (swaps_unknown kb rec.access ≡ false))
 others_too b live kb rec g h u v (saves, (loads, (woe, (vectors, (vector, more))))) pc none ps base = (
   shown_none (other_tests b nowhere nowhere rec g u) (
@@ -52,7 +52,7 @@ others_too b live kb rec g h u v (saves, (loads, (woe, (vectors, (vector, more))
     (
       nowhere_loads rec.access,
       (
-        ap (λ (p : Ps). not p.woe) ps ∙ woe,
+        ap not ps ∙ woe,
         (
           ap (λ n. not (eqb n b.vecbase)) base ∙ vectors,
           (
@@ -151,7 +151,7 @@ module _ (code : ℕ → ℕ) (bytes : AreBytes code) (b : Bounds) (fresh : Bool
       let eh : v ≡ raised cause addr h = step_fetches code rec.reply h none_pends w ∙ (ap (λ z. fetched_step z code rec.reply h) is ∙ raise h) in
       let q : Quiet us g h (laid_step code rec.reply g) v = subst (λ (z : FrameTurn). Quiet us g h z v) (sym eg) (subst (Quiet us g h (raised cause addr g)) (sym eh) (raise_quiet now cause addr)) in
       let none : movsp_of code h ≡ None = by_test (is_some us.frame.nested || (ltb 0 (pending_of h.control) || h.control.waits)) in
-      let t = others_too b live kb rec g h (laid_step code rec.reply g) v shown now.control.even.pc fn q.control.even.ps (q.control.even.special.at 231 refl) in
+      let t = others_too b live kb rec g h (laid_step code rec.reply g) v shown now.control.even.pc fn (ap (λ (p : Ps). p.woe) q.control.even.ps) (q.control.even.special.at 231 refl) in
       let quiet : laid_breach b fresh code nowhere nowhere rec g ≡ None =
       breach_fetches b fresh code nowhere nowhere rec g no_g w_g
       ∙ (ap (λ z. first_shown (fetched_tests b fresh nowhere nowhere z rec g (laid_step code rec.reply g))) at_g

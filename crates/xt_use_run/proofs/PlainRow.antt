@@ -90,10 +90,10 @@ calls_some : (number : ℕ) (size : ℤ) (h : FrameState) → opens_nothing (ins
 unfolding opens_nothing
 calls_some number size h e = let z : h.control.ps.callinc ≢ 0 = eqb-false _ _ e in omega arith
 
-entry_some : (i : Insn) (number : ℕ) (size : ℤ) (h : FrameState) → i ≡ insn.Control (control.Entry number size) → opens_nothing i h ≡ false → 0 < h.control.ps.callinc
+pub entry_some : (i : Insn) (number : ℕ) (size : ℤ) (h : FrameState) → i ≡ insn.Control (control.Entry number size) → opens_nothing i h ≡ false → 0 < h.control.ps.callinc
 entry_some i number size h is e = calls_some number size h (subst (λ j. opens_nothing j h ≡ false) is e)
 
-entry_one : (i : Insn) (number : ℕ) (size : ℤ) (b : Bounds) (h : FrameState) → i ≡ insn.Control (control.Entry number size) → other_frame_size b.range i h ≡ false → number ≡ 1
+pub entry_one : (i : Insn) (number : ℕ) (size : ℤ) (b : Bounds) (h : FrameState) → i ≡ insn.Control (control.Entry number size) → other_frame_size b.range i h ≡ false → number ≡ 1
 entry_one i number size b h is e = entry_number number size b.range h (subst (λ j. other_frame_size b.range j h ≡ false) is e)
 
 -- the turn passes the window check, where the instruction is legal
@@ -174,7 +174,7 @@ module _ (rows : RowsAgree) (code : ℕ → ℕ) (bytes : AreBytes code) (b : Bo
     abbrev o : Outcome
     o = outcome_at code i (known g.seen) g.control
 
-    agree : OutcomesAgree i (row_masks i us h) o (outcome_at code i (known h.seen) h.control)
+    agree : OutcomesAgree us.masks.discipline i (row_masks i us h) o (outcome_at code i (known h.seen) h.control)
     agree = row_agrees now rows masks code i given uses.used
 
     proper : EntersWord o
@@ -206,7 +206,7 @@ module _ (rows : RowsAgree) (code : ℕ → ℕ) (bytes : AreBytes code) (b : Bo
           nested = r.nested;
           nested_too = sn;
           write = sp_tested r.knows.frames first_row;
-          woe = ap (λ (p : Ps). p.woe) after.0;
+          woe = after.0;
           vectors = after.1;
         }
 

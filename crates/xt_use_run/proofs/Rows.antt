@@ -46,7 +46,8 @@ use Rattle.xt_uses.specs.UseState.{UseState, first_word, second_word, special_op
 use Rattle.xt_uses.specs.UseStep.{executed}
 use Rattle.xt_uses.specs.Known.{result_mask}
 use Rattle.xt_uses.specs.UseLaws.{AccessesAgree, EffectsAgree, IsSent, OutcomesAgree, WritesAgree, pointer_mask}
-use Rattle.xt_use_run.specs.Knowing.{ControlFit, NowFit}
+use Rattle.xt_uses.proofs.Owb.{but_owb}
+use Rattle.xt_use_run.specs.Knowing.{ControlLeft, NowFit}
 use Rattle.xt_use_run.proofs.Effects.{GivesTo, effect_fits, moved_masks}
 use Rattle.xt_use_run.proofs.Operands.{row_masks, word_fits, word_value}
 use Rattle.xt_use_run.proofs.Pointer.{LeavesPointer, pointer_left}
@@ -54,7 +55,7 @@ use Rattle.xt_uses.specs.Used.{low_bits, used_are_known}
 use Rattle.xt_use_run.proofs.Sent.{HasSent, KindSent, second_sent}
 use Rattle.xt_use_run.proofs.Seen.{cut_twice}
 use Rattle.xt_use_run.proofs.Stored.{HasStored, KindStored, second_stored}
-use Rattle.xt_use_run.proofs.Specials.{SetsTo, moved_sets, raised_fits, taken_fits, ticked_fits}
+use Rattle.xt_use_run.proofs.Specials.{SetsTo, left_fits, moved_sets, raised_fits, taken_fits, ticked_fits}
 
 -- ---- THREADPTR
 -- the word that a row leaves there fits the number
@@ -130,7 +131,7 @@ sent_kind b addr (Store v) h store at = eqb-true _ _ (h at)
 sent_kind b addr Load h store at = absurd (false≢true store)
 sent_kind b addr (Cas e n) h store at = absurd (false≢true store)
 
-awaited_named : (i : Insn) (awaited : Option Awaited) (reply : ℕ) → AwaitsNamed i awaited → WritesNamed i (written None awaited reply)
+pub awaited_named : (i : Insn) (awaited : Option Awaited) (reply : ℕ) → AwaitsNamed i awaited → WritesNamed i (written None awaited reply)
 awaited_named i None reply h = tt
 awaited_named i (Some a) reply h = h
 
@@ -140,7 +141,7 @@ pub record Ordinary (i : Insn) (s : UseState) (g h : FrameState) (mask : ℕ) (u
   pub kind_too : v.kind ≡ step.Insn
   pub write : WritesAgree mask u.write v.write
   pub access : AskedAlike (second_word i s h).mask u.access v.access
-  pub control : ControlFit (moved_masks (moved_to i) (first_word i s h).mask s.masks.special) (pointer_mask i (first_word i s h).mask s.masks.threadptr) u.after.control v.after.control
+  pub control : ControlLeft s.masks.discipline (moved_masks (moved_to i) (first_word i s h).mask s.masks.special) (pointer_mask i (first_word i s h).mask s.masks.threadptr) u.after.control v.after.control
   pub is : u.after ≡ record g { seen = seen_after_write u.write g.seen; control = u.after.control }
   pub is_too : v.after ≡ record h { seen = seen_after_write v.write h.seen; control = v.after.control }
   pub narrow : WritesNamed i u.write
@@ -157,7 +158,7 @@ pub record Quiet (s : UseState) (g h : FrameState) (u v : FrameTurn) : Type 0 wh
   pub write_too : v.write ≡ None
   pub access : u.access ≡ None
   pub access_too : v.access ≡ None
-  pub control : ControlFit s.masks.special s.masks.threadptr u.after.control v.after.control
+  pub control : ControlLeft s.masks.discipline s.masks.special s.masks.threadptr u.after.control v.after.control
   pub is : u.after ≡ record g { control = u.after.control }
   pub is_too : v.after ≡ record h { control = v.after.control }
 
@@ -177,7 +178,7 @@ module _ {s : UseState} {g h : FrameState} (f : NowFit s g h) where
     write_too = refl;
     access = refl;
     access_too = refl;
-    control = ticked_fits (raised_fits f.control cause addr);
+    control = left_fits (ticked_fits (raised_fits f.control cause addr));
     is = refl;
     is_too = refl;
   }
@@ -191,7 +192,7 @@ module _ {s : UseState} {g h : FrameState} (f : NowFit s g h) where
     write_too = refl;
     access = refl;
     access_too = refl;
-    control = ticked_fits (taken_fits f.control level small);
+    control = left_fits (ticked_fits (taken_fits f.control level small));
     is = refl;
     is_too = refl;
   }
@@ -205,7 +206,7 @@ module _ {s : UseState} {g h : FrameState} (f : NowFit s g h) where
     write_too = refl;
     access = refl;
     access_too = refl;
-    control = ticked_fits f.control;
+    control = left_fits (ticked_fits f.control);
     is = refl;
     is_too = refl;
   }
@@ -219,7 +220,7 @@ module _ {s : UseState} {g h : FrameState} (f : NowFit s g h) where
     write_too = refl;
     access = refl;
     access_too = refl;
-    control = ticked_fits f.control;
+    control = left_fits (ticked_fits f.control);
     is = refl;
     is_too = refl;
   }
@@ -254,7 +255,7 @@ module _ {s : UseState} {g h : FrameState} (f : NowFit s g h) (code : ℕ → �
       ap (cut (pointer_mask i a.mask s.masks.threadptr)) q ∙ (k ∙ (ap (λ z. pointer_mask i z h.control.threadptr) (sym same_operand) ∙ sym r))
 
   -- ---- without an access
-  pub does_ordinary : (len reply : ℕ) (m e : Effect) → o ≡ Does m → p ≡ Does e → EffectsAgree i (row_masks i s h) m e → Ordinary i s g h (row_masks i s h).result (in_frame (settled (Does m) len g.control) reply g) (in_frame (settled (Does e) len h.control) reply h)
+  pub does_ordinary : (len reply : ℕ) (m e : Effect) → o ≡ Does m → p ≡ Does e → EffectsAgree s.masks.discipline i (row_masks i s h) m e → Ordinary i s g h (row_masks i s h).result (in_frame (settled (Does m) len g.control) reply g) (in_frame (settled (Does e) len h.control) reply h)
   does_ordinary len reply m e q r agree =
       let fo : Fits i (Does m) = subst (Fits i) q (outcome_fits code i g.control.pc _ _ _ _ g.control.ps g.control.threadptr) in
       let fp : Fits i (Does e) = subst (Fits i) r (outcome_fits code i h.control.pc _ _ _ _ h.control.ps h.control.threadptr) in
@@ -265,7 +266,7 @@ module _ {s : UseState} {g h : FrameState} (f : NowFit s g h) (code : ℕ → �
         kind_too = refl;
         write = agree.write;
         access = tt;
-        control = ticked_fits (effect_fits (moved_to i) f.control count x a (word_fits f (reads i).0) m e agree.sets fo.1 fp.1 (gives m q) (gives_too e r) len (pointer_mask i a.mask s.masks.threadptr) small agree.ps agree.flow agree.waits (pointers m.threadptr e.threadptr tm te));
+        control = ticked_fits (effect_fits (moved_to i) f.control count x a (word_fits f (reads i).0) m e agree.sets fo.1 fp.1 (gives m q) (gives_too e r) len (pointer_mask i a.mask s.masks.threadptr) small (but_owb s.masks.discipline m.ps e.ps agree.ps) agree.flow agree.waits (pointers m.threadptr e.threadptr tm te));
         is = refl;
         is_too = refl;
         narrow = fo.0;
@@ -289,7 +290,7 @@ module _ {s : UseState} {g h : FrameState} (f : NowFit s g h) (code : ℕ → �
   none_given : (y : ℕ) (sets : SpecialWrites) → moved_to i ≡ None → GivesTo (moved_to i) y sets
   none_given y sets none r is mark = absurd cc
 
-  pub asks_ordinary : (len reply mask : ℕ) (c d : Access) (v w : Option Awaited) (m e : Effect) → o ≡ Asks c v m → p ≡ Asks d w e → AccessesAgree (second_word i s h).mask c d → v ≡ w → used_are_known i (first_word i s h) (second_word i s h) ≡ true → EffectsAgree i (row_masks i s h) m e
+  pub asks_ordinary : (len reply mask : ℕ) (c d : Access) (v w : Option Awaited) (m e : Effect) → o ≡ Asks c v m → p ≡ Asks d w e → AccessesAgree (second_word i s h).mask c d → v ≡ w → used_are_known s.masks.discipline i (first_word i s h) (second_word i s h) ≡ true → EffectsAgree s.masks.discipline i (row_masks i s h) m e
       → Ordinary i s g h mask (in_frame (settled (Asks c v m) len g.control) reply g) (in_frame (settled (Asks d w e) len h.control) reply h)
   asks_ordinary len reply mask c d v w m e q r accesses awaited used agree =
       let fo : Fits i (Asks c v m) = subst (Fits i) q (outcome_fits code i g.control.pc _ _ _ _ g.control.ps g.control.threadptr) in
@@ -305,7 +306,7 @@ module _ {s : UseState} {g h : FrameState} (f : NowFit s g h) (code : ℕ → �
         kind_too = refl;
         write = received_alike mask reply v w awaited;
         access = accesses;
-        control = ticked_fits (effect_fits (moved_to i) f.control count x a (word_fits f (reads i).0) m e agree.sets (none_set m none sm) (none_set e none se) (none_given x m.sets none) (none_given a.value e.sets none) len (pointer_mask i a.mask s.masks.threadptr) small agree.ps agree.flow agree.waits (pointers m.threadptr e.threadptr tm te));
+        control = ticked_fits (effect_fits (moved_to i) f.control count x a (word_fits f (reads i).0) m e agree.sets (none_set m none sm) (none_set e none se) (none_given x m.sets none) (none_given a.value e.sets none) len (pointer_mask i a.mask s.masks.threadptr) small (but_owb s.masks.discipline m.ps e.ps agree.ps) agree.flow agree.waits (pointers m.threadptr e.threadptr tm te));
         is = refl;
         is_too = refl;
         narrow = awaited_named i v reply fo.0;
@@ -316,7 +317,7 @@ module _ {s : UseState} {g h : FrameState} (f : NowFit s g h) (code : ℕ → �
             stored_kind (second_word i s h).mask y d.size d.kind b k);
         sent = (
             let b : Word = second_word i s h in
-            let k0 = second_sent code i a b h.control.pc (value_of (special_of h.control) (special_reads i).0) (value_of (special_of h.control) (special_reads i).1) h.control.ps h.control.threadptr used in
+            let k0 = second_sent s.masks.discipline code i a b h.control.pc (value_of (special_of h.control) (special_reads i).0) (value_of (special_of h.control) (special_reads i).1) h.control.ps h.control.threadptr used in
             let k1 : HasSent b (outcome code i h.control.pc (value_of (known h.seen) (reads i).0) b.value (value_of (special_of h.control) (special_reads i).0) (value_of (special_of h.control) (special_reads i).1) h.control.ps h.control.threadptr) = subst (λ z. HasSent b (outcome code i h.control.pc z b.value (value_of (special_of h.control) (special_reads i).0) (value_of (special_of h.control) (special_reads i).1) h.control.ps h.control.threadptr)) (word_value s h (reads i).0) k0 in
             let k2 : HasSent b p = subst (λ z. HasSent b (outcome code i h.control.pc (value_of (known h.seen) (reads i).0) z (value_of (special_of h.control) (special_reads i).0) (value_of (special_of h.control) (special_reads i).1) h.control.ps h.control.threadptr)) (word_value s h (reads i).1) k1 in
             let k3 : HasSent b (Asks d w e) = subst (HasSent b) r k2 in
@@ -367,9 +368,9 @@ module _ {s : UseState} {g h : FrameState} (f : NowFit s g h) (code : ℕ → �
 
   -- ---- the row, by both outcomes
   abbrev pub result : ℕ → ℕ
-  result r = result_mask i (first_word i s h) (second_word i s h) (special_operand i s h) s.masks.threadptr r
+  result r = result_mask s.masks.discipline i (first_word i s h) (second_word i s h) (special_operand i s h) s.masks.threadptr r
 
-  by_outcomes : (len reply r : ℕ) (y z : Outcome) → o ≡ y → p ≡ z → OutcomesAgree i (row_masks i s h) y z → Fits i y → EntersWord y → used_are_known i (first_word i s h) (second_word i s h) ≡ true → is_windowing i ≡ false → is_movsp i ≡ false → names_window_register i ≡ false
+  by_outcomes : (len reply r : ℕ) (y z : Outcome) → o ≡ y → p ≡ z → OutcomesAgree s.masks.discipline i (row_masks i s h) y z → Fits i y → EntersWord y → used_are_known s.masks.discipline i (first_word i s h) (second_word i s h) ≡ true → is_windowing i ≡ false → is_movsp i ≡ false → names_window_register i ≡ false
       → ((m : Effect) → o ≡ Does m → r ≡ all_bits) → RowStep i s g h (result r) (done_in_frame y len reply g) (done_in_frame z len reply h)
   by_outcomes len reply r (Does m) (Does e) q k agree fit proper used a0 b0 c0 full =
       subst (λ t. RowStep i s g h (result t) (done_in_frame (Does m) len reply g) (done_in_frame (Does e) len reply h)) (sym (full m q)) (Executes (does_ordinary len reply m e q k agree))
@@ -380,6 +381,6 @@ module _ {s : UseState} {g h : FrameState} (f : NowFit s g h) (code : ℕ → �
   by_outcomes len reply r (Does m) z q k agree fit proper used a0 b0 c0 full = absurd cc
   by_outcomes len reply r (Asks c v m) z q k agree fit proper used a0 b0 c0 full = absurd cc
 
-  pub row_step : (len reply r : ℕ) → OutcomesAgree i (row_masks i s h) o p → EntersWord o → used_are_known i (first_word i s h) (second_word i s h) ≡ true → is_windowing i ≡ false → is_movsp i ≡ false → names_window_register i ≡ false
+  pub row_step : (len reply r : ℕ) → OutcomesAgree s.masks.discipline i (row_masks i s h) o p → EntersWord o → used_are_known s.masks.discipline i (first_word i s h) (second_word i s h) ≡ true → is_windowing i ≡ false → is_movsp i ≡ false → names_window_register i ≡ false
       → ((m : Effect) → o ≡ Does m → r ≡ all_bits) → RowStep i s g h (result r) (fetched_step (Fetches i len) code reply g) (fetched_step (Fetches i len) code reply h)
   row_step len reply r agree proper used a0 b0 c0 full = by_outcomes len reply r o p refl refl agree (outcome_fits code i g.control.pc _ _ _ _ g.control.ps g.control.threadptr) proper used a0 b0 c0 full

@@ -78,6 +78,7 @@ use Rattle.xt_map.specs.declared.access.Kind.{Kind}
 use Rattle.std.proofs.Common.{eqb, sym, ◌∙◌}
 use Rattle.std.proofs.lemmas.Bool.{and_parts, cond-true, eq-eqb}
 use Rattle.xt_map.specs.Regions.{uart_transmit}
+use Rattle.xt_uses.specs.declared.discipline.Discipline.{Discipline}
 use Rattle.xt_uses.specs.declared.words.Word.{Word}
 use Rattle.xt_uses.specs.Words.{is_whole, knows}
 use Rattle.xt_uses.specs.Used.{density_used, low_bits, memory_used, store_used, used_are_known}
@@ -317,17 +318,17 @@ boolean_sent b (boolean.Bf TestName.Bt s offset) pc x u e = branches_sent b (hol
 boolean_sent b (boolean.Movf ChoiceName.Movf r s t) pc x u e = moves_sent b (holds cond_.BitClear u t) r x e
 boolean_sent b (boolean.Movf ChoiceName.Movt r s t) pc x u e = moves_sent b (holds cond_.BitSet u t) r x e
 
-from_sent : (code : ℕ → ℕ) (i : Insn) (a b : Word) (pc u v : ℕ) (e : Effect) → used_are_known i a b ≡ true → HasSent b (outcome_from code i pc a.value b.value u v e)
+from_sent : (by : Discipline) (code : ℕ → ℕ) (i : Insn) (a b : Word) (pc u v : ℕ) (e : Effect) → used_are_known by i a b ≡ true → HasSent b (outcome_from code i pc a.value b.value u v e)
 unfolding used_are_known
-from_sent code (insn.Three i) a b pc u v e used = three_sent b i a.value b.value u e
-from_sent code (insn.Shift i) a b pc u v e used = shift_sent b i a.value u e
-from_sent code (insn.Memory i) a b pc u v e used = memory_sent code i a b pc u e used
-from_sent code (insn.Control i) a b pc u v e used = control_sent b i pc a.value b.value e
-from_sent code (insn.System i) a b pc u v e used = system_sent b i a.value u v e
-from_sent code (insn.Density i) a b pc u v e used = density_sent code i a b pc e used
-from_sent code (insn.Boolean i) a b pc u v e used = boolean_sent b i pc a.value u e
+from_sent by code (insn.Three i) a b pc u v e used = three_sent b i a.value b.value u e
+from_sent by code (insn.Shift i) a b pc u v e used = shift_sent b i a.value u e
+from_sent by code (insn.Memory i) a b pc u v e used = memory_sent code i a b pc u e used
+from_sent by code (insn.Control i) a b pc u v e used = control_sent b i pc a.value b.value e
+from_sent by code (insn.System i) a b pc u v e used = system_sent b i a.value u v e
+from_sent by code (insn.Density i) a b pc u v e used = density_sent code i a b pc e used
+from_sent by code (insn.Boolean i) a b pc u v e used = boolean_sent b i pc a.value u e
 
 -- over the values of the words that the row reads
-pub second_sent : (code : ℕ → ℕ) (i : Insn) (a b : Word) (pc u v : ℕ) (ps : Ps) (threadptr : ℕ) → used_are_known i a b ≡ true → HasSent b (outcome code i pc a.value b.value u v ps threadptr)
+pub second_sent : (by : Discipline) (code : ℕ → ℕ) (i : Insn) (a b : Word) (pc u v : ℕ) (ps : Ps) (threadptr : ℕ) → used_are_known by i a b ≡ true → HasSent b (outcome code i pc a.value b.value u v ps threadptr)
 unfolding outcome
-second_sent code i a b pc u v ps threadptr used = from_sent code i a b pc u v (unchanged ps threadptr) used
+second_sent by code i a b pc u v ps threadptr used = from_sent by code i a b pc u v (unchanged ps threadptr) used

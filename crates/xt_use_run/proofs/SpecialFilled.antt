@@ -4,6 +4,7 @@ use Rattle.std.proofs.Math.ListN.{set}
 use Rattle.std.proofs.lemmas.Bool.{and_left, both_ways, cases_Bool, cases_eq, ne_eqb, or_cases, or_parts, or_from, or_left, or_right, true≢false}
 use Rattle.std.proofs.lemmas.List.{get_or-set_same, get_or-set_other, length-set}
 use Rattle.xt_special.specs.Control.{special_of}
+use Rattle.xt_special.specs.Access.{is_eps}
 use Rattle.xt_exec.specs.State.{State}
 use Rattle.xt_frames.specs.Frames.{Frame, FrameState}
 use Rattle.xt_frames.specs.Breaches.{Bounds, lost_of}
@@ -12,8 +13,10 @@ use Rattle.xt_simulation.specs.Relation.{Same, lost_at}
 use Rattle.xt_simulation.specs.Cores.{Related}
 use Rattle.xt_simulation.proofs.Laid.{laid_other, relaid, same_relaid}
 use Rattle.xt_uses.specs.Words.{cut}
+use Rattle.xt_uses.specs.Used.{counted_bits}
 use Rattle.xt_uses.specs.UseState.{UseState}
-use Rattle.xt_use_run.specs.Knowing.{Knows}
+use Rattle.xt_uses.proofs.RowsMarks.{eps_unmarked}
+use Rattle.xt_use_run.specs.Knowing.{Knows, is_partial}
 use Rattle.xt_use_run.proofs.Seen.{cut_zero}
 use Rattle.xt_use_run.proofs.Specials.{mark_range}
 
@@ -82,7 +85,7 @@ module _ (fresh : Bool) (s : State) (f : FrameState) (n : ℕ) (mark : holds_mar
           size = length-set f.control.special n real ∙ k.control.even.special.size;
           only = k.control.even.special.only;
           at = λ j known.
-              let other : j ≢ n = λ e. both_ways (holds_marks n) (subst (λ i. holds_marks i ≡ false) e known) mark in
+              let other : j ≢ n = λ e. both_ways (is_partial n) (subst (λ i. is_partial i ≡ false) e known) (or_left (holds_marks n) _ mark) in
               get_or-set_other f.control.special n j real 0 other ∙ k.control.even.special.at j known;
         };
       };
@@ -96,6 +99,9 @@ module _ (fresh : Bool) (s : State) (f : FrameState) (n : ℕ) (mark : holds_mar
           (λ is. subst (λ i. cut (get_or u.masks.special i 0) (get_or (set f.control.special n real) i 0) ≡ special_of u.frame.control i) (sym is) (ap (cut (get_or u.masks.special n 0)) set_here ∙ here))
           (λ other. ap (cut (get_or u.masks.special j 0)) (get_or-set_other f.control.special n j real 0 other) ∙ k.control.fits j h)
           (cases_eq j n);
+      saved = λ j h.
+          let other : j ≢ n = λ e. both_ways (holds_marks n) (eps_unmarked n (subst (λ i. is_eps i ≡ true) e h)) mark in
+          ap (cut (counted_bits u.masks.discipline j)) (get_or-set_other f.control.special n j real 0 other) ∙ k.control.saved j h;
     };
     unset = record {
       size = length-set f.unset n false ∙ k.unset.size;

@@ -1,19 +1,22 @@
 -- Carries a proof; nothing that a reader must believe.
 -- What the machine of uses knows of a frame state that has the processor's numbers. The processor
 -- plays no part here: both are states of the machine with unbounded frames.
-use Rattle.std.specs.Prelude.{◌≡◌, ℕ, ◌*◌, ◌<◌, ◌^◌, Bool, true, false, Option, Some, None, List}
-use Rattle.std.specs.Prelude.{[], ◌∷◌, length, slice_index_or}
+use Rattle.std.specs.Prelude.{◌≡◌, ℕ, ◌*◌, ◌<◌, ◌^◌, Bool, true, false, ◌||◌, Option, Some}
+use Rattle.std.specs.Prelude.{None, List, [], ◌∷◌, length, slice_index_or}
 use Rattle.xt_special.specs.Control.{Control, special_of}
+use Rattle.xt_special.specs.Access.{is_eps}
 use Rattle.xt_frames.specs.declared.holes.Nested.{Nested}
 use Rattle.xt_frames.specs.Frames.{Frame, FrameState, known}
 use Rattle.xt_frames.specs.Marks.{holds_marks}
 use Rattle.xt_frames.specs.SaveAreas.{sp_of}
 use Rattle.xt_simulation.specs.Relation.{Even}
+use Rattle.xt_uses.specs.declared.discipline.Discipline.{Discipline}
 use Rattle.xt_uses.specs.Words.{cut}
+use Rattle.xt_uses.specs.Used.{counted_bits}
 use Rattle.xt_frames.specs.FrameStep.{FrameTurn}
 use Rattle.xt_uses.specs.UseState.{UseState, current_masks}
 use Rattle.xt_uses.specs.UseStep.{UseTurn}
-use Rattle.xt_uses.specs.UseLaws.{AccessFits, IsSent, WriteFits}
+use Rattle.xt_uses.specs.UseLaws.{AccessFits, AgreeIn, IsSent, WriteFits}
 
 -- ---- registers
 
@@ -39,14 +42,31 @@ FramesFit _ _ _ = ⊥
 abbrev pub with_pointer : ℕ → Control → Control
 with_pointer n d = record d { threadptr = n }
 
--- Equal but for THREADPTR, EXCSAVE and MISC, of which the known bits are equal.
-pub record ControlFit (special : List ℕ) (known_bits : ℕ) (c d : Control) : Type 0 where
-  pub even : Even holds_marks c (with_pointer c.threadptr d)
+abbrev pub with_owb : ℕ → Control → Control
+with_owb n d = record d { ps = record d.ps { owb = n } }
+
+-- of these not each bit may be known
+abbrev pub is_partial : ℕ → Bool
+is_partial n = holds_marks n || is_eps n
+
+-- Equal but for THREADPTR, EXCSAVE and MISC, of which the known bits are equal, and EPS2 to EPS7, of
+-- which those are that count.
+pub record ControlFit
+    (by : Discipline) (special : List ℕ) (known_bits : ℕ) (c d : Control)
+    : Type 0 where
+  pub even : Even is_partial c (with_pointer c.threadptr d)
   pub pointer : cut known_bits c.threadptr ≡ d.threadptr
   pub spread : length special ≡ 256
   pub words : (n : ℕ) → holds_marks n ≡ true → special_of c n < 2 ^ 32
   pub fits : (n : ℕ) → holds_marks n ≡ true
       → cut (slice_index_or special n 0) (special_of c n) ≡ special_of d n
+  pub saved : (n : ℕ) → is_eps n ≡ true
+      → AgreeIn (counted_bits by n) (special_of c n) (special_of d n)
+
+-- as a step leaves them: PS.OWB is told at the next one
+abbrev pub ControlLeft : Discipline → List ℕ → ℕ → Control → Control → Type 0
+ControlLeft by special known_bits c d =
+    ControlFit by special known_bits c (with_owb c.ps.owb d)
 
 -- which special registers have no number; nothing is known of EXCSAVE or MISC that has none
 pub record UnsetFit (special : List ℕ) (xs ys : List Bool) : Type 0 where
@@ -63,14 +83,15 @@ pub record UnsetFit (special : List ℕ) (xs ys : List Bool) : Type 0 where
 pub record NowFit (s : UseState) (g h : FrameState) : Type 0 where
   pub seen : SeenFit 16 (current_masks s) g.seen h.seen
   pub frames : FramesFit s.masks.kept g.frames h.frames
-  pub control : ControlFit s.masks.special s.masks.threadptr g.control h.control
+  pub control :
+      ControlFit s.masks.discipline s.masks.special s.masks.threadptr g.control h.control
   pub unset : UnsetFit s.masks.special g.unset h.unset
 
 -- what stands in a nested interrupt: its marks are equal
 pub record InnerFit (inner : List ℕ) (x y : Nested) : Type 0 where
   pub seen : SeenFit 16 inner x.seen y.seen
   pub pc : x.pc ≡ y.pc
-  pub ps : x.ps ≡ y.ps
+  pub ps : x.ps ≡ record y.ps { owb = x.ps.owb }
   pub marks : x.marks ≡ y.marks
   pub spread : length x.marks ≡ 16
   pub saved : x.saved ≡ y.saved
@@ -85,7 +106,8 @@ pub record Knows (f : FrameState) (s : UseState) : Type 0 where
   pub seen : SeenFit 16 s.masks.seen f.seen s.frame.seen
   pub sp : known f.seen 1 ≡ known s.frame.seen 1
   pub frames : FramesFit s.masks.kept f.frames s.frame.frames
-  pub control : ControlFit s.masks.special s.masks.threadptr f.control s.frame.control
+  pub control :
+      ControlLeft s.masks.discipline s.masks.special s.masks.threadptr f.control s.frame.control
   pub unset : UnsetFit s.masks.special f.unset s.frame.unset
   pub nested : NestedFit s.masks.inner f.nested s.frame.nested
 

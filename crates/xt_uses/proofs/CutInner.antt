@@ -45,6 +45,7 @@ use Rattle.xt_frames.specs.Breaches.{Bounds, is_exception}
 use Rattle.xt_frames.proofs.Shown.{NoneShown}
 use Rattle.xt_frames.proofs.StackSteps.{step_fetches}
 use Rattle.xt_uses.specs.Words.{all_bits, cut}
+use Rattle.xt_uses.specs.Used.{counted_bits}
 use Rattle.xt_uses.specs.Known.{result_mask, system_mask}
 use Rattle.xt_uses.specs.UseState.{Masks, UseState, first_word, second_word, special_operand, visible_word}
 use Rattle.xt_uses.specs.UseStep.{UseTurn, called, cut_number, cut_seen, executed, frames_moved, pointer_written, returned, special_written, use_turn, visible_written}
@@ -229,14 +230,14 @@ module _ (seen : List (Option ℕ)) (frames : List Frame) (control : Control) (u
       cut_ended (cut_spared laid_cut (ticked (after_effect e len g.control)).special k.special (ticked (after_effect e len g.control)).threadptr k.threadptr) (ticked (after_effect e len g.control)).waits
 
   -- the mask of a register that receives a mark is 0
-  marked_zero : (i : Insn) (a b : ℕ) (j : ℕ) → mark_read i x.saved ≡ Some j → (r : ℕ) → result_mask i (first_word i s g) (second_word i s g) (special_operand i s g) m.threadptr r ≡ 0
+  marked_zero : (i : Insn) (a b : ℕ) (j : ℕ) → mark_read i x.saved ≡ Some j → (r : ℕ) → result_mask m.discipline i (first_word i s g) (second_word i s g) (special_operand i s g) m.threadptr r ≡ 0
   unfolding mark_read result_mask system_mask special_reads
   marked_zero (insn.System (system.Rsr SpecialName.Rsr t n)) a b j e r =
       let h = w.inside.saved n j e in
-      cond-true (holds_marks n) (get_or m.special n 0) all_bits h.0 ∙ w.lost n h.0 h.1
+      cond-true (holds_marks n) (get_or m.special n 0) (counted_bits m.discipline n) h.0 ∙ w.lost n h.0 h.1
   marked_zero (insn.System (system.Rsr SpecialName.Xsr t n)) a b j e r =
       let h = w.inside.saved n j e in
-      cond-true (holds_marks n) (get_or m.special n 0) all_bits h.0 ∙ w.lost n h.0 h.1
+      cond-true (holds_marks n) (get_or m.special n 0) (counted_bits m.discipline n) h.0 ∙ w.lost n h.0 h.1
   marked_zero _ a b j e r = absurd (none-some j e)
 
   module _ (i : Insn) (len r : ℕ) where
@@ -247,7 +248,7 @@ module _ (seen : List (Option ℕ)) (frames : List Frame) (control : Control) (u
     given = (first_word i s g).mask
 
     abbrev mask : ℕ
-    mask = result_mask i (first_word i s g) (second_word i s g) (special_operand i s g) m.threadptr r
+    mask = result_mask m.discipline i (first_word i s g) (second_word i s g) (special_operand i s g) m.threadptr r
 
     abbrev mark : Option ℕ
     mark = mark_read i x.saved

@@ -146,7 +146,7 @@ module _ (seen : List (Option ℕ)) (frames : List Frame) (control : Control) (u
     given = (first_word i s g).mask
 
     abbrev mask : ℕ
-    mask = result_mask i (first_word i s g) (second_word i s g) (special_operand i s g) m.threadptr r
+    mask = result_mask m.discipline i (first_word i s g) (second_word i s g) (special_operand i s g) m.threadptr r
 
     operand_cut : (o : Option ℕ) → cut (visible_word s g o).mask (value_of (known seen) o) ≡ value_of (known seen) o
     operand_cut None = refl

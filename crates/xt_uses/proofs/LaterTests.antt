@@ -34,7 +34,7 @@ use Rattle.xt_uses.specs.UseBreaches.{breaks_stack, fetched_return_use, fetched_
 use Rattle.xt_uses.specs.FirstUse.{handler_use, record_use}
 use Rattle.xt_uses.proofs.WholeInner.{is_ending, is_moving, no_mark, no_saved_mark}
 use Rattle.xt_uses.proofs.WholeStates.{IsWholeState, Whole}
-use Rattle.xt_uses.proofs.WholeSteps.{operands_whole, used_true}
+use Rattle.xt_uses.proofs.WholeSteps.{operands_seen, used_true}
 
 -- ---- tests that are not shown
 pub none_first : (ts : List Test) → NoneShown ts → first_shown ts ≡ None
@@ -98,7 +98,7 @@ module _ (seen : List (Option ℕ)) (frames : List Frame) (control : Control) (u
   plain_known : (i : Insn) → reads_none i (laid inp plain) ≡ false → uses_unknown i (record { frame = plain; masks = m }) (laid inp plain) ≡ false
   plain_known i h =
       let s : UseState = record { frame = plain; masks = m } in
-      or_from (reads_no_number i (laid inp plain)) _ (no_numbers i (laid inp plain) h) (not_from_true _ (used_true s (laid inp plain) i (operands_whole s (laid inp plain) i w.seen_masks w.special h)))
+      or_from (reads_no_number i (laid inp plain)) _ (no_numbers i (laid inp plain) h) (not_from_true _ (used_true s (laid inp plain) i (operands_seen s (laid inp plain) i w.seen_masks h)))
 
 -- ---- in one
 module _ (seen : List (Option ℕ)) (frames : List Frame) (control : Control) (unset : List Bool) (x : Nested) (m : Masks) (w : Whole seen frames unset (Some x) control.waits m) (inp : Inputs) where
@@ -127,7 +127,7 @@ module _ (seen : List (Option ℕ)) (frames : List Frame) (control : Control) (u
       let c = or_parts (is_unset g.unset (special_reads i).0) (is_unset g.unset (special_reads i).1) b.1 in
       let marks : reads_mark (Some x) i ≡ false = and_right _ _ (or_from (holds_mark x.marks (reads i).0) _ (free_mark (reads i).0 a.0) (or_from (holds_mark x.marks (reads i).1) _ (free_mark (reads i).1 b.0) (or_from (holds_mark x.saved (special_reads i).0) (holds_mark x.saved (special_reads i).1) (free_saved (special_reads i).0 c.0) (free_saved (special_reads i).1 c.1)))) in
       or_from (reads_mark (Some x) i) _ marks
-      (or_from (reads_no_number i g) _ (no_numbers i g h) (not_from_true _ (used_true s g i (operands_whole s g i w.inner w.special h))))
+      (or_from (reads_no_number i g) _ (no_numbers i g h) (not_from_true _ (used_true s g i (operands_seen s g i w.inner h))))
 
   -- one that moves a mark
   moves_mark : (name : SpecialName) (t n : ℕ) → holds_marks n ≡ true → moves_marks (insn.System (system.Rsr name t n)) ≡ true → uses_unknown (insn.System (system.Rsr name t n)) s g ≡ false

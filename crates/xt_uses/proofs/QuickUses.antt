@@ -30,8 +30,10 @@ use Rattle.xt_frames.specs.Walked.{bounds_of}
 use Rattle.xt_frames.proofs.Mild.{IsStill, no_entry, tests_shown}
 use Rattle.xt_frames.proofs.Quickly.{IsOver}
 use Rattle.xt_frames.proofs.Shown.{NoneShown}
+use Rattle.xt_uses.specs.declared.discipline.Discipline.{Discipline}
 use Rattle.xt_uses.specs.declared.masks.TopMasks.{TopMasks}
 use Rattle.xt_uses.specs.Words.{Word, all_bits, whole_word}
+use Rattle.xt_uses.specs.Disciplines.{Lenient}
 use Rattle.xt_uses.specs.Known.{result_mask}
 use Rattle.xt_uses.specs.UseState.{Masks, UseState, first_word, second_word, special_operand}
 use Rattle.xt_uses.specs.UseStep.{UseTurn, carries, cut_seen, cut_state, executed, fetched_movsp, frames_moved, full_step, insn_turn, left_after, masks_past, movsp_of, pointer_written, receives_mark, reply_mask, special_written, stores_unknown, turn_or, use_step, use_turn, value_step, visible_written}
@@ -74,10 +76,10 @@ no_pointer _ mask m e = refl
 frames_still : (i : Insn) (n : ℕ) (m : Masks) → is_entry i ≡ false → is_return i ≡ false → frames_moved i n m ≡ m
 frames_still i n m entry return = cond-false (is_entry i) _ _ entry ∙ cond-false (is_return i) _ _ return
 
-any_pointer : (i : Insn) (x y u : Word) (p reply : ℕ) → is_system i ≡ false → result_mask i x y u p reply ≡ result_mask i x y u all_bits reply
+any_pointer : (by : Discipline) (i : Insn) (x y u : Word) (p reply : ℕ) → is_system i ≡ false → result_mask by i x y u p reply ≡ result_mask Lenient i x y u all_bits reply
 unfolding is_system result_mask
-any_pointer (insn.System i) x y u p reply e = absurd cc
-any_pointer _ x y u p reply e = refl
+any_pointer by (insn.System i) x y u p reply e = absurd cc
+any_pointer by _ x y u p reply e = refl
 
 whole_as : (w : Word) → w.mask ≡ all_bits → w ≡ whole_word w.value
 whole_as w e = λ j. record { value = w.value; mask = e j }
@@ -128,7 +130,7 @@ module _ (limits : Limits) (fresh : Bool) (code : ℕ → ℕ) (rec : StepRecord
   nothing_unknown : uses_unknown i s over ≡ false
   nothing_unknown =
       let marked = ap (λ (o : Option Nested). reads_mark o i) k.plain in
-      or_from _ _ marked (or_from _ _ (no_numbers i over (k.quick.row.reads frames)) (not_from_true _ (used_true s over i read)))
+      or_from _ _ marked (or_from _ _ (no_numbers i over (k.quick.row.reads frames)) (not_from_true _ (used_true s over i (record { first = read.first; second = read.second }))))
 
   module _ (live : ℕ → Bool) (bytes : ℕ → ℕ) (saves : touches_save_area live rec.access ≡ false) (swaps : swaps_unknown bytes rec.access ≡ false) where
     abbrev here : FrameTurn
@@ -205,8 +207,8 @@ module _ (limits : Limits) (fresh : Bool) (code : ℕ → ℕ) (rec : StepRecord
 
     mask_is : made.mask ≡ all_bits
     mask_is =
-        any_pointer i (first_word i s over) (second_word i s over) (special_operand i s over) m.threadptr all_bits k.quick.row.common.user
-        ∙ ((λ j. result_mask i (read.first j) (read.second j) (read.special j) all_bits all_bits)
+        any_pointer m.discipline i (first_word i s over) (second_word i s over) (special_operand i s over) m.threadptr all_bits k.quick.row.common.user
+        ∙ ((λ j. result_mask Lenient i (read.first j) (read.second j) (read.special j) all_bits all_bits)
         ∙ result_whole i (first_word i s over).value (second_word i s over).value (special_operand i s over).value)
 
     step_frame : IsProperWrite IsWord write → made.after.frame ≡ state_at frames h x

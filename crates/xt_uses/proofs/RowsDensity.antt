@@ -17,6 +17,7 @@ use Rattle.xt_rows.specs.Effects.{unchanged}
 use Rattle.xt_rows.specs.Kinds.{moved_to}
 use Rattle.xt_rows.specs.Operands.{density_reads}
 use Rattle.xt_rows.specs.Outcomes.{density_outcome}
+use Rattle.xt_uses.specs.declared.discipline.Discipline.{Discipline}
 use Rattle.xt_uses.specs.Words.{Word, Fits, all_bits}
 use Rattle.xt_uses.specs.Used.{density_used}
 use Rattle.xt_uses.specs.Known.{density_mask}
@@ -26,22 +27,22 @@ use Rattle.xt_uses.proofs.Sums.{add_agrees, plus_agrees}
 use Rattle.xt_uses.proofs.Agreed.{nothing_agrees, puts_agree, branches_agree, goes_agree, loads_agree, stores_agree}
 use Rattle.xt_uses.proofs.RowsMemory.{address}
 
-module _ (pc x y : ℕ) (a b : Word) (f : Fits x a) (g : Fits y b) (h : x < 2 ^ 32) (l : y < 2 ^ 32) (ps : Ps) (t k : ℕ) (given pointer : ℕ) (p : AgreeIn pointer t k) where
+module _ (by : Discipline) (pc x y : ℕ) (a b : Word) (f : Fits x a) (g : Fits y b) (h : x < 2 ^ 32) (l : y < 2 ^ 32) (ps : Ps) (t k : ℕ) (given pointer : ℕ) (p : AgreeIn pointer t k) where
   abbrev masks : Density → RowMasks
   masks i = record { result = density_mask i a b all_bits; given = given; pointer = pointer; stored = b.mask }
 
-  pub density_agrees : (code : ℕ → ℕ) (i : Density) → a.mask < 2 ^ 32 → density_used i a b ≡ true → ((density_reads i).0 ≡ (density_reads i).1 → (x ≡ y) × (a ≡ b)) → OutcomesAgree (insn.Density i) (masks i) (density_outcome code i pc x y (unchanged ps t)) (density_outcome code i pc a.value b.value (unchanged ps k))
+  pub density_agrees : (code : ℕ → ℕ) (i : Density) → a.mask < 2 ^ 32 → density_used i a b ≡ true → ((density_reads i).0 ≡ (density_reads i).1 → (x ≡ y) × (a ≡ b)) → OutcomesAgree by (insn.Density i) (masks i) (density_outcome code i pc x y (unchanged ps t)) (density_outcome code i pc a.value b.value (unchanged ps k))
   unfolding density_outcome density_mask density_used moved_to
-  density_agrees code (density.L32i NarrowName.L32i q s offset) m used same = loads_agree (insn.Density (density.L32i NarrowName.L32i q s offset)) (masks (density.L32i NarrowName.L32i q s offset)) ps t k p refl code 4 false q (plus x offset) (plus a.value offset) (ap (λ z. plus z offset) (sym (whole_value x a f h used)))
-  density_agrees code (density.L32i NarrowName.S32i q s offset) m used same = stores_agree (insn.Density (density.L32i NarrowName.S32i q s offset)) (masks (density.L32i NarrowName.S32i q s offset)) ps t k p refl 4 y b.value (plus x offset) (plus a.value offset) (ap (λ z. plus z offset) (address pc x y 0 a b f g h l ps t k given pointer p offset used)) (fits_agree y b g)
-  density_agrees code (density.Add r s q) m used same = puts_agree (insn.Density (density.Add r s q)) (masks (density.Add r s q)) ps t k p refl r (addx x y 0) (addx a.value b.value 0) (add_agrees x y a b f g h l m s q (λ e. same (ap (λ n. Some n) e)))
-  density_agrees code (density.Addi r s n) m used same = puts_agree (insn.Density (density.Addi r s n)) (masks (density.Addi r s n)) ps t k p refl r (plus x n) (plus a.value n) (plus_agrees a.mask m x a.value n (fits_agree x a f))
-  density_agrees code (density.Movi s n) m used same = puts_agree (insn.Density (density.Movi s n)) (masks (density.Movi s n)) ps t k p refl s (plus 0 n) (plus 0 n) refl
-  density_agrees code (density.Beqz NarrowZeroName.Beqz s offset) m used same = branches_agree (insn.Density (density.Beqz NarrowZeroName.Beqz s offset)) (masks (density.Beqz NarrowZeroName.Beqz s offset)) ps t k p refl (holds test.Eq x 0) (holds test.Eq a.value 0) (ap (λ z. holds test.Eq z 0) (sym (whole_value x a f h used))) pc offset
-  density_agrees code (density.Beqz NarrowZeroName.Bnez s offset) m used same = branches_agree (insn.Density (density.Beqz NarrowZeroName.Bnez s offset)) (masks (density.Beqz NarrowZeroName.Bnez s offset)) ps t k p refl (holds test.Ne x 0) (holds test.Ne a.value 0) (ap (λ z. holds test.Ne z 0) (sym (whole_value x a f h used))) pc offset
-  density_agrees code (density.Mov q s) m used same = puts_agree (insn.Density (density.Mov q s)) (masks (density.Mov q s)) ps t k p refl q x a.value (fits_agree x a f)
-  density_agrees code (density.Ret NarrowRetName.Ret) m used same = goes_agree (insn.Density (density.Ret NarrowRetName.Ret)) (masks (density.Ret NarrowRetName.Ret)) ps t k p refl x a.value (sym (whole_value x a f h used))
+  density_agrees code (density.L32i NarrowName.L32i q s offset) m used same = loads_agree by (insn.Density (density.L32i NarrowName.L32i q s offset)) (masks (density.L32i NarrowName.L32i q s offset)) ps t k p refl code 4 false q (plus x offset) (plus a.value offset) (ap (λ z. plus z offset) (sym (whole_value x a f h used)))
+  density_agrees code (density.L32i NarrowName.S32i q s offset) m used same = stores_agree by (insn.Density (density.L32i NarrowName.S32i q s offset)) (masks (density.L32i NarrowName.S32i q s offset)) ps t k p refl 4 y b.value (plus x offset) (plus a.value offset) (ap (λ z. plus z offset) (address by pc x y 0 a b f g h l ps t k given pointer p offset used)) (fits_agree y b g)
+  density_agrees code (density.Add r s q) m used same = puts_agree by (insn.Density (density.Add r s q)) (masks (density.Add r s q)) ps t k p refl r (addx x y 0) (addx a.value b.value 0) (add_agrees x y a b f g h l m s q (λ e. same (ap (λ n. Some n) e)))
+  density_agrees code (density.Addi r s n) m used same = puts_agree by (insn.Density (density.Addi r s n)) (masks (density.Addi r s n)) ps t k p refl r (plus x n) (plus a.value n) (plus_agrees a.mask m x a.value n (fits_agree x a f))
+  density_agrees code (density.Movi s n) m used same = puts_agree by (insn.Density (density.Movi s n)) (masks (density.Movi s n)) ps t k p refl s (plus 0 n) (plus 0 n) refl
+  density_agrees code (density.Beqz NarrowZeroName.Beqz s offset) m used same = branches_agree by (insn.Density (density.Beqz NarrowZeroName.Beqz s offset)) (masks (density.Beqz NarrowZeroName.Beqz s offset)) ps t k p refl (holds test.Eq x 0) (holds test.Eq a.value 0) (ap (λ z. holds test.Eq z 0) (sym (whole_value x a f h used))) pc offset
+  density_agrees code (density.Beqz NarrowZeroName.Bnez s offset) m used same = branches_agree by (insn.Density (density.Beqz NarrowZeroName.Bnez s offset)) (masks (density.Beqz NarrowZeroName.Bnez s offset)) ps t k p refl (holds test.Ne x 0) (holds test.Ne a.value 0) (ap (λ z. holds test.Ne z 0) (sym (whole_value x a f h used))) pc offset
+  density_agrees code (density.Mov q s) m used same = puts_agree by (insn.Density (density.Mov q s)) (masks (density.Mov q s)) ps t k p refl q x a.value (fits_agree x a f)
+  density_agrees code (density.Ret NarrowRetName.Ret) m used same = goes_agree by (insn.Density (density.Ret NarrowRetName.Ret)) (masks (density.Ret NarrowRetName.Ret)) ps t k p refl x a.value (sym (whole_value x a f h used))
   density_agrees code (density.Ret NarrowRetName.Retw) m used same = ap (λ z. Windowed (Returns z)) (sym (whole_value x a f h used))
-  density_agrees code (density.Ret NarrowRetName.Nop) m used same = nothing_agrees (insn.Density (density.Ret NarrowRetName.Nop)) (masks (density.Ret NarrowRetName.Nop)) ps t k p refl
+  density_agrees code (density.Ret NarrowRetName.Nop) m used same = nothing_agrees by (insn.Density (density.Ret NarrowRetName.Nop)) (masks (density.Ret NarrowRetName.Nop)) ps t k p refl
   density_agrees code (density.Ret NarrowRetName.Ill) m used same = refl
   density_agrees code (density.Break n) m used same = refl

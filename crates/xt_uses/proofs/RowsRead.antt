@@ -11,7 +11,7 @@ use Rattle.xt_frames.specs.Frames.{FrameState, known}
 use Rattle.xt_uses.specs.Words.{Fits, cut}
 use Rattle.xt_uses.specs.Used.{used_are_known}
 use Rattle.xt_uses.specs.UseState.{UseState, current_masks, first_word, second_word, special_operand, special_word, visible_word}
-use Rattle.xt_uses.specs.UseLaws.{IsKnownNumber, OutcomesAgree, masks_of_row}
+use Rattle.xt_uses.specs.UseLaws.{IsKnownNumber, OthersAgree, OutcomesAgree, SpecialFits, masks_of_row}
 use Rattle.xt_uses.proofs.RowsAll.{all_agree}
 
 -- ---- operands, of a state s of which f is what the next step finds
@@ -24,7 +24,7 @@ module _ (s : UseState) (f : FrameState) where
   special_is None = refl
   special_is (Some n) = refl
 
-  special_number : (o : Option ℕ) → IsKnownNumber o (special_word s f o)
+  special_number : (o : Option ℕ) → IsKnownNumber s.masks.discipline o (special_word s f o)
   special_number None = refl
   special_number (Some n) = λ unmarked. rw unmarked refl
 
@@ -42,21 +42,20 @@ pub record ReadsFit (i : Insn) (registers : ℕ → ℕ) (c : Control) (s : UseS
   pub second : Fits (value_of registers (reads i).1) (second_word i s f)
   pub first_mask : (first_word i s f).mask < 2 ^ 32
   pub second_mask : (second_word i s f).mask < 2 ^ 32
-  pub special : Fits (value_of (special_of c) (special_reads i).0) (special_operand i s f)
-  pub other : value_of (special_of c) (special_reads i).1 ≡ value_of (special_of f.control) (special_reads i).1
+  pub special : SpecialFits (special_reads i).0 (value_of (special_of c) (special_reads i).0) (special_operand i s f)
+  pub other : OthersAgree s.masks.discipline (special_reads i).1 (value_of (special_of c) (special_reads i).1) (value_of (special_of f.control) (special_reads i).1)
   pub pc : c.pc ≡ f.control.pc
   pub ps : c.ps ≡ f.control.ps
   pub threadptr : cut s.masks.threadptr c.threadptr ≡ f.control.threadptr
 
 module _ (code : ℕ → ℕ) (i : Insn) (registers : ℕ → ℕ) (c : Control) (s : UseState) (f : FrameState) where
   same_read : ReadsFit i registers c s f
-      → outcome code i c.pc (first_word i s f).value (second_word i s f).value (special_operand i s f).value (value_of (special_of c) (special_reads i).1) c.ps (cut s.masks.threadptr c.threadptr)
+      → outcome code i c.pc (first_word i s f).value (second_word i s f).value (special_operand i s f).value (value_of (special_of f.control) (special_reads i).1) c.ps (cut s.masks.threadptr c.threadptr)
       ≡ outcome_at code i (known f.seen) f.control
   same_read r =
       let x = visible_is s f (reads i).0 in
       let y = visible_is s f (reads i).1 in
       let u = special_is s f (special_reads i).0 in
-      let v = r.other in
       let a = r.pc in
       let b = r.ps in
       let t = r.threadptr in
@@ -64,17 +63,18 @@ module _ (code : ℕ → ℕ) (i : Insn) (registers : ℕ → ℕ) (c : Control)
 
   -- where what is used is known, the outcome over the registers agrees with the one over the words
   pub outcomes_agree : IsGiven i c.pc (value_of registers (reads i).0) (value_of registers (reads i).1) (value_of (special_of c) (special_reads i).0) (value_of (special_of c) (special_reads i).1) c.ps c.threadptr
-      → ReadsFit i registers c s f → used_are_known i (first_word i s f) (second_word i s f) ≡ true
-      → OutcomesAgree i (masks_of_row i (first_word i s f) (second_word i s f) (special_operand i s f) s.masks.threadptr) (outcome_at code i registers c) (outcome_at code i (known f.seen) f.control)
+      → ReadsFit i registers c s f → used_are_known s.masks.discipline i (first_word i s f) (second_word i s f) ≡ true
+      → OutcomesAgree s.masks.discipline i (masks_of_row s.masks.discipline i (first_word i s f) (second_word i s f) (special_operand i s f) s.masks.threadptr) (outcome_at code i registers c) (outcome_at code i (known f.seen) f.control)
   outcomes_agree given r used =
-      subst (λ o. OutcomesAgree i (masks_of_row i (first_word i s f) (second_word i s f) (special_operand i s f) s.masks.threadptr) (outcome_at code i registers c) o)
+      subst (λ o. OutcomesAgree s.masks.discipline i (masks_of_row s.masks.discipline i (first_word i s f) (second_word i s f) (special_operand i s f) s.masks.threadptr) (outcome_at code i registers c) o)
       (same_read r)
-      (all_agree code i c.pc (value_of registers (reads i).0) (value_of registers (reads i).1) (value_of (special_of c) (special_reads i).0) (value_of (special_of c) (special_reads i).1)
+      (all_agree s.masks.discipline code i c.pc (value_of registers (reads i).0) (value_of registers (reads i).1) (value_of (special_of c) (special_reads i).0) (value_of (special_of c) (special_reads i).1) (value_of (special_of f.control) (special_reads i).1)
       c.ps c.threadptr s.masks.threadptr (first_word i s f) (second_word i s f) (special_operand i s f) given
       (record {
         first = r.first;
         second = r.second;
         special = r.special;
+        other = r.other;
         same = λ e. (ap (value_of registers) e, ap (visible_word s f) e);
         first_mask = r.first_mask;
         second_mask = r.second_mask;

@@ -73,6 +73,7 @@ use Rattle.xt_rows.specs.Numbers.{plus, natural, call_target, literal_address}
 use Rattle.xt_rows.specs.Operands.{call_size, callx_size}
 use Rattle.xt_rows.specs.Effects.{unchanged, moves, divides, branches, calls, asks, loads, stores, swaps, window_register, reads_special, writes_special, exchanges_special}
 use Rattle.xt_rows.specs.Outcomes.{three_outcome, shift_outcome, memory_outcome, control_outcome, system_outcome, density_outcome, boolean_outcome, outcome}
+use Rattle.xt_uses.specs.declared.discipline.Discipline.{Discipline}
 use Rattle.xt_uses.specs.Words.{Word}
 use Rattle.xt_uses.specs.Known.{loaded_mask, memory_mask, density_mask, result_mask}
 
@@ -299,12 +300,12 @@ density_masked code (density.Ret NarrowRetName.Nop) a b reply pc x y e = tt
 density_masked code (density.Ret NarrowRetName.Ill) a b reply pc x y e = tt
 density_masked code (density.Break n) a b reply pc x y e = tt
 
-pub outcome_masked : (code : ℕ → ℕ) (i : Insn) (a b c : Word) (pointer reply : ℕ) (pc x y u v : ℕ) (ps : Ps) (t : ℕ) → AwaitsMask (result_mask i a b c pointer reply) reply (outcome code i pc x y u v ps t)
+pub outcome_masked : (by : Discipline) (code : ℕ → ℕ) (i : Insn) (a b c : Word) (pointer reply : ℕ) (pc x y u v : ℕ) (ps : Ps) (t : ℕ) → AwaitsMask (result_mask by i a b c pointer reply) reply (outcome code i pc x y u v ps t)
 unfolding outcome result_mask
-outcome_masked code (insn.Three i) a b c pointer reply pc x y u v ps t = three_masked (result_mask (insn.Three i) a b c pointer reply) reply i x y u (unchanged ps t)
-outcome_masked code (insn.Shift i) a b c pointer reply pc x y u v ps t = shift_masked (result_mask (insn.Shift i) a b c pointer reply) reply i x u (unchanged ps t)
-outcome_masked code (insn.Memory i) a b c pointer reply pc x y u v ps t = memory_masked code i a reply pc x y u (unchanged ps t)
-outcome_masked code (insn.Control i) a b c pointer reply pc x y u v ps t = control_masked (result_mask (insn.Control i) a b c pointer reply) reply i pc x y (unchanged ps t)
-outcome_masked code (insn.System i) a b c pointer reply pc x y u v ps t = system_masked (result_mask (insn.System i) a b c pointer reply) reply i x u v (unchanged ps t)
-outcome_masked code (insn.Density i) a b c pointer reply pc x y u v ps t = density_masked code i a b reply pc x y (unchanged ps t)
-outcome_masked code (insn.Boolean i) a b c pointer reply pc x y u v ps t = boolean_masked (result_mask (insn.Boolean i) a b c pointer reply) reply i pc x u (unchanged ps t)
+outcome_masked by code (insn.Three i) a b c pointer reply pc x y u v ps t = three_masked (result_mask by (insn.Three i) a b c pointer reply) reply i x y u (unchanged ps t)
+outcome_masked by code (insn.Shift i) a b c pointer reply pc x y u v ps t = shift_masked (result_mask by (insn.Shift i) a b c pointer reply) reply i x u (unchanged ps t)
+outcome_masked by code (insn.Memory i) a b c pointer reply pc x y u v ps t = memory_masked code i a reply pc x y u (unchanged ps t)
+outcome_masked by code (insn.Control i) a b c pointer reply pc x y u v ps t = control_masked (result_mask by (insn.Control i) a b c pointer reply) reply i pc x y (unchanged ps t)
+outcome_masked by code (insn.System i) a b c pointer reply pc x y u v ps t = system_masked (result_mask by (insn.System i) a b c pointer reply) reply i x u v (unchanged ps t)
+outcome_masked by code (insn.Density i) a b c pointer reply pc x y u v ps t = density_masked code i a b reply pc x y (unchanged ps t)
+outcome_masked by code (insn.Boolean i) a b c pointer reply pc x y u v ps t = boolean_masked (result_mask by (insn.Boolean i) a b c pointer reply) reply i pc x u (unchanged ps t)

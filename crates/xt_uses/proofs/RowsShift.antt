@@ -20,6 +20,7 @@ use Rattle.xt_rows.specs.Numbers.{natural}
 use Rattle.xt_rows.specs.Effects.{unchanged}
 use Rattle.xt_rows.specs.Kinds.{moved_to}
 use Rattle.xt_rows.specs.Outcomes.{shift_outcome}
+use Rattle.xt_uses.specs.declared.discipline.Discipline.{Discipline}
 use Rattle.xt_uses.specs.Words.{Word, Fits, moved_mask}
 use Rattle.xt_uses.specs.Used.{shift_used}
 use Rattle.xt_uses.specs.Known.{shift_mask}
@@ -56,33 +57,33 @@ sign_number (pos n) h = leb-true n 22 (and_parts (leb 7 n) (leb n 22) h).1
 sign_number (negsuc n) h = omega arith
 
 -- ---- rows
-module _ (x u : ℕ) (a : Word) (f : Fits x a) (h : x < 2 ^ 32) (m : a.mask < 2 ^ 32) (ps : Ps) (t k : ℕ) (given pointer stored : ℕ) (p : AgreeIn pointer t k) where
+module _ (by : Discipline) (x u : ℕ) (a : Word) (f : Fits x a) (h : x < 2 ^ 32) (m : a.mask < 2 ^ 32) (ps : Ps) (t k : ℕ) (given pointer stored : ℕ) (p : AgreeIn pointer t k) where
   abbrev masks : Shift → RowMasks
   masks i = record { result = shift_mask i a u; given = given; pointer = pointer; stored = stored }
 
   moved : (move : ℕ → ℕ) → IsMove move → AgreeIn (moved_mask move a.mask) (move x) (move a.value)
   moved move is = moved_agrees move a.mask x a.value m h (value_word x a f h) (fits_agree x a f) is
 
-  pub shift_agrees : (i : Shift) → in_range (insn.Shift i) ≡ true → shift_used i a ≡ true → OutcomesAgree (insn.Shift i) (masks i) (shift_outcome i x u (unchanged ps t)) (shift_outcome i a.value u (unchanged ps k))
+  pub shift_agrees : (i : Shift) → in_range (insn.Shift i) ≡ true → shift_used i a ≡ true → OutcomesAgree by (insn.Shift i) (masks i) (shift_outcome i x u (unchanged ps t)) (shift_outcome i a.value u (unchanged ps k))
   unfolding shift_outcome shift_mask shift_used moved_to ssr ssl ssa8l ssa8b
-  shift_agrees (shift.Neg NegName.Neg r q) range used = puts_agree (insn.Shift (shift.Neg NegName.Neg r q)) (masks (shift.Neg NegName.Neg r q)) ps t k p refl r (neg x) (neg a.value) (neg_agrees a.mask m x a.value h (value_word x a f h) (fits_agree x a f))
-  shift_agrees (shift.Neg NegName.Abs r q) range used = puts_agree (insn.Shift (shift.Neg NegName.Abs r q)) (masks (shift.Neg NegName.Abs r q)) ps t k p refl r (abs x) (abs a.value) (where_first x a f h (λ z. abs z))
-  shift_agrees (shift.Srl SrlName.Srl r q) range used = puts_agree (insn.Shift (shift.Srl SrlName.Srl r q)) (masks (shift.Srl SrlName.Srl r q)) ps t k p refl r (srl x u) (srl a.value u) (moved (λ z. srl z u) (srl_moves u))
-  shift_agrees (shift.Srl SrlName.Sra r q) range used = puts_agree (insn.Shift (shift.Srl SrlName.Sra r q)) (masks (shift.Srl SrlName.Sra r q)) ps t k p refl r (sra x u) (sra a.value u) (moved (λ z. sra z u) (sra_moves u))
-  shift_agrees (shift.Sll r s) range used = puts_agree (insn.Shift (shift.Sll r s)) (masks (shift.Sll r s)) ps t k p refl r (sll x u) (sll a.value u) (moved (λ z. sll z u) (sll_moves u))
-  shift_agrees (shift.Slli r s n) range used = puts_agree (insn.Shift (shift.Slli r s n)) (masks (shift.Slli r s n)) ps t k p refl r (slli x (natural n)) (slli a.value (natural n)) (moved (λ z. slli z (natural n)) (slli_moves (natural n)))
-  shift_agrees (shift.Srai r q n) range used = puts_agree (insn.Shift (shift.Srai r q n)) (masks (shift.Srai r q n)) ps t k p refl r (srai x (natural n)) (srai a.value (natural n)) (moved (λ z. srai z (natural n)) (srai_moves (natural n)))
-  shift_agrees (shift.Srli r q n) range used = puts_agree (insn.Shift (shift.Srli r q n)) (masks (shift.Srli r q n)) ps t k p refl r (srli x (natural n)) (srli a.value (natural n)) (moved (λ z. srli z (natural n)) (srli_moves (natural n)))
-  shift_agrees (shift.Extui r q n width) range used = puts_agree (insn.Shift (shift.Extui r q n width)) (masks (shift.Extui r q n width)) ps t k p refl r (extui x (natural n) (natural width)) (extui a.value (natural n) (natural width)) (moved (λ z. extui z (natural n) (natural width)) (extui_moves (natural n) (natural width)))
+  shift_agrees (shift.Neg NegName.Neg r q) range used = puts_agree by (insn.Shift (shift.Neg NegName.Neg r q)) (masks (shift.Neg NegName.Neg r q)) ps t k p refl r (neg x) (neg a.value) (neg_agrees a.mask m x a.value h (value_word x a f h) (fits_agree x a f))
+  shift_agrees (shift.Neg NegName.Abs r q) range used = puts_agree by (insn.Shift (shift.Neg NegName.Abs r q)) (masks (shift.Neg NegName.Abs r q)) ps t k p refl r (abs x) (abs a.value) (where_first x a f h (λ z. abs z))
+  shift_agrees (shift.Srl SrlName.Srl r q) range used = puts_agree by (insn.Shift (shift.Srl SrlName.Srl r q)) (masks (shift.Srl SrlName.Srl r q)) ps t k p refl r (srl x u) (srl a.value u) (moved (λ z. srl z u) (srl_moves u))
+  shift_agrees (shift.Srl SrlName.Sra r q) range used = puts_agree by (insn.Shift (shift.Srl SrlName.Sra r q)) (masks (shift.Srl SrlName.Sra r q)) ps t k p refl r (sra x u) (sra a.value u) (moved (λ z. sra z u) (sra_moves u))
+  shift_agrees (shift.Sll r s) range used = puts_agree by (insn.Shift (shift.Sll r s)) (masks (shift.Sll r s)) ps t k p refl r (sll x u) (sll a.value u) (moved (λ z. sll z u) (sll_moves u))
+  shift_agrees (shift.Slli r s n) range used = puts_agree by (insn.Shift (shift.Slli r s n)) (masks (shift.Slli r s n)) ps t k p refl r (slli x (natural n)) (slli a.value (natural n)) (moved (λ z. slli z (natural n)) (slli_moves (natural n)))
+  shift_agrees (shift.Srai r q n) range used = puts_agree by (insn.Shift (shift.Srai r q n)) (masks (shift.Srai r q n)) ps t k p refl r (srai x (natural n)) (srai a.value (natural n)) (moved (λ z. srai z (natural n)) (srai_moves (natural n)))
+  shift_agrees (shift.Srli r q n) range used = puts_agree by (insn.Shift (shift.Srli r q n)) (masks (shift.Srli r q n)) ps t k p refl r (srli x (natural n)) (srli a.value (natural n)) (moved (λ z. srli z (natural n)) (srli_moves (natural n)))
+  shift_agrees (shift.Extui r q n width) range used = puts_agree by (insn.Shift (shift.Extui r q n width)) (masks (shift.Extui r q n width)) ps t k p refl r (extui x (natural n) (natural width)) (extui a.value (natural n) (natural width)) (moved (λ z. extui z (natural n) (natural width)) (extui_moves (natural n) (natural width)))
   shift_agrees (shift.Sext SextName.Sext r s b) range used =
-      puts_agree (insn.Shift (shift.Sext SextName.Sext r s b)) (masks (shift.Sext SextName.Sext r s b)) ps t k p refl r (sext x (natural b)) (sext a.value (natural b))
+      puts_agree by (insn.Shift (shift.Sext SextName.Sext r s b)) (masks (shift.Sext SextName.Sext r s b)) ps t k p refl r (sext x (natural b)) (sext a.value (natural b))
       (moved (λ z. sext z (natural b)) (sext_moves (natural b) (sign_number b (and_parts (two_registers r s) (natural_within 7 22 b) range).1)))
-  shift_agrees (shift.Sext SextName.Clamps r s b) range used = puts_agree (insn.Shift (shift.Sext SextName.Clamps r s b)) (masks (shift.Sext SextName.Clamps r s b)) ps t k p refl r (clamps x (natural b)) (clamps a.value (natural b)) (where_first x a f h (λ z. clamps z (natural b)))
-  shift_agrees (shift.Nsa NsaName.Nsa q s) range used = puts_agree (insn.Shift (shift.Nsa NsaName.Nsa q s)) (masks (shift.Nsa NsaName.Nsa q s)) ps t k p refl q (nsa x) (nsa a.value) (where_first x a f h (λ z. nsa z))
-  shift_agrees (shift.Nsa NsaName.Nsau q s) range used = puts_agree (insn.Shift (shift.Nsa NsaName.Nsau q s)) (masks (shift.Nsa NsaName.Nsau q s)) ps t k p refl q (nsau x) (nsau a.value) (where_first x a f h (λ z. nsau z))
+  shift_agrees (shift.Sext SextName.Clamps r s b) range used = puts_agree by (insn.Shift (shift.Sext SextName.Clamps r s b)) (masks (shift.Sext SextName.Clamps r s b)) ps t k p refl r (clamps x (natural b)) (clamps a.value (natural b)) (where_first x a f h (λ z. clamps z (natural b)))
+  shift_agrees (shift.Nsa NsaName.Nsa q s) range used = puts_agree by (insn.Shift (shift.Nsa NsaName.Nsa q s)) (masks (shift.Nsa NsaName.Nsa q s)) ps t k p refl q (nsa x) (nsa a.value) (where_first x a f h (λ z. nsa z))
+  shift_agrees (shift.Nsa NsaName.Nsau q s) range used = puts_agree by (insn.Shift (shift.Nsa NsaName.Nsau q s)) (masks (shift.Nsa NsaName.Nsau q s)) ps t k p refl q (nsau x) (nsau a.value) (where_first x a f h (λ z. nsau z))
   shift_agrees (shift.Movsp q s) range used = ap (λ n. Windowed (MovesStack q n)) (sym (whole_value x a f h used))
-  shift_agrees (shift.Ssr SsrName.Ssr s) range used = sets_agree (insn.Shift (shift.Ssr SsrName.Ssr s)) (masks (shift.Ssr SsrName.Ssr s)) ps t k p refl 3 (ssr x) (ssr a.value) (low_known 5 x a f used)
-  shift_agrees (shift.Ssr SsrName.Ssl s) range used = sets_agree (insn.Shift (shift.Ssr SsrName.Ssl s)) (masks (shift.Ssr SsrName.Ssl s)) ps t k p refl 3 (ssl x) (ssl a.value) (ap (λ n. 32 - n) (low_known 5 x a f used))
-  shift_agrees (shift.Ssa8l Ssa8Name.Ssa8l s) range used = sets_agree (insn.Shift (shift.Ssa8l Ssa8Name.Ssa8l s)) (masks (shift.Ssa8l Ssa8Name.Ssa8l s)) ps t k p refl 3 (ssa8l x) (ssa8l a.value) (ap (λ n. 8 * n) (low_known 2 x a f used))
-  shift_agrees (shift.Ssa8l Ssa8Name.Ssa8b s) range used = sets_agree (insn.Shift (shift.Ssa8l Ssa8Name.Ssa8b s)) (masks (shift.Ssa8l Ssa8Name.Ssa8b s)) ps t k p refl 3 (ssa8b x) (ssa8b a.value) (ap (λ n. 32 - 8 * n) (low_known 2 x a f used))
-  shift_agrees (shift.Ssai n) range used = sets_agree (insn.Shift (shift.Ssai n)) (masks (shift.Ssai n)) ps t k p refl 3 (natural n) (natural n) refl
+  shift_agrees (shift.Ssr SsrName.Ssr s) range used = sets_agree by (insn.Shift (shift.Ssr SsrName.Ssr s)) (masks (shift.Ssr SsrName.Ssr s)) ps t k p refl 3 (ssr x) (ssr a.value) (low_known 5 x a f used)
+  shift_agrees (shift.Ssr SsrName.Ssl s) range used = sets_agree by (insn.Shift (shift.Ssr SsrName.Ssl s)) (masks (shift.Ssr SsrName.Ssl s)) ps t k p refl 3 (ssl x) (ssl a.value) (ap (λ n. 32 - n) (low_known 5 x a f used))
+  shift_agrees (shift.Ssa8l Ssa8Name.Ssa8l s) range used = sets_agree by (insn.Shift (shift.Ssa8l Ssa8Name.Ssa8l s)) (masks (shift.Ssa8l Ssa8Name.Ssa8l s)) ps t k p refl 3 (ssa8l x) (ssa8l a.value) (ap (λ n. 8 * n) (low_known 2 x a f used))
+  shift_agrees (shift.Ssa8l Ssa8Name.Ssa8b s) range used = sets_agree by (insn.Shift (shift.Ssa8l Ssa8Name.Ssa8b s)) (masks (shift.Ssa8l Ssa8Name.Ssa8b s)) ps t k p refl 3 (ssa8b x) (ssa8b a.value) (ap (λ n. 32 - 8 * n) (low_known 2 x a f used))
+  shift_agrees (shift.Ssai n) range used = sets_agree by (insn.Shift (shift.Ssai n)) (masks (shift.Ssai n)) ps t k p refl 3 (natural n) (natural n) refl

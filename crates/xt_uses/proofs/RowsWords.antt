@@ -20,6 +20,7 @@ use Rattle.xt_isa.specs.declared.memory.Memory.TheVariants as memory
 use Rattle.xt_isa.specs.declared.memory.HalfName.TheVariants as HalfName
 use Rattle.xt_isa.specs.declared.system.System.{System}
 use Rattle.xt_isa.specs.declared.system.System.TheVariants as system
+use Rattle.xt_isa.specs.declared.system.LevelName.TheVariants as LevelName
 use Rattle.xt_isa.specs.declared.system.SpecialName.TheVariants as SpecialName
 use Rattle.xt_isa.specs.declared.system.UserName.TheVariants as UserName
 use Rattle.xt_isa.specs.declared.density.Density.{Density}
@@ -30,9 +31,11 @@ use Rattle.xt_isa.specs.Ranges.{in_range, two_registers, natural_within}
 use Rattle.xt_alu.specs.Arithmetic.{sext}
 use Rattle.xt_alu.specs.Shifts.{src, srl, sra, sll, slli, srai, srli, extui}
 use Rattle.xt_rows.specs.Numbers.{natural, extended}
+use Rattle.xt_uses.specs.declared.discipline.Discipline.{Discipline}
 use Rattle.xt_uses.specs.Words.{Word, all_bits, and_mask, or_mask, both_mask, flipped, is_whole, mask_where, moved_mask, ones, zeros}
 use Rattle.xt_uses.specs.Known.{loaded_mask, three_mask, shift_mask, memory_mask, system_mask, density_mask, boolean_mask, result_mask}
 use Rattle.xt_uses.proofs.Bits.{flipped_word}
+use Rattle.xt_uses.proofs.Owb.{counted_word}
 use Rattle.xt_uses.proofs.Agreeing.{IsMove}
 use Rattle.xt_uses.proofs.Moves.{extended_moves}
 use Rattle.xt_uses.proofs.Sums.{add_word, below_word, scaled_sum_word, sum_word}
@@ -67,20 +70,21 @@ memory_word (memory.Movi t n) a reply m h = all_word
 memory_word (memory.Addi t s n) a reply m h = below_word a.mask m
 memory_word (memory.Addmi t s n) a reply m h = below_word a.mask m
 
-system_word : (i : System) (c : Word) (pointer : ℕ) → c.mask < 2 ^ 32 → pointer < 2 ^ 32 → system_mask i c pointer < 2 ^ 32
+system_word : (by : Discipline) (i : System) (c : Word) (pointer : ℕ) → c.mask < 2 ^ 32 → pointer < 2 ^ 32 → system_mask by i c pointer < 2 ^ 32
 unfolding system_mask
-system_word (system.Ill name) c pointer h g = all_word
-system_word (system.Excw name) c pointer h g = all_word
-system_word (system.Rfe name) c pointer h g = all_word
-system_word (system.Rfi level) c pointer h g = all_word
-system_word (system.Break name level n) c pointer h g = all_word
-system_word (system.Rsil name t level) c pointer h g = all_word
-system_word (system.Rotw n) c pointer h g = all_word
-system_word (system.Rsr SpecialName.Rsr t n) c pointer h g = h
-system_word (system.Rsr SpecialName.Wsr t n) c pointer h g = all_word
-system_word (system.Rsr SpecialName.Xsr t n) c pointer h g = h
-system_word (system.Rur UserName.Rur r n) c pointer h g = g
-system_word (system.Rur UserName.Wur r n) c pointer h g = all_word
+system_word by (system.Ill name) c pointer h g = all_word
+system_word by (system.Excw name) c pointer h g = all_word
+system_word by (system.Rfe name) c pointer h g = all_word
+system_word by (system.Rfi level) c pointer h g = all_word
+system_word by (system.Break name level n) c pointer h g = all_word
+system_word by (system.Rsil LevelName.Rsil t level) c pointer h g = counted_word by 230
+system_word by (system.Rsil LevelName.Waiti t level) c pointer h g = all_word
+system_word by (system.Rotw n) c pointer h g = all_word
+system_word by (system.Rsr SpecialName.Rsr t n) c pointer h g = h
+system_word by (system.Rsr SpecialName.Wsr t n) c pointer h g = all_word
+system_word by (system.Rsr SpecialName.Xsr t n) c pointer h g = h
+system_word by (system.Rur UserName.Rur r n) c pointer h g = g
+system_word by (system.Rur UserName.Wur r n) c pointer h g = all_word
 
 boolean_word : (i : Boolean) (a : Word) → a.mask < 2 ^ 32 → boolean_mask i a < 2 ^ 32
 unfolding boolean_mask
@@ -157,12 +161,12 @@ module _ (a b : Word) (h : a.mask < 2 ^ 32) (g : b.mask < 2 ^ 32) where
   density_word (density.Ret name) reply l = all_word
   density_word (density.Break n) reply l = all_word
 
-  pub result_word : (i : Insn) → in_range i ≡ true → (c : Word) (pointer reply : ℕ) → c.mask < 2 ^ 32 → pointer < 2 ^ 32 → reply < 2 ^ 32 → result_mask i a b c pointer reply < 2 ^ 32
+  pub result_word : (by : Discipline) (i : Insn) → in_range i ≡ true → (c : Word) (pointer reply : ℕ) → c.mask < 2 ^ 32 → pointer < 2 ^ 32 → reply < 2 ^ 32 → result_mask by i a b c pointer reply < 2 ^ 32
   unfolding result_mask
-  result_word (insn.Three i) range c pointer reply l m n = three_word i c.value
-  result_word (insn.Shift i) range c pointer reply l m n = shift_word i range c.value
-  result_word (insn.Memory i) range c pointer reply l m n = memory_word i a reply h n
-  result_word (insn.Control i) range c pointer reply l m n = all_word
-  result_word (insn.System i) range c pointer reply l m n = system_word i c pointer l m
-  result_word (insn.Density i) range c pointer reply l m n = density_word i reply n
-  result_word (insn.Boolean i) range c pointer reply l m n = boolean_word i a h
+  result_word by (insn.Three i) range c pointer reply l m n = three_word i c.value
+  result_word by (insn.Shift i) range c pointer reply l m n = shift_word i range c.value
+  result_word by (insn.Memory i) range c pointer reply l m n = memory_word i a reply h n
+  result_word by (insn.Control i) range c pointer reply l m n = all_word
+  result_word by (insn.System i) range c pointer reply l m n = system_word by i c pointer l m
+  result_word by (insn.Density i) range c pointer reply l m n = density_word i reply n
+  result_word by (insn.Boolean i) range c pointer reply l m n = boolean_word i a h

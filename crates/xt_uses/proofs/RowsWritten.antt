@@ -9,6 +9,7 @@ use Rattle.xt_rows.specs.declared.outcome.Outcome.{Outcome}
 use Rattle.xt_rows.specs.declared.outcome.Outcome.TheVariants.{Does, Raises, Asks, Stops, Windowed}
 use Rattle.xt_rows.specs.Numbers.{extended}
 use Rattle.xt_rows.specs.Settling.{settled, written}
+use Rattle.xt_uses.specs.declared.discipline.Discipline.{Discipline}
 use Rattle.xt_uses.specs.UseLaws.{AgreeIn, OutcomesAgree, RowMasks, WritesAgree}
 use Rattle.xt_uses.proofs.Agreeing.{moved_agrees}
 use Rattle.xt_uses.proofs.Moves.{extended_moves}
@@ -22,31 +23,31 @@ module _ (mask reply n m : ℕ) (a : reply < 2 ^ 32) (b : n < 2 ^ 32) (c : m < 2
       (refl, subst (λ k. AgreeIn k (extended w.signed n) (extended w.signed m)) (sym is) (moved_agrees (λ k. extended w.signed k) reply n m a b c h (extended_moves w.signed)))
 
   -- where the row asks for no access, the mask is that of a row without a reply
-  pub written_agrees : (i : Insn) (r : RowMasks) (o p : Outcome) (len : ℕ) (f g : Control) → OutcomesAgree i r o p → AwaitsMask mask reply o → ((settled o len f).access ≡ None → mask ≡ r.result)
+  pub written_agrees : (by : Discipline) (i : Insn) (r : RowMasks) (o p : Outcome) (len : ℕ) (f g : Control) → OutcomesAgree by i r o p → AwaitsMask mask reply o → ((settled o len f).access ≡ None → mask ≡ r.result)
       → WritesAgree mask (written (settled o len f).write (settled o len f).awaited n) (written (settled p len g).write (settled p len g).awaited m)
-  written_agrees i r (Does d) (Does e) len f g agree is plain = subst (λ k. WritesAgree k d.write e.write) (sym (plain refl)) agree.write
-  written_agrees i r (Does d) (Raises cause2 address2) len f g agree is plain = absurd cc
-  written_agrees i r (Does d) (Asks access2 w2 d2) len f g agree is plain = absurd cc
-  written_agrees i r (Does d) Stops len f g agree is plain = absurd cc
-  written_agrees i r (Does d) (Windowed step2) len f g agree is plain = absurd cc
-  written_agrees i r (Raises cause address) (Does d2) len f g agree is plain = absurd cc
-  written_agrees i r (Raises cause address) (Raises cause2 address2) len f g agree is plain = tt
-  written_agrees i r (Raises cause address) (Asks access2 w2 d2) len f g agree is plain = absurd cc
-  written_agrees i r (Raises cause address) Stops len f g agree is plain = tt
-  written_agrees i r (Raises cause address) (Windowed step2) len f g agree is plain = tt
-  written_agrees i r (Asks access w d) (Does d2) len f g agree is plain = absurd cc
-  written_agrees i r (Asks access w d) (Raises cause2 address2) len f g agree is plain = absurd cc
-  written_agrees i r (Asks x v d) (Asks y w e) len f g agree is plain =
+  written_agrees by i r (Does d) (Does e) len f g agree is plain = subst (λ k. WritesAgree k d.write e.write) (sym (plain refl)) agree.write
+  written_agrees by i r (Does d) (Raises cause2 address2) len f g agree is plain = absurd cc
+  written_agrees by i r (Does d) (Asks access2 w2 d2) len f g agree is plain = absurd cc
+  written_agrees by i r (Does d) Stops len f g agree is plain = absurd cc
+  written_agrees by i r (Does d) (Windowed step2) len f g agree is plain = absurd cc
+  written_agrees by i r (Raises cause address) (Does d2) len f g agree is plain = absurd cc
+  written_agrees by i r (Raises cause address) (Raises cause2 address2) len f g agree is plain = tt
+  written_agrees by i r (Raises cause address) (Asks access2 w2 d2) len f g agree is plain = absurd cc
+  written_agrees by i r (Raises cause address) Stops len f g agree is plain = tt
+  written_agrees by i r (Raises cause address) (Windowed step2) len f g agree is plain = tt
+  written_agrees by i r (Asks access w d) (Does d2) len f g agree is plain = absurd cc
+  written_agrees by i r (Asks access w d) (Raises cause2 address2) len f g agree is plain = absurd cc
+  written_agrees by i r (Asks x v d) (Asks y w e) len f g agree is plain =
       subst (λ z. WritesAgree mask (written None v n) (written None z m)) agree.1 (same_awaited x v d is)
-  written_agrees i r (Asks access w d) Stops len f g agree is plain = absurd cc
-  written_agrees i r (Asks access w d) (Windowed step2) len f g agree is plain = absurd cc
-  written_agrees i r Stops (Does d2) len f g agree is plain = absurd cc
-  written_agrees i r Stops (Raises cause2 address2) len f g agree is plain = tt
-  written_agrees i r Stops (Asks access2 w2 d2) len f g agree is plain = absurd cc
-  written_agrees i r Stops Stops len f g agree is plain = tt
-  written_agrees i r Stops (Windowed step2) len f g agree is plain = tt
-  written_agrees i r (Windowed step) (Does d2) len f g agree is plain = absurd cc
-  written_agrees i r (Windowed step) (Raises cause2 address2) len f g agree is plain = tt
-  written_agrees i r (Windowed step) (Asks access2 w2 d2) len f g agree is plain = absurd cc
-  written_agrees i r (Windowed step) Stops len f g agree is plain = tt
-  written_agrees i r (Windowed step) (Windowed step2) len f g agree is plain = tt
+  written_agrees by i r (Asks access w d) Stops len f g agree is plain = absurd cc
+  written_agrees by i r (Asks access w d) (Windowed step2) len f g agree is plain = absurd cc
+  written_agrees by i r Stops (Does d2) len f g agree is plain = absurd cc
+  written_agrees by i r Stops (Raises cause2 address2) len f g agree is plain = tt
+  written_agrees by i r Stops (Asks access2 w2 d2) len f g agree is plain = absurd cc
+  written_agrees by i r Stops Stops len f g agree is plain = tt
+  written_agrees by i r Stops (Windowed step2) len f g agree is plain = tt
+  written_agrees by i r (Windowed step) (Does d2) len f g agree is plain = absurd cc
+  written_agrees by i r (Windowed step) (Raises cause2 address2) len f g agree is plain = tt
+  written_agrees by i r (Windowed step) (Asks access2 w2 d2) len f g agree is plain = absurd cc
+  written_agrees by i r (Windowed step) Stops len f g agree is plain = tt
+  written_agrees by i r (Windowed step) (Windowed step2) len f g agree is plain = tt

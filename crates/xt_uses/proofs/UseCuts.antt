@@ -21,6 +21,7 @@ use Rattle.xt_frames.specs.Breaches.{Bounds, first_shown, insn_tests, is_movsp, 
 use Rattle.xt_frames.specs.Stacks.{Stack}
 use Rattle.xt_frames.proofs.Shown.{NoneShown, none_shown}
 use Rattle.xt_frames.proofs.StackSteps.{step_fetches, step_taken, step_waits}
+use Rattle.xt_uses.specs.declared.discipline.Discipline.{Discipline}
 use Rattle.xt_uses.specs.Words.{Word, all_bits, is_whole}
 use Rattle.xt_uses.specs.Used.{used_are_known, shift_used}
 use Rattle.xt_uses.specs.Known.{result_mask, shift_mask}
@@ -33,17 +34,17 @@ use Rattle.xt_uses.proofs.UseTests.{use_fetches}
 use Rattle.xt_uses.proofs.UseStacks.{SameStack, cut_stack}
 
 -- ---- each bit of a1 is known
-pub sp_mask : (i : Insn) (x y w : Word) (pointer reply : ℕ) → may_write_sp i ≡ true → used_are_known i x y ≡ true → result_mask i x y w pointer reply ≡ all_bits
+pub sp_mask : (by : Discipline) (i : Insn) (x y w : Word) (pointer reply : ℕ) → may_write_sp i ≡ true → used_are_known by i x y ≡ true → result_mask by i x y w pointer reply ≡ all_bits
 unfolding may_write_sp result_mask shift_mask used_are_known shift_used
-sp_mask (insn.Control (control.Entry number size)) x y w pointer reply e k = refl
-sp_mask (insn.Shift (shift.Movsp t s)) x y w pointer reply e k = cond-true (is_whole x) all_bits 0 k
-sp_mask _ x y w pointer reply e k = absurd cc
+sp_mask by (insn.Control (control.Entry number size)) x y w pointer reply e k = refl
+sp_mask by (insn.Shift (shift.Movsp t s)) x y w pointer reply e k = cond-true (is_whole x) all_bits 0 k
+sp_mask by _ x y w pointer reply e k = absurd cc
 
 -- what the tests say of it
-pub used_known : (i : Insn) (s : UseState) (g : FrameState) → uses_unknown i s g ≡ false → used_are_known i (first_word i s g) (second_word i s g) ≡ true
+pub used_known : (i : Insn) (s : UseState) (g : FrameState) → uses_unknown i s g ≡ false → used_are_known s.masks.discipline i (first_word i s g) (second_word i s g) ≡ true
 used_known i s g e =
-    let a = or_parts (reads_mark g.nested i) (reads_no_number i g || not (used_are_known i (first_word i s g) (second_word i s g))) e in
-    not-false _ (or_parts (reads_no_number i g) (not (used_are_known i (first_word i s g) (second_word i s g))) a.1).1
+    let a = or_parts (reads_mark g.nested i) (reads_no_number i g || not (used_are_known s.masks.discipline i (first_word i s g) (second_word i s g))) e in
+    not-false _ (or_parts (reads_no_number i g) (not (used_are_known s.masks.discipline i (first_word i s g) (second_word i s g))) a.1).1
 
 pub may_write : (i : Insn) (shown w : Option RegWrite) → writes_sp i shown w ≡ false → is_sp w ≡ true → may_write_sp i ≡ true
 may_write i shown w e one = by_case (may_write_sp i) refl
@@ -102,7 +103,7 @@ is_sp_same (Some w) (Some v) e = let same : w.reg ≡ v.reg = cc in ap (λ n. eq
 -- ---- where a1 is written, each bit of it is known
 module _ (b : Bounds) (fresh : Bool) (live : ℕ → Bool) (bytes : ℕ → ℕ) (rec : StepRecord) (code : ℕ → ℕ) (s : UseState) (g : FrameState) where
   abbrev IsWhole : Insn → Type 0
-  IsWhole j = (w : Word) (pointer reply : ℕ) → result_mask j (first_word j s g) (second_word j s g) w pointer reply ≡ all_bits
+  IsWhole j = (w : Word) (pointer reply : ℕ) → result_mask s.masks.discipline j (first_word j s g) (second_word j s g) w pointer reply ≡ all_bits
 
   whole_fetched : (at : Fetched) (k : StepKind) → NoneShown (fetched_uses b fresh live bytes at rec s g (fetched_step at code rec.reply g))
       → (o : Option FrameTurn) → (o ≡ None) ⊎ (o ≡ fetched_movsp at g)
@@ -122,7 +123,7 @@ module _ (b : Bounds) (fresh : Bool) (live : ℕ → Bool) (bytes : ℕ → ℕ)
       (λ m. by_none (is ∙ no_movsp i len g m))
       (cases_Bool (is_movsp i)))
       which in
-      subst (λ (x : Insn). result_mask x (first_word x s g) (second_word x s g) w pointer reply ≡ all_bits) same (sp_mask i (first_word i s g) (second_word i s g) w pointer reply here used)
+      subst (λ (x : Insn). result_mask s.masks.discipline x (first_word x s g) (second_word x s g) w pointer reply ≡ all_bits) same (sp_mask s.masks.discipline i (first_word i s g) (second_word i s g) w pointer reply here used)
 
   abbrev values : FrameTurn
   values = turn_or (movsp_of code g) (laid_step code rec.reply g)

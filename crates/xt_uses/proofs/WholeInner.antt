@@ -43,7 +43,9 @@ use Rattle.xt_frames.specs.Nesting.{disturbs_nested, ends_nested, inside, keepin
 use Rattle.xt_frames.specs.Breaches.{Bounds, fetched_tests, is_exception, is_unset, lacks, laid_breach, loads_stale, reads_no_mark, reads_unset, touches_save_area}
 use Rattle.xt_frames.proofs.Shown.{NoneShown, Sound, sound}
 use Rattle.xt_frames.proofs.StackSteps.{step_fetches}
+use Rattle.xt_uses.specs.Disciplines.{Lenient}
 use Rattle.xt_uses.specs.Words.{Word, all_bits, mask_where}
+use Rattle.xt_uses.specs.Used.{counted_bits}
 use Rattle.xt_uses.specs.Known.{result_mask, system_mask}
 use Rattle.xt_uses.specs.UseState.{Masks, UseState, first_word, second_word, special_mask, special_operand}
 use Rattle.xt_uses.specs.UseStep.{called, cut_number, cut_seen, cut_state, executed, frames_moved, masks_past, pointer_written, returned, special_written, use_turn, visible_written}
@@ -225,7 +227,7 @@ module _ (seen : List (Option ℕ)) (frames : List Frame) (control : Control) (u
       by (Some j) e b k = ap number_mask (sym k ∙ w.inside.marks t j e)
 
   saved_or_number : (n : ℕ) → holds_marks n ≡ true → (is_unset unset (Some n) && lacks x.saved (Some n)) ≡ false → special_mask m n ≡ left_mask (get_or x.saved n None)
-  saved_or_number n holds h = cond-true (holds_marks n) (get_or m.special n 0) all_bits holds ∙ (w.special n holds ∙ by (get_or x.saved n None) refl (get_or unset n false) refl)
+  saved_or_number n holds h = cond-true (holds_marks n) (get_or m.special n 0) (counted_bits m.discipline n) holds ∙ (w.special n holds ∙ by (get_or x.saved n None) refl (get_or unset n false) refl)
     where
       by : (a : Option ℕ) → get_or x.saved n None ≡ a → (b : Bool) → get_or unset n false ≡ b → mask_where (not b) ≡ left_mask a
       by None e false k = refl
@@ -235,21 +237,21 @@ module _ (seen : List (Option ℕ)) (frames : List Frame) (control : Control) (u
 
   -- ---- what an instruction takes and leaves of marks
   pub record IsMoved (i : Insn) (r : ℕ) : Type 0 where
-    pub mask : result_mask i (first_word i s g) (second_word i s g) (special_operand i s g) m.threadptr r ≡ left_mask (mark_read i x.saved)
+    pub mask : result_mask m.discipline i (first_word i s g) (second_word i s g) (special_operand i s g) m.threadptr r ≡ left_mask (mark_read i x.saved)
     pub moved : IsMovedMark (moved_to i) (first_word i s g).mask x.marks
     pub pointer : (k : Masks) → pointer_written i (first_word i s g).mask k ≡ pointer_written i all_bits k
     pub stored : (second_word i s g).mask ≡ all_bits
 
   -- it reads numbers
-  numbers_moved : (i : Insn) (r : ℕ) → r ≡ all_bits → reads_unset i g ≡ false → IsMoved i r
-  numbers_moved i r e h =
-      let read = operands_whole s g i w.inner w.special h in
+  numbers_moved : m.discipline ≡ Lenient → (i : Insn) (r : ℕ) → r ≡ all_bits → reads_unset i g ≡ false → IsMoved i r
+  numbers_moved lenient i r e h =
+      let read = operands_whole s g lenient i w.inner w.special h in
       let a = or_parts (lacks x.seen (reads i).0) (lacks x.seen (reads i).1 || (is_unset unset (special_reads i).0 || is_unset unset (special_reads i).1)) h in
       let b = or_parts (lacks x.seen (reads i).1) (is_unset unset (special_reads i).0 || is_unset unset (special_reads i).1) a.1 in
       let c = or_parts (is_unset unset (special_reads i).0) (is_unset unset (special_reads i).1) b.1 in
       let first : (first_word i s g).mask ≡ all_bits = ap (λ (q : Word). q.mask) read.first in
       record {
-        mask = mask_all s g i r read w.threadptr e ∙ ap left_mask (sym (mark_none i c.0));
+        mask = mask_all s g lenient i r read w.threadptr e ∙ ap left_mask (sym (mark_none i c.0));
         moved = by a.0 first (moved_to i) refl;
         pointer = λ k. ap (λ z. pointer_written i z k) first;
         stored = ap (λ (q : Word). q.mask) read.second;
@@ -280,15 +282,15 @@ module _ (seen : List (Option ℕ)) (frames : List Frame) (control : Control) (u
         stored = refl;
       }
 
-  pub moved_all : (i : Insn) (r : ℕ) → r ≡ all_bits → ends_nested i ≡ false → cond (moves_marks i) (reads_no_mark i x g) (not (ends_nested i) && reads_unset i g) ≡ false → IsMoved i r
-  moved_all i r e goes h = ⊎_elim
+  pub moved_all : m.discipline ≡ Lenient → (i : Insn) (r : ℕ) → r ≡ all_bits → ends_nested i ≡ false → cond (moves_marks i) (reads_no_mark i x g) (not (ends_nested i) && reads_unset i g) ≡ false → IsMoved i r
+  moved_all lenient i r e goes h = ⊎_elim
       (λ moves.
       let q = is_moving i moves in
       let reads : reads_no_mark i x g ≡ false = sym (cond-true (moves_marks i) (reads_no_mark i x g) (not (ends_nested i) && reads_unset i g) moves) ∙ h in
       subst (λ j. IsMoved j r) (sym q.is) (mark_moved q.name q.t q.n r q.holds (subst (λ j. reads_no_mark j x g ≡ false) q.is reads)))
       (λ stays.
       let reads : (not (ends_nested i) && reads_unset i g) ≡ false = sym (cond-false (moves_marks i) (reads_no_mark i x g) (not (ends_nested i) && reads_unset i g) stays) ∙ h in
-      numbers_moved i r e (ap (λ b. not b && reads_unset i g) (sym goes) ∙ reads))
+      numbers_moved lenient i r e (ap (λ b. not b && reads_unset i g) (sym goes) ∙ reads))
       (cases_Bool (moves_marks i))
 
   -- ---- what the step of the state inside leaves
@@ -317,7 +319,7 @@ module _ (seen : List (Option ℕ)) (frames : List Frame) (control : Control) (u
     mark = mark_read i x.saved
 
     abbrev mask : ℕ
-    mask = result_mask i (first_word i s g) (second_word i s g) (special_operand i s g) m.threadptr r
+    mask = result_mask m.discipline i (first_word i s g) (second_word i s g) (special_operand i s g) m.threadptr r
 
     abbrev given : ℕ
     given = (first_word i s g).mask
@@ -435,20 +437,20 @@ module _ (seen : List (Option ℕ)) (frames : List Frame) (control : Control) (u
 
   -- ---- what is fetched
   module _ (code : ℕ → ℕ) (b : Bounds) (fresh : Bool) (live stale : ℕ → Bool) (rec : StepRecord) (r : ℕ) (told : loads_stale live stale rec.access ≡ false → touches_save_area live rec.access ≡ false → r ≡ all_bits) where
-    fetches : (at : Fetched) (reply : ℕ) → NoneShown (fetched_tests b fresh live stale at rec g (fetched_step at code reply g)) → Holds at r (nested_fetched at value x f (fetched_step at code reply g))
-    fetches (Fails address) reply none = absurd (both_ways true none.1.1.1.1.1.0 refl)
-    fetches SpellsNothing reply none = absurd (both_ways true none.1.1.1.1.1.0 refl)
-    fetches (Fetches i len) reply none =
+    fetches : m.discipline ≡ Lenient → (at : Fetched) (reply : ℕ) → NoneShown (fetched_tests b fresh live stale at rec g (fetched_step at code reply g)) → Holds at r (nested_fetched at value x f (fetched_step at code reply g))
+    fetches lenient (Fails address) reply none = absurd (both_ways true none.1.1.1.1.1.0 refl)
+    fetches lenient SpellsNothing reply none = absurd (both_ways true none.1.1.1.1.1.0 refl)
+    fetches lenient (Fetches i len) reply none =
         let v : FrameTurn = fetched_step (Fetches i len) code reply g in
         let o = sound b fresh live stale i rec g v none in
         let d = done code b fresh live stale rec i len r reply (outcome_at code i (known x.seen) g.control) refl (outcome_fits code i x.pc _ _ _ _ g.control.ps control.threadptr) o in
-        cond_both (ends_nested i) (ended v) (left i v) (Holds (Fetches i len) r) d.0 (λ goes. d.1 goes (moved_all i r (told o.loads o.saves) goes o.unset))
+        cond_both (ends_nested i) (ended v) (left i v) (Holds (Fetches i len) r) d.0 (λ goes. d.1 goes (moved_all lenient i r (told o.loads o.saves) goes o.unset))
 
     pub quiet : ltb 0 (pending_of g.control) ≡ false
     quiet = ap (ltb 0) (none_pending (special_of g.control 226) (special_of g.control 228) g.control.ps w.inside.excm w.inside.level)
 
-    pub inner_holds : laid_breach b fresh code live stale rec g ≡ None → Holds (fetched code x.pc) r (nested_fetched (fetched code x.pc) value x f (laid_step code rec.reply g))
-    inner_holds none = subst
+    pub inner_holds : m.discipline ≡ Lenient → laid_breach b fresh code live stale rec g ≡ None → Holds (fetched code x.pc) r (nested_fetched (fetched code x.pc) value x f (laid_step code rec.reply g))
+    inner_holds lenient none = subst
         (λ v. Holds (fetched code x.pc) r (nested_fetched (fetched code x.pc) value x f v))
         (sym (step_fetches code rec.reply g quiet w.inside.runs))
-        (fetches (fetched code x.pc) rec.reply (tests_shown code b fresh live stale rec g quiet w.inside.runs none))
+        (fetches lenient (fetched code x.pc) rec.reply (tests_shown code b fresh live stale rec g quiet w.inside.runs none))

@@ -33,6 +33,7 @@ use Rattle.xt_frames.specs.Nesting.{unset_after}
 use Rattle.xt_frames.specs.Breaches.{Bounds, fetched_tests, first_shown, laid_breach, loads_stale, touches_save_area}
 use Rattle.xt_frames.proofs.Shown.{NoneShown, Sound, none_shown, sound}
 use Rattle.xt_frames.proofs.StackSteps.{breach_fetches, step_fetches, step_taken, step_waits, turn_if}
+use Rattle.xt_uses.specs.Disciplines.{Lenient}
 use Rattle.xt_uses.specs.Words.{Word, all_bits}
 use Rattle.xt_uses.specs.UseState.{Masks, UseState, first_word}
 use Rattle.xt_uses.specs.UseStep.{called, executed, fetched_movsp, frames_moved, masks_past, movsp_of, pointer_written, returned, special_written, use_turn, visible_written}
@@ -133,7 +134,7 @@ module _ (seen : List (Option ℕ)) (frames : List Frame) (control : Control) (u
   stops at len reply r words = other_steps f at (turned at (done_in_frame Stops len reply g)) m (whole_ended w _)
 
   -- ---- an instruction is executed
-  module _ (i : Insn) (len r : ℕ) (read : IsRead i s g) (known_reply : r ≡ all_bits) where
+  module _ (lenient : m.discipline ≡ Lenient) (i : Insn) (len r : ℕ) (read : IsRead i s g) (known_reply : r ≡ all_bits) where
     -- it writes this register of these
     abbrev wrote : Option RegWrite → Option Access → Control → List (Option ℕ) → List Frame → FrameTurn
     wrote write access c old olds = record {
@@ -146,7 +147,7 @@ module _ (seen : List (Option ℕ)) (frames : List Frame) (control : Control) (u
     writes : (write : Option RegWrite) (access : Option Access) (c : Control) (old : List (Option ℕ)) (olds : List Frame)
         → Whole old olds unset None control.waits (frames_moved i control.ps.callinc m) → Holds (Fetches i len) r (wrote write access c old olds)
     unfolding executed
-    writes write access c old olds x words = insn_steps f (Fetches i len) m g i r (turned (Fetches i len) (wrote write access c old olds)) read w.threadptr known_reply words tt past
+    writes write access c old olds x words = insn_steps f (Fetches i len) m lenient g i r (turned (Fetches i len) (wrote write access c old olds)) read w.threadptr known_reply words tt past
       where
         given : (first_word i s g).mask ≡ all_bits
         given = ap (λ (a : Word). a.mask) read.first
@@ -203,20 +204,20 @@ module _ (seen : List (Option ℕ)) (frames : List Frame) (control : Control) (u
 
   -- ---- what is fetched
   module _ (code : ℕ → ℕ) (b : Bounds) (fresh : Bool) (live stale : ℕ → Bool) (rec : StepRecord) (r : ℕ) (told : loads_stale live stale rec.access ≡ false → touches_save_area live rec.access ≡ false → r ≡ all_bits) where
-    fetches : (at : Fetched) (reply : ℕ) → NoneShown (fetched_tests b fresh live stale at rec g (fetched_step at code reply g)) → Holds at r (fetched_step at code reply g)
-    fetches (Fails address) reply none = raises (Fails address) _ _ r
-    fetches SpellsNothing reply none = raises SpellsNothing _ _ r
-    fetches (Fetches i len) reply none =
+    fetches : m.discipline ≡ Lenient → (at : Fetched) (reply : ℕ) → NoneShown (fetched_tests b fresh live stale at rec g (fetched_step at code reply g)) → Holds at r (fetched_step at code reply g)
+    fetches lenient (Fails address) reply none = raises (Fails address) _ _ r
+    fetches lenient SpellsNothing reply none = raises SpellsNothing _ _ r
+    fetches lenient (Fetches i len) reply none =
         let o = sound b fresh live stale i rec g (fetched_step (Fetches i len) code reply g) none in
-        let read = operands_whole s g i w.seen_masks w.special o.unset in
-        done i len r read (told o.loads o.saves) b fresh live stale rec (fetched_step (Fetches i len) code reply g) code reply (outcome_at code i (known seen) g.control) refl (outcome_fits code i g.control.pc _ _ _ _ g.control.ps g.control.threadptr) o
+        let read = operands_whole s g lenient i w.seen_masks w.special o.unset in
+        done lenient i len r read (told o.loads o.saves) b fresh live stale rec (fetched_step (Fetches i len) code reply g) code reply (outcome_at code i (known seen) g.control) refl (outcome_fits code i g.control.pc _ _ _ _ g.control.ps g.control.threadptr) o
 
-    pub plain_holds : laid_breach b fresh code live stale rec g ≡ None → Holds (fetched code control.pc) r (laid_step code rec.reply g)
-    plain_holds none = ⊎_elim
+    pub plain_holds : m.discipline ≡ Lenient → laid_breach b fresh code live stale rec g ≡ None → Holds (fetched code control.pc) r (laid_step code rec.reply g)
+    plain_holds lenient none = ⊎_elim
         (λ level. subst (Holds (fetched code control.pc) r) (sym (step_taken code rec.reply g level)) (takes (fetched code control.pc) (pending_of g.control) rec.reply r (level_small _ _ _)))
         (λ quiet. ⊎_elim
         (λ idle. subst (Holds (fetched code control.pc) r) (sym (step_waits code rec.reply g quiet idle)) (waits (fetched code control.pc) rec.reply r))
-        (λ runs. subst (Holds (fetched code control.pc) r) (sym (step_fetches code rec.reply g quiet runs)) (fetches (fetched code control.pc) rec.reply (tests_shown code b fresh live stale rec g quiet runs none)))
+        (λ runs. subst (Holds (fetched code control.pc) r) (sym (step_fetches code rec.reply g quiet runs)) (fetches lenient (fetched code control.pc) rec.reply (tests_shown code b fresh live stale rec g quiet runs none)))
         (cases_Bool control.waits))
         (cases_Bool (ltb 0 (pending_of g.control)))
 

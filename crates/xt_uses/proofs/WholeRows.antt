@@ -1,5 +1,5 @@
 -- Rows whose operands are known in each bit: what they use is known, and so is what they write.
-use Rattle.std.proofs.Common.{◌≡◌, ℕ, ◌+◌, ◌-◌, ◌*◌, ◌/◌, ◌%◌, ◌^◌, ◌<◌, ◌≤◌, ℤ, Bool, true, false, cond, eqb, ltb, subst, ⊎_elim, refl, ap, ◌∙◌, arith}
+use Rattle.std.proofs.Common.{◌≡◌, ℕ, ◌+◌, ◌-◌, ◌*◌, ◌/◌, ◌%◌, ◌^◌, ◌<◌, ◌≤◌, ℤ, Bool, true, false, ◌&&◌, cond, eqb, ltb, subst, ⊎_elim, refl, ap, ◌∙◌, arith}
 use Rattle.std.specs.Prelude.{bit_and, bit_or}
 use Rattle.std.proofs.lemmas.Bool.{cases_lt, cond-true, eq-eqb, lt-ltb, or_right}
 use Rattle.std.proofs.lemmas.Nat.{and_comm, and_le_l, or_lt, pow_pos, shr_le}
@@ -22,6 +22,7 @@ use Rattle.xt_isa.specs.declared.memory.Memory.TheVariants as memory
 use Rattle.xt_isa.specs.declared.memory.HalfName.TheVariants as HalfName
 use Rattle.xt_isa.specs.declared.system.System.{System}
 use Rattle.xt_isa.specs.declared.system.System.TheVariants as system
+use Rattle.xt_isa.specs.declared.system.LevelName.TheVariants as LevelName
 use Rattle.xt_isa.specs.declared.system.SpecialName.TheVariants as SpecialName
 use Rattle.xt_isa.specs.declared.system.UserName.TheVariants as UserName
 use Rattle.xt_isa.specs.declared.density.Density.{Density}
@@ -44,8 +45,10 @@ use Rattle.xt_alu.specs.Arithmetic.{sext}
 use Rattle.xt_alu.specs.Shifts.{src, srl, sra, sll, slli, srai, srli, extui}
 use Rattle.xt_alu.specs.Signed.{signed}
 use Rattle.xt_rows.specs.Numbers.{natural, extended, plus}
+use Rattle.xt_uses.specs.Disciplines.{Lenient, is_strict}
+use Rattle.xt_uses.specs.declared.discipline.Discipline.{Discipline}
 use Rattle.xt_uses.specs.Words.{all_bits, and_mask, and_word, cut, flipped, is_whole, knows, moved_mask, not_word, ones, or_mask, whole_word, zeros}
-use Rattle.xt_uses.specs.Used.{bit_number, control_used, density_used, memory_used, shift_used, store_used, system_used, tested_known, three_used, used_are_known}
+use Rattle.xt_uses.specs.Used.{bit_number, control_used, counted_bits, density_used, holds_owb, memory_used, shift_used, store_used, system_used, tested_known, three_used, used_are_known}
 use Rattle.xt_uses.specs.Known.{add_mask, boolean_mask, density_mask, loaded_mask, memory_mask, result_mask, scaled_mask, scaled_sum, shift_mask, sum_mask, system_mask, three_mask}
 use Rattle.xt_uses.proofs.Sums.{below_whole}
 
@@ -188,8 +191,9 @@ memory_whole (memory.Addi t s n) a = below_whole
 memory_whole (memory.Addmi t s n) a = below_whole
 memory_whole _ a = loaded_whole false
 
-system_whole : (i : System) (c : ℕ) → system_mask i (whole_word c) all_bits ≡ all_bits
+system_whole : (i : System) (c : ℕ) → system_mask Lenient i (whole_word c) all_bits ≡ all_bits
 unfolding system_mask
+system_whole (system.Rsil LevelName.Rsil t level) c = refl
 system_whole (system.Rsr SpecialName.Rsr t n) c = refl
 system_whole (system.Rsr SpecialName.Xsr t n) c = refl
 system_whole (system.Rur UserName.Rur r n) c = refl
@@ -207,7 +211,7 @@ unfolding boolean_mask
 boolean_whole (boolean.Movf name r s t) a = refl
 boolean_whole _ a = refl
 
-pub result_whole : (i : Insn) (a b c : ℕ) → result_mask i (whole_word a) (whole_word b) (whole_word c) all_bits all_bits ≡ all_bits
+pub result_whole : (i : Insn) (a b c : ℕ) → result_mask Lenient i (whole_word a) (whole_word b) (whole_word c) all_bits all_bits ≡ all_bits
 unfolding result_mask
 result_whole (insn.Three i) a b c = three_whole i a b c
 result_whole (insn.Shift i) a b c = shift_whole i a c
@@ -293,11 +297,18 @@ control_used_whole (control.Bany OppositeName.Bgeu s t offset) a b = refl
 control_used_whole (control.Bbci name s k offset) a b = knows_whole (bit_number (natural k)) a (bit_small (natural k))
 control_used_whole _ a b = refl
 
-system_used_whole : (i : System) (a : ℕ) → system_used i (whole_word a) ≡ true
+counted_whole : (by : Discipline) (n a : ℕ) → knows (counted_bits by n) (whole_word a) ≡ true
+counted_whole by n a = by_test (holds_owb n && is_strict by)
+  where
+    by_test : (b : Bool) → knows (cond b 0xFFFFF0FF all_bits) (whole_word a) ≡ true
+    by_test true = refl
+    by_test false = refl
+
+system_used_whole : (by : Discipline) (i : System) (a : ℕ) → system_used by i (whole_word a) ≡ true
 unfolding system_used
-system_used_whole (system.Rsr SpecialName.Wsr t n) a = or_right (holds_marks n) true refl
-system_used_whole (system.Rsr SpecialName.Xsr t n) a = or_right (holds_marks n) true refl
-system_used_whole _ a = refl
+system_used_whole by (system.Rsr SpecialName.Wsr t n) a = or_right (holds_marks n) _ (counted_whole by n a)
+system_used_whole by (system.Rsr SpecialName.Xsr t n) a = or_right (holds_marks n) _ (counted_whole by n a)
+system_used_whole by _ a = refl
 
 density_used_whole : (i : Density) (a b : ℕ) → density_used i (whole_word a) (whole_word b) ≡ true
 unfolding density_used
@@ -307,12 +318,12 @@ density_used_whole (density.Beqz name s offset) a b = refl
 density_used_whole (density.Ret name) a b = refl
 density_used_whole _ a b = refl
 
-pub used_whole : (i : Insn) (a b : ℕ) → used_are_known i (whole_word a) (whole_word b) ≡ true
+pub used_whole : (by : Discipline) (i : Insn) (a b : ℕ) → used_are_known by i (whole_word a) (whole_word b) ≡ true
 unfolding used_are_known
-used_whole (insn.Three i) a b = three_used_whole i a b
-used_whole (insn.Shift i) a b = shift_used_whole i a
-used_whole (insn.Memory i) a b = memory_used_whole i a b
-used_whole (insn.Control i) a b = control_used_whole i a b
-used_whole (insn.System i) a b = system_used_whole i a
-used_whole (insn.Density i) a b = density_used_whole i a b
-used_whole (insn.Boolean i) a b = refl
+used_whole by (insn.Three i) a b = three_used_whole i a b
+used_whole by (insn.Shift i) a b = shift_used_whole i a
+used_whole by (insn.Memory i) a b = memory_used_whole i a b
+used_whole by (insn.Control i) a b = control_used_whole i a b
+used_whole by (insn.System i) a b = system_used_whole by i a
+used_whole by (insn.Density i) a b = density_used_whole i a b
+used_whole by (insn.Boolean i) a b = refl

@@ -60,41 +60,41 @@ module _ (code : ℕ → ℕ) (b : Bounds) (fresh : Bool) (live stale : ℕ → 
     unfolding value_step after_interrupt
     starts w none words inner = other_steps plain (at plain) (begun (laid inp plain)) (inner_unknown m) (whole_begun w _ _ refl refl)
 
-    goes_on : IsWholeState plain m → Holds plain false
+    goes_on : m.discipline ≡ Lenient → IsWholeState plain m → Holds plain false
     unfolding value_step
-    goes_on w none words inner = subst
+    goes_on lenient w none words inner = subst
         (λ o. (let u : FrameTurn = turn_or o (plain_turn code inp plain) in Steps plain (at plain) (plain_turn code inp plain) (use_turn (executed u.kind (at plain)) (reply_mask bytes rec.access) (record { frame = plain; masks = m }) (laid inp plain) u)))
         (sym (plain_movsp seen frames control unset m w inp code b fresh live stale rec (reply_mask bytes rec.access) told none))
-        (plain_holds seen frames control unset m w inp code b fresh live stale rec (reply_mask bytes rec.access) told none words)
+        (plain_holds seen frames control unset m w inp code b fresh live stale rec (reply_mask bytes rec.access) told lenient none words)
 
-    plain_steps : IsWholeState plain m → (starts : Bool) → Holds plain starts
-    plain_steps w true = starts w
-    plain_steps w false = goes_on w
+    plain_steps : m.discipline ≡ Lenient → IsWholeState plain m → (starts : Bool) → Holds plain starts
+    plain_steps lenient w true = starts w
+    plain_steps lenient w false = goes_on lenient w
 
     -- ---- in one
     module _ (x : Nested) where
       abbrev within : FrameState
       within = record { seen = seen; frames = frames; control = control; unset = unset; nested = Some x }
 
-      inner_steps : IsWholeState within m → Holds within false
+      inner_steps : m.discipline ≡ Lenient → IsWholeState within m → Holds within false
       unfolding value_step
-      inner_steps w none words inner = inner_holds seen frames control unset x m w inp value code b fresh live stale rec (reply_mask bytes rec.access) told none words inner
+      inner_steps lenient w none words inner = inner_holds seen frames control unset x m w inp value code b fresh live stale rec (reply_mask bytes rec.access) told lenient none words inner
 
   abbrev Steps_of : FrameState → Type 0
-  Steps_of f = IsWholeState f m → Holds f (begins nested rec.kind f)
+  Steps_of f = m.discipline ≡ Lenient → IsWholeState f m → Holds f (begins nested rec.kind f)
 
   with_nested : (f : FrameState) (n : Option Nested) → f.nested ≡ n → Steps_of f
-  with_nested f None e = subst Steps_of (λ i. record f { nested = sym e i }) (λ w. plain_steps f.seen f.frames f.control f.unset w (begins nested rec.kind (record f { nested = None })))
+  with_nested f None e = subst Steps_of (λ i. record f { nested = sym e i }) (λ lenient w. plain_steps f.seen f.frames f.control f.unset lenient w (begins nested rec.kind (record f { nested = None })))
   with_nested f (Some x) e = subst Steps_of (λ i. record f { nested = sym e i })
-      (λ w. subst
+      (λ lenient w. subst
       (λ starts. Holds (record f { nested = Some x }) starts)
       (sym (and_right nested (is_nesting rec.kind && false) (and_right (is_nesting rec.kind) false refl)))
-      (inner_steps f.seen f.frames f.control f.unset x w))
+      (inner_steps f.seen f.frames f.control f.unset x lenient w))
 
-  full_turn : (f : FrameState) → IsWholeState f m → breach_of b fresh code live stale nested rec f ≡ None
+  full_turn : (f : FrameState) → m.discipline ≡ Lenient → IsWholeState f m → breach_of b fresh code live stale nested rec f ≡ None
       → AreWords (step_on code nested rec f).after.seen → InnerAreWords (step_on code nested rec f).after.nested
       → Steps f (at f) (step_on code nested rec f) (full_step code nested rec bytes (record { frame = f; masks = m }))
-  full_turn f w none words inner = with_nested f f.nested refl w none words inner
+  full_turn f lenient w none words inner = with_nested f f.nested refl lenient w none words inner
 
   pub turn_steps : (f : FrameState) → m.discipline ≡ Lenient → IsWholeState f m → breach_of b fresh code live stale nested rec f ≡ None
       → AreWords (step_on code nested rec f).after.seen → InnerAreWords (step_on code nested rec f).after.nested
@@ -104,7 +104,7 @@ module _ (code : ℕ → ℕ) (b : Bounds) (fresh : Bool) (live stale : ℕ → 
       let t = full_step code nested rec bytes s in
       subst (λ (u : UseState). Steps f (at f) (step_on code nested rec f) (record t { after = u }))
       (sym (lenient_left (executed t.turn.kind (at f)) s t.after lenient))
-      (full_turn f w none words inner)
+      (full_turn f lenient w none words inner)
 
   -- ---- the values of the step are those of the machine of frames
   abbrev Same : FrameState → Bool → Type 0

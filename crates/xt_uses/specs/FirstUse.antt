@@ -2,6 +2,10 @@
 -- What a turn shows is said by all turns before it. Since a load takes what is known of bytes that
 -- any earlier turn of either core may have stored, it is said by a history: the state of each core
 -- and the mask of each byte before each turn.
+--
+-- Profile: the machine is that of `xt_frames`, and MOVSP moves a1. What is stale or live is not
+-- known; `FirstUse` says it over whole lists, by a history that has the state of each core and the
+-- mask of each byte before each turn.
 use Rattle.std.specs.Prelude.{◌≡◌, ℕ, zero, suc, ◌+◌, ◌-◌, ◌*◌, ◌/◌, ◌%◌, ◌^◌, ◌<◌, ◌≤◌, Bool}
 use Rattle.std.specs.Prelude.{true, false, ◌==◌, ◌&&◌, ◌||◌, not, ◌⊎◌, if◌then◌else◌, Option, Some}
 use Rattle.std.specs.Prelude.{None, length, slice_get, Decides}

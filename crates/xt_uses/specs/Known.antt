@@ -22,6 +22,7 @@ use Rattle.xt_isa.specs.declared.memory.Memory.TheVariants as memory
 use Rattle.xt_isa.specs.declared.memory.HalfName.TheVariants as HalfName
 use Rattle.xt_isa.specs.declared.system.System.{System}
 use Rattle.xt_isa.specs.declared.system.System.TheVariants as system
+use Rattle.xt_isa.specs.declared.system.LevelName.TheVariants as LevelName
 use Rattle.xt_isa.specs.declared.system.SpecialName.TheVariants as SpecialName
 use Rattle.xt_isa.specs.declared.system.UserName.TheVariants as UserName
 use Rattle.xt_isa.specs.declared.density.Density.{Density}
@@ -30,9 +31,12 @@ use Rattle.xt_isa.specs.declared.boolean.Boolean.{Boolean}
 use Rattle.xt_isa.specs.declared.boolean.Boolean.TheVariants as boolean
 use Rattle.xt_alu.specs.Arithmetic.{sext}
 use Rattle.xt_alu.specs.Shifts.{src, srl, sra, sll, slli, srai, srli, extui}
+use Rattle.xt_special.specs.Numbers as number
 use Rattle.xt_rows.specs.Numbers.{natural, extended}
+use Rattle.xt_uses.specs.Disciplines.{Discipline}
 use Rattle.xt_uses.specs.Words.{Word, all_bits, and_mask, below_unknown, both_mask, flipped}
 use Rattle.xt_uses.specs.Words.{is_whole, mask_where, moved_mask, or_mask}
+use Rattle.xt_uses.specs.Used.{counted_bits}
 
 -- ---- three registers: x is AR[s], y is AR[t]
 
@@ -110,12 +114,14 @@ memory_mask (memory.Addi t s n) x reply = below_unknown x.mask
 memory_mask (memory.Addmi t s n) x reply = below_unknown x.mask
 
 -- ---- system instructions: u is the word of the special register, `pointer` the mask of THREADPTR
+-- RSIL reads PS.
 
-unfoldable pub system_mask : System → Word → ℕ → ℕ
-system_mask (system.Rsr SpecialName.Rsr t n) u pointer = u.mask
-system_mask (system.Rsr SpecialName.Xsr t n) u pointer = u.mask
-system_mask (system.Rur UserName.Rur r n) u pointer = pointer
-system_mask _ u pointer = all_bits
+unfoldable pub system_mask : Discipline → System → Word → ℕ → ℕ
+system_mask d (system.Rsr SpecialName.Rsr t n) u pointer = u.mask
+system_mask d (system.Rsr SpecialName.Xsr t n) u pointer = u.mask
+system_mask d (system.Rsil LevelName.Rsil t level) u pointer = counted_bits d number.ps
+system_mask d (system.Rur UserName.Rur r n) u pointer = pointer
+system_mask d _ u pointer = all_bits
 
 -- ---- the 16-bit instructions: x is AR[s], y is AR[t]
 
@@ -134,11 +140,11 @@ unfoldable pub boolean_mask : Boolean → Word → ℕ
 boolean_mask (boolean.Movf name r s t) x = x.mask
 boolean_mask _ x = all_bits
 
-unfoldable pub result_mask : Insn → Word → Word → Word → ℕ → ℕ → ℕ
-result_mask (insn.Three i) x y u pointer reply = three_mask i x y u.value
-result_mask (insn.Shift i) x y u pointer reply = shift_mask i x u.value
-result_mask (insn.Memory i) x y u pointer reply = memory_mask i x reply
-result_mask (insn.Control i) x y u pointer reply = all_bits
-result_mask (insn.System i) x y u pointer reply = system_mask i u pointer
-result_mask (insn.Density i) x y u pointer reply = density_mask i x y reply
-result_mask (insn.Boolean i) x y u pointer reply = boolean_mask i x
+unfoldable pub result_mask : Discipline → Insn → Word → Word → Word → ℕ → ℕ → ℕ
+result_mask d (insn.Three i) x y u pointer reply = three_mask i x y u.value
+result_mask d (insn.Shift i) x y u pointer reply = shift_mask i x u.value
+result_mask d (insn.Memory i) x y u pointer reply = memory_mask i x reply
+result_mask d (insn.Control i) x y u pointer reply = all_bits
+result_mask d (insn.System i) x y u pointer reply = system_mask d i u pointer
+result_mask d (insn.Density i) x y u pointer reply = density_mask i x y reply
+result_mask d (insn.Boolean i) x y u pointer reply = boolean_mask i x

@@ -58,7 +58,7 @@ reads_no_number i f =
 abbrev pub uses_unknown : Insn → UseState → FrameState → Bool
 uses_unknown i s f =
     reads_mark f.nested i
-    || (reads_no_number i f || not (used_are_known i (first_word i s f) (second_word i s f)))
+    || (reads_no_number i f || not (used_are_known s.masks.discipline i (first_word i s f) (second_word i s f)))
 
 -- ---- StaleLoad
 

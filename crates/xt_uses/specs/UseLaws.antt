@@ -1,8 +1,14 @@
 -- States laws of the discipline of uses: a row looks at nothing but the bits that it uses; what the
 -- machine of uses knows of a run is so; and no breach of uses comes before one of the stack
 -- discipline.
+--
+-- Profile: `WholeIsFrames`, `UsesAreLater` and `UseRunIsFrameRun` are about the lenient discipline,
+-- since the strict one may name a use where the stack discipline is whole. The other laws hold for
+-- both.
+-- Note: `UsesAreLater` and its neighbours ask that the records are those that a run can have
+-- (`IsOrdinary`): words, an access of at most 4 bytes, an aligned VECBASE.
 use Rattle.std.specs.Prelude.{◌≡◌, ℕ, ◌%◌, ◌<◌, ◌≤◌, ◌^◌, ◌⊎◌, Bool, true, false, not, Option}
-use Rattle.std.specs.Prelude.{Some, None, List, [], ◌∷◌, map, slice_index_or}
+use Rattle.std.specs.Prelude.{Some, None, List, [], ◌∷◌, if◌then◌else◌, map, slice_index_or}
 use Rattle.xt_isa.specs.declared.Insn.{Insn}
 use Rattle.xt_isa.specs.declared.Insn.TheVariants as insn
 use Rattle.xt_isa.specs.declared.system.System.TheVariants as system
@@ -16,7 +22,7 @@ use Rattle.xt_map.specs.Regions.{is_mapped, uart_transmit}
 use Rattle.xt_map.specs.Serving.{reply_to}
 use Rattle.xt_map.specs.Touching.{IsMemory, is_store}
 use Rattle.xt_special.specs.declared.ps.Ps.{Ps}
-use Rattle.xt_special.specs.Access.{SpecialWrites, no_set, set_to}
+use Rattle.xt_special.specs.Access.{SpecialWrites, is_eps, no_set, set_to}
 use Rattle.xt_special.specs.Control.{special_of}
 use Rattle.xt_fetch.specs.Code.{AreBytes}
 use Rattle.xt_trace.specs.declared.record.RegWrite.{RegWrite}
@@ -38,9 +44,9 @@ use Rattle.xt_frames.specs.FirstBreach.{mode_before}
 use Rattle.xt_frames.specs.Judging.{place_on}
 use Rattle.xt_frames.specs.Marks.{holds_marks}
 use Rattle.xt_frames.specs.Verdict.{IsFrameTrace, is_nested}
-use Rattle.xt_uses.specs.Disciplines.{Discipline, Lenient}
+use Rattle.xt_uses.specs.Disciplines.{Discipline, Lenient, is_strict}
 use Rattle.xt_uses.specs.Words.{Fits, Word, all_bits, cut, is_whole, mask_where}
-use Rattle.xt_uses.specs.Used.{low_bits, used_are_known}
+use Rattle.xt_uses.specs.Used.{counted_bits, holds_owb, low_bits, used_are_known}
 use Rattle.xt_uses.specs.Known.{loaded_mask, result_mask}
 use Rattle.xt_uses.specs.UseState.{Masks}
 use Rattle.xt_uses.specs.UseStep.{reply_mask}
@@ -69,17 +75,24 @@ KindsAgree mask k l = k ≡ l
 abbrev pub AccessesAgree : ℕ → Access → Access → Type 0
 AccessesAgree mask a b = (a.addr ≡ b.addr) × (a.size ≡ b.size) × KindsAgree mask a.kind b.kind
 
--- what EXCSAVE or MISC is given agrees in the mask of the register that is read
+-- the special register is given numbers that agree in these bits
 abbrev pub IsGivenIn : ℕ → ℕ → SpecialWrites → SpecialWrites → Type 0
 IsGivenIn n given sets others =
     (x : ℕ) × (y : ℕ) × ((sets ≡ (set_to n x, no_set, no_set))
     × (others ≡ (set_to n y, no_set, no_set)) × AgreeIn given x y)
 
-abbrev pub SetsAgree : Option (ℕ × ℕ) → ℕ → SpecialWrites → SpecialWrites → Type 0
-SetsAgree None given sets others = sets ≡ others
-SetsAgree (Some p) given sets others =
+-- what EXCSAVE or MISC is given agrees in the mask of the register that is read, what EPS2 to EPS7
+-- are given in the bits that count
+abbrev pub SetsAgree : Discipline → Option (ℕ × ℕ) → ℕ → SpecialWrites → SpecialWrites → Type 0
+SetsAgree d None given sets others = sets ≡ others
+SetsAgree d (Some p) given sets others =
     (holds_marks p.1 ≡ true → IsGivenIn p.1 given sets others)
-    × (holds_marks p.1 ≡ false → sets ≡ others)
+    × (is_eps p.1 ≡ true → IsGivenIn p.1 (counted_bits d p.1) sets others)
+    × (holds_marks p.1 ≡ false → is_eps p.1 ≡ false → sets ≡ others)
+
+-- in the strict discipline OWB does not count
+abbrev pub counted_ps : Discipline → Ps → Ps
+counted_ps d ps = if is_strict d then record ps { owb = 0 } else ps
 
 -- the mask of THREADPTR after a row
 unfoldable pub pointer_mask : Insn → ℕ → ℕ → ℕ
@@ -93,41 +106,52 @@ pub record RowMasks : Type 0 where
   pub pointer : ℕ
   pub stored : ℕ
 
-pub record EffectsAgree (i : Insn) (m : RowMasks) (d e : Effect) : Type 0 where
+pub record EffectsAgree (by : Discipline) (i : Insn) (m : RowMasks) (d e : Effect) : Type 0 where
   pub write : WritesAgree m.result d.write e.write
-  pub sets : SetsAgree (moved_to i) m.given d.sets e.sets
-  pub ps : d.ps ≡ e.ps
+  pub sets : SetsAgree by (moved_to i) m.given d.sets e.sets
+  pub ps : counted_ps by d.ps ≡ counted_ps by e.ps
   pub threadptr : AgreeIn m.pointer d.threadptr e.threadptr
   pub flow : d.flow ≡ e.flow
   pub waits : d.waits ≡ e.waits
 
-abbrev pub OutcomesAgree : Insn → RowMasks → Outcome → Outcome → Type 0
-OutcomesAgree i m (Does d) (Does e) = EffectsAgree i m d e
-OutcomesAgree i m (Asks a x d) (Asks b y e) =
-    AccessesAgree m.stored a b × (x ≡ y) × EffectsAgree i m d e
-OutcomesAgree i m o p = o ≡ p
+abbrev pub OutcomesAgree : Discipline → Insn → RowMasks → Outcome → Outcome → Type 0
+OutcomesAgree by i m (Does d) (Does e) = EffectsAgree by i m d e
+OutcomesAgree by i m (Asks a x d) (Asks b y e) =
+    AccessesAgree m.stored a b × (x ≡ y) × EffectsAgree by i m d e
+OutcomesAgree by i m o p = o ≡ p
 
--- a special register that keeps nothing unknown is known
-abbrev pub IsKnownNumber : Option ℕ → Word → Type 0
-IsKnownNumber None w = is_whole w ≡ true
-IsKnownNumber (Some n) w = holds_marks n ≡ false → is_whole w ≡ true
+-- of a special register that keeps nothing unknown the bits that count are known
+abbrev pub IsKnownNumber : Discipline → Option ℕ → Word → Type 0
+IsKnownNumber d None w = is_whole w ≡ true
+IsKnownNumber d (Some n) w = holds_marks n ≡ false → w.mask ≡ counted_bits d n
+
+-- its word fits it, but that of a register that holds OWB agrees in the known bits
+abbrev pub SpecialFits : Option ℕ → ℕ → Word → Type 0
+SpecialFits None u w = Fits u w
+SpecialFits (Some n) u w = (holds_owb n ≡ false → Fits u w) × AgreeIn w.mask u w.value
+
+-- INTERRUPT is one number, and EPS2 to EPS7 agree in the bits that count
+abbrev pub OthersAgree : Discipline → Option ℕ → ℕ → ℕ → Type 0
+OthersAgree d None v w = v ≡ w
+OthersAgree d (Some n) v w = (holds_owb n ≡ false → v ≡ w) × AgreeIn (counted_bits d n) v w
 
 -- what is known of the operands of a row
-pub record IsRow (i : Insn) (x y u : ℕ) (a b c : Word) : Type 0 where
+pub record IsRow (d : Discipline) (i : Insn) (x y u v w : ℕ) (a b c : Word) : Type 0 where
   pub first : Fits x a
   pub second : Fits y b
-  pub special : Fits u c
+  pub special : SpecialFits (special_reads i).0 u c
+  pub other : OthersAgree d (special_reads i).1 v w
   -- one register has one word
   pub same : (reads i).0 ≡ (reads i).1 → (x ≡ y) × (a ≡ b)
   -- masks are words
   pub first_mask : a.mask < 2 ^ 32
   pub second_mask : b.mask < 2 ^ 32
-  pub number : IsKnownNumber (special_reads i).0 c
-  pub used : used_are_known i a b ≡ true
+  pub number : IsKnownNumber d (special_reads i).0 c
+  pub used : used_are_known d i a b ≡ true
 
-abbrev pub masks_of_row : Insn → Word → Word → Word → ℕ → RowMasks
-masks_of_row i a b c pointer = record {
-  result = result_mask i a b c pointer all_bits;
+abbrev pub masks_of_row : Discipline → Insn → Word → Word → Word → ℕ → RowMasks
+masks_of_row d i a b c pointer = record {
+  result = result_mask d i a b c pointer all_bits;
   given = a.mask;
   pointer = pointer_mask i a.mask pointer;
   stored = b.mask;
@@ -136,13 +160,15 @@ masks_of_row i a b c pointer = record {
 -- where t is THREADPTR, of which the bits of `pointer` are known
 abbrev pub RowsAgree : Type 0
 RowsAgree =
-    (code : ℕ → ℕ) (i : Insn) (pc x y u v : ℕ) (ps : Ps) (t pointer : ℕ) (a b c : Word)
-    → IsGiven i pc x y u v ps t → IsRow i x y u a b c
+    (d : Discipline) (code : ℕ → ℕ) (i : Insn) (pc x y u v w : ℕ) (ps : Ps) (t pointer : ℕ)
+    (a b c : Word)
+    → IsGiven i pc x y u v ps t → IsRow d i x y u v w a b c
     → OutcomesAgree
+    d
     i
-    (masks_of_row i a b c pointer)
+    (masks_of_row d i a b c pointer)
     (outcome code i pc x y u v ps t)
-    (outcome code i pc a.value b.value c.value v ps (cut pointer t))
+    (outcome code i pc a.value b.value c.value w ps (cut pointer t))
 
 -- and what a load writes agrees in what is known of the reply
 abbrev pub RepliesAgree : Type 0

@@ -11,6 +11,7 @@ use Rattle.xt_frames.specs.Marks.{holds_marks}
 use Rattle.xt_frames.specs.SaveAreas.{Range}
 use Rattle.xt_uses.specs.Disciplines.{Discipline, is_strict}
 use Rattle.xt_uses.specs.Words.{Word, all_bits, whole_word}
+use Rattle.xt_uses.specs.Used.{counted_bits}
 
 pub record Masks : Type 0 where
   -- by which discipline: it never changes
@@ -79,9 +80,10 @@ visible_word s f None = whole_word 0
 visible_word s f (Some i) =
     record { value = known f.seen i; mask = slice_index_or (current_masks s) i 0 }
 
--- any other special register is a number
+-- any other special register is a number, of which the bits that count are known
 abbrev pub special_mask : Masks → ℕ → ℕ
-special_mask m n = if holds_marks n then slice_index_or m.special n 0 else all_bits
+special_mask m n =
+    if holds_marks n then slice_index_or m.special n 0 else counted_bits m.discipline n
 
 abbrev pub special_word : UseState → FrameState → Option ℕ → Word
 special_word s f None = whole_word 0

@@ -175,6 +175,7 @@ abbrev pub insn_turn : Insn → ℕ → UseState → FrameState → FrameTurn �
 insn_turn i reply s f u =
     let mask =
     result_mask
+    s.masks.discipline
     i
     (first_word i s f)
     (second_word i s f)

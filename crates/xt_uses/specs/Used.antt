@@ -4,6 +4,13 @@
 -- register is written, or a byte that is sent. Copying and computing is none.
 --
 -- x and y are the words of the registers that the row reads, in the order of its table of operands.
+--
+-- Profile: `Used` and `Known` are one page each, a line for a row or a group of rows. The law
+-- `rows_agree` ties them to the rows. Take two lists of operands that agree in all known bits, and
+-- let all used bits be known. Then both give the same kind of outcome, with the same flow, address,
+-- size and special registers, and what they write and store agrees in the bits that the table calls
+-- known. In the strict discipline PS and EPS2 to EPS7 are the same but for OWB. It does not say
+-- that the tables are not too strict.
 use Rattle.std.specs.Prelude.{ℕ, ◌-◌, ◌%◌, ◌^◌, Bool, true, ◌==◌, ◌&&◌, ◌||◌, if◌then◌else◌, ℤ}
 use Rattle.xt_isa.specs.declared.Insn.{Insn}
 use Rattle.xt_isa.specs.declared.Insn.TheVariants as insn
@@ -30,9 +37,12 @@ use Rattle.xt_isa.specs.declared.density.Density.{Density}
 use Rattle.xt_isa.specs.declared.density.Density.TheVariants as density
 use Rattle.xt_isa.specs.declared.density.NarrowName.TheVariants as NarrowName
 use Rattle.xt_map.specs.Regions.{uart_transmit}
+use Rattle.xt_special.specs.Numbers as number
+use Rattle.xt_special.specs.Access.{is_eps}
 use Rattle.xt_rows.specs.Numbers.{plus, natural}
 use Rattle.xt_frames.specs.Marks.{holds_marks}
-use Rattle.xt_uses.specs.Words.{Word, knows, is_whole, and_word, not_word}
+use Rattle.xt_uses.specs.Disciplines.{Discipline, is_strict}
+use Rattle.xt_uses.specs.Words.{Word, all_bits, knows, is_whole, and_word, not_word}
 
 -- ---- bits
 
@@ -44,6 +54,16 @@ bit_number n = 2 ^ (n % 32)
 
 abbrev pub low_bits : ℕ → ℕ
 low_bits n = 2 ^ n - 1
+
+-- ---- PS.OWB, bits 8 to 11 of PS and of EPS2 to EPS7
+-- It shows which window exceptions came. In the strict discipline it is neither known nor used.
+
+abbrev pub holds_owb : ℕ → Bool
+holds_owb n = n == number.ps || is_eps n
+
+-- the bits of a special register that count
+abbrev pub counted_bits : Discipline → ℕ → ℕ
+counted_bits d n = if holds_owb n && is_strict d then 0xFFFFF0FF else all_bits
 
 -- ---- three registers: x is AR[s], y is AR[t]
 -- The divisor is used, since 0 raises a cause. A conditional move uses its condition.
@@ -126,10 +146,10 @@ control_used (control.Loop name s offset) x y = is_whole x
 -- ---- system instructions: x is AR[t]
 -- EXCSAVE1 to EXCSAVE7 and MISC0 to MISC3 keep what is not known, and so does THREADPTR.
 
-unfoldable pub system_used : System → Word → Bool
-system_used (system.Rsr SpecialName.Wsr t n) x = holds_marks n || is_whole x
-system_used (system.Rsr SpecialName.Xsr t n) x = holds_marks n || is_whole x
-system_used _ x = true
+unfoldable pub system_used : Discipline → System → Word → Bool
+system_used d (system.Rsr SpecialName.Wsr t n) x = holds_marks n || knows (counted_bits d n) x
+system_used d (system.Rsr SpecialName.Xsr t n) x = holds_marks n || knows (counted_bits d n) x
+system_used d _ x = true
 
 -- ---- the 16-bit instructions: x is AR[s] or a0, y is AR[t]
 
@@ -143,11 +163,11 @@ density_used _ x y = true
 -- ---- all rows
 -- The Boolean registers are always known: WSR and XSR of BR use all bits.
 
-unfoldable pub used_are_known : Insn → Word → Word → Bool
-used_are_known (insn.Three i) x y = three_used i x y
-used_are_known (insn.Shift i) x y = shift_used i x
-used_are_known (insn.Memory i) x y = memory_used i x y
-used_are_known (insn.Control i) x y = control_used i x y
-used_are_known (insn.System i) x y = system_used i x
-used_are_known (insn.Density i) x y = density_used i x y
-used_are_known (insn.Boolean i) x y = true
+unfoldable pub used_are_known : Discipline → Insn → Word → Word → Bool
+used_are_known d (insn.Three i) x y = three_used i x y
+used_are_known d (insn.Shift i) x y = shift_used i x
+used_are_known d (insn.Memory i) x y = memory_used i x y
+used_are_known d (insn.Control i) x y = control_used i x y
+used_are_known d (insn.System i) x y = system_used d i x
+used_are_known d (insn.Density i) x y = density_used i x y
+used_are_known d (insn.Boolean i) x y = true

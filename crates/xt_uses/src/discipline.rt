@@ -8,7 +8,7 @@ ghost use Rattle.xt_uses.specs.Disciplines.{is_strict};
 #[derive(Clone, Copy, Debug, PartialEq, Eq)]
 pub enum Discipline {
     /// Nothing is known of what a function has no right to: its own frame before it stores there, the frame of a function that has
-    /// returned, and the registers of a function that has returned, except its results a2 to a5.
+    /// returned, the registers of a function that has returned, except its results a2 to a5, and PS.OWB.
     Strict,
     /// All of that is known, if it was stored or written, or if nobody stored there.
     Lenient,

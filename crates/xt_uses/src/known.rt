@@ -7,6 +7,8 @@ ghost use Rattle.xt_rows.specs.Laws.{IsShiftAmount};
 ghost use Rattle.xt_rows.specs.Numbers.{extended, natural};
 ghost use Rattle.xt_uses.specs.Known.{add_mask, boolean_mask, density_mask, loaded_mask, memory_mask, result_mask, scaled_mask, scaled_sum, shift_mask, src_mask, sum_mask, system_mask, three_mask, where_both};
 
+use crate::discipline::Discipline;
+use crate::used::counted_bits;
 use crate::words::{
     ALL_BITS, Word, and_mask, below_unknown, both_mask, flipped, is_whole, mask_where, or_mask,
 };
@@ -16,9 +18,10 @@ use xt_isa::boolean::Boolean;
 use xt_isa::density::Density;
 use xt_isa::memory::{HalfName, Memory};
 use xt_isa::shift::{NegName, SextName, Shift, SrlName};
-use xt_isa::system::{SpecialName, System, UserName};
+use xt_isa::system::{LevelName, SpecialName, System, UserName};
 use xt_isa::three::{AddName, AndName, SubName, Three};
 use xt_rows::natural;
+use xt_special::number;
 
 // An operand within a range of numbers below 256.
 #[tactic(auto, unfolding(xt_rows::specs::Numbers::natural, xt_isa::specs::Ranges::natural_within))]
@@ -157,12 +160,13 @@ fn memory_mask(i: Memory, x: Word, reply: u32) -> u32
 }
 
 #[tactic(auto, unfolding(crate::specs::Known::system_mask))]
-fn system_mask(i: System, u: Word, pointer: u32) -> u32
-    ensures { result ≡ system_mask i u pointer }
+fn system_mask(discipline: Discipline, i: System, u: Word, pointer: u32) -> u32
+    ensures { result ≡ system_mask discipline i u pointer }
 {
     match i {
         System::Rsr(SpecialName::Rsr, _, _) => u.mask,
         System::Rsr(SpecialName::Xsr, _, _) => u.mask,
+        System::Rsil(LevelName::Rsil, _, _) => counted_bits(discipline, number::PS),
         System::Rur(UserName::Rur, _, _) => pointer,
         _ => ALL_BITS,
     }
@@ -196,17 +200,25 @@ fn boolean_mask(i: Boolean, x: Word) -> u32
 ///
 /// Conditions: its operands are in their ranges, and where it shifts by SAR, that is below 64.
 #[tactic(auto, unfolding(crate::specs::Known::result_mask))]
-pub fn result_mask(i: Insn, x: Word, y: Word, u: Word, pointer: u32, reply: u32) -> u32
+pub fn result_mask(
+    discipline: Discipline,
+    i: Insn,
+    x: Word,
+    y: Word,
+    u: Word,
+    pointer: u32,
+    reply: u32,
+) -> u32
     requires range { in_range i ≡ true }
     requires sar { IsShiftAmount i u.value }
-    ensures { result ≡ result_mask i x y u pointer reply }
+    ensures { result ≡ result_mask discipline i x y u pointer reply }
 {
     match i {
         Insn::Three(i) => three_mask(i, x, y, u.value as u8),
         Insn::Shift(i) => shift_mask(i, x, u.value as u8),
         Insn::Memory(i) => memory_mask(i, x, reply),
         Insn::Control(_) => ALL_BITS,
-        Insn::System(i) => system_mask(i, u, pointer),
+        Insn::System(i) => system_mask(discipline, i, u, pointer),
         Insn::Density(i) => density_mask(i, x, y, reply),
         Insn::Boolean(i) => boolean_mask(i, x),
     }

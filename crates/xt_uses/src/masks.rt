@@ -15,7 +15,7 @@ ghost use Rattle.xt_uses.specs.UseQuick.{AreWhole};
 ghost use Rattle.xt_uses.specs.Words.{all_bits};
 
 use crate::discipline::Discipline;
-use crate::used::keeps_unknown;
+use crate::used::{counted_bits, keeps_unknown};
 use crate::words::{ALL_BITS, Word, whole_word};
 use xt_frames::{Holes, View, is_return, moved_to};
 use xt_isa::Insn;
@@ -175,7 +175,8 @@ impl TopMasks {
     {
         match register {
             Some(n) if keeps_unknown(n) => self.special[n as usize],
-            _ => ALL_BITS,
+            Some(n) => counted_bits(self.discipline, n),
+            None => ALL_BITS,
         }
     }
 

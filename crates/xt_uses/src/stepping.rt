@@ -265,6 +265,7 @@ impl Top {
         let forgets = forgets_registers(self.masks.discipline, i);
         let operands = self.masks.operands(i, &made.before, &self.holes);
         let mask = result_mask(
+            self.masks.discipline,
             i,
             operands.x,
             operands.y,

@@ -117,7 +117,7 @@ fn uses_unknown(i: Insn, masks: &TopMasks, view: &View, holes: &Holes) -> bool
         return true;
     }
     let operands = masks.operands(i, view, holes);
-    !used_are_known(i, operands.x, operands.y)
+    !used_are_known(masks.discipline, i, operands.x, operands.y)
 }
 
 /// Whether the new stack pointer is one that ENTRY may leave to the newest frame. The opening frame has none.

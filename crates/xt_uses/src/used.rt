@@ -4,9 +4,10 @@
 ghost use Rattle.std.specs.Prelude.{◌≡◌};
 ghost use Rattle.xt_rows.specs.Numbers.{plus};
 ghost use Rattle.xt_frames.specs.Marks.{holds_marks};
-ghost use Rattle.xt_uses.specs.Used.{bit_number, both_whole, control_used, density_used, memory_used, shift_used, store_used, system_used, tested_known, three_used, used_are_known};
+ghost use Rattle.xt_uses.specs.Used.{bit_number, both_whole, control_used, counted_bits, density_used, holds_owb, memory_used, shift_used, store_used, system_used, tested_known, three_used, used_are_known};
 
-use crate::words::{Word, and_word, is_whole, knows, not_word};
+use crate::discipline::{Discipline, is_strict};
+use crate::words::{ALL_BITS, Word, and_word, is_whole, knows, not_word};
 use xt_isa::Insn;
 use xt_isa::control::{BranchName, Control, OppositeName, ZeroName};
 use xt_isa::density::{Density, NarrowName};
@@ -25,6 +26,24 @@ pub fn keeps_unknown(n: u8) -> bool
     ensures { result ≡ holds_marks n }
 {
     (number::EXCSAVE1 <= n && n <= number::EXCSAVE7) || (number::MISC0 <= n && n <= number::MISC3)
+}
+
+/// PS and EPS2 to EPS7, which hold OWB.
+fn holds_owb(n: u8) -> bool
+    ensures { result ≡ holds_owb n }
+{
+    n == number::PS || (number::EPS2 <= n && n <= number::EPS7)
+}
+
+/// The bits of a special register that count: in the strict discipline OWB is neither known nor used.
+pub fn counted_bits(discipline: Discipline, n: u8) -> u32
+    ensures { result ≡ counted_bits discipline n }
+{
+    if holds_owb(n) && is_strict(discipline) {
+        0xFFFF_F0FF
+    } else {
+        ALL_BITS
+    }
 }
 
 fn bit_number(n: u32) -> u32
@@ -141,12 +160,16 @@ fn control_used(i: Control, x: Word, y: Word) -> bool
 }
 
 #[tactic(auto, unfolding(crate::specs::Used::system_used))]
-fn system_used(i: System, x: Word) -> bool
-    ensures { result ≡ system_used i x }
+fn system_used(discipline: Discipline, i: System, x: Word) -> bool
+    ensures { result ≡ system_used discipline i x }
 {
     match i {
-        System::Rsr(SpecialName::Wsr, _, n) => keeps_unknown(n) || is_whole(x),
-        System::Rsr(SpecialName::Xsr, _, n) => keeps_unknown(n) || is_whole(x),
+        System::Rsr(SpecialName::Wsr, _, n) => {
+            keeps_unknown(n) || knows(counted_bits(discipline, n), x)
+        }
+        System::Rsr(SpecialName::Xsr, _, n) => {
+            keeps_unknown(n) || knows(counted_bits(discipline, n), x)
+        }
         _ => true,
     }
 }
@@ -166,15 +189,15 @@ fn density_used(i: Density, x: Word, y: Word) -> bool
 
 /// Whether the bits that an instruction uses are known, where x and y are the words of the registers that it reads.
 #[tactic(auto, unfolding(crate::specs::Used::used_are_known))]
-pub fn used_are_known(i: Insn, x: Word, y: Word) -> bool
-    ensures { result ≡ used_are_known i x y }
+pub fn used_are_known(discipline: Discipline, i: Insn, x: Word, y: Word) -> bool
+    ensures { result ≡ used_are_known discipline i x y }
 {
     match i {
         Insn::Three(i) => three_used(i, x, y),
         Insn::Shift(i) => shift_used(i, x),
         Insn::Memory(i) => memory_used(i, x, y),
         Insn::Control(i) => control_used(i, x, y),
-        Insn::System(i) => system_used(i, x),
+        Insn::System(i) => system_used(discipline, i, x),
         Insn::Density(i) => density_used(i, x, y),
         Insn::Boolean(_) => true,
     }

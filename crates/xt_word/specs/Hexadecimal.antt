@@ -1,4 +1,6 @@
 -- Hexadecimal numbers in upper case, with leading zeros ('profile').
+--
+-- Profile: bytes, words and addresses are printed in upper case with all leading zeros.
 use Rattle.std.specs.Prelude.{ℕ, zero, suc, ◌/◌, ◌%◌, true, List, [], ◌∷◌, ◌++◌}
 use Rattle.std.specs.Fmt.{digit_glyph}
 

@@ -1,4 +1,4 @@
--- The lines that are gone were written.
+-- Of the lines that are gone the first bytes were written, and the others are gathered.
 use Rattle.std.proofs.Common.{◌≡◌, ◌++◌, length, ℕ, ◌+◌, ◌≤◌, List}
 use Rattle.std.specs.List.{concat}
 use Rattle.std.specs.Io.KnownBytes.{Appends}
@@ -8,7 +8,7 @@ use Rattle.xt_tools.proofs.turns.write_turns.Given as goal
 abbrev pub invariant-loop : goal.invariant-loop
 invariant-loop g l = record {
   bytes : (done : List ℕ)
-      × (concat (lines_in l.fn.lines) ≡ done ++ concat (lines_in l.lines))
+      × (concat (lines_in l.fn.lines) ≡ done ++ (l.piece ++ concat (lines_in l.lines)))
       × Appends (g.K.Sink.told l.fn.sink) (g.K.Sink.told l.sink) done;
   left : length (lines_in l.lines) + l.counter ≡ l.count;
   later : g.K.Sink.faults l.fn.sink ≤ g.K.Sink.faults l.sink;

@@ -24,9 +24,9 @@ returns c = λ frames kept v.
     let o = c.operands-operands.ensures in
     let w = c.operands-operands.result in
     let known = c.used_are_known.ensures
-    ∙ (ap (λ (x : Word). used_are_known i x w.y) (o.first frames kept v)
-    ∙ ap (λ (y : Word). used_are_known i (first_word i s f) y) (o.second frames kept v)) in
-    let Z : Bool = not (used_are_known i (first_word i s f) (second_word i s f)) in
+    ∙ (ap (λ (x : Word). used_are_known s.masks.discipline i x w.y) (o.first frames kept v)
+    ∙ ap (λ (y : Word). used_are_known s.masks.discipline i (first_word i s f) y) (o.second frames kept v)) in
+    let Z : Bool = not (used_are_known s.masks.discipline i (first_word i s f) (second_word i s f)) in
     let mark : reads_mark h.nested i ≡ false = sym c.reads_mark.ensures ∙ c.if-reads_mark.false in
     let number : reads_no_number i f ≡ false = sym (c.reads_no_number.ensures frames c.args.view.now) ∙ c.if-reads_no_number.false in
     ap not known ∙ sym (ap (λ (p : Bool). p || (reads_no_number i f || Z)) mark ∙ ap (λ (q : Bool). q || Z) number)

@@ -8,4 +8,4 @@ pub returns : goal.returns
 returns c =
     let s = state_of c.self.inside in
     c.saturating_sub.ensures ∙ ap (λ n. s.end - n) c.position.ensures.position
-    ∙ sym (lines_long s.image s.run s.position (s.end - s.position)) ∙ ap (λ (x : LinesState). length (lines_in x)) c.self.view_is
+    ∙ sym (lines_long s.filter s.image s.run s.position (s.end - s.position)) ∙ ap (λ (x : LinesState). length (lines_in x)) c.self.view_is

@@ -18,7 +18,7 @@ returns-clause-mask c = λ frames kept v u.
     let f = state_at frames top.holes c.args.made.now.before in
     let o = c.operands-operands.ensures in
     let w = c.operands-operands.result in
-    let M : Word → Word → Word → ℕ = λ x y z. result_mask i x y z top.masks.threadptr c.args.reply in
+    let M : Word → Word → Word → ℕ = λ x y z. result_mask top.masks.discipline i x y z top.masks.threadptr c.args.reply in
     c.result_mask-mask.ensures
     ∙ (ap (λ (x : Word). M x w.y w.u) (o.first frames kept v)
     ∙ (ap (λ (y : Word). M (first_word i s f) y w.u) (o.second frames kept v)
@@ -44,6 +44,6 @@ returns-clause-masks c = λ frames kept v u newest same.
     c.pass-keep.ensures.masks kept newest
     ∙ (ap (λ (n : Bool). V n m w.x.mask c.callinc.result) c.is_some.ensures
     ∙ (ap (λ (k : ℕ). V (is_some h.nested) k w.x.mask c.callinc.result) mask
-    ∙ (ap (λ (g : ℕ). V (is_some h.nested) (result_mask i (first_word i s f) (second_word i s f) (special_operand i s f) top.masks.threadptr c.args.reply) g c.callinc.result) given
-    ∙ (ap (λ (b : ℕ). V (is_some h.nested) (result_mask i (first_word i s f) (second_word i s f) (special_operand i s f) top.masks.threadptr c.args.reply) (first_word i s f).mask b) c.callinc.ensures.value
+    ∙ (ap (λ (g : ℕ). V (is_some h.nested) (result_mask top.masks.discipline i (first_word i s f) (second_word i s f) (special_operand i s f) top.masks.threadptr c.args.reply) g c.callinc.result) given
+    ∙ (ap (λ (b : ℕ). V (is_some h.nested) (result_mask top.masks.discipline i (first_word i s f) (second_word i s f) (special_operand i s f) top.masks.threadptr c.args.reply) (first_word i s f).mask b) c.callinc.ensures.value
     ∙ visible_same (is_some h.nested) made.step.write u.write _ _ (sym same)))))

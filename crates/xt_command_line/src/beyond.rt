@@ -1,0 +1,32 @@
+//! What becomes of a script that leads beyond the run.
+ghost use Rattle.std.specs.Prelude.{map, string_bytes};
+ghost use Rattle.xt_command_line.specs.Answers.{Means};
+ghost use Rattle.xt_command_line.specs.Beyond.{beyond_of};
+
+use crate::command::Refusal;
+use crate::option_commands::{is_true, replay_matches, text_of};
+use std::alloc::Global;
+
+/// What becomes of a script at a command that leads beyond the run.
+#[derive(Clone, Copy, Debug, PartialEq, Eq)]
+pub enum Beyond {
+    /// It ends there.
+    Ends,
+    /// It goes on (`--lenient`).
+    GoesOn,
+}
+
+/// What the words of `replay`, the first of which stands for the command, say of a script that leads beyond the run.
+///
+/// The words are read as for `script_text`. `Usage(3)` says that they do not match. `Memory` says only that memory ran
+/// out.
+pub fn script_beyond(alloc: Global, words: &[String]) -> Result<Beyond, Refusal>
+    ensures { Means result (beyond_of (map string_bytes words.now)) }
+{
+    let matches = replay_matches(alloc, words)?;
+    if is_true(text_of(&matches, "lenient")) {
+        Ok(Beyond::GoesOn)
+    } else {
+        Ok(Beyond::Ends)
+    }
+}

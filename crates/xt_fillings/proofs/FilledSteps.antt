@@ -1,0 +1,238 @@
+-- A judged step of the machine of frames over a filling, beside that of the machine of uses.
+use Rattle.std.specs.Prelude.{if◌then◌else◌, is_some, min}
+use Rattle.std.specs.Int.{bit_at}
+use Rattle.std.proofs.Common.{◌≡◌, ℕ, ◌^◌, ◌<◌, Bool, true, false, ◌&&◌, not, List, Option, Some, None, sym, ap, ◌∙◌, refl, arith, ⊎_elim, subst}
+use Rattle.std.proofs.lemmas.Bool.{and_right, cases_Bool, cases_lt, cond-false}
+use Rattle.std.proofs.lemmas.Nat.{and_le_r, or_lt}
+use Rattle.std.proofs.lemmas.Nat.Bits.{bit_at_above, bit_at_and, bit_at_or, bit_at-lt}
+use Rattle.xt_isa.specs.declared.Insn.{Insn}
+use Rattle.xt_map.specs.declared.access.Access.{Access}
+use Rattle.xt_map.specs.declared.access.Kind.{Kind}
+use Rattle.xt_map.specs.declared.access.Kind.TheVariants.{Load, Store, Cas}
+use Rattle.xt_map.specs.Touching.{is_store}
+use Rattle.xt_trace.specs.declared.record.StepKind.{StepKind}
+use Rattle.xt_trace.specs.declared.record.StepRecord.{StepRecord}
+use Rattle.xt_fetch.specs.Code.{AreBytes}
+use Rattle.xt_fetch.specs.Fetching.{fetched}
+use Rattle.xt_frames.specs.declared.holes.Nested.{Nested}
+use Rattle.xt_frames.specs.Frames.{FrameState}
+use Rattle.xt_frames.specs.FrameStep.{FrameTurn, Inputs, laid}
+use Rattle.xt_frames.specs.Nesting.{begins, current, current_in, is_nesting}
+use Rattle.xt_frames.specs.Breaches.{Bounds, inputs_of}
+use Rattle.xt_frames.specs.Judging.{place_on, value_in}
+use Rattle.xt_uses.specs.declared.discipline.Discipline.{Discipline}
+use Rattle.xt_uses.specs.Words.{cut, flipped}
+use Rattle.xt_uses.specs.Used.{low_bits}
+use Rattle.xt_uses.specs.UseBreaches.{use_breach}
+use Rattle.xt_uses.specs.UseState.{UseState}
+use Rattle.xt_uses.specs.UseStep.{UseTurn, executed, forgets_registers, full_step, left_after, reply_mask, use_step, value_step}
+use Rattle.xt_uses.specs.UseLaws.{AccessFits, AgreeIn, IsSent, KindFits, KindsAgree, RepliesAgree, RowsAgree}
+use Rattle.xt_uses.proofs.Agreeing.{agree_at, agree_from}
+use Rattle.xt_uses.proofs.Bits.{flipped_at, flipped_word}
+use Rattle.xt_uses.proofs.CutStates.{IsCut}
+use Rattle.xt_uses.proofs.CutWords.{AreInputs, IsShapedFrame}
+use Rattle.xt_use_run.specs.Knowing.{Knows, NestedFit}
+use Rattle.xt_use_run.proofs.Following.{sent_back}
+use Rattle.xt_use_run.proofs.Leaves.{knows_left}
+use Rattle.xt_use_run.proofs.MaskWords.{MaskWords}
+use Rattle.xt_use_run.proofs.Seen.{cut_twice}
+use Rattle.xt_fillings.specs.Fillings.{Numbers, filled, filled_record, filled_step}
+use Rattle.xt_fillings.specs.Laws.{AsksSame, DoesSame, SendsSame}
+use Rattle.xt_fillings.proofs.Numbered.{Held, filled_held, left_held, left_in, left_shaped, numbered_knows, numbered_shaped, results_knows}
+use Rattle.xt_fillings.proofs.Outside.{Goes, outside_goes}
+use Rattle.xt_fillings.proofs.Within.{begins_goes, within_goes}
+use Rattle.xt_fillings.proofs.Words.{value_leaves}
+
+-- ---- a reply
+pub filled_agrees : (mask a b : ℕ) → mask < 2 ^ 32 → AgreeIn mask (filled mask a b) a
+filled_agrees mask a b small = agree_from mask (filled mask a b) a
+    (λ i one. ⊎_elim
+    (λ low.
+    let o = bit_at_or (cut mask a) (cut (flipped mask) b) i in
+    let x : bit_at (cut mask a) i ≡ min (bit_at a i) (bit_at mask i) = bit_at_and a mask i in
+    let y : bit_at (cut (flipped mask) b) i ≡ min (bit_at b i) (bit_at (flipped mask) i) = bit_at_and b (flipped mask) i in
+    let z = flipped_at mask i low in
+    omega (arith, o, x, y, z, one, bit_at-lt a i))
+    (λ high. let z = bit_at_above mask 32 i small high in absurd (omega (arith, one, z)))
+    (cases_lt i 32))
+
+pub filled_word : (mask a b : ℕ) → mask < 2 ^ 32 → filled mask a b < 2 ^ 32
+filled_word mask a b small =
+    let f = flipped_word mask small in
+    or_lt 32 (cut mask a) (cut (flipped mask) b) (omega (arith, and_le_r a mask, small)) (omega (arith, and_le_r b (flipped mask), f))
+
+-- ---- what is sent
+kinds_same : (m : ℕ) (k l : Kind) → KindFits m k l → KindsAgree m k l
+kinds_same m (Store v) (Store w) h = sym (cut_twice m v) ∙ ap (cut m) h
+kinds_same m Load l h = h
+kinds_same m (Cas e n) l h = h
+kinds_same m (Store v) Load h = h
+kinds_same m (Store v) (Cas e n) h = h
+
+pub asks_same : (m : ℕ) (a b : Option Access) → AccessFits m a b → AsksSame m a b
+asks_same m None None h = tt
+asks_same m (Some a) (Some b) h = (h.0, h.1, kinds_same m a.kind b.kind h.2)
+asks_same m None (Some b) h = absurd h
+asks_same m (Some a) None h = absurd h
+
+low_known : (m i : ℕ) → cut m (low_bits 8) ≡ low_bits 8 → bit_at (low_bits 8) i ≡ 1 → bit_at m i ≡ 1
+low_known m i known one =
+    let e : bit_at (cut m (low_bits 8)) i ≡ min (bit_at (low_bits 8) i) (bit_at m i) = bit_at_and (low_bits 8) m i in
+    let k = ap (λ n. bit_at n i) known in
+    omega (arith, e, k, one, bit_at-lt m i)
+
+pub sends_same : (m : ℕ) (a b : Option Access) → AsksSame m a b → IsSent m a → SendsSame a b
+sends_same m None None h s = tt
+sends_same m (Some a) (Some b) h s = λ v w ka kb at.
+    let known : cut m (low_bits 8) ≡ low_bits 8 = s (ap is_store ka) at in
+    let q : KindsAgree m (Store v) (Store w) = subst (λ k. KindsAgree m k (Store w)) ka (subst (λ k. KindsAgree m a.kind k) kb h.2) in
+    agree_from (low_bits 8) v w (λ i one. agree_at m v w i q (low_known m i known one))
+sends_same m None (Some b) h s = absurd h
+sends_same m (Some a) None h s = absurd h
+
+-- ---- both states
+-- the machine of uses in the state s knows the frame state f of the filling
+pub record Beside (f : FrameState) (s : UseState) : Type 0 where
+  pub knows : Knows f s
+  pub shaped : IsShapedFrame f
+  pub held : Held f
+
+same_some : (inner : List ℕ) (o p : Option Nested) → NestedFit inner o p → is_some o ≡ is_some p
+same_some inner None None k = refl
+same_some inner (Some x) (Some y) k = refl
+same_some inner None (Some y) k = absurd k
+same_some inner (Some x) None k = absurd k
+
+begins_same : {f : FrameState} {s : UseState} → Knows f s → (nested : Bool) (kind : StepKind) → begins nested kind f ≡ begins nested kind s.frame
+begins_same {f = f} {s = s} k nested kind = ap (λ z. nested && (is_nesting kind && not z)) (same_some s.masks.inner f.nested s.frame.nested k.nested)
+
+pub pc_same : {f : FrameState} {s : UseState} → Knows f s → (current f).control.pc ≡ (current s.frame).control.pc
+pc_same {f = f} {s = s} k = by f.nested s.frame.nested k.nested
+  where
+    by : (o p : Option Nested) → NestedFit s.masks.inner o p → (current_in o f).control.pc ≡ (current_in p s.frame).control.pc
+    by None None h = k.control.even.pc
+    by (Some x) (Some y) h = h.pc
+    by None (Some y) h = absurd h
+    by (Some x) None h = absurd h
+
+pub place_same : {f : FrameState} {s : UseState} → Knows f s → (nested : Bool) (rec : StepRecord) → place_on nested rec f ≡ place_on nested rec s.frame
+place_same {f = f} {s = s} k nested rec = λ i. if begins_same k nested rec.kind i then rec.pc else pc_same k i
+
+module _ (rows : RowsAgree) (replies : RepliesAgree) (code : ℕ → ℕ) (bytes : AreBytes code) (b : Bounds) (fresh : Bool) (live : ℕ → Bool) (kb : ℕ → ℕ) (rec : StepRecord) (words : AreInputs (inputs_of rec))
+    (mask_word : reply_mask kb rec.access < 2 ^ 32) (n : Numbers) (us : UseState) (masks : MaskWords us.masks) (is_cut : IsCut us.frame us.masks) {f : FrameState} (k : Beside f us) where
+  abbrev reply : ℕ
+  reply = filled (reply_mask kb rec.access) rec.reply n.reply
+
+  abbrev rec2 : StepRecord
+  rec2 = filled_record (reply_mask kb rec.access) n rec
+
+  abbrev inp : Inputs
+  inp = inputs_of rec2
+
+  abbrev value : ℕ
+  value = value_in rec2.write
+
+  abbrev goal : Bool → Type 0
+  goal nested = Goes (full_step code nested rec kb us) (value_step code (begins nested rec.kind f) value inp f)
+
+  -- where nothing begins, it does not matter whether the record is nested
+  full_same : (one other : Bool) → begins one rec.kind us.frame ≡ false → begins other rec.kind us.frame ≡ false → full_step code one rec kb us ≡ full_step code other rec kb us
+  full_same one other p q = cond-false (begins one rec.kind us.frame) _ _ p ∙ sym (cond-false (begins other rec.kind us.frame) _ _ q)
+
+  breach_same : (one other : Bool) → begins one rec.kind us.frame ≡ false → begins other rec.kind us.frame ≡ false → use_breach b fresh code live kb one rec us ≡ use_breach b fresh code live kb other rec us
+  breach_same one other p q = cond-false (begins one rec.kind us.frame) None _ p ∙ sym (cond-false (begins other rec.kind us.frame) None _ q)
+
+  rest : (one other : Bool) → begins one rec.kind us.frame ≡ false → begins other rec.kind us.frame ≡ false → Goes (full_step code one rec kb us) (value_step code false value inp f) → goal other
+  rest one other p q g =
+      subst (λ z. Goes (full_step code other rec kb us) (value_step code z value inp f)) (sym (begins_same k.knows other rec.kind ∙ q))
+      (subst (λ z. Goes z (value_step code false value inp f)) (full_same one other p q) g)
+
+  outside : us.frame.nested ≡ None → f.nested ≡ None → (nested : Bool) → begins nested rec.kind us.frame ≡ false → use_breach b fresh code live kb nested rec us ≡ None → goal nested
+  outside sn fn nested e none =
+      rest false nested refl e
+      (outside_goes rows replies code bytes b fresh live kb rec words reply value mask_word (filled_word (reply_mask kb rec.access) rec.reply n.reply mask_word) (filled_agrees (reply_mask kb rec.access) rec.reply n.reply mask_word) us sn masks k.knows fn k.shaped k.held
+      (breach_same false nested refl e ∙ none))
+
+  within : (x y : Nested) → f.nested ≡ Some x → us.frame.nested ≡ Some y → (nested : Bool) → use_breach b fresh code live kb nested rec us ≡ None → goal nested
+  within x y fx sy nested none =
+      rest true nested (off true) (off nested)
+      (within_goes rows replies code bytes b fresh live kb rec words reply value mask_word (filled_word (reply_mask kb rec.access) rec.reply n.reply mask_word) (filled_agrees (reply_mask kb rec.access) rec.reply n.reply mask_word) us masks is_cut k.knows k.shaped k.held x y fx sy
+      (breach_same true nested (off true) (off nested) ∙ none))
+    where
+      off : (z : Bool) → begins z rec.kind us.frame ≡ false
+      off z = ap (λ (o : Option Nested). z && (is_nesting rec.kind && not (is_some o))) sy ∙ and_right z _ (and_right (is_nesting rec.kind) _ refl)
+
+  starts : us.frame.nested ≡ None → f.nested ≡ None → is_nesting rec.kind ≡ true → goal true
+  starts sn fn nesting =
+      let on : begins true rec.kind f ≡ true = ap (λ (o : Option Nested). is_nesting rec.kind && not (is_some o)) fn ∙ ap (λ z. z && true) nesting in
+      subst (λ z. Goes (full_step code true rec kb us) (value_step code z value inp f)) (sym on) (begins_goes code kb rec inp value us refl k.knows nesting sn k.held)
+
+  pub value_goes : (nested : Bool) → use_breach b fresh code live kb nested rec us ≡ None → goal nested
+  value_goes nested none = by_nested f.nested us.frame.nested refl refl k.knows.nested
+    where
+      plain : us.frame.nested ≡ None → f.nested ≡ None → (z : Bool) → use_breach b fresh code live kb z rec us ≡ None → goal z
+      plain sn fn false q = outside sn fn false refl q
+      plain sn fn true q = ⊎_elim
+          (λ is. starts sn fn is)
+          (λ isnt. outside sn fn true (ap (λ z. z && not (is_some us.frame.nested)) isnt) q)
+          (cases_Bool (is_nesting rec.kind))
+
+      by_nested : (o p : Option Nested) → f.nested ≡ o → us.frame.nested ≡ p → NestedFit us.masks.inner o p → goal nested
+      by_nested None None fo sp h = plain sp fo nested none
+      by_nested (Some x) (Some y) fo sp h = within x y fo sp nested none
+      by_nested None (Some y) fo sp h = absurd h
+      by_nested (Some x) None fo sp h = absurd h
+
+  -- ---- the step as a whole
+  module _ (d : Discipline) (same : us.masks.discipline ≡ d) (nested : Bool) (none : use_breach b fresh code live kb nested rec us ≡ None) where
+    abbrev t : UseTurn
+    t = full_step code nested rec kb us
+
+    abbrev u : FrameTurn
+    u = value_step code (begins nested rec.kind f) value inp f
+
+    abbrev h : FrameState
+    h = laid (inputs_of rec) (current us.frame)
+
+    abbrev o : Option Insn
+    o = executed t.turn.kind (fetched code h.control.pc)
+
+    goes : Goes t u
+    goes = value_goes nested none
+
+    insn_same : executed u.kind (fetched code (current f).control.pc) ≡ o
+    insn_same = ap (λ z. executed z (fetched code (current f).control.pc)) goes.follows.kind ∙ ap (λ z. executed t.turn.kind (fetched code z)) (pc_same k.knows)
+
+    abbrev forgets : Bool
+    forgets = forgets_registers d (executed u.kind (fetched code (current f).control.pc))
+
+    forgets_same : forgets ≡ forgets_registers us.masks.discipline o
+    forgets_same = ap (forgets_registers d) insn_same ∙ ap (λ z. forgets_registers z o) (sym same)
+
+    left_knows : Knows (left_in forgets f.frames u.after) (left_after o us t.after)
+    left_knows =
+        let first : Knows u.after (left_after o us t.after) = knows_left o f us k.knows k.held.framed u.after t.after goes.follows.knows in
+        subst (λ z. Knows (left_in z f.frames u.after) (left_after o us t.after)) (sym forgets_same) (results_knows o f us k.knows k.held.framed u.after t.after first)
+
+    shaped_after : IsShapedFrame u.after
+    shaped_after = value_leaves code nested rec2 f bytes (record { ccount = words.ccount; interrupt = words.interrupt; owb = words.owb; reply = filled_word (reply_mask kb rec.access) rec.reply n.reply mask_word }) k.shaped
+
+    left_is_held : Held (left_in forgets f.frames u.after)
+    left_is_held = left_held forgets f.frames u.after k.held.framed goes.held
+
+    pub step_beside : Beside (filled_step d code nested rec kb n f).after (use_step code nested rec kb us).after
+    step_beside = record {
+      knows = numbered_knows n.register left_is_held.pointer left_knows;
+      shaped = numbered_shaped n.register (left_in forgets f.frames u.after) (left_shaped forgets f.frames u.after shaped_after);
+      held = filled_held n.register (left_in forgets f.frames u.after) left_is_held;
+    }
+
+    pub step_same : DoesSame (use_step code nested rec kb us) (filled_step d code nested rec kb n f)
+    step_same =
+        let w = goes.follows in
+        record {
+          kind = w.kind;
+          write = w.write;
+          access = w.access;
+          sent = sends_same t.stored u.access t.turn.access (asks_same t.stored u.access t.turn.access w.access) (sent_back t.stored u.access t.turn.access w.access w.sent);
+        }
