@@ -23,9 +23,9 @@ fn judge_depth(depth: Option<u32>) -> Result<u32, Refusal>
 
 /// The depth that the words of `profile` say, the first of which stands for the command.
 ///
-/// The words are read as a simple command of `clap` with the option `--depth N`, whose default is 8. N is a number as for
-/// `run`. `Usage` has the first rule that the words break: 3 they do not match, 4 the text is no number from 1 to 64.
-/// `Memory` says only that memory ran out.
+/// The words are read as a simple command of `clap` with the option `--depth N`, whose default is
+/// 8. N is a number as for `run`. `Usage` has the first rule that the words break: 3 they do not
+/// match, 4 the text is no number from 1 to 64. `Memory` says only that memory ran out.
 pub fn profile_depth(alloc: Global, words: &[String]) -> Result<u32, Refusal>
     ensures { Means result (depth_of (map string_bytes words.now)) }
 {

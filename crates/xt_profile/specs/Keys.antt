@@ -7,8 +7,8 @@
 -- that stand, frame d was pushed by the latest step before which fewer than d frames stood, and
 -- after which d or more.
 -- Profile: a key is cut to as many functions as are asked for, so that a deep recursion has no line
--- for each depth. A cut key keeps the first function, since a flame graph has one root, and the last
--- ones, since the innermost is where the turns go.
+-- for each depth. A cut key keeps the first function, since a flame graph has one root, and the
+-- last ones, since the innermost is where the turns go.
 -- Note: 0 in a cut key stands for those that are left out; it is no function.
 use Rattle.std.specs.Prelude.{ℕ, zero, suc, ◌-◌, ◌&&◌, nat_le, nat_lt, if◌then◌else◌}
 use Rattle.std.specs.Prelude.{List, [], ◌∷◌, ◌++◌, length, take, drop}
@@ -36,9 +36,9 @@ pub record Start : Type 0 where
   pub pc : ℕ
   pub depth : ℕ
 
--- The functions of a key: all, where there are no more than `depth`. Else the key is cut: it has the
--- first of them, 0 for those that are left out, and the last `depth` less one. So a cut key has one
--- number more than any other.
+-- The functions of a key: all, where there are no more than `depth`. Else the key is cut: it has
+-- the first of them, 0 for those that are left out, and the last `depth` less one. So a cut key has
+-- one number more than any whole one may have.
 abbrev pub shown : ℕ → List ℕ → List ℕ
 shown depth xs =
     if nat_le (length xs) depth then xs else take 1 xs ++ 0 ∷ drop (length xs - (depth - 1)) xs

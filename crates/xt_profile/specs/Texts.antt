@@ -1,5 +1,6 @@
 -- What `profile` prints ('profile').
-use Rattle.std.specs.Prelude.{ℕ, Bool, true, false, nat_lt, List, [], ◌∷◌, ◌++◌, length, drop, codes}
+use Rattle.std.specs.Prelude.{ℕ, Bool, true, false, nat_lt, List, [], ◌∷◌, ◌++◌, length, drop}
+use Rattle.std.specs.Prelude.{codes}
 use Rattle.std.specs.Fmt.{decimal}
 use Rattle.std.specs.List.{flat_map}
 use Rattle.xt_word.specs.Hexadecimal.{hex8}
@@ -24,8 +25,8 @@ key_text depth (a ∷ more) = hex8 a ++ more_text (nat_lt depth (length (a ∷ m
 -- `core C KEY N`
 unfoldable pub line_text : ℕ → ℕ → ProfileLine → List ℕ
 line_text depth core l =
-    codes "core " ++ decimal core ++ codes " " ++ key_text depth l.key ++ codes " " ++ decimal l.count
-    ++ codes "\n"
+    codes "core " ++ decimal core ++ codes " " ++ key_text depth l.key ++ codes " "
+    ++ decimal l.count ++ codes "\n"
 
 abbrev pub lines_text : ℕ → ℕ → List ProfileLine → List ℕ
 lines_text depth core ls = flat_map (line_text depth core) ls
