@@ -1,4 +1,7 @@
 -- Races of the next turns of both cores ('profile').
+--
+-- Note: `IsNextRace` is `Conflict` of `xt_race` for the next turns of both cores, as if each came
+-- next in the history.
 use Rattle.std.specs.Prelude.{◌≡◌, ℕ, if◌then◌else◌, Option, Some, None, length}
 use Rattle.xt_map.specs.declared.access.Access.{Access}
 use Rattle.xt_map.specs.Serving.{reply_to}

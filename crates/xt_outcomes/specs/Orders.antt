@@ -3,6 +3,9 @@
 -- An order is a list of cores. Each number gives that core its next turn, or nothing where it has
 -- stopped. The world after it is both cores, memory and what was sent, as the positions of a run have
 -- them.
+--
+-- Profile: `world_after` gives each core as many turns as the order is long, so no turn of the
+-- order is left out for want of turns; `timed_world_after` gives it those of the options.
 use Rattle.std.specs.Prelude.{ℕ, List, length}
 use Rattle.xt_trace.specs.Chip.{Chip}
 use Rattle.xt_trace.specs.Runs.{Opening, opened}

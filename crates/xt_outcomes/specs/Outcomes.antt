@@ -1,4 +1,9 @@
 -- What comes out of an order ('profile').
+--
+-- Profile: an outcome needs both cores stopped by BREAK. Timed, it needs neither to have a turn
+-- left, so one that made all its turns has ended too.
+-- Note: `IsStuck` speaks of every longer order, so a core that goes round in a loop for ever is
+-- stuck only if no order of the other's turns lets it out.
 use Rattle.std.specs.Prelude.{◌≡◌, ℕ, Bool, false, ◌==◌, ◌&&◌, List, ◌++◌, map}
 use Rattle.xt_map.specs.Serving.{number_at}
 use Rattle.xt_trace.specs.declared.trace.Stop.{Stop}

@@ -1,4 +1,7 @@
 -- Time: what of a core's state the passing of turns alone changes, and which turns use it ('profile').
+--
+-- Note: `uses_time` tests INTENABLE before the turn, whatever the turn is, and what the turn
+-- executes; an instruction that raises an exception in its turn executes nothing.
 use Rattle.std.specs.Prelude.{◌≡◌, ℕ, Bool, true, false, ◌==◌, ◌&&◌, ◌||◌, not, List}
 use Rattle.std.specs.Prelude.{slice_index, slice_set, bit_and}
 use Rattle.xt_isa.specs.declared.Insn.{Insn}
