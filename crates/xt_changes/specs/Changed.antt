@@ -1,4 +1,4 @@
--- Memory as the bytes that differ from another memory.
+-- Memory as the bytes that differ from another memory ('profile').
 use Rattle.std.specs.Prelude.{ℕ, suc, ◌<◌, ◌==◌, nat_lt, if◌then◌else◌, List, [], ◌∷◌}
 use Rattle.xt_map.specs.declared.contents.MemoryContents.{MemoryContents}
 use Rattle.xt_map.specs.Memory.{with_byte}
