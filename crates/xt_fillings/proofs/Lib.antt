@@ -2,6 +2,8 @@ pub mod Whole
 pub mod Numbered
 pub mod Replied
 pub mod Words
+pub mod OwbRows
+pub mod OwbControl
 pub mod Outside
 pub mod Within
 pub mod FilledSteps
