@@ -4,6 +4,7 @@ pub mod Replied
 pub mod Words
 pub mod OwbRows
 pub mod OwbControl
+pub mod OwbSteps
 pub mod Outside
 pub mod Within
 pub mod FilledSteps
