@@ -37,7 +37,7 @@ near_equal c d h = record {
 }
 
 -- ---- an effect
-flow_owb : (flow : Flow) (len : ℕ) (c : Control) (o : ℕ) → with_owb o (after_flow flow len c) ≡ after_flow flow len (with_owb o c)
+pub flow_owb : (flow : Flow) (len : ℕ) (c : Control) (o : ℕ) → with_owb o (after_flow flow len c) ≡ after_flow flow len (with_owb o c)
 flow_owb (Goes target) len c o = refl
 flow_owb Falls len c o = by_test _ _ _
   where
@@ -63,7 +63,7 @@ pub done_near : (m : ℕ) (d e : Effect) → EffectsNear m d e → (len w : ℕ)
 done_near m d e n len w c = near_equal (ticked (after_effect d len c)) (ticked (after_effect e len (with_owb w c))) (λ z. ap ticked (effect_near m d e n len w c z))
 
 -- ---- an exception
-raised_owb : (cause : ℕ) (addr : Option ℕ) (c : Control) (o : ℕ) → with_owb o (after_exception cause addr c) ≡ after_exception cause addr (with_owb o c)
+pub raised_owb : (cause : ℕ) (addr : Option ℕ) (c : Control) (o : ℕ) → with_owb o (after_exception cause addr c) ≡ after_exception cause addr (with_owb o c)
 unfolding after_exception
 raised_owb cause addr c o = by_mode c.ps.excm
   where
