@@ -5,6 +5,7 @@ pub mod Words
 pub mod OwbRows
 pub mod OwbControl
 pub mod OwbSteps
+pub mod OwbUses
 pub mod Outside
 pub mod Within
 pub mod FilledSteps

@@ -37,6 +37,7 @@ use Rattle.xt_rows.specs.declared.outcome.WindowStep.{WindowStep}
 use Rattle.xt_rows.specs.declared.outcome.WindowStep.TheVariants.{Enters, Returns, Reads, Sets, Exchanges, EndsOverflow, EndsUnderflow, Rotates, MovesStack}
 use Rattle.xt_rows.specs.Outcomes.{outcome_at}
 use Rattle.xt_rows.specs.Settling.{after_flow, settled, settled_interrupt, settled_wait, written}
+use Rattle.xt_frames.specs.declared.holes.Nested.{Nested}
 use Rattle.xt_frames.specs.Frames.{Frame, FrameState, known, seen_after_write}
 use Rattle.xt_frames.specs.FrameStep.{FrameTurn, done_in_frame, fetched_step, in_frame, laid_step, popped, popped_from, pushed, raised, windowed_in_frame}
 use Rattle.xt_frames.proofs.StackSteps.{step_fetches, step_taken, step_waits}
@@ -179,12 +180,13 @@ pub data SeenNear (m : ℕ) (o : Option Insn) (a b : Option RegWrite) (xs ys : L
   Alike : a ≡ b → xs ≡ ys → SeenNear m o a b xs ys
   Shown : (i : Insn) (n v w : ℕ) (old : List (Option ℕ)) → o ≡ Some i → a ≡ Some (record { reg = n; value = v }) → b ≡ Some (record { reg = n; value = w }) → xs ≡ set old n (Some v) → ys ≡ set old n (Some w) → AgreeIn m v w → SeenNear m o a b xs ys
 
-pub record StepsNear (m : ℕ) (at : Fetched) (u v : FrameTurn) : Type 0 where
+pub record StepsNear (n : Option Nested) (m : ℕ) (at : Fetched) (u v : FrameTurn) : Type 0 where
   pub kind : u.kind ≡ v.kind
   pub access : u.access ≡ v.access
   pub frames : u.after.frames ≡ v.after.frames
   pub unset : u.after.unset ≡ v.after.unset
-  pub nested : u.after.nested ≡ v.after.nested
+  pub first : u.after.nested ≡ n
+  pub nested : v.after.nested ≡ n
   pub control : ControlNear u.after.control v.after.control
   pub seen : SeenNear m (executed u.kind at) u.write v.write u.after.seen v.after.seen
 
@@ -192,33 +194,33 @@ abbrev pub told : ℕ → FrameState → FrameState
 told w g = record g { control = with_owb w g.control }
 
 module _ (m : ℕ) (at : Fetched) (w : ℕ) (g : FrameState) where
-  raised_steps : (cause : ℕ) (addr : Option ℕ) → StepsNear m at (raised cause addr g) (raised cause addr (told w g))
-  raised_steps cause addr = record { kind = refl; access = refl; frames = refl; unset = refl; nested = refl; control = raised_near cause addr w g.control; seen = Alike refl refl }
+  raised_steps : (cause : ℕ) (addr : Option ℕ) → StepsNear g.nested m at (raised cause addr g) (raised cause addr (told w g))
+  raised_steps cause addr = record { kind = refl; access = refl; frames = refl; unset = refl; first = refl; nested = refl; control = raised_near cause addr w g.control; seen = Alike refl refl }
 
-  steps_if : (b : Bool) (x y u v : FrameTurn) → StepsNear m at x u → StepsNear m at y v → StepsNear m at (cond b x y) (cond b u v)
+  steps_if : (b : Bool) (x y u v : FrameTurn) → StepsNear g.nested m at x u → StepsNear g.nested m at y v → StepsNear g.nested m at (cond b x y) (cond b u v)
   steps_if true x y u v h k = h
   steps_if false x y u v h k = k
 
-  pushed_steps : (number value len : ℕ) → StepsNear m at (pushed number value len g) (pushed number value len (told w g))
+  pushed_steps : (number value len : ℕ) → StepsNear g.nested m at (pushed number value len g) (pushed number value len (told w g))
   unfolding pushed
   pushed_steps number value len = record {
     kind = refl;
     access = refl;
     frames = refl;
     unset = refl;
-    nested = refl;
+    first = refl; nested = refl;
     control = near_equal (ticked (after_flow Falls len g.control)) (ticked (after_flow Falls len (with_owb w g.control))) (λ z. ap ticked (flow_owb Falls len g.control z ∙ sym (flow_owb Falls len (with_owb w g.control) z)));
     seen = Alike refl refl;
   }
 
-  popped_steps : (frames : List Frame) (a0 : ℕ) → StepsNear m at (popped_from frames a0 g) (popped_from frames a0 (told w g))
+  popped_steps : (frames : List Frame) (a0 : ℕ) → StepsNear g.nested m at (popped_from frames a0 g) (popped_from frames a0 (told w g))
   popped_steps [] a0 = raised_steps 0 None
-  popped_steps (f ∷ rest) a0 = record { kind = refl; access = refl; frames = refl; unset = refl; nested = refl; control = near_equal _ _ (λ z. refl); seen = Alike refl refl }
+  popped_steps (f ∷ rest) a0 = record { kind = refl; access = refl; frames = refl; unset = refl; first = refl; nested = refl; control = near_equal _ _ (λ z. refl); seen = Alike refl refl }
 
-  stays : (step : WindowStep) (len reply : ℕ) → StepsNear m at (in_frame (settled (Windowed step) len g.control) reply g) (in_frame (settled (Windowed step) len (with_owb w g.control)) reply (told w g))
-  stays step len reply = record { kind = refl; access = refl; frames = refl; unset = refl; nested = refl; control = waited_near w g.control; seen = Alike refl refl }
+  stays : (step : WindowStep) (len reply : ℕ) → StepsNear g.nested m at (in_frame (settled (Windowed step) len g.control) reply g) (in_frame (settled (Windowed step) len (with_owb w g.control)) reply (told w g))
+  stays step len reply = record { kind = refl; access = refl; frames = refl; unset = refl; first = refl; nested = refl; control = waited_near w g.control; seen = Alike refl refl }
 
-  windowed_steps : (step : WindowStep) (len reply : ℕ) → StepsNear m at (windowed_in_frame step len reply g) (windowed_in_frame step len reply (told w g))
+  windowed_steps : (step : WindowStep) (len reply : ℕ) → StepsNear g.nested m at (windowed_in_frame step len reply g) (windowed_in_frame step len reply (told w g))
   unfolding popped
   windowed_steps (Enters number value) len reply = steps_if g.control.ps.excm _ _ _ _ (raised_steps 0 None) (pushed_steps number value len)
   windowed_steps (Returns a0) len reply = steps_if g.control.ps.excm _ _ _ _ (raised_steps 0 None) (popped_steps g.frames a0)
@@ -239,22 +241,22 @@ written_near m i o e (Some a) None seen h = absurd h
 
 module _ (m : ℕ) (i : Insn) (len w : ℕ) (g : FrameState) where
   abbrev Near : Outcome → Outcome → ℕ → Type 0
-  Near o p reply = StepsNear m (Fetches i len) (done_in_frame o len reply g) (done_in_frame p len reply (told w g))
+  Near o p reply = StepsNear g.nested m (Fetches i len) (done_in_frame o len reply g) (done_in_frame p len reply (told w g))
 
   pub done_steps : (o p : Outcome) (reply : ℕ) → OutcomesNear m o p → Near o p reply
   unfolding executed
-  done_steps (Does d) (Does e) reply h = record { kind = refl; access = refl; frames = refl; unset = refl; nested = refl; control = done_near m d e h len w g.control; seen = written_near m i (Some i) refl d.write e.write g.seen h.write }
+  done_steps (Does d) (Does e) reply h = record { kind = refl; access = refl; frames = refl; unset = refl; first = refl; nested = refl; control = done_near m d e h len w g.control; seen = written_near m i (Some i) refl d.write e.write g.seen h.write }
   done_steps (Asks a x d) (Asks b y e) reply h = record {
     kind = refl;
     access = ap (λ (z : Access). Some z) h.0;
     frames = refl;
     unset = refl;
-    nested = refl;
+    first = refl; nested = refl;
     control = done_near m d e h.1.1 len w g.control;
     seen = Alike (ap (λ z. written None z reply) h.1.0) (ap (λ z. seen_after_write (written None z reply) g.seen) h.1.0);
   }
   done_steps (Raises cause addr) p reply h = subst (λ z. Near (Raises cause addr) z reply) h (raised_steps m (Fetches i len) w g cause addr)
-  done_steps Stops p reply h = subst (λ z. Near Stops z reply) h (record { kind = refl; access = refl; frames = refl; unset = refl; nested = refl; control = waited_near w g.control; seen = Alike refl refl })
+  done_steps Stops p reply h = subst (λ z. Near Stops z reply) h (record { kind = refl; access = refl; frames = refl; unset = refl; first = refl; nested = refl; control = waited_near w g.control; seen = Alike refl refl })
   done_steps (Windowed step) p reply h = subst (λ z. Near (Windowed step) z reply) h (windowed_steps m (Fetches i len) w g step len reply)
   done_steps (Does d) (Raises a b) reply h = absurd cc
   done_steps (Does d) (Asks a b e) reply h = absurd cc
@@ -270,7 +272,7 @@ module _ (m : ℕ) (code : ℕ → ℕ) (reply w : ℕ) (g : FrameState) (is : I
   abbrev here : Fetched
   here = fetched code g.control.pc
 
-  fetched_near : (at : Fetched) → here ≡ at → StepsNear m at (fetched_step at code reply g) (fetched_step at code reply (told w g))
+  fetched_near : (at : Fetched) → here ≡ at → StepsNear g.nested m at (fetched_step at code reply g) (fetched_step at code reply (told w g))
   fetched_near (Fails addr) e = raised_steps m (Fails addr) w g 2 (Some addr)
   fetched_near SpellsNothing e = raised_steps m SpellsNothing w g 0 None
   fetched_near (Fetches i len) e =
@@ -278,23 +280,23 @@ module _ (m : ℕ) (code : ℕ → ℕ) (reply w : ℕ) (g : FrameState) (is : I
       (rows_near m code i g.control.pc _ _ _ _ g.control.ps (record g.control.ps { owb = w }) g.control.threadptr (λ z. refl)
       (λ shows. subst (λ k. AgreeIn k (ps_word g.control.ps) (ps_word (record g.control.ps { owb = w }))) (sym (shown i len e shows)) (words_near g.control.ps w is small)))
 
-  pub laid_near : StepsNear m here (laid_step code reply g) (laid_step code reply (told w g))
+  pub laid_near : StepsNear g.nested m here (laid_step code reply g) (laid_step code reply (told w g))
   laid_near = by_pending (ltb 0 (pending_of g.control)) refl
     where
       same : pending_of (told w g).control ≡ pending_of g.control
       same = pending_same w g.control
 
-      both : (x y : FrameTurn) → laid_step code reply g ≡ x → laid_step code reply (told w g) ≡ y → StepsNear m here x y → StepsNear m here (laid_step code reply g) (laid_step code reply (told w g))
-      both x y e f n = subst (λ z. StepsNear m here z (laid_step code reply (told w g))) (sym e) (subst (StepsNear m here x) (sym f) n)
+      both : (x y : FrameTurn) → laid_step code reply g ≡ x → laid_step code reply (told w g) ≡ y → StepsNear g.nested m here x y → StepsNear g.nested m here (laid_step code reply g) (laid_step code reply (told w g))
+      both x y e f n = subst (λ z. StepsNear g.nested m here z (laid_step code reply (told w g))) (sym e) (subst (StepsNear g.nested m here x) (sym f) n)
 
-      by_waits : (b : Bool) → g.control.waits ≡ b → ltb 0 (pending_of g.control) ≡ false → StepsNear m here (laid_step code reply g) (laid_step code reply (told w g))
+      by_waits : (b : Bool) → g.control.waits ≡ b → ltb 0 (pending_of g.control) ≡ false → StepsNear g.nested m here (laid_step code reply g) (laid_step code reply (told w g))
       by_waits true waits none =
           both (in_frame (settled_wait g.control) reply g) (in_frame (settled_wait (with_owb w g.control)) reply (told w g)) (step_waits code reply g none waits) (step_waits code reply (told w g) (ap (λ n. ltb 0 n) same ∙ none) waits)
-          (record { kind = refl; access = refl; frames = refl; unset = refl; nested = refl; control = waited_near w g.control; seen = Alike refl refl })
+          (record { kind = refl; access = refl; frames = refl; unset = refl; first = refl; nested = refl; control = waited_near w g.control; seen = Alike refl refl })
       by_waits false runs none =
           both (fetched_step here code reply g) (fetched_step here code reply (told w g)) (step_fetches code reply g none runs) (step_fetches code reply (told w g) (ap (λ n. ltb 0 n) same ∙ none) runs) (fetched_near here refl)
 
-      by_pending : (b : Bool) → ltb 0 (pending_of g.control) ≡ b → StepsNear m here (laid_step code reply g) (laid_step code reply (told w g))
+      by_pending : (b : Bool) → ltb 0 (pending_of g.control) ≡ b → StepsNear g.nested m here (laid_step code reply g) (laid_step code reply (told w g))
       by_pending true pends =
           both (in_frame (settled_interrupt (pending_of g.control) g.control) reply g) (in_frame (settled_interrupt (pending_of g.control) (with_owb w g.control)) reply (told w g))
           (step_taken code reply g pends)
@@ -304,7 +306,7 @@ module _ (m : ℕ) (code : ℕ → ℕ) (reply w : ℕ) (g : FrameState) (is : I
             access = refl;
             frames = refl;
             unset = refl;
-            nested = refl;
+            first = refl; nested = refl;
             control = interrupt_near (pending_of g.control) w g.control (ltb-true 0 (pending_of g.control) pends) (level_small (special_of g.control number.interrupt) (special_of g.control number.intenable) g.control.ps) is small;
             seen = Alike refl refl;
           })
