@@ -6,6 +6,7 @@ pub mod OwbRows
 pub mod OwbControl
 pub mod OwbSteps
 pub mod OwbUses
+pub mod OwbPlain
 pub mod Outside
 pub mod Within
 pub mod FilledSteps
