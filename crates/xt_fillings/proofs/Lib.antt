@@ -7,6 +7,7 @@ pub mod OwbControl
 pub mod OwbSteps
 pub mod OwbUses
 pub mod OwbPlain
+pub mod OwbNested
 pub mod Outside
 pub mod Within
 pub mod FilledSteps

@@ -106,7 +106,7 @@ follows_near {t = t} {s = s} {u = u} strict n f = record {
 }
 
 -- ---- the words that an instruction reads
-visible_same : (s : UseState) (w : ℕ) (h : FrameState) (o : Option ℕ) → visible_word s h o ≡ visible_word s (told w h) o
+pub visible_same : (s : UseState) (w : ℕ) (h : FrameState) (o : Option ℕ) → visible_word s h o ≡ visible_word s (told w h) o
 visible_same s w h None = refl
 visible_same s w h (Some n) = refl
 
@@ -130,7 +130,7 @@ cut_got m n v w old h = ⊎_elim
     (λ past. ap (cut_number m) (get_or_past (set old n (Some v)) n None (let l = length-set old n (Some v) in omega (arith, l, past)) ∙ sym (get_or_past (set old n (Some w)) n None (let l = length-set old n (Some w) in omega (arith, l, past)))))
     (cases_lt n (length old))
 
-abbrev At : ℕ → ℕ → Option RegWrite
+abbrev pub At : ℕ → ℕ → Option RegWrite
 At n v = Some (record { reg = n; value = v })
 
 pub seen_cut : (m : ℕ) (i : Insn) (a b : Option RegWrite) (xs ys : List (Option ℕ)) → SeenNear m (Some i) a b xs ys → cut_seen m a xs ≡ cut_seen m b ys
@@ -162,7 +162,7 @@ cut_plain : (m : ℕ) (a : Option RegWrite) (f : FrameState) → f.nested ≡ No
 cut_plain m a f none = ap (λ o. cut_state m a o f) none
 
 module _ (k w : ℕ) (s : UseState) (h : FrameState) where
-  masks_near : (i : Insn) (a b : Option RegWrite) (xs ys : List (Option ℕ)) → SeenNear (mask_of i k s h) (Some i) a b xs ys → (u v : FrameTurn) → u.write ≡ a → v.write ≡ b → masks_past i (mask_of i k s h) s h u ≡ masks_past i (mask_of i k s (told w h)) s (told w h) v
+  pub masks_near : (i : Insn) (a b : Option RegWrite) (xs ys : List (Option ℕ)) → SeenNear (mask_of i k s h) (Some i) a b xs ys → (u v : FrameTurn) → u.write ≡ a → v.write ≡ b → masks_past i (mask_of i k s h) s h u ≡ masks_past i (mask_of i k s (told w h)) s (told w h) v
   masks_near i a b xs ys n u v ea eb =
       let rest : ℕ → Masks = λ x. pointer_written i x (special_written (moved_to i) x (frames_moved i h.control.ps.callinc s.masks)) in
       let x : ℕ = (first_word i s h).mask in
