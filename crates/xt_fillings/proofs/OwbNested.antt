@@ -164,3 +164,56 @@ module _ (k w : ℕ) (s : UseState) (h : FrameState) (y : Nested) (value : ℕ) 
       ends_some =
           insn_in i (ends u) (ends v) u.after.seen v.after.seen n.kind n.access seen
           (record { seen = kept_cut (mask_of i k s h) (Some i) u.write v.write u.after.seen v.after.seen s.frame.seen seen; frames = refl; unset = n.unset; control = control; nested = tt })
+
+-- ---- the step as a whole
+module _ (code : ℕ → ℕ) (rec : StepRecord) (w : ℕ) (kb : ℕ → ℕ) (s : UseState) (strict : s.masks.discipline ≡ Strict) (y : Nested) (sy : s.frame.nested ≡ Some y) where
+  abbrev rec2 : StepRecord
+  rec2 = record rec { owb = w }
+
+  abbrev h : FrameState
+  h = laid (inputs_of rec) (inside y s.frame)
+
+  abbrev k : ℕ
+  k = reply_mask kb rec.access
+
+  abbrev at : Fetched
+  at = fetched code h.control.pc
+
+  abbrev u : FrameTurn
+  u = laid_step code rec.reply h
+
+  abbrev v : FrameTurn
+  v = laid_step code rec.reply (told (w % 16) h)
+
+  abbrev value : ℕ
+  value = value_in rec.write
+
+  module _ (is : IsPs h.control.ps) (small : w % 16 < 16) where
+    steps : StepsNear s.frame.nested (mask_for k s h at) at u v
+    steps = laid_near (mask_for k s h at) code rec.reply (w % 16) h is small (λ i len e shows. ap (mask_for k s h) e ∙ shown_mask i k s h strict shows)
+
+    turns_in : (o : Option Insn) → executed u.kind at ≡ o → (here : Fetched) → at ≡ here → UsesNear (use_turn o k s h (nested_fetched here value y s.frame u)) (use_turn o k s (told (w % 16) h) (nested_fetched here value y s.frame v))
+    turns_in None q (Fails a) e = others k (w % 16) s h y value u v (mask_for k s h at) at steps q
+    turns_in None q SpellsNothing e = others k (w % 16) s h y value u v (mask_for k s h at) at steps q
+    turns_in (Some i) q (Fails a) e = let z = sym q ∙ (ap (executed u.kind) e ∙ executed_fails u.kind a) in absurd cc
+    turns_in (Some i) q SpellsNothing e = let z = sym q ∙ (ap (executed u.kind) e ∙ executed_nothing u.kind) in absurd cc
+    turns_in None q (Fetches j len) e = by (ends_nested j)
+      where
+        by : (b : Bool) → UsesNear (other_turn s.masks (cond b (ends k (w % 16) s h y value u v (mask_for k s h at) at steps u) (goes k (w % 16) s h y value u v (mask_for k s h at) at steps j u))) (other_turn s.masks (cond b (ends k (w % 16) s h y value u v (mask_for k s h at) at steps v) (goes k (w % 16) s h y value u v (mask_for k s h at) at steps j v)))
+        by true = ends_none k (w % 16) s h y value u v (mask_for k s h at) at steps q
+        by false = goes_none k (w % 16) s h y value u v (mask_for k s h at) at steps j q
+    turns_in (Some i) q (Fetches j len) e = by (ends_nested j)
+      where
+        by : (b : Bool)
+            → UsesNear (insn_turn i k s h (cond b (ends k (w % 16) s h y value u v (mask_for k s h at) at steps u) (goes k (w % 16) s h y value u v (mask_for k s h at) at steps j u)))
+            (insn_turn i k s (told (w % 16) h) (cond b (ends k (w % 16) s h y value u v (mask_for k s h at) at steps v) (goes k (w % 16) s h y value u v (mask_for k s h at) at steps j v)))
+        by true = ends_some k (w % 16) s h y value u v (mask_for k s h at) at steps i q (executed_mask k s h u.kind at i q)
+        by false = goes_some k (w % 16) s h y value u v (mask_for k s h at) at steps i q (executed_mask k s h u.kind at i q) j
+
+    pub inside_near : UsesNear (full_step code true rec kb s) (full_step code true rec2 kb s)
+    inside_near =
+        let n : UsesNear (use_turn (executed u.kind at) k s h (nested_fetched at value y s.frame u)) (use_turn (executed u.kind at) k s (told (w % 16) h) (nested_fetched at value y s.frame v)) = turns_in (executed u.kind at) refl at refl in
+        let a : full_step code true rec kb s ≡ use_turn (executed u.kind at) k s h (nested_fetched at value y s.frame u) = use_inside code rec kb s y sy ∙ ap (λ z. use_turn (executed z at) k s h (nested_fetched at value y s.frame u)) (kind_inside at value y s.frame u) in
+        let b : full_step code true rec2 kb s ≡ use_turn (executed u.kind at) k s (told (w % 16) h) (nested_fetched at value y s.frame v) =
+        use_inside code rec2 kb s y sy ∙ ap (λ z. use_turn (executed z at) k s (told (w % 16) h) (nested_fetched at value y s.frame v)) (kind_inside at value y s.frame v ∙ sym steps.kind) in
+        subst (λ z. UsesNear z (full_step code true rec2 kb s)) (sym a) (subst (UsesNear (use_turn (executed u.kind at) k s h (nested_fetched at value y s.frame u))) (sym b) n)
