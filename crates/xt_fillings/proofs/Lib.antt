@@ -8,6 +8,7 @@ pub mod OwbSteps
 pub mod OwbUses
 pub mod OwbPlain
 pub mod OwbNested
+pub mod OwbTests
 pub mod Outside
 pub mod Within
 pub mod FilledSteps
