@@ -208,7 +208,8 @@ module _ (m : ℕ) (at : Fetched) (w : ℕ) (g : FrameState) where
     access = refl;
     frames = refl;
     unset = refl;
-    first = refl; nested = refl;
+    first = refl;
+    nested = refl;
     control = near_equal (ticked (after_flow Falls len g.control)) (ticked (after_flow Falls len (with_owb w g.control))) (λ z. ap ticked (flow_owb Falls len g.control z ∙ sym (flow_owb Falls len (with_owb w g.control) z)));
     seen = Alike refl refl;
   }
@@ -251,7 +252,8 @@ module _ (m : ℕ) (i : Insn) (len w : ℕ) (g : FrameState) where
     access = ap (λ (z : Access). Some z) h.0;
     frames = refl;
     unset = refl;
-    first = refl; nested = refl;
+    first = refl;
+    nested = refl;
     control = done_near m d e h.1.1 len w g.control;
     seen = Alike (ap (λ z. written None z reply) h.1.0) (ap (λ z. seen_after_write (written None z reply) g.seen) h.1.0);
   }
@@ -306,7 +308,8 @@ module _ (m : ℕ) (code : ℕ → ℕ) (reply w : ℕ) (g : FrameState) (is : I
             access = refl;
             frames = refl;
             unset = refl;
-            first = refl; nested = refl;
+            first = refl;
+            nested = refl;
             control = interrupt_near (pending_of g.control) w g.control (ltb-true 0 (pending_of g.control) pends) (level_small (special_of g.control number.interrupt) (special_of g.control number.intenable) g.control.ps) is small;
             seen = Alike refl refl;
           })

@@ -22,6 +22,7 @@ use Rattle.xt_frames.specs.Breaches.{Bounds, breaks_nested, first_shown, insn_te
 use Rattle.xt_uses.specs.UseBreaches.{breaks_stack, fetched_uses, laid_use, uses_unknown}
 use Rattle.xt_uses.specs.UseState.{UseState, first_word, second_word}
 use Rattle.xt_fillings.proofs.OwbSteps.{Alike, SeenNear, Shown, StepsNear, told}
+use Rattle.xt_uses.specs.UseStep.{executed}
 use Rattle.xt_fillings.proofs.OwbUses.{visible_same}
 
 module _ (w : ℕ) (h : FrameState) where
@@ -63,3 +64,34 @@ vectors_same b n = ap (λ z. not (eqb z b.vecbase)) ((n.control.even 0).special.
 nested_same : {n : Option Nested} {m : ℕ} {at : Fetched} {u v : FrameTurn} (o : Option Nested) (i : Insn) → StepsNear n m at u v → breaks_nested o i u ≡ breaks_nested o i v
 nested_same None i n = refl
 nested_same {u = u} (Some x) i n = ap (λ k. breaks_nested (Some x) i (record u { kind = k })) n.kind
+
+module _ (b : Bounds) (fresh : Bool) (live : ℕ → Bool) (kb : ℕ → ℕ) (rec : StepRecord) (w o : ℕ) (s : UseState) (h : FrameState) where
+  abbrev rec2 : StepRecord
+  rec2 = record rec { owb = o }
+
+  uses_same : (i : Insn) → uses_unknown i s h ≡ uses_unknown i s (told w h)
+  uses_same i =
+      let x = visible_same s w h (reads i).0 in
+      let y = visible_same s w h (reads i).1 in
+      rw (x, y) refl
+
+  module _ (u v : FrameTurn) (m : ℕ) (at : Fetched) (n : StepsNear h.nested m at u v) where
+    shown_same : (here : Fetched) → first_shown (fetched_uses b fresh live kb here rec s h u) ≡ first_shown (fetched_uses b fresh live kb here rec2 s (told w h) v)
+    shown_same (Fetches i len) =
+        let a = uses_same i in
+        let c = breaks_same w h b.range i rec.kind in
+        let d = size_same w h b.range i in
+        let e = range_same w h b.range i in
+        let f = align_same w h i in
+        let g = opens_same w h i in
+        let j = sp_same m (executed u.kind at) u.write v.write u.after.seen v.after.seen n.seen in
+        let k = woe_same n in
+        let l = vectors_same b n in
+        let p = nested_same h.nested i n in
+        rw (a, c, d, e, f, g, j, k, l, p) refl
+    shown_same (Fails addr) = let k = woe_same n in let l = vectors_same b n in rw (k, l) refl
+    shown_same SpellsNothing = let k = woe_same n in let l = vectors_same b n in rw (k, l) refl
+
+  pub laid_same : (code : ℕ → ℕ) (m : ℕ) → StepsNear h.nested m (fetched code h.control.pc) (laid_step code rec.reply h) (laid_step code rec.reply (told w h)) → laid_use b fresh code live kb rec s h ≡ laid_use b fresh code live kb rec2 s (told w h)
+  unfolding laid_use pending_level
+  laid_same code m n = ap (λ z. cond (ltb 0 (pending_of h.control) || h.control.waits) (first_shown (vector_test b h ∷ [])) z) (shown_same (laid_step code rec.reply h) (laid_step code rec.reply (told w h)) m (fetched code h.control.pc) n (fetched code h.control.pc))
