@@ -1,8 +1,7 @@
 -- Control states that are equal but for OWB: what an effect, an exception, an interrupt and a tick do to them.
-use Rattle.std.specs.Int.{bit_at}
-use Rattle.std.proofs.Common.{◌≡◌, ℕ, ◌+◌, ◌-◌, ◌*◌, ◌/◌, ◌%◌, ◌^◌, ◌<◌, ◌≤◌, ◌≢◌, ◌⊎◌, inl, inr, Bool, true, false, eqb, leb, List, Option, sym, ap, ◌∙◌, refl, arith, ⊎_elim, subst, get_or, cond}
+use Rattle.std.proofs.Common.{◌≡◌, ℕ, ◌-◌, Bool, true, false, List, Option, sym, ap, ◌∙◌, refl, arith, ⊎_elim, subst, cond}
 use Rattle.std.proofs.Math.ListN.{set}
-use Rattle.std.proofs.lemmas.Bool.{cases_lt, or_from, or_parts}
+use Rattle.std.proofs.lemmas.Bool.{or_parts}
 use Rattle.xt_special.specs.declared.ps.Ps.{Ps}
 use Rattle.xt_special.specs.Access.{SpecialWrites, is_eps, with_sets}
 use Rattle.xt_special.specs.Control.{Control, special_of}
@@ -18,7 +17,7 @@ use Rattle.xt_uses.specs.declared.discipline.Discipline.TheVariants.{Strict}
 use Rattle.xt_uses.specs.Words.{cut}
 use Rattle.xt_uses.specs.Used.{counted_bits}
 use Rattle.xt_uses.specs.UseLaws.{AgreeIn}
-use Rattle.xt_use_run.specs.Knowing.{ControlLeft, is_partial, with_owb, with_pointer}
+use Rattle.xt_use_run.specs.Knowing.{ControlLeft, with_owb}
 use Rattle.xt_use_run.proofs.Specials.{eps_lost, eps_range, mark_range}
 use Rattle.xt_fillings.proofs.OwbRows.{EffectsNear}
 

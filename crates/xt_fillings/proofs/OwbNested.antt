@@ -1,6 +1,5 @@
 -- The machine of uses over two records that differ in OWB alone: a step in a nested interrupt.
-use Rattle.std.proofs.Common.{◌≡◌, ℕ, ◌%◌, ◌<◌, Bool, true, false, List, Option, Some, None, sym, ap, ◌∙◌, refl, arith, subst, cond, get_or}
-use Rattle.std.proofs.Math.ListN.{set}
+use Rattle.std.proofs.Common.{◌≡◌, ℕ, ◌%◌, ◌<◌, Bool, true, false, List, Option, Some, None, sym, ap, ◌∙◌, refl, subst, cond}
 use Rattle.std.proofs.lemmas.List.{set-set}
 use Rattle.xt_isa.specs.declared.Insn.{Insn}
 use Rattle.xt_special.specs.declared.ps.Ps.{Ps}
@@ -11,23 +10,22 @@ use Rattle.xt_trace.specs.declared.record.StepKind.{StepKind}
 use Rattle.xt_trace.specs.declared.record.StepKind.TheVariants as step
 use Rattle.xt_trace.specs.declared.record.StepRecord.{StepRecord}
 use Rattle.xt_fetch.specs.Fetching.{Fetched, Fetches, Fails, SpellsNothing, fetched}
-use Rattle.xt_rows.specs.Kinds.{moved_to}
 use Rattle.xt_rows.specs.Operands.{reads}
 use Rattle.xt_frames.specs.declared.holes.Nested.{Nested}
 use Rattle.xt_frames.specs.Frames.{FrameState}
 use Rattle.xt_frames.specs.FrameStep.{FrameTurn, laid, laid_step}
 use Rattle.xt_frames.specs.Marks.{mark_read, marked_seen, marked_write, marks_after, unset_written}
-use Rattle.xt_frames.specs.Nesting.{ends_nested, inside, keeping, nested_after, nested_fetched, nested_insn, nested_other, nested_turn}
+use Rattle.xt_frames.specs.Nesting.{ends_nested, inside, keeping, nested_after, nested_fetched, nested_other}
 use Rattle.xt_frames.specs.Breaches.{inputs_of}
 use Rattle.xt_frames.specs.Judging.{value_in}
 use Rattle.xt_frames.proofs.Inside.{kind_inside}
 use Rattle.xt_uses.specs.declared.discipline.Discipline.TheVariants.{Strict}
 use Rattle.xt_uses.specs.UseState.{UseState}
-use Rattle.xt_uses.specs.UseStep.{UseTurn, cut_seen, cut_state, cut_write, executed, full_step, insn_turn, other_turn, reply_mask, use_turn}
+use Rattle.xt_uses.specs.UseStep.{cut_seen, cut_state, cut_write, executed, full_step, insn_turn, other_turn, reply_mask, use_turn}
 use Rattle.xt_use_run.proofs.NestedJudged.{use_inside}
 use Rattle.xt_fillings.proofs.OwbControl.{ControlNear}
 use Rattle.xt_fillings.proofs.OwbSteps.{Alike, SeenNear, Shown, StepsNear, laid_near, told}
-use Rattle.xt_fillings.proofs.OwbUses.{At, FramesNear, InnerNear, UsesNear, mask_of, mask_same, masks_near, seen_cut, shown_mask, visible_same, write_cut}
+use Rattle.xt_fillings.proofs.OwbUses.{At, FramesNear, UsesNear, mask_of, mask_same, masks_near, seen_cut, shown_mask, visible_same, write_cut}
 use Rattle.xt_fillings.proofs.OwbPlain.{executed_mask, mask_for, placed_near}
 
 marked_near : (m : ℕ) (o : Option Insn) (a b : Option RegWrite) (xs ys : List (Option ℕ)) (mark : Option ℕ) (value : ℕ) → SeenNear m o a b xs ys → SeenNear m o (marked_write mark value a) (marked_write mark value b) (marked_seen mark a xs) (marked_seen mark b ys)

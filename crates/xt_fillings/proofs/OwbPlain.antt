@@ -14,22 +14,20 @@ use Rattle.xt_trace.specs.declared.record.StepKind.TheVariants as step
 use Rattle.xt_trace.specs.declared.record.StepRecord.{StepRecord}
 use Rattle.xt_fetch.specs.Fetching.{Fetched, Fetches, Fails, SpellsNothing, fetched}
 use Rattle.xt_rows.specs.Effects.{puts, unchanged}
-use Rattle.xt_frames.specs.declared.holes.Nested.{Nested}
 use Rattle.xt_frames.specs.Frames.{FrameState, known}
 use Rattle.xt_frames.specs.FrameStep.{FrameTurn, laid, laid_step}
-use Rattle.xt_frames.specs.Nesting.{begun, is_nesting, unset_after}
+use Rattle.xt_frames.specs.Nesting.{is_nesting, unset_after}
 use Rattle.xt_frames.specs.Breaches.{inputs_of}
 use Rattle.xt_uses.specs.declared.discipline.Discipline.TheVariants.{Strict}
 use Rattle.xt_uses.specs.UseState.{UseState}
-use Rattle.xt_uses.specs.UseStep.{UseTurn, executed, fetched_movsp, full_step, inner_unknown, movsp_of, other_turn, reply_mask, stack_moved, use_turn}
-use Rattle.xt_use_run.specs.Knowing.{with_owb}
+use Rattle.xt_uses.specs.UseStep.{UseTurn, executed, fetched_movsp, full_step, movsp_of, reply_mask, stack_moved}
 use Rattle.xt_use_run.proofs.Beginning.{use_begins}
 use Rattle.xt_use_run.proofs.Following.{with_unset}
 use Rattle.xt_use_run.proofs.MovspJudged.{use_moves}
 use Rattle.xt_use_run.proofs.PlainStep.{use_plain}
 use Rattle.xt_fillings.proofs.OwbControl.{ControlNear}
 use Rattle.xt_fillings.proofs.OwbSteps.{StepsNear, done_steps, interrupt_near, laid_near, told}
-use Rattle.xt_fillings.proofs.OwbUses.{FramesNear, UsesNear, mask_of, shown_mask, turns_near}
+use Rattle.xt_fillings.proofs.OwbUses.{UsesNear, mask_of, shown_mask, turns_near}
 
 unset_near : {m : ℕ} {at : Fetched} {u v : FrameTurn} (old : List Bool) → StepsNear None m at u v → StepsNear None m at (with_unset (unset_after u.kind at old) u) (with_unset (unset_after v.kind at old) v)
 unset_near {at = at} old n = record { kind = n.kind; access = n.access; frames = n.frames; unset = ap (λ k. unset_after k at old) n.kind; first = n.first; nested = n.nested; control = n.control; seen = n.seen }

@@ -66,19 +66,14 @@ use Rattle.xt_alu.specs.declared.conditions.Cond.TheVariants as cnd
 use Rattle.xt_bool.specs.Registers.{logic, group}
 use Rattle.xt_bool.specs.declared.BoolOp.TheVariants as op
 use Rattle.xt_special.specs.declared.ps.Ps.{Ps}
-use Rattle.xt_special.specs.Numbers as number
-use Rattle.xt_special.specs.Control.{special_of, ps_word, ps_of}
-use Rattle.xt_special.specs.Control as state
+use Rattle.xt_special.specs.Control.{ps_word, ps_of}
 use Rattle.xt_rows.specs.declared.outcome.Flow.TheVariants.{Goes}
 use Rattle.xt_rows.specs.declared.outcome.Effect.{Effect}
-use Rattle.xt_rows.specs.declared.outcome.WindowStep.TheVariants.{Enters, Returns, EndsOverflow}
-use Rattle.xt_rows.specs.declared.outcome.WindowStep.TheVariants.{EndsUnderflow, Rotates}
-use Rattle.xt_rows.specs.declared.outcome.WindowStep.TheVariants.{MovesStack}
 use Rattle.xt_rows.specs.declared.outcome.Outcome.{Outcome}
-use Rattle.xt_rows.specs.declared.outcome.Outcome.TheVariants.{Does, Raises, Stops, Windowed}
-use Rattle.xt_rows.specs.Numbers.{plus, minus, natural, branch_target, call_target, literal_address}
-use Rattle.xt_rows.specs.Operands.{call_size, callx_size, reads, special_reads}
-use Rattle.xt_rows.specs.Effects.{illegal_instruction, system_call, unchanged, write_to, puts}
+use Rattle.xt_rows.specs.declared.outcome.Outcome.TheVariants.{Does, Raises}
+use Rattle.xt_rows.specs.Numbers.{plus, natural, branch_target, call_target, literal_address}
+use Rattle.xt_rows.specs.Operands.{call_size, callx_size}
+use Rattle.xt_rows.specs.Effects.{unchanged, write_to, puts}
 use Rattle.xt_rows.specs.Effects.{moves, divides, goes, branches, calls, loops, loads}
 use Rattle.xt_rows.specs.Effects.{stores, swaps, window_register, reads_special, writes_special}
 use Rattle.xt_rows.specs.Effects.{exchanges_special, sets_special}

@@ -1,10 +1,9 @@
 -- A step over two inputs that differ in OWB alone.
 use Rattle.std.specs.Int.{bit_at}
-use Rattle.std.proofs.Common.{◌≡◌, ℕ, ◌+◌, ◌-◌, ◌*◌, ◌/◌, ◌%◌, ◌^◌, ◌<◌, ◌≤◌, ◌≢◌, ◌⊎◌, inl, inr, Bool, true, false, ◌||◌, ◌&&◌, ◌∷◌, [], ltb, eqb, List, Option, Some, None, sym, ap, ◌∙◌, refl, arith, ⊎_elim, subst, get_or, cond, length}
+use Rattle.std.proofs.Common.{◌≡◌, ℕ, ◌+◌, ◌-◌, ◌/◌, ◌%◌, ◌^◌, ◌<◌, ◌≤◌, ◌≢◌, ◌⊎◌, inl, inr, Bool, true, false, ◌&&◌, ◌∷◌, [], ltb, eqb, List, Option, Some, None, sym, ap, ◌∙◌, refl, arith, ⊎_elim, subst, get_or, cond, length}
 use Rattle.std.proofs.Math.ListN.{set}
-use Rattle.std.proofs.lemmas.Bool.{cases_Bool, cases_eq, cases_lt, eqb-true, ltb-true}
+use Rattle.std.proofs.lemmas.Bool.{cases_eq, cases_lt, ltb-true}
 use Rattle.std.proofs.lemmas.List.{get_or-set_other, length-set}
-use Rattle.std.proofs.lemmas.Nat.Bits.{bit_at_above}
 use Rattle.xt_isa.specs.declared.Insn.{Insn}
 use Rattle.xt_map.specs.declared.access.Access.{Access}
 use Rattle.xt_special.specs.declared.ps.Ps.{Ps}
@@ -19,7 +18,7 @@ use Rattle.xt_uses.specs.UseLaws.{AgreeIn}
 use Rattle.xt_uses.proofs.Agreeing.{agree_from}
 use Rattle.xt_uses.proofs.Bits.{bit_at_div, bit_at_rest}
 use Rattle.xt_use_run.specs.Knowing.{with_owb}
-use Rattle.std.proofs.lemmas.Bool.{or_right, false≢true, leb-true, le-leb, and_from, false_from_ne_true}
+use Rattle.std.proofs.lemmas.Bool.{or_right, false≢true, le-leb, and_from}
 use Rattle.std.proofs.lemmas.List.{get_or-set_same, get_or_past}
 use Rattle.xt_special.specs.Access.{is_eps}
 use Rattle.xt_special.specs.Exceptions.{after_exception}
@@ -28,8 +27,6 @@ use Rattle.xt_special.specs.Numbers as number
 use Rattle.xt_special.specs.Timers.{ticked}
 use Rattle.xt_exec.proofs.Specials.{level_small}
 use Rattle.xt_fetch.specs.Fetching.{Fetched, Fetches, Fails, SpellsNothing, fetched}
-use Rattle.xt_trace.specs.declared.record.StepKind.{StepKind}
-use Rattle.xt_rows.specs.declared.outcome.Effect.{Effect}
 use Rattle.xt_rows.specs.declared.outcome.Flow.TheVariants.{Falls}
 use Rattle.xt_rows.specs.declared.outcome.Outcome.{Outcome}
 use Rattle.xt_rows.specs.declared.outcome.Outcome.TheVariants.{Does, Raises, Asks, Stops, Windowed}
@@ -41,14 +38,13 @@ use Rattle.xt_frames.specs.declared.holes.Nested.{Nested}
 use Rattle.xt_frames.specs.Frames.{Frame, FrameState, known, seen_after_write}
 use Rattle.xt_frames.specs.FrameStep.{FrameTurn, done_in_frame, fetched_step, in_frame, laid_step, popped, popped_from, pushed, raised, windowed_in_frame}
 use Rattle.xt_frames.proofs.StackSteps.{step_fetches, step_taken, step_waits}
-use Rattle.xt_simulation.specs.Relation.{Even}
 use Rattle.xt_simulation.proofs.Evenly.{even_awake, even_ticked}
 use Rattle.xt_simulation.proofs.InnerSteps.{ticked_saved}
 use Rattle.xt_uses.specs.Words.{all_bits}
 use Rattle.xt_uses.specs.UseLaws.{WritesAgree}
 use Rattle.xt_uses.specs.UseStep.{executed}
 use Rattle.xt_use_run.proofs.Specials.{eps_lost, eps_saved}
-use Rattle.xt_fillings.proofs.OwbRows.{EffectsNear, OutcomesNear, rows_near, shows_owb_in}
+use Rattle.xt_fillings.proofs.OwbRows.{OutcomesNear, rows_near, shows_owb_in}
 use Rattle.xt_fillings.proofs.OwbControl.{ControlNear, done_near, flow_owb, near_equal, raised_near, raised_owb, waited_near}
 
 -- ---- two words of PS

@@ -1,12 +1,10 @@
 -- The tests of a step over two records that differ in OWB alone show the same breach.
-use Rattle.std.specs.Prelude.{is_some}
-use Rattle.std.proofs.Common.{◌≡◌, ℕ, ◌%◌, ◌||◌, not, ltb, eqb, Bool, true, false, List, [], ◌∷◌, Option, Some, None, sym, ap, ◌∙◌, refl, cond}
+use Rattle.std.proofs.Common.{◌≡◌, ℕ, ◌||◌, not, ltb, eqb, Bool, List, [], ◌∷◌, Option, Some, None, sym, ap, ◌∙◌, refl, cond}
 use Rattle.xt_isa.specs.declared.Insn.{Insn}
 use Rattle.xt_isa.specs.declared.Insn.TheVariants as insn
 use Rattle.xt_isa.specs.declared.shift.Shift.TheVariants as shift
 use Rattle.xt_isa.specs.declared.control.Control.TheVariants as control
 use Rattle.xt_special.specs.declared.ps.Ps.{Ps}
-use Rattle.xt_special.specs.Control.{special_of}
 use Rattle.xt_special.specs.Interrupts.{pending_level, pending_of}
 use Rattle.xt_trace.specs.declared.record.RegWrite.{RegWrite}
 use Rattle.xt_trace.specs.declared.record.StepKind.{StepKind}
@@ -14,13 +12,12 @@ use Rattle.xt_trace.specs.declared.record.StepRecord.{StepRecord}
 use Rattle.xt_fetch.specs.Fetching.{Fetched, Fetches, Fails, SpellsNothing, fetched}
 use Rattle.xt_rows.specs.Operands.{reads}
 use Rattle.xt_frames.specs.declared.holes.Nested.{Nested}
-use Rattle.xt_frames.specs.declared.kinds.BreachKind.{BreachKind}
 use Rattle.xt_frames.specs.Frames.{FrameState}
 use Rattle.xt_frames.specs.FrameStep.{FrameTurn, laid_step}
 use Rattle.xt_frames.specs.SaveAreas.{Range}
-use Rattle.xt_frames.specs.Breaches.{Bounds, breaks_nested, first_shown, insn_tests, is_sp, leaves_range, misaligns_sp, moves_vectors, opens_nothing, other_frame_size, other_tests, vector_test, writes_sp}
+use Rattle.xt_frames.specs.Breaches.{Bounds, breaks_nested, first_shown, is_sp, leaves_range, misaligns_sp, moves_vectors, opens_nothing, other_frame_size, vector_test}
 use Rattle.xt_uses.specs.UseBreaches.{breaks_stack, fetched_uses, laid_use, uses_unknown}
-use Rattle.xt_uses.specs.UseState.{UseState, first_word, second_word}
+use Rattle.xt_uses.specs.UseState.{UseState}
 use Rattle.xt_fillings.proofs.OwbSteps.{Alike, SeenNear, Shown, StepsNear, told}
 use Rattle.xt_uses.specs.UseStep.{executed}
 use Rattle.xt_fillings.proofs.OwbUses.{visible_same}

@@ -1,43 +1,33 @@
 -- Two steps of the machine of uses that are equal but for OWB: who follows the one follows the other.
 use Rattle.std.specs.Prelude.{is_some}
-use Rattle.std.proofs.Common.{◌≡◌, ℕ, ◌<◌, ◌≤◌, Bool, true, false, List, Option, Some, None, sym, ap, ◌∙◌, refl, arith, ⊎_elim, subst, get_or, cond, length}
+use Rattle.std.proofs.Common.{◌≡◌, ℕ, Bool, true, false, List, Option, Some, None, sym, ap, ◌∙◌, refl, arith, ⊎_elim, subst, get_or, length}
 use Rattle.std.proofs.Math.ListN.{set}
 use Rattle.std.proofs.lemmas.Bool.{cases_lt}
 use Rattle.std.proofs.lemmas.List.{get_or-set_same, get_or_past, length-set, set-set}
 use Rattle.xt_isa.specs.declared.Insn.{Insn}
-use Rattle.xt_map.specs.declared.access.Access.{Access}
 use Rattle.xt_special.specs.declared.ps.Ps.{Ps}
-use Rattle.xt_special.specs.Control.{Control, special_of}
 use Rattle.xt_trace.specs.declared.record.RegWrite.{RegWrite}
-use Rattle.xt_trace.specs.declared.record.StepKind.{StepKind}
 use Rattle.xt_fetch.specs.Fetching.{Fetched}
 use Rattle.xt_rows.specs.Kinds.{moved_to}
 use Rattle.xt_rows.specs.Operands.{reads, special_reads}
 use Rattle.xt_frames.specs.declared.holes.Nested.{Nested}
-use Rattle.xt_frames.specs.Frames.{Frame, FrameState, known}
+use Rattle.xt_frames.specs.Frames.{FrameState, known}
 use Rattle.xt_frames.specs.FrameStep.{FrameTurn}
-use Rattle.xt_frames.specs.Nesting.{unset_after}
-use Rattle.xt_uses.specs.declared.discipline.Discipline.{Discipline}
 use Rattle.xt_uses.specs.declared.discipline.Discipline.TheVariants.{Strict}
-use Rattle.xt_uses.specs.Words.{cut}
 use Rattle.std.proofs.lemmas.Bool.{eqb-true, false≢true}
 use Rattle.xt_isa.specs.declared.Insn.TheVariants as insn
 use Rattle.xt_isa.specs.declared.system.System.TheVariants as system
 use Rattle.xt_isa.specs.declared.system.LevelName.TheVariants as LevelName
 use Rattle.xt_isa.specs.declared.system.SpecialName.TheVariants as SpecialName
-use Rattle.xt_fetch.specs.Fetching.{Fetches, Fails, SpellsNothing, fetched}
-use Rattle.xt_special.specs.Shape.{IsPs}
-use Rattle.xt_frames.specs.FrameStep.{laid_step}
 use Rattle.xt_uses.specs.Used.{counted_bits}
 use Rattle.xt_uses.specs.Known.{system_mask}
 use Rattle.xt_uses.specs.UseState.{special_mask}
 use Rattle.xt_fillings.proofs.OwbRows.{shows_owb, shows_owb_in}
-use Rattle.xt_fillings.proofs.OwbSteps.{laid_near}
 use Rattle.xt_uses.specs.Known.{result_mask}
 use Rattle.xt_uses.specs.UseState.{Masks, UseState, first_word, second_word, special_operand, special_word, visible_word}
 use Rattle.xt_uses.specs.UseStep.{UseTurn, cut_number, cut_seen, cut_state, cut_write, executed, frames_moved, insn_turn, masks_past, other_turn, pointer_written, special_written, use_turn, visible_written}
 use Rattle.xt_uses.specs.UseLaws.{AccessFits, AgreeIn, IsSent, WriteFits}
-use Rattle.xt_use_run.specs.Knowing.{ControlLeft, Follows, FramesFit, InnerFit, Knows, NestedFit, SeenFit, UnsetFit, with_owb}
+use Rattle.xt_use_run.specs.Knowing.{ControlLeft, Follows, FramesFit, Knows, NestedFit, SeenFit, UnsetFit}
 use Rattle.xt_fillings.proofs.OwbControl.{ControlNear, known_near}
 use Rattle.xt_fillings.proofs.OwbSteps.{Alike, SeenNear, Shown, StepsNear, told}
 
