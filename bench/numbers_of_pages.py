@@ -140,7 +140,7 @@ PLACES = [
     (PROVED, "whole traces, # worked by hand", lambda: cases("case", "worked")),
     (PROVED, "worked by hand, # that run wild", lambda: cases("case", "wild")),
     (PROVED, "wild, # of two cores over schedules", lambda: cases("case", "schedules")),
-    (PROVED, "schedule; # that a C compiler made", lambda: cases("case", "programs")),
+    (PROVED, "over schedules; # that a C compiler made", lambda: cases("case", "programs")),
     (PROVED, "that a C compiler made, # of them on two threads", lambda: cases("threads", "programs")),
     (PROVED, "; # texts on two threads", lambda: cases("case", "threads")),
     (PROVED, "texts on two threads; #, and", lambda: cases("case", "verdicts")),
