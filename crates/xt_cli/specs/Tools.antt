@@ -50,7 +50,7 @@ limit_of job.Events = 201326592
 limit_of job.Counts = 201326592
 limit_of (job.Trace turns) = 201326592
 limit_of job.Race = 201326592
-limit_of job.Profile = 201326592
+limit_of (job.Profile depth) = 201326592
 limit_of (job.Uses d) = 201326592
 
 -- the status with which a command refuses a whole input, where it does: that of the input's first
@@ -67,7 +67,7 @@ refusal_of job.Events input = recording_refusal input
 refusal_of job.Counts input = recording_refusal input
 refusal_of (job.Trace turns) input = recording_refusal input
 refusal_of job.Race input = recording_refusal input
-refusal_of job.Profile input = recording_refusal input
+refusal_of (job.Profile depth) input = recording_refusal input
 refusal_of (job.Uses d) input = recording_refusal input
 
 -- what a script prints over the run that a recording holds
@@ -93,7 +93,7 @@ IsWritten job.Events input bytes = bytes ≡ happened input
 IsWritten job.Counts input bytes = IsCountsTold input bytes
 IsWritten (job.Trace turns) input bytes = bytes ≡ traced turns input
 IsWritten job.Race input bytes = IsRaceTold input bytes
-IsWritten job.Profile input bytes = bytes ≡ profiled input
+IsWritten (job.Profile depth) input bytes = bytes ≡ profiled depth input
 IsWritten (job.Uses d) input bytes = IsUsesTold d (image_in input) (run_in input) bytes
 
 -- the command does not refuse the input, and writes these bytes

@@ -46,8 +46,8 @@ pub enum Job {
     Trace(Turns),
     /// `race`: the first data race of a recorded run.
     Race,
-    /// `profile`: the call profile of a recorded run.
-    Profile,
+    /// `profile`: the call profile of a recorded run, with keys that are cut at this depth.
+    Profile(u32),
     /// `uses`: the first breach of a recorded run by this discipline of uses.
     Uses(Discipline),
 }
@@ -85,7 +85,7 @@ fn limit_of(job: &Job) -> usize
         | Job::Counts
         | Job::Trace(_)
         | Job::Race
-        | Job::Profile
+        | Job::Profile(_)
         | Job::Uses(_) => RECORDING_LIMIT,
     }
 }
@@ -124,7 +124,7 @@ fn make(alloc: Global, job: &Job, input: &[u8]) -> Result<Text, Status>
         Job::Events => events(alloc, input),
         Job::Counts => counts(alloc, input),
         Job::Race => race(alloc, input),
-        Job::Profile => profile(alloc, input),
+        Job::Profile(depth) => profile(alloc, *depth, input),
         Job::Uses(discipline) => uses(alloc, *discipline, input),
         Job::Trace(_) => unreachable!(),
         Job::Replay(_, _) => unreachable!(),

@@ -11,6 +11,7 @@ use Rattle.xt_command_line.specs.Arguments.{check_app, gen_app, generator_number
 use Rattle.xt_command_line.specs.Turns.{chosen, core_of, trace_app, turns_by, turns_of}
 use Rattle.xt_command_line.specs.Answers.{answer_with}
 use Rattle.xt_command_line.specs.declared.command.Rigor.TheVariants as rigor
+use Rattle.xt_command_line.specs.Depths.{depth_by, depth_of, judged_depth, profile_app}
 use Rattle.xt_command_line.specs.Listings.{dis_app, judged_openings, listing_by, listing_in, listing_of, openings_in}
 use Rattle.xt_command_line.specs.Meaning.{NeedsNoMemory, meaning_by, named, without_options}
 use Rattle.xt_command_line.specs.Numbers.{number_of}
@@ -100,6 +101,17 @@ rigor_by-answers (Some rows) = elim (is_set (first_of (codes "lenient") rows)) a
   | false ↦ λ e. search (rules, e)
 ]
 
+judged_depth-answers : (depth : Option ℕ) → judged_depth depth ≢ Err refusal.Memory
+judged_depth-answers None = λ e. search (rules, e)
+judged_depth-answers (Some d) = elim (nat_le 1 d && nat_le d 64) as (λ b. (if b then Ok d else Err (refusal.Usage 4)) ≢ Err refusal.Memory) [
+  | true ↦ λ e. search (rules, e)
+  | false ↦ λ e. search (rules, e)
+]
+
+depth_by-answers : (rows : Option (List Row)) → depth_by rows ≢ Err refusal.Memory
+depth_by-answers None = λ e. search (rules, e)
+depth_by-answers (Some rows) = judged_depth-answers (said_or number_of 8 (first_of (codes "depth") rows))
+
 answer_with-answers : {A B : Type 0} (make : A → B) (r : Result A Refusal) → r ≢ Err refusal.Memory → answer_with make r ≢ Err refusal.Memory
 answer_with-answers make (Ok o) no_memory = λ e. search (rules, e)
 answer_with-answers make (Err r) no_memory = λ e. no_memory (cc)
@@ -136,7 +148,7 @@ meaning_by-answers (Some name.Migrate) words = without_options-answers _ _
 meaning_by-answers (Some name.Events) words = without_options-answers _ _
 meaning_by-answers (Some name.Counts) words = without_options-answers _ _
 meaning_by-answers (Some name.Race) words = without_options-answers _ _
-meaning_by-answers (Some name.Profile) words = without_options-answers _ _
+meaning_by-answers (Some name.Profile) words = answer_with-answers command.Profile (depth_of words) (depth_by-answers (rows_by profile_app words))
 meaning_by-answers (Some name.Uses) words = answer_with-answers command.Uses (rigor_of words) (rigor_by-answers (rows_by uses_app words))
 meaning_by-answers (Some name.Trace) words = answer_with-answers command.Trace (turns_of words) (turns_by-answers (rows_by trace_app words))
 meaning_by-answers (Some name.Generate) words = answer_with-answers command.Generate (generator_number_of words) (number_by-answers (rows_by gen_app words))

@@ -7,5 +7,6 @@ pub mod Arguments
 pub mod Beyond
 pub mod Turns
 pub mod Listings
+pub mod Depths
 pub mod Meaning
 pub mod Views

@@ -9,6 +9,7 @@ use Rattle.xt_command_line.specs.Answers.{answer_with}
 use Rattle.xt_command_line.specs.Options.{AreValid, record_options_of, run_options_of}
 use Rattle.xt_command_line.specs.Arguments.{IsVecbase, generator_number_of, rigor_of, vecbase_of}
 use Rattle.xt_command_line.specs.Turns.{turns_of}
+use Rattle.xt_command_line.specs.Depths.{depth_of}
 use Rattle.xt_command_line.specs.Listings.{IsListing, listing_of}
 use Rattle.xt_command_line.specs.declared.command.Command.{Command}
 use Rattle.xt_command_line.specs.declared.command.Command.TheVariants as command
@@ -73,6 +74,9 @@ trace_meaning_of words = answer_with command.Trace (turns_of words)
 abbrev pub uses_meaning_of : List Text → Result Command Refusal
 uses_meaning_of words = answer_with command.Uses (rigor_of words)
 
+abbrev pub profile_meaning_of : List Text → Result Command Refusal
+profile_meaning_of words = answer_with command.Profile (depth_of words)
+
 abbrev pub meaning_by : Option Name → List Text → Result Command Refusal
 meaning_by None words = Err (refusal.Usage 2)
 meaning_by (Some name.Assemble) words =
@@ -95,8 +99,7 @@ meaning_by (Some name.Counts) words =
 meaning_by (Some name.Trace) words = trace_meaning_of words
 meaning_by (Some name.Race) words =
     without_options command.Race (rows_by (new_app (codes "race")) words)
-meaning_by (Some name.Profile) words =
-    without_options command.Profile (rows_by (new_app (codes "profile")) words)
+meaning_by (Some name.Profile) words = profile_meaning_of words
 meaning_by (Some name.Uses) words = uses_meaning_of words
 meaning_by (Some name.Generate) words = gen_meaning_of words
 

@@ -76,8 +76,8 @@ pub enum Command {
     Trace(Turns),
     /// `race`: looks for a data race in a recorded run.
     Race,
-    /// `profile`: counts the turns of each call stack of a recorded run.
-    Profile,
+    /// `profile`: counts the turns of each call stack of a recorded run, with keys of so many functions at most.
+    Profile(u32),
     /// `uses`: looks for the first use of something that is not known in a recorded run, with this rigor.
     Uses(Rigor),
     /// `gen`: runs the image that is made from this number.

@@ -1,10 +1,11 @@
-//! The simple commands of `clap` that read the words of `run`, `record`, `dis`, `check`, `gen`, `replay`, `trace` and
-//! `uses`.
+//! The simple commands of `clap` that read the words of `run`, `record`, `dis`, `check`, `gen`, `replay`, `trace`,
+//! `uses` and `profile`.
 ghost use Rattle.std.specs.Prelude.{◌≡◌, IfOk, map, string_bytes, option_map, fold};
 ghost use Rattle.clap.specs.Words.{app_of, first_of, found_of, new_app, rows_of, with_rule};
 ghost use Rattle.xt_command_line.specs.Simple.{Matches, rows_by};
 ghost use Rattle.xt_command_line.specs.Arguments.{check_app, gen_app, positional_rule, replay_app, uses_app};
 ghost use Rattle.xt_command_line.specs.Turns.{trace_app};
+ghost use Rattle.xt_command_line.specs.Depths.{profile_app};
 ghost use Rattle.xt_command_line.specs.Listings.{dis_app};
 ghost use Rattle.xt_command_line.specs.Options.{flag_names, is_set, option_names, order_names, record_app, run_app, texts_of, with_flag, with_option};
 ghost use Rattle.xt_command_line.specs.Views.{texts_in};
@@ -208,6 +209,20 @@ pub fn uses_matches<'a>(alloc: Global, words: &'a [String]) -> Result<ArgMatches
     ensures { Matches result (rows_by uses_app (map string_bytes words.now)) }
 {
     matches_by(uses_command(alloc)?, words)
+}
+
+// The command `profile` with its option.
+fn profile_command<'a>(alloc: Global) -> Result<Command<'a>, AllocError>
+    ensures { IfOk result (λ c. app_of c ≡ profile_app) }
+{
+    with_one_option(alloc, Command::new(alloc, "profile"), "depth")
+}
+
+/// What `clap` matches on the words of `profile`.
+pub fn profile_matches<'a>(alloc: Global, words: &'a [String]) -> Result<ArgMatches<'a>, Refusal>
+    ensures { Matches result (rows_by profile_app (map string_bytes words.now)) }
+{
+    matches_by(profile_command(alloc)?, words)
 }
 
 /// The text of an option or of a positional.

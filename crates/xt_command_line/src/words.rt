@@ -1,10 +1,11 @@
 ghost use Rattle.std.specs.Prelude.{◌≡◌, IfOk, map, string_bytes};
 ghost use Rattle.xt_command_line.specs.Answers.{Means};
-ghost use Rattle.xt_command_line.specs.Meaning.{HasValidOptions, MayWantMemory, check_meaning_of, dis_meaning_of, gen_meaning_of, meaning_of, named, record_meaning_of, run_meaning_of, trace_meaning_of, uses_meaning_of};
+ghost use Rattle.xt_command_line.specs.Meaning.{HasValidOptions, MayWantMemory, check_meaning_of, dis_meaning_of, gen_meaning_of, meaning_of, named, profile_meaning_of, record_meaning_of, run_meaning_of, trace_meaning_of, uses_meaning_of};
 ghost use Rattle.xt_command_line.specs.declared.command.Refusal.TheVariants.{Memory};
 
 use crate::arguments::{check_vecbase, generator_number, uses_rigor};
 use crate::command::{Command, Name, Refusal};
+use crate::depths::profile_depth;
 use crate::listings::listing;
 use crate::option_words::{record_options, run_options};
 use crate::simple::without_options_meaning;
@@ -102,6 +103,17 @@ fn uses_meaning(alloc: Global, words: &[String]) -> Result<Command, Refusal>
     }
 }
 
+// The command `profile` with the depth that its words say.
+fn profile_meaning(alloc: Global, words: &[String]) -> Result<Command, Refusal>
+    ensures means { Means result (profile_meaning_of (map string_bytes words.now)) }
+    ensures valid { IfOk result HasValidOptions }
+{
+    match profile_depth(alloc, words) {
+        Ok(depth) => Ok(Command::Profile(depth)),
+        Err(refusal) => Err(refusal),
+    }
+}
+
 // The command `gen` with the number that its words say.
 fn gen_meaning(alloc: Global, words: &[String]) -> Result<Command, Refusal>
     ensures means { Means result (gen_meaning_of (map string_bytes words.now)) }
@@ -116,13 +128,14 @@ fn gen_meaning(alloc: Global, words: &[String]) -> Result<Command, Refusal>
 /// The command with its options that the words after the program's name say, or why they say none.
 ///
 /// - No word is `Usage(1)`, and a first word that is no command `Usage(2)`.
-/// - `asm`, `elf`, `map`, `migrate`, `events`, `counts`, `race` and `profile` take no further word. Other words after
+/// - `asm`, `elf`, `map`, `migrate`, `events`, `counts` and `race` take no further word. Other words after
 ///   them are `Usage(3)`, as far as `clap` does not take them: it takes one that is `--`.
 /// - `dis` has the listing that `listing` says, with the rules of usage 3, 4, 6 and 7.
 /// - `check` has the option that `check_vecbase` says, with the rules of usage 3, 4 and 7.
 /// - `run` has the options that `run_options` says, with the rules of usage 3 to 8, and `record` those of
 ///   `record_options`, with the same.
 /// - `trace` has the turns that `trace_turns` says, with the rules of usage 3 and 4.
+/// - `profile` has the depth that `profile_depth` says, with the rules of usage 3 and 4.
 /// - `uses` has the rigor that `uses_rigor` says, with rule 3.
 /// - `gen` has the number that `generator_number` says, with the same.
 /// - `replay` is `Replay`, whatever follows: `script_text` reads its words.
@@ -152,9 +165,7 @@ pub fn meaning(alloc: Global, words: &[String]) -> Result<Command, Refusal>
         Some(Name::Counts) => { without_options_meaning(alloc, "counts", Command::Counts, words) }
         Some(Name::Trace) => trace_meaning(alloc, words),
         Some(Name::Race) => without_options_meaning(alloc, "race", Command::Race, words),
-        Some(Name::Profile) => {
-            without_options_meaning(alloc, "profile", Command::Profile, words)
-        }
+        Some(Name::Profile) => profile_meaning(alloc, words),
         Some(Name::Uses) => uses_meaning(alloc, words),
         Some(Name::Check) => check_meaning(alloc, words),
         Some(Name::Generate) => gen_meaning(alloc, words),

@@ -20,7 +20,7 @@ use Rattle.xt_core.specs.Runs.{IsRunOf, code_of, entry_of}
 use Rattle.xt_profile.specs.declared.profiles.CoreProfile.{CoreProfile}
 use Rattle.xt_profile.specs.declared.tally.Tally.{Tally}
 use Rattle.xt_profile.specs.Steps.{Step, frame_after, step_of, steps_from}
-use Rattle.xt_profile.specs.Keys.{handlers, keys}
+use Rattle.xt_profile.specs.Keys.{Start, handlers, keys}
 use Rattle.xt_profile.specs.Counts.{lines, total}
 use Rattle.xt_profile.specs.Profiled.{CoreAddsUp, core_profile, cut, records, steps}
 use Rattle.xt_profile.specs.Told.{IsTally, closed}
@@ -34,9 +34,12 @@ use Rattle.xt_profile.proofs.Telling.{keys_count}
 stays : (n : ℕ) → n ≡ n + 0
 stays n = omega arith
 
-pub follows_none : (w : Walk) (segments : List Segment) (image : Image) (r : Run) (cs : List ℕ) (xs ys : List StepRecord) (t0 t1 : Tally) → IsOpened w segments image.entry r.options → IsTally image.entry [] t0 → IsTally r.options.entry1 [] t1
-    → Follows (constant_byte w.code) (opened 0 image.entry r.options).bounds (opened 1 r.options.entry1 r.options).bounds (opening_known (opened 0 image.entry r.options).state (opened 1 r.options.entry1 r.options).state) cs image.entry r.options.entry1 xs ys w 0 xs ys t0 t1
-follows_none w segments image r cs xs ys t0 t1 o h0 h1 =
+abbrev pub from : ℕ → ℕ → Start
+from d pc = record { pc = pc; depth = d }
+
+pub follows_none : (d : ℕ) (w : Walk) (segments : List Segment) (image : Image) (r : Run) (cs : List ℕ) (xs ys : List StepRecord) (t0 t1 : Tally) → IsOpened w segments image.entry r.options → IsTally (from d image.entry) [] t0 → IsTally (from d r.options.entry1) [] t1
+    → Follows (constant_byte w.code) (opened 0 image.entry r.options).bounds (opened 1 r.options.entry1 r.options).bounds (opening_known (opened 0 image.entry r.options).state (opened 1 r.options.entry1 r.options).state) cs (from d image.entry) (from d r.options.entry1) xs ys w 0 xs ys t0 t1
+follows_none d w segments image r cs xs ys t0 t1 o h0 h1 =
     let a = opened 0 image.entry r.options in
     let b = opened 1 r.options.entry1 r.options in
     let k = opening_known a.state b.state in
@@ -51,14 +54,14 @@ follows_none w segments image r cs xs ys t0 t1 o h0 h1 =
     }
 
 -- ---- a core's profile
-abbrev core_of : ℕ → List Step → ℕ → CoreProfile
+abbrev core_of : Start → List Step → ℕ → CoreProfile
 core_of o q a = record { lines = lines (keys o q); handlers = handlers q; after = a }
 
 -- what was counted up to the cut, in the words of the definition
-core_is : (core opening : ℕ) (image : Image) (r : Run) (code : ℕ → ℕ) (f : FrameState) (xs : List StepRecord) (n count : ℕ) (t : Tally) (p : CoreProfile) → code ≡ code_of image → xs ≡ records core image r → f ≡ (opened core (entry_of core image r.options) r.options).state
-    → n ≡ cut core image r → opening ≡ entry_of core image r.options → count ≡ length xs → (h : IsCut code f xs n opening t) → p ≡ closed opening h.past count → p ≡ core_profile core image r
-core_is core opening image r code f xs n count t p code_is xs_is f_is n_is opening_is count_is h e =
-    let C : (ℕ → ℕ) → FrameState → List StepRecord → ℕ → ℕ → CoreProfile = λ c g ys m o. core_of o (steps_from c Plain g [] (take m ys)) (length (drop m ys)) in
+core_is : (core d : ℕ) (opening : Start) (image : Image) (r : Run) (code : ℕ → ℕ) (f : FrameState) (xs : List StepRecord) (n count : ℕ) (t : Tally) (p : CoreProfile) → code ≡ code_of image → xs ≡ records core image r → f ≡ (opened core (entry_of core image r.options) r.options).state
+    → n ≡ cut core image r → opening ≡ from d (entry_of core image r.options) → count ≡ length xs → (h : IsCut code f xs n opening t) → p ≡ closed opening h.past count → p ≡ core_profile core d image r
+core_is core d opening image r code f xs n count t p code_is xs_is f_is n_is opening_is count_is h e =
+    let C : (ℕ → ℕ) → FrameState → List StepRecord → ℕ → Start → CoreProfile = λ c g ys m o. core_of o (steps_from c Plain g [] (take m ys)) (length (drop m ys)) in
     let after : count - length h.past ≡ length (drop n xs) = ap₂ (λ (a b : ℕ). a - b) count_is h.count_is ∙ sym (length-drop n xs) in
     e
     ∙ (ap (λ (q : List Step). core_of opening q (count - length h.past)) (sym h.steps_are)
@@ -67,7 +70,7 @@ core_is core opening image r code f xs n count t p code_is xs_is f_is n_is openi
     ∙ (ap (λ (g : FrameState). C (code_of image) g xs n opening) f_is
     ∙ (ap (λ (ys : List StepRecord). C (code_of image) (opened core (entry_of core image r.options) r.options).state ys n opening) xs_is
     ∙ (ap (λ (m : ℕ). C (code_of image) (opened core (entry_of core image r.options) r.options).state (records core image r) m opening) n_is
-    ∙ ap (λ (o : ℕ). C (code_of image) (opened core (entry_of core image r.options) r.options).state (records core image r) (cut core image r) o) opening_is))))))
+    ∙ ap (λ (o : Start). C (code_of image) (opened core (entry_of core image r.options) r.options).state (records core image r) (cut core image r) o) opening_is))))))
 
 -- the judgement is that of the run
 judged_is : (w : Walk) (segments : List Segment) (image : Image) (r : Run) (xs ys : List StepRecord) → w.code ≡ segments → segments ≡ image.segments → xs ≡ records 0 image r → ys ≡ records 1 image r
@@ -77,36 +80,36 @@ judged_is w segments image r xs ys a b e f =
     let J : List Segment → List StepRecord → List StepRecord → Judgement = λ s us vs. judgement (constant_byte s) (opened 0 image.entry r.options).bounds (opened 1 r.options.entry1 r.options).bounds (schedule_in r) us vs (opening_known (opened 0 image.entry r.options).state (opened 1 r.options.entry1 r.options).state) in
     ap (λ (s : List Segment). J s xs ys) (a ∙ b) ∙ (ap (λ (us : List StepRecord). J image.segments us ys) e ∙ ap (λ (vs : List StepRecord). J image.segments (records 0 image r) vs) f)
 
-abbrev pub Cut : Walk → Image → Run → List StepRecord → List StepRecord → Tally → Tally → Type 0
-Cut w image r xs ys t0 t1 =
-    AreCut (constant_byte w.code) (opening_known (opened 0 image.entry r.options).state (opened 1 r.options.entry1 r.options).state) image.entry r.options.entry1 xs ys
+abbrev pub Cut : ℕ → Walk → Image → Run → List StepRecord → List StepRecord → Tally → Tally → Type 0
+Cut d w image r xs ys t0 t1 =
+    AreCut (constant_byte w.code) (opening_known (opened 0 image.entry r.options).state (opened 1 r.options.entry1 r.options).state) (from d image.entry) (from d r.options.entry1) xs ys
     (judgement (constant_byte w.code) (opened 0 image.entry r.options).bounds (opened 1 r.options.entry1 r.options).bounds (schedule_in r) xs ys (opening_known (opened 0 image.entry r.options).state (opened 1 r.options.entry1 r.options).state))
     t0 t1
 
-pub zero_is : (w : Walk) (segments : List Segment) (image : Image) (r : Run) (xs ys : List StepRecord) (t0 t1 : Tally) (p : CoreProfile) → w.code ≡ segments → segments ≡ image.segments → xs ≡ records 0 image r → ys ≡ records 1 image r → IsRunOf image r
-    → Cut w image r xs ys t0 t1 → ((opening : ℕ) (past : List Step) → IsTally opening past t0 → p ≡ closed opening past r.trace0.count) → p ≡ core_profile 0 image r
-zero_is w segments image r xs ys t0 t1 p a b e f run h is =
+pub zero_is : (d : ℕ) (w : Walk) (segments : List Segment) (image : Image) (r : Run) (xs ys : List StepRecord) (t0 t1 : Tally) (p : CoreProfile) → w.code ≡ segments → segments ≡ image.segments → xs ≡ records 0 image r → ys ≡ records 1 image r → IsRunOf image r
+    → Cut d w image r xs ys t0 t1 → ((opening : Start) (past : List Step) → IsTally opening past t0 → p ≡ closed opening past r.trace0.count) → p ≡ core_profile 0 d image r
+zero_is d w segments image r xs ys t0 t1 p a b e f run h is =
     let j = judged_is w segments image r xs ys a b e f in
-    core_is 0 image.entry image r (constant_byte w.code) (opened 0 image.entry r.options).state xs _ r.trace0.count t0 p (ap constant_byte (a ∙ b)) e refl (ap (λ (v : Judgement). v.known.steps0) j ∙ cut0_is image r) refl
-    (run.trace0.count_is ∙ ap (λ (l : List StepRecord). length l) (sym e)) h.core0 (is image.entry h.core0.past h.core0.tally)
+    core_is 0 d (from d image.entry) image r (constant_byte w.code) (opened 0 image.entry r.options).state xs _ r.trace0.count t0 p (ap constant_byte (a ∙ b)) e refl (ap (λ (v : Judgement). v.known.steps0) j ∙ cut0_is image r) refl
+    (run.trace0.count_is ∙ ap (λ (l : List StepRecord). length l) (sym e)) h.core0 (is (from d image.entry) h.core0.past h.core0.tally)
 
-pub one_is : (w : Walk) (segments : List Segment) (image : Image) (r : Run) (xs ys : List StepRecord) (t0 t1 : Tally) (p : CoreProfile) → w.code ≡ segments → segments ≡ image.segments → xs ≡ records 0 image r → ys ≡ records 1 image r → IsRunOf image r
-    → Cut w image r xs ys t0 t1 → ((opening : ℕ) (past : List Step) → IsTally opening past t1 → p ≡ closed opening past r.trace1.count) → p ≡ core_profile 1 image r
-one_is w segments image r xs ys t0 t1 p a b e f run h is =
+pub one_is : (d : ℕ) (w : Walk) (segments : List Segment) (image : Image) (r : Run) (xs ys : List StepRecord) (t0 t1 : Tally) (p : CoreProfile) → w.code ≡ segments → segments ≡ image.segments → xs ≡ records 0 image r → ys ≡ records 1 image r → IsRunOf image r
+    → Cut d w image r xs ys t0 t1 → ((opening : Start) (past : List Step) → IsTally opening past t1 → p ≡ closed opening past r.trace1.count) → p ≡ core_profile 1 d image r
+one_is d w segments image r xs ys t0 t1 p a b e f run h is =
     let j = judged_is w segments image r xs ys a b e f in
-    core_is 1 r.options.entry1 image r (constant_byte w.code) (opened 1 r.options.entry1 r.options).state ys _ r.trace1.count t1 p (ap constant_byte (a ∙ b)) f refl (ap (λ (v : Judgement). v.known.steps1) j ∙ cut1_is image r) refl
-    (run.trace1.count_is ∙ ap (λ (l : List StepRecord). length l) (sym f)) h.core1 (is r.options.entry1 h.core1.past h.core1.tally)
+    core_is 1 d (from d r.options.entry1) image r (constant_byte w.code) (opened 1 r.options.entry1 r.options).state ys _ r.trace1.count t1 p (ap constant_byte (a ∙ b)) f refl (ap (λ (v : Judgement). v.known.steps1) j ∙ cut1_is image r) refl
+    (run.trace1.count_is ∙ ap (λ (l : List StepRecord). length l) (sym f)) h.core1 (is (from d r.options.entry1) h.core1.past h.core1.tally)
 
 -- the steps that were counted are no more than all
 steps_le : (s p n l c : ℕ) → s ≡ p → p ≡ n → n ≤ l → c ≡ l → s ≤ c
 steps_le s p n l c e f g h = omega (arith, e, f, g, h)
 
-pub zero_within : (w : Walk) (image : Image) (r : Run) (xs ys : List StepRecord) (t0 t1 : Tally) → xs ≡ records 0 image r → IsRunOf image r → Cut w image r xs ys t0 t1 → t0.steps ≤ r.trace0.count
-zero_within w image r xs ys t0 t1 e run h =
+pub zero_within : (d : ℕ) (w : Walk) (image : Image) (r : Run) (xs ys : List StepRecord) (t0 t1 : Tally) → xs ≡ records 0 image r → IsRunOf image r → Cut d w image r xs ys t0 t1 → t0.steps ≤ r.trace0.count
+zero_within d w image r xs ys t0 t1 e run h =
     steps_le t0.steps (length h.core0.past) _ (length xs) r.trace0.count h.core0.tally.counted.steps_are h.core0.count_is h.core0.within (run.trace0.count_is ∙ ap (λ (l : List StepRecord). length l) (sym e))
 
-pub one_within : (w : Walk) (image : Image) (r : Run) (xs ys : List StepRecord) (t0 t1 : Tally) → ys ≡ records 1 image r → IsRunOf image r → Cut w image r xs ys t0 t1 → t1.steps ≤ r.trace1.count
-one_within w image r xs ys t0 t1 e run h =
+pub one_within : (d : ℕ) (w : Walk) (image : Image) (r : Run) (xs ys : List StepRecord) (t0 t1 : Tally) → ys ≡ records 1 image r → IsRunOf image r → Cut d w image r xs ys t0 t1 → t1.steps ≤ r.trace1.count
+one_within d w image r xs ys t0 t1 e run h =
     steps_le t1.steps (length h.core1.past) _ (length ys) r.trace1.count h.core1.tally.counted.steps_are h.core1.count_is h.core1.within (run.trace1.count_is ∙ ap (λ (l : List StepRecord). length l) (sym e))
 
 -- ---- the sum
@@ -132,22 +135,22 @@ both_parts n xs = sym (length-append (take n xs) (drop n xs)) ∙ ap (λ (l : Li
 none_first : (n : ℕ) → 0 + n ≡ n
 none_first n = omega arith
 
-pub adds_up : (core : ℕ) (image : Image) (r : Run) (count : ℕ) (p : CoreProfile) → p ≡ core_profile core image r → count ≡ length (records core image r) → CoreAddsUp p count
-adds_up core image r count p e is =
-    let o = entry_of core image r.options in
+pub adds_up : (core d : ℕ) (image : Image) (r : Run) (count : ℕ) (p : CoreProfile) → p ≡ core_profile core d image r → count ≡ length (records core image r) → CoreAddsUp p count
+adds_up core d image r count p e is =
+    let o = from d (entry_of core image r.options) in
     let all = steps core image r in
     let n = cut core image r in
     let xs = records core image r in
-    let f = (opened core o r.options).state in
+    let f = (opened core (entry_of core image r.options) r.options).state in
     subst (λ (q : CoreProfile). CoreAddsUp q count) (sym e)
     (sum_is (total (lines (keys o all))) (length (keys o all)) (handlers all) (length all) (length (take n xs)) (length xs) (length (drop n xs)) count (total_is (keys o all)) (keys_count o all)
     (steps_length (code_of image) Plain f [] (take n xs) ∙ none_first (length (take n xs))) (both_parts n xs) is)
 
 -- what is known at the cut, from what a walk from the opening ensures
-pub cut_is : (w : Walk) (segments : List Segment) (image : Image) (r : Run) (xs ys : List StepRecord) (t0 t1 u0 u1 : Tally) → IsOpened w segments image.entry r.options → IsTally image.entry [] t0 → IsTally r.options.entry1 [] t1
-    → ((b0 b1 : Bounds) (k : Known) (e0 e1 : ℕ) → Follows (constant_byte w.code) b0 b1 k (schedule_in r) e0 e1 xs ys w 0 xs ys t0 t1 → AreCut (constant_byte w.code) k e0 e1 xs ys (judgement (constant_byte w.code) b0 b1 (schedule_in r) xs ys k) u0 u1)
-    → Cut w image r xs ys u0 u1
-cut_is w segments image r xs ys t0 t1 u0 u1 o h0 h1 walked =
+pub cut_is : (d : ℕ) (w : Walk) (segments : List Segment) (image : Image) (r : Run) (xs ys : List StepRecord) (t0 t1 u0 u1 : Tally) → IsOpened w segments image.entry r.options → IsTally (from d image.entry) [] t0 → IsTally (from d r.options.entry1) [] t1
+    → ((b0 b1 : Bounds) (k : Known) (e0 e1 : Start) → Follows (constant_byte w.code) b0 b1 k (schedule_in r) e0 e1 xs ys w 0 xs ys t0 t1 → AreCut (constant_byte w.code) k e0 e1 xs ys (judgement (constant_byte w.code) b0 b1 (schedule_in r) xs ys k) u0 u1)
+    → Cut d w image r xs ys u0 u1
+cut_is d w segments image r xs ys t0 t1 u0 u1 o h0 h1 walked =
     let a = opened 0 image.entry r.options in
     let b = opened 1 r.options.entry1 r.options in
-    walked a.bounds b.bounds (opening_known a.state b.state) image.entry r.options.entry1 (follows_none w segments image r (schedule_in r) xs ys t0 t1 o h0 h1)
+    walked a.bounds b.bounds (opening_known a.state b.state) (from d image.entry) (from d r.options.entry1) (follows_none d w segments image r (schedule_in r) xs ys t0 t1 o h0 h1)

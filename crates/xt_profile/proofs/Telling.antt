@@ -13,7 +13,7 @@ use Rattle.xt_profile.specs.declared.profiles.CoreProfile.{CoreProfile}
 use Rattle.xt_profile.specs.declared.profiles.ProfileLine.{ProfileLine}
 use Rattle.xt_profile.specs.declared.tally.Tally.{Tally}
 use Rattle.xt_profile.specs.Steps.{Step}
-use Rattle.xt_profile.specs.Keys.{functions, handlers, keys, last_eight, with_handler, with_key}
+use Rattle.xt_profile.specs.Keys.{Start, functions, handlers, keys, shown, with_handler, with_key}
 use Rattle.xt_profile.specs.Counts.{compare, count_of, is_same, lines}
 use Rattle.xt_profile.specs.Told.{AreCounted, IsTally, closed, count_in, puts, read, standing}
 use Rattle.xt_profile.proofs.Putting.{count_found, row_puts}
@@ -32,9 +32,9 @@ keys_case Handler k ks h n e = one_handler (length ks) h n e
 keys_case Nested k ks h n e = one_key (length ks) h n e
 
 -- each step has a key or is a handler step
-pub keys_count : (opening : ℕ) (past : List Step) → length (keys opening past) + handlers past ≡ length past
+pub keys_count : (opening : Start) (past : List Step) → length (keys opening past) + handlers past ≡ length past
 keys_count opening [] = refl
-keys_count opening (s ∷ past) = keys_case s.mode (last_eight (functions opening s.before past)) (keys opening past) (handlers past) (length past) (keys_count opening past)
+keys_count opening (s ∷ past) = keys_case s.mode (shown opening.depth (functions opening.pc s.before past)) (keys opening past) (handlers past) (length past) (keys_count opening past)
 
 sum_of : (k h n r l s : ℕ) → k + h ≡ n → k ≡ r + l → s ≡ n → r + l + h ≡ s
 sum_of k h n r l s e f g = omega (arith, e, f, g)
@@ -42,9 +42,9 @@ sum_of k h n r l s e f g = omega (arith, e, f, g)
 in_a_row : (n : ℕ) (k : List ℕ) (ks : List (List ℕ)) → length (replicate n k ++ ks) ≡ n + length ks
 in_a_row n k ks = length-append (replicate n k) ks ∙ ap (λ (m : ℕ). m + length ks) (length-replicate n k)
 
-pub counted_sum : (opening : ℕ) (past : List Step) (t : Tally) → (h : AreCounted opening past t) → t.row + length h.told + t.handlers ≡ t.steps
+pub counted_sum : (opening : Start) (past : List Step) (t : Tally) → (h : AreCounted opening past t) → t.row + length h.told + t.handlers ≡ t.steps
 counted_sum opening past t h =
-    let k = last_eight t.functions.items in
+    let k = shown opening.depth t.functions.items in
     let len : length (keys opening past) ≡ t.row + length h.told = ap (λ (ks : List (List ℕ)). length ks) h.keys_are ∙ in_a_row t.row k h.told in
     sum_of (length (keys opening past)) t.handlers (length past) t.row (length h.told) t.steps (ap (λ (n : ℕ). length (keys opening past) + n) h.handlers_are ∙ keys_count opening past) len h.steps_are
 
@@ -63,7 +63,7 @@ count_le k (q ∷ ks) = count_case (is_same k q) (count_of k ks) (length ks) (co
 small : (c l r h s : ℕ) → c ≤ l → r + l + h ≡ s → s < 2 ^ 32 → c + r < 2 ^ 32
 small c l r h s e f g = omega (arith, e, f, g)
 
-pub count_fits : (opening : ℕ) (past : List Step) (t : Tally) (k : List ℕ) → AreCounted opening past t → t.steps < 2 ^ 32 → count_in k (map read t.counts.entries) + t.row < 2 ^ 32
+pub count_fits : (opening : Start) (past : List Step) (t : Tally) (k : List ℕ) → AreCounted opening past t → t.steps < 2 ^ 32 → count_in k (map read t.counts.entries) + t.row < 2 ^ 32
 count_fits opening past t k h room =
     let found : count_in k (map read t.counts.entries) ≡ count_of k h.told = ap (count_in k) h.lines_are ∙ count_found k h.told in
     small (count_in k (map read t.counts.entries)) (length h.told) t.row t.handlers t.steps (subst (λ (c : ℕ). c ≤ length h.told) (sym found) (count_le k h.told)) (counted_sum opening past t h) room
@@ -74,10 +74,10 @@ row_le r l h s e = omega (arith, e)
 handlers_le : (r l h s : ℕ) → r + l + h ≡ s → h ≤ s
 handlers_le r l h s e = omega (arith, e)
 
-pub row_fits : (opening : ℕ) (past : List Step) (t : Tally) → AreCounted opening past t → t.row ≤ t.steps
+pub row_fits : (opening : Start) (past : List Step) (t : Tally) → AreCounted opening past t → t.row ≤ t.steps
 row_fits opening past t h = row_le t.row (length h.told) t.handlers t.steps (counted_sum opening past t h)
 
-pub handlers_fit : (opening : ℕ) (past : List Step) (t : Tally) → AreCounted opening past t → t.handlers ≤ t.steps
+pub handlers_fit : (opening : Start) (past : List Step) (t : Tally) → AreCounted opening past t → t.handlers ≤ t.steps
 handlers_fit opening past t h = handlers_le t.row (length h.told) t.handlers t.steps (counted_sum opening past t h)
 
 -- ---- a step more
@@ -88,38 +88,41 @@ more_steps : (n m : ℕ) → n ≡ m → n + 1 ≡ suc m
 more_steps n m e = omega (arith, e)
 
 -- the key of a step past these
-key_here : (opening : ℕ) (past : List Step) (s : Step) (t : Tally) → IsTally opening past t → s.before ≡ standing past → last_eight (functions opening s.before past) ≡ last_eight t.functions.items
-key_here opening past s t h e = ap (λ (n : ℕ). last_eight (functions opening n past)) e ∙ ap last_eight (sym h.functions_are)
+key_here : (opening : Start) (past : List Step) (s : Step) (t : Tally) → IsTally opening past t → s.before ≡ standing past → shown opening.depth (functions opening.pc s.before past) ≡ shown opening.depth t.functions.items
+key_here opening past s t h e = ap (λ (n : ℕ). shown opening.depth (functions opening.pc n past)) e ∙ ap (shown opening.depth) (sym h.functions_are)
 
-keys_more : (opening : ℕ) (past : List Step) (s : Step) (t : Tally) → (h : IsTally opening past t) → s.before ≡ standing past
-    → last_eight (functions opening s.before past) ∷ keys opening past ≡ replicate (t.row + 1) (last_eight t.functions.items) ++ h.counted.told
+keys_more : (opening : Start) (past : List Step) (s : Step) (t : Tally) → (h : IsTally opening past t) → s.before ≡ standing past
+    → shown opening.depth (functions opening.pc s.before past) ∷ keys opening past ≡ replicate (t.row + 1) (shown opening.depth t.functions.items) ++ h.counted.told
 keys_more opening past s t h e =
-    let k = last_eight t.functions.items in
+    let k = shown opening.depth t.functions.items in
     ap₂ (λ (x : List ℕ) (ks : List (List ℕ)). x ∷ ks) (key_here opening past s t h e) h.counted.keys_are
     ∙ ap (λ (n : ℕ). replicate n k ++ h.counted.told) (sym (one_up t.row))
 
-pub counted_plain : (opening : ℕ) (past : List Step) (s : Step) (t : Tally) → IsTally opening past t → s.mode ≡ Plain → s.before ≡ standing past → AreCounted opening (s ∷ past) (record t { row = t.row + 1; steps = t.steps + 1 })
+pub counted_plain : (opening : Start) (past : List Step) (s : Step) (t : Tally) → IsTally opening past t → s.mode ≡ Plain → s.before ≡ standing past → AreCounted opening (s ∷ past) (record t { row = t.row + 1; steps = t.steps + 1 })
 counted_plain opening past s t h m e = record {
   told = h.counted.told;
-  keys_are = ap (λ (y : Mode). with_key y (last_eight (functions opening s.before past)) (keys opening past)) m ∙ keys_more opening past s t h e;
+  depth_is = h.counted.depth_is;
+  keys_are = ap (λ (y : Mode). with_key y (shown opening.depth (functions opening.pc s.before past)) (keys opening past)) m ∙ keys_more opening past s t h e;
   lines_are = h.counted.lines_are;
   handlers_are = h.counted.handlers_are ∙ sym (ap (λ (y : Mode). with_handler y (handlers past)) m);
   steps_are = more_steps t.steps (length past) h.counted.steps_are;
 }
 
-pub counted_nested : (opening : ℕ) (past : List Step) (s : Step) (t : Tally) → IsTally opening past t → s.mode ≡ Nested → s.before ≡ standing past → AreCounted opening (s ∷ past) (record t { row = t.row + 1; steps = t.steps + 1 })
+pub counted_nested : (opening : Start) (past : List Step) (s : Step) (t : Tally) → IsTally opening past t → s.mode ≡ Nested → s.before ≡ standing past → AreCounted opening (s ∷ past) (record t { row = t.row + 1; steps = t.steps + 1 })
 counted_nested opening past s t h m e = record {
   told = h.counted.told;
-  keys_are = ap (λ (y : Mode). with_key y (last_eight (functions opening s.before past)) (keys opening past)) m ∙ keys_more opening past s t h e;
+  depth_is = h.counted.depth_is;
+  keys_are = ap (λ (y : Mode). with_key y (shown opening.depth (functions opening.pc s.before past)) (keys opening past)) m ∙ keys_more opening past s t h e;
   lines_are = h.counted.lines_are;
   handlers_are = h.counted.handlers_are ∙ sym (ap (λ (y : Mode). with_handler y (handlers past)) m);
   steps_are = more_steps t.steps (length past) h.counted.steps_are;
 }
 
-pub counted_handler : (opening : ℕ) (past : List Step) (s : Step) (t : Tally) → IsTally opening past t → s.mode ≡ Handler → AreCounted opening (s ∷ past) (record t { handlers = t.handlers + 1; steps = t.steps + 1 })
+pub counted_handler : (opening : Start) (past : List Step) (s : Step) (t : Tally) → IsTally opening past t → s.mode ≡ Handler → AreCounted opening (s ∷ past) (record t { handlers = t.handlers + 1; steps = t.steps + 1 })
 counted_handler opening past s t h m = record {
   told = h.counted.told;
-  keys_are = ap (λ (y : Mode). with_key y (last_eight (functions opening s.before past)) (keys opening past)) m ∙ h.counted.keys_are;
+  depth_is = h.counted.depth_is;
+  keys_are = ap (λ (y : Mode). with_key y (shown opening.depth (functions opening.pc s.before past)) (keys opening past)) m ∙ h.counted.keys_are;
   lines_are = h.counted.lines_are;
   handlers_are = more_steps t.handlers (handlers past) h.counted.handlers_are ∙ sym (ap (λ (y : Mode). with_handler y (handlers past)) m);
   steps_are = more_steps t.steps (length past) h.counted.steps_are;
@@ -129,15 +132,16 @@ counted_handler opening past s t h m = record {
 from_one : (r : ℕ) → 0 < r → suc (r - 1) ≡ r
 from_one r h = omega (arith, h)
 
-pub counted_flushed : (opening : ℕ) (past : List Step) (t new : Tally) → AreCounted opening past t → 0 < t.row → new.row ≡ 0 → new.functions ≡ t.functions → new.handlers ≡ t.handlers → new.steps ≡ t.steps
-    → map read new.counts.entries ≡ puts (last_eight t.functions.items) (count_in (last_eight t.functions.items) (map read t.counts.entries) + t.row) (map read t.counts.entries)
+pub counted_flushed : (opening : Start) (past : List Step) (t new : Tally) → AreCounted opening past t → 0 < t.row → new.row ≡ 0 → new.functions ≡ t.functions → new.handlers ≡ t.handlers → new.steps ≡ t.steps → new.depth ≡ t.depth
+    → map read new.counts.entries ≡ puts (shown opening.depth t.functions.items) (count_in (shown opening.depth t.functions.items) (map read t.counts.entries) + t.row) (map read t.counts.entries)
     → AreCounted opening past new
-counted_flushed opening past t new h some none f a b put =
-    let k = last_eight t.functions.items in
+counted_flushed opening past t new h some none f a b d put =
+    let k = shown opening.depth t.functions.items in
     let row : suc (t.row - 1) ≡ t.row = from_one t.row some in
     record {
       told = replicate t.row k ++ h.told;
-      keys_are = h.keys_are ∙ sym (ap (λ (n : ℕ). replicate n (last_eight new.functions.items) ++ (replicate t.row k ++ h.told)) none);
+      depth_is = d ∙ h.depth_is;
+      keys_are = h.keys_are ∙ sym (ap (λ (n : ℕ). replicate n (shown opening.depth new.functions.items) ++ (replicate t.row k ++ h.told)) none);
       lines_are = put
           ∙ (ap (λ (ls : List ProfileLine). puts k (count_in k ls + t.row) ls) h.lines_are
           ∙ (ap (λ (n : ℕ). puts k (count_in k (lines h.told) + n) (lines h.told)) (sym row)
@@ -147,11 +151,12 @@ counted_flushed opening past t new h some none f a b put =
     }
 
 -- with no steps in a row the functions may be others
-pub counted_moved : (opening : ℕ) (past : List Step) (t new : Tally) → AreCounted opening past t → t.row ≡ 0 → new.row ≡ 0 → new.counts.entries ≡ t.counts.entries → new.handlers ≡ t.handlers → new.steps ≡ t.steps → AreCounted opening past new
-counted_moved opening past t new h none other e a b = record {
+pub counted_moved : (opening : Start) (past : List Step) (t new : Tally) → AreCounted opening past t → t.row ≡ 0 → new.row ≡ 0 → new.counts.entries ≡ t.counts.entries → new.handlers ≡ t.handlers → new.steps ≡ t.steps → new.depth ≡ t.depth → AreCounted opening past new
+counted_moved opening past t new h none other e a b d = record {
   told = h.told;
+  depth_is = d ∙ h.depth_is;
   keys_are = h.keys_are
-      ∙ (ap (λ (n : ℕ). replicate n (last_eight t.functions.items) ++ h.told) none ∙ sym (ap (λ (n : ℕ). replicate n (last_eight new.functions.items) ++ h.told) other));
+      ∙ (ap (λ (n : ℕ). replicate n (shown opening.depth t.functions.items) ++ h.told) none ∙ sym (ap (λ (n : ℕ). replicate n (shown opening.depth new.functions.items) ++ h.told) other));
   lines_are = ap (map read) e ∙ h.lines_are;
   handlers_are = a ∙ h.handlers_are;
   steps_are = b ∙ h.steps_are;
@@ -198,22 +203,22 @@ same_depth : (a n l : ℕ) → a + 1 ≡ l → l ≡ n + 1 → a ≡ n
 same_depth a n l e f = omega (arith, e, f)
 
 -- the functions stay as they are
-pub tally_same : (opening : ℕ) (past : List Step) (s : Step) (t new : Tally) → IsTally opening past t → s.before ≡ standing past → new.functions ≡ t.functions → s.after + 1 ≡ length t.functions.items → AreCounted opening (s ∷ past) new → IsTally opening (s ∷ past) new
+pub tally_same : (opening : Start) (past : List Step) (s : Step) (t new : Tally) → IsTally opening past t → s.before ≡ standing past → new.functions ≡ t.functions → s.after + 1 ≡ length t.functions.items → AreCounted opening (s ∷ past) new → IsTally opening (s ∷ past) new
 tally_same opening past s t new h e f len counted =
-    let items : t.functions.items ≡ functions opening s.before past = h.functions_are ∙ ap (λ (n : ℕ). functions opening n past) (sym e) in
-    let depth : s.after ≡ s.before = same_depth s.after s.before (length t.functions.items) len (ap (λ (xs : List ℕ). length xs) items ∙ functions_length opening s.before past) in
+    let items : t.functions.items ≡ functions opening.pc s.before past = h.functions_are ∙ ap (λ (n : ℕ). functions opening.pc n past) (sym e) in
+    let depth : s.after ≡ s.before = same_depth s.after s.before (length t.functions.items) len (ap (λ (xs : List ℕ). length xs) items ∙ functions_length opening.pc s.before past) in
     record {
-      functions_are = ap (λ (v : Vec ℕ Global). v.items) f ∙ (items ∙ functions_same opening s past depth);
+      functions_are = ap (λ (v : Vec ℕ Global). v.items) f ∙ (items ∙ functions_same opening.pc s past depth);
       counted = counted;
     }
 
 -- and here they change
-pub tally_changed : (opening : ℕ) (past : List Step) (s : Step) (t new : Tally) (items : List ℕ) → IsTally opening past t → s.before ≡ standing past → items ≡ t.functions.items
+pub tally_changed : (opening : Start) (past : List Step) (s : Step) (t new : Tally) (items : List ℕ) → IsTally opening past t → s.before ≡ standing past → items ≡ t.functions.items
     → new.functions.items ≡ take (s.after + 1) items ++ replicate (s.after + 1 - length items) s.pc → AreCounted opening (s ∷ past) new → IsTally opening (s ∷ past) new
 tally_changed opening past s t new items h e is resized counted =
-    let all : items ≡ functions opening s.before past = is ∙ (h.functions_are ∙ ap (λ (n : ℕ). functions opening n past) (sym e)) in
+    let all : items ≡ functions opening.pc s.before past = is ∙ (h.functions_are ∙ ap (λ (n : ℕ). functions opening.pc n past) (sym e)) in
     record {
-      functions_are = resized ∙ (ap (λ (xs : List ℕ). take (s.after + 1) xs ++ replicate (s.after + 1 - length xs) s.pc) all ∙ functions_past opening s past);
+      functions_are = resized ∙ (ap (λ (xs : List ℕ). take (s.after + 1) xs ++ replicate (s.after + 1 - length xs) s.pc) all ∙ functions_past opening.pc s past);
       counted = counted;
     }
 
@@ -221,10 +226,10 @@ tally_changed opening past s t new items h e is resized counted =
 abbrev made : List ProfileLine → ℕ → ℕ → CoreProfile
 made ls h a = record { lines = ls; handlers = h; after = a }
 
-pub closed_is : (opening : ℕ) (past : List Step) (t : Tally) → AreCounted opening past t → t.row ≡ 0 → (ls : List ProfileLine) → ls ≡ map read t.counts.entries → (count : ℕ)
+pub closed_is : (opening : Start) (past : List Step) (t : Tally) → AreCounted opening past t → t.row ≡ 0 → (ls : List ProfileLine) → ls ≡ map read t.counts.entries → (count : ℕ)
     → made ls t.handlers (count - t.steps) ≡ closed opening past count
 closed_is opening past t h none ls is count =
-    let all : keys opening past ≡ h.told = h.keys_are ∙ ap (λ (n : ℕ). replicate n (last_eight t.functions.items) ++ h.told) none in
+    let all : keys opening past ≡ h.told = h.keys_are ∙ ap (λ (n : ℕ). replicate n (shown opening.depth t.functions.items) ++ h.told) none in
     let lines_is : ls ≡ lines (keys opening past) = is ∙ (h.lines_are ∙ ap lines (sym all)) in
     ap (λ (x : List ProfileLine). made x t.handlers (count - t.steps)) lines_is
     ∙ (ap (λ (n : ℕ). made (lines (keys opening past)) n (count - t.steps)) h.handlers_are

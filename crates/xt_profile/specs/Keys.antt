@@ -6,10 +6,12 @@
 -- Profile: the PC of the ENTRY that pushed a frame is found by a search back in the steps: of those
 -- that stand, frame d was pushed by the latest step before which fewer than d frames stood, and
 -- after which d or more.
--- Profile: a key is cut to the last eight functions, so that a deep recursion has no line for each
--- depth.
+-- Profile: a key is cut to as many functions as are asked for, so that a deep recursion has no line
+-- for each depth. A cut key keeps the first function, since a flame graph has one root, and the
+-- last ones, since the innermost is where the turns go.
+-- Note: 0 in a cut key stands for those that are left out; it is no function.
 use Rattle.std.specs.Prelude.{ℕ, zero, suc, ◌-◌, ◌&&◌, nat_le, nat_lt, if◌then◌else◌}
-use Rattle.std.specs.Prelude.{List, [], ◌∷◌, ◌++◌, length, drop}
+use Rattle.std.specs.Prelude.{List, [], ◌∷◌, ◌++◌, length, take, drop}
 use Rattle.xt_discipline.specs.declared.step_modes.Mode.{Mode}
 use Rattle.xt_discipline.specs.declared.step_modes.Mode.TheVariants.{Plain, Handler, Nested}
 use Rattle.xt_profile.specs.Steps.{Step}
@@ -29,9 +31,17 @@ pushes (suc d) past = pushes d past ++ pushed (suc d) past ∷ []
 abbrev pub functions : ℕ → ℕ → List Step → List ℕ
 functions opening n past = opening ∷ pushes n past
 
--- the last eight numbers of a list, or all if there are fewer
-abbrev pub last_eight : List ℕ → List ℕ
-last_eight xs = drop (length xs - 8) xs
+-- where a core opened, and how many functions a key has at most
+pub record Start : Type 0 where
+  pub pc : ℕ
+  pub depth : ℕ
+
+-- The functions of a key: all, where there are no more than `depth`. Else the key is cut: it has
+-- the first of them, 0 for those that are left out, and the last `depth` less one. So a cut key has
+-- one number more than any whole one may have.
+abbrev pub shown : ℕ → List ℕ → List ℕ
+shown depth xs =
+    if nat_le (length xs) depth then xs else take 1 xs ++ 0 ∷ drop (length xs - (depth - 1)) xs
 
 -- handler steps have no key
 abbrev pub with_key : Mode → List ℕ → List (List ℕ) → List (List ℕ)
@@ -40,10 +50,13 @@ with_key Handler key keys = keys
 with_key Nested key keys = key ∷ keys
 
 -- the keys of the judged steps, each by the function list before its step
-abbrev pub keys : ℕ → List Step → List (List ℕ)
+abbrev pub keys : Start → List Step → List (List ℕ)
 keys opening [] = []
 keys opening (s ∷ past) =
-    with_key s.mode (last_eight (functions opening s.before past)) (keys opening past)
+    with_key
+    s.mode
+    (shown opening.depth (functions opening.pc s.before past))
+    (keys opening past)
 
 abbrev pub with_handler : Mode → ℕ → ℕ
 with_handler Plain n = n

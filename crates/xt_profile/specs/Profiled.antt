@@ -24,7 +24,7 @@ use Rattle.xt_profile.specs.declared.profiles.CoreProfile.{CoreProfile}
 use Rattle.xt_profile.specs.declared.profiles.Profile.{Profile}
 use Rattle.xt_profile.specs.declared.profiles.Profile.TheVariants.{Unchecked, Cores}
 use Rattle.xt_profile.specs.Steps.{Step, steps_from}
-use Rattle.xt_profile.specs.Keys.{handlers, keys}
+use Rattle.xt_profile.specs.Keys.{Start, handlers, keys}
 use Rattle.xt_profile.specs.Counts.{lines, total}
 
 -- the records of a core of a run of an image
@@ -64,18 +64,22 @@ steps core image r =
     []
     (take (cut core image r) (records core image r))
 
-abbrev pub core_profile : ℕ → Image → Run → CoreProfile
-core_profile core image r = record {
-  lines = lines (keys (entry_of core image r.options) (steps core image r));
+abbrev pub start : ℕ → ℕ → Image → Run → Start
+start core depth image r = record { pc = entry_of core image r.options; depth = depth }
+
+-- with keys of so many functions at most, but for cut ones
+abbrev pub core_profile : ℕ → ℕ → Image → Run → CoreProfile
+core_profile core depth image r = record {
+  lines = lines (keys (start core depth image r) (steps core image r));
   handlers = handlers (steps core image r);
   after = length (drop (cut core image r) (records core image r));
 }
 
 -- none where a window handler does not pass the check
-unfoldable pub profile_of : Image → Run → Profile
-profile_of image r =
+unfoldable pub profile_of : ℕ → Image → Run → Profile
+profile_of depth image r =
     if are_yes (handlers_of (code_of image) r.options.vecbase)
-    then Cores (core_profile 0 image r) (core_profile 1 image r) else Unchecked
+    then Cores (core_profile 0 depth image r) (core_profile 1 depth image r) else Unchecked
 
 -- the counts, the handler steps and the steps from the cut on are all turns of the trace
 abbrev pub CoreAddsUp : CoreProfile → ℕ → Type 0

@@ -1,5 +1,6 @@
 -- What `profile` prints ('profile').
-use Rattle.std.specs.Prelude.{ℕ, List, [], ◌∷◌, ◌++◌, codes}
+use Rattle.std.specs.Prelude.{ℕ, Bool, true, false, nat_lt, List, [], ◌∷◌, ◌++◌, length, drop}
+use Rattle.std.specs.Prelude.{codes}
 use Rattle.std.specs.Fmt.{decimal}
 use Rattle.std.specs.List.{flat_map}
 use Rattle.xt_word.specs.Hexadecimal.{hex8}
@@ -12,18 +13,23 @@ use Rattle.xt_profile.specs.declared.profiles.ProfileLine.{ProfileLine}
 abbrev pub next_text : ℕ → List ℕ
 next_text a = codes ";" ++ hex8 a
 
-abbrev pub key_text : List ℕ → List ℕ
-key_text [] = []
-key_text (a ∷ more) = hex8 a ++ flat_map next_text more
+-- those behind the first, of which the first is `..` where the key was cut
+abbrev pub more_text : Bool → List ℕ → List ℕ
+more_text false more = flat_map next_text more
+more_text true more = codes ";.." ++ flat_map next_text (drop 1 more)
+
+abbrev pub key_text : ℕ → List ℕ → List ℕ
+key_text depth [] = []
+key_text depth (a ∷ more) = hex8 a ++ more_text (nat_lt depth (length (a ∷ more))) more
 
 -- `core C KEY N`
-unfoldable pub line_text : ℕ → ProfileLine → List ℕ
-line_text core l =
-    codes "core " ++ decimal core ++ codes " " ++ key_text l.key ++ codes " " ++ decimal l.count
-    ++ codes "\n"
+unfoldable pub line_text : ℕ → ℕ → ProfileLine → List ℕ
+line_text depth core l =
+    codes "core " ++ decimal core ++ codes " " ++ key_text depth l.key ++ codes " "
+    ++ decimal l.count ++ codes "\n"
 
-abbrev pub lines_text : ℕ → List ProfileLine → List ℕ
-lines_text core ls = flat_map (line_text core) ls
+abbrev pub lines_text : ℕ → ℕ → List ProfileLine → List ℕ
+lines_text depth core ls = flat_map (line_text depth core) ls
 
 -- `core C handlers H after A`
 unfoldable pub rest_text : ℕ → CoreProfile → List ℕ
@@ -31,9 +37,10 @@ rest_text core p =
     codes "core " ++ decimal core ++ codes " handlers " ++ decimal p.handlers ++ codes " after "
     ++ decimal p.after ++ codes "\n"
 
-abbrev pub core_text : ℕ → CoreProfile → List ℕ
-core_text core p = lines_text core p.lines ++ rest_text core p
+abbrev pub core_text : ℕ → ℕ → CoreProfile → List ℕ
+core_text depth core p = lines_text depth core p.lines ++ rest_text core p
 
-unfoldable pub profile_text : Profile → List ℕ
-profile_text Unchecked = codes "profile none\n"
-profile_text (Cores a b) = core_text 0 a ++ core_text 1 b
+-- of a profile whose keys were cut at this depth
+unfoldable pub profile_text : ℕ → Profile → List ℕ
+profile_text depth Unchecked = codes "profile none\n"
+profile_text depth (Cores a b) = core_text depth 0 a ++ core_text depth 1 b

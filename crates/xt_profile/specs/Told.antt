@@ -7,7 +7,7 @@ use Rattle.xt_profile.specs.declared.profiles.CoreProfile.{CoreProfile}
 use Rattle.xt_profile.specs.declared.profiles.ProfileLine.{ProfileLine}
 use Rattle.xt_profile.specs.declared.tally.Tally.{Tally}
 use Rattle.xt_profile.specs.Steps.{Step}
-use Rattle.xt_profile.specs.Keys.{functions, handlers, keys, last_eight}
+use Rattle.xt_profile.specs.Keys.{Start, functions, handlers, keys, shown}
 use Rattle.xt_profile.specs.Counts.{compare, is_same, lines}
 
 -- an entry of the map as a line
@@ -35,19 +35,21 @@ standing [] = 0
 standing (s ∷ past) = s.after
 
 -- these steps are counted: the last ones with a key, as many as are in a row, stand apart
-pub record AreCounted (opening : ℕ) (past : List Step) (t : Tally) : Type 0 where
+pub record AreCounted (opening : Start) (past : List Step) (t : Tally) : Type 0 where
   pub told : List (List ℕ)
-  pub keys_are : keys opening past ≡ replicate t.row (last_eight t.functions.items) ++ told
+  pub depth_is : t.depth ≡ opening.depth
+  pub keys_are : keys opening past
+      ≡ replicate t.row (shown opening.depth t.functions.items) ++ told
   pub lines_are : map read t.counts.entries ≡ lines told
   pub handlers_are : t.handlers ≡ handlers past
   pub steps_are : t.steps ≡ length past
 
-pub record IsTally (opening : ℕ) (past : List Step) (t : Tally) : Type 0 where
-  pub functions_are : t.functions.items ≡ functions opening (standing past) past
+pub record IsTally (opening : Start) (past : List Step) (t : Tally) : Type 0 where
+  pub functions_are : t.functions.items ≡ functions opening.pc (standing past) past
   pub counted : AreCounted opening past t
 
 -- what these steps come to, of so many steps in all
-abbrev pub closed : ℕ → List Step → ℕ → CoreProfile
+abbrev pub closed : Start → List Step → ℕ → CoreProfile
 closed opening past count = record {
   lines = lines (keys opening past);
   handlers = handlers past;

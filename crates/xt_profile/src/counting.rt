@@ -1,7 +1,7 @@
 //! The walk over a run that counts its call stacks.
 #![tactic(auto)]
 
-ghost use Rattle.std.specs.Prelude.{◌≡◌, ◌+◌, ◌<◌, ◌^◌, ℕ, IfOk, OnOk, List, length};
+ghost use Rattle.std.specs.Prelude.{◌≡◌, ◌+◌, ◌<◌, ◌^◌, IfOk, OnOk, List, length};
 ghost use Rattle.xt_map.specs.Memory.{constant_byte};
 ghost use Rattle.xt_map.specs.Placing.{IsPlaced};
 ghost use Rattle.xt_trace.specs.declared.record.StepRecord.{StepRecord};
@@ -14,6 +14,7 @@ ghost use Rattle.xt_discipline.specs.Walks.{Knows};
 ghost use Rattle.xt_handlers.specs.Answers.{handlers_of};
 ghost use Rattle.xt_core.specs.Runs.{IsRunOf, code_of};
 ghost use Rattle.xt_profile.specs.Follows.{AreCut, Follows, IsMade, depth_in};
+ghost use Rattle.xt_profile.specs.Keys.{Start};
 ghost use Rattle.xt_profile.specs.Peeks.{peeked};
 ghost use Rattle.xt_profile.specs.Profiled.{AddsUp, CoreAddsUp, core_profile, profile_of};
 
@@ -103,9 +104,9 @@ fn follow<'a>(
     tally1: &mut Tally,
 ) -> Result<(), AllocError>
     requires schedule { HasSchedule run.now }
-    requires known { (b0 : Bounds) × (b1 : Bounds) × (k : Known) × (e0 : ℕ) × (e1 : ℕ) × Follows (constant_byte walk.old.code) b0 b1 k (schedule_in run.now) e0 e1 records0.old records1.old walk.old 0 records0.old records1.old tally0.old tally1.old }
+    requires known { (b0 : Bounds) × (b1 : Bounds) × (k : Known) × (e0 : Start) × (e1 : Start) × Follows (constant_byte walk.old.code) b0 b1 k (schedule_in run.now) e0 e1 records0.old records1.old walk.old 0 records0.old records1.old tally0.old tally1.old }
     requires room { walk.old.side0.steps + walk.old.side1.steps + length (schedule_in run.now) < 2 ^ 32 }
-    ensures { OnOk result ((b0 b1 : Bounds) (k : Known) (e0 e1 : ℕ)
+    ensures { OnOk result ((b0 b1 : Bounds) (k : Known) (e0 e1 : Start)
         → Follows (constant_byte walk.old.code) b0 b1 k (schedule_in run.now) e0 e1 records0.old records1.old walk.old 0 records0.old records1.old tally0.old tally1.old
         → AreCut (constant_byte walk.old.code) k e0 e1 records0.old records1.old (judgement (constant_byte walk.old.code) b0 b1 (schedule_in run.now) records0.old records1.old k) tally0.new tally1.new) }
 {
@@ -123,11 +124,16 @@ fn follow<'a>(
 }
 
 /// The profiles of both cores of a run whose window handlers pass the check.
-fn cores(alloc: Global, image: &Image, run: &Run) -> Result<(CoreProfile, CoreProfile), AllocError>
+fn cores(
+    alloc: Global,
+    depth: u32,
+    image: &Image,
+    run: &Run,
+) -> Result<(CoreProfile, CoreProfile), AllocError>
     requires placed { IsPlaced image.now.segments }
     requires run { IsRunOf image.now run.now }
-    ensures zero { IfOk result (λ p. p.0 ≡ core_profile 0 image.now run.now) }
-    ensures one { IfOk result (λ p. p.1 ≡ core_profile 1 image.now run.now) }
+    ensures zero { IfOk result (λ p. p.0 ≡ core_profile 0 depth image.now run.now) }
+    ensures one { IfOk result (λ p. p.1 ≡ core_profile 1 depth image.now run.now) }
     ensures sum0 { IfOk result (λ p. CoreAddsUp p.0 run.now.trace0.count) }
     ensures sum1 { IfOk result (λ p. CoreAddsUp p.1 run.now.trace1.count) }
 {
@@ -137,8 +143,8 @@ fn cores(alloc: Global, image: &Image, run: &Run) -> Result<(CoreProfile, CorePr
     let cursor1 = Cursor::make(alloc, image, run, 1)?;
     let mut records0 = Peeked::new(cursor0);
     let mut records1 = Peeked::new(cursor1);
-    let mut tally0 = Tally::open(alloc, image.entry)?;
-    let mut tally1 = Tally::open(alloc, run.options.entry1)?;
+    let mut tally0 = Tally::open(alloc, image.entry, depth)?;
+    let mut tally1 = Tally::open(alloc, run.options.entry1, depth)?;
     follow(
         alloc,
         &mut walk,
@@ -157,19 +163,21 @@ fn cores(alloc: Global, image: &Image, run: &Run) -> Result<(CoreProfile, CorePr
 /// of functions has, and how many are handler steps or come later. Nothing where a window handler
 /// does not pass the check. The only error is running out of memory.
 ///
+/// A stack of more than `depth` functions has a cut key, with the first of them and the last `depth` less one.
+///
 /// Conditions: the run is the image's. The image's segments lie in one region each and share no
 /// byte, as those of every image that was read.
 #[tactic(auto, unfolding(crate::specs::Profiled::profile_of))]
-pub fn profile(alloc: Global, image: &Image, run: &Run) -> Result<Profile, AllocError>
+pub fn profile(alloc: Global, depth: u32, image: &Image, run: &Run) -> Result<Profile, AllocError>
     requires placed { IsPlaced image.now.segments }
     requires run { IsRunOf image.now run.now }
-    ensures profile { IfOk result (λ profile. profile ≡ profile_of image.now run.now) }
+    ensures profile { IfOk result (λ profile. profile ≡ profile_of depth image.now run.now) }
     ensures sums { IfOk result (λ profile. AddsUp profile run.now) }
 {
     let handlers = handlers_of(alloc, image, run.options.vecbase)?;
     if !are_yes(&handlers) {
         return Ok(Profile::Unchecked);
     }
-    let (zero, one) = cores(alloc, image, run)?;
+    let (zero, one) = cores(alloc, depth, image, run)?;
     Ok(Profile::Cores(zero, one))
 }

@@ -1,9 +1,9 @@
 //! What is counted of one core, step by step.
 #![tactic(auto)]
 
-ghost use Rattle.std.specs.Prelude.{◌≡◌, ◌+◌, ◌-◌, ◌<◌, ◌≤◌, ◌^◌, ℕ, IfOk, OnOk, List, [], ◌∷◌, length, map, unwrap_or};
+ghost use Rattle.std.specs.Prelude.{◌≡◌, ◌+◌, ◌-◌, ◌<◌, ◌≤◌, ◌^◌, IfOk, OnOk, List, [], ◌∷◌, length, map, unwrap_or};
 ghost use Rattle.xt_profile.specs.Counts.{compare, lines};
-ghost use Rattle.xt_profile.specs.Keys.{handlers, keys, last_eight};
+ghost use Rattle.xt_profile.specs.Keys.{Start, handlers, keys, shown};
 ghost use Rattle.xt_profile.specs.Steps.{Step};
 ghost use Rattle.xt_profile.specs.Told.{AreCounted, IsTally, closed, count_in, puts, read, standing};
 
@@ -12,14 +12,13 @@ use std::alloc::{AllocError, Global};
 use std::collections::BTreeMap;
 use xt_discipline::step_modes::Mode;
 
-/// How many functions a key has at most.
-const DEPTH: usize = 8;
-
 /// What is counted of a core so far.
 #[derive(Drop)]
 pub struct Tally {
     // The core's opening PC, and the PC of the ENTRY of each frame that stands, the oldest first.
     functions: Vec<u32>,
+    // How many functions a key has at most.
+    depth: u32,
     // How many steps each key has, but for the last ones in a row.
     counts: BTreeMap<Vec<u32>, u32>,
     // How many steps in a row have the key of these functions.
@@ -29,12 +28,19 @@ pub struct Tally {
     steps: u32,
 }
 
-/// The last eight of these functions, or all if there are fewer.
-fn last_eight(functions: &[u32]) -> &[u32]
-    ensures { result.now ≡ last_eight functions.now }
+/// The key of these functions: all, or where they are more than `depth` the first, 0 for those that are left out, and
+/// the last ones.
+fn shown(alloc: Global, functions: &[u32], depth: u32) -> Result<Vec<u32>, AllocError>
+    ensures { IfOk result (λ key. key.items ≡ shown depth functions.now) }
 {
-    let more = functions.len().saturating_sub(DEPTH);
-    &functions[more..]
+    let depth = depth as usize;
+    if functions.len() <= depth {
+        return Vec::from_slice(alloc, functions);
+    }
+    let mut key = Vec::from_slice(alloc, &functions[..1])?;
+    key.push(0)?;
+    key.extend_from_slice(&functions[functions.len() - depth.saturating_sub(1)..])?;
+    Ok(key)
 }
 
 /// How many steps a key has so far.
@@ -48,17 +54,11 @@ fn count_in(counts: &BTreeMap<Vec<u32>, u32>, key: &[u32]) -> u32
 }
 
 /// Counts so many steps more of a key.
-fn add(
-    alloc: Global,
-    counts: &mut BTreeMap<Vec<u32>, u32>,
-    key: &[u32],
-    row: u32,
-) -> Result<(), AllocError>
-    requires { count_in key.now (map read counts.old.entries) + row < 2 ^ 32 }
-    ensures { OnOk result (map read counts.new.entries ≡ puts key.now (count_in key.now (map read counts.old.entries) + row) (map read counts.old.entries)) }
+fn add(counts: &mut BTreeMap<Vec<u32>, u32>, key: Vec<u32>, row: u32) -> Result<(), AllocError>
+    requires { count_in key.items (map read counts.old.entries) + row < 2 ^ 32 }
+    ensures { OnOk result (map read counts.new.entries ≡ puts key.items (count_in key.items (map read counts.old.entries) + row) (map read counts.old.entries)) }
 {
-    let count = count_in(counts, key) + row;
-    let key = Vec::from_slice(alloc, key)?;
+    let count = count_in(counts, &key) + row;
     counts.insert(key, count)?;
     Ok(())
 }
@@ -78,14 +78,15 @@ fn lines_of(alloc: Global, counts: BTreeMap<Vec<u32>, u32>) -> Result<Lines, All
 }
 
 impl Tally {
-    /// No steps yet of a core that opens at `pc`.
-    pub fn open(alloc: Global, pc: u32) -> Result<Tally, AllocError>
-        ensures { IfOk result (λ t. IsTally pc [] t) }
+    /// No steps yet of a core that opens at `pc`, whose keys have so many functions at most.
+    pub fn open(alloc: Global, pc: u32, depth: u32) -> Result<Tally, AllocError>
+        ensures { IfOk result (λ t. IsTally (record { pc = pc; depth = depth }) [] t) }
     {
         let mut functions = Vec::new(alloc);
         functions.push(pc)?;
         Ok(Tally {
             functions,
+            depth,
             counts: BTreeMap::new(alloc),
             row: 0,
             handlers: 0,
@@ -96,15 +97,16 @@ impl Tally {
     /// Puts the steps in a row to those of their key.
     fn flush(&mut self, alloc: Global) -> Result<(), AllocError>
         requires room { self.old.steps < 2 ^ 32 }
-        requires known { (opening : ℕ) × (past : List Step) × AreCounted opening past self.old }
+        requires known { (opening : Start) × (past : List Step) × AreCounted opening past self.old }
         ensures functions { self.new.functions ≡ self.old.functions }
         ensures row { OnOk result (self.new.row ≡ 0) }
         ensures steps { self.new.steps ≡ self.old.steps }
-        ensures counted { OnOk result ((opening : ℕ) (past : List Step) → AreCounted opening past self.old → AreCounted opening past self.new) }
+        ensures counted { OnOk result ((opening : Start) (past : List Step) → AreCounted opening past self.old → AreCounted opening past self.new) }
     {
         if self.row > 0 {
             let row = self.row;
-            add(alloc, &mut self.counts, last_eight(&self.functions), row)?;
+            let key = shown(alloc, &self.functions, self.depth)?;
+            add(&mut self.counts, key, row)?;
             self.row = 0;
         }
         Ok(())
@@ -113,10 +115,10 @@ impl Tally {
     /// Counts a step, which may change the functions then.
     fn count(&mut self, mode: Mode)
         requires room { self.old.steps + 1 < 2 ^ 32 }
-        requires known { (opening : ℕ) × (past : List Step) × AreCounted opening past self.old }
+        requires known { (opening : Start) × (past : List Step) × AreCounted opening past self.old }
         ensures functions { self.new.functions ≡ self.old.functions }
         ensures steps { self.new.steps ≡ self.old.steps + 1 }
-        ensures counted { (opening : ℕ) (past : List Step) (s : Step) → IsTally opening past self.old → s.mode ≡ mode → s.before ≡ standing past → AreCounted opening (s ∷ past) self.new }
+        ensures counted { (opening : Start) (past : List Step) (s : Step) → IsTally opening past self.old → s.mode ≡ mode → s.before ≡ standing past → AreCounted opening (s ∷ past) self.new }
     {
         self.steps += 1;
         match mode {
@@ -129,8 +131,8 @@ impl Tally {
     /// A step at this PC, after which so many frames stand. The only error is running out of memory.
     pub fn step(&mut self, alloc: Global, pc: u32, mode: Mode, after: u32) -> Result<(), AllocError>
         requires room { self.old.steps + 1 < 2 ^ 32 }
-        requires known { (opening : ℕ) × (past : List Step) × IsTally opening past self.old }
-        ensures { OnOk result ((opening : ℕ) (past : List Step) → IsTally opening past self.old
+        requires known { (opening : Start) × (past : List Step) × IsTally opening past self.old }
+        ensures { OnOk result ((opening : Start) (past : List Step) → IsTally opening past self.old
             → IsTally opening (record { pc = pc; mode = mode; before = standing past; after = after } ∷ past) self.new) }
     {
         self.count(mode);
@@ -147,14 +149,15 @@ impl Tally {
     /// What was counted of a core that has so many steps in all. The only error is running out of
     /// memory.
     pub fn close(self, alloc: Global, count: u32) -> Result<CoreProfile, AllocError>
-        requires known { (opening : ℕ) × (past : List Step) × IsTally opening past self }
+        requires known { (opening : Start) × (past : List Step) × IsTally opening past self }
         requires within { self.steps ≤ count }
-        ensures { IfOk result (λ p. (opening : ℕ) (past : List Step) → IsTally opening past self → p ≡ closed opening past count) }
+        ensures { IfOk result (λ p. (opening : Start) (past : List Step) → IsTally opening past self → p ≡ closed opening past count) }
     {
         let mut tally = self;
         tally.flush(alloc)?;
         let Tally {
             functions: _,
+            depth: _,
             counts,
             row: _,
             handlers,

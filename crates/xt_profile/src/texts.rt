@@ -1,7 +1,7 @@
 //! The text of a call profile.
 ghost use Rattle.std.specs.Prelude.{◌≡◌, ◌++◌, IfOk, OnOk, string_bytes};
 ghost use Rattle.std.specs.List.{flat_map};
-ghost use Rattle.xt_profile.specs.Texts.{core_text, key_text, line_text, lines_text, next_text, profile_text, rest_text};
+ghost use Rattle.xt_profile.specs.Texts.{core_text, key_text, line_text, lines_text, more_text, next_text, profile_text, rest_text};
 
 use crate::profiles::{CoreProfile, Profile, ProfileLine};
 use std::alloc::{AllocError, Global};
@@ -27,14 +27,28 @@ fn push_more(out: &mut String, more: &[u32]) -> Result<(), AllocError>
     Ok(())
 }
 
+// Appends the functions of a key behind the first, of which the first is `..` where the key was cut.
+fn push_behind(out: &mut String, cut: bool, more: &[u32]) -> Result<(), AllocError>
+    ensures { OnOk result (string_bytes out.new ≡ string_bytes out.old ++ more_text cut more.now) }
+{
+    if !cut {
+        return push_more(out, more);
+    }
+    out.push_str(";..")?;
+    match more.split_first() {
+        Some((_, rest)) => push_more(out, rest),
+        None => Ok(()),
+    }
+}
+
 // Appends a key.
-fn push_key(out: &mut String, key: &[u32]) -> Result<(), AllocError>
-    ensures { OnOk result (string_bytes out.new ≡ string_bytes out.old ++ key_text key.now) }
+fn push_key(out: &mut String, depth: u32, key: &[u32]) -> Result<(), AllocError>
+    ensures { OnOk result (string_bytes out.new ≡ string_bytes out.old ++ key_text depth key.now) }
 {
     match key.split_first() {
         Some((address, more)) => {
             push_hex8(out, *address)?;
-            push_more(out, more)
+            push_behind(out, key.len() > depth as usize, more)
         }
         None => Ok(()),
     }
@@ -42,21 +56,26 @@ fn push_key(out: &mut String, key: &[u32]) -> Result<(), AllocError>
 
 // Appends the line of a key.
 #[tactic(auto, unfolding(crate::specs::Texts::line_text))]
-fn push_line(out: &mut String, core: u8, line: &ProfileLine) -> Result<(), AllocError>
-    ensures { OnOk result (string_bytes out.new ≡ string_bytes out.old ++ line_text core line.now) }
+fn push_line(out: &mut String, depth: u32, core: u8, line: &ProfileLine) -> Result<(), AllocError>
+    ensures { OnOk result (string_bytes out.new ≡ string_bytes out.old ++ line_text depth core line.now) }
 {
     write!(out, "core {core} ")?;
-    push_key(out, line.key.as_slice())?;
+    push_key(out, depth, line.key.as_slice())?;
     let count = line.count;
     writeln!(out, " {count}")
 }
 
 // Appends the line of each key.
-fn push_lines(out: &mut String, core: u8, lines: &[ProfileLine]) -> Result<(), AllocError>
-    ensures { OnOk result (string_bytes out.new ≡ string_bytes out.old ++ lines_text core lines.now) }
+fn push_lines(
+    out: &mut String,
+    depth: u32,
+    core: u8,
+    lines: &[ProfileLine],
+) -> Result<(), AllocError>
+    ensures { OnOk result (string_bytes out.new ≡ string_bytes out.old ++ lines_text depth core lines.now) }
 {
     for line in lines {
-        push_line(out, core, line)?;
+        push_line(out, depth, core, line)?;
     }
     Ok(())
 }
@@ -72,26 +91,31 @@ fn push_rest(out: &mut String, core: u8, profile: &CoreProfile) -> Result<(), Al
 }
 
 // Appends the lines of a core.
-fn push_core(out: &mut String, core: u8, profile: &CoreProfile) -> Result<(), AllocError>
-    ensures { OnOk result (string_bytes out.new ≡ string_bytes out.old ++ core_text core profile.now) }
+fn push_core(
+    out: &mut String,
+    depth: u32,
+    core: u8,
+    profile: &CoreProfile,
+) -> Result<(), AllocError>
+    ensures { OnOk result (string_bytes out.new ≡ string_bytes out.old ++ core_text depth core profile.now) }
 {
-    push_lines(out, core, profile.lines.as_slice())?;
+    push_lines(out, depth, core, profile.lines.as_slice())?;
     push_rest(out, core, profile)
 }
 
 /// The text of a profile: for core 0 and then core 1 a line `core C KEY N` for each key, with its
-/// addresses joined by `;`, and a line `core C handlers H after A`; or `profile none`. The only
+/// addresses joined by `;`, and `..` behind the first of a key that was cut at `depth`, and a line `core C handlers H after A`; or `profile none`. The only
 /// error is running out of memory.
 #[tactic(auto, unfolding(crate::specs::Texts::profile_text))]
-pub fn profile_text(alloc: Global, profile: &Profile) -> Result<Text, AllocError>
-    ensures { IfOk result (λ text. text ≡ profile_text profile.now) }
+pub fn profile_text(alloc: Global, depth: u32, profile: &Profile) -> Result<Text, AllocError>
+    ensures { IfOk result (λ text. text ≡ profile_text depth profile.now) }
 {
     let mut out = String::new(alloc);
     match profile {
         Profile::Unchecked => out.push_str("profile none\n")?,
         Profile::Cores(zero, one) => {
-            push_core(&mut out, 0, zero)?;
-            push_core(&mut out, 1, one)?;
+            push_core(&mut out, depth, 0, zero)?;
+            push_core(&mut out, depth, 1, one)?;
         }
     }
     Ok(Text::new(out.into_bytes()))

@@ -19,7 +19,7 @@ abbrev pub IsRaceOf : Image → Run → List ℕ → Type 0
 IsRaceOf image run text = IsRaceText (events_of image run) text
 
 abbrev pub IsProfileOf : Image → Run → List ℕ → Type 0
-IsProfileOf image run text = text ≡ profile_text (profile_of image run)
+IsProfileOf image run text = text ≡ profile_text 8 (profile_of 8 image run)
 
 -- the strict discipline of uses
 abbrev pub IsUsesTextOf : Image → Run → List ℕ → Type 0

@@ -6,7 +6,7 @@ ghost use Rattle.xt_image.specs.Parts.{IsWellFormed};
 ghost use Rattle.xt_map.specs.Placing.{IsPlaced};
 
 use std::alloc::{AllocError, Global};
-use xt_command_line::RunOptions;
+use xt_command_line::{DEFAULT_DEPTH, RunOptions};
 use xt_events::events_text;
 use xt_image::{Image, well_formed_is_placed};
 use xt_map::Text;
@@ -49,8 +49,8 @@ fn profiled(alloc: Global, wanted: bool, image: &Image, run: &Run) -> Result<Tex
     ensures { IfOk result (λ text. IsWanted wanted (IsProfileOf image.now run.now) text) }
 {
     if wanted {
-        let profile = profile(alloc, image, run)?;
-        profile_text(alloc, &profile)
+        let profile = profile(alloc, DEFAULT_DEPTH, image, run)?;
+        profile_text(alloc, DEFAULT_DEPTH, &profile)
     } else {
         Ok(Text::new(Vec::new(alloc)))
     }

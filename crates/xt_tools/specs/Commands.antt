@@ -84,6 +84,6 @@ IsCountsTold input bytes = IsCountsText (image_in input) (run_in input) bytes
 abbrev pub IsRaceTold : List ℕ → List ℕ → Type 0
 IsRaceTold input bytes = IsRaceText (events_of (image_in input) (run_in input)) bytes
 
--- the call profile of that run
-unfoldable pub profiled : List ℕ → List ℕ
-profiled input = profile_text (profile_of (image_in input) (run_in input))
+-- the call profile of that run, with keys that are cut at this depth
+unfoldable pub profiled : ℕ → List ℕ → List ℕ
+profiled depth input = profile_text depth (profile_of depth (image_in input) (run_in input))

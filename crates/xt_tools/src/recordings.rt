@@ -67,18 +67,18 @@ pub fn race(alloc: Global, input: &[u8]) -> Result<Text, Status>
     race_text(alloc, &image, &run).map_err(|_| Status::Memory)
 }
 
-/// The call profile of a recorded run, or the status of the recording's first fault.
+/// The call profile of a recorded run, with keys that are cut at this depth, or the status of the recording's first fault.
 #[tactic(auto, unfolding(crate::specs::Commands::profiled))]
-pub fn profile(alloc: Global, input: &[u8]) -> Result<Text, Status>
-    ensures ok { IfOk result (λ bytes. IsMade (recording_refusal input.now) (bytes ≡ profiled input.now)) }
+pub fn profile(alloc: Global, depth: u32, input: &[u8]) -> Result<Text, Status>
+    ensures ok { IfOk result (λ bytes. IsMade (recording_refusal input.now) (bytes ≡ profiled depth input.now)) }
     ensures refused { IfErr result (λ status. status ≢ Status.Memory → recording_refusal input.now ≡ Some status) }
 {
     let (image, run) = recording_in(alloc, input)?;
     well_formed_is_placed();
-    let Ok(found) = xt_profile::profile(alloc, &image, &run) else {
+    let Ok(found) = xt_profile::profile(alloc, depth, &image, &run) else {
         return Err(Status::Memory);
     };
-    profile_text(alloc, &found).map_err(|_| Status::Memory)
+    profile_text(alloc, depth, &found).map_err(|_| Status::Memory)
 }
 
 /// The first breach of a recorded run by this discipline of uses, or the status of the recording's first fault.

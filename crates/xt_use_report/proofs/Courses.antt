@@ -16,7 +16,8 @@ use Rattle.xt_image.specs.Parts.{FitsImage, FitsSegment}
 use Rattle.xt_rows.specs.Laws.{IsWord}
 use Rattle.xt_exec.specs.State.{State}
 use Rattle.xt_core.specs.Runs.{IsRunOf, code_of, records_of}
-use Rattle.xt_frames.specs.FirstBreach.{Course, IsFirstBreach, by_core, turns}
+use Rattle.xt_frames.specs.declared.kinds.Breach.{Breach}
+use Rattle.xt_frames.specs.FirstBreach.{Course, IsFirstBreach, IsJudgedTurn, by_core, turns}
 use Rattle.xt_stretch.specs.declared.HandlerVerdict.{HandlerVerdict}
 use Rattle.xt_stretch.specs.declared.HandlerVerdict.TheVariants.{Yes, No}
 use Rattle.xt_stretch.specs.declared.Side.TheVariants.{Overflow, Underflow}
@@ -27,6 +28,7 @@ use Rattle.xt_discipline.specs.Verdicts.{are_yes, is_yes, opened0, opened1}
 use Rattle.xt_simulation.specs.Headline.{IsRunOfImage}
 use Rattle.xt_simulation.specs.Opening.{AreSmall, IsRunnable, memory_of}
 use Rattle.xt_simulation.proofs.Images.{six_suffice}
+use Rattle.xt_uses.specs.FirstUse.{History, IsFirstUse, IsHistory}
 use Rattle.xt_uses.specs.UseLaws.{IsUseRun}
 use Rattle.xt_use_walk.specs.declared.walk.Uses.{Uses}
 use Rattle.xt_use_walk.specs.declared.walk.Uses.TheVariants.{Unchecked, Whole, Broken}
@@ -35,7 +37,8 @@ use Rattle.xt_uses.specs.declared.discipline.Discipline.{Discipline}
 use Rattle.xt_uses.specs.declared.discipline.Discipline.TheVariants.{Lenient}
 use Rattle.xt_use_run.specs.Laws as laws
 use Rattle.xt_use_run.specs.Laws.{UsesAreSo, UsesOfRunsAreLater}
-use Rattle.xt_use_report.specs.Held.{AreSo, AreUsesLater, AreUsesSo, IsLater, IsOnly, course_of, is_checked, opening}
+use Rattle.xt_fillings.specs.Laws.{RunsAreDecided}
+use Rattle.xt_use_report.specs.Held.{AreDecided, AreSo, AreUsesLater, AreUsesSo, IsLater, IsOnly, course_of, is_checked, found_in, opening}
 
 -- ---- a run of an image with what is kept of its records
 
@@ -114,21 +117,47 @@ uses_are d image r handlers xs ys uses answers first second h =
 
 -- ---- the laws
 
+-- what is not known decides nothing, before the first breach of any history
+Decides : Discipline → Course → Type 0
+Decides d c = (h : History) (q : ℕ) (found : Option Breach) → IsHistory d c h → IsFirstUse c h q found → AreDecided d c h q
+
 -- where the breach of an answer stands, or the run ends
-said_so : (d : Discipline) (c : Course) (opening : MemoryContents) (uses : Uses) → IsSaid d c uses → IsUseRun c opening → AreSo d c opening uses
-said_so d c opening Unchecked said fits = absurd said
-said_so d c opening (Whole n m) said fits = record { history = said.history; is_history = said.is_history; place = said.place; is_first = said.first; fits = fits }
-said_so d c opening (Broken first) said fits = record { history = said.history; is_history = said.is_history; place = said.place; is_first = said.is_first; fits = fits }
+said_so : (d : Discipline) (c : Course) (opening : MemoryContents) (uses : Uses) → IsSaid d c uses → IsUseRun c opening → Decides d c → AreSo d c opening uses
+said_so d c opening Unchecked said fits decides = absurd said
+said_so d c opening (Whole n m) said fits decides = record {
+  history = said.history;
+  is_history = said.is_history;
+  place = said.place;
+  is_first = said.first;
+  fits = fits;
+  decided = decides said.history said.place None said.is_history said.first;
+}
+said_so d c opening (Broken first) said fits decides = record {
+  history = said.history;
+  is_history = said.is_history;
+  place = said.place;
+  is_first = said.is_first;
+  fits = fits;
+  decided = decides said.history said.place (Some first.breach) said.is_history said.is_first;
+}
 
 said_of : (d : Discipline) (checked : Bool) (c : Course) (uses : Uses) → checked ≡ true → IsUsesOf d checked c uses → IsSaid d c uses
 said_of d true c uses e said = said
 said_of d false c uses e said = absurd cc
 
-pub are_so : (d : Discipline) (image : Image) (r : Run) (uses : Uses) → UsesAreSo → FitsImage image → IsWord r.options.vecbase → IsWord r.options.entry1 → IsRunOf image r → IsUsesOf d (is_checked image r) (course_of image r) uses → AreUsesSo d image r uses
-are_so d image r uses law fits vecbase entry1 h of checked apart =
-    let so = law image.segments image.entry r.options (short_of image r) (runnable image r fits vecbase entry1 h) (passes (code_of image) r.options.vecbase checked) apart (run_by image r h) in
+pub are_so : (d : Discipline) (image : Image) (r : Run) (uses : Uses) → UsesAreSo → RunsAreDecided → FitsImage image → IsWord r.options.vecbase → IsWord r.options.entry1 → IsRunOf image r → IsUsesOf d (is_checked image r) (course_of image r) uses → AreUsesSo d image r uses
+are_so d image r uses law decided fits vecbase entry1 h of checked apart =
+    let o = r.options in
+    let short = short_of image r in
+    let run = run_by image r h in
+    let runs = runnable image r fits vecbase entry1 h in
+    let handlers = passes (code_of image) o.vecbase checked in
+    let so = law image.segments image.entry o short runs handlers apart run in
+    let decides : Decides d (laws.course_of image.segments image.entry o short) =
+    λ history q found is first n p core rec. decided image.segments image.entry o short runs handlers apart run d history n q found is first p core rec in
     said_so d (course_of image r) (memory_of (opening image r)) uses (said_of d (is_checked image r) (course_of image r) uses checked of)
     (subst (λ (c : Course). IsUseRun c (memory_of (opening image r))) (course_is image r h) so)
+    (subst (Decides d) (course_is image r h) decides)
 
 whole_said : (c : Course) (uses : Uses) → IsLater c → IsSaid Lenient c uses → (p : ℕ) → IsFirstBreach c p None → uses ≡ Whole 0 0
 whole_said c Unchecked later said p first = absurd said

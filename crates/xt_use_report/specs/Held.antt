@@ -1,11 +1,12 @@
 -- What is so of the uses of a run of an image ('profile').
-use Rattle.std.specs.Prelude.{◌≡◌, ℕ, ◌≤◌, Bool, true, Option, Some, None}
+use Rattle.std.specs.Prelude.{◌≡◌, ℕ, ◌<◌, ◌≤◌, Bool, true, Option, Some, None}
 use Rattle.xt_map.specs.declared.contents.MemoryContents.{MemoryContents}
+use Rattle.xt_trace.specs.declared.record.StepRecord.{StepRecord}
 use Rattle.xt_trace.specs.declared.run.Run.{Run}
 use Rattle.xt_image.specs.declared.image.Image.{Image}
 use Rattle.xt_core.specs.Runs.{code_of, records_of}
 use Rattle.xt_frames.specs.declared.kinds.Breach.{Breach}
-use Rattle.xt_frames.specs.FirstBreach.{Course, IsFirstBreach}
+use Rattle.xt_frames.specs.FirstBreach.{Course, IsFirstBreach, IsJudgedTurn}
 use Rattle.xt_handlers.specs.Answers.{handlers_of}
 use Rattle.xt_discipline.specs.Verdicts.{are_yes}
 use Rattle.xt_simulation.specs.Opening.{Openings, memory_of, openings_of}
@@ -17,6 +18,8 @@ use Rattle.xt_uses.specs.UseLaws.{IsUseRun}
 use Rattle.xt_use_walk.specs.declared.walk.Uses.{Uses}
 use Rattle.xt_use_walk.specs.declared.walk.Uses.TheVariants.{Unchecked, Whole, Broken}
 use Rattle.xt_use_walk.specs.Verdicts.{IsUsesOf, course_in}
+use Rattle.xt_fillings.specs.Fillings.{Filling}
+use Rattle.xt_fillings.specs.Laws.{FollowsRecord}
 
 -- a run of an image, to be judged: the records of both cores, in the order of its schedule
 abbrev pub course_of : Image → Run → Course
@@ -36,16 +39,25 @@ found_in Unchecked = None
 found_in (Whole n m) = None
 found_in (Broken first) = Some first.breach
 
+-- Whatever stands where nothing is known: of each judged record before this turn the machine of
+-- frames over any filling has the PC, the kind, the access, the byte that is sent, and each known
+-- bit of what is written and stored.
+abbrev pub AreDecided : Discipline → Course → History → ℕ → Type 0
+AreDecided d c history place =
+    (n : Filling) (p core : ℕ) (rec : StepRecord) → p < place → IsJudgedTurn c p core rec
+    → FollowsRecord d c history n p core rec
+
 -- Where the handlers pass and the two stacks are apart: the breach of the answer stands at this
 -- turn, or none does and it is the end; and of each judged record before the first breach the
 -- machine of uses has the PC, the kind, and what is known of the write, the access and the reply,
--- over one memory.
+-- over one memory. Up to there what is not known decides nothing.
 pub record AreSo (d : Discipline) (c : Course) (opening : MemoryContents) (uses : Uses) : Type 0 where
   pub history : History
   pub is_history : IsHistory d c history
   pub place : ℕ
   pub is_first : IsFirstUse c history place (found_in uses)
   pub fits : IsUseRun c opening
+  pub decided : AreDecided d c history place
 
 abbrev pub AreUsesSo : Discipline → Image → Run → Uses → Type 0
 AreUsesSo d image r uses =

@@ -9,6 +9,7 @@ ghost use Rattle.xt_use_report.specs.Held.{AreUsesLater, AreUsesSo, IsOnly, cour
 use std::alloc::{AllocError, Global};
 use xt_core::Cursor;
 use xt_discipline::handlers_of;
+use xt_fillings::laws::runs_are_decided;
 use xt_image::{Image, well_formed_is_placed};
 use xt_trace::Run;
 use xt_use_run::laws::{uses_are_so, uses_of_runs_are_later};
@@ -28,8 +29,9 @@ fn is_word(number: u32)
 /// Conditions: the image is well formed, and the run is the image's.
 ///
 /// No other answer is one of the run. Of a run whose handlers pass and whose stacks are apart, what the machine of uses knows of each
-/// judged record before the breach that the answer names, or of all where it names none, is so. No breach of the lenient discipline comes
-/// before one of the stack discipline, and where that shows none, its answer is that uses are whole and carry nothing.
+/// judged record before the breach that the answer names, or of all where it names none, is so, and what it does not know decides nothing
+/// there: with any other numbers in its place the machine of frames has the same places, accesses and bytes sent. No breach of the lenient
+/// discipline comes before one of the stack discipline, and where that shows none, its answer is that uses are whole and carry nothing.
 pub fn uses_of(
     alloc: Global,
     discipline: Discipline,
@@ -45,6 +47,7 @@ pub fn uses_of(
 {
     well_formed_is_placed();
     uses_are_so();
+    runs_are_decided();
     uses_of_runs_are_later();
     uses_are_one();
     is_word(run.options.vecbase);

@@ -7,4 +7,4 @@ use Rattle.xt_profile.proofs.texts.push_lines.Given as goal
 
 abbrev pub invariant-loop-line : goal.invariant-loop-line
 invariant-loop-line l =
-    string_bytes l.out ≡ string_bytes l.initial.out ++ flat_map (line_text l.core) (take l.line-index l.lines)
+    string_bytes l.out ≡ string_bytes l.initial.out ++ flat_map (line_text l.depth l.core) (take l.line-index l.lines)

@@ -28,7 +28,7 @@ returns-clause-only c = is_only c.args.discipline c.args.image.now c.args.run.no
 
 pub returns-clause-so : goal.returns-clause-so
 returns-clause-so c =
-    are_so c.args.discipline c.args.image.now c.args.run.now c.in_ok-uses.uses c.uses_are_so.ensures c.requires.image.fits c.is_word.ensures c.is_word-2.ensures c.requires.run (returns-clause-uses c)
+    are_so c.args.discipline c.args.image.now c.args.run.now c.in_ok-uses.uses c.uses_are_so.ensures c.runs_are_decided.ensures c.requires.image.fits c.is_word.ensures c.is_word-2.ensures c.requires.run (returns-clause-uses c)
 
 pub returns-clause-later : goal.returns-clause-later
 returns-clause-later c =

@@ -1,5 +1,5 @@
 use Rattle.std.proofs.Common.{◌≡◌, ◌+◌, ℕ, List, map, refl, ap, subst, ◌∙◌}
-use Rattle.xt_profile.specs.Keys.{last_eight}
+use Rattle.xt_profile.specs.Keys.{shown}
 use Rattle.xt_profile.specs.Told.{count_in, puts, read}
 use Rattle.xt_profile.proofs.Telling.{count_fits, counted_flushed}
 use Rattle.xt_profile.proofs.tally.Tally.flush.Goals as goal
@@ -7,11 +7,11 @@ use Rattle.xt_profile.proofs.tally.Tally.flush.Goals as goal
 pub add-requires : goal.add-requires
 add-requires c =
     let q = c.requires.known in
-    count_fits q.0 q.1 c.args.self.now c.last_eight.result.now q.2 c.requires.room
+    count_fits q.0 q.1 c.args.self.now c.in_ok-key.key.items q.2 c.requires.room
 
 pub returns-in_ok-add-clause-counted : goal.returns-in_ok-add-clause-counted
 returns-in_ok-add-clause-counted c opening past h =
     let t = c.args.self.now in
-    let key = c.last_eight.ensures ∙ ap last_eight c.deref.ensures.value in
+    let key = c.in_ok-key.ensures ∙ (ap (shown t.depth) c.deref.ensures.value ∙ ap (λ (d : ℕ). shown d t.functions.items) h.depth_is) in
     let P : List ℕ → Type 0 = λ k. map read c.add.new.counts.entries ≡ puts k (count_in k (map read t.counts.entries) + t.row) (map read t.counts.entries) in
-    counted_flushed opening past t (record t { counts = c.add.new.counts; row = 0 }) h c.if-self-gt0.true refl refl refl refl (subst P key c.in_ok-add.ensures)
+    counted_flushed opening past t (record t { counts = c.add.new.counts; row = 0 }) h c.if-self-gt0.true refl refl refl refl refl (subst P key c.in_ok-add.ensures)

@@ -17,7 +17,7 @@ returns c opening past h =
     let t = c.args.self.now in
     let counted : AreCounted opening (s ∷ past) c.flush.new.self = c.in_ok-flush.ensures.counted opening (s ∷ past) (c.count.ensures.counted opening past s h refl refl) in
     let new : Tally = record c.flush.new.self { functions = c.resize.new.self } in
-    let moved = counted_moved opening (s ∷ past) c.flush.new.self new counted c.in_ok-flush.ensures.row c.in_ok-flush.ensures.row refl refl refl in
+    let moved = counted_moved opening (s ∷ past) c.flush.new.self new counted c.in_ok-flush.ensures.row c.in_ok-flush.ensures.row refl refl refl refl in
     let same : c.flush.new.self.functions ≡ t.functions = c.flush.ensures.functions ∙ c.count.ensures.functions in
     let items : c.flush.new.self.functions.items ≡ t.functions.items = ap (λ (v : Vec ℕ Global). v.items) same in
     let len : c.flush.new.self.functions.len ≡ length c.flush.new.self.functions.items =

@@ -1,0 +1,4 @@
+pub mod Same
+pub mod Putting
+pub mod Placing
+pub mod Sending

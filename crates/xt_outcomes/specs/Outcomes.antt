@@ -1,0 +1,51 @@
+-- What comes out of an order ('profile').
+--
+-- Profile: an outcome needs both cores stopped by BREAK. Timed, it needs neither to have a turn
+-- left, so one that made all its turns has ended too.
+-- Note: `IsStuck` speaks of every longer order, so a core that goes round in a loop for ever is
+-- stuck only if no order of the other's turns lets it out.
+use Rattle.std.specs.Prelude.{◌≡◌, ℕ, Bool, false, ◌==◌, ◌&&◌, List, ◌++◌, map}
+use Rattle.xt_map.specs.Serving.{number_at}
+use Rattle.xt_trace.specs.declared.trace.Stop.{Stop}
+use Rattle.xt_trace.specs.Chip.{Chip}
+use Rattle.xt_trace.specs.Runs.{Opening}
+use Rattle.xt_trace.specs.Traces.{has_stopped, stop_of}
+use Rattle.xt_trace.specs.Worlds.{World}
+use Rattle.xt_exec.specs.State.{State}
+use Rattle.xt_outcomes.specs.Orders.{timed_world_after, world_after}
+
+-- how both cores ended, what was sent, and the values of the chosen words
+pub record Outcome : Type 0 where
+  pub sent : List ℕ
+  pub stop0 : Stop
+  pub pc0 : ℕ
+  pub stop1 : Stop
+  pub pc1 : ℕ
+  pub words : List ℕ
+
+-- of a world in which both cores have ended, for the words at these addresses
+abbrev pub outcome_in : List ℕ → World State → Outcome
+outcome_in addresses w = record {
+  sent = w.line.memory.sent;
+  stop0 = stop_of w.core0.records;
+  pc0 = w.core0.state.control.pc;
+  stop1 = stop_of w.core1.records;
+  pc1 = w.core1.state.control.pc;
+  words = map (λ a. number_at w.line.memory a 4) addresses;
+}
+
+-- both cores have stopped by BREAK
+abbrev pub have_stopped : {S : Type 0} → World S → Bool
+have_stopped w = has_stopped w.core0.records && has_stopped w.core1.records
+
+-- timed: neither core has a turn left, since it has stopped or has made all of them
+abbrev pub have_ended : {S : Type 0} → World S → Bool
+have_ended w = w.core0.left == 0 && w.core1.left == 0
+
+-- no order that begins with this one ends with both cores stopped
+abbrev pub IsStuck : {S : Type 0} (P : Chip S) → Opening S → List ℕ → Type 0
+IsStuck P o order = (more : List ℕ) → have_stopped (world_after P o (order ++ more)) ≡ false
+
+-- timed: no order that begins with this one ends with both cores ended
+abbrev pub IsTimedStuck : {S : Type 0} (P : Chip S) → Opening S → List ℕ → Type 0
+IsTimedStuck P o order = (more : List ℕ) → have_ended (timed_world_after P o (order ++ more)) ≡ false

@@ -1,0 +1,28 @@
+//! How a search opens.
+ghost use Rattle.std.specs.Prelude.{◌≡◌};
+ghost use Rattle.xt_trace.specs.Runs.{opened};
+ghost use Rattle.xt_trace.specs.Validity.{IsValid};
+ghost use Rattle.xt_core.specs.Runs.{memory_of, opening_of};
+ghost use Rattle.xt_outcomes.specs.Kept.{spot_of};
+ghost use Rattle.xt_outcomes.specs.Spots.{spot_in};
+
+use crate::sides::Side;
+use crate::world::World;
+use std::alloc::Global;
+use xt_changes::Changes;
+use xt_image::Image;
+use xt_trace::Options;
+
+/// The world in which the runs of an image open.
+///
+/// Condition: the options are valid.
+pub fn open(alloc: Global, image: &Image, options: &Options) -> World
+    requires { IsValid options.now }
+    ensures { spot_of (memory_of image.now options.now) result ≡ spot_in (opened (opening_of image.now options.now)) }
+{
+    World {
+        side0: Side::open(0, image.entry, options),
+        side1: Side::open(1, options.entry1, options),
+        changes: Changes::new(alloc),
+    }
+}

@@ -1,0 +1,138 @@
+//! A core between two turns.
+ghost use Rattle.std.specs.Prelude.{◌≡◌, ◌<◌, true, length};
+
+use std::marker::Model;
+use xt_exec::Regs;
+use xt_special::{Ps, Special};
+use xt_trace::Options;
+use xt_window::{WindowFile, Windows};
+
+/// A core between two turns: its registers, the turns that it has left, and whether it has stopped.
+/// Contracts see its state in place of the registers.
+#[derive(Drop)]
+pub struct Side {
+    pub(crate) regs: Regs<WindowFile>,
+    pub(crate) left: u32,
+    pub(crate) stopped: bool,
+}
+
+impl Model for Side {
+    ghost use Rattle.xt_exec.specs.State.{State};
+    ghost use Rattle.xt_exec.specs.States.{file_state};
+    ghost use Rattle.xt_exec.specs.Laws.{IsShaped};
+    ghost use Rattle.xt_outcomes.specs.Spots as spots;
+
+    ghost Value = { spots.Side State };
+
+    ghost view = { λ s. record { state = file_state s.regs; left = s.left; stopped = s.stopped } };
+
+    ghost invariant = { λ s. IsShaped (file_state s.regs) };
+}
+
+// Whether all fields of PS are equal.
+fn is_same_ps(a: Ps, b: Ps) -> bool
+    ensures { result ≡ true → a ≡ b }
+{
+    a == b
+}
+
+// Whether all special registers are seen to be equal.
+fn is_same_special(a: &Special, b: &Special) -> bool
+    requires count_a { length a.now.file ≡ 256 }
+    requires count_b { length b.now.file ≡ 256 }
+    ensures { result ≡ true → a.now ≡ b.now }
+{
+    for n in 0..256u32 {
+        if a.register(n as u8) != b.register(n as u8) {
+            return false;
+        }
+    }
+    is_same_ps(a.ps_fields(), b.ps_fields()) && a.threadptr() == b.threadptr()
+}
+
+// Whether all registers and the windows are seen to be equal.
+fn is_same_file(a: &WindowFile, b: &WindowFile) -> bool
+    requires count_a { length a.now.regs ≡ 64 }
+    requires count_b { length b.now.regs ≡ 64 }
+    ensures { result ≡ true → a.now ≡ b.now }
+{
+    let mut left = *a;
+    let mut right = *b;
+    for n in 0..64u8 {
+        left.set_base(n / 4);
+        right.set_base(n / 4);
+        if left.read(n % 4) != right.read(n % 4) {
+            return false;
+        }
+    }
+    a.base() == b.base() && a.start() == b.start()
+}
+
+impl Side {
+    ghost use Rattle.std.specs.Prelude.{false};
+    ghost use Rattle.xt_trace.specs.Validity.{IsValid};
+    ghost use Rattle.xt_core.specs.Runs.{opening_at, turns_of};
+
+    /// A core that opens at `pc`, with this core's turns and stack of the options.
+    ///
+    /// Conditions: the core is 0 or 1, and the options are valid.
+    pub fn open(core: u8, pc: u32, options: &Options) -> Side
+        requires core { core < 2 }
+        requires valid { IsValid options.now }
+        ensures { result ≡ record { state = opening_at core pc options.now; left = turns_of core options.now; stopped = false } }
+    {
+        let (turns, stack) = if core == 0 {
+            (options.turns0, options.stack0)
+        } else {
+            (options.turns1, options.stack1)
+        };
+        Side {
+            regs: Regs::open(core, pc, options.vecbase, stack.hi, WindowFile::new()),
+            left: turns,
+            stopped: false,
+        }
+    }
+
+    /// The same core.
+    pub fn copy(&self) -> Side
+        ensures { result ≡ self.now }
+    {
+        Side {
+            regs: self.regs,
+            left: self.left,
+            stopped: self.stopped,
+        }
+    }
+
+    /// Whether two cores are seen to be equal.
+    pub fn is_same(&self, other: &Side) -> bool
+        ensures { result ≡ true → self.now ≡ other.now }
+    {
+        self.left == other.left
+            && self.stopped == other.stopped
+            && self.regs.pc == other.regs.pc
+            && self.regs.waiting == other.regs.waiting
+            && is_same_special(&self.regs.sr, &other.regs.sr)
+            && is_same_file(&self.regs.win, &other.regs.win)
+    }
+
+    /// The turns that are left.
+    pub fn left(&self) -> u32
+        ensures { result ≡ self.now.left }
+    {
+        self.left
+    }
+
+    /// A number that is the same for equal cores.
+    pub fn digest(&self) -> u64 {
+        let mut digest = (self.regs.pc as u64).wrapping_add(
+            (self.left as u64).wrapping_mul(0x1_0000_0000),
+        );
+        for i in 0..16u8 {
+            digest = digest
+                .wrapping_mul(0x9E37_79B9_7F4A_7C15)
+                .wrapping_add(self.regs.win.read(i) as u64);
+        }
+        digest
+    }
+}

@@ -1,0 +1,66 @@
+//! The search of an image's orders.
+ghost use Rattle.std.specs.Prelude.{IfOk};
+ghost use Rattle.xt_trace.specs.Validity.{IsValid};
+ghost use Rattle.xt_image.specs.Parts.{IsWellFormed};
+
+use crate::{is_whole, search_timed};
+use std::alloc::{AllocError, Global};
+use std::test::Fail;
+use xt_image::{Image, read, well_formed_is_placed};
+use xt_trace::{Options, Stack};
+
+/// `l32r a2, 0x3FF40000`, `movi a3, 65`, `s8i a3, a2, 0`, `break 1, 15` at 0x40080404.
+static LETTER: [u8; 64] = [
+    0xE9, 0x01, 0x02, 0x20, 0x04, 0x04, 0x08, 0x40, 0xEE, 0x00, 0x00, 0x00, 0x00, 0x00, 0x00, 0x00,
+    0x00, 0xFF, 0xFF, 0x00, 0x00, 0x00, 0x00, 0x00, 0x00, 0x04, 0x08, 0x40, 0x10, 0x00, 0x00, 0x00,
+    0x00, 0x00, 0xF4, 0x3F, 0x21, 0xFF, 0xFF, 0x32, 0xA0, 0x41, 0x32, 0x42, 0x00, 0xF0, 0x41, 0x00,
+    0x00, 0x00, 0x00, 0x00, 0x00, 0x00, 0x00, 0x00, 0x00, 0x00, 0x00, 0x00, 0x00, 0x00, 0x00, 0x17,
+];
+
+/// The image of a file, which is a good one.
+fn image_in(alloc: Global, bytes: &[u8; 64]) -> Result<Image, Fail>
+    ensures { IfOk result IsWellFormed }
+{
+    match read(alloc, bytes) {
+        Ok(image) => Ok(image),
+        Err(_) => Err(AllocError.into()),
+    }
+}
+
+/// Ten turns of each core, which both begin at this address.
+fn options_of(entry1: u32) -> Result<Options, Fail>
+    ensures { IfOk result IsValid }
+{
+    let options = Options {
+        turns0: 10,
+        turns1: 10,
+        entry1,
+        vecbase: 0x40080000,
+        stack0: Stack {
+            lo: 0x3FFF0000,
+            hi: 0x3FFF8000,
+        },
+        stack1: Stack {
+            lo: 0x3FFF8000,
+            hi: 0x40000000,
+        },
+    };
+    if options.valid() {
+        Ok(options)
+    } else {
+        Err(AllocError.into())
+    }
+}
+
+/// Each core makes four turns, so there are five by five worlds.
+#[test]
+fn two_letters_have_25_worlds(rt: HostRuntime) -> Result<(), Fail> {
+    let alloc = rt.alloc();
+    let image = image_in(alloc, &LETTER)?;
+    let options = options_of(0x40080404)?;
+    well_formed_is_placed();
+    let search = search_timed(alloc, &image, &options, 100)?;
+    assert_eq!(rt; search.graph.kept.len(), 25);
+    assert_eq!(rt; is_whole(&image, &options, &search), true);
+    Ok(())
+}

@@ -1,0 +1,127 @@
+//! One turn of a core, from a world that is kept.
+ghost use Rattle.std.specs.Prelude.{◌≡◌, ◌-◌, ◌<◌, ◌≤◌, ◌||◌, if◌then◌else◌, None, IfOk, OnOk};
+ghost use Rattle.xt_map.specs.Memory.{HasSizes, constant_byte};
+ghost use Rattle.xt_fetch.specs.Code.{AreBytes};
+ghost use Rattle.xt_trace.specs.Worlds.{answer, memory_left};
+ghost use Rattle.xt_changes.specs.Changed.{contents_of};
+ghost use Rattle.xt_rows.specs.Laws.{IsWord};
+ghost use Rattle.xt_exec.specs.Chips.{processor};
+ghost use Rattle.xt_exec.specs.Turn.{demand};
+ghost use Rattle.xt_core.specs.Cores.{turned};
+ghost use Rattle.xt_outcomes.specs.Spots.{memory_given, side_given};
+
+use crate::sides::Side;
+use std::alloc::{AllocError, Global};
+use xt_bus::Memory;
+use xt_changes::Changes;
+use xt_core::{Begin, Core};
+use xt_map::Constants;
+use xt_trace::Options;
+use xt_window::WindowFile;
+
+/// A core that makes the turns of all worlds.
+#[derive(Drop)]
+pub struct Desk {
+    core: Core<WindowFile>,
+    ghost free: { core.waiting ≡ None },
+    ghost room: { 2 ≤ core.turns },
+}
+
+impl Desk {
+    ghost use Rattle.xt_trace.specs.Validity.{IsValid};
+
+    /// A core with room for two turns. The only error is running out of memory.
+    ///
+    /// Condition: the options are valid.
+    pub fn make(alloc: Global, options: &Options) -> Result<Desk, AllocError>
+        requires { IsValid options.now }
+    {
+        let two = Options {
+            turns0: 2,
+            turns1: 2,
+            entry1: options.entry1,
+            vecbase: options.vecbase,
+            stack0: options.stack0,
+            stack1: options.stack1,
+        };
+        Ok(Desk {
+            core: Core::make(alloc, 0, options.entry1, &two, WindowFile::new())?,
+        })
+    }
+}
+
+// One turn of a core that has one left. The only error is running out of memory.
+fn make_turn(
+    core: &mut Core<WindowFile>,
+    code: &Constants,
+    opening: &Memory,
+    changes: &mut Changes,
+) -> Result<(), AllocError>
+    requires waiting { core.old.waiting ≡ None }
+    requires left { 0 < core.old.left }
+    requires sizes { HasSizes opening.now.contents }
+    ensures core { OnOk result (core.new ≡ turned (constant_byte code.now) (answer (demand (constant_byte code.now) core.old.state) (contents_of opening.now.contents changes.old)) core.old) }
+    ensures memory { OnOk result (contents_of opening.now.contents changes.new ≡ memory_left (demand (constant_byte code.now) core.old.state) (contents_of opening.now.contents changes.old)) }
+    ensures word { OnOk result (IsWord (answer (demand (constant_byte code.now) core.old.state) (contents_of opening.now.contents changes.old))) }
+    ensures free { core.new.waiting ≡ None }
+    ensures turns { core.new.turns ≡ core.old.turns }
+{
+    match core.turn_begin(code) {
+        Begin::Bus(access) => match changes.serve(opening, access) {
+            Ok(reply) => {
+                core.turn_end(reply);
+                Ok(())
+            }
+            Err(e) => {
+                core.turn_end(0);
+                Err(e)
+            }
+        },
+        Begin::Local => Ok(()),
+        Begin::Ended => Ok(()),
+    }
+}
+
+// The turns that are left after one, of so many.
+fn left_after(left: u32, stops: bool) -> u32
+    requires { 0 < left }
+    ensures { result ≡ (if stops then 0 else left - 1) }
+{
+    if stops { 0 } else { left - 1 }
+}
+
+// Whether one of them is true.
+fn is_either(a: bool, b: bool) -> bool
+    ensures { result ≡ (a || b) }
+{
+    a || b
+}
+
+impl Side {
+    /// The core after its next turn, or as it is where it has ended. The only error is running out of
+    /// memory.
+    pub fn turned(
+        &self,
+        desk: &mut Desk,
+        code: &Constants,
+        opening: &Memory,
+        changes: &mut Changes,
+    ) -> Result<Side, AllocError>
+        requires sizes { HasSizes opening.now.contents }
+        requires bytes { AreBytes (constant_byte code.now) }
+        ensures side { IfOk result (λ s. s ≡ side_given (processor (constant_byte code.now)) self.now.left self.now (contents_of opening.now.contents changes.old)) }
+        ensures memory { OnOk result (contents_of opening.now.contents changes.new ≡ memory_given (processor (constant_byte code.now)) self.now.left self.now.state (contents_of opening.now.contents changes.old)) }
+    {
+        if self.left == 0 {
+            return Ok(self.copy());
+        }
+        desk.core.restart(self.regs, 2);
+        make_turn(&mut desk.core, code, opening, changes)?;
+        let stops = desk.core.left() == 0;
+        Ok(Side {
+            regs: *desk.core.regs(),
+            left: left_after(self.left, stops),
+            stopped: is_either(self.stopped, stops),
+        })
+    }
+}

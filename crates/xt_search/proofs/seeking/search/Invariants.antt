@@ -1,0 +1,11 @@
+use Rattle.std.proofs.Common.{◌≡◌, ◌≤◌, length, max}
+use Rattle.xt_search.specs.Graphs.{IsGraph, OpensWith}
+use Rattle.xt_search.proofs.seeking.search.Given as goal
+
+abbrev pub invariant-loop-round : goal.invariant-loop-round
+invariant-loop-round g l = record {
+  graph : IsGraph (g.M.Machine.Leads l.machine) l.graph;
+  made : length l.graph.nexts.items ≡ l.round;
+  most : length l.graph.kept.items ≤ max 1 l.most;
+  opens : OpensWith l.graph l.fn.opening;
+}

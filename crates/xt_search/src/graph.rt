@@ -1,0 +1,27 @@
+//! The worlds that a search keeps.
+
+use crate::table::Table;
+
+/// A kept world, and how it was found first: by a turn of this core, from the kept world with this
+/// number. The first world comes from none.
+#[derive(Drop)]
+pub struct Kept<W> {
+    pub world: W,
+    pub from: u32,
+    pub core: u8,
+}
+
+/// To which kept worlds the next turn of each core leads.
+#[derive(Clone, Copy)]
+pub struct Nexts {
+    pub by0: u32,
+    pub by1: u32,
+}
+
+/// The worlds that a search keeps, and of so many of the first ones their next worlds.
+#[derive(Drop)]
+pub struct Graph<W> {
+    pub kept: Vec<Kept<W>>,
+    pub nexts: Vec<Nexts>,
+    pub table: Table,
+}

@@ -1,0 +1,40 @@
+//! What is searched.
+ghost use Rattle.std.specs.Prelude.{◌≡◌, ℕ, Bool, ◌<◌, true, IfOk};
+
+use std::alloc::AllocError;
+
+/// Two cores that make turns, each of which leads from one world to one other.
+pub trait Machine {
+    /// A world: what both cores and what they share hold between two turns.
+    type World: Drop;
+
+    /// What a turn needs beside the world.
+    type Desk: Drop;
+
+    /// A turn of a core leads from the one world to the other.
+    ghost Leads: { Self → ℕ → Self.World → Self.World → Type 0 };
+
+    /// Whether both cores have ended.
+    ghost ends: { Self → Self.World → Bool };
+
+    /// Makes a turn of a core. The only error is running out of memory.
+    fn turned(
+        &self,
+        desk: &mut Self::Desk,
+        world: &Self::World,
+        core: u8,
+    ) -> Result<Self::World, AllocError>
+        requires { core < 2 }
+        ensures { IfOk result (λ w. Leads self.now core world.now w) };
+
+    /// Whether two worlds were seen to be equal.
+    fn is_same(&self, a: &Self::World, b: &Self::World) -> bool
+        ensures { result ≡ true → a.now ≡ b.now };
+
+    /// Whether both cores have ended.
+    fn is_end(&self, world: &Self::World) -> bool
+        ensures { result ≡ ends self.now world.now };
+
+    /// A number that is the same for equal worlds.
+    fn digest(&self, world: &Self::World) -> u64;
+}
