@@ -1,7 +1,7 @@
 -- A judged step of the machine of frames over a filling, beside that of the machine of uses.
 use Rattle.std.specs.Prelude.{if◌then◌else◌, is_some, min}
 use Rattle.std.specs.Int.{bit_at}
-use Rattle.std.proofs.Common.{◌≡◌, ℕ, ◌^◌, ◌<◌, Bool, true, false, ◌&&◌, not, List, Option, Some, None, sym, ap, ◌∙◌, refl, arith, ⊎_elim, subst}
+use Rattle.std.proofs.Common.{◌≡◌, ℕ, ◌%◌, ◌^◌, ◌<◌, Bool, true, false, ◌&&◌, not, cond, List, [], ◌∷◌, Option, Some, None, sym, ap, ◌∙◌, refl, arith, ⊎_elim, subst}
 use Rattle.std.proofs.lemmas.Bool.{and_right, cases_Bool, cases_lt, cond-false}
 use Rattle.std.proofs.lemmas.Nat.{and_le_r, or_lt}
 use Rattle.std.proofs.lemmas.Nat.Bits.{bit_at_above, bit_at_and, bit_at_or, bit_at-lt}
@@ -10,36 +10,45 @@ use Rattle.xt_map.specs.declared.access.Access.{Access}
 use Rattle.xt_map.specs.declared.access.Kind.{Kind}
 use Rattle.xt_map.specs.declared.access.Kind.TheVariants.{Load, Store, Cas}
 use Rattle.xt_map.specs.Touching.{is_store}
+use Rattle.xt_special.specs.declared.ps.Ps.{Ps}
+use Rattle.xt_special.specs.Shape.{IsPs}
 use Rattle.xt_trace.specs.declared.record.StepKind.{StepKind}
 use Rattle.xt_trace.specs.declared.record.StepRecord.{StepRecord}
 use Rattle.xt_fetch.specs.Code.{AreBytes}
-use Rattle.xt_fetch.specs.Fetching.{fetched}
+use Rattle.xt_fetch.specs.Fetching.{Fetched, fetched}
 use Rattle.xt_frames.specs.declared.holes.Nested.{Nested}
-use Rattle.xt_frames.specs.Frames.{FrameState}
-use Rattle.xt_frames.specs.FrameStep.{FrameTurn, Inputs, laid}
+use Rattle.xt_frames.specs.Frames.{Frame, FrameState}
+use Rattle.xt_frames.specs.FrameStep.{FrameTurn, Inputs, laid, laid_step}
 use Rattle.xt_frames.specs.Nesting.{begins, current, current_in, is_nesting}
 use Rattle.xt_frames.specs.Breaches.{Bounds, inputs_of}
 use Rattle.xt_frames.specs.Judging.{place_on, value_in}
 use Rattle.xt_uses.specs.declared.discipline.Discipline.{Discipline}
+use Rattle.xt_uses.specs.declared.discipline.Discipline.TheVariants.{Strict, Lenient}
 use Rattle.xt_uses.specs.Words.{cut, flipped}
 use Rattle.xt_uses.specs.Used.{low_bits}
 use Rattle.xt_uses.specs.UseBreaches.{use_breach}
 use Rattle.xt_uses.specs.UseState.{UseState}
-use Rattle.xt_uses.specs.UseStep.{UseTurn, executed, forgets_registers, full_step, left_after, reply_mask, use_step, value_step}
+use Rattle.xt_uses.specs.UseStep.{UseTurn, executed, forgets_registers, full_step, leave_results, left_after, reply_mask, use_step, value_step}
 use Rattle.xt_uses.specs.UseLaws.{AccessFits, AgreeIn, IsSent, KindFits, KindsAgree, RepliesAgree, RowsAgree}
 use Rattle.xt_uses.proofs.Agreeing.{agree_at, agree_from}
 use Rattle.xt_uses.proofs.Bits.{flipped_at, flipped_word}
+use Rattle.xt_uses.proofs.Constant.{step_same as uses_keep}
 use Rattle.xt_uses.proofs.CutStates.{IsCut}
-use Rattle.xt_uses.proofs.CutWords.{AreInputs, IsShapedFrame}
+use Rattle.xt_uses.proofs.CutWords.{AreInputs, IsShapedFrame, IsShapedNested}
 use Rattle.xt_use_run.specs.Knowing.{Knows, NestedFit}
 use Rattle.xt_use_run.proofs.Following.{sent_back}
 use Rattle.xt_use_run.proofs.Leaves.{knows_left}
 use Rattle.xt_use_run.proofs.MaskWords.{MaskWords}
 use Rattle.xt_use_run.proofs.Seen.{cut_twice}
-use Rattle.xt_fillings.specs.Fillings.{Numbers, filled, filled_record, filled_step}
+use Rattle.xt_fillings.specs.Fillings.{Numbers, filled, filled_record, filled_step, filled_write}
 use Rattle.xt_fillings.specs.Laws.{AsksSame, DoesSame, SendsSame}
 use Rattle.xt_fillings.proofs.Numbered.{Held, filled_held, left_held, left_in, left_shaped, numbered_knows, numbered_shaped, results_knows}
 use Rattle.xt_fillings.proofs.Outside.{Goes, outside_goes}
+use Rattle.xt_fillings.proofs.OwbNested.{inside_near}
+use Rattle.xt_fillings.proofs.OwbPlain.{begins_near, mask_for, plain_near}
+use Rattle.xt_fillings.proofs.OwbSteps.{StepsNear, laid_near, told}
+use Rattle.xt_fillings.proofs.OwbTests.{laid_same}
+use Rattle.xt_fillings.proofs.OwbUses.{UsesNear, follows_near, shown_mask}
 use Rattle.xt_fillings.proofs.Within.{begins_goes, within_goes}
 use Rattle.xt_fillings.proofs.Words.{value_leaves}
 
@@ -118,13 +127,17 @@ pc_same {f = f} {s = s} k = by f.nested s.frame.nested k.nested
 pub place_same : {f : FrameState} {s : UseState} → Knows f s → (nested : Bool) (rec : StepRecord) → place_on nested rec f ≡ place_on nested rec s.frame
 place_same {f = f} {s = s} k nested rec = λ i. if begins_same k nested rec.kind i then rec.pc else pc_same k i
 
+-- ---- the step over a filling, with PS.OWB as the record tells it
+abbrev told_record : ℕ → Numbers → StepRecord → StepRecord
+told_record mask n rec = record rec { reply = filled mask rec.reply n.reply; write = filled_write n.register rec.write }
+
 module _ (rows : RowsAgree) (replies : RepliesAgree) (code : ℕ → ℕ) (bytes : AreBytes code) (b : Bounds) (fresh : Bool) (live : ℕ → Bool) (kb : ℕ → ℕ) (rec : StepRecord) (words : AreInputs (inputs_of rec))
     (mask_word : reply_mask kb rec.access < 2 ^ 32) (n : Numbers) (us : UseState) (masks : MaskWords us.masks) (is_cut : IsCut us.frame us.masks) {f : FrameState} (k : Beside f us) where
   abbrev reply : ℕ
   reply = filled (reply_mask kb rec.access) rec.reply n.reply
 
   abbrev rec2 : StepRecord
-  rec2 = filled_record (reply_mask kb rec.access) n rec
+  rec2 = told_record (reply_mask kb rec.access) n rec
 
   abbrev inp : Inputs
   inp = inputs_of rec2
@@ -183,56 +196,151 @@ module _ (rows : RowsAgree) (replies : RepliesAgree) (code : ℕ → ℕ) (bytes
       by_nested None (Some y) fo sp h = absurd h
       by_nested (Some x) None fo sp h = absurd h
 
-  -- ---- the step as a whole
-  module _ (d : Discipline) (same : us.masks.discipline ≡ d) (nested : Bool) (none : use_breach b fresh code live kb nested rec us ≡ None) where
-    abbrev t : UseTurn
-    t = full_step code nested rec kb us
+-- ---- a step of the machine of uses over another PS.OWB
+left_same : (z : Bool) (frames : List Frame) (u : UseState) → (cond z (leave_results frames u) u).masks.discipline ≡ u.masks.discipline
+left_same true [] u = refl
+left_same true (g ∷ rest) u = refl
+left_same false frames u = refl
 
-    abbrev u : FrameTurn
-    u = value_step code (begins nested rec.kind f) value inp f
+full_discipline : (code : ℕ → ℕ) (nested : Bool) (rec : StepRecord) (kb : ℕ → ℕ) (s : UseState) → (full_step code nested rec kb s).after.masks.discipline ≡ s.masks.discipline
+full_discipline code nested rec kb s =
+    let t = full_step code nested rec kb s in
+    let h = laid (inputs_of rec) (current s.frame) in
+    sym (left_same (forgets_registers s.masks.discipline (executed t.turn.kind (fetched code h.control.pc))) s.frame.frames t.after) ∙ uses_keep code nested rec kb s
 
-    abbrev h : FrameState
-    h = laid (inputs_of rec) (current us.frame)
+ps_with : (p q : Ps) (w : ℕ) → w < 16 → IsPs p → p ≡ record q { owb = p.owb } → IsPs (record q { owb = w })
+ps_with p q w small is e =
+    let k : IsPs (record q { owb = p.owb }) = subst IsPs e is in
+    record { intlevel_fits = k.intlevel_fits; ring_fits = k.ring_fits; owb_fits = small; callinc_fits = k.callinc_fits }
 
-    abbrev o : Option Insn
-    o = executed t.turn.kind (fetched code h.control.pc)
+module _ (code : ℕ → ℕ) (b : Bounds) (fresh : Bool) (live : ℕ → Bool) (kb : ℕ → ℕ) (rec : StepRecord) (w : ℕ) (us : UseState) (strict : us.masks.discipline ≡ Strict) {f : FrameState} (k : Beside f us) where
+  abbrev rec1 : StepRecord
+  rec1 = record rec { owb = w }
 
-    goes : Goes t u
-    goes = value_goes nested none
+  abbrev finds : FrameState
+  finds = laid (inputs_of rec1) (current us.frame)
 
-    insn_same : executed u.kind (fetched code (current f).control.pc) ≡ o
-    insn_same = ap (λ z. executed z (fetched code (current f).control.pc)) goes.follows.kind ∙ ap (λ z. executed t.turn.kind (fetched code z)) (pc_same k.knows)
+  abbrev at : Fetched
+  at = fetched code finds.control.pc
 
-    abbrev forgets : Bool
-    forgets = forgets_registers d (executed u.kind (fetched code (current f).control.pc))
+  abbrev its_mask : ℕ
+  its_mask = mask_for (reply_mask kb rec.access) us finds at
 
-    forgets_same : forgets ≡ forgets_registers us.masks.discipline o
-    forgets_same = ap (forgets_registers d) insn_same ∙ ap (λ z. forgets_registers z o) (sym same)
+  low : (n : ℕ) → n % 16 < 16
+  low n = omega arith
 
-    left_knows : Knows (left_in forgets f.frames u.after) (left_after o us t.after)
-    left_knows =
-        let first : Knows u.after (left_after o us t.after) = knows_left o f us k.knows k.held.framed u.after t.after goes.follows.knows in
-        subst (λ z. Knows (left_in z f.frames u.after) (left_after o us t.after)) (sym forgets_same) (results_knows o f us k.knows k.held.framed u.after t.after first)
+  shaped_ps : IsPs finds.control.ps
+  shaped_ps = by f.nested us.frame.nested k.knows.nested k.shaped.nested
+    where
+      by : (o p : Option Nested) → NestedFit us.masks.inner o p → IsShapedNested o → IsPs (laid (inputs_of rec1) (current_in p us.frame)).control.ps
+      by None None h s = ps_with f.control.ps us.frame.control.ps (w % 16) (low w) k.shaped.control.ps k.knows.control.even.ps
+      by (Some x) (Some y) h s = ps_with x.ps y.ps (w % 16) (low w) s.ps h.ps
+      by None (Some y) h s = absurd h
+      by (Some x) None h s = absurd h
 
-    shaped_after : IsShapedFrame u.after
-    shaped_after = value_leaves code nested rec2 f bytes (record { ccount = words.ccount; interrupt = words.interrupt; owb = words.owb; reply = filled_word (reply_mask kb rec.access) rec.reply n.reply mask_word }) k.shaped
+  steps_near : StepsNear finds.nested its_mask at (laid_step code rec.reply finds) (laid_step code rec.reply (told (rec.owb % 16) finds))
+  steps_near = laid_near its_mask code rec.reply (rec.owb % 16) finds shaped_ps (low rec.owb) (λ i len e shows. ap (mask_for (reply_mask kb rec.access) us finds) e ∙ shown_mask i (reply_mask kb rec.access) us finds strict shows)
 
-    left_is_held : Held (left_in forgets f.frames u.after)
-    left_is_held = left_held forgets f.frames u.after k.held.framed goes.held
+  no_breach : (nested : Bool) → use_breach b fresh code live kb nested rec us ≡ None → use_breach b fresh code live kb nested rec1 us ≡ None
+  no_breach nested none = ap (λ z. cond (begins nested rec.kind us.frame) None z) (laid_same b fresh live kb rec1 (rec.owb % 16) rec.owb us finds code its_mask steps_near) ∙ none
 
-    pub step_beside : Beside (filled_step d code nested rec kb n f).after (use_step code nested rec kb us).after
-    step_beside = record {
-      knows = numbered_knows n.register left_is_held.pointer left_knows;
-      shaped = numbered_shaped n.register (left_in forgets f.frames u.after) (left_shaped forgets f.frames u.after shaped_after);
-      held = filled_held n.register (left_in forgets f.frames u.after) left_is_held;
-    }
+  abbrev IsNear : Bool → Type 0
+  IsNear nested = UsesNear (full_step code nested rec1 kb us) (full_step code nested rec kb us)
 
-    pub step_same : DoesSame (use_step code nested rec kb us) (filled_step d code nested rec kb n f)
-    step_same =
-        let w = goes.follows in
-        record {
-          kind = w.kind;
-          write = w.write;
-          access = w.access;
-          sent = sends_same t.stored u.access t.turn.access (asks_same t.stored u.access t.turn.access w.access) (sent_back t.stored u.access t.turn.access w.access w.sent);
-        }
+  near_either : (one other : Bool) → begins one rec.kind us.frame ≡ false → begins other rec.kind us.frame ≡ false → IsNear one → IsNear other
+  near_either one other p q n =
+      let a : full_step code one rec1 kb us ≡ full_step code other rec1 kb us = cond-false (begins one rec.kind us.frame) _ _ p ∙ sym (cond-false (begins other rec.kind us.frame) _ _ q) in
+      let c : full_step code one rec kb us ≡ full_step code other rec kb us = cond-false (begins one rec.kind us.frame) _ _ p ∙ sym (cond-false (begins other rec.kind us.frame) _ _ q) in
+      subst (λ z. UsesNear z (full_step code other rec kb us)) a (subst (UsesNear (full_step code one rec1 kb us)) c n)
+
+  uses_near : (nested : Bool) → IsNear nested
+  uses_near nested = by us.frame.nested refl
+    where
+      in_place : (p : Option Nested) → us.frame.nested ≡ p → IsPs (laid (inputs_of rec1) (current_in p us.frame)).control.ps
+      in_place p e = subst (λ o. IsPs (laid (inputs_of rec1) (current_in o us.frame)).control.ps) e shaped_ps
+
+      outer : us.frame.nested ≡ None → IsNear false
+      outer sn = plain_near code rec1 rec.owb kb us strict sn (in_place None sn) (low rec.owb)
+
+      plain : us.frame.nested ≡ None → (z : Bool) → IsNear z
+      plain sn false = outer sn
+      plain sn true = ⊎_elim
+          (λ is. begins_near code rec1 rec.owb kb us strict sn (in_place None sn) (low rec.owb) is)
+          (λ isnt. near_either false true refl (ap (λ z. z && not (is_some us.frame.nested)) isnt) (outer sn))
+          (cases_Bool (is_nesting rec.kind))
+
+      by : (p : Option Nested) → us.frame.nested ≡ p → IsNear nested
+      by None sn = plain sn nested
+      by (Some y) sy = near_either true nested (off true) (off nested) (inside_near code rec1 rec.owb kb us strict y sy (in_place (Some y) sy) (low rec.owb))
+        where
+          off : (z : Bool) → begins z rec.kind us.frame ≡ false
+          off z = ap (λ (o : Option Nested). z && (is_nesting rec.kind && not (is_some o))) sy ∙ and_right z _ (and_right (is_nesting rec.kind) _ refl)
+
+  goes_near : (nested : Bool) (u : FrameTurn) → Goes (full_step code nested rec1 kb us) u → Goes (full_step code nested rec kb us) u
+  goes_near nested u g = record { follows = follows_near (full_discipline code nested rec1 kb us ∙ strict) (uses_near nested) g.follows; held = g.held }
+
+-- ---- the step as a whole
+module _ (rows : RowsAgree) (replies : RepliesAgree) (code : ℕ → ℕ) (bytes : AreBytes code) (b : Bounds) (fresh : Bool) (live : ℕ → Bool) (kb : ℕ → ℕ) (rec : StepRecord) (words : AreInputs (inputs_of rec))
+    (mask_word : reply_mask kb rec.access < 2 ^ 32) (n : Numbers) (us : UseState) (masks : MaskWords us.masks) (is_cut : IsCut us.frame us.masks) {f : FrameState} (k : Beside f us)
+    (d : Discipline) (same : us.masks.discipline ≡ d) (nested : Bool) (none : use_breach b fresh code live kb nested rec us ≡ None) where
+  abbrev t : UseTurn
+  t = full_step code nested rec kb us
+
+  abbrev filling : StepRecord
+  filling = filled_record d (reply_mask kb rec.access) n rec
+
+  abbrev u : FrameTurn
+  u = value_step code (begins nested rec.kind f) (value_in filling.write) (inputs_of filling) f
+
+  abbrev h : FrameState
+  h = laid (inputs_of rec) (current us.frame)
+
+  abbrev o : Option Insn
+  o = executed t.turn.kind (fetched code h.control.pc)
+
+  goes : Goes t u
+  goes = by d same
+    where
+      by : (d : Discipline) → us.masks.discipline ≡ d → Goes t (value_step code (begins nested rec.kind f) (value_in (filled_record d (reply_mask kb rec.access) n rec).write) (inputs_of (filled_record d (reply_mask kb rec.access) n rec)) f)
+      by Lenient known = value_goes rows replies code bytes b fresh live kb rec words mask_word n us masks is_cut k nested none
+      by Strict strict =
+          goes_near code b fresh live kb rec n.owb us strict k nested _
+          (value_goes rows replies code bytes b fresh live kb (record rec { owb = n.owb }) (record { ccount = words.ccount; interrupt = words.interrupt; owb = omega arith; reply = words.reply }) mask_word n us masks is_cut k nested
+          (no_breach code b fresh live kb rec n.owb us strict k nested none))
+
+  insn_same : executed u.kind (fetched code (current f).control.pc) ≡ o
+  insn_same = ap (λ z. executed z (fetched code (current f).control.pc)) goes.follows.kind ∙ ap (λ z. executed t.turn.kind (fetched code z)) (pc_same k.knows)
+
+  abbrev forgets : Bool
+  forgets = forgets_registers d (executed u.kind (fetched code (current f).control.pc))
+
+  forgets_same : forgets ≡ forgets_registers us.masks.discipline o
+  forgets_same = ap (forgets_registers d) insn_same ∙ ap (λ z. forgets_registers z o) (sym same)
+
+  left_knows : Knows (left_in forgets f.frames u.after) (left_after o us t.after)
+  left_knows =
+      let first : Knows u.after (left_after o us t.after) = knows_left o f us k.knows k.held.framed u.after t.after goes.follows.knows in
+      subst (λ z. Knows (left_in z f.frames u.after) (left_after o us t.after)) (sym forgets_same) (results_knows o f us k.knows k.held.framed u.after t.after first)
+
+  shaped_after : IsShapedFrame u.after
+  shaped_after = value_leaves code nested filling f bytes (record { ccount = words.ccount; interrupt = words.interrupt; owb = omega arith; reply = filled_word (reply_mask kb rec.access) rec.reply n.reply mask_word }) k.shaped
+
+  left_is_held : Held (left_in forgets f.frames u.after)
+  left_is_held = left_held forgets f.frames u.after k.held.framed goes.held
+
+  pub step_beside : Beside (filled_step d code nested rec kb n f).after (use_step code nested rec kb us).after
+  step_beside = record {
+    knows = numbered_knows n.register left_is_held.pointer left_knows;
+    shaped = numbered_shaped n.register (left_in forgets f.frames u.after) (left_shaped forgets f.frames u.after shaped_after);
+    held = filled_held n.register (left_in forgets f.frames u.after) left_is_held;
+  }
+
+  pub step_same : DoesSame (use_step code nested rec kb us) (filled_step d code nested rec kb n f)
+  step_same =
+      let w = goes.follows in
+      record {
+        kind = w.kind;
+        write = w.write;
+        access = w.access;
+        sent = sends_same t.stored u.access t.turn.access (asks_same t.stored u.access t.turn.access w.access) (sent_back t.stored u.access t.turn.access w.access w.sent);
+      }

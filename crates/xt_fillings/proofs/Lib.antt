@@ -2,6 +2,13 @@ pub mod Whole
 pub mod Numbered
 pub mod Replied
 pub mod Words
+pub mod OwbRows
+pub mod OwbControl
+pub mod OwbSteps
+pub mod OwbUses
+pub mod OwbPlain
+pub mod OwbNested
+pub mod OwbTests
 pub mod Outside
 pub mod Within
 pub mod FilledSteps

@@ -36,7 +36,7 @@ filled_whole n f = (numbered_whole n 0 f.seen, inner_whole n f.nested)
 
 step_whole : (d : Discipline) (code : ℕ → ℕ) (nested : Bool) (rec : StepRecord) (bytes : ℕ → ℕ) (n : Numbers) (f : FrameState) → Whole (filled_step d code nested rec bytes n f).after
 step_whole d code nested rec bytes n f =
-    let r = filled_record (reply_mask bytes rec.access) n rec in
+    let r = filled_record d (reply_mask bytes rec.access) n rec in
     let u = value_step code (begins nested r.kind f) (value_in r.write) (inputs_of r) f in
     filled_whole n.register (cond (forgets_registers d (executed u.kind (fetched code (current f).control.pc))) (results_left f.frames u.after) u.after)
 

@@ -1,18 +1,21 @@
 -- The machine of frames over any contents ('profile'). Where the machine of uses knows nothing, it
 -- has the numbers of a filling: in the new registers of ENTRY and of a nested interrupt, in a
--- callee's registers that the discipline forgets, and in the bits of a reply that are not known.
+-- callee's registers that the discipline forgets, and in the bits of a reply that are not known. In
+-- the strict discipline, which knows nothing of PS.OWB, each step also has the filling's PS.OWB.
 --
--- Profile: a filling has for each turn a number for each visible register, and one for the reply.
--- Of a number 32 bits are taken.
+-- Profile: a filling has for each turn a number for each visible register, one for the reply and
+-- one for PS.OWB. Of PS.OWB 4 bits are taken, of each other number 32.
 -- Profile: the machine over a filling is that of `xt_frames`, in which MOVSP moves a1. It steps on
--- the inputs of the records. Of a reply it has the bits that are known there, and the filling's
--- bits elsewhere (`filled`). After each step every visible register that has no number receives the
--- filling's (`numbered`). So do the new registers of ENTRY and of a nested interrupt, and in the
--- strict discipline the callee's registers after RETW, except its results a2 to a5
--- (`results_left`). In a nested interrupt registers with marks have numbers too, and a register
--- that receives a mark is written with the filling's number.
--- Note: `DoesSame` and `StepsSame` of `Laws` compare its steps with those of the machine of uses,
--- `FollowsRecord` with the records.
+-- the inputs of the records, but in the strict discipline on the filling's PS.OWB (`filled_owb`).
+-- Of a reply it has the bits that are known there, and the filling's bits elsewhere (`filled`).
+-- After each step every visible register that has no number receives the filling's (`numbered`). So
+-- do the new registers of ENTRY and of a nested interrupt, and in the strict discipline the
+-- callee's registers after RETW, except its results a2 to a5 (`results_left`). In a nested
+-- interrupt registers with marks have numbers too, and a register that receives a mark is written
+-- with the filling's number.
+-- Note: it is told CCOUNT, INTERRUPT and where a nested interrupt begins, as the machine of uses
+-- is, and PS.OWB in the lenient discipline alone. `DoesSame` and `StepsSame` of `Laws` compare its
+-- steps with those of the machine of uses, `FollowsRecord` with the records.
 use Rattle.std.specs.Prelude.{ℕ, zero, suc, ◌*◌, ◌&&◌, ◌==◌, Bool, bit_or}
 use Rattle.std.specs.Prelude.{if◌then◌else◌, Option, Some, None, List, [], ◌∷◌, slice_get}
 use Rattle.xt_trace.specs.declared.record.RegWrite.{RegWrite}
@@ -27,17 +30,19 @@ use Rattle.xt_frames.specs.Judging.{value_in}
 use Rattle.xt_frames.specs.Verdict.{is_nested}
 use Rattle.xt_frames.specs.FirstBreach.{Course, Turn, is_judged, mode_before}
 use Rattle.xt_uses.specs.declared.discipline.Discipline.{Discipline}
+use Rattle.xt_uses.specs.declared.discipline.Discipline.TheVariants.{Strict, Lenient}
 use Rattle.xt_uses.specs.Words.{all_bits, cut, flipped}
 use Rattle.xt_uses.specs.UseStep.{executed, forgets_registers, left_of, reply_mask, value_step}
 use Rattle.xt_uses.specs.FirstUse.{History}
 
 -- ---- a filling
 
--- the numbers of one turn; of each of them 32 bits are taken
+-- the numbers of one turn; of PS.OWB 4 bits are taken, and of each other number 32
 pub record Numbers : Type 0 where
   -- of a visible register, by its number
   pub register : ℕ → ℕ
   pub reply : ℕ
+  pub owb : ℕ
 
 -- of each turn
 abbrev pub Filling : Type 0
@@ -51,12 +56,18 @@ abbrev pub filled_write : (ℕ → ℕ) → Option RegWrite → Option RegWrite
 filled_write numbers None = None
 filled_write numbers (Some w) = Some (record w { value = cut all_bits (numbers w.reg) })
 
+-- PS.OWB at a step: the lenient discipline knows the record's, the strict one knows nothing of it
+abbrev pub filled_owb : Discipline → ℕ → ℕ → ℕ
+filled_owb Strict told other = other
+filled_owb Lenient told other = told
+
 -- A record, of whose reply these bits are known. The value of the register that it writes is looked
 -- at where a mark is read, and nowhere else.
-abbrev pub filled_record : ℕ → Numbers → StepRecord → StepRecord
-filled_record mask n rec = record rec {
+abbrev pub filled_record : Discipline → ℕ → Numbers → StepRecord → StepRecord
+filled_record d mask n rec = record rec {
   reply = filled mask rec.reply n.reply;
   write = filled_write n.register rec.write;
+  owb = filled_owb d rec.owb n.owb;
 }
 
 -- ---- registers: each that has no number receives its own
@@ -92,7 +103,7 @@ results_left (g ∷ rest) f = record f { seen = left_of None (4 * g.by) 0 f.seen
 abbrev pub filled_step :
     Discipline → (ℕ → ℕ) → Bool → StepRecord → (ℕ → ℕ) → Numbers → FrameState → FrameTurn
 filled_step d code nested rec bytes n f =
-    let r = filled_record (reply_mask bytes rec.access) n rec in
+    let r = filled_record d (reply_mask bytes rec.access) n rec in
     let u = value_step code (begins nested r.kind f) (value_in r.write) (inputs_of r) f in
     let i = executed u.kind (fetched code (current f).control.pc) in
     record u {

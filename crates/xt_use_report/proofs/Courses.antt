@@ -1,5 +1,5 @@
 -- What is so of the uses of a run, in the words of an image and its run.
-use Rattle.std.proofs.Common.{◌≡◌, ◌<◌, ℕ, Bool, true, false, Some, None, zero, suc, List, [], ◌∷◌, length, arith, refl, ap, sym, ◌∙◌, subst}
+use Rattle.std.proofs.Common.{◌≡◌, ◌<◌, ℕ, Bool, true, false, Option, Some, None, zero, suc, List, [], ◌∷◌, length, arith, refl, ap, sym, ◌∙◌, subst}
 use Rattle.std.specs.Prelude.{slice_index}
 use Rattle.std.specs.List.{AllByRecursion}
 use Rattle.std.proofs.lemmas.List.Elements.{recursion_from_All}
@@ -118,7 +118,7 @@ uses_are d image r handlers xs ys uses answers first second h =
 -- ---- the laws
 
 -- what is not known decides nothing, before the first breach of any history
-Decides : Discipline → Course → Type 0
+abbrev Decides : Discipline → Course → Type 0
 Decides d c = (h : History) (q : ℕ) (found : Option Breach) → IsHistory d c h → IsFirstUse c h q found → AreDecided d c h q
 
 -- where the breach of an answer stands, or the run ends
