@@ -68,6 +68,19 @@ fn words_and_meanings(rt: HostRuntime) -> Result<(), Fail> {
         ("check --vecbase 0x40080010", Err(Refusal::Usage(7))),
         ("check --vecbase 512", Err(Refusal::Usage(7))),
         ("dis --", Ok(Command::Disassemble(Listing::Sweep))),
+    ];
+    for (line, answer) in rows {
+        let words = words_of(alloc, line)?;
+        let meant = shown(alloc, &meaning(alloc, &words))?;
+        assert_eq!(rt; meant, shown(alloc, &answer)?, "{line:?}");
+    }
+    Ok(())
+}
+
+#[test]
+fn words_of_listings(rt: HostRuntime) -> Result<(), Fail> {
+    let alloc = rt.alloc();
+    let rows = [
         // the code that control reaches
         (
             "dis --flow",
@@ -105,6 +118,19 @@ fn words_and_meanings(rt: HostRuntime) -> Result<(), Fail> {
         ("dis help", Err(Refusal::Usage(3))),
         ("dis -", Err(Refusal::Usage(3))),
         ("dis ", Err(Refusal::Usage(3))),
+    ];
+    for (line, answer) in rows {
+        let words = words_of(alloc, line)?;
+        let meant = shown(alloc, &meaning(alloc, &words))?;
+        assert_eq!(rt; meant, shown(alloc, &answer)?, "{line:?}");
+    }
+    Ok(())
+}
+
+#[test]
+fn words_over_recordings(rt: HostRuntime) -> Result<(), Fail> {
+    let alloc = rt.alloc();
+    let rows = [
         ("migrate", Ok(Command::Migrate)),
         ("migrate --turns0 1", Err(Refusal::Usage(3))),
         ("check --trace", Err(Refusal::Usage(3))),
@@ -128,6 +154,19 @@ fn words_and_meanings(rt: HostRuntime) -> Result<(), Fail> {
         ("uses --lenient", Ok(Command::Uses(Rigor::Lenient))),
         ("uses all", Err(Refusal::Usage(3))),
         ("events --from 0", Err(Refusal::Usage(3))),
+    ];
+    for (line, answer) in rows {
+        let words = words_of(alloc, line)?;
+        let meant = shown(alloc, &meaning(alloc, &words))?;
+        assert_eq!(rt; meant, shown(alloc, &answer)?, "{line:?}");
+    }
+    Ok(())
+}
+
+#[test]
+fn words_that_choose_turns(rt: HostRuntime) -> Result<(), Fail> {
+    let alloc = rt.alloc();
+    let rows = [
         // turns
         (
             "trace",
@@ -157,6 +196,19 @@ fn words_and_meanings(rt: HostRuntime) -> Result<(), Fail> {
             "trace --jumps --to 7 --core 0 --accesses",
             Ok(Command::Trace(turns(0, 7, Some(0), true, true))),
         ),
+    ];
+    for (line, answer) in rows {
+        let words = words_of(alloc, line)?;
+        let meant = shown(alloc, &meaning(alloc, &words))?;
+        assert_eq!(rt; meant, shown(alloc, &answer)?, "{line:?}");
+    }
+    Ok(())
+}
+
+#[test]
+fn words_that_choose_no_turns(rt: HostRuntime) -> Result<(), Fail> {
+    let alloc = rt.alloc();
+    let rows = [
         ("trace --core", Err(Refusal::Usage(3))),
         ("trace --jumps --jumps", Err(Refusal::Usage(3))),
         ("trace --accesses=1", Err(Refusal::Usage(3))),
