@@ -205,7 +205,13 @@ fn devices_that_fail_at_each_call(rt: HostRuntime) -> Result<(), Fail> {
         ("run|--trace|--turns1|0", &image, 14, &[172, 118], 59),
         ("record|--turns0|10|--turns1|0", &image, 14, &[136], 28),
         ("migrate", &recorded, 29, &[136], 28),
-        ("replay|go 0 3; regs 0; go 0 5", &recorded, 29, &[217], 44),
+        (
+            "replay|--lenient|go 0 3; regs 0; go 0 5",
+            &recorded,
+            29,
+            &[217],
+            44,
+        ),
     ];
     for (line, input, reads, pieces, writes) in rows {
         fail_in_turn(
