@@ -17,7 +17,7 @@ use Rattle.xt_rows.specs.declared.outcome.Effect.{Effect}
 use Rattle.xt_rows.specs.Laws.{IsWord, IsProperAddress, IsProperFlow, IsProperEffect}
 use Rattle.xt_special.specs.Access.{with_set}
 use Rattle.xt_rows.specs.Settling.{after_flow, after_effect}
-use Rattle.xt_rows.proofs.Proper.{ps_word_small}
+use Rattle.xt_rows.proofs.Bounds.{ps_word_small}
 use Rattle.xt_exec.specs.Laws.{AreWords, IsShapedControl}
 
 -- ---- a list in which one entry is set

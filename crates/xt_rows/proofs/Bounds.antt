@@ -1,5 +1,5 @@
 -- What the operations give is a word, where they are given words.
-use Rattle.std.proofs.Common.{ℕ, zero, suc, ◌+◌, ◌-◌, ◌*◌, ◌/◌, ◌%◌, ◌^◌, ◌<◌, ◌≤◌, ℤ, pos, negsuc, ◌*ℤ◌, Bool, true, false, cond, nat_lt, if◌then◌else◌, arith, w32, w64, FitsSigned, bit_and, bit_or, bit_xor, min, max}
+use Rattle.std.proofs.Common.{eqb, ℕ, zero, suc, ◌+◌, ◌-◌, ◌*◌, ◌/◌, ◌%◌, ◌^◌, ◌<◌, ◌≤◌, ℤ, pos, negsuc, ◌*ℤ◌, Bool, true, false, cond, nat_lt, if◌then◌else◌, arith, w32, w64, FitsSigned, bit_and, bit_or, bit_xor, min, max}
 use Rattle.std.specs.Int.{int_shr, saturate_to_bits}
 use Rattle.std.specs.Int.RustNames.{unsigned_abs, int_div, int_rem}
 use Rattle.std.proofs.lemmas.Int.{fits_signed_mul}
@@ -15,6 +15,10 @@ use Rattle.xt_alu.specs.Shifts.{src, srl, sra, sll, slli, srai, srli, extui, ssr
 use Rattle.xt_bool.specs.declared.BoolOp.{BoolOp}
 use Rattle.xt_bool.specs.Registers.{logic, group}
 use Rattle.xt_bool.proofs.Bits.{written_small}
+use Rattle.xt_special.specs.declared.ps.Ps.{Ps}
+use Rattle.xt_special.specs.Access.{value_read}
+use Rattle.xt_special.specs.Control.{bit_of, ps_of, ps_word}
+use Rattle.xt_special.specs.Shape.{IsPs}
 use Rattle.xt_fetch.specs.Code.{code_number}
 use Rattle.xt_rows.specs.Numbers.{plus, minus, extended, linked}
 
@@ -284,3 +288,24 @@ pub code_number_small : (code : ℕ → ℕ) → ((a : ℕ) → code a < 2 ^ 8) 
 code_number_small code bytes a size One = byte_number code bytes a
 code_number_small code bytes a size Two = half_number code bytes a
 code_number_small code bytes a size Four = word_number code bytes a
+
+-- ---- PS, and what is read of a special register
+
+bit_small : (b : Bool) → bit_of b ≤ 1
+bit_small true = omega arith
+bit_small false = omega arith
+
+pub ps_word_small : (ps : Ps) → IsPs ps → ps_word ps < 2 ^ 32
+unfolding ps_word
+ps_word_small ps f = omega (arith, bit_small ps.excm, bit_small ps.um, bit_small ps.woe, f.intlevel_fits, f.ring_fits, f.owb_fits, f.callinc_fits)
+
+pub ps_of_proper : (w : ℕ) → IsPs (ps_of w)
+unfolding ps_of
+ps_of_proper w = record { intlevel_fits = omega arith; ring_fits = omega arith; owb_fits = omega arith; callinc_fits = omega arith }
+
+pub value_read_small : (n u : ℕ) (ps : Ps) → u < 2 ^ 32 → IsPs ps → value_read n u ps < 2 ^ 32
+value_read_small n u ps p f = by_test (eqb n 230)
+  where
+    by_test : (b : Bool) → cond b (ps_word ps) u < 2 ^ 32
+    by_test true = ps_word_small ps f
+    by_test false = p

@@ -3,7 +3,6 @@ pub mod Pointer
 pub mod Specials
 pub mod Effects
 pub mod Operands
-pub mod Stored
 pub mod Rows
 pub mod Lists
 pub mod Following

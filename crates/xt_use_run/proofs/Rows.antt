@@ -54,7 +54,7 @@ use Rattle.xt_use_run.proofs.Pointer.{LeavesPointer, pointer_left}
 use Rattle.xt_uses.specs.Used.{low_bits, used_are_known}
 use Rattle.xt_use_run.proofs.Sent.{HasSent, KindSent, second_sent}
 use Rattle.xt_use_run.proofs.Seen.{cut_twice}
-use Rattle.xt_use_run.proofs.Stored.{HasStored, KindStored, second_stored}
+use Rattle.xt_rows.proofs.Stored.{HasStored, KindStored, second_stored}
 use Rattle.xt_use_run.proofs.Specials.{SetsTo, left_fits, moved_sets, raised_fits, taken_fits, ticked_fits}
 
 -- ---- THREADPTR

@@ -54,7 +54,8 @@ use Rattle.xt_uses.specs.UseLaws.{AreCut, IsCutAt}
 use Rattle.xt_uses.proofs.CutControl.{Spared, keeps_effect, keeps_same, keeps_tick, sets_size, sets_spare, spared_same, spared_set}
 use Rattle.xt_uses.proofs.CutLists.{cut_at, cut_marked, cut_put, cut_value}
 use Rattle.xt_uses.proofs.CutPlain.{none_moved}
-use Rattle.xt_uses.proofs.CutRows.{LeavesPointer, marks_saved, moved_value, pointer_kept, pointer_left}
+use Rattle.xt_rows.proofs.Pointer.{LeavesPointer, pointer_kept, pointer_left}
+use Rattle.xt_uses.proofs.CutRows.{marks_saved, moved_value}
 use Rattle.xt_uses.proofs.CutStates.{Cut, IsCut, cut_ended, cut_pointer, cut_spared, moved_cut, moved_lost}
 use Rattle.xt_uses.proofs.CutTests.{Unused, unused, uses_shown}
 use Rattle.xt_uses.proofs.WholeInner.{IsAlone, IsStop, effect_mode, is_ending, keeps_mode, none_pending, none_there, reads_moved, stop_alone}

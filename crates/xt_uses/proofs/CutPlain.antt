@@ -45,7 +45,8 @@ use Rattle.xt_uses.specs.UseBreaches.{breaks_stack, fetched_uses, laid_use, swap
 use Rattle.xt_uses.proofs.CutTests.{unused, uses_shown}
 use Rattle.xt_uses.proofs.CutControl.{Keeps, Spared, keeps_effect, keeps_exception, keeps_flow, keeps_interrupt, keeps_same, keeps_tick, spared_same, spared_set}
 use Rattle.xt_uses.proofs.CutLists.{cut_value}
-use Rattle.xt_uses.proofs.CutRows.{LeavesPointer, marks_saved, moved_value, pointer_kept, pointer_left}
+use Rattle.xt_rows.proofs.Pointer.{LeavesPointer, pointer_kept, pointer_left}
+use Rattle.xt_uses.proofs.CutRows.{marks_saved, moved_value}
 use Rattle.xt_uses.proofs.CutStates.{Cut, IsCut, cut_called, cut_ended, cut_pointer, cut_register, cut_returned, cut_spared, cut_special, cut_unset}
 use Rattle.xt_uses.proofs.WholeLists.{held}
 use Rattle.xt_uses.proofs.WholePlain.{entry_is, level_small, no_movsp, no_return, returns_is}

@@ -21,7 +21,8 @@ use Rattle.xt_uses.specs.UseStep.{called, cut_number, cut_seen, inner_unknown, l
 use Rattle.xt_uses.specs.UseLaws.{AreCut, AreKeptCut, InnerIsCut, IsCutState}
 use Rattle.xt_uses.proofs.CutControl.{Spared, marks_apart, sets_one, sets_size, sets_spare}
 use Rattle.xt_uses.proofs.CutLists.{cut_append, cut_drop, cut_length, cut_none, cut_take, cut_visible}
-use Rattle.xt_uses.proofs.CutRows.{marks_between, pointer_left}
+use Rattle.xt_rows.proofs.Pointer.{pointer_left}
+use Rattle.xt_uses.proofs.CutRows.{marks_between}
 use Rattle.xt_uses.proofs.Left.{cut_left, left_length}
 use Rattle.xt_uses.proofs.WholeLists.{held, held_both, replicated}
 use Rattle.xt_uses.proofs.WholeStates.{AreFull, IsInside, begun_inner}
