@@ -70,6 +70,13 @@ impl Changes {
         byte_of(self.bytes.as_slice(), addr, opening.byte(addr))
     }
 
+    /// The bytes that were sent.
+    pub fn sent(&self) -> &[u8]
+        ensures { result.now ≡ self.now.sent }
+    {
+        self.sent.as_slice()
+    }
+
     /// Puts a byte at an address. The only error is running out of memory; it changes nothing.
     pub fn put_byte(&mut self, addr: u32, byte: u8) -> Result<(), AllocError>
         ensures { OnOk result ((m : MemoryContents) → HasSizes m → contents_of m self.new ≡ with_byte (contents_of m self.old) addr byte) }
@@ -77,8 +84,10 @@ impl Changes {
         put(&mut self.bytes, Change { addr, byte })
     }
 
-    // The little-endian number in the 1, 2 or 4 bytes from an address on.
-    fn number(&self, opening: &Memory, addr: u32, size: u8) -> u32
+    /// The little-endian number in the 1, 2 or 4 bytes from an address on.
+    ///
+    /// Conditions: the size is one of these, and the address lies at least 4 below 2^32.
+    pub fn number(&self, opening: &Memory, addr: u32, size: u8) -> u32
         requires sizes { HasSizes opening.now.contents }
         requires size { is_size size ≡ true }
         requires low { addr + 4 ≤ 2 ^ 32 }
@@ -168,6 +177,22 @@ impl Changes {
                 }
                 Ok(found)
             }
+        }
+    }
+
+    /// The reply that an access would get.
+    #[tactic(auto, unfolding(xt_map::specs::Serving::reply_to))]
+    pub fn reply(&self, opening: &Memory, access: Access) -> u32
+        requires sizes { HasSizes opening.now.contents }
+        requires access { is_mapped access ≡ true }
+        ensures { result ≡ reply_to (contents_of opening.now.contents self.now) access }
+    {
+        if access.addr == UART_TRANSMIT || access.addr == UART_STATUS {
+            return 0;
+        }
+        match access.kind {
+            Kind::Store(_) => 0,
+            _ => self.number(opening, access.addr, access.size),
         }
     }
 

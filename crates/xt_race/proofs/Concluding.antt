@@ -25,7 +25,7 @@ not_no false h = refl
 no_both : (t : Bool) → t ≡ true → t ≡ false → ⊥
 no_both t h g = true≢false (sym h ∙ g)
 
-clash_is : (x y : Event) → clash x y ≡ true → Conflict x y
+pub clash_is : (x y : Event) → clash x y ≡ true → Conflict x y
 clash_is x y h =
     let a = and_parts _ _ h in
     let b = and_parts _ _ a.1 in
@@ -44,7 +44,7 @@ clash_is x y h =
       not_both = not_yes _ c.0;
     }
 
-clash_from : (x y : Event) → Conflict x y → clash x y ≡ true
+pub clash_from : (x y : Event) → Conflict x y → clash x y ≡ true
 clash_from x y k =
     let f : ℕ → Bool = touches_memory y in
     let shares : shares_byte x y ≡ true = some_from f x.entry.access.addr x.entry.access.size k.byte k.in_first (and_from _ _ k.in_second k.in_memory) in

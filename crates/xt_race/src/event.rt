@@ -140,7 +140,7 @@ impl Event {
 
     /// Whether they conflict: their cores differ, they touch a common byte of the memory regions, at least one writes, and not both
     /// synchronise.
-    pub(crate) fn conflicts(&self, other: &Event) -> bool
+    pub fn conflicts(&self, other: &Event) -> bool
         ensures { result ≡ clash self.now other.now }
     {
         self.entry.core != other.entry.core
