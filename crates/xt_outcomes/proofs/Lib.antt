@@ -4,3 +4,7 @@ pub mod Turned
 pub mod Led
 pub mod CodeBytes
 pub mod Finding
+pub mod Comparing
+pub mod Adding
+pub mod Continuing
+pub mod Raced

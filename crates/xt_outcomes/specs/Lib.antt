@@ -5,3 +5,8 @@ pub mod Time
 pub mod Spots
 pub mod Kept
 pub mod Searched
+pub mod Endings
+pub mod Listing
+pub mod SpotRaces
+pub mod Racing
+pub mod Added

@@ -2,7 +2,7 @@
 --
 -- Note: `IsNextRace` is `Conflict` of `xt_race` for the next turns of both cores, as if each came
 -- next in the history.
-use Rattle.std.specs.Prelude.{◌≡◌, ℕ, if◌then◌else◌, Option, Some, None, length}
+use Rattle.std.specs.Prelude.{◌≡◌, ℕ, ◌==◌, if◌then◌else◌, Option, Some, None, length}
 use Rattle.xt_map.specs.declared.access.Access.{Access}
 use Rattle.xt_map.specs.Serving.{reply_to}
 use Rattle.xt_trace.specs.Traces.{has_stopped}
@@ -31,5 +31,19 @@ pub record IsNextRace (code : ℕ → ℕ) (w : World State) : Type 0 where
   pub access1 : Access
   pub next0 : next_access code w.core0 ≡ Some access0
   pub next1 : next_access code w.core1 ≡ Some access1
+  pub conflict : Conflict (next_event code 0 w.core0 w.line access0)
+      (next_event code 1 w.core1 w.line access1)
+
+-- ---- timed
+
+-- the access of a core's next turn; there is none where the core has no turn left
+abbrev pub timed_next_access : (ℕ → ℕ) → Core State → Option Access
+timed_next_access code k = if k.left == 0 then None else demand code k.state
+
+-- The next turns of both cores make these accesses, which conflict.
+pub record IsTimedNextRace (code : ℕ → ℕ) (w : World State) (access0 access1 : Access)
+    : Type 0 where
+  pub next0 : timed_next_access code w.core0 ≡ Some access0
+  pub next1 : timed_next_access code w.core1 ≡ Some access1
   pub conflict : Conflict (next_event code 0 w.core0 w.line access0)
       (next_event code 1 w.core1 w.line access1)

@@ -4,7 +4,7 @@
 -- left, so one that made all its turns has ended too.
 -- Note: `IsStuck` speaks of every longer order, so a core that goes round in a loop for ever is
 -- stuck only if no order of the other's turns lets it out.
-use Rattle.std.specs.Prelude.{◌≡◌, ℕ, Bool, false, ◌==◌, ◌&&◌, List, ◌++◌, map}
+use Rattle.std.specs.Prelude.{◌≡◌, ℕ, Bool, true, false, ◌==◌, ◌&&◌, List, ◌++◌, map}
 use Rattle.xt_map.specs.Serving.{number_at}
 use Rattle.xt_trace.specs.declared.trace.Stop.{Stop}
 use Rattle.xt_trace.specs.Chip.{Chip}
@@ -12,6 +12,7 @@ use Rattle.xt_trace.specs.Runs.{Opening}
 use Rattle.xt_trace.specs.Traces.{has_stopped, stop_of}
 use Rattle.xt_trace.specs.Worlds.{World}
 use Rattle.xt_exec.specs.State.{State}
+use Rattle.xt_search.specs.Worlds.{IsOrder}
 use Rattle.xt_outcomes.specs.Orders.{timed_world_after, world_after}
 
 -- how both cores ended, what was sent, and the values of the chosen words
@@ -49,3 +50,9 @@ IsStuck P o order = (more : List ℕ) → have_stopped (world_after P o (order +
 -- timed: no order that begins with this one ends with both cores ended
 abbrev pub IsTimedStuck : {S : Type 0} (P : Chip S) → Opening S → List ℕ → Type 0
 IsTimedStuck P o order = (more : List ℕ) → have_ended (timed_world_after P o (order ++ more)) ≡ false
+
+-- timed: each order can be continued until both cores have ended
+abbrev pub CanAllEnd : {S : Type 0} (P : Chip S) → Opening S → Type 0
+CanAllEnd P o =
+    (order : List ℕ) → IsOrder order
+    → (more : List ℕ) × IsOrder more × (have_ended (timed_world_after P o (order ++ more)) ≡ true)

@@ -3,16 +3,24 @@
 
 mod found;
 mod laws;
+mod listing;
 mod opening;
+mod outcome;
+mod races;
 mod sides;
+mod stuck;
 mod timed;
 mod turns;
 mod world;
 
 pub use found::{Search, is_whole, order_of, search_timed};
 pub use laws::spots_follow_orders;
+pub use listing::{Found, outcomes_of};
 pub use opening::open;
+pub use outcome::Outcome;
+pub use races::{NextRace, race_of};
 pub use sides::Side;
+pub use stuck::stuck_of;
 pub use timed::Timed;
 pub use turns::Desk;
 pub use world::World;

@@ -4,7 +4,7 @@ ghost use Rattle.std.specs.Prelude.{◌≡◌, ◌<◌, true, length};
 use std::marker::Model;
 use xt_exec::Regs;
 use xt_special::{Ps, Special};
-use xt_trace::Options;
+use xt_trace::{Options, Stop};
 use xt_window::{WindowFile, Windows};
 
 /// A core between two turns: its registers, the turns that it has left, and whether it has stopped.
@@ -70,6 +70,7 @@ fn is_same_file(a: &WindowFile, b: &WindowFile) -> bool
 
 impl Side {
     ghost use Rattle.std.specs.Prelude.{false};
+    ghost use Rattle.xt_trace.specs.Traces.{stop_where};
     ghost use Rattle.xt_trace.specs.Validity.{IsValid};
     ghost use Rattle.xt_core.specs.Runs.{opening_at, turns_of};
 
@@ -121,6 +122,24 @@ impl Side {
         ensures { result ≡ self.now.left }
     {
         self.left
+    }
+
+    /// The program counter.
+    pub fn pc(&self) -> u32
+        ensures { result ≡ self.now.state.control.pc }
+    {
+        self.regs.pc
+    }
+
+    /// How the core has ended.
+    pub fn stop(&self) -> Stop
+        ensures { result ≡ stop_where self.now.stopped }
+    {
+        if self.stopped {
+            Stop::Break
+        } else {
+            Stop::Turns
+        }
     }
 
     /// A number that is the same for equal cores.

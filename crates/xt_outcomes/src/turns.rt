@@ -1,6 +1,7 @@
 //! One turn of a core, from a world that is kept.
-ghost use Rattle.std.specs.Prelude.{◌≡◌, ◌-◌, ◌<◌, ◌≤◌, ◌||◌, if◌then◌else◌, None, IfOk, OnOk};
+ghost use Rattle.std.specs.Prelude.{◌≡◌, ◌-◌, ◌<◌, ◌≤◌, ◌||◌, if◌then◌else◌, None, true, IfOk, IfSome, OnOk};
 ghost use Rattle.xt_map.specs.Memory.{HasSizes, constant_byte};
+ghost use Rattle.xt_map.specs.Regions.{is_mapped};
 ghost use Rattle.xt_fetch.specs.Code.{AreBytes};
 ghost use Rattle.xt_trace.specs.Worlds.{answer, memory_left};
 ghost use Rattle.xt_changes.specs.Changed.{contents_of};
@@ -8,6 +9,7 @@ ghost use Rattle.xt_rows.specs.Laws.{IsWord};
 ghost use Rattle.xt_exec.specs.Chips.{processor};
 ghost use Rattle.xt_exec.specs.Turn.{demand};
 ghost use Rattle.xt_core.specs.Cores.{turned};
+ghost use Rattle.xt_outcomes.specs.SpotRaces.{next_of};
 ghost use Rattle.xt_outcomes.specs.Spots.{memory_given, side_given};
 
 use crate::sides::Side;
@@ -15,7 +17,7 @@ use std::alloc::{AllocError, Global};
 use xt_bus::Memory;
 use xt_changes::Changes;
 use xt_core::{Begin, Core};
-use xt_map::Constants;
+use xt_map::{Access, Constants};
 use xt_trace::Options;
 use xt_window::WindowFile;
 
@@ -82,6 +84,25 @@ fn make_turn(
     }
 }
 
+// The access of the next turn of a core that has one left. The turn is made, with another reply.
+fn asked(core: &mut Core<WindowFile>, code: &Constants) -> Option<Access>
+    requires waiting { core.old.waiting ≡ None }
+    requires left { 0 < core.old.left }
+    ensures access { result ≡ demand (constant_byte code.now) core.old.state }
+    ensures mapped { IfSome result (λ a. is_mapped a ≡ true) }
+    ensures free { core.new.waiting ≡ None }
+    ensures turns { core.new.turns ≡ core.old.turns }
+{
+    match core.turn_begin(code) {
+        Begin::Bus(access) => {
+            core.turn_end(0);
+            Some(access)
+        }
+        Begin::Local => None,
+        Begin::Ended => None,
+    }
+}
+
 // The turns that are left after one, of so many.
 fn left_after(left: u32, stops: bool) -> u32
     requires { 0 < left }
@@ -98,6 +119,18 @@ fn is_either(a: bool, b: bool) -> bool
 }
 
 impl Side {
+    /// The access of the core's next turn; None: it makes none, or the core has ended.
+    pub fn next_access(&self, desk: &mut Desk, code: &Constants) -> Option<Access>
+        ensures access { result ≡ next_of (constant_byte code.now) self.now }
+        ensures mapped { IfSome result (λ a. is_mapped a ≡ true) }
+    {
+        if self.left == 0 {
+            return None;
+        }
+        desk.core.restart(self.regs, 2);
+        asked(&mut desk.core, code)
+    }
+
     /// The core after its next turn, or as it is where it has ended. The only error is running out of
     /// memory.
     pub fn turned(

@@ -1,0 +1,103 @@
+-- A list of outcomes with one more.
+use Rattle.std.proofs.Common.{◌≡◌, ℕ, zero, suc, ◌<◌, ◌≤◌, arith, get_or, length, ltb, ltb-false, Bool, true, false, List, [], ◌∷◌, ◌++◌, Option, Some, take, drop, slice_get, refl, sym, ap, ◌∙◌, subst, inl, inr, ⊎_elim, Less}
+use Rattle.std.proofs.lemmas.Bool.{true≢false}
+use Rattle.std.proofs.lemmas.Option.{slice_get_read, slice_get_within}
+use Rattle.std.specs.Prelude.{if◌then◌else◌}
+use Rattle.std.specs.Ordering.{is_eq, is_lt}
+use Rattle.xt_trace.specs.Chip.{Chip}
+use Rattle.xt_trace.specs.Runs.{Opening}
+use Rattle.xt_exec.specs.State.{State}
+use Rattle.xt_outcomes.specs.Added.{IsAdded}
+use Rattle.xt_outcomes.specs.Endings.{has_ended, outcome_at}
+use Rattle.xt_outcomes.specs.Listing.{AreReal, IsBefore, IsReal, IsRising, Lists, compared, place_in}
+use Rattle.xt_outcomes.specs.Outcomes.{Outcome}
+use Rattle.xt_outcomes.specs.Spots.{Spot}
+use Rattle.xt_outcomes.specs.declared.listing.Found.{Found}
+use Rattle.xt_outcomes.proofs.Comparing.{comes_after, comes_before}
+
+abbrev with_at : ℕ → List Found → Found → List Found
+with_at p xs x = take p xs ++ x ∷ drop p xs
+
+-- ---- what is listed
+
+listed_more : (p : ℕ) (xs : List Found) (x : Found) (y : Outcome) → Lists xs y → Lists (with_at p xs x) y
+listed_more p [] x y h = absurd h
+listed_more zero (z ∷ zs) x y h = inr h
+listed_more (suc p) (z ∷ zs) x y h = ⊎_elim (λ (e : z.outcome ≡ y). inl e) (λ (t : Lists zs y). inr (listed_more p zs x y t)) h
+
+listed_there : (p : ℕ) (xs : List Found) (x : Found) → Lists (with_at p xs x) x.outcome
+listed_there zero [] x = inl refl
+listed_there (suc p) [] x = inl refl
+listed_there zero (z ∷ zs) x = inl refl
+listed_there (suc p) (z ∷ zs) x = inr (listed_there p zs x)
+
+some_is : {A : Type 0} (x y : A) → Some x ≡ Some y → x ≡ y
+some_is x y h = cc
+
+pub listed_at : (k : ℕ) (xs : List Found) (x : Found) → slice_get xs k ≡ Some x → Lists xs x.outcome
+listed_at zero [] x h = absurd (cc)
+listed_at (suc k) [] x h = absurd (cc)
+listed_at zero (z ∷ zs) x h = inl (ap (λ (w : Found). w.outcome) (some_is z x h))
+listed_at (suc k) (z ∷ zs) x h = inr (listed_at k zs x h)
+
+-- what a look at a place says
+pub hit_at : (xs : List Found) (k : ℕ) (x : Found) → k < length xs → x ≡ get_or xs k x → slice_get xs k ≡ Some x
+hit_at xs k x less e = slice_get_read xs (length xs) k x refl less e
+
+pub same_at : (xs : List Found) (k : ℕ) (x y : Found) (z : Outcome) → k < length xs → x ≡ get_or xs k x → slice_get xs k ≡ Some y → is_eq (compared x.outcome z) ≡ false → is_eq (compared y.outcome z) ≡ false
+same_at xs k x y z less e at h =
+    let same = some_is y x (sym at ∙ hit_at xs k x less e) in
+    ap (λ (w : Found). is_eq (compared w.outcome z)) same ∙ h
+
+pub none_at : (xs : List Found) (k : ℕ) (x : Found) → false ≡ ltb k (length xs) → slice_get xs k ≡ Some x → ⊥
+none_at xs k x none at =
+    let less : k < length xs = slice_get_within xs k x at in
+    let past : length xs ≤ k = ltb-false k (length xs) (sym none) in
+    absurd (omega arith)
+
+-- ---- in rising order
+
+before_more : (p : ℕ) (xs : List Found) (x : Found) (y : Outcome) → compared y x.outcome ≡ Less → IsBefore y xs → IsBefore y (with_at p xs x)
+before_more zero [] x y h b = h
+before_more (suc p) [] x y h b = h
+before_more zero (z ∷ zs) x y h b = h
+before_more (suc p) (z ∷ zs) x y h b = b
+
+rising_choice : (z : Found) (zs : List Found) (x : Found) (b : Bool) → is_lt (compared z.outcome x.outcome) ≡ b → IsRising (z ∷ zs)
+    → ((y : Found) → slice_get (z ∷ zs) (if b then suc (place_in zs x.outcome) else 0) ≡ Some y → is_eq (compared y.outcome x.outcome) ≡ false)
+    → (((y : Found) → slice_get zs (place_in zs x.outcome) ≡ Some y → is_eq (compared y.outcome x.outcome) ≡ false) → IsRising (with_at (place_in zs x.outcome) zs x))
+    → IsRising (with_at (if b then suc (place_in zs x.outcome) else 0) (z ∷ zs) x)
+rising_choice z zs x true e r miss more =
+    (before_more (place_in zs x.outcome) zs x z.outcome (comes_before z.outcome x.outcome e) r.0, more miss)
+rising_choice z zs x false e r miss more = (comes_after z.outcome x.outcome e (miss z refl), r)
+
+rising_more : (xs : List Found) (x : Found) → IsRising xs
+    → ((y : Found) → slice_get xs (place_in xs x.outcome) ≡ Some y → is_eq (compared y.outcome x.outcome) ≡ false)
+    → IsRising (with_at (place_in xs x.outcome) xs x)
+rising_more [] x r miss = (tt, tt)
+rising_more (z ∷ zs) x r miss = rising_choice z zs x (is_lt (compared z.outcome x.outcome)) refl r miss (rising_more zs x r.1)
+
+-- ---- one more
+
+module _ (P : Chip State) (o : Opening State) (addresses : List ℕ) where
+  real_more : (p : ℕ) (xs : List Found) (x : Found) → IsReal P o addresses x → AreReal P o addresses xs → AreReal P o addresses (with_at p xs x)
+  real_more zero [] x is h = (is, tt)
+  real_more (suc p) [] x is h = (is, tt)
+  real_more zero (z ∷ zs) x is h = (is, h)
+  real_more (suc p) (z ∷ zs) x is h = (h.0, real_more p zs x is h.1)
+
+  pub added : (xs : List Found) (x : Found) (k : ℕ) (p : Spot State) → k ≡ place_in xs x.outcome → x.outcome ≡ outcome_at addresses p → IsReal P o addresses x
+      → ((z : Found) → slice_get xs k ≡ Some z → is_eq (compared z.outcome x.outcome) ≡ false) → IsAdded P o addresses p xs (with_at k xs x)
+  added xs x k p e same is miss = record {
+    real = real_more k xs x is;
+    rising = λ r. subst (λ (q : ℕ). IsRising (with_at q xs x)) (sym e)
+        (rising_more xs x r (λ z at. miss z (subst (λ (q : ℕ). slice_get xs q ≡ Some z) (sym e) at)));
+    kept = λ z h. listed_more k xs x z h;
+    listed = λ t. subst (Lists (with_at k xs x)) same (listed_there k xs x);
+  }
+
+  pub listed_before : (xs : List Found) (p : Spot State) → Lists xs (outcome_at addresses p) → IsAdded P o addresses p xs xs
+  listed_before xs p h = record { real = λ r. r; rising = λ r. r; kept = λ z k. k; listed = λ t. h }
+
+  pub not_ended : (xs : List Found) (p : Spot State) → has_ended p ≡ false → IsAdded P o addresses p xs xs
+  not_ended xs p h = record { real = λ r. r; rising = λ r. r; kept = λ z k. k; listed = λ t. absurd (true≢false (sym t ∙ h)) }

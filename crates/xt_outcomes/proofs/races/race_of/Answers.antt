@@ -1,0 +1,70 @@
+use Rattle.std.proofs.Common.{◌≡◌, ◌≢◌, ℕ, ◌+◌, ◌<◌, ◌≤◌, length, refl, sym, ap, ◌∙◌, subst, ⊎_elim, arith}
+use Rattle.std.proofs.lemmas.Bool.{cases_eq}
+use Rattle.std.proofs.lemmas.Option.{slice_get_read}
+use Rattle.xt_map.specs.declared.contents.MemoryContents.{MemoryContents}
+use Rattle.xt_exec.specs.Chips.{processor}
+use Rattle.xt_exec.specs.State.{State}
+use Rattle.xt_core.specs.Runs.{code_of, memory_of, opening_of}
+use Rattle.xt_search.specs.Graphs.{IsAt}
+use Rattle.xt_search.proofs.Numbers.{at_kept, at_once, at_within}
+use Rattle.xt_outcomes.specs.Kept.{spot_of}
+use Rattle.xt_outcomes.specs.Orders.{timed_world_after}
+use Rattle.xt_outcomes.specs.SpotRaces.{IsSpotRace}
+use Rattle.xt_outcomes.specs.Spots.{Spot}
+use Rattle.xt_outcomes.specs.declared.world.World.{World}
+use Rattle.xt_outcomes.proofs.Continuing.{whole_orders}
+use Rattle.xt_outcomes.proofs.Raced.{race_carried, race_of_spot, spot_of_race}
+use Rattle.xt_outcomes.proofs.races.race_of.Goals as goal
+
+pub returns-in-Some-clause-race : goal.returns-in-Some-clause-race
+returns-in-Some-clause-race c =
+    let ks = c.args.search.now.graph.kept.items in
+    let n = c.loop-number.number in
+    let code = code_of c.args.image.now in
+    let m = memory_of c.args.image.now c.args.options.now in
+    let s = c.args.search.now in
+    let x = c.index.result.now in
+    let a = c.in-Some.access0 in
+    let b = c.in-Some.access1 in
+    let many : c.len-number-end.result ≡ length ks = c.len-number-end.ensures ∙ c.args.search.now.graph.kept.ok.0 in
+    let less : n < c.len-number-end.result = c.loop-number-test.true in
+    let at = at_kept ks n x (slice_get_read ks (length ks) n x refl (omega arith) c.index.ensures) in
+    let race : IsSpotRace code (spot_of m x.world) a b =
+    race_carried (λ k l. IsSpotRace k (spot_of l x.world) a b) s.machine.code c.args.image.now.segments s.machine.opening.contents m c.requires.search.code c.requires.search.opening c.in-Some.ensures in
+    record {
+      order = c.in_ok-order.ensures.order;
+      race = race_of_spot code (timed_world_after (processor code) (opening_of c.args.image.now c.args.options.now) c.in_ok-order.order.items) a b
+          (subst (λ (p : Spot State). IsSpotRace code p a b) (c.in_ok-order.ensures.found x.world at) race);
+    }
+
+pub loop-number-preserved : goal.loop-number-preserved
+loop-number-preserved c = λ k w a b lo at race.
+    let ks = c.args.search.now.graph.kept.items in
+    let n = c.loop-number.number in
+    let m = memory_of c.args.image.now c.args.options.now in
+    let s = c.args.search.now in
+    let x = c.index.result.now in
+    let many : c.len-number-end.result ≡ length ks = c.len-number-end.ensures ∙ c.args.search.now.graph.kept.ok.0 in
+    let less : n < c.len-number-end.result = c.loop-number-test.true in
+    let here = at_kept ks n x (slice_get_read ks (length ks) n x refl (omega arith) c.index.ensures) in
+    ⊎_elim
+    (λ (is : k ≡ n).
+    let e = at_once ks n w x.world (subst (λ (j : ℕ). IsAt ks j w) is at) here in
+    let moved = subst (λ (v : World). IsSpotRace (code_of c.args.image.now) (spot_of m v) a b) e race in
+    c.in_default.ensures a b (race_carried (λ j l. IsSpotRace j (spot_of l x.world) a b) c.args.image.now.segments s.machine.code m s.machine.opening.contents (sym c.requires.search.code) (sym c.requires.search.opening) moved))
+    (λ (isnt : k ≢ n).
+    let other : ¬ (k ≡ n) = isnt in
+    let below : k < n + 1 = lo in
+    c.loop-number.invariant k w a b (omega arith) at race)
+    (cases_eq k n)
+
+pub returns-clause-none : goal.returns-clause-none
+returns-clause-none c = λ whole order a b is race.
+    let ks = c.args.search.now.graph.kept.items in
+    let code = code_of c.args.image.now in
+    let r = whole_orders c.args.image.now c.args.options.now c.args.search.now c.requires.search whole order is in
+    let many : c.len-number-end.result ≡ length ks = c.len-number-end.ensures ∙ c.args.search.now.graph.kept.ok.0 in
+    let past : c.len-number-end.result ≤ c.loop-number.number = c.loop-number-test.false in
+    let within : r.0 < length ks = at_within ks r.0 r.1 r.2 in
+    c.loop-number.invariant r.0 r.1 a b (omega arith) r.2
+    (subst (λ (p : Spot State). IsSpotRace code p a b) (sym r.3) (spot_of_race code (timed_world_after (processor code) (opening_of c.args.image.now c.args.options.now) order) a b race))

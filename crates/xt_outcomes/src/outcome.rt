@@ -1,0 +1,124 @@
+//! What comes out of an order.
+ghost use Rattle.std.specs.Prelude.{◌≡◌, ◌+◌, ◌≤◌, ◌^◌, IfOk, map};
+ghost use Rattle.std.specs.List.{All};
+ghost use Rattle.std.specs.Ordering.{is_eq, is_lt};
+ghost use Rattle.xt_map.specs.Memory.{HasSizes};
+ghost use Rattle.xt_map.specs.Serving.{number_at};
+ghost use Rattle.xt_changes.specs.Changed.{contents_of};
+ghost use Rattle.xt_outcomes.specs.Endings.{outcome_at};
+ghost use Rattle.xt_outcomes.specs.Kept.{spot_of};
+ghost use Rattle.xt_outcomes.specs.Listing.{compared, rank};
+
+use crate::world::World;
+use std::alloc::{AllocError, Global};
+use std::cmp::Ordering;
+use std::marker::Model;
+use xt_bus::Memory;
+use xt_changes::Changes;
+use xt_trace::Stop;
+
+/// How both cores ended, what was sent, and the values of the chosen words.
+#[derive(Drop)]
+pub struct Outcome {
+    /// The bytes that UART0 has sent.
+    pub sent: Vec<u8>,
+    pub stop0: Stop,
+    /// The last program counter of core 0.
+    pub pc0: u32,
+    pub stop1: Stop,
+    /// The last program counter of core 1.
+    pub pc1: u32,
+    pub words: Vec<u32>,
+}
+
+impl Model for Outcome {
+    ghost use Rattle.xt_outcomes.specs.Outcomes as outcomes;
+
+    ghost Value = { outcomes.Outcome };
+
+    ghost view = { λ x. record { sent = x.sent.items; stop0 = x.stop0; pc0 = x.pc0; stop1 = x.stop1; pc1 = x.pc1; words = x.words.items } };
+}
+
+// The place of a way to end.
+fn rank(stop: Stop) -> u32
+    ensures { result ≡ rank stop }
+{
+    match stop {
+        Stop::Turns => 0,
+        Stop::Break => 1,
+    }
+}
+
+impl Outcome {
+    // Which of two outcomes comes first.
+    fn compared(&self, other: &Outcome) -> Ordering
+        ensures { result ≡ compared self.now other.now }
+    {
+        let words = self.words.as_slice().cmp(other.words.as_slice());
+        let core1 = rank(self.stop1)
+            .cmp(&rank(other.stop1))
+            .then(self.pc1.cmp(&other.pc1).then(words));
+        let core0 = rank(self.stop0)
+            .cmp(&rank(other.stop0))
+            .then(self.pc0.cmp(&other.pc0).then(core1));
+        self.sent.as_slice().cmp(other.sent.as_slice()).then(core0)
+    }
+
+    /// Whether it comes before another one.
+    pub fn is_before(&self, other: &Outcome) -> bool
+        ensures { result ≡ is_lt (compared self.now other.now) }
+    {
+        self.compared(other).is_lt()
+    }
+
+    /// Whether it is the same as another one.
+    pub fn is_same(&self, other: &Outcome) -> bool
+        ensures { result ≡ is_eq (compared self.now other.now) }
+    {
+        self.compared(other).is_eq()
+    }
+}
+
+// The words at these addresses.
+fn values(
+    alloc: Global,
+    opening: &Memory,
+    changes: &Changes,
+    words: &[u32],
+) -> Result<Vec<u32>, AllocError>
+    requires sizes { HasSizes opening.now.contents }
+    requires words { All (λ a. a + 4 ≤ 2 ^ 32) words.now }
+    ensures { IfOk result (λ v. v.items ≡ map (λ a. number_at (contents_of opening.now.contents changes.now) a 4) words.now) }
+{
+    let mut values = Vec::new(alloc);
+    for word in words {
+        values.push(changes.number(opening, *word, 4))?;
+    }
+    Ok(values)
+}
+
+/// The outcome in a world in which both cores have ended, for the words at these addresses. The only
+/// error is running out of memory.
+///
+/// Condition: each address lies at least 4 below 2^32.
+pub(crate) fn outcome_of(
+    alloc: Global,
+    opening: &Memory,
+    world: &World,
+    words: &[u32],
+) -> Result<Outcome, AllocError>
+    requires sizes { HasSizes opening.now.contents }
+    requires words { All (λ a. a + 4 ≤ 2 ^ 32) words.now }
+    ensures { IfOk result (λ x. x ≡ outcome_at words.now (spot_of opening.now.contents world.now)) }
+{
+    let mut sent = Vec::new(alloc);
+    sent.extend_from_slice(world.changes.sent())?;
+    Ok(Outcome {
+        sent,
+        stop0: world.side0.stop(),
+        pc0: world.side0.pc(),
+        stop1: world.side1.stop(),
+        pc1: world.side1.pc(),
+        words: values(alloc, opening, &world.changes, words)?,
+    })
+}
