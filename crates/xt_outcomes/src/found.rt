@@ -68,7 +68,8 @@ pub fn order_of(
 /// Whether the search came to its end: then what is kept of the world after each order was found.
 pub fn is_whole(image: &Image, options: &Options, search: &Search) -> bool
     requires search { IsSearch image.now options.now search.now }
-    ensures { result ≡ true → HasAllOrders image.now options.now search.now }
+    ensures orders { result ≡ true → HasAllOrders image.now options.now search.now }
+    ensures whole { result ≡ true → IsWhole search.now.graph }
 {
     has_all(&search.machine, &search.graph)
 }

@@ -17,18 +17,18 @@ use xt_bus::Memory;
 use xt_changes::Changes;
 use xt_trace::Stop;
 
-/// How both cores ended, what was sent, and the values of the chosen words.
+/// How both cores ended, what was sent, and the values of the chosen words. Contracts see these.
 #[derive(Drop)]
 pub struct Outcome {
     /// The bytes that UART0 has sent.
-    pub sent: Vec<u8>,
-    pub stop0: Stop,
+    pub(crate) sent: Vec<u8>,
+    pub(crate) stop0: Stop,
     /// The last program counter of core 0.
-    pub pc0: u32,
-    pub stop1: Stop,
+    pub(crate) pc0: u32,
+    pub(crate) stop1: Stop,
     /// The last program counter of core 1.
-    pub pc1: u32,
-    pub words: Vec<u32>,
+    pub(crate) pc1: u32,
+    pub(crate) words: Vec<u32>,
 }
 
 impl Model for Outcome {
@@ -50,6 +50,48 @@ fn rank(stop: Stop) -> u32
 }
 
 impl Outcome {
+    /// The bytes that UART0 has sent.
+    pub fn sent(&self) -> &[u8]
+        ensures { result.now ≡ self.now.sent }
+    {
+        self.sent.as_slice()
+    }
+
+    /// How core 0 has ended.
+    pub fn stop0(&self) -> Stop
+        ensures { result ≡ self.now.stop0 }
+    {
+        self.stop0
+    }
+
+    /// The last program counter of core 0.
+    pub fn pc0(&self) -> u32
+        ensures { result ≡ self.now.pc0 }
+    {
+        self.pc0
+    }
+
+    /// How core 1 has ended.
+    pub fn stop1(&self) -> Stop
+        ensures { result ≡ self.now.stop1 }
+    {
+        self.stop1
+    }
+
+    /// The last program counter of core 1.
+    pub fn pc1(&self) -> u32
+        ensures { result ≡ self.now.pc1 }
+    {
+        self.pc1
+    }
+
+    /// The values of the chosen words.
+    pub fn words(&self) -> &[u32]
+        ensures { result.now ≡ self.now.words }
+    {
+        self.words.as_slice()
+    }
+
     // Which of two outcomes comes first.
     fn compared(&self, other: &Outcome) -> Ordering
         ensures { result ≡ compared self.now other.now }
