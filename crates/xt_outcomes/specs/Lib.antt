@@ -10,3 +10,4 @@ pub mod Listing
 pub mod SpotRaces
 pub mod Racing
 pub mod Added
+pub mod Answered

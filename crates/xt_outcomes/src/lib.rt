@@ -1,6 +1,7 @@
 //! Everything that can come out of a program of two cores, in any order of their turns.
 #![tactic(auto)]
 
+mod answers;
 mod found;
 mod laws;
 mod listing;
@@ -13,6 +14,7 @@ mod timed;
 mod turns;
 mod world;
 
+pub use answers::{Answers, answers_of};
 pub use found::{Search, is_whole, order_of, search_timed};
 pub use laws::spots_follow_orders;
 pub use listing::{Found, outcomes_of};

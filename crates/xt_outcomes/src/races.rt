@@ -117,7 +117,7 @@ pub fn race_of(
     requires search { IsSearch image.now options.now search.now }
     requires valid { IsValid options.now }
     ensures race { IfOk result (λ r. IfSome r (λ x. IsRaceAfter (code_of image.now) (opening_of image.now options.now) x)) }
-    ensures none { IfOk result (λ r. IfNone r (IsWhole search.now.graph → HasNoRace (code_of image.now) (opening_of image.now options.now))) }
+    ensures none { IfOk result (λ r. IsWhole search.now.graph → IfNone r (HasNoRace (code_of image.now) (opening_of image.now options.now))) }
 {
     let mut desk = Desk::make(alloc, options)?;
     for number in 0..search.graph.kept.len() {

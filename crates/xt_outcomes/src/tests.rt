@@ -3,11 +3,11 @@ ghost use Rattle.std.specs.Prelude.{IfOk};
 ghost use Rattle.xt_trace.specs.Validity.{IsValid};
 ghost use Rattle.xt_image.specs.Parts.{IsWellFormed};
 
-use crate::{is_whole, search_timed};
+use crate::{answers_of, is_whole, search_timed};
 use std::alloc::{AllocError, Global};
 use std::test::Fail;
 use xt_image::{Image, read, well_formed_is_placed};
-use xt_trace::{Options, Stack};
+use xt_trace::{Options, Stack, Stop};
 
 /// `l32r a2, 0x3FF40000`, `movi a3, 65`, `s8i a3, a2, 0`, `break 1, 15` at 0x40080404.
 static LETTER: [u8; 64] = [
@@ -62,5 +62,29 @@ fn two_letters_have_25_worlds(rt: HostRuntime) -> Result<(), Fail> {
     let search = search_timed(alloc, &image, &options, 100)?;
     assert_eq!(rt; search.graph.kept.len(), 25);
     assert_eq!(rt; is_whole(&image, &options, &search), true);
+    Ok(())
+}
+
+/// Each core sends A and stops, in whatever order: `break` is the fourth instruction, three bytes each
+/// from 0x40080404 on.
+#[test]
+fn two_letters_come_out_in_one_way(rt: HostRuntime) -> Result<(), Fail> {
+    let alloc = rt.alloc();
+    let image = image_in(alloc, &LETTER)?;
+    let options = options_of(0x40080404)?;
+    well_formed_is_placed();
+    let answers = answers_of(alloc, &image, &options, &[0x3FFB0000], 100)?;
+    assert_eq!(rt; answers.whole, true);
+    assert_eq!(rt; answers.found.len(), 1);
+    assert_eq!(rt; answers.stuck.is_none(), true);
+    assert_eq!(rt; answers.race.is_none(), true);
+    for found in &answers.found {
+        assert_eq!(rt; found.order.len(), 8);
+        assert_eq!(rt; found.outcome.sent(), b"AA");
+        assert_eq!(rt; found.outcome.stop0(), Stop::Break);
+        assert_eq!(rt; found.outcome.pc0(), 0x4008040D);
+        assert_eq!(rt; found.outcome.stop1(), Stop::Break);
+        assert_eq!(rt; found.outcome.words(), &[0]);
+    }
     Ok(())
 }

@@ -1,0 +1,13 @@
+use Rattle.xt_outcomes.proofs.answers.answers_of.Goals as goal
+
+pub returns : goal.returns
+returns c = record {
+  real = c.in_ok-found.ensures.real;
+  rising = c.in_ok-found.ensures.rising;
+  all = λ t. c.in_ok-found.ensures.all (c.is_whole-whole.ensures.whole t);
+  order = c.in_ok-stuck.ensures.order;
+  stuck = c.in_ok-stuck.ensures.stuck;
+  never_stuck = c.in_ok-stuck.ensures.none;
+  race = c.in_ok-race.ensures.race;
+  no_race = λ t. c.in_ok-race.ensures.none (c.is_whole-whole.ensures.whole t);
+}
