@@ -1,4 +1,4 @@
-use Rattle.std.specs.Prelude.{refl}
+use Rattle.std.proofs.Common.{refl}
 use Rattle.xt_fillings.proofs.laws.owb_is_the_fillings.Goals as goal
 
 pub returns : goal.returns
