@@ -280,6 +280,8 @@ fn plain() -> RunOptions {
         race: false,
         profile: false,
         uses: false,
+        required: None,
+        memory: None,
     }
 }
 
