@@ -41,28 +41,29 @@ tool_refuses asked r s left told f g means is =
 
 -- ---- the top call
 
-top_without : (asked : Result Order Refusal) (left told : Option (List ℕ)) (f g : ℕ) (o : Outcome) → o.status ≡ status.Memory → o.whole ≡ None
+top_without : (asked : Result Order Refusal) (left told : Option (List ℕ)) (f g : ℕ) (o : Outcome) → o.status ≡ status.Memory → o.whole ≡ None → o.unmet ≡ None
     → top.Answers asked (still left told f g) o
-top_without (Ok (order.Work j)) left told f g o is none =
-    let P : Status → Type 0 = λ x. Makes j (still left told f g) x in (subst P (sym is) (out_of_memory (Ok (order.Work j)) left told f g), none)
-top_without (Ok (order.Run wanted options)) left told f g o is none =
+top_without (Ok (order.Work j)) left told f g o is none no_line =
+    let P : Status → Type 0 = λ x. Makes j (still left told f g) x in (subst P (sym is) (out_of_memory (Ok (order.Work j)) left told f g), none, no_line)
+top_without (Ok (order.Run wanted options)) left told f g o is none no_line =
     let e = still left told f g in
-    let P : Status → Type 0 = λ x. Runs wanted options e x None in
-    let Q : Option Whole → Type 0 = λ x. Runs wanted options e o.status x in
-    subst Q (sym none) (subst P (sym is) (takes_nothing image_limit left told f g, inl (keeps_same told)))
-top_without (Ok (order.Generate number)) left told f g o is none =
+    let P : Status → Type 0 = λ x. Runs wanted options e x None None in
+    let Q : Option Whole → Type 0 = λ x. Runs wanted options e o.status x None in
+    let R : Option (List ℕ) → Type 0 = λ x. Runs wanted options e o.status o.whole x in
+    subst R (sym no_line) (subst Q (sym none) (subst P (sym is) (takes_nothing image_limit left told f g, inl (keeps_same told))))
+top_without (Ok (order.Generate number)) left told f g o is none no_line =
     let P : Status → Type 0 = λ x. Generates number told told g g x None in
     let Q : Option Whole → Type 0 = λ x. Generates number told told g g o.status x in
-    (record { left = refl; faults = refl }, subst Q (sym none) (subst P (sym is) (inl (keeps_same told))))
-top_without (Err r) left told f g o is none =
-    let P : Status → Type 0 = λ x. Answers (Err r) (still left told f g) (tool.Answer x) in (subst P (sym is) (out_of_memory (Err r) left told f g), none)
+    (record { left = refl; faults = refl }, subst Q (sym none) (subst P (sym is) (inl (keeps_same told))), no_line)
+top_without (Err r) left told f g o is none no_line =
+    let P : Status → Type 0 = λ x. Answers (Err r) (still left told f g) (tool.Answer x) in (subst P (sym is) (out_of_memory (Err r) left told f g), none, no_line)
 
 pub top_refuses : (asked : Result Order Refusal) (r : Refusal) (o : Outcome) (left told : Option (List ℕ)) (f g : ℕ) → Means (Err r) asked
-    → o.status ≡ status_of r → o.whole ≡ None → top.Answers asked (still left told f g) o
-top_refuses asked (refusal.Usage rule) o left told f g means is none =
+    → o.status ≡ status_of r → o.whole ≡ None → o.unmet ≡ None → top.Answers asked (still left told f g) o
+top_refuses asked (refusal.Usage rule) o left told f g means is none no_line =
     let P : Result Order Refusal → Type 0 = λ x. top.Answers x (still left told f g) o in
-    subst P means (tool_refuses (Err (refusal.Usage rule)) (refusal.Usage rule) o.status left told f g refl is, none)
-top_refuses asked refusal.Memory o left told f g means is none = top_without asked left told f g o is none
+    subst P means (tool_refuses (Err (refusal.Usage rule)) (refusal.Usage rule) o.status left told f g refl is, none, no_line)
+top_refuses asked refusal.Memory o left told f g means is none no_line = top_without asked left told f g o is none no_line
 
 -- ---- the top call after that of the commands that need no thread
 
@@ -89,15 +90,15 @@ of_still P e quiet all =
     subst D (sym quiet.sink) (subst C (sym quiet.source) (subst B (sym quiet.told) (subst A (sym quiet.left) (all e.left e.told e.source_faults e.sink_faults))))
 
 -- a status that was answered is that of the top call, which hands out no run
-pub answered : (asked : Result Order Refusal) (e : Ends) (s : Status) (o : Outcome) → Answers asked e (tool.Answer s) → o.status ≡ s → o.whole ≡ None → top.Answers asked e o
-answered (Ok (order.Work j)) e s o answers is none =
-    let P : Status → Type 0 = λ x. Makes j e x in (subst P (sym is) answers, none)
-answered (Ok (order.Run wanted options)) e s o (memory, quiet) is none =
-    of_still (λ (c : Ends). top.Answers (Ok (order.Run wanted options)) c o) e quiet (λ left told f g. top_without (Ok (order.Run wanted options)) left told f g o (is ∙ memory) none)
-answered (Ok (order.Generate number)) e s o (memory, quiet) is none =
-    of_still (λ (c : Ends). top.Answers (Ok (order.Generate number)) c o) e quiet (λ left told f g. top_without (Ok (order.Generate number)) left told f g o (is ∙ memory) none)
-answered (Err r) e s o answers is none =
-    let P : Status → Type 0 = λ x. tools.RefusesWords r e x in (subst P (sym is) answers, none)
+pub answered : (asked : Result Order Refusal) (e : Ends) (s : Status) (o : Outcome) → Answers asked e (tool.Answer s) → o.status ≡ s → o.whole ≡ None → o.unmet ≡ None → top.Answers asked e o
+answered (Ok (order.Work j)) e s o answers is none no_line =
+    let P : Status → Type 0 = λ x. Makes j e x in (subst P (sym is) answers, none, no_line)
+answered (Ok (order.Run wanted options)) e s o (memory, quiet) is none no_line =
+    of_still (λ (c : Ends). top.Answers (Ok (order.Run wanted options)) c o) e quiet (λ left told f g. top_without (Ok (order.Run wanted options)) left told f g o (is ∙ memory) none no_line)
+answered (Ok (order.Generate number)) e s o (memory, quiet) is none no_line =
+    of_still (λ (c : Ends). top.Answers (Ok (order.Generate number)) c o) e quiet (λ left told f g. top_without (Ok (order.Generate number)) left told f g o (is ∙ memory) none no_line)
+answered (Err r) e s o answers is none no_line =
+    let P : Status → Type 0 = λ x. tools.RefusesWords r e x in (subst P (sym is) answers, none, no_line)
 
 pub answered_completely : (asked : Result Order Refusal) (e : Ends) (s : Status) (o : Outcome) → Answers asked e (tool.Answer s) → tools.IsComplete asked e (tool.Answer s)
     → o.status ≡ s → top.IsComplete asked e o

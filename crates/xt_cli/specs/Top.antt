@@ -17,11 +17,14 @@ pub record IsUnread (e : Ends) : Type 0 where
 -- Each answer by what the words ask for: a run's, that of `gen`, or that of the commands that need
 -- no thread, which hand out no run.
 abbrev pub Answers : Result Order Refusal → Ends → Outcome → Type 0
-Answers (Ok (order.Run wanted options)) e o = Runs wanted options e o.status o.whole
+Answers (Ok (order.Run wanted options)) e o =
+    Runs wanted options e o.status o.whole o.unmet
 Answers (Ok (order.Generate number)) e o =
     IsUnread e
     × Generates number e.told e.told_after e.sink_faults e.sink_faults_after o.status o.whole
-Answers asked e o = tools.Answers asked e (tool.Answer o.status) × (o.whole ≡ None)
+    × (o.unmet ≡ None)
+Answers asked e o =
+    tools.Answers asked e (tool.Answer o.status) × (o.whole ≡ None) × (o.unmet ≡ None)
 
 -- ---- completeness
 

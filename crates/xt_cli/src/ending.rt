@@ -1,7 +1,7 @@
 //! How the program ends: its line on standard error, and its code.
-ghost use Rattle.std.specs.Prelude.{◌≡◌, ◌⊎◌, map, string_bytes, IfErr, MatchResult};
+ghost use Rattle.std.specs.Prelude.{◌≡◌, ◌⊎◌, None, Some, map, string_bytes, IfErr, IfOk, MatchResult};
 ghost use Rattle.xt_status.specs.Calls.{ends, IsUntouched};
-ghost use Rattle.xt_cli.specs.Endings.{IsEndOf, IsEndOfCall};
+ghost use Rattle.xt_cli.specs.Endings.{IsEndOf, IsEndOfCall, required_text};
 
 use crate::top::xt_main;
 use std::alloc::{AllocError, Global};
@@ -12,13 +12,14 @@ use std::sync::Wait;
 use std::thread::Threads;
 use xt_io::{Gate, Sink, Source};
 use xt_map::Text;
+use xt_runs::Outcome;
 use xt_status::{Status, status_line};
 
 /// How the program ends.
 #[derive(Drop)]
 pub struct End {
-    /// The line for standard error, None where the command did all of its work. The only error is
-    /// running out of memory: then the code alone tells the status.
+    /// The line for standard error, None where the command did all of its work and its run meets what is required. The
+    /// only error is running out of memory: then the code alone tells the status.
     pub line: Result<Option<Text>, AllocError>,
     /// The code with which the program ends.
     pub code: u8,
@@ -42,9 +43,19 @@ pub fn program_words(rt: &(impl Env + AllocGlobal)) -> Result<Vec<String>, Statu
     Ok(words)
 }
 
+// The line of a run that does not meet a requirement, by the line that says so.
+fn required_line(alloc: Global, line: &Text) -> Result<Text, AllocError>
+    ensures { IfOk result (λ text. text ≡ required_text line.now) }
+{
+    let head = format!(in alloc; "xt: Required ")?;
+    let mut text = head.into_bytes();
+    text.extend_from_slice(line.as_slice())?;
+    Ok(Text::new(text))
+}
+
 // How the program ends with a status.
 fn ended(alloc: Global, status: &Status) -> End
-    ensures { IsEndOf status.now result }
+    ensures { IsEndOf status.now None result }
 {
     let line = match status {
         Status::Done => Ok(None),
@@ -53,6 +64,29 @@ fn ended(alloc: Global, status: &Status) -> End
     End {
         line,
         code: status.code(),
+    }
+}
+
+// How the program ends with a status after a run that does not meet a requirement, by the line that says so.
+fn ended_unmet(alloc: Global, status: &Status, line: &Text) -> End
+    ensures { IsEndOf status.now (Some line.now) result }
+{
+    match status {
+        Status::Done => End {
+            line: required_line(alloc, line).map(Some),
+            code: 20,
+        },
+        _ => ended(alloc, status),
+    }
+}
+
+// How the program ends after a call.
+fn ended_after(alloc: Global, outcome: &Outcome) -> End
+    ensures { IsEndOf outcome.now.status outcome.now.unmet result }
+{
+    match &outcome.unmet {
+        Some(line) => ended_unmet(alloc, &outcome.status, line),
+        None => ended(alloc, &outcome.status),
     }
 }
 
@@ -70,13 +104,13 @@ pub fn xt_program<S: Source, K: Sink, G: Gate, R: Threads + Wait + Sync>(
     ensures { MatchResult words.now
         (λ given. IsEndOfCall (map string_bytes given.items)
         (ends S.left S.faults source.old source.new K.told K.faults sink.old sink.new) result)
-        (λ status. IsEndOf status result
+        (λ status. IsEndOf status None result
         × IsUntouched (ends S.left S.faults source.old source.new K.told K.faults sink.old sink.new)) }
 {
     match words {
         Ok(given) => {
             let outcome = xt_main(rt, alloc, given.as_slice(), source, sink, gate);
-            ended(alloc, &outcome.status)
+            ended_after(alloc, &outcome)
         }
         Err(status) => ended(alloc, status),
     }

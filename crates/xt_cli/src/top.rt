@@ -49,7 +49,8 @@ fn threaded<S: Source, K: Sink, G: Gate, R: Threads + Wait + Sync>(
 /// All else is done by `tool_main`, which is called first and cannot wait.
 ///
 /// The contract says of each status its cause, and what was written; of `Done` and `WriteFault` of
-/// `run`, `record` and `gen` besides that the run that is handed out is the image's: its history is
+/// `run`, `record` and `gen` besides which line is handed out of the first requirement of the words that the run does not
+/// meet, if there is one, and that the run that is handed out is the image's: its history is
 /// legal from the opening memory, each trace is the processor's over the replies of that history, and
 /// the history's accesses are those of the traces; that it is the run of the schedule that is read from its own history; and
 /// that the answers for the window handlers are those of the image's vectors from the run's VECBASE on,

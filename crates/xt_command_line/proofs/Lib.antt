@@ -4,3 +4,5 @@ pub mod Parses
 pub mod Ranges
 pub mod TurnTexts
 pub mod Rules
+mod RequirementTexts
+mod SpanTexts

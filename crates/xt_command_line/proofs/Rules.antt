@@ -17,6 +17,10 @@ use Rattle.xt_command_line.specs.Meaning.{NeedsNoMemory, meaning_by, named, with
 use Rattle.xt_command_line.specs.Numbers.{number_of}
 use Rattle.xt_command_line.specs.Simple.{rows_by}
 use Rattle.xt_command_line.specs.TurnOrders.{is_short, listed, order_in, seeded, turns_in}
+use Rattle.xt_command_line.specs.Requirements as requirements
+use Rattle.xt_command_line.specs.Requirements.{required_in, requirements_in}
+use Rattle.xt_command_line.specs.Spans as spans
+use Rattle.xt_command_line.specs.Spans.{shown_in, spans_in}
 use Rattle.xt_command_line.specs.declared.command.Command.{Command}
 use Rattle.xt_command_line.specs.declared.command.Command.TheVariants as command
 use Rattle.xt_command_line.specs.declared.command.Listing.TheVariants as listing
@@ -26,6 +30,8 @@ use Rattle.xt_command_line.specs.declared.command.Openings.{Openings}
 use Rattle.xt_command_line.specs.declared.command.Refusal.{Refusal}
 use Rattle.xt_command_line.specs.declared.command.Refusal.TheVariants as refusal
 use Rattle.xt_command_line.specs.declared.options.RunOptions.{RunOptions}
+use Rattle.xt_command_line.specs.declared.requirements.Requirement.{Requirement}
+use Rattle.xt_command_line.specs.declared.spans.Span.{Span}
 use Rattle.xt_command_line.specs.declared.turn_orders.TurnOrder.{TurnOrder}
 use Rattle.xt_command_line.specs.declared.turn_orders.CoreTurns.{CoreTurns}
 
@@ -53,13 +59,35 @@ order-answers (Some seed) None = or-answers (number_of seed)
 order-answers None (Some list) = listed-answers (turns_in list)
 order-answers (Some seed) (Some list) = λ e. search (rules, e)
 
-judged_with-answers : (t : Texts) (order : Result TurnOrder Refusal) → order ≢ Err refusal.Memory → judged_with t order ≢ Err refusal.Memory
-judged_with-answers t (Ok order) no_memory = judged-answers (options_in t order)
-judged_with-answers t (Err r) no_memory = λ e. no_memory (cc)
+some_required-answers : (list : Option (List Requirement)) → requirements.listed list ≢ Err refusal.Memory
+some_required-answers None = λ e. search (rules, e)
+some_required-answers (Some list) = λ e. search (rules, e)
+
+required-answers : (text : Option Text) → required_in text ≢ Err refusal.Memory
+required-answers None = λ e. search (rules, e)
+required-answers (Some text) = some_required-answers (requirements_in text)
+
+some_shown-answers : (list : Option (List Span)) → spans.listed list ≢ Err refusal.Memory
+some_shown-answers None = λ e. search (rules, e)
+some_shown-answers (Some list) = λ e. search (rules, e)
+
+shown-answers : (text : Option Text) → shown_in text ≢ Err refusal.Memory
+shown-answers None = λ e. search (rules, e)
+shown-answers (Some text) = some_shown-answers (spans_in text)
+
+judged_with-answers : (t : Texts) (order : Result TurnOrder Refusal) (required : Result (Option (List Requirement)) Refusal) (shown : Result (Option (List Span)) Refusal)
+    → order ≢ Err refusal.Memory → required ≢ Err refusal.Memory → shown ≢ Err refusal.Memory → judged_with t order required shown ≢ Err refusal.Memory
+judged_with-answers t (Err r) required shown p q s = λ e. p (cc)
+judged_with-answers t (Ok order) (Err r) shown p q s = λ e. q (cc)
+judged_with-answers t (Ok order) (Ok required) (Err r) p q s = λ e. s (cc)
+judged_with-answers t (Ok order) (Ok required) (Ok shown) p q s = judged-answers (options_in t order required shown)
 
 by_rows-answers : (rows : Option (List Row)) → by_rows rows ≢ Err refusal.Memory
 by_rows-answers None = λ e. search (rules, e)
-by_rows-answers (Some rows) = let t = texts_of rows in judged_with-answers t (order_in t.seed t.order) (order-answers t.seed t.order)
+by_rows-answers (Some rows) =
+    let t = texts_of rows in
+    judged_with-answers t (order_in t.seed t.order) (required_in t.require) (shown_in t.memory)
+    (order-answers t.seed t.order) (required-answers t.require) (shown-answers t.memory)
 
 pub need_no_memory : OptionsNeedNoMemory
 need_no_memory words = (by_rows-answers (rows_by run_app words), by_rows-answers (rows_by record_app words))

@@ -2,6 +2,8 @@ pub mod Numbers
 pub mod Simple
 pub mod Answers
 pub mod TurnOrders
+pub mod Requirements
+pub mod Spans
 pub mod Options
 pub mod Arguments
 pub mod Beyond

@@ -1,7 +1,7 @@
 -- The options of `run` and `record` ('profile').
 --
 -- Profile: the words break the first rule of usage that fails: no command, an unknown one, words
--- that do not match, a text that is no number, range or order, and then the limits in the order of
+-- that do not match, a text that is no number, range or list, and then the limits in the order of
 -- `limits`. HELP.txt has what holds without an option.
 -- Note: `entry1` is judged only where it is given; otherwise it is the image's entry, which the
 -- image's rules judge.
@@ -20,9 +20,13 @@ use Rattle.xt_trace.specs.declared.options.Options.{Options}
 use Rattle.xt_command_line.specs.Numbers.{number_of}
 use Rattle.xt_command_line.specs.Simple.{rows_by}
 use Rattle.xt_command_line.specs.TurnOrders.{is_short, order_in}
+use Rattle.xt_command_line.specs.Requirements.{required_in}
+use Rattle.xt_command_line.specs.Spans.{shown_in}
 use Rattle.xt_command_line.specs.declared.command.Refusal.{Refusal}
 use Rattle.xt_command_line.specs.declared.command.Refusal.TheVariants as refusal
 use Rattle.xt_command_line.specs.declared.options.RunOptions.{RunOptions}
+use Rattle.xt_command_line.specs.declared.requirements.Requirement.{Requirement}
+use Rattle.xt_command_line.specs.declared.spans.Span.{Span}
 use Rattle.xt_command_line.specs.declared.turn_orders.TurnOrder.{TurnOrder}
 
 -- ---- the simple commands of clap
@@ -51,17 +55,21 @@ option_names =
     codes "turns0" ∷ codes "turns1" ∷ codes "entry1"
     ∷ codes "vecbase" ∷ codes "stack0" ∷ codes "stack1" ∷ order_names
 
+-- these options and [--require LIST]
+abbrev pub required_app : Text → App
+required_app name = with_option (fold with_option (new_app name) option_names) (codes "require")
+
 abbrev pub record_app : App
-record_app = fold with_option (new_app (codes "record")) option_names
+record_app = required_app (codes "record")
 
 -- [--events] [--race] [--profile] [--uses] [--trace]
 abbrev pub flag_names : List Text
 flag_names =
     codes "events" ∷ codes "race" ∷ codes "profile" ∷ codes "uses" ∷ codes "trace" ∷ []
 
--- the same options, and the flags
+-- the same options, [--memory LIST], and the flags
 abbrev pub run_app : App
-run_app = fold with_flag (fold with_option (new_app (codes "run")) option_names) flag_names
+run_app = fold with_flag (with_option (required_app (codes "run")) (codes "memory")) flag_names
 
 -- ---- the texts of the options
 
@@ -74,6 +82,8 @@ pub record Texts : Type 0 where
   pub stack1 : Option Text
   pub seed : Option Text
   pub order : Option Text
+  pub require : Option Text
+  pub memory : Option Text
   pub trace : Bool
   pub events : Bool
   pub race : Bool
@@ -94,6 +104,8 @@ texts_of rows = record {
   stack1 = first_of (codes "stack1") rows;
   seed = first_of (codes "seed") rows;
   order = first_of (codes "order") rows;
+  require = first_of (codes "require") rows;
+  memory = first_of (codes "memory") rows;
   trace = is_set (first_of (codes "trace") rows);
   events = is_set (first_of (codes "events") rows);
   race = is_set (first_of (codes "race") rows);
@@ -126,14 +138,14 @@ said_or say default (Some text) = say text
 abbrev pub given_number_of : Text → Option (Option ℕ)
 given_number_of text = option_map Some (number_of text)
 
--- the options of these numbers and ranges, where each is there, with this order and with the flags
--- as they were given
+-- the options of these numbers and ranges, where each is there, with this order, these requirements
+-- and these words of memory, and with the flags as they were given
 abbrev pub made :
-    Texts → TurnOrder → Option ℕ → Option ℕ → Option (Option ℕ) → Option ℕ → Option Stack
-    → Option Stack → Option RunOptions
+    Texts → TurnOrder → Option (List Requirement) → Option (List Span) → Option ℕ → Option ℕ
+    → Option (Option ℕ) → Option ℕ → Option Stack → Option Stack → Option RunOptions
 made
-    t order (Some turns0) (Some turns1) (Some entry1) (Some vecbase) (Some stack0)
-    (Some stack1) =
+    t order required memory (Some turns0) (Some turns1) (Some entry1) (Some vecbase)
+    (Some stack0) (Some stack1) =
     Some (record {
       turns0 = turns0;
       turns1 = turns1;
@@ -147,13 +159,16 @@ made
       race = t.race;
       profile = t.profile;
       uses = t.uses;
+      required = required;
+      memory = memory;
     })
-made t order _ _ _ _ _ _ = None
+made t order required memory _ _ _ _ _ _ = None
 
--- the options that the texts say, each with its default, and with this order, or none where a text
--- is no number or no range
-abbrev pub options_in : Texts → TurnOrder → Option RunOptions
-options_in t order = made t order
+-- the options that the texts say, each with its default, and with these, or none where a text is no
+-- number or no range
+abbrev pub options_in :
+    Texts → TurnOrder → Option (List Requirement) → Option (List Span) → Option RunOptions
+options_in t order required memory = made t order required memory
     (said_or number_of 100000 t.turns0)
     (said_or number_of 100000 t.turns1)
     (said_or given_number_of None t.entry1)
@@ -199,14 +214,19 @@ abbrev pub judged : Option RunOptions → Result RunOptions Refusal
 judged None = Err (refusal.Usage 4)
 judged (Some o) = checked o
 
--- the options that the texts say with the order that they say, or the first rule of usage that they
+-- the options that the texts say with the lists that they say, or the first rule of usage that they
 -- break
-abbrev pub judged_with : Texts → Result TurnOrder Refusal → Result RunOptions Refusal
-judged_with t (Err r) = Err r
-judged_with t (Ok order) = judged (options_in t order)
+abbrev pub judged_with :
+    Texts → Result TurnOrder Refusal → Result (Option (List Requirement)) Refusal
+    → Result (Option (List Span)) Refusal → Result RunOptions Refusal
+judged_with t (Err r) required memory = Err r
+judged_with t (Ok order) (Err r) memory = Err r
+judged_with t (Ok order) (Ok required) (Err r) = Err r
+judged_with t (Ok order) (Ok required) (Ok memory) = judged (options_in t order required memory)
 
 abbrev pub judged_texts : Texts → Result RunOptions Refusal
-judged_texts t = judged_with t (order_in t.seed t.order)
+judged_texts t =
+    judged_with t (order_in t.seed t.order) (required_in t.require) (shown_in t.memory)
 
 -- ---- the meaning of the words
 

@@ -7,7 +7,7 @@ ghost use Rattle.xt_command_line.specs.Arguments.{check_app, gen_app, positional
 ghost use Rattle.xt_command_line.specs.Turns.{trace_app};
 ghost use Rattle.xt_command_line.specs.Depths.{profile_app};
 ghost use Rattle.xt_command_line.specs.Listings.{dis_app};
-ghost use Rattle.xt_command_line.specs.Options.{flag_names, is_set, option_names, order_names, record_app, run_app, texts_of, with_flag, with_option};
+ghost use Rattle.xt_command_line.specs.Options.{flag_names, is_set, option_names, order_names, record_app, required_app, run_app, texts_of, with_flag, with_option};
 ghost use Rattle.xt_command_line.specs.Views.{texts_in};
 
 use crate::command::Refusal;
@@ -26,6 +26,8 @@ pub struct OptionTexts<'a> {
     pub stack1: Option<&'a str>,
     pub seed: Option<&'a str>,
     pub order: Option<&'a str>,
+    pub require: Option<&'a str>,
+    pub memory: Option<&'a str>,
     pub trace: bool,
     pub events: bool,
     pub race: bool,
@@ -77,6 +79,13 @@ fn with_options<'a>(alloc: Global, name: &'a str) -> Result<Command<'a>, AllocEr
     with_orders(alloc, command)
 }
 
+// The command with these options, and the one that says what is required.
+fn with_requirements<'a>(alloc: Global, name: &'a str) -> Result<Command<'a>, AllocError>
+    ensures { IfOk result (λ c. app_of c ≡ required_app name.entry.now) }
+{
+    with_one_option(alloc, with_options(alloc, name)?, "require")
+}
+
 // The command with the five flags that `run` alone has.
 fn with_flags<'a>(alloc: Global, command: Command<'a>) -> Result<Command<'a>, AllocError>
     ensures { IfOk result (λ c. app_of c ≡ fold with_flag (app_of command.entry) flag_names) }
@@ -92,7 +101,9 @@ fn with_flags<'a>(alloc: Global, command: Command<'a>) -> Result<Command<'a>, Al
 fn run_command<'a>(alloc: Global) -> Result<Command<'a>, AllocError>
     ensures { IfOk result (λ c. app_of c ≡ run_app) }
 {
-    with_flags(alloc, with_options(alloc, "run")?)
+    let command = with_requirements(alloc, "run")?;
+    let command = with_one_option(alloc, command, "memory")?;
+    with_flags(alloc, command)
 }
 
 /// What `clap` matches on the words of `run`.
@@ -106,7 +117,7 @@ pub fn run_matches<'a>(alloc: Global, words: &'a [String]) -> Result<ArgMatches<
 pub fn record_matches<'a>(alloc: Global, words: &'a [String]) -> Result<ArgMatches<'a>, Refusal>
     ensures { Matches result (rows_by record_app (map string_bytes words.now)) }
 {
-    matches_by(with_options(alloc, "record")?, words)
+    matches_by(with_requirements(alloc, "record")?, words)
 }
 
 // The command `dis` with its options and its flag.
@@ -255,6 +266,8 @@ pub fn texts_from<'a>(matches: &ArgMatches<'a>) -> OptionTexts<'a>
         stack1: text_of(matches, "stack1"),
         seed: text_of(matches, "seed"),
         order: text_of(matches, "order"),
+        require: text_of(matches, "require"),
+        memory: text_of(matches, "memory"),
         trace: is_true(text_of(matches, "trace")),
         events: is_true(text_of(matches, "events")),
         race: is_true(text_of(matches, "race")),

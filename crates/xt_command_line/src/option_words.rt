@@ -9,6 +9,8 @@ use crate::command::Refusal;
 use crate::numbers::number;
 use crate::option_commands::{OptionTexts, record_matches, run_matches, texts_from};
 use crate::options::{RunOptions, within_limits};
+use crate::requirements::{Requirements, required_in};
+use crate::spans::{Spans, shown_in};
 use crate::turn_orders::{TurnOrder, order_in};
 use std::alloc::Global;
 use xt_trace::Stack;
@@ -66,9 +68,15 @@ fn range_or(text: Option<&str>, default: Stack) -> Option<Stack>
     }
 }
 
-// The options that the texts say, with this order, or none where a text is no number or no range.
-fn options_from(texts: OptionTexts<'_>, order: TurnOrder) -> Option<RunOptions>
-    ensures { result ≡ options_in (texts_in texts.entry) order }
+// The options that the texts say, with this order, these requirements and these words of memory, or none where a text is
+// no number or no range.
+fn options_from(
+    texts: OptionTexts<'_>,
+    order: TurnOrder,
+    required: Option<Requirements>,
+    memory: Option<Spans>,
+) -> Option<RunOptions>
+    ensures { result ≡ options_in (texts_in texts.entry) order required memory }
 {
     let turns0 = number_or(texts.turns0, 100_000)?;
     let turns1 = number_or(texts.turns1, 100_000)?;
@@ -97,6 +105,8 @@ fn options_from(texts: OptionTexts<'_>, order: TurnOrder) -> Option<RunOptions>
         race: texts.race,
         profile: texts.profile,
         uses: texts.uses,
+        required,
+        memory,
     })
 }
 
@@ -106,7 +116,9 @@ fn judged_texts(alloc: Global, texts: OptionTexts<'_>) -> Result<RunOptions, Ref
     ensures valid { IfOk result AreValid }
 {
     let order = order_in(alloc, texts.seed, texts.order)?;
-    match options_from(texts, order) {
+    let required = required_in(alloc, texts.require)?;
+    let memory = shown_in(alloc, texts.memory)?;
+    match options_from(texts, order, required, memory) {
         Some(options) => within_limits(options),
         None => Err(Refusal::Usage(4)),
     }
@@ -115,11 +127,11 @@ fn judged_texts(alloc: Global, texts: OptionTexts<'_>) -> Result<RunOptions, Ref
 /// The options that the words of `run` say, the first of which stands for the command.
 ///
 /// The words are read as a simple command of `clap` with the options `--turns0 N`, `--turns1 N`, `--entry1 N`,
-/// `--vecbase N`, `--stack0 LO:HI`, `--stack1 LO:HI`, `--seed N` and `--order LIST` and the flags `--events`, `--race`,
-/// `--profile`, `--uses` and `--trace`. N, LO and HI are decimal digits, or `0x` and one to eight hexadecimal digits,
-/// below 2^32; LIST is `C*N,C*N,..` of at most 65,536 bytes, where C is a number of value 0 or 1. `Usage` has the first
-/// rule that the words break: 3 they do not match, or `--seed` and `--order` stand together, 4 a text is no number, range
-/// or order, 5 a number of turns is above 4,000,000, or an order asks for more than 8,000,000, 6 `entry1` is in no
+/// `--vecbase N`, `--stack0 LO:HI`, `--stack1 LO:HI`, `--seed N`, `--order LIST`, `--require LIST` and `--memory LIST` and
+/// the flags `--events`, `--race`, `--profile`, `--uses` and `--trace`. N, LO and HI are decimal digits, or `0x` and one to
+/// eight hexadecimal digits, below 2^32; the list of an order is `C*N,C*N,..` of at most 65,536 bytes, where C is a number
+/// of value 0 or 1; `required_in` and `shown_in` say what the other lists are. `Usage` has the first rule that the words
+/// break: 3 they do not match, or `--seed` and `--order` stand together, 4 a text is no number, range or list, 5 a number of turns is above 4,000,000, or an order asks for more than 8,000,000, 6 `entry1` is in no
 /// executable region, 7 `vecbase` is no multiple of 1024, 8 a stack is no range of at least 256 bytes in the internal
 /// data memory with ends at multiples of 16. `Memory` says only that memory ran out.
 pub fn run_options(alloc: Global, words: &[String]) -> Result<RunOptions, Refusal>
@@ -130,7 +142,7 @@ pub fn run_options(alloc: Global, words: &[String]) -> Result<RunOptions, Refusa
     judged_texts(alloc, texts_from(&matches))
 }
 
-/// The same of `record`, which has none of the five flags.
+/// The same of `record`, which has neither `--memory` nor the five flags.
 pub fn record_options(alloc: Global, words: &[String]) -> Result<RunOptions, Refusal>
     ensures means { Means result (record_options_of (map string_bytes words.now)) }
     ensures valid { IfOk result AreValid }

@@ -3,6 +3,8 @@ ghost use Rattle.std.specs.Prelude.{◌≡◌, IfOk};
 ghost use Rattle.xt_command_line.specs.Options.{AreValid, checked, is_entry, is_stack, with_entry};
 
 use crate::command::Refusal;
+use crate::requirements::Requirements;
+use crate::spans::Spans;
 use crate::turn_orders::{TurnOrder, is_short};
 use xt_map::can_execute_at;
 use xt_trace::{Options, Stack};
@@ -37,6 +39,10 @@ pub struct RunOptions {
     pub profile: bool,
     /// Whether the text of `uses` is wanted (`--uses`, of `run` alone).
     pub uses: bool,
+    /// What is required of the run (`--require`), if anything is.
+    pub required: Option<Requirements>,
+    /// Which words of memory are shown as the run leaves them (`--memory`, of `run` alone), if any are.
+    pub memory: Option<Spans>,
 }
 
 impl RunOptions {

@@ -118,8 +118,8 @@ fn turns_of(text: &str) -> Option<CoreTurns>
     }
 }
 
-// The texts between commas.
-fn parts_in<'a>(alloc: Global, text: &'a str) -> Result<Vec<&'a str>, AllocError>
+/// The texts between commas.
+pub fn parts_in<'a>(alloc: Global, text: &'a str) -> Result<Vec<&'a str>, AllocError>
     ensures { IfOk result (λ parts. map (λ part. part.now) parts.items ≡ slice_split (λ byte. byte == 44) text.now) }
 {
     text.split(',').collect(alloc)

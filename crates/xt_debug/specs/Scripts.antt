@@ -12,8 +12,9 @@ use Rattle.xt_debug.specs.declared.script.Command.{Command}
 use Rattle.xt_debug.specs.declared.script.Command.TheVariants as command
 use Rattle.xt_debug.specs.Calls.{calls_text, stack_end}
 use Rattle.xt_debug.specs.Depths.{depth_at, frame_at}
-use Rattle.xt_debug.specs.Printed.{frames_text, mem_text, none_found, past_end, regs_text}
-use Rattle.xt_debug.specs.Printed.{ring_text, special_text, words_text}
+use Rattle.xt_debug.specs.Printed.{frames_text, none_found, past_end, regs_text, ring_text}
+use Rattle.xt_debug.specs.Printed.{special_text}
+use Rattle.xt_memory_text.specs.Printed.{mem_text, words_text}
 use Rattle.xt_debug.specs.Searches.{break_position, end_of, step_position, watch_position}
 use Rattle.xt_debug.specs.Searches.{within}
 

@@ -3,7 +3,6 @@
 
 mod calls;
 mod depths;
-mod memory;
 mod parsing;
 mod printing;
 mod ring;

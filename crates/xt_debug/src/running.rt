@@ -9,16 +9,16 @@ ghost use Rattle.xt_debug.specs.Searches.{end_of, step_position, within};
 
 use crate::calls::push_calls;
 use crate::depths::depth_at;
-use crate::memory::{push_mem, push_words};
 use crate::printing::{push_frames, push_regs};
 use crate::ring::push_ring;
 use crate::script::{Command, Script};
-use crate::searching::{end_of, find_break, find_store};
+use crate::searching::{find_break, find_store};
 use crate::special::push_special_registers;
 use crate::turns::push_turns;
 use std::alloc::{AllocError, Global};
 use xt_command_line::Beyond;
 use xt_map::Text;
+use xt_memory_text::{end_of, push_mem, push_words};
 use xt_replay::Replay;
 
 // Moves directly before a core's step of this number, where its trace is that long.

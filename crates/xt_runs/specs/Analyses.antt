@@ -1,4 +1,4 @@
--- What `run` writes behind its report of the analyses that its words ask for ('profile').
+-- What `run` writes behind its report: memory, and the analyses that its words ask for ('profile').
 use Rattle.std.specs.Prelude.{◌≡◌, ℕ, Bool, true, false, List, [], ◌++◌}
 use Rattle.xt_image.specs.declared.image.Image.{Image}
 use Rattle.xt_trace.specs.declared.run.Run.{Run}
@@ -10,6 +10,7 @@ use Rattle.xt_profile.specs.Texts.{profile_text}
 use Rattle.xt_uses.specs.declared.discipline.Discipline.TheVariants.{Strict}
 use Rattle.xt_use_report.specs.Told.{IsUsesTold}
 use Rattle.xt_command_line.specs.declared.options.RunOptions.{RunOptions}
+use Rattle.xt_runs.specs.Memory.{memory_text}
 
 -- this is the text of an analysis of the run of an image
 abbrev pub IsEventsOf : Image → Run → List ℕ → Type 0
@@ -40,4 +41,4 @@ pub record AreAnalyses (o : RunOptions) (image : Image) (run : Run) (text : List
   pub is_race : IsWanted o.race (IsRaceOf image run) race
   pub is_profile : IsWanted o.profile (IsProfileOf image run) profile
   pub is_uses : IsWanted o.uses (IsUsesTextOf image run) uses
-  pub are_all : text ≡ events ++ (race ++ (profile ++ uses))
+  pub are_all : text ≡ memory_text o image run ++ (events ++ (race ++ (profile ++ uses)))

@@ -21,6 +21,8 @@ gen_options = record {
   race = false;
   profile = false;
   uses = false;
+  required = None;
+  memory = None;
   order = order.Free;
 }
 

@@ -30,6 +30,7 @@ use Rattle.xt_report.specs.declared.whole.Whole.{Whole}
 use Rattle.xt_runs.specs.declared.outcome.Wanted.{Wanted}
 use Rattle.xt_runs.specs.declared.outcome.Wanted.TheVariants as wanted
 use Rattle.xt_runs.specs.Analyses.{AreAnalyses}
+use Rattle.xt_runs.specs.Requirements.{IsUnmet}
 use Rattle.xt_runs.specs.Traces.{output_text}
 use Rattle.xt_runs.specs.Generating.{gen_options, gen_text}
 use Rattle.xt_runs.specs.Verdicts.{IsJudged}
@@ -96,42 +97,50 @@ wanted_text wanted.Recording o image w analyses = recording_bytes image w.run
 
 -- ---- the statuses of a run
 
--- this is the run of an input, these are its analyses, and this is so of what is written of them
+-- this is the run of an input, this line says which requirement it does not meet, or there is none,
+-- these are its analyses, and this is so of what is written of them
 pub record IsOutput (t : Wanted) (o : RunOptions) (P : List ℕ → Type 0) (w : Whole)
-    (analyses input : List ℕ) : Type 0 where
+    (unmet : Option (List ℕ)) (analyses input : List ℕ) : Type 0 where
   pub is_run : IsRunOfInput o input w
+  pub is_unmet : IsUnmet o (image_of input) w unmet
   pub are_analyses : AreAnalyses o (image_of input) w.run analyses
   pub written : P (wanted_text t o (image_of input) w analyses)
 
--- the input was read to its end, this is its run, and this is so of what is written of it
-abbrev pub HasRun : Wanted → RunOptions → Ends → Whole → (List ℕ → Type 0) → Type 0
-HasRun t o e w P =
-    (analyses : List ℕ) × ReadsWhole image_limit e (IsOutput t o P w analyses)
+-- the input was read to its end, this is its run, with the line of a requirement that it does not
+-- meet, and this is so of what is written of it
+abbrev pub HasRun :
+    Wanted → RunOptions → Ends → Whole → Option (List ℕ) → (List ℕ → Type 0) → Type 0
+HasRun t o e w unmet P =
+    (analyses : List ℕ) × ReadsWhole image_limit e (IsOutput t o P w unmet analyses)
 
 -- nothing was written, or a prefix of what is written of the input's run
 abbrev pub WritesPrefix : Wanted → RunOptions → Ends → Type 0
 WritesPrefix t o e =
     Keeps e.told e.told_after
-    ⊎ ((w : Whole) × HasRun t o e w (AppendsPrefix e.told e.told_after))
+    ⊎ ((w : Whole)
+    × (unmet : Option (List ℕ))
+    × HasRun t o e w unmet (AppendsPrefix e.told e.told_after))
 
 -- Each status of a run with these options, with its cause and what was written. The byte after the
 -- limit was taken exactly where it is `TooLarge`.
-abbrev pub Runs : Wanted → RunOptions → Ends → Status → Option Whole → Type 0
-Runs t o e status.Done (Some w) = HasRun t o e w (Appends e.told e.told_after)
-Runs t o e status.WriteFault (Some w) =
-    HasRun t o e w (AppendsPrefix e.told e.told_after) × Rose e.sink_faults e.sink_faults_after
-Runs t o e (status.Image f) None =
+abbrev pub Runs :
+    Wanted → RunOptions → Ends → Status → Option Whole → Option (List ℕ) → Type 0
+Runs t o e status.Done (Some w) unmet = HasRun t o e w unmet (Appends e.told e.told_after)
+Runs t o e status.WriteFault (Some w) unmet =
+    HasRun t o e w unmet (AppendsPrefix e.told e.told_after)
+    × Rose e.sink_faults e.sink_faults_after
+Runs t o e (status.Image f) None None =
     ReadsWhole image_limit e (λ input. image_fault input ≡ Some f) × Keeps e.told e.told_after
-Runs t o e (status.TooLarge limit) None =
+Runs t o e (status.TooLarge limit) None None =
     (limit ≡ image_limit)
     × Takes e.left e.left_after (λ n. n ≡ image_limit + 1)
     × Keeps e.told e.told_after
-Runs t o e status.ReadFault None =
+Runs t o e status.ReadFault None None =
     Rose e.source_faults e.source_faults_after
     × TakesWithin image_limit e
     × Keeps e.told e.told_after
-Runs t o e status.Memory None = TakesWithin image_limit e × WritesPrefix t o e
-Runs t o e _ _ = ⊥
+Runs t o e status.Memory None None = TakesWithin image_limit e × WritesPrefix t o e
+Runs t o e _ _ _ = ⊥
 
 -- ---- the statuses of `gen`
 

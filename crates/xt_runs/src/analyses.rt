@@ -1,10 +1,11 @@
-//! The texts that `run` writes behind its report, of the analyses that its words ask for.
+//! The texts that `run` writes behind its report: memory, and the analyses that its words ask for.
 ghost use Rattle.std.specs.Prelude.{◌≡◌, ◌++◌, IfOk};
 ghost use Rattle.xt_runs.specs.Analyses.{AreAnalyses, IsEventsOf, IsProfileOf, IsRaceOf, IsUsesTextOf, IsWanted};
 ghost use Rattle.xt_core.specs.Runs.{IsRunOf};
 ghost use Rattle.xt_image.specs.Parts.{IsWellFormed};
 ghost use Rattle.xt_map.specs.Placing.{IsPlaced};
 
+use crate::memory::memory_text;
 use std::alloc::{AllocError, Global};
 use xt_command_line::{DEFAULT_DEPTH, RunOptions};
 use xt_events::events_text;
@@ -69,19 +70,26 @@ fn used(alloc: Global, wanted: bool, image: &Image, run: &Run) -> Result<Text, A
     }
 }
 
-// Four texts, one after another.
-fn joined(events: Text, race: &Text, profile: &Text, uses: &Text) -> Result<Text, AllocError>
-    ensures { IfOk result (λ text. text ≡ events ++ (race.now ++ (profile.now ++ uses.now))) }
+// Five texts, one after another.
+fn joined(
+    memory: Text,
+    events: &Text,
+    race: &Text,
+    profile: &Text,
+    uses: &Text,
+) -> Result<Text, AllocError>
+    ensures { IfOk result (λ text. text ≡ memory ++ (events.now ++ (race.now ++ (profile.now ++ uses.now)))) }
 {
-    let mut text = events.into_vec();
+    let mut text = memory.into_vec();
+    text.extend_from_slice(events.as_slice())?;
     text.extend_from_slice(race.as_slice())?;
     text.extend_from_slice(profile.as_slice())?;
     text.extend_from_slice(uses.as_slice())?;
     Ok(Text::new(text))
 }
 
-/// The texts of the analyses of a run that the words ask for, one after another: that of `events`,
-/// that of `race`, that of `profile`, that of `uses`. The only error is running out of memory.
+/// What the words ask for of a run beside its report: the lines of `--memory`, and then the texts of `events`, `race`,
+/// `profile` and `uses`. The only error is running out of memory.
 ///
 /// Conditions: the image is well formed, and the run is one of this image.
 pub fn analyses_text(
@@ -95,9 +103,10 @@ pub fn analyses_text(
     ensures { IfOk result (λ text. AreAnalyses options.now image.now run.now text) }
 {
     well_formed_is_placed();
+    let memory = memory_text(alloc, options, image, run)?;
     let events = events(alloc, options.events, image, run)?;
     let race = race(alloc, options.race, image, run)?;
     let profile = profiled(alloc, options.profile, image, run)?;
     let uses = used(alloc, options.uses, image, run)?;
-    joined(events, &race, &profile, &uses)
+    joined(memory, &events, &race, &profile, &uses)
 }

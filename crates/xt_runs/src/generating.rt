@@ -1,5 +1,5 @@
 //! The command `gen`.
-ghost use Rattle.std.specs.Prelude.{◌≡◌, IfOk};
+ghost use Rattle.std.specs.Prelude.{◌≡◌, None, IfOk};
 ghost use Rattle.xt_runs.specs.Generating.{gen_options, gen_text};
 ghost use Rattle.xt_runs.specs.Runs.{FinishesGen, Generates, IsGenerated};
 ghost use Rattle.xt_command_line.specs.Options.{AreValid};
@@ -41,6 +41,8 @@ fn gen_options() -> RunOptions
         race: false,
         profile: false,
         uses: false,
+        required: None,
+        memory: None,
         order: TurnOrder::Free,
     }
 }
@@ -73,6 +75,7 @@ pub fn generate<K: Sink, G: Gate, R: Threads + Wait + Sync>(
 ) -> Outcome
     ensures answers { Generates number (K.told sink.old) (K.told sink.new) (K.faults sink.old) (K.faults sink.new)
         result.status result.whole }
+    ensures unmet { result.unmet ≡ None }
     ensures complete { FinishesGen (K.faults sink.old) (K.faults sink.new) result.status }
 {
     let Ok((whole, text)) = run_generated(rt, alloc, number, gate) else {
@@ -86,5 +89,6 @@ pub fn generate<K: Sink, G: Gate, R: Threads + Wait + Sync>(
     Outcome {
         status,
         whole: Some(whole),
+        unmet: None,
     }
 }

@@ -3,8 +3,10 @@
 
 mod analyses;
 mod generating;
+mod memory;
 mod outcome;
 mod output;
+mod requirements;
 mod running;
 mod runs;
 mod verdicts;

@@ -1,6 +1,7 @@
 //! What is wanted of a run, and how it ended.
 ghost use Rattle.std.specs.Prelude.{◌≡◌, None};
 
+use xt_map::Text;
 use xt_report::Whole;
 use xt_status::Status;
 
@@ -21,15 +22,19 @@ pub struct Outcome {
     /// The run, with what is found of it, exactly where the command is `run`, `record` or `gen` and the
     /// status is `Done` or `WriteFault`.
     pub whole: Option<Whole>,
+    /// The line of the first requirement that the run does not meet; none where it meets all, or there is no run.
+    pub unmet: Option<Text>,
 }
 
 // An end without a run.
 pub fn without_run(status: Status) -> Outcome
     ensures status { result.status ≡ status }
     ensures whole { result.whole ≡ None }
+    ensures unmet { result.unmet ≡ None }
 {
     Outcome {
         status,
         whole: None,
+        unmet: None,
     }
 }

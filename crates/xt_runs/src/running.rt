@@ -11,6 +11,7 @@ ghost use Rattle.xt_status.specs.Writes.{Writes};
 use crate::analyses::analyses_text;
 use crate::outcome::{Outcome, Wanted, without_run};
 use crate::output::{write_analyzed, write_traced};
+use crate::requirements::unmet_of;
 use crate::runs::judge_image;
 use std::alloc::Global;
 use std::sync::Wait;
@@ -105,7 +106,7 @@ pub fn run_source<S: Source, K: Sink, G: Gate, R: Threads + Wait + Sync>(
 ) -> Outcome
     requires { AreValid options.now }
     ensures answers { Runs wanted options.now (ends S.left S.faults source.old source.new K.told K.faults sink.old sink.new)
-        result.status result.whole }
+        result.status result.whole result.unmet }
     ensures complete { FinishesRun (ends S.left S.faults source.old source.new K.told K.faults sink.old sink.new)
         result.status }
 {
@@ -125,6 +126,9 @@ pub fn run_source<S: Source, K: Sink, G: Gate, R: Threads + Wait + Sync>(
     let Ok(analyses) = analyses_text(alloc, options, &image, &whole.run) else {
         return without_run(Status::Memory);
     };
+    let Ok(unmet) = unmet_of(alloc, options, &image, &whole) else {
+        return without_run(Status::Memory);
+    };
     let status = match write_wanted(alloc, wanted, options, &image, &whole, &analyses, sink) {
         Ok(()) => Status::Done,
         Err(Refused::Failed) => Status::WriteFault,
@@ -133,5 +137,6 @@ pub fn run_source<S: Source, K: Sink, G: Gate, R: Threads + Wait + Sync>(
     Outcome {
         status,
         whole: Some(whole),
+        unmet,
     }
 }

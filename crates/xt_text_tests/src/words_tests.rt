@@ -80,6 +80,8 @@ fn plain() -> RunOptions {
         race: false,
         profile: false,
         uses: false,
+        required: None,
+        memory: None,
     }
 }
 

@@ -12,16 +12,18 @@ returns-in-Err-Memory-write_wanted-clause-answers g c =
     let e = ends g.S.Source.left g.S.Source.faults c.args.source.now c.read_to_limit.new.source g.K.Sink.told g.K.Sink.faults c.args.sink.now c.write_wanted.new.sink in
     let found = c.in-Ok-judge_image.whole in
     let told = c.in-Ok-analyses_text.analyses in
+    let line = c.in-Ok-unmet_of.unmet in
     let front = AppendsPrefix (g.K.Sink.told c.args.sink.now) (g.K.Sink.told c.write_wanted.new.sink) in
-    memory c.args.wanted c.args.options.now e found _ _ c.without_run-in-Err-Memory-write_wanted.ensures.status c.without_run-in-Err-Memory-write_wanted.ensures.whole (
+    memory c.args.wanted c.args.options.now e found line _ _ _ c.without_run-in-Err-Memory-write_wanted.ensures.status
+    c.without_run-in-Err-Memory-write_wanted.ensures.whole c.without_run-in-Err-Memory-write_wanted.ensures.unmet (
       told,
       record {
         input = c.in-Ok.input.items;
         taken = c.in-Ok.ensures.whole;
         end = c.in-Ok.ensures.end;
         within = c.in-Ok.ensures.within;
-        is = of_input c.args.wanted c.args.options.now c.in-Ok.input.items c.deref.result.now c.in-Ok-image_in.image found told front
-            c.deref.ensures.value c.in-Ok-image_in.ensures.ok c.in-Ok-judge_image.ensures.run c.in-Ok-judge_image.ensures.judged c.in-Ok-analyses_text.ensures
+        is = of_input c.args.wanted c.args.options.now c.in-Ok.input.items c.deref.result.now c.in-Ok-image_in.image found line told front
+            c.deref.ensures.value c.in-Ok-image_in.ensures.ok c.in-Ok-judge_image.ensures.run c.in-Ok-judge_image.ensures.judged c.in-Ok-unmet_of.ensures c.in-Ok-analyses_text.ensures
             (prefix_of _ _ _ _ _ _ _ c.in-Err-Memory-write_wanted.is c.write_wanted.ensures);
       },
     )
@@ -31,30 +33,31 @@ returns-clause-answers g c =
     let e = ends g.S.Source.left g.S.Source.faults c.args.source.now c.read_to_limit.new.source g.K.Sink.told g.K.Sink.faults c.args.sink.now c.write_wanted.new.sink in
     let found = c.in-Ok-judge_image.whole in
     let told = c.in-Ok-analyses_text.analyses in
+    let line = c.in-Ok-unmet_of.unmet in
     let front = AppendsPrefix (g.K.Sink.told c.args.sink.now) (g.K.Sink.told c.write_wanted.new.sink) in
     let whole = Appends (g.K.Sink.told c.args.sink.now) (g.K.Sink.told c.write_wanted.new.sink) in
     elim c.match-write_wanted.branch [
-      | in-Ok-write_wanted w ↦ done c.args.wanted c.args.options.now e found _ w.status-is (
+      | in-Ok-write_wanted w ↦ done c.args.wanted c.args.options.now e found line _ w.status-is (
         told,
         record {
           input = c.in-Ok.input.items;
           taken = c.in-Ok.ensures.whole;
           end = c.in-Ok.ensures.end;
           within = c.in-Ok.ensures.within;
-          is = of_input c.args.wanted c.args.options.now c.in-Ok.input.items c.deref.result.now c.in-Ok-image_in.image found told whole
-              c.deref.ensures.value c.in-Ok-image_in.ensures.ok c.in-Ok-judge_image.ensures.run c.in-Ok-judge_image.ensures.judged c.in-Ok-analyses_text.ensures
+          is = of_input c.args.wanted c.args.options.now c.in-Ok.input.items c.deref.result.now c.in-Ok-image_in.image found line told whole
+              c.deref.ensures.value c.in-Ok-image_in.ensures.ok c.in-Ok-judge_image.ensures.run c.in-Ok-judge_image.ensures.judged c.in-Ok-unmet_of.ensures c.in-Ok-analyses_text.ensures
               (was_appended _ _ _ _ _ _ _ w.in-Ok-write_wanted.is c.write_wanted.ensures);
         },
       )
-      | in-Err-Failed w ↦ failed c.args.wanted c.args.options.now e found _ w.status-is (
+      | in-Err-Failed w ↦ failed c.args.wanted c.args.options.now e found line _ w.status-is (
         told,
         record {
           input = c.in-Ok.input.items;
           taken = c.in-Ok.ensures.whole;
           end = c.in-Ok.ensures.end;
           within = c.in-Ok.ensures.within;
-          is = of_input c.args.wanted c.args.options.now c.in-Ok.input.items c.deref.result.now c.in-Ok-image_in.image found told front
-              c.deref.ensures.value c.in-Ok-image_in.ensures.ok c.in-Ok-judge_image.ensures.run c.in-Ok-judge_image.ensures.judged c.in-Ok-analyses_text.ensures
+          is = of_input c.args.wanted c.args.options.now c.in-Ok.input.items c.deref.result.now c.in-Ok-image_in.image found line told front
+              c.deref.ensures.value c.in-Ok-image_in.ensures.ok c.in-Ok-judge_image.ensures.run c.in-Ok-judge_image.ensures.judged c.in-Ok-unmet_of.ensures c.in-Ok-analyses_text.ensures
               (prefix_of _ _ _ _ _ _ _ w.in-Err-Failed.is c.write_wanted.ensures);
         },
       ) (search rules)

@@ -2,9 +2,9 @@ use Rattle.std.proofs.Common.{◌≡◌, suc, ◌+◌, ◌-◌, ◌%◌, ◌^◌
 use Rattle.std.specs.Prelude.{string_bytes}
 use mathlib.Core.List.{append_assoc}
 use Rattle.xt_replay.specs.Shown.{byte_in}
-use Rattle.xt_debug.specs.Printed.{byte_text, bytes_text}
-use Rattle.xt_debug.proofs.Bytes.{one_byte}
-use Rattle.xt_debug.proofs.memory.push_bytes.Goals as goal
+use Rattle.xt_memory_text.specs.Printed.{word_text, words_from}
+use Rattle.xt_memory_text.proofs.Bytes.{one_word}
+use Rattle.xt_memory_text.proofs.memory.push_each_word.Goals as goal
 
 pub loop-preserved : goal.loop-preserved
 loop-preserved c =
@@ -14,8 +14,8 @@ loop-preserved c =
     let below = c.loop-test.true in
     let left = c.args.count - (c.loop.counter + 1) in
     let more : c.args.count - c.loop.counter ≡ suc left = omega (arith, below) in
-    let rest = bytes_text (λ a. byte_in a shown) ((at + 1) % 2 ^ 32) left in
-    ap (λ xs. xs ++ rest) (c.in_ok-push_byte.ensures ∙ ap (λ b. text ++ byte_text b) c.byte.ensures)
-    ∙ append_assoc text (byte_text (byte_in at shown)) rest
-    ∙ ap (λ ys. text ++ ys) (sym (one_byte (λ a. byte_in a shown) at (c.args.count - c.loop.counter) left more))
+    let rest = words_from (λ a. byte_in a shown) ((at + 4) % 2 ^ 32) left in
+    ap (λ xs. xs ++ rest) c.in_ok-push_word.ensures
+    ∙ append_assoc text (word_text (λ a. byte_in a shown) at) rest
+    ∙ ap (λ ys. text ++ ys) (sym (one_word (λ a. byte_in a shown) at (c.args.count - c.loop.counter) left more))
     ∙ c.loop.invariant

@@ -1,7 +1,7 @@
 use Rattle.std.proofs.Common.{◌≡◌, ◌+◌, sym, ap, ◌∙◌, arith}
 use Rattle.xt_trace.specs.declared.run.Run.{Run}
 use Rattle.xt_replay.proofs.Standing.{bounds, schedule_long}
-use Rattle.xt_debug.proofs.searching.end_of.Goals as goal
+use Rattle.xt_memory_text.proofs.ends.end_of.Goals as goal
 
 pub overflow_add-result : goal.overflow_add-result
 overflow_add-result c =

@@ -1,7 +1,7 @@
 //! What `mem` and `words` print.
 ghost use Rattle.std.specs.Prelude.{◌≡◌, ◌++◌, OnOk, string_bytes};
 ghost use Rattle.xt_replay.specs.Shown.{byte_in};
-ghost use Rattle.xt_debug.specs.Printed.{byte_text, bytes_text, digits, mem_text, word_text, words_from, words_text};
+ghost use Rattle.xt_memory_text.specs.Printed.{byte_text, bytes_text, digits, mem_text, word_text, words_from, words_text};
 
 use std::alloc::{AllocError, Global};
 use xt_replay::State;

@@ -2,8 +2,8 @@
 use Rattle.std.proofs.Common.{◌≡◌, ◌-◌, ◌++◌}
 use Rattle.std.specs.Prelude.{string_bytes}
 use Rattle.xt_replay.specs.Shown.{byte_in}
-use Rattle.xt_debug.specs.Printed.{bytes_text}
-use Rattle.xt_debug.proofs.memory.push_bytes.Given as goal
+use Rattle.xt_memory_text.specs.Printed.{bytes_text}
+use Rattle.xt_memory_text.proofs.memory.push_bytes.Given as goal
 
 abbrev pub invariant-loop : goal.invariant-loop
 invariant-loop l =

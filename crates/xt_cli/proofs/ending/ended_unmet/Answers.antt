@@ -1,0 +1,5 @@
+use Rattle.xt_cli.proofs.Ending.{other_end}
+use Rattle.xt_cli.proofs.ending.ended_unmet.Goals as goal
+
+pub returns : goal.returns
+returns c = other_end c.args.status.now c.args.line.now c.ended.result c.in_default.not-Done c.ended.ensures

@@ -1,0 +1,52 @@
+-- Which words of memory are shown at the end of a run ('profile'). A text is the list of its bytes.
+use Rattle.std.specs.Prelude.{ℕ, ◌==◌, nat_le, List, [], ◌∷◌, length, Option, Some, None, Result}
+use Rattle.std.specs.Prelude.{Ok, Err, if◌then◌else◌}
+use Rattle.std.specs.List.{before_first, after_first, slice_split}
+use Rattle.clap.specs.Words.{Text}
+use Rattle.xt_command_line.specs.Numbers.{number_of}
+use Rattle.xt_command_line.specs.TurnOrders.{comma}
+use Rattle.xt_command_line.specs.declared.command.Refusal.{Refusal}
+use Rattle.xt_command_line.specs.declared.command.Refusal.TheVariants as refusal
+use Rattle.xt_command_line.specs.declared.spans.Span.{Span}
+
+abbrev pub colon : ℕ
+colon = 58
+
+-- so many words from an address on, at most 64
+abbrev pub span_by : Option ℕ → Option ℕ → Option Span
+span_by (Some addr) (Some count) =
+    if nat_le count 64 then Some (record { addr = addr; count = count }) else None
+span_by _ _ = None
+
+-- `ADDR:N`: the numbers before and after the first colon
+unfoldable pub span_of : Text → Option Span
+span_of text =
+    span_by
+    (number_of (before_first (λ b. b == colon) text))
+    (number_of (after_first (λ b. b == colon) text))
+
+abbrev pub and_all : Option Span → Option (List Span) → Option (List Span)
+and_all (Some s) (Some ss) = Some (s ∷ ss)
+and_all (Some s) None = None
+and_all None ss = None
+
+-- the spans of these texts, where each says one
+abbrev pub all_spans : List Text → Option (List Span)
+all_spans [] = Some []
+all_spans (text ∷ texts) = and_all (span_of text) (all_spans texts)
+
+abbrev pub at_most_four : List Text → Option (List Span)
+at_most_four texts = if nat_le (length texts) 4 then all_spans texts else None
+
+-- the spans that a text lists, with commas between them
+abbrev pub spans_in : Text → Option (List Span)
+spans_in text = at_most_four (slice_split (λ b. b == comma) text)
+
+abbrev pub listed : Option (List Span) → Result (Option (List Span)) Refusal
+listed None = Err (refusal.Usage 4)
+listed (Some list) = Ok (Some list)
+
+-- by the text of `--memory`
+abbrev pub shown_in : Option Text → Result (Option (List Span)) Refusal
+shown_in None = Ok None
+shown_in (Some text) = listed (spans_in text)

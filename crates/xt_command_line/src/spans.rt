@@ -1,0 +1,124 @@
+//! Which words of memory are shown at the end of a run, as the words ask for it.
+ghost use Rattle.std.specs.Prelude.{◌≡◌, IfOk, map, option_map};
+ghost use Rattle.xt_command_line.specs.Answers.{Means};
+ghost use Rattle.xt_command_line.specs.Spans.{all_spans, at_most_four, shown_in, span_by, span_of, spans_in};
+
+use crate::command::Refusal;
+use crate::numbers::number;
+use crate::turn_orders::parts_in;
+use std::alloc::{AllocError, Global};
+use std::marker::Model;
+
+/// So many words of memory from an address on.
+#[derive(Clone, Copy, Debug, PartialEq, Eq)]
+pub struct Span {
+    /// The address of the first.
+    pub addr: u32,
+    /// How many, at most 64.
+    pub count: u32,
+}
+
+/// Words of memory in several places. Contracts see the list.
+#[derive(Debug, Drop)]
+pub struct Spans {
+    items: Vec<Span>,
+}
+
+impl Model for Spans {
+    ghost use Rattle.std.specs.Prelude.{List};
+    ghost use Rattle.xt_command_line.specs.declared.spans.Span.{Span};
+
+    ghost Value = { List Span };
+
+    ghost view = { λ s. s.items.items };
+}
+
+impl Spans {
+    /// These places, without a copy.
+    pub fn new(items: Vec<Span>) -> Spans
+        ensures { result ≡ items.items }
+    {
+        Spans { items }
+    }
+
+    /// The places.
+    pub fn as_slice(&self) -> &[Span]
+        ensures { result.now ≡ self.now }
+    {
+        &self.items
+    }
+}
+
+// So many words from an address on, where both numbers are there and they are at most 64.
+fn span_by(addr: Option<u32>, count: Option<u32>) -> Option<Span>
+    ensures { result ≡ span_by addr count }
+{
+    match (addr, count) {
+        (Some(addr), Some(count)) => {
+            if count <= 64 {
+                Some(Span { addr, count })
+            } else {
+                None
+            }
+        }
+        _ => None,
+    }
+}
+
+// The words that `ADDR:N` says.
+fn span_of(text: &str) -> Option<Span>
+    ensures { result ≡ span_of text.now }
+{
+    match text.split_once(':') {
+        Some((addr, count)) => span_by(number(addr), number(count)),
+        None => None,
+    }
+}
+
+// The words of these texts, each of which has to say some.
+fn all_spans(alloc: Global, parts: &[&str]) -> Result<Option<Spans>, AllocError>
+    ensures { IfOk result (λ list. list ≡ all_spans (map (λ part. part.now) parts.now)) }
+{
+    let mut spans = Vec::new(alloc);
+    for part in parts {
+        match span_of(part) {
+            Some(some) => spans.push(some)?,
+            None => return Ok(None),
+        }
+    }
+    Ok(Some(Spans::new(spans)))
+}
+
+// The words that four texts at most say.
+fn at_most_four(alloc: Global, parts: &[&str]) -> Result<Option<Spans>, AllocError>
+    ensures { IfOk result (λ list. list ≡ at_most_four (map (λ part. part.now) parts.now)) }
+{
+    if parts.len() > 4 {
+        return Ok(None);
+    }
+    all_spans(alloc, parts)
+}
+
+// The words that a text lists.
+fn spans_in(alloc: Global, text: &str) -> Result<Option<Spans>, AllocError>
+    ensures { IfOk result (λ list. list ≡ spans_in text.now) }
+{
+    let parts = parts_in(alloc, text)?;
+    at_most_four(alloc, &parts)
+}
+
+/// The words of memory that the text of `--memory` lists; none where there is no text.
+///
+/// `Usage(4)` says that the text is no list of them: one to four parts `ADDR:N` with commas between them, each of which is
+/// N words from ADDR on. Both are numbers, and N is at most 64. `Memory` says only that memory ran out.
+pub fn shown_in(alloc: Global, text: Option<&str>) -> Result<Option<Spans>, Refusal>
+    ensures { Means result (shown_in (option_map (λ t. t.now) text.entry)) }
+{
+    let Some(text) = text else {
+        return Ok(None);
+    };
+    match spans_in(alloc, text)? {
+        Some(list) => Ok(Some(list)),
+        None => Err(Refusal::Usage(4)),
+    }
+}

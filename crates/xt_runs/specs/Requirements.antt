@@ -1,0 +1,103 @@
+-- Which requirement a run does not meet, and the line that says so ('profile').
+--
+-- Profile: a core that has no turns need not end by a BREAK. A requirement needs no other option:
+-- what it asks of uses or races is looked for if it is asked for.
+use Rattle.std.specs.Prelude.{◌≡◌, ℕ, nat_lt, Bool, false, if◌then◌else◌, Option, Some, None, List}
+use Rattle.std.specs.Prelude.{[], ◌∷◌, ◌++◌, codes}
+use Rattle.std.specs.Fmt.{decimal}
+use Rattle.xt_image.specs.declared.image.Image.{Image}
+use Rattle.xt_trace.specs.declared.run.Run.{Run}
+use Rattle.xt_trace.specs.declared.trace.Stop.{Stop}
+use Rattle.xt_trace.specs.declared.trace.Stop.TheVariants as stop
+use Rattle.xt_frames.specs.declared.kinds.Judged.{Judged}
+use Rattle.xt_frames.specs.declared.kinds.Judged.TheVariants as judged
+use Rattle.xt_race.specs.Races.{IsFirstRace, events_of}
+use Rattle.xt_race.specs.declared.race.Race.{Race}
+use Rattle.xt_uses.specs.declared.discipline.Discipline.TheVariants.{Strict}
+use Rattle.xt_use_walk.specs.Verdicts.{IsUsesOf}
+use Rattle.xt_use_walk.specs.declared.walk.Uses.{Uses}
+use Rattle.xt_use_walk.specs.declared.walk.Uses.TheVariants as uses
+use Rattle.xt_use_report.specs.Held.{course_of, is_checked}
+use Rattle.xt_command_line.specs.declared.options.RunOptions.{RunOptions}
+use Rattle.xt_command_line.specs.declared.requirements.Requirement.{Requirement}
+use Rattle.xt_command_line.specs.declared.requirements.Requirement.TheVariants as requirement
+use Rattle.xt_report.specs.Breaches.{breach_text}
+use Rattle.xt_report.specs.Verdicts.{frames_line}
+use Rattle.xt_report.specs.declared.whole.Whole.{Whole}
+
+-- ---- `break`
+
+-- a core that had turns ended without a BREAK
+abbrev pub is_used_up : ℕ → Stop → Bool
+is_used_up turns stop.Break = false
+is_used_up turns stop.Turns = nat_lt 0 turns
+
+-- `core C stop turns`
+abbrev pub stop_line : ℕ → List ℕ
+stop_line core = codes "core " ++ decimal core ++ codes " stop turns\n"
+
+abbrev pub unmet_break : Run → Option (List ℕ)
+unmet_break r =
+    if is_used_up r.options.turns0 r.trace0.stop then Some (stop_line 0)
+    else if is_used_up r.options.turns1 r.trace1.stop then Some (stop_line 1)
+    else None
+
+-- ---- `whole`
+
+abbrev pub unmet_whole : Judged → Option (List ℕ)
+unmet_whole judged.Whole = None
+unmet_whole j = Some (frames_line j)
+
+-- ---- `used`
+
+-- the first line of the text of `uses`
+abbrev pub unmet_used : Uses → Option (List ℕ)
+unmet_used uses.Unchecked = Some (codes "uses none\n")
+unmet_used (uses.Whole n m) = None
+unmet_used (uses.Broken first) =
+    Some (codes "uses " ++ breach_text first.breach ++ codes "\n")
+
+-- ---- `race-free`
+
+-- the first line of the text of `race`
+abbrev pub unmet_race : Option Race → Option (List ℕ)
+unmet_race None = None
+unmet_race (Some r) =
+    Some (codes "race " ++ decimal r.first ++ codes " " ++ decimal r.second ++ codes "\n")
+
+-- ---- a list of requirements
+
+-- the line that says that the run does not meet a requirement, or none if it does
+abbrev pub IsUnmetBy : Requirement → Image → Whole → Option (List ℕ) → Type 0
+IsUnmetBy requirement.Break image w line = line ≡ unmet_break w.run
+IsUnmetBy requirement.Whole image w line = line ≡ unmet_whole w.judged
+IsUnmetBy requirement.Used image w line =
+    (found : Uses)
+    × IsUsesOf Strict (is_checked image w.run) (course_of image w.run) found
+    × (line ≡ unmet_used found)
+IsUnmetBy requirement.RaceFree image w line =
+    (found : Option Race)
+    × IsFirstRace (events_of image w.run) found
+    × (line ≡ unmet_race found)
+
+-- this line, or else what follows
+abbrev pub IsThisOr :
+    Option (List ℕ) → (Option (List ℕ) → Type 0) → Option (List ℕ) → Type 0
+IsThisOr (Some this) Follows line = line ≡ Some this
+IsThisOr None Follows line = Follows line
+
+-- the line of the first requirement that the run does not meet, or none
+abbrev pub IsUnmetIn : List Requirement → Image → Whole → Option (List ℕ) → Type 0
+IsUnmetIn [] image w line = line ≡ None
+IsUnmetIn (r ∷ rest) image w line =
+    (this : Option (List ℕ))
+    × IsUnmetBy r image w this
+    × IsThisOr this (IsUnmetIn rest image w) line
+
+-- the same of the words of a run, which need not require anything
+abbrev pub IsUnmetFor : Option (List Requirement) → Image → Whole → Option (List ℕ) → Type 0
+IsUnmetFor None image w line = line ≡ None
+IsUnmetFor (Some list) image w line = IsUnmetIn list image w line
+
+abbrev pub IsUnmet : RunOptions → Image → Whole → Option (List ℕ) → Type 0
+IsUnmet o image w line = IsUnmetFor o.required image w line
