@@ -2,9 +2,15 @@ use std::alloc::Global;
 use std::test::Fail;
 use xt_command_line::{
     Command, CoreTurns, Listing, Openings, Refusal, Rigor, RunOptions, TurnList, TurnOrder, Turns,
-    Which, meaning, script_text,
+    Way, Which, meaning, script_text,
 };
 use xt_trace::Stack;
+
+// A listing of each executable segment from its first byte on.
+const SWEEP: Listing = Listing {
+    way: Way::Sweep,
+    as_text: false,
+};
 
 // The words of a line, which stand with one space between them.
 fn words_of(alloc: Global, line: &str) -> Result<Vec<String>, Fail> {
@@ -48,7 +54,7 @@ fn words_and_meanings(rt: HostRuntime) -> Result<(), Fail> {
         ("asm", Ok(Command::Assemble)),
         ("elf", Ok(Command::Convert)),
         ("elf --vecbase 0x40080000", Err(Refusal::Usage(3))),
-        ("dis", Ok(Command::Disassemble(Listing::Sweep))),
+        ("dis", Ok(Command::Disassemble(SWEEP))),
         ("map", Ok(Command::Map)),
         ("map --", Ok(Command::Map)),
         ("map file", Err(Refusal::Usage(3))),
@@ -67,7 +73,7 @@ fn words_and_meanings(rt: HostRuntime) -> Result<(), Fail> {
         ("check --vecbase 4294967296", Err(Refusal::Usage(4))),
         ("check --vecbase 0x40080010", Err(Refusal::Usage(7))),
         ("check --vecbase 512", Err(Refusal::Usage(7))),
-        ("dis --", Ok(Command::Disassemble(Listing::Sweep))),
+        ("dis --", Ok(Command::Disassemble(SWEEP))),
     ];
     for (line, answer) in rows {
         let words = words_of(alloc, line)?;
@@ -77,24 +83,21 @@ fn words_and_meanings(rt: HostRuntime) -> Result<(), Fail> {
     Ok(())
 }
 
+// The command that lists what control reaches from these openings on.
+fn flow(vecbase: u32, entry1: Option<u32>, as_text: bool) -> Command {
+    let way = Way::Flow(Openings { vecbase, entry1 });
+    Command::Disassemble(Listing { way, as_text })
+}
+
 #[test]
 fn words_of_listings(rt: HostRuntime) -> Result<(), Fail> {
     let alloc = rt.alloc();
     let rows = [
         // the code that control reaches
-        (
-            "dis --flow",
-            Ok(Command::Disassemble(Listing::Flow(Openings {
-                vecbase: 0x4008_0000,
-                entry1: None,
-            }))),
-        ),
+        ("dis --flow", Ok(flow(0x4008_0000, None, false))),
         (
             "dis --entry1 0x400D0000 --vecbase=1024 --flow",
-            Ok(Command::Disassemble(Listing::Flow(Openings {
-                vecbase: 1024,
-                entry1: Some(0x400D_0000),
-            }))),
+            Ok(flow(1024, Some(0x400D_0000), false)),
         ),
         ("dis --flow --flow", Err(Refusal::Usage(3))),
         ("dis --flow file", Err(Refusal::Usage(3))),
