@@ -12,7 +12,7 @@ use Rattle.xt_command_line.specs.Turns.{chosen, core_of, trace_app, turns_by, tu
 use Rattle.xt_command_line.specs.Answers.{answer_with}
 use Rattle.xt_command_line.specs.declared.command.Rigor.TheVariants as rigor
 use Rattle.xt_command_line.specs.Depths.{depth_by, depth_of, judged_depth, profile_app}
-use Rattle.xt_command_line.specs.Listings.{dis_app, judged_openings, listing_by, listing_in, listing_of, openings_in}
+use Rattle.xt_command_line.specs.Listings.{dis_app, judged_openings, listing_by, listing_of, listing_with, openings_in, way_in}
 use Rattle.xt_command_line.specs.Meaning.{NeedsNoMemory, meaning_by, named, without_options}
 use Rattle.xt_command_line.specs.Numbers.{number_of}
 use Rattle.xt_command_line.specs.Simple.{rows_by}
@@ -23,12 +23,13 @@ use Rattle.xt_command_line.specs.Spans as spans
 use Rattle.xt_command_line.specs.Spans.{shown_in, spans_in}
 use Rattle.xt_command_line.specs.declared.command.Command.{Command}
 use Rattle.xt_command_line.specs.declared.command.Command.TheVariants as command
-use Rattle.xt_command_line.specs.declared.command.Listing.TheVariants as listing
 use Rattle.xt_command_line.specs.declared.command.Name.{Name}
 use Rattle.xt_command_line.specs.declared.command.Name.TheVariants as name
 use Rattle.xt_command_line.specs.declared.command.Openings.{Openings}
 use Rattle.xt_command_line.specs.declared.command.Refusal.{Refusal}
 use Rattle.xt_command_line.specs.declared.command.Refusal.TheVariants as refusal
+use Rattle.xt_command_line.specs.declared.command.Way.{Way}
+use Rattle.xt_command_line.specs.declared.command.Way.TheVariants as way
 use Rattle.xt_command_line.specs.declared.options.RunOptions.{RunOptions}
 use Rattle.xt_command_line.specs.declared.requirements.Requirement.{Requirement}
 use Rattle.xt_command_line.specs.declared.spans.Span.{Span}
@@ -148,15 +149,16 @@ judged_openings-answers : (o : Option Openings) → judged_openings o ≢ Err re
 judged_openings-answers None = λ e. search (rules, e)
 judged_openings-answers (Some o) = unless_broken-answers _ o
 
-listing_in-answers : (flow : Bool) (vecbase entry1 : Option Text) → listing_in flow vecbase entry1 ≢ Err refusal.Memory
-listing_in-answers true vecbase entry1 = answer_with-answers listing.Flow (judged_openings (openings_in vecbase entry1)) (judged_openings-answers (openings_in vecbase entry1))
-listing_in-answers false None None = λ e. search (rules, e)
-listing_in-answers false None (Some entry1) = λ e. search (rules, e)
-listing_in-answers false (Some vecbase) entry1 = λ e. search (rules, e)
+way_in-answers : (flow : Bool) (vecbase entry1 : Option Text) → way_in flow vecbase entry1 ≢ Err refusal.Memory
+way_in-answers true vecbase entry1 = answer_with-answers way.Flow (judged_openings (openings_in vecbase entry1)) (judged_openings-answers (openings_in vecbase entry1))
+way_in-answers false None None = λ e. search (rules, e)
+way_in-answers false None (Some entry1) = λ e. search (rules, e)
+way_in-answers false (Some vecbase) entry1 = λ e. search (rules, e)
 
 listing_by-answers : (rows : Option (List Row)) → listing_by rows ≢ Err refusal.Memory
 listing_by-answers None = λ e. search (rules, e)
-listing_by-answers (Some rows) = listing_in-answers (is_set (first_of (codes "flow") rows)) (first_of (codes "vecbase") rows) (first_of (codes "entry1") rows)
+listing_by-answers (Some rows) =
+    answer_with-answers (listing_with (is_set (first_of (codes "data") rows))) _ (way_in-answers (is_set (first_of (codes "flow") rows)) (first_of (codes "vecbase") rows) (first_of (codes "entry1") rows))
 
 without_options-answers : (c : Command) (rows : Option (List Row)) → without_options c rows ≢ Err refusal.Memory
 without_options-answers c None = λ e. search (rules, e)

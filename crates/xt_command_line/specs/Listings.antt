@@ -11,17 +11,20 @@ use Rattle.xt_command_line.specs.Options.{first_broken, given_number_of, is_entr
 use Rattle.xt_command_line.specs.Options.{said_or, unless_broken, with_flag, with_option}
 use Rattle.xt_command_line.specs.Simple.{rows_by}
 use Rattle.xt_command_line.specs.declared.command.Listing.{Listing}
-use Rattle.xt_command_line.specs.declared.command.Listing.TheVariants as listing
 use Rattle.xt_command_line.specs.declared.command.Openings.{Openings}
 use Rattle.xt_command_line.specs.declared.command.Refusal.{Refusal}
 use Rattle.xt_command_line.specs.declared.command.Refusal.TheVariants as refusal
+use Rattle.xt_command_line.specs.declared.command.Way.{Way}
+use Rattle.xt_command_line.specs.declared.command.Way.TheVariants as way
 
--- dis [--flow] [--vecbase N] [--entry1 N]
+-- dis [--flow] [--data] [--vecbase N] [--entry1 N]
 abbrev pub dis_app : App
 dis_app =
     with_flag
+    (with_flag
     (with_option (with_option (new_app (codes "dis")) (codes "vecbase")) (codes "entry1"))
-    (codes "flow")
+    (codes "flow"))
+    (codes "data")
 
 -- the openings of these numbers, where each is there
 abbrev pub opened : Option ℕ → Option (Option ℕ) → Option Openings
@@ -42,21 +45,25 @@ abbrev pub judged_openings : Option Openings → Result Openings Refusal
 judged_openings None = Err (refusal.Usage 4)
 judged_openings (Some o) = unless_broken (first_broken (opening_limits o)) o
 
--- the listing by whether `--flow` was given and by the texts of `--vecbase` and `--entry1`, which
--- stand with `--flow` alone
-abbrev pub listing_in : Bool → Option Text → Option Text → Result Listing Refusal
-listing_in true vecbase entry1 =
-    answer_with listing.Flow (judged_openings (openings_in vecbase entry1))
-listing_in false None None = Ok listing.Sweep
-listing_in false _ _ = Err (refusal.Usage 3)
+-- which bytes are instructions, by whether `--flow` was given and by the texts of `--vecbase` and
+-- `--entry1`, which stand with `--flow` alone
+abbrev pub way_in : Bool → Option Text → Option Text → Result Way Refusal
+way_in true vecbase entry1 = answer_with way.Flow (judged_openings (openings_in vecbase entry1))
+way_in false None None = Ok way.Sweep
+way_in false _ _ = Err (refusal.Usage 3)
+
+-- that with whether `--data` was given
+abbrev pub listing_with : Bool → Way → Listing
+listing_with as_text w = record { way = w; as_text = as_text }
 
 abbrev pub listing_by : Option (List Row) → Result Listing Refusal
 listing_by None = Err (refusal.Usage 3)
 listing_by (Some rows) =
-    listing_in
+    answer_with (listing_with (is_set (first_of (codes "data") rows)))
+    (way_in
     (is_set (first_of (codes "flow") rows))
     (first_of (codes "vecbase") rows)
-    (first_of (codes "entry1") rows)
+    (first_of (codes "entry1") rows))
 
 -- the listing that the words of `dis` say, or the first rule of usage that they break
 abbrev pub listing_of : List Text → Result Listing Refusal
@@ -66,7 +73,10 @@ listing_of words = listing_by (rows_by dis_app words)
 abbrev pub AreOpenings : Openings → Type 0
 AreOpenings o = IsVecbase o.vecbase × (is_entry o.entry1 ≡ true)
 
--- a listing from valid openings on
+-- what control reaches from valid openings on
+abbrev pub IsWay : Way → Type 0
+IsWay way.Sweep = Unit {0}
+IsWay (way.Flow openings) = AreOpenings openings
+
 abbrev pub IsListing : Listing → Type 0
-IsListing listing.Sweep = Unit {0}
-IsListing (listing.Flow openings) = AreOpenings openings
+IsListing l = IsWay l.way

@@ -31,11 +31,20 @@ pub struct Openings {
 
 /// Which bytes of an image a listing takes as instructions.
 #[derive(Clone, Copy, Debug, PartialEq, Eq)]
-pub enum Listing {
+pub enum Way {
     /// Every executable segment from its first byte on.
     Sweep,
     /// What control reaches, from these openings on (`--flow`).
     Flow(Openings),
+}
+
+/// What a listing of an image shows.
+#[derive(Clone, Copy, Debug, PartialEq, Eq)]
+pub struct Listing {
+    /// Which bytes are instructions.
+    pub way: Way,
+    /// Whether the listing is a text in the assembly language, with the bytes of the other segments (`--data`).
+    pub as_text: bool,
 }
 
 /// How much of what a program did not set itself `uses` takes as known.

@@ -1,9 +1,9 @@
 //! The words of `dis`.
 ghost use Rattle.std.specs.Prelude.{◌≡◌, IfOk, map, string_bytes, option_map};
 ghost use Rattle.xt_command_line.specs.Answers.{Means};
-ghost use Rattle.xt_command_line.specs.Listings.{AreOpenings, IsListing, judged_openings, listing_in, listing_of, openings_in};
+ghost use Rattle.xt_command_line.specs.Listings.{AreOpenings, IsListing, IsWay, judged_openings, listing_of, openings_in, way_in};
 
-use crate::command::{Listing, Openings, Refusal};
+use crate::command::{Listing, Openings, Refusal, Way};
 use crate::option_commands::{dis_matches, is_true, text_of};
 use crate::option_words::{DEFAULT_VECBASE, given_number, number_or};
 use crate::options::is_good_entry;
@@ -31,25 +31,25 @@ fn judge_openings(openings: Option<Openings>) -> Result<Openings, Refusal>
     }
 }
 
-// The listing, by whether `--flow` was given and the texts of the options that stand with it alone.
-fn listing_from(flow: bool, vecbase: Option<&str>, entry1: Option<&str>) -> Result<Listing, Refusal>
-    ensures means { result ≡ listing_in flow (option_map (λ t. t.now) vecbase.entry) (option_map (λ t. t.now) entry1.entry) }
-    ensures valid { IfOk result IsListing }
+// Which bytes are instructions, by whether `--flow` was given and the texts of the options that stand with it alone.
+fn way_from(flow: bool, vecbase: Option<&str>, entry1: Option<&str>) -> Result<Way, Refusal>
+    ensures means { result ≡ way_in flow (option_map (λ t. t.now) vecbase.entry) (option_map (λ t. t.now) entry1.entry) }
+    ensures valid { IfOk result IsWay }
 {
     if flow {
         let openings = judge_openings(openings_from(vecbase, entry1))?;
-        return Ok(Listing::Flow(openings));
+        return Ok(Way::Flow(openings));
     }
     match (vecbase, entry1) {
-        (None, None) => Ok(Listing::Sweep),
+        (None, None) => Ok(Way::Sweep),
         _ => Err(Refusal::Usage(3)),
     }
 }
 
 /// The listing that the words of `dis` say, the first of which stands for the command.
 ///
-/// The words are read as a simple command of `clap` with the flag `--flow` and the options `--vecbase N`, whose default
-/// is 0x40080000, and `--entry1 N`. N is as for `run`. `Usage` has the first rule that the words break: 3 they do not
+/// The words are read as a simple command of `clap` with the flags `--flow` and `--data` and the options `--vecbase N`,
+/// whose default is 0x40080000, and `--entry1 N`. N is as for `run`. `Usage` has the first rule that the words break: 3 they do not
 /// match, or an option stands without `--flow`, 4 a text is no number, 6 `entry1` is in no executable region, 7
 /// `vecbase` is no multiple of 1024. `Memory` says only that memory ran out.
 pub fn listing(alloc: Global, words: &[String]) -> Result<Listing, Refusal>
@@ -57,9 +57,11 @@ pub fn listing(alloc: Global, words: &[String]) -> Result<Listing, Refusal>
     ensures valid { IfOk result IsListing }
 {
     let matches = dis_matches(alloc, words)?;
-    listing_from(
+    let way = way_from(
         is_true(text_of(&matches, "flow")),
         text_of(&matches, "vecbase"),
         text_of(&matches, "entry1"),
-    )
+    )?;
+    let as_text = is_true(text_of(&matches, "data"));
+    Ok(Listing { way, as_text })
 }

@@ -120,13 +120,14 @@ pub fn record_matches<'a>(alloc: Global, words: &'a [String]) -> Result<ArgMatch
     matches_by(with_requirements(alloc, "record")?, words)
 }
 
-// The command `dis` with its options and its flag.
+// The command `dis` with its options and its flags.
 fn dis_command<'a>(alloc: Global) -> Result<Command<'a>, AllocError>
     ensures { IfOk result (λ c. app_of c ≡ dis_app) }
 {
     let command = with_one_option(alloc, Command::new(alloc, "dis"), "vecbase")?;
     let command = with_one_option(alloc, command, "entry1")?;
-    with_one_flag(alloc, command, "flow")
+    let command = with_one_flag(alloc, command, "flow")?;
+    with_one_flag(alloc, command, "data")
 }
 
 /// What `clap` matches on the words of `dis`.

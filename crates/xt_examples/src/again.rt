@@ -1,11 +1,11 @@
-//! A listing that follows the code, read as a text in the assembly language, and the functions that it shows.
+//! The listing that follows the code, the functions that it shows, and listings as texts in the assembly language.
 ghost use Rattle.xt_image.specs.Parts.{IsWellFormed};
 
-use std::alloc::{AllocError, Global};
+use std::alloc::Global;
 use xt_asm::assemble;
-use xt_flow::flow_listing;
-use xt_image::Image;
-use xt_map::{Segment, can_execute_at};
+use xt_flow::{flow_listing, flow_source, source};
+use xt_image::{Image, write};
+use xt_map::Text;
 
 /// The most bytes that a text may have.
 pub const LIMIT: usize = 1_048_576;
@@ -22,76 +22,28 @@ pub fn flow_of(alloc: Global, image: &Image, entry1: u32) -> Option<String>
     String::from_str(alloc, lines).ok()
 }
 
-// Whether a segment of this name of a region holds code.
-fn has_code(region: &str) -> bool {
-    region == "IRAM" || region == "IROM" || region == "RTCFC"
+/// The listing of an image as a text in the assembly language, plain or with the code that control reaches.
+pub fn source_of(alloc: Global, image: &Image, entry1: u32, follows: bool) -> Option<Text>
+    requires { IsWellFormed image.now }
+{
+    if follows {
+        flow_source(alloc, image, VECBASE, entry1).ok()
+    } else {
+        source(alloc, image).ok()
+    }
 }
 
-// Appends what the line of a segment says, `I ADDR LENGTH REGION`, as `.seg`, where the segment holds code.
-fn push_segment(text: &mut String, line: &str) -> Result<(), AllocError> {
-    let mut words = line.split(' ');
-    words.next();
-    let addr = words.next().unwrap_or("");
-    words.next();
-    if has_code(words.next().unwrap_or("")) {
-        text.push_str(".seg 0x")?;
-        text.push_str(addr)?;
-        text.push_str("\n")?;
-    }
-    Ok(())
-}
-
-// Appends a line of a listing as a line of a text: what stands behind the bytes, with a label where the entry is.
-fn push_line(text: &mut String, line: &str, entry: &str) -> Result<(), AllocError> {
-    let Some((addr, rest)) = line.split_once(' ') else {
-        return Ok(());
-    };
-    if addr == "segment" {
-        return push_segment(text, rest);
-    }
-    let Some((_, words)) = rest.split_once(' ') else {
-        return Ok(());
-    };
-    if addr == entry {
-        text.push_str(".entry first\nfirst: ")?;
-    }
-    text.push_str(words)?;
-    text.push_str("\n")
-}
-
-// A listing as a text in the assembly language.
-fn text_of(alloc: Global, listing: &str, entry: u32) -> Option<String> {
-    let entry = format!(in alloc; "{entry:08X}").ok()?;
-    let mut text = String::new(alloc);
-    for line in listing.lines() {
-        push_line(&mut text, line, entry.as_str()).ok()?;
-    }
-    Some(text)
-}
-
-// Whether there is a segment of this address with the same bytes.
-fn has_segment(segments: &[Segment], wanted: &Segment) -> bool {
-    for segment in segments {
-        if segment.addr == wanted.addr && segment.bytes.as_slice() == wanted.bytes.as_slice() {
-            return true;
-        }
-    }
-    false
-}
-
-/// Whether a listing, as a text, makes the segments with code again, with all their bytes.
-pub fn is_again(alloc: Global, image: &Image, listing: &str) -> Option<bool> {
-    let text = text_of(alloc, listing, image.entry)?;
+/// Whether a text makes an image again, byte for byte.
+pub fn is_again(alloc: Global, image: &Image, text: &[u8]) -> Option<bool>
+    requires { IsWellFormed image.now }
+{
     if text.len() > LIMIT {
         return None;
     }
-    let again = assemble(alloc, text.as_bytes()).ok()?;
-    for segment in image.segments.as_slice() {
-        if can_execute_at(segment.addr) && !has_segment(again.segments.as_slice(), segment) {
-            return Some(false);
-        }
-    }
-    Some(true)
+    let again = assemble(alloc, text).ok()?;
+    let wanted = write(alloc, image).ok()?;
+    let found = write(alloc, &again).ok()?;
+    Some(found.as_slice() == wanted.as_slice())
 }
 
 // The address that a line calls by CALL4, CALL8 or CALL12.

@@ -2,7 +2,7 @@
 //!
 //! Its words are the names of the texts, each of a text that a C compiler made with the address where core 1 begins before it.
 //! For each it prints the name; of one without such an address the listing of the image; how many functions the listing that
-//! follows the code calls, each with the line of its ENTRY; and that this listing makes the same code again.
+//! follows the code calls, each with the line of its ENTRY; and that both listings as texts make the same image again.
 #![tactic(auto)]
 
 ghost use Rattle.std.specs.Prelude.{IfSome};
@@ -10,7 +10,7 @@ ghost use Rattle.xt_image.specs.Parts.{IsWellFormed};
 
 mod again;
 
-use crate::again::{LIMIT, flow_of, functions_in, is_again};
+use crate::again::{LIMIT, flow_of, functions_in, is_again, source_of};
 use std::alloc::Global;
 use std::process::ExitCode;
 use std::rt::{Env, Files};
@@ -36,6 +36,14 @@ fn show_listing(rt: &(impl Print + AllocGlobal), image: &Image) -> Option<()> {
     print!(rt; "{lines}").ok()
 }
 
+// Whether the listing of an image as a text, which follows the code or not, makes the image again.
+fn makes_again(alloc: Global, image: &Image, entry1: u32, follows: bool) -> Option<bool>
+    requires { IsWellFormed image.now }
+{
+    let text = source_of(alloc, image, entry1, follows)?;
+    is_again(alloc, image, text.as_slice())
+}
+
 // Prints what is said of the listing of an image that follows the code.
 fn show_flow(rt: &(impl Print + AllocGlobal), image: &Image, entry1: u32) -> Option<()>
     requires { IsWellFormed image.now }
@@ -43,10 +51,10 @@ fn show_flow(rt: &(impl Print + AllocGlobal), image: &Image, entry1: u32) -> Opt
     let alloc = rt.alloc();
     let flow = flow_of(alloc, image, entry1)?;
     let functions = functions_in(flow.as_str())?;
-    if !is_again(alloc, image, flow.as_str())? {
+    if !makes_again(alloc, image, entry1, true)? || !makes_again(alloc, image, entry1, false)? {
         return None;
     }
-    println!(rt; "followed: {functions} functions; the same code again").ok()
+    println!(rt; "followed: {functions} functions; the same image again").ok()
 }
 
 // Prints what is said of a text, which has the address where core 1 begins, or none.

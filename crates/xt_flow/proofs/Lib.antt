@@ -4,6 +4,7 @@ pub mod Joined
 pub mod Placed
 pub mod Reaching
 pub mod Runs
+pub mod Sourced
 pub mod Steps
 pub mod Tables
 pub mod Walks

@@ -7,7 +7,9 @@ use Rattle.xt_map.specs.declared.segment.Segment.{Segment}
 use Rattle.xt_image.specs.declared.image.Image.{Image}
 use Rattle.xt_flow.specs.Following.{code_from, goes_to, insn_at, length_at, literal_at}
 use Rattle.xt_flow.specs.Printing.{Marks}
+use Rattle.xt_flow.specs.Sources.{Reading, followed, swept}
 use Rattle.xt_flow.specs.Starts.{IsRead, Starts}
+use Rattle.xt_flow.specs.declared.visits.Visited.{Visited}
 
 -- ---- a table: a truth value for each address from the first executable one to the last
 
@@ -90,3 +92,8 @@ marks_of segments starts reads = record {
   starts = λ a. is_marked starts a;
   words = λ a. is_marked reads a && is_free segments starts a;
 }
+
+-- how the code is read by what a walk has found, or by none
+abbrev pub code_reading : List Segment → Option Visited → Reading
+code_reading segments None = swept
+code_reading segments (Some v) = followed (marks_of segments v.starts.items v.reads.items)

@@ -91,11 +91,14 @@ byte_list bytes = join_by (λ b. codes "0x" ++ hex2 b) (codes ", ") bytes
 abbrev pub byte_line : ℕ → List ℕ → List ℕ
 byte_line a bytes = line a bytes (codes ".byte " ++ byte_list bytes)
 
--- the bytes of the first line: of an instruction those up to the next start inside it, of a word
--- four, of a space all its zeros, and else at most sixteen
+-- the bytes of an instruction, up to the next start inside it
+abbrev pub start_count : Marks → ℕ → List ℕ → ℕ
+start_count m a bytes = suc (to_next m.starts (a + 1) (front_length bytes - 1))
+
+-- the bytes of the first line: of a word four, of a space all its zeros, and else at most sixteen
 unfoldable pub shown : Marks → ℕ → List ℕ → ℕ
 shown m a bytes =
-    if m.starts a then suc (to_next m.starts (a + 1) (front_length bytes - 1))
+    if m.starts a then start_count m a bytes
     else (if is_word m a bytes then 4
     else (if is_space m a bytes then zero_run m a bytes else byte_run m a bytes))
 

@@ -6,7 +6,10 @@ mod calls;
 mod code;
 pub mod laws;
 mod listing;
+mod numbers;
 mod table;
+mod texts;
 mod visits;
 
 pub use listing::flow_listing;
+pub use texts::{flow_source, source};

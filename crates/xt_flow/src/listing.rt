@@ -45,7 +45,7 @@ fn is_free(segments: &[Segment], starts: &[bool], at: u32) -> bool
 }
 
 /// Whether a word is printed of these bytes, which stand at an address.
-fn is_word(segments: &[Segment], visited: &Visited, at: u32, bytes: &[u8]) -> bool
+pub fn is_word(segments: &[Segment], visited: &Visited, at: u32, bytes: &[u8]) -> bool
     requires { at + length bytes.now < 2 ^ 32 }
     ensures { result ≡ is_word (marks_of segments.now visited.now.starts.items visited.now.reads.items) at bytes.now }
 {
@@ -64,7 +64,7 @@ fn is_taken(segments: &[Segment], visited: &Visited, at: u32, bytes: &[u8]) -> b
 }
 
 /// How far the next start is, at most `most` bytes.
-fn to_next(starts: &[bool], at: u32, most: usize) -> usize
+pub fn to_next(starts: &[bool], at: u32, most: usize) -> usize
     requires { at + most < 2 ^ 32 }
     ensures is { result ≡ to_next (λ a. is_marked starts.now a) at most }
     ensures few { result ≤ most }
@@ -87,7 +87,7 @@ fn is_zero(segments: &[Segment], visited: &Visited, at: u32, bytes: &[u8]) -> bo
 }
 
 /// How many zero bytes come first, up to an instruction or a word.
-fn zero_run(segments: &[Segment], visited: &Visited, at: u32, bytes: &[u8]) -> usize
+pub fn zero_run(segments: &[Segment], visited: &Visited, at: u32, bytes: &[u8]) -> usize
     requires { at + length bytes.now < 2 ^ 32 }
     ensures is { result ≡ zero_run (marks_of segments.now visited.now.starts.items visited.now.reads.items) at bytes.now }
     ensures few { result ≤ length bytes.now }
@@ -109,7 +109,7 @@ fn is_byte(segments: &[Segment], visited: &Visited, at: u32, bytes: &[u8]) -> bo
 }
 
 /// How many bytes come first, at most sixteen, up to an instruction, a word or a space.
-fn byte_run(segments: &[Segment], visited: &Visited, at: u32, bytes: &[u8]) -> usize
+pub fn byte_run(segments: &[Segment], visited: &Visited, at: u32, bytes: &[u8]) -> usize
     requires { at + length bytes.now < 2 ^ 32 }
     ensures is { result ≡ byte_run (marks_of segments.now visited.now.starts.items visited.now.reads.items) at bytes.now }
     ensures few { result ≤ length bytes.now }
@@ -160,7 +160,7 @@ fn push_space_line(out: &mut String, at: u32, count: usize) -> Result<(), AllocE
 }
 
 /// Appends bytes as `0xNN`, with `, ` between each two.
-fn push_list(out: &mut String, bytes: &[u8]) -> Result<(), AllocError>
+pub fn push_list(out: &mut String, bytes: &[u8]) -> Result<(), AllocError>
     ensures { OnOk result (string_bytes out.new ≡ string_bytes out.old ++ byte_list bytes.now) }
 {
     let Some((first, others)) = bytes.split_first() else {

@@ -1,6 +1,6 @@
 -- What each command over a text, an ELF executable, an image or a recording makes of its input, and
 -- what it refuses ('profile').
-use Rattle.std.specs.Prelude.{◌≡◌, ℕ, List, Option, None, unwrap_or}
+use Rattle.std.specs.Prelude.{◌≡◌, ℕ, Bool, true, false, List, Option, None, unwrap_or}
 use Rattle.std.specs.Option.{option_map}
 use Rattle.xt_image.specs.declared.image.Image.{Image}
 use Rattle.xt_image.specs.Parts.{image_bytes}
@@ -10,6 +10,7 @@ use Rattle.xt_asm.specs.Kinds.{text_fault}
 use Rattle.xt_asm.specs.Images.{IsImageOfText}
 use Rattle.xt_disasm.specs.Listing.{listing_text}
 use Rattle.xt_flow.specs.Printing.{IsFlowText}
+use Rattle.xt_flow.specs.Sources.{IsFlowSource, source_by, swept}
 use Rattle.xt_record.specs.Fields.{image_in}
 use Rattle.xt_record.specs.Format.{run_in}
 use Rattle.xt_record.specs.Written.{recording_bytes}
@@ -22,7 +23,8 @@ use Rattle.xt_race.specs.Texts.{IsRaceText}
 use Rattle.xt_profile.specs.Profiled.{profile_of}
 use Rattle.xt_profile.specs.Texts.{profile_text}
 use Rattle.xt_command_line.specs.declared.command.Listing.{Listing}
-use Rattle.xt_command_line.specs.declared.command.Listing.TheVariants as listing
+use Rattle.xt_command_line.specs.declared.command.Way.{Way}
+use Rattle.xt_command_line.specs.declared.command.Way.TheVariants as way
 use Rattle.xt_command_line.specs.declared.command.Turns.{Turns}
 use Rattle.xt_status.specs.declared.status.Status.{Status}
 use Rattle.xt_status.specs.declared.status.Status.TheVariants as status
@@ -54,11 +56,17 @@ converted input = image_bytes (elf_image input)
 
 -- the listing of an image: each executable segment from its first byte on, or what control reaches
 -- from the image's entry, that of core 1, which is the image's where the words say none, and the
--- vectors
-abbrev pub IsListed : Listing → Image → List ℕ → Type 0
-IsListed listing.Sweep image bytes = bytes ≡ listing_text image
-IsListed (listing.Flow o) image bytes =
+-- vectors; as such, or as a text in the assembly language with the other segments
+abbrev pub IsListedBy : Way → Bool → Image → List ℕ → Type 0
+IsListedBy way.Sweep false image bytes = bytes ≡ listing_text image
+IsListedBy way.Sweep true image bytes = bytes ≡ source_by swept image
+IsListedBy (way.Flow o) false image bytes =
     IsFlowText image o.vecbase (unwrap_or o.entry1 image.entry) bytes
+IsListedBy (way.Flow o) true image bytes =
+    IsFlowSource image o.vecbase (unwrap_or o.entry1 image.entry) bytes
+
+abbrev pub IsListed : Listing → Image → List ℕ → Type 0
+IsListed l image bytes = IsListedBy l.way l.as_text image bytes
 
 -- the recording, in version 2, of the run that a recording holds
 unfoldable pub migrated : List ℕ → List ℕ

@@ -7,36 +7,41 @@ ghost use Rattle.xt_status.specs.Inputs.{image_refusal};
 ghost use Rattle.xt_tools.specs.Commands.{IsListed, IsMade};
 
 use std::alloc::{AllocError, Global};
-use xt_command_line::Listing;
+use xt_command_line::{Listing, Way};
 use xt_disasm::listing;
-use xt_flow::flow_listing;
+use xt_flow::{flow_listing, flow_source, source};
 use xt_image::Image;
 use xt_map::Text;
 use xt_report::check_text;
 use xt_status::{Status, image_in};
 
 // The listing of an image.
-fn listed(alloc: Global, way: Listing, image: &Image) -> Result<Text, AllocError>
+fn listed(alloc: Global, what: Listing, image: &Image) -> Result<Text, AllocError>
     requires { IsWellFormed image.now }
-    ensures { IfOk result (λ text. IsListed way image.now text) }
+    ensures { IfOk result (λ text. IsListed what image.now text) }
 {
-    match way {
-        Listing::Sweep => listing(alloc, image),
-        Listing::Flow(from) => {
+    match (what.way, what.as_text) {
+        (Way::Sweep, false) => listing(alloc, image),
+        (Way::Sweep, true) => source(alloc, image),
+        (Way::Flow(from), as_text) => {
             let entry1 = from.entry1.unwrap_or(image.entry);
-            flow_listing(alloc, image, from.vecbase, entry1)
+            if as_text {
+                flow_source(alloc, image, from.vecbase, entry1)
+            } else {
+                flow_listing(alloc, image, from.vecbase, entry1)
+            }
         }
     }
 }
 
 /// An image's listing, or the status of the image's first fault.
-pub fn list(alloc: Global, way: Listing, input: &[u8]) -> Result<Text, Status>
+pub fn list(alloc: Global, what: Listing, input: &[u8]) -> Result<Text, Status>
     requires { length input.now ≤ 8388608 }
-    ensures ok { IfOk result (λ bytes. IsMade (image_refusal input.now) (IsListed way (image_of input.now) bytes)) }
+    ensures ok { IfOk result (λ bytes. IsMade (image_refusal input.now) (IsListed what (image_of input.now) bytes)) }
     ensures refused { IfErr result (λ status. status ≢ Status.Memory → image_refusal input.now ≡ Some status) }
 {
     let image = image_in(alloc, input)?;
-    listed(alloc, way, &image).map_err(|_| Status::Memory)
+    listed(alloc, what, &image).map_err(|_| Status::Memory)
 }
 
 /// What an image holds, or the status of the image's first fault.

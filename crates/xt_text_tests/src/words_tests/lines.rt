@@ -12,7 +12,7 @@ Err(Usage(2)) <- Elf
 Ok(Assemble) <- asm
 Ok(Convert) <- elf
 Err(Usage(3)) <- elf --vecbase 0x40080000
-Ok(Disassemble(Sweep)) <- dis
+Ok(Disassemble(Listing { way: Sweep, as_text: false })) <- dis
 Ok(Map) <- map
 Ok(Map) <- map --
 Err(Usage(3)) <- map file
@@ -28,13 +28,20 @@ Err(Usage(4)) <- check --vecbase x
 Err(Usage(4)) <- check --vecbase 4294967296
 Err(Usage(7)) <- check --vecbase 0x40080010
 Err(Usage(7)) <- check --vecbase 512
-Ok(Disassemble(Sweep)) <- dis --
+Ok(Disassemble(Listing { way: Sweep, as_text: false })) <- dis --
 ";
 
 /// `dis`.
 pub const LISTINGS: &str = "\
-Ok(Disassemble(Flow(Openings { vecbase: 1074266112, entry1: None }))) <- dis --flow
-Ok(Disassemble(Flow(Openings { vecbase: 1024, entry1: Some(1074593792) }))) <- dis --entry1 0x400D0000 --vecbase=1024 --flow
+Ok(Disassemble(Listing { way: Flow(Openings { vecbase: 1074266112, entry1: None }), as_text: false })) <- dis --flow
+Ok(Disassemble(Listing { way: Flow(Openings { vecbase: 1024, entry1: Some(1074593792) }), as_text: false })) <- dis --entry1 0x400D0000 --vecbase=1024 --flow
+Ok(Disassemble(Listing { way: Sweep, as_text: true })) <- dis --data
+Ok(Disassemble(Listing { way: Flow(Openings { vecbase: 1074266112, entry1: None }), as_text: true })) <- dis --data --flow
+Ok(Disassemble(Listing { way: Flow(Openings { vecbase: 1074266112, entry1: Some(1074593792) }), as_text: true })) <- dis --flow --data --entry1 0x400D0000
+Err(Usage(3)) <- dis --data --data
+Err(Usage(3)) <- dis --data --vecbase 1024
+Err(Usage(3)) <- dis --data file
+Err(Usage(3)) <- map --data
 Err(Usage(3)) <- dis --flow --flow
 Err(Usage(3)) <- dis --flow file
 Err(Usage(3)) <- dis --vecbase 1024

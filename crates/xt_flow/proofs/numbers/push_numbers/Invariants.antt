@@ -1,0 +1,9 @@
+use Rattle.std.proofs.Common.{◌≡◌, ◌++◌, ◌+◌, ◌<◌, ◌^◌, length}
+use Rattle.xt_flow.specs.Sources.{numbers, source_lines}
+use Rattle.xt_flow.proofs.numbers.push_numbers.Given as goal
+
+abbrev pub invariant-loop-rest : goal.invariant-loop-rest
+invariant-loop-rest l = (l.out.items ++ source_lines numbers l.address l.rest ≡ l.initial.out.items ++ source_lines numbers l.at l.bytes) × (l.address + length l.rest < 2 ^ 32)
+
+abbrev pub decreases-loop-rest : goal.decreases-loop-rest
+decreases-loop-rest l = length l.rest
