@@ -24,6 +24,9 @@ use Rattle.xt_profile.specs.Texts.{profile_text}
 use Rattle.xt_command_line.specs.declared.command.Listing.{Listing}
 use Rattle.xt_command_line.specs.declared.command.Listing.TheVariants as listing
 use Rattle.xt_command_line.specs.declared.command.Turns.{Turns}
+use Rattle.xt_command_line.specs.declared.outcomes.OutcomeOptions.{OutcomeOptions}
+use Rattle.xt_command_line.specs.Options.{with_entry}
+use Rattle.xt_outcome_report.specs.Texts.{IsAnswersText}
 use Rattle.xt_status.specs.declared.status.Status.{Status}
 use Rattle.xt_status.specs.declared.status.Status.TheVariants as status
 
@@ -59,6 +62,10 @@ abbrev pub IsListed : Listing → Image → List ℕ → Type 0
 IsListed listing.Sweep image bytes = bytes ≡ listing_text image
 IsListed (listing.Flow o) image bytes =
     IsFlowText image o.vecbase (unwrap_or o.entry1 image.entry) bytes
+
+-- everything that can come out of an image in any order of the turns
+abbrev pub AreOutcomesTold : OutcomeOptions → Image → List ℕ → Type 0
+AreOutcomesTold o image bytes = IsAnswersText image (with_entry o.run image.entry) o.words bytes
 
 -- the recording, in version 2, of the run that a recording holds
 unfoldable pub migrated : List ℕ → List ℕ
