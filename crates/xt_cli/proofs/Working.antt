@@ -36,6 +36,7 @@ refusal_is_fault (job.Trace turns) input s h = recording_is_fault input s h
 refusal_is_fault job.Race input s h = recording_is_fault input s h
 refusal_is_fault (job.Profile depth) input s h = recording_is_fault input s h
 refusal_is_fault (job.Uses d) input s h = recording_is_fault input s h
+refusal_is_fault (job.Outcomes options) input s h = image_is_fault input s h
 
 -- ---- what was written of an input that was read to its end
 
@@ -154,6 +155,7 @@ whole_unless job.Counts others scripts = tt
 whole_unless job.Race others scripts = tt
 whole_unless (job.Profile depth) others scripts = tt
 whole_unless (job.Uses d) others scripts = tt
+whole_unless (job.Outcomes options) others scripts = tt
 
 -- no script leads such a command beyond a run
 pub never_beyond : (j : Job) → IsWhole j → NeverBeyond j
@@ -170,6 +172,7 @@ never_beyond job.Counts whole = λ input. refl
 never_beyond job.Race whole = λ input. refl
 never_beyond (job.Profile depth) whole = λ input. refl
 never_beyond (job.Uses d) whole = λ input. refl
+never_beyond (job.Outcomes options) whole = λ input. refl
 
 -- ---- a refusal, before anything was written
 

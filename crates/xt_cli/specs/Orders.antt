@@ -5,6 +5,7 @@ use Rattle.xt_command_line.specs.Beyond.{beyond_of}
 use Rattle.xt_command_line.specs.Listings.{IsListing}
 use Rattle.xt_command_line.specs.Meaning.{meaning_of}
 use Rattle.xt_command_line.specs.Options.{AreValid}
+use Rattle.xt_command_line.specs.Outcomes.{AreOutcomeOptions}
 use Rattle.xt_command_line.specs.declared.beyond.Beyond.{Beyond}
 use Rattle.xt_command_line.specs.declared.command.Command.{Command}
 use Rattle.xt_command_line.specs.declared.command.Command.TheVariants as command
@@ -55,6 +56,7 @@ order_by words (Ok (command.Trace turns)) = Ok (order.Work (job.Trace turns))
 order_by words (Ok command.Race) = Ok (order.Work job.Race)
 order_by words (Ok (command.Profile depth)) = Ok (order.Work (job.Profile depth))
 order_by words (Ok (command.Uses rigor)) = Ok (order.Work (job.Uses (discipline_of rigor)))
+order_by words (Ok (command.Outcomes options)) = Ok (order.Work (job.Outcomes options))
 order_by words (Ok (command.Run options)) = Ok (order.Run wanted.Report options)
 order_by words (Ok (command.Record options)) = Ok (order.Run wanted.Recording options)
 order_by words (Ok (command.Generate number)) = Ok (order.Generate number)
@@ -66,11 +68,13 @@ order_of words = order_by words (meaning_of words)
 
 -- ---- orders that can be carried out
 
--- the VECBASE of a command is one, its listing begins at openings, and its script can be run
+-- the VECBASE of a command is one, its listing begins at openings, its script can be run, and its
+-- options are valid
 abbrev pub IsFit : Job → Type 0
 IsFit (job.List listing) = IsListing listing
 IsFit (job.Check vecbase) = IsVecbase vecbase
 IsFit (job.Replay commands b) = All IsInRange commands
+IsFit (job.Outcomes options) = AreOutcomeOptions options
 IsFit _ = Unit {0}
 
 -- the options of a run are valid

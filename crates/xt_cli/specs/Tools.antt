@@ -25,8 +25,8 @@ use Rattle.xt_status.specs.declared.status.Status.TheVariants as status
 use Rattle.xt_status.specs.Calls.{Ends, IsUntouched, ReadsWhole, TakesWithin}
 use Rattle.xt_status.specs.Inputs.{image_refusal, recording_refusal}
 use Rattle.xt_tools.specs.Commands as commands
-use Rattle.xt_tools.specs.Commands.{IsAssembled, IsCountsTold, IsListed, IsRaceTold, converted}
-use Rattle.xt_tools.specs.Commands.{elf_refusal, happened, migrated, profiled, text_refusal, traced}
+use Rattle.xt_tools.specs.Commands.{AreOutcomesTold, IsAssembled, IsCountsTold, IsListed}
+use Rattle.xt_tools.specs.Commands.{IsRaceTold, converted, elf_refusal, happened, migrated, profiled, text_refusal, traced}
 use Rattle.xt_cli.specs.declared.tool.Job.{Job}
 use Rattle.xt_cli.specs.declared.tool.Job.TheVariants as job
 use Rattle.xt_cli.specs.declared.tool.Tool.{Tool}
@@ -52,6 +52,7 @@ limit_of (job.Trace turns) = 201326592
 limit_of job.Race = 201326592
 limit_of (job.Profile depth) = 201326592
 limit_of (job.Uses d) = 201326592
+limit_of (job.Outcomes options) = 8388608
 
 -- the status with which a command refuses a whole input, where it does: that of the input's first
 -- fault
@@ -69,6 +70,7 @@ refusal_of (job.Trace turns) input = recording_refusal input
 refusal_of job.Race input = recording_refusal input
 refusal_of (job.Profile depth) input = recording_refusal input
 refusal_of (job.Uses d) input = recording_refusal input
+refusal_of (job.Outcomes options) input = image_refusal input
 
 -- what a script prints over the run that a recording holds
 unfoldable pub replayed : List script.Command → Beyond → List ℕ → List ℕ
@@ -95,6 +97,7 @@ IsWritten (job.Trace turns) input bytes = bytes ≡ traced turns input
 IsWritten job.Race input bytes = IsRaceTold input bytes
 IsWritten (job.Profile depth) input bytes = bytes ≡ profiled depth input
 IsWritten (job.Uses d) input bytes = IsUsesTold d (image_in input) (run_in input) bytes
+IsWritten (job.Outcomes options) input bytes = AreOutcomesTold options (image_of input) bytes
 
 -- the command does not refuse the input, and writes these bytes
 abbrev pub IsMade : Job → List ℕ → List ℕ → Type 0

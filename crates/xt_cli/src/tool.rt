@@ -8,7 +8,7 @@ ghost use Rattle.xt_cli.specs.Tools.{Answers, Finishes, IsComplete, IsMade, Make
 
 use crate::orders::{Order, order_in};
 use std::alloc::Global;
-use xt_command_line::{Beyond, Listing, Refusal, Turns};
+use xt_command_line::{Beyond, Listing, OutcomeOptions, Refusal, Turns};
 use xt_debug::{Printed, Script, run_script};
 use xt_image::well_formed_is_placed;
 use xt_io::{ReadError, Sink, Source, read_to_limit};
@@ -17,7 +17,7 @@ use xt_replay::Replay;
 use xt_status::{IMAGE_LIMIT, RECORDING_LIMIT, Status, recording_in, status_after, write_text};
 use xt_tools::{
     ELF_LIMIT, TEXT_LIMIT, check, converted_file, counts, events, image_file, list, map_text,
-    migrate, profile, race, trace, uses,
+    migrate, outcomes, profile, race, trace, uses,
 };
 use xt_uses::Discipline;
 
@@ -50,6 +50,8 @@ pub enum Job {
     Profile(u32),
     /// `uses`: the first breach of a recorded run by this discipline of uses.
     Uses(Discipline),
+    /// `outcomes`: everything that can come out of an image, with these options.
+    Outcomes(OutcomeOptions),
 }
 
 /// What `tool_main` answers.
@@ -78,7 +80,7 @@ fn limit_of(job: &Job) -> usize
     match job {
         Job::Assemble | Job::Map => TEXT_LIMIT,
         Job::Convert => ELF_LIMIT,
-        Job::List(_) | Job::Check(_) => IMAGE_LIMIT,
+        Job::List(_) | Job::Check(_) | Job::Outcomes(_) => IMAGE_LIMIT,
         Job::Migrate
         | Job::Replay(_, _)
         | Job::Events
@@ -126,6 +128,7 @@ fn make(alloc: Global, job: &Job, input: &[u8]) -> Result<Text, Status>
         Job::Race => race(alloc, input),
         Job::Profile(depth) => profile(alloc, *depth, input),
         Job::Uses(discipline) => uses(alloc, *discipline, input),
+        Job::Outcomes(options) => outcomes(alloc, options, input),
         Job::Trace(_) => unreachable!(),
         Job::Replay(_, _) => unreachable!(),
     }
@@ -225,7 +228,7 @@ fn carry_out<S: Source, K: Sink>(alloc: Global, order: &Order, source: &mut S, s
 
 /// What the program does with the words after its name, a source and a sink, where it needs no
 /// thread: it answers every word that has no meaning, and does the work of `asm`, `elf`, `dis`, `map`, `check`,
-/// `migrate`, `replay`, `events`, `counts`, `trace`, `race`, `profile` and `uses`. It waits for nobody and returns.
+/// `migrate`, `replay`, `events`, `counts`, `trace`, `race`, `profile`, `uses` and `outcomes`. It waits for nobody and returns.
 ///
 /// Words that ask for `run`, `record` or `gen` are handed back as `Threaded`, and nothing was then read or
 /// written.

@@ -6,13 +6,15 @@ use Rattle.clap.specs.Words.{Row, Text, first_of}
 use Rattle.xt_map.specs.Regions.{region_of, is_executable}
 use Rattle.xt_trace.specs.Validity.{IsValid, IsValidStack, most_turns}
 use Rattle.xt_trace.specs.declared.options.Stack.{Stack}
-use Rattle.xt_command_line.specs.Options.{AcceptsValid, OptionsNeedNoMemory, Texts, by_rows, first_broken, is_entry, is_set, is_stack, judged, judged_with, options_in, record_app, record_options_of, run_app, run_options_of, said_or, texts_of, unless_broken}
+use Rattle.xt_command_line.specs.Options.{AcceptsValid, OptionsNeedNoMemory, Texts, by_rows, first_broken, is_entry, is_set, is_stack, judged, judged_texts, judged_with, options_in, record_app, record_options_of, run_app, run_options_of, said_or, texts_of, unless_broken}
 use Rattle.xt_command_line.specs.Arguments.{check_app, gen_app, generator_number_of, judged_number, judged_vecbase, number_by, number_in, rigor_by, rigor_of, uses_app, vecbase_by, vecbase_of}
 use Rattle.xt_command_line.specs.Turns.{chosen, core_of, trace_app, turns_by, turns_of}
 use Rattle.xt_command_line.specs.Answers.{answer_with}
 use Rattle.xt_command_line.specs.declared.command.Rigor.TheVariants as rigor
 use Rattle.xt_command_line.specs.Depths.{depth_by, depth_of, judged_depth, profile_app}
 use Rattle.xt_command_line.specs.Listings.{dis_app, judged_openings, listing_by, listing_of, listing_with, openings_in, way_in}
+use Rattle.xt_command_line.specs.Outcomes.{outcomes_app, outcomes_by, outcomes_of, outcomes_with, places_of, states_of, word_texts}
+use Rattle.xt_command_line.specs.declared.outcomes.OutcomeOptions.{OutcomeOptions}
 use Rattle.xt_command_line.specs.Meaning.{NeedsNoMemory, meaning_by, named, without_options}
 use Rattle.xt_command_line.specs.Numbers.{number_of}
 use Rattle.xt_command_line.specs.Simple.{rows_by}
@@ -160,6 +162,23 @@ listing_by-answers None = λ e. search (rules, e)
 listing_by-answers (Some rows) =
     answer_with-answers (listing_with (is_set (first_of (codes "data") rows))) _ (way_in-answers (is_set (first_of (codes "flow") rows)) (first_of (codes "vecbase") rows) (first_of (codes "entry1") rows))
 
+outcomes_with-answers : (words : Option (List ℕ)) (states : Option ℕ) (run : Result RunOptions Refusal) → run ≢ Err refusal.Memory → outcomes_with words states run ≢ Err refusal.Memory
+outcomes_with-answers None states run no_memory = λ e. search (rules, e)
+outcomes_with-answers (Some words) None run no_memory = λ e. search (rules, e)
+outcomes_with-answers (Some words) (Some states) (Ok run) no_memory = λ e. search (rules, e)
+outcomes_with-answers (Some words) (Some states) (Err r) no_memory = λ e. no_memory (cc)
+
+outcomes_if-answers : (b : Bool) (r : Result OutcomeOptions Refusal) → r ≢ Err refusal.Memory → (if b then r else Err (refusal.Usage 3)) ≢ Err refusal.Memory
+outcomes_if-answers true r no_memory = no_memory
+outcomes_if-answers false r no_memory = λ e. search (rules, e)
+
+outcomes_by-answers : (rows : Option (List Row)) → outcomes_by rows ≢ Err refusal.Memory
+outcomes_by-answers None = λ e. search (rules, e)
+outcomes_by-answers (Some rows) =
+    let t = texts_of rows in
+    outcomes_if-answers _ _ (outcomes_with-answers (places_of (word_texts rows)) (said_or states_of 1000000 (first_of (codes "states") rows)) (judged_texts t)
+    (judged_with-answers t (order_in t.seed t.order) (order-answers t.seed t.order)))
+
 without_options-answers : (c : Command) (rows : Option (List Row)) → without_options c rows ≢ Err refusal.Memory
 without_options-answers c None = λ e. search (rules, e)
 without_options-answers c (Some rows) = λ e. search (rules, e)
@@ -181,6 +200,7 @@ meaning_by-answers (Some name.Race) words = without_options-answers _ _
 meaning_by-answers (Some name.Profile) words = answer_with-answers command.Profile (depth_of words) (depth_by-answers (rows_by profile_app words))
 meaning_by-answers (Some name.Uses) words = answer_with-answers command.Uses (rigor_of words) (rigor_by-answers (rows_by uses_app words))
 meaning_by-answers (Some name.Trace) words = answer_with-answers command.Trace (turns_of words) (turns_by-answers (rows_by trace_app words))
+meaning_by-answers (Some name.Outcomes) words = answer_with-answers command.Outcomes (outcomes_of words) (outcomes_by-answers (rows_by outcomes_app words))
 meaning_by-answers (Some name.Generate) words = answer_with-answers command.Generate (generator_number_of words) (number_by-answers (rows_by gen_app words))
 
 pub meaning_needs_none : NeedsNoMemory

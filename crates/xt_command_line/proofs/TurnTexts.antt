@@ -42,20 +42,20 @@ no_turns text r split is = let none = rw is at (split_once_first star text r spl
 
 -- ---- all parts
 
--- turns that were read, before what follows
-abbrev pub before : List CoreTurns → Option (List CoreTurns) → Option (List CoreTurns)
+-- what was read, before what follows
+abbrev pub before : {A : Type 0} → List A → Option (List A) → Option (List A)
 before xs None = None
 before xs (Some ys) = Some (xs ++ ys)
 
-pub before_any : (o : Option (List CoreTurns)) → before [] o ≡ o
+pub before_any : {A : Type 0} (o : Option (List A)) → before [] o ≡ o
 before_any None = refl
 before_any (Some ys) = refl
 
-pub one_more : (xs : List CoreTurns) (t : CoreTurns) (o : Option (List CoreTurns)) → before xs (and_all (Some t) o) ≡ before (xs ++ t ∷ []) o
+pub one_more : {A : Type 0} (xs : List A) (t : A) (o : Option (List A)) → before xs (and_all (Some t) o) ≡ before (xs ++ t ∷ []) o
 one_more xs t None = refl
 one_more xs t (Some ys) = ap Some (sym (append_assoc xs (t ∷ []) ys))
 
-pub no_more : (xs : List CoreTurns) → before xs (all_turns []) ≡ Some xs
+pub no_more : {A : Type 0} (xs : List A) → before xs (Some []) ≡ Some xs
 no_more xs = ap Some (append-nil xs)
 
 -- ---- how many they are

@@ -10,5 +10,6 @@ pub mod Beyond
 pub mod Turns
 pub mod Listings
 pub mod Depths
+pub mod Outcomes
 pub mod Meaning
 pub mod Views

@@ -11,6 +11,7 @@ use Rattle.xt_command_line.specs.Arguments.{IsVecbase, generator_number_of, rigo
 use Rattle.xt_command_line.specs.Turns.{turns_of}
 use Rattle.xt_command_line.specs.Depths.{depth_of}
 use Rattle.xt_command_line.specs.Listings.{IsListing, listing_of}
+use Rattle.xt_command_line.specs.Outcomes.{AreOutcomeOptions, outcomes_of}
 use Rattle.xt_command_line.specs.declared.command.Command.{Command}
 use Rattle.xt_command_line.specs.declared.command.Command.TheVariants as command
 use Rattle.xt_command_line.specs.declared.command.Refusal.{Refusal}
@@ -36,6 +37,7 @@ names =
     ∷ (codes "race", name.Race)
     ∷ (codes "profile", name.Profile)
     ∷ (codes "uses", name.Uses)
+    ∷ (codes "outcomes", name.Outcomes)
     ∷ (codes "gen", name.Generate)
     ∷ []
 
@@ -77,6 +79,9 @@ uses_meaning_of words = answer_with command.Uses (rigor_of words)
 abbrev pub profile_meaning_of : List Text → Result Command Refusal
 profile_meaning_of words = answer_with command.Profile (depth_of words)
 
+abbrev pub outcomes_meaning_of : List Text → Result Command Refusal
+outcomes_meaning_of words = answer_with command.Outcomes (outcomes_of words)
+
 abbrev pub meaning_by : Option Name → List Text → Result Command Refusal
 meaning_by None words = Err (refusal.Usage 2)
 meaning_by (Some name.Assemble) words =
@@ -101,6 +106,7 @@ meaning_by (Some name.Race) words =
     without_options command.Race (rows_by (new_app (codes "race")) words)
 meaning_by (Some name.Profile) words = profile_meaning_of words
 meaning_by (Some name.Uses) words = uses_meaning_of words
+meaning_by (Some name.Outcomes) words = outcomes_meaning_of words
 meaning_by (Some name.Generate) words = gen_meaning_of words
 
 -- the command with its options that the words say, or why they say none; the words after `replay`
@@ -115,6 +121,7 @@ HasValidOptions (command.Disassemble listing) = IsListing listing
 HasValidOptions (command.Check vecbase) = IsVecbase vecbase
 HasValidOptions (command.Run options) = AreValid options
 HasValidOptions (command.Record options) = AreValid options
+HasValidOptions (command.Outcomes options) = AreOutcomeOptions options
 HasValidOptions _ = Unit {0}
 
 -- the words of these commands are read by clap, which takes memory
@@ -133,6 +140,7 @@ TakesMemory (Some name.Trace) = Unit {0}
 TakesMemory (Some name.Race) = Unit {0}
 TakesMemory (Some name.Profile) = Unit {0}
 TakesMemory (Some name.Uses) = Unit {0}
+TakesMemory (Some name.Outcomes) = Unit {0}
 TakesMemory (Some name.Generate) = Unit {0}
 TakesMemory _ = ⊥
 

@@ -6,7 +6,7 @@
 -- Note: `entry1` is judged only where it is given; otherwise it is the image's entry, which the
 -- image's rules judge.
 use Rattle.std.specs.Prelude.{◌≡◌, ◌≢◌, ℕ, ◌+◌, ◌%◌, Bool, true, false, ◌==◌, ◌&&◌, nat_le, List}
-use Rattle.std.specs.Prelude.{[], ◌∷◌, fold, Option, Some, None, unwrap_or, option_map, Result, Ok}
+use Rattle.std.specs.Prelude.{[], ◌∷◌, ◌++◌, fold, Option, Some, None, unwrap_or, option_map, Result, Ok}
 use Rattle.std.specs.Prelude.{Err, if◌then◌else◌, codes}
 use Rattle.std.specs.Option.{option_map_or}
 use Rattle.std.specs.List.{before_first, after_first}
@@ -50,10 +50,14 @@ with_flag app name = with_rule app (flag_rule name)
 abbrev pub order_names : List Text
 order_names = codes "seed" ∷ codes "order" ∷ []
 
-abbrev pub option_names : List Text
-option_names =
+-- the turns, and where what lies
+abbrev pub place_names : List Text
+place_names =
     codes "turns0" ∷ codes "turns1" ∷ codes "entry1"
-    ∷ codes "vecbase" ∷ codes "stack0" ∷ codes "stack1" ∷ order_names
+    ∷ codes "vecbase" ∷ codes "stack0" ∷ codes "stack1" ∷ []
+
+abbrev pub option_names : List Text
+option_names = place_names ++ order_names
 
 -- these options and [--require LIST]
 abbrev pub required_app : Text → App

@@ -47,7 +47,8 @@ turns_of text =
     (core_of (before_first (λ b. b == star) text))
     (number_of (after_first (λ b. b == star) text))
 
-abbrev pub and_all : Option CoreTurns → Option (List CoreTurns) → Option (List CoreTurns)
+-- one more at the front, where each is there
+abbrev pub and_all : {A : Type 0} → Option A → Option (List A) → Option (List A)
 and_all (Some t) (Some ts) = Some (t ∷ ts)
 and_all (Some t) None = None
 and_all None ts = None

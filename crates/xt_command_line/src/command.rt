@@ -2,6 +2,7 @@ ghost use Rattle.std.specs.Prelude.{◌≡◌};
 ghost use Rattle.xt_command_line.specs.declared.command.Refusal.TheVariants.{Memory};
 
 use crate::options::RunOptions;
+use crate::outcomes::OutcomeOptions;
 use std::alloc::AllocError;
 
 /// Which turns of a recorded run `trace` prints: those of some positions of the run's schedule, of which all
@@ -89,6 +90,8 @@ pub enum Command {
     Profile(u32),
     /// `uses`: looks for the first use of something that is not known in a recorded run, with this rigor.
     Uses(Rigor),
+    /// `outcomes`: looks for all that can come out of an image, with these options.
+    Outcomes(OutcomeOptions),
     /// `gen`: runs the image that is made from this number.
     Generate(u32),
 }
@@ -146,6 +149,8 @@ pub enum Name {
     Profile,
     /// `uses`
     Uses,
+    /// `outcomes`
+    Outcomes,
     /// `gen`
     Generate,
 }

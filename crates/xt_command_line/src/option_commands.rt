@@ -1,13 +1,14 @@
 //! The simple commands of `clap` that read the words of `run`, `record`, `dis`, `check`, `gen`, `replay`, `trace`,
-//! `uses` and `profile`.
+//! `uses`, `profile` and `outcomes`.
 ghost use Rattle.std.specs.Prelude.{◌≡◌, IfOk, map, string_bytes, option_map, fold};
-ghost use Rattle.clap.specs.Words.{app_of, first_of, found_of, new_app, rows_of, with_rule};
+ghost use Rattle.clap.specs.Words.{all_of, app_of, first_of, found_of, new_app, rows_of, with_rule};
 ghost use Rattle.xt_command_line.specs.Simple.{Matches, rows_by};
 ghost use Rattle.xt_command_line.specs.Arguments.{check_app, gen_app, positional_rule, replay_app, uses_app};
 ghost use Rattle.xt_command_line.specs.Turns.{trace_app};
 ghost use Rattle.xt_command_line.specs.Depths.{profile_app};
 ghost use Rattle.xt_command_line.specs.Listings.{dis_app};
-ghost use Rattle.xt_command_line.specs.Options.{flag_names, is_set, option_names, order_names, record_app, required_app, run_app, texts_of, with_flag, with_option};
+ghost use Rattle.xt_command_line.specs.Outcomes.{outcomes_app, with_many};
+ghost use Rattle.xt_command_line.specs.Options.{flag_names, is_set, option_names, order_names, place_names, record_app, required_app, run_app, texts_of, with_flag, with_option};
 ghost use Rattle.xt_command_line.specs.Views.{texts_in};
 
 use crate::command::Refusal;
@@ -57,6 +58,17 @@ fn with_one_flag<'a>(
     command.arg(Arg::new(alloc, name).long(name).action(ArgAction::SetTrue))
 }
 
+// The command with one more option, `--name TEXT`, that may stand more than once.
+fn with_many_options<'a>(
+    alloc: Global,
+    command: Command<'a>,
+    name: &'a str,
+) -> Result<Command<'a>, AllocError>
+    ensures { IfOk result (λ c. app_of c ≡ with_many (app_of command.entry) name.entry.now) }
+{
+    command.arg(Arg::new(alloc, name).long(name).action(ArgAction::Append))
+}
+
 // The command with the two options that say in which order the cores make their turns.
 fn with_orders<'a>(alloc: Global, command: Command<'a>) -> Result<Command<'a>, AllocError>
     ensures { IfOk result (λ c. app_of c ≡ fold with_option (app_of command.entry) order_names) }
@@ -65,9 +77,9 @@ fn with_orders<'a>(alloc: Global, command: Command<'a>) -> Result<Command<'a>, A
     with_one_option(alloc, command, "order")
 }
 
-// The command with the eight options that `run` and `record` share.
-fn with_options<'a>(alloc: Global, name: &'a str) -> Result<Command<'a>, AllocError>
-    ensures { IfOk result (λ c. app_of c ≡ fold with_option (new_app name.entry.now) option_names) }
+// The command with the six options that `run`, `record` and `outcomes` share.
+fn with_places<'a>(alloc: Global, name: &'a str) -> Result<Command<'a>, AllocError>
+    ensures { IfOk result (λ c. app_of c ≡ fold with_option (new_app name.entry.now) place_names) }
 {
     let command = Command::new(alloc, name);
     let command = with_one_option(alloc, command, "turns0")?;
@@ -75,8 +87,14 @@ fn with_options<'a>(alloc: Global, name: &'a str) -> Result<Command<'a>, AllocEr
     let command = with_one_option(alloc, command, "entry1")?;
     let command = with_one_option(alloc, command, "vecbase")?;
     let command = with_one_option(alloc, command, "stack0")?;
-    let command = with_one_option(alloc, command, "stack1")?;
-    with_orders(alloc, command)
+    with_one_option(alloc, command, "stack1")
+}
+
+// The command with the eight options that `run` and `record` share.
+fn with_options<'a>(alloc: Global, name: &'a str) -> Result<Command<'a>, AllocError>
+    ensures { IfOk result (λ c. app_of c ≡ fold with_option (new_app name.entry.now) option_names) }
+{
+    with_orders(alloc, with_places(alloc, name)?)
 }
 
 // The command with these options, and the one that says what is required.
@@ -235,6 +253,29 @@ pub fn profile_matches<'a>(alloc: Global, words: &'a [String]) -> Result<ArgMatc
     ensures { Matches result (rows_by profile_app (map string_bytes words.now)) }
 {
     matches_by(profile_command(alloc)?, words)
+}
+
+// The command `outcomes` with its options and its flag.
+fn outcomes_command<'a>(alloc: Global) -> Result<Command<'a>, AllocError>
+    ensures { IfOk result (λ c. app_of c ≡ outcomes_app) }
+{
+    let command = with_one_option(alloc, with_places(alloc, "outcomes")?, "states")?;
+    let command = with_many_options(alloc, command, "word")?;
+    with_one_flag(alloc, command, "timed")
+}
+
+/// What `clap` matches on the words of `outcomes`.
+pub fn outcomes_matches<'a>(alloc: Global, words: &'a [String]) -> Result<ArgMatches<'a>, Refusal>
+    ensures { Matches result (rows_by outcomes_app (map string_bytes words.now)) }
+{
+    matches_by(outcomes_command(alloc)?, words)
+}
+
+/// The texts of an option that may stand more than once; none where it does not stand.
+pub fn texts_under<'m, 'a>(matches: &'m ArgMatches<'a>, name: &str) -> Option<&'m [&'a str]>
+    ensures { option_map (λ s. map (λ v. v.now) s.now) result ≡ all_of name.now (rows_of (found_of matches.now)) }
+{
+    matches.get_raw(name)
 }
 
 /// The text of an option or of a positional.

@@ -110,8 +110,8 @@ fn options_from(
     })
 }
 
-// The options that the texts say, or the first rule of usage that they break.
-fn judged_texts(alloc: Global, texts: OptionTexts<'_>) -> Result<RunOptions, Refusal>
+/// The options that the texts say, or the first rule of usage that they break.
+pub fn judged_texts(alloc: Global, texts: OptionTexts<'_>) -> Result<RunOptions, Refusal>
     ensures means { Means result (judged_texts (texts_in texts.entry)) }
     ensures valid { IfOk result AreValid }
 {

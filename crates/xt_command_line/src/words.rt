@@ -1,6 +1,6 @@
 ghost use Rattle.std.specs.Prelude.{◌≡◌, IfOk, map, string_bytes};
 ghost use Rattle.xt_command_line.specs.Answers.{Means};
-ghost use Rattle.xt_command_line.specs.Meaning.{HasValidOptions, MayWantMemory, check_meaning_of, dis_meaning_of, gen_meaning_of, meaning_of, named, profile_meaning_of, record_meaning_of, run_meaning_of, trace_meaning_of, uses_meaning_of};
+ghost use Rattle.xt_command_line.specs.Meaning.{HasValidOptions, MayWantMemory, check_meaning_of, dis_meaning_of, gen_meaning_of, meaning_of, named, outcomes_meaning_of, profile_meaning_of, record_meaning_of, run_meaning_of, trace_meaning_of, uses_meaning_of};
 ghost use Rattle.xt_command_line.specs.declared.command.Refusal.TheVariants.{Memory};
 
 use crate::arguments::{check_vecbase, generator_number, uses_rigor};
@@ -8,6 +8,7 @@ use crate::command::{Command, Name, Refusal};
 use crate::depths::profile_depth;
 use crate::listings::listing;
 use crate::option_words::{record_options, run_options};
+use crate::outcomes::outcomes_options;
 use crate::simple::without_options_meaning;
 use crate::turns::trace_turns;
 use std::alloc::Global;
@@ -32,6 +33,7 @@ fn name_of(word: &str) -> Option<Name>
         "race" => Some(Name::Race),
         "profile" => Some(Name::Profile),
         "uses" => Some(Name::Uses),
+        "outcomes" => Some(Name::Outcomes),
         "gen" => Some(Name::Generate),
         _ => None,
     }
@@ -114,6 +116,17 @@ fn profile_meaning(alloc: Global, words: &[String]) -> Result<Command, Refusal>
     }
 }
 
+// The command `outcomes` with the options that its words say.
+fn outcomes_meaning(alloc: Global, words: &[String]) -> Result<Command, Refusal>
+    ensures means { Means result (outcomes_meaning_of (map string_bytes words.now)) }
+    ensures valid { IfOk result HasValidOptions }
+{
+    match outcomes_options(alloc, words) {
+        Ok(options) => Ok(Command::Outcomes(options)),
+        Err(refusal) => Err(refusal),
+    }
+}
+
 // The command `gen` with the number that its words say.
 fn gen_meaning(alloc: Global, words: &[String]) -> Result<Command, Refusal>
     ensures means { Means result (gen_meaning_of (map string_bytes words.now)) }
@@ -137,6 +150,7 @@ fn gen_meaning(alloc: Global, words: &[String]) -> Result<Command, Refusal>
 /// - `trace` has the turns that `trace_turns` says, with the rules of usage 3 and 4.
 /// - `profile` has the depth that `profile_depth` says, with the rules of usage 3 and 4.
 /// - `uses` has the rigor that `uses_rigor` says, with rule 3.
+/// - `outcomes` has the options that `outcomes_options` says, with the rules of usage 3 to 8.
 /// - `gen` has the number that `generator_number` says, with the same.
 /// - `replay` is `Replay`, whatever follows: `script_text` reads its words.
 ///
@@ -168,6 +182,7 @@ pub fn meaning(alloc: Global, words: &[String]) -> Result<Command, Refusal>
         Some(Name::Profile) => profile_meaning(alloc, words),
         Some(Name::Uses) => uses_meaning(alloc, words),
         Some(Name::Check) => check_meaning(alloc, words),
+        Some(Name::Outcomes) => outcomes_meaning(alloc, words),
         Some(Name::Generate) => gen_meaning(alloc, words),
     }
 }

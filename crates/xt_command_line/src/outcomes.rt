@@ -1,0 +1,159 @@
+//! The words of `outcomes`.
+ghost use Rattle.std.specs.Prelude.{◌≡◌, ◌+◌, ◌≤◌, ◌^◌, All, true, IfOk, IfSome, map, string_bytes, option_map, unwrap_or, []};
+ghost use Rattle.xt_command_line.specs.Answers.{Means};
+ghost use Rattle.xt_command_line.specs.Options.{AreValid, said_or};
+ghost use Rattle.xt_command_line.specs.Outcomes.{AreOutcomeOptions, is_place, outcomes_by, outcomes_in, outcomes_of, outcomes_with, place_of, places_of, states_of, word_texts};
+
+use crate::command::Refusal;
+use crate::numbers::number;
+use crate::option_commands::{is_true, outcomes_matches, text_of, texts_from, texts_under};
+use crate::option_words::judged_texts;
+use crate::options::RunOptions;
+use std::alloc::{AllocError, Global};
+use std::marker::Model;
+use xt_map::is_in_memory;
+
+/// How many worlds are kept at most, where no word says it.
+const DEFAULT_STATES: u32 = 1_000_000;
+
+/// The most worlds that can be asked for.
+const MOST_STATES: u32 = 16_000_000;
+
+/// The most words that an outcome can have.
+const MOST_WORDS: usize = 4;
+
+/// Addresses of words. Contracts see the list.
+#[derive(Debug, Drop)]
+pub struct WordList {
+    items: Vec<u32>,
+}
+
+impl Model for WordList {
+    ghost use Rattle.std.specs.Prelude.{ℕ, List};
+
+    ghost Value = { List ℕ };
+
+    ghost view = { λ s. s.items.items };
+}
+
+impl WordList {
+    /// These addresses, without a copy.
+    pub fn new(items: Vec<u32>) -> WordList
+        ensures { result ≡ items.items }
+    {
+        WordList { items }
+    }
+
+    /// The addresses.
+    pub fn as_slice(&self) -> &[u32]
+        ensures { result.now ≡ self.now }
+    {
+        &self.items
+    }
+}
+
+/// What `outcomes` looks at.
+#[derive(Debug, Drop)]
+pub struct OutcomeOptions {
+    /// The turns, where core 1 begins, VECBASE and the stacks, as for `run`.
+    pub run: RunOptions,
+    /// Whether each core has the turns that the options give it (`--timed`).
+    pub timed: bool,
+    /// The addresses of the words that belong to an outcome (`--word`).
+    pub words: WordList,
+    /// How many worlds are kept at most (`--states`).
+    pub states: u32,
+}
+
+// An aligned address of memory.
+fn is_place(address: u32) -> bool
+    ensures place { result ≡ is_place address }
+    ensures low { result ≡ true → address + 4 ≤ 2 ^ 32 }
+{
+    is_in_memory(address) && address % 4 == 0
+}
+
+// The address that a text says.
+#[tactic(auto, unfolding(crate::specs::Outcomes::place_of))]
+fn place_of(text: &str) -> Option<u32>
+    ensures place { result ≡ place_of text.now }
+    ensures low { IfSome result (λ a. a + 4 ≤ 2 ^ 32) }
+{
+    match number(text) {
+        Some(address) if is_place(address) => Some(address),
+        _ => None,
+    }
+}
+
+// The addresses of these texts, each of which has to say one.
+fn places_of(alloc: Global, texts: &[&str]) -> Result<Option<WordList>, AllocError>
+    ensures places { IfOk result (λ list. list ≡ places_of (map (λ text. text.now) texts.now)) }
+    ensures low { IfOk result (λ list. IfSome list (λ words. All (λ a. a + 4 ≤ 2 ^ 32) words)) }
+{
+    let mut words = Vec::new(alloc);
+    for text in texts {
+        match place_of(text) {
+            Some(address) => words.push(address)?,
+            None => return Ok(None),
+        }
+    }
+    Ok(Some(WordList::new(words)))
+}
+
+// How many worlds a text says, or the default where there is none.
+fn states_or(text: Option<&str>, default: u32) -> Option<u32>
+    ensures { result ≡ said_or states_of default (option_map (λ t. t.now) text.entry) }
+{
+    let Some(text) = text else {
+        return Some(default);
+    };
+    match number(text) {
+        Some(states) if 1 <= states && states <= MOST_STATES => Some(states),
+        _ => None,
+    }
+}
+
+// The options with these addresses and so many worlds, where they are there.
+fn outcomes_with(
+    words: Option<WordList>,
+    states: Option<u32>,
+    run: Result<RunOptions, Refusal>,
+) -> Result<OutcomeOptions, Refusal>
+    requires low { IfSome words (λ list. All (λ a. a + 4 ≤ 2 ^ 32) list) }
+    requires valid { IfOk run AreValid }
+    ensures means { result ≡ outcomes_with words states run }
+    ensures valid { IfOk result AreOutcomeOptions }
+{
+    match (words, states, run) {
+        (Some(words), Some(states), Ok(run)) => Ok(OutcomeOptions {
+            run,
+            timed: true,
+            words,
+            states,
+        }),
+        (Some(_), Some(_), Err(refusal)) => Err(refusal),
+        (_, _, _) => Err(Refusal::Usage(4)),
+    }
+}
+
+/// The options that the words of `outcomes` say, the first of which stands for the command.
+///
+/// The words are read as a simple command of `clap` with the options `--turns0 N`, `--turns1 N`, `--entry1 N`,
+/// `--vecbase N`, `--stack0 LO:HI` and `--stack1 LO:HI`, as for `run`, `--states N`, whose default is 1,000,000, and
+/// `--word N`, which may stand four times, and the flag `--timed`. `Usage` has the first rule that the words break: 3 they
+/// do not match, a fifth word stands there or `--timed` does not, 4 a text is no number or range, the one of `--states`
+/// none from 1 to 16,000,000, or that of a word no multiple of 4 in a region of memory, 5 to 8 as for `run`. `Memory`
+/// says only that memory ran out.
+pub fn outcomes_options(alloc: Global, words: &[String]) -> Result<OutcomeOptions, Refusal>
+    ensures means { Means result (outcomes_of (map string_bytes words.now)) }
+    ensures valid { IfOk result AreOutcomeOptions }
+{
+    let matches = outcomes_matches(alloc, words)?;
+    let texts = texts_under(&matches, "word").unwrap_or(&[]);
+    if !is_true(text_of(&matches, "timed")) || texts.len() > MOST_WORDS {
+        return Err(Refusal::Usage(3));
+    }
+    let places = places_of(alloc, texts)?;
+    let states = states_or(text_of(&matches, "states"), DEFAULT_STATES);
+    outcomes_with(places, states, judged_texts(alloc, texts_from(&matches)))
+}

@@ -1,0 +1,168 @@
+//! The text of everything that can come out.
+ghost use Rattle.std.specs.Prelude.{◌≡◌, ◌+◌, ◌≤◌, ◌^◌, ◌++◌, IfOk, OnOk, string_bytes, flat_map, option_map};
+ghost use Rattle.std.specs.List.{All};
+ghost use Rattle.xt_trace.specs.Validity.{IsValid};
+ghost use Rattle.xt_image.specs.Parts.{IsWellFormed};
+ghost use Rattle.xt_outcome_report.specs.Texts.{IsAnswersText, answers_text, end_line, frames_line, frames_text, none_text, outcome_text, race_lines, stuck_line, stuck_text};
+
+use crate::orders::order_text;
+use crate::outcomes::push_outcome;
+use std::alloc::{AllocError, Global};
+use xt_image::{Image, well_formed_is_placed};
+use xt_map::Text;
+use xt_outcomes::{Answers, Found, NextRace, answers_of};
+use xt_trace::Options;
+
+/// What is judged of the runs of all orders by the discipline of the stack.
+#[derive(Clone, Copy, Debug, PartialEq, Eq)]
+pub enum Frames {
+    /// Nothing.
+    Unknown,
+    /// A window handler fails its check.
+    Unchecked,
+    /// The run of each order keeps it.
+    Whole,
+}
+
+// That there is none, as far as it is known.
+fn none_text(whole: bool) -> &'static str
+    ensures { result.now ≡ none_text whole }
+{
+    if whole { "none" } else { "unknown" }
+}
+
+// An order, or that there is none.
+fn stuck_text(alloc: Global, whole: bool, order: Option<&[u8]>) -> Result<String, AllocError>
+    ensures { IfOk result (λ text. string_bytes text ≡ stuck_text whole (option_map (λ v. v.now) order.entry)) }
+{
+    match order {
+        Some(order) => order_text(alloc, order),
+        None => {
+            let none = none_text(whole);
+            format!(in alloc; "{none}")
+        }
+    }
+}
+
+// The line of an order after which the cores never both end.
+fn stuck_line(alloc: Global, whole: bool, stuck: &Option<Vec<u8>>) -> Result<String, AllocError>
+    ensures { IfOk result (λ line. string_bytes line ≡ stuck_line whole (option_map (λ v. v.items) stuck.now)) }
+{
+    let text = match stuck {
+        Some(order) => stuck_text(alloc, whole, Some(order.as_slice()))?,
+        None => stuck_text(alloc, whole, None)?,
+    };
+    format!(in alloc; "stuck {text}\n")
+}
+
+// The line of a race.
+fn race_line(alloc: Global, whole: bool, race: &Option<NextRace>) -> Result<String, AllocError>
+    ensures { IfOk result (λ line. string_bytes line ≡ race_lines whole race.now []) }
+{
+    let text = match race {
+        Some(race) => stuck_text(alloc, whole, Some(race.order.as_slice()))?,
+        None => stuck_text(alloc, whole, None)?,
+    };
+    format!(in alloc; "race {text}\n")
+}
+
+// What is judged, in a word.
+fn frames_text(frames: Frames) -> &'static str
+    ensures { result.now ≡ frames_text frames }
+{
+    match frames {
+        Frames::Unknown => "unknown",
+        Frames::Unchecked => "none",
+        Frames::Whole => "whole",
+    }
+}
+
+// How the search ended.
+fn end_line(whole: bool) -> &'static str
+    ensures { result.now ≡ end_line whole }
+{
+    if whole { "all\n" } else { "some states\n" }
+}
+
+// Appends the lines of the outcomes.
+fn push_outcomes(
+    alloc: Global,
+    out: &mut Vec<u8>,
+    addresses: &[u32],
+    list: &[Found],
+) -> Result<(), AllocError>
+    ensures { OnOk result (out.new.items ≡ out.old.items ++ flat_map (outcome_text addresses.now) list.now) }
+{
+    for found in list {
+        push_outcome(alloc, out, addresses, found)?;
+    }
+    Ok(())
+}
+
+/// The lines of all that was found, with what is judged of the frames:
+///
+/// ```text
+/// outcome uart N
+/// the N bytes that were sent, as they are
+/// core 0 stop S pc ADDR
+/// core 1 stop S pc ADDR
+/// word ADDR VALUE
+/// order LIST
+/// outcomes N
+/// stuck LIST
+/// race LIST
+/// frames F
+/// all
+/// ```
+///
+/// The first six for each outcome, with a line `word` for each address; S is `break` or `turns`, ADDR
+/// and VALUE have eight upper-case hexadecimal digits. LIST is an order, as `run --order` reads it; of
+/// `stuck` and `race` it is `none` where no order is so, and `unknown` where this is not known. F is
+/// `unknown`, `none` or `whole`. The last line is `all` where all orders were looked at, and else
+/// `some states`. The only error is running out of memory.
+pub fn answers_text(
+    alloc: Global,
+    addresses: &[u32],
+    answers: &Answers,
+    frames: Frames,
+) -> Result<Text, AllocError>
+    ensures { IfOk result (λ text. text ≡ answers_text addresses.now answers.now [] frames) }
+{
+    let mut out = Vec::new(alloc);
+    push_outcomes(alloc, &mut out, addresses, answers.found.as_slice())?;
+    let count = answers.found.len();
+    let outcomes = format!(in alloc; "outcomes {count}\n")?;
+    let stuck = stuck_line(alloc, answers.whole, &answers.stuck)?;
+    let race = race_line(alloc, answers.whole, &answers.race)?;
+    let frames = frames_text(frames);
+    let frames = format!(in alloc; "frames {frames}\n")?;
+    out.extend_from_slice(outcomes.as_bytes())?;
+    out.extend_from_slice(stuck.as_bytes())?;
+    out.extend_from_slice(race.as_bytes())?;
+    out.extend_from_slice(frames.as_bytes())?;
+    out.extend_from_slice(end_line(answers.whole).as_bytes())?;
+    Ok(Text::new(out))
+}
+
+/// The lines of everything that can come out of an image's runs, in any order of their turns, where at
+/// most so many worlds are kept. Outcomes have the words at these addresses. The only error is running
+/// out of memory.
+///
+/// Conditions: the image is well formed, the options are valid, and each address lies at least 4 below
+/// 2^32.
+pub fn outcomes_text(
+    alloc: Global,
+    image: &Image,
+    options: &Options,
+    addresses: &[u32],
+    most: u32,
+) -> Result<Text, AllocError>
+    requires image { IsWellFormed image.now }
+    requires valid { IsValid options.now }
+    requires words { All (λ a. a + 4 ≤ 2 ^ 32) addresses.now }
+    ensures { IfOk result (IsAnswersText image.now options.now addresses.now) }
+{
+    well_formed_is_placed();
+    let answers = answers_of(alloc, image, options, addresses, most)?;
+    answers_text(alloc, addresses, &answers, Frames::Unknown)
+}
