@@ -176,7 +176,7 @@ Err(Usage(5)) <- record --turns1 4000001
 Err(Usage(6)) <- record --entry1 0 --vecbase 1
 ";
 
-/// Lists of turns that are refused.
+/// Lists of turns, requirements and words that are refused, and options of `outcomes`.
 pub const NO_ORDERS: &str = "\
 Err(Usage(3)) <- run --order
 Err(Usage(3)) <- run --order 0*1 --order 0*1
@@ -204,4 +204,90 @@ Err(Usage(3)) <- record --order 0*1 --seed 0
 Err(Usage(4)) <- record --order 0*1,1
 Err(Usage(3)) <- trace --order 0*1
 Err(Usage(3)) <- dis --flow --order 0*1
+Err(Usage(4)) <- run --require=
+Err(Usage(4)) <- run --require frames
+Err(Usage(4)) <- run --require Break
+Err(Usage(4)) <- run --require break,
+Err(Usage(4)) <- run --require break,break
+Err(Usage(4)) <- run --require whole,used,whole
+Err(Usage(3)) <- run --require break --require whole
+Err(Usage(3)) <- run --require
+Err(Usage(4)) <- run --memory=
+Err(Usage(4)) <- run --memory 0x3FFB0000
+Err(Usage(4)) <- run --memory 0x3FFB0000:65
+Err(Usage(4)) <- run --memory 0:1:1
+Err(Usage(4)) <- run --memory 0:1,
+Err(Usage(4)) <- run --memory 0:1,0:1,0:1,0:1,0:1
+Err(Usage(4)) <- run --require x --turns0 4000001
+Err(Usage(3)) <- run --require x --seed 1 --order 0
+Err(Usage(3)) <- record --memory 0:1
+Err(Usage(3)) <- outcomes
+Err(Usage(4)) <- outcomes --timed --states 0
+Err(Usage(4)) <- outcomes --timed --states 16000001
+Err(Usage(4)) <- outcomes --timed --word 0x3FFB0002
+Err(Usage(4)) <- outcomes --timed --word 0x400D0000
+Err(Usage(4)) <- outcomes --timed --word 0x3FF40000
+Err(Usage(4)) <- outcomes --timed --word x
+Err(Usage(3)) <- outcomes --timed --word 0x3FFB0000 --word 0x3FFB0000 --word 0x3FFB0000 --word 0x3FFB0000 --word 0x3FFB0000
+Err(Usage(3)) <- outcomes --timed --seed 1
+Err(Usage(3)) <- outcomes --timed --trace
+Err(Usage(5)) <- outcomes --timed --turns0 4000001
+Err(Usage(6)) <- outcomes --timed --entry1 0x3FFB0000
+Err(Usage(7)) <- outcomes --timed --vecbase 1
+Err(Usage(8)) <- outcomes --timed --stack0 0:16
+Err(Usage(3)) <- outcomes --turns0 5
+";
+
+/// The fields of the options of a run that no words give.
+pub const PLAIN: &str = "\
+turns0: 100000
+turns1: 100000
+entry1: None
+vecbase: 1074266112
+stack0: Stack { lo: 1073676288, hi: 1073709056 }
+stack1: Stack { lo: 1073709056, hi: 1073741824 }
+order: Free
+trace: false
+events: false
+race: false
+profile: false
+uses: false
+required: None
+memory: None
+";
+
+/// A command, the fields that these words give (or `-`), an arrow, and the words.
+pub const OPTIONS: &str = "\
+Run - <- run
+Run - <- run --
+Run turns0: 4000000 <- run --turns0 4000000
+Run turns0: 4000000 <- run --turns0=0x3D0900
+Run turns0: 4000000 <- run --turns0 0x003d0900
+Run trace: true <- run --trace
+Run events: true <- run --events
+Run race: true <- run --race
+Run profile: true <- run --profile
+Run uses: true <- run --uses
+Run trace: true; events: true; race: true; profile: true; order: Seeded(4294967295) <- run --profile --seed 4294967295 --trace --race --events
+Run order: Seeded(0) <- run --seed=0x0
+Run turns0: 7; turns1: 0; entry1: Some(1074593792); vecbase: 1074396160; stack0: Stack { lo: 1073405952, hi: 1073406208 }; stack1: Stack { lo: 1073741568, hi: 1073741824 } <- run --stack1 0x3FFFFF00:0x40000000 --stack0 1073405952:0x3ffae100 --vecbase 0x4009FC00 --entry1 0x400D0000 --turns1 0 --turns0 007
+Record - <- record
+Record turns0: 4000000 <- record --turns0 4000000
+Record order: Seeded(0) <- record --seed 0
+Run order: Listed(TurnList { items: [CoreTurns { core: Zero, count: 13 }, CoreTurns { core: One, count: 4 }] }) <- run --order 0*13,1*4
+Run order: Listed(TurnList { items: [CoreTurns { core: One, count: 16 }, CoreTurns { core: Zero, count: 0 }, CoreTurns { core: One, count: 7 }] }) <- run --order=0x1*0x10,00*0,1*007
+Run order: Listed(TurnList { items: [CoreTurns { core: Zero, count: 4000000 }, CoreTurns { core: One, count: 4000000 }] }) <- run --order 0*4000000,1*4000000
+Run order: Listed(TurnList { items: [CoreTurns { core: One, count: 8000000 }] }) <- run --order 1*8000000
+Record order: Listed(TurnList { items: [CoreTurns { core: One, count: 2 }, CoreTurns { core: Zero, count: 3 }] }) <- record --order 1*2,0*3
+Run required: Some(Requirements { items: [Break] }) <- run --require break
+Run required: Some(Requirements { items: [RaceFree, Whole, Used, Break] }) <- run --require race-free,whole,used,break
+Record required: Some(Requirements { items: [Whole] }) <- record --require whole
+Run memory: Some(Spans { items: [Span { addr: 1073414144, count: 64 }] }) <- run --memory 0x3FFB0000:64
+Run memory: Some(Spans { items: [Span { addr: 0, count: 0 }, Span { addr: 1, count: 1 }, Span { addr: 4294967295, count: 2 }, Span { addr: 4294967295, count: 3 }] }) <- run --memory 0:0,1:0x1,4294967295:2,0xFFFFFFFF:3
+";
+
+/// The fields of a run, the other options of `outcomes`, an arrow, and the words.
+pub const OUTCOMES: &str = "\
+- | timed: true, words: WordList { items: [] }, states: 1000000 <- outcomes --timed
+turns0: 5 | timed: true, words: WordList { items: [1073414144, 1073414148] }, states: 16000000 <- outcomes --turns0 5 --timed --word 0x3FFB0000 --word 0x3FFB0004 --states 16000000
 ";
