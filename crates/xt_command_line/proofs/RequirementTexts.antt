@@ -1,5 +1,5 @@
 -- The requirements that texts list.
-use Rattle.std.proofs.Common.{◌≡◌, ℕ, Bool, true, false, List, [], ◌∷◌, ◌++◌, Option, Some, None, refl}
+use Rattle.std.proofs.Common.{◌≡◌, false, List, [], ◌∷◌, ◌++◌, Some, None, refl}
 use Rattle.clap.specs.Words.{Text}
 use Rattle.xt_command_line.specs.Requirements.{added, all_from, is_among, requirement_of}
 use Rattle.xt_command_line.specs.declared.requirements.Requirement.{Requirement}

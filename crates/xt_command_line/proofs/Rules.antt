@@ -30,7 +30,6 @@ use Rattle.xt_command_line.specs.declared.command.Name.TheVariants as name
 use Rattle.xt_command_line.specs.declared.command.Openings.{Openings}
 use Rattle.xt_command_line.specs.declared.command.Refusal.{Refusal}
 use Rattle.xt_command_line.specs.declared.command.Refusal.TheVariants as refusal
-use Rattle.xt_command_line.specs.declared.command.Way.{Way}
 use Rattle.xt_command_line.specs.declared.command.Way.TheVariants as way
 use Rattle.xt_command_line.specs.declared.options.RunOptions.{RunOptions}
 use Rattle.xt_command_line.specs.declared.requirements.Requirement.{Requirement}
@@ -177,7 +176,8 @@ outcomes_by-answers None = λ e. search (rules, e)
 outcomes_by-answers (Some rows) =
     let t = texts_of rows in
     outcomes_if-answers _ _ (outcomes_with-answers (places_of (word_texts rows)) (said_or states_of 1000000 (first_of (codes "states") rows)) (judged_texts t)
-    (judged_with-answers t (order_in t.seed t.order) (order-answers t.seed t.order)))
+    (judged_with-answers t (order_in t.seed t.order) (required_in t.require) (shown_in t.memory)
+    (order-answers t.seed t.order) (required-answers t.require) (shown-answers t.memory)))
 
 without_options-answers : (c : Command) (rows : Option (List Row)) → without_options c rows ≢ Err refusal.Memory
 without_options-answers c None = λ e. search (rules, e)

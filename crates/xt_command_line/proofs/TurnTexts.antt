@@ -1,5 +1,5 @@
 -- The turns that texts list, the turns that they ask for, and the list of cores.
-use Rattle.std.proofs.Common.{◌≡◌, ◌≤◌, ◌<◌, ◌-◌, ◌+◌, ℕ, Bool, true, false, List, [], ◌∷◌, ◌++◌, Bor, length, take, Option, Some, None, arith, refl, sym, ap, ◌∙◌, append_assoc, append-nil}
+use Rattle.std.proofs.Common.{◌≡◌, ◌≤◌, ◌<◌, ◌-◌, ◌+◌, ℕ, false, List, [], ◌∷◌, ◌++◌, Bor, length, take, Option, Some, None, arith, refl, sym, ap, ◌∙◌, append_assoc, append-nil}
 use Rattle.std.specs.Prelude.{◌==◌, All, nat_le, replicate}
 use Rattle.std.proofs.lemmas.Bool.Decides.{nat_tests}
 use Rattle.std.proofs.lemmas.List.{drop_all, take_all}
@@ -7,7 +7,7 @@ use Rattle.std.proofs.lemmas.List.Elements.{All-append, All-nil, All-replicate}
 use Rattle.std.proofs.lemmas.Str.Pattern.{IsSplitOnceResult, split_once_first}
 use Rattle.std.specs.List.{position_or_len, before_first, after_first}
 use Rattle.xt_command_line.specs.Numbers.{number_of}
-use Rattle.xt_command_line.specs.TurnOrders.{all_turns, and_all, are_few, asked, core_of, cores_of, number_of_core, star, turns_by, turns_of}
+use Rattle.xt_command_line.specs.TurnOrders.{and_all, core_of, cores_of, number_of_core, star, turns_by, turns_of}
 use Rattle.xt_command_line.specs.declared.turn_orders.CoreTurns.{CoreTurns}
 use Rattle.xt_command_line.specs.declared.turn_orders.Which.{Which}
 use Rattle.xt_command_line.specs.declared.turn_orders.Which.TheVariants as which

@@ -3,10 +3,10 @@
 -- Profile: an order is looked at with the turns that the options give to each core, so `--timed` has
 -- to stand there. A fifth word does not match what the command takes; a word that is no aligned
 -- address of memory, and a number of worlds that is none, or too many, is no number of its option.
-use Rattle.std.specs.Prelude.{◌≡◌, ◌≤◌, ℕ, ◌+◌, ◌%◌, ◌^◌, Bool, true, false, ◌==◌, ◌&&◌, nat_le, All}
+use Rattle.std.specs.Prelude.{◌≤◌, ℕ, ◌+◌, ◌%◌, ◌^◌, Bool, true, ◌==◌, ◌&&◌, nat_le, All}
 use Rattle.std.specs.Prelude.{List, [], ◌∷◌, fold, length, Option, Some, None, unwrap_or, Result, Ok}
 use Rattle.std.specs.Prelude.{Err, if◌then◌else◌, codes, option_and_then}
-use Rattle.clap.specs.Words.{App, Row, Rule, Text, all_of, first_of, new_app, with_rule}
+use Rattle.clap.specs.Words.{App, Row, Text, all_of, first_of, new_app, with_rule}
 use Rattle.clap.specs.declared.builder.action.ArgAction.TheVariants.{Append}
 use Rattle.xt_map.specs.Regions.{region_of, is_memory}
 use Rattle.xt_command_line.specs.Numbers.{number_of}

@@ -2,7 +2,6 @@
 use Rattle.std.proofs.Common.{◌≡◌, drop}
 use Rattle.std.specs.Prelude.{nat_le}
 use Rattle.xt_command_line.specs.TurnOrders.{are_few, asked}
-use Rattle.xt_command_line.proofs.TurnTexts.{one_less, too_many}
 use Rattle.xt_command_line.proofs.turn_orders.are_few.Given as goal
 
 abbrev pub invariant-loop-turns : goal.invariant-loop-turns
