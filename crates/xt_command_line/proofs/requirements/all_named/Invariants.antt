@@ -1,7 +1,7 @@
 -- What the other texts make of what was read is what all texts make.
 use Rattle.std.proofs.Common.{◌≡◌, [], Some, map, drop}
 use Rattle.xt_command_line.specs.Requirements.{all_from}
-use Rattle.xt_command_line.proofs.RequirementTexts.{no_more, one_more}
+use Rattle.xt_command_line.proofs.RequirementTexts.{one_more}
 use Rattle.xt_command_line.proofs.requirements.all_named.Given as goal
 
 abbrev pub invariant-loop-part : goal.invariant-loop-part
