@@ -1,17 +1,19 @@
 -- A walk over bytes, line by line of a text.
 use Rattle.std.proofs.Common.{◌≡◌, ℕ, zero, suc, ◌+◌, ◌-◌, ◌*◌, ◌/◌, ◌%◌, ◌<◌, ◌≤◌, Bool, true, false, List, [], ◌∷◌, ◌++◌, length, drop, Option, Some, None, refl, sym, ap, ◌∙◌, append_assoc, length-drop, arith}
 use mathlib.Core.List.{append-nil}
-use Rattle.std.specs.Prelude.{if◌then◌else◌, min}
+use Rattle.std.specs.Prelude.{if◌then◌else◌, nat_le, IfOk, Result, Ok, Err}
 use Rattle.std.specs.Option.{option_map_or}
 use Rattle.std.proofs.lemmas.Bool.{leb-true}
 use Rattle.xt_isa.specs.declared.Insn.{Insn}
 use Rattle.xt_isa.specs.Spelling.{within}
 use Rattle.xt_map.specs.declared.segment.Segment.{Segment}
+use Rattle.xt_image.specs.declared.image.Image.{Image}
 use Rattle.xt_disasm.specs.Listing.{byte_at, front, front_length, wanted}
-use Rattle.xt_flow.specs.Kept.{code_reading, marks_of}
-use Rattle.xt_flow.specs.Sources.{Reading, data_count, is_gap, lines_of, numbers, source_line, source_lines, zero_words}
+use Rattle.xt_flow.specs.Kept.{IsVisited, code_reading, marks_of}
+use Rattle.xt_flow.specs.Sources.{IsFlowSource, Reading, data_count, is_gap, lines_of, numbers, source_by, source_line, source_lines, zero_words}
 use Rattle.xt_flow.specs.declared.visits.Visited.{Visited}
 use Rattle.xt_flow.proofs.Walks.{shown-positive}
+use Rattle.xt_flow.proofs.Words.{marks_are_right}
 
 -- each line of a reading shows at least one byte
 abbrev pub Shows : Reading → Type 0
@@ -32,14 +34,14 @@ pub code_shows : (segments : List Segment) (o : Option Visited) → Shows (code_
 code_shows segments None = λ a bytes some. front_length-positive bytes
 code_shows segments (Some v) = λ a bytes some. shown-positive (marks_of segments v.starts.items v.reads.items) a bytes some
 
-gap_or : (b : Bool) (z n : ℕ) → (b ≡ true → 8 ≤ z) → 0 < n → 0 < (if b then z else min 4 n)
-gap_or true z n gap some = (let eight = gap refl in omega arith)
-gap_or false zero n gap some = (let few = some in omega arith)
-gap_or false (suc z) n gap some = (let few = some in omega arith)
+gap_or : (b q : Bool) (z n : ℕ) → (b ≡ true → 8 ≤ z) → 0 < n → 0 < (if b then z else (if q then 4 else n))
+gap_or true q z n gap some = (let eight = gap refl in omega arith)
+gap_or false true z n gap some = omega arith
+gap_or false false z n gap some = some
 
 pub numbers_show : Shows numbers
 unfolding data_count
-numbers_show a bytes some = gap_or (is_gap bytes) (zero_words bytes) (length bytes) (λ h. leb-true 8 (zero_words bytes) h) some
+numbers_show a bytes some = gap_or (is_gap bytes) (nat_le 4 (length bytes)) (zero_words bytes) (length bytes) (λ h. leb-true 8 (zero_words bytes) h) some
 
 fewer : (k n : ℕ) (b : ℕ) (bytes : List ℕ) → 0 < k → length (b ∷ bytes) ≤ suc n → length (drop k (b ∷ bytes)) ≤ n
 fewer k n b bytes some enough = let len = length-drop k (b ∷ bytes) in omega arith
@@ -83,3 +85,10 @@ pub no_line_left : (r : Reading) (old whole : List ℕ) (a : ℕ) (bytes : List 
 unfolding source_lines
 no_line_left r old whole a [] none so_far = sym (append-nil old) ∙ so_far
 no_line_left r old whole a (b ∷ bytes) none so_far = absurd (omega arith)
+
+-- the text by the two tables
+pub source_is_right : {E : Type 0} (image : Image) (vecbase entry1 : ℕ) (v : Visited) (text : Result (List ℕ) E) → IsVisited image vecbase entry1 v.starts.items v.reads.items
+    → IfOk text (λ t. t ≡ source_by (code_reading image.segments (Some v)) image) → IfOk text (λ t. IsFlowSource image vecbase entry1 t)
+source_is_right image vecbase entry1 v (Ok t) visited is =
+    (marks_of image.segments v.starts.items v.reads.items, (marks_are_right image vecbase entry1 v.starts.items v.reads.items visited, is))
+source_is_right image vecbase entry1 v (Err e) visited is = tt

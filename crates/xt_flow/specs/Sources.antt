@@ -4,9 +4,9 @@
 -- and so are those of an instruction inside which another one starts. A segment that holds no code
 -- is printed as words, and words of zeros as one space; padding, which is loaded nowhere, is a
 -- comment.
-use Rattle.std.specs.Prelude.{◌≡◌, ℕ, zero, suc, ◌+◌, ◌*◌, ◌/◌, Bool, ◌==◌, nat_le, min}
+use Rattle.std.specs.Prelude.{◌≡◌, ℕ, zero, suc, ◌+◌, ◌*◌, ◌/◌, Bool, ◌==◌, nat_le}
 use Rattle.std.specs.Prelude.{if◌then◌else◌, List, [], ◌∷◌, ◌++◌, length, take, drop, codes}
-use Rattle.std.specs.List.{concat, enumerate_from, flat_map}
+use Rattle.std.specs.List.{concat, enumerate_from, flat_map, prefix_len}
 use Rattle.std.specs.Option.{option_map_or}
 use Rattle.std.specs.Fmt.{decimal}
 use Rattle.xt_map.specs.Memory.{is_loaded, little_endian}
@@ -77,14 +77,9 @@ flow_words m a bytes =
 abbrev pub followed : Marks → Reading
 followed m = record { words = flow_words m; count = shown m }
 
--- how many zero bytes come first
-abbrev pub zeros : List ℕ → ℕ
-zeros [] = 0
-zeros (b ∷ bytes) = if b == 0 then suc (zeros bytes) else 0
-
--- how many words of zeros come first, in bytes
+-- how many bytes are in the words of zeros that come first
 abbrev pub zero_words : List ℕ → ℕ
-zero_words bytes = zeros bytes / 4 * 4
+zero_words bytes = prefix_len (λ b. b == 0) bytes / 4 * 4
 
 -- two words of zeros or more are printed as one space
 abbrev pub is_gap : List ℕ → Bool
@@ -96,7 +91,9 @@ data_words bytes =
     else (if nat_le 4 (length bytes) then word_words (take 4 bytes) else byte_words bytes)
 
 unfoldable pub data_count : List ℕ → ℕ
-data_count bytes = if is_gap bytes then zero_words bytes else min 4 (length bytes)
+data_count bytes =
+    if is_gap bytes then zero_words bytes
+    else (if nat_le 4 (length bytes) then 4 else length bytes)
 
 -- a segment that holds no code
 abbrev pub numbers : Reading
@@ -104,11 +101,17 @@ numbers = record { words = λ a bytes. data_words bytes; count = λ a bytes. dat
 
 -- ---- an image
 
--- `.seg 0xXXXXXXXX` and the segment's line as a comment, which is all that padding has
+-- `.seg 0xXXXXXXXX `; padding has none
+abbrev pub seg_words : Segment → List ℕ
+seg_words s = if is_loaded s then concat (codes ".seg 0x" ∷ hex8 s.addr ∷ codes " " ∷ []) else []
+
+-- that, and the segment's line as a comment
 abbrev pub seg_line : ℕ → Segment → List ℕ
-seg_line i s =
-    (if is_loaded s then codes ".seg 0x" ++ (hex8 s.addr ++ codes " ") else [])
-    ++ (codes "# " ++ segment_line i s)
+seg_line i s = concat (seg_words s ∷ codes "# " ∷ segment_line i s ∷ [])
+
+-- `.entry 0xXXXXXXXX`
+abbrev pub entry_line : ℕ → List ℕ
+entry_line entry = concat (codes ".entry 0x" ∷ hex8 entry ∷ newline ∷ [])
 
 -- the lines of a segment's bytes, by the reading of code
 abbrev pub body_of : Reading → Segment → List ℕ
@@ -119,11 +122,10 @@ body_of code s =
 abbrev pub segment_source : Reading → ℕ × Segment → List ℕ
 segment_source code (i, s) = seg_line i s ++ body_of code s
 
--- `.entry 0xXXXXXXXX`, and the segments in file order, counted from 0
+-- the entry, and the segments in file order, counted from 0
 unfoldable pub source_by : Reading → Image → List ℕ
 source_by code image =
-    (codes ".entry 0x" ++ (hex8 image.entry ++ newline))
-    ++ flat_map (segment_source code) (enumerate_from 0 image.segments)
+    entry_line image.entry ++ flat_map (segment_source code) (enumerate_from 0 image.segments)
 
 -- the text is that of the marks that are right
 abbrev pub IsFlowSource : Image → ℕ → ℕ → List ℕ → Type 0

@@ -1,9 +1,10 @@
 //! The lines of a segment that holds no code.
 #![tactic(auto)]
 
-ghost use Rattle.std.specs.Prelude.{◌≡◌, ◌++◌, ◌+◌, ◌<◌, ◌≤◌, ◌^◌, IfOk, OnOk, codes, length, string_bytes};
+ghost use Rattle.std.specs.Prelude.{◌≡◌, ◌++◌, ◌+◌, ◌<◌, ◌≤◌, ◌^◌, ◌==◌, IfOk, OnOk, codes, length, string_bytes};
+ghost use Rattle.std.specs.List.{prefix_len};
 ghost use Rattle.xt_word.specs.Hexadecimal.{hex8};
-ghost use Rattle.xt_flow.specs.Sources.{byte_words, data_count, data_words, numbers, source_line, source_lines, space_words, word_words, zero_words, zeros};
+ghost use Rattle.xt_flow.specs.Sources.{byte_words, data_count, data_words, numbers, source_line, source_lines, space_words, word_words, zero_words};
 
 use crate::listing::{push_list, word_of};
 use std::alloc::{AllocError, Global};
@@ -59,15 +60,18 @@ pub fn space_words(alloc: Global, count: usize) -> Result<String, AllocError>
 
 /// How many zero bytes come first.
 fn zeros(bytes: &[u8]) -> usize
-    ensures is { result ≡ zeros bytes.now }
+    ensures is { result ≡ prefix_len (λ b. b == 0) bytes.now }
     ensures few { result ≤ length bytes.now }
 {
-    for k in 0..bytes.len() {
-        if bytes[k] != 0 {
-            return k;
-        }
-    }
-    bytes.len()
+    bytes.iter().take_while(|byte| **byte == 0).count()
+}
+
+/// How many bytes are in the words of zeros that come first.
+fn zero_words(bytes: &[u8]) -> usize
+    ensures is { result ≡ zero_words bytes.now }
+    ensures few { result ≤ length bytes.now }
+{
+    zeros(bytes) / 4 * 4
 }
 
 /// The words of the first line of the bytes, and how many of them it shows.
@@ -78,9 +82,9 @@ fn data_words(alloc: Global, bytes: &[u8]) -> Result<(String, usize), AllocError
     ensures count { IfOk result (λ r. r.1 ≡ data_count bytes.now) }
     ensures few { IfOk result (λ r. (0 < r.1) × (r.1 ≤ length bytes.now)) }
 {
-    let zero_words = zeros(bytes) / 4 * 4;
-    if zero_words >= 8 {
-        return Ok((space_words(alloc, zero_words)?, zero_words));
+    let zeros = zero_words(bytes);
+    if zeros >= 8 {
+        return Ok((space_words(alloc, zeros)?, zeros));
     }
     if bytes.len() >= 4 {
         return Ok((word_words(alloc, &bytes[..4])?, 4));

@@ -10,7 +10,7 @@ ghost use Rattle.xt_disasm.specs.Fronts.{IsFront};
 ghost use Rattle.xt_disasm.specs.Listing.{byte_at, front_length, newline};
 ghost use Rattle.xt_flow.specs.Kept.{code_reading, is_marked, marks_of};
 ghost use Rattle.xt_flow.specs.Printing.{is_word, shown, start_count};
-ghost use Rattle.xt_flow.specs.Sources.{IsFlowSource, body_of, flow_words, followed, front_words, seg_line, segment_source, source_by, source_line, source_lines, start_words, swept};
+ghost use Rattle.xt_flow.specs.Sources.{IsFlowSource, body_of, entry_line, flow_words, followed, front_words, seg_line, seg_words, segment_source, source_by, source_line, source_lines, start_words, swept};
 
 use crate::listing::{byte_run, is_word, to_next, zero_run};
 use crate::numbers::{byte_words, push_numbers, push_source_line, space_words, word_words};
@@ -64,6 +64,19 @@ fn push_front(alloc: Global, out: &mut Vec<u8>, at: u32, bytes: &[u8]) -> Result
     }
 }
 
+/// How many bytes the instruction has that they begin with, or 1 if they begin with none.
+fn front_length(bytes: &[u8]) -> usize
+    requires { 0 < length bytes.now }
+    ensures is { result ≡ front_length bytes.now }
+    ensures some { 0 < result }
+    ensures few { result ≤ length bytes.now }
+{
+    match front(bytes) {
+        Some((_, len)) => len,
+        None => 1,
+    }
+}
+
 /// Appends the line of the bytes where an instruction starts, and answers how many of them it shows.
 fn push_start(
     alloc: Global,
@@ -79,10 +92,7 @@ fn push_start(
     ensures few { IfOk result (λ n. (0 < n) × (n ≤ length bytes.now)) }
     ensures text { OnOk result (out.new.items ≡ out.old.items ++ source_line at (start_words (marks_of segments.now visited.now.starts.items visited.now.reads.items) at bytes.now)) }
 {
-    let len = match front(bytes) {
-        Some((_, len)) => len,
-        None => 1,
-    };
+    let len = front_length(bytes);
     let shown = 1 + to_next(&visited.starts, at + 1, len - 1);
     if shown == len {
         return push_front(alloc, out, at, bytes);
@@ -186,6 +196,20 @@ fn push_code(
     Ok(())
 }
 
+/// `.seg` with the address of a segment; nothing for padding.
+fn seg_words(alloc: Global, segment: &Segment) -> Result<String, AllocError>
+    ensures { IfOk result (λ words. string_bytes words ≡ seg_words segment.now) }
+{
+    let mut words = String::new(alloc);
+    if !is_segment_loaded(segment) {
+        return Ok(words);
+    }
+    words.push_str(".seg 0x")?;
+    push_hex8(&mut words, segment.addr)?;
+    words.push_str(" ")?;
+    Ok(words)
+}
+
 /// Appends where a segment begins: `.seg` with its address, and its line as a comment, which is all that padding has.
 fn push_seg(
     alloc: Global,
@@ -195,12 +219,7 @@ fn push_seg(
 ) -> Result<(), AllocError>
     ensures { OnOk result (out.new.items ≡ out.old.items ++ seg_line number segment.now) }
 {
-    let mut line = String::new(alloc);
-    if is_segment_loaded(segment) {
-        line.push_str(".seg 0x")?;
-        push_hex8(&mut line, segment.addr)?;
-        line.push_str(" ")?;
-    }
+    let mut line = seg_words(alloc, segment)?;
     line.push_str("# ")?;
     push_segment_line(&mut line, number, segment)?;
     out.extend_from_slice(line.as_bytes())
@@ -245,7 +264,7 @@ fn push_segment(
 
 /// The line of the entry, with which the text begins.
 fn entry_line(alloc: Global, entry: u32) -> Result<Vec<u8>, AllocError>
-    ensures { IfOk result (λ line. line.items ≡ codes ".entry 0x" ++ (hex8 entry ++ newline)) }
+    ensures { IfOk result (λ line. line.items ≡ entry_line entry) }
 {
     let mut line = String::new(alloc);
     line.push_str(".entry 0x")?;
