@@ -46,7 +46,7 @@ memory t o e whole line s w unmet is none no_line (analyses, has) =
     let P : Status → Type 0 = λ x. Runs t o e x None None in
     let Q : Option Whole → Type 0 = λ x. Runs t o e s x None in
     let R : Option (List ℕ) → Type 0 = λ x. Runs t o e s w x in
-    subst R (sym no_line) (subst Q (sym none) (subst P (sym is) (taken_within image_limit e has.input has.taken has.within, inr (whole, (line, (analyses, has))))))
+    subst R (sym no_line) (subst Q (sym none) (subst P (sym is) (taken_within image_limit e has.input has.taken has.within, inr (whole, line, (analyses, has)))))
 
 pub done : (t : Wanted) (o : RunOptions) (e : Ends) (w : Whole) (unmet : Option (List ℕ)) (s : Status) → s ≡ status.Done
     → HasRun t o e w unmet (Appends e.told e.told_after) → Runs t o e s (Some w) unmet

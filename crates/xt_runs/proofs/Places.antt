@@ -1,6 +1,6 @@
 -- The lines of the places of memory, one by one, and the end of a run.
 use Rattle.std.proofs.Common.{◌≡◌, ◌<◌, ◌≤◌, ◌+◌, ℕ, List, ◌++◌, length, drop, get_or, Result, Ok, Err, arith, sym, ap, ◌∙◌, append_assoc}
-use Rattle.std.specs.Prelude.{MatchResult, Unit}
+use Rattle.std.specs.Prelude.{MatchResult}
 use Rattle.std.specs.List.{flat_map}
 use Rattle.std.proofs.lemmas.List.{drop_more}
 use Rattle.xt_image.specs.declared.image.Image.{Image}
@@ -11,13 +11,12 @@ use Rattle.xt_command_line.specs.declared.spans.Span.{Span}
 use Rattle.xt_runs.specs.Memory.{shown_last}
 
 -- a line more
-pub line_more : (f : Span → List ℕ) (old new whole : List ℕ) (k : ℕ) (spans : List Span) (s : Span) → k < length spans → s ≡ get_or spans k s
-    → new ≡ old ++ f s → old ++ flat_map f (drop k spans) ≡ whole → new ++ flat_map f (drop (k + 1) spans) ≡ whole
-line_more f old new whole k spans s here is printed so_far =
+pub line_more : (f : Span → List ℕ) (old new whole : List ℕ) (k : ℕ) (spans : List Span) (d : Span) → k < length spans
+    → new ≡ old ++ f (get_or spans k d) → old ++ flat_map f (drop k spans) ≡ whole → new ++ flat_map f (drop (k + 1) spans) ≡ whole
+line_more f old new whole k spans d here printed so_far =
     ap (λ t. t ++ flat_map f (drop (k + 1) spans)) printed
-    ∙ append_assoc old (f s) (flat_map f (drop (k + 1) spans))
-    ∙ ap (λ x. old ++ (f x ++ flat_map f (drop (k + 1) spans))) is
-    ∙ ap (λ xs. old ++ flat_map f xs) (sym (drop_more spans k s here))
+    ∙ append_assoc old (f (get_or spans k d)) (flat_map f (drop (k + 1) spans))
+    ∙ ap (λ xs. old ++ flat_map f xs) (sym (drop_more spans k d here))
     ∙ so_far
 
 -- a replay that was told to stand at the end stands there

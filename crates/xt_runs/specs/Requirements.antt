@@ -4,6 +4,7 @@
 -- what it asks of uses or races is looked for if it is asked for.
 use Rattle.std.specs.Prelude.{◌≡◌, ℕ, nat_lt, Bool, false, if◌then◌else◌, Option, Some, None, List}
 use Rattle.std.specs.Prelude.{[], ◌∷◌, ◌++◌, codes}
+use Rattle.std.specs.List.{concat}
 use Rattle.std.specs.Fmt.{decimal}
 use Rattle.xt_image.specs.declared.image.Image.{Image}
 use Rattle.xt_trace.specs.declared.run.Run.{Run}
@@ -63,7 +64,8 @@ unmet_used (uses.Broken first) =
 abbrev pub unmet_race : Option Race → Option (List ℕ)
 unmet_race None = None
 unmet_race (Some r) =
-    Some (codes "race " ++ decimal r.first ++ codes " " ++ decimal r.second ++ codes "\n")
+    Some (concat
+    (codes "race " ∷ decimal r.first ∷ codes " " ∷ decimal r.second ∷ codes "\n" ∷ []))
 
 -- ---- a list of requirements
 
