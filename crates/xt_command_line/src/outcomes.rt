@@ -1,12 +1,15 @@
 //! The words of `outcomes`.
-ghost use Rattle.std.specs.Prelude.{◌≡◌, ◌+◌, ◌≤◌, ◌^◌, All, true, IfOk, IfSome, map, string_bytes, option_map, unwrap_or, []};
+ghost use Rattle.std.specs.Prelude.{◌≡◌, ◌+◌, ◌≤◌, ◌^◌, All, true, IfOk, IfSome, length, map, nat_le, string_bytes, option_map, unwrap_or, []};
 ghost use Rattle.xt_command_line.specs.Answers.{Means};
-ghost use Rattle.xt_command_line.specs.Options.{AreValid, said_or};
-ghost use Rattle.xt_command_line.specs.Outcomes.{AreOutcomeOptions, is_place, outcomes_by, outcomes_in, outcomes_of, outcomes_with, place_of, places_of, states_of, word_texts};
+ghost use Rattle.xt_command_line.specs.Options.{judged_texts, said_or};
+ghost use Rattle.xt_command_line.specs.Views.{texts_in};
+ghost use Rattle.xt_command_line.specs.Outcomes.{AreOutcomeOptions, is_place, most_words, outcomes_of, outcomes_with, place_of, places_of, states_of};
 
 use crate::command::Refusal;
 use crate::numbers::number;
-use crate::option_commands::{is_true, outcomes_matches, text_of, texts_from, texts_under};
+use crate::option_commands::{
+    OptionTexts, is_true, outcomes_matches, text_of, texts_from, texts_under,
+};
 use crate::option_words::judged_texts;
 use crate::options::RunOptions;
 use std::alloc::{AllocError, Global};
@@ -113,26 +116,53 @@ fn states_or(text: Option<&str>, default: u32) -> Option<u32>
     }
 }
 
-// The options with these addresses and so many worlds, where they are there.
-fn outcomes_with(
-    words: Option<WordList>,
-    states: Option<u32>,
-    run: Result<RunOptions, Refusal>,
+// Whether these are no more texts than an outcome can have words.
+fn are_few(texts: Option<&[&str]>) -> bool
+    ensures { result ≡ nat_le (length (unwrap_or (option_map (λ s. map (λ t. t.now) s.now) texts.entry) [])) most_words }
+{
+    match texts {
+        Some(texts) => texts.len() <= MOST_WORDS,
+        None => true,
+    }
+}
+
+// The addresses of these texts, each of which has to say one.
+fn places_under(
+    alloc: Global,
+    texts: Option<&[&str]>,
+) -> Result<Option<WordList>, AllocError>
+    ensures places { IfOk result (λ list. list ≡ places_of (unwrap_or (option_map (λ s. map (λ t. t.now) s.now) texts.entry) [])) }
+    ensures low { IfOk result (λ list. IfSome list (λ words. All (λ a. a + 4 ≤ 2 ^ 32) words)) }
+{
+    match texts {
+        Some(texts) => places_of(alloc, texts),
+        None => Ok(Some(WordList::new(Vec::new(alloc)))),
+    }
+}
+
+// The options that the texts of `--word` and `--states` and those of a run say, or the first rule of usage that they
+// break.
+fn options_with(
+    alloc: Global,
+    words: Option<&[&str]>,
+    states: Option<&str>,
+    run: OptionTexts<'_>,
 ) -> Result<OutcomeOptions, Refusal>
-    requires low { IfSome words (λ list. All (λ a. a + 4 ≤ 2 ^ 32) list) }
-    requires valid { IfOk run AreValid }
-    ensures means { result ≡ outcomes_with words states run }
+    ensures means { Means result (outcomes_with (places_of (unwrap_or (option_map (λ s. map (λ t. t.now) s.now) words.entry) [])) (said_or states_of 1000000 (option_map (λ t. t.now) states.entry)) (judged_texts (texts_in run.entry))) }
     ensures valid { IfOk result AreOutcomeOptions }
 {
-    match (words, states, run) {
-        (Some(words), Some(states), Ok(run)) => Ok(OutcomeOptions {
-            run,
-            timed: true,
-            words,
-            states,
-        }),
-        (Some(_), Some(_), Err(refusal)) => Err(refusal),
-        (_, _, _) => Err(Refusal::Usage(4)),
+    let places = places_under(alloc, words)?;
+    match (places, states_or(states, DEFAULT_STATES)) {
+        (Some(words), Some(states)) => {
+            let run = judged_texts(alloc, run)?;
+            Ok(OutcomeOptions {
+                run,
+                timed: true,
+                words,
+                states,
+            })
+        }
+        (_, _) => Err(Refusal::Usage(4)),
     }
 }
 
@@ -149,11 +179,10 @@ pub fn outcomes_options(alloc: Global, words: &[String]) -> Result<OutcomeOption
     ensures valid { IfOk result AreOutcomeOptions }
 {
     let matches = outcomes_matches(alloc, words)?;
-    let texts = texts_under(&matches, "word").unwrap_or(&[]);
-    if !is_true(text_of(&matches, "timed")) || texts.len() > MOST_WORDS {
+    let places = texts_under(&matches, "word");
+    if !is_true(text_of(&matches, "timed")) || !are_few(places) {
         return Err(Refusal::Usage(3));
     }
-    let places = places_of(alloc, texts)?;
-    let states = states_or(text_of(&matches, "states"), DEFAULT_STATES);
-    outcomes_with(places, states, judged_texts(alloc, texts_from(&matches)))
+    let states = text_of(&matches, "states");
+    options_with(alloc, places, states, texts_from(&matches))
 }
