@@ -6,9 +6,16 @@ use Rattle.std.specs.Fmt.{decimal}
 use Rattle.xt_word.specs.Hexadecimal.{hex8}
 use Rattle.xt_trace.specs.declared.options.Options.{Options}
 use Rattle.xt_trace.specs.declared.trace.Stop.{Stop}
+use Rattle.xt_trace.specs.Walks.{next_record}
+use Rattle.xt_trace.specs.Worlds.{Core, Line, World}
 use Rattle.xt_image.specs.declared.image.Image.{Image}
+use Rattle.xt_exec.specs.Chips.{processor}
+use Rattle.xt_exec.specs.State.{State}
+use Rattle.xt_core.specs.Runs.{code_of, opening_of}
+use Rattle.xt_events.specs.Lines.{unmoved_text}
 use Rattle.xt_report.specs.Reports.{newline, stop_text, uart_lines}
 use Rattle.xt_outcomes.specs.Answered.{AreAnswers}
+use Rattle.xt_outcomes.specs.Orders.{timed_world_after}
 use Rattle.xt_outcomes.specs.declared.answers.Answers.{Answers}
 use Rattle.xt_outcomes.specs.declared.listing.Found.{Found}
 use Rattle.xt_outcomes.specs.declared.races.NextRace.{NextRace}
@@ -72,6 +79,24 @@ abbrev pub end_line : Bool → List ℕ
 end_line true = codes "all\n"
 end_line false = codes "some states\n"
 
+-- the line that `trace` prints of a core's next turn, which moves no window if it makes an access
+abbrev pub next_line : (ℕ → ℕ) → ℕ → Core State → Line → List ℕ
+next_line code core k b =
+    unmoved_text code core (length k.records) (next_record (processor code) k b)
+
+-- those of both cores after an order
+abbrev pub lines_in : (ℕ → ℕ) → World State → List ℕ
+lines_in code w = next_line code 0 w.core0 w.line ++ next_line code 1 w.core1 w.line
+
+abbrev pub lines_after : Image → Options → List ℕ → List ℕ
+lines_after image o order =
+    lines_in (code_of image)
+    (timed_world_after (processor (code_of image)) (opening_of image o) order)
+
+abbrev pub access_lines : Image → Options → Option NextRace → List ℕ
+access_lines image o None = []
+access_lines image o (Some r) = lines_after image o r.order.items
+
 abbrev pub order_of : Option NextRace → Option (List ℕ)
 order_of None = None
 order_of (Some r) = Some r.order.items
@@ -97,4 +122,5 @@ answers_text addresses a accesses f = concat (
 pub record IsAnswersText (image : Image) (o : Options) (addresses text : List ℕ) : Type 0 where
   pub answers : Answers
   pub are : AreAnswers image o addresses answers
-  pub text_is : text ≡ answers_text addresses answers [] frames.Unknown
+  pub text_is : text
+      ≡ answers_text addresses answers (access_lines image o answers.race) frames.Unknown

@@ -63,7 +63,8 @@ fn push_sent(alloc: Global, out: &mut Vec<u8>, sent: &[u8]) -> Result<(), AllocE
     let head = format!(in alloc; "uart {count}\n")?;
     out.extend_from_slice(head.as_bytes())?;
     out.extend_from_slice(sent)?;
-    out.push(b'\n')
+    out.push(b'\n')?;
+    Ok(())
 }
 
 // The line of an order.

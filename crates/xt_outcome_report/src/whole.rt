@@ -1,10 +1,13 @@
 //! The text of everything that can come out.
-ghost use Rattle.std.specs.Prelude.{◌≡◌, ◌+◌, ◌≤◌, ◌^◌, ◌++◌, IfOk, OnOk, string_bytes, flat_map, option_map};
+ghost use Rattle.std.specs.Prelude.{◌≡◌, ◌+◌, ◌≤◌, ◌^◌, ◌++◌, IfOk, IfSome, OnOk, string_bytes, flat_map, option_map};
 ghost use Rattle.std.specs.List.{All};
 ghost use Rattle.xt_trace.specs.Validity.{IsValid};
 ghost use Rattle.xt_image.specs.Parts.{IsWellFormed};
-ghost use Rattle.xt_outcome_report.specs.Texts.{IsAnswersText, answers_text, end_line, frames_line, frames_text, none_text, outcome_text, race_lines, stuck_line, stuck_text};
+ghost use Rattle.xt_core.specs.Runs.{code_of, opening_of};
+ghost use Rattle.xt_outcomes.specs.Racing.{IsRaceAfter};
+ghost use Rattle.xt_outcome_report.specs.Texts.{IsAnswersText, access_lines, answers_text, end_line, frames_line, frames_text, none_text, outcome_text, race_lines, stuck_line, stuck_text};
 
+use crate::accesses::race_lines;
 use crate::orders::order_text;
 use crate::outcomes::push_outcome;
 use std::alloc::{AllocError, Global};
@@ -99,7 +102,7 @@ fn push_outcomes(
     Ok(())
 }
 
-/// The lines of all that was found, with what is judged of the frames:
+/// The lines of all that was found, with those of the accesses of a race and what is judged of the frames:
 ///
 /// ```text
 /// outcome uart N
@@ -111,6 +114,7 @@ fn push_outcomes(
 /// outcomes N
 /// stuck LIST
 /// race LIST
+/// the lines of the two accesses, as `trace` has them
 /// frames F
 /// all
 /// ```
@@ -124,9 +128,10 @@ pub fn answers_text(
     alloc: Global,
     addresses: &[u32],
     answers: &Answers,
+    accesses: &Text,
     frames: Frames,
 ) -> Result<Text, AllocError>
-    ensures { IfOk result (λ text. text ≡ answers_text addresses.now answers.now [] frames) }
+    ensures { IfOk result (λ text. text ≡ answers_text addresses.now answers.now accesses.now frames) }
 {
     let mut out = Vec::new(alloc);
     push_outcomes(alloc, &mut out, addresses, answers.found.as_slice())?;
@@ -139,9 +144,29 @@ pub fn answers_text(
     out.extend_from_slice(outcomes.as_bytes())?;
     out.extend_from_slice(stuck.as_bytes())?;
     out.extend_from_slice(race.as_bytes())?;
+    out.extend_from_slice(accesses.as_slice())?;
     out.extend_from_slice(frames.as_bytes())?;
     out.extend_from_slice(end_line(answers.whole).as_bytes())?;
     Ok(Text::new(out))
+}
+
+// The lines of the accesses of a race, if there is one.
+fn access_lines(
+    alloc: Global,
+    image: &Image,
+    options: &Options,
+    race: &Option<NextRace>,
+) -> Result<Text, AllocError>
+    requires image { IsWellFormed image.now }
+    requires valid { IsValid options.now }
+    requires race { IfSome race.now (λ r. IsRaceAfter (code_of image.now) (opening_of image.now options.now) r) }
+    ensures { IfOk result (λ text. text ≡ access_lines image.now options.now race.now) }
+{
+    well_formed_is_placed();
+    match race {
+        Some(race) => race_lines(alloc, image, options, race),
+        None => Ok(Text::new(Vec::new(alloc))),
+    }
 }
 
 /// The lines of everything that can come out of an image's runs, in any order of their turns, where at
@@ -164,5 +189,6 @@ pub fn outcomes_text(
 {
     well_formed_is_placed();
     let answers = answers_of(alloc, image, options, addresses, most)?;
-    answers_text(alloc, addresses, &answers, Frames::Unknown)
+    let accesses = access_lines(alloc, image, options, &answers.race)?;
+    answers_text(alloc, addresses, &answers, &accesses, Frames::Unknown)
 }

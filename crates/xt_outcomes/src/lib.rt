@@ -8,6 +8,7 @@ mod listing;
 mod opening;
 mod outcome;
 mod races;
+mod records;
 mod sides;
 mod stuck;
 mod timed;

@@ -16,8 +16,8 @@ use xt_trace::Options;
 /// The constant bytes of an image, and what memory holds as its runs open.
 #[derive(Drop)]
 pub struct Timed<'a> {
-    pub(crate) code: Constants<'a>,
-    pub(crate) opening: Memory,
+    pub code: Constants<'a>,
+    pub opening: Memory,
     alloc: Global,
     ghost sizes: { HasSizes opening.contents },
     ghost bytes: { AreBytes (constant_byte code) },
