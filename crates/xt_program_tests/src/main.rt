@@ -17,6 +17,7 @@ mod gate_tests;
 mod gen_tests;
 #[cfg(test)]
 mod line_tests;
+mod outcomes;
 mod programs;
 #[cfg(test)]
 mod recording_tests;
@@ -26,7 +27,7 @@ mod schedules;
 mod top_tests;
 mod verdicts;
 
-use crate::cases::{lines_of, words_of};
+use crate::cases::{has_part, lines_of, words_of};
 use crate::programs::words_with;
 use std::alloc::Global;
 use std::process::ExitCode;
@@ -74,6 +75,8 @@ fn agrees<R: Files + Threads + Wait + Sync + AllocGlobal>(
         commands::agrees(rt.alloc(), case, program.as_str())
     } else if !words_of(case, "analysis").is_empty() {
         analyses::agrees(rt, case, program.as_str())
+    } else if has_part(case, "found") {
+        outcomes::agrees(rt, case, program.as_str())
     } else if case.contains("\nschedule") {
         verdicts::agrees(rt.alloc(), case, program.as_str())
     } else {
