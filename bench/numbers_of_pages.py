@@ -118,7 +118,7 @@ IMAGE_RULES = functools.partial(enum, "crates/xt_image/src/fault.rt", "ImageFaul
 PROVED, README, GUIDE, MAP = "docs/PROVED.md", "README.md", "CONTRIBUTING.md", "docs/ARCHITECTURE.md"
 PLACES = [
     (README, "proves all # crates and builds", lambda: len(reach("xt"))),
-    (README, "the # rules of [docs/IMAGE_FORMAT.md]", IMAGE_RULES),
+    (README, "the # rules of [IMAGE_FORMAT]", IMAGE_RULES),
     (README, "All # instructions of the table", INSNS),
     (MAP, "the # rows that spell them", INSNS),
     (MAP, "the first of # rules that the bytes break", IMAGE_RULES),

@@ -1,5 +1,4 @@
--- Carries a proof; nothing that a reader must believe.
--- Orders of two cores' turns, over any kind of world.
+-- Orders of two cores' turns, over any kind of world ('profile').
 use Rattle.std.specs.Prelude.{◌≡◌, ℕ, ◌<◌, List, [], ◌∷◌}
 
 -- Each number of the order is a turn of that core, and they lead from the one world to the other,
