@@ -70,12 +70,12 @@ fn field<'a>(given: &'a str, plain: &'a str) -> &'a str {
 
 // Options of a run as `{:?}` prints them: those of no words, except these fields.
 fn options_text(alloc: Global, given: &str) -> Result<String, Fail> {
-    let mut text = String::from_str(alloc, "RunOptions {")?;
-    let mut comma = " ";
-    for plain in PLAIN.lines() {
-        text.push_str(comma)?;
+    let mut text = String::from_str(alloc, "RunOptions { ")?;
+    let mut fields = PLAIN.lines();
+    text.push_str(field(given, fields.next().ok_or("a field")?))?;
+    for plain in fields {
+        text.push_str(", ")?;
         text.push_str(field(given, plain))?;
-        comma = ", ";
     }
     text.push_str(" }")?;
     Ok(text)
