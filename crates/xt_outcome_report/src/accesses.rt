@@ -53,15 +53,15 @@ fn turn_line(
     code: &Constants,
     core: u8,
     step: u32,
-    record: &StepRecord,
+    r: &StepRecord,
 ) -> Result<Text, AllocError>
-    ensures { IfOk result (λ text. text ≡ turn_line (constant_byte code.now) core step record.now) }
+    ensures { IfOk result (λ text. text ≡ turn_line (constant_byte code.now) core step r.now) }
 {
-    let text = line(alloc, core, step, record)?;
+    let text = line(alloc, core, step, r)?;
     let bytes = text.as_slice();
     let mut out = Vec::new(alloc);
     out.extend_from_slice(&bytes[..bytes.len().saturating_sub(1)])?;
-    push_fetched(alloc, &mut out, code, record.pc)?;
+    push_fetched(alloc, &mut out, code, r.pc)?;
     out.push(b'\n')?;
     Ok(Text::new(out))
 }
