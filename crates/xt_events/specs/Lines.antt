@@ -58,11 +58,6 @@ turn_text code t r =
     bare_line t.core t.step r ++ fetched_text (fetched code r.pc) r.pc
     ++ window_text t.before t.after ++ codes "\n"
 
--- the same of a turn that moves no window
-abbrev pub unmoved_text : (ℕ → ℕ) → ℕ → ℕ → StepRecord → List ℕ
-unmoved_text code core step r =
-    bare_line core step r ++ fetched_text (fetched code r.pc) r.pc ++ codes "\n"
-
 -- the line of a turn of which the filter holds, and nothing for another
 abbrev pub kept_text : (ℕ → ℕ) → Filter → Told → StepRecord → List ℕ
 kept_text code f t r = if holds code f t r then turn_text code t r else []

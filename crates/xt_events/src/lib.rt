@@ -16,5 +16,4 @@ pub use event::{Event, Events};
 pub use event_text::events_text;
 pub use filter::Filter;
 pub use laws::positions_have_turns;
-pub use turn_line::unmoved_line;
 pub use turn_lines::TurnLines;

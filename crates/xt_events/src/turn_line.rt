@@ -2,7 +2,7 @@
 ghost use Rattle.std.specs.Prelude.{◌≡◌, ◌++◌, IfOk, OnOk, string_bytes};
 ghost use Rattle.xt_map.specs.Memory.{constant_byte};
 ghost use Rattle.xt_fetch.specs.Fetching.{fetched};
-ghost use Rattle.xt_events.specs.Lines.{bare_line, fetched_text, hex4, kept_text, told_text, turn_text, unmoved_text, window_text};
+ghost use Rattle.xt_events.specs.Lines.{bare_line, fetched_text, hex4, kept_text, told_text, turn_text, window_text};
 
 use crate::filter::{Filter, holds};
 use crate::told::{Told, Window};
@@ -90,23 +90,6 @@ fn push_turn(
     push_window(alloc, out, told.before, told.after)?;
     out.push(b'\n')?;
     Ok(())
-}
-
-/// The line of a turn with this record, which moves no window. The only error is running out of memory.
-pub fn unmoved_line(
-    alloc: Global,
-    code: &Constants,
-    core: u8,
-    step: u32,
-    r: &StepRecord,
-) -> Result<Text, AllocError>
-    ensures { IfOk result (λ text. text ≡ unmoved_text (constant_byte code.now) core step r.now) }
-{
-    let mut out = Vec::new(alloc);
-    push_bare(alloc, &mut out, core, step, r)?;
-    push_fetched(alloc, &mut out, code, r.pc)?;
-    out.push(b'\n')?;
-    Ok(Text::new(out))
 }
 
 // Appends the line of a turn with this record, if the filter holds of it.

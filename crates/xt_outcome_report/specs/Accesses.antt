@@ -5,10 +5,10 @@ use Rattle.xt_map.specs.declared.contents.MemoryContents.{MemoryContents}
 use Rattle.xt_trace.specs.Worlds.{answer}
 use Rattle.xt_exec.specs.State.{State}
 use Rattle.xt_exec.specs.Turn.{demand, turn}
-use Rattle.xt_events.specs.Lines.{unmoved_text}
 use Rattle.xt_outcomes.specs.Spots.{Side}
+use Rattle.xt_outcome_report.specs.Texts.{turn_line}
 
 -- of a core that has made so many turns
 abbrev pub line_of : (ℕ → ℕ) → ℕ → Side State → MemoryContents → ℕ → List ℕ
 line_of code core s m made =
-    unmoved_text code core made (turn code s.state (answer (demand code s.state) m)).0
+    turn_line code core made (turn code s.state (answer (demand code s.state) m)).0

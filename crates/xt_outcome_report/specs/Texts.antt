@@ -6,13 +6,15 @@ use Rattle.std.specs.Fmt.{decimal}
 use Rattle.xt_word.specs.Hexadecimal.{hex8}
 use Rattle.xt_trace.specs.declared.options.Options.{Options}
 use Rattle.xt_trace.specs.declared.trace.Stop.{Stop}
+use Rattle.xt_trace.specs.declared.record.StepRecord.{StepRecord}
 use Rattle.xt_trace.specs.Walks.{next_record}
 use Rattle.xt_trace.specs.Worlds.{Core, Line, World}
 use Rattle.xt_image.specs.declared.image.Image.{Image}
+use Rattle.xt_fetch.specs.Fetching.{fetched}
 use Rattle.xt_exec.specs.Chips.{processor}
 use Rattle.xt_exec.specs.State.{State}
 use Rattle.xt_core.specs.Runs.{code_of, opening_of}
-use Rattle.xt_events.specs.Lines.{unmoved_text}
+use Rattle.xt_events.specs.Lines.{bare_line, fetched_text}
 use Rattle.xt_report.specs.Reports.{newline, stop_text, uart_lines}
 use Rattle.xt_outcomes.specs.Answered.{AreAnswers}
 use Rattle.xt_outcomes.specs.Orders.{timed_world_after}
@@ -79,10 +81,15 @@ abbrev pub end_line : Bool → List ℕ
 end_line true = codes "all\n"
 end_line false = codes "some states\n"
 
--- the line that `trace` prints of a core's next turn, which moves no window if it makes an access
+-- the line that `trace` prints of a turn that moves no window
+abbrev pub turn_line : (ℕ → ℕ) → ℕ → ℕ → StepRecord → List ℕ
+turn_line code core step r = concat (
+    bare_line core step r ∷ fetched_text (fetched code r.pc) r.pc ∷ newline ∷ [])
+
+-- that of a core's next turn
 abbrev pub next_line : (ℕ → ℕ) → ℕ → Core State → Line → List ℕ
 next_line code core k b =
-    unmoved_text code core (length k.records) (next_record (processor code) k b)
+    turn_line code core (length k.records) (next_record (processor code) k b)
 
 -- those of both cores after an order
 abbrev pub lines_in : (ℕ → ℕ) → World State → List ℕ

@@ -1,5 +1,7 @@
 //! The lines of the two accesses of a race.
-ghost use Rattle.std.specs.Prelude.{◌≡◌, ◌≢◌, ◌+◌, ◌-◌, ◌<◌, ◌≤◌, None, IfOk};
+ghost use Rattle.std.specs.Prelude.{◌≡◌, ◌≢◌, ◌-◌, ◌≤◌, ◌++◌, None, IfOk, OnOk};
+ghost use Rattle.xt_fetch.specs.Fetching.{fetched};
+ghost use Rattle.xt_events.specs.Lines.{fetched_text};
 ghost use Rattle.xt_map.specs.Placing.{IsPlaced};
 ghost use Rattle.xt_map.specs.Memory.{HasSizes, constant_byte};
 ghost use Rattle.xt_trace.specs.Validity.{IsValid};
@@ -14,16 +16,55 @@ ghost use Rattle.xt_outcomes.specs.Racing.{IsRaceAfter};
 ghost use Rattle.xt_outcomes.specs.SpotRaces.{next_of};
 ghost use Rattle.xt_outcomes.specs.Spots.{spot_in};
 ghost use Rattle.xt_outcome_report.specs.Accesses.{line_of};
-ghost use Rattle.xt_outcome_report.specs.Texts.{lines_after};
+ghost use Rattle.xt_outcome_report.specs.Texts.{lines_after, turn_line};
 
 use std::alloc::{AllocError, Global};
 use xt_changes::Changes;
-use xt_events::unmoved_line;
+use xt_codec::{Fetch, instruction_at};
+use xt_disasm::insn_text;
 use xt_image::Image;
-use xt_map::Text;
+use xt_map::{Constants, Text};
 use xt_outcomes::{Desk, NextRace, Side, Timed, World, open};
 use xt_search::Machine;
-use xt_trace::Options;
+use xt_trace::{Options, StepRecord, line};
+
+// Appends the text of the instruction that an address fetches, if any.
+fn push_fetched(
+    alloc: Global,
+    out: &mut Vec<u8>,
+    code: &Constants,
+    pc: u32,
+) -> Result<(), AllocError>
+    ensures { OnOk result (out.new.items ≡ out.old.items ++ fetched_text (fetched (constant_byte code.now) pc) pc) }
+{
+    match instruction_at::<Side>(code, pc) {
+        Fetch::Insn(insn, _) => {
+            out.extend_from_slice(b" | ")?;
+            let text = insn_text(alloc, &insn, pc)?;
+            out.extend_from_slice(text.as_slice())
+        }
+        Fetch::Fails(_) | Fetch::Nothing => Ok(()),
+    }
+}
+
+// The line of a turn with this record, which moves no window.
+fn turn_line(
+    alloc: Global,
+    code: &Constants,
+    core: u8,
+    step: u32,
+    r: &StepRecord,
+) -> Result<Text, AllocError>
+    ensures { IfOk result (λ text. text ≡ turn_line (constant_byte code.now) core step r.now) }
+{
+    let text = line(alloc, core, step, r)?;
+    let bytes = text.as_slice();
+    let mut out = Vec::new(alloc);
+    out.extend_from_slice(&bytes[..bytes.len().saturating_sub(1)])?;
+    push_fetched(alloc, &mut out, code, r.pc)?;
+    out.push(b'\n')?;
+    Ok(Text::new(out))
+}
 
 // The world after an order. The only error is running out of memory.
 fn world_after(
@@ -69,7 +110,7 @@ fn next_line(
     let Some(record) = side.next_record(&machine.code, reply) else {
         unreachable!();
     };
-    unmoved_line(alloc, &machine.code, core, turns - side.left(), &record)
+    turn_line(alloc, &machine.code, core, turns - side.left(), &record)
 }
 
 /// The lines of the trace of the two turns of a race. The only error is running out of memory.
