@@ -89,7 +89,8 @@ def good():
 
 def listed_words():
     """The rows of the lists of words with their meanings."""
-    return counted(r"^        \((?=\"|$)", TESTS.format("xt_text_tests", "words_tests"))
+    tables = counted(r" <- ", TESTS.format("xt_text_tests", "words_tests/lines"))
+    return tables + counted(r"^        \((?=\"|longest|$)", TESTS.format("xt_text_tests", "words_tests"))
 
 
 def followed():

@@ -22,13 +22,14 @@ use Rattle.xt_simulation.specs.Opening.{IsRunnable, openings_of}
 use Rattle.xt_simulation.specs.Headline.{IsRunOfImage}
 use Rattle.xt_simulation.specs.Walking.{Apart}
 use Rattle.xt_uses.specs.declared.discipline.Discipline.{Discipline}
+use Rattle.xt_uses.specs.declared.discipline.Discipline.TheVariants.{Strict, Lenient}
 use Rattle.xt_uses.specs.Used.{low_bits}
 use Rattle.xt_uses.specs.UseStep.{UseTurn}
 use Rattle.xt_uses.specs.FirstUse.{History, IsFirstUse, IsHistory, use_at}
 use Rattle.xt_uses.specs.UseLaws.{AccessFits, AccessesAgree, AgreeIn, IsOpening, IsOrdinary}
 use Rattle.xt_uses.specs.UseLaws.{IsUseRun, WriteFits, WritesAgree}
 use Rattle.xt_use_run.specs.Laws.{course_of}
-use Rattle.xt_fillings.specs.Fillings.{Filling, filled_at, filled_before}
+use Rattle.xt_fillings.specs.Fillings.{Filling, Numbers, filled_at, filled_before, filled_record}
 
 -- ---- the machine over a filling has a number in each register
 
@@ -47,6 +48,13 @@ RegistersHaveNumbers =
     → IsOpening (r.opening core)
     → HaveNumbers (filled_before d r h n core p).seen
     × InnerHaveNumbers (filled_before d r h n core p).nested
+
+-- ---- PS.OWB is the filling's in the strict discipline, and the record's in the lenient one
+
+abbrev pub OwbIsTheFillings : Type 0
+OwbIsTheFillings = (mask : ℕ) (n : Numbers) (rec : StepRecord)
+    → (filled_record Strict mask n rec).owb ≡ n.owb
+    × (filled_record Lenient mask n rec).owb ≡ rec.owb
 
 -- ---- beside the machine of uses
 

@@ -1,11 +1,16 @@
 //! Laws of the machine of frames over any contents.
 #![tactic(auto)]
 
-ghost use Rattle.xt_fillings.specs.Laws.{RecordsAreFollowed, RegistersHaveNumbers, RunsAreDecided, UnknownDecidesNothing};
+ghost use Rattle.xt_fillings.specs.Laws.{OwbIsTheFillings, RecordsAreFollowed, RegistersHaveNumbers, RunsAreDecided, UnknownDecidesNothing};
 
 /// The machine over a filling has a number in each register.
 pub fn registers_have_numbers()
     ensures { RegistersHaveNumbers }
+{}
+
+/// It steps on the filling's PS.OWB by the strict discipline, and on the record's by the lenient one.
+pub fn owb_is_the_fillings()
+    ensures { OwbIsTheFillings }
 {}
 
 /// Whatever stands where the machine of uses knows nothing, each judged step before the first

@@ -1,0 +1,200 @@
+//! What words mean, a line each: the answer as `{:?}` prints it, an arrow, and the words.
+
+/// Commands with no option, and `check`.
+pub const COMMANDS: &str = "\
+Err(Usage(2)) <- fly
+Err(Usage(2)) <- 
+Err(Usage(2)) <- --help
+Err(Usage(2)) <- Run --turns0 10 --turns1 0
+Err(Usage(2)) <- --turns0 10 --turns1 0 run
+Err(Usage(2)) <- disasm
+Err(Usage(2)) <- Elf
+Ok(Assemble) <- asm
+Ok(Convert) <- elf
+Err(Usage(3)) <- elf --vecbase 0x40080000
+Ok(Disassemble(Sweep)) <- dis
+Ok(Map) <- map
+Ok(Map) <- map --
+Err(Usage(3)) <- map file
+Err(Usage(3)) <- map --flow
+Ok(Check(1074266112)) <- check
+Ok(Check(1074266112)) <- check --
+Ok(Check(1024)) <- check --vecbase 1024
+Ok(Check(1074593792)) <- check --vecbase=0x400D0000
+Err(Usage(3)) <- check --vecbase
+Err(Usage(3)) <- check image
+Err(Usage(3)) <- check --vecbase 0 --vecbase 0
+Err(Usage(4)) <- check --vecbase x
+Err(Usage(4)) <- check --vecbase 4294967296
+Err(Usage(7)) <- check --vecbase 0x40080010
+Err(Usage(7)) <- check --vecbase 512
+Ok(Disassemble(Sweep)) <- dis --
+";
+
+/// `dis`.
+pub const LISTINGS: &str = "\
+Ok(Disassemble(Flow(Openings { vecbase: 1074266112, entry1: None }))) <- dis --flow
+Ok(Disassemble(Flow(Openings { vecbase: 1024, entry1: Some(1074593792) }))) <- dis --entry1 0x400D0000 --vecbase=1024 --flow
+Err(Usage(3)) <- dis --flow --flow
+Err(Usage(3)) <- dis --flow file
+Err(Usage(3)) <- dis --vecbase 1024
+Err(Usage(3)) <- dis --vecbase x
+Err(Usage(3)) <- dis --entry1 0x400D0000
+Err(Usage(3)) <- dis --flow --seed 1
+Err(Usage(4)) <- dis --flow --entry1 0 --vecbase x
+Err(Usage(4)) <- dis --flow --entry1 4294967296
+Err(Usage(6)) <- dis --flow --entry1 0 --vecbase 1
+Err(Usage(7)) <- dis --flow --entry1 0x400D0000 --vecbase 512
+Err(Usage(3)) <- dis --help
+Err(Usage(3)) <- check -h
+Err(Usage(3)) <- asm --version
+Err(Usage(3)) <- asm file
+Err(Usage(3)) <- dis dis
+Err(Usage(3)) <- dis -- file
+Err(Usage(3)) <- dis help
+Err(Usage(3)) <- dis -
+Err(Usage(3)) <- dis 
+";
+
+/// Commands over a recording, `gen` and `trace`.
+pub const RECORDINGS: &str = "\
+Ok(Migrate) <- migrate
+Err(Usage(3)) <- migrate --turns0 1
+Err(Usage(3)) <- check --trace
+Ok(Events) <- events
+Ok(Events) <- events --
+Err(Usage(3)) <- events 0
+Ok(Race) <- race
+Err(Usage(3)) <- race file
+Ok(Counts) <- counts
+Ok(Counts) <- counts --
+Err(Usage(3)) <- counts 0
+Ok(Profile(8)) <- profile
+Ok(Profile(64)) <- profile --depth 64
+Ok(Profile(1)) <- profile --depth=0x1
+Err(Usage(4)) <- profile --depth 0
+Err(Usage(4)) <- profile --depth 65
+Err(Usage(3)) <- profile --depth
+Err(Usage(3)) <- profile --core 0
+Ok(Uses(Strict)) <- uses
+Ok(Uses(Strict)) <- uses --
+Ok(Uses(Lenient)) <- uses --lenient
+Err(Usage(3)) <- uses all
+Err(Usage(3)) <- events --from 0
+Ok(Trace(Turns { from: 0, to: 4294967295, core: None, accesses: false, jumps: false })) <- trace
+Ok(Trace(Turns { from: 35, to: 4294967295, core: None, accesses: false, jumps: false })) <- trace --from 35
+Ok(Trace(Turns { from: 12, to: 16, core: None, accesses: false, jumps: false })) <- trace --to 0x10 --from=12
+Ok(Trace(Turns { from: 9, to: 3, core: None, accesses: false, jumps: false })) <- trace --from 9 --to 3
+Ok(Trace(Turns { from: 0, to: 4294967295, core: Some(1), accesses: false, jumps: false })) <- trace --core 1
+Ok(Trace(Turns { from: 0, to: 4294967295, core: Some(1), accesses: false, jumps: false })) <- trace --core=0x1
+Ok(Trace(Turns { from: 0, to: 7, core: Some(0), accesses: true, jumps: true })) <- trace --jumps --to 7 --core 0 --accesses
+Err(Usage(3)) <- trace --core
+Err(Usage(3)) <- trace --jumps --jumps
+Err(Usage(3)) <- trace --accesses=1
+Err(Usage(4)) <- trace --core 2
+Err(Usage(4)) <- trace --core x
+Err(Usage(3)) <- trace 3
+Err(Usage(3)) <- trace --from
+Err(Usage(3)) <- trace --from 1 --from 1
+Err(Usage(4)) <- trace --from x
+Err(Usage(4)) <- trace --to 4294967296
+Ok(Generate(1)) <- gen 1
+Ok(Generate(4294967295)) <- gen 0xFFFFFFFF
+Ok(Generate(7)) <- gen -- 007
+Err(Usage(3)) <- gen
+Err(Usage(3)) <- gen 1 2
+Err(Usage(3)) <- gen -1
+Err(Usage(3)) <- gen --number 1
+Err(Usage(4)) <- gen 
+Err(Usage(4)) <- gen 4294967296
+Err(Usage(4)) <- gen x
+Ok(Replay) <- replay
+";
+
+/// Options of a run that are refused.
+pub const NO_OPTIONS: &str = "\
+Err(Usage(3)) <- record --uses
+Err(Usage(3)) <- uses --strict
+Err(Usage(3)) <- run file
+Err(Usage(3)) <- run --help
+Err(Usage(3)) <- run -h
+Err(Usage(3)) <- run --version
+Err(Usage(3)) <- run --turns0
+Err(Usage(3)) <- run --turns0 -5
+Err(Usage(3)) <- run --turns0 1 --turns0 1
+Err(Usage(3)) <- run --trace=x
+Err(Usage(3)) <- run --events --events
+Err(Usage(3)) <- run --race --trace --race
+Err(Usage(3)) <- run --profile=1
+Err(Usage(3)) <- run --seed
+Err(Usage(3)) <- run --seed 1 --seed 1
+Err(Usage(3)) <- run --flow
+Err(Usage(3)) <- run --turns2 1
+Err(Usage(4)) <- run --turns0 x
+Err(Usage(4)) <- run --turns0=
+Err(Usage(4)) <- run --turns0=-5
+Err(Usage(4)) <- run --turns0 +5
+Err(Usage(4)) <- run --turns1 0X10
+Err(Usage(4)) <- run --turns1 0x
+Err(Usage(4)) <- run --turns1 0x000000001
+Err(Usage(4)) <- run --entry1 4294967296
+Err(Usage(4)) <- run --vecbase 0x4008000g
+Err(Usage(4)) <- run --stack0 0x3FFF0000
+Err(Usage(4)) <- run --seed x
+Err(Usage(4)) <- run --seed 4294967296
+Err(Usage(4)) <- run --stack0 0x3FFF0000-0x3FFF8000
+Err(Usage(4)) <- run --stack1 :0x40000000
+Err(Usage(4)) <- run --stack1 0x3FFF8000:0x40000000:0
+Err(Usage(4)) <- run --turns1 4000001 --stack1 x
+Err(Usage(5)) <- run --turns0 4000001
+Err(Usage(5)) <- run --vecbase 1 --turns1 4294967295
+Err(Usage(6)) <- run --entry1 0x3FFB0000 --vecbase 1
+Err(Usage(6)) <- run --entry1 0x400A0000
+Err(Usage(6)) <- run --entry1 0
+Err(Usage(7)) <- run --vecbase 0x40080010
+Err(Usage(7)) <- run --stack0 0:0 --vecbase 512
+Err(Usage(8)) <- run --stack0 0x3FFADFF0:0x3FFF8000
+Err(Usage(8)) <- run --stack0 0x3FFF0000:0x40000010
+Err(Usage(8)) <- run --stack1 0x3FFF8008:0x40000000
+Err(Usage(8)) <- run --stack1 0x3FFF8000:0x3FFFFFF8
+Err(Usage(8)) <- run --stack1 0x3FFFFF10:0x40000000
+Err(Usage(8)) <- run --stack1 0x3FFF8000:0x3FFF0000
+Err(Usage(3)) <- record --trace
+Err(Usage(3)) <- record --events
+Err(Usage(3)) <- record --race
+Err(Usage(3)) <- record --profile
+Err(Usage(4)) <- record --seed +1
+Err(Usage(4)) <- record --turns1 x
+Err(Usage(5)) <- record --turns1 4000001
+Err(Usage(6)) <- record --entry1 0 --vecbase 1
+";
+
+/// Lists of turns that are refused.
+pub const NO_ORDERS: &str = "\
+Err(Usage(3)) <- run --order
+Err(Usage(3)) <- run --order 0*1 --order 0*1
+Err(Usage(3)) <- run --order 0*1 1*1
+Err(Usage(3)) <- run --seed 1 --order 0*1
+Err(Usage(3)) <- run --order x --seed x
+Err(Usage(3)) <- run --seed 1 --turns0 x --order 0*1
+Err(Usage(4)) <- run --order=
+Err(Usage(4)) <- run --order 0
+Err(Usage(4)) <- run --order 0*
+Err(Usage(4)) <- run --order *1
+Err(Usage(4)) <- run --order 2*1
+Err(Usage(4)) <- run --order 0*1*1
+Err(Usage(4)) <- run --order 0*1,
+Err(Usage(4)) <- run --order ,0*1
+Err(Usage(4)) <- run --order 0*1,,1*1
+Err(Usage(4)) <- run --order 0*1;1*1
+Err(Usage(4)) <- run --order 0*+1
+Err(Usage(4)) <- run --order 0*4294967296
+Err(Usage(4)) <- run --order 0*8000001 --stack0 x
+Err(Usage(5)) <- run --order 1*8000001
+Err(Usage(5)) <- run --order 0*8000000,1*0,1*1
+Err(Usage(5)) <- run --order 0*4294967295,0*4294967295 --entry1 0
+Err(Usage(3)) <- record --order 0*1 --seed 0
+Err(Usage(4)) <- record --order 0*1,1
+Err(Usage(3)) <- trace --order 0*1
+Err(Usage(3)) <- dis --flow --order 0*1
+";
