@@ -31,13 +31,13 @@ use Rattle.xt_frames.specs.declared.holes.Nested.{Nested}
 use Rattle.xt_frames.specs.Frames.{Frame, FrameState, known, seen_after_call, seen_after_write}
 use Rattle.xt_frames.specs.FrameStep.{FrameTurn, Inputs, fetched_step, in_frame, laid, laid_step, popped, popped_from, pushed, raised}
 use Rattle.xt_frames.specs.Nesting.{current_in, turn_in, unset_after}
-use Rattle.xt_frames.specs.Breaches.{Bounds, first_shown, inputs_of, insn_tests, is_empty, has_no_caller}
+use Rattle.xt_frames.specs.Breaches.{Bounds, inputs_of, is_empty, has_no_caller}
 use Rattle.xt_frames.proofs.Shown.{KeepsSp, keeps_sp}
 use Rattle.xt_frames.proofs.StackSteps.{step_fetches, step_taken, step_waits}
 use Rattle.xt_simulation.proofs.Evenly.{same_pending}
 use Rattle.xt_uses.specs.Words.{is_whole}
 use Rattle.xt_uses.specs.Known.{result_mask}
-use Rattle.xt_uses.specs.UseBreaches.{breaks_stack, fetched_uses, laid_use, nowhere, swaps_unknown, use_breach, use_tests, uses_unknown}
+use Rattle.xt_uses.specs.UseBreaches.{laid_use, use_breach}
 use Rattle.xt_uses.specs.UseState.{UseState, first_word, second_word, special_operand, visible_word}
 use Rattle.xt_uses.specs.UseStep.{UseTurn, executed, fetched_movsp, full_step, insn_turn, movsp_of, reply_mask, stack_moved, turn_or, use_turn, value_step}
 use Rattle.xt_uses.specs.UseLaws.{AgreeIn, OutcomesAgree, RepliesAgree, RowsAgree}
@@ -52,14 +52,14 @@ use Rattle.xt_use_run.proofs.MaskStep.{special_word_small, visible_word_small}
 use Rattle.xt_use_run.proofs.MaskWords.{MaskWords, now_small}
 use Rattle.xt_use_run.proofs.MovspJudged.{move_at, move_uses, move_word, use_moves}
 use Rattle.xt_use_run.proofs.MovspStep.{move_follows, movsp}
-use Rattle.xt_use_run.proofs.MovspTurn.{keeps}
 use Rattle.xt_use_run.proofs.NestedTop.{executed_insn}
 use Rattle.xt_use_run.proofs.Operands.{IsGivenAt, row_agrees, row_masks, word_fits}
-use Rattle.xt_use_run.proofs.PlainJudged.{laid_fetches, movsp_form, no_move_fails, no_move_spells}
+use Rattle.xt_use_run.proofs.FetchedUses.{moves_denied, row_denied}
+use Rattle.xt_use_run.proofs.PlainJudged.{no_move_fails, no_move_spells}
 use Rattle.xt_use_run.proofs.PlainRow.{entry_one, entry_some, visible_named}
 use Rattle.xt_use_run.proofs.PlainStep.{row_moves_none, use_plain}
 use Rattle.xt_use_run.proofs.Rows.{EntersWord, Executes, Pops, Pushes, Quiet, Rests, RowStep, raise_quiet, result, taken_quiet, waits_quiet}
-use Rattle.xt_use_run.proofs.Tests.{Denied, caller_row, denied}
+use Rattle.xt_use_run.proofs.Tests.{Denied, caller_row}
 use Rattle.xt_fillings.proofs.Numbered.{Held, IsHeld}
 use Rattle.xt_fillings.proofs.Replied.{replied_row}
 use Rattle.xt_fillings.proofs.Words.{given_words, known_small, laid_words}
@@ -345,23 +345,11 @@ module _ (rows : RowsAgree) (replies : RepliesAgree) (code : ℕ → ℕ) (bytes
     by_fetch (Fails a) e none = fails (Fails a) e (no_move_fails a) fetch_error (Some a) (λ n x. refl)
     by_fetch SpellsNothing e none = fails SpellsNothing e no_move_spells illegal_instruction None (λ n x. refl)
     by_fetch (Fetches i len) e none =
-        let v = fetched_step (Fetches i len) code rec.reply h in
-        let all : first_shown (fetched_uses b fresh live kb (Fetches i len) rec us h (laid_step code rec.reply h)) ≡ None =
-        ap (λ z. first_shown (fetched_uses b fresh live kb z rec us h (laid_step code rec.reply h))) (sym e) ∙ (sym (laid_fetches b fresh code live kb rec us h (or_from _ _ still awake)) ∙ none) in
-        let shown : first_shown (use_tests (uses_unknown i us h) (swaps_unknown kb rec.access) (breaks_stack b.range i rec.kind h) (insn_tests b fresh live nowhere i rec h v)) ≡ None =
-        subst (λ (z : FrameTurn). first_shown (fetched_uses b fresh live kb (Fetches i len) rec us h z) ≡ None) (step_h (Fetches i len) e) all in
-        let d : Denied b fresh live kb i rec us h v = denied b fresh live kb i rec us h v shown in
+        let d = row_denied b fresh code live kb rec us h still awake none i len e in
         ⊎_elim
-        (λ is. let form = movsp_form i is in moved i form.0 form.1 len form.2 e d)
+        (λ is. let q = moves_denied i is d in moves q.0 len (e ∙ ap (λ j. Fetches j len) q.1.0) q.1.1)
         (λ isnt. row_goes i len e isnt d)
         (cases_Bool (is_movsp i))
-      where
-        moved : (i : Insn) (t q len : ℕ) {v : FrameTurn} → i ≡ movsp t q → fetched code h.control.pc ≡ Fetches i len → Denied b fresh live kb i rec us h v → target
-        moved i t q len {v = v} is e d =
-            let d2 : Denied b fresh live kb (movsp t q) rec us h v = subst (λ j. Denied b fresh live kb j rec us h v) is d in
-            let one : t ≡ 1 = (keeps b.range t q rec.kind h d2.stack).one in
-            let d3 : Denied b fresh live kb (movsp 1 q) rec us h v = subst (λ n. Denied b fresh live kb (movsp n q) rec us h v) one d2 in
-            moves q len (e ∙ (ap (λ j. Fetches j len) is ∙ ap (λ n. Fetches (movsp n q) len) one)) d3
 
   pub outside_goes : use_breach b fresh code live kb false rec us ≡ None → target
   outside_goes none =

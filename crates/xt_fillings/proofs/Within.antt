@@ -1,7 +1,7 @@
 -- A judged step of a nested interrupt that shows no breach of uses, beside the machine of frames over a filling; and the step that begins one.
 use Rattle.std.specs.Prelude.{is_some}
 use Rattle.std.proofs.Common.{◌≡◌, ℕ, ◌^◌, ◌<◌, ◌⊎◌, inl, inr, Bool, true, false, ◌||◌, not, ltb, Option, Some, None, sym, ap, ◌∙◌, refl, ⊎_elim, subst, get_or, cond}
-use Rattle.std.proofs.lemmas.Bool.{both_ways, cases_Bool, cond-true, false≢true, or_from, or_left, or_parts}
+use Rattle.std.proofs.lemmas.Bool.{both_ways, cases_Bool, cond-true, false≢true, or_left, or_parts}
 use Rattle.xt_isa.specs.declared.Insn.{Insn}
 use Rattle.xt_isa.specs.declared.Insn.TheVariants as insn
 use Rattle.xt_isa.specs.declared.system.System.TheVariants as system
@@ -26,19 +26,17 @@ use Rattle.xt_frames.specs.declared.holes.Nested.{Nested}
 use Rattle.xt_frames.specs.Frames.{FrameState, known}
 use Rattle.xt_frames.specs.FrameStep.{FrameTurn, Inputs, fetched_step, laid, laid_step}
 use Rattle.xt_frames.specs.Marks.{mark_read, marked_write}
-use Rattle.xt_frames.specs.Nesting.{begun, ends_nested, inside, is_nesting, keeping, nested_fetched, nested_insn, nested_turn, turn_in}
-use Rattle.xt_frames.specs.Breaches.{Bounds, first_shown, inputs_of, insn_tests, is_exception, other_tests}
+use Rattle.xt_frames.specs.Nesting.{begun, ends_nested, inside, is_nesting, nested_fetched, nested_insn, nested_turn, turn_in}
+use Rattle.xt_frames.specs.Breaches.{Bounds, inputs_of, is_exception}
 use Rattle.xt_frames.specs.Judging.{value_in}
-use Rattle.xt_frames.proofs.Inside.{kind_inside}
-use Rattle.xt_frames.proofs.Shown.{none_shown}
 use Rattle.xt_frames.proofs.StackSteps.{step_fetches, turn_if}
 use Rattle.xt_simulation.proofs.Evenly.{same_pending}
 use Rattle.xt_uses.specs.Words.{cut}
 use Rattle.xt_uses.specs.Known.{result_mask}
 use Rattle.xt_uses.specs.Used.{counted_bits, used_are_known}
-use Rattle.xt_uses.specs.UseBreaches.{breaks_stack, fetched_uses, laid_use, nowhere, reads_mark, reads_no_number, swaps_unknown, use_breach, use_tests, uses_unknown}
+use Rattle.xt_uses.specs.UseBreaches.{laid_use, reads_mark, reads_no_number, use_breach}
 use Rattle.xt_uses.specs.UseState.{UseState, first_word, second_word, special_operand, special_word}
-use Rattle.xt_uses.specs.UseStep.{UseTurn, executed, full_step, insn_turn, movsp_of, other_turn, reply_mask, turn_or, use_turn, value_step}
+use Rattle.xt_uses.specs.UseStep.{UseTurn, executed, full_step, movsp_of, reply_mask, turn_or, use_turn, value_step}
 use Rattle.xt_uses.specs.UseLaws.{AgreeIn, InnerIsCut, IsCutAt, OutcomesAgree, RepliesAgree, RowsAgree, WriteFits}
 use Rattle.xt_uses.proofs.CutLists.{cut_at}
 use Rattle.xt_uses.proofs.CutStates.{IsCut}
@@ -52,18 +50,18 @@ use Rattle.xt_use_run.proofs.Beginning.{begin_follows, use_begins}
 use Rattle.xt_use_run.proofs.MaskStep.{special_word_small, visible_word_small}
 use Rattle.xt_use_run.proofs.MaskWords.{MaskWords, now_small}
 use Rattle.xt_use_run.proofs.NestedFollow.{ends_follows, goes_follows, now_inside, stops_follows}
-use Rattle.xt_use_run.proofs.NestedJudged.{breach_use_inside, use_inside}
+use Rattle.xt_use_run.proofs.NestedJudged.{breach_use_inside}
 use Rattle.xt_use_run.proofs.NestedRow.{moves_hold, moves_result, reading_moves}
 use Rattle.xt_use_run.proofs.NestedTests.{no_exception, no_movsp}
-use Rattle.xt_use_run.proofs.NestedTop.{ending_is, ends_result, executed_insn, goes_on_turn, going_is}
+use Rattle.xt_use_run.proofs.NestedTop.{ends_result, ends_turn, executed_insn, goes_on_turn, goes_turn, use_insn_inside}
 use Rattle.xt_use_run.proofs.NestedWhole.{other_breaks}
 use Rattle.xt_use_run.proofs.Operands.{IsGivenAt, row_agrees, row_masks}
-use Rattle.xt_use_run.proofs.PlainJudged.{laid_fetches}
+use Rattle.xt_use_run.proofs.FetchedUses.{fails_shown, row_denied, spells_shown}
 use Rattle.xt_use_run.proofs.PlainRow.{visible_named}
 use Rattle.xt_use_run.proofs.Rfi.{ends_moves, ends_ordinary, ends_silent}
 use Rattle.xt_use_run.proofs.Rows.{EntersWord, Executes, Ordinary, Pops, Pushes, Rests, RowStep, result}
 use Rattle.xt_use_run.proofs.Seen.{cut_zero}
-use Rattle.xt_use_run.proofs.Tests.{Denied, denied}
+use Rattle.xt_use_run.proofs.Tests.{Denied}
 use Rattle.xt_fillings.proofs.Numbered.{Held}
 use Rattle.xt_fillings.proofs.Outside.{Goes}
 use Rattle.xt_fillings.proofs.Replied.{replied_row}
@@ -196,9 +194,7 @@ module _ (rows : RowsAgree) (replies : RepliesAgree) (code : ℕ → ℕ) (bytes
     turn_v = nested_insn i told y us.frame v
 
     used : full_step code true rec kb us ≡ use_turn (executed v.kind (Fetches i len)) k us h turn_v
-    used =
-        let U : Fetched → FrameTurn → UseTurn = λ z w. use_turn (executed (nested_fetched z told y us.frame w).kind z) k us h (nested_fetched z told y us.frame w) in
-        use_inside code rec kb us y sy ∙ (ap (U (fetched code h.control.pc)) (step_h (Fetches i len) e) ∙ (ap (λ z. U z v) e ∙ ap (λ z. use_turn (executed z (Fetches i len)) k us h turn_v) (kind_inside (Fetches i len) told y us.frame v)))
+    used = use_insn_inside code rec kb us y sy i len e (step_h (Fetches i len) e)
 
     conclude : Follows (use_turn (executed v.kind (Fetches i len)) k us h turn_v) (nested_insn i value x f u) → target
     conclude here = record {
@@ -215,11 +211,7 @@ module _ (rows : RowsAgree) (replies : RepliesAgree) (code : ℕ → ℕ) (bytes
         let o : Ordinary i us g h (row_masks i us h).result u v = ends_replied o_same in
         let o2 : Ordinary i us g h (result_mask us.masks.discipline i (first_word i us h) (second_word i us h) (special_operand i us h) us.masks.threadptr k) u v = subst (λ z. Ordinary i us g h z u v) (sym (ends_result us.masks.discipline i (first_word i us h) (second_word i us h) (special_operand i us h) us.masks.threadptr k ends)) o in
         let here = ends_follows kn x y fx sy inner (inputs_of rec) bare i k u v o2 (ends_moves i ends) (ends_silent code i len rec.reply h ends) in
-        let a : executed v.kind (Fetches i len) ≡ Some i = ap (λ z. executed z (Fetches i len)) o.kind_too ∙ executed_insn i len in
-        conclude
-        (subst (λ z. Follows (use_turn z k us h turn_v) (nested_insn i value x f u)) (sym a)
-        (subst (λ (z : FrameTurn). Follows (insn_turn i k us h z) (nested_insn i value x f u)) (sym (ending_is i told y us.frame v ends))
-        (subst (λ (z : FrameTurn). Follows (insn_turn i k us h (record v { after = record (keeping us.frame v.after) { nested = None } })) z) (sym (ending_is i value x f u ends)) here)))
+        conclude (ends_turn us f x y i len k told value h u v o.kind_too ends here)
       where
         o_same : fetched_step (Fetches i len) code rec.reply g ≡ u
         o_same = ends_alone code i len rec.reply reply g ends
@@ -266,9 +258,6 @@ module _ (rows : RowsAgree) (replies : RepliesAgree) (code : ℕ → ℕ) (bytes
           ∙ (ap (λ (o : Option ℕ). (special_word us h o).mask) p.1
           ∙ (ap (λ z. cond z (get_or us.masks.special p.0 0) (counted_bits us.masks.discipline p.0)) p.2 ∙ zero))
 
-      going_v : turn_v ≡ goes_on_turn i told mark y us.frame v
-      going_v = going_is i told y us.frame v goes ∙ ap (λ z. goes_on_turn i told (mark_read i z) y us.frame v) (sym inner.saved)
-
       -- with the value of the filling in place of the record's
       revalued : {t : UseTurn} → t.mask ≡ result_mask us.masks.discipline i (first_word i us h) (second_word i us h) (special_operand i us h) us.masks.threadptr k ⊎ (u.write ≡ None) → Follows t (goes_on_turn i told mark x f u) → Follows t (goes_on_turn i value mark x f u)
       revalued {t = t} masked follows = record {
@@ -289,38 +278,21 @@ module _ (rows : RowsAgree) (replies : RepliesAgree) (code : ℕ → ℕ) (bytes
 
       by_row : RowStep i us g h (result now code i shaped_g.control.count given.x_word k) u v → Follows (use_turn (executed v.kind (Fetches i len)) k us h turn_v) (nested_insn i value x f u)
       by_row (Executes q) =
-          let here = revalued (inl refl) (goes_follows kn x y fx sy inner (inputs_of rec) bare i k told mark gone u v q (visible_named i ok u.write q.narrow)) in
-          let a : executed v.kind (Fetches i len) ≡ Some i = ap (λ z. executed z (Fetches i len)) q.kind_too ∙ executed_insn i len in
-          subst (λ z. Follows (use_turn z k us h turn_v) (nested_insn i value x f u)) (sym a)
-          (subst (λ (z : FrameTurn). Follows (insn_turn i k us h z) (nested_insn i value x f u)) (sym going_v)
-          (subst (Follows (insn_turn i k us h (goes_on_turn i told mark y us.frame v))) (sym (going_is i value x f u goes)) here))
+          goes_turn us f x y i len k told value h u v (Some i) (ap (λ z. executed z (Fetches i len)) q.kind_too ∙ executed_insn i len) goes inner.saved
+          (revalued (inl refl) (goes_follows kn x y fx sy inner (inputs_of rec) bare i k told mark gone u v q (visible_named i ok u.write q.narrow)))
       by_row (Rests q (inl bad)) = absurd (both_ways (is_exception v.kind) (no_exception code len y d sy mode_h) (ap is_exception (sym q.kind) ∙ bad))
       by_row (Rests q (inr none)) =
-          let here = revalued (inr q.write) (stops_follows kn x y fx sy inner (inputs_of rec) bare i told mark u v q none) in
-          subst (λ z. Follows (use_turn z k us h turn_v) (nested_insn i value x f u)) (sym (q.idle (Fetches i len)))
-          (subst (λ (z : FrameTurn). Follows (other_turn us.masks z) (nested_insn i value x f u)) (sym going_v)
-          (subst (Follows (other_turn us.masks (goes_on_turn i told mark y us.frame v))) (sym (going_is i value x f u goes)) here))
+          goes_turn us f x y i len k told value h u v None (q.idle (Fetches i len)) goes inner.saved (revalued (inr q.write) (stops_follows kn x y fx sy inner (inputs_of rec) bare i told mark u v q none))
       by_row (Pushes number _ n low entry size is small eu ev) = absurd (both_ways g.control.ps.excm low mode_g)
       by_row (Pops a0 low return_ eu ev) = absurd (both_ways g.control.ps.excm low mode_g)
 
       goes_target : target
       goes_target = conclude (by_row row)
 
-  shown_at : (at : Fetched) → fetched code h.control.pc ≡ at → use_breach b fresh code live kb true rec us ≡ None → first_shown (fetched_uses b fresh live kb at rec us h (laid_step code rec.reply h)) ≡ None
-  shown_at at e none =
-      let whole : laid_use b fresh code live kb rec us h ≡ None = sym (breach_use_inside b fresh code live kb rec us y sy) ∙ none in
-      ap (λ z. first_shown (fetched_uses b fresh live kb z rec us h (laid_step code rec.reply h))) (sym e)
-      ∙ (sym (laid_fetches b fresh code live kb rec us h (or_from _ _ still runs)) ∙ whole)
-
-  by_fetch : (at : Fetched) → fetched code h.control.pc ≡ at → use_breach b fresh code live kb true rec us ≡ None → target
-  by_fetch (Fails a) e none = absurd (other_breaks b live kb rec h (laid_step code rec.reply h) y sy (none_shown (use_tests false (swaps_unknown kb rec.access) false (other_tests b live nowhere rec h (laid_step code rec.reply h))) (shown_at (Fails a) e none)))
-  by_fetch SpellsNothing e none = absurd (other_breaks b live kb rec h (laid_step code rec.reply h) y sy (none_shown (use_tests false (swaps_unknown kb rec.access) false (other_tests b live nowhere rec h (laid_step code rec.reply h))) (shown_at SpellsNothing e none)))
-  by_fetch (Fetches i len) e none =
-      let v = fetched_step (Fetches i len) code rec.reply h in
-      let shown : first_shown (use_tests (uses_unknown i us h) (swaps_unknown kb rec.access) (breaks_stack b.range i rec.kind h) (insn_tests b fresh live nowhere i rec h v)) ≡ None =
-      subst (λ (z : FrameTurn). first_shown (fetched_uses b fresh live kb (Fetches i len) rec us h z) ≡ None) (step_h (Fetches i len) e) (shown_at (Fetches i len) e none) in
-      let d : Denied b fresh live kb i rec us h v = denied b fresh live kb i rec us h v shown in
-      ⊎_elim (ends_target i len e d) (goes_target i len e d) (cases_Bool (ends_nested i))
+  by_fetch : (at : Fetched) → fetched code h.control.pc ≡ at → laid_use b fresh code live kb rec us h ≡ None → target
+  by_fetch (Fails a) e none = absurd (other_breaks b live kb rec h (laid_step code rec.reply h) y sy (fails_shown b fresh code live kb rec us h still runs none a e))
+  by_fetch SpellsNothing e none = absurd (other_breaks b live kb rec h (laid_step code rec.reply h) y sy (spells_shown b fresh code live kb rec us h still runs none e))
+  by_fetch (Fetches i len) e none = let d = row_denied b fresh code live kb rec us h still runs none i len e in ⊎_elim (ends_target i len e d) (goes_target i len e d) (cases_Bool (ends_nested i))
 
   pub within_goes : use_breach b fresh code live kb true rec us ≡ None → target
-  within_goes none = by_fetch (fetched code h.control.pc) refl none
+  within_goes none = by_fetch (fetched code h.control.pc) refl (sym (breach_use_inside b fresh code live kb rec us y sy) ∙ none)

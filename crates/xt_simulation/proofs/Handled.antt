@@ -28,7 +28,6 @@ use Rattle.xt_frames.specs.SaveAreas.{sp_of, touches, is_live}
 use Rattle.xt_frames.specs.Breaches.{Bounds, window_breach}
 use Rattle.xt_frames.specs.Nesting.{is_nesting}
 use Rattle.xt_frames.specs.HandlerSteps.{is_window, closes, fetched_ends, ends_stretch}
-use Rattle.xt_frames.specs.Stacks.{Stack}
 use Rattle.xt_simulation.specs.Relation as relation
 use Rattle.xt_simulation.specs.Relation.{inputs, lost_at, without_epc1}
 use Rattle.xt_simulation.specs.InHandlers.{Changes, Holds, start_of, Untouched, Stretch, MovesFrame, StoresAlone, above}
@@ -67,7 +66,7 @@ use Rattle.xt_simulation.proofs.Fetched.{byte_is as fetched_byte, bytes_length, 
 use Rattle.xt_simulation.proofs.Plans.{plan_asks}
 use Rattle.xt_simulation.proofs.Turns.{Shown, quiet_level, shown, turned, Turned, load, store, wide_nop, narrow_nop, ends_overflow, ends_underflow, other, Ended, ends_with_rfwo, ends_with_rfwu}
 use Rattle.xt_simulation.proofs.SaveWords.{save_covers, in_areas, stood_before, spilled_before, newest_before, oldest_before}
-use Rattle.xt_simulation.proofs.Begun.{Found, found, stack_of, own_live, same_visible}
+use Rattle.xt_simulation.proofs.Begun.{Found, found, own_live, same_visible}
 
 -- ---- the handler's state, where another memory has the same bytes
 same_bytes : (side : Side) (n : ℕ) (start : Machine) (old new : ℕ → ℕ) → ((a : ℕ) → new a ≡ old a) → Spares side n start old new
@@ -409,9 +408,6 @@ module _ (code : ℕ → ℕ) (constant : (a : ℕ) → code a < 2 ^ 8) (b : Bou
   module _ {m : MemoryContents} {s : State} {f : FrameState} {before : State} {opened : ℕ → ℕ} (h : Handling code b m s f before opened) where
     pub at_start : Found h.side opened b before f h.front h.g h.rest
     at_start = found h.side b (lost_at h.fresh f) before f h.front h.g h.rest opened dram h.shaped h.moves h.within h.begins
-
-    pub handling_stack : Stack b.range.lo b.range.hi f.seen f.frames
-    handling_stack = stack_of h.side b (lost_at h.fresh f) before f h.front h.g h.rest opened h.begins
 
     abbrev n : ℕ
     n = h.g.by

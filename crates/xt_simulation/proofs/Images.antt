@@ -28,8 +28,7 @@ use Rattle.xt_simulation.specs.Opening.{IsOpening, IsStack, AreSmall, IsRunnable
 use Rattle.xt_simulation.specs.Headline.{IsCovered, WindowsAreFrames, AreFrames, opening_of, judged_in, records0, records1}
 use Rattle.xt_simulation.specs.Headline.{HaveMovedFrames, StretchesOfImages}
 use Rattle.xt_simulation.specs.Headline.{AreAllJudged, ImagesAreAllJudged}
-use Rattle.xt_simulation.proofs.Headline.{runs_are_frames}
-use Rattle.xt_simulation.proofs.Positions.{stretches_of_runs}
+use Rattle.xt_simulation.proofs.Positions.{runs_are_frames, stretches_of_runs}
 use Rattle.xt_simulation.proofs.AllJudged.{runs_are_all_judged}
 
 -- the run with its records

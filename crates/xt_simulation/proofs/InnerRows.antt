@@ -283,7 +283,7 @@ exchanges_on : (w : Option WindowRegister) (t n x u v : ℕ) (e : Effect) → ex
 exchanges_on None t n x u v e q = cc
 exchanges_on (Some w) t n x u v e q = cc
 
-stops_move_none : (code : ℕ → ℕ) (i : Insn) (pc x y u v : ℕ) (ps : Ps) (threadptr : ℕ) → outcome code i pc x y u v ps threadptr ≡ Stops → moved_to i ≡ None
+pub stops_move_none : (code : ℕ → ℕ) (i : Insn) (pc x y u v : ℕ) (ps : Ps) (threadptr : ℕ) → outcome code i pc x y u v ps threadptr ≡ Stops → moved_to i ≡ None
 unfolding outcome system_outcome moved_to
 stops_move_none code (insn.System (system.Rsr SpecialName.Wsr t n)) pc x y u v ps threadptr is = absurd (writes_on (window_register n) n x v (unchanged ps threadptr) is)
 stops_move_none code (insn.System (system.Rsr SpecialName.Xsr t n)) pc x y u v ps threadptr is = absurd (exchanges_on (window_register n) t n x u v (unchanged ps threadptr) is)

@@ -1,5 +1,5 @@
 -- A judged step of one core, over both memories.
-use Rattle.std.proofs.Common.{◌≡◌, ℕ, ◌^◌, ◌%◌, ◌<◌, Bool, false, Option, Some, None, List, sym, ap, ◌∙◌, refl, arith, subst}
+use Rattle.std.proofs.Common.{◌≡◌, ℕ, ◌^◌, ◌%◌, ◌<◌, Bool, true, false, Option, Some, None, List, sym, ap, ◌∙◌, refl, arith, subst}
 use Rattle.std.proofs.lemmas.Bool.{or_left}
 use Rattle.xt_map.specs.declared.access.Access.{Access}
 use Rattle.xt_map.specs.declared.contents.MemoryContents.{MemoryContents}
@@ -74,6 +74,49 @@ shaped_silent code m s bytes shaped none =
     let small : reply_now code m s < 2 ^ 32 = subst (λ (o : Option Access). reply_at m o < 2 ^ 32) (sym none) (omega arith) in
     turn_shaped code s (reply_now code m s) bytes shaped small
 
+-- a judged step outside nested interrupts, with the frame step of one record
+pub record JudgedStep (code : ℕ → ℕ) (b : Bounds) (fresh : Bool) (s : State) (f : FrameState) (m : MemoryContents) (spilled : List Frame) (u : FrameTurn) : Type 0 where
+  pub kind : (record_now code m s).kind ≡ u.kind
+  pub write : (record_now code m s).write ≡ u.write
+  pub access : (record_now code m s).access ≡ u.access
+  pub ps : (turn_of code s (reply_now code m s)).after.control.ps ≡ u.after.control.ps
+  pub ring : List Frame
+  -- where it changes no live byte
+  pub related : ((a : ℕ) → is_live b.range f a ≡ true → byte_at (memory_now code m s) a ≡ byte_at m a)
+      → Related (byte_at (memory_now code m s)) b (lost_at (fresh_turn fresh code (reply_now code m s) s) u.after) (state_now code m s) u.after ring spilled
+
+module _ (code : ℕ → ℕ) (bytes : AreBytes code) (b : Bounds) (fresh : Bool) (s : State) (f : FrameState) (ring spilled : List Frame) (m : MemoryContents) (l : Related (byte_at m) b (lost_at fresh f) s f ring spilled) (plain : f.nested ≡ None) (shaped : IsShaped s) (real : IsMemory m)
+    (nowindow : is_window (planned code s).kind ≡ false) (live stale : ℕ → Bool) (quiet : laid_breach b fresh code live stale (record_now code m s) (laid (inputs_of (record_now code m s)) f) ≡ None) where
+  abbrev laid_f : FrameState
+  laid_f = laid (inputs 0 s) f
+
+  quiet_f : laid_breach b fresh code live stale (record_now code m s) laid_f ≡ None
+  quiet_f = subst (λ x. laid_breach b fresh code live stale (record_now code m s) x ≡ None) (same_laid code s (reply_now code m s) f shaped.control.ps.owb_fits) quiet
+
+  pub judged_step : JudgedStep code b fresh s f m spilled (plain_after code (reply_now code m s) laid_f)
+  unfolding turn demand
+  judged_step =
+      let p = keeps_level code bytes b fresh live stale s laid_f ring spilled (reply_now code m s) l.plain plain shaped (shaped_now code m s bytes shaped real) (record_reply code m s) nowindow quiet_f in
+      let calls : laid_f.control.ps.callinc < 4 = rw (← ap (λ q. q.callinc) l.plain.even.ps) l.plain.calls in
+      let stack = keeps_stack code bytes b fresh live stale (record_now code m s) laid_f l.stack calls quiet_f in
+      record {
+        kind = p.kind;
+        write = p.write;
+        access = p.access;
+        ps = p.level.even.ps;
+        ring = p.ring;
+        related = λ mine.
+            let saved : Saved (word (byte_at (memory_now code m s))) b.range.hi (sp_under (known f.seen 1) ring) spilled = (related_spared (byte_at m) (byte_at (memory_now code m s)) b f mine l).saved in
+            record {
+              plain = lay p.level;
+              stack = subst (λ x. Stack b.range.lo b.range.hi (laid_step code x laid_f).after.seen (laid_step code x laid_f).after.frames) (record_reply code m s) stack;
+              saved = rw p.same saved;
+            };
+      }
+
+  pub step_areas : KeepsAreas live stale (demand code s)
+  step_areas = let k = areas_kept code b fresh live stale s laid_f ring spilled (reply_now code m s) l.plain quiet_f in keeps_from live stale (demand code s) k.0 k.1
+
 module _ (code : ℕ → ℕ) (bytes : AreBytes code) (b : Bounds) (fresh : Bool) (s : State) (f : FrameState) (ring spilled : List Frame) (m framed : MemoryContents) (others stale : ℕ → Bool)
     (l : Related (byte_at m) b (lost_at fresh f) s f ring spilled) (plain : f.nested ≡ None) (shaped : IsShaped s) (real : IsMemory m) (sizes : HasSizes framed) (agree : Agree (live_of b f others) stale m framed)
     (nowindow : is_window (planned code s).kind ≡ false) (none : breach_of b fresh code (live_of b f others) stale false (record_now code m s) f ≡ None) where
@@ -83,8 +126,8 @@ module _ (code : ℕ → ℕ) (bytes : AreBytes code) (b : Bounds) (fresh : Bool
   same_g : laid (inputs_of (record_now code m s)) f ≡ g
   same_g = same_laid code s (reply_now code m s) f shaped.control.ps.owb_fits
 
-  none_g : laid_breach b fresh code (live_of b f others) stale (record_now code m s) g ≡ None
-  none_g = subst (λ x. laid_breach b fresh code (live_of b f others) stale (record_now code m s) x ≡ None) same_g (sym (breach_plain b fresh code (live_of b f others) stale (record_now code m s) f plain) ∙ none)
+  quiet : laid_breach b fresh code (live_of b f others) stale (record_now code m s) (laid (inputs_of (record_now code m s)) f) ≡ None
+  quiet = sym (breach_plain b fresh code (live_of b f others) stale (record_now code m s) f plain) ∙ none
 
   same_step : step_on code false (record_now code m s) f ≡ plain_after code (reply_now code m s) g
   same_step = step_plain code (record_now code m s) f plain ∙ (ap (λ x. plain_after code (record_now code m s).reply x) same_g ∙ ap (λ x. plain_after code x g) (record_reply code m s))
@@ -93,22 +136,12 @@ module _ (code : ℕ → ℕ) (bytes : AreBytes code) (b : Bounds) (fresh : Bool
   pub judge_plain : (step_on code false (record_now code m s) f).after.nested ≡ None
   judge_plain = ap (λ (x : FrameTurn). x.after.nested) same_step ∙ ((laid_stays code (reply_now code m s) g).0 ∙ plain)
 
-  calls : g.control.ps.callinc < 4
-  calls = rw (← ap (λ q. q.callinc) l.plain.even.ps) l.plain.calls
-
-  kept : KeepsAreas (live_of b f others) stale (demand code s)
-  kept = let k = areas_kept code b fresh (live_of b f others) stale s g ring spilled (reply_now code m s) l.plain none_g in keeps_from (live_of b f others) stale (demand code s) k.0 k.1
-
   abbrev u : FrameTurn
   u = plain_after code (reply_now code m s) g
 
-  stack_after : Stack b.range.lo b.range.hi u.after.seen u.after.frames
-  stack_after =
-      let k = keeps_stack code bytes b fresh (live_of b f others) stale (record_now code m s) g l.stack calls none_g in
-      subst (λ x. Stack b.range.lo b.range.hi (laid_step code x g).after.seen (laid_step code x g).after.frames) (record_reply code m s) k
-
-  saved_after : Saved (word (byte_at (memory_now code m s))) b.range.hi (sp_under (known f.seen 1) ring) spilled
-  saved_after = (related_spared (byte_at m) (byte_at (memory_now code m s)) b f (λ a live. live_kept (live_of b f others) stale m (demand code s) a kept (or_left (is_live b.range f a) (others a) live)) l).saved
+  -- no live byte of either core is touched
+  pub judge_areas : KeepsAreas (live_of b f others) stale (demand code s)
+  judge_areas = step_areas code bytes b fresh s f ring spilled m l plain shaped real nowindow (live_of b f others) stale quiet
 
   same_fresh : (planned code s).kind ≡ u.kind → (turn_of code s (reply_now code m s)).after.control.ps ≡ u.after.control.ps → fresh_turn fresh code (reply_now code m s) s ≡ fresh_on fresh code false (record_now code m s) f
   same_fresh kind after =
@@ -127,7 +160,7 @@ module _ (code : ℕ → ℕ) (bytes : AreBytes code) (b : Bounds) (fresh : Bool
   pub judge_keeps : After code b fresh s f m framed others stale
   unfolding turn demand
   judge_keeps =
-      let p = keeps_level code bytes b fresh (live_of b f others) stale s g ring spilled (reply_now code m s) l.plain plain shaped (shaped_now code m s bytes shaped real) (record_reply code m s) nowindow none_g in
+      let p = judged_step code bytes b fresh s f ring spilled m l plain shaped real nowindow (live_of b f others) stale quiet in
       let e = sym same_step in
       let access : (demand code s) ≡ u.access = p.access in
       record {
@@ -136,19 +169,15 @@ module _ (code : ℕ → ℕ) (bytes : AreBytes code) (b : Bounds) (fresh : Bool
           kind = p.kind ∙ ap (λ (x : FrameTurn). x.kind) e;
           write = p.write ∙ ap (λ (x : FrameTurn). x.write) e;
           access = access ∙ ap (λ (x : FrameTurn). x.access) e;
-          reply = record_reply code m s ∙ (replies_agree (live_of b f others) stale m framed (demand code s) agree kept ∙ (ap (reply_at framed) access ∙ ap (λ (x : FrameTurn). reply_at framed x.access) e));
+          reply = record_reply code m s ∙ (replies_agree (live_of b f others) stale m framed (demand code s) agree judge_areas ∙ (ap (reply_at framed) access ∙ ap (λ (x : FrameTurn). reply_at framed x.access) e));
         };
         somewhere = subst (λ (x : FrameTurn). Somewhere (byte_at (memory_now code m s)) b (lost_at (fresh_on fresh code false (record_now code m s) f) x.after) (state_now code m s) x.after) e
-            (subst (λ z. Somewhere (byte_at (memory_now code m s)) b (lost_at z u.after) (state_now code m s) u.after) (same_fresh p.kind p.level.even.ps) (record {
+            (subst (λ z. Somewhere (byte_at (memory_now code m s)) b (lost_at z u.after) (state_now code m s) u.after) (same_fresh p.kind p.ps) (record {
               ring = p.ring;
               spilled = spilled;
-              related = record { plain = lay p.level; stack = stack_after; saved = rw p.same saved_after };
+              related = p.related (λ a live. live_kept (live_of b f others) stale m (demand code s) a judge_areas (or_left (is_live b.range f a) (others a) live));
             }));
         agree = subst (λ (x : FrameTurn). Agree (live_of b x.after others) (stale_after (live_of b x.after others) (live_of b f others) stale (record_now code m s).access) (memory_now code m s) (memory_after_step framed x.access)) e
             (subst (λ o. Agree (live_of b u.after others) (stale_after (live_of b u.after others) (live_of b f others) stale (demand code s)) (memory_now code m s) (memory_after_step framed o)) access
-            (memories_agree (live_of b f others) (live_of b u.after others) stale m framed (demand code s) real.sizes sizes (demand_served code s) agree kept));
+            (memories_agree (live_of b f others) (live_of b u.after others) stale m framed (demand code s) real.sizes sizes (demand_served code s) agree judge_areas));
       }
-
-  -- and no live byte of either core is touched
-  pub judge_areas : KeepsAreas (live_of b f others) stale (demand code s)
-  judge_areas = kept

@@ -29,6 +29,7 @@ pub mod Judges
 pub mod Opened
 pub mod Served
 pub mod NestedSteps
+pub mod OneCore
 pub mod Walk
 pub mod OneWalk
 pub mod Positions

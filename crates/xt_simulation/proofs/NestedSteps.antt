@@ -1,7 +1,7 @@
 -- What a nested step leaves, as the walk over both cores asks it: of the record that begins a nested interrupt, of a step of it, and of
 -- RFI 5.
 use Rattle.std.proofs.Common.{◌≡◌, ℕ, Bool, true, false, ◌&&◌, not, eqb, Some, None, sym, ap, ◌∙◌, refl, subst}
-use Rattle.std.proofs.lemmas.Bool.{cond-true, and_right, or_from, false≢true, false_from_ne_true}
+use Rattle.std.proofs.lemmas.Bool.{cond-true, and_right, or_from, false≢true}
 use Rattle.xt_map.specs.declared.contents.MemoryContents.{MemoryContents}
 use Rattle.xt_special.specs.declared.ps.Ps.{Ps}
 use Rattle.xt_window.specs.Ring.{visible}
@@ -13,16 +13,16 @@ use Rattle.xt_rows.specs.Settling.{settled_interrupt}
 use Rattle.xt_fetch.specs.Fetching.{Fetched, Fetches, Fails, SpellsNothing, fetched}
 use Rattle.xt_exec.specs.State.{State}
 use Rattle.xt_exec.specs.Laws.{IsShaped}
-use Rattle.xt_exec.specs.Turn.{Planned, in_window, planned, demand, turn, done, reply_where}
+use Rattle.xt_exec.specs.Turn.{in_window, planned, demand, turn, done, reply_where}
 use Rattle.xt_frames.specs.declared.holes.Nested.{Nested}
 use Rattle.xt_frames.specs.Frames.{FrameState}
 use Rattle.xt_frames.specs.FrameStep.{FrameTurn, laid, laid_step}
 use Rattle.xt_frames.specs.Marks.{are_own_marks}
-use Rattle.xt_frames.specs.Nesting.{begins, begun, current, inside, is_nesting, nested_turn}
+use Rattle.xt_frames.specs.Nesting.{begins, begun, current, inside, is_nesting}
 use Rattle.xt_frames.specs.HandlerSteps.{returns, fetched_returns}
 use Rattle.xt_frames.specs.Breaches.{Bounds, inputs_of, breach_of, fetched_tests, fetched_sets_epc1, writes_epc1, fresh_after, touches_save_area, loads_stale}
-use Rattle.xt_frames.specs.Judging.{fresh_on, step_on, value_in, place_on}
-use Rattle.xt_frames.proofs.Inside.{begins_now, ended_fetched, fresh_inside, fresh_begun, open_fetched, returns_fetched, step_begins, step_inside}
+use Rattle.xt_frames.specs.Judging.{fresh_on, step_on, place_on}
+use Rattle.xt_frames.proofs.Inside.{begins_now, fresh_inside, fresh_begun, returns_fetched, step_begins}
 use Rattle.xt_frames.proofs.Shown.{NoneShown, sound}
 use Rattle.xt_simulation.specs.Relation.{inputs}
 use Rattle.xt_simulation.specs.Steps.{reply_at, reply_now, record_now, state_now}
@@ -114,28 +114,12 @@ module _ {code : ℕ → ℕ} {b : Bounds} {m : MemoryContents} {s : State} {f :
       let excm_y : y.control.ps.excm ≡ true = ap (λ (z : FrameState). z.control.ps.excm) (laid_same h.inside code m shaped) ∙ laid_excm h.inside in
       fresh_inside false code true rec f h.x h.nested ∙ or_from _ _ (not_written (laid_step code rec.reply y).kind (fetched code y.control.pc) y.control.ps excm_y quiet.0) refl
 
-  -- ---- whether it ends the interrupt
+  -- ---- the end of the interrupt
   here : fetched_returns (fetched code s.control.pc) ≡ true → (len : ℕ) × (planned code s ≡ done (Does (back s.control)) len s)
   here ends = back_at code s h.inside.mode h.inside.level h.inside.running (fetched code s.control.pc) refl ends
 
   pc_same : s.control.pc ≡ h.x.pc
   pc_same = h.inside.even.pc
-
-  after_is : step_on code true rec f ≡ nested_turn code (value_in rec.write) (inputs_of rec) h.x f
-  after_is = step_inside code true rec f h.x h.nested
-
-  pub nested_ends : returns code (planned code s).kind s.control.pc ≡ true → (step_on code true rec f).after.nested ≡ None
-  nested_ends e =
-      let at : fetched_returns (fetched code h.x.pc) ≡ true = subst (λ pc. fetched_returns (fetched code pc) ≡ true) pc_same (returns_fetched code (planned code s).kind s.control.pc e) in
-      ap (λ (u : FrameTurn). u.after.nested) after_is ∙ ended_fetched (fetched code h.x.pc) (value_in rec.write) h.x f (laid_step code rec.reply (laid (inputs_of rec) (inside h.x f))) at
-
-  stays_at : returns code (planned code s).kind s.control.pc ≡ false → fetched_returns (fetched code s.control.pc) ≡ true → ⊥
-  stays_at e at = false≢true (sym e ∙ (ap (λ k. returns code k s.control.pc) (ap (λ (p : Planned). p.kind) (here at).1) ∙ at))
-
-  pub nested_goes_on : returns code (planned code s).kind s.control.pc ≡ false → (step_on code true rec f).after.nested ≡ None → ⊥
-  nested_goes_on e n =
-      let away : fetched_returns (fetched code h.x.pc) ≡ false = false_from_ne_true (fetched_returns (fetched code h.x.pc)) (λ t. stays_at e (subst (λ pc. fetched_returns (fetched code pc) ≡ true) (sym pc_same) t)) in
-      open_fetched (fetched code h.x.pc) (value_in rec.write) h.x f (laid_step code rec.reply (laid (inputs_of rec) (inside h.x f))) away (sym (ap (λ (u : FrameTurn). u.after.nested) after_is) ∙ n)
 
   pub nested_back : returns code (planned code s).kind s.control.pc ≡ true → Back s (state_now code m s) suspended
   nested_back e =

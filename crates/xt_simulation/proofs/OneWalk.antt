@@ -45,87 +45,102 @@ module _ (code : ℕ → ℕ) (b0 b1 : Bounds) where
       ∙ (ap (λ m. W (give (processor code) 1 v).core1.state m entries) (sym (line_next code 1 v.core1 v.line v.core1.left pos))
       ∙ ap (λ es. W (give (processor code) 1 v).core1.state (give (processor code) 1 v).line.memory es) same)
 
-  -- one turn before the rest of a walk
-  turned : (c : Bool) (cs : List Bool) (w : World) (n : Option World) (v : worlds.World State) (k : Known) → given code b0 b1 c w ≡ n → Reaches cs n v k → Reaches (c ∷ cs) (Some w) v k
-  turned c cs w n v k is r = record { entered0 = r.entered0; entered1 = r.entered1; walk = ap (walked code b0 b1 cs) is ∙ r.walk }
+  -- the walk has come as far as the judge: to the end of these turns where it shows no breach, and else to the breach
+  pub record Comes (cs : List ℕ) (from : Option World) (v : worlds.World State) (j : Judgement) : Type 0 where
+    pub made : List Bool
+    pub at : worlds.World State
+    pub reaches : Reaches made from at j.known
+    pub whole : j.breach ≡ None → (made ≡ turns_of cs) × (at ≡ advance (processor code) cs v)
 
-  step0 : (v : worlds.World State) (k : Known) (e0 e1 : Entered) → 0 < v.core0.left → (o : Seen) → seen_0 code b0 b1 k (record_now code v.line.memory v.core0.state) ≡ o → (cs : List Bool) (to : worlds.World State) (rest : Known → Judgement)
-      → ((n : Known) (at : Entered) → (rest n).breach ≡ None → Reaches cs (Some (world_of code (give (processor code) 0 v) n at e1)) to (rest n).known)
-      → (passed_0 o k (record_now code v.line.memory v.core0.state) rest).breach ≡ None
-      → Reaches (true ∷ cs) (Some (world_of code v k e0 e1)) to (passed_0 o k (record_now code v.line.memory v.core0.state) rest).known
-  step0 v k e0 e1 pos (Breaks kind) e cs to rest more whole = absurd cc
-  step0 v k e0 e1 pos (Handled standing) e cs to rest more whole =
+  -- one turn before the rest of a walk
+  turned : (c : Bool) (w : World) (n : Option World) {cs : List Bool} {v : worlds.World State} {k : Known} → given code b0 b1 c w ≡ n → Reaches cs n v k → Reaches (c ∷ cs) (Some w) v k
+  turned c w n {cs = cs} is r = record { entered0 = r.entered0; entered1 = r.entered1; walk = ap (walked code b0 b1 cs) is ∙ r.walk }
+
+  come0 : (w : World) (n : Option World) {cs : List ℕ} {v : worlds.World State} {j : Judgement} → given code b0 b1 true w ≡ n → Comes cs n (give (processor code) 0 v) j → Comes (0 ∷ cs) (Some w) v j
+  come0 w n is r = record { made = true ∷ r.made; at = r.at; reaches = turned true w n is r.reaches; whole = λ e. (ap (λ l. true ∷ l) (r.whole e).0, (r.whole e).1) }
+
+  come1 : (w : World) (n : Option World) {c : ℕ} {cs : List ℕ} {v : worlds.World State} {j : Judgement} → given code b0 b1 false w ≡ n → Comes cs n (give (processor code) 1 v) j → Comes (suc c ∷ cs) (Some w) v j
+  come1 w n is r = record { made = false ∷ r.made; at = r.at; reaches = turned false w n is r.reaches; whole = λ e. (ap (λ l. false ∷ l) (r.whole e).0, (r.whole e).1) }
+
+  -- nothing is left, or the next record is a breach
+  here : {cs : List ℕ} {v : worlds.World State} (k : Known) (e0 e1 : Entered) (b : Option Breach) → (b ≡ None → ([] ≡ turns_of cs) × (v ≡ advance (processor code) cs v)) → Comes cs (Some (world_of code v k e0 e1)) v (record { known = k; breach = b })
+  here {v = v} k e0 e1 b whole = record { made = []; at = v; reaches = record { entered0 = e0; entered1 = e1; walk = refl }; whole = whole }
+
+  step0 : (v : worlds.World State) (k : Known) (e0 e1 : Entered) → 0 < v.core0.left → (o : Seen) → seen_0 code b0 b1 k (record_now code v.line.memory v.core0.state) ≡ o → (cs : List ℕ) (rest : Known → Judgement)
+      → ((n : Known) (at : Entered) → Comes cs (Some (world_of code (give (processor code) 0 v) n at e1)) (give (processor code) 0 v) (rest n))
+      → Comes (0 ∷ cs) (Some (world_of code v k e0 e1)) v (passed_0 o k (record_now code v.line.memory v.core0.state) rest)
+  step0 v k e0 e1 pos (Breaks kind) e cs rest more = here k e0 e1 _ (λ none. absurd cc)
+  step0 v k e0 e1 pos (Handled standing) e cs rest more =
       let s = v.core0.state in
       let rec = record_now code v.line.memory s in
       let w = world_of code v k e0 e1 in
       let at : Entered = entered_by k.standing0.mode s v.line.memory e0 in
       let n = past_handled_0 standing k in
-      turned true cs w (Some (world_of code (give (processor code) 0 v) n at e1)) to (rest n).known
+      come0 w (Some (world_of code (give (processor code) 0 v) n at e1))
       (ap (λ o. moved0 code w (moved_by o 0 w.core0 v.line.memory (state_now code v.line.memory s) rec k.stale)) e
       ∙ arrives0 v k e0 e1 at standing k.stale k.judged0 (k.entries ++ []) k.entries pos (append-nil k.entries))
-      (more n at whole)
-  step0 v k e0 e1 pos (Judges standing stale) e cs to rest more whole =
+      (more n at)
+  step0 v k e0 e1 pos (Judges standing stale) e cs rest more =
       let s = v.core0.state in
       let rec = record_now code v.line.memory s in
       let w = world_of code v k e0 e1 in
       let at : Entered = entered_past k.standing0.mode s v.line.memory (state_now code v.line.memory s) e0 in
       let n = past_judged_0 standing stale rec k in
-      turned true cs w (Some (world_of code (give (processor code) 0 v) n at e1)) to (rest n).known
+      come0 w (Some (world_of code (give (processor code) 0 v) n at e1))
       (ap (λ o. moved0 code w (moved_by o 0 w.core0 v.line.memory (state_now code v.line.memory s) rec k.stale)) e
       ∙ arrives0 v k e0 e1 at standing stale (k.judged0 ++ (is_nested k.standing0.mode, rec) ∷ []) (k.entries ++ entry_of 0 rec.access rec.reply) (k.entries ++ entry_of 0 rec.access rec.reply) pos refl)
-      (more n at whole)
+      (more n at)
 
-  step1 : (v : worlds.World State) (k : Known) (e0 e1 : Entered) → 0 < v.core1.left → (o : Seen) → seen_1 code b0 b1 k (record_now code v.line.memory v.core1.state) ≡ o → (cs : List Bool) (to : worlds.World State) (rest : Known → Judgement)
-      → ((n : Known) (at : Entered) → (rest n).breach ≡ None → Reaches cs (Some (world_of code (give (processor code) 1 v) n e0 at)) to (rest n).known)
-      → (passed_1 o k (record_now code v.line.memory v.core1.state) rest).breach ≡ None
-      → Reaches (false ∷ cs) (Some (world_of code v k e0 e1)) to (passed_1 o k (record_now code v.line.memory v.core1.state) rest).known
-  step1 v k e0 e1 pos (Breaks kind) e cs to rest more whole = absurd cc
-  step1 v k e0 e1 pos (Handled standing) e cs to rest more whole =
+  step1 : (v : worlds.World State) (k : Known) (e0 e1 : Entered) → 0 < v.core1.left → (o : Seen) → seen_1 code b0 b1 k (record_now code v.line.memory v.core1.state) ≡ o → (c : ℕ) (cs : List ℕ) (rest : Known → Judgement)
+      → ((n : Known) (at : Entered) → Comes cs (Some (world_of code (give (processor code) 1 v) n e0 at)) (give (processor code) 1 v) (rest n))
+      → Comes (suc c ∷ cs) (Some (world_of code v k e0 e1)) v (passed_1 o k (record_now code v.line.memory v.core1.state) rest)
+  step1 v k e0 e1 pos (Breaks kind) e c cs rest more = here k e0 e1 _ (λ none. absurd cc)
+  step1 v k e0 e1 pos (Handled standing) e c cs rest more =
       let s = v.core1.state in
       let rec = record_now code v.line.memory s in
       let w = world_of code v k e0 e1 in
       let at : Entered = entered_by k.standing1.mode s v.line.memory e1 in
       let n = past_handled_1 standing k in
-      turned false cs w (Some (world_of code (give (processor code) 1 v) n e0 at)) to (rest n).known
+      come1 w (Some (world_of code (give (processor code) 1 v) n e0 at))
       (ap (λ o. moved1 code w (moved_by o 1 w.core1 v.line.memory (state_now code v.line.memory s) rec k.stale)) e
       ∙ arrives1 v k e0 e1 at standing k.stale k.judged1 (k.entries ++ []) k.entries pos (append-nil k.entries))
-      (more n at whole)
-  step1 v k e0 e1 pos (Judges standing stale) e cs to rest more whole =
+      (more n at)
+  step1 v k e0 e1 pos (Judges standing stale) e c cs rest more =
       let s = v.core1.state in
       let rec = record_now code v.line.memory s in
       let w = world_of code v k e0 e1 in
       let at : Entered = entered_past k.standing1.mode s v.line.memory (state_now code v.line.memory s) e1 in
       let n = past_judged_1 standing stale rec k in
-      turned false cs w (Some (world_of code (give (processor code) 1 v) n e0 at)) to (rest n).known
+      come1 w (Some (world_of code (give (processor code) 1 v) n e0 at))
       (ap (λ o. moved1 code w (moved_by o 1 w.core1 v.line.memory (state_now code v.line.memory s) rec k.stale)) e
       ∙ arrives1 v k e0 e1 at standing stale (k.judged1 ++ (is_nested k.standing1.mode, rec) ∷ []) (k.entries ++ entry_of 1 rec.access rec.reply) (k.entries ++ entry_of 1 rec.access rec.reply) pos refl)
-      (more n at whole)
+      (more n at)
 
-  -- where the judge sees no breach in the first p turns, the walk stands where the run does and the judge knows what the walk knows
-  pub one_walk : (p : ℕ) (cores : List ℕ) (v : worlds.World State) (k : Known) (e0 e1 : Entered) (xs ys : List StepRecord) → IsWalk (processor code) cores v xs ys → (judgement code b0 b1 (take p cores) xs ys k).breach ≡ None
-      → Reaches (turns_of (take p cores)) (Some (world_of code v k e0 e1)) (advance (processor code) (take p cores) v) (judgement code b0 b1 (take p cores) xs ys k).known
-  one_walk zero cores v k e0 e1 xs ys walk whole = record { entered0 = e0; entered1 = e1; walk = refl }
-  one_walk (suc p) [] v k e0 e1 xs ys walk whole = record { entered0 = e0; entered1 = e1; walk = refl }
-  one_walk (suc p) (zero ∷ cs) v k e0 e1 [] ys (left, is, pos, more) whole = absurd cc
-  one_walk (suc p) (zero ∷ cs) v k e0 e1 (x ∷ xs) ys (left, is, pos, more) whole =
+  -- over the first p turns the walk of both cores comes as far as the judge
+  pub one_walk : (p : ℕ) (cores : List ℕ) (v : worlds.World State) (k : Known) (e0 e1 : Entered) (xs ys : List StepRecord) → IsWalk (processor code) cores v xs ys
+      → Comes (take p cores) (Some (world_of code v k e0 e1)) v (judgement code b0 b1 (take p cores) xs ys k)
+  one_walk zero cores v k e0 e1 xs ys walk = here k e0 e1 None (λ e. (refl, refl))
+  one_walk (suc p) [] v k e0 e1 xs ys walk = here k e0 e1 None (λ e. (refl, refl))
+  one_walk (suc p) (zero ∷ cs) v k e0 e1 [] ys (left, is, pos, more) = absurd cc
+  one_walk (suc p) (zero ∷ cs) v k e0 e1 (x ∷ xs) ys (left, is, pos, more) =
       let first : x ≡ record_now code v.line.memory v.core0.state = (let q : x ≡ next_record (processor code) v.core0 v.line = cc in q ∙ next_is code v.core0 v.line) in
       let last : left ≡ xs = cc in
       let next = give (processor code) 0 v in
       let rest : Known → Judgement = λ n. judgement code b0 b1 (take p cs) xs ys n in
       let go : List StepRecord → Type 0 = λ r. IsWalk (processor code) cs next r ys in
       let after : IsWalk (processor code) cs next xs ys = subst go last more in
-      let goal : StepRecord → Type 0 = λ r. (passed_0 (seen_0 code b0 b1 k r) k r rest).breach ≡ None → Reaches (true ∷ turns_of (take p cs)) (Some (world_of code v k e0 e1)) (advance (processor code) (take p cs) next) (passed_0 (seen_0 code b0 b1 k r) k r rest).known in
-      subst goal (sym first) (step0 v k e0 e1 pos (seen_0 code b0 b1 k (record_now code v.line.memory v.core0.state)) refl (turns_of (take p cs)) (advance (processor code) (take p cs) next) rest (λ n at clear. one_walk p cs next n at e1 xs ys after clear)) whole
-  one_walk (suc p) (suc c ∷ cs) v k e0 e1 xs [] (left, is, pos, more) whole = absurd cc
-  one_walk (suc p) (suc c ∷ cs) v k e0 e1 xs (y ∷ ys) (left, is, pos, more) whole =
+      let goal : StepRecord → Type 0 = λ r. Comes (zero ∷ take p cs) (Some (world_of code v k e0 e1)) v (passed_0 (seen_0 code b0 b1 k r) k r rest) in
+      subst goal (sym first) (step0 v k e0 e1 pos (seen_0 code b0 b1 k (record_now code v.line.memory v.core0.state)) refl (take p cs) rest (λ n at. one_walk p cs next n at e1 xs ys after))
+  one_walk (suc p) (suc c ∷ cs) v k e0 e1 xs [] (left, is, pos, more) = absurd cc
+  one_walk (suc p) (suc c ∷ cs) v k e0 e1 xs (y ∷ ys) (left, is, pos, more) =
       let first : y ≡ record_now code v.line.memory v.core1.state = (let q : y ≡ next_record (processor code) v.core1 v.line = cc in q ∙ next_is code v.core1 v.line) in
       let last : left ≡ ys = cc in
       let next = give (processor code) 1 v in
       let rest : Known → Judgement = λ n. judgement code b0 b1 (take p cs) xs ys n in
       let go : List StepRecord → Type 0 = λ r. IsWalk (processor code) cs next xs r in
       let after : IsWalk (processor code) cs next xs ys = subst go last more in
-      let goal : StepRecord → Type 0 = λ r. (passed_1 (seen_1 code b0 b1 k r) k r rest).breach ≡ None → Reaches (false ∷ turns_of (take p cs)) (Some (world_of code v k e0 e1)) (advance (processor code) (take p cs) next) (passed_1 (seen_1 code b0 b1 k r) k r rest).known in
-      subst goal (sym first) (step1 v k e0 e1 pos (seen_1 code b0 b1 k (record_now code v.line.memory v.core1.state)) refl (turns_of (take p cs)) (advance (processor code) (take p cs) next) rest (λ n at clear. one_walk p cs next n e0 at xs ys after clear)) whole
+      let goal : StepRecord → Type 0 = λ r. Comes (suc c ∷ take p cs) (Some (world_of code v k e0 e1)) v (passed_1 (seen_1 code b0 b1 k r) k r rest) in
+      subst goal (sym first) (step1 v k e0 e1 pos (seen_1 code b0 b1 k (record_now code v.line.memory v.core1.state)) refl c (take p cs) rest (λ n at. one_walk p cs next n e0 at xs ys after))
 
 -- ---- a breach ends the walk
 stays0 : (o : Seen) (k : Known) (rec : StepRecord) (rest all : Known → Judgement) (b : Breach) → ((n : Known) → (rest n).breach ≡ Some b → all n ≡ rest n) → (passed_0 o k rec rest).breach ≡ Some b → passed_0 o k rec all ≡ passed_0 o k rec rest

@@ -1,15 +1,52 @@
--- What holds at each position of a run before the first breach.
-use Rattle.std.proofs.Common.{◌≡◌, ℕ, Some, None, List, take, refl, subst}
+-- What holds of a run that is judged, and at each of its positions before the first breach.
+use Rattle.std.proofs.Common.{◌≡◌, ℕ, Some, None, List, length, take, refl, subst}
+use Rattle.std.proofs.Math.Seq.{take-length}
+use Rattle.xt_trace.specs.declared.record.StepRecord.{StepRecord}
 use Rattle.xt_trace.specs.Runs.{opened, schedule_of}
-use Rattle.xt_trace.specs.Walks.{state_at}
+use Rattle.xt_trace.specs.Walks.{IsWalk, state_at}
 use Rattle.xt_trace.proofs.Walks.{own_walk}
 use Rattle.xt_exec.specs.Chips.{processor}
 use Rattle.xt_frames.specs.Frames.{FrameState}
-use Rattle.xt_frames.specs.Verdict.{Known, judgement, opening_known}
-use Rattle.xt_simulation.specs.Opening.{Openings, opening_core, opening_world, bounds0, bounds1, state0, state1, frame0, frame_of}
-use Rattle.xt_simulation.specs.Headline.{IsCovered, Position, turns_of, opening_of, StretchesOfRuns}
-use Rattle.xt_simulation.proofs.Headline.{world_of, alike0, alike1, stretches_move_frames, nested_give_back}
-use Rattle.xt_simulation.proofs.OneWalk.{Reaches, one_walk}
+use Rattle.xt_frames.specs.Verdict.{IsFrameRun, Known, judgement, opening_known}
+use Rattle.xt_simulation.specs.Opening.{Openings, opening_core, opening_world, bounds0, bounds1, state0, state1, frame0, frame_of, memory_of}
+use Rattle.xt_simulation.specs.Headline.{AreFrames, IsCovered, Position, turns_of, judged_in, opening_of, RunsAreFrames, StretchesOfRuns, WalksAreFrames}
+use Rattle.xt_simulation.proofs.Headline.{world_of, alike0, alike1, stretches_move_frames, nested_give_back, turns_are_frames}
+use Rattle.xt_simulation.proofs.OneWalk.{Comes, Reaches, one_walk}
+
+-- ---- the judge's walk over a run
+module _ (o : Openings) (code : ℕ → ℕ) (turns0 turns1 : ℕ) (c : IsCovered o code) (cores : List ℕ) (xs ys : List StepRecord) (walk : IsWalk (processor code) cores (opened (opening_of o turns0 turns1)) xs ys) where
+  -- the walk of both cores beside it
+  beside : (p : ℕ) → Comes code (bounds0 o) (bounds1 o) (take p cores) (Some (opening_world o)) (opened (opening_of o turns0 turns1)) (judged_in o code (take p cores) xs ys)
+  beside p =
+      let C : FrameState → FrameState → Type 0 = λ f g. Comes code (bounds0 o) (bounds1 o) (take p cores) (Some (opening_world o)) (opened (opening_of o turns0 turns1)) (judgement code (bounds0 o) (bounds1 o) (take p cores) xs ys (opening_known f g)) in
+      let here : C (frame_of (state0 o)) (frame_of (state1 o)) =
+      one_walk code (bounds0 o) (bounds1 o) p cores (opened (opening_of o turns0 turns1)) (opening_known (frame_of (state0 o)) (frame_of (state1 o))) (opening_core (state0 o)).entered (opening_core (state1 o)).entered xs ys walk in
+      subst (C (frame0 o)) (alike1 o) (subst (λ f. C f (frame_of (state1 o))) (alike0 o) here)
+
+  -- what it judges is a frame run
+  judged_frames : (p : ℕ) → AreFrames o code (judged_in o code (take p cores) xs ys)
+  judged_frames p =
+      let r = beside p in
+      let R : FrameState → FrameState → Type 0 = λ f g. IsFrameRun code (memory_of o) f g (judged_in o code (take p cores) xs ys).known in
+      let run = turns_are_frames o code c r.made (world_of code r.at (judged_in o code (take p cores) xs ys).known r.reaches.entered0 r.reaches.entered1) r.reaches.walk in
+      subst (R (frame0 o)) (alike1 o) (subst (λ f. R f (frame_of (state1 o))) (alike0 o) (record { first = run.first; second = run.second; legal = run.legal }))
+
+  -- and where it shows no breach, the walk stands where the run does
+  reached : (p : ℕ) → (judged_in o code (take p cores) xs ys).breach ≡ None
+      → Reaches code (bounds0 o) (bounds1 o) (turns_of (take p cores)) (Some (opening_world o)) (state_at (processor code) (opening_of o turns0 turns1) cores p) (judged_in o code (take p cores) xs ys).known
+  reached p none =
+      let r = beside p in
+      let k = (judged_in o code (take p cores) xs ys).known in
+      let all = r.whole none in
+      subst (λ v. Reaches code (bounds0 o) (bounds1 o) (turns_of (take p cores)) (Some (opening_world o)) v k) all.1 (subst (λ cs. Reaches code (bounds0 o) (bounds1 o) cs (Some (opening_world o)) r.at k) all.0 r.reaches)
+
+pub walks_are_frames : WalksAreFrames
+walks_are_frames o code turns0 turns1 c cores xs ys walk =
+    subst (λ cs. AreFrames o code (judged_in o code cs xs ys)) (take-length cores) (judged_frames o code turns0 turns1 c cores xs ys walk (length cores))
+
+pub runs_are_frames : RunsAreFrames
+runs_are_frames o code turns0 turns1 r c run =
+    walks_are_frames o code turns0 turns1 c (schedule_of r) r.trace0.records r.trace1.records (own_walk (processor code) (opening_of o turns0 turns1) r run)
 
 -- where the walk has come, beside the judge
 position : (o : Openings) (code : ℕ → ℕ) (turns0 turns1 : ℕ) (cores : List ℕ) (p : ℕ) (k : Known) → IsCovered o code
@@ -31,14 +68,6 @@ position o code turns0 turns1 cores p k c r =
     }
 
 pub stretches_of_runs : StretchesOfRuns
-stretches_of_runs o code turns0 turns1 r c run p =
-    let opening = opening_of o turns0 turns1 in
-    let cores = schedule_of r in
-    let walk = own_walk (processor code) opening r run in
-    let P : FrameState → FrameState → Type 0 = λ f0 f1. (judgement code (bounds0 o) (bounds1 o) (take p cores) r.trace0.records r.trace1.records (opening_known f0 f1)).breach ≡ None
-    → Position o code turns0 turns1 cores p (judgement code (bounds0 o) (bounds1 o) (take p cores) r.trace0.records r.trace1.records (opening_known f0 f1)).known in
-    let f0 = frame_of (state0 o) in
-    let f1 = frame_of (state1 o) in
-    let here : P f0 f1 = λ whole. position o code turns0 turns1 cores p _ c
-    (one_walk code (bounds0 o) (bounds1 o) p cores (opened opening) (opening_known f0 f1) (opening_core (state0 o)).entered (opening_core (state1 o)).entered r.trace0.records r.trace1.records walk whole) in
-    subst (P (frame0 o)) (alike1 o) (subst (λ f. P f f1) (alike0 o) here)
+stretches_of_runs o code turns0 turns1 r c run p none =
+    position o code turns0 turns1 (schedule_of r) p _ c
+    (reached o code turns0 turns1 c (schedule_of r) r.trace0.records r.trace1.records (own_walk (processor code) (opening_of o turns0 turns1) r run) p none)

@@ -1,14 +1,11 @@
 -- The chain of stack pointers is kept by calls and returns, and its save areas share no byte.
-use Rattle.std.proofs.Common.{◌≡◌, ℕ, ◌+◌, ◌-◌, ◌*◌, ◌≤◌, List, [], ◌∷◌, Option, None, ◌∙◌, arith, inl, inr}
+use Rattle.std.proofs.Common.{◌≡◌, ℕ, ◌+◌, ◌-◌, ◌*◌, ◌≤◌, List, [], ◌∷◌, ◌∙◌, arith, inl, inr}
 use Rattle.xt_frames.specs.Stacks.{Chain, IsRange, AreFrames}
 use Rattle.xt_frames.specs.Frames.{Frame}
 use Rattle.xt_frames.specs.SaveAreas.{sp_of, before}
 use Rattle.xt_frames.specs.Stacks.{AreFrames}
 use Rattle.xt_frames.specs.Stacks.{Chain, IsRange}
 use Rattle.xt_simulation.specs.Stacks.{Saved, LinksAreSaved, IsElsewhere, SpillsAreSaved}
-
-abbrev no_value : Option ℕ
-no_value = None
 
 pub links_are_saved : LinksAreSaved
 links_are_saved word lo hi sp [] r c s = let e : sp - 12 ≡ hi - 76 = (let a = r.room in omega arith) in rw e s

@@ -8,19 +8,6 @@ use Rattle.xt_window.specs.Ring.{bit, first_of_three, ahead, size_at}
 use Rattle.xt_simulation.proofs.Modular.{bit_at_window}
 use Rattle.xt_simulation.proofs.RingLemmas.{stands_above, stands_lowest}
 
--- ---- the first of three tests
-pub data First : Bool → Bool → Bool → ℕ → Type 0 where
-  first : {y z : Bool} → First true y z 1
-  second : {z : Bool} → First false true z 2
-  third : First false false true 3
-  none : First false false false 0
-
-pub first_is : (x y z : Bool) → First x y z (first_of_three x y z)
-first_is true y z = first
-first_is false true z = second
-first_is false false true = third
-first_is false false false = none
-
 pub at_or_above : (a b : ℕ) → a ≤ b → (b ≡ a) ⊎ (a < b)
 at_or_above a b h = ⊎_elim (λ l. inr l) (λ g. inl (omega arith)) (cases_lt a b)
 

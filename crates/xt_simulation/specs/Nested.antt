@@ -17,6 +17,7 @@ use Rattle.xt_exec.specs.Turn.{planned}
 use Rattle.xt_frames.specs.declared.holes.Nested.{Nested}
 use Rattle.xt_frames.specs.Frames.{FrameState}
 use Rattle.xt_frames.specs.FrameStep.{laid}
+use Rattle.xt_frames.specs.HandlerSteps.{returns}
 use Rattle.xt_frames.specs.Nesting.{inside, is_nesting, nested_level}
 use Rattle.xt_frames.specs.SaveAreas.{is_live}
 use Rattle.xt_frames.specs.Breaches.{Bounds, breach_of}
@@ -92,12 +93,14 @@ NestedBegin =
     (step_on code true (record_now code m s) f).after
     (as_left before s (state_now code m s)) opened s
 
--- the relation after a nested step: of the interrupt, or after RFI 5 of the handler
-abbrev pub Continues :
-    (ℕ → ℕ) → Bounds → MemoryContents → State → FrameState → State → (ℕ → ℕ) → State → Type 0
-Continues code b m s f before opened suspended =
-    Suspends code b m s f before opened suspended
-    ⊎ ((f.nested ≡ None) × Handling code b m s f before opened)
+-- the relation after a nested step: of the interrupt, or after RFI 5, its last, of the handler
+pub data Onward
+    (code : ℕ → ℕ) (b : Bounds) (m : MemoryContents) (s : State) (f : FrameState)
+    (before : State) (opened : ℕ → ℕ) (suspended : State) (last : Bool) : Type 0 where
+  StaysIn : last ≡ false → Suspends code b m s f before opened suspended
+      → Onward code b m s f before opened suspended last
+  GoesBack : last ≡ true → f.nested ≡ None → Handling code b m s f before opened
+      → Onward code b m s f before opened suspended last
 
 -- any other nested step that shows no breach
 abbrev pub NestedStepsAreKept : Type 0
@@ -110,9 +113,10 @@ NestedStepsAreKept =
     → breach_of b false code (live_of b f others) stale true (record_now code m s) f ≡ None
     → (x : Nested) → f.nested ≡ Some x → length f.unset ≡ 256 → length x.marks ≡ 16
     → Matches x.pc (record_now code m s) (step_on code true (record_now code m s) f) framed
-    × Continues code b (memory_now code m s) (state_now code m s)
+    × Onward code b (memory_now code m s) (state_now code m s)
     (step_on code true (record_now code m s) f).after
     (as_left before s (state_now code m s)) opened suspended
+    (returns code (planned code s).kind s.control.pc)
 
 -- an access of the other core that touches no live byte
 abbrev pub NestedAreSpared : Type 0

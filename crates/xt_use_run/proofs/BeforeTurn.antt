@@ -12,7 +12,7 @@ use Rattle.xt_frames.specs.HandlerSteps.{Mode, Plain}
 use Rattle.xt_frames.specs.SaveAreas.{is_live}
 use Rattle.xt_frames.specs.FirstBreach.{Course, IsJudgedTurn, IsTurn, entries_before, mode_before, records_before}
 use Rattle.xt_simulation.specs.Cores.{word}
-use Rattle.xt_simulation.specs.Opening.{IsOpening, IsStack, Openings, bounds0, bounds1, frame0, frame1, frame_of, memory_of, state0, state1}
+use Rattle.xt_simulation.specs.Opening.{IsOpening, IsStack, Openings, bounds0, bounds1, frame0, frame1, frame_of, memory_of, opening_core, state0, state1}
 use Rattle.xt_simulation.specs.Steps.{memory_now, record_now, state_now}
 use Rattle.xt_simulation.specs.Walking.{Apart}
 use Rattle.xt_simulation.proofs.Headline.{opens_alike}
@@ -24,7 +24,7 @@ use Rattle.xt_uses.specs.UseState.{UseState, opening_use}
 use Rattle.xt_use_run.proofs.Before.{Before, Grounds}
 use Rattle.xt_use_run.proofs.MaskWords.{MaskWords, opening_small}
 use Rattle.xt_use_run.proofs.OneSide.{Beside, side_fits, side_turn}
-use Rattle.xt_use_run.proofs.OneTurn.{InCoreUse, PlainUse}
+use Rattle.xt_use_run.proofs.OneTurn.{InCoreUse}
 use Rattle.xt_use_run.proofs.Opens.{opens_known}
 use Rattle.xt_use_run.proofs.TwoCores.{turned_round}
 use Rattle.xt_use_run.proofs.TwoMemories.{open_alike}
@@ -47,10 +47,10 @@ module _ (d : Discipline) (r : Course) (h : History) (history : IsHistory d r h)
 
   opens_core : IsStack b.range → IsShaped s → word (byte_at m) (b.range.hi - 76) ≡ b.range.hi → InCoreUse r.code (mode_before r core 0) m (r.bounds core) true s (h.state core 0)
   opens_core stack shaped link =
-      let plain : PlainUse m b true s (opening_use d (frame_of s)) = record { frame = frame_of s; ring = []; spilled = []; related = opening_related at pc b (byte_at m) stack shaped link; none = refl; knows = opens_known s shaped d } in
+      let plain : InCoreUse r.code Plain m b true s (opening_use d (frame_of s)) = record { frame = frame_of s; entered = (opening_core s).entered; core = (record { ring = []; spilled = []; related = opening_related at pc b (byte_at m) stack shaped link }, refl); knows = opens_known s shaped d } in
       subst (λ (mode : Mode). InCoreUse r.code mode m (r.bounds core) true s (h.state core 0)) (sym (opens_plain r core))
-      (subst (λ (c : Bounds). PlainUse m c true s (h.state core 0)) (sym bounds)
-      (subst (λ (u : UseState). PlainUse m b true s u) (sym opens_state) plain))
+      (subst (λ (c : Bounds). InCoreUse r.code Plain m c true s (h.state core 0)) (sym bounds)
+      (subst (λ (u : UseState). InCoreUse r.code Plain m b true s u) (sym opens_state) plain))
 
   opens_words : MaskWords (h.state core 0).masks
   opens_words = subst (λ (u : UseState). MaskWords u.masks) (sym opens_state) (opening_small d)

@@ -1,13 +1,11 @@
 -- The judged record that begins a nested interrupt in the middle of a window handler.
-use Rattle.std.proofs.Common.{◌≡◌, ℕ, Bool, true, false, Option, None, sym, ap, ◌∙◌, refl, subst}
+use Rattle.std.proofs.Common.{◌≡◌, ℕ, Bool, true, false, None, sym, ap, ◌∙◌, refl, subst}
 use Rattle.std.proofs.lemmas.Bool.{false≢true}
-use Rattle.xt_map.specs.declared.access.Access.{Access}
 use Rattle.xt_map.specs.declared.contents.MemoryContents.{MemoryContents}
-use Rattle.xt_trace.specs.declared.record.RegWrite.{RegWrite}
 use Rattle.xt_trace.specs.declared.record.StepKind.{StepKind}
 use Rattle.xt_trace.specs.declared.record.StepKind.TheVariants as kind_
 use Rattle.xt_trace.specs.declared.record.StepRecord.{StepRecord}
-use Rattle.xt_frames.specs.HandlerSteps.{returns}
+use Rattle.xt_frames.specs.HandlerSteps.{Handles, returns}
 use Rattle.xt_fetch.specs.Code.{AreBytes}
 use Rattle.xt_exec.specs.State.{State}
 use Rattle.xt_exec.specs.Laws.{IsShaped}
@@ -20,45 +18,41 @@ use Rattle.xt_simulation.proofs.Judges.{record_access}
 use Rattle.xt_uses.specs.UseBreaches.{swaps_unknown}
 use Rattle.xt_frames.specs.Judging.{step_on}
 use Rattle.xt_frames.proofs.Inside.{step_begins}
-use Rattle.xt_simulation.specs.Handling.{Handling, IsGood}
+use Rattle.xt_simulation.specs.Handling.{IsGood}
 use Rattle.xt_simulation.specs.InHandlers.{as_left}
-use Rattle.xt_simulation.specs.Nested.{Suspends}
-use Rattle.xt_simulation.specs.Steps.{memory_after_step, memory_now, record_now, reply_now, state_now}
+use Rattle.xt_simulation.specs.Nested.{StaysIn}
+use Rattle.xt_simulation.specs.Walking.{Entered}
+use Rattle.xt_simulation.specs.Steps.{record_now, reply_now, state_now}
 use Rattle.xt_simulation.proofs.NestedSteps.{begin_matches, no_access}
-use Rattle.xt_simulation.proofs.Suspended.{nested_begin}
+use Rattle.xt_simulation.proofs.OneCore.{InCore, begin_core}
 use Rattle.xt_simulation.proofs.Taken.{nesting_now}
 use Rattle.xt_uses.specs.UseState.{UseState}
-use Rattle.xt_uses.specs.UseStep.{UseTurn, full_step}
-use Rattle.xt_uses.specs.UseLaws.{AccessFits, IsSent, WriteFits}
+use Rattle.xt_uses.specs.UseStep.{full_step}
 use Rattle.xt_use_run.specs.Knowing.{Follows, Knows}
 use Rattle.xt_use_run.proofs.Beginning.{begin_follows, use_begins}
-use Rattle.xt_use_run.proofs.NestedJudged.{InnerUse, StaysIn}
+use Rattle.xt_use_run.proofs.Following.{record_fits}
+use Rattle.xt_use_run.proofs.NestedJudged.{InnerUse}
 
 pub begin_last : (code : ℕ → ℕ) (k : StepKind) (pc : ℕ) → is_nesting k ≡ true → returns code k pc ≡ false
 begin_last code (kind_.Interrupt level) pc e = refl
 begin_last code kind_.Insn pc e = absurd (false≢true e)
 begin_last code _ pc e = refl
 
-pub begin_judged : (code : ℕ → ℕ) → AreBytes code → (b : Bounds) → IsGood code b → (m : MemoryContents) (s : State) (us : UseState) (live : ℕ → Bool) (kb : ℕ → ℕ) {f : FrameState} {before : State} {opened : ℕ → ℕ}
-    → Handling code b m s f before opened → Knows f us → f.nested ≡ None → us.frame.nested ≡ None → IsShaped s → is_nesting (planned code s).kind ≡ true
-    → InnerUse code b m s opened s live kb (full_step code true (record_now code m s) kb us)
-begin_judged code bytes b good m s us live kb {f = f} {before = before} {opened = opened} h kn fn sn shaped nesting =
+pub begin_judged : (code : ℕ → ℕ) → AreBytes code → (b : Bounds) → IsGood code b → (m : MemoryContents) (s : State) (us : UseState) (live : ℕ → Bool) (kb : ℕ → ℕ) (fresh : Bool) {f : FrameState} (e : Entered)
+    → InCore code Handles m b fresh s f e → Knows f us → us.frame.nested ≡ None → IsShaped s → is_nesting (planned code s).kind ≡ true
+    → InnerUse code b m s e.opened s live kb (full_step code true (record_now code m s) kb us)
+begin_judged code bytes b good m s us live kb fresh {f = f} e h kn sn shaped nesting =
     let rec : StepRecord = record_now code m s in
     let kind : is_nesting rec.kind ≡ true = nesting_now code m s nesting in
-    let t : UseTurn = full_step code true rec kb us in
     let u : FrameTurn = step_on code true rec f in
-    let framed : u ≡ begun (laid (inputs_of rec) f) = step_begins code rec f kind fn in
-    let follows : Follows t u = subst (λ z. Follows z u) (sym (use_begins code rec kb us kind sn)) (subst (Follows _) (sym framed) (begin_follows kn (inputs_of rec))) in
-    let same = begin_matches code m s f nesting fn m in
-    let memory : memory_now code m s ≡ m = ap (memory_after_step m) (no_access code m s f nesting fn) in
-    let suspends : Suspends code b m (state_now code m s) u.after (as_left before s (state_now code m s)) opened s = nested_begin code bytes b good m s f before opened h fn shaped kn.unset.size nesting in
-    let asked : rec.access ≡ None = record_access code s (reply_now code m s) ∙ no_access code m s f nesting fn in
+    let framed : u ≡ begun (laid (inputs_of rec) f) = step_begins code rec f kind h.1 in
+    let follows : Follows (full_step code true rec kb us) u = subst (λ z. Follows z u) (sym (use_begins code rec kb us kind sn)) (subst (Follows _) (sym framed) (begin_follows kn (inputs_of rec))) in
+    let same = begin_matches code m s f nesting h.1 m in
+    let asked : rec.access ≡ None = record_access code s (reply_now code m s) ∙ no_access code m s f nesting h.1 in
     record {
-      sent = subst (λ (a : Option Access). IsSent t.stored a) (sym asked) tt;
-      saves = ap (touches_save_area live) asked;
-      swaps = ap (swaps_unknown kb) asked;
-      kind = same.kind ∙ follows.kind;
-      write = subst (λ (w : Option RegWrite). WriteFits t.mask w t.turn.write) (sym same.write) follows.write;
-      access = subst (λ (a : Option Access). AccessFits t.stored a t.turn.access) (sym same.access) follows.access;
-      next = StaysIn u.after (as_left before s (state_now code m s)) (begin_last code (planned code s).kind s.control.pc nesting) (subst (λ (z : MemoryContents). Suspends code b z (state_now code m s) u.after (as_left before s (state_now code m s)) opened s) (sym memory) suspends) follows.knows;
+      fits = record_fits (ap (touches_save_area live) asked) (ap (swaps_unknown kb) asked) same.kind same.write same.access follows;
+      frame = u.after;
+      left = as_left e.before s (state_now code m s);
+      next = StaysIn (begin_last code (planned code s).kind s.control.pc nesting) (begin_core code bytes b good m s shaped f e fresh h kn.unset.size nesting);
+      knows = follows.knows;
     }

@@ -1,9 +1,9 @@
 -- The record that begins a nested interrupt: nothing is known of the interrupt's registers.
 use Rattle.std.specs.Prelude.{unwrap_or, is_some}
-use Rattle.std.proofs.Common.{◌≡◌, ℕ, ◌≢◌, Bool, true, false, ◌&&◌, not, List, Option, None, sym, ap, ◌∙◌, refl, arith, ⊎_elim, subst, get_or, replicate}
+use Rattle.std.proofs.Common.{◌≡◌, ℕ, ◌≢◌, Bool, true, false, ◌&&◌, not, List, Option, None, sym, ap, ◌∙◌, refl, arith, subst, replicate}
 use Rattle.std.proofs.Math.ListN.{set}
-use Rattle.std.proofs.lemmas.Bool.{both_ways, cases_eq, cases_lt, cond-true}
-use Rattle.std.proofs.lemmas.List.{get_or-set_same, get_or-set_other, get_or_past, length-set, length-replicate}
+use Rattle.std.proofs.lemmas.Bool.{both_ways, cond-true}
+use Rattle.std.proofs.lemmas.List.{get_or-set_other, length-set, length-replicate}
 use Rattle.xt_trace.specs.declared.record.StepRecord.{StepRecord}
 use Rattle.xt_rows.specs.Settling.{settled_interrupt}
 use Rattle.xt_frames.specs.declared.holes.Nested.{Nested}
@@ -16,7 +16,7 @@ use Rattle.xt_uses.specs.Words.{cut}
 use Rattle.xt_uses.specs.UseState.{UseState}
 use Rattle.xt_uses.specs.UseStep.{full_step, inner_unknown, other_turn, value_step}
 use Rattle.xt_use_run.specs.Knowing.{ControlFit, Follows, Knows, SeenFit, UnsetFit}
-use Rattle.xt_use_run.proofs.Lists.{laid_fits}
+use Rattle.xt_use_run.proofs.Lists.{laid_fits, set_equal}
 use Rattle.xt_use_run.proofs.NestedFollow.{placed_fits}
 use Rattle.xt_use_run.proofs.Seen.{blank, cut_zero}
 use Rattle.xt_use_run.proofs.Specials.{left_fits, taken_fits, told_ps, ticked_fits}
@@ -29,19 +29,7 @@ plain_unset {special = special} {xs = xs} {ys = ys} u n b plain =
     record {
       size = length-set xs n b ∙ size;
       wide = length-set ys n b ∙ wide;
-      equal = λ k other. ⊎_elim
-          (λ is. ⊎_elim
-          (λ low.
-          let a : get_or (set xs n b) n false ≡ b = get_or-set_same xs n b false (omega arith) in
-          let c : get_or (set ys n b) n false ≡ b = get_or-set_same ys n b false (omega arith) in
-          rw is (a ∙ sym c))
-          (λ high.
-          let a = get_or_past (set xs n b) n false (let l = length-set xs n b in omega arith) in
-          let c = get_or_past (set ys n b) n false (let l = length-set ys n b in omega arith) in
-          rw is (a ∙ sym c))
-          (cases_lt n 256))
-          (λ apart. get_or-set_other xs n k b false apart ∙ (u.equal k other ∙ sym (get_or-set_other ys n k b false apart)))
-          (cases_eq k n);
+      equal = λ k other. set_equal xs ys n b u.size u.wide k (u.equal k other);
       lacks = λ k mark has.
           let apart : k ≢ n = λ is. both_ways (holds_marks n) plain (subst (λ j. holds_marks j ≡ true) is mark) in
           u.lacks k mark (sym (get_or-set_other xs n k b false apart) ∙ has);

@@ -1,6 +1,6 @@
 -- The next turn of one core, in any mode, beside the machine of uses.
 use Rattle.std.proofs.Common.{◌≡◌, ℕ, Bool, true, false, not, None, sym, ap, ◌∙◌, refl, ⊎_elim, subst, cond}
-use Rattle.std.proofs.lemmas.Bool.{both_ways, cases_Bool, cond-false, cond-true, true≢false}
+use Rattle.std.proofs.lemmas.Bool.{both_ways, cases_Bool, cond-false, cond-true}
 use Rattle.xt_map.specs.declared.contents.MemoryContents.{MemoryContents}
 use Rattle.xt_map.specs.Memory.{byte_at}
 use Rattle.xt_map.specs.Touching.{IsMemory}
@@ -8,48 +8,46 @@ use Rattle.xt_trace.specs.declared.record.StepRecord.{StepRecord}
 use Rattle.xt_fetch.specs.Code.{AreBytes}
 use Rattle.xt_exec.specs.State.{State}
 use Rattle.xt_exec.specs.Laws.{IsShaped}
-use Rattle.xt_exec.specs.Turn.{demand, planned, turn}
+use Rattle.xt_exec.specs.Turn.{demand, planned}
 use Rattle.xt_frames.specs.HandlerSteps.{Mode, Plain, Handles, Nests, closes, is_window, mode_after, returns}
 use Rattle.xt_frames.specs.Nesting.{is_nesting}
 use Rattle.xt_frames.specs.SaveAreas.{is_live}
 use Rattle.xt_frames.specs.Breaches.{Bounds, touches_save_area}
 use Rattle.xt_frames.specs.FirstBreach.{is_judged}
 use Rattle.xt_frames.specs.Verdict.{is_nested}
+use Rattle.xt_frames.specs.Frames.{FrameState}
+use Rattle.xt_frames.specs.Stacks.{AreFrames}
+use Rattle.xt_simulation.specs.Cores.{Related}
 use Rattle.xt_simulation.specs.Handling.{IsGood}
+use Rattle.xt_simulation.specs.Relation.{lost_at}
 use Rattle.xt_simulation.specs.JudgedSteps.{fresh_turn}
 use Rattle.xt_simulation.specs.Steps.{memory_now, record_now, reply_now, state_now}
+use Rattle.xt_simulation.specs.Walking.{Entered, entered_by}
 use Rattle.xt_simulation.proofs.Judges.{record_access}
+use Rattle.xt_simulation.proofs.OneCore.{Idle, InCore, core_stack, handles_idle, kind_now, onward_core, pc_now, plain_idle}
+use Rattle.xt_use_run.specs.Knowing.{Knows}
 use Rattle.xt_uses.specs.FirstUse.{handler_use, record_use}
-use Rattle.xt_uses.specs.UseBreaches.{swaps_unknown, use_breach}
+use Rattle.xt_uses.specs.UseBreaches.{use_breach}
 use Rattle.xt_uses.specs.UseState.{UseState}
-use Rattle.xt_uses.specs.UseStep.{UseTurn, use_step}
-use Rattle.xt_uses.specs.UseLaws.{AccessFits, IsSent, RowsAgree, WriteFits}
-use Rattle.xt_use_run.proofs.BeginJudged.{begin_last}
-use Rattle.xt_use_run.proofs.OneTurn.{HandlesUse, HandlesOn, HasEnded, InCoreUse, NestsUse, PlainUse, StillHandles, core_begins, core_enters, core_handles, core_judged, core_nests}
+use Rattle.xt_uses.specs.UseStep.{UseTurn, full_step, use_step}
+use Rattle.xt_uses.specs.UseLaws.{RowsAgree}
+use Rattle.xt_use_run.proofs.BeginJudged.{begin_judged, begin_last}
+use Rattle.xt_use_run.proofs.Following.{RecordFits}
+use Rattle.xt_use_run.proofs.Leaves.{knows_left}
+use Rattle.xt_use_run.proofs.NestedJudged.{InnerUse}
+use Rattle.xt_use_run.proofs.NestedWhole.{nested_judged}
+use Rattle.xt_use_run.proofs.OneTurn.{InCoreUse, nested_some, no_nested}
 use Rattle.xt_use_run.proofs.Operands.{AreMasks}
-use Rattle.xt_use_run.proofs.Spared.{spared}
-
--- what holds of the record of a judged step
-pub record RecordFits (kb : ℕ → ℕ) (rec : StepRecord) (t : UseTurn) : Type 0 where
-  pub kind : rec.kind ≡ t.turn.kind
-  pub write : WriteFits t.mask rec.write t.turn.write
-  pub access : AccessFits t.stored rec.access t.turn.access
-  pub sent : IsSent t.stored rec.access
-  pub swaps : swaps_unknown kb rec.access ≡ false
+use Rattle.xt_use_run.proofs.PlainJudged.{plain_judged}
+use Rattle.xt_use_run.proofs.PlainStep.{JudgedUse}
+use Rattle.xt_use_run.proofs.Spared.{live_known, spared}
+use Rattle.xt_use_run.proofs.WindowStep.{enters_use}
 
 -- whether EPC1 has what was last written, where the next mode is the plain one
 abbrev pub fresh_next : Mode → Bool → Bool → Bool
 fresh_next Plain fresh judged = judged
 fresh_next Handles fresh judged = false
 fresh_next Nests fresh judged = false
-
-kind_now : (code : ℕ → ℕ) (m : MemoryContents) (s : State) → (record_now code m s).kind ≡ (planned code s).kind
-unfolding turn
-kind_now code m s = refl
-
-pub pc_now : (code : ℕ → ℕ) (m : MemoryContents) (s : State) → (record_now code m s).pc ≡ s.control.pc
-unfolding turn
-pc_now code m s = refl
 
 module _ (rows : RowsAgree) (code : ℕ → ℕ) (bytes : AreBytes code) (b : Bounds) (good : IsGood code b) (m : MemoryContents) (real : IsMemory m) (s : State) (shaped : IsShaped s) (us : UseState) (masks : AreMasks us)
     (live : ℕ → Bool) (own : (a : ℕ) → is_live b.range us.frame a ≡ true → live a ≡ true) (kb : ℕ → ℕ) where
@@ -68,97 +66,99 @@ module _ (rows : RowsAgree) (code : ℕ → ℕ) (bytes : AreBytes code) (b : Bo
     pub other : (a : ℕ) → live a ≡ true → is_live b.range us.frame a ≡ false → byte_at (memory_now code m s) a ≡ byte_at m a
     -- a handler step changes live bytes alone
     pub idle : is_judged mode rec.kind ≡ false → (a : ℕ) → is_live b.range us.frame a ≡ false → byte_at (memory_now code m s) a ≡ byte_at m a
-    pub fits : is_judged mode rec.kind ≡ true → RecordFits kb rec (step_in mode)
+    pub fits : is_judged mode rec.kind ≡ true → RecordFits live kb rec (step_in mode)
 
-  moved : (mode then : Mode) (fresh : Bool) (u v : UseState) → then ≡ mode → v ≡ u → InCoreUse code mode (memory_now code m s) b fresh (state_now code m s) u → InCoreUse code then (memory_now code m s) b fresh (state_now code m s) v
-  moved mode then fresh u v e k h =
-      subst (λ (z : Mode). InCoreUse code z (memory_now code m s) b fresh (state_now code m s) v) (sym e)
-      (subst (λ (z : UseState). InCoreUse code mode (memory_now code m s) b fresh (state_now code m s) z) (sym k) h)
+  abbrev next_fresh : Mode → Bool → Bool
+  next_fresh mode fresh = fresh_next mode fresh (fresh_turn fresh code (reply_now code m s) s)
 
-  judged_state : (mode : Mode) → is_judged mode rec.kind ≡ true → use_next mode ≡ (step_in mode).after
-  judged_state mode e = cond-true (is_judged mode rec.kind) (step_in mode).after us e
+  test_of : (mode : Mode) (lost judged : Bool) → is_judged mode rec.kind ≡ judged → record_use code b mode us lost live kb rec ≡ None → cond judged (use_breach b (not lost) code live kb (is_nested mode) rec us) (handler_use code mode rec us) ≡ None
+  test_of mode lost judged e none = ap (λ z. cond z (use_breach b (not lost) code live kb (is_nested mode) rec us) (handler_use code mode rec us)) (sym e) ∙ none
 
-  idle_state : (mode : Mode) → is_judged mode rec.kind ≡ false → use_next mode ≡ us
-  idle_state mode e = cond-false (is_judged mode rec.kind) (step_in mode).after us e
+  -- ---- a record that is not judged
+  idle_next : (mode : Mode) (fresh : Bool) → is_judged mode rec.kind ≡ false → (f : FrameState) (e : Entered) → Knows f us → Idle code bytes b good m s shaped f e mode (next_fresh mode fresh) → CoreNext mode fresh
+  idle_next mode fresh j f e k i = record {
+    next = record {
+      frame = f;
+      entered = entered_by mode s m e;
+      core = i.next;
+      knows = subst (λ (u : UseState). Knows f u) (sym (cond-false (is_judged mode rec.kind) (step_in mode).after us j)) k;
+    };
+    other = λ a is dead. i.only a (live_known k b.range a ∙ dead);
+    idle = λ no a dead. i.only a (live_known k b.range a ∙ dead);
+    fits = λ judged. absurd (both_ways _ j judged);
+  }
 
-  judged_test : (mode : Mode) (lost : Bool) → is_judged mode rec.kind ≡ true → record_use code b mode us lost live kb rec ≡ None → use_breach b (not lost) code live kb (is_nested mode) rec us ≡ None
-  judged_test mode lost e none = sym (cond-true (is_judged mode rec.kind) (use_breach b (not lost) code live kb (is_nested mode) rec us) (handler_use code mode rec us) e) ∙ none
+  -- ---- a judged step
+  -- before a return forgets registers
+  abbrev full : Bool → UseTurn
+  full nested = full_step code nested rec kb us
 
-  idle_test : (mode : Mode) (lost : Bool) → is_judged mode rec.kind ≡ false → record_use code b mode us lost live kb rec ≡ None → handler_use code mode rec us ≡ None
-  idle_test mode lost e none = sym (cond-false (is_judged mode rec.kind) (use_breach b (not lost) code live kb (is_nested mode) rec us) (handler_use code mode rec us) e) ∙ none
+  -- `before` is what the machine of uses knew, and f what it knows
+  left_known : (nested : Bool) (before : FrameState) → Knows before us → AreFrames before.frames → (f : FrameState) → Knows f (full nested).after → Knows f (use_step code nested rec kb us).after
+  left_known nested before k shaped f = knows_left _ before us k shaped f (full nested).after
 
-  kept_by : touches_save_area live rec.access ≡ false → (a : ℕ) → live a ≡ true → byte_at (memory_now code m s) a ≡ byte_at m a
-  kept_by saves a is = spared live m (demand code s) (ap (touches_save_area live) (sym (record_access code s (reply_now code m s))) ∙ saves) a is
+  judged_next : (mode next : Mode) (fresh : Bool) → mode_after code mode rec ≡ next → is_judged mode rec.kind ≡ true → RecordFits live kb rec (full (is_nested mode)) → (f : FrameState) (e : Entered)
+      → InCore code next (memory_now code m s) b (next_fresh mode fresh) (state_now code m s) f e → Knows f (step_in mode).after → CoreNext mode fresh
+  judged_next mode next fresh is j fits f e core k = record {
+    next = record {
+      frame = f;
+      entered = e;
+      core = subst (λ (z : Mode). InCore code z (memory_now code m s) b (next_fresh mode fresh) (state_now code m s) f e) (sym is) core;
+      knows = subst (λ (u : UseState). Knows f u) (sym (cond-true (is_judged mode rec.kind) (step_in mode).after us j)) k;
+    };
+    other = λ a is dead. spared live m (demand code s) (ap (touches_save_area live) (sym (record_access code s (reply_now code m s))) ∙ fits.saves) a is;
+    idle = λ no. absurd (both_ways _ no j);
+    fits = λ yes. record { saves = fits.saves; swaps = fits.swaps; kind = fits.kind; write = fits.write; access = fits.access; sent = fits.sent };
+  }
 
-  -- ---- the plain mode
-  plain_turn : (lost : Bool) → PlainUse m b (not lost) s us → record_use code b Plain us lost live kb rec ≡ None → CoreNext Plain (not lost)
+  -- in a nested interrupt, which goes on or has ended
+  inner_next : (mode : Mode) (fresh : Bool) → mode_after code mode rec ≡ cond (returns code (planned code s).kind s.control.pc) Handles Nests → is_judged mode rec.kind ≡ true → is_nested mode ≡ true
+      → (before : FrameState) → Knows before us → AreFrames before.frames → (e : Entered) → InnerUse code b m s e.opened e.suspended live kb (full true) → CoreNext mode fresh
+  inner_next mode fresh is j nested before k shaped e u =
+      judged_next mode _ fresh is j (subst (λ z. RecordFits live kb rec (full z)) (sym nested) u.fits) u.frame (record e { before = u.left })
+      (onward_core code (memory_now code m s) b (next_fresh mode fresh) (state_now code m s) u.frame (record e { before = u.left }) (returns code (planned code s).kind s.control.pc) u.next)
+      (subst (λ z. Knows u.frame (use_step code z rec kb us).after) (sym nested) (left_known true before k shaped u.frame u.knows))
+
+  -- ---- each mode
+  plain_turn : (lost : Bool) → InCoreUse code Plain m b (not lost) s us → record_use code b Plain us lost live kb rec ≡ None → CoreNext Plain (not lost)
   plain_turn lost h none = ⊎_elim
       (λ window.
-      let w : is_window rec.kind ≡ true = ap is_window (kind_now code m s) ∙ window in
-      let idle : is_judged Plain rec.kind ≡ false = ap not w in
-      let e = core_enters code bytes b good m s shaped us (not lost) h window (idle_test Plain lost idle none) in
-      record {
-        next = moved Handles (mode_after code Plain rec) (fresh_turn (not lost) code (reply_now code m s) s) us (use_next Plain) (cond-true (is_window rec.kind) Handles Plain w) (idle_state Plain idle) e.1;
-        other = λ a is dead. ap (λ (z : MemoryContents). byte_at z a) e.0;
-        idle = λ k a dead. ap (λ (z : MemoryContents). byte_at z a) e.0;
-        fits = λ judged. absurd (both_ways _ idle judged);
-      })
+      let j : is_judged Plain rec.kind ≡ false = ap not (ap is_window (kind_now code m s) ∙ window) in
+      let w = enters_use code b m (not lost) s us l h.knows h.core.1 (no_nested h.knows h.core.1) shaped (test_of Plain lost false j none) in
+      idle_next Plain (not lost) j w.frame h.entered w.knows
+      (plain_idle code bytes b good m s shaped w.frame h.entered (not lost) (next_fresh Plain (not lost)) (w.somewhere, w.nested) window w.quiet))
       (λ no.
-      let w : is_window rec.kind ≡ false = ap is_window (kind_now code m s) ∙ no in
-      let judged : is_judged Plain rec.kind ≡ true = ap not w in
-      let e = core_judged code bytes b good m s shaped us live own kb rows masks (not lost) h real no (judged_test Plain lost judged none) in
-      record {
-        next = moved Plain (mode_after code Plain rec) (fresh_turn (not lost) code (reply_now code m s) s) (step_in Plain).after (use_next Plain) (cond-false (is_window rec.kind) Handles Plain w) (judged_state Plain judged) e.1;
-        other = λ a is dead. kept_by e.0.saves a is;
-        idle = λ k. absurd (both_ways _ k judged);
-        fits = λ k. record { kind = e.0.kind; write = e.0.write; access = e.0.access; sent = e.0.sent; swaps = e.0.swaps };
-      })
+      let isnt : is_window rec.kind ≡ false = ap is_window (kind_now code m s) ∙ no in
+      let u : JudgedUse code b (not lost) m s live kb (full false) = plain_judged rows code bytes b (not lost) s m shaped real no us (no_nested h.knows h.core.1) masks live own kb l h.knows h.core.1 (test_of Plain lost true (ap not isnt) none) in
+      judged_next Plain Plain (not lost) (cond-false (is_window rec.kind) Handles Plain isnt) (ap not isnt) u.fits u.frame h.entered
+      (record { ring = u.ring; spilled = u.spilled; related = u.related }, u.nested) (left_known false h.frame h.knows l.stack.shaped u.frame u.knows))
       (cases_Bool (is_window (planned code s).kind))
+    where
+      l : Related (byte_at m) b (lost_at (not lost) h.frame) s h.frame h.core.0.ring h.core.0.spilled
+      l = h.core.0.related
 
-  -- ---- within a window handler
-  handles_turn : (lost : Bool) → HandlesUse code m b s us → CoreNext Handles (not lost)
+  shaped_frames : (mode : Mode) (fresh : Bool) (h : InCoreUse code mode m b fresh s us) → AreFrames h.frame.frames
+  shaped_frames mode fresh h = let stack = core_stack code mode m b fresh s h.frame h.entered h.core in stack.shaped
+
+  -- within a window handler
+  handles_turn : (lost : Bool) → InCoreUse code Handles m b (not lost) s us → CoreNext Handles (not lost)
   handles_turn lost h = ⊎_elim
       (λ nesting.
-      let w : is_nesting rec.kind ≡ true = ap is_nesting (kind_now code m s) ∙ nesting in
-      let e = core_begins code bytes b good m s shaped us live own kb h nesting in
-      let nests : NestsUse code (memory_now code m s) b (state_now code m s) (step_in Handles).after = subst (λ z. InCoreUse code (cond z Handles Nests) (memory_now code m s) b false (state_now code m s) (step_in Handles).after) (begin_last code (planned code s).kind s.control.pc nesting) e.1 in
-      record {
-        next = moved Nests (mode_after code Handles rec) false (step_in Handles).after (use_next Handles) (cond-true (is_nesting rec.kind) Nests (cond (closes code rec.kind rec.pc) Plain Handles) w) (judged_state Handles w) nests;
-        other = λ a is dead. kept_by e.0.saves a is;
-        idle = λ k. absurd (both_ways _ k w);
-        fits = λ k. record { kind = e.0.kind; write = e.0.write; access = e.0.access; sent = e.0.sent; swaps = e.0.swaps };
-      })
-      (λ other. goes_on (ap is_nesting (kind_now code m s) ∙ other) (core_handles code bytes b good m s shaped us h real other))
+      let j : is_judged Handles rec.kind ≡ true = ap is_nesting (kind_now code m s) ∙ nesting in
+      let e : Entered = record h.entered { suspended = s } in
+      let to : mode_after code Handles rec ≡ cond (returns code (planned code s).kind s.control.pc) Handles Nests = cond-true (is_nesting rec.kind) Nests (cond (closes code rec.kind rec.pc) Plain Handles) j ∙ ap (λ z. cond z Handles Nests) (sym (begin_last code (planned code s).kind s.control.pc nesting)) in
+      inner_next Handles (not lost) to j refl h.frame h.knows (shaped_frames Handles (not lost) h) e
+      (begin_judged code bytes b good m s us live kb (not lost) h.entered h.core h.knows (no_nested h.knows h.core.1) shaped nesting))
+      (λ other. idle_next Handles (not lost) (ap is_nesting (kind_now code m s) ∙ other) h.frame h.entered h.knows (handles_idle code bytes b good m s shaped h.frame h.entered (not lost) h.core real other))
       (cases_Bool (is_nesting (planned code s).kind))
-    where
-      closes_now : closes code rec.kind rec.pc ≡ closes code (planned code s).kind s.control.pc
-      closes_now = ap (λ k. closes code k rec.pc) (kind_now code m s) ∙ ap (closes code (planned code s).kind) (pc_now code m s)
 
-      goes_on : is_nesting rec.kind ≡ false → HandlesOn code bytes b good m s shaped us → CoreNext Handles (not lost)
-      goes_on w (StillHandles open_ only k) = record {
-        next = moved Handles (mode_after code Handles rec) false us (use_next Handles) (cond-false (is_nesting rec.kind) Nests (cond (closes code rec.kind rec.pc) Plain Handles) w ∙ cond-false (closes code rec.kind rec.pc) Plain Handles (closes_now ∙ open_)) (idle_state Handles w) k;
-        other = λ a is dead. only a dead;
-        idle = λ j a dead. only a dead;
-        fits = λ judged. absurd (both_ways _ w judged);
-      }
-      goes_on w (HasEnded closed same k) = record {
-        next = moved Plain (mode_after code Handles rec) false us (use_next Handles) (cond-false (is_nesting rec.kind) Nests (cond (closes code rec.kind rec.pc) Plain Handles) w ∙ cond-true (closes code rec.kind rec.pc) Plain Handles (closes_now ∙ closed)) (idle_state Handles w) k;
-        other = λ a is dead. ap (λ (z : MemoryContents). byte_at z a) same;
-        idle = λ j a dead. ap (λ (z : MemoryContents). byte_at z a) same;
-        fits = λ judged. absurd (both_ways _ w judged);
-      }
-
-  -- ---- in a nested interrupt
-  nests_turn : (lost : Bool) → NestsUse code m b s us → record_use code b Nests us lost live kb rec ≡ None → CoreNext Nests (not lost)
+  -- in a nested interrupt
+  nests_turn : (lost : Bool) → InCoreUse code Nests m b (not lost) s us → record_use code b Nests us lost live kb rec ≡ None → CoreNext Nests (not lost)
   nests_turn lost h none =
-      let e = core_nests code bytes b good m s shaped us live own kb rows masks (not lost) h none in
+      let y = nested_some us.masks.inner h.frame.nested us.frame.nested h.core.x h.knows.nested h.core.nested in
       let now : returns code rec.kind rec.pc ≡ returns code (planned code s).kind s.control.pc = ap (λ k. returns code k rec.pc) (kind_now code m s) ∙ ap (returns code (planned code s).kind) (pc_now code m s) in
-      record {
-        next = moved (cond (returns code (planned code s).kind s.control.pc) Handles Nests) (mode_after code Nests rec) false (step_in Nests).after (use_next Nests) (ap (λ z. cond z Handles Nests) now) refl e.1;
-        other = λ a is dead. kept_by e.0.saves a is;
-        idle = λ k. absurd (true≢false k);
-        fits = λ k. record { kind = e.0.kind; write = e.0.write; access = e.0.access; sent = e.0.sent; swaps = e.0.swaps };
-      }
+      inner_next Nests (not lost) (ap (λ z. cond z Handles Nests) now) refl refl h.frame h.knows (shaped_frames Nests (not lost) h) h.entered
+      (nested_judged rows code bytes b good (not lost) m s shaped h.entered.opened h.entered.suspended us y.0 y.1 masks live own kb h.core h.knows none)
 
   pub core_turn : (mode : Mode) (lost : Bool) → InCoreUse code mode m b (not lost) s us → record_use code b mode us lost live kb rec ≡ None → CoreNext mode (not lost)
   core_turn Plain lost h none = plain_turn lost h none

@@ -11,17 +11,20 @@ use Rattle.xt_special.specs.Control.{Control}
 use Rattle.xt_trace.specs.declared.record.RegWrite.{RegWrite}
 use Rattle.xt_trace.specs.declared.record.StepKind.{StepKind}
 use Rattle.xt_trace.specs.declared.record.StepKind.TheVariants as step
+use Rattle.xt_trace.specs.declared.record.StepRecord.{StepRecord}
 use Rattle.xt_fetch.specs.Fetching.{Fetched, Fetches}
 use Rattle.xt_rows.specs.Kinds.{is_entry, is_return, moved_to}
 use Rattle.xt_frames.specs.Frames.{FrameState, seen_after_write}
 use Rattle.xt_frames.specs.FrameStep.{FrameTurn, Inputs, laid}
 use Rattle.xt_frames.specs.Marks.{unset_written}
 use Rattle.xt_frames.specs.Nesting.{unset_after}
+use Rattle.xt_frames.specs.Breaches.{touches_save_area}
 use Rattle.xt_frames.specs.declared.holes.Nested.{Nested}
 use Rattle.xt_frames.proofs.Shown.{KeepsSp, sp_written}
 use Rattle.xt_uses.specs.Words.{all_bits}
 use Rattle.xt_uses.specs.UseState.{Masks, UseState, current_masks, first_word, second_word}
-use Rattle.xt_uses.specs.UseStep.{called, cut_seen, cut_state, cut_write, executed, frames_moved, insn_turn, masks_past, pointer_written, returned, special_written, use_turn, visible_written}
+use Rattle.xt_uses.specs.UseBreaches.{swaps_unknown}
+use Rattle.xt_uses.specs.UseStep.{UseTurn, called, cut_seen, cut_state, cut_write, executed, frames_moved, insn_turn, masks_past, pointer_written, returned, special_written, use_turn, visible_written}
 use Rattle.xt_uses.specs.UseLaws.{AccessFits, IsSent, KindFits, KindsAgree, WriteFits, WritesAgree, pointer_mask}
 use Rattle.xt_use_run.specs.Knowing.{ControlLeft, Follows, Knows, NowFit, SeenFit, UnsetFit}
 use Rattle.xt_use_run.proofs.Effects.{moved_masks}
@@ -187,3 +190,27 @@ sent_back stored None None h s = tt
 sent_back stored (Some a) (Some b) h s = λ store at. s (store_same stored a.kind b.kind h.2 store) (sym h.0 ∙ at)
 sent_back stored None (Some b) h s = absurd h
 sent_back stored (Some a) None h s = absurd h
+
+-- ---- what holds of the record of a judged step
+-- where `live` are the live bytes before it, and `kb` the masks with which bytes are read
+pub record RecordFits (live : ℕ → Bool) (kb : ℕ → ℕ) (rec : StepRecord) (t : UseTurn) : Type 0 where
+  pub saves : touches_save_area live rec.access ≡ false
+  pub swaps : swaps_unknown kb rec.access ≡ false
+  pub kind : rec.kind ≡ t.turn.kind
+  pub write : WriteFits t.mask rec.write t.turn.write
+  pub access : AccessFits t.stored rec.access t.turn.access
+  pub sent : IsSent t.stored rec.access
+
+-- the step of the frame state records it, and the machine of uses follows that step
+pub record_fits : {live : ℕ → Bool} {kb : ℕ → ℕ} {rec : StepRecord} {t : UseTurn} {u : FrameTurn} → touches_save_area live rec.access ≡ false → swaps_unknown kb rec.access ≡ false
+    → rec.kind ≡ u.kind → rec.write ≡ u.write → rec.access ≡ u.access → Follows t u → RecordFits live kb rec t
+record_fits {rec = rec} {t = t} saves swaps kind write access follows =
+    let fits : AccessFits t.stored rec.access t.turn.access = subst (λ (a : Option Access). AccessFits t.stored a t.turn.access) (sym access) follows.access in
+    record {
+      saves = saves;
+      swaps = swaps;
+      kind = kind ∙ follows.kind;
+      write = subst (λ (w : Option RegWrite). WriteFits t.mask w t.turn.write) (sym write) follows.write;
+      access = fits;
+      sent = sent_back t.stored rec.access t.turn.access fits follows.sent;
+    }

@@ -20,12 +20,13 @@ use Rattle.xt_frames.specs.Verdict.{is_nested}
 use Rattle.xt_frames.proofs.Inside.{place_inside, place_plain}
 use Rattle.xt_simulation.specs.JudgedSteps.{fresh_turn}
 use Rattle.xt_simulation.specs.Steps.{memory_now, record_now, reply_now, state_now}
+use Rattle.xt_simulation.proofs.OneCore.{pc_now}
 use Rattle.xt_uses.specs.UseState.{UseState}
 use Rattle.xt_uses.specs.UseStep.{UseTurn}
 use Rattle.xt_use_run.specs.Knowing.{NestedFit}
-use Rattle.xt_use_run.proofs.CoreTurn.{fresh_next, pc_now}
+use Rattle.xt_use_run.proofs.CoreTurn.{fresh_next}
 use Rattle.xt_use_run.proofs.FreshTurn.{fresh_use}
-use Rattle.xt_use_run.proofs.OneTurn.{InCoreUse, PlainUse, no_nested}
+use Rattle.xt_use_run.proofs.OneTurn.{InCoreUse, no_nested}
 
 -- the PC of a nested interrupt
 inner_pc : (masks : List ℕ) (o p : Option Nested) (x : Nested) → NestedFit masks o p → o ≡ Some x → (y : Nested) × (p ≡ Some y) × (x.pc ≡ y.pc)
@@ -35,9 +36,9 @@ inner_pc masks None p x k e = absurd cc
 
 -- outside the plain mode freshness is not looked at
 pub fresh_moved : (code : ℕ → ℕ) (mode : Mode) (m : MemoryContents) (b : Bounds) (fresh later : Bool) (s : State) (us : UseState) → (mode ≡ Plain → fresh ≡ later) → InCoreUse code mode m b fresh s us → InCoreUse code mode m b later s us
-fresh_moved code Plain m b fresh later s us e h = subst (λ z. PlainUse m b z s us) (e refl) h
-fresh_moved code Handles m b fresh later s us e h = h
-fresh_moved code Nests m b fresh later s us e h = h
+fresh_moved code Plain m b fresh later s us e h = subst (λ z. InCoreUse code Plain m b z s us) (e refl) h
+fresh_moved code Handles m b fresh later s us e h = record { frame = h.frame; entered = h.entered; core = h.core; knows = h.knows }
+fresh_moved code Nests m b fresh later s us e h = record { frame = h.frame; entered = h.entered; core = h.core; knows = h.knows }
 
 -- a handler step after which the plain mode comes ends a window handler
 pub idle_fresh : (code : ℕ → ℕ) (rec : StepRecord) (mode : Mode) (fresh judged : Bool) → is_judged mode rec.kind ≡ false → mode_after code mode rec ≡ Plain → fresh_next mode fresh judged ≡ false
@@ -57,13 +58,13 @@ module _ (code : ℕ → ℕ) (m : MemoryContents) (b : Bounds) (s : State) (sha
   rec = record_now code m s
 
   pub place_is : (mode : Mode) (fresh : Bool) → InCoreUse code mode m b fresh s us → is_judged mode rec.kind ≡ true → rec.pc ≡ place_on (is_nested mode) rec us.frame
-  place_is Plain fresh h judged = pc_now code m s ∙ (h.related.plain.even.pc ∙ (h.knows.control.even.pc ∙ sym (place_plain rec us.frame (no_nested h.knows h.none))))
+  place_is Plain fresh h judged = pc_now code m s ∙ (h.core.0.related.plain.even.pc ∙ (h.knows.control.even.pc ∙ sym (place_plain rec us.frame (no_nested h.knows h.core.1))))
   place_is Handles fresh h judged =
-      let starts : begins true rec.kind us.frame ≡ true = ap (λ z. z && not (is_some us.frame.nested)) judged ∙ ap (λ (o : Option Nested). not (is_some o)) (no_nested h.knows h.none) in
+      let starts : begins true rec.kind us.frame ≡ true = ap (λ z. z && not (is_some us.frame.nested)) judged ∙ ap (λ (o : Option Nested). not (is_some o)) (no_nested h.knows h.core.1) in
       sym (cond-true (begins true rec.kind us.frame) rec.pc (current us.frame).control.pc starts)
   place_is Nests fresh h judged =
-      let y = inner_pc us.masks.inner h.frame.nested us.frame.nested h.suspends.x h.knows.nested h.suspends.nested in
-      pc_now code m s ∙ (h.suspends.inside.even.pc ∙ (y.2 ∙ sym (place_inside rec us.frame y.0 y.1)))
+      let y = inner_pc us.masks.inner h.frame.nested us.frame.nested h.core.x h.knows.nested h.core.nested in
+      pc_now code m s ∙ (h.core.inside.even.pc ∙ (y.2 ∙ sym (place_inside rec us.frame y.0 y.1)))
 
   abbrev found : FrameState
   found = laid (inputs_of rec) (current us.frame)

@@ -43,7 +43,6 @@ pub mod CoreTurn
 pub mod FreshTurn
 pub mod LostTurn
 pub mod OneTurn
-pub mod Ranges
 pub mod TwoCores
 pub mod Before
 pub mod BeforeTurn
@@ -55,3 +54,4 @@ pub mod WordsTold
 pub mod OrdinaryRuns
 pub mod ImageRuns
 pub mod ImageUses
+pub mod FetchedUses

@@ -100,6 +100,19 @@ write_other mask r (Some w) ys h =
 unset_same : (xs : List Bool) (n : ℕ) (b : Bool) → length xs ≡ 256 → n < 256 → get_or (set xs n b) n false ≡ b
 unset_same xs n b size low = get_or-set_same xs n b false (omega arith)
 
+-- both are given the same
+pub set_equal : (xs ys : List Bool) (n : ℕ) (b : Bool) → length xs ≡ 256 → length ys ≡ 256 → (k : ℕ) → get_or xs k false ≡ get_or ys k false → get_or (set xs n b) k false ≡ get_or (set ys n b) k false
+set_equal xs ys n b size wide k equal = ⊎_elim
+    (λ is. ⊎_elim
+    (λ low. let a = unset_same xs n b size low in let c = unset_same ys n b wide low in rw is (a ∙ sym c))
+    (λ high.
+    let a = get_or_past (set xs n b) n false (let l = length-set xs n b in omega arith) in
+    let c = get_or_past (set ys n b) n false (let l = length-set ys n b in omega arith) in
+    rw is (a ∙ sym c))
+    (cases_lt n 256))
+    (λ apart. get_or-set_other xs n k b false apart ∙ (equal ∙ sym (get_or-set_other ys n k b false apart)))
+    (cases_eq k n)
+
 pub set_unset : {special : List ℕ} {xs ys : List Bool} → UnsetFit special xs ys → (n mask : ℕ) (b : Bool) → length special ≡ 256 → (b ≡ true → mask ≡ 0) → UnsetFit (set special n mask) (set xs n b) (set ys n b)
 set_unset {special = special} {xs = xs} {ys = ys} u n mask b spread gone =
     let size = u.size in
@@ -107,16 +120,7 @@ set_unset {special = special} {xs = xs} {ys = ys} u n mask b spread gone =
     record {
       size = length-set xs n b ∙ size;
       wide = length-set ys n b ∙ wide;
-      equal = λ k other. ⊎_elim
-          (λ is. ⊎_elim
-          (λ low. let a = unset_same xs n b size low in let c = unset_same ys n b wide low in rw is (a ∙ sym c))
-          (λ high.
-          let a = get_or_past (set xs n b) n false (let l = length-set xs n b in omega arith) in
-          let c = get_or_past (set ys n b) n false (let l = length-set ys n b in omega arith) in
-          rw is (a ∙ sym c))
-          (cases_lt n 256))
-          (λ apart. get_or-set_other xs n k b false apart ∙ (u.equal k other ∙ sym (get_or-set_other ys n k b false apart)))
-          (cases_eq k n);
+      equal = λ k other. set_equal xs ys n b u.size u.wide k (u.equal k other);
       lacks = λ k mark has. ⊎_elim
           (λ is.
           let low : k < 256 = ⊎_elim (λ r. let hi = r.1 in omega arith) (λ r. let hi = r.1 in omega arith) (mark_range k mark) in
@@ -136,16 +140,7 @@ clear_unset {special = special} {xs = xs} {ys = ys} u n =
     record {
       size = length-set xs n false ∙ size;
       wide = length-set ys n false ∙ wide;
-      equal = λ k other. ⊎_elim
-          (λ is. ⊎_elim
-          (λ low. let a = unset_same xs n false size low in let c = unset_same ys n false wide low in rw is (a ∙ sym c))
-          (λ high.
-          let a = get_or_past (set xs n false) n false (let l = length-set xs n false in omega arith) in
-          let c = get_or_past (set ys n false) n false (let l = length-set ys n false in omega arith) in
-          rw is (a ∙ sym c))
-          (cases_lt n 256))
-          (λ apart. get_or-set_other xs n k false false apart ∙ (u.equal k other ∙ sym (get_or-set_other ys n k false false apart)))
-          (cases_eq k n);
+      equal = λ k other. set_equal xs ys n false u.size u.wide k (u.equal k other);
       lacks = λ k mark has. ⊎_elim
           (λ is. ⊎_elim
           (λ low.

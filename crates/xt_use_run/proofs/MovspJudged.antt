@@ -4,13 +4,11 @@ use Rattle.std.proofs.Common.{◌≡◌, ℕ, ◌^◌, ◌<◌, Bool, true, fals
 use Rattle.std.proofs.lemmas.Bool.{cond-false, or_from}
 use Rattle.xt_isa.specs.declared.Insn.{Insn}
 use Rattle.xt_isa.specs.Ranges.{in_range}
-use Rattle.xt_map.specs.declared.access.Access.{Access}
 use Rattle.xt_map.specs.declared.contents.MemoryContents.{MemoryContents}
 use Rattle.xt_map.specs.Memory.{byte_at}
 use Rattle.xt_special.specs.declared.ps.Ps.{Ps}
 use Rattle.xt_special.specs.Interrupts.{pending_of}
 use Rattle.xt_window.specs.Ring.{place, visible}
-use Rattle.xt_trace.specs.declared.record.RegWrite.{RegWrite}
 use Rattle.xt_trace.specs.declared.record.StepKind.TheVariants as step
 use Rattle.xt_trace.specs.declared.record.StepRecord.{StepRecord}
 use Rattle.xt_fetch.specs.Fetching.{Fetches, fetched}
@@ -47,11 +45,10 @@ use Rattle.xt_uses.specs.Used.{shift_used, used_are_known}
 use Rattle.xt_uses.specs.UseState.{UseState, first_word, second_word, visible_word}
 use Rattle.xt_uses.specs.UseBreaches.{is_insn, keeps_stack}
 use Rattle.xt_uses.specs.UseStep.{UseTurn, executed, fetched_movsp, full_step, insn_turn, movsp_of, reply_mask, stack_moved, turn_or, use_turn, value_step}
-use Rattle.xt_uses.specs.UseLaws.{AccessFits, IsSent, WriteFits}
 use Rattle.xt_uses.proofs.Wholes.{whole_value}
 use Rattle.xt_use_run.specs.Knowing.{Follows, Knows, NowFit, with_pointer}
 use Rattle.xt_use_run.proofs.Agreed.{Uses, uses_known}
-use Rattle.xt_use_run.proofs.Following.{now_plain}
+use Rattle.xt_use_run.proofs.Following.{now_plain, record_fits}
 use Rattle.xt_use_run.proofs.MovspStep.{move_follows, movsp}
 use Rattle.xt_use_run.proofs.MovspTurn.{Keeps, keeps, not_illegal, movsp_level, movsp_ring, movsp_stack, movsp_turn, ring_under}
 use Rattle.xt_use_run.proofs.Operands.{word_fits}
@@ -262,12 +259,7 @@ module _ (code : ℕ → ℕ) (bytes : AreBytes code) (b : Bounds) (fresh : Bool
 
     pub movsp_judged : JudgedUse code b fresh m s live kb (full_step code false rec kb us)
     movsp_judged = record {
-      saves = d.saves;
-      swaps = d.loads;
-      kind = plan_kind code s plan is reply ∙ follows.kind;
-      write = subst (λ (w : Option RegWrite). WriteFits (full_step code false rec kb us).mask w (full_step code false rec kb us).turn.write) (sym (plan_write code s plan is reply)) follows.write;
-      access = subst (λ (a : Option Access). AccessFits (full_step code false rec kb us).stored a (full_step code false rec kb us).turn.access) (sym (plan_access code s plan is reply)) follows.access;
-      sent = subst (λ (a : Option Access). IsSent (full_step code false rec kb us).stored a) (sym (plan_access code s plan is reply)) tt;
+      fits = record_fits d.saves d.loads (plan_kind code s plan is reply) (plan_write code s plan is reply) (plan_access code s plan is reply) follows;
       frame = turn_u.after;
       ring = ring;
       spilled = spilled;

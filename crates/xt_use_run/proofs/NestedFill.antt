@@ -27,9 +27,6 @@ use Rattle.xt_use_run.proofs.Seen.{filled}
 use Rattle.xt_use_run.proofs.SpecialFilled.{same_filled, special_knows, with_special}
 
 -- ---- a visible register of the interrupt
-abbrev pub with_inner : ℕ → ℕ → Nested → FrameState → FrameState
-with_inner r v x f = record f { nested = Some (record x { seen = set x.seen r (Some v) }) }
-
 module _ {code : ℕ → ℕ} {b : Bounds} {m : MemoryContents} {s : State} {f : FrameState} {before : State} {opened : ℕ → ℕ} {suspended : State} (h : Suspends code b m s f before opened suspended) (shaped : IsShaped s) where
   -- a frame state in which registers and frames are as they are in f
   same_carries : (g : FrameState) → g.seen ≡ f.seen → g.frames ≡ f.frames → g.control.pc ≡ f.control.pc → g.control.ps ≡ f.control.ps → g.control.threadptr ≡ f.control.threadptr → g.control.waits ≡ f.control.waits

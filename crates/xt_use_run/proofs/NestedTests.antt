@@ -7,7 +7,6 @@ use Rattle.xt_isa.specs.declared.control.Control.TheVariants as control
 use Rattle.xt_isa.specs.declared.control.RetName.TheVariants as RetName
 use Rattle.xt_isa.specs.declared.density.Density.TheVariants as density
 use Rattle.xt_isa.specs.declared.density.NarrowRetName.TheVariants as NarrowRetName
-use Rattle.xt_isa.specs.declared.shift.Shift.TheVariants as shift
 use Rattle.xt_special.specs.declared.ps.Ps.{Ps}
 use Rattle.xt_trace.specs.declared.record.StepRecord.{StepRecord}
 use Rattle.xt_fetch.specs.Fetching.{Fetches}
@@ -24,6 +23,7 @@ use Rattle.xt_frames.proofs.Shown.{NoneShown}
 use Rattle.xt_simulation.proofs.Judged.{Calls, excm_step}
 use Rattle.xt_uses.specs.UseState.{UseState}
 use Rattle.xt_use_run.specs.Knowing.{NowFit}
+use Rattle.xt_use_run.proofs.FetchedUses.{movsp_form}
 use Rattle.xt_use_run.proofs.Agreed.{alike_after, sp_tested}
 use Rattle.xt_use_run.proofs.MovspStep.{movsp}
 use Rattle.xt_use_run.proofs.MovspTurn.{keeps}
@@ -42,11 +42,6 @@ unfolding is_return
 return_form (insn.Control (control.Ret RetName.Retw)) e = inl (inl refl)
 return_form (insn.Density (density.Ret NarrowRetName.Retw)) e = inl (inr refl)
 return_form _ e = absurd (false≢true e)
-
-movsp_form : (i : Insn) → is_movsp i ≡ true → (t : ℕ) × (q : ℕ) × (i ≡ movsp t q)
-unfolding is_movsp
-movsp_form (insn.Shift (shift.Movsp t q)) h = (t, q, refl)
-movsp_form _ h = absurd (false≢true h)
 
 no_size : (r : Range) (i : Insn) (g : FrameState) → is_entry i ≡ false → other_frame_size r i g ≡ false
 unfolding other_frame_size is_entry

@@ -56,7 +56,7 @@ use Rattle.xt_uses.specs.Used.{used_are_known}
 use Rattle.xt_uses.specs.UseBreaches.{has_no_number, holds_mark, nowhere, reads_mark, reads_no_number}
 use Rattle.xt_uses.specs.UseState.{UseState, first_word, second_word, special_operand}
 use Rattle.xt_uses.specs.Known.{result_mask}
-use Rattle.xt_uses.specs.UseStep.{UseTurn, executed, full_step, insn_turn, other_turn, reply_mask, use_turn}
+use Rattle.xt_uses.specs.UseStep.{UseTurn, executed, full_step, insn_turn, reply_mask, use_turn}
 use Rattle.xt_uses.specs.UseLaws.{OutcomesAgree, RowsAgree}
 use Rattle.xt_use_run.specs.Knowing.{Follows, InnerFit, Knows, NestedFit, NowFit, with_pointer}
 use Rattle.xt_use_run.proofs.Agreed.{Uses, uses_known}
@@ -91,6 +91,37 @@ goes_on_turn i value mark z q u = record u {
 
 pub going_is : (i : Insn) (value : ℕ) (x : Nested) (f : FrameState) (u : FrameTurn) → ends_nested i ≡ false → nested_insn i value x f u ≡ goes_on_turn i value (mark_read i x.saved) x f u
 going_is i value x f u goes = cond-false (ends_nested i) _ _ goes
+
+-- the machine of uses follows a step inside where it follows what that step is; `told` and `value` are what both are told of the record's write
+module _ (us : UseState) (f : FrameState) (x y : Nested) (i : Insn) (len k told value : ℕ) (h : FrameState) (u v : FrameTurn) where
+  abbrev pub InnerFollows : Type 0
+  InnerFollows = Follows (use_turn (executed v.kind (Fetches i len)) k us h (nested_insn i told y us.frame v)) (nested_insn i value x f u)
+
+  turn_follows : {o : Option Insn} {v2 u2 : FrameTurn} → executed v.kind (Fetches i len) ≡ o → nested_insn i told y us.frame v ≡ v2 → nested_insn i value x f u ≡ u2 → Follows (use_turn o k us h v2) u2 → InnerFollows
+  turn_follows {o = o} {v2 = v2} is first second here =
+      subst (λ z. Follows (use_turn z k us h (nested_insn i told y us.frame v)) (nested_insn i value x f u)) (sym is)
+      (subst (λ (z : FrameTurn). Follows (use_turn o k us h z) (nested_insn i value x f u)) (sym first) (subst (Follows (use_turn o k us h v2)) (sym second) here))
+
+  -- RFI 5
+  pub ends_turn : v.kind ≡ step.Insn → ends_nested i ≡ true → Follows (insn_turn i k us h (record v { after = record (keeping us.frame v.after) { nested = None } })) (record u { after = record (keeping f u.after) { nested = None } }) → InnerFollows
+  ends_turn kind ends here = turn_follows (ap (λ z. executed z (Fetches i len)) kind ∙ executed_insn i len) (ending_is i told y us.frame v ends) (ending_is i value x f u ends) here
+
+  -- any other
+  pub goes_turn : (o : Option Insn) → executed v.kind (Fetches i len) ≡ o → ends_nested i ≡ false → x.saved ≡ y.saved → Follows (use_turn o k us h (goes_on_turn i told (mark_read i x.saved) y us.frame v)) (goes_on_turn i value (mark_read i x.saved) x f u) → InnerFollows
+  goes_turn o is goes saved here =
+      turn_follows is (going_is i told y us.frame v goes ∙ ap (λ z. goes_on_turn i told (mark_read i z) y us.frame v) (sym saved)) (going_is i value x f u goes) here
+
+pub use_insn_inside : (code : ℕ → ℕ) (rec : StepRecord) (kb : ℕ → ℕ) (us : UseState) (y : Nested) → us.frame.nested ≡ Some y → (i : Insn) (len : ℕ)
+    → let h = laid (inputs_of rec) (inside y us.frame) in let v = fetched_step (Fetches i len) code rec.reply h in
+    fetched code h.control.pc ≡ Fetches i len → laid_step code rec.reply h ≡ v
+    → full_step code true rec kb us ≡ use_turn (executed v.kind (Fetches i len)) (reply_mask kb rec.access) us h (nested_insn i (value_in rec.write) y us.frame v)
+use_insn_inside code rec kb us y sy i len at step =
+    let h = laid (inputs_of rec) (inside y us.frame) in
+    let v = fetched_step (Fetches i len) code rec.reply h in
+    let told = value_in rec.write in
+    let k = reply_mask kb rec.access in
+    let U : Fetched → FrameTurn → UseTurn = λ z w. use_turn (executed (nested_fetched z told y us.frame w).kind z) k us h (nested_fetched z told y us.frame w) in
+    use_inside code rec kb us y sy ∙ (ap (U (fetched code h.control.pc)) step ∙ (ap (λ z. U z v) at ∙ ap (λ z. use_turn (executed z (Fetches i len)) k us h (nested_insn i told y us.frame v)) (kind_inside (Fetches i len) told y us.frame v)))
 
 pub count_inside : {code : ℕ → ℕ} {b : Bounds} {m : MemoryContents} {s : State} {f : FrameState} {before : State} {opened : ℕ → ℕ} {suspended : State} → Suspends code b m s f before opened suspended → IsShaped s → length f.control.special ≡ 256
 count_inside {s = s} {f = f} h shaped = sym (laid_length f.control.special (special_of s.control 234) (special_of s.control 226)) ∙ (sym h.inside.even.special.size ∙ shaped.control.count)
@@ -179,9 +210,7 @@ module _ (rows : RowsAgree) (code : ℕ → ℕ) (bytes : AreBytes code) (b : Bo
       turn_v = nested_insn i value y us.frame v
 
       used : full_step code true rec kb us ≡ use_turn (executed v.kind (Fetches i len)) k us h turn_v
-      used =
-          let U : Fetched → FrameTurn → UseTurn = λ z w. use_turn (executed (nested_fetched z value y us.frame w).kind z) k us h (nested_fetched z value y us.frame w) in
-          use_inside code rec kb us y sy ∙ (ap (U (fetched code h.control.pc)) step_h ∙ (ap (λ z. U z v) at_h ∙ ap (λ z. use_turn (executed z (Fetches i len)) k us h turn_v) (kind_inside (Fetches i len) value y us.frame v)))
+      used = use_insn_inside code rec kb us y sy i len at_h step_h
 
       reads_g : reads_none i g ≡ false
       reads_g = ap (λ (o : Option Nested). reads_none_in o i g) q.nested ∙ read_all
@@ -212,11 +241,7 @@ module _ (rows : RowsAgree) (code : ℕ → ℕ) (bytes : AreBytes code) (b : Bo
           let o : Ordinary i us g h (row_masks i us h).result u v = ends_ordinary now code i len rec.reply count ok ends in
           let o2 : Ordinary i us g h (result_mask us.masks.discipline i (first_word i us h) (second_word i us h) (special_operand i us h) us.masks.threadptr k) u v = subst (λ z. Ordinary i us g h z u v) (sym (ends_result us.masks.discipline i (first_word i us h) (second_word i us h) (special_operand i us h) us.masks.threadptr k ends)) o in
           let here = ends_follows kn q.x y q.nested sy inner (inputs_of rec) bare i k u v o2 (ends_moves i ends) (ends_silent code i len rec.reply h ends) in
-          let a : executed v.kind (Fetches i len) ≡ Some i = ap (λ z. executed z (Fetches i len)) o.kind_too ∙ executed_insn i len in
-          conclude (Executes o) (o.kind ∙ sym o.kind_too)
-          (subst (λ z. Follows (use_turn z k us h turn_v) (nested_insn i value q.x f u)) (sym a)
-          (subst (λ (z : FrameTurn). Follows (insn_turn i k us h z) (nested_insn i value q.x f u)) (sym (ending_is i value y us.frame v ends))
-          (subst (λ (z : FrameTurn). Follows (insn_turn i k us h (record v { after = record (keeping us.frame v.after) { nested = None } })) z) (sym (ending_is i value q.x f u ends)) here)))
+          conclude (Executes o) (o.kind ∙ sym o.kind_too) (ends_turn us f q.x y i len k value value h u v o.kind_too ends here)
 
       -- ---- any other
       module _ (goes : ends_nested i ≡ false) where
@@ -309,22 +334,12 @@ module _ (rows : RowsAgree) (code : ℕ → ℕ) (bytes : AreBytes code) (b : Bo
             let R : List (Option ℕ) → List (Option ℕ) → Bool = λ ms ss. not (moves_marks i) && (holds_mark ms (reads i).0 || (holds_mark ms (reads i).1 || (holds_mark ss (special_reads i).0 || holds_mark ss (special_reads i).1))) in
             ap (λ z. R z q.x.saved) inner.marks ∙ (ap (R y.marks) inner.saved ∙ a)
 
-        going_v : turn_v ≡ goes_on_turn i value mark y us.frame v
-        going_v = going_is i value y us.frame v goes ∙ ap (λ z. goes_on_turn i value (mark_read i z) y us.frame v) (sym inner.saved)
-
         by_row : RowStep i us g h (mask_of k) u v → Follows (use_turn (executed v.kind (Fetches i len)) k us h turn_v) (nested_insn i value q.x f u)
         by_row (Executes x) =
-            let here = goes_follows kn q.x y q.nested sy inner (inputs_of rec) bare i k value mark (λ j e. mark_gone code q kn i j k h e marks_read) u v x (visible_named i ok u.write x.narrow) in
-            let a : executed v.kind (Fetches i len) ≡ Some i = ap (λ z. executed z (Fetches i len)) x.kind_too ∙ executed_insn i len in
-            subst (λ z. Follows (use_turn z k us h turn_v) (nested_insn i value q.x f u)) (sym a)
-            (subst (λ (z : FrameTurn). Follows (insn_turn i k us h z) (nested_insn i value q.x f u)) (sym going_v)
-            (subst (Follows (insn_turn i k us h (goes_on_turn i value mark y us.frame v))) (sym (going_is i value q.x f u goes)) here))
+            goes_turn us f q.x y i len k value value h u v (Some i) (ap (λ z. executed z (Fetches i len)) x.kind_too ∙ executed_insn i len) goes inner.saved
+            (goes_follows kn q.x y q.nested sy inner (inputs_of rec) bare i k value mark (λ j e. mark_gone code q kn i j k h e marks_read) u v x (visible_named i ok u.write x.narrow))
         by_row (Rests x (inl bad)) = absurd (both_ways (is_exception v.kind) (no_exception code len y d sy mode_h) (ap is_exception (sym x.kind) ∙ bad))
-        by_row (Rests x (inr none)) =
-            let here = stops_follows kn q.x y q.nested sy inner (inputs_of rec) bare i value mark u v x none in
-            subst (λ z. Follows (use_turn z k us h turn_v) (nested_insn i value q.x f u)) (sym (x.idle (Fetches i len)))
-            (subst (λ (z : FrameTurn). Follows (other_turn us.masks z) (nested_insn i value q.x f u)) (sym going_v)
-            (subst (Follows (other_turn us.masks (goes_on_turn i value mark y us.frame v))) (sym (going_is i value q.x f u goes)) here))
+        by_row (Rests x (inr none)) = goes_turn us f q.x y i len k value value h u v None (x.idle (Fetches i len)) goes inner.saved (stops_follows kn q.x y q.nested sy inner (inputs_of rec) bare i value mark u v x none)
         by_row (Pushes number _ n low entry size is small eu ev) = absurd (both_ways g.control.ps.excm low mode_g)
         by_row (Pops a0 low return_ eu ev) = absurd (both_ways g.control.ps.excm low mode_g)
 

@@ -1,7 +1,7 @@
 -- Each judged step of a nested interrupt that shows no breach of uses.
 use Rattle.std.specs.Prelude.{is_some}
 use Rattle.std.proofs.Common.{◌≡◌, ℕ, Bool, true, false, ◌||◌, ◌&&◌, not, ltb, List, Option, Some, None, sym, ap, ◌∙◌, refl, ⊎_elim, subst}
-use Rattle.std.proofs.lemmas.Bool.{and_left, and_right, both_ways, cases_Bool, cond-false, or_from, or_parts}
+use Rattle.std.proofs.lemmas.Bool.{and_left, and_right, both_ways, cases_Bool, cond-false, or_parts}
 use Rattle.xt_isa.specs.declared.Insn.{Insn}
 use Rattle.xt_isa.specs.Ranges.{in_range}
 use Rattle.xt_map.specs.declared.contents.MemoryContents.{MemoryContents}
@@ -19,15 +19,14 @@ use Rattle.xt_frames.specs.Frames.{FrameState}
 use Rattle.xt_frames.specs.FrameStep.{FrameTurn, fetched_step, laid, laid_step}
 use Rattle.xt_frames.specs.Marks.{moves_marks}
 use Rattle.xt_frames.specs.Nesting.{ends_nested, inside}
-use Rattle.xt_frames.specs.Breaches.{Bounds, first_shown, inputs_of, insn_tests, is_unset, lacks, other_tests, reads_none_in}
+use Rattle.xt_frames.specs.Breaches.{Bounds, inputs_of, is_unset, lacks, other_tests, reads_none_in}
 use Rattle.xt_frames.specs.SaveAreas.{is_live}
-use Rattle.xt_frames.proofs.Shown.{NoneShown, none_shown}
-use Rattle.xt_frames.proofs.StackSteps.{step_fetches}
+use Rattle.xt_frames.proofs.Shown.{NoneShown}
 use Rattle.xt_simulation.specs.Handling.{IsGood}
 use Rattle.xt_simulation.specs.Nested.{Suspends}
 use Rattle.xt_simulation.specs.Steps.{record_now}
 use Rattle.xt_uses.specs.Used.{used_are_known}
-use Rattle.xt_uses.specs.UseBreaches.{breaks_stack, fetched_uses, has_no_number, holds_mark, nowhere, reads_mark, reads_no_number, swaps_unknown, use_breach, use_tests, uses_unknown}
+use Rattle.xt_uses.specs.UseBreaches.{laid_use, has_no_number, holds_mark, nowhere, reads_mark, reads_no_number, swaps_unknown, use_breach, use_tests, uses_unknown}
 use Rattle.xt_uses.specs.UseState.{UseState, first_word, second_word}
 use Rattle.xt_uses.specs.UseStep.{full_step}
 use Rattle.xt_uses.specs.UseLaws.{RowsAgree}
@@ -37,9 +36,9 @@ use Rattle.xt_use_run.proofs.NestedJudged.{InnerUse, breach_use_inside}
 use Rattle.xt_use_run.proofs.NestedReady.{More, fill, fill_special, row_reads}
 use Rattle.xt_use_run.proofs.Operands.{AreMasks, second_special}
 use Rattle.xt_use_run.proofs.Rfi.{ends_no_marks}
-use Rattle.xt_use_run.proofs.Tests.{Denied, denied}
+use Rattle.xt_use_run.proofs.Tests.{Denied}
 use Rattle.xt_use_run.proofs.NestedRow.{inner_of}
-use Rattle.xt_use_run.proofs.PlainJudged.{laid_fetches}
+use Rattle.xt_use_run.proofs.FetchedUses.{fails_shown, row_denied, spells_shown}
 use Rattle.xt_use_run.proofs.PlainRow.{no_mark}
 use Rattle.xt_use_run.proofs.Reading.{numbered}
 use Rattle.xt_use_run.proofs.NestedTop.{count_inside, ends_target, goes_target, pc_h, runs_h, still_h}
@@ -83,13 +82,8 @@ module _ (rows : RowsAgree) (code : ℕ → ℕ) (bytes : AreBytes code) (b : Bo
   same_pc : s.control.pc ≡ h.control.pc
   same_pc = pc_h rows code bytes b good fresh m s shaped opened suspended us y sy masks live own kb q kn
 
-  step_h : (at : Fetched) → fetched code s.control.pc ≡ at → laid_step code rec.reply h ≡ fetched_step at code rec.reply h
-  step_h at e = step_fetches code rec.reply h still runs ∙ ap (λ z. fetched_step z code rec.reply h) (ap (fetched code) (sym same_pc) ∙ e)
-
-  shown_at : (at : Fetched) → fetched code s.control.pc ≡ at → use_breach b fresh code live kb true rec us ≡ None → first_shown (fetched_uses b fresh live kb at rec us h (laid_step code rec.reply h)) ≡ None
-  shown_at at e none =
-      ap (λ z. first_shown (fetched_uses b fresh live kb z rec us h (laid_step code rec.reply h))) (sym (ap (fetched code) (sym same_pc) ∙ e))
-      ∙ (sym (laid_fetches b fresh code live kb rec us h (or_from _ _ still runs)) ∙ (sym (breach_use_inside b fresh code live kb rec us y sy) ∙ none))
+  at_h : (at : Fetched) → fetched code s.control.pc ≡ at → fetched code h.control.pc ≡ at
+  at_h at e = ap (fetched code) (sym same_pc) ∙ e
 
   module _ (i : Insn) (len : ℕ) (at : fetched code s.control.pc ≡ Fetches i len) (d : Denied b fresh live kb i rec us h (fetched_step (Fetches i len) code rec.reply h)) where
     ok : in_range i ≡ true
@@ -120,15 +114,12 @@ module _ (rows : RowsAgree) (code : ℕ → ℕ) (bytes : AreBytes code) (b : Bo
         let read : reads_none_in (Some x) i g ≡ false = row_reads i x g (marks_none i us h x y inner sy d.unset) first second special other in
         goes_target rows code bytes b good fresh m s shaped opened suspended us y sy masks live own kb all.holds all.knows i len at d read e
 
-  by_fetch : (at : Fetched) → fetched code s.control.pc ≡ at → use_breach b fresh code live kb true rec us ≡ None → target
-  by_fetch (Fails a) e none = absurd (other_breaks b live kb rec h (laid_step code rec.reply h) y sy (none_shown (use_tests false (swaps_unknown kb rec.access) false (other_tests b live nowhere rec h (laid_step code rec.reply h))) (shown_at (Fails a) e none)))
-  by_fetch SpellsNothing e none = absurd (other_breaks b live kb rec h (laid_step code rec.reply h) y sy (none_shown (use_tests false (swaps_unknown kb rec.access) false (other_tests b live nowhere rec h (laid_step code rec.reply h))) (shown_at SpellsNothing e none)))
+  by_fetch : (at : Fetched) → fetched code s.control.pc ≡ at → laid_use b fresh code live kb rec us h ≡ None → target
+  by_fetch (Fails a) e none = absurd (other_breaks b live kb rec h (laid_step code rec.reply h) y sy (fails_shown b fresh code live kb rec us h still runs none a (at_h (Fails a) e)))
+  by_fetch SpellsNothing e none = absurd (other_breaks b live kb rec h (laid_step code rec.reply h) y sy (spells_shown b fresh code live kb rec us h still runs none (at_h SpellsNothing e)))
   by_fetch (Fetches i len) e none =
-      let v = fetched_step (Fetches i len) code rec.reply h in
-      let shown : first_shown (use_tests (uses_unknown i us h) (swaps_unknown kb rec.access) (breaks_stack b.range i rec.kind h) (insn_tests b fresh live nowhere i rec h v)) ≡ None =
-      subst (λ (z : FrameTurn). first_shown (fetched_uses b fresh live kb (Fetches i len) rec us h z) ≡ None) (step_h (Fetches i len) e) (shown_at (Fetches i len) e none) in
-      let d : Denied b fresh live kb i rec us h v = denied b fresh live kb i rec us h v shown in
+      let d = row_denied b fresh code live kb rec us h still runs none i len (at_h (Fetches i len) e) in
       ⊎_elim (λ z. ends i len e d z) (λ z. goes i len e d z) (cases_Bool (ends_nested i))
 
   pub nested_judged : use_breach b fresh code live kb true rec us ≡ None → target
-  nested_judged none = by_fetch (fetched code s.control.pc) refl none
+  nested_judged none = by_fetch (fetched code s.control.pc) refl (sym (breach_use_inside b fresh code live kb rec us y sy) ∙ none)

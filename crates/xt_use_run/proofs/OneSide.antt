@@ -30,7 +30,8 @@ use Rattle.xt_uses.specs.UseStep.{reply_mask}
 use Rattle.xt_uses.specs.UseLaws.{FitsStep, ReplyFits}
 use Rattle.xt_uses.proofs.RowsAll.{all_agree}
 use Rattle.xt_use_run.proofs.Bytes.{KnownEqual, reply_fits, swap_answered}
-use Rattle.xt_use_run.proofs.CoreTurn.{CoreNext, RecordFits, fresh_next}
+use Rattle.xt_use_run.proofs.CoreTurn.{CoreNext, fresh_next}
+use Rattle.xt_use_run.proofs.Following.{RecordFits}
 use Rattle.xt_use_run.proofs.JudgedPlace.{fresh_is, fresh_moved, idle_fresh, place_is}
 use Rattle.xt_use_run.proofs.LostTurn.{falls_at, lost_elsewhere, lost_idle, lost_judged, same_answer}
 use Rattle.xt_use_run.proofs.MaskWords.{now_small}
@@ -151,7 +152,7 @@ module _ (r : Course) (h : History) (bytes : AreBytes r.code) {d : Discipline} (
     judged : IsJudgedTurn r p core rec
     judged = record { turn = turn; judged = j }
 
-    fits : RecordFits (h.mask p) rec (use_at r h p core rec)
+    fits : RecordFits (live_at r h p) (h.mask p) rec (use_at r h p core rec)
     fits = turned.0.fits j
 
     judged_state : use_next ≡ (use_at r h p core rec).after

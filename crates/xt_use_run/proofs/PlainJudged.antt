@@ -1,9 +1,6 @@
 -- A judged step outside nested interrupts that shows no breach of uses.
-use Rattle.std.proofs.Common.{◌≡◌, ℕ, Bool, true, false, ◌||◌, ltb, List, [], ◌∷◌, Option, Some, None, sym, ap, ◌∙◌, refl, ⊎_elim, subst}
-use Rattle.std.proofs.lemmas.Bool.{cases_Bool, cond-false, cond-true, false≢true, or_from, or_left, or_right}
-use Rattle.xt_isa.specs.declared.Insn.{Insn}
-use Rattle.xt_isa.specs.declared.Insn.TheVariants as insn
-use Rattle.xt_isa.specs.declared.shift.Shift.TheVariants as shift
+use Rattle.std.proofs.Common.{◌≡◌, ℕ, Bool, true, false, ◌||◌, ltb, List, [], ◌∷◌, Option, Some, None, sym, ap, ◌∙◌, refl, ⊎_elim}
+use Rattle.std.proofs.lemmas.Bool.{cases_Bool, or_left, or_right}
 use Rattle.xt_map.specs.declared.contents.MemoryContents.{MemoryContents}
 use Rattle.xt_map.specs.Memory.{byte_at}
 use Rattle.xt_map.specs.Touching.{IsMemory}
@@ -19,38 +16,30 @@ use Rattle.xt_exec.proofs.Finished.{turn_taken, turn_waits}
 use Rattle.xt_trace.specs.declared.record.StepRecord.{StepRecord}
 use Rattle.xt_frames.specs.declared.holes.Nested.{Nested}
 use Rattle.xt_frames.specs.Frames.{Frame, FrameState}
-use Rattle.xt_frames.specs.FrameStep.{FrameTurn, fetched_step, laid, laid_step}
+use Rattle.xt_frames.specs.FrameStep.{laid}
 use Rattle.xt_frames.specs.HandlerSteps.{is_window}
 use Rattle.xt_frames.specs.Nesting.{current_in}
 use Rattle.xt_frames.specs.SaveAreas.{is_live}
-use Rattle.xt_frames.specs.Breaches.{Bounds, first_shown, inputs_of, insn_tests, other_tests, touches_save_area, vector_test}
+use Rattle.xt_frames.specs.Breaches.{Bounds, inputs_of, touches_save_area, vector_test}
 use Rattle.xt_frames.proofs.Shown.{none_shown}
-use Rattle.xt_frames.proofs.StackSteps.{step_fetches}
 use Rattle.xt_simulation.specs.Cores.{Related}
 use Rattle.xt_simulation.specs.Relation.{inputs, lost_at}
 use Rattle.xt_simulation.specs.Steps.{record_now, reply_now}
 use Rattle.xt_simulation.proofs.Evenly.{same_pending}
 use Rattle.xt_simulation.proofs.Judges.{record_access, same_laid}
 use Rattle.xt_simulation.proofs.Plans.{plan_asks}
-use Rattle.xt_uses.specs.UseBreaches.{fetched_uses, laid_use, swaps_unknown, use_breach, use_tests, uses_unknown, breaks_stack, nowhere}
+use Rattle.xt_uses.specs.UseBreaches.{laid_use, swaps_unknown, use_breach}
 use Rattle.xt_uses.specs.UseState.{UseState}
 use Rattle.xt_uses.specs.UseStep.{fetched_movsp, full_step}
 use Rattle.xt_uses.specs.UseLaws.{RowsAgree}
 use Rattle.xt_use_run.specs.Knowing.{Knows, NowFit, with_pointer}
+use Rattle.xt_use_run.proofs.FetchedUses.{fails_shown, laid_pends, moves_denied, row_denied, spells_shown}
 use Rattle.xt_use_run.proofs.Following.{now_plain}
 use Rattle.xt_use_run.proofs.MovspJudged.{movsp_judged}
-use Rattle.xt_use_run.proofs.MovspStep.{movsp}
-use Rattle.xt_use_run.proofs.MovspTurn.{keeps}
 use Rattle.xt_use_run.proofs.Operands.{AreMasks}
 use Rattle.xt_use_run.proofs.PlainRest.{fails_judged, taken_judged, waits_judged}
 use Rattle.xt_use_run.proofs.PlainRow.{row_judged}
 use Rattle.xt_use_run.proofs.PlainStep.{JudgedUse}
-use Rattle.xt_use_run.proofs.Tests.{Denied, denied}
-
-pub movsp_form : (i : Insn) → is_movsp i ≡ true → (t : ℕ) × (q : ℕ) × (i ≡ movsp t q)
-unfolding is_movsp
-movsp_form (insn.Shift (shift.Movsp t q)) h = (t, q, refl)
-movsp_form _ h = absurd (false≢true h)
 
 pub no_move_fails : (a : ℕ) (f : FrameState) → fetched_movsp (Fails a) f ≡ None
 unfolding fetched_movsp
@@ -59,14 +48,6 @@ no_move_fails a f = refl
 pub no_move_spells : (f : FrameState) → fetched_movsp SpellsNothing f ≡ None
 unfolding fetched_movsp
 no_move_spells f = refl
-
-pub laid_pends : (b : Bounds) (fresh : Bool) (code : ℕ → ℕ) (live : ℕ → Bool) (kb : ℕ → ℕ) (rec : StepRecord) (s : UseState) (h : FrameState) → (ltb 0 (pending_of h.control) || h.control.waits) ≡ true → laid_use b fresh code live kb rec s h ≡ first_shown (vector_test b h ∷ [])
-unfolding laid_use
-laid_pends b fresh code live kb rec s h e = cond-true (ltb 0 (pending_of h.control) || h.control.waits) _ _ e
-
-pub laid_fetches : (b : Bounds) (fresh : Bool) (code : ℕ → ℕ) (live : ℕ → Bool) (kb : ℕ → ℕ) (rec : StepRecord) (s : UseState) (h : FrameState) → (ltb 0 (pending_of h.control) || h.control.waits) ≡ false → laid_use b fresh code live kb rec s h ≡ first_shown (fetched_uses b fresh live kb (fetched code h.control.pc) rec s h (laid_step code rec.reply h))
-unfolding laid_use
-laid_fetches b fresh code live kb rec s h e = cond-false (ltb 0 (pending_of h.control) || h.control.waits) _ _ e
 
 module _ (rows : RowsAgree) (code : ℕ → ℕ) (bytes : AreBytes code) (b : Bounds) (fresh : Bool) (s : State) (m : MemoryContents) (shaped : IsShaped s) (real : IsMemory m) (nowindow : is_window (planned code s).kind ≡ false)
     (us : UseState) (sn : us.frame.nested ≡ None) (masks : AreMasks us) (live : ℕ → Bool) (own : (a : ℕ) → is_live b.range us.frame a ≡ true → live a ≡ true) (kb : ℕ → ℕ)
@@ -124,35 +105,18 @@ module _ (rows : RowsAgree) (code : ℕ → ℕ) (bytes : AreBytes code) (b : Bo
     awake_h : h.control.waits ≡ false
     awake_h = sym same_waits ∙ awake
 
-    step_h : (at : Fetched) → fetched code s.control.pc ≡ at → laid_step code rec.reply h ≡ fetched_step at code rec.reply h
-    step_h at e = step_fetches code rec.reply h still_h awake_h ∙ ap (λ z. fetched_step z code rec.reply h) (ap (fetched code) (sym same_pc) ∙ e)
-
-    shown_at : (at : Fetched) → fetched code s.control.pc ≡ at → laid_use b fresh code live kb rec us h ≡ None → first_shown (fetched_uses b fresh live kb at rec us h (laid_step code rec.reply h)) ≡ None
-    shown_at at e none =
-        ap (λ z. first_shown (fetched_uses b fresh live kb z rec us h (laid_step code rec.reply h))) (sym (ap (fetched code) (sym same_pc) ∙ e))
-        ∙ (sym (laid_fetches b fresh code live kb rec us h (or_from _ _ still_h awake_h)) ∙ none)
-
-    moved : (i : Insn) (t q len : ℕ) {v : FrameTurn} → i ≡ movsp t q → fetched code s.control.pc ≡ Fetches i len → Denied b fresh live kb i rec us h v → target
-    moved i t q len {v = v} is e d =
-        let d2 : Denied b fresh live kb (movsp t q) rec us h v = subst (λ j. Denied b fresh live kb j rec us h v) is d in
-        let one : t ≡ 1 = (keeps b.range t q rec.kind h d2.stack).one in
-        let d3 : Denied b fresh live kb (movsp 1 q) rec us h v = subst (λ n. Denied b fresh live kb (movsp n q) rec us h v) one d2 in
-        movsp_judged code bytes b fresh s m shaped nowindow us sn live kb still awake q len (e ∙ (ap (λ j. Fetches j len) is ∙ ap (λ n. Fetches (movsp n q) len) one)) d3 l kn fn
+    at_h : (at : Fetched) → fetched code s.control.pc ≡ at → fetched code h.control.pc ≡ at
+    at_h at e = ap (fetched code) (sym same_pc) ∙ e
 
     by_fetch : (at : Fetched) → fetched code s.control.pc ≡ at → laid_use b fresh code live kb rec us h ≡ None → target
     by_fetch (Fails a) e none =
-        fails_judged code bytes b fresh s m shaped real nowindow us sn live own kb l kn fn still_h awake_h (Fails a) (ap (fetched code) (sym same_pc) ∙ e) (no_move_fails a) fetch_error (Some a) (λ x. refl) (λ x w live. refl)
-        (none_shown (use_tests false (swaps_unknown kb rec.access) false (other_tests b live nowhere rec h (laid_step code rec.reply h))) (shown_at (Fails a) e none))
+        fails_judged code bytes b fresh s m shaped real nowindow us sn live own kb l kn fn still_h awake_h (Fails a) (at_h (Fails a) e) (no_move_fails a) fetch_error (Some a) (λ x. refl) (λ x w live. refl) (fails_shown b fresh code live kb rec us h still_h awake_h none a (at_h (Fails a) e))
     by_fetch SpellsNothing e none =
-        fails_judged code bytes b fresh s m shaped real nowindow us sn live own kb l kn fn still_h awake_h SpellsNothing (ap (fetched code) (sym same_pc) ∙ e) no_move_spells illegal_instruction None (λ x. refl) (λ x w live. refl)
-        (none_shown (use_tests false (swaps_unknown kb rec.access) false (other_tests b live nowhere rec h (laid_step code rec.reply h))) (shown_at SpellsNothing e none))
+        fails_judged code bytes b fresh s m shaped real nowindow us sn live own kb l kn fn still_h awake_h SpellsNothing (at_h SpellsNothing e) no_move_spells illegal_instruction None (λ x. refl) (λ x w live. refl) (spells_shown b fresh code live kb rec us h still_h awake_h none (at_h SpellsNothing e))
     by_fetch (Fetches i len) e none =
-        let v = fetched_step (Fetches i len) code rec.reply h in
-        let shown : first_shown (use_tests (uses_unknown i us h) (swaps_unknown kb rec.access) (breaks_stack b.range i rec.kind h) (insn_tests b fresh live nowhere i rec h v)) ≡ None =
-        subst (λ (z : FrameTurn). first_shown (fetched_uses b fresh live kb (Fetches i len) rec us h z) ≡ None) (step_h (Fetches i len) e) (shown_at (Fetches i len) e none) in
-        let d : Denied b fresh live kb i rec us h v = denied b fresh live kb i rec us h v shown in
+        let d = row_denied b fresh code live kb rec us h still_h awake_h none i len (at_h (Fetches i len) e) in
         ⊎_elim
-        (λ is. let form = movsp_form i is in moved i form.0 form.1 len form.2 e d)
+        (λ is. let q = moves_denied i is d in movsp_judged code bytes b fresh s m shaped nowindow us sn live kb still awake q.0 len (e ∙ ap (λ j. Fetches j len) q.1.0) q.1.1 l kn fn)
         (λ isnt. row_judged rows code bytes b fresh s m shaped real nowindow us sn masks live own kb still awake i len e isnt d l kn fn)
         (cases_Bool (is_movsp i))
 

@@ -15,7 +15,6 @@ use Rattle.xt_rows.specs.Outcomes.{outcome, outcome_at, system_outcome, value_of
 use Rattle.xt_frames.specs.Frames.{FrameState, known}
 use Rattle.xt_frames.specs.FrameStep.{done_in_frame, fetched_step}
 use Rattle.xt_frames.specs.Marks.{moves_marks}
-use Rattle.xt_trace.specs.declared.record.StepKind.TheVariants as step
 use Rattle.xt_rows.specs.declared.outcome.Effect.{Effect}
 use Rattle.xt_rows.specs.declared.outcome.Outcome.TheVariants.{Does}
 use Rattle.xt_use_run.proofs.Rows.{Ordinary, does_ordinary}
@@ -79,8 +78,3 @@ pub ends_no_marks : (i : Insn) → ends_nested i ≡ true → moves_marks i ≡ 
 unfolding ends_nested moves_marks
 ends_no_marks (insn.System (system.Rfi level)) e = refl
 ends_no_marks _ e = absurd (false≢true e)
-
-pub ends_no_exception : (code : ℕ → ℕ) (i : Insn) (len reply : ℕ) (g : FrameState) → ends_nested i ≡ true → (fetched_step (Fetches i len) code reply g).kind ≡ step.Insn
-unfolding ends_nested outcome system_outcome
-ends_no_exception code (insn.System (system.Rfi level)) len reply g e = refl
-ends_no_exception code _ len reply g e = absurd (false≢true e)

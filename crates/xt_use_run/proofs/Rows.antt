@@ -11,7 +11,6 @@ use Rattle.xt_isa.specs.declared.control.RetName.TheVariants as RetName
 use Rattle.xt_isa.specs.declared.density.Density.TheVariants as density
 use Rattle.xt_isa.specs.declared.density.NarrowRetName.TheVariants as NarrowRetName
 use Rattle.xt_isa.specs.declared.system.System.TheVariants as system
-use Rattle.xt_isa.specs.declared.system.SpecialName.TheVariants as SpecialName
 use Rattle.xt_isa.specs.declared.system.UserName.TheVariants as UserName
 use Rattle.xt_map.specs.declared.access.Access.{Access}
 use Rattle.xt_map.specs.Regions.{uart_transmit}
@@ -29,17 +28,17 @@ use Rattle.xt_rows.specs.declared.outcome.Outcome.TheVariants.{Does, Asks, Raise
 use Rattle.xt_rows.specs.declared.outcome.WindowStep.{WindowStep}
 use Rattle.xt_rows.specs.declared.outcome.WindowStep.TheVariants.{Enters, Returns, EndsOverflow, EndsUnderflow, Rotates, MovesStack, Reads, Sets, Exchanges}
 use Rattle.xt_fetch.specs.Fetching.{Fetched, Fetches}
-use Rattle.xt_rows.specs.Effects.{exchanges_special, illegal_instruction, unchanged, window_register, writes_special}
-use Rattle.xt_rows.specs.declared.outcome.WindowRegister.{WindowRegister}
+use Rattle.xt_rows.specs.Effects.{illegal_instruction, unchanged}
 use Rattle.xt_rows.specs.Laws.{AsksWith}
 use Rattle.xt_rows.specs.Kinds.{AwaitsNamed, Fits, FitsStep, WritesNamed, IsReturn, SetsOne, is_entry, is_movsp, is_return, is_saved, is_windowing, moved_to, names_window_register}
 use Rattle.xt_rows.specs.Operands.{reads, special_reads}
-use Rattle.xt_rows.specs.Outcomes.{control_outcome, density_outcome, system_outcome, outcome, outcome_at, value_of}
+use Rattle.xt_rows.specs.Outcomes.{control_outcome, density_outcome, outcome, outcome_at, value_of}
 use Rattle.xt_rows.specs.Settling.{settled, settled_interrupt, settled_wait, written}
 use Rattle.xt_rows.proofs.Fitting.{outcome_alone, outcome_fits}
 use Rattle.xt_frames.specs.Frames.{FrameState, known, seen_after_write}
 use Rattle.xt_frames.specs.FrameStep.{FrameTurn, done_in_frame, fetched_step, in_frame, popped, pushed, raised, windowed_in_frame}
 use Rattle.xt_frames.specs.Breaches.{is_exception}
+use Rattle.xt_simulation.proofs.InnerRows.{stops_move_none}
 use Rattle.xt_uses.specs.declared.words.Word.{Word}
 use Rattle.xt_uses.specs.Words.{all_bits, cut}
 use Rattle.xt_uses.specs.UseState.{UseState, first_word, second_word, special_operand}
@@ -80,21 +79,6 @@ asks_not_return code _ pc x y u v ps t a w e q = refl
 -- the stack pointer that ENTRY makes is a word
 abbrev pub EntersWord : Outcome → Type 0
 EntersWord o = (n k : ℕ) → o ≡ Windowed (Enters n k) → k < 2 ^ 32
-
--- a row of WSR or XSR is no stop
-writes_on : (w : Option WindowRegister) (n x v : ℕ) (e : Effect) → writes_special w n x v e ≢ Stops
-writes_on None n x v e q = cc
-writes_on (Some w) n x v e q = cc
-
-exchanges_on : (w : Option WindowRegister) (t n x u v : ℕ) (e : Effect) → exchanges_special w t n x u v e ≢ Stops
-exchanges_on None t n x u v e q = cc
-exchanges_on (Some w) t n x u v e q = cc
-
-stops_move_none : (code : ℕ → ℕ) (i : Insn) (pc x y u v : ℕ) (ps : Ps) (threadptr : ℕ) → outcome code i pc x y u v ps threadptr ≡ Stops → moved_to i ≡ None
-unfolding outcome system_outcome moved_to
-stops_move_none code (insn.System (system.Rsr SpecialName.Wsr t n)) pc x y u v ps threadptr is = absurd (writes_on (window_register n) n x v (unchanged ps threadptr) is)
-stops_move_none code (insn.System (system.Rsr SpecialName.Xsr t n)) pc x y u v ps threadptr is = absurd (exchanges_on (window_register n) t n x u v (unchanged ps threadptr) is)
-stops_move_none code _ pc x y u v ps threadptr is = refl
 
 -- ---- what an executed row does
 abbrev pub AskedAlike : ℕ → Option Access → Option Access → Type 0

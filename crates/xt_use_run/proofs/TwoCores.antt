@@ -26,8 +26,7 @@ use Rattle.xt_uses.specs.UseLaws.{RowsAgree}
 use Rattle.xt_use_run.proofs.CoreTurn.{CoreNext, core_turn, fresh_next}
 use Rattle.xt_use_run.proofs.MaskStep.{reply_small, step_small}
 use Rattle.xt_use_run.proofs.MaskWords.{MaskWords, now_small}
-use Rattle.xt_use_run.proofs.OneTurn.{InCoreUse, core_spared}
-use Rattle.xt_use_run.proofs.Ranges.{uses_apart}
+use Rattle.xt_use_run.proofs.OneTurn.{InCoreUse, use_spared, uses_apart}
 
 pub record TwoUse (code : ℕ → ℕ) (one other : Mode) (m : MemoryContents) (b c : Bounds) (fresh later : Bool) (s t : State) (us vs : UseState) : Type 0 where
   pub first : InCoreUse code one m b fresh s us
@@ -65,7 +64,7 @@ two_turn rows code bytes b c good good2 apart one other m lost later s t us vs l
       n,
       record {
         first = n.next;
-        second = core_spared code bytes c good2 other m (memory_now code m s) later t vs (λ a is. n.other a (theirs a is) (uses_apart code one other m b c (not lost) later s t us vs apart h.first h.second a is)) h.second;
+        second = use_spared code bytes c good2 other m (memory_now code m s) later t vs (λ a is. n.other a (theirs a is) (uses_apart code one other m b c (not lost) later s t us vs apart h.first h.second a is)) h.second;
         shaped_first = shaped_now code m s bytes h.shaped_first h.real;
         shaped_second = h.shaped_second;
         real = step_memory m (demand code s) h.real;

@@ -14,25 +14,22 @@ use Rattle.xt_trace.specs.declared.record.StepKind.{StepKind}
 use Rattle.xt_trace.specs.declared.record.StepKind.TheVariants as step
 use Rattle.xt_trace.specs.declared.record.StepRecord.{StepRecord}
 use Rattle.xt_fetch.specs.Fetching.{Fetched, Fetches, Fails, SpellsNothing, fetched}
-use Rattle.xt_fetch.specs.Code.{AreBytes}
 use Rattle.xt_rows.specs.Kinds.{is_return}
 use Rattle.xt_rows.specs.Operands.{reads, special_reads}
 use Rattle.xt_rows.specs.Outcomes.{value_of}
 use Rattle.xt_exec.specs.State.{State}
 use Rattle.xt_exec.specs.Laws.{IsShaped}
-use Rattle.xt_exec.specs.Turn.{demand, planned, turn}
+use Rattle.xt_exec.specs.Turn.{planned, turn}
 use Rattle.xt_frames.specs.declared.holes.Nested.{Nested}
 use Rattle.xt_frames.specs.Frames.{Frame, FrameState, known}
 use Rattle.xt_frames.specs.FrameStep.{laid}
-use Rattle.xt_frames.specs.HandlerSteps.{is_window}
 use Rattle.xt_frames.specs.Nesting.{current_in}
 use Rattle.xt_frames.specs.Breaches.{Bounds, fetched_return_breach, first_shown, inputs_of, is_unset, is_underflow, lacks, reads_none, reads_none_in, return_tests, window_breach}
 use Rattle.xt_frames.proofs.Shown.{NoneShown, none_shown}
 use Rattle.xt_simulation.specs.Cores.{Related}
-use Rattle.xt_simulation.specs.Handling.{Handling, IsGood}
+use Rattle.xt_simulation.specs.Handling.{Somewhere}
 use Rattle.xt_simulation.specs.Relation.{inputs, lost_at}
-use Rattle.xt_simulation.specs.Steps.{record_now, reply_now, state_now}
-use Rattle.xt_simulation.proofs.Handled.{stretches_are_entered}
+use Rattle.xt_simulation.specs.Steps.{record_now, reply_now}
 use Rattle.xt_simulation.proofs.Judges.{same_laid}
 use Rattle.xt_uses.specs.UseBreaches.{fetched_return_use, underflows, use_tests, uses_unknown, window_use}
 use Rattle.xt_uses.specs.UseState.{UseState}
@@ -91,22 +88,22 @@ module _ {us : UseState} {g h : FrameState} (now : NowFit us g h) (none : g.nest
   window_too code _ e = refl
 
 -- the frame state with a0 filled, with which the handler begins
-pub record EntersUse (code : ℕ → ℕ) (b : Bounds) (m : MemoryContents) (s : State) (us : UseState) : Type 0 where
+pub record EntersUse (code : ℕ → ℕ) (b : Bounds) (m : MemoryContents) (fresh : Bool) (s : State) (us : UseState) : Type 0 where
   pub frame : FrameState
   pub nested : frame.nested ≡ None
   pub knows : Knows frame us
-  pub silent : demand code s ≡ None
-  pub handling : Handling code b m (state_now code m s) frame s (byte_at m)
+  pub somewhere : Somewhere (byte_at m) b (lost_at fresh frame) s frame
+  pub quiet : window_breach code (planned code s).kind (laid (inputs 0 s) frame) ≡ None
 
 use_window : (code : ℕ → ℕ) (rec : StepRecord) (us : UseState) → us.frame.nested ≡ None → window_use code rec us ≡ cond (underflows rec.kind) (fetched_return_use (fetched code (laid (inputs_of rec) us.frame).control.pc) us (laid (inputs_of rec) us.frame)) None
 unfolding window_use
 use_window code rec us sn = ap (λ (o : Option Nested). cond (underflows rec.kind) (fetched_return_use (fetched code (laid (inputs_of rec) (current_in o us.frame)).control.pc) us (laid (inputs_of rec) (current_in o us.frame))) None) sn
 
-pub enters_use : (code : ℕ → ℕ) → AreBytes code → (b : Bounds) → IsGood code b → (m : MemoryContents) (fresh : Bool) (s : State) (us : UseState) {f : FrameState} {ring spilled : List Frame}
-    → Related (byte_at m) b (lost_at fresh f) s f ring spilled → Knows f us → f.nested ≡ None → us.frame.nested ≡ None → IsShaped s → is_window (planned code s).kind ≡ true → window_use code (record_now code m s) us ≡ None
-    → EntersUse code b m s us
+pub enters_use : (code : ℕ → ℕ) → (b : Bounds) (m : MemoryContents) (fresh : Bool) (s : State) (us : UseState) {f : FrameState} {ring spilled : List Frame}
+    → Related (byte_at m) b (lost_at fresh f) s f ring spilled → Knows f us → f.nested ≡ None → us.frame.nested ≡ None → IsShaped s → window_use code (record_now code m s) us ≡ None
+    → EntersUse code b m fresh s us
 unfolding turn
-enters_use code bytes b good m fresh s us {f = f} {ring = ring} {spilled = spilled} l kn fn sn shaped window none =
+enters_use code b m fresh s us {f = f} {ring = ring} {spilled = spilled} l kn fn sn shaped none =
     let rec = record_now code m s in
     let seat = low_seat l.plain 0 (omega arith) in
     let v = visible s.regs s.base 0 in
@@ -120,5 +117,4 @@ enters_use code bytes b good m fresh s us {f = f} {ring = ring} {spilled = spill
     let same : laid (inputs_of rec) g ≡ laid (inputs 0 s) g = same_laid code s (reply_now code m s) g shaped.control.ps.owb_fits in
     let quiet : window_breach code (planned code s).kind (laid (inputs_of rec) g) ≡ None = window_too now fn there word code (planned code s).kind (sym (use_window code rec us sn) ∙ none) in
     let quiet_s : window_breach code (planned code s).kind (laid (inputs 0 s) g) ≡ None = subst (λ (z : FrameState). window_breach code (planned code s).kind z ≡ None) same quiet in
-    let e = stretches_are_entered code bytes b good m fresh s g ring spilled 0 lg shaped window quiet_s in
-    record { frame = g; nested = fn; knows = kg; silent = e.0; handling = e.1 }
+    record { frame = g; nested = fn; knows = kg; somewhere = record { ring = ring; spilled = spilled; related = lg }; quiet = quiet_s }

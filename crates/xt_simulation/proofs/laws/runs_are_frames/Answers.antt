@@ -1,4 +1,4 @@
-use Rattle.xt_simulation.proofs.Headline.{runs_are_frames}
+use Rattle.xt_simulation.proofs.Positions.{runs_are_frames}
 use Rattle.xt_simulation.proofs.laws.runs_are_frames.Goals as goal
 
 pub returns : goal.returns
