@@ -209,21 +209,21 @@ impl Bytes {
     }
 }
 
-impl Stacked for UseCore {
-    ghost bounds = { λ w. w.bounds };
+impl Stacked for Side {
+    ghost bounds = { λ s. s.uses.bounds };
 
-    ghost frame = { λ w. w.state.frame };
+    ghost frame = { λ s. s.uses.state.frame };
 
     fn callers(&self) -> u32 {
-        self.depth()
+        self.uses.depth()
     }
 
     fn stack_pointer(&self, j: u32) -> u32 {
-        self.sp(j)
+        self.uses.sp(j)
     }
 
     fn windows(&self, j: u32) -> u8 {
-        self.calls(j)
+        self.uses.calls(j)
     }
 }
 
@@ -238,12 +238,12 @@ impl Side {
     {
         let now = self.uses.depth();
         if depth < now {
-            bytes.enter(self.core, areas(&self.uses, self.hi));
+            bytes.enter(self.core, areas(self, self.hi));
         } else if let Some(areas) = call {
             if now < depth {
                 bytes.leave(self.core, areas);
             } else {
-                let low = newest_sp(&self.uses) - 16;
+                let low = newest_sp(self) - 16;
                 if low != areas.low {
                     bytes.shift(self.core, areas.low, low);
                 }
@@ -265,7 +265,7 @@ impl Side {
         if !self.uses.is_strict() {
             return;
         }
-        let now = newest_sp(&self.uses);
+        let now = newest_sp(self);
         if sp < now {
             bytes.masks.forget(sp - 16, now - (sp - 16));
         }
@@ -296,8 +296,8 @@ impl Side {
             (use_seen_judged (constant_byte code.now) self.old.uses.bounds (standing_of self.old) others masks nested rec.now) result }
     {
         let depth = self.uses.depth();
-        let sp = newest_sp(&self.uses);
-        let call = newest(&self.uses, self.hi);
+        let sp = newest_sp(&*self);
+        let call = newest(&*self, self.hi);
         let used = self.uses.judge(code, self.steps, rec, nested, touched)?;
         self.mode = next;
         self.steps += 1;
