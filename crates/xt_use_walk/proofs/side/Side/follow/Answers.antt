@@ -1,5 +1,4 @@
-use Rattle.std.proofs.Common.{◌≡◌, ℕ, ◌-◌, ◌∙◌, ap, arith}
-use Rattle.xt_frames.specs.Frames.{known}
+use Rattle.std.proofs.Common.{ℕ, ◌-◌, ap, arith}
 use Rattle.xt_discipline.proofs.Calls.{sp_room}
 use Rattle.xt_use_walk.proofs.Following.{area_bytes, call_at, call_on, low_bytes}
 use Rattle.xt_use_walk.proofs.Moving.{follows_enter, follows_leave, follows_shift, follows_still}

@@ -9,7 +9,6 @@ use Rattle.xt_use_walk.specs.declared.side.Side.{Side}
 use Rattle.xt_use_walk.specs.Bytes.{without}
 use Rattle.xt_use_walk.specs.Sides.{IsUseSeen, StackOf, forgotten, live_in, standing_of}
 use Rattle.xt_frames.specs.SaveAreas.{is_live}
-use Rattle.xt_uses.specs.UseState.{stack_pointer}
 use Rattle.xt_use_walk.proofs.Following.{knows_stored}
 use Rattle.xt_use_walk.proofs.Forgetting.{knows_forgotten, low_sp}
 use Rattle.xt_use_walk.proofs.Seen.{followed_on, found_by, judged_past, judged_stops, moves_where, past_where, side_goes}
