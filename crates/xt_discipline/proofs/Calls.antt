@@ -1,10 +1,12 @@
 -- The newest call of a core, by its frames' numbers.
-use Rattle.std.proofs.Common.{◌≡◌, ℕ, ◌+◌, ◌-◌, ◌*◌, ◌<◌, ◌≤◌, Option, List, [], ◌∷◌, length, refl, ◌∙◌, ap, arith}
+use Rattle.std.proofs.Common.{◌≡◌, ℕ, ◌+◌, ◌-◌, ◌*◌, ◌<◌, ◌≤◌, Bool, ◌||◌, Option, List, [], ◌∷◌, length, refl, ◌∙◌, ap, arith}
+use Rattle.xt_map.specs.Touching.{touches}
 use Rattle.xt_frames.specs.Frames.{Frame, known}
 use Rattle.xt_frames.specs.SaveAreas.{before, sp_of}
 use Rattle.xt_frames.specs.Stacks.{Stack}
 use Rattle.xt_frames.specs.Walked.{calls_in, sp_in}
 use Rattle.xt_frames.proofs.Stacked.{chain_top}
+use Rattle.xt_discipline.specs.Bytes.{opened_at}
 
 pub sp_newest : (frames : List Frame) (sp : ℕ) → sp_in frames sp 0 ≡ sp
 sp_newest [] sp = refl
@@ -45,3 +47,14 @@ under_room lo hi seen (f ∷ fs) j top k e first more =
 
 pub sp_room : (lo hi : ℕ) (seen : List (Option ℕ)) (frames : List Frame) → Stack lo hi seen frames → 16 ≤ known seen 1
 sp_room lo hi seen frames k = let t = (chain_top lo hi (known seen 1) frames k.range k.chain).1 in omega (arith, t)
+
+-- the bytes of both areas of the newest call
+pub area_bytes : (hi sp : ℕ) (frames : List Frame) (depth n top : ℕ) (low : ℕ) → depth ≡ length frames → 0 < length frames → low ≡ sp → n ≡ calls_in frames (length frames - 1 - (depth - 1)) → (depth - 1 ≡ 0 → top ≡ hi) → (0 < depth - 1 → top ≡ sp_in frames sp (length frames - (depth - 1 - 1)))
+    → (f : Frame) (fs : List Frame) → frames ≡ f ∷ fs → (a : ℕ) → (touches (low - 16) 16 a || touches (top - 16 * n) (16 * (n - 1)) a) ≡ opened_at hi sp f fs a
+area_bytes hi sp frames depth n top low d some low_is n_is first more f fs is a =
+    let j = depth - 1 in
+    let e : j + 1 ≡ length (f ∷ fs) = (let e0 : j + 1 ≡ length frames = omega (arith, d, some) in e0 ∙ ap (λ (x : List Frame). length x) is) in
+    let t = under_last hi sp f fs j top e first (λ z. more z ∙ ap (λ (x : List Frame). sp_in x sp (length x - (j - 1))) is) in
+    let m = n_is ∙ (ap (λ (x : List Frame). calls_in x (length x - 1 - j)) is ∙ calls_last f fs j e) in
+    let P : ℕ → ℕ → ℕ → Bool = λ s u v. touches (s - 16) 16 a || touches (u - 16 * v) (16 * (v - 1)) a in
+    ap (λ (s : ℕ). P s top n) low_is ∙ (ap (λ (u : ℕ). P sp u n) t ∙ ap (λ (v : ℕ). P sp (before hi fs) v) m)

@@ -1,6 +1,6 @@
 -- Carries a proof; nothing that a reader must believe.
 -- One core of the walk of the judge.
-use Rattle.std.specs.Prelude.{◌≡◌, ℕ, suc, ◌+◌, ◌≤◌, ◌^◌, Bool, ◌||◌, Option}
+use Rattle.std.specs.Prelude.{◌≡◌, ℕ, suc, ◌+◌, ◌-◌, ◌<◌, ◌≤◌, ◌^◌, Bool, ◌||◌, Option}
 use Rattle.std.specs.Prelude.{Some, None, Result, Ok, Err, List, ◌∷◌, length}
 use Rattle.xt_map.specs.Touching.{touches}
 use Rattle.xt_frames.specs.SaveAreas.{is_live}
@@ -37,12 +37,18 @@ pub record IsSide (s : Side) : Type 0 where
   pub high : s.frames.bounds.range.hi ≤ 2 ^ 30
   pub past : s.frames.next ≤ s.steps
 
--- the areas of the newest call, none where there is none
+-- the areas of the newest call; the first is the 16 bytes below the newest frame's stack pointer
+pub record IsNewestCall (x : Areas) (hi : ℕ) (g : FrameState) : Type 0 where
+  pub called : 0 < length g.frames
+  pub low : x.low ≡ known g.seen 1 - 16
+  pub bytes :
+      (f : Frame) (fs : List Frame) → g.frames ≡ f ∷ fs → (a : ℕ)
+      → in_areas x a ≡ opened_at hi (known g.seen 1) f fs a
+
+-- none where there is none
 abbrev pub IsCallOf : Option Areas → ℕ → FrameState → Type 0
 IsCallOf None hi g = length g.frames ≡ 0
-IsCallOf (Some x) hi g =
-    (f : Frame) (fs : List Frame) → g.frames ≡ f ∷ fs → (a : ℕ)
-    → in_areas x a ≡ opened_at hi (known g.seen 1) f fs a
+IsCallOf (Some x) hi g = IsNewestCall x hi g
 
 -- what becomes of the marks: nothing, or the areas of a call come in, or go
 abbrev pub IsFollowed :

@@ -4,6 +4,7 @@
 mod accesses;
 mod before;
 mod bytes;
+mod calling;
 mod judging;
 mod order;
 mod side;
@@ -14,6 +15,7 @@ mod walk;
 pub use accesses::saves;
 pub use before::walk_before;
 pub use bytes::{Change, Held, change_bytes, held_at};
+pub use calling::{Stacked, areas, newest, newest_sp};
 pub use judging::{are_yes, handlers_of, judge};
 pub use order::{Order, Schedule, schedule_of};
 pub use side::{Areas, Mode, change_areas, closes, is_window, returns};

@@ -1,9 +1,9 @@
 //! One core of the walk.
 #![tactic(auto)]
 
-ghost use Rattle.std.specs.Prelude.{◌≡◌, ◌≤◌, ◌<◌, ◌+◌, ◌-◌, ◌*◌, ◌^◌, ℕ, Bool, true, false, not, List, length, ◌∷◌};
+ghost use Rattle.std.specs.Prelude.{◌≡◌, ◌<◌, ◌+◌, ◌^◌, ℕ, Bool, true, false, length};
 ghost use Rattle.xt_map.specs.Memory.{constant_byte};
-ghost use Rattle.xt_frames.specs.Frames.{Frame, FrameState, known};
+ghost use Rattle.xt_frames.specs.Frames.{FrameState};
 ghost use Rattle.xt_frames.specs.FrameStep.{laid};
 ghost use Rattle.xt_fetch.specs.Fetching.{fetched};
 ghost use Rattle.xt_frames.specs.HandlerSteps.{closes, ends_stretch, fetched_ends, is_window, mode_after, returns};
@@ -11,13 +11,13 @@ ghost use Rattle.xt_frames.specs.Judging.{seen, seen_judged};
 ghost use Rattle.xt_frames.specs.Nesting.{current};
 ghost use Rattle.xt_frames.specs.Stacks.{Moves, Stack};
 ghost use Rattle.xt_frames.specs.Breaches.{inputs_of, stores_at, window_breach};
-ghost use Rattle.xt_frames.specs.Walked.{IsTested, sp_at};
-ghost use Rattle.xt_discipline.specs.Bytes.{AreChanged, KnowsOf, either, opened_at};
+ghost use Rattle.xt_discipline.specs.Bytes.{AreChanged, KnowsOf};
 ghost use Rattle.xt_discipline.specs.declared.bytes.Change.TheVariants.{Stored};
 ghost use Rattle.xt_discipline.specs.Sides.{Begins, IsCallOf, IsFollowed, IsSeen, IsSide, in_areas, live_in, mode_of, standing_of};
 
 use crate::accesses::{loads, saves};
 use crate::bytes::{Change, Held, change_bytes};
+use crate::calling::{areas, newest};
 use xt_codec::{Fetch, instruction_at};
 use xt_fetch::code_three;
 use xt_frames::{Breach, Frames, ends_nested, is_nesting};
@@ -158,48 +158,6 @@ pub fn is_window(kind: StepKind) -> bool
 }
 
 impl Side {
-    /// The stack pointer of the caller of frame `j`, or HI.
-    fn under(&self, j: u32) -> u32
-        requires { j < length self.now.frames.state.frames }
-        ensures first { j ≡ 0 → result ≡ self.now.hi }
-        ensures more { 0 < j → result ≡ sp_at self.now.frames (j - 1) }
-    {
-        if j == 0 {
-            self.hi
-        } else {
-            self.frames.sp(j - 1)
-        }
-    }
-
-    /// The areas of the newest call.
-    fn areas(&self) -> Areas
-        requires side { IsSide self.now }
-        requires called { 0 < length self.now.frames.state.frames }
-        ensures { (f : Frame) (fs : List Frame) → self.now.frames.state.frames ≡ f ∷ fs
-            → (a : ℕ) → in_areas result a ≡ opened_at self.now.hi (known self.now.frames.state.seen 1) f fs a }
-    {
-        let depth = self.frames.depth();
-        let n = u32::from(self.frames.calls(depth - 1));
-        let top = self.under(depth - 1);
-        Areas {
-            low: self.frames.sp(depth) - 16,
-            high: top - 16 * n,
-            size: 16 * (n - 1),
-        }
-    }
-
-    /// The areas of the newest call, none where there is none.
-    fn newest(&self) -> Option<Areas>
-        requires { IsSide self.now }
-        ensures { IsCallOf result self.now.hi self.now.frames.state }
-    {
-        if self.frames.depth() == 0 {
-            None
-        } else {
-            Some(self.areas())
-        }
-    }
-
     /// Follows the frames, which were `depth` in number before the step, with the newest call's areas `call`.
     fn follow(&self, marks: &mut [Held], depth: u32, call: Option<Areas>)
         requires { IsSide self.now }
@@ -209,7 +167,11 @@ impl Side {
             → IsFollowed self.now.core self.now.hi g self.now.frames.state m marks.old marks.new }
     {
         if depth < self.frames.depth() {
-            change_areas(marks, Change::Enters(self.core), self.areas());
+            change_areas(
+                marks,
+                Change::Enters(self.core),
+                areas(&self.frames, self.hi),
+            );
         } else if self.frames.depth() < depth {
             if let Some(areas) = call {
                 change_areas(marks, Change::Leaves(self.core), areas);
@@ -251,7 +213,7 @@ impl Side {
             store(marks, rec.access);
             return Ok(());
         }
-        let call = self.newest();
+        let call = newest(&self.frames, self.hi);
         self.frames
             .judge_whole(code, self.steps, rec, nested, saves, stale)?;
         self.mode = next;

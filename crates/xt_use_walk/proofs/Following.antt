@@ -12,13 +12,13 @@ use Rattle.xt_discipline.specs.declared.bytes.Held.{Held}
 use Rattle.xt_discipline.specs.declared.bytes.Change.TheVariants.{Enters, Leaves}
 use Rattle.xt_discipline.specs.declared.side.Areas.{Areas}
 use Rattle.xt_discipline.specs.Bytes.{Agrees, AreChanged, either, first, held_at, is_held, is_marked, opened_at, other_live, own_live}
-use Rattle.xt_discipline.specs.Sides.{in_areas}
+use Rattle.xt_discipline.specs.Sides.{IsCallOf, IsNewestCall, in_areas}
 use Rattle.xt_discipline.proofs.Known.{all_changed, enters_other, enters_own, leaves_other, leaves_own, return_own, saves_turned}
 use Rattle.xt_discipline.proofs.Lives.{opened_inside}
 use Rattle.xt_uses.specs.UseWalk.{mask_stored}
 use Rattle.xt_use_walk.specs.declared.side.Bytes.{Bytes}
 use Rattle.xt_use_walk.specs.Bytes.{AreBytes, AreFull, AreMasks, KnowsBytes, TellsLive, is_byte, is_live_byte, mask_at, stored_over, without}
-use Rattle.xt_use_walk.specs.Sides.{AreaBytes, IsCallOf, IsNewestCall}
+use Rattle.xt_use_walk.specs.Sides.{AreaBytes}
 use Rattle.xt_use_walk.proofs.Places.{dram_byte}
 use Rattle.xt_use_walk.proofs.Stores.{stored_same}
 

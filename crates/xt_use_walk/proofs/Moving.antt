@@ -9,7 +9,7 @@ use Rattle.xt_frames.proofs.Stacked.{chain_top}
 use Rattle.xt_discipline.specs.declared.bytes.Change.TheVariants.{Enters, Leaves}
 use Rattle.xt_discipline.specs.declared.side.Areas.{Areas}
 use Rattle.xt_discipline.specs.Bytes.{AreChanged, first, is_marked, opened_at}
-use Rattle.xt_discipline.specs.Sides.{in_areas}
+use Rattle.xt_discipline.specs.Sides.{IsNewestCall, in_areas}
 use Rattle.xt_discipline.proofs.Lives.{called, live_more, opened_apart, opened_inside, touches_below, touches_in}
 use Rattle.xt_discipline.proofs.Marks.{touches_none}
 use Rattle.xt_discipline.proofs.Moved.{marked_in}
@@ -18,7 +18,7 @@ use Rattle.xt_uses.specs.UseParts as moves
 use Rattle.xt_use_walk.specs.declared.bytes.ByteMasks.{ByteMasks}
 use Rattle.xt_use_walk.specs.declared.side.Bytes.{Bytes}
 use Rattle.xt_use_walk.specs.Bytes.{AreFull, AreMasks, AreShifted, mask_at, without}
-use Rattle.xt_use_walk.specs.Sides.{IsFollowed, IsNewestCall}
+use Rattle.xt_use_walk.specs.Sides.{IsFollowed}
 use Rattle.xt_use_walk.proofs.Following.{knows_follows, or_turned, tells_enters, tells_leaves}
 
 left : (x y : Bool) → x ≡ true → (x || y) ≡ true

@@ -140,6 +140,16 @@ side_past s uses code nested rec bytes next n k is few =
     let there : P (use_past s.uses code s.steps nested rec bytes) = record { core_is = k.core_is; end_is = k.end_is; low = k.low; high = k.high; past = le_same (s.steps + 1); counted = counted_more s.carried s.steps n k.counted few } in
     subst P (sym is) there
 
+-- also where no more is known of the bytes that a record touches than that there are some such bytes
+pub side_goes : (s : Side) (uses : UseWalked) (code : ℕ → ℕ) (nested : Bool) (rec : StepRecord) (next : declared.Mode) (n : ℕ) (t : Touched) (r : Result Used Stopped) (used : Used) → IsUseSide s → r ≡ Ok used → n ≤ 1
+    → ((live : ℕ → Bool) × (bytes : ℕ → ℕ) × IsTouched t rec live bytes)
+    → ((live : ℕ → Bool) (bytes : ℕ → ℕ) → IsTouched t rec live bytes → IsUseJudged (use_breach s.uses.bounds (fresh_at s.uses s.steps) code live bytes nested rec s.uses.state) s.uses code s.steps nested rec bytes r uses)
+    → IsUseSide (record s { uses = uses; mode = next; steps = s.steps + 1; carried = s.carried + n }) × (uses.bounds ≡ s.uses.bounds)
+side_goes s uses code nested rec next n t r used k is few seen judged =
+    let found = use_breach s.uses.bounds (fresh_at s.uses s.steps) code seen.0 seen.1 nested rec s.uses.state in
+    let past = past_where found s.uses uses code s.steps nested rec seen.1 r used is (judged seen.0 seen.1 seen.2) in
+    (side_past s uses code nested rec seen.1 next n k past.1 few, ap (λ (w : UseWalked). w.bounds) past.1)
+
 -- the bytes have followed, by the bounds of the core before
 pub followed_on : (core : ℕ) (b c : Bounds) (g u : FrameState) (old new : Bytes) → c ≡ b → IsFollowed core c.range g u old new → (others : ℕ → Bool) (masks : ℕ → ℕ) → KnowsBytes core old (is_live b.range g) others masks
     → KnowsBytes core new (is_live b.range u) others (without (λ a. is_live b.range u a || others a) masks)

@@ -1,17 +1,16 @@
 -- Carries a proof; nothing that a reader must believe.
 -- One core of the walk of uses.
-use Rattle.std.specs.Prelude.{◌≡◌, ℕ, suc, ◌+◌, ◌-◌, ◌<◌, ◌≤◌, ◌^◌, Bool, ◌&&◌, ◌||◌, Option, Some}
-use Rattle.std.specs.Prelude.{None, Result, Ok, Err, List, ◌∷◌, length}
+use Rattle.std.specs.Prelude.{◌≡◌, ℕ, suc, ◌+◌, ◌≤◌, ◌^◌, Bool, ◌&&◌, ◌||◌, Option, Some}
+use Rattle.std.specs.Prelude.{None, Result, Ok, Err}
 use Rattle.xt_frames.specs.declared.kinds.BreachKind.{BreachKind}
 use Rattle.xt_frames.specs.Breaches.{Bounds}
-use Rattle.xt_frames.specs.Frames.{Frame, FrameState, known}
+use Rattle.xt_frames.specs.Frames.{FrameState}
 use Rattle.xt_frames.specs.SaveAreas.{Range, is_live}
 use Rattle.xt_frames.specs.Stacks.{Stack}
-use Rattle.xt_frames.specs.Walked.{sp_in}
 use Rattle.xt_discipline.specs.declared.side.Areas.{Areas}
 use Rattle.xt_discipline.specs.declared.side.Mode.TheVariants as mode
-use Rattle.xt_discipline.specs.Bytes.{first, opened_at}
-use Rattle.xt_discipline.specs.Sides.{in_areas, mode_of}
+use Rattle.xt_discipline.specs.Bytes.{first}
+use Rattle.xt_discipline.specs.Sides.{mode_of}
 use Rattle.xt_uses.specs.declared.told.Stopped.{Stopped}
 use Rattle.xt_uses.specs.declared.told.Stopped.TheVariants.{Breaks, NoMemory}
 use Rattle.xt_uses.specs.UseParts.{UseWalked, fresh_at}
@@ -36,27 +35,8 @@ pub record IsUseSide (s : Side) : Type 0 where
   pub past : s.uses.next ≤ s.steps
   pub counted : s.carried ≤ s.steps
 
--- the stack pointer of frame j, where the opening frame is 0
-abbrev pub sp_at : UseWalked → ℕ → ℕ
-sp_at w j =
-    let f = w.state.frame in
-    sp_in f.frames (known f.seen 1) (length f.frames - j)
-
 abbrev pub StackOf : Bounds → FrameState → Type 0
 StackOf b f = Stack b.range.lo b.range.hi f.seen f.frames
-
--- the areas of the newest call, none where there is none; the first is the 16 bytes below the
--- newest frame's stack pointer
-pub record IsNewestCall (x : Areas) (hi : ℕ) (g : FrameState) : Type 0 where
-  pub called : 0 < length g.frames
-  pub low : x.low ≡ known g.seen 1 - 16
-  pub bytes :
-      (f : Frame) (fs : List Frame) → g.frames ≡ f ∷ fs → (a : ℕ)
-      → in_areas x a ≡ opened_at hi (known g.seen 1) f fs a
-
-abbrev pub IsCallOf : Option Areas → ℕ → FrameState → Type 0
-IsCallOf None hi g = length g.frames ≡ 0
-IsCallOf (Some x) hi g = IsNewestCall x hi g
 
 -- both areas are bytes of memory
 pub record AreaBytes (x : Areas) : Type 0 where

@@ -9,19 +9,19 @@ ghost use Rattle.xt_frames.specs.Frames.{FrameState};
 ghost use Rattle.xt_frames.specs.HandlerSteps.{mode_after};
 ghost use Rattle.xt_discipline.specs.declared.bytes.Change.TheVariants.{Enters, Leaves};
 ghost use Rattle.xt_discipline.specs.Bytes.{Agrees, AreChanged, either, is_held};
-ghost use Rattle.xt_discipline.specs.Sides.{in_areas, mode_of};
+ghost use Rattle.xt_discipline.specs.Sides.{IsCallOf, in_areas, mode_of};
 ghost use Rattle.xt_uses.specs.Lacks.{lacks_before};
 ghost use Rattle.xt_uses.specs.UseBreaches.{window_use};
 ghost use Rattle.xt_uses.specs.UseParts.{IsTouched, UseMoves};
 ghost use Rattle.xt_uses.specs.UseWalk.{count_of, use_seen, use_seen_judged};
 ghost use Rattle.xt_uses.specs.FirstUse.{stored_byte};
 ghost use Rattle.xt_use_walk.specs.Bytes.{AreBytes, AreFull, AreMasks, AreShifted, KnowsBytes, is_byte, mask_at, put_free, stored_on, stored_over, without};
-ghost use Rattle.xt_use_walk.specs.Sides.{AreaBytes, BeginsUse, IsCallOf, IsFollowed, IsNewestCall, IsUseSeen, IsUseSide, StackOf, forgotten, live_in, sp_at, standing_of};
+ghost use Rattle.xt_use_walk.specs.Sides.{AreaBytes, BeginsUse, IsFollowed, IsUseSeen, IsUseSide, StackOf, forgotten, live_in, standing_of};
 
 use crate::bytes::ByteMasks;
 use xt_discipline::{
-    Areas, Change, Held, Mode, change_areas, change_bytes, closes, held_at, is_window, returns,
-    saves,
+    Areas, Change, Held, Mode, Stacked, areas, change_areas, change_bytes, closes, held_at,
+    is_window, newest, newest_sp, returns, saves,
 };
 use xt_frames::is_nesting;
 use xt_map::{Access, Constants, Kind, is_in_memory};
@@ -209,45 +209,25 @@ impl Bytes {
     }
 }
 
+impl Stacked for Side {
+    ghost bounds = { λ s. s.uses.bounds };
+
+    ghost frame = { λ s. s.uses.state.frame };
+
+    fn callers(&self) -> u32 {
+        self.uses.depth()
+    }
+
+    fn stack_pointer(&self, j: u32) -> u32 {
+        self.uses.sp(j)
+    }
+
+    fn windows(&self, j: u32) -> u8 {
+        self.uses.calls(j)
+    }
+}
+
 impl Side {
-    /// The stack pointer of the caller of frame `j`, or HI.
-    fn under(&self, j: u32) -> u32
-        requires { j < length self.now.uses.state.frame.frames }
-        ensures first { j ≡ 0 → result ≡ self.now.hi }
-        ensures more { 0 < j → result ≡ sp_at self.now.uses (j - 1) }
-    {
-        if j == 0 { self.hi } else { self.uses.sp(j - 1) }
-    }
-
-    /// The areas of the newest call.
-    fn areas(&self) -> Areas
-        requires side { IsUseSide self.now }
-        requires called { 0 < length self.now.uses.state.frame.frames }
-        ensures call { IsNewestCall result self.now.hi self.now.uses.state.frame }
-        ensures inside { AreaBytes result }
-    {
-        let depth = self.uses.depth();
-        let n = u32::from(self.uses.calls(depth - 1));
-        let top = self.under(depth - 1);
-        Areas {
-            low: self.uses.sp(depth) - 16,
-            high: top - 16 * n,
-            size: 16 * (n - 1),
-        }
-    }
-
-    /// The areas of the newest call, none where there is none.
-    fn newest(&self) -> Option<Areas>
-        requires { IsUseSide self.now }
-        ensures { IsCallOf result self.now.hi self.now.uses.state.frame }
-    {
-        if self.uses.depth() == 0 {
-            None
-        } else {
-            Some(self.areas())
-        }
-    }
-
     /// Follows the frames, which were `depth` in number before the step, with the newest call's areas `call`.
     fn follow(&self, bytes: &mut Bytes, depth: u32, call: Option<Areas>)
         requires side { IsUseSide self.now }
@@ -258,12 +238,12 @@ impl Side {
     {
         let now = self.uses.depth();
         if depth < now {
-            bytes.enter(self.core, self.areas());
+            bytes.enter(self.core, areas(self, self.hi));
         } else if let Some(areas) = call {
             if now < depth {
                 bytes.leave(self.core, areas);
             } else {
-                let low = self.uses.sp(now) - 16;
+                let low = newest_sp(self) - 16;
                 if low != areas.low {
                     bytes.shift(self.core, areas.low, low);
                 }
@@ -285,7 +265,7 @@ impl Side {
         if !self.uses.is_strict() {
             return;
         }
-        let now = self.uses.sp(self.uses.depth());
+        let now = newest_sp(self);
         if sp < now {
             bytes.masks.forget(sp - 16, now - (sp - 16));
         }
@@ -316,8 +296,8 @@ impl Side {
             (use_seen_judged (constant_byte code.now) self.old.uses.bounds (standing_of self.old) others masks nested rec.now) result }
     {
         let depth = self.uses.depth();
-        let sp = self.uses.sp(depth);
-        let call = self.newest();
+        let sp = newest_sp(&*self);
+        let call = newest(&*self, self.hi);
         let used = self.uses.judge(code, self.steps, rec, nested, touched)?;
         self.mode = next;
         self.steps += 1;

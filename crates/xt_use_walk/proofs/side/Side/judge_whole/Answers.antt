@@ -3,19 +3,15 @@ use Rattle.xt_map.specs.Memory.{constant_byte}
 use Rattle.xt_frames.specs.Breaches.{Bounds}
 use Rattle.xt_discipline.specs.Bytes.{either}
 use Rattle.xt_uses.specs.declared.told.Stopped.{Stopped}
-use Rattle.xt_uses.specs.UseBreaches.{use_breach}
-use Rattle.xt_uses.specs.UseParts.{UseWalked, fresh_at}
+use Rattle.xt_uses.specs.UseParts.{UseWalked}
 use Rattle.xt_uses.specs.UseWalk.{count_of, mask_stored, use_seen_judged}
 use Rattle.xt_use_walk.specs.declared.side.Side.{Side}
 use Rattle.xt_use_walk.specs.Bytes.{without}
 use Rattle.xt_use_walk.specs.Sides.{IsUseSeen, StackOf, forgotten, live_in, standing_of}
-use Rattle.xt_frames.specs.Frames as frames
 use Rattle.xt_frames.specs.SaveAreas.{is_live}
-use Rattle.xt_discipline.proofs.Calls.{sp_last}
-use Rattle.xt_uses.specs.UseState.{stack_pointer}
 use Rattle.xt_use_walk.proofs.Following.{knows_stored}
 use Rattle.xt_use_walk.proofs.Forgetting.{knows_forgotten, low_sp}
-use Rattle.xt_use_walk.proofs.Seen.{followed_on, found_by, judged_past, judged_stops, moves_where, past_where, side_past}
+use Rattle.xt_use_walk.proofs.Seen.{followed_on, found_by, judged_past, judged_stops, moves_where, past_where, side_goes}
 use Rattle.xt_use_walk.proofs.side.Side.judge_whole.Goals as goal
 
 pub returns-in_err-used-clause-seen : goal.returns-in_err-used-clause-seen
@@ -51,57 +47,23 @@ returns-clause-seen c others masks known touched =
     let bytes = followed_on s.core s.uses.bounds uses.bounds s.uses.state.frame uses.state.frame c.store.new.self c.follow.new.bytes bounds followed others (without (λ a. own a || others a) (mask_stored used.stored rec.access masks)) middle in
     let n = c.count_of.result in
     let new : Side = record s { uses = uses; mode = c.args.next; steps = s.steps + 1; carried = s.carried + n } in
-    let sp : c.sp-sp.result ≡ stack_pointer s.uses.state = c.sp-sp.ensures ∙ sp_last s.uses.state.frame.frames (frames.known s.uses.state.frame.seen 1) c.depth-depth.result c.depth-depth.ensures.depth in
+    let sp = c.newest_sp-sp.ensures.value in
     let forget = c.forget.ensures in
-    let gone = knows_forgotten s.core c.follow.new.bytes c.forget.new.bytes (is_live s.uses.bounds.range uses.state.frame) others (forgotten uses.state c.sp-sp.result) _ bytes forget.full forget.marks forget.masks in
-    judged_past s new uses c.forget.new.bytes others masks code rec (found_by s others masks code nested rec) tt nested c.args.next used.stored n c.requires.next c.requires.side past.0 past.1 past.2.stores (c.count_of.ensures.value ∙ ap count_of past.2.unknown) c.count_of.ensures.small refl c.sp-sp.result sp gone
+    let gone = knows_forgotten s.core c.follow.new.bytes c.forget.new.bytes (is_live s.uses.bounds.range uses.state.frame) others (forgotten uses.state c.newest_sp-sp.result) _ bytes forget.full forget.marks forget.masks in
+    judged_past s new uses c.forget.new.bytes others masks code rec (found_by s others masks code nested rec) tt nested c.args.next used.stored n c.requires.next c.requires.side past.0 past.1 past.2.stores (c.count_of.ensures.value ∙ ap count_of past.2.unknown) c.count_of.ensures.small refl c.newest_sp-sp.result sp gone
 
 pub follow-requires-clause-side : goal.follow-requires-clause-side
 follow-requires-clause-side c =
     let s = c.args.self.now in
-    let code = constant_byte c.args.code.now in
-    let rec = c.args.rec.now in
-    let nested = c.args.nested in
-    let seen = c.requires.touched in
-    let live = seen.0 in
-    let masks = seen.1 in
-    let uses = c.judge.new.self in
-    let used = c.in_ok-used.used in
-    let found = use_breach s.uses.bounds (fresh_at s.uses s.steps) code live masks nested rec s.uses.state in
-    let past = past_where found s.uses uses code s.steps nested rec masks c.judge.result used c.in_ok-used.was (c.judge.ensures.judged live masks seen.2) in
-    let n = c.count_of.result in
-    side_past s uses code nested rec masks c.args.next n c.requires.side past.1 c.count_of.ensures.small
+    (side_goes s c.judge.new.self (constant_byte c.args.code.now) c.args.nested c.args.rec.now c.args.next c.count_of.result c.args.touched.now c.judge.result c.in_ok-used.used c.requires.side c.in_ok-used.was c.count_of.ensures.small c.requires.touched c.judge.ensures.judged).0
 
 pub forget-requires-clause-side : goal.forget-requires-clause-side
 forget-requires-clause-side c =
     let s = c.args.self.now in
-    let code = constant_byte c.args.code.now in
-    let rec = c.args.rec.now in
-    let nested = c.args.nested in
-    let seen = c.requires.touched in
-    let live = seen.0 in
-    let masks = seen.1 in
-    let uses = c.judge.new.self in
-    let used = c.in_ok-used.used in
-    let found = use_breach s.uses.bounds (fresh_at s.uses s.steps) code live masks nested rec s.uses.state in
-    let past = past_where found s.uses uses code s.steps nested rec masks c.judge.result used c.in_ok-used.was (c.judge.ensures.judged live masks seen.2) in
-    let n = c.count_of.result in
-    side_past s uses code nested rec masks c.args.next n c.requires.side past.1 c.count_of.ensures.small
+    (side_goes s c.judge.new.self (constant_byte c.args.code.now) c.args.nested c.args.rec.now c.args.next c.count_of.result c.args.touched.now c.judge.result c.in_ok-used.used c.requires.side c.in_ok-used.was c.count_of.ensures.small c.requires.touched c.judge.ensures.judged).0
 
 pub forget-requires-clause-low : goal.forget-requires-clause-low
 forget-requires-clause-low c =
     let s = c.args.self.now in
-    let code = constant_byte c.args.code.now in
-    let rec = c.args.rec.now in
-    let nested = c.args.nested in
-    let seen = c.requires.touched in
-    let live = seen.0 in
-    let masks = seen.1 in
-    let uses = c.judge.new.self in
-    let used = c.in_ok-used.used in
-    let found = use_breach s.uses.bounds (fresh_at s.uses s.steps) code live masks nested rec s.uses.state in
-    let past = past_where found s.uses uses code s.steps nested rec masks c.judge.result used c.in_ok-used.was (c.judge.ensures.judged live masks seen.2) in
-    let bounds : uses.bounds ≡ s.uses.bounds = ap (λ (w : UseWalked). w.bounds) past.1 in
-    let f = s.uses.state.frame in
-    let at = c.sp-sp.ensures ∙ sp_last f.frames (frames.known f.seen 1) c.depth-depth.result c.depth-depth.ensures.depth in
-    low_sp s.uses.bounds uses.bounds f c.sp-sp.result bounds c.depth-depth.ensures.stack at
+    let goes = side_goes s c.judge.new.self (constant_byte c.args.code.now) c.args.nested c.args.rec.now c.args.next c.count_of.result c.args.touched.now c.judge.result c.in_ok-used.used c.requires.side c.in_ok-used.was c.count_of.ensures.small c.requires.touched c.judge.ensures.judged in
+    low_sp s.uses.bounds c.judge.new.self.bounds s.uses.state.frame c.newest_sp-sp.result goes.1 c.newest_sp-sp.ensures.stack c.newest_sp-sp.ensures.value
