@@ -1,9 +1,9 @@
 -- What the words of `outcomes` say ('profile').
 --
--- Profile: an order is looked at with the turns that the options give to each core, so `--timed` has
--- to stand there. A fifth word does not match what the command takes; a word that is no aligned
+-- Profile: only `--timed` gives each core a number of turns, so `--turns0` and `--turns1` do not match
+-- without it. A fifth word does not match what the command takes; a word that is no aligned
 -- address of memory, and a number of worlds that is none, or too many, is no number of its option.
-use Rattle.std.specs.Prelude.{◌≤◌, ℕ, ◌+◌, ◌%◌, ◌^◌, Bool, true, ◌==◌, ◌&&◌, nat_le, All}
+use Rattle.std.specs.Prelude.{◌≤◌, ℕ, ◌+◌, ◌%◌, ◌^◌, Bool, ◌==◌, ◌&&◌, ◌||◌, nat_le, is_none, All}
 use Rattle.std.specs.Prelude.{List, [], ◌∷◌, fold, length, Option, Some, None, unwrap_or, Result, Ok}
 use Rattle.std.specs.Prelude.{Err, if◌then◌else◌, codes, option_and_then}
 use Rattle.clap.specs.Words.{App, Row, Text, all_of, first_of, new_app, with_rule}
@@ -11,7 +11,7 @@ use Rattle.clap.specs.declared.builder.action.ArgAction.TheVariants.{Append}
 use Rattle.xt_map.specs.Regions.{region_of, is_memory}
 use Rattle.xt_command_line.specs.Numbers.{number_of}
 use Rattle.xt_command_line.specs.Options.{AreValid, is_set, judged_texts, option_rule, place_names}
-use Rattle.xt_command_line.specs.Options.{said_or, texts_of, with_flag, with_option}
+use Rattle.xt_command_line.specs.Options.{Texts, said_or, texts_of, with_flag, with_option}
 use Rattle.xt_command_line.specs.Simple.{rows_by}
 use Rattle.xt_command_line.specs.TurnOrders.{and_all}
 use Rattle.xt_command_line.specs.declared.command.Refusal.{Refusal}
@@ -24,7 +24,7 @@ abbrev pub with_many : App → Text → App
 with_many app name = with_rule app (record (option_rule name) { action = Some Append })
 
 -- [--turns0 N] [--turns1 N] [--entry1 N] [--vecbase N] [--stack0 LO:HI] [--stack1 LO:HI]
--- [--states N] [--word ADDR].. --timed
+-- [--states N] [--word ADDR].. [--timed]
 abbrev pub outcomes_app : App
 outcomes_app =
     with_flag
@@ -72,18 +72,22 @@ states_of text = passed is_count (number_of text)
 
 -- with these addresses and so many worlds, where the texts say them
 abbrev pub outcomes_with :
-    Option (List ℕ) → Option ℕ → Result RunOptions Refusal → Result OutcomeOptions Refusal
-outcomes_with (Some words) (Some states) (Ok run) =
-    Ok (record { run = run; timed = true; words = words; states = states })
-outcomes_with (Some words) (Some states) (Err r) = Err r
-outcomes_with _ _ run = Err (refusal.Usage 4)
+    Bool → Option (List ℕ) → Option ℕ → Result RunOptions Refusal → Result OutcomeOptions Refusal
+outcomes_with timed (Some words) (Some states) (Ok run) =
+    Ok (record { run = run; timed = timed; words = words; states = states })
+outcomes_with timed (Some words) (Some states) (Err r) = Err r
+outcomes_with timed _ _ run = Err (refusal.Usage 4)
 
--- by whether `--timed` was given and the texts of `--word` and `--states`
+-- a number of turns is given only where `--timed` is
+abbrev pub may_count : Bool → Texts → Bool
+may_count timed t = timed || (is_none t.turns0 && is_none t.turns1)
+
+-- by whether `--timed` was given, the texts of `--word` and `--states`, and those of a run
 abbrev pub outcomes_in :
-    Bool → List Text → Option Text → Result RunOptions Refusal → Result OutcomeOptions Refusal
-outcomes_in timed words states run =
-    if timed && nat_le (length words) most_words
-    then outcomes_with (places_of words) (said_or states_of 1000000 states) run
+    Bool → List Text → Option Text → Texts → Result OutcomeOptions Refusal
+outcomes_in timed words states t =
+    if may_count timed t && nat_le (length words) most_words
+    then outcomes_with timed (places_of words) (said_or states_of 1000000 states) (judged_texts t)
     else Err (refusal.Usage 3)
 
 abbrev pub outcomes_by : Option (List Row) → Result OutcomeOptions Refusal
@@ -93,7 +97,7 @@ outcomes_by (Some rows) =
     (is_set (first_of (codes "timed") rows))
     (word_texts rows)
     (first_of (codes "states") rows)
-    (judged_texts (texts_of rows))
+    (texts_of rows)
 
 -- the options that the words of `outcomes` say, or the first rule of usage that they break
 abbrev pub outcomes_of : List Text → Result OutcomeOptions Refusal

@@ -3,7 +3,7 @@ ghost use Rattle.std.specs.Prelude.{◌≡◌, ◌+◌, ◌≤◌, ◌^◌, All,
 ghost use Rattle.xt_command_line.specs.Answers.{Means};
 ghost use Rattle.xt_command_line.specs.Options.{judged_texts, said_or};
 ghost use Rattle.xt_command_line.specs.Views.{texts_in};
-ghost use Rattle.xt_command_line.specs.Outcomes.{AreOutcomeOptions, is_place, outcomes_of, outcomes_with, place_of, places_of, states_of, word_texts};
+ghost use Rattle.xt_command_line.specs.Outcomes.{AreOutcomeOptions, is_place, may_count, outcomes_of, outcomes_with, place_of, places_of, states_of, word_texts};
 
 use crate::command::Refusal;
 use crate::numbers::number;
@@ -116,15 +116,23 @@ fn states_or(text: Option<&str>, default: u32) -> Option<u32>
     }
 }
 
+// Whether a number of turns is given only where `--timed` is.
+fn may_count(timed: bool, texts: OptionTexts<'_>) -> bool
+    ensures { result ≡ may_count timed (texts_in texts.entry) }
+{
+    timed || (texts.turns0.is_none() && texts.turns1.is_none())
+}
+
 // The options that the texts of `--word` and `--states` and those of a run say, or the first rule of usage that they
 // break.
 fn options_with(
     alloc: Global,
+    timed: bool,
     words: &[&str],
     states: Option<&str>,
     run: OptionTexts<'_>,
 ) -> Result<OutcomeOptions, Refusal>
-    ensures means { Means result (outcomes_with (places_of (map (λ text. text.now) words.now)) (said_or states_of 1000000 (option_map (λ t. t.now) states.entry)) (judged_texts (texts_in run.entry))) }
+    ensures means { Means result (outcomes_with timed (places_of (map (λ text. text.now) words.now)) (said_or states_of 1000000 (option_map (λ t. t.now) states.entry)) (judged_texts (texts_in run.entry))) }
     ensures valid { IfOk result AreOutcomeOptions }
 {
     let places = places_of(alloc, words)?;
@@ -133,7 +141,7 @@ fn options_with(
             let run = judged_texts(alloc, run)?;
             Ok(OutcomeOptions {
                 run,
-                timed: true,
+                timed,
                 words,
                 states,
             })
@@ -147,18 +155,20 @@ fn options_with(
 /// The words are read as a simple command of `clap` with the options `--turns0 N`, `--turns1 N`, `--entry1 N`,
 /// `--vecbase N`, `--stack0 LO:HI` and `--stack1 LO:HI`, as for `run`, `--states N`, whose default is 1,000,000, and
 /// `--word N`, which may stand four times, and the flag `--timed`. `Usage` has the first rule that the words break: 3 they
-/// do not match, a fifth word stands there or `--timed` does not, 4 a text is no number or range, the one of `--states`
-/// none from 1 to 16,000,000, or that of a word no multiple of 4 in a region of memory, 5 to 8 as for `run`. `Memory`
-/// says only that memory ran out.
+/// do not match, a fifth word stands there, or `--turns0` or `--turns1` without `--timed`, 4 a text is no number or range,
+/// the one of `--states` none from 1 to 16,000,000, or that of a word no multiple of 4 in a region of memory, 5 to 8 as for
+/// `run`. `Memory` says only that memory ran out.
 pub fn outcomes_options(alloc: Global, words: &[String]) -> Result<OutcomeOptions, Refusal>
     ensures means { Means result (outcomes_of (map string_bytes words.now)) }
     ensures valid { IfOk result AreOutcomeOptions }
 {
     let matches = outcomes_matches(alloc, words)?;
     let places = texts_under(&matches, "word").unwrap_or(&[]);
-    if !is_true(text_of(&matches, "timed")) || places.len() > MOST_WORDS {
+    let timed = is_true(text_of(&matches, "timed"));
+    let texts = texts_from(&matches);
+    if !may_count(timed, texts) || places.len() > MOST_WORDS {
         return Err(Refusal::Usage(3));
     }
     let states = text_of(&matches, "states");
-    options_with(alloc, places, states, texts_from(&matches))
+    options_with(alloc, timed, places, states, texts)
 }

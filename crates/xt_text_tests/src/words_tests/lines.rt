@@ -221,7 +221,6 @@ Err(Usage(4)) <- run --memory 0:1,0:1,0:1,0:1,0:1
 Err(Usage(4)) <- run --require x --turns0 4000001
 Err(Usage(3)) <- run --require x --seed 1 --order 0
 Err(Usage(3)) <- record --memory 0:1
-Err(Usage(3)) <- outcomes
 Err(Usage(4)) <- outcomes --timed --states 0
 Err(Usage(4)) <- outcomes --timed --states 16000001
 Err(Usage(4)) <- outcomes --timed --word 0x3FFB0002
@@ -236,6 +235,7 @@ Err(Usage(6)) <- outcomes --timed --entry1 0x3FFB0000
 Err(Usage(7)) <- outcomes --timed --vecbase 1
 Err(Usage(8)) <- outcomes --timed --stack0 0:16
 Err(Usage(3)) <- outcomes --turns0 5
+Err(Usage(3)) <- outcomes --turns1 5 --states 9
 ";
 
 /// The fields of the options of a run that no words give.
@@ -288,6 +288,7 @@ Run memory: Some(Spans { items: [Span { addr: 0, count: 0 }, Span { addr: 1, cou
 
 /// The fields of a run, the other options of `outcomes`, an arrow, and the words.
 pub const OUTCOMES: &str = "\
+- | timed: false, words: WordList { items: [] }, states: 1000000 <- outcomes
 - | timed: true, words: WordList { items: [] }, states: 1000000 <- outcomes --timed
 turns0: 5 | timed: true, words: WordList { items: [1073414144, 1073414148] }, states: 16000000 <- outcomes --turns0 5 --timed --word 0x3FFB0000 --word 0x3FFB0004 --states 16000000
 ";
