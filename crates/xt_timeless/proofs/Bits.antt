@@ -1,5 +1,5 @@
 -- Words without the bits of the timers.
-use Rattle.std.proofs.Common.{◌≡◌, ℕ, ◌+◌, ◌-◌, ◌*◌, ◌/◌, ◌%◌, ◌^◌, bit_and, bit_or, refl, sym, ap, ◌∙◌, arith}
+use Rattle.std.proofs.Common.{◌≡◌, ℕ, ◌-◌, ◌/◌, ◌^◌, bit_and, bit_or, refl, sym, ap, ◌∙◌, arith}
 use Rattle.std.proofs.lemmas.Nat.{and_comm, and_assoc, and_or_apart, and_shr, or_shr}
 use lib.Bits.{and_step, or_step, and_zero_r, or_zero_r}
 use lib.Arith.{bin_ind}

@@ -1,20 +1,16 @@
 -- Whether an instruction that reads a register of time is executed.
-use Rattle.std.proofs.Common.{◌≡◌, ℕ, zero, suc, Bool, true, false, cond, eqb, nat_lt, not, ◌&&◌, Option, Some, None, refl, sym, ap, ◌∙◌, subst, lt-ltb, arith}
+use Rattle.std.proofs.Common.{◌≡◌, ℕ, zero, suc, Bool, true, false, cond, eqb, nat_lt, not, ◌&&◌, Some, None, refl, sym, ap, ◌∙◌, lt-ltb, arith}
 use Rattle.std.specs.Prelude.{is_none}
 use Rattle.std.proofs.lemmas.Bool.{eqb-true, false_from_ne_true, true≢false}
 use Rattle.xt_isa.specs.declared.Insn.{Insn}
 use Rattle.xt_isa.specs.declared.Insn.TheVariants as insn
 use Rattle.xt_isa.specs.declared.system.System.TheVariants as system
-use Rattle.xt_isa.specs.declared.system.SpecialName.TheVariants as SpecialName
 use Rattle.xt_special.specs.Interrupts.{pending_of}
-use Rattle.xt_trace.specs.declared.record.StepKind.{StepKind}
-use Rattle.xt_trace.specs.declared.record.StepKind.TheVariants as kind
-use Rattle.xt_rows.specs.Outcomes.{outcome_at}
 use Rattle.xt_rows.specs.Settling.{settled_interrupt, settled_wait}
 use Rattle.xt_fetch.specs.Fetching.{Fetched, Fetches, fetched}
 use Rattle.xt_window.specs.Ring.{visible}
 use Rattle.xt_exec.specs.State.{State}
-use Rattle.xt_exec.specs.Turn.{Planned, checked, done, fetched_turn, in_window, is_illegal, overflow, planned, raises, window_check}
+use Rattle.xt_exec.specs.Turn.{Planned, checked, fetched_turn, in_window, is_illegal, overflow, planned, raises, window_check}
 use Rattle.xt_timeless.specs.Time.{executes, reads_time}
 use Rattle.xt_timeless.proofs.Turning.{time_kind}
 

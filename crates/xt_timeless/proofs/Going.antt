@@ -1,23 +1,21 @@
 -- Worlds go on without time.
-use Rattle.std.proofs.Common.{◌≡◌, ℕ, zero, suc, ◌+◌, ◌≤◌, ◌⊎◌, Bool, true, false, cond, ◌||◌, Option, Some, None, List, [], ◌∷◌, ◌++◌, length, refl, sym, ap, ◌∙◌, subst, inl, inr, ⊎_elim, arith}
+use Rattle.std.proofs.Common.{◌≡◌, ℕ, zero, suc, ◌≤◌, ◌⊎◌, Bool, true, false, cond, ◌||◌, Option, Some, None, [], ◌∷◌, ◌++◌, length, refl, sym, ap, ◌∙◌, subst, inl, inr, ⊎_elim, arith}
 use Rattle.std.proofs.lemmas.Bool.{true≢false}
 use Rattle.xt_map.specs.declared.access.Access.{Access}
 use Rattle.xt_map.specs.declared.contents.MemoryContents.{MemoryContents}
 use Rattle.xt_trace.specs.declared.record.RegWrite.{RegWrite}
-use Rattle.xt_trace.specs.declared.record.StepKind.{StepKind}
 use Rattle.xt_trace.specs.declared.record.StepRecord.{StepRecord}
 use Rattle.xt_trace.specs.Calls.{is_stop}
 use Rattle.xt_trace.specs.Traces.{has_stopped}
-use Rattle.xt_trace.specs.Worlds.{Core, Line, World, advance, answer, core_given, core_past, give, left_past, line_given, line_past, memory_left}
+use Rattle.xt_trace.specs.Worlds.{Core, Line, World, answer, core_given, give, left_past, line_given, line_past, memory_left}
 use Rattle.xt_trace.proofs.Short.{stopped_push}
 use Rattle.xt_fetch.specs.Code.{AreBytes}
-use Rattle.xt_rows.specs.declared.outcome.Awaited.{Awaited}
 use Rattle.xt_exec.specs.Chips.{processor}
 use Rattle.xt_exec.specs.State.{State}
 use Rattle.xt_exec.specs.Turn.{demand, planned, turn, with_write, written}
 use Rattle.xt_timeless.specs.Time.{AreEqualButForTime, uses_time, without_time}
 use Rattle.xt_timeless.specs.Bare.{Bare, BareWorld, bare_given, bare_in, bare_memory, bare_of, bare_past, bare_turned}
-use Rattle.xt_timeless.specs.Laws.{AreSame, HasTurns, HaveTurns, KeepTimeOut, WorldsKeepTimeOut, core_of}
+use Rattle.xt_timeless.specs.Laws.{AreSame, HasTurns, HaveTurns, WorldsKeepTimeOut, core_of}
 use Rattle.xt_timeless.proofs.Turning.{time_is_used_by_both, turns_alike}
 
 -- ---- a turn and its record

@@ -1,5 +1,5 @@
 -- What turns do to control states that are equal but for time.
-use Rattle.std.proofs.Common.{◌≡◌, ◌≢◌, ℕ, zero, suc, ◌+◌, ◌-◌, ◌*◌, ◌%◌, ◌^◌, Bool, true, false, cond, eqb, nat_lt, leb, not, ◌&&◌, ◌||◌, Option, Some, None, List, slice_index, slice_set, bit_and, bit_or, refl, sym, ap, ◌∙◌, subst, ⊎_elim, arith}
+use Rattle.std.proofs.Common.{◌≡◌, ◌≢◌, ℕ, ◌+◌, ◌-◌, ◌*◌, ◌%◌, ◌^◌, Bool, true, false, cond, eqb, nat_lt, not, ◌&&◌, Option, Some, None, List, slice_index, slice_set, bit_and, bit_or, refl, sym, ap, ◌∙◌, subst, ⊎_elim, arith}
 use Rattle.std.proofs.lemmas.Bool.{cases_eq, eqb-true, false_from_ne_true, true≢false}
 use Rattle.xt_special.specs.declared.ps.Ps.{Ps}
 use Rattle.xt_special.specs.declared.writes.SpecialWrite.{SpecialWrite}
@@ -14,7 +14,7 @@ use Rattle.xt_rows.specs.declared.outcome.Flow.{Flow}
 use Rattle.xt_rows.specs.declared.outcome.Flow.TheVariants.{Falls, Goes}
 use Rattle.xt_rows.specs.declared.outcome.Effect.{Effect}
 use Rattle.xt_rows.specs.Settling.{after_effect, after_flow}
-use Rattle.xt_timeless.specs.Time.{is_of_time, timer_bits}
+use Rattle.xt_timeless.specs.Time.{timer_bits}
 use Rattle.xt_timeless.specs.Alike.{AreAlike}
 use Rattle.xt_timeless.proofs.Bits.{or_same, same_level, without_same}
 use Rattle.xt_timeless.proofs.Lists.{alike_put, alike_set, both_ticked}

@@ -1,7 +1,7 @@
 -- Lists of special registers that are equal but for time.
-use Rattle.std.proofs.Common.{◌≡◌, ◌≢◌, ℕ, zero, suc, ◌+◌, ◌%◌, ◌^◌, ◌<◌, Bool, true, false, cond, eqb, ◌||◌, Option, Some, None, List, [], ◌∷◌, length, slice_index, slice_set, bit_or, refl, sym, ap, ◌∙◌, subst, ⊎_elim, arith}
-use Rattle.std.proofs.lemmas.Bool.{cases_eq, eqb-true, false_from_ne_true, or_from, true≢false}
-use Rattle.std.proofs.lemmas.List.{length-set, set-get_or, ext_get_or, get_or-set_other}
+use Rattle.std.proofs.Common.{◌≡◌, ◌≢◌, ℕ, zero, suc, ◌+◌, ◌%◌, ◌^◌, Bool, true, false, cond, eqb, ◌||◌, List, [], ◌∷◌, length, slice_index, slice_set, bit_or, refl, sym, ap, ◌∙◌, subst, arith}
+use Rattle.std.proofs.lemmas.Bool.{eqb-true, false_from_ne_true, true≢false}
+use Rattle.std.proofs.lemmas.List.{length-set, set-get_or, ext_get_or}
 use Rattle.xt_special.specs.Access.{without_bits}
 use Rattle.xt_special.specs.Timers.{with_timer, ticked_special}
 use Rattle.xt_timeless.specs.Time.{is_of_time, special_without_time, timer_bits}

@@ -1,6 +1,6 @@
 -- What an instruction does in states that are equal but for time.
-use Rattle.std.proofs.Common.{◌≡◌, ℕ, zero, suc, ◌+◌, ◌-◌, ◌*◌, ◌/◌, ◌%◌, ◌^◌, ◌<◌, ◌≤◌, ◌⊎◌, ℤ, Bool, true, false, cond, eqb, ◌||◌, Option, Some, None, List, slice_index, refl, sym, ap, ◌∙◌, subst, inl, inr, arith}
-use Rattle.std.proofs.lemmas.Bool.{true≢false, eqb-true, false_from_ne_true}
+use Rattle.std.proofs.Common.{◌≡◌, ℕ, ◌+◌, ◌<◌, ◌≤◌, ◌⊎◌, Bool, true, false, cond, eqb, ◌||◌, Option, Some, None, List, slice_index, refl, sym, ap, inl, inr, arith}
+use Rattle.std.proofs.lemmas.Bool.{eqb-true, false_from_ne_true}
 use Rattle.xt_isa.specs.declared.Insn.{Insn}
 use Rattle.xt_isa.specs.declared.Insn.TheVariants as insn
 use Rattle.xt_isa.specs.declared.three.Three.{Three}
@@ -14,12 +14,12 @@ use Rattle.xt_isa.specs.declared.system.System.TheVariants as system
 use Rattle.xt_isa.specs.declared.system.ReturnName.TheVariants as ReturnName
 use Rattle.xt_isa.specs.declared.system.SpecialName.TheVariants as SpecialName
 use Rattle.xt_isa.specs.Ranges.{in_range}
-use Rattle.xt_special.specs.Control.{Control, special_of}
+use Rattle.xt_special.specs.Control.{Control}
 use Rattle.xt_special.specs.Access.{SpecialWrites, is_ccompare, ps_written, value_read, with_sets, without_bits, written_by}
 use Rattle.xt_rows.specs.declared.outcome.Effect.{Effect}
 use Rattle.xt_rows.specs.declared.outcome.WindowRegister.{WindowRegister}
 use Rattle.xt_rows.specs.declared.outcome.Outcome.{Outcome}
-use Rattle.xt_rows.specs.declared.outcome.Outcome.TheVariants.{Does, Windowed}
+use Rattle.xt_rows.specs.declared.outcome.Outcome.TheVariants.{Does}
 use Rattle.xt_rows.specs.Effects.{unchanged, window_register, write_to, writes_special, exchanges_special}
 use Rattle.xt_rows.specs.Numbers.{natural}
 use Rattle.xt_rows.specs.Operands.{changes_interrupt, memory_special_reads, reads, shift_special_reads, special_reads, system_special_reads, three_special_reads}

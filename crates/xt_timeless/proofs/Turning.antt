@@ -1,5 +1,5 @@
 -- A turn from states that are equal but for time.
-use Rattle.std.proofs.Common.{◌≡◌, ℕ, zero, suc, ◌+◌, ◌-◌, ◌*◌, ◌/◌, ◌%◌, ◌^◌, ◌⊎◌, Bool, true, false, cond, eqb, nat_lt, not, ◌&&◌, ◌||◌, Option, Some, None, List, slice_index, bit_and, refl, sym, ap, ◌∙◌, subst, inl, inr, ⊎_elim, arith}
+use Rattle.std.proofs.Common.{◌≡◌, ℕ, zero, suc, ◌+◌, ◌-◌, ◌*◌, ◌%◌, ◌^◌, ◌⊎◌, Bool, true, false, cond, eqb, nat_lt, not, ◌&&◌, ◌||◌, Option, Some, None, List, bit_and, refl, sym, ap, ◌∙◌, subst, inl, inr, ⊎_elim}
 use Rattle.std.proofs.lemmas.Bool.{eqb-true, or_parts, true≢false}
 use Rattle.xt_isa.specs.declared.Insn.{Insn}
 use Rattle.xt_isa.specs.declared.Insn.TheVariants as insn
@@ -14,7 +14,6 @@ use Rattle.xt_special.specs.Control.{Control, special_of}
 use Rattle.xt_special.specs.Access.{SpecialWrites, with_sets}
 use Rattle.xt_special.specs.Timers.{ticked}
 use Rattle.xt_special.specs.Interrupts.{pending_of}
-use Rattle.xt_special.specs.WindowExceptions.{after_window_exception}
 use Rattle.xt_special.specs.Exceptions.{after_exception}
 use Rattle.xt_window.specs.Ring.{bit, visible, with_bit, without_bit, size_at}
 use Rattle.xt_window.specs.Moves.{base_after_call, base_after_return, base_rotated, behind}
@@ -37,11 +36,11 @@ use Rattle.xt_fetch.specs.Code.{AreBytes}
 use Rattle.xt_fetch.specs.Fetching.{Fetched, Fetches, Fails, SpellsNothing, fetched}
 use Rattle.xt_fetch.proofs.Fetches.{fetched_range}
 use Rattle.xt_exec.specs.State.{State}
-use Rattle.xt_exec.specs.Turn.{Planned, checked, done, entered, fetched_turn, in_window, is_illegal, moved_stack, overflow, planned, raises, resumed, return_pc, return_size, returned, underflow, window_check, window_exception, window_step, window_value, with_window_value, windowed}
+use Rattle.xt_exec.specs.Turn.{Planned, checked, done, entered, fetched_turn, in_window, is_illegal, moved_stack, overflow, planned, raises, resumed, return_pc, return_size, returned, underflow, window_check, window_exception, window_step, windowed}
 use Rattle.xt_timeless.specs.Time.{executes, fetches_time, reads_time, special_without_time, timer_bits, uses_time, without_time}
 use Rattle.xt_timeless.specs.Alike.{AreAlike}
 use Rattle.xt_timeless.specs.Laws.{AreSame, TimeIsUsedByBoth, TurnsKeepTimeOut}
-use Rattle.xt_timeless.proofs.Lists.{alike_from, alike_sym, cleared_alike, same_cleared}
+use Rattle.xt_timeless.proofs.Lists.{alike_sym, cleared_alike, same_cleared}
 use Rattle.xt_timeless.proofs.Keeping.{IsKept, kept, kept_effect, kept_exception, kept_flow, kept_interrupt, kept_pending, kept_tick, kept_window, sets_alike, with_special}
 use Rattle.xt_timeless.proofs.Same.{AreAlikeOutcomes, outcomes_alike}
 

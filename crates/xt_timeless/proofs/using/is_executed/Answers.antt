@@ -1,4 +1,4 @@
-use Rattle.std.proofs.Common.{Bool, not, ◌&&◌, ◌∙◌}
+use Rattle.std.proofs.Common.{not, ◌&&◌, ◌∙◌}
 use Rattle.xt_exec.specs.States.{state_of}
 use Rattle.xt_timeless.proofs.Executing.{executed}
 use Rattle.xt_timeless.proofs.using.is_executed.Goals as goal

@@ -1,5 +1,4 @@
-use Rattle.std.proofs.Common.{ℕ, ◌<◌, sym, ap, ◌∙◌, subst, arith}
-use Rattle.xt_rows.specs.Operands.{named}
+use Rattle.std.proofs.Common.{ℕ, ◌<◌, sym, subst, arith}
 use Rattle.xt_rows.proofs.Registers.{names_registers}
 use Rattle.xt_timeless.proofs.using.is_free.Goals as goal
 
