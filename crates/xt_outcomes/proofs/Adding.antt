@@ -79,15 +79,15 @@ rising_more (z ∷ zs) x r miss = rising_choice z zs x (is_lt (compared z.outcom
 
 -- ---- one more
 
-module _ (P : Chip State) (o : Opening State) (addresses : List ℕ) where
-  real_more : (p : ℕ) (xs : List Found) (x : Found) → IsReal P o addresses x → AreReal P o addresses xs → AreReal P o addresses (with_at p xs x)
+module _ (P : Chip State) (timed : Bool) (o : Opening State) (addresses : List ℕ) where
+  real_more : (p : ℕ) (xs : List Found) (x : Found) → IsReal P timed o addresses x → AreReal P timed o addresses xs → AreReal P timed o addresses (with_at p xs x)
   real_more zero [] x is h = (is, tt)
   real_more (suc p) [] x is h = (is, tt)
   real_more zero (z ∷ zs) x is h = (is, h)
   real_more (suc p) (z ∷ zs) x is h = (h.0, real_more p zs x is h.1)
 
-  pub added : (xs : List Found) (x : Found) (k : ℕ) (p : Spot State) → k ≡ place_in xs x.outcome → x.outcome ≡ outcome_at addresses p → IsReal P o addresses x
-      → ((z : Found) → slice_get xs k ≡ Some z → is_eq (compared z.outcome x.outcome) ≡ false) → IsAdded P o addresses p xs (with_at k xs x)
+  pub added : (xs : List Found) (x : Found) (k : ℕ) (p : Spot State) → k ≡ place_in xs x.outcome → x.outcome ≡ outcome_at addresses p → IsReal P timed o addresses x
+      → ((z : Found) → slice_get xs k ≡ Some z → is_eq (compared z.outcome x.outcome) ≡ false) → IsAdded P timed o addresses p xs (with_at k xs x)
   added xs x k p e same is miss = record {
     real = real_more k xs x is;
     rising = λ r. subst (λ (q : ℕ). IsRising (with_at q xs x)) (sym e)
@@ -96,8 +96,8 @@ module _ (P : Chip State) (o : Opening State) (addresses : List ℕ) where
     listed = λ t. subst (Lists (with_at k xs x)) same (listed_there k xs x);
   }
 
-  pub listed_before : (xs : List Found) (p : Spot State) → Lists xs (outcome_at addresses p) → IsAdded P o addresses p xs xs
+  pub listed_before : (xs : List Found) (p : Spot State) → Lists xs (outcome_at addresses p) → IsAdded P timed o addresses p xs xs
   listed_before xs p h = record { real = λ r. r; rising = λ r. r; kept = λ z k. k; listed = λ t. h }
 
-  pub not_ended : (xs : List Found) (p : Spot State) → has_ended p ≡ false → IsAdded P o addresses p xs xs
+  pub not_ended : (xs : List Found) (p : Spot State) → has_ended p ≡ false → IsAdded P timed o addresses p xs xs
   not_ended xs p h = record { real = λ r. r; rising = λ r. r; kept = λ z k. k; listed = λ t. absurd (true≢false (sym t ∙ h)) }

@@ -4,29 +4,25 @@ use Rattle.xt_map.specs.Memory.{constant_byte}
 use Rattle.xt_image.specs.declared.image.Image.{Image}
 use Rattle.xt_search.specs.declared.graph.Kept.{Kept}
 use Rattle.xt_search.specs.Ends.{AreMarks}
-use Rattle.xt_search.specs.Graphs.{IsAt, IsWhole}
+use Rattle.xt_search.specs.Graphs.{IsAt, IsWhole, LeadsTo}
 use Rattle.xt_search.specs.Worlds.{IsOrder, Reaches}
 use Rattle.xt_search.proofs.Numbers.{at_within}
 use Rattle.xt_search.proofs.Endings.{whole_has_all}
 use Rattle.xt_trace.specs.declared.options.Options.{Options}
 use Rattle.xt_trace.specs.Chip.{Chip}
 use Rattle.xt_trace.specs.Runs.{Opening, opened}
-use Rattle.xt_trace.specs.Worlds.{advance}
-use Rattle.xt_trace.proofs.Ends.{advance_append}
+use Rattle.xt_trace.specs.Worlds.{World, advance, give}
 use Rattle.xt_exec.specs.Chips.{processor}
 use Rattle.xt_exec.specs.State.{State}
 use Rattle.xt_core.specs.Runs.{code_of, memory_of, opening_of}
 use Rattle.xt_outcomes.specs.Endings.{has_ended}
 use Rattle.xt_outcomes.specs.Kept.{Leads, spot_of}
-use Rattle.xt_outcomes.specs.Orders.{timed_world_after}
-use Rattle.xt_outcomes.specs.Outcomes.{CanAllEnd, IsTimedStuck}
-use Rattle.xt_outcomes.specs.Searched.{HasAllOrders, IsFoundBy, IsSearch}
-use Rattle.xt_outcomes.specs.Spots.{Spot, spot_after, spot_in, spot_past}
+use Rattle.xt_outcomes.specs.Orders.{given_turns, with_turns, world_after}
+use Rattle.xt_outcomes.specs.Outcomes.{CanAllEnd, IsStuck, have_ended}
+use Rattle.xt_outcomes.specs.Searched.{HasAllOrders, IsSearch}
 use Rattle.xt_outcomes.specs.declared.found.Search.{Search}
-use Rattle.xt_outcomes.specs.declared.world.World.{World}
-use Rattle.xt_outcomes.proofs.Finding.{all_orders, carried, graph_of_machine}
-use Rattle.xt_outcomes.proofs.Led.{spot_reached}
-use Rattle.xt_outcomes.proofs.Spotted.{spot_advanced}
+use Rattle.xt_outcomes.specs.declared.world.World.{World as KeptWorld}
+use Rattle.xt_outcomes.proofs.Finding.{all_orders, carried, ended_same, graph_of_machine, led_to, world_is}
 
 -- ---- any list of numbers as an order of two cores
 
@@ -40,17 +36,41 @@ is_order [] = tt
 is_order (zero ∷ cs) = (omega arith, is_order cs)
 is_order (suc c ∷ cs) = (omega arith, is_order cs)
 
-same_after : (P : Chip State) (cs : List ℕ) (p : Spot State) → spot_after P (as_order cs) p ≡ spot_after P cs p
-same_after P [] p = refl
-same_after P (zero ∷ cs) p = same_after P cs (spot_past P 0 p)
-same_after P (suc c ∷ cs) p = same_after P cs (spot_past P 1 p)
+as_long : (cs : List ℕ) → length (as_order cs) ≡ length cs
+as_long [] = refl
+as_long (zero ∷ cs) = ap suc (as_long cs)
+as_long (suc c ∷ cs) = ap suc (as_long cs)
 
-after_more : (P : Chip State) (o : Opening State) (order more : List ℕ) → spot_in (timed_world_after P o (order ++ more)) ≡ spot_after P more (spot_in (timed_world_after P o order))
-after_more P o order more = ap spot_in (advance_append P order more (opened o)) ∙ spot_advanced P more (advance P order (opened o))
+same_more : (P : Chip State) (cs : List ℕ) (w : World State) → advance P (as_order cs) w ≡ advance P cs w
+same_more P [] w = refl
+same_more P (zero ∷ cs) w = same_more P cs (give P 0 w)
+same_more P (suc c ∷ cs) w = same_more P cs (give P 1 w)
+
+same_advance : (P : Chip State) (order more : List ℕ) (w : World State) → advance P (order ++ as_order more) w ≡ advance P (order ++ more) w
+same_advance P [] more w = same_more P more w
+same_advance P (c ∷ cs) more w = same_advance P cs more (give P c w)
+
+long_more : (order more : List ℕ) → length (order ++ as_order more) ≡ length (order ++ more)
+long_more [] more = as_long more
+long_more (c ∷ cs) more = ap suc (long_more cs more)
+
+same_given : (timed : Bool) (o : Opening State) (order more : List ℕ) → given_turns timed o (order ++ as_order more) ≡ given_turns timed o (order ++ more)
+same_given true o order more = refl
+same_given false o order more = ap (with_turns o) (long_more order more)
+
+same_world : (P : Chip State) (timed : Bool) (o : Opening State) (order more : List ℕ) → world_after P timed o (order ++ as_order more) ≡ world_after P timed o (order ++ more)
+same_world P timed o order more =
+    same_advance P order more (opened (given_turns timed o (order ++ as_order more))) ∙ ap (λ (q : Opening State). advance P (order ++ more) (opened q)) (same_given timed o order more)
+
+-- ---- one order after another
+
+pub reaches_append : {W : Type 0} (L : ℕ → W → W → Type 0) (xs ys : List ℕ) (u v w : W) → Reaches L xs u v → Reaches L ys v w → Reaches L (xs ++ ys) u w
+reaches_append {W} L [] ys u v w h k = subst (λ (x : W). Reaches L ys x w) (sym h) k
+reaches_append {W} L (c ∷ cs) ys u v w h k = (h.0, h.1, reaches_append L cs ys h.0 v w h.2 k)
 
 -- ---- what is kept
 
-pub there : (ks : List (Kept World)) (k : ℕ) → k < length ks → (w : World) × IsAt ks k w
+pub there : (ks : List (Kept KeptWorld)) (k : ℕ) → k < length ks → (w : KeptWorld) × IsAt ks k w
 there [] k h = absurd (omega arith)
 there (x ∷ ks) zero h = (x.world, refl)
 there (x ∷ ks) (suc k) h = there ks k (let g : suc k < suc (length ks) = h in omega arith)
@@ -58,36 +78,38 @@ there (x ∷ ks) (suc k) h = there ks k (let g : suc k < suc (length ks) = h in 
 module _ (image : Image) (o : Options) (s : Search) (h : IsSearch image o s) where
   -- the outcome of each order is that of a kept world
   pub whole_orders : IsWhole s.graph → HasAllOrders image o s
-  whole_orders whole = all_orders image o s h (whole_has_all (Leads (processor (constant_byte s.machine.code)) s.machine.opening.contents) s.graph (graph_of_machine image o s h) whole)
+  whole_orders whole =
+      all_orders image o s h (whole_has_all (Leads (constant_byte s.machine.code) s.machine.timed s.machine.opening.contents) s.graph (graph_of_machine image o s h) whole)
 
-  goes_on : (order more : List ℕ) (w v : World) → spot_of (memory_of image o) w ≡ spot_in (timed_world_after (processor (code_of image)) (opening_of image o) order)
-      → Reaches (Leads (processor (constant_byte s.machine.code)) s.machine.opening.contents) more w v
-      → spot_of (memory_of image o) v ≡ spot_after (processor (code_of image)) more (spot_in (timed_world_after (processor (code_of image)) (opening_of image o) order))
-  goes_on order more w v e reaches =
-      let P = processor (code_of image) in
-      let r = carried (λ L. Reaches L more w v) s.machine.code image.segments s.machine.opening.contents (memory_of image o) h.code h.opening reaches in
-      spot_reached P (memory_of image o) more w v r ∙ ap (spot_after P more) e
+  -- an order that leads to a kept world, and more
+  goes_on : (order more : List ℕ) (w v : KeptWorld) → Reaches (Leads (code_of image) s.machine.timed (memory_of image o)) order h.first.0 w
+      → Reaches (Leads (constant_byte s.machine.code) s.machine.timed s.machine.opening.contents) more w v
+      → has_ended (spot_of (memory_of image o) v) ≡ have_ended s.machine.timed (world_after (processor (code_of image)) s.machine.timed (opening_of image o) (order ++ more))
+  goes_on order more w v before reaches =
+      let r = carried (λ k n. Reaches (Leads k s.machine.timed n) more w v) s.machine.code image.segments s.machine.opening.contents (memory_of image o) h.code h.opening reaches in
+      let all = reaches_append (Leads (code_of image) s.machine.timed (memory_of image o)) order more h.first.0 w v before r in
+      ap has_ended (world_is image o s h (order ++ more) v all)
+      ∙ ended_same s.machine.timed (world_after (processor (code_of image)) s.machine.timed (opening_of image o) (order ++ more))
 
   module _ (marks : List Bool)
-      (are : AreMarks (Leads (processor (constant_byte s.machine.code)) s.machine.opening.contents) (λ w. has_ended (spot_of (memory_of image o) w)) s.graph marks) where
-    pub all_can_end : IsWhole s.graph → ((k : ℕ) → k < length marks → slice_get marks k ≡ Some true) → CanAllEnd (processor (code_of image)) (opening_of image o)
+      (are : AreMarks (Leads (constant_byte s.machine.code) s.machine.timed s.machine.opening.contents) (λ w. has_ended (spot_of (memory_of image o) w)) s.graph marks) where
+    pub all_can_end : IsWhole s.graph → ((k : ℕ) → k < length marks → slice_get marks k ≡ Some true) → CanAllEnd (processor (code_of image)) s.machine.timed (opening_of image o)
     all_can_end whole all = λ order is.
-        let P = processor (code_of image) in
-        let oo = opening_of image o in
-        let r = whole_orders whole order is in
+        let L = Leads (constant_byte s.machine.code) s.machine.timed s.machine.opening.contents in
+        let r = whole_has_all L s.graph (graph_of_machine image o s h) whole h.first.0 h.first.1 order is in
+        let before = carried (λ k n. Reaches (Leads k s.machine.timed n) order h.first.0 r.1) s.machine.code image.segments s.machine.opening.contents (memory_of image o) h.code h.opening r.3 in
         let long : length marks ≡ length s.graph.kept.items = are.as_long in
         let less : r.0 < length s.graph.kept.items = at_within s.graph.kept.items r.0 r.1 r.2 in
         let c = are.can_end r.0 r.1 (all r.0 (omega arith)) r.2 in
-        (c.0, c.2, ap has_ended (after_more P oo order c.0 ∙ sym (goes_on order c.0 r.1 c.1 r.3 c.3)) ∙ c.4)
+        (c.0, c.2, sym (goes_on order c.0 r.1 c.1 before c.3) ∙ c.4)
 
-    pub is_stuck : (order : List ℕ) (k : ℕ) → k < length marks → slice_get marks k ≡ Some false → IsFoundBy image o s order k
-        → IsTimedStuck (processor (code_of image)) (opening_of image o) order
-    is_stuck order k less unmarked found = λ more.
+    pub is_stuck : (order : List ℕ) (k : ℕ) → k < length marks → slice_get marks k ≡ Some false → LeadsTo (Leads (constant_byte s.machine.code) s.machine.timed s.machine.opening.contents) s.graph order k
+        → IsStuck (processor (code_of image)) s.machine.timed (opening_of image o) order
+    is_stuck order k less unmarked leads = λ more.
         let P = processor (code_of image) in
         let oo = opening_of image o in
         let long : length marks ≡ length s.graph.kept.items = are.as_long in
         let w = there s.graph.kept.items k (omega arith) in
+        let before = led_to image o s h order k leads h.first.0 w.0 h.first.1 w.1 in
         let st = are.stuck k w.0 unmarked w.1 (as_order more) (is_order more) in
-        let e = goes_on order (as_order more) w.0 st.0 (found w.0 w.1) st.1 in
-        let f = same_after P more (spot_in (timed_world_after P oo order)) in
-        ap has_ended (after_more P oo order more ∙ sym f ∙ sym e) ∙ st.2
+        ap (have_ended s.machine.timed) (sym (same_world P s.machine.timed oo order more)) ∙ sym (goes_on order (as_order more) w.0 st.0 before st.1) ∙ st.2

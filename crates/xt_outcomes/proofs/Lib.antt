@@ -1,10 +1,11 @@
 pub mod Spotted
 pub mod Equal
 pub mod Turned
-pub mod Led
+pub mod Untimed
 pub mod CodeBytes
 pub mod Finding
 pub mod Comparing
 pub mod Adding
 pub mod Continuing
 pub mod Raced
+pub mod Using

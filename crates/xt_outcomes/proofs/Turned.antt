@@ -8,7 +8,7 @@ use Rattle.xt_exec.specs.Chips.{processor}
 use Rattle.xt_exec.specs.State.{State}
 use Rattle.xt_exec.specs.Turn.{demand, turn}
 use Rattle.xt_core.specs.Cores.{CoreState, restarted, turned}
-use Rattle.xt_outcomes.specs.Spots.{Side, memory_given, side_given}
+use Rattle.xt_outcomes.specs.Spots.{Side, memory_given, more_kept, side_given, state_kept}
 
 -- with two turns, none is left exactly after a stop
 stop_choice : (b : Bool) → ((if b then 0 else 1) == 0) ≡ b
@@ -19,9 +19,9 @@ left_choice : (b : Bool) (n : ℕ) → (if (if b then 0 else 1) == 0 then 0 else
 left_choice true n = refl
 left_choice false n = refl
 
-module _ (code : ℕ → ℕ) where
-  pub ended_side : (s : Side State) (m : MemoryContents) → s.left ≡ 0 → s ≡ side_given (processor code) s.left s m
-  ended_side s m e = ap (λ (n : ℕ). side_given (processor code) n s m) (sym e)
+module _ (code : ℕ → ℕ) (timed : Bool) where
+  pub ended_side : (s : Side State) (m : MemoryContents) → s.left ≡ 0 → s ≡ side_given (processor code) timed s.left s m
+  ended_side s m e = ap (λ (n : ℕ). side_given (processor code) timed n s m) (sym e)
 
   pub ended_memory : (s : Side State) (m : MemoryContents) → s.left ≡ 0 → m ≡ memory_given (processor code) s.left s.state m
   ended_memory s m e = ap (λ (n : ℕ). memory_given (processor code) n s.state m) (sym e)
@@ -30,11 +30,11 @@ module _ (code : ℕ → ℕ) where
   memory_is s m n e = ap (λ (k : ℕ). memory_given (processor code) k s.state m) (sym e)
 
   pub side_is : (s : Side State) (m : MemoryContents) (k after : CoreState) (n : ℕ) → s.left ≡ suc n → after ≡ turned code (answer (demand code s.state) m) (restarted s.state 2 k)
-      → ◌≡◌ {A = Side State} (record { state = after.state; left = (if after.left == 0 then 0 else n); stopped = s.stopped || (after.left == 0) }) (side_given (processor code) s.left s m)
+      → ◌≡◌ {A = Side State} (record { state = state_kept timed after.state; left = (if after.left == 0 then 0 else more_kept timed n); stopped = s.stopped || (after.left == 0) }) (side_given (processor code) timed s.left s m)
   side_is s m k after n e f =
       let t = turn code s.state (answer (demand code s.state) m) in
-      let make : State → ℕ → Bool → Side State = λ x y z. record { state = x; left = y; stopped = z } in
-      ap (λ (c : CoreState). make c.state (if c.left == 0 then 0 else n) (s.stopped || (c.left == 0))) f
-      ∙ ap (λ (y : ℕ). make t.1 y (s.stopped || (left_past t.0 1 == 0))) (left_choice (is_stop t.0.kind) n)
-      ∙ ap (λ (b : Bool). make t.1 (left_past t.0 n) (s.stopped || b)) (stop_choice (is_stop t.0.kind))
-      ∙ ap (λ (j : ℕ). side_given (processor code) j s m) (sym e)
+      let make : State → ℕ → Bool → Side State = λ x y z. record { state = state_kept timed x; left = y; stopped = z } in
+      ap (λ (c : CoreState). make c.state (if c.left == 0 then 0 else more_kept timed n) (s.stopped || (c.left == 0))) f
+      ∙ ap (λ (y : ℕ). make t.1 y (s.stopped || (left_past t.0 1 == 0))) (left_choice (is_stop t.0.kind) (more_kept timed n))
+      ∙ ap (λ (b : Bool). make t.1 (left_past t.0 (more_kept timed n)) (s.stopped || b)) (stop_choice (is_stop t.0.kind))
+      ∙ ap (λ (j : ℕ). side_given (processor code) timed j s m) (sym e)

@@ -1,7 +1,6 @@
 pub mod Orders
 pub mod Outcomes
 pub mod NextRaces
-pub mod Time
 pub mod Spots
 pub mod Kept
 pub mod Searched
@@ -10,4 +9,5 @@ pub mod Listing
 pub mod SpotRaces
 pub mod Racing
 pub mod Added
+pub mod Ended
 pub mod Answered

@@ -1,4 +1,4 @@
--- Outcomes, each with one order that leads there, timed ('profile').
+-- Outcomes, each with one order that leads there ('profile').
 --
 -- Profile: outcomes rise by the bytes sent, then by how core 0 ended, its program counter, how core
 -- 1 ended, its program counter, and the words. A core that made all its turns comes before one that
@@ -14,7 +14,7 @@ use Rattle.xt_trace.specs.Chip.{Chip}
 use Rattle.xt_trace.specs.Runs.{Opening}
 use Rattle.xt_exec.specs.State.{State}
 use Rattle.xt_search.specs.Worlds.{IsOrder}
-use Rattle.xt_outcomes.specs.Orders.{timed_world_after}
+use Rattle.xt_outcomes.specs.Orders.{world_after}
 use Rattle.xt_outcomes.specs.Outcomes.{Outcome, have_ended, outcome_in}
 use Rattle.xt_outcomes.specs.declared.listing.Found.{Found}
 
@@ -50,15 +50,17 @@ place_in (x ∷ xs) y = if is_lt (compared x.outcome y) then suc (place_in xs y)
 -- ---- what is listed
 
 -- the order is one of two cores, both have ended after it, and this is its outcome
-pub record IsReal (P : Chip State) (o : Opening State) (addresses : List ℕ) (x : Found)
-    : Type 0 where
+pub record IsReal (P : Chip State) (timed : Bool) (o : Opening State) (addresses : List ℕ)
+    (x : Found) : Type 0 where
   pub order : IsOrder x.order.items
-  pub ended : have_ended (timed_world_after P o x.order.items) ≡ true
-  pub outcome : x.outcome ≡ outcome_in addresses (timed_world_after P o x.order.items)
+  pub ended : have_ended timed (world_after P timed o x.order.items) ≡ true
+  pub outcome : x.outcome ≡ outcome_in addresses (world_after P timed o x.order.items)
 
-abbrev pub AreReal : Chip State → Opening State → List ℕ → List Found → Type 0
-AreReal P o addresses [] = Unit {0}
-AreReal P o addresses (x ∷ xs) = IsReal P o addresses x × AreReal P o addresses xs
+abbrev pub AreReal :
+    Chip State → (timed : Bool) → Opening State → List ℕ → List Found → Type 0
+AreReal P timed o addresses [] = Unit {0}
+AreReal P timed o addresses (x ∷ xs) =
+    IsReal P timed o addresses x × AreReal P timed o addresses xs
 
 -- one of them has this outcome
 abbrev pub Lists : List Found → Outcome → Type 0
@@ -66,7 +68,8 @@ Lists [] y = ⊥
 Lists (x ∷ xs) y = (x.outcome ≡ y) ⊎ Lists xs y
 
 -- the outcome of each order after which both cores have ended is listed
-abbrev pub HasAllOutcomes : Chip State → Opening State → List ℕ → List Found → Type 0
-HasAllOutcomes P o addresses xs =
-    (order : List ℕ) → IsOrder order → have_ended (timed_world_after P o order) ≡ true
-    → Lists xs (outcome_in addresses (timed_world_after P o order))
+abbrev pub HasAllOutcomes :
+    Chip State → (timed : Bool) → Opening State → List ℕ → List Found → Type 0
+HasAllOutcomes P timed o addresses xs =
+    (order : List ℕ) → IsOrder order → have_ended timed (world_after P timed o order) ≡ true
+    → Lists xs (outcome_in addresses (world_after P timed o order))

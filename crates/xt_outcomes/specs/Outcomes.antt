@@ -10,10 +10,10 @@ use Rattle.xt_trace.specs.declared.trace.Stop.{Stop}
 use Rattle.xt_trace.specs.Chip.{Chip}
 use Rattle.xt_trace.specs.Runs.{Opening}
 use Rattle.xt_trace.specs.Traces.{has_stopped, stop_of}
-use Rattle.xt_trace.specs.Worlds.{World}
+use Rattle.xt_trace.specs.Worlds.{Core, World}
 use Rattle.xt_exec.specs.State.{State}
 use Rattle.xt_search.specs.Worlds.{IsOrder}
-use Rattle.xt_outcomes.specs.Orders.{timed_world_after, world_after}
+use Rattle.xt_outcomes.specs.Orders.{world_after}
 
 -- how both cores ended, what was sent, and the values of the chosen words
 pub record Outcome : Type 0 where
@@ -35,24 +35,23 @@ outcome_in addresses w = record {
   words = map (λ a. number_at w.line.memory a 4) addresses;
 }
 
--- both cores have stopped by BREAK
-abbrev pub have_stopped : {S : Type 0} → World S → Bool
-have_stopped w = has_stopped w.core0.records && has_stopped w.core1.records
+-- A core has ended where it has stopped by BREAK. Timed, it has ended where it has no turn left,
+-- since it has stopped or has made all of them.
+abbrev pub core_ended : {S : Type 0} (timed : Bool) → Core S → Bool
+core_ended true k = k.left == 0
+core_ended false k = has_stopped k.records
 
--- timed: neither core has a turn left, since it has stopped or has made all of them
-abbrev pub have_ended : {S : Type 0} → World S → Bool
-have_ended w = w.core0.left == 0 && w.core1.left == 0
+abbrev pub have_ended : {S : Type 0} (timed : Bool) → World S → Bool
+have_ended timed w = core_ended timed w.core0 && core_ended timed w.core1
 
--- no order that begins with this one ends with both cores stopped
-abbrev pub IsStuck : {S : Type 0} (P : Chip S) → Opening S → List ℕ → Type 0
-IsStuck P o order = (more : List ℕ) → have_stopped (world_after P o (order ++ more)) ≡ false
+-- no order that begins with this one ends with both cores ended
+abbrev pub IsStuck : {S : Type 0} (P : Chip S) (timed : Bool) → Opening S → List ℕ → Type 0
+IsStuck P timed o order =
+    (more : List ℕ) → have_ended timed (world_after P timed o (order ++ more)) ≡ false
 
--- timed: no order that begins with this one ends with both cores ended
-abbrev pub IsTimedStuck : {S : Type 0} (P : Chip S) → Opening S → List ℕ → Type 0
-IsTimedStuck P o order = (more : List ℕ) → have_ended (timed_world_after P o (order ++ more)) ≡ false
-
--- timed: each order can be continued until both cores have ended
-abbrev pub CanAllEnd : {S : Type 0} (P : Chip S) → Opening S → Type 0
-CanAllEnd P o =
+-- each order can be continued until both cores have ended
+abbrev pub CanAllEnd : {S : Type 0} (P : Chip S) (timed : Bool) → Opening S → Type 0
+CanAllEnd P timed o =
     (order : List ℕ) → IsOrder order
-    → (more : List ℕ) × IsOrder more × (have_ended (timed_world_after P o (order ++ more)) ≡ true)
+    → (more : List ℕ) × IsOrder more
+    × (have_ended timed (world_after P timed o (order ++ more)) ≡ true)

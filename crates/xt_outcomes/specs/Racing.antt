@@ -1,22 +1,23 @@
--- Races of the next turns of both cores after any order, timed ('profile').
-use Rattle.std.specs.Prelude.{◌≡◌, ℕ, List}
+-- Races of the next turns of both cores after any order ('profile').
+use Rattle.std.specs.Prelude.{◌≡◌, ℕ, Bool, List}
 use Rattle.xt_map.specs.declared.access.Access.{Access}
 use Rattle.xt_trace.specs.Runs.{Opening}
 use Rattle.xt_exec.specs.Chips.{processor}
 use Rattle.xt_exec.specs.State.{State}
 use Rattle.xt_search.specs.Worlds.{IsOrder}
-use Rattle.xt_outcomes.specs.NextRaces.{IsTimedNextRace}
-use Rattle.xt_outcomes.specs.Orders.{timed_world_after}
+use Rattle.xt_outcomes.specs.NextRaces.{IsNextRace}
+use Rattle.xt_outcomes.specs.Orders.{world_after}
 use Rattle.xt_outcomes.specs.declared.races.NextRace.{NextRace}
 
 -- after this order the next turns make these accesses, which conflict
-pub record IsRaceAfter (code : ℕ → ℕ) (o : Opening State) (r : NextRace) : Type 0 where
+pub record IsRaceAfter (code : ℕ → ℕ) (timed : Bool) (o : Opening State) (r : NextRace)
+    : Type 0 where
   pub order : IsOrder r.order.items
-  pub race : IsTimedNextRace code (timed_world_after (processor code) o r.order.items) r.access0
+  pub race : IsNextRace code timed (world_after (processor code) timed o r.order.items) r.access0
       r.access1
 
 -- no order leads to a race
-abbrev pub HasNoRace : (ℕ → ℕ) → Opening State → Type 0
-HasNoRace code o =
+abbrev pub HasNoRace : (ℕ → ℕ) → (timed : Bool) → Opening State → Type 0
+HasNoRace code timed o =
     (order : List ℕ) (a b : Access) → IsOrder order
-    → IsTimedNextRace code (timed_world_after (processor code) o order) a b → ⊥
+    → IsNextRace code timed (world_after (processor code) timed o order) a b → ⊥

@@ -14,7 +14,7 @@ use Rattle.xt_race.specs.Clashes.{clash}
 use Rattle.xt_race.specs.Races.{order_of}
 use Rattle.xt_outcomes.specs.Spots.{Side, Spot}
 
--- `timed_next_access` of the core
+-- `next_access` of the core
 abbrev pub next_of : (ℕ → ℕ) → Side State → Option Access
 next_of code s = if s.left == 0 then None else demand code s.state
 
@@ -36,7 +36,7 @@ event_at code core s m a = record {
   order = order_of (fetched code s.state.control.pc);
 }
 
--- `IsTimedNextRace` of the world
+-- `IsNextRace` of the world
 pub record IsSpotRace (code : ℕ → ℕ) (p : Spot State) (a b : Access) : Type 0 where
   pub next0 : next_of code p.side0 ≡ Some a
   pub next1 : next_of code p.side1 ≡ Some b

@@ -1,11 +1,16 @@
 -- Carries a proof; nothing that a reader must believe.
 -- What a search keeps of a world: both cores without their records, and memory without its history.
-use Rattle.std.specs.Prelude.{ℕ, zero, suc, Bool, ◌||◌, List, [], ◌∷◌}
+-- Where it is not timed, time is left out, and in place of the turns that are left stands whether
+-- there is one: none after a stop.
+use Rattle.std.specs.Prelude.{ℕ, zero, suc, Bool, true, false, ◌==◌, ◌&&◌, ◌||◌, not, List, [], ◌∷◌}
+use Rattle.std.specs.Prelude.{if◌then◌else◌}
 use Rattle.xt_map.specs.declared.contents.MemoryContents.{MemoryContents}
 use Rattle.xt_trace.specs.Calls.{is_stop}
 use Rattle.xt_trace.specs.Chip.{Chip}
 use Rattle.xt_trace.specs.Traces.{has_stopped}
 use Rattle.xt_trace.specs.Worlds.{Core, World, answer, left_past, memory_left}
+use Rattle.xt_exec.specs.State.{State}
+use Rattle.xt_timeless.specs.Time.{uses_time, without_time}
 
 -- a core: its state, the turns that it has left, and whether it has stopped
 pub record Side (S : Type 0) : Type 0 where
@@ -18,48 +23,80 @@ pub record Spot (S : Type 0) : Type 0 where
   pub side1 : Side S
   pub memory : MemoryContents
 
-abbrev pub side_in : {S : Type 0} → Core S → Side S
-side_in k = record { state = k.state; left = k.left; stopped = has_stopped k.records }
+-- ---- what is kept of a core
 
-abbrev pub spot_in : {S : Type 0} → World S → Spot S
-spot_in w = record {
-  side0 = side_in w.core0;
-  side1 = side_in w.core1;
+abbrev pub state_kept : (timed : Bool) → State → State
+state_kept true s = s
+state_kept false s = without_time s
+
+-- the turns that it has left, of a core that has so many and has stopped or not
+abbrev pub left_kept : (timed : Bool) → ℕ → Bool → ℕ
+left_kept true n stopped = n
+left_kept false n stopped = if stopped then 0 else 1
+
+-- those that are left after a turn, of so many more
+abbrev pub more_kept : (timed : Bool) → ℕ → ℕ
+more_kept true n = n
+more_kept false n = 1
+
+abbrev pub side_in : (timed : Bool) → Core State → Side State
+side_in timed k = record {
+  state = state_kept timed k.state;
+  left = left_kept timed k.left (has_stopped k.records);
+  stopped = has_stopped k.records;
+}
+
+abbrev pub spot_in : (timed : Bool) → World State → Spot State
+spot_in timed w = record {
+  side0 = side_in timed w.core0;
+  side1 = side_in timed w.core1;
   memory = w.line.memory;
 }
 
 -- ---- one turn
 
 -- a core after a turn with this reply, with so many turns left after it
-abbrev pub side_past : {S : Type 0} (P : Chip S) → Side S → ℕ → ℕ → Side S
-side_past P s n reply = let t = P.turn s.state reply in record {
-  state = t.1;
-  left = left_past t.0 n;
+abbrev pub side_past : (P : Chip State) (timed : Bool) → Side State → ℕ → ℕ → Side State
+side_past P timed s n reply = let t = P.turn s.state reply in record {
+  state = state_kept timed t.1;
+  left = left_past t.0 (more_kept timed n);
   stopped = s.stopped || is_stop t.0.kind;
 }
 
 -- a core that has so many turns left after its next one, or none where it has ended
-abbrev pub side_given : {S : Type 0} (P : Chip S) → ℕ → Side S → MemoryContents → Side S
-side_given P zero s m = s
-side_given P (suc n) s m = side_past P s n (answer (P.demand s.state) m)
+abbrev pub side_given :
+    (P : Chip State) (timed : Bool) → ℕ → Side State → MemoryContents → Side State
+side_given P timed zero s m = s
+side_given P timed (suc n) s m = side_past P timed s n (answer (P.demand s.state) m)
 
-abbrev pub memory_given : {S : Type 0} (P : Chip S) → ℕ → S → MemoryContents → MemoryContents
+abbrev pub memory_given : (P : Chip State) → ℕ → State → MemoryContents → MemoryContents
 memory_given P zero s m = m
 memory_given P (suc n) s m = memory_left (P.demand s) m
 
 -- one turn of a core, or nothing where it has ended
-abbrev pub spot_past : {S : Type 0} (P : Chip S) → ℕ → Spot S → Spot S
-spot_past P zero w = record {
-  side0 = side_given P w.side0.left w.side0 w.memory;
+abbrev pub spot_past : (P : Chip State) (timed : Bool) → ℕ → Spot State → Spot State
+spot_past P timed zero w = record {
+  side0 = side_given P timed w.side0.left w.side0 w.memory;
   side1 = w.side1;
   memory = memory_given P w.side0.left w.side0.state w.memory;
 }
-spot_past P (suc c) w = record {
+spot_past P timed (suc c) w = record {
   side0 = w.side0;
-  side1 = side_given P w.side1.left w.side1 w.memory;
+  side1 = side_given P timed w.side1.left w.side1 w.memory;
   memory = memory_given P w.side1.left w.side1.state w.memory;
 }
 
-abbrev pub spot_after : {S : Type 0} (P : Chip S) → List ℕ → Spot S → Spot S
-spot_after P [] w = w
-spot_after P (c ∷ cs) w = spot_after P cs (spot_past P c w)
+-- ---- turns that use time
+
+abbrev pub side_of : {S : Type 0} → ℕ → Spot S → Side S
+side_of zero w = w.side0
+side_of (suc c) w = w.side1
+
+-- a turn that is left uses time, which plays no part where the search is timed
+abbrev pub side_bars : (code : ℕ → ℕ) (timed : Bool) → Side State → Bool
+side_bars code true s = false
+side_bars code false s = not (s.left == 0) && uses_time code s.state
+
+abbrev pub spot_after : (P : Chip State) (timed : Bool) → List ℕ → Spot State → Spot State
+spot_after P timed [] w = w
+spot_after P timed (c ∷ cs) w = spot_after P timed cs (spot_past P timed c w)

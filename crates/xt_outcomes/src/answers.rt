@@ -1,6 +1,6 @@
 //! What is found of all orders.
-ghost use Rattle.std.specs.Prelude.{◌≡◌, ◌+◌, ◌≤◌, ◌^◌, true, IfOk, IfSome, IfNone};
-ghost use Rattle.std.specs.List.{All};
+ghost use Rattle.std.specs.Prelude.{◌≡◌, ◌+◌, ◌≤◌, ◌^◌, IfOk, IfSome, IfNone};
+ghost use Rattle.std.specs.List.{All as Each};
 ghost use Rattle.xt_map.specs.Placing.{IsPlaced};
 ghost use Rattle.xt_trace.specs.Validity.{IsValid};
 ghost use Rattle.xt_image.specs.Parts.{FitsImage};
@@ -9,28 +9,74 @@ ghost use Rattle.xt_core.specs.Runs.{code_of, opening_of};
 ghost use Rattle.xt_search.specs.Graphs.{IsWhole};
 ghost use Rattle.xt_search.specs.Worlds.{IsOrder};
 ghost use Rattle.xt_outcomes.specs.Answered.{AreAnswers};
-ghost use Rattle.xt_outcomes.specs.Outcomes.{CanAllEnd, IsTimedStuck};
+ghost use Rattle.xt_map.specs.declared.contents.MemoryContents.{MemoryContents};
+ghost use Rattle.xt_outcomes.specs.Ended.{IsEnding};
+ghost use Rattle.xt_outcomes.specs.Kept.{spot_of};
+ghost use Rattle.xt_outcomes.specs.Outcomes.{CanAllEnd, IsStuck};
+ghost use Rattle.xt_outcomes.specs.Spots.{side_of};
+ghost use Rattle.xt_outcomes.specs.declared.answers.Ending.TheVariants.{All};
 ghost use Rattle.xt_outcomes.specs.Searched.{IsSearch};
 
-use crate::found::{Search, is_whole, search_timed};
+use crate::found::{Search, is_whole, search_orders};
 use crate::listing::{Found, outcomes_of};
 use crate::races::{NextRace, race_of};
 use crate::stuck::stuck_of;
+use crate::world::World;
 use std::alloc::{AllocError, Global};
 use xt_image::Image;
 use xt_trace::Options;
+
+/// How a search of all orders ended.
+#[derive(Clone, Copy, Debug, PartialEq, Eq)]
+pub enum Ending {
+    /// The worlds after all orders were found.
+    All,
+    /// As many worlds are kept as may be.
+    States,
+    /// Where time is left out: a turn uses it, of this core at this address.
+    Time(u8, u32),
+}
 
 /// What was found of the orders of an image's turns.
 #[derive(Drop)]
 pub struct Answers {
     /// The outcomes in rising order.
     pub found: Vec<Found>,
-    /// Whether the worlds after all orders were found.
-    pub whole: bool,
+    /// How the search ended.
+    pub ended: Ending,
     /// An order after which the cores never both end, if one was found.
     pub stuck: Option<Vec<u8>>,
     /// A race, if one was found.
     pub race: Option<NextRace>,
+}
+
+// The program counter of a core.
+fn pc_in(world: &World, core: u8) -> u32
+    ensures { (m : MemoryContents) → result ≡ (side_of core (spot_of m world.now)).state.control.pc }
+{
+    if core == 0 {
+        world.side0.pc()
+    } else {
+        world.side1.pc()
+    }
+}
+
+// How the search ended.
+fn ending_of(image: &Image, options: &Options, search: &Search) -> Ending
+    requires search { IsSearch image.now options.now search.now }
+    ensures ending { IsEnding (code_of image.now) search.now.machine.timed (opening_of image.now options.now) result }
+    ensures all { result ≡ All → IsWhole search.now.graph }
+{
+    if is_whole(image, options, search) {
+        return Ending::All;
+    }
+    match search.graph.barred {
+        Some(barred) => {
+            let pc = pc_in(&search.graph.kept[barred.from].world, barred.core);
+            Ending::Time(barred.core, pc)
+        }
+        None => Ending::States,
+    }
 }
 
 // An order after which the cores never both end; it is looked for only where the search came to its
@@ -40,24 +86,24 @@ fn stuck_where(
     image: &Image,
     options: &Options,
     search: &Search,
-    whole: bool,
+    ended: Ending,
 ) -> Result<Option<Vec<u8>>, AllocError>
     requires search { IsSearch image.now options.now search.now }
-    requires whole { whole ≡ true → IsWhole search.now.graph }
+    requires whole { ended ≡ All → IsWhole search.now.graph }
     ensures order { IfOk result (λ r. IfSome r (λ v. IsOrder v.items)) }
-    ensures stuck { IfOk result (λ r. IfSome r (λ v. IsTimedStuck (processor (code_of image.now)) (opening_of image.now options.now) v.items)) }
-    ensures none { IfOk result (λ r. whole ≡ true → IfNone r (CanAllEnd (processor (code_of image.now)) (opening_of image.now options.now))) }
+    ensures stuck { IfOk result (λ r. IfSome r (λ v. IsStuck (processor (code_of image.now)) search.now.machine.timed (opening_of image.now options.now) v.items)) }
+    ensures none { IfOk result (λ r. ended ≡ All → IfNone r (CanAllEnd (processor (code_of image.now)) search.now.machine.timed (opening_of image.now options.now))) }
 {
-    if whole {
-        stuck_of(alloc, image, options, search)
-    } else {
-        Ok(None)
+    match ended {
+        Ending::All => stuck_of(alloc, image, options, search),
+        Ending::States => Ok(None),
+        Ending::Time(_, _) => Ok(None),
     }
 }
 
-/// What can be said of all orders of an image's turns, with the turns that the options give, where at
-/// most so many worlds are kept. Outcomes have the words at these addresses. The only error is running
-/// out of memory.
+/// What can be said of all orders of an image's turns, where at most so many worlds are kept: timed,
+/// with the turns that the options give, or with any number of turns. Outcomes have the words at these
+/// addresses. The only error is running out of memory.
 ///
 /// Conditions: the options are valid, the image's segments lie in one region each and share no byte, as
 /// those of every image that was read, and each address lies at least 4 below 2^32.
@@ -65,23 +111,24 @@ pub fn answers_of(
     alloc: Global,
     image: &Image,
     options: &Options,
+    timed: bool,
     words: &[u32],
     most: u32,
 ) -> Result<Answers, AllocError>
     requires valid { IsValid options.now }
     requires fits { FitsImage image.now }
     requires placed { IsPlaced image.now.segments }
-    requires words { All (λ a. a + 4 ≤ 2 ^ 32) words.now }
-    ensures { IfOk result (λ a. AreAnswers image.now options.now words.now a) }
+    requires words { Each (λ a. a + 4 ≤ 2 ^ 32) words.now }
+    ensures { IfOk result (λ a. AreAnswers image.now options.now timed words.now a) }
 {
-    let search = search_timed(alloc, image, options, most)?;
-    let whole = is_whole(image, options, &search);
+    let search = search_orders(alloc, image, options, timed, most)?;
+    let ended = ending_of(image, options, &search);
     let found = outcomes_of(alloc, image, options, &search, words)?;
-    let stuck = stuck_where(alloc, image, options, &search, whole)?;
+    let stuck = stuck_where(alloc, image, options, &search, ended)?;
     let race = race_of(alloc, image, options, &search)?;
     Ok(Answers {
         found,
-        whole,
+        ended,
         stuck,
         race,
     })

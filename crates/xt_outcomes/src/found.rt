@@ -1,9 +1,11 @@
-//! A search over all orders of the runs of an image, with the turns that the options give.
-ghost use Rattle.std.specs.Prelude.{◌≡◌, ◌<◌, ◌≤◌, ◌⊎◌, true, IfOk, length};
+//! A search over all orders of the runs of an image.
+ghost use Rattle.std.specs.Prelude.{◌≡◌, ◌<◌, ◌≤◌, ◌⊎◌, true, IfOk, IfNone, length};
 ghost use Rattle.xt_map.specs.Placing.{IsPlaced};
 ghost use Rattle.xt_trace.specs.Validity.{IsValid};
 ghost use Rattle.xt_image.specs.Parts.{FitsImage};
-ghost use Rattle.xt_search.specs.Graphs.{IsWhole};
+ghost use Rattle.xt_map.specs.Memory.{constant_byte};
+ghost use Rattle.xt_outcomes.specs.Kept.{Leads};
+ghost use Rattle.xt_search.specs.Graphs.{IsWhole, LeadsTo};
 ghost use Rattle.xt_search.specs.Worlds.{IsOrder};
 ghost use Rattle.xt_outcomes.specs.Searched.{HasAllOrders, IsFoundBy, IsSearch};
 
@@ -23,27 +25,29 @@ pub struct Search<'a> {
     pub graph: Graph<World>,
 }
 
-/// Searches the worlds after all orders, and keeps at most so many. The only error is running out of
-/// memory.
-pub fn search_timed<'a>(
+/// Searches the worlds after all orders, and keeps at most so many: timed, with the turns that the
+/// options give, or with any number of turns and without time. The only error is running out of memory.
+pub fn search_orders<'a>(
     alloc: Global,
     image: &'a Image,
     options: &Options,
+    timed: bool,
     most: u32,
 ) -> Result<Search<'a>, AllocError>
     requires valid { IsValid options.now }
     requires fits { FitsImage image.now }
     requires placed { IsPlaced image.now.segments }
     ensures search { IfOk result (λ s. IsSearch image.now options.now s) }
-    ensures ended { IfOk result (λ s. IsWhole s.graph ⊎ (most ≤ length s.graph.kept.items)) }
+    ensures timed { IfOk result (λ s. s.machine.timed ≡ timed) }
+    ensures ended { IfOk result (λ s. IfNone s.graph.barred (IsWhole s.graph ⊎ (most ≤ length s.graph.kept.items))) }
 {
-    let machine = Timed::make(alloc, image, options)?;
+    let machine = Timed::make(alloc, image, options, timed)?;
     let mut desk = Desk::make(alloc, options)?;
     let graph = search(
         alloc,
         &machine,
         &mut desk,
-        open(alloc, image, options),
+        open(alloc, image, options, timed),
         most,
     )?;
     Ok(Search { machine, graph })
@@ -60,6 +64,7 @@ pub fn order_of(
     requires search { IsSearch image.now options.now search.now }
     requires number { number < length search.now.graph.kept.items }
     ensures order { IfOk result (λ v. IsOrder v.items) }
+    ensures leads { IfOk result (λ v. LeadsTo (Leads (constant_byte search.now.machine.code) search.now.machine.timed search.now.machine.opening.contents) search.now.graph v.items number) }
     ensures found { IfOk result (λ v. IsFoundBy image.now options.now search.now v.items number) }
 {
     order_to(alloc, &search.machine, &search.graph, number)

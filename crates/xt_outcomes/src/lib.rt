@@ -15,8 +15,8 @@ mod timed;
 mod turns;
 mod world;
 
-pub use answers::{Answers, answers_of};
-pub use found::{Search, is_whole, order_of, search_timed};
+pub use answers::{Answers, Ending, answers_of};
+pub use found::{Search, is_whole, order_of, search_orders};
 pub use laws::spots_follow_orders;
 pub use listing::{Found, outcomes_of};
 pub use opening::open;

@@ -67,7 +67,7 @@ fn add(
     requires search { IsSearch image.now options.now search.now }
     requires number { number < length search.now.graph.kept.items }
     requires words { All (λ a. a + 4 ≤ 2 ^ 32) words.now }
-    ensures { OnOk result ((w : World) → IsAt search.now.graph.kept.items number w → IsAdded (processor (code_of image.now)) (opening_of image.now options.now) words.now (spot_of (memory_of image.now options.now) w) list.old.items list.new.items) }
+    ensures { OnOk result ((w : World) → IsAt search.now.graph.kept.items number w → IsAdded (processor (code_of image.now)) search.now.machine.timed (opening_of image.now options.now) words.now (spot_of (memory_of image.now options.now) w) list.old.items list.new.items) }
 {
     let world = &search.graph.kept[number].world;
     if !search.machine.is_end(world) {
@@ -96,8 +96,8 @@ pub fn outcomes_of(
 ) -> Result<Vec<Found>, AllocError>
     requires search { IsSearch image.now options.now search.now }
     requires words { All (λ a. a + 4 ≤ 2 ^ 32) words.now }
-    ensures real { IfOk result (λ v. AreReal (processor (code_of image.now)) (opening_of image.now options.now) words.now v.items) }
-    ensures all { IfOk result (λ v. IsWhole search.now.graph → HasAllOutcomes (processor (code_of image.now)) (opening_of image.now options.now) words.now v.items) }
+    ensures real { IfOk result (λ v. AreReal (processor (code_of image.now)) search.now.machine.timed (opening_of image.now options.now) words.now v.items) }
+    ensures all { IfOk result (λ v. IsWhole search.now.graph → HasAllOutcomes (processor (code_of image.now)) search.now.machine.timed (opening_of image.now options.now) words.now v.items) }
     ensures rising { IfOk result (λ v. IsRising v.items) }
 {
     let mut list = Vec::new(alloc);

@@ -16,13 +16,13 @@ use xt_trace::Options;
 /// The world in which the runs of an image open.
 ///
 /// Condition: the options are valid.
-pub fn open(alloc: Global, image: &Image, options: &Options) -> World
+pub fn open(alloc: Global, image: &Image, options: &Options, timed: bool) -> World
     requires { IsValid options.now }
-    ensures { spot_of (memory_of image.now options.now) result ≡ spot_in (opened (opening_of image.now options.now)) }
+    ensures { spot_of (memory_of image.now options.now) result ≡ spot_in timed (opened (opening_of image.now options.now)) }
 {
     World {
-        side0: Side::open(0, image.entry, options),
-        side1: Side::open(1, options.entry1, options),
+        side0: Side::open(0, image.entry, options, timed),
+        side1: Side::open(1, options.entry1, options, timed),
         changes: Changes::new(alloc),
     }
 }

@@ -11,8 +11,6 @@ ghost use Rattle.xt_changes.specs.Changed.{contents_of};
 ghost use Rattle.xt_search.specs.Graphs.{IsWhole};
 ghost use Rattle.xt_search.specs.Worlds.{IsOrder};
 ghost use Rattle.xt_outcomes.specs.Kept.{spot_of};
-ghost use Rattle.xt_outcomes.specs.NextRaces.{IsTimedNextRace};
-ghost use Rattle.xt_outcomes.specs.Orders.{timed_world_after};
 ghost use Rattle.xt_outcomes.specs.Racing.{HasNoRace, IsRaceAfter};
 ghost use Rattle.xt_outcomes.specs.Searched.{IsSearch};
 ghost use Rattle.xt_outcomes.specs.SpotRaces.{IsSpotRace, event_at, next_of};
@@ -104,8 +102,8 @@ fn race_in(machine: &Timed, desk: &mut Desk, world: &World) -> Option<(Access, A
     }
 }
 
-/// A race of the next turns of both cores after one of the orders that were found; None: where the
-/// search came to its end, no order leads to one. The only error is running out of memory.
+/// A race of the next turns of both cores after one of the orders whose next turns were made; None:
+/// where the search came to its end, no order leads to one. The only error is running out of memory.
 ///
 /// Condition: the options are valid.
 pub fn race_of(
@@ -116,11 +114,11 @@ pub fn race_of(
 ) -> Result<Option<NextRace>, AllocError>
     requires search { IsSearch image.now options.now search.now }
     requires valid { IsValid options.now }
-    ensures race { IfOk result (λ r. IfSome r (λ x. IsRaceAfter (code_of image.now) (opening_of image.now options.now) x)) }
-    ensures none { IfOk result (λ r. IsWhole search.now.graph → IfNone r (HasNoRace (code_of image.now) (opening_of image.now options.now))) }
+    ensures race { IfOk result (λ r. IfSome r (λ x. IsRaceAfter (code_of image.now) search.now.machine.timed (opening_of image.now options.now) x)) }
+    ensures none { IfOk result (λ r. IsWhole search.now.graph → IfNone r (HasNoRace (code_of image.now) search.now.machine.timed (opening_of image.now options.now))) }
 {
     let mut desk = Desk::make(alloc, options)?;
-    for number in 0..search.graph.kept.len() {
+    for number in 0..search.graph.nexts.len() {
         let found = race_in(&search.machine, &mut desk, &search.graph.kept[number].world);
         if let Some((access0, access1)) = found {
             let order = order_of(alloc, image, options, search, number)?;

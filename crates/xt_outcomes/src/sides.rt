@@ -1,6 +1,7 @@
 //! A core between two turns.
 ghost use Rattle.std.specs.Prelude.{◌≡◌, ◌<◌, true, length};
 
+use crate::turns::regs_kept;
 use std::marker::Model;
 use xt_exec::Regs;
 use xt_special::{Ps, Special};
@@ -73,23 +74,25 @@ impl Side {
     ghost use Rattle.xt_trace.specs.Traces.{stop_where};
     ghost use Rattle.xt_trace.specs.Validity.{IsValid};
     ghost use Rattle.xt_core.specs.Runs.{opening_at, turns_of};
+    ghost use Rattle.xt_outcomes.specs.Spots.{left_kept, state_kept};
 
     /// A core that opens at `pc`, with this core's turns and stack of the options.
     ///
     /// Conditions: the core is 0 or 1, and the options are valid.
-    pub fn open(core: u8, pc: u32, options: &Options) -> Side
+    pub fn open(core: u8, pc: u32, options: &Options, timed: bool) -> Side
         requires core { core < 2 }
         requires valid { IsValid options.now }
-        ensures { result ≡ record { state = opening_at core pc options.now; left = turns_of core options.now; stopped = false } }
+        ensures { result ≡ record { state = state_kept timed (opening_at core pc options.now); left = left_kept timed (turns_of core options.now) false; stopped = false } }
     {
         let (turns, stack) = if core == 0 {
             (options.turns0, options.stack0)
         } else {
             (options.turns1, options.stack1)
         };
+        let regs = Regs::open(core, pc, options.vecbase, stack.hi, WindowFile::new());
         Side {
-            regs: Regs::open(core, pc, options.vecbase, stack.hi, WindowFile::new()),
-            left: turns,
+            regs: regs_kept(regs, timed),
+            left: if timed { turns } else { 1 },
             stopped: false,
         }
     }

@@ -4,7 +4,7 @@ ghost use Rattle.xt_exec.specs.Chips.{processor};
 ghost use Rattle.xt_core.specs.Runs.{code_of, opening_of};
 ghost use Rattle.xt_search.specs.Graphs.{IsWhole};
 ghost use Rattle.xt_search.specs.Worlds.{IsOrder};
-ghost use Rattle.xt_outcomes.specs.Outcomes.{CanAllEnd, IsTimedStuck};
+ghost use Rattle.xt_outcomes.specs.Outcomes.{CanAllEnd, IsStuck};
 ghost use Rattle.xt_outcomes.specs.Searched.{IsSearch};
 
 use crate::found::{Search, order_of};
@@ -26,8 +26,8 @@ pub fn stuck_of(
     requires search { IsSearch image.now options.now search.now }
     requires whole { IsWhole search.now.graph }
     ensures order { IfOk result (λ r. IfSome r (λ v. IsOrder v.items)) }
-    ensures stuck { IfOk result (λ r. IfSome r (λ v. IsTimedStuck (processor (code_of image.now)) (opening_of image.now options.now) v.items)) }
-    ensures none { IfOk result (λ r. IfNone r (CanAllEnd (processor (code_of image.now)) (opening_of image.now options.now))) }
+    ensures stuck { IfOk result (λ r. IfSome r (λ v. IsStuck (processor (code_of image.now)) search.now.machine.timed (opening_of image.now options.now) v.items)) }
+    ensures none { IfOk result (λ r. IfNone r (CanAllEnd (processor (code_of image.now)) search.now.machine.timed (opening_of image.now options.now))) }
 {
     let marks = marks_of(alloc, &search.machine, &search.graph)?;
     for number in 0..marks.len() {

@@ -3,7 +3,7 @@ ghost use Rattle.std.specs.Prelude.{IfOk};
 ghost use Rattle.xt_trace.specs.Validity.{IsValid};
 ghost use Rattle.xt_image.specs.Parts.{IsWellFormed};
 
-use crate::{answers_of, is_whole, search_timed};
+use crate::{Ending, answers_of, is_whole, search_orders};
 use std::alloc::{AllocError, Global};
 use std::test::Fail;
 use xt_image::{Image, read, well_formed_is_placed};
@@ -59,7 +59,7 @@ fn two_letters_have_25_worlds(rt: HostRuntime) -> Result<(), Fail> {
     let image = image_in(alloc, &LETTER)?;
     let options = options_of(0x40080404)?;
     well_formed_is_placed();
-    let search = search_timed(alloc, &image, &options, 100)?;
+    let search = search_orders(alloc, &image, &options, true, 100)?;
     assert_eq!(rt; search.graph.kept.len(), 25);
     assert_eq!(rt; is_whole(&image, &options, &search), true);
     Ok(())
@@ -73,8 +73,8 @@ fn two_letters_come_out_in_one_way(rt: HostRuntime) -> Result<(), Fail> {
     let image = image_in(alloc, &LETTER)?;
     let options = options_of(0x40080404)?;
     well_formed_is_placed();
-    let answers = answers_of(alloc, &image, &options, &[0x3FFB0000], 100)?;
-    assert_eq!(rt; answers.whole, true);
+    let answers = answers_of(alloc, &image, &options, true, &[0x3FFB0000], 100)?;
+    assert_eq!(rt; answers.ended, Ending::All);
     assert_eq!(rt; answers.found.len(), 1);
     assert_eq!(rt; answers.stuck.is_none(), true);
     assert_eq!(rt; answers.race.is_none(), true);
@@ -86,5 +86,48 @@ fn two_letters_come_out_in_one_way(rt: HostRuntime) -> Result<(), Fail> {
         assert_eq!(rt; found.outcome.stop1(), Stop::Break);
         assert_eq!(rt; found.outcome.words(), &[0]);
     }
+    Ok(())
+}
+
+/// `LETTER` with three other bytes as its first instruction, and the checksum that they need.
+fn letter_with(first: [u8; 3], checksum: u8) -> [u8; 64] {
+    let mut bytes = LETTER;
+    bytes[36] = first[0];
+    bytes[37] = first[1];
+    bytes[38] = first[2];
+    bytes[63] = checksum;
+    bytes
+}
+
+/// Without time: how the search ended, how many worlds and outcomes it found, and whether an order is
+/// stuck.
+fn untimed(alloc: Global, bytes: &[u8; 64]) -> Result<(Ending, usize, usize, bool), Fail> {
+    let image = image_in(alloc, bytes)?;
+    let options = options_of(0x40080404)?;
+    well_formed_is_placed();
+    let search = search_orders(alloc, &image, &options, false, 100)?;
+    let answers = answers_of(alloc, &image, &options, false, &[], 100)?;
+    let stuck = answers.stuck.is_some();
+    Ok((
+        answers.ended,
+        search.graph.kept.len(),
+        answers.found.len(),
+        stuck,
+    ))
+}
+
+/// Each core sends A and stops; goes round at `j 0x40080404`, which is one world without time; and
+/// executes `rsr.ccount a2`, which uses time.
+#[test]
+fn time_is_left_out(rt: HostRuntime) -> Result<(), Fail> {
+    let alloc = rt.alloc();
+    let round = letter_with([0x06, 0xFF, 0xFF], 0x30);
+    let count = letter_with([0x20, 0xEA, 0x03], 0xFF);
+    assert_eq!(rt; untimed(alloc, &LETTER)?, (Ending::All, 25, 1, false));
+    assert_eq!(rt; untimed(alloc, &round)?, (Ending::All, 1, 0, true));
+    assert_eq!(rt;
+        untimed(alloc, &count)?,
+        (Ending::Time(0, 0x40080404), 1, 0, false)
+    );
     Ok(())
 }

@@ -10,14 +10,18 @@ ghost use Rattle.xt_exec.specs.Chips.{processor};
 ghost use Rattle.xt_exec.specs.Turn.{demand};
 ghost use Rattle.xt_core.specs.Cores.{turned};
 ghost use Rattle.xt_outcomes.specs.SpotRaces.{next_of};
-ghost use Rattle.xt_outcomes.specs.Spots.{memory_given, side_given};
+ghost use Rattle.xt_outcomes.specs.Spots.{memory_given, more_kept, side_bars, side_given, state_kept};
+ghost use Rattle.xt_exec.specs.Laws.{IsShaped};
+ghost use Rattle.xt_exec.specs.States.{file_state};
 
 use crate::sides::Side;
 use std::alloc::{AllocError, Global};
 use xt_bus::Memory;
 use xt_changes::Changes;
 use xt_core::{Begin, Core};
+use xt_exec::Regs;
 use xt_map::{Access, Constants};
+use xt_timeless::{clear_time, uses_time};
 use xt_trace::Options;
 use xt_window::WindowFile;
 
@@ -103,12 +107,32 @@ fn asked(core: &mut Core<WindowFile>, code: &Constants) -> Option<Access>
     }
 }
 
-// The turns that are left after one, of so many.
-fn left_after(left: u32, stops: bool) -> u32
+// The turns that are left after one, of so many. Where it is not timed, one stands for all.
+fn left_after(left: u32, stops: bool, timed: bool) -> u32
     requires { 0 < left }
-    ensures { result ≡ (if stops then 0 else left - 1) }
+    ensures { result ≡ (if stops then 0 else more_kept timed (left - 1)) }
 {
-    if stops { 0 } else { left - 1 }
+    if stops {
+        0
+    } else if timed {
+        left - 1
+    } else {
+        1
+    }
+}
+
+// The registers that are kept: without time, where it is not timed.
+pub(crate) fn regs_kept(regs: Regs<WindowFile>, timed: bool) -> Regs<WindowFile>
+    requires { IsShaped (file_state regs) }
+    ensures state { file_state result ≡ state_kept timed (file_state regs) }
+    ensures shaped { IsShaped (file_state result) }
+{
+    if timed {
+        return regs;
+    }
+    let mut kept = regs;
+    clear_time(&mut kept.sr);
+    kept
 }
 
 // Whether one of them is true.
@@ -131,18 +155,29 @@ impl Side {
         asked(&mut desk.core, code)
     }
 
-    /// The core after its next turn, or as it is where it has ended. The only error is running out of
-    /// memory.
+    /// Whether the core's next turn uses time, where it is not timed.
+    pub fn bars(&self, code: &Constants, timed: bool) -> bool
+        ensures { result ≡ side_bars (constant_byte code.now) timed self.now }
+    {
+        if timed {
+            return false;
+        }
+        self.left != 0 && uses_time(&self.regs, code)
+    }
+
+    /// The core after its next turn, or as it is where it has ended; without time, where it is not
+    /// timed. The only error is running out of memory.
     pub fn turned(
         &self,
         desk: &mut Desk,
         code: &Constants,
         opening: &Memory,
         changes: &mut Changes,
+        timed: bool,
     ) -> Result<Side, AllocError>
         requires sizes { HasSizes opening.now.contents }
         requires bytes { AreBytes (constant_byte code.now) }
-        ensures side { IfOk result (λ s. s ≡ side_given (processor (constant_byte code.now)) self.now.left self.now (contents_of opening.now.contents changes.old)) }
+        ensures side { IfOk result (λ s. s ≡ side_given (processor (constant_byte code.now)) timed self.now.left self.now (contents_of opening.now.contents changes.old)) }
         ensures memory { OnOk result (contents_of opening.now.contents changes.new ≡ memory_given (processor (constant_byte code.now)) self.now.left self.now.state (contents_of opening.now.contents changes.old)) }
     {
         if self.left == 0 {
@@ -152,8 +187,8 @@ impl Side {
         make_turn(&mut desk.core, code, opening, changes)?;
         let stops = desk.core.left() == 0;
         Ok(Side {
-            regs: *desk.core.regs(),
-            left: left_after(self.left, stops),
+            regs: regs_kept(*desk.core.regs(), timed),
+            left: left_after(self.left, stops, timed),
             stopped: is_either(self.stopped, stops),
         })
     }

@@ -1,6 +1,8 @@
 -- Carries a proof; nothing that a reader must believe.
 -- The worlds that a search keeps, and the turns between them.
-use Rattle.std.specs.Prelude.{◌≡◌, ℕ, zero, suc, ◌<◌, ◌≤◌, Some, List, map, length, slice_get}
+use Rattle.std.specs.Prelude.{◌≡◌, ℕ, zero, suc, ◌<◌, ◌≤◌, Bool, true, Some, List, map, length}
+use Rattle.std.specs.Prelude.{slice_get}
+use Rattle.xt_search.specs.declared.graph.Barred.{Barred}
 use Rattle.xt_search.specs.declared.graph.Graph.{Graph}
 use Rattle.xt_search.specs.declared.graph.Kept.{Kept}
 use Rattle.xt_search.specs.declared.graph.Nexts.{Nexts}
@@ -43,6 +45,11 @@ pub record IsGraph {W : Type 0} (Leads : ℕ → W → W → Type 0) (g : Graph 
 -- the first kept world is this one
 abbrev pub OpensWith : {W : Type 0} → Graph W → W → Type 0
 OpensWith g w = IsAt g.kept.items 0 w
+
+-- the search had to end before this turn in a kept world
+abbrev pub IsBarredAt : {W : Type 0} (bars : ℕ → W → Bool) → List (Kept W) → Barred → Type 0
+IsBarredAt {W} bars ks b =
+    (w : W) × IsAt ks b.from w × (b.core < 2) × (bars b.core w ≡ true)
 
 -- every world is kept under the same number as before
 abbrev pub IsMore : {W : Type 0} → Graph W → Graph W → Type 0

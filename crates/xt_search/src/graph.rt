@@ -18,10 +18,19 @@ pub struct Nexts {
     pub by1: u32,
 }
 
-/// The worlds that a search keeps, and of so many of the first ones their next worlds.
+/// A turn before which a search had to end: that of this core in the kept world with this number.
+#[derive(Clone, Copy)]
+pub struct Barred {
+    pub from: usize,
+    pub core: u8,
+}
+
+/// The worlds that a search keeps, of so many of the first ones their next worlds, and the turn before
+/// which the search had to end, if there was one.
 #[derive(Drop)]
 pub struct Graph<W> {
     pub kept: Vec<Kept<W>>,
     pub nexts: Vec<Nexts>,
     pub table: Table,
+    pub barred: Option<Barred>,
 }

@@ -10,7 +10,7 @@ mod seeking;
 mod table;
 
 pub use closing::has_all;
-pub use graph::{Graph, Kept, Nexts};
+pub use graph::{Barred, Graph, Kept, Nexts};
 pub use machine::Machine;
 pub use marks::marks_of;
 pub use orders::order_to;

@@ -1,5 +1,5 @@
 //! What is searched.
-ghost use Rattle.std.specs.Prelude.{◌≡◌, ℕ, Bool, ◌<◌, true, IfOk};
+ghost use Rattle.std.specs.Prelude.{◌≡◌, ℕ, Bool, ◌<◌, true, false, IfOk};
 
 use std::alloc::AllocError;
 
@@ -17,14 +17,24 @@ pub trait Machine {
     /// Whether both cores have ended.
     ghost ends: { Self → Self.World → Bool };
 
-    /// Makes a turn of a core. The only error is running out of memory.
+    /// The search has to end before this core makes its turn in this world.
+    ghost bars: { Self → ℕ → Self.World → Bool };
+
+    /// Whether the search has to end before a core makes its turn.
+    fn is_barred(&self, world: &Self::World, core: u8) -> bool
+        requires { core < 2 }
+        ensures { result ≡ bars self.now core world.now };
+
+    /// Makes a turn of a core, before which the search need not end. The only error is running out of
+    /// memory.
     fn turned(
         &self,
         desk: &mut Self::Desk,
         world: &Self::World,
         core: u8,
     ) -> Result<Self::World, AllocError>
-        requires { core < 2 }
+        requires core { core < 2 }
+        requires free { bars self.now core world.now ≡ false }
         ensures { IfOk result (λ w. Leads self.now core world.now w) };
 
     /// Whether two worlds were seen to be equal.

@@ -1,14 +1,15 @@
 //! The search: it keeps each world once, and asks of each where its turns lead.
-ghost use Rattle.std.specs.Prelude.{◌≡◌, ◌+◌, ◌<◌, ◌≤◌, ◌⊎◌, true, false, IfOk, IfSome, IfNone, OnOk, length, max};
-ghost use Rattle.xt_search.specs.Graphs.{IsAt, IsGraph, IsMore, IsNext, IsWhole, OpensWith};
+ghost use Rattle.std.specs.Prelude.{◌≡◌, ◌+◌, ◌<◌, ◌≤◌, ◌⊎◌, true, false, None, IfOk, IfSome, IfNone, OnOk, length, max};
+ghost use Rattle.xt_search.specs.Graphs.{IsAt, IsBarredAt, IsGraph, IsMore, IsNext, IsWhole, OpensWith};
 
-use crate::graph::{Graph, Kept, Nexts};
+use crate::graph::{Barred, Graph, Kept, Nexts};
 use crate::machine::Machine;
 use crate::table::Table;
 use std::alloc::{AllocError, Global};
 
 // The number of the world to which a turn of a core leads. It is kept from now on, if it was not
-// before; None: it was not, and as many worlds are kept as may be.
+// before; None: it was not, and as many worlds are kept as may be, or the search has to end before this
+// turn.
 fn next<M: Machine>(
     graph: &mut Graph<M::World>,
     machine: &M,
@@ -20,13 +21,20 @@ fn next<M: Machine>(
     requires graph { IsGraph (M.Leads machine.now) graph.old }
     requires from { from < length graph.old.kept.items }
     requires core { core < 2 }
+    requires free { graph.old.barred ≡ None }
     ensures graph { OnOk result (IsGraph (M.Leads machine.now) graph.new) }
     ensures more { OnOk result (IsMore graph.old graph.new) }
     ensures nexts { OnOk result (graph.new.nexts.items ≡ graph.old.nexts.items) }
+    ensures barred { OnOk result (IfSome graph.new.barred (IsBarredAt (M.bars machine.now) graph.new.kept.items)) }
+    ensures free { IfOk result (λ r. IfSome r (λ k. graph.new.barred ≡ None)) }
     ensures most { OnOk result (length graph.new.kept.items ≤ max (length graph.old.kept.items) most) }
-    ensures full { IfOk result (λ r. IfNone r (most ≤ length graph.new.kept.items)) }
+    ensures full { IfOk result (λ r. IfNone r (IfNone graph.new.barred (most ≤ length graph.new.kept.items))) }
     ensures number { IfOk result (λ r. IfSome r (λ k. (w : M.World) → IsAt graph.old.kept.items from w → IsNext (M.Leads machine.now) graph.new.kept.items core w k)) }
 {
+    if machine.is_barred(&graph.kept[from].world, core) {
+        graph.barred = Some(Barred { from, core });
+        return Ok(None);
+    }
     let world = machine.turned(desk, &graph.kept[from].world, core)?;
     let digest = machine.digest(&world);
     if let Some(number) = graph.table.find(machine, &graph.kept, &world, digest) {
@@ -43,7 +51,7 @@ fn next<M: Machine>(
 }
 
 // Finds out where the turns lead from the first world of which this is not known. False: as many
-// worlds are kept as may be.
+// worlds are kept as may be, or the search has to end before one of these turns.
 fn settle<M: Machine>(
     graph: &mut Graph<M::World>,
     machine: &M,
@@ -52,10 +60,13 @@ fn settle<M: Machine>(
 ) -> Result<bool, AllocError>
     requires graph { IsGraph (M.Leads machine.now) graph.old }
     requires left { length graph.old.nexts.items < length graph.old.kept.items }
+    requires free { graph.old.barred ≡ None }
     ensures graph { OnOk result (IsGraph (M.Leads machine.now) graph.new) }
     ensures more { OnOk result (IsMore graph.old graph.new) }
     ensures most { OnOk result (length graph.new.kept.items ≤ max (length graph.old.kept.items) most) }
-    ensures full { IfOk result (λ on. on ≡ false → most ≤ length graph.new.kept.items) }
+    ensures barred { OnOk result (IfSome graph.new.barred (IsBarredAt (M.bars machine.now) graph.new.kept.items)) }
+    ensures free { IfOk result (λ on. on ≡ true → graph.new.barred ≡ None) }
+    ensures full { IfOk result (λ on. on ≡ false → IfNone graph.new.barred (most ≤ length graph.new.kept.items)) }
     ensures one { IfOk result (λ on. on ≡ true → length graph.new.nexts.items ≡ length graph.old.nexts.items + 1) }
 {
     let from = graph.nexts.len();
@@ -81,6 +92,7 @@ fn begun<M: Machine>(
     ensures opens { IfOk result (λ g. OpensWith g opening) }
     ensures one { IfOk result (λ g. length g.kept.items ≡ 1) }
     ensures none { IfOk result (λ g. length g.nexts.items ≡ 0) }
+    ensures free { IfOk result (λ g. g.barred ≡ None) }
 {
     let mut table = Table::new(alloc)?;
     table.add(machine.digest(&opening), 0)?;
@@ -94,6 +106,7 @@ fn begun<M: Machine>(
         kept,
         nexts: Vec::new(alloc),
         table,
+        barred: None,
     })
 }
 
@@ -108,8 +121,9 @@ pub fn search<M: Machine>(
 ) -> Result<Graph<M::World>, AllocError>
     ensures graph { IfOk result (λ g. IsGraph (M.Leads machine.now) g) }
     ensures opens { IfOk result (λ g. OpensWith g opening) }
-    // It ends early only where as many worlds are kept as may be.
-    ensures ended { IfOk result (λ g. IsWhole g ⊎ (most ≤ length g.kept.items)) }
+    // It ends early only where as many worlds are kept as may be, or where it has to before a turn.
+    ensures ended { IfOk result (λ g. IfNone g.barred (IsWhole g ⊎ (most ≤ length g.kept.items))) }
+    ensures barred { IfOk result (λ g. IfSome g.barred (IsBarredAt (M.bars machine.now) g.kept.items)) }
     ensures most { IfOk result (λ g. length g.kept.items ≤ max 1 most) }
 {
     let mut graph = begun(alloc, machine, opening)?;

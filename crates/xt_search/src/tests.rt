@@ -1,5 +1,5 @@
 //! Two cores that each add 1 to a shared number, by a load and a store.
-ghost use Rattle.std.specs.Prelude.{true, ◌==◌, ◌&&◌};
+ghost use Rattle.std.specs.Prelude.{true, false, ◌==◌, ◌&&◌};
 
 use crate::machine::Machine;
 use crate::{has_all, marks_of, order_to, search};
@@ -25,7 +25,13 @@ impl Machine for Adders {
 
     ghost Leads = { λ _ _ _ _. Unit {0} };
 
+    ghost bars = { λ _ _ _. false };
+
     ghost ends = { λ _ w. (w.made0 == 2) && (w.made1 == 2) };
+
+    fn is_barred(&self, _world: &Sum, _core: u8) -> bool {
+        false
+    }
 
     fn turned(&self, _desk: &mut (), world: &Sum, core: u8) -> Result<Sum, AllocError> {
         let mut next = *world;

@@ -10,7 +10,7 @@ use Rattle.xt_outcomes.proofs.listing.outcomes_of.Given as goal
 
 abbrev pub invariant-loop-number : goal.invariant-loop-number
 invariant-loop-number l = record {
-  real : AreReal (processor (code_of l.image)) (opening_of l.image l.options) l.words l.list.items;
+  real : AreReal (processor (code_of l.image)) l.search.machine.timed (opening_of l.image l.options) l.words l.list.items;
   rising : IsRising l.list.items;
   listed : (k : ℕ) (w : World) → k < l.number → IsAt l.search.graph.kept.items k w → has_ended (spot_of (memory_of l.image l.options) w) ≡ true
       → Lists l.list.items (outcome_at l.words (spot_of (memory_of l.image l.options) w));

@@ -8,12 +8,13 @@ use Rattle.xt_core.specs.Runs.{code_of, memory_of, opening_of}
 use Rattle.xt_search.specs.Graphs.{IsAt}
 use Rattle.xt_search.proofs.Numbers.{at_kept, at_once, at_within}
 use Rattle.xt_outcomes.specs.Kept.{spot_of}
-use Rattle.xt_outcomes.specs.Orders.{timed_world_after}
+use Rattle.xt_outcomes.specs.Orders.{world_after}
 use Rattle.xt_outcomes.specs.SpotRaces.{IsSpotRace}
 use Rattle.xt_outcomes.specs.Spots.{Spot}
 use Rattle.xt_outcomes.specs.declared.world.World.{World}
 use Rattle.xt_outcomes.proofs.Continuing.{whole_orders}
-use Rattle.xt_outcomes.proofs.Raced.{race_carried, race_of_spot, spot_of_race}
+use Rattle.xt_outcomes.proofs.Raced.{AreFree, are_free, race_of_spot, spot_of_race}
+use Rattle.xt_outcomes.proofs.Finding.{carried}
 use Rattle.xt_outcomes.proofs.races.race_of.Goals as goal
 
 pub returns-in-Some-clause-race : goal.returns-in-Some-clause-race
@@ -26,15 +27,20 @@ returns-in-Some-clause-race c =
     let x = c.index.result.now in
     let a = c.in-Some.access0 in
     let b = c.in-Some.access1 in
-    let many : c.len-number-end.result ≡ length ks = c.len-number-end.ensures ∙ c.args.search.now.graph.kept.ok.0 in
+    let many : c.len-number-end.result ≡ length s.graph.nexts.items = c.len-number-end.ensures ∙ s.graph.nexts.ok.0 in
     let less : n < c.len-number-end.result = c.loop-number-test.true in
+    let within : length s.graph.nexts.items ≤ length ks = c.requires.search.graph.within in
     let at = at_kept ks n x (slice_get_read ks (length ks) n x refl (omega arith) c.index.ensures) in
     let race : IsSpotRace code (spot_of m x.world) a b =
-    race_carried (λ k l. IsSpotRace k (spot_of l x.world) a b) s.machine.code c.args.image.now.segments s.machine.opening.contents m c.requires.search.code c.requires.search.opening c.in-Some.ensures in
+    carried (λ k l. IsSpotRace k (spot_of l x.world) a b) s.machine.code c.args.image.now.segments s.machine.opening.contents m c.requires.search.code c.requires.search.opening c.in-Some.ensures in
+    let bytes = c.requires.search.bytes in
+    let f = c.in_ok-order.ensures.found x.world at in
+    let free = are_free c.args.image.now c.args.options.now s c.requires.search n x.world (omega arith) at in
     record {
       order = c.in_ok-order.ensures.order;
-      race = race_of_spot code (timed_world_after (processor code) (opening_of c.args.image.now c.args.options.now) c.in_ok-order.order.items) a b
-          (subst (λ (p : Spot State). IsSpotRace code p a b) (c.in_ok-order.ensures.found x.world at) race);
+      race = race_of_spot code bytes s.machine.timed (world_after (processor code) s.machine.timed (opening_of c.args.image.now c.args.options.now) c.in_ok-order.order.items) a b
+          (subst (AreFree code bytes s.machine.timed) f free)
+          (subst (λ (p : Spot State). IsSpotRace code p a b) f race);
     }
 
 pub loop-number-preserved : goal.loop-number-preserved
@@ -44,14 +50,15 @@ loop-number-preserved c = λ k w a b lo at race.
     let m = memory_of c.args.image.now c.args.options.now in
     let s = c.args.search.now in
     let x = c.index.result.now in
-    let many : c.len-number-end.result ≡ length ks = c.len-number-end.ensures ∙ c.args.search.now.graph.kept.ok.0 in
+    let many : c.len-number-end.result ≡ length s.graph.nexts.items = c.len-number-end.ensures ∙ s.graph.nexts.ok.0 in
     let less : n < c.len-number-end.result = c.loop-number-test.true in
+    let within : length s.graph.nexts.items ≤ length ks = c.requires.search.graph.within in
     let here = at_kept ks n x (slice_get_read ks (length ks) n x refl (omega arith) c.index.ensures) in
     ⊎_elim
     (λ (is : k ≡ n).
     let e = at_once ks n w x.world (subst (λ (j : ℕ). IsAt ks j w) is at) here in
     let moved = subst (λ (v : World). IsSpotRace (code_of c.args.image.now) (spot_of m v) a b) e race in
-    c.in_default.ensures a b (race_carried (λ j l. IsSpotRace j (spot_of l x.world) a b) c.args.image.now.segments s.machine.code m s.machine.opening.contents (sym c.requires.search.code) (sym c.requires.search.opening) moved))
+    c.in_default.ensures a b (carried (λ j l. IsSpotRace j (spot_of l x.world) a b) c.args.image.now.segments s.machine.code m s.machine.opening.contents (sym c.requires.search.code) (sym c.requires.search.opening) moved))
     (λ (isnt : k ≢ n).
     let other : ¬ (k ≡ n) = isnt in
     let below : k < n + 1 = lo in
@@ -60,11 +67,16 @@ loop-number-preserved c = λ k w a b lo at race.
 
 pub returns-clause-none : goal.returns-clause-none
 returns-clause-none c = λ whole order a b is race.
-    let ks = c.args.search.now.graph.kept.items in
+    let s = c.args.search.now in
+    let ks = s.graph.kept.items in
     let code = code_of c.args.image.now in
-    let r = whole_orders c.args.image.now c.args.options.now c.args.search.now c.requires.search whole order is in
-    let many : c.len-number-end.result ≡ length ks = c.len-number-end.ensures ∙ c.args.search.now.graph.kept.ok.0 in
+    let bytes = c.requires.search.bytes in
+    let r = whole_orders c.args.image.now c.args.options.now s c.requires.search whole order is in
+    let many : c.len-number-end.result ≡ length s.graph.nexts.items = c.len-number-end.ensures ∙ s.graph.nexts.ok.0 in
     let past : c.len-number-end.result ≤ c.loop-number.number = c.loop-number-test.false in
+    let all : length s.graph.nexts.items ≡ length ks = whole in
     let within : r.0 < length ks = at_within ks r.0 r.1 r.2 in
+    let free = subst (AreFree code bytes s.machine.timed) r.3 (are_free c.args.image.now c.args.options.now s c.requires.search r.0 r.1 (omega arith) r.2) in
     c.loop-number.invariant r.0 r.1 a b (omega arith) r.2
-    (subst (λ (p : Spot State). IsSpotRace code p a b) (sym r.3) (spot_of_race code (timed_world_after (processor code) (opening_of c.args.image.now c.args.options.now) order) a b race))
+    (subst (λ (p : Spot State). IsSpotRace code p a b) (sym r.3)
+    (spot_of_race code bytes s.machine.timed (world_after (processor code) s.machine.timed (opening_of c.args.image.now c.args.options.now) order) a b free race))

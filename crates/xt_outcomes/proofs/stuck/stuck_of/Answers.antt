@@ -13,7 +13,7 @@ returns-then-not-index-clause-stuck c =
     let inside : n < length marks = omega arith in
     let here = slice_get_read marks (length marks) n c.index.result.now refl inside c.index.ensures ∙ ap Some c.if-not-index.true in
     is_stuck c.args.image.now c.args.options.now c.args.search.now c.requires.search marks c.in_ok-marks.ensures c.in_ok-order.order.items n inside
-    here c.in_ok-order.ensures.found
+    here c.in_ok-order.ensures.leads
 
 pub loop-number-preserved : goal.loop-number-preserved
 loop-number-preserved c = λ k lo.

@@ -11,12 +11,12 @@ returns-clause-graph g c =
     let ks = c.args.graph.now.kept.items in
     let ns = c.args.graph.now.nexts.items in
     let x : Kept g.row.M-World.Denot = record { world = c.in_ok-world.world; from = c.args.from; core = c.args.core } in
-    let here = slice_get_read ks (length ks) c.args.from c.index.result.now refl c.requires.from c.index.ensures in
-    let at = at_kept ks c.args.from c.index.result.now here in
+    let here = slice_get_read ks (length ks) c.args.from c.index-2.result.now refl c.requires.from c.index-2.ensures in
+    let at = at_kept ks c.args.from c.index-2.result.now here in
     let long : length c.push.new.self.items ≡ length ks + 1 = ap length c.in_ok-push.ensures.items ∙ length_push ks x in
     let w : length ns ≤ length ks = c.requires.graph.within in
     record {
-      found = found_in (g.M.Machine.Leads c.args.machine.now) ks c.push.new.self.items x c.index.result.now.world c.in_ok-push.ensures.items c.requires.graph.found c.requires.from c.requires.core at c.in_ok-world.ensures;
+      found = found_in (g.M.Machine.Leads c.args.machine.now) ks c.push.new.self.items x c.index-2.result.now.world c.in_ok-push.ensures.items c.requires.graph.found c.requires.from c.requires.core at c.in_ok-world.ensures;
       nexts = nexts_in (g.M.Machine.Leads c.args.machine.now) ks c.push.new.self.items ns x c.in_ok-push.ensures.items c.requires.graph.within c.requires.graph.nexts;
       within = omega arith;
     }
@@ -31,8 +31,8 @@ returns-clause-number g c = λ w there.
     let ks = c.args.graph.now.kept.items in
     let Leads = g.M.Machine.Leads c.args.machine.now in
     let x : Kept g.row.M-World.Denot = record { world = c.in_ok-world.world; from = c.args.from; core = c.args.core } in
-    let here = slice_get_read ks (length ks) c.args.from c.index.result.now refl c.requires.from c.index.ensures in
-    let same : c.index.result.now.world ≡ w = at_once ks c.args.from c.index.result.now.world w (at_kept ks c.args.from c.index.result.now here) there in
+    let here = slice_get_read ks (length ks) c.args.from c.index-2.result.now refl c.requires.from c.index-2.ensures in
+    let same : c.index-2.result.now.world ≡ w = at_once ks c.args.from c.index-2.result.now.world w (at_kept ks c.args.from c.index-2.result.now here) there in
     let l = subst (λ (v : g.row.M-World.Denot). Leads c.args.core v c.in_ok-world.world) same c.in_ok-world.ensures in
     let n = next_in Leads ks c.push.new.self.items x w c.in_ok-push.ensures.items l in
     subst (λ (k : ℕ). IsNext Leads c.push.new.self.items c.args.core w k) (sym (c.len-count.ensures ∙ c.args.graph.now.kept.ok.0)) n

@@ -1,4 +1,4 @@
-use Rattle.std.proofs.Common.{◌≡◌, ◌≤◌, length, max}
+use Rattle.std.proofs.Common.{◌≡◌, ◌≤◌, length, max, None}
 use Rattle.xt_search.specs.Graphs.{IsGraph, OpensWith}
 use Rattle.xt_search.proofs.seeking.search.Given as goal
 
@@ -8,4 +8,5 @@ invariant-loop-round g l = record {
   made : length l.graph.nexts.items ≡ l.round;
   most : length l.graph.kept.items ≤ max 1 l.most;
   opens : OpensWith l.graph l.fn.opening;
+  free : l.graph.barred ≡ None;
 }

@@ -11,8 +11,8 @@ use Rattle.xt_changes.specs.Changed.{contents_of}
 use Rattle.xt_core.specs.Cores.{CoreState, turned}
 use Rattle.xt_outcomes.proofs.sides.Side.turned.Goals as goal
 
-pub invariant_of-result : goal.invariant_of-result
-invariant_of-result c =
+pub regs_kept-requires : goal.regs_kept-requires
+regs_kept-requires c =
     let code = constant_byte c.args.code.now in
     let m = contents_of c.args.opening.now.contents c.args.changes.now in
     let s : State = file_state c.self.inside.regs in

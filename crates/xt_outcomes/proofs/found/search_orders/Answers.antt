@@ -1,0 +1,24 @@
+use Rattle.std.proofs.Common.{ℕ}
+use Rattle.std.specs.Prelude.{IfSome}
+use Rattle.xt_search.specs.Graphs.{IsBarredAt, IsGraph}
+use Rattle.xt_core.specs.Runs.{memory_of}
+use Rattle.xt_outcomes.specs.Kept.{Leads, bars}
+use Rattle.xt_outcomes.proofs.CodeBytes.{code_bytes}
+use Rattle.xt_outcomes.proofs.Finding.{carried}
+use Rattle.xt_outcomes.proofs.found.search_orders.Goals as goal
+
+pub returns-clause-search : goal.returns-clause-search
+returns-clause-search c =
+    let t = c.in_ok-machine.machine in
+    let g = c.in_ok-graph.graph in
+    let image = c.args.image.now in
+    let m = memory_of image c.args.options.now in
+    record {
+      bytes = code_bytes image c.requires.fits;
+      code = c.in_ok-machine.ensures.code;
+      opening = c.in_ok-machine.ensures.opening;
+      graph = carried (λ k n. IsGraph (Leads k t.timed n) g) t.code image.segments t.opening.contents m c.in_ok-machine.ensures.code c.in_ok-machine.ensures.opening c.in_ok-graph.ensures.graph;
+      barred =
+          carried (λ k n. IfSome g.barred (IsBarredAt (bars k t.timed n) g.kept.items)) t.code image.segments t.opening.contents m c.in_ok-machine.ensures.code c.in_ok-machine.ensures.opening c.in_ok-graph.ensures.barred;
+      first = (c.open.result, c.in_ok-graph.ensures.opens, rw c.in_ok-machine.ensures.timed c.open.ensures);
+    }

@@ -1,0 +1,165 @@
+-- What an instruction does in states that are equal but for time.
+use Rattle.std.proofs.Common.{◌≡◌, ℕ, ◌+◌, ◌<◌, ◌≤◌, ◌⊎◌, Bool, true, false, cond, eqb, ◌||◌, Option, Some, None, List, slice_index, refl, sym, ap, inl, inr, arith}
+use Rattle.std.proofs.lemmas.Bool.{eqb-true, false_from_ne_true}
+use Rattle.xt_isa.specs.declared.Insn.{Insn}
+use Rattle.xt_isa.specs.declared.Insn.TheVariants as insn
+use Rattle.xt_isa.specs.declared.three.Three.{Three}
+use Rattle.xt_isa.specs.declared.three.Three.TheVariants as three
+use Rattle.xt_isa.specs.declared.shift.Shift.{Shift}
+use Rattle.xt_isa.specs.declared.shift.Shift.TheVariants as shift
+use Rattle.xt_isa.specs.declared.memory.Memory.{Memory}
+use Rattle.xt_isa.specs.declared.memory.Memory.TheVariants as memory
+use Rattle.xt_isa.specs.declared.system.System.{System}
+use Rattle.xt_isa.specs.declared.system.System.TheVariants as system
+use Rattle.xt_isa.specs.declared.system.ReturnName.TheVariants as ReturnName
+use Rattle.xt_isa.specs.declared.system.SpecialName.TheVariants as SpecialName
+use Rattle.xt_isa.specs.Ranges.{in_range}
+use Rattle.xt_special.specs.Control.{Control}
+use Rattle.xt_special.specs.Access.{SpecialWrites, is_ccompare, ps_written, value_read, with_sets, without_bits, written_by}
+use Rattle.xt_rows.specs.declared.outcome.Effect.{Effect}
+use Rattle.xt_rows.specs.declared.outcome.WindowRegister.{WindowRegister}
+use Rattle.xt_rows.specs.declared.outcome.Outcome.{Outcome}
+use Rattle.xt_rows.specs.declared.outcome.Outcome.TheVariants.{Does}
+use Rattle.xt_rows.specs.Effects.{unchanged, window_register, write_to, writes_special, exchanges_special}
+use Rattle.xt_rows.specs.Numbers.{natural}
+use Rattle.xt_rows.specs.Operands.{changes_interrupt, memory_special_reads, reads, shift_special_reads, special_reads, system_special_reads, three_special_reads}
+use Rattle.xt_rows.specs.Outcomes.{outcome, outcome_at, system_outcome, value_of}
+use Rattle.xt_rows.proofs.Forms.{at_most}
+use Rattle.xt_timeless.specs.Time.{is_of_time, reads_time, timer_bits}
+use Rattle.xt_timeless.specs.Alike.{AreAlike}
+use Rattle.xt_timeless.proofs.Keeping.{with_special, written_alike}
+
+-- a register with a lower number than INTERRUPT is none of time
+low : (k : ℕ) → k < 226 → is_of_time k ≡ false
+low k h = λ i. no 234 (omega arith) i || (no 226 h i || (no 240 (omega arith) i || (no 241 (omega arith) i || no 242 (omega arith) i)))
+  where
+    no : (n : ℕ) → k < n → eqb k n ≡ false
+    no n less = false_from_ne_true (eqb k n) (λ t. let same = eqb-true k n t in absurd (omega (arith, same)))
+
+-- ---- the special registers that a row reads
+
+module _ (xs ys : List ℕ) (a : AreAlike xs ys) where
+  abbrev SameReads : Option ℕ × Option ℕ → Type 0
+  SameReads n = (value_of (slice_index xs) n.0 ≡ value_of (slice_index ys) n.0) × (value_of (slice_index xs) n.1 ≡ value_of (slice_index ys) n.1)
+
+  three_same : (i : Three) → SameReads (three_special_reads i)
+  three_same (three.Src r s t) = (a.same 3 refl, refl)
+  three_same _ = (refl, refl)
+
+  shift_same : (i : Shift) → SameReads (shift_special_reads i)
+  shift_same (shift.Srl name r t) = (a.same 3 refl, refl)
+  shift_same (shift.Sll r s) = (a.same 3 refl, refl)
+  shift_same _ = (refl, refl)
+
+  memory_same : (i : Memory) → SameReads (memory_special_reads i)
+  memory_same (memory.S32c1i t s offset) = (a.same 12 refl, refl)
+  memory_same _ = (refl, refl)
+
+  -- all but WSR and XSR
+  system_same : (i : System) → in_range (insn.System i) ≡ true → reads_time (insn.System i) ≡ false → ((t n : ℕ) → i ≡ system.Rsr SpecialName.Wsr t n → ⊥) → ((t n : ℕ) → i ≡ system.Rsr SpecialName.Xsr t n → ⊥)
+      → SameReads (system_special_reads i)
+  system_same (system.Rfe ReturnName.Rfe) ok h w x = (a.same 177 refl, refl)
+  system_same (system.Rfe ReturnName.Rfde) ok h w x = (a.same 192 refl, refl)
+  system_same (system.Rfe ReturnName.Rfwo) ok h w x = (a.same 177 refl, refl)
+  system_same (system.Rfe ReturnName.Rfwu) ok h w x = (a.same 177 refl, refl)
+  system_same (system.Rfi level) ok h w x =
+      let small : natural level ≤ 7 = at_most 2 7 level ok in
+      (a.same (176 + natural level) (low (176 + natural level) (omega arith)), a.same (192 + natural level) (low (192 + natural level) (omega arith)))
+  system_same (system.Rsr SpecialName.Rsr t n) ok h w x = (a.same n h, refl)
+  system_same (system.Rsr SpecialName.Wsr t n) ok h w x = absurd (w t n refl)
+  system_same (system.Rsr SpecialName.Xsr t n) ok h w x = absurd (x t n refl)
+  system_same _ ok h w x = (refl, refl)
+
+  -- what WSR and XSR see of INTERRUPT
+  interrupt_same : (n : ℕ) → without_bits (value_of (slice_index xs) (changes_interrupt n)) timer_bits ≡ without_bits (value_of (slice_index ys) (changes_interrupt n)) timer_bits
+  interrupt_same n = by_test (eqb n 226 || (eqb n 227 || is_ccompare n))
+    where
+      by_test : (b : Bool) → without_bits (value_of (slice_index xs) (cond b (Some 226) None)) timer_bits ≡ without_bits (value_of (slice_index ys) (cond b (Some 226) None)) timer_bits
+      by_test true = a.interrupt
+      by_test false = refl
+
+-- ---- outcomes
+
+-- they are the same, but for the special registers that are written, which differ by time
+abbrev pub AreAlikeOutcomes : List ℕ → List ℕ → Outcome → Outcome → Type 0
+AreAlikeOutcomes xs ys o p =
+    (o ≡ p) ⊎ ((e : Effect) × (sets : SpecialWrites) × (o ≡ Does e) × (p ≡ Does (record e { sets = sets })) × AreAlike (with_sets e.sets xs) (with_sets sets ys))
+
+module _ (code : ℕ → ℕ) (registers : ℕ → ℕ) (c : Control) (ys : List ℕ) (a : AreAlike c.special ys) where
+  as_read : (i : Insn) → SameReads c.special ys a (special_reads i) → outcome_at code i registers c ≡ outcome_at code i registers (with_special c ys)
+  as_read i same = λ k. outcome code i c.pc (value_of registers (reads i).0) (value_of registers (reads i).1) (same.0 k) (same.1 k) c.ps c.threadptr
+
+  wsr_alike : (t n : ℕ) → AreAlikeOutcomes c.special ys (outcome_at code (insn.System (system.Rsr SpecialName.Wsr t n)) registers c) (outcome_at code (insn.System (system.Rsr SpecialName.Wsr t n)) registers (with_special c ys))
+  unfolding outcome special_reads system_outcome
+  wsr_alike t n = by_register (window_register n)
+    where
+      i : Insn
+      i = insn.System (system.Rsr SpecialName.Wsr t n)
+
+      x : ℕ
+      x = value_of registers (reads i).0
+
+      v : List ℕ → ℕ
+      v zs = value_of (slice_index zs) (changes_interrupt n)
+
+      e : Effect
+      e = unchanged c.ps c.threadptr
+
+      by_register : (r : Option WindowRegister) → AreAlikeOutcomes c.special ys (writes_special r n x (v c.special) e) (writes_special r n x (v ys) e)
+      by_register None = inr (record e { sets = written_by n x (v c.special); ps = ps_written n x e.ps }, written_by n x (v ys), refl, refl, written_alike n x (v c.special) (v ys) c.special ys (interrupt_same c.special ys a n) a)
+      by_register (Some w) = inl refl
+
+  xsr_alike : (t n : ℕ) → is_of_time n ≡ false → AreAlikeOutcomes c.special ys (outcome_at code (insn.System (system.Rsr SpecialName.Xsr t n)) registers c) (outcome_at code (insn.System (system.Rsr SpecialName.Xsr t n)) registers (with_special c ys))
+  unfolding outcome special_reads system_outcome
+  xsr_alike t n h = by_register (window_register n)
+    where
+      i : Insn
+      i = insn.System (system.Rsr SpecialName.Xsr t n)
+
+      x : ℕ
+      x = value_of registers (reads i).0
+
+      v : List ℕ → ℕ
+      v zs = value_of (slice_index zs) (changes_interrupt n)
+
+      e : Effect
+      e = unchanged c.ps c.threadptr
+
+      by_register : (r : Option WindowRegister) → AreAlikeOutcomes c.special ys (exchanges_special r t n x (slice_index c.special n) (v c.special) e) (exchanges_special r t n x (slice_index ys n) (v ys) e)
+      by_register None =
+          inr (
+            record e { write = write_to t (value_read n (slice_index c.special n) e.ps); sets = written_by n x (v c.special); ps = ps_written n x e.ps },
+            written_by n x (v ys),
+            refl,
+            ap (λ (u : ℕ). exchanges_special None t n x u (v ys) e) (sym (a.same n h)),
+            written_alike n x (v c.special) (v ys) c.special ys (interrupt_same c.special ys a n) a,
+          )
+      by_register (Some w) = inl refl
+
+  other_alike : (i : Insn) → SameReads c.special ys a (special_reads i) → AreAlikeOutcomes c.special ys (outcome_at code i registers c) (outcome_at code i registers (with_special c ys))
+  other_alike i same = inl (as_read i same)
+
+  system_alike : (i : System) → in_range (insn.System i) ≡ true → reads_time (insn.System i) ≡ false
+      → AreAlikeOutcomes c.special ys (outcome_at code (insn.System i) registers c) (outcome_at code (insn.System i) registers (with_special c ys))
+  unfolding special_reads
+  system_alike (system.Rsr SpecialName.Wsr t n) ok h = wsr_alike t n
+  system_alike (system.Rsr SpecialName.Xsr t n) ok h = xsr_alike t n h
+  system_alike (system.Rfe name) ok h = other_alike (insn.System (system.Rfe name)) (system_same c.special ys a (system.Rfe name) ok h (λ t n e. absurd cc) (λ t n e. absurd cc))
+  system_alike (system.Rfi level) ok h = other_alike (insn.System (system.Rfi level)) (system_same c.special ys a (system.Rfi level) ok h (λ t n e. absurd cc) (λ t n e. absurd cc))
+  system_alike (system.Rsr SpecialName.Rsr t n) ok h = other_alike (insn.System (system.Rsr SpecialName.Rsr t n)) (a.same n h, refl)
+  system_alike (system.Ill name) ok h = other_alike (insn.System (system.Ill name)) (refl, refl)
+  system_alike (system.Excw name) ok h = other_alike (insn.System (system.Excw name)) (refl, refl)
+  system_alike (system.Break name x y) ok h = other_alike (insn.System (system.Break name x y)) (refl, refl)
+  system_alike (system.Rsil name t level) ok h = other_alike (insn.System (system.Rsil name t level)) (refl, refl)
+  system_alike (system.Rotw n) ok h = other_alike (insn.System (system.Rotw n)) (refl, refl)
+  system_alike (system.Rur name r n) ok h = other_alike (insn.System (system.Rur name r n)) (refl, refl)
+
+  pub outcomes_alike : (i : Insn) → in_range i ≡ true → reads_time i ≡ false → AreAlikeOutcomes c.special ys (outcome_at code i registers c) (outcome_at code i registers (with_special c ys))
+  unfolding special_reads
+  outcomes_alike (insn.Three i) ok h = other_alike (insn.Three i) (three_same c.special ys a i)
+  outcomes_alike (insn.Shift i) ok h = other_alike (insn.Shift i) (shift_same c.special ys a i)
+  outcomes_alike (insn.Memory i) ok h = other_alike (insn.Memory i) (memory_same c.special ys a i)
+  outcomes_alike (insn.Control i) ok h = other_alike (insn.Control i) (refl, refl)
+  outcomes_alike (insn.System i) ok h = system_alike i ok h
+  outcomes_alike (insn.Density i) ok h = other_alike (insn.Density i) (refl, refl)
+  outcomes_alike (insn.Boolean i) ok h = other_alike (insn.Boolean i) (a.same 4 refl, refl)
