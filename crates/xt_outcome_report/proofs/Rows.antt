@@ -70,7 +70,7 @@ pub appended : (whole out out2 rest : List ℕ) (core core2 count count2 i : ℕ
 appended whole out out2 rest core core2 count count2 i within other is is2 is3 before =
     let left = rows_text (rows_from (get_or rest i 0) 1 (drop (i + 1) rest)) in
     let text : rows_text (rows_from core count (drop i rest)) ≡ row_text (core, count) ++ (codes "," ++ left) =
-        ap (λ (l : List ℕ). rows_text (rows_from core count l)) (at_place rest i within) ∙ next_row core count (get_or rest i 0) (drop (i + 1) rest) other in
+    ap (λ (l : List ℕ). rows_text (rows_from core count l)) (at_place rest i within) ∙ next_row core count (get_or rest i 0) (drop (i + 1) rest) other in
     let joined : ((out ++ row_text (core, count)) ++ codes ",") ++ left ≡ out ++ (row_text (core, count) ++ (codes "," ++ left)) =
-        append_assoc (out ++ row_text (core, count)) (codes ",") left ∙ append_assoc out (row_text (core, count)) (codes "," ++ left) in
+    append_assoc (out ++ row_text (core, count)) (codes ",") left ∙ append_assoc out (row_text (core, count)) (codes "," ++ left) in
     rw (is, is2, is3) (joined ∙ ap (λ (l : List ℕ). out ++ l) (sym text) ∙ before)

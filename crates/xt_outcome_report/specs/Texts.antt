@@ -6,19 +6,12 @@ use Rattle.std.specs.Fmt.{decimal}
 use Rattle.xt_word.specs.Hexadecimal.{hex8}
 use Rattle.xt_trace.specs.declared.options.Options.{Options}
 use Rattle.xt_trace.specs.declared.trace.Stop.{Stop}
-use Rattle.xt_trace.specs.declared.record.StepRecord.{StepRecord}
-use Rattle.xt_trace.specs.Walks.{next_record}
-use Rattle.xt_trace.specs.Worlds.{Core, Line, World}
 use Rattle.xt_image.specs.declared.image.Image.{Image}
-use Rattle.xt_fetch.specs.Fetching.{fetched}
-use Rattle.xt_exec.specs.Chips.{processor}
-use Rattle.xt_exec.specs.State.{State}
-use Rattle.xt_core.specs.Runs.{code_of, opening_of}
-use Rattle.xt_events.specs.Lines.{bare_line, fetched_text}
 use Rattle.xt_report.specs.Reports.{newline, stop_text, uart_lines}
 use Rattle.xt_outcomes.specs.Answered.{AreAnswers}
-use Rattle.xt_outcomes.specs.Orders.{timed_world_after}
 use Rattle.xt_outcomes.specs.declared.answers.Answers.{Answers}
+use Rattle.xt_outcomes.specs.declared.answers.Ending.{Ending}
+use Rattle.xt_outcomes.specs.declared.answers.Ending.TheVariants as ending
 use Rattle.xt_outcomes.specs.declared.listing.Found.{Found}
 use Rattle.xt_outcomes.specs.declared.races.NextRace.{NextRace}
 use Rattle.xt_outcome_report.specs.Orders.{order_text}
@@ -76,58 +69,43 @@ frames_text frames.Whole = codes "whole"
 abbrev pub frames_line : Frames → List ℕ
 frames_line f = concat (codes "frames " ∷ frames_text f ∷ newline ∷ [])
 
--- every order was looked at, or as many worlds were kept as may be
-abbrev pub end_line : Bool → List ℕ
-end_line true = codes "all\n"
-end_line false = codes "some states\n"
+-- whether every order was looked at
+abbrev pub is_all : Ending → Bool
+is_all ending.All = true
+is_all ending.States = false
+is_all (ending.Time core pc) = false
 
--- the line that `trace` prints of a turn that moves no window
-abbrev pub turn_line : (ℕ → ℕ) → ℕ → ℕ → StepRecord → List ℕ
-turn_line code core step r = concat (
-    bare_line core step r ∷ fetched_text (fetched code r.pc) r.pc ∷ newline ∷ [])
-
--- that of a core's next turn
-abbrev pub next_line : (ℕ → ℕ) → ℕ → Core State → Line → List ℕ
-next_line code core k b =
-    turn_line code core (length k.records) (next_record (processor code) k b)
-
--- those of both cores after an order
-abbrev pub lines_in : (ℕ → ℕ) → World State → List ℕ
-lines_in code w = next_line code 0 w.core0 w.line ++ next_line code 1 w.core1 w.line
-
-abbrev pub lines_after : Image → Options → List ℕ → List ℕ
-lines_after image o order =
-    lines_in (code_of image)
-    (timed_world_after (processor (code_of image)) (opening_of image o) order)
-
-abbrev pub access_lines : Image → Options → Option NextRace → List ℕ
-access_lines image o None = []
-access_lines image o (Some r) = lines_after image o r.order.items
+-- every order was looked at, or as many worlds were kept as may be, or a turn uses time
+abbrev pub end_line : Ending → List ℕ
+end_line ending.All = codes "all\n"
+end_line ending.States = codes "some states\n"
+end_line (ending.Time core pc) = concat (
+    codes "some time core " ∷ decimal core
+    ∷ codes " pc " ∷ hex8 pc
+    ∷ newline ∷ [])
 
 abbrev pub order_of : Option NextRace → Option (List ℕ)
 order_of None = None
 order_of (Some r) = Some r.order.items
 
--- these lines of the two accesses follow
-abbrev pub race_lines : Bool → Option NextRace → List ℕ → List ℕ
-race_lines whole race accesses =
-    concat (codes "race " ∷ stuck_text whole (order_of race) ∷ newline ∷ accesses ∷ [])
+abbrev pub race_line : Bool → Option NextRace → List ℕ
+race_line whole race = concat (codes "race " ∷ stuck_text whole (order_of race) ∷ newline ∷ [])
 
 -- ---- the text
 
-abbrev pub answers_text : List ℕ → Answers → List ℕ → Frames → List ℕ
-answers_text addresses a accesses f = concat (
+abbrev pub answers_text : List ℕ → Answers → Frames → List ℕ
+answers_text addresses a f = concat (
     flat_map (outcome_text addresses) a.found.items
     ∷ codes "outcomes " ∷ decimal (length a.found.items) ∷ newline
-    ∷ stuck_line a.whole (option_map (λ v. v.items) a.stuck)
-    ∷ race_lines a.whole a.race accesses
+    ∷ stuck_line (is_all a.ended) (option_map (λ v. v.items) a.stuck)
+    ∷ race_line (is_all a.ended) a.race
     ∷ frames_line f
-    ∷ end_line a.whole
+    ∷ end_line a.ended
     ∷ [])
 
 -- this is the text of what is said of all orders
-pub record IsAnswersText (image : Image) (o : Options) (addresses text : List ℕ) : Type 0 where
+pub record IsAnswersText (image : Image) (o : Options) (timed : Bool) (addresses text : List ℕ)
+    : Type 0 where
   pub answers : Answers
-  pub are : AreAnswers image o addresses answers
-  pub text_is : text
-      ≡ answers_text addresses answers (access_lines image o answers.race) frames.Unknown
+  pub are : AreAnswers image o timed addresses answers
+  pub text_is : text ≡ answers_text addresses answers frames.Unknown

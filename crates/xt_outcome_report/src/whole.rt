@@ -1,19 +1,16 @@
 //! The text of everything that can come out.
-ghost use Rattle.std.specs.Prelude.{◌≡◌, ◌+◌, ◌≤◌, ◌^◌, ◌++◌, IfOk, IfSome, OnOk, string_bytes, flat_map, option_map};
+ghost use Rattle.std.specs.Prelude.{◌≡◌, ◌+◌, ◌≤◌, ◌^◌, ◌++◌, IfOk, OnOk, string_bytes, flat_map, option_map};
 ghost use Rattle.std.specs.List.{All};
 ghost use Rattle.xt_trace.specs.Validity.{IsValid};
 ghost use Rattle.xt_image.specs.Parts.{IsWellFormed};
-ghost use Rattle.xt_core.specs.Runs.{code_of, opening_of};
-ghost use Rattle.xt_outcomes.specs.Racing.{IsRaceAfter};
-ghost use Rattle.xt_outcome_report.specs.Texts.{IsAnswersText, access_lines, answers_text, end_line, frames_line, frames_text, none_text, outcome_text, race_lines, stuck_line, stuck_text};
+ghost use Rattle.xt_outcome_report.specs.Texts.{IsAnswersText, answers_text, end_line, frames_line, frames_text, is_all, none_text, outcome_text, race_line, stuck_line, stuck_text};
 
-use crate::accesses::race_lines;
 use crate::orders::order_text;
 use crate::outcomes::push_outcome;
 use std::alloc::{AllocError, Global};
 use xt_image::{Image, well_formed_is_placed};
 use xt_map::Text;
-use xt_outcomes::{Answers, Found, NextRace, answers_of};
+use xt_outcomes::{Answers, Ending, Found, NextRace, answers_of};
 use xt_trace::Options;
 
 /// What is judged of the runs of all orders by the discipline of the stack.
@@ -60,7 +57,7 @@ fn stuck_line(alloc: Global, whole: bool, stuck: &Option<Vec<u8>>) -> Result<Str
 
 // The line of a race.
 fn race_line(alloc: Global, whole: bool, race: &Option<NextRace>) -> Result<String, AllocError>
-    ensures { IfOk result (λ line. string_bytes line ≡ race_lines whole race.now []) }
+    ensures { IfOk result (λ line. string_bytes line ≡ race_line whole race.now) }
 {
     let text = match race {
         Some(race) => stuck_text(alloc, whole, Some(race.order.as_slice()))?,
@@ -80,11 +77,25 @@ fn frames_text(frames: Frames) -> &'static str
     }
 }
 
-// How the search ended.
-fn end_line(whole: bool) -> &'static str
-    ensures { result.now ≡ end_line whole }
+// Whether every order was looked at.
+fn is_all(ended: Ending) -> bool
+    ensures { result ≡ is_all ended }
 {
-    if whole { "all\n" } else { "some states\n" }
+    match ended {
+        Ending::All => true,
+        Ending::States | Ending::Time(_, _) => false,
+    }
+}
+
+// How the search ended.
+fn end_line(alloc: Global, ended: Ending) -> Result<String, AllocError>
+    ensures { IfOk result (λ line. string_bytes line ≡ end_line ended) }
+{
+    match ended {
+        Ending::All => format!(in alloc; "all\n"),
+        Ending::States => format!(in alloc; "some states\n"),
+        Ending::Time(core, pc) => format!(in alloc; "some time core {core} pc {pc:08X}\n"),
+    }
 }
 
 // Appends the lines of the outcomes.
@@ -102,7 +113,7 @@ fn push_outcomes(
     Ok(())
 }
 
-/// The lines of all that was found, with those of the accesses of a race and what is judged of the frames:
+/// The lines of all that was found, and what is judged of the frames:
 ///
 /// ```text
 /// outcome uart N
@@ -114,7 +125,6 @@ fn push_outcomes(
 /// outcomes N
 /// stuck LIST
 /// race LIST
-/// the lines of the two accesses, as `trace` has them
 /// frames F
 /// all
 /// ```
@@ -122,55 +132,37 @@ fn push_outcomes(
 /// The first six for each outcome, with a line `word` for each address; S is `break` or `turns`, ADDR
 /// and VALUE have eight upper-case hexadecimal digits. LIST is an order, as `run --order` reads it; of
 /// `stuck` and `race` it is `none` where no order is so, and `unknown` where this is not known. F is
-/// `unknown`, `none` or `whole`. The last line is `all` where all orders were looked at, and else
-/// `some states`. The only error is running out of memory.
+/// `unknown`, `none` or `whole`. The last line is `all` where all orders were looked at, `some states`
+/// where as many worlds are kept as may be, and `some time core C pc ADDR` where a turn uses time. The
+/// only error is running out of memory.
 pub fn answers_text(
     alloc: Global,
     addresses: &[u32],
     answers: &Answers,
-    accesses: &Text,
     frames: Frames,
 ) -> Result<Text, AllocError>
-    ensures { IfOk result (λ text. text ≡ answers_text addresses.now answers.now accesses.now frames) }
+    ensures { IfOk result (λ text. text ≡ answers_text addresses.now answers.now frames) }
 {
     let mut out = Vec::new(alloc);
     push_outcomes(alloc, &mut out, addresses, answers.found.as_slice())?;
     let count = answers.found.len();
     let outcomes = format!(in alloc; "outcomes {count}\n")?;
-    let stuck = stuck_line(alloc, answers.whole, &answers.stuck)?;
-    let race = race_line(alloc, answers.whole, &answers.race)?;
+    let whole = is_all(answers.ended);
+    let stuck = stuck_line(alloc, whole, &answers.stuck)?;
+    let race = race_line(alloc, whole, &answers.race)?;
+    let end = end_line(alloc, answers.ended)?;
     let frames = frames_text(frames);
     let frames = format!(in alloc; "frames {frames}\n")?;
     out.extend_from_slice(outcomes.as_bytes())?;
     out.extend_from_slice(stuck.as_bytes())?;
     out.extend_from_slice(race.as_bytes())?;
-    out.extend_from_slice(accesses.as_slice())?;
     out.extend_from_slice(frames.as_bytes())?;
-    out.extend_from_slice(end_line(answers.whole).as_bytes())?;
+    out.extend_from_slice(end.as_bytes())?;
     Ok(Text::new(out))
 }
 
-// The lines of the accesses of a race, if there is one.
-fn access_lines(
-    alloc: Global,
-    image: &Image,
-    options: &Options,
-    race: &Option<NextRace>,
-) -> Result<Text, AllocError>
-    requires image { IsWellFormed image.now }
-    requires valid { IsValid options.now }
-    requires race { IfSome race.now (λ r. IsRaceAfter (code_of image.now) (opening_of image.now options.now) r) }
-    ensures { IfOk result (λ text. text ≡ access_lines image.now options.now race.now) }
-{
-    well_formed_is_placed();
-    match race {
-        Some(race) => race_lines(alloc, image, options, race),
-        None => Ok(Text::new(Vec::new(alloc))),
-    }
-}
-
-/// The lines of everything that can come out of an image's runs, in any order of their turns, where at
-/// most so many worlds are kept. Outcomes have the words at these addresses. The only error is running
+/// The lines of everything that can come out of an image's runs, in any order of their turns, timed or
+/// not, where at most so many worlds are kept. Outcomes have the words at these addresses. The only error is running
 /// out of memory.
 ///
 /// Conditions: the image is well formed, the options are valid, and each address lies at least 4 below
@@ -179,16 +171,16 @@ pub fn outcomes_text(
     alloc: Global,
     image: &Image,
     options: &Options,
+    timed: bool,
     addresses: &[u32],
     most: u32,
 ) -> Result<Text, AllocError>
     requires image { IsWellFormed image.now }
     requires valid { IsValid options.now }
     requires words { All (λ a. a + 4 ≤ 2 ^ 32) addresses.now }
-    ensures { IfOk result (IsAnswersText image.now options.now addresses.now) }
+    ensures { IfOk result (IsAnswersText image.now options.now timed addresses.now) }
 {
     well_formed_is_placed();
-    let answers = answers_of(alloc, image, options, addresses, most)?;
-    let accesses = access_lines(alloc, image, options, &answers.race)?;
-    answers_text(alloc, addresses, &answers, &accesses, Frames::Unknown)
+    let answers = answers_of(alloc, image, options, timed, addresses, most)?;
+    answers_text(alloc, addresses, &answers, Frames::Unknown)
 }
