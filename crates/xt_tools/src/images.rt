@@ -65,7 +65,7 @@ fn all_outcomes(alloc: Global, options: &OutcomeOptions, image: &Image) -> Resul
 {
     let run = options.run.with_entry(image.entry);
     let addresses = options.words.as_slice();
-    outcomes_text(alloc, image, &run, addresses, options.states)
+    outcomes_text(alloc, image, &run, options.timed, addresses, options.states)
 }
 
 /// Everything that can come out of an image in any order of the turns, or the status of the image's first fault.
