@@ -113,7 +113,7 @@ met_now starts pending more a x same met =
     met
 
 -- the table of what is read, with what the instruction at an address reads
-module _ (image : Image) (vecbase entry1 roots a : ℕ) (reads : List Bool) where
+module _ (image : Image) (vecbase entry1 : ℕ) (roots : List ℕ) (a : ℕ) (reads : List Bool) where
   words_size : (word : Option ℕ) → length (with_word image.segments reads word) ≡ length reads
   words_size None = refl
   words_size (Some w) = elim (is_in_code image.segments w) as (λ b. length (if b then with_mark reads w else reads) ≡ length reads) [ true ↦ length-with_mark reads w | false ↦ refl ]

@@ -21,7 +21,7 @@ length_at-small : (segments : List Segment) (a : ℕ) → (2 ≤ length_at segme
 length_at-small segments a = two_or_three (within 8 13 (byte_at (code_from segments a) 0 % 16))
 
 -- where one starts an instruction lies
-start_holds : (image : Image) (vecbase entry1 roots a : ℕ) → Starts image vecbase entry1 roots a → HoldsInsn image a
+start_holds : (image : Image) (vecbase entry1 : ℕ) (roots : List ℕ) (a : ℕ) → Starts image vecbase entry1 roots a → HoldsInsn image a
 start_holds image vecbase entry1 roots x (Opens a here holds) = holds
 start_holds image vecbase entry1 roots x (Follows a b from here holds) = holds
 

@@ -39,7 +39,8 @@ pub data Starts (image : Image) (vecbase entry1 : ℕ) (roots : List ℕ) : ℕ 
 
 -- an L32R that starts somewhere reads the word at an address in code
 pub record IsRead (image : Image) (vecbase entry1 : ℕ) (roots : List ℕ) (w : ℕ) : Type 0 where
-  pub reader : (a : ℕ) × (Starts image vecbase entry1 roots a × (literal_at image.segments a ≡ Some w))
+  pub reader : (a : ℕ)
+      × (Starts image vecbase entry1 roots a × (literal_at image.segments a ≡ Some w))
   pub code : 0 < length (code_from image.segments w)
 
 -- a word stands at an address: an L32R reads it, and no instruction touches it, as each ends before

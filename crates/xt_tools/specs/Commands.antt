@@ -58,8 +58,8 @@ unfoldable pub converted : List ℕ → List ℕ
 converted input = image_bytes (elf_image input)
 
 -- the listing of an image: each executable segment from its first byte on, or what control reaches
--- from the image's entry, that of core 1, which is the image's where the words say none, the vectors
--- and the roots; as such, or as a text in the assembly language with the other segments
+-- from the image's entry, that of core 1, which is the image's where the words say none, the
+-- vectors and the roots; as such, or as a text in the assembly language with the other segments
 abbrev pub IsListedBy : Way → Bool → Image → List ℕ → Type 0
 IsListedBy way.Sweep false image bytes = bytes ≡ listing_text image
 IsListedBy way.Sweep true image bytes = bytes ≡ source_by swept image
