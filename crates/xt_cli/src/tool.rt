@@ -119,7 +119,7 @@ fn make(alloc: Global, job: &Job, input: &[u8]) -> Result<Text, Status>
     match job {
         Job::Assemble => image_file(alloc, input),
         Job::Convert => converted_file(alloc, input),
-        Job::List(way) => list(alloc, *way, input),
+        Job::List(way) => list(alloc, way, input),
         Job::Map => map_text(alloc, input),
         Job::Check(vecbase) => check(alloc, *vecbase, input),
         Job::Migrate => migrate(alloc, input),

@@ -150,16 +150,17 @@ judged_openings-answers : (o : Option Openings) → judged_openings o ≢ Err re
 judged_openings-answers None = λ e. search (rules, e)
 judged_openings-answers (Some o) = unless_broken-answers _ o
 
-way_in-answers : (flow : Bool) (vecbase entry1 : Option Text) → way_in flow vecbase entry1 ≢ Err refusal.Memory
-way_in-answers true vecbase entry1 = answer_with-answers way.Flow (judged_openings (openings_in vecbase entry1)) (judged_openings-answers (openings_in vecbase entry1))
-way_in-answers false None None = λ e. search (rules, e)
-way_in-answers false None (Some entry1) = λ e. search (rules, e)
-way_in-answers false (Some vecbase) entry1 = λ e. search (rules, e)
+way_in-answers : (flow : Bool) (vecbase entry1 roots : Option Text) → way_in flow vecbase entry1 roots ≢ Err refusal.Memory
+way_in-answers true vecbase entry1 roots = answer_with-answers way.Flow (judged_openings (openings_in vecbase entry1 roots)) (judged_openings-answers (openings_in vecbase entry1 roots))
+way_in-answers false None None None = λ e. search (rules, e)
+way_in-answers false None None (Some roots) = λ e. search (rules, e)
+way_in-answers false None (Some entry1) roots = λ e. search (rules, e)
+way_in-answers false (Some vecbase) entry1 roots = λ e. search (rules, e)
 
 listing_by-answers : (rows : Option (List Row)) → listing_by rows ≢ Err refusal.Memory
 listing_by-answers None = λ e. search (rules, e)
 listing_by-answers (Some rows) =
-    answer_with-answers (listing_with (is_set (first_of (codes "data") rows))) _ (way_in-answers (is_set (first_of (codes "flow") rows)) (first_of (codes "vecbase") rows) (first_of (codes "entry1") rows))
+    answer_with-answers (listing_with (is_set (first_of (codes "data") rows))) _ (way_in-answers (is_set (first_of (codes "flow") rows)) (first_of (codes "vecbase") rows) (first_of (codes "entry1") rows) (first_of (codes "roots") rows))
 
 outcomes_with-answers : (timed : Bool) (words : Option (List ℕ)) (states : Option ℕ) (run : Result RunOptions Refusal) → run ≢ Err refusal.Memory
     → outcomes_with timed words states run ≢ Err refusal.Memory

@@ -8,6 +8,7 @@ pub mod Options
 pub mod Arguments
 pub mod Beyond
 pub mod Turns
+pub mod Roots
 pub mod Listings
 pub mod Depths
 pub mod Outcomes

@@ -9,6 +9,7 @@ use Rattle.xt_command_line.specs.Arguments.{IsVecbase}
 use Rattle.xt_command_line.specs.Numbers.{number_of}
 use Rattle.xt_command_line.specs.Options.{first_broken, given_number_of, is_entry, is_set}
 use Rattle.xt_command_line.specs.Options.{said_or, unless_broken, with_flag, with_option}
+use Rattle.xt_command_line.specs.Roots.{roots_of}
 use Rattle.xt_command_line.specs.Simple.{rows_by}
 use Rattle.xt_command_line.specs.declared.command.Listing.{Listing}
 use Rattle.xt_command_line.specs.declared.command.Openings.{Openings}
@@ -17,25 +18,32 @@ use Rattle.xt_command_line.specs.declared.command.Refusal.TheVariants as refusal
 use Rattle.xt_command_line.specs.declared.command.Way.{Way}
 use Rattle.xt_command_line.specs.declared.command.Way.TheVariants as way
 
--- dis [--flow] [--data] [--vecbase N] [--entry1 N]
+-- dis [--flow] [--data] [--vecbase N] [--entry1 N] [--roots LIST]
 abbrev pub dis_app : App
 dis_app =
     with_flag
     (with_flag
+    (with_option
     (with_option (with_option (new_app (codes "dis")) (codes "vecbase")) (codes "entry1"))
+    (codes "roots"))
     (codes "flow"))
     (codes "data")
 
 -- the openings of these numbers, where each is there
-abbrev pub opened : Option ℕ → Option (Option ℕ) → Option Openings
-opened (Some vecbase) (Some entry1) = Some (record { vecbase = vecbase; entry1 = entry1 })
-opened _ _ = None
+abbrev pub opened : Option ℕ → Option (Option ℕ) → Option (List ℕ) → Option Openings
+opened (Some vecbase) (Some entry1) (Some roots) =
+    Some (record { vecbase = vecbase; entry1 = entry1; roots = roots })
+opened _ _ _ = None
 
--- the openings that the texts of `--vecbase` and `--entry1` say, each with its default, or none
--- where a text is no number
-abbrev pub openings_in : Option Text → Option Text → Option Openings
-openings_in vecbase entry1 =
-    opened (said_or number_of 0x40080000 vecbase) (said_or given_number_of None entry1)
+-- the openings that the texts of `--vecbase` and `--entry1` say, each with its default, with these
+-- roots, or none where a text is no number or there are no roots
+abbrev pub openings_with : Option Text → Option Text → Option (List ℕ) → Option Openings
+openings_with vecbase entry1 roots =
+    opened (said_or number_of 0x40080000 vecbase) (said_or given_number_of None entry1) roots
+
+-- the same with the roots that the text of `--roots` says, none without it
+abbrev pub openings_in : Option Text → Option Text → Option Text → Option Openings
+openings_in vecbase entry1 roots = openings_with vecbase entry1 (said_or roots_of [] roots)
 
 -- the rules by their numbers, and whether the openings keep them
 abbrev pub opening_limits : Openings → List (ℕ × Bool)
@@ -45,12 +53,13 @@ abbrev pub judged_openings : Option Openings → Result Openings Refusal
 judged_openings None = Err (refusal.Usage 4)
 judged_openings (Some o) = unless_broken (first_broken (opening_limits o)) o
 
--- which bytes are instructions, by whether `--flow` was given and by the texts of `--vecbase` and
--- `--entry1`, which stand with `--flow` alone
-abbrev pub way_in : Bool → Option Text → Option Text → Result Way Refusal
-way_in true vecbase entry1 = answer_with way.Flow (judged_openings (openings_in vecbase entry1))
-way_in false None None = Ok way.Sweep
-way_in false _ _ = Err (refusal.Usage 3)
+-- which bytes are instructions, by whether `--flow` was given and by the texts of `--vecbase`,
+-- `--entry1` and `--roots`, which stand with `--flow` alone
+abbrev pub way_in : Bool → Option Text → Option Text → Option Text → Result Way Refusal
+way_in true vecbase entry1 roots =
+    answer_with way.Flow (judged_openings (openings_in vecbase entry1 roots))
+way_in false None None None = Ok way.Sweep
+way_in false _ _ _ = Err (refusal.Usage 3)
 
 -- that with whether `--data` was given
 abbrev pub listing_with : Bool → Way → Listing
@@ -63,7 +72,8 @@ listing_by (Some rows) =
     (way_in
     (is_set (first_of (codes "flow") rows))
     (first_of (codes "vecbase") rows)
-    (first_of (codes "entry1") rows))
+    (first_of (codes "entry1") rows)
+    (first_of (codes "roots") rows))
 
 -- the listing that the words of `dis` say, or the first rule of usage that they break
 abbrev pub listing_of : List Text → Result Listing Refusal

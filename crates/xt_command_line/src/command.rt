@@ -3,6 +3,7 @@ ghost use Rattle.xt_command_line.specs.declared.command.Refusal.TheVariants.{Mem
 
 use crate::options::RunOptions;
 use crate::outcomes::OutcomeOptions;
+use crate::roots::Roots;
 use std::alloc::AllocError;
 
 /// Which turns of a recorded run `trace` prints: those of some positions of the run's schedule, of which all
@@ -22,16 +23,18 @@ pub struct Turns {
 }
 
 /// Where control begins in an image, beside its entry.
-#[derive(Clone, Copy, Debug, PartialEq, Eq)]
+#[derive(Debug, Drop)]
 pub struct Openings {
     /// VECBASE, the address where the vectors of both cores begin (`--vecbase`), a multiple of 1024.
     pub vecbase: u32,
     /// The address where core 1 begins (`--entry1`), in an executable region; none stands for the image's entry.
     pub entry1: Option<u32>,
+    /// Further addresses (`--roots`).
+    pub roots: Roots,
 }
 
 /// Which bytes of an image a listing takes as instructions.
-#[derive(Clone, Copy, Debug, PartialEq, Eq)]
+#[derive(Debug, Drop)]
 pub enum Way {
     /// Every executable segment from its first byte on.
     Sweep,
@@ -40,7 +43,7 @@ pub enum Way {
 }
 
 /// What a listing of an image shows.
-#[derive(Clone, Copy, Debug, PartialEq, Eq)]
+#[derive(Debug, Drop)]
 pub struct Listing {
     /// Which bytes are instructions.
     pub way: Way,

@@ -1,21 +1,30 @@
 //! The words of `dis`.
 ghost use Rattle.std.specs.Prelude.{◌≡◌, IfOk, map, string_bytes, option_map};
 ghost use Rattle.xt_command_line.specs.Answers.{Means};
-ghost use Rattle.xt_command_line.specs.Listings.{AreOpenings, IsListing, IsWay, judged_openings, listing_of, openings_in, way_in};
+ghost use Rattle.xt_command_line.specs.Listings.{AreOpenings, IsListing, IsWay, judged_openings, listing_of, openings_with, way_in};
 
 use crate::command::{Listing, Openings, Refusal, Way};
 use crate::option_commands::{dis_matches, is_true, text_of};
 use crate::option_words::{DEFAULT_VECBASE, given_number, number_or};
 use crate::options::is_good_entry;
+use crate::roots::{Roots, roots_or_none};
 use std::alloc::Global;
 
-// The openings that the texts say, or none where a text is no number.
-fn openings_from(vecbase: Option<&str>, entry1: Option<&str>) -> Option<Openings>
-    ensures { result ≡ openings_in (option_map (λ t. t.now) vecbase.entry) (option_map (λ t. t.now) entry1.entry) }
+// The openings that the texts say with these roots, or none where a text is no number or no list.
+fn openings_from(
+    vecbase: Option<&str>,
+    entry1: Option<&str>,
+    roots: Option<Roots>,
+) -> Option<Openings>
+    ensures { result ≡ openings_with (option_map (λ t. t.now) vecbase.entry) (option_map (λ t. t.now) entry1.entry) roots }
 {
     let vecbase = number_or(vecbase, DEFAULT_VECBASE)?;
     let entry1 = given_number(entry1)?;
-    Some(Openings { vecbase, entry1 })
+    Some(Openings {
+        vecbase,
+        entry1,
+        roots: roots?,
+    })
 }
 
 // Openings, or the first rule of usage that they break.
@@ -23,25 +32,36 @@ fn judge_openings(openings: Option<Openings>) -> Result<Openings, Refusal>
     ensures means { result ≡ judged_openings openings }
     ensures valid { IfOk result AreOpenings }
 {
-    match openings {
-        None => Err(Refusal::Usage(4)),
-        Some(openings) if !is_good_entry(openings.entry1) => Err(Refusal::Usage(6)),
-        Some(openings) if openings.vecbase % 1024 != 0 => Err(Refusal::Usage(7)),
-        Some(openings) => Ok(openings),
+    let Some(openings) = openings else {
+        return Err(Refusal::Usage(4));
+    };
+    if !is_good_entry(openings.entry1) {
+        return Err(Refusal::Usage(6));
     }
+    if openings.vecbase % 1024 != 0 {
+        return Err(Refusal::Usage(7));
+    }
+    Ok(openings)
 }
 
 // Which bytes are instructions, by whether `--flow` was given and the texts of the options that stand with it alone.
-fn way_from(flow: bool, vecbase: Option<&str>, entry1: Option<&str>) -> Result<Way, Refusal>
-    ensures means { result ≡ way_in flow (option_map (λ t. t.now) vecbase.entry) (option_map (λ t. t.now) entry1.entry) }
+fn way_from(
+    alloc: Global,
+    flow: bool,
+    vecbase: Option<&str>,
+    entry1: Option<&str>,
+    roots: Option<&str>,
+) -> Result<Way, Refusal>
+    ensures means { Means result (way_in flow (option_map (λ t. t.now) vecbase.entry) (option_map (λ t. t.now) entry1.entry) (option_map (λ t. t.now) roots.entry)) }
     ensures valid { IfOk result IsWay }
 {
     if flow {
-        let openings = judge_openings(openings_from(vecbase, entry1))?;
+        let roots = roots_or_none(alloc, roots)?;
+        let openings = judge_openings(openings_from(vecbase, entry1, roots))?;
         return Ok(Way::Flow(openings));
     }
-    match (vecbase, entry1) {
-        (None, None) => Ok(Way::Sweep),
+    match (vecbase, entry1, roots) {
+        (None, None, None) => Ok(Way::Sweep),
         _ => Err(Refusal::Usage(3)),
     }
 }
@@ -49,18 +69,20 @@ fn way_from(flow: bool, vecbase: Option<&str>, entry1: Option<&str>) -> Result<W
 /// The listing that the words of `dis` say, the first of which stands for the command.
 ///
 /// The words are read as a simple command of `clap` with the flags `--flow` and `--data` and the options `--vecbase N`,
-/// whose default is 0x40080000, and `--entry1 N`. N is as for `run`. `Usage` has the first rule that the words break: 3 they do not
-/// match, or an option stands without `--flow`, 4 a text is no number, 6 `entry1` is in no executable region, 7
-/// `vecbase` is no multiple of 1024. `Memory` says only that memory ran out.
+/// whose default is 0x40080000, `--entry1 N` and `--roots N,N,..`. N is as for `run`. `Usage` has the first rule that the
+/// words break: 3 they do not match, or an option stands without `--flow`, 4 a text is no number or no list of numbers, 6
+/// `entry1` is in no executable region, 7 `vecbase` is no multiple of 1024. `Memory` says only that memory ran out.
 pub fn listing(alloc: Global, words: &[String]) -> Result<Listing, Refusal>
     ensures means { Means result (listing_of (map string_bytes words.now)) }
     ensures valid { IfOk result IsListing }
 {
     let matches = dis_matches(alloc, words)?;
     let way = way_from(
+        alloc,
         is_true(text_of(&matches, "flow")),
         text_of(&matches, "vecbase"),
         text_of(&matches, "entry1"),
+        text_of(&matches, "roots"),
     )?;
     let as_text = is_true(text_of(&matches, "data"));
     Ok(Listing { way, as_text })

@@ -144,6 +144,7 @@ fn dis_command<'a>(alloc: Global) -> Result<Command<'a>, AllocError>
 {
     let command = with_one_option(alloc, Command::new(alloc, "dis"), "vecbase")?;
     let command = with_one_option(alloc, command, "entry1")?;
+    let command = with_one_option(alloc, command, "roots")?;
     let command = with_one_flag(alloc, command, "flow")?;
     with_one_flag(alloc, command, "data")
 }

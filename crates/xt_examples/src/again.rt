@@ -17,7 +17,7 @@ const VECBASE: u32 = 0x4008_0000;
 pub fn flow_of(alloc: Global, image: &Image, entry1: u32) -> Option<String>
     requires { IsWellFormed image.now }
 {
-    let text = flow_listing(alloc, image, VECBASE, entry1).ok()?;
+    let text = flow_listing(alloc, image, VECBASE, entry1, &[]).ok()?;
     let lines = std::str::from_utf8(text.as_slice()).ok()?;
     String::from_str(alloc, lines).ok()
 }
@@ -27,7 +27,7 @@ pub fn source_of(alloc: Global, image: &Image, entry1: u32, follows: bool) -> Op
     requires { IsWellFormed image.now }
 {
     if follows {
-        flow_source(alloc, image, VECBASE, entry1).ok()
+        flow_source(alloc, image, VECBASE, entry1, &[]).ok()
     } else {
         source(alloc, image).ok()
     }

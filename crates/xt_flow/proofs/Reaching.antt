@@ -20,14 +20,14 @@ abbrev pub IsMet : List Bool → List ℕ → ℕ → Type 0
 IsMet starts pending a = (is_marked starts a ≡ true) ⊎ Contains pending a
 
 -- what the tables and the pending addresses say, at each step
-pub record Going (image : Image) (vecbase entry1 : ℕ) (starts reads : List Bool) (pending : List ℕ) : Type 0 where
+pub record Going (image : Image) (vecbase entry1 : ℕ) (roots : List ℕ) (starts reads : List Bool) (pending : List ℕ) : Type 0 where
   pub starts_size : length starts ≡ table_size
   pub reads_size : length reads ≡ table_size
-  pub sound : (a : ℕ) → is_marked starts a ≡ true → Starts image vecbase entry1 a
-  pub waiting : (a : ℕ) → Contains pending a → HoldsInsn image a → Starts image vecbase entry1 a
-  pub opened : (a : ℕ) → Contains (openings image.entry entry1 vecbase) a → HoldsInsn image a → IsMet starts pending a
+  pub sound : (a : ℕ) → is_marked starts a ≡ true → Starts image vecbase entry1 roots a
+  pub waiting : (a : ℕ) → Contains pending a → HoldsInsn image a → Starts image vecbase entry1 roots a
+  pub opened : (a : ℕ) → Contains (openings image.entry entry1 vecbase roots) a → HoldsInsn image a → IsMet starts pending a
   pub closed : (a b : ℕ) → is_marked starts a ≡ true → Contains (goes_to image.segments a) b → HoldsInsn image b → IsMet starts pending b
-  pub read_sound : (w : ℕ) → is_marked reads w ≡ true → IsRead image vecbase entry1 w
+  pub read_sound : (w : ℕ) → is_marked reads w ≡ true → IsRead image vecbase entry1 roots w
   pub read_whole : (a w : ℕ) → is_marked starts a ≡ true → literal_at image.segments a ≡ Some w → is_in_code image.segments w ≡ true → is_marked reads w ≡ true
 
 -- ---- to begin with
@@ -35,8 +35,8 @@ pub record Going (image : Image) (vecbase entry1 : ℕ) (starts reads : List Boo
 unmarked_not : {P : Type 0} (n a : ℕ) → is_marked (unmarked n) a ≡ true → P
 unmarked_not n a h = let none : is_marked (unmarked n) a ≡ false = none_marked n a in absurd cc
 
-pub begins : (image : Image) (vecbase entry1 : ℕ) → Going image vecbase entry1 (unmarked table_size) (unmarked table_size) (openings image.entry entry1 vecbase)
-begins image vecbase entry1 = record {
+pub begins : (image : Image) (vecbase entry1 : ℕ) (roots : List ℕ) → Going image vecbase entry1 roots (unmarked table_size) (unmarked table_size) (openings image.entry entry1 vecbase roots)
+begins image vecbase entry1 roots = record {
   starts_size = length-unmarked table_size;
   reads_size = length-unmarked table_size;
   sound = λ a h. unmarked_not table_size a h;
@@ -55,14 +55,14 @@ no_member a h = let none : h.0 < 0 = h.1 in absurd (omega arith)
 met_all : (starts : List Bool) (a : ℕ) → IsMet starts [] a → is_marked starts a ≡ true
 met_all starts a met = ⊎_elim (λ (h : is_marked starts a ≡ true). h) (λ (h : Contains {X = ℕ} [] a). no_member a h) met
 
-whole : (image : Image) (vecbase entry1 : ℕ) (starts reads : List Bool) → Going image vecbase entry1 starts reads [] → (a : ℕ) → Starts image vecbase entry1 a → is_marked starts a ≡ true
-whole image vecbase entry1 starts reads going x (Opens a here holds) = met_all starts a (going.opened a here holds)
-whole image vecbase entry1 starts reads going x (Follows a b from here holds) = met_all starts b (going.closed a b (whole image vecbase entry1 starts reads going a from) here holds)
+whole : (image : Image) (vecbase entry1 : ℕ) (roots : List ℕ) (starts reads : List Bool) → Going image vecbase entry1 roots starts reads [] → (a : ℕ) → Starts image vecbase entry1 roots a → is_marked starts a ≡ true
+whole image vecbase entry1 roots starts reads going x (Opens a here holds) = met_all starts a (going.opened a here holds)
+whole image vecbase entry1 roots starts reads going x (Follows a b from here holds) = met_all starts b (going.closed a b (whole image vecbase entry1 roots starts reads going a from) here holds)
 
-pub ends : (image : Image) (vecbase entry1 : ℕ) (starts reads : List Bool) → Going image vecbase entry1 starts reads [] → IsVisited image vecbase entry1 starts reads
-ends image vecbase entry1 starts reads going = record {
-  started = λ a. (going.sound a, whole image vecbase entry1 starts reads going a);
-  read = λ w. (going.read_sound w, λ r. going.read_whole r.reader.0 w (whole image vecbase entry1 starts reads going r.reader.0 r.reader.1.0) r.reader.1.1 (lt-ltb 0 (length (code_from image.segments w)) r.code));
+pub ends : (image : Image) (vecbase entry1 : ℕ) (roots : List ℕ) (starts reads : List Bool) → Going image vecbase entry1 roots starts reads [] → IsVisited image vecbase entry1 roots starts reads
+ends image vecbase entry1 roots starts reads going = record {
+  started = λ a. (going.sound a, whole image vecbase entry1 roots starts reads going a);
+  read = λ w. (going.read_sound w, λ r. going.read_whole r.reader.0 w (whole image vecbase entry1 roots starts reads going r.reader.0 r.reader.1.0) r.reader.1.1 (lt-ltb 0 (length (code_from image.segments w)) r.code));
 }
 
 -- ---- a visit that changes nothing
@@ -86,9 +86,9 @@ met_still segments starts pending a x old holds met =
     (Contains-push_cases pending a x h))
     met
 
-pub nothing_new : (image : Image) (vecbase entry1 : ℕ) (starts reads : List Bool) (pending : List ℕ) (a : ℕ) → is_new image.segments starts a ≡ false
-    → Going image vecbase entry1 starts reads (pending ++ a ∷ []) → Going image vecbase entry1 starts reads pending
-nothing_new image vecbase entry1 starts reads pending a old going = record {
+pub nothing_new : (image : Image) (vecbase entry1 : ℕ) (roots : List ℕ) (starts reads : List Bool) (pending : List ℕ) (a : ℕ) → is_new image.segments starts a ≡ false
+    → Going image vecbase entry1 roots starts reads (pending ++ a ∷ []) → Going image vecbase entry1 roots starts reads pending
+nothing_new image vecbase entry1 roots starts reads pending a old going = record {
   starts_size = going.starts_size;
   reads_size = going.reads_size;
   sound = going.sound;
@@ -113,7 +113,7 @@ met_now starts pending more a x same met =
     met
 
 -- the table of what is read, with what the instruction at an address reads
-module _ (image : Image) (vecbase entry1 a : ℕ) (reads : List Bool) where
+module _ (image : Image) (vecbase entry1 : ℕ) (roots : List ℕ) (a : ℕ) (reads : List Bool) where
   words_size : (word : Option ℕ) → length (with_word image.segments reads word) ≡ length reads
   words_size None = refl
   words_size (Some w) = elim (is_in_code image.segments w) as (λ b. length (if b then with_mark reads w else reads) ≡ length reads) [ true ↦ length-with_mark reads w | false ↦ refl ]
@@ -122,11 +122,11 @@ module _ (image : Image) (vecbase entry1 a : ℕ) (reads : List Bool) where
   words_kept None x h = h
   words_kept (Some w) x h = elim (is_in_code image.segments w) as (λ b. is_marked (if b then with_mark reads w else reads) x ≡ true) [ true ↦ marked_kept reads w x h | false ↦ h ]
 
-  words_sound : (word : Option ℕ) → Starts image vecbase entry1 a → literal_at image.segments a ≡ word → ((x : ℕ) → is_marked reads x ≡ true → IsRead image vecbase entry1 x)
-      → (x : ℕ) → is_marked (with_word image.segments reads word) x ≡ true → IsRead image vecbase entry1 x
+  words_sound : (word : Option ℕ) → Starts image vecbase entry1 roots a → literal_at image.segments a ≡ word → ((x : ℕ) → is_marked reads x ≡ true → IsRead image vecbase entry1 roots x)
+      → (x : ℕ) → is_marked (with_word image.segments reads word) x ≡ true → IsRead image vecbase entry1 roots x
   words_sound None start is before x = before x
   words_sound (Some w) start is before x =
-      elim (is_in_code image.segments w) as (λ b. is_in_code image.segments w ≡ b → is_marked (if b then with_mark reads w else reads) x ≡ true → IsRead image vecbase entry1 x) [
+      elim (is_in_code image.segments w) as (λ b. is_in_code image.segments w ≡ b → is_marked (if b then with_mark reads w else reads) x ≡ true → IsRead image vecbase entry1 roots x) [
         | true ↦ λ code h.
             ⊎_elim
             (λ (e : x ≡ w). record {
@@ -149,20 +149,20 @@ module _ (image : Image) (vecbase entry1 a : ℕ) (reads : List Bool) where
       let marked : is_marked (with_mark reads w) w ≡ true = marked_same reads w low (omega arith) in
       subst (λ y. is_marked (if is_in_code image.segments y then with_mark reads y else reads) w ≡ true) (sym same) (rw code marked)
 
-pub one_more : (image : Image) (vecbase entry1 : ℕ) (starts reads : List Bool) (pending : List ℕ) (a : ℕ) → All (λ s. is_well_placed s ≡ true) image.segments → HoldsInsn image a
-    → Going image vecbase entry1 starts reads (pending ++ a ∷ [])
-    → Going image vecbase entry1 (with_mark starts a) (with_word image.segments reads (literal_at image.segments a)) (pending ++ goes_to image.segments a)
-one_more image vecbase entry1 starts reads pending a placed holds going =
+pub one_more : (image : Image) (vecbase entry1 : ℕ) (roots : List ℕ) (starts reads : List Bool) (pending : List ℕ) (a : ℕ) → All (λ s. is_well_placed s ≡ true) image.segments → HoldsInsn image a
+    → Going image vecbase entry1 roots starts reads (pending ++ a ∷ [])
+    → Going image vecbase entry1 roots (with_mark starts a) (with_word image.segments reads (literal_at image.segments a)) (pending ++ goes_to image.segments a)
+one_more image vecbase entry1 roots starts reads pending a placed holds going =
     let inside = insn_within image.segments placed a holds in
     let low = inside.0 in
     let high = inside.1 in
     let size = going.starts_size in
     let same : is_marked (with_mark starts a) a ≡ true = marked_same starts a low (omega arith) in
-    let start : Starts image vecbase entry1 a = going.waiting a (Contains-push pending a) holds in
+    let start : Starts image vecbase entry1 roots a = going.waiting a (Contains-push pending a) holds in
     record {
       starts_size = length-with_mark starts a ∙ going.starts_size;
-      reads_size = words_size image vecbase entry1 a reads (literal_at image.segments a) ∙ going.reads_size;
-      sound = λ x h. ⊎_elim (λ (e : x ≡ a). subst (Starts image vecbase entry1) (sym e) start) (λ (k : is_marked starts x ≡ true). going.sound x k) (marked_other starts a x h);
+      reads_size = words_size image vecbase entry1 roots a reads (literal_at image.segments a) ∙ going.reads_size;
+      sound = λ x h. ⊎_elim (λ (e : x ≡ a). subst (Starts image vecbase entry1 roots) (sym e) start) (λ (k : is_marked starts x ≡ true). going.sound x k) (marked_other starts a x h);
       waiting = λ x here there.
           ⊎_elim
           (λ (h : Contains pending x). going.waiting x (Contains-append_left pending (a ∷ []) x h) there)
@@ -174,25 +174,25 @@ one_more image vecbase entry1 starts reads pending a placed holds going =
           (λ (e : x ≡ a). inr (Contains-append_right pending (goes_to image.segments a) y (subst (λ z. Contains (goes_to image.segments z) y) e here)))
           (λ (k : is_marked starts x ≡ true). met_now starts pending (goes_to image.segments a) a y same (going.closed x y k here there))
           (marked_other starts a x h);
-      read_sound = words_sound image vecbase entry1 a reads (literal_at image.segments a) start refl going.read_sound;
+      read_sound = words_sound image vecbase entry1 roots a reads (literal_at image.segments a) start refl going.read_sound;
       read_whole = λ x w h is code.
           ⊎_elim
-          (λ (e : x ≡ a). words_whole image vecbase entry1 a reads (literal_at image.segments a) w going.reads_size (code_within image.segments placed) (ap (literal_at image.segments) (sym e) ∙ is) code)
-          (λ (k : is_marked starts x ≡ true). words_kept image vecbase entry1 a reads (literal_at image.segments a) w (going.read_whole x w k is code))
+          (λ (e : x ≡ a). words_whole image vecbase entry1 roots a reads (literal_at image.segments a) w going.reads_size (code_within image.segments placed) (ap (literal_at image.segments) (sym e) ∙ is) code)
+          (λ (k : is_marked starts x ≡ true). words_kept image vecbase entry1 roots a reads (literal_at image.segments a) w (going.read_whole x w k is code))
           (marked_other starts a x h);
     }
 
 -- ---- a visit
 
 -- the tables and the pending addresses after a visit of the last pending address
-pub goes_on : (image : Image) (vecbase entry1 : ℕ) (starts reads : List Bool) (pending : List ℕ) (a : ℕ) → All (λ s. is_well_placed s ≡ true) image.segments
-    → Going image vecbase entry1 starts reads (pending ++ a ∷ [])
-    → Going image vecbase entry1 (starts_after image.segments starts a) (reads_after image.segments starts reads a) (pending_after image.segments starts pending a)
-goes_on image vecbase entry1 starts reads pending a placed going =
+pub goes_on : (image : Image) (vecbase entry1 : ℕ) (roots : List ℕ) (starts reads : List Bool) (pending : List ℕ) (a : ℕ) → All (λ s. is_well_placed s ≡ true) image.segments
+    → Going image vecbase entry1 roots starts reads (pending ++ a ∷ [])
+    → Going image vecbase entry1 roots (starts_after image.segments starts a) (reads_after image.segments starts reads a) (pending_after image.segments starts pending a)
+goes_on image vecbase entry1 roots starts reads pending a placed going =
     elim (is_new image.segments starts a) as (λ b. is_new image.segments starts a ≡ b →
-    Going image vecbase entry1 (if b then with_mark starts a else starts) (if b then with_word image.segments reads (literal_at image.segments a) else reads) (if b then pending ++ goes_to image.segments a else pending)) [
-      | true ↦ λ new. one_more image vecbase entry1 starts reads pending a placed (and_parts (not (is_marked starts a)) (is_some (insn_at image.segments a)) new).1 going
-      | false ↦ λ old. nothing_new image vecbase entry1 starts reads pending a old going
+    Going image vecbase entry1 roots (if b then with_mark starts a else starts) (if b then with_word image.segments reads (literal_at image.segments a) else reads) (if b then pending ++ goes_to image.segments a else pending)) [
+      | true ↦ λ new. one_more image vecbase entry1 roots starts reads pending a placed (and_parts (not (is_marked starts a)) (is_some (insn_at image.segments a)) new).1 going
+      | false ↦ λ old. nothing_new image vecbase entry1 roots starts reads pending a old going
     ] refl
 
 -- ---- the walk ends
@@ -221,10 +221,10 @@ two_at_most segments a =
 abbrev pub left : List Bool → List ℕ → ℕ
 left starts pending = 3 * count_free starts + length pending
 
-pub less_left : (image : Image) (vecbase entry1 : ℕ) (starts reads : List Bool) (pending : List ℕ) (a : ℕ) → All (λ s. is_well_placed s ≡ true) image.segments
-    → Going image vecbase entry1 starts reads (pending ++ a ∷ [])
+pub less_left : (image : Image) (vecbase entry1 : ℕ) (roots : List ℕ) (starts reads : List Bool) (pending : List ℕ) (a : ℕ) → All (λ s. is_well_placed s ≡ true) image.segments
+    → Going image vecbase entry1 roots starts reads (pending ++ a ∷ [])
     → left (starts_after image.segments starts a) (pending_after image.segments starts pending a) < left starts (pending ++ a ∷ [])
-less_left image vecbase entry1 starts reads pending a placed going =
+less_left image vecbase entry1 roots starts reads pending a placed going =
     let one_pending = length_push pending a in
     elim (is_new image.segments starts a) as (λ b. is_new image.segments starts a ≡ b →
     left (if b then with_mark starts a else starts) (if b then pending ++ goes_to image.segments a else pending) < left starts (pending ++ a ∷ [])) [

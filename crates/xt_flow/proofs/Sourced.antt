@@ -1,5 +1,5 @@
 -- A walk over bytes, line by line of a text.
-use Rattle.std.proofs.Common.{◌≡◌, ℕ, zero, suc, ◌+◌, ◌-◌, ◌*◌, ◌/◌, ◌%◌, ◌<◌, ◌≤◌, Bool, true, false, List, [], ◌∷◌, ◌++◌, length, drop, Option, Some, None, refl, sym, ap, ◌∙◌, append_assoc, length-drop, arith}
+use Rattle.std.proofs.Common.{◌≡◌, ℕ, zero, suc, ◌+◌, ◌%◌, ◌<◌, ◌≤◌, Bool, true, false, List, [], ◌∷◌, ◌++◌, length, drop, Option, Some, None, refl, sym, ap, ◌∙◌, append_assoc, length-drop, arith}
 use mathlib.Core.List.{append-nil}
 use Rattle.std.specs.Prelude.{if◌then◌else◌, nat_le, IfOk, Result, Ok, Err}
 use Rattle.std.specs.Option.{option_map_or}
@@ -87,8 +87,8 @@ no_line_left r old whole a [] none so_far = sym (append-nil old) ∙ so_far
 no_line_left r old whole a (b ∷ bytes) none so_far = absurd (omega arith)
 
 -- the text by the two tables
-pub source_is_right : {E : Type 0} (image : Image) (vecbase entry1 : ℕ) (v : Visited) (text : Result (List ℕ) E) → IsVisited image vecbase entry1 v.starts.items v.reads.items
-    → IfOk text (λ t. t ≡ source_by (code_reading image.segments (Some v)) image) → IfOk text (λ t. IsFlowSource image vecbase entry1 t)
-source_is_right image vecbase entry1 v (Ok t) visited is =
-    (marks_of image.segments v.starts.items v.reads.items, (marks_are_right image vecbase entry1 v.starts.items v.reads.items visited, is))
-source_is_right image vecbase entry1 v (Err e) visited is = tt
+pub source_is_right : {E : Type 0} (image : Image) (vecbase entry1 : ℕ) (roots : List ℕ) (v : Visited) (text : Result (List ℕ) E) → IsVisited image vecbase entry1 roots v.starts.items v.reads.items
+    → IfOk text (λ t. t ≡ source_by (code_reading image.segments (Some v)) image) → IfOk text (λ t. IsFlowSource image vecbase entry1 roots t)
+source_is_right image vecbase entry1 roots v (Ok t) visited is =
+    (marks_of image.segments v.starts.items v.reads.items, (marks_are_right image vecbase entry1 roots v.starts.items v.reads.items visited, is))
+source_is_right image vecbase entry1 roots v (Err e) visited is = tt

@@ -21,9 +21,9 @@ length_at-small : (segments : List Segment) (a : ℕ) → (2 ≤ length_at segme
 length_at-small segments a = two_or_three (within 8 13 (byte_at (code_from segments a) 0 % 16))
 
 -- where one starts an instruction lies
-start_holds : (image : Image) (vecbase entry1 a : ℕ) → Starts image vecbase entry1 a → HoldsInsn image a
-start_holds image vecbase entry1 x (Opens a here holds) = holds
-start_holds image vecbase entry1 x (Follows a b from here holds) = holds
+start_holds : (image : Image) (vecbase entry1 : ℕ) (roots : List ℕ) (a : ℕ) → Starts image vecbase entry1 roots a → HoldsInsn image a
+start_holds image vecbase entry1 roots x (Opens a here holds) = holds
+start_holds image vecbase entry1 roots x (Follows a b from here holds) = holds
 
 -- ---- four bytes that are free
 
@@ -92,18 +92,18 @@ apart segments starts w a low free marked holds =
 
 -- ---- the marks
 
-module _ (image : Image) (vecbase entry1 : ℕ) (starts reads : List Bool) (visited : IsVisited image vecbase entry1 starts reads) (w : ℕ) where
-  to_word : (is_marked reads w && is_free image.segments starts w) ≡ true → IsWord image vecbase entry1 w
+module _ (image : Image) (vecbase entry1 : ℕ) (roots : List ℕ) (starts reads : List Bool) (visited : IsVisited image vecbase entry1 roots starts reads) (w : ℕ) where
+  to_word : (is_marked reads w && is_free image.segments starts w) ≡ true → IsWord image vecbase entry1 roots w
   to_word h =
       let parts = and_parts (is_marked reads w) (is_free image.segments starts w) h in
       let high : first_place ≤ w = marked_high reads w parts.0 in
       record {
         read = (visited.read w).0 parts.0;
-        free = λ a start. apart image.segments starts w a (omega arith) parts.1 ((visited.started a).1 start) (start_holds image vecbase entry1 a start);
+        free = λ a start. apart image.segments starts w a (omega arith) parts.1 ((visited.started a).1 start) (start_holds image vecbase entry1 roots a start);
       }
 
   -- no start touches a word
-  not_touched : IsWord image vecbase entry1 w → (a : ℕ) → w < a + length_at image.segments a → a < w + 4 → is_marked starts a ≡ false
+  not_touched : IsWord image vecbase entry1 roots w → (a : ℕ) → w < a + length_at image.segments a → a < w + 4 → is_marked starts a ≡ false
   not_touched word a over before =
       false_from_ne_true (is_marked starts a) (λ (h : is_marked starts a ≡ true).
       ⊎_elim
@@ -111,7 +111,7 @@ module _ (image : Image) (vecbase entry1 : ℕ) (starts reads : List Bool) (visi
       (λ (behind : w + 4 ≤ a). (let no_way : ⊥ = absurd (omega arith) in no_way))
       (word.free a ((visited.started a).0 h)))
 
-  from_word : IsWord image vecbase entry1 w → (is_marked reads w && is_free image.segments starts w) ≡ true
+  from_word : IsWord image vecbase entry1 roots w → (is_marked reads w && is_free image.segments starts w) ≡ true
   from_word word =
       let read : is_marked reads w ≡ true = (visited.read w).1 word.read in
       let high : first_place ≤ w = marked_high reads w read in
@@ -132,14 +132,14 @@ module _ (image : Image) (vecbase entry1 : ℕ) (starts reads : List Bool) (visi
       and_from (is_marked reads w) (is_free image.segments starts w) read
       (is_free_from image.segments starts w (or_from (is_marked starts (w - 1)) (is_marked starts (w - 2) && is_long image.segments (w - 2)) one two) inside)
 
-pub marks_are_right : (image : Image) (vecbase entry1 : ℕ) (starts reads : List Bool) → IsVisited image vecbase entry1 starts reads → IsMarked image vecbase entry1 (marks_of image.segments starts reads)
-marks_are_right image vecbase entry1 starts reads visited = record {
+pub marks_are_right : (image : Image) (vecbase entry1 : ℕ) (roots : List ℕ) (starts reads : List Bool) → IsVisited image vecbase entry1 roots starts reads → IsMarked image vecbase entry1 roots (marks_of image.segments starts reads)
+marks_are_right image vecbase entry1 roots starts reads visited = record {
   starts = λ a. visited.started a;
-  words = λ w. (to_word image vecbase entry1 starts reads visited w, from_word image vecbase entry1 starts reads visited w);
+  words = λ w. (to_word image vecbase entry1 roots starts reads visited w, from_word image vecbase entry1 roots starts reads visited w);
 }
 
 -- the text by the two tables
-pub text_is_right : {E : Type 0} (image : Image) (vecbase entry1 : ℕ) (starts reads : List Bool) (text : Result (List ℕ) E) → IsVisited image vecbase entry1 starts reads
-    → IfOk text (λ t. t ≡ text_by (marks_of image.segments starts reads) image) → IfOk text (λ t. IsFlowText image vecbase entry1 t)
-text_is_right image vecbase entry1 starts reads (Ok t) visited is = (marks_of image.segments starts reads, (marks_are_right image vecbase entry1 starts reads visited, is))
-text_is_right image vecbase entry1 starts reads (Err e) visited is = tt
+pub text_is_right : {E : Type 0} (image : Image) (vecbase entry1 : ℕ) (roots : List ℕ) (starts reads : List Bool) (text : Result (List ℕ) E) → IsVisited image vecbase entry1 roots starts reads
+    → IfOk text (λ t. t ≡ text_by (marks_of image.segments starts reads) image) → IfOk text (λ t. IsFlowText image vecbase entry1 roots t)
+text_is_right image vecbase entry1 roots starts reads (Ok t) visited is = (marks_of image.segments starts reads, (marks_are_right image vecbase entry1 roots starts reads visited, is))
+text_is_right image vecbase entry1 roots starts reads (Err e) visited is = tt

@@ -63,9 +63,10 @@ pending_after segments starts pending a =
 -- ---- all of them
 
 -- the tables mark what starts, and what is read
-pub record IsVisited (image : Image) (vecbase entry1 : ℕ) (starts reads : List Bool) : Type 0 where
-  pub started : (a : ℕ) → (is_marked starts a ≡ true) ↔ Starts image vecbase entry1 a
-  pub read : (w : ℕ) → (is_marked reads w ≡ true) ↔ IsRead image vecbase entry1 w
+pub record IsVisited
+    (image : Image) (vecbase entry1 : ℕ) (roots : List ℕ) (starts reads : List Bool) : Type 0 where
+  pub started : (a : ℕ) → (is_marked starts a ≡ true) ↔ Starts image vecbase entry1 roots a
+  pub read : (w : ℕ) → (is_marked reads w ≡ true) ↔ IsRead image vecbase entry1 roots w
 
 -- ---- the marks of two tables
 

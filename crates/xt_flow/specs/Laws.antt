@@ -12,10 +12,11 @@ use Rattle.xt_image.specs.declared.image.Image.{Image}
 use Rattle.xt_flow.specs.Printing.{IsFlowText}
 use Rattle.xt_flow.specs.Starts.{vector_offsets}
 
--- an image, VECBASE and the second core's entry have one text
-abbrev pub HasOneText : Image → ℕ → ℕ → Type 0
-HasOneText image vecbase entry1 =
-    (s t : List ℕ) → IsFlowText image vecbase entry1 s → IsFlowText image vecbase entry1 t → s ≡ t
+-- an image, VECBASE, the second core's entry and the roots have one text
+abbrev pub HasOneText : Image → ℕ → ℕ → List ℕ → Type 0
+HasOneText image vecbase entry1 roots =
+    (s t : List ℕ) → IsFlowText image vecbase entry1 roots s
+    → IsFlowText image vecbase entry1 roots t → s ≡ t
 
 -- the program counter stands at one of the thirteen vectors of a state
 abbrev pub StandsAtVector : Control → Control → Type 0

@@ -22,9 +22,9 @@ pub record Marks : Type 0 where
   pub words : ℕ → Bool
 
 -- the marks are right for an image
-pub record IsMarked (image : Image) (vecbase entry1 : ℕ) (m : Marks) : Type 0 where
-  pub starts : (a : ℕ) → (m.starts a ≡ true) ↔ Starts image vecbase entry1 a
-  pub words : (a : ℕ) → (m.words a ≡ true) ↔ IsWord image vecbase entry1 a
+pub record IsMarked (image : Image) (vecbase entry1 : ℕ) (roots : List ℕ) (m : Marks) : Type 0 where
+  pub starts : (a : ℕ) → (m.starts a ≡ true) ↔ Starts image vecbase entry1 roots a
+  pub words : (a : ℕ) → (m.words a ≡ true) ↔ IsWord image vecbase entry1 roots a
 
 -- whether a word is printed of the bytes from an address on: it lies whole in its segment
 abbrev pub is_word : Marks → ℕ → List ℕ → Bool
@@ -133,6 +133,6 @@ unfoldable pub text_by : Marks → Image → List ℕ
 text_by m image = flat_map (segment_text m) (enumerate_from 0 image.segments)
 
 -- the text is that of the marks that are right
-abbrev pub IsFlowText : Image → ℕ → ℕ → List ℕ → Type 0
-IsFlowText image vecbase entry1 text =
-    (m : Marks) × (IsMarked image vecbase entry1 m × (text ≡ text_by m image))
+abbrev pub IsFlowText : Image → ℕ → ℕ → List ℕ → List ℕ → Type 0
+IsFlowText image vecbase entry1 roots text =
+    (m : Marks) × (IsMarked image vecbase entry1 roots m × (text ≡ text_by m image))

@@ -128,6 +128,6 @@ source_by code image =
     entry_line image.entry ++ flat_map (segment_source code) (enumerate_from 0 image.segments)
 
 -- the text is that of the marks that are right
-abbrev pub IsFlowSource : Image → ℕ → ℕ → List ℕ → Type 0
-IsFlowSource image vecbase entry1 text =
-    (m : Marks) × (IsMarked image vecbase entry1 m × (text ≡ source_by (followed m) image))
+abbrev pub IsFlowSource : Image → ℕ → ℕ → List ℕ → List ℕ → Type 0
+IsFlowSource image vecbase entry1 roots text =
+    (m : Marks) × (IsMarked image vecbase entry1 roots m × (text ≡ source_by (followed m) image))

@@ -19,10 +19,11 @@ vector_offsets =
     ++ map (λ level. 0x100 + 0x40 * level) (2 ∷ 3 ∷ 4 ∷ 5 ∷ [])
     ++ kernel_vector ∷ user_vector ∷ double_vector ∷ []
 
--- where control can come from outside: the entries of both cores, and the vectors
-unfoldable pub openings : ℕ → ℕ → ℕ → List ℕ
-openings entry entry1 vecbase =
-    entry ∷ entry1 ∷ map (λ offset. (vecbase + offset) % 2 ^ 32) vector_offsets
+-- where control can come from outside: the entries of both cores, the vectors, and the roots that
+-- the caller names
+unfoldable pub openings : ℕ → ℕ → ℕ → List ℕ → List ℕ
+openings entry entry1 vecbase roots =
+    entry ∷ entry1 ∷ (map (λ offset. (vecbase + offset) % 2 ^ 32) vector_offsets ++ roots)
 
 -- an instruction lies whole in an executable segment at this address
 abbrev pub HoldsInsn : Image → ℕ → Type 0
@@ -30,20 +31,21 @@ HoldsInsn image a = is_some (insn_at image.segments a) ≡ true
 
 -- the addresses that start an instruction: an opening does, and where control goes from one that
 -- does, if an instruction lies there; nothing else does
-pub data Starts (image : Image) (vecbase entry1 : ℕ) : ℕ → Type 0 where
-  Opens : (a : ℕ) → Contains (openings image.entry entry1 vecbase) a → HoldsInsn image a
-      → Starts image vecbase entry1 a
-  Follows : (a b : ℕ) → Starts image vecbase entry1 a → Contains (goes_to image.segments a) b
-      → HoldsInsn image b → Starts image vecbase entry1 b
+pub data Starts (image : Image) (vecbase entry1 : ℕ) (roots : List ℕ) : ℕ → Type 0 where
+  Opens : (a : ℕ) → Contains (openings image.entry entry1 vecbase roots) a → HoldsInsn image a
+      → Starts image vecbase entry1 roots a
+  Follows : (a b : ℕ) → Starts image vecbase entry1 roots a → Contains (goes_to image.segments a) b
+      → HoldsInsn image b → Starts image vecbase entry1 roots b
 
 -- an L32R that starts somewhere reads the word at an address in code
-pub record IsRead (image : Image) (vecbase entry1 w : ℕ) : Type 0 where
-  pub reader : (a : ℕ) × (Starts image vecbase entry1 a × (literal_at image.segments a ≡ Some w))
+pub record IsRead (image : Image) (vecbase entry1 : ℕ) (roots : List ℕ) (w : ℕ) : Type 0 where
+  pub reader : (a : ℕ)
+      × (Starts image vecbase entry1 roots a × (literal_at image.segments a ≡ Some w))
   pub code : 0 < length (code_from image.segments w)
 
 -- a word stands at an address: an L32R reads it, and no instruction touches it, as each ends before
 -- it or starts behind it
-pub record IsWord (image : Image) (vecbase entry1 w : ℕ) : Type 0 where
-  pub read : IsRead image vecbase entry1 w
-  pub free : (a : ℕ) → Starts image vecbase entry1 a
+pub record IsWord (image : Image) (vecbase entry1 : ℕ) (roots : List ℕ) (w : ℕ) : Type 0 where
+  pub read : IsRead image vecbase entry1 roots w
+  pub free : (a : ℕ) → Starts image vecbase entry1 roots a
       → (a + length_at image.segments a ≤ w) ⊎ (w + 4 ≤ a)

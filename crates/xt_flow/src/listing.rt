@@ -281,7 +281,7 @@ fn text_of(alloc: Global, image: &Image, visited: &Visited) -> Result<Text, Allo
 /// its first byte to its last. The only error is running out of memory.
 ///
 /// An address starts an instruction where the instruction lies whole in an executable segment and the address is the image's
-/// entry, `entry1` (the entry of the second core), one of the thirteen vectors from `vecbase` on, or where control goes from
+/// entry, `entry1` (the entry of the second core), one of the thirteen vectors from `vecbase` on, a root, or where control goes from
 /// an instruction that starts: the next address, unless it is a jump, a return, BREAK or ILL, or the target of a jump, a
 /// branch, a call or a loop; of a call or jump through a register it is the word that an L32R of the same block loaded,
 /// if that word lies in code. A line is
@@ -301,10 +301,11 @@ pub fn flow_listing(
     image: &Image,
     vecbase: u32,
     entry1: u32,
+    roots: &[u32],
 ) -> Result<Text, AllocError>
     requires { IsWellFormed image.now }
-    ensures { IfOk result (λ text. IsFlowText image.now vecbase entry1 text) }
+    ensures { IfOk result (λ text. IsFlowText image.now vecbase entry1 roots.now text) }
 {
-    let visited = visit_all(alloc, image, vecbase, entry1)?;
+    let visited = visit_all(alloc, image, vecbase, entry1, roots)?;
     text_of(alloc, image, &visited)
 }

@@ -314,10 +314,11 @@ pub fn flow_source(
     image: &Image,
     vecbase: u32,
     entry1: u32,
+    roots: &[u32],
 ) -> Result<Text, AllocError>
     requires { IsWellFormed image.now }
-    ensures { IfOk result (λ text. IsFlowSource image.now vecbase entry1 text) }
+    ensures { IfOk result (λ text. IsFlowSource image.now vecbase entry1 roots.now text) }
 {
-    let visited = visit_all(alloc, image, vecbase, entry1)?;
+    let visited = visit_all(alloc, image, vecbase, entry1, roots)?;
     text_of(alloc, image, Some(&visited))
 }

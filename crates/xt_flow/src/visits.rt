@@ -41,15 +41,22 @@ fn push_vectors(all: &mut Vec<u32>, vecbase: u32, offsets: &[u32]) -> Result<(),
     Ok(())
 }
 
-/// Where control can come in: the entries of both cores and the vectors.
+/// Where control can come in: the entries of both cores, the vectors and the roots.
 #[tactic(auto, unfolding(crate::specs::Starts::openings))]
-fn openings(alloc: Global, entry: u32, entry1: u32, vecbase: u32) -> Result<Vec<u32>, AllocError>
-    ensures { IfOk result (λ v. v.items ≡ openings entry entry1 vecbase) }
+fn openings(
+    alloc: Global,
+    entry: u32,
+    entry1: u32,
+    vecbase: u32,
+    roots: &[u32],
+) -> Result<Vec<u32>, AllocError>
+    ensures { IfOk result (λ v. v.items ≡ openings entry entry1 vecbase roots.now) }
 {
     let mut all = Vec::new(alloc);
     all.push(entry)?;
     all.push(entry1)?;
     push_vectors(&mut all, vecbase, &VECTOR_OFFSETS)?;
+    all.extend_from_slice(roots)?;
     Ok(all)
 }
 
@@ -115,16 +122,17 @@ pub fn visit_all(
     image: &Image,
     vecbase: u32,
     entry1: u32,
+    roots: &[u32],
 ) -> Result<Visited, AllocError>
     requires { IsPlaced image.now.segments }
-    ensures { IfOk result (λ v. IsVisited image.now vecbase entry1 v.starts.items v.reads.items) }
+    ensures { IfOk result (λ v. IsVisited image.now vecbase entry1 roots.now v.starts.items v.reads.items) }
 {
     let segments = image.segments.as_slice();
     let mut visited = Visited {
         starts: empty_table(alloc)?,
         reads: empty_table(alloc)?,
     };
-    let mut pending = openings(alloc, image.entry, entry1, vecbase)?;
+    let mut pending = openings(alloc, image.entry, entry1, vecbase, roots)?;
     while let Some(at) = pending.pop() {
         visit(segments, &mut visited, &mut pending, at)?;
     }

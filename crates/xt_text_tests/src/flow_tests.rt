@@ -10,7 +10,7 @@ fn listed(alloc: Global, text: &str) -> Result<String, Fail>
     requires { length text.now ≤ 1048576 }
 {
     let image = assemble(alloc, text.as_bytes()).ok().ok_or("an image")?;
-    let lines = flow_listing(alloc, &image, 0x4008_0000, image.entry)?;
+    let lines = flow_listing(alloc, &image, 0x4008_0000, image.entry, &[])?;
     let lines = std::str::from_utf8(lines.as_slice()).ok().ok_or("a text")?;
     Ok(String::from_str(alloc, lines)?)
 }

@@ -58,15 +58,15 @@ unfoldable pub converted : List ℕ → List ℕ
 converted input = image_bytes (elf_image input)
 
 -- the listing of an image: each executable segment from its first byte on, or what control reaches
--- from the image's entry, that of core 1, which is the image's where the words say none, and the
--- vectors; as such, or as a text in the assembly language with the other segments
+-- from the image's entry, that of core 1, which is the image's where the words say none, the
+-- vectors and the roots; as such, or as a text in the assembly language with the other segments
 abbrev pub IsListedBy : Way → Bool → Image → List ℕ → Type 0
 IsListedBy way.Sweep false image bytes = bytes ≡ listing_text image
 IsListedBy way.Sweep true image bytes = bytes ≡ source_by swept image
 IsListedBy (way.Flow o) false image bytes =
-    IsFlowText image o.vecbase (unwrap_or o.entry1 image.entry) bytes
+    IsFlowText image o.vecbase (unwrap_or o.entry1 image.entry) o.roots bytes
 IsListedBy (way.Flow o) true image bytes =
-    IsFlowSource image o.vecbase (unwrap_or o.entry1 image.entry) bytes
+    IsFlowSource image o.vecbase (unwrap_or o.entry1 image.entry) o.roots bytes
 
 abbrev pub IsListed : Listing → Image → List ℕ → Type 0
 IsListed l image bytes = IsListedBy l.way l.as_text image bytes

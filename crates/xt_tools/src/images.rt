@@ -18,28 +18,29 @@ use xt_report::check_text;
 use xt_status::{Status, image_in};
 
 // The listing of an image.
-fn listed(alloc: Global, what: Listing, image: &Image) -> Result<Text, AllocError>
+fn listed(alloc: Global, what: &Listing, image: &Image) -> Result<Text, AllocError>
     requires { IsWellFormed image.now }
-    ensures { IfOk result (λ text. IsListed what image.now text) }
+    ensures { IfOk result (λ text. IsListed what.now image.now text) }
 {
-    match (what.way, what.as_text) {
+    match (&what.way, what.as_text) {
         (Way::Sweep, false) => listing(alloc, image),
         (Way::Sweep, true) => source(alloc, image),
         (Way::Flow(from), as_text) => {
             let entry1 = from.entry1.unwrap_or(image.entry);
+            let roots = from.roots.as_slice();
             if as_text {
-                flow_source(alloc, image, from.vecbase, entry1)
+                flow_source(alloc, image, from.vecbase, entry1, roots)
             } else {
-                flow_listing(alloc, image, from.vecbase, entry1)
+                flow_listing(alloc, image, from.vecbase, entry1, roots)
             }
         }
     }
 }
 
 /// An image's listing, or the status of the image's first fault.
-pub fn list(alloc: Global, what: Listing, input: &[u8]) -> Result<Text, Status>
+pub fn list(alloc: Global, what: &Listing, input: &[u8]) -> Result<Text, Status>
     requires { length input.now ≤ 8388608 }
-    ensures ok { IfOk result (λ bytes. IsMade (image_refusal input.now) (IsListed what (image_of input.now) bytes)) }
+    ensures ok { IfOk result (λ bytes. IsMade (image_refusal input.now) (IsListed what.now (image_of input.now) bytes)) }
     ensures refused { IfErr result (λ status. status ≢ Status.Memory → image_refusal input.now ≡ Some status) }
 {
     let image = image_in(alloc, input)?;

@@ -33,11 +33,11 @@ Ok(Disassemble(Listing { way: Sweep, as_text: false })) <- dis --
 
 /// `dis`.
 pub const LISTINGS: &str = "\
-Ok(Disassemble(Listing { way: Flow(Openings { vecbase: 1074266112, entry1: None }), as_text: false })) <- dis --flow
-Ok(Disassemble(Listing { way: Flow(Openings { vecbase: 1024, entry1: Some(1074593792) }), as_text: false })) <- dis --entry1 0x400D0000 --vecbase=1024 --flow
+Ok(Disassemble(Listing { way: Flow(Openings { vecbase: 1074266112, entry1: None, roots: Roots { items: [] } }), as_text: false })) <- dis --flow
+Ok(Disassemble(Listing { way: Flow(Openings { vecbase: 1024, entry1: Some(1074593792), roots: Roots { items: [] } }), as_text: false })) <- dis --entry1 0x400D0000 --vecbase=1024 --flow
 Ok(Disassemble(Listing { way: Sweep, as_text: true })) <- dis --data
-Ok(Disassemble(Listing { way: Flow(Openings { vecbase: 1074266112, entry1: None }), as_text: true })) <- dis --data --flow
-Ok(Disassemble(Listing { way: Flow(Openings { vecbase: 1074266112, entry1: Some(1074593792) }), as_text: true })) <- dis --flow --data --entry1 0x400D0000
+Ok(Disassemble(Listing { way: Flow(Openings { vecbase: 1074266112, entry1: None, roots: Roots { items: [] } }), as_text: true })) <- dis --data --flow
+Ok(Disassemble(Listing { way: Flow(Openings { vecbase: 1074266112, entry1: Some(1074593792), roots: Roots { items: [] } }), as_text: true })) <- dis --flow --data --entry1 0x400D0000
 Err(Usage(3)) <- dis --data --data
 Err(Usage(3)) <- dis --data --vecbase 1024
 Err(Usage(3)) <- dis --data file

@@ -1,4 +1,4 @@
-use Rattle.std.proofs.Common.{◌≡◌, ℕ, Bool, true, false, ◌↔◌, refl, sym, ap, ◌∙◌}
+use Rattle.std.proofs.Common.{◌≡◌, ℕ, Bool, true, false, ◌↔◌, List, refl, sym, ap, ◌∙◌}
 use mathlib.Core.Path.{fun_ext}
 use Rattle.xt_image.specs.declared.image.Image.{Image}
 use Rattle.xt_flow.specs.Printing.{IsMarked, Marks, text_by}
@@ -15,12 +15,12 @@ one_record : (starts other_starts words other_words : ℕ → Bool) → starts �
     → (let a : Marks = record { starts = starts; words = words } in a) ≡ (let b : Marks = record { starts = other_starts; words = other_words } in b)
 one_record starts other_starts words other_words p q = λ i. record { starts = p i; words = q i }
 
-one_mark : (image : Image) (vecbase entry1 : ℕ) (m n : Marks) → IsMarked image vecbase entry1 m → IsMarked image vecbase entry1 n → m ≡ n
-one_mark image vecbase entry1 m n x y =
+one_mark : (image : Image) (vecbase entry1 : ℕ) (roots : List ℕ) (m n : Marks) → IsMarked image vecbase entry1 roots m → IsMarked image vecbase entry1 roots n → m ≡ n
+one_mark image vecbase entry1 roots m n x y =
     one_record m.starts n.starts m.words n.words
     (fun_ext (λ a. one_test (m.starts a) (n.starts a) _ (x.starts a) (y.starts a)))
     (fun_ext (λ a. one_test (m.words a) (n.words a) _ (x.words a) (y.words a)))
 
 pub returns : goal.returns
-returns c = λ image vecbase entry1 s t one two.
-    one.1.1 ∙ ap (λ m. text_by m image) (one_mark image vecbase entry1 one.0 two.0 one.1.0 two.1.0) ∙ sym two.1.1
+returns c = λ image vecbase entry1 roots s t one two.
+    one.1.1 ∙ ap (λ m. text_by m image) (one_mark image vecbase entry1 roots one.0 two.0 one.1.0 two.1.0) ∙ sym two.1.1

@@ -9,4 +9,4 @@ pub text_of-requires : goal.text_of-requires
 text_of-requires c = (well_formed_placed c.args.image.now c.requires).placed
 
 pub returns : goal.returns
-returns c = text_is_right c.args.image.now c.args.vecbase c.args.entry1 c.in_ok-visited.visited.starts.items c.in_ok-visited.visited.reads.items c.text_of.result c.in_ok-visited.ensures c.text_of.ensures
+returns c = text_is_right c.args.image.now c.args.vecbase c.args.entry1 c.args.roots.now c.in_ok-visited.visited.starts.items c.in_ok-visited.visited.reads.items c.text_of.result c.in_ok-visited.ensures c.text_of.ensures

@@ -1,0 +1,65 @@
+//! Where else a listing follows the code from, as the words of `dis` say it.
+ghost use Rattle.std.specs.Prelude.{◌≡◌, [], IfOk, map, option_map};
+ghost use Rattle.xt_command_line.specs.Options.{said_or};
+ghost use Rattle.xt_command_line.specs.Roots.{all_numbers, roots_of};
+
+use crate::numbers::number;
+use crate::turn_orders::parts_in;
+use std::alloc::{AllocError, Global};
+use std::marker::Model;
+
+/// Addresses from which a listing follows the code. Contracts see the list.
+#[derive(Debug, Drop)]
+pub struct Roots {
+    items: Vec<u32>,
+}
+
+impl Model for Roots {
+    ghost use Rattle.std.specs.Prelude.{ℕ, List};
+
+    ghost Value = { List ℕ };
+
+    ghost view = { λ s. s.items.items };
+}
+
+impl Roots {
+    /// These addresses, without a copy.
+    pub fn new(items: Vec<u32>) -> Roots
+        ensures { result ≡ items.items }
+    {
+        Roots { items }
+    }
+
+    /// The addresses.
+    pub fn as_slice(&self) -> &[u32]
+        ensures { result.now ≡ self.now }
+    {
+        &self.items
+    }
+}
+
+// The numbers of these texts, each of which has to say one.
+fn all_numbers(alloc: Global, parts: &[&str]) -> Result<Option<Roots>, AllocError>
+    ensures { IfOk result (λ list. list ≡ all_numbers (map (λ part. part.now) parts.now)) }
+{
+    let mut numbers = Vec::new(alloc);
+    for part in parts {
+        match number(part) {
+            Some(number) => numbers.push(number)?,
+            None => return Ok(None),
+        }
+    }
+    Ok(Some(Roots::new(numbers)))
+}
+
+/// The roots that the text of `--roots` lists: numbers with commas between them, one or more; without a text there is no
+/// root. None says that the text is no such list. The only error is running out of memory.
+pub fn roots_or_none(alloc: Global, text: Option<&str>) -> Result<Option<Roots>, AllocError>
+    ensures { IfOk result (λ list. list ≡ said_or roots_of [] (option_map (λ t. t.now) text.entry)) }
+{
+    let Some(text) = text else {
+        return Ok(Some(Roots::new(Vec::new(alloc))));
+    };
+    let parts = parts_in(alloc, text)?;
+    all_numbers(alloc, &parts)
+}
