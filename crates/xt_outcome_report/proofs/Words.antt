@@ -1,17 +1,10 @@
--- The lines of words.
+-- Lines that were appended one after another.
 use Rattle.std.proofs.Common.{◌≡◌, ℕ, List, [], ◌∷◌, ◌++◌, inl, inr, refl, sym, ap, ◌∙◌, append_assoc, append-nil}
-use Rattle.std.specs.Prelude.{◌⊎◌, flat_map}
-use Rattle.std.specs.List.{zip}
+use Rattle.std.specs.Prelude.{◌⊎◌, flat_map, IfOk, Result, Ok, Err}
+use Rattle.std.specs.List.{concat, zip}
 use Rattle.xt_outcome_report.specs.Texts.{word_line}
 
-pub one_word : (whole out out2 line ks vs ks2 vs2 : List ℕ) (k v : ℕ) → ks ≡ k ∷ ks2 → vs ≡ v ∷ vs2 → line ≡ word_line (k, v) → out2 ≡ out ++ line
-    → out ++ flat_map word_line (zip ks vs) ≡ whole → out2 ++ flat_map word_line (zip ks2 vs2) ≡ whole
-one_word whole out out2 line ks vs ks2 vs2 k v is_ks is_vs is_line is_out before =
-    let rest = flat_map word_line (zip ks2 vs2) in
-    ap (λ (l : List ℕ). l ++ rest) (is_out ∙ ap (λ (l : List ℕ). out ++ l) is_line)
-    ∙ append_assoc out (word_line (k, v)) rest
-    ∙ sym (λ i. out ++ flat_map word_line (zip (is_ks i) (is_vs i)))
-    ∙ before
+-- ---- words
 
 nothing_left : (ks vs : List ℕ) → (ks ≡ []) ⊎ (vs ≡ []) → zip ks vs ≡ []
 nothing_left ks vs (inl none) = rw none refl
@@ -21,3 +14,24 @@ nothing_left (k ∷ ks) vs (inr none) = rw none refl
 pub all_words : (whole out ks vs : List ℕ) → (ks ≡ []) ⊎ (vs ≡ []) → out ++ flat_map word_line (zip ks vs) ≡ whole → out ≡ whole
 all_words whole out ks vs none before =
     sym (append-nil out) ∙ sym (ap (λ (l : List (ℕ × ℕ)). out ++ flat_map word_line l) (nothing_left ks vs none)) ∙ before
+
+-- ---- parts
+
+one_part : (whole out out2 part rest : List ℕ) → out2 ≡ out ++ part → out ++ (part ++ rest) ≡ whole → out2 ++ rest ≡ whole
+one_part whole out out2 part rest is before = ap (λ (l : List ℕ). l ++ rest) is ∙ append_assoc out part rest ∙ before
+
+pub six_parts : (o o1 o2 o3 o4 o5 o6 a b c d e f : List ℕ) → o1 ≡ o ++ a → o2 ≡ o1 ++ b → o3 ≡ o2 ++ c → o4 ≡ o3 ++ d → o5 ≡ o4 ++ e → o6 ≡ o5 ++ f
+    → o6 ≡ o ++ concat (a ∷ b ∷ c ∷ d ∷ e ∷ f ∷ [])
+six_parts o o1 o2 o3 o4 o5 o6 a b c d e f p q r s t u =
+    let whole = o ++ concat (a ∷ b ∷ c ∷ d ∷ e ∷ f ∷ []) in
+    let w1 = one_part whole o o1 a (concat (b ∷ c ∷ d ∷ e ∷ f ∷ [])) p refl in
+    let w2 = one_part whole o1 o2 b (concat (c ∷ d ∷ e ∷ f ∷ [])) q w1 in
+    let w3 = one_part whole o2 o3 c (concat (d ∷ e ∷ f ∷ [])) r w2 in
+    let w4 = one_part whole o3 o4 d (concat (e ∷ f ∷ [])) s w3 in
+    let w5 = one_part whole o4 o5 e (concat (f ∷ [])) t w4 in
+    sym (append-nil o6) ∙ one_part whole o5 o6 f [] u w5
+
+-- what a good answer has is also so of it in another way
+pub each_ok : {T E : Type 0} (P Q : T → Type 0) (r : Result T E) → ((t : T) → P t → Q t) → IfOk r P → IfOk r Q
+each_ok P Q (Ok t) f p = f t p
+each_ok P Q (Err e) f p = tt

@@ -37,7 +37,7 @@ abbrev pub order_line : List ℕ → List ℕ
 order_line order = concat (codes "order " ∷ order_text order ∷ newline ∷ [])
 
 -- what was sent, how each core ended, the words at the addresses, and an order that leads there
-abbrev pub outcome_text : List ℕ → Found → List ℕ
+unfoldable pub outcome_text : List ℕ → Found → List ℕ
 outcome_text addresses x = concat (
     codes "outcome "
     ∷ uart_lines x.outcome.sent
@@ -91,12 +91,15 @@ order_of (Some r) = Some r.order.items
 abbrev pub race_line : Bool → Option NextRace → List ℕ
 race_line whole race = concat (codes "race " ∷ stuck_text whole (order_of race) ∷ newline ∷ [])
 
+abbrev pub count_line : ℕ → List ℕ
+count_line n = concat (codes "outcomes " ∷ decimal n ∷ newline ∷ [])
+
 -- ---- the text
 
 abbrev pub answers_text : List ℕ → Answers → Frames → List ℕ
 answers_text addresses a f = concat (
     flat_map (outcome_text addresses) a.found.items
-    ∷ codes "outcomes " ∷ decimal (length a.found.items) ∷ newline
+    ∷ count_line (length a.found.items)
     ∷ stuck_line (is_all a.ended) (option_map (λ v. v.items) a.stuck)
     ∷ race_line (is_all a.ended) a.race
     ∷ frames_line f

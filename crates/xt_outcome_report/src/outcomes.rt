@@ -93,5 +93,6 @@ pub fn push_outcome(
     out.extend_from_slice(core0.as_bytes())?;
     out.extend_from_slice(core1.as_bytes())?;
     push_words(alloc, out, addresses, outcome.words())?;
-    out.extend_from_slice(order.as_bytes())
+    out.extend_from_slice(order.as_bytes())?;
+    Ok(())
 }

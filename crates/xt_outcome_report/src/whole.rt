@@ -3,7 +3,7 @@ ghost use Rattle.std.specs.Prelude.{◌≡◌, ◌+◌, ◌≤◌, ◌^◌, ◌+
 ghost use Rattle.std.specs.List.{All};
 ghost use Rattle.xt_trace.specs.Validity.{IsValid};
 ghost use Rattle.xt_image.specs.Parts.{IsWellFormed};
-ghost use Rattle.xt_outcome_report.specs.Texts.{IsAnswersText, answers_text, end_line, frames_line, frames_text, is_all, none_text, outcome_text, race_line, stuck_line, stuck_text};
+ghost use Rattle.xt_outcome_report.specs.Texts.{IsAnswersText, answers_text, count_line, end_line, frames_line, frames_text, is_all, none_text, outcome_text, race_line, stuck_line, stuck_text};
 
 use crate::orders::order_text;
 use crate::outcomes::push_outcome;
@@ -12,6 +12,7 @@ use xt_image::{Image, well_formed_is_placed};
 use xt_map::Text;
 use xt_outcomes::{Answers, Ending, Found, NextRace, answers_of};
 use xt_trace::Options;
+use xt_word::hexadecimal;
 
 /// What is judged of the runs of all orders by the discipline of the stack.
 #[derive(Clone, Copy, Debug, PartialEq, Eq)]
@@ -77,6 +78,21 @@ fn frames_text(frames: Frames) -> &'static str
     }
 }
 
+// The line of what is judged.
+fn frames_line(alloc: Global, frames: Frames) -> Result<String, AllocError>
+    ensures { IfOk result (λ line. string_bytes line ≡ frames_line frames) }
+{
+    let text = frames_text(frames);
+    format!(in alloc; "frames {text}\n")
+}
+
+// The line of so many outcomes.
+fn count_line(alloc: Global, count: usize) -> Result<String, AllocError>
+    ensures { IfOk result (λ line. string_bytes line ≡ count_line count) }
+{
+    format!(in alloc; "outcomes {count}\n")
+}
+
 // Whether every order was looked at.
 fn is_all(ended: Ending) -> bool
     ensures { result ≡ is_all ended }
@@ -94,7 +110,10 @@ fn end_line(alloc: Global, ended: Ending) -> Result<String, AllocError>
     match ended {
         Ending::All => format!(in alloc; "all\n"),
         Ending::States => format!(in alloc; "some states\n"),
-        Ending::Time(core, pc) => format!(in alloc; "some time core {core} pc {pc:08X}\n"),
+        Ending::Time(core, pc) => {
+            let pc = hexadecimal(alloc, pc)?;
+            format!(in alloc; "some time core {core} pc {pc}\n")
+        }
     }
 }
 
@@ -145,15 +164,13 @@ pub fn answers_text(
 {
     let mut out = Vec::new(alloc);
     push_outcomes(alloc, &mut out, addresses, answers.found.as_slice())?;
-    let count = answers.found.len();
-    let outcomes = format!(in alloc; "outcomes {count}\n")?;
+    let count = count_line(alloc, answers.found.len())?;
     let whole = is_all(answers.ended);
     let stuck = stuck_line(alloc, whole, &answers.stuck)?;
     let race = race_line(alloc, whole, &answers.race)?;
     let end = end_line(alloc, answers.ended)?;
-    let frames = frames_text(frames);
-    let frames = format!(in alloc; "frames {frames}\n")?;
-    out.extend_from_slice(outcomes.as_bytes())?;
+    let frames = frames_line(alloc, frames)?;
+    out.extend_from_slice(count.as_bytes())?;
     out.extend_from_slice(stuck.as_bytes())?;
     out.extend_from_slice(race.as_bytes())?;
     out.extend_from_slice(frames.as_bytes())?;

@@ -28,5 +28,3 @@ pub use timed::Timed;
 pub use turns::Desk;
 pub use world::World;
 
-#[cfg(test)]
-mod tests;
