@@ -165,6 +165,7 @@ PLACES = [
     (PROVED, "and # with interrupts inside window handlers", lambda: cases("answer", "nested")),
     (PROVED, "; # scripts with what they print", lambda: cases("script", "scripts", "nested")),
     (PROVED, "# lines of words with what they mean", listed_words),
+    (PROVED, "What `outcomes` finds of # programs", lambda: cases("case", "outcomes")),
     (PROVED, "# ends with their lines", lambda: cases("case", "ends")),
     (GUIDE, "today one has #, up to `xt_cli`", lambda: level("xt_cli")),
     (GUIDE, "(today `xt_frames` has #,", lambda: functions("xt_frames")),

@@ -63,8 +63,7 @@ fn without_orders<R: Threads + Wait + Sync + AllocGlobal>(
 ) -> Option<String> {
     let mut found = String::new(rt.alloc());
     let mut outcome = String::new(rt.alloc());
-    let mut lines = output.lines();
-    while let Some(line) = lines.next() {
+    for line in output.lines() {
         match line.split_once(' ') {
             Some(("order", order)) => {
                 if !ends_so(rt, options, input, order, outcome.as_str())? {
@@ -78,8 +77,6 @@ fn without_orders<R: Threads + Wait + Sync + AllocGlobal>(
             }
             Some(("race", order)) if order.contains('*') => {
                 push_line(&mut outcome, "race some").ok()?;
-                let _first = lines.next()?;
-                let _second = lines.next()?;
             }
             _ => push_line(&mut outcome, line).ok()?,
         }
