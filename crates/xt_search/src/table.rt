@@ -7,7 +7,7 @@ use crate::machine::Machine;
 use std::alloc::{AllocError, Global};
 
 // How many chains there are.
-const CHAINS: usize = 65536;
+const CHAINS: usize = 1_048_576;
 
 /// Kept worlds by their digests: of each chain the world that was added last, and of each world the
 /// one of the same chain that was added before it. Each number is one more than that of a world, and
@@ -19,9 +19,9 @@ pub struct Table {
     before: Vec<u32>,
 }
 
-// The chain of a digest.
+// The chain of a digest: the high bits of a product, which depend on all bits of the digest.
 fn chain_of(digest: u64) -> usize {
-    (digest % 65536) as usize
+    (digest.wrapping_mul(0x9E37_79B9_7F4A_7C15) / 0x1000_0000_0000) as usize
 }
 
 // The number at a place of a list, 0 outside it.
