@@ -16,9 +16,9 @@ mod world;
 
 pub use answers::{Answers, Ending, answers_of};
 pub use found::{Search, is_whole, order_of, search_orders};
-pub use laws::spots_follow_orders;
+pub use laws::{spots_follow_orders, turns_beyond_play_no_part};
 pub use listing::{Found, outcomes_of};
-pub use opening::open;
+pub use opening::{open, open_with};
 pub use outcome::Outcome;
 pub use races::{NextRace, race_of};
 pub use sides::Side;

@@ -80,11 +80,11 @@ fn two_letters_come_out_in_one_way(rt: HostRuntime) -> Result<(), Fail> {
     assert_eq!(rt; answers.race.is_none(), true);
     for found in &answers.found {
         assert_eq!(rt; found.order.len(), 8);
-        assert_eq!(rt; found.outcome.sent(), b"AA");
+        assert_eq!(rt; found.outcome.sent(), b"AA".as_slice());
         assert_eq!(rt; found.outcome.stop0(), Stop::Break);
         assert_eq!(rt; found.outcome.pc0(), 0x4008040D);
         assert_eq!(rt; found.outcome.stop1(), Stop::Break);
-        assert_eq!(rt; found.outcome.words(), &[0]);
+        assert_eq!(rt; found.outcome.words(), [0].as_slice());
     }
     Ok(())
 }

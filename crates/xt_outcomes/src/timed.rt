@@ -18,9 +18,9 @@ use xt_trace::Options;
 /// worlds. If it is not, a search has to end before a turn that uses time.
 #[derive(Drop)]
 pub struct Timed<'a> {
-    pub(crate) code: Constants<'a>,
-    pub(crate) opening: Memory,
-    pub(crate) timed: bool,
+    pub code: Constants<'a>,
+    pub opening: Memory,
+    pub timed: bool,
     alloc: Global,
     ghost sizes: { HasSizes opening.contents },
     ghost bytes: { AreBytes (constant_byte code) },
