@@ -1,18 +1,17 @@
 -- Turns beyond those that an order asks for change nothing but how many are left.
-use Rattle.std.proofs.Common.{◌≡◌, ℕ, zero, suc, ◌+◌, ◌≤◌, Bool, true, false, ◌||◌, Option, List, [], ◌∷◌, ◌++◌, length, refl, sym, ap, ◌∙◌, subst, arith}
+use Rattle.std.proofs.Common.{◌≡◌, ℕ, zero, suc, ◌+◌, ◌≤◌, Bool, true, false, ◌||◌, List, [], ◌∷◌, ◌++◌, length, refl, sym, ap, ◌∙◌, subst, arith}
 use Rattle.std.proofs.lemmas.Bool.{true≢false}
-use Rattle.xt_trace.specs.declared.record.StepRecord.{StepRecord}
 use Rattle.xt_trace.specs.Calls.{is_stop}
 use Rattle.xt_trace.specs.Chip.{Chip}
-use Rattle.xt_trace.specs.Runs.{Opening, opened}
+use Rattle.xt_trace.specs.Runs.{opened}
 use Rattle.xt_trace.specs.Traces.{has_stopped}
-use Rattle.xt_trace.specs.Worlds.{Core, Line, World, advance, answer, core_given, core_past, give, left_past, line_given, line_past}
+use Rattle.xt_trace.specs.Worlds.{Core, Line, World, advance, answer, core_given, core_past, give, line_given, line_past}
 use Rattle.xt_trace.proofs.Short.{stopped_push}
 use Rattle.xt_exec.specs.State.{State}
 use Rattle.xt_timeless.specs.Laws.{HasTurns, HaveTurns}
 use Rattle.xt_timeless.proofs.Going.{left_going, left_stopped, one_less}
 use Rattle.xt_outcomes.specs.Beyond.{AreSameButForTurns, IsSameButForTurns, TurnsBeyondPlayNoPart}
-use Rattle.xt_outcomes.specs.Orders.{with_turns, world_after}
+use Rattle.xt_outcomes.specs.Orders.{with_turns}
 
 fewer_turns : (n : ℕ) (k : Core State) → HasTurns (suc n) k → HasTurns n k
 fewer_turns n k h = (h.0, λ (f : has_stopped k.records ≡ false). let l : suc n ≤ k.left = h.1 f in omega arith)

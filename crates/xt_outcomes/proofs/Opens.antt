@@ -5,7 +5,7 @@ use Rattle.xt_bus.proofs.Opening.{opening_sends_none}
 use Rattle.xt_changes.specs.Changed.{ChangesState, contents_of}
 use Rattle.xt_image.specs.declared.image.Image.{Image}
 use Rattle.xt_trace.specs.declared.options.Options.{Options}
-use Rattle.xt_trace.specs.Runs.{Opening, opened}
+use Rattle.xt_trace.specs.Runs.{opened}
 use Rattle.xt_core.specs.Runs.{memory_of, opening_at, opening_of, stack_words}
 use Rattle.xt_exec.specs.State.{State}
 use Rattle.xt_outcomes.specs.Spots.{Side, Spot, left_kept, spot_in, state_kept}

@@ -1,4 +1,3 @@
-use Rattle.std.proofs.Common.{ℕ}
 use Rattle.xt_core.specs.Runs.{turns_of}
 use Rattle.xt_outcomes.proofs.Opens.{opens}
 use Rattle.xt_outcomes.proofs.opening.open.Goals as goal
