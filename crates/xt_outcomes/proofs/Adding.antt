@@ -1,5 +1,5 @@
 -- A list of outcomes with one more.
-use Rattle.std.proofs.Common.{◌≡◌, ℕ, zero, suc, ◌<◌, ◌≤◌, arith, get_or, length, ltb, ltb-false, Bool, true, false, List, [], ◌∷◌, ◌++◌, Option, Some, take, drop, slice_get, refl, sym, ap, ◌∙◌, subst, inl, inr, ⊎_elim, Less}
+use Rattle.std.proofs.Common.{◌≡◌, ℕ, zero, suc, ◌<◌, ◌≤◌, arith, get_or, length, ltb, ltb-false, Bool, true, false, List, [], ◌∷◌, ◌++◌, Some, take, drop, slice_get, refl, sym, ap, ◌∙◌, subst, inl, inr, ⊎_elim, Less}
 use Rattle.std.proofs.lemmas.Bool.{true≢false}
 use Rattle.std.proofs.lemmas.Option.{slice_get_read, slice_get_within}
 use Rattle.std.specs.Prelude.{if◌then◌else◌}

@@ -9,3 +9,5 @@ pub mod Adding
 pub mod Continuing
 pub mod Raced
 pub mod Using
+pub mod Opens
+pub mod Beyond

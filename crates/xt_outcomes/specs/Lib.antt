@@ -1,4 +1,5 @@
 pub mod Orders
+pub mod Beyond
 pub mod Outcomes
 pub mod NextRaces
 pub mod Spots

@@ -1,5 +1,5 @@
 -- Races of the next turns of both cores after any order ('profile').
-use Rattle.std.specs.Prelude.{◌≡◌, ℕ, Bool, List}
+use Rattle.std.specs.Prelude.{ℕ, Bool, List}
 use Rattle.xt_map.specs.declared.access.Access.{Access}
 use Rattle.xt_trace.specs.Runs.{Opening}
 use Rattle.xt_exec.specs.Chips.{processor}

@@ -17,9 +17,9 @@ mod world;
 
 pub use answers::{Answers, Ending, answers_of};
 pub use found::{Search, is_whole, order_of, search_orders};
-pub use laws::spots_follow_orders;
+pub use laws::{spots_follow_orders, turns_beyond_play_no_part};
 pub use listing::{Found, outcomes_of};
-pub use opening::open;
+pub use opening::{open, open_with};
 pub use outcome::Outcome;
 pub use races::{NextRace, race_of};
 pub use sides::Side;
@@ -27,4 +27,3 @@ pub use stuck::stuck_of;
 pub use timed::Timed;
 pub use turns::Desk;
 pub use world::World;
-

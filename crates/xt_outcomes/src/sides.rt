@@ -73,21 +73,21 @@ impl Side {
     ghost use Rattle.std.specs.Prelude.{false};
     ghost use Rattle.xt_trace.specs.Traces.{stop_where};
     ghost use Rattle.xt_trace.specs.Validity.{IsValid};
-    ghost use Rattle.xt_core.specs.Runs.{opening_at, turns_of};
+    ghost use Rattle.xt_core.specs.Runs.{opening_at};
     ghost use Rattle.xt_outcomes.specs.Spots.{left_kept, state_kept};
 
-    /// A core that opens at `pc`, with this core's turns and stack of the options.
+    /// A core that opens at `pc`, with this core's stack of the options, and so many turns.
     ///
     /// Conditions: the core is 0 or 1, and the options are valid.
-    pub fn open(core: u8, pc: u32, options: &Options, timed: bool) -> Side
+    pub fn open(core: u8, pc: u32, options: &Options, timed: bool, turns: u32) -> Side
         requires core { core < 2 }
         requires valid { IsValid options.now }
-        ensures { result ≡ record { state = state_kept timed (opening_at core pc options.now); left = left_kept timed (turns_of core options.now) false; stopped = false } }
+        ensures { result ≡ record { state = state_kept timed (opening_at core pc options.now); left = left_kept timed turns false; stopped = false } }
     {
-        let (turns, stack) = if core == 0 {
-            (options.turns0, options.stack0)
+        let stack = if core == 0 {
+            options.stack0
         } else {
-            (options.turns1, options.stack1)
+            options.stack1
         };
         let regs = Regs::open(core, pc, options.vecbase, stack.hi, WindowFile::new());
         Side {

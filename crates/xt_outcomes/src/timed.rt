@@ -20,7 +20,7 @@ use xt_trace::Options;
 pub struct Timed<'a> {
     pub code: Constants<'a>,
     pub opening: Memory,
-    pub(crate) timed: bool,
+    pub timed: bool,
     alloc: Global,
     ghost sizes: { HasSizes opening.contents },
     ghost bytes: { AreBytes (constant_byte code) },

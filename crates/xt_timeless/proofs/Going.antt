@@ -42,7 +42,7 @@ same_after code s t reply h =
 -- ---- one core
 
 -- a number that is not below another one's next
-one_less : (n l : ℕ) → suc n ≤ l → (m : ℕ) × (l ≡ suc m) × (n ≤ m)
+pub one_less : (n l : ℕ) → suc n ≤ l → (m : ℕ) × (l ≡ suc m) × (n ≤ m)
 one_less n zero h = absurd (omega arith)
 one_less n (suc m) h = (m, refl, omega arith)
 
@@ -50,10 +50,10 @@ memory_of_line : (c : ℕ) (d : Option Access) (b : Line) → (line_past c d b).
 memory_of_line c None b = refl
 memory_of_line c (Some a) b = refl
 
-left_stopped : (r : StepRecord) (m : ℕ) (b : Bool) → is_stop r.kind ≡ b → b ≡ true → left_past r m ≡ 0
+pub left_stopped : (r : StepRecord) (m : ℕ) (b : Bool) → is_stop r.kind ≡ b → b ≡ true → left_past r m ≡ 0
 left_stopped r m b e h = ap (λ (t : Bool). cond t 0 m) (e ∙ h)
 
-left_going : (r : StepRecord) (n m : ℕ) (b : Bool) → is_stop r.kind ≡ b → b ≡ false → n ≤ m → n ≤ left_past r m
+pub left_going : (r : StepRecord) (n m : ℕ) (b : Bool) → is_stop r.kind ≡ b → b ≡ false → n ≤ m → n ≤ left_past r m
 left_going r n m b e h less = subst (λ (t : Bool). n ≤ cond t 0 m) (sym (e ∙ h)) less
 
 module _ (code : ℕ → ℕ) (bytes : AreBytes code) where
@@ -116,7 +116,7 @@ module _ (code : ℕ → ℕ) (bytes : AreBytes code) where
           goes_at n c (suc m.0) k b m.1
           (goes_on n c m.0 k b m.2 st (⊎_elim (λ (x : has_stopped k.records ≡ true). absurd (true≢false (sym x ∙ st))) (λ (x : uses_time code k.state ≡ false). x) free))
 
-  fewer : (n : ℕ) (k : Core State) → HasTurns (suc n) k → HasTurns n k
+  pub fewer : (n : ℕ) (k : Core State) → HasTurns (suc n) k → HasTurns n k
   fewer n k h = (h.0, λ (f : has_stopped k.records ≡ false). let l : suc n ≤ k.left = h.1 f in omega arith)
 
   -- ---- worlds

@@ -1,4 +1,4 @@
-use Rattle.std.proofs.Common.{subst, sym}
+use Rattle.std.proofs.Common.{sym}
 use Rattle.xt_outcomes.proofs.answers.answers_of.Goals as goal
 
 pub returns : goal.returns

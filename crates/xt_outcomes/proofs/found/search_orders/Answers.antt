@@ -1,4 +1,3 @@
-use Rattle.std.proofs.Common.{ℕ}
 use Rattle.std.specs.Prelude.{IfSome}
 use Rattle.xt_search.specs.Graphs.{IsBarredAt, IsGraph}
 use Rattle.xt_core.specs.Runs.{memory_of}

@@ -1,4 +1,4 @@
-use Rattle.std.proofs.Common.{◌≡◌, ◌≢◌, ℕ, ◌+◌, ◌<◌, ◌≤◌, length, sym, ap, ◌∙◌, subst, ⊎_elim, arith}
+use Rattle.std.proofs.Common.{◌≡◌, ◌≢◌, ℕ, ◌+◌, ◌<◌, ◌≤◌, length, ap, ◌∙◌, subst, ⊎_elim, arith}
 use Rattle.std.proofs.lemmas.Bool.{cases_eq}
 use Rattle.xt_core.specs.Runs.{code_of, memory_of, opening_of}
 use Rattle.xt_exec.specs.Chips.{processor}
@@ -9,7 +9,6 @@ use Rattle.xt_search.proofs.Numbers.{at_within}
 use Rattle.xt_outcomes.specs.Endings.{has_ended, outcome_at}
 use Rattle.xt_outcomes.specs.Kept.{spot_of}
 use Rattle.xt_outcomes.specs.Listing.{Lists}
-use Rattle.xt_outcomes.specs.declared.world.World.{World}
 use Rattle.xt_outcomes.proofs.Continuing.{there, whole_orders}
 use Rattle.xt_outcomes.proofs.listing.outcomes_of.Goals as goal
 

@@ -1,4 +1,4 @@
-use Rattle.std.proofs.Common.{◌≡◌, ℕ, ◌<◌}
+use Rattle.std.proofs.Common.{ℕ, ◌<◌}
 use Rattle.xt_map.specs.declared.access.Access.{Access}
 use Rattle.xt_core.specs.Runs.{code_of, memory_of}
 use Rattle.xt_search.specs.Graphs.{IsAt}
