@@ -11,7 +11,7 @@ use std::alloc::{AllocError, Global};
 use xt_command_line::{Listing, OutcomeOptions, Way};
 use xt_disasm::listing;
 use xt_flow::{flow_listing, flow_source, source};
-use xt_image::Image;
+use xt_image::{Image, well_formed_by_rules};
 use xt_map::Text;
 use xt_outcome_report::outcomes_text;
 use xt_report::check_text;
@@ -64,6 +64,7 @@ fn all_outcomes(alloc: Global, options: &OutcomeOptions, image: &Image) -> Resul
     requires options { AreOutcomeOptions options.now }
     ensures { IfOk result (λ text. AreOutcomesTold options.now image.now text) }
 {
+    well_formed_by_rules();
     let run = options.run.with_entry(image.entry);
     let addresses = options.words.as_slice();
     outcomes_text(alloc, image, &run, options.timed, addresses, options.states)
