@@ -1,7 +1,9 @@
-# Each core adds 1 to the word at x, without a lock: so one addition can be lost (docs/OUTCOMES.md).
+# Both cores begin at `both`, and each adds 1 to the word at x without a lock: one addition can be lost.
+# docs/OUTCOMES.md has all that can come out.
 
 .seg 0x3FFB0000
 x:      .word 0
+
 .seg 0x400D0000
 .entry both
 .literal_position
