@@ -40,7 +40,9 @@ pub fn is_again(alloc: Global, image: &Image, text: &[u8]) -> Option<bool>
     if text.len() > LIMIT {
         return None;
     }
-    let again = assemble(alloc, text).ok()?;
+    let Ok(again) = assemble(alloc, text) else {
+        return None;
+    };
     let wanted = write(alloc, image).ok()?;
     let found = write(alloc, &again).ok()?;
     Some(found.as_slice() == wanted.as_slice())

@@ -1,4 +1,4 @@
-use Rattle.xt_cli.proofs.Ending.{other_end}
+use Rattle.xt_cli.proofs.Ended.{other_end}
 use Rattle.xt_cli.proofs.ending.ended_unmet.Goals as goal
 
 pub returns : goal.returns
