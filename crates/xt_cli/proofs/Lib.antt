@@ -1,3 +1,3 @@
 mod Refusing
 mod Working
-mod Ending
+mod Ended
