@@ -34,7 +34,7 @@ refusal_is_fault job.Events input s h = recording_is_fault input s h
 refusal_is_fault job.Counts input s h = recording_is_fault input s h
 refusal_is_fault (job.Trace turns) input s h = recording_is_fault input s h
 refusal_is_fault job.Race input s h = recording_is_fault input s h
-refusal_is_fault (job.Profile depth) input s h = recording_is_fault input s h
+refusal_is_fault (job.Profile options) input s h = recording_is_fault input s h
 refusal_is_fault (job.Uses d) input s h = recording_is_fault input s h
 refusal_is_fault (job.Outcomes options) input s h = image_is_fault input s h
 
@@ -153,7 +153,7 @@ whole_unless (job.Replay commands b) others scripts = absurd (scripts commands b
 whole_unless job.Events others scripts = tt
 whole_unless job.Counts others scripts = tt
 whole_unless job.Race others scripts = tt
-whole_unless (job.Profile depth) others scripts = tt
+whole_unless (job.Profile options) others scripts = tt
 whole_unless (job.Uses d) others scripts = tt
 whole_unless (job.Outcomes options) others scripts = tt
 
@@ -170,7 +170,7 @@ never_beyond job.Migrate whole = λ input. refl
 never_beyond job.Events whole = λ input. refl
 never_beyond job.Counts whole = λ input. refl
 never_beyond job.Race whole = λ input. refl
-never_beyond (job.Profile depth) whole = λ input. refl
+never_beyond (job.Profile options) whole = λ input. refl
 never_beyond (job.Uses d) whole = λ input. refl
 never_beyond (job.Outcomes options) whole = λ input. refl
 

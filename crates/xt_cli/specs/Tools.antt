@@ -50,7 +50,7 @@ limit_of job.Events = 201326592
 limit_of job.Counts = 201326592
 limit_of (job.Trace turns) = 201326592
 limit_of job.Race = 201326592
-limit_of (job.Profile depth) = 201326592
+limit_of (job.Profile options) = 201326592
 limit_of (job.Uses d) = 201326592
 limit_of (job.Outcomes options) = 8388608
 
@@ -68,7 +68,7 @@ refusal_of job.Events input = recording_refusal input
 refusal_of job.Counts input = recording_refusal input
 refusal_of (job.Trace turns) input = recording_refusal input
 refusal_of job.Race input = recording_refusal input
-refusal_of (job.Profile depth) input = recording_refusal input
+refusal_of (job.Profile options) input = recording_refusal input
 refusal_of (job.Uses d) input = recording_refusal input
 refusal_of (job.Outcomes options) input = image_refusal input
 
@@ -95,7 +95,7 @@ IsWritten job.Events input bytes = bytes ≡ happened input
 IsWritten job.Counts input bytes = IsCountsTold input bytes
 IsWritten (job.Trace turns) input bytes = bytes ≡ traced turns input
 IsWritten job.Race input bytes = IsRaceTold input bytes
-IsWritten (job.Profile depth) input bytes = bytes ≡ profiled depth input
+IsWritten (job.Profile options) input bytes = bytes ≡ profiled options input
 IsWritten (job.Uses d) input bytes = IsUsesTold d (image_in input) (run_in input) bytes
 IsWritten (job.Outcomes options) input bytes = AreOutcomesTold options (image_of input) bytes
 

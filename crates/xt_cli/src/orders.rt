@@ -71,7 +71,7 @@ pub(crate) fn order_in(alloc: Global, words: &[String]) -> Result<Order, Refusal
         Ok(Command::Counts) => Ok(Order::Work(Job::Counts)),
         Ok(Command::Trace(turns)) => Ok(Order::Work(Job::Trace(turns))),
         Ok(Command::Race) => Ok(Order::Work(Job::Race)),
-        Ok(Command::Profile(depth)) => Ok(Order::Work(Job::Profile(depth))),
+        Ok(Command::Profile(options)) => Ok(Order::Work(Job::Profile(options))),
         Ok(Command::Uses(rigor)) => Ok(Order::Work(Job::Uses(discipline_of(rigor)))),
         Ok(Command::Outcomes(options)) => Ok(Order::Work(Job::Outcomes(options))),
         Ok(Command::Run(options)) => Ok(Order::Run(Wanted::Report, options)),

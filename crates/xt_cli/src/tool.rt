@@ -8,7 +8,7 @@ ghost use Rattle.xt_cli.specs.Tools.{Answers, Finishes, IsComplete, IsMade, Make
 
 use crate::orders::{Order, order_in};
 use std::alloc::Global;
-use xt_command_line::{Beyond, Listing, OutcomeOptions, Refusal, Turns};
+use xt_command_line::{Beyond, Listing, OutcomeOptions, ProfileOptions, Refusal, Turns};
 use xt_debug::{Printed, Script, run_script};
 use xt_image::well_formed_is_placed;
 use xt_io::{ReadError, Sink, Source, read_to_limit};
@@ -46,8 +46,8 @@ pub enum Job {
     Trace(Turns),
     /// `race`: the first data race of a recorded run.
     Race,
-    /// `profile`: the call profile of a recorded run, with keys that are cut at this depth.
-    Profile(u32),
+    /// `profile`: the call profile of a recorded run, with these options.
+    Profile(ProfileOptions),
     /// `uses`: the first breach of a recorded run by this discipline of uses.
     Uses(Discipline),
     /// `outcomes`: everything that can come out of an image, with these options.
@@ -126,7 +126,7 @@ fn make(alloc: Global, job: &Job, input: &[u8]) -> Result<Text, Status>
         Job::Events => events(alloc, input),
         Job::Counts => counts(alloc, input),
         Job::Race => race(alloc, input),
-        Job::Profile(depth) => profile(alloc, *depth, input),
+        Job::Profile(options) => profile(alloc, *options, input),
         Job::Uses(discipline) => uses(alloc, *discipline, input),
         Job::Outcomes(options) => outcomes(alloc, options, input),
         Job::Trace(_) => unreachable!(),

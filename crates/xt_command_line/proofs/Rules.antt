@@ -11,7 +11,7 @@ use Rattle.xt_command_line.specs.Arguments.{check_app, gen_app, generator_number
 use Rattle.xt_command_line.specs.Turns.{chosen, core_of, trace_app, turns_by, turns_of}
 use Rattle.xt_command_line.specs.Answers.{answer_with}
 use Rattle.xt_command_line.specs.declared.command.Rigor.TheVariants as rigor
-use Rattle.xt_command_line.specs.Depths.{depth_by, depth_of, judged_depth, profile_app}
+use Rattle.xt_command_line.specs.Depths.{judged_depth, profile_app, profile_options_by, profile_options_of}
 use Rattle.xt_command_line.specs.Listings.{dis_app, judged_openings, listing_by, listing_of, listing_with, openings_in, way_in}
 use Rattle.xt_command_line.specs.Outcomes.{outcomes_app, outcomes_by, outcomes_of, outcomes_with, places_of, states_of, word_texts}
 use Rattle.xt_command_line.specs.declared.outcomes.OutcomeOptions.{OutcomeOptions}
@@ -28,6 +28,7 @@ use Rattle.xt_command_line.specs.declared.command.Command.TheVariants as command
 use Rattle.xt_command_line.specs.declared.command.Name.{Name}
 use Rattle.xt_command_line.specs.declared.command.Name.TheVariants as name
 use Rattle.xt_command_line.specs.declared.command.Openings.{Openings}
+use Rattle.xt_command_line.specs.declared.command.ProfileOptions.{ProfileOptions}
 use Rattle.xt_command_line.specs.declared.command.Refusal.{Refusal}
 use Rattle.xt_command_line.specs.declared.command.Refusal.TheVariants as refusal
 use Rattle.xt_command_line.specs.declared.command.Way.TheVariants as way
@@ -131,16 +132,19 @@ rigor_by-answers (Some rows) = elim (is_set (first_of (codes "lenient") rows)) a
   | false ↦ λ e. search (rules, e)
 ]
 
-judged_depth-answers : (depth : Option ℕ) → judged_depth depth ≢ Err refusal.Memory
-judged_depth-answers None = λ e. search (rules, e)
-judged_depth-answers (Some d) = elim (nat_le 1 d && nat_le d 64) as (λ b. (if b then Ok d else Err (refusal.Usage 4)) ≢ Err refusal.Memory) [
+abbrev profile_options : ℕ → Bool → ProfileOptions
+profile_options d after = record { depth = d; after = after }
+
+judged_depth-answers : (depth : Option ℕ) (after : Bool) → judged_depth depth after ≢ Err refusal.Memory
+judged_depth-answers None after = λ e. search (rules, e)
+judged_depth-answers (Some d) after = elim (nat_le 1 d && nat_le d 64) as (λ b. (if b then Ok (profile_options d after) else Err (refusal.Usage 4)) ≢ Err refusal.Memory) [
   | true ↦ λ e. search (rules, e)
   | false ↦ λ e. search (rules, e)
 ]
 
-depth_by-answers : (rows : Option (List Row)) → depth_by rows ≢ Err refusal.Memory
-depth_by-answers None = λ e. search (rules, e)
-depth_by-answers (Some rows) = judged_depth-answers (said_or number_of 8 (first_of (codes "depth") rows))
+profile_options_by-answers : (rows : Option (List Row)) → profile_options_by rows ≢ Err refusal.Memory
+profile_options_by-answers None = λ e. search (rules, e)
+profile_options_by-answers (Some rows) = judged_depth-answers (said_or number_of 8 (first_of (codes "depth") rows)) (is_set (first_of (codes "after") rows))
 
 answer_with-answers : {A B : Type 0} (make : A → B) (r : Result A Refusal) → r ≢ Err refusal.Memory → answer_with make r ≢ Err refusal.Memory
 answer_with-answers make (Ok o) no_memory = λ e. search (rules, e)
@@ -199,7 +203,7 @@ meaning_by-answers (Some name.Migrate) words = without_options-answers _ _
 meaning_by-answers (Some name.Events) words = without_options-answers _ _
 meaning_by-answers (Some name.Counts) words = without_options-answers _ _
 meaning_by-answers (Some name.Race) words = without_options-answers _ _
-meaning_by-answers (Some name.Profile) words = answer_with-answers command.Profile (depth_of words) (depth_by-answers (rows_by profile_app words))
+meaning_by-answers (Some name.Profile) words = answer_with-answers command.Profile (profile_options_of words) (profile_options_by-answers (rows_by profile_app words))
 meaning_by-answers (Some name.Uses) words = answer_with-answers command.Uses (rigor_of words) (rigor_by-answers (rows_by uses_app words))
 meaning_by-answers (Some name.Trace) words = answer_with-answers command.Trace (turns_of words) (turns_by-answers (rows_by trace_app words))
 meaning_by-answers (Some name.Outcomes) words = answer_with-answers command.Outcomes (outcomes_of words) (outcomes_by-answers (rows_by outcomes_app words))

@@ -9,7 +9,7 @@ use Rattle.xt_command_line.specs.Answers.{answer_with}
 use Rattle.xt_command_line.specs.Options.{AreValid, record_options_of, run_options_of}
 use Rattle.xt_command_line.specs.Arguments.{IsVecbase, generator_number_of, rigor_of, vecbase_of}
 use Rattle.xt_command_line.specs.Turns.{turns_of}
-use Rattle.xt_command_line.specs.Depths.{depth_of}
+use Rattle.xt_command_line.specs.Depths.{profile_options_of}
 use Rattle.xt_command_line.specs.Listings.{IsListing, listing_of}
 use Rattle.xt_command_line.specs.Outcomes.{AreOutcomeOptions, outcomes_of}
 use Rattle.xt_command_line.specs.declared.command.Command.{Command}
@@ -77,7 +77,7 @@ abbrev pub uses_meaning_of : List Text → Result Command Refusal
 uses_meaning_of words = answer_with command.Uses (rigor_of words)
 
 abbrev pub profile_meaning_of : List Text → Result Command Refusal
-profile_meaning_of words = answer_with command.Profile (depth_of words)
+profile_meaning_of words = answer_with command.Profile (profile_options_of words)
 
 abbrev pub outcomes_meaning_of : List Text → Result Command Refusal
 outcomes_meaning_of words = answer_with command.Outcomes (outcomes_of words)

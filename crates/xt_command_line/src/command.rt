@@ -60,6 +60,15 @@ pub enum Rigor {
     Lenient,
 }
 
+/// What `profile` counts, and by which keys.
+#[derive(Clone, Copy, Debug, PartialEq, Eq)]
+pub struct ProfileOptions {
+    /// How many functions a key has at most, but for cut ones (`--depth`).
+    pub depth: u32,
+    /// Whether the turns from the first breach on are counted too (`--after`).
+    pub after: bool,
+}
+
 /// A command with its options.
 #[derive(Debug, Drop)]
 pub enum Command {
@@ -89,8 +98,8 @@ pub enum Command {
     Trace(Turns),
     /// `race`: looks for a data race in a recorded run.
     Race,
-    /// `profile`: counts the turns of each call stack of a recorded run, with keys of so many functions at most.
-    Profile(u32),
+    /// `profile`: counts the turns of each call stack of a recorded run, with these options.
+    Profile(ProfileOptions),
     /// `uses`: looks for the first use of something that is not known in a recorded run, with this rigor.
     Uses(Rigor),
     /// `outcomes`: looks for all that can come out of an image, with these options.

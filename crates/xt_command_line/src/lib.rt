@@ -25,8 +25,8 @@ mod words;
 
 pub use arguments::{check_vecbase, generator_number, script_text, uses_rigor};
 pub use beyond::{Beyond, script_beyond};
-pub use command::{Command, Listing, Openings, Refusal, Rigor, Turns, Way};
-pub use depths::{DEFAULT_DEPTH, profile_depth};
+pub use command::{Command, Listing, Openings, ProfileOptions, Refusal, Rigor, Turns, Way};
+pub use depths::{DEFAULT_DEPTH, profile_options};
 pub use laws::{meaning_needs_no_memory, options_need_no_memory, valid_options_are_accepted};
 pub use listings::listing;
 pub use numbers::number;

@@ -242,11 +242,12 @@ pub fn uses_matches<'a>(alloc: Global, words: &'a [String]) -> Result<ArgMatches
     matches_by(uses_command(alloc)?, words)
 }
 
-// The command `profile` with its option.
+// The command `profile` with its option and its flag.
 fn profile_command<'a>(alloc: Global) -> Result<Command<'a>, AllocError>
     ensures { IfOk result (λ c. app_of c ≡ profile_app) }
 {
-    with_one_option(alloc, Command::new(alloc, "profile"), "depth")
+    let command = with_one_option(alloc, Command::new(alloc, "profile"), "depth")?;
+    with_one_flag(alloc, command, "after")
 }
 
 /// What `clap` matches on the words of `profile`.

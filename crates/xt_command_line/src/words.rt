@@ -5,7 +5,7 @@ ghost use Rattle.xt_command_line.specs.declared.command.Refusal.TheVariants.{Mem
 
 use crate::arguments::{check_vecbase, generator_number, uses_rigor};
 use crate::command::{Command, Name, Refusal};
-use crate::depths::profile_depth;
+use crate::depths::profile_options;
 use crate::listings::listing;
 use crate::option_words::{record_options, run_options};
 use crate::outcomes::outcomes_options;
@@ -105,13 +105,13 @@ fn uses_meaning(alloc: Global, words: &[String]) -> Result<Command, Refusal>
     }
 }
 
-// The command `profile` with the depth that its words say.
+// The command `profile` with the options that its words say.
 fn profile_meaning(alloc: Global, words: &[String]) -> Result<Command, Refusal>
     ensures means { Means result (profile_meaning_of (map string_bytes words.now)) }
     ensures valid { IfOk result HasValidOptions }
 {
-    match profile_depth(alloc, words) {
-        Ok(depth) => Ok(Command::Profile(depth)),
+    match profile_options(alloc, words) {
+        Ok(options) => Ok(Command::Profile(options)),
         Err(refusal) => Err(refusal),
     }
 }
@@ -148,7 +148,7 @@ fn gen_meaning(alloc: Global, words: &[String]) -> Result<Command, Refusal>
 /// - `run` has the options that `run_options` says, with the rules of usage 3 to 8, and `record` those of
 ///   `record_options`, with the same.
 /// - `trace` has the turns that `trace_turns` says, with the rules of usage 3 and 4.
-/// - `profile` has the depth that `profile_depth` says, with the rules of usage 3 and 4.
+/// - `profile` has the options that `profile_options` says, with the rules of usage 3 and 4.
 /// - `uses` has the rigor that `uses_rigor` says, with rule 3.
 /// - `outcomes` has the options that `outcomes_options` says, with the rules of usage 3 to 8.
 /// - `gen` has the number that `generator_number` says, with the same.

@@ -23,6 +23,7 @@ use Rattle.xt_race.specs.Texts.{IsRaceText}
 use Rattle.xt_profile.specs.Profiled.{profile_of}
 use Rattle.xt_profile.specs.Texts.{profile_text}
 use Rattle.xt_command_line.specs.declared.command.Listing.{Listing}
+use Rattle.xt_command_line.specs.declared.command.ProfileOptions.{ProfileOptions}
 use Rattle.xt_command_line.specs.declared.command.Way.{Way}
 use Rattle.xt_command_line.specs.declared.command.Way.TheVariants as way
 use Rattle.xt_command_line.specs.declared.command.Turns.{Turns}
@@ -100,6 +101,6 @@ IsCountsTold input bytes = IsCountsText (image_in input) (run_in input) bytes
 abbrev pub IsRaceTold : List ℕ → List ℕ → Type 0
 IsRaceTold input bytes = IsRaceText (events_of (image_in input) (run_in input)) bytes
 
--- the call profile of that run, with keys that are cut at this depth
-unfoldable pub profiled : ℕ → List ℕ → List ℕ
-profiled depth input = profile_text depth (profile_of depth (image_in input) (run_in input))
+-- the call profile of that run, with these options
+unfoldable pub profiled : ProfileOptions → List ℕ → List ℕ
+profiled o input = profile_text o.depth (profile_of o.depth (image_in input) (run_in input))

@@ -9,7 +9,7 @@ ghost use Rattle.xt_use_report.specs.Told.{IsUsesTold};
 
 use crate::turns::write_turns;
 use std::alloc::Global;
-use xt_command_line::Turns;
+use xt_command_line::{ProfileOptions, Turns};
 use xt_counts::counts_text;
 use xt_events::{Filter, TurnLines, events_text};
 use xt_image::well_formed_is_placed;
@@ -67,18 +67,18 @@ pub fn race(alloc: Global, input: &[u8]) -> Result<Text, Status>
     race_text(alloc, &image, &run).map_err(|_| Status::Memory)
 }
 
-/// The call profile of a recorded run, with keys that are cut at this depth, or the status of the recording's first fault.
+/// The call profile of a recorded run, with these options, or the status of the recording's first fault.
 #[tactic(auto, unfolding(crate::specs::Commands::profiled))]
-pub fn profile(alloc: Global, depth: u32, input: &[u8]) -> Result<Text, Status>
-    ensures ok { IfOk result (λ bytes. IsMade (recording_refusal input.now) (bytes ≡ profiled depth input.now)) }
+pub fn profile(alloc: Global, options: ProfileOptions, input: &[u8]) -> Result<Text, Status>
+    ensures ok { IfOk result (λ bytes. IsMade (recording_refusal input.now) (bytes ≡ profiled options input.now)) }
     ensures refused { IfErr result (λ status. status ≢ Status.Memory → recording_refusal input.now ≡ Some status) }
 {
     let (image, run) = recording_in(alloc, input)?;
     well_formed_is_placed();
-    let Ok(found) = xt_profile::profile(alloc, depth, &image, &run) else {
+    let Ok(found) = xt_profile::profile(alloc, options.depth, &image, &run) else {
         return Err(Status::Memory);
     };
-    profile_text(alloc, depth, &found).map_err(|_| Status::Memory)
+    profile_text(alloc, options.depth, &found).map_err(|_| Status::Memory)
 }
 
 /// The first breach of a recorded run by this discipline of uses, or the status of the recording's first fault.

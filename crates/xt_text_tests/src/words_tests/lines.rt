@@ -76,9 +76,16 @@ Err(Usage(3)) <- race file
 Ok(Counts) <- counts
 Ok(Counts) <- counts --
 Err(Usage(3)) <- counts 0
-Ok(Profile(8)) <- profile
-Ok(Profile(64)) <- profile --depth 64
-Ok(Profile(1)) <- profile --depth=0x1
+Ok(Profile(ProfileOptions { depth: 8, after: false })) <- profile
+Ok(Profile(ProfileOptions { depth: 64, after: false })) <- profile --depth 64
+Ok(Profile(ProfileOptions { depth: 1, after: false })) <- profile --depth=0x1
+Ok(Profile(ProfileOptions { depth: 8, after: true })) <- profile --after
+Ok(Profile(ProfileOptions { depth: 3, after: true })) <- profile --after --depth 3
+Err(Usage(3)) <- profile --after --after
+Err(Usage(3)) <- profile --after=1
+Err(Usage(3)) <- profile --after 1
+Err(Usage(4)) <- profile --after --depth 0
+Err(Usage(3)) <- run --after
 Err(Usage(4)) <- profile --depth 0
 Err(Usage(4)) <- profile --depth 65
 Err(Usage(3)) <- profile --depth
