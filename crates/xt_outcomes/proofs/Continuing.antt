@@ -1,13 +1,14 @@
 -- Orders that stay stuck, and orders that can be continued.
-use Rattle.std.proofs.Common.{◌≡◌, ℕ, zero, suc, ◌<◌, Bool, true, false, List, [], ◌∷◌, ◌++◌, length, Some, slice_get, refl, sym, ap, ◌∙◌, subst, arith}
-use Rattle.xt_map.specs.Memory.{constant_byte}
+use Rattle.std.proofs.Common.{append_assoc, ◌≡◌, ℕ, zero, suc, ◌<◌, Bool, true, false, List, [], ◌∷◌, ◌++◌, length, Some, slice_get, refl, sym, ap, ◌∙◌, subst, arith}
+use Rattle.xt_map.specs.Memory.{HasSizes, constant_byte}
 use Rattle.xt_image.specs.declared.image.Image.{Image}
 use Rattle.xt_search.specs.declared.graph.Kept.{Kept}
 use Rattle.xt_search.specs.Ends.{AreMarks}
-use Rattle.xt_search.specs.Graphs.{IsAt, IsWhole, LeadsTo}
+use Rattle.xt_search.specs.Graphs.{IsAt}
+use Rattle.xt_search.specs.Meetings.{after}
 use Rattle.xt_search.specs.Worlds.{IsOrder, Reaches}
 use Rattle.xt_search.proofs.Numbers.{at_within}
-use Rattle.xt_search.proofs.Endings.{whole_has_all}
+use Rattle.xt_search.proofs.Meeting.{after_append}
 use Rattle.xt_trace.specs.declared.options.Options.{Options}
 use Rattle.xt_trace.specs.Chip.{Chip}
 use Rattle.xt_trace.specs.Runs.{Opening, opened}
@@ -19,10 +20,14 @@ use Rattle.xt_outcomes.specs.Endings.{has_ended}
 use Rattle.xt_outcomes.specs.Kept.{Leads, spot_of}
 use Rattle.xt_outcomes.specs.Orders.{given_turns, with_turns, world_after}
 use Rattle.xt_outcomes.specs.Outcomes.{CanAllEnd, IsStuck, have_ended}
-use Rattle.xt_outcomes.specs.Searched.{HasAllOrders, IsSearch}
+use Rattle.xt_outcomes.specs.Searched.{IsComplete, IsFoundBy, IsSearch, kept_after}
+use Rattle.xt_outcomes.specs.Spots.{Spot, spot_past}
 use Rattle.xt_outcomes.specs.declared.found.Search.{Search}
 use Rattle.xt_outcomes.specs.declared.world.World.{World as KeptWorld}
-use Rattle.xt_outcomes.proofs.Finding.{all_orders, carried, ended_same, graph_of_machine, led_to, world_is}
+use Rattle.xt_outcomes.proofs.CodeBytes.{memory_sizes}
+use Rattle.xt_outcomes.proofs.Commuted.{past_sizes}
+use Rattle.xt_outcomes.proofs.Covering.{order_more, runs_reach, stuck_turns}
+use Rattle.xt_outcomes.proofs.Finding.{all_turned, carried, ended_same, first_spot, meets_orders, spot_by, told_kept}
 
 -- ---- any list of numbers as an order of two cores
 
@@ -75,41 +80,63 @@ there [] k h = absurd (omega arith)
 there (x ∷ ks) zero h = (x.world, refl)
 there (x ∷ ks) (suc k) h = there ks k (let g : suc k < suc (length ks) = h in omega arith)
 
-module _ (image : Image) (o : Options) (s : Search) (h : IsSearch image o s) where
-  -- the outcome of each order is that of a kept world
-  pub whole_orders : IsWhole s.graph → HasAllOrders image o s
-  whole_orders whole =
-      all_orders image o s h (whole_has_all (Leads (constant_byte s.machine.code) s.machine.timed s.machine.opening.contents) s.graph (graph_of_machine image o s h) whole)
+module _ (image : Image) (o : Options) (s : Search) (h : IsSearch image o s) (complete : IsComplete s) where
+  -- both have ended after the order, what comes first after it, and the turns then
+  after_both : (order turns : List ℕ) (w : KeptWorld) → IsOrder order → IsOrder turns → spot_of (memory_of image o) w ≡ kept_after image o s order
+      → after (spot_past (processor (code_of image)) s.machine.timed) turns (spot_of (memory_of image o) w) ≡ kept_after image o s (order ++ turns)
+  after_both order turns w is more e =
+      let step = spot_past (processor (code_of image)) s.machine.timed in
+      ap (after step turns) (e ∙ sym (all_turned image o s h complete order is))
+      ∙ sym (after_append step order turns (first_spot image o s h))
+      ∙ all_turned image o s h complete (order ++ turns) (order_more order turns is more)
 
-  -- an order that leads to a kept world, and more
-  goes_on : (order more : List ℕ) (w v : KeptWorld) → Reaches (Leads (code_of image) s.machine.timed (memory_of image o)) order h.first.0 w
-      → Reaches (Leads (constant_byte s.machine.code) s.machine.timed s.machine.opening.contents) more w v
-      → has_ended (spot_of (memory_of image o) v) ≡ have_ended s.machine.timed (world_after (processor (code_of image)) s.machine.timed (opening_of image o) (order ++ more))
-  goes_on order more w v before reaches =
-      let r = carried (λ k n. Reaches (Leads k s.machine.timed n) more w v) s.machine.code image.segments s.machine.opening.contents (memory_of image o) h.code h.opening reaches in
-      let all = reaches_append (Leads (code_of image) s.machine.timed (memory_of image o)) order more h.first.0 w v before r in
-      ap has_ended (world_is image o s h (order ++ more) v all)
-      ∙ ended_same s.machine.timed (world_after (processor (code_of image)) s.machine.timed (opening_of image o) (order ++ more))
+  after_sizes : (order : List ℕ) (p : Spot State) → HasSizes p.memory → HasSizes (after (spot_past (processor (code_of image)) s.machine.timed) order p).memory
+  after_sizes [] p z = z
+  after_sizes (c ∷ cs) p z = after_sizes cs (spot_past (processor (code_of image)) s.machine.timed c p) (past_sizes (code_of image) s.machine.timed c p z)
 
   module _ (marks : List Bool)
-      (are : AreMarks (Leads (constant_byte s.machine.code) s.machine.timed s.machine.opening.contents) (λ w. has_ended (spot_of (memory_of image o) w)) s.graph marks) where
-    pub all_can_end : IsWhole s.graph → ((k : ℕ) → k < length marks → slice_get marks k ≡ Some true) → CanAllEnd (processor (code_of image)) s.machine.timed (opening_of image o)
-    all_can_end whole all = λ order is.
-        let L = Leads (constant_byte s.machine.code) s.machine.timed s.machine.opening.contents in
-        let r = whole_has_all L s.graph (graph_of_machine image o s h) whole h.first.0 h.first.1 order is in
-        let before = carried (λ k n. Reaches (Leads k s.machine.timed n) order h.first.0 r.1) s.machine.code image.segments s.machine.opening.contents (memory_of image o) h.code h.opening r.3 in
-        let long : length marks ≡ length s.graph.kept.items = are.as_long in
-        let less : r.0 < length s.graph.kept.items = at_within s.graph.kept.items r.0 r.1 r.2 in
-        let c = are.can_end r.0 r.1 (all r.0 (omega arith)) r.2 in
-        (c.0, c.2, sym (goes_on order c.0 r.1 c.1 before c.3) ∙ c.4)
+      (are : AreMarks (Leads (constant_byte s.machine.code) s.machine.timed s.machine.places.list.items s.machine.most_local s.machine.opening.contents) (λ w. has_ended (spot_of (memory_of image o) w)) s.graph marks) where
+    marked : AreMarks (Leads (code_of image) s.machine.timed s.machine.places.list.items s.machine.most_local (memory_of image o)) (λ w. has_ended (spot_of (memory_of image o) w)) s.graph marks
+    marked =
+        carried (λ k n. AreMarks (Leads k s.machine.timed s.machine.places.list.items s.machine.most_local n) (λ w. has_ended (spot_of (memory_of image o) w)) s.graph marks)
+        s.machine.code image.segments s.machine.opening.contents (memory_of image o) h.code h.opening are
 
-    pub is_stuck : (order : List ℕ) (k : ℕ) → k < length marks → slice_get marks k ≡ Some false → LeadsTo (Leads (constant_byte s.machine.code) s.machine.timed s.machine.opening.contents) s.graph order k
-        → IsStuck (processor (code_of image)) s.machine.timed (opening_of image o) order
-    is_stuck order k less unmarked leads = λ more.
+    pub all_can_end : ((k : ℕ) → k < length marks → slice_get marks k ≡ Some true) → CanAllEnd (processor (code_of image)) s.machine.timed (opening_of image o)
+    all_can_end all = λ order is.
         let P = processor (code_of image) in
         let oo = opening_of image o in
-        let long : length marks ≡ length s.graph.kept.items = are.as_long in
+        let timed = s.machine.timed in
+        let met = meets_orders image o s h complete order is in
+        let r = met.kept in
+        let long : length marks ≡ length s.graph.kept.items = marked.as_long in
+        let less : r.0 < length s.graph.kept.items = at_within s.graph.kept.items r.0 r.1 r.2 in
+        let c = marked.can_end r.0 r.1 (all r.0 (omega arith)) r.2 in
+        let t = runs_reach (code_of image) timed s.machine.places.list.items s.machine.most_local (memory_of image o) c.0 r.1 c.1 c.2 c.3 in
+        let e = after_both (order ++ met.more) t.turns r.1 (order_more order met.more is met.is_order) t.is_order r.3 in
+        let f : have_ended timed (world_after P timed oo ((order ++ met.more) ++ t.turns)) ≡ true =
+        sym (ended_same timed (world_after P timed oo ((order ++ met.more) ++ t.turns))) ∙ ap has_ended (sym (t.same ∙ e)) ∙ c.4
+        in (
+          met.more ++ t.turns,
+          order_more met.more t.turns met.is_order t.is_order,
+          ap (λ (l : List ℕ). have_ended timed (world_after P timed oo l)) (sym (append_assoc order met.more t.turns)) ∙ f,
+        )
+
+    pub is_stuck : (order : List ℕ) (k : ℕ) → IsOrder order → k < length marks → slice_get marks k ≡ Some false → IsFoundBy image o s order k
+        → IsStuck (processor (code_of image)) s.machine.timed (opening_of image o) order
+    is_stuck order k is less unmarked found = λ more.
+        let P = processor (code_of image) in
+        let oo = opening_of image o in
+        let m = memory_of image o in
+        let timed = s.machine.timed in
+        let long : length marks ≡ length s.graph.kept.items = marked.as_long in
         let w = there s.graph.kept.items k (omega arith) in
-        let before = led_to image o s h order k leads h.first.0 w.0 h.first.1 w.1 in
-        let st = are.stuck k w.0 unmarked w.1 (as_order more) (is_order more) in
-        ap (have_ended s.machine.timed) (sym (same_world P s.machine.timed oo order more)) ∙ sym (goes_on order (as_order more) w.0 st.0 before st.1) ∙ st.2
+        let e = found w.0 w.1 in
+        let z : HasSizes (spot_of m w.0).memory =
+        subst (λ (p : Spot State). HasSizes p.memory) (all_turned image o s h complete order is ∙ sym e) (after_sizes order (first_spot image o s h) (memory_sizes image o))
+        in
+        let st = stuck_turns (code_of image) timed s.machine.places.list.items s.machine.most_local m s.graph h.graph complete.whole (told_kept image o s h complete.allowed)
+        k w.0 z w.1 (marked.stuck k w.0 unmarked w.1) (as_order more) (is_order more)
+        in
+        let f = after_both order (as_order more) w.0 is (is_order more) e in
+        ap (have_ended timed) (sym (same_world P timed oo order more))
+        ∙ sym (ended_same timed (world_after P timed oo (order ++ as_order more))) ∙ ap has_ended (sym f) ∙ st

@@ -3,6 +3,9 @@ pub mod Equal
 pub mod Turned
 pub mod Untimed
 pub mod CodeBytes
+pub mod Commuted
+pub mod Covering
+pub mod Spreading
 pub mod Finding
 pub mod Comparing
 pub mod Adding

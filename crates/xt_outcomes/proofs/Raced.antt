@@ -1,13 +1,20 @@
 -- A race in what a search keeps of a world is one in the world.
-use Rattle.std.proofs.Common.{◌≡◌, ℕ, ◌<◌, Bool, true, false, cond, eqb, Option, None, length, refl, sym, ap, ◌∙◌, ⊎_elim}
-use Rattle.std.proofs.lemmas.Bool.{true≢false}
+use Rattle.std.proofs.Common.{◌≡◌, ℕ, ◌+◌, ◌<◌, ◌≤◌, Bool, true, false, cond, eqb, List, Option, Some, None, length, refl, sym, ap, ◌∙◌, subst, ⊎_elim, arith}
+use Rattle.std.specs.Prelude.{◌⊎◌}
+use Rattle.std.proofs.lemmas.Bool.{or_cases, true≢false}
 use Rattle.xt_map.specs.declared.access.Access.{Access}
+use Rattle.xt_map.specs.declared.access.Kind.{Kind}
+use Rattle.xt_map.specs.declared.access.Kind.TheVariants.{Load, Store, Cas}
+use Rattle.xt_map.specs.Touching.{is_load}
+use Rattle.xt_map.proofs.Alike.{inside}
+use Rattle.xt_commute.specs.Apart.{AreApart}
 use Rattle.xt_trace.specs.Traces.{has_stopped}
 use Rattle.xt_trace.specs.Worlds.{Core, Line, World, answer}
 use Rattle.xt_trace.specs.declared.options.Options.{Options}
 use Rattle.xt_image.specs.declared.image.Image.{Image}
 use Rattle.xt_fetch.specs.Code.{AreBytes}
 use Rattle.xt_fetch.specs.Fetching.{fetched}
+use Rattle.xt_exec.specs.Laws.{IsServed}
 use Rattle.xt_exec.specs.State.{State}
 use Rattle.xt_exec.specs.Turn.{demand, turn}
 use Rattle.xt_core.specs.Runs.{code_of, memory_of}
@@ -19,15 +26,18 @@ use Rattle.xt_timeless.proofs.Turning.{turns_alike}
 use Rattle.xt_race.specs.declared.event.Event.{Event}
 use Rattle.xt_race.specs.declared.event.Order.{Order}
 use Rattle.xt_race.specs.Clashes.{clash}
-use Rattle.xt_race.specs.Races.{order_of}
+use Rattle.xt_race.specs.Races.{has_stored, order_of, writes}
 use Rattle.xt_race.proofs.Concluding.{clash_from, clash_is}
 use Rattle.xt_outcomes.specs.Kept.{spot_of}
 use Rattle.xt_outcomes.specs.NextRaces.{IsNextRace, next_access, next_event}
-use Rattle.xt_outcomes.specs.Searched.{IsSearch}
+use Rattle.xt_outcomes.specs.Places.{is_allowed, is_local, is_own_access, may_access}
+use Rattle.xt_outcomes.specs.Searched.{IsKeptAfter, IsMet, IsSearch, kept_after}
 use Rattle.xt_outcomes.specs.SpotRaces.{IsSpotRace, event_at, next_of}
 use Rattle.xt_outcomes.specs.Spots.{Spot, side_bars, side_in, spot_in}
 use Rattle.xt_outcomes.specs.declared.found.Search.{Search}
+use Rattle.xt_outcomes.specs.declared.places.Place.{Place}
 use Rattle.xt_outcomes.specs.declared.world.World.{World as KeptWorld}
+use Rattle.xt_outcomes.proofs.Commuted.{allowed_bars_none, allowed_is_told, local_is_own, next_served, own_and_other, turned_apart}
 use Rattle.xt_outcomes.proofs.Untimed.{side_free}
 
 pc_of_turn : (code : ℕ → ℕ) (s : State) (reply : ℕ) → (turn code s reply).0.pc ≡ s.control.pc
@@ -103,3 +113,60 @@ module _ (image : Image) (o : Options) (s : Search) (h : IsSearch image o s) whe
       let n = some_at s.graph.nexts.items k less in
       let both = h.graph.nexts k n.0 w n.1 at in
       (both.0.2.1, both.1.2.1)
+
+-- ---- a race after an order, where the search branches only where turns meet
+
+not_of_load : (k : Kind) (reply : ℕ) → is_load k ≡ true → has_stored k reply ≡ true → ⊥
+not_of_load Load reply l w = absurd cc
+not_of_load (Store v) reply l w = absurd cc
+not_of_load (Cas expected new) reply l w = absurd cc
+
+-- accesses that are apart do not clash
+apart_is_quiet : (x y : Event) → AreApart x.entry.access y.entry.access → clash x y ≡ true → ⊥
+apart_is_quiet x y h e =
+    let k = clash_is x y e in
+    let i = inside x.entry.access.addr x.entry.access.size k.byte k.in_first in
+    let j = inside y.entry.access.addr y.entry.access.size k.byte k.in_second in
+    ⊎_elim
+    (λ (d : (x.entry.access.addr + x.entry.access.size ≤ y.entry.access.addr) ⊎ (y.entry.access.addr + y.entry.access.size ≤ x.entry.access.addr)).
+    let i0 = i.0 in let i1 = i.1 in let j0 = j.0 in let j1 = j.1 in
+    ⊎_elim
+    (λ (l : x.entry.access.addr + x.entry.access.size ≤ y.entry.access.addr). absurd (omega arith))
+    (λ (r : y.entry.access.addr + y.entry.access.size ≤ x.entry.access.addr). absurd (omega arith)) d)
+    (λ (l : (is_load x.entry.access.kind ≡ true) × (is_load y.entry.access.kind ≡ true)).
+    ⊎_elim (λ (w : writes x ≡ true). not_of_load x.entry.access.kind x.entry.reply l.0 w) (λ (w : writes y ≡ true). not_of_load y.entry.access.kind y.entry.reply l.1 w) (or_cases (writes x) (writes y) k.writing))
+    h
+
+module _ (code : ℕ → ℕ) (timed : Bool) (ps : List Place) (p : Spot State) (a b : Access) (h : IsSpotRace code p a b) where
+  -- so both next turns may meet something
+  race_meets0 : is_allowed code timed ps 1 p.side1 ≡ true → is_local code timed ps 0 p.side0 ≡ true → ⊥
+  race_meets0 may own =
+      let t = own_and_other ps 0 1 (Some a) (Some b) (omega arith) (omega arith) (λ e. absurd cc)
+      (subst IsServed h.next0 (next_served code p.side0)) (subst IsServed h.next1 (next_served code p.side1))
+      (subst (λ (x : Option Access). is_own_access ps 0 x ≡ true) h.next0 (local_is_own code timed ps 0 p.side0 own))
+      (subst (λ (x : Option Access). may_access ps 1 x ≡ true) h.next1 (allowed_is_told code timed ps 1 p.side1 may))
+      in
+      apart_is_quiet (event_at code 0 p.side0 p.memory a) (event_at code 1 p.side1 p.memory b) t.2 h.clash
+
+  race_meets1 : is_allowed code timed ps 0 p.side0 ≡ true → is_local code timed ps 1 p.side1 ≡ true → ⊥
+  race_meets1 may own =
+      let t = own_and_other ps 1 0 (Some b) (Some a) (omega arith) (omega arith) (λ e. absurd cc)
+      (subst IsServed h.next1 (next_served code p.side1)) (subst IsServed h.next0 (next_served code p.side0))
+      (subst (λ (x : Option Access). is_own_access ps 1 x ≡ true) h.next1 (local_is_own code timed ps 1 p.side1 own))
+      (subst (λ (x : Option Access). may_access ps 0 x ≡ true) h.next0 (allowed_is_told code timed ps 0 p.side0 may))
+      in
+      apart_is_quiet (event_at code 0 p.side0 p.memory a) (event_at code 1 p.side1 p.memory b) (turned_apart b a t.2) h.clash
+
+module _ (image : Image) (o : Options) (s : Search) (order : List ℕ) (met : IsMet image o s order) where
+  pub race_is_kept_after : (a b : Access) → IsSpotRace (code_of image) (kept_after image o s order) a b → IsKeptAfter image o s order
+  race_is_kept_after a b h =
+      let p = kept_after image o s order in
+      met.exact (race_meets0 (code_of image) s.machine.timed s.machine.places.list.items p a b h met.allowed1) (race_meets1 (code_of image) s.machine.timed s.machine.places.list.items p a b h met.allowed0)
+
+  -- the next turns after the order use no time
+  pub free_after : (bytes : AreBytes (code_of image)) → AreFree (code_of image) bytes s.machine.timed (kept_after image o s order)
+  free_after bytes =
+      let p = kept_after image o s order in (
+        allowed_bars_none (code_of image) s.machine.timed s.machine.places.list.items 0 p.side0 met.allowed0,
+        allowed_bars_none (code_of image) s.machine.timed s.machine.places.list.items 1 p.side1 met.allowed1,
+      )

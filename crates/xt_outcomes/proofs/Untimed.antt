@@ -1,12 +1,12 @@
 -- What a search without time keeps of a world goes on by itself.
-use Rattle.std.proofs.Common.{◌≡◌, ℕ, zero, suc, ◌⊎◌, Bool, true, false, cond, eqb, not, ◌&&◌, List, [], ◌∷◌, length, refl, sym, ap, ◌∙◌, inl, inr, arith}
+use Rattle.std.proofs.Common.{◌≡◌, ℕ, zero, suc, ◌⊎◌, Bool, true, false, cond, eqb, not, ◌&&◌, List, [], ◌∷◌, length, refl, sym, ap, ◌∙◌, inl, inr, subst, arith}
 use Rattle.std.proofs.lemmas.Bool.{true≢false}
 use Rattle.xt_map.specs.declared.contents.MemoryContents.{MemoryContents}
 use Rattle.xt_trace.specs.Runs.{Opening, opened}
 use Rattle.xt_trace.specs.Traces.{has_stopped}
 use Rattle.xt_trace.specs.Worlds.{Core, World, advance, give}
 use Rattle.xt_fetch.specs.Code.{AreBytes}
-use Rattle.xt_search.specs.Worlds.{Reaches}
+use Rattle.xt_search.specs.Meetings.{after}
 use Rattle.xt_exec.specs.Chips.{processor}
 use Rattle.xt_exec.specs.State.{State}
 use Rattle.xt_timeless.specs.Bare.{Bare, BareWorld, bare_given, bare_in, bare_memory, bare_past}
@@ -14,10 +14,8 @@ use Rattle.xt_timeless.specs.Laws.{HaveTurns, core_of}
 use Rattle.xt_timeless.specs.Time.{uses_time, without_time}
 use Rattle.xt_timeless.proofs.Going.{bare_gives}
 use Rattle.xt_timeless.proofs.Turning.{uses_alike}
-use Rattle.xt_outcomes.specs.Kept.{Leads, spot_of}
 use Rattle.xt_outcomes.specs.Orders.{given_turns, world_after}
-use Rattle.xt_outcomes.specs.Spots.{Side, Spot, memory_given, side_bars, side_given, side_in, side_of, spot_in, spot_past}
-use Rattle.xt_outcomes.specs.declared.world.World.{World as KeptWorld}
+use Rattle.xt_outcomes.specs.Spots.{Side, Spot, TurnsAreFree, memory_given, side_bars, side_given, side_in, side_of, spot_in, spot_past}
 use Rattle.xt_outcomes.proofs.Spotted.{spot_given}
 
 -- ---- what is kept of a world, by what stands of it without time
@@ -70,20 +68,20 @@ module _ (code : ℕ → ℕ) where
   free_at bytes zero w h = side_free bytes w.core0 h
   free_at bytes (suc c) w h = side_free bytes w.core1 h
 
-  led : AreBytes code → (timed : Bool) (n c : ℕ) (m : MemoryContents) (v u : KeptWorld) (w : World State) → spot_of m v ≡ spot_in timed w → Enough timed (suc n) w → Leads code timed m c v u
-      → (spot_of m u ≡ spot_in timed (give (processor code) c w)) × Enough timed n (give (processor code) c w)
-  led bytes true n c m v u w e h l = (l.0 ∙ ap (spot_past (processor code) true c) e ∙ sym (spot_given (processor code) c w), tt)
-  led bytes false n c m v u w e h l =
-      let free = free_at bytes c w (ap (λ (p : Spot State). side_bars code false (side_of c p)) (sym e) ∙ l.1) in
-      let g = bare_gives code bytes n c w h free in
-      (l.0 ∙ ap (spot_past (processor code) false c) e ∙ spot_step c (bare_in w) ∙ ap spot_from (sym g.0), g.1)
+  went : AreBytes code → (timed : Bool) (n c : ℕ) (w : World State) → Enough timed (suc n) w → side_bars code timed (side_of c (spot_in timed w)) ≡ false
+      → (spot_past (processor code) timed c (spot_in timed w) ≡ spot_in timed (give (processor code) c w)) × Enough timed n (give (processor code) c w)
+  went bytes true n c w h free = (sym (spot_given (processor code) c w), tt)
+  went bytes false n c w h free =
+      let g = bare_gives code bytes n c w h (free_at bytes c w free) in
+      (spot_step c (bare_in w) ∙ ap spot_from (sym g.0), g.1)
 
-  pub reached : AreBytes code → (timed : Bool) (order : List ℕ) (m : MemoryContents) (v u : KeptWorld) (w : World State) → spot_of m v ≡ spot_in timed w → Enough timed (length order) w
-      → Reaches (Leads code timed m) order v u → spot_of m u ≡ spot_in timed (advance (processor code) order w)
-  reached bytes timed [] m v u w e h r = ap (spot_of m) (sym r) ∙ e
-  reached bytes timed (c ∷ cs) m v u w e h r =
-      let a = led bytes timed (length cs) c m v r.0 w e h r.1 in
-      reached bytes timed cs m r.0 u (give (processor code) c w) a.0 a.1 r.2
+  gone : AreBytes code → (timed : Bool) (order : List ℕ) (w : World State) → Enough timed (length order) w → TurnsAreFree code timed order (spot_in timed w)
+      → after (spot_past (processor code) timed) order (spot_in timed w) ≡ spot_in timed (advance (processor code) order w)
+  gone bytes timed [] w h free = refl
+  gone bytes timed (c ∷ cs) w h free =
+      let a = went bytes timed (length cs) c w h free.0 in
+      ap (after (spot_past (processor code) timed) cs) a.0
+      ∙ gone bytes timed cs (give (processor code) c w) a.1 (subst (λ (p : Spot State). TurnsAreFree code timed cs p) a.0 free.1)
 
   -- ---- the opening
 
@@ -95,6 +93,10 @@ module _ (code : ℕ → ℕ) where
   opens_same true o order = refl
   opens_same false o order = refl
 
-  pub reached_after : AreBytes code → (timed : Bool) (order : List ℕ) (m : MemoryContents) (v u : KeptWorld) (o : Opening State) → spot_of m v ≡ spot_in timed (opened o) → Reaches (Leads code timed m) order v u
-      → spot_of m u ≡ spot_in timed (world_after (processor code) timed o order)
-  reached_after bytes timed order m v u o e r = reached bytes timed order m v u (opened (given_turns timed o order)) (e ∙ opens_same timed o order) (enough_opened timed o order) r
+  -- what is kept of the world after an order no turn of which uses time
+  pub gone_after : AreBytes code → (timed : Bool) (o : Opening State) (order : List ℕ) → TurnsAreFree code timed order (spot_in timed (opened o))
+      → after (spot_past (processor code) timed) order (spot_in timed (opened o)) ≡ spot_in timed (world_after (processor code) timed o order)
+  gone_after bytes timed o order free =
+      let e = opens_same timed o order in
+      ap (after (spot_past (processor code) timed) order) e
+      ∙ gone bytes timed order (opened (given_turns timed o order)) (enough_opened timed o order) (subst (λ (p : Spot State). TurnsAreFree code timed order p) e free)

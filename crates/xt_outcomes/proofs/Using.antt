@@ -27,13 +27,10 @@ use Rattle.xt_outcomes.specs.Spots.{Spot, side_bars, side_in, side_of, spot_in}
 use Rattle.xt_outcomes.specs.declared.found.Search.{Search}
 use Rattle.xt_outcomes.specs.declared.world.World.{World as KeptWorld}
 use Rattle.xt_outcomes.proofs.Continuing.{reaches_append}
-use Rattle.xt_outcomes.proofs.Finding.{world_is}
+use Rattle.xt_outcomes.proofs.Covering.{order_more}
+use Rattle.xt_outcomes.proofs.Finding.{reached}
 
 -- ---- an order leads to each kept world
-
-order_append : (xs ys : List ℕ) → IsOrder xs → IsOrder ys → IsOrder (xs ++ ys)
-order_append [] ys h k = k
-order_append (c ∷ cs) ys h k = (h.0, order_append cs ys h.1 k)
 
 module _ {W : Type 0} (L : ℕ → W → W → Type 0) (g : Graph W) (is : IsGraph L g) (opening : W) (opens : OpensWith g opening) where
   ordered : (n k : ℕ) → k ≤ n → (w : W) → IsAt g.kept.items k w → (order : List ℕ) × IsOrder order × Reaches L order opening w
@@ -47,7 +44,7 @@ module _ {W : Type 0} (L : ℕ → W → W → Type 0) (g : Graph W) (is : IsGra
       let r = ordered n x.0.from (omega arith) f.0 f.3 in
       let same : x.0.world ≡ w = at_once ks (suc k) x.0.world w (at_kept ks (suc k) x.0 x.1) at in (
         r.0 ++ x.0.core ∷ [],
-        order_append r.0 (x.0.core ∷ []) r.1 (f.2, tt),
+        order_more r.0 (x.0.core ∷ []) r.1 (f.2, tt),
         reaches_append L r.0 (x.0.core ∷ []) opening f.0 w r.2 (w, subst (L x.0.core f.0) same f.4, refl),
       )
 
@@ -80,13 +77,14 @@ pub time_used : (image : Image) (o : Options) (s : Search) → IsSearch image o 
 time_used image o s h b pc barred at =
     let code = code_of image in
     let timed = s.machine.timed in
-    let r = ordered (Leads code timed (memory_of image o)) s.graph h.graph h.first.0 h.first.1 b.from b.from (omega arith) barred.0 barred.1 in
-    let after = world_after (processor code) timed (opening_of image o) r.0 in
-    let e = world_is image o s h r.0 barred.0 r.2 in
+    let r = ordered (Leads code timed s.machine.places.list.items s.machine.most_local (memory_of image o)) s.graph h.graph h.first.0 h.first.1 b.from b.from (omega arith) barred.0 barred.1 in
+    let t = reached image o s h r.0 barred.0 r.1 r.2 in
+    let after = world_after (processor code) timed (opening_of image o) t.0 in
+    let e = t.2 in
     let u = used code h.bytes timed b.core after (ap (λ (p : Spot State). side_bars code timed (side_of b.core p)) (sym e) ∙ barred.3) in
     record {
-      order = r.0;
-      is_order = r.1;
+      order = t.0;
+      is_order = t.1;
       is_core = barred.2;
       untimed = u.0;
       going = u.1;

@@ -1,11 +1,12 @@
 -- Carries a proof; nothing that a reader must believe.
 -- What stands for a world in a search.
-use Rattle.std.specs.Prelude.{◌≡◌, ℕ, Bool, false}
+use Rattle.std.specs.Prelude.{◌≡◌, ℕ, Bool, false, List}
 use Rattle.xt_map.specs.declared.contents.MemoryContents.{MemoryContents}
 use Rattle.xt_changes.specs.Changed.{contents_of}
-use Rattle.xt_exec.specs.Chips.{processor}
 use Rattle.xt_exec.specs.State.{State}
-use Rattle.xt_outcomes.specs.Spots.{Spot, side_bars, side_of, spot_past}
+use Rattle.xt_outcomes.specs.Places.{spot_run}
+use Rattle.xt_outcomes.specs.Spots.{Spot, side_bars, side_of}
+use Rattle.xt_outcomes.specs.declared.places.Place.{Place}
 use Rattle.xt_outcomes.specs.declared.world.World.{World}
 
 -- the world that it stands for where memory opened so
@@ -16,8 +17,9 @@ spot_of m w = record { side0 = w.side0; side1 = w.side1; memory = contents_of m 
 abbrev pub bars : (code : ℕ → ℕ) (timed : Bool) → MemoryContents → ℕ → World → Bool
 bars code timed m c w = side_bars code timed (side_of c (spot_of m w))
 
--- a turn of the core, which uses no time, leads from the one to the other
-abbrev pub Leads : (code : ℕ → ℕ) (timed : Bool) → MemoryContents → ℕ → World → World → Type 0
-Leads code timed m c v w =
-    (spot_of m w ≡ spot_past (processor code) timed c (spot_of m v))
-    × (bars code timed m c v ≡ false)
+-- a turn of the core, which uses no time, and then its turns that meet nothing, at most so many,
+-- lead from the one to the other
+abbrev pub Leads :
+    (code : ℕ → ℕ) (timed : Bool) → List Place → ℕ → MemoryContents → ℕ → World → World → Type 0
+Leads code timed ps n m c v w =
+    (spot_of m w ≡ spot_run code timed ps n c (spot_of m v)) × (bars code timed m c v ≡ false)

@@ -3,11 +3,12 @@ pub mod Beyond
 pub mod Outcomes
 pub mod NextRaces
 pub mod Spots
+pub mod SpotRaces
+pub mod Places
 pub mod Kept
 pub mod Searched
 pub mod Endings
 pub mod Listing
-pub mod SpotRaces
 pub mod Racing
 pub mod Added
 pub mod Ended

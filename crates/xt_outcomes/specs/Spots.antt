@@ -2,13 +2,15 @@
 -- What a search keeps of a world: both cores without their records, and memory without its history.
 -- Where it is not timed, time is left out, and in place of the turns that are left stands whether
 -- there is one: none after a stop.
-use Rattle.std.specs.Prelude.{ℕ, zero, suc, Bool, true, false, ◌==◌, ◌&&◌, ◌||◌, not, List, [], ◌∷◌}
+use Rattle.std.specs.Prelude.{◌≡◌, ℕ, zero, suc, Bool, true, false, ◌==◌, ◌&&◌, ◌||◌, not, List, [], ◌∷◌}
 use Rattle.std.specs.Prelude.{if◌then◌else◌}
 use Rattle.xt_map.specs.declared.contents.MemoryContents.{MemoryContents}
 use Rattle.xt_trace.specs.Calls.{is_stop}
 use Rattle.xt_trace.specs.Chip.{Chip}
 use Rattle.xt_trace.specs.Traces.{has_stopped}
 use Rattle.xt_trace.specs.Worlds.{Core, World, answer, left_past, memory_left}
+use Rattle.xt_search.specs.Meetings.{after}
+use Rattle.xt_exec.specs.Chips.{processor}
 use Rattle.xt_exec.specs.State.{State}
 use Rattle.xt_timeless.specs.Time.{uses_time, without_time}
 
@@ -98,5 +100,11 @@ side_bars code true s = false
 side_bars code false s = not (s.left == 0) && uses_time code s.state
 
 abbrev pub spot_after : (P : Chip State) (timed : Bool) → List ℕ → Spot State → Spot State
-spot_after P timed [] w = w
-spot_after P timed (c ∷ cs) w = spot_after P timed cs (spot_past P timed c w)
+spot_after P timed order w = after (spot_past P timed) order w
+
+-- no turn of the order uses time
+abbrev pub TurnsAreFree : (code : ℕ → ℕ) (timed : Bool) → List ℕ → Spot State → Type 0
+TurnsAreFree code timed [] w = Unit {0}
+TurnsAreFree code timed (c ∷ cs) w =
+    (side_bars code timed (side_of c w) ≡ false)
+    × TurnsAreFree code timed cs (spot_past (processor code) timed c w)

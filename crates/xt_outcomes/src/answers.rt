@@ -6,7 +6,6 @@ ghost use Rattle.xt_trace.specs.Validity.{IsValid};
 ghost use Rattle.xt_image.specs.Parts.{FitsImage};
 ghost use Rattle.xt_exec.specs.Chips.{processor};
 ghost use Rattle.xt_core.specs.Runs.{code_of, opening_of};
-ghost use Rattle.xt_search.specs.Graphs.{IsWhole};
 ghost use Rattle.xt_search.specs.Worlds.{IsOrder};
 ghost use Rattle.xt_outcomes.specs.Answered.{AreAnswers};
 ghost use Rattle.xt_map.specs.declared.contents.MemoryContents.{MemoryContents};
@@ -15,12 +14,14 @@ ghost use Rattle.xt_outcomes.specs.Kept.{spot_of};
 ghost use Rattle.xt_outcomes.specs.Outcomes.{CanAllEnd, IsStuck};
 ghost use Rattle.xt_outcomes.specs.Spots.{side_of};
 ghost use Rattle.xt_outcomes.specs.declared.answers.Ending.TheVariants.{All};
-ghost use Rattle.xt_outcomes.specs.Searched.{IsSearch};
+ghost use Rattle.xt_outcomes.specs.Searched.{IsComplete, IsSearch};
 
-use crate::found::{Search, is_whole, search_orders};
+use crate::found::Search;
 use crate::listing::{Found, outcomes_of};
+use crate::meeting::{is_whole, search_orders};
 use crate::races::{NextRace, race_of};
 use crate::stuck::stuck_of;
+use crate::turns::Desk;
 use crate::world::World;
 use std::alloc::{AllocError, Global};
 use xt_image::Image;
@@ -62,12 +63,12 @@ fn pc_in(world: &World, core: u8) -> u32
 }
 
 // How the search ended.
-fn ending_of(image: &Image, options: &Options, search: &Search) -> Ending
+fn ending_of(image: &Image, options: &Options, search: &Search, desk: &mut Desk) -> Ending
     requires search { IsSearch image.now options.now search.now }
     ensures ending { IsEnding (code_of image.now) search.now.machine.timed (opening_of image.now options.now) result }
-    ensures all { result ≡ All → IsWhole search.now.graph }
+    ensures all { result ≡ All → IsComplete search.now }
 {
-    if is_whole(image, options, search) {
+    if is_whole(image, options, search, desk) {
         return Ending::All;
     }
     match search.graph.barred {
@@ -89,7 +90,8 @@ fn stuck_where(
     ended: Ending,
 ) -> Result<Option<Vec<u8>>, AllocError>
     requires search { IsSearch image.now options.now search.now }
-    requires whole { ended ≡ All → IsWhole search.now.graph }
+    requires valid { IsValid options.now }
+    requires whole { ended ≡ All → IsComplete search.now }
     ensures order { IfOk result (λ r. IfSome r (λ v. IsOrder v.items)) }
     ensures stuck { IfOk result (λ r. IfSome r (λ v. IsStuck (processor (code_of image.now)) search.now.machine.timed (opening_of image.now options.now) v.items)) }
     ensures none { IfOk result (λ r. ended ≡ All → IfNone r (CanAllEnd (processor (code_of image.now)) search.now.machine.timed (opening_of image.now options.now))) }
@@ -122,7 +124,8 @@ pub fn answers_of(
     ensures { IfOk result (λ a. AreAnswers image.now options.now timed words.now a) }
 {
     let search = search_orders(alloc, image, options, timed, most)?;
-    let ended = ending_of(image, options, &search);
+    let mut desk = Desk::make(alloc, options)?;
+    let ended = ending_of(image, options, &search, &mut desk);
     let found = outcomes_of(alloc, image, options, &search, words)?;
     let stuck = stuck_where(alloc, image, options, &search, ended)?;
     let race = race_of(alloc, image, options, &search)?;

@@ -4,11 +4,12 @@ ghost use Rattle.std.specs.List.{All};
 ghost use Rattle.std.specs.Ordering.{is_eq};
 ghost use Rattle.xt_exec.specs.Chips.{processor};
 ghost use Rattle.xt_core.specs.Runs.{code_of, memory_of, opening_of};
-ghost use Rattle.xt_search.specs.Graphs.{IsAt, IsWhole};
+ghost use Rattle.xt_trace.specs.Validity.{IsValid};
+ghost use Rattle.xt_search.specs.Graphs.{IsAt};
 ghost use Rattle.xt_outcomes.specs.Added.{IsAdded};
 ghost use Rattle.xt_outcomes.specs.Kept.{spot_of};
 ghost use Rattle.xt_outcomes.specs.Listing.{AreReal, HasAllOutcomes, IsRising, compared, place_in};
-ghost use Rattle.xt_outcomes.specs.Searched.{IsSearch};
+ghost use Rattle.xt_outcomes.specs.Searched.{IsComplete, IsSearch};
 ghost use Rattle.xt_outcomes.specs.declared.listing.Found.{Found};
 ghost use Rattle.xt_outcomes.specs.declared.world.World.{World};
 
@@ -65,6 +66,7 @@ fn add(
     list: &mut Vec<Found>,
 ) -> Result<(), AllocError>
     requires search { IsSearch image.now options.now search.now }
+    requires valid { IsValid options.now }
     requires number { number < length search.now.graph.kept.items }
     requires words { All (λ a. a + 4 ≤ 2 ^ 32) words.now }
     ensures { OnOk result ((w : World) → IsAt search.now.graph.kept.items number w → IsAdded (processor (code_of image.now)) search.now.machine.timed (opening_of image.now options.now) words.now (spot_of (memory_of image.now options.now) w) list.old.items list.new.items) }
@@ -86,7 +88,7 @@ fn add(
 /// The outcomes of the worlds that were found, for the words at these addresses, in rising order, each
 /// with one order that leads there. The only error is running out of memory.
 ///
-/// Condition: each address lies at least 4 below 2^32.
+/// Conditions: the options are valid, and each address lies at least 4 below 2^32.
 pub fn outcomes_of(
     alloc: Global,
     image: &Image,
@@ -95,9 +97,10 @@ pub fn outcomes_of(
     words: &[u32],
 ) -> Result<Vec<Found>, AllocError>
     requires search { IsSearch image.now options.now search.now }
+    requires valid { IsValid options.now }
     requires words { All (λ a. a + 4 ≤ 2 ^ 32) words.now }
     ensures real { IfOk result (λ v. AreReal (processor (code_of image.now)) search.now.machine.timed (opening_of image.now options.now) words.now v.items) }
-    ensures all { IfOk result (λ v. IsWhole search.now.graph → HasAllOutcomes (processor (code_of image.now)) search.now.machine.timed (opening_of image.now options.now) words.now v.items) }
+    ensures all { IfOk result (λ v. IsComplete search.now → HasAllOutcomes (processor (code_of image.now)) search.now.machine.timed (opening_of image.now options.now) words.now v.items) }
     ensures rising { IfOk result (λ v. IsRising v.items) }
 {
     let mut list = Vec::new(alloc);

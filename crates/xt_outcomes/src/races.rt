@@ -8,11 +8,10 @@ ghost use Rattle.xt_exec.specs.Chips.{processor};
 ghost use Rattle.xt_exec.specs.Turn.{demand};
 ghost use Rattle.xt_core.specs.Runs.{code_of, memory_of, opening_of};
 ghost use Rattle.xt_changes.specs.Changed.{contents_of};
-ghost use Rattle.xt_search.specs.Graphs.{IsWhole};
 ghost use Rattle.xt_search.specs.Worlds.{IsOrder};
 ghost use Rattle.xt_outcomes.specs.Kept.{spot_of};
 ghost use Rattle.xt_outcomes.specs.Racing.{HasNoRace, IsRaceAfter};
-ghost use Rattle.xt_outcomes.specs.Searched.{IsSearch};
+ghost use Rattle.xt_outcomes.specs.Searched.{IsComplete, IsSearch};
 ghost use Rattle.xt_outcomes.specs.SpotRaces.{IsSpotRace, event_at, next_of};
 
 use crate::found::{Search, order_of};
@@ -103,7 +102,7 @@ fn race_in(machine: &Timed, desk: &mut Desk, world: &World) -> Option<(Access, A
 }
 
 /// A race of the next turns of both cores after one of the orders whose next turns were made; None:
-/// where the search came to its end, no order leads to one. The only error is running out of memory.
+/// if the search came to its end and its places are right, no order leads to one. The only error is running out of memory.
 ///
 /// Condition: the options are valid.
 pub fn race_of(
@@ -115,7 +114,7 @@ pub fn race_of(
     requires search { IsSearch image.now options.now search.now }
     requires valid { IsValid options.now }
     ensures race { IfOk result (λ r. IfSome r (λ x. IsRaceAfter (code_of image.now) search.now.machine.timed (opening_of image.now options.now) x)) }
-    ensures none { IfOk result (λ r. IsWhole search.now.graph → IfNone r (HasNoRace (code_of image.now) search.now.machine.timed (opening_of image.now options.now))) }
+    ensures none { IfOk result (λ r. IsComplete search.now → IfNone r (HasNoRace (code_of image.now) search.now.machine.timed (opening_of image.now options.now))) }
 {
     let mut desk = Desk::make(alloc, options)?;
     for number in 0..search.graph.nexts.len() {

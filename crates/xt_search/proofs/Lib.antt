@@ -1,3 +1,4 @@
 pub mod Numbers
 pub mod Endings
 pub mod Marking
+pub mod Meeting

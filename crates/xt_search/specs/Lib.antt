@@ -1,3 +1,4 @@
 pub mod Worlds
 pub mod Graphs
 pub mod Ends
+pub mod Meetings

@@ -11,9 +11,8 @@ use Rattle.xt_outcomes.specs.Orders.{world_after}
 use Rattle.xt_outcomes.specs.SpotRaces.{IsSpotRace}
 use Rattle.xt_outcomes.specs.Spots.{Spot}
 use Rattle.xt_outcomes.specs.declared.world.World.{World}
-use Rattle.xt_outcomes.proofs.Continuing.{whole_orders}
-use Rattle.xt_outcomes.proofs.Raced.{AreFree, are_free, race_of_spot, spot_of_race}
-use Rattle.xt_outcomes.proofs.Finding.{carried}
+use Rattle.xt_outcomes.proofs.Raced.{AreFree, are_free, free_after, race_is_kept_after, race_of_spot, spot_of_race}
+use Rattle.xt_outcomes.proofs.Finding.{carried, meets_orders}
 use Rattle.xt_outcomes.proofs.races.race_of.Goals as goal
 
 pub returns-in-Some-clause-race : goal.returns-in-Some-clause-race
@@ -70,12 +69,12 @@ returns-clause-none c = λ whole order a b is race.
     let ks = s.graph.kept.items in
     let code = code_of c.args.image.now in
     let bytes = c.requires.search.bytes in
-    let r = whole_orders c.args.image.now c.args.options.now s c.requires.search whole order is in
+    let met = meets_orders c.args.image.now c.args.options.now s c.requires.search whole order is in
+    let after = world_after (processor code) s.machine.timed (opening_of c.args.image.now c.args.options.now) order in
+    let raced = spot_of_race code bytes s.machine.timed after a b (free_after c.args.image.now c.args.options.now s order met bytes) race in
+    let r = race_is_kept_after c.args.image.now c.args.options.now s order met a b raced in
     let many : c.len-number-end.result ≡ length s.graph.nexts.items = c.len-number-end.ensures ∙ s.graph.nexts.ok.0 in
     let past : c.len-number-end.result ≤ c.loop-number.number = c.loop-number-test.false in
-    let all : length s.graph.nexts.items ≡ length ks = whole in
+    let all : length s.graph.nexts.items ≡ length ks = whole.whole in
     let within : r.0 < length ks = at_within ks r.0 r.1 r.2 in
-    let free = subst (AreFree code bytes s.machine.timed) r.3 (are_free c.args.image.now c.args.options.now s c.requires.search r.0 r.1 (omega arith) r.2) in
-    c.loop-number.invariant r.0 r.1 a b (omega arith) r.2
-    (subst (λ (p : Spot State). IsSpotRace code p a b) (sym r.3)
-    (spot_of_race code bytes s.machine.timed (world_after (processor code) s.machine.timed (opening_of c.args.image.now c.args.options.now) order) a b free race))
+    c.loop-number.invariant r.0 r.1 a b (omega arith) r.2 (subst (λ (p : Spot State). IsSpotRace code p a b) (sym r.3) raced)

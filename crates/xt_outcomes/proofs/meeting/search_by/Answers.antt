@@ -4,7 +4,7 @@ use Rattle.xt_core.specs.Runs.{memory_of}
 use Rattle.xt_outcomes.specs.Kept.{Leads, bars}
 use Rattle.xt_outcomes.proofs.CodeBytes.{code_bytes}
 use Rattle.xt_outcomes.proofs.Finding.{carried}
-use Rattle.xt_outcomes.proofs.found.search_orders.Goals as goal
+use Rattle.xt_outcomes.proofs.meeting.search_by.Goals as goal
 
 pub returns-clause-search : goal.returns-clause-search
 returns-clause-search c =
@@ -16,7 +16,8 @@ returns-clause-search c =
       bytes = code_bytes image c.requires.fits;
       code = c.in_ok-machine.ensures.code;
       opening = c.in_ok-machine.ensures.opening;
-      graph = carried (λ k n. IsGraph (Leads k t.timed n) g) t.code image.segments t.opening.contents m c.in_ok-machine.ensures.code c.in_ok-machine.ensures.opening c.in_ok-graph.ensures.graph;
+      graph =
+          carried (λ k n. IsGraph (Leads k t.timed t.places.list.items t.most_local n) g) t.code image.segments t.opening.contents m c.in_ok-machine.ensures.code c.in_ok-machine.ensures.opening c.in_ok-graph.ensures.graph;
       barred =
           carried (λ k n. IfSome g.barred (IsBarredAt (bars k t.timed n) g.kept.items)) t.code image.segments t.opening.contents m c.in_ok-machine.ensures.code c.in_ok-machine.ensures.opening c.in_ok-graph.ensures.barred;
       first = (c.open.result, c.in_ok-graph.ensures.opens, rw c.in_ok-machine.ensures.timed c.open.ensures);
