@@ -1,7 +1,9 @@
 -- What a call says that has touched nothing: words without a meaning, or memory that ran out over
 -- them; and what the top call says after that of the commands that need no thread.
-use Rattle.std.proofs.Common.{◌≡◌, ℕ, inl, inr, List, Option, None, Result, Ok, Err, refl, sym, subst, ◌∙◌}
+use Rattle.std.proofs.Common.{◌≡◌, ℕ, inl, inr, List, [], Option, None, Result, Ok, Err, refl, sym, subst, ◌∙◌}
+use Rattle.std.proofs.KnownBytes.{Appends-nil, Consumes-nil}
 use Rattle.xt_command_line.specs.Answers.{Means}
+use Rattle.xt_command_line.specs.declared.beyond.Beyond.{Beyond}
 use Rattle.xt_command_line.specs.declared.command.Refusal.{Refusal}
 use Rattle.xt_command_line.specs.declared.command.Refusal.TheVariants as refusal
 use Rattle.xt_status.specs.declared.status.Status.{Status}
@@ -11,6 +13,8 @@ use Rattle.xt_status.proofs.Quiet.{is_untouched, keeps_same, still, takes_nothin
 use Rattle.xt_report.specs.declared.whole.Whole.{Whole}
 use Rattle.xt_runs.specs.declared.outcome.Outcome.{Outcome}
 use Rattle.xt_runs.specs.Runs.{Generates, Runs, image_limit}
+use Rattle.xt_session.specs.Calls.{Sessions}
+use Rattle.xt_session.specs.Session.{session_text}
 use Rattle.xt_cli.specs.declared.tool.Job.{Job}
 use Rattle.xt_cli.specs.declared.orders.Order.{Order}
 use Rattle.xt_cli.specs.declared.orders.Order.TheVariants as order
@@ -23,6 +27,7 @@ use Rattle.xt_cli.specs.Top as top
 -- memory ran out over the words
 out_of_memory : (asked : Result Order Refusal) (left told : Option (List ℕ)) (f g : ℕ) → Answers asked (still left told f g) (tool.Answer status.Memory)
 out_of_memory (Ok (order.Work j)) left told f g = (takes_nothing (limit_of j) left told f g, inl (keeps_same told))
+out_of_memory (Ok (order.Session b)) left told f g = ([], Consumes-nil left, ([], session_text b [], refl, Appends-nil told))
 out_of_memory (Ok (order.Run wanted options)) left told f g = (refl, is_untouched left told f g)
 out_of_memory (Ok (order.Generate number)) left told f g = (refl, is_untouched left told f g)
 out_of_memory (Err r) left told f g = (inr refl, is_untouched left told f g)
@@ -45,6 +50,8 @@ top_without : (asked : Result Order Refusal) (left told : Option (List ℕ)) (f 
     → top.Answers asked (still left told f g) o
 top_without (Ok (order.Work j)) left told f g o is none no_line =
     let P : Status → Type 0 = λ x. Makes j (still left told f g) x in (subst P (sym is) (out_of_memory (Ok (order.Work j)) left told f g), none, no_line)
+top_without (Ok (order.Session b)) left told f g o is none no_line =
+    let P : Status → Type 0 = λ x. Sessions b (still left told f g) x in (subst P (sym is) (out_of_memory (Ok (order.Session b)) left told f g), none, no_line)
 top_without (Ok (order.Run wanted options)) left told f g o is none no_line =
     let e = still left told f g in
     let P : Status → Type 0 = λ x. Runs wanted options e x None None in
@@ -93,6 +100,8 @@ of_still P e quiet all =
 pub answered : (asked : Result Order Refusal) (e : Ends) (s : Status) (o : Outcome) → Answers asked e (tool.Answer s) → o.status ≡ s → o.whole ≡ None → o.unmet ≡ None → top.Answers asked e o
 answered (Ok (order.Work j)) e s o answers is none no_line =
     let P : Status → Type 0 = λ x. Makes j e x in (subst P (sym is) answers, none, no_line)
+answered (Ok (order.Session b)) e s o answers is none no_line =
+    let P : Status → Type 0 = λ x. Sessions b e x in (subst P (sym is) answers, none, no_line)
 answered (Ok (order.Run wanted options)) e s o (memory, quiet) is none no_line =
     of_still (λ (c : Ends). top.Answers (Ok (order.Run wanted options)) c o) e quiet (λ left told f g. top_without (Ok (order.Run wanted options)) left told f g o (is ∙ memory) none no_line)
 answered (Ok (order.Generate number)) e s o (memory, quiet) is none no_line =
@@ -104,6 +113,7 @@ pub answered_completely : (asked : Result Order Refusal) (e : Ends) (s : Status)
     → o.status ≡ s → top.IsComplete asked e o
 answered_completely (Ok (order.Work j)) e s o answers complete is =
     let P : Status → Type 0 = λ x. tools.Finishes j e x in subst P (sym is) complete
+answered_completely (Ok (order.Session b)) e s o answers complete is = tt
 answered_completely (Ok (order.Run wanted options)) e s o answers complete is = λ has source sink. inr (is ∙ answers.0)
 answered_completely (Ok (order.Generate number)) e s o answers complete is = λ sink. inr (is ∙ answers.0)
 answered_completely (Err r) e s o answers complete is = tt
@@ -111,12 +121,14 @@ answered_completely (Err r) e s o answers complete is = tt
 -- what was handed back is for threads, and nothing was touched
 pub is_threaded : (asked : Result Order Refusal) (e : Ends) → Answers asked e tool.Threaded → IsThreaded asked
 is_threaded (Ok (order.Work j)) e answers = absurd answers
+is_threaded (Ok (order.Session b)) e answers = absurd answers
 is_threaded (Ok (order.Run wanted options)) e answers = tt
 is_threaded (Ok (order.Generate number)) e answers = tt
 is_threaded (Err r) e answers = absurd answers
 
 untouched : (asked : Result Order Refusal) (e : Ends) → Answers asked e tool.Threaded → IsUntouched e
 untouched (Ok (order.Work j)) e answers = absurd answers
+untouched (Ok (order.Session b)) e answers = absurd answers
 untouched (Ok (order.Run wanted options)) e answers = answers
 untouched (Ok (order.Generate number)) e answers = answers
 untouched (Err r) e answers = absurd answers
@@ -131,6 +143,11 @@ after_both P asked l m n a b c f f2 f3 g g2 g3 answers holds =
     let C : ℕ → Type 0 = λ x. P (call l n a c x f3 g2 g3) in
     let D : ℕ → Type 0 = λ x. P (call l n a c f f3 x g3) in
     subst D quiet.sink (subst C quiet.source (subst B quiet.told (subst A quiet.left holds)))
+
+-- words for threads ask for no session
+pub not_session : (asked : Result Order Refusal) (o : Order) (b : Beyond) → IsThreaded asked → o ≡ order.Session b → Ok o ≡ asked → ⊥
+not_session asked o b threaded is_session is =
+    let P : Order → Type 0 = λ x. IsThreaded (Ok x) in subst P is_session (subst IsThreaded (sym is) threaded)
 
 -- words for threads ask for none of the commands that need none
 pub not_work : (asked : Result Order Refusal) (o : Order) (j : Job) → IsThreaded asked → o ≡ order.Work j → Ok o ≡ asked → ⊥

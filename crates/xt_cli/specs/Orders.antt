@@ -1,5 +1,6 @@
 -- What the words of the command line ask for ('profile'). A word is the list of its bytes.
-use Rattle.std.specs.Prelude.{ℕ, All, List, Option, Some, None, Result, Ok, Err}
+use Rattle.std.specs.Prelude.{ℕ, All, if◌then◌else◌, List, Option, Some, None, Result, Ok, Err, codes}
+use Rattle.std.specs.Str.{bytes_eq}
 use Rattle.xt_command_line.specs.Arguments.{IsVecbase, script_text_of}
 use Rattle.xt_command_line.specs.Beyond.{beyond_of}
 use Rattle.xt_command_line.specs.Listings.{IsListing}
@@ -30,10 +31,12 @@ abbrev pub scripted : Option (List script.Command) → Beyond → Result Order R
 scripted None b = Err (refusal.Usage 9)
 scripted (Some commands) b = Ok (order.Work (job.Replay commands b))
 
+-- the word `-` asks for a session
 unfoldable pub replay_order : Result (List ℕ) Refusal → Result Beyond Refusal → Result Order Refusal
 replay_order (Err r) beyond = Err r
 replay_order (Ok text) (Err r) = Err r
-replay_order (Ok text) (Ok b) = scripted (script_of text) b
+replay_order (Ok text) (Ok b) =
+    if bytes_eq text (codes "-") then Ok (order.Session b) else scripted (script_of text) b
 
 -- the discipline of uses that the words ask for
 abbrev pub discipline_of : Rigor → Discipline
@@ -80,5 +83,6 @@ IsFit _ = Unit {0}
 -- the options of a run are valid
 abbrev pub IsFitOrder : Order → Type 0
 IsFitOrder (order.Work j) = IsFit j
+IsFitOrder (order.Session b) = Unit {0}
 IsFitOrder (order.Run wanted options) = AreValid options
 IsFitOrder (order.Generate number) = Unit {0}

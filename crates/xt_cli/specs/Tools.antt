@@ -24,6 +24,7 @@ use Rattle.xt_status.specs.declared.status.Status.{Status}
 use Rattle.xt_status.specs.declared.status.Status.TheVariants as status
 use Rattle.xt_status.specs.Calls.{Ends, IsUntouched, ReadsWhole, TakesWithin}
 use Rattle.xt_status.specs.Inputs.{image_refusal, recording_refusal}
+use Rattle.xt_session.specs.Calls.{Sessions}
 use Rattle.xt_tools.specs.Commands as commands
 use Rattle.xt_tools.specs.Commands.{AreOutcomesTold, IsAssembled, IsCountsTold, IsListed}
 use Rattle.xt_tools.specs.Commands.{IsRaceTold, converted, elf_refusal, happened, migrated, profiled, text_refusal, traced}
@@ -157,6 +158,7 @@ RefusesWords r e s = ((s ≡ status_of r) ⊎ (s ≡ status.Memory)) × IsUntouc
 -- touched.
 abbrev pub Answers : Result Order Refusal → Ends → Tool → Type 0
 Answers (Ok (order.Work j)) e (tool.Answer s) = Makes j e s
+Answers (Ok (order.Session b)) e (tool.Answer s) = Sessions b e s
 Answers (Ok (order.Run wanted options)) e tool.Threaded = IsUntouched e
 Answers (Ok (order.Run wanted options)) e (tool.Answer s) = (s ≡ status.Memory) × IsUntouched e
 Answers (Ok (order.Generate number)) e tool.Threaded = IsUntouched e
@@ -187,6 +189,7 @@ Finishes j e s =
     → (Rose e.sink_faults e.sink_faults_after → ⊥)
     → (s ≡ done_status (leads_beyond j has.input)) ⊎ (s ≡ status.Memory)
 
+-- of a session `Sessions` says it: each other status has a cause
 abbrev pub IsComplete : Result Order Refusal → Ends → Tool → Type 0
 IsComplete (Ok (order.Work j)) e (tool.Answer s) = Finishes j e s
 IsComplete _ e _ = Unit {0}

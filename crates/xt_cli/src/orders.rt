@@ -1,13 +1,16 @@
 //! What the words of the command line ask for.
 ghost use Rattle.std.specs.Prelude.{◌≡◌, IfOk, map, string_bytes};
-ghost use Rattle.xt_cli.specs.Orders.{IsFitOrder, discipline_of, order_of, replay_order};
+ghost use Rattle.xt_cli.specs.Orders.{IsFitOrder, discipline_of, order_of, replay_order, scripted};
 ghost use Rattle.xt_command_line.specs.Answers.{Means};
+ghost use Rattle.xt_debug.specs.Grammar.{script_of};
 ghost use Rattle.xt_command_line.specs.Arguments.{script_text_of};
 ghost use Rattle.xt_command_line.specs.Beyond.{beyond_of};
 
 use crate::tool::Job;
 use std::alloc::Global;
-use xt_command_line::{Command, Refusal, Rigor, RunOptions, meaning, script_beyond, script_text};
+use xt_command_line::{
+    Beyond, Command, Refusal, Rigor, RunOptions, meaning, script_beyond, script_text,
+};
 use xt_debug::{ScriptFault, parse_script};
 use xt_runs::Wanted;
 use xt_uses::Discipline;
@@ -17,13 +20,27 @@ use xt_uses::Discipline;
 pub enum Order {
     /// A command whose output is a function of its input.
     Work(Job),
+    /// `replay -`: scripts over one recording, a line each, which end beyond the run or go on.
+    Session(Beyond),
     /// A run of an image, with these options.
     Run(Wanted, RunOptions),
     /// `gen`: a run of the image that is made from this number.
     Generate(u32),
 }
 
-// The command `replay` with the script that its words have.
+// The command `replay` with the script that a text is.
+fn scripted(alloc: Global, text: &str, beyond: Beyond) -> Result<Order, Refusal>
+    ensures means { Means result (scripted (script_of text.now) beyond) }
+    ensures fit { IfOk result IsFitOrder }
+{
+    match parse_script(alloc, text) {
+        Ok(script) => Ok(Order::Work(Job::Replay(script, beyond))),
+        Err(ScriptFault::Bad) => Err(Refusal::Usage(9)),
+        Err(ScriptFault::Memory) => Err(Refusal::Memory),
+    }
+}
+
+// The command `replay` with the script that its words have, or as a session where they have `-`.
 #[tactic(auto, unfolding(crate::specs::Orders::replay_order))]
 fn replay_order(alloc: Global, words: &[String]) -> Result<Order, Refusal>
     ensures means { Means result (replay_order (script_text_of (map string_bytes words.now)) (beyond_of (map string_bytes words.now))) }
@@ -37,10 +54,9 @@ fn replay_order(alloc: Global, words: &[String]) -> Result<Order, Refusal>
         Ok(beyond) => beyond,
         Err(refusal) => return Err(refusal),
     };
-    match parse_script(alloc, text) {
-        Ok(script) => Ok(Order::Work(Job::Replay(script, beyond))),
-        Err(ScriptFault::Bad) => Err(Refusal::Usage(9)),
-        Err(ScriptFault::Memory) => Err(Refusal::Memory),
+    match text {
+        "-" => Ok(Order::Session(beyond)),
+        _ => scripted(alloc, text, beyond),
     }
 }
 

@@ -14,6 +14,7 @@ use xt_image::well_formed_is_placed;
 use xt_io::{ReadError, Sink, Source, read_to_limit};
 use xt_map::Text;
 use xt_replay::Replay;
+use xt_session::session;
 use xt_status::{IMAGE_LIMIT, RECORDING_LIMIT, Status, recording_in, status_after, write_text};
 use xt_tools::{
     ELF_LIMIT, TEXT_LIMIT, check, converted_file, counts, events, image_file, list, map_text,
@@ -222,13 +223,14 @@ fn carry_out<S: Source, K: Sink>(alloc: Global, order: &Order, source: &mut S, s
 {
     match order {
         Order::Work(job) => Tool::Answer(work(alloc, job, source, sink)),
+        Order::Session(beyond) => Tool::Answer(session(alloc, *beyond, source, sink)),
         Order::Run(_, _) | Order::Generate(_) => Tool::Threaded,
     }
 }
 
 /// What the program does with the words after its name, a source and a sink, where it needs no
 /// thread: it answers every word that has no meaning, and does the work of `asm`, `elf`, `dis`, `map`, `check`,
-/// `migrate`, `replay`, `events`, `counts`, `trace`, `race`, `profile`, `uses` and `outcomes`. It waits for nobody and returns.
+/// `migrate`, `replay`, `events`, `counts`, `trace`, `race`, `profile`, `uses` and `outcomes`, and a session of `replay`. It waits for nobody and returns.
 ///
 /// Words that ask for `run`, `record` or `gen` are handed back as `Threaded`, and nothing was then read or
 /// written.

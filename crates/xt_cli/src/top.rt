@@ -34,6 +34,7 @@ fn threaded<S: Source, K: Sink, G: Gate, R: Threads + Wait + Sync>(
         }
         Ok(Order::Generate(number)) => generate(rt, alloc, number, sink, gate),
         Ok(Order::Work(_job)) => unreachable!(),
+        Ok(Order::Session(_beyond)) => unreachable!(),
         Err(refusal) => without_run(status_of(refusal)),
     }
 }

@@ -24,6 +24,8 @@ mod recording_tests;
 mod recordings;
 mod schedules;
 #[cfg(test)]
+mod session_tests;
+#[cfg(test)]
 mod top_tests;
 mod verdicts;
 

@@ -1,0 +1,5 @@
+pub mod Reading
+pub mod Texts
+pub mod Lining
+pub mod Heading
+pub mod Replying
