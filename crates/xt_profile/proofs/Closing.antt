@@ -1,6 +1,6 @@
 -- The profile of a core, from what was counted up to the cut.
 use Rattle.std.proofs.Common.{◌≡◌, ℕ, suc, ◌+◌, ◌-◌, ◌≤◌, List, [], ◌∷◌, length, drop, take, refl, sym, ap, ap₂, subst, ◌∙◌, arith}
-use Rattle.std.proofs.lemmas.List.{length-append, length-drop, take-append-drop}
+use Rattle.std.proofs.lemmas.List.{append-nil, length-append, length-drop, take-append-drop}
 use Rattle.xt_map.specs.declared.segment.Segment.{Segment}
 use Rattle.xt_map.specs.Memory.{constant_byte}
 use Rattle.xt_image.specs.declared.image.Image.{Image}
@@ -17,25 +17,28 @@ use Rattle.xt_discipline.specs.Verdicts.{judgement_in}
 use Rattle.xt_discipline.specs.Schedules.{schedule_in}
 use Rattle.xt_discipline.specs.Walks.{IsOpened}
 use Rattle.xt_core.specs.Runs.{IsRunOf, code_of, entry_of}
+use Rattle.xt_profile.specs.declared.counting.AtCut.{AtCut}
 use Rattle.xt_profile.specs.declared.profiles.CoreProfile.{CoreProfile}
+use Rattle.xt_profile.specs.declared.profiles.CoreTurns.{CoreTurns}
 use Rattle.xt_profile.specs.declared.tally.Tally.{Tally}
 use Rattle.xt_profile.specs.Steps.{Step, frame_after, step_of, steps_from}
 use Rattle.xt_profile.specs.Keys.{Start, handlers, keys}
 use Rattle.xt_profile.specs.Counts.{lines, total}
-use Rattle.xt_profile.specs.Profiled.{CoreAddsUp, core_profile, cut, records, steps}
-use Rattle.xt_profile.specs.Told.{IsTally, closed}
+use Rattle.xt_profile.specs.Profiled.{CoreAddsUp, core_profile, cut, records, steps, turns_past}
+use Rattle.xt_profile.specs.Told.{IsTally, Origin, closed, from_here, origin}
 use Rattle.xt_profile.specs.Follows.{AreCut, Follows, IsCut}
+use Rattle.xt_profile.specs.Cuts.{IsAtCut}
 use Rattle.xt_profile.proofs.Cutting.{cut0_is, cut1_is}
 use Rattle.xt_profile.proofs.Following.{core_begins}
 use Rattle.xt_profile.proofs.Putting.{total_is}
-use Rattle.xt_profile.proofs.Telling.{keys_count}
+use Rattle.xt_profile.proofs.Telling.{front_is, keys_count, steps_whole, steps_within, turns}
 
 -- ---- as both cores open
 stays : (n : ℕ) → n ≡ n + 0
 stays n = omega arith
 
-abbrev pub from : ℕ → ℕ → Start
-from d pc = record { pc = pc; depth = d }
+abbrev pub from : ℕ → ℕ → Origin
+from d pc = origin pc d []
 
 pub follows_none : (d : ℕ) (w : Walk) (segments : List Segment) (image : Image) (r : Run) (cs : List ℕ) (xs ys : List StepRecord) (t0 t1 : Tally) → IsOpened w segments image.entry r.options → IsTally (from d image.entry) [] t0 → IsTally (from d r.options.entry1) [] t1
     → Follows (constant_byte w.code) (opened 0 image.entry r.options).bounds (opened 1 r.options.entry1 r.options).bounds (opening_known (opened 0 image.entry r.options).state (opened 1 r.options.entry1 r.options).state) cs (from d image.entry) (from d r.options.entry1) xs ys w 0 xs ys t0 t1
@@ -52,65 +55,6 @@ follows_none d w segments image r cs xs ys t0 t1 o h0 h1 =
       tally0 = h0;
       tally1 = h1;
     }
-
--- ---- a core's profile
-abbrev core_of : Start → List Step → ℕ → CoreProfile
-core_of o q a = record { lines = lines (keys o q); handlers = handlers q; after = a }
-
--- what was counted up to the cut, in the words of the definition
-core_is : (core d : ℕ) (opening : Start) (image : Image) (r : Run) (code : ℕ → ℕ) (f : FrameState) (xs : List StepRecord) (n count : ℕ) (t : Tally) (p : CoreProfile) → code ≡ code_of image → xs ≡ records core image r → f ≡ (opened core (entry_of core image r.options) r.options).state
-    → n ≡ cut core image r → opening ≡ from d (entry_of core image r.options) → count ≡ length xs → (h : IsCut code f xs n opening t) → p ≡ closed opening h.past count → p ≡ core_profile core d image r
-core_is core d opening image r code f xs n count t p code_is xs_is f_is n_is opening_is count_is h e =
-    let C : (ℕ → ℕ) → FrameState → List StepRecord → ℕ → Start → CoreProfile = λ c g ys m o. core_of o (steps_from c Plain g [] (take m ys)) (length (drop m ys)) in
-    let after : count - length h.past ≡ length (drop n xs) = ap₂ (λ (a b : ℕ). a - b) count_is h.count_is ∙ sym (length-drop n xs) in
-    e
-    ∙ (ap (λ (q : List Step). core_of opening q (count - length h.past)) (sym h.steps_are)
-    ∙ (ap (core_of opening (steps_from code Plain f [] (take n xs))) after
-    ∙ (ap (λ (c : ℕ → ℕ). C c f xs n opening) code_is
-    ∙ (ap (λ (g : FrameState). C (code_of image) g xs n opening) f_is
-    ∙ (ap (λ (ys : List StepRecord). C (code_of image) (opened core (entry_of core image r.options) r.options).state ys n opening) xs_is
-    ∙ (ap (λ (m : ℕ). C (code_of image) (opened core (entry_of core image r.options) r.options).state (records core image r) m opening) n_is
-    ∙ ap (λ (o : Start). C (code_of image) (opened core (entry_of core image r.options) r.options).state (records core image r) (cut core image r) o) opening_is))))))
-
--- the judgement is that of the run
-judged_is : (w : Walk) (segments : List Segment) (image : Image) (r : Run) (xs ys : List StepRecord) → w.code ≡ segments → segments ≡ image.segments → xs ≡ records 0 image r → ys ≡ records 1 image r
-    → judgement (constant_byte w.code) (opened 0 image.entry r.options).bounds (opened 1 r.options.entry1 r.options).bounds (schedule_in r) xs ys (opening_known (opened 0 image.entry r.options).state (opened 1 r.options.entry1 r.options).state)
-    ≡ judgement_in image r (records 0 image r) (records 1 image r)
-judged_is w segments image r xs ys a b e f =
-    let J : List Segment → List StepRecord → List StepRecord → Judgement = λ s us vs. judgement (constant_byte s) (opened 0 image.entry r.options).bounds (opened 1 r.options.entry1 r.options).bounds (schedule_in r) us vs (opening_known (opened 0 image.entry r.options).state (opened 1 r.options.entry1 r.options).state) in
-    ap (λ (s : List Segment). J s xs ys) (a ∙ b) ∙ (ap (λ (us : List StepRecord). J image.segments us ys) e ∙ ap (λ (vs : List StepRecord). J image.segments (records 0 image r) vs) f)
-
-abbrev pub Cut : ℕ → Walk → Image → Run → List StepRecord → List StepRecord → Tally → Tally → Type 0
-Cut d w image r xs ys t0 t1 =
-    AreCut (constant_byte w.code) (opening_known (opened 0 image.entry r.options).state (opened 1 r.options.entry1 r.options).state) (from d image.entry) (from d r.options.entry1) xs ys
-    (judgement (constant_byte w.code) (opened 0 image.entry r.options).bounds (opened 1 r.options.entry1 r.options).bounds (schedule_in r) xs ys (opening_known (opened 0 image.entry r.options).state (opened 1 r.options.entry1 r.options).state))
-    t0 t1
-
-pub zero_is : (d : ℕ) (w : Walk) (segments : List Segment) (image : Image) (r : Run) (xs ys : List StepRecord) (t0 t1 : Tally) (p : CoreProfile) → w.code ≡ segments → segments ≡ image.segments → xs ≡ records 0 image r → ys ≡ records 1 image r → IsRunOf image r
-    → Cut d w image r xs ys t0 t1 → ((opening : Start) (past : List Step) → IsTally opening past t0 → p ≡ closed opening past r.trace0.count) → p ≡ core_profile 0 d image r
-zero_is d w segments image r xs ys t0 t1 p a b e f run h is =
-    let j = judged_is w segments image r xs ys a b e f in
-    core_is 0 d (from d image.entry) image r (constant_byte w.code) (opened 0 image.entry r.options).state xs _ r.trace0.count t0 p (ap constant_byte (a ∙ b)) e refl (ap (λ (v : Judgement). v.known.steps0) j ∙ cut0_is image r) refl
-    (run.trace0.count_is ∙ ap (λ (l : List StepRecord). length l) (sym e)) h.core0 (is (from d image.entry) h.core0.past h.core0.tally)
-
-pub one_is : (d : ℕ) (w : Walk) (segments : List Segment) (image : Image) (r : Run) (xs ys : List StepRecord) (t0 t1 : Tally) (p : CoreProfile) → w.code ≡ segments → segments ≡ image.segments → xs ≡ records 0 image r → ys ≡ records 1 image r → IsRunOf image r
-    → Cut d w image r xs ys t0 t1 → ((opening : Start) (past : List Step) → IsTally opening past t1 → p ≡ closed opening past r.trace1.count) → p ≡ core_profile 1 d image r
-one_is d w segments image r xs ys t0 t1 p a b e f run h is =
-    let j = judged_is w segments image r xs ys a b e f in
-    core_is 1 d (from d r.options.entry1) image r (constant_byte w.code) (opened 1 r.options.entry1 r.options).state ys _ r.trace1.count t1 p (ap constant_byte (a ∙ b)) f refl (ap (λ (v : Judgement). v.known.steps1) j ∙ cut1_is image r) refl
-    (run.trace1.count_is ∙ ap (λ (l : List StepRecord). length l) (sym f)) h.core1 (is (from d r.options.entry1) h.core1.past h.core1.tally)
-
--- the steps that were counted are no more than all
-steps_le : (s p n l c : ℕ) → s ≡ p → p ≡ n → n ≤ l → c ≡ l → s ≤ c
-steps_le s p n l c e f g h = omega (arith, e, f, g, h)
-
-pub zero_within : (d : ℕ) (w : Walk) (image : Image) (r : Run) (xs ys : List StepRecord) (t0 t1 : Tally) → xs ≡ records 0 image r → IsRunOf image r → Cut d w image r xs ys t0 t1 → t0.steps ≤ r.trace0.count
-zero_within d w image r xs ys t0 t1 e run h =
-    steps_le t0.steps (length h.core0.past) _ (length xs) r.trace0.count h.core0.tally.counted.steps_are h.core0.count_is h.core0.within (run.trace0.count_is ∙ ap (λ (l : List StepRecord). length l) (sym e))
-
-pub one_within : (d : ℕ) (w : Walk) (image : Image) (r : Run) (xs ys : List StepRecord) (t0 t1 : Tally) → ys ≡ records 1 image r → IsRunOf image r → Cut d w image r xs ys t0 t1 → t1.steps ≤ r.trace1.count
-one_within d w image r xs ys t0 t1 e run h =
-    steps_le t1.steps (length h.core1.past) _ (length ys) r.trace1.count h.core1.tally.counted.steps_are h.core1.count_is h.core1.within (run.trace1.count_is ∙ ap (λ (l : List StepRecord). length l) (sym e))
 
 -- ---- the sum
 one_on : (a b : ℕ) → suc a + b ≡ a + suc b
@@ -137,7 +81,7 @@ none_first n = omega arith
 
 pub adds_up : (core d : ℕ) (image : Image) (r : Run) (count : ℕ) (p : CoreProfile) → p ≡ core_profile core d image r → count ≡ length (records core image r) → CoreAddsUp p count
 adds_up core d image r count p e is =
-    let o = from d (entry_of core image r.options) in
+    let o = (from d (entry_of core image r.options)).start in
     let all = steps core image r in
     let n = cut core image r in
     let xs = records core image r in
@@ -146,9 +90,95 @@ adds_up core d image r count p e is =
     (sum_is (total (lines (keys o all))) (length (keys o all)) (handlers all) (length all) (length (take n xs)) (length xs) (length (drop n xs)) count (total_is (keys o all)) (keys_count o all)
     (steps_length (code_of image) Plain f [] (take n xs) ∙ none_first (length (take n xs))) (both_parts n xs) is)
 
+-- ---- a core's profile
+-- the steps that were counted, in the words of the definition
+past_is : (core : ℕ) (image : Image) (r : Run) (code : ℕ → ℕ) (f : FrameState) (xs : List StepRecord) (n : ℕ) (o : Origin) (t : Tally) → code ≡ code_of image → xs ≡ records core image r → f ≡ (opened core (entry_of core image r.options) r.options).state
+    → n ≡ cut core image r → (h : IsCut code f xs n o t) → h.past ≡ steps core image r
+past_is core image r code f xs n o t code_is xs_is f_is n_is h =
+    let S : (ℕ → ℕ) → FrameState → List StepRecord → ℕ → List Step = λ c g ys m. steps_from c Plain g [] (take m ys) in
+    let opening = (opened core (entry_of core image r.options) r.options).state in
+    sym h.steps_are
+    ∙ (ap (λ (c : ℕ → ℕ). S c f xs n) code_is
+    ∙ (ap (λ (g : FrameState). S (code_of image) g xs n) f_is
+    ∙ (ap (λ (ys : List StepRecord). S (code_of image) opening ys n) xs_is
+    ∙ ap (λ (m : ℕ). S (code_of image) opening (records core image r) m) n_is)))
+
+-- where none came first, all are counted
+turns_whole : (start : Start) (past : List Step) → turns_past start [] past ≡ turns (lines (keys start past)) (handlers past)
+turns_whole start past =
+    ap₂ (λ (ks : List (List ℕ)) (q : List Step). turns (lines ks) (handlers q)) (front_is (keys start past) [] (keys start past) (sym (append-nil (keys start past)))) (front_is past [] past (sym (append-nil past)))
+
+abbrev with_after : CoreTurns → ℕ → CoreProfile
+with_after t a = record { lines = t.lines; handlers = t.handlers; after = a }
+
+le_is : (c s n l m : ℕ) → c ≡ s → s ≡ n → n ≤ l → l ≡ m → c ≤ m
+le_is c s n l m e f g h = omega (arith, e, f, g, h)
+
+-- a core at the cut
+at_cut_is : (core d : ℕ) (image : Image) (r : Run) (code : ℕ → ℕ) (f : FrameState) (xs : List StepRecord) (n count : ℕ) (t : Tally) (c : AtCut) → code ≡ code_of image → xs ≡ records core image r → f ≡ (opened core (entry_of core image r.options) r.options).state
+    → n ≡ cut core image r → count ≡ length (records core image r) → IsCut code f xs n (from d (entry_of core image r.options)) t
+    → ((o : Origin) (past : List Step) → IsTally o past t → c.profile ≡ closed o past (count - t.steps)) → c.cut ≡ t.steps → ((o : Origin) (past : List Step) → IsTally o past t → IsTally (from_here o past) past c.tally) → c.tally.steps ≡ 0
+    → IsAtCut core d image r count c
+at_cut_is core d image r code f xs n count t c code_is xs_is f_is n_is count_is h profile cut_eq goes none =
+    let o = from d (entry_of core image r.options) in
+    let all = records core image r in
+    let p = past_is core image r code f xs n o t code_is xs_is f_is n_is h in
+    let steps_is : t.steps ≡ n = steps_whole o h.past t refl h.tally.counted ∙ h.count_is in
+    let after : count - t.steps ≡ length (drop (cut core image r) all) = ap₂ (λ (a b : ℕ). a - b) count_is (steps_is ∙ n_is) ∙ sym (length-drop (cut core image r) all) in
+    let whole : c.profile ≡ core_profile core d image r = profile o h.past h.tally
+    ∙ (ap₂ (λ (q : List Step) (a : ℕ). closed o q a) p after ∙ ap (λ (y : CoreTurns). with_after y (length (drop (cut core image r) all))) (turns_whole o.start (steps core image r))) in
+    record {
+      profile_is = whole;
+      adds_up = adds_up core d image r count c.profile whole count_is;
+      cut_is = cut_eq ∙ (steps_is ∙ n_is);
+      within = le_is c.cut t.steps n (length xs) (length all) cut_eq steps_is h.within (ap (λ (l : List StepRecord). length l) xs_is);
+      tally = subst (λ (q : List Step). IsTally (from_here o q) q c.tally) p (goes o h.past h.tally);
+      none = none;
+    }
+
+-- the judgement is that of the run
+judged_is : (w : Walk) (segments : List Segment) (image : Image) (r : Run) (xs ys : List StepRecord) → w.code ≡ segments → segments ≡ image.segments → xs ≡ records 0 image r → ys ≡ records 1 image r
+    → judgement (constant_byte w.code) (opened 0 image.entry r.options).bounds (opened 1 r.options.entry1 r.options).bounds (schedule_in r) xs ys (opening_known (opened 0 image.entry r.options).state (opened 1 r.options.entry1 r.options).state)
+    ≡ judgement_in image r (records 0 image r) (records 1 image r)
+judged_is w segments image r xs ys a b e f =
+    let J : List Segment → List StepRecord → List StepRecord → Judgement = λ s us vs. judgement (constant_byte s) (opened 0 image.entry r.options).bounds (opened 1 r.options.entry1 r.options).bounds (schedule_in r) us vs (opening_known (opened 0 image.entry r.options).state (opened 1 r.options.entry1 r.options).state) in
+    ap (λ (s : List Segment). J s xs ys) (a ∙ b) ∙ (ap (λ (us : List StepRecord). J image.segments us ys) e ∙ ap (λ (vs : List StepRecord). J image.segments (records 0 image r) vs) f)
+
+abbrev pub Cut : ℕ → Walk → Image → Run → List StepRecord → List StepRecord → Tally → Tally → Type 0
+Cut d w image r xs ys t0 t1 =
+    AreCut (constant_byte w.code) (opening_known (opened 0 image.entry r.options).state (opened 1 r.options.entry1 r.options).state) (from d image.entry) (from d r.options.entry1) xs ys
+    (judgement (constant_byte w.code) (opened 0 image.entry r.options).bounds (opened 1 r.options.entry1 r.options).bounds (schedule_in r) xs ys (opening_known (opened 0 image.entry r.options).state (opened 1 r.options.entry1 r.options).state))
+    t0 t1
+
+pub zero_is : (d : ℕ) (w : Walk) (segments : List Segment) (image : Image) (r : Run) (xs ys : List StepRecord) (t0 t1 : Tally) (c : AtCut) → w.code ≡ segments → segments ≡ image.segments → xs ≡ records 0 image r → ys ≡ records 1 image r → IsRunOf image r
+    → Cut d w image r xs ys t0 t1 → ((o : Origin) (past : List Step) → IsTally o past t0 → c.profile ≡ closed o past (r.trace0.count - t0.steps)) → c.cut ≡ t0.steps → ((o : Origin) (past : List Step) → IsTally o past t0 → IsTally (from_here o past) past c.tally)
+    → c.tally.steps ≡ 0 → IsAtCut 0 d image r r.trace0.count c
+zero_is d w segments image r xs ys t0 t1 c a b e f run h profile cut_eq goes none =
+    let j = judged_is w segments image r xs ys a b e f in
+    at_cut_is 0 d image r (constant_byte w.code) (opened 0 image.entry r.options).state xs _ r.trace0.count t0 c (ap constant_byte (a ∙ b)) e refl (ap (λ (v : Judgement). v.known.steps0) j ∙ cut0_is image r) run.trace0.count_is h.core0 profile cut_eq goes none
+
+pub one_is : (d : ℕ) (w : Walk) (segments : List Segment) (image : Image) (r : Run) (xs ys : List StepRecord) (t0 t1 : Tally) (c : AtCut) → w.code ≡ segments → segments ≡ image.segments → xs ≡ records 0 image r → ys ≡ records 1 image r → IsRunOf image r
+    → Cut d w image r xs ys t0 t1 → ((o : Origin) (past : List Step) → IsTally o past t1 → c.profile ≡ closed o past (r.trace1.count - t1.steps)) → c.cut ≡ t1.steps → ((o : Origin) (past : List Step) → IsTally o past t1 → IsTally (from_here o past) past c.tally)
+    → c.tally.steps ≡ 0 → IsAtCut 1 d image r r.trace1.count c
+one_is d w segments image r xs ys t0 t1 c a b e f run h profile cut_eq goes none =
+    let j = judged_is w segments image r xs ys a b e f in
+    at_cut_is 1 d image r (constant_byte w.code) (opened 1 r.options.entry1 r.options).state ys _ r.trace1.count t1 c (ap constant_byte (a ∙ b)) f refl (ap (λ (v : Judgement). v.known.steps1) j ∙ cut1_is image r) run.trace1.count_is h.core1 profile cut_eq goes none
+
+-- the steps that were counted are no more than all
+steps_le : (s p n l c : ℕ) → s ≤ p → p ≡ n → n ≤ l → c ≡ l → s ≤ c
+steps_le s p n l c e f g h = omega (arith, e, f, g, h)
+
+pub zero_within : (d : ℕ) (w : Walk) (image : Image) (r : Run) (xs ys : List StepRecord) (t0 t1 : Tally) → xs ≡ records 0 image r → IsRunOf image r → Cut d w image r xs ys t0 t1 → t0.steps ≤ r.trace0.count
+zero_within d w image r xs ys t0 t1 e run h =
+    steps_le t0.steps (length h.core0.past) _ (length xs) r.trace0.count (steps_within (from d image.entry) h.core0.past t0 h.core0.tally.counted) h.core0.count_is h.core0.within (run.trace0.count_is ∙ ap (λ (l : List StepRecord). length l) (sym e))
+
+pub one_within : (d : ℕ) (w : Walk) (image : Image) (r : Run) (xs ys : List StepRecord) (t0 t1 : Tally) → ys ≡ records 1 image r → IsRunOf image r → Cut d w image r xs ys t0 t1 → t1.steps ≤ r.trace1.count
+one_within d w image r xs ys t0 t1 e run h =
+    steps_le t1.steps (length h.core1.past) _ (length ys) r.trace1.count (steps_within (from d r.options.entry1) h.core1.past t1 h.core1.tally.counted) h.core1.count_is h.core1.within (run.trace1.count_is ∙ ap (λ (l : List StepRecord). length l) (sym e))
+
 -- what is known at the cut, from what a walk from the opening ensures
 pub cut_is : (d : ℕ) (w : Walk) (segments : List Segment) (image : Image) (r : Run) (xs ys : List StepRecord) (t0 t1 u0 u1 : Tally) → IsOpened w segments image.entry r.options → IsTally (from d image.entry) [] t0 → IsTally (from d r.options.entry1) [] t1
-    → ((b0 b1 : Bounds) (k : Known) (e0 e1 : Start) → Follows (constant_byte w.code) b0 b1 k (schedule_in r) e0 e1 xs ys w 0 xs ys t0 t1 → AreCut (constant_byte w.code) k e0 e1 xs ys (judgement (constant_byte w.code) b0 b1 (schedule_in r) xs ys k) u0 u1)
+    → ((b0 b1 : Bounds) (k : Known) (e0 e1 : Origin) → Follows (constant_byte w.code) b0 b1 k (schedule_in r) e0 e1 xs ys w 0 xs ys t0 t1 → AreCut (constant_byte w.code) k e0 e1 xs ys (judgement (constant_byte w.code) b0 b1 (schedule_in r) xs ys k) u0 u1)
     → Cut d w image r xs ys u0 u1
 cut_is d w segments image r xs ys t0 t1 u0 u1 o h0 h1 walked =
     let a = opened 0 image.entry r.options in

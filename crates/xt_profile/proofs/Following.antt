@@ -14,10 +14,10 @@ use Rattle.xt_discipline.specs.declared.walk.Walk.{Walk}
 use Rattle.xt_discipline.specs.Modes.{step_mode}
 use Rattle.xt_profile.specs.declared.counting.Made.{Made}
 use Rattle.xt_profile.specs.declared.tally.Tally.{Tally}
-use Rattle.xt_profile.specs.Steps.{Step, frame_after, steps_from}
-use Rattle.xt_profile.specs.Keys.{Start}
-use Rattle.xt_profile.specs.Told.{IsTally, standing}
+use Rattle.xt_profile.specs.Steps.{Step, frame_after, standing, steps_from}
+use Rattle.xt_profile.specs.Told.{IsTally, Origin}
 use Rattle.xt_profile.specs.Follows.{AreCut, Follows, IsCore, IsCut, IsMade, IsPassed, IsStep}
+use Rattle.xt_profile.proofs.Telling.{steps_within}
 
 -- ---- one core
 none_before : (m : ℕ) → 0 + m ≡ m
@@ -77,7 +77,7 @@ no_more n = omega arith
 within : (n a b : ℕ) → n + a ≡ b → n ≤ b
 within n a b e = omega (arith, e)
 
-core_cut : (code : ℕ → ℕ) (f : FrameState) (xs left : List StepRecord) (n : ℕ) (opening : Start) (st : Standing) (past : List Step) (t : Tally) → IsCore code f xs left n st past → IsTally opening past t → IsCut code f xs n opening t
+core_cut : (code : ℕ → ℕ) (f : FrameState) (xs left : List StepRecord) (n : ℕ) (opening : Origin) (st : Standing) (past : List Step) (t : Tally) → IsCore code f xs left n st past → IsTally opening past t → IsCut code f xs n opening t
 core_cut code f xs left n opening st past t h tally = record {
   past = past;
   count_is = h.count_is;
@@ -89,7 +89,7 @@ core_cut code f xs left n opening st past t h tally = record {
 -- ---- both cores
 abbrev Tells : Tally → Made → Tally → Type 0
 Tells old made new =
-    (opening : Start) (past : List Step) → IsTally opening past old → IsTally opening (step_past made past ∷ past) new
+    (opening : Origin) (past : List Step) → IsTally opening past old → IsTally opening (step_past made past ∷ past) new
 
 same_code : (w : Walk) (code : ℕ → ℕ) (b0 b1 : Bounds) (core : ℕ) (k : Known) (xs ys xs2 ys2 : List StepRecord) (new : Walk) (o : Option Made) → constant_byte w.code ≡ code → IsMade (constant_byte w.code) b0 b1 core k xs ys new xs2 ys2 o
     → IsMade code b0 b1 core k xs ys new xs2 ys2 o
@@ -99,7 +99,7 @@ sum_on : (n r k i : ℕ) → n ≡ suc r → r ≡ k + i → n ≡ k + (i + 1)
 sum_on n r k i e f = omega (arith, e, f)
 
 -- core 0 makes a turn
-pub follows_zero : (code : ℕ → ℕ) (w new : Walk) (b0 b1 : Bounds) (k : Known) (cs : List ℕ) (e0 e1 : Start) (i core d : ℕ) (xs ys xs1 ys1 xs2 ys2 : List StepRecord) (t0 t1 u0 : Tally) (made : Made) → core ≡ 0 → i < length cs → core ≡ get_or cs i d
+pub follows_zero : (code : ℕ → ℕ) (w new : Walk) (b0 b1 : Bounds) (k : Known) (cs : List ℕ) (e0 e1 : Origin) (i core d : ℕ) (xs ys xs1 ys1 xs2 ys2 : List StepRecord) (t0 t1 u0 : Tally) (made : Made) → core ≡ 0 → i < length cs → core ≡ get_or cs i d
     → (h : Follows code b0 b1 k cs e0 e1 xs ys w i xs1 ys1 t0 t1) → IsMade (constant_byte w.code) b0 b1 core h.reach.known xs1 ys1 new xs2 ys2 (Some made) → Tells t0 made u0 → Follows code b0 b1 k cs e0 e1 xs ys new (i + 1) xs2 ys2 u0 t1
 follows_zero code w new b0 b1 k cs e0 e1 i core d xs ys xs1 ys1 xs2 ys2 t0 t1 u0 made zero_is lt is h m tells =
     let r = h.reach in
@@ -125,7 +125,7 @@ follows_zero code w new b0 b1 k cs e0 e1 i core d xs ys xs1 ys1 xs2 ys2 t0 t1 u0
     }
 
 -- core 1 makes a turn
-pub follows_one : (code : ℕ → ℕ) (w new : Walk) (b0 b1 : Bounds) (k : Known) (cs : List ℕ) (e0 e1 : Start) (i core d : ℕ) (xs ys xs1 ys1 xs2 ys2 : List StepRecord) (t0 t1 u1 : Tally) (made : Made) → core ≡ 1 → i < length cs → core ≡ get_or cs i d
+pub follows_one : (code : ℕ → ℕ) (w new : Walk) (b0 b1 : Bounds) (k : Known) (cs : List ℕ) (e0 e1 : Origin) (i core d : ℕ) (xs ys xs1 ys1 xs2 ys2 : List StepRecord) (t0 t1 u1 : Tally) (made : Made) → core ≡ 1 → i < length cs → core ≡ get_or cs i d
     → (h : Follows code b0 b1 k cs e0 e1 xs ys w i xs1 ys1 t0 t1) → IsMade (constant_byte w.code) b0 b1 core h.reach.known xs1 ys1 new xs2 ys2 (Some made) → Tells t1 made u1 → Follows code b0 b1 k cs e0 e1 xs ys new (i + 1) xs2 ys2 t0 u1
 follows_one code w new b0 b1 k cs e0 e1 i core d xs ys xs1 ys1 xs2 ys2 t0 t1 u1 made one_is lt is h m tells =
     let r = h.reach in
@@ -151,7 +151,7 @@ follows_one code w new b0 b1 k cs e0 e1 i core d xs ys xs1 ys1 xs2 ys2 t0 t1 u1 
     }
 
 -- ---- at the cut
-are_cut : (code : ℕ → ℕ) (w : Walk) (b0 b1 : Bounds) (k : Known) (cs : List ℕ) (e0 e1 : Start) (i : ℕ) (xs ys xs1 ys1 : List StepRecord) (t0 t1 : Tally) (j : Judgement) (h : Follows code b0 b1 k cs e0 e1 xs ys w i xs1 ys1 t0 t1)
+are_cut : (code : ℕ → ℕ) (w : Walk) (b0 b1 : Bounds) (k : Known) (cs : List ℕ) (e0 e1 : Origin) (i : ℕ) (xs ys xs1 ys1 : List StepRecord) (t0 t1 : Tally) (j : Judgement) (h : Follows code b0 b1 k cs e0 e1 xs ys w i xs1 ys1 t0 t1)
     → j.known ≡ h.reach.known → AreCut code k e0 e1 xs ys j t0 t1
 are_cut code w b0 b1 k cs e0 e1 i xs ys xs1 ys1 t0 t1 j h is =
     let n = h.reach.known in
@@ -161,7 +161,7 @@ are_cut code w b0 b1 k cs e0 e1 i xs ys xs1 ys1 t0 t1 j h is =
     }
 
 -- no turn is left
-pub all_followed : (code : ℕ → ℕ) (w : Walk) (b0 b1 : Bounds) (k : Known) (cs : List ℕ) (e0 e1 : Start) (i : ℕ) (xs ys xs1 ys1 : List StepRecord) (t0 t1 : Tally) → length cs ≤ i
+pub all_followed : (code : ℕ → ℕ) (w : Walk) (b0 b1 : Bounds) (k : Known) (cs : List ℕ) (e0 e1 : Origin) (i : ℕ) (xs ys xs1 ys1 : List StepRecord) (t0 t1 : Tally) → length cs ≤ i
     → Follows code b0 b1 k cs e0 e1 xs ys w i xs1 ys1 t0 t1 → AreCut code k e0 e1 xs ys (judgement code b0 b1 cs xs ys k) t0 t1
 all_followed code w b0 b1 k cs e0 e1 i xs ys xs1 ys1 t0 t1 le h =
     let r = h.reach in
@@ -169,7 +169,7 @@ all_followed code w b0 b1 k cs e0 e1 i xs ys xs1 ys1 t0 t1 le h =
     (ap (λ (j : Judgement). j.known) (r.judged ∙ ap (λ (l : List ℕ). judgement code b0 b1 l xs1 ys1 r.known) (drop_all i cs le)))
 
 -- a breach came, or a core had no record left
-pub cut_followed : (code : ℕ → ℕ) (w new : Walk) (b0 b1 : Bounds) (k : Known) (cs : List ℕ) (e0 e1 : Start) (i core d : ℕ) (xs ys xs1 ys1 xs2 ys2 : List StepRecord) (t0 t1 : Tally) → i < length cs → core ≡ get_or cs i d
+pub cut_followed : (code : ℕ → ℕ) (w new : Walk) (b0 b1 : Bounds) (k : Known) (cs : List ℕ) (e0 e1 : Origin) (i core d : ℕ) (xs ys xs1 ys1 xs2 ys2 : List StepRecord) (t0 t1 : Tally) → i < length cs → core ≡ get_or cs i d
     → (h : Follows code b0 b1 k cs e0 e1 xs ys w i xs1 ys1 t0 t1) → IsMade (constant_byte w.code) b0 b1 core h.reach.known xs1 ys1 new xs2 ys2 None
     → AreCut code k e0 e1 xs ys (judgement code b0 b1 cs xs ys k) t0 t1
 cut_followed code w new b0 b1 k cs e0 e1 i core d xs ys xs1 ys1 xs2 ys2 t0 t1 lt is h m =
@@ -183,7 +183,7 @@ cut_followed code w new b0 b1 k cs e0 e1 i core d xs ys xs1 ys1 xs2 ys2 t0 t1 lt
 room_is : (a b p q s t k l i n : ℕ) → a ≡ p → b ≡ q → p + q ≡ k + l + 0 → s + t ≡ k + l + i → i < n → a + b + n < 2 ^ 32 → s + t + 1 < 2 ^ 32
 room_is a b p q s t k l i n e f g h lt room = omega (arith, e, f, g, h, lt, room)
 
-known_room : (code : ℕ → ℕ) (old w : Walk) (b0 b1 : Bounds) (k : Known) (cs : List ℕ) (e0 e1 : Start) (i : ℕ) (xs ys xs1 ys1 : List StepRecord) (s0 s1 t0 t1 : Tally) → Follows code b0 b1 k cs e0 e1 xs ys old 0 xs ys s0 s1
+known_room : (code : ℕ → ℕ) (old w : Walk) (b0 b1 : Bounds) (k : Known) (cs : List ℕ) (e0 e1 : Origin) (i : ℕ) (xs ys xs1 ys1 : List StepRecord) (s0 s1 t0 t1 : Tally) → Follows code b0 b1 k cs e0 e1 xs ys old 0 xs ys s0 s1
     → (h : Follows code b0 b1 k cs e0 e1 xs ys w i xs1 ys1 t0 t1) → i < length cs → old.side0.steps + old.side1.steps + length cs < 2 ^ 32 → h.reach.known.steps0 + h.reach.known.steps1 + 1 < 2 ^ 32
 known_room code old w b0 b1 k cs e0 e1 i xs ys xs1 ys1 s0 s1 t0 t1 h0 h lt room =
     let n0 = h0.reach.known in
@@ -193,39 +193,39 @@ known_room code old w b0 b1 k cs e0 e1 i xs ys xs1 ys1 s0 s1 t0 t1 h0 h lt room 
 both_are : (a b s t : ℕ) → a ≡ s → b ≡ t → s + t + 1 < 2 ^ 32 → a + b + 1 < 2 ^ 32
 both_are a b s t e f h = omega (arith, e, f, h)
 
-pub walk_room : (code : ℕ → ℕ) (old w : Walk) (b0 b1 : Bounds) (k : Known) (cs : List ℕ) (e0 e1 : Start) (i : ℕ) (xs ys xs1 ys1 : List StepRecord) (s0 s1 t0 t1 : Tally) → Follows code b0 b1 k cs e0 e1 xs ys old 0 xs ys s0 s1
+pub walk_room : (code : ℕ → ℕ) (old w : Walk) (b0 b1 : Bounds) (k : Known) (cs : List ℕ) (e0 e1 : Origin) (i : ℕ) (xs ys xs1 ys1 : List StepRecord) (s0 s1 t0 t1 : Tally) → Follows code b0 b1 k cs e0 e1 xs ys old 0 xs ys s0 s1
     → Follows code b0 b1 k cs e0 e1 xs ys w i xs1 ys1 t0 t1 → i < length cs → old.side0.steps + old.side1.steps + length cs < 2 ^ 32 → w.side0.steps + w.side1.steps + 1 < 2 ^ 32
 walk_room code old w b0 b1 k cs e0 e1 i xs ys xs1 ys1 s0 s1 t0 t1 h0 h lt room =
     both_are w.side0.steps w.side1.steps h.reach.known.steps0 h.reach.known.steps1 h.reach.knows.zero.steps_are h.reach.knows.one.steps_are (known_room code old w b0 b1 k cs e0 e1 i xs ys xs1 ys1 s0 s1 t0 t1 h0 h lt room)
 
-first_is : (u p s t : ℕ) → u ≡ p → p ≡ s → s + t + 1 < 2 ^ 32 → u + 1 < 2 ^ 32
+first_is : (u p s t : ℕ) → u ≤ p → p ≡ s → s + t + 1 < 2 ^ 32 → u + 1 < 2 ^ 32
 first_is u p s t e f h = omega (arith, e, f, h)
 
-second_is : (u p s t : ℕ) → u ≡ p → p ≡ t → s + t + 1 < 2 ^ 32 → u + 1 < 2 ^ 32
+second_is : (u p s t : ℕ) → u ≤ p → p ≡ t → s + t + 1 < 2 ^ 32 → u + 1 < 2 ^ 32
 second_is u p s t e f h = omega (arith, e, f, h)
 
-pub tally0_room : (code : ℕ → ℕ) (old w : Walk) (b0 b1 : Bounds) (k : Known) (cs : List ℕ) (e0 e1 : Start) (i : ℕ) (xs ys xs1 ys1 : List StepRecord) (s0 s1 t0 t1 : Tally) → Follows code b0 b1 k cs e0 e1 xs ys old 0 xs ys s0 s1
+pub tally0_room : (code : ℕ → ℕ) (old w : Walk) (b0 b1 : Bounds) (k : Known) (cs : List ℕ) (e0 e1 : Origin) (i : ℕ) (xs ys xs1 ys1 : List StepRecord) (s0 s1 t0 t1 : Tally) → Follows code b0 b1 k cs e0 e1 xs ys old 0 xs ys s0 s1
     → Follows code b0 b1 k cs e0 e1 xs ys w i xs1 ys1 t0 t1 → i < length cs → old.side0.steps + old.side1.steps + length cs < 2 ^ 32 → t0.steps + 1 < 2 ^ 32
 tally0_room code old w b0 b1 k cs e0 e1 i xs ys xs1 ys1 s0 s1 t0 t1 h0 h lt room =
-    first_is t0.steps (length h.past0) h.reach.known.steps0 h.reach.known.steps1 h.tally0.counted.steps_are h.core0.count_is (known_room code old w b0 b1 k cs e0 e1 i xs ys xs1 ys1 s0 s1 t0 t1 h0 h lt room)
+    first_is t0.steps (length h.past0) h.reach.known.steps0 h.reach.known.steps1 (steps_within e0 h.past0 t0 h.tally0.counted) h.core0.count_is (known_room code old w b0 b1 k cs e0 e1 i xs ys xs1 ys1 s0 s1 t0 t1 h0 h lt room)
 
-pub tally1_room : (code : ℕ → ℕ) (old w : Walk) (b0 b1 : Bounds) (k : Known) (cs : List ℕ) (e0 e1 : Start) (i : ℕ) (xs ys xs1 ys1 : List StepRecord) (s0 s1 t0 t1 : Tally) → Follows code b0 b1 k cs e0 e1 xs ys old 0 xs ys s0 s1
+pub tally1_room : (code : ℕ → ℕ) (old w : Walk) (b0 b1 : Bounds) (k : Known) (cs : List ℕ) (e0 e1 : Origin) (i : ℕ) (xs ys xs1 ys1 : List StepRecord) (s0 s1 t0 t1 : Tally) → Follows code b0 b1 k cs e0 e1 xs ys old 0 xs ys s0 s1
     → Follows code b0 b1 k cs e0 e1 xs ys w i xs1 ys1 t0 t1 → i < length cs → old.side0.steps + old.side1.steps + length cs < 2 ^ 32 → t1.steps + 1 < 2 ^ 32
 tally1_room code old w b0 b1 k cs e0 e1 i xs ys xs1 ys1 s0 s1 t0 t1 h0 h lt room =
-    second_is t1.steps (length h.past1) h.reach.known.steps0 h.reach.known.steps1 h.tally1.counted.steps_are h.core1.count_is (known_room code old w b0 b1 k cs e0 e1 i xs ys xs1 ys1 s0 s1 t0 t1 h0 h lt room)
+    second_is t1.steps (length h.past1) h.reach.known.steps0 h.reach.known.steps1 (steps_within e1 h.past1 t1 h.tally1.counted) h.core1.count_is (known_room code old w b0 b1 k cs e0 e1 i xs ys xs1 ys1 s0 s1 t0 t1 h0 h lt room)
 
 -- ---- as the code finds it
-pub followed_zero : (code : ℕ → ℕ) (w new : Walk) (b0 b1 : Bounds) (k : Known) (cs : List ℕ) (e0 e1 : Start) (i core : ℕ) (xs ys xs1 ys1 xs2 ys2 : List StepRecord) (t0 t1 u0 : Tally) (made : Made) (out : Option Made) → core ≡ 0 → i < length cs → core ≡ get_or cs i core
+pub followed_zero : (code : ℕ → ℕ) (w new : Walk) (b0 b1 : Bounds) (k : Known) (cs : List ℕ) (e0 e1 : Origin) (i core : ℕ) (xs ys xs1 ys1 xs2 ys2 : List StepRecord) (t0 t1 u0 : Tally) (made : Made) (out : Option Made) → core ≡ 0 → i < length cs → core ≡ get_or cs i core
     → (h : Follows code b0 b1 k cs e0 e1 xs ys w i xs1 ys1 t0 t1) → out ≡ Some made → IsMade (constant_byte w.code) b0 b1 core h.reach.known xs1 ys1 new xs2 ys2 out → Tells t0 made u0 → Follows code b0 b1 k cs e0 e1 xs ys new (i + 1) xs2 ys2 u0 t1
 followed_zero code w new b0 b1 k cs e0 e1 i core xs ys xs1 ys1 xs2 ys2 t0 t1 u0 made out zero_is lt is h some m tells =
     follows_zero code w new b0 b1 k cs e0 e1 i core core xs ys xs1 ys1 xs2 ys2 t0 t1 u0 made zero_is lt is h (subst (λ (o : Option Made). IsMade (constant_byte w.code) b0 b1 core h.reach.known xs1 ys1 new xs2 ys2 o) some m) tells
 
-pub followed_one : (code : ℕ → ℕ) (w new : Walk) (b0 b1 : Bounds) (k : Known) (cs : List ℕ) (e0 e1 : Start) (i core : ℕ) (xs ys xs1 ys1 xs2 ys2 : List StepRecord) (t0 t1 u1 : Tally) (made : Made) (out : Option Made) → core ≡ 1 → i < length cs → core ≡ get_or cs i core
+pub followed_one : (code : ℕ → ℕ) (w new : Walk) (b0 b1 : Bounds) (k : Known) (cs : List ℕ) (e0 e1 : Origin) (i core : ℕ) (xs ys xs1 ys1 xs2 ys2 : List StepRecord) (t0 t1 u1 : Tally) (made : Made) (out : Option Made) → core ≡ 1 → i < length cs → core ≡ get_or cs i core
     → (h : Follows code b0 b1 k cs e0 e1 xs ys w i xs1 ys1 t0 t1) → out ≡ Some made → IsMade (constant_byte w.code) b0 b1 core h.reach.known xs1 ys1 new xs2 ys2 out → Tells t1 made u1 → Follows code b0 b1 k cs e0 e1 xs ys new (i + 1) xs2 ys2 t0 u1
 followed_one code w new b0 b1 k cs e0 e1 i core xs ys xs1 ys1 xs2 ys2 t0 t1 u1 made out one_is lt is h some m tells =
     follows_one code w new b0 b1 k cs e0 e1 i core core xs ys xs1 ys1 xs2 ys2 t0 t1 u1 made one_is lt is h (subst (λ (o : Option Made). IsMade (constant_byte w.code) b0 b1 core h.reach.known xs1 ys1 new xs2 ys2 o) some m) tells
 
-pub followed_cut : (code : ℕ → ℕ) (w new : Walk) (b0 b1 : Bounds) (k : Known) (cs : List ℕ) (e0 e1 : Start) (i core : ℕ) (xs ys xs1 ys1 xs2 ys2 : List StepRecord) (t0 t1 : Tally) (out : Option Made) → i < length cs → core ≡ get_or cs i core
+pub followed_cut : (code : ℕ → ℕ) (w new : Walk) (b0 b1 : Bounds) (k : Known) (cs : List ℕ) (e0 e1 : Origin) (i core : ℕ) (xs ys xs1 ys1 xs2 ys2 : List StepRecord) (t0 t1 : Tally) (out : Option Made) → i < length cs → core ≡ get_or cs i core
     → (h : Follows code b0 b1 k cs e0 e1 xs ys w i xs1 ys1 t0 t1) → out ≡ None → IsMade (constant_byte w.code) b0 b1 core h.reach.known xs1 ys1 new xs2 ys2 out
     → AreCut code k e0 e1 xs ys (judgement code b0 b1 cs xs ys k) t0 t1
 followed_cut code w new b0 b1 k cs e0 e1 i core xs ys xs1 ys1 xs2 ys2 t0 t1 out lt is h none m =

@@ -6,4 +6,5 @@ pub mod Following
 pub mod Telling
 pub mod Cutting
 pub mod Closing
+pub mod PastCut
 pub mod Pushed

@@ -1,11 +1,13 @@
 -- Each frame that stands was pushed.
-use Rattle.std.proofs.Common.{◌≡◌, ℕ, ◌<◌, ◌≤◌, inl, inr, ⊎_elim, List, [], ◌∷◌, length, ap, arith}
+use Rattle.std.proofs.Common.{◌≡◌, ℕ, ◌<◌, ◌≤◌, inl, inr, ⊎_elim, List, [], ◌∷◌, length, refl, sym, ap, subst, arith}
 use Rattle.std.proofs.lemmas.Bool.{cases_lt}
 use Rattle.xt_trace.specs.declared.record.StepRecord.{StepRecord}
 use Rattle.xt_frames.specs.Frames.{Frame, FrameState}
 use Rattle.xt_frames.specs.HandlerSteps.{Mode, Plain, mode_after}
 use Rattle.xt_discipline.specs.Modes.{step_mode}
-use Rattle.xt_profile.specs.Steps.{Step, frame_after, step_of, steps_from}
+use Rattle.xt_discipline.specs.declared.step_modes.Mode as step
+use Rattle.xt_profile.specs.Steps.{Step, frame_after, standing, step_of, steps_from}
+use Rattle.xt_profile.specs.After.{change_at, changed, later_from}
 use Rattle.xt_profile.specs.Laws.{ArePushed, IsPushed}
 
 abbrev Stand : ℕ → List Step → Type 0
@@ -31,3 +33,24 @@ none_stand n e d some le = impossible n d e some le
 
 pub all_pushed : (code : ℕ → ℕ) (f : FrameState) (xs : List StepRecord) → f.frames ≡ [] → ArePushed (steps_from code Plain f [] xs)
 all_pushed code f xs none = steps_pushed code Plain f [] xs (none_stand (length f.frames) (ap (λ (fs : List Frame). length fs) none)) tt
+
+-- ---- past the cut
+later_pushed : (code : ℕ → ℕ) (past : List Step) (ms : List step.Mode) (xs : List StepRecord) → Stand (standing past) past → ArePushed past → ArePushed (later_from code past ms xs)
+later_pushed code past [] xs h a = a
+later_pushed code past (m ∷ ms) [] h a = a
+later_pushed code past (m ∷ ms) (x ∷ xs) h a =
+    let s = changed x.pc m (change_at code m x) past in
+    later_pushed code (s ∷ past) ms xs (stand_after s past h) (h, a)
+
+steps_stand : (code : ℕ → ℕ) (m : Mode) (f : FrameState) (past : List Step) (xs : List StepRecord) → standing past ≡ length f.frames → Stand (standing past) past → Stand (standing (steps_from code m f past xs)) (steps_from code m f past xs)
+steps_stand code m f past [] e h = h
+steps_stand code m f past (x ∷ xs) e h =
+    let mode = step_mode m x.kind in
+    let g = frame_after code mode x f in
+    let s = step_of mode x f g in
+    steps_stand code (mode_after code m x) g (s ∷ past) xs refl (stand_after s past (subst (λ (n : ℕ). Stand n past) e h))
+
+pub all_later_pushed : (code : ℕ → ℕ) (f : FrameState) (first xs : List StepRecord) (ms : List step.Mode) → f.frames ≡ [] → ArePushed (later_from code (steps_from code Plain f [] first) ms xs)
+all_later_pushed code f first xs ms none =
+    let level : 0 ≡ length f.frames = sym (ap (λ (fs : List Frame). length fs) none) in
+    later_pushed code (steps_from code Plain f [] first) ms xs (steps_stand code Plain f [] first level (none_stand 0 refl)) (all_pushed code f first none)

@@ -13,9 +13,8 @@ use Rattle.xt_discipline.specs.Modes.{step_mode}
 use Rattle.xt_discipline.specs.Walks.{Knows, Reaches}
 use Rattle.xt_profile.specs.declared.counting.Made.{Made}
 use Rattle.xt_profile.specs.declared.tally.Tally.{Tally}
-use Rattle.xt_profile.specs.Steps.{Step, frame_after, steps_from}
-use Rattle.xt_profile.specs.Keys.{Start}
-use Rattle.xt_profile.specs.Told.{IsTally, standing}
+use Rattle.xt_profile.specs.Steps.{Step, frame_after, standing, steps_from}
+use Rattle.xt_profile.specs.Told.{IsTally, Origin}
 
 -- ---- one turn
 
@@ -82,7 +81,7 @@ pub record IsCore
 
 -- both cores are counted so far
 pub record Follows
-    (code : ℕ → ℕ) (b0 b1 : Bounds) (k : Known) (schedule : List ℕ) (e0 e1 : Start)
+    (code : ℕ → ℕ) (b0 b1 : Bounds) (k : Known) (schedule : List ℕ) (e0 e1 : Origin)
     (xs ys : List StepRecord) (w : Walk) (turns : ℕ) (xs' ys' : List StepRecord) (t0 t1 : Tally)
     : Type 0 where
   pub reach : Reaches code b0 b1 k schedule xs ys w turns xs' ys'
@@ -96,7 +95,7 @@ pub record Follows
 -- ---- at the cut
 -- the first n records of a core are counted
 pub record IsCut
-    (code : ℕ → ℕ) (f : FrameState) (xs : List StepRecord) (n : ℕ) (opening : Start)
+    (code : ℕ → ℕ) (f : FrameState) (xs : List StepRecord) (n : ℕ) (opening : Origin)
     (t : Tally)
     : Type 0 where
   pub past : List Step
@@ -106,7 +105,7 @@ pub record IsCut
   pub tally : IsTally opening past t
 
 pub record AreCut
-    (code : ℕ → ℕ) (k : Known) (e0 e1 : Start) (xs ys : List StepRecord) (j : Judgement)
+    (code : ℕ → ℕ) (k : Known) (e0 e1 : Origin) (xs ys : List StepRecord) (j : Judgement)
     (t0 t1 : Tally) : Type 0 where
   pub core0 : IsCut code k.standing0.frame xs j.known.steps0 e0 t0
   pub core1 : IsCut code k.standing1.frame ys j.known.steps1 e1 t1

@@ -1,6 +1,6 @@
 -- Laws of call profiles; nothing that a reader must believe.
-use Rattle.std.specs.Prelude.{◌≡◌, ℕ, ◌+◌, ◌<◌, ◌≤◌, ◌⊎◌, Option, None, List, [], ◌∷◌}
-use Rattle.std.specs.Prelude.{length}
+use Rattle.std.specs.Prelude.{◌≡◌, ℕ, ◌+◌, ◌-◌, ◌<◌, ◌≤◌, max, ◌⊎◌, Option, None, List, [], ◌∷◌}
+use Rattle.std.specs.Prelude.{◌++◌, length, take}
 use Rattle.xt_image.specs.declared.image.Image.{Image}
 use Rattle.xt_trace.specs.declared.record.StepRecord.{StepRecord}
 use Rattle.xt_trace.specs.declared.run.Run.{Run}
@@ -9,9 +9,13 @@ use Rattle.xt_frames.specs.FirstBreach.{Course, IsFirstBreach}
 use Rattle.xt_frames.specs.Frames.{FrameState}
 use Rattle.xt_frames.specs.HandlerSteps.{Plain}
 use Rattle.xt_core.specs.Runs.{IsRunOf}
-use Rattle.xt_profile.specs.Steps.{Step, steps_from}
+use Rattle.xt_discipline.specs.declared.step_modes.Mode.{Mode}
+use Rattle.xt_profile.specs.declared.changes.Change.{Change}
+use Rattle.xt_profile.specs.declared.changes.Change.TheVariants.{Stays, Calls, Returns}
+use Rattle.xt_profile.specs.Steps.{Step, standing, steps_from}
+use Rattle.xt_profile.specs.After.{calls_after, changed}
 use Rattle.xt_profile.specs.Keys.{functions}
-use Rattle.xt_profile.specs.Profiled.{course_of, cut, end_of, records}
+use Rattle.xt_profile.specs.Profiled.{all_steps, course_of, cut, end_of, records}
 
 -- the function list has one number more than frames stand
 abbrev pub FunctionsAreFrames : Type 0
@@ -51,3 +55,26 @@ abbrev pub WithoutBreachAllIsCounted : Type 0
 WithoutBreachAllIsCounted =
     (image : Image) (r : Run) (p : ℕ) → IsRunOf image r → IsFirstBreach (course_of image r) p None
     → (cut 0 image r ≡ length (records 0 image r)) × (cut 1 image r ≡ length (records 1 image r))
+
+-- each function that stands before a later step was pushed by an earlier step, before the cut or
+-- after it
+abbrev pub LaterFunctionsArePushed : Type 0
+LaterFunctionsArePushed =
+    (core n : ℕ) (image : Image) (r : Run) → ArePushed (all_steps core n image r)
+
+-- what a change makes of the function list: a call puts the step's PC behind it, and a return takes
+-- the last number away, but never the first
+abbrev pub functions_after : Change → ℕ → List ℕ → List ℕ
+functions_after Stays pc xs = xs
+functions_after Calls pc xs = xs ++ pc ∷ []
+functions_after Returns pc xs = take (max 1 (length xs - 1)) xs
+
+-- the function list after a later step is that of its change
+abbrev pub LaterFunctionsFollowChanges : Type 0
+LaterFunctionsFollowChanges =
+    (opening pc : ℕ) (mode : Mode) (change : Change) (past : List Step)
+    → functions
+    opening
+    (calls_after change (standing past))
+    (changed pc mode change past ∷ past)
+    ≡ functions_after change pc (functions opening (standing past) past)

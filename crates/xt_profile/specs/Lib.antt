@@ -1,4 +1,5 @@
 pub mod Steps
+pub mod After
 pub mod Keys
 pub mod Counts
 pub mod Profiled
@@ -7,3 +8,4 @@ pub mod Peeks
 pub mod Told
 pub mod Laws
 pub mod Follows
+pub mod Cuts

@@ -29,6 +29,11 @@ abbrev pub step_of : Mode → StepRecord → FrameState → FrameState → Step
 step_of mode rec f g =
     record { pc = rec.pc; mode = mode; before = length f.frames; after = length g.frames }
 
+-- how many frames stand after these steps
+abbrev pub standing : List Step → ℕ
+standing [] = 0
+standing (s ∷ past) = s.after
+
 -- the steps of these records in front of those in `past`: the latest first
 abbrev pub steps_from :
     (ℕ → ℕ) → before.Mode → FrameState → List Step → List StepRecord → List Step

@@ -5,9 +5,11 @@ use Rattle.std.specs.Fmt.{decimal}
 use Rattle.std.specs.List.{flat_map}
 use Rattle.xt_word.specs.Hexadecimal.{hex8}
 use Rattle.xt_profile.specs.declared.profiles.CoreProfile.{CoreProfile}
+use Rattle.xt_profile.specs.declared.profiles.CoreTurns.{CoreTurns}
 use Rattle.xt_profile.specs.declared.profiles.Profile.{Profile}
 use Rattle.xt_profile.specs.declared.profiles.Profile.TheVariants.{Unchecked, Cores}
 use Rattle.xt_profile.specs.declared.profiles.ProfileLine.{ProfileLine}
+use Rattle.xt_profile.specs.declared.profiles.WholeProfile.{WholeProfile}
 
 -- addresses, joined by `;`
 abbrev pub next_text : ℕ → List ℕ
@@ -44,3 +46,28 @@ core_text depth core p = lines_text depth core p.lines ++ rest_text core p
 unfoldable pub profile_text : ℕ → Profile → List ℕ
 profile_text depth Unchecked = codes "profile none\n"
 profile_text depth (Cores a b) = core_text depth 0 a ++ core_text depth 1 b
+
+-- ---- with the turns from the cut on
+
+-- `~core C KEY N`
+abbrev pub after_line_text : ℕ → ℕ → ProfileLine → List ℕ
+after_line_text depth core l = codes "~" ++ line_text depth core l
+
+-- `~core C handlers H`
+unfoldable pub after_rest_text : ℕ → CoreTurns → List ℕ
+after_rest_text core t =
+    codes "~core " ++ decimal core ++ codes " handlers " ++ decimal t.handlers ++ codes "\n"
+
+abbrev pub after_text : ℕ → ℕ → CoreTurns → List ℕ
+after_text depth core t = flat_map (after_line_text depth core) t.lines ++ after_rest_text core t
+
+abbrev pub whole_by : ℕ → Profile → CoreTurns → CoreTurns → List ℕ
+whole_by depth Unchecked after0 after1 =
+    codes "profile none\n" ++ after_text depth 0 after0 ++ after_text depth 1 after1
+whole_by depth (Cores a b) after0 after1 =
+    core_text depth 0 a ++ after_text depth 0 after0
+    ++ core_text depth 1 b ++ after_text depth 1 after1
+
+-- of a profile with those turns, whose keys were cut at this depth
+unfoldable pub whole_text : ℕ → WholeProfile → List ℕ
+whole_text depth w = whole_by depth w.profile w.after0 w.after1

@@ -1,14 +1,15 @@
 -- Carries a proof; nothing that a reader must believe.
 -- What is counted of a core so far.
-use Rattle.std.specs.Prelude.{◌≡◌, ℕ, ◌-◌, if◌then◌else◌, List, [], ◌∷◌, ◌++◌, length, map, replicate}
+use Rattle.std.specs.Prelude.{◌≡◌, ℕ, if◌then◌else◌, List, [], ◌∷◌, ◌++◌, length, map, replicate}
 use Rattle.std.specs.Ordering.{match_ordering}
 use Rattle.std.specs.Global.{Vec}
 use Rattle.xt_profile.specs.declared.profiles.CoreProfile.{CoreProfile}
 use Rattle.xt_profile.specs.declared.profiles.ProfileLine.{ProfileLine}
 use Rattle.xt_profile.specs.declared.tally.Tally.{Tally}
-use Rattle.xt_profile.specs.Steps.{Step}
+use Rattle.xt_profile.specs.Steps.{Step, standing}
 use Rattle.xt_profile.specs.Keys.{Start, functions, handlers, keys, shown}
 use Rattle.xt_profile.specs.Counts.{compare, is_same, lines}
+use Rattle.xt_profile.specs.Profiled.{turns_past}
 
 -- an entry of the map as a line
 abbrev pub read : Vec ℕ × ℕ → ProfileLine
@@ -29,29 +30,36 @@ puts k v (l ∷ ls) =
     (record { key = l.key; count = v } ∷ ls)
     (l ∷ puts k v ls)
 
--- how many frames stand after these steps
-abbrev pub standing : List Step → ℕ
-standing [] = 0
-standing (s ∷ past) = s.after
+-- where a core opened, and the steps that it made before those that are counted
+pub record Origin : Type 0 where
+  pub start : Start
+  pub first : List Step
 
--- these steps are counted: the last ones with a key, as many as are in a row, stand apart
-pub record AreCounted (opening : Start) (past : List Step) (t : Tally) : Type 0 where
+abbrev pub origin : ℕ → ℕ → List Step → Origin
+origin pc depth first = record { start = record { pc = pc; depth = depth }; first = first }
+
+abbrev pub from_here : Origin → List Step → Origin
+from_here o past = record { start = o.start; first = past }
+
+-- of all steps the later ones are counted: the last ones with a key, as many as are in a row, stand
+-- apart
+pub record AreCounted (o : Origin) (past : List Step) (t : Tally) : Type 0 where
+  pub later : List Step
   pub told : List (List ℕ)
-  pub depth_is : t.depth ≡ opening.depth
-  pub keys_are : keys opening past
-      ≡ replicate t.row (shown opening.depth t.functions.items) ++ told
+  pub past_is : past ≡ later ++ o.first
+  pub depth_is : t.depth ≡ o.start.depth
+  pub keys_are : keys o.start past
+      ≡ replicate t.row (shown o.start.depth t.functions.items) ++ (told ++ keys o.start o.first)
   pub lines_are : map read t.counts.entries ≡ lines told
-  pub handlers_are : t.handlers ≡ handlers past
-  pub steps_are : t.steps ≡ length past
+  pub handlers_are : t.handlers ≡ handlers later
+  pub steps_are : t.steps ≡ length later
 
-pub record IsTally (opening : Start) (past : List Step) (t : Tally) : Type 0 where
-  pub functions_are : t.functions.items ≡ functions opening.pc (standing past) past
-  pub counted : AreCounted opening past t
+pub record IsTally (o : Origin) (past : List Step) (t : Tally) : Type 0 where
+  pub functions_are : t.functions.items ≡ functions o.start.pc (standing past) past
+  pub counted : AreCounted o past t
 
--- what these steps come to, of so many steps in all
-abbrev pub closed : Start → List Step → ℕ → CoreProfile
-closed opening past count = record {
-  lines = lines (keys opening past);
-  handlers = handlers past;
-  after = count - length past;
-}
+-- the profile of a core, where these steps are counted, and so many turns come after them
+abbrev pub closed : Origin → List Step → ℕ → CoreProfile
+closed o past after =
+    let t = turns_past o.start o.first past in
+    record { lines = t.lines; handlers = t.handlers; after = after }

@@ -1,7 +1,7 @@
 //! The walk over a run that counts its call stacks.
 #![tactic(auto)]
 
-ghost use Rattle.std.specs.Prelude.{◌≡◌, ◌+◌, ◌<◌, ◌^◌, IfOk, OnOk, List, length};
+ghost use Rattle.std.specs.Prelude.{◌≡◌, ◌+◌, ◌-◌, ◌<◌, ◌≤◌, ◌^◌, IfOk, OnOk, List, length};
 ghost use Rattle.xt_map.specs.Memory.{constant_byte};
 ghost use Rattle.xt_map.specs.Placing.{IsPlaced};
 ghost use Rattle.xt_trace.specs.declared.record.StepRecord.{StepRecord};
@@ -13,10 +13,12 @@ ghost use Rattle.xt_discipline.specs.Verdicts.{are_yes};
 ghost use Rattle.xt_discipline.specs.Walks.{Knows};
 ghost use Rattle.xt_handlers.specs.Answers.{handlers_of};
 ghost use Rattle.xt_core.specs.Runs.{IsRunOf, code_of};
+ghost use Rattle.xt_profile.specs.Cuts.{IsAtCut};
 ghost use Rattle.xt_profile.specs.Follows.{AreCut, Follows, IsMade, depth_in};
-ghost use Rattle.xt_profile.specs.Keys.{Start};
 ghost use Rattle.xt_profile.specs.Peeks.{peeked};
 ghost use Rattle.xt_profile.specs.Profiled.{AddsUp, CoreAddsUp, core_profile, profile_of};
+ghost use Rattle.xt_profile.specs.Steps.{Step};
+ghost use Rattle.xt_profile.specs.Told.{IsTally, Origin, closed, from_here};
 
 use crate::peeked::Peeked;
 use crate::profiles::{CoreProfile, Profile};
@@ -104,9 +106,9 @@ fn follow<'a>(
     tally1: &mut Tally,
 ) -> Result<(), AllocError>
     requires schedule { HasSchedule run.now }
-    requires known { (b0 : Bounds) × (b1 : Bounds) × (k : Known) × (e0 : Start) × (e1 : Start) × Follows (constant_byte walk.old.code) b0 b1 k (schedule_in run.now) e0 e1 records0.old records1.old walk.old 0 records0.old records1.old tally0.old tally1.old }
+    requires known { (b0 : Bounds) × (b1 : Bounds) × (k : Known) × (e0 : Origin) × (e1 : Origin) × Follows (constant_byte walk.old.code) b0 b1 k (schedule_in run.now) e0 e1 records0.old records1.old walk.old 0 records0.old records1.old tally0.old tally1.old }
     requires room { walk.old.side0.steps + walk.old.side1.steps + length (schedule_in run.now) < 2 ^ 32 }
-    ensures { OnOk result ((b0 b1 : Bounds) (k : Known) (e0 e1 : Start)
+    ensures { OnOk result ((b0 b1 : Bounds) (k : Known) (e0 e1 : Origin)
         → Follows (constant_byte walk.old.code) b0 b1 k (schedule_in run.now) e0 e1 records0.old records1.old walk.old 0 records0.old records1.old tally0.old tally1.old
         → AreCut (constant_byte walk.old.code) k e0 e1 records0.old records1.old (judgement (constant_byte walk.old.code) b0 b1 (schedule_in run.now) records0.old records1.old k) tally0.new tally1.new) }
 {
@@ -123,19 +125,51 @@ fn follow<'a>(
     Ok(())
 }
 
-/// The profiles of both cores of a run whose window handlers pass the check.
-fn cores(
+/// A core at the cut.
+#[derive(Drop)]
+pub struct AtCut {
+    /// Its profile.
+    pub profile: CoreProfile,
+    /// How many of its turns stand before the cut.
+    pub cut: u32,
+    /// A tally of the turns from there on.
+    pub tally: Tally,
+}
+
+/// A core at the cut, from what was counted before it. The core has so many turns in all.
+fn at_cut(alloc: Global, tally: Tally, count: u32) -> Result<AtCut, AllocError>
+    requires known { (opening : Origin) × (past : List Step) × IsTally opening past tally }
+    requires within { tally.steps ≤ count }
+    ensures profile { IfOk result (λ c. (opening : Origin) (past : List Step) → IsTally opening past tally → c.profile ≡ closed opening past (count - tally.steps)) }
+    ensures cut { IfOk result (λ c. c.cut ≡ tally.steps) }
+    ensures tally { IfOk result (λ c. (opening : Origin) (past : List Step) → IsTally opening past tally → IsTally (from_here opening past) past c.tally) }
+    ensures none { IfOk result (λ c. c.tally.steps ≡ 0) }
+{
+    let cut = tally.steps();
+    let (turns, later) = tally.split(alloc)?;
+    let profile = CoreProfile {
+        lines: turns.lines,
+        handlers: turns.handlers,
+        after: count - cut,
+    };
+    Ok(AtCut {
+        profile,
+        cut,
+        tally: later,
+    })
+}
+
+/// Both cores at the cut of a run whose window handlers pass the check.
+pub fn cores(
     alloc: Global,
     depth: u32,
     image: &Image,
     run: &Run,
-) -> Result<(CoreProfile, CoreProfile), AllocError>
+) -> Result<(AtCut, AtCut), AllocError>
     requires placed { IsPlaced image.now.segments }
     requires run { IsRunOf image.now run.now }
-    ensures zero { IfOk result (λ p. p.0 ≡ core_profile 0 depth image.now run.now) }
-    ensures one { IfOk result (λ p. p.1 ≡ core_profile 1 depth image.now run.now) }
-    ensures sum0 { IfOk result (λ p. CoreAddsUp p.0 run.now.trace0.count) }
-    ensures sum1 { IfOk result (λ p. CoreAddsUp p.1 run.now.trace1.count) }
+    ensures zero { IfOk result (λ p. IsAtCut 0 depth image.now run.now run.now.trace0.count p.0) }
+    ensures one { IfOk result (λ p. IsAtCut 1 depth image.now run.now run.now.trace1.count p.1) }
 {
     let code = Constants::make(alloc, image.segments.as_slice())?;
     let mut walk = Walk::open(alloc, code, image.entry, &run.options)?;
@@ -154,8 +188,8 @@ fn cores(
         &mut tally0,
         &mut tally1,
     )?;
-    let zero = tally0.close(alloc, run.trace0.count)?;
-    let one = tally1.close(alloc, run.trace1.count)?;
+    let zero = at_cut(alloc, tally0, run.trace0.count)?;
+    let one = at_cut(alloc, tally1, run.trace1.count)?;
     Ok((zero, one))
 }
 
@@ -179,5 +213,5 @@ pub fn profile(alloc: Global, depth: u32, image: &Image, run: &Run) -> Result<Pr
         return Ok(Profile::Unchecked);
     }
     let (zero, one) = cores(alloc, depth, image, run)?;
-    Ok(Profile::Cores(zero, one))
+    Ok(Profile::Cores(zero.profile, one.profile))
 }

@@ -1,7 +1,7 @@
 //! Laws of call profiles, whose functions do nothing.
 #![tactic(auto)]
 
-ghost use Rattle.xt_profile.specs.Laws.{FramesArePushed, FunctionsAreFrames, ProfileEndsAtFirstBreach, WithoutBreachAllIsCounted};
+ghost use Rattle.xt_profile.specs.Laws.{FramesArePushed, FunctionsAreFrames, LaterFunctionsArePushed, LaterFunctionsFollowChanges, ProfileEndsAtFirstBreach, WithoutBreachAllIsCounted};
 
 /// The function list has one number more than frames stand.
 pub fn functions_are_frames()
@@ -22,4 +22,14 @@ pub fn profile_ends_at_first_breach()
 /// All turns of a run without a breach are counted.
 pub fn without_breach_all_is_counted()
     ensures { WithoutBreachAllIsCounted }
+{}
+
+/// Each function that stands before a turn after the cut was pushed by an earlier step.
+pub fn later_functions_are_pushed()
+    ensures { LaterFunctionsArePushed }
+{}
+
+/// After the cut ENTRY puts its PC behind the functions, and RETW takes the last one away.
+pub fn later_functions_follow_changes()
+    ensures { LaterFunctionsFollowChanges }
 {}

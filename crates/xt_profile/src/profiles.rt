@@ -99,6 +99,15 @@ pub struct CoreProfile {
     pub after: u32,
 }
 
+/// Some turns of one core.
+#[derive(Drop)]
+pub struct CoreTurns {
+    /// Those that are no handler steps, by their keys.
+    pub lines: Lines,
+    /// How many handler steps there are.
+    pub handlers: u32,
+}
+
 /// The call profile of a run.
 #[derive(Drop)]
 pub enum Profile {
@@ -106,4 +115,16 @@ pub enum Profile {
     Unchecked,
     /// Core 0 and core 1.
     Cores(CoreProfile, CoreProfile),
+}
+
+/// A call profile, with the turns of both cores from the first breach on. If nothing is known of
+/// frames, these are all turns.
+#[derive(Drop)]
+pub struct WholeProfile {
+    /// The profile.
+    pub profile: Profile,
+    /// Those turns of core 0.
+    pub after0: CoreTurns,
+    /// Those turns of core 1.
+    pub after1: CoreTurns,
 }

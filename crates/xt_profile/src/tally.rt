@@ -2,12 +2,15 @@
 #![tactic(auto)]
 
 ghost use Rattle.std.specs.Prelude.{◌≡◌, ◌+◌, ◌-◌, ◌<◌, ◌≤◌, ◌^◌, IfOk, OnOk, List, [], ◌∷◌, length, map, unwrap_or};
+ghost use Rattle.xt_profile.specs.After.{changed};
 ghost use Rattle.xt_profile.specs.Counts.{compare, lines};
-ghost use Rattle.xt_profile.specs.Keys.{Start, handlers, keys, shown};
-ghost use Rattle.xt_profile.specs.Steps.{Step};
-ghost use Rattle.xt_profile.specs.Told.{AreCounted, IsTally, closed, count_in, puts, read, standing};
+ghost use Rattle.xt_profile.specs.Keys.{handlers, keys, shown};
+ghost use Rattle.xt_profile.specs.Profiled.{turns_past};
+ghost use Rattle.xt_profile.specs.Steps.{Step, standing};
+ghost use Rattle.xt_profile.specs.Told.{AreCounted, IsTally, Origin, count_in, from_here, origin, puts, read};
 
-use crate::profiles::{CoreProfile, Key, Lines, ProfileLine};
+use crate::changes::Change;
+use crate::profiles::{CoreTurns, Key, Lines, ProfileLine};
 use std::alloc::{AllocError, Global};
 use std::collections::BTreeMap;
 use xt_discipline::step_modes::Mode;
@@ -80,7 +83,7 @@ fn lines_of(alloc: Global, counts: BTreeMap<Vec<u32>, u32>) -> Result<Lines, All
 impl Tally {
     /// No steps yet of a core that opens at `pc`, whose keys have so many functions at most.
     pub fn open(alloc: Global, pc: u32, depth: u32) -> Result<Tally, AllocError>
-        ensures { IfOk result (λ t. IsTally (record { pc = pc; depth = depth }) [] t) }
+        ensures { IfOk result (λ t. IsTally (origin pc depth []) [] t) }
     {
         let mut functions = Vec::new(alloc);
         functions.push(pc)?;
@@ -97,11 +100,11 @@ impl Tally {
     /// Puts the steps in a row to those of their key.
     fn flush(&mut self, alloc: Global) -> Result<(), AllocError>
         requires room { self.old.steps < 2 ^ 32 }
-        requires known { (opening : Start) × (past : List Step) × AreCounted opening past self.old }
+        requires known { (opening : Origin) × (past : List Step) × AreCounted opening past self.old }
         ensures functions { self.new.functions ≡ self.old.functions }
         ensures row { OnOk result (self.new.row ≡ 0) }
         ensures steps { self.new.steps ≡ self.old.steps }
-        ensures counted { OnOk result ((opening : Start) (past : List Step) → AreCounted opening past self.old → AreCounted opening past self.new) }
+        ensures counted { OnOk result ((opening : Origin) (past : List Step) → AreCounted opening past self.old → AreCounted opening past self.new) }
     {
         if self.row > 0 {
             let row = self.row;
@@ -115,10 +118,10 @@ impl Tally {
     /// Counts a step, which may change the functions then.
     fn count(&mut self, mode: Mode)
         requires room { self.old.steps + 1 < 2 ^ 32 }
-        requires known { (opening : Start) × (past : List Step) × AreCounted opening past self.old }
+        requires known { (opening : Origin) × (past : List Step) × AreCounted opening past self.old }
         ensures functions { self.new.functions ≡ self.old.functions }
         ensures steps { self.new.steps ≡ self.old.steps + 1 }
-        ensures counted { (opening : Start) (past : List Step) (s : Step) → IsTally opening past self.old → s.mode ≡ mode → s.before ≡ standing past → AreCounted opening (s ∷ past) self.new }
+        ensures counted { (opening : Origin) (past : List Step) (s : Step) → IsTally opening past self.old → s.mode ≡ mode → s.before ≡ standing past → AreCounted opening (s ∷ past) self.new }
     {
         self.steps += 1;
         match mode {
@@ -131,8 +134,8 @@ impl Tally {
     /// A step at this PC, after which so many frames stand. The only error is running out of memory.
     pub fn step(&mut self, alloc: Global, pc: u32, mode: Mode, after: u32) -> Result<(), AllocError>
         requires room { self.old.steps + 1 < 2 ^ 32 }
-        requires known { (opening : Start) × (past : List Step) × IsTally opening past self.old }
-        ensures { OnOk result ((opening : Start) (past : List Step) → IsTally opening past self.old
+        requires known { (opening : Origin) × (past : List Step) × IsTally opening past self.old }
+        ensures { OnOk result ((opening : Origin) (past : List Step) → IsTally opening past self.old
             → IsTally opening (record { pc = pc; mode = mode; before = standing past; after = after } ∷ past) self.new) }
     {
         self.count(mode);
@@ -146,28 +149,74 @@ impl Tally {
         Ok(())
     }
 
-    /// What was counted of a core that has so many steps in all. The only error is running out of
+    /// A step at this PC after the cut, which does this to the functions. The only error is running
+    /// out of memory.
+    pub fn change(
+        &mut self,
+        alloc: Global,
+        pc: u32,
+        mode: Mode,
+        change: Change,
+    ) -> Result<(), AllocError>
+        requires room { self.old.steps + 1 < 2 ^ 32 }
+        requires known { (opening : Origin) × (past : List Step) × IsTally opening past self.old }
+        ensures steps { OnOk result (self.new.steps ≡ self.old.steps + 1) }
+        ensures tally { OnOk result ((opening : Origin) (past : List Step) → IsTally opening past self.old
+            → IsTally opening (changed pc mode change past ∷ past) self.new) }
+    {
+        self.count(mode);
+        match change {
+            Change::Stays => Ok(()),
+            Change::Calls => {
+                self.flush(alloc)?;
+                self.functions.push(pc)?;
+                Ok(())
+            }
+            Change::Returns => {
+                self.flush(alloc)?;
+                let len = self.functions.as_slice().len();
+                if 1 < len {
+                    self.functions.truncate(len - 1);
+                }
+                Ok(())
+            }
+        }
+    }
+
+    /// How many steps were counted.
+    pub fn steps(&self) -> u32
+        ensures { result ≡ self.now.steps }
+    {
+        self.steps
+    }
+
+    /// What was counted, and a tally of the steps from there on. The only error is running out of
     /// memory.
-    pub fn close(self, alloc: Global, count: u32) -> Result<CoreProfile, AllocError>
-        requires known { (opening : Start) × (past : List Step) × IsTally opening past self }
-        requires within { self.steps ≤ count }
-        ensures { IfOk result (λ p. (opening : Start) (past : List Step) → IsTally opening past self → p ≡ closed opening past count) }
+    pub fn split(self, alloc: Global) -> Result<(CoreTurns, Tally), AllocError>
+        requires known { (opening : Origin) × (past : List Step) × IsTally opening past self }
+        ensures turns { IfOk result (λ p. (opening : Origin) (past : List Step) → IsTally opening past self → p.0 ≡ turns_past opening.start opening.first past) }
+        ensures tally { IfOk result (λ p. (opening : Origin) (past : List Step) → IsTally opening past self → IsTally (from_here opening past) past p.1) }
+        ensures steps { IfOk result (λ p. p.1.steps ≡ 0) }
     {
         let mut tally = self;
         tally.flush(alloc)?;
         let Tally {
-            functions: _,
-            depth: _,
+            functions,
+            depth,
             counts,
             row: _,
             handlers,
-            steps,
+            steps: _,
         } = tally;
         let lines = lines_of(alloc, counts)?;
-        Ok(CoreProfile {
-            lines,
-            handlers,
-            after: count - steps,
-        })
+        let later = Tally {
+            functions,
+            depth,
+            counts: BTreeMap::new(alloc),
+            row: 0,
+            handlers: 0,
+            steps: 0,
+        };
+        Ok((CoreTurns { lines, handlers }, later))
     }
 }

@@ -1,9 +1,9 @@
 //! The text of a call profile.
 ghost use Rattle.std.specs.Prelude.{◌≡◌, ◌++◌, IfOk, OnOk, string_bytes};
 ghost use Rattle.std.specs.List.{flat_map};
-ghost use Rattle.xt_profile.specs.Texts.{core_text, key_text, line_text, lines_text, more_text, next_text, profile_text, rest_text};
+ghost use Rattle.xt_profile.specs.Texts.{after_line_text, after_rest_text, after_text, core_text, key_text, line_text, lines_text, more_text, next_text, profile_text, rest_text, whole_text};
 
-use crate::profiles::{CoreProfile, Profile, ProfileLine};
+use crate::profiles::{CoreProfile, CoreTurns, Profile, ProfileLine, WholeProfile};
 use std::alloc::{AllocError, Global};
 use std::fmt::Write;
 use xt_map::Text;
@@ -116,6 +116,63 @@ pub fn profile_text(alloc: Global, depth: u32, profile: &Profile) -> Result<Text
         Profile::Cores(zero, one) => {
             push_core(&mut out, depth, 0, zero)?;
             push_core(&mut out, depth, 1, one)?;
+        }
+    }
+    Ok(Text::new(out.into_bytes()))
+}
+
+// Appends the line of each key of turns from the cut on.
+fn push_after_lines(
+    out: &mut String,
+    depth: u32,
+    core: u8,
+    lines: &[ProfileLine],
+) -> Result<(), AllocError>
+    ensures { OnOk result (string_bytes out.new ≡ string_bytes out.old ++ flat_map (after_line_text depth core) lines.now) }
+{
+    for line in lines {
+        out.push_str("~")?;
+        push_line(out, depth, core, line)?;
+    }
+    Ok(())
+}
+
+// Appends how many handler steps there are from the cut on.
+#[tactic(auto, unfolding(crate::specs::Texts::after_rest_text))]
+fn push_after_rest(out: &mut String, core: u8, turns: &CoreTurns) -> Result<(), AllocError>
+    ensures { OnOk result (string_bytes out.new ≡ string_bytes out.old ++ after_rest_text core turns.now) }
+{
+    let handlers = turns.handlers;
+    writeln!(out, "~core {core} handlers {handlers}")
+}
+
+// Appends the lines of the turns of a core from the cut on.
+fn push_after(out: &mut String, depth: u32, core: u8, turns: &CoreTurns) -> Result<(), AllocError>
+    ensures { OnOk result (string_bytes out.new ≡ string_bytes out.old ++ after_text depth core turns.now) }
+{
+    push_after_lines(out, depth, core, turns.lines.as_slice())?;
+    push_after_rest(out, core, turns)
+}
+
+/// The text of a profile with the turns from the cut on: behind the lines of each core, as
+/// `profile_text` has them, a line `~core C KEY N` for each key of these turns, and a line
+/// `~core C handlers H`. The only error is running out of memory.
+#[tactic(auto, unfolding(crate::specs::Texts::whole_text))]
+pub fn whole_text(alloc: Global, depth: u32, whole: &WholeProfile) -> Result<Text, AllocError>
+    ensures { IfOk result (λ text. text ≡ whole_text depth whole.now) }
+{
+    let mut out = String::new(alloc);
+    match &whole.profile {
+        Profile::Unchecked => {
+            out.push_str("profile none\n")?;
+            push_after(&mut out, depth, 0, &whole.after0)?;
+            push_after(&mut out, depth, 1, &whole.after1)?;
+        }
+        Profile::Cores(zero, one) => {
+            push_core(&mut out, depth, 0, zero)?;
+            push_after(&mut out, depth, 0, &whole.after0)?;
+            push_core(&mut out, depth, 1, one)?;
+            push_after(&mut out, depth, 1, &whole.after1)?;
         }
     }
     Ok(Text::new(out.into_bytes()))

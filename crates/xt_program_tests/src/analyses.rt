@@ -113,7 +113,7 @@ pub fn agrees<R: Threads + Wait + Sync + AllocGlobal>(
         return Some(false);
     }
     let analysis = words_of(case, "analysis");
-    if analysis.starts_with("trace") || analysis == "counts" || analysis.contains("--depth") {
+    if analysis.starts_with("trace") || analysis == "counts" || analysis.starts_with("profile --") {
         Some(true)
     } else if analysis == "uses --lenient" {
         has_frames(alloc, case, &image, &list)

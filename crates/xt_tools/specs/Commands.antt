@@ -1,6 +1,7 @@
 -- What each command over a text, an ELF executable, an image or a recording makes of its input, and
 -- what it refuses ('profile').
-use Rattle.std.specs.Prelude.{◌≡◌, ℕ, Bool, true, false, List, Option, None, unwrap_or}
+use Rattle.std.specs.Prelude.{◌≡◌, ℕ, Bool, true, false, if◌then◌else◌, List, Option, None}
+use Rattle.std.specs.Prelude.{unwrap_or}
 use Rattle.std.specs.Option.{option_map}
 use Rattle.xt_image.specs.declared.image.Image.{Image}
 use Rattle.xt_image.specs.Parts.{image_bytes}
@@ -20,8 +21,8 @@ use Rattle.xt_events.specs.Lines.{filtered_text}
 use Rattle.xt_events.specs.declared.filter.Filter.{Filter}
 use Rattle.xt_race.specs.Races.{events_of}
 use Rattle.xt_race.specs.Texts.{IsRaceText}
-use Rattle.xt_profile.specs.Profiled.{profile_of}
-use Rattle.xt_profile.specs.Texts.{profile_text}
+use Rattle.xt_profile.specs.Profiled.{profile_of, whole_of}
+use Rattle.xt_profile.specs.Texts.{profile_text, whole_text}
 use Rattle.xt_command_line.specs.declared.command.Listing.{Listing}
 use Rattle.xt_command_line.specs.declared.command.ProfileOptions.{ProfileOptions}
 use Rattle.xt_command_line.specs.declared.command.Way.{Way}
@@ -101,6 +102,13 @@ IsCountsTold input bytes = IsCountsText (image_in input) (run_in input) bytes
 abbrev pub IsRaceTold : List ℕ → List ℕ → Type 0
 IsRaceTold input bytes = IsRaceText (events_of (image_in input) (run_in input)) bytes
 
--- the call profile of that run, with these options
+-- the call profile of a run, with keys that are cut at this depth, and with the turns from the cut
+-- on where they are asked for
+abbrev pub profile_by : ProfileOptions → Image → Run → List ℕ
+profile_by o image r =
+    if o.after then whole_text o.depth (whole_of o.depth image r)
+    else profile_text o.depth (profile_of o.depth image r)
+
+-- that of the run that a recording holds
 unfoldable pub profiled : ProfileOptions → List ℕ → List ℕ
-profiled o input = profile_text o.depth (profile_of o.depth (image_in input) (run_in input))
+profiled o input = profile_by o (image_in input) (run_in input)

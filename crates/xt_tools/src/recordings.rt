@@ -15,7 +15,7 @@ use xt_events::{Filter, TurnLines, events_text};
 use xt_image::well_formed_is_placed;
 use xt_io::Sink;
 use xt_map::Text;
-use xt_profile::profile_text;
+use xt_profile::{profile_text, whole_profile, whole_text};
 use xt_race::race_text;
 use xt_record::write_recording;
 use xt_status::{Status, recording_in, status_after};
@@ -75,6 +75,12 @@ pub fn profile(alloc: Global, options: ProfileOptions, input: &[u8]) -> Result<T
 {
     let (image, run) = recording_in(alloc, input)?;
     well_formed_is_placed();
+    if options.after {
+        let Ok(whole) = whole_profile(alloc, options.depth, &image, &run) else {
+            return Err(Status::Memory);
+        };
+        return whole_text(alloc, options.depth, &whole).map_err(|_| Status::Memory);
+    }
     let Ok(found) = xt_profile::profile(alloc, options.depth, &image, &run) else {
         return Err(Status::Memory);
     };

@@ -4,7 +4,7 @@ use Rattle.xt_frames.specs.Walked.{opened}
 use Rattle.xt_discipline.specs.Schedules.{schedule_in}
 use Rattle.xt_discipline.proofs.Lengths.{schedule_short}
 use Rattle.xt_core.proofs.Scheduled.{has_schedule}
-use Rattle.xt_profile.proofs.Closing.{adds_up, cut_is, follows_none, from, one_is, one_within, zero_is, zero_within}
+use Rattle.xt_profile.proofs.Closing.{cut_is, follows_none, from, one_is, one_within, zero_is, zero_within}
 use Rattle.xt_profile.proofs.counting.cores.Goals as goal
 
 pub follow-requires-clause-schedule : goal.follow-requires-clause-schedule
@@ -26,38 +26,32 @@ follow-requires-clause-room c =
     let short : length (schedule_in c.args.run.now) ≤ 8000000 = schedule_short c.args.run.now (has_schedule c.args.image.now c.args.run.now c.requires.run) in
     omega (arith, s0, s1, short)
 
-pub close-requires-clause-known : goal.close-requires-clause-known
-close-requires-clause-known c =
+pub at_cut-requires-clause-known : goal.at_cut-requires-clause-known
+at_cut-requires-clause-known c =
     let cut = cut_is c.args.depth c.in_ok-walk.walk c.in_ok-code.code c.args.image.now c.args.run.now c.new-records0.result c.new-records1.result c.in_ok-tally0.tally0 c.in_ok-tally1.tally1 c.follow.new.tally0 c.follow.new.tally1 c.in_ok-walk.ensures c.in_ok-tally0.ensures c.in_ok-tally1.ensures c.in_ok-follow.ensures in
     (from c.args.depth c.args.image.now.entry, cut.core0.past, cut.core0.tally)
 
-pub close-requires-clause-within : goal.close-requires-clause-within
-close-requires-clause-within c =
+pub at_cut-requires-clause-within : goal.at_cut-requires-clause-within
+at_cut-requires-clause-within c =
     let cut = cut_is c.args.depth c.in_ok-walk.walk c.in_ok-code.code c.args.image.now c.args.run.now c.new-records0.result c.new-records1.result c.in_ok-tally0.tally0 c.in_ok-tally1.tally1 c.follow.new.tally0 c.follow.new.tally1 c.in_ok-walk.ensures c.in_ok-tally0.ensures c.in_ok-tally1.ensures c.in_ok-follow.ensures in
     zero_within c.args.depth c.in_ok-walk.walk c.args.image.now c.args.run.now c.new-records0.result c.new-records1.result c.follow.new.tally0 c.follow.new.tally1 (c.new-records0.ensures ∙ c.in_ok-cursor0.ensures) c.requires.run cut
 
-pub close-requires-2-clause-known : goal.close-requires-2-clause-known
-close-requires-2-clause-known c =
+pub at_cut-requires-2-clause-known : goal.at_cut-requires-2-clause-known
+at_cut-requires-2-clause-known c =
     let cut = cut_is c.args.depth c.in_ok-walk.walk c.in_ok-code.code c.args.image.now c.args.run.now c.new-records0.result c.new-records1.result c.in_ok-tally0.tally0 c.in_ok-tally1.tally1 c.follow.new.tally0 c.follow.new.tally1 c.in_ok-walk.ensures c.in_ok-tally0.ensures c.in_ok-tally1.ensures c.in_ok-follow.ensures in
     (from c.args.depth c.args.run.now.options.entry1, cut.core1.past, cut.core1.tally)
 
-pub close-requires-2-clause-within : goal.close-requires-2-clause-within
-close-requires-2-clause-within c =
+pub at_cut-requires-2-clause-within : goal.at_cut-requires-2-clause-within
+at_cut-requires-2-clause-within c =
     let cut = cut_is c.args.depth c.in_ok-walk.walk c.in_ok-code.code c.args.image.now c.args.run.now c.new-records0.result c.new-records1.result c.in_ok-tally0.tally0 c.in_ok-tally1.tally1 c.follow.new.tally0 c.follow.new.tally1 c.in_ok-walk.ensures c.in_ok-tally0.ensures c.in_ok-tally1.ensures c.in_ok-follow.ensures in
     one_within c.args.depth c.in_ok-walk.walk c.args.image.now c.args.run.now c.new-records0.result c.new-records1.result c.follow.new.tally0 c.follow.new.tally1 (c.new-records1.ensures ∙ c.in_ok-cursor1.ensures) c.requires.run cut
 
 pub returns-clause-zero : goal.returns-clause-zero
 returns-clause-zero c =
     let cut = cut_is c.args.depth c.in_ok-walk.walk c.in_ok-code.code c.args.image.now c.args.run.now c.new-records0.result c.new-records1.result c.in_ok-tally0.tally0 c.in_ok-tally1.tally1 c.follow.new.tally0 c.follow.new.tally1 c.in_ok-walk.ensures c.in_ok-tally0.ensures c.in_ok-tally1.ensures c.in_ok-follow.ensures in
-    zero_is c.args.depth c.in_ok-walk.walk c.in_ok-code.code c.args.image.now c.args.run.now c.new-records0.result c.new-records1.result c.follow.new.tally0 c.follow.new.tally1 c.in_ok-zero.zero c.in_ok-walk.ensures.code_is (c.in_ok-code.ensures ∙ c.as_slice.ensures) (c.new-records0.ensures ∙ c.in_ok-cursor0.ensures) (c.new-records1.ensures ∙ c.in_ok-cursor1.ensures) c.requires.run cut c.in_ok-zero.ensures
+    zero_is c.args.depth c.in_ok-walk.walk c.in_ok-code.code c.args.image.now c.args.run.now c.new-records0.result c.new-records1.result c.follow.new.tally0 c.follow.new.tally1 c.in_ok-zero.zero c.in_ok-walk.ensures.code_is (c.in_ok-code.ensures ∙ c.as_slice.ensures) (c.new-records0.ensures ∙ c.in_ok-cursor0.ensures) (c.new-records1.ensures ∙ c.in_ok-cursor1.ensures) c.requires.run cut c.in_ok-zero.ensures.profile c.in_ok-zero.ensures.cut c.in_ok-zero.ensures.tally c.in_ok-zero.ensures.none
 
 pub returns-clause-one : goal.returns-clause-one
 returns-clause-one c =
     let cut = cut_is c.args.depth c.in_ok-walk.walk c.in_ok-code.code c.args.image.now c.args.run.now c.new-records0.result c.new-records1.result c.in_ok-tally0.tally0 c.in_ok-tally1.tally1 c.follow.new.tally0 c.follow.new.tally1 c.in_ok-walk.ensures c.in_ok-tally0.ensures c.in_ok-tally1.ensures c.in_ok-follow.ensures in
-    one_is c.args.depth c.in_ok-walk.walk c.in_ok-code.code c.args.image.now c.args.run.now c.new-records0.result c.new-records1.result c.follow.new.tally0 c.follow.new.tally1 c.in_ok-one.one c.in_ok-walk.ensures.code_is (c.in_ok-code.ensures ∙ c.as_slice.ensures) (c.new-records0.ensures ∙ c.in_ok-cursor0.ensures) (c.new-records1.ensures ∙ c.in_ok-cursor1.ensures) c.requires.run cut c.in_ok-one.ensures
-
-pub returns-clause-sum0 : goal.returns-clause-sum0
-returns-clause-sum0 c = adds_up 0 c.args.depth c.args.image.now c.args.run.now c.args.run.now.trace0.count c.in_ok-zero.zero (returns-clause-zero c) c.requires.run.trace0.count_is
-
-pub returns-clause-sum1 : goal.returns-clause-sum1
-returns-clause-sum1 c = adds_up 1 c.args.depth c.args.image.now c.args.run.now c.args.run.now.trace1.count c.in_ok-one.one (returns-clause-one c) c.requires.run.trace1.count_is
+    one_is c.args.depth c.in_ok-walk.walk c.in_ok-code.code c.args.image.now c.args.run.now c.new-records0.result c.new-records1.result c.follow.new.tally0 c.follow.new.tally1 c.in_ok-one.one c.in_ok-walk.ensures.code_is (c.in_ok-code.ensures ∙ c.as_slice.ensures) (c.new-records0.ensures ∙ c.in_ok-cursor0.ensures) (c.new-records1.ensures ∙ c.in_ok-cursor1.ensures) c.requires.run cut c.in_ok-one.ensures.profile c.in_ok-one.ensures.cut c.in_ok-one.ensures.tally c.in_ok-one.ensures.none

@@ -1,5 +1,5 @@
-use Rattle.std.proofs.Common.{◌≤◌, arith}
-use Rattle.xt_profile.proofs.Telling.{handlers_fit, row_fits}
+use Rattle.std.proofs.Common.{◌≤◌, ◌∙◌, arith}
+use Rattle.xt_profile.proofs.Telling.{counted_handler, counted_nested, counted_plain, handlers_fit, row_fits}
 use Rattle.xt_profile.proofs.tally.Tally.count.Goals as goal
 
 pub overflow_add-self-in-Handler : goal.overflow_add-self-in-Handler
@@ -22,3 +22,12 @@ overflow_add-self-in-Nested c =
     let q = c.requires.known in
     let le : t.row ≤ t.steps = row_fits q.0 q.1 t q.2 in
     omega (arith, le, c.requires.room)
+
+pub returns-in-Handler-clause-counted : goal.returns-in-Handler-clause-counted
+returns-in-Handler-clause-counted c opening past s h m e = counted_handler opening past s c.args.self.now h (m ∙ c.in-Handler.is)
+
+pub returns-in-Plain-clause-counted : goal.returns-in-Plain-clause-counted
+returns-in-Plain-clause-counted c opening past s h m e = counted_plain opening past s c.args.self.now h (m ∙ c.in-Plain.is) e
+
+pub returns-in-Nested-clause-counted : goal.returns-in-Nested-clause-counted
+returns-in-Nested-clause-counted c opening past s h m e = counted_nested opening past s c.args.self.now h (m ∙ c.in-Nested.is) e

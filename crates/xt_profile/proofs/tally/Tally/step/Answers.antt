@@ -1,7 +1,7 @@
 use Rattle.std.proofs.Common.{◌≡◌, ◌+◌, ◌∷◌, ℕ, List, Vec, Global, length, refl, sym, ap, ◌∙◌}
 use Rattle.xt_profile.specs.declared.tally.Tally.{Tally}
-use Rattle.xt_profile.specs.Steps.{Step}
-use Rattle.xt_profile.specs.Told.{AreCounted, standing}
+use Rattle.xt_profile.specs.Steps.{Step, standing}
+use Rattle.xt_profile.specs.Told.{AreCounted}
 use Rattle.xt_profile.proofs.Telling.{counted_moved, resized_is, tally_changed, tally_same}
 use Rattle.xt_profile.proofs.tally.Tally.step.Goals as goal
 
