@@ -1,12 +1,11 @@
 -- The head of a session's input, and what it makes of the whole.
-use Rattle.std.proofs.Common.{◌≡◌, ◌≢◌, ◌≤◌, ◌<◌, ℕ, ◌+◌, nat_lt, if◌then◌else◌, true, false, inl, inr, List, [], ◌∷◌, ◌++◌, length, take, drop, Option, Some, None, Result, Ok, Err, IsErrOf, refl, sym, ap, ◌∙◌, subst, arith, append_assoc, append-nil, length-append}
-use Rattle.std.specs.Io.KnownBytes.{Appends, Consumes, IsAtEnd, Keeps}
-use Rattle.std.specs.List.{after_first, before_first, list_any}
+use Rattle.std.proofs.Common.{◌≡◌, ◌≤◌, ◌<◌, ℕ, nat_lt, if◌then◌else◌, false, inl, List, [], ◌∷◌, ◌++◌, length, take, drop, Option, Some, None, Ok, Err, IsErrOf, refl, sym, ap, ◌∙◌, arith, append_assoc, append-nil, length-append}
+use Rattle.std.specs.Io.KnownBytes.{Consumes, IsAtEnd}
+use Rattle.std.specs.List.{after_first, before_first}
 use Rattle.std.proofs.KnownBytes.{Consumes-trans}
 use Rattle.std.proofs.Math.Seq.{drop-append_seam, take-append_seam}
 use Rattle.std.proofs.lemmas.Bool.{le-ltb, lt-ltb}
 use Rattle.xt_io.specs.Causes.{Rose}
-use Rattle.xt_io.specs.Whole.{AppendsPrefix}
 use Rattle.xt_io.specs.declared.whole.ReadError.{ReadError}
 use Rattle.xt_io.specs.declared.whole.ReadError.TheVariants as error
 use Rattle.xt_record.specs.Fields.{image_in}

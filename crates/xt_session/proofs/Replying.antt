@@ -1,6 +1,6 @@
 -- The answers to the lines that were read so far, and to all.
-use Rattle.std.proofs.Common.{◌≡◌, ◌≢◌, ◌≤◌, ◌<◌, ℕ, ◌+◌, true, false, is_err, IfOk, IsErrOf, inl, inr, List, [], ◌∷◌, ◌++◌, length, Option, Some, None, Result, Ok, Err, refl, sym, ap, ◌∙◌, subst, arith, append_assoc, append-nil, length-append}
-use Rattle.std.specs.Io.KnownBytes.{Appends, Consumes, IsAtEnd, Keeps}
+use Rattle.std.proofs.Common.{◌≡◌, ◌≢◌, ◌≤◌, ℕ, ◌+◌, true, false, is_err, IfOk, IsErrOf, inl, inr, List, [], ◌∷◌, ◌++◌, length, Option, Some, None, Result, Ok, Err, refl, sym, ap, ◌∙◌, subst, arith, append_assoc, append-nil, length-append}
+use Rattle.std.specs.Io.KnownBytes.{Appends, Consumes}
 use Rattle.std.proofs.KnownBytes.{Appends-nil, Appends-trans, Consumes-nil, Consumes-trans, Keeps-refl}
 use Rattle.xt_io.specs.Causes.{Rose}
 use Rattle.xt_io.specs.Whole.{AppendsPrefix}
@@ -23,7 +23,7 @@ use Rattle.xt_status.specs.Inputs.{recording_refusal}
 use Rattle.xt_status.specs.Statuses.{status_after}
 use Rattle.xt_status.specs.Writes.{Writes}
 use Rattle.xt_status.proofs.Writing.{prefix_of, refused_there}
-use Rattle.xt_session.specs.Calls.{Answers, AnswersSome, Begins, IsTooLong, Refuses, Sessions, Tells}
+use Rattle.xt_session.specs.Calls.{Begins, Refuses, Sessions}
 use Rattle.xt_session.specs.Reads.{EndsLines, IsInLine, IsShort, Misses, Opens, ReadsLine, status_of}
 use Rattle.xt_session.specs.Session.{answer, answers, lines_in, lines_limit, refusal_of, session_text}
 use Rattle.xt_session.proofs.Lining.{answers_at, answers_none}

@@ -1,9 +1,8 @@
 -- A line as a text.
-use Rattle.std.proofs.Common.{◌≡◌, ℕ, Bool, true, false, if◌then◌else◌, List, Option, Some, None, refl, sym, ap, ◌∙◌}
+use Rattle.std.proofs.Common.{◌≡◌, ℕ, Bool, true, false, if◌then◌else◌, List, None, refl, sym, ap, ◌∙◌}
 use Rattle.std.specs.Str.{IsUtf8, is_utf8}
 use Rattle.std.proofs.lemmas.Str.{IsUtf8-from_is_utf8, is_utf8-from_IsUtf8}
 use Rattle.xt_command_line.specs.Numbers.{number_of}
-use Rattle.xt_debug.specs.declared.script.Command.{Command}
 use Rattle.xt_debug.specs.Grammar.{script_of}
 use Rattle.xt_session.specs.Session.{number_in, script_in}
 

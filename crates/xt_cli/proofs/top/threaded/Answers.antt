@@ -1,5 +1,5 @@
 use Rattle.std.proofs.Common.{◌∙◌}
-use Rattle.xt_cli.proofs.Refusing.{not_work, top_refuses}
+use Rattle.xt_cli.proofs.Refusing.{not_session, not_work, top_refuses}
 use Rattle.xt_cli.proofs.top.threaded.Goals as goal
 
 pub returns-in-Err-clause-answers : goal.returns-in-Err-clause-answers
@@ -9,3 +9,6 @@ returns-in-Err-clause-answers g c =
 
 pub unreachable-requires : goal.unreachable-requires
 unreachable-requires g c = not_work _ _ _ c.requires.threads c.in-Ok-Work.field-0-is c.in-Ok-Work.ensures.means
+
+pub unreachable-in-Ok-Session-requires : goal.unreachable-in-Ok-Session-requires
+unreachable-in-Ok-Session-requires g c = not_session _ _ _ c.requires.threads c.in-Ok-Session.field-0-is c.in-Ok-Session.ensures.means

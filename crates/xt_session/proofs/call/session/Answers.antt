@@ -1,6 +1,4 @@
-use Rattle.std.proofs.Common.{◌≡◌, List, ℕ, Some, None, refl, sym, ap, ◌∙◌}
-use Rattle.xt_trace.specs.declared.run.Run.{Run}
-use Rattle.xt_image.specs.declared.image.Image.{Image}
+use Rattle.std.proofs.Common.{◌≡◌, List, ℕ, refl, sym, ap, ◌∙◌}
 use Rattle.xt_record.specs.Fields.{image_in}
 use Rattle.xt_record.specs.Format.{run_in}
 use Rattle.xt_replay.specs.Shown.{ReplayState}
