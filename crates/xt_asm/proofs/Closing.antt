@@ -13,7 +13,7 @@ use Rattle.xt_expr.specs.Values.{value_of}
 use Rattle.xt_parse.specs.declared.line.Line.{Line}
 use Rattle.xt_parse.specs.declared.statement.Statement.{Statement}
 use Rattle.xt_parse.specs.declared.statement.Statement.TheVariants as statement
-use Rattle.xt_parse.specs.Lines.{Parses, parsed}
+use Rattle.xt_parse.specs.Lines.{Parses, parsed_lines}
 use Rattle.xt_parse.specs.Small.{AreAbove}
 use Rattle.xt_pool.specs.Around.{each_after}
 use Rattle.xt_pool.specs.Findings.{Finding, fails, first, least, or_else}
@@ -31,7 +31,7 @@ use Rattle.xt_asm.specs.Walks.{own_at, own_first}
 use Rattle.xt_asm.proofs.Clear.{IsClear, clear_line, or_else_none}
 use Rattle.xt_asm.proofs.Merging.{all_merged}
 use Rattle.xt_asm.proofs.WellFormed.{well_formed}
-use Rattle.xt_image.specs.Parts.{IsWellFormed}
+use Rattle.xt_image.specs.ImageParts.{IsWellFormed}
 use Rattle.std.specs.Prelude.{IfOk}
 
 -- ---- the entry
@@ -140,13 +140,13 @@ closes_all (Err fault.Memory) lines e closes = tt
 
 -- ---- the fault of a text
 
-pub assembles_read : (r : Result Image AsmFault) (text : List ℕ) (lines : List Line) → parsed (tokens_of text) ≡ Ok lines → AssemblesLines r lines → Assembles r text
+pub assembles_read : (r : Result Image AsmFault) (text : List ℕ) (lines : List Line) → parsed_lines (tokens_of text) ≡ Ok lines → AssemblesLines r lines → Assembles r text
 unfolding text_fault
 assembles_read (Ok image) text lines read all = (ap fault_of read ∙ all.0, record { lines = lines; read = read; image_is = all.1 })
 assembles_read (Err (fault.Place place)) text lines read all = ap fault_of read ∙ all
 assembles_read (Err fault.Memory) text lines read all = tt
 
-pub assembles_unread : (e : AsmFault) (text : List ℕ) → Parses (Err e) (parsed (tokens_of text)) → Assembles (Err e) text
+pub assembles_unread : (e : AsmFault) (text : List ℕ) → Parses (Err e) (parsed_lines (tokens_of text)) → Assembles (Err e) text
 unfolding text_fault
 assembles_unread (fault.Place place) text read = ap fault_of read
 assembles_unread fault.Memory text read = tt

@@ -6,7 +6,7 @@ use Rattle.xt_lex.specs.Tokens.{tokens_of}
 use Rattle.xt_image.specs.declared.image.Image.{Image}
 use Rattle.xt_expr.specs.declared.labels.Label.{Label}
 use Rattle.xt_parse.specs.declared.line.Line.{Line}
-use Rattle.xt_parse.specs.Lines.{parsed}
+use Rattle.xt_parse.specs.Lines.{parsed_lines}
 use Rattle.xt_layout.specs.Addresses.{labels_of}
 use Rattle.xt_asm.specs.Images.{Assembles, AssemblesLines}
 use Rattle.xt_asm.specs.Maps.{IsMapOf, Maps}
@@ -17,7 +17,7 @@ pub maps_refused : (e : AsmFault) (text : List ℕ) → Assembles (Err e) text �
 maps_refused (fault.Place place) text exact = exact
 maps_refused fault.Memory text exact = tt
 
-pub maps_made : (image : Image) (map text : List ℕ) (lines : List Line) (labels : List Label) → parsed (tokens_of text) ≡ Ok lines → AssemblesLines (Ok image) lines → labels ≡ labels_of lines → IsMapOf labels map →
+pub maps_made : (image : Image) (map text : List ℕ) (lines : List Line) (labels : List Label) → parsed_lines (tokens_of text) ≡ Ok lines → AssemblesLines (Ok image) lines → labels ≡ labels_of lines → IsMapOf labels map →
     Maps (Ok map) text
 maps_made image map text lines labels read all labels_are is =
     let P : List Label → Type 0 = λ ls. IsMapOf ls map in

@@ -16,7 +16,7 @@ use Rattle.xt_parse.specs.declared.statement.Statement.{Statement}
 use Rattle.xt_parse.specs.declared.statement.Statement.TheVariants as statement
 use Rattle.xt_parse.specs.Small.{HasShortExprs, IsShort, IsShortOperand}
 use Rattle.xt_pool.specs.declared.word.PoolWord.{PoolWord}
-use Rattle.xt_pool.specs.Pools.{ends_pool, is_position, need, pool, pool_at, pool_use, up_to_end, wanted, words_of}
+use Rattle.xt_pool.specs.Pools.{ends_pool, is_position, need, pool, pool_at, pool_use, up_to_end, needed_words, words_of}
 use Rattle.xt_pool.proofs.Places.{distinct_keeps, join_keeps}
 use Rattle.xt_layout.specs.Sizes.{pool_size}
 use Rattle.xt_layout.proofs.Each.{here, next}
@@ -39,14 +39,14 @@ one_word P p k (Some n) h = (h n refl, tt)
 abbrev pub StandsAt : ℕ → PoolWord → Type 0
 StandsAt p w = w.position ≡ p
 
-pub wanted_stand : (p k : ℕ) (ls : List Line) → AllByRecursion (StandsAt p) (wanted p k ls)
+pub wanted_stand : (p k : ℕ) (ls : List Line) → AllByRecursion (StandsAt p) (needed_words p k ls)
 wanted_stand p k [] = tt
-wanted_stand p k (l ∷ ls) = join_keeps (StandsAt p) (option_to_list (option_map (λ n. let w : PoolWord = record { position = p; line = k; name = n.0; value = n.1 } in w) (need l.statement))) (wanted p (k + 1) ls)
+wanted_stand p k (l ∷ ls) = join_keeps (StandsAt p) (option_to_list (option_map (λ n. let w : PoolWord = record { position = p; line = k; name = n.0; value = n.1 } in w) (need l.statement))) (needed_words p (k + 1) ls)
     (one_word (StandsAt p) p k (need l.statement) (λ n e. refl)) (wanted_stand p (k + 1) ls)
 
 pool_stands : (before : List Line) (b : Bool) (rest : List Line) → AllByRecursion (StandsAt (length before)) (if b then pool (length before) rest else [])
 pool_stands before false rest = tt
-pool_stands before true rest = distinct_keeps (StandsAt (length before)) (wanted (length before) (length before + 1) (up_to_end rest)) (wanted_stand (length before) (length before + 1) (up_to_end rest))
+pool_stands before true rest = distinct_keeps (StandsAt (length before)) (needed_words (length before) (length before + 1) (up_to_end rest)) (wanted_stand (length before) (length before + 1) (up_to_end rest))
 
 -- the words of the pools in some lines stand at these lines
 abbrev StandsFrom : ℕ → PoolWord → Type 0
@@ -198,9 +198,9 @@ short_need _ n h is = absurd (cc)
 abbrev IsShortLine : Line → Type 0
 IsShortLine l = HasShortExprs l.statement
 
-wanted_short : (p k : ℕ) (ls : List Line) → AllByRecursion IsShortLine ls → AllByRecursion IsShortWord (wanted p k ls)
+wanted_short : (p k : ℕ) (ls : List Line) → AllByRecursion IsShortLine ls → AllByRecursion IsShortWord (needed_words p k ls)
 wanted_short p k [] h = tt
-wanted_short p k (l ∷ ls) h = join_keeps IsShortWord (option_to_list (option_map (λ n. let w : PoolWord = record { position = p; line = k; name = n.0; value = n.1 } in w) (need l.statement))) (wanted p (k + 1) ls)
+wanted_short p k (l ∷ ls) h = join_keeps IsShortWord (option_to_list (option_map (λ n. let w : PoolWord = record { position = p; line = k; name = n.0; value = n.1 } in w) (need l.statement))) (needed_words p (k + 1) ls)
     (one_word IsShortWord p k (need l.statement) (λ n e. short_need l.statement n h.0 e)) (wanted_short p (k + 1) ls h.1)
 
 up_short : (ls : List Line) → AllByRecursion IsShortLine ls → AllByRecursion IsShortLine (up_to_end ls)
@@ -212,7 +212,7 @@ up_short (l ∷ ls) h = elim (ends_pool l) as (λ b. AllByRecursion IsShortLine 
 
 pool_short : (k : ℕ) (b : Bool) (rest : List Line) → AllByRecursion IsShortLine rest → AllByRecursion IsShortWord (if b then pool k rest else [])
 pool_short k false rest h = tt
-pool_short k true rest h = distinct_keeps IsShortWord (wanted k (k + 1) (up_to_end rest)) (wanted_short k (k + 1) (up_to_end rest) (up_short rest h))
+pool_short k true rest h = distinct_keeps IsShortWord (needed_words k (k + 1) (up_to_end rest)) (wanted_short k (k + 1) (up_to_end rest) (up_short rest h))
 
 behind_short : (before lines : List Line) → AllByRecursion IsShortLine lines → AllByRecursion IsShortWord (words_behind before lines)
 behind_short before [] h = tt

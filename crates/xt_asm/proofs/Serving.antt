@@ -18,10 +18,10 @@ use Rattle.xt_parse.specs.declared.statement.Operand.TheVariants as operand
 use Rattle.xt_parse.specs.declared.statement.Statement.{Statement}
 use Rattle.xt_parse.specs.declared.statement.Statement.TheVariants as statement
 use Rattle.xt_pool.specs.declared.word.PoolWord.{PoolWord}
-use Rattle.xt_pool.specs.Pools.{distinct, ends_pool, is_open, is_position, is_segment, need, pool, pool_at, pool_use, same_term, same_terms, same_value, shares, up_to_end, wanted, words_of}
+use Rattle.xt_pool.specs.Pools.{distinct, ends_pool, is_open, is_position, is_segment, need, pool, pool_at, pool_use, same_term, same_terms, same_value, shares, up_to_end, needed_words, words_of}
 use Rattle.xt_layout.specs.Addresses.{word_addresses}
 use Rattle.xt_asm.specs.Kinds.{has_no_word, lacks_word}
-use Rattle.xt_asm.specs.Laws.{OpenPoolsServe}
+use Rattle.xt_asm.specs.AssemblyLaws.{OpenPoolsServe}
 use Rattle.xt_asm.specs.Operands.{Site, last_position, open_position, serves, site_at, target_of, word_for}
 use Rattle.xt_asm.specs.Walks.{words_behind}
 use Rattle.xt_asm.proofs.Closing.{addresses_long}
@@ -150,15 +150,15 @@ need_serves place k e o is =
     ap (λ x. list_any (serves place e) (option_to_list (option_map (λ n. let w : PoolWord = record { position = place; line = k; name = n.0; value = n.1 } in w) x))) is
     ∙ or_left (serves place e (record { position = place; line = k; name = None; value = e })) false (word_serves place k e)
 
-wanted_serves : (place k : ℕ) (e : Expr) (mid : List Line) (l : Line) (rest : List Line) → (let none : Option Placed = None in need l.statement ≡ Some (none, e)) → list_any (serves place e) (wanted place k (mid ++ l ∷ rest)) ≡ true
+wanted_serves : (place k : ℕ) (e : Expr) (mid : List Line) (l : Line) (rest : List Line) → (let none : Option Placed = None in need l.statement ≡ Some (none, e)) → list_any (serves place e) (needed_words place k (mid ++ l ∷ rest)) ≡ true
 wanted_serves place k e [] l rest is =
     let here : List PoolWord = option_to_list (option_map (λ n. let w : PoolWord = record { position = place; line = k; name = n.0; value = n.1 } in w) (need l.statement)) in
-    list_any-append (serves place e) here (wanted place (k + 1) rest)
-    ∙ or_left (list_any (serves place e) here) (list_any (serves place e) (wanted place (k + 1) rest)) (need_serves place k e (need l.statement) is)
+    list_any-append (serves place e) here (needed_words place (k + 1) rest)
+    ∙ or_left (list_any (serves place e) here) (list_any (serves place e) (needed_words place (k + 1) rest)) (need_serves place k e (need l.statement) is)
 wanted_serves place k e (x ∷ mid) l rest is =
     let here : List PoolWord = option_to_list (option_map (λ n. let w : PoolWord = record { position = place; line = k; name = n.0; value = n.1 } in w) (need x.statement)) in
-    list_any-append (serves place e) here (wanted place (k + 1) (mid ++ l ∷ rest))
-    ∙ or_right (list_any (serves place e) here) (list_any (serves place e) (wanted place (k + 1) (mid ++ l ∷ rest))) (wanted_serves place (k + 1) e mid l rest is)
+    list_any-append (serves place e) here (needed_words place (k + 1) (mid ++ l ∷ rest))
+    ∙ or_right (list_any (serves place e) here) (list_any (serves place e) (needed_words place (k + 1) (mid ++ l ∷ rest))) (wanted_serves place (k + 1) e mid l rest is)
 
 -- ---- the opens pool
 
@@ -217,8 +217,8 @@ pool_serves front position mid l rest e is keeps own needs =
     let n : ℕ = length front in
     let up : up_to_end (mid ++ l ∷ rest) ≡ mid ++ l ∷ up_to_end rest = up_past mid (l ∷ rest) keeps ∙ ap (λ b. mid ++ (if b then [] else l ∷ up_to_end rest)) own in
     ap (λ b. list_any (serves n e) (if b then pool n (mid ++ l ∷ rest) else [])) is
-    ∙ distinct_serves n e (wanted n (n + 1) (up_to_end (mid ++ l ∷ rest))) (wanted_stand n (n + 1) (up_to_end (mid ++ l ∷ rest)))
-    (ap (λ ls. list_any (serves n e) (wanted n (n + 1) ls)) up ∙ wanted_serves n (n + 1) e mid l (up_to_end rest) needs)
+    ∙ distinct_serves n e (needed_words n (n + 1) (up_to_end (mid ++ l ∷ rest))) (wanted_stand n (n + 1) (up_to_end (mid ++ l ∷ rest)))
+    (ap (λ ls. list_any (serves n e) (needed_words n (n + 1) ls)) up ∙ wanted_serves n (n + 1) e mid l (up_to_end rest) needs)
 
 behind_serves : (p : PoolWord → Bool) (before front : List Line) (l : Line) (rest : List Line) → list_any p (pool_at (before ++ front) l rest) ≡ true → list_any p (words_behind before (front ++ l ∷ rest)) ≡ true
 behind_serves p before [] l rest some =

@@ -6,9 +6,9 @@ use Rattle.std.proofs.lemmas.List.{length-replicate, length-map}
 use Rattle.std.proofs.lemmas.List.Elements.{recursion_from_All}
 use Rattle.xt_isa.specs.declared.Insn.{Insn}
 use Rattle.xt_isa.specs.Ranges.{AreNibbles}
-use Rattle.xt_isa.specs.Spelling.{fields_at, length_of, spelled}
+use Rattle.xt_isa.specs.Spelling.{fields_at, length_of, spelled_insn}
 use Rattle.xt_codec.specs.declared.Decoded.TheVariants.{Good}
-use Rattle.xt_codec.specs.Answers.{answer}
+use Rattle.xt_codec.specs.DecoderAnswers.{answer}
 use Rattle.xt_mnemonic.specs.declared.argument.OperandFault.{OperandFault}
 use Rattle.xt_names.specs.declared.mnemonic.Mnemonic.{Mnemonic}
 use Rattle.xt_names.specs.Forms.{size_of}
@@ -59,7 +59,7 @@ spelled_long i b n m (Some j) e long =
 
 pub code_long : (i : Insn) (m : ℕ) (bytes : List ℕ) → AreBytes bytes → HasLength i m → Spells i bytes → length bytes ≡ m
 code_long i m bytes all long e =
-    spelled_long i (byte bytes 0) (length bytes) m (spelled (fields_at (byte bytes 0) (byte bytes 1) (byte bytes 2))) e
+    spelled_long i (byte bytes 0) (length bytes) m (spelled_insn (fields_at (byte bytes 0) (byte bytes 1) (byte bytes 2))) e
     (λ s. long (fields_at (byte bytes 0) (byte bytes 1) (byte bytes 2)) (nibbles bytes all) s)
 
 made_long : (name : Mnemonic) (made : Option (Result Insn OperandFault)) (bytes : List ℕ) → AreBytes bytes → IsMade name made → AreCode made bytes → length bytes ≡ size_of name

@@ -17,7 +17,7 @@ use Rattle.xt_map.specs.Placing.{IsPlaced, do_overlap, end_of_segment, is_well_p
 use Rattle.xt_map.specs.Regions.{is_executable, ranges, region_of}
 use Rattle.xt_image.specs.declared.image.Head.{Head}
 use Rattle.xt_image.specs.declared.image.Image.{Image}
-use Rattle.xt_image.specs.Parts.{FitsImage, FitsSegment, IsWellFormed, MeetsRules}
+use Rattle.xt_image.specs.ImageParts.{FitsImage, FitsSegment, IsWellFormed, MeetsRules}
 use Rattle.xt_image.proofs.Capacity.{bytes_in, fit_in_regions, share_address, short_by_bytes}
 use Rattle.xt_image.proofs.Ruled.{by_rules}
 use Rattle.xt_parse.specs.declared.line.Line.{Line}
@@ -35,7 +35,7 @@ use Rattle.xt_layout.specs.Spans.{meet, span, spans_of}
 use Rattle.xt_layout.proofs.Each.{length-each}
 use Rattle.xt_asm.specs.Images.{IsImageOf, entry_of, entry_or, segments_of}
 use Rattle.xt_asm.specs.Kinds.{fault_of, is_code, is_stray_entry, lines_fault, text_fault}
-use Rattle.xt_asm.specs.Laws.{TextImageIsWellFormed}
+use Rattle.xt_asm.specs.AssemblyLaws.{TextImageIsWellFormed}
 use Rattle.xt_asm.specs.Pieces.{ArePieces, sources_of}
 use Rattle.xt_asm.proofs.WellFormedLines.{FindsNone, IsFaultless, apart_at, faultless, few_segments, overlapping, stray}
 use Rattle.xt_asm.proofs.Clear.{not_failed}

@@ -19,7 +19,7 @@ use Rattle.xt_layout.specs.Faults.{segments_in}
 use Rattle.xt_layout.specs.Sizes.{padding, pool_size, size}
 use Rattle.xt_layout.specs.Spans.{segment_end, span, span_at}
 use Rattle.xt_layout.specs.Spots.{address, behind, spot, spot_at}
-use Rattle.xt_asm.specs.Images.{content, padded, segment_at, segments_of}
+use Rattle.xt_asm.specs.Images.{content, with_padding, segment_at, segments_of}
 use Rattle.xt_asm.specs.Pieces.{ArePieces, source_at, zeros}
 use Rattle.xt_asm.proofs.WellFormedLines.{FindsNone, outside}
 use Rattle.xt_asm.proofs.WellFormedPlaces.{InPlace, behind_same, behind_seg, end_here, end_later, ends_in_place, one_more, padded_end, stands_at}
@@ -93,14 +93,14 @@ end_as_long words s before (l ∷ rest) a (piece ∷ pieces) at sizes =
 
 -- ---- each segment
 
-length-padded : (bytes : List ℕ) → length (padded bytes) ≡ length bytes + padding 4 (length bytes)
+length-padded : (bytes : List ℕ) → length (with_padding bytes) ≡ length bytes + padding 4 (length bytes)
 length-padded bytes = length-append bytes (zeros (padding 4 (length bytes))) ∙ ap (λ n. length bytes + n) (length-replicate (padding 4 (length bytes)) 0)
 
 back : (s n : ℕ) → (s + n) - s ≡ n
 back s n = omega arith
 
 -- the padded end of a segment with these bytes
-end_of_bytes : (s e : ℕ) (bytes : List ℕ) → e ≡ s + length bytes → padded_end s e ≡ s + length (padded bytes)
+end_of_bytes : (s e : ℕ) (bytes : List ℕ) → e ≡ s + length bytes → padded_end s e ≡ s + length (with_padding bytes)
 end_of_bytes s e bytes is =
     let pad : padding 4 (e - s) ≡ padding 4 (length bytes) = ap (padding 4) (ap (λ n. n - s) is ∙ back s (length bytes)) in
     omega (arith, length-padded bytes)

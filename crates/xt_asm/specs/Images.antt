@@ -13,7 +13,7 @@ use Rattle.xt_expr.specs.Values.{value_of}
 use Rattle.xt_parse.specs.declared.line.Line.{Line}
 use Rattle.xt_parse.specs.declared.statement.Statement.{Statement}
 use Rattle.xt_parse.specs.declared.statement.Statement.TheVariants.{Entry, Seg}
-use Rattle.xt_parse.specs.Lines.{parsed}
+use Rattle.xt_parse.specs.Lines.{parsed_lines}
 use Rattle.xt_pool.specs.Pools.{is_segment}
 use Rattle.xt_layout.specs.Addresses.{labels_of}
 use Rattle.xt_layout.specs.Sizes.{padding}
@@ -28,12 +28,12 @@ content [] = []
 content (x ∷ rest) = if is_segment x.0.statement then [] else x.1 ++ content rest
 
 -- zeros after the bytes up to a multiple of 4
-abbrev pub padded : List ℕ → List ℕ
-padded bytes = bytes ++ zeros (padding 4 (length bytes))
+abbrev pub with_padding : List ℕ → List ℕ
+with_padding bytes = bytes ++ zeros (padding 4 (length bytes))
 
 -- the segment that a statement begins, after which the lines with their bytes are these
 abbrev pub segment_at : Statement → List (Line × List ℕ) → List Segment
-segment_at (Seg start) rest = record { addr = start; bytes = padded (content rest) } ∷ []
+segment_at (Seg start) rest = record { addr = start; bytes = with_padding (content rest) } ∷ []
 segment_at _ rest = []
 
 -- the segments that the lines with their bytes begin, in the text's order
@@ -67,7 +67,7 @@ pub record IsImageOf (lines : List Line) (image : Image) : Type 0 where
 -- the image is that of the text's lines
 pub record IsImageOfText (text : List ℕ) (image : Image) : Type 0 where
   pub lines : List Line
-  pub read : parsed (tokens_of text) ≡ Ok lines
+  pub read : parsed_lines (tokens_of text) ≡ Ok lines
   pub image_is : IsImageOf lines image
 
 -- an image comes exactly where the text has no fault, and is the text's; else its first fault,

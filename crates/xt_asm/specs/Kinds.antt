@@ -20,7 +20,7 @@ use Rattle.xt_parse.specs.declared.statement.Operand.{Operand}
 use Rattle.xt_parse.specs.declared.statement.Operand.TheVariants as operand
 use Rattle.xt_parse.specs.declared.statement.Statement.{Statement}
 use Rattle.xt_parse.specs.declared.statement.Statement.TheVariants as statement
-use Rattle.xt_parse.specs.Lines.{parsed}
+use Rattle.xt_parse.specs.Lines.{parsed_lines}
 use Rattle.xt_pool.specs.Around.{each}
 use Rattle.xt_pool.specs.Findings.{Finding, at_statement, fails, first, or_else}
 use Rattle.xt_pool.specs.Pools.{has_no_pool, is_segment, words_of}
@@ -162,4 +162,4 @@ fault_of (Ok lines) = lines_fault lines
 
 -- the first fault of a text
 unfoldable pub text_fault : List ℕ → Finding
-text_fault text = fault_of (parsed (tokens_of text))
+text_fault text = fault_of (parsed_lines (tokens_of text))

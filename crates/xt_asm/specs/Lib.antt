@@ -12,5 +12,5 @@ pub mod Images
 pub mod Uses
 pub mod Contexts
 pub mod Walks
-pub mod Laws
+pub mod AssemblyLaws
 pub mod Maps

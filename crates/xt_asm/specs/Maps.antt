@@ -15,7 +15,7 @@ use Rattle.xt_lex.specs.Tokens.{tokens_of}
 use Rattle.xt_expr.specs.declared.labels.Label.{Label}
 use Rattle.xt_expr.specs.Labels.{first_label}
 use Rattle.xt_parse.specs.declared.line.Line.{Line}
-use Rattle.xt_parse.specs.Lines.{parsed}
+use Rattle.xt_parse.specs.Lines.{parsed_lines}
 use Rattle.xt_layout.specs.Addresses.{labels_of}
 use Rattle.xt_asm.specs.declared.map.Row.{Row}
 use Rattle.xt_asm.specs.Kinds.{text_fault}
@@ -53,7 +53,7 @@ pub record IsMapOf (labels : List Label) (text : List ℕ) : Type 0 where
 -- the map is that of the labels of the text's lines
 pub record IsMapOfText (text map : List ℕ) : Type 0 where
   pub lines : List Line
-  pub read : parsed (tokens_of text) ≡ Ok lines
+  pub read : parsed_lines (tokens_of text) ≡ Ok lines
   pub map_is : IsMapOf (labels_of lines) map
 
 -- a map comes exactly where the text has no fault, and is the text's; else its first fault, unless

@@ -8,9 +8,9 @@ use Rattle.std.specs.Prelude.{List, [], ◌∷◌, length, map, replicate, slice
 use Rattle.std.specs.Prelude.{Option, Some, unwrap_or, Result, Ok}
 use Rattle.std.specs.Int.{w16, w32, int_rem_euclid, to_le_bytes}
 use Rattle.xt_isa.specs.declared.Insn.{Insn}
-use Rattle.xt_isa.specs.Spelling.{fields_at, spelled}
+use Rattle.xt_isa.specs.Spelling.{fields_at, spelled_insn}
 use Rattle.xt_codec.specs.declared.Decoded.TheVariants.{Good}
-use Rattle.xt_codec.specs.Answers.{answer}
+use Rattle.xt_codec.specs.DecoderAnswers.{answer}
 use Rattle.xt_mnemonic.specs.declared.argument.OperandFault.{OperandFault}
 use Rattle.xt_expr.specs.declared.expr.Expr.{Expr}
 use Rattle.xt_expr.specs.declared.labels.Label.{Label}
@@ -58,7 +58,7 @@ byte bytes k = slice_index_or bytes k 0
 -- What a decoder reads at the bytes is the instruction, and takes all of them.
 abbrev pub Spells : Insn → List ℕ → Type 0
 Spells i bytes =
-    answer (byte bytes 0) (spelled (fields_at (byte bytes 0) (byte bytes 1) (byte bytes 2)))
+    answer (byte bytes 0) (spelled_insn (fields_at (byte bytes 0) (byte bytes 1) (byte bytes 2)))
     ≡ Good i (length bytes)
 
 -- the bytes spell the instruction that was made; no text without a fault has another

@@ -28,10 +28,10 @@ Indexes index words addresses =
     ≡ word_for q.0 q.1.now words addresses
 
 -- the place of the pool that is open after a statement at a place
-abbrev pub opened : Option ℕ → ℕ → Statement → Option ℕ
-opened position place statement.Position = Some place
-opened position place (statement.Seg start) = None
-opened position place _ = position
+abbrev pub pool_after : Option ℕ → ℕ → Statement → Option ℕ
+pool_after position place statement.Position = Some place
+pool_after position place (statement.Seg start) = None
+pool_after position place _ = position
 
 -- the address of the word that a line's use of a pool refers to
 abbrev pub target_at : List PoolWord → List ℤ → List Line → Line → List Line → Option ℤ

@@ -1,9 +1,9 @@
 //! From a text to its image or its map.
 ghost use Rattle.std.specs.Prelude.{◌≡◌, ◌≤◌, length, IfOk};
 ghost use Rattle.xt_lex.specs.Tokens.{tokens_of};
-ghost use Rattle.xt_parse.specs.Lines.{Parses, parsed};
+ghost use Rattle.xt_parse.specs.Lines.{Parses, parsed_lines};
 ghost use Rattle.xt_parse.specs.Small.{IsParsed};
-ghost use Rattle.xt_image.specs.Parts.{IsWellFormed};
+ghost use Rattle.xt_image.specs.ImageParts.{IsWellFormed};
 ghost use Rattle.xt_asm.specs.Images.{Assembles};
 ghost use Rattle.xt_asm.specs.Maps.{Maps};
 
@@ -20,7 +20,7 @@ use xt_pool::place;
 /// The lines of a text.
 fn lines_of(alloc: Global, text: &[u8]) -> Result<Lines, AsmFault>
     requires { length text.now ≤ 1048576 }
-    ensures lines { Parses result (parsed (tokens_of text.now)) }
+    ensures lines { Parses result (parsed_lines (tokens_of text.now)) }
     ensures small { IfOk result IsParsed }
 {
     let tokens = lex(alloc, text)?;

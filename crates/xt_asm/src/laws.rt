@@ -1,5 +1,5 @@
 //! Laws of assembly. Each is the contract of a function that does nothing.
-ghost use Rattle.xt_asm.specs.Laws.{OpenPoolsServe, TextHasOneImage, TextImageIsWellFormed};
+ghost use Rattle.xt_asm.specs.AssemblyLaws.{OpenPoolsServe, TextHasOneImage, TextImageIsWellFormed};
 
 /// The image of a text without a fault is well formed, so that a file can be written of it and
 /// read again. It has 1 to 16 segments of whole words, each in one region other than UART0, and

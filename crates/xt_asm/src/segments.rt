@@ -3,7 +3,7 @@ ghost use Rattle.std.specs.Prelude.{◌≡◌, ◌++◌, length, zip, All, IfOk,
 ghost use Rattle.xt_expr.specs.Values.{HaveAddresses};
 ghost use Rattle.xt_parse.specs.Small.{HasShortExprs};
 ghost use Rattle.xt_parse.specs.declared.line.Line.{Line};
-ghost use Rattle.xt_asm.specs.Images.{content, entry_of, padded, segment_at, segments_of};
+ghost use Rattle.xt_asm.specs.Images.{content, entry_of, with_padding, segment_at, segments_of};
 
 use crate::operands::value_of;
 use std::alloc::{AllocError, Global};
@@ -29,7 +29,7 @@ fn content(alloc: Global, lines: &[Line], pieces: &[Bytes]) -> Result<Vec<u8>, A
 
 /// Adds zeros up to a multiple of 4 bytes.
 fn pad(bytes: &mut Vec<u8>) -> Result<(), AllocError>
-    ensures { OnOk result (bytes.new.items ≡ padded bytes.old.items) }
+    ensures { OnOk result (bytes.new.items ≡ with_padding bytes.old.items) }
 {
     let n = bytes.len();
     bytes.resize(n + (4 - n % 4) % 4, 0)?;

@@ -3,7 +3,7 @@ ghost use Rattle.std.specs.Prelude.{List, ℤ, ◌≡◌, ◌^◌, ◌<◌, leng
 ghost use Rattle.xt_pool.specs.declared.word.PoolWord.{PoolWord};
 ghost use Rattle.xt_pool.specs.Around.{each};
 ghost use Rattle.xt_asm.specs.Operands.{target_of, word_for};
-ghost use Rattle.xt_asm.specs.Uses.{Indexes, opened, target_at};
+ghost use Rattle.xt_asm.specs.Uses.{Indexes, pool_after, target_at};
 
 use std::alloc::{AllocError, Global};
 use std::collections::BTreeMap;
@@ -66,7 +66,7 @@ fn target<'a>(
 
 /// The place of the pool that is open after a statement at a place.
 fn open_behind(position: Option<u32>, place: u32, statement: &Statement) -> Option<u32>
-    ensures { result ≡ opened position place statement.now }
+    ensures { result ≡ pool_after position place statement.now }
 {
     match statement {
         Statement::Position => Some(place),

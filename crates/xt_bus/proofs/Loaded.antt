@@ -8,7 +8,7 @@ use Rattle.xt_map.specs.declared.segment.Segment.{Segment}
 use Rattle.xt_map.specs.Regions.{region_of, is_memory}
 use Rattle.xt_map.specs.Memory.{is_loaded, low_bytes, with_byte, with_bytes, with_segments, with_words}
 use Rattle.xt_bus.specs.Places.{lies_apart}
-use Rattle.xt_bus.specs.States.{MemoryState, holding}
+use Rattle.xt_bus.specs.States.{MemoryState, memory_state}
 use Rattle.xt_bus.proofs.Regional.{with_byte_outside}
 
 pub with_bytes_push : (m : MemoryContents) (a : ℕ) (bs : List ℕ) (b : ℕ) → with_bytes m a (bs ++ b ∷ []) ≡ with_byte (with_bytes m a bs) (a + length bs) b
@@ -42,27 +42,27 @@ apart_none m a (b ∷ bs) h =
 
 -- ---- a loop's step, as the state of the memory says it
 
-pub bytes_more : (s0 s : MemoryState) (a : ℕ) (bs : List ℕ) (i : ℕ) → s ≡ holding (with_bytes s0.contents a (take i bs)) s0.room → i < length bs
-    → holding (with_byte s.contents (a + i) (get_or bs i 0)) s.room ≡ holding (with_bytes s0.contents a (take (i + 1) bs)) s0.room
+pub bytes_more : (s0 s : MemoryState) (a : ℕ) (bs : List ℕ) (i : ℕ) → s ≡ memory_state (with_bytes s0.contents a (take i bs)) s0.room → i < length bs
+    → memory_state (with_byte s.contents (a + i) (get_or bs i 0)) s.room ≡ memory_state (with_bytes s0.contents a (take (i + 1) bs)) s0.room
 bytes_more s0 s a bs i is l =
     let b : ℕ = get_or bs i 0 in
-    ap (λ (t : MemoryState). holding (with_byte t.contents (a + i) b) t.room) is
-    ∙ ap (λ k. holding (with_byte (with_bytes s0.contents a (take i bs)) (a + k) b) s0.room) (sym (length-take-le i bs (omega arith)))
-    ∙ ap (λ m. holding m s0.room) (sym (with_bytes_push s0.contents a (take i bs) b))
-    ∙ ap (λ xs. holding (with_bytes s0.contents a xs) s0.room) (sym (take_more bs i 0 l))
+    ap (λ (t : MemoryState). memory_state (with_byte t.contents (a + i) b) t.room) is
+    ∙ ap (λ k. memory_state (with_byte (with_bytes s0.contents a (take i bs)) (a + k) b) s0.room) (sym (length-take-le i bs (omega arith)))
+    ∙ ap (λ m. memory_state m s0.room) (sym (with_bytes_push s0.contents a (take i bs) b))
+    ∙ ap (λ xs. memory_state (with_bytes s0.contents a xs) s0.room) (sym (take_more bs i 0 l))
 
-pub segments_more : (s0 s : MemoryState) (xs : List Segment) (i : ℕ) (x : Segment) → s ≡ holding (with_segments s0.contents (take i xs)) s0.room → i < length xs → x ≡ get_or xs i x
-    → holding (if is_loaded x then with_bytes s.contents x.addr x.bytes else s.contents) s.room ≡ holding (with_segments s0.contents (take (i + 1) xs)) s0.room
+pub segments_more : (s0 s : MemoryState) (xs : List Segment) (i : ℕ) (x : Segment) → s ≡ memory_state (with_segments s0.contents (take i xs)) s0.room → i < length xs → x ≡ get_or xs i x
+    → memory_state (if is_loaded x then with_bytes s.contents x.addr x.bytes else s.contents) s.room ≡ memory_state (with_segments s0.contents (take (i + 1) xs)) s0.room
 segments_more s0 s xs i x is l item =
-    ap (λ (t : MemoryState). holding (if is_loaded x then with_bytes t.contents x.addr x.bytes else t.contents) t.room) is
-    ∙ ap (λ m. holding m s0.room) (sym (with_segments_push s0.contents (take i xs) x))
-    ∙ ap (λ (y : Segment). holding (with_segments s0.contents (take i xs ++ y ∷ [])) s0.room) item
-    ∙ ap (λ ys. holding (with_segments s0.contents ys) s0.room) (sym (take_more xs i x l))
+    ap (λ (t : MemoryState). memory_state (if is_loaded x then with_bytes t.contents x.addr x.bytes else t.contents) t.room) is
+    ∙ ap (λ m. memory_state m s0.room) (sym (with_segments_push s0.contents (take i xs) x))
+    ∙ ap (λ (y : Segment). memory_state (with_segments s0.contents (take i xs ++ y ∷ [])) s0.room) item
+    ∙ ap (λ ys. memory_state (with_segments s0.contents ys) s0.room) (sym (take_more xs i x l))
 
-pub words_more : (s0 s : MemoryState) (xs : List (ℕ × ℕ)) (i : ℕ) (d : ℕ × ℕ) → s ≡ holding (with_words s0.contents (take i xs)) s0.room → i < length xs
-    → holding (with_bytes s.contents (get_or xs i d).0 (low_bytes 4 (get_or xs i d).1)) s.room ≡ holding (with_words s0.contents (take (i + 1) xs)) s0.room
+pub words_more : (s0 s : MemoryState) (xs : List (ℕ × ℕ)) (i : ℕ) (d : ℕ × ℕ) → s ≡ memory_state (with_words s0.contents (take i xs)) s0.room → i < length xs
+    → memory_state (with_bytes s.contents (get_or xs i d).0 (low_bytes 4 (get_or xs i d).1)) s.room ≡ memory_state (with_words s0.contents (take (i + 1) xs)) s0.room
 words_more s0 s xs i d is l =
     let w : ℕ × ℕ = get_or xs i d in
-    ap (λ (t : MemoryState). holding (with_bytes t.contents w.0 (low_bytes 4 w.1)) t.room) is
-    ∙ ap (λ m. holding m s0.room) (sym (with_words_push s0.contents (take i xs) w))
-    ∙ ap (λ ys. holding (with_words s0.contents ys) s0.room) (sym (take_more xs i d l))
+    ap (λ (t : MemoryState). memory_state (with_bytes t.contents w.0 (low_bytes 4 w.1)) t.room) is
+    ∙ ap (λ m. memory_state m s0.room) (sym (with_words_push s0.contents (take i xs) w))
+    ∙ ap (λ ys. memory_state (with_words s0.contents ys) s0.room) (sym (take_more xs i d l))

@@ -10,10 +10,10 @@ use Rattle.xt_map.specs.declared.access.Access.{Access}
 use Rattle.xt_map.specs.declared.contents.MemoryContents.{MemoryContents}
 use Rattle.xt_map.specs.Regions.{region_of, is_memory, is_uart, is_mapped, uart_transmit, uart_status}
 use Rattle.xt_map.specs.Memory.{little_endian, low_bytes, byte_in, byte_at, with_byte_in, with_byte, bytes_at, with_bytes, rtc_fast_data_first, dram_first, rtc_slow_first, rtc_fast_data_size, dram_size, rtc_slow_size}
-use Rattle.xt_map.specs.Serving.{number_at, replied, reply_to, with_sent, changed, memory_past}
+use Rattle.xt_map.specs.Serving.{number_at, access_reply, reply_to, with_sent, contents_after, memory_past}
 use Rattle.xt_map.proofs.Ranged.{range_dram, range_rtc_fast_data, range_rtc_slow}
 use Rattle.xt_map.proofs.Stored.{length-low_bytes}
-use Rattle.xt_bus.specs.Bytes.{bytes_in, number_in, put_in, changed_in}
+use Rattle.xt_bus.specs.ListBytes.{bytes_in, number_in, put_in, changed_in}
 use Rattle.xt_bus.specs.States.{part_bytes}
 
 -- the list of a memory region, its first address, and how many bytes it has
@@ -153,22 +153,22 @@ lies_within RtcSlow at a h k e l = grind (arith, nat_tests)
 lies_within _ at a h k e l = absurd cc
 
 reply_at : (r : Region) (m : MemoryContents) (at size : ℕ) (k : Kind) → is_memory (Some r) ≡ true → at < size_of r → at + size ≤ size_of r
-    → (if is_uart (first_of r + at) then 0 else replied k (number_at m (first_of r + at) size)) ≡ replied k (number_in (list_in r m) at size)
+    → (if is_uart (first_of r + at) then 0 else access_reply k (number_at m (first_of r + at) size)) ≡ access_reply k (number_in (list_in r m) at size)
 reply_at r m at size k h l w =
-    ap (λ t. if t then 0 else replied k (number_at m (first_of r + at) size)) (no_uart r at h l) ∙ ap (λ bs. replied k (little_endian bs)) (bytes_are r m at size h w)
+    ap (λ t. if t then 0 else access_reply k (number_at m (first_of r + at) size)) (no_uart r at h l) ∙ ap (λ bs. access_reply k (little_endian bs)) (bytes_are r m at size h w)
 
 pub reply_is : (r : Region) (m : MemoryContents) (at : ℕ) (a : Access) → is_memory (Some r) ≡ true → is_mapped a ≡ true → a.addr ≡ first_of r + at → at < size_of r
-    → reply_to m a ≡ replied a.kind (number_in (list_in r m) at a.size)
+    → reply_to m a ≡ access_reply a.kind (number_in (list_in r m) at a.size)
 unfolding reply_to
 reply_is r m at a h k e l =
-    ap (λ x. if is_uart x then 0 else replied a.kind (number_at m x a.size)) e ∙ reply_at r m at a.size a.kind h l (lies_within r at a h k e l)
+    ap (λ x. if is_uart x then 0 else access_reply a.kind (number_at m x a.size)) e ∙ reply_at r m at a.size a.kind h l (lies_within r at a h k e l)
 
 changed_list : (t : Bool) (r : Region) (m : MemoryContents) (xs : List ℕ) → (if t then with_list r m xs else m) ≡ with_list r m (if t then xs else list_in r m)
 changed_list true r m xs = refl
 changed_list false r m xs = sym (with_same r m)
 
 changed_is : (r : Region) (m : MemoryContents) (at size : ℕ) (k : Kind) → is_memory (Some r) ≡ true → at + size ≤ size_of r
-    → changed m (first_of r + at) size k ≡ with_list r m (changed_in (list_in r m) at size k)
+    → contents_after m (first_of r + at) size k ≡ with_list r m (changed_in (list_in r m) at size k)
 changed_is r m at size Load h w = sym (with_same r m)
 changed_is r m at size (Store v) h w = low_bytes_are r m at size v h w
 changed_is r m at size (Cas expected new) h w =
@@ -190,18 +190,18 @@ no_status RtcSlow at h l = grind (arith, nat_tests)
 no_status _ at h l = absurd cc
 
 past_at : (r : Region) (m : MemoryContents) (at size : ℕ) (k : Kind) → is_memory (Some r) ≡ true → at < size_of r → at + size ≤ size_of r
-    → (if first_of r + at == uart_transmit then with_sent m k else (if first_of r + at == uart_status then m else changed m (first_of r + at) size k))
+    → (if first_of r + at == uart_transmit then with_sent m k else (if first_of r + at == uart_status then m else contents_after m (first_of r + at) size k))
     ≡ with_list r m (changed_in (list_in r m) at size k)
 past_at r m at size k h l w =
-    ap (λ t. if t then with_sent m k else (if first_of r + at == uart_status then m else changed m (first_of r + at) size k)) (no_transmit r at h l)
-    ∙ ap (λ t. if t then m else changed m (first_of r + at) size k) (no_status r at h l)
+    ap (λ t. if t then with_sent m k else (if first_of r + at == uart_status then m else contents_after m (first_of r + at) size k)) (no_transmit r at h l)
+    ∙ ap (λ t. if t then m else contents_after m (first_of r + at) size k) (no_status r at h l)
     ∙ changed_is r m at size k h w
 
 pub past_is : (r : Region) (m : MemoryContents) (at : ℕ) (a : Access) → is_memory (Some r) ≡ true → is_mapped a ≡ true → a.addr ≡ first_of r + at → at < size_of r
     → memory_past m a ≡ with_list r m (changed_in (list_in r m) at a.size a.kind)
 unfolding memory_past
 past_is r m at a h k e l =
-    ap (λ x. if x == uart_transmit then with_sent m a.kind else (if x == uart_status then m else changed m x a.size a.kind)) e
+    ap (λ x. if x == uart_transmit then with_sent m a.kind else (if x == uart_status then m else contents_after m x a.size a.kind)) e
     ∙ past_at r m at a.size a.kind h l (lies_within r at a h k e l)
 
 -- ---- outside the memory regions

@@ -3,11 +3,11 @@
 use Rattle.std.specs.Prelude.{◌≡◌, ◌+◌, length, vec_len}
 use Rattle.xt_map.specs.Memory.{rtc_fast_data_size, dram_size, rtc_slow_size}
 use Rattle.xt_bus.specs.declared.memory.Memory.TheInside.{Inside}
-use Rattle.xt_bus.specs.States.{MemoryState, holding}
+use Rattle.xt_bus.specs.States.{MemoryState, memory_state}
 
 abbrev pub state_in : Inside → MemoryState
 state_in m =
-    holding (record {
+    memory_state (record {
       rtc_fast_data = m.rtc_fast_data.items;
       dram = m.dram.items;
       rtc_slow = m.rtc_slow.items;

@@ -15,16 +15,16 @@ pub record MemoryState : Type 0 where
   pub contents : MemoryContents
   pub room : ℕ
 
-abbrev pub holding : MemoryContents → ℕ → MemoryState
-holding contents room = record { contents = contents; room = room }
+abbrev pub memory_state : MemoryContents → ℕ → MemoryState
+memory_state contents room = record { contents = contents; room = room }
 
 -- so many bytes of memory from an address on
 unfoldable pub part_bytes : MemoryContents → ℕ → ℕ → List ℕ
 part_bytes m from size = bytes_at m from size
 
 -- after one access
-abbrev pub served : MemoryState → Access → MemoryState
-served s a = holding (memory_past s.contents a) s.room
+abbrev pub memory_after_access : MemoryState → Access → MemoryState
+memory_after_access s a = memory_state (memory_past s.contents a) s.room
 
 -- the memory that a bus opened with, its history, its memory with the sent bytes, and how many
 -- accesses it may yet serve
@@ -34,8 +34,8 @@ pub record BusState : Type 0 where
   pub memory : MemoryContents
   pub spare : ℕ
 
-abbrev pub opened : List Segment → List (ℕ × ℕ) → ℕ → BusState
-opened segments words room =
+abbrev pub opening_bus : List Segment → List (ℕ × ℕ) → ℕ → BusState
+opening_bus segments words room =
     record {
       opening = opening_memory segments words;
       history = [];
@@ -47,8 +47,8 @@ abbrev pub entry : ℕ → Access → ℕ → Entry
 entry core access reply = record { core = core; access = access; reply = reply }
 
 -- after one entry more
-abbrev pub stepped : BusState → Entry → BusState
-stepped s e = record {
+abbrev pub bus_after_entry : BusState → Entry → BusState
+bus_after_entry s e = record {
   opening = s.opening;
   history = s.history ++ e ∷ [];
   memory = memory_past s.memory e.access;

@@ -4,7 +4,7 @@ ghost use Rattle.xt_map.specs.History.{memory_after, IsLegal, IsOfCores};
 ghost use Rattle.xt_map.specs.Memory.{byte_at};
 ghost use Rattle.xt_map.specs.Regions.{is_mapped};
 ghost use Rattle.xt_map.specs.Serving.{reply_to};
-ghost use Rattle.xt_bus.specs.States.{entry, opened, stepped};
+ghost use Rattle.xt_bus.specs.States.{entry, opening_bus, bus_after_entry};
 
 use crate::memory::Memory;
 use std::alloc::{AllocError, Global};
@@ -47,7 +47,7 @@ impl Bus {
         links: &[(u32, u32)],
         room: u32,
     ) -> Result<Bus, AllocError>
-        ensures { IfOk result (λ b. b ≡ opened segments.now links.now room) }
+        ensures { IfOk result (λ b. b ≡ opening_bus segments.now links.now room) }
     {
         Ok(Bus {
             opening: Memory::make(alloc, segments, links, 0)?,
@@ -64,7 +64,7 @@ impl Bus {
         requires access { is_mapped access ≡ true }
         requires spare { 0 < self.old.spare }
         ensures reply { result ≡ reply_to self.old.memory access }
-        ensures state { self.new ≡ stepped self.old (entry core access result) }
+        ensures state { self.new ≡ bus_after_entry self.old (entry core access result) }
     {
         let reply = self.memory.serve(access);
         self.history.push_reserved(Entry {

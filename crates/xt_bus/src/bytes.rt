@@ -2,8 +2,8 @@
 ghost use Rattle.std.specs.Prelude.{◌≡◌, ◌+◌, ◌<◌, ◌≤◌, true, length};
 ghost use Rattle.xt_map.specs.Memory.{low_bytes};
 ghost use Rattle.xt_map.specs.Regions.{is_size};
-ghost use Rattle.xt_map.specs.Serving.{replied};
-ghost use Rattle.xt_bus.specs.Bytes.{changed_in, number_in, put_in};
+ghost use Rattle.xt_map.specs.Serving.{access_reply};
+ghost use Rattle.xt_bus.specs.ListBytes.{changed_in, number_in, put_in};
 
 use xt_map::{Access, Kind};
 
@@ -55,7 +55,7 @@ fn put(bytes: &mut [u8], at: usize, size: u8, value: u32)
 pub(crate) fn act(bytes: &mut [u8], at: usize, access: Access) -> u32
     requires size { is_size access.size ≡ true }
     requires within { at + access.size ≤ length bytes.old }
-    ensures reply { result ≡ replied access.kind (number_in bytes.old at access.size) }
+    ensures reply { result ≡ access_reply access.kind (number_in bytes.old at access.size) }
     ensures after { bytes.new ≡ changed_in bytes.old at access.size access.kind }
 {
     match access.kind {

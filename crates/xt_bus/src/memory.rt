@@ -4,7 +4,7 @@ ghost use Rattle.xt_map.specs.Memory.{byte_at, cleared_memory, dram_first, dram_
 ghost use Rattle.xt_map.specs.Regions.{is_mapped, is_uart};
 ghost use Rattle.xt_map.specs.Serving.{reply_to, with_sent};
 ghost use Rattle.xt_bus.specs.Places.{lies_apart};
-ghost use Rattle.xt_bus.specs.States.{holding, part_bytes, served};
+ghost use Rattle.xt_bus.specs.States.{memory_state, part_bytes, memory_after_access};
 
 use crate::bytes::act;
 use crate::places::{Place, place_of};
@@ -87,7 +87,7 @@ impl Memory {
     // Every byte is 0, and nothing was sent.
     #[tactic(auto, unfolding(xt_map::specs::Memory::cleared_memory))]
     fn cleared(alloc: Global, room: usize) -> Result<Memory, AllocError>
-        ensures { IfOk result (λ m. m ≡ holding cleared_memory room) }
+        ensures { IfOk result (λ m. m ≡ memory_state cleared_memory room) }
     {
         Ok(Memory {
             rtc_fast_data: zeroed(alloc, RTC_FAST_DATA_SIZE)?,
@@ -99,7 +99,7 @@ impl Memory {
 
     // Puts a byte at an address. Outside the memory regions nothing changes.
     fn put_byte(&mut self, addr: u64, b: u8)
-        ensures { self.new ≡ holding (with_byte self.old.contents addr b) self.old.room }
+        ensures { self.new ≡ memory_state (with_byte self.old.contents addr b) self.old.room }
     {
         match place_of(addr) {
             Place::RtcFastData(at) => self.rtc_fast_data[at] = b,
@@ -111,7 +111,7 @@ impl Memory {
 
     // Puts bytes from an address on. Outside the memory regions nothing changes.
     fn put_bytes(&mut self, addr: u32, bytes: &[u8])
-        ensures { self.new ≡ holding (with_bytes self.old.contents addr bytes.now) self.old.room }
+        ensures { self.new ≡ memory_state (with_bytes self.old.contents addr bytes.now) self.old.room }
     {
         if is_apart(addr, bytes) {
             return;
@@ -123,7 +123,7 @@ impl Memory {
 
     // Puts the bytes of a segment at their addresses, where it is loaded.
     fn put_segment(&mut self, segment: &Segment)
-        ensures { self.new ≡ holding (if is_loaded segment.now then with_bytes self.old.contents segment.now.addr segment.now.bytes else self.old.contents) self.old.room }
+        ensures { self.new ≡ memory_state (if is_loaded segment.now then with_bytes self.old.contents segment.now.addr segment.now.bytes else self.old.contents) self.old.room }
     {
         if 0x10000000 <= segment.addr {
             self.put_bytes(segment.addr, segment.bytes.as_slice());
@@ -132,7 +132,7 @@ impl Memory {
 
     // Puts the bytes of the loaded segments at their addresses, in order.
     fn put_segments(&mut self, segments: &[Segment])
-        ensures { self.new ≡ holding (with_segments self.old.contents segments.now) self.old.room }
+        ensures { self.new ≡ memory_state (with_segments self.old.contents segments.now) self.old.room }
     {
         for segment in segments {
             self.put_segment(segment);
@@ -141,7 +141,7 @@ impl Memory {
 
     // Puts words, each with its address, in order.
     fn put_words(&mut self, words: &[(u32, u32)])
-        ensures { self.new ≡ holding (with_words self.old.contents words.now) self.old.room }
+        ensures { self.new ≡ memory_state (with_words self.old.contents words.now) self.old.room }
     {
         for link in words {
             self.put_bytes(link.0, &bytes_of(link.1));
@@ -158,7 +158,7 @@ impl Memory {
         words: &[(u32, u32)],
         room: usize,
     ) -> Result<Memory, AllocError>
-        ensures { IfOk result (λ m. m ≡ holding (opening_memory segments.now words.now) room) }
+        ensures { IfOk result (λ m. m ≡ memory_state (opening_memory segments.now words.now) room) }
     {
         let mut memory = Memory::cleared(alloc, room)?;
         memory.put_segments(segments);
@@ -170,7 +170,7 @@ impl Memory {
     /// one sent. Takes no memory.
     pub fn copy_from(&mut self, other: &Memory)
         requires { length other.now.contents.sent ≤ self.old.room }
-        ensures { self.new ≡ holding other.now.contents self.old.room }
+        ensures { self.new ≡ memory_state other.now.contents self.old.room }
     {
         copy_bytes(&mut self.rtc_fast_data, &other.rtc_fast_data);
         copy_bytes(&mut self.dram, &other.dram);
@@ -221,7 +221,7 @@ impl Memory {
     // An access to the transmit address of UART0.
     fn transmit(&mut self, kind: Kind)
         requires { length self.old.contents.sent < self.old.room }
-        ensures { self.new ≡ holding (with_sent self.old.contents kind) self.old.room }
+        ensures { self.new ≡ memory_state (with_sent self.old.contents kind) self.old.room }
     {
         if let Kind::Store(value) = kind {
             self.uart.send((value % 256) as u8);
@@ -234,7 +234,7 @@ impl Memory {
         requires uart { is_uart access.addr ≡ true }
         requires room { length self.old.contents.sent < self.old.room }
         ensures reply { result ≡ reply_to self.old.contents access }
-        ensures state { self.new ≡ served self.old access }
+        ensures state { self.new ≡ memory_after_access self.old access }
     {
         if access.addr == UART_TRANSMIT {
             self.transmit(access.kind);
@@ -248,7 +248,7 @@ impl Memory {
         requires access { is_mapped access ≡ true }
         requires room { length self.old.contents.sent < self.old.room }
         ensures reply { result ≡ reply_to self.old.contents access }
-        ensures state { self.new ≡ served self.old access }
+        ensures state { self.new ≡ memory_after_access self.old access }
     {
         match place_of(access.addr as u64) {
             Place::RtcFastData(at) => act(&mut self.rtc_fast_data, at, access),

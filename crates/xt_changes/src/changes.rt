@@ -3,7 +3,7 @@ ghost use Rattle.std.specs.Prelude.{◌≡◌, ◌+◌, ◌≤◌, ◌<◌, ◌^
 ghost use Rattle.xt_map.specs.declared.contents.MemoryContents.{MemoryContents};
 ghost use Rattle.xt_map.specs.Memory.{HasSizes, byte_at, with_byte, with_bytes, low_bytes};
 ghost use Rattle.xt_map.specs.Regions.{is_mapped, is_memory, is_size, is_uart, region_of};
-ghost use Rattle.xt_map.specs.Serving.{changed, memory_past, number_at, replied, reply_to, with_sent};
+ghost use Rattle.xt_map.specs.Serving.{contents_after, memory_past, number_at, access_reply, reply_to, with_sent};
 ghost use Rattle.xt_changes.specs.Changed.{contents_of};
 
 use crate::places::{are_same, byte_of, put};
@@ -161,8 +161,8 @@ impl Changes {
         requires sizes { HasSizes opening.now.contents }
         requires size { is_size access.size ≡ true }
         requires low { access.addr + 4 ≤ 2 ^ 32 }
-        ensures reply { IfOk result (λ r. r ≡ replied access.kind (number_at (contents_of opening.now.contents self.old) access.addr access.size)) }
-        ensures state { OnOk result (contents_of opening.now.contents self.new ≡ changed (contents_of opening.now.contents self.old) access.addr access.size access.kind) }
+        ensures reply { IfOk result (λ r. r ≡ access_reply access.kind (number_at (contents_of opening.now.contents self.old) access.addr access.size)) }
+        ensures state { OnOk result (contents_of opening.now.contents self.new ≡ contents_after (contents_of opening.now.contents self.old) access.addr access.size access.kind) }
     {
         match access.kind {
             Kind::Load => Ok(self.number(opening, access.addr, access.size)),

@@ -2,7 +2,7 @@
 -- them; and what the top call says after that of the commands that need no thread.
 use Rattle.std.proofs.Common.{◌≡◌, ℕ, inl, inr, List, [], Option, None, Result, Ok, Err, refl, sym, subst, ◌∙◌}
 use Rattle.std.proofs.KnownBytes.{Appends-nil, Consumes-nil}
-use Rattle.xt_command_line.specs.Answers.{Means}
+use Rattle.xt_command_line.specs.MeaningAnswers.{Means}
 use Rattle.xt_command_line.specs.declared.beyond.Beyond.{Beyond}
 use Rattle.xt_command_line.specs.declared.command.Refusal.{Refusal}
 use Rattle.xt_command_line.specs.declared.command.Refusal.TheVariants as refusal

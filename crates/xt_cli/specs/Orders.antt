@@ -27,16 +27,16 @@ use Rattle.xt_cli.specs.declared.tool.Job.TheVariants as job
 -- ---- the order
 
 -- `replay` with its script; a text that is no script breaks rule 9 of usage
-abbrev pub scripted : Option (List script.Command) → Beyond → Result Order Refusal
-scripted None b = Err (refusal.Usage 9)
-scripted (Some commands) b = Ok (order.Work (job.Replay commands b))
+abbrev pub script_order : Option (List script.Command) → Beyond → Result Order Refusal
+script_order None b = Err (refusal.Usage 9)
+script_order (Some commands) b = Ok (order.Work (job.Replay commands b))
 
 -- the word `-` asks for a session
 unfoldable pub replay_order : Result (List ℕ) Refusal → Result Beyond Refusal → Result Order Refusal
 replay_order (Err r) beyond = Err r
 replay_order (Ok text) (Err r) = Err r
 replay_order (Ok text) (Ok b) =
-    if bytes_eq text (codes "-") then Ok (order.Session b) else scripted (script_of text) b
+    if bytes_eq text (codes "-") then Ok (order.Session b) else script_order (script_of text) b
 
 -- the discipline of uses that the words ask for
 abbrev pub discipline_of : Rigor → Discipline

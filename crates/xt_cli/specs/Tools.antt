@@ -15,7 +15,7 @@ use Rattle.xt_record.specs.Fields.{image_in}
 use Rattle.xt_record.specs.Format.{run_in}
 use Rattle.xt_debug.specs.declared.script.Command as script
 use Rattle.xt_debug.specs.Scripts.{script_outcome}
-use Rattle.xt_use_report.specs.Told.{IsUsesTold}
+use Rattle.xt_use_report.specs.UseFindings.{IsUsesTold}
 use Rattle.xt_command_line.specs.declared.beyond.Beyond.{Beyond}
 use Rattle.xt_command_line.specs.declared.command.Refusal.{Refusal}
 use Rattle.xt_command_line.specs.declared.command.Refusal.TheVariants as refusal
@@ -27,7 +27,8 @@ use Rattle.xt_status.specs.Inputs.{image_refusal, recording_refusal}
 use Rattle.xt_session.specs.Calls.{Sessions}
 use Rattle.xt_tools.specs.Commands as commands
 use Rattle.xt_tools.specs.Commands.{AreOutcomesTold, IsAssembled, IsCountsTold, IsListed}
-use Rattle.xt_tools.specs.Commands.{IsRaceTold, converted, elf_refusal, happened, migrated, profiled, text_refusal, traced}
+use Rattle.xt_tools.specs.Commands.{IsRaceTold, converted_image, elf_refusal, events_output}
+use Rattle.xt_tools.specs.Commands.{migrated_recording, profile_output, text_refusal, trace_output}
 use Rattle.xt_cli.specs.declared.tool.Job.{Job}
 use Rattle.xt_cli.specs.declared.tool.Job.TheVariants as job
 use Rattle.xt_cli.specs.declared.tool.Tool.{Tool}
@@ -74,8 +75,8 @@ refusal_of (job.Uses d) input = recording_refusal input
 refusal_of (job.Outcomes options) input = image_refusal input
 
 -- what a script prints over the run that a recording holds
-unfoldable pub replayed : List script.Command → Beyond → List ℕ → List ℕ
-replayed commands b input =
+unfoldable pub replay_output : List script.Command → Beyond → List ℕ → List ℕ
+replay_output commands b input =
     (script_outcome b (image_in input) (run_in input) commands 0).text
 
 -- it leads beyond that run, and ends there
@@ -86,17 +87,17 @@ ends_beyond commands b input =
 -- the bytes that a command writes for an input that it does not refuse
 abbrev pub IsWritten : Job → List ℕ → List ℕ → Type 0
 IsWritten job.Assemble input bytes = IsAssembled input bytes
-IsWritten job.Convert input bytes = bytes ≡ converted input
+IsWritten job.Convert input bytes = bytes ≡ converted_image input
 IsWritten (job.List listing) input bytes = IsListed listing (image_of input) bytes
 IsWritten job.Map input bytes = IsMapOfText input bytes
 IsWritten (job.Check vecbase) input bytes = bytes ≡ check_text (image_of input) vecbase
-IsWritten job.Migrate input bytes = bytes ≡ migrated input
-IsWritten (job.Replay commands b) input bytes = bytes ≡ replayed commands b input
-IsWritten job.Events input bytes = bytes ≡ happened input
+IsWritten job.Migrate input bytes = bytes ≡ migrated_recording input
+IsWritten (job.Replay commands b) input bytes = bytes ≡ replay_output commands b input
+IsWritten job.Events input bytes = bytes ≡ events_output input
 IsWritten job.Counts input bytes = IsCountsTold input bytes
-IsWritten (job.Trace turns) input bytes = bytes ≡ traced turns input
+IsWritten (job.Trace turns) input bytes = bytes ≡ trace_output turns input
 IsWritten job.Race input bytes = IsRaceTold input bytes
-IsWritten (job.Profile options) input bytes = bytes ≡ profiled options input
+IsWritten (job.Profile options) input bytes = bytes ≡ profile_output options input
 IsWritten (job.Uses d) input bytes = IsUsesTold d (image_in input) (run_in input) bytes
 IsWritten (job.Outcomes options) input bytes = AreOutcomesTold options (image_of input) bytes
 

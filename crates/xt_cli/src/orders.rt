@@ -1,7 +1,7 @@
 //! What the words of the command line ask for.
 ghost use Rattle.std.specs.Prelude.{◌≡◌, IfOk, map, string_bytes};
-ghost use Rattle.xt_cli.specs.Orders.{IsFitOrder, discipline_of, order_of, replay_order, scripted};
-ghost use Rattle.xt_command_line.specs.Answers.{Means};
+ghost use Rattle.xt_cli.specs.Orders.{IsFitOrder, discipline_of, order_of, replay_order, script_order};
+ghost use Rattle.xt_command_line.specs.MeaningAnswers.{Means};
 ghost use Rattle.xt_debug.specs.Grammar.{script_of};
 ghost use Rattle.xt_command_line.specs.Arguments.{script_text_of};
 ghost use Rattle.xt_command_line.specs.Beyond.{beyond_of};
@@ -30,7 +30,7 @@ pub enum Order {
 
 // The command `replay` with the script that a text is.
 fn scripted(alloc: Global, text: &str, beyond: Beyond) -> Result<Order, Refusal>
-    ensures means { Means result (scripted (script_of text.now) beyond) }
+    ensures means { Means result (script_order (script_of text.now) beyond) }
     ensures fit { IfOk result IsFitOrder }
 {
     match parse_script(alloc, text) {

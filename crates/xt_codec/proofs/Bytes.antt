@@ -3,11 +3,11 @@ use Rattle.std.proofs.Common.{◌≡◌, ℕ, ◌<◌, ◌≤◌, ◌+◌, ◌*�
 use Rattle.std.proofs.lemmas.Bool.Decides.{nat_tests}
 use Rattle.xt_isa.specs.declared.Insn.{Insn}
 use Rattle.xt_isa.specs.declared.Fields.{Fields}
-use Rattle.xt_isa.specs.Spelling.{spelled, fields_at, length_of}
+use Rattle.xt_isa.specs.Spelling.{spelled_insn, fields_at, length_of}
 use Rattle.xt_isa.specs.Ranges.{AreNibbles}
 use Rattle.xt_isa.proofs.ThirdByte.{spelled_below}
 use Rattle.xt_codec.specs.declared.Decoded.TheVariants.{Good}
-use Rattle.xt_codec.specs.Answers.{answer}
+use Rattle.xt_codec.specs.DecoderAnswers.{answer}
 
 low : (a b : ℕ) → a < 16 → (a + 16 * b) % 16 ≡ a
 low a b h = omega arith
@@ -31,14 +31,14 @@ wide_length b0 h = grind (arith, nat_tests)
 narrow_length : (b0 : ℕ) → 8 ≤ b0 % 16 → b0 % 16 < 14 → length_of b0 ≡ 2
 narrow_length b0 h g = grind (arith, nat_tests)
 
-spelled_again : (i : Insn) (w : Fields) → AreNibbles w → spelled w ≡ Some i → spelled (fields_at (w.op0 + 16 * w.t) (w.s + 16 * w.r) (w.op1 + 16 * w.op2)) ≡ Some i
-spelled_again i w n e = ap spelled (again w.op0 w.t w.s w.r w.op1 w.op2 n.0 n.2 n.4) ∙ e
+spelled_again : (i : Insn) (w : Fields) → AreNibbles w → spelled_insn w ≡ Some i → spelled_insn (fields_at (w.op0 + 16 * w.t) (w.s + 16 * w.r) (w.op1 + 16 * w.op2)) ≡ Some i
+spelled_again i w n e = ap spelled_insn (again w.op0 w.t w.s w.r w.op1 w.op2 n.0 n.2 n.4) ∙ e
 
-pub answered_wide : (i : Insn) (w : Fields) → AreNibbles w → spelled w ≡ Some i → w.op0 < 8 → answer (w.op0 + 16 * w.t) (spelled (fields_at (w.op0 + 16 * w.t) (w.s + 16 * w.r) (w.op1 + 16 * w.op2))) ≡ Good i 3
+pub answered_wide : (i : Insn) (w : Fields) → AreNibbles w → spelled_insn w ≡ Some i → w.op0 < 8 → answer (w.op0 + 16 * w.t) (spelled_insn (fields_at (w.op0 + 16 * w.t) (w.s + 16 * w.r) (w.op1 + 16 * w.op2))) ≡ Good i 3
 answered_wide i w n e h =
     ap (answer (w.op0 + 16 * w.t)) (spelled_again i w n e) ∙ ap (Good i) (wide_length (w.op0 + 16 * w.t) (omega arith))
 
-pub answered_narrow : (i : Insn) (w : Fields) → AreNibbles w → spelled w ≡ Some i → 8 ≤ w.op0 → answer (w.op0 + 16 * w.t) (spelled (fields_at (w.op0 + 16 * w.t) (w.s + 16 * w.r) (w.op1 + 16 * w.op2))) ≡ Good i 2
+pub answered_narrow : (i : Insn) (w : Fields) → AreNibbles w → spelled_insn w ≡ Some i → 8 ≤ w.op0 → answer (w.op0 + 16 * w.t) (spelled_insn (fields_at (w.op0 + 16 * w.t) (w.s + 16 * w.r) (w.op1 + 16 * w.op2))) ≡ Good i 2
 answered_narrow i w n e h =
     let below = spelled_below w i n.0 e in
     ap (answer (w.op0 + 16 * w.t)) (spelled_again i w n e) ∙ ap (Good i) (narrow_length (w.op0 + 16 * w.t) (omega arith) (omega arith))

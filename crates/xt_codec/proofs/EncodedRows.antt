@@ -63,9 +63,9 @@ use Rattle.xt_isa.specs.declared.control.CallName.{CallName}
 use Rattle.xt_isa.specs.declared.system.SpecialName.{SpecialName}
 use Rattle.xt_isa.specs.Numbers.{interrupt, intclear, prid, threadptr}
 use Rattle.xt_isa.specs.Ranges.{AreNibbles, HasSpelling, in_range, one_register, two_registers, natural_within, signed_within, multiple_within, window_within, literal_within, page_within, call_within, is_b4const, is_b4constu, small_within, narrow_within, three_in_range, shift_in_range, memory_in_range, control_in_range, system_in_range, density_in_range, boolean_in_range}
-use Rattle.xt_isa.specs.Spelling.{spelled, all_rows, signed, below, b4const, b4constu, minus_one_or, narrow_constant, can_read, can_write, can_exchange}
+use Rattle.xt_isa.specs.Spelling.{spelled_insn, all_rows, signed, below, b4const, b4constu, minus_one_or, narrow_constant, can_read, can_write, can_exchange}
 use Rattle.xt_isa.proofs.Reached.{exchange_small}
-use Rattle.xt_codec.specs.Encoding.{bits, five, small, constant, cut, fields, rrr, rri8, call, rrrn, fields_from, uncut_fields, three_fields, shift_fields, memory_fields, control_fields, system_fields, density_fields, boolean_fields}
+use Rattle.xt_codec.specs.Encoding.{bits, five, small, constant, four_bit_fields, fields, rrr, rri8, call, rrrn, fields_from, uncut_fields, three_fields, shift_fields, memory_fields, control_fields, system_fields, density_fields, boolean_fields}
 use Rattle.xt_codec.proofs.Digits.{low8, low12, low16, low18}
 use Rattle.xt_codec.proofs.EncodedNumbers.{byte, halves, words, frame, narrow_word, four_bits, level, nothing, five_bits, six_bits, left, wide_by, from_seven, near, far, loaded, jump, rotated, page, called, window, literal, narrow_number, small_number, signed_constant, unsigned_constant, one_is, two_are, of_one, of_two, of_three, of_four, of_number, of_one_and, of_two_and, of_one_and_two}
 
@@ -96,11 +96,11 @@ below_eight P a b c d e f g i (suc (suc (suc (suc (suc (suc (suc (suc n)))))))) 
 less_than : (n k : ℕ) → 0 < k → n % k < k
 less_than n k h = omega (arith, h)
 
-slli_row : (r s a q : ℕ) → q < 2 → spelled (cut (rrr 1 q r s a)) ≡ cond (not (eqb (a % 16 + 16 * q) 0)) (Some (insn.Shift (shift.Slli (r % 16) (s % 16) (pos (32 - (a % 16 + 16 * q)))))) None
-unfolding spelled all_rows
-slli_row r s a q h = below_two (λ q. spelled (cut (rrr 1 q r s a)) ≡ cond (not (eqb (a % 16 + 16 * q) 0)) (Some (insn.Shift (shift.Slli (r % 16) (s % 16) (pos (32 - (a % 16 + 16 * q)))))) None) refl refl q h
+slli_row : (r s a q : ℕ) → q < 2 → spelled_insn (four_bit_fields (rrr 1 q r s a)) ≡ cond (not (eqb (a % 16 + 16 * q) 0)) (Some (insn.Shift (shift.Slli (r % 16) (s % 16) (pos (32 - (a % 16 + 16 * q)))))) None
+unfolding spelled_insn all_rows
+slli_row r s a q h = below_two (λ q. spelled_insn (four_bit_fields (rrr 1 q r s a)) ≡ cond (not (eqb (a % 16 + 16 * q) 0)) (Some (insn.Shift (shift.Slli (r % 16) (s % 16) (pos (32 - (a % 16 + 16 * q)))))) None) refl refl q h
 
-slli : (r s : ℕ) (n : ℤ) → (two_registers r s && natural_within 1 31 n) ≡ true → spelled (cut (rrr 1 ((32 - five n) / 16) r s (32 - five n))) ≡ Some (insn.Shift (shift.Slli r s n))
+slli : (r s : ℕ) (n : ℤ) → (two_registers r s && natural_within 1 31 n) ≡ true → spelled_insn (four_bit_fields (rrr 1 ((32 - five n) / 16) r s (32 - five n))) ≡ Some (insn.Shift (shift.Slli r s n))
 slli r s n h =
     let is = left n (and_parts (two_registers r s) (natural_within 1 31 n) h).1 in
     let a = 32 - five n in
@@ -108,29 +108,29 @@ slli r s n h =
     ∙ (cond-true (not (eqb ((32 - five n) % 16 + 16 * ((32 - five n) / 16)) 0)) (Some (insn.Shift (shift.Slli (r % 16) (s % 16) (pos (32 - ((32 - five n) % 16 + 16 * ((32 - five n) / 16))))))) None (ap not (ne_eqb ((32 - five n) % 16 + 16 * ((32 - five n) / 16)) 0 (λ e. omega (arith, e, is.2))))
     ∙ of_two_and (λ r s n. insn.Shift (shift.Slli r s n)) r s (pos (32 - ((32 - five n) % 16 + 16 * ((32 - five n) / 16)))) n (natural_within 1 31 n) h (λ _. is.0))
 
-srai : (r t : ℕ) (n : ℤ) → (two_registers r t && natural_within 0 31 n) ≡ true → spelled (cut (rrr 1 (2 + five n / 16) r (five n) t)) ≡ Some (insn.Shift (shift.Srai r t n))
-unfolding spelled all_rows
+srai : (r t : ℕ) (n : ℤ) → (two_registers r t && natural_within 0 31 n) ≡ true → spelled_insn (four_bit_fields (rrr 1 (2 + five n / 16) r (five n) t)) ≡ Some (insn.Shift (shift.Srai r t n))
+unfolding spelled_insn all_rows
 srai r t n h =
-    below_two (λ q. spelled (cut (rrr 1 (2 + q) r (five n) t)) ≡ Some (insn.Shift (shift.Srai (r % 16) (t % 16) (pos (five n % 16 + 16 * q))))) refl refl (five n / 16) (omega (arith, less_than (bits n) 32 (omega arith)))
+    below_two (λ q. spelled_insn (four_bit_fields (rrr 1 (2 + q) r (five n) t)) ≡ Some (insn.Shift (shift.Srai (r % 16) (t % 16) (pos (five n % 16 + 16 * q))))) refl refl (five n / 16) (omega (arith, less_than (bits n) 32 (omega arith)))
     ∙ of_two_and (λ r t n. insn.Shift (shift.Srai r t n)) r t (pos (five n % 16 + 16 * (five n / 16))) n (natural_within 0 31 n) h (five_bits n)
 
-extui : (r t : ℕ) (n m : ℤ) → (two_registers r t && (natural_within 0 31 n && natural_within 1 16 m)) ≡ true → spelled (cut (rrr (4 + five n / 16) (five m + 15) r (five n) t)) ≡ Some (insn.Shift (shift.Extui r t n m))
-unfolding spelled all_rows
+extui : (r t : ℕ) (n m : ℤ) → (two_registers r t && (natural_within 0 31 n && natural_within 1 16 m)) ≡ true → spelled_insn (four_bit_fields (rrr (4 + five n / 16) (five m + 15) r (five n) t)) ≡ Some (insn.Shift (shift.Extui r t n m))
+unfolding spelled_insn all_rows
 extui r t n m h =
     let parts = and_parts (two_registers r t) (natural_within 0 31 n && natural_within 1 16 m) h in
     let more = and_parts (natural_within 0 31 n) (natural_within 1 16 m) parts.1 in
-    below_two (λ q. spelled (cut (rrr (4 + q) (five m + 15) r (five n) t)) ≡ Some (insn.Shift (shift.Extui (r % 16) (t % 16) (pos (five n % 16 + 16 * q)) (pos ((five m + 15) % 16 + 1))))) refl refl (five n / 16) (omega (arith, less_than (bits n) 32 (omega arith)))
+    below_two (λ q. spelled_insn (four_bit_fields (rrr (4 + q) (five m + 15) r (five n) t)) ≡ Some (insn.Shift (shift.Extui (r % 16) (t % 16) (pos (five n % 16 + 16 * q)) (pos ((five m + 15) % 16 + 1))))) refl refl (five n / 16) (omega (arith, less_than (bits n) 32 (omega arith)))
     ∙ of_four (λ r t n m. insn.Shift (shift.Extui r t n m)) r t _ n _ m parts.0 (five_bits n more.0) (wide_by m more.1)
 
-ssai : (n : ℤ) → natural_within 0 31 n ≡ true → spelled (cut (rrr 0 4 4 (five n) (five n / 16))) ≡ Some (insn.Shift (shift.Ssai n))
-unfolding spelled all_rows
+ssai : (n : ℤ) → natural_within 0 31 n ≡ true → spelled_insn (four_bit_fields (rrr 0 4 4 (five n) (five n / 16))) ≡ Some (insn.Shift (shift.Ssai n))
+unfolding spelled_insn all_rows
 ssai n h =
-    below_two (λ q. spelled (cut (rrr 0 4 4 (five n) q)) ≡ Some (insn.Shift (shift.Ssai (pos (five n % 16 + 16 * q))))) refl refl (five n / 16) (omega (arith, less_than (bits n) 32 (omega arith)))
+    below_two (λ q. spelled_insn (four_bit_fields (rrr 0 4 4 (five n) q)) ≡ Some (insn.Shift (shift.Ssai (pos (five n % 16 + 16 * q))))) refl refl (five n / 16) (omega (arith, less_than (bits n) 32 (omega arith)))
     ∙ of_number (λ n. insn.Shift (shift.Ssai n)) (pos (five n % 16 + 16 * (five n / 16))) n (five_bits n h)
 
-jump_row : (a b c d q : ℕ) → q < 4 → spelled (cut (fields 6 a b c d (0 + 4 * q))) ≡ Some (insn.Control (control.J (signed 131072 (q + 4 * (d % 16 + 16 * (c % 16 + 16 * (a % 16 + 16 * (b % 16))))))))
-unfolding spelled all_rows
-jump_row a b c d q h = below_four (λ q. spelled (cut (fields 6 a b c d (0 + 4 * q))) ≡ Some (insn.Control (control.J (signed 131072 (q + 4 * (d % 16 + 16 * (c % 16 + 16 * (a % 16 + 16 * (b % 16))))))))) refl refl refl refl q h
+jump_row : (a b c d q : ℕ) → q < 4 → spelled_insn (four_bit_fields (fields 6 a b c d (0 + 4 * q))) ≡ Some (insn.Control (control.J (signed 131072 (q + 4 * (d % 16 + 16 * (c % 16 + 16 * (a % 16 + 16 * (b % 16))))))))
+unfolding spelled_insn all_rows
+jump_row a b c d q h = below_four (λ q. spelled_insn (four_bit_fields (fields 6 a b c d (0 + 4 * q))) ≡ Some (insn.Control (control.J (signed 131072 (q + 4 * (d % 16 + 16 * (c % 16 + 16 * (a % 16 + 16 * (b % 16))))))))) refl refl refl refl q h
 
 abbrev call_low : CallName → ℕ
 call_low CallName.Call0 = 0
@@ -138,59 +138,59 @@ call_low CallName.Call4 = 1
 call_low CallName.Call8 = 2
 call_low CallName.Call12 = 3
 
-call_row : (name : CallName) (a b c d q : ℕ) → q < 4 → spelled (cut (fields 5 a b c d (call_low name + 4 * q))) ≡ Some (insn.Control (control.Call0 name (signed 524288 (4 * (q + 4 * (d % 16 + 16 * (c % 16 + 16 * (a % 16 + 16 * (b % 16)))))))))
-unfolding spelled all_rows
-call_row CallName.Call0 a b c d q h = below_four (λ q. spelled (cut (fields 5 a b c d (0 + 4 * q))) ≡ Some (insn.Control (control.Call0 CallName.Call0 (signed 524288 (4 * (q + 4 * (d % 16 + 16 * (c % 16 + 16 * (a % 16 + 16 * (b % 16)))))))))) refl refl refl refl q h
-call_row CallName.Call4 a b c d q h = below_four (λ q. spelled (cut (fields 5 a b c d (1 + 4 * q))) ≡ Some (insn.Control (control.Call0 CallName.Call4 (signed 524288 (4 * (q + 4 * (d % 16 + 16 * (c % 16 + 16 * (a % 16 + 16 * (b % 16)))))))))) refl refl refl refl q h
-call_row CallName.Call8 a b c d q h = below_four (λ q. spelled (cut (fields 5 a b c d (2 + 4 * q))) ≡ Some (insn.Control (control.Call0 CallName.Call8 (signed 524288 (4 * (q + 4 * (d % 16 + 16 * (c % 16 + 16 * (a % 16 + 16 * (b % 16)))))))))) refl refl refl refl q h
-call_row CallName.Call12 a b c d q h = below_four (λ q. spelled (cut (fields 5 a b c d (3 + 4 * q))) ≡ Some (insn.Control (control.Call0 CallName.Call12 (signed 524288 (4 * (q + 4 * (d % 16 + 16 * (c % 16 + 16 * (a % 16 + 16 * (b % 16)))))))))) refl refl refl refl q h
+call_row : (name : CallName) (a b c d q : ℕ) → q < 4 → spelled_insn (four_bit_fields (fields 5 a b c d (call_low name + 4 * q))) ≡ Some (insn.Control (control.Call0 name (signed 524288 (4 * (q + 4 * (d % 16 + 16 * (c % 16 + 16 * (a % 16 + 16 * (b % 16)))))))))
+unfolding spelled_insn all_rows
+call_row CallName.Call0 a b c d q h = below_four (λ q. spelled_insn (four_bit_fields (fields 5 a b c d (0 + 4 * q))) ≡ Some (insn.Control (control.Call0 CallName.Call0 (signed 524288 (4 * (q + 4 * (d % 16 + 16 * (c % 16 + 16 * (a % 16 + 16 * (b % 16)))))))))) refl refl refl refl q h
+call_row CallName.Call4 a b c d q h = below_four (λ q. spelled_insn (four_bit_fields (fields 5 a b c d (1 + 4 * q))) ≡ Some (insn.Control (control.Call0 CallName.Call4 (signed 524288 (4 * (q + 4 * (d % 16 + 16 * (c % 16 + 16 * (a % 16 + 16 * (b % 16)))))))))) refl refl refl refl q h
+call_row CallName.Call8 a b c d q h = below_four (λ q. spelled_insn (four_bit_fields (fields 5 a b c d (2 + 4 * q))) ≡ Some (insn.Control (control.Call0 CallName.Call8 (signed 524288 (4 * (q + 4 * (d % 16 + 16 * (c % 16 + 16 * (a % 16 + 16 * (b % 16)))))))))) refl refl refl refl q h
+call_row CallName.Call12 a b c d q h = below_four (λ q. spelled_insn (four_bit_fields (fields 5 a b c d (3 + 4 * q))) ≡ Some (insn.Control (control.Call0 CallName.Call12 (signed 524288 (4 * (q + 4 * (d % 16 + 16 * (c % 16 + 16 * (a % 16 + 16 * (b % 16)))))))))) refl refl refl refl q h
 
-call_code : (name : CallName) (n : ℤ) → call_within n ≡ true → spelled (cut (call 5 (call_low name) (bits n / 4))) ≡ Some (insn.Control (control.Call0 name n))
+call_code : (name : CallName) (n : ℤ) → call_within n ≡ true → spelled_insn (four_bit_fields (call 5 (call_low name) (bits n / 4))) ≡ Some (insn.Control (control.Call0 name n))
 call_code name n h =
     call_row name (bits n / 4 / 1024 % 16) (bits n / 4 / 16384 % 16) (bits n / 4 / 64 % 16) (bits n / 4 / 4 % 16) (bits n / 4 % 4) (less_than (bits n / 4) 4 (omega arith))
     ∙ of_number (λ n. insn.Control (control.Call0 name n)) (signed 524288 (4 * low18 (bits n / 4))) n (called n h)
 
-jump_code : (n : ℤ) → signed_within 131072 n ≡ true → spelled (cut (call 6 0 (bits n))) ≡ Some (insn.Control (control.J n))
+jump_code : (n : ℤ) → signed_within 131072 n ≡ true → spelled_insn (four_bit_fields (call 6 0 (bits n))) ≡ Some (insn.Control (control.J n))
 jump_code n h =
     jump_row (bits n / 1024 % 16) (bits n / 16384 % 16) (bits n / 64 % 16) (bits n / 4 % 16) (bits n % 4) (less_than (bits n) 4 (omega arith))
     ∙ of_number (λ n. insn.Control (control.J n)) (signed 131072 (low18 (bits n))) n (jump n h)
 
-bbci : (s : ℕ) (b n : ℤ) → (one_register s && (natural_within 0 31 b && signed_within 128 n)) ≡ true → spelled (cut (rri8 7 (6 + five b / 16) s (five b) (bits n))) ≡ Some (insn.Control (control.Bbci BitName.Bbci s b n))
-unfolding spelled all_rows
+bbci : (s : ℕ) (b n : ℤ) → (one_register s && (natural_within 0 31 b && signed_within 128 n)) ≡ true → spelled_insn (four_bit_fields (rri8 7 (6 + five b / 16) s (five b) (bits n))) ≡ Some (insn.Control (control.Bbci BitName.Bbci s b n))
+unfolding spelled_insn all_rows
 bbci s b n h =
-    below_two (λ q. spelled (cut (rri8 7 (6 + q) s (five b) (bits n))) ≡ Some (insn.Control (control.Bbci BitName.Bbci (s % 16) (pos (five b % 16 + 16 * q)) (signed 128 (low8 (bits n)))))) refl refl (five b / 16) (omega (arith, less_than (bits b) 32 (omega arith)))
+    below_two (λ q. spelled_insn (four_bit_fields (rri8 7 (6 + q) s (five b) (bits n))) ≡ Some (insn.Control (control.Bbci BitName.Bbci (s % 16) (pos (five b % 16 + 16 * q)) (signed 128 (low8 (bits n)))))) refl refl (five b / 16) (omega (arith, less_than (bits b) 32 (omega arith)))
     ∙ of_one_and_two (λ s b n. insn.Control (control.Bbci BitName.Bbci s b n)) s (pos (five b % 16 + 16 * (five b / 16))) b (signed 128 (low8 (bits n))) n (natural_within 0 31 b) (signed_within 128 n) h (five_bits b) (near n)
 
-bbsi : (s : ℕ) (b n : ℤ) → (one_register s && (natural_within 0 31 b && signed_within 128 n)) ≡ true → spelled (cut (rri8 7 (14 + five b / 16) s (five b) (bits n))) ≡ Some (insn.Control (control.Bbci BitName.Bbsi s b n))
-unfolding spelled all_rows
+bbsi : (s : ℕ) (b n : ℤ) → (one_register s && (natural_within 0 31 b && signed_within 128 n)) ≡ true → spelled_insn (four_bit_fields (rri8 7 (14 + five b / 16) s (five b) (bits n))) ≡ Some (insn.Control (control.Bbci BitName.Bbsi s b n))
+unfolding spelled_insn all_rows
 bbsi s b n h =
-    below_two (λ q. spelled (cut (rri8 7 (14 + q) s (five b) (bits n))) ≡ Some (insn.Control (control.Bbci BitName.Bbsi (s % 16) (pos (five b % 16 + 16 * q)) (signed 128 (low8 (bits n)))))) refl refl (five b / 16) (omega (arith, less_than (bits b) 32 (omega arith)))
+    below_two (λ q. spelled_insn (four_bit_fields (rri8 7 (14 + q) s (five b) (bits n))) ≡ Some (insn.Control (control.Bbci BitName.Bbsi (s % 16) (pos (five b % 16 + 16 * q)) (signed 128 (low8 (bits n)))))) refl refl (five b / 16) (omega (arith, less_than (bits b) 32 (omega arith)))
     ∙ of_one_and_two (λ s b n. insn.Control (control.Bbci BitName.Bbsi s b n)) s (pos (five b % 16 + 16 * (five b / 16))) b (signed 128 (low8 (bits n))) n (natural_within 0 31 b) (signed_within 128 n) h (five_bits b) (near n)
 
-narrow_movi : (s : ℕ) (n : ℤ) → (one_register s && narrow_within n) ≡ true → spelled (cut (rrrn 12 (five n) s (bits n / 16 % 8))) ≡ Some (insn.Density (density.Movi s n))
-unfolding spelled all_rows
+narrow_movi : (s : ℕ) (n : ℤ) → (one_register s && narrow_within n) ≡ true → spelled_insn (four_bit_fields (rrrn 12 (five n) s (bits n / 16 % 8))) ≡ Some (insn.Density (density.Movi s n))
+unfolding spelled_insn all_rows
 narrow_movi s n h =
-    below_eight (λ q. spelled (cut (rrrn 12 (five n) s q)) ≡ Some (insn.Density (density.Movi (s % 16) (narrow_constant (five n % 16 + 16 * q))))) refl refl refl refl refl refl refl refl (bits n / 16 % 8) (less_than (bits n / 16) 8 (omega arith))
+    below_eight (λ q. spelled_insn (four_bit_fields (rrrn 12 (five n) s q)) ≡ Some (insn.Density (density.Movi (s % 16) (narrow_constant (five n % 16 + 16 * q))))) refl refl refl refl refl refl refl refl (bits n / 16 % 8) (less_than (bits n / 16) 8 (omega arith))
     ∙ of_one_and (λ s n. insn.Density (density.Movi s n)) s (narrow_constant (five n % 16 + 16 * (bits n / 16 % 8))) n (narrow_within n) h (narrow_number n)
 
-narrow_beqz : (s : ℕ) (n : ℤ) → (one_register s && natural_within 0 63 n) ≡ true → spelled (cut (rrrn 12 (five n) s (8 + bits n / 16 % 4))) ≡ Some (insn.Density (density.Beqz NarrowZeroName.Beqz s n))
-unfolding spelled all_rows
+narrow_beqz : (s : ℕ) (n : ℤ) → (one_register s && natural_within 0 63 n) ≡ true → spelled_insn (four_bit_fields (rrrn 12 (five n) s (8 + bits n / 16 % 4))) ≡ Some (insn.Density (density.Beqz NarrowZeroName.Beqz s n))
+unfolding spelled_insn all_rows
 narrow_beqz s n h =
-    below_four (λ q. spelled (cut (rrrn 12 (five n) s (8 + q))) ≡ Some (insn.Density (density.Beqz NarrowZeroName.Beqz (s % 16) (pos (five n % 16 + 16 * q))))) refl refl refl refl (bits n / 16 % 4) (less_than (bits n / 16) 4 (omega arith))
+    below_four (λ q. spelled_insn (four_bit_fields (rrrn 12 (five n) s (8 + q))) ≡ Some (insn.Density (density.Beqz NarrowZeroName.Beqz (s % 16) (pos (five n % 16 + 16 * q))))) refl refl refl refl (bits n / 16 % 4) (less_than (bits n / 16) 4 (omega arith))
     ∙ of_one_and (λ s n. insn.Density (density.Beqz NarrowZeroName.Beqz s n)) s (pos (five n % 16 + 16 * (bits n / 16 % 4))) n (natural_within 0 63 n) h (six_bits n)
 
-narrow_bnez : (s : ℕ) (n : ℤ) → (one_register s && natural_within 0 63 n) ≡ true → spelled (cut (rrrn 12 (five n) s (12 + bits n / 16 % 4))) ≡ Some (insn.Density (density.Beqz NarrowZeroName.Bnez s n))
-unfolding spelled all_rows
+narrow_bnez : (s : ℕ) (n : ℤ) → (one_register s && natural_within 0 63 n) ≡ true → spelled_insn (four_bit_fields (rrrn 12 (five n) s (12 + bits n / 16 % 4))) ≡ Some (insn.Density (density.Beqz NarrowZeroName.Bnez s n))
+unfolding spelled_insn all_rows
 narrow_bnez s n h =
-    below_four (λ q. spelled (cut (rrrn 12 (five n) s (12 + q))) ≡ Some (insn.Density (density.Beqz NarrowZeroName.Bnez (s % 16) (pos (five n % 16 + 16 * q))))) refl refl refl refl (bits n / 16 % 4) (less_than (bits n / 16) 4 (omega arith))
+    below_four (λ q. spelled_insn (four_bit_fields (rrrn 12 (five n) s (12 + q))) ≡ Some (insn.Density (density.Beqz NarrowZeroName.Bnez (s % 16) (pos (five n % 16 + 16 * q))))) refl refl refl refl (bits n / 16 % 4) (less_than (bits n / 16) 4 (omega arith))
     ∙ of_one_and (λ s n. insn.Density (density.Beqz NarrowZeroName.Bnez s n)) s (pos (five n % 16 + 16 * (bits n / 16 % 4))) n (natural_within 0 63 n) h (six_bits n)
 
 -- ---- Rows with a test.
 tested : (b : Bool) (i j : Insn) → b ≡ true → Some i ≡ Some j → cond b (Some i) None ≡ Some j
 tested b i j h e = cond-true b (Some i) None h ∙ e
 
-rfi : (n : ℤ) → natural_within 2 7 n ≡ true → spelled (cut (rrr 0 0 3 (five n) 1)) ≡ Some (insn.System (system.Rfi n))
-unfolding spelled all_rows
+rfi : (n : ℤ) → natural_within 2 7 n ≡ true → spelled_insn (four_bit_fields (rrr 0 0 3 (five n) 1)) ≡ Some (insn.System (system.Rfi n))
+unfolding spelled_insn all_rows
 rfi n h =
     let is = level n h in
     tested (ltb 1 (five n % 16) && ltb (five n % 16) 8) (insn.System (system.Rfi (pos (five n % 16)))) (insn.System (system.Rfi n)) (and_from (ltb 1 (five n % 16)) (ltb (five n % 16) 8) (lt-ltb 1 (five n % 16) is.1) (lt-ltb (five n % 16) 8 is.2))
@@ -217,16 +217,16 @@ unfolding can_write
 write_small n h =
     ⊎_elim (λ a. ⊎_elim (λ b. exchange_small n b) (λ e. omega (arith, eqb-true n interrupt e)) (or_cases (can_exchange n) (eqb n interrupt) a)) (λ e. omega (arith, eqb-true n intclear e)) (or_cases (can_exchange n || eqb n interrupt) (eqb n intclear) h)
 
-rsr : (t n : ℕ) → (one_register t && can_read n) ≡ true → spelled (cut (rrr 3 0 (n / 16) n t)) ≡ Some (insn.System (system.Rsr SpecialName.Rsr t n))
-unfolding spelled all_rows
+rsr : (t n : ℕ) → (one_register t && can_read n) ≡ true → spelled_insn (four_bit_fields (rrr 3 0 (n / 16) n t)) ≡ Some (insn.System (system.Rsr SpecialName.Rsr t n))
+unfolding spelled_insn all_rows
 rsr t n h = special_row can_read SpecialName.Rsr t n (read_small n (and_parts (one_register t) (can_read n) h).1) h
 
-wsr : (t n : ℕ) → (one_register t && can_write n) ≡ true → spelled (cut (rrr 3 1 (n / 16) n t)) ≡ Some (insn.System (system.Rsr SpecialName.Wsr t n))
-unfolding spelled all_rows
+wsr : (t n : ℕ) → (one_register t && can_write n) ≡ true → spelled_insn (four_bit_fields (rrr 3 1 (n / 16) n t)) ≡ Some (insn.System (system.Rsr SpecialName.Wsr t n))
+unfolding spelled_insn all_rows
 wsr t n h = special_row can_write SpecialName.Wsr t n (write_small n (and_parts (one_register t) (can_write n) h).1) h
 
-xsr : (t n : ℕ) → (one_register t && can_exchange n) ≡ true → spelled (cut (rrr 1 6 (n / 16) n t)) ≡ Some (insn.System (system.Rsr SpecialName.Xsr t n))
-unfolding spelled all_rows
+xsr : (t n : ℕ) → (one_register t && can_exchange n) ≡ true → spelled_insn (four_bit_fields (rrr 1 6 (n / 16) n t)) ≡ Some (insn.System (system.Rsr SpecialName.Xsr t n))
+unfolding spelled_insn all_rows
 xsr t n h = special_row can_exchange SpecialName.Xsr t n (exchange_small n (and_parts (one_register t) (can_exchange n) h).1) h
 
 user : (f : ℕ → ℕ → Insn) (r n : ℕ) → (one_register r && eqb n threadptr) ≡ true → Some (f (r % 16) threadptr) ≡ Some (f r n)
@@ -265,8 +265,8 @@ waiti_code t n h =
     cc
 
 -- ---- Rows, one for each name.
-three_code : (i : Three) → three_in_range i ≡ true → spelled (cut (three_fields i)) ≡ Some (insn.Three i)
-unfolding spelled all_rows
+three_code : (i : Three) → three_in_range i ≡ true → spelled_insn (four_bit_fields (three_fields i)) ≡ Some (insn.Three i)
+unfolding spelled_insn all_rows
 three_code (three.And AndName.And r s t) h = of_three (λ r s t. insn.Three (three.And AndName.And r s t)) r s t h
 three_code (three.And AndName.Or r s t) h = of_three (λ r s t. insn.Three (three.And AndName.Or r s t)) r s t h
 three_code (three.And AndName.Xor r s t) h = of_three (λ r s t. insn.Three (three.And AndName.Xor r s t)) r s t h
@@ -297,8 +297,8 @@ three_code (three.Moveqz MoveName.Movnez r s t) h = of_three (λ r s t. insn.Thr
 three_code (three.Moveqz MoveName.Movltz r s t) h = of_three (λ r s t. insn.Three (three.Moveqz MoveName.Movltz r s t)) r s t h
 three_code (three.Moveqz MoveName.Movgez r s t) h = of_three (λ r s t. insn.Three (three.Moveqz MoveName.Movgez r s t)) r s t h
 
-shift_code : (i : Shift) → shift_in_range i ≡ true → spelled (cut (shift_fields i)) ≡ Some (insn.Shift i)
-unfolding spelled all_rows
+shift_code : (i : Shift) → shift_in_range i ≡ true → spelled_insn (four_bit_fields (shift_fields i)) ≡ Some (insn.Shift i)
+unfolding spelled_insn all_rows
 shift_code (shift.Neg NegName.Neg r t) h = of_two (λ r t. insn.Shift (shift.Neg NegName.Neg r t)) r t h
 shift_code (shift.Neg NegName.Abs r t) h = of_two (λ r t. insn.Shift (shift.Neg NegName.Abs r t)) r t h
 shift_code (shift.Srl SrlName.Srl r t) h = of_two (λ r t. insn.Shift (shift.Srl SrlName.Srl r t)) r t h
@@ -319,8 +319,8 @@ shift_code (shift.Ssa8l Ssa8Name.Ssa8l s) h = of_one (λ s. insn.Shift (shift.Ss
 shift_code (shift.Ssa8l Ssa8Name.Ssa8b s) h = of_one (λ s. insn.Shift (shift.Ssa8l Ssa8Name.Ssa8b s)) s h
 shift_code (shift.Ssai n) h = ssai n h
 
-memory_code : (i : Memory) → memory_in_range i ≡ true → spelled (cut (memory_fields i)) ≡ Some (insn.Memory i)
-unfolding spelled all_rows
+memory_code : (i : Memory) → memory_in_range i ≡ true → spelled_insn (four_bit_fields (memory_fields i)) ≡ Some (insn.Memory i)
+unfolding spelled_insn all_rows
 memory_code (memory.L8ui ByteName.L8ui t s n) h = of_two_and (λ t s n. insn.Memory (memory.L8ui ByteName.L8ui t s n)) t s (pos (low8 (bits n))) n (natural_within 0 255 n) h (byte n)
 memory_code (memory.L8ui ByteName.S8i t s n) h = of_two_and (λ t s n. insn.Memory (memory.L8ui ByteName.S8i t s n)) t s (pos (low8 (bits n))) n (natural_within 0 255 n) h (byte n)
 memory_code (memory.L16ui HalfName.L16ui t s n) h = of_two_and (λ t s n. insn.Memory (memory.L16ui HalfName.L16ui t s n)) t s (pos (2 * low8 (bits n / 2))) n (multiple_within 2 256 n) h (halves n)
@@ -338,8 +338,8 @@ memory_code (memory.Movi t n) h = of_one_and (λ t n. insn.Memory (memory.Movi t
 memory_code (memory.Addi t s n) h = of_two_and (λ t s n. insn.Memory (memory.Addi t s n)) t s (signed 128 (low8 (bits n))) n (signed_within 128 n) h (near n)
 memory_code (memory.Addmi t s n) h = of_two_and (λ t s n. insn.Memory (memory.Addmi t s n)) t s (signed 32768 (256 * low8 (bits n / 256))) n (page_within n) h (page n)
 
-control_code : (i : Control) → control_in_range i ≡ true → spelled (cut (control_fields i)) ≡ Some (insn.Control i)
-unfolding spelled all_rows
+control_code : (i : Control) → control_in_range i ≡ true → spelled_insn (four_bit_fields (control_fields i)) ≡ Some (insn.Control i)
+unfolding spelled_insn all_rows
 control_code (control.J n) h = jump_code n h
 control_code (control.Call0 CallName.Call0 n) h = call_code CallName.Call0 n h
 control_code (control.Call0 CallName.Call4 n) h = call_code CallName.Call4 n h
@@ -381,8 +381,8 @@ control_code (control.Loop LoopName.Loop s n) h = of_one_and (λ s n. insn.Contr
 control_code (control.Loop LoopName.Loopnez s n) h = of_one_and (λ s n. insn.Control (control.Loop LoopName.Loopnez s n)) s (pos (low8 (bits n))) n (natural_within 0 255 n) h (byte n)
 control_code (control.Loop LoopName.Loopgtz s n) h = of_one_and (λ s n. insn.Control (control.Loop LoopName.Loopgtz s n)) s (pos (low8 (bits n))) n (natural_within 0 255 n) h (byte n)
 
-system_code : (i : System) → system_in_range i ≡ true → spelled (cut (system_fields i)) ≡ Some (insn.System i)
-unfolding spelled all_rows
+system_code : (i : System) → system_in_range i ≡ true → spelled_insn (four_bit_fields (system_fields i)) ≡ Some (insn.System i)
+unfolding spelled_insn all_rows
 system_code (system.Ill SyncName.Ill) h = refl
 system_code (system.Ill SyncName.Isync) h = refl
 system_code (system.Ill SyncName.Rsync) h = refl
@@ -408,8 +408,8 @@ system_code (system.Rsr SpecialName.Xsr t n) h = xsr t n h
 system_code (system.Rur UserName.Rur r n) h = user (λ r n. insn.System (system.Rur UserName.Rur r n)) r n h
 system_code (system.Rur UserName.Wur t n) h = user (λ t n. insn.System (system.Rur UserName.Wur t n)) t n h
 
-density_code : (i : Density) → density_in_range i ≡ true → spelled (cut (density_fields i)) ≡ Some (insn.Density i)
-unfolding spelled all_rows
+density_code : (i : Density) → density_in_range i ≡ true → spelled_insn (four_bit_fields (density_fields i)) ≡ Some (insn.Density i)
+unfolding spelled_insn all_rows
 density_code (density.L32i NarrowName.L32i t s n) h = of_two_and (λ t s n. insn.Density (density.L32i NarrowName.L32i t s n)) t s (pos (4 * (bits n / 4 % 32 % 16))) n (multiple_within 4 16 n) h (narrow_word n)
 density_code (density.L32i NarrowName.S32i t s n) h = of_two_and (λ t s n. insn.Density (density.L32i NarrowName.S32i t s n)) t s (pos (4 * (bits n / 4 % 32 % 16))) n (multiple_within 4 16 n) h (narrow_word n)
 density_code (density.Add r s t) h = of_three (λ r s t. insn.Density (density.Add r s t)) r s t h
@@ -424,8 +424,8 @@ density_code (density.Ret NarrowRetName.Nop) h = refl
 density_code (density.Ret NarrowRetName.Ill) h = refl
 density_code (density.Break n) h = of_number (λ n. insn.Density (density.Break n)) (pos (five n % 16)) n (four_bits n h)
 
-boolean_code : (i : Boolean) → boolean_in_range i ≡ true → spelled (cut (boolean_fields i)) ≡ Some (insn.Boolean i)
-unfolding spelled all_rows
+boolean_code : (i : Boolean) → boolean_in_range i ≡ true → spelled_insn (four_bit_fields (boolean_fields i)) ≡ Some (insn.Boolean i)
+unfolding spelled_insn all_rows
 boolean_code (boolean.Andb LogicName.Andb r s t) h = of_three (λ r s t. insn.Boolean (boolean.Andb LogicName.Andb r s t)) r s t h
 boolean_code (boolean.Andb LogicName.Andbc r s t) h = of_three (λ r s t. insn.Boolean (boolean.Andb LogicName.Andbc r s t)) r s t h
 boolean_code (boolean.Andb LogicName.Orb r s t) h = of_three (λ r s t. insn.Boolean (boolean.Andb LogicName.Orb r s t)) r s t h
@@ -440,7 +440,7 @@ boolean_code (boolean.Bf TestName.Bt s n) h = of_one_and (λ s n. insn.Boolean (
 boolean_code (boolean.Movf ChoiceName.Movf r s t) h = of_three (λ r s t. insn.Boolean (boolean.Movf ChoiceName.Movf r s t)) r s t h
 boolean_code (boolean.Movf ChoiceName.Movt r s t) h = of_three (λ r s t. insn.Boolean (boolean.Movf ChoiceName.Movt r s t)) r s t h
 
-pub code : (i : Insn) → in_range i ≡ true → spelled (fields_from i) ≡ Some i
+pub code : (i : Insn) → in_range i ≡ true → spelled_insn (fields_from i) ≡ Some i
 code (insn.Three i) h = three_code i h
 code (insn.Shift i) h = shift_code i h
 code (insn.Memory i) h = memory_code i h
@@ -449,7 +449,7 @@ code (insn.System i) h = system_code i h
 code (insn.Density i) h = density_code i h
 code (insn.Boolean i) h = boolean_code i h
 
-nibbles : (w : Fields) → AreNibbles (cut w)
+nibbles : (w : Fields) → AreNibbles (four_bit_fields w)
 nibbles w = (
   omega arith,
   omega arith,

@@ -292,8 +292,8 @@ uncut_fields (insn.Density i) = density_fields i
 uncut_fields (insn.Boolean i) = boolean_fields i
 
 -- each field cut to four bits; of a 16-bit word those of the third byte are 0
-abbrev pub cut : Fields → Fields
-cut w =
+abbrev pub four_bit_fields : Fields → Fields
+four_bit_fields w =
     record {
       op0 = w.op0 % 16;
       t = w.t % 16;
@@ -304,4 +304,4 @@ cut w =
     }
 
 abbrev pub fields_from : Insn → Fields
-fields_from i = cut (uncut_fields i)
+fields_from i = four_bit_fields (uncut_fields i)

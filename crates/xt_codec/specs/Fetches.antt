@@ -2,7 +2,7 @@
 -- What a fetch answers, as its definition has it ('profile').
 use Rattle.std.specs.Prelude.{◌≡◌, ℕ, ◌+◌, true}
 use Rattle.xt_isa.specs.Ranges.{in_range}
-use Rattle.xt_isa.specs.Spelling.{spelled, fields_at, length_of}
+use Rattle.xt_isa.specs.Spelling.{spelled_insn, fields_at, length_of}
 use Rattle.xt_fetch.specs.Fetching.{Fetched, Fetches, Fails, SpellsNothing, read_as}
 use Rattle.xt_codec.specs.declared.fetch.Fetch.{Fetch}
 use Rattle.xt_codec.specs.declared.fetch.Fetch.TheVariants as fetch
@@ -22,4 +22,5 @@ IsGoodFetch fetch.Nothing = Unit {0}
 -- what the bytes at an address spell
 abbrev pub read_at : (ℕ → ℕ) → ℕ → Fetched
 read_at code pc =
-    read_as (spelled (fields_at (code pc) (code (pc + 1)) (code (pc + 2)))) (length_of (code pc))
+    read_as (spelled_insn (fields_at (code pc) (code (pc + 1)) (code (pc + 2))))
+    (length_of (code pc))

@@ -1,4 +1,4 @@
-pub mod Answers
+pub mod DecoderAnswers
 pub mod Codes
 pub mod Encoding
 pub mod Fetches

@@ -1,8 +1,8 @@
 //! Jumps, calls, branches and loops.
-#![tactic(auto, unfolding(xt_isa::specs::Spelling::spelled, xt_isa::specs::Spelling::all_rows))]
+#![tactic(auto, unfolding(xt_isa::specs::Spelling::spelled_insn, xt_isa::specs::Spelling::all_rows))]
 
 ghost use Rattle.std.specs.Prelude.{◌≡◌, ℕ, ◌+◌, ◌*◌, ◌%◌, ◌<◌};
-ghost use Rattle.xt_isa.specs.Spelling.{spelled};
+ghost use Rattle.xt_isa.specs.Spelling.{spelled_insn};
 
 use crate::immediate::{b4const, b4constu, imm12, imm18, join_five, join_two, plain, signed};
 use xt_isa::Insn;
@@ -19,7 +19,7 @@ pub fn call(t: u8, s: u8, r: u8, op1: u8, op2: u8) -> Option<Insn>
     requires r { r < 16 }
     requires op1 { op1 < 16 }
     requires op2 { op2 < 16 }
-    ensures { result ≡ spelled (record { op0 = 5; t = t; s = s; r = r; op1 = op1; op2 = op2 }) }
+    ensures { result ≡ spelled_insn (record { op0 = 5; t = t; s = s; r = r; op1 = op1; op2 = op2 }) }
 {
     let offset = signed(524288, 4 * imm18(t, s, r, op1, op2));
     match t {
@@ -38,7 +38,7 @@ pub fn si(t: u8, s: u8, r: u8, op1: u8, op2: u8) -> Option<Insn>
     requires r { r < 16 }
     requires op1 { op1 < 16 }
     requires op2 { op2 < 16 }
-    ensures { result ≡ spelled (record { op0 = 6; t = t; s = s; r = r; op1 = op1; op2 = op2 }) }
+    ensures { result ≡ spelled_insn (record { op0 = 6; t = t; s = s; r = r; op1 = op1; op2 = op2 }) }
 {
     let near = signed(128, join_two(op1, op2) as u32);
     let far = signed(2048, imm12(r, op1, op2));
@@ -87,7 +87,7 @@ pub fn branch(t: u8, s: u8, r: u8, op1: u8, op2: u8) -> Option<Insn>
     requires r { r < 16 }
     requires op1 { op1 < 16 }
     requires op2 { op2 < 16 }
-    ensures { result ≡ spelled (record { op0 = 7; t = t; s = s; r = r; op1 = op1; op2 = op2 }) }
+    ensures { result ≡ spelled_insn (record { op0 = 7; t = t; s = s; r = r; op1 = op1; op2 = op2 }) }
 {
     let near = signed(128, join_two(op1, op2) as u32);
     Some(Insn::Control(match r {

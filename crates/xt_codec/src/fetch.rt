@@ -1,6 +1,6 @@
 ghost use Rattle.std.specs.Prelude.{◌≡◌, ◌+◌, ◌<◌, ◌^◌};
 ghost use Rattle.xt_map.specs.Memory.{constant_byte};
-ghost use Rattle.xt_fetch.specs.Fetching.{fetched};
+ghost use Rattle.xt_fetch.specs.Fetching.{fetch_at};
 ghost use Rattle.xt_codec.specs.Fetches.{IsFetched, IsGoodFetch, read_at};
 
 use crate::{Decoded, decode};
@@ -35,10 +35,10 @@ fn spelled_at<U>(code: &Constants, pc: u32) -> Fetch
 
 /// The instruction at an address of the constant regions, or why there is none. `U` names the
 /// user alone: each has a copy of its own, which can be inlined into its one caller.
-#[tactic(auto, unfolding(xt_fetch::specs::Fetching::fetched))]
+#[tactic(auto, unfolding(xt_fetch::specs::Fetching::fetch_at))]
 #[inline(always)]
 pub fn instruction_at<U>(code: &Constants, pc: u32) -> Fetch
-    ensures fetched { IsFetched result (fetched (constant_byte code.now) pc) }
+    ensures fetched { IsFetched result (fetch_at (constant_byte code.now) pc) }
     ensures good { IsGoodFetch result }
 {
     let fault = if is_inside(pc) {

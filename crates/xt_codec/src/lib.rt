@@ -16,10 +16,10 @@ mod words;
 mod zero;
 
 ghost use Rattle.std.specs.Prelude.{◌≡◌, ◌↔◌, ℕ, ◌+◌, ◌*◌, ◌%◌, ◌<◌, ◌≤◌, ◌⊎◌, IsTrue, true, Some};
-ghost use Rattle.xt_isa.specs.Spelling.{spelled, fields_at};
+ghost use Rattle.xt_isa.specs.Spelling.{spelled_insn, fields_at};
 ghost use Rattle.xt_isa.specs.Ranges.{HasSpelling, in_range};
 ghost use Rattle.xt_codec.specs.Codes.{IsCodeOf};
-ghost use Rattle.xt_codec.specs.Answers.{answer, byte, GoodIsInRange, IsSpellingOf};
+ghost use Rattle.xt_codec.specs.DecoderAnswers.{answer, byte, GoodIsInRange, IsSpellingOf};
 ghost use Rattle.xt_codec.specs.declared.Decoded.TheVariants.{Good};
 
 pub use fetch::{Fetch, instruction_at};
@@ -46,11 +46,11 @@ pub struct Code {
 }
 
 /// Major opcodes that spell nothing.
-#[tactic(auto, unfolding(xt_isa::specs::Spelling::spelled, xt_isa::specs::Spelling::all_rows))]
+#[tactic(auto, unfolding(xt_isa::specs::Spelling::spelled_insn, xt_isa::specs::Spelling::all_rows))]
 #[inline(always)]
 fn empty_group(op0: u8, t: u8, s: u8, r: u8, op1: u8, op2: u8) -> Option<Insn>
     requires op0 { op0 ≡ 3 ⊎ (op0 ≡ 4 ⊎ (13 < op0 × op0 < 16)) }
-    ensures { result ≡ spelled (record { op0 = op0; t = t; s = s; r = r; op1 = op1; op2 = op2 }) }
+    ensures { result ≡ spelled_insn (record { op0 = op0; t = t; s = s; r = r; op1 = op1; op2 = op2 }) }
 {
     // (an arm for each number, since the proof looks the rows through by it)
     match op0 {
@@ -71,7 +71,7 @@ fn insn_at(op0: u8, t: u8, s: u8, r: u8, op1: u8, op2: u8) -> Option<Insn>
     requires r { r < 16 }
     requires op1 { op1 < 16 }
     requires op2 { op2 < 16 }
-    ensures { result ≡ spelled (record { op0 = op0; t = t; s = s; r = r; op1 = op1; op2 = op2 }) }
+    ensures { result ≡ spelled_insn (record { op0 = op0; t = t; s = s; r = r; op1 = op1; op2 = op2 }) }
 {
     match op0 {
         0 => rst::qrst(t, s, r, op1, op2),
@@ -94,7 +94,7 @@ fn insn_at(op0: u8, t: u8, s: u8, r: u8, op1: u8, op2: u8) -> Option<Insn>
 /// third byte plays no part. Illegal exactly where no row of the tables fits, or an operand is outside its row's range.
 #[inline(always)]
 pub fn decode(b0: u8, b1: u8, b2: u8) -> Decoded
-    ensures spelled { result ≡ answer b0 (spelled (fields_at b0 b1 b2)) }
+    ensures spelled { result ≡ answer b0 (spelled_insn (fields_at b0 b1 b2)) }
     ensures fits { GoodIsInRange result }
 {
     let op0 = b0 % 16;

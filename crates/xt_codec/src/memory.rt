@@ -1,8 +1,8 @@
 //! Loads, stores, immediates and loads of literals.
-#![tactic(auto, unfolding(xt_isa::specs::Spelling::spelled, xt_isa::specs::Spelling::all_rows))]
+#![tactic(auto, unfolding(xt_isa::specs::Spelling::spelled_insn, xt_isa::specs::Spelling::all_rows))]
 
 ghost use Rattle.std.specs.Prelude.{◌≡◌, ℕ, ◌+◌, ◌*◌, ◌%◌, ◌<◌};
-ghost use Rattle.xt_isa.specs.Spelling.{spelled};
+ghost use Rattle.xt_isa.specs.Spelling.{spelled_insn};
 
 use crate::immediate::{below, imm16, join_two, plain, signed};
 use xt_isa::Insn;
@@ -16,7 +16,7 @@ pub fn load(t: u8, s: u8, r: u8, op1: u8, op2: u8) -> Option<Insn>
     requires r { r < 16 }
     requires op1 { op1 < 16 }
     requires op2 { op2 < 16 }
-    ensures { result ≡ spelled (record { op0 = 2; t = t; s = s; r = r; op1 = op1; op2 = op2 }) }
+    ensures { result ≡ spelled_insn (record { op0 = 2; t = t; s = s; r = r; op1 = op1; op2 = op2 }) }
 {
     let i = join_two(op1, op2) as u32;
     match r {
@@ -45,7 +45,7 @@ pub fn literal(t: u8, s: u8, r: u8, op1: u8, op2: u8) -> Option<Insn>
     requires r { r < 16 }
     requires op1 { op1 < 16 }
     requires op2 { op2 < 16 }
-    ensures { result ≡ spelled (record { op0 = 1; t = t; s = s; r = r; op1 = op1; op2 = op2 }) }
+    ensures { result ≡ spelled_insn (record { op0 = 1; t = t; s = s; r = r; op1 = op1; op2 = op2 }) }
 {
     Some(Insn::Memory(Memory::L32r(t, below(4 * imm16(s, r, op1, op2), 262144))))
 }

@@ -1,8 +1,8 @@
 //! The 16-bit words.
-#![tactic(auto, unfolding(xt_isa::specs::Spelling::spelled, xt_isa::specs::Spelling::all_rows))]
+#![tactic(auto, unfolding(xt_isa::specs::Spelling::spelled_insn, xt_isa::specs::Spelling::all_rows))]
 
 ghost use Rattle.std.specs.Prelude.{◌≡◌, ℕ, ◌+◌, ◌*◌, ◌%◌, ◌<◌};
-ghost use Rattle.xt_isa.specs.Spelling.{spelled};
+ghost use Rattle.xt_isa.specs.Spelling.{spelled_insn};
 
 use crate::immediate::{minus_one_or, narrow_constant, plain};
 use xt_isa::Insn;
@@ -16,7 +16,7 @@ pub fn constant(t: u8, s: u8, r: u8, op1: u8, op2: u8) -> Option<Insn>
     requires r { r < 16 }
     requires op1 { op1 < 16 }
     requires op2 { op2 < 16 }
-    ensures { result ≡ spelled (record { op0 = 12; t = t; s = s; r = r; op1 = op1; op2 = op2 }) }
+    ensures { result ≡ spelled_insn (record { op0 = 12; t = t; s = s; r = r; op1 = op1; op2 = op2 }) }
 {
     match t {
         0..=7 => Some(Insn::Density(Density::Movi(
@@ -44,7 +44,7 @@ pub fn narrow_system(t: u8, s: u8, r: u8, op1: u8, op2: u8) -> Option<Insn>
     requires r { r < 16 }
     requires op1 { op1 < 16 }
     requires op2 { op2 < 16 }
-    ensures { result ≡ spelled (record { op0 = 13; t = t; s = s; r = r; op1 = op1; op2 = op2 }) }
+    ensures { result ≡ spelled_insn (record { op0 = 13; t = t; s = s; r = r; op1 = op1; op2 = op2 }) }
 {
     match (r, t, s) {
         (0, _, _) => Some(Insn::Density(Density::Mov(t, s))),
@@ -65,7 +65,7 @@ pub fn load(t: u8, s: u8, r: u8, op1: u8, op2: u8) -> Option<Insn>
     requires r { r < 16 }
     requires op1 { op1 < 16 }
     requires op2 { op2 < 16 }
-    ensures { result ≡ spelled (record { op0 = 8; t = t; s = s; r = r; op1 = op1; op2 = op2 }) }
+    ensures { result ≡ spelled_insn (record { op0 = 8; t = t; s = s; r = r; op1 = op1; op2 = op2 }) }
 {
     Some(Insn::Density(Density::L32i(NarrowName::L32i, t, s, plain(4 * r as u32))))
 }
@@ -78,7 +78,7 @@ pub fn store(t: u8, s: u8, r: u8, op1: u8, op2: u8) -> Option<Insn>
     requires r { r < 16 }
     requires op1 { op1 < 16 }
     requires op2 { op2 < 16 }
-    ensures { result ≡ spelled (record { op0 = 9; t = t; s = s; r = r; op1 = op1; op2 = op2 }) }
+    ensures { result ≡ spelled_insn (record { op0 = 9; t = t; s = s; r = r; op1 = op1; op2 = op2 }) }
 {
     Some(Insn::Density(Density::L32i(NarrowName::S32i, t, s, plain(4 * r as u32))))
 }
@@ -91,7 +91,7 @@ pub fn add(t: u8, s: u8, r: u8, op1: u8, op2: u8) -> Option<Insn>
     requires r { r < 16 }
     requires op1 { op1 < 16 }
     requires op2 { op2 < 16 }
-    ensures { result ≡ spelled (record { op0 = 10; t = t; s = s; r = r; op1 = op1; op2 = op2 }) }
+    ensures { result ≡ spelled_insn (record { op0 = 10; t = t; s = s; r = r; op1 = op1; op2 = op2 }) }
 {
     Some(Insn::Density(Density::Add(r, s, t)))
 }
@@ -104,7 +104,7 @@ pub fn add_constant(t: u8, s: u8, r: u8, op1: u8, op2: u8) -> Option<Insn>
     requires r { r < 16 }
     requires op1 { op1 < 16 }
     requires op2 { op2 < 16 }
-    ensures { result ≡ spelled (record { op0 = 11; t = t; s = s; r = r; op1 = op1; op2 = op2 }) }
+    ensures { result ≡ spelled_insn (record { op0 = 11; t = t; s = s; r = r; op1 = op1; op2 = op2 }) }
 {
     Some(Insn::Density(Density::Addi(r, s, minus_one_or(t))))
 }

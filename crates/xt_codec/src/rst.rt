@@ -1,8 +1,8 @@
 //! The words with three registers, by their minor operation codes.
-#![tactic(auto, unfolding(xt_isa::specs::Spelling::spelled, xt_isa::specs::Spelling::all_rows))]
+#![tactic(auto, unfolding(xt_isa::specs::Spelling::spelled_insn, xt_isa::specs::Spelling::all_rows))]
 
 ghost use Rattle.std.specs.Prelude.{◌≡◌, ℕ, ◌+◌, ◌*◌, ◌%◌, ◌<◌, ◌≤◌, ◌⊎◌};
-ghost use Rattle.xt_isa.specs.Spelling.{spelled};
+ghost use Rattle.xt_isa.specs.Spelling.{spelled_insn};
 
 use crate::immediate::{below, join_five, join_two, plain};
 use xt_isa::boolean::{Boolean, ChoiceName, LogicName};
@@ -22,7 +22,7 @@ fn slli(t: u8, s: u8, r: u8, op2: u8) -> Option<Insn>
     requires s { s < 16 }
     requires r { r < 16 }
     requires op2 { op2 < 2 }
-    ensures { result ≡ spelled (record { op0 = 0; t = t; s = s; r = r; op1 = 1; op2 = op2 }) }
+    ensures { result ≡ spelled_insn (record { op0 = 0; t = t; s = s; r = r; op1 = 1; op2 = op2 }) }
 {
     let amount = join_five(t, op2);
     if amount == 0 {
@@ -39,7 +39,7 @@ pub fn rst1(t: u8, s: u8, r: u8, op2: u8) -> Option<Insn>
     requires s { s < 16 }
     requires r { r < 16 }
     requires op2 { op2 < 16 }
-    ensures { result ≡ spelled (record { op0 = 0; t = t; s = s; r = r; op1 = 1; op2 = op2 }) }
+    ensures { result ≡ spelled_insn (record { op0 = 0; t = t; s = s; r = r; op1 = 1; op2 = op2 }) }
 {
     match op2 {
         0 | 1 => slli(t, s, r, op2),
@@ -88,7 +88,7 @@ pub fn rst2(t: u8, s: u8, r: u8, op2: u8) -> Option<Insn>
     requires s { s < 16 }
     requires r { r < 16 }
     requires op2 { op2 < 16 }
-    ensures { result ≡ spelled (record { op0 = 0; t = t; s = s; r = r; op1 = 2; op2 = op2 }) }
+    ensures { result ≡ spelled_insn (record { op0 = 0; t = t; s = s; r = r; op1 = 2; op2 = op2 }) }
 {
     match op2 {
         0 => Some(Insn::Boolean(Boolean::Andb(LogicName::Andb, r, s, t))),
@@ -114,7 +114,7 @@ pub fn rst3(t: u8, s: u8, r: u8, op2: u8) -> Option<Insn>
     requires s { s < 16 }
     requires r { r < 16 }
     requires op2 { op2 < 16 }
-    ensures { result ≡ spelled (record { op0 = 0; t = t; s = s; r = r; op1 = 3; op2 = op2 }) }
+    ensures { result ≡ spelled_insn (record { op0 = 0; t = t; s = s; r = r; op1 = 3; op2 = op2 }) }
 {
     match op2 {
         0 => {
@@ -170,7 +170,7 @@ pub fn rst0(t: u8, s: u8, r: u8, op2: u8) -> Option<Insn>
     requires s { s < 16 }
     requires r { r < 16 }
     requires op2 { op2 < 16 }
-    ensures { result ≡ spelled (record { op0 = 0; t = t; s = s; r = r; op1 = 0; op2 = op2 }) }
+    ensures { result ≡ spelled_insn (record { op0 = 0; t = t; s = s; r = r; op1 = 0; op2 = op2 }) }
 {
     match op2 {
         0 => crate::zero::st0(t, s, r),
@@ -200,7 +200,7 @@ fn extui(t: u8, s: u8, r: u8, op1: u8, op2: u8) -> Option<Insn>
     requires low { 4 ≤ op1 }
     requires high { op1 < 6 }
     requires op2 { op2 < 16 }
-    ensures { result ≡ spelled (record { op0 = 0; t = t; s = s; r = r; op1 = op1; op2 = op2 }) }
+    ensures { result ≡ spelled_insn (record { op0 = 0; t = t; s = s; r = r; op1 = op1; op2 = op2 }) }
 {
     let shift = plain(join_five(s, op1) as u32);
     let width = plain(op2 as u32 + 1);
@@ -219,7 +219,7 @@ fn window(t: u8, s: u8, r: u8, op2: u8) -> Option<Insn>
     requires s { s < 16 }
     requires r { r < 16 }
     requires op2 { op2 < 16 }
-    ensures { result ≡ spelled (record { op0 = 0; t = t; s = s; r = r; op1 = 9; op2 = op2 }) }
+    ensures { result ≡ spelled_insn (record { op0 = 0; t = t; s = s; r = r; op1 = 9; op2 = op2 }) }
 {
     match op2 {
         0 => Some(Insn::Memory(Memory::L32e(WindowName::L32e, t, s, below(4 * r as u32, 64)))),
@@ -233,7 +233,7 @@ fn window(t: u8, s: u8, r: u8, op2: u8) -> Option<Insn>
 fn empty_group(t: u8, s: u8, r: u8, op1: u8, op2: u8) -> Option<Insn>
     requires op1 { op1 ≡ 6 ⊎ (op1 ≡ 7 ⊎ (op1 ≡ 8 ⊎ (9 < op1 × op1 < 16))) }
     requires op2 { op2 < 16 }
-    ensures { result ≡ spelled (record { op0 = 0; t = t; s = s; r = r; op1 = op1; op2 = op2 }) }
+    ensures { result ≡ spelled_insn (record { op0 = 0; t = t; s = s; r = r; op1 = op1; op2 = op2 }) }
 {
     match op1 {
         6 | 7 | 8 | 10 | 11 | 12 | 13 | 14 | 15 => None,
@@ -250,7 +250,7 @@ pub fn qrst(t: u8, s: u8, r: u8, op1: u8, op2: u8) -> Option<Insn>
     requires r { r < 16 }
     requires op1 { op1 < 16 }
     requires op2 { op2 < 16 }
-    ensures { result ≡ spelled (record { op0 = 0; t = t; s = s; r = r; op1 = op1; op2 = op2 }) }
+    ensures { result ≡ spelled_insn (record { op0 = 0; t = t; s = s; r = r; op1 = op1; op2 = op2 }) }
 {
     match op1 {
         0 => rst0(t, s, r, op2),

@@ -1,9 +1,9 @@
 //! The words whose minor operation codes are 0.
-#![tactic(auto, unfolding(xt_isa::specs::Spelling::spelled, xt_isa::specs::Spelling::all_rows))]
+#![tactic(auto, unfolding(xt_isa::specs::Spelling::spelled_insn, xt_isa::specs::Spelling::all_rows))]
 
 ghost use Rattle.std.specs.Prelude.{◌≡◌, ℕ, ◌+◌, ◌*◌, ◌%◌, ◌<◌, ◌==◌, Some, None};
 ghost use Rattle.std.specs.Prelude.{if◌then◌else◌};
-ghost use Rattle.xt_isa.specs.Spelling.{spelled};
+ghost use Rattle.xt_isa.specs.Spelling.{spelled_insn};
 ghost use Rattle.xt_isa.specs.declared.Insn.TheVariants as insn;
 
 use crate::immediate::{join_five, plain, signed};
@@ -18,7 +18,7 @@ use xt_isa::system::{BreakName, LevelName, ReturnName, SyncName, System, WaitNam
 fn snm0(t: u8, s: u8) -> Option<Insn>
     requires t { t < 16 }
     requires s { s < 16 }
-    ensures { result ≡ spelled (record { op0 = 0; t = t; s = s; r = 0; op1 = 0; op2 = 0 }) }
+    ensures { result ≡ spelled_insn (record { op0 = 0; t = t; s = s; r = 0; op1 = 0; op2 = 0 }) }
 {
     match (t, s) {
         (0, 0) => Some(Insn::System(System::Ill(SyncName::Ill))),
@@ -38,7 +38,7 @@ fn snm0(t: u8, s: u8) -> Option<Insn>
 fn sync(t: u8, s: u8) -> Option<Insn>
     requires t { t < 16 }
     requires s { s < 16 }
-    ensures { result ≡ spelled (record { op0 = 0; t = t; s = s; r = 2; op1 = 0; op2 = 0 }) }
+    ensures { result ≡ spelled_insn (record { op0 = 0; t = t; s = s; r = 2; op1 = 0; op2 = 0 }) }
 {
     if s != 0 {
         return None;
@@ -61,7 +61,7 @@ fn sync(t: u8, s: u8) -> Option<Insn>
 fn rfei(t: u8, s: u8) -> Option<Insn>
     requires t { t < 16 }
     requires s { s < 16 }
-    ensures { result ≡ spelled (record { op0 = 0; t = t; s = s; r = 3; op1 = 0; op2 = 0 }) }
+    ensures { result ≡ spelled_insn (record { op0 = 0; t = t; s = s; r = 3; op1 = 0; op2 = 0 }) }
 {
     match t {
         0 => match s {
@@ -102,7 +102,7 @@ pub fn st0(t: u8, s: u8, r: u8) -> Option<Insn>
     requires t { t < 16 }
     requires s { s < 16 }
     requires r { r < 16 }
-    ensures { result ≡ spelled (record { op0 = 0; t = t; s = s; r = r; op1 = 0; op2 = 0 }) }
+    ensures { result ≡ spelled_insn (record { op0 = 0; t = t; s = s; r = r; op1 = 0; op2 = 0 }) }
 {
     match r {
         0 => snm0(t, s),
@@ -139,7 +139,7 @@ pub fn st1(t: u8, s: u8, r: u8) -> Option<Insn>
     requires t { t < 16 }
     requires s { s < 16 }
     requires r { r < 16 }
-    ensures { result ≡ spelled (record { op0 = 0; t = t; s = s; r = r; op1 = 0; op2 = 4 }) }
+    ensures { result ≡ spelled_insn (record { op0 = 0; t = t; s = s; r = r; op1 = 0; op2 = 4 }) }
 {
     match (r, t) {
         (0, 0) => Some(Insn::Shift(Shift::Ssr(SsrName::Ssr, s))),
@@ -166,7 +166,7 @@ pub fn rt0(t: u8, s: u8, r: u8) -> Option<Insn>
     requires t { t < 16 }
     requires s { s < 16 }
     requires r { r < 16 }
-    ensures { result ≡ spelled (record { op0 = 0; t = t; s = s; r = r; op1 = 0; op2 = 6 }) }
+    ensures { result ≡ spelled_insn (record { op0 = 0; t = t; s = s; r = r; op1 = 0; op2 = 6 }) }
 {
     match s {
         0 => Some(Insn::Shift(Shift::Neg(NegName::Neg, r, t))),

@@ -5,13 +5,13 @@ use Rattle.std.proofs.lemmas.List.{drop_all}
 use Rattle.std.proofs.lemmas.Str.Pattern.{IsSplitOnceResult, split_once_first}
 use Rattle.std.specs.List.{position_or_len, before_first, after_first}
 use Rattle.xt_command_line.specs.Numbers.{number_of}
-use Rattle.xt_command_line.specs.Options.{between, colon, range_of}
+use Rattle.xt_command_line.specs.Options.{stack_between, colon, range_of}
 
 no_number : number_of [] ≡ None
 unfolding number_of
 no_number = refl
 
-no_high : (lo : Option ℕ) → between lo None ≡ None
+no_high : (lo : Option ℕ) → stack_between lo None ≡ None
 no_high None = refl
 no_high (Some n) = refl
 
@@ -22,12 +22,12 @@ without_colon text none =
     rw (rest, no_number) (sym (no_high _))
 
 with_colon : (text lo hi : List ℕ) → lo ≡ before_first (λ b. b == colon) text → hi ≡ after_first (λ b. b == colon) text
-    → between (number_of lo) (number_of hi) ≡ range_of text
+    → stack_between (number_of lo) (number_of hi) ≡ range_of text
 unfolding range_of
 with_colon text lo hi e f = rw (e, f) refl
 
 pub some_range : (text : List ℕ) (r : Option (Bor (List ℕ) × Bor (List ℕ))) → IsSplitOnceResult colon text r → (x : Bor (List ℕ) × Bor (List ℕ)) → r ≡ Some x
-    → between (number_of x.0.now) (number_of x.1.now) ≡ range_of text
+    → stack_between (number_of x.0.now) (number_of x.1.now) ≡ range_of text
 some_range text r split x is = let (inside, front, back) = rw is at (split_once_first colon text r split (omega arith)) in with_colon text x.0.now x.1.now front back
 
 pub no_range : (text : List ℕ) (r : Option (Bor (List ℕ) × Bor (List ℕ))) → IsSplitOnceResult colon text r → r ≡ None → None ≡ range_of text

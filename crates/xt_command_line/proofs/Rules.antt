@@ -6,19 +6,19 @@ use Rattle.clap.specs.Words.{Row, Text, first_of}
 use Rattle.xt_map.specs.Regions.{region_of, is_executable}
 use Rattle.xt_trace.specs.Validity.{IsValid, IsValidStack, most_turns}
 use Rattle.xt_trace.specs.declared.options.Stack.{Stack}
-use Rattle.xt_command_line.specs.Options.{AcceptsValid, OptionsNeedNoMemory, Texts, by_rows, first_broken, is_entry, is_set, is_stack, judged, judged_texts, judged_with, options_in, record_app, record_options_of, run_app, run_options_of, said_or, texts_of, unless_broken}
+use Rattle.xt_command_line.specs.Options.{AcceptsValid, OptionsNeedNoMemory, Texts, by_rows, first_broken, is_entry, is_set, is_stack, options_or_refusal, judged_texts, judged_with, options_in, record_app, record_options_of, run_app, run_options_of, said_or, texts_of, unless_broken}
 use Rattle.xt_command_line.specs.Arguments.{check_app, gen_app, generator_number_of, judged_number, judged_vecbase, number_by, number_in, rigor_by, rigor_of, uses_app, vecbase_by, vecbase_of}
-use Rattle.xt_command_line.specs.Turns.{chosen, core_of, trace_app, turns_by, turns_of}
-use Rattle.xt_command_line.specs.Answers.{answer_with}
+use Rattle.xt_command_line.specs.Turns.{chosen_turns, core_of, trace_app, turns_by, turns_of}
+use Rattle.xt_command_line.specs.MeaningAnswers.{answer_with}
 use Rattle.xt_command_line.specs.declared.command.Rigor.TheVariants as rigor
 use Rattle.xt_command_line.specs.Depths.{judged_depth, profile_app, profile_options_by, profile_options_of}
 use Rattle.xt_command_line.specs.Listings.{dis_app, judged_openings, listing_by, listing_of, listing_with, openings_in, way_in}
 use Rattle.xt_command_line.specs.Outcomes.{outcomes_app, outcomes_by, outcomes_of, outcomes_with, places_of, states_of, word_texts}
 use Rattle.xt_command_line.specs.declared.outcomes.OutcomeOptions.{OutcomeOptions}
-use Rattle.xt_command_line.specs.Meaning.{NeedsNoMemory, meaning_by, named, without_options}
+use Rattle.xt_command_line.specs.Meaning.{NeedsNoMemory, meaning_by, command_named, without_options}
 use Rattle.xt_command_line.specs.Numbers.{number_of}
 use Rattle.xt_command_line.specs.Simple.{rows_by}
-use Rattle.xt_command_line.specs.TurnOrders.{is_short, listed, order_in, seeded, turns_in}
+use Rattle.xt_command_line.specs.TurnOrders.{is_short, listed_order, order_in, order_of_seed, turns_in}
 use Rattle.xt_command_line.specs.Requirements as requirements
 use Rattle.xt_command_line.specs.Requirements.{required_in, requirements_in}
 use Rattle.xt_command_line.specs.Spans as spans
@@ -44,15 +44,15 @@ unless_broken-answers : {A : Type 0} (rule : Option ℕ) (o : A) → unless_brok
 unless_broken-answers None o = λ e. search (rules, e)
 unless_broken-answers (Some rule) o = λ e. search (rules, e)
 
-judged-answers : (o : Option RunOptions) → judged o ≢ Err refusal.Memory
+judged-answers : (o : Option RunOptions) → options_or_refusal o ≢ Err refusal.Memory
 judged-answers None = λ e. search (rules, e)
 judged-answers (Some o) = unless_broken-answers _ o
 
-or-answers : (seed : Option ℕ) → seeded seed ≢ Err refusal.Memory
+or-answers : (seed : Option ℕ) → order_of_seed seed ≢ Err refusal.Memory
 or-answers None = λ e. search (rules, e)
 or-answers (Some n) = λ e. search (rules, e)
 
-listed-answers : (list : Option (List CoreTurns)) → listed list ≢ Err refusal.Memory
+listed-answers : (list : Option (List CoreTurns)) → listed_order list ≢ Err refusal.Memory
 listed-answers None = λ e. search (rules, e)
 listed-answers (Some list) = λ e. search (rules, e)
 
@@ -62,7 +62,7 @@ order-answers (Some seed) None = or-answers (number_of seed)
 order-answers None (Some list) = listed-answers (turns_in list)
 order-answers (Some seed) (Some list) = λ e. search (rules, e)
 
-some_required-answers : (list : Option (List Requirement)) → requirements.listed list ≢ Err refusal.Memory
+some_required-answers : (list : Option (List Requirement)) → requirements.requirements_or_refusal list ≢ Err refusal.Memory
 some_required-answers None = λ e. search (rules, e)
 some_required-answers (Some list) = λ e. search (rules, e)
 
@@ -70,7 +70,7 @@ required-answers : (text : Option Text) → required_in text ≢ Err refusal.Mem
 required-answers None = λ e. search (rules, e)
 required-answers (Some text) = some_required-answers (requirements_in text)
 
-some_shown-answers : (list : Option (List Span)) → spans.listed list ≢ Err refusal.Memory
+some_shown-answers : (list : Option (List Span)) → spans.spans_or_refusal list ≢ Err refusal.Memory
 some_shown-answers None = λ e. search (rules, e)
 some_shown-answers (Some list) = λ e. search (rules, e)
 
@@ -114,7 +114,7 @@ number_by-answers : (rows : Option (List Row)) → number_by rows ≢ Err refusa
 number_by-answers None = λ e. search (rules, e)
 number_by-answers (Some rows) = judged_number-answers (number_in (first_of (codes "number") rows))
 
-chosen-answers : (from to : Option ℕ) (core : Option (Option ℕ)) (accesses jumps : Bool) → chosen from to core accesses jumps ≢ Err refusal.Memory
+chosen-answers : (from to : Option ℕ) (core : Option (Option ℕ)) (accesses jumps : Bool) → chosen_turns from to core accesses jumps ≢ Err refusal.Memory
 chosen-answers None to core accesses jumps = λ e. search (rules, e)
 chosen-answers (Some from) None core accesses jumps = λ e. search (rules, e)
 chosen-answers (Some from) (Some to) None accesses jumps = λ e. search (rules, e)
@@ -189,7 +189,7 @@ without_options-answers : (c : Command) (rows : Option (List Row)) → without_o
 without_options-answers c None = λ e. search (rules, e)
 without_options-answers c (Some rows) = λ e. search (rules, e)
 
-meaning_by-answers : (named : Option Name) (words : List Text) → meaning_by named words ≢ Err refusal.Memory
+meaning_by-answers : (command_named : Option Name) (words : List Text) → meaning_by command_named words ≢ Err refusal.Memory
 meaning_by-answers None words = λ e. search (rules, e)
 meaning_by-answers (Some name.Assemble) words = without_options-answers _ _
 meaning_by-answers (Some name.Convert) words = without_options-answers _ _
@@ -211,7 +211,7 @@ meaning_by-answers (Some name.Generate) words = answer_with-answers command.Gene
 
 pub meaning_needs_none : NeedsNoMemory
 meaning_needs_none [] = λ e. search (rules, e)
-meaning_needs_none (word ∷ rest) = meaning_by-answers (named word) (word ∷ rest)
+meaning_needs_none (word ∷ rest) = meaning_by-answers (command_named word) (word ∷ rest)
 
 -- ---- valid options
 

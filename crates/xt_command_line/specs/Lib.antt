@@ -1,6 +1,6 @@
 pub mod Numbers
 pub mod Simple
-pub mod Answers
+pub mod MeaningAnswers
 pub mod TurnOrders
 pub mod Requirements
 pub mod Spans

@@ -4,7 +4,7 @@
 use Rattle.std.specs.Prelude.{◌≡◌, ℕ, ◌%◌, Bool, true, false, ◌==◌, List, [], ◌∷◌, Option, Some}
 use Rattle.std.specs.Prelude.{None, Result, Ok, Err, codes}
 use Rattle.clap.specs.Words.{App, Row, Text, first_of, new_app}
-use Rattle.xt_command_line.specs.Answers.{answer_with}
+use Rattle.xt_command_line.specs.MeaningAnswers.{answer_with}
 use Rattle.xt_command_line.specs.Arguments.{IsVecbase}
 use Rattle.xt_command_line.specs.Numbers.{number_of}
 use Rattle.xt_command_line.specs.Options.{first_broken, given_number_of, is_entry, is_set}
@@ -30,16 +30,16 @@ dis_app =
     (codes "data")
 
 -- the openings of these numbers, where each is there
-abbrev pub opened : Option ℕ → Option (Option ℕ) → Option (List ℕ) → Option Openings
-opened (Some vecbase) (Some entry1) (Some roots) =
+abbrev pub openings_from : Option ℕ → Option (Option ℕ) → Option (List ℕ) → Option Openings
+openings_from (Some vecbase) (Some entry1) (Some roots) =
     Some (record { vecbase = vecbase; entry1 = entry1; roots = roots })
-opened _ _ _ = None
+openings_from _ _ _ = None
 
 -- the openings that the texts of `--vecbase` and `--entry1` say, each with its default, with these
 -- roots, or none where a text is no number or there are no roots
 abbrev pub openings_with : Option Text → Option Text → Option (List ℕ) → Option Openings
 openings_with vecbase entry1 roots =
-    opened (said_or number_of 0x40080000 vecbase) (said_or given_number_of None entry1) roots
+    openings_from (said_or number_of 0x40080000 vecbase) (said_or given_number_of None entry1) roots
 
 -- the same with the roots that the text of `--roots` says, none without it
 abbrev pub openings_in : Option Text → Option Text → Option Text → Option Openings

@@ -5,7 +5,7 @@ use Rattle.std.specs.Prelude.{if◌then◌else◌, codes}
 use Rattle.std.specs.Str.{bytes_eq}
 use Rattle.clap.specs.Words.{Row, Text, new_app}
 use Rattle.xt_command_line.specs.Simple.{rows_by}
-use Rattle.xt_command_line.specs.Answers.{answer_with}
+use Rattle.xt_command_line.specs.MeaningAnswers.{answer_with}
 use Rattle.xt_command_line.specs.Options.{AreValid, record_options_of, run_options_of}
 use Rattle.xt_command_line.specs.Arguments.{IsVecbase, generator_number_of, rigor_of, vecbase_of}
 use Rattle.xt_command_line.specs.Turns.{turns_of}
@@ -46,8 +46,8 @@ name_in [] word = None
 name_in (n ∷ rest) word = if bytes_eq word n.0 then Some n.1 else name_in rest word
 
 -- the command that a word names
-unfoldable pub named : Text → Option Name
-named word = name_in names word
+unfoldable pub command_named : Text → Option Name
+command_named word = name_in names word
 
 -- a command that takes no option, by what its simple command matches
 abbrev pub without_options : Command → Option (List Row) → Result Command Refusal
@@ -113,7 +113,7 @@ meaning_by (Some name.Generate) words = gen_meaning_of words
 -- are judged by themselves
 abbrev pub meaning_of : List Text → Result Command Refusal
 meaning_of [] = Err (refusal.Usage 1)
-meaning_of (word ∷ rest) = meaning_by (named word) (word ∷ rest)
+meaning_of (word ∷ rest) = meaning_by (command_named word) (word ∷ rest)
 
 -- the options of a command are valid for a run, or for a listing, and its VECBASE is one
 abbrev pub HasValidOptions : Command → Type 0
@@ -147,7 +147,7 @@ TakesMemory _ = ⊥
 -- the first word names a command whose words are read with memory
 abbrev pub MayWantMemory : List Text → Type 0
 MayWantMemory [] = ⊥
-MayWantMemory (word ∷ rest) = TakesMemory (named word)
+MayWantMemory (word ∷ rest) = TakesMemory (command_named word)
 
 -- the meaning of words is never that memory ran out
 abbrev pub NeedsNoMemory : Type 0

@@ -122,14 +122,14 @@ texts_of rows = record {
 abbrev pub colon : ℕ
 colon = 58
 
-abbrev pub between : Option ℕ → Option ℕ → Option Stack
-between (Some lo) (Some hi) = Some (record { lo = lo; hi = hi })
-between _ _ = None
+abbrev pub stack_between : Option ℕ → Option ℕ → Option Stack
+stack_between (Some lo) (Some hi) = Some (record { lo = lo; hi = hi })
+stack_between _ _ = None
 
 -- the range that `LO:HI` says: the numbers before and after the first colon
 unfoldable pub range_of : Text → Option Stack
 range_of text =
-    between
+    stack_between
     (number_of (before_first (λ b. b == colon) text))
     (number_of (after_first (λ b. b == colon) text))
 
@@ -144,10 +144,10 @@ given_number_of text = option_map Some (number_of text)
 
 -- the options of these numbers and ranges, where each is there, with this order, these requirements
 -- and these words of memory, and with the flags as they were given
-abbrev pub made :
+abbrev pub options_from :
     Texts → TurnOrder → Option (List Requirement) → Option (List Span) → Option ℕ → Option ℕ
     → Option (Option ℕ) → Option ℕ → Option Stack → Option Stack → Option RunOptions
-made
+options_from
     t order required memory (Some turns0) (Some turns1) (Some entry1) (Some vecbase)
     (Some stack0) (Some stack1) =
     Some (record {
@@ -166,13 +166,13 @@ made
       required = required;
       memory = memory;
     })
-made t order required memory _ _ _ _ _ _ = None
+options_from t order required memory _ _ _ _ _ _ = None
 
 -- the options that the texts say, each with its default, and with these, or none where a text is no
 -- number or no range
 abbrev pub options_in :
     Texts → TurnOrder → Option (List Requirement) → Option (List Span) → Option RunOptions
-options_in t order required memory = made t order required memory
+options_in t order required memory = options_from t order required memory
     (said_or number_of 100000 t.turns0)
     (said_or number_of 100000 t.turns1)
     (said_or given_number_of None t.entry1)
@@ -211,12 +211,12 @@ abbrev pub unless_broken : {A : Type 0} → Option ℕ → A → Result A Refusa
 unless_broken None answer = Ok answer
 unless_broken (Some rule) answer = Err (refusal.Usage rule)
 
-abbrev pub checked : RunOptions → Result RunOptions Refusal
-checked o = unless_broken (first_broken (limits o)) o
+abbrev pub within_limits : RunOptions → Result RunOptions Refusal
+within_limits o = unless_broken (first_broken (limits o)) o
 
-abbrev pub judged : Option RunOptions → Result RunOptions Refusal
-judged None = Err (refusal.Usage 4)
-judged (Some o) = checked o
+abbrev pub options_or_refusal : Option RunOptions → Result RunOptions Refusal
+options_or_refusal None = Err (refusal.Usage 4)
+options_or_refusal (Some o) = within_limits o
 
 -- the options that the texts say with the lists that they say, or the first rule of usage that they
 -- break
@@ -226,7 +226,8 @@ abbrev pub judged_with :
 judged_with t (Err r) required memory = Err r
 judged_with t (Ok order) (Err r) memory = Err r
 judged_with t (Ok order) (Ok required) (Err r) = Err r
-judged_with t (Ok order) (Ok required) (Ok memory) = judged (options_in t order required memory)
+judged_with t (Ok order) (Ok required) (Ok memory) =
+    options_or_refusal (options_in t order required memory)
 
 abbrev pub judged_texts : Texts → Result RunOptions Refusal
 judged_texts t =
@@ -273,4 +274,4 @@ OptionsNeedNoMemory =
 
 -- valid options with an order that does not ask for too many turns keep every rule
 abbrev pub AcceptsValid : Type 0
-AcceptsValid = (o : RunOptions) → AreValid o → is_short o.order ≡ true → checked o ≡ Ok o
+AcceptsValid = (o : RunOptions) → AreValid o → is_short o.order ≡ true → within_limits o ≡ Ok o

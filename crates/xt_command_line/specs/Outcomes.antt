@@ -43,11 +43,11 @@ abbrev pub is_place : ℕ → Bool
 is_place address = is_memory (region_of address) && address % 4 == 0
 
 -- a number that passes a test
-abbrev pub passed : (ℕ → Bool) → Option ℕ → Option ℕ
-passed test number = option_and_then (λ n. if test n then Some n else None) number
+abbrev pub number_passing : (ℕ → Bool) → Option ℕ → Option ℕ
+number_passing test number = option_and_then (λ n. if test n then Some n else None) number
 
 unfoldable pub place_of : Text → Option ℕ
-place_of text = passed is_place (number_of text)
+place_of text = number_passing is_place (number_of text)
 
 -- the addresses of these texts, where each says one
 abbrev pub places_of : List Text → Option (List ℕ)
@@ -66,7 +66,7 @@ abbrev pub is_count : ℕ → Bool
 is_count n = nat_le 1 n && nat_le n most_states
 
 abbrev pub states_of : Text → Option ℕ
-states_of text = passed is_count (number_of text)
+states_of text = number_passing is_count (number_of text)
 
 -- ---- the options
 

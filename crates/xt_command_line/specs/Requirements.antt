@@ -29,25 +29,26 @@ abbrev pub is_among : Requirement → List Requirement → Bool
 is_among r list = list_any (λ one. number_of_requirement one == number_of_requirement r) list
 
 -- one more requirement, if there is one, and it does not stand among the others
-abbrev pub added : List Requirement → Option Requirement → Option (List Requirement)
-added list None = None
-added list (Some r) = if is_among r list then None else Some (list ++ (r ∷ []))
+abbrev pub with_requirement : List Requirement → Option Requirement → Option (List Requirement)
+with_requirement list None = None
+with_requirement list (Some r) = if is_among r list then None else Some (list ++ (r ∷ []))
 
 -- these requirements, and those that the texts name: each names one that does not stand before it
 abbrev pub all_from : Option (List Requirement) → List Text → Option (List Requirement)
 all_from list [] = list
 all_from None (text ∷ texts) = None
-all_from (Some list) (text ∷ texts) = all_from (added list (requirement_of text)) texts
+all_from (Some list) (text ∷ texts) = all_from (with_requirement list (requirement_of text)) texts
 
 -- the requirements that a text lists, with commas between them
 abbrev pub requirements_in : Text → Option (List Requirement)
 requirements_in text = all_from (Some []) (slice_split (λ b. b == comma) text)
 
-abbrev pub listed : Option (List Requirement) → Result (Option (List Requirement)) Refusal
-listed None = Err (refusal.Usage 4)
-listed (Some list) = Ok (Some list)
+abbrev pub requirements_or_refusal :
+    Option (List Requirement) → Result (Option (List Requirement)) Refusal
+requirements_or_refusal None = Err (refusal.Usage 4)
+requirements_or_refusal (Some list) = Ok (Some list)
 
 -- by the text of `--require`
 abbrev pub required_in : Option Text → Result (Option (List Requirement)) Refusal
 required_in None = Ok None
-required_in (Some text) = listed (requirements_in text)
+required_in (Some text) = requirements_or_refusal (requirements_in text)

@@ -42,11 +42,11 @@ at_most_four texts = if nat_le (length texts) 4 then all_spans texts else None
 abbrev pub spans_in : Text → Option (List Span)
 spans_in text = at_most_four (slice_split (λ b. b == comma) text)
 
-abbrev pub listed : Option (List Span) → Result (Option (List Span)) Refusal
-listed None = Err (refusal.Usage 4)
-listed (Some list) = Ok (Some list)
+abbrev pub spans_or_refusal : Option (List Span) → Result (Option (List Span)) Refusal
+spans_or_refusal None = Err (refusal.Usage 4)
+spans_or_refusal (Some list) = Ok (Some list)
 
 -- by the text of `--memory`
 abbrev pub shown_in : Option Text → Result (Option (List Span)) Refusal
 shown_in None = Ok None
-shown_in (Some text) = listed (spans_in text)
+shown_in (Some text) = spans_or_refusal (spans_in text)

@@ -1,7 +1,7 @@
 -- The order of turns that the words ask for ('profile'). A text is the list of its bytes.
 --
--- Note: `turns_in` says which text lists an order, `asked` how many turns it asks for, and `cores_of`
--- the list of cores that it stands for, whose run `xt_machine` defines (`run_of_list`).
+-- Note: `turns_in` says which text lists an order, `turns_asked` how many turns it asks for, and
+-- `cores_of` the list of cores that it stands for, whose run `xt_machine` defines (`run_of_list`).
 use Rattle.std.specs.Prelude.{ℕ, ◌+◌, Bool, true, ◌==◌, nat_le, List, [], ◌∷◌, ◌++◌, length}
 use Rattle.std.specs.Prelude.{replicate, Option, Some, None, Result, Ok, Err, if◌then◌else◌}
 use Rattle.std.specs.List.{before_first, after_first, slice_split}
@@ -67,30 +67,30 @@ turns_in text =
 -- ---- the order that the words ask for
 
 -- the order of a seed, which has to be a number
-abbrev pub seeded : Option ℕ → Result TurnOrder Refusal
-seeded None = Err (refusal.Usage 4)
-seeded (Some seed) = Ok (order.Seeded seed)
+abbrev pub order_of_seed : Option ℕ → Result TurnOrder Refusal
+order_of_seed None = Err (refusal.Usage 4)
+order_of_seed (Some seed) = Ok (order.Seeded seed)
 
-abbrev pub listed : Option (List CoreTurns) → Result TurnOrder Refusal
-listed None = Err (refusal.Usage 4)
-listed (Some turns) = Ok (order.Listed turns)
+abbrev pub listed_order : Option (List CoreTurns) → Result TurnOrder Refusal
+listed_order None = Err (refusal.Usage 4)
+listed_order (Some turns) = Ok (order.Listed turns)
 
 -- by the texts of `--seed` and `--order`, which do not stand together
 abbrev pub order_in : Option Text → Option Text → Result TurnOrder Refusal
 order_in None None = Ok order.Free
-order_in (Some seed) None = seeded (number_of seed)
-order_in None (Some list) = listed (turns_in list)
+order_in (Some seed) None = order_of_seed (number_of seed)
+order_in None (Some list) = listed_order (turns_in list)
 order_in (Some seed) (Some list) = Err (refusal.Usage 3)
 
 -- ---- the turns that an order asks for
 
-abbrev pub asked : List CoreTurns → ℕ
-asked [] = 0
-asked (t ∷ ts) = t.count + asked ts
+abbrev pub turns_asked : List CoreTurns → ℕ
+turns_asked [] = 0
+turns_asked (t ∷ ts) = t.count + turns_asked ts
 
 -- at most as many as two cores can have
 abbrev pub are_few : List CoreTurns → Bool
-are_few turns = nat_le (asked turns) 8000000
+are_few turns = nat_le (turns_asked turns) 8000000
 
 abbrev pub is_short : TurnOrder → Bool
 is_short order.Free = true

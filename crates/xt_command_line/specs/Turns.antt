@@ -30,18 +30,18 @@ core_of text = option_map Some (option_and_then core_in (number_of text))
 
 -- the positions from one number on to before another, of which turns of a core, with an access and
 -- that jump are asked for; a text that is no number, or no core, breaks a rule
-abbrev pub chosen :
+abbrev pub chosen_turns :
     Option ℕ → Option ℕ → Option (Option ℕ) → Bool → Bool → Result Turns Refusal
-chosen (Some from) (Some to) (Some core) accesses jumps =
+chosen_turns (Some from) (Some to) (Some core) accesses jumps =
     Ok (record { from = from; to = to; core = core; accesses = accesses; jumps = jumps })
-chosen _ _ _ accesses jumps = Err (refusal.Usage 4)
+chosen_turns _ _ _ accesses jumps = Err (refusal.Usage 4)
 
 -- where no word says them, the first position is 0, the last one that of the run, and no core is
 -- asked for
 abbrev pub turns_by : Option (List Row) → Result Turns Refusal
 turns_by None = Err (refusal.Usage 3)
 turns_by (Some rows) =
-    chosen
+    chosen_turns
     (said_or number_of 0 (first_of (codes "from") rows))
     (said_or number_of 0xFFFFFFFF (first_of (codes "to") rows))
     (said_or core_of None (first_of (codes "core") rows))

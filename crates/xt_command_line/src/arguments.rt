@@ -1,6 +1,6 @@
 //! The words of `check`, `gen`, `replay` and `uses`.
 ghost use Rattle.std.specs.Prelude.{◌≡◌, IfOk, map, string_bytes, option_map};
-ghost use Rattle.xt_command_line.specs.Answers.{Means, MeansAs};
+ghost use Rattle.xt_command_line.specs.MeaningAnswers.{Means, MeansAs};
 ghost use Rattle.xt_command_line.specs.Arguments.{IsVecbase, generator_number_of, judged_number, judged_vecbase, number_in, rigor_of, script_text_of, vecbase_of};
 
 use crate::command::{Refusal, Rigor};

@@ -1,6 +1,6 @@
 //! What becomes of a script that leads beyond the run.
 ghost use Rattle.std.specs.Prelude.{map, string_bytes};
-ghost use Rattle.xt_command_line.specs.Answers.{Means};
+ghost use Rattle.xt_command_line.specs.MeaningAnswers.{Means};
 ghost use Rattle.xt_command_line.specs.Beyond.{beyond_of};
 
 use crate::command::Refusal;

@@ -1,6 +1,6 @@
 //! The words of `profile`.
 ghost use Rattle.std.specs.Prelude.{◌≡◌, map, string_bytes};
-ghost use Rattle.xt_command_line.specs.Answers.{Means};
+ghost use Rattle.xt_command_line.specs.MeaningAnswers.{Means};
 ghost use Rattle.xt_command_line.specs.Depths.{judged_depth, profile_options_of};
 
 use crate::command::{ProfileOptions, Refusal};

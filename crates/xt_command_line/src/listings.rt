@@ -1,6 +1,6 @@
 //! The words of `dis`.
 ghost use Rattle.std.specs.Prelude.{◌≡◌, IfOk, map, string_bytes, option_map};
-ghost use Rattle.xt_command_line.specs.Answers.{Means};
+ghost use Rattle.xt_command_line.specs.MeaningAnswers.{Means};
 ghost use Rattle.xt_command_line.specs.Listings.{AreOpenings, IsListing, IsWay, judged_openings, listing_of, openings_with, way_in};
 
 use crate::command::{Listing, Openings, Refusal, Way};

@@ -1,8 +1,8 @@
 //! The words of `run` and `record` with all their options.
 ghost use Rattle.std.specs.Prelude.{◌≡◌, IfOk, map, string_bytes, option_map};
-ghost use Rattle.xt_command_line.specs.Answers.{Means};
+ghost use Rattle.xt_command_line.specs.MeaningAnswers.{Means};
 ghost use Rattle.xt_command_line.specs.Numbers.{number_of};
-ghost use Rattle.xt_command_line.specs.Options.{AreValid, between, given_number_of, judged, options_in, range_of, record_options_of, run_options_of, said_or, judged_texts};
+ghost use Rattle.xt_command_line.specs.Options.{AreValid, stack_between, given_number_of, options_or_refusal, options_in, range_of, record_options_of, run_options_of, said_or, judged_texts};
 ghost use Rattle.xt_command_line.specs.Views.{texts_in};
 
 use crate::command::Refusal;
@@ -17,7 +17,7 @@ use xt_trace::Stack;
 
 // The range from one number to another, where both are there.
 fn between_both(lo: Option<u32>, hi: Option<u32>) -> Option<Stack>
-    ensures { result ≡ between lo hi }
+    ensures { result ≡ stack_between lo hi }
 {
     match (lo, hi) {
         (Some(lo), Some(hi)) => Some(Stack { lo, hi }),

@@ -1,6 +1,6 @@
 //! The options of `run` and `record`, and the rules that they keep.
 ghost use Rattle.std.specs.Prelude.{◌≡◌, IfOk};
-ghost use Rattle.xt_command_line.specs.Options.{AreValid, checked, is_entry, is_stack, with_entry};
+ghost use Rattle.xt_command_line.specs.Options.{AreValid, within_limits, is_entry, is_stack, with_entry};
 
 use crate::command::Refusal;
 use crate::requirements::Requirements;
@@ -88,7 +88,7 @@ fn is_good_stack(stack: Stack) -> bool
 /// executable region. Rule 7: VECBASE is a multiple of 1024. Rule 8: a stack is a range of at least 256 bytes in the
 /// internal data memory whose ends are multiples of 16.
 pub fn within_limits(options: RunOptions) -> Result<RunOptions, Refusal>
-    ensures means { result ≡ checked options }
+    ensures means { result ≡ within_limits options }
     ensures valid { IfOk result AreValid }
 {
     if options.turns0 > MOST_TURNS || options.turns1 > MOST_TURNS || !is_short(&options.order) {

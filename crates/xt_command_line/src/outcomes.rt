@@ -1,6 +1,6 @@
 //! The words of `outcomes`.
 ghost use Rattle.std.specs.Prelude.{◌≡◌, ◌+◌, ◌≤◌, ◌^◌, All, true, IfOk, IfSome, length, map, string_bytes, option_map};
-ghost use Rattle.xt_command_line.specs.Answers.{Means};
+ghost use Rattle.xt_command_line.specs.MeaningAnswers.{Means};
 ghost use Rattle.xt_command_line.specs.Options.{judged_texts, said_or};
 ghost use Rattle.xt_command_line.specs.Views.{texts_in};
 ghost use Rattle.xt_command_line.specs.Outcomes.{AreOutcomeOptions, is_place, may_count, outcomes_of, outcomes_with, place_of, places_of, states_of, word_texts};

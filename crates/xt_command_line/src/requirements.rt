@@ -1,7 +1,7 @@
 //! What is required of a run, as the words ask for it.
 ghost use Rattle.std.specs.Prelude.{◌≡◌, [], Some, IfOk, map, option_map};
-ghost use Rattle.xt_command_line.specs.Answers.{Means};
-ghost use Rattle.xt_command_line.specs.Requirements.{added, all_from, is_among, number_of_requirement, required_in, requirement_of, requirements_in};
+ghost use Rattle.xt_command_line.specs.MeaningAnswers.{Means};
+ghost use Rattle.xt_command_line.specs.Requirements.{with_requirement, all_from, is_among, number_of_requirement, required_in, requirement_of, requirements_in};
 
 use crate::command::Refusal;
 use crate::turn_orders::parts_in;

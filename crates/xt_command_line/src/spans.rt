@@ -1,6 +1,6 @@
 //! Which words of memory are shown at the end of a run, as the words ask for it.
 ghost use Rattle.std.specs.Prelude.{◌≡◌, IfOk, map, option_map};
-ghost use Rattle.xt_command_line.specs.Answers.{Means};
+ghost use Rattle.xt_command_line.specs.MeaningAnswers.{Means};
 ghost use Rattle.xt_command_line.specs.Spans.{all_spans, at_most_four, shown_in, span_by, span_of, spans_in};
 
 use crate::command::Refusal;

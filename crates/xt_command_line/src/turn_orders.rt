@@ -1,9 +1,9 @@
 //! The order of the turns of both cores, as the words ask for it.
 ghost use Rattle.std.specs.Prelude.{◌≡◌, ◌<◌, ◌==◌, All, IfOk, map, option_map};
 ghost use Rattle.std.specs.List.{slice_split};
-ghost use Rattle.xt_command_line.specs.Answers.{Means};
+ghost use Rattle.xt_command_line.specs.MeaningAnswers.{Means};
 ghost use Rattle.xt_command_line.specs.Numbers.{number_of};
-ghost use Rattle.xt_command_line.specs.TurnOrders.{all_turns, are_few, core_of, cores_of, is_short, number_of_core, order_in, seeded, turns_by, turns_in, turns_of};
+ghost use Rattle.xt_command_line.specs.TurnOrders.{all_turns, are_few, core_of, cores_of, is_short, number_of_core, order_in, order_of_seed, turns_by, turns_in, turns_of};
 
 use crate::command::Refusal;
 use crate::numbers::number;
@@ -152,8 +152,8 @@ fn turns_in(alloc: Global, text: &str) -> Result<Option<TurnList>, AllocError>
 }
 
 // The order of a seed.
-fn seeded(seed: Option<u32>) -> Result<TurnOrder, Refusal>
-    ensures { result ≡ seeded seed }
+fn order_of_seed(seed: Option<u32>) -> Result<TurnOrder, Refusal>
+    ensures { result ≡ order_of_seed seed }
 {
     match seed {
         Some(seed) => Ok(TurnOrder::Seeded(seed)),
@@ -171,7 +171,7 @@ pub fn order_in(alloc: Global, seed: Option<&str>, list: Option<&str>) -> Result
 {
     match (seed, list) {
         (None, None) => Ok(TurnOrder::Free),
-        (Some(seed), None) => seeded(number(seed)),
+        (Some(seed), None) => order_of_seed(number(seed)),
         (None, Some(list)) => match turns_in(alloc, list)? {
             Some(turns) => Ok(TurnOrder::Listed(turns)),
             None => Err(Refusal::Usage(4)),

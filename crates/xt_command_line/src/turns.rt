@@ -1,8 +1,8 @@
 //! The words of `trace`.
 ghost use Rattle.std.specs.Prelude.{◌≡◌, None, map, string_bytes, option_map};
-ghost use Rattle.xt_command_line.specs.Answers.{Means};
+ghost use Rattle.xt_command_line.specs.MeaningAnswers.{Means};
 ghost use Rattle.xt_command_line.specs.Options.{said_or};
-ghost use Rattle.xt_command_line.specs.Turns.{chosen, core_of, turns_of};
+ghost use Rattle.xt_command_line.specs.Turns.{chosen_turns, core_of, turns_of};
 
 use crate::command::{Refusal, Turns};
 use crate::numbers::number;
@@ -32,7 +32,7 @@ fn choose(
     accesses: bool,
     jumps: bool,
 ) -> Result<Turns, Refusal>
-    ensures { result ≡ chosen from to core accesses jumps }
+    ensures { result ≡ chosen_turns from to core accesses jumps }
 {
     match (from, to, core) {
         (Some(from), Some(to), Some(core)) => Ok(Turns {

@@ -1,6 +1,6 @@
 ghost use Rattle.std.specs.Prelude.{◌≡◌, IfOk, map, string_bytes};
-ghost use Rattle.xt_command_line.specs.Answers.{Means};
-ghost use Rattle.xt_command_line.specs.Meaning.{HasValidOptions, MayWantMemory, check_meaning_of, dis_meaning_of, gen_meaning_of, meaning_of, named, outcomes_meaning_of, profile_meaning_of, record_meaning_of, run_meaning_of, trace_meaning_of, uses_meaning_of};
+ghost use Rattle.xt_command_line.specs.MeaningAnswers.{Means};
+ghost use Rattle.xt_command_line.specs.Meaning.{HasValidOptions, MayWantMemory, check_meaning_of, dis_meaning_of, gen_meaning_of, meaning_of, command_named, outcomes_meaning_of, profile_meaning_of, record_meaning_of, run_meaning_of, trace_meaning_of, uses_meaning_of};
 ghost use Rattle.xt_command_line.specs.declared.command.Refusal.TheVariants.{Memory};
 
 use crate::arguments::{check_vecbase, generator_number, uses_rigor};
@@ -13,9 +13,9 @@ use crate::simple::without_options_meaning;
 use crate::turns::trace_turns;
 use std::alloc::Global;
 
-#[tactic(auto, unfolding(crate::specs::Meaning::named))]
+#[tactic(auto, unfolding(crate::specs::Meaning::command_named))]
 fn name_of(word: &str) -> Option<Name>
-    ensures { result ≡ named word.now }
+    ensures { result ≡ command_named word.now }
 {
     match word {
         "asm" => Some(Name::Assemble),

@@ -8,7 +8,7 @@ use Rattle.xt_map.specs.declared.access.Access.{Access}
 use Rattle.xt_map.specs.declared.contents.MemoryContents.{MemoryContents}
 use Rattle.xt_map.specs.Memory.{HasSizes, byte_at, little_endian, low_bytes, with_bytes}
 use Rattle.xt_map.specs.Regions.{is_mapped, is_size, uart_status, uart_transmit}
-use Rattle.xt_map.specs.Serving.{changed, memory_past, number_at, reply_to, with_sent}
+use Rattle.xt_map.specs.Serving.{contents_after, memory_past, number_at, reply_to, with_sent}
 use Rattle.xt_map.specs.Touching.{is_load}
 use Rattle.xt_map.proofs.Alike.{same_bytes, same_reply, three_sizes, touched_alike}
 use Rattle.xt_map.proofs.Sent.{sent_of_bytes}
@@ -23,7 +23,7 @@ load_sends_none m Load h = refl
 load_sends_none m (Store v) h = absurd cc
 load_sends_none m (Cas expected new) h = absurd cc
 
-load_changes_none : (m : MemoryContents) (x size : ℕ) (k : Kind) → is_load k ≡ true → changed m x size k ≡ m
+load_changes_none : (m : MemoryContents) (x size : ℕ) (k : Kind) → is_load k ≡ true → contents_after m x size k ≡ m
 load_changes_none m x size Load h = refl
 load_changes_none m x size (Store v) h = absurd cc
 load_changes_none m x size (Cas expected new) h = absurd cc
@@ -35,9 +35,9 @@ if_same false x y z p q = q
 pub load_keeps : (m : MemoryContents) (a : Access) → is_load a.kind ≡ true → memory_past m a ≡ m
 unfolding memory_past
 load_keeps m a h =
-    if_same (a.addr == uart_transmit) (with_sent m a.kind) (if a.addr == uart_status then m else changed m a.addr a.size a.kind) m
+    if_same (a.addr == uart_transmit) (with_sent m a.kind) (if a.addr == uart_status then m else contents_after m a.addr a.size a.kind) m
     (load_sends_none m a.kind h)
-    (if_same (a.addr == uart_status) m (changed m a.addr a.size a.kind) m refl (load_changes_none m a.addr a.size a.kind h))
+    (if_same (a.addr == uart_status) m (contents_after m a.addr a.size a.kind) m refl (load_changes_none m a.addr a.size a.kind h))
 
 -- ---- what is sent
 
@@ -63,7 +63,7 @@ sent_if : (b : Bool) (x y : MemoryContents) (s : List ℕ) → x.sent ≡ s → 
 sent_if true x y s p q = p
 sent_if false x y s p q = q
 
-sent_of_changed : (m : MemoryContents) (x size : ℕ) (k : Kind) → (changed m x size k).sent ≡ m.sent
+sent_of_changed : (m : MemoryContents) (x size : ℕ) (k : Kind) → (contents_after m x size k).sent ≡ m.sent
 sent_of_changed m x size Load = refl
 sent_of_changed m x size (Store v) = sent_of_bytes m x (low_bytes size v)
 sent_of_changed m x size (Cas expected new) =
@@ -76,9 +76,9 @@ sent_choice false x y s t p q = q ∙ sym (nothing_more s)
 sent_past : (m : MemoryContents) (a : Access) → (memory_past m a).sent ≡ m.sent ++ sent_by a
 unfolding memory_past
 sent_past m a =
-    sent_choice (a.addr == uart_transmit) (with_sent m a.kind) (if a.addr == uart_status then m else changed m a.addr a.size a.kind) m.sent (sends a.kind)
+    sent_choice (a.addr == uart_transmit) (with_sent m a.kind) (if a.addr == uart_status then m else contents_after m a.addr a.size a.kind) m.sent (sends a.kind)
     (sent_more m a.kind)
-    (sent_if (a.addr == uart_status) m (changed m a.addr a.size a.kind) m.sent refl (sent_of_changed m a.addr a.size a.kind))
+    (sent_if (a.addr == uart_status) m (contents_after m a.addr a.size a.kind) m.sent refl (sent_of_changed m a.addr a.size a.kind))
 
 -- ---- no byte in common
 

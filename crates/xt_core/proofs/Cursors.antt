@@ -7,7 +7,7 @@ use Rattle.xt_trace.specs.declared.record.StepRecord.{StepRecord}
 use Rattle.xt_trace.specs.Calls.{is_stop}
 use Rattle.xt_trace.specs.Left.{first_of, rest_of}
 use Rattle.xt_trace.specs.Chip.{Chip}
-use Rattle.xt_trace.specs.Traces.{ended, trace_over, reply_for, replies_past}
+use Rattle.xt_trace.specs.Traces.{empty_trace, trace_over, reply_for, replies_past}
 use Rattle.xt_trace.specs.Worlds.{left_past}
 use Rattle.xt_exec.specs.State.{State}
 use Rattle.xt_exec.specs.Turn.{demand, turn}
@@ -24,7 +24,7 @@ trace_step : {S : Type 0} (P : Chip S) (s : S) (n : ℕ) (rs : List ℕ)
 trace_step {S = S} P s n rs =
     let t = P.turn s (reply_for (P.demand s) rs) in
     let qs = replies_past (P.demand s) rs in
-    let more : Bool → List StepRecord = λ b. (cond b (ended t.1) (trace_over P t.1 n qs)).records in
+    let more : Bool → List StepRecord = λ b. (cond b (empty_trace t.1) (trace_over P t.1 n qs)).records in
     let after : Bool → List StepRecord = λ b. (trace_over P t.1 (cond b 0 n) qs).records in
     let same : (b : Bool) → more b ≡ after b = elim [ true ↦ refl | false ↦ refl ] in
     ap (λ (xs : List StepRecord). t.0 ∷ xs) (same (is_stop t.0.kind))

@@ -6,15 +6,15 @@ use Rattle.xt_map.specs.Regions.{is_mapped}
 use Rattle.xt_trace.specs.declared.record.StepRecord.{StepRecord}
 use Rattle.xt_trace.specs.declared.trace.Trace.{Trace}
 use Rattle.xt_trace.specs.Calls.{is_stop}
-use Rattle.xt_rows.specs.Laws.{IsRegister}
+use Rattle.xt_rows.specs.RowLaws.{IsRegister}
 use Rattle.xt_trace.specs.Schedule.{place_before}
 use Rattle.xt_trace.specs.Short.{ShortCore}
 use Rattle.xt_trace.specs.Traces.{stop_where}
 use Rattle.xt_trace.specs.Worlds.{left_past}
 use Rattle.xt_exec.specs.declared.plans.Pending.{Pending}
 use Rattle.xt_exec.specs.State.{State}
-use Rattle.xt_exec.specs.Turn.{demand, planned, turn}
-use Rattle.xt_exec.specs.Halves.{asking}
+use Rattle.xt_exec.specs.Turn.{demand, planned_turn, turn}
+use Rattle.xt_exec.specs.Halves.{asking_turn}
 use Rattle.xt_core.specs.declared.begin.Begin.{Begin}
 use Rattle.xt_core.specs.declared.begin.Begin.TheVariants as begin
 
@@ -44,8 +44,8 @@ short_of k = record {
 }
 
 -- a core that opens in this state, with so many turns
-abbrev pub opened : ℕ → State → ℕ → CoreState
-opened core state turns = record {
+abbrev pub opening_core_state : ℕ → State → ℕ → CoreState
+opening_core_state core state turns = record {
   core = core;
   state = state;
   waiting = None;
@@ -57,8 +57,8 @@ opened core state turns = record {
 }
 
 -- after a turn with this record
-abbrev pub kept : StepRecord → CoreState → CoreState
-kept r k = record k {
+abbrev pub core_after_record : StepRecord → CoreState → CoreState
+core_after_record r k = record k {
   waiting = None;
   left = left_past r (k.left - 1);
   stopped = k.stopped || is_stop r.kind;
@@ -67,12 +67,13 @@ kept r k = record k {
 }
 
 -- after a turn with this reply
-abbrev pub turned : (ℕ → ℕ) → ℕ → CoreState → CoreState
-turned code reply k = let t = turn code k.state reply in kept t.0 (record k { state = t.1 })
+abbrev pub core_after_turn : (ℕ → ℕ) → ℕ → CoreState → CoreState
+core_after_turn code reply k =
+    let t = turn code k.state reply in core_after_record t.0 (record k { state = t.1 })
 
 -- the next turn from this state asks, and this waits for the reply
 abbrev pub Awaits : (ℕ → ℕ) → State → Pending → Type 0
-Awaits code s p = planned code s ≡ asking p s
+Awaits code s p = planned_turn code s ≡ asking_turn p s
 
 -- the next turn asks for an access, and the core waits for the reply
 abbrev pub AwaitsReply : (ℕ → ℕ) → CoreState → Type 0
@@ -90,7 +91,7 @@ pub record Asks (code : ℕ → ℕ) (before after : CoreState) (access : Access
 abbrev pub Begins : Begin → (ℕ → ℕ) → CoreState → CoreState → Type 0
 Begins begin.Ended code before after = (before.left ≡ 0) × (after ≡ before)
 Begins begin.Local code before after =
-    (0 < before.left) × (demand code before.state ≡ None) × (after ≡ turned code 0 before)
+    (0 < before.left) × (demand code before.state ≡ None) × (after ≡ core_after_turn code 0 before)
 Begins (begin.Bus access) code before after = Asks code before after access
 
 -- the register that receives the reply exists, and there is a turn for it
@@ -109,6 +110,6 @@ trace_of k = record {
 }
 
 -- the same core at another state, with so many turns left
-abbrev pub restarted : State → ℕ → CoreState → CoreState
-restarted state left k =
+abbrev pub core_restarted_at : State → ℕ → CoreState → CoreState
+core_restarted_at state left k =
     record k { state = state; left = left; stopped = false; count = 0; places = [] }

@@ -6,15 +6,15 @@ use Rattle.xt_map.specs.Regions.{is_mapped}
 use Rattle.xt_special.specs.Numbers as number
 use Rattle.xt_special.specs.Control.{special_of}
 use Rattle.xt_trace.specs.declared.record.StepRecord.{StepRecord}
-use Rattle.xt_rows.specs.Laws.{IsRegister}
+use Rattle.xt_rows.specs.RowLaws.{IsRegister}
 use Rattle.xt_exec.specs.declared.plans.Effect.{Effect}
 use Rattle.xt_exec.specs.declared.plans.Pending.{Pending}
 use Rattle.xt_exec.specs.State.{State}
-use Rattle.xt_exec.specs.Turn.{demand, planned, turn}
-use Rattle.xt_exec.specs.Halves.{asking}
+use Rattle.xt_exec.specs.Turn.{demand, planned_turn, turn}
+use Rattle.xt_exec.specs.Halves.{asking_turn}
 use Rattle.xt_core.specs.Cores.{Awaits}
-use Rattle.xt_core.specs.declared.begun.Begun.{Begun}
-use Rattle.xt_core.specs.declared.begun.Begun.TheVariants.{Local, Asks}
+use Rattle.xt_core.specs.declared.begun.StartedTurn.{StartedTurn}
+use Rattle.xt_core.specs.declared.begun.StartedTurn.TheVariants.{Local, Asks}
 use Rattle.xt_core.specs.declared.record.Head.{Head}
 
 -- what a record keeps of the state in which the turn begins
@@ -27,8 +27,8 @@ head_of s = record {
 }
 
 -- the record of a turn that began so
-abbrev pub recorded : Head → Effect → Option Access → ℕ → StepRecord
-recorded h e access reply = record {
+abbrev pub turn_record : Head → Effect → Option Access → ℕ → StepRecord
+turn_record h e access reply = record {
   pc = h.pc;
   kind = e.kind;
   write = e.write;
@@ -52,6 +52,6 @@ pub record IsHalf (code : ℕ → ℕ) (before after : State) (p : Pending) : Ty
   pub awaits : Awaits code before p
   pub target : IsRegister p.target
 
-abbrev pub IsBegun : Begun → (ℕ → ℕ) → State → State → Type 0
+abbrev pub IsBegun : StartedTurn → (ℕ → ℕ) → State → State → Type 0
 IsBegun (Local r) code before after = IsLocal code before after r
 IsBegun (Asks p) code before after = IsHalf code before after p

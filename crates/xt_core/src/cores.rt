@@ -1,5 +1,5 @@
 use crate::begin::Begin;
-use crate::begun::Begun;
+use crate::begun::StartedTurn;
 use crate::ends::{left_past, stops};
 use crate::turn::{begin, end};
 use std::alloc::{AllocError, Global};
@@ -42,7 +42,7 @@ impl<W: Windows> Core<W> {
     ghost use Rattle.std.specs.Prelude.{◌≡◌, ◌≢◌, ℕ, ◌<◌, None};
     ghost use Rattle.xt_map.specs.Memory.{constant_byte};
     ghost use Rattle.xt_exec.specs.States.{state_of};
-    ghost use Rattle.xt_core.specs.Cores.{AwaitsReply, Begins, kept, turned};
+    ghost use Rattle.xt_core.specs.Cores.{AwaitsReply, Begins, core_after_record, core_after_turn};
 
     /// Begins the next turn, and makes the whole of it unless it makes a bus access. `Ended` comes exactly where the core has stopped
     /// or has no turn left. Each turn raises the count by one. Takes no memory.
@@ -57,11 +57,11 @@ impl<W: Windows> Core<W> {
             return Begin::Ended;
         }
         match begin(&mut self.regs, code) {
-            Begun::Local(record) => {
+            StartedTurn::Local(record) => {
                 self.keep(record);
                 Begin::Local
             }
-            Begun::Asks(pending) => {
+            StartedTurn::Asks(pending) => {
                 self.waiting = Some(pending);
                 Begin::Bus(pending.access)
             }
@@ -74,7 +74,7 @@ impl<W: Windows> Core<W> {
     #[inline(always)]
     pub fn turn_end(&mut self, reply: u32)
         requires { self.old.waiting ≢ None }
-        ensures { (code : ℕ → ℕ) → AwaitsReply code self.old → self.new ≡ turned code reply self.old }
+        ensures { (code : ℕ → ℕ) → AwaitsReply code self.old → self.new ≡ core_after_turn code reply self.old }
     {
         match self.waiting {
             Some(pending) => {
@@ -89,7 +89,7 @@ impl<W: Windows> Core<W> {
     #[inline(always)]
     fn keep(&mut self, step: StepRecord)
         requires { 0 < self.old.left }
-        ensures { self.new ≡ kept step self.old }
+        ensures { self.new ≡ core_after_record step self.old }
     {
         if step.access.is_some() {
             self.places.push_reserved(self.count);
@@ -156,7 +156,7 @@ impl<W: Windows + Drop> Core<W> {
     ghost use Rattle.std.specs.Prelude.{◌≡◌, ◌<◌, ◌≤◌, IfOk};
     ghost use Rattle.xt_trace.specs.Validity.{IsValid};
     ghost use Rattle.xt_window.specs.Ring.{cleared_regs};
-    ghost use Rattle.xt_core.specs.Cores.{opened};
+    ghost use Rattle.xt_core.specs.Cores.{opening_core_state};
     ghost use Rattle.xt_core.specs.Runs.{opening_at, turns_of};
 
     /// A core that opens at `pc`, with this core's turns and stack of the options. All memory that its turns need is taken here; the
@@ -175,7 +175,7 @@ impl<W: Windows + Drop> Core<W> {
         requires regs { W.regs win ≡ cleared_regs }
         requires base { W.base win ≡ 0 }
         requires start { W.start win ≡ 1 }
-        ensures { IfOk result (λ k. k ≡ opened core (opening_at core pc options.now) (turns_of core options.now)) }
+        ensures { IfOk result (λ k. k ≡ opening_core_state core (opening_at core pc options.now) (turns_of core options.now)) }
     {
         let (turns, stack) = if core == 0 {
             (options.turns0, options.stack0)
@@ -198,7 +198,7 @@ impl<W: Windows + Drop> Core<W> {
 impl Core<WindowFile> {
     ghost use Rattle.std.specs.Prelude.{◌≡◌, ◌≤◌, None};
     ghost use Rattle.xt_exec.specs.States.{file_state};
-    ghost use Rattle.xt_core.specs.Cores.{restarted};
+    ghost use Rattle.xt_core.specs.Cores.{core_restarted_at};
 
     /// Goes back to these registers, with so many turns left and no turn made. Takes no memory.
     ///
@@ -206,7 +206,7 @@ impl Core<WindowFile> {
     pub fn restart(&mut self, regs: Regs<WindowFile>, left: u32)
         requires waiting { self.old.waiting ≡ None }
         requires left { left ≤ self.old.turns }
-        ensures { self.new ≡ restarted (file_state regs) left self.old }
+        ensures { self.new ≡ core_restarted_at (file_state regs) left self.old }
     {
         self.regs = regs;
         self.left = left;

@@ -6,7 +6,7 @@ ghost use Rattle.xt_trace.specs.Traces.{replies_past, reply_for};
 ghost use Rattle.xt_exec.specs.States.{file_state};
 ghost use Rattle.xt_exec.specs.Turn.{demand, turn};
 
-use crate::begun::Begun;
+use crate::begun::StartedTurn;
 use crate::file::OwnFile;
 use crate::turn::{begin, end};
 use xt_exec::Regs;
@@ -42,8 +42,8 @@ pub fn next_turn<'a>(
         replies_of core result.1.now ≡ replies_past (demand (constant_byte code.now) s) (replies_of core entries.now) }
 {
     match begin(regs, code) {
-        Begun::Local(record) => (record, entries),
-        Begun::Asks(pending) => {
+        StartedTurn::Local(record) => (record, entries),
+        StartedTurn::Asks(pending) => {
             let (reply, rest) = reply_in(entries, core);
             (end(regs, pending, reply), rest)
         }

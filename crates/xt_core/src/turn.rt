@@ -1,14 +1,14 @@
 ghost use Rattle.std.specs.Prelude.{◌≡◌, ℕ, None};
 ghost use Rattle.xt_map.specs.Memory.{constant_byte};
-ghost use Rattle.xt_rows.specs.Laws.{IsRegister};
-ghost use Rattle.xt_fetch.specs.Fetching.{fetched};
+ghost use Rattle.xt_rows.specs.RowLaws.{IsRegister};
+ghost use Rattle.xt_fetch.specs.Fetching.{fetch_at};
 ghost use Rattle.xt_exec.specs.States.{state_of};
-ghost use Rattle.xt_exec.specs.Turn.{fetched_turn, planned, turn};
+ghost use Rattle.xt_exec.specs.Turn.{fetched_turn, planned_turn, turn};
 ghost use Rattle.xt_exec.specs.Halves.{IsPlan, at_end};
-ghost use Rattle.xt_core.specs.Turns.{IsBegun, head_of, recorded};
+ghost use Rattle.xt_core.specs.Turns.{IsBegun, head_of, turn_record};
 ghost use Rattle.xt_core.specs.Cores.{Awaits};
 
-use crate::begun::Begun;
+use crate::begun::StartedTurn;
 use crate::record::Head;
 use xt_codec::{Fetch, instruction_at};
 use xt_exec::plans::{Effect, Pending, Plan};
@@ -22,16 +22,16 @@ use xt_window::Windows;
 /// The first half of a turn: an interrupt that can be taken, else waiting, else the instruction at the program counter. A turn that
 /// makes no access is whole.
 #[inline(always)]
-pub fn begin<W: Windows>(r: &mut Regs<W>, code: &Constants) -> Begun
+pub fn begin<W: Windows>(r: &mut Regs<W>, code: &Constants) -> StartedTurn
     ensures { IsBegun result (constant_byte code.now) (state_of W.regs W.base W.start r.old) (state_of W.regs W.base W.start r.new) }
 {
     let head = head_of(r);
-    match first_half(r, code) {
+    match start_turn(r, code) {
         Plan::Done(effect) => {
             tick(r);
-            Begun::Local(recorded(head, effect, None, 0))
+            StartedTurn::Local(turn_record(head, effect, None, 0))
         }
-        Plan::Bus(_, pending) => Begun::Asks(pending),
+        Plan::Bus(_, pending) => StartedTurn::Asks(pending),
     }
 }
 
@@ -45,15 +45,15 @@ pub fn end<W: Windows>(r: &mut Regs<W>, pending: Pending, reply: u32) -> StepRec
     let head = head_of(r);
     let effect = finish(r, pending, reply);
     tick(r);
-    recorded(head, effect, Some(pending.access), reply)
+    turn_record(head, effect, Some(pending.access), reply)
 }
 
 // The turn before its tick.
-#[tactic(auto, unfolding(xt_exec::specs::Turn::planned))]
+#[tactic(auto, unfolding(xt_exec::specs::Turn::planned_turn))]
 #[inline(always)]
-fn first_half<W: Windows>(r: &mut Regs<W>, code: &Constants) -> Plan
+fn start_turn<W: Windows>(r: &mut Regs<W>, code: &Constants) -> Plan
     ensures { let s = state_of W.regs W.base W.start r.old in
-        IsPlan result s (state_of W.regs W.base W.start r.new) (planned (constant_byte code.now) s) }
+        IsPlan result s (state_of W.regs W.base W.start r.new) (planned_turn (constant_byte code.now) s) }
 {
     match xt_exc::pending(&r.sr) {
         Some(level) => Plan::Done(r.interrupt(level)),
@@ -74,7 +74,7 @@ fn first_half<W: Windows>(r: &mut Regs<W>, code: &Constants) -> Plan
 #[inline(always)]
 fn instruction<W: Windows>(r: &mut Regs<W>, code: &Constants) -> Plan
     ensures { let s = state_of W.regs W.base W.start r.old in
-        IsPlan result s (state_of W.regs W.base W.start r.new) (fetched_turn (fetched (constant_byte code.now) s.control.pc) (constant_byte code.now) s) }
+        IsPlan result s (state_of W.regs W.base W.start r.new) (fetched_turn (fetch_at (constant_byte code.now) s.control.pc) (constant_byte code.now) s) }
 {
     match instruction_at::<W>(code, r.pc) {
         Fetch::Fails(addr) => Plan::Done(r.raise(cause::FETCH_ERROR, Some(addr))),
@@ -106,8 +106,8 @@ fn head_of<W: Windows>(r: &Regs<W>) -> Head
 
 // The record of a turn that began so.
 #[inline(always)]
-fn recorded(head: Head, effect: Effect, access: Option<Access>, reply: u32) -> StepRecord
-    ensures { result ≡ recorded head effect access reply }
+fn turn_record(head: Head, effect: Effect, access: Option<Access>, reply: u32) -> StepRecord
+    ensures { result ≡ turn_record head effect access reply }
 {
     StepRecord {
         pc: head.pc,

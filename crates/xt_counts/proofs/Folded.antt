@@ -8,7 +8,7 @@ use Rattle.xt_trace.specs.Left.{first_of, rest_of}
 use Rattle.xt_counts.specs.declared.tally.Tally.{Tally}
 use Rattle.xt_counts.specs.declared.turn.Turn.{Turn}
 use Rattle.xt_counts.specs.Counts.{count, executes, goes_to, is_executed, is_raised, raises, takes, tally, target_at, turns, unless_none}
-use Rattle.xt_counts.specs.Kept.{IsSmall, added, is_counted, more, noted, past, started}
+use Rattle.xt_counts.specs.CountedTurns.{IsSmall, tally_with_turn, is_counted, more, tally_after_turn, past, empty_tally}
 
 -- ---- two counts together
 
@@ -78,7 +78,7 @@ first_case e r g target E R K =
 step_by : (at e r : Bool) (next : ℕ) (target : Option ℕ) (o : Option Tally) (E R K : ℕ) → HasTarget target o
     → joined
     (if at && (e || r)
-    then Some (record { executed = more e (unwrap_or o (started target)).executed; raised = more r (unwrap_or o (started target)).raised; target = (unwrap_or o (started target)).target; taken = more (e && goes_to (unwrap_or o (started target)).target next) (unwrap_or o (started target)).taken })
+    then Some (record { executed = more e (unwrap_or o (empty_tally target)).executed; raised = more r (unwrap_or o (empty_tally target)).raised; target = (unwrap_or o (empty_tally target)).target; taken = more (e && goes_to (unwrap_or o (empty_tally target)).target next) (unwrap_or o (empty_tally target)).taken })
     else o)
     (record { executed = E; raised = R; target = target; taken = K })
     ≡ joined o (record { executed = if at && e then suc E else E; raised = if at && r then suc R else R; target = target; taken = if (at && e) && goes_to target next then suc K else K })
@@ -93,7 +93,7 @@ step_by true false true next target None E R K h =
 step_by true true r next target (Some z) E R K h = some_case true r next target z E R K h
 step_by true false true next target (Some z) E R K h = some_case false true next target z E R K h
 
-target_by : (b : Bool) (t : Turn) (target : Option ℕ) (o : Option Tally) → HasTarget target o → HasTarget target (if b then Some (added t (unwrap_or o (started target))) else o)
+target_by : (b : Bool) (t : Turn) (target : Option ℕ) (o : Option Tally) → HasTarget target o → HasTarget target (if b then Some (tally_with_turn t (unwrap_or o (empty_tally target))) else o)
 target_by false t target o h = h
 target_by true t target None h = refl
 target_by true t target (Some z) h = h
@@ -109,7 +109,7 @@ ended code a (Some z) =
 past_joined : (code : ℕ → ℕ) (a : ℕ) (o : Option Tally) (ts : List Turn) → HasTarget (target_at code a) o → past code a o ts ≡ joined o (tally code ts a)
 past_joined code a o [] h = ended code a o
 past_joined code a o (t ∷ ts) h =
-    past_joined code a (noted code a t o) ts (target_by (t.pc == a && is_counted t.kind) t (target_at code a) o h)
+    past_joined code a (tally_after_turn code a t o) ts (target_by (t.pc == a && is_counted t.kind) t (target_at code a) o h)
     ∙ step_by (t.pc == a) (is_executed t.kind) (is_raised t.kind) t.next (target_at code a) o (count (executes a) ts) (count (raises a) ts) (count (takes (target_at code a) a) ts) h
 
 pub past_all : (code : ℕ → ℕ) (a : ℕ) (ts : List Turn) → past code a None ts ≡ unless_none (tally code ts a)
@@ -121,13 +121,13 @@ small_more : (b : Bool) (m n : ℕ) → m < n → more b m < suc n
 small_more true m n h = omega (arith, h)
 small_more false m n h = omega (arith, h)
 
-small_by : (b : Bool) (t : Turn) (target : Option ℕ) (o : Option Tally) (n : ℕ) → 0 < n → IsSmall n o → IsSmall (suc n) (if b then Some (added t (unwrap_or o (started target))) else o)
+small_by : (b : Bool) (t : Turn) (target : Option ℕ) (o : Option Tally) (n : ℕ) → 0 < n → IsSmall n o → IsSmall (suc n) (if b then Some (tally_with_turn t (unwrap_or o (empty_tally target))) else o)
 small_by true t target None n some h = (small_more (is_executed t.kind) 0 n some, small_more (is_raised t.kind) 0 n some, small_more (is_executed t.kind && goes_to target t.next) 0 n some)
 small_by true t target (Some z) n some h = (small_more (is_executed t.kind) z.executed n h.0, small_more (is_raised t.kind) z.raised n h.1, small_more (is_executed t.kind && goes_to z.target t.next) z.taken n h.2)
 small_by false t target None n some h = tt
 small_by false t target (Some z) n some h = (small_more false z.executed n h.0, small_more false z.raised n h.1, small_more false z.taken n h.2)
 
-pub small_noted : (code : ℕ → ℕ) (a : ℕ) (t : Turn) (o : Option Tally) (n : ℕ) → 0 < n → IsSmall n o → IsSmall (suc n) (noted code a t o)
+pub small_noted : (code : ℕ → ℕ) (a : ℕ) (t : Turn) (o : Option Tally) (n : ℕ) → 0 < n → IsSmall n o → IsSmall (suc n) (tally_after_turn code a t o)
 small_noted code a t o n some h = small_by (t.pc == a && is_counted t.kind) t (target_at code a) o n some h
 
 less_le : (m n k : ℕ) → m < n → n ≤ k → m < k
@@ -161,7 +161,7 @@ opening code a o xs rest x last none first is =
 
 pub onward : (code : ℕ → ℕ) (a : ℕ) (old new : Option Tally) (here after : StepRecord) (left rest : List StepRecord) (last : ℕ) (k : Option Tally)
     → past code a old (turns (here ∷ left) last) ≡ k → ◌≡◌ {A = Option StepRecord} (Some after) (first_of left) → rest ≡ rest_of left
-    → new ≡ noted code a (record { pc = here.pc; kind = here.kind; next = after.pc }) old → past code a new (turns (after ∷ rest) last) ≡ k
+    → new ≡ tally_after_turn code a (record { pc = here.pc; kind = here.kind; next = after.pc }) old → past code a new (turns (after ∷ rest) last) ≡ k
 onward code a old new here after left rest last k kept first is noted_so =
     ap (λ (p : Option Tally). past code a p (turns (after ∷ rest) last)) noted_so
     ∙ (ap (λ (l : List StepRecord). past code a old (turns (here ∷ l) last)) (sym (rest_is left rest after first is)) ∙ kept)
@@ -180,11 +180,11 @@ some_left : (n k : ℕ) → n < k → 0 < k - n
 some_left n k h = omega (arith, h)
 
 pub small_on : (code : ℕ → ℕ) (a : ℕ) (t : Turn) (old new : Option Tally) (left rest : List StepRecord) (after : StepRecord) (n : ℕ) → ◌≡◌ {A = Option StepRecord} (Some after) (first_of left) → rest ≡ rest_of left → length left < n
-    → IsSmall (n - length left) old → new ≡ noted code a t old → IsSmall (n - length rest) new
+    → IsSmall (n - length left) old → new ≡ tally_after_turn code a t old → IsSmall (n - length rest) new
 small_on code a t old new left rest after n first is h small noted_so =
     let e = ap (λ (l : List StepRecord). length l) (rest_is left rest after first is) in
     let next = small_noted code a t old (n - length left) (some_left (length left) n h) small in
-    subst (IsSmall (n - length rest)) (sym noted_so) (small_below (noted code a t old) (suc (n - length left)) (n - length rest) (one_more (length left) (length rest) n e h) next)
+    subst (IsSmall (n - length rest)) (sym noted_so) (small_below (tally_after_turn code a t old) (suc (n - length left)) (n - length rest) (one_more (length left) (length rest) n e h) next)
 
 few : (m n : ℕ) → n < 2 ^ 32 → n - m ≤ 4294967295
 few m n h = omega (arith, h)
@@ -197,7 +197,7 @@ small_first o n none = subst (IsSmall n) (sym none) tt
 
 pub closing : (code : ℕ → ℕ) (a : ℕ) (old new : Option Tally) (here : StepRecord) (left xs : List StepRecord) (last : ℕ)
     → past code a old (turns (here ∷ left) last) ≡ past code a None (turns xs last) → ◌≡◌ {A = Option StepRecord} None (first_of left)
-    → new ≡ noted code a (record { pc = here.pc; kind = here.kind; next = last }) old → new ≡ unless_none (tally code (turns xs last) a)
+    → new ≡ tally_after_turn code a (record { pc = here.pc; kind = here.kind; next = last }) old → new ≡ unless_none (tally code (turns xs last) a)
 closing code a old new here left xs last kept none noted_so =
     noted_so ∙ (ap (λ (l : List StepRecord). past code a old (turns (here ∷ l) last)) (sym (taken_none left none)) ∙ (kept ∙ past_all code a (turns xs last)))
 

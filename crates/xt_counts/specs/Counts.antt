@@ -20,9 +20,9 @@ use Rattle.xt_isa.specs.declared.control.LoopName.TheVariants as loop_name
 use Rattle.xt_names.specs.declared.mnemonic.OneAndTarget.TheVariants as one_target
 use Rattle.xt_names.specs.declared.parts.Parts.{Parts}
 use Rattle.xt_names.specs.declared.parts.Parts.TheVariants as parts
-use Rattle.xt_names.specs.Parts.{parts_of}
+use Rattle.xt_names.specs.InsnParts.{parts_of}
 use Rattle.xt_disasm.specs.Operands.{jump_address}
-use Rattle.xt_fetch.specs.Fetching.{Fetched, Fetches, Fails, SpellsNothing, fetched}
+use Rattle.xt_fetch.specs.Fetching.{Fetched, Fetches, Fails, SpellsNothing, fetch_at}
 use Rattle.xt_trace.specs.declared.record.StepKind.{StepKind}
 use Rattle.xt_trace.specs.declared.record.StepKind.TheVariants.{Insn, Window, Exc, Stop}
 use Rattle.xt_trace.specs.declared.record.StepRecord.{StepRecord}
@@ -73,7 +73,7 @@ target_in SpellsNothing pc = None
 
 -- that of the instruction at an address, where it is such a one
 abbrev pub target_at : (ℕ → ℕ) → ℕ → Option ℕ
-target_at code a = target_in (fetched code a) a
+target_at code a = target_in (fetch_at code a) a
 
 abbrev pub goes_to : Option ℕ → ℕ → Bool
 goes_to None next = false

@@ -1,3 +1,3 @@
 pub mod Counts
-pub mod Texts
-pub mod Kept
+pub mod CountsText
+pub mod CountedTurns

@@ -4,7 +4,7 @@ ghost use Rattle.std.specs.Ordering.{nat_cmp};
 ghost use Rattle.std.specs.BTreeMap.{get};
 ghost use Rattle.xt_map.specs.Memory.{constant_byte};
 ghost use Rattle.xt_counts.specs.Counts.{tally, turns, unless_none};
-ghost use Rattle.xt_counts.specs.Kept.{IsSmall, noted};
+ghost use Rattle.xt_counts.specs.CountedTurns.{IsSmall, tally_after_turn};
 
 use crate::branch::target_at;
 use crate::tally::Tally;
@@ -17,7 +17,7 @@ use xt_trace::Records;
 // Counts a turn.
 fn note(counts: &mut BTreeMap<u32, Tally>, code: &Constants, turn: Turn) -> Result<(), AllocError>
     requires { (a : ℕ) → IsSmall 4294967295 (get nat_cmp counts.old a) }
-    ensures { OnOk result ((a : ℕ) → get nat_cmp counts.new a ≡ noted (constant_byte code.now) a turn (get nat_cmp counts.old a)) }
+    ensures { OnOk result ((a : ℕ) → get nat_cmp counts.new a ≡ tally_after_turn (constant_byte code.now) a turn (get nat_cmp counts.old a)) }
 {
     if !is_executed(turn.kind) && !is_raised(turn.kind) {
         return Ok(());

@@ -1,7 +1,7 @@
 //! What is counted at an address.
 ghost use Rattle.std.specs.Prelude.{◌≡◌, ◌<◌, Some};
 ghost use Rattle.xt_counts.specs.Counts.{goes_to};
-ghost use Rattle.xt_counts.specs.Kept.{IsSmall, added, more, started};
+ghost use Rattle.xt_counts.specs.CountedTurns.{IsSmall, tally_with_turn, more, empty_tally};
 
 use crate::turn::{Turn, is_executed, is_raised};
 
@@ -39,7 +39,7 @@ fn goes_to(target: Option<u32>, next: u32) -> bool
 impl Tally {
     /// No turn yet at an instruction with this target.
     pub fn start(target: Option<u32>) -> Tally
-        ensures { result ≡ started target }
+        ensures { result ≡ empty_tally target }
     {
         Tally {
             executed: 0,
@@ -52,7 +52,7 @@ impl Tally {
     /// With one turn more.
     pub fn with(self, turn: Turn) -> Tally
         requires { IsSmall 4294967295 (Some self) }
-        ensures { result ≡ added turn self }
+        ensures { result ≡ tally_with_turn turn self }
     {
         let executed = is_executed(turn.kind);
         Tally {

@@ -4,8 +4,8 @@ ghost use Rattle.std.specs.Ordering.{nat_cmp};
 ghost use Rattle.std.specs.BTreeMap.{IsOrdered, get};
 ghost use Rattle.xt_map.specs.Placing.{IsPlaced};
 ghost use Rattle.xt_core.specs.Runs.{IsRunOf, code_of};
-ghost use Rattle.xt_counts.specs.Texts.{IsCountsText, line_text, lines_text, taken_text, turns_of};
-ghost use Rattle.xt_counts.specs.Kept.{AreAppended};
+ghost use Rattle.xt_counts.specs.CountsText.{IsCountsText, line_text, lines_text, taken_text, turns_of};
+ghost use Rattle.xt_counts.specs.CountedTurns.{AreAppended};
 
 use crate::counting::counts_of;
 use crate::tally::Tally;
@@ -30,7 +30,7 @@ fn push_taken(out: &mut String, tally: &Tally) -> Result<(), AllocError>
 }
 
 // Appends the line of an address.
-#[tactic(auto, unfolding(crate::specs::Texts::line_text))]
+#[tactic(auto, unfolding(crate::specs::CountsText::line_text))]
 fn push_line(out: &mut String, core: u8, address: u32, tally: &Tally) -> Result<(), AllocError>
     ensures { OnOk result (string_bytes out.new ≡ string_bytes out.old ++ line_text core (address, tally.now)) }
 {

@@ -3,7 +3,7 @@ use Rattle.std.specs.Prelude.{ℕ, zero, suc, Option, length}
 use Rattle.std.specs.Option.{option_map}
 use Rattle.xt_trace.specs.declared.run.Run.{Run}
 use Rattle.xt_image.specs.declared.image.Image.{Image}
-use Rattle.xt_handlers.specs.Answers.{handlers_of}
+use Rattle.xt_handlers.specs.CheckAnswers.{handlers_of}
 use Rattle.xt_core.specs.Runs.{code_of, records_of}
 use Rattle.xt_frames.specs.Frames.{FrameState}
 use Rattle.xt_frames.specs.Verdict.{Known}

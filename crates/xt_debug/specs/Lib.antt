@@ -1,6 +1,6 @@
 -- Profile: scripts and what they print; DEBUGGING.md shows each command.
 pub mod Grammar
-pub mod Answers
+pub mod ScriptAnswers
 pub mod Printed
 pub mod Searches
 pub mod Depths

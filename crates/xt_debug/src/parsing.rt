@@ -2,7 +2,7 @@
 ghost use Rattle.std.specs.Prelude.{◌≡◌, ◌<◌, ◌≤◌, ◌==◌, All, IfOk, IfSome, map};
 ghost use Rattle.std.specs.List.{list_all, slice_split};
 ghost use Rattle.xt_debug.specs.Grammar.{command_of_none, command_of_one, command_of_two, command_of_words, commands_of, core_of, count_of, script_of, words_of, IsInRange};
-ghost use Rattle.xt_debug.specs.Answers.{Reads};
+ghost use Rattle.xt_debug.specs.ScriptAnswers.{Reads};
 
 use crate::script::{Command, Script, ScriptFault};
 use std::alloc::{AllocError, Global};

@@ -1,7 +1,7 @@
 //! Positions that commands look for.
 ghost use Rattle.std.specs.Prelude.{◌≡◌, ◌<◌, ◌+◌};
 ghost use Rattle.std.specs.List.{list_any};
-ghost use Rattle.xt_replay.specs.Shown.{moved};
+ghost use Rattle.xt_replay.specs.Shown.{replay_at};
 ghost use Rattle.xt_debug.specs.Runs.{Arrives};
 ghost use Rattle.xt_debug.specs.Searches.{break_position, end_of, is_next, stores, stores_at, stores_word, watch_position};
 
@@ -72,7 +72,7 @@ fn any_stores(addr: u32, entries: &[Entry]) -> bool
 fn step_stores(replay: &mut Replay, addr: u32, next: u32) -> bool
     requires next { next ≡ replay.old.position + 1 }
     requires more { replay.old.position < end_of replay.old.run }
-    ensures moved { replay.new ≡ moved replay.old (replay.old.position + 1) }
+    ensures moved { replay.new ≡ replay_at replay.old (replay.old.position + 1) }
     ensures stores { result ≡ stores_word replay.old.image replay.old.run addr replay.old.position }
 {
     let before = replay.served() as usize;

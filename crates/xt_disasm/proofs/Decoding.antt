@@ -3,15 +3,15 @@ use Rattle.std.proofs.Common.{◌≡◌, ℕ, ◌<◌, ◌≤◌, List, length, 
 use Rattle.std.specs.Prelude.{nat_le, if◌then◌else◌}
 use Rattle.std.proofs.lemmas.Bool.Decides.{nat_tests}
 use Rattle.xt_isa.specs.declared.Insn.{Insn}
-use Rattle.xt_isa.specs.Spelling.{fields_at, length_of, spelled}
-use Rattle.xt_codec.specs.Answers.{answer}
+use Rattle.xt_isa.specs.Spelling.{fields_at, length_of, spelled_insn}
+use Rattle.xt_codec.specs.DecoderAnswers.{answer}
 use Rattle.xt_codec.specs.declared.Decoded.TheVariants as decoded
-use Rattle.xt_disasm.specs.Listing.{byte_at, front, wanted}
+use Rattle.xt_disasm.specs.Listing.{byte_at, front, wanted_length}
 use Rattle.xt_disasm.specs.Fronts.{IsFront}
 
 -- what the first three bytes spell, whether or not they are all there
 abbrev pub at_front : List ℕ → Option Insn
-at_front bytes = spelled (fields_at (byte_at bytes 0) (byte_at bytes 1) (byte_at bytes 2))
+at_front bytes = spelled_insn (fields_at (byte_at bytes 0) (byte_at bytes 1) (byte_at bytes 2))
 
 good-insn : (o : Option Insn) (b0 : ℕ) (i : Insn) (n : ℕ) → decoded.Good i n ≡ answer b0 o → o ≡ Some i
 good-insn None b0 i n e = cc
@@ -41,21 +41,21 @@ none_either_way false o e = refl
 pub front-good : (bytes : List ℕ) (i : Insn) (n : ℕ) → decoded.Good i n ≡ answer (byte_at bytes 0) (at_front bytes) → n ≤ length bytes → IsFront bytes (Some (i, n))
 unfolding front
 front-good bytes i n e fits =
-    let len : n ≡ wanted bytes = good-length (at_front bytes) (byte_at bytes 0) i n e in
-    let enough : wanted bytes ≤ length bytes = omega arith in
-    let test : nat_le (wanted bytes) (length bytes) ≡ true = grind (arith, nat_tests) in
-    (chosen (nat_le (wanted bytes) (length bytes)) (at_front bytes) test ∙ good-insn (at_front bytes) (byte_at bytes 0) i n e, len, fits)
+    let len : n ≡ wanted_length bytes = good-length (at_front bytes) (byte_at bytes 0) i n e in
+    let enough : wanted_length bytes ≤ length bytes = omega arith in
+    let test : nat_le (wanted_length bytes) (length bytes) ≡ true = grind (arith, nat_tests) in
+    (chosen (nat_le (wanted_length bytes) (length bytes)) (at_front bytes) test ∙ good-insn (at_front bytes) (byte_at bytes 0) i n e, len, fits)
 
 -- an instruction that reaches past the end
 pub front-short : (bytes : List ℕ) (i : Insn) (n : ℕ) → decoded.Good i n ≡ answer (byte_at bytes 0) (at_front bytes) → length bytes < n → IsFront bytes None
 unfolding front
 front-short bytes i n e short =
-    let len : n ≡ wanted bytes = good-length (at_front bytes) (byte_at bytes 0) i n e in
-    let few : length bytes < wanted bytes = omega arith in
-    let test : nat_le (wanted bytes) (length bytes) ≡ false = grind (arith, nat_tests) in
-    left_out (nat_le (wanted bytes) (length bytes)) (at_front bytes) test
+    let len : n ≡ wanted_length bytes = good-length (at_front bytes) (byte_at bytes 0) i n e in
+    let few : length bytes < wanted_length bytes = omega arith in
+    let test : nat_le (wanted_length bytes) (length bytes) ≡ false = grind (arith, nat_tests) in
+    left_out (nat_le (wanted_length bytes) (length bytes)) (at_front bytes) test
 
 -- no instruction
 pub front-illegal : (bytes : List ℕ) → decoded.Illegal ≡ answer (byte_at bytes 0) (at_front bytes) → IsFront bytes None
 unfolding front
-front-illegal bytes e = none_either_way (nat_le (wanted bytes) (length bytes)) (at_front bytes) (nothing (at_front bytes) (byte_at bytes 0) e)
+front-illegal bytes e = none_either_way (nat_le (wanted_length bytes) (length bytes)) (at_front bytes) (nothing (at_front bytes) (byte_at bytes 0) e)

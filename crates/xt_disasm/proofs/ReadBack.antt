@@ -16,7 +16,7 @@ use Rattle.xt_names.specs.declared.mnemonic.Mnemonic.TheVariants as mnemonic
 use Rattle.xt_names.specs.declared.parts.Parts.{Parts}
 use Rattle.xt_names.specs.declared.parts.Parts.TheVariants as parts
 use Rattle.xt_names.specs.Forms.{shapes_of, special_access}
-use Rattle.xt_names.specs.Parts.{mnemonic_in, parts_of}
+use Rattle.xt_names.specs.InsnParts.{mnemonic_in, parts_of}
 use Rattle.xt_names.specs.Specials.{reaches}
 use Rattle.xt_names.proofs.Found.{found}
 use Rattle.xt_names.proofs.InRange.{fits, in_range_fits, is_near, is_word as in_word, whole}
@@ -28,8 +28,8 @@ use Rattle.xt_isa.specs.declared.Insn.{Insn}
 use Rattle.xt_isa.specs.Ranges.{call_within, in_range, literal_within, signed_within}
 use Rattle.xt_names.specs.Insns.{insn_of}
 use Rattle.xt_names.specs.Names.{mnemonic_of}
-use Rattle.xt_mnemonic.specs.Making.{checked, instruction_of, parts_in}
-use Rattle.xt_mnemonic.specs.Operands.{all_known, and_then, call_offset, call_reaches, counted, is_aligned, is_word, literal_offset, literal_reaches}
+use Rattle.xt_mnemonic.specs.Making.{if_in_range, instruction_of, parts_in}
+use Rattle.xt_mnemonic.specs.Operands.{all_known, and_then, call_offset, call_reaches, offset_from, is_aligned, is_word, literal_offset, literal_reaches}
 use Rattle.xt_disasm.specs.Operands.{address_from, call_target, jump_target, literal_target, operands}
 use Rattle.xt_disasm.specs.Reading.{IsReadBack, arguments_of}
 
@@ -73,14 +73,14 @@ less_zero (negsuc n) = sub_less 0 (suc n) n (omega arith)
 chosen : {A : Type 0} (b : Bool) (x y : A) → b ≡ true → cond b x y ≡ x
 chosen b x y h = ap (λ c. cond c x y) h
 
-counted_is : (base n d : ℤ) → n -ℤ base ≡ d → is_word d ≡ true → counted base n ≡ Ok d
-unfolding counted
+counted_is : (base n d : ℤ) → n -ℤ base ≡ d → is_word d ≡ true → offset_from base n ≡ Ok d
+unfolding offset_from
 counted_is base n d is word = ap (λ x. cond (is_word x) (Ok x) (Err Range)) is ∙ chosen (is_word d) (Ok d) (Err Range) word
 
-counted_zero : (n : ℤ) → is_word n ≡ true → counted (pos 0) n ≡ Ok n
+counted_zero : (n : ℤ) → is_word n ≡ true → offset_from (pos 0) n ≡ Ok n
 counted_zero n word = counted_is (pos 0) n n (less_zero n) word
 
-counted_back : (base : ℕ) (d : ℤ) → 524288 ≤ base → base + 524288 ≤ 4294967296 → is_near d ≡ true → counted (pos base) (pos (address_from base d)) ≡ Ok d
+counted_back : (base : ℕ) (d : ℤ) → 524288 ≤ base → base + 524288 ≤ 4294967296 → is_near d ≡ true → offset_from (pos base) (pos (address_from base d)) ≡ Ok d
 counted_back base d least most near = counted_is (pos base) (pos (address_from base d)) d (back base d least most near) (near_word d near)
 
 -- ---- the offsets of calls and of literals
@@ -162,7 +162,7 @@ three_back (triple.Andb name) r s t pc = refl
 three_back (triple.Movf name) r s t pc = refl
 
 -- the offset of a branch or a loop, with its register
-branch_back : (name : OneAndTarget) (s : ℕ) (d : ℤ) (pc : ℕ) → counted (pos (pc + 4)) (pos (address_from (pc + 4) d)) ≡ Ok d → remade (parts.OneAndTarget name (s, d)) pc ≡ Some (Ok (parts.OneAndTarget name (s, d)))
+branch_back : (name : OneAndTarget) (s : ℕ) (d : ℤ) (pc : ℕ) → offset_from (pos (pc + 4)) (pos (address_from (pc + 4) d)) ≡ Ok d → remade (parts.OneAndTarget name (s, d)) pc ≡ Some (Ok (parts.OneAndTarget name (s, d)))
 unfolding parts_in operands shapes_of jump_target
 branch_back (one_target.Beqz name) s d pc e = ap (λ a. Some (and_then (and_then a (λ n. Ok (s, n))) (λ o. Ok (parts.OneAndTarget (one_target.Beqz name) o)))) e
 branch_back (one_target.Loop name) s d pc e = ap (λ a. Some (and_then (and_then a (λ n. Ok (s, n))) (λ o. Ok (parts.OneAndTarget (one_target.Loop name) o)))) e
@@ -178,13 +178,13 @@ parts_back (parts.Three name (r, s, t)) pc least most h = three_back name r s t 
 parts_back (parts.Number name n) pc least most h = ap (λ x. Some (and_then x (λ n. Ok (parts.Number name n)))) (counted_zero n (word_is n h))
 parts_back (parts.Break (x, y)) pc least most h =
     let each = and_parts (in_word x) (in_word y) h in
-    ap (λ a. Some (and_then (and_then a (λ m. and_then (counted (pos 0) y) (λ n. Ok (m, n)))) (λ o. Ok (parts.Break o)))) (counted_zero x (word_is x each.0))
+    ap (λ a. Some (and_then (and_then a (λ m. and_then (offset_from (pos 0) y) (λ n. Ok (m, n)))) (λ o. Ok (parts.Break o)))) (counted_zero x (word_is x each.0))
     ∙ ap (λ a. Some (and_then (and_then a (λ n. Ok (x, n))) (λ o. Ok (parts.Break o)))) (counted_zero y (word_is y each.1))
 parts_back (parts.OneAndNumber name (s, n)) pc least most h = ap (λ a. Some (and_then (and_then a (λ n. Ok (s, n))) (λ o. Ok (parts.OneAndNumber name o)))) (counted_zero n (word_is n h))
 parts_back (parts.TwoAndNumber name (a, b, n)) pc least most h = ap (λ x. Some (and_then (and_then x (λ n. Ok (a, b, n))) (λ o. Ok (parts.TwoAndNumber name o)))) (counted_zero n (word_is n h))
 parts_back (parts.Extui (r, t, n, w)) pc least most h =
     let each = and_parts (in_word n) (in_word w) h in
-    ap (λ a. Some (and_then (and_then a (λ m. and_then (counted (pos 0) w) (λ k. Ok (r, t, m, k)))) (λ o. Ok (parts.Extui o)))) (counted_zero n (word_is n each.0))
+    ap (λ a. Some (and_then (and_then a (λ m. and_then (offset_from (pos 0) w) (λ k. Ok (r, t, m, k)))) (λ o. Ok (parts.Extui o)))) (counted_zero n (word_is n each.0))
     ∙ ap (λ a. Some (and_then (and_then a (λ k. Ok (r, t, n, k))) (λ o. Ok (parts.Extui o)))) (counted_zero w (word_is w each.1))
 parts_back (parts.OneAndSpecial (one_special.Rsr name) (t, n)) pc least most h =
     ap (λ o. option_map (λ arguments. parts_in (mnemonic.OneAndSpecial (one_special.Rsr name)) (pos pc) arguments) (all_known (Some (argument.Register t) ∷ option_map argument.Special o ∷ []))) (all_named (special_access name) n h)
@@ -196,7 +196,7 @@ parts_back (parts.Literal (t, d)) pc least most h = ap (λ a. Some (and_then (an
 parts_back (parts.OneAndTarget name (s, d)) pc least most h = branch_back name s d pc (counted_back (pc + 4) d (omega arith) (omega arith) h)
 parts_back (parts.OneNumberAndTarget name (s, n, d)) pc least most h =
     let each = and_parts (in_word n) (is_near d) h in
-    ap (λ a. Some (and_then (and_then a (λ m. and_then (counted (pos pc +ℤ pos 4) (pos (address_from (pc + 4) d))) (λ k. Ok (s, m, k)))) (λ o. Ok (parts.OneNumberAndTarget name o)))) (counted_zero n (word_is n each.0))
+    ap (λ a. Some (and_then (and_then a (λ m. and_then (offset_from (pos pc +ℤ pos 4) (pos (address_from (pc + 4) d))) (λ k. Ok (s, m, k)))) (λ o. Ok (parts.OneNumberAndTarget name o)))) (counted_zero n (word_is n each.0))
     ∙ ap (λ a. Some (and_then (and_then a (λ k. Ok (s, n, k))) (λ o. Ok (parts.OneNumberAndTarget name o)))) (counted_back (pc + 4) d (omega arith) (omega arith) each.1)
 parts_back (parts.TwoAndTarget name (s, t, d)) pc least most h = ap (λ a. Some (and_then (and_then a (λ n. Ok (s, t, n))) (λ o. Ok (parts.TwoAndTarget name o)))) (counted_back (pc + 4) d (omega arith) (omega arith) h)
 
@@ -214,7 +214,7 @@ read_back i h pc least most =
     let known = all_known (arguments_of (shapes_of m) (operands p pc)) in
     let made = parts_back p pc (omega (arith, least)) (omega (arith, most)) (in_range_fits i h) in
     ap (λ o. option_and_then (λ n. option_map (λ arguments. instruction_of n arguments (pos pc)) (all_known (arguments_of (shapes_of n) (operands p pc)))) o) (found m).0
-    ∙ composed (λ r. and_then r (λ p. checked (insn_of p))) (λ arguments. parts_in m (pos pc) arguments) known
-    ∙ ap (λ o. option_map (λ r. and_then r (λ p. checked (insn_of p))) o) made
-    ∙ ap (λ j. Some (checked j)) (whole i h)
+    ∙ composed (λ r. and_then r (λ p. if_in_range (insn_of p))) (λ arguments. parts_in m (pos pc) arguments) known
+    ∙ ap (λ o. option_map (λ r. and_then r (λ p. if_in_range (insn_of p))) o) made
+    ∙ ap (λ j. Some (if_in_range j)) (whole i h)
     ∙ ap (λ b. Some (cond b (Ok i) (Err Range))) h

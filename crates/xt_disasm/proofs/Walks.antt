@@ -5,7 +5,7 @@ use Rattle.std.specs.Prelude.{if◌then◌else◌, Bool, true, false}
 use Rattle.std.specs.Option.{option_map_or}
 use Rattle.xt_isa.specs.declared.Insn.{Insn}
 use Rattle.xt_isa.specs.Spelling.{within}
-use Rattle.xt_disasm.specs.Listing.{byte_at, code_line, code_lines, front, front_length, lines_of, wanted}
+use Rattle.xt_disasm.specs.Listing.{byte_at, code_line, code_lines, front, front_length, lines_of, wanted_length}
 
 -- each line shows at least one byte
 two_or_three : (b : Bool) → 0 < (if b then 2 else 3)
@@ -17,7 +17,7 @@ shown_by None n some = omega arith
 shown_by (Some i) n some = some
 
 front_length-positive : (bytes : List ℕ) → 0 < front_length bytes
-front_length-positive bytes = shown_by (front bytes) (wanted bytes) (two_or_three (within 8 13 (byte_at bytes 0 % 16)))
+front_length-positive bytes = shown_by (front bytes) (wanted_length bytes) (two_or_three (within 8 13 (byte_at bytes 0 % 16)))
 
 fewer : (k n : ℕ) (b : ℕ) (bytes : List ℕ) → 0 < k → length (b ∷ bytes) ≤ suc n → length (drop k (b ∷ bytes)) ≤ n
 fewer k n b bytes some enough = let len = length-drop k (b ∷ bytes) in omega arith

@@ -9,7 +9,7 @@ use Rattle.std.specs.List.{concat, enumerate_from, flat_map, join_by}
 use Rattle.std.specs.Option.{option_map_or}
 use Rattle.std.specs.Fmt.{decimal}
 use Rattle.xt_isa.specs.declared.Insn.{Insn}
-use Rattle.xt_isa.specs.Spelling.{fields_at, length_of, spelled}
+use Rattle.xt_isa.specs.Spelling.{fields_at, length_of, spelled_insn}
 use Rattle.xt_map.specs.Memory.{is_loaded}
 use Rattle.xt_map.specs.Regions.{is_executable, region_of}
 use Rattle.xt_map.specs.declared.regions.Region.{Region}
@@ -19,7 +19,7 @@ use Rattle.xt_map.specs.declared.segment.Segment.{Segment}
 use Rattle.xt_image.specs.declared.image.Image.{Image}
 use Rattle.xt_word.specs.Hexadecimal.{hex2, hex8}
 use Rattle.xt_names.specs.Names.{name_of}
-use Rattle.xt_names.specs.Parts.{mnemonic_in, parts_of}
+use Rattle.xt_names.specs.InsnParts.{mnemonic_in, parts_of}
 use Rattle.xt_disasm.specs.Operands.{operand_text, operands}
 
 -- ---- an instruction
@@ -43,19 +43,19 @@ abbrev pub byte_at : List ℕ → ℕ → ℕ
 byte_at bytes k = slice_index_or bytes k 0
 
 -- how many bytes the first of some bytes asks for
-abbrev pub wanted : List ℕ → ℕ
-wanted bytes = length_of (byte_at bytes 0)
+abbrev pub wanted_length : List ℕ → ℕ
+wanted_length bytes = length_of (byte_at bytes 0)
 
 -- the instruction that the bytes begin with, where they spell one and are not too few for it
 unfoldable pub front : List ℕ → Option Insn
 front bytes =
-    if nat_le (wanted bytes) (length bytes)
-    then spelled (fields_at (byte_at bytes 0) (byte_at bytes 1) (byte_at bytes 2))
+    if nat_le (wanted_length bytes) (length bytes)
+    then spelled_insn (fields_at (byte_at bytes 0) (byte_at bytes 1) (byte_at bytes 2))
     else None
 
 -- how many of the bytes their first line shows: those of the instruction, or one
 abbrev pub front_length : List ℕ → ℕ
-front_length bytes = option_map_or (λ i. wanted bytes) (front bytes) 1
+front_length bytes = option_map_or (λ i. wanted_length bytes) (front bytes) 1
 
 -- the text of that line: the instruction's, or `.byte 0xHH`
 abbrev pub front_text : ℕ → List ℕ → List ℕ

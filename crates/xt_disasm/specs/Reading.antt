@@ -13,7 +13,7 @@ use Rattle.xt_names.specs.declared.forms.Shape.{Shape}
 use Rattle.xt_names.specs.declared.forms.Shape.TheVariants as shape
 use Rattle.xt_names.specs.Forms.{shapes_of}
 use Rattle.xt_names.specs.Names.{mnemonic_of, name_of}
-use Rattle.xt_names.specs.Parts.{mnemonic_in, parts_of}
+use Rattle.xt_names.specs.InsnParts.{mnemonic_in, parts_of}
 use Rattle.xt_names.specs.Specials.{special_number}
 use Rattle.xt_mnemonic.specs.declared.argument.Argument.{Argument}
 use Rattle.xt_mnemonic.specs.declared.argument.Argument.TheVariants as argument
@@ -46,8 +46,8 @@ arguments_of (s ∷ shapes) (o ∷ printed) = argument_of s o ∷ arguments_of s
 arguments_of _ _ = None ∷ []
 
 -- the instruction that a name and printed operands make at an address, where each of them is found
-abbrev pub read : List ℕ → List Operand → ℕ → Option (Result Insn OperandFault)
-read name printed pc =
+abbrev pub printed_instruction : List ℕ → List Operand → ℕ → Option (Result Insn OperandFault)
+printed_instruction name printed pc =
     option_and_then (λ m. option_map (λ arguments. instruction_of m arguments (pos pc))
     (all_known (arguments_of (shapes_of m) printed))) (mnemonic_of name)
 
@@ -56,4 +56,5 @@ read name printed pc =
 -- address space no target wraps.
 abbrev pub IsReadBack : Insn → Type 0
 IsReadBack i = in_range i ≡ true → (pc : ℕ) → 2 ^ 20 ≤ pc → pc + 2 ^ 20 ≤ 2 ^ 32
-    → read (name_of (mnemonic_in (parts_of i))) (operands (parts_of i) pc) pc ≡ Some (Ok i)
+    → printed_instruction (name_of (mnemonic_in (parts_of i))) (operands (parts_of i) pc) pc
+    ≡ Some (Ok i)

@@ -1,12 +1,12 @@
 -- The newest call of a core, by its frames' numbers.
 use Rattle.std.proofs.Common.{◌≡◌, ℕ, ◌+◌, ◌-◌, ◌*◌, ◌<◌, ◌≤◌, Bool, ◌||◌, Option, List, [], ◌∷◌, length, refl, ◌∙◌, ap, arith}
 use Rattle.xt_map.specs.Touching.{touches}
-use Rattle.xt_frames.specs.Frames.{Frame, known}
+use Rattle.xt_frames.specs.Frames.{Frame, value_or_zero}
 use Rattle.xt_frames.specs.SaveAreas.{before, sp_of}
 use Rattle.xt_frames.specs.Stacks.{Stack}
 use Rattle.xt_frames.specs.Walked.{calls_in, sp_in}
 use Rattle.xt_frames.proofs.Stacked.{chain_top}
-use Rattle.xt_discipline.specs.Bytes.{opened_at}
+use Rattle.xt_discipline.specs.ByteMarks.{opened_at}
 
 pub sp_newest : (frames : List Frame) (sp : ℕ) → sp_in frames sp 0 ≡ sp
 sp_newest [] sp = refl
@@ -37,16 +37,16 @@ under_last hi sp f (g ∷ gs) j top e first more =
     more (omega (arith, e)) ∙ (ap (sp_in (f ∷ (g ∷ gs)) sp) z ∙ sp_newest gs (sp_of g))
 
 -- the area of a call ends above nothing
-pub under_room : (lo hi : ℕ) (seen : List (Option ℕ)) (frames : List Frame) (j top : ℕ) → Stack lo hi seen frames → j + 1 ≡ length frames → (j ≡ 0 → top ≡ hi) → (0 < j → top ≡ sp_in frames (known seen 1) (length frames - (j - 1))) → 16 * calls_in frames (length frames - 1 - j) ≤ top
+pub under_room : (lo hi : ℕ) (seen : List (Option ℕ)) (frames : List Frame) (j top : ℕ) → Stack lo hi seen frames → j + 1 ≡ length frames → (j ≡ 0 → top ≡ hi) → (0 < j → top ≡ sp_in frames (value_or_zero seen 1) (length frames - (j - 1))) → 16 * calls_in frames (length frames - 1 - j) ≤ top
 under_room lo hi seen [] j top k e first more = omega (arith, e)
 under_room lo hi seen (f ∷ fs) j top k e first more =
     let c = calls_last f fs j e in
-    let t = under_last hi (known seen 1) f fs j top e first more in
+    let t = under_last hi (value_or_zero seen 1) f fs j top e first more in
     let large = k.chain.0.large in
     omega (arith, c, t, large)
 
-pub sp_room : (lo hi : ℕ) (seen : List (Option ℕ)) (frames : List Frame) → Stack lo hi seen frames → 16 ≤ known seen 1
-sp_room lo hi seen frames k = let t = (chain_top lo hi (known seen 1) frames k.range k.chain).1 in omega (arith, t)
+pub sp_room : (lo hi : ℕ) (seen : List (Option ℕ)) (frames : List Frame) → Stack lo hi seen frames → 16 ≤ value_or_zero seen 1
+sp_room lo hi seen frames k = let t = (chain_top lo hi (value_or_zero seen 1) frames k.range k.chain).1 in omega (arith, t)
 
 -- the bytes of both areas of the newest call
 pub area_bytes : (hi sp : ℕ) (frames : List Frame) (depth n top : ℕ) (low : ℕ) → depth ≡ length frames → 0 < length frames → low ≡ sp → n ≡ calls_in frames (length frames - 1 - (depth - 1)) → (depth - 1 ≡ 0 → top ≡ hi) → (0 < depth - 1 → top ≡ sp_in frames sp (length frames - (depth - 1 - 1)))

@@ -7,7 +7,7 @@ use Rattle.xt_frames.specs.Breaches.{loads_stale, some_byte, stale_after, stores
 use Rattle.xt_discipline.specs.declared.bytes.Held.{Held}
 use Rattle.xt_discipline.specs.declared.bytes.Change.{Change}
 use Rattle.xt_discipline.specs.declared.bytes.Change.TheVariants.{Enters, Leaves, Stored}
-use Rattle.xt_discipline.specs.Bytes.{Agrees, AreChanged, KnowsOf, changed, either, first, held_at, is_marked, other_live, own_live}
+use Rattle.xt_discipline.specs.ByteMarks.{Agrees, AreChanged, KnowsOf, byte_after_change, either, first, held_at, is_marked, other_live, own_live}
 use Rattle.xt_discipline.proofs.Marks.{some_same}
 
 -- ---- the marks as a core and as the other one sees them
@@ -34,7 +34,7 @@ turned_back marks own others stale k = record {
 }
 
 -- ---- a change is made twice
-pub twice : (change : Change) (h : Held) → changed change (changed change h) ≡ changed change h
+pub twice : (change : Change) (h : Held) → byte_after_change change (byte_after_change change h) ≡ byte_after_change change h
 twice (Enters zero) h = refl
 twice (Enters (suc core)) h = refl
 twice (Leaves zero) h = refl
@@ -54,9 +54,9 @@ over_two false false false f x y z i p q = q ∙ p
 pub both_changed : (change : Change) (t u : ℕ → Bool) (old mid new : List Held) → length mid ≡ length old → AreChanged change t old mid → AreChanged change u mid new → AreChanged change (λ a. t a || u a) old new
 both_changed change t u old mid new len h g a =
     let same : is_marked mid a ≡ is_marked old a = ap (λ (n : ℕ). leb first a && ltb a (first + n)) len in
-    let q : held_at new a ≡ cond (u a && is_marked old a) (changed change (held_at mid a)) (held_at mid a) =
-    g a ∙ ap (λ (b : Bool). cond (u a && b) (changed change (held_at mid a)) (held_at mid a)) same in
-    over_two (t a) (u a) (is_marked old a) (changed change) (held_at old a) (held_at mid a) (held_at new a) (twice change) (h a) q
+    let q : held_at new a ≡ cond (u a && is_marked old a) (byte_after_change change (held_at mid a)) (held_at mid a) =
+    g a ∙ ap (λ (b : Bool). cond (u a && b) (byte_after_change change (held_at mid a)) (held_at mid a)) same in
+    over_two (t a) (u a) (is_marked old a) (byte_after_change change) (held_at old a) (held_at mid a) (held_at new a) (twice change) (h a) q
 
 -- ---- a judged store
 unmarked : (marks : List Held) (a : ℕ) → is_marked marks a ≡ false → (held_at marks a).stale ≡ false
@@ -66,7 +66,7 @@ and_true : (x : Bool) → x ≡ (x && true)
 and_true true = refl
 and_true false = refl
 
-stored_own : (core : ℕ) (t m : Bool) (h : Held) → own_live core (cond (t && m) (changed Stored h) h) ≡ own_live core h
+stored_own : (core : ℕ) (t m : Bool) (h : Held) → own_live core (cond (t && m) (byte_after_change Stored h) h) ≡ own_live core h
 stored_own zero true true h = refl
 stored_own zero true false h = refl
 stored_own zero false m h = refl
@@ -74,7 +74,7 @@ stored_own (suc core) true true h = refl
 stored_own (suc core) true false h = refl
 stored_own (suc core) false m h = refl
 
-stored_other : (core : ℕ) (t m : Bool) (h : Held) → other_live core (cond (t && m) (changed Stored h) h) ≡ other_live core h
+stored_other : (core : ℕ) (t m : Bool) (h : Held) → other_live core (cond (t && m) (byte_after_change Stored h) h) ≡ other_live core h
 stored_other zero true true h = refl
 stored_other zero true false h = refl
 stored_other zero false m h = refl
@@ -82,7 +82,7 @@ stored_other (suc core) true true h = refl
 stored_other (suc core) true false h = refl
 stored_other (suc core) false m h = refl
 
-stored_stale : (t m : Bool) (h : Held) → (m ≡ false → h.stale ≡ false) → (cond (t && m) (changed Stored h) h).stale ≡ (h.stale && not t)
+stored_stale : (t m : Bool) (h : Held) → (m ≡ false → h.stale ≡ false) → (cond (t && m) (byte_after_change Stored h) h).stale ≡ (h.stale && not t)
 stored_stale true true h e = sym (and_right h.stale (not true) refl)
 stored_stale true false h e = e refl ∙ sym (and_right h.stale (not true) refl)
 stored_stale false m h e = and_true h.stale
@@ -105,40 +105,40 @@ marked true m f = f refl
 marked false m f = refl
 
 -- the marked bytes are all that are changed
-pub all_changed : (change : Change) (test : ℕ → Bool) (old new : List Held) → AreChanged change test old new → ((a : ℕ) → test a ≡ true → is_marked old a ≡ true) → (a : ℕ) → held_at new a ≡ cond (test a) (changed change (held_at old a)) (held_at old a)
-all_changed change test old new c inside a = c a ∙ ap (λ (b : Bool). cond b (changed change (held_at old a)) (held_at old a)) (marked (test a) (is_marked old a) (inside a))
+pub all_changed : (change : Change) (test : ℕ → Bool) (old new : List Held) → AreChanged change test old new → ((a : ℕ) → test a ≡ true → is_marked old a ≡ true) → (a : ℕ) → held_at new a ≡ cond (test a) (byte_after_change change (held_at old a)) (held_at old a)
+all_changed change test old new c inside a = c a ∙ ap (λ (b : Bool). cond b (byte_after_change change (held_at old a)) (held_at old a)) (marked (test a) (is_marked old a) (inside a))
 
-pub enters_own : (core : ℕ) (o : Bool) (h : Held) → own_live core (cond o (changed (Enters core) h) h) ≡ (o || own_live core h)
+pub enters_own : (core : ℕ) (o : Bool) (h : Held) → own_live core (cond o (byte_after_change (Enters core) h) h) ≡ (o || own_live core h)
 enters_own zero true h = refl
 enters_own zero false h = refl
 enters_own (suc core) true h = refl
 enters_own (suc core) false h = refl
 
-pub enters_other : (core : ℕ) (o : Bool) (h : Held) → other_live core (cond o (changed (Enters core) h) h) ≡ other_live core h
+pub enters_other : (core : ℕ) (o : Bool) (h : Held) → other_live core (cond o (byte_after_change (Enters core) h) h) ≡ other_live core h
 enters_other zero true h = refl
 enters_other zero false h = refl
 enters_other (suc core) true h = refl
 enters_other (suc core) false h = refl
 
-pub enters_stale : (core : ℕ) (o : Bool) (h : Held) → (cond o (changed (Enters core) h) h).stale ≡ (not o && h.stale)
+pub enters_stale : (core : ℕ) (o : Bool) (h : Held) → (cond o (byte_after_change (Enters core) h) h).stale ≡ (not o && h.stale)
 enters_stale zero true h = refl
 enters_stale zero false h = refl
 enters_stale (suc core) true h = refl
 enters_stale (suc core) false h = refl
 
-pub leaves_own : (core : ℕ) (o : Bool) (h : Held) → own_live core (cond o (changed (Leaves core) h) h) ≡ (not o && own_live core h)
+pub leaves_own : (core : ℕ) (o : Bool) (h : Held) → own_live core (cond o (byte_after_change (Leaves core) h) h) ≡ (not o && own_live core h)
 leaves_own zero true h = refl
 leaves_own zero false h = refl
 leaves_own (suc core) true h = refl
 leaves_own (suc core) false h = refl
 
-pub leaves_other : (core : ℕ) (o : Bool) (h : Held) → other_live core (cond o (changed (Leaves core) h) h) ≡ other_live core h
+pub leaves_other : (core : ℕ) (o : Bool) (h : Held) → other_live core (cond o (byte_after_change (Leaves core) h) h) ≡ other_live core h
 leaves_other zero true h = refl
 leaves_other zero false h = refl
 leaves_other (suc core) true h = refl
 leaves_other (suc core) false h = refl
 
-leaves_stale : (core : ℕ) (o : Bool) (h : Held) → (cond o (changed (Leaves core) h) h).stale ≡ cond o (not (other_live core h)) h.stale
+leaves_stale : (core : ℕ) (o : Bool) (h : Held) → (cond o (byte_after_change (Leaves core) h) h).stale ≡ cond o (not (other_live core h)) h.stale
 leaves_stale zero true h = refl
 leaves_stale zero false h = refl
 leaves_stale (suc core) true h = refl

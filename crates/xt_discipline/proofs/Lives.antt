@@ -3,11 +3,11 @@ use Rattle.std.proofs.Common.{◌≡◌, ℕ, ◌+◌, ◌-◌, ◌*◌, ◌<◌
 use Rattle.std.proofs.lemmas.Bool.{or_from, or_cases, and_parts, leb-true, ltb-true}
 use Rattle.std.proofs.lemmas.Bool.Decides.{nat_tests}
 use Rattle.xt_map.specs.Touching.{touches}
-use Rattle.xt_frames.specs.Frames.{Frame, known}
+use Rattle.xt_frames.specs.Frames.{Frame, value_or_zero}
 use Rattle.xt_frames.specs.SaveAreas.{Area, areas, before, covers_byte, sp_of}
 use Rattle.xt_frames.specs.Stacks.{AreFrames, Chain, IsRange, Rise, Stack}
 use Rattle.xt_frames.proofs.Stacked.{chain_top, rise_more}
-use Rattle.xt_discipline.specs.Bytes.{opened_at}
+use Rattle.xt_discipline.specs.ByteMarks.{opened_at}
 use Rattle.xt_discipline.proofs.Marks.{touches_none}
 
 swap : (x y z rest : Bool) → z ≡ false → (x || (y || rest)) ≡ (y || (x || (z || rest)))
@@ -80,23 +80,23 @@ apart_second lo hi s n a (g ∷ gs) r shaped c low pos small large t =
     (or_from _ _ (touches_none (sp_of g - 16) a)
     (below (sp_of g - 16) (areas hi (sp_of g) g.by gs) a (rise_more lo hi (sp_of g) g.by gs r shaped.1 c.1 shape.moves shape.within k.large) (omega arith)))
 
-pub opened_apart : (lo hi : ℕ) (seen : List (Option ℕ)) (f : Frame) (fs : List Frame) (a : ℕ) → Stack lo hi seen (f ∷ fs) → opened_at hi (known seen 1) f fs a ≡ true → covers_byte (areas hi (sp_of f) 1 fs) a ≡ false
+pub opened_apart : (lo hi : ℕ) (seen : List (Option ℕ)) (f : Frame) (fs : List Frame) (a : ℕ) → Stack lo hi seen (f ∷ fs) → opened_at hi (value_or_zero seen 1) f fs a ≡ true → covers_byte (areas hi (sp_of f) 1 fs) a ≡ false
 opened_apart lo hi seen f fs a k o =
     let l = k.chain.0 in
     let low = l.low in
     let under = l.under in
     let shape = k.shaped.0 in
     ⊎_elim
-    (λ t. apart_first lo hi (known seen 1) (sp_of f) f.by a fs k.range k.shaped.1 k.chain.1 low under t)
+    (λ t. apart_first lo hi (value_or_zero seen 1) (sp_of f) f.by a fs k.range k.shaped.1 k.chain.1 low under t)
     (λ t. apart_second lo hi (sp_of f) f.by a fs k.range k.shaped.1 k.chain.1 (omega arith) shape.moves shape.within l.large t)
-    (or_cases (touches (known seen 1 - 16) 16 a) (touches (before hi fs - 16 * f.by) (16 * (f.by - 1)) a) o)
+    (or_cases (touches (value_or_zero seen 1 - 16) 16 a) (touches (before hi fs - 16 * f.by) (16 * (f.by - 1)) a) o)
 
 before_low : (lo hi s : ℕ) (fs : List Frame) → IsRange lo hi → Chain lo hi s fs → before hi fs ≤ hi
 before_low lo hi s [] r c = omega arith
 before_low lo hi s (g ∷ gs) r c = (chain_top lo hi (sp_of g) gs r c.1).0
 
 -- they lie in the core's stack range
-pub opened_inside : (lo hi : ℕ) (seen : List (Option ℕ)) (f : Frame) (fs : List Frame) (a : ℕ) → Stack lo hi seen (f ∷ fs) → opened_at hi (known seen 1) f fs a ≡ true → (lo ≤ a) × (a < hi)
+pub opened_inside : (lo hi : ℕ) (seen : List (Option ℕ)) (f : Frame) (fs : List Frame) (a : ℕ) → Stack lo hi seen (f ∷ fs) → opened_at hi (value_or_zero seen 1) f fs a ≡ true → (lo ≤ a) × (a < hi)
 opened_inside lo hi seen f fs a k o =
     let l = k.chain.0 in
     let low = l.low in
@@ -108,6 +108,6 @@ opened_inside lo hi seen f fs a k o =
     let high = top.0 in
     let most = before_low lo hi (sp_of f) fs k.range k.chain.1 in
     ⊎_elim
-    (λ t. let i = touches_in (known seen 1 - 16) 16 a t in let x = i.0 in let y = i.1 in (omega arith, omega arith))
+    (λ t. let i = touches_in (value_or_zero seen 1 - 16) 16 a t in let x = i.0 in let y = i.1 in (omega arith, omega arith))
     (λ t. let i = touches_in (before hi fs - 16 * f.by) (16 * (f.by - 1)) a t in let x = i.0 in let y = i.1 in (omega arith, omega arith))
-    (or_cases (touches (known seen 1 - 16) 16 a) (touches (before hi fs - 16 * f.by) (16 * (f.by - 1)) a) o)
+    (or_cases (touches (value_or_zero seen 1 - 16) 16 a) (touches (before hi fs - 16 * f.by) (16 * (f.by - 1)) a) o)

@@ -6,7 +6,7 @@ use Rattle.xt_map.specs.Touching.{touches}
 use Rattle.xt_discipline.specs.declared.bytes.Held.{Held}
 use Rattle.xt_discipline.specs.declared.bytes.Change.{Change}
 use Rattle.xt_frames.specs.Breaches.{some_byte}
-use Rattle.xt_discipline.specs.Bytes.{first, IsChanged, changed, held_at, is_marked, is_held, either, Agrees}
+use Rattle.xt_discipline.specs.ByteMarks.{first, IsChanged, byte_after_change, held_at, is_marked, is_held, either, Agrees}
 
 touches_more : (from k a : ℕ) → touches from (k + 1) a ≡ (touches from k a || touches (from + k) 1 a)
 touches_more from k a = grind (arith, nat_tests)
@@ -29,13 +29,13 @@ pick false false false f x y z apart p q = q ∙ p
 pub one_more : (change : Change) (from k : ℕ) (old m new : List Held) → length m ≡ length old → IsChanged change from k old m → IsChanged change (from + k) 1 m new → IsChanged change from (k + 1) old new
 one_more change from k old m new len h g a =
     let same : is_marked m a ≡ is_marked old a = ap (λ (n : ℕ). leb first a && ltb a (first + n)) len in
-    let q : held_at new a ≡ cond (touches (from + k) 1 a && is_marked old a) (changed change (held_at m a)) (held_at m a) =
-    g a ∙ ap (λ (b : Bool). cond (touches (from + k) 1 a && b) (changed change (held_at m a)) (held_at m a)) same in
-    pick (touches from k a) (touches (from + k) 1 a) (is_marked old a) (changed change) (held_at old a) (held_at m a) (held_at new a) (touches_apart from k a) (h a) q
-    ∙ sym (ap (λ (b : Bool). cond (b && is_marked old a) (changed change (held_at old a)) (held_at old a)) (touches_more from k a))
+    let q : held_at new a ≡ cond (touches (from + k) 1 a && is_marked old a) (byte_after_change change (held_at m a)) (held_at m a) =
+    g a ∙ ap (λ (b : Bool). cond (touches (from + k) 1 a && b) (byte_after_change change (held_at m a)) (held_at m a)) same in
+    pick (touches from k a) (touches (from + k) 1 a) (is_marked old a) (byte_after_change change) (held_at old a) (held_at m a) (held_at new a) (touches_apart from k a) (h a) q
+    ∙ sym (ap (λ (b : Bool). cond (b && is_marked old a) (byte_after_change change (held_at old a)) (held_at old a)) (touches_more from k a))
 
 pub none_changed : (change : Change) (from : ℕ) (old : List Held) → IsChanged change from 0 old old
-none_changed change from old a = sym (ap (λ (b : Bool). cond (b && is_marked old a) (changed change (held_at old a)) (held_at old a)) (touches_none from a))
+none_changed change from old a = sym (ap (λ (b : Bool). cond (b && is_marked old a) (byte_after_change change (held_at old a)) (held_at old a)) (touches_none from a))
 
 -- ---- some byte
 pub some_same : (f g : ℕ → Bool) → ((a : ℕ) → f a ≡ g a) → (addr n : ℕ) → some_byte f addr n ≡ some_byte g addr n

@@ -8,11 +8,11 @@ use Rattle.xt_trace.specs.declared.options.Stack.{Stack}
 use Rattle.xt_trace.specs.Validity.{IsValid, IsValidStack}
 use Rattle.xt_frames.specs.Stacks.{IsRange}
 use Rattle.xt_frames.specs.Walked.{stack_of}
-use Rattle.xt_frames.specs.Frames.{Frame, FrameState, known}
+use Rattle.xt_frames.specs.Frames.{Frame, FrameState, value_or_zero}
 use Rattle.xt_frames.specs.SaveAreas.{areas, covers_byte, is_live}
 use Rattle.xt_discipline.specs.declared.bytes.Held.{Held}
 use Rattle.xt_discipline.specs.declared.bytes.Change.TheVariants.{Enters}
-use Rattle.xt_discipline.specs.Bytes.{AreOpened, IsChanged, IsEnd, first, held_at, is_marked, nothing, other_live, own_live}
+use Rattle.xt_discipline.specs.ByteMarks.{AreOpened, IsChanged, IsEnd, first, held_at, is_marked, nothing, other_live, own_live}
 use Rattle.xt_discipline.proofs.Known.{all_changed, enters_other, enters_own, enters_stale}
 use Rattle.xt_discipline.proofs.Marks.{touches_none}
 use Rattle.xt_discipline.proofs.Moved.{in_marks}
@@ -59,7 +59,7 @@ are_opened marks mid new hi0 hi1 none len len' e0 e1 c d =
 -- the live bytes of a frame that nobody called
 pub live_opened : (lo hi a : ℕ) (f : FrameState) → f.frames ≡ [] → is_live (record { lo = lo; hi = hi }) f a ≡ touches (hi - 76) 4 a
 live_opened lo hi a f none =
-    subst (λ (fs : List Frame). covers_byte (areas hi (known f.seen 1) 1 fs) a ≡ touches (hi - 76) 4 a) (sym none)
+    subst (λ (fs : List Frame). covers_byte (areas hi (value_or_zero f.seen 1) 1 fs) a ≡ touches (hi - 76) 4 a) (sym none)
     (ap (λ (b : Bool). touches (hi - 76) 4 a || (b || false)) (touches_none (hi - 16) a) ∙ or_false (touches (hi - 76) 4 a))
 
 -- ---- marks of which nothing is known

@@ -9,7 +9,7 @@ use Rattle.xt_map.specs.History.{IsOfCores, calls_of}
 use Rattle.xt_trace.specs.declared.run.Run.{Run}
 use Rattle.xt_trace.specs.Schedule.{cores_of, schedule_from}
 use Rattle.xt_trace.specs.Short.{IsRising}
-use Rattle.xt_discipline.specs.declared.order.Order.{Order}
+use Rattle.xt_discipline.specs.declared.order.ScheduleIter.{ScheduleIter}
 use Rattle.xt_discipline.specs.declared.order.Stretch.{Stretch}
 use Rattle.xt_discipline.specs.Schedules.{schedule_in}
 use Rattle.xt_discipline.specs.Ordered.{AreLeft, Comes, HasAccess, IsOrder, IsPiece, IsUpto, turns_behind, turns_left}
@@ -63,7 +63,7 @@ other e rest core s not h =
     record { within = h.within; rise = h.rise; calls = sym (calls_other core e rest not) ∙ h.calls }
 
 -- ---- the pieces of the order
-pub zero_entry : (o : Order) (e : Entry) (rest : Bor (List Entry)) (z : Stretch) (times : ℕ) → IsOrder o → o.entries.now ≡ e ∷ rest.now → e.core ≡ 0 → IsUpto o.zero z times
+pub zero_entry : (o : ScheduleIter) (e : Entry) (rest : Bor (List Entry)) (z : Stretch) (times : ℕ) → IsOrder o → o.entries.now ≡ e ∷ rest.now → e.core ≡ 0 → IsUpto o.zero z times
     → IsPiece o (record o { entries = rest; zero = z }) 0 times
 zero_entry o e rest z times h is same u =
     let left : AreLeft (e ∷ rest.now) o.zero o.one = subst (λ (es : List Entry). AreLeft es o.zero o.one) is h in
@@ -83,7 +83,7 @@ is_one es e rest is cores not =
     let two : e.core < 2 = own_core 0 e refl in
     omega (arith, two, not)
 
-pub one_entry : (o : Order) (e : Entry) (rest : Bor (List Entry)) (w : Stretch) (times : ℕ) → IsOrder o → o.entries.now ≡ e ∷ rest.now → (e.core ≡ 0 → ⊥) → IsUpto o.one w times
+pub one_entry : (o : ScheduleIter) (e : Entry) (rest : Bor (List Entry)) (w : Stretch) (times : ℕ) → IsOrder o → o.entries.now ≡ e ∷ rest.now → (e.core ≡ 0 → ⊥) → IsUpto o.one w times
     → IsPiece o (record o { entries = rest; one = w }) 1 times
 one_entry o e rest w times h is not u =
     let left : AreLeft (e ∷ rest.now) o.zero o.one = subst (λ (es : List Entry). AreLeft es o.zero o.one) is h in
@@ -99,10 +99,10 @@ one_entry o e rest w times h is not u =
     }
 
 -- ---- the next turn
-pub refilled : (old new : Order) (core times : ℕ) → old.times ≡ 0 → IsPiece old new core times → turns_left old ≡ replicate times core ++ turns_behind new
+pub refilled : (old new : ScheduleIter) (core times : ℕ) → old.times ≡ 0 → IsPiece old new core times → turns_left old ≡ replicate times core ++ turns_behind new
 refilled old new core times none p = ap (λ (t : ℕ). replicate t old.core ++ turns_behind old) none ∙ p.turns
 
-pub yields : (old mid : Order) → turns_left old ≡ turns_left mid → 0 < mid.times → YieldsFirst turns_left old (Some mid.core) (record mid { times = mid.times - 1 })
+pub yields : (old mid : ScheduleIter) → turns_left old ≡ turns_left mid → 0 < mid.times → YieldsFirst turns_left old (Some mid.core) (record mid { times = mid.times - 1 })
 yields old mid same some =
     let n : mid.times ≡ suc (mid.times - 1) = omega (arith, some) in
     same ∙ ap (λ (t : ℕ). replicate t mid.core ++ turns_behind mid) n

@@ -6,7 +6,7 @@ use Rattle.xt_trace.specs.declared.record.StepRecord.{StepRecord}
 use Rattle.xt_frames.specs.declared.kinds.Breach.{Breach}
 use Rattle.xt_frames.specs.declared.kinds.BreachKind.{BreachKind}
 use Rattle.xt_frames.specs.Frames.{Frame, FrameState}
-use Rattle.xt_frames.specs.FrameStep.{laid}
+use Rattle.xt_frames.specs.FrameStep.{with_inputs}
 use Rattle.xt_frames.specs.SaveAreas.{is_live}
 use Rattle.xt_frames.specs.Breaches.{Bounds, breach_of, inputs_of, stale_after, stores_at, window_breach}
 use Rattle.xt_frames.specs.Stacks.{Moves, Stays, Calls, Stack}
@@ -15,14 +15,14 @@ use Rattle.xt_frames.specs.HandlerSteps.{Mode, Handles, is_window, mode_after}
 use Rattle.xt_frames.specs.Nesting.{current, is_nesting}
 use Rattle.xt_discipline.specs.declared.side.Mode as declared
 use Rattle.xt_discipline.specs.declared.side.Mode.TheVariants as mode
-use Rattle.xt_frames.specs.Judging.{Standing, Seen, Handled, seen, seen_in, seen_judged, seen_plain, seen_step, seen_window, fresh_on, step_on}
+use Rattle.xt_frames.specs.Judging.{Standing, Seen, Handled, seen_record, seen_in, seen_judged, seen_plain, seen_step, seen_window, fresh_on, step_on}
 use Rattle.std.specs.Prelude.{IfOk}
 use Rattle.xt_frames.specs.Walked.{IsBreach, IsJudged, Walked, found_in, fresh_before, walked_past}
 use Rattle.xt_discipline.specs.declared.bytes.Held.{Held}
 use Rattle.xt_discipline.specs.declared.side.Areas.{Areas}
 use Rattle.xt_discipline.specs.declared.side.Side.{Side}
 use Rattle.xt_discipline.specs.declared.bytes.Change.TheVariants.{Stored}
-use Rattle.xt_discipline.specs.Bytes.{AreChanged, KnowsOf, either}
+use Rattle.xt_discipline.specs.ByteMarks.{AreChanged, KnowsOf, either}
 use Rattle.xt_discipline.specs.Sides.{Begins, IsCallOf, IsFollowed, IsPast, IsSeen, IsSide, live_in, mode_of, standing_of}
 use Rattle.xt_discipline.proofs.Moved.{known_moves}
 
@@ -55,10 +55,10 @@ breach_is b core step e f =
 pub handled_seen : (old new : Side) (marks : List Held) (others stale : ℕ → Bool) (code : ℕ → ℕ) (rec : StepRecord) (u : Unit) (next : declared.Mode) → old.mode ≡ mode.Handles → is_nesting rec.kind ≡ false
     → mode_of next ≡ mode_after code (mode_of old.mode) rec → IsSide old
     → new ≡ record old { mode = next; steps = old.steps + 1 } → KnowsOf old.core marks (live_in old.frames) others stale
-    → IsSeen old new marks others stale (seen code old.frames.bounds (standing_of old) others stale rec) (Ok u)
+    → IsSeen old new marks others stale (seen_record code old.frames.bounds (standing_of old) others stale rec) (Ok u)
 handled_seen old new marks others stale code rec u next h q n k e known =
     let st = standing old.frames.state false (mode_after code (mode_of old.mode) rec) in
-    let z : seen code old.frames.bounds (standing_of old) others stale rec ≡ Handled st = ap (λ (m : declared.Mode). seen_in (mode_of m) code old.frames.bounds (standing_of old) others stale rec) h ∙ cond-false (is_nesting rec.kind) _ _ q in
+    let z : seen_record code old.frames.bounds (standing_of old) others stale rec ≡ Handled st = ap (λ (m : declared.Mode). seen_in (mode_of m) code old.frames.bounds (standing_of old) others stale rec) h ∙ cond-false (is_nesting rec.kind) _ _ q in
     let P : Side → Type 0 = λ n. IsPast old n marks others stale st in
     let past = k.past in
     let is : standing old.frames.state (old.frames.fresh && (old.frames.next == old.steps + 1)) (mode_of next) ≡ st =
@@ -75,12 +75,12 @@ handled_seen old new marks others stale code rec u next h q n k e known =
 
 -- ---- records in the plain mode
 plain_seen : (old : Side) (others stale : ℕ → Bool) (code : ℕ → ℕ) (rec : StepRecord) → old.mode ≡ mode.Plain
-    → seen code old.frames.bounds (standing_of old) others stale rec ≡ seen_plain code old.frames.bounds (standing_of old) others stale rec
+    → seen_record code old.frames.bounds (standing_of old) others stale rec ≡ seen_plain code old.frames.bounds (standing_of old) others stale rec
 plain_seen old others stale code rec h = ap (λ (m : declared.Mode). seen_in (mode_of m) code old.frames.bounds (standing_of old) others stale rec) h
 
 pub begin_seen : (old new : Side) (marks : List Held) (others stale : ℕ → Bool) (code : ℕ → ℕ) (rec : StepRecord) (r : Result Unit Breach) → old.mode ≡ mode.Plain → is_window rec.kind ≡ true → IsSide old
-    → Begins (window_breach code rec.kind (laid (inputs_of rec) (current old.frames.state))) old r new → KnowsOf old.core marks (live_in old.frames) others stale
-    → IsSeen old new marks others stale (seen code old.frames.bounds (standing_of old) others stale rec) r
+    → Begins (window_breach code rec.kind (with_inputs (inputs_of rec) (current old.frames.state))) old r new → KnowsOf old.core marks (live_in old.frames) others stale
+    → IsSeen old new marks others stale (seen_record code old.frames.bounds (standing_of old) others stale rec) r
 begin_seen old new marks others stale code rec (Ok u) h w k begins known =
     let f = old.frames.state in
     let st = standing f false Handles in
@@ -107,16 +107,16 @@ found_by old others stale code nested rec = breach_of old.frames.bounds (fresh_b
 
 -- ---- judged records
 pub plain_judged : (old : Side) (others stale : ℕ → Bool) (code : ℕ → ℕ) (rec : StepRecord) → old.mode ≡ mode.Plain → is_window rec.kind ≡ false
-    → seen code old.frames.bounds (standing_of old) others stale rec ≡ seen_judged code old.frames.bounds (standing_of old) others stale false rec
+    → seen_record code old.frames.bounds (standing_of old) others stale rec ≡ seen_judged code old.frames.bounds (standing_of old) others stale false rec
 plain_judged old others stale code rec h w = plain_seen old others stale code rec h ∙ cond-false (is_window rec.kind) _ _ w
 
 pub nesting_judged : (old : Side) (others stale : ℕ → Bool) (code : ℕ → ℕ) (rec : StepRecord) → old.mode ≡ mode.Handles → is_nesting rec.kind ≡ true
-    → seen code old.frames.bounds (standing_of old) others stale rec ≡ seen_judged code old.frames.bounds (standing_of old) others stale true rec
+    → seen_record code old.frames.bounds (standing_of old) others stale rec ≡ seen_judged code old.frames.bounds (standing_of old) others stale true rec
 nesting_judged old others stale code rec h w =
     ap (λ (m : declared.Mode). seen_in (mode_of m) code old.frames.bounds (standing_of old) others stale rec) h ∙ cond-true (is_nesting rec.kind) _ _ w
 
 pub nested_judged : (old : Side) (others stale : ℕ → Bool) (code : ℕ → ℕ) (rec : StepRecord) → old.mode ≡ mode.Nests
-    → seen code old.frames.bounds (standing_of old) others stale rec ≡ seen_judged code old.frames.bounds (standing_of old) others stale true rec
+    → seen_record code old.frames.bounds (standing_of old) others stale rec ≡ seen_judged code old.frames.bounds (standing_of old) others stale true rec
 nested_judged old others stale code rec h = ap (λ (m : declared.Mode). seen_in (mode_of m) code old.frames.bounds (standing_of old) others stale rec) h
 
 pub step_seen : (old new : Side) (marks : List Held) (others stale : ℕ → Bool) (s t : Seen) (r : Result Unit Breach) → s ≡ t

@@ -9,12 +9,12 @@ use Rattle.xt_frames.specs.declared.kinds.Judged.{Judged}
 use Rattle.xt_frames.specs.declared.kinds.Judged.TheVariants.{Whole, Broken, Unchecked}
 use Rattle.xt_frames.specs.Breaches.{Bounds}
 use Rattle.xt_frames.specs.SaveAreas.{is_live}
-use Rattle.xt_frames.specs.Judging.{Standing, Seen, Handled, Judges, Breaks, seen}
+use Rattle.xt_frames.specs.Judging.{Standing, Seen, Handled, Judges, Breaks, seen_record}
 use Rattle.xt_frames.specs.Verdict.{Known, Judgement, judgement, passed_0, passed_1, past_handled_0, past_handled_1, past_judged_0, past_judged_1, seen_0, seen_1, verdict_on}
 use Rattle.xt_discipline.specs.declared.bytes.Held.{Held}
 use Rattle.xt_discipline.specs.declared.side.Side.{Side}
 use Rattle.xt_discipline.specs.declared.walk.Walk.{Walk}
-use Rattle.xt_discipline.specs.Bytes.{KnowsOf}
+use Rattle.xt_discipline.specs.ByteMarks.{KnowsOf}
 use Rattle.xt_discipline.specs.Sides.{IsPast, IsSeen, live_in, standing_of}
 use Rattle.xt_discipline.specs.Walks.{IsKnown, IsTurned, Knows, Reaches, Turns}
 use Rattle.xt_discipline.proofs.Known.{turned, turned_back}
@@ -43,11 +43,11 @@ live_is s core b st steps k =
     ap (λ (x : Bounds). is_live x.range s.frames.state) k.bounds_are ∙ ap (λ (x : Standing). is_live b.range x.frame) k.standing_is
 
 seen_is : (code : ℕ → ℕ) (s other : Side) (core core' : ℕ) (b b' : Bounds) (st st' : Standing) (steps steps' : ℕ) (stale : ℕ → Bool) (x : StepRecord) → IsKnown s core b st steps → IsKnown other core' b' st' steps'
-    → seen code s.frames.bounds (standing_of s) (live_in other.frames) stale x ≡ seen code b st (is_live b'.range st'.frame) stale x
+    → seen_record code s.frames.bounds (standing_of s) (live_in other.frames) stale x ≡ seen_record code b st (is_live b'.range st'.frame) stale x
 seen_is code s other core core' b b' st st' steps steps' stale x k o =
-    ap (λ (v : Bounds). seen code v (standing_of s) (live_in other.frames) stale x) k.bounds_are
-    ∙ (ap (λ (v : Standing). seen code b v (live_in other.frames) stale x) k.standing_is
-    ∙ ap (λ (v : ℕ → Bool). seen code b st v stale x) (live_is other core' b' st' steps' o))
+    ap (λ (v : Bounds). seen_record code v (standing_of s) (live_in other.frames) stale x) k.bounds_are
+    ∙ (ap (λ (v : Standing). seen_record code b v (live_in other.frames) stale x) k.standing_is
+    ∙ ap (λ (v : ℕ → Bool). seen_record code b st v stale x) (live_is other core' b' st' steps' o))
 
 one_before : (a b : ℕ) → suc a + b ≡ suc (a + b)
 one_before a b = omega arith

@@ -1,7 +1,7 @@
 -- Profile: the walk of the judge over an image, a run and two lists of records, in the order of the
--- run's schedule. `Bytes`, `Sides` and `Walks` say how the code keeps marks of bytes, and carry its
--- proof.
-pub mod Bytes
+-- run's schedule. `ByteMarks`, `Sides` and `Walks` say how the code keeps marks of bytes, and carry
+-- its proof.
+pub mod ByteMarks
 pub mod Sides
 pub mod Walks
 pub mod Places

@@ -6,7 +6,7 @@ use Rattle.xt_map.specs.declared.access.Entry.{Entry}
 use Rattle.xt_map.specs.History.{IsOfCores, calls_of}
 use Rattle.xt_trace.specs.Schedule.{cores_of, schedule_from}
 use Rattle.xt_trace.specs.Short.{IsRising}
-use Rattle.xt_discipline.specs.declared.order.Order.{Order}
+use Rattle.xt_discipline.specs.declared.order.ScheduleIter.{ScheduleIter}
 use Rattle.xt_discipline.specs.declared.order.Stretch.{Stretch}
 
 -- the places that are left rise to below the count, and are as many as the entries of the core
@@ -20,15 +20,15 @@ pub record AreLeft (entries : List Entry) (z w : Stretch) : Type 0 where
   pub zero : Comes entries 0 z
   pub one : Comes entries 1 w
 
-abbrev pub IsOrder : Order → Type 0
+abbrev pub IsOrder : ScheduleIter → Type 0
 IsOrder o = AreLeft o.entries.now o.zero o.one
 
 -- the turns after those that come first, and all
-abbrev pub turns_behind : Order → List ℕ
+abbrev pub turns_behind : ScheduleIter → List ℕ
 turns_behind o = schedule_from (cores_of o.entries.now)
     o.zero.past o.zero.places.now o.zero.count o.one.past o.one.places.now o.one.count
 
-abbrev pub turns_left : Order → List ℕ
+abbrev pub turns_left : ScheduleIter → List ℕ
 turns_left o = replicate o.times o.core ++ turns_behind o
 
 -- an access comes
@@ -46,7 +46,7 @@ pub record IsUpto (old new : Stretch) (times : ℕ) : Type 0 where
   pub some : 0 < times
 
 -- so many turns of a core are passed
-pub record IsPiece (old new : Order) (core times : ℕ) : Type 0 where
+pub record IsPiece (old new : ScheduleIter) (core times : ℕ) : Type 0 where
   pub order : IsOrder new
   pub turns : turns_behind old ≡ replicate times core ++ turns_behind new
   pub none : times ≡ 0 → turns_behind old ≡ []

@@ -4,7 +4,7 @@ use Rattle.std.specs.Prelude.{◌≡◌, ℕ, suc, ◌+◌, ◌-◌, ◌<◌, �
 use Rattle.std.specs.Prelude.{Some, None, Result, Ok, Err, List, ◌∷◌, length}
 use Rattle.xt_map.specs.Touching.{touches}
 use Rattle.xt_frames.specs.SaveAreas.{is_live}
-use Rattle.xt_frames.specs.Frames.{Frame, FrameState, known}
+use Rattle.xt_frames.specs.Frames.{Frame, FrameState, value_or_zero}
 use Rattle.xt_frames.specs.Stacks.{Calls, Moves, Stays}
 use Rattle.xt_frames.specs.Stacks as moves
 use Rattle.xt_frames.specs.declared.kinds.Breach.{Breach}
@@ -18,7 +18,7 @@ use Rattle.xt_discipline.specs.declared.side.Areas.{Areas}
 use Rattle.xt_discipline.specs.declared.side.Side.{Side}
 use Rattle.xt_discipline.specs.declared.side.Mode as declared
 use Rattle.xt_discipline.specs.declared.side.Mode.TheVariants as mode
-use Rattle.xt_discipline.specs.Bytes.{AreChanged, KnowsOf, first, opened_at}
+use Rattle.xt_discipline.specs.ByteMarks.{AreChanged, KnowsOf, first, opened_at}
 
 -- the byte lies in one of both areas
 abbrev pub in_areas : Areas → ℕ → Bool
@@ -40,10 +40,10 @@ pub record IsSide (s : Side) : Type 0 where
 -- the areas of the newest call; the first is the 16 bytes below the newest frame's stack pointer
 pub record IsNewestCall (x : Areas) (hi : ℕ) (g : FrameState) : Type 0 where
   pub called : 0 < length g.frames
-  pub low : x.low ≡ known g.seen 1 - 16
+  pub low : x.low ≡ value_or_zero g.seen 1 - 16
   pub bytes :
       (f : Frame) (fs : List Frame) → g.frames ≡ f ∷ fs → (a : ℕ)
-      → in_areas x a ≡ opened_at hi (known g.seen 1) f fs a
+      → in_areas x a ≡ opened_at hi (value_or_zero g.seen 1) f fs a
 
 -- none where there is none
 abbrev pub IsCallOf : Option Areas → ℕ → FrameState → Type 0
@@ -55,9 +55,9 @@ abbrev pub IsFollowed :
     (core hi : ℕ) (g u : FrameState) → Moves g u → List Held → List Held → Type 0
 IsFollowed core hi g u (Stays e s) mid new = new ≡ mid
 IsFollowed core hi g u (Calls f e s) mid new =
-    AreChanged (Enters core) (opened_at hi (known u.seen 1) f g.frames) mid new
+    AreChanged (Enters core) (opened_at hi (value_or_zero u.seen 1) f g.frames) mid new
 IsFollowed core hi g u (moves.Leaves f e s) mid new =
-    AreChanged (Leaves core) (opened_at hi (known g.seen 1) f u.frames) mid new
+    AreChanged (Leaves core) (opened_at hi (value_or_zero g.seen 1) f u.frames) mid new
 
 -- ---- a record of the core
 

@@ -12,7 +12,7 @@ use Rattle.xt_stretch.specs.declared.HandlerVerdict.{HandlerVerdict}
 use Rattle.xt_stretch.specs.declared.HandlerVerdict.TheVariants.{Yes}
 use Rattle.xt_handlers.specs.declared.Handlers.{Handlers}
 use Rattle.xt_frames.specs.Verdict.{Judgement, judgement, opening_known}
-use Rattle.xt_frames.specs.Walked.{Walked, opened}
+use Rattle.xt_frames.specs.Walked.{Walked, opening_walked}
 use Rattle.xt_discipline.specs.Schedules.{schedule_in}
 
 abbrev pub is_yes : HandlerVerdict → Bool
@@ -29,10 +29,10 @@ are_yes h =
 -- both cores of the machine with unbounded call frames as a run opens: core 0 at the image's entry,
 -- core 1 at its own
 abbrev pub opened0 : Image → Options → Walked
-opened0 image o = opened 0 image.entry o
+opened0 image o = opening_walked 0 image.entry o
 
 abbrev pub opened1 : Options → Walked
-opened1 o = opened 1 o.entry1 o
+opened1 o = opening_walked 1 o.entry1 o
 
 -- the walk of the judge over these records of both cores, in the order of the run's schedule
 abbrev pub judgement_in : Image → Run → List StepRecord → List StepRecord → Judgement

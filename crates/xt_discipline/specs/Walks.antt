@@ -11,13 +11,13 @@ use Rattle.xt_frames.specs.declared.kinds.Judged.{Judged}
 use Rattle.xt_frames.specs.declared.kinds.Judged.TheVariants.{Whole, Broken}
 use Rattle.xt_frames.specs.Breaches.{Bounds}
 use Rattle.xt_frames.specs.HandlerSteps.{Mode}
-use Rattle.xt_frames.specs.Judging.{Standing, seen}
+use Rattle.xt_frames.specs.Judging.{Standing, seen_record}
 use Rattle.xt_frames.specs.Verdict.{Known, judgement, opening_known, verdict_on}
-use Rattle.xt_frames.specs.Walked.{opened}
+use Rattle.xt_frames.specs.Walked.{opening_walked}
 use Rattle.xt_discipline.specs.declared.bytes.Held.{Held}
 use Rattle.xt_discipline.specs.declared.side.Side.{Side}
 use Rattle.xt_discipline.specs.declared.walk.Walk.{Walk}
-use Rattle.xt_discipline.specs.Bytes.{KnowsOf}
+use Rattle.xt_discipline.specs.ByteMarks.{KnowsOf}
 use Rattle.xt_discipline.specs.Sides.{IsSeen, IsSide, live_in, mode_of, standing_of}
 
 -- a core that the definition knows so
@@ -42,9 +42,10 @@ Turns code old new marks others stale [] left (Err j) = j ≡ Whole
 Turns code old new marks others stale (x ∷ xs) left (Ok u) =
     (left ≡ xs)
     × IsSeen old new marks others stale
-    (seen code old.frames.bounds (standing_of old) others stale x) (Ok u)
+    (seen_record code old.frames.bounds (standing_of old) others stale x) (Ok u)
 Turns code old new marks others stale (x ∷ xs) left (Err (Broken b)) =
-    IsSeen old new marks others stale (seen code old.frames.bounds (standing_of old) others stale x)
+    IsSeen old new marks others stale
+    (seen_record code old.frames.bounds (standing_of old) others stale x)
     (Err b)
 Turns code old new marks others stale _ left _ = ⊥
 
@@ -70,8 +71,8 @@ pub record IsOpened (w : Walk) (code : List Segment) (entry : ℕ) (o : Options)
   pub code_is : w.code ≡ code
   pub steps0 : w.side0.steps ≡ 0
   pub steps1 : w.side1.steps ≡ 0
-  pub knows : Knows w (opened 0 entry o).bounds (opened 1 o.entry1 o).bounds
-      (opening_known (opened 0 entry o).state (opened 1 o.entry1 o).state)
+  pub knows : Knows w (opening_walked 0 entry o).bounds (opening_walked 1 o.entry1 o).bounds
+      (opening_known (opening_walked 0 entry o).state (opening_walked 1 o.entry1 o).state)
 
 -- so many turns of a schedule are walked, past which these records are left
 pub record Reaches

@@ -3,7 +3,7 @@
 
 ghost use Rattle.std.specs.Prelude.{◌≡◌, ◌+◌, ◌<◌, ◌^◌, ℕ, Bool};
 ghost use Rattle.xt_frames.specs.Breaches.{loads_stale, some_byte, touches_save_area};
-ghost use Rattle.xt_discipline.specs.Bytes.{Agrees, either, held_at, is_held};
+ghost use Rattle.xt_discipline.specs.ByteMarks.{Agrees, either, held_at, is_held};
 
 use crate::bytes::{Held, held_at};
 use xt_map::{Access, Kind};

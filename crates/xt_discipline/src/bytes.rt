@@ -2,7 +2,7 @@
 #![tactic(auto)]
 
 ghost use Rattle.std.specs.Prelude.{◌≡◌, ◌+◌, ◌≤◌, ◌<◌, ◌^◌, length};
-ghost use Rattle.xt_discipline.specs.Bytes.{IsChanged, changed, held_at, nothing};
+ghost use Rattle.xt_discipline.specs.ByteMarks.{IsChanged, byte_after_change, held_at, nothing};
 
 /// The first address of internal data memory.
 const FIRST: u64 = 0x3FFA_E000;
@@ -41,8 +41,8 @@ pub fn nothing() -> Held
 }
 
 /// A byte after a change.
-pub fn changed(change: Change, held: Held) -> Held
-    ensures { result ≡ changed change held }
+pub fn byte_after_change(change: Change, held: Held) -> Held
+    ensures { result ≡ byte_after_change change held }
 {
     let Held {
         live0,
@@ -104,7 +104,7 @@ fn change_byte(marks: &mut [Held], change: Change, addr: u64)
     let place = addr - FIRST;
     if place < marks.len() as u64 {
         let held = marks[place as usize];
-        marks[place as usize] = changed(change, held);
+        marks[place as usize] = byte_after_change(change, held);
     }
 }
 

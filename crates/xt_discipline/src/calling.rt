@@ -3,7 +3,7 @@
 
 ghost use Rattle.std.specs.Prelude.{◌≡◌, ◌≤◌, ◌<◌, ◌-◌, length};
 ghost use Rattle.xt_frames.specs.Breaches.{Bounds};
-ghost use Rattle.xt_frames.specs.Frames.{FrameState, known};
+ghost use Rattle.xt_frames.specs.Frames.{FrameState, value_or_zero};
 ghost use Rattle.xt_frames.specs.Stacks.{Stack};
 ghost use Rattle.xt_frames.specs.Walked.{calls_in, sp_in};
 ghost use Rattle.xt_discipline.specs.Sides.{IsCallOf, IsNewestCall};
@@ -27,7 +27,7 @@ pub trait Stacked {
     /// The stack pointer of frame `j`, which is at most the number of callers.
     fn stack_pointer(&self, j: u32) -> u32
         requires { j ≤ length (frame self.now).frames }
-        ensures { result ≡ sp_in (frame self.now).frames (known (frame self.now).seen 1) (length (frame self.now).frames - j) };
+        ensures { result ≡ sp_in (frame self.now).frames (value_or_zero (frame self.now).seen 1) (length (frame self.now).frames - j) };
 
     /// By how many windows frame `j` called, which is below the number of callers: 1, 2 or 3.
     fn windows(&self, j: u32) -> u8
@@ -57,7 +57,7 @@ impl Stacked for Frames {
 fn under<C: Stacked>(core: &C, hi: u32, j: u32) -> u32
     requires { j < length (C.frame core.now).frames }
     ensures first { j ≡ 0 → result ≡ hi }
-    ensures more { 0 < j → result ≡ sp_in (C.frame core.now).frames (known (C.frame core.now).seen 1) (length (C.frame core.now).frames - (j - 1)) }
+    ensures more { 0 < j → result ≡ sp_in (C.frame core.now).frames (value_or_zero (C.frame core.now).seen 1) (length (C.frame core.now).frames - (j - 1)) }
 {
     if j == 0 {
         hi
@@ -68,7 +68,7 @@ fn under<C: Stacked>(core: &C, hi: u32, j: u32) -> u32
 
 /// The stack pointer of the newest frame of a core.
 pub fn newest_sp<C: Stacked>(core: &C) -> u32
-    ensures value { result ≡ known (C.frame core.now).seen 1 }
+    ensures value { result ≡ value_or_zero (C.frame core.now).seen 1 }
     ensures stack { Stack (C.bounds core.now).range.lo (C.bounds core.now).range.hi (C.frame core.now).seen (C.frame core.now).frames }
 {
     core.stack_pointer(core.callers())

@@ -4,7 +4,7 @@
 ghost use Rattle.std.specs.Prelude.{◌≡◌, ◌%◌, ◌≤◌, IfOk, length};
 ghost use Rattle.xt_map.specs.Memory.{constant_byte};
 ghost use Rattle.xt_map.specs.Placing.{IsPlaced};
-ghost use Rattle.xt_handlers.specs.Answers.{handlers_of};
+ghost use Rattle.xt_handlers.specs.CheckAnswers.{handlers_of};
 ghost use Rattle.xt_frames.specs.Verdict.{verdict};
 ghost use Rattle.xt_discipline.specs.Schedules.{HasSchedule, schedule_in};
 ghost use Rattle.xt_discipline.specs.Verdicts.{are_yes, is_yes, judgement_in};

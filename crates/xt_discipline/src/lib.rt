@@ -17,7 +17,7 @@ pub use before::walk_before;
 pub use bytes::{Change, Held, change_bytes, held_at};
 pub use calling::{Stacked, areas, newest, newest_sp};
 pub use judging::{are_yes, handlers_of, judge};
-pub use order::{Order, Schedule, schedule_of};
+pub use order::{Schedule, ScheduleIter, schedule_of};
 pub use side::{Areas, Mode, change_areas, closes, is_window, returns};
 pub use stepping::modes;
 pub use walk::{Walk, opening_marks};

@@ -96,7 +96,7 @@ impl<'a> Stretch<'a> {
 /// What is left of the turns of a run in the order of its schedule, which is never written down: an
 /// iterator over their cores.
 #[derive(Drop)]
-pub struct Order<'a> {
+pub struct ScheduleIter<'a> {
     // The entries of the history that come.
     entries: &'a [Entry],
     zero: Stretch<'a>,
@@ -106,14 +106,14 @@ pub struct Order<'a> {
     times: u32,
 }
 
-impl<'a> Order<'a> {
+impl<'a> ScheduleIter<'a> {
     /// All the turns of a run.
-    pub fn of(run: &'a Run) -> Order<'a>
+    pub fn of(run: &'a Run) -> ScheduleIter<'a>
         requires { HasSchedule run.now }
         ensures order { IsOrder result }
         ensures left { turns_left result ≡ schedule_in run.now }
     {
-        Order {
+        ScheduleIter {
             entries: run.history.as_slice(),
             zero: Stretch::of(&run.trace0),
             one: Stretch::of(&run.trace1),
@@ -143,7 +143,7 @@ impl<'a> Order<'a> {
     }
 }
 
-impl Iterator for Order<'_> {
+impl Iterator for ScheduleIter<'_> {
     type Item = u8;
 
     ghost can_next = { IsOrder };
@@ -171,7 +171,7 @@ fn written(alloc: Global, run: &Run) -> Result<Vec<u8>, AllocError>
     requires { HasSchedule run.now }
     ensures { IfOk result (λ list. list.items ≡ schedule_in run.now) }
 {
-    Order::of(run).collect(alloc)
+    ScheduleIter::of(run).collect(alloc)
 }
 
 /// The schedule of a run: for each entry of the history in order, the turns of its core after its

@@ -4,14 +4,14 @@
 ghost use Rattle.std.specs.Prelude.{◌≡◌, ◌<◌, ◌+◌, ◌^◌, ℕ, Bool, true, false, length};
 ghost use Rattle.xt_map.specs.Memory.{constant_byte};
 ghost use Rattle.xt_frames.specs.Frames.{FrameState};
-ghost use Rattle.xt_frames.specs.FrameStep.{laid};
-ghost use Rattle.xt_fetch.specs.Fetching.{fetched};
+ghost use Rattle.xt_frames.specs.FrameStep.{with_inputs};
+ghost use Rattle.xt_fetch.specs.Fetching.{fetch_at};
 ghost use Rattle.xt_frames.specs.HandlerSteps.{closes, ends_stretch, fetched_ends, is_window, mode_after, returns};
-ghost use Rattle.xt_frames.specs.Judging.{seen, seen_judged};
+ghost use Rattle.xt_frames.specs.Judging.{seen_record, seen_judged};
 ghost use Rattle.xt_frames.specs.Nesting.{current};
 ghost use Rattle.xt_frames.specs.Stacks.{Moves, Stack};
 ghost use Rattle.xt_frames.specs.Breaches.{inputs_of, stores_at, window_breach};
-ghost use Rattle.xt_discipline.specs.Bytes.{AreChanged, KnowsOf};
+ghost use Rattle.xt_discipline.specs.ByteMarks.{AreChanged, KnowsOf};
 ghost use Rattle.xt_discipline.specs.declared.bytes.Change.TheVariants.{Stored};
 ghost use Rattle.xt_discipline.specs.Sides.{Begins, IsCallOf, IsFollowed, IsSeen, IsSide, in_areas, live_in, mode_of, standing_of};
 
@@ -97,7 +97,7 @@ fn ends_stretch(insn: Insn) -> bool
 
 /// Whether the bytes at an address are those of L32E or S32E, of which most of a handler is.
 fn reaches_frames(code: &Constants, pc: u32) -> bool
-    ensures { result ≡ true → fetched_ends (fetched (constant_byte code.now) pc) ≡ false }
+    ensures { result ≡ true → fetched_ends (fetch_at (constant_byte code.now) pc) ≡ false }
 {
     if 0xFFFF_FFF0 < pc {
         return false;
@@ -115,7 +115,7 @@ fn reaches_frames(code: &Constants, pc: u32) -> bool
 
 /// Whether the bytes at an address are those of RFWO or RFWU.
 fn ends_at(code: &Constants, pc: u32) -> bool
-    ensures { result ≡ fetched_ends (fetched (constant_byte code.now) pc) }
+    ensures { result ≡ fetched_ends (fetch_at (constant_byte code.now) pc) }
 {
     // (told apart first, since decoding takes longer)
     if reaches_frames(code, pc) {
@@ -227,7 +227,7 @@ impl Side {
     /// handler steps.
     fn begin(&mut self, code: &Constants, rec: &StepRecord) -> Result<(), Breach>
         requires { self.old.steps + 1 < 2 ^ 32 }
-        ensures { Begins (window_breach (constant_byte code.now) rec.now.kind (laid (inputs_of rec.now) (current self.old.frames.state))) self.old result self.new }
+        ensures { Begins (window_breach (constant_byte code.now) rec.now.kind (with_inputs (inputs_of rec.now) (current self.old.frames.state))) self.old result self.new }
     {
         self.frames.test(code, self.steps, rec)?;
         self.mode = Mode::Handles;
@@ -248,7 +248,7 @@ impl Side {
         ensures len { length marks.new ≡ length marks.old }
         ensures seen { (others stale : ℕ → Bool) → KnowsOf self.old.core marks.old (live_in self.old.frames) others stale
             → IsSeen self.old self.new marks.new others stale
-            (seen (constant_byte code.now) self.old.frames.bounds (standing_of self.old) others stale rec.now) result }
+            (seen_record (constant_byte code.now) self.old.frames.bounds (standing_of self.old) others stale rec.now) result }
     {
         match self.mode {
             Mode::Plain => {

@@ -9,8 +9,8 @@ ghost use Rattle.xt_frames.specs.declared.kinds.Judged.TheVariants.{Whole};
 ghost use Rattle.xt_frames.specs.Breaches.{Bounds};
 ghost use Rattle.xt_frames.specs.Stacks.{IsRange};
 ghost use Rattle.xt_frames.specs.Verdict.{Known, judgement, verdict_on};
-ghost use Rattle.xt_frames.specs.Walked.{opened, stack_of};
-ghost use Rattle.xt_discipline.specs.Bytes.{AreOpened, IsEnd, KnowsOf, held_at, nothing};
+ghost use Rattle.xt_frames.specs.Walked.{opening_walked, stack_of};
+ghost use Rattle.xt_discipline.specs.ByteMarks.{AreOpened, IsEnd, KnowsOf, held_at, nothing};
 ghost use Rattle.xt_discipline.specs.Modes.{step_mode};
 ghost use Rattle.xt_discipline.specs.Places.{frames_in};
 ghost use Rattle.xt_discipline.specs.Schedules.{HasSchedule, schedule_in};
@@ -20,7 +20,7 @@ ghost use Rattle.xt_discipline.specs.declared.side.Mode.TheVariants as mode;
 ghost use Rattle.xt_discipline.specs.Walks.{IsOpened, IsTurned, Knows, Turns, found_on, mode_in};
 
 use crate::bytes::{Change, Held, change_bytes, nothing};
-use crate::order::Order;
+use crate::order::ScheduleIter;
 use crate::side::{Mode, Side};
 use crate::step_modes;
 use crate::stepping::step_mode;
@@ -45,7 +45,7 @@ fn side_of(alloc: Global, core: u8, pc: u32, options: &Options, hi: u32) -> Resu
     requires core { core < 2 }
     requires valid { IsValid options.now }
     requires end { hi ≡ (stack_of core options.now).hi }
-    ensures { IfOk result (λ s. s ≡ record { core = core; hi = hi; frames = opened core pc options.now; mode = mode.Plain; steps = 0 }) }
+    ensures { IfOk result (λ s. s ≡ record { core = core; hi = hi; frames = opening_walked core pc options.now; mode = mode.Plain; steps = 0 }) }
 {
     Ok(Side {
         core,
@@ -207,7 +207,7 @@ impl<'a> Walk<'a> {
         ensures { (b0 b1 : Bounds) (k : Known) → Knows self.old b0 b1 k
             → found_on result ≡ verdict_on (judgement (constant_byte self.old.code) b0 b1 (schedule_in run.now) (R.left records0.old) (R.left records1.old) k).breach }
     {
-        for core in Order::of(run) {
+        for core in ScheduleIter::of(run) {
             self.turn(core, records0, records1)?;
         }
         Ok(())

@@ -15,7 +15,7 @@ use Rattle.xt_map.specs.Placing.{is_device}
 use Rattle.xt_map.specs.Regions.{is_constant, is_memory, region_of}
 use Rattle.xt_map.proofs.Indexed.{constant_is_loaded}
 use Rattle.xt_map.proofs.Placed.{find_none}
-use Rattle.xt_image.specs.Parts.{IsWellFormed}
+use Rattle.xt_image.specs.ImageParts.{IsWellFormed}
 use Rattle.xt_image.proofs.Opened.{memory_is}
 use Rattle.xt_elf.specs.declared.header.Header.{Header}
 use Rattle.xt_elf.specs.Headers.{elf_memory, headers_of, is_loaded_header, loads_at}

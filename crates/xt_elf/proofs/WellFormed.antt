@@ -15,7 +15,7 @@ use Rattle.xt_map.specs.Placing as map
 use Rattle.xt_map.specs.Regions.{is_executable, ranges, region_of}
 use Rattle.xt_image.specs.declared.image.Image.{Image}
 use Rattle.xt_image.specs.Made.{made_head}
-use Rattle.xt_image.specs.Parts.{FitsImage, FitsSegment, IsWellFormed, MeetsRules}
+use Rattle.xt_image.specs.ImageParts.{FitsImage, FitsSegment, IsWellFormed, MeetsRules}
 use Rattle.xt_image.proofs.Capacity.{is_short}
 use Rattle.xt_image.proofs.Ruled.{by_rules}
 use Rattle.xt_elf.specs.declared.header.Header.{Header}

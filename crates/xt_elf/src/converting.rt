@@ -1,6 +1,6 @@
 //! From a file to its image.
 ghost use Rattle.std.specs.Prelude.{◌≡◌, ◌≤◌, ◌+◌, true, All, IfOk, length, filter, map};
-ghost use Rattle.xt_image.specs.Parts.{IsWellFormed};
+ghost use Rattle.xt_image.specs.ImageParts.{IsWellFormed};
 ghost use Rattle.xt_elf.specs.declared.header.Header.{Header};
 ghost use Rattle.xt_elf.specs.Headers.{entry_of, is_loaded_header};
 ghost use Rattle.xt_elf.specs.Format.{Converts, HoldsMemoryOf, segment_of};

@@ -10,7 +10,7 @@ use Rattle.xt_trace.specs.declared.record.StepRecord.{StepRecord}
 use Rattle.xt_trace.specs.Left.{first_of}
 use Rattle.xt_events.specs.declared.event.Event.{Event}
 use Rattle.xt_events.specs.Events.{events_from, events_in, others, same_kind, times_in}
-use Rattle.xt_events.specs.Noted.{HasRoom, first_event, noted, once_more}
+use Rattle.xt_events.specs.Noted.{HasRoom, first_event, events_after_record, once_more}
 use Rattle.xt_events.proofs.Following.{first_left}
 
 -- ---- two turns of one kind
@@ -76,10 +76,10 @@ alike a b h = ap (same_kind b) (same_is a b h) ∙ same_self b
 
 -- ---- one turn more
 
-noted_here : (i : ℕ) (r : StepRecord) (e : Event) (rest : List Event) → same_kind r.kind e.kind ≡ true → noted i r (e ∷ rest) ≡ once_more e ∷ rest
+noted_here : (i : ℕ) (r : StepRecord) (e : Event) (rest : List Event) → same_kind r.kind e.kind ≡ true → events_after_record i r (e ∷ rest) ≡ once_more e ∷ rest
 noted_here i r e rest h = rw h refl
 
-noted_later : (i : ℕ) (r : StepRecord) (e : Event) (rest : List Event) → same_kind r.kind e.kind ≡ false → noted i r (e ∷ rest) ≡ e ∷ noted i r rest
+noted_later : (i : ℕ) (r : StepRecord) (e : Event) (rest : List Event) → same_kind r.kind e.kind ≡ false → events_after_record i r (e ∷ rest) ≡ e ∷ events_after_record i r rest
 noted_later i r e rest h = rw h refl
 
 others_less : (k : StepKind) (e : Event) (rest : List Event) → same_kind k e.kind ≡ true → others k (e ∷ rest) ≡ others k rest
@@ -89,7 +89,7 @@ others_keep : (k : StepKind) (e : Event) (rest : List Event) → same_kind k e.k
 others_keep k e rest h = rw h refl
 
 -- a turn of this kind is not among the others
-none_noted : (k : StepKind) (i : ℕ) (r : StepRecord) (es : List Event) → same_kind k r.kind ≡ true → others k (noted i r es) ≡ others k es
+none_noted : (k : StepKind) (i : ℕ) (r : StepRecord) (es : List Event) → same_kind k r.kind ≡ true → others k (events_after_record i r es) ≡ others k es
 none_noted k i r [] h = others_less k (first_event i r) [] h
 none_noted k i r (e ∷ es) h = elim (cases_Bool (same_kind r.kind e.kind)) [
   | inl same ↦
@@ -97,25 +97,25 @@ none_noted k i r (e ∷ es) h = elim (cases_Bool (same_kind r.kind e.kind)) [
       ap (others k) (noted_here i r e es same) ∙ others_less k (once_more e) es less ∙ sym (others_less k e es less)
   | inr other ↦
       ap (others k) (noted_later i r e es other) ∙ elim (cases_Bool (same_kind k e.kind)) [
-        | inl less ↦ others_less k e (noted i r es) less ∙ none_noted k i r es h ∙ sym (others_less k e es less)
-        | inr keep ↦ others_keep k e (noted i r es) keep ∙ ap (λ (xs : List Event). e ∷ xs) (none_noted k i r es h) ∙ sym (others_keep k e es keep)
+        | inl less ↦ others_less k e (events_after_record i r es) less ∙ none_noted k i r es h ∙ sym (others_less k e es less)
+        | inr keep ↦ others_keep k e (events_after_record i r es) keep ∙ ap (λ (xs : List Event). e ∷ xs) (none_noted k i r es h) ∙ sym (others_keep k e es keep)
       ]
 ]
 
 -- a turn of another kind is noted among the others
-noted_among : (k : StepKind) (i : ℕ) (r : StepRecord) (es : List Event) → same_kind k r.kind ≡ false → others k (noted i r es) ≡ noted i r (others k es)
+noted_among : (k : StepKind) (i : ℕ) (r : StepRecord) (es : List Event) → same_kind k r.kind ≡ false → others k (events_after_record i r es) ≡ events_after_record i r (others k es)
 noted_among k i r [] h = others_keep k (first_event i r) [] h
 noted_among k i r (e ∷ es) h = elim (cases_Bool (same_kind r.kind e.kind)) [
   | inl same ↦
       let keep : same_kind k e.kind ≡ false = sym (same_as r.kind e.kind k same) ∙ h in
       ap (others k) (noted_here i r e es same) ∙ others_keep k (once_more e) es keep
-      ∙ sym (noted_here i r e (others k es) same) ∙ ap (noted i r) (sym (others_keep k e es keep))
+      ∙ sym (noted_here i r e (others k es) same) ∙ ap (events_after_record i r) (sym (others_keep k e es keep))
   | inr other ↦
       ap (others k) (noted_later i r e es other) ∙ elim (cases_Bool (same_kind k e.kind)) [
-        | inl less ↦ others_less k e (noted i r es) less ∙ noted_among k i r es h ∙ ap (noted i r) (sym (others_less k e es less))
+        | inl less ↦ others_less k e (events_after_record i r es) less ∙ noted_among k i r es h ∙ ap (events_after_record i r) (sym (others_less k e es less))
         | inr keep ↦
-            others_keep k e (noted i r es) keep ∙ ap (λ (xs : List Event). e ∷ xs) (noted_among k i r es h)
-            ∙ sym (noted_later i r e (others k es) other) ∙ ap (noted i r) (sym (others_keep k e es keep))
+            others_keep k e (events_after_record i r es) keep ∙ ap (λ (xs : List Event). e ∷ xs) (noted_among k i r es h)
+            ∙ sym (noted_later i r e (others k es) other) ∙ ap (events_after_record i r) (sym (others_keep k e es keep))
       ]
 ]
 
@@ -143,8 +143,8 @@ no_more k (x ∷ xs) r h = elim (cases_Bool (same_kind k x.kind)) [
 abbrev counted : ℕ → StepRecord → ℕ → Event
 counted i x n = record { kind = x.kind; times = n; first = i; pc = x.pc }
 
-after_one : (i n : ℕ) (x r : StepRecord) (xs : List StepRecord) → events_from (suc i) (xs ++ r ∷ []) ≡ noted n r (events_from (suc i) xs)
-    → events_from i ((x ∷ xs) ++ r ∷ []) ≡ noted n r (events_from i (x ∷ xs))
+after_one : (i n : ℕ) (x r : StepRecord) (xs : List StepRecord) → events_from (suc i) (xs ++ r ∷ []) ≡ events_after_record n r (events_from (suc i) xs)
+    → events_from i ((x ∷ xs) ++ r ∷ []) ≡ events_after_record n r (events_from i (x ∷ xs))
 after_one i n x r xs later = elim (cases_Bool (same_kind x.kind r.kind)) [
   | inl same ↦
       let few = times_in x.kind xs in
@@ -163,7 +163,7 @@ after_one i n x r xs later = elim (cases_Bool (same_kind x.kind r.kind)) [
       ∙ sym (noted_later n r (counted i x (suc few)) rest (unlike x.kind r.kind other))
 ]
 
-pub one_noted : (i n : ℕ) (xs : List StepRecord) (r : StepRecord) → n ≡ i + length xs → events_from i (xs ++ r ∷ []) ≡ noted n r (events_from i xs)
+pub one_noted : (i n : ℕ) (xs : List StepRecord) (r : StepRecord) → n ≡ i + length xs → events_from i (xs ++ r ∷ []) ≡ events_after_record n r (events_from i xs)
 one_noted i n [] r e = ap (λ (k : ℕ). counted k r 1 ∷ []) (let is : i ≡ n = omega (arith, e) in is)
 one_noted i n (x ∷ xs) r e = after_one i n x r xs (one_noted (suc i) n xs r (omega (arith, e)))
 
@@ -201,19 +201,19 @@ has_room n xs lt = roomier (suc (length xs)) n (events_in xs) lt (bounded 0 xs)
 
 -- the kinds before a place are others
 pub passed : (i : ℕ) (r : StepRecord) (es : List Event) (k : ℕ) (d : Event) → k < length es → same_kind r.kind (get_or es k d).kind ≡ false
-    → noted i r es ≡ take k es ++ noted i r (drop k es) → noted i r es ≡ take (k + 1) es ++ noted i r (drop (k + 1) es)
+    → events_after_record i r es ≡ take k es ++ events_after_record i r (drop k es) → events_after_record i r es ≡ take (k + 1) es ++ events_after_record i r (drop (k + 1) es)
 passed i r es k d lt other so_far =
     let x = get_or es k d in
-    let rest = noted i r (drop (k + 1) es) in
+    let rest = events_after_record i r (drop (k + 1) es) in
     so_far
-    ∙ ap (λ (xs : List Event). take k es ++ noted i r xs) (drop_more es k d lt)
+    ∙ ap (λ (xs : List Event). take k es ++ events_after_record i r xs) (drop_more es k d lt)
     ∙ ap (λ (xs : List Event). take k es ++ xs) (noted_later i r x (drop (k + 1) es) other)
     ∙ sym (append_assoc (take k es) (x ∷ []) rest)
     ∙ ap (λ (xs : List Event). xs ++ rest) (sym (take_more es k d lt))
 
 -- the kind at a place is the record's
 pub found : (i : ℕ) (r : StepRecord) (es : List Event) (k : ℕ) (d : Event) → k < length es → same_kind r.kind (get_or es k d).kind ≡ true
-    → noted i r es ≡ take k es ++ noted i r (drop k es) → slice_set es k (once_more (get_or es k d)) ≡ noted i r es
+    → events_after_record i r es ≡ take k es ++ events_after_record i r (drop k es) → slice_set es k (once_more (get_or es k d)) ≡ events_after_record i r es
 found i r es k d lt same so_far =
     let x = get_or es k d in
     let new = slice_set es k (once_more x) in
@@ -221,15 +221,15 @@ found i r es k d lt same so_far =
     ∙ ap (λ (xs : List Event). xs ++ drop k new) (take-set es k (once_more x))
     ∙ ap (λ (xs : List Event). take k es ++ xs) (drop-set es k (once_more x) lt)
     ∙ ap (λ (xs : List Event). take k es ++ xs) (sym (noted_here i r x (drop (k + 1) es) same))
-    ∙ ap (λ (xs : List Event). take k es ++ noted i r xs) (sym (drop_more es k d lt))
+    ∙ ap (λ (xs : List Event). take k es ++ events_after_record i r xs) (sym (drop_more es k d lt))
     ∙ sym so_far
 
 -- no kind is the record's
-pub none_found : (i : ℕ) (r : StepRecord) (es : List Event) (k : ℕ) → length es ≤ k → noted i r es ≡ take k es ++ noted i r (drop k es)
-    → es ++ first_event i r ∷ [] ≡ noted i r es
+pub none_found : (i : ℕ) (r : StepRecord) (es : List Event) (k : ℕ) → length es ≤ k → events_after_record i r es ≡ take k es ++ events_after_record i r (drop k es)
+    → es ++ first_event i r ∷ [] ≡ events_after_record i r es
 none_found i r es k le so_far =
     ap (λ (xs : List Event). xs ++ first_event i r ∷ []) (sym (take_all k es le))
-    ∙ ap (λ (xs : List Event). take k es ++ noted i r xs) (sym (drop_all k es le))
+    ∙ ap (λ (xs : List Event). take k es ++ events_after_record i r xs) (sym (drop_all k es le))
     ∙ sym so_far
 
 -- a record is the next of a list
@@ -248,7 +248,7 @@ next_of xs k r first =
       | inr (le, none) ↦ absurd (let no : ◌≡◌ {A = Option StepRecord} None (Some r) = sym none ∙ here in cc)
     ]
 
-pub counted_on : (xs : List StepRecord) (k : ℕ) (r : StepRecord) → Next xs k r → events_in (take (k + 1) xs) ≡ noted k r (events_in (take k xs))
+pub counted_on : (xs : List StepRecord) (k : ℕ) (r : StepRecord) → Next xs k r → events_in (take (k + 1) xs) ≡ events_after_record k r (events_in (take k xs))
 counted_on xs k r next =
     let long : length (take k xs) ≡ k = omega (arith, length-take k xs, next.inside) in
     ap events_in next.more ∙ one_noted 0 k (take k xs) r (omega (arith, long))
@@ -269,7 +269,7 @@ same_element (x ∷ xs) (suc k) d e lt = same_element xs k d e (omega (arith, lt
 
 -- the element at a place, read once to test its kind and once to change it
 pub found_there : (i : ℕ) (r : StepRecord) (es now : List Event) (k : ℕ) (x y : Event) → now ≡ es → k < length now → x ≡ get_or now k x → y ≡ get_or now k y
-    → same_kind r.kind x.kind ≡ true → noted i r es ≡ take k es ++ noted i r (drop k es) → slice_set now k (once_more y) ≡ noted i r es
+    → same_kind r.kind x.kind ≡ true → events_after_record i r es ≡ take k es ++ events_after_record i r (drop k es) → slice_set now k (once_more y) ≡ events_after_record i r es
 found_there i r es now k x y same lt x_is y_is test so_far =
     let F : List Event → Type 0 = λ l. k < length l in
     let inside : k < length es = subst F same lt in

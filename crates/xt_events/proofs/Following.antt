@@ -19,10 +19,10 @@ use Rattle.xt_replay.specs.Shown as shown
 use Rattle.xt_replay.specs.Stands.{Stand}
 use Rattle.xt_replay.proofs.Standing.{Step, Steps, bounds, next_step, schedule_long, steps0, steps1}
 use Rattle.xt_events.specs.declared.filter.Filter.{Filter}
-use Rattle.xt_events.specs.declared.told.Told.{Told}
+use Rattle.xt_events.specs.declared.told.TurnLine.{TurnLine}
 use Rattle.xt_events.specs.declared.turn_lines.TurnLines.TheInside.{Inside}
 use Rattle.xt_events.specs.Left.{IsAtPosition, IsNext, IsNextOf, records_left, state_of}
-use Rattle.xt_events.specs.Lines.{LinesState, line_at, filtered_between, lines_from, lines_in, moved, told_at, told_text}
+use Rattle.xt_events.specs.Lines.{LinesState, line_at, filtered_between, lines_from, lines_in, lines_after_turn, told_at, told_text}
 
 -- ---- the first of the records that are left
 
@@ -103,8 +103,8 @@ next_core_is t (Some core) h more is = record {
 }
 
 -- a position that the run has is reached
-pub sought : {E : Type 0} (old new : ReplayState) (p n : ℕ) (r : Result Unit E) → MatchResult r (λ _. (p ≤ n) × (new ≡ shown.moved old p)) (λ _. (n < p) × (new ≡ old)) → p ≤ n
-    → new ≡ shown.moved old p
+pub sought : {E : Type 0} (old new : ReplayState) (p n : ℕ) (r : Result Unit E) → MatchResult r (λ _. (p ≤ n) × (new ≡ shown.replay_at old p)) (λ _. (n < p) × (new ≡ old)) → p ≤ n
+    → new ≡ shown.replay_at old p
 sought old new p n (Ok u) h le = h.1
 sought old new p n (Err e) h le = let beyond : n < p = h.0 in absurd (omega (arith, beyond, le))
 
@@ -127,7 +127,7 @@ same_left : (core : ℕ) (image : Image) (r : Run) (p : ℕ) (old : List StepRec
 same_left core image r p old same here = here ∙ ap (λ (n : ℕ). drop n (records_of core image r).records) (sym same)
 
 left_by0 : (t : Inside) (xs : List StepRecord) (core : ℕ) → IsAtPosition t → Made t.replay.image t.replay.run t.replay.position core → core ≡ 0 → xs ≡ rest_of t.records0
-    → IsAtPosition (record t { replay = shown.moved t.replay (t.replay.position + 1); records0 = xs })
+    → IsAtPosition (record t { replay = shown.replay_at t.replay (t.replay.position + 1); records0 = xs })
 left_by0 t xs core h (made0 is s) none rest = record {
   run_is = h.run_is;
   code_is = h.code_is;
@@ -138,7 +138,7 @@ left_by0 t xs core h (made0 is s) none rest = record {
 left_by0 t xs core h (made1 is s) none rest = absurd (omega (arith, is, none))
 
 left_by1 : (t : Inside) (ys : List StepRecord) (core : ℕ) → IsAtPosition t → Made t.replay.image t.replay.run t.replay.position core → (core ≡ 0 → ⊥) → ys ≡ rest_of t.records1
-    → IsAtPosition (record t { replay = shown.moved t.replay (t.replay.position + 1); records1 = ys })
+    → IsAtPosition (record t { replay = shown.replay_at t.replay (t.replay.position + 1); records1 = ys })
 left_by1 t ys core h (made0 is s) one rest = absurd (one is)
 left_by1 t ys core h (made1 is s) one rest = record {
   run_is = h.run_is;
@@ -151,13 +151,13 @@ left_by1 t ys core h (made1 is s) one rest = record {
 inside : (t : Inside) → IsAtPosition t → t.replay.position < t.end → t.replay.position < length (schedule_in t.replay.run)
 inside t h more = omega (arith, h.end_is, more)
 
-pub kept0 : (t : Inside) (q : ReplayState) (xs : List StepRecord) (core : ℕ) → IsAtPosition t → IsNext (state_of t) core → core ≡ 0 → q ≡ shown.moved t.replay (t.replay.position + 1) → xs ≡ rest_of t.records0
+pub kept0 : (t : Inside) (q : ReplayState) (xs : List StepRecord) (core : ℕ) → IsAtPosition t → IsNext (state_of t) core → core ≡ 0 → q ≡ shown.replay_at t.replay (t.replay.position + 1) → xs ≡ rest_of t.records0
     → IsAtPosition (record t { replay = q; records0 = xs })
 kept0 t q xs core h n none there rest =
     let F : ReplayState → Type 0 = λ s. IsAtPosition (record t { replay = s; records0 = xs }) in
     subst F (sym there) (left_by0 t xs core h (made t.replay.image t.replay.run t.replay.position core h.run_is (inside t h n.more) n.is) none rest)
 
-pub kept1 : (t : Inside) (q : ReplayState) (ys : List StepRecord) (core : ℕ) → IsAtPosition t → IsNext (state_of t) core → (core ≡ 0 → ⊥) → q ≡ shown.moved t.replay (t.replay.position + 1) → ys ≡ rest_of t.records1
+pub kept1 : (t : Inside) (q : ReplayState) (ys : List StepRecord) (core : ℕ) → IsAtPosition t → IsNext (state_of t) core → (core ≡ 0 → ⊥) → q ≡ shown.replay_at t.replay (t.replay.position + 1) → ys ≡ rest_of t.records1
     → IsAtPosition (record t { replay = q; records1 = ys })
 kept1 t q ys core h n one there rest =
     let F : ReplayState → Type 0 = λ s. IsAtPosition (record t { replay = s; records1 = ys }) in
@@ -169,11 +169,11 @@ next_within t core h n = omega (arith, h.end_is, n.more)
 
 -- it stands there
 pub next_there : {E : Type 0} (t : Inside) (core p : ℕ) (new : ReplayState) (r : Result Unit E) → IsAtPosition t → IsNext (state_of t) core → p ≡ t.replay.position
-    → MatchResult r (λ _. (p + 1 ≤ length (schedule_in t.replay.run)) × (new ≡ shown.moved t.replay (p + 1)))
-    (λ _. (length (schedule_in t.replay.run) < p + 1) × (new ≡ t.replay)) → new ≡ shown.moved t.replay (t.replay.position + 1)
+    → MatchResult r (λ _. (p + 1 ≤ length (schedule_in t.replay.run)) × (new ≡ shown.replay_at t.replay (p + 1)))
+    (λ _. (length (schedule_in t.replay.run) < p + 1) × (new ≡ t.replay)) → new ≡ shown.replay_at t.replay (t.replay.position + 1)
 next_there t core p new r h n here found =
     let le : p + 1 ≤ length (schedule_in t.replay.run) = omega (arith, next_within t core h n, here) in
-    sought t.replay new (p + 1) (length (schedule_in t.replay.run)) r found le ∙ ap (λ (k : ℕ). shown.moved t.replay (k + 1)) here
+    sought t.replay new (p + 1) (length (schedule_in t.replay.run)) r found le ∙ ap (λ (k : ℕ). shown.replay_at t.replay (k + 1)) here
 
 -- ---- the record that was given
 
@@ -215,7 +215,7 @@ line_of_core : (f : Filter) (image : Image) (r : Run) (p core : ℕ) (o : Option
 line_of_core f image r p core o is here =
     ap (λ (x : Option ℕ). option_map_or (λ (c : ℕ). told_text (code_of image) f (told_at image r p c)) x []) (sym here ∙ is)
 
-pub some_left : (s : LinesState) (core : ℕ) (segments : List Segment) (told : Told) (text : List ℕ) → IsNext s core → segments ≡ s.image.segments → told ≡ told_at s.image s.run s.position core → text ≡ told_text (constant_byte segments) s.filter told → lines_in s ≡ text ∷ lines_in (moved s)
+pub some_left : (s : LinesState) (core : ℕ) (segments : List Segment) (told : TurnLine) (text : List ℕ) → IsNext s core → segments ≡ s.image.segments → told ≡ told_at s.image s.run s.position core → text ≡ told_text (constant_byte segments) s.filter told → lines_in s ≡ text ∷ lines_in (lines_after_turn s)
 some_left s core segments told text n code told_is text_is =
     let rest = s.end - (s.position + 1) in
     let more : s.end - s.position ≡ suc rest = omega (arith, n.more) in
@@ -254,8 +254,8 @@ ends image r h = let most = bounds image r h in (sym (schedule_long image r h), 
 -- the first position is one of the run
 pub start_there : {E : Type 0} (image : Image) (r : Run) (old new : ReplayState) (from to end start : ℕ) (q : Result Unit E) → IsRunOf image r → old.run ≡ r
     → end ≡ min to (r.trace0.count + r.trace1.count) → start ≡ min from end
-    → MatchResult q (λ _. (start ≤ length (schedule_in old.run)) × (new ≡ shown.moved old start)) (λ _. (length (schedule_in old.run) < start) × (new ≡ old))
-    → new ≡ shown.moved old start
+    → MatchResult q (λ _. (start ≤ length (schedule_in old.run)) × (new ≡ shown.replay_at old start)) (λ _. (length (schedule_in old.run) < start) × (new ≡ old))
+    → new ≡ shown.replay_at old start
 start_there image r old new from to end start q h is e s found =
     let F : Run → Type 0 = λ x. start ≤ length (schedule_in x) in
     let le : start ≤ length (schedule_in r) = omega (arith, e, s, (ends image r h).0) in

@@ -10,7 +10,7 @@ use Rattle.xt_core.specs.Runs.{IsRunOf, records_of}
 use Rattle.xt_replay.specs.Shown.{shown_at, step_in}
 use Rattle.xt_replay.proofs.Placing.{counts}
 use Rattle.xt_replay.proofs.Standing.{Step, next_step, steps0, steps1}
-use Rattle.xt_events.specs.Laws.{EachHasTurn, HasTurn}
+use Rattle.xt_events.specs.EventLaws.{EachHasTurn, HasTurn}
 use Rattle.xt_events.proofs.Following.{other, own}
 
 some_turn : (xs : List StepRecord) (k : ℕ) → k < length xs → (x : StepRecord) × (slice_get xs k ≡ Some x)

@@ -5,13 +5,13 @@
 -- and the length of the instruction.
 use Rattle.std.specs.Prelude.{ℕ, ◌+◌, Bool, true, false, ◌==◌, ◌&&◌, ◌||◌, not, Option, Some, None}
 use Rattle.std.specs.Prelude.{is_some}
-use Rattle.xt_fetch.specs.Fetching.{Fetched, Fetches, Fails, SpellsNothing, fetched}
+use Rattle.xt_fetch.specs.Fetching.{Fetched, Fetches, Fails, SpellsNothing, fetch_at}
 use Rattle.xt_trace.specs.declared.record.StepKind.{StepKind}
 use Rattle.xt_trace.specs.declared.record.StepKind.TheVariants.{Insn, Window, Exc, Interrupt, Wait}
 use Rattle.xt_trace.specs.declared.record.StepKind.TheVariants.{Stop}
 use Rattle.xt_trace.specs.declared.record.StepRecord.{StepRecord}
 use Rattle.xt_events.specs.declared.filter.Filter.{Filter}
-use Rattle.xt_events.specs.declared.told.Told.{Told}
+use Rattle.xt_events.specs.declared.told.TurnLine.{TurnLine}
 
 -- nothing is asked for
 abbrev pub everything : Filter
@@ -40,11 +40,11 @@ jumps_by Wait elsewhere = false
 jumps_by Stop elsewhere = false
 
 abbrev pub jumps : (ℕ → ℕ) → StepRecord → ℕ → Bool
-jumps code r next = jumps_by r.kind (is_elsewhere (fetched code r.pc) r.pc next)
+jumps code r next = jumps_by r.kind (is_elsewhere (fetch_at code r.pc) r.pc next)
 
 -- a turn with this record is of the core that is asked for, has an access if accesses are asked for,
 -- and jumps if jumps are asked for
-unfoldable pub holds : (ℕ → ℕ) → Filter → Told → StepRecord → Bool
+unfoldable pub holds : (ℕ → ℕ) → Filter → TurnLine → StepRecord → Bool
 holds code f t r =
     is_of f.core t.core
     && (not f.accesses || is_some r.access)

@@ -3,4 +3,4 @@ pub mod Noted
 pub mod Filters
 pub mod Lines
 pub mod Left
-pub mod Laws
+pub mod EventLaws

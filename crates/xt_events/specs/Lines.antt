@@ -15,7 +15,7 @@ use Rattle.std.specs.Option.{option_map_or}
 use Rattle.std.specs.List.{concat}
 use Rattle.std.specs.Fmt.{decimal}
 use Rattle.xt_word.specs.Hexadecimal.{hex_digits}
-use Rattle.xt_fetch.specs.Fetching.{Fetched, Fetches, Fails, SpellsNothing, fetched}
+use Rattle.xt_fetch.specs.Fetching.{Fetched, Fetches, Fails, SpellsNothing, fetch_at}
 use Rattle.xt_trace.specs.declared.record.StepRecord.{StepRecord}
 use Rattle.xt_trace.specs.declared.run.Run.{Run}
 use Rattle.xt_trace.specs.Lines.{line_text}
@@ -26,7 +26,7 @@ use Rattle.xt_core.specs.Positions.{schedule_in}
 use Rattle.xt_core.specs.Runs.{code_of, records_of}
 use Rattle.xt_replay.specs.Shown.{shown_at, state_in, step_in}
 use Rattle.xt_events.specs.declared.filter.Filter.{Filter}
-use Rattle.xt_events.specs.declared.told.Told.{Told}
+use Rattle.xt_events.specs.declared.told.TurnLine.{TurnLine}
 use Rattle.xt_events.specs.declared.told.Window.{Window}
 use Rattle.xt_events.specs.Filters.{everything, holds}
 
@@ -53,16 +53,16 @@ window_text before after =
     else codes " | wb " ++ decimal after.base ++ codes " ws " ++ hex4 after.start
 
 -- the line of a turn with this record
-unfoldable pub turn_text : (ℕ → ℕ) → Told → StepRecord → List ℕ
+unfoldable pub turn_text : (ℕ → ℕ) → TurnLine → StepRecord → List ℕ
 turn_text code t r =
-    bare_line t.core t.step r ++ fetched_text (fetched code r.pc) r.pc
+    bare_line t.core t.step r ++ fetched_text (fetch_at code r.pc) r.pc
     ++ window_text t.before t.after ++ codes "\n"
 
 -- the line of a turn of which the filter holds, and nothing for another
-abbrev pub kept_text : (ℕ → ℕ) → Filter → Told → StepRecord → List ℕ
+abbrev pub kept_text : (ℕ → ℕ) → Filter → TurnLine → StepRecord → List ℕ
 kept_text code f t r = if holds code f t r then turn_text code t r else []
 
-abbrev pub told_text : (ℕ → ℕ) → Filter → Told → List ℕ
+abbrev pub told_text : (ℕ → ℕ) → Filter → TurnLine → List ℕ
 told_text code f t = option_map_or (kept_text code f t) t.turn []
 
 -- ---- the turn at a position
@@ -73,7 +73,7 @@ window_of s = record { base = s.base; start = s.start }
 -- What is told of a turn of a core at a position of the schedule: its number is how many turns the
 -- core has made, its record is the one with this number in the core's trace, and the windows are
 -- those of the run at this position and at the next, of which the program counter is too.
-abbrev pub told_at : Image → Run → ℕ → ℕ → Told
+abbrev pub told_at : Image → Run → ℕ → ℕ → TurnLine
 told_at image r p core =
     let here = shown_at image r p in
     let next = shown_at image r (p + 1) in
@@ -130,8 +130,8 @@ abbrev pub lines_in : LinesState → List (List ℕ)
 lines_in s = lines_from s.filter s.image s.run s.position (s.end - s.position)
 
 -- behind the next turn
-abbrev pub moved : LinesState → LinesState
-moved s = record s { position = s.position + 1 }
+abbrev pub lines_after_turn : LinesState → LinesState
+lines_after_turn s = record s { position = s.position + 1 }
 
 -- the first of the lines that are left was given
 abbrev pub Gives :

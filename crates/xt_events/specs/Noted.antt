@@ -13,10 +13,10 @@ abbrev pub once_more : Event → Event
 once_more e = record e { times = e.times + 1 }
 
 -- after one more record, which has this number
-abbrev pub noted : ℕ → StepRecord → List Event → List Event
-noted i r [] = first_event i r ∷ []
-noted i r (e ∷ rest) =
-    if same_kind r.kind e.kind then once_more e ∷ rest else e ∷ noted i r rest
+abbrev pub events_after_record : ℕ → StepRecord → List Event → List Event
+events_after_record i r [] = first_event i r ∷ []
+events_after_record i r (e ∷ rest) =
+    if same_kind r.kind e.kind then once_more e ∷ rest else e ∷ events_after_record i r rest
 
 -- each of them came less often
 abbrev pub HasRoom : ℕ → List Event → Type 0

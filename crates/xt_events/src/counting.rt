@@ -1,7 +1,7 @@
 //! Counting turns by their kinds.
 ghost use Rattle.std.specs.Prelude.{◌≡◌, IfOk, OnOk, length};
 ghost use Rattle.xt_events.specs.Events.{events_in};
-ghost use Rattle.xt_events.specs.Noted.{HasRoom, noted};
+ghost use Rattle.xt_events.specs.Noted.{HasRoom, events_after_record};
 
 use crate::event::{Event, Events, same_kind};
 use std::alloc::{AllocError, Global};
@@ -10,7 +10,7 @@ use xt_trace::{Records, StepRecord};
 // Counts a turn: one more of its kind, or the first one.
 fn note(events: &mut Vec<Event>, step: u32, r: &StepRecord) -> Result<(), AllocError>
     requires { HasRoom 4294967295 events.old.items }
-    ensures { OnOk result (events.new.items ≡ noted step r.now events.old.items) }
+    ensures { OnOk result (events.new.items ≡ events_after_record step r.now events.old.items) }
 {
     for place in 0..events.len() {
         if same_kind(r.kind, events[place].kind) {

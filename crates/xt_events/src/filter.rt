@@ -1,10 +1,10 @@
 //! Which turns of a run are printed.
 ghost use Rattle.std.specs.Prelude.{◌≡◌};
 ghost use Rattle.xt_map.specs.Memory.{constant_byte};
-ghost use Rattle.xt_fetch.specs.Fetching.{fetched};
+ghost use Rattle.xt_fetch.specs.Fetching.{fetch_at};
 ghost use Rattle.xt_events.specs.Filters.{everything, everything, holds, is_elsewhere, is_of, jumps};
 
-use crate::told::Told;
+use crate::told::TurnLine;
 use xt_codec::{Fetch, instruction_at};
 use xt_map::Constants;
 use xt_trace::{StepKind, StepRecord};
@@ -47,7 +47,7 @@ fn is_of(wanted: Option<u8>, core: u8) -> bool
 
 // Whether a program counter is not that behind the instruction that an address fetches.
 fn is_elsewhere(code: &Constants, pc: u32, next: u32) -> bool
-    ensures { result ≡ is_elsewhere (fetched (constant_byte code.now) pc) pc next }
+    ensures { result ≡ is_elsewhere (fetch_at (constant_byte code.now) pc) pc next }
 {
     match instruction_at::<Filter>(code, pc) {
         Fetch::Insn(_, len) => pc.checked_add(len as u32) != Some(next),
@@ -68,7 +68,7 @@ fn jumps(code: &Constants, r: &StepRecord, next: u32) -> bool
 
 /// Whether a turn with this record is to be printed.
 #[tactic(auto, unfolding(crate::specs::Filters::holds))]
-pub fn holds(code: &Constants, filter: Filter, told: &Told, r: &StepRecord) -> bool
+pub fn holds(code: &Constants, filter: Filter, told: &TurnLine, r: &StepRecord) -> bool
     ensures { result ≡ holds (constant_byte code.now) filter told.now r.now }
 {
     is_of(filter.core, told.core)

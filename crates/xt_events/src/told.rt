@@ -11,7 +11,7 @@ pub struct Window {
 /// A turn of a core: its number, its record, the windows before and after it, and the program counter
 /// after it.
 #[derive(Clone, Copy)]
-pub struct Told {
+pub struct TurnLine {
     pub core: u8,
     pub step: u32,
     pub turn: Option<StepRecord>,

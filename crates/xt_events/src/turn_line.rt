@@ -1,11 +1,11 @@
 //! The line of a turn.
 ghost use Rattle.std.specs.Prelude.{◌≡◌, ◌++◌, IfOk, OnOk, string_bytes};
 ghost use Rattle.xt_map.specs.Memory.{constant_byte};
-ghost use Rattle.xt_fetch.specs.Fetching.{fetched};
+ghost use Rattle.xt_fetch.specs.Fetching.{fetch_at};
 ghost use Rattle.xt_events.specs.Lines.{bare_line, fetched_text, hex4, kept_text, told_text, turn_text, window_text};
 
 use crate::filter::{Filter, holds};
-use crate::told::{Told, Window};
+use crate::told::{TurnLine, Window};
 use std::alloc::{AllocError, Global};
 use xt_codec::{Fetch, instruction_at};
 use xt_disasm::insn_text;
@@ -35,9 +35,9 @@ fn push_fetched(
     code: &Constants,
     pc: u32,
 ) -> Result<(), AllocError>
-    ensures { OnOk result (out.new.items ≡ out.old.items ++ fetched_text (fetched (constant_byte code.now) pc) pc) }
+    ensures { OnOk result (out.new.items ≡ out.old.items ++ fetched_text (fetch_at (constant_byte code.now) pc) pc) }
 {
-    match instruction_at::<Told>(code, pc) {
+    match instruction_at::<TurnLine>(code, pc) {
         Fetch::Insn(insn, _) => {
             out.extend_from_slice(b" | ")?;
             let text = insn_text(alloc, &insn, pc)?;
@@ -80,7 +80,7 @@ fn push_turn(
     alloc: Global,
     out: &mut Vec<u8>,
     code: &Constants,
-    told: &Told,
+    told: &TurnLine,
     r: &StepRecord,
 ) -> Result<(), AllocError>
     ensures { OnOk result (out.new.items ≡ out.old.items ++ turn_text (constant_byte code.now) told.now r.now) }
@@ -98,7 +98,7 @@ fn push_kept(
     out: &mut Vec<u8>,
     code: &Constants,
     filter: Filter,
-    told: &Told,
+    told: &TurnLine,
     r: &StepRecord,
 ) -> Result<(), AllocError>
     ensures { OnOk result (out.new.items ≡ out.old.items ++ kept_text (constant_byte code.now) filter told.now r.now) }
@@ -115,7 +115,7 @@ pub fn told_line(
     alloc: Global,
     code: &Constants,
     filter: Filter,
-    told: &Told,
+    told: &TurnLine,
 ) -> Result<Text, AllocError>
     ensures { IfOk result (λ text. text ≡ told_text (constant_byte code.now) filter told.now) }
 {

@@ -2,7 +2,7 @@
 ghost use Rattle.std.specs.Prelude.{◌≡◌, drop};
 
 use crate::filter::Filter;
-use crate::told::{Told, Window};
+use crate::told::{TurnLine, Window};
 use crate::turn_line::told_line;
 use std::alloc::{AllocError, Global};
 use std::marker::Model;
@@ -56,7 +56,7 @@ impl<'a> TurnLines<'a> {
     ghost use Rattle.xt_core.specs.Runs.{IsRunOf, records_of};
     ghost use Rattle.xt_replay.specs.Shown.{shown_at, state_in, step_in};
     ghost use Rattle.xt_events.specs.Left.{IsNext, IsNextOf};
-    ghost use Rattle.xt_events.specs.Lines.{Gives, filtered_between, lines_between, lines_in, moved, told_at, window_of};
+    ghost use Rattle.xt_events.specs.Lines.{Gives, filtered_between, lines_between, lines_in, lines_after_turn, told_at, window_of};
 
     /// The lines of all turns from position `from` on to before position `to`.
     ///
@@ -162,7 +162,7 @@ impl<'a> TurnLines<'a> {
     fn turn(&mut self, core: u8) -> Option<StepRecord>
         requires { IsNext self.old core }
         ensures turn { result ≡ slice_get (records_of core self.old.image self.old.run).records (step_in core (shown_at self.old.image self.old.run self.old.position)) }
-        ensures moved { self.new ≡ moved self.old }
+        ensures moved { self.new ≡ lines_after_turn self.old }
     {
         let next = self.replay.position() + 1;
         if core == 0 {
@@ -176,15 +176,15 @@ impl<'a> TurnLines<'a> {
     }
 
     // What is told of the next turn, which is this core's; goes behind it.
-    fn told(&mut self, core: u8) -> Told
+    fn told(&mut self, core: u8) -> TurnLine
         requires { IsNext self.old core }
         ensures told { result ≡ told_at self.old.image self.old.run self.old.position core }
-        ensures moved { self.new ≡ moved self.old }
+        ensures moved { self.new ≡ lines_after_turn self.old }
     {
         let step = self.step(core);
         let before = self.window(core);
         let turn = self.turn(core);
-        Told {
+        TurnLine {
             core,
             step,
             turn,

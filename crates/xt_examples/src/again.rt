@@ -1,5 +1,5 @@
 //! The listing that follows the code, the functions that it shows, and listings as texts in the assembly language.
-ghost use Rattle.xt_image.specs.Parts.{IsWellFormed};
+ghost use Rattle.xt_image.specs.ImageParts.{IsWellFormed};
 
 use std::alloc::Global;
 use xt_asm::assemble;

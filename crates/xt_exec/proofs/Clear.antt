@@ -3,7 +3,7 @@ use Rattle.std.proofs.Common.{◌≡◌, ℕ, ◌+◌, Bool, true, false, ◌&&�
 use Rattle.std.specs.Prelude.{nat_le}
 use Rattle.xt_window.specs.declared.windows.Overflow.{Overflow}
 use Rattle.xt_window.specs.Ring.{ahead, bit, first_of_three, size_at}
-use Rattle.xt_window.specs.Answers.{overflow_of}
+use Rattle.xt_window.specs.WindowAnswers.{overflow_of}
 
 clear : (f : ℕ → Overflow) (x y z a b c : Bool) → ◌≡◌ {A = Option Overflow} (cond (first_of_three x y z == 0) None (Some (f (first_of_three x y z)))) None
     → first_of_three (a && x) (b && y) (c && z) ≡ 0

@@ -10,7 +10,7 @@ use Rattle.xt_special.specs.Control.{Control}
 use Rattle.xt_window.specs.declared.windows.Return.TheVariants.{Returned, Under, Bad}
 use Rattle.xt_window.specs.Ring.{visible, bit}
 use Rattle.xt_window.specs.Moves.{base_after_return, is_bad}
-use Rattle.xt_window.specs.Answers.{return_of}
+use Rattle.xt_window.specs.WindowAnswers.{return_of}
 use Rattle.xt_rows.specs.declared.outcome.WindowStep.TheVariants.{Enters, Returns, EndsOverflow, EndsUnderflow, Rotates, MovesStack, Reads, Sets, Exchanges}
 use Rattle.xt_rows.specs.declared.outcome.Outcome.{Outcome}
 use Rattle.xt_rows.specs.declared.outcome.Outcome.TheVariants.{Does, Raises, Asks, Stops, Windowed}

@@ -9,19 +9,19 @@ use Rattle.xt_isa.specs.declared.Insn.TheVariants as insn
 use Rattle.xt_isa.specs.declared.three.Three.TheVariants as three
 use Rattle.xt_isa.specs.declared.shift.Shift.TheVariants as shift
 use Rattle.xt_isa.specs.Ranges.{in_range}
-use Rattle.xt_isa.specs.Spelling.{spelled, fields_at, length_of}
+use Rattle.xt_isa.specs.Spelling.{spelled_insn, fields_at, length_of}
 use Rattle.xt_isa.proofs.Ranged.{spelled_at_in_range}
 use Rattle.xt_map.specs.Regions.{region_of, is_executable}
 use Rattle.xt_special.specs.Control.{Control, special_of}
 use Rattle.xt_special.specs.Interrupts.{pending_of}
-use Rattle.xt_special.specs.Timers.{ticked}
+use Rattle.xt_special.specs.Timers.{after_tick}
 use Rattle.xt_special.specs.Exceptions.{after_exception}
 use Rattle.xt_special.specs.Opening.{no_special, opening_special}
 use Rattle.xt_special.specs.WindowExceptions.{after_window_exception}
 use Rattle.xt_window.specs.Ring.{place, visible, bit, with_bit, without_bit, size_at, cleared_regs}
 use Rattle.xt_window.specs.Moves.{base_after_call, base_after_return, base_rotated, behind}
 use Rattle.xt_trace.specs.declared.record.RegWrite.{RegWrite}
-use Rattle.xt_rows.specs.declared.outcome.Awaited.{Awaited}
+use Rattle.xt_rows.specs.declared.outcome.ReplyTarget.{ReplyTarget}
 use Rattle.xt_rows.specs.declared.outcome.Flow.TheVariants.{Falls}
 use Rattle.xt_rows.specs.declared.outcome.WindowRegister.{WindowRegister}
 use Rattle.xt_rows.specs.declared.outcome.WindowRegister.TheVariants as window
@@ -30,17 +30,17 @@ use Rattle.xt_rows.specs.declared.outcome.WindowStep.TheVariants.{Enters, Return
 use Rattle.xt_rows.specs.declared.outcome.Outcome.{Outcome}
 use Rattle.xt_rows.specs.declared.outcome.Outcome.TheVariants.{Does, Raises, Asks, Stops, Windowed}
 use Rattle.xt_fetch.specs.Code.{AreBytes}
-use Rattle.xt_fetch.specs.Fetching.{Fetched, Fetches, Fails, SpellsNothing, fetched, fetched_past, fetched_length, unfetchable, read_as, can_fetch}
+use Rattle.xt_fetch.specs.Fetching.{Fetched, Fetches, Fails, SpellsNothing, fetch_at, fetched_past, fetched_length, unfetchable, read_as, can_fetch}
 use Rattle.xt_rows.specs.Effects.{illegal_instruction, no_caller_window, fetch_error, write_to}
 use Rattle.xt_rows.specs.Operands.{reads, special_reads}
 use Rattle.xt_rows.specs.Outcomes.{outcome_at, value_of}
 use Rattle.xt_rows.specs.Settling.{settled_interrupt, settled_wait, after_flow}
-use Rattle.xt_rows.specs.Laws.{IsWord, IsProper, IsProperStep, IsProperWrite, IsProperAddress, IsShiftAmount}
+use Rattle.xt_rows.specs.RowLaws.{IsWord, IsProper, IsProperStep, IsProperWrite, IsProperAddress, IsShiftAmount}
 use Rattle.xt_rows.proofs.Bounds.{extended_small}
 use Rattle.xt_rows.proofs.Proper.{outcome_words}
 use Rattle.xt_exec.specs.State.{State, opening_regs, opening_state, prid_of}
-use Rattle.xt_exec.specs.Turn.{Planned, planned, turn, in_window, raises, overflow, underflow, window_exception, entered, returned, resumed, moved_stack, windowed, done, checked, is_illegal, window_check, fetched_turn, window_step, falls, return_size, return_pc, window_value, with_window_value, written, with_write}
-use Rattle.xt_exec.specs.Laws.{IsShapedControl, IsShaped}
+use Rattle.xt_exec.specs.Turn.{Planned, planned_turn, turn, in_window, raises, overflow, underflow, window_exception, entry_turn, return_turn, resuming_turn, moved_stack, window_turn, outcome_turn, turn_or_overflow, is_illegal, window_check, fetched_turn, window_step, fall_through, return_size, return_pc, window_value, with_window_value, write_with_reply, with_write}
+use Rattle.xt_exec.specs.TurnLaws.{IsShapedControl, IsShaped}
 use Rattle.xt_exec.proofs.Specials.{words_set, IsShapedSpecial, set_shaped, ticked_shaped, exception_shaped, interrupt_shaped, level_small, window_shaped, flow_shaped, effect_shaped}
 
 -- ---- states
@@ -77,7 +77,7 @@ without_bit_small start w h = omega (arith, and_le_l start (2 ^ 16 - 1 - 2 ^ (w 
 
 window_exception_shaped : (vector base : ℕ) (s : State) → vector < 6 → base < 16 → IsShaped s → IsShapedPlan (window_exception vector base s)
 window_exception_shaped vector base s p q f = record {
-  after = with_windows s base s.start (ticked (after_window_exception s.base vector s.control)) q f.start f (ticked_shaped _ (window_shaped s.base vector s.control f.base p f.control));
+  after = with_windows s base s.start (after_tick (after_window_exception s.base vector s.control)) q f.start f (ticked_shaped _ (window_shaped s.base vector s.control f.base p f.control));
   write = tt;
 }
 
@@ -103,7 +103,7 @@ underflow_shaped size s h f = window_exception_shaped (2 * (size - 1) + 1) (base
 -- ---- exceptions, interrupts and waiting
 
 raises_shaped : (cause : ℕ) (address : Option ℕ) (s : State) → cause < 64 → IsProperAddress address → IsShaped s
-    → IsShaped (record s { control = ticked (after_exception cause address s.control) })
+    → IsShaped (record s { control = after_tick (after_exception cause address s.control) })
 raises_shaped cause address s p a f = with_control s _ f (ticked_shaped _ (exception_shaped cause address s.control p a f.control))
 
 raised : (cause : ℕ) (s : State) → cause < 64 → IsShaped s → IsShapedPlan (raises cause s)
@@ -114,11 +114,11 @@ raised cause s p f = record { after = raises_shaped cause None s p tt f; write =
 step_shaped : (write : Option RegWrite) (s : State) → IsProperWrite (λ n. IsWord n) write → IsShaped s → IsShapedPlan (window_step write s)
 step_shaped write s p f = record { after = with_control s _ f (ticked_shaped s.control f.control); write = p }
 
-falls_shaped : (len : ℕ) (s : State) → IsShaped s → IsShaped (falls len s)
+falls_shaped : (len : ℕ) (s : State) → IsShaped s → IsShaped (fall_through len s)
 falls_shaped len s f = with_control s _ f (flow_shaped Falls len s.control tt f.control)
 
-entered_shaped : (number value len : ℕ) (s : State) → number < 16 → IsWord value → IsShaped s → IsShapedPlan (entered number value len s)
-unfolding entered
+entered_shaped : (number value len : ℕ) (s : State) → number < 16 → IsWord value → IsShaped s → IsShapedPlan (entry_turn number value len s)
+unfolding entry_turn
 entered_shaped number value len s p q f =
     let base = base_after_call s.base s.control.ps.callinc in
     step_shaped (write_to number value) _ (p, q)
@@ -127,8 +127,8 @@ entered_shaped number value len s p q f =
 to_pc : (c : Control) (pc : ℕ) → IsWord pc → IsShapedControl c → IsShapedControl (record c { pc = pc })
 to_pc c pc p f = record { pc = p; count = f.count; words = f.words; shape = f.shape; ps = f.ps; threadptr = f.threadptr }
 
-returned_shaped : (a0 : ℕ) (s : State) → IsWord a0 → IsShaped s → IsShapedPlan (returned a0 s)
-unfolding returned
+returned_shaped : (a0 : ℕ) (s : State) → IsWord a0 → IsShaped s → IsShapedPlan (return_turn a0 s)
+unfolding return_turn
 returned_shaped a0 s p f = by_test (bit s.start (base_after_return s.base (return_size a0)))
   where
     by_test : (b : Bool) → IsShapedPlan (cond b (window_step None (record s { base = base_after_return s.base (return_size a0); start = without_bit s.start s.base; control = record s.control { pc = return_pc s.control.pc a0 } })) (underflow (return_size a0) s))
@@ -138,8 +138,8 @@ returned_shaped a0 s p f = by_test (bit s.start (base_after_return s.base (retur
         (omega arith) (without_bit_small s.start s.base f.start) f (to_pc s.control (return_pc s.control.pc a0) (let w : s.control.pc < 2 ^ 32 = f.control.pc in omega arith) f.control))
     by_test false = underflow_shaped (return_size a0) s (omega arith) f
 
-resumed_shaped : (start epc1 : ℕ) (s : State) → start < 2 ^ 16 → IsWord epc1 → IsShaped s → IsShapedPlan (resumed start epc1 s)
-unfolding resumed
+resumed_shaped : (start epc1 : ℕ) (s : State) → start < 2 ^ 16 → IsWord epc1 → IsShaped s → IsShapedPlan (resuming_turn start epc1 s)
+unfolding resuming_turn
 resumed_shaped start epc1 s p q f =
     let g = f.control in
     step_shaped None _ tt
@@ -154,7 +154,7 @@ moved_shaped : (number value len : ℕ) (s : State) → number < 16 → IsWord v
 unfolding moved_stack
 moved_shaped number value len s p q f = by_test (eqb (behind s.start s.base) 0)
   where
-    by_test : (b : Bool) → IsShapedPlan (cond b (raises no_caller_window s) (window_step (write_to number value) (falls len s)))
+    by_test : (b : Bool) → IsShapedPlan (cond b (raises no_caller_window s) (window_step (write_to number value) (fall_through len s)))
     by_test true = raised no_caller_window s (omega arith) f
     by_test false = step_shaped (write_to number value) _ (p, q) (falls_shaped len s f)
 
@@ -166,7 +166,7 @@ with_value_shaped : (register : WindowRegister) (value : ℕ) (s : State) → Is
 with_value_shaped window.Base value s f = with_windows s (value % 2 ^ 4) s.start s.control (omega arith) f.start f f.control
 with_value_shaped window.Start value s f = with_windows s s.base (value % 2 ^ 16) s.control f.base (omega arith) f f.control
 
-windowed_shaped : (w : WindowStep) (len : ℕ) (s : State) → IsProperStep w → IsShaped s → IsShapedPlan (windowed w len s)
+windowed_shaped : (w : WindowStep) (len : ℕ) (s : State) → IsProperStep w → IsShaped s → IsShapedPlan (window_turn w len s)
 windowed_shaped (Enters number value) len s p f = entered_shaped number value len s p.0 p.1 f
 windowed_shaped (Returns a0) len s p f = returned_shaped a0 s p f
 windowed_shaped (EndsOverflow epc1) len s p f = resumed_shaped (without_bit s.start s.base) epc1 s (without_bit_small s.start s.base f.start) p f
@@ -175,13 +175,13 @@ windowed_shaped (Rotates n) len s p f =
     step_shaped None _ tt (with_windows s (base_rotated s.base n) s.start (after_flow Falls len s.control) (rotated_small s.base n) f.start f (flow_shaped Falls len s.control tt f.control))
 windowed_shaped (MovesStack number value) len s p f = moved_shaped number value len s p.0 p.1 f
 windowed_shaped (Reads register number) len s p f = step_shaped (write_to number (window_value register s)) _ (p, value_small register s f) (falls_shaped len s f)
-windowed_shaped (Sets register value) len s p f = step_shaped None _ tt (with_value_shaped register value (falls len s) (falls_shaped len s f))
+windowed_shaped (Sets register value) len s p f = step_shaped None _ tt (with_value_shaped register value (fall_through len s) (falls_shaped len s f))
 windowed_shaped (Exchanges register number value) len s p f =
-    step_shaped (write_to number (window_value register s)) _ (p.0, value_small register s f) (with_value_shaped register value (falls len s) (falls_shaped len s f))
+    step_shaped (write_to number (window_value register s)) _ (p.0, value_small register s f) (with_value_shaped register value (fall_through len s) (falls_shaped len s f))
 
 -- ---- one instruction
 
-done_shaped : (o : Outcome) (len : ℕ) (s : State) → IsProper (λ n. IsWord n) o → IsShaped s → IsShapedPlan (done o len s)
+done_shaped : (o : Outcome) (len : ℕ) (s : State) → IsProper (λ n. IsWord n) o → IsShaped s → IsShapedPlan (outcome_turn o len s)
 done_shaped (Does e) len s p f = record { after = with_control s _ f (ticked_shaped _ (effect_shaped e len s.control p f.control)); write = p.write }
 done_shaped (Raises cause address) len s p f = record { after = raises_shaped cause address s p.0 p.1 f; write = tt }
 done_shaped (Asks access awaited e) len s p f = record { after = with_control s _ f (ticked_shaped _ (effect_shaped e len s.control p.2 f.control)); write = tt }
@@ -221,7 +221,7 @@ outcome_shaped code i s bytes ok f =
       threadptr_word = f.control.threadptr;
     })
 
-checked_shaped : (distance : ℕ) (code : ℕ → ℕ) (i : Insn) (len : ℕ) (s : State) → AreBytes code → in_range i ≡ true → IsShaped s → IsShapedPlan (checked distance code i len s)
+checked_shaped : (distance : ℕ) (code : ℕ → ℕ) (i : Insn) (len : ℕ) (s : State) → AreBytes code → in_range i ≡ true → IsShaped s → IsShapedPlan (turn_or_overflow distance code i len s)
 checked_shaped zero code i len s bytes ok f = done_shaped (outcome_at code i (visible s.regs s.base) s.control) len s (outcome_shaped code i s bytes ok f) f
 checked_shaped (suc distance) code i len s bytes ok f = overflow_shaped (suc distance) s f
 
@@ -250,16 +250,16 @@ IsGood code (Fetches i len) = in_range i ≡ true
 IsGood code (Fails address) = IsWord address
 IsGood code SpellsNothing = Unit {0}
 
-fetched_good : (code : ℕ → ℕ) (pc : ℕ) → AreBytes code → IsWord pc → IsGood code (fetched code pc)
-unfolding fetched IsGood
+fetched_good : (code : ℕ → ℕ) (pc : ℕ) → AreBytes code → IsWord pc → IsGood code (fetch_at code pc)
+unfolding fetch_at IsGood
 fetched_good code pc bytes p = by_test (unfetchable pc (fetched_length code pc)) refl
   where
-    read : (x : Option Insn) → x ≡ spelled (fields_at (code pc) (code (pc + 1)) (code (pc + 2))) → IsGood code (read_as x (length_of (code pc)))
+    read : (x : Option Insn) → x ≡ spelled_insn (fields_at (code pc) (code (pc + 1)) (code (pc + 2))) → IsGood code (read_as x (length_of (code pc)))
     read None e = tt
     read (Some i) e = spelled_at_in_range (code pc) (code (pc + 1)) (code (pc + 2)) i (bytes pc) (bytes (pc + 1)) (bytes (pc + 2)) e
 
     by_test : (o : Option ℕ) → unfetchable pc (fetched_length code pc) ≡ o → IsGood code (fetched_past o code pc)
-    by_test None e = read (spelled (fields_at (code pc) (code (pc + 1)) (code (pc + 2)))) refl
+    by_test None e = read (spelled_insn (fields_at (code pc) (code (pc + 1)) (code (pc + 2)))) refl
     by_test (Some a) e = unfetchable_word pc (fetched_length code pc) a p e
 
 fetched_shaped : (g : Fetched) (code : ℕ → ℕ) (s : State) → AreBytes code → IsGood code g → IsShaped s → IsShapedPlan (fetched_turn g code s)
@@ -268,27 +268,27 @@ fetched_shaped (Fails address) code s bytes good f = record { after = raises_sha
 fetched_shaped SpellsNothing code s bytes good f = raised illegal_instruction s (omega arith) f
 fetched_shaped (Fetches i len) code s bytes good f = by_test (is_illegal i s)
   where
-    by_test : (b : Bool) → IsShapedPlan (cond b (raises illegal_instruction s) (checked (window_check i s) code i len s))
+    by_test : (b : Bool) → IsShapedPlan (cond b (raises illegal_instruction s) (turn_or_overflow (window_check i s) code i len s))
     by_test true = raised illegal_instruction s (omega arith) f
     by_test false = checked_shaped (window_check i s) code i len s bytes good f
 
 -- ---- one turn
 
-planned_shaped : (code : ℕ → ℕ) (s : State) → AreBytes code → IsShaped s → IsShapedPlan (planned code s)
-unfolding planned
+planned_shaped : (code : ℕ → ℕ) (s : State) → AreBytes code → IsShaped s → IsShapedPlan (planned_turn code s)
+unfolding planned_turn
 planned_shaped code s bytes f = by_tests (nat_lt 0 (pending_of s.control)) s.control.waits
   where
-    by_tests : (b c : Bool) → IsShapedPlan (cond b (in_window (settled_interrupt (pending_of s.control) s.control) s) (cond c (in_window (settled_wait s.control) s) (fetched_turn (fetched code s.control.pc) code s)))
+    by_tests : (b c : Bool) → IsShapedPlan (cond b (in_window (settled_interrupt (pending_of s.control) s.control) s) (cond c (in_window (settled_wait s.control) s) (fetched_turn (fetch_at code s.control.pc) code s)))
     by_tests true c = record { after = with_control s _ f (ticked_shaped _ (interrupt_shaped (pending_of s.control) s.control (level_small _ _ _) f.control)); write = tt }
     by_tests false true = record { after = with_control s _ f (ticked_shaped s.control f.control); write = tt }
-    by_tests false false = fetched_shaped (fetched code s.control.pc) code s bytes (fetched_good code s.control.pc bytes f.control.pc) f
+    by_tests false false = fetched_shaped (fetch_at code s.control.pc) code s bytes (fetched_good code s.control.pc bytes f.control.pc) f
 
 -- of the write that is made no more than its value is needed
 IsWordWrite : Option RegWrite → Type 0
 IsWordWrite None = Unit {0}
 IsWordWrite (Some w) = IsWord w.value
 
-word_write : (write : Option RegWrite) (awaited : Option Awaited) (reply : ℕ) → IsProperWrite (λ n. IsWord n) write → IsWord reply → IsWordWrite (written write awaited reply)
+word_write : (write : Option RegWrite) (awaited : Option ReplyTarget) (reply : ℕ) → IsProperWrite (λ n. IsWord n) write → IsWord reply → IsWordWrite (write_with_reply write awaited reply)
 unfolding IsWordWrite
 word_write None None reply p q = tt
 word_write (Some w) None reply p q = p.1
@@ -309,8 +309,8 @@ pub turn_shaped : (code : ℕ → ℕ) (s : State) (reply : ℕ) → AreBytes co
 unfolding turn
 turn_shaped code s reply bytes f small =
     let p = planned_shaped code s bytes f in
-    write_shaped (written (planned code s).write (planned code s).awaited reply) (planned code s).after
-    (word_write (planned code s).write (planned code s).awaited reply p.write small) p.after
+    write_shaped (write_with_reply (planned_turn code s).write (planned_turn code s).awaited reply) (planned_turn code s).after
+    (word_write (planned_turn code s).write (planned_turn code s).awaited reply p.write small) p.after
 
 -- ---- the opening
 

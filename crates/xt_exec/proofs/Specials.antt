@@ -5,7 +5,7 @@ use Rattle.std.proofs.lemmas.Nat.{or_lt}
 use Rattle.xt_special.specs.declared.ps.Ps.{Ps}
 use Rattle.xt_special.specs.Control.{Control, special_of, ps_word}
 use Rattle.xt_special.specs.Shape.{IsPs, HasShape, CanHold, IsProperSet}
-use Rattle.xt_special.specs.Timers.{with_timer, ticked_special, ticked}
+use Rattle.xt_special.specs.Timers.{with_timer, ticked_special, after_tick}
 use Rattle.xt_special.specs.Exceptions.{with_address, after_general, after_double, after_exception}
 use Rattle.xt_special.specs.Interrupts.{pending_level, after_high_level, after_interrupt}
 use Rattle.xt_special.specs.WindowExceptions.{after_window_exception}
@@ -14,11 +14,11 @@ use Rattle.xt_special.specs.declared.writes.SpecialWrite.{SpecialWrite}
 use Rattle.xt_rows.specs.declared.outcome.Flow.{Flow}
 use Rattle.xt_rows.specs.declared.outcome.Flow.TheVariants.{Falls, Goes}
 use Rattle.xt_rows.specs.declared.outcome.Effect.{Effect}
-use Rattle.xt_rows.specs.Laws.{IsWord, IsProperAddress, IsProperFlow, IsProperEffect}
+use Rattle.xt_rows.specs.RowLaws.{IsWord, IsProperAddress, IsProperFlow, IsProperEffect}
 use Rattle.xt_special.specs.Access.{with_set}
 use Rattle.xt_rows.specs.Settling.{after_flow, after_effect}
 use Rattle.xt_rows.proofs.Bounds.{ps_word_small}
-use Rattle.xt_exec.specs.Laws.{AreWords, IsShapedControl}
+use Rattle.xt_exec.specs.TurnLaws.{AreWords, IsShapedControl}
 
 -- ---- a list in which one entry is set
 
@@ -81,7 +81,7 @@ control_with : (pc : ℕ) (special : List ℕ) (ps : Ps) (threadptr : ℕ) (wait
     → IsShapedControl (record { pc = pc; special = special; ps = ps; threadptr = threadptr; waits = waits })
 control_with pc special ps threadptr waits p f g h = record { pc = p; count = f.count; words = f.words; shape = f.shape; ps = g; threadptr = h }
 
-pub ticked_shaped : (c : Control) → IsShapedControl c → IsShapedControl (ticked c)
+pub ticked_shaped : (c : Control) → IsShapedControl c → IsShapedControl (after_tick c)
 ticked_shaped c f = control_with c.pc (ticked_special c.special) c.ps c.threadptr c.waits f.pc (special_ticked c.special (special_shaped c f)) f.ps f.threadptr
 
 -- a vector

@@ -4,11 +4,11 @@ use Rattle.xt_window.specs.declared.windows.Return.{Return}
 use Rattle.xt_window.specs.declared.windows.Return.TheVariants.{Returned, Under, Bad}
 use Rattle.xt_window.specs.Ring.{bit, without_bit}
 use Rattle.xt_window.specs.Moves.{base_after_return, is_bad}
-use Rattle.xt_window.specs.Answers.{return_of, base_past, start_past}
+use Rattle.xt_window.specs.WindowAnswers.{return_of, base_past, start_past}
 use Rattle.xt_window.proofs.Undone.{undone}
 use Rattle.xt_rows.specs.Settling.{return_size, return_pc}
 use Rattle.xt_exec.specs.State.{State}
-use Rattle.xt_exec.specs.Turn.{Planned, window_step, underflow, entered, returned}
+use Rattle.xt_exec.specs.Turn.{Planned, window_step, underflow, entry_turn, return_turn}
 use Rattle.xt_exec.specs.Ties.{ReturnsUndoEntries}
 
 -- ---- a return
@@ -22,11 +22,11 @@ answer_of a0 s false false ne = (refl, refl)
 
 -- the turn leaves WINDOWBASE and WINDOWSTART as the return answers
 record IsReturnOf (s : State) (a0 : ℕ) : Type 0 where
-  base : return_of s.start s.base (return_size a0) ≢ Bad → (returned a0 s).after.base ≡ base_past (return_of s.start s.base (return_size a0)) s.base (return_size a0)
-  start : return_of s.start s.base (return_size a0) ≢ Bad → (returned a0 s).after.start ≡ start_past (return_of s.start s.base (return_size a0)) s.start s.base
+  base : return_of s.start s.base (return_size a0) ≢ Bad → (return_turn a0 s).after.base ≡ base_past (return_of s.start s.base (return_size a0)) s.base (return_size a0)
+  start : return_of s.start s.base (return_size a0) ≢ Bad → (return_turn a0 s).after.start ≡ start_past (return_of s.start s.base (return_size a0)) s.start s.base
 
 returns_answer : (s : State) (a0 : ℕ) → IsReturnOf s a0
-unfolding returned return_of
+unfolding return_turn return_of
 returns_answer s a0 =
     let n = return_size a0 in
     let bad : Bool = is_bad s.start s.base n in
@@ -35,11 +35,11 @@ returns_answer s a0 =
 
 -- ---- a return undoes an entry
 pub returns_undo_entries : ReturnsUndoEntries
-unfolding entered
+unfolding entry_turn
 returns_undo_entries s number value len a0 small base here pos three free size =
     let n = s.control.ps.callinc in
     let u = undone s.start s.base n small base pos three here free in
-    let t : State = (entered number value len s).after in
+    let t : State = (entry_turn number value len s).after in
     let r = returns_answer t a0 in
     let is : return_of t.start t.base (return_size a0) ≡ Returned = ap (return_of t.start t.base) size ∙ u.answers in
     let ne : return_of t.start t.base (return_size a0) ≢ Bad = λ e. (let q : Returned ≡ Bad = sym is ∙ e in absurd cc) in (

@@ -5,16 +5,16 @@
 use Rattle.std.specs.Prelude.{◌≡◌, ℕ, ◌+◌, Bool, true, ◌==◌, if◌then◌else◌, Option, Some, None}
 use Rattle.xt_map.specs.declared.access.Access.{Access}
 use Rattle.xt_map.specs.Regions.{is_mapped}
-use Rattle.xt_special.specs.Timers.{ticked}
+use Rattle.xt_special.specs.Timers.{after_tick}
 use Rattle.xt_window.specs.Ring.{size_at}
 use Rattle.xt_window.specs.declared.windows.Overflow.{Overflow}
 use Rattle.xt_trace.specs.declared.record.StepKind.{StepKind}
 use Rattle.xt_trace.specs.declared.record.StepKind.TheVariants as kind
 use Rattle.xt_trace.specs.declared.record.RegWrite.{RegWrite}
-use Rattle.xt_rows.specs.declared.outcome.Awaited.{Awaited}
-use Rattle.xt_rows.specs.Effects.{unchanged}
-use Rattle.xt_rows.specs.Settling.{after_effect, written}
-use Rattle.xt_rows.specs.Laws.{IsRegister}
+use Rattle.xt_rows.specs.declared.outcome.ReplyTarget.{ReplyTarget}
+use Rattle.xt_rows.specs.Effects.{no_change}
+use Rattle.xt_rows.specs.Settling.{after_effect, write_with_reply}
+use Rattle.xt_rows.specs.RowLaws.{IsRegister}
 use Rattle.xt_exec.specs.declared.plans.Plan.{Plan}
 use Rattle.xt_exec.specs.declared.plans.Plan.TheVariants as plan
 use Rattle.xt_exec.specs.declared.plans.Effect.{Effect}
@@ -24,7 +24,7 @@ use Rattle.xt_exec.specs.Turn.{Planned, with_write}
 
 -- the state at the end of the turn
 abbrev pub at_end : State → State
-at_end s = record s { control = ticked s.control }
+at_end s = record s { control = after_tick s.control }
 
 -- a turn that asks for nothing and leaves this state, but for the register that it writes
 abbrev pub quiet_turn : StepKind → Option RegWrite → State → Planned
@@ -32,22 +32,22 @@ quiet_turn kind write s =
     record { kind = kind; write = write; access = None; awaited = None; after = at_end s }
 
 -- the register that receives the reply
-abbrev pub awaiting : Option ℕ → Bool → Option Awaited
-awaiting None signed = None
-awaiting (Some number) signed = Some (record { number = number; signed = signed })
+abbrev pub reply_target : Option ℕ → Bool → Option ReplyTarget
+reply_target None signed = None
+reply_target (Some number) signed = Some (record { number = number; signed = signed })
 
 -- once the reply is here, the instruction has no effect but to go on and to write the reply
 abbrev pub gone_on : ℕ → State → State
 gone_on len s =
-    record s { control = after_effect (unchanged s.control.ps s.control.threadptr) len s.control }
+    record s { control = after_effect (no_change s.control.ps s.control.threadptr) len s.control }
 
 -- a turn that asks
-abbrev pub asking : Pending → State → Planned
-asking p s = record {
+abbrev pub asking_turn : Pending → State → Planned
+asking_turn p s = record {
   kind = kind.Insn;
   write = None;
   access = Some p.access;
-  awaited = awaiting p.target p.signed;
+  awaited = reply_target p.target p.signed;
   after = at_end (gone_on p.len s);
 }
 
@@ -63,7 +63,7 @@ pub record IsEffect (e : Effect) (s : State) (t : Planned) : Type 0 where
 pub record IsAsking (a : Access) (p : Pending) (before after : State) (t : Planned) : Type 0 where
   pub access : a ≡ p.access
   pub unchanged : after ≡ before
-  pub turn : t ≡ asking p before
+  pub turn : t ≡ asking_turn p before
   pub target : IsRegister p.target
   pub mapped : is_mapped a ≡ true
 
@@ -81,6 +81,10 @@ overflow_at distance s =
 -- the second half of the turn that asks
 pub record IsFinished (e : Effect) (before after : State) (p : Pending) (reply : ℕ) : Type 0 where
   pub told : e
-      ≡ record { kind = kind.Insn; write = written None (awaiting p.target p.signed) reply }
+      ≡ record {
+        kind = kind.Insn;
+        write = write_with_reply None (reply_target p.target p.signed) reply;
+      }
   pub state :
-      after ≡ with_write (written None (awaiting p.target p.signed) reply) (gone_on p.len before)
+      after ≡ with_write (write_with_reply None (reply_target p.target p.signed) reply)
+      (gone_on p.len before)

@@ -2,7 +2,7 @@ pub mod State
 pub mod States
 pub mod Turn
 pub mod Halves
-pub mod Laws
+pub mod TurnLaws
 pub mod Chips
 pub mod Finishing
 pub mod Ties

@@ -2,12 +2,12 @@
 -- What the private steps of an instruction answer, in the words of the turn ('profile').
 use Rattle.std.specs.Prelude.{◌≢◌}
 use Rattle.xt_window.specs.declared.windows.Return.TheVariants.{Bad}
-use Rattle.xt_window.specs.Answers.{return_of}
+use Rattle.xt_window.specs.WindowAnswers.{return_of}
 use Rattle.xt_rows.specs.declared.outcome.WindowStep.{WindowStep}
 use Rattle.xt_rows.specs.declared.outcome.WindowStep.TheVariants.{Returns}
 use Rattle.xt_rows.specs.declared.outcome.Outcome.{Outcome}
 use Rattle.xt_rows.specs.declared.outcome.Outcome.TheVariants.{Windowed}
-use Rattle.xt_rows.specs.Laws.{IsAny, IsProperWrite}
+use Rattle.xt_rows.specs.RowLaws.{IsAny, IsProperWrite}
 use Rattle.xt_rows.specs.Settling.{return_size}
 use Rattle.xt_exec.specs.declared.plans.Effect.{Effect}
 use Rattle.xt_exec.specs.State.{State}

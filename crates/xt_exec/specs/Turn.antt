@@ -14,10 +14,10 @@
 -- Profile: cause 0 is raised by ENTRY of a register above a3; by RETW if a0 names size 0 or another
 -- size than the nearest of the three previous frames; and by both if WOE is 0 or EXCM is 1. So
 -- every state has one next state. RFWO and RFWU go back whatever EXCM is.
--- Note: `planned` is the turn without the reply; in the next state a reply changes one register at
--- most. ENTRY computes the new stack pointer in the old window and writes it to the register of the
--- same number in the new one. The overflow's vector is told by how far the frame that is in the way
--- moved when it called, not by the instruction.
+-- Note: `planned_turn` is the turn without the reply; in the next state a reply changes one
+-- register at most. ENTRY computes the new stack pointer in the old window and writes it to the
+-- register of the same number in the new one. The overflow's vector is told by how far the frame
+-- that is in the way moved when it called, not by the instruction.
 use Rattle.std.specs.Prelude.{ℕ, zero, suc, ◌+◌, ◌-◌, ◌*◌, ◌/◌, ◌%◌, ◌^◌, Bool, false, ◌==◌, ◌&&◌}
 use Rattle.std.specs.Prelude.{◌||◌, not, nat_lt, if◌then◌else◌, Option, Some, None, slice_set}
 use Rattle.xt_isa.specs.declared.Insn.{Insn}
@@ -30,7 +30,7 @@ use Rattle.xt_map.specs.declared.access.Access.{Access}
 use Rattle.xt_special.specs.declared.ps.Ps.{Ps}
 use Rattle.xt_special.specs.Numbers as number
 use Rattle.xt_special.specs.Control.{special_of}
-use Rattle.xt_special.specs.Timers.{ticked}
+use Rattle.xt_special.specs.Timers.{after_tick}
 use Rattle.xt_special.specs.Interrupts.{pending_of}
 use Rattle.xt_special.specs.WindowExceptions.{after_window_exception}
 use Rattle.xt_window.specs.Ring.{place, visible, bit, with_bit, without_bit, ahead, size_at}
@@ -40,7 +40,7 @@ use Rattle.xt_trace.specs.declared.record.StepKind.{StepKind}
 use Rattle.xt_trace.specs.declared.record.StepKind.TheVariants as kind
 use Rattle.xt_trace.specs.declared.record.StepRecord.{StepRecord}
 use Rattle.xt_trace.specs.declared.record.RegWrite.{RegWrite}
-use Rattle.xt_rows.specs.declared.outcome.Awaited.{Awaited}
+use Rattle.xt_rows.specs.declared.outcome.ReplyTarget.{ReplyTarget}
 use Rattle.xt_rows.specs.declared.outcome.Flow.TheVariants.{Falls}
 use Rattle.xt_rows.specs.declared.outcome.WindowRegister.{WindowRegister}
 use Rattle.xt_rows.specs.declared.outcome.WindowRegister.TheVariants as window
@@ -51,13 +51,14 @@ use Rattle.xt_rows.specs.declared.outcome.WindowStep.TheVariants.{MovesStack, Re
 use Rattle.xt_rows.specs.declared.outcome.WindowStep.TheVariants.{Exchanges}
 use Rattle.xt_rows.specs.declared.outcome.Outcome.{Outcome}
 use Rattle.xt_rows.specs.declared.outcome.Outcome.TheVariants.{Windowed}
-use Rattle.xt_fetch.specs.Fetching.{Fetched, Fetches, Fails, SpellsNothing, fetched}
-use Rattle.xt_rows.specs.Operands.{named}
+use Rattle.xt_fetch.specs.Fetching.{Fetched, Fetches, Fails, SpellsNothing, fetch_at}
+use Rattle.xt_rows.specs.Operands.{highest_register}
 use Rattle.xt_rows.specs.Effects.{illegal_instruction, fetch_error, no_caller_window, write_to}
 use Rattle.xt_rows.specs.Outcomes.{outcome_at}
-use Rattle.xt_rows.specs.Settling.{Settled, after_flow, settled, settled_exception}
+use Rattle.xt_rows.specs.Settling.{Settled, after_flow, after_outcome, settled_exception}
 use Rattle.xt_rows.specs.Settling.{settled_interrupt, settled_wait}
-pub use Rattle.xt_rows.specs.Settling.{kind_of, received, written, return_size, return_pc}
+pub use Rattle.xt_rows.specs.Settling.{kind_of, reply_write, write_with_reply, return_size}
+pub use Rattle.xt_rows.specs.Settling.{return_pc}
 use Rattle.xt_exec.specs.State.{State}
 
 -- ---- what a turn makes before the reply to its access
@@ -68,7 +69,7 @@ pub record Planned : Type 0 where
   pub write : Option RegWrite
   pub access : Option Access
   -- the register that receives the reply
-  pub awaited : Option Awaited
+  pub awaited : Option ReplyTarget
   -- the state afterwards, but for the register that is written
   pub after : State
 
@@ -97,7 +98,7 @@ has_windows ps = ps.woe && not ps.excm
 -- looks as far as its call moves.
 abbrev pub looks : Insn → Ps → ℕ
 looks (insn.Control (control.Entry number size)) ps = ps.callinc
-looks i ps = named i / 4
+looks i ps = highest_register i / 4
 
 -- how far the nearest window is that the instruction would write over, or 0
 abbrev pub window_check : Insn → State → ℕ
@@ -116,7 +117,7 @@ window_exception vector base s = record {
     regs = s.regs;
     base = base;
     start = s.start;
-    control = ticked (after_window_exception s.base vector s.control);
+    control = after_tick (after_window_exception s.base vector s.control);
   };
 }
 
@@ -141,25 +142,25 @@ window_step write after = record {
   write = write;
   access = None;
   awaited = None;
-  after = record after { control = ticked after.control };
+  after = record after { control = after_tick after.control };
 }
 
 -- to the next instruction, or back in a loop
-abbrev pub falls : ℕ → State → State
-falls len s = record s { control = after_flow Falls len s.control }
+abbrev pub fall_through : ℕ → State → State
+fall_through len s = record s { control = after_flow Falls len s.control }
 
 -- ENTRY: the window moves ahead by PS.CALLINC and its bit is set; the register of the new
 -- window receives the value
-unfoldable pub entered : ℕ → ℕ → ℕ → State → Planned
-entered number value len s =
+unfoldable pub entry_turn : ℕ → ℕ → ℕ → State → Planned
+entry_turn number value len s =
     let base = base_after_call s.base s.control.ps.callinc in
     window_step (write_to number value)
-    (record (falls len s) { base = base; start = with_bit s.start base })
+    (record (fall_through len s) { base = base; start = with_bit s.start base })
 
 -- RETW: where the caller's window is there, the callee's bit is cleared; where it
 -- is not, it is an underflow
-unfoldable pub returned : ℕ → State → Planned
-returned a0 s =
+unfoldable pub return_turn : ℕ → State → Planned
+return_turn a0 s =
     let size = return_size a0 in
     let base = base_after_return s.base size in
     if bit s.start base
@@ -171,8 +172,8 @@ returned a0 s =
     else underflow size s
 
 -- RFWO and RFWU: back to the instruction that overflowed or underflowed, and to its window
-unfoldable pub resumed : ℕ → ℕ → State → Planned
-resumed start epc1 s = window_step None (record s {
+unfoldable pub resuming_turn : ℕ → ℕ → State → Planned
+resuming_turn start epc1 s = window_step None (record s {
   base = s.control.ps.owb;
   start = start;
   control = record s.control { pc = epc1; ps = record s.control.ps { excm = false } };
@@ -191,23 +192,23 @@ with_window_value window.Start value s = record s { start = value % 2 ^ 16 }
 unfoldable pub moved_stack : ℕ → ℕ → ℕ → State → Planned
 moved_stack number value len s =
     if behind s.start s.base == 0 then raises no_caller_window s
-    else window_step (write_to number value) (falls len s)
+    else window_step (write_to number value) (fall_through len s)
 
-abbrev pub windowed : WindowStep → ℕ → State → Planned
-windowed (Enters number value) len s = entered number value len s
-windowed (Returns a0) len s = returned a0 s
-windowed (EndsOverflow epc1) len s = resumed (without_bit s.start s.base) epc1 s
-windowed (EndsUnderflow epc1) len s = resumed (with_bit s.start s.base) epc1 s
-windowed (Rotates n) len s =
-    window_step None (record (falls len s) { base = base_rotated s.base n })
-windowed (MovesStack number value) len s = moved_stack number value len s
-windowed (Reads register number) len s =
-    window_step (write_to number (window_value register s)) (falls len s)
-windowed (Sets register value) len s =
-    window_step None (with_window_value register value (falls len s))
-windowed (Exchanges register number value) len s =
+abbrev pub window_turn : WindowStep → ℕ → State → Planned
+window_turn (Enters number value) len s = entry_turn number value len s
+window_turn (Returns a0) len s = return_turn a0 s
+window_turn (EndsOverflow epc1) len s = resuming_turn (without_bit s.start s.base) epc1 s
+window_turn (EndsUnderflow epc1) len s = resuming_turn (with_bit s.start s.base) epc1 s
+window_turn (Rotates n) len s =
+    window_step None (record (fall_through len s) { base = base_rotated s.base n })
+window_turn (MovesStack number value) len s = moved_stack number value len s
+window_turn (Reads register number) len s =
+    window_step (write_to number (window_value register s)) (fall_through len s)
+window_turn (Sets register value) len s =
+    window_step None (with_window_value register value (fall_through len s))
+window_turn (Exchanges register number value) len s =
     window_step (write_to number (window_value register s))
-    (with_window_value register value (falls len s))
+    (with_window_value register value (fall_through len s))
 
 -- ---- one instruction
 
@@ -224,34 +225,36 @@ is_illegal (insn.Control (control.Ret RetName.Retw)) s = illegal_return s
 is_illegal (insn.Density (density.Ret NarrowRetName.Retw)) s = illegal_return s
 is_illegal _ s = false
 
-abbrev pub done : Outcome → ℕ → State → Planned
-done (Windowed step) len s = windowed step len s
-done outcome len s = in_window (settled outcome len s.control) s
+abbrev pub outcome_turn : Outcome → ℕ → State → Planned
+outcome_turn (Windowed step) len s = window_turn step len s
+outcome_turn outcome len s = in_window (after_outcome outcome len s.control) s
 
 -- the instruction's own causes come last: they are in its outcome
-abbrev pub checked : ℕ → (ℕ → ℕ) → Insn → ℕ → State → Planned
-checked zero code i len s = done (outcome_at code i (visible s.regs s.base) s.control) len s
-checked (suc distance) code i len s = overflow (suc distance) s
+abbrev pub turn_or_overflow : ℕ → (ℕ → ℕ) → Insn → ℕ → State → Planned
+turn_or_overflow zero code i len s =
+    outcome_turn (outcome_at code i (visible s.regs s.base) s.control) len s
+turn_or_overflow (suc distance) code i len s = overflow (suc distance) s
 
 abbrev pub fetched_turn : Fetched → (ℕ → ℕ) → State → Planned
 fetched_turn (Fails address) code s =
     in_window (settled_exception fetch_error (Some address) s.control) s
 fetched_turn SpellsNothing code s = raises illegal_instruction s
 fetched_turn (Fetches i len) code s =
-    if is_illegal i s then raises illegal_instruction s else checked (window_check i s) code i len s
+    if is_illegal i s then raises illegal_instruction s
+    else turn_or_overflow (window_check i s) code i len s
 
 -- ---- one turn: the interrupt comes first, then waiting, then the instruction
 
-unfoldable pub planned : (ℕ → ℕ) → State → Planned
-planned code s =
+unfoldable pub planned_turn : (ℕ → ℕ) → State → Planned
+planned_turn code s =
     let level = pending_of s.control in
     if nat_lt 0 level then in_window (settled_interrupt level s.control) s
     else (if s.control.waits then in_window (settled_wait s.control) s
-    else fetched_turn (fetched code s.control.pc) code s)
+    else fetched_turn (fetch_at code s.control.pc) code s)
 
 -- the access of the next turn, which needs no reply
 unfoldable pub demand : (ℕ → ℕ) → State → Option Access
-demand code s = (planned code s).access
+demand code s = (planned_turn code s).access
 
 -- ---- the reply
 
@@ -267,8 +270,8 @@ reply_where (Some a) reply = reply
 -- the record of a turn and the state after it
 unfoldable pub turn : (ℕ → ℕ) → State → ℕ → StepRecord × State
 turn code s reply =
-    let p = planned code s in
-    let write = written p.write p.awaited reply in (
+    let p = planned_turn code s in
+    let write = write_with_reply p.write p.awaited reply in (
       record {
         pc = s.control.pc;
         kind = p.kind;

@@ -2,17 +2,17 @@ ghost use Rattle.std.specs.Prelude.{◌≡◌, true};
 ghost use Rattle.xt_isa.specs.Ranges.{in_range};
 ghost use Rattle.xt_map.specs.Memory.{constant_byte};
 ghost use Rattle.xt_fetch.specs.Fetching.{Fetches};
-ghost use Rattle.xt_rows.specs.Laws.{IsProperAwaited, IsRegister};
+ghost use Rattle.xt_rows.specs.RowLaws.{IsProperAwaited, IsRegister};
 ghost use Rattle.xt_exec.specs.States.{state_of};
 ghost use Rattle.xt_exec.specs.Turn.{fetched_turn};
-ghost use Rattle.xt_exec.specs.Halves.{IsFinished, IsPlan, awaiting};
+ghost use Rattle.xt_exec.specs.Halves.{IsFinished, IsPlan, reply_target};
 
 use crate::plans::{Effect, Pending, Plan};
 use crate::regs::Regs;
 use xt_isa::Insn;
 use xt_map::Constants;
-use xt_rows::Awaited;
-use xt_rows::settling::received;
+use xt_rows::ReplyTarget;
+use xt_rows::settling::reply_write;
 use xt_trace::StepKind;
 use xt_window::Windows;
 
@@ -38,20 +38,20 @@ pub fn finish<W: Windows>(r: &mut Regs<W>, p: Pending, reply: u32) -> Effect
     ensures { IsFinished result (state_of W.regs W.base W.start r.old) (state_of W.regs W.base W.start r.new) p reply }
 {
     r.go_on(p.len);
-    let write = received(awaiting(p.target, p.signed), reply);
+    let write = reply_write(reply_target(p.target, p.signed), reply);
     r.write(write);
     Effect::of(StepKind::Insn, write)
 }
 
 // The register that receives the reply.
 #[inline(always)]
-fn awaiting(target: Option<u8>, signed: bool) -> Option<Awaited>
+fn reply_target(target: Option<u8>, signed: bool) -> Option<ReplyTarget>
     requires { IsRegister target }
-    ensures value { result ≡ awaiting target signed }
+    ensures value { result ≡ reply_target target signed }
     ensures register { IsProperAwaited result }
 {
     match target {
-        Some(number) => Some(Awaited { number, signed }),
+        Some(number) => Some(ReplyTarget { number, signed }),
         None => None,
     }
 }

@@ -2,13 +2,13 @@ ghost use Rattle.std.specs.Prelude.{◌≡◌, ℕ, ◌<◌, ◌≤◌, Option, 
 ghost use Rattle.xt_isa.specs.Ranges.{in_range};
 ghost use Rattle.xt_map.specs.Memory.{constant_byte};
 ghost use Rattle.xt_window.specs.Ring.{ahead, visible};
-ghost use Rattle.xt_rows.specs.Effects.{unchanged};
+ghost use Rattle.xt_rows.specs.Effects.{no_change};
 ghost use Rattle.xt_fetch.specs.Fetching.{Fetches};
-ghost use Rattle.xt_rows.specs.Laws.{AsksWith, IsAny, IsProper, IsProperAwaited, IsRegister};
+ghost use Rattle.xt_rows.specs.RowLaws.{AsksWith, IsAny, IsProper, IsProperAwaited, IsRegister};
 ghost use Rattle.xt_rows.specs.Outcomes.{outcome_at, value_of};
 ghost use Rattle.xt_exec.specs.States.{state_of};
-ghost use Rattle.xt_exec.specs.Turn.{checked, done, fetched_turn, has_windows, illegal_return, is_illegal, looks, window_check};
-ghost use Rattle.xt_exec.specs.Halves.{IsPlan, awaiting, overflow_at};
+ghost use Rattle.xt_exec.specs.Turn.{turn_or_overflow, outcome_turn, fetched_turn, has_windows, illegal_return, is_illegal, looks, window_check};
+ghost use Rattle.xt_exec.specs.Halves.{IsPlan, reply_target, overflow_at};
 ghost use Rattle.xt_exec.specs.Steps.{OutcomeGoesBack, WritesRegister, turn_of};
 
 use crate::plans::{Effect, Pending, Plan};
@@ -18,7 +18,9 @@ use xt_isa::control::{Control, RetName};
 use xt_isa::density::{Density, NarrowRetName};
 use xt_map::{Access, Constants};
 use xt_rows::settling::special_value;
-use xt_rows::{Awaited, Outcome, Values, cause, named, outcome_of, reads, special_reads};
+use xt_rows::{
+    Outcome, ReplyTarget, Values, cause, highest_register, outcome_of, reads, special_reads,
+};
 use xt_trace::StepKind;
 use xt_window::{Overflow, Windows};
 
@@ -61,7 +63,7 @@ impl<W: Windows> Regs<W> {
     {
         match i {
             Insn::Control(Control::Entry(_, _)) => self.sr.callinc(),
-            _ => named(i) / 4,
+            _ => highest_register(i) / 4,
         }
     }
 
@@ -82,7 +84,7 @@ impl<W: Windows> Regs<W> {
         requires { in_range i ≡ true }
         ensures formula { result ≡ outcome_at (constant_byte code.now) i (visible (state_of W.regs W.base W.start self.now).regs (state_of W.regs W.base W.start self.now).base) (state_of W.regs W.base W.start self.now).control }
         ensures proper { IsProper IsAny result }
-        ensures alone { AsksWith (unchanged self.now.sr.ps self.now.sr.threadptr) result }
+        ensures alone { AsksWith (no_change self.now.sr.ps self.now.sr.threadptr) result }
     {
         let (first, second) = reads(i);
         let (special, other) = special_reads(i);
@@ -125,7 +127,7 @@ impl<W: Windows> Regs<W> {
 
     // Writes the register that a turn writes.
     #[inline(always)]
-    fn done(&mut self, e: Effect) -> Plan
+    fn outcome_turn(&mut self, e: Effect) -> Plan
         requires { WritesRegister e }
         ensures { let s = state_of W.regs W.base W.start self.old in
             IsPlan result s (state_of W.regs W.base W.start self.new) (turn_of e s) }
@@ -138,25 +140,25 @@ impl<W: Windows> Regs<W> {
     #[inline(always)]
     fn carry_out(&mut self, outcome: Outcome, len: u8) -> Plan
         requires proper { IsProper IsAny outcome }
-        requires alone { AsksWith (unchanged self.old.sr.ps self.old.sr.threadptr) outcome }
+        requires alone { AsksWith (no_change self.old.sr.ps self.old.sr.threadptr) outcome }
         requires back { OutcomeGoesBack outcome (state_of W.regs W.base W.start self.old) }
         ensures { let s = state_of W.regs W.base W.start self.old in
-            IsPlan result s (state_of W.regs W.base W.start self.new) (done outcome len s) }
+            IsPlan result s (state_of W.regs W.base W.start self.new) (outcome_turn outcome len s) }
     {
         match outcome {
             Outcome::Does(e) => {
                 self.apply(e, len);
-                self.done(Effect::of(StepKind::Insn, e.write))
+                self.outcome_turn(Effect::of(StepKind::Insn, e.write))
             }
             Outcome::Raises(cause, addr) => {
                 let e = self.raise(cause, addr);
-                self.done(e)
+                self.outcome_turn(e)
             }
             Outcome::Asks(access, awaited, _) => Plan::Bus(access, pending(access, awaited, len)),
-            Outcome::Stops => self.done(Effect::of(StepKind::Stop, None)),
+            Outcome::Stops => self.outcome_turn(Effect::of(StepKind::Stop, None)),
             Outcome::Windowed(step) => {
-                let e = self.windowed(step, len);
-                self.done(e)
+                let e = self.window_turn(step, len);
+                self.outcome_turn(e)
             }
         }
     }
@@ -167,12 +169,12 @@ impl<W: Windows> Regs<W> {
         requires range { in_range i ≡ true }
         requires legal { is_illegal i (state_of W.regs W.base W.start self.old) ≡ false }
         ensures { let s = state_of W.regs W.base W.start self.old in
-            IsPlan result s (state_of W.regs W.base W.start self.new) (checked (window_check i s) (constant_byte code.now) i len s) }
+            IsPlan result s (state_of W.regs W.base W.start self.new) (turn_or_overflow (window_check i s) (constant_byte code.now) i len s) }
     {
         match self.overflowing(i) {
             Some(found) => {
                 let e = self.overflow(found);
-                self.done(e)
+                self.outcome_turn(e)
             }
             None => {
                 let outcome = self.outcome(code, i);
@@ -190,7 +192,7 @@ impl<W: Windows> Regs<W> {
     {
         if self.is_illegal(i) {
             let e = self.raise(cause::ILLEGAL_INSTRUCTION, None);
-            self.done(e)
+            self.outcome_turn(e)
         } else {
             self.execute(code, i, len)
         }
@@ -199,10 +201,10 @@ impl<W: Windows> Regs<W> {
 
 // An instruction that waits for the reply to this access.
 #[inline(always)]
-fn pending(access: Access, awaited: Option<Awaited>, len: u8) -> Pending
+fn pending(access: Access, awaited: Option<ReplyTarget>, len: u8) -> Pending
     requires { IsProperAwaited awaited }
     ensures access { result.access ≡ access }
-    ensures awaited { awaiting result.target result.signed ≡ awaited }
+    ensures awaited { reply_target result.target result.signed ≡ awaited }
     ensures target { IsRegister result.target }
     ensures len { result.len ≡ len }
 {

@@ -2,7 +2,7 @@
 #![tactic(auto)]
 
 ghost use Rattle.xt_exec.specs.Ties.{ReturnsUndoEntries};
-ghost use Rattle.xt_exec.specs.Laws.{DemandsAreServed, IgnoresReplyWithoutAccess, IsOneTurn, KeepsShape, OpensShaped, RecordsWhatItAsks};
+ghost use Rattle.xt_exec.specs.TurnLaws.{DemandsAreServed, IgnoresReplyWithoutAccess, IsOneTurn, KeepsShape, OpensShaped, RecordsWhatItAsks};
 
 /// Each state and reply has exactly one record and next state. It holds of any function, and shows
 /// nothing of what a turn does.

@@ -20,10 +20,10 @@ impl<W: Windows> Regs<W> {
     ghost use Rattle.std.specs.Prelude.{◌≡◌, ◌<◌, ◌≤◌, ◌%◌, ◌^◌};
     ghost use Rattle.xt_window.specs.Ring.{cleared_regs};
     ghost use Rattle.xt_exec.specs.State.{opening_state};
-    ghost use Rattle.xt_rows.specs.Laws.{IsAny, IsProperEffect, IsProperWrite};
+    ghost use Rattle.xt_rows.specs.RowLaws.{IsAny, IsProperEffect, IsProperWrite};
     ghost use Rattle.xt_rows.specs.Settling.{after_effect};
     ghost use Rattle.xt_exec.specs.States.{state_of};
-    ghost use Rattle.xt_exec.specs.Turn.{falls, with_write};
+    ghost use Rattle.xt_exec.specs.Turn.{fall_through, with_write};
     ghost use Rattle.xt_exec.specs.Halves.{gone_on};
 
     /// The registers with which a core opens at `pc`: its a1 is 64 below the end of its stack, and its opening frame was called by 8
@@ -55,8 +55,8 @@ impl<W: Windows> Regs<W> {
 
     /// Goes on to the next instruction, or back in a loop.
     #[inline(always)]
-    pub(crate) fn falls(&mut self, len: u8)
-        ensures { state_of W.regs W.base W.start self.new ≡ falls len (state_of W.regs W.base W.start self.old) }
+    pub(crate) fn fall_through(&mut self, len: u8)
+        ensures { state_of W.regs W.base W.start self.new ≡ fall_through len (state_of W.regs W.base W.start self.old) }
     {
         self.pc = settling::falls(&mut self.sr, self.pc, len);
     }
@@ -68,7 +68,7 @@ impl<W: Windows> Regs<W> {
         ensures { state_of W.regs W.base W.start self.new ≡ gone_on len (state_of W.regs W.base W.start self.old) }
     {
         self.waiting = false;
-        self.falls(len);
+        self.fall_through(len);
     }
 
     /// What an instruction of this length changes beside the visible registers.

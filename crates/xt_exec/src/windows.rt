@@ -2,9 +2,9 @@ ghost use Rattle.std.specs.Prelude.{◌≡◌, ◌<◌, ◌≤◌, ◌+◌, true
 ghost use Rattle.xt_isa.specs.Ranges.{signed_within};
 ghost use Rattle.xt_window.specs.Ring.{size_at};
 ghost use Rattle.xt_rows.specs.declared.outcome.WindowStep.TheVariants.{Exchanges, Reads, Returns, Rotates, Sets};
-ghost use Rattle.xt_rows.specs.Laws.{IsProperStep};
+ghost use Rattle.xt_rows.specs.RowLaws.{IsProperStep};
 ghost use Rattle.xt_exec.specs.States.{state_of};
-ghost use Rattle.xt_exec.specs.Turn.{entered, moved_stack, overflow, resumed, returned, window_value, with_window_value, windowed};
+ghost use Rattle.xt_exec.specs.Turn.{entry_turn, moved_stack, overflow, resuming_turn, return_turn, window_value, with_window_value, window_turn};
 ghost use Rattle.xt_exec.specs.Steps.{GoesBack, WritesRegister, turn_of};
 
 use crate::plans::Effect;
@@ -32,25 +32,25 @@ impl<W: Windows> Regs<W> {
     }
 
     /// ENTRY.
-    #[tactic(auto, unfolding(crate::specs::Turn::entered))]
+    #[tactic(auto, unfolding(crate::specs::Turn::entry_turn))]
     #[inline(always)]
     fn enter(&mut self, number: u8, value: u32, len: u8) -> Effect
         requires { number < 16 }
-        ensures after { turn_of result (state_of W.regs W.base W.start self.new) ≡ entered number value len (state_of W.regs W.base W.start self.old) }
+        ensures after { turn_of result (state_of W.regs W.base W.start self.new) ≡ entry_turn number value len (state_of W.regs W.base W.start self.old) }
         ensures registers { WritesRegister result }
     {
         let size = self.sr.callinc();
-        self.falls(len);
+        self.fall_through(len);
         self.win.enter(size);
         Effect::of(StepKind::Insn, write_to(number, value))
     }
 
     /// RETW with this value of a0, of a size that is not bad.
-    #[tactic(auto, using(crate::proofs::Returns::is_there, crate::proofs::Returns::is_absent), unfolding(crate::specs::Turn::returned, crate::specs::Turn::underflow))]
+    #[tactic(auto, using(crate::proofs::Returns::is_there, crate::proofs::Returns::is_absent), unfolding(crate::specs::Turn::return_turn, crate::specs::Turn::underflow))]
     #[inline(always)]
     fn return_to(&mut self, a0: u32) -> Effect
         requires { GoesBack (Returns a0) (state_of W.regs W.base W.start self.old) }
-        ensures after { turn_of result (state_of W.regs W.base W.start self.new) ≡ returned a0 (state_of W.regs W.base W.start self.old) }
+        ensures after { turn_of result (state_of W.regs W.base W.start self.new) ≡ return_turn a0 (state_of W.regs W.base W.start self.old) }
         ensures registers { WritesRegister result }
     {
         let size = (a0 / 0x4000_0000) as u8;
@@ -70,10 +70,10 @@ impl<W: Windows> Regs<W> {
     }
 
     /// RFWO and RFWU: back to the instruction at EPC1 and to its window.
-    #[tactic(auto, unfolding(crate::specs::Turn::resumed))]
+    #[tactic(auto, unfolding(crate::specs::Turn::resuming_turn))]
     #[inline(never)]
     fn resume(&mut self, start: u16, epc1: u32) -> Effect
-        ensures after { turn_of result (state_of W.regs W.base W.start self.new) ≡ resumed start epc1 (state_of W.regs W.base W.start self.old) }
+        ensures after { turn_of result (state_of W.regs W.base W.start self.new) ≡ resuming_turn start epc1 (state_of W.regs W.base W.start self.old) }
         ensures registers { WritesRegister result }
     {
         self.win.set_base(self.sr.owb());
@@ -94,7 +94,7 @@ impl<W: Windows> Regs<W> {
         if self.win.behind() == 0 {
             return self.raise(cause::NO_CALLER_WINDOW, None);
         }
-        self.falls(len);
+        self.fall_through(len);
         Effect::of(StepKind::Insn, write_to(number, value))
     }
 
@@ -122,21 +122,21 @@ impl<W: Windows> Regs<W> {
     #[inline(never)]
     fn read_window(&mut self, register: WindowRegister, number: u8, len: u8) -> Effect
         requires { number < 16 }
-        ensures after { turn_of result (state_of W.regs W.base W.start self.new) ≡ windowed (Reads register number) len (state_of W.regs W.base W.start self.old) }
+        ensures after { turn_of result (state_of W.regs W.base W.start self.new) ≡ window_turn (Reads register number) len (state_of W.regs W.base W.start self.old) }
         ensures registers { WritesRegister result }
     {
         let value = self.window_value(register);
-        self.falls(len);
+        self.fall_through(len);
         Effect::of(StepKind::Insn, write_to(number, value))
     }
 
     /// WSR of a window register.
     #[inline(never)]
     fn write_window(&mut self, register: WindowRegister, value: u32, len: u8) -> Effect
-        ensures after { turn_of result (state_of W.regs W.base W.start self.new) ≡ windowed (Sets register value) len (state_of W.regs W.base W.start self.old) }
+        ensures after { turn_of result (state_of W.regs W.base W.start self.new) ≡ window_turn (Sets register value) len (state_of W.regs W.base W.start self.old) }
         ensures registers { WritesRegister result }
     {
-        self.falls(len);
+        self.fall_through(len);
         self.set_window_value(register, value);
         Effect::of(StepKind::Insn, None)
     }
@@ -151,11 +151,11 @@ impl<W: Windows> Regs<W> {
         len: u8,
     ) -> Effect
         requires { number < 16 }
-        ensures after { turn_of result (state_of W.regs W.base W.start self.new) ≡ windowed (Exchanges register number value) len (state_of W.regs W.base W.start self.old) }
+        ensures after { turn_of result (state_of W.regs W.base W.start self.new) ≡ window_turn (Exchanges register number value) len (state_of W.regs W.base W.start self.old) }
         ensures registers { WritesRegister result }
     {
         let old = self.window_value(register);
-        self.falls(len);
+        self.fall_through(len);
         self.set_window_value(register, value);
         Effect::of(StepKind::Insn, write_to(number, old))
     }
@@ -165,20 +165,20 @@ impl<W: Windows> Regs<W> {
     #[inline(never)]
     fn rotate(&mut self, n: i32, len: u8) -> Effect
         requires { signed_within 8 n ≡ true }
-        ensures after { turn_of result (state_of W.regs W.base W.start self.new) ≡ windowed (Rotates n) len (state_of W.regs W.base W.start self.old) }
+        ensures after { turn_of result (state_of W.regs W.base W.start self.new) ≡ window_turn (Rotates n) len (state_of W.regs W.base W.start self.old) }
         ensures registers { WritesRegister result }
     {
-        self.falls(len);
+        self.fall_through(len);
         self.win.rotate(n as i8);
         Effect::of(StepKind::Insn, None)
     }
 
     /// An instruction that moves the window or looks at the windows.
     // (no hint to inline: with it the whole turn grows past the size at which its own hint is dropped)
-    pub(crate) fn windowed(&mut self, step: WindowStep, len: u8) -> Effect
+    pub(crate) fn window_turn(&mut self, step: WindowStep, len: u8) -> Effect
         requires proper { IsProperStep step }
         requires back { GoesBack step (state_of W.regs W.base W.start self.old) }
-        ensures after { turn_of result (state_of W.regs W.base W.start self.new) ≡ windowed step len (state_of W.regs W.base W.start self.old) }
+        ensures after { turn_of result (state_of W.regs W.base W.start self.new) ≡ window_turn step len (state_of W.regs W.base W.start self.old) }
         ensures registers { WritesRegister result }
     {
         let start = self.win.start();

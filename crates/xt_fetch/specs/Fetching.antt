@@ -8,7 +8,7 @@
 use Rattle.std.specs.Prelude.{ℕ, zero, suc, ◌+◌, Bool, ◌&&◌, ◌||◌, nat_le, if◌then◌else◌}
 use Rattle.std.specs.Prelude.{Option, Some, None}
 use Rattle.xt_isa.specs.declared.Insn.{Insn}
-use Rattle.xt_isa.specs.Spelling.{spelled, fields_at, length_of}
+use Rattle.xt_isa.specs.Spelling.{spelled_insn, fields_at, length_of}
 use Rattle.xt_map.specs.Regions.{region_of, is_executable}
 
 -- what the bytes at an address are
@@ -44,7 +44,8 @@ read_as (Some i) len = Fetches i len
 abbrev pub fetched_past : Option ℕ → (ℕ → ℕ) → ℕ → Fetched
 fetched_past (Some a) code pc = Fails a
 fetched_past None code pc =
-    read_as (spelled (fields_at (code pc) (code (pc + 1)) (code (pc + 2)))) (length_of (code pc))
+    read_as (spelled_insn (fields_at (code pc) (code (pc + 1)) (code (pc + 2))))
+    (length_of (code pc))
 
-unfoldable pub fetched : (ℕ → ℕ) → ℕ → Fetched
-fetched code pc = fetched_past (unfetchable pc (fetched_length code pc)) code pc
+unfoldable pub fetch_at : (ℕ → ℕ) → ℕ → Fetched
+fetch_at code pc = fetched_past (unfetchable pc (fetched_length code pc)) code pc

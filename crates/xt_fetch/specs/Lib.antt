@@ -1,3 +1,3 @@
 pub mod Code
 pub mod Fetching
-pub mod Laws
+pub mod FetchLaws

@@ -9,7 +9,7 @@ use Rattle.xt_map.specs.Regions.{is_memory, region_of}
 use Rattle.xt_map.specs.Touching.{is_store}
 use Rattle.xt_trace.specs.declared.record.RegWrite.{RegWrite}
 use Rattle.xt_trace.specs.declared.record.StepRecord.{StepRecord}
-use Rattle.xt_rows.specs.Numbers.{extended}
+use Rattle.xt_rows.specs.Numbers.{loaded_value}
 use Rattle.xt_frames.specs.declared.kinds.Breach.{Breach}
 use Rattle.xt_frames.specs.declared.kinds.BreachKind.{BreachKind}
 use Rattle.xt_frames.specs.Frames.{FrameState, opening_frame, opening_seen}
@@ -17,7 +17,7 @@ use Rattle.xt_frames.specs.FrameStep.{FrameTurn}
 use Rattle.xt_frames.specs.Verdict.{is_nested}
 use Rattle.xt_frames.specs.FirstBreach.{Course, IsJudgedTurn, Turn, is_judged, mode_before, turn_of}
 use Rattle.xt_uses.specs.declared.discipline.Discipline.{Discipline}
-use Rattle.xt_uses.specs.Words.{all_bits, flipped}
+use Rattle.xt_uses.specs.Words.{all_bits, complement}
 use Rattle.xt_uses.specs.UseState.{UseState, opening_use, whole_masks}
 use Rattle.xt_uses.specs.UseStep.{reply_mask, unknown_bits}
 use Rattle.xt_uses.specs.UseBreaches.{use_breach}
@@ -39,7 +39,7 @@ use Rattle.xt_use_run.proofs.MaskStep.{step_small, unknown_small}
 use Rattle.xt_use_run.proofs.MaskWords.{MaskWords, opening_small}
 use Rattle.xt_use_run.proofs.Specials.{partial_lost}
 use Rattle.xt_fillings.specs.Fillings.{Filling, filled_at, filled_before, filled_past, step_with}
-use Rattle.xt_fillings.specs.Laws.{AsksSame, RecordsAreFollowed, StepsSame, UnknownDecidesNothing}
+use Rattle.xt_fillings.specs.FillingLaws.{AsksSame, RecordsAreFollowed, StepsSame, UnknownDecidesNothing}
 use Rattle.xt_fillings.proofs.Numbered.{HasPointer, Held}
 use Rattle.xt_fillings.proofs.FilledSteps.{Beside, place_same, sends_same, step_beside, step_same}
 
@@ -48,7 +48,7 @@ sized_small : (kb : ℕ → ℕ) (o : Option Access) → ((a : Access) → o ≡
 sized_small kb None sizes = omega arith
 sized_small kb (Some a) sizes = by_region (is_memory (region_of a.addr) && not (is_store a.kind))
   where
-    by_region : (t : Bool) → cond t (flipped (unknown_bits kb a.addr a.size)) all_bits < 2 ^ 32
+    by_region : (t : Bool) → cond t (complement (unknown_bits kb a.addr a.size)) all_bits < 2 ^ 32
     by_region true = flipped_word (unknown_bits kb a.addr a.size) (unknown_small kb a.addr a.size (sizes a refl))
     by_region false = omega arith
 
@@ -207,7 +207,7 @@ asks_meet m None b (Some c) h k = absurd h
 asks_meet m (Some a) None (Some c) h k = absurd k
 
 replies_hold : RepliesAgree
-replies_hold signed reply n m a b d h = moved_agrees (λ k. extended signed k) reply n m a b d h (extended_moves signed)
+replies_hold signed reply n m a b d h = moved_agrees (λ k. loaded_value signed k) reply n m a b d h (extended_moves signed)
 
 pub unknown_decides : UnknownDecidesNothing
 unknown_decides d r h n q found ordinary is first p core rec low j = steps_same all_agree replies_hold d r h n q found ordinary is first p core rec low j

@@ -15,20 +15,20 @@ use Rattle.xt_special.specs.Shape.{IsPs}
 use Rattle.xt_trace.specs.declared.record.StepKind.{StepKind}
 use Rattle.xt_trace.specs.declared.record.StepRecord.{StepRecord}
 use Rattle.xt_fetch.specs.Code.{AreBytes}
-use Rattle.xt_fetch.specs.Fetching.{Fetched, fetched}
+use Rattle.xt_fetch.specs.Fetching.{Fetched, fetch_at}
 use Rattle.xt_frames.specs.declared.holes.Nested.{Nested}
 use Rattle.xt_frames.specs.Frames.{Frame, FrameState}
-use Rattle.xt_frames.specs.FrameStep.{FrameTurn, Inputs, laid, laid_step}
+use Rattle.xt_frames.specs.FrameStep.{FrameTurn, Inputs, with_inputs, step_with_inputs}
 use Rattle.xt_frames.specs.Nesting.{begins, current, current_in, is_nesting}
 use Rattle.xt_frames.specs.Breaches.{Bounds, inputs_of}
 use Rattle.xt_frames.specs.Judging.{place_on, value_in}
 use Rattle.xt_uses.specs.declared.discipline.Discipline.{Discipline}
 use Rattle.xt_uses.specs.declared.discipline.Discipline.TheVariants.{Strict, Lenient}
-use Rattle.xt_uses.specs.Words.{cut, flipped}
+use Rattle.xt_uses.specs.Words.{masked, complement}
 use Rattle.xt_uses.specs.Used.{low_bits}
 use Rattle.xt_uses.specs.UseBreaches.{use_breach}
 use Rattle.xt_uses.specs.UseState.{UseState}
-use Rattle.xt_uses.specs.UseStep.{UseTurn, executed, forgets_registers, full_step, leave_results, left_after, reply_mask, use_step, value_step}
+use Rattle.xt_uses.specs.UseStep.{UseTurn, step_insn, forgets_registers, full_step, leave_results, left_after, reply_mask, use_step, value_step}
 use Rattle.xt_uses.specs.UseLaws.{AccessFits, AgreeIn, IsSent, KindFits, KindsAgree, RepliesAgree, RowsAgree}
 use Rattle.xt_uses.proofs.Agreeing.{agree_at, agree_from}
 use Rattle.xt_uses.proofs.Bits.{flipped_at, flipped_word}
@@ -40,8 +40,8 @@ use Rattle.xt_use_run.proofs.Following.{sent_back}
 use Rattle.xt_use_run.proofs.Leaves.{knows_left}
 use Rattle.xt_use_run.proofs.MaskWords.{MaskWords}
 use Rattle.xt_use_run.proofs.Seen.{cut_twice}
-use Rattle.xt_fillings.specs.Fillings.{Numbers, filled, filled_record, filled_step, filled_write}
-use Rattle.xt_fillings.specs.Laws.{AsksSame, DoesSame, SendsSame}
+use Rattle.xt_fillings.specs.Fillings.{Numbers, filled_number, filled_record, filled_step, filled_write}
+use Rattle.xt_fillings.specs.FillingLaws.{AsksSame, DoesSame, SendsSame}
 use Rattle.xt_fillings.proofs.Numbered.{Held, filled_held, left_held, left_in, left_shaped, numbered_knows, numbered_shaped, results_knows}
 use Rattle.xt_fillings.proofs.Outside.{Goes, outside_goes}
 use Rattle.xt_fillings.proofs.OwbNested.{inside_near}
@@ -53,26 +53,26 @@ use Rattle.xt_fillings.proofs.Within.{begins_goes, within_goes}
 use Rattle.xt_fillings.proofs.Words.{value_leaves}
 
 -- ---- a reply
-pub filled_agrees : (mask a b : ℕ) → mask < 2 ^ 32 → AgreeIn mask (filled mask a b) a
-filled_agrees mask a b small = agree_from mask (filled mask a b) a
+pub filled_agrees : (mask a b : ℕ) → mask < 2 ^ 32 → AgreeIn mask (filled_number mask a b) a
+filled_agrees mask a b small = agree_from mask (filled_number mask a b) a
     (λ i one. ⊎_elim
     (λ low.
-    let o = bit_at_or (cut mask a) (cut (flipped mask) b) i in
-    let x : bit_at (cut mask a) i ≡ min (bit_at a i) (bit_at mask i) = bit_at_and a mask i in
-    let y : bit_at (cut (flipped mask) b) i ≡ min (bit_at b i) (bit_at (flipped mask) i) = bit_at_and b (flipped mask) i in
+    let o = bit_at_or (masked mask a) (masked (complement mask) b) i in
+    let x : bit_at (masked mask a) i ≡ min (bit_at a i) (bit_at mask i) = bit_at_and a mask i in
+    let y : bit_at (masked (complement mask) b) i ≡ min (bit_at b i) (bit_at (complement mask) i) = bit_at_and b (complement mask) i in
     let z = flipped_at mask i low in
     omega (arith, o, x, y, z, one, bit_at-lt a i))
     (λ high. let z = bit_at_above mask 32 i small high in absurd (omega (arith, one, z)))
     (cases_lt i 32))
 
-pub filled_word : (mask a b : ℕ) → mask < 2 ^ 32 → filled mask a b < 2 ^ 32
+pub filled_word : (mask a b : ℕ) → mask < 2 ^ 32 → filled_number mask a b < 2 ^ 32
 filled_word mask a b small =
     let f = flipped_word mask small in
-    or_lt 32 (cut mask a) (cut (flipped mask) b) (omega (arith, and_le_r a mask, small)) (omega (arith, and_le_r b (flipped mask), f))
+    or_lt 32 (masked mask a) (masked (complement mask) b) (omega (arith, and_le_r a mask, small)) (omega (arith, and_le_r b (complement mask), f))
 
 -- ---- what is sent
 kinds_same : (m : ℕ) (k l : Kind) → KindFits m k l → KindsAgree m k l
-kinds_same m (Store v) (Store w) h = sym (cut_twice m v) ∙ ap (cut m) h
+kinds_same m (Store v) (Store w) h = sym (cut_twice m v) ∙ ap (masked m) h
 kinds_same m Load l h = h
 kinds_same m (Cas e n) l h = h
 kinds_same m (Store v) Load h = h
@@ -84,16 +84,16 @@ asks_same m (Some a) (Some b) h = (h.0, h.1, kinds_same m a.kind b.kind h.2)
 asks_same m None (Some b) h = absurd h
 asks_same m (Some a) None h = absurd h
 
-low_known : (m i : ℕ) → cut m (low_bits 8) ≡ low_bits 8 → bit_at (low_bits 8) i ≡ 1 → bit_at m i ≡ 1
+low_known : (m i : ℕ) → masked m (low_bits 8) ≡ low_bits 8 → bit_at (low_bits 8) i ≡ 1 → bit_at m i ≡ 1
 low_known m i known one =
-    let e : bit_at (cut m (low_bits 8)) i ≡ min (bit_at (low_bits 8) i) (bit_at m i) = bit_at_and (low_bits 8) m i in
+    let e : bit_at (masked m (low_bits 8)) i ≡ min (bit_at (low_bits 8) i) (bit_at m i) = bit_at_and (low_bits 8) m i in
     let k = ap (λ n. bit_at n i) known in
     omega (arith, e, k, one, bit_at-lt m i)
 
 pub sends_same : (m : ℕ) (a b : Option Access) → AsksSame m a b → IsSent m a → SendsSame a b
 sends_same m None None h s = tt
 sends_same m (Some a) (Some b) h s = λ v w ka kb at.
-    let known : cut m (low_bits 8) ≡ low_bits 8 = s (ap is_store ka) at in
+    let known : masked m (low_bits 8) ≡ low_bits 8 = s (ap is_store ka) at in
     let q : KindsAgree m (Store v) (Store w) = subst (λ k. KindsAgree m k (Store w)) ka (subst (λ k. KindsAgree m a.kind k) kb h.2) in
     agree_from (low_bits 8) v w (λ i one. agree_at m v w i q (low_known m i known one))
 sends_same m None (Some b) h s = absurd h
@@ -129,12 +129,12 @@ place_same {f = f} {s = s} k nested rec = λ i. if begins_same k nested rec.kind
 
 -- ---- the step over a filling, with PS.OWB as the record tells it
 abbrev told_record : ℕ → Numbers → StepRecord → StepRecord
-told_record mask n rec = record rec { reply = filled mask rec.reply n.reply; write = filled_write n.register rec.write }
+told_record mask n rec = record rec { reply = filled_number mask rec.reply n.reply; write = filled_write n.register rec.write }
 
 module _ (rows : RowsAgree) (replies : RepliesAgree) (code : ℕ → ℕ) (bytes : AreBytes code) (b : Bounds) (fresh : Bool) (live : ℕ → Bool) (kb : ℕ → ℕ) (rec : StepRecord) (words : AreInputs (inputs_of rec))
     (mask_word : reply_mask kb rec.access < 2 ^ 32) (n : Numbers) (us : UseState) (masks : MaskWords us.masks) (is_cut : IsCut us.frame us.masks) {f : FrameState} (k : Beside f us) where
   abbrev reply : ℕ
-  reply = filled (reply_mask kb rec.access) rec.reply n.reply
+  reply = filled_number (reply_mask kb rec.access) rec.reply n.reply
 
   abbrev rec2 : StepRecord
   rec2 = told_record (reply_mask kb rec.access) n rec
@@ -205,8 +205,8 @@ left_same false frames u = refl
 full_discipline : (code : ℕ → ℕ) (nested : Bool) (rec : StepRecord) (kb : ℕ → ℕ) (s : UseState) → (full_step code nested rec kb s).after.masks.discipline ≡ s.masks.discipline
 full_discipline code nested rec kb s =
     let t = full_step code nested rec kb s in
-    let h = laid (inputs_of rec) (current s.frame) in
-    sym (left_same (forgets_registers s.masks.discipline (executed t.turn.kind (fetched code h.control.pc))) s.frame.frames t.after) ∙ uses_keep code nested rec kb s
+    let h = with_inputs (inputs_of rec) (current s.frame) in
+    sym (left_same (forgets_registers s.masks.discipline (step_insn t.turn.kind (fetch_at code h.control.pc))) s.frame.frames t.after) ∙ uses_keep code nested rec kb s
 
 ps_with : (p q : Ps) (w : ℕ) → w < 16 → IsPs p → p ≡ record q { owb = p.owb } → IsPs (record q { owb = w })
 ps_with p q w small is e =
@@ -218,10 +218,10 @@ module _ (code : ℕ → ℕ) (b : Bounds) (fresh : Bool) (live : ℕ → Bool) 
   rec1 = record rec { owb = w }
 
   abbrev finds : FrameState
-  finds = laid (inputs_of rec1) (current us.frame)
+  finds = with_inputs (inputs_of rec1) (current us.frame)
 
   abbrev at : Fetched
-  at = fetched code finds.control.pc
+  at = fetch_at code finds.control.pc
 
   abbrev its_mask : ℕ
   its_mask = mask_for (reply_mask kb rec.access) us finds at
@@ -232,13 +232,13 @@ module _ (code : ℕ → ℕ) (b : Bounds) (fresh : Bool) (live : ℕ → Bool) 
   shaped_ps : IsPs finds.control.ps
   shaped_ps = by f.nested us.frame.nested k.knows.nested k.shaped.nested
     where
-      by : (o p : Option Nested) → NestedFit us.masks.inner o p → IsShapedNested o → IsPs (laid (inputs_of rec1) (current_in p us.frame)).control.ps
+      by : (o p : Option Nested) → NestedFit us.masks.inner o p → IsShapedNested o → IsPs (with_inputs (inputs_of rec1) (current_in p us.frame)).control.ps
       by None None h s = ps_with f.control.ps us.frame.control.ps (w % 16) (low w) k.shaped.control.ps k.knows.control.even.ps
       by (Some x) (Some y) h s = ps_with x.ps y.ps (w % 16) (low w) s.ps h.ps
       by None (Some y) h s = absurd h
       by (Some x) None h s = absurd h
 
-  steps_near : StepsNear finds.nested its_mask at (laid_step code rec.reply finds) (laid_step code rec.reply (told (rec.owb % 16) finds))
+  steps_near : StepsNear finds.nested its_mask at (step_with_inputs code rec.reply finds) (step_with_inputs code rec.reply (told (rec.owb % 16) finds))
   steps_near = laid_near its_mask code rec.reply (rec.owb % 16) finds shaped_ps (low rec.owb) (λ i len e shows. ap (mask_for (reply_mask kb rec.access) us finds) e ∙ shown_mask i (reply_mask kb rec.access) us finds strict shows)
 
   no_breach : (nested : Bool) → use_breach b fresh code live kb nested rec us ≡ None → use_breach b fresh code live kb nested rec1 us ≡ None
@@ -256,8 +256,8 @@ module _ (code : ℕ → ℕ) (b : Bounds) (fresh : Bool) (live : ℕ → Bool) 
   uses_near : (nested : Bool) → IsNear nested
   uses_near nested = by us.frame.nested refl
     where
-      in_place : (p : Option Nested) → us.frame.nested ≡ p → IsPs (laid (inputs_of rec1) (current_in p us.frame)).control.ps
-      in_place p e = subst (λ o. IsPs (laid (inputs_of rec1) (current_in o us.frame)).control.ps) e shaped_ps
+      in_place : (p : Option Nested) → us.frame.nested ≡ p → IsPs (with_inputs (inputs_of rec1) (current_in p us.frame)).control.ps
+      in_place p e = subst (λ o. IsPs (with_inputs (inputs_of rec1) (current_in o us.frame)).control.ps) e shaped_ps
 
       outer : us.frame.nested ≡ None → IsNear false
       outer sn = plain_near code rec1 rec.owb kb us strict sn (in_place None sn) (low rec.owb)
@@ -293,10 +293,10 @@ module _ (rows : RowsAgree) (replies : RepliesAgree) (code : ℕ → ℕ) (bytes
   u = value_step code (begins nested rec.kind f) (value_in filling.write) (inputs_of filling) f
 
   abbrev h : FrameState
-  h = laid (inputs_of rec) (current us.frame)
+  h = with_inputs (inputs_of rec) (current us.frame)
 
   abbrev o : Option Insn
-  o = executed t.turn.kind (fetched code h.control.pc)
+  o = step_insn t.turn.kind (fetch_at code h.control.pc)
 
   goes : Goes t u
   goes = by d same
@@ -308,11 +308,11 @@ module _ (rows : RowsAgree) (replies : RepliesAgree) (code : ℕ → ℕ) (bytes
           (value_goes rows replies code bytes b fresh live kb (record rec { owb = n.owb }) (record { ccount = words.ccount; interrupt = words.interrupt; owb = omega arith; reply = words.reply }) mask_word n us masks is_cut k nested
           (no_breach code b fresh live kb rec n.owb us strict k nested none))
 
-  insn_same : executed u.kind (fetched code (current f).control.pc) ≡ o
-  insn_same = ap (λ z. executed z (fetched code (current f).control.pc)) goes.follows.kind ∙ ap (λ z. executed t.turn.kind (fetched code z)) (pc_same k.knows)
+  insn_same : step_insn u.kind (fetch_at code (current f).control.pc) ≡ o
+  insn_same = ap (λ z. step_insn z (fetch_at code (current f).control.pc)) goes.follows.kind ∙ ap (λ z. step_insn t.turn.kind (fetch_at code z)) (pc_same k.knows)
 
   abbrev forgets : Bool
-  forgets = forgets_registers d (executed u.kind (fetched code (current f).control.pc))
+  forgets = forgets_registers d (step_insn u.kind (fetch_at code (current f).control.pc))
 
   forgets_same : forgets ≡ forgets_registers us.masks.discipline o
   forgets_same = ap (forgets_registers d) insn_same ∙ ap (λ z. forgets_registers z o) (sym same)

@@ -1,9 +1,9 @@
 -- A run of an image, over any filling.
 use Rattle.xt_simulation.specs.Opening.{memory_of, openings_of}
-use Rattle.xt_use_run.specs.Laws.{course_of}
+use Rattle.xt_use_run.specs.UseRunLaws.{course_of}
 use Rattle.xt_use_run.proofs.ImageRuns.{runs_are_ordinary}
 use Rattle.xt_use_run.proofs.ImageUses.{uses_are_so}
-use Rattle.xt_fillings.specs.Laws.{RunsAreDecided}
+use Rattle.xt_fillings.specs.FillingLaws.{RunsAreDecided}
 use Rattle.xt_fillings.proofs.FilledRuns.{records_followed}
 
 pub runs_decided : RunsAreDecided

@@ -4,11 +4,11 @@ use Rattle.std.proofs.Common.{◌≡◌, ℕ, zero, suc, ◌+◌, ◌*◌, ◌�
 use Rattle.std.proofs.lemmas.Bool.{cases_Bool, true≢false}
 use Rattle.std.proofs.lemmas.Nat.{and_mask}
 use Rattle.xt_isa.specs.declared.Insn.{Insn}
-use Rattle.xt_rows.specs.Laws.{IsWord}
+use Rattle.xt_rows.specs.RowLaws.{IsWord}
 use Rattle.xt_frames.specs.declared.holes.Nested.{Nested}
-use Rattle.xt_frames.specs.Frames.{Frame, FrameState, known}
+use Rattle.xt_frames.specs.Frames.{Frame, FrameState, value_or_zero}
 use Rattle.xt_frames.specs.Stacks.{AreFrames}
-use Rattle.xt_uses.specs.Words.{all_bits, cut}
+use Rattle.xt_uses.specs.Words.{all_bits, masked}
 use Rattle.xt_uses.specs.UseState.{UseState}
 use Rattle.xt_uses.specs.UseStep.{forgets_registers, is_left, leave_results, left_after, left_of}
 use Rattle.xt_uses.proofs.CutWords.{IsShapedFrame, IsShapedNested}
@@ -16,7 +16,7 @@ use Rattle.xt_uses.proofs.Left.{left_get, left_length, left_none, left_own}
 use Rattle.xt_uses.proofs.WholeLists.{AreWords}
 use Rattle.xt_use_run.specs.Knowing.{FramesFit, Knows, NestedFit, SeenFit}
 use Rattle.xt_use_run.proofs.Seen.{cut_zero}
-use Rattle.xt_fillings.specs.Fillings.{filled_state, number_in, numbered, numbered_inside, results_left}
+use Rattle.xt_fillings.specs.Fillings.{filled_state, number_in, filled_registers, numbered_inside, results_left}
 
 -- ---- registers of which nothing is known may be any
 pub refit : {n : ℕ} {masks : List ℕ} {xs ys : List (Option ℕ)} → SeenFit n masks xs ys → (zs : List (Option ℕ)) → length zs ≡ n → ((i : ℕ) → (get_or zs i None ≡ get_or xs i None) ⊎ (get_or masks i 0 ≡ 0)) → SeenFit n masks zs ys
@@ -25,10 +25,10 @@ refit {masks = masks} {xs = xs} {ys = ys} s zs size same = record {
   wide = s.wide;
   spread = s.spread;
   fits = λ i. ⊎_elim
-      (λ e. ap (λ (o : Option ℕ). cut (get_or masks i 0) (unwrap_or o 0)) e ∙ s.fits i)
+      (λ e. ap (λ (o : Option ℕ). masked (get_or masks i 0) (unwrap_or o 0)) e ∙ s.fits i)
       (λ m.
-      let before : cut 0 (known xs i) ≡ known ys i = subst (λ z. cut z (known xs i) ≡ known ys i) m (s.fits i) in
-      ap (λ z. cut z (known zs i)) m ∙ (cut_zero (known zs i) ∙ (sym (cut_zero (known xs i)) ∙ before)))
+      let before : masked 0 (value_or_zero xs i) ≡ value_or_zero ys i = subst (λ z. masked z (value_or_zero xs i) ≡ value_or_zero ys i) m (s.fits i) in
+      ap (λ z. masked z (value_or_zero zs i)) m ∙ (cut_zero (value_or_zero zs i) ∙ (sym (cut_zero (value_or_zero xs i)) ∙ before)))
       (same i);
   lacks = λ i none. ⊎_elim (λ e. s.lacks i (sym e ∙ none)) (λ m. m) (same i);
 }
@@ -43,26 +43,26 @@ KeepPointers (g ∷ rest) = HasPointer g.kept × KeepPointers rest
 
 -- ---- the numbers of a filling
 module _ (n : ℕ → ℕ) where
-  pub numbered_length : (j : ℕ) (xs : List (Option ℕ)) → length (numbered n j xs) ≡ length xs
+  pub numbered_length : (j : ℕ) (xs : List (Option ℕ)) → length (filled_registers n j xs) ≡ length xs
   numbered_length j [] = refl
   numbered_length j (x ∷ xs) = ap suc (numbered_length (suc j) xs)
 
-  numbered_some : (j : ℕ) (xs : List (Option ℕ)) (i v : ℕ) → get_or xs i None ≡ Some v → get_or (numbered n j xs) i None ≡ Some v
+  numbered_some : (j : ℕ) (xs : List (Option ℕ)) (i v : ℕ) → get_or xs i None ≡ Some v → get_or (filled_registers n j xs) i None ≡ Some v
   numbered_some j [] i v e = e
   numbered_some j (x ∷ xs) zero v e = ap (number_in n j) e
   numbered_some j (x ∷ xs) (suc i) v e = numbered_some (suc j) xs i v e
 
-  numbered_fits : {masks : List ℕ} {xs ys : List (Option ℕ)} → SeenFit 16 masks xs ys → SeenFit 16 masks (numbered n 0 xs) ys
-  numbered_fits {masks = masks} {xs = xs} s = refit s (numbered n 0 xs) (numbered_length 0 xs ∙ s.size) (λ i. by i (get_or xs i None) refl)
+  numbered_fits : {masks : List ℕ} {xs ys : List (Option ℕ)} → SeenFit 16 masks xs ys → SeenFit 16 masks (filled_registers n 0 xs) ys
+  numbered_fits {masks = masks} {xs = xs} s = refit s (filled_registers n 0 xs) (numbered_length 0 xs ∙ s.size) (λ i. by i (get_or xs i None) refl)
     where
-      by : (i : ℕ) (o : Option ℕ) → get_or xs i None ≡ o → (get_or (numbered n 0 xs) i None ≡ get_or xs i None) ⊎ (get_or masks i 0 ≡ 0)
+      by : (i : ℕ) (o : Option ℕ) → get_or xs i None ≡ o → (get_or (filled_registers n 0 xs) i None ≡ get_or xs i None) ⊎ (get_or masks i 0 ≡ 0)
       by i None e = inr (s.lacks i e)
       by i (Some v) e = inl (numbered_some 0 xs i v e ∙ sym e)
 
-  same_pointer : (xs : List (Option ℕ)) → HasPointer xs → get_or (numbered n 0 xs) 1 None ≡ get_or xs 1 None
+  same_pointer : (xs : List (Option ℕ)) → HasPointer xs → get_or (filled_registers n 0 xs) 1 None ≡ get_or xs 1 None
   same_pointer xs h = by (get_or xs 1 None) refl
     where
-      by : (o : Option ℕ) → get_or xs 1 None ≡ o → get_or (numbered n 0 xs) 1 None ≡ get_or xs 1 None
+      by : (o : Option ℕ) → get_or xs 1 None ≡ o → get_or (filled_registers n 0 xs) 1 None ≡ get_or xs 1 None
       by None e = absurd (true≢false (sym h ∙ ap (λ (o : Option ℕ). is_some o) e))
       by (Some v) e = numbered_some 0 xs 1 v e ∙ sym e
 
@@ -85,12 +85,12 @@ module _ (n : ℕ → ℕ) where
   -- ---- they are words
   word_in : (j : ℕ) (x : Option ℕ) → ((v : ℕ) → x ≡ Some v → IsWord v) → (v : ℕ) → number_in n j x ≡ Some v → IsWord v
   word_in j None w v e =
-      let is : cut all_bits (n j) ≡ v = ap (λ (o : Option ℕ). unwrap_or o 0) e in
+      let is : masked all_bits (n j) ≡ v = ap (λ (o : Option ℕ). unwrap_or o 0) e in
       let m = and_mask (n j) 32 in
       omega (arith, is, m)
   word_in j (Some x) w v e = w v e
 
-  numbered_words : (j : ℕ) (xs : List (Option ℕ)) → AreWords xs → AreWords (numbered n j xs)
+  numbered_words : (j : ℕ) (xs : List (Option ℕ)) → AreWords xs → AreWords (filled_registers n j xs)
   numbered_words j [] w i v e = w i v e
   numbered_words j (x ∷ xs) w zero v e = word_in j x (w 0) v e
   numbered_words j (x ∷ xs) w (suc i) v e = numbered_words (suc j) xs (λ k. w (suc k)) i v e

@@ -14,22 +14,22 @@ use Rattle.xt_trace.specs.declared.record.RegWrite.{RegWrite}
 use Rattle.xt_trace.specs.declared.record.StepKind.TheVariants as step
 use Rattle.xt_trace.specs.declared.record.StepRecord.{StepRecord}
 use Rattle.xt_fetch.specs.Code.{AreBytes}
-use Rattle.xt_fetch.specs.Fetching.{Fetched, Fetches, Fails, SpellsNothing, fetched}
+use Rattle.xt_fetch.specs.Fetching.{Fetched, Fetches, Fails, SpellsNothing, fetch_at}
 use Rattle.xt_fetch.proofs.Fetches.{fetched_range}
 use Rattle.xt_rows.specs.declared.outcome.Outcome.{Outcome}
 use Rattle.xt_rows.specs.declared.outcome.Outcome.TheVariants.{Windowed}
 use Rattle.xt_rows.specs.declared.outcome.WindowStep.TheVariants.{Enters}
 use Rattle.xt_rows.specs.Effects.{fetch_error, illegal_instruction}
 use Rattle.xt_rows.specs.Kinds.{is_entry, is_movsp, is_return}
-use Rattle.xt_rows.specs.Laws.{IsProper, IsWord}
+use Rattle.xt_rows.specs.RowLaws.{IsProper, IsWord}
 use Rattle.xt_rows.specs.Operands.{reads, special_reads}
 use Rattle.xt_rows.specs.Outcomes.{outcome_at}
 use Rattle.xt_rows.specs.Settling.{settled_interrupt, settled_wait}
 use Rattle.xt_rows.proofs.Proper.{outcome_words}
 use Rattle.xt_exec.proofs.Specials.{level_small}
 use Rattle.xt_frames.specs.declared.holes.Nested.{Nested}
-use Rattle.xt_frames.specs.Frames.{Frame, FrameState, known, seen_after_call, seen_after_write}
-use Rattle.xt_frames.specs.FrameStep.{FrameTurn, Inputs, fetched_step, in_frame, laid, laid_step, popped, popped_from, pushed, raised}
+use Rattle.xt_frames.specs.Frames.{Frame, FrameState, value_or_zero, seen_after_call, seen_after_write}
+use Rattle.xt_frames.specs.FrameStep.{FrameTurn, Inputs, fetched_step, in_frame, with_inputs, step_with_inputs, return_in_frame, return_to_frame, entry_in_frame, exception_in_frame}
 use Rattle.xt_frames.specs.Nesting.{current_in, turn_in, unset_after}
 use Rattle.xt_frames.specs.Breaches.{Bounds, inputs_of, is_empty, has_no_caller}
 use Rattle.xt_frames.proofs.Shown.{KeepsSp, keeps_sp}
@@ -39,7 +39,7 @@ use Rattle.xt_uses.specs.Words.{is_whole}
 use Rattle.xt_uses.specs.Known.{result_mask}
 use Rattle.xt_uses.specs.UseBreaches.{laid_use, use_breach}
 use Rattle.xt_uses.specs.UseState.{UseState, first_word, second_word, special_operand, visible_word}
-use Rattle.xt_uses.specs.UseStep.{UseTurn, executed, fetched_movsp, full_step, insn_turn, movsp_of, reply_mask, stack_moved, turn_or, use_turn, value_step}
+use Rattle.xt_uses.specs.UseStep.{UseTurn, step_insn, fetched_movsp, full_step, insn_turn, movsp_of, reply_mask, stack_moved, turn_or, use_turn, value_step}
 use Rattle.xt_uses.specs.UseLaws.{AgreeIn, OutcomesAgree, RepliesAgree, RowsAgree}
 use Rattle.xt_uses.proofs.CutWords.{AreInputs, IsShapedFrame}
 use Rattle.xt_uses.proofs.RowsWords.{result_word}
@@ -76,7 +76,7 @@ no_empty i g return_ e none =
     let z : true ≡ false = sym (ap is_empty none) ∙ a in
     absurd cc
 
-popped_held : (frames : List Frame) (a0 : ℕ) (g : FrameState) → g.frames ≡ frames → IsHeld g.seen frames → Held (popped_from frames a0 g).after
+popped_held : (frames : List Frame) (a0 : ℕ) (g : FrameState) → g.frames ≡ frames → IsHeld g.seen frames → Held (return_to_frame frames a0 g).after
 popped_held [] a0 g e k = subst (IsHeld g.seen) (sym e) k
 popped_held (c ∷ rest) a0 g e k =
     let moves = k.framed.0.moves in
@@ -87,8 +87,8 @@ popped_held (c ∷ rest) a0 g e k =
       kept = k.kept.1;
     }
 
-pushed_held : (number value len : ℕ) (g : FrameState) → number ≡ 1 → length g.seen ≡ 16 → 0 < g.control.ps.callinc → g.control.ps.callinc ≤ 3 → Held g → Held (pushed number value len g).after
-unfolding pushed
+pushed_held : (number value len : ℕ) (g : FrameState) → number ≡ 1 → length g.seen ≡ 16 → 0 < g.control.ps.callinc → g.control.ps.callinc ≤ 3 → Held g → Held (entry_in_frame number value len g).after
+unfolding entry_in_frame
 pushed_held number value len g one wide some three k =
     let n = g.control.ps.callinc in
     let l = length-take (4 * n) g.seen in
@@ -102,8 +102,8 @@ pushed_held number value len g one wide some three k =
       kept = (ap (λ (o : Option ℕ). is_some o) (get_or-take (4 * n) g.seen 1 None (omega (arith, some))) ∙ k.pointer, k.kept);
     }
 
-back_held : (a0 : ℕ) (g : FrameState) → Held g → Held (popped a0 g).after
-unfolding popped
+back_held : (a0 : ℕ) (g : FrameState) → Held g → Held (return_in_frame a0 g).after
+unfolding return_in_frame
 back_held a0 g k = popped_held g.frames a0 g refl k
 
 written_held : (o : Option RegWrite) (seen : List (Option ℕ)) (frames : List Frame) → KeepsSp o → IsHeld seen frames → IsHeld (seen_after_write o seen) frames
@@ -128,10 +128,10 @@ module _ (rows : RowsAgree) (replies : RepliesAgree) (code : ℕ → ℕ) (bytes
   inp = record (inputs_of rec) { reply = reply }
 
   abbrev h : FrameState
-  h = laid (inputs_of rec) us.frame
+  h = with_inputs (inputs_of rec) us.frame
 
   abbrev g : FrameState
-  g = laid (inputs_of rec) f
+  g = with_inputs (inputs_of rec) f
 
   now : NowFit us g h
   now = now_plain kn fn sn (inputs_of rec)
@@ -149,7 +149,7 @@ module _ (rows : RowsAgree) (replies : RepliesAgree) (code : ℕ → ℕ) (bytes
   same_wait = same_pending g.control (with_pointer g.control.threadptr h.control) now.control.even
 
   -- ---- the step of the frame state
-  plain_step : movsp_of code g ≡ None → value_step code false value inp f ≡ with_unset (unset_after (laid_step code reply g).kind (fetched code g.control.pc) f.unset) (laid_step code reply g)
+  plain_step : movsp_of code g ≡ None → value_step code false value inp f ≡ with_unset (unset_after (step_with_inputs code reply g).kind (fetch_at code g.control.pc) f.unset) (step_with_inputs code reply g)
   unfolding value_step
   plain_step none =
       let U : Option FrameTurn → Option Nested → FrameTurn = λ z o. turn_or z (turn_in o code value inp f) in
@@ -160,15 +160,15 @@ module _ (rows : RowsAgree) (replies : RepliesAgree) (code : ℕ → ℕ) (bytes
   moves_step w some = ap (λ z. turn_or z (turn_in f.nested code value inp f)) some
 
   -- both are quiet
-  quiet_goes : Quiet us g h (laid_step code reply g) (laid_step code rec.reply h) → movsp_of code h ≡ None → movsp_of code g ≡ None → target
+  quiet_goes : Quiet us g h (step_with_inputs code reply g) (step_with_inputs code rec.reply h) → movsp_of code h ≡ None → movsp_of code g ≡ None → target
   quiet_goes q none none_g =
-      let v = laid_step code rec.reply h in
-      let u = laid_step code reply g in
-      let at = fetched code h.control.pc in
-      let here : Follows (use_turn (executed v.kind at) k us h (with_unset (unset_after v.kind at us.frame.unset) v)) (with_unset (unset_after u.kind at f.unset) u) = quiet_follows kn fn sn (inputs_of rec) at k u v q in
-      let at_same : fetched code g.control.pc ≡ at = ap (fetched code) now.control.even.pc in
-      let there : Follows (use_turn (executed v.kind at) k us h (with_unset (unset_after v.kind at us.frame.unset) v)) (value_step code false value inp f) =
-      subst (Follows (use_turn (executed v.kind at) k us h (with_unset (unset_after v.kind at us.frame.unset) v))) (sym (plain_step none_g ∙ ap (λ z. with_unset (unset_after u.kind z f.unset) u) at_same)) here in
+      let v = step_with_inputs code rec.reply h in
+      let u = step_with_inputs code reply g in
+      let at = fetch_at code h.control.pc in
+      let here : Follows (use_turn (step_insn v.kind at) k us h (with_unset (unset_after v.kind at us.frame.unset) v)) (with_unset (unset_after u.kind at f.unset) u) = quiet_follows kn fn sn (inputs_of rec) at k u v q in
+      let at_same : fetch_at code g.control.pc ≡ at = ap (fetch_at code) now.control.even.pc in
+      let there : Follows (use_turn (step_insn v.kind at) k us h (with_unset (unset_after v.kind at us.frame.unset) v)) (value_step code false value inp f) =
+      subst (Follows (use_turn (step_insn v.kind at) k us h (with_unset (unset_after v.kind at us.frame.unset) v))) (sym (plain_step none_g ∙ ap (λ z. with_unset (unset_after u.kind z f.unset) u) at_same)) here in
       let after : Held u.after = subst (λ (z : FrameState). Held z) (sym q.is) held in
       record {
         follows = subst (λ z. Follows z (value_step code false value inp f)) (sym (use_plain code rec kb us sn none)) there;
@@ -176,7 +176,7 @@ module _ (rows : RowsAgree) (replies : RepliesAgree) (code : ℕ → ℕ) (bytes
       }
 
   move_free : (s : FrameState) → (ltb 0 (pending_of s.control) || s.control.waits) ≡ true → movsp_of code s ≡ None
-  move_free s e = cond-true (is_some s.nested || (ltb 0 (pending_of s.control) || s.control.waits)) None (fetched_movsp (fetched code s.control.pc) s) (or_right _ _ e)
+  move_free s e = cond-true (is_some s.nested || (ltb 0 (pending_of s.control) || s.control.waits)) None (fetched_movsp (fetch_at code s.control.pc) s) (or_right _ _ e)
 
   -- ---- an interrupt
   taken : ltb 0 (pending_of h.control) ≡ true → target
@@ -184,9 +184,9 @@ module _ (rows : RowsAgree) (replies : RepliesAgree) (code : ℕ → ℕ) (bytes
       let yes_g : ltb 0 (pending_of g.control) ≡ true = ap (λ n. ltb 0 n) same_wait ∙ pends in
       let level = pending_of g.control in
       let small : level ≤ 5 = level_small (special_of g.control number.interrupt) (special_of g.control number.intenable) g.control.ps in
-      let eg : laid_step code reply g ≡ in_frame (settled_interrupt level g.control) rec.reply g = step_taken code reply g yes_g in
-      let eh : laid_step code rec.reply h ≡ in_frame (settled_interrupt level h.control) rec.reply h = step_taken code rec.reply h pends ∙ ap (λ n. in_frame (settled_interrupt n h.control) rec.reply h) (sym same_wait) in
-      let q : Quiet us g h (laid_step code reply g) (laid_step code rec.reply h) = subst (λ (z : FrameTurn). Quiet us g h z (laid_step code rec.reply h)) (sym eg) (subst (Quiet us g h (in_frame (settled_interrupt level g.control) rec.reply g)) (sym eh) (taken_quiet now level rec.reply (omega arith))) in
+      let eg : step_with_inputs code reply g ≡ in_frame (settled_interrupt level g.control) rec.reply g = step_taken code reply g yes_g in
+      let eh : step_with_inputs code rec.reply h ≡ in_frame (settled_interrupt level h.control) rec.reply h = step_taken code rec.reply h pends ∙ ap (λ n. in_frame (settled_interrupt n h.control) rec.reply h) (sym same_wait) in
+      let q : Quiet us g h (step_with_inputs code reply g) (step_with_inputs code rec.reply h) = subst (λ (z : FrameTurn). Quiet us g h z (step_with_inputs code rec.reply h)) (sym eg) (subst (Quiet us g h (in_frame (settled_interrupt level g.control) rec.reply g)) (sym eh) (taken_quiet now level rec.reply (omega arith))) in
       quiet_goes q (move_free h (or_left _ _ pends)) (move_free g (or_left _ _ yes_g))
 
   -- ---- a turn of waiting
@@ -194,9 +194,9 @@ module _ (rows : RowsAgree) (replies : RepliesAgree) (code : ℕ → ℕ) (bytes
   waiting none w =
       let no_g : ltb 0 (pending_of g.control) ≡ false = ap (λ n. ltb 0 n) same_wait ∙ none in
       let w_g : g.control.waits ≡ true = now.control.even.waits ∙ w in
-      let eg : laid_step code reply g ≡ in_frame (settled_wait g.control) rec.reply g = step_waits code reply g no_g w_g in
+      let eg : step_with_inputs code reply g ≡ in_frame (settled_wait g.control) rec.reply g = step_waits code reply g no_g w_g in
       let eh = step_waits code rec.reply h none w in
-      let q : Quiet us g h (laid_step code reply g) (laid_step code rec.reply h) = subst (λ (z : FrameTurn). Quiet us g h z (laid_step code rec.reply h)) (sym eg) (subst (Quiet us g h (in_frame (settled_wait g.control) rec.reply g)) (sym eh) (waits_quiet now rec.reply)) in
+      let q : Quiet us g h (step_with_inputs code reply g) (step_with_inputs code rec.reply h) = subst (λ (z : FrameTurn). Quiet us g h z (step_with_inputs code rec.reply h)) (sym eg) (subst (Quiet us g h (in_frame (settled_wait g.control) rec.reply g)) (sym eh) (waits_quiet now rec.reply)) in
       quiet_goes q (move_free h (or_right _ _ w)) (move_free g (or_right _ _ w_g))
 
   -- ---- an instruction is fetched
@@ -207,60 +207,60 @@ module _ (rows : RowsAgree) (replies : RepliesAgree) (code : ℕ → ℕ) (bytes
     awake_g : g.control.waits ≡ false
     awake_g = now.control.even.waits ∙ awake
 
-    at_g : (at : Fetched) → fetched code h.control.pc ≡ at → fetched code g.control.pc ≡ at
-    at_g at e = ap (fetched code) now.control.even.pc ∙ e
+    at_g : (at : Fetched) → fetch_at code h.control.pc ≡ at → fetch_at code g.control.pc ≡ at
+    at_g at e = ap (fetch_at code) now.control.even.pc ∙ e
 
-    step_g : (at : Fetched) → fetched code h.control.pc ≡ at → laid_step code reply g ≡ fetched_step at code reply g
+    step_g : (at : Fetched) → fetch_at code h.control.pc ≡ at → step_with_inputs code reply g ≡ fetched_step at code reply g
     step_g at e = step_fetches code reply g still_g awake_g ∙ ap (λ z. fetched_step z code reply g) (at_g at e)
 
-    step_h : (at : Fetched) → fetched code h.control.pc ≡ at → laid_step code rec.reply h ≡ fetched_step at code rec.reply h
+    step_h : (at : Fetched) → fetch_at code h.control.pc ≡ at → step_with_inputs code rec.reply h ≡ fetched_step at code rec.reply h
     step_h at e = step_fetches code rec.reply h still awake ∙ ap (λ z. fetched_step z code rec.reply h) e
 
-    no_move : (s : FrameState) (at : Fetched) → fetched code s.control.pc ≡ at → fetched_movsp at s ≡ None → movsp_of code s ≡ None
+    no_move : (s : FrameState) (at : Fetched) → fetch_at code s.control.pc ≡ at → fetched_movsp at s ≡ None → movsp_of code s ≡ None
     no_move s at e none = by (is_some s.nested || (ltb 0 (pending_of s.control) || s.control.waits))
       where
-        by : (t : Bool) → cond t None (fetched_movsp (fetched code s.control.pc) s) ≡ None
+        by : (t : Bool) → cond t None (fetched_movsp (fetch_at code s.control.pc) s) ≡ None
         by true = refl
         by false = ap (λ z. fetched_movsp z s) e ∙ none
 
     -- nothing is
-    fails : (at : Fetched) → fetched code h.control.pc ≡ at → ((x : FrameState) → fetched_movsp at x ≡ None) → (cause : ℕ) (addr : Option ℕ) → ((n : ℕ) (x : FrameState) → fetched_step at code n x ≡ raised cause addr x) → target
+    fails : (at : Fetched) → fetch_at code h.control.pc ≡ at → ((x : FrameState) → fetched_movsp at x ≡ None) → (cause : ℕ) (addr : Option ℕ) → ((n : ℕ) (x : FrameState) → fetched_step at code n x ≡ exception_in_frame cause addr x) → target
     fails at e none cause addr raise =
         let eg = step_g at e ∙ raise reply g in
         let eh = step_h at e ∙ raise rec.reply h in
-        let q : Quiet us g h (laid_step code reply g) (laid_step code rec.reply h) = subst (λ (z : FrameTurn). Quiet us g h z (laid_step code rec.reply h)) (sym eg) (subst (Quiet us g h (raised cause addr g)) (sym eh) (raise_quiet now cause addr)) in
+        let q : Quiet us g h (step_with_inputs code reply g) (step_with_inputs code rec.reply h) = subst (λ (z : FrameTurn). Quiet us g h z (step_with_inputs code rec.reply h)) (sym eg) (subst (Quiet us g h (exception_in_frame cause addr g)) (sym eh) (raise_quiet now cause addr)) in
         quiet_goes q (no_move h at e (none h)) (no_move g at (at_g at e) (none g))
 
     -- MOVSP
-    moves : (q len : ℕ) {v : FrameTurn} → fetched code h.control.pc ≡ Fetches (movsp 1 q) len → Denied b fresh live kb (movsp 1 q) rec us h v → target
+    moves : (q len : ℕ) {v : FrameTurn} → fetch_at code h.control.pc ≡ Fetches (movsp 1 q) len → Denied b fresh live kb (movsp 1 q) rec us h v → target
     moves q len e d =
         let uses : Uses (movsp 1 q) us h = uses_known (movsp 1 q) us h d.unset in
         let whole : is_whole (first_word (movsp 1 q) us h) ≡ true = move_uses us.masks.discipline 1 q us h (second_word (movsp 1 q) us h) uses.used in
         let w : is_whole (visible_word us h (Some q)) ≡ true = ap is_whole (sym (move_word 1 q us h)) ∙ whole in
-        let x = known g.seen q in
+        let x = value_or_zero g.seen q in
         let x_word : x < 2 ^ 32 = (given_word q) in
-        let x_known : known us.frame.seen q ≡ x = whole_value x (visible_word us h (Some q)) (word_fits now (Some q)) x_word w in
-        let turn_v : FrameTurn = stack_moved 1 (known h.seen q) len h in
+        let x_known : value_or_zero us.frame.seen q ≡ x = whole_value x (visible_word us h (Some q)) (word_fits now (Some q)) x_word w in
+        let turn_v : FrameTurn = stack_moved 1 (value_or_zero h.seen q) len h in
         let turn_u : FrameTurn = stack_moved 1 x len g in
         let moves_h : movsp_of code h ≡ Some turn_v = some_move h (ap (λ (o : Option Nested). is_some o) sn) still awake e in
         let moves_g : movsp_of code g ≡ Some turn_u = some_move g (ap (λ (o : Option Nested). is_some o) fn) still_g awake_g (at_g (Fetches (movsp 1 q) len) e) in
-        let same_use : full_step code false rec kb us ≡ insn_turn (movsp 1 q) k us h turn_v = use_moves code rec kb us turn_v sn moves_h ∙ (ap (λ z. use_turn (executed step.Insn z) k us h turn_v) e ∙ ap (λ z. use_turn z k us h turn_v) (executed_insn (movsp 1 q) len)) in
+        let same_use : full_step code false rec kb us ≡ insn_turn (movsp 1 q) k us h turn_v = use_moves code rec kb us turn_v sn moves_h ∙ (ap (λ z. use_turn (step_insn step.Insn z) k us h turn_v) e ∙ ap (λ z. use_turn z k us h turn_v) (executed_insn (movsp 1 q) len)) in
         let here : Follows (insn_turn (movsp 1 q) k us h turn_v) turn_u = move_follows kn fn sn (inputs_of rec) q len x x_known x_word whole shaped.control.count k in
         record {
           follows = subst (λ z. Follows z (value_step code false value inp f)) (sym same_use) (subst (Follows (insn_turn (movsp 1 q) k us h turn_v)) (sym (moves_step turn_u moves_g)) here);
           held = subst (λ (z : FrameTurn). Held z.after) (sym (moves_step turn_u moves_g)) (moved_held x len g kn.seen.size held);
         }
       where
-        given_word : (q : ℕ) → known g.seen q < 2 ^ 32
+        given_word : (q : ℕ) → value_or_zero g.seen q < 2 ^ 32
         given_word q = known_small g.seen q shaped_g.seen
 
-        some_move : (s : FrameState) → is_some s.nested ≡ false → ltb 0 (pending_of s.control) ≡ false → s.control.waits ≡ false → fetched code s.control.pc ≡ Fetches (movsp 1 q) len → movsp_of code s ≡ Some (stack_moved 1 (known s.seen q) len s)
+        some_move : (s : FrameState) → is_some s.nested ≡ false → ltb 0 (pending_of s.control) ≡ false → s.control.waits ≡ false → fetch_at code s.control.pc ≡ Fetches (movsp 1 q) len → movsp_of code s ≡ Some (stack_moved 1 (value_or_zero s.seen q) len s)
         some_move s n a w e =
             let none : (is_some s.nested || (ltb 0 (pending_of s.control) || s.control.waits)) ≡ false = or_from _ _ n (or_from _ _ a w) in
-            cond-false (is_some s.nested || (ltb 0 (pending_of s.control) || s.control.waits)) None (fetched_movsp (fetched code s.control.pc) s) none ∙ (ap (λ z. fetched_movsp z s) e ∙ move_at 1 q len s)
+            cond-false (is_some s.nested || (ltb 0 (pending_of s.control) || s.control.waits)) None (fetched_movsp (fetch_at code s.control.pc) s) none ∙ (ap (λ z. fetched_movsp z s) e ∙ move_at 1 q len s)
 
     -- any other row
-    module _ (i : Insn) (len : ℕ) (e : fetched code h.control.pc ≡ Fetches i len) (no_movsp : is_movsp i ≡ false) (d : Denied b fresh live kb i rec us h (fetched_step (Fetches i len) code rec.reply h)) where
+    module _ (i : Insn) (len : ℕ) (e : fetch_at code h.control.pc ≡ Fetches i len) (no_movsp : is_movsp i ≡ false) (d : Denied b fresh live kb i rec us h (fetched_step (Fetches i len) code rec.reply h)) where
       abbrev v : FrameTurn
       v = fetched_step (Fetches i len) code rec.reply h
 
@@ -277,9 +277,9 @@ module _ (rows : RowsAgree) (replies : RepliesAgree) (code : ℕ → ℕ) (bytes
       given = given_words g shaped_g i ok
 
       abbrev o : Outcome
-      o = outcome_at code i (known g.seen) g.control
+      o = outcome_at code i (value_or_zero g.seen) g.control
 
-      agree : OutcomesAgree us.masks.discipline i (row_masks i us h) o (outcome_at code i (known h.seen) h.control)
+      agree : OutcomesAgree us.masks.discipline i (row_masks i us h) o (outcome_at code i (value_or_zero h.seen) h.control)
       agree = row_agrees now rows (now_small us masks) code i given uses.used
 
       proper : EntersWord o
@@ -306,7 +306,7 @@ module _ (rows : RowsAgree) (replies : RepliesAgree) (code : ℕ → ℕ) (bytes
       abbrev turn_v : FrameTurn
       turn_v = with_unset (unset_after v.kind (Fetches i len) us.frame.unset) v
 
-      by_row : RowStep i us g h (result now code i shaped_g.control.count given.x_word k) u v → Goes (use_turn (executed v.kind (Fetches i len)) k us h turn_v) turn_u
+      by_row : RowStep i us g h (result now code i shaped_g.control.count given.x_word k) u v → Goes (use_turn (step_insn v.kind (Fetches i len)) k us h turn_v) turn_u
       by_row (Executes x) = record {
         follows = ordinary_follows kn fn sn (inputs_of rec) i len k u v x (visible_named i ok u.write x.narrow) (keeps_a1 x.no_entry);
         held = subst (λ (z : FrameState). Held z) (sym x.is) (written_held u.write g.seen g.frames (keeps_a1 x.no_entry) held);
@@ -328,20 +328,20 @@ module _ (rows : RowsAgree) (replies : RepliesAgree) (code : ℕ → ℕ) (bytes
         held = subst (λ (w : FrameTurn). Held w.after) (sym eu) (back_held a0 g held);
       }
 
-      same_use : full_step code false rec kb us ≡ use_turn (executed v.kind (Fetches i len)) k us h turn_v
+      same_use : full_step code false rec kb us ≡ use_turn (step_insn v.kind (Fetches i len)) k us h turn_v
       same_use =
-          let U : Fetched → FrameTurn → UseTurn = λ z w. use_turn (executed w.kind z) k us h (with_unset (unset_after w.kind z us.frame.unset) w) in
-          use_plain code rec kb us sn (no_move h (Fetches i len) e (row_moves_none i len h no_movsp)) ∙ (ap (U (fetched code h.control.pc)) (step_h (Fetches i len) e) ∙ ap (λ z. U z v) e)
+          let U : Fetched → FrameTurn → UseTurn = λ z w. use_turn (step_insn w.kind z) k us h (with_unset (unset_after w.kind z us.frame.unset) w) in
+          use_plain code rec kb us sn (no_move h (Fetches i len) e (row_moves_none i len h no_movsp)) ∙ (ap (U (fetch_at code h.control.pc)) (step_h (Fetches i len) e) ∙ ap (λ z. U z v) e)
 
       same_step : value_step code false value inp f ≡ turn_u
       same_step =
           let W : Fetched → FrameTurn → FrameTurn = λ z w. with_unset (unset_after w.kind z f.unset) w in
-          plain_step (no_move g (Fetches i len) (at_g (Fetches i len) e) (row_moves_none i len g no_movsp)) ∙ (ap (W (fetched code g.control.pc)) (step_g (Fetches i len) e) ∙ ap (λ z. W z u) (at_g (Fetches i len) e))
+          plain_step (no_move g (Fetches i len) (at_g (Fetches i len) e) (row_moves_none i len g no_movsp)) ∙ (ap (W (fetch_at code g.control.pc)) (step_g (Fetches i len) e) ∙ ap (λ z. W z u) (at_g (Fetches i len) e))
 
       row_goes : target
-      row_goes = subst (λ z. Goes z (value_step code false value inp f)) (sym same_use) (subst (Goes (use_turn (executed v.kind (Fetches i len)) k us h turn_v)) (sym same_step) (by_row row))
+      row_goes = subst (λ z. Goes z (value_step code false value inp f)) (sym same_use) (subst (Goes (use_turn (step_insn v.kind (Fetches i len)) k us h turn_v)) (sym same_step) (by_row row))
 
-    by_fetch : (at : Fetched) → fetched code h.control.pc ≡ at → laid_use b fresh code live kb rec us h ≡ None → target
+    by_fetch : (at : Fetched) → fetch_at code h.control.pc ≡ at → laid_use b fresh code live kb rec us h ≡ None → target
     by_fetch (Fails a) e none = fails (Fails a) e (no_move_fails a) fetch_error (Some a) (λ n x. refl)
     by_fetch SpellsNothing e none = fails SpellsNothing e no_move_spells illegal_instruction None (λ n x. refl)
     by_fetch (Fetches i len) e none =
@@ -353,8 +353,8 @@ module _ (rows : RowsAgree) (replies : RepliesAgree) (code : ℕ → ℕ) (bytes
 
   pub outside_goes : use_breach b fresh code live kb false rec us ≡ None → target
   outside_goes none =
-      let none_h : laid_use b fresh code live kb rec us h ≡ None = ap (λ (o : Option Nested). laid_use b fresh code live kb rec us (laid (inputs_of rec) (current_in o us.frame))) (sym sn) ∙ none in
+      let none_h : laid_use b fresh code live kb rec us h ≡ None = ap (λ (o : Option Nested). laid_use b fresh code live kb rec us (with_inputs (inputs_of rec) (current_in o us.frame))) (sym sn) ∙ none in
       ⊎_elim
       taken
-      (λ still. ⊎_elim (λ w. waiting still w) (λ w. by_fetch still w (fetched code h.control.pc) refl none_h) (cases_Bool h.control.waits))
+      (λ still. ⊎_elim (λ w. waiting still w) (λ w. by_fetch still w (fetch_at code h.control.pc) refl none_h) (cases_Bool h.control.waits))
       (cases_Bool (ltb 0 (pending_of h.control)))

@@ -6,7 +6,7 @@ use Rattle.xt_special.specs.declared.ps.Ps.{Ps}
 use Rattle.xt_special.specs.Access.{SpecialWrites, is_eps, with_sets}
 use Rattle.xt_special.specs.Control.{Control, special_of}
 use Rattle.xt_special.specs.Exceptions.{after_double, after_exception, after_general}
-use Rattle.xt_special.specs.Timers.{ticked}
+use Rattle.xt_special.specs.Timers.{after_tick}
 use Rattle.xt_rows.specs.declared.outcome.Flow.{Flow}
 use Rattle.xt_rows.specs.declared.outcome.Flow.TheVariants.{Falls, Goes}
 use Rattle.xt_rows.specs.declared.outcome.Effect.{Effect}
@@ -14,7 +14,7 @@ use Rattle.xt_rows.specs.Settling.{after_effect, after_flow}
 use Rattle.xt_frames.specs.Marks.{holds_marks}
 use Rattle.xt_simulation.specs.Relation.{Even}
 use Rattle.xt_uses.specs.declared.discipline.Discipline.TheVariants.{Strict}
-use Rattle.xt_uses.specs.Words.{cut}
+use Rattle.xt_uses.specs.Words.{masked}
 use Rattle.xt_uses.specs.Used.{counted_bits}
 use Rattle.xt_uses.specs.UseLaws.{AgreeIn}
 use Rattle.xt_use_run.specs.Knowing.{ControlLeft, with_owb}
@@ -32,7 +32,7 @@ even_same c = record { pc = refl; ps = refl; threadptr = refl; waits = refl; spe
 pub near_equal : (c d : Control) → ((z : ℕ) → with_owb z c ≡ with_owb z d) → ControlNear c d
 near_equal c d h = record {
   even = λ z. subst (λ x. Even is_eps (with_owb z c) x) (h z) (even_same (with_owb z c));
-  saved = λ n e. ap (λ (x : Control). cut (counted_bits Strict n) (special_of x n)) (h 0);
+  saved = λ n e. ap (λ (x : Control). masked (counted_bits Strict n) (special_of x n)) (h 0);
 }
 
 -- ---- an effect
@@ -58,8 +58,8 @@ effect_near m d e n len w c z =
     ∙ (ap (λ (x : Bool). built len c e.flow e.sets (record e.ps { owb = z }) e.threadptr x) n.waits
     ∙ sym (flow_owb e.flow len (record { pc = c.pc; special = with_sets e.sets c.special; ps = e.ps; threadptr = e.threadptr; waits = e.waits }) z))))))
 
-pub done_near : (m : ℕ) (d e : Effect) → EffectsNear m d e → (len w : ℕ) (c : Control) → ControlNear (ticked (after_effect d len c)) (ticked (after_effect e len (with_owb w c)))
-done_near m d e n len w c = near_equal (ticked (after_effect d len c)) (ticked (after_effect e len (with_owb w c))) (λ z. ap ticked (effect_near m d e n len w c z))
+pub done_near : (m : ℕ) (d e : Effect) → EffectsNear m d e → (len w : ℕ) (c : Control) → ControlNear (after_tick (after_effect d len c)) (after_tick (after_effect e len (with_owb w c)))
+done_near m d e n len w c = near_equal (after_tick (after_effect d len c)) (after_tick (after_effect e len (with_owb w c))) (λ z. ap after_tick (effect_near m d e n len w c z))
 
 -- ---- an exception
 pub raised_owb : (cause : ℕ) (addr : Option ℕ) (c : Control) (o : ℕ) → with_owb o (after_exception cause addr c) ≡ after_exception cause addr (with_owb o c)
@@ -70,11 +70,11 @@ raised_owb cause addr c o = by_mode c.ps.excm
     by_mode true = refl
     by_mode false = refl
 
-pub raised_near : (cause : ℕ) (addr : Option ℕ) (w : ℕ) (c : Control) → ControlNear (ticked (after_exception cause addr c)) (ticked (after_exception cause addr (with_owb w c)))
-raised_near cause addr w c = near_equal (ticked (after_exception cause addr c)) (ticked (after_exception cause addr (with_owb w c))) (λ z. ap ticked (raised_owb cause addr c z ∙ sym (raised_owb cause addr (with_owb w c) z)))
+pub raised_near : (cause : ℕ) (addr : Option ℕ) (w : ℕ) (c : Control) → ControlNear (after_tick (after_exception cause addr c)) (after_tick (after_exception cause addr (with_owb w c)))
+raised_near cause addr w c = near_equal (after_tick (after_exception cause addr c)) (after_tick (after_exception cause addr (with_owb w c))) (λ z. ap after_tick (raised_owb cause addr c z ∙ sym (raised_owb cause addr (with_owb w c) z)))
 
-pub waited_near : (w : ℕ) (c : Control) → ControlNear (ticked c) (ticked (with_owb w c))
-waited_near w c = near_equal (ticked c) (ticked (with_owb w c)) (λ z. refl)
+pub waited_near : (w : ℕ) (c : Control) → ControlNear (after_tick c) (after_tick (with_owb w c))
+waited_near w c = near_equal (after_tick c) (after_tick (with_owb w c)) (λ z. refl)
 
 -- ---- what is known of one is known of the other
 no_mark_eps : (n : ℕ) → holds_marks n ≡ true → is_eps n ≡ false

@@ -9,19 +9,19 @@ use Rattle.xt_trace.specs.declared.record.RegWrite.{RegWrite}
 use Rattle.xt_trace.specs.declared.record.StepKind.{StepKind}
 use Rattle.xt_trace.specs.declared.record.StepKind.TheVariants as step
 use Rattle.xt_trace.specs.declared.record.StepRecord.{StepRecord}
-use Rattle.xt_fetch.specs.Fetching.{Fetched, Fetches, Fails, SpellsNothing, fetched}
+use Rattle.xt_fetch.specs.Fetching.{Fetched, Fetches, Fails, SpellsNothing, fetch_at}
 use Rattle.xt_rows.specs.Operands.{reads}
 use Rattle.xt_frames.specs.declared.holes.Nested.{Nested}
 use Rattle.xt_frames.specs.Frames.{FrameState}
-use Rattle.xt_frames.specs.FrameStep.{FrameTurn, laid, laid_step}
+use Rattle.xt_frames.specs.FrameStep.{FrameTurn, with_inputs, step_with_inputs}
 use Rattle.xt_frames.specs.Marks.{mark_read, marked_seen, marked_write, marks_after, unset_written}
-use Rattle.xt_frames.specs.Nesting.{ends_nested, inside, keeping, nested_after, nested_fetched, nested_other}
+use Rattle.xt_frames.specs.Nesting.{ends_nested, nested_view, with_kept_frame, nested_after, nested_fetched, nested_other}
 use Rattle.xt_frames.specs.Breaches.{inputs_of}
 use Rattle.xt_frames.specs.Judging.{value_in}
 use Rattle.xt_frames.proofs.Inside.{kind_inside}
 use Rattle.xt_uses.specs.declared.discipline.Discipline.TheVariants.{Strict}
 use Rattle.xt_uses.specs.UseState.{UseState}
-use Rattle.xt_uses.specs.UseStep.{cut_seen, cut_state, cut_write, executed, full_step, insn_turn, other_turn, reply_mask, use_turn}
+use Rattle.xt_uses.specs.UseStep.{cut_seen, cut_state, cut_write, step_insn, full_step, insn_turn, other_turn, reply_mask, use_turn}
 use Rattle.xt_use_run.proofs.NestedJudged.{use_inside}
 use Rattle.xt_fillings.proofs.OwbControl.{ControlNear}
 use Rattle.xt_fillings.proofs.OwbSteps.{Alike, SeenNear, Shown, StepsNear, laid_near, told}
@@ -51,13 +51,13 @@ kept_cut m o a b xs ys zs (Shown i n v w old is e f g h l) = ap (λ z. cut_seen 
 placed_same : {c d : Control} (pc : ℕ) (p : Ps) → ControlNear c d → ControlNear (record c { pc = pc; ps = p }) (record d { pc = pc; ps = p })
 placed_same pc p n = placed_near pc p.owb p n
 
-executed_fails : (kind : StepKind) (a : ℕ) → executed kind (Fails a) ≡ None
-unfolding executed
+executed_fails : (kind : StepKind) (a : ℕ) → step_insn kind (Fails a) ≡ None
+unfolding step_insn
 executed_fails step.Insn a = refl
 executed_fails _ a = refl
 
-executed_nothing : (kind : StepKind) → executed kind SpellsNothing ≡ None
-unfolding executed
+executed_nothing : (kind : StepKind) → step_insn kind SpellsNothing ≡ None
+unfolding step_insn
 executed_nothing step.Insn = refl
 executed_nothing _ = refl
 
@@ -93,7 +93,7 @@ module _ (k w : ℕ) (s : UseState) (h : FrameState) (y : Nested) (value : ℕ) 
     alike (Shown i a b c old e f g l x z) = absurd cc
 
     -- nothing is fetched
-    others : executed u.kind at ≡ None → UsesNear (other_turn s.masks (nested_other y s.frame u)) (other_turn s.masks (nested_other y s.frame v))
+    others : step_insn u.kind at ≡ None → UsesNear (other_turn s.masks (nested_other y s.frame u)) (other_turn s.masks (nested_other y s.frame v))
     others none =
         let p = alike (subst (λ o. SeenNear m o u.write v.write u.after.seen v.after.seen) none n.seen) in
         record {
@@ -109,13 +109,13 @@ module _ (k w : ℕ) (s : UseState) (h : FrameState) (y : Nested) (value : ℕ) 
     abbrev goes : Insn → FrameTurn → FrameTurn
     goes i z = record z {
       write = marked_write (mark_read i y.saved) value z.write;
-      after = record (keeping s.frame z.after) { unset = unset_written i y.marks s.frame.unset; nested = Some (nested_after i (mark_read i y.saved) y z) };
+      after = record (with_kept_frame s.frame z.after) { unset = unset_written i y.marks s.frame.unset; nested = Some (nested_after i (mark_read i y.saved) y z) };
     }
 
     abbrev ends : FrameTurn → FrameTurn
-    ends z = record z { after = record (keeping s.frame z.after) { nested = None } }
+    ends z = record z { after = record (with_kept_frame s.frame z.after) { nested = None } }
 
-    goes_none : (i : Insn) → executed u.kind at ≡ None → UsesNear (other_turn s.masks (goes i u)) (other_turn s.masks (goes i v))
+    goes_none : (i : Insn) → step_insn u.kind at ≡ None → UsesNear (other_turn s.masks (goes i u)) (other_turn s.masks (goes i v))
     goes_none i none =
         let mark = mark_read i y.saved in
         let p = alike (subst (λ o. SeenNear m o u.write v.write u.after.seen v.after.seen) none n.seen) in
@@ -129,12 +129,12 @@ module _ (k w : ℕ) (s : UseState) (h : FrameState) (y : Nested) (value : ℕ) 
           frame = record { seen = refl; frames = refl; unset = refl; control = control; nested = record { seen = ap (λ z. marked_seen mark z u.after.seen) p.0 ∙ ap (marked_seen mark v.write) p.1; pc = pcs; ps = pss; marks = ap (λ z. marks_after mark z y.marks) p.0; saved = refl } };
         }
 
-    ends_none : executed u.kind at ≡ None → UsesNear (other_turn s.masks (ends u)) (other_turn s.masks (ends v))
+    ends_none : step_insn u.kind at ≡ None → UsesNear (other_turn s.masks (ends u)) (other_turn s.masks (ends v))
     ends_none none =
         let p = alike (subst (λ o. SeenNear m o u.write v.write u.after.seen v.after.seen) none n.seen) in
         record { kind = n.kind; write = p.0; access = n.access; mask = refl; stored = refl; masks = refl; frame = record { seen = refl; frames = refl; unset = n.unset; control = control; nested = tt } }
 
-    module _ (i : Insn) (is : executed u.kind at ≡ Some i) (mask : m ≡ mask_of i k s h) where
+    module _ (i : Insn) (is : step_insn u.kind at ≡ Some i) (mask : m ≡ mask_of i k s h) where
       seen : SeenNear (mask_of i k s h) (Some i) u.write v.write u.after.seen v.after.seen
       seen = subst (λ z. SeenNear z (Some i) u.write v.write u.after.seen v.after.seen) mask (subst (λ o. SeenNear m o u.write v.write u.after.seen v.after.seen) is n.seen)
 
@@ -169,19 +169,19 @@ module _ (code : ℕ → ℕ) (rec : StepRecord) (w : ℕ) (kb : ℕ → ℕ) (s
   rec2 = record rec { owb = w }
 
   abbrev h : FrameState
-  h = laid (inputs_of rec) (inside y s.frame)
+  h = with_inputs (inputs_of rec) (nested_view y s.frame)
 
   abbrev k : ℕ
   k = reply_mask kb rec.access
 
   abbrev at : Fetched
-  at = fetched code h.control.pc
+  at = fetch_at code h.control.pc
 
   abbrev u : FrameTurn
-  u = laid_step code rec.reply h
+  u = step_with_inputs code rec.reply h
 
   abbrev v : FrameTurn
-  v = laid_step code rec.reply (told (w % 16) h)
+  v = step_with_inputs code rec.reply (told (w % 16) h)
 
   abbrev value : ℕ
   value = value_in rec.write
@@ -190,11 +190,11 @@ module _ (code : ℕ → ℕ) (rec : StepRecord) (w : ℕ) (kb : ℕ → ℕ) (s
     steps : StepsNear s.frame.nested (mask_for k s h at) at u v
     steps = laid_near (mask_for k s h at) code rec.reply (w % 16) h is small (λ i len e shows. ap (mask_for k s h) e ∙ shown_mask i k s h strict shows)
 
-    turns_in : (o : Option Insn) → executed u.kind at ≡ o → (here : Fetched) → at ≡ here → UsesNear (use_turn o k s h (nested_fetched here value y s.frame u)) (use_turn o k s (told (w % 16) h) (nested_fetched here value y s.frame v))
+    turns_in : (o : Option Insn) → step_insn u.kind at ≡ o → (here : Fetched) → at ≡ here → UsesNear (use_turn o k s h (nested_fetched here value y s.frame u)) (use_turn o k s (told (w % 16) h) (nested_fetched here value y s.frame v))
     turns_in None q (Fails a) e = others k (w % 16) s h y value u v (mask_for k s h at) at steps q
     turns_in None q SpellsNothing e = others k (w % 16) s h y value u v (mask_for k s h at) at steps q
-    turns_in (Some i) q (Fails a) e = let z = sym q ∙ (ap (executed u.kind) e ∙ executed_fails u.kind a) in absurd cc
-    turns_in (Some i) q SpellsNothing e = let z = sym q ∙ (ap (executed u.kind) e ∙ executed_nothing u.kind) in absurd cc
+    turns_in (Some i) q (Fails a) e = let z = sym q ∙ (ap (step_insn u.kind) e ∙ executed_fails u.kind a) in absurd cc
+    turns_in (Some i) q SpellsNothing e = let z = sym q ∙ (ap (step_insn u.kind) e ∙ executed_nothing u.kind) in absurd cc
     turns_in None q (Fetches j len) e = by (ends_nested j)
       where
         by : (b : Bool) → UsesNear (other_turn s.masks (cond b (ends k (w % 16) s h y value u v (mask_for k s h at) at steps u) (goes k (w % 16) s h y value u v (mask_for k s h at) at steps j u))) (other_turn s.masks (cond b (ends k (w % 16) s h y value u v (mask_for k s h at) at steps v) (goes k (w % 16) s h y value u v (mask_for k s h at) at steps j v)))
@@ -210,8 +210,8 @@ module _ (code : ℕ → ℕ) (rec : StepRecord) (w : ℕ) (kb : ℕ → ℕ) (s
 
     pub inside_near : UsesNear (full_step code true rec kb s) (full_step code true rec2 kb s)
     inside_near =
-        let n : UsesNear (use_turn (executed u.kind at) k s h (nested_fetched at value y s.frame u)) (use_turn (executed u.kind at) k s (told (w % 16) h) (nested_fetched at value y s.frame v)) = turns_in (executed u.kind at) refl at refl in
-        let a : full_step code true rec kb s ≡ use_turn (executed u.kind at) k s h (nested_fetched at value y s.frame u) = use_inside code rec kb s y sy ∙ ap (λ z. use_turn (executed z at) k s h (nested_fetched at value y s.frame u)) (kind_inside at value y s.frame u) in
-        let b : full_step code true rec2 kb s ≡ use_turn (executed u.kind at) k s (told (w % 16) h) (nested_fetched at value y s.frame v) =
-        use_inside code rec2 kb s y sy ∙ ap (λ z. use_turn (executed z at) k s (told (w % 16) h) (nested_fetched at value y s.frame v)) (kind_inside at value y s.frame v ∙ sym steps.kind) in
-        subst (λ z. UsesNear z (full_step code true rec2 kb s)) (sym a) (subst (UsesNear (use_turn (executed u.kind at) k s h (nested_fetched at value y s.frame u))) (sym b) n)
+        let n : UsesNear (use_turn (step_insn u.kind at) k s h (nested_fetched at value y s.frame u)) (use_turn (step_insn u.kind at) k s (told (w % 16) h) (nested_fetched at value y s.frame v)) = turns_in (step_insn u.kind at) refl at refl in
+        let a : full_step code true rec kb s ≡ use_turn (step_insn u.kind at) k s h (nested_fetched at value y s.frame u) = use_inside code rec kb s y sy ∙ ap (λ z. use_turn (step_insn z at) k s h (nested_fetched at value y s.frame u)) (kind_inside at value y s.frame u) in
+        let b : full_step code true rec2 kb s ≡ use_turn (step_insn u.kind at) k s (told (w % 16) h) (nested_fetched at value y s.frame v) =
+        use_inside code rec2 kb s y sy ∙ ap (λ z. use_turn (step_insn z at) k s (told (w % 16) h) (nested_fetched at value y s.frame v)) (kind_inside at value y s.frame v ∙ sym steps.kind) in
+        subst (λ z. UsesNear z (full_step code true rec2 kb s)) (sym a) (subst (UsesNear (use_turn (step_insn u.kind at) k s h (nested_fetched at value y s.frame u))) (sym b) n)

@@ -12,15 +12,15 @@ use Rattle.xt_special.specs.Shape.{IsPs}
 use Rattle.xt_trace.specs.declared.record.StepKind.{StepKind}
 use Rattle.xt_trace.specs.declared.record.StepKind.TheVariants as step
 use Rattle.xt_trace.specs.declared.record.StepRecord.{StepRecord}
-use Rattle.xt_fetch.specs.Fetching.{Fetched, Fetches, Fails, SpellsNothing, fetched}
-use Rattle.xt_rows.specs.Effects.{puts, unchanged}
-use Rattle.xt_frames.specs.Frames.{FrameState, known}
-use Rattle.xt_frames.specs.FrameStep.{FrameTurn, laid, laid_step}
+use Rattle.xt_fetch.specs.Fetching.{Fetched, Fetches, Fails, SpellsNothing, fetch_at}
+use Rattle.xt_rows.specs.Effects.{puts, no_change}
+use Rattle.xt_frames.specs.Frames.{FrameState, value_or_zero}
+use Rattle.xt_frames.specs.FrameStep.{FrameTurn, with_inputs, step_with_inputs}
 use Rattle.xt_frames.specs.Nesting.{is_nesting, unset_after}
 use Rattle.xt_frames.specs.Breaches.{inputs_of}
 use Rattle.xt_uses.specs.declared.discipline.Discipline.TheVariants.{Strict}
 use Rattle.xt_uses.specs.UseState.{UseState}
-use Rattle.xt_uses.specs.UseStep.{UseTurn, executed, fetched_movsp, full_step, movsp_of, reply_mask, stack_moved}
+use Rattle.xt_uses.specs.UseStep.{UseTurn, step_insn, fetched_movsp, full_step, movsp_of, reply_mask, stack_moved}
 use Rattle.xt_use_run.proofs.Beginning.{use_begins}
 use Rattle.xt_use_run.proofs.Following.{with_unset}
 use Rattle.xt_use_run.proofs.MovspJudged.{use_moves}
@@ -44,8 +44,8 @@ abbrev pub mask_for : ℕ → UseState → FrameState → Fetched → ℕ
 mask_for k s h (Fetches i len) = mask_of i k s h
 mask_for k s h at = 0
 
-pub executed_mask : (k : ℕ) (s : UseState) (h : FrameState) (kind : StepKind) (at : Fetched) (i : Insn) → executed kind at ≡ Some i → mask_for k s h at ≡ mask_of i k s h
-unfolding executed
+pub executed_mask : (k : ℕ) (s : UseState) (h : FrameState) (kind : StepKind) (at : Fetched) (i : Insn) → step_insn kind at ≡ Some i → mask_for k s h at ≡ mask_of i k s h
+unfolding step_insn
 executed_mask k s h step.Insn (Fetches j len) i e = ap (λ z. mask_of z k s h) (same_Some j i e)
 executed_mask k s h step.Insn (Fails a) i e = absurd cc
 executed_mask k s h step.Insn SpellsNothing i e = absurd cc
@@ -61,13 +61,13 @@ module _ (code : ℕ → ℕ) (rec : StepRecord) (w : ℕ) (kb : ℕ → ℕ) (s
   rec2 = record rec { owb = w }
 
   abbrev h : FrameState
-  h = laid (inputs_of rec) s.frame
+  h = with_inputs (inputs_of rec) s.frame
 
   abbrev k : ℕ
   k = reply_mask kb rec.access
 
   abbrev at : Fetched
-  at = fetched code h.control.pc
+  at = fetch_at code h.control.pc
 
   abbrev m : ℕ
   m = mask_for k s h at
@@ -81,10 +81,10 @@ module _ (code : ℕ → ℕ) (rec : StepRecord) (w : ℕ) (kb : ℕ → ℕ) (s
   unfolding fetched_movsp
   fetched_opt (Fetches (insn.Shift (shift.Movsp t q)) len) e =
       let i : Insn = insn.Shift (shift.Movsp t q) in
-      let u : FrameTurn = stack_moved t (known h.seen q) len h in
-      let v : FrameTurn = stack_moved t (known h.seen q) len (told (w % 16) h) in
+      let u : FrameTurn = stack_moved t (value_or_zero h.seen q) len h in
+      let v : FrameTurn = stack_moved t (value_or_zero h.seen q) len (told (w % 16) h) in
       let n : StepsNear h.nested m (Fetches i len) u v = done_steps m i len (w % 16) h
-      (puts t (known h.seen q) (unchanged h.control.ps h.control.threadptr)) (puts t (known h.seen q) (unchanged (record h.control.ps { owb = w % 16 }) h.control.threadptr)) 0
+      (puts t (value_or_zero h.seen q) (no_change h.control.ps h.control.threadptr)) (puts t (value_or_zero h.seen q) (no_change (record h.control.ps { owb = w % 16 }) h.control.threadptr)) 0
       (record { write = (refl, refl); sets = refl; ps = λ z. refl; threadptr = refl; flow = refl; waits = refl }) in
       subst (λ z. StepsNear None m z u v) (sym e) (subst (λ o. StepsNear o m (Fetches i len) u v) sn n)
   fetched_opt _ e = tt
@@ -94,9 +94,9 @@ module _ (code : ℕ → ℕ) (rec : StepRecord) (w : ℕ) (kb : ℕ → ℕ) (s
   moves_opt = opt_if (is_some h.nested || (ltb 0 (pending_of h.control) || h.control.waits)) _ _ (fetched_opt at refl)
 
   module _ (is : IsPs h.control.ps) (small : w % 16 < 16) where
-    laid_steps : StepsNear None m at (laid_step code rec.reply h) (laid_step code rec.reply (told (w % 16) h))
+    laid_steps : StepsNear None m at (step_with_inputs code rec.reply h) (step_with_inputs code rec.reply (told (w % 16) h))
     laid_steps =
-        subst (λ o. StepsNear o m at (laid_step code rec.reply h) (laid_step code rec.reply (told (w % 16) h))) sn
+        subst (λ o. StepsNear o m at (step_with_inputs code rec.reply h) (step_with_inputs code rec.reply (told (w % 16) h))) sn
         (laid_near m code rec.reply (w % 16) h is small (λ i len e shows. ap (mask_for k s h) e ∙ shown_mask i k s h strict shows))
 
     near_of : {x y t u : UseTurn} → x ≡ t → y ≡ u → UsesNear t u → UsesNear x y

@@ -9,17 +9,17 @@ use Rattle.xt_special.specs.Interrupts.{pending_level, pending_of}
 use Rattle.xt_trace.specs.declared.record.RegWrite.{RegWrite}
 use Rattle.xt_trace.specs.declared.record.StepKind.{StepKind}
 use Rattle.xt_trace.specs.declared.record.StepRecord.{StepRecord}
-use Rattle.xt_fetch.specs.Fetching.{Fetched, Fetches, Fails, SpellsNothing, fetched}
+use Rattle.xt_fetch.specs.Fetching.{Fetched, Fetches, Fails, SpellsNothing, fetch_at}
 use Rattle.xt_rows.specs.Operands.{reads}
 use Rattle.xt_frames.specs.declared.holes.Nested.{Nested}
 use Rattle.xt_frames.specs.Frames.{FrameState}
-use Rattle.xt_frames.specs.FrameStep.{FrameTurn, laid_step}
+use Rattle.xt_frames.specs.FrameStep.{FrameTurn, step_with_inputs}
 use Rattle.xt_frames.specs.SaveAreas.{Range}
 use Rattle.xt_frames.specs.Breaches.{Bounds, breaks_nested, first_shown, is_sp, leaves_range, misaligns_sp, moves_vectors, opens_nothing, other_frame_size, vector_test}
 use Rattle.xt_uses.specs.UseBreaches.{breaks_stack, fetched_uses, laid_use, uses_unknown}
 use Rattle.xt_uses.specs.UseState.{UseState}
 use Rattle.xt_fillings.proofs.OwbSteps.{Alike, SeenNear, Shown, StepsNear, told}
-use Rattle.xt_uses.specs.UseStep.{executed}
+use Rattle.xt_uses.specs.UseStep.{step_insn}
 use Rattle.xt_fillings.proofs.OwbUses.{visible_same}
 
 module _ (w : ℕ) (h : FrameState) where
@@ -81,7 +81,7 @@ module _ (b : Bounds) (fresh : Bool) (live : ℕ → Bool) (kb : ℕ → ℕ) (r
         let e = range_same w h b.range i in
         let f = align_same w h i in
         let g = opens_same w h i in
-        let j = sp_same m (executed u.kind at) u.write v.write u.after.seen v.after.seen n.seen in
+        let j = sp_same m (step_insn u.kind at) u.write v.write u.after.seen v.after.seen n.seen in
         let k = woe_same n in
         let l = vectors_same b n in
         let p = nested_same h.nested i n in
@@ -89,6 +89,6 @@ module _ (b : Bounds) (fresh : Bool) (live : ℕ → Bool) (kb : ℕ → ℕ) (r
     shown_same (Fails addr) = let k = woe_same n in let l = vectors_same b n in rw (k, l) refl
     shown_same SpellsNothing = let k = woe_same n in let l = vectors_same b n in rw (k, l) refl
 
-  pub laid_same : (code : ℕ → ℕ) (m : ℕ) → StepsNear h.nested m (fetched code h.control.pc) (laid_step code rec.reply h) (laid_step code rec.reply (told w h)) → laid_use b fresh code live kb rec s h ≡ laid_use b fresh code live kb rec2 s (told w h)
+  pub laid_same : (code : ℕ → ℕ) (m : ℕ) → StepsNear h.nested m (fetch_at code h.control.pc) (step_with_inputs code rec.reply h) (step_with_inputs code rec.reply (told w h)) → laid_use b fresh code live kb rec s h ≡ laid_use b fresh code live kb rec2 s (told w h)
   unfolding laid_use pending_level
-  laid_same code m n = ap (λ z. cond (ltb 0 (pending_of h.control) || h.control.waits) (first_shown (vector_test b h ∷ [])) z) (shown_same (laid_step code rec.reply h) (laid_step code rec.reply (told w h)) m (fetched code h.control.pc) n (fetched code h.control.pc))
+  laid_same code m n = ap (λ z. cond (ltb 0 (pending_of h.control) || h.control.waits) (first_shown (vector_test b h ∷ [])) z) (shown_same (step_with_inputs code rec.reply h) (step_with_inputs code rec.reply (told w h)) m (fetch_at code h.control.pc) n (fetch_at code h.control.pc))

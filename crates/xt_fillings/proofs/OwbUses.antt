@@ -11,7 +11,7 @@ use Rattle.xt_fetch.specs.Fetching.{Fetched}
 use Rattle.xt_rows.specs.Kinds.{moved_to}
 use Rattle.xt_rows.specs.Operands.{reads, special_reads}
 use Rattle.xt_frames.specs.declared.holes.Nested.{Nested}
-use Rattle.xt_frames.specs.Frames.{FrameState, known}
+use Rattle.xt_frames.specs.Frames.{FrameState, value_or_zero}
 use Rattle.xt_frames.specs.FrameStep.{FrameTurn}
 use Rattle.xt_uses.specs.declared.discipline.Discipline.TheVariants.{Strict}
 use Rattle.std.proofs.lemmas.Bool.{eqb-true, false≢true}
@@ -24,8 +24,8 @@ use Rattle.xt_uses.specs.Known.{system_mask}
 use Rattle.xt_uses.specs.UseState.{special_mask}
 use Rattle.xt_fillings.proofs.OwbRows.{shows_owb, shows_owb_in}
 use Rattle.xt_uses.specs.Known.{result_mask}
-use Rattle.xt_uses.specs.UseState.{Masks, UseState, first_word, second_word, special_operand, special_word, visible_word}
-use Rattle.xt_uses.specs.UseStep.{UseTurn, cut_number, cut_seen, cut_state, cut_write, executed, frames_moved, insn_turn, masks_past, other_turn, pointer_written, special_written, use_turn, visible_written}
+use Rattle.xt_uses.specs.UseState.{ValidityBits, UseState, first_word, second_word, special_operand, special_word, visible_word}
+use Rattle.xt_uses.specs.UseStep.{UseTurn, cut_number, cut_seen, cut_state, cut_write, step_insn, frames_moved, insn_turn, masks_past, other_turn, pointer_written, special_written, use_turn, visible_written}
 use Rattle.xt_uses.specs.UseLaws.{AccessFits, AgreeIn, IsSent, WriteFits}
 use Rattle.xt_use_run.specs.Knowing.{ControlLeft, Follows, FramesFit, Knows, NestedFit, SeenFit, UnsetFit}
 use Rattle.xt_fillings.proofs.OwbControl.{ControlNear, known_near}
@@ -66,10 +66,10 @@ nested_known inner (Some x) None q n k = absurd k
 nested_known inner None None (Some z) n k = absurd n
 nested_known inner (Some x) (Some y) None n k = absurd n
 
-pub knows_near : {f a b : FrameState} (m : Masks) → m.discipline ≡ Strict → FramesNear a b → Knows f (record { frame = a; masks = m }) → Knows f (record { frame = b; masks = m })
+pub knows_near : {f a b : FrameState} (m : ValidityBits) → m.discipline ≡ Strict → FramesNear a b → Knows f (record { frame = a; masks = m }) → Knows f (record { frame = b; masks = m })
 knows_near {f = f} {a = a} {b = b} m strict n k = record {
   seen = subst (SeenFit 16 m.seen f.seen) n.seen k.seen;
-  sp = k.sp ∙ ap (λ s. known s 1) n.seen;
+  sp = k.sp ∙ ap (λ s. value_or_zero s 1) n.seen;
   frames = subst (FramesFit m.kept f.frames) n.frames k.frames;
   control = subst (λ d. ControlLeft d m.special m.threadptr f.control a.control → ControlLeft d m.special m.threadptr f.control b.control) (sym strict) (λ h. known_near h n.control) k.control;
   unset = subst (UnsetFit m.special f.unset) n.unset k.unset;
@@ -137,7 +137,7 @@ pub write_cut : (m : ℕ) (i : Insn) (a b : Option RegWrite) (xs ys : List (Opti
 write_cut m i a b xs ys (Alike e f) = ap (cut_write m) e
 write_cut m i a b xs ys (Shown j n v w old o e f g h k) = ap (cut_write m) e ∙ (ap (λ z. At n z) k ∙ sym (ap (cut_write m) f))
 
-pub masks_cut : (nested : Bool) (m k : ℕ) (i : Insn) (a b : Option RegWrite) (xs ys : List (Option ℕ)) (s : Masks) → SeenNear m (Some i) a b xs ys → visible_written nested a k s ≡ visible_written nested b k s
+pub masks_cut : (nested : Bool) (m k : ℕ) (i : Insn) (a b : Option RegWrite) (xs ys : List (Option ℕ)) (s : ValidityBits) → SeenNear m (Some i) a b xs ys → visible_written nested a k s ≡ visible_written nested b k s
 masks_cut nested m k i a b xs ys s (Alike e f) = ap (λ z. visible_written nested z k s) e
 masks_cut true m k i a b xs ys s (Shown j n v w old o e f g h l) = ap (λ z. visible_written true z k s) e ∙ sym (ap (λ z. visible_written true z k s) f)
 masks_cut false m k i a b xs ys s (Shown j n v w old o e f g h l) = ap (λ z. visible_written false z k s) e ∙ sym (ap (λ z. visible_written false z k s) f)
@@ -154,7 +154,7 @@ cut_plain m a f none = ap (λ o. cut_state m a o f) none
 module _ (k w : ℕ) (s : UseState) (h : FrameState) where
   pub masks_near : (i : Insn) (a b : Option RegWrite) (xs ys : List (Option ℕ)) → SeenNear (mask_of i k s h) (Some i) a b xs ys → (u v : FrameTurn) → u.write ≡ a → v.write ≡ b → masks_past i (mask_of i k s h) s h u ≡ masks_past i (mask_of i k s (told w h)) s (told w h) v
   masks_near i a b xs ys n u v ea eb =
-      let rest : ℕ → Masks = λ x. pointer_written i x (special_written (moved_to i) x (frames_moved i h.control.ps.callinc s.masks)) in
+      let rest : ℕ → ValidityBits = λ x. pointer_written i x (special_written (moved_to i) x (frames_moved i h.control.ps.callinc s.masks)) in
       let x : ℕ = (first_word i s h).mask in
       let y : ℕ = (first_word i s (told w h)).mask in
       let m : ℕ = mask_of i k s h in
@@ -165,7 +165,7 @@ module _ (k w : ℕ) (s : UseState) (h : FrameState) where
       ∙ (ap (λ z. visible_written (is_some s.frame.nested) v.write m (rest z.mask)) (visible_same s w h (reads i).0)
       ∙ ap (λ z. visible_written (is_some s.frame.nested) v.write z (rest y)) (mask_same i k w s h))))
 
-  insn_near : (i : Insn) (u v : FrameTurn) (at : Fetched) → executed u.kind at ≡ Some i → StepsNear None (mask_of i k s h) at u v → UsesNear (insn_turn i k s h u) (insn_turn i k s (told w h) v)
+  insn_near : (i : Insn) (u v : FrameTurn) (at : Fetched) → step_insn u.kind at ≡ Some i → StepsNear None (mask_of i k s h) at u v → UsesNear (insn_turn i k s h u) (insn_turn i k s (told w h) v)
   insn_near i u v at is n =
       let m : ℕ = mask_of i k s h in
       let seen : SeenNear m (Some i) u.write v.write u.after.seen v.after.seen = subst (λ o. SeenNear m o u.write v.write u.after.seen v.after.seen) is n.seen in
@@ -189,7 +189,7 @@ module _ (k w : ℕ) (s : UseState) (h : FrameState) where
             }));
       }
 
-  other_near : (m : ℕ) (u v : FrameTurn) (at : Fetched) → executed u.kind at ≡ None → StepsNear None m at u v → UsesNear (other_turn s.masks u) (other_turn s.masks v)
+  other_near : (m : ℕ) (u v : FrameTurn) (at : Fetched) → step_insn u.kind at ≡ None → StepsNear None m at u v → UsesNear (other_turn s.masks u) (other_turn s.masks v)
   other_near m u v at is n = by (subst (λ o. SeenNear m o u.write v.write u.after.seen v.after.seen) is n.seen)
     where
       by : SeenNear m None u.write v.write u.after.seen v.after.seen → UsesNear (other_turn s.masks u) (other_turn s.masks v)
@@ -204,10 +204,10 @@ module _ (k w : ℕ) (s : UseState) (h : FrameState) where
       }
       by (Shown i a b c old e f g l x y) = absurd cc
 
-  pub turns_near : (m : ℕ) (u v : FrameTurn) (at : Fetched) → ((i : Insn) → executed u.kind at ≡ Some i → m ≡ mask_of i k s h) → StepsNear None m at u v → UsesNear (use_turn (executed u.kind at) k s h u) (use_turn (executed v.kind at) k s (told w h) v)
-  turns_near m u v at mask n = subst (λ z. UsesNear (use_turn (executed u.kind at) k s h u) (use_turn (executed z at) k s (told w h) v)) n.kind (by (executed u.kind at) refl)
+  pub turns_near : (m : ℕ) (u v : FrameTurn) (at : Fetched) → ((i : Insn) → step_insn u.kind at ≡ Some i → m ≡ mask_of i k s h) → StepsNear None m at u v → UsesNear (use_turn (step_insn u.kind at) k s h u) (use_turn (step_insn v.kind at) k s (told w h) v)
+  turns_near m u v at mask n = subst (λ z. UsesNear (use_turn (step_insn u.kind at) k s h u) (use_turn (step_insn z at) k s (told w h) v)) n.kind (by (step_insn u.kind at) refl)
     where
-      by : (o : Option Insn) → executed u.kind at ≡ o → UsesNear (use_turn o k s h u) (use_turn o k s (told w h) v)
+      by : (o : Option Insn) → step_insn u.kind at ≡ o → UsesNear (use_turn o k s h u) (use_turn o k s (told w h) v)
       by None e = other_near m u v at e n
       by (Some i) e = insn_near i u v at e (subst (λ z. StepsNear None z at u v) (mask i e) n)
 

@@ -12,19 +12,19 @@ use Rattle.xt_isa.specs.declared.density.Density.TheVariants as density
 use Rattle.xt_map.specs.declared.access.Access.{Access}
 use Rattle.xt_trace.specs.declared.record.RegWrite.{RegWrite}
 use Rattle.xt_fetch.specs.Fetching.{Fetches}
-use Rattle.xt_rows.specs.declared.outcome.Awaited.{Awaited}
+use Rattle.xt_rows.specs.declared.outcome.ReplyTarget.{ReplyTarget}
 use Rattle.xt_rows.specs.declared.outcome.Effect.{Effect}
 use Rattle.xt_rows.specs.declared.outcome.Outcome.{Outcome}
 use Rattle.xt_rows.specs.declared.outcome.Outcome.TheVariants.{Does, Asks, Raises, Stops, Windowed}
 use Rattle.xt_rows.specs.declared.outcome.WindowStep.{WindowStep}
 use Rattle.xt_rows.specs.declared.outcome.WindowStep.TheVariants.{Enters, Returns, EndsOverflow, EndsUnderflow, Rotates, MovesStack, Reads, Sets, Exchanges}
 use Rattle.xt_rows.specs.Kinds.{Fits, is_movsp, is_windowing, names_window_register}
-use Rattle.xt_rows.specs.Numbers.{extended}
+use Rattle.xt_rows.specs.Numbers.{loaded_value}
 use Rattle.xt_rows.specs.Operands.{reads}
 use Rattle.xt_rows.specs.Outcomes.{outcome_at, value_of}
-use Rattle.xt_rows.specs.Settling.{settled, written}
+use Rattle.xt_rows.specs.Settling.{after_outcome, write_with_reply}
 use Rattle.xt_rows.proofs.Fitting.{outcome_fits}
-use Rattle.xt_frames.specs.Frames.{FrameState, known}
+use Rattle.xt_frames.specs.Frames.{FrameState, value_or_zero}
 use Rattle.xt_frames.specs.FrameStep.{FrameTurn, done_in_frame, fetched_step, in_frame, windowed_in_frame}
 use Rattle.xt_uses.specs.declared.discipline.Discipline.{Discipline}
 use Rattle.xt_uses.specs.declared.words.Word.{Word}
@@ -42,7 +42,7 @@ use Rattle.xt_use_run.proofs.Rows.{EntersWord, Executes, Ordinary, Pops, Pushes,
 -- ---- masks
 -- the mask of what a row writes does not depend on the reply, or is whole where the reply is known
 memory_whole : (i : Memory) (x : Word) (r : ℕ) → (memory_mask i x r ≡ memory_mask i x all_bits) ⊎ (memory_mask i x all_bits ≡ all_bits)
-unfolding memory_mask extended
+unfolding memory_mask loaded_value
 memory_whole (memory.L8ui name t s offset) x r = inr refl
 memory_whole (memory.L16ui HalfName.L16ui t s offset) x r = inr refl
 memory_whole (memory.L16ui HalfName.L16si t s offset) x r = inr refl
@@ -56,7 +56,7 @@ memory_whole (memory.Addi t s n) x r = inl refl
 memory_whole (memory.Addmi t s n) x r = inl refl
 
 density_whole : (i : Density) (x y : Word) (r : ℕ) → (density_mask i x y r ≡ density_mask i x y all_bits) ⊎ (density_mask i x y all_bits ≡ all_bits)
-unfolding density_mask extended
+unfolding density_mask loaded_value
 density_whole (density.L32i name t s offset) x y r = inr refl
 density_whole (density.Add a s t) x y r = inl refl
 density_whole (density.Addi a s n) x y r = inl refl
@@ -118,13 +118,13 @@ windowed_alone (Reads register number) len a b g = refl
 windowed_alone (Sets register value) len a b g = refl
 windowed_alone (Exchanges register number value) len a b g = refl
 
-module _ (replies : RepliesAgree) {s : UseState} {g h : FrameState} (f : NowFit s g h) (code : ℕ → ℕ) (i : Insn) (count : length g.control.special ≡ 256) (small : value_of (known g.seen) (reads i).0 < 2 ^ 32)
+module _ (replies : RepliesAgree) {s : UseState} {g h : FrameState} (f : NowFit s g h) (code : ℕ → ℕ) (i : Insn) (count : length g.control.special ≡ 256) (small : value_of (value_or_zero g.seen) (reads i).0 < 2 ^ 32)
     (r n m : ℕ) (r_small : r < 2 ^ 32) (n_small : n < 2 ^ 32) (m_small : m < 2 ^ 32) (same : AgreeIn r n m) (word : result f code i count small r < 2 ^ 32) where
   abbrev o : Outcome
-  o = outcome_at code i (known g.seen) g.control
+  o = outcome_at code i (value_or_zero g.seen) g.control
 
   abbrev p : Outcome
-  p = outcome_at code i (known h.seen) h.control
+  p = outcome_at code i (value_or_zero h.seen) h.control
 
   abbrev mask : ℕ → ℕ
   mask k = result f code i count small k
@@ -136,22 +136,22 @@ module _ (replies : RepliesAgree) {s : UseState} {g h : FrameState} (f : NowFit 
       (result_whole s.masks.discipline i (first_word i s h) (second_word i s h) (special_operand i s h) s.masks.threadptr r)
 
   -- what is received agrees in what is known of the reply
-  received : (v w : Option Awaited) → v ≡ w → ((z : Awaited) → v ≡ Some z → mask r ≡ loaded_mask z.signed r) → WritesAgree (mask r) (written None v n) (written None w m)
-  received v w e awaits = subst (λ (z : Option Awaited). WritesAgree (mask r) (written None v n) (written None z m)) e (by v awaits)
+  received : (v w : Option ReplyTarget) → v ≡ w → ((z : ReplyTarget) → v ≡ Some z → mask r ≡ loaded_mask z.signed r) → WritesAgree (mask r) (write_with_reply None v n) (write_with_reply None w m)
+  received v w e awaits = subst (λ (z : Option ReplyTarget). WritesAgree (mask r) (write_with_reply None v n) (write_with_reply None z m)) e (by v awaits)
     where
-      by : (z : Option Awaited) → ((y : Awaited) → z ≡ Some y → mask r ≡ loaded_mask y.signed r) → WritesAgree (mask r) (written None z n) (written None z m)
+      by : (z : Option ReplyTarget) → ((y : ReplyTarget) → z ≡ Some y → mask r ≡ loaded_mask y.signed r) → WritesAgree (mask r) (write_with_reply None z n) (write_with_reply None z m)
       by None q = tt
-      by (Some z) q = (refl, subst (λ k. AgreeIn k (extended z.signed n) (extended z.signed m)) (sym (q z refl)) (replies z.signed r n m r_small n_small m_small same))
+      by (Some z) q = (refl, subst (λ k. AgreeIn k (loaded_value z.signed n) (loaded_value z.signed m)) (sym (q z refl)) (replies z.signed r n m r_small n_small m_small same))
 
-  awaits_mask : (c : Access) (v : Option Awaited) (e : Effect) → o ≡ Asks c v e → (z : Awaited) → v ≡ Some z → mask r ≡ loaded_mask z.signed r
+  awaits_mask : (c : Access) (v : Option ReplyTarget) (e : Effect) → o ≡ Asks c v e → (z : ReplyTarget) → v ≡ Some z → mask r ≡ loaded_mask z.signed r
   awaits_mask c v e q z is =
       let a = outcome_masked s.masks.discipline code i (first_word i s h) (second_word i s h) (special_operand i s h) s.masks.threadptr r g.control.pc _ _ _ _ g.control.ps g.control.threadptr in
       let b : AwaitsMask (mask r) r (Asks c v e) = subst (AwaitsMask (mask r) r) q a in
-      let d : AwaitsMask (mask r) r (Asks c (Some z) e) = subst (λ (k : Option Awaited). AwaitsMask (mask r) r (Asks c k e)) is b in
+      let d : AwaitsMask (mask r) r (Asks c (Some z) e) = subst (λ (k : Option ReplyTarget). AwaitsMask (mask r) r (Asks c k e)) is b in
       d
 
-  asked_row : (len : ℕ) (c d : Access) (v w : Option Awaited) (a e : Effect) → o ≡ Asks c v a → p ≡ Asks d w e → OutcomesAgree s.masks.discipline i (row_masks i s h) (Asks c v a) (Asks d w e) → used_are_known s.masks.discipline i (first_word i s h) (second_word i s h) ≡ true
-      → Ordinary i s g h (mask r) (in_frame (settled (Asks c v a) len g.control) n g) (in_frame (settled (Asks d w e) len h.control) m h)
+  asked_row : (len : ℕ) (c d : Access) (v w : Option ReplyTarget) (a e : Effect) → o ≡ Asks c v a → p ≡ Asks d w e → OutcomesAgree s.masks.discipline i (row_masks i s h) (Asks c v a) (Asks d w e) → used_are_known s.masks.discipline i (first_word i s h) (second_word i s h) ≡ true
+      → Ordinary i s g h (mask r) (in_frame (after_outcome (Asks c v a) len g.control) n g) (in_frame (after_outcome (Asks d w e) len h.control) m h)
   asked_row len c d v w a e q k agree used =
       let x = asks_ordinary f code i count small len m (mask r) c d v w a e q k agree.0 agree.1 used agree.2 in
       let fo : Fits i (Asks c v a) = subst (Fits i) q (outcome_fits code i g.control.pc _ _ _ _ g.control.ps g.control.threadptr) in

@@ -1,7 +1,7 @@
 -- The machine over a filling has a number in each register.
 use Rattle.std.proofs.Common.{ℕ, zero, suc, Bool, true, false, ◌==◌, ◌&&◌, cond, List, [], ◌∷◌, Option, Some, None, sym, subst, slice_get}
 use Rattle.xt_trace.specs.declared.record.StepRecord.{StepRecord}
-use Rattle.xt_fetch.specs.Fetching.{fetched}
+use Rattle.xt_fetch.specs.Fetching.{fetch_at}
 use Rattle.xt_frames.specs.declared.holes.Nested.{Nested}
 use Rattle.xt_frames.specs.Frames.{FrameState, opening_seen}
 use Rattle.xt_frames.specs.Nesting.{begins, current}
@@ -10,15 +10,15 @@ use Rattle.xt_frames.specs.Judging.{value_in}
 use Rattle.xt_frames.specs.Verdict.{is_nested}
 use Rattle.xt_frames.specs.FirstBreach.{Course, Turn, is_judged, mode_before}
 use Rattle.xt_uses.specs.declared.discipline.Discipline.{Discipline}
-use Rattle.xt_uses.specs.UseStep.{executed, forgets_registers, reply_mask, value_step}
+use Rattle.xt_uses.specs.UseStep.{step_insn, forgets_registers, reply_mask, value_step}
 use Rattle.xt_uses.specs.FirstUse.{History}
-use Rattle.xt_fillings.specs.Fillings.{Filling, Numbers, filled_before, filled_past, filled_record, filled_state, filled_step, numbered, numbered_inside, results_left, step_with}
-use Rattle.xt_fillings.specs.Laws.{HaveNumbers, InnerHaveNumbers, RegistersHaveNumbers}
+use Rattle.xt_fillings.specs.Fillings.{Filling, Numbers, filled_before, filled_past, filled_record, filled_state, filled_step, filled_registers, numbered_inside, results_left, step_with}
+use Rattle.xt_fillings.specs.FillingLaws.{HaveNumbers, InnerHaveNumbers, RegistersHaveNumbers}
 
 abbrev Whole : FrameState → Type 0
 Whole f = HaveNumbers f.seen × InnerHaveNumbers f.nested
 
-numbered_whole : (n : ℕ → ℕ) (i : ℕ) (xs : List (Option ℕ)) → HaveNumbers (numbered n i xs)
+numbered_whole : (n : ℕ → ℕ) (i : ℕ) (xs : List (Option ℕ)) → HaveNumbers (filled_registers n i xs)
 numbered_whole n i [] = tt
 numbered_whole n i (None ∷ xs) = numbered_whole n (suc i) xs
 numbered_whole n i (Some v ∷ xs) = numbered_whole n (suc i) xs
@@ -38,7 +38,7 @@ step_whole : (d : Discipline) (code : ℕ → ℕ) (nested : Bool) (rec : StepRe
 step_whole d code nested rec bytes n f =
     let r = filled_record d (reply_mask bytes rec.access) n rec in
     let u = value_step code (begins nested r.kind f) (value_in r.write) (inputs_of r) f in
-    filled_whole n.register (cond (forgets_registers d (executed u.kind (fetched code (current f).control.pc))) (results_left f.frames u.after) u.after)
+    filled_whole n.register (cond (forgets_registers d (step_insn u.kind (fetch_at code (current f).control.pc))) (results_left f.frames u.after) u.after)
 
 either : (b : Bool) (f g : FrameState) → Whole f → Whole g → Whole (cond b f g)
 either true f g k l = k

@@ -13,30 +13,30 @@ use Rattle.xt_special.specs.Interrupts.{pending_of}
 use Rattle.xt_trace.specs.declared.record.RegWrite.{RegWrite}
 use Rattle.xt_trace.specs.declared.record.StepRecord.{StepRecord}
 use Rattle.xt_fetch.specs.Code.{AreBytes}
-use Rattle.xt_fetch.specs.Fetching.{Fetched, Fetches, Fails, SpellsNothing, fetched}
+use Rattle.xt_fetch.specs.Fetching.{Fetched, Fetches, Fails, SpellsNothing, fetch_at}
 use Rattle.xt_fetch.proofs.Fetches.{fetched_range}
 use Rattle.xt_rows.specs.declared.outcome.Outcome.{Outcome}
 use Rattle.xt_rows.specs.declared.outcome.Outcome.TheVariants.{Windowed}
 use Rattle.xt_rows.specs.declared.outcome.WindowStep.TheVariants.{Enters}
-use Rattle.xt_rows.specs.Laws.{IsProper, IsWord}
+use Rattle.xt_rows.specs.RowLaws.{IsProper, IsWord}
 use Rattle.xt_rows.specs.Operands.{reads, special_reads}
 use Rattle.xt_rows.specs.Outcomes.{outcome, outcome_at, system_outcome}
 use Rattle.xt_rows.proofs.Proper.{outcome_words}
 use Rattle.xt_frames.specs.declared.holes.Nested.{Nested}
-use Rattle.xt_frames.specs.Frames.{FrameState, known}
-use Rattle.xt_frames.specs.FrameStep.{FrameTurn, Inputs, fetched_step, laid, laid_step}
+use Rattle.xt_frames.specs.Frames.{FrameState, value_or_zero}
+use Rattle.xt_frames.specs.FrameStep.{FrameTurn, Inputs, fetched_step, with_inputs, step_with_inputs}
 use Rattle.xt_frames.specs.Marks.{mark_read, marked_write}
-use Rattle.xt_frames.specs.Nesting.{begun, ends_nested, inside, is_nesting, nested_fetched, nested_insn, nested_turn, turn_in}
+use Rattle.xt_frames.specs.Nesting.{nested_entry, ends_nested, nested_view, is_nesting, nested_fetched, nested_insn, nested_turn, turn_in}
 use Rattle.xt_frames.specs.Breaches.{Bounds, inputs_of, is_exception}
 use Rattle.xt_frames.specs.Judging.{value_in}
 use Rattle.xt_frames.proofs.StackSteps.{step_fetches, turn_if}
 use Rattle.xt_simulation.proofs.Evenly.{same_pending}
-use Rattle.xt_uses.specs.Words.{cut}
+use Rattle.xt_uses.specs.Words.{masked}
 use Rattle.xt_uses.specs.Known.{result_mask}
 use Rattle.xt_uses.specs.Used.{counted_bits, used_are_known}
 use Rattle.xt_uses.specs.UseBreaches.{laid_use, reads_mark, reads_no_number, use_breach}
 use Rattle.xt_uses.specs.UseState.{UseState, first_word, second_word, special_operand, special_word}
-use Rattle.xt_uses.specs.UseStep.{UseTurn, executed, full_step, movsp_of, reply_mask, turn_or, use_turn, value_step}
+use Rattle.xt_uses.specs.UseStep.{UseTurn, step_insn, full_step, movsp_of, reply_mask, turn_or, use_turn, value_step}
 use Rattle.xt_uses.specs.UseLaws.{AgreeIn, InnerIsCut, IsCutAt, OutcomesAgree, RepliesAgree, RowsAgree, WriteFits}
 use Rattle.xt_uses.proofs.CutLists.{cut_at}
 use Rattle.xt_uses.proofs.CutStates.{IsCut}
@@ -68,12 +68,12 @@ use Rattle.xt_fillings.proofs.Replied.{replied_row}
 use Rattle.xt_fillings.proofs.Words.{given_words, inside_words, laid_words}
 
 -- ---- the step that begins one
-pub begins_goes : (code : ℕ → ℕ) (kb : ℕ → ℕ) (rec : StepRecord) (inp : Inputs) (value : ℕ) (us : UseState) {f : FrameState} → laid inp f ≡ laid (inputs_of rec) f → Knows f us → is_nesting rec.kind ≡ true → us.frame.nested ≡ None → Held f
+pub begins_goes : (code : ℕ → ℕ) (kb : ℕ → ℕ) (rec : StepRecord) (inp : Inputs) (value : ℕ) (us : UseState) {f : FrameState} → with_inputs inp f ≡ with_inputs (inputs_of rec) f → Knows f us → is_nesting rec.kind ≡ true → us.frame.nested ≡ None → Held f
     → Goes (full_step code true rec kb us) (value_step code true value inp f)
 unfolding value_step
 begins_goes code kb rec inp value us {f = f} same kn nesting sn held =
-    subst (λ (z : FrameState). Goes (full_step code true rec kb us) (begun z)) (sym same) (record {
-      follows = subst (λ z. Follows z (begun (laid (inputs_of rec) f))) (sym (use_begins code rec kb us nesting sn)) (begin_follows kn (inputs_of rec));
+    subst (λ (z : FrameState). Goes (full_step code true rec kb us) (nested_entry z)) (sym same) (record {
+      follows = subst (λ z. Follows z (nested_entry (with_inputs (inputs_of rec) f))) (sym (use_begins code rec kb us nesting sn)) (begin_follows kn (inputs_of rec));
       held = held;
     })
 
@@ -93,7 +93,7 @@ marked_any m value other None gone v w h = h
 marked_any m value other (Some j) gone None w h = h
 marked_any m value other (Some j) gone (Some v) (Some w) h =
     let z : m ≡ 0 = gone j refl in
-    (h.0, ap (λ k. cut k other) z ∙ (cut_zero other ∙ (sym (cut_zero value) ∙ (ap (λ k. cut k value) (sym z) ∙ h.1))))
+    (h.0, ap (λ k. masked k other) z ∙ (cut_zero other ∙ (sym (cut_zero value) ∙ (ap (λ k. masked k value) (sym z) ∙ h.1))))
 marked_any m value other (Some j) gone (Some v) None h = absurd h
 
 insn_held : (i : Insn) (value : ℕ) (x : Nested) (f : FrameState) (u : FrameTurn) → Held f → Held (nested_insn i value x f u).after
@@ -107,10 +107,10 @@ module _ (rows : RowsAgree) (replies : RepliesAgree) (code : ℕ → ℕ) (bytes
   inp = record (inputs_of rec) { reply = reply }
 
   abbrev h : FrameState
-  h = laid (inputs_of rec) (inside y us.frame)
+  h = with_inputs (inputs_of rec) (nested_view y us.frame)
 
   abbrev g : FrameState
-  g = laid (inputs_of rec) (inside x f)
+  g = with_inputs (inputs_of rec) (nested_view x f)
 
   inner : InnerFit us.masks.inner x y
   inner = subst (λ (o : Option Nested). NestedFit us.masks.inner o (Some y)) fx (subst (λ (o : Option Nested). NestedFit us.masks.inner f.nested o) sy kn.nested)
@@ -119,7 +119,7 @@ module _ (rows : RowsAgree) (replies : RepliesAgree) (code : ℕ → ℕ) (bytes
   now = now_inside kn x y fx sy inner (inputs_of rec)
 
   shaped_g : IsShapedFrame g
-  shaped_g = laid_words (inputs_of rec) (inside x f) words (inside_words x f shaped (subst (λ o. IsShapedNested o) fx shaped.nested))
+  shaped_g = laid_words (inputs_of rec) (nested_view x f) words (inside_words x f shaped (subst (λ o. IsShapedNested o) fx shaped.nested))
 
   -- ---- what holds in it
   held : IsInner y us.frame.control.waits us.frame.unset
@@ -155,21 +155,21 @@ module _ (rows : RowsAgree) (replies : RepliesAgree) (code : ℕ → ℕ) (bytes
       let z : IsCutAt None (get_or us.masks.inner n 0) = subst (λ o. IsCutAt o (get_or us.masks.inner n 0)) none c in
       z
 
-  step_h : (at : Fetched) → fetched code h.control.pc ≡ at → laid_step code rec.reply h ≡ fetched_step at code rec.reply h
+  step_h : (at : Fetched) → fetch_at code h.control.pc ≡ at → step_with_inputs code rec.reply h ≡ fetched_step at code rec.reply h
   step_h at e = step_fetches code rec.reply h still runs ∙ ap (λ z. fetched_step z code rec.reply h) e
 
-  at_g : (at : Fetched) → fetched code h.control.pc ≡ at → fetched code g.control.pc ≡ at
-  at_g at e = ap (fetched code) now.control.even.pc ∙ e
+  at_g : (at : Fetched) → fetch_at code h.control.pc ≡ at → fetch_at code g.control.pc ≡ at
+  at_g at e = ap (fetch_at code) now.control.even.pc ∙ e
 
-  step_g : (at : Fetched) → fetched code h.control.pc ≡ at → laid_step code reply g ≡ fetched_step at code reply g
+  step_g : (at : Fetched) → fetch_at code h.control.pc ≡ at → step_with_inputs code reply g ≡ fetched_step at code reply g
   step_g at e = step_fetches code reply g still_g runs_g ∙ ap (λ z. fetched_step z code reply g) (at_g at e)
 
   inner_step : value_step code false value inp f ≡ nested_turn code value inp x f
   unfolding value_step
   inner_step =
       let U : Option FrameTurn → Option Nested → FrameTurn = λ z o. turn_or z (turn_in o code value inp f) in
-      let none : movsp_of code (laid inp f) ≡ None = cond-true (is_some f.nested || (ltb 0 (pending_of (laid inp f).control) || (laid inp f).control.waits)) None _ (or_left _ _ (ap (λ (o : Option Nested). is_some o) fx)) in
-      ap (U (movsp_of code (laid inp f))) fx ∙ ap (λ z. U z (Some x)) none
+      let none : movsp_of code (with_inputs inp f) ≡ None = cond-true (is_some f.nested || (ltb 0 (pending_of (with_inputs inp f).control) || (with_inputs inp f).control.waits)) None _ (or_left _ _ (ap (λ (o : Option Nested). is_some o) fx)) in
+      ap (U (movsp_of code (with_inputs inp f))) fx ∙ ap (λ z. U z (Some x)) none
 
   abbrev k : ℕ
   k = reply_mask kb rec.access
@@ -180,7 +180,7 @@ module _ (rows : RowsAgree) (replies : RepliesAgree) (code : ℕ → ℕ) (bytes
   abbrev target : Type 0
   target = Goes (full_step code true rec kb us) (value_step code false value inp f)
 
-  module _ (i : Insn) (len : ℕ) (e : fetched code h.control.pc ≡ Fetches i len) (d : Denied b fresh live kb i rec us h (fetched_step (Fetches i len) code rec.reply h)) where
+  module _ (i : Insn) (len : ℕ) (e : fetch_at code h.control.pc ≡ Fetches i len) (d : Denied b fresh live kb i rec us h (fetched_step (Fetches i len) code rec.reply h)) where
     abbrev v : FrameTurn
     v = fetched_step (Fetches i len) code rec.reply h
 
@@ -188,17 +188,17 @@ module _ (rows : RowsAgree) (replies : RepliesAgree) (code : ℕ → ℕ) (bytes
     u = fetched_step (Fetches i len) code reply g
 
     framed_step : value_step code false value inp f ≡ nested_insn i value x f u
-    framed_step = inner_step ∙ (ap (λ (z : FrameTurn). nested_fetched (fetched code g.control.pc) value x f z) (step_g (Fetches i len) e) ∙ ap (λ z. nested_fetched z value x f u) (at_g (Fetches i len) e))
+    framed_step = inner_step ∙ (ap (λ (z : FrameTurn). nested_fetched (fetch_at code g.control.pc) value x f z) (step_g (Fetches i len) e) ∙ ap (λ z. nested_fetched z value x f u) (at_g (Fetches i len) e))
 
     abbrev turn_v : FrameTurn
     turn_v = nested_insn i told y us.frame v
 
-    used : full_step code true rec kb us ≡ use_turn (executed v.kind (Fetches i len)) k us h turn_v
+    used : full_step code true rec kb us ≡ use_turn (step_insn v.kind (Fetches i len)) k us h turn_v
     used = use_insn_inside code rec kb us y sy i len e (step_h (Fetches i len) e)
 
-    conclude : Follows (use_turn (executed v.kind (Fetches i len)) k us h turn_v) (nested_insn i value x f u) → target
+    conclude : Follows (use_turn (step_insn v.kind (Fetches i len)) k us h turn_v) (nested_insn i value x f u) → target
     conclude here = record {
-      follows = subst (λ z. Follows z (value_step code false value inp f)) (sym used) (subst (Follows (use_turn (executed v.kind (Fetches i len)) k us h turn_v)) (sym framed_step) here);
+      follows = subst (λ z. Follows z (value_step code false value inp f)) (sym used) (subst (Follows (use_turn (step_insn v.kind (Fetches i len)) k us h turn_v)) (sym framed_step) here);
       held = subst (λ (z : FrameTurn). Held z.after) (sym framed_step) (insn_held i value x f u frames_held);
     }
 
@@ -228,9 +228,9 @@ module _ (rows : RowsAgree) (replies : RepliesAgree) (code : ℕ → ℕ) (bytes
       given = given_words g shaped_g i ok
 
       abbrev o : Outcome
-      o = outcome_at code i (known g.seen) g.control
+      o = outcome_at code i (value_or_zero g.seen) g.control
 
-      agree : OutcomesAgree us.masks.discipline i (row_masks i us h) o (outcome_at code i (known h.seen) h.control)
+      agree : OutcomesAgree us.masks.discipline i (row_masks i us h) o (outcome_at code i (value_or_zero h.seen) h.control)
       agree = row_agrees now rows (now_small us masks) code i given uses.used
 
       proper : EntersWord o
@@ -260,12 +260,12 @@ module _ (rows : RowsAgree) (replies : RepliesAgree) (code : ℕ → ℕ) (bytes
 
       -- with the value of the filling in place of the record's
       revalued : {t : UseTurn} → t.mask ≡ result_mask us.masks.discipline i (first_word i us h) (second_word i us h) (special_operand i us h) us.masks.threadptr k ⊎ (u.write ≡ None) → Follows t (goes_on_turn i told mark x f u) → Follows t (goes_on_turn i value mark x f u)
-      revalued {t = t} masked follows = record {
+      revalued {t = t} mask_is follows = record {
         kind = follows.kind;
         write = ⊎_elim
             (λ m. marked_any t.mask told value mark (λ j is. m ∙ gone j is) u.write t.turn.write follows.write)
             (λ none. unwritten none)
-            masked;
+            mask_is;
         access = follows.access;
         sent = follows.sent;
         knows = follows.knows;
@@ -276,9 +276,9 @@ module _ (rows : RowsAgree) (replies : RepliesAgree) (code : ℕ → ℕ) (bytes
               let a : WriteFits t.mask None t.turn.write = subst (λ (w : Option RegWrite). WriteFits t.mask w t.turn.write) (ap (marked_write mark told) none ∙ marked_none mark told) follows.write in
               subst (λ (w : Option RegWrite). WriteFits t.mask w t.turn.write) (sym (ap (marked_write mark value) none ∙ marked_none mark value)) a
 
-      by_row : RowStep i us g h (result now code i shaped_g.control.count given.x_word k) u v → Follows (use_turn (executed v.kind (Fetches i len)) k us h turn_v) (nested_insn i value x f u)
+      by_row : RowStep i us g h (result now code i shaped_g.control.count given.x_word k) u v → Follows (use_turn (step_insn v.kind (Fetches i len)) k us h turn_v) (nested_insn i value x f u)
       by_row (Executes q) =
-          goes_turn us f x y i len k told value h u v (Some i) (ap (λ z. executed z (Fetches i len)) q.kind_too ∙ executed_insn i len) goes inner.saved
+          goes_turn us f x y i len k told value h u v (Some i) (ap (λ z. step_insn z (Fetches i len)) q.kind_too ∙ executed_insn i len) goes inner.saved
           (revalued (inl refl) (goes_follows kn x y fx sy inner (inputs_of rec) bare i k told mark gone u v q (visible_named i ok u.write q.narrow)))
       by_row (Rests q (inl bad)) = absurd (both_ways (is_exception v.kind) (no_exception code len y d sy mode_h) (ap is_exception (sym q.kind) ∙ bad))
       by_row (Rests q (inr none)) =
@@ -289,10 +289,10 @@ module _ (rows : RowsAgree) (replies : RepliesAgree) (code : ℕ → ℕ) (bytes
       goes_target : target
       goes_target = conclude (by_row row)
 
-  by_fetch : (at : Fetched) → fetched code h.control.pc ≡ at → laid_use b fresh code live kb rec us h ≡ None → target
-  by_fetch (Fails a) e none = absurd (other_breaks b live kb rec h (laid_step code rec.reply h) y sy (fails_shown b fresh code live kb rec us h still runs none a e))
-  by_fetch SpellsNothing e none = absurd (other_breaks b live kb rec h (laid_step code rec.reply h) y sy (spells_shown b fresh code live kb rec us h still runs none e))
+  by_fetch : (at : Fetched) → fetch_at code h.control.pc ≡ at → laid_use b fresh code live kb rec us h ≡ None → target
+  by_fetch (Fails a) e none = absurd (other_breaks b live kb rec h (step_with_inputs code rec.reply h) y sy (fails_shown b fresh code live kb rec us h still runs none a e))
+  by_fetch SpellsNothing e none = absurd (other_breaks b live kb rec h (step_with_inputs code rec.reply h) y sy (spells_shown b fresh code live kb rec us h still runs none e))
   by_fetch (Fetches i len) e none = let d = row_denied b fresh code live kb rec us h still runs none i len e in ⊎_elim (ends_target i len e d) (goes_target i len e d) (cases_Bool (ends_nested i))
 
   pub within_goes : use_breach b fresh code live kb true rec us ≡ None → target
-  within_goes none = by_fetch (fetched code h.control.pc) refl (sym (breach_use_inside b fresh code live kb rec us y sy) ∙ none)
+  within_goes none = by_fetch (fetch_at code h.control.pc) refl (sym (breach_use_inside b fresh code live kb rec us y sy) ∙ none)

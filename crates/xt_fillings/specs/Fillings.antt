@@ -7,20 +7,20 @@
 -- one for PS.OWB. Of PS.OWB 4 bits are taken, of each other number 32.
 -- Profile: the machine over a filling is that of `xt_frames`, in which MOVSP moves a1. It steps on
 -- the inputs of the records, but in the strict discipline on the filling's PS.OWB (`filled_owb`).
--- Of a reply it has the bits that are known there, and the filling's bits elsewhere (`filled`).
--- After each step every visible register that has no number receives the filling's (`numbered`). So
--- do the new registers of ENTRY and of a nested interrupt, and in the strict discipline the
--- callee's registers after RETW, except its results a2 to a5 (`results_left`). In a nested
--- interrupt registers with marks have numbers too, and a register that receives a mark is written
--- with the filling's number.
--- Note: it is told CCOUNT, INTERRUPT and where a nested interrupt begins, as the machine of uses
--- is, and PS.OWB in the lenient discipline alone. `DoesSame` and `StepsSame` of `Laws` compare its
--- steps with those of the machine of uses, `FollowsRecord` with the records.
+-- Of a reply it has the bits that are known there, and the filling's bits elsewhere
+-- (`filled_number`). After each step every visible register that has no number receives the
+-- filling's (`filled_registers`). So do the new registers of ENTRY and of a nested interrupt, and
+-- in the strict discipline the callee's registers after RETW, except its results a2 to a5
+-- (`results_left`). In a nested interrupt registers with marks have numbers too, and a register
+-- that receives a mark is written with the filling's number. Note: it is told CCOUNT, INTERRUPT and
+-- where a nested interrupt begins, as the machine of uses is, and PS.OWB in the lenient discipline
+-- alone. `DoesSame` and `StepsSame` of `FillingLaws` compare its steps with those of the machine of
+-- uses, `FollowsRecord` with the records.
 use Rattle.std.specs.Prelude.{ℕ, zero, suc, ◌*◌, ◌&&◌, ◌==◌, Bool, bit_or}
 use Rattle.std.specs.Prelude.{if◌then◌else◌, Option, Some, None, List, [], ◌∷◌, slice_get}
 use Rattle.xt_trace.specs.declared.record.RegWrite.{RegWrite}
 use Rattle.xt_trace.specs.declared.record.StepRecord.{StepRecord}
-use Rattle.xt_fetch.specs.Fetching.{fetched}
+use Rattle.xt_fetch.specs.Fetching.{fetch_at}
 use Rattle.xt_frames.specs.declared.holes.Nested.{Nested}
 use Rattle.xt_frames.specs.Frames.{Frame, FrameState}
 use Rattle.xt_frames.specs.FrameStep.{FrameTurn}
@@ -31,8 +31,8 @@ use Rattle.xt_frames.specs.Verdict.{is_nested}
 use Rattle.xt_frames.specs.FirstBreach.{Course, Turn, is_judged, mode_before}
 use Rattle.xt_uses.specs.declared.discipline.Discipline.{Discipline}
 use Rattle.xt_uses.specs.declared.discipline.Discipline.TheVariants.{Strict, Lenient}
-use Rattle.xt_uses.specs.Words.{all_bits, cut, flipped}
-use Rattle.xt_uses.specs.UseStep.{executed, forgets_registers, left_of, reply_mask, value_step}
+use Rattle.xt_uses.specs.Words.{all_bits, masked, complement}
+use Rattle.xt_uses.specs.UseStep.{step_insn, forgets_registers, left_of, reply_mask, value_step}
 use Rattle.xt_uses.specs.FirstUse.{History}
 
 -- ---- a filling
@@ -49,12 +49,12 @@ abbrev pub Filling : Type 0
 Filling = ℕ → Numbers
 
 -- the known bits of a number, and the other bits of another
-abbrev pub filled : ℕ → ℕ → ℕ → ℕ
-filled mask known other = bit_or (cut mask known) (cut (flipped mask) other)
+abbrev pub filled_number : ℕ → ℕ → ℕ → ℕ
+filled_number mask known other = bit_or (masked mask known) (masked (complement mask) other)
 
 abbrev pub filled_write : (ℕ → ℕ) → Option RegWrite → Option RegWrite
 filled_write numbers None = None
-filled_write numbers (Some w) = Some (record w { value = cut all_bits (numbers w.reg) })
+filled_write numbers (Some w) = Some (record w { value = masked all_bits (numbers w.reg) })
 
 -- PS.OWB at a step: the lenient discipline knows the record's, the strict one knows nothing of it
 abbrev pub filled_owb : Discipline → ℕ → ℕ → ℕ
@@ -65,7 +65,7 @@ filled_owb Lenient told other = told
 -- at where a mark is read, and nowhere else.
 abbrev pub filled_record : Discipline → ℕ → Numbers → StepRecord → StepRecord
 filled_record d mask n rec = record rec {
-  reply = filled mask rec.reply n.reply;
+  reply = filled_number mask rec.reply n.reply;
   write = filled_write n.register rec.write;
   owb = filled_owb d rec.owb n.owb;
 }
@@ -73,22 +73,22 @@ filled_record d mask n rec = record rec {
 -- ---- registers: each that has no number receives its own
 
 abbrev pub number_in : (ℕ → ℕ) → ℕ → Option ℕ → Option ℕ
-number_in numbers i None = Some (cut all_bits (numbers i))
+number_in numbers i None = Some (masked all_bits (numbers i))
 number_in numbers i (Some n) = Some n
 
 -- of registers from number i on
-abbrev pub numbered : (ℕ → ℕ) → ℕ → List (Option ℕ) → List (Option ℕ)
-numbered numbers i [] = []
-numbered numbers i (x ∷ xs) = number_in numbers i x ∷ numbered numbers (suc i) xs
+abbrev pub filled_registers : (ℕ → ℕ) → ℕ → List (Option ℕ) → List (Option ℕ)
+filled_registers numbers i [] = []
+filled_registers numbers i (x ∷ xs) = number_in numbers i x ∷ filled_registers numbers (suc i) xs
 
 abbrev pub numbered_inside : (ℕ → ℕ) → Option Nested → Option Nested
 numbered_inside numbers None = None
-numbered_inside numbers (Some x) = Some (record x { seen = numbered numbers 0 x.seen })
+numbered_inside numbers (Some x) = Some (record x { seen = filled_registers numbers 0 x.seen })
 
 -- in a nested interrupt also those where marks stand
 abbrev pub filled_state : (ℕ → ℕ) → FrameState → FrameState
 filled_state numbers f = record f {
-  seen = numbered numbers 0 f.seen;
+  seen = filled_registers numbers 0 f.seen;
   nested = numbered_inside numbers f.nested;
 }
 
@@ -105,7 +105,7 @@ abbrev pub filled_step :
 filled_step d code nested rec bytes n f =
     let r = filled_record d (reply_mask bytes rec.access) n rec in
     let u = value_step code (begins nested r.kind f) (value_in r.write) (inputs_of r) f in
-    let i = executed u.kind (fetched code (current f).control.pc) in
+    let i = step_insn u.kind (fetch_at code (current f).control.pc) in
     record u {
       after =
           filled_state

@@ -1,2 +1,2 @@
 pub mod Fillings
-pub mod Laws
+pub mod FillingLaws

@@ -1,7 +1,7 @@
 //! Laws of the machine of frames over any contents.
 #![tactic(auto)]
 
-ghost use Rattle.xt_fillings.specs.Laws.{OwbIsTheFillings, RecordsAreFollowed, RegistersHaveNumbers, RunsAreDecided, UnknownDecidesNothing};
+ghost use Rattle.xt_fillings.specs.FillingLaws.{OwbIsTheFillings, RecordsAreFollowed, RegistersHaveNumbers, RunsAreDecided, UnknownDecidesNothing};
 
 /// The machine over a filling has a number in each register.
 pub fn registers_have_numbers()

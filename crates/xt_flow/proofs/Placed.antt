@@ -11,7 +11,7 @@ use Rattle.xt_map.specs.Placing.{end_of_segment, is_device, is_well_placed, take
 use Rattle.xt_map.specs.Regions.{Range, holds, is_executable, ranges, region_in, region_of}
 use Rattle.xt_disasm.specs.Listing.{front, is_code}
 use Rattle.xt_flow.specs.Following.{code_from, has_code, insn_at}
-use Rattle.xt_flow.specs.Kept.{first_place, table_size}
+use Rattle.xt_flow.specs.FlowTables.{first_place, table_size}
 
 -- a test of each range
 abbrev all_of : (Range → Bool) → List Range → Bool

@@ -7,10 +7,10 @@ use Rattle.std.proofs.lemmas.List.Elements.{Contains-append_cases, Contains-appe
 use Rattle.std.proofs.lemmas.List.{length_push}
 use Rattle.xt_map.specs.declared.segment.Segment.{Segment}
 use Rattle.xt_map.specs.Placing.{is_well_placed}
-use Rattle.xt_names.specs.Parts.{parts_of}
+use Rattle.xt_names.specs.InsnParts.{parts_of}
 use Rattle.xt_image.specs.declared.image.Image.{Image}
 use Rattle.xt_flow.specs.Following.{aims_at, behind, code_from, ends_flow, goes_to, insn_at, length_at, literal_at}
-use Rattle.xt_flow.specs.Kept.{IsVisited, first_place, is_in_code, is_marked, is_new, pending_after, reads_after, starts_after, table_size, unmarked, with_mark, with_word}
+use Rattle.xt_flow.specs.FlowTables.{IsVisited, first_place, is_in_code, is_marked, is_new, pending_after, reads_after, starts_after, table_size, no_marks, with_mark, with_word}
 use Rattle.xt_flow.specs.Starts.{Follows, HoldsInsn, IsRead, Opens, Starts, openings}
 use Rattle.xt_flow.proofs.Placed.{code_within, insn_within}
 use Rattle.xt_flow.proofs.Tables.{count_free, count_free-with_mark, length-unmarked, length-with_mark, marked_kept, marked_other, marked_same, none_marked}
@@ -32,10 +32,10 @@ pub record Going (image : Image) (vecbase entry1 : ℕ) (roots : List ℕ) (star
 
 -- ---- to begin with
 
-unmarked_not : {P : Type 0} (n a : ℕ) → is_marked (unmarked n) a ≡ true → P
-unmarked_not n a h = let none : is_marked (unmarked n) a ≡ false = none_marked n a in absurd cc
+unmarked_not : {P : Type 0} (n a : ℕ) → is_marked (no_marks n) a ≡ true → P
+unmarked_not n a h = let none : is_marked (no_marks n) a ≡ false = none_marked n a in absurd cc
 
-pub begins : (image : Image) (vecbase entry1 : ℕ) (roots : List ℕ) → Going image vecbase entry1 roots (unmarked table_size) (unmarked table_size) (openings image.entry entry1 vecbase roots)
+pub begins : (image : Image) (vecbase entry1 : ℕ) (roots : List ℕ) → Going image vecbase entry1 roots (no_marks table_size) (no_marks table_size) (openings image.entry entry1 vecbase roots)
 begins image vecbase entry1 roots = record {
   starts_size = length-unmarked table_size;
   reads_size = length-unmarked table_size;

@@ -8,8 +8,8 @@ use Rattle.xt_isa.specs.declared.Insn.{Insn}
 use Rattle.xt_isa.specs.Spelling.{within}
 use Rattle.xt_map.specs.declared.segment.Segment.{Segment}
 use Rattle.xt_image.specs.declared.image.Image.{Image}
-use Rattle.xt_disasm.specs.Listing.{byte_at, front, front_length, wanted}
-use Rattle.xt_flow.specs.Kept.{IsVisited, code_reading, marks_of}
+use Rattle.xt_disasm.specs.Listing.{byte_at, front, front_length, wanted_length}
+use Rattle.xt_flow.specs.FlowTables.{IsVisited, code_reading, marks_of}
 use Rattle.xt_flow.specs.Sources.{IsFlowSource, Reading, data_count, is_gap, lines_of, numbers, source_by, source_line, source_lines, zero_words}
 use Rattle.xt_flow.specs.declared.visits.Visited.{Visited}
 use Rattle.xt_flow.proofs.Walks.{shown-positive}
@@ -28,7 +28,7 @@ shown_by None n some = omega arith
 shown_by (Some i) n some = some
 
 front_length-positive : (bytes : List ℕ) → 0 < front_length bytes
-front_length-positive bytes = shown_by (front bytes) (wanted bytes) (two_or_three (within 8 13 (byte_at bytes 0 % 16)))
+front_length-positive bytes = shown_by (front bytes) (wanted_length bytes) (two_or_three (within 8 13 (byte_at bytes 0 % 16)))
 
 pub code_shows : (segments : List Segment) (o : Option Visited) → Shows (code_reading segments o)
 code_shows segments None = λ a bytes some. front_length-positive bytes

@@ -4,7 +4,7 @@ use Rattle.std.specs.Prelude.{All}
 use Rattle.xt_map.specs.declared.segment.Segment.{Segment}
 use Rattle.xt_map.specs.Placing.{is_well_placed}
 use Rattle.xt_image.specs.declared.image.Image.{Image}
-use Rattle.xt_flow.specs.Kept.{pending_after, reads_after, starts_after}
+use Rattle.xt_flow.specs.FlowTables.{pending_after, reads_after, starts_after}
 use Rattle.xt_flow.proofs.Reaching.{Going, goes_on, left, less_left}
 
 module _ (image : Image) (vecbase entry1 : ℕ) (roots : List ℕ) (starts new_starts reads new_reads : List Bool) (pending rest new_pending : List ℕ) (a : ℕ) (segments : List Segment)

@@ -3,7 +3,7 @@ use Rattle.std.proofs.Common.{◌≡◌, ℕ, zero, suc, ◌+◌, ◌-◌, ◌<�
 use Rattle.std.specs.Prelude.{nat_le, if◌then◌else◌}
 use Rattle.std.proofs.lemmas.Bool.{and_from, and_parts, and_right, le-leb, leb-true}
 use Rattle.std.proofs.lemmas.List.{get_or-set_same, length-replicate, length-set}
-use Rattle.xt_flow.specs.Kept.{first_place, is_marked, unmarked, with_mark}
+use Rattle.xt_flow.specs.FlowTables.{first_place, is_marked, no_marks, with_mark}
 
 -- a mark stands at the first place or behind it
 pub marked_high : (table : List Bool) (a : ℕ) → is_marked table a ≡ true → first_place ≤ a
@@ -74,12 +74,12 @@ none_at (suc n) zero = refl
 none_at (suc n) (suc i) = none_at n i
 
 -- no mark to begin with
-pub none_marked : (n a : ℕ) → is_marked (unmarked n) a ≡ false
-unfolding is_marked unmarked
+pub none_marked : (n a : ℕ) → is_marked (no_marks n) a ≡ false
+unfolding is_marked no_marks
 none_marked n a = and_right (nat_le first_place a) (get_or (replicate n false) (a - first_place) false) (none_at n (a - first_place))
 
-pub length-unmarked : (n : ℕ) → length (unmarked n) ≡ n
-unfolding unmarked
+pub length-unmarked : (n : ℕ) → length (no_marks n) ≡ n
+unfolding no_marks
 length-unmarked n = length-replicate n false
 
 -- ---- how many addresses have no mark

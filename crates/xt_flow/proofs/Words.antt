@@ -7,7 +7,7 @@ use Rattle.xt_image.specs.declared.image.Image.{Image}
 use Rattle.xt_isa.specs.Spelling.{within}
 use Rattle.xt_disasm.specs.Listing.{byte_at}
 use Rattle.xt_flow.specs.Following.{code_from, insn_at, length_at}
-use Rattle.xt_flow.specs.Kept.{IsVisited, first_place, is_free, is_long, is_marked, is_reached, marks_of, starts_within}
+use Rattle.xt_flow.specs.FlowTables.{IsVisited, first_place, is_free, is_long, is_marked, is_reached, marks_of, starts_within}
 use Rattle.xt_flow.specs.Printing.{IsFlowText, IsMarked, text_by}
 use Rattle.xt_flow.specs.Starts.{Follows, HoldsInsn, IsWord, Opens, Starts}
 use Rattle.xt_flow.proofs.Tables.{marked_high}

@@ -18,10 +18,10 @@ use Rattle.xt_names.specs.declared.mnemonic.Plain.{Plain}
 use Rattle.xt_names.specs.declared.mnemonic.Plain.TheVariants as plain
 use Rattle.xt_names.specs.declared.parts.Parts.{Parts}
 use Rattle.xt_names.specs.declared.parts.Parts.TheVariants as parts
-use Rattle.xt_names.specs.Parts.{parts_of}
+use Rattle.xt_names.specs.InsnParts.{parts_of}
 use Rattle.xt_flow.specs.declared.calls.Fate.{Fate}
 use Rattle.xt_flow.specs.declared.calls.Fate.TheVariants.{Goes, Ends, Stays}
-use Rattle.xt_disasm.specs.Listing.{front, is_code, wanted}
+use Rattle.xt_disasm.specs.Listing.{front, is_code, wanted_length}
 use Rattle.xt_disasm.specs.Operands.{call_address, jump_address, literal_address}
 
 -- ---- what an instruction says
@@ -90,7 +90,7 @@ insn_at segments a = front (code_from segments a)
 
 -- its length
 abbrev pub length_at : List Segment → ℕ → ℕ
-length_at segments a = wanted (code_from segments a)
+length_at segments a = wanted_length (code_from segments a)
 
 -- ---- calls and jumps through a register
 

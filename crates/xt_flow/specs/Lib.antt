@@ -1,6 +1,6 @@
 pub mod Following
-pub mod Kept
-pub mod Laws
+pub mod FlowTables
+pub mod FlowLaws
 pub mod Printing
 pub mod Sources
 pub mod Starts

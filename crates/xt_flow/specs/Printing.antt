@@ -96,8 +96,8 @@ abbrev pub start_count : Marks → ℕ → List ℕ → ℕ
 start_count m a bytes = suc (to_next m.starts (a + 1) (front_length bytes - 1))
 
 -- the bytes of the first line: of a word four, of a space all its zeros, and else at most sixteen
-unfoldable pub shown : Marks → ℕ → List ℕ → ℕ
-shown m a bytes =
+unfoldable pub first_line_length : Marks → ℕ → List ℕ → ℕ
+first_line_length m a bytes =
     if m.starts a then start_count m a bytes
     else (if is_word m a bytes then 4
     else (if is_space m a bytes then zero_run m a bytes else byte_run m a bytes))
@@ -116,7 +116,8 @@ lines_of zero m a bytes = []
 lines_of (suc n) m a [] = []
 lines_of (suc n) m a (b ∷ bytes) =
     first_line m a (b ∷ bytes)
-    ++ lines_of n m (a + shown m a (b ∷ bytes)) (drop (shown m a (b ∷ bytes)) (b ∷ bytes))
+    ++ lines_of n m (a + first_line_length m a (b ∷ bytes))
+    (drop (first_line_length m a (b ∷ bytes)) (b ∷ bytes))
 
 -- the lines of all of them: there are no more lines than bytes
 unfoldable pub flow_lines : Marks → ℕ → List ℕ → List ℕ

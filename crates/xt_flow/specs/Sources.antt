@@ -14,7 +14,8 @@ use Rattle.xt_map.specs.declared.segment.Segment.{Segment}
 use Rattle.xt_image.specs.declared.image.Image.{Image}
 use Rattle.xt_word.specs.Hexadecimal.{hex8}
 use Rattle.xt_disasm.specs.Listing.{front, front_length, insn_text, is_code, newline, segment_line}
-use Rattle.xt_flow.specs.Printing.{IsMarked, Marks, byte_list, byte_run, is_space, is_word, shown}
+use Rattle.xt_flow.specs.Printing.{IsMarked, Marks, byte_list, byte_run, is_space, is_word}
+use Rattle.xt_flow.specs.Printing.{first_line_length}
 use Rattle.xt_flow.specs.Printing.{start_count, zero_run}
 
 -- ---- a walk over bytes
@@ -57,8 +58,8 @@ front_words a bytes =
     option_map_or (λ i. insn_text i a) (front bytes) (byte_words (take 1 bytes))
 
 -- code as the plain listing walks over it, from its first byte on
-abbrev pub swept : Reading
-swept = record { words = front_words; count = λ a bytes. front_length bytes }
+abbrev pub plain_reading : Reading
+plain_reading = record { words = front_words; count = λ a bytes. front_length bytes }
 
 -- an instruction that starts there, or the bytes before the next start inside it
 abbrev pub start_words : Marks → ℕ → List ℕ → List ℕ
@@ -74,8 +75,8 @@ flow_words m a bytes =
     else byte_words (take (byte_run m a bytes) bytes)))
 
 -- code as the listing that follows it shows it
-abbrev pub followed : Marks → Reading
-followed m = record { words = flow_words m; count = shown m }
+abbrev pub flow_reading : Marks → Reading
+flow_reading m = record { words = flow_words m; count = first_line_length m }
 
 -- how many bytes are in the words of zeros that come first
 abbrev pub zero_words : List ℕ → ℕ
@@ -130,4 +131,5 @@ source_by code image =
 -- the text is that of the marks that are right
 abbrev pub IsFlowSource : Image → ℕ → ℕ → List ℕ → List ℕ → Type 0
 IsFlowSource image vecbase entry1 roots text =
-    (m : Marks) × (IsMarked image vecbase entry1 roots m × (text ≡ source_by (followed m) image))
+    (m : Marks) × (IsMarked image vecbase entry1 roots m
+    × (text ≡ source_by (flow_reading m) image))

@@ -4,7 +4,7 @@
 ghost use Rattle.std.specs.Prelude.{ℕ, List};
 ghost use Rattle.xt_special.specs.Control.{Control};
 ghost use Rattle.xt_image.specs.declared.image.Image.{Image};
-ghost use Rattle.xt_flow.specs.Laws.{EntersVectors, HasOneText};
+ghost use Rattle.xt_flow.specs.FlowLaws.{EntersVectors, HasOneText};
 
 /// An image has one listing for each VECBASE, each entry of the second core and each list of roots.
 pub fn listing_is_one()

@@ -5,10 +5,10 @@ ghost use Rattle.std.specs.Prelude.{◌≡◌, ◌++◌, ◌+◌, ◌<◌, ◌�
 ghost use Rattle.std.specs.List.{flat_map};
 ghost use Rattle.xt_map.specs.Memory.{little_endian};
 ghost use Rattle.xt_map.specs.Placing.{is_well_placed};
-ghost use Rattle.xt_image.specs.Parts.{IsWellFormed};
+ghost use Rattle.xt_image.specs.ImageParts.{IsWellFormed};
 ghost use Rattle.xt_word.specs.Hexadecimal.{hex2, hex8};
-ghost use Rattle.xt_flow.specs.Kept.{is_free, is_long, is_marked, marks_of};
-ghost use Rattle.xt_flow.specs.Printing.{IsFlowText, byte_line, byte_list, byte_run, first_line, flow_lines, is_byte, is_taken, is_word, is_zero, segment_text, shown, space_line, text_by, to_next, word_line, zero_run};
+ghost use Rattle.xt_flow.specs.FlowTables.{is_free, is_long, is_marked, marks_of};
+ghost use Rattle.xt_flow.specs.Printing.{IsFlowText, byte_line, byte_list, byte_run, first_line, flow_lines, is_byte, is_taken, is_word, is_zero, segment_text, first_line_length, space_line, text_by, to_next, word_line, zero_run};
 
 use crate::code::code_from;
 use crate::table::is_marked;
@@ -31,7 +31,7 @@ fn is_long(segments: &[Segment], at: u32) -> bool
 }
 
 /// Whether no instruction that starts touches the four bytes at an address.
-#[tactic(auto, unfolding(crate::specs::Kept::is_free))]
+#[tactic(auto, unfolding(crate::specs::FlowTables::is_free))]
 fn is_free(segments: &[Segment], starts: &[bool], at: u32) -> bool
     requires low { 2 ≤ at }
     requires high { at + 3 < 2 ^ 32 }
@@ -186,7 +186,7 @@ fn push_byte_line(out: &mut String, at: u32, bytes: &[u8]) -> Result<(), AllocEr
 }
 
 /// Appends the first line of the bytes, which stand at an address, and answers how many of them it shows.
-#[tactic(auto, unfolding(crate::specs::Printing::first_line, crate::specs::Printing::shown))]
+#[tactic(auto, unfolding(crate::specs::Printing::first_line, crate::specs::Printing::first_line_length))]
 fn push_first_line(
     out: &mut String,
     segments: &[Segment],
@@ -196,7 +196,7 @@ fn push_first_line(
 ) -> Result<usize, AllocError>
     requires some { 0 < length bytes.now }
     requires fits { at + length bytes.now < 2 ^ 32 }
-    ensures shown { IfOk result (λ n. n ≡ shown (marks_of segments.now visited.now.starts.items visited.now.reads.items) at bytes.now) }
+    ensures shown { IfOk result (λ n. n ≡ first_line_length (marks_of segments.now visited.now.starts.items visited.now.reads.items) at bytes.now) }
     ensures few { IfOk result (λ n. (0 < n) × (n ≤ length bytes.now)) }
     ensures text { OnOk result (string_bytes out.new ≡ string_bytes out.old ++ first_line (marks_of segments.now visited.now.starts.items visited.now.reads.items) at bytes.now) }
 {

@@ -2,7 +2,7 @@
 #![tactic(auto)]
 
 ghost use Rattle.std.specs.Prelude.{◌≡◌, IfOk};
-ghost use Rattle.xt_flow.specs.Kept.{is_marked, table_size, unmarked, with_mark};
+ghost use Rattle.xt_flow.specs.FlowTables.{is_marked, table_size, no_marks, with_mark};
 
 use std::alloc::{AllocError, Global};
 
@@ -12,22 +12,22 @@ const FIRST_PLACE: u32 = 0x40070000;
 const TABLE_SIZE: usize = 0x390000;
 
 /// No mark, for `count` addresses.
-#[tactic(auto, unfolding(crate::specs::Kept::unmarked))]
-fn unmarked(alloc: Global, count: usize) -> Result<Vec<bool>, AllocError>
-    ensures { IfOk result (λ table. table.items ≡ unmarked count) }
+#[tactic(auto, unfolding(crate::specs::FlowTables::no_marks))]
+fn no_marks(alloc: Global, count: usize) -> Result<Vec<bool>, AllocError>
+    ensures { IfOk result (λ table. table.items ≡ no_marks count) }
 {
     vec![in alloc; false; count]
 }
 
 /// A table without a mark.
 pub fn empty_table(alloc: Global) -> Result<Vec<bool>, AllocError>
-    ensures { IfOk result (λ table. table.items ≡ unmarked table_size) }
+    ensures { IfOk result (λ table. table.items ≡ no_marks table_size) }
 {
-    unmarked(alloc, TABLE_SIZE)
+    no_marks(alloc, TABLE_SIZE)
 }
 
 /// Whether an address is marked.
-#[tactic(auto, unfolding(crate::specs::Kept::is_marked))]
+#[tactic(auto, unfolding(crate::specs::FlowTables::is_marked))]
 pub fn is_marked(table: &[bool], at: u32) -> bool
     ensures { result ≡ is_marked table.now at }
 {
@@ -39,7 +39,7 @@ pub fn is_marked(table: &[bool], at: u32) -> bool
 }
 
 /// Marks an address; nothing changes where the table has no place for it.
-#[tactic(auto, unfolding(crate::specs::Kept::with_mark))]
+#[tactic(auto, unfolding(crate::specs::FlowTables::with_mark))]
 pub fn mark(table: &mut [bool], at: u32)
     ensures { table.new ≡ with_mark table.old at }
 {

@@ -4,13 +4,13 @@
 ghost use Rattle.std.specs.Prelude.{◌≡◌, ◌++◌, ◌+◌, ◌<◌, ◌≤◌, ◌^◌, false, true, All, IfOk, IfSome, OnOk, codes, length, option_map, string_bytes};
 ghost use Rattle.xt_isa.specs.Ranges.{in_range};
 ghost use Rattle.xt_map.specs.Placing.{is_well_placed};
-ghost use Rattle.xt_image.specs.Parts.{IsWellFormed};
+ghost use Rattle.xt_image.specs.ImageParts.{IsWellFormed};
 ghost use Rattle.xt_word.specs.Hexadecimal.{hex8};
 ghost use Rattle.xt_disasm.specs.Fronts.{IsFront};
 ghost use Rattle.xt_disasm.specs.Listing.{byte_at, front_length, newline};
-ghost use Rattle.xt_flow.specs.Kept.{code_reading, is_marked, marks_of};
-ghost use Rattle.xt_flow.specs.Printing.{is_word, shown, start_count};
-ghost use Rattle.xt_flow.specs.Sources.{IsFlowSource, body_of, entry_line, flow_words, followed, front_words, seg_line, seg_words, segment_source, source_by, source_line, source_lines, start_words, swept};
+ghost use Rattle.xt_flow.specs.FlowTables.{code_reading, is_marked, marks_of};
+ghost use Rattle.xt_flow.specs.Printing.{is_word, first_line_length, start_count};
+ghost use Rattle.xt_flow.specs.Sources.{IsFlowSource, body_of, entry_line, flow_words, flow_reading, front_words, seg_line, seg_words, segment_source, source_by, source_line, source_lines, start_words, plain_reading};
 
 use crate::listing::{byte_run, is_word, to_next, zero_run};
 use crate::numbers::{byte_words, push_numbers, push_source_line, space_words, word_words};
@@ -103,7 +103,7 @@ fn push_start(
 }
 
 /// The words of the first line of the bytes, where no instruction starts, and how many of them it shows.
-#[tactic(auto, unfolding(crate::specs::Sources::flow_words, crate::specs::Printing::shown))]
+#[tactic(auto, unfolding(crate::specs::Sources::flow_words, crate::specs::Printing::first_line_length))]
 fn other_words(
     alloc: Global,
     segments: &[Segment],
@@ -115,7 +115,7 @@ fn other_words(
     requires fits { at + length bytes.now < 2 ^ 32 }
     requires none { is_marked visited.now.starts.items at ≡ false }
     ensures words { IfOk result (λ r. string_bytes r.0 ≡ flow_words (marks_of segments.now visited.now.starts.items visited.now.reads.items) at bytes.now) }
-    ensures count { IfOk result (λ r. r.1 ≡ shown (marks_of segments.now visited.now.starts.items visited.now.reads.items) at bytes.now) }
+    ensures count { IfOk result (λ r. r.1 ≡ first_line_length (marks_of segments.now visited.now.starts.items visited.now.reads.items) at bytes.now) }
     ensures few { IfOk result (λ r. (0 < r.1) × (r.1 ≤ length bytes.now)) }
 {
     if is_word(segments, visited, at, bytes) {
@@ -130,7 +130,7 @@ fn other_words(
 }
 
 /// Appends the first line of the bytes, as the listing that follows the code shows it, and answers how many it shows.
-#[tactic(auto, unfolding(crate::specs::Sources::flow_words, crate::specs::Printing::shown))]
+#[tactic(auto, unfolding(crate::specs::Sources::flow_words, crate::specs::Printing::first_line_length))]
 fn push_followed(
     alloc: Global,
     out: &mut Vec<u8>,
@@ -141,7 +141,7 @@ fn push_followed(
 ) -> Result<usize, AllocError>
     requires some { 0 < length bytes.now }
     requires fits { at + length bytes.now < 2 ^ 32 }
-    ensures shown { IfOk result (λ n. n ≡ shown (marks_of segments.now visited.now.starts.items visited.now.reads.items) at bytes.now) }
+    ensures shown { IfOk result (λ n. n ≡ first_line_length (marks_of segments.now visited.now.starts.items visited.now.reads.items) at bytes.now) }
     ensures few { IfOk result (λ n. (0 < n) × (n ≤ length bytes.now)) }
     ensures text { OnOk result (out.new.items ≡ out.old.items ++ source_line at (flow_words (marks_of segments.now visited.now.starts.items visited.now.reads.items) at bytes.now)) }
 {
@@ -302,7 +302,7 @@ fn text_of(alloc: Global, image: &Image, visited: Option<&Visited>) -> Result<Te
 /// Condition: the image is well formed, as one that was read or assembled is.
 pub fn source(alloc: Global, image: &Image) -> Result<Text, AllocError>
     requires { IsWellFormed image.now }
-    ensures { IfOk result (λ text. text ≡ source_by swept image.now) }
+    ensures { IfOk result (λ text. text ≡ source_by plain_reading image.now) }
 {
     text_of(alloc, image, None)
 }

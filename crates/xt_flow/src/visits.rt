@@ -4,7 +4,7 @@
 ghost use Rattle.std.specs.Prelude.{◌≡◌, ◌+◌, ◌%◌, ◌^◌, ◌++◌, ◌<◌, map, IfOk, OnOk, option_to_list};
 ghost use Rattle.xt_map.specs.Placing.{IsPlaced};
 ghost use Rattle.xt_flow.specs.Following.{aims_at, behind};
-ghost use Rattle.xt_flow.specs.Kept.{IsVisited, pending_after, reads_after, starts_after, with_word};
+ghost use Rattle.xt_flow.specs.FlowTables.{IsVisited, pending_after, reads_after, starts_after, with_word};
 ghost use Rattle.xt_flow.specs.Starts.{openings};
 
 use crate::calls::aims_at;

@@ -6,9 +6,9 @@ use Rattle.std.proofs.lemmas.Bool.Decides.{Decides-like}
 use Rattle.xt_map.specs.declared.access.Access.{Access}
 use Rattle.xt_map.specs.Touching.{is_store, touches}
 use Rattle.xt_trace.specs.declared.record.StepRecord.{StepRecord}
-use Rattle.xt_frames.specs.Breaches.{falls, stale_after, stores_at}
+use Rattle.xt_frames.specs.Breaches.{ends_exception_mode, stale_after, stores_at}
 use Rattle.xt_frames.specs.Nesting.{current}
-use Rattle.xt_frames.specs.FirstBreach.{Course, EndsMode, IsJudgedTurn, IsLost, IsStale, IsTurn, LeavesByte, LeavesEpc1, Turn, given, is_judged, step_at, live_before, mode_before, writes_at}
+use Rattle.xt_frames.specs.FirstBreach.{Course, EndsMode, IsJudgedTurn, IsLost, IsStale, IsTurn, LeavesByte, LeavesEpc1, Turn, frame_with_inputs, is_judged, step_at, live_before, mode_before, writes_at}
 use Rattle.xt_frames.proofs.Prefixes.{before_or_at, same_turn}
 
 -- ---- a store that touches a byte
@@ -118,7 +118,7 @@ module _ (r : Course) (p core : ℕ) (rec : StepRecord) (turn : IsTurn r p core 
   writes = writes_at r p core rec
 
   abbrev falling : Bool
-  falling = falls (given r p core rec).control.ps (current (step_at r p core rec).after).control.ps
+  falling = ends_exception_mode (frame_with_inputs r p core rec).control.ps (current (step_at r p core rec).after).control.ps
 
   fell : (h : IsLost r core (suc p)) → is_judged (mode_before r core p) rec.kind ≡ true → h.once ≡ p → falling ≡ true
   fell h j e =
@@ -127,12 +127,12 @@ module _ (r : Course) (p core : ℕ) (rec : StepRecord) (turn : IsTurn r p core 
       let own : (is_judged (mode_before r core p) rec.kind ≡ false) ⊎ EndsMode r p core rec = subst (λ (x : StepRecord). (is_judged (mode_before r core p) x.kind ≡ false) ⊎ EndsMode r p core x) (sym (same_rec core h.rec at)) loses in
       ⊎_elim
       (λ n. absurd (both_ways (is_judged (mode_before r core p) rec.kind) n j))
-      (λ m. and_from (given r p core rec).control.ps.excm (not (current (step_at r p core rec).after).control.ps.excm) m.0 (not_from_false (current (step_at r p core rec).after).control.ps.excm m.1))
+      (λ m. and_from (frame_with_inputs r p core rec).control.ps.excm (not (current (step_at r p core rec).after).control.ps.excm) m.0 (not_from_false (current (step_at r p core rec).after).control.ps.excm m.1))
       own
 
   ends_mode : falling ≡ true → EndsMode r p core rec
   ends_mode e =
-      let parts = and_parts (given r p core rec).control.ps.excm (not (current (step_at r p core rec).after).control.ps.excm) e in
+      let parts = and_parts (frame_with_inputs r p core rec).control.ps.excm (not (current (step_at r p core rec).after).control.ps.excm) e in
       (parts.0, not-true (current (step_at r p core rec).after).control.ps.excm parts.1)
 
   pub lost_judged : (fresh : Bool) → is_judged (mode_before r core p) rec.kind ≡ true → Decides (not fresh) (IsLost r core p) → Decides (not (writes || (fresh && not falling))) (IsLost r core (suc p))

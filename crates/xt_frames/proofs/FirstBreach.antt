@@ -7,12 +7,12 @@ use Rattle.xt_map.specs.declared.access.Entry.{Entry}
 use Rattle.xt_trace.specs.declared.record.StepRecord.{StepRecord}
 use Rattle.xt_frames.specs.declared.kinds.BreachKind.{BreachKind}
 use Rattle.xt_frames.specs.Frames.{FrameState}
-use Rattle.xt_frames.specs.FrameStep.{laid}
+use Rattle.xt_frames.specs.FrameStep.{with_inputs}
 use Rattle.xt_frames.specs.Nesting.{current, is_nesting}
 use Rattle.xt_frames.specs.SaveAreas.{is_live}
 use Rattle.xt_frames.specs.HandlerSteps.{Mode, Plain, Handles, Nests, is_window, mode_after}
 use Rattle.xt_frames.specs.Breaches.{Bounds, breach_of, inputs_of, stale_after, window_breach}
-use Rattle.xt_frames.specs.Judging.{Breaks, Handled, Judges, Seen, Standing, fresh_on, handled, live_of, seen, seen_in, seen_judged, seen_step, seen_window}
+use Rattle.xt_frames.specs.Judging.{Breaks, Handled, Judges, Seen, Standing, fresh_on, handled_record, live_of, seen_record, seen_in, seen_judged, seen_step, seen_window}
 use Rattle.xt_frames.specs.Verdict.{Judgement, Known, is_nested, judgement, opening_known, passed_0, passed_1, past_handled_0, past_handled_1, past_judged_0, past_judged_1, seen_0, seen_1}
 use Rattle.xt_frames.specs.FirstBreach.{Course, IsJudgement, IsLost, IsStale, IsTurn, Shows, Turn, WalkFindsFirstBreach, by_core, entries_before, frame_before, handler_shows, is_judged, judged_before, live_before, mode_before, records_before, step_at, turn_of, turns}
 use Rattle.xt_frames.proofs.Prefixes.{before_or_at, drop_get, drop_none, drop_rest, kept_entries, kept_frame, other_frame, other_judged, other_mode, other_records, own_count, own_entries, own_frame, own_judged, own_mode, own_skipped, same_turn}
@@ -34,20 +34,20 @@ handler_window None f after e = ap (λ m. Handled (record { frame = f; fresh = f
 handler_window (Some kind) f after e = refl
 
 seen_as_judged : (mode : Mode) (code : ℕ → ℕ) (b : Bounds) (s : Standing) (others stale : ℕ → Bool) (rec : StepRecord) → is_judged mode rec.kind ≡ true → seen_in mode code b s others stale rec ≡ seen_judged code b s others stale (is_nested mode) rec
-seen_as_judged Plain code b s others stale rec j = cond-false (is_window rec.kind) (seen_window (window_breach code rec.kind (laid (inputs_of rec) (current s.frame))) s.frame) (seen_judged code b s others stale false rec) (not-true (is_window rec.kind) j)
-seen_as_judged Handles code b s others stale rec j = cond-true (is_nesting rec.kind) (seen_judged code b s others stale true rec) (handled code s rec) j
+seen_as_judged Plain code b s others stale rec j = cond-false (is_window rec.kind) (seen_window (window_breach code rec.kind (with_inputs (inputs_of rec) (current s.frame))) s.frame) (seen_judged code b s others stale false rec) (not-true (is_window rec.kind) j)
+seen_as_judged Handles code b s others stale rec j = cond-true (is_nesting rec.kind) (seen_judged code b s others stale true rec) (handled_record code s rec) j
 seen_as_judged Nests code b s others stale rec j = refl
 
-seen_as_handler : (mode : Mode) (code : ℕ → ℕ) (b : Bounds) (f : FrameState) (fresh : Bool) (others stale : ℕ → Bool) (rec : StepRecord) → is_judged mode rec.kind ≡ false → seen code b (record { frame = f; fresh = fresh; mode = mode }) others stale rec ≡ seen_handler (handler_shows code mode rec f) f (mode_after code mode rec)
+seen_as_handler : (mode : Mode) (code : ℕ → ℕ) (b : Bounds) (f : FrameState) (fresh : Bool) (others stale : ℕ → Bool) (rec : StepRecord) → is_judged mode rec.kind ≡ false → seen_record code b (record { frame = f; fresh = fresh; mode = mode }) others stale rec ≡ seen_handler (handler_shows code mode rec f) f (mode_after code mode rec)
 seen_as_handler Plain code b f fresh others stale rec j =
     let w = not-false (is_window rec.kind) j in
     let s : Standing = record { frame = f; fresh = fresh; mode = Plain } in
-    let o = window_breach code rec.kind (laid (inputs_of rec) (current f)) in
+    let o = window_breach code rec.kind (with_inputs (inputs_of rec) (current f)) in
     cond-true (is_window rec.kind) (seen_window o f) (seen_judged code b s others stale false rec) w
     ∙ handler_window o f (mode_after code Plain rec) (cond-true (is_window rec.kind) Handles Plain w)
 seen_as_handler Handles code b f fresh others stale rec j =
     let s : Standing = record { frame = f; fresh = fresh; mode = Handles } in
-    cond-false (is_nesting rec.kind) (seen_judged code b s others stale true rec) (handled code s rec) j
+    cond-false (is_nesting rec.kind) (seen_judged code b s others stale true rec) (handled_record code s rec) j
 seen_as_handler Nests code b f fresh others stale rec j = absurd (both_ways true j refl)
 
 -- ---- what it keeps before a turn
@@ -68,7 +68,7 @@ module _ (r : Course) (core other : ℕ) (apart : (core == other) ≡ false) (li
   others = is_live (r.bounds other).range (frame_before r other p)
 
   abbrev out : Seen
-  out = seen r.code (r.bounds core) (standing_at r core p lost) others stale rec
+  out = seen_record r.code (r.bounds core) (standing_at r core p lost) others stale rec
 
   abbrev found : Option BreachKind
   found = breach_of (r.bounds core) (not lost) r.code (live_before r p) stale (is_nested (mode_before r core p)) rec (frame_before r core p)

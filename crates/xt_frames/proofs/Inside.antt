@@ -17,21 +17,21 @@ use Rattle.xt_rows.specs.declared.outcome.WindowStep.{WindowStep}
 use Rattle.xt_rows.specs.declared.outcome.WindowStep.TheVariants.{Enters, Returns}
 use Rattle.xt_rows.specs.Outcomes.{outcome_at}
 use Rattle.xt_trace.specs.declared.record.StepRecord.{StepRecord}
-use Rattle.xt_fetch.specs.Fetching.{Fetched, Fetches, Fails, SpellsNothing, fetched}
+use Rattle.xt_fetch.specs.Fetching.{Fetched, Fetches, Fails, SpellsNothing, fetch_at}
 use Rattle.xt_frames.specs.declared.kinds.BreachKind.{BreachKind}
 use Rattle.xt_frames.specs.declared.judged.Done.{Done}
 use Rattle.xt_frames.specs.declared.breach.Case.{Case}
 use Rattle.xt_frames.specs.declared.holes.Nested.{Nested}
-use Rattle.xt_frames.specs.Frames.{Frame, FrameState, known}
-use Rattle.xt_frames.specs.FrameStep.{FrameTurn, done_in_frame, fetched_step, laid, laid_step, popped, popped_from, pushed, windowed_in_frame}
+use Rattle.xt_frames.specs.Frames.{Frame, FrameState, value_or_zero}
+use Rattle.xt_frames.specs.FrameStep.{FrameTurn, done_in_frame, fetched_step, with_inputs, step_with_inputs, return_in_frame, return_to_frame, entry_in_frame, windowed_in_frame}
 use Rattle.xt_frames.specs.Marks.{moved_to}
-use Rattle.xt_frames.specs.Nesting.{begins, begun, current, current_in, ends_nested, frame_step, inside, is_nesting, nested_fetched, nested_turn, plain_turn, turn_in}
+use Rattle.xt_frames.specs.Nesting.{begins, nested_entry, current, current_in, ends_nested, frame_step, nested_view, is_nesting, nested_fetched, nested_turn, plain_turn, turn_in}
 use Rattle.xt_frames.specs.HandlerSteps.{closes, fetched_returns, returns}
 use Rattle.xt_frames.specs.Breaches.{Bounds, breach_of, fresh_after, inputs_of, laid_breach, writes_epc1}
 use Rattle.xt_frames.specs.Judging.{fresh_on, place_on, step_on, value_in}
-use Rattle.xt_frames.specs.Parts.{IsKindOf, IsPlan}
-use Rattle.xt_frames.specs.declared.view.Plan.{Plan}
-use Rattle.xt_frames.specs.declared.view.Plan.TheVariants as plan
+use Rattle.xt_frames.specs.KeptFrameState.{IsKindOf, IsPlan}
+use Rattle.xt_frames.specs.declared.view.NextEvent.{NextEvent}
+use Rattle.xt_frames.specs.declared.view.NextEvent.TheVariants as plan
 use Rattle.xt_frames.proofs.StackSteps.{turn_if, step_fetches, step_taken, step_waits}
 use Rattle.xt_frames.specs.Stepped.{IsDone, found_by}
 use Rattle.xt_frames.specs.Walked.{bounds_of}
@@ -54,20 +54,20 @@ pub as_plain : (case : Case) (code : ℕ → ℕ) (live stale : ℕ → Bool) (n
     → IsDone (found_by case code live stale nested rec f) case.fresh code nested rec f result new
 as_plain case code live stale nested rec f (Ok done) new e h =
     let none : Option BreachKind = None in
-    let B : Bool → Option BreachKind = λ b. cond b none (laid_breach (bounds_of case.limits) case.fresh code live stale rec (laid (inputs_of rec) (current f))) in
+    let B : Bool → Option BreachKind = λ b. cond b none (laid_breach (bounds_of case.limits) case.fresh code live stale rec (with_inputs (inputs_of rec) (current f))) in
     let T : Bool → FrameTurn = λ b. frame_step code b (value_in rec.write) (inputs_of rec) f in
-    let F : Bool → Bool = λ b. fresh_after case.fresh (T b).kind (fetched code (current f).control.pc) (laid (inputs_of rec) (current f)).control.ps (current (T b).after).control.ps in
+    let F : Bool → Bool = λ b. fresh_after case.fresh (T b).kind (fetch_at code (current f).control.pc) (with_inputs (inputs_of rec) (current f)).control.ps (current (T b).after).control.ps in
     (ap B e ∙ h.0, h.1 ∙ sym (ap (λ b. (T b).after) e), h.2 ∙ sym (ap F e))
 as_plain case code live stale nested rec f (Err kind) new e h =
     let none : Option BreachKind = None in
-    let B : Bool → Option BreachKind = λ b. cond b none (laid_breach (bounds_of case.limits) case.fresh code live stale rec (laid (inputs_of rec) (current f))) in
+    let B : Bool → Option BreachKind = λ b. cond b none (laid_breach (bounds_of case.limits) case.fresh code live stale rec (with_inputs (inputs_of rec) (current f))) in
     (ap B e ∙ h.0, h.1)
 
 -- ---- outside nested interrupts
 pub breach_plain : (b : Bounds) (fresh : Bool) (code : ℕ → ℕ) (live stale : ℕ → Bool) (rec : StepRecord) (f : FrameState) → f.nested ≡ None
-    → breach_of b fresh code live stale false rec f ≡ laid_breach b fresh code live stale rec (laid (inputs_of rec) f)
+    → breach_of b fresh code live stale false rec f ≡ laid_breach b fresh code live stale rec (with_inputs (inputs_of rec) f)
 breach_plain b fresh code live stale rec f e =
-    ap (λ (o : Option Nested). laid_breach b fresh code live stale rec (laid (inputs_of rec) (current_in o f))) e
+    ap (λ (o : Option Nested). laid_breach b fresh code live stale rec (with_inputs (inputs_of rec) (current_in o f))) e
 
 pub place_plain : (rec : StepRecord) (f : FrameState) → f.nested ≡ None → place_on false rec f ≡ f.control.pc
 place_plain rec f e = ap (λ (o : Option Nested). (current_in o f).control.pc) e
@@ -81,11 +81,11 @@ no_beginning : (nested : Bool) (kind : StepKind) → (nested && (is_nesting kind
 no_beginning nested kind = and_right nested _ (and_right (is_nesting kind) false refl)
 
 pub breach_inside : (b : Bounds) (fresh : Bool) (code : ℕ → ℕ) (live stale : ℕ → Bool) (nested : Bool) (rec : StepRecord) (f : FrameState) (x : Nested) → f.nested ≡ Some x
-    → breach_of b fresh code live stale nested rec f ≡ laid_breach b fresh code live stale rec (laid (inputs_of rec) (inside x f))
+    → breach_of b fresh code live stale nested rec f ≡ laid_breach b fresh code live stale rec (with_inputs (inputs_of rec) (nested_view x f))
 breach_inside b fresh code live stale nested rec f x e =
     let none : Option BreachKind = None in
-    let L : Option BreachKind = laid_breach b fresh code live stale rec (laid (inputs_of rec) (inside x f)) in
-    let B : Option Nested → Option BreachKind = λ o. cond (nested && (is_nesting rec.kind && not (is_some o))) none (laid_breach b fresh code live stale rec (laid (inputs_of rec) (current_in o f))) in
+    let L : Option BreachKind = laid_breach b fresh code live stale rec (with_inputs (inputs_of rec) (nested_view x f)) in
+    let B : Option Nested → Option BreachKind = λ o. cond (nested && (is_nesting rec.kind && not (is_some o))) none (laid_breach b fresh code live stale rec (with_inputs (inputs_of rec) (current_in o f))) in
     ap B e ∙ ap (λ (b : Bool). cond b none L) (no_beginning nested rec.kind)
 
 pub place_inside : (rec : StepRecord) (f : FrameState) (x : Nested) → f.nested ≡ Some x → place_on true rec f ≡ x.pc
@@ -96,8 +96,8 @@ place_inside rec f x e =
 pub step_inside : (code : ℕ → ℕ) (nested : Bool) (rec : StepRecord) (f : FrameState) (x : Nested) → f.nested ≡ Some x
     → step_on code nested rec f ≡ nested_turn code (value_in rec.write) (inputs_of rec) x f
 step_inside code nested rec f x e =
-    let S : Option Nested → FrameTurn = λ o. cond (nested && (is_nesting rec.kind && not (is_some o))) (begun (laid (inputs_of rec) f)) (turn_in o code (value_in rec.write) (inputs_of rec) f) in
-    ap S e ∙ ap (λ (b : Bool). cond b (begun (laid (inputs_of rec) f)) (nested_turn code (value_in rec.write) (inputs_of rec) x f)) (no_beginning nested rec.kind)
+    let S : Option Nested → FrameTurn = λ o. cond (nested && (is_nesting rec.kind && not (is_some o))) (nested_entry (with_inputs (inputs_of rec) f)) (turn_in o code (value_in rec.write) (inputs_of rec) f) in
+    ap S e ∙ ap (λ (b : Bool). cond b (nested_entry (with_inputs (inputs_of rec) f)) (nested_turn code (value_in rec.write) (inputs_of rec) x f)) (no_beginning nested rec.kind)
 
 pub kind_inside : (at : Fetched) (value : ℕ) (x : Nested) (f : FrameState) (u : FrameTurn) → (nested_fetched at value x f u).kind ≡ u.kind
 kind_inside (Fetches i len) value x f u = turn_if (λ (v : FrameTurn). v.kind ≡ u.kind) (ends_nested i) _ _ refl refl
@@ -105,14 +105,14 @@ kind_inside (Fails address) value x f u = refl
 kind_inside SpellsNothing value x f u = refl
 
 pub fresh_inside : (fresh : Bool) (code : ℕ → ℕ) (nested : Bool) (rec : StepRecord) (f : FrameState) (x : Nested) → f.nested ≡ Some x
-    → fresh_on fresh code nested rec f ≡ (let g = laid (inputs_of rec) (inside x f) in let u = nested_turn code (value_in rec.write) (inputs_of rec) x f in
-    fresh_after fresh (laid_step code rec.reply g).kind (fetched code g.control.pc) g.control.ps (current u.after).control.ps)
+    → fresh_on fresh code nested rec f ≡ (let g = with_inputs (inputs_of rec) (nested_view x f) in let u = nested_turn code (value_in rec.write) (inputs_of rec) x f in
+    fresh_after fresh (step_with_inputs code rec.reply g).kind (fetch_at code g.control.pc) g.control.ps (current u.after).control.ps)
 fresh_inside fresh code nested rec f x e =
-    let F : FrameTurn → FrameState → StepKind → Bool = λ u s k. fresh_after fresh k (fetched code s.control.pc) (laid (inputs_of rec) s).control.ps (current u.after).control.ps in
+    let F : FrameTurn → FrameState → StepKind → Bool = λ u s k. fresh_after fresh k (fetch_at code s.control.pc) (with_inputs (inputs_of rec) s).control.ps (current u.after).control.ps in
     let u = nested_turn code (value_in rec.write) (inputs_of rec) x f in
     ap (λ (u : FrameTurn). F u (current f) u.kind) (step_inside code nested rec f x e)
     ∙ (ap (λ (o : Option Nested). F u (current_in o f) u.kind) e
-    ∙ ap (F u (inside x f)) (kind_inside (fetched code x.pc) (value_in rec.write) x f (laid_step code rec.reply (laid (inputs_of rec) (inside x f)))))
+    ∙ ap (F u (nested_view x f)) (kind_inside (fetch_at code x.pc) (value_in rec.write) x f (step_with_inputs code rec.reply (with_inputs (inputs_of rec) (nested_view x f)))))
 
 -- ---- the save areas of the frame state are as they were
 abbrev pub Still : FrameState → FrameTurn → Type 0
@@ -124,7 +124,7 @@ still_fetched (Fails address) value x f u = (refl, refl)
 still_fetched SpellsNothing value x f u = (refl, refl)
 
 pub still_inside : (code : ℕ → ℕ) (rec : StepRecord) (f : FrameState) (x : Nested) → f.nested ≡ Some x → Still f (step_on code true rec f)
-still_inside code rec f x e = subst (Still f) (sym (step_inside code true rec f x e)) (still_fetched (fetched code (laid (inputs_of rec) (inside x f)).control.pc) (value_in rec.write) x f (laid_step code rec.reply (laid (inputs_of rec) (inside x f))))
+still_inside code rec f x e = subst (Still f) (sym (step_inside code true rec f x e)) (still_fetched (fetch_at code (with_inputs (inputs_of rec) (nested_view x f)).control.pc) (value_in rec.write) x f (step_with_inputs code rec.reply (with_inputs (inputs_of rec) (nested_view x f))))
 
 -- ---- RFI 5 alone ends one
 if_ends : (b : Bool) (u v : FrameTurn) → b ≡ true → u.after.nested ≡ None → (cond b u v).after.nested ≡ None
@@ -145,7 +145,7 @@ open_fetched (Fetches i len) value x f u e n = if_open (ends_nested i) _ _ _ e r
 open_fetched (Fails address) value x f u e n = cc
 open_fetched SpellsNothing value x f u e n = cc
 
-pub returns_fetched : (code : ℕ → ℕ) (k : StepKind) (pc : ℕ) → returns code k pc ≡ true → fetched_returns (fetched code pc) ≡ true
+pub returns_fetched : (code : ℕ → ℕ) (k : StepKind) (pc : ℕ) → returns code k pc ≡ true → fetched_returns (fetch_at code pc) ≡ true
 returns_fetched code kind.Insn pc e = e
 returns_fetched code _ pc e = absurd cc
 
@@ -154,7 +154,7 @@ closes_plain code kind.Insn pc e = refl
 closes_plain code _ pc e = absurd cc
 
 -- ---- the step that begins one
-pub fresh_begun : (fresh : Bool) (at : Fetched) (f g : FrameState) → fresh ≡ fresh_after fresh (begun g).kind at f.control.ps (current (begun g).after).control.ps
+pub fresh_begun : (fresh : Bool) (at : Fetched) (f g : FrameState) → fresh ≡ fresh_after fresh (nested_entry g).kind at f.control.ps (current (nested_entry g).after).control.ps
 unfolding after_interrupt writes_epc1
 fresh_begun fresh at f g =
     sym (ap (λ (b : Bool). fresh && not b) (and_right f.control.ps.excm false refl) ∙ and-true fresh)
@@ -162,7 +162,7 @@ fresh_begun fresh at f g =
 pub begins_now : (rec : StepRecord) (f : FrameState) → is_nesting rec.kind ≡ true → f.nested ≡ None → begins true rec.kind f ≡ true
 begins_now rec f e n = ap (λ (o : Option Nested). is_nesting rec.kind && not (is_some o)) n ∙ ap (λ b. b && true) e
 
-pub step_begins : (code : ℕ → ℕ) (rec : StepRecord) (f : FrameState) → is_nesting rec.kind ≡ true → f.nested ≡ None → step_on code true rec f ≡ begun (laid (inputs_of rec) f)
+pub step_begins : (code : ℕ → ℕ) (rec : StepRecord) (f : FrameState) → is_nesting rec.kind ≡ true → f.nested ≡ None → step_on code true rec f ≡ nested_entry (with_inputs (inputs_of rec) f)
 step_begins code rec f e n = cond-true (begins true rec.kind f) _ _ (begins_now rec f e n)
 
 -- ---- what a planned step is
@@ -170,16 +170,16 @@ one_not : (b : Bool) (u v : FrameTurn) → ((level : ℕ) → u.kind ≢ kind.In
 one_not true u v p q = p
 one_not false u v p q = q
 
-pushed_not : (number value len : ℕ) (f : FrameState) (level : ℕ) → (pushed number value len f).kind ≢ kind.Interrupt level
-unfolding pushed
+pushed_not : (number value len : ℕ) (f : FrameState) (level : ℕ) → (entry_in_frame number value len f).kind ≢ kind.Interrupt level
+unfolding entry_in_frame
 pushed_not number value len f level = λ e. cc
 
-popped_from_not : (frames : List Frame) (a0 : ℕ) (f : FrameState) (level : ℕ) → (popped_from frames a0 f).kind ≢ kind.Interrupt level
+popped_from_not : (frames : List Frame) (a0 : ℕ) (f : FrameState) (level : ℕ) → (return_to_frame frames a0 f).kind ≢ kind.Interrupt level
 popped_from_not [] a0 f level = λ e. cc
 popped_from_not (g ∷ rest) a0 f level = λ e. cc
 
-popped_not : (a0 : ℕ) (f : FrameState) (level : ℕ) → (popped a0 f).kind ≢ kind.Interrupt level
-unfolding popped
+popped_not : (a0 : ℕ) (f : FrameState) (level : ℕ) → (return_in_frame a0 f).kind ≢ kind.Interrupt level
+unfolding return_in_frame
 popped_not a0 f = popped_from_not f.frames a0 f
 
 windowed_not : (step : WindowStep) (len reply : ℕ) (f : FrameState) (level : ℕ) → (windowed_in_frame step len reply f).kind ≢ kind.Interrupt level
@@ -192,24 +192,24 @@ done_not (Windowed step) len reply f = windowed_not step len reply f
 done_not _ len reply f = λ level e. cc
 
 fetched_not : (at : Fetched) (code : ℕ → ℕ) (reply : ℕ) (f : FrameState) (level : ℕ) → (fetched_step at code reply f).kind ≢ kind.Interrupt level
-fetched_not (Fetches i len) code reply f = done_not (outcome_at code i (known f.seen) f.control) len reply f
+fetched_not (Fetches i len) code reply f = done_not (outcome_at code i (value_or_zero f.seen) f.control) len reply f
 fetched_not (Fails address) code reply f = λ level e. cc
 fetched_not SpellsNothing code reply f = λ level e. cc
 
-pub kind_planned : (p : Plan) (code : ℕ → ℕ) (reply : ℕ) (g : FrameState) → IsPlan p code g.control → IsKindOf p (laid_step code reply g).kind
+pub kind_planned : (p : NextEvent) (code : ℕ → ℕ) (reply : ℕ) (g : FrameState) → IsPlan p code g.control → IsKindOf p (step_with_inputs code reply g).kind
 kind_planned (plan.Interrupt level) code reply g k =
     let is = k.0 in
     let low = k.1 in
     ap (λ (u : FrameTurn). u.kind) (step_taken code reply g (lt-ltb 0 (pending_of g.control) (omega (arith, is, low)))) ∙ ap kind.Interrupt is
 kind_planned plan.Waits code reply g k = ap (λ (u : FrameTurn). u.kind) (step_waits code reply g (ap (ltb 0) k.0) k.1)
 kind_planned (plan.Fetched f) code reply g k = λ level e.
-    fetched_not (fetched code g.control.pc) code reply g level (sym (ap (λ (u : FrameTurn). u.kind) (step_fetches code reply g (ap (ltb 0) k.0) k.1)) ∙ e)
+    fetched_not (fetch_at code g.control.pc) code reply g level (sym (ap (λ (u : FrameTurn). u.kind) (step_fetches code reply g (ap (ltb 0) k.0) k.1)) ∙ e)
 
-pub fresh_plain : (fresh : Bool) (code : ℕ → ℕ) (rec : StepRecord) (f : FrameState) → f.nested ≡ None → (laid_step code rec.reply (laid (inputs_of rec) f)).after.nested ≡ None
-    → fresh_on fresh code false rec f ≡ (let g = laid (inputs_of rec) f in let u = laid_step code rec.reply g in
-    fresh_after fresh u.kind (fetched code g.control.pc) g.control.ps u.after.control.ps)
+pub fresh_plain : (fresh : Bool) (code : ℕ → ℕ) (rec : StepRecord) (f : FrameState) → f.nested ≡ None → (step_with_inputs code rec.reply (with_inputs (inputs_of rec) f)).after.nested ≡ None
+    → fresh_on fresh code false rec f ≡ (let g = with_inputs (inputs_of rec) f in let u = step_with_inputs code rec.reply g in
+    fresh_after fresh u.kind (fetch_at code g.control.pc) g.control.ps u.after.control.ps)
 fresh_plain fresh code rec f e kept =
-    let F : FrameTurn → FrameState → FrameState → Bool = λ u s v. fresh_after fresh u.kind (fetched code s.control.pc) (laid (inputs_of rec) s).control.ps v.control.ps in
+    let F : FrameTurn → FrameState → FrameState → Bool = λ u s v. fresh_after fresh u.kind (fetch_at code s.control.pc) (with_inputs (inputs_of rec) s).control.ps v.control.ps in
     let u = plain_turn code (inputs_of rec) f in
     ap (λ (u : FrameTurn). F u (current f) (current u.after)) (step_plain code rec f e)
     ∙ (ap (λ (o : Option Nested). F u (current_in o f) (current u.after)) e

@@ -1,10 +1,10 @@
 -- The callers of a core, which lie on its stack and have room.
 use Rattle.std.proofs.Common.{◌≡◌, ℕ, ◌+◌, ◌-◌, ◌/◌, ◌<◌, ◌≤◌, Option, Some, None, List, [], ◌++◌, sym, ◌∙◌, ap, arith, length, subst}
 use Rattle.xt_frames.specs.declared.view.Caller.{Caller}
-use Rattle.xt_frames.specs.Frames.{known, opening_seen}
+use Rattle.xt_frames.specs.Frames.{value_or_zero, opening_seen}
 use Rattle.std.specs.Prelude.{option_to_list, MatchOption}
 use Rattle.std.proofs.lemmas.List.{length-append}
-use Rattle.xt_frames.specs.Parts.{AreKept, Upper, frames_of, without_newest}
+use Rattle.xt_frames.specs.KeptFrameState.{AreKept, Upper, frames_of, without_newest}
 use Rattle.xt_frames.specs.Stacks.{IsRange, Stack}
 use Rattle.xt_frames.proofs.Newest.{frames_length, frames_none, frames_snoc}
 use Rattle.xt_frames.proofs.Stacked.{chain_depth, chain_top, opening_stack}
@@ -18,8 +18,8 @@ kept_open lo hi v cs capacity r s e room = record {
 pub kept_room : (lo hi : ℕ) (v : Upper) (cs : List Caller) (capacity : ℕ) → AreKept lo hi v cs capacity → length cs < capacity
 kept_room lo hi v cs capacity k =
     let s = k.stack in
-    let top = (chain_top lo hi (known v.seen 1) (frames_of cs) s.range s.chain).1 in
-    let deep = chain_depth lo hi (known v.seen 1) (frames_of cs) s.chain in
+    let top = (chain_top lo hi (value_or_zero v.seen 1) (frames_of cs) s.range s.chain).1 in
+    let deep = chain_depth lo hi (value_or_zero v.seen 1) (frames_of cs) s.chain in
     let l = frames_length cs in
     let room = k.room in
     omega (arith, top, deep, l, room)

@@ -9,7 +9,7 @@ use Rattle.xt_trace.specs.declared.record.StepKind.{StepKind}
 use Rattle.xt_trace.specs.declared.record.StepKind.TheVariants as kind
 use Rattle.xt_trace.specs.declared.record.StepRecord.{StepRecord}
 use Rattle.xt_trace.specs.declared.record.RegWrite.{RegWrite}
-use Rattle.xt_fetch.specs.Fetching.{Fetched, Fetches, Fails, SpellsNothing, fetched}
+use Rattle.xt_fetch.specs.Fetching.{Fetched, Fetches, Fails, SpellsNothing, fetch_at}
 use Rattle.xt_rows.specs.declared.outcome.Outcome.{Outcome}
 use Rattle.xt_rows.specs.declared.outcome.Outcome.TheVariants.{Windowed}
 use Rattle.xt_rows.specs.declared.outcome.WindowStep.{WindowStep}
@@ -17,10 +17,10 @@ use Rattle.xt_rows.specs.declared.outcome.WindowStep.TheVariants.{Enters, Return
 use Rattle.xt_rows.specs.Kinds.{moved_to}
 use Rattle.xt_rows.specs.Outcomes.{outcome_at}
 use Rattle.xt_frames.specs.declared.holes.Nested.{Nested}
-use Rattle.xt_frames.specs.Frames.{Frame, FrameState, all_set, known, opening_frame}
-use Rattle.xt_frames.specs.FrameStep.{FrameTurn, Inputs, done_in_frame, fetched_step, laid, laid_step, popped, popped_from, pushed, windowed_in_frame}
+use Rattle.xt_frames.specs.Frames.{Frame, FrameState, all_set, value_or_zero, opening_frame}
+use Rattle.xt_frames.specs.FrameStep.{FrameTurn, Inputs, done_in_frame, fetched_step, with_inputs, step_with_inputs, return_in_frame, return_to_frame, entry_in_frame, windowed_in_frame}
 use Rattle.xt_frames.specs.Marks.{mark_read, marks_after, unset_by}
-use Rattle.xt_frames.specs.Nesting.{begins, begun, ends_nested, inside, nested_fetched, nested_insn, turn_in, unset_after}
+use Rattle.xt_frames.specs.Nesting.{begins, nested_entry, ends_nested, nested_view, nested_fetched, nested_insn, turn_in, unset_after}
 use Rattle.xt_frames.specs.Breaches.{inputs_of}
 use Rattle.xt_frames.specs.Judging.{step_on, value_in}
 use Rattle.xt_frames.proofs.StackSteps.{turn_if}
@@ -60,16 +60,16 @@ marks_length mark (Some w) marks = length-set marks w.reg mark
 abbrev pub Stays : FrameState → FrameTurn → Type 0
 Stays g u = (u.after.nested ≡ g.nested) × (u.after.unset ≡ g.unset)
 
-pushed_stays : (number value len : ℕ) (g : FrameState) → Stays g (pushed number value len g)
-unfolding pushed
+pushed_stays : (number value len : ℕ) (g : FrameState) → Stays g (entry_in_frame number value len g)
+unfolding entry_in_frame
 pushed_stays number value len g = (refl, refl)
 
-from_stays : (frames : List Frame) (a0 : ℕ) (g : FrameState) → Stays g (popped_from frames a0 g)
+from_stays : (frames : List Frame) (a0 : ℕ) (g : FrameState) → Stays g (return_to_frame frames a0 g)
 from_stays [] a0 g = (refl, refl)
 from_stays (f ∷ rest) a0 g = (refl, refl)
 
-popped_stays : (a0 : ℕ) (g : FrameState) → Stays g (popped a0 g)
-unfolding popped
+popped_stays : (a0 : ℕ) (g : FrameState) → Stays g (return_in_frame a0 g)
+unfolding return_in_frame
 popped_stays a0 g = from_stays g.frames a0 g
 
 windowed_stays : (step : WindowStep) (len reply : ℕ) (g : FrameState) → Stays g (windowed_in_frame step len reply g)
@@ -82,19 +82,19 @@ done_stays (Windowed step) len reply g = windowed_stays step len reply g
 done_stays _ len reply g = (refl, refl)
 
 fetched_stays : (at : Fetched) (code : ℕ → ℕ) (reply : ℕ) (g : FrameState) → Stays g (fetched_step at code reply g)
-fetched_stays (Fetches i len) code reply g = done_stays (outcome_at code i (known g.seen) g.control) len reply g
+fetched_stays (Fetches i len) code reply g = done_stays (outcome_at code i (value_or_zero g.seen) g.control) len reply g
 fetched_stays (Fails address) code reply g = (refl, refl)
 fetched_stays SpellsNothing code reply g = (refl, refl)
 
-pub laid_stays : (code : ℕ → ℕ) (reply : ℕ) (g : FrameState) → Stays g (laid_step code reply g)
-unfolding laid_step
-laid_stays code reply g = turn_if (Stays g) (ltb 0 (pending_of g.control)) _ _ (refl, refl) (turn_if (Stays g) g.control.waits _ _ (refl, refl) (fetched_stays (fetched code g.control.pc) code reply g))
+pub laid_stays : (code : ℕ → ℕ) (reply : ℕ) (g : FrameState) → Stays g (step_with_inputs code reply g)
+unfolding step_with_inputs
+laid_stays code reply g = turn_if (Stays g) (ltb 0 (pending_of g.control)) _ _ (refl, refl) (turn_if (Stays g) g.control.waits _ _ (refl, refl) (fetched_stays (fetch_at code g.control.pc) code reply g))
 
 -- ---- each step
 abbrev LeavesHoles : FrameTurn → Type 0
 LeavesHoles u = HasHoles u.after
 
-begun_holes : (g : FrameState) → length g.unset ≡ 256 → HasHoles (begun g).after
+begun_holes : (g : FrameState) → length g.unset ≡ 256 → HasHoles (nested_entry g).after
 begun_holes g all = record { unset = length-set (set g.unset 181 true) 197 true ∙ (length-set g.unset 181 true ∙ all); marks = refl }
 
 insn_holes : (i : Insn) (value : ℕ) (x : Nested) (f : FrameState) (u : FrameTurn) → length f.unset ≡ 256 → length x.marks ≡ 16 → length u.after.unset ≡ 256 → HasHoles (nested_insn i value x f u).after
@@ -110,20 +110,20 @@ nested_holes SpellsNothing value x f u all wide left = record { unset = left; ma
 
 turn_holes : (n : Option Nested) (code : ℕ → ℕ) (value : ℕ) (inp : Inputs) (f : FrameState) → f.nested ≡ n → length f.unset ≡ 256 → HasMarks n → HasHoles (turn_in n code value inp f).after
 turn_holes None code value inp f e all wide =
-    let g : FrameState = laid inp f in
-    let u : FrameTurn = laid_step code inp.reply g in
+    let g : FrameState = with_inputs inp f in
+    let u : FrameTurn = step_with_inputs code inp.reply g in
     let none : u.after.nested ≡ None = (laid_stays code inp.reply g).0 ∙ e in
     record {
-      unset = after_length u.kind (fetched code g.control.pc) f.unset ∙ all;
+      unset = after_length u.kind (fetch_at code g.control.pc) f.unset ∙ all;
       marks = subst (λ (o : Option Nested). HasMarks o) (sym none) tt;
     }
 turn_holes (Some x) code value inp f e all wide =
-    let g : FrameState = laid inp (inside x f) in
+    let g : FrameState = with_inputs inp (nested_view x f) in
     let left = (laid_stays code inp.reply g).1 in
-    nested_holes (fetched code g.control.pc) value x f (laid_step code inp.reply g) all wide (ap (λ (u : List Bool). length u) left ∙ all)
+    nested_holes (fetch_at code g.control.pc) value x f (step_with_inputs code inp.reply g) all wide (ap (λ (u : List Bool). length u) left ∙ all)
 
 pub step_holes : (code : ℕ → ℕ) (nested : Bool) (rec : StepRecord) (f : FrameState) → HasHoles f → HasHoles (step_on code nested rec f).after
 step_holes code nested rec f k =
     turn_if LeavesHoles (begins nested rec.kind f) _ _
-    (begun_holes (laid (inputs_of rec) f) k.unset)
+    (begun_holes (with_inputs (inputs_of rec) f) k.unset)
     (turn_holes f.nested code (value_in rec.write) (inputs_of rec) f refl k.unset k.marks)

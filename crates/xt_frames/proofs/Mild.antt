@@ -12,31 +12,31 @@ use Rattle.xt_special.specs.declared.ps.Ps.{Ps}
 use Rattle.xt_special.specs.declared.writes.SpecialWrite.{SpecialWrite}
 use Rattle.xt_special.specs.Access.{with_set, with_sets}
 use Rattle.xt_special.specs.Control.{Control, special_of}
-use Rattle.xt_special.specs.Timers.{ticked}
+use Rattle.xt_special.specs.Timers.{after_tick}
 use Rattle.xt_special.proofs.Kept.{ticked_other}
 use Rattle.xt_trace.specs.declared.record.RegWrite.{RegWrite}
 use Rattle.xt_trace.specs.declared.record.StepKind.{StepKind}
 use Rattle.xt_trace.specs.declared.record.StepKind.TheVariants as kind
 use Rattle.xt_trace.specs.declared.record.StepRecord.{StepRecord}
-use Rattle.xt_fetch.specs.Fetching.{Fetched, Fetches, fetched}
-use Rattle.xt_rows.specs.declared.outcome.Awaited.{Awaited}
+use Rattle.xt_fetch.specs.Fetching.{Fetched, Fetches, fetch_at}
+use Rattle.xt_rows.specs.declared.outcome.ReplyTarget.{ReplyTarget}
 use Rattle.xt_rows.specs.declared.outcome.Effect.{Effect}
 use Rattle.xt_rows.specs.declared.outcome.Flow.{Flow}
 use Rattle.xt_rows.specs.declared.outcome.Flow.TheVariants.{Falls, Goes}
 use Rattle.xt_rows.specs.declared.outcome.Outcome.{Outcome}
 use Rattle.xt_rows.specs.declared.outcome.Outcome.TheVariants.{Does, Asks}
 use Rattle.xt_rows.specs.Outcomes.{outcome_at}
-use Rattle.xt_rows.specs.Settling.{after_effect, after_flow, written}
+use Rattle.xt_rows.specs.Settling.{after_effect, after_flow, write_with_reply}
 use Rattle.xt_frames.specs.declared.breach.Limits.{Limits}
-use Rattle.xt_frames.specs.declared.holes.Holes.{Holes}
+use Rattle.xt_frames.specs.declared.holes.UndefinedParts.{UndefinedParts}
 use Rattle.xt_frames.specs.declared.holes.Nested.{Nested}
-use Rattle.xt_frames.specs.Frames.{Frame, FrameState, known, seen_after_write}
-use Rattle.xt_frames.specs.FrameStep.{FrameTurn, done_in_frame, fetched_step, laid_step}
+use Rattle.xt_frames.specs.Frames.{Frame, FrameState, value_or_zero, seen_after_write}
+use Rattle.xt_frames.specs.FrameStep.{FrameTurn, done_in_frame, fetched_step, step_with_inputs}
 use Rattle.xt_frames.specs.Marks.{unset_by}
 use Rattle.xt_frames.specs.Nesting.{unset_after}
 use Rattle.xt_frames.specs.SaveAreas.{Range}
-use Rattle.xt_frames.specs.Breaches.{Test, first_shown, fetched_tests, insn_tests, laid_breach, fresh_after, falls, writes_epc1, is_sp, may_write_sp, is_movsp, other_frame_size, leaves_range, misaligns_sp, opens_nothing, touches_save_area, loads_stale, reads_none_in, reads_unset, loses_epc1, reads_epc1, breaks_nested}
-use Rattle.xt_frames.specs.Parts.{Upper, state_at}
+use Rattle.xt_frames.specs.Breaches.{Test, first_shown, fetched_tests, insn_tests, laid_breach, fresh_after, ends_exception_mode, writes_epc1, is_sp, may_write_sp, is_movsp, other_frame_size, leaves_range, misaligns_sp, opens_nothing, touches_save_area, loads_stale, reads_none_in, reads_unset, loses_epc1, reads_epc1, breaks_nested}
+use Rattle.xt_frames.specs.KeptFrameState.{Upper, state_at}
 use Rattle.xt_frames.specs.Quick.{IsAtRest, IsCommon, IsMade, IsRow, IsRowOr, IsQuick, IsQuickOr, IsTurn, is_mild, sets_vecbase}
 use Rattle.xt_frames.specs.Walked.{bounds_of}
 use Rattle.xt_frames.proofs.Shown.{NoneShown}
@@ -62,7 +62,7 @@ pub record IsKeptBy (c d : Control) : Type 0 where
   pub woe : d.ps.woe ≡ true
   pub vectors : get_or d.special 231 0 ≡ get_or c.special 231 0
 
-pub mild_keeps : (e : Effect) (len : ℕ) (c : Control) → is_mild e ≡ true → IsKeptBy c (ticked (after_effect e len c))
+pub mild_keeps : (e : Effect) (len : ℕ) (c : Control) → is_mild e ≡ true → IsKeptBy c (after_tick (after_effect e len c))
 unfolding after_effect
 mild_keeps e len c h =
     let p = and_parts e.ps.woe _ h in
@@ -80,33 +80,33 @@ mild_keeps e len c h =
 
 -- ---- the turn of an effect
 abbrev after_write : Effect → ℕ → Option RegWrite → Upper → Upper
-after_write e len write v = record { seen = seen_after_write write v.seen; control = ticked (after_effect e len v.control) }
+after_write e len write v = record { seen = seen_after_write write v.seen; control = after_tick (after_effect e len v.control) }
 
-abbrev Turns : Outcome → ℕ → ℕ → Option RegWrite → Holes → Upper → Upper → Type 0
+abbrev Turns : Outcome → ℕ → ℕ → Option RegWrite → UndefinedParts → Upper → Upper → Type 0
 Turns o len reply write h v w = (frames : List Frame) → IsTurn (done_in_frame o len reply (state_at frames h v)) write frames h w
 
-does_turn : (o : Outcome) (e : Effect) (len reply : ℕ) (h : Holes) (v w : Upper) → o ≡ Does e → w ≡ after_write e len e.write v → Turns o len reply e.write h v w
+does_turn : (o : Outcome) (e : Effect) (len reply : ℕ) (h : UndefinedParts) (v w : Upper) → o ≡ Does e → w ≡ after_write e len e.write v → Turns o len reply e.write h v w
 does_turn o e len reply h v w is made =
     let P : Outcome → Type 0 = λ x. Turns x len reply e.write h v w in
     let Q : Upper → Type 0 = λ y. Turns (Does e) len reply e.write h v y in
     subst P (sym is) (subst Q (sym made) (λ frames. record { kind = refl; writes = refl; after = refl }))
 
-asks_turn : (o : Outcome) (access : Access) (awaited : Option Awaited) (e : Effect) (len reply : ℕ) (h : Holes) (v w : Upper) → o ≡ Asks access awaited e → w ≡ after_write e len (written None awaited reply) v → Turns o len reply (written None awaited reply) h v w
+asks_turn : (o : Outcome) (access : Access) (awaited : Option ReplyTarget) (e : Effect) (len reply : ℕ) (h : UndefinedParts) (v w : Upper) → o ≡ Asks access awaited e → w ≡ after_write e len (write_with_reply None awaited reply) v → Turns o len reply (write_with_reply None awaited reply) h v w
 asks_turn o access awaited e len reply h v w is made =
-    let write = written None awaited reply in
+    let write = write_with_reply None awaited reply in
     let P : Outcome → Type 0 = λ x. Turns x len reply write h v w in
     let Q : Upper → Type 0 = λ y. Turns (Asks access awaited e) len reply write h v y in
     subst P (sym is) (subst Q (sym made) (λ frames. record { kind = refl; writes = refl; after = refl }))
 
 -- what is known before a row is made
-pub record IsRead (fresh : Bool) (i : Insn) (rec : StepRecord) (h : Holes) (v : Upper) : Type 0 where
+pub record IsRead (fresh : Bool) (i : Insn) (rec : StepRecord) (h : UndefinedParts) (v : Upper) : Type 0 where
   pub common : IsCommon i
   pub shown : is_sp rec.write ≡ false
   pub reads : (frames : List Frame) → reads_unset i (state_at frames h v) ≡ false
   pub lost : reads_epc1 fresh i ≡ false
 
-row_of : (fresh : Bool) (i : Insn) (len : ℕ) (code : ℕ → ℕ) (rec : StepRecord) (h : Holes) (v w : Upper) (wrote : Option RegWrite) (e : Effect) (write : Option RegWrite)
-    → IsRead fresh i rec h v → IsMade (Some wrote) e len write v w → Turns (outcome_at code i (known v.seen) v.control) len rec.reply write h v w → IsRow fresh i len code rec h wrote v w
+row_of : (fresh : Bool) (i : Insn) (len : ℕ) (code : ℕ → ℕ) (rec : StepRecord) (h : UndefinedParts) (v w : Upper) (wrote : Option RegWrite) (e : Effect) (write : Option RegWrite)
+    → IsRead fresh i rec h v → IsMade (Some wrote) e len write v w → Turns (outcome_at code i (value_or_zero v.seen) v.control) len rec.reply write h v w → IsRow fresh i len code rec h wrote v w
 row_of fresh i len code rec h v w wrote e write k made turns =
     let kept = mild_keeps e len v.control made.0 in
     let row : IsRow fresh i len code rec h write v w = record {
@@ -123,17 +123,17 @@ row_of fresh i len code rec h v w wrote e write k made turns =
     } in
     subst (λ (o : Option RegWrite). IsRow fresh i len code rec h o v w) (sym made.3) row
 
-pub does_row : (made : Option (Option RegWrite)) (fresh : Bool) (i : Insn) (len : ℕ) (code : ℕ → ℕ) (rec : StepRecord) (h : Holes) (v w : Upper) (e : Effect)
-    → IsRead fresh i rec h v → outcome_at code i (known v.seen) v.control ≡ Does e → IsMade made e len e.write v w → IsRowOr made fresh i len code rec h v w
+pub does_row : (made : Option (Option RegWrite)) (fresh : Bool) (i : Insn) (len : ℕ) (code : ℕ → ℕ) (rec : StepRecord) (h : UndefinedParts) (v w : Upper) (e : Effect)
+    → IsRead fresh i rec h v → outcome_at code i (value_or_zero v.seen) v.control ≡ Does e → IsMade made e len e.write v w → IsRowOr made fresh i len code rec h v w
 does_row (Some wrote) fresh i len code rec h v w e k does made = row_of fresh i len code rec h v w wrote e e.write k made (does_turn _ e len rec.reply h v w does made.2)
 does_row None fresh i len code rec h v w e k does made = made
 
-asks_made : (fresh : Bool) (i : Insn) (len : ℕ) (code : ℕ → ℕ) (rec : StepRecord) (h : Holes) (v w : Upper) (wrote : Option RegWrite) (access : Access) (awaited : Option Awaited) (e : Effect)
-    → IsRead fresh i rec h v → outcome_at code i (known v.seen) v.control ≡ Asks access awaited e → IsMade (Some wrote) e len (written None awaited rec.reply) v w → IsRow fresh i len code rec h wrote v w
-asks_made fresh i len code rec h v w wrote access awaited e k asks made = row_of fresh i len code rec h v w wrote e (written None awaited rec.reply) k made (asks_turn _ access awaited e len rec.reply h v w asks made.2)
+asks_made : (fresh : Bool) (i : Insn) (len : ℕ) (code : ℕ → ℕ) (rec : StepRecord) (h : UndefinedParts) (v w : Upper) (wrote : Option RegWrite) (access : Access) (awaited : Option ReplyTarget) (e : Effect)
+    → IsRead fresh i rec h v → outcome_at code i (value_or_zero v.seen) v.control ≡ Asks access awaited e → IsMade (Some wrote) e len (write_with_reply None awaited rec.reply) v w → IsRow fresh i len code rec h wrote v w
+asks_made fresh i len code rec h v w wrote access awaited e k asks made = row_of fresh i len code rec h v w wrote e (write_with_reply None awaited rec.reply) k made (asks_turn _ access awaited e len rec.reply h v w asks made.2)
 
-pub asks_row : (made : Option (Option RegWrite)) (fresh : Bool) (i : Insn) (len : ℕ) (code : ℕ → ℕ) (rec : StepRecord) (h : Holes) (v w : Upper) (access : Access) (awaited : Option Awaited) (e : Effect) (write : Option RegWrite)
-    → write ≡ written None awaited rec.reply → IsRead fresh i rec h v → outcome_at code i (known v.seen) v.control ≡ Asks access awaited e → IsMade made e len write v w → IsRowOr made fresh i len code rec h v w
+pub asks_row : (made : Option (Option RegWrite)) (fresh : Bool) (i : Insn) (len : ℕ) (code : ℕ → ℕ) (rec : StepRecord) (h : UndefinedParts) (v w : Upper) (access : Access) (awaited : Option ReplyTarget) (e : Effect) (write : Option RegWrite)
+    → write ≡ write_with_reply None awaited rec.reply → IsRead fresh i rec h v → outcome_at code i (value_or_zero v.seen) v.control ≡ Asks access awaited e → IsMade made e len write v w → IsRowOr made fresh i len code rec h v w
 asks_row (Some wrote) fresh i len code rec h v w access awaited e write is k asks made = asks_made fresh i len code rec h v w wrote access awaited e k asks (subst (λ (o : Option RegWrite). IsMade (Some wrote) e len o v w) is made)
 asks_row None fresh i len code rec h v w access awaited e write is k asks made = made
 
@@ -156,13 +156,13 @@ no_entry r (insn.Shift (shift.Movsp t s)) f h = absurd cc
 no_entry r _ f h = record { size = refl; low = refl; align = refl; opens = refl; movsp = refl }
 
 -- what is known of the state before a quick step
-pub record IsStill (limits : Limits) (code : ℕ → ℕ) (i : Insn) (len : ℕ) (h : Holes) (v : Upper) : Type 0 where
+pub record IsStill (limits : Limits) (code : ℕ → ℕ) (i : Insn) (len : ℕ) (h : UndefinedParts) (v : Upper) : Type 0 where
   pub plain : h.nested ≡ None
   pub rest : IsAtRest limits v
-  pub at : fetched code v.control.pc ≡ Fetches i len
+  pub at : fetch_at code v.control.pc ≡ Fetches i len
 
-module _ (limits : Limits) (fresh : Bool) (code : ℕ → ℕ) (rec : StepRecord) (h : Holes) (write : Option RegWrite) (v w : Upper) (i : Insn) (len : ℕ) (s : IsStill limits code i len h v) (k : IsRow fresh i len code rec h write v w) (frames : List Frame) where
-  step_is : laid_step code rec.reply (state_at frames h v) ≡ done_in_frame (outcome_at code i (known v.seen) v.control) len rec.reply (state_at frames h v)
+module _ (limits : Limits) (fresh : Bool) (code : ℕ → ℕ) (rec : StepRecord) (h : UndefinedParts) (write : Option RegWrite) (v w : Upper) (i : Insn) (len : ℕ) (s : IsStill limits code i len h v) (k : IsRow fresh i len code rec h write v w) (frames : List Frame) where
+  step_is : step_with_inputs code rec.reply (state_at frames h v) ≡ done_in_frame (outcome_at code i (value_or_zero v.seen) v.control) len rec.reply (state_at frames h v)
   step_is =
       let f = state_at frames h v in
       step_fetches code rec.reply f (ap (ltb 0) s.rest.quiet) s.rest.goes ∙ ap (λ (x : Fetched). fetched_step x code rec.reply f) s.at
@@ -230,7 +230,7 @@ module _ (limits : Limits) (fresh : Bool) (code : ℕ → ℕ) (rec : StepRecord
         ),
       )
 
-  turn_is : IsTurn (laid_step code rec.reply (state_at frames h v)) write frames h w
+  turn_is : IsTurn (step_with_inputs code rec.reply (state_at frames h v)) write frames h w
   turn_is = subst (λ (u : FrameTurn). IsTurn u write frames h w) (sym step_is) (k.turn frames)
 
   none_is : (live stale : ℕ → Bool) → touches_save_area live rec.access ≡ false → loads_stale live stale rec.access ≡ false
@@ -238,14 +238,14 @@ module _ (limits : Limits) (fresh : Bool) (code : ℕ → ℕ) (rec : StepRecord
   none_is live stale saves loads =
       let f = state_at frames h v in
       let b = bounds_of limits in
-      let u = laid_step code rec.reply f in
+      let u = step_with_inputs code rec.reply f in
       breach_fetches b fresh code live stale rec f (ap (ltb 0) s.rest.quiet) s.rest.goes
       ∙ (ap (λ (x : Fetched). first_shown (fetched_tests b fresh live stale x rec f u)) s.at
       ∙ none_of (insn_tests b fresh live stale i rec f u) (tests_shown u live stale turn_is saves loads))
 
-  unset_is : unset_after (laid_step code rec.reply (state_at frames h v)).kind (fetched code v.control.pc) h.unset ≡ h.unset
+  unset_is : unset_after (step_with_inputs code rec.reply (state_at frames h v)).kind (fetch_at code v.control.pc) h.unset ≡ h.unset
   unset_is =
-      ap (λ (n : StepKind). unset_after n (fetched code v.control.pc) h.unset) turn_is.kind
+      ap (λ (n : StepKind). unset_after n (fetch_at code v.control.pc) h.unset) turn_is.kind
       ∙ (ap (λ (x : Fetched). unset_after kind.Insn x h.unset) s.at
       ∙ ap (λ (o : Option (ℕ × ℕ)). unset_by o [] h.unset) k.common.moves)
 
@@ -253,17 +253,17 @@ module _ (limits : Limits) (fresh : Bool) (code : ℕ → ℕ) (rec : StepRecord
   unfolding writes_epc1
   writes_none = k.common.epc1
 
-  kept_is : fresh_after fresh (laid_step code rec.reply (state_at frames h v)).kind (fetched code v.control.pc) v.control.ps w.control.ps ≡ fresh
+  kept_is : fresh_after fresh (step_with_inputs code rec.reply (state_at frames h v)).kind (fetch_at code v.control.pc) v.control.ps w.control.ps ≡ fresh
   kept_is =
       let before = v.control.ps in
       let after = w.control.ps in
-      let no_fall : falls before after ≡ false = and_left _ _ s.rest.excm in
-      ap (λ (n : StepKind). fresh_after fresh n (fetched code v.control.pc) before after) turn_is.kind
+      let no_fall : ends_exception_mode before after ≡ false = and_left _ _ s.rest.excm in
+      ap (λ (n : StepKind). fresh_after fresh n (fetch_at code v.control.pc) before after) turn_is.kind
       ∙ (ap (λ (x : Fetched). fresh_after fresh kind.Insn x before after) s.at
-      ∙ (ap (λ (b : Bool). b || (fresh && not (falls before after))) writes_none
+      ∙ (ap (λ (b : Bool). b || (fresh && not (ends_exception_mode before after))) writes_none
       ∙ (ap (λ (b : Bool). fresh && not b) no_fall ∙ and-true fresh)))
 
-quick_of : (limits : Limits) (fresh : Bool) (code : ℕ → ℕ) (rec : StepRecord) (h : Holes) (write : Option RegWrite) (v w : Upper) (i : Insn) (len : ℕ) → IsStill limits code i len h v → IsRow fresh i len code rec h write v w → IsQuick limits fresh code rec h write v w
+quick_of : (limits : Limits) (fresh : Bool) (code : ℕ → ℕ) (rec : StepRecord) (h : UndefinedParts) (write : Option RegWrite) (v w : Upper) (i : Insn) (len : ℕ) → IsStill limits code i len h v → IsRow fresh i len code rec h write v w → IsQuick limits fresh code rec h write v w
 quick_of limits fresh code rec h write v w i len s k = record {
   i = i;
   len = len;
@@ -276,6 +276,6 @@ quick_of limits fresh code rec h write v w i len s k = record {
   kept = λ frames. kept_is limits fresh code rec h write v w i len s k frames;
 }
 
-pub quick_or : (made : Option (Option RegWrite)) (limits : Limits) (fresh : Bool) (code : ℕ → ℕ) (rec : StepRecord) (h : Holes) (v w : Upper) (i : Insn) (len : ℕ) → IsStill limits code i len h v → IsRowOr made fresh i len code rec h v w → IsQuickOr made limits fresh code rec h v w
+pub quick_or : (made : Option (Option RegWrite)) (limits : Limits) (fresh : Bool) (code : ℕ → ℕ) (rec : StepRecord) (h : UndefinedParts) (v w : Upper) (i : Insn) (len : ℕ) → IsStill limits code i len h v → IsRowOr made fresh i len code rec h v w → IsQuickOr made limits fresh code rec h v w
 quick_or (Some write) limits fresh code rec h v w i len s k = quick_of limits fresh code rec h write v w i len s k
 quick_or None limits fresh code rec h v w i len s k = k

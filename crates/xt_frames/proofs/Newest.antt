@@ -6,7 +6,7 @@ use Rattle.xt_frames.specs.declared.view.Caller.{Caller}
 use Rattle.xt_frames.specs.Backtrace.{a0_in}
 use Rattle.xt_frames.specs.Frames.{Frame}
 use Rattle.xt_frames.specs.SaveAreas.{sp_of}
-use Rattle.xt_frames.specs.Parts.{frame_of, frames_of, newest_of}
+use Rattle.xt_frames.specs.KeptFrameState.{frame_of, frames_of, newest_of}
 use Rattle.xt_frames.specs.Stacks.{IsFrame, AreFrames}
 use Rattle.xt_frames.specs.Walked.{calls_in, sp_in}
 

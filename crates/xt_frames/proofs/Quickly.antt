@@ -2,19 +2,19 @@
 use Rattle.std.proofs.Common.{◌≡◌, ℕ, ◌+◌, ◌&&◌, eqb, Bool, false, Option, Some, None, List, [], refl, sym, ◌∙◌, ap, subst}
 use Rattle.xt_trace.specs.declared.record.RegWrite.{RegWrite}
 use Rattle.xt_trace.specs.declared.record.StepRecord.{StepRecord}
-use Rattle.xt_fetch.specs.Fetching.{fetched}
+use Rattle.xt_fetch.specs.Fetching.{fetch_at}
 use Rattle.xt_frames.specs.declared.breach.Limits.{Limits}
 use Rattle.xt_frames.specs.declared.kinds.BreachKind.{BreachKind}
 use Rattle.std.specs.Prelude.{is_some}
-use Rattle.xt_frames.specs.declared.holes.Holes.{Holes}
+use Rattle.xt_frames.specs.declared.holes.UndefinedParts.{UndefinedParts}
 use Rattle.xt_frames.specs.declared.holes.Nested.{Nested}
 use Rattle.xt_frames.specs.declared.view.Caller.{Caller}
-use Rattle.xt_frames.specs.Frames.{Frame, FrameState, known, seen_after_write}
-use Rattle.xt_frames.specs.FrameStep.{FrameTurn, laid, laid_step}
+use Rattle.xt_frames.specs.Frames.{Frame, FrameState, value_or_zero, seen_after_write}
+use Rattle.xt_frames.specs.FrameStep.{FrameTurn, with_inputs, step_with_inputs}
 use Rattle.xt_frames.specs.Nesting.{unset_after}
 use Rattle.xt_frames.specs.Breaches.{breach_of, inputs_of, laid_breach, touches_save_area, loads_stale, fresh_after}
 use Rattle.xt_frames.specs.Judging.{fresh_on, step_on}
-use Rattle.xt_frames.specs.Parts.{AreKept, Upper, frames_of, state_at}
+use Rattle.xt_frames.specs.KeptFrameState.{AreKept, Upper, frames_of, state_at}
 use Rattle.xt_frames.specs.Stacks.{Moves, Stays, Stack}
 use Rattle.xt_frames.specs.Quick.{IsQuick}
 use Rattle.xt_frames.specs.Walked.{Walked, bounds_of, found_in, fresh_before, walked_past}
@@ -27,12 +27,12 @@ none_is None h = refl
 none_is (Some x) h = absurd cc
 
 -- the inputs of a record lie over v, which gives g, and x is what the step leaves
-pub record IsOver (limits : Limits) (fresh : Bool) (code : ℕ → ℕ) (rec : StepRecord) (h : Holes) (write : Option RegWrite) (v g x : Upper) : Type 0 where
+pub record IsOver (limits : Limits) (fresh : Bool) (code : ℕ → ℕ) (rec : StepRecord) (h : UndefinedParts) (write : Option RegWrite) (v g x : Upper) : Type 0 where
   pub plain : h.nested ≡ None
-  pub over : (frames : List Frame) → state_at frames h g ≡ laid (inputs_of rec) (state_at frames h v)
+  pub over : (frames : List Frame) → state_at frames h g ≡ with_inputs (inputs_of rec) (state_at frames h v)
   pub quick : IsQuick limits fresh code rec h write g x
 
-module _ (limits : Limits) (fresh : Bool) (code : ℕ → ℕ) (rec : StepRecord) (h : Holes) (write : Option RegWrite) (v g x : Upper) (k : IsOver limits fresh code rec h write v g x) where
+module _ (limits : Limits) (fresh : Bool) (code : ℕ → ℕ) (rec : StepRecord) (h : UndefinedParts) (write : Option RegWrite) (v g x : Upper) (k : IsOver limits fresh code rec h write v g x) where
   quick_found : (frames : List Frame) (live dead : ℕ → Bool) → touches_save_area live rec.access ≡ false → loads_stale live dead rec.access ≡ false
       → breach_of (bounds_of limits) fresh code live dead false rec (state_at frames h v) ≡ None
   quick_found frames live dead saves loads =
@@ -43,9 +43,9 @@ module _ (limits : Limits) (fresh : Bool) (code : ℕ → ℕ) (rec : StepRecord
   quick_after : (frames : List Frame) → (step_on code false rec (state_at frames h v)).after ≡ state_at frames h x
   quick_after frames =
       let f = state_at frames h v in
-      let u : FrameTurn = laid_step code rec.reply (state_at frames h g) in
-      let N : FrameState → FrameState = λ s. record (laid_step code rec.reply s).after { unset = unset_after (laid_step code rec.reply s).kind (fetched code s.control.pc) h.unset } in
-      let U : FrameState → FrameState = λ s. record s { unset = unset_after u.kind (fetched code g.control.pc) h.unset } in
+      let u : FrameTurn = step_with_inputs code rec.reply (state_at frames h g) in
+      let N : FrameState → FrameState = λ s. record (step_with_inputs code rec.reply s).after { unset = unset_after (step_with_inputs code rec.reply s).kind (fetch_at code s.control.pc) h.unset } in
+      let U : FrameState → FrameState = λ s. record s { unset = unset_after u.kind (fetch_at code g.control.pc) h.unset } in
       let X : List Bool → FrameState = λ unset. record (state_at frames h x) { unset = unset } in
       ap (λ (t : FrameTurn). t.after) (step_plain code rec f k.plain)
       ∙ (ap N (sym (k.over frames)) ∙ (ap U (k.quick.turn frames).after ∙ ap X (k.quick.unset frames)))
@@ -53,11 +53,11 @@ module _ (limits : Limits) (fresh : Bool) (code : ℕ → ℕ) (rec : StepRecord
   quick_fresh : (frames : List Frame) → fresh_on fresh code false rec (state_at frames h v) ≡ fresh
   quick_fresh frames =
       let f = state_at frames h v in
-      let u : FrameTurn = laid_step code rec.reply (state_at frames h g) in
-      let F : FrameState → Bool = λ s. fresh_after fresh (laid_step code rec.reply s).kind (fetched code s.control.pc) s.control.ps (laid_step code rec.reply s).after.control.ps in
-      let G : FrameState → Bool = λ s. fresh_after fresh u.kind (fetched code g.control.pc) g.control.ps s.control.ps in
-      let nested : (laid_step code rec.reply (laid (inputs_of rec) f)).after.nested ≡ None =
-      ap (λ (s : FrameState). (laid_step code rec.reply s).after.nested) (sym (k.over frames)) ∙ (ap (λ (s : FrameState). s.nested) (k.quick.turn frames).after ∙ k.plain) in
+      let u : FrameTurn = step_with_inputs code rec.reply (state_at frames h g) in
+      let F : FrameState → Bool = λ s. fresh_after fresh (step_with_inputs code rec.reply s).kind (fetch_at code s.control.pc) s.control.ps (step_with_inputs code rec.reply s).after.control.ps in
+      let G : FrameState → Bool = λ s. fresh_after fresh u.kind (fetch_at code g.control.pc) g.control.ps s.control.ps in
+      let nested : (step_with_inputs code rec.reply (with_inputs (inputs_of rec) f)).after.nested ≡ None =
+      ap (λ (s : FrameState). (step_with_inputs code rec.reply s).after.nested) (sym (k.over frames)) ∙ (ap (λ (s : FrameState). s.nested) (k.quick.turn frames).after ∙ k.plain) in
       fresh_plain fresh code rec f k.plain nested
       ∙ (ap F (sym (k.over frames)) ∙ (ap G (k.quick.turn frames).after ∙ k.quick.kept frames))
 
@@ -67,7 +67,7 @@ module _ (limits : Limits) (fresh : Bool) (code : ℕ → ℕ) (rec : StepRecord
       k.quick.row.seen ∙ ap (λ (s : FrameState). seen_after_write write s.seen) (k.over none)
 
   pub quick_moves : (frames : List Frame) → Moves (state_at frames h v) (state_at frames h x)
-  quick_moves frames = Stays refl (ap (λ (s : List (Option ℕ)). known s 1) seen_is ∙ sp_written v.seen write (sp_kept write k.quick.row.free))
+  quick_moves frames = Stays refl (ap (λ (s : List (Option ℕ)). value_or_zero s 1) seen_is ∙ sp_written v.seen write (sp_kept write k.quick.row.free))
 
   pub quick_kept : (lo hi : ℕ) (callers : List Caller) (capacity : ℕ) → AreKept lo hi v callers capacity → AreKept lo hi x callers capacity
   quick_kept lo hi callers capacity a = record {

@@ -12,7 +12,7 @@ use Rattle.xt_special.specs.Control.{special_of}
 use Rattle.xt_trace.specs.declared.record.RegWrite.{RegWrite}
 use Rattle.xt_trace.specs.declared.record.StepRecord.{StepRecord}
 use Rattle.xt_rows.specs.Kinds.{is_entry}
-use Rattle.xt_frames.specs.Frames.{FrameState, known, seen_after_write}
+use Rattle.xt_frames.specs.Frames.{FrameState, value_or_zero, seen_after_write}
 use Rattle.xt_frames.specs.FrameStep.{FrameTurn}
 use Rattle.xt_frames.specs.SaveAreas.{Range}
 use Rattle.xt_frames.specs.Breaches.{Bounds, Test, first_shown, insn_tests, reads_none, is_sp, writes_sp, may_write_sp, other_frame_size, leaves_range, misaligns_sp, opens_nothing, returns_elsewhere, has_no_caller, touches_save_area, loads_stale, names_high, is_windowing, names_window_register, loses_epc1, is_movsp, breaks_nested}
@@ -91,7 +91,7 @@ pub entry_number : (number : ℕ) (size : ℤ) → (range : Range) (g : FrameSta
 unfolding other_frame_size
 entry_number number size range g h = eqb-true _ _ (not-false _ (or_parts (not (eqb number 1)) _ h).0)
 
-pub sp_written : (seen : List (Option ℕ)) (o : Option RegWrite) → KeepsSp o → known (seen_after_write o seen) 1 ≡ known seen 1
+pub sp_written : (seen : List (Option ℕ)) (o : Option RegWrite) → KeepsSp o → value_or_zero (seen_after_write o seen) 1 ≡ value_or_zero seen 1
 sp_written seen None h = refl
 sp_written seen (Some w) h =
     let apart : 1 ≢ w.reg = λ e. h (sym e) in

@@ -3,7 +3,7 @@ use Rattle.std.proofs.Common.{◌≡◌, ℕ, ◌+◌, ◌-◌, ◌*◌, ◌^◌
 use Rattle.std.proofs.Math.ListN.{set}
 use Rattle.std.proofs.lemmas.Bool.{eqb-true, or_parts, ltb-false}
 use Rattle.std.proofs.lemmas.List.{get_or-set_same, length-set, length-append, length-take, length-drop, length-replicate, get_or-take, get_or_append_left}
-use Rattle.xt_frames.specs.Frames.{Frame, seen_after_call, seen_after_return, known, opening_seen}
+use Rattle.xt_frames.specs.Frames.{Frame, seen_after_call, seen_after_return, value_or_zero, opening_seen}
 use Rattle.xt_frames.specs.SaveAreas.{sp_of, before, Area, areas}
 use Rattle.xt_rows.specs.Numbers.{minus}
 use Rattle.xt_frames.specs.Stacks.{AreFrames, Chain, Stack, IsRange, EntersStack, LeavesStack, Rise, AreasRise}
@@ -12,7 +12,7 @@ use Rattle.std.specs.Prelude.{unwrap_or}
 abbrev no_value : Option ℕ
 no_value = None
 
-pub known_is : (seen : List (Option ℕ)) (i v : ℕ) → get_or seen i None ≡ Some v → known seen i ≡ v
+pub known_is : (seen : List (Option ℕ)) (i v : ℕ) → get_or seen i None ≡ Some v → value_or_zero seen i ≡ v
 known_is seen i v e = ap (λ o. unwrap_or o 0) e
 
 -- the stack pointer after ENTRY does not wrap
@@ -32,21 +32,21 @@ enters_stack lo hi seen frames n size k pos small_n small_size frame range align
     let a = length-append (drop (4 * n) seen) (replicate (4 * n) no_value) in
     let t = length-take (4 * n) seen in
     let len : length (seen_after_call seen n) ≡ 16 = omega arith in
-    let sp1 = get_or-set_same (seen_after_call seen n) 1 (Some (minus (known seen 1) size)) None (omega arith) in
-    let at = known_is (set (seen_after_call seen n) 1 (Some (minus (known seen 1) size))) 1 (minus (known seen 1) size) sp1 in
-    let top = chain_top lo hi (known seen 1) frames k.range k.chain in
-    let f1 = or_parts (ltb size 16) (ltb (before hi frames) (known seen 1 + 16 * n)) frame in
-    let f2 = or_parts (ltb (minus (known seen 1) size) (lo + 16)) (ltb hi (minus (known seen 1) size)) range in
+    let sp1 = get_or-set_same (seen_after_call seen n) 1 (Some (minus (value_or_zero seen 1) size)) None (omega arith) in
+    let at = known_is (set (seen_after_call seen n) 1 (Some (minus (value_or_zero seen 1) size))) 1 (minus (value_or_zero seen 1) size) sp1 in
+    let top = chain_top lo hi (value_or_zero seen 1) frames k.range k.chain in
+    let f1 = or_parts (ltb size 16) (ltb (before hi frames) (value_or_zero seen 1 + 16 * n)) frame in
+    let f2 = or_parts (ltb (minus (value_or_zero seen 1) size) (lo + 16)) (ltb hi (minus (value_or_zero seen 1) size)) range in
     let b1 = ltb-false _ _ f1.0 in
     let b2 = ltb-false _ _ f1.1 in
     let b3 = ltb-false _ _ f2.0 in
     let b4 = ltb-false _ _ f2.1 in
-    let down = lower_sp lo hi (known seen 1) size k.range.top top.0 small_size b3 b4 in
-    let old : get_or (take (4 * n) seen) 1 None ≡ Some (known seen 1) = get_or-take (4 * n) seen 1 None (omega arith) ∙ k.sp in
-    let old_sp = known_is (take (4 * n) seen) 1 (known seen 1) old in
+    let down = lower_sp lo hi (value_or_zero seen 1) size k.range.top top.0 small_size b3 b4 in
+    let old : get_or (take (4 * n) seen) 1 None ≡ Some (value_or_zero seen 1) = get_or-take (4 * n) seen 1 None (omega arith) ∙ k.sp in
+    let old_sp = known_is (take (4 * n) seen) 1 (value_or_zero seen 1) old in
     record {
       range = k.range;
-      wide = length-set (seen_after_call seen n) 1 (Some (minus (known seen 1) size)) ∙ len;
+      wide = length-set (seen_after_call seen n) 1 (Some (minus (value_or_zero seen 1) size)) ∙ len;
       shaped = (record { moves = pos; within = small_n; keeps = (let q : length (take (4 * n) seen) ≡ 4 * n = omega arith in q) }, k.shaped);
       sp = rw at sp1;
       chain = rw (at, old_sp) (record { aligned = eqb-true _ _ align; low = b3; under = omega arith; large = rw old_sp b2; kept = rw old_sp old }, k.chain);
@@ -88,8 +88,8 @@ rise_more lo hi sp n (f ∷ fs) r shaped c pos small room =
 
 pub areas_rise : AreasRise
 areas_rise lo hi seen frames k =
-    let t = chain_top lo hi (known seen 1) frames k.range k.chain in
-    rise_from (known seen 1 - 16) lo (areas hi (known seen 1) 1 frames) (omega arith) (rise_more lo hi (known seen 1) 1 frames k.range k.shaped k.chain (omega arith) (omega arith) (omega arith))
+    let t = chain_top lo hi (value_or_zero seen 1) frames k.range k.chain in
+    rise_from (value_or_zero seen 1 - 16) lo (areas hi (value_or_zero seen 1) 1 frames) (omega arith) (rise_more lo hi (value_or_zero seen 1) 1 frames k.range k.shaped k.chain (omega arith) (omega arith) (omega arith))
 
 -- ---- how many frames can stand, and the stack as it opens
 pub chain_depth : (lo hi sp : ℕ) (frames : List Frame) → Chain lo hi sp frames → sp + 16 * length frames + 64 ≤ hi

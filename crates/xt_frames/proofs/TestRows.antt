@@ -7,17 +7,17 @@ use Rattle.xt_map.specs.declared.access.Access.{Access}
 use Rattle.xt_special.specs.Control.{Control}
 use Rattle.xt_special.specs.Interrupts.{pending_of}
 use Rattle.xt_trace.specs.declared.record.StepRecord.{StepRecord}
-use Rattle.xt_fetch.specs.Fetching.{Fetched, Fetches, fetched}
+use Rattle.xt_fetch.specs.Fetching.{Fetched, Fetches, fetch_at}
 use Rattle.xt_codec.specs.declared.fetch.Fetch.{Fetch}
 use Rattle.xt_codec.specs.declared.fetch.Fetch.TheVariants as fetch
 use Rattle.xt_codec.specs.Fetches.{IsFetched}
-use Rattle.xt_frames.specs.declared.view.Plan.{Plan}
-use Rattle.xt_frames.specs.declared.view.Plan.TheVariants as plan
+use Rattle.xt_frames.specs.declared.view.NextEvent.{NextEvent}
+use Rattle.xt_frames.specs.declared.view.NextEvent.TheVariants as plan
 use Rattle.xt_frames.specs.declared.kinds.BreachKind.{BreachKind}
 use Rattle.xt_frames.specs.declared.breach.Tested.{Tested}
 use Rattle.xt_frames.specs.Frames.{FrameState}
 use Rattle.xt_frames.specs.Breaches.{Bounds, test, some_byte, touches_save_area, loads_stale, laid_breach, first_shown, vector_test}
-use Rattle.xt_frames.specs.Parts.{IsPlan, shown_test}
+use Rattle.xt_frames.specs.KeptFrameState.{IsPlan, shown_test}
 
 pub row : {A : Type 0} {x y : A} {xs ys : List A} → x ≡ y → xs ≡ ys → (x ∷ xs) ≡ (y ∷ ys)
 row p q = cc
@@ -47,7 +47,7 @@ pub alone : (b : Bounds) (fresh : Bool) (code : ℕ → ℕ) (live stale : ℕ �
 unfolding laid_breach
 alone b fresh code live stale rec f h = cond-true _ _ _ h
 
-pub quiet : (p : Plan) (code : ℕ → ℕ) (c : Control) → (((x : ℕ) × (p ≡ plan.Interrupt x)) ⊎ (p ≡ plan.Waits)) → IsPlan p code c → (ltb 0 (pending_of c) || c.waits) ≡ true
+pub quiet : (p : NextEvent) (code : ℕ → ℕ) (c : Control) → (((x : ℕ) × (p ≡ plan.Interrupt x)) ⊎ (p ≡ plan.Waits)) → IsPlan p code c → (ltb 0 (pending_of c) || c.waits) ≡ true
 quiet (plan.Interrupt level) code c h k = let e = k.0 in let l = k.1 in or_left _ _ (lt-ltb 0 (pending_of c) (omega (arith, e, l)))
 quiet plan.Waits code c h k = or_right _ _ k.1
 quiet (plan.Fetched f) code c h k = absurd (⊎_elim (λ e. let x = e.1 in cc) (λ e. cc) h)
@@ -58,7 +58,7 @@ fetch_ranges (fetch.Insn j n) f h i len e = let is = h.0 in let same : j ≡ i =
 fetch_ranges (fetch.Fails a) f h i len e = absurd cc
 fetch_ranges fetch.Nothing f h i len e = absurd cc
 
-pub plan_ranges : (p : Plan) (code : ℕ → ℕ) (c : Control) → IsPlan p code c → (i : Insn) (len : ℕ) → ltb 0 (pending_of c) ≡ false → c.waits ≡ false → fetched code c.pc ≡ Fetches i len → in_range i ≡ true
+pub plan_ranges : (p : NextEvent) (code : ℕ → ℕ) (c : Control) → IsPlan p code c → (i : Insn) (len : ℕ) → ltb 0 (pending_of c) ≡ false → c.waits ≡ false → fetch_at code c.pc ≡ Fetches i len → in_range i ≡ true
 plan_ranges (plan.Interrupt level) code c k i len q w e = let is = k.0 in let low = k.1 in absurd (true≢false (sym (lt-ltb 0 (pending_of c) (omega (arith, is, low))) ∙ q))
 plan_ranges plan.Waits code c k i len q w e = absurd (true≢false (sym k.1 ∙ w))
-plan_ranges (plan.Fetched f) code c k i len q w e = fetch_ranges f (fetched code c.pc) k.2 i len e
+plan_ranges (plan.Fetched f) code c k i len q w e = fetch_ranges f (fetch_at code c.pc) k.2 i len e

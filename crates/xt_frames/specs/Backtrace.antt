@@ -4,12 +4,12 @@ use Rattle.std.specs.Prelude.{ℕ, zero, suc, ◌+◌, ◌-◌, ◌==◌, if◌t
 use Rattle.std.specs.Prelude.{List, [], ◌∷◌, length, slice_index_or}
 use Rattle.std.specs.Option.{option_map}
 use Rattle.xt_rows.specs.Settling.{return_pc}
-use Rattle.xt_frames.specs.Frames.{Frame, FrameState, known}
+use Rattle.xt_frames.specs.Frames.{Frame, FrameState, value_or_zero}
 use Rattle.xt_frames.specs.Walked.{sp_in}
 
 -- the stack pointer of frame j
 abbrev pub sp_of_frame : FrameState → ℕ → ℕ
-sp_of_frame f j = sp_in f.frames (known f.seen 1) (length f.frames - j)
+sp_of_frame f j = sp_in f.frames (value_or_zero f.seen 1) (length f.frames - j)
 
 -- the a0 of the frame that stands so many below the newest, whose own a0 is given; none where it
 -- has no value

@@ -30,15 +30,15 @@ use Rattle.xt_trace.specs.declared.record.StepKind.{StepKind}
 use Rattle.xt_trace.specs.declared.record.StepKind.TheVariants as kind
 use Rattle.xt_trace.specs.declared.record.RegWrite.{RegWrite}
 use Rattle.xt_trace.specs.declared.record.StepRecord.{StepRecord}
-use Rattle.xt_fetch.specs.Fetching.{Fetched, Fetches, Fails, SpellsNothing, fetched}
+use Rattle.xt_fetch.specs.Fetching.{Fetched, Fetches, Fails, SpellsNothing, fetch_at}
 use Rattle.xt_rows.specs.Numbers.{minus, natural}
-use Rattle.xt_rows.specs.Operands.{reads, special_reads, named}
+use Rattle.xt_rows.specs.Operands.{reads, special_reads, highest_register}
 unfoldable pub use Rattle.xt_rows.specs.Kinds.{is_return, is_movsp, is_windowing}
 unfoldable pub use Rattle.xt_rows.specs.Kinds.{names_window_register, sets_epc1}
 use Rattle.xt_frames.specs.declared.kinds.BreachKind.{BreachKind}
 use Rattle.xt_frames.specs.declared.kinds.BreachKind.TheVariants as breach
-use Rattle.xt_frames.specs.Frames.{Frame, FrameState, known}
-use Rattle.xt_frames.specs.FrameStep.{Inputs, FrameTurn, laid, laid_step}
+use Rattle.xt_frames.specs.Frames.{Frame, FrameState, value_or_zero}
+use Rattle.xt_frames.specs.FrameStep.{Inputs, FrameTurn, with_inputs, step_with_inputs}
 use Rattle.xt_frames.specs.Marks.{are_own_marks, moves_marks}
 use Rattle.xt_frames.specs.Nesting.{begins, current, disturbs_nested, ends_nested}
 use Rattle.xt_frames.specs.SaveAreas.{Range, before, touches}
@@ -115,17 +115,17 @@ outside lo hi sp = nat_lt sp (lo + 16) || nat_lt hi sp
 unfoldable pub other_frame_size : Range → Insn → FrameState → Bool
 other_frame_size r (insn.Control (control.Entry number size)) f =
     not (number == 1)
-    || small_frame r.hi (known f.seen 1) (natural size) f.control.ps.callinc f.frames
+    || small_frame r.hi (value_or_zero f.seen 1) (natural size) f.control.ps.callinc f.frames
 other_frame_size r i f = false
 
 unfoldable pub leaves_range : Range → Insn → FrameState → Bool
 leaves_range r (insn.Control (control.Entry number size)) f =
-    outside r.lo r.hi (minus (known f.seen 1) (natural size))
+    outside r.lo r.hi (minus (value_or_zero f.seen 1) (natural size))
 leaves_range r i f = false
 
 unfoldable pub misaligns_sp : Insn → FrameState → Bool
 misaligns_sp (insn.Control (control.Entry number size)) f =
-    not (minus (known f.seen 1) (natural size) % 16 == 0)
+    not (minus (value_or_zero f.seen 1) (natural size) % 16 == 0)
 misaligns_sp i f = false
 
 unfoldable pub opens_nothing : Insn → FrameState → Bool
@@ -140,7 +140,7 @@ mismatches [] a0 = false
 mismatches (g ∷ rest) a0 = not ((a0 / 2 ^ 30) == g.by)
 
 abbrev pub returns_elsewhere : Insn → FrameState → Bool
-returns_elsewhere i f = is_return i && mismatches f.frames (known f.seen 0)
+returns_elsewhere i f = is_return i && mismatches f.frames (value_or_zero f.seen 0)
 
 abbrev pub is_empty : List Frame → Bool
 is_empty [] = true
@@ -171,7 +171,7 @@ loads_stale live stale (Some a) =
 -- An instruction names all of its register operands, and a CALL4, CALL8, CALL12 or its X form also
 -- a4, a8 or a12.
 abbrev pub names_high : Insn → FrameState → Bool
-names_high i f = f.control.ps.excm && nat_le 4 (named i)
+names_high i f = f.control.ps.excm && nat_le 4 (highest_register i)
 
 -- the special registers that the frame machine no longer knows: EPC1, where exception mode has
 -- ended since EPC1 was last written
@@ -277,8 +277,8 @@ unfoldable pub laid_breach :
 laid_breach b fresh code live stale rec f =
     if nat_lt 0 (pending_of f.control) || f.control.waits then first_shown (vector_test b f ∷ [])
     else
-    let u = laid_step code rec.reply f in
-    first_shown (fetched_tests b fresh live stale (fetched code f.control.pc) rec f u)
+    let u = step_with_inputs code rec.reply f in
+    first_shown (fetched_tests b fresh live stale (fetch_at code f.control.pc) rec f u)
 
 -- The first breach of a judged step, where `live` and `stale` are the bytes before it, of both
 -- cores, EPC1 has what was last written where `fresh` says so, and the record is nested where
@@ -288,7 +288,7 @@ abbrev pub breach_of :
     → Option BreachKind
 breach_of b fresh code live stale nested rec f =
     if begins nested rec.kind f then None
-    else laid_breach b fresh code live stale rec (laid (inputs_of rec) (current f))
+    else laid_breach b fresh code live stale rec (with_inputs (inputs_of rec) (current f))
 
 -- the first that one core alone shows: any kind but SaveStore and StaleLoad
 abbrev pub own_breach : Bounds → Bool → (ℕ → ℕ) → Bool → StepRecord → FrameState → Option BreachKind
@@ -318,7 +318,7 @@ is_underflow vector = vector == 1 || (vector == 3 || vector == 5)
 
 unfoldable pub window_breach : (ℕ → ℕ) → StepKind → FrameState → Option BreachKind
 window_breach code (kind.Window vector) f =
-    if is_underflow vector then fetched_return_breach (fetched code f.control.pc) f else None
+    if is_underflow vector then fetched_return_breach (fetch_at code f.control.pc) f else None
 window_breach code k f = None
 
 -- ---- EPC1
@@ -335,13 +335,13 @@ writes_epc1 kind.Insn at ps = fetched_sets_epc1 at
 writes_epc1 _ at ps = false
 
 -- exception mode ends
-abbrev pub falls : Ps → Ps → Bool
-falls before after = before.excm && not after.excm
+abbrev pub ends_exception_mode : Ps → Ps → Bool
+ends_exception_mode before after = before.excm && not after.excm
 
 -- EPC1 has what was last written, after the step
 abbrev pub fresh_after : Bool → StepKind → Fetched → Ps → Ps → Bool
 fresh_after fresh kind at before after =
-    writes_epc1 kind at before || (fresh && not (falls before after))
+    writes_epc1 kind at before || (fresh && not (ends_exception_mode before after))
 
 -- ---- stale bytes: where a save area is gone, until a judged store touches the byte
 -- A S32C1I is no store here: it shows a breach where it touches a stale byte.

@@ -20,11 +20,11 @@ use Rattle.xt_map.specs.declared.access.Entry.{Entry}
 use Rattle.xt_map.specs.Touching.{is_store, touches}
 use Rattle.xt_trace.specs.declared.record.StepKind.{StepKind}
 use Rattle.xt_trace.specs.declared.record.StepRecord.{StepRecord}
-use Rattle.xt_fetch.specs.Fetching.{fetched}
+use Rattle.xt_fetch.specs.Fetching.{fetch_at}
 use Rattle.xt_frames.specs.declared.kinds.Breach.{Breach}
 use Rattle.xt_frames.specs.declared.kinds.BreachKind.{BreachKind}
 use Rattle.xt_frames.specs.Frames.{FrameState}
-use Rattle.xt_frames.specs.FrameStep.{FrameTurn, laid}
+use Rattle.xt_frames.specs.FrameStep.{FrameTurn, with_inputs}
 use Rattle.xt_frames.specs.Nesting.{current, is_nesting}
 use Rattle.xt_frames.specs.SaveAreas.{is_live}
 use Rattle.xt_frames.specs.HandlerSteps.{Mode, Plain, Handles, Nests, is_window, mode_after}
@@ -146,20 +146,20 @@ pub record IsStale (r : Course) (p a : ℕ) : Type 0 where
 -- ---- EPC1
 
 -- the frame state before turn i, with the inputs of its record
-abbrev pub given : Course → ℕ → ℕ → StepRecord → FrameState
-given r i core rec = laid (inputs_of rec) (current (frame_before r core i))
+abbrev pub frame_with_inputs : Course → ℕ → ℕ → StepRecord → FrameState
+frame_with_inputs r i core rec = with_inputs (inputs_of rec) (current (frame_before r core i))
 
 -- exception mode ends at the frame machine's step
 abbrev pub EndsMode : Course → ℕ → ℕ → StepRecord → Type 0
 EndsMode r i core rec =
-    ((given r i core rec).control.ps.excm ≡ true)
+    ((frame_with_inputs r i core rec).control.ps.excm ≡ true)
     × ((current (step_at r i core rec).after).control.ps.excm ≡ false)
 
 -- the step writes EPC1
 abbrev pub writes_at : Course → ℕ → ℕ → StepRecord → Bool
 writes_at r i core rec =
-    let f = given r i core rec in
-    writes_epc1 (step_at r i core rec).kind (fetched r.code f.control.pc) f.control.ps
+    let f = frame_with_inputs r i core rec in
+    writes_epc1 (step_at r i core rec).kind (fetch_at r.code f.control.pc) f.control.ps
 
 -- turn i is no judged step of the core that writes EPC1
 abbrev pub LeavesEpc1 : Course → ℕ → ℕ → Type 0
@@ -180,7 +180,8 @@ pub record IsLost (r : Course) (core p : ℕ) : Type 0 where
 
 -- the record of a window exception is tested in the plain mode; any other handler step shows nothing
 abbrev pub handler_shows : (ℕ → ℕ) → Mode → StepRecord → FrameState → Option BreachKind
-handler_shows code Plain rec f = window_breach code rec.kind (laid (inputs_of rec) (current f))
+handler_shows code Plain rec f =
+    window_breach code rec.kind (with_inputs (inputs_of rec) (current f))
 handler_shows code Handles rec f = None
 handler_shows code Nests rec f = None
 

@@ -10,7 +10,7 @@ use Rattle.std.specs.Prelude.{ℕ, ◌*◌, nat_lt, if◌then◌else◌, Option,
 use Rattle.std.specs.Prelude.{slice_set, take}
 use Rattle.xt_map.specs.declared.access.Access.{Access}
 use Rattle.xt_special.specs.Numbers as number
-use Rattle.xt_special.specs.Timers.{ticked}
+use Rattle.xt_special.specs.Timers.{after_tick}
 use Rattle.xt_special.specs.Interrupts.{pending_of}
 use Rattle.xt_trace.specs.declared.record.StepKind.{StepKind}
 use Rattle.xt_trace.specs.declared.record.StepKind.TheVariants as kind
@@ -20,12 +20,14 @@ use Rattle.xt_rows.specs.declared.outcome.WindowStep.{WindowStep}
 use Rattle.xt_rows.specs.declared.outcome.WindowStep.TheVariants.{Enters, Returns}
 use Rattle.xt_rows.specs.declared.outcome.Outcome.{Outcome}
 use Rattle.xt_rows.specs.declared.outcome.Outcome.TheVariants.{Windowed}
-use Rattle.xt_fetch.specs.Fetching.{Fetched, Fetches, Fails, SpellsNothing, fetched}
+use Rattle.xt_fetch.specs.Fetching.{Fetched, Fetches, Fails, SpellsNothing, fetch_at}
 use Rattle.xt_rows.specs.Effects.{illegal_instruction, fetch_error, write_to}
 use Rattle.xt_rows.specs.Outcomes.{outcome_at}
-use Rattle.xt_rows.specs.Settling.{Settled, after_flow, settled, settled_exception}
-use Rattle.xt_rows.specs.Settling.{settled_interrupt, settled_wait, kind_of, written, return_pc}
-use Rattle.xt_frames.specs.Frames.{Frame, FrameState, known, seen_after_call, seen_after_return}
+use Rattle.xt_rows.specs.Settling.{Settled, after_flow, after_outcome, settled_exception}
+use Rattle.xt_rows.specs.Settling.{settled_interrupt, settled_wait, kind_of, write_with_reply}
+use Rattle.xt_rows.specs.Settling.{return_pc}
+use Rattle.xt_frames.specs.Frames.{Frame, FrameState, value_or_zero, seen_after_call}
+use Rattle.xt_frames.specs.Frames.{seen_after_return}
 use Rattle.xt_frames.specs.Frames.{seen_after_write}
 
 -- what the frame machine is told of a judged record: CCOUNT, INTERRUPT and PS.OWB as its turn
@@ -43,8 +45,8 @@ pub record FrameTurn : Type 0 where
   pub after : FrameState
 
 -- the state with its inputs laid over it
-abbrev pub laid : Inputs → FrameState → FrameState
-laid inp f = record f {
+abbrev pub with_inputs : Inputs → FrameState → FrameState
+with_inputs inp f = record f {
   control = record f.control {
     special =
         slice_set
@@ -58,7 +60,7 @@ laid inp f = record f {
 -- what the processor's rows, exceptions and interrupts leave, over the 16 registers
 abbrev pub in_frame : Settled → ℕ → FrameState → FrameTurn
 in_frame t reply f =
-    let write = written t.write t.awaited reply in
+    let write = write_with_reply t.write t.awaited reply in
     record {
       kind = kind_of t.kind;
       write = write;
@@ -66,13 +68,13 @@ in_frame t reply f =
       after = record f { seen = seen_after_write write f.seen; control = t.control };
     }
 
-abbrev pub raised : ℕ → Option ℕ → FrameState → FrameTurn
-raised cause address f = in_frame (settled_exception cause address f.control) 0 f
+abbrev pub exception_in_frame : ℕ → Option ℕ → FrameState → FrameTurn
+exception_in_frame cause address f = in_frame (settled_exception cause address f.control) 0 f
 
 -- ENTRY: the caller is kept with its registers a0 to a(4n-1), and the callee's register receives
 -- the value, its stack pointer
-unfoldable pub pushed : ℕ → ℕ → ℕ → FrameState → FrameTurn
-pushed number value len f =
+unfoldable pub entry_in_frame : ℕ → ℕ → ℕ → FrameState → FrameTurn
+entry_in_frame number value len f =
     let n = f.control.ps.callinc in
     record {
       kind = kind.Insn;
@@ -81,50 +83,52 @@ pushed number value len f =
       after = record f {
         seen = slice_set (seen_after_call f.seen n) number (Some value);
         frames = record { by = n; kept = take (4 * n) f.seen } ∷ f.frames;
-        control = ticked (after_flow Falls len f.control);
+        control = after_tick (after_flow Falls len f.control);
       };
     }
 
 -- RETW: the newest caller's registers come back; where there is no caller it is a breach
-abbrev pub popped_from : List Frame → ℕ → FrameState → FrameTurn
-popped_from [] a0 f = raised illegal_instruction None f
-popped_from (g ∷ rest) a0 f = record {
+abbrev pub return_to_frame : List Frame → ℕ → FrameState → FrameTurn
+return_to_frame [] a0 f = exception_in_frame illegal_instruction None f
+return_to_frame (g ∷ rest) a0 f = record {
   kind = kind.Insn;
   write = None;
   access = None;
   after = record f {
     seen = seen_after_return g.kept f.seen g.by;
     frames = rest;
-    control = ticked (record f.control { pc = return_pc f.control.pc a0 });
+    control = after_tick (record f.control { pc = return_pc f.control.pc a0 });
   };
 }
 
-unfoldable pub popped : ℕ → FrameState → FrameTurn
-popped a0 f = popped_from f.frames a0 f
+unfoldable pub return_in_frame : ℕ → FrameState → FrameTurn
+return_in_frame a0 f = return_to_frame f.frames a0 f
 
 -- in exception mode ENTRY and RETW are illegal
 abbrev pub windowed_in_frame : WindowStep → ℕ → ℕ → FrameState → FrameTurn
 windowed_in_frame (Enters number value) len reply f =
-    if f.control.ps.excm then raised illegal_instruction None f else pushed number value len f
+    if f.control.ps.excm then exception_in_frame illegal_instruction None f
+    else entry_in_frame number value len f
 windowed_in_frame (Returns a0) len reply f =
-    if f.control.ps.excm then raised illegal_instruction None f else popped a0 f
-windowed_in_frame step len reply f = in_frame (settled (Windowed step) len f.control) reply f
+    if f.control.ps.excm then exception_in_frame illegal_instruction None f
+    else return_in_frame a0 f
+windowed_in_frame step len reply f = in_frame (after_outcome (Windowed step) len f.control) reply f
 
 abbrev pub done_in_frame : Outcome → ℕ → ℕ → FrameState → FrameTurn
 done_in_frame (Windowed step) len reply f = windowed_in_frame step len reply f
-done_in_frame o len reply f = in_frame (settled o len f.control) reply f
+done_in_frame o len reply f = in_frame (after_outcome o len f.control) reply f
 
 abbrev pub fetched_step : Fetched → (ℕ → ℕ) → ℕ → FrameState → FrameTurn
-fetched_step (Fails address) code reply f = raised fetch_error (Some address) f
-fetched_step SpellsNothing code reply f = raised illegal_instruction None f
+fetched_step (Fails address) code reply f = exception_in_frame fetch_error (Some address) f
+fetched_step SpellsNothing code reply f = exception_in_frame illegal_instruction None f
 fetched_step (Fetches i len) code reply f =
-    done_in_frame (outcome_at code i (known f.seen) f.control) len reply f
+    done_in_frame (outcome_at code i (value_or_zero f.seen) f.control) len reply f
 
 -- the step of a state over which the inputs are laid: the interrupt comes first, then waiting, then
 -- the instruction
-unfoldable pub laid_step : (ℕ → ℕ) → ℕ → FrameState → FrameTurn
-laid_step code reply f =
+unfoldable pub step_with_inputs : (ℕ → ℕ) → ℕ → FrameState → FrameTurn
+step_with_inputs code reply f =
     let level = pending_of f.control in
     if nat_lt 0 level then in_frame (settled_interrupt level f.control) reply f
     else (if f.control.waits then in_frame (settled_wait f.control) reply f
-    else fetched_step (fetched code f.control.pc) code reply f)
+    else fetched_step (fetch_at code f.control.pc) code reply f)

@@ -31,13 +31,13 @@ pub record FrameState : Type 0 where
   pub nested : Option Nested
 
 -- the value of a visible register, 0 where it has none
-abbrev pub known : List (Option ℕ) → ℕ → ℕ
-known seen i = unwrap_or (slice_index_or seen i None) 0
+abbrev pub value_or_zero : List (Option ℕ) → ℕ → ℕ
+value_or_zero seen i = unwrap_or (slice_index_or seen i None) 0
 
 -- by how many windows the calls of these frames moved
-abbrev pub moved : List Frame → ℕ
-moved [] = 0
-moved (f ∷ fs) = f.by + moved fs
+abbrev pub windows_moved : List Frame → ℕ
+windows_moved [] = 0
+windows_moved (f ∷ fs) = f.by + windows_moved fs
 
 -- the callee's registers: the caller's from a(4n) on, then as many that have no value
 abbrev pub seen_after_call : List (Option ℕ) → ℕ → List (Option ℕ)

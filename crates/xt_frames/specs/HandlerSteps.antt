@@ -12,7 +12,7 @@ use Rattle.xt_isa.specs.declared.system.ReturnName.TheVariants as ReturnName
 use Rattle.xt_trace.specs.declared.record.StepKind.{StepKind}
 use Rattle.xt_trace.specs.declared.record.StepKind.TheVariants as kind
 use Rattle.xt_trace.specs.declared.record.StepRecord.{StepRecord}
-use Rattle.xt_fetch.specs.Fetching.{Fetched, Fetches, Fails, SpellsNothing, fetched}
+use Rattle.xt_fetch.specs.Fetching.{Fetched, Fetches, Fails, SpellsNothing, fetch_at}
 use Rattle.xt_frames.specs.Nesting.{ends_nested, is_nesting}
 
 -- The mode before a record: in the plain mode a record of kind Window is a handler step; in the
@@ -39,7 +39,7 @@ is_window _ = false
 
 -- a record of kind Insn whose instruction is RFWO or RFWU, by the bytes at the record's PC
 abbrev pub closes : (ℕ → ℕ) → StepKind → ℕ → Bool
-closes code kind.Insn pc = fetched_ends (fetched code pc)
+closes code kind.Insn pc = fetched_ends (fetch_at code pc)
 closes code _ pc = false
 
 -- a record of kind Insn whose instruction is RFI 5
@@ -49,7 +49,7 @@ fetched_returns (Fails address) = false
 fetched_returns SpellsNothing = false
 
 abbrev pub returns : (ℕ → ℕ) → StepKind → ℕ → Bool
-returns code kind.Insn pc = fetched_returns (fetched code pc)
+returns code kind.Insn pc = fetched_returns (fetch_at code pc)
 returns code _ pc = false
 
 abbrev pub mode_after : (ℕ → ℕ) → Mode → StepRecord → Mode

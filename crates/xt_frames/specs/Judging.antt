@@ -2,10 +2,10 @@
 use Rattle.std.specs.Prelude.{ℕ, Bool, true, false, ◌||◌, if◌then◌else◌, Option, Some, None}
 use Rattle.xt_trace.specs.declared.record.RegWrite.{RegWrite}
 use Rattle.xt_trace.specs.declared.record.StepRecord.{StepRecord}
-use Rattle.xt_fetch.specs.Fetching.{fetched}
+use Rattle.xt_fetch.specs.Fetching.{fetch_at}
 use Rattle.xt_frames.specs.declared.kinds.BreachKind.{BreachKind}
 use Rattle.xt_frames.specs.Frames.{FrameState}
-use Rattle.xt_frames.specs.FrameStep.{FrameTurn, laid}
+use Rattle.xt_frames.specs.FrameStep.{FrameTurn, with_inputs}
 use Rattle.xt_frames.specs.Nesting.{begins, current, frame_step, is_nesting}
 use Rattle.xt_frames.specs.SaveAreas.{is_live}
 use Rattle.xt_frames.specs.HandlerSteps.{Mode, Plain, Handles, Nests, is_window}
@@ -39,8 +39,8 @@ fresh_on fresh code nested rec f =
     fresh_after
     fresh
     u.kind
-    (fetched code (current f).control.pc)
-    (laid (inputs_of rec) (current f)).control.ps
+    (fetch_at code (current f).control.pc)
+    (with_inputs (inputs_of rec) (current f)).control.ps
     (current u.after).control.ps
 
 -- what the judge knows of one core
@@ -101,11 +101,11 @@ abbrev pub seen_plain :
 seen_plain code b standing others stale rec =
     let f = standing.frame in
     if is_window rec.kind
-    then seen_window (window_breach code rec.kind (laid (inputs_of rec) (current f))) f
+    then seen_window (window_breach code rec.kind (with_inputs (inputs_of rec) (current f))) f
     else seen_judged code b standing others stale false rec
 
-abbrev pub handled : (ℕ → ℕ) → Standing → StepRecord → Seen
-handled code standing rec =
+abbrev pub handled_record : (ℕ → ℕ) → Standing → StepRecord → Seen
+handled_record code standing rec =
     Handled (record {
       frame = standing.frame;
       fresh = false;
@@ -117,9 +117,10 @@ abbrev pub seen_in :
 seen_in Plain code b standing others stale rec = seen_plain code b standing others stale rec
 seen_in Handles code b standing others stale rec =
     if is_nesting rec.kind then seen_judged code b standing others stale true rec
-    else handled code standing rec
+    else handled_record code standing rec
 seen_in Nests code b standing others stale rec = seen_judged code b standing others stale true rec
 
 -- one record of a core
-abbrev pub seen : (ℕ → ℕ) → Bounds → Standing → (ℕ → Bool) → (ℕ → Bool) → StepRecord → Seen
-seen code b standing others stale rec = seen_in standing.mode code b standing others stale rec
+abbrev pub seen_record : (ℕ → ℕ) → Bounds → Standing → (ℕ → Bool) → (ℕ → Bool) → StepRecord → Seen
+seen_record code b standing others stale rec =
+    seen_in standing.mode code b standing others stale rec

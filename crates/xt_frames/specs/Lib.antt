@@ -11,7 +11,7 @@ pub mod Judging
 pub mod Verdict
 pub mod FirstBreach
 pub mod Stacks
-pub mod Parts
+pub mod KeptFrameState
 pub mod Walked
 pub mod Backtrace
 pub mod Stepped

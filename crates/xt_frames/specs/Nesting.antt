@@ -6,14 +6,14 @@
 -- Profile: `Marks` is one page: where marks stand and how they are moved. `Nesting` has the
 -- interrupt of level 5 in the middle of a window handler, whose steps move them. `nested` has its
 -- PC, registers, PS and marks, and the state's own fields are those that are kept, so save areas
--- need no case. A step in it is `laid_step` of the state `inside`, with the numbers that are known,
--- and then the marks are moved. No step there changes the frames (`keeping`), since ENTRY and RETW
--- are illegal in exception mode. `unset` says which special registers have no number; one that
--- holds a mark has none, so nothing is left to do at RFI 5 but to forget the marks.
--- Note: a special register without a number has some number in `control.special`, which nothing may
--- read, since that is Unset. EPC5 and EPS5 have the kept PC and PS there, as the interrupt's own
--- formula puts them; so the row of RFI 5 gives them back, and a step that is tested for WoeCleared
--- leaves the kept PS.
+-- need no case. A step in it is `step_with_inputs` of the state `nested_view`, with the numbers
+-- that are known, and then the marks are moved. No step there changes the frames
+-- (`with_kept_frame`), since ENTRY and RETW are illegal in exception mode. `unset` says which
+-- special registers have no number; one that holds a mark has none, so nothing is left to do at RFI
+-- 5 but to forget the marks. Note: a special register without a number has some number in
+-- `control.special`, which nothing may read, since that is Unset. EPC5 and EPS5 have the kept PC
+-- and PS there, as the interrupt's own formula puts them; so the row of RFI 5 gives them back, and
+-- a step that is tested for WoeCleared leaves the kept PS.
 use Rattle.std.specs.Prelude.{ℕ, Bool, true, false, ◌==◌, ◌&&◌, ◌||◌, not, if◌then◌else◌, Option}
 use Rattle.std.specs.Prelude.{Some, None, List, [], is_some, replicate, slice_set}
 use Rattle.xt_isa.specs.declared.Insn.{Insn}
@@ -24,14 +24,14 @@ use Rattle.xt_isa.specs.declared.system.SpecialName.TheVariants as SpecialName
 use Rattle.xt_special.specs.Numbers as number
 use Rattle.xt_trace.specs.declared.record.StepKind.{StepKind}
 use Rattle.xt_trace.specs.declared.record.StepKind.TheVariants as kind
-use Rattle.xt_fetch.specs.Fetching.{Fetched, Fetches, Fails, SpellsNothing, fetched}
+use Rattle.xt_fetch.specs.Fetching.{Fetched, Fetches, Fails, SpellsNothing, fetch_at}
 use Rattle.xt_rows.specs.Numbers.{natural}
 use Rattle.xt_rows.specs.Settling.{settled_interrupt}
 use Rattle.xt_frames.specs.declared.holes.Nested.{Nested}
 use Rattle.xt_frames.specs.Frames.{FrameState}
 use Rattle.xt_frames.specs.Marks.{mark_read, marked_seen, marked_write, marks_after, moved_to}
 use Rattle.xt_frames.specs.Marks.{own_marks, saved_by, unset_written}
-use Rattle.xt_frames.specs.FrameStep.{Inputs, FrameTurn, in_frame, laid, laid_step}
+use Rattle.xt_frames.specs.FrameStep.{Inputs, FrameTurn, in_frame, with_inputs, step_with_inputs}
 
 -- ---- what may be done
 
@@ -62,12 +62,12 @@ disturbs_nested _ = false
 -- ---- the state in a nested interrupt
 
 -- PC, registers and PS of the interrupt, in place of those that are kept
-abbrev pub inside : Nested → FrameState → FrameState
-inside x f = record f { seen = x.seen; control = record f.control { pc = x.pc; ps = x.ps } }
+abbrev pub nested_view : Nested → FrameState → FrameState
+nested_view x f = record f { seen = x.seen; control = record f.control { pc = x.pc; ps = x.ps } }
 
 abbrev pub current_in : Option Nested → FrameState → FrameState
 current_in None f = f
-current_in (Some x) f = inside x f
+current_in (Some x) f = nested_view x f
 
 -- what the next step finds
 abbrev pub current : FrameState → FrameState
@@ -75,8 +75,8 @@ current f = current_in f.nested f
 
 -- What a step has left, but for PC, registers, frames and PS, which are kept. Exception mode is
 -- set in a nested interrupt, so ENTRY and RETW are illegal there, and no step changes the frames.
-abbrev pub keeping : FrameState → FrameState → FrameState
-keeping f after = record after {
+abbrev pub with_kept_frame : FrameState → FrameState → FrameState
+with_kept_frame f after = record after {
   seen = f.seen;
   frames = f.frames;
   control = record after.control { pc = f.control.pc; ps = f.control.ps };
@@ -88,7 +88,7 @@ keeping f after = record after {
 -- have none, since the processor's hold the window handler's PC and PS.
 abbrev pub begun_with : FrameState → FrameTurn → FrameTurn
 begun_with f u = record u {
-  after = record (keeping f u.after) {
+  after = record (with_kept_frame f u.after) {
     unset =
         slice_set
         (slice_set f.unset (number.epc nested_level) true)
@@ -105,8 +105,8 @@ begun_with f u = record u {
 }
 
 -- of a state over which the inputs are laid
-abbrev pub begun : FrameState → FrameTurn
-begun f = begun_with f (in_frame (settled_interrupt nested_level f.control) 0 f)
+abbrev pub nested_entry : FrameState → FrameTurn
+nested_entry f = begun_with f (in_frame (settled_interrupt nested_level f.control) 0 f)
 
 -- ---- outside nested interrupts
 
@@ -120,10 +120,10 @@ unset_after _ at unset = unset
 
 abbrev pub plain_turn : (ℕ → ℕ) → Inputs → FrameState → FrameTurn
 plain_turn code inp f =
-    let g = laid inp f in
-    let u = laid_step code inp.reply g in
+    let g = with_inputs inp f in
+    let u = step_with_inputs code inp.reply g in
     record u {
-      after = record u.after { unset = unset_after u.kind (fetched code g.control.pc) f.unset };
+      after = record u.after { unset = unset_after u.kind (fetch_at code g.control.pc) f.unset };
     }
 
 -- ---- a step in a nested interrupt
@@ -140,11 +140,11 @@ nested_after i mark x u = record {
 -- RFI 5 puts back what is kept. A special register that holds a mark has no number then.
 abbrev pub nested_insn : Insn → ℕ → Nested → FrameState → FrameTurn → FrameTurn
 nested_insn i value x f u =
-    if ends_nested i then record u { after = record (keeping f u.after) { nested = None } }
+    if ends_nested i then record u { after = record (with_kept_frame f u.after) { nested = None } }
     else let mark = mark_read i x.saved in
     record u {
       write = marked_write mark value u.write;
-      after = record (keeping f u.after) {
+      after = record (with_kept_frame f u.after) {
         unset = unset_written i x.marks f.unset;
         nested = Some (nested_after i mark x u);
       };
@@ -153,7 +153,7 @@ nested_insn i value x f u =
 -- what is left where no instruction is fetched, which is a breach
 abbrev pub nested_other : Nested → FrameState → FrameTurn → FrameTurn
 nested_other x f u = record u {
-  after = record (keeping f u.after) {
+  after = record (with_kept_frame f u.after) {
     nested = Some (record x {
       pc = u.after.control.pc;
       seen = u.after.seen;
@@ -171,8 +171,8 @@ nested_fetched SpellsNothing value x f u = nested_other x f u
 -- `value` is that of the written register in the record
 abbrev pub nested_turn : (ℕ → ℕ) → ℕ → Inputs → Nested → FrameState → FrameTurn
 nested_turn code value inp x f =
-    let g = laid inp (inside x f) in
-    nested_fetched (fetched code g.control.pc) value x f (laid_step code inp.reply g)
+    let g = with_inputs inp (nested_view x f) in
+    nested_fetched (fetch_at code g.control.pc) value x f (step_with_inputs code inp.reply g)
 
 -- ---- the step of the machine
 
@@ -191,4 +191,4 @@ begins nested kind f = nested && (is_nesting kind && not (is_some f.nested))
 
 abbrev pub frame_step : (ℕ → ℕ) → Bool → ℕ → Inputs → FrameState → FrameTurn
 frame_step code begins value inp f =
-    if begins then begun (laid inp f) else turn_in f.nested code value inp f
+    if begins then nested_entry (with_inputs inp f) else turn_in f.nested code value inp f

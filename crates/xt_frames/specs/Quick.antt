@@ -9,19 +9,19 @@ use Rattle.xt_special.specs.declared.writes.SpecialWrite.{SpecialWrite}
 use Rattle.xt_special.specs.Control.{special_of}
 use Rattle.xt_special.specs.Interrupts.{pending_of}
 use Rattle.xt_special.specs.Numbers as number
-use Rattle.xt_special.specs.Timers.{ticked}
+use Rattle.xt_special.specs.Timers.{after_tick}
 use Rattle.xt_trace.specs.declared.record.RegWrite.{RegWrite}
 use Rattle.xt_trace.specs.declared.record.StepKind.TheVariants as kind
 use Rattle.xt_trace.specs.declared.record.StepRecord.{StepRecord}
-use Rattle.xt_fetch.specs.Fetching.{Fetches, fetched}
+use Rattle.xt_fetch.specs.Fetching.{Fetches, fetch_at}
 use Rattle.xt_rows.specs.declared.outcome.Effect.{Effect}
-use Rattle.xt_rows.specs.Laws.{IsAny, IsProperWrite}
+use Rattle.xt_rows.specs.RowLaws.{IsAny, IsProperWrite}
 use Rattle.xt_rows.specs.Outcomes.{outcome_at}
 use Rattle.xt_rows.specs.Settling.{after_effect}
 use Rattle.xt_frames.specs.declared.breach.Limits.{Limits}
-use Rattle.xt_frames.specs.declared.holes.Holes.{Holes}
-use Rattle.xt_frames.specs.Frames.{Frame, FrameState, known, seen_after_write}
-use Rattle.xt_frames.specs.FrameStep.{FrameTurn, done_in_frame, laid_step}
+use Rattle.xt_frames.specs.declared.holes.UndefinedParts.{UndefinedParts}
+use Rattle.xt_frames.specs.Frames.{Frame, FrameState, value_or_zero, seen_after_write}
+use Rattle.xt_frames.specs.FrameStep.{FrameTurn, done_in_frame, step_with_inputs}
 use Rattle.xt_frames.specs.Marks.{moved_to}
 use Rattle.xt_frames.specs.Nesting.{unset_after}
 use Rattle.xt_frames.specs.Breaches.{fresh_after, is_return}
@@ -29,7 +29,7 @@ use Rattle.xt_frames.specs.Breaches.{is_in_vectors, is_sp, is_windowing, laid_br
 use Rattle.xt_frames.specs.Breaches.{may_write_sp}
 use Rattle.xt_frames.specs.Breaches.{names_window_register, reads_epc1, reads_unset, sets_epc1}
 use Rattle.xt_frames.specs.Breaches.{touches_save_area}
-use Rattle.xt_frames.specs.Parts.{Upper, state_at}
+use Rattle.xt_frames.specs.KeptFrameState.{Upper, state_at}
 use Rattle.xt_frames.specs.Walked.{bounds_of}
 
 -- a system instruction
@@ -67,7 +67,7 @@ IsMade (Some made) e len write v w =
     × (w
     ≡ record {
       seen = seen_after_write write v.seen;
-      control = ticked (after_effect e len v.control);
+      control = after_tick (after_effect e len v.control);
     })
     × (made ≡ write)
     × IsProperWrite IsAny write
@@ -83,7 +83,7 @@ pub record IsAtRest (limits : Limits) (v : Upper) : Type 0 where
 
 -- a turn that executes an instruction in its frame
 pub record IsTurn
-    (u : FrameTurn) (write : Option RegWrite) (frames : List Frame) (h : Holes)
+    (u : FrameTurn) (write : Option RegWrite) (frames : List Frame) (h : UndefinedParts)
     (w : Upper) : Type 0 where
   pub kind : u.kind ≡ kind.Insn
   pub writes : u.write ≡ write
@@ -92,11 +92,11 @@ pub record IsTurn
 -- what comes of an instruction of this length, by the registers of v
 abbrev pub turn_at : (ℕ → ℕ) → Insn → ℕ → ℕ → Upper → FrameState → FrameTurn
 turn_at code i len reply v f =
-    done_in_frame (outcome_at code i (known v.seen) v.control) len reply f
+    done_in_frame (outcome_at code i (value_or_zero v.seen) v.control) len reply f
 
 -- what is known of a fetched instruction that was made
 pub record IsRow
-    (fresh : Bool) (i : Insn) (len : ℕ) (code : ℕ → ℕ) (rec : StepRecord) (h : Holes)
+    (fresh : Bool) (i : Insn) (len : ℕ) (code : ℕ → ℕ) (rec : StepRecord) (h : UndefinedParts)
     (write : Option RegWrite) (v w : Upper) : Type 0 where
   pub common : IsCommon i
   pub shown : is_sp rec.write ≡ false
@@ -112,23 +112,24 @@ pub record IsRow
   pub vectors : special_of w.control number.vecbase ≡ special_of v.control number.vecbase
 
 abbrev pub IsRowOr :
-    Option (Option RegWrite) → Bool → Insn → ℕ → (ℕ → ℕ) → StepRecord → Holes → Upper → Upper
+    Option (Option RegWrite) → Bool → Insn → ℕ → (ℕ → ℕ) → StepRecord → UndefinedParts → Upper
+    → Upper
     → Type 0
 IsRowOr (Some write) fresh i len code rec h v w = IsRow fresh i len code rec h write v w
 IsRowOr None fresh i len code rec h v w = w ≡ v
 
 -- the step of the state v
-abbrev pub step_at : (ℕ → ℕ) → ℕ → List Frame → Holes → Upper → FrameTurn
-step_at code reply frames h v = laid_step code reply (state_at frames h v)
+abbrev pub step_at : (ℕ → ℕ) → ℕ → List Frame → UndefinedParts → Upper → FrameTurn
+step_at code reply frames h v = step_with_inputs code reply (state_at frames h v)
 
 -- what is known of a step that was made, from a state over which the inputs are laid
 pub record IsQuick
-    (limits : Limits) (fresh : Bool) (code : ℕ → ℕ) (rec : StepRecord) (h : Holes)
+    (limits : Limits) (fresh : Bool) (code : ℕ → ℕ) (rec : StepRecord) (h : UndefinedParts)
     (write : Option RegWrite) (v w : Upper) : Type 0 where
   pub i : Insn
   pub len : ℕ
   pub rest : IsAtRest limits v
-  pub at : fetched code v.control.pc ≡ Fetches i len
+  pub at : fetch_at code v.control.pc ≡ Fetches i len
   pub row : IsRow fresh i len code rec h write v w
   pub none :
       (frames : List Frame) (live stale : ℕ → Bool)
@@ -138,20 +139,20 @@ pub record IsQuick
       (frames : List Frame) → IsTurn (step_at code rec.reply frames h v) write frames h w
   pub unset :
       (frames : List Frame)
-      → unset_after (step_at code rec.reply frames h v).kind (fetched code v.control.pc) h.unset
+      → unset_after (step_at code rec.reply frames h v).kind (fetch_at code v.control.pc) h.unset
       ≡ h.unset
   pub kept :
       (frames : List Frame)
       → fresh_after
       fresh
       (step_at code rec.reply frames h v).kind
-      (fetched code v.control.pc)
+      (fetch_at code v.control.pc)
       v.control.ps
       w.control.ps
       ≡ fresh
 
 abbrev pub IsQuickOr :
-    Option (Option RegWrite) → Limits → Bool → (ℕ → ℕ) → StepRecord → Holes → Upper → Upper
+    Option (Option RegWrite) → Limits → Bool → (ℕ → ℕ) → StepRecord → UndefinedParts → Upper → Upper
     → Type 0
 IsQuickOr (Some write) limits fresh code rec h v w = IsQuick limits fresh code rec h write v w
 IsQuickOr None limits fresh code rec h v w = w ≡ v

@@ -6,7 +6,7 @@
 use Rattle.std.specs.Prelude.{ℕ, ◌-◌, ◌*◌, Bool, false, ◌||◌, List, []}
 use Rattle.std.specs.Prelude.{◌∷◌}
 pub use Rattle.xt_map.specs.Touching.{touches}
-use Rattle.xt_frames.specs.Frames.{Frame, FrameState, known}
+use Rattle.xt_frames.specs.Frames.{Frame, FrameState, value_or_zero}
 
 -- a core's stack range, from lo up to hi
 pub record Range : Type 0 where
@@ -15,7 +15,7 @@ pub record Range : Type 0 where
 
 -- a caller's stack pointer is its kept a1
 abbrev pub sp_of : Frame → ℕ
-sp_of f = known f.kept 1
+sp_of f = value_or_zero f.kept 1
 
 -- the newest caller's stack pointer, HI where there is none
 abbrev pub before : ℕ → List Frame → ℕ
@@ -40,7 +40,7 @@ areas hi sp n (f ∷ fs) =
 
 -- the newest frame has called nobody: for n = 1 the second area is empty
 abbrev pub live_areas : Range → FrameState → List Area
-live_areas r f = areas r.hi (known f.seen 1) 1 f.frames
+live_areas r f = areas r.hi (value_or_zero f.seen 1) 1 f.frames
 
 abbrev pub covers_byte : List Area → ℕ → Bool
 covers_byte [] a = false

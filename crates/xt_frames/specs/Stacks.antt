@@ -9,10 +9,11 @@ use Rattle.xt_isa.specs.declared.Insn.{Insn}
 use Rattle.xt_isa.specs.Ranges.{in_range}
 use Rattle.xt_special.specs.Interrupts.{pending_of}
 use Rattle.xt_trace.specs.declared.record.StepRecord.{StepRecord}
-use Rattle.xt_fetch.specs.Fetching.{Fetches, fetched}
+use Rattle.xt_fetch.specs.Fetching.{Fetches, fetch_at}
 use Rattle.xt_rows.specs.Numbers.{minus}
-use Rattle.xt_frames.specs.FrameStep.{laid_step}
-use Rattle.xt_frames.specs.Frames.{Frame, FrameState, known, seen_after_call, seen_after_return}
+use Rattle.xt_frames.specs.FrameStep.{step_with_inputs}
+use Rattle.xt_frames.specs.Frames.{Frame, FrameState, value_or_zero, seen_after_call}
+use Rattle.xt_frames.specs.Frames.{seen_after_return}
 use Rattle.xt_frames.specs.SaveAreas.{Area, areas, sp_of, before}
 use Rattle.xt_frames.specs.Breaches.{Bounds, laid_breach, small_frame, outside}
 
@@ -50,17 +51,17 @@ pub record Stack (lo hi : ℕ) (seen : List (Option ℕ)) (frames : List Frame) 
   pub range : IsRange lo hi
   pub wide : length seen ≡ 16
   pub shaped : AreFrames frames
-  pub sp : slice_index_or seen 1 None ≡ Some (known seen 1)
-  pub chain : Chain lo hi (known seen 1) frames
+  pub sp : slice_index_or seen 1 None ≡ Some (value_or_zero seen 1)
+  pub chain : Chain lo hi (value_or_zero seen 1) frames
 
 abbrev pub EntersStack : Type 0
 EntersStack =
     (lo hi : ℕ) (seen : List (Option ℕ)) (frames : List Frame) (n size : ℕ)
     → Stack lo hi seen frames → 0 < n → n ≤ 3 → size < 2 ^ 16
-    → small_frame hi (known seen 1) size n frames ≡ false
-    → outside lo hi (minus (known seen 1) size) ≡ false
-    → (minus (known seen 1) size % 16 == 0) ≡ true
-    → Stack lo hi (slice_set (seen_after_call seen n) 1 (Some (minus (known seen 1) size)))
+    → small_frame hi (value_or_zero seen 1) size n frames ≡ false
+    → outside lo hi (minus (value_or_zero seen 1) size) ≡ false
+    → (minus (value_or_zero seen 1) size % 16 == 0) ≡ true
+    → Stack lo hi (slice_set (seen_after_call seen n) 1 (Some (minus (value_or_zero seen 1) size)))
     (record { by = n; kept = take (4 * n) seen } ∷ frames)
 
 abbrev pub LeavesStack : Type 0
@@ -77,7 +78,7 @@ Rise x (a ∷ more) = (x ≤ a.from) × Rise (a.from + a.size) more
 abbrev pub AreasRise : Type 0
 AreasRise =
     (lo hi : ℕ) (seen : List (Option ℕ)) (frames : List Frame) → Stack lo hi seen frames
-    → Rise lo (areas hi (known seen 1) 1 frames)
+    → Rise lo (areas hi (value_or_zero seen 1) 1 frames)
 
 -- a step that shows no breach keeps the chain
 abbrev pub KeepsStack : Type 0
@@ -86,17 +87,17 @@ KeepsStack =
     (g : FrameState)
     → Stack b.range.lo b.range.hi g.seen g.frames → g.control.ps.callinc < 4
     → ((i : Insn) (len : ℕ) → nat_lt 0 (pending_of g.control) ≡ false → g.control.waits ≡ false
-    → fetched code g.control.pc ≡ Fetches i len → in_range i ≡ true)
+    → fetch_at code g.control.pc ≡ Fetches i len → in_range i ≡ true)
     → laid_breach b fresh code live stale rec g ≡ None
-    → Stack b.range.lo b.range.hi (laid_step code rec.reply g).after.seen
-    (laid_step code rec.reply g).after.frames
+    → Stack b.range.lo b.range.hi (step_with_inputs code rec.reply g).after.seen
+    (step_with_inputs code rec.reply g).after.frames
 
 -- What a step does to the frames: it leaves them and a1 as they are; or it keeps one frame more,
 -- whose a1 is the old a1; or one less, and a1 is the one kept for it.
 pub data Moves (g u : FrameState) : Type 0 where
-  Stays : u.frames ≡ g.frames → known u.seen 1 ≡ known g.seen 1 → Moves g u
-  Calls : (f : Frame) → u.frames ≡ f ∷ g.frames → sp_of f ≡ known g.seen 1 → Moves g u
-  Leaves : (f : Frame) → g.frames ≡ f ∷ u.frames → known u.seen 1 ≡ sp_of f → Moves g u
+  Stays : u.frames ≡ g.frames → value_or_zero u.seen 1 ≡ value_or_zero g.seen 1 → Moves g u
+  Calls : (f : Frame) → u.frames ≡ f ∷ g.frames → sp_of f ≡ value_or_zero g.seen 1 → Moves g u
+  Leaves : (f : Frame) → g.frames ≡ f ∷ u.frames → value_or_zero u.seen 1 ≡ sp_of f → Moves g u
 
 -- a step that shows no breach moves by one frame at most
 abbrev pub MovesFrames : Type 0
@@ -105,6 +106,6 @@ MovesFrames =
     (g : FrameState)
     → Stack b.range.lo b.range.hi g.seen g.frames → g.control.ps.callinc < 4
     → ((i : Insn) (len : ℕ) → nat_lt 0 (pending_of g.control) ≡ false → g.control.waits ≡ false
-    → fetched code g.control.pc ≡ Fetches i len → in_range i ≡ true)
+    → fetch_at code g.control.pc ≡ Fetches i len → in_range i ≡ true)
     → laid_breach b fresh code live stale rec g ≡ None
-    → Moves g (laid_step code rec.reply g).after
+    → Moves g (step_with_inputs code rec.reply g).after

@@ -7,16 +7,16 @@ use Rattle.xt_trace.specs.declared.record.StepRecord.{StepRecord}
 use Rattle.xt_frames.specs.declared.kinds.BreachKind.{BreachKind}
 use Rattle.xt_frames.specs.declared.breach.Case.{Case}
 use Rattle.xt_frames.specs.declared.judged.Done.{Done}
-use Rattle.xt_frames.specs.declared.view.Covered.{Covered}
+use Rattle.xt_frames.specs.declared.view.RecordInputs.{RecordInputs}
 use Rattle.xt_frames.specs.Frames.{Frame, FrameState}
 use Rattle.xt_frames.specs.Breaches.{breach_of}
 use Rattle.xt_frames.specs.Judging.{fresh_on, step_on}
 use Rattle.xt_frames.specs.Stacks.{Moves, Stack}
-use Rattle.xt_frames.specs.Parts.{Upper, frames_after}
+use Rattle.xt_frames.specs.KeptFrameState.{Upper, frames_after}
 use Rattle.xt_frames.specs.Walked.{bounds_of}
 
 -- what the inputs of a record are laid over
-abbrev pub covered_of : Upper → Covered
+abbrev pub covered_of : Upper → RecordInputs
 covered_of v = record {
   ccount = special_of v.control number.ccount;
   interrupt = special_of v.control number.interrupt;

@@ -15,7 +15,7 @@ use Rattle.xt_frames.specs.FrameStep.{FrameTurn}
 use Rattle.xt_frames.specs.SaveAreas.{is_live}
 use Rattle.xt_frames.specs.Breaches.{Bounds}
 use Rattle.xt_frames.specs.Judging.{Standing, opening_standing, Seen, Handled, Judges, Breaks}
-use Rattle.xt_frames.specs.Judging.{place_on, step_on, seen}
+use Rattle.xt_frames.specs.Judging.{place_on, step_on, seen_record}
 use Rattle.xt_frames.specs.HandlerSteps.{Mode, Plain, Handles, Nests}
 
 -- ---- the walk
@@ -82,10 +82,12 @@ past_judged_1 standing stale rec k = record k {
 
 -- the next record of a core, beside the live bytes of the other core
 abbrev pub seen_0 : (ℕ → ℕ) → Bounds → Bounds → Known → StepRecord → Seen
-seen_0 code b0 b1 k rec = seen code b0 k.standing0 (is_live b1.range k.standing1.frame) k.stale rec
+seen_0 code b0 b1 k rec =
+    seen_record code b0 k.standing0 (is_live b1.range k.standing1.frame) k.stale rec
 
 abbrev pub seen_1 : (ℕ → ℕ) → Bounds → Bounds → Known → StepRecord → Seen
-seen_1 code b0 b1 k rec = seen code b1 k.standing1 (is_live b0.range k.standing0.frame) k.stale rec
+seen_1 code b0 b1 k rec =
+    seen_record code b1 k.standing1 (is_live b0.range k.standing0.frame) k.stale rec
 
 -- what is known at the first breach, or at the end, and the breach
 pub record Judgement : Type 0 where

@@ -8,7 +8,7 @@ use Rattle.xt_trace.specs.declared.record.StepRecord.{StepRecord}
 use Rattle.xt_frames.specs.declared.kinds.Breach.{Breach}
 use Rattle.xt_frames.specs.declared.kinds.BreachKind.{BreachKind}
 use Rattle.xt_frames.specs.declared.breach.Limits.{Limits}
-use Rattle.xt_frames.specs.Frames.{Frame, FrameState, known, opening_frame}
+use Rattle.xt_frames.specs.Frames.{Frame, FrameState, value_or_zero, opening_frame}
 use Rattle.xt_frames.specs.SaveAreas.{sp_of}
 use Rattle.xt_frames.specs.Breaches.{Bounds, breach_of}
 use Rattle.xt_frames.specs.Judging.{fresh_on, step_on}
@@ -62,8 +62,8 @@ abbrev pub stack_of : ℕ → Options → Stack
 stack_of zero o = o.stack0
 stack_of (suc core) o = o.stack1
 
-abbrev pub opened : ℕ → ℕ → Options → Walked
-opened core pc o = record {
+abbrev pub opening_walked : ℕ → ℕ → Options → Walked
+opening_walked core pc o = record {
   core = core;
   bounds = record {
     range = record { lo = (stack_of core o).lo; hi = (stack_of core o).hi };
@@ -82,7 +82,7 @@ sp_in (f ∷ fs) sp zero = sp
 sp_in (f ∷ fs) sp (suc back) = sp_in fs (sp_of f) back
 
 abbrev pub sp_at : Walked → ℕ → ℕ
-sp_at w j = sp_in w.state.frames (known w.state.seen 1) (length w.state.frames - j)
+sp_at w j = sp_in w.state.frames (value_or_zero w.state.seen 1) (length w.state.frames - j)
 
 -- by how many windows the frame called that stands so many below the newest
 abbrev pub calls_in : List Frame → ℕ → ℕ

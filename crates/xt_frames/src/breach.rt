@@ -4,23 +4,23 @@
 ghost use Rattle.std.specs.Prelude.{◌≡◌, ℕ, Bool, List, [], ◌∷◌, None, true, false};
 ghost use Rattle.xt_isa.specs.Ranges.{in_range};
 ghost use Rattle.xt_map.specs.Memory.{constant_byte};
-ghost use Rattle.xt_fetch.specs.Fetching.{fetched};
+ghost use Rattle.xt_fetch.specs.Fetching.{fetch_at};
 ghost use Rattle.xt_codec.specs.Fetches.{IsFetched};
 ghost use Rattle.xt_frames.specs.Frames.{Frame, FrameState};
 ghost use Rattle.xt_frames.specs.SaveAreas.{Range, before};
-ghost use Rattle.xt_frames.specs.FrameStep.{laid_step};
+ghost use Rattle.xt_frames.specs.FrameStep.{step_with_inputs};
 ghost use Rattle.xt_frames.specs.Breaches.{breaks_nested, fetched_return_breach, first_shown, fresh_after, has_no_caller, insn_tests, is_exception, is_in_vectors, is_movsp, is_return, is_sp, is_windowing, laid_breach, leaves_range, loses_epc1, may_write_sp, misaligns_sp, moves_vectors, names_high, names_window_register, opens_nothing, other_frame_size, other_tests, reads_epc1, reads_lost, reads_no_mark, reads_none, reads_unset, return_tests, returns_elsewhere, sets_epc1, small_frame, vector_test, window_breach, writes_epc1, writes_sp};
-ghost use Rattle.xt_frames.specs.declared.view.Step.{Step};
-ghost use Rattle.xt_frames.specs.declared.holes.Holes.{Holes};
-ghost use Rattle.xt_frames.specs.Parts.{IsCase, IsGood, IsNewest, IsPlan, Upper, shown_tests, state_at, turn_as};
+ghost use Rattle.xt_frames.specs.declared.view.StepSummary.{StepSummary};
+ghost use Rattle.xt_frames.specs.declared.holes.UndefinedParts.{UndefinedParts};
+ghost use Rattle.xt_frames.specs.KeptFrameState.{IsCase, IsGood, IsNewest, IsPlan, Upper, shown_tests, state_at, turn_as};
 ghost use Rattle.xt_frames.specs.Walked.{bounds_of};
 
 use crate::holes::{
-    Holes, Nested, disturbs_nested, ends_nested, has_own_marks, is_unset, lacks_mark, lacks_saved,
-    moves_marks,
+    Nested, UndefinedParts, disturbs_nested, ends_nested, has_own_marks, is_unset, lacks_mark,
+    lacks_saved, moves_marks,
 };
 use crate::kinds::BreachKind;
-use crate::view::{Caller, Plan, Step, View};
+use crate::view::{Caller, FrameRegisters, NextEvent, StepSummary};
 use xt_codec::{Fetch, instruction_at};
 use xt_isa::Insn;
 use xt_isa::control::{Control, RetName};
@@ -29,7 +29,7 @@ use xt_isa::memory::Memory;
 use xt_isa::shift::Shift;
 use xt_isa::system::{ReturnName, SpecialName, System};
 use xt_map::Constants;
-use xt_rows::{minus, named, natural, reads, special_reads};
+use xt_rows::{highest_register, minus, natural, reads, special_reads};
 use xt_special::number;
 use xt_trace::{RegWrite, StepKind, StepRecord};
 
@@ -84,7 +84,7 @@ pub fn first_shown(tests: &[Tested]) -> Option<BreachKind>
 }
 
 /// Whether it reads a visible or special register that has no number.
-fn reads_unset(i: Insn, view: &View, holes: &Holes) -> bool
+fn reads_unset(i: Insn, view: &FrameRegisters, holes: &UndefinedParts) -> bool
     requires { in_range i ≡ true }
     ensures { (frames : List Frame) → result ≡ reads_unset i (state_at frames holes.now view.now) }
 {
@@ -97,7 +97,7 @@ fn reads_unset(i: Insn, view: &View, holes: &Holes) -> bool
 }
 
 /// Whether it reads a register that has neither a number nor a mark.
-fn reads_no_mark(i: Insn, x: &Nested, view: &View, holes: &Holes) -> bool
+fn reads_no_mark(i: Insn, x: &Nested, view: &FrameRegisters, holes: &UndefinedParts) -> bool
     requires { in_range i ≡ true }
     ensures { (frames : List Frame) → result ≡ reads_no_mark i x.now (state_at frames holes.now view.now) }
 {
@@ -107,7 +107,7 @@ fn reads_no_mark(i: Insn, x: &Nested, view: &View, holes: &Holes) -> bool
         || (is_unset(&holes.unset, special) && lacks_saved(x, special))
 }
 
-fn reads_none(i: Insn, view: &View, holes: &Holes) -> bool
+fn reads_none(i: Insn, view: &FrameRegisters, holes: &UndefinedParts) -> bool
     requires { in_range i ≡ true }
     ensures { (frames : List Frame) → result ≡ reads_none i (state_at frames holes.now view.now) }
 {
@@ -149,30 +149,30 @@ fn writes_sp(i: Insn, shown: Option<RegWrite>, write: Option<RegWrite>) -> bool
 }
 
 fn small_frame(under: u32, sp: u32, size: u32, by: u8) -> bool
-    ensures { (hi : ℕ) (frames : List Frame) (h : Holes) → under ≡ before hi frames → result ≡ small_frame hi sp size by frames }
+    ensures { (hi : ℕ) (frames : List Frame) (h : UndefinedParts) → under ≡ before hi frames → result ≡ small_frame hi sp size by frames }
 {
     size < 16 || u64::from(under) < u64::from(sp) + 16 * u64::from(by)
 }
 
 #[tactic(auto, unfolding(crate::specs::Breaches::other_frame_size))]
-fn other_frame_size(i: Insn, view: &View, under: u32) -> bool
-    ensures { (r : Range) (frames : List Frame) (h : Holes) → under ≡ before r.hi frames → result ≡ other_frame_size r i (state_at frames h view.now) }
+fn other_frame_size(i: Insn, view: &FrameRegisters, under: u32) -> bool
+    ensures { (r : Range) (frames : List Frame) (h : UndefinedParts) → under ≡ before r.hi frames → result ≡ other_frame_size r i (state_at frames h view.now) }
 {
     match i {
         Insn::Control(Control::Entry(number, size)) => {
-            number != 1 || small_frame(under, view.known(1), natural(size), view.callinc())
+            number != 1 || small_frame(under, view.value_or_zero(1), natural(size), view.callinc())
         }
         _ => false,
     }
 }
 
 #[tactic(auto, unfolding(crate::specs::Breaches::leaves_range))]
-fn leaves_range(i: Insn, view: &View, limits: Limits) -> bool
-    ensures { (frames : List Frame) (h : Holes) → result ≡ leaves_range (bounds_of limits).range i (state_at frames h view.now) }
+fn leaves_range(i: Insn, view: &FrameRegisters, limits: Limits) -> bool
+    ensures { (frames : List Frame) (h : UndefinedParts) → result ≡ leaves_range (bounds_of limits).range i (state_at frames h view.now) }
 {
     match i {
         Insn::Control(Control::Entry(_, size)) => {
-            let sp = minus(view.known(1), natural(size));
+            let sp = minus(view.value_or_zero(1), natural(size));
             u64::from(sp) < u64::from(limits.lo) + 16 || limits.hi < sp
         }
         _ => false,
@@ -180,18 +180,20 @@ fn leaves_range(i: Insn, view: &View, limits: Limits) -> bool
 }
 
 #[tactic(auto, unfolding(crate::specs::Breaches::misaligns_sp))]
-fn misaligns_sp(i: Insn, view: &View) -> bool
-    ensures { (frames : List Frame) (h : Holes) → result ≡ misaligns_sp i (state_at frames h view.now) }
+fn misaligns_sp(i: Insn, view: &FrameRegisters) -> bool
+    ensures { (frames : List Frame) (h : UndefinedParts) → result ≡ misaligns_sp i (state_at frames h view.now) }
 {
     match i {
-        Insn::Control(Control::Entry(_, size)) => { minus(view.known(1), natural(size)) % 16 != 0 }
+        Insn::Control(Control::Entry(_, size)) => {
+            minus(view.value_or_zero(1), natural(size)) % 16 != 0
+        }
         _ => false,
     }
 }
 
 #[tactic(auto, unfolding(crate::specs::Breaches::opens_nothing))]
-fn opens_nothing(i: Insn, view: &View) -> bool
-    ensures { (frames : List Frame) (h : Holes) → result ≡ opens_nothing i (state_at frames h view.now) }
+fn opens_nothing(i: Insn, view: &FrameRegisters) -> bool
+    ensures { (frames : List Frame) (h : UndefinedParts) → result ≡ opens_nothing i (state_at frames h view.now) }
 {
     match i {
         Insn::Control(Control::Entry(_, _)) => view.callinc() == 0,
@@ -211,18 +213,18 @@ pub fn is_return(i: Insn) -> bool
     )
 }
 
-fn returns_elsewhere(i: Insn, view: &View, newest: &Option<Caller>) -> bool
-    ensures { (frames : List Frame) (h : Holes) → IsNewest newest.now frames → result ≡ returns_elsewhere i (state_at frames h view.now) }
+fn returns_elsewhere(i: Insn, view: &FrameRegisters, newest: &Option<Caller>) -> bool
+    ensures { (frames : List Frame) (h : UndefinedParts) → IsNewest newest.now frames → result ≡ returns_elsewhere i (state_at frames h view.now) }
 {
     is_return(i)
         && match *newest {
-            Some(caller) => view.known(0) / 0x4000_0000 != u32::from(caller.by),
+            Some(caller) => view.value_or_zero(0) / 0x4000_0000 != u32::from(caller.by),
             None => false,
         }
 }
 
 fn has_no_caller(i: Insn, newest: &Option<Caller>) -> bool
-    ensures { (frames : List Frame) (h : Holes) (v : Upper) → IsNewest newest.now frames → result ≡ has_no_caller i (state_at frames h v) }
+    ensures { (frames : List Frame) (h : UndefinedParts) (v : Upper) → IsNewest newest.now frames → result ≡ has_no_caller i (state_at frames h v) }
 {
     is_return(i) && newest.is_none()
 }
@@ -267,7 +269,7 @@ fn reads_epc1(fresh: bool, i: Insn) -> bool
     reads_lost(fresh, first) || reads_lost(fresh, second)
 }
 
-fn loses_epc1(holes: &Holes, fresh: bool, i: Insn) -> bool
+fn loses_epc1(holes: &UndefinedParts, fresh: bool, i: Insn) -> bool
     requires { in_range i ≡ true }
     ensures { result ≡ loses_epc1 holes.now.nested fresh i }
 {
@@ -284,7 +286,7 @@ fn is_exception(kind: StepKind) -> bool
     matches!(kind, StepKind::Exc(_))
 }
 
-fn breaks_nested(holes: &Holes, i: Insn, step: &Step) -> bool
+fn breaks_nested(holes: &UndefinedParts, i: Insn, step: &StepSummary) -> bool
     ensures { (frames : List Frame) (after : Upper) → result ≡ breaks_nested holes.now.nested i (turn_as step.now frames holes.now after) }
 {
     match &holes.nested {
@@ -308,14 +310,14 @@ pub fn is_in_vectors(limits: Limits, pc: u32) -> bool
     limits.vecbase <= pc && u64::from(pc) < u64::from(limits.vecbase) + 0x180
 }
 
-fn names_high(i: Insn, view: &View) -> bool
-    ensures { (frames : List Frame) (h : Holes) → result ≡ names_high i (state_at frames h view.now) }
+fn names_high(i: Insn, view: &FrameRegisters) -> bool
+    ensures { (frames : List Frame) (h : UndefinedParts) → result ≡ names_high i (state_at frames h view.now) }
 {
-    view.excm() && 4 <= named(i)
+    view.excm() && 4 <= highest_register(i)
 }
 
-fn moves_vectors(limits: Limits, after: &View) -> bool
-    ensures { (frames : List Frame) (h : Holes) (step : Step) → result ≡ moves_vectors (bounds_of limits) (turn_as step frames h after.now) }
+fn moves_vectors(limits: Limits, after: &FrameRegisters) -> bool
+    ensures { (frames : List Frame) (h : UndefinedParts) (step : StepSummary) → result ≡ moves_vectors (bounds_of limits) (turn_as step frames h after.now) }
 {
     after.vecbase() != limits.vecbase
 }
@@ -323,12 +325,12 @@ fn moves_vectors(limits: Limits, after: &View) -> bool
 /// The tests of a step that fetches an instruction, in their order: `view` is what it finds, and `after` what it leaves.
 pub fn insn_tests(
     case: &Case,
-    holes: &Holes,
+    holes: &UndefinedParts,
     i: Insn,
     rec: &StepRecord,
-    view: &View,
-    step: &Step,
-    after: &View,
+    view: &FrameRegisters,
+    step: &StepSummary,
+    after: &FrameRegisters,
 ) -> [Tested; 19]
     requires { in_range i ≡ true }
     ensures { (frames : List Frame) (live stale : ℕ → Bool) → IsCase case.now rec.now frames live stale
@@ -384,12 +386,12 @@ pub fn insn_tests(
 /// The first breach of a step that fetches an instruction.
 fn insn_breach(
     case: &Case,
-    holes: &Holes,
+    holes: &UndefinedParts,
     i: Insn,
     rec: &StepRecord,
-    view: &View,
-    step: &Step,
-    after: &View,
+    view: &FrameRegisters,
+    step: &StepSummary,
+    after: &FrameRegisters,
 ) -> Option<BreachKind>
     requires { in_range i ≡ true }
     ensures { (frames : List Frame) (live stale : ℕ → Bool) → IsCase case.now rec.now frames live stale
@@ -402,11 +404,11 @@ fn insn_breach(
 /// The tests of a step that fetches none: a turn of cause 2, or of cause 0 because nothing spells the bytes.
 pub fn other_tests(
     case: &Case,
-    holes: &Holes,
+    holes: &UndefinedParts,
     rec: &StepRecord,
-    view: &View,
-    step: &Step,
-    after: &View,
+    view: &FrameRegisters,
+    step: &StepSummary,
+    after: &FrameRegisters,
 ) -> [Tested; 6]
     ensures { (frames : List Frame) (live stale : ℕ → Bool) → IsCase case.now rec.now frames live stale
         → shown_tests result ≡ other_tests (bounds_of case.now.limits) live stale rec.now (state_at frames holes.now view.now) (turn_as step.now frames holes.now after.now) }
@@ -425,11 +427,11 @@ pub fn other_tests(
 /// The first breach of a step that fetches none.
 fn other_breach(
     case: &Case,
-    holes: &Holes,
+    holes: &UndefinedParts,
     rec: &StepRecord,
-    view: &View,
-    step: &Step,
-    after: &View,
+    view: &FrameRegisters,
+    step: &StepSummary,
+    after: &FrameRegisters,
 ) -> Option<BreachKind>
     ensures { (frames : List Frame) (live stale : ℕ → Bool) → IsCase case.now rec.now frames live stale
         → result ≡ first_shown (other_tests (bounds_of case.now.limits) live stale rec.now (state_at frames holes.now view.now) (turn_as step.now frames holes.now after.now)) }
@@ -439,8 +441,8 @@ fn other_breach(
 }
 
 /// An interrupt or a turn of waiting shows VectorEntered alone.
-pub fn vector_breach(limits: Limits, view: &View) -> Option<BreachKind>
-    ensures { (frames : List Frame) (h : Holes) → result ≡ first_shown (vector_test (bounds_of limits) (state_at frames h view.now) ∷ []) }
+pub fn vector_breach(limits: Limits, view: &FrameRegisters) -> Option<BreachKind>
+    ensures { (frames : List Frame) (h : UndefinedParts) → result ≡ first_shown (vector_test (bounds_of limits) (state_at frames h view.now) ∷ []) }
 {
     if is_in_vectors(limits, view.pc()) {
         Some(BreachKind::VectorEntered)
@@ -453,29 +455,36 @@ pub fn vector_breach(limits: Limits, view: &View) -> Option<BreachKind>
 #[tactic(auto, unfolding(crate::specs::Breaches::laid_breach))]
 pub fn breach_of(
     case: &Case,
-    holes: &Holes,
-    plan: Plan,
+    holes: &UndefinedParts,
+    plan: NextEvent,
     rec: &StepRecord,
-    view: &View,
-    step: &Step,
-    after: &View,
+    view: &FrameRegisters,
+    step: &StepSummary,
+    after: &FrameRegisters,
 ) -> Option<BreachKind>
     requires { IsGood plan }
     ensures { (code : ℕ → ℕ) (frames : List Frame) (live stale : ℕ → Bool) → IsCase case.now rec.now frames live stale
-        → IsPlan plan code view.now.control → turn_as step.now frames holes.now after.now ≡ laid_step code rec.now.reply (state_at frames holes.now view.now)
+        → IsPlan plan code view.now.control → turn_as step.now frames holes.now after.now ≡ step_with_inputs code rec.now.reply (state_at frames holes.now view.now)
         → result ≡ laid_breach (bounds_of case.now.limits) case.now.fresh code live stale rec.now (state_at frames holes.now view.now) }
 {
     match plan {
-        Plan::Interrupt(_) | Plan::Waits => vector_breach(case.limits, view),
-        Plan::Fetched(Fetch::Insn(i, _)) => insn_breach(case, holes, i, rec, view, step, after),
-        Plan::Fetched(Fetch::Fails(_) | Fetch::Nothing) => {
+        NextEvent::Interrupt(_) | NextEvent::Waits => vector_breach(case.limits, view),
+        NextEvent::Fetched(Fetch::Insn(i, _)) => insn_breach(
+            case, holes, i, rec, view, step, after,
+        ),
+        NextEvent::Fetched(Fetch::Fails(_) | Fetch::Nothing) => {
             other_breach(case, holes, rec, view, step, after)
         }
     }
 }
 
 /// The tests of the record of an underflow, where this RETW stands at PC.
-pub fn return_tests(i: Insn, view: &View, holes: &Holes, newest: &Option<Caller>) -> [Tested; 3]
+pub fn return_tests(
+    i: Insn,
+    view: &FrameRegisters,
+    holes: &UndefinedParts,
+    newest: &Option<Caller>,
+) -> [Tested; 3]
     requires { in_range i ≡ true }
     ensures { (frames : List Frame) → IsNewest newest.now frames → shown_tests result ≡ return_tests i (state_at frames holes.now view.now) }
 {
@@ -492,12 +501,12 @@ pub fn return_tests(i: Insn, view: &View, holes: &Holes, newest: &Option<Caller>
 /// The first breach that the record of an underflow shows of the RETW at PC.
 pub fn return_breach(
     code: &Constants,
-    view: &View,
-    holes: &Holes,
+    view: &FrameRegisters,
+    holes: &UndefinedParts,
     newest: &Option<Caller>,
 ) -> Option<BreachKind>
     ensures { (frames : List Frame) → IsNewest newest.now frames
-        → result ≡ fetched_return_breach (fetched (constant_byte code.now) view.now.control.pc) (state_at frames holes.now view.now) }
+        → result ≡ fetched_return_breach (fetch_at (constant_byte code.now) view.now.control.pc) (state_at frames holes.now view.now) }
 {
     match instruction_at::<Caller>(code, view.pc()) {
         Fetch::Insn(i, _) => {
@@ -525,7 +534,7 @@ fn sets_epc1(i: Insn) -> bool
 /// Whether a record of this kind is tested for the RETW at PC: one of an underflow.
 #[tactic(auto, unfolding(crate::specs::Breaches::window_breach))]
 pub fn underflows(kind: StepKind) -> bool
-    ensures yes { result ≡ true → (code : ℕ → ℕ) (f : FrameState) → window_breach code kind f ≡ fetched_return_breach (fetched code f.control.pc) f }
+    ensures yes { result ≡ true → (code : ℕ → ℕ) (f : FrameState) → window_breach code kind f ≡ fetched_return_breach (fetch_at code f.control.pc) f }
     ensures no { result ≡ false → (code : ℕ → ℕ) (f : FrameState) → window_breach code kind f ≡ None }
 {
     match kind {
@@ -535,21 +544,21 @@ pub fn underflows(kind: StepKind) -> bool
 }
 
 /// What the bytes at PC are, which the plan of a step has found where it fetches.
-pub fn planned(plan: Plan, code: &Constants, view: &View) -> Fetch
+pub fn planned(plan: NextEvent, code: &Constants, view: &FrameRegisters) -> Fetch
     requires { IsPlan plan (constant_byte code.now) view.now.control }
-    ensures { IsFetched result (fetched (constant_byte code.now) view.now.control.pc) }
+    ensures { IsFetched result (fetch_at (constant_byte code.now) view.now.control.pc) }
 {
     match plan {
-        Plan::Fetched(fetch) => fetch,
-        Plan::Interrupt(_) | Plan::Waits => instruction_at::<Plan>(code, view.pc()),
+        NextEvent::Fetched(fetch) => fetch,
+        NextEvent::Interrupt(_) | NextEvent::Waits => instruction_at::<NextEvent>(code, view.pc()),
     }
 }
 
 /// Whether a step of this kind, which was planned so, writes EPC1.
 #[tactic(auto, unfolding(crate::specs::Breaches::writes_epc1))]
-fn writes_epc1(kind: StepKind, plan: Plan, code: &Constants, view: &View) -> bool
+fn writes_epc1(kind: StepKind, plan: NextEvent, code: &Constants, view: &FrameRegisters) -> bool
     requires { IsPlan plan (constant_byte code.now) view.now.control }
-    ensures { result ≡ writes_epc1 kind (fetched (constant_byte code.now) view.now.control.pc) view.now.control.ps }
+    ensures { result ≡ writes_epc1 kind (fetch_at (constant_byte code.now) view.now.control.pc) view.now.control.ps }
 {
     match kind {
         StepKind::Exc(_) => !view.excm(),
@@ -566,13 +575,13 @@ fn writes_epc1(kind: StepKind, plan: Plan, code: &Constants, view: &View) -> boo
 pub fn fresh_after(
     fresh: bool,
     kind: StepKind,
-    plan: Plan,
+    plan: NextEvent,
     code: &Constants,
-    view: &View,
-    after: &View,
+    view: &FrameRegisters,
+    after: &FrameRegisters,
 ) -> bool
     requires { IsPlan plan (constant_byte code.now) view.now.control }
-    ensures { result ≡ fresh_after fresh kind (fetched (constant_byte code.now) view.now.control.pc) view.now.control.ps after.now.control.ps }
+    ensures { result ≡ fresh_after fresh kind (fetch_at (constant_byte code.now) view.now.control.pc) view.now.control.ps after.now.control.ps }
 {
     writes_epc1(kind, plan, code, view) || (fresh && !(view.excm() && !after.excm()))
 }

@@ -4,7 +4,7 @@
 ghost use Rattle.std.specs.Prelude.{◌≡◌, ◌≤◌, ◌<◌, ◌-◌, ◌^◌, length, vec_len, vec_capacity};
 ghost use Rattle.xt_frames.specs.Backtrace.{a0_in};
 ghost use Rattle.xt_frames.specs.SaveAreas.{before, sp_of};
-ghost use Rattle.xt_frames.specs.Parts.{IsNewest, IsSmall, frame_of, frames_after, frames_of};
+ghost use Rattle.xt_frames.specs.KeptFrameState.{IsNewest, IsSmall, frame_of, frames_after, frames_of};
 ghost use Rattle.xt_frames.specs.Stacks.{AreFrames};
 ghost use Rattle.xt_frames.specs.Walked.{calls_in, sp_in};
 

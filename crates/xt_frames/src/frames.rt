@@ -4,20 +4,20 @@
 ghost use Rattle.std.specs.Prelude.{◌≡◌, ◌≤◌, ◌<◌, ◌+◌, ◌%◌, ◌^◌, ℕ, Bool, true, false, None, length, IfOk};
 ghost use Rattle.xt_map.specs.Memory.{constant_byte};
 ghost use Rattle.xt_frames.specs.Backtrace.{a0_of_frame, address_of_frame, size_of_frame};
-ghost use Rattle.xt_frames.specs.FrameStep.{laid};
+ghost use Rattle.xt_frames.specs.FrameStep.{with_inputs};
 ghost use Rattle.xt_frames.specs.Nesting.{current};
 ghost use Rattle.xt_frames.specs.SaveAreas.{before};
 ghost use Rattle.xt_frames.specs.Breaches.{inputs_of, loads_stale, own_breach, touches_save_area, window_breach};
-ghost use Rattle.xt_frames.specs.Parts.{IsNewest, IsSmall, state_at};
+ghost use Rattle.xt_frames.specs.KeptFrameState.{IsNewest, IsSmall, state_at};
 ghost use Rattle.xt_frames.specs.Stacks.{IsRange, Moves, Stack};
-ghost use Rattle.xt_frames.specs.Walked.{IsJudged, IsTested, bounds_of, calls_at, found_in, fresh_before, opened, sp_at, stack_of, walked_past};
+ghost use Rattle.xt_frames.specs.Walked.{IsJudged, IsTested, bounds_of, calls_at, found_in, fresh_before, opening_walked, sp_at, stack_of, walked_past};
 
 use crate::breach::{Case, Limits, return_breach, underflows};
 use crate::callers::{a0_in, calls_in, change, depth_of, newest_of, sp_in, under};
-use crate::holes::Holes;
+use crate::holes::UndefinedParts;
 use crate::judged::judge;
 use crate::kinds::{Breach, BreachKind};
-use crate::view::{Caller, View};
+use crate::view::{Caller, FrameRegisters};
 use std::alloc::{AllocError, Global};
 use std::marker::Model;
 use xt_map::Constants;
@@ -33,8 +33,8 @@ use xt_trace::{Options, Stack as Range, StepRecord};
 pub struct Frames {
     core: u8,
     limits: Limits,
-    view: View,
-    holes: Holes,
+    view: FrameRegisters,
+    holes: UndefinedParts,
     // The callers, the oldest first.
     callers: Vec<Caller>,
     // Whether EPC1 has what was last written.
@@ -45,7 +45,7 @@ pub struct Frames {
 
 impl Model for Frames {
     ghost use Rattle.std.specs.Prelude.{vec_capacity};
-    ghost use Rattle.xt_frames.specs.Parts.{AreKept, frames_of, state_at};
+    ghost use Rattle.xt_frames.specs.KeptFrameState.{AreKept, frames_of, state_at};
     ghost use Rattle.xt_frames.specs.Walked.{Walked, bounds_of};
 
     ghost Value = { Walked };
@@ -68,11 +68,11 @@ impl Frames {
         requires core { core < 2 }
         requires vecbase { options.now.vecbase % 2 ^ 10 ≡ 0 }
         requires stack { IsRange (stack_of core options.now).lo (stack_of core options.now).hi }
-        ensures { IfOk result (λ f. f ≡ opened core pc options.now) }
+        ensures { IfOk result (λ f. f ≡ opening_walked core pc options.now) }
     {
         let stack = stack_of(core, options);
         let room = (stack.hi - stack.lo) / 16 + 2;
-        let view = View::open(core, pc, options.vecbase, stack.hi);
+        let view = FrameRegisters::open(core, pc, options.vecbase, stack.hi);
         let callers = Vec::with_capacity(alloc, room as usize)?;
         Ok(Frames {
             core,
@@ -82,7 +82,7 @@ impl Frames {
                 vecbase: options.vecbase,
             },
             view,
-            holes: Holes {
+            holes: UndefinedParts {
                 unset: [false; 256],
                 nested: None,
             },
@@ -138,9 +138,9 @@ impl Frames {
     }
 
     /// The state without its callers, in a nested interrupt that inside, over which the inputs of a record are laid.
-    fn laid_view(&self, rec: &StepRecord) -> View
-        ensures { (h : Holes) → h.unset ≡ self.now.state.unset → h.nested ≡ self.now.state.nested
-            → state_at self.now.state.frames h result ≡ laid (inputs_of rec.now) (current self.now.state) }
+    fn laid_view(&self, rec: &StepRecord) -> FrameRegisters
+        ensures { (h : UndefinedParts) → h.unset ≡ self.now.state.unset → h.nested ≡ self.now.state.nested
+            → state_at self.now.state.frames h result ≡ with_inputs (inputs_of rec.now) (current self.now.state) }
     {
         let mut view = self.view.current(&self.holes);
         view.lay(rec);
@@ -269,7 +269,7 @@ impl Frames {
     /// Tests the record of a window exception: of an underflow the RETW at the frame state's PC is tested for Unset, ReturnMismatch
     /// and NoCaller. No other record shows anything.
     pub fn test(&self, code: &Constants, index: u32, rec: &StepRecord) -> Result<(), Breach>
-        ensures { IsTested (window_breach (constant_byte code.now) rec.now.kind (laid (inputs_of rec.now) (current self.now.state))) self.now index result }
+        ensures { IsTested (window_breach (constant_byte code.now) rec.now.kind (with_inputs (inputs_of rec.now) (current self.now.state))) self.now index result }
     {
         if !underflows(rec.kind) {
             return Ok(());
@@ -296,7 +296,7 @@ impl Frames {
         requires { j ≤ length self.now.state.frames }
         ensures { result ≡ sp_at self.now j }
     {
-        sp_in(&self.callers, self.view.known(1), j)
+        sp_in(&self.callers, self.view.value_or_zero(1), j)
     }
 
     /// The a0 of frame `j`; none where it has no value.

@@ -34,7 +34,7 @@ pub struct Nested {
 
 /// What a frame state has beside its registers, frames and control state.
 #[derive(Clone, Copy)]
-pub struct Holes {
+pub struct UndefinedParts {
     /// Of each special register, by its number, whether it has no number.
     pub unset: [bool; 256],
     /// The nested interrupt, if there is one.

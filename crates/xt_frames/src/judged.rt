@@ -5,18 +5,18 @@ ghost use Rattle.std.specs.Prelude.{◌≡◌, ℕ, Bool, false, IfOk, IfSome, L
 ghost use Rattle.xt_map.specs.Memory.{constant_byte};
 ghost use Rattle.xt_special.specs.Control.{Control};
 ghost use Rattle.xt_special.specs.Shape.{IsPs};
-ghost use Rattle.xt_fetch.specs.Fetching.{fetched};
+ghost use Rattle.xt_fetch.specs.Fetching.{fetch_at};
 ghost use Rattle.xt_frames.specs.Frames.{Frame};
 ghost use Rattle.xt_frames.specs.Nesting.{unset_after};
 ghost use Rattle.xt_frames.specs.Stacks.{Stack};
-ghost use Rattle.xt_frames.specs.Parts.{IsCase, IsGood, IsKindOf, IsPlan, IsSmall, state_at};
+ghost use Rattle.xt_frames.specs.KeptFrameState.{IsCase, IsGood, IsKindOf, IsPlan, IsSmall, state_at};
 ghost use Rattle.xt_frames.specs.Stepped.{IsDone, IsKept, found_by};
 
 use crate::breach::{Case, breach_of, fresh_after};
-use crate::holes::{Holes, is_nesting, moved_to};
+use crate::holes::{UndefinedParts, is_nesting, moved_to};
 use crate::kinds::BreachKind;
 use crate::nested::{begin, judge_nested};
-use crate::view::{Call, Plan, View};
+use crate::view::{Call, FrameRegisters, NextEvent};
 use xt_codec::Fetch;
 use xt_map::Constants;
 use xt_special::number;
@@ -32,16 +32,16 @@ pub struct Done {
 }
 
 /// The special registers to which a step of this kind, which was planned so, gives a number have one.
-pub fn give_numbers(unset: &mut [bool; 256], kind: StepKind, plan: Plan)
+pub fn give_numbers(unset: &mut [bool; 256], kind: StepKind, plan: NextEvent)
     requires { IsGood plan }
-    ensures { (code : ℕ → ℕ) (c : Control) → IsPlan plan code c → IsKindOf plan kind → unset.new ≡ unset_after kind (fetched code c.pc) unset.old }
+    ensures { (code : ℕ → ℕ) (c : Control) → IsPlan plan code c → IsKindOf plan kind → unset.new ≡ unset_after kind (fetch_at code c.pc) unset.old }
 {
     match plan {
-        Plan::Interrupt(level) => {
+        NextEvent::Interrupt(level) => {
             unset[(number::EPC1 - 1 + level % 8) as usize] = false;
             unset[(number::DEPC + level % 8) as usize] = false;
         }
-        Plan::Fetched(Fetch::Insn(i, _)) => {
+        NextEvent::Fetched(Fetch::Insn(i, _)) => {
             if let (StepKind::Insn, Some((_, n))) = (kind, moved_to(i)) {
                 unset[n as usize] = false;
             }
@@ -52,8 +52,8 @@ pub fn give_numbers(unset: &mut [bool; 256], kind: StepKind, plan: Plan)
 
 /// Steps a view outside nested interrupts by a record, or says which breach the step shows first. After a breach the view is as it was.
 fn judge_plain(
-    view: &mut View,
-    holes: &mut Holes,
+    view: &mut FrameRegisters,
+    holes: &mut UndefinedParts,
     case: &Case,
     code: &Constants,
     rec: &StepRecord,
@@ -91,8 +91,8 @@ fn judge_plain(
 /// Steps a view by a record, which is nested where `nested` says so, or says which breach the step shows first. After a breach nothing
 /// has changed.
 pub fn judge(
-    view: &mut View,
-    holes: &mut Holes,
+    view: &mut FrameRegisters,
+    holes: &mut UndefinedParts,
     case: &Case,
     code: &Constants,
     rec: &StepRecord,

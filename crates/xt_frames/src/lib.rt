@@ -20,8 +20,10 @@ pub use breach::{
 };
 pub use callers::{calls_in, change, depth_of, newest_of, sp_in, under};
 pub use frames::Frames;
-pub use holes::{Holes, Nested, ends_nested, is_nesting, mark_read, moved_to, moves_marks};
+pub use holes::{
+    Nested, UndefinedParts, ends_nested, is_nesting, mark_read, moved_to, moves_marks,
+};
 pub use judged::give_numbers;
 pub use kinds::{Breach, BreachKind, Judged};
 pub use nested::{begin, go_on};
-pub use view::{Call, Caller, Plan, Step, View};
+pub use view::{Call, Caller, FrameRegisters, NextEvent, StepSummary};

@@ -4,25 +4,25 @@
 ghost use Rattle.std.specs.Prelude.{◌≡◌, ℕ, Bool, true, IfOk, IfSome, List, Some};
 ghost use Rattle.xt_map.specs.Memory.{constant_byte};
 ghost use Rattle.xt_frames.specs.Frames.{Frame};
-ghost use Rattle.xt_frames.specs.FrameStep.{laid};
+ghost use Rattle.xt_frames.specs.FrameStep.{with_inputs};
 ghost use Rattle.xt_isa.specs.Ranges.{in_range};
 ghost use Rattle.xt_special.specs.Shape.{IsPs};
-ghost use Rattle.xt_rows.specs.Laws.{IsAny, IsProperWrite};
-ghost use Rattle.xt_frames.specs.declared.holes.Holes.{Holes};
+ghost use Rattle.xt_rows.specs.RowLaws.{IsAny, IsProperWrite};
+ghost use Rattle.xt_frames.specs.declared.holes.UndefinedParts.{UndefinedParts};
 ghost use Rattle.xt_frames.specs.Marks.{mark_read, unset_written};
 ghost use Rattle.xt_fetch.specs.Fetching.{Fetched};
 ghost use Rattle.xt_codec.specs.Fetches.{IsFetched, IsGoodFetch};
-ghost use Rattle.xt_frames.specs.Nesting.{begun, keeping, nested_after, nested_fetched};
+ghost use Rattle.xt_frames.specs.Nesting.{nested_entry, with_kept_frame, nested_after, nested_fetched};
 ghost use Rattle.xt_frames.specs.Stacks.{Stack};
 ghost use Rattle.xt_frames.specs.Breaches.{inputs_of};
-ghost use Rattle.xt_frames.specs.Parts.{IsCase, IsSmall, Upper, state_at, turn_as};
+ghost use Rattle.xt_frames.specs.KeptFrameState.{IsCase, IsSmall, Upper, state_at, turn_as};
 ghost use Rattle.xt_frames.specs.Stepped.{IsDone, IsKept, found_by};
 
 use crate::breach::{Case, breach_of, fresh_after, planned};
-use crate::holes::{Holes, NESTED_LEVEL, Nested, ends_nested, mark_read, moved_to};
+use crate::holes::{NESTED_LEVEL, Nested, UndefinedParts, ends_nested, mark_read, moved_to};
 use crate::judged::Done;
 use crate::kinds::BreachKind;
-use crate::view::{Call, Step, View};
+use crate::view::{Call, FrameRegisters, StepSummary};
 use xt_codec::Fetch;
 use xt_isa::Insn;
 use xt_map::Constants;
@@ -50,8 +50,8 @@ const OWN_MARKS: [Option<u8>; 16] = [
 ];
 
 /// Takes an interrupt in the middle of a window handler.
-pub fn begin(view: &mut View, holes: &mut Holes, rec: &StepRecord)
-    ensures state { (frames : List Frame) → state_at frames holes.new view.new ≡ (begun (laid (inputs_of rec.now) (state_at frames holes.old view.old))).after }
+pub fn begin(view: &mut FrameRegisters, holes: &mut UndefinedParts, rec: &StepRecord)
+    ensures state { (frames : List Frame) → state_at frames holes.new view.new ≡ (nested_entry (with_inputs (inputs_of rec.now) (state_at frames holes.old view.old))).after }
     ensures ps { IfSome holes.new.nested (λ x. IsPs x.ps) }
 {
     view.lay(rec);
@@ -70,7 +70,7 @@ pub fn begin(view: &mut View, holes: &mut Holes, rec: &StepRecord)
 }
 
 /// The interrupt after a step inside that moves no mark.
-fn other(old: &Nested, inner: &View) -> Nested
+fn other(old: &Nested, inner: &FrameRegisters) -> Nested
     ensures range { IsPs result.ps }
     ensures pc { result.pc ≡ inner.now.control.pc }
     ensures seen { result.seen ≡ inner.now.seen }
@@ -89,10 +89,16 @@ fn other(old: &Nested, inner: &View) -> Nested
 
 /// The interrupt after the step of an instruction inside: it moves marks between visible and special registers, and puts numbers in
 /// place of marks.
-fn continued(i: Insn, old: &Nested, unset: &mut [bool; 256], step: &Step, inner: &View) -> Nested
+fn continued(
+    i: Insn,
+    old: &Nested,
+    unset: &mut [bool; 256],
+    step: &StepSummary,
+    inner: &FrameRegisters,
+) -> Nested
     requires i { in_range i ≡ true }
     requires write { IsProperWrite IsAny step.now.write }
-    ensures nested { (frames : List Frame) (h : Holes) → result ≡ nested_after i (mark_read i old.now.saved) old.now (turn_as step.now frames h inner.now) }
+    ensures nested { (frames : List Frame) (h : UndefinedParts) → result ≡ nested_after i (mark_read i old.now.saved) old.now (turn_as step.now frames h inner.now) }
     ensures unset { unset.new ≡ unset_written i old.now.marks unset.old }
     ensures range { IsPs result.ps }
 {
@@ -113,11 +119,17 @@ fn continued(i: Insn, old: &Nested, unset: &mut [bool; 256], step: &Step, inner:
 }
 
 /// What is left beside a view by a step inside, where this stood at its PC.
-pub fn go_on(holes: &mut Holes, nested: &Nested, fetch: Fetch, step: &Step, inner: &View)
+pub fn go_on(
+    holes: &mut UndefinedParts,
+    nested: &Nested,
+    fetch: Fetch,
+    step: &StepSummary,
+    inner: &FrameRegisters,
+)
     requires fetch { IsGoodFetch fetch }
     requires write { IsProperWrite IsAny step.now.write }
     ensures state { (frames : List Frame) (v w : Upper) (at : Fetched) (value : ℕ) → IsFetched fetch at
-        → state_at frames holes.old w ≡ keeping (state_at frames holes.old v) (state_at frames holes.old inner.now)
+        → state_at frames holes.old w ≡ with_kept_frame (state_at frames holes.old v) (state_at frames holes.old inner.now)
         → state_at frames holes.new w ≡ (nested_fetched at value nested.now (state_at frames holes.old v) (turn_as step.now frames holes.old inner.now)).after }
     ensures ps { IfSome holes.new.nested (λ x. IsPs x.ps) }
 {
@@ -138,8 +150,8 @@ pub fn go_on(holes: &mut Holes, nested: &Nested, fetch: Fetch, step: &Step, inne
 
 /// Steps a nested interrupt by a record, or says which breach the step shows first. After a breach nothing has changed.
 pub fn judge_nested(
-    view: &mut View,
-    holes: &mut Holes,
+    view: &mut FrameRegisters,
+    holes: &mut UndefinedParts,
     nested: &Nested,
     case: &Case,
     code: &Constants,
@@ -155,7 +167,7 @@ pub fn judge_nested(
     ensures kept { (frames : List Frame) → Stack case.now.limits.lo case.now.limits.hi view.old.seen frames
         → IfOk result (λ done. IsKept case.now.limits.lo case.now.limits.hi (state_at frames holes.old view.old) done (λ fs. state_at fs holes.new view.new)) }
 {
-    let mut inner = view.inside(nested);
+    let mut inner = view.nested_view(nested);
     inner.lay(rec);
     let before = inner;
     let plan = before.plan(code);

@@ -7,17 +7,17 @@ ghost use Rattle.xt_isa.specs.Ranges.{in_range};
 ghost use Rattle.xt_map.specs.Memory.{constant_byte};
 ghost use Rattle.xt_special.specs.Interrupts.{pending_of};
 ghost use Rattle.xt_trace.specs.declared.record.RegWrite.{RegWrite};
-ghost use Rattle.xt_rows.specs.Laws.{IsAny, IsProper, IsProperEffect, IsProperWrite};
+ghost use Rattle.xt_rows.specs.RowLaws.{IsAny, IsProper, IsProperEffect, IsProperWrite};
 ghost use Rattle.xt_rows.specs.Outcomes.{outcome_at};
-ghost use Rattle.xt_frames.specs.Frames.{Frame, known};
-ghost use Rattle.xt_frames.specs.FrameStep.{laid};
+ghost use Rattle.xt_frames.specs.Frames.{Frame, value_or_zero};
+ghost use Rattle.xt_frames.specs.FrameStep.{with_inputs};
 ghost use Rattle.xt_frames.specs.Breaches.{inputs_of, reads_epc1, reads_unset};
-ghost use Rattle.xt_frames.specs.Parts.{Upper, state_at};
+ghost use Rattle.xt_frames.specs.KeptFrameState.{Upper, state_at};
 ghost use Rattle.xt_frames.specs.Quick.{IsAtRest, IsCommon, IsMade, IsQuick, IsQuickOr, IsRowOr, is_mild, sets_vecbase};
 
 use crate::breach::{Limits, Tested, is_in_vectors, is_sp, reads_lost};
-use crate::holes::{Holes, is_unset};
-use crate::view::View;
+use crate::holes::{UndefinedParts, is_unset};
+use crate::view::FrameRegisters;
 use xt_codec::{Fetch, instruction_at};
 use xt_isa::Insn;
 use xt_isa::control::{Control, RetName};
@@ -25,7 +25,7 @@ use xt_isa::density::{Density, NarrowRetName};
 use xt_isa::memory::Memory;
 use xt_isa::shift::Shift;
 use xt_map::Constants;
-use xt_rows::settling::{received, special_value};
+use xt_rows::settling::{reply_write, special_value};
 use xt_rows::{Effect, Outcome, Values, outcome_of, reads, special_reads};
 use xt_special::{SpecialWrite, number};
 use xt_trace::{RegWrite, StepRecord};
@@ -65,7 +65,7 @@ fn is_mild(e: Effect) -> bool
     e.ps.woe && !sets_vecbase(e.sets.0) && !sets_vecbase(e.sets.1) && !sets_vecbase(e.sets.2)
 }
 
-impl View {
+impl FrameRegisters {
     /// Makes an effect of an instruction of this length, and writes this register, if that shows no breach: what it has written. Else
     /// nothing has changed.
     #[inline(always)]
@@ -88,7 +88,7 @@ impl View {
     #[inline(always)]
     fn row(&self, code: &Constants, i: Insn) -> Outcome
         requires { in_range i ≡ true }
-        ensures formula { result ≡ outcome_at (constant_byte code.now) i (known self.now.seen) self.now.control }
+        ensures formula { result ≡ outcome_at (constant_byte code.now) i (value_or_zero self.now.seen) self.now.control }
         ensures proper { IsProper IsAny result }
     {
         let (first, second) = reads(i);
@@ -105,7 +105,7 @@ impl View {
 
     /// Whether an instruction reads no register without a number, and no EPC1 that is lost.
     #[inline(always)]
-    fn reads_numbers(&self, holes: &Holes, fresh: bool, i: Insn) -> bool
+    fn reads_numbers(&self, holes: &UndefinedParts, fresh: bool, i: Insn) -> bool
         requires { in_range i ≡ true }
         ensures reads { result ≡ true → (frames : List Frame) → reads_unset i (state_at frames holes.now self.now) ≡ false }
         ensures lost { result ≡ true → reads_epc1 fresh i ≡ false }
@@ -129,7 +129,7 @@ impl View {
     #[inline(always)]
     fn quick_insn(
         &mut self,
-        holes: &Holes,
+        holes: &UndefinedParts,
         fresh: bool,
         i: Insn,
         len: u8,
@@ -138,7 +138,7 @@ impl View {
     ) -> Option<Option<RegWrite>>
         requires range { in_range i ≡ true }
         requires proper { IsProper IsAny outcome }
-        ensures { (code : ℕ → ℕ) → outcome ≡ outcome_at code i (known self.old.seen) self.old.control
+        ensures { (code : ℕ → ℕ) → outcome ≡ outcome_at code i (value_or_zero self.old.seen) self.old.control
             → IsRowOr result fresh i len code rec.now holes.now self.old self.new }
     {
         if !is_common(i) || is_sp(rec.write) {
@@ -150,7 +150,7 @@ impl View {
         match outcome {
             Outcome::Does(e) => self.make(e, len, e.write),
             Outcome::Asks(_, awaited, e) => {
-                let write = received(awaited, rec.reply);
+                let write = reply_write(awaited, rec.reply);
                 self.make(e, len, write)
             }
             _ => None,
@@ -185,7 +185,7 @@ impl View {
     #[inline(always)]
     fn laid_quick(
         &mut self,
-        holes: &Holes,
+        holes: &UndefinedParts,
         limits: Limits,
         fresh: bool,
         code: &Constants,
@@ -211,14 +211,14 @@ impl View {
     /// its register, if any. Else nothing has changed.
     pub fn quick(
         &mut self,
-        holes: &Holes,
+        holes: &UndefinedParts,
         limits: Limits,
         fresh: bool,
         code: &Constants,
         rec: &StepRecord,
     ) -> Option<Option<RegWrite>>
         requires { holes.now.nested ≡ None }
-        ensures quick { (write : Option RegWrite) → result ≡ Some write → (laid_upper : Upper) × ((frames : List Frame) → state_at frames holes.now laid_upper ≡ laid (inputs_of rec.now) (state_at frames holes.now self.old))
+        ensures quick { (write : Option RegWrite) → result ≡ Some write → (laid_upper : Upper) × ((frames : List Frame) → state_at frames holes.now laid_upper ≡ with_inputs (inputs_of rec.now) (state_at frames holes.now self.old))
             × IsQuick limits fresh (constant_byte code.now) rec.now holes.now write laid_upper self.new }
         ensures other { result ≡ None → self.new ≡ self.old }
     {

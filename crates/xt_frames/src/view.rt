@@ -6,32 +6,32 @@ ghost use Rattle.xt_isa.specs.Ranges.{in_range};
 ghost use Rattle.xt_map.specs.Memory.{constant_byte};
 ghost use Rattle.xt_special.specs.Control.{special_of};
 ghost use Rattle.xt_special.specs.Numbers as numbers;
-ghost use Rattle.xt_special.specs.Timers.{ticked};
-ghost use Rattle.xt_rows.specs.Effects.{puts, unchanged};
-ghost use Rattle.xt_rows.specs.Laws.{IsAny, IsProper, IsProperEffect, IsProperStep, IsProperWrite, IsRegister, IsShiftAmount};
+ghost use Rattle.xt_special.specs.Timers.{after_tick};
+ghost use Rattle.xt_rows.specs.Effects.{puts, no_change};
+ghost use Rattle.xt_rows.specs.RowLaws.{IsAny, IsProper, IsProperEffect, IsProperStep, IsProperWrite, IsRegister, IsShiftAmount};
 ghost use Rattle.xt_rows.specs.Operands.{special_reads};
 ghost use Rattle.xt_fetch.specs.Fetching.{Fetched};
 ghost use Rattle.xt_codec.specs.Fetches.{IsFetched, IsGoodFetch};
 ghost use Rattle.xt_rows.specs.Outcomes.{outcome_at, value_of};
-ghost use Rattle.xt_rows.specs.Settling.{after_effect, after_flow, settled, settled_interrupt, settled_wait};
+ghost use Rattle.xt_rows.specs.Settling.{after_effect, after_flow, after_outcome, settled_interrupt, settled_wait};
 ghost use Rattle.xt_rows.specs.declared.outcome.Flow.TheVariants.{Falls};
-ghost use Rattle.xt_frames.specs.Frames.{Frame, known, opening_frame, seen_after_write};
-ghost use Rattle.xt_frames.specs.FrameStep.{Inputs, done_in_frame, fetched_step, in_frame, laid, laid_step, popped, pushed, raised, windowed_in_frame};
+ghost use Rattle.xt_frames.specs.Frames.{Frame, value_or_zero, opening_frame, seen_after_write};
+ghost use Rattle.xt_frames.specs.FrameStep.{Inputs, done_in_frame, fetched_step, in_frame, with_inputs, step_with_inputs, return_in_frame, entry_in_frame, exception_in_frame, windowed_in_frame};
 ghost use Rattle.xt_frames.specs.Breaches.{inputs_of, lacks};
 ghost use Rattle.xt_frames.specs.declared.view.Call.TheVariants.{Stays};
 ghost use Rattle.xt_special.specs.Shape.{IsPs};
-ghost use Rattle.xt_frames.specs.Nesting.{current, inside, keeping};
-ghost use Rattle.xt_frames.specs.declared.holes.Holes.{Holes};
-ghost use Rattle.xt_frames.specs.Parts.{IsGood, IsNewest, IsPlan, IsSmall, Upper, no_holes, state_at, turn_as};
+ghost use Rattle.xt_frames.specs.Nesting.{current, nested_view, with_kept_frame};
+ghost use Rattle.xt_frames.specs.declared.holes.UndefinedParts.{UndefinedParts};
+ghost use Rattle.xt_frames.specs.KeptFrameState.{IsGood, IsNewest, IsPlan, IsSmall, Upper, no_holes, state_at, turn_as};
 ghost use Rattle.xt_frames.specs.Stepped.{covered_of};
 
-use crate::holes::{Holes, Nested};
+use crate::holes::{Nested, UndefinedParts};
 use crate::registers::{Seen, after_call, after_return, kept_of};
 use std::marker::Model;
 use xt_codec::{Fetch, instruction_at};
 use xt_isa::Insn;
 use xt_map::{Access, Constants};
-use xt_rows::settling::{self, received, special_value};
+use xt_rows::settling::{self, reply_write, special_value};
 use xt_rows::{
     Effect, Flow, Outcome, Values, WindowStep, cause, outcome_of, reads, special_reads, write_to,
 };
@@ -60,7 +60,7 @@ pub enum Call {
 
 /// What a step was, beside the view that it leaves.
 #[derive(Clone, Copy)]
-pub struct Step {
+pub struct StepSummary {
     /// What the step is.
     pub kind: StepKind,
     /// The visible register that it writes.
@@ -73,7 +73,7 @@ pub struct Step {
 
 /// What the next step is.
 #[derive(Clone, Copy)]
-pub enum Plan {
+pub enum NextEvent {
     /// An interrupt of this level is taken.
     Interrupt(u8),
     /// The core waits.
@@ -84,7 +84,7 @@ pub enum Plan {
 
 /// The registers over which the inputs of a record are laid.
 #[derive(Clone, Copy)]
-pub struct Covered {
+pub struct RecordInputs {
     /// CCOUNT.
     pub ccount: u32,
     /// INTERRUPT.
@@ -95,16 +95,16 @@ pub struct Covered {
 
 /// The 16 visible registers and the control state.
 #[derive(Clone, Copy)]
-pub struct View {
+pub struct FrameRegisters {
     pub(crate) pc: u32,
     pub(crate) seen: Seen,
     pub(crate) special: Special,
     pub(crate) waits: bool,
 }
 
-impl Model for View {
+impl Model for FrameRegisters {
     ghost use Rattle.xt_special.specs.Values.{control_at, specials_of};
-    ghost use Rattle.xt_frames.specs.Parts.{Upper};
+    ghost use Rattle.xt_frames.specs.KeptFrameState.{Upper};
 
     ghost Value = { Upper };
 
@@ -114,10 +114,10 @@ impl Model for View {
 }
 
 /// A step that stays in its frame and asks for no access.
-fn without_access(kind: StepKind, write: Option<RegWrite>) -> Step
+fn without_access(kind: StepKind, write: Option<RegWrite>) -> StepSummary
     ensures { result ≡ record { kind = kind; write = write; access = None; call = Stays } }
 {
-    Step {
+    StepSummary {
         kind,
         write,
         access: None,
@@ -125,12 +125,12 @@ fn without_access(kind: StepKind, write: Option<RegWrite>) -> Step
     }
 }
 
-impl View {
+impl FrameRegisters {
     /// The state in which a core opens.
     ///
     /// Conditions: the core is 0 or 1, `vecbase` is a multiple of 1024, and `stack_end` is at least 64.
     #[tactic(auto, unfolding(crate::specs::Frames::opening_seen))]
-    pub fn open(core: u8, pc: u32, vecbase: u32, stack_end: u32) -> View
+    pub fn open(core: u8, pc: u32, vecbase: u32, stack_end: u32) -> FrameRegisters
         requires vecbase { vecbase % 2 ^ 10 ≡ 0 }
         requires stack { 64 ≤ stack_end }
         ensures { state_at [] no_holes result ≡ opening_frame core pc vecbase stack_end }
@@ -139,7 +139,7 @@ impl View {
         let mut seen = [Some(0); 16];
         seen[1] = Some(stack_end - 64);
         seen[8] = Some(0x8000_0000);
-        View {
+        FrameRegisters {
             pc,
             seen,
             special: Special::new(prid, vecbase),
@@ -149,7 +149,7 @@ impl View {
 
     /// The inputs of a record, laid over the state.
     pub fn lay(&mut self, rec: &StepRecord)
-        ensures { (frames : List Frame) (h : Holes) → state_at frames h self.new ≡ laid (inputs_of rec.now) (state_at frames h self.old) }
+        ensures { (frames : List Frame) (h : UndefinedParts) → state_at frames h self.new ≡ with_inputs (inputs_of rec.now) (state_at frames h self.old) }
     {
         self.special.set_register(number::CCOUNT, rec.ccount);
         self.special.set_register(number::INTERRUPT, rec.interrupt);
@@ -157,11 +157,11 @@ impl View {
     }
 
     /// What the inputs of a record will be laid over.
-    pub fn covered(&self) -> Covered
+    pub fn covered(&self) -> RecordInputs
         ensures value { result ≡ covered_of self.now }
         ensures range { result.owb < 16 }
     {
-        Covered {
+        RecordInputs {
             ccount: self.special.register(number::CCOUNT),
             interrupt: self.special.register(number::INTERRUPT),
             owb: self.special.owb(),
@@ -169,10 +169,10 @@ impl View {
     }
 
     /// Takes the inputs of a record off again.
-    pub fn uncover(&mut self, covered: Covered)
+    pub fn uncover(&mut self, covered: RecordInputs)
         requires { covered.owb < 16 }
-        ensures { (old : Upper) (inp : Inputs) (frames : List Frame) (h : Holes) → covered ≡ covered_of old
-            → state_at frames h self.old ≡ laid inp (state_at frames h old) → self.new ≡ old }
+        ensures { (old : Upper) (inp : Inputs) (frames : List Frame) (h : UndefinedParts) → covered ≡ covered_of old
+            → state_at frames h self.old ≡ with_inputs inp (state_at frames h old) → self.new ≡ old }
     {
         self.special.set_register(number::CCOUNT, covered.ccount);
         self.special
@@ -181,9 +181,9 @@ impl View {
     }
 
     /// The value of a visible register, 0 where it has none.
-    pub fn known(&self, i: u8) -> u32
+    pub fn value_or_zero(&self, i: u8) -> u32
         requires { i < 16 }
-        ensures { result ≡ known self.now.seen i }
+        ensures { result ≡ value_or_zero self.now.seen i }
     {
         match self.seen[i as usize] {
             Some(value) => value,
@@ -229,9 +229,9 @@ impl View {
     }
 
     /// The state of a nested interrupt: its PC, registers and PS, and all else of this.
-    pub fn inside(&self, nested: &Nested) -> View
+    pub fn nested_view(&self, nested: &Nested) -> FrameRegisters
         requires { IsPs nested.now.ps }
-        ensures { (frames : List Frame) (h : Holes) → state_at frames h result ≡ inside nested.now (state_at frames h self.now) }
+        ensures { (frames : List Frame) (h : UndefinedParts) → state_at frames h result ≡ nested_view nested.now (state_at frames h self.now) }
     {
         let mut view = *self;
         view.pc = nested.pc;
@@ -241,19 +241,19 @@ impl View {
     }
 
     /// What the next step finds: the state of a nested interrupt where there is one.
-    pub fn current(&self, holes: &Holes) -> View
+    pub fn current(&self, holes: &UndefinedParts) -> FrameRegisters
         requires { IfSome holes.now.nested (λ x. IsPs x.ps) }
         ensures { (frames : List Frame) → state_at frames holes.now result ≡ current (state_at frames holes.now self.now) }
     {
         match &holes.nested {
-            Some(nested) => self.inside(nested),
+            Some(nested) => self.nested_view(nested),
             None => *self,
         }
     }
 
     /// Takes what a step has left, but for PC, registers and PS.
-    pub fn keep(&mut self, after: &View)
-        ensures { (frames : List Frame) (h : Holes) → state_at frames h self.new ≡ keeping (state_at frames h self.old) (state_at frames h after.now) }
+    pub fn keep(&mut self, after: &FrameRegisters)
+        ensures { (frames : List Frame) (h : UndefinedParts) → state_at frames h self.new ≡ with_kept_frame (state_at frames h self.old) (state_at frames h after.now) }
     {
         let ps = self.special.ps_fields();
         self.special = after.special;
@@ -317,7 +317,7 @@ impl View {
 
     #[inline(always)]
     pub(crate) fn tick(&mut self)
-        ensures { self.new ≡ record self.old { control = ticked self.old.control } }
+        ensures { self.new ≡ record self.old { control = after_tick self.old.control } }
     {
         xt_timer::tick(&mut self.special);
     }
@@ -349,9 +349,9 @@ impl View {
         }
     }
 
-    fn raise(&mut self, cause: u8, addr: Option<u32>) -> Step
+    fn raise(&mut self, cause: u8, addr: Option<u32>) -> StepSummary
         requires { cause < 64 }
-        ensures turn { (frames : List Frame) (h : Holes) → turn_as result frames h self.new ≡ raised cause addr (state_at frames h self.old) }
+        ensures turn { (frames : List Frame) (h : UndefinedParts) → turn_as result frames h self.new ≡ exception_in_frame cause addr (state_at frames h self.old) }
         ensures write { IsProperWrite IsAny result.write }
     {
         self.pc = xt_exc::general(&mut self.special, self.pc, cause, addr);
@@ -360,10 +360,10 @@ impl View {
     }
 
     /// Takes an interrupt.
-    pub fn interrupt(&mut self, level: u8) -> Step
+    pub fn interrupt(&mut self, level: u8) -> StepSummary
         requires low { 1 ≤ level }
         requires high { level ≤ 5 }
-        ensures turn { (frames : List Frame) (h : Holes) → turn_as result frames h self.new ≡ in_frame (settled_interrupt level self.old.control) 0 (state_at frames h self.old) }
+        ensures turn { (frames : List Frame) (h : UndefinedParts) → turn_as result frames h self.new ≡ in_frame (settled_interrupt level self.old.control) 0 (state_at frames h self.old) }
         ensures write { IsProperWrite IsAny result.write }
     {
         self.pc = xt_exc::interrupt(&mut self.special, self.pc, level);
@@ -372,8 +372,8 @@ impl View {
         without_access(StepKind::Interrupt(level), None)
     }
 
-    fn wait(&mut self) -> Step
-        ensures turn { (frames : List Frame) (h : Holes) → turn_as result frames h self.new ≡ in_frame (settled_wait self.old.control) 0 (state_at frames h self.old) }
+    fn wait(&mut self) -> StepSummary
+        ensures turn { (frames : List Frame) (h : UndefinedParts) → turn_as result frames h self.new ≡ in_frame (settled_wait self.old.control) 0 (state_at frames h self.old) }
         ensures write { IsProperWrite IsAny result.write }
     {
         self.tick();
@@ -381,10 +381,10 @@ impl View {
     }
 
     /// ENTRY outside exception mode.
-    #[tactic(auto, unfolding(crate::specs::FrameStep::pushed))]
-    fn enter(&mut self, number: u8, value: u32, len: u8) -> Step
+    #[tactic(auto, unfolding(crate::specs::FrameStep::entry_in_frame))]
+    fn enter(&mut self, number: u8, value: u32, len: u8) -> StepSummary
         requires { number < 16 }
-        ensures turn { (frames : List Frame) (h : Holes) → turn_as result frames h self.new ≡ pushed number value len (state_at frames h self.old) }
+        ensures turn { (frames : List Frame) (h : UndefinedParts) → turn_as result frames h self.new ≡ entry_in_frame number value len (state_at frames h self.old) }
         ensures write { IsProperWrite IsAny result.write }
     {
         let by = self.special.callinc();
@@ -393,7 +393,7 @@ impl View {
         self.seen[number as usize] = Some(value);
         self.falls(len);
         self.tick();
-        Step {
+        StepSummary {
             kind: StepKind::Insn,
             write: write_to(number, value),
             access: None,
@@ -402,10 +402,10 @@ impl View {
     }
 
     /// RETW outside exception mode, with this value of a0.
-    #[tactic(auto, unfolding(crate::specs::FrameStep::popped))]
-    fn leave(&mut self, a0: u32, newest: &Option<Caller>) -> Step
+    #[tactic(auto, unfolding(crate::specs::FrameStep::return_in_frame))]
+    fn leave(&mut self, a0: u32, newest: &Option<Caller>) -> StepSummary
         requires { IsSmall newest.now }
-        ensures turn { (frames : List Frame) (h : Holes) → IsNewest newest.now frames → turn_as result frames h self.new ≡ popped a0 (state_at frames h self.old) }
+        ensures turn { (frames : List Frame) (h : UndefinedParts) → IsNewest newest.now frames → turn_as result frames h self.new ≡ return_in_frame a0 (state_at frames h self.old) }
         ensures write { IsProperWrite IsAny result.write }
     {
         let Some(caller) = *newest else {
@@ -414,7 +414,7 @@ impl View {
         self.seen = after_return(&caller.kept, &self.seen, caller.by);
         self.pc = settling::return_pc(self.pc, a0);
         self.tick();
-        Step {
+        StepSummary {
             kind: StepKind::Insn,
             write: None,
             access: None,
@@ -426,10 +426,10 @@ impl View {
     #[inline(always)]
     pub fn visible_value(&self, register: Option<u8>) -> u32
         requires { IsRegister register }
-        ensures { result ≡ value_of (known self.now.seen) register }
+        ensures { result ≡ value_of (value_or_zero self.now.seen) register }
     {
         match register {
-            Some(number) => self.known(number),
+            Some(number) => self.value_or_zero(number),
             None => 0,
         }
     }
@@ -437,7 +437,7 @@ impl View {
     /// What comes of the instruction at PC.
     fn outcome(&self, code: &Constants, i: Insn) -> Outcome
         requires { in_range i ≡ true }
-        ensures formula { result ≡ outcome_at (constant_byte code.now) i (known self.now.seen) self.now.control }
+        ensures formula { result ≡ outcome_at (constant_byte code.now) i (value_or_zero self.now.seen) self.now.control }
         ensures proper { IsProper IsAny result }
     {
         let (first, second) = reads(i);
@@ -452,10 +452,10 @@ impl View {
         outcome_of::<Self>(code, i, self.pc, values, ps, self.special.threadptr())
     }
 
-    fn windowed(&mut self, step: WindowStep, len: u8, newest: &Option<Caller>) -> Step
+    fn windowed(&mut self, step: WindowStep, len: u8, newest: &Option<Caller>) -> StepSummary
         requires proper { IsProperStep step }
         requires small { IsSmall newest.now }
-        ensures turn { (frames : List Frame) (h : Holes) (reply : ℕ) → IsNewest newest.now frames → turn_as result frames h self.new ≡ windowed_in_frame step len reply (state_at frames h self.old) }
+        ensures turn { (frames : List Frame) (h : UndefinedParts) (reply : ℕ) → IsNewest newest.now frames → turn_as result frames h self.new ≡ windowed_in_frame step len reply (state_at frames h self.old) }
         ensures write { IsProperWrite IsAny result.write }
     {
         match step {
@@ -481,10 +481,16 @@ impl View {
     }
 
     /// What an outcome leaves.
-    fn carry_out(&mut self, outcome: Outcome, len: u8, reply: u32, newest: &Option<Caller>) -> Step
+    fn carry_out(
+        &mut self,
+        outcome: Outcome,
+        len: u8,
+        reply: u32,
+        newest: &Option<Caller>,
+    ) -> StepSummary
         requires proper { IsProper IsAny outcome }
         requires small { IsSmall newest.now }
-        ensures turn { (frames : List Frame) (h : Holes) → IsNewest newest.now frames → turn_as result frames h self.new ≡ done_in_frame outcome len reply (state_at frames h self.old) }
+        ensures turn { (frames : List Frame) (h : UndefinedParts) → IsNewest newest.now frames → turn_as result frames h self.new ≡ done_in_frame outcome len reply (state_at frames h self.old) }
         ensures write { IsProperWrite IsAny result.write }
     {
         match outcome {
@@ -496,11 +502,11 @@ impl View {
             }
             Outcome::Raises(cause, addr) => self.raise(cause, addr),
             Outcome::Asks(access, awaited, e) => {
-                let write = received(awaited, reply);
+                let write = reply_write(awaited, reply);
                 self.apply(e, len);
                 self.tick();
                 self.write(write);
-                Step {
+                StepSummary {
                     kind: StepKind::Insn,
                     write,
                     access: Some(access),
@@ -516,10 +522,10 @@ impl View {
     }
 
     /// MOVSP of this length, where it raises nothing: the register receives the value.
-    pub fn move_stack(&mut self, number: u8, value: u32, len: u8) -> Step
+    pub fn move_stack(&mut self, number: u8, value: u32, len: u8) -> StepSummary
         requires { number < 16 }
-        ensures turn { (frames : List Frame) (h : Holes) → turn_as result frames h self.new
-            ≡ in_frame (settled (puts number value (unchanged self.old.control.ps self.old.control.threadptr)) len self.old.control) 0 (state_at frames h self.old) }
+        ensures turn { (frames : List Frame) (h : UndefinedParts) → turn_as result frames h self.new
+            ≡ in_frame (after_outcome (puts number value (no_change self.old.control.ps self.old.control.threadptr)) len self.old.control) 0 (state_at frames h self.old) }
         ensures write { IsProperWrite IsAny result.write }
     {
         let e = Effect {
@@ -537,17 +543,17 @@ impl View {
     }
 
     /// What the next step is, where the inputs of a record are laid over the state.
-    pub fn plan(&self, code: &Constants) -> Plan
+    pub fn plan(&self, code: &Constants) -> NextEvent
         ensures plan { IsPlan result (constant_byte code.now) self.now.control }
         ensures good { IsGood result }
     {
         match xt_exc::pending(&self.special) {
-            Some(level) => Plan::Interrupt(level),
+            Some(level) => NextEvent::Interrupt(level),
             None => {
                 if self.waits {
-                    Plan::Waits
+                    NextEvent::Waits
                 } else {
-                    Plan::Fetched(instruction_at::<Self>(code, self.pc))
+                    NextEvent::Fetched(instruction_at::<Self>(code, self.pc))
                 }
             }
         }
@@ -560,10 +566,10 @@ impl View {
         fetch: Fetch,
         reply: u32,
         newest: &Option<Caller>,
-    ) -> Step
+    ) -> StepSummary
         requires small { IsSmall newest.now }
         requires good { IsGoodFetch fetch }
-        ensures turn { (frames : List Frame) (h : Holes) (f : Fetched) → IsFetched fetch f → IsNewest newest.now frames
+        ensures turn { (frames : List Frame) (h : UndefinedParts) (f : Fetched) → IsFetched fetch f → IsNewest newest.now frames
             → turn_as result frames h self.new ≡ fetched_step f (constant_byte code.now) reply (state_at frames h self.old) }
         ensures write { IsProperWrite IsAny result.write }
     {
@@ -578,25 +584,25 @@ impl View {
     }
 
     /// The step that was planned, with the reply to its access, where this is the newest caller.
-    #[tactic(auto, unfolding(crate::specs::FrameStep::laid_step))]
+    #[tactic(auto, unfolding(crate::specs::FrameStep::step_with_inputs))]
     pub fn step(
         &mut self,
         code: &Constants,
-        plan: Plan,
+        plan: NextEvent,
         reply: u32,
         newest: &Option<Caller>,
-    ) -> Step
+    ) -> StepSummary
         requires plan { IsPlan plan (constant_byte code.now) self.old.control }
         requires small { IsSmall newest.now }
         requires good { IsGood plan }
-        ensures turn { (frames : List Frame) (h : Holes) → IsNewest newest.now frames
-            → turn_as result frames h self.new ≡ laid_step (constant_byte code.now) reply (state_at frames h self.old) }
+        ensures turn { (frames : List Frame) (h : UndefinedParts) → IsNewest newest.now frames
+            → turn_as result frames h self.new ≡ step_with_inputs (constant_byte code.now) reply (state_at frames h self.old) }
         ensures write { IsProperWrite IsAny result.write }
     {
         match plan {
-            Plan::Interrupt(level) => self.interrupt(level),
-            Plan::Waits => self.wait(),
-            Plan::Fetched(fetch) => self.fetched_step(code, fetch, reply, newest),
+            NextEvent::Interrupt(level) => self.interrupt(level),
+            NextEvent::Waits => self.wait(),
+            NextEvent::Fetched(fetch) => self.fetched_step(code, fetch, reply, newest),
         }
     }
 }

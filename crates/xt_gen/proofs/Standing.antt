@@ -12,10 +12,10 @@ use Rattle.xt_map.specs.Placing.{do_overlap, is_device, is_well_placed}
 use Rattle.xt_map.specs.Regions.{is_executable, ranges, region_of}
 use Rattle.xt_image.specs.declared.image.Image.{Image}
 use Rattle.xt_image.specs.Made.{made_head}
-use Rattle.xt_image.specs.Parts.{FitsImage, FitsSegment, IsWellFormed, MeetsRules}
+use Rattle.xt_image.specs.ImageParts.{FitsImage, FitsSegment, IsWellFormed, MeetsRules}
 use Rattle.xt_image.proofs.Capacity.{is_short}
 use Rattle.xt_image.proofs.Ruled.{by_rules}
-use Rattle.xt_gen.specs.Generated.{code, generated, handlers, segment_at, table_of}
+use Rattle.xt_gen.specs.Generated.{code, generated_image, handlers, segment_at, table_of}
 use Rattle.xt_gen.proofs.Tabled.{words_length, words_small}
 
 -- so many bytes
@@ -152,5 +152,5 @@ with_good t h c gt gh gc =
     } in
     (by_rules i).1 (fitting, (rules, is_short i fitting rules (four (λ s. is_loaded s ≡ true) _ _ _ _ refl refl refl refl)))
 
-pub generated_is_well_formed : (number : ℕ) → IsWellFormed (generated number)
+pub generated_is_well_formed : (number : ℕ) → IsWellFormed (generated_image number)
 generated_is_well_formed number = with_good (table_of number) handlers code (good_table number) good_handlers good_code

@@ -104,8 +104,8 @@ segment_at addr bytes = record { addr = addr; bytes = bytes }
 
 -- the table, the words `total` and `done`, the window handlers, and the program,
 -- which begins after its pool
-abbrev pub generated : ℕ → Image
-generated number = record {
+abbrev pub generated_image : ℕ → Image
+generated_image number = record {
   head = made_head;
   entry = 0x400D0018;
   digest = true;

@@ -7,5 +7,5 @@ mod order;
 mod program;
 mod table;
 
-pub use making::generated;
+pub use making::generated_image;
 pub use order::seeded_order;

@@ -1,6 +1,6 @@
 ghost use Rattle.std.specs.Prelude.{◌≡◌, IfOk};
-ghost use Rattle.xt_gen.specs.Generated.{generated, segment_at};
-ghost use Rattle.xt_image.specs.Parts.{IsWellFormed};
+ghost use Rattle.xt_gen.specs.Generated.{generated_image, segment_at};
+ghost use Rattle.xt_image.specs.ImageParts.{IsWellFormed};
 ghost use Rattle.xt_gen.specs.Generated.{code, handlers};
 
 use crate::program::{CODE, HANDLERS};
@@ -35,7 +35,7 @@ fn code_segment(alloc: Global) -> Result<Segment, AllocError>
 
 // The image of a number.
 fn image_of(alloc: Global, number: u32) -> Result<Image, AllocError>
-    ensures { IfOk result (λ i. i ≡ generated number) }
+    ensures { IfOk result (λ i. i ≡ generated_image number) }
 {
     let segments = vec![in alloc;
         Segment {
@@ -62,8 +62,8 @@ fn image_of(alloc: Global, number: u32) -> Result<Image, AllocError>
 /// It has the head of an image that is made, a digest, and four segments: at 0x3F400000 the 32,768
 /// numbers that follow the given one, at 0x3FFB0000 the words `total` and `done`, at 0x40080000 the
 /// six window handlers, and at 0x400D0000 the program.
-pub fn generated(alloc: Global, number: u32) -> Result<Image, AllocError>
-    ensures image { IfOk result (λ i. i ≡ generated number) }
+pub fn generated_image(alloc: Global, number: u32) -> Result<Image, AllocError>
+    ensures image { IfOk result (λ i. i ≡ generated_image number) }
     ensures well_formed { IfOk result IsWellFormed }
 {
     let image = image_of(alloc, number)?;

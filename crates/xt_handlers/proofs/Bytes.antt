@@ -2,15 +2,15 @@
 use Rattle.std.proofs.Common.{◌≡◌, ℕ, zero, suc, ◌+◌, ◌<◌, ◌≤◌, refl, sym, ◌∙◌, ap, arith, List, length, get_or, drop}
 use Rattle.xt_isa.specs.Spelling.{length_of}
 use Rattle.xt_fetch.specs.Code.{code_bytes}
-use Rattle.xt_stretch.specs.Symbols.{Effect, applied}
+use Rattle.xt_stretch.specs.Symbols.{Effect, effect_after_step}
 use Rattle.xt_stretch.specs.Handling.{answer_at, walk}
 use Rattle.xt_stretch.specs.Spelled.{step_of, lines_in}
 use Rattle.xt_stretch.specs.declared.Side.{Side}
-use Rattle.xt_stretch.specs.declared.Step.{Step}
+use Rattle.xt_stretch.specs.declared.HandlerInsn.{HandlerInsn}
 use Rattle.xt_stretch.specs.declared.HandlerVerdict.{HandlerVerdict}
 use Rattle.xt_stretch.specs.declared.HandlerVerdict.TheVariants.{No}
 use Rattle.xt_stretch.specs.declared.Side.TheVariants.{Overflow, Underflow}
-use Rattle.xt_stretch.specs.declared.Step.TheVariants.{Rfwo, Rfwu, Foreign}
+use Rattle.xt_stretch.specs.declared.HandlerInsn.TheVariants.{Rfwo, Rfwu, Foreign}
 use Rattle.xt_stretch.proofs.Lines.{here, lines_cut}
 
 pub code_bytes-length : (code : ℕ → ℕ) (a n : ℕ) → length (code_bytes code a n) ≡ n
@@ -28,10 +28,10 @@ code_bytes-past code a (suc n) zero h = absurd (omega arith)
 code_bytes-past code a (suc n) (suc i) h = code_bytes-past code (a + 1) n i (omega arith)
 
 -- the answer by the instruction at an offset, of which the first byte is given
-pub here_at : (side : Side) (n : ℕ) (e : Effect) (bytes : List ℕ) (o len first second third : ℕ) (step : Step) (answer : HandlerVerdict) →
+pub here_at : (side : Side) (n : ℕ) (e : Effect) (bytes : List ℕ) (o len first second third : ℕ) (step : HandlerInsn) (answer : HandlerVerdict) →
     length bytes ≡ 64 → 2 ≤ len → len ≡ length_of first → o + len ≤ 64 → first ≡ get_or bytes o 0 → second ≡ get_or bytes (o + 1) 0 → third ≡ get_or bytes (o + 2) 0 →
     step ≡ step_of first second third → walk side n e (lines_in 0 o (drop o bytes)) ≡ answer →
-    answer_at side n e o step (walk side n (applied e step) (lines_in 0 (o + len) (drop (o + len) bytes))) ≡ answer
+    answer_at side n e o step (walk side n (effect_after_step e step) (lines_in 0 (o + len) (drop (o + len) bytes))) ≡ answer
 here_at side n e bytes o len first second third step answer size low is h a b c st w =
     here side n e bytes o len second third step answer low (is ∙ ap length_of a) (omega (arith, size)) b c (st ∙ ap (λ x. step_of x second third) a) w
 
@@ -57,5 +57,5 @@ pub foreign_at : (side : Side) (n : ℕ) (e : Effect) (bytes : List ℕ) (o len 
     length bytes ≡ 64 → 2 ≤ len → len ≡ length_of first → o + len ≤ 64 → first ≡ get_or bytes o 0 → second ≡ get_or bytes (o + 1) 0 → third ≡ get_or bytes (o + 2) 0 →
     Foreign ≡ step_of first second third → walk side n e (lines_in 0 o (drop o bytes)) ≡ answer → No o ≡ answer
 foreign_at side n e bytes o len first second third answer size low is h a b c st w =
-    foreign_stops side n o e (walk side n (applied e Foreign) (lines_in 0 (o + len) (drop (o + len) bytes))) answer
+    foreign_stops side n o e (walk side n (effect_after_step e Foreign) (lines_in 0 (o + len) (drop (o + len) bytes))) answer
     (here_at side n e bytes o len first second third Foreign answer size low is h a b c st w)

@@ -3,8 +3,8 @@ use Rattle.std.proofs.Common.{◌≡◌, ◌≢◌, ℕ, ◌+◌, ◌<◌, inl, 
 use Rattle.std.proofs.lemmas.Bool.{false≢true, and_from, and_left, cases_lt, MatchBool-at_false, MatchBool-at_true}
 use Rattle.std.specs.Bool.{MatchBool}
 use Rattle.std.proofs.lemmas.List.{get_or-map, map-set, length-set, length-map, drop_more, get_or_past}
-use Rattle.xt_stretch.specs.Symbols.{Init, Load, Store, Effect, register, applied, same_store}
-use Rattle.xt_stretch.specs.Needs.{save_of, then_without, without, still_wanted, wanted_stores, is_among, named_words, are_named, is_done, are_right, is_right, has_effect, marked, IsSpoiled}
+use Rattle.xt_stretch.specs.Symbols.{Init, Load, Store, Effect, register, effect_after_step, same_store}
+use Rattle.xt_stretch.specs.Needs.{save_of, then_without, without, still_wanted, wanted_stores, is_among, named_words, are_named, is_done, are_right, is_right, has_effect, marked_stores, IsSpoiled}
 use Rattle.xt_handlers.specs.Flat.{symbol_of, symbols_of, word_at, Follows, Tracks}
 use Rattle.xt_stretch.proofs.Stores.{save_apart, without_marked, without_none, never, spoiled_end}
 use Rattle.xt_stretch.specs.declared.Side.{Side}
@@ -12,7 +12,7 @@ use Rattle.xt_stretch.specs.declared.Side.TheVariants.{Overflow, Underflow}
 use Rattle.xt_handlers.specs.declared.Mark.{Mark}
 use Rattle.xt_handlers.specs.declared.Mark.TheVariants.{Initial}
 use Rattle.xt_handlers.specs.declared.Evaluation.{Evaluation}
-use Rattle.xt_stretch.specs.declared.Step.TheVariants.{L32e, S32e}
+use Rattle.xt_stretch.specs.declared.HandlerInsn.TheVariants.{L32e, S32e}
 
 -- ---- the two kinds of state
 pub tracks_from : (side : Side) (n : ℕ) (v : Evaluation) (e : Effect) → v.spoiled ≡ false → Follows side n v e → Tracks side n v e
@@ -27,7 +27,7 @@ register_of side n i marks b h e = get_or-map (symbol_of side n) marks i (Initia
 
 pub load_named : (side : Side) (n t s back : ℕ) (v : Evaluation) (e : Effect) (b m : Mark) → s < 16 → Follows side n v e → b ≡ get_or v.marks s (Initial 0) →
     is_among (word_at side n b back) (named_words side n) ≡ true → symbol_of side n m ≡ Load (symbol_of side n b) back →
-    Follows side n (record { marks = set v.marks t m; wanted = v.wanted; spoiled = v.spoiled }) (applied e (L32e t s back))
+    Follows side n (record { marks = set v.marks t m; wanted = v.wanted; spoiled = v.spoiled }) (effect_after_step e (L32e t s back))
 load_named side n t s back v e b m hs f eb named is =
     let lt : s < length v.marks = omega (arith, f.marks) in
     let at : register e.regs s ≡ symbol_of side n b = ap (λ r. register r s) f.regs ∙ register_of side n s v.marks b lt eb in
@@ -42,14 +42,14 @@ load_named side n t s back v e b m hs f eb named is =
     }
 
 pub load_unnamed : (side : Side) (n t s back : ℕ) (v : Evaluation) (e : Effect) (b : Mark) → s < 16 → Follows side n v e → b ≡ get_or v.marks s (Initial 0) →
-    is_among (word_at side n b back) (named_words side n) ≡ false → IsSpoiled side n (applied e (L32e t s back))
+    is_among (word_at side n b back) (named_words side n) ≡ false → IsSpoiled side n (effect_after_step e (L32e t s back))
 load_unnamed side n t s back v e b hs f eb named =
     let lt : s < length v.marks = omega (arith, f.marks) in
     let at : register e.regs s ≡ symbol_of side n b = ap (λ r. register r s) f.regs ∙ register_of side n s v.marks b lt eb in
     inr (and_left (is_among (record { base = register e.regs s; back = back }) (named_words side n)) (are_named side n e.loads) (ap (λ x. is_among (record { base = x; back = back }) (named_words side n)) at ∙ named))
 
 -- ---- one store
-pub store_after_spoiled : (side : Side) (n t s back : ℕ) (e : Effect) → IsSpoiled side n e → IsSpoiled side n (applied e (S32e t s back))
+pub store_after_spoiled : (side : Side) (n t s back : ℕ) (e : Effect) → IsSpoiled side n e → IsSpoiled side n (effect_after_step e (S32e t s back))
 store_after_spoiled side n t s back e (inl h) = inl (ap (then_without (record { word = record { base = register e.regs s; back = back }; value = register e.regs t })) h)
 store_after_spoiled side n t s back e (inr h) = inr h
 
@@ -65,7 +65,7 @@ made side n t s back v e b value hs ht f eb ev =
 
 pub store_wanted : (n t s back i : ℕ) (v : Evaluation) (e : Effect) (b value : Mark) → s < 16 → t < 16 → Follows Overflow n v e → b ≡ get_or v.marks s (Initial 0) → value ≡ get_or v.marks t (Initial 0) →
     ◌≡◌ {A = Store} (record { word = word_at Overflow n b back; value = symbol_of Overflow n value }) (save_of n i) → get_or v.wanted i false ≡ true →
-    Follows Overflow n (record { marks = v.marks; wanted = set v.wanted i false; spoiled = v.spoiled }) (applied e (S32e t s back))
+    Follows Overflow n (record { marks = v.marks; wanted = set v.wanted i false; spoiled = v.spoiled }) (effect_after_step e (S32e t s back))
 store_wanted n t s back i v e b value hs ht f eb ev is h =
     let m = made Overflow n t s back v e b value hs ht f eb ev ∙ is in
     let zero_plus : i ≡ 0 + i = omega arith in
@@ -75,13 +75,13 @@ store_wanted n t s back i v e b value hs ht f eb ev is h =
       regs = f.regs;
       stores = ap (λ st. then_without st (still_wanted e.stores (wanted_stores Overflow n))) m
           ∙ (ap (then_without (save_of n i)) f.stores
-          ∙ (ap (λ j. without (save_of n j) (marked n 0 v.wanted)) zero_plus ∙ without_marked n 0 i v.wanted h));
+          ∙ (ap (λ j. without (save_of n j) (marked_stores n 0 v.wanted)) zero_plus ∙ without_marked n 0 i v.wanted h));
       loads = f.loads;
     }
 
 pub store_unwanted : (n t s back : ℕ) (v : Evaluation) (e : Effect) (b value : Mark) → s < 16 → t < 16 → Follows Overflow n v e → b ≡ get_or v.marks s (Initial 0) → value ≡ get_or v.marks t (Initial 0) →
     ((k : ℕ) → get_or v.wanted k false ≡ true → same_store (record { word = word_at Overflow n b back; value = symbol_of Overflow n value }) (save_of n k) ≡ false) →
-    IsSpoiled Overflow n (applied e (S32e t s back))
+    IsSpoiled Overflow n (effect_after_step e (S32e t s back))
 store_unwanted n t s back v e b value hs ht f eb ev h =
     let m = made Overflow n t s back v e b value hs ht f eb ev in
     let st : Store = record { word = word_at Overflow n b back; value = symbol_of Overflow n value } in
@@ -89,7 +89,7 @@ store_unwanted n t s back v e b value hs ht f eb ev h =
     ∙ (ap (then_without st) f.stores
     ∙ without_none n 0 st v.wanted (λ k p. let e : 0 + k ≡ k = omega arith in ap (λ j. same_store st (save_of n j)) e ∙ h k p)))
 
-pub store_never : (n t s back : ℕ) (v : Evaluation) (e : Effect) → Follows Underflow n v e → IsSpoiled Underflow n (applied e (S32e t s back))
+pub store_never : (n t s back : ℕ) (v : Evaluation) (e : Effect) → Follows Underflow n v e → IsSpoiled Underflow n (effect_after_step e (S32e t s back))
 store_never n t s back v e f = inl (never e.stores (record { word = record { base = register e.regs s; back = back }; value = register e.regs t }))
 
 -- ---- one store, as the code's branches have it
@@ -98,27 +98,27 @@ made_store n b back value = record { word = word_at Overflow n b back; value = s
 
 pub by_wanted : (side : Side) (n t s back i : ℕ) (v : Evaluation) (e : Effect) (b value : Mark) → side ≡ Overflow → v.spoiled ≡ false → Tracks side n v e → s < 16 → t < 16 → b ≡ get_or v.marks s (Initial 0) → value ≡ get_or v.marks t (Initial 0) →
     made_store n b back value ≡ save_of n i → get_or v.wanted i false ≡ true →
-    Tracks side n (record { marks = v.marks; wanted = set v.wanted i false; spoiled = v.spoiled }) (applied e (S32e t s back))
+    Tracks side n (record { marks = v.marks; wanted = set v.wanted i false; spoiled = v.spoiled }) (effect_after_step e (S32e t s back))
 by_wanted Underflow n t s back i v e b value side good tr hs ht eb ev is h = absurd cc
 by_wanted Overflow n t s back i v e b value side good tr hs ht eb ev is h =
     tracks_from Overflow n _ _ good (store_wanted n t s back i v e b value hs ht (follows_from Overflow n v e good tr) eb ev is h)
 
 pub by_unwanted : (side : Side) (n t s back i : ℕ) (v : Evaluation) (e : Effect) (b value : Mark) → side ≡ Overflow → v.spoiled ≡ false → Tracks side n v e → s < 16 → t < 16 → b ≡ get_or v.marks s (Initial 0) → value ≡ get_or v.marks t (Initial 0) →
-    made_store n b back value ≡ save_of n i → get_or v.wanted i false ≡ false → IsSpoiled side n (applied e (S32e t s back))
+    made_store n b back value ≡ save_of n i → get_or v.wanted i false ≡ false → IsSpoiled side n (effect_after_step e (S32e t s back))
 by_unwanted Underflow n t s back i v e b value side good tr hs ht eb ev is h = absurd cc
 by_unwanted Overflow n t s back i v e b value side good tr hs ht eb ev is h =
     store_unwanted n t s back v e b value hs ht (follows_from Overflow n v e good tr) eb ev
     (λ k p. let ne : i ≢ k = λ q. false≢true (sym h ∙ (ap (λ j. get_or v.wanted j false) q ∙ p)) in ap (λ x. same_store x (save_of n k)) is ∙ save_apart n i k ne)
 
 pub by_none : (side : Side) (n t s back : ℕ) (v : Evaluation) (e : Effect) (b value : Mark) → side ≡ Overflow → v.spoiled ≡ false → Tracks side n v e → s < 16 → t < 16 → b ≡ get_or v.marks s (Initial 0) → value ≡ get_or v.marks t (Initial 0) →
-    ((i : ℕ) → i < 12 → same_store (made_store n b back value) (save_of n i) ≡ false) → IsSpoiled side n (applied e (S32e t s back))
+    ((i : ℕ) → i < 12 → same_store (made_store n b back value) (save_of n i) ≡ false) → IsSpoiled side n (effect_after_step e (S32e t s back))
 by_none Underflow n t s back v e b value side good tr hs ht eb ev h = absurd cc
 by_none Overflow n t s back v e b value side good tr hs ht eb ev h =
     let f = follows_from Overflow n v e good tr in
     store_unwanted n t s back v e b value hs ht f eb ev
     (λ k p. ⊎_elim (λ l. h k l) (λ l. absurd (false≢true (sym (get_or_past v.wanted k false (omega (arith, f.flags))) ∙ p))) (cases_lt k 12))
 
-pub by_underflow : (side : Side) (n t s back : ℕ) (v : Evaluation) (e : Effect) → side ≡ Underflow → v.spoiled ≡ false → Tracks side n v e → IsSpoiled side n (applied e (S32e t s back))
+pub by_underflow : (side : Side) (n t s back : ℕ) (v : Evaluation) (e : Effect) → side ≡ Underflow → v.spoiled ≡ false → Tracks side n v e → IsSpoiled side n (effect_after_step e (S32e t s back))
 by_underflow Overflow n t s back v e side good tr = absurd cc
 by_underflow Underflow n t s back v e side good tr = store_never n t s back v e (follows_from Underflow n v e good tr)
 
@@ -130,15 +130,15 @@ right_more side n i marks h =
     ap (are_right side n i) (drop_more (symbols_of side n marks) i (Init 16) l)
     ∙ ap (λ x. is_right side n i x && are_right side n (i + 1) (drop (i + 1) (symbols_of side n marks))) (get_or-map (symbol_of side n) marks i (Initial 0) (Init 16) h)
 
-pub good_end : (side : Side) (n : ℕ) (v : Evaluation) (e : Effect) → Follows side n v e → has_effect side n e ≡ (is_done (Some (marked n 0 v.wanted)) && are_right side n 0 (symbols_of side n v.marks))
+pub good_end : (side : Side) (n : ℕ) (v : Evaluation) (e : Effect) → Follows side n v e → has_effect side n e ≡ (is_done (Some (marked_stores n 0 v.wanted)) && are_right side n 0 (symbols_of side n v.marks))
 unfolding has_effect
 good_end side n v e f =
     ap (λ x. is_done x && (are_named side n e.loads && are_right side n 0 e.regs)) f.stores
-    ∙ (ap (λ x. is_done (Some (marked n 0 v.wanted)) && (x && are_right side n 0 e.regs)) f.loads
-    ∙ ap (λ x. is_done (Some (marked n 0 v.wanted)) && are_right side n 0 x) f.regs)
+    ∙ (ap (λ x. is_done (Some (marked_stores n 0 v.wanted)) && (x && are_right side n 0 e.regs)) f.loads
+    ∙ ap (λ x. is_done (Some (marked_stores n 0 v.wanted)) && are_right side n 0 x) f.regs)
 
 pub tracked_spoiled : (side : Side) (n : ℕ) (v : Evaluation) (e : Effect) → v.spoiled ≡ true → Tracks side n v e → has_effect side n e ≡ false
 tracked_spoiled side n v e h t = spoiled_end side n e (MatchBool-at_true (IsSpoiled side n e) (Follows side n v e) h t)
 
-pub tracked_good : (side : Side) (n : ℕ) (v : Evaluation) (e : Effect) → v.spoiled ≡ false → Tracks side n v e → has_effect side n e ≡ (is_done (Some (marked n 0 v.wanted)) && are_right side n 0 (symbols_of side n v.marks))
+pub tracked_good : (side : Side) (n : ℕ) (v : Evaluation) (e : Effect) → v.spoiled ≡ false → Tracks side n v e → has_effect side n e ≡ (is_done (Some (marked_stores n 0 v.wanted)) && are_right side n 0 (symbols_of side n v.marks))
 tracked_good side n v e h t = good_end side n v e (follows_from side n v e h t)

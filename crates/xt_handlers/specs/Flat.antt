@@ -2,7 +2,8 @@
 -- The checker's flat symbols and what they stand for.
 use Rattle.std.specs.Prelude.{◌≡◌, ℕ, true, Some, List, length, map}
 use Rattle.xt_stretch.specs.Symbols.{Symbol, Init, Load, Word, Effect}
-use Rattle.xt_stretch.specs.Needs.{callee_sp, link, wanted_stores, still_wanted, are_named, marked}
+use Rattle.xt_stretch.specs.Needs.{callee_sp, link, wanted_stores, still_wanted, are_named}
+use Rattle.xt_stretch.specs.Needs.{marked_stores}
 use Rattle.xt_stretch.specs.Needs.{IsSpoiled}
 use Rattle.xt_stretch.specs.declared.Side.{Side}
 use Rattle.std.specs.Bool.{MatchBool}
@@ -24,7 +25,7 @@ pub record Follows (side : Side) (n : ℕ) (v : Evaluation) (e : Effect) : Type 
   pub marks : length v.marks ≡ 16
   pub flags : length v.wanted ≡ 12
   pub regs : e.regs ≡ symbols_of side n v.marks
-  pub stores : still_wanted e.stores (wanted_stores side n) ≡ Some (marked n 0 v.wanted)
+  pub stores : still_wanted e.stores (wanted_stores side n) ≡ Some (marked_stores n 0 v.wanted)
   pub loads : are_named side n e.loads ≡ true
 
 abbrev pub Tracks : Side → ℕ → Evaluation → Effect → Type 0

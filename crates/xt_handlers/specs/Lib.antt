@@ -1,3 +1,3 @@
 pub mod Vectors
-pub mod Answers
+pub mod CheckAnswers
 pub mod Flat

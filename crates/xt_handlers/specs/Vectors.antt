@@ -10,7 +10,7 @@ use Rattle.xt_stretch.specs.declared.Side.TheVariants.{Overflow, Underflow}
 use Rattle.xt_stretch.specs.declared.HandlerVerdict.{HandlerVerdict}
 use Rattle.xt_stretch.specs.declared.HandlerVerdict.TheVariants.{Yes, No}
 use Rattle.xt_stretch.specs.Spelled.{lines_of}
-use Rattle.xt_stretch.specs.Handling.{handling}
+use Rattle.xt_stretch.specs.Handling.{handling_verdict}
 
 -- the number of a vector, 0 to 5: Overflow4, Underflow4, Overflow8, Underflow8,
 -- Overflow12 and Underflow12
@@ -29,7 +29,7 @@ vector_bytes code at = code_bytes code at 64
 abbrev pub verdict_of : (ℕ → ℕ) → ℕ → Side → ℕ → HandlerVerdict
 verdict_of code vecbase side n =
     if can_fetch (vector_at vecbase side n)
-    then handling side n (lines_of (vector_bytes code (vector_at vecbase side n)))
+    then handling_verdict side n (lines_of (vector_bytes code (vector_at vecbase side n)))
     else No 0
 
 -- the six handlers pass the check

@@ -11,7 +11,7 @@ mod tracking;
 mod vector;
 
 pub use vector::check;
-pub use xt_stretch::{HandlerVerdict, Side, Step};
+pub use xt_stretch::{HandlerInsn, HandlerVerdict, Side};
 
 /// The answers for the six vectors of window exceptions.
 #[derive(Clone, Copy, PartialEq, Eq, Debug)]

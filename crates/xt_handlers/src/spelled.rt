@@ -5,7 +5,7 @@ ghost use Rattle.std.specs.Prelude.{◌≡◌, ◌≤◌, true};
 ghost use Rattle.xt_isa.specs.Ranges.{in_range, window_within};
 ghost use Rattle.xt_stretch.specs.Spelled.{HasRegisters, step_of, step_of_insn};
 
-use crate::Step;
+use crate::HandlerInsn;
 use xt_codec::{Decoded, decode};
 use xt_isa::Insn;
 use xt_isa::density::{Density, NarrowRetName};
@@ -14,34 +14,34 @@ use xt_isa::system::{ReturnName, System, WaitName};
 
 /// What an instruction is to a handler.
 #[tactic(auto, unfolding(xt_stretch::specs::Spelled::step_of_insn, xt_isa::specs::Ranges::two_registers, xt_isa::specs::Ranges::window_within))]
-fn step_of_insn(i: Insn) -> Step
+fn step_of_insn(i: Insn) -> HandlerInsn
     requires { in_range i ≡ true }
     ensures is { result ≡ step_of_insn i }
     ensures registers { HasRegisters result }
 {
     match i {
         Insn::Memory(Memory::L32e(WindowName::L32e, t, s, offset)) => {
-            Step::L32e(t, s, offset.unsigned_abs() as u8)
+            HandlerInsn::L32e(t, s, offset.unsigned_abs() as u8)
         }
         Insn::Memory(Memory::L32e(WindowName::S32e, t, s, offset)) => {
-            Step::S32e(t, s, offset.unsigned_abs() as u8)
+            HandlerInsn::S32e(t, s, offset.unsigned_abs() as u8)
         }
-        Insn::System(System::Excw(WaitName::Nop)) => Step::Nop,
-        Insn::Density(Density::Ret(NarrowRetName::Nop)) => Step::Nop,
-        Insn::System(System::Rfe(ReturnName::Rfwo)) => Step::Rfwo,
-        Insn::System(System::Rfe(ReturnName::Rfwu)) => Step::Rfwu,
-        _ => Step::Foreign,
+        Insn::System(System::Excw(WaitName::Nop)) => HandlerInsn::Nop,
+        Insn::Density(Density::Ret(NarrowRetName::Nop)) => HandlerInsn::Nop,
+        Insn::System(System::Rfe(ReturnName::Rfwo)) => HandlerInsn::Rfwo,
+        Insn::System(System::Rfe(ReturnName::Rfwu)) => HandlerInsn::Rfwu,
+        _ => HandlerInsn::Foreign,
     }
 }
 
 /// What three bytes spell; of a two-byte instruction the third plays no part.
 #[tactic(auto, unfolding(xt_stretch::specs::Spelled::step_of))]
-pub fn step_of(a: u8, b: u8, c: u8) -> Step
+pub fn step_of(a: u8, b: u8, c: u8) -> HandlerInsn
     ensures spelled { result ≡ step_of a b c }
     ensures registers { HasRegisters result }
 {
     match decode(a, b, c) {
         Decoded::Good(insn, _) => step_of_insn(insn),
-        Decoded::Illegal => Step::Foreign,
+        Decoded::Illegal => HandlerInsn::Foreign,
     }
 }

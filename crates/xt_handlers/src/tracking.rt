@@ -2,10 +2,10 @@
 #![tactic(auto)]
 
 ghost use Rattle.std.specs.Prelude.{◌≡◌, ◌≤◌, ◌<◌, ◌+◌, ◌-◌, ◌*◌, ℕ, true, false, length, Some};
-ghost use Rattle.xt_stretch.specs.Symbols.{Effect, applied, opening};
-ghost use Rattle.xt_stretch.specs.Needs.{has_effect, are_right, is_done, marked, wanted_stores};
+ghost use Rattle.xt_stretch.specs.Symbols.{Effect, effect_after_step, opening};
+ghost use Rattle.xt_stretch.specs.Needs.{has_effect, are_right, is_done, marked_stores, wanted_stores};
 ghost use Rattle.xt_handlers.specs.Flat.{Tracks, symbols_of};
-ghost use Rattle.xt_stretch.specs.declared.Step.TheVariants.{L32e, S32e};
+ghost use Rattle.xt_stretch.specs.declared.HandlerInsn.TheVariants.{L32e, S32e};
 ghost use Rattle.xt_stretch.specs.declared.Side.TheVariants.{Overflow, Underflow};
 
 use crate::marks::{is_right, loaded, saved};
@@ -16,7 +16,7 @@ fn wanted_saves(side: Side, n: u8) -> [bool; 12]
     requires low { 0 < n }
     requires high { n < 4 }
     ensures count { length result ≡ 12 }
-    ensures saves { wanted_stores side n ≡ marked n 0 result }
+    ensures saves { wanted_stores side n ≡ marked_stores n 0 result }
 {
     match side {
         Side::Underflow => [false; 12],
@@ -70,7 +70,7 @@ impl Evaluation {
         requires high { n < 4 }
         requires target { target < 16 }
         requires base { base < 16 }
-        ensures { (e : Effect) → Tracks side n self.old e → Tracks side n self.new (applied e (L32e target base back)) }
+        ensures { (e : Effect) → Tracks side n self.old e → Tracks side n self.new (effect_after_step e (L32e target base back)) }
     {
         if self.spoiled {
             return;
@@ -86,7 +86,7 @@ impl Evaluation {
         requires high { n < 4 }
         requires source { source < 16 }
         requires base { base < 16 }
-        ensures { (e : Effect) → Tracks side n self.old e → Tracks side n self.new (applied e (S32e source base back)) }
+        ensures { (e : Effect) → Tracks side n self.old e → Tracks side n self.new (effect_after_step e (S32e source base back)) }
     {
         if self.spoiled {
             return;
@@ -126,7 +126,7 @@ impl Evaluation {
 
     /// Whether no store is still wanted.
     fn is_done(&self, n: u8) -> bool
-        ensures { result ≡ is_done (Some (marked n 0 self.now.wanted)) }
+        ensures { result ≡ is_done (Some (marked_stores n 0 self.now.wanted)) }
     {
         for flag in self.wanted {
             if flag {

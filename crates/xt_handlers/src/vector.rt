@@ -4,14 +4,14 @@
 ghost use Rattle.std.specs.Prelude.{◌≡◌, ◌≤◌, ◌<◌, ◌+◌, ◌*◌, ◌%◌, ◌^◌, ℕ, slice_index};
 ghost use Rattle.xt_map.specs.Memory.{constant_byte};
 ghost use Rattle.xt_stretch.specs.Symbols.{Effect};
-ghost use Rattle.xt_stretch.specs.Handling.{ending, handling};
+ghost use Rattle.xt_stretch.specs.Handling.{ending_verdict, handling_verdict};
 ghost use Rattle.xt_stretch.specs.Spelled.{lines_of};
-ghost use Rattle.xt_handlers.specs.Answers.{handlers_of};
+ghost use Rattle.xt_handlers.specs.CheckAnswers.{handlers_of};
 ghost use Rattle.xt_handlers.specs.Flat.{Tracks};
 ghost use Rattle.xt_handlers.specs.Vectors.{vector_at, vector_bytes, verdict_of};
 
 use crate::spelled::step_of;
-use crate::{Evaluation, HandlerVerdict, Handlers, Side, Step};
+use crate::{Evaluation, HandlerInsn, HandlerVerdict, Handlers, Side};
 use xt_fetch::{code_byte, length_of};
 use xt_map::{Constants, can_execute_at};
 
@@ -31,7 +31,7 @@ fn byte_at(code: &Constants, at: u32, i: usize) -> u8
 fn ending(evaluation: &Evaluation, side: Side, n: u8, offset: u8) -> HandlerVerdict
     requires low { 0 < n }
     requires high { n < 4 }
-    ensures { (e : Effect) → Tracks side n evaluation.now e → result ≡ ending side n e offset }
+    ensures { (e : Effect) → Tracks side n evaluation.now e → result ≡ ending_verdict side n e offset }
 {
     if evaluation.has_effect(side, n) {
         HandlerVerdict::Yes
@@ -45,7 +45,7 @@ fn check_bytes(code: &Constants, at: u32, side: Side, n: u8) -> HandlerVerdict
     requires low { 0 < n }
     requires high { n < 4 }
     requires room { at + 64 ≤ 2 ^ 32 }
-    ensures { result ≡ handling side n (lines_of (vector_bytes (constant_byte code.now) at)) }
+    ensures { result ≡ handling_verdict side n (lines_of (vector_bytes (constant_byte code.now) at)) }
 {
     let mut evaluation = Evaluation::start(side, n);
     let mut offset = 0;
@@ -58,22 +58,22 @@ fn check_bytes(code: &Constants, at: u32, side: Side, n: u8) -> HandlerVerdict
         let second = byte_at(code, at, offset + 1);
         let third = byte_at(code, at, offset + 2);
         match step_of(first, second, third) {
-            Step::L32e(target, base, back) => evaluation.load(side, n, target, base, back),
-            Step::S32e(source, base, back) => evaluation.store(side, n, source, base, back),
-            Step::Nop => {}
-            Step::Rfwo => {
+            HandlerInsn::L32e(target, base, back) => evaluation.load(side, n, target, base, back),
+            HandlerInsn::S32e(source, base, back) => evaluation.store(side, n, source, base, back),
+            HandlerInsn::Nop => {}
+            HandlerInsn::Rfwo => {
                 return match side {
                     Side::Overflow => ending(&evaluation, side, n, offset as u8),
                     Side::Underflow => HandlerVerdict::No(offset as u8),
                 };
             }
-            Step::Rfwu => {
+            HandlerInsn::Rfwu => {
                 return match side {
                     Side::Overflow => HandlerVerdict::No(offset as u8),
                     Side::Underflow => ending(&evaluation, side, n, offset as u8),
                 };
             }
-            Step::Foreign => return HandlerVerdict::No(offset as u8),
+            HandlerInsn::Foreign => return HandlerVerdict::No(offset as u8),
         }
         offset += len;
     }
@@ -117,7 +117,7 @@ fn vector_at(vecbase: u32, side: Side, n: u8) -> u32
 /// first instruction that is none of these, 64 where no ending comes, or the offset of the ending.
 ///
 /// Condition: `vecbase` is a multiple of 1024.
-#[tactic(auto, unfolding(crate::specs::Answers::handlers_of))]
+#[tactic(auto, unfolding(crate::specs::CheckAnswers::handlers_of))]
 pub fn check(code: &Constants, vecbase: u32) -> Handlers
     requires aligned { vecbase % 2 ^ 10 ≡ 0 }
     ensures { result ≡ handlers_of (constant_byte code.now) vecbase }

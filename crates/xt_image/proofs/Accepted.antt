@@ -12,7 +12,7 @@ use Rattle.xt_image.specs.declared.image.Image.{Image}
 use Rattle.xt_image.specs.Layout.{checksum_place, segment_bytes, segments_in}
 use Rattle.xt_image.specs.Findings.{first}
 use Rattle.xt_image.specs.Rules.{head_rules, segment_rules, end_rules, has_digest, kept_digest, right_digest, checksum, image_fault}
-use Rattle.xt_image.specs.Parts.{FitsImage, digest_bytes, file_bytes, flag_of, gap_length, head_bytes, summed_bytes}
+use Rattle.xt_image.specs.ImageParts.{FitsImage, digest_bytes, file_bytes, flag_of, gap_length, head_bytes, summed_bytes}
 use Rattle.xt_image.proofs.Findings.{none_in}
 use Rattle.xt_image.proofs.Passing.{five_pass, not_below, not_at_least, is_same, in_count, is_not_false, only_where}
 use Rattle.xt_image.proofs.Written.{HeadIs, file_again, file_head, head_length}

@@ -12,7 +12,7 @@ use Rattle.xt_map.specs.Placing.{IsPlaced, end_of_segment, is_device, is_well_pl
 use Rattle.xt_map.specs.Regions.{Range, ranges}
 use Rattle.xt_image.specs.declared.image.Image.{Image}
 use Rattle.xt_image.specs.Layout.{checksum_place, segment_bytes}
-use Rattle.xt_image.specs.Parts.{FitsImage, MeetsRules, image_bytes}
+use Rattle.xt_image.specs.ImageParts.{FitsImage, MeetsRules, image_bytes}
 use Rattle.xt_image.proofs.Ruled.{written_length}
 
 -- two segments share an address

@@ -14,7 +14,7 @@ use Rattle.xt_map.specs.Placing.{do_overlap}
 use Rattle.xt_map.proofs.Placed.{find_none, holds_parts, overlap_at}
 use Rattle.xt_map.proofs.Stored.{byte_keeps_sizes, byte_put, bytes_elsewhere, bytes_keep_sizes, cleared_has_sizes}
 use Rattle.xt_image.specs.declared.image.Image.{Image}
-use Rattle.xt_image.specs.Parts.{IsWellFormed}
+use Rattle.xt_image.specs.ImageParts.{IsWellFormed}
 use Rattle.xt_image.proofs.Placement.{well_formed_placed}
 
 -- ---- several bytes

@@ -7,7 +7,7 @@ use Rattle.xt_image.specs.declared.fault.ImageFault.TheVariants.{SegmentOverlap,
 use Rattle.xt_image.specs.Findings.{first}
 use Rattle.xt_image.specs.Rules.{image_fault, is_misplaced, segment_rules}
 use Rattle.xt_image.specs.Layout.{segments_in}
-use Rattle.xt_image.specs.Parts.{IsWellFormed, image_bytes}
+use Rattle.xt_image.specs.ImageParts.{IsWellFormed, image_bytes}
 use Rattle.xt_image.proofs.Findings.{no_place, none_passes}
 use Rattle.xt_image.proofs.Overlapping.{none_meet}
 use Rattle.xt_image.proofs.Accepted.{Meets}

@@ -13,7 +13,7 @@ use Rattle.xt_image.specs.declared.image.Image.{Image}
 use Rattle.xt_image.specs.Layout.{checksum_place}
 use Rattle.xt_image.specs.Findings.{fails, first}
 use Rattle.xt_image.specs.Rules.{Finding, first_overlap, is_misplaced, is_uneven}
-use Rattle.xt_image.specs.Parts.{FitsImage, IsWellFormed, MeetsRules, digest_bytes, gap_length, image_bytes, summed_bytes}
+use Rattle.xt_image.specs.ImageParts.{FitsImage, IsWellFormed, MeetsRules, digest_bytes, gap_length, image_bytes, summed_bytes}
 use Rattle.xt_image.proofs.Findings.{no_place, none_found, none_passes}
 use Rattle.xt_image.proofs.Overlapping.{no_pair_in}
 use Rattle.xt_image.proofs.Accepted.{Meets, file_length, summed_length}

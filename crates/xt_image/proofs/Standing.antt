@@ -21,7 +21,7 @@ use Rattle.xt_image.specs.Layout.{checksum_place, end_of, front, half_at, word_a
 use Rattle.xt_image.specs.Findings.{first}
 use Rattle.xt_image.specs.Rules.{head_rules, segment_rules, end_rules, has_digest, kept_digest, right_digest, checksum, image_fault}
 use Rattle.xt_image.specs.Format.{image_of}
-use Rattle.xt_image.specs.Parts.{FitsImage, FitsSegment, IsFileOf, IsWellFormed, digest_bytes, flag_of, gap_length, head_bytes, image_bytes, summed_bytes}
+use Rattle.xt_image.specs.ImageParts.{FitsImage, FitsSegment, IsFileOf, IsWellFormed, digest_bytes, flag_of, gap_length, head_bytes, image_bytes, summed_bytes}
 use Rattle.xt_image.proofs.Accepted.{Meets, accepts, file_length, file_parts, front_of, rest_of, summed_length}
 use Rattle.xt_image.proofs.Joined.{IsBytes, take_fits}
 use Rattle.xt_image.proofs.Findings.{none_of}

@@ -13,7 +13,7 @@ use Rattle.xt_image.specs.declared.image.Image.{Image}
 use Rattle.xt_image.specs.Layout.{front, half_at, word_at, segment_bytes, segments_at}
 use Rattle.xt_image.specs.Rules.{checksum}
 use Rattle.xt_image.specs.Format.{image_of}
-use Rattle.xt_image.specs.Parts.{FitsImage, FitsSegment, digest_bytes, file_bytes, flag_of, head_bytes, image_bytes, summed_bytes}
+use Rattle.xt_image.specs.ImageParts.{FitsImage, FitsSegment, digest_bytes, file_bytes, flag_of, head_bytes, image_bytes, summed_bytes}
 
 -- ---- the segments
 

@@ -2,5 +2,5 @@ pub mod Layout
 pub mod Findings
 pub mod Rules
 pub mod Format
-pub mod Parts
+pub mod ImageParts
 pub mod Made

@@ -7,7 +7,7 @@ ghost use Rattle.xt_image.specs.declared.image.Image.{Image};
 ghost use Rattle.xt_image.specs.Layout.{checksum_place};
 ghost use Rattle.xt_image.specs.Rules.{image_fault};
 ghost use Rattle.xt_image.specs.Format.{image_of};
-ghost use Rattle.xt_image.specs.Parts.{FitsImage, IsWellFormed, MeetsRules, image_bytes};
+ghost use Rattle.xt_image.specs.ImageParts.{FitsImage, IsWellFormed, MeetsRules, image_bytes};
 
 /// What is written of a well-formed image has no fault, and holds the same image.
 pub fn round_trip()

@@ -4,7 +4,7 @@ ghost use Rattle.xt_map.specs.Placing.{IsPlaced};
 ghost use Rattle.xt_image.specs.Layout.{front, segment_bytes, segments_at};
 ghost use Rattle.xt_image.specs.Rules.{image_fault};
 ghost use Rattle.xt_image.specs.Format.{Reads, head_of};
-ghost use Rattle.xt_image.specs.Parts.{IsFileOf, IsWellFormed};
+ghost use Rattle.xt_image.specs.ImageParts.{IsFileOf, IsWellFormed};
 
 use crate::bytes::{checksum_of, half, word};
 use crate::fault::ImageFault;

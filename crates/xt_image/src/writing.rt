@@ -3,7 +3,7 @@ ghost use Rattle.std.specs.List.{flat_map};
 ghost use Rattle.xt_image.specs.Layout.{end_of, segment_bytes};
 ghost use Rattle.xt_image.specs.Rules.{image_fault};
 ghost use Rattle.xt_image.specs.Format.{Reads};
-ghost use Rattle.xt_image.specs.Parts.{IsWellFormed, file_bytes, gap_length, head_bytes, image_bytes, summed_bytes};
+ghost use Rattle.xt_image.specs.ImageParts.{IsWellFormed, file_bytes, gap_length, head_bytes, image_bytes, summed_bytes};
 
 use crate::bytes::checksum_of;
 use crate::image::Image;
@@ -21,7 +21,7 @@ fn put_segment(out: &mut Vec<u8>, segment: &Segment) -> Result<(), AllocError>
     Ok(())
 }
 
-#[tactic(auto, unfolding(crate::specs::Parts::head_bytes))]
+#[tactic(auto, unfolding(crate::specs::ImageParts::head_bytes))]
 fn put_head(out: &mut Vec<u8>, image: &Image) -> Result<(), AllocError>
     requires { length image.now.segments ≤ 16 }
     ensures head { OnOk result (out.new.items ≡ out.old.items ++ head_bytes image.now) }
@@ -53,7 +53,7 @@ fn put_segments(out: &mut Vec<u8>, segments: &[Segment]) -> Result<(), AllocErro
 }
 
 // The head, the segments, zeros and the checksum.
-#[tactic(auto, unfolding(crate::specs::Parts::summed_bytes))]
+#[tactic(auto, unfolding(crate::specs::ImageParts::summed_bytes))]
 fn summed(alloc: Global, image: &Image) -> Result<Vec<u8>, AllocError>
     requires few { length image.now.segments ≤ 16 }
     requires short { length (flat_map segment_bytes image.now.segments) < 2 ^ 32 }
@@ -70,7 +70,7 @@ fn summed(alloc: Global, image: &Image) -> Result<Vec<u8>, AllocError>
 }
 
 // All parts of the file, with zeros in the gap.
-#[tactic(auto, unfolding(crate::specs::Parts::file_bytes, crate::specs::Parts::image_bytes))]
+#[tactic(auto, unfolding(crate::specs::ImageParts::file_bytes, crate::specs::ImageParts::image_bytes))]
 fn whole(alloc: Global, image: &Image) -> Result<Vec<u8>, AllocError>
     requires few { length image.now.segments ≤ 16 }
     requires short { length (flat_map segment_bytes image.now.segments) < 2 ^ 32 }

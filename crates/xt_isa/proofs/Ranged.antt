@@ -13,7 +13,7 @@ use Rattle.xt_isa.specs.declared.boolean.EightName.{EightName}
 use Rattle.xt_isa.specs.declared.Insn.{Insn}
 use Rattle.xt_isa.specs.declared.Fields.{Fields}
 use Rattle.xt_isa.specs.Apart.{AllRows}
-use Rattle.xt_isa.specs.Spelling.{fields_at, spelled, all_rows, Row, fits, spell, five, eight, imm8, imm12, imm16, imm18, below, signed, b4const, b4constu, minus_one_or, narrow_constant, can_read, can_write, can_exchange}
+use Rattle.xt_isa.specs.Spelling.{fields_at, spelled_insn, all_rows, Row, fits, spell, five, eight, imm8, imm12, imm16, imm18, below, signed, b4const, b4constu, minus_one_or, narrow_constant, can_read, can_write, can_exchange}
 use Rattle.xt_isa.proofs.RowByRow.{◌▸◌}
 use Rattle.xt_isa.specs.Ranges.{AreNibbles, in_range, one_register, two_registers, three_registers, natural_within, signed_within, multiple_within, window_within, literal_within, page_within, call_within, is_b4const, is_b4constu, small_within, narrow_within, holds, HasSpelling}
 
@@ -428,8 +428,8 @@ rows_ranged =
     three ▸  -- MOVT
     tt
 
-pub all_ranged : (w : Fields) → AreNibbles w → holds (spelled w) ≡ true
-unfolding spelled
+pub all_ranged : (w : Fields) → AreNibbles w → holds (spelled_insn w) ≡ true
+unfolding spelled_insn
 all_ranged w n = spell_ranged all_rows rows_ranged w n
 
 -- an instruction that has a spelling is in range
@@ -437,6 +437,6 @@ pub spelling_in_range : (i : Insn) → HasSpelling i → in_range i ≡ true
 spelling_in_range i h = subst (λ o. holds o ≡ true) h.1.1 (all_ranged h.0 h.1.0)
 
 -- what three bytes spell is in range
-pub spelled_at_in_range : (b0 b1 b2 : ℕ) (i : Insn) → b0 < 256 → b1 < 256 → b2 < 256 → Some i ≡ spelled (fields_at b0 b1 b2) → in_range i ≡ true
+pub spelled_at_in_range : (b0 b1 b2 : ℕ) (i : Insn) → b0 < 256 → b1 < 256 → b2 < 256 → Some i ≡ spelled_insn (fields_at b0 b1 b2) → in_range i ≡ true
 spelled_at_in_range b0 b1 b2 i p q r e =
     spelling_in_range i (fields_at b0 b1 b2, ((omega arith, omega arith, omega arith, omega arith, omega arith, omega arith), sym e))

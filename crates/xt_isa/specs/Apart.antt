@@ -3,7 +3,7 @@
 -- length is its word's; nibble by nibble or by the whole word, a row fits the same words.
 use Rattle.std.specs.Prelude.{◌≡◌, ◌↔◌, ℕ, ◌+◌, ◌*◌, ◌%◌, true, List, [], ◌∷◌, bit_and}
 use Rattle.xt_isa.specs.declared.Fields.{Fields}
-use Rattle.xt_isa.specs.Spelling.{Row, fits, spelled, length_of}
+use Rattle.xt_isa.specs.Spelling.{Row, fits, spelled_insn, length_of}
 use Rattle.xt_isa.specs.Ranges.{AreNibbles}
 
 -- each row of the list has the property
@@ -22,8 +22,8 @@ AreApart (row ∷ rows) = AllRows (NeverBoth row) rows × AreApart rows
 -- the two nibbles of the third byte could as well be 0
 abbrev pub ThirdByteIsFree : ℕ → ℕ → ℕ → ℕ → ℕ → ℕ → Type 0
 ThirdByteIsFree op0 t s r op1 op2 =
-    spelled (record { op0 = op0; t = t; s = s; r = r; op1 = op1; op2 = op2 })
-    ≡ spelled (record { op0 = op0; t = t; s = s; r = r; op1 = 0; op2 = 0 })
+    spelled_insn (record { op0 = op0; t = t; s = s; r = r; op1 = op1; op2 = op2 })
+    ≡ spelled_insn (record { op0 = op0; t = t; s = s; r = r; op1 = 0; op2 = 0 })
 
 -- the row's length is that of its words by their first byte
 abbrev pub HasItsLength : Row → Type 0

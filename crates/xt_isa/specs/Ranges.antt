@@ -24,7 +24,7 @@ use Rattle.xt_isa.specs.declared.system.BreakName.TheVariants.{Break, Syscall}
 use Rattle.xt_isa.specs.declared.system.LevelName.TheVariants.{Rsil, Waiti}
 use Rattle.xt_isa.specs.declared.system.SpecialName.TheVariants.{Rsr, Wsr, Xsr}
 use Rattle.xt_isa.specs.Numbers.{threadptr}
-use Rattle.xt_isa.specs.Spelling.{spelled, can_read, can_write, can_exchange}
+use Rattle.xt_isa.specs.Spelling.{spelled_insn, can_read, can_write, can_exchange}
 
 -- ---- Ranges of one operand.
 unfoldable pub one_register : ℕ → Bool
@@ -201,7 +201,7 @@ AreNibbles w = (w.op0 < 16) × (w.t < 16) × (w.s < 16) × (w.r < 16) × (w.op1 
 
 -- six fields spell the instruction
 abbrev pub HasSpelling : Insn → Type 0
-HasSpelling i = (w : Fields) × (AreNibbles w × (spelled w ≡ Some i))
+HasSpelling i = (w : Fields) × (AreNibbles w × (spelled_insn w ≡ Some i))
 
 -- what is spelled, if anything, is in range
 abbrev pub holds : Option Insn → Bool

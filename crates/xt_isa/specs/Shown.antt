@@ -8,5 +8,5 @@
 use Rattle.xt_isa.specs.Spelling.{Row}
 use Rattle.xt_isa.specs.declared.table.Row.{Row as Shown}
 
-abbrev pub shown : Row → Shown
-shown row = record { mask = row.mask; value = row.value; len = row.len }
+abbrev pub shown_row : Row → Shown
+shown_row row = record { mask = row.mask; value = row.value; len = row.len }

@@ -439,20 +439,20 @@ boolean_rows =
     wide 0xFF000F 0xD30000 (λ w. Some (insn.Boolean (boolean.Movf ChoiceName.Movt w.r w.s w.t))) ∷
     []
 
-abbrev pub joined : List Row → List Row → List Row
-joined [] rows = rows
-joined (row ∷ more) rows = row ∷ joined more rows
+abbrev pub joined_rows : List Row → List Row → List Row
+joined_rows [] rows = rows
+joined_rows (row ∷ more) rows = row ∷ joined_rows more rows
 
 unfoldable pub all_rows : List Row
 all_rows =
-    joined three_rows
-    (joined shift_rows (joined memory_rows (joined control_rows
-    (joined system_rows (joined density_rows boolean_rows)))))
+    joined_rows three_rows
+    (joined_rows shift_rows (joined_rows memory_rows (joined_rows control_rows
+    (joined_rows system_rows (joined_rows density_rows boolean_rows)))))
 
 -- ---- What is spelled.
 -- what six fields spell
-unfoldable pub spelled : Fields → Option Insn
-spelled w = spell all_rows w
+unfoldable pub spelled_insn : Fields → Option Insn
+spelled_insn w = spell all_rows w
 
 -- the fields of three bytes, the least first
 abbrev pub fields_at : ℕ → ℕ → ℕ → Fields

@@ -5,11 +5,11 @@ ghost use Rattle.std.specs.Prelude.{◌≡◌, ℕ, ◌+◌, ◌<◌, true};
 ghost use Rattle.xt_isa.specs.declared.Fields.{Fields};
 ghost use Rattle.xt_isa.specs.Apart.{AllRows, AreApart, FitsByWord, HasItsLength, ThirdByteIsFree};
 ghost use Rattle.xt_isa.specs.Ranges.{AreNibbles, holds};
-ghost use Rattle.xt_isa.specs.Spelling.{all_rows, spelled};
+ghost use Rattle.xt_isa.specs.Spelling.{all_rows, spelled_insn};
 
 /// Whatever six fields spell has its operands in their ranges.
 pub fn spelled_is_in_range()
-    ensures { (w : Fields) → AreNibbles w → holds (spelled w) ≡ true }
+    ensures { (w : Fields) → AreNibbles w → holds (spelled_insn w) ≡ true }
 {}
 
 /// No word is of two rows.

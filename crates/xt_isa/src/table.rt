@@ -5,7 +5,7 @@
 
 ghost use Rattle.std.specs.Prelude.{◌≡◌, map};
 ghost use Rattle.xt_isa.specs.Spelling.{all_rows};
-ghost use Rattle.xt_isa.specs.Shown.{shown};
+ghost use Rattle.xt_isa.specs.Shown.{shown_row};
 
 /// The bits of a row: a word is of the row where its bits under `mask` are those of `value`.
 #[derive(Clone, Copy, Debug, PartialEq, Eq)]
@@ -191,7 +191,7 @@ static ROWS: [Row; 154] = row_table! {
 #[tactic(auto, unfolding(crate::specs::Spelling::all_rows))]
 /// The rows of the tables, one for each name of an instruction, in the order of the tables. No word is of two rows.
 pub fn rows() -> &'static [Row]
-    ensures { result.now ≡ map shown all_rows }
+    ensures { result.now ≡ map shown_row all_rows }
 {
     &ROWS
 }

@@ -12,7 +12,7 @@ use Rattle.xt_parse.specs.declared.line.Placed.{Placed}
 use Rattle.xt_pool.specs.declared.word.PoolWord.{PoolWord}
 use Rattle.xt_pool.specs.Around.{each}
 use Rattle.xt_layout.specs.declared.spot.Spot.{Spot}
-use Rattle.xt_layout.specs.Addresses.{home, label_name, labelled, labels_at, literal_name}
+use Rattle.xt_layout.specs.Addresses.{home, label_name, label_placed, labels_at, literal_name}
 use Rattle.xt_layout.specs.Spots.{address, spot_at}
 use Rattle.xt_layout.proofs.Each.{each_at, length-each}
 
@@ -42,12 +42,12 @@ spots_long words lines spots e = ap length e ∙ length-each (λ before l rest. 
 -- the names of a line
 pub names_here : (words : List PoolWord) (addresses : List ℕ) (lines : List Line) (spots : List (Option Spot)) (k : ℕ) (l : Line) (d : Option Spot) (at : ℕ) (h : Option ℕ) (old new : List Label) →
     spots ≡ each (λ before l rest. spot_at words before l) lines → k < length lines → l ≡ get_or lines k l → at ≡ address (get_or spots k d) → h ≡ home k words addresses →
-    new ≡ old ++ (map (labelled at) (label_name l.label) ++ map (labelled (unwrap_or h at)) (literal_name l.statement)) →
+    new ≡ old ++ (map (label_placed at) (label_name l.label) ++ map (label_placed (unwrap_or h at)) (literal_name l.statement)) →
     new ≡ old ++ labels_at words addresses (take k lines) l (drop (k + 1) lines)
 names_here words addresses lines spots k l d at h old new spots_are lt is at_is h_is adds =
     adds
-    ∙ ap (λ a. old ++ (map (labelled a) (label_name l.label) ++ map (labelled (unwrap_or h a)) (literal_name l.statement))) (at_is ∙ ap address (spot_here words lines spots k l d spots_are lt is))
-    ∙ ap (λ g. old ++ (map (labelled (address (spot_at words (take k lines) l))) (label_name l.label) ++ map (labelled (unwrap_or g (address (spot_at words (take k lines) l)))) (literal_name l.statement)))
+    ∙ ap (λ a. old ++ (map (label_placed a) (label_name l.label) ++ map (label_placed (unwrap_or h a)) (literal_name l.statement))) (at_is ∙ ap address (spot_here words lines spots k l d spots_are lt is))
+    ∙ ap (λ g. old ++ (map (label_placed (address (spot_at words (take k lines) l))) (label_name l.label) ++ map (label_placed (unwrap_or g (address (spot_at words (take k lines) l)))) (literal_name l.statement)))
     (h_is ∙ ap (λ j. home j words addresses) (sym (length-take-le k lines (omega arith))))
 
 -- ---- the addresses of labels fit
@@ -55,19 +55,19 @@ names_here words addresses lines spots k l d at h old new spots_are lt is at_is 
 pub address_fits : (a : ℕ) → a < 2 ^ 40 → IsAddress (pos a)
 address_fits a lt = (omega (arith, ints), omega (arith, ints))
 
-fit_by : (a : ℕ) → a < 2 ^ 40 → (names : List Placed) → AllByRecursion (λ (l : Label). IsAddress l.address) (map (labelled a) names)
+fit_by : (a : ℕ) → a < 2 ^ 40 → (names : List Placed) → AllByRecursion (λ (l : Label). IsAddress l.address) (map (label_placed a) names)
 fit_by a lt [] = tt
 fit_by a lt (p ∷ names) = (address_fits a lt, fit_by a lt names)
 
-names_fit : (a : ℕ) → a < 2 ^ 40 → (names : List Placed) → HaveAddresses (map (labelled a) names)
-names_fit a lt names = All-from_recursion (λ (l : Label). IsAddress l.address) (map (labelled a) names) (fit_by a lt names)
+names_fit : (a : ℕ) → a < 2 ^ 40 → (names : List Placed) → HaveAddresses (map (label_placed a) names)
+names_fit a lt names = All-from_recursion (λ (l : Label). IsAddress l.address) (map (label_placed a) names) (fit_by a lt names)
 
 pub none_fit : (labels : List Label) → labels ≡ [] → HaveAddresses labels
 none_fit labels e = let P : List Label → Type 0 = λ ls. HaveAddresses ls in subst P (sym e) (All-nil (λ (l : Label). IsAddress l.address))
 
-pub more_fit : (old new : List Label) (a b : ℕ) (xs ys : List Placed) → HaveAddresses old → a ≤ 2 ^ 34 → b < 2 ^ 40 → new ≡ old ++ (map (labelled a) xs ++ map (labelled b) ys) → HaveAddresses new
+pub more_fit : (old new : List Label) (a b : ℕ) (xs ys : List Placed) → HaveAddresses old → a ≤ 2 ^ 34 → b < 2 ^ 40 → new ≡ old ++ (map (label_placed a) xs ++ map (label_placed b) ys) → HaveAddresses new
 more_fit old new a b xs ys fit below lt e =
     let P : List Label → Type 0 = λ ls. HaveAddresses ls in
     let less : a < 2 ^ 40 = omega arith in
-    subst P (sym e) (All-append (λ (l : Label). IsAddress l.address) old (map (labelled a) xs ++ map (labelled b) ys) fit
-    (All-append (λ (l : Label). IsAddress l.address) (map (labelled a) xs) (map (labelled b) ys) (names_fit a less xs) (names_fit b lt ys)))
+    subst P (sym e) (All-append (λ (l : Label). IsAddress l.address) old (map (label_placed a) xs ++ map (label_placed b) ys) fit
+    (All-append (λ (l : Label). IsAddress l.address) (map (label_placed a) xs) (map (label_placed b) ys) (names_fit a less xs) (names_fit b lt ys)))

@@ -14,8 +14,8 @@ use Rattle.xt_layout.specs.declared.spot.Spot.{Spot}
 use Rattle.xt_layout.specs.declared.spot.Span.{Span}
 use Rattle.xt_layout.specs.Sizes.{IsSmall, items, pool_size, size, weight}
 use Rattle.xt_layout.specs.Spots.{behind, begins, passes, spot_at}
-use Rattle.xt_layout.specs.Spans.{padded, segment_end, span_at, spans_of}
-use Rattle.xt_layout.specs.Bounds.{ArePools, IsBelow, IsText, IsWalk, Walks, closed, later, pending, reach}
+use Rattle.xt_layout.specs.Spans.{padded_span, segment_end, span_at, spans_of}
+use Rattle.xt_layout.specs.Bounds.{ArePools, IsBelow, IsText, IsWalk, Walks, closed_span, later, pending_span, reach}
 use Rattle.xt_layout.proofs.Each.{here, next, builds_more, builds_all, builds_none}
 use Rattle.xt_layout.proofs.Reaching.{behind_more, below_more, lines_in_weight, reach_more, reach_small}
 
@@ -34,31 +34,31 @@ near_fits lines words k p text near = below_more (reach lines words k) (2 ^ 62) 
 
 -- a segment begins
 seg_spans : (words : List PoolWord) (k : ℕ) (start : ℕ) (rest : List Line) (before : List Line) → length before ≡ k → (pool : ℕ) (here : Option Spot) →
-    span_at words (length before) (Seg start) rest ≡ pending words (passes pool here (Seg start)) (k + 1) rest
+    span_at words (length before) (Seg start) rest ≡ pending_span words (passes pool here (Seg start)) (k + 1) rest
 unfolding size
-seg_spans words k start rest before is pool here = ap (λ j. padded start (segment_end words (j + 1) start rest) ∷ []) is
-    ∙ ap (λ a. padded start (segment_end words (k + 1) a rest) ∷ []) (sym (add-zero start))
+seg_spans words k start rest before is pool here = ap (λ j. padded_span start (segment_end words (j + 1) start rest) ∷ []) is
+    ∙ ap (λ a. padded_span start (segment_end words (k + 1) a rest) ∷ []) (sym (add-zero start))
 
 -- the segment that a line with this statement, and the lines after it, go on
 abbrev goes_on : List PoolWord → Option Spot → ℕ → Statement → List Line → List Span
 goes_on words None k s rest = []
-goes_on words (Some p) k s rest = padded p.start (if is_segment s then p.at else segment_end words (k + 1) (p.at + size (pool_size words k) p.at s) rest) ∷ []
+goes_on words (Some p) k s rest = padded_span p.start (if is_segment s then p.at else segment_end words (k + 1) (p.at + size (pool_size words k) p.at s) rest) ∷ []
 
 span_steps : (words : List PoolWord) (before : List Line) (k : ℕ) (rest : List Line) (here : Option Spot) (s : Statement) (others : List Span) → length before ≡ k →
     goes_on words here k s rest ++ (span_at words (length before) s rest ++ others)
-    ≡ (if is_segment s then closed here else []) ++ (pending words (passes (pool_size words k) here s) (k + 1) rest ++ others)
+    ≡ (if is_segment s then closed_span here else []) ++ (pending_span words (passes (pool_size words k) here s) (k + 1) rest ++ others)
 span_steps words before k rest None (Seg start) others at = ap (λ ws. ws ++ others) (seg_spans words k start rest before at (pool_size words k) None)
 span_steps words before k rest None _ others at = refl
-span_steps words before k rest (Some p) (Seg start) others at = ap (λ ws. padded p.start p.at ∷ ws ++ others) (seg_spans words k start rest before at (pool_size words k) (Some p))
+span_steps words before k rest (Some p) (Seg start) others at = ap (λ ws. padded_span p.start p.at ∷ ws ++ others) (seg_spans words k start rest before at (pool_size words k) (Some p))
 span_steps words before k rest (Some p) _ others at = refl
 
 span_step : (words : List PoolWord) (before : List Line) (k : ℕ) (l : Line) (rest : List Line) (here : Option Spot) → length before ≡ k →
-    pending words here k (l ∷ rest) ++ later words before (l ∷ rest)
-    ≡ (if is_segment l.statement then closed here else []) ++ (pending words (passes (pool_size words k) here l.statement) (k + 1) rest ++ later words (before ++ l ∷ []) rest)
+    pending_span words here k (l ∷ rest) ++ later words before (l ∷ rest)
+    ≡ (if is_segment l.statement then closed_span here else []) ++ (pending_span words (passes (pool_size words k) here l.statement) (k + 1) rest ++ later words (before ++ l ∷ []) rest)
 span_step words before k l rest None at = span_steps words before k rest None l.statement (later words (before ++ l ∷ []) rest) at
 span_step words before k l rest (Some p) at = span_steps words before k rest (Some p) l.statement (later words (before ++ l ∷ []) rest) at
 
-pending_none : (words : List PoolWord) (here : Option Spot) (k : ℕ) → pending words here k [] ≡ closed here
+pending_none : (words : List PoolWord) (here : Option Spot) (k : ℕ) → pending_span words here k [] ≡ closed_span here
 pending_none words None k = refl
 pending_none words (Some p) k = refl
 
@@ -75,12 +75,12 @@ walks_none lines words spots spans text e f = record {
 }
 
 pub walks_all : (lines : List Line) (words : List PoolWord) (k : ℕ) (here : Option Spot) (spots : List (Option Spot)) (spans all : List Span) → length lines ≤ k →
-    Walks lines words k here spots spans → all ≡ spans ++ closed here → IsWalk lines words spots all
+    Walks lines words k here spots spans → all ≡ spans ++ closed_span here → IsWalk lines words spots all
 walks_all lines words k here spots spans all le walks e = record {
   spots_are = builds_all (λ before l rest. spot_at words before l) spots k lines (each (λ before l rest. spot_at words before l) lines) le walks.spots_are;
   below = walks.below;
-  spans_are = e ∙ ap (λ ws. spans ++ ws) (sym (append-nil (closed here)) ∙ ap (λ ws. ws ++ []) (sym (pending_none words here k)))
-      ∙ ap (λ ls. spans ++ (pending words here k ls ++ later words (take k lines) ls)) (sym (drop_all k lines le)) ∙ walks.spans_are;
+  spans_are = e ∙ ap (λ ws. spans ++ ws) (sym (append-nil (closed_span here)) ∙ ap (λ ws. ws ++ []) (sym (pending_none words here k)))
+      ∙ ap (λ ls. spans ++ (pending_span words here k ls ++ later words (take k lines) ls)) (sym (drop_all k lines le)) ∙ walks.spans_are;
 }
 
 -- what is known at a line
@@ -92,7 +92,7 @@ pub record Stands (lines : List Line) (words : List PoolWord) (pools : List ℕ)
 
 pub walks_more : (lines : List Line) (words : List PoolWord) (pools : List ℕ) (k : ℕ) (l : Line) → Stands lines words pools k l →
     (from now begun : Option Spot) (spots spots' : List (Option Spot)) (spans spans' : List Span) → Walks lines words k from spots spans →
-    spans' ≡ spans ++ (if is_segment l.statement then closed from else []) → spots' ≡ spots ++ begun ∷ [] →
+    spans' ≡ spans ++ (if is_segment l.statement then closed_span from else []) → spots' ≡ spots ++ begun ∷ [] →
     begun ≡ begins from l.statement → ((n : ℕ) → 2 ^ 32 ≤ n → IsBelow n from → IsBelow n begun) →
     now ≡ passes (slice_index pools k) from l.statement → ((n : ℕ) → 2 ^ 32 ≤ n → IsBelow n from → IsBelow (n + (1027 + 4 * items l.statement + 4 * slice_index pools k)) now) →
     Walks lines words (k + 1) now spots' spans'
@@ -114,10 +114,10 @@ walks_more lines words pools k l stands from now begun spots spots' spans spans'
       below = (let P : List (Option Spot) → Type 0 = λ xs. All (IsBelow (2 ^ 34)) xs in
           subst P (sym spots_add) (All-push (IsBelow (2 ^ 34)) spots begun walks.below
           (begun_below (2 ^ 34) (lit≤ tt) (below_more (reach lines words k) (2 ^ 34) from (reach_small lines words k stands.text.small stands.text.few) walks.near))));
-      spans_are = ap (λ ws. ws ++ (pending words now (k + 1) rest ++ later words (take (k + 1) lines) rest)) spans_add
-          ∙ ap (λ p. (spans ++ (if is_segment l.statement then closed from else [])) ++ (pending words p (k + 1) rest ++ later words (take (k + 1) lines) rest)) step
-          ∙ ap (λ ls. (spans ++ (if is_segment l.statement then closed from else [])) ++ (pending words (passes (pool_size words k) from l.statement) (k + 1) rest ++ later words ls rest)) (next lines k l lt stands.is)
-          ∙ append_assoc spans (if is_segment l.statement then closed from else []) (pending words (passes (pool_size words k) from l.statement) (k + 1) rest ++ later words (front ++ l ∷ []) rest)
+      spans_are = ap (λ ws. ws ++ (pending_span words now (k + 1) rest ++ later words (take (k + 1) lines) rest)) spans_add
+          ∙ ap (λ p. (spans ++ (if is_segment l.statement then closed_span from else [])) ++ (pending_span words p (k + 1) rest ++ later words (take (k + 1) lines) rest)) step
+          ∙ ap (λ ls. (spans ++ (if is_segment l.statement then closed_span from else [])) ++ (pending_span words (passes (pool_size words k) from l.statement) (k + 1) rest ++ later words ls rest)) (next lines k l lt stands.is)
+          ∙ append_assoc spans (if is_segment l.statement then closed_span from else []) (pending_span words (passes (pool_size words k) from l.statement) (k + 1) rest ++ later words (front ++ l ∷ []) rest)
           ∙ ap (λ ws. spans ++ ws) (sym (span_step words front k l rest from long))
-          ∙ ap (λ ls. spans ++ (pending words from k ls ++ later words front ls)) (sym (here lines k l lt stands.is)) ∙ walks.spans_are;
+          ∙ ap (λ ls. spans ++ (pending_span words from k ls ++ later words front ls)) (sym (here lines k l lt stands.is)) ∙ walks.spans_are;
     }

@@ -53,16 +53,16 @@ abbrev pub label_name : Option Placed → List Placed
 label_name None = []
 label_name (Some name) = name ∷ []
 
-abbrev pub labelled : ℕ → Placed → Label
-labelled a name = record { name = name.name; address = pos a }
+abbrev pub label_placed : ℕ → Placed → Label
+label_placed a name = record { name = name.name; address = pos a }
 
 -- A line's label has the line's address; a `.literal`'s name has that of its word, and
 -- without a word the line's.
 abbrev pub labels_at : List PoolWord → List ℕ → List Line → Line → List Line → List Label
 labels_at words addresses before l rest =
     let a = address (spot_at words before l) in
-    map (labelled a) (label_name l.label)
-    ++ map (labelled (unwrap_or (home (length before) words addresses) a))
+    map (label_placed a) (label_name l.label)
+    ++ map (label_placed (unwrap_or (home (length before) words addresses) a))
     (literal_name l.statement)
 
 -- the labels and literal names in the order of their definitions: of two with

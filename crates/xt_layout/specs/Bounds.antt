@@ -10,7 +10,7 @@ use Rattle.std.specs.List.{flat_map}
 use Rattle.xt_pool.specs.Around.{each, each_after}
 use Rattle.xt_layout.specs.declared.spot.Spot.{Spot}
 use Rattle.xt_layout.specs.declared.spot.Span.{Span}
-use Rattle.xt_layout.specs.Spans.{padded, segment_end, span_at, spans_of}
+use Rattle.xt_layout.specs.Spans.{padded_span, segment_end, span_at, spans_of}
 use Rattle.xt_layout.specs.Spots.{behind, spot_at}
 use Rattle.xt_layout.specs.Sizes.{IsSmall, pool_size, weight}
 
@@ -39,14 +39,14 @@ reach lines words k =
 -- ---- spans, while the lines are gone through
 
 -- the segment that ends here
-abbrev pub closed : Option Spot → List Span
-closed None = []
-closed (Some p) = padded p.start p.at ∷ []
+abbrev pub closed_span : Option Spot → List Span
+closed_span None = []
+closed_span (Some p) = padded_span p.start p.at ∷ []
 
 -- the segment that lines from the place k on go on
-abbrev pub pending : List PoolWord → Option Spot → ℕ → List Line → List Span
-pending words None k rest = []
-pending words (Some p) k rest = padded p.start (segment_end words k p.at rest) ∷ []
+abbrev pub pending_span : List PoolWord → Option Spot → ℕ → List Line → List Span
+pending_span words None k rest = []
+pending_span words (Some p) k rest = padded_span p.start (segment_end words k p.at rest) ∷ []
 
 -- the segments that the lines begin
 abbrev pub later : List PoolWord → List Line → List Line → List Span
@@ -66,7 +66,8 @@ pub record Walks
       ≡ each (λ before l rest. spot_at words before l) lines
   pub below : All (IsBelow (2 ^ 34)) spots
   pub spans_are :
-      spans ++ (pending words here k (drop k lines) ++ later words (take k lines) (drop k lines))
+      spans ++ (pending_span words here k (drop k lines)
+      ++ later words (take k lines) (drop k lines))
       ≡ spans_of lines
 
 -- where the lines stand, and the segments

@@ -26,12 +26,12 @@ segment_end words k a (l ∷ rest) =
     else segment_end words (k + 1) (a + size (pool_size words k) a l.statement) rest
 
 -- a segment is padded with zeros to a multiple of 4 bytes
-abbrev pub padded : ℕ → ℕ → Span
-padded start end = span start (end + padding 4 (end - start))
+abbrev pub padded_span : ℕ → ℕ → Span
+padded_span start end = span start (end + padding 4 (end - start))
 
 -- the segment that a statement begins, which these lines follow
 abbrev pub span_at : List PoolWord → ℕ → Statement → List Line → List Span
-span_at words k (Seg start) rest = padded start (segment_end words (k + 1) start rest) ∷ []
+span_at words k (Seg start) rest = padded_span start (segment_end words (k + 1) start rest) ∷ []
 span_at words k _ rest = []
 
 -- the segments of a text

@@ -18,11 +18,11 @@ begins before (Seg start) = Some (spot start start)
 begins before _ = before
 
 -- after the bytes of a statement, before which the pool at its place has so many words
-abbrev pub moved : ℕ → Statement → Spot → Spot
-moved pool s p = spot p.start (p.at + size pool p.at s)
+abbrev pub spot_past : ℕ → Statement → Spot → Spot
+spot_past pool s p = spot p.start (p.at + size pool p.at s)
 
 abbrev pub passes : ℕ → Option Spot → Statement → Option Spot
-passes pool before s = option_map (moved pool s) (begins before s)
+passes pool before s = option_map (spot_past pool s) (begins before s)
 
 -- After lines, of which the first has the place k: the statements, pools and zeros of a segment
 -- stand one after another.

@@ -2,7 +2,7 @@ ghost use Rattle.std.specs.Prelude.{◌≡◌, Some, ℕ, ◌++◌, ◌<◌, ◌
 ghost use Rattle.std.specs.List.{flat_map};
 ghost use Rattle.xt_expr.specs.Values.{HaveAddresses};
 ghost use Rattle.xt_pool.specs.Around.{each};
-ghost use Rattle.xt_layout.specs.Addresses.{home, label_name, labelled, labels_at, literal_name};
+ghost use Rattle.xt_layout.specs.Addresses.{home, label_name, label_placed, labels_at, literal_name};
 ghost use Rattle.xt_layout.specs.Bounds.{IsBelow};
 ghost use Rattle.xt_layout.specs.Spots.{spot_at};
 
@@ -16,7 +16,7 @@ use xt_pool::PoolWord;
 /// One label more.
 fn add(labels: &mut Vec<Label>, name: &Placed, address: u64) -> Result<(), AllocError>
     requires { address < 2 ^ 40 }
-    ensures { OnOk result (labels.new.items ≡ labels.old.items ++ map (labelled address) (label_name (Some name.now))) }
+    ensures { OnOk result (labels.new.items ≡ labels.old.items ++ map (label_placed address) (label_name (Some name.now))) }
 {
     let name = name.name.clone()?;
     labels.push(Label {
@@ -29,7 +29,7 @@ fn add(labels: &mut Vec<Label>, name: &Placed, address: u64) -> Result<(), Alloc
 /// The label of a line, which has the line's address.
 fn add_label(labels: &mut Vec<Label>, line: &Line, address: u64) -> Result<(), AllocError>
     requires { address < 2 ^ 40 }
-    ensures { OnOk result (labels.new.items ≡ labels.old.items ++ map (labelled address) (label_name line.now.label)) }
+    ensures { OnOk result (labels.new.items ≡ labels.old.items ++ map (label_placed address) (label_name line.now.label)) }
 {
     match &line.label {
         Some(name) => add(labels, name, address),
@@ -40,7 +40,7 @@ fn add_label(labels: &mut Vec<Label>, line: &Line, address: u64) -> Result<(), A
 /// The name of a `.literal`, which has this address.
 fn add_literal(labels: &mut Vec<Label>, line: &Line, address: u64) -> Result<(), AllocError>
     requires { address < 2 ^ 40 }
-    ensures { OnOk result (labels.new.items ≡ labels.old.items ++ map (labelled address) (literal_name line.now.statement)) }
+    ensures { OnOk result (labels.new.items ≡ labels.old.items ++ map (label_placed address) (literal_name line.now.statement)) }
 {
     match &line.statement {
         Statement::Literal(name, _) => add(labels, name, address),
@@ -58,7 +58,7 @@ fn add_names(
     requires address { address < 2 ^ 40 }
     requires home { unwrap_or home address < 2 ^ 40 }
     ensures { OnOk result (labels.new.items ≡ labels.old.items
-        ++ (map (labelled address) (label_name line.now.label) ++ map (labelled (unwrap_or home address)) (literal_name line.now.statement))) }
+        ++ (map (label_placed address) (label_name line.now.label) ++ map (label_placed (unwrap_or home address)) (literal_name line.now.statement))) }
 {
     add_label(labels, line, address)?;
     add_literal(labels, line, home.unwrap_or(address))

@@ -1,7 +1,7 @@
 ghost use Rattle.std.specs.Prelude.{◌≡◌, ℕ, ◌+◌, ◌*◌, ◌^◌, ◌<◌, ◌≤◌};
 ghost use Rattle.xt_layout.specs.Bounds.{IsBelow};
 ghost use Rattle.xt_layout.specs.Sizes.{items};
-ghost use Rattle.xt_layout.specs.Spots.{begins, moved, passes, address};
+ghost use Rattle.xt_layout.specs.Spots.{begins, spot_past, passes, address};
 
 use crate::size::size;
 use xt_parse::Statement;
@@ -39,11 +39,11 @@ pub(crate) fn begins(before: Option<Spot>, statement: &Statement) -> Option<Spot
 }
 
 /// The spot after the bytes of a statement.
-fn moved(pool: u64, spot: Spot, statement: &Statement) -> Spot
+fn spot_past(pool: u64, spot: Spot, statement: &Statement) -> Spot
     requires pool { pool < 2 ^ 32 }
     requires items { items statement.now < 2 ^ 32 }
     requires below { spot.at ≤ 2 ^ 62 }
-    ensures value { result ≡ moved pool statement.now spot }
+    ensures value { result ≡ spot_past pool statement.now spot }
     ensures below { (n : ℕ) → 2 ^ 32 ≤ n → spot.at ≤ n → result.at ≤ n + (1027 + 4 * items statement.now + 4 * pool) }
 {
     Spot {
@@ -61,7 +61,7 @@ pub(crate) fn passes(pool: u64, before: Option<Spot>, statement: &Statement) -> 
     ensures below { (n : ℕ) → 2 ^ 32 ≤ n → IsBelow n before → IsBelow (n + (1027 + 4 * items statement.now + 4 * pool)) result }
 {
     match begins(before, statement) {
-        Some(spot) => Some(moved(pool, spot, statement)),
+        Some(spot) => Some(spot_past(pool, spot, statement)),
         None => None,
     }
 }

@@ -1,7 +1,7 @@
 ghost use Rattle.std.specs.Prelude.{◌≡◌, ◌++◌, [], length, IfOk, OnOk, All, if◌then◌else◌, ◌+◌, ◌-◌, ◌^◌, ◌≤◌};
 ghost use Rattle.xt_pool.specs.Pools.{is_segment};
-ghost use Rattle.xt_layout.specs.Bounds.{ArePools, IsBelow, IsText, IsWalk, closed};
-ghost use Rattle.xt_layout.specs.Spans.{padded};
+ghost use Rattle.xt_layout.specs.Bounds.{ArePools, IsBelow, IsText, IsWalk, closed_span};
+ghost use Rattle.xt_layout.specs.Spans.{padded_span};
 
 use crate::size::padding;
 use crate::spot::{Span, Spot, begins, passes};
@@ -19,9 +19,9 @@ pub(crate) struct Walk {
 }
 
 /// The bytes of a segment, padded to a multiple of 4.
-fn padded(spot: Spot) -> Span
+fn padded_span(spot: Spot) -> Span
     requires { spot.at ≤ 2 ^ 62 }
-    ensures { result ≡ padded spot.start spot.at }
+    ensures { result ≡ padded_span spot.start spot.at }
 {
     Span {
         start: spot.start,
@@ -32,10 +32,10 @@ fn padded(spot: Spot) -> Span
 /// Adds the segment that ends here, if any.
 fn close(spans: &mut Vec<Span>, here: Option<Spot>) -> Result<(), AllocError>
     requires { IsBelow (2 ^ 62) here }
-    ensures { OnOk result (spans.new.items ≡ spans.old.items ++ closed here) }
+    ensures { OnOk result (spans.new.items ≡ spans.old.items ++ closed_span here) }
 {
     if let Some(spot) = here {
-        spans.push(padded(spot))?;
+        spans.push(padded_span(spot))?;
     }
     Ok(())
 }
@@ -47,7 +47,7 @@ fn close_before(
     statement: &Statement,
 ) -> Result<(), AllocError>
     requires { IsBelow (2 ^ 62) here }
-    ensures { OnOk result (spans.new.items ≡ spans.old.items ++ (if is_segment statement.now then closed here else [])) }
+    ensures { OnOk result (spans.new.items ≡ spans.old.items ++ (if is_segment statement.now then closed_span here else [])) }
 {
     if let Statement::Seg(_) = statement {
         close(spans, here)?;

@@ -4,7 +4,7 @@ use Rattle.std.proofs.lemmas.Bool.Decides.{nat_tests}
 use Rattle.std.specs.List.{prefix_len}
 use Rattle.std.specs.Char.{is_ascii_digit}
 use Rattle.xt_lex.specs.declared.token.TokenKind.{TokenKind}
-use Rattle.xt_lex.specs.Bytes.{is_word_start, number_of}
+use Rattle.xt_lex.specs.TextBytes.{is_word_start, number_of}
 use Rattle.xt_lex.specs.Fronts.{Front, number_kind, hex_digits_front, word_front, decimal_front, hex_front, character_front, string_front, mark_front, longer, token_at}
 
 -- a byte that passes a test is none that fails it

@@ -1,6 +1,6 @@
 -- A number only grows with its digits.
 use Rattle.std.proofs.Common.{◌≤◌, ◌<◌, ◌+◌, ◌*◌, ℕ, List, [], ◌∷◌, fold, arith}
-use Rattle.xt_lex.specs.Bytes.{digit_of}
+use Rattle.xt_lex.specs.TextBytes.{digit_of}
 
 abbrev pub next_number : ℕ → ℕ → ℕ → ℕ
 next_number base n b = n * base + digit_of b

@@ -1,7 +1,7 @@
 -- A string byte by byte.
 use Rattle.std.proofs.Common.{◌≡◌, ◌+◌, ℕ, Bool, true, false, cond, List, [], ◌∷◌, ◌++◌, drop, Option, Some, None, refl, sym, ◌∙◌, ap, append_assoc, add_assoc, ◌==◌}
 use Rattle.std.specs.Option.{option_map}
-use Rattle.xt_lex.specs.Bytes.{escaped, is_plain}
+use Rattle.xt_lex.specs.TextBytes.{escaped_byte, is_plain}
 use Rattle.xt_lex.specs.Fronts.{begins_with_quote, string_body, string_piece, and_then, after_escape}
 
 abbrev pub Body : Type 0
@@ -37,7 +37,7 @@ pub piece_is_prefix : (bytes : List ℕ) (byte taken : ℕ) → string_piece byt
 unfolding string_piece string_body
 piece_is_prefix [] byte taken h = cc
 piece_is_prefix (b ∷ []) byte taken h = cc
-piece_is_prefix (b ∷ c ∷ rest) byte taken h = piece_goes (b == 34) (b == 92) (is_plain 34 b) (escaped c) b byte taken (string_body (c ∷ rest)) (string_body rest) (λ n. string_body (drop n (b ∷ c ∷ rest))) refl refl h
+piece_is_prefix (b ∷ c ∷ rest) byte taken h = piece_goes (b == 34) (b == 92) (is_plain 34 b) (escaped_byte c) b byte taken (string_body (c ∷ rest)) (string_body rest) (λ n. string_body (drop n (b ∷ c ∷ rest))) refl refl h
 
 piece_ends : (quote backslash plain : Bool) (e : Option ℕ) (b : ℕ) (one two : Body)
     → cond {A = Option (ℕ × ℕ)} quote None (cond {A = Option (ℕ × ℕ)} backslash (option_map (λ x. (x, 2)) e) (cond {A = Option (ℕ × ℕ)} plain (Some (b, 1)) None)) ≡ None
@@ -53,4 +53,4 @@ pub no_piece_is_end : (bytes : List ℕ) → string_piece bytes ≡ None → str
 unfolding string_piece string_body
 no_piece_is_end [] h = refl
 no_piece_is_end (b ∷ []) h = refl
-no_piece_is_end (b ∷ c ∷ rest) h = piece_ends (b == 34) (b == 92) (is_plain 34 b) (escaped c) b (string_body (c ∷ rest)) (string_body rest) h
+no_piece_is_end (b ∷ c ∷ rest) h = piece_ends (b == 34) (b == 92) (is_plain 34 b) (escaped_byte c) b (string_body (c ∷ rest)) (string_body rest) h

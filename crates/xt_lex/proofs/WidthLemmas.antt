@@ -7,7 +7,7 @@ use Rattle.std.specs.Char.{is_ascii_digit, is_ascii_hexdigit}
 use Rattle.std.specs.Option.{option_map, IfSome}
 use Rattle.xt_lex.specs.declared.token.TokenKind.{TokenKind}
 use Rattle.xt_lex.specs.declared.token.TokenKind.TheVariants.{Word, Number, Character, Str, Comma, Colon, Equals, Plus, Minus, Bad}
-use Rattle.xt_lex.specs.Bytes.{is_word_start, is_word_byte, is_plain, escaped, number_of}
+use Rattle.xt_lex.specs.TextBytes.{is_word_start, is_word_byte, is_plain, escaped_byte, number_of}
 use Rattle.xt_lex.specs.Fronts.{Front, number_kind_of, number_kind, hex_digits_front, word_front, decimal_front, hex_front, character_front, string_body, and_then, after_escape, string_front, mark_front, longer, token_at}
 use Rattle.xt_lex.specs.Tokens.{kind_weight, valid}
 
@@ -108,7 +108,7 @@ body_within (b ∷ []) = pick_body 1 (b == 34) (Some ([], 1)) None (record { lig
 body_within (b ∷ c ∷ rest) =
     let len = length (b ∷ c ∷ rest) in
     pick_body len (b == 34) (Some ([], 1)) _ (record { light = omega arith; most = omega arith })
-    (pick_body len (b == 92) _ _ (long_body (2 + length rest) len _ (omega arith) (escape_within (length rest) (escaped c) (string_body rest) (body_within rest)))
+    (pick_body len (b == 92) _ _ (long_body (2 + length rest) len _ (omega arith) (escape_within (length rest) (escaped_byte c) (string_body rest) (body_within rest)))
     (pick_body len (is_plain 34 b) _ None (long_body (1 + length (c ∷ rest)) len _ (omega arith) (then_within (length (c ∷ rest)) b 1 (string_body (c ∷ rest)) (omega arith) (body_within (c ∷ rest)))) tt))
 
 string_of_body : (len : ℕ) (body : Option (List ℕ × ℕ)) → AllBody len body → All' (1 + len) (option_map (λ r. (Str r.0, 1 + r.1)) body)

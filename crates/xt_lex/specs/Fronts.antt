@@ -5,7 +5,7 @@ use Rattle.std.specs.Prelude.{◌∷◌, Option, Some, None}
 use Rattle.std.specs.List.{prefix_len, take_while}
 use Rattle.std.specs.Char.{is_ascii_digit, is_ascii_hexdigit}
 use Rattle.std.specs.Option.{option_map}
-use Rattle.xt_lex.specs.Bytes.{is_word_start, is_word_byte, is_plain, escaped, number_of}
+use Rattle.xt_lex.specs.TextBytes.{is_word_start, is_word_byte, is_plain, escaped_byte, number_of}
 use Rattle.xt_lex.specs.declared.token.TokenKind.{TokenKind}
 use Rattle.xt_lex.specs.declared.token.TokenKind.TheVariants.{Word, Number, Character, Str, Comma}
 use Rattle.xt_lex.specs.declared.token.TokenKind.TheVariants.{Colon, Equals, Plus, Minus, Bad}
@@ -72,7 +72,7 @@ begins_with_quote (b ∷ _) = b == 34
 unfoldable pub string_piece : List ℕ → Option (ℕ × ℕ)
 string_piece (b ∷ c ∷ _) =
     if b == 34 then None else
-    if b == 92 then option_map (λ byte. (byte, 2)) (escaped c) else
+    if b == 92 then option_map (λ byte. (byte, 2)) (escaped_byte c) else
     if is_plain 34 b then Some (b, 1) else None
 string_piece _ = None
 
@@ -81,7 +81,7 @@ string_body [] = None
 string_body (b ∷ []) = if b == 34 then Some ([], 1) else None
 string_body (b ∷ c ∷ rest) =
     if b == 34 then Some ([], 1) else
-    if b == 92 then after_escape (escaped c) (string_body rest) else
+    if b == 92 then after_escape (escaped_byte c) (string_body rest) else
     if is_plain 34 b then and_then b 1 (string_body (c ∷ rest)) else None
 
 -- a string between double quotes

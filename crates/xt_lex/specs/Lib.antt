@@ -1,3 +1,3 @@
-pub mod Bytes
+pub mod TextBytes
 pub mod Fronts
 pub mod Tokens

@@ -1,7 +1,7 @@
 ghost use Rattle.std.specs.Prelude.{◌≡◌, ◌^◌, ◌<◌, ◌≤◌, nat_lt, length, if◌then◌else◌, Some, None, IfOk, IfSome, IsTrue};
 ghost use Rattle.std.specs.List.{prefix_len};
 ghost use Rattle.std.specs.Char.{is_ascii_digit, is_ascii_hexdigit};
-ghost use Rattle.xt_lex.specs.Bytes.{is_word_start, is_word_byte, is_printable, is_plain, escaped, digit_of, number_of};
+ghost use Rattle.xt_lex.specs.TextBytes.{is_word_start, is_word_byte, is_printable, is_plain, escaped_byte, digit_of, number_of};
 ghost use Rattle.std.specs.Option.{option_map};
 ghost use Rattle.xt_lex.specs.Fronts.{begins_with_quote, string_piece, string_body};
 
@@ -29,9 +29,9 @@ pub fn stands_for_itself(quote: u8, byte: u8) -> bool
 }
 
 /// The byte that a backslash and this byte stand for in a string.
-#[tactic(auto, unfolding(crate::specs::Bytes::escaped))]
+#[tactic(auto, unfolding(crate::specs::TextBytes::escaped_byte))]
 pub fn unescaped(byte: u8) -> Option<u8>
-    ensures { result ≡ escaped byte }
+    ensures { result ≡ escaped_byte byte }
 {
     match byte {
         b'n' => Some(b'\n'),
@@ -77,7 +77,7 @@ pub fn hex_width(bytes: &[u8]) -> usize
 }
 
 // The value of a digit.
-#[tactic(auto, unfolding(crate::specs::Bytes::digit_of))]
+#[tactic(auto, unfolding(crate::specs::TextBytes::digit_of))]
 fn digit(byte: u8) -> u64
     ensures value { result ≡ digit_of byte }
     ensures small { result < 256 }

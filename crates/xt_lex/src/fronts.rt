@@ -1,5 +1,5 @@
 ghost use Rattle.std.specs.Prelude.{◌≡◌, IfOk};
-ghost use Rattle.xt_lex.specs.Bytes.{number_of};
+ghost use Rattle.xt_lex.specs.TextBytes.{number_of};
 ghost use Rattle.xt_lex.specs.Fronts.{number_kind, number_kind_of, word_front, decimal_front, hex_front, longer, character_front, string_front, mark_front, token_at};
 
 use crate::bytes::{

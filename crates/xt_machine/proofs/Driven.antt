@@ -14,9 +14,9 @@ use Rattle.xt_exec.specs.declared.plans.Pending.{Pending}
 use Rattle.xt_exec.specs.Chips.{processor}
 use Rattle.xt_exec.specs.State.{State}
 use Rattle.xt_exec.specs.Turn.{demand, turn}
-use Rattle.xt_core.specs.Cores.{CoreState, turned}
-use Rattle.xt_machine.specs.Driving.{WasDriven, driven, trace_left}
-use Rattle.xt_machine.specs.Going.{IsGoing, past, unturned}
+use Rattle.xt_core.specs.Cores.{CoreState, core_after_turn}
+use Rattle.xt_machine.specs.Driving.{WasDriven, core_after_trace, trace_left}
+use Rattle.xt_machine.specs.Going.{IsGoing, past, core_before_turns}
 
 or_assoc : (a b c : Bool) → ((a || b) || c) ≡ (a || (b || c))
 or_assoc true b c = refl
@@ -31,7 +31,7 @@ abbrev kept_from : CoreState → State → ℕ → Bool → ℕ → List ℕ →
 kept_from before state left stopped count places =
     record before { state = state; waiting = None; left = left; stopped = stopped; count = count; places = places }
 
-turned_past : (code : ℕ → ℕ) (before : CoreState) (k : Core State) (n r : ℕ) → k.left ≡ suc n → turned code r (past k before) ≡ past (core_past (processor code) k n r) before
+turned_past : (code : ℕ → ℕ) (before : CoreState) (k : Core State) (n r : ℕ) → k.left ≡ suc n → core_after_turn code r (past k before) ≡ past (core_past (processor code) k n r) before
 turned_past code before k n r left =
     let t = turn code k.state r in
     let from : ℕ → Bool → ℕ → List ℕ → CoreState = λ left stopped count places. kept_from before t.1 left stopped count places in
@@ -52,16 +52,16 @@ going_none code k list free =
     let from : Option Pending → Bool → ℕ → List ℕ → CoreState = λ waiting stopped count places. record k { waiting = waiting; stopped = stopped; count = count; places = places } in
     record {
       made = [];
-      core = unturned k;
+      core = core_before_turns k;
       list = sym (append-nil list);
       now_is = ap (λ (w : Option Pending). from w k.stopped k.count k.places) free
           ∙ ap (λ (b : Bool). from None b k.count k.places) (or_false k.stopped)
           ∙ ap (λ (c : ℕ). from None (k.stopped || false) c k.places) (let is : k.count ≡ k.count + 0 = omega arith in is)
           ∙ ap (from None (k.stopped || false) (k.count + 0)) (sym (append-nil k.places));
-      drove = drove_none (processor code) (unturned k);
+      drove = drove_none (processor code) (core_before_turns k);
     }
 
-pub going_local : (code : ℕ → ℕ) (before k k' : CoreState) (old new : List (Access × ℕ)) → 0 < k.left → demand code k.state ≡ None → k' ≡ turned code 0 k
+pub going_local : (code : ℕ → ℕ) (before k k' : CoreState) (old new : List (Access × ℕ)) → 0 < k.left → demand code k.state ≡ None → k' ≡ core_after_turn code 0 k
     → IsGoing code before k old new → IsGoing code before k' old new
 going_local code before k k' old new some e is h =
     let n = k.left - 1 in
@@ -71,12 +71,12 @@ going_local code before k k' old new some e is h =
       made = h.made;
       core = core_past (processor code) h.core n 0;
       list = h.list;
-      now_is = is ∙ ap (turned code 0) h.now_is ∙ turned_past code before h.core n 0 left;
-      drove = drove_local (processor code) (unturned before) h.core h.made n left asks h.drove;
+      now_is = is ∙ ap (core_after_turn code 0) h.now_is ∙ turned_past code before h.core n 0 left;
+      drove = drove_local (processor code) (core_before_turns before) h.core h.made n left asks h.drove;
     }
 
 pub going_call : (code : ℕ → ℕ) (before k k' : CoreState) (old new new' : List (Access × ℕ)) (a : Access) (r : ℕ) → 0 < k.left → demand code k.state ≡ Some a
-    → k' ≡ turned code r k → new' ≡ new ++ (a, r) ∷ [] → IsGoing code before k old new → IsGoing code before k' old new'
+    → k' ≡ core_after_turn code r k → new' ≡ new ++ (a, r) ∷ [] → IsGoing code before k old new → IsGoing code before k' old new'
 going_call code before k k' old new new' a r some e is grown h =
     let n = k.left - 1 in
     let left : h.core.left ≡ suc n = (let same : k.left ≡ h.core.left = ap (λ (x : CoreState). x.left) h.now_is in omega arith) in
@@ -85,8 +85,8 @@ going_call code before k k' old new new' a r some e is grown h =
       made = h.made ++ (a, r) ∷ [];
       core = core_past (processor code) h.core n r;
       list = grown ∙ ap (λ (l : List (Access × ℕ)). l ++ (a, r) ∷ []) h.list ∙ append_assoc old h.made ((a, r) ∷ []);
-      now_is = is ∙ ap (turned code r) h.now_is ∙ turned_past code before h.core n r left;
-      drove = drove_call (processor code) (unturned before) h.core h.made n a r left asks h.drove;
+      now_is = is ∙ ap (core_after_turn code r) h.now_is ∙ turned_past code before h.core n r left;
+      drove = drove_call (processor code) (core_before_turns before) h.core h.made n a r left asks h.drove;
     }
 
 -- at its end it was driven
@@ -100,6 +100,6 @@ going_ended code before k old new none h =
       list = h.list;
       core = h.now_is
           ∙ ap (λ (l : ℕ). kept_from before h.core.state l (before.stopped || has_stopped h.core.records) (before.count + length h.core.records) (before.places ++ places_from before.count h.core.records)) left
-          ∙ ap (driven before) is;
+          ∙ ap (core_after_trace before) is;
       calls = sym h.drove.calls ∙ ap (λ (x : Traced State). calls_in x.records) is;
     }

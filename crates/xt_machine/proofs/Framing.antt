@@ -8,14 +8,14 @@ use Rattle.xt_map.specs.declared.segment.Segment.{Segment}
 use Rattle.xt_trace.specs.declared.options.Options.{Options}
 use Rattle.xt_trace.specs.declared.run.Run.{Run}
 use Rattle.xt_image.specs.declared.image.Image.{Image}
-use Rattle.xt_image.specs.Parts.{FitsImage, FitsSegment}
-use Rattle.xt_rows.specs.Laws.{IsWord}
+use Rattle.xt_image.specs.ImageParts.{FitsImage, FitsSegment}
+use Rattle.xt_rows.specs.RowLaws.{IsWord}
 use Rattle.xt_core.specs.Runs.{IsRunOf, code_of}
 use Rattle.xt_stretch.specs.declared.HandlerVerdict.{HandlerVerdict}
 use Rattle.xt_stretch.specs.declared.HandlerVerdict.TheVariants.{Yes, No}
 use Rattle.xt_stretch.specs.declared.Side.TheVariants.{Overflow, Underflow}
 use Rattle.xt_handlers.specs.Vectors.{Handlers, verdict_of}
-use Rattle.xt_handlers.specs.Answers.{handlers_of}
+use Rattle.xt_handlers.specs.CheckAnswers.{handlers_of}
 use Rattle.xt_discipline.specs.Verdicts.{is_yes, are_yes}
 use Rattle.xt_simulation.specs.Opening.{AreSmall, IsRunnable}
 use Rattle.xt_simulation.specs.Headline.{IsRunOfImage}

@@ -10,7 +10,7 @@ use Rattle.xt_trace.specs.declared.trace.Stop.{Stop}
 use Rattle.xt_trace.specs.declared.trace.Trace.{Trace}
 use Rattle.xt_image.specs.declared.image.Image.{Image}
 use Rattle.xt_trace.specs.Chip.{Chip}
-use Rattle.xt_trace.specs.Runs.{opened, run_at}
+use Rattle.xt_trace.specs.Runs.{world_at_start, run_at}
 use Rattle.xt_trace.specs.Runs as runs
 use Rattle.xt_trace.specs.Schedule.{cores_of, places_from, schedule}
 use Rattle.xt_trace.specs.Short.{ShortWorld, short_advance}
@@ -82,7 +82,7 @@ pub comes_to_list : (image : Image) (o : Options) (list : List ℕ) (segments : 
     → c ≡ short_advance (processor (constant_byte segments)) (replicate b.core1.left 1) b → r ≡ run_in o c → r ≡ run_of_list image o list
 comes_to_list image o list segments w a b c r same is_w is_a is_b is_c is_r =
     let at : List Segment → Chip State = λ s. processor (constant_byte s) in
-    is_r ∙ ap (run_in o) (list_finished (at image.segments) list (opened (opening_of image o)) a b c
+    is_r ∙ ap (run_in o) (list_finished (at image.segments) list (world_at_start (opening_of image o)) a b c
     (is_a ∙ ap (λ (s : List Segment). short_advance (at s) list w) same ∙ ap (short_advance (at image.segments) list) is_w)
     (is_b ∙ ap (λ (s : List Segment). short_advance (at s) (replicate a.core0.left 0) a) same)
     (is_c ∙ ap (λ (s : List Segment). short_advance (at s) (replicate b.core1.left 1) b) same))

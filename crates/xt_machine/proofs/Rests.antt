@@ -3,7 +3,7 @@ use Rattle.std.proofs.Common.{◌≡◌, ℕ, zero, suc, Bool, true, nat_lt, ◌
 use Rattle.std.proofs.lemmas.Bool.{ltb-true}
 use Rattle.std.proofs.lemmas.List.{take_more}
 use Rattle.xt_trace.specs.Chip.{Chip}
-use Rattle.xt_trace.specs.Worlds.{Line, World, advance, rest_of, finished, answer}
+use Rattle.xt_trace.specs.Worlds.{Line, World, advance, rest_of, finished_world, answer}
 use Rattle.xt_trace.specs.Short.{ShortCore, ShortWorld, short_world, short_line, short_given, short_give, short_advance}
 use Rattle.xt_trace.proofs.Ends.{left_at_most}
 use Rattle.xt_trace.proofs.Short.{short_world_advanced}
@@ -72,7 +72,7 @@ other_kept P (suc n) w = other_kept P n (short_give P 0 w)
 
 -- a list, then core 0's rest, then core 1's
 pub list_finished : {S : Type 0} (P : Chip S) (list : List ℕ) (w : World S) (a b c : ShortWorld S) → a ≡ short_advance P list (short_world w)
-    → b ≡ short_advance P (replicate a.core0.left 0) a → c ≡ short_advance P (replicate b.core1.left 1) b → c ≡ short_world (finished P (advance P list w))
+    → b ≡ short_advance P (replicate a.core0.left 0) a → c ≡ short_advance P (replicate b.core1.left 1) b → c ≡ short_world (finished_world P (advance P list w))
 list_finished {S = S} P list w a b c is_a is_b is_c =
     let v = advance P list w in
     let half : ShortWorld S → ShortWorld S = λ u. short_advance P (replicate u.core0.left 0) u in

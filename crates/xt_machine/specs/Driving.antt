@@ -19,8 +19,8 @@ abbrev pub trace_left : (ℕ → ℕ) → CoreState → List ℕ → Traced Stat
 trace_left code k replies = trace_over (processor code) k.state k.left replies
 
 -- the core after these turns, its last
-abbrev pub driven : CoreState → Traced State → CoreState
-driven k z = record k {
+abbrev pub core_after_trace : CoreState → Traced State → CoreState
+core_after_trace k z = record k {
   state = z.last;
   waiting = None;
   left = 0;
@@ -35,7 +35,7 @@ pub record WasDriven (code : ℕ → ℕ) (before after : CoreState) (old new : 
     : Type 0 where
   pub made : List (Access × ℕ)
   pub list : new ≡ old ++ made
-  pub core : after ≡ driven before (trace_left code before (replies_in made))
+  pub core : after ≡ core_after_trace before (trace_left code before (replies_in made))
   pub calls : made ≡ calls_in (trace_left code before (replies_in made)).records
 
 -- a core that can be driven over a seat at this bus

@@ -22,8 +22,8 @@ past k before = record before {
 }
 
 -- a core that has made no turn
-abbrev pub unturned : CoreState → Core State
-unturned k = record { state = k.state; left = k.left; records = [] }
+abbrev pub core_before_turns : CoreState → Core State
+core_before_turns k = record { state = k.state; left = k.left; records = [] }
 
 -- so far the list grew by the calls of the core's turns
 pub record IsGoing (code : ℕ → ℕ) (before now : CoreState) (old new : List (Access × ℕ))
@@ -32,4 +32,4 @@ pub record IsGoing (code : ℕ → ℕ) (before now : CoreState) (old new : List
   pub core : Core State
   pub list : new ≡ old ++ made
   pub now_is : now ≡ past core before
-  pub drove : Drove (processor code) (unturned before) core made
+  pub drove : Drove (processor code) (core_before_turns before) core made

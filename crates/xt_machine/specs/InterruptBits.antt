@@ -11,8 +11,8 @@ abbrev pub bits_of_levels : ℕ
 bits_of_levels = level_1_bits + level_3_bits + level_5_bits
 
 -- the special registers as the timers find them at the end of a turn
-abbrev pub counted : List ℕ → List ℕ
-counted special =
+abbrev pub with_next_ccount : List ℕ → List ℕ
+with_next_ccount special =
     slice_set special number.ccount ((slice_index special number.ccount + 1) % 2 ^ 32)
 
 pub record BitsAgree : Type 0 where
@@ -30,4 +30,4 @@ pub record BitsAgree : Type 0 where
       → ticked_special special
       ≡ with_timer 2 (timer_bit (number.ccompare 2))
       (with_timer 1 (timer_bit (number.ccompare 1))
-      (with_timer 0 (timer_bit (number.ccompare 0)) (counted special)))
+      (with_timer 0 (timer_bit (number.ccompare 0)) (with_next_ccount special)))

@@ -4,13 +4,14 @@ use Rattle.xt_trace.specs.declared.options.Options.{Options}
 use Rattle.xt_trace.specs.Validity.{IsValid}
 use Rattle.xt_image.specs.declared.image.Image.{Image}
 use Rattle.xt_sharedbus.specs.SeatState.{fresh}
-use Rattle.xt_core.specs.Cores.{CoreState, opened}
+use Rattle.xt_core.specs.Cores.{CoreState, opening_core_state}
 use Rattle.xt_core.specs.Runs.{entry_of, memory_of, opening_at, turns_of}
 use Rattle.xt_machine.specs.declared.machine.Machine.{Machine}
 
 -- a core of the image with all of its turns
 abbrev pub opens : ℕ → Image → Options → CoreState
-opens core image o = opened core (opening_at core (entry_of core image o) o) (turns_of core o)
+opens core image o =
+    opening_core_state core (opening_at core (entry_of core image o) o) (turns_of core o)
 
 -- Both cores and the bus stand as a run of the image with the machine's options
 -- opens, and no access was made.

@@ -4,7 +4,7 @@ ghost use Rattle.xt_trace.specs.declared.options.Options.{Options};
 ghost use Rattle.xt_trace.specs.declared.run.Run.{Run};
 ghost use Rattle.xt_trace.specs.Validity.{IsValid};
 ghost use Rattle.xt_image.specs.declared.image.Image.{Image};
-ghost use Rattle.xt_rows.specs.Laws.{IsWord};
+ghost use Rattle.xt_rows.specs.RowLaws.{IsWord};
 ghost use Rattle.xt_core.specs.Runs.{IsRunOf};
 ghost use Rattle.xt_machine.specs.Framed.{RunsAreFramed};
 ghost use Rattle.xt_machine.specs.InterruptBits.{BitsAgree};

@@ -2,10 +2,10 @@
 ghost use Rattle.std.specs.Prelude.{◌≡◌, ◌+◌, ◌<◌, ◌≤◌, true, false, All, IfOk, nat_lt, replicate};
 ghost use Rattle.xt_map.specs.Memory.{constant_byte};
 ghost use Rattle.xt_trace.specs.Validity.{IsValid};
-ghost use Rattle.xt_image.specs.Parts.{IsWellFormed};
+ghost use Rattle.xt_image.specs.ImageParts.{IsWellFormed};
 ghost use Rattle.xt_trace.specs.Short.{short_advance, short_give};
 ghost use Rattle.xt_exec.specs.Chips.{processor};
-ghost use Rattle.xt_bus.specs.States.{opened};
+ghost use Rattle.xt_bus.specs.States.{opening_bus};
 ghost use Rattle.xt_core.specs.Runs.{IsRunOf, stack_words};
 ghost use Rattle.xt_machine.specs.Framed.{IsFramed};
 ghost use Rattle.xt_machine.specs.Lists.{run_of_list};
@@ -25,7 +25,7 @@ use xt_trace::{Options, Run};
 /// The bus as a run of the image opens, with room for an access in each turn.
 pub fn opening_bus(alloc: Global, image: &Image, options: &Options) -> Result<Bus, AllocError>
     requires { IsValid options.now }
-    ensures { IfOk result (λ b. b ≡ opened image.now.segments (stack_words options.now) (options.now.turns0 + options.now.turns1)) }
+    ensures { IfOk result (λ b. b ≡ opening_bus image.now.segments (stack_words options.now) (options.now.turns0 + options.now.turns1)) }
 {
     Bus::make(
         alloc,

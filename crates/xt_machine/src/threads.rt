@@ -4,7 +4,7 @@ ghost use Rattle.xt_map.specs.Index.{IsIndexed};
 ghost use Rattle.xt_map.specs.Memory.{constant_byte};
 ghost use Rattle.xt_trace.specs.Validity.{IsValid};
 ghost use Rattle.xt_image.specs.declared.image.Image.{Image};
-ghost use Rattle.xt_image.specs.Parts.{FitsImage, IsWellFormed};
+ghost use Rattle.xt_image.specs.ImageParts.{FitsImage, IsWellFormed};
 ghost use Rattle.xt_core.specs.Runs.{IsRunOf};
 ghost use Rattle.xt_machine.specs.Driving.{HasDriven, MayDrive};
 ghost use Rattle.xt_machine.specs.Framed.{IsFramed};
@@ -27,7 +27,7 @@ use xt_sharedbus::{CoreSeat, NoMemory, SharedBus};
 use xt_trace::{Options, Run};
 
 // Drives a core to its end.
-fn driven<G: Gate, R: Wait>(
+fn core_after_trace<G: Gate, R: Wait>(
     rt: &R,
     mut core: Core<ThreadFile>,
     segments: &[Segment],
@@ -115,12 +115,12 @@ impl<'a> Machine<'a> {
                 requires drives { MayDrive bus.now core0 seat0 }
                 requires indexed { IsIndexed segments0.now index0 }
                 ensures { HasDriven (constant_byte segments0.entry.now) core0 seat0 result.0 result.1 }
-            { driven(rt, core0, segments0, index0, bus, seat0, gate) },
+            { core_after_trace(rt, core0, segments0, index0, bus, seat0, gate) },
             move || -> (Core<ThreadFile>, CoreSeat)
                 requires drives { MayDrive bus.now core1 seat1 }
                 requires indexed { IsIndexed segments1.now index1 }
                 ensures { HasDriven (constant_byte segments1.entry.now) core1 seat1 result.0 result.1 }
-            { driven(rt, core1, segments1, index1, bus, seat1, gate) },
+            { core_after_trace(rt, core1, segments1, index1, bus, seat1, gate) },
         );
         let bus = shared.close(rt, seat0, seat1);
         Run {

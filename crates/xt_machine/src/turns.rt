@@ -3,7 +3,7 @@ ghost use Rattle.std.specs.Prelude.{◌≡◌, ◌+◌, ◌<◌, ◌≤◌, true
 ghost use Rattle.xt_map.specs.Memory.{constant_byte};
 ghost use Rattle.xt_trace.specs.Short.{short_line};
 ghost use Rattle.xt_exec.specs.Chips.{processor};
-ghost use Rattle.xt_machine.specs.Shorts.{given, line_of};
+ghost use Rattle.xt_machine.specs.Shorts.{core_after_bus_turn, line_of};
 
 use xt_bus::Bus;
 use xt_core::{Begin, Core};
@@ -23,7 +23,7 @@ pub fn make_turn<W: Windows>(
     requires number { number < 2 }
     requires room { core.old.left ≤ bus.old.spare }
     ensures made { result ≡ nat_lt 0 core.old.left }
-    ensures core { core.new ≡ given (constant_byte code.now) core.old.left core.old (line_of bus.old) }
+    ensures core { core.new ≡ core_after_bus_turn (constant_byte code.now) core.old.left core.old (line_of bus.old) }
     ensures line { line_of bus.new ≡ short_line (processor (constant_byte code.now)) number core.old.left core.old.state (line_of bus.old) }
     ensures spare { bus.old.spare + core.new.left ≤ bus.new.spare + core.old.left }
 {

@@ -9,7 +9,7 @@ use Rattle.xt_map.specs.declared.access.Kind.TheVariants.{Load, Store, Cas}
 use Rattle.xt_map.specs.declared.contents.MemoryContents.{MemoryContents}
 use Rattle.xt_map.specs.Regions.{region_of, is_memory, is_mapped, is_size, is_uart, uart_transmit, uart_status}
 use Rattle.xt_map.specs.Memory.{HasSizes, byte_in, byte_at, with_byte, with_bytes, low_bytes, bytes_at, little_endian}
-use Rattle.xt_map.specs.Serving.{number_at, replied, reply_to, changed, memory_past, with_sent}
+use Rattle.xt_map.specs.Serving.{number_at, access_reply, reply_to, contents_after, memory_past, with_sent}
 use Rattle.xt_map.specs.Touching.{touches, is_store}
 use Rattle.xt_map.proofs.Ranged.{dram_range, rtc_fast_data_range, rtc_slow_range}
 use Rattle.xt_map.proofs.Stored.{byte_put, byte_elsewhere, byte_keeps_sizes, access_elsewhere, length-low_bytes}
@@ -70,7 +70,7 @@ pub untouched : (m : MemoryContents) (access : Access) (a : ℕ) → touches acc
 untouched m access a t = access_elsewhere m access a (outside access.addr access.size a t)
 
 -- ---- replies
-same_replied : (k : Kind) (x y : ℕ) → (is_store k ≡ false → x ≡ y) → replied k x ≡ replied k y
+same_replied : (k : Kind) (x y : ℕ) → (is_store k ≡ false → x ≡ y) → access_reply k x ≡ access_reply k y
 same_replied Load x y h = h refl
 same_replied (Store v) x y h = refl
 same_replied (Cas expected new) x y h = h refl
@@ -109,7 +109,7 @@ in_bytes : (size v x a : ℕ) → x ≤ a → a < x + size → (x ≤ a) × (a <
 in_bytes size v x a lo up = let l = length-low_bytes size v in (lo, omega arith)
 
 -- a touched byte, where what is not stored was equal
-changed_alike : (m n : MemoryContents) (x size : ℕ) (k : Kind) (a : ℕ) → HasSizes m → HasSizes n → x ≤ a → a < x + size → (is_store k ≡ false → ((y : ℕ) → x ≤ y → y < x + size → byte_at m y ≡ byte_at n y)) → byte_at (changed m x size k) a ≡ byte_at (changed n x size k) a
+changed_alike : (m n : MemoryContents) (x size : ℕ) (k : Kind) (a : ℕ) → HasSizes m → HasSizes n → x ≤ a → a < x + size → (is_store k ≡ false → ((y : ℕ) → x ≤ y → y < x + size → byte_at m y ≡ byte_at n y)) → byte_at (contents_after m x size k) a ≡ byte_at (contents_after n x size k) a
 changed_alike m n x size Load a s t lo up h = h refl a lo up
 changed_alike m n x size (Store v) a s t lo up h = alike (low_bytes size v) m n x a s t (inr (in_bytes size v x a lo up))
 changed_alike m n x size (Cas expected new) a s t lo up h =
@@ -123,9 +123,9 @@ unfolding memory_past
 touched_alike m n access a s t mapped lo up h =
     let small = size_small access mapped in
     ⊎_elim
-    (λ transmit. let e = eqb-true access.addr uart_transmit transmit in uart_byte (cond (eqb access.addr uart_transmit) (with_sent m access.kind) (cond (eqb access.addr uart_status) m (changed m access.addr access.size access.kind))) (cond (eqb access.addr uart_transmit) (with_sent n access.kind) (cond (eqb access.addr uart_status) n (changed n access.addr access.size access.kind))) a (omega arith) (omega arith))
+    (λ transmit. let e = eqb-true access.addr uart_transmit transmit in uart_byte (cond (eqb access.addr uart_transmit) (with_sent m access.kind) (cond (eqb access.addr uart_status) m (contents_after m access.addr access.size access.kind))) (cond (eqb access.addr uart_transmit) (with_sent n access.kind) (cond (eqb access.addr uart_status) n (contents_after n access.addr access.size access.kind))) a (omega arith) (omega arith))
     (λ not_transmit. ⊎_elim
-    (λ status. let e = eqb-true access.addr uart_status status in uart_byte (cond (eqb access.addr uart_transmit) (with_sent m access.kind) (cond (eqb access.addr uart_status) m (changed m access.addr access.size access.kind))) (cond (eqb access.addr uart_transmit) (with_sent n access.kind) (cond (eqb access.addr uart_status) n (changed n access.addr access.size access.kind))) a (omega arith) (omega arith))
+    (λ status. let e = eqb-true access.addr uart_status status in uart_byte (cond (eqb access.addr uart_transmit) (with_sent m access.kind) (cond (eqb access.addr uart_status) m (contents_after m access.addr access.size access.kind))) (cond (eqb access.addr uart_transmit) (with_sent n access.kind) (cond (eqb access.addr uart_status) n (contents_after n access.addr access.size access.kind))) a (omega arith) (omega arith))
     (λ not_status. let c = changed_alike m n access.addr access.size access.kind a s t lo up h in let p : eqb access.addr uart_transmit ≡ false = not_transmit in let q : eqb access.addr uart_status ≡ false = not_status in rw (p, q) c)
     (cases_Bool (eqb access.addr uart_status)))
     (cases_Bool (eqb access.addr uart_transmit))

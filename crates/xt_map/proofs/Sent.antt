@@ -9,7 +9,7 @@ use Rattle.xt_map.specs.declared.access.Access.{Access}
 use Rattle.xt_map.specs.declared.contents.MemoryContents.{MemoryContents}
 use Rattle.xt_map.specs.Regions.{region_of, uart_transmit, uart_status}
 use Rattle.xt_map.specs.Memory.{low_bytes, with_byte_in, with_byte, with_bytes}
-use Rattle.xt_map.specs.Serving.{number_at, with_sent, changed, memory_past}
+use Rattle.xt_map.specs.Serving.{number_at, with_sent, contents_after, memory_past}
 
 sent_of_byte_in : (r : Option Region) (m : MemoryContents) (a b : ℕ) → (with_byte_in r m a b).sent ≡ m.sent
 sent_of_byte_in (Some RtcFastData) m a b = refl
@@ -37,7 +37,7 @@ sends_one m Load = omega arith
 sends_one m (Store v) = omega (arith, length-append m.sent (v % 256 ∷ []))
 sends_one m (Cas expected new) = omega arith
 
-changes_send_none : (m : MemoryContents) (a size : ℕ) (k : Kind) → length (changed m a size k).sent ≤ length m.sent + 1
+changes_send_none : (m : MemoryContents) (a size : ℕ) (k : Kind) → length (contents_after m a size k).sent ≤ length m.sent + 1
 changes_send_none m a size Load = omega arith
 changes_send_none m a size (Store v) = bytes_send_none m a (low_bytes size v)
 changes_send_none m a size (Cas expected new) =
@@ -46,5 +46,5 @@ changes_send_none m a size (Cas expected new) =
 pub access_sends : (m : MemoryContents) (a : Access) → length (memory_past m a).sent ≤ length m.sent + 1
 unfolding memory_past
 access_sends m a =
-    either_more (a.addr == uart_transmit) (length m.sent) (with_sent m a.kind) (if a.addr == uart_status then m else changed m a.addr a.size a.kind) (sends_one m a.kind)
-    (either_more (a.addr == uart_status) (length m.sent) m (changed m a.addr a.size a.kind) (omega arith) (changes_send_none m a.addr a.size a.kind))
+    either_more (a.addr == uart_transmit) (length m.sent) (with_sent m a.kind) (if a.addr == uart_status then m else contents_after m a.addr a.size a.kind) (sends_one m a.kind)
+    (either_more (a.addr == uart_status) (length m.sent) m (contents_after m a.addr a.size a.kind) (omega arith) (changes_send_none m a.addr a.size a.kind))

@@ -10,7 +10,7 @@ use Rattle.xt_map.specs.declared.access.Kind.TheVariants.{Load, Store, Cas}
 use Rattle.xt_map.specs.declared.contents.MemoryContents.{MemoryContents}
 use Rattle.xt_map.specs.Regions.{region_of, is_memory, is_mapped, is_size, is_uart, uart_transmit, uart_status}
 use Rattle.xt_map.specs.Memory.{HasSizes, byte_in, byte_at, with_byte, with_bytes, low_bytes}
-use Rattle.xt_map.specs.Serving.{number_at, replied, reply_to, changed, memory_past, with_sent}
+use Rattle.xt_map.specs.Serving.{number_at, access_reply, reply_to, contents_after, memory_past, with_sent}
 use Rattle.xt_map.specs.Touching.{IsMemory}
 use Rattle.xt_map.proofs.Stored.{byte_put, byte_elsewhere, byte_keeps_sizes}
 use Rattle.xt_map.proofs.Alike.{outside_memory, three_sizes}
@@ -32,7 +32,7 @@ pub if_memory : (b : Bool) (m n : MemoryContents) → IsMemory m → IsMemory n 
 if_memory true m n i j = i
 if_memory false m n i j = j
 
-changed_memory : (m : MemoryContents) (x size : ℕ) (k : Kind) → IsMemory m → IsMemory (changed m x size k)
+changed_memory : (m : MemoryContents) (x size : ℕ) (k : Kind) → IsMemory m → IsMemory (contents_after m x size k)
 changed_memory m x size Load i = i
 changed_memory m x size (Store v) i = low_memory size v m x i
 changed_memory m x size (Cas expected new) i = if_memory (eqb (number_at m x size) expected) (with_bytes m x (low_bytes size new)) m (low_memory size new m x i) i
@@ -56,9 +56,9 @@ sent_sizes m (Cas expected new) s = s
 
 pub past_memory : (m : MemoryContents) (access : Access) → IsMemory m → IsMemory (memory_past m access)
 unfolding memory_past
-past_memory m access i = if_memory (eqb access.addr uart_transmit) (with_sent m access.kind) (cond (eqb access.addr uart_status) m (changed m access.addr access.size access.kind))
+past_memory m access i = if_memory (eqb access.addr uart_transmit) (with_sent m access.kind) (cond (eqb access.addr uart_status) m (contents_after m access.addr access.size access.kind))
     (record { sizes = sent_sizes m access.kind i.sizes; small = λ a. let e = sent_byte m access.kind a in let s = i.small a in omega arith })
-    (if_memory (eqb access.addr uart_status) m (changed m access.addr access.size access.kind) i (changed_memory m access.addr access.size access.kind i))
+    (if_memory (eqb access.addr uart_status) m (contents_after m access.addr access.size access.kind) i (changed_memory m access.addr access.size access.kind i))
 
 -- ---- replies are words
 number_small : (m : MemoryContents) (x size : ℕ) → IsMemory m → is_size size ≡ true → number_at m x size < 2 ^ 32
@@ -70,7 +70,7 @@ number_small m x size i h = ⊎_elim
     r)
     (three_sizes size h)
 
-replied_small : (k : Kind) (n : ℕ) → n < 2 ^ 32 → replied k n < 2 ^ 32
+replied_small : (k : Kind) (n : ℕ) → n < 2 ^ 32 → access_reply k n < 2 ^ 32
 replied_small Load n h = h
 replied_small (Store v) n h = omega arith
 replied_small (Cas expected new) n h = h
@@ -81,4 +81,4 @@ if_small false n h = h
 
 pub to_small : (m : MemoryContents) (access : Access) → IsMemory m → is_mapped access ≡ true → reply_to m access < 2 ^ 32
 unfolding reply_to
-to_small m access i h = if_small (is_uart access.addr) (replied access.kind (number_at m access.addr access.size)) (replied_small access.kind (number_at m access.addr access.size) (number_small m access.addr access.size i (and_parts (is_size access.size) _ h).0))
+to_small m access i h = if_small (is_uart access.addr) (access_reply access.kind (number_at m access.addr access.size)) (replied_small access.kind (number_at m access.addr access.size) (number_small m access.addr access.size i (and_parts (is_size access.size) _ h).0))

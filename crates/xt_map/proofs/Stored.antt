@@ -11,7 +11,7 @@ use Rattle.xt_map.specs.declared.segment.Segment.{Segment}
 use Rattle.xt_map.specs.declared.contents.MemoryContents.{MemoryContents}
 use Rattle.xt_map.specs.Regions.{region_of, is_memory, uart_transmit, uart_status}
 use Rattle.xt_map.specs.Memory.{HasSizes, zeros, cleared_memory, is_loaded, low_bytes, byte_in, byte_at, with_byte_in, with_byte, with_bytes, with_segments, with_words, opening_memory, rtc_fast_data_first, dram_first, rtc_slow_first, rtc_fast_data_size, dram_size, rtc_slow_size}
-use Rattle.xt_map.specs.Serving.{number_at, with_sent, changed, memory_past}
+use Rattle.xt_map.specs.Serving.{number_at, with_sent, contents_after, memory_past}
 use Rattle.xt_map.proofs.Ranged.{dram_range, rtc_fast_data_range, rtc_slow_range}
 
 -- ---- the byte that is put
@@ -107,7 +107,7 @@ either_byte : (t : Bool) (x y m : MemoryContents) (c : ℕ) → byte_at x c ≡ 
 either_byte true x y m c p q = p
 either_byte false x y m c p q = q
 
-changed_elsewhere : (m : MemoryContents) (a size : ℕ) (k : Kind) (c : ℕ) → (c < a) ⊎ (a + size ≤ c) → byte_at (changed m a size k) c ≡ byte_at m c
+changed_elsewhere : (m : MemoryContents) (a size : ℕ) (k : Kind) (c : ℕ) → (c < a) ⊎ (a + size ≤ c) → byte_at (contents_after m a size k) c ≡ byte_at m c
 changed_elsewhere m a size Load c h = refl
 changed_elsewhere m a size (Store v) c h = low_bytes_elsewhere m a size v c h
 changed_elsewhere m a size (Cas expected new) c h =
@@ -116,9 +116,9 @@ changed_elsewhere m a size (Cas expected new) c h =
 pub access_elsewhere : (m : MemoryContents) (a : Access) (c : ℕ) → (c < a.addr) ⊎ (a.addr + a.size ≤ c) → byte_at (memory_past m a) c ≡ byte_at m c
 unfolding memory_past
 access_elsewhere m a c h =
-    either_byte (a.addr == uart_transmit) (with_sent m a.kind) (if a.addr == uart_status then m else changed m a.addr a.size a.kind) m c
+    either_byte (a.addr == uart_transmit) (with_sent m a.kind) (if a.addr == uart_status then m else contents_after m a.addr a.size a.kind) m c
     (sent_elsewhere m a.kind c)
-    (either_byte (a.addr == uart_status) m (changed m a.addr a.size a.kind) m c refl (changed_elsewhere m a.addr a.size a.kind c h))
+    (either_byte (a.addr == uart_status) m (contents_after m a.addr a.size a.kind) m c refl (changed_elsewhere m a.addr a.size a.kind c h))
 
 -- ---- sizes
 
@@ -145,7 +145,7 @@ sent_keeps_sizes m Load s = s
 sent_keeps_sizes m (Store v) s = record { rtc_fast_data = s.rtc_fast_data; dram = s.dram; rtc_slow = s.rtc_slow }
 sent_keeps_sizes m (Cas expected new) s = s
 
-changed_keeps_sizes : (m : MemoryContents) (a size : ℕ) (k : Kind) → HasSizes m → HasSizes (changed m a size k)
+changed_keeps_sizes : (m : MemoryContents) (a size : ℕ) (k : Kind) → HasSizes m → HasSizes (contents_after m a size k)
 changed_keeps_sizes m a size Load s = s
 changed_keeps_sizes m a size (Store v) s = bytes_keep_sizes m a (low_bytes size v) s
 changed_keeps_sizes m a size (Cas expected new) s =
@@ -154,9 +154,9 @@ changed_keeps_sizes m a size (Cas expected new) s =
 pub access_keeps_sizes : (m : MemoryContents) (a : Access) → HasSizes m → HasSizes (memory_past m a)
 unfolding memory_past
 access_keeps_sizes m a s =
-    either_sizes (a.addr == uart_transmit) (with_sent m a.kind) (if a.addr == uart_status then m else changed m a.addr a.size a.kind)
+    either_sizes (a.addr == uart_transmit) (with_sent m a.kind) (if a.addr == uart_status then m else contents_after m a.addr a.size a.kind)
     (sent_keeps_sizes m a.kind s)
-    (either_sizes (a.addr == uart_status) m (changed m a.addr a.size a.kind) s (changed_keeps_sizes m a.addr a.size a.kind s))
+    (either_sizes (a.addr == uart_status) m (contents_after m a.addr a.size a.kind) s (changed_keeps_sizes m a.addr a.size a.kind s))
 
 pub length-zeros : (n : ℕ) → length (zeros n) ≡ n
 unfolding zeros

@@ -4,5 +4,5 @@ pub mod Placing
 pub mod Index
 pub mod Serving
 pub mod History
-pub mod Laws
+pub mod MemoryLaws
 pub mod Touching

@@ -23,15 +23,15 @@ number_at m a size = little_endian (bytes_at m a size)
 
 -- ---- the reply
 
-abbrev pub replied : Kind → ℕ → ℕ
-replied Load n = n
-replied (Store v) n = 0
-replied (Cas expected new) n = n
+abbrev pub access_reply : Kind → ℕ → ℕ
+access_reply Load n = n
+access_reply (Store v) n = 0
+access_reply (Cas expected new) n = n
 
 -- a load and a compare-and-swap answer the number that they read, a store
 -- answers 0, and UART0 answers 0
 unfoldable pub reply_to : MemoryContents → Access → ℕ
-reply_to m a = if is_uart a.addr then 0 else replied a.kind (number_at m a.addr a.size)
+reply_to m a = if is_uart a.addr then 0 else access_reply a.kind (number_at m a.addr a.size)
 
 -- ---- the memory afterwards
 
@@ -41,13 +41,13 @@ with_sent m Load = m
 with_sent m (Store v) = record m { sent = m.sent ++ v % 256 ∷ [] }
 with_sent m (Cas expected new) = m
 
-abbrev pub changed : MemoryContents → ℕ → ℕ → Kind → MemoryContents
-changed m a size Load = m
-changed m a size (Store v) = with_bytes m a (low_bytes size v)
-changed m a size (Cas expected new) =
+abbrev pub contents_after : MemoryContents → ℕ → ℕ → Kind → MemoryContents
+contents_after m a size Load = m
+contents_after m a size (Store v) = with_bytes m a (low_bytes size v)
+contents_after m a size (Cas expected new) =
     if number_at m a size == expected then with_bytes m a (low_bytes size new) else m
 
 unfoldable pub memory_past : MemoryContents → Access → MemoryContents
 memory_past m a =
     if a.addr == uart_transmit then with_sent m a.kind
-    else (if a.addr == uart_status then m else changed m a.addr a.size a.kind)
+    else (if a.addr == uart_status then m else contents_after m a.addr a.size a.kind)

@@ -1,10 +1,10 @@
 //! Laws of memory, of histories and of the regions. Each is the contract of a function that does
 //! nothing.
-ghost use Rattle.xt_map.specs.Laws.{LongerHistoryIsOnePastMore, LegalGrows, LegalTestIsLaw, OfCoresGrows, LongerHistoryIsOneCallMore};
-ghost use Rattle.xt_map.specs.Laws.{PutByteIsThere, PutByteKeepsOthers, PutByteKeepsSizes, AccessKeepsOtherBytes, AccessKeepsSizes, AccessSendsAtMostOneByte, OpeningHasSizes};
-ghost use Rattle.xt_map.specs.Laws.{OverlapIsSharedByte};
-ghost use Rattle.xt_map.specs.Laws.{IramIsRange, DramIsRange, RtcFastDataIsRange, RtcSlowIsRange};
-ghost use Rattle.xt_map.specs.Laws.{RangeIsDram, RangeIsRtcFastData, RangeIsRtcSlow};
+ghost use Rattle.xt_map.specs.MemoryLaws.{LongerHistoryIsOnePastMore, LegalGrows, LegalTestIsLaw, OfCoresGrows, LongerHistoryIsOneCallMore};
+ghost use Rattle.xt_map.specs.MemoryLaws.{PutByteIsThere, PutByteKeepsOthers, PutByteKeepsSizes, AccessKeepsOtherBytes, AccessKeepsSizes, AccessSendsAtMostOneByte, OpeningHasSizes};
+ghost use Rattle.xt_map.specs.MemoryLaws.{OverlapIsSharedByte};
+ghost use Rattle.xt_map.specs.MemoryLaws.{IramIsRange, DramIsRange, RtcFastDataIsRange, RtcSlowIsRange};
+ghost use Rattle.xt_map.specs.MemoryLaws.{RangeIsDram, RangeIsRtcFastData, RangeIsRtcSlow};
 
 /// The memory after a history with one entry more is the memory after the others, past its access.
 pub fn memory_of_longer_history()

@@ -5,12 +5,12 @@ use Rattle.std.proofs.lemmas.List.{get_or_past}
 use Rattle.std.specs.List.{All}
 use Rattle.xt_isa.specs.declared.Insn.{Insn}
 use Rattle.xt_isa.specs.declared.Fields.{Fields}
-use Rattle.xt_isa.specs.Spelling.{fields_at, length_of, spelled, within}
+use Rattle.xt_isa.specs.Spelling.{fields_at, length_of, spelled_insn, within}
 use Rattle.xt_isa.proofs.ThirdByte.{spelled_below}
 use Rattle.xt_codec.specs.declared.Decoded.{Decoded}
 use Rattle.xt_codec.specs.declared.Decoded.TheVariants.{Good, Illegal}
-use Rattle.xt_codec.specs.Answers.{answer}
-use Rattle.xt_mnemonic.specs.Bytes.{HasOneList, IsReadAt, byte}
+use Rattle.xt_codec.specs.DecoderAnswers.{answer}
+use Rattle.xt_mnemonic.specs.InsnBytes.{HasOneList, IsReadAt, byte}
 use Rattle.xt_mnemonic.specs.Encodings.{Encodes, IsPadded}
 use Rattle.xt_mnemonic.proofs.Encoding.{one_encoding}
 
@@ -39,7 +39,7 @@ byte_small bytes k small = elim (cases_lt k (length bytes)) [ inl p ↦ small k 
 
 padded : (i : Insn) (bytes : List ℕ) → All (λ x. x < 256) bytes → IsReadAt i bytes → IsPadded (fields_at (byte bytes 0) (byte bytes 1) (byte bytes 2))
 padded i bytes small e h =
-    let known = answered i (byte bytes 0) (length bytes) (spelled (fields_at (byte bytes 0) (byte bytes 1) (byte bytes 2))) e in
+    let known = answered i (byte bytes 0) (length bytes) (spelled_insn (fields_at (byte bytes 0) (byte bytes 1) (byte bytes 2))) e in
     let low = spelled_below (fields_at (byte bytes 0) (byte bytes 1) (byte bytes 2)) i (omega arith) known.0 in
     let two = length_two (byte bytes 0) h low in
     let zero_byte : byte bytes 2 ≡ 0 = get_or_past bytes 2 0 (omega (arith, two, known.1)) in
@@ -47,7 +47,7 @@ padded i bytes small e h =
 
 encodes : (i : Insn) (bytes : List ℕ) → All (λ x. x < 256) bytes → IsReadAt i bytes → Encodes (fields_at (byte bytes 0) (byte bytes 1) (byte bytes 2)) i
 encodes i bytes small e =
-    let known = answered i (byte bytes 0) (length bytes) (spelled (fields_at (byte bytes 0) (byte bytes 1) (byte bytes 2))) e in
+    let known = answered i (byte bytes 0) (length bytes) (spelled_insn (fields_at (byte bytes 0) (byte bytes 1) (byte bytes 2))) e in
     let s0 = byte_small bytes 0 small in
     let s1 = byte_small bytes 1 small in
     let s2 = byte_small bytes 2 small in

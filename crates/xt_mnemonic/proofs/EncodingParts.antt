@@ -6,7 +6,7 @@ use Rattle.xt_isa.specs.declared.Insn.{Insn}
 use Rattle.xt_isa.specs.declared.Fields.{Fields}
 use Rattle.xt_isa.specs.Ranges.{AreNibbles}
 use Rattle.xt_isa.specs.Apart.{AllRows}
-use Rattle.xt_isa.specs.Spelling.{Row, b4const, b4constu, below, fits, joined, minus_one_or, narrow_constant, nibble, signed, spell}
+use Rattle.xt_isa.specs.Spelling.{Row, b4const, b4constu, below, fits, joined_rows, minus_one_or, narrow_constant, nibble, signed, spell}
 use Rattle.xt_isa.proofs.ApartRows.{agrees_all}
 use Rattle.xt_isa.proofs.Ranged.{below_negative}
 use Rattle.xt_names.specs.Insns.{insn_size}
@@ -65,7 +65,7 @@ spell_inverts [] a w n p = tt
 spell_inverts (row ∷ rows) a w n p =
     either (fits row w) (row.operands w) (spell rows w) w (λ h. a.0.0 w n p (matches row w h)) (spell_inverts rows a.1 w n p)
 
-pub encoded_joined : (rows more : List Row) → AllRows IsEncoded rows → AllRows IsEncoded more → AllRows IsEncoded (joined rows more)
+pub encoded_joined : (rows more : List Row) → AllRows IsEncoded rows → AllRows IsEncoded more → AllRows IsEncoded (joined_rows rows more)
 encoded_joined [] more a b = b
 encoded_joined (row ∷ rows) more a b = (a.0, encoded_joined rows more a.1 b)
 

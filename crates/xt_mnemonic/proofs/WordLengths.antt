@@ -6,7 +6,7 @@ use Rattle.std.proofs.lemmas.Grind.{numeral_and}
 use Rattle.xt_isa.specs.declared.Insn.{Insn}
 use Rattle.xt_isa.specs.declared.Fields.{Fields}
 use Rattle.xt_isa.specs.Apart.{AllRows, HasItsLength}
-use Rattle.xt_isa.specs.Spelling.{Row, all_rows, fits, length_of, nibble, spell, spelled}
+use Rattle.xt_isa.specs.Spelling.{Row, all_rows, fits, length_of, nibble, spell, spelled_insn}
 use Rattle.xt_isa.proofs.ApartRows.{agrees_all}
 use Rattle.xt_isa.proofs.WholeWord.{rows_have_their_length}
 use Rattle.xt_names.specs.Insns.{insn_size}
@@ -48,5 +48,5 @@ of_rows (row ∷ rows) masks long sized w i small e =
 
 -- every word that spells an instruction has its length
 pub words_have_length : (i : Insn) → HasLength i (insn_size i)
-unfolding spelled
+unfolding spelled_insn
 words_have_length i w n e = of_rows all_rows opcodes rows_have_their_length all_encoded w i n.0 e

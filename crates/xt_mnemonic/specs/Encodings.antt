@@ -7,7 +7,7 @@ use Rattle.std.specs.Prelude.{◌≡◌, ◌<◌, Some}
 use Rattle.xt_isa.specs.declared.Insn.{Insn}
 use Rattle.xt_isa.specs.declared.Fields.{Fields}
 use Rattle.xt_isa.specs.Ranges.{AreNibbles}
-use Rattle.xt_isa.specs.Spelling.{spelled}
+use Rattle.xt_isa.specs.Spelling.{spelled_insn}
 
 -- of a 16-bit word, whose major opcode is 8 or more, the nibbles of the third byte are 0
 abbrev pub IsPadded : Fields → Type 0
@@ -15,7 +15,7 @@ IsPadded w = 7 < w.op0 → (w.op1 ≡ 0) × (w.op2 ≡ 0)
 
 -- the word spells the instruction
 abbrev pub Encodes : Fields → Insn → Type 0
-Encodes w i = (spelled w ≡ Some i) × AreNibbles w × IsPadded w
+Encodes w i = (spelled_insn w ≡ Some i) × AreNibbles w × IsPadded w
 
 -- no two words spell the instruction
 abbrev pub HasOneEncoding : Insn → Type 0

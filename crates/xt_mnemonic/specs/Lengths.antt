@@ -4,8 +4,8 @@ use Rattle.std.specs.Prelude.{◌≡◌, ℕ, Some}
 use Rattle.xt_isa.specs.declared.Insn.{Insn}
 use Rattle.xt_isa.specs.declared.Fields.{Fields}
 use Rattle.xt_isa.specs.Ranges.{AreNibbles}
-use Rattle.xt_isa.specs.Spelling.{length_of, spelled}
+use Rattle.xt_isa.specs.Spelling.{length_of, spelled_insn}
 
 -- every word that spells the instruction has so many bytes
 abbrev pub HasLength : Insn → ℕ → Type 0
-HasLength i n = (w : Fields) → AreNibbles w → spelled w ≡ Some i → length_of w.op0 ≡ n
+HasLength i n = (w : Fields) → AreNibbles w → spelled_insn w ≡ Some i → length_of w.op0 ≡ n

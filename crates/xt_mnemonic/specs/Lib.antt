@@ -1,4 +1,4 @@
-pub mod Bytes
+pub mod InsnBytes
 pub mod Encodings
 pub mod Lengths
 pub mod Making

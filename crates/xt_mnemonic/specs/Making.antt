@@ -50,10 +50,10 @@ parts_in (mnemonic.TwoAndTarget name) at args =
     and_then (two_and_number_in (from_next at) args) (λ o. Ok (parts.TwoAndTarget name o))
 
 -- an instruction with each operand in its row's range
-abbrev pub checked : Insn → Result Insn OperandFault
-checked i = if in_range i then Ok i else Err Range
+abbrev pub if_in_range : Insn → Result Insn OperandFault
+if_in_range i = if in_range i then Ok i else Err Range
 
 -- The instruction of a mnemonic and its operands at an address, or the fault of the operands.
 -- Operands of another form, and an operand outside its range, are Range.
 unfoldable pub instruction_of : Mnemonic → List Argument → ℤ → Result Insn OperandFault
-instruction_of m args at = and_then (parts_in m at args) (λ p. checked (insn_of p))
+instruction_of m args at = and_then (parts_in m at args) (λ p. if_in_range (insn_of p))

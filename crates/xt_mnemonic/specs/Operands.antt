@@ -65,8 +65,8 @@ literal_reaches (negsuc n) = nat_le 3 n && nat_lt n 262144
 -- ---- numbers
 
 -- a number or a target, counted from a base; no operand has more than 32 bits
-unfoldable pub counted : ℤ → ℤ → Result ℤ OperandFault
-counted base n = if is_word (n -ℤ base) then Ok (n -ℤ base) else Err Range
+unfoldable pub offset_from : ℤ → ℤ → Result ℤ OperandFault
+offset_from base n = if is_word (n -ℤ base) then Ok (n -ℤ base) else Err Range
 
 -- the offset of a call's target: out of reach is Range, before no multiple of 4
 unfoldable pub call_offset : ℤ → ℤ → Result ℤ OperandFault
@@ -99,32 +99,32 @@ three_in (Register r ∷ Register s ∷ Register t ∷ []) = Ok (r, s, t)
 three_in _ = Err Range
 
 abbrev pub number_in : ℤ → List Argument → Result ℤ OperandFault
-number_in base (Value n ∷ []) = counted base n
+number_in base (Value n ∷ []) = offset_from base n
 number_in base _ = Err Range
 
 abbrev pub two_numbers_in : List Argument → Result (ℤ × ℤ) OperandFault
 two_numbers_in (Value m ∷ Value n ∷ []) =
-    and_then (counted (pos 0) m) (λ m. and_then (counted (pos 0) n) (λ n. Ok (m, n)))
+    and_then (offset_from (pos 0) m) (λ m. and_then (offset_from (pos 0) n) (λ n. Ok (m, n)))
 two_numbers_in _ = Err Range
 
 abbrev pub one_and_number_in : ℤ → List Argument → Result (ℕ × ℤ) OperandFault
-one_and_number_in base (Register s ∷ Value n ∷ []) = and_then (counted base n) (λ n. Ok (s, n))
+one_and_number_in base (Register s ∷ Value n ∷ []) = and_then (offset_from base n) (λ n. Ok (s, n))
 one_and_number_in base _ = Err Range
 
 -- the first number is counted from 0, the second from the base
 abbrev pub one_and_two_numbers_in : ℤ → List Argument → Result (ℕ × ℤ × ℤ) OperandFault
 one_and_two_numbers_in base (Register s ∷ Value m ∷ Value n ∷ []) =
-    and_then (counted (pos 0) m) (λ m. and_then (counted base n) (λ n. Ok (s, m, n)))
+    and_then (offset_from (pos 0) m) (λ m. and_then (offset_from base n) (λ n. Ok (s, m, n)))
 one_and_two_numbers_in base _ = Err Range
 
 abbrev pub two_and_number_in : ℤ → List Argument → Result (ℕ × ℕ × ℤ) OperandFault
 two_and_number_in base (Register s ∷ Register t ∷ Value n ∷ []) =
-    and_then (counted base n) (λ n. Ok (s, t, n))
+    and_then (offset_from base n) (λ n. Ok (s, t, n))
 two_and_number_in base _ = Err Range
 
 abbrev pub two_and_two_numbers_in : List Argument → Result (ℕ × ℕ × ℤ × ℤ) OperandFault
 two_and_two_numbers_in (Register s ∷ Register t ∷ Value m ∷ Value n ∷ []) =
-    and_then (counted (pos 0) m) (λ m. and_then (counted (pos 0) n) (λ n. Ok (s, t, m, n)))
+    and_then (offset_from (pos 0) m) (λ m. and_then (offset_from (pos 0) n) (λ n. Ok (s, t, m, n)))
 two_and_two_numbers_in _ = Err Range
 
 abbrev pub one_and_special_in : List Argument → Result (ℕ × ℕ) OperandFault

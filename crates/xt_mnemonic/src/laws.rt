@@ -2,7 +2,7 @@
 #![tactic(auto)]
 
 ghost use Rattle.xt_isa.specs.declared.Insn.{Insn};
-ghost use Rattle.xt_mnemonic.specs.Bytes.{HasOneList};
+ghost use Rattle.xt_mnemonic.specs.InsnBytes.{HasOneList};
 ghost use Rattle.xt_mnemonic.specs.Encodings.{HasOneEncoding};
 
 /// No two words spell one instruction. Of a 16-bit word the third byte is taken as 0.

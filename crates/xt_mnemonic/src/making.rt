@@ -1,9 +1,9 @@
 ghost use Rattle.std.specs.Prelude.{◌≡◌, pos, ◌^◌, ◌≤ℤ◌, ◌<ℤ◌, true, IfOk};
 ghost use Rattle.xt_isa.specs.Ranges.{in_range};
 ghost use Rattle.xt_names.specs.Forms.{size_of};
-ghost use Rattle.xt_names.specs.Parts.{mnemonic_in};
+ghost use Rattle.xt_names.specs.InsnParts.{mnemonic_in};
 ghost use Rattle.xt_mnemonic.specs.Lengths.{HasLength};
-ghost use Rattle.xt_mnemonic.specs.Making.{checked, instruction_of, parts_in};
+ghost use Rattle.xt_mnemonic.specs.Making.{if_in_range, instruction_of, parts_in};
 ghost use Rattle.xt_mnemonic.specs.Operands.{from_call, from_literal, from_next};
 
 use crate::argument::{Argument, OperandFault};
@@ -44,8 +44,8 @@ fn from_literal(address: i64) -> i64
 }
 
 /// An instruction with each operand in its range.
-fn checked(i: Insn) -> Result<Insn, OperandFault>
-    ensures value { result ≡ checked i }
+fn if_in_range(i: Insn) -> Result<Insn, OperandFault>
+    ensures value { result ≡ if_in_range i }
     ensures fits { IfOk result (λ i. in_range i ≡ true) }
     ensures same { IfOk result (λ j. j ≡ i) }
 {
@@ -115,5 +115,5 @@ pub fn instruction(
     // Every word that spells the instruction has 2 bytes where the mnemonic is one of 16 bits, else 3.
     ensures length { IfOk result (λ i. HasLength i (size_of mnemonic)) }
 {
-    checked(insn_of(parts_in(mnemonic, address, arguments)?))
+    if_in_range(insn_of(parts_in(mnemonic, address, arguments)?))
 }

@@ -4,15 +4,15 @@
 //! A number is counted from a base: 0, or the address that the offset of a target is counted from.
 
 ghost use Rattle.std.specs.Prelude.{◌≡◌, ℤ, pos, negsuc, ◌+ℤ◌, ◌-ℤ◌, ◌≤ℤ◌, ◌<ℤ◌, ◌^◌, Ok, Err};
-ghost use Rattle.xt_mnemonic.specs.Operands.{call_in, call_offset, call_reaches, counted, is_aligned, literal_in, literal_offset, literal_reaches, none_in, number_in, one_and_number_in, one_and_special_in, one_and_two_numbers_in, one_in, three_in, two_and_number_in, two_and_two_numbers_in, two_in, two_numbers_in};
+ghost use Rattle.xt_mnemonic.specs.Operands.{call_in, call_offset, call_reaches, offset_from, is_aligned, literal_in, literal_offset, literal_reaches, none_in, number_in, one_and_number_in, one_and_special_in, one_and_two_numbers_in, one_in, three_in, two_and_number_in, two_and_two_numbers_in, two_in, two_numbers_in};
 
 use crate::argument::Argument::{self, Register, Special, Value};
 use crate::argument::OperandFault::{self, Misaligned, OutOfReach, Range};
 
 /// A number, counted from a base.
-#[tactic(auto, unfolding(crate::specs::Operands::counted))]
-fn counted(base: i64, n: i64) -> Result<i32, OperandFault>
-    ensures { result ≡ counted base n }
+#[tactic(auto, unfolding(crate::specs::Operands::offset_from))]
+fn offset_from(base: i64, n: i64) -> Result<i32, OperandFault>
+    ensures { result ≡ offset_from base n }
 {
     match n.checked_sub(base) {
         Some(d) if -2147483648 <= d && d <= 2147483647 => Ok(d as i32),
@@ -28,11 +28,11 @@ fn is_aligned(n: i64) -> bool
 }
 
 /// The offset of a call's target from a base. A target out of reach is Range, before one that is no multiple of 4.
-#[tactic(auto, unfolding(crate::specs::Operands::call_offset, crate::specs::Operands::counted))]
+#[tactic(auto, unfolding(crate::specs::Operands::call_offset, crate::specs::Operands::offset_from))]
 fn call_offset(base: i64, n: i64) -> Result<i32, OperandFault>
     ensures { result ≡ call_offset base n }
 {
-    match counted(base, n) {
+    match offset_from(base, n) {
         Ok(offset) if -524288 <= offset && offset <= 524284 => {
             if is_aligned(n) {
                 Ok(offset)
@@ -45,14 +45,14 @@ fn call_offset(base: i64, n: i64) -> Result<i32, OperandFault>
 }
 
 /// The offset of an L32R's literal from a base. A literal at no multiple of 4 is Misaligned, before one out of reach.
-#[tactic(auto, unfolding(crate::specs::Operands::literal_offset, crate::specs::Operands::counted))]
+#[tactic(auto, unfolding(crate::specs::Operands::literal_offset, crate::specs::Operands::offset_from))]
 fn literal_offset(base: i64, n: i64) -> Result<i32, OperandFault>
     ensures { result ≡ literal_offset base n }
 {
     if !is_aligned(n) {
         return Err(Misaligned);
     }
-    match counted(base, n) {
+    match offset_from(base, n) {
         Ok(offset) if -262144 <= offset && offset <= -4 => Ok(offset),
         _ => Err(OutOfReach),
     }
@@ -103,7 +103,7 @@ pub(crate) fn number_in(base: i64, arguments: &[Argument]) -> Result<i32, Operan
     ensures { result ≡ number_in base arguments.now }
 {
     match arguments {
-        [Value(n)] => counted(base, *n),
+        [Value(n)] => offset_from(base, *n),
         _ => Err(Range),
     }
 }
@@ -113,7 +113,7 @@ pub(crate) fn two_numbers_in(arguments: &[Argument]) -> Result<(i32, i32), Opera
     ensures { result ≡ two_numbers_in arguments.now }
 {
     match arguments {
-        [Value(m), Value(n)] => Ok((counted(0, *m)?, counted(0, *n)?)),
+        [Value(m), Value(n)] => Ok((offset_from(0, *m)?, offset_from(0, *n)?)),
         _ => Err(Range),
     }
 }
@@ -126,7 +126,7 @@ pub(crate) fn one_and_number_in(
     ensures { result ≡ one_and_number_in base arguments.now }
 {
     match arguments {
-        [Register(s), Value(n)] => Ok((*s, counted(base, *n)?)),
+        [Register(s), Value(n)] => Ok((*s, offset_from(base, *n)?)),
         _ => Err(Range),
     }
 }
@@ -139,7 +139,7 @@ pub(crate) fn one_and_two_numbers_in(
     ensures { result ≡ one_and_two_numbers_in base arguments.now }
 {
     match arguments {
-        [Register(s), Value(m), Value(n)] => Ok((*s, counted(0, *m)?, counted(base, *n)?)),
+        [Register(s), Value(m), Value(n)] => Ok((*s, offset_from(0, *m)?, offset_from(base, *n)?)),
         _ => Err(Range),
     }
 }
@@ -152,7 +152,7 @@ pub(crate) fn two_and_number_in(
     ensures { result ≡ two_and_number_in base arguments.now }
 {
     match arguments {
-        [Register(s), Register(t), Value(n)] => Ok((*s, *t, counted(base, *n)?)),
+        [Register(s), Register(t), Value(n)] => Ok((*s, *t, offset_from(base, *n)?)),
         _ => Err(Range),
     }
 }
@@ -165,7 +165,7 @@ pub(crate) fn two_and_two_numbers_in(
 {
     match arguments {
         [Register(s), Register(t), Value(m), Value(n)] => {
-            Ok((*s, *t, counted(0, *m)?, counted(0, *n)?))
+            Ok((*s, *t, offset_from(0, *m)?, offset_from(0, *n)?))
         }
         _ => Err(Range),
     }

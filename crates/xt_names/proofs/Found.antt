@@ -54,7 +54,7 @@ use Rattle.xt_names.specs.declared.mnemonic.OneNumberAndTarget.TheVariants as on
 use Rattle.xt_names.specs.declared.mnemonic.TwoAndNumber.TheVariants as two_number
 use Rattle.xt_names.specs.declared.mnemonic.TwoAndTarget.TheVariants as two_target
 use Rattle.xt_names.specs.declared.mnemonic.Mnemonic.{Mnemonic}
-use Rattle.xt_names.specs.Laws.{EndsInN, IsFound}
+use Rattle.xt_names.specs.NameLaws.{EndsInN, IsFound}
 use Rattle.xt_names.specs.Names.{call_name, mnemonic_of, mnemonics, name_of, number_name, one_and_number_name, one_and_special_name, one_and_target_name, one_name, one_number_and_target_name, plain_name, three_name, two_and_number_name, two_and_target_name, two_name}
 
 pub found : (m : Mnemonic) → IsFound m × EndsInN m

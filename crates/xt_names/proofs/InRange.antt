@@ -22,8 +22,8 @@ use Rattle.xt_names.specs.declared.parts.Parts.{Parts}
 use Rattle.xt_names.specs.declared.parts.Parts.TheVariants as parts
 use Rattle.xt_names.specs.Forms.{special_access}
 use Rattle.xt_names.specs.Insns.{insn_of}
-use Rattle.xt_names.specs.Laws.{IsItsParts}
-use Rattle.xt_names.specs.Parts.{parts_of}
+use Rattle.xt_names.specs.NameLaws.{IsItsParts}
+use Rattle.xt_names.specs.InsnParts.{parts_of}
 use Rattle.xt_names.specs.Specials.{reaches}
 
 -- a number of 32 bits

@@ -1,7 +1,7 @@
 pub mod Forms
 pub mod Insns
-pub mod Laws
+pub mod NameLaws
 pub mod Names
-pub mod Parts
+pub mod InsnParts
 pub mod Search
 pub mod Specials

@@ -5,7 +5,7 @@ ghost use Rattle.xt_isa.specs.declared.Insn.{Insn};
 ghost use Rattle.xt_isa.specs.Numbers.{exchanged_numbers};
 ghost use Rattle.xt_names.specs.declared.forms.Access.{Access};
 ghost use Rattle.xt_names.specs.declared.mnemonic.Mnemonic.{Mnemonic};
-ghost use Rattle.xt_names.specs.Laws.{EndsInN, IsFound, IsItsParts};
+ghost use Rattle.xt_names.specs.NameLaws.{EndsInN, IsFound, IsItsParts};
 ghost use Rattle.xt_names.specs.Specials.{AreNamed, exchanged_names};
 
 /// Each mnemonic is found by its name, so no two have one name. The names of those of 16 bits, and no others, end in `.n`.

@@ -3,7 +3,7 @@
 ghost use Rattle.std.specs.Prelude.{◌≡◌};
 ghost use Rattle.xt_names.specs.Forms.{size_of};
 ghost use Rattle.xt_names.specs.Insns.{insn_of, insn_size, of_number, of_one, of_one_and_number, of_one_and_special, of_one_and_target, of_one_number_and_target, of_plain, of_three, of_two, of_two_and_number, of_two_and_target};
-ghost use Rattle.xt_names.specs.Parts.{boolean_parts, control_parts, density_parts, memory_parts, mnemonic_in, parts_of, shift_parts, system_parts, three_parts};
+ghost use Rattle.xt_names.specs.InsnParts.{boolean_parts, control_parts, density_parts, memory_parts, mnemonic_in, parts_of, shift_parts, system_parts, three_parts};
 
 use crate::mnemonic::{
     Mnemonic, Number, One, OneAndNumber, OneAndSpecial, OneAndTarget, OneNumberAndTarget, Plain,

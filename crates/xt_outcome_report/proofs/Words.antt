@@ -2,7 +2,7 @@
 use Rattle.std.proofs.Common.{◌≡◌, ℕ, List, [], ◌∷◌, ◌++◌, inl, inr, refl, sym, ap, ◌∙◌, append_assoc, append-nil}
 use Rattle.std.specs.Prelude.{◌⊎◌, flat_map, IfOk, Result, Ok, Err}
 use Rattle.std.specs.List.{concat, zip}
-use Rattle.xt_outcome_report.specs.Texts.{word_line}
+use Rattle.xt_outcome_report.specs.OutcomesText.{word_line}
 
 -- ---- words
 

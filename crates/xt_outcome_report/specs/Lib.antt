@@ -1,2 +1,2 @@
 pub mod Orders
-pub mod Texts
+pub mod OutcomesText

@@ -2,7 +2,7 @@
 ghost use Rattle.std.specs.Prelude.{◌≡◌, ◌++◌, IfOk, OnOk, string_bytes, flat_map};
 ghost use Rattle.std.specs.List.{zip};
 ghost use Rattle.xt_report.specs.Reports.{stop_text, uart_lines};
-ghost use Rattle.xt_outcome_report.specs.Texts.{core_line, order_line, outcome_text, word_line};
+ghost use Rattle.xt_outcome_report.specs.OutcomesText.{core_line, order_line, outcome_text, word_line};
 
 use crate::orders::order_text;
 use std::alloc::{AllocError, Global};

@@ -2,8 +2,8 @@
 ghost use Rattle.std.specs.Prelude.{◌≡◌, ◌+◌, ◌≤◌, ◌^◌, ◌++◌, IfOk, OnOk, string_bytes, flat_map, option_map};
 ghost use Rattle.std.specs.List.{All};
 ghost use Rattle.xt_trace.specs.Validity.{IsValid};
-ghost use Rattle.xt_image.specs.Parts.{IsWellFormed};
-ghost use Rattle.xt_outcome_report.specs.Texts.{IsAnswersText, answers_text, count_line, end_line, frames_line, frames_text, is_all, none_text, outcome_text, race_line, stuck_line, stuck_text};
+ghost use Rattle.xt_image.specs.ImageParts.{IsWellFormed};
+ghost use Rattle.xt_outcome_report.specs.OutcomesText.{IsAnswersText, answers_text, count_line, end_line, frames_line, frames_text, is_all, none_text, outcome_text, race_line, stuck_line, stuck_text};
 
 use crate::orders::order_text;
 use crate::outcomes::push_outcome;

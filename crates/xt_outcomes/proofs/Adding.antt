@@ -9,7 +9,7 @@ use Rattle.xt_trace.specs.Runs.{Opening}
 use Rattle.xt_exec.specs.State.{State}
 use Rattle.xt_outcomes.specs.Added.{IsAdded}
 use Rattle.xt_outcomes.specs.Endings.{has_ended, outcome_at}
-use Rattle.xt_outcomes.specs.Listing.{AreReal, IsBefore, IsReal, IsRising, Lists, compared, place_in}
+use Rattle.xt_outcomes.specs.Listing.{AreReal, IsBefore, IsReal, IsRising, Lists, outcome_ordering, place_in}
 use Rattle.xt_outcomes.specs.Outcomes.{Outcome}
 use Rattle.xt_outcomes.specs.Spots.{Spot}
 use Rattle.xt_outcomes.specs.declared.listing.Found.{Found}
@@ -44,10 +44,10 @@ listed_at (suc k) (z ∷ zs) x h = inr (listed_at k zs x h)
 pub hit_at : (xs : List Found) (k : ℕ) (x : Found) → k < length xs → x ≡ get_or xs k x → slice_get xs k ≡ Some x
 hit_at xs k x less e = slice_get_read xs (length xs) k x refl less e
 
-pub same_at : (xs : List Found) (k : ℕ) (x y : Found) (z : Outcome) → k < length xs → x ≡ get_or xs k x → slice_get xs k ≡ Some y → is_eq (compared x.outcome z) ≡ false → is_eq (compared y.outcome z) ≡ false
+pub same_at : (xs : List Found) (k : ℕ) (x y : Found) (z : Outcome) → k < length xs → x ≡ get_or xs k x → slice_get xs k ≡ Some y → is_eq (outcome_ordering x.outcome z) ≡ false → is_eq (outcome_ordering y.outcome z) ≡ false
 same_at xs k x y z less e at h =
     let same = some_is y x (sym at ∙ hit_at xs k x less e) in
-    ap (λ (w : Found). is_eq (compared w.outcome z)) same ∙ h
+    ap (λ (w : Found). is_eq (outcome_ordering w.outcome z)) same ∙ h
 
 pub none_at : (xs : List Found) (k : ℕ) (x : Found) → false ≡ ltb k (length xs) → slice_get xs k ≡ Some x → ⊥
 none_at xs k x none at =
@@ -57,25 +57,25 @@ none_at xs k x none at =
 
 -- ---- in rising order
 
-before_more : (p : ℕ) (xs : List Found) (x : Found) (y : Outcome) → compared y x.outcome ≡ Less → IsBefore y xs → IsBefore y (with_at p xs x)
+before_more : (p : ℕ) (xs : List Found) (x : Found) (y : Outcome) → outcome_ordering y x.outcome ≡ Less → IsBefore y xs → IsBefore y (with_at p xs x)
 before_more zero [] x y h b = h
 before_more (suc p) [] x y h b = h
 before_more zero (z ∷ zs) x y h b = h
 before_more (suc p) (z ∷ zs) x y h b = b
 
-rising_choice : (z : Found) (zs : List Found) (x : Found) (b : Bool) → is_lt (compared z.outcome x.outcome) ≡ b → IsRising (z ∷ zs)
-    → ((y : Found) → slice_get (z ∷ zs) (if b then suc (place_in zs x.outcome) else 0) ≡ Some y → is_eq (compared y.outcome x.outcome) ≡ false)
-    → (((y : Found) → slice_get zs (place_in zs x.outcome) ≡ Some y → is_eq (compared y.outcome x.outcome) ≡ false) → IsRising (with_at (place_in zs x.outcome) zs x))
+rising_choice : (z : Found) (zs : List Found) (x : Found) (b : Bool) → is_lt (outcome_ordering z.outcome x.outcome) ≡ b → IsRising (z ∷ zs)
+    → ((y : Found) → slice_get (z ∷ zs) (if b then suc (place_in zs x.outcome) else 0) ≡ Some y → is_eq (outcome_ordering y.outcome x.outcome) ≡ false)
+    → (((y : Found) → slice_get zs (place_in zs x.outcome) ≡ Some y → is_eq (outcome_ordering y.outcome x.outcome) ≡ false) → IsRising (with_at (place_in zs x.outcome) zs x))
     → IsRising (with_at (if b then suc (place_in zs x.outcome) else 0) (z ∷ zs) x)
 rising_choice z zs x true e r miss more =
     (before_more (place_in zs x.outcome) zs x z.outcome (comes_before z.outcome x.outcome e) r.0, more miss)
 rising_choice z zs x false e r miss more = (comes_after z.outcome x.outcome e (miss z refl), r)
 
 rising_more : (xs : List Found) (x : Found) → IsRising xs
-    → ((y : Found) → slice_get xs (place_in xs x.outcome) ≡ Some y → is_eq (compared y.outcome x.outcome) ≡ false)
+    → ((y : Found) → slice_get xs (place_in xs x.outcome) ≡ Some y → is_eq (outcome_ordering y.outcome x.outcome) ≡ false)
     → IsRising (with_at (place_in xs x.outcome) xs x)
 rising_more [] x r miss = (tt, tt)
-rising_more (z ∷ zs) x r miss = rising_choice z zs x (is_lt (compared z.outcome x.outcome)) refl r miss (rising_more zs x r.1)
+rising_more (z ∷ zs) x r miss = rising_choice z zs x (is_lt (outcome_ordering z.outcome x.outcome)) refl r miss (rising_more zs x r.1)
 
 -- ---- one more
 
@@ -87,7 +87,7 @@ module _ (P : Chip State) (timed : Bool) (o : Opening State) (addresses : List �
   real_more (suc p) (z ∷ zs) x is h = (h.0, real_more p zs x is h.1)
 
   pub added : (xs : List Found) (x : Found) (k : ℕ) (p : Spot State) → k ≡ place_in xs x.outcome → x.outcome ≡ outcome_at addresses p → IsReal P timed o addresses x
-      → ((z : Found) → slice_get xs k ≡ Some z → is_eq (compared z.outcome x.outcome) ≡ false) → IsAdded P timed o addresses p xs (with_at k xs x)
+      → ((z : Found) → slice_get xs k ≡ Some z → is_eq (outcome_ordering z.outcome x.outcome) ≡ false) → IsAdded P timed o addresses p xs (with_at k xs x)
   added xs x k p e same is miss = record {
     real = real_more k xs x is;
     rising = λ r. subst (λ (q : ℕ). IsRising (with_at q xs x)) (sym e)

@@ -3,12 +3,12 @@ use Rattle.std.proofs.Common.{◌≡◌, ℕ, zero, suc, ◌+◌, ◌≤◌, Boo
 use Rattle.std.proofs.lemmas.Bool.{true≢false}
 use Rattle.xt_trace.specs.Calls.{is_stop}
 use Rattle.xt_trace.specs.Chip.{Chip}
-use Rattle.xt_trace.specs.Runs.{opened}
+use Rattle.xt_trace.specs.Runs.{world_at_start}
 use Rattle.xt_trace.specs.Traces.{has_stopped}
 use Rattle.xt_trace.specs.Worlds.{Core, Line, World, advance, answer, core_given, core_past, give, line_given, line_past}
 use Rattle.xt_trace.proofs.Short.{stopped_push}
 use Rattle.xt_exec.specs.State.{State}
-use Rattle.xt_timeless.specs.Laws.{HasTurns, HaveTurns}
+use Rattle.xt_timeless.specs.TimeLaws.{HasTurns, HaveTurns}
 use Rattle.xt_timeless.proofs.Going.{left_going, left_stopped, one_less}
 use Rattle.xt_outcomes.specs.Beyond.{AreSameButForTurns, IsSameButForTurns, TurnsBeyondPlayNoPart}
 use Rattle.xt_outcomes.specs.Orders.{with_turns}
@@ -86,7 +86,7 @@ module _ (P : Chip State) where
 
 pub turns_beyond : TurnsBeyondPlayNoPart
 turns_beyond P o order extra =
-    advances P extra order (opened (with_turns o (length order + extra))) (opened (with_turns o (length order)))
+    advances P extra order (world_at_start (with_turns o (length order + extra))) (world_at_start (with_turns o (length order)))
     (record { line = refl; core0 = record { state = refl; records = refl }; core1 = record { state = refl; records = refl } })
     ((λ h. absurd (true≢false (sym h)), λ h. omega arith), (λ h. absurd (true≢false (sym h)), λ h. omega arith))
     ((λ h. absurd (true≢false (sym h)), λ h. omega arith), (λ h. absurd (true≢false (sym h)), λ h. omega arith))

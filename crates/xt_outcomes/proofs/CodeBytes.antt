@@ -12,7 +12,7 @@ use Rattle.xt_trace.specs.declared.options.Options.{Options}
 use Rattle.xt_core.specs.Runs.{memory_of, stack_words}
 use Rattle.xt_fetch.specs.Code.{AreBytes}
 use Rattle.xt_image.specs.declared.image.Image.{Image}
-use Rattle.xt_image.specs.Parts.{FitsImage, FitsSegment}
+use Rattle.xt_image.specs.ImageParts.{FitsImage, FitsSegment}
 
 bytes_small : (bytes : List ℕ) → AllByRecursion (λ b. b < 256) bytes → (k : ℕ) → slice_index bytes k < 256
 bytes_small [] all k = omega arith

@@ -14,7 +14,7 @@ use Rattle.xt_commute.specs.Apart.{AreApart}
 use Rattle.xt_commute.proofs.Commuting.{accesses_commute, replies_stay}
 use Rattle.xt_trace.specs.Worlds.{answer, memory_left}
 use Rattle.xt_exec.specs.Chips.{processor}
-use Rattle.xt_exec.specs.Laws.{IsServed}
+use Rattle.xt_exec.specs.TurnLaws.{IsServed}
 use Rattle.xt_exec.specs.State.{State}
 use Rattle.xt_exec.specs.Turn.{demand}
 use Rattle.xt_exec.proofs.Served.{demand_served}

@@ -7,7 +7,7 @@ use Rattle.std.specs.Ordering.{MatchOrdering, is_eq, is_lt, nat_cmp, ordering_re
 use Rattle.std.specs.Cmp.Lexicographic.{slice_cmp}
 use Rattle.xt_trace.specs.declared.trace.Stop.{Stop}
 use Rattle.xt_trace.specs.declared.trace.Stop.TheVariants as stop
-use Rattle.xt_outcomes.specs.Listing.{compared, rank, rest_of}
+use Rattle.xt_outcomes.specs.Listing.{outcome_ordering, rank, rest_of}
 use Rattle.xt_outcomes.specs.Outcomes.{Outcome}
 
 -- ---- the other way round
@@ -17,7 +17,7 @@ then_reversed Less b = refl
 then_reversed Equal b = refl
 then_reversed Greater b = refl
 
-reversed : (x y : Outcome) → compared y x ≡ ordering_reverse (compared x y)
+reversed : (x y : Outcome) → outcome_ordering y x ≡ ordering_reverse (outcome_ordering x y)
 reversed x y =
     let a = nat_list_cmp_total.antisymm y.sent x.sent in
     let b = nat_list_cmp_total.antisymm (rest_of y) (rest_of x) in
@@ -33,11 +33,11 @@ greater_is Less h g = absurd (true≢false h)
 greater_is Equal h g = absurd (true≢false g)
 greater_is Greater h g = refl
 
-pub comes_before : (x y : Outcome) → is_lt (compared x y) ≡ true → compared x y ≡ Less
-comes_before x y h = less_is (compared x y) h
+pub comes_before : (x y : Outcome) → is_lt (outcome_ordering x y) ≡ true → outcome_ordering x y ≡ Less
+comes_before x y h = less_is (outcome_ordering x y) h
 
-pub comes_after : (x y : Outcome) → is_lt (compared x y) ≡ false → is_eq (compared x y) ≡ false → compared y x ≡ Less
-comes_after x y h g = reversed x y ∙ ap ordering_reverse (greater_is (compared x y) h g)
+pub comes_after : (x y : Outcome) → is_lt (outcome_ordering x y) ≡ false → is_eq (outcome_ordering x y) ≡ false → outcome_ordering y x ≡ Less
+comes_after x y h g = reversed x y ∙ ap ordering_reverse (greater_is (outcome_ordering x y) h g)
 
 -- ---- equal outcomes
 
@@ -78,9 +78,9 @@ abbrev head_of : List ℕ → ℕ
 head_of [] = 0
 head_of (x ∷ xs) = x
 
-pub same_outcome : (x y : Outcome) → is_eq (compared x y) ≡ true → x ≡ y
+pub same_outcome : (x y : Outcome) → is_eq (outcome_ordering x y) ≡ true → x ≡ y
 same_outcome x y h =
-    let p = then_equal (slice_cmp nat_cmp x.sent y.sent) (slice_cmp nat_cmp (rest_of x) (rest_of y)) (equal_is (compared x y) h) in
+    let p = then_equal (slice_cmp nat_cmp x.sent y.sent) (slice_cmp nat_cmp (rest_of x) (rest_of y)) (equal_is (outcome_ordering x y) h) in
     let sent = same_list x.sent y.sent p.0 in
     let rest = same_list (rest_of x) (rest_of y) p.1 in
     let stop0 = same_stop x.stop0 y.stop0 (ap head_of rest) in

@@ -11,13 +11,13 @@ use Rattle.xt_search.proofs.Numbers.{at_within}
 use Rattle.xt_search.proofs.Meeting.{after_append}
 use Rattle.xt_trace.specs.declared.options.Options.{Options}
 use Rattle.xt_trace.specs.Chip.{Chip}
-use Rattle.xt_trace.specs.Runs.{Opening, opened}
+use Rattle.xt_trace.specs.Runs.{Opening, world_at_start}
 use Rattle.xt_trace.specs.Worlds.{World, advance, give}
 use Rattle.xt_exec.specs.Chips.{processor}
 use Rattle.xt_exec.specs.State.{State}
 use Rattle.xt_core.specs.Runs.{code_of, memory_of, opening_of}
 use Rattle.xt_outcomes.specs.Endings.{has_ended}
-use Rattle.xt_outcomes.specs.Kept.{Leads, spot_of}
+use Rattle.xt_outcomes.specs.KeptWorlds.{Leads, spot_of}
 use Rattle.xt_outcomes.specs.Orders.{given_turns, with_turns, world_after}
 use Rattle.xt_outcomes.specs.Outcomes.{CanAllEnd, IsStuck, have_ended}
 use Rattle.xt_outcomes.specs.Searched.{IsComplete, IsFoundBy, IsSearch, kept_after}
@@ -65,7 +65,7 @@ same_given false o order more = ap (with_turns o) (long_more order more)
 
 same_world : (P : Chip State) (timed : Bool) (o : Opening State) (order more : List ℕ) → world_after P timed o (order ++ as_order more) ≡ world_after P timed o (order ++ more)
 same_world P timed o order more =
-    same_advance P order more (opened (given_turns timed o (order ++ as_order more))) ∙ ap (λ (q : Opening State). advance P (order ++ more) (opened q)) (same_given timed o order more)
+    same_advance P order more (world_at_start (given_turns timed o (order ++ as_order more))) ∙ ap (λ (q : Opening State). advance P (order ++ more) (world_at_start q)) (same_given timed o order more)
 
 -- ---- one order after another
 

@@ -16,7 +16,7 @@ use Rattle.xt_search.proofs.Numbers.{at_within}
 use Rattle.xt_exec.specs.Chips.{processor}
 use Rattle.xt_exec.specs.State.{State}
 use Rattle.xt_outcomes.specs.Endings.{has_ended}
-use Rattle.xt_outcomes.specs.Kept.{Leads, spot_of}
+use Rattle.xt_outcomes.specs.KeptWorlds.{Leads, spot_of}
 use Rattle.xt_outcomes.specs.Places.{is_allowed, is_local, is_own_access, is_told, spot_run, turns_of}
 use Rattle.xt_outcomes.specs.SpotRaces.{next_of}
 use Rattle.xt_outcomes.specs.Spots.{Side, Spot, TurnsAreFree, side_bars, side_of, spot_past}

@@ -12,14 +12,14 @@ use Rattle.xt_search.specs.Graphs.{IsAt, IsGraph, IsWhole, LeadsTo}
 use Rattle.xt_search.specs.Meetings.{IsCovered, after}
 use Rattle.xt_search.specs.Worlds.{IsOrder, Reaches}
 use Rattle.xt_trace.specs.declared.options.Options.{Options}
-use Rattle.xt_trace.specs.Runs.{opened}
+use Rattle.xt_trace.specs.Runs.{world_at_start}
 use Rattle.xt_trace.specs.Traces.{has_stopped}
 use Rattle.xt_trace.specs.Worlds.{World}
 use Rattle.xt_exec.specs.Chips.{processor}
 use Rattle.xt_exec.specs.State.{State}
 use Rattle.xt_core.specs.Runs.{code_of, memory_of, opening_of}
 use Rattle.xt_outcomes.specs.Endings.{has_ended, outcome_at}
-use Rattle.xt_outcomes.specs.Kept.{Leads, spot_of}
+use Rattle.xt_outcomes.specs.KeptWorlds.{Leads, spot_of}
 use Rattle.xt_outcomes.specs.Outcomes.{have_ended, outcome_in}
 use Rattle.xt_outcomes.specs.Places.{is_allowed, is_local, is_told, may_access, may_come, or_met, place_of, slot_of, spot_run}
 use Rattle.xt_outcomes.specs.Searched.{AreAllowed, IsComplete, IsFoundBy, IsKeptAfter, IsMet, IsSearch, MeetsAllOrders, kept_after}
@@ -89,7 +89,7 @@ module _ (image : Image) (o : Options) (s : Search) (h : IsSearch image o s) whe
 
   -- what is kept of the opening, and of the world after an order, by its turns
   abbrev pub first_spot : Spot State
-  first_spot = spot_in s.machine.timed (opened (opening_of image o))
+  first_spot = spot_in s.machine.timed (world_at_start (opening_of image o))
 
   abbrev pub spot_by : List ℕ → Spot State
   spot_by order = after (spot_past (processor (code_of image)) s.machine.timed) order first_spot

@@ -13,8 +13,8 @@ use Rattle.xt_trace.specs.Worlds.{Core, Line, World, answer}
 use Rattle.xt_trace.specs.declared.options.Options.{Options}
 use Rattle.xt_image.specs.declared.image.Image.{Image}
 use Rattle.xt_fetch.specs.Code.{AreBytes}
-use Rattle.xt_fetch.specs.Fetching.{fetched}
-use Rattle.xt_exec.specs.Laws.{IsServed}
+use Rattle.xt_fetch.specs.Fetching.{fetch_at}
+use Rattle.xt_exec.specs.TurnLaws.{IsServed}
 use Rattle.xt_exec.specs.State.{State}
 use Rattle.xt_exec.specs.Turn.{demand, turn}
 use Rattle.xt_core.specs.Runs.{code_of, memory_of}
@@ -24,11 +24,11 @@ use Rattle.xt_timeless.specs.Time.{uses_time, without_time}
 use Rattle.xt_timeless.proofs.Going.{same_demand}
 use Rattle.xt_timeless.proofs.Turning.{turns_alike}
 use Rattle.xt_race.specs.declared.event.Event.{Event}
-use Rattle.xt_race.specs.declared.event.Order.{Order}
+use Rattle.xt_race.specs.declared.event.Synchronization.{Synchronization}
 use Rattle.xt_race.specs.Clashes.{clash}
 use Rattle.xt_race.specs.Races.{has_stored, order_of, writes}
 use Rattle.xt_race.proofs.Concluding.{clash_from, clash_is}
-use Rattle.xt_outcomes.specs.Kept.{spot_of}
+use Rattle.xt_outcomes.specs.KeptWorlds.{spot_of}
 use Rattle.xt_outcomes.specs.NextRaces.{IsNextRace, next_access, next_event}
 use Rattle.xt_outcomes.specs.Places.{is_allowed, is_local, is_own_access, may_access}
 use Rattle.xt_outcomes.specs.Searched.{IsKeptAfter, IsMet, IsSearch, kept_after}
@@ -44,11 +44,11 @@ pc_of_turn : (code : ℕ → ℕ) (s : State) (reply : ℕ) → (turn code s rep
 unfolding turn
 pc_of_turn code s reply = refl
 
-order_of_event : (code : ℕ → ℕ) (core : ℕ) (k : Core State) (b : Line) (a : Access) → (next_event code core k b a).order ≡ order_of (fetched code k.state.control.pc)
-order_of_event code core k b a = ap (λ (pc : ℕ). order_of (fetched code pc)) (pc_of_turn code k.state (answer (demand code k.state) b.memory))
+order_of_event : (code : ℕ → ℕ) (core : ℕ) (k : Core State) (b : Line) (a : Access) → (next_event code core k b a).order ≡ order_of (fetch_at code k.state.control.pc)
+order_of_event code core k b a = ap (λ (pc : ℕ). order_of (fetch_at code pc)) (pc_of_turn code k.state (answer (demand code k.state) b.memory))
 
 -- the turn and the record of an event play no part in a conflict
-abbrev with_order : Event → Order → Event
+abbrev with_order : Event → Synchronization → Event
 with_order x order = record { entry = x.entry; turn = x.turn; step = x.step; order = order }
 
 same_clash : (code : ℕ → ℕ) (timed : Bool) (w : World State) (a b : Access)

@@ -7,7 +7,7 @@ use Rattle.xt_trace.specs.Worlds.{answer, left_past, memory_left}
 use Rattle.xt_exec.specs.Chips.{processor}
 use Rattle.xt_exec.specs.State.{State}
 use Rattle.xt_exec.specs.Turn.{demand, turn}
-use Rattle.xt_core.specs.Cores.{CoreState, restarted, turned}
+use Rattle.xt_core.specs.Cores.{CoreState, core_restarted_at, core_after_turn}
 use Rattle.xt_outcomes.specs.Spots.{Side, memory_given, more_kept, side_given, state_kept}
 
 -- with two turns, none is left exactly after a stop
@@ -29,7 +29,7 @@ module _ (code : ℕ → ℕ) (timed : Bool) where
   pub memory_is : (s : Side State) (m : MemoryContents) (n : ℕ) → s.left ≡ suc n → memory_left (demand code s.state) m ≡ memory_given (processor code) s.left s.state m
   memory_is s m n e = ap (λ (k : ℕ). memory_given (processor code) k s.state m) (sym e)
 
-  pub side_is : (s : Side State) (m : MemoryContents) (k after : CoreState) (n : ℕ) → s.left ≡ suc n → after ≡ turned code (answer (demand code s.state) m) (restarted s.state 2 k)
+  pub side_is : (s : Side State) (m : MemoryContents) (k after : CoreState) (n : ℕ) → s.left ≡ suc n → after ≡ core_after_turn code (answer (demand code s.state) m) (core_restarted_at s.state 2 k)
       → ◌≡◌ {A = Side State} (record { state = state_kept timed after.state; left = (if after.left == 0 then 0 else more_kept timed n); stopped = s.stopped || (after.left == 0) }) (side_given (processor code) timed s.left s m)
   side_is s m k after n e f =
       let t = turn code s.state (answer (demand code s.state) m) in

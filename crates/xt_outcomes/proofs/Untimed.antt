@@ -2,7 +2,7 @@
 use Rattle.std.proofs.Common.{◌≡◌, ℕ, zero, suc, ◌⊎◌, Bool, true, false, cond, eqb, not, ◌&&◌, List, [], ◌∷◌, length, refl, sym, ap, ◌∙◌, inl, inr, subst, arith}
 use Rattle.std.proofs.lemmas.Bool.{true≢false}
 use Rattle.xt_map.specs.declared.contents.MemoryContents.{MemoryContents}
-use Rattle.xt_trace.specs.Runs.{Opening, opened}
+use Rattle.xt_trace.specs.Runs.{Opening, world_at_start}
 use Rattle.xt_trace.specs.Traces.{has_stopped}
 use Rattle.xt_trace.specs.Worlds.{Core, World, advance, give}
 use Rattle.xt_fetch.specs.Code.{AreBytes}
@@ -10,7 +10,7 @@ use Rattle.xt_search.specs.Meetings.{after}
 use Rattle.xt_exec.specs.Chips.{processor}
 use Rattle.xt_exec.specs.State.{State}
 use Rattle.xt_timeless.specs.Bare.{Bare, BareWorld, bare_given, bare_in, bare_memory, bare_past}
-use Rattle.xt_timeless.specs.Laws.{HaveTurns, core_of}
+use Rattle.xt_timeless.specs.TimeLaws.{HaveTurns, core_of}
 use Rattle.xt_timeless.specs.Time.{uses_time, without_time}
 use Rattle.xt_timeless.proofs.Going.{bare_gives}
 use Rattle.xt_timeless.proofs.Turning.{uses_alike}
@@ -85,18 +85,18 @@ module _ (code : ℕ → ℕ) where
 
   -- ---- the opening
 
-  enough_opened : (timed : Bool) (o : Opening State) (order : List ℕ) → Enough timed (length order) (opened (given_turns timed o order))
+  enough_opened : (timed : Bool) (o : Opening State) (order : List ℕ) → Enough timed (length order) (world_at_start (given_turns timed o order))
   enough_opened true o order = tt
   enough_opened false o order = ((λ h. absurd (true≢false (sym h)), λ h. omega arith), (λ h. absurd (true≢false (sym h)), λ h. omega arith))
 
-  opens_same : (timed : Bool) (o : Opening State) (order : List ℕ) → spot_in timed (opened o) ≡ spot_in timed (opened (given_turns timed o order))
+  opens_same : (timed : Bool) (o : Opening State) (order : List ℕ) → spot_in timed (world_at_start o) ≡ spot_in timed (world_at_start (given_turns timed o order))
   opens_same true o order = refl
   opens_same false o order = refl
 
   -- what is kept of the world after an order no turn of which uses time
-  pub gone_after : AreBytes code → (timed : Bool) (o : Opening State) (order : List ℕ) → TurnsAreFree code timed order (spot_in timed (opened o))
-      → after (spot_past (processor code) timed) order (spot_in timed (opened o)) ≡ spot_in timed (world_after (processor code) timed o order)
+  pub gone_after : AreBytes code → (timed : Bool) (o : Opening State) (order : List ℕ) → TurnsAreFree code timed order (spot_in timed (world_at_start o))
+      → after (spot_past (processor code) timed) order (spot_in timed (world_at_start o)) ≡ spot_in timed (world_after (processor code) timed o order)
   gone_after bytes timed o order free =
       let e = opens_same timed o order in
       ap (after (spot_past (processor code) timed) order) e
-      ∙ gone bytes timed order (opened (given_turns timed o order)) (enough_opened timed o order) (subst (λ (p : Spot State). TurnsAreFree code timed order p) e free)
+      ∙ gone bytes timed order (world_at_start (given_turns timed o order)) (enough_opened timed o order) (subst (λ (p : Spot State). TurnsAreFree code timed order p) e free)

@@ -15,11 +15,11 @@ use Rattle.xt_fetch.specs.Code.{AreBytes}
 use Rattle.xt_exec.specs.Chips.{processor}
 use Rattle.xt_exec.specs.State.{State}
 use Rattle.xt_core.specs.Runs.{code_of, memory_of, opening_of}
-use Rattle.xt_timeless.specs.Laws.{core_of}
+use Rattle.xt_timeless.specs.TimeLaws.{core_of}
 use Rattle.xt_timeless.specs.Time.{uses_time, without_time}
 use Rattle.xt_timeless.proofs.Turning.{uses_alike}
 use Rattle.xt_outcomes.specs.Ended.{TimeIsUsed}
-use Rattle.xt_outcomes.specs.Kept.{Leads, bars, spot_of}
+use Rattle.xt_outcomes.specs.KeptWorlds.{Leads, bars, spot_of}
 use Rattle.xt_outcomes.specs.Orders.{world_after}
 use Rattle.xt_outcomes.specs.Outcomes.{core_ended}
 use Rattle.xt_outcomes.specs.Searched.{IsSearch}

@@ -1,10 +1,10 @@
 -- Turns beyond those that an order asks for ('profile').
 use Rattle.std.specs.Prelude.{◌≡◌, ℕ, ◌+◌, false, List, length}
 use Rattle.xt_trace.specs.Chip.{Chip}
-use Rattle.xt_trace.specs.Runs.{Opening, opened}
+use Rattle.xt_trace.specs.Runs.{Opening, world_at_start}
 use Rattle.xt_trace.specs.Worlds.{Core, World, advance}
 use Rattle.xt_exec.specs.State.{State}
-use Rattle.xt_timeless.specs.Laws.{HaveTurns}
+use Rattle.xt_timeless.specs.TimeLaws.{HaveTurns}
 use Rattle.xt_outcomes.specs.Orders.{with_turns, world_after}
 
 -- the same state and the same records
@@ -22,6 +22,6 @@ pub record AreSameButForTurns (v w : World State) : Type 0 where
 abbrev pub TurnsBeyondPlayNoPart : Type 0
 TurnsBeyondPlayNoPart =
     (P : Chip State) (o : Opening State) (order : List ℕ) (extra : ℕ)
-    → AreSameButForTurns (advance P order (opened (with_turns o (length order + extra))))
+    → AreSameButForTurns (advance P order (world_at_start (with_turns o (length order + extra))))
     (world_after P false o order)
-    × HaveTurns extra (advance P order (opened (with_turns o (length order + extra))))
+    × HaveTurns extra (advance P order (world_at_start (with_turns o (length order + extra))))

@@ -4,7 +4,7 @@ use Rattle.xt_trace.specs.Runs.{Opening}
 use Rattle.xt_exec.specs.Chips.{processor}
 use Rattle.xt_exec.specs.State.{State}
 use Rattle.xt_search.specs.Worlds.{IsOrder}
-use Rattle.xt_timeless.specs.Laws.{core_of}
+use Rattle.xt_timeless.specs.TimeLaws.{core_of}
 use Rattle.xt_timeless.specs.Time.{uses_time}
 use Rattle.xt_outcomes.specs.Outcomes.{core_ended}
 use Rattle.xt_outcomes.specs.Orders.{world_after}

@@ -5,7 +5,7 @@ pub mod NextRaces
 pub mod Spots
 pub mod SpotRaces
 pub mod Places
-pub mod Kept
+pub mod KeptWorlds
 pub mod Searched
 pub mod Endings
 pub mod Listing

@@ -29,13 +29,13 @@ abbrev pub rest_of : Outcome → List ℕ
 rest_of x = rank x.stop0 ∷ x.pc0 ∷ rank x.stop1 ∷ x.pc1 ∷ x.words
 
 -- the first number that differs decides, and else the length
-abbrev pub compared : Outcome → Outcome → Ordering
-compared x y =
+abbrev pub outcome_ordering : Outcome → Outcome → Ordering
+outcome_ordering x y =
     ordering_then (slice_cmp nat_cmp x.sent y.sent) (slice_cmp nat_cmp (rest_of x) (rest_of y))
 
 abbrev pub IsBefore : Outcome → List Found → Type 0
 IsBefore x [] = Unit {0}
-IsBefore x (y ∷ ys) = compared x y.outcome ≡ Less
+IsBefore x (y ∷ ys) = outcome_ordering x y.outcome ≡ Less
 
 -- each is before the next one
 abbrev pub IsRising : List Found → Type 0
@@ -45,7 +45,7 @@ IsRising (x ∷ xs) = IsBefore x.outcome xs × IsRising xs
 -- how many are before this outcome, up to the first that is not
 abbrev pub place_in : List Found → Outcome → ℕ
 place_in [] y = 0
-place_in (x ∷ xs) y = if is_lt (compared x.outcome y) then suc (place_in xs y) else 0
+place_in (x ∷ xs) y = if is_lt (outcome_ordering x.outcome y) then suc (place_in xs y) else 0
 
 -- ---- what is listed
 

@@ -8,7 +8,7 @@
 -- order is long, so no turn of the order is left out for want of turns.
 use Rattle.std.specs.Prelude.{ℕ, Bool, true, false, List, length}
 use Rattle.xt_trace.specs.Chip.{Chip}
-use Rattle.xt_trace.specs.Runs.{Opening, opened}
+use Rattle.xt_trace.specs.Runs.{Opening, world_at_start}
 use Rattle.xt_trace.specs.Worlds.{World, advance}
 
 -- each core has this many turns
@@ -21,4 +21,4 @@ given_turns true o order = o
 given_turns false o order = with_turns o (length order)
 
 abbrev pub world_after : {S : Type 0} (P : Chip S) (timed : Bool) → Opening S → List ℕ → World S
-world_after P timed o order = advance P order (opened (given_turns timed o order))
+world_after P timed o order = advance P order (world_at_start (given_turns timed o order))

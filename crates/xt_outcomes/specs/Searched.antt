@@ -6,12 +6,12 @@ use Rattle.xt_image.specs.declared.image.Image.{Image}
 use Rattle.xt_search.specs.Graphs.{IsAt, IsBarredAt, IsGraph, IsWhole, OpensWith}
 use Rattle.xt_search.specs.Worlds.{IsOrder}
 use Rattle.xt_trace.specs.declared.options.Options.{Options}
-use Rattle.xt_trace.specs.Runs.{opened}
+use Rattle.xt_trace.specs.Runs.{world_at_start}
 use Rattle.xt_fetch.specs.Code.{AreBytes}
 use Rattle.xt_exec.specs.Chips.{processor}
 use Rattle.xt_exec.specs.State.{State}
 use Rattle.xt_core.specs.Runs.{code_of, memory_of, opening_of}
-use Rattle.xt_outcomes.specs.Kept.{Leads, bars, spot_of}
+use Rattle.xt_outcomes.specs.KeptWorlds.{Leads, bars, spot_of}
 use Rattle.xt_outcomes.specs.Orders.{world_after}
 use Rattle.xt_outcomes.specs.Places.{is_allowed, is_local, is_told}
 use Rattle.xt_outcomes.specs.Spots.{Spot, spot_in}
@@ -29,7 +29,8 @@ pub record IsSearch (image : Image) (o : Options) (s : Search) : Type 0 where
       IfSome s.graph.barred (IsBarredAt (bars (code_of image) s.machine.timed (memory_of image o))
       s.graph.kept.items)
   pub first : (w : World) × OpensWith s.graph w
-      × (spot_of (memory_of image o) w ≡ spot_in s.machine.timed (opened (opening_of image o)))
+      × (spot_of (memory_of image o) w
+      ≡ spot_in s.machine.timed (world_at_start (opening_of image o)))
 
 -- the places tell of each next turn of a kept world
 abbrev pub AreAllowed : Search → Type 0

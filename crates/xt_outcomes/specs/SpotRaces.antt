@@ -6,7 +6,7 @@ use Rattle.xt_map.specs.declared.contents.MemoryContents.{MemoryContents}
 use Rattle.xt_map.specs.Serving.{reply_to}
 use Rattle.xt_trace.specs.declared.record.StepKind.TheVariants as kind
 use Rattle.xt_trace.specs.Worlds.{entry}
-use Rattle.xt_fetch.specs.Fetching.{fetched}
+use Rattle.xt_fetch.specs.Fetching.{fetch_at}
 use Rattle.xt_exec.specs.State.{State}
 use Rattle.xt_exec.specs.Turn.{demand}
 use Rattle.xt_race.specs.declared.event.Event.{Event}
@@ -33,7 +33,7 @@ event_at code core s m a = record {
     owb = 0;
     interrupt = 0;
   };
-  order = order_of (fetched code s.state.control.pc);
+  order = order_of (fetch_at code s.state.control.pc);
 }
 
 -- `IsNextRace` of the world

@@ -3,14 +3,14 @@ ghost use Rattle.std.specs.Prelude.{◌≡◌, ◌+◌, ◌≤◌, ◌^◌, IfOk
 ghost use Rattle.std.specs.List.{All as Each};
 ghost use Rattle.xt_map.specs.Placing.{IsPlaced};
 ghost use Rattle.xt_trace.specs.Validity.{IsValid};
-ghost use Rattle.xt_image.specs.Parts.{FitsImage};
+ghost use Rattle.xt_image.specs.ImageParts.{FitsImage};
 ghost use Rattle.xt_exec.specs.Chips.{processor};
 ghost use Rattle.xt_core.specs.Runs.{code_of, opening_of};
 ghost use Rattle.xt_search.specs.Worlds.{IsOrder};
 ghost use Rattle.xt_outcomes.specs.Answered.{AreAnswers};
 ghost use Rattle.xt_map.specs.declared.contents.MemoryContents.{MemoryContents};
 ghost use Rattle.xt_outcomes.specs.Ended.{IsEnding};
-ghost use Rattle.xt_outcomes.specs.Kept.{spot_of};
+ghost use Rattle.xt_outcomes.specs.KeptWorlds.{spot_of};
 ghost use Rattle.xt_outcomes.specs.Outcomes.{CanAllEnd, IsStuck};
 ghost use Rattle.xt_outcomes.specs.Spots.{side_of};
 ghost use Rattle.xt_outcomes.specs.declared.answers.Ending.TheVariants.{All};

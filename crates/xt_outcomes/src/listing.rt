@@ -7,8 +7,8 @@ ghost use Rattle.xt_core.specs.Runs.{code_of, memory_of, opening_of};
 ghost use Rattle.xt_trace.specs.Validity.{IsValid};
 ghost use Rattle.xt_search.specs.Graphs.{IsAt};
 ghost use Rattle.xt_outcomes.specs.Added.{IsAdded};
-ghost use Rattle.xt_outcomes.specs.Kept.{spot_of};
-ghost use Rattle.xt_outcomes.specs.Listing.{AreReal, HasAllOutcomes, IsRising, compared, place_in};
+ghost use Rattle.xt_outcomes.specs.KeptWorlds.{spot_of};
+ghost use Rattle.xt_outcomes.specs.Listing.{AreReal, HasAllOutcomes, IsRising, outcome_ordering, place_in};
 ghost use Rattle.xt_outcomes.specs.Searched.{IsComplete, IsSearch};
 ghost use Rattle.xt_outcomes.specs.declared.listing.Found.{Found};
 ghost use Rattle.xt_outcomes.specs.declared.world.World.{World};
@@ -45,8 +45,8 @@ fn place_of(list: &[Found], outcome: &Outcome) -> usize
 
 // Whether the outcome at a place is this one.
 fn is_hit(list: &[Found], place: usize, outcome: &Outcome) -> bool
-    ensures hit { result ≡ true → (x : Found) × (slice_get list.now place ≡ Some x) × (is_eq (compared x.outcome outcome.now) ≡ true) }
-    ensures miss { result ≡ false → (x : Found) → slice_get list.now place ≡ Some x → is_eq (compared x.outcome outcome.now) ≡ false }
+    ensures hit { result ≡ true → (x : Found) × (slice_get list.now place ≡ Some x) × (is_eq (outcome_ordering x.outcome outcome.now) ≡ true) }
+    ensures miss { result ≡ false → (x : Found) → slice_get list.now place ≡ Some x → is_eq (outcome_ordering x.outcome outcome.now) ≡ false }
 {
     match list.get(place) {
         Some(found) => found.outcome.is_same(outcome),

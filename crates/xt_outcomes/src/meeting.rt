@@ -2,7 +2,7 @@
 ghost use Rattle.std.specs.Prelude.{◌≡◌, ◌≤◌, ◌⊎◌, ◌↔◌, true, IfOk, IfNone, length};
 ghost use Rattle.xt_map.specs.Placing.{IsPlaced};
 ghost use Rattle.xt_trace.specs.Validity.{IsValid};
-ghost use Rattle.xt_image.specs.Parts.{FitsImage};
+ghost use Rattle.xt_image.specs.ImageParts.{FitsImage};
 ghost use Rattle.xt_search.specs.Graphs.{IsWhole};
 ghost use Rattle.xt_outcomes.specs.Searched.{AreAllowed, HasEnded, IsComplete, IsSearch, MeetsAllOrders};
 

@@ -1,9 +1,9 @@
 //! How a search opens.
 ghost use Rattle.std.specs.Prelude.{◌≡◌, true};
-ghost use Rattle.xt_trace.specs.Runs.{opened};
+ghost use Rattle.xt_trace.specs.Runs.{world_at_start};
 ghost use Rattle.xt_trace.specs.Validity.{IsValid};
 ghost use Rattle.xt_core.specs.Runs.{memory_of, opening_of};
-ghost use Rattle.xt_outcomes.specs.Kept.{spot_of};
+ghost use Rattle.xt_outcomes.specs.KeptWorlds.{spot_of};
 ghost use Rattle.xt_outcomes.specs.Orders.{with_turns};
 ghost use Rattle.xt_outcomes.specs.Spots.{spot_in};
 
@@ -19,7 +19,7 @@ use xt_trace::Options;
 /// Condition: the options are valid.
 pub fn open(alloc: Global, image: &Image, options: &Options, timed: bool) -> World
     requires { IsValid options.now }
-    ensures { spot_of (memory_of image.now options.now) result ≡ spot_in timed (opened (opening_of image.now options.now)) }
+    ensures { spot_of (memory_of image.now options.now) result ≡ spot_in timed (world_at_start (opening_of image.now options.now)) }
 {
     World {
         side0: Side::open(0, image.entry, options, timed, options.turns0),
@@ -33,7 +33,7 @@ pub fn open(alloc: Global, image: &Image, options: &Options, timed: bool) -> Wor
 /// Condition: the options are valid.
 pub fn open_with(alloc: Global, image: &Image, options: &Options, turns: u32) -> World
     requires { IsValid options.now }
-    ensures { spot_of (memory_of image.now options.now) result ≡ spot_in true (opened (with_turns (opening_of image.now options.now) turns)) }
+    ensures { spot_of (memory_of image.now options.now) result ≡ spot_in true (world_at_start (with_turns (opening_of image.now options.now) turns)) }
 {
     World {
         side0: Side::open(0, image.entry, options, true, turns),

@@ -6,8 +6,8 @@ ghost use Rattle.xt_map.specs.Memory.{HasSizes};
 ghost use Rattle.xt_map.specs.Serving.{number_at};
 ghost use Rattle.xt_changes.specs.Changed.{contents_of};
 ghost use Rattle.xt_outcomes.specs.Endings.{outcome_at};
-ghost use Rattle.xt_outcomes.specs.Kept.{spot_of};
-ghost use Rattle.xt_outcomes.specs.Listing.{compared, rank};
+ghost use Rattle.xt_outcomes.specs.KeptWorlds.{spot_of};
+ghost use Rattle.xt_outcomes.specs.Listing.{outcome_ordering, rank};
 
 use crate::world::World;
 use std::alloc::{AllocError, Global};
@@ -93,8 +93,8 @@ impl Outcome {
     }
 
     // Which of two outcomes comes first.
-    fn compared(&self, other: &Outcome) -> Ordering
-        ensures { result ≡ compared self.now other.now }
+    fn outcome_ordering(&self, other: &Outcome) -> Ordering
+        ensures { result ≡ outcome_ordering self.now other.now }
     {
         let words = self.words.as_slice().cmp(other.words.as_slice());
         let core1 = rank(self.stop1)
@@ -108,16 +108,16 @@ impl Outcome {
 
     /// Whether it comes before another one.
     pub fn is_before(&self, other: &Outcome) -> bool
-        ensures { result ≡ is_lt (compared self.now other.now) }
+        ensures { result ≡ is_lt (outcome_ordering self.now other.now) }
     {
-        self.compared(other).is_lt()
+        self.outcome_ordering(other).is_lt()
     }
 
     /// Whether it is the same as another one.
     pub fn is_same(&self, other: &Outcome) -> bool
-        ensures { result ≡ is_eq (compared self.now other.now) }
+        ensures { result ≡ is_eq (outcome_ordering self.now other.now) }
     {
-        self.compared(other).is_eq()
+        self.outcome_ordering(other).is_eq()
     }
 }
 

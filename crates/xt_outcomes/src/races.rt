@@ -9,7 +9,7 @@ ghost use Rattle.xt_exec.specs.Turn.{demand};
 ghost use Rattle.xt_core.specs.Runs.{code_of, memory_of, opening_of};
 ghost use Rattle.xt_changes.specs.Changed.{contents_of};
 ghost use Rattle.xt_search.specs.Worlds.{IsOrder};
-ghost use Rattle.xt_outcomes.specs.Kept.{spot_of};
+ghost use Rattle.xt_outcomes.specs.KeptWorlds.{spot_of};
 ghost use Rattle.xt_outcomes.specs.Racing.{HasNoRace, IsRaceAfter};
 ghost use Rattle.xt_outcomes.specs.Searched.{IsComplete, IsSearch};
 ghost use Rattle.xt_outcomes.specs.SpotRaces.{IsSpotRace, event_at, next_of};

@@ -1,11 +1,11 @@
 //! The record of a turn that makes an access.
 ghost use Rattle.std.specs.Prelude.{◌≡◌, None, Some, IfSome, IfNone};
 ghost use Rattle.xt_map.specs.Memory.{constant_byte};
-ghost use Rattle.xt_rows.specs.Laws.{IsRegister};
+ghost use Rattle.xt_rows.specs.RowLaws.{IsRegister};
 ghost use Rattle.xt_exec.specs.States.{file_state};
 ghost use Rattle.xt_exec.specs.Turn.{demand, turn};
 ghost use Rattle.xt_core.specs.Cores.{Awaits};
-ghost use Rattle.xt_core.specs.Turns.{head_of, recorded};
+ghost use Rattle.xt_core.specs.Turns.{head_of, turn_record};
 
 use crate::sides::Side;
 use xt_codec::{Fetch, instruction_at};
@@ -17,7 +17,7 @@ use xt_trace::StepRecord;
 use xt_window::WindowFile;
 
 // What waits for the reply to the access of a core's next turn; None: the turn makes no access.
-#[tactic(auto, unfolding(xt_exec::specs::Turn::planned, xt_exec::specs::Turn::demand))]
+#[tactic(auto, unfolding(xt_exec::specs::Turn::planned_turn, xt_exec::specs::Turn::demand))]
 fn pending_of(regs: &Regs<WindowFile>, code: &Constants) -> Option<Pending>
     ensures awaits { IfSome result (λ p. Awaits (constant_byte code.now) (file_state regs.now) p) }
     ensures target { IfSome result (λ p. IsRegister p.target) }
@@ -41,8 +41,8 @@ fn pending_of(regs: &Regs<WindowFile>, code: &Constants) -> Option<Pending>
 }
 
 // The record of a turn that begins with these registers.
-fn recorded(regs: &Regs<WindowFile>, effect: Effect, access: Access, reply: u32) -> StepRecord
-    ensures { result ≡ recorded (head_of (file_state regs.now)) effect (Some access) reply }
+fn turn_record(regs: &Regs<WindowFile>, effect: Effect, access: Access, reply: u32) -> StepRecord
+    ensures { result ≡ turn_record (head_of (file_state regs.now)) effect (Some access) reply }
 {
     StepRecord {
         pc: regs.pc,
@@ -65,6 +65,6 @@ impl Side {
         let pending = pending_of(&self.regs, code)?;
         let mut after = self.regs;
         let effect = finish(&mut after, pending, reply);
-        Some(recorded(&self.regs, effect, pending.access, reply))
+        Some(turn_record(&self.regs, effect, pending.access, reply))
     }
 }

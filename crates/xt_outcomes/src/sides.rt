@@ -20,7 +20,7 @@ pub struct Side {
 impl Model for Side {
     ghost use Rattle.xt_exec.specs.State.{State};
     ghost use Rattle.xt_exec.specs.States.{file_state};
-    ghost use Rattle.xt_exec.specs.Laws.{IsShaped};
+    ghost use Rattle.xt_exec.specs.TurnLaws.{IsShaped};
     ghost use Rattle.xt_outcomes.specs.Spots as spots;
 
     ghost Value = { spots.Side State };

@@ -41,7 +41,7 @@ impl<'a> Timed<'a> {
     ghost use Rattle.std.specs.Prelude.{IfOk};
     ghost use Rattle.xt_map.specs.Placing.{IsPlaced};
     ghost use Rattle.xt_trace.specs.Validity.{IsValid};
-    ghost use Rattle.xt_image.specs.Parts.{FitsImage};
+    ghost use Rattle.xt_image.specs.ImageParts.{FitsImage};
     ghost use Rattle.xt_core.specs.Runs.{memory_of};
 
     /// The machine of an image. The only error is running out of memory.
@@ -81,7 +81,7 @@ impl<'a> Timed<'a> {
     ghost use Rattle.std.specs.Prelude.{false, IfOk, OnOk};
     ghost use Rattle.xt_exec.specs.Chips.{processor};
     ghost use Rattle.xt_search.specs.Meetings.{after};
-    ghost use Rattle.xt_outcomes.specs.Kept.{bars, spot_of};
+    ghost use Rattle.xt_outcomes.specs.KeptWorlds.{bars, spot_of};
     ghost use Rattle.xt_outcomes.specs.Places.{is_local, is_told, spot_run, turns_of};
     ghost use Rattle.xt_outcomes.specs.SpotRaces.{next_of};
     ghost use Rattle.xt_outcomes.specs.Spots.{TurnsAreFree, side_of, spot_past};
@@ -226,7 +226,7 @@ impl<'a> Timed<'a> {
 }
 
 impl<'a> Machine for Timed<'a> {
-    ghost use Rattle.xt_outcomes.specs.Kept as kept;
+    ghost use Rattle.xt_outcomes.specs.KeptWorlds as kept;
 
     type World = World;
 

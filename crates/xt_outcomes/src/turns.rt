@@ -5,13 +5,13 @@ ghost use Rattle.xt_map.specs.Regions.{is_mapped};
 ghost use Rattle.xt_fetch.specs.Code.{AreBytes};
 ghost use Rattle.xt_trace.specs.Worlds.{answer, memory_left};
 ghost use Rattle.xt_changes.specs.Changed.{contents_of};
-ghost use Rattle.xt_rows.specs.Laws.{IsWord};
+ghost use Rattle.xt_rows.specs.RowLaws.{IsWord};
 ghost use Rattle.xt_exec.specs.Chips.{processor};
 ghost use Rattle.xt_exec.specs.Turn.{demand};
-ghost use Rattle.xt_core.specs.Cores.{turned};
+ghost use Rattle.xt_core.specs.Cores.{core_after_turn};
 ghost use Rattle.xt_outcomes.specs.SpotRaces.{next_of};
 ghost use Rattle.xt_outcomes.specs.Spots.{memory_given, more_kept, side_bars, side_given, state_kept};
-ghost use Rattle.xt_exec.specs.Laws.{IsShaped};
+ghost use Rattle.xt_exec.specs.TurnLaws.{IsShaped};
 ghost use Rattle.xt_exec.specs.States.{file_state};
 
 use crate::sides::Side;
@@ -66,7 +66,7 @@ fn make_turn(
     requires waiting { core.old.waiting ≡ None }
     requires left { 0 < core.old.left }
     requires sizes { HasSizes opening.now.contents }
-    ensures core { OnOk result (core.new ≡ turned (constant_byte code.now) (answer (demand (constant_byte code.now) core.old.state) (contents_of opening.now.contents changes.old)) core.old) }
+    ensures core { OnOk result (core.new ≡ core_after_turn (constant_byte code.now) (answer (demand (constant_byte code.now) core.old.state) (contents_of opening.now.contents changes.old)) core.old) }
     ensures memory { OnOk result (contents_of opening.now.contents changes.new ≡ memory_left (demand (constant_byte code.now) core.old.state) (contents_of opening.now.contents changes.old)) }
     ensures word { OnOk result (IsWord (answer (demand (constant_byte code.now) core.old.state) (contents_of opening.now.contents changes.old))) }
     ensures free { core.new.waiting ≡ None }

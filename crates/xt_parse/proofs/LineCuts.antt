@@ -9,7 +9,7 @@ use Rattle.xt_lex.specs.declared.fault.AsmFault.TheVariants as fault
 use Rattle.xt_parse.specs.declared.line.Line.{Line}
 use Rattle.xt_parse.specs.Reading.{◌>>=◌}
 use Rattle.xt_parse.specs.Statements.{line_of}
-use Rattle.xt_parse.specs.Lines.{joined, grouped, is_segment, lines_from, parsed, Parses, ParsesLine}
+use Rattle.xt_parse.specs.Lines.{with_token, token_lines, is_segment, lines_from, parsed_lines, Parses, ParsesLine}
 
 abbrev pub width_of : Token → List Token → ℕ
 width_of t ts = prefix_len (λ u. t.line == u.line) ts
@@ -21,30 +21,30 @@ one_more : (n m : ℕ) → n ≡ m → 1 + n ≡ suc m
 one_more n m e = omega arith
 
 -- t begins a line of its own before u, or goes to u's line
-joined_line : (b : Bool) (t u : Token) (us : List Token) → (t.line == u.line) ≡ b → grouped (u ∷ us) ≡ (u ∷ take (width_of u us) us) ∷ grouped (drop (width_of u us) us)
-    → joined t (grouped (u ∷ us)) ≡ (t ∷ take (width_of t (u ∷ us)) (u ∷ us)) ∷ grouped (drop (width_of t (u ∷ us)) (u ∷ us))
+joined_line : (b : Bool) (t u : Token) (us : List Token) → (t.line == u.line) ≡ b → token_lines (u ∷ us) ≡ (u ∷ take (width_of u us) us) ∷ token_lines (drop (width_of u us) us)
+    → with_token t (token_lines (u ∷ us)) ≡ (t ∷ take (width_of t (u ∷ us)) (u ∷ us)) ∷ token_lines (drop (width_of t (u ∷ us)) (u ∷ us))
 joined_line true t u us e h =
     let alike : t.line ≡ u.line = grind (arith, nat_tests) in
     let wide : width_of t (u ∷ us) ≡ 1 + width_of t us = ap (λ b. cond b (1 + width_of t us) 0) e in
     let same : width_of t us ≡ width_of u us = ap (λ n. prefix_len (λ (v : Token). n == v.line) us) alike in
-    ap (joined t) h ∙ ap (λ b. cond b ((t ∷ u ∷ take (width_of u us) us) ∷ grouped (drop (width_of u us) us)) ((t ∷ []) ∷ (u ∷ take (width_of u us) us) ∷ grouped (drop (width_of u us) us))) e
-    ∙ ap (λ w. (t ∷ take w (u ∷ us)) ∷ grouped (drop w (u ∷ us))) (sym (wide ∙ one_more (width_of t us) (width_of u us) same))
+    ap (with_token t) h ∙ ap (λ b. cond b ((t ∷ u ∷ take (width_of u us) us) ∷ token_lines (drop (width_of u us) us)) ((t ∷ []) ∷ (u ∷ take (width_of u us) us) ∷ token_lines (drop (width_of u us) us))) e
+    ∙ ap (λ w. (t ∷ take w (u ∷ us)) ∷ token_lines (drop w (u ∷ us))) (sym (wide ∙ one_more (width_of t us) (width_of u us) same))
 joined_line false t u us e h =
     let none : width_of t (u ∷ us) ≡ 0 = ap (λ b. cond b (1 + width_of t us) 0) e in
-    ap (joined t) h ∙ ap (λ b. cond b ((t ∷ u ∷ take (width_of u us) us) ∷ grouped (drop (width_of u us) us)) ((t ∷ []) ∷ (u ∷ take (width_of u us) us) ∷ grouped (drop (width_of u us) us))) e
+    ap (with_token t) h ∙ ap (λ b. cond b ((t ∷ u ∷ take (width_of u us) us) ∷ token_lines (drop (width_of u us) us)) ((t ∷ []) ∷ (u ∷ take (width_of u us) us) ∷ token_lines (drop (width_of u us) us))) e
     ∙ ap (λ gs. (t ∷ []) ∷ gs) (sym h)
-    ∙ ap (λ w. (t ∷ take w (u ∷ us)) ∷ grouped (drop w (u ∷ us))) (sym none)
+    ∙ ap (λ w. (t ∷ take w (u ∷ us)) ∷ token_lines (drop w (u ∷ us))) (sym none)
 
-first_group : (t : Token) (ts : List Token) → grouped (t ∷ ts) ≡ (t ∷ take (width_of t ts) ts) ∷ grouped (drop (width_of t ts) ts)
+first_group : (t : Token) (ts : List Token) → token_lines (t ∷ ts) ≡ (t ∷ take (width_of t ts) ts) ∷ token_lines (drop (width_of t ts) ts)
 first_group t [] = refl
 first_group t (u ∷ us) = joined_line (t.line == u.line) t u us refl (first_group u us)
 
 first_width : (t : Token) (ts : List Token) → prefix_len (λ u. t.line == u.line) (t ∷ ts) ≡ suc (width_of t ts)
 first_width t ts = ap (λ b. cond b (1 + width_of t ts) 0) (same_line t.line) ∙ one_more (width_of t ts) (width_of t ts) refl
 
-pub group_is_cut : (tokens : List Token) (d : Token) (n : ℕ) → 0 < length tokens → n ≡ prefix_len (λ u. (get_or tokens 0 d).line == u.line) tokens → grouped tokens ≡ take n tokens ∷ grouped (drop n tokens)
+pub group_is_cut : (tokens : List Token) (d : Token) (n : ℕ) → 0 < length tokens → n ≡ prefix_len (λ u. (get_or tokens 0 d).line == u.line) tokens → token_lines tokens ≡ take n tokens ∷ token_lines (drop n tokens)
 group_is_cut [] d n h e = absurd (omega arith)
-group_is_cut (t ∷ ts) d n h e = first_group t ts ∙ ap (λ w. take w (t ∷ ts) ∷ grouped (drop w (t ∷ ts))) (sym (e ∙ first_width t ts))
+group_is_cut (t ∷ ts) d n h e = first_group t ts ∙ ap (λ w. take w (t ∷ ts) ∷ token_lines (drop w (t ∷ ts))) (sym (e ∙ first_width t ts))
 
 pub group_has_one : (tokens : List Token) (d : Token) (n : ℕ) → 0 < length tokens → n ≡ prefix_len (λ u. (get_or tokens 0 d).line == u.line) tokens → 0 < n
 group_has_one [] d n h e = absurd (omega arith)
@@ -74,7 +74,7 @@ line_stops front begun g gs place e = ap (λ r. behind_lines front (r >>= λ l. 
 some_token : (t : Token) (ts : List Token) → (length (t ∷ ts) == 0) ≡ true → ⊥
 some_token t ts e = grind (arith, nat_tests)
 
-pub no_line_is_left : (front : List Line) (begun : Bool) (rest : List Token) (whole : Lines) → (length rest == 0) ≡ true → behind_lines front (lines_from begun (grouped rest)) ≡ whole → whole ≡ Ok front
+pub no_line_is_left : (front : List Line) (begun : Bool) (rest : List Token) (whole : Lines) → (length rest == 0) ≡ true → behind_lines front (lines_from begun (token_lines rest)) ≡ whole → whole ≡ Ok front
 unfolding lines_from
 no_line_is_left front begun [] whole e h = sym h ∙ ap Ok (append-nil front)
 no_line_is_left front begun (t ∷ ts) whole e h = absurd (some_token t ts e)
@@ -88,6 +88,6 @@ pub no_line_before : (read : Lines) → behind_lines [] read ≡ read
 no_line_before (Ok ls) = refl
 no_line_before (Err place) = refl
 
-pub parsed_is : (tokens : List Token) → lines_from false (grouped tokens) ≡ parsed tokens
-unfolding parsed
+pub parsed_is : (tokens : List Token) → lines_from false (token_lines tokens) ≡ parsed_lines tokens
+unfolding parsed_lines
 parsed_is tokens = refl

@@ -14,7 +14,7 @@ use Rattle.xt_parse.specs.declared.statement.Statement.{Statement}
 use Rattle.xt_parse.specs.declared.statement.Statement.TheVariants as statement
 use Rattle.xt_parse.specs.Reading.{◌>>=◌}
 use Rattle.xt_parse.specs.Statements.{number_of, line_of}
-use Rattle.xt_parse.specs.Lines.{joined, grouped, is_segment, lines_from, parsed}
+use Rattle.xt_parse.specs.Lines.{with_token, token_lines, is_segment, lines_from, parsed_lines}
 use Rattle.xt_parse.specs.Small.{AreAbove, expr_weight, operand_weight, statement_weight, line_weight, IsShort, IsShortOperand, HasShortExprs, IsParsed}
 use Rattle.xt_parse.proofs.ReadWeights.{tokens_weight, cons_weight}
 use Rattle.xt_parse.proofs.LineWeights.{IsLineOf, line_fits}
@@ -36,7 +36,7 @@ is_same n m e = grind (arith, nat_tests)
 is_later : (n m : ℕ) → n ≤ m → (n == m) ≡ false → suc n ≤ m
 is_later n m h e = grind (arith, nat_tests)
 
-joined_rises : (n : ℕ) (t : Token) (groups : List (List Token)) → n ≤ t.line → AreFrom t.line groups → AreFrom n (joined t groups)
+joined_rises : (n : ℕ) (t : Token) (groups : List (List Token)) → n ≤ t.line → AreFrom t.line groups → AreFrom n (with_token t groups)
 joined_rises n t [] h from = (h, tt)
 joined_rises n t ([] ∷ groups) h from = (h, earlier 1 (suc t.line) groups (omega (arith, from.0)) from.1)
 joined_rises n t ((u ∷ us) ∷ groups) h from = by_number (t.line == u.line) refl
@@ -45,9 +45,9 @@ joined_rises n t ((u ∷ us) ∷ groups) h from = by_number (t.line == u.line) r
     by_number true e = (h, earlier (suc u.line) (suc t.line) groups (omega (arith, is_same t.line u.line e)) from.1)
     by_number false e = (h, (is_later t.line u.line from.0 e, from.1))
 
-groups_rise : (n : ℕ) (tokens : List Token) → AreInOrder n tokens → AreFrom n (grouped tokens)
+groups_rise : (n : ℕ) (tokens : List Token) → AreInOrder n tokens → AreFrom n (token_lines tokens)
 groups_rise n [] order = tt
-groups_rise n (t ∷ ts) order = joined_rises n t (grouped ts) order.0 (groups_rise t.line ts order.1)
+groups_rise n (t ∷ ts) order = joined_rises n t (token_lines ts) order.0 (groups_rise t.line ts order.1)
 
 abbrev groups_weight : List (List Token) → ℕ
 groups_weight groups = sum_by tokens_weight groups
@@ -55,7 +55,7 @@ groups_weight groups = sum_by tokens_weight groups
 more_groups : (g : List Token) (gs : List (List Token)) → groups_weight (g ∷ gs) ≡ tokens_weight g + groups_weight gs
 more_groups g gs = sum_by-cons tokens_weight g gs
 
-joined_weighs : (t : Token) (groups : List (List Token)) → groups_weight (joined t groups) ≡ weight t + groups_weight groups
+joined_weighs : (t : Token) (groups : List (List Token)) → groups_weight (with_token t groups) ≡ weight t + groups_weight groups
 joined_weighs t [] = omega (arith, more_groups (t ∷ []) [], cons_weight t [])
 joined_weighs t ([] ∷ groups) = omega (arith, more_groups (t ∷ []) groups, more_groups [] groups, cons_weight t [])
 joined_weighs t ((u ∷ us) ∷ groups) = by_number (t.line == u.line)
@@ -64,9 +64,9 @@ joined_weighs t ((u ∷ us) ∷ groups) = by_number (t.line == u.line)
     by_number true = omega (arith, more_groups (t ∷ u ∷ us) groups, more_groups (u ∷ us) groups, cons_weight t (u ∷ us))
     by_number false = omega (arith, more_groups (t ∷ []) ((u ∷ us) ∷ groups), cons_weight t [])
 
-groups_weigh : (tokens : List Token) → groups_weight (grouped tokens) ≡ tokens_weight tokens
+groups_weigh : (tokens : List Token) → groups_weight (token_lines tokens) ≡ tokens_weight tokens
 groups_weigh [] = refl
-groups_weigh (t ∷ ts) = omega (arith, joined_weighs t (grouped ts), groups_weigh ts, cons_weight t ts)
+groups_weigh (t ∷ ts) = omega (arith, joined_weighs t (token_lines ts), groups_weigh ts, cons_weight t ts)
 
 -- ---- the lines
 
@@ -136,17 +136,17 @@ lines_are_few (l ∷ rest) = omega (arith, lines_are_few rest, sum_by-cons line_
 
 -- ---- the text
 
-pub lines_are_parsed : (tokens : List Token) → IsLexed tokens → IfOk (parsed tokens) IsParsed
-unfolding parsed
-lines_are_parsed tokens lexed = by_lines (lines_from false (grouped tokens)) (lines_fit 0 false (grouped tokens) (groups_rise 1 tokens lexed.in_order))
+pub lines_are_parsed : (tokens : List Token) → IsLexed tokens → IfOk (parsed_lines tokens) IsParsed
+unfolding parsed_lines
+lines_are_parsed tokens lexed = by_lines (lines_from false (token_lines tokens)) (lines_fit 0 false (token_lines tokens) (groups_rise 1 tokens lexed.in_order))
   where
-    few : groups_weight (grouped tokens) ≤ 1048576
+    few : groups_weight (token_lines tokens) ≤ 1048576
     few = omega (arith, groups_weigh tokens, lexed.few)
 
-    by_lines : (read : Lines) → IfOk read (AreLinesOf 0 (groups_weight (grouped tokens))) → IfOk read IsParsed
+    by_lines : (read : Lines) → IfOk read (AreLinesOf 0 (groups_weight (token_lines tokens))) → IfOk read IsParsed
     by_lines (Ok lines) h = record { numbered = h.0; few = omega (arith, few, h.1, lines_are_few lines); total = omega (arith, few, h.1); short = lines_are_short lines (omega (arith, few, h.1)) }
     by_lines (Err place) h = tt
 
 -- what was returned is this
-pub answer_is_parsed : (tokens : List Token) (lines : List Line) → IsLexed tokens → parsed tokens ≡ Ok lines → IsParsed lines
+pub answer_is_parsed : (tokens : List Token) (lines : List Line) → IsLexed tokens → parsed_lines tokens ≡ Ok lines → IsParsed lines
 answer_is_parsed tokens lines lexed e = let P : Lines → Type 0 = λ read. IfOk read IsParsed in subst P e (lines_are_parsed tokens lexed)

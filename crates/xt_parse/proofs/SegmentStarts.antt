@@ -5,7 +5,7 @@ use Rattle.std.specs.Char.{is_ascii_digit, is_ascii_hexdigit}
 use Rattle.std.specs.List.{AllByRecursion, prefix_len}
 use Rattle.std.specs.Option.{IfSome, option_map, option_map_or}
 use Rattle.std.proofs.lemmas.Bool.{cond_both, ltb-true}
-use Rattle.xt_lex.specs.Bytes.{is_plain, is_word_byte, is_word_start, number_of}
+use Rattle.xt_lex.specs.TextBytes.{is_plain, is_word_byte, is_word_start, number_of}
 use Rattle.xt_lex.specs.Fronts.{Front, character_front, decimal_front, hex_digits_front, hex_front, longer, mark_front, number_kind, number_kind_of, string_body, string_front, token_at, word_front}
 use Rattle.xt_lex.specs.Tokens.{bad, lines_of, starts_blank, starts_comment, token, tokens_from, tokens_of, tokens_of_lines, valid}
 use Rattle.xt_lex.specs.declared.fault.AsmPlace.{AsmPlace}
@@ -18,7 +18,7 @@ use Rattle.xt_parse.specs.declared.line.Line.{Line}
 use Rattle.xt_parse.specs.declared.line.Placed.{Placed}
 use Rattle.xt_parse.specs.declared.statement.Statement.{Statement}
 use Rattle.xt_parse.specs.declared.statement.Statement.TheVariants as statement
-use Rattle.xt_parse.specs.Lines.{grouped, is_segment, joined, lines_from, parsed}
+use Rattle.xt_parse.specs.Lines.{token_lines, is_segment, with_token, lines_from, parsed_lines}
 use Rattle.xt_parse.specs.Reading.{◌>>=◌, Reading, as_colon, as_comma, as_label, as_number, as_string, expr_at, exprs_at, first_as, operands_at}
 use Rattle.xt_names.specs.Forms.{shapes_of}
 use Rattle.xt_parse.specs.Statements.{Parts, as_line, as_statement, awaits_colon, behind_label, body_at, label_at, line_of, opens, parts_at, placed_at, statement_at, to_the_end, whole_parts_at, without_label}
@@ -137,15 +137,15 @@ tokens_are_low text = lines_are_low 1 (lines_of text)
 
 -- ---- the tokens of a line
 
-group_with : (t : Token) (groups : List (List Token)) → IsLow t.what → AllByRecursion AreLow groups → AllByRecursion AreLow (joined t groups)
+group_with : (t : Token) (groups : List (List Token)) → IsLow t.what → AllByRecursion AreLow groups → AllByRecursion AreLow (with_token t groups)
 group_with t [] h gs = ((h, tt), tt)
 group_with t ([] ∷ groups) h gs = ((h, tt), gs.1)
 group_with t ((u ∷ us) ∷ groups) h gs =
     cond_both (t.line == u.line) ((t ∷ u ∷ us) ∷ groups) ((t ∷ []) ∷ (u ∷ us) ∷ groups) (AllByRecursion AreLow) (λ _. ((h, gs.0), gs.1)) (λ _. ((h, tt), gs))
 
-groups_are_low : (tokens : List Token) → AreLow tokens → AllByRecursion AreLow (grouped tokens)
+groups_are_low : (tokens : List Token) → AreLow tokens → AllByRecursion AreLow (token_lines tokens)
 groups_are_low [] h = tt
-groups_are_low (t ∷ ts) h = group_with t (grouped ts) h.0 (groups_are_low ts h.1)
+groups_are_low (t ∷ ts) h = group_with t (token_lines ts) h.0 (groups_are_low ts h.1)
 
 -- ---- statements
 
@@ -278,9 +278,9 @@ unfolding lines_from
 lines_start_low begun [] h = tt
 lines_start_low begun (g ∷ gs) h = lines_behind begun gs (line_of begun g) (line_starts_low begun g h.0) (λ b. lines_start_low b gs h.1)
 
-parsed_start_low : (text : List ℕ) → IfOk (parsed (tokens_of text)) (AllByRecursion LineStartsLow)
-unfolding parsed
-parsed_start_low text = lines_start_low false (grouped (tokens_of text)) (groups_are_low (tokens_of text) (tokens_are_low text))
+parsed_start_low : (text : List ℕ) → IfOk (parsed_lines (tokens_of text)) (AllByRecursion LineStartsLow)
+unfolding parsed_lines
+parsed_start_low text = lines_start_low false (token_lines (tokens_of text)) (groups_are_low (tokens_of text) (tokens_are_low text))
 
-pub starts_are_low : (text : List ℕ) (lines : List Line) → parsed (tokens_of text) ≡ Ok lines → AllByRecursion (λ l. StartsLow l.statement) lines
+pub starts_are_low : (text : List ℕ) (lines : List Line) → parsed_lines (tokens_of text) ≡ Ok lines → AllByRecursion (λ l. StartsLow l.statement) lines
 starts_are_low text lines e = let P : Lines → Type 0 = λ read. IfOk read (AllByRecursion LineStartsLow) in subst P e (parsed_start_low text)

@@ -14,16 +14,16 @@ use Rattle.xt_parse.specs.Statements.{line_of}
 -- ---- the tokens of each line
 
 -- a token goes to the line that is next, where it has its number, and else to a line of its own
-abbrev pub joined : Token → List (List Token) → List (List Token)
-joined t [] = (t ∷ []) ∷ []
-joined t ([] ∷ groups) = (t ∷ []) ∷ groups
-joined t ((u ∷ us) ∷ groups) =
+abbrev pub with_token : Token → List (List Token) → List (List Token)
+with_token t [] = (t ∷ []) ∷ []
+with_token t ([] ∷ groups) = (t ∷ []) ∷ groups
+with_token t ((u ∷ us) ∷ groups) =
     if t.line == u.line then (t ∷ u ∷ us) ∷ groups else (t ∷ []) ∷ (u ∷ us) ∷ groups
 
 -- the tokens line by line
-abbrev pub grouped : List Token → List (List Token)
-grouped [] = []
-grouped (t ∷ ts) = joined t (grouped ts)
+abbrev pub token_lines : List Token → List (List Token)
+token_lines [] = []
+token_lines (t ∷ ts) = with_token t (token_lines ts)
 
 -- ---- the lines
 
@@ -39,8 +39,8 @@ lines_from begun (g ∷ gs) =
     >>= λ lines. Ok (line ∷ lines)
 
 -- the lines of the tokens of a text, or the first line that has a fault of the kind Syntax
-unfoldable pub parsed : List Token → Result (List Line) AsmPlace
-parsed tokens = lines_from false (grouped tokens)
+unfoldable pub parsed_lines : List Token → Result (List Line) AsmPlace
+parsed_lines tokens = lines_from false (token_lines tokens)
 
 -- what was answered is this, unless memory ran out
 abbrev pub Parses : Result (List Line) AsmFault → Result (List Line) AsmPlace → Type 0

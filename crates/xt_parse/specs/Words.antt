@@ -22,8 +22,8 @@ directive_words =
     ∷ (codes ".byte", Byte) ∷ (codes ".ascii", Ascii) ∷ (codes ".asciz", Asciz)
     ∷ (codes ".align", Align) ∷ (codes ".space", Space) ∷ []
 
-abbrev pub shown : DirectiveWord → List ℕ × Form
-shown w = (w.name.now, w.form)
+abbrev pub word_and_form : DirectiveWord → List ℕ × Form
+word_and_form w = (w.name.now, w.form)
 
 abbrev pub directive_of : List ℕ → Option Form
 directive_of name = option_map (λ row. row.1) (find (λ row. bytes_eq row.0 name) directive_words)

@@ -2,7 +2,7 @@ ghost use Rattle.std.specs.Prelude.{◌≡◌, ◌<◌, ◌≤◌, ◌==◌, ◌
 ghost use Rattle.std.specs.List.{prefix_len};
 ghost use Rattle.xt_lex.specs.Tokens.{IsLexed};
 ghost use Rattle.xt_parse.specs.Statements.{column_behind, fault_column, line_of, number_of};
-ghost use Rattle.xt_parse.specs.Lines.{ArePlaced, ParsesLine, Parses, grouped, is_segment, parsed};
+ghost use Rattle.xt_parse.specs.Lines.{ArePlaced, ParsesLine, Parses, token_lines, is_segment, parsed_lines};
 ghost use Rattle.xt_parse.specs.Small.{IsParsed};
 
 use crate::line::{Line, Lines};
@@ -80,7 +80,7 @@ fn width_of_line(line: u32, tokens: &[Token]) -> usize
 // How many tokens the first line has.
 fn group_width(tokens: &[Token]) -> usize
     requires { 0 < length tokens.now }
-    ensures cut { grouped tokens.now ≡ take result tokens.now ∷ grouped (drop result tokens.now) }
+    ensures cut { token_lines tokens.now ≡ take result tokens.now ∷ token_lines (drop result tokens.now) }
     ensures forward { 0 < result }
     ensures within { result ≤ length tokens.now }
 {
@@ -107,7 +107,7 @@ fn has_begun(begun: bool, statement: &Statement) -> bool
 /// together.
 pub fn parse(alloc: Global, tokens: &Tokens) -> Result<Lines, AsmFault>
     requires { IsLexed tokens.now }
-    ensures lines { Parses result (parsed tokens.now) }
+    ensures lines { Parses result (parsed_lines tokens.now) }
     ensures small { IfOk result IsParsed }
 {
     let mut lines = Vec::new(alloc);

@@ -1,5 +1,5 @@
 ghost use Rattle.std.specs.Prelude.{◌≡◌, map};
-ghost use Rattle.xt_parse.specs.Words.{directive_of, directive_words, form_of, is_label_word, register_of, register_words, shown, shown_register, starts_as_directive};
+ghost use Rattle.xt_parse.specs.Words.{directive_of, directive_words, form_of, is_label_word, register_of, register_words, word_and_form, shown_register, starts_as_directive};
 
 use crate::form::Form;
 use xt_names::mnemonic_of;
@@ -34,7 +34,7 @@ static DIRECTIVES: [DirectiveWord; 11] = directives! {
 
 #[tactic(auto, unfolding(crate::specs::Words::directive_words))]
 fn directives() -> &'static [DirectiveWord]
-    ensures { map shown result.now ≡ directive_words }
+    ensures { map word_and_form result.now ≡ directive_words }
 {
     &DIRECTIVES
 }

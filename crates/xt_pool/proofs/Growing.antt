@@ -12,8 +12,8 @@ use Rattle.xt_parse.specs.declared.statement.Statement.{Statement}
 use Rattle.xt_parse.specs.declared.statement.Statement.TheVariants.{Seg, Position}
 use Rattle.xt_pool.specs.declared.word.PoolWord.{PoolWord}
 use Rattle.xt_pool.specs.Around.{each_after}
-use Rattle.xt_pool.specs.Pools.{distinct, wanted, is_position, is_segment, need, shares, same_terms, pool_at, pool, up_to_end, words_of}
-use Rattle.xt_pool.specs.Seen.{is_there, added, opened, seen_after, word}
+use Rattle.xt_pool.specs.Pools.{distinct, needed_words, is_position, is_segment, need, shares, same_terms, pool_at, pool, up_to_end, words_of}
+use Rattle.xt_pool.specs.Seen.{is_there, words_of_line, pool_after_line, seen_after, word}
 
 -- the words that the set does not have
 abbrev pub unseen : (Expr → Bool) → PoolWord → Bool
@@ -22,7 +22,7 @@ unseen h w = not (is_there h w)
 -- the words that the lines from the place k on add to the pool that is current
 abbrev pub left : Option ℕ → (Expr → Bool) → ℕ → List Line → List PoolWord
 left None h k rest = []
-left (Some p) h k rest = filter (unseen h) (distinct (wanted p k (up_to_end rest)))
+left (Some p) h k rest = filter (unseen h) (distinct (needed_words p k (up_to_end rest)))
 
 -- the words of the pools whose positions stand in these lines
 abbrev pub tail : List Line → List Line → List PoolWord
@@ -79,7 +79,7 @@ keeps h e = h e || false
 
 kept : (current : Option ℕ) (h : Expr → Bool) (k : ℕ) (rest : List Line) → left current h k rest ≡ left current (keeps h) k rest
 kept None h k rest = refl
-kept (Some p) h k rest = filter_agree (unseen h) (unseen (keeps h)) (same_unseen h) (distinct (wanted p k (up_to_end rest)))
+kept (Some p) h k rest = filter_agree (unseen h) (unseen (keeps h)) (same_unseen h) (distinct (needed_words p k (up_to_end rest)))
 
 -- what a line needs that is neither a position nor a segment
 need_adds : (h : Expr → Bool) (p k : ℕ) (n : Option (Option Placed × Expr)) (words : List PoolWord) →
@@ -111,7 +111,7 @@ Steps None h before k l rest p g n =
     [] ++ ((if p then pool (length before) rest else []) ++ tail (before ++ l ∷ []) rest)
     ≡ [] ++ (left (if p then Some k else (if g then None else None)) (λ e. if p then false else (h e || false)) (k + 1) rest ++ tail (before ++ l ∷ []) rest)
 Steps (Some at) h before k l rest p g n =
-    filter (unseen h) (distinct (wanted at k (if (p || g) then [] else l ∷ up_to_end rest))) ++ ((if p then pool (length before) rest else []) ++ tail (before ++ l ∷ []) rest)
+    filter (unseen h) (distinct (needed_words at k (if (p || g) then [] else l ∷ up_to_end rest))) ++ ((if p then pool (length before) rest else []) ++ tail (before ++ l ∷ []) rest)
     ≡ option_map_or (λ n. if is_there h (word at k n) then [] else word at k n ∷ []) n []
     ++ (left (if p then Some k else (if g then None else Some at)) (λ e. if p then false else (h e || option_map_or (λ n. is_none n.0 && same_terms n.1 e) n false)) (k + 1) rest ++ tail (before ++ l ∷ []) rest)
 
@@ -121,18 +121,18 @@ steps None h before k l rest Position is same = ap (λ w. w ++ tail (before ++ l
 steps None h before k l rest _ is same = refl
 steps (Some at) h before k l rest Position is same = ap (λ w. w ++ tail (before ++ l ∷ []) rest) (new_pool before k rest is)
 steps (Some at) h before k l rest (Seg start) is same = refl
-steps (Some at) h before k l rest s is same = need_adds_before h at k (need l.statement) (need s) (wanted at (k + 1) (up_to_end rest)) (tail (before ++ l ∷ []) rest) same
+steps (Some at) h before k l rest s is same = need_adds_before h at k (need l.statement) (need s) (needed_words at (k + 1) (up_to_end rest)) (tail (before ++ l ∷ []) rest) same
 
 -- a line and the lines after it
 pub step : (current : Option ℕ) (h : Expr → Bool) (before : List Line) (k : ℕ) (l : Line) (rest : List Line) → length before ≡ k →
-    left current h k (l ∷ rest) ++ tail before (l ∷ rest) ≡ added current h k l ++ (left (opened current k l) (seen_after current h l) (k + 1) rest ++ tail (before ++ l ∷ []) rest)
+    left current h k (l ∷ rest) ++ tail before (l ∷ rest) ≡ words_of_line current h k l ++ (left (pool_after_line current k l) (seen_after current h l) (k + 1) rest ++ tail (before ++ l ∷ []) rest)
 step None h before k l rest is = steps None h before k l rest l.statement is refl
 step (Some at) h before k l rest is = steps (Some at) h before k l rest l.statement is refl
 
 -- a set that says the same
 same_left : (current : Option ℕ) (h h' : Expr → Bool) → ((e : Expr) → h e ≡ h' e) → (k : ℕ) (rest : List Line) → left current h k rest ≡ left current h' k rest
 same_left None h h' same k rest = refl
-same_left (Some p) h h' same k rest = filter_agree (unseen h) (unseen h') (λ w. ap (λ b. not (is_none w.name && b)) (same w.value)) (distinct (wanted p k (up_to_end rest)))
+same_left (Some p) h h' same k rest = filter_agree (unseen h) (unseen h') (λ w. ap (λ b. not (is_none w.name && b)) (same w.value)) (distinct (needed_words p k (up_to_end rest)))
 
 -- the words so far and the words to come are all words
 abbrev pub Makes : List PoolWord → Option ℕ → (Expr → Bool) → ℕ → List Line → List PoolWord → Type 0
@@ -140,17 +140,17 @@ Makes words current h k lines all = words ++ (left current h k (drop k lines) ++
 
 pub more : (words words' : List PoolWord) (current now : Option ℕ) (h h' : Expr → Bool) (k : ℕ) (lines : List Line) (l : Line) (all : List PoolWord) →
     k < length lines → l ≡ get_or lines k l → Makes words current h k lines all →
-    words' ≡ words ++ added current h k l → now ≡ opened current k l → ((e : Expr) → h' e ≡ seen_after current h l e) → Makes words' now h' (k + 1) lines all
+    words' ≡ words ++ words_of_line current h k l → now ≡ pool_after_line current k l → ((e : Expr) → h' e ≡ seen_after current h l e) → Makes words' now h' (k + 1) lines all
 more words words' current now h h' k lines l all lt is makes adds opens sees =
     let rest : List Line = drop (k + 1) lines in
     let front : List Line = take k lines in
     let here : drop k lines ≡ l ∷ rest = drop_more lines k l lt ∙ ap (λ x. x ∷ rest) (sym is) in
     let next : take (k + 1) lines ≡ front ++ l ∷ [] = take_more lines k l lt ∙ ap (λ x. front ++ x ∷ []) (sym is) in
     ap (λ ws. ws ++ (left now h' (k + 1) rest ++ tail (take (k + 1) lines) rest)) adds
-    ∙ ap (λ n. (words ++ added current h k l) ++ (left n h' (k + 1) rest ++ tail (take (k + 1) lines) rest)) opens
-    ∙ ap (λ ws. (words ++ added current h k l) ++ (ws ++ tail (take (k + 1) lines) rest)) (same_left (opened current k l) h' (seen_after current h l) sees (k + 1) rest)
-    ∙ ap (λ ls. (words ++ added current h k l) ++ (left (opened current k l) (seen_after current h l) (k + 1) rest ++ tail ls rest)) next
-    ∙ append_assoc words (added current h k l) (left (opened current k l) (seen_after current h l) (k + 1) rest ++ tail (front ++ l ∷ []) rest)
+    ∙ ap (λ n. (words ++ words_of_line current h k l) ++ (left n h' (k + 1) rest ++ tail (take (k + 1) lines) rest)) opens
+    ∙ ap (λ ws. (words ++ words_of_line current h k l) ++ (ws ++ tail (take (k + 1) lines) rest)) (same_left (pool_after_line current k l) h' (seen_after current h l) sees (k + 1) rest)
+    ∙ ap (λ ls. (words ++ words_of_line current h k l) ++ (left (pool_after_line current k l) (seen_after current h l) (k + 1) rest ++ tail ls rest)) next
+    ∙ append_assoc words (words_of_line current h k l) (left (pool_after_line current k l) (seen_after current h l) (k + 1) rest ++ tail (front ++ l ∷ []) rest)
     ∙ ap (λ ws. words ++ ws) (sym (step current h front k l rest (length-take-le k lines (omega arith))))
     ∙ ap (λ ls. words ++ (left current h k ls ++ tail front ls)) (sym here)
     ∙ makes

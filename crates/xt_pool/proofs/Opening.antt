@@ -7,7 +7,7 @@ use Rattle.xt_lex.specs.declared.fault.AsmPlace.{AsmPlace}
 use Rattle.xt_parse.specs.declared.line.Line.{Line}
 use Rattle.xt_pool.specs.Around.{each_after}
 use Rattle.xt_pool.specs.Findings.{Finding, first, or_else}
-use Rattle.xt_pool.specs.Pools.{ends_pool, is_position, is_segment, is_open, has_no_pool, unplaced, pool_fault}
+use Rattle.xt_pool.specs.Pools.{ends_pool, is_position, is_segment, is_open, has_no_pool, missing_pool, pool_fault}
 use Rattle.xt_pool.specs.Seen.{is_open_behind}
 
 chosen : (p g : Bool) (l : Line) (found : Option Line) → is_position l.statement ≡ p →
@@ -27,19 +27,19 @@ pub record Finds (flag : Bool) (k : ℕ) (lines : List Line) (fault : Finding) :
 
 -- what the lines from here on find
 found : (flag : Bool) (k : ℕ) (lines : List Line) (l : Line) (fault : Finding) → k < length lines → l ≡ get_or lines k l → Finds flag k lines fault →
-    or_else (unplaced flag l) (first (each_after has_no_pool (take k lines ++ l ∷ []) (drop (k + 1) lines))) ≡ fault
+    or_else (missing_pool flag l) (first (each_after has_no_pool (take k lines ++ l ∷ []) (drop (k + 1) lines))) ≡ fault
 found flag k lines l fault lt is finds =
     let here : drop k lines ≡ l ∷ drop (k + 1) lines = drop_more lines k l lt ∙ ap (λ x. x ∷ drop (k + 1) lines) (sym is) in
-    ap (λ b. or_else (unplaced b l) (first (each_after has_no_pool (take k lines ++ l ∷ []) (drop (k + 1) lines)))) finds.flag_is
+    ap (λ b. or_else (missing_pool b l) (first (each_after has_no_pool (take k lines ++ l ∷ []) (drop (k + 1) lines)))) finds.flag_is
     ∙ ap (λ ls. first (each_after has_no_pool (take k lines) ls)) (sym here) ∙ finds.rest
 
 pub finds_here : (flag : Bool) (k : ℕ) (lines : List Line) (l : Line) (fault : Finding) (place : AsmPlace) → k < length lines → l ≡ get_or lines k l → Finds flag k lines fault →
-    Some place ≡ unplaced flag l → Some place ≡ fault
+    Some place ≡ missing_pool flag l → Some place ≡ fault
 finds_here flag k lines l fault place lt is finds this =
     ap (λ f. or_else f (first (each_after has_no_pool (take k lines ++ l ∷ []) (drop (k + 1) lines)))) this ∙ found flag k lines l fault lt is finds
 
 pub finds_more : (flag now : Bool) (k : ℕ) (lines : List Line) (l : Line) (fault : Finding) → k < length lines → l ≡ get_or lines k l → Finds flag k lines fault →
-    None ≡ unplaced flag l → now ≡ is_open_behind flag l → Finds now (k + 1) lines fault
+    None ≡ missing_pool flag l → now ≡ is_open_behind flag l → Finds now (k + 1) lines fault
 finds_more flag now k lines l fault lt is finds none behind =
     let next : take (k + 1) lines ≡ take k lines ++ l ∷ [] = take_more lines k l lt ∙ ap (λ x. take k lines ++ x ∷ []) (sym is) in
     record {

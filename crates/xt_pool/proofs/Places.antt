@@ -10,7 +10,7 @@ use Rattle.xt_parse.specs.declared.line.Line.{Line}
 use Rattle.xt_parse.specs.declared.line.Placed.{Placed}
 use Rattle.xt_pool.specs.declared.word.PoolWord.{PoolWord}
 use Rattle.xt_pool.specs.Around.{each_after}
-use Rattle.xt_pool.specs.Pools.{distinct, wanted, ends_pool, is_position, is_segment, need, shares, pool_at, pool, up_to_end, words_of, IsAmong}
+use Rattle.xt_pool.specs.Pools.{distinct, needed_words, ends_pool, is_position, is_segment, need, shares, pool_at, pool, up_to_end, words_of, IsAmong}
 
 -- ---- how many
 
@@ -29,13 +29,13 @@ one_at_most : (p k : ℕ) (n : Option (Option Placed × Expr)) → length (optio
 one_at_most p k None = omega arith
 one_at_most p k (Some n) = omega arith
 
-wanted_fewer : (p k : ℕ) (ls : List Line) → length (wanted p k ls) ≤ length ls
+wanted_fewer : (p k : ℕ) (ls : List Line) → length (needed_words p k ls) ≤ length ls
 wanted_fewer p k [] = omega arith
 wanted_fewer p k (l ∷ ls) = omega (
   arith,
   one_at_most p k (need l.statement),
   wanted_fewer p (k + 1) ls,
-  length-append (option_to_list (option_map (λ n. let w : PoolWord = record { position = p; line = k; name = n.0; value = n.1 } in w) (need l.statement))) (wanted p (k + 1) ls),
+  length-append (option_to_list (option_map (λ n. let w : PoolWord = record { position = p; line = k; name = n.0; value = n.1 } in w) (need l.statement))) (needed_words p (k + 1) ls),
 )
 
 -- the words of the pools in some lines, and the lines that the pool before them takes
@@ -49,7 +49,7 @@ fewer_by false true ws later ups rest few zero l h = omega (arith, zero refl, le
 fewer_by false false ws later ups rest few zero l h = omega (arith, zero refl, length-append ws later)
 
 pool_fewer : (k : ℕ) (rest : List Line) → length (pool k rest) ≤ length (up_to_end rest)
-pool_fewer k rest = omega (arith, distinct_fewer (wanted k (k + 1) (up_to_end rest)), wanted_fewer k (k + 1) (up_to_end rest))
+pool_fewer k rest = omega (arith, distinct_fewer (needed_words k (k + 1) (up_to_end rest)), wanted_fewer k (k + 1) (up_to_end rest))
 
 at_fewer : (p : Bool) (k : ℕ) (rest : List Line) → p ≡ true → length (if p then pool k rest else []) ≤ length (up_to_end rest)
 at_fewer true k rest e = pool_fewer k rest
@@ -90,9 +90,9 @@ one_among : (n p k : ℕ) (o : Option (Option Placed × Expr)) → p < n → k <
 one_among n p k None hp hk = tt
 one_among n p k (Some o) hp hk = ((hp, hk), tt)
 
-wanted_among : (n p k : ℕ) (ls : List Line) → p < n → k + length ls ≤ n → AllByRecursion (IsAmong n) (wanted p k ls)
+wanted_among : (n p k : ℕ) (ls : List Line) → p < n → k + length ls ≤ n → AllByRecursion (IsAmong n) (needed_words p k ls)
 wanted_among n p k [] hp hk = tt
-wanted_among n p k (l ∷ ls) hp hk = join_keeps (IsAmong n) (option_to_list (option_map (λ n. let w : PoolWord = record { position = p; line = k; name = n.0; value = n.1 } in w) (need l.statement))) (wanted p (k + 1) ls)
+wanted_among n p k (l ∷ ls) hp hk = join_keeps (IsAmong n) (option_to_list (option_map (λ n. let w : PoolWord = record { position = p; line = k; name = n.0; value = n.1 } in w) (need l.statement))) (needed_words p (k + 1) ls)
     (one_among n p k (need l.statement) hp (omega arith)) (wanted_among n p (k + 1) ls hp (omega arith))
 
 up_fewer : (ls : List Line) → length (up_to_end ls) ≤ length ls
@@ -104,7 +104,7 @@ up_fewer (l ∷ ls) = elim (ends_pool l) as (λ b. length (if b then [] else l �
 
 pool_among : (n k : ℕ) (p : Bool) (rest : List Line) → k < n → k + 1 + length rest ≤ n → AllByRecursion (IsAmong n) (if p then pool k rest else [])
 pool_among n k false rest hk h = tt
-pool_among n k true rest hk h = distinct_keeps (IsAmong n) (wanted k (k + 1) (up_to_end rest)) (wanted_among n k (k + 1) (up_to_end rest) hk (omega (arith, up_fewer rest)))
+pool_among n k true rest hk h = distinct_keeps (IsAmong n) (needed_words k (k + 1) (up_to_end rest)) (wanted_among n k (k + 1) (up_to_end rest) hk (omega (arith, up_fewer rest)))
 
 all_among : (n : ℕ) (before rest : List Line) → length before + length rest ≤ n → AllByRecursion (IsAmong n) (all_words before rest)
 all_among n before [] h = tt

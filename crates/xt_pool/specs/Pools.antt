@@ -56,12 +56,12 @@ up_to_end (l ∷ rest) = if ends_pool l then [] else l ∷ up_to_end rest
 
 -- The words that lines need, each by itself, in the order of the lines; the
 -- first line has the place k.
-abbrev pub wanted : ℕ → ℕ → List Line → List PoolWord
-wanted position k [] = []
-wanted position k (l ∷ rest) =
+abbrev pub needed_words : ℕ → ℕ → List Line → List PoolWord
+needed_words position k [] = []
+needed_words position k (l ∷ rest) =
     option_to_list (option_map
     (λ n. record { position = position; line = k; name = n.0; value = n.1 }) (need l.statement))
-    ++ wanted position (k + 1) rest
+    ++ needed_words position (k + 1) rest
 
 abbrev pub same_value : TermValue → TermValue → Bool
 same_value (Number m) (Number n) = m == n
@@ -87,7 +87,7 @@ distinct (x ∷ rest) = x ∷ filter (λ y. not (shares x y)) (distinct rest)
 -- The pool at the place k, which these lines follow: it holds what the lines need up to the
 -- next position or segment.
 abbrev pub pool : ℕ → List Line → List PoolWord
-pool k rest = distinct (wanted k (k + 1) (up_to_end rest))
+pool k rest = distinct (needed_words k (k + 1) (up_to_end rest))
 
 -- the pool of a line: only a `.literal_position` has one
 abbrev pub pool_at : List Line → Line → List Line → List PoolWord
@@ -109,11 +109,11 @@ is_open before =
     option_map_or (λ l. is_position l.statement) (find ends_pool (reverse before)) false
 
 -- the fault of a line, where a pool is open before it or is not
-abbrev pub unplaced : Bool → Line → Finding
-unplaced is_open l = fails (is_some (need l.statement) && not is_open) (at_statement l 3)
+abbrev pub missing_pool : Bool → Line → Finding
+missing_pool is_open l = fails (is_some (need l.statement) && not is_open) (at_statement l 3)
 
 abbrev pub has_no_pool : List Line → Line → List Line → Finding
-has_no_pool before l rest = unplaced (is_open before) l
+has_no_pool before l rest = missing_pool (is_open before) l
 
 -- the first literal without a position before it in its segment (kind 3)
 unfoldable pub pool_fault : List Line → Finding

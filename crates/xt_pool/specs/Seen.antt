@@ -19,8 +19,8 @@ abbrev pub has : BTreeSet (Bor (List Term)) → Expr → Bool
 has seen e = list_any (λ k. same_terms e k.now) seen.keys
 
 -- what a statement needs, as the definitions say it
-abbrev pub needed : Need → Option Placed × Expr
-needed n = (option_copied n.name, n.value.now)
+abbrev pub need_of : Need → Option Placed × Expr
+need_of n = (option_copied n.name, n.value.now)
 
 -- the word that a need makes
 abbrev pub word : ℕ → ℕ → Option Placed × Expr → PoolWord
@@ -37,15 +37,15 @@ Notes old w new = (q : Expr) → has new q ≡ (has old q || (is_none w.name && 
 -- ---- one line more, at the place k
 
 -- the words that the line adds, where the pool at this position is open
-abbrev pub added : Option ℕ → (Expr → Bool) → ℕ → Line → List PoolWord
-added None h k l = []
-added (Some p) h k l =
+abbrev pub words_of_line : Option ℕ → (Expr → Bool) → ℕ → Line → List PoolWord
+words_of_line None h k l = []
+words_of_line (Some p) h k l =
     option_map_or (λ n. if is_there h (word p k n) then [] else word p k n ∷ []) (need l.statement)
     []
 
 -- the position of the pool that is open after the line
-abbrev pub opened : Option ℕ → ℕ → Line → Option ℕ
-opened current k l =
+abbrev pub pool_after_line : Option ℕ → ℕ → Line → Option ℕ
+pool_after_line current k l =
     if is_position l.statement then Some k else (if is_segment l.statement then None else current)
 
 -- the line is a use of this expression, in a pool that is open

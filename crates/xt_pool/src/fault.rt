@@ -1,5 +1,5 @@
 ghost use Rattle.std.specs.Prelude.{◌≡◌};
-ghost use Rattle.xt_pool.specs.Pools.{pool_fault, unplaced};
+ghost use Rattle.xt_pool.specs.Pools.{pool_fault, missing_pool};
 ghost use Rattle.xt_pool.specs.Seen.{is_open_behind};
 
 use crate::need::{is_position, is_segment, need_of};
@@ -7,8 +7,8 @@ use xt_lex::AsmPlace;
 use xt_parse::Line;
 
 /// The fault of a line that needs a literal where no pool is open.
-fn unplaced(is_open: bool, line: &Line) -> Option<AsmPlace>
-    ensures { result ≡ unplaced is_open line.now }
+fn missing_pool(is_open: bool, line: &Line) -> Option<AsmPlace>
+    ensures { result ≡ missing_pool is_open line.now }
 {
     match need_of(&line.statement) {
         Some(_) if !is_open => Some(AsmPlace {
@@ -33,7 +33,7 @@ pub(crate) fn fault_of(lines: &[Line]) -> Option<AsmPlace>
 {
     let mut is_open = false;
     for line in lines {
-        if let Some(place) = unplaced(is_open, line) {
+        if let Some(place) = missing_pool(is_open, line) {
             return Some(place);
         }
         is_open = is_open_behind(is_open, line);

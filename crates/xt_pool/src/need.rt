@@ -1,7 +1,7 @@
 ghost use Rattle.std.specs.Prelude.{◌≡◌};
 ghost use Rattle.std.specs.Option.{option_copied, option_map};
 ghost use Rattle.xt_pool.specs.Pools.{pool_use, need, is_position, is_segment};
-ghost use Rattle.xt_pool.specs.Seen.{needed};
+ghost use Rattle.xt_pool.specs.Seen.{need_of};
 
 use xt_expr::Expr;
 use xt_parse::{Operand, Placed, Statement};
@@ -29,7 +29,7 @@ pub fn pool_use(operands: &[Operand]) -> Option<&Expr>
 
 /// What a statement needs of the pool, if anything.
 pub(crate) fn need_of(statement: &Statement) -> Option<Need<'_>>
-    ensures { option_map needed result ≡ need statement.now }
+    ensures { option_map need_of result ≡ need statement.now }
 {
     match statement {
         Statement::Literal(name, value) => Some(Need {

@@ -1,7 +1,7 @@
 ghost use Rattle.std.specs.Prelude.{◌≡◌, ◌++◌, ◌||◌, ◌<◌, ◌^◌, [], ◌∷◌, OnOk, IfOk, not, if◌then◌else◌, length};
 ghost use Rattle.xt_expr.specs.declared.expr.Expr.{Expr};
 ghost use Rattle.xt_pool.specs.Pools.{same_terms, words_of};
-ghost use Rattle.xt_pool.specs.Seen.{has, is_there, needed, word, Notes, added, opened, seen_after};
+ghost use Rattle.xt_pool.specs.Seen.{has, is_there, need_of, word, Notes, words_of_line, pool_after_line, seen_after};
 
 use crate::fault::fault_of;
 use crate::need::{Need, is_position, is_segment, need_of};
@@ -29,8 +29,8 @@ fn put<'a>(
     need: Need<'a>,
 ) -> Result<(), AllocError>
     ensures ok { OnOk result (words.new.items ≡ words.old.items
-        ++ (if is_there (has seen.old) (word position line (needed need.entry)) then [] else word position line (needed need.entry) ∷ [])) }
-    ensures notes { OnOk result (Notes seen.old (word position line (needed need.entry)) seen.new) }
+        ++ (if is_there (has seen.old) (word position line (need_of need.entry)) then [] else word position line (need_of need.entry) ∷ [])) }
+    ensures notes { OnOk result (Notes seen.old (word position line (need_of need.entry)) seen.new) }
 {
     let is_new = match need.name {
         Some(_) => true,
@@ -62,8 +62,8 @@ fn advance<'a>(
     place: u32,
     line: &'a Line,
 ) -> Result<Option<u32>, AllocError>
-    ensures words { OnOk result (words.new.items ≡ words.old.items ++ added current (has seen.old) place line.now) }
-    ensures now { IfOk result (λ now. now ≡ opened current place line.now) }
+    ensures words { OnOk result (words.new.items ≡ words.old.items ++ words_of_line current (has seen.old) place line.now) }
+    ensures now { IfOk result (λ now. now ≡ pool_after_line current place line.now) }
     ensures seen { OnOk result ((q : Expr) → has seen.new q ≡ seen_after current (has seen.old) line.now q) }
 {
     if is_position(&line.statement) {

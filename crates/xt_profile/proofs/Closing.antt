@@ -11,7 +11,7 @@ use Rattle.xt_frames.specs.Frames.{FrameState}
 use Rattle.xt_frames.specs.HandlerSteps.{Mode, Plain, mode_after}
 use Rattle.xt_discipline.specs.Modes.{step_mode}
 use Rattle.xt_frames.specs.Verdict.{Known, Judgement, judgement, opening_known}
-use Rattle.xt_frames.specs.Walked.{opened}
+use Rattle.xt_frames.specs.Walked.{opening_walked}
 use Rattle.xt_discipline.specs.declared.walk.Walk.{Walk}
 use Rattle.xt_discipline.specs.Verdicts.{judgement_in}
 use Rattle.xt_discipline.specs.Schedules.{schedule_in}
@@ -24,8 +24,8 @@ use Rattle.xt_profile.specs.declared.tally.Tally.{Tally}
 use Rattle.xt_profile.specs.Steps.{Step, frame_after, step_of, steps_from}
 use Rattle.xt_profile.specs.Keys.{Start, handlers, keys}
 use Rattle.xt_profile.specs.Counts.{lines, total}
-use Rattle.xt_profile.specs.Profiled.{CoreAddsUp, core_profile, cut, records, steps, turns_past}
-use Rattle.xt_profile.specs.Told.{IsTally, Origin, closed, from_here, origin}
+use Rattle.xt_profile.specs.Profiled.{CoreAddsUp, core_profile, count_before_cut, records, steps, turns_past}
+use Rattle.xt_profile.specs.CountedSteps.{IsTally, Origin, profile_of_steps, from_here, origin}
 use Rattle.xt_profile.specs.Follows.{AreCut, Follows, IsCut}
 use Rattle.xt_profile.specs.Cuts.{IsAtCut}
 use Rattle.xt_profile.proofs.Cutting.{cut0_is, cut1_is}
@@ -41,10 +41,10 @@ abbrev pub from : ℕ → ℕ → Origin
 from d pc = origin pc d []
 
 pub follows_none : (d : ℕ) (w : Walk) (segments : List Segment) (image : Image) (r : Run) (cs : List ℕ) (xs ys : List StepRecord) (t0 t1 : Tally) → IsOpened w segments image.entry r.options → IsTally (from d image.entry) [] t0 → IsTally (from d r.options.entry1) [] t1
-    → Follows (constant_byte w.code) (opened 0 image.entry r.options).bounds (opened 1 r.options.entry1 r.options).bounds (opening_known (opened 0 image.entry r.options).state (opened 1 r.options.entry1 r.options).state) cs (from d image.entry) (from d r.options.entry1) xs ys w 0 xs ys t0 t1
+    → Follows (constant_byte w.code) (opening_walked 0 image.entry r.options).bounds (opening_walked 1 r.options.entry1 r.options).bounds (opening_known (opening_walked 0 image.entry r.options).state (opening_walked 1 r.options.entry1 r.options).state) cs (from d image.entry) (from d r.options.entry1) xs ys w 0 xs ys t0 t1
 follows_none d w segments image r cs xs ys t0 t1 o h0 h1 =
-    let a = opened 0 image.entry r.options in
-    let b = opened 1 r.options.entry1 r.options in
+    let a = opening_walked 0 image.entry r.options in
+    let b = opening_walked 1 r.options.entry1 r.options in
     let k = opening_known a.state b.state in
     record {
       reach = record { known = k; knows = o.knows; steps = stays (k.steps0 + k.steps1); code_is = refl; judged = refl };
@@ -83,20 +83,20 @@ pub adds_up : (core d : ℕ) (image : Image) (r : Run) (count : ℕ) (p : CorePr
 adds_up core d image r count p e is =
     let o = (from d (entry_of core image r.options)).start in
     let all = steps core image r in
-    let n = cut core image r in
+    let n = count_before_cut core image r in
     let xs = records core image r in
-    let f = (opened core (entry_of core image r.options) r.options).state in
+    let f = (opening_walked core (entry_of core image r.options) r.options).state in
     subst (λ (q : CoreProfile). CoreAddsUp q count) (sym e)
     (sum_is (total (lines (keys o all))) (length (keys o all)) (handlers all) (length all) (length (take n xs)) (length xs) (length (drop n xs)) count (total_is (keys o all)) (keys_count o all)
     (steps_length (code_of image) Plain f [] (take n xs) ∙ none_first (length (take n xs))) (both_parts n xs) is)
 
 -- ---- a core's profile
 -- the steps that were counted, in the words of the definition
-past_is : (core : ℕ) (image : Image) (r : Run) (code : ℕ → ℕ) (f : FrameState) (xs : List StepRecord) (n : ℕ) (o : Origin) (t : Tally) → code ≡ code_of image → xs ≡ records core image r → f ≡ (opened core (entry_of core image r.options) r.options).state
-    → n ≡ cut core image r → (h : IsCut code f xs n o t) → h.past ≡ steps core image r
+past_is : (core : ℕ) (image : Image) (r : Run) (code : ℕ → ℕ) (f : FrameState) (xs : List StepRecord) (n : ℕ) (o : Origin) (t : Tally) → code ≡ code_of image → xs ≡ records core image r → f ≡ (opening_walked core (entry_of core image r.options) r.options).state
+    → n ≡ count_before_cut core image r → (h : IsCut code f xs n o t) → h.past ≡ steps core image r
 past_is core image r code f xs n o t code_is xs_is f_is n_is h =
     let S : (ℕ → ℕ) → FrameState → List StepRecord → ℕ → List Step = λ c g ys m. steps_from c Plain g [] (take m ys) in
-    let opening = (opened core (entry_of core image r.options) r.options).state in
+    let opening = (opening_walked core (entry_of core image r.options) r.options).state in
     sym h.steps_are
     ∙ (ap (λ (c : ℕ → ℕ). S c f xs n) code_is
     ∙ (ap (λ (g : FrameState). S (code_of image) g xs n) f_is
@@ -115,18 +115,18 @@ le_is : (c s n l m : ℕ) → c ≡ s → s ≡ n → n ≤ l → l ≡ m → c 
 le_is c s n l m e f g h = omega (arith, e, f, g, h)
 
 -- a core at the cut
-at_cut_is : (core d : ℕ) (image : Image) (r : Run) (code : ℕ → ℕ) (f : FrameState) (xs : List StepRecord) (n count : ℕ) (t : Tally) (c : AtCut) → code ≡ code_of image → xs ≡ records core image r → f ≡ (opened core (entry_of core image r.options) r.options).state
-    → n ≡ cut core image r → count ≡ length (records core image r) → IsCut code f xs n (from d (entry_of core image r.options)) t
-    → ((o : Origin) (past : List Step) → IsTally o past t → c.profile ≡ closed o past (count - t.steps)) → c.cut ≡ t.steps → ((o : Origin) (past : List Step) → IsTally o past t → IsTally (from_here o past) past c.tally) → c.tally.steps ≡ 0
+at_cut_is : (core d : ℕ) (image : Image) (r : Run) (code : ℕ → ℕ) (f : FrameState) (xs : List StepRecord) (n count : ℕ) (t : Tally) (c : AtCut) → code ≡ code_of image → xs ≡ records core image r → f ≡ (opening_walked core (entry_of core image r.options) r.options).state
+    → n ≡ count_before_cut core image r → count ≡ length (records core image r) → IsCut code f xs n (from d (entry_of core image r.options)) t
+    → ((o : Origin) (past : List Step) → IsTally o past t → c.profile ≡ profile_of_steps o past (count - t.steps)) → c.cut ≡ t.steps → ((o : Origin) (past : List Step) → IsTally o past t → IsTally (from_here o past) past c.tally) → c.tally.steps ≡ 0
     → IsAtCut core d image r count c
 at_cut_is core d image r code f xs n count t c code_is xs_is f_is n_is count_is h profile cut_eq goes none =
     let o = from d (entry_of core image r.options) in
     let all = records core image r in
     let p = past_is core image r code f xs n o t code_is xs_is f_is n_is h in
     let steps_is : t.steps ≡ n = steps_whole o h.past t refl h.tally.counted ∙ h.count_is in
-    let after : count - t.steps ≡ length (drop (cut core image r) all) = ap₂ (λ (a b : ℕ). a - b) count_is (steps_is ∙ n_is) ∙ sym (length-drop (cut core image r) all) in
+    let after : count - t.steps ≡ length (drop (count_before_cut core image r) all) = ap₂ (λ (a b : ℕ). a - b) count_is (steps_is ∙ n_is) ∙ sym (length-drop (count_before_cut core image r) all) in
     let whole : c.profile ≡ core_profile core d image r = profile o h.past h.tally
-    ∙ (ap₂ (λ (q : List Step) (a : ℕ). closed o q a) p after ∙ ap (λ (y : CoreTurns). with_after y (length (drop (cut core image r) all))) (turns_whole o.start (steps core image r))) in
+    ∙ (ap₂ (λ (q : List Step) (a : ℕ). profile_of_steps o q a) p after ∙ ap (λ (y : CoreTurns). with_after y (length (drop (count_before_cut core image r) all))) (turns_whole o.start (steps core image r))) in
     record {
       profile_is = whole;
       adds_up = adds_up core d image r count c.profile whole count_is;
@@ -138,31 +138,31 @@ at_cut_is core d image r code f xs n count t c code_is xs_is f_is n_is count_is 
 
 -- the judgement is that of the run
 judged_is : (w : Walk) (segments : List Segment) (image : Image) (r : Run) (xs ys : List StepRecord) → w.code ≡ segments → segments ≡ image.segments → xs ≡ records 0 image r → ys ≡ records 1 image r
-    → judgement (constant_byte w.code) (opened 0 image.entry r.options).bounds (opened 1 r.options.entry1 r.options).bounds (schedule_in r) xs ys (opening_known (opened 0 image.entry r.options).state (opened 1 r.options.entry1 r.options).state)
+    → judgement (constant_byte w.code) (opening_walked 0 image.entry r.options).bounds (opening_walked 1 r.options.entry1 r.options).bounds (schedule_in r) xs ys (opening_known (opening_walked 0 image.entry r.options).state (opening_walked 1 r.options.entry1 r.options).state)
     ≡ judgement_in image r (records 0 image r) (records 1 image r)
 judged_is w segments image r xs ys a b e f =
-    let J : List Segment → List StepRecord → List StepRecord → Judgement = λ s us vs. judgement (constant_byte s) (opened 0 image.entry r.options).bounds (opened 1 r.options.entry1 r.options).bounds (schedule_in r) us vs (opening_known (opened 0 image.entry r.options).state (opened 1 r.options.entry1 r.options).state) in
+    let J : List Segment → List StepRecord → List StepRecord → Judgement = λ s us vs. judgement (constant_byte s) (opening_walked 0 image.entry r.options).bounds (opening_walked 1 r.options.entry1 r.options).bounds (schedule_in r) us vs (opening_known (opening_walked 0 image.entry r.options).state (opening_walked 1 r.options.entry1 r.options).state) in
     ap (λ (s : List Segment). J s xs ys) (a ∙ b) ∙ (ap (λ (us : List StepRecord). J image.segments us ys) e ∙ ap (λ (vs : List StepRecord). J image.segments (records 0 image r) vs) f)
 
 abbrev pub Cut : ℕ → Walk → Image → Run → List StepRecord → List StepRecord → Tally → Tally → Type 0
 Cut d w image r xs ys t0 t1 =
-    AreCut (constant_byte w.code) (opening_known (opened 0 image.entry r.options).state (opened 1 r.options.entry1 r.options).state) (from d image.entry) (from d r.options.entry1) xs ys
-    (judgement (constant_byte w.code) (opened 0 image.entry r.options).bounds (opened 1 r.options.entry1 r.options).bounds (schedule_in r) xs ys (opening_known (opened 0 image.entry r.options).state (opened 1 r.options.entry1 r.options).state))
+    AreCut (constant_byte w.code) (opening_known (opening_walked 0 image.entry r.options).state (opening_walked 1 r.options.entry1 r.options).state) (from d image.entry) (from d r.options.entry1) xs ys
+    (judgement (constant_byte w.code) (opening_walked 0 image.entry r.options).bounds (opening_walked 1 r.options.entry1 r.options).bounds (schedule_in r) xs ys (opening_known (opening_walked 0 image.entry r.options).state (opening_walked 1 r.options.entry1 r.options).state))
     t0 t1
 
 pub zero_is : (d : ℕ) (w : Walk) (segments : List Segment) (image : Image) (r : Run) (xs ys : List StepRecord) (t0 t1 : Tally) (c : AtCut) → w.code ≡ segments → segments ≡ image.segments → xs ≡ records 0 image r → ys ≡ records 1 image r → IsRunOf image r
-    → Cut d w image r xs ys t0 t1 → ((o : Origin) (past : List Step) → IsTally o past t0 → c.profile ≡ closed o past (r.trace0.count - t0.steps)) → c.cut ≡ t0.steps → ((o : Origin) (past : List Step) → IsTally o past t0 → IsTally (from_here o past) past c.tally)
+    → Cut d w image r xs ys t0 t1 → ((o : Origin) (past : List Step) → IsTally o past t0 → c.profile ≡ profile_of_steps o past (r.trace0.count - t0.steps)) → c.cut ≡ t0.steps → ((o : Origin) (past : List Step) → IsTally o past t0 → IsTally (from_here o past) past c.tally)
     → c.tally.steps ≡ 0 → IsAtCut 0 d image r r.trace0.count c
 zero_is d w segments image r xs ys t0 t1 c a b e f run h profile cut_eq goes none =
     let j = judged_is w segments image r xs ys a b e f in
-    at_cut_is 0 d image r (constant_byte w.code) (opened 0 image.entry r.options).state xs _ r.trace0.count t0 c (ap constant_byte (a ∙ b)) e refl (ap (λ (v : Judgement). v.known.steps0) j ∙ cut0_is image r) run.trace0.count_is h.core0 profile cut_eq goes none
+    at_cut_is 0 d image r (constant_byte w.code) (opening_walked 0 image.entry r.options).state xs _ r.trace0.count t0 c (ap constant_byte (a ∙ b)) e refl (ap (λ (v : Judgement). v.known.steps0) j ∙ cut0_is image r) run.trace0.count_is h.core0 profile cut_eq goes none
 
 pub one_is : (d : ℕ) (w : Walk) (segments : List Segment) (image : Image) (r : Run) (xs ys : List StepRecord) (t0 t1 : Tally) (c : AtCut) → w.code ≡ segments → segments ≡ image.segments → xs ≡ records 0 image r → ys ≡ records 1 image r → IsRunOf image r
-    → Cut d w image r xs ys t0 t1 → ((o : Origin) (past : List Step) → IsTally o past t1 → c.profile ≡ closed o past (r.trace1.count - t1.steps)) → c.cut ≡ t1.steps → ((o : Origin) (past : List Step) → IsTally o past t1 → IsTally (from_here o past) past c.tally)
+    → Cut d w image r xs ys t0 t1 → ((o : Origin) (past : List Step) → IsTally o past t1 → c.profile ≡ profile_of_steps o past (r.trace1.count - t1.steps)) → c.cut ≡ t1.steps → ((o : Origin) (past : List Step) → IsTally o past t1 → IsTally (from_here o past) past c.tally)
     → c.tally.steps ≡ 0 → IsAtCut 1 d image r r.trace1.count c
 one_is d w segments image r xs ys t0 t1 c a b e f run h profile cut_eq goes none =
     let j = judged_is w segments image r xs ys a b e f in
-    at_cut_is 1 d image r (constant_byte w.code) (opened 1 r.options.entry1 r.options).state ys _ r.trace1.count t1 c (ap constant_byte (a ∙ b)) f refl (ap (λ (v : Judgement). v.known.steps1) j ∙ cut1_is image r) run.trace1.count_is h.core1 profile cut_eq goes none
+    at_cut_is 1 d image r (constant_byte w.code) (opening_walked 1 r.options.entry1 r.options).state ys _ r.trace1.count t1 c (ap constant_byte (a ∙ b)) f refl (ap (λ (v : Judgement). v.known.steps1) j ∙ cut1_is image r) run.trace1.count_is h.core1 profile cut_eq goes none
 
 -- the steps that were counted are no more than all
 steps_le : (s p n l c : ℕ) → s ≤ p → p ≡ n → n ≤ l → c ≡ l → s ≤ c
@@ -181,6 +181,6 @@ pub cut_is : (d : ℕ) (w : Walk) (segments : List Segment) (image : Image) (r :
     → ((b0 b1 : Bounds) (k : Known) (e0 e1 : Origin) → Follows (constant_byte w.code) b0 b1 k (schedule_in r) e0 e1 xs ys w 0 xs ys t0 t1 → AreCut (constant_byte w.code) k e0 e1 xs ys (judgement (constant_byte w.code) b0 b1 (schedule_in r) xs ys k) u0 u1)
     → Cut d w image r xs ys u0 u1
 cut_is d w segments image r xs ys t0 t1 u0 u1 o h0 h1 walked =
-    let a = opened 0 image.entry r.options in
-    let b = opened 1 r.options.entry1 r.options in
+    let a = opening_walked 0 image.entry r.options in
+    let b = opening_walked 1 r.options.entry1 r.options in
     walked a.bounds b.bounds (opening_known a.state b.state) (from d image.entry) (from d r.options.entry1) (follows_none d w segments image r (schedule_in r) xs ys t0 t1 o h0 h1)

@@ -25,8 +25,8 @@ use Rattle.xt_discipline.specs.Verdicts.{judgement_in, opened0, opened1}
 use Rattle.xt_discipline.specs.Schedules.{schedule_in}
 use Rattle.xt_core.specs.Runs as cores
 use Rattle.xt_core.specs.Runs.{IsRunOf, code_of, opening_of}
-use Rattle.xt_profile.specs.Laws.{IsOnlyEnd, ProfileEndsAtFirstBreach, WithoutBreachAllIsCounted}
-use Rattle.xt_profile.specs.Profiled.{course_of, cut, end_of, records, turns_seen}
+use Rattle.xt_profile.specs.ProfileLaws.{IsOnlyEnd, ProfileEndsAtFirstBreach, WithoutBreachAllIsCounted}
+use Rattle.xt_profile.specs.Profiled.{course_of, count_before_cut, end_of, records, turns_seen}
 
 -- ---- what the walk has gone through
 
@@ -198,10 +198,10 @@ module _ (image : Image) (r : Run) where
   found_here : IsJudgement (course_of image r) judged
   found_here = walk_finds (code_of image) (opened0 image r.options).bounds (opened1 r.options).bounds (schedule_in r) (records 0 image r) (records 1 image r) (opened0 image r.options).state (opened1 r.options).state
 
-  pub cut0_is : judged.known.steps0 ≡ cut 0 image r
+  pub cut0_is : judged.known.steps0 ≡ count_before_cut 0 image r
   cut0_is = seen0_is (course_of image r) judged went_here found_here
 
-  pub cut1_is : judged.known.steps1 ≡ cut 1 image r
+  pub cut1_is : judged.known.steps1 ≡ count_before_cut 1 image r
   cut1_is = seen1_is (course_of image r) judged went_here found_here
 
 pub ends_at_first : ProfileEndsAtFirstBreach
@@ -232,10 +232,10 @@ module _ (image : Image) (r : Run) (run : IsRunOf image r) where
       let P = processor (code_of image) in
       let o = opening_of image r.options in
       let is : runs.IsRunOf P o whole = record { legal = run.legal; cores = run.cores; trace0 = refl; trace1 = refl; calls0 = run.calls0; calls1 = run.calls1 } in
-      walk_all P (schedule_in r) (runs.opened o) (records 0 image r) (records 1 image r)
-      (subst (λ (cs : List ℕ). IsWalk P cs (runs.opened o) (records 0 image r) (records 1 image r)) schedule_is (own_walk P o whole is))
+      walk_all P (schedule_in r) (runs.world_at_start o) (records 0 image r) (records 1 image r)
+      (subst (λ (cs : List ℕ). IsWalk P cs (runs.world_at_start o) (records 0 image r) (records 1 image r)) schedule_is (own_walk P o whole is))
 
-  before_all : (core p : ℕ) → IsFirstBreach (course_of image r) p None → cut core image r ≡ length (records_of core (course_of image r).turns)
+  before_all : (core p : ℕ) → IsFirstBreach (course_of image r) p None → count_before_cut core image r ≡ length (records_of core (course_of image r).turns)
   before_all core p h =
       let c = course_of image r in
       let there : end_of image r ≡ length c.turns = sym ((ends_at_first image r).only p None h) ∙ h.here in

@@ -14,8 +14,8 @@ use Rattle.xt_discipline.specs.declared.walk.Walk.{Walk}
 use Rattle.xt_discipline.specs.Modes.{step_mode}
 use Rattle.xt_profile.specs.declared.counting.Made.{Made}
 use Rattle.xt_profile.specs.declared.tally.Tally.{Tally}
-use Rattle.xt_profile.specs.Steps.{Step, frame_after, standing, steps_from}
-use Rattle.xt_profile.specs.Told.{IsTally, Origin}
+use Rattle.xt_profile.specs.Steps.{Step, frame_after, frames_standing, steps_from}
+use Rattle.xt_profile.specs.CountedSteps.{IsTally, Origin}
 use Rattle.xt_profile.specs.Follows.{AreCut, Follows, IsCore, IsCut, IsMade, IsPassed, IsStep}
 use Rattle.xt_profile.proofs.Telling.{steps_within}
 
@@ -44,7 +44,7 @@ at_step pc mode before after = record { pc = pc; mode = mode; before = before; a
 -- the step of a turn that was made past these steps
 abbrev pub step_past : Made → List Step → Step
 step_past made past =
-    record { pc = made.pc; mode = made.mode; before = standing past; after = made.after }
+    record { pc = made.pc; mode = made.mode; before = frames_standing past; after = made.after }
 
 pub core_goes : (code : ℕ → ℕ) (f : FrameState) (xs left left2 : List StepRecord) (n : ℕ) (st new : Standing) (past : List Step) (x : StepRecord) (made : Made)
     → IsCore code f xs left n st past → IsStep code x st new left left2 made → IsCore code f xs left2 (suc n) new (step_past made past ∷ past)
@@ -61,7 +61,7 @@ core_goes code f xs left left2 n st new past x made h s =
           ∙ (h.steps_are (suc m)
           ∙ (ap (λ (l : List StepRecord). steps_from code st.mode st.frame past (take (suc m) l)) s.records_are
           ∙ (ap (λ (d : ℕ). steps_from code (mode_after code st.mode x) g (at_step x.pc m0 d (length g.frames) ∷ past) (take m left2)) (sym h.depth_is)
-          ∙ ap₂ (λ (y : before.Mode) (z : FrameState). steps_from code y z (at_step x.pc m0 (standing past) (length z.frames) ∷ past) (take m left2)) (sym s.next.mode_is) (sym s.next.frame_is))));
+          ∙ ap₂ (λ (y : before.Mode) (z : FrameState). steps_from code y z (at_step x.pc m0 (frames_standing past) (length z.frames) ∷ past) (take m left2)) (sym s.next.mode_is) (sym s.next.frame_is))));
     })
 
 -- a core that makes no turn

@@ -17,7 +17,7 @@ use Rattle.xt_discipline.specs.Walks.{IsKnown, IsTurned, Knows, mode_in}
 use Rattle.xt_discipline.specs.declared.side.Side.{Side}
 use Rattle.xt_profile.specs.declared.counting.Made.{Made}
 use Rattle.xt_profile.specs.Follows.{IsMade, IsNext, IsStep, depth_in}
-use Rattle.xt_profile.specs.Peeks.{peeked}
+use Rattle.xt_profile.specs.Peeks.{pc_and_kind}
 use Rattle.xt_profile.proofs.Passing.{broken_known, past_0_is, past_1_is}
 
 -- ---- a turn that was made
@@ -36,10 +36,10 @@ abbrev pub made_of : ℕ → Mode → ℕ → Made
 made_of pc mode after = record { pc = pc; mode = mode; after = after }
 
 stepped : (code : ℕ → ℕ) (x : StepRecord) (old new : Standing) (xs left : List StepRecord) (pc after : ℕ) (kind : StepKind) (mode : Mode) (m : before.Mode) → xs ≡ x ∷ left → IsNext code old x new
-    → Some (pc, kind) ≡ peeked xs → mode ≡ step_mode m kind → m ≡ old.mode → after ≡ length new.frame.frames
+    → Some (pc, kind) ≡ pc_and_kind xs → mode ≡ step_mode m kind → m ≡ old.mode → after ≡ length new.frame.frames
     → IsStep code x old new xs left (made_of pc mode after)
 stepped code x old new xs left pc after kind mode m are next seen is m_is a =
-    let whole : Some (pc, kind) ≡ Some (x.pc, x.kind) = seen ∙ ap peeked are in
+    let whole : Some (pc, kind) ≡ Some (x.pc, x.kind) = seen ∙ ap pc_and_kind are in
     let pc_is : pc ≡ x.pc = ap (pair_pc pc) whole in
     let kind_is : kind ≡ x.kind = ap (pair_kind kind) whole in
     let mode_is : mode ≡ step_mode old.mode x.kind = is ∙ (ap (λ (k : StepKind). step_mode m k) kind_is ∙ ap (λ (y : before.Mode). step_mode y x.kind) m_is) in
@@ -52,7 +52,7 @@ stepped code x old new xs left pc after kind mode m are next seen is m_is a =
     }
 
 pub made_is : (code : ℕ → ℕ) (b0 b1 : Bounds) (w new : Walk) (k : Known) (core : ℕ) (xs ys xs2 ys2 : List StepRecord) (pc after : ℕ) (kind : StepKind) (mode : Mode) (u : Unit) → Knows w b0 b1 k
-    → IsTurned code b0 b1 core k xs ys new xs2 ys2 (Ok u) → IsTaken core xs ys xs2 ys2 → Some (pc, kind) ≡ peeked (records_left core xs ys)
+    → IsTurned code b0 b1 core k xs ys new xs2 ys2 (Ok u) → IsTaken core xs ys xs2 ys2 → Some (pc, kind) ≡ pc_and_kind (records_left core xs ys)
     → mode ≡ step_mode (mode_in core w) kind → after ≡ depth_in core new → IsMade code b0 b1 core k xs ys new xs2 ys2 (Some (made_of pc mode after))
 made_is code b0 b1 w new k zero xs ys xs2 ys2 pc after kind mode u h t taken seen is a =
     let n = t.0 in
@@ -73,7 +73,7 @@ made_is code b0 b1 w new k (suc core) xs ys xs2 ys2 pc after kind mode u h t tak
 
 -- as the code finds it
 pub made_by : (code : ℕ → ℕ) (b0 b1 : Bounds) (w new : Walk) (k : Known) (core : ℕ) (xs ys xs1 ys1 xs2 ys2 : List StepRecord) (pc after : ℕ) (kind : StepKind) (mode : Mode) (p : Option (ℕ × StepKind)) (out : Result Unit Judged) (u : Unit)
-    → xs1 ≡ xs → ys1 ≡ ys → out ≡ Ok u → Knows w b0 b1 k → IsTurned code b0 b1 core k xs1 ys1 new xs2 ys2 out → OnOk out (IsTaken core xs1 ys1 xs2 ys2) → p ≡ Some (pc, kind) → p ≡ peeked (records_left core xs ys)
+    → xs1 ≡ xs → ys1 ≡ ys → out ≡ Ok u → Knows w b0 b1 k → IsTurned code b0 b1 core k xs1 ys1 new xs2 ys2 out → OnOk out (IsTaken core xs1 ys1 xs2 ys2) → p ≡ Some (pc, kind) → p ≡ pc_and_kind (records_left core xs ys)
     → mode ≡ step_mode (mode_in core w) kind → after ≡ depth_in core new → IsMade code b0 b1 core k xs ys new xs2 ys2 (Some (made_of pc mode after))
 made_by code b0 b1 w new k core xs ys xs1 ys1 xs2 ys2 pc after kind mode p out u same0 same1 is h t taken seen peek m a =
     let ok : Result Unit Judged = Ok u in
@@ -88,7 +88,7 @@ abbrev IsNothing : Option (ℕ × StepKind) → Type 0
 IsNothing None = Unit {0}
 IsNothing (Some p) = ⊥
 
-no_record : (xs : List StepRecord) → None ≡ peeked xs → xs ≡ []
+no_record : (xs : List StepRecord) → None ≡ pc_and_kind xs → xs ≡ []
 no_record [] e = refl
 no_record (x ∷ xs) e = absurd (subst IsNothing e tt)
 
@@ -96,7 +96,7 @@ none_left : (code : ℕ → ℕ) (b0 b1 : Bounds) (k : Known) (core : ℕ) (xs y
 none_left code b0 b1 k zero xs ys e cs = ap (λ (l : List StepRecord). (judgement code b0 b1 (0 ∷ cs) l ys k).known) e
 none_left code b0 b1 k (suc core) xs ys e cs = ap (λ (l : List StepRecord). (judgement code b0 b1 (suc core ∷ cs) xs l k).known) e
 
-pub none_made : (code : ℕ → ℕ) (b0 b1 : Bounds) (new : Walk) (k : Known) (core : ℕ) (xs ys xs2 ys2 : List StepRecord) → None ≡ peeked (records_left core xs ys) → IsMade code b0 b1 core k xs ys new xs2 ys2 None
+pub none_made : (code : ℕ → ℕ) (b0 b1 : Bounds) (new : Walk) (k : Known) (core : ℕ) (xs ys xs2 ys2 : List StepRecord) → None ≡ pc_and_kind (records_left core xs ys) → IsMade code b0 b1 core k xs ys new xs2 ys2 None
 none_made code b0 b1 new k core xs ys xs2 ys2 e = none_left code b0 b1 k core xs ys (no_record (records_left core xs ys) e)
 
 abbrev IsBroken : Breach → Judged → Type 0

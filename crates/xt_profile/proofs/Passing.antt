@@ -4,11 +4,11 @@ use Rattle.xt_trace.specs.declared.record.StepRecord.{StepRecord}
 use Rattle.xt_frames.specs.declared.kinds.Breach.{Breach}
 use Rattle.xt_frames.specs.declared.kinds.BreachKind.{BreachKind}
 use Rattle.xt_frames.specs.Breaches.{Bounds, breach_of, inputs_of, window_breach}
-use Rattle.xt_frames.specs.FrameStep.{laid}
+use Rattle.xt_frames.specs.FrameStep.{with_inputs}
 use Rattle.xt_frames.specs.HandlerSteps.{Mode, Plain, Handles, Nests, is_window, mode_after}
 use Rattle.xt_frames.specs.Nesting.{current, is_nesting}
 use Rattle.xt_frames.specs.SaveAreas.{is_live}
-use Rattle.xt_frames.specs.Judging.{Standing, Seen, Handled, Judges, Breaks, handled, live_of, seen_in, seen_judged, seen_step, seen_window, step_on}
+use Rattle.xt_frames.specs.Judging.{Standing, Seen, Handled, Judges, Breaks, handled_record, live_of, seen_in, seen_judged, seen_step, seen_window, step_on}
 use Rattle.xt_frames.specs.Verdict.{Known, Judgement, judgement, passed_0, passed_1, seen_0, seen_1}
 use Rattle.xt_discipline.specs.declared.step_modes.Mode as declared
 use Rattle.xt_discipline.specs.declared.step_modes.Mode.TheVariants as step
@@ -32,17 +32,17 @@ window_passes code st x mode frame None = record { mode_is = mode; frame_is = fr
 window_passes code st x mode frame (Some kind) = tt
 
 plain_passes : (code : ℕ → ℕ) (b : Bounds) (st : Standing) (others stale : ℕ → Bool) (x : StepRecord) → st.mode ≡ Plain → (w : Bool) → is_window x.kind ≡ w
-    → Passes code st x (if w then seen_window (window_breach code x.kind (laid (inputs_of x) (current st.frame))) st.frame else seen_judged code b st others stale false x)
+    → Passes code st x (if w then seen_window (window_breach code x.kind (with_inputs (inputs_of x) (current st.frame))) st.frame else seen_judged code b st others stale false x)
 plain_passes code b st others stale x m true w =
     let mode : mode_after code st.mode x ≡ Handles = ap (λ (y : Mode). mode_after code y x) m ∙ ap (λ (z : Bool). if z then Handles else Plain) w in
     let is : step_mode st.mode x.kind ≡ step.Handler = ap (λ (y : Mode). step_mode y x.kind) m ∙ ap (λ (z : Bool). if z then step.Handler else step.Plain) w in
-    window_passes code st x (sym mode) (sym (ap (λ (y : declared.Mode). frame_after code y x st.frame) is)) (window_breach code x.kind (laid (inputs_of x) (current st.frame)))
+    window_passes code st x (sym mode) (sym (ap (λ (y : declared.Mode). frame_after code y x st.frame) is)) (window_breach code x.kind (with_inputs (inputs_of x) (current st.frame)))
 plain_passes code b st others stale x m false w =
     let is : step_mode st.mode x.kind ≡ step.Plain = ap (λ (y : Mode). step_mode y x.kind) m ∙ ap (λ (z : Bool). if z then step.Handler else step.Plain) w in
     judged_passes code b st others stale false x (ap (λ (y : declared.Mode). frame_after code y x st.frame) is) (breach_of b st.fresh code (live_of b st.frame others) stale false x st.frame)
 
 handles_passes : (code : ℕ → ℕ) (b : Bounds) (st : Standing) (others stale : ℕ → Bool) (x : StepRecord) → st.mode ≡ Handles → (w : Bool) → is_nesting x.kind ≡ w
-    → Passes code st x (if w then seen_judged code b st others stale true x else handled code st x)
+    → Passes code st x (if w then seen_judged code b st others stale true x else handled_record code st x)
 handles_passes code b st others stale x m true w =
     let is : step_mode st.mode x.kind ≡ step.Nested = ap (λ (y : Mode). step_mode y x.kind) m ∙ ap (λ (z : Bool). if z then step.Nested else step.Handler) w in
     judged_passes code b st others stale true x (ap (λ (y : declared.Mode). frame_after code y x st.frame) is) (breach_of b st.fresh code (live_of b st.frame others) stale true x st.frame)

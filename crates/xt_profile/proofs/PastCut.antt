@@ -11,7 +11,7 @@ use Rattle.xt_map.specs.History.{replies_of}
 use Rattle.xt_exec.specs.Chips.{processor}
 use Rattle.xt_frames.specs.HandlerSteps as before
 use Rattle.xt_frames.specs.HandlerSteps.{mode_after}
-use Rattle.xt_handlers.specs.Answers.{handlers_of}
+use Rattle.xt_handlers.specs.CheckAnswers.{handlers_of}
 use Rattle.xt_discipline.specs.declared.step_modes.Mode.{Mode}
 use Rattle.xt_discipline.specs.declared.step_modes.Mode.TheVariants.{Plain, Handler, Nested}
 use Rattle.xt_discipline.specs.Modes.{modes_from, modes_of}
@@ -26,14 +26,14 @@ use Rattle.xt_profile.specs.declared.profiles.CoreTurns.{CoreTurns}
 use Rattle.xt_profile.specs.declared.profiles.Profile.TheVariants.{Unchecked, Cores}
 use Rattle.xt_profile.specs.declared.profiles.WholeProfile.{WholeProfile}
 use Rattle.xt_profile.specs.declared.tally.Tally.{Tally}
-use Rattle.xt_profile.specs.Steps.{Step, standing}
-use Rattle.xt_profile.specs.After.{calls_after, change_at, changed, in_front, later_from}
-use Rattle.xt_profile.specs.Keys.{Start, functions, handlers, keys, shown, with_handler, with_key}
+use Rattle.xt_profile.specs.Steps.{Step, frames_standing}
+use Rattle.xt_profile.specs.After.{calls_after, change_at, step_with_change, in_front, later_from}
+use Rattle.xt_profile.specs.Keys.{Start, functions, handlers, keys, shown_key, with_handler, with_key}
 use Rattle.xt_profile.specs.Counts.{lines, total}
-use Rattle.xt_profile.specs.Profiled.{CoreAddsUp, LaterAddUp, TurnsAddUp, WholeAddsUp, all_steps, core_after, core_profile, cut, first_steps, later_at, profile_of, records, start, steps, turns_past, whole_of}
-use Rattle.xt_profile.specs.Told.{IsTally, Origin, origin}
+use Rattle.xt_profile.specs.Profiled.{CoreAddsUp, LaterAddUp, TurnsAddUp, WholeAddsUp, all_steps, core_after, core_profile, count_before_cut, first_steps, later_at, profile_of, records, start, steps, turns_past, whole_of}
+use Rattle.xt_profile.specs.CountedSteps.{IsTally, Origin, origin}
 use Rattle.xt_profile.proofs.Putting.{total_is}
-use Rattle.xt_profile.specs.Laws.{functions_after}
+use Rattle.xt_profile.specs.ProfileLaws.{functions_after}
 use Rattle.xt_profile.proofs.Pushing.{functions_length, functions_same}
 use Rattle.xt_profile.proofs.Telling.{call_is, front_is, keys_case, return_is}
 
@@ -67,12 +67,12 @@ taken x [] rest e f = absurd (subst IsSome e tt)
 taken x (y ∷ ys) rest e f = ap₂ (λ (a : StepRecord) (l : List StepRecord). a ∷ l) (sym (ap (or x) e)) (sym f)
 
 pub goes_one : (code : ℕ → ℕ) (o : Origin) (past : List Step) (modes : List Mode) (xs : List StepRecord) (ms ms2 : List Mode) (left left2 : List StepRecord) (t new : Tally) (m : Mode) (x : StepRecord) (change : Change) → ms ≡ m ∷ ms2 → left ≡ x ∷ left2 → change ≡ change_at code m x
-    → Going code o past modes xs ms left t → ((q : Origin) (now : List Step) → IsTally q now t → IsTally q (changed x.pc m change now ∷ now) new) → Going code o past modes xs ms2 left2 new
+    → Going code o past modes xs ms left t → ((q : Origin) (now : List Step) → IsTally q now t → IsTally q (step_with_change x.pc m change now ∷ now) new) → Going code o past modes xs ms2 left2 new
 goes_one code o past modes xs ms ms2 left left2 t new m x change ms_is left_is change_is h tells =
     let now = h.0 in
-    let next = changed x.pc m (change_at code m x) now ∷ now in (
+    let next = step_with_change x.pc m (change_at code m x) now ∷ now in (
       next,
-      subst (λ (c : Change). IsTally o (changed x.pc m c now ∷ now) new) change_is (tells o now h.1),
+      subst (λ (c : Change). IsTally o (step_with_change x.pc m c now ∷ now) new) change_is (tells o now h.1),
       sym (ap₂ (λ (a : List Mode) (b : List StepRecord). later_from code now a b) ms_is left_is) ∙ h.2,
     )
 
@@ -116,7 +116,7 @@ longer code past [] [] e = ([], refl, refl)
 longer code past [] (x ∷ xs) e = absurd (zero_suc (length xs) e)
 longer code past (m ∷ ms) [] e = absurd (zero_suc (length ms) (sym e))
 longer code past (m ∷ ms) (x ∷ xs) e =
-    let s = changed x.pc m (change_at code m x) past in
+    let s = step_with_change x.pc m (change_at code m x) past in
     let h = longer code (s ∷ past) ms xs (one_less (length ms) (length xs) e) in
     (h.0 ++ s ∷ [], h.1 ∙ sym (append_assoc h.0 (s ∷ []) past), length-append h.0 (s ∷ []) ∙ one_more (length h.0) (length xs) h.2)
 
@@ -133,7 +133,7 @@ with_case Nested k ks qs all e = ap (λ (l : List (List ℕ)). k ∷ l) e
 has_keys : (o : Start) (new past : List Step) → HasKeys o new past
 has_keys o [] past = ([], refl, refl)
 has_keys o (s ∷ new) past =
-    let k = shown o.depth (functions o.pc s.before (new ++ past)) in
+    let k = shown_key o.depth (functions o.pc s.before (new ++ past)) in
     let h = has_keys o new past in
     (with_key s.mode k h.0, with_case s.mode k h.0 (keys o past) (keys o (new ++ past)) h.1, keys_case s.mode k h.0 (handlers new) (length new) h.2)
 
@@ -171,7 +171,7 @@ later_turns o past code code2 ms ms2 xs xs2 turns code_is ms_is xs_is e =
 -- those past the cut
 pub past_cut : (core d : ℕ) (image : Image) (r : Run) (count : ℕ) (c : AtCut) (turns : CoreTurns) → IsAtCut core d image r count c
     → ((o : Origin) (past : List Step) → IsTally o past c.tally → turns ≡ turns_past o.start o.first (later_from (code_of image) past (drop c.cut (modes_of (code_of image) (records core image r))) (drop c.cut (records core image r))))
-    → turns ≡ core_after core d (cut core image r) image r
+    → turns ≡ core_after core d (count_before_cut core image r) image r
 past_cut core d image r count c turns h is =
     let first = steps core image r in
     let o : Origin = record { start = start core d image r; first = first } in
@@ -203,8 +203,8 @@ bare after0 after1 = record { profile = Unchecked; after0 = after0; after1 = aft
 abbrev whole_if : Bool → ℕ → Image → Run → WholeProfile
 whole_if b d image r = record {
   profile = if b then Cores (core_profile 0 d image r) (core_profile 1 d image r) else Unchecked;
-  after0 = core_after 0 d (if b then cut 0 image r else 0) image r;
-  after1 = core_after 1 d (if b then cut 1 image r else 0) image r;
+  after0 = core_after 0 d (if b then count_before_cut 0 image r else 0) image r;
+  after1 = core_after 1 d (if b then count_before_cut 1 image r else 0) image r;
 }
 
 by_check : (d : ℕ) (image : Image) (r : Run) → whole_of d image r ≡ whole_if (are_yes (handlers_of (code_of image) r.options.vecbase)) d image r
@@ -212,7 +212,7 @@ unfolding profile_of
 by_check d image r = refl
 
 pub checked_is : (d : ℕ) (image : Image) (r : Run) (a b : CoreProfile) (after0 after1 : CoreTurns) → are_yes (handlers_of (code_of image) r.options.vecbase) ≡ true → a ≡ core_profile 0 d image r → b ≡ core_profile 1 d image r
-    → after0 ≡ core_after 0 d (cut 0 image r) image r → after1 ≡ core_after 1 d (cut 1 image r) image r → whole a b after0 after1 ≡ whole_of d image r
+    → after0 ≡ core_after 0 d (count_before_cut 0 image r) image r → after1 ≡ core_after 1 d (count_before_cut 1 image r) image r → whole a b after0 after1 ≡ whole_of d image r
 checked_is d image r a b after0 after1 passes a_is b_is zero_is one_is =
     ap₂ (λ (p q : CoreProfile). whole p q after0 after1) a_is b_is
     ∙ (ap₂ (λ (u v : CoreTurns). whole (core_profile 0 d image r) (core_profile 1 d image r) u v) zero_is one_is
@@ -224,12 +224,12 @@ unchecked_is d image r after0 after1 no_check zero_is one_is =
 
 -- the sums
 pub checked_sum : (d : ℕ) (image : Image) (r : Run) (a b : CoreProfile) (after0 after1 : CoreTurns) → CoreAddsUp a r.trace0.count → CoreAddsUp b r.trace1.count → a ≡ core_profile 0 d image r → b ≡ core_profile 1 d image r
-    → after0 ≡ core_after 0 d (cut 0 image r) image r → after1 ≡ core_after 1 d (cut 1 image r) image r → WholeAddsUp (whole a b after0 after1) r
+    → after0 ≡ core_after 0 d (count_before_cut 0 image r) image r → after1 ≡ core_after 1 d (count_before_cut 1 image r) image r → WholeAddsUp (whole a b after0 after1) r
 checked_sum d image r a b after0 after1 sum0 sum1 a_is b_is zero_is one_is = (
   (sum0, sum1),
   (
-    subst (λ (u : CoreTurns). TurnsAddUp u a.after) (sym zero_is) (subst (λ (p : CoreProfile). TurnsAddUp (core_after 0 d (cut 0 image r) image r) p.after) (sym a_is) (after_sum 0 d (cut 0 image r) image r)),
-    subst (λ (u : CoreTurns). TurnsAddUp u b.after) (sym one_is) (subst (λ (p : CoreProfile). TurnsAddUp (core_after 1 d (cut 1 image r) image r) p.after) (sym b_is) (after_sum 1 d (cut 1 image r) image r)),
+    subst (λ (u : CoreTurns). TurnsAddUp u a.after) (sym zero_is) (subst (λ (p : CoreProfile). TurnsAddUp (core_after 0 d (count_before_cut 0 image r) image r) p.after) (sym a_is) (after_sum 0 d (count_before_cut 0 image r) image r)),
+    subst (λ (u : CoreTurns). TurnsAddUp u b.after) (sym one_is) (subst (λ (p : CoreProfile). TurnsAddUp (core_after 1 d (count_before_cut 1 image r) image r) p.after) (sym b_is) (after_sum 1 d (count_before_cut 1 image r) image r)),
   ),
 )
 
@@ -262,7 +262,7 @@ returned opening pc mode past (suc n) =
     let all = functions opening (suc n) past in
     sym (return_is opening s past (less_one n)) ∙ ap (λ (m : ℕ). take m all) (kept_all n (length all) (functions_length opening (suc n) past))
 
-pub follow_changes : (opening pc : ℕ) (mode : Mode) (change : Change) (past : List Step) → functions opening (calls_after change (standing past)) (changed pc mode change past ∷ past) ≡ functions_after change pc (functions opening (standing past) past)
-follow_changes opening pc mode Stays past = sym (functions_same opening (changed pc mode Stays past) past refl)
-follow_changes opening pc mode Calls past = sym (call_is opening (changed pc mode Calls past) past refl)
-follow_changes opening pc mode Returns past = returned opening pc mode past (standing past)
+pub follow_changes : (opening pc : ℕ) (mode : Mode) (change : Change) (past : List Step) → functions opening (calls_after change (frames_standing past)) (step_with_change pc mode change past ∷ past) ≡ functions_after change pc (functions opening (frames_standing past) past)
+follow_changes opening pc mode Stays past = sym (functions_same opening (step_with_change pc mode Stays past) past refl)
+follow_changes opening pc mode Calls past = sym (call_is opening (step_with_change pc mode Calls past) past refl)
+follow_changes opening pc mode Returns past = returned opening pc mode past (frames_standing past)

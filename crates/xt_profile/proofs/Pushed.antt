@@ -6,9 +6,9 @@ use Rattle.xt_frames.specs.Frames.{Frame, FrameState}
 use Rattle.xt_frames.specs.HandlerSteps.{Mode, Plain, mode_after}
 use Rattle.xt_discipline.specs.Modes.{step_mode}
 use Rattle.xt_discipline.specs.declared.step_modes.Mode as step
-use Rattle.xt_profile.specs.Steps.{Step, frame_after, standing, step_of, steps_from}
-use Rattle.xt_profile.specs.After.{change_at, changed, later_from}
-use Rattle.xt_profile.specs.Laws.{ArePushed, IsPushed}
+use Rattle.xt_profile.specs.Steps.{Step, frame_after, frames_standing, step_of, steps_from}
+use Rattle.xt_profile.specs.After.{change_at, step_with_change, later_from}
+use Rattle.xt_profile.specs.ProfileLaws.{ArePushed, IsPushed}
 
 abbrev Stand : ℕ → List Step → Type 0
 Stand n past = (d : ℕ) → 0 < d → d ≤ n → IsPushed d past
@@ -35,14 +35,14 @@ pub all_pushed : (code : ℕ → ℕ) (f : FrameState) (xs : List StepRecord) �
 all_pushed code f xs none = steps_pushed code Plain f [] xs (none_stand (length f.frames) (ap (λ (fs : List Frame). length fs) none)) tt
 
 -- ---- past the cut
-later_pushed : (code : ℕ → ℕ) (past : List Step) (ms : List step.Mode) (xs : List StepRecord) → Stand (standing past) past → ArePushed past → ArePushed (later_from code past ms xs)
+later_pushed : (code : ℕ → ℕ) (past : List Step) (ms : List step.Mode) (xs : List StepRecord) → Stand (frames_standing past) past → ArePushed past → ArePushed (later_from code past ms xs)
 later_pushed code past [] xs h a = a
 later_pushed code past (m ∷ ms) [] h a = a
 later_pushed code past (m ∷ ms) (x ∷ xs) h a =
-    let s = changed x.pc m (change_at code m x) past in
+    let s = step_with_change x.pc m (change_at code m x) past in
     later_pushed code (s ∷ past) ms xs (stand_after s past h) (h, a)
 
-steps_stand : (code : ℕ → ℕ) (m : Mode) (f : FrameState) (past : List Step) (xs : List StepRecord) → standing past ≡ length f.frames → Stand (standing past) past → Stand (standing (steps_from code m f past xs)) (steps_from code m f past xs)
+steps_stand : (code : ℕ → ℕ) (m : Mode) (f : FrameState) (past : List Step) (xs : List StepRecord) → frames_standing past ≡ length f.frames → Stand (frames_standing past) past → Stand (frames_standing (steps_from code m f past xs)) (steps_from code m f past xs)
 steps_stand code m f past [] e h = h
 steps_stand code m f past (x ∷ xs) e h =
     let mode = step_mode m x.kind in

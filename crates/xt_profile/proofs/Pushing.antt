@@ -4,14 +4,14 @@ use Rattle.std.specs.Prelude.{nat_le}
 use Rattle.std.proofs.lemmas.Bool.{cases_lt, le-leb, le-ltb, lt-ltb}
 use Rattle.std.proofs.lemmas.List.{append-nil, append_assoc, length-append, replicate-append-replicate, take-append-le, take_all}
 use Rattle.xt_profile.specs.Steps.{Step}
-use Rattle.xt_profile.specs.Keys.{functions, pushed, pushes}
+use Rattle.xt_profile.specs.Keys.{functions, entry_of_frame, pushes}
 
 at_end : (n m : ℕ) → m ≡ n → m + 1 ≡ suc n
 at_end n m e = omega (arith, e)
 
 pub pushes_length : (n : ℕ) (past : List Step) → length (pushes n past) ≡ n
 pushes_length zero past = refl
-pushes_length (suc n) past = length-append (pushes n past) (pushed (suc n) past ∷ []) ∙ at_end n (length (pushes n past)) (pushes_length n past)
+pushes_length (suc n) past = length-append (pushes n past) (entry_of_frame (suc n) past ∷ []) ∙ at_end n (length (pushes n past)) (pushes_length n past)
 
 itself : (n : ℕ) → n ≤ n
 itself n = omega arith
@@ -20,8 +20,8 @@ itself n = omega arith
 less : (n d : ℕ) → suc d ≤ n → d ≤ n
 less n d h = omega (arith, h)
 
-stood : (s : Step) (past : List Step) (d : ℕ) → suc d ≤ s.before → pushed (suc d) (s ∷ past) ≡ pushed (suc d) past
-stood s past d low = ap (λ (b : Bool). if b && nat_le (suc d) s.after then s.pc else pushed (suc d) past) (le-ltb s.before (suc d) low)
+stood : (s : Step) (past : List Step) (d : ℕ) → suc d ≤ s.before → entry_of_frame (suc d) (s ∷ past) ≡ entry_of_frame (suc d) past
+stood s past d low = ap (λ (b : Bool). if b && nat_le (suc d) s.after then s.pc else entry_of_frame (suc d) past) (le-ltb s.before (suc d) low)
 
 pub pushes_stood : (s : Step) (past : List Step) (d : ℕ) → d ≤ s.before → pushes d (s ∷ past) ≡ pushes d past
 pushes_stood s past zero low = refl
@@ -32,10 +32,10 @@ under : (n d : ℕ) → n ≤ d → n < suc d
 under n d h = omega (arith, h)
 
 -- ---- a frame that did not is the step's
-rises : (s : Step) (past : List Step) (d : ℕ) → s.before ≤ d → suc d ≤ s.after → pushed (suc d) (s ∷ past) ≡ s.pc
+rises : (s : Step) (past : List Step) (d : ℕ) → s.before ≤ d → suc d ≤ s.after → entry_of_frame (suc d) (s ∷ past) ≡ s.pc
 rises s past d low high =
-    ap (λ (b : Bool). if b && nat_le (suc d) s.after then s.pc else pushed (suc d) past) (lt-ltb s.before (suc d) (under s.before d low))
-    ∙ ap (λ (b : Bool). if b then s.pc else pushed (suc d) past) (le-leb (suc d) s.after high)
+    ap (λ (b : Bool). if b && nat_le (suc d) s.after then s.pc else entry_of_frame (suc d) past) (lt-ltb s.before (suc d) (under s.before d low))
+    ∙ ap (λ (b : Bool). if b then s.pc else entry_of_frame (suc d) past) (le-leb (suc d) s.after high)
 
 added : (n m k : ℕ) → n + suc m ≤ k → n + m ≤ k
 added n m k h = omega (arith, h)
@@ -80,7 +80,7 @@ pushes_first zero d past low = ap (λ (k : ℕ). take k (pushes 0 past)) (none_o
 pushes_first (suc n) d past low =
     ⊎_elim
     (λ (lt : d < suc n).
-    take-append-le d (pushes n past) (pushed (suc n) past ∷ []) (subst (λ (k : ℕ). d ≤ k) (sym (pushes_length n past)) (not_all n d lt)) ∙ pushes_first n d past (not_all n d lt))
+    take-append-le d (pushes n past) (entry_of_frame (suc n) past ∷ []) (subst (λ (k : ℕ). d ≤ k) (sym (pushes_length n past)) (not_all n d lt)) ∙ pushes_first n d past (not_all n d lt))
     (λ (ge : suc n ≤ d).
     let e : d ≡ suc n = both n d low ge in
     ap (λ (k : ℕ). take k (pushes (suc n) past)) e ∙ (take_all (suc n) (pushes (suc n) past) (subst (λ (k : ℕ). k ≤ suc n) (sym (pushes_length (suc n) past)) (itself (suc n))) ∙ ap (λ (k : ℕ). pushes k past) (sym e)))

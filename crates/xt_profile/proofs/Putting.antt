@@ -7,7 +7,7 @@ use Rattle.std.proofs.lemmas.Cmp.{nat_list_cmp_total, tied_itself}
 use Rattle.std.proofs.lemmas.Map.Lookups.{exact_bytes}
 use Rattle.xt_profile.specs.declared.profiles.ProfileLine.{ProfileLine}
 use Rattle.xt_profile.specs.Counts.{compare, count_of, in_order, insert, is_same, line, lines, total}
-use Rattle.xt_profile.specs.Told.{count_in, puts}
+use Rattle.xt_profile.specs.CountedSteps.{count_in, puts}
 
 -- ---- the order of lists
 abbrev IsGreater : Ordering → Type 0

@@ -13,11 +13,11 @@ use Rattle.xt_profile.specs.declared.profiles.CoreTurns.{CoreTurns}
 use Rattle.xt_profile.specs.declared.profiles.ProfileLine.{ProfileLine}
 use Rattle.xt_profile.specs.declared.tally.Tally.{Tally}
 use Rattle.xt_profile.specs.After.{in_front}
-use Rattle.xt_profile.specs.Steps.{Step, standing}
-use Rattle.xt_profile.specs.Keys.{Start, functions, handlers, keys, shown, with_handler, with_key}
+use Rattle.xt_profile.specs.Steps.{Step, frames_standing}
+use Rattle.xt_profile.specs.Keys.{Start, functions, handlers, keys, shown_key, with_handler, with_key}
 use Rattle.xt_profile.specs.Counts.{compare, count_of, is_same, lines}
 use Rattle.xt_profile.specs.Profiled.{turns_past}
-use Rattle.xt_profile.specs.Told.{AreCounted, IsTally, Origin, count_in, from_here, origin, puts, read}
+use Rattle.xt_profile.specs.CountedSteps.{AreCounted, IsTally, Origin, count_in, from_here, origin, puts, line_of_entry}
 use Rattle.xt_profile.proofs.Putting.{count_found, row_puts}
 use Rattle.xt_profile.proofs.Pushing.{functions_length, functions_past, functions_same}
 
@@ -36,7 +36,7 @@ keys_case Nested k ks h n e = one_key (length ks) h n e
 -- each step has a key or is a handler step
 pub keys_count : (opening : Start) (past : List Step) → length (keys opening past) + handlers past ≡ length past
 keys_count opening [] = refl
-keys_count opening (s ∷ past) = keys_case s.mode (shown opening.depth (functions opening.pc s.before past)) (keys opening past) (handlers past) (length past) (keys_count opening past)
+keys_count opening (s ∷ past) = keys_case s.mode (shown_key opening.depth (functions opening.pc s.before past)) (keys opening past) (handlers past) (length past) (keys_count opening past)
 
 handlers_case : (m : Mode) (a b n : ℕ) → n ≡ a + b → with_handler m n ≡ with_handler m a + b
 handlers_case Plain a b n e = e
@@ -58,7 +58,7 @@ in_a_row n k ks = length-append (replicate n k) ks ∙ ap (λ (m : ℕ). m + len
 
 pub counted_sum : (o : Origin) (past : List Step) (t : Tally) → (h : AreCounted o past t) → t.row + length h.told + t.handlers ≡ t.steps
 counted_sum o past t h =
-    let k = shown o.start.depth t.functions.items in
+    let k = shown_key o.start.depth t.functions.items in
     let before = keys o.start o.first in
     let len : length (keys o.start past) ≡ t.row + (length h.told + length before) =
     ap (λ (ks : List (List ℕ)). length ks) h.keys_are ∙ (in_a_row t.row k (h.told ++ before) ∙ ap (λ (n : ℕ). t.row + n) (length-append h.told before)) in
@@ -94,10 +94,10 @@ count_le k (q ∷ ks) = count_case (is_same k q) (count_of k ks) (length ks) (co
 small : (c l r h s : ℕ) → c ≤ l → r + l + h ≡ s → s < 2 ^ 32 → c + r < 2 ^ 32
 small c l r h s e f g = omega (arith, e, f, g)
 
-pub count_fits : (o : Origin) (past : List Step) (t : Tally) (k : List ℕ) → AreCounted o past t → t.steps < 2 ^ 32 → count_in k (map read t.counts.entries) + t.row < 2 ^ 32
+pub count_fits : (o : Origin) (past : List Step) (t : Tally) (k : List ℕ) → AreCounted o past t → t.steps < 2 ^ 32 → count_in k (map line_of_entry t.counts.entries) + t.row < 2 ^ 32
 count_fits o past t k h room =
-    let found : count_in k (map read t.counts.entries) ≡ count_of k h.told = ap (count_in k) h.lines_are ∙ count_found k h.told in
-    small (count_in k (map read t.counts.entries)) (length h.told) t.row t.handlers t.steps (subst (λ (c : ℕ). c ≤ length h.told) (sym found) (count_le k h.told)) (counted_sum o past t h) room
+    let found : count_in k (map line_of_entry t.counts.entries) ≡ count_of k h.told = ap (count_in k) h.lines_are ∙ count_found k h.told in
+    small (count_in k (map line_of_entry t.counts.entries)) (length h.told) t.row t.handlers t.steps (subst (λ (c : ℕ). c ≤ length h.told) (sym found) (count_le k h.told)) (counted_sum o past t h) room
 
 row_le : (r l h s : ℕ) → r + l + h ≡ s → r ≤ s
 row_le r l h s e = omega (arith, e)
@@ -119,35 +119,35 @@ more_steps : (n m : ℕ) → n ≡ m → n + 1 ≡ suc m
 more_steps n m e = omega (arith, e)
 
 -- the key of a step past these
-key_here : (o : Origin) (past : List Step) (s : Step) (t : Tally) → IsTally o past t → s.before ≡ standing past → shown o.start.depth (functions o.start.pc s.before past) ≡ shown o.start.depth t.functions.items
-key_here o past s t h e = ap (λ (n : ℕ). shown o.start.depth (functions o.start.pc n past)) e ∙ ap (shown o.start.depth) (sym h.functions_are)
+key_here : (o : Origin) (past : List Step) (s : Step) (t : Tally) → IsTally o past t → s.before ≡ frames_standing past → shown_key o.start.depth (functions o.start.pc s.before past) ≡ shown_key o.start.depth t.functions.items
+key_here o past s t h e = ap (λ (n : ℕ). shown_key o.start.depth (functions o.start.pc n past)) e ∙ ap (shown_key o.start.depth) (sym h.functions_are)
 
-keys_more : (o : Origin) (past : List Step) (s : Step) (t : Tally) → (h : IsTally o past t) → s.before ≡ standing past
-    → shown o.start.depth (functions o.start.pc s.before past) ∷ keys o.start past ≡ replicate (t.row + 1) (shown o.start.depth t.functions.items) ++ (h.counted.told ++ keys o.start o.first)
+keys_more : (o : Origin) (past : List Step) (s : Step) (t : Tally) → (h : IsTally o past t) → s.before ≡ frames_standing past
+    → shown_key o.start.depth (functions o.start.pc s.before past) ∷ keys o.start past ≡ replicate (t.row + 1) (shown_key o.start.depth t.functions.items) ++ (h.counted.told ++ keys o.start o.first)
 keys_more o past s t h e =
-    let k = shown o.start.depth t.functions.items in
+    let k = shown_key o.start.depth t.functions.items in
     ap₂ (λ (x : List ℕ) (ks : List (List ℕ)). x ∷ ks) (key_here o past s t h e) h.counted.keys_are
     ∙ ap (λ (n : ℕ). replicate n k ++ (h.counted.told ++ keys o.start o.first)) (sym (one_up t.row))
 
-pub counted_plain : (o : Origin) (past : List Step) (s : Step) (t : Tally) → IsTally o past t → s.mode ≡ Plain → s.before ≡ standing past → AreCounted o (s ∷ past) (record t { row = t.row + 1; steps = t.steps + 1 })
+pub counted_plain : (o : Origin) (past : List Step) (s : Step) (t : Tally) → IsTally o past t → s.mode ≡ Plain → s.before ≡ frames_standing past → AreCounted o (s ∷ past) (record t { row = t.row + 1; steps = t.steps + 1 })
 counted_plain o past s t h m e = record {
   later = s ∷ h.counted.later;
   told = h.counted.told;
   past_is = ap (λ (q : List Step). s ∷ q) h.counted.past_is;
   depth_is = h.counted.depth_is;
-  keys_are = ap (λ (y : Mode). with_key y (shown o.start.depth (functions o.start.pc s.before past)) (keys o.start past)) m ∙ keys_more o past s t h e;
+  keys_are = ap (λ (y : Mode). with_key y (shown_key o.start.depth (functions o.start.pc s.before past)) (keys o.start past)) m ∙ keys_more o past s t h e;
   lines_are = h.counted.lines_are;
   handlers_are = h.counted.handlers_are ∙ sym (ap (λ (y : Mode). with_handler y (handlers h.counted.later)) m);
   steps_are = more_steps t.steps (length h.counted.later) h.counted.steps_are;
 }
 
-pub counted_nested : (o : Origin) (past : List Step) (s : Step) (t : Tally) → IsTally o past t → s.mode ≡ Nested → s.before ≡ standing past → AreCounted o (s ∷ past) (record t { row = t.row + 1; steps = t.steps + 1 })
+pub counted_nested : (o : Origin) (past : List Step) (s : Step) (t : Tally) → IsTally o past t → s.mode ≡ Nested → s.before ≡ frames_standing past → AreCounted o (s ∷ past) (record t { row = t.row + 1; steps = t.steps + 1 })
 counted_nested o past s t h m e = record {
   later = s ∷ h.counted.later;
   told = h.counted.told;
   past_is = ap (λ (q : List Step). s ∷ q) h.counted.past_is;
   depth_is = h.counted.depth_is;
-  keys_are = ap (λ (y : Mode). with_key y (shown o.start.depth (functions o.start.pc s.before past)) (keys o.start past)) m ∙ keys_more o past s t h e;
+  keys_are = ap (λ (y : Mode). with_key y (shown_key o.start.depth (functions o.start.pc s.before past)) (keys o.start past)) m ∙ keys_more o past s t h e;
   lines_are = h.counted.lines_are;
   handlers_are = h.counted.handlers_are ∙ sym (ap (λ (y : Mode). with_handler y (handlers h.counted.later)) m);
   steps_are = more_steps t.steps (length h.counted.later) h.counted.steps_are;
@@ -159,7 +159,7 @@ counted_handler o past s t h m = record {
   told = h.counted.told;
   past_is = ap (λ (q : List Step). s ∷ q) h.counted.past_is;
   depth_is = h.counted.depth_is;
-  keys_are = ap (λ (y : Mode). with_key y (shown o.start.depth (functions o.start.pc s.before past)) (keys o.start past)) m ∙ h.counted.keys_are;
+  keys_are = ap (λ (y : Mode). with_key y (shown_key o.start.depth (functions o.start.pc s.before past)) (keys o.start past)) m ∙ h.counted.keys_are;
   lines_are = h.counted.lines_are;
   handlers_are = more_steps t.handlers (handlers h.counted.later) h.counted.handlers_are ∙ sym (ap (λ (y : Mode). with_handler y (handlers h.counted.later)) m);
   steps_are = more_steps t.steps (length h.counted.later) h.counted.steps_are;
@@ -170,10 +170,10 @@ from_one : (r : ℕ) → 0 < r → suc (r - 1) ≡ r
 from_one r h = omega (arith, h)
 
 pub counted_flushed : (o : Origin) (past : List Step) (t new : Tally) → AreCounted o past t → 0 < t.row → new.row ≡ 0 → new.functions ≡ t.functions → new.handlers ≡ t.handlers → new.steps ≡ t.steps → new.depth ≡ t.depth
-    → map read new.counts.entries ≡ puts (shown o.start.depth t.functions.items) (count_in (shown o.start.depth t.functions.items) (map read t.counts.entries) + t.row) (map read t.counts.entries)
+    → map line_of_entry new.counts.entries ≡ puts (shown_key o.start.depth t.functions.items) (count_in (shown_key o.start.depth t.functions.items) (map line_of_entry t.counts.entries) + t.row) (map line_of_entry t.counts.entries)
     → AreCounted o past new
 counted_flushed o past t new h some none f a b d put =
-    let k = shown o.start.depth t.functions.items in
+    let k = shown_key o.start.depth t.functions.items in
     let row : suc (t.row - 1) ≡ t.row = from_one t.row some in
     let before = keys o.start o.first in
     record {
@@ -182,7 +182,7 @@ counted_flushed o past t new h some none f a b d put =
       past_is = h.past_is;
       depth_is = d ∙ h.depth_is;
       keys_are = h.keys_are
-          ∙ (sym (append_assoc (replicate t.row k) h.told before) ∙ sym (ap (λ (n : ℕ). replicate n (shown o.start.depth new.functions.items) ++ ((replicate t.row k ++ h.told) ++ before)) none));
+          ∙ (sym (append_assoc (replicate t.row k) h.told before) ∙ sym (ap (λ (n : ℕ). replicate n (shown_key o.start.depth new.functions.items) ++ ((replicate t.row k ++ h.told) ++ before)) none));
       lines_are = put
           ∙ (ap (λ (ls : List ProfileLine). puts k (count_in k ls + t.row) ls) h.lines_are
           ∙ (ap (λ (n : ℕ). puts k (count_in k (lines h.told) + n) (lines h.told)) (sym row)
@@ -199,9 +199,9 @@ counted_moved o past t new h none other e a b d = record {
   past_is = h.past_is;
   depth_is = d ∙ h.depth_is;
   keys_are = h.keys_are
-      ∙ (ap (λ (n : ℕ). replicate n (shown o.start.depth t.functions.items) ++ (h.told ++ keys o.start o.first)) none
-      ∙ sym (ap (λ (n : ℕ). replicate n (shown o.start.depth new.functions.items) ++ (h.told ++ keys o.start o.first)) other));
-  lines_are = ap (map read) e ∙ h.lines_are;
+      ∙ (ap (λ (n : ℕ). replicate n (shown_key o.start.depth t.functions.items) ++ (h.told ++ keys o.start o.first)) none
+      ∙ sym (ap (λ (n : ℕ). replicate n (shown_key o.start.depth new.functions.items) ++ (h.told ++ keys o.start o.first)) other));
+  lines_are = ap (map line_of_entry) e ∙ h.lines_are;
   handlers_are = a ∙ h.handlers_are;
   steps_are = b ∙ h.steps_are;
 }
@@ -213,13 +213,13 @@ Entry = Vec ℕ Global × ℕ
 abbrev by_items : Vec ℕ Global → Vec ℕ Global → Ordering
 by_items x y = slice_cmp nat_cmp x.items y.items
 
-reads_case : (k : Vec ℕ Global) (v : ℕ) (e : Entry) (es : List Entry) → map read (insert_entry by_items es k v) ≡ puts k.items v (map read es) → (o : Ordering)
-    → map read (match_ordering o ((k, v) ∷ e ∷ es) ((e.0, v) ∷ es) (e ∷ insert_entry by_items es k v)) ≡ match_ordering o (read (k, v) ∷ map read (e ∷ es)) (read (e.0, v) ∷ map read es) (read e ∷ puts k.items v (map read es))
+reads_case : (k : Vec ℕ Global) (v : ℕ) (e : Entry) (es : List Entry) → map line_of_entry (insert_entry by_items es k v) ≡ puts k.items v (map line_of_entry es) → (o : Ordering)
+    → map line_of_entry (match_ordering o ((k, v) ∷ e ∷ es) ((e.0, v) ∷ es) (e ∷ insert_entry by_items es k v)) ≡ match_ordering o (line_of_entry (k, v) ∷ map line_of_entry (e ∷ es)) (line_of_entry (e.0, v) ∷ map line_of_entry es) (line_of_entry e ∷ puts k.items v (map line_of_entry es))
 reads_case k v e es r Less = refl
 reads_case k v e es r Equal = refl
-reads_case k v e es r Greater = ap (λ (ls : List ProfileLine). read e ∷ ls) r
+reads_case k v e es r Greater = ap (λ (ls : List ProfileLine). line_of_entry e ∷ ls) r
 
-pub reads_insert : (k : Vec ℕ Global) (v : ℕ) (es : List Entry) → map read (insert_entry by_items es k v) ≡ puts k.items v (map read es)
+pub reads_insert : (k : Vec ℕ Global) (v : ℕ) (es : List Entry) → map line_of_entry (insert_entry by_items es k v) ≡ puts k.items v (map line_of_entry es)
 reads_insert k v [] = refl
 reads_insert k v (e ∷ es) = reads_case k v e es (reads_insert k v es) (compare k.items e.0.items)
 
@@ -232,14 +232,14 @@ found_case : (b : Bool) (v n : ℕ) (o : Option ℕ) → or_none o ≡ n → or_
 found_case true v n o e = refl
 found_case false v n o e = e
 
-reads_found : (k : List ℕ) (es : List Entry) → or_none (lookup (λ (x : Vec ℕ Global). is_eq (slice_cmp nat_cmp k x.items)) es) ≡ count_in k (map read es)
+reads_found : (k : List ℕ) (es : List Entry) → or_none (lookup (λ (x : Vec ℕ Global). is_eq (slice_cmp nat_cmp k x.items)) es) ≡ count_in k (map line_of_entry es)
 reads_found k [] = refl
-reads_found k (e ∷ es) = found_case (is_same k e.0.items) e.1 (count_in k (map read es)) (lookup (λ (x : Vec ℕ Global). is_eq (slice_cmp nat_cmp k x.items)) es) (reads_found k es)
+reads_found k (e ∷ es) = found_case (is_same k e.0.items) e.1 (count_in k (map line_of_entry es)) (lookup (λ (x : Vec ℕ Global). is_eq (slice_cmp nat_cmp k x.items)) es) (reads_found k es)
 
-pub found_some : (k : List ℕ) (es : List Entry) (n : ℕ) → Some n ≡ lookup (λ (x : Vec ℕ Global). is_eq (slice_cmp nat_cmp k x.items)) es → n ≡ count_in k (map read es)
+pub found_some : (k : List ℕ) (es : List Entry) (n : ℕ) → Some n ≡ lookup (λ (x : Vec ℕ Global). is_eq (slice_cmp nat_cmp k x.items)) es → n ≡ count_in k (map line_of_entry es)
 found_some k es n e = ap or_none e ∙ reads_found k es
 
-pub found_none : (k : List ℕ) (es : List Entry) → None ≡ lookup (λ (x : Vec ℕ Global). is_eq (slice_cmp nat_cmp k x.items)) es → 0 ≡ count_in k (map read es)
+pub found_none : (k : List ℕ) (es : List Entry) → None ≡ lookup (λ (x : Vec ℕ Global). is_eq (slice_cmp nat_cmp k x.items)) es → 0 ≡ count_in k (map line_of_entry es)
 found_none k es e = ap or_none e ∙ reads_found k es
 
 -- ---- a step
@@ -247,7 +247,7 @@ same_depth : (a n l : ℕ) → a + 1 ≡ l → l ≡ n + 1 → a ≡ n
 same_depth a n l e f = omega (arith, e, f)
 
 -- the functions stay as they are
-pub tally_same : (o : Origin) (past : List Step) (s : Step) (t new : Tally) → IsTally o past t → s.before ≡ standing past → new.functions ≡ t.functions → s.after + 1 ≡ length t.functions.items → AreCounted o (s ∷ past) new → IsTally o (s ∷ past) new
+pub tally_same : (o : Origin) (past : List Step) (s : Step) (t new : Tally) → IsTally o past t → s.before ≡ frames_standing past → new.functions ≡ t.functions → s.after + 1 ≡ length t.functions.items → AreCounted o (s ∷ past) new → IsTally o (s ∷ past) new
 tally_same o past s t new h e f len counted =
     let items : t.functions.items ≡ functions o.start.pc s.before past = h.functions_are ∙ ap (λ (n : ℕ). functions o.start.pc n past) (sym e) in
     let depth : s.after ≡ s.before = same_depth s.after s.before (length t.functions.items) len (ap (λ (xs : List ℕ). length xs) items ∙ functions_length o.start.pc s.before past) in
@@ -257,7 +257,7 @@ tally_same o past s t new h e f len counted =
     }
 
 -- and here they change
-pub tally_changed : (o : Origin) (past : List Step) (s : Step) (t new : Tally) (items : List ℕ) → IsTally o past t → s.before ≡ standing past → items ≡ t.functions.items
+pub tally_changed : (o : Origin) (past : List Step) (s : Step) (t new : Tally) (items : List ℕ) → IsTally o past t → s.before ≡ frames_standing past → items ≡ t.functions.items
     → new.functions.items ≡ take (s.after + 1) items ++ replicate (s.after + 1 - length items) s.pc → AreCounted o (s ∷ past) new → IsTally o (s ∷ past) new
 tally_changed o past s t new items h e is resized counted =
     let all : items ≡ functions o.start.pc s.before past = is ∙ (h.functions_are ∙ ap (λ (n : ℕ). functions o.start.pc n past) (sym e)) in
@@ -297,14 +297,14 @@ return_is opening s past e =
     let kept = take (s.after + 1) all in
     sym (append-nil kept) ∙ (ap (λ (k : ℕ). kept ++ replicate k s.pc) (sym (none_is (length all) s.before s.after (functions_length opening s.before past) e)) ∙ functions_past opening s past)
 
-pub tally_called : (o : Origin) (past : List Step) (s : Step) (t new : Tally) → IsTally o past t → s.before ≡ standing past → s.after ≡ s.before + 1 → new.functions.items ≡ t.functions.items ++ s.pc ∷ [] → AreCounted o (s ∷ past) new → IsTally o (s ∷ past) new
+pub tally_called : (o : Origin) (past : List Step) (s : Step) (t new : Tally) → IsTally o past t → s.before ≡ frames_standing past → s.after ≡ s.before + 1 → new.functions.items ≡ t.functions.items ++ s.pc ∷ [] → AreCounted o (s ∷ past) new → IsTally o (s ∷ past) new
 tally_called o past s t new h e up pushed counted = record {
   functions_are = pushed
       ∙ (ap (λ (xs : List ℕ). xs ++ s.pc ∷ []) (h.functions_are ∙ ap (λ (n : ℕ). functions o.start.pc n past) (sym e)) ∙ call_is o.start.pc s past up);
   counted = counted;
 }
 
-pub tally_returned : (o : Origin) (past : List Step) (s : Step) (t new : Tally) (n : ℕ) → IsTally o past t → s.before ≡ standing past → s.after ≡ s.before - 1 → 1 < length t.functions.items → n ≡ length t.functions.items - 1 → new.functions.items ≡ take n t.functions.items → AreCounted o (s ∷ past) new
+pub tally_returned : (o : Origin) (past : List Step) (s : Step) (t new : Tally) (n : ℕ) → IsTally o past t → s.before ≡ frames_standing past → s.after ≡ s.before - 1 → 1 < length t.functions.items → n ≡ length t.functions.items - 1 → new.functions.items ≡ take n t.functions.items → AreCounted o (s ∷ past) new
     → IsTally o (s ∷ past) new
 tally_returned o past s t new n h e down many n_is cut counted =
     let items : t.functions.items ≡ functions o.start.pc s.before past = h.functions_are ∙ ap (λ (m : ℕ). functions o.start.pc m past) (sym e) in
@@ -317,7 +317,7 @@ tally_returned o past s t new n h e down many n_is cut counted =
     }
 
 -- the opening function alone stands
-pub tally_stays : (o : Origin) (past : List Step) (s : Step) (t new : Tally) → IsTally o past t → s.before ≡ standing past → s.after ≡ s.before - 1 → length t.functions.items ≤ 1 → new.functions.items ≡ t.functions.items → AreCounted o (s ∷ past) new → IsTally o (s ∷ past) new
+pub tally_stays : (o : Origin) (past : List Step) (s : Step) (t new : Tally) → IsTally o past t → s.before ≡ frames_standing past → s.after ≡ s.before - 1 → length t.functions.items ≤ 1 → new.functions.items ≡ t.functions.items → AreCounted o (s ∷ past) new → IsTally o (s ∷ past) new
 tally_stays o past s t new h e down few same counted =
     let items : t.functions.items ≡ functions o.start.pc s.before past = h.functions_are ∙ ap (λ (m : ℕ). functions o.start.pc m past) (sym e) in
     let len : length t.functions.items ≡ s.before + 1 = ap (λ (xs : List ℕ). length xs) items ∙ functions_length o.start.pc s.before past in
@@ -326,7 +326,7 @@ tally_stays o past s t new h e down few same counted =
       counted = counted;
     }
 
-pub tally_kept : (o : Origin) (past : List Step) (s : Step) (t new : Tally) → IsTally o past t → s.before ≡ standing past → s.after ≡ s.before → new.functions.items ≡ t.functions.items → AreCounted o (s ∷ past) new → IsTally o (s ∷ past) new
+pub tally_kept : (o : Origin) (past : List Step) (s : Step) (t new : Tally) → IsTally o past t → s.before ≡ frames_standing past → s.after ≡ s.before → new.functions.items ≡ t.functions.items → AreCounted o (s ∷ past) new → IsTally o (s ∷ past) new
 tally_kept o past s t new h e level same counted = record {
   functions_are = same ∙ (h.functions_are ∙ (ap (λ (n : ℕ). functions o.start.pc n past) (sym e) ∙ functions_same o.start.pc s past level));
   counted = counted;
@@ -348,10 +348,10 @@ front_is {A = A} xs last all e =
 abbrev pub turns : List ProfileLine → ℕ → CoreTurns
 turns ls h = record { lines = ls; handlers = h }
 
-pub turns_are : (o : Origin) (past : List Step) (t : Tally) → AreCounted o past t → t.row ≡ 0 → (ls : List ProfileLine) → ls ≡ map read t.counts.entries → turns ls t.handlers ≡ turns_past o.start o.first past
+pub turns_are : (o : Origin) (past : List Step) (t : Tally) → AreCounted o past t → t.row ≡ 0 → (ls : List ProfileLine) → ls ≡ map line_of_entry t.counts.entries → turns ls t.handlers ≡ turns_past o.start o.first past
 turns_are o past t h none ls is =
     let before = keys o.start o.first in
-    let all : keys o.start past ≡ h.told ++ before = h.keys_are ∙ ap (λ (n : ℕ). replicate n (shown o.start.depth t.functions.items) ++ (h.told ++ before)) none in
+    let all : keys o.start past ≡ h.told ++ before = h.keys_are ∙ ap (λ (n : ℕ). replicate n (shown_key o.start.depth t.functions.items) ++ (h.told ++ before)) none in
     ap₂ (λ (x : List ProfileLine) (n : ℕ). turns x n) (is ∙ (h.lines_are ∙ ap lines (sym (front_is h.told before (keys o.start past) all)))) (h.handlers_are ∙ ap handlers (sym (front_is h.later o.first past h.past_is)))
 
 -- as a core opens
@@ -363,8 +363,8 @@ opens pc d t items depth none row handlers steps = record {
     told = [];
     past_is = refl;
     depth_is = depth;
-    keys_are = sym (ap (λ (n : ℕ). replicate n (shown d t.functions.items) ++ ([] ++ [])) row);
-    lines_are = ap (map read) none;
+    keys_are = sym (ap (λ (n : ℕ). replicate n (shown_key d t.functions.items) ++ ([] ++ [])) row);
+    lines_are = ap (map line_of_entry) none;
     handlers_are = handlers;
     steps_are = steps;
   };
@@ -379,8 +379,8 @@ begun o past t new h f d row handlers steps none = record {
     told = [];
     past_is = refl;
     depth_is = d ∙ h.counted.depth_is;
-    keys_are = sym (ap (λ (n : ℕ). replicate n (shown o.start.depth new.functions.items) ++ keys o.start past) row);
-    lines_are = ap (map read) none;
+    keys_are = sym (ap (λ (n : ℕ). replicate n (shown_key o.start.depth new.functions.items) ++ keys o.start past) row);
+    lines_are = ap (map line_of_entry) none;
     handlers_are = handlers;
     steps_are = steps;
   };

@@ -14,7 +14,7 @@ use Rattle.xt_isa.specs.declared.control.Control.TheVariants as control
 use Rattle.xt_isa.specs.declared.control.RetName.TheVariants as ret
 use Rattle.xt_isa.specs.declared.density.Density.TheVariants as density
 use Rattle.xt_isa.specs.declared.density.NarrowRetName.TheVariants as narrow
-use Rattle.xt_fetch.specs.Fetching.{Fetched, Fetches, Fails, SpellsNothing, fetched}
+use Rattle.xt_fetch.specs.Fetching.{Fetched, Fetches, Fails, SpellsNothing, fetch_at}
 use Rattle.xt_trace.specs.declared.record.StepKind.{StepKind}
 use Rattle.xt_trace.specs.declared.record.StepKind.TheVariants as kind
 use Rattle.xt_trace.specs.declared.record.StepRecord.{StepRecord}
@@ -22,7 +22,7 @@ use Rattle.xt_discipline.specs.declared.step_modes.Mode.{Mode}
 use Rattle.xt_discipline.specs.declared.step_modes.Mode.TheVariants.{Plain, Handler, Nested}
 use Rattle.xt_profile.specs.declared.changes.Change.{Change}
 use Rattle.xt_profile.specs.declared.changes.Change.TheVariants.{Stays, Calls, Returns}
-use Rattle.xt_profile.specs.Steps.{Step, standing}
+use Rattle.xt_profile.specs.Steps.{Step, frames_standing}
 
 -- what an instruction does to the functions of a core
 unfoldable pub change_by : Insn → Change
@@ -38,7 +38,7 @@ change_fetched SpellsNothing = Stays
 
 -- only a record of kind Insn is one of an instruction that may be any of these and was executed
 abbrev pub change_of : (ℕ → ℕ) → StepKind → ℕ → Change
-change_of code kind.Insn pc = change_fetched (fetched code pc)
+change_of code kind.Insn pc = change_fetched (fetch_at code pc)
 change_of code _ pc = Stays
 
 abbrev pub change_at : (ℕ → ℕ) → Mode → StepRecord → Change
@@ -52,12 +52,12 @@ calls_after Stays n = n
 calls_after Calls n = n + 1
 calls_after Returns n = n - 1
 
-abbrev pub changed : ℕ → Mode → Change → List Step → Step
-changed pc mode change past = record {
+abbrev pub step_with_change : ℕ → Mode → Change → List Step → Step
+step_with_change pc mode change past = record {
   pc = pc;
   mode = mode;
-  before = standing past;
-  after = calls_after change (standing past);
+  before = frames_standing past;
+  after = calls_after change (frames_standing past);
 }
 
 -- the steps of these records in front of those in `past`, where each record is what its mode says
@@ -65,7 +65,7 @@ abbrev pub later_from : (ℕ → ℕ) → List Step → List Mode → List StepR
 later_from code past [] xs = past
 later_from code past (mode ∷ modes) [] = past
 later_from code past (mode ∷ modes) (x ∷ xs) =
-    later_from code (changed x.pc mode (change_at code mode x) past ∷ past) modes xs
+    later_from code (step_with_change x.pc mode (change_at code mode x) past ∷ past) modes xs
 
 -- what stands in front of the last ones, where `all` ends with as many as `last` has
 abbrev pub in_front : {A : Type 0} → List A → List A → List A

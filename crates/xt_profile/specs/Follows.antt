@@ -13,8 +13,8 @@ use Rattle.xt_discipline.specs.Modes.{step_mode}
 use Rattle.xt_discipline.specs.Walks.{Knows, Reaches}
 use Rattle.xt_profile.specs.declared.counting.Made.{Made}
 use Rattle.xt_profile.specs.declared.tally.Tally.{Tally}
-use Rattle.xt_profile.specs.Steps.{Step, frame_after, standing, steps_from}
-use Rattle.xt_profile.specs.Told.{IsTally, Origin}
+use Rattle.xt_profile.specs.Steps.{Step, frame_after, frames_standing, steps_from}
+use Rattle.xt_profile.specs.CountedSteps.{IsTally, Origin}
 
 -- ---- one turn
 
@@ -72,7 +72,7 @@ IsMade code b0 b1 core k xs ys new xs' ys' None =
 pub record IsCore
     (code : ℕ → ℕ) (f : FrameState) (xs left : List StepRecord) (n : ℕ) (st : Standing)
     (past : List Step) : Type 0 where
-  pub depth_is : standing past ≡ length st.frame.frames
+  pub depth_is : frames_standing past ≡ length st.frame.frames
   pub count_is : length past ≡ n
   pub left_is : n + length left ≡ length xs
   pub steps_are : (m : ℕ)

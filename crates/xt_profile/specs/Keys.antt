@@ -18,14 +18,15 @@ use Rattle.xt_profile.specs.Steps.{Step}
 
 -- The PC of the ENTRY that pushed frame d of those that stand after these steps, where the oldest
 -- is frame 1: of the latest step that took their number from below d to d or more.
-abbrev pub pushed : ℕ → List Step → ℕ
-pushed d [] = 0
-pushed d (s ∷ past) = if nat_lt s.before d && nat_le d s.after then s.pc else pushed d past
+abbrev pub entry_of_frame : ℕ → List Step → ℕ
+entry_of_frame d [] = 0
+entry_of_frame d (s ∷ past) =
+    if nat_lt s.before d && nat_le d s.after then s.pc else entry_of_frame d past
 
 -- that of each of the n oldest frames, the oldest first
 abbrev pub pushes : ℕ → List Step → List ℕ
 pushes zero past = []
-pushes (suc d) past = pushes d past ++ pushed (suc d) past ∷ []
+pushes (suc d) past = pushes d past ++ entry_of_frame (suc d) past ∷ []
 
 -- the function list where n frames stand: the core's opening PC, then the PC of each ENTRY
 abbrev pub functions : ℕ → ℕ → List Step → List ℕ
@@ -39,8 +40,8 @@ pub record Start : Type 0 where
 -- The functions of a key: all, where there are no more than `depth`. Else the key is cut: it has
 -- the first of them, 0 for those that are left out, and the last `depth` less one. So a cut key has
 -- one number more than any whole one may have.
-abbrev pub shown : ℕ → List ℕ → List ℕ
-shown depth xs =
+abbrev pub shown_key : ℕ → List ℕ → List ℕ
+shown_key depth xs =
     if nat_le (length xs) depth then xs else take 1 xs ++ 0 ∷ drop (length xs - (depth - 1)) xs
 
 -- handler steps have no key
@@ -55,7 +56,7 @@ keys opening [] = []
 keys opening (s ∷ past) =
     with_key
     s.mode
-    (shown opening.depth (functions opening.pc s.before past))
+    (shown_key opening.depth (functions opening.pc s.before past))
     (keys opening past)
 
 abbrev pub with_handler : Mode → ℕ → ℕ

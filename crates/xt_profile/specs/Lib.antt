@@ -3,9 +3,9 @@ pub mod After
 pub mod Keys
 pub mod Counts
 pub mod Profiled
-pub mod Texts
+pub mod ProfileText
 pub mod Peeks
-pub mod Told
-pub mod Laws
+pub mod CountedSteps
+pub mod ProfileLaws
 pub mod Follows
 pub mod Cuts

@@ -4,11 +4,11 @@ use Rattle.std.specs.Prelude.{ℕ, Option, Some, None, List, [], ◌∷◌}
 use Rattle.xt_trace.specs.declared.record.StepKind.{StepKind}
 use Rattle.xt_trace.specs.declared.record.StepRecord.{StepRecord}
 
-abbrev pub held : Option StepRecord → List StepRecord → List StepRecord
-held None rest = rest
-held (Some x) rest = x ∷ rest
+abbrev pub with_held : Option StepRecord → List StepRecord → List StepRecord
+with_held None rest = rest
+with_held (Some x) rest = x ∷ rest
 
 -- its PC and its kind
-abbrev pub peeked : List StepRecord → Option (ℕ × StepKind)
-peeked [] = None
-peeked (x ∷ xs) = Some (x.pc, x.kind)
+abbrev pub pc_and_kind : List StepRecord → Option (ℕ × StepKind)
+pc_and_kind [] = None
+pc_and_kind (x ∷ xs) = Some (x.pc, x.kind)

@@ -12,11 +12,11 @@ use Rattle.std.specs.Prelude.{◌≡◌, ℕ, ◌+◌, if◌then◌else◌, List
 use Rattle.xt_image.specs.declared.image.Image.{Image}
 use Rattle.xt_trace.specs.declared.record.StepRecord.{StepRecord}
 use Rattle.xt_trace.specs.declared.run.Run.{Run}
-use Rattle.xt_handlers.specs.Answers.{handlers_of}
+use Rattle.xt_handlers.specs.CheckAnswers.{handlers_of}
 use Rattle.xt_frames.specs.FirstBreach.{Course, by_core, records_before, turns}
 use Rattle.xt_frames.specs.HandlerSteps.{Plain}
 use Rattle.xt_frames.specs.Verdict.{Known}
-use Rattle.xt_frames.specs.Walked.{opened}
+use Rattle.xt_frames.specs.Walked.{opening_walked}
 use Rattle.xt_discipline.specs.Modes.{modes_of}
 use Rattle.xt_discipline.specs.Schedules.{schedule_in}
 use Rattle.xt_discipline.specs.Verdicts.{are_yes, judgement_in, opened0, opened1}
@@ -55,8 +55,8 @@ end_of image r =
     turns_seen (judgement_in image r (records 0 image r) (records 1 image r)).known
 
 -- how many of these are turns of a core: so many of its records stand before the cut
-abbrev pub cut : ℕ → Image → Run → ℕ
-cut core image r = length (records_before (course_of image r) core (end_of image r))
+abbrev pub count_before_cut : ℕ → Image → Run → ℕ
+count_before_cut core image r = length (records_before (course_of image r) core (end_of image r))
 
 -- the steps of the first n records of a core, the latest first
 abbrev pub first_steps : ℕ → ℕ → Image → Run → List Step
@@ -64,13 +64,13 @@ first_steps core n image r =
     steps_from
     (code_of image)
     Plain
-    (opened core (entry_of core image r.options) r.options).state
+    (opening_walked core (entry_of core image r.options) r.options).state
     []
     (take n (records core image r))
 
 -- those before the cut
 abbrev pub steps : ℕ → Image → Run → List Step
-steps core image r = first_steps core (cut core image r) image r
+steps core image r = first_steps core (count_before_cut core image r) image r
 
 abbrev pub start : ℕ → ℕ → Image → Run → Start
 start core depth image r = record { pc = entry_of core image r.options; depth = depth }
@@ -80,7 +80,7 @@ abbrev pub core_profile : ℕ → ℕ → Image → Run → CoreProfile
 core_profile core depth image r = record {
   lines = lines (keys (start core depth image r) (steps core image r));
   handlers = handlers (steps core image r);
-  after = length (drop (cut core image r) (records core image r));
+  after = length (drop (count_before_cut core image r) (records core image r));
 }
 
 -- none where a window handler does not pass the check
@@ -95,7 +95,8 @@ profile_of depth image r =
 -- nothing is known of frames, and these are all steps
 abbrev pub later_at : ℕ → Image → Run → ℕ
 later_at core image r =
-    if are_yes (handlers_of (code_of image) r.options.vecbase) then cut core image r else 0
+    if are_yes (handlers_of (code_of image) r.options.vecbase) then count_before_cut core image r
+    else 0
 
 -- all steps of a core, the later ones those past its first n records
 abbrev pub all_steps : ℕ → ℕ → Image → Run → List Step

@@ -30,9 +30,9 @@ step_of mode rec f g =
     record { pc = rec.pc; mode = mode; before = length f.frames; after = length g.frames }
 
 -- how many frames stand after these steps
-abbrev pub standing : List Step → ℕ
-standing [] = 0
-standing (s ∷ past) = s.after
+abbrev pub frames_standing : List Step → ℕ
+frames_standing [] = 0
+frames_standing (s ∷ past) = s.after
 
 -- the steps of these records in front of those in `past`: the latest first
 abbrev pub steps_from :

@@ -11,14 +11,14 @@ ghost use Rattle.xt_discipline.specs.Ended.{records_left};
 ghost use Rattle.xt_discipline.specs.Schedules.{HasSchedule, schedule_in};
 ghost use Rattle.xt_discipline.specs.Verdicts.{are_yes};
 ghost use Rattle.xt_discipline.specs.Walks.{Knows};
-ghost use Rattle.xt_handlers.specs.Answers.{handlers_of};
+ghost use Rattle.xt_handlers.specs.CheckAnswers.{handlers_of};
 ghost use Rattle.xt_core.specs.Runs.{IsRunOf, code_of};
 ghost use Rattle.xt_profile.specs.Cuts.{IsAtCut};
 ghost use Rattle.xt_profile.specs.Follows.{AreCut, Follows, IsMade, depth_in};
-ghost use Rattle.xt_profile.specs.Peeks.{peeked};
+ghost use Rattle.xt_profile.specs.Peeks.{pc_and_kind};
 ghost use Rattle.xt_profile.specs.Profiled.{AddsUp, CoreAddsUp, core_profile, profile_of};
 ghost use Rattle.xt_profile.specs.Steps.{Step};
-ghost use Rattle.xt_profile.specs.Told.{IsTally, Origin, closed, from_here};
+ghost use Rattle.xt_profile.specs.CountedSteps.{IsTally, Origin, profile_of_steps, from_here};
 
 use crate::peeked::Peeked;
 use crate::profiles::{CoreProfile, Profile};
@@ -26,7 +26,7 @@ use crate::tally::Tally;
 use std::alloc::{AllocError, Global};
 use xt_core::Cursor;
 use xt_discipline::step_modes::Mode;
-use xt_discipline::{Order, Walk, are_yes, handlers_of};
+use xt_discipline::{ScheduleIter, Walk, are_yes, handlers_of};
 use xt_image::Image;
 use xt_map::Constants;
 use xt_trace::{Run, StepKind};
@@ -51,7 +51,7 @@ fn peek<'a>(
     requires { core < 2 }
     ensures same0 { records0.new ≡ records0.old }
     ensures same1 { records1.new ≡ records1.old }
-    ensures peeked { result ≡ peeked (records_left core records0.old records1.old) }
+    ensures peeked { result ≡ pc_and_kind (records_left core records0.old records1.old) }
 {
     if core == 0 {
         records0.peek()
@@ -112,7 +112,7 @@ fn follow<'a>(
         → Follows (constant_byte walk.old.code) b0 b1 k (schedule_in run.now) e0 e1 records0.old records1.old walk.old 0 records0.old records1.old tally0.old tally1.old
         → AreCut (constant_byte walk.old.code) k e0 e1 records0.old records1.old (judgement (constant_byte walk.old.code) b0 b1 (schedule_in run.now) records0.old records1.old k) tally0.new tally1.new) }
 {
-    for core in Order::of(run) {
+    for core in ScheduleIter::of(run) {
         let Some(made) = turn(walk, core, records0, records1) else {
             return Ok(());
         };
@@ -140,7 +140,7 @@ pub struct AtCut {
 fn at_cut(alloc: Global, tally: Tally, count: u32) -> Result<AtCut, AllocError>
     requires known { (opening : Origin) × (past : List Step) × IsTally opening past tally }
     requires within { tally.steps ≤ count }
-    ensures profile { IfOk result (λ c. (opening : Origin) (past : List Step) → IsTally opening past tally → c.profile ≡ closed opening past (count - tally.steps)) }
+    ensures profile { IfOk result (λ c. (opening : Origin) (past : List Step) → IsTally opening past tally → c.profile ≡ profile_of_steps opening past (count - tally.steps)) }
     ensures cut { IfOk result (λ c. c.cut ≡ tally.steps) }
     ensures tally { IfOk result (λ c. (opening : Origin) (past : List Step) → IsTally opening past tally → IsTally (from_here opening past) past c.tally) }
     ensures none { IfOk result (λ c. c.tally.steps ≡ 0) }

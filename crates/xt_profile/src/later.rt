@@ -9,7 +9,7 @@ ghost use Rattle.xt_core.specs.Runs.{IsRunOf, code_of};
 ghost use Rattle.xt_profile.specs.After.{later_from};
 ghost use Rattle.xt_profile.specs.Profiled.{WholeAddsUp, core_after, later_at, records, start, turns_past, whole_of};
 ghost use Rattle.xt_profile.specs.Steps.{Step};
-ghost use Rattle.xt_profile.specs.Told.{IsTally, Origin};
+ghost use Rattle.xt_profile.specs.CountedSteps.{IsTally, Origin};
 
 use crate::changes::change_at;
 use crate::counting::cores;

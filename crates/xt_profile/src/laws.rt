@@ -1,7 +1,7 @@
 //! Laws of call profiles, whose functions do nothing.
 #![tactic(auto)]
 
-ghost use Rattle.xt_profile.specs.Laws.{FramesArePushed, FunctionsAreFrames, LaterFunctionsArePushed, LaterFunctionsFollowChanges, ProfileEndsAtFirstBreach, WithoutBreachAllIsCounted};
+ghost use Rattle.xt_profile.specs.ProfileLaws.{FramesArePushed, FunctionsAreFrames, LaterFunctionsArePushed, LaterFunctionsFollowChanges, ProfileEndsAtFirstBreach, WithoutBreachAllIsCounted};
 
 /// The function list has one number more than frames stand.
 pub fn functions_are_frames()

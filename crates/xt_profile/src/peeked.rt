@@ -2,7 +2,7 @@
 #![tactic(auto)]
 
 ghost use Rattle.std.specs.Prelude.{◌≡◌};
-ghost use Rattle.xt_profile.specs.Peeks.{peeked};
+ghost use Rattle.xt_profile.specs.Peeks.{pc_and_kind};
 
 use std::marker::Model;
 use xt_core::Cursor;
@@ -20,11 +20,11 @@ pub struct Peeked<'a> {
 impl<'a> Model for Peeked<'a> {
     ghost use Rattle.std.specs.Prelude.{List};
     ghost use Rattle.xt_trace.specs.declared.record.StepRecord.{StepRecord};
-    ghost use Rattle.xt_profile.specs.Peeks.{held};
+    ghost use Rattle.xt_profile.specs.Peeks.{with_held};
 
     ghost Value = { List StepRecord };
 
-    ghost view = { λ p. held p.first p.rest };
+    ghost view = { λ p. with_held p.first p.rest };
 }
 
 impl<'a> Peeked<'a> {
@@ -38,7 +38,7 @@ impl<'a> Peeked<'a> {
     /// The PC and the kind of the next record, which is not taken; none exactly where none is left.
     pub fn peek(&mut self) -> Option<(u32, StepKind)>
         ensures same { self.new ≡ self.old }
-        ensures peeked { result ≡ peeked self.old }
+        ensures peeked { result ≡ pc_and_kind self.old }
     {
         if self.first.is_none() {
             self.first = self.rest.next();

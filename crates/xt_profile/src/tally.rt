@@ -2,12 +2,12 @@
 #![tactic(auto)]
 
 ghost use Rattle.std.specs.Prelude.{◌≡◌, ◌+◌, ◌-◌, ◌<◌, ◌≤◌, ◌^◌, IfOk, OnOk, List, [], ◌∷◌, length, map, unwrap_or};
-ghost use Rattle.xt_profile.specs.After.{changed};
+ghost use Rattle.xt_profile.specs.After.{step_with_change};
 ghost use Rattle.xt_profile.specs.Counts.{compare, lines};
-ghost use Rattle.xt_profile.specs.Keys.{handlers, keys, shown};
+ghost use Rattle.xt_profile.specs.Keys.{handlers, keys, shown_key};
 ghost use Rattle.xt_profile.specs.Profiled.{turns_past};
-ghost use Rattle.xt_profile.specs.Steps.{Step, standing};
-ghost use Rattle.xt_profile.specs.Told.{AreCounted, IsTally, Origin, count_in, from_here, origin, puts, read};
+ghost use Rattle.xt_profile.specs.Steps.{Step, frames_standing};
+ghost use Rattle.xt_profile.specs.CountedSteps.{AreCounted, IsTally, Origin, count_in, from_here, origin, puts, line_of_entry};
 
 use crate::changes::Change;
 use crate::profiles::{CoreTurns, Key, Lines, ProfileLine};
@@ -33,8 +33,8 @@ pub struct Tally {
 
 /// The key of these functions: all, or where they are more than `depth` the first, 0 for those that are left out, and
 /// the last ones.
-fn shown(alloc: Global, functions: &[u32], depth: u32) -> Result<Vec<u32>, AllocError>
-    ensures { IfOk result (λ key. key.items ≡ shown depth functions.now) }
+fn shown_key(alloc: Global, functions: &[u32], depth: u32) -> Result<Vec<u32>, AllocError>
+    ensures { IfOk result (λ key. key.items ≡ shown_key depth functions.now) }
 {
     let depth = depth as usize;
     if functions.len() <= depth {
@@ -48,7 +48,7 @@ fn shown(alloc: Global, functions: &[u32], depth: u32) -> Result<Vec<u32>, Alloc
 
 /// How many steps a key has so far.
 fn count_in(counts: &BTreeMap<Vec<u32>, u32>, key: &[u32]) -> u32
-    ensures { result ≡ count_in key.now (map read counts.now.entries) }
+    ensures { result ≡ count_in key.now (map line_of_entry counts.now.entries) }
 {
     match counts.get(key) {
         Some(count) => *count,
@@ -58,8 +58,8 @@ fn count_in(counts: &BTreeMap<Vec<u32>, u32>, key: &[u32]) -> u32
 
 /// Counts so many steps more of a key.
 fn add(counts: &mut BTreeMap<Vec<u32>, u32>, key: Vec<u32>, row: u32) -> Result<(), AllocError>
-    requires { count_in key.items (map read counts.old.entries) + row < 2 ^ 32 }
-    ensures { OnOk result (map read counts.new.entries ≡ puts key.items (count_in key.items (map read counts.old.entries) + row) (map read counts.old.entries)) }
+    requires { count_in key.items (map line_of_entry counts.old.entries) + row < 2 ^ 32 }
+    ensures { OnOk result (map line_of_entry counts.new.entries ≡ puts key.items (count_in key.items (map line_of_entry counts.old.entries) + row) (map line_of_entry counts.old.entries)) }
 {
     let count = count_in(counts, &key) + row;
     counts.insert(key, count)?;
@@ -68,7 +68,7 @@ fn add(counts: &mut BTreeMap<Vec<u32>, u32>, key: Vec<u32>, row: u32) -> Result<
 
 /// The lines of a map, in order.
 fn lines_of(alloc: Global, counts: BTreeMap<Vec<u32>, u32>) -> Result<Lines, AllocError>
-    ensures { IfOk result (λ lines. lines ≡ map read counts.entries) }
+    ensures { IfOk result (λ lines. lines ≡ map line_of_entry counts.entries) }
 {
     let mut items = Vec::new(alloc);
     for (key, count) in counts {
@@ -108,7 +108,7 @@ impl Tally {
     {
         if self.row > 0 {
             let row = self.row;
-            let key = shown(alloc, &self.functions, self.depth)?;
+            let key = shown_key(alloc, &self.functions, self.depth)?;
             add(&mut self.counts, key, row)?;
             self.row = 0;
         }
@@ -121,7 +121,7 @@ impl Tally {
         requires known { (opening : Origin) × (past : List Step) × AreCounted opening past self.old }
         ensures functions { self.new.functions ≡ self.old.functions }
         ensures steps { self.new.steps ≡ self.old.steps + 1 }
-        ensures counted { (opening : Origin) (past : List Step) (s : Step) → IsTally opening past self.old → s.mode ≡ mode → s.before ≡ standing past → AreCounted opening (s ∷ past) self.new }
+        ensures counted { (opening : Origin) (past : List Step) (s : Step) → IsTally opening past self.old → s.mode ≡ mode → s.before ≡ frames_standing past → AreCounted opening (s ∷ past) self.new }
     {
         self.steps += 1;
         match mode {
@@ -136,7 +136,7 @@ impl Tally {
         requires room { self.old.steps + 1 < 2 ^ 32 }
         requires known { (opening : Origin) × (past : List Step) × IsTally opening past self.old }
         ensures { OnOk result ((opening : Origin) (past : List Step) → IsTally opening past self.old
-            → IsTally opening (record { pc = pc; mode = mode; before = standing past; after = after } ∷ past) self.new) }
+            → IsTally opening (record { pc = pc; mode = mode; before = frames_standing past; after = after } ∷ past) self.new) }
     {
         self.count(mode);
         let depth = after as usize + 1;
@@ -162,7 +162,7 @@ impl Tally {
         requires known { (opening : Origin) × (past : List Step) × IsTally opening past self.old }
         ensures steps { OnOk result (self.new.steps ≡ self.old.steps + 1) }
         ensures tally { OnOk result ((opening : Origin) (past : List Step) → IsTally opening past self.old
-            → IsTally opening (changed pc mode change past ∷ past) self.new) }
+            → IsTally opening (step_with_change pc mode change past ∷ past) self.new) }
     {
         self.count(mode);
         match change {

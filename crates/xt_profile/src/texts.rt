@@ -1,7 +1,7 @@
 //! The text of a call profile.
 ghost use Rattle.std.specs.Prelude.{◌≡◌, ◌++◌, IfOk, OnOk, string_bytes};
 ghost use Rattle.std.specs.List.{flat_map};
-ghost use Rattle.xt_profile.specs.Texts.{after_line_text, after_rest_text, after_text, core_text, key_text, line_text, lines_text, more_text, next_text, profile_text, rest_text, whole_text};
+ghost use Rattle.xt_profile.specs.ProfileText.{after_line_text, after_rest_text, after_text, core_text, key_text, line_text, lines_text, more_text, next_text, profile_text, rest_text, whole_text};
 
 use crate::profiles::{CoreProfile, CoreTurns, Profile, ProfileLine, WholeProfile};
 use std::alloc::{AllocError, Global};
@@ -55,7 +55,7 @@ fn push_key(out: &mut String, depth: u32, key: &[u32]) -> Result<(), AllocError>
 }
 
 // Appends the line of a key.
-#[tactic(auto, unfolding(crate::specs::Texts::line_text))]
+#[tactic(auto, unfolding(crate::specs::ProfileText::line_text))]
 fn push_line(out: &mut String, depth: u32, core: u8, line: &ProfileLine) -> Result<(), AllocError>
     ensures { OnOk result (string_bytes out.new ≡ string_bytes out.old ++ line_text depth core line.now) }
 {
@@ -81,7 +81,7 @@ fn push_lines(
 }
 
 // Appends what has no key.
-#[tactic(auto, unfolding(crate::specs::Texts::rest_text))]
+#[tactic(auto, unfolding(crate::specs::ProfileText::rest_text))]
 fn push_rest(out: &mut String, core: u8, profile: &CoreProfile) -> Result<(), AllocError>
     ensures { OnOk result (string_bytes out.new ≡ string_bytes out.old ++ rest_text core profile.now) }
 {
@@ -106,7 +106,7 @@ fn push_core(
 /// The text of a profile: for core 0 and then core 1 a line `core C KEY N` for each key, with its
 /// addresses joined by `;`, and `..` behind the first of a key that was cut at `depth`, and a line `core C handlers H after A`; or `profile none`. The only
 /// error is running out of memory.
-#[tactic(auto, unfolding(crate::specs::Texts::profile_text))]
+#[tactic(auto, unfolding(crate::specs::ProfileText::profile_text))]
 pub fn profile_text(alloc: Global, depth: u32, profile: &Profile) -> Result<Text, AllocError>
     ensures { IfOk result (λ text. text ≡ profile_text depth profile.now) }
 {
@@ -138,7 +138,7 @@ fn push_after_lines(
 }
 
 // Appends how many handler steps there are from the cut on.
-#[tactic(auto, unfolding(crate::specs::Texts::after_rest_text))]
+#[tactic(auto, unfolding(crate::specs::ProfileText::after_rest_text))]
 fn push_after_rest(out: &mut String, core: u8, turns: &CoreTurns) -> Result<(), AllocError>
     ensures { OnOk result (string_bytes out.new ≡ string_bytes out.old ++ after_rest_text core turns.now) }
 {
@@ -157,7 +157,7 @@ fn push_after(out: &mut String, depth: u32, core: u8, turns: &CoreTurns) -> Resu
 /// The text of a profile with the turns from the cut on: behind the lines of each core, as
 /// `profile_text` has them, a line `~core C KEY N` for each key of these turns, and a line
 /// `~core C handlers H`. The only error is running out of memory.
-#[tactic(auto, unfolding(crate::specs::Texts::whole_text))]
+#[tactic(auto, unfolding(crate::specs::ProfileText::whole_text))]
 pub fn whole_text(alloc: Global, depth: u32, whole: &WholeProfile) -> Result<Text, AllocError>
     ensures { IfOk result (λ text. text ≡ whole_text depth whole.now) }
 {

@@ -1,6 +1,6 @@
 //! Cases of what a command says of the recording of a run over a list of cores.
 ghost use Rattle.std.specs.Prelude.{◌<◌, All};
-ghost use Rattle.xt_image.specs.Parts.{IsWellFormed};
+ghost use Rattle.xt_image.specs.ImageParts.{IsWellFormed};
 
 use crate::cases::{lines_of, words_of};
 use crate::programs::{image_of, options_in, output_over, text_in, whole_over, words_with};

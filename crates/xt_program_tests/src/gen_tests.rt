@@ -2,7 +2,7 @@ use std::alloc::{AllocError, Global};
 use std::fmt::Write;
 use std::test::Fail;
 use xt_cli::{Status, Tool, tool_main, xt_main};
-use xt_gen::generated;
+use xt_gen::generated_image;
 use xt_image::write;
 use xt_io::{OpenGate, SafeSink, SafeSource};
 
@@ -54,7 +54,7 @@ fn images_of_numbers_are_those_of_their_texts(rt: HostRuntime) -> Result<(), Fai
         let mut sink = SafeSink::make(rt.alloc())?;
         let answered = tool_main(rt.alloc(), &words, &mut source, &mut sink);
         assert_eq!(rt; answered, Tool::Answer(Status::Done), "{number}");
-        let image = generated(rt.alloc(), number)?;
+        let image = generated_image(rt.alloc(), number)?;
         let file = write(rt.alloc(), &image)?;
         assert_eq!(rt; sink.bytes(), file.as_slice(), "{number}");
     }

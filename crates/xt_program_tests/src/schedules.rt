@@ -1,6 +1,6 @@
 //! Cases of two cores over a schedule.
 ghost use Rattle.std.specs.Prelude.{◌<◌, All, IfSome};
-ghost use Rattle.xt_image.specs.Parts.{IsWellFormed};
+ghost use Rattle.xt_image.specs.ImageParts.{IsWellFormed};
 ghost use Rattle.xt_trace.specs.Validity.{IsValid};
 
 use crate::cases::{lines_of, push_line, words_of};

@@ -7,7 +7,7 @@ use Rattle.std.specs.Prelude.{slice_get, max}
 use Rattle.xt_race.specs.declared.event.Event.{Event}
 use Rattle.xt_race.specs.Races.{IsOrdered, acquires}
 use Rattle.xt_race.specs.Tables.{is_side, other}
-use Rattle.xt_race.specs.Found.{latest, releases_at, seen, seen_past}
+use Rattle.xt_race.specs.Found.{latest, releases_at, acquired_count, seen_past}
 use Rattle.xt_race.proofs.Newest.{Latter, latest_above, latest_is}
 
 -- ---- the two cores
@@ -57,14 +57,14 @@ past_here c f b o e at met =
     subst (λ (n : ℕ). f e.entry.access.addr ≤ n) (sym q) (le-max_right b (f e.entry.access.addr))
 
 -- what was released before an acquire of the core has been acquired
-pub seen_above : (c : ℕ) (es : List Event) (n k : ℕ) (e : Event) → slice_get es k ≡ Some e → gains c e ≡ true → k < n → latest (releases_at (other c) e.entry.access.addr) es k ≤ seen c es n
+pub seen_above : (c : ℕ) (es : List Event) (n k : ℕ) (e : Event) → slice_get es k ≡ Some e → gains c e ≡ true → k < n → latest (releases_at (other c) e.entry.access.addr) es k ≤ acquired_count c es n
 seen_above c es zero k e at met lt = absurd (omega arith)
 seen_above c es (suc n) k e at met lt =
     let rel : ℕ → ℕ → ℕ = λ a m. latest (releases_at (other c) a) es m in
-    let P : ℕ → Type 0 = λ i. (x : Event) → slice_get es i ≡ Some x → gains c x ≡ true → rel x.entry.access.addr i ≤ seen c es (suc n) in
-    let grows : seen c es n ≤ seen c es (suc n) = past_grows c (λ a. rel a n) (seen c es n) (slice_get es n) in
-    let below : (i : ℕ) → i < n → P i = λ i h x a y. let q : rel x.entry.access.addr i ≤ seen c es n = seen_above c es n i x a y h in omega (arith, q, grows) in
-    let here : P n = λ x a y. past_here c (λ q. rel q n) (seen c es n) (slice_get es n) x a y in
+    let P : ℕ → Type 0 = λ i. (x : Event) → slice_get es i ≡ Some x → gains c x ≡ true → rel x.entry.access.addr i ≤ acquired_count c es (suc n) in
+    let grows : acquired_count c es n ≤ acquired_count c es (suc n) = past_grows c (λ a. rel a n) (acquired_count c es n) (slice_get es n) in
+    let below : (i : ℕ) → i < n → P i = λ i h x a y. let q : rel x.entry.access.addr i ≤ acquired_count c es n = seen_above c es n i x a y h in omega (arith, q, grows) in
+    let here : P n = λ x a y. past_here c (λ q. rel q n) (acquired_count c es n) (slice_get es n) x a y in
     let lt_one : k < n + 1 = omega arith in
     below_more P n below here k lt_one e at met
 
@@ -95,9 +95,9 @@ past_is c es n i b (Some e) is before lt =
     ] in
     both (gains c e) refl lt
 
-pub seen_is : (c : ℕ) (es : List Event) (n i : ℕ) → i < seen c es n → Gained c es n i
+pub seen_is : (c : ℕ) (es : List Event) (n i : ℕ) → i < acquired_count c es n → Gained c es n i
 seen_is c es zero i lt = absurd (omega arith)
-seen_is c es (suc n) i lt = past_is c es n i (seen c es n) (slice_get es n) refl (seen_is c es n i) lt
+seen_is c es (suc n) i lt = past_is c es n i (acquired_count c es n) (slice_get es n) refl (seen_is c es n i) lt
 
 -- ---- the order
 
@@ -107,7 +107,7 @@ AreOfCores es = (k : ℕ) (e : Event) → slice_get es k ≡ Some e → e.entry.
 below_suc : (a j : ℕ) → a < suc j → a ≤ j
 below_suc a j h = omega arith
 
-pub ordered_seen : (es : List Event) (c d i j : ℕ) → c < 2 → d < 2 → c ≢ d → IsOrdered es c i d j → i < seen d es (suc j)
+pub ordered_seen : (es : List Event) (c d i j : ℕ) → c < 2 → d < 2 → c ≢ d → IsOrdered es c i d j → i < acquired_count d es (suc j)
 ordered_seen es c d i j low high apart h =
     let a : ℕ = h.acquired.entry.access.addr in
     let same : eqb a h.released.entry.access.addr ≡ true = eq-eqb a h.released.entry.access.addr (sym h.address) in
@@ -116,10 +116,10 @@ ordered_seen es c d i j low high apart h =
     let below : h.release < latest (releases_at (other d) a) es h.acquire = latest_above (releases_at (other d) a) es h.acquire h.release h.released h.at_release rel h.second in
     let gain : gains d h.acquired ≡ true = and_from _ _ (side_of d h.acquired.entry.core high h.of_second) h.acquiring in
     let within : h.acquire < suc j = omega (arith, h.third) in
-    let got : latest (releases_at (other d) a) es h.acquire ≤ seen d es (suc j) = seen_above d es (suc j) h.acquire h.acquired h.at_acquire gain within in
+    let got : latest (releases_at (other d) a) es h.acquire ≤ acquired_count d es (suc j) = seen_above d es (suc j) h.acquire h.acquired h.at_acquire gain within in
     omega (arith, h.first, below, got)
 
-pub seen_ordered : (es : List Event) (c d i j : ℕ) → AreOfCores es → c < 2 → d < 2 → c ≢ d → i < seen d es (suc j) → IsOrdered es c i d j
+pub seen_ordered : (es : List Event) (c d i j : ℕ) → AreOfCores es → c < 2 → d < 2 → c ≢ d → i < acquired_count d es (suc j) → IsOrdered es c i d j
 seen_ordered es c d i j cores low high apart lt =
     let g : Gained d es (suc j) i = seen_is d es (suc j) i lt in
     let a : ℕ = g.event.entry.access.addr in

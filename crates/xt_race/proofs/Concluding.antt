@@ -7,7 +7,7 @@ use Rattle.xt_race.specs.declared.race.Earlier.{Earlier}
 use Rattle.xt_race.specs.declared.race.Later.{Later}
 use Rattle.xt_race.specs.Races.{Conflict, IsFirst, IsRace}
 use Rattle.xt_race.specs.Clashes.{clash, shares_byte, touches_memory}
-use Rattle.xt_race.specs.Found.{seen}
+use Rattle.xt_race.specs.Found.{acquired_count}
 use Rattle.xt_race.specs.Firsts.{FirstFit, FirstHit, FirstPair, IsEarlier, IsLater, fits_at, fits_in, hit_at, hit_in}
 use Rattle.xt_race.proofs.Acquiring.{AreOfCores}
 use Rattle.xt_race.proofs.Racing.{Rival, SomeByte, hit_is, race_from, race_hits, some_from, some_is}
@@ -100,7 +100,7 @@ first_is es l x cores h least =
     let f : Fits es l i = fits_is es l i least.fit in
     let first : i ≤ r.place = elim (cases_lt r.place i) [ inl lt ↦ absurd (no_both _ (rival_fits es l h r) (least.none_before r.place lt)) | inr le ↦ le ] in
     let early : i < l.place = omega (arith, first, r.high) in
-    let late : seen l.event.entry.core es (suc l.place) ≤ i = subst (λ (n : ℕ). n ≤ i) h.acquired f.late in
+    let late : acquired_count l.event.entry.core es (suc l.place) ≤ i = subst (λ (n : ℕ). n ≤ i) h.acquired f.late in
     record {
       race = race_from es i l.place f.event l.event cores f.at h.at early late f.conflict;
       least_second = λ k j race. elim (cases_lt j l.place) [ inl lt ↦ absurd (no_both _ (race_is_hit es k j cores race) (h.none_before j lt)) | inr le ↦ le ];

@@ -5,7 +5,7 @@ use Rattle.std.specs.Fmt.{decimal}
 use Rattle.xt_race.specs.declared.event.Event.{Event}
 use Rattle.xt_race.specs.declared.race.Pair.{Pair}
 use Rattle.xt_race.specs.Firsts.{FirstPair}
-use Rattle.xt_race.specs.Texts.{event_line, line_at, race_text}
+use Rattle.xt_race.specs.RaceTexts.{event_line, line_at, race_text}
 
 pub pair_printed : (es : List Event) (p : Pair) (text : List ℕ) → FirstPair es p
     → text ≡ codes "race " ++ decimal p.race.first ++ codes " " ++ decimal p.race.second ++ codes "\n" ++ event_line p.first ++ event_line p.second

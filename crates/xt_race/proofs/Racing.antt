@@ -8,8 +8,8 @@ use Rattle.xt_map.specs.Regions.{region_of, is_memory}
 use Rattle.xt_map.specs.Touching.{touches}
 use Rattle.xt_race.specs.declared.event.Event.{Event}
 use Rattle.xt_race.specs.Races.{Conflict, IsRace, synchronises, touches_byte, writes}
-use Rattle.xt_race.specs.Tables.{chosen, is_side, note_of, other, rival_of, some_byte}
-use Rattle.xt_race.specs.Found.{is_hit, is_plain, latest, latest_at, marked, meets, seen}
+use Rattle.xt_race.specs.Tables.{latest_of, is_side, note_of, other, rival_of, some_byte}
+use Rattle.xt_race.specs.Found.{is_hit, is_plain, latest, latest_at, latest_mark, meets, acquired_count}
 use Rattle.xt_race.proofs.Newest.{Latter, latest_above, latest_is}
 use Rattle.xt_race.proofs.Acquiring.{AreOfCores, other_apart, other_is, other_low, ordered_seen, seen_ordered, side_is, side_of}
 
@@ -56,20 +56,20 @@ rival true false c a x = meets c a x
 rival false true c a x = meets c a x && (is_plain x && writes x)
 rival false false c a x = meets c a x && writes x
 
-rival_latest : (w s : Bool) (c : ℕ) (es : List Event) (n a : ℕ) → chosen w (not s) (latest_at c es n a) ≡ latest (rival w s c a) es n
+rival_latest : (w s : Bool) (c : ℕ) (es : List Event) (n a : ℕ) → latest_of w (not s) (latest_at c es n a) ≡ latest (rival w s c a) es n
 rival_latest true true c es n a = refl
 rival_latest true false c es n a = refl
 rival_latest false true c es n a = refl
 rival_latest false false c es n a = refl
 
-side_latest : (c : ℕ) (es : List Event) (n a : ℕ) → c < 2 → cond (eqb c 0) (marked es n a).one (marked es n a).zero ≡ latest_at (other c) es n a
+side_latest : (c : ℕ) (es : List Event) (n a : ℕ) → c < 2 → cond (eqb c 0) (latest_mark es n a).one (latest_mark es n a).zero ≡ latest_at (other c) es n a
 side_latest zero es n a low = refl
 side_latest (suc zero) es n a low = refl
 side_latest (suc (suc c)) es n a low = absurd (omega arith)
 
-rivals : (es : List Event) (n : ℕ) (e : Event) (a : ℕ) → e.entry.core < 2 → rival_of (note_of e (suc n)) (marked es n a) ≡ latest (rival (writes e) (synchronises e) (other e.entry.core) a) es n
+rivals : (es : List Event) (n : ℕ) (e : Event) (a : ℕ) → e.entry.core < 2 → rival_of (note_of e (suc n)) (latest_mark es n a) ≡ latest (rival (writes e) (synchronises e) (other e.entry.core) a) es n
 rivals es n e a low =
-    ap (chosen (writes e) (not (synchronises e))) (side_latest e.entry.core es n a low) ∙ rival_latest (writes e) (synchronises e) (other e.entry.core) es n a
+    ap (latest_of (writes e) (not (synchronises e))) (side_latest e.entry.core es n a low) ∙ rival_latest (writes e) (synchronises e) (other e.entry.core) es n a
 
 -- ---- conflicts
 
@@ -131,7 +131,7 @@ rival_from false false c a x h = and_from _ _ (and_from _ _ h.side (and_from _ _
 pub record Rival (es : List Event) (n : ℕ) (e : Event) : Type 0 where
   pub place : ℕ
   pub event : Event
-  pub low : seen e.entry.core es (suc n) ≤ place
+  pub low : acquired_count e.entry.core es (suc n) ≤ place
   pub high : place < n
   pub at : slice_get es place ≡ Some event
   pub conflict : Conflict event e
@@ -139,8 +139,8 @@ pub record Rival (es : List Event) (n : ℕ) (e : Event) : Type 0 where
 pub hit_is : (es : List Event) (n : ℕ) (e : Event) → AreOfCores es → e.entry.core < 2 → is_hit es n e ≡ true → Rival es n e
 hit_is es n e cores low h =
     let c : ℕ = e.entry.core in
-    let s : ℕ = seen c es (suc n) in
-    let f : ℕ → Bool = λ a. nat_lt s (rival_of (note_of e (suc n)) (marked es n a)) in
+    let s : ℕ = acquired_count c es (suc n) in
+    let f : ℕ → Bool = λ a. nat_lt s (rival_of (note_of e (suc n)) (latest_mark es n a)) in
     let b : SomeByte f e.entry.access.addr e.entry.access.size = some_is f e.entry.access.addr e.entry.access.size h in
     let p : Event → Bool = rival (writes e) (synchronises e) (other c) b.byte in
     let above : s < latest p es n = subst (λ (m : ℕ). s < m) (rivals es n e b.byte low) (ltb-true _ _ b.passes) in
@@ -164,11 +164,11 @@ hit_is es n e cores low h =
       };
     }
 
-pub hit_from : (es : List Event) (n i : ℕ) (x e : Event) → AreOfCores es → e.entry.core < 2 → slice_get es i ≡ Some x → i < n → seen e.entry.core es (suc n) ≤ i → Conflict x e → is_hit es n e ≡ true
+pub hit_from : (es : List Event) (n i : ℕ) (x e : Event) → AreOfCores es → e.entry.core < 2 → slice_get es i ≡ Some x → i < n → acquired_count e.entry.core es (suc n) ≤ i → Conflict x e → is_hit es n e ≡ true
 hit_from es n i x e cores low at lt more k =
     let c : ℕ = e.entry.core in
-    let s : ℕ = seen c es (suc n) in
-    let f : ℕ → Bool = λ a. nat_lt s (rival_of (note_of e (suc n)) (marked es n a)) in
+    let s : ℕ = acquired_count c es (suc n) in
+    let f : ℕ → Bool = λ a. nat_lt s (rival_of (note_of e (suc n)) (latest_mark es n a)) in
     let p : Event → Bool = rival (writes e) (synchronises e) (other c) k.byte in
     let core : x.entry.core ≡ other c = other_is x.entry.core c (cores i x at) low k.cores in
     let m : Meets (writes e) (synchronises e) (other c) k.byte x = record {
@@ -185,19 +185,19 @@ hit_from es n i x e cores low at lt more k =
 
 -- ---- races
 
-pub race_hits : (es : List Event) (i n : ℕ) (e : Event) → AreOfCores es → slice_get es n ≡ Some e → IsRace es i n → (is_hit es n e ≡ true) × (seen e.entry.core es (suc n) ≤ i) × ((x : Event) × (slice_get es i ≡ Some x) × Conflict x e)
+pub race_hits : (es : List Event) (i n : ℕ) (e : Event) → AreOfCores es → slice_get es n ≡ Some e → IsRace es i n → (is_hit es n e ≡ true) × (acquired_count e.entry.core es (suc n) ≤ i) × ((x : Event) × (slice_get es i ≡ Some x) × Conflict x e)
 race_hits es i n e cores at r =
     let same : ◌≡◌ {A = Option Event} (Some r.second) (Some e) = sym r.at_second ∙ at in
     let is : r.second ≡ e = same_Some r.second e same in
     let k : Conflict r.first e = subst (λ (y : Event). Conflict r.first y) is r.conflict in
     let low : e.entry.core < 2 = cores n e at in
     let first : r.first.entry.core < 2 = cores i r.first r.at_first in
-    let none : i < seen e.entry.core es (suc n) → ⊥ = λ lt.
-    r.unordered (seen_ordered es r.first.entry.core r.second.entry.core i n cores first (cores n r.second r.at_second) r.conflict.cores (subst (λ (y : Event). i < seen y.entry.core es (suc n)) (sym is) lt)) in
-    let more : seen e.entry.core es (suc n) ≤ i = elim (cases_lt i (seen e.entry.core es (suc n))) [ inl lt ↦ absurd (none lt) | inr le ↦ le ] in
+    let none : i < acquired_count e.entry.core es (suc n) → ⊥ = λ lt.
+    r.unordered (seen_ordered es r.first.entry.core r.second.entry.core i n cores first (cores n r.second r.at_second) r.conflict.cores (subst (λ (y : Event). i < acquired_count y.entry.core es (suc n)) (sym is) lt)) in
+    let more : acquired_count e.entry.core es (suc n) ≤ i = elim (cases_lt i (acquired_count e.entry.core es (suc n))) [ inl lt ↦ absurd (none lt) | inr le ↦ le ] in
     (hit_from es n i r.first e cores low r.at_first r.earlier more k, more, (r.first, r.at_first, k))
 
-pub race_from : (es : List Event) (i n : ℕ) (x e : Event) → AreOfCores es → slice_get es i ≡ Some x → slice_get es n ≡ Some e → i < n → seen e.entry.core es (suc n) ≤ i → Conflict x e → IsRace es i n
+pub race_from : (es : List Event) (i n : ℕ) (x e : Event) → AreOfCores es → slice_get es i ≡ Some x → slice_get es n ≡ Some e → i < n → acquired_count e.entry.core es (suc n) ≤ i → Conflict x e → IsRace es i n
 race_from es i n x e cores at_i at_n lt more k = record {
   first = x;
   second = e;
@@ -205,5 +205,5 @@ race_from es i n x e cores at_i at_n lt more k = record {
   at_first = at_i;
   at_second = at_n;
   conflict = k;
-  unordered = λ o. (let q : i < seen e.entry.core es (suc n) = ordered_seen es x.entry.core e.entry.core i n (cores i x at_i) (cores n e at_n) k.cores o in omega (arith, q, more));
+  unordered = λ o. (let q : i < acquired_count e.entry.core es (suc n) = ordered_seen es x.entry.core e.entry.core i n (cores i x at_i) (cores n e at_n) k.cores o in omega (arith, q, more));
 }

@@ -11,7 +11,7 @@ use Rattle.xt_map.proofs.Ranged.{dram_range, rtc_fast_data_range, rtc_slow_range
 use Rattle.xt_race.specs.declared.latest.Mark.{Mark}
 use Rattle.xt_race.specs.declared.latest.Note.{Note}
 use Rattle.xt_race.specs.declared.marks.Marks.{Marks}
-use Rattle.xt_race.specs.Tables.{IsNoted, mark_at, mark_in, no_mark, noted, place_of, within, some_byte}
+use Rattle.xt_race.specs.Tables.{IsNoted, mark_at, mark_in, no_mark, mark_after_note, place_of, within, some_byte}
 
 -- ---- places
 
@@ -89,16 +89,16 @@ touches_other : (addr a : ℕ) → a ≢ addr → touches addr 1 a ≡ false
 touches_other addr a apart = grind (arith, nat_tests)
 
 pub noted_none : (n : Note) (addr : ℕ) (old : List (List Mark)) → place_of addr ≡ None → (a : ℕ)
-    → mark_in old (place_of a) ≡ cond (touches addr 1 a && is_memory (region_of a)) (noted n (mark_in old (place_of a))) (mark_in old (place_of a))
+    → mark_in old (place_of a) ≡ cond (touches addr 1 a && is_memory (region_of a)) (mark_after_note n (mark_in old (place_of a))) (mark_in old (place_of a))
 noted_none n addr old none a =
     let m : Mark = mark_in old (place_of a) in
     let b : Bool = touches addr 1 a && is_memory (region_of a) in
     let out : b ≡ false = elim (cases_eq a addr) [ inl e ↦ and_right _ _ (out_of_memory a (ap place_of e ∙ none)) | inr e ↦ and_left _ _ (touches_other addr a e) ] in
-    sym (cond-false b (noted n m) m out)
+    sym (cond-false b (mark_after_note n m) m out)
 
 -- a page past an entry that touches a byte
 abbrev pub IsPagePast : Note → ℕ → List Mark → List Mark → Type 0
-IsPagePast n r old new = (k : ℕ) → get_or new k no_mark ≡ cond (eqb k r) (noted n (get_or old r no_mark)) (get_or old k no_mark)
+IsPagePast n r old new = (k : ℕ) → get_or new k no_mark ≡ cond (eqb k r) (mark_after_note n (get_or old r no_mark)) (get_or old k no_mark)
 
 same_place : (p q : ℕ) → q / 64 ≡ p / 64 → q % 64 ≡ p % 64 → q ≡ p
 same_place p q h g = omega (arith, h, g)
@@ -121,7 +121,7 @@ kept n addr p old page at lt past a ne (Some q) e =
     ]
 
 pub noted_one : (n : Note) (addr p : ℕ) (old new : List (List Mark)) (page : List Mark) → place_of addr ≡ Some p → p / 64 < length old → IsPagePast n (p % 64) (get_or old (p / 64) empty) page → new ≡ slice_set old (p / 64) page → (a : ℕ)
-    → mark_in new (place_of a) ≡ cond (touches addr 1 a && is_memory (region_of a)) (noted n (mark_in old (place_of a))) (mark_in old (place_of a))
+    → mark_in new (place_of a) ≡ cond (touches addr 1 a && is_memory (region_of a)) (mark_after_note n (mark_in old (place_of a))) (mark_in old (place_of a))
 noted_one n addr p old new page at lt past is a =
     let g : ℕ = p / 64 in
     let r : ℕ = p % 64 in
@@ -135,9 +135,9 @@ noted_one n addr p old new page at lt past is a =
           same ∙ ap (mark_in (slice_set old g page)) here
           ∙ ap (λ (l : List Mark). get_or l r no_mark) (get_or-set_same old g page empty lt)
           ∙ past r ∙ cond-true _ _ _ (eq-eqb r r refl)
-          ∙ sym (ap (noted n) read) ∙ sym (cond-true b (noted n m) m met))
+          ∙ sym (ap (mark_after_note n) read) ∙ sym (cond-true b (mark_after_note n m) m met))
       | inr e ↦ (let out : b ≡ false = and_left _ _ (touches_other addr a e) in
-          same ∙ kept n addr p old page at lt past a e (place_of a) refl ∙ sym (cond-false b (noted n m) m out))
+          same ∙ kept n addr p old page at lt past a e (place_of a) refl ∙ sym (cond-false b (mark_after_note n m) m out))
     ]
 
 -- ---- several bytes
@@ -163,13 +163,13 @@ pick false false false f x y z none p q = q ∙ p
 pub noted_more : (n : Note) (from k addr : ℕ) (old m new : Marks) → addr ≡ from + k → IsNoted n from k old m → IsNoted n addr 1 m new → IsNoted n from (k + 1) old new
 noted_more n from k addr old m new e h g a =
     let b : Bool = is_memory (region_of a) in
-    let q : mark_at new a ≡ cond (touches (from + k) 1 a && b) (noted n (mark_at m a)) (mark_at m a) =
-    g a ∙ ap (λ (i : ℕ). cond (touches i 1 a && b) (noted n (mark_at m a)) (mark_at m a)) e in
-    pick (touches from k a) (touches (from + k) 1 a) b (noted n) (mark_at old a) (mark_at m a) (mark_at new a) (touches_apart from k a) (h a) q
-    ∙ sym (ap (λ (t : Bool). cond (t && b) (noted n (mark_at old a)) (mark_at old a)) (touches_more from k a))
+    let q : mark_at new a ≡ cond (touches (from + k) 1 a && b) (mark_after_note n (mark_at m a)) (mark_at m a) =
+    g a ∙ ap (λ (i : ℕ). cond (touches i 1 a && b) (mark_after_note n (mark_at m a)) (mark_at m a)) e in
+    pick (touches from k a) (touches (from + k) 1 a) b (mark_after_note n) (mark_at old a) (mark_at m a) (mark_at new a) (touches_apart from k a) (h a) q
+    ∙ sym (ap (λ (t : Bool). cond (t && b) (mark_after_note n (mark_at old a)) (mark_at old a)) (touches_more from k a))
 
 pub noted_start : (n : Note) (from : ℕ) (old : Marks) → IsNoted n from 0 old old
-noted_start n from old a = sym (ap (λ (t : Bool). cond (t && is_memory (region_of a)) (noted n (mark_at old a)) (mark_at old a)) (touches_none from a))
+noted_start n from old a = sym (ap (λ (t : Bool). cond (t && is_memory (region_of a)) (mark_after_note n (mark_at old a)) (mark_at old a)) (touches_none from a))
 
 -- at the byte after the first k
 pub some_at : (f : ℕ → Bool) (addr size k : ℕ) → k < size → some_byte f (addr + k) (size - k) ≡ (f (addr + k) || some_byte f (addr + (k + 1)) (size - (k + 1)))

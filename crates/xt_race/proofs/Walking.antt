@@ -10,7 +10,7 @@ use Rattle.xt_image.specs.declared.image.Image.{Image}
 use Rattle.xt_core.specs.Runs.{IsRunOf, code_of, records_of}
 use Rattle.xt_race.specs.declared.event.Event.{Event}
 use Rattle.xt_race.specs.declared.finder.Finder.{Finder}
-use Rattle.xt_race.specs.declared.finder.Taken.{Taken}
+use Rattle.xt_race.specs.declared.finder.RaceStep.{RaceStep}
 use Rattle.xt_race.specs.declared.race.Later.{Later}
 use Rattle.xt_race.specs.Races.{event, event_before, events_from, events_of, turns_from}
 use Rattle.xt_race.specs.Found.{IsTaken, Knows}
@@ -95,13 +95,13 @@ pub passed_room : (es left : List Event) (f : Finder) (e : Event) (rest : List E
 passed_room es left f e rest few p next = room es left f.count e rest few p.left_is next
 
 -- what one more entry comes to
-pub passed_taken : (es left : List Event) (f g : Finder) (e : Event) (rest : List Event) (r : Taken) → AreOfCores es → Passed es left f → left ≡ e ∷ rest
+pub passed_taken : (es left : List Event) (f g : Finder) (e : Event) (rest : List Event) (r : RaceStep) → AreOfCores es → Passed es left f → left ≡ e ∷ rest
     → ((events : List Event) (n : ℕ) → Knows f events n → slice_get events n ≡ Some e → e.entry.core < 2 → IsTaken events n e g r) → IsTaken es f.count e g r
 passed_taken es left f g e rest r cores p next taken =
     let at = at_place es f.count e rest (sym p.left_is ∙ next) in
     taken es f.count p.knows at.0 (cores f.count e at.0)
 
-pub passed_more : (es left : List Event) (f g : Finder) (e : Event) (rest : List Event) (r : Taken) → Passed es left f → left ≡ e ∷ rest → IsTaken es f.count e g r → g.count ≡ f.count + 1 → r.hit ≡ false → Passed es rest g
+pub passed_more : (es left : List Event) (f g : Finder) (e : Event) (rest : List Event) (r : RaceStep) → Passed es left f → left ≡ e ∷ rest → IsTaken es f.count e g r → g.count ≡ f.count + 1 → r.hit ≡ false → Passed es rest g
 passed_more es left f g e rest r p next t count miss =
     let n : ℕ = f.count in
     let at = at_place es n e rest (sym p.left_is ∙ next) in
@@ -113,7 +113,7 @@ passed_more es left f g e rest r p next t count miss =
       none = λ k lt. below k (subst (λ (m : ℕ). k < m) count lt);
     }
 
-pub passed_hit : (es left : List Event) (f g : Finder) (e : Event) (rest : List Event) (r : Taken) → Passed es left f → left ≡ e ∷ rest → IsTaken es f.count e g r → r.hit ≡ true
+pub passed_hit : (es left : List Event) (f g : Finder) (e : Event) (rest : List Event) (r : RaceStep) → Passed es left f → left ≡ e ∷ rest → IsTaken es f.count e g r → r.hit ≡ true
     → FirstHit es (record { place = f.count; event = e; seen = r.seen })
 passed_hit es left f g e rest r p next t hit =
     let at = at_place es f.count e rest (sym p.left_is ∙ next) in

@@ -8,7 +8,7 @@ use Rattle.xt_race.specs.declared.race.Later.{Later}
 use Rattle.xt_race.specs.declared.race.Pair.{Pair}
 use Rattle.xt_race.specs.Races.{IsFirst, IsFirstRace}
 use Rattle.xt_race.specs.Clashes.{clash}
-use Rattle.xt_race.specs.Found.{is_hit, seen}
+use Rattle.xt_race.specs.Found.{is_hit, acquired_count}
 
 abbrev pub hit_in : List Event → ℕ → Option Event → Bool
 hit_in events n None = false
@@ -22,7 +22,7 @@ hit_at events n = hit_in events n (slice_get events n)
 pub record FirstHit (events : List Event) (l : Later) : Type 0 where
   pub at : slice_get events l.place ≡ Some l.event
   pub hit : is_hit events l.place l.event ≡ true
-  pub acquired : l.seen ≡ seen l.event.entry.core events (suc l.place)
+  pub acquired : l.seen ≡ acquired_count l.event.entry.core events (suc l.place)
   pub none_before : (n : ℕ) → n < l.place → hit_at events n ≡ false
 
 abbrev pub IsLater : List Event → Option Later → Type 0

@@ -5,7 +5,7 @@ use Rattle.std.specs.Prelude.{if◌then◌else◌, Option, Some, None, List, max
 use Rattle.xt_map.specs.Regions.{region_of, is_memory}
 use Rattle.xt_race.specs.declared.event.Event.{Event}
 use Rattle.xt_race.specs.declared.finder.Finder.{Finder}
-use Rattle.xt_race.specs.declared.finder.Taken.{Taken}
+use Rattle.xt_race.specs.declared.finder.RaceStep.{RaceStep}
 use Rattle.xt_race.specs.declared.latest.Latest.{Latest}
 use Rattle.xt_race.specs.declared.latest.Mark.{Mark}
 use Rattle.xt_race.specs.Races.{acquires, releases, synchronises, touches_byte, writes}
@@ -38,8 +38,8 @@ latest_at c events n a = record {
   plain_write = latest (λ e. meets c a e && (is_plain e && writes e)) events n;
 }
 
-abbrev pub marked : List Event → ℕ → ℕ → Mark
-marked events n a = record { zero = latest_at 0 events n a; one = latest_at 1 events n a }
+abbrev pub latest_mark : List Event → ℕ → ℕ → Mark
+latest_mark events n a = record { zero = latest_at 0 events n a; one = latest_at 1 events n a }
 
 -- ---- releases and acquires
 
@@ -53,31 +53,33 @@ seen_past c released before (Some e) =
     else before
 
 -- how many entries of the other core a core has acquired with the first n entries
-abbrev pub seen : ℕ → List Event → ℕ → ℕ
-seen c events zero = 0
-seen c events (suc n) =
-    seen_past c (λ addr. latest (releases_at (other c) addr) events n) (seen c events n)
+abbrev pub acquired_count : ℕ → List Event → ℕ → ℕ
+acquired_count c events zero = 0
+acquired_count c events (suc n) =
+    seen_past c (λ addr. latest (releases_at (other c) addr) events n) (acquired_count c events n)
     (slice_get events n)
 
 -- ---- what is kept of the first n entries
 
 pub record Knows (f : Finder) (events : List Event) (n : ℕ) : Type 0 where
   pub count : f.count ≡ n
-  pub marks : (a : ℕ) → mark_at f.marks a ≡ marked events n a
+  pub marks : (a : ℕ) → mark_at f.marks a ≡ latest_mark events n a
   pub releases0 : (addr : ℕ) → released_at f.releases 0 addr ≡ latest (releases_at 0 addr) events n
   pub releases1 : (addr : ℕ) → released_at f.releases 1 addr ≡ latest (releases_at 1 addr) events n
-  pub seen0 : f.seen0 ≡ seen 0 events n
-  pub seen1 : f.seen1 ≡ seen 1 events n
+  pub seen0 : f.seen0 ≡ acquired_count 0 events n
+  pub seen1 : f.seen1 ≡ acquired_count 1 events n
 
 -- entry n, which is e, races with one before it
 abbrev pub is_hit : List Event → ℕ → Event → Bool
 is_hit events n e =
     some_byte
-    (λ a. nat_lt (seen e.entry.core events (suc n)) (rival_of (note_of e (suc n)) (marked events n a)))
+    (λ a. nat_lt (acquired_count e.entry.core events (suc n))
+    (rival_of (note_of e (suc n)) (latest_mark events n a)))
     e.entry.access.addr e.entry.access.size
 
 -- one more entry was taken
-pub record IsTaken (events : List Event) (n : ℕ) (e : Event) (f : Finder) (r : Taken) : Type 0 where
-  pub knows : Knows f events (suc n)
-  pub hit_is : r.hit ≡ is_hit events n e
-  pub seen_is : r.seen ≡ seen e.entry.core events (suc n)
+pub record IsTaken (events : List Event) (n : ℕ) (e : Event) (f : Finder) (r : RaceStep) : Type 0
+  where
+    pub knows : Knows f events (suc n)
+    pub hit_is : r.hit ≡ is_hit events n e
+    pub seen_is : r.seen ≡ acquired_count e.entry.core events (suc n)

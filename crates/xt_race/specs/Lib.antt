@@ -1,8 +1,8 @@
 pub mod Races
-pub mod Kept
+pub mod KeptEntries
 pub mod Tables
 pub mod Found
 pub mod Clashes
 pub mod Firsts
-pub mod Texts
-pub mod Laws
+pub mod RaceTexts
+pub mod RaceLaws

@@ -26,24 +26,24 @@ use Rattle.xt_map.specs.Regions.{region_of, is_memory}
 use Rattle.xt_map.specs.Touching.{touches}
 use Rattle.xt_trace.specs.declared.record.StepRecord.{StepRecord}
 use Rattle.xt_trace.specs.declared.run.Run.{Run}
-use Rattle.xt_fetch.specs.Fetching.{Fetched, Fetches, Fails, SpellsNothing, fetched}
+use Rattle.xt_fetch.specs.Fetching.{Fetched, Fetches, Fails, SpellsNothing, fetch_at}
 use Rattle.xt_image.specs.declared.image.Image.{Image}
 use Rattle.xt_core.specs.Runs.{code_of, records_of}
 use Rattle.xt_race.specs.declared.event.Event.{Event}
-use Rattle.xt_race.specs.declared.event.Order.{Order}
-use Rattle.xt_race.specs.declared.event.Order.TheVariants as order
+use Rattle.xt_race.specs.declared.event.Synchronization.{Synchronization}
+use Rattle.xt_race.specs.declared.event.Synchronization.TheVariants as order
 use Rattle.xt_race.specs.declared.race.Race.{Race}
 
 -- ---- the entries of a history, each with the turn that made it
 
 -- how an instruction orders
-unfoldable pub order_in : Insn → Order
+unfoldable pub order_in : Insn → Synchronization
 order_in (insn.Memory (memory.L32i WordName.L32ai t s offset)) = order.Acquire
 order_in (insn.Memory (memory.L32i WordName.S32ri t s offset)) = order.Release
 order_in (insn.Memory (memory.S32c1i t s offset)) = order.Swap
 order_in _ = order.Plain
 
-abbrev pub order_of : Fetched → Order
+abbrev pub order_of : Fetched → Synchronization
 order_of (Fetches i len) = order_in i
 order_of (Fails address) = order.Plain
 order_of SpellsNothing = order.Plain
@@ -63,7 +63,7 @@ event code e turn = record {
   entry = e;
   turn = turn.0;
   step = turn.1;
-  order = order_of (fetched code turn.1.pc);
+  order = order_of (fetch_at code turn.1.pc);
 }
 
 abbrev pub event_before : (ℕ → ℕ) → Entry → Option (ℕ × StepRecord) → List Event → List Event
@@ -93,7 +93,7 @@ has_stored (Cas expected new) reply = reply == expected
 abbrev pub writes : Event → Bool
 writes e = has_stored e.entry.access.kind e.entry.reply
 
-abbrev pub orders_later : Order → Bool → Bool
+abbrev pub orders_later : Synchronization → Bool → Bool
 orders_later order.Plain stored = false
 orders_later order.Acquire stored = false
 orders_later order.Release stored = true
@@ -103,7 +103,7 @@ orders_later order.Swap stored = stored
 abbrev pub releases : Event → Bool
 releases e = orders_later e.order (writes e)
 
-abbrev pub orders_earlier : Order → Bool
+abbrev pub orders_earlier : Synchronization → Bool
 orders_earlier order.Plain = false
 orders_earlier order.Acquire = true
 orders_earlier order.Release = false
@@ -113,7 +113,7 @@ orders_earlier order.Swap = true
 abbrev pub acquires : Event → Bool
 acquires e = orders_earlier e.order
 
-abbrev pub orders : Order → Bool
+abbrev pub orders : Synchronization → Bool
 orders order.Plain = false
 orders order.Acquire = true
 orders order.Release = true

@@ -47,19 +47,19 @@ noted_in n l = record {
   plain_write = if n.plain && n.writes then n.upto else l.plain_write;
 }
 
-abbrev pub noted : Note → Mark → Mark
-noted n m =
+abbrev pub mark_after_note : Note → Mark → Mark
+mark_after_note n m =
     if n.core == 0 then record { zero = noted_in n m.zero; one = m.one }
     else record { zero = m.zero; one = noted_in n m.one }
 
-abbrev pub chosen : Bool → Bool → Latest → ℕ
-chosen true true l = l.any
-chosen true false l = l.plain
-chosen false true l = l.write
-chosen false false l = l.plain_write
+abbrev pub latest_of : Bool → Bool → Latest → ℕ
+latest_of true true l = l.any
+latest_of true false l = l.plain
+latest_of false true l = l.write
+latest_of false false l = l.plain_write
 
 abbrev pub rival_of : Note → Mark → ℕ
-rival_of n m = chosen n.writes n.plain (if n.core == 0 then m.one else m.zero)
+rival_of n m = latest_of n.writes n.plain (if n.core == 0 then m.one else m.zero)
 
 -- ---- the bytes of the memory regions, in a row
 
@@ -85,7 +85,7 @@ mark_at m a = mark_in m.pages.items (place_of a)
 abbrev pub IsNoted : Note → ℕ → ℕ → Marks → Marks → Type 0
 IsNoted note addr size old new =
     (a : ℕ) → mark_at new a
-    ≡ (if touches addr size a && is_memory (region_of a) then noted note (mark_at old a)
+    ≡ (if touches addr size a && is_memory (region_of a) then mark_after_note note (mark_at old a)
     else mark_at old a)
 
 -- the test is true of one of so many bytes from an address on

@@ -1,7 +1,7 @@
 //! Entries of a history, with the turns that made them.
 ghost use Rattle.std.specs.Prelude.{◌≡◌};
 ghost use Rattle.xt_map.specs.Memory.{constant_byte};
-ghost use Rattle.xt_fetch.specs.Fetching.{fetched};
+ghost use Rattle.xt_fetch.specs.Fetching.{fetch_at};
 ghost use Rattle.xt_race.specs.Races.{acquires, has_stored, order_in, order_of, releases, synchronises, touches_byte, writes};
 ghost use Rattle.xt_race.specs.Clashes.{clash, shares_byte, touches_memory};
 
@@ -14,7 +14,7 @@ use xt_trace::StepRecord;
 
 /// How an instruction orders the accesses of its core for the other one.
 #[derive(Clone, Copy, Debug, PartialEq, Eq)]
-pub enum Order {
+pub enum Synchronization {
     /// Not at all.
     Plain,
     /// L32AI: what comes after it comes after what it acquires.
@@ -35,29 +35,29 @@ pub struct Event {
     /// The record of the turn.
     pub step: StepRecord,
     /// How the instruction that the record executes orders.
-    pub order: Order,
+    pub order: Synchronization,
 }
 
 // How an instruction orders.
 #[tactic(auto, unfolding(crate::specs::Races::order_in))]
-fn order_in(insn: Insn) -> Order
+fn order_in(insn: Insn) -> Synchronization
     ensures { result ≡ order_in insn }
 {
     match insn {
-        Insn::Memory(Memory::L32i(WordName::L32ai, _, _, _)) => Order::Acquire,
-        Insn::Memory(Memory::L32i(WordName::S32ri, _, _, _)) => Order::Release,
-        Insn::Memory(Memory::S32c1i(_, _, _)) => Order::Swap,
-        _ => Order::Plain,
+        Insn::Memory(Memory::L32i(WordName::L32ai, _, _, _)) => Synchronization::Acquire,
+        Insn::Memory(Memory::L32i(WordName::S32ri, _, _, _)) => Synchronization::Release,
+        Insn::Memory(Memory::S32c1i(_, _, _)) => Synchronization::Swap,
+        _ => Synchronization::Plain,
     }
 }
 
 /// How the instruction at an address orders.
-pub fn order_at(code: &Constants, pc: u32) -> Order
-    ensures { result ≡ order_of (fetched (constant_byte code.now) pc) }
+pub fn order_at(code: &Constants, pc: u32) -> Synchronization
+    ensures { result ≡ order_of (fetch_at (constant_byte code.now) pc) }
 {
     match instruction_at::<Event>(code, pc) {
         Fetch::Insn(insn, _) => order_in(insn),
-        _ => Order::Plain,
+        _ => Synchronization::Plain,
     }
 }
 
@@ -85,8 +85,8 @@ impl Event {
         ensures { result ≡ releases self.now }
     {
         match self.order {
-            Order::Release => true,
-            Order::Swap => self.writes(),
+            Synchronization::Release => true,
+            Synchronization::Swap => self.writes(),
             _ => false,
         }
     }
@@ -96,7 +96,7 @@ impl Event {
         ensures { result ≡ acquires self.now }
     {
         match self.order {
-            Order::Acquire | Order::Swap => true,
+            Synchronization::Acquire | Synchronization::Swap => true,
             _ => false,
         }
     }
@@ -106,7 +106,7 @@ impl Event {
         ensures { result ≡ synchronises self.now }
     {
         match self.order {
-            Order::Plain => false,
+            Synchronization::Plain => false,
             _ => true,
         }
     }

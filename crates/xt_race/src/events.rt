@@ -3,7 +3,7 @@ ghost use Rattle.std.specs.Prelude.{◌≡◌, ◌<◌, [], ◌∷◌, IfOk, Mat
 ghost use Rattle.xt_map.specs.Memory.{constant_byte};
 ghost use Rattle.xt_map.specs.Placing.{IsPlaced};
 ghost use Rattle.xt_core.specs.Runs.{IsRunOf, records_of};
-ghost use Rattle.xt_race.specs.Kept.{events_left, turns_left};
+ghost use Rattle.xt_race.specs.KeptEntries.{events_left, turns_left};
 ghost use Rattle.xt_race.specs.Races.{event, events_of, turns_from};
 
 use crate::event::{Event, order_at};

@@ -25,7 +25,7 @@ pub struct Finder {
 
 /// What one more entry comes to.
 #[derive(Clone, Copy)]
-pub struct Taken {
+pub struct RaceStep {
     /// Whether it races with an entry before it.
     pub hit: bool,
     /// How many entries of the other core its core has acquired, up to and with this one.
@@ -92,7 +92,7 @@ impl Finder {
     /// Takes one more entry. The only error is running out of memory.
     ///
     /// Condition: there are fewer than 4,294,967,295 entries before it.
-    pub fn take(&mut self, event: &Event) -> Result<Taken, AllocError>
+    pub fn take(&mut self, event: &Event) -> Result<RaceStep, AllocError>
         requires { self.old.count + 1 < 2 ^ 32 }
         ensures count { IfOk result (λ r. self.new.count ≡ self.old.count + 1) }
         ensures taken { IfOk result (λ r. (events : List Event) (n : ℕ) → Knows self.old events n → slice_get events n ≡ Some event.now → event.now.entry.core < 2 → IsTaken events n event.now self.new r) }
@@ -106,6 +106,6 @@ impl Finder {
         self.releases.keep(event, upto)?;
         self.keep_seen(note.core, seen);
         self.count = upto;
-        Ok(Taken { hit, seen })
+        Ok(RaceStep { hit, seen })
     }
 }

@@ -1,6 +1,6 @@
 //! The latest entries of both cores that touch a byte.
 ghost use Rattle.std.specs.Prelude.{◌≡◌};
-ghost use Rattle.xt_race.specs.Tables.{chosen, no_mark, noted, noted_in, rival_of};
+ghost use Rattle.xt_race.specs.Tables.{latest_of, no_mark, mark_after_note, noted_in, rival_of};
 
 /// The latest entries of a core that touch a byte: of each one more than its place in the history, 0 where there is none.
 #[derive(Clone, Copy)]
@@ -70,8 +70,8 @@ fn noted_in(note: Note, latest: Latest) -> Latest
 }
 
 /// The latest entries of both cores past one more.
-pub fn noted(note: Note, mark: Mark) -> Mark
-    ensures { result ≡ noted note mark }
+pub fn mark_after_note(note: Note, mark: Mark) -> Mark
+    ensures { result ≡ mark_after_note note mark }
 {
     if note.core == 0 {
         Mark {
@@ -87,8 +87,8 @@ pub fn noted(note: Note, mark: Mark) -> Mark
 }
 
 // The latest entry of those that conflict with one that writes or not, and synchronises or not.
-fn chosen(writes: bool, plain: bool, latest: Latest) -> u32
-    ensures { result ≡ chosen writes plain latest }
+fn latest_of(writes: bool, plain: bool, latest: Latest) -> u32
+    ensures { result ≡ latest_of writes plain latest }
 {
     match (writes, plain) {
         (true, true) => latest.any,
@@ -103,5 +103,5 @@ pub fn rival_of(note: Note, mark: Mark) -> u32
     ensures { result ≡ rival_of note mark }
 {
     let latest = if note.core == 0 { mark.one } else { mark.zero };
-    chosen(note.writes, note.plain, latest)
+    latest_of(note.writes, note.plain, latest)
 }

@@ -1,5 +1,5 @@
 //! Laws of races. Each is the contract of a function that does nothing.
-ghost use Rattle.xt_race.specs.Laws.{EntriesHaveTurns, FirstRaceIsOne, RecordsAreOfEntries};
+ghost use Rattle.xt_race.specs.RaceLaws.{EntriesHaveTurns, FirstRaceIsOne, RecordsAreOfEntries};
 
 /// For each entry of a run of an image there is the turn that made it.
 pub fn entries_have_turns()

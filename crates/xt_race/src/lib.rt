@@ -14,7 +14,7 @@ mod releases;
 mod text;
 mod turns;
 
-pub use event::{Event, Order, order_at};
+pub use event::{Event, Synchronization, order_at};
 pub use laws::{entries_have_turns, first_race_is_one, records_are_of_entries};
 pub use race::{Race, first_race};
 pub use text::race_text;

@@ -1,8 +1,8 @@
 //! The latest entries of both cores at the bytes of a page.
 ghost use Rattle.std.specs.Prelude.{◌≡◌, ◌<◌, ◌==◌, ℕ, [], IfOk, OnOk, if◌then◌else◌, length, replicate, slice_index_or, vec_len};
-ghost use Rattle.xt_race.specs.Tables.{no_mark, noted};
+ghost use Rattle.xt_race.specs.Tables.{no_mark, mark_after_note};
 
-use crate::latest::{Mark, Note, no_mark, noted};
+use crate::latest::{Mark, Note, mark_after_note, no_mark};
 use std::alloc::{AllocError, Global};
 use std::marker::Model;
 
@@ -60,11 +60,11 @@ impl Page {
     /// Condition: it is one of 64 bytes.
     pub fn note(&mut self, note: Note, byte: usize) -> Result<(), AllocError>
         requires { byte < 64 }
-        ensures { OnOk result ((k : ℕ) → slice_index_or self.new k no_mark ≡ (if k == byte then noted note (slice_index_or self.old byte no_mark) else slice_index_or self.old k no_mark)) }
+        ensures { OnOk result ((k : ℕ) → slice_index_or self.new k no_mark ≡ (if k == byte then mark_after_note note (slice_index_or self.old byte no_mark) else slice_index_or self.old k no_mark)) }
     {
         reach(&mut self.items, byte)?;
         let mark = self.items[byte];
-        self.items[byte] = noted(note, mark);
+        self.items[byte] = mark_after_note(note, mark);
         Ok(())
     }
 }

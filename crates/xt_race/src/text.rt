@@ -4,7 +4,7 @@ ghost use Rattle.std.specs.Fmt.{decimal};
 ghost use Rattle.xt_map.specs.Placing.{IsPlaced};
 ghost use Rattle.xt_core.specs.Runs.{IsRunOf};
 ghost use Rattle.xt_race.specs.Races.{events_of};
-ghost use Rattle.xt_race.specs.Texts.{IsRaceText, event_line};
+ghost use Rattle.xt_race.specs.RaceTexts.{IsRaceText, event_line};
 
 use crate::event::Event;
 use crate::race::{Pair, pair_of};

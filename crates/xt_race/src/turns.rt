@@ -14,7 +14,7 @@ pub struct Turns<'a> {
 
 impl<'a> Turns<'a> {
     ghost use Rattle.std.specs.Prelude.{◌≡◌, [], ◌∷◌, MatchOption};
-    ghost use Rattle.xt_race.specs.Kept.{turns_left};
+    ghost use Rattle.xt_race.specs.KeptEntries.{turns_left};
 
     /// The next turn with an access, with its number, if there is one.
     pub fn next(&mut self) -> Option<(u32, StepRecord)>

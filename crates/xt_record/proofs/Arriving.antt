@@ -12,7 +12,7 @@ use Rattle.xt_exec.specs.Turn.{demand, turn}
 use Rattle.xt_map.specs.declared.segment.Segment.{Segment}
 use Rattle.xt_map.specs.Memory.{constant_byte}
 use Rattle.xt_core.specs.declared.begin.Begin.TheVariants as begin
-use Rattle.xt_core.specs.Cores.{Asks, Begins, CoreState, turned}
+use Rattle.xt_core.specs.Cores.{Asks, Begins, CoreState, core_after_turn}
 use Rattle.xt_record.specs.Walking.{Arrives, Going, Went, beside, due_beside, points_along}
 use Rattle.xt_record.proofs.Turns.{advance_append, local_turn}
 use Rattle.xt_record.proofs.Pointing.{adds_more, adds_none}
@@ -26,7 +26,7 @@ going_start code number before other m entries old free = record {
 }
 
 pub went_more : (code : ℕ → ℕ) (number : ℕ) (before other now next : CoreState) (turns : ℕ) → Went code number before other now turns
-    → 0 < now.left → demand code now.state ≡ None → next ≡ turned code 0 now → Went code number before other next (turns + 1)
+    → 0 < now.left → demand code now.state ≡ None → next ≡ core_after_turn code 0 now → Went code number before other next (turns + 1)
 went_more code number before other now next turns h some asks is =
     let P = processor code in
     let made = (turn code now.state 0).0 in
@@ -51,7 +51,7 @@ went_more code number before other now next turns h some asks is =
 
 pub going_local : (code : ℕ → ℕ) (number : ℕ) (before other now next : CoreState) (m : MemoryContents) (entries : ℕ) (old mid new : List (List ℕ))
     → Going code number before other now m entries old mid → new ≡ mid ++ due_beside number entries now other m
-    → 0 < now.left → demand code now.state ≡ None → next ≡ turned code 0 now → Going code number before other next m entries old new
+    → 0 < now.left → demand code now.state ≡ None → next ≡ core_after_turn code 0 now → Going code number before other next m entries old new
 going_local code number before other now next m entries old mid new h grown some asks is = record {
   turns = h.turns + 1;
   went = went_more code number before other now next h.turns h.went some asks is;

@@ -23,15 +23,15 @@ use Rattle.xt_trace.specs.Calls.{call_before, calls_in, is_stop}
 use Rattle.xt_image.specs.declared.image.Image.{Image}
 use Rattle.xt_trace.specs.Chip.{Chip}
 use Rattle.xt_trace.specs.Runs as chip
-use Rattle.xt_trace.specs.Runs.{opened, schedule_of}
+use Rattle.xt_trace.specs.Runs.{world_at_start, schedule_of}
 use Rattle.xt_trace.specs.Schedule.{cores_of, places_from, schedule, schedule_in}
-use Rattle.xt_trace.specs.Traces.{ended, replies_past, reply_for, trace_over}
+use Rattle.xt_trace.specs.Traces.{empty_trace, replies_past, reply_for, trace_over}
 use Rattle.xt_trace.specs.Walks.{IsWalk}
 use Rattle.xt_trace.specs.Worlds.{World, entry, give}
 use Rattle.xt_trace.proofs.Short.{trace_bound}
 use Rattle.xt_trace.proofs.Walks.{own_walk}
 use Rattle.xt_exec.specs.Chips.{processor, turn_asks}
-use Rattle.xt_exec.specs.Laws.{IsServed}
+use Rattle.xt_exec.specs.TurnLaws.{IsServed}
 use Rattle.xt_exec.specs.State.{State}
 use Rattle.xt_exec.specs.Turn.{demand}
 use Rattle.xt_exec.proofs.Served.{demand_served}
@@ -88,7 +88,7 @@ schedule_few image r h =
     let P = processor (code_of image) in
     let o = opening_of image r.options in
     let long : length (schedule_of (recorded image r)) ≡ length (records_of 0 image r).records + length (records_of 1 image r).records =
-    walk_long P (schedule_of (recorded image r)) (opened o) _ _ (own_walk P o (recorded image r) (recorded_run image r h)) in
+    walk_long P (schedule_of (recorded image r)) (world_at_start o) _ _ (own_walk P o (recorded image r) (recorded_run image r h)) in
     omega (
       arith,
       long,
@@ -202,7 +202,7 @@ calls_served code s (suc n) replies =
     let rest = trace_over P t.1 n (replies_past (demand code s) replies) in
     let h : All IsServedCall (calls_in rest.records) = calls_served code t.1 n (replies_past (demand code s) replies) in
     call_more t.0.access t.0.reply _ (subst IsServed (sym (turn_asks code s reply)) (demand_served code s))
-    (elim (is_stop t.0.kind) as (λ b. All IsServedCall (calls_in (cond b (ended t.1) rest).records)) [ true ↦ All-nil IsServedCall | false ↦ h ])
+    (elim (is_stop t.0.kind) as (λ b. All IsServedCall (calls_in (cond b (empty_trace t.1) rest).records)) [ true ↦ All-nil IsServedCall | false ↦ h ])
 
 abbrev pub IsServedEntry : Entry → Type 0
 IsServedEntry e = is_mapped e.access ≡ true

@@ -14,9 +14,9 @@ use Rattle.xt_trace.specs.declared.trace.Trace.{Trace}
 use Rattle.xt_trace.specs.Calls.{calls_in}
 use Rattle.xt_trace.specs.Validity.{IsValid}
 use Rattle.xt_image.specs.declared.image.Image.{Image}
-use Rattle.xt_bus.specs.States.{MemoryState, holding}
+use Rattle.xt_bus.specs.States.{MemoryState, memory_state}
 use Rattle.xt_trace.specs.Chip.{Chip}
-use Rattle.xt_trace.specs.Runs.{opened}
+use Rattle.xt_trace.specs.Runs.{world_at_start}
 use Rattle.xt_trace.specs.Schedule.{cores_of, places_from, schedule_from}
 use Rattle.xt_trace.specs.Short.{ShortCore, ShortWorld, short_advance, short_core}
 use Rattle.xt_trace.specs.Traces.{Traced, stop_of}
@@ -42,8 +42,8 @@ use Rattle.xt_record.proofs.Turns.{advance_append}
 -- ---- the opening
 
 pub opens : (image : Image) (o : Options) (es : List Entry) (k0 k1 : CoreState) (s : Setting) → IsValid o → s.code ≡ image.segments
-    → k0 ≡ cores.opened 0 (opening_at 0 (entry_of 0 image o) o) (turns_of 0 o) → k1 ≡ cores.opened 1 (opening_at 1 (entry_of 1 image o) o) (turns_of 1 o)
-    → s.memory ≡ holding (memory_of image o) (o.turns0 + o.turns1) → s.points.items ≡ [] → (memory_of image o).sent ≡ [] → StandsAt image o es 0 k0 k1 s
+    → k0 ≡ cores.opening_core_state 0 (opening_at 0 (entry_of 0 image o) o) (turns_of 0 o) → k1 ≡ cores.opening_core_state 1 (opening_at 1 (entry_of 1 image o) o) (turns_of 1 o)
+    → s.memory ≡ memory_state (memory_of image o) (o.turns0 + o.turns1) → s.points.items ≡ [] → (memory_of image o).sent ≡ [] → StandsAt image o es 0 k0 k1 s
 opens image o es k0 k1 s valid code is0 is1 memory points quiet =
     let r = run_with image o es in
     let w0 = opening_world image o in
@@ -57,8 +57,8 @@ opens image o es k0 k1 s valid code is0 is1 memory points quiet =
       list = [];
       code_is = code;
       world = ap (λ (k : CoreState). beside 0 k k1 (line_at s.memory.contents [])) is0
-          ∙ ap (λ (k : CoreState). beside 0 (cores.opened 0 (opening_at 0 (entry_of 0 image o) o) (turns_of 0 o)) k (line_at s.memory.contents [])) is1
-          ∙ ap (λ (x : MemoryState). beside 0 (cores.opened 0 (opening_at 0 (entry_of 0 image o) o) (turns_of 0 o)) (cores.opened 1 (opening_at 1 (entry_of 1 image o) o) (turns_of 1 o)) (line_at x.contents [])) memory;
+          ∙ ap (λ (k : CoreState). beside 0 (cores.opening_core_state 0 (opening_at 0 (entry_of 0 image o) o) (turns_of 0 o)) k (line_at s.memory.contents [])) is1
+          ∙ ap (λ (x : MemoryState). beside 0 (cores.opening_core_state 0 (opening_at 0 (entry_of 0 image o) o) (turns_of 0 o)) (cores.opening_core_state 1 (opening_at 1 (entry_of 1 image o) o) (turns_of 1 o)) (line_at x.contents [])) memory;
       counted = omega (arith, count0, count1);
       grown = omega arith;
       points = points;
@@ -70,7 +70,7 @@ opens image o es k0 k1 s valid code is0 is1 memory points quiet =
         few = omega (arith, count0, count1, left0, left1, valid.turns0, valid.turns1);
         room = omega (arith, sent, room, left0, left1);
       };
-      ordered = ap (λ (k : CoreState). order_left r 0 k k1) is0 ∙ ap (order_left r 0 (cores.opened 0 (opening_at 0 (entry_of 0 image o) o) (turns_of 0 o))) is1;
+      ordered = ap (λ (k : CoreState). order_left r 0 k k1) is0 ∙ ap (order_left r 0 (cores.opening_core_state 0 (opening_at 0 (entry_of 0 image o) o) (turns_of 0 o))) is1;
     }
 
 -- ---- the end
@@ -129,7 +129,7 @@ points_of_run image o es =
     let s = schedule_in (run_with image o es) in
     let each : (l : List ℕ) → map (λ (p : ℕ). point_of p (short_advance P (take p s) (opening_world image o))) l ≡ map (λ (p : ℕ). checkpoint_of p (world_at image (run_with image o es) p)) l =
     λ l. mapped (λ (p : ℕ). point_of p (short_advance P (take p s) (opening_world image o))) (λ (p : ℕ). checkpoint_of p (world_at image (run_with image o es) p))
-    (λ p. ap (point_of p) (sym (short_world_advanced P (take p s) (opened (opening_of image o))))) l in
+    (λ p. ap (point_of p) (sym (short_world_advanced P (take p s) (world_at_start (opening_of image o))))) l in
     each (filter is_due (range_with_len 0 (length s)))
 
 -- the finding of a core after its last entry

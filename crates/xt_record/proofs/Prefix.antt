@@ -10,10 +10,10 @@ use Rattle.xt_trace.specs.declared.record.StepRecord.{StepRecord}
 use Rattle.xt_trace.specs.Calls.{call_before, calls_in}
 use Rattle.xt_trace.specs.Chip.{Chip}
 use Rattle.xt_trace.specs.Driven.{Drove}
-use Rattle.xt_trace.specs.Runs.{Opening, opened}
+use Rattle.xt_trace.specs.Runs.{Opening, world_at_start}
 use Rattle.xt_trace.specs.Schedule.{place_before, places_from}
 use Rattle.xt_trace.specs.Traces.{Traced, replies_past, reply_for, trace_over}
-use Rattle.xt_trace.specs.Worlds.{Core, advance, closed, left_past}
+use Rattle.xt_trace.specs.Worlds.{Core, advance, finished_core, left_past}
 use Rattle.xt_trace.proofs.Keeping.{advance_keeps, opened_reached}
 use Rattle.xt_trace.proofs.Turns.{core, trace_turn}
 
@@ -84,25 +84,25 @@ splits_from : {S : Type 0} (P : Chip S) (c : ℕ) (s : S) (n : ℕ) (k : Core S)
     → Splits P c (trace_over P s n (replies_of c es)) k es i
 splits_from {S = S} P c s n k es h i d is =
     let rest = replies_of c (drop i es) in
-    let here : closed P (core s n []) (replies_of c es) ≡ closed P k rest =
-    ap (closed P (core s n [])) (sym (ap (λ (l : List Entry). replies_of c l ++ rest) is ∙ replies_split c i es)) ∙ sym (d.trace rest) in
+    let here : finished_core P (core s n []) (replies_of c es) ≡ finished_core P k rest =
+    ap (finished_core P (core s n [])) (sym (ap (λ (l : List Entry). replies_of c l ++ rest) is ∙ replies_split c i es)) ∙ sym (d.trace rest) in
     record {
       records = ap (λ (x : Core S). x.records) here;
       last = ap (λ (x : Core S). x.state) here;
       calls = d.calls ∙ ap (calls_of c) is;
     }
 
-pub splits_zero : {S : Type 0} (P : Chip S) (o : Opening S) (list : List ℕ) (es : List Entry) (i : ℕ) → (advance P list (opened o)).line.history ≡ take i es
-    → Splits P 0 (trace_over P o.state0 o.turns0 (replies_of 0 es)) (advance P list (opened o)).core0 es i
+pub splits_zero : {S : Type 0} (P : Chip S) (o : Opening S) (list : List ℕ) (es : List Entry) (i : ℕ) → (advance P list (world_at_start o)).line.history ≡ take i es
+    → Splits P 0 (trace_over P o.state0 o.turns0 (replies_of 0 es)) (advance P list (world_at_start o)).core0 es i
 splits_zero P o list es i is =
-    let w = advance P list (opened o) in
-    splits_from P 0 o.state0 o.turns0 w.core0 es w.line.history i (advance_keeps P o list (opened o) (opened_reached P o)).zero is
+    let w = advance P list (world_at_start o) in
+    splits_from P 0 o.state0 o.turns0 w.core0 es w.line.history i (advance_keeps P o list (world_at_start o) (opened_reached P o)).zero is
 
-pub splits_one : {S : Type 0} (P : Chip S) (o : Opening S) (list : List ℕ) (es : List Entry) (i : ℕ) → (advance P list (opened o)).line.history ≡ take i es
-    → Splits P 1 (trace_over P o.state1 o.turns1 (replies_of 1 es)) (advance P list (opened o)).core1 es i
+pub splits_one : {S : Type 0} (P : Chip S) (o : Opening S) (list : List ℕ) (es : List Entry) (i : ℕ) → (advance P list (world_at_start o)).line.history ≡ take i es
+    → Splits P 1 (trace_over P o.state1 o.turns1 (replies_of 1 es)) (advance P list (world_at_start o)).core1 es i
 splits_one P o list es i is =
-    let w = advance P list (opened o) in
-    splits_from P 1 o.state1 o.turns1 w.core1 es w.line.history i (advance_keeps P o list (opened o) (opened_reached P o)).one is
+    let w = advance P list (world_at_start o) in
+    splits_from P 1 o.state1 o.turns1 w.core1 es w.line.history i (advance_keeps P o list (world_at_start o) (opened_reached P o)).one is
 
 -- ---- what comes next
 

@@ -16,7 +16,7 @@ use Rattle.xt_trace.specs.declared.options.Stack.{Stack}
 use Rattle.xt_image.specs.Layout.{word_at}
 use Rattle.xt_record.specs.declared.raw.RawEntry.{RawEntry}
 use Rattle.xt_record.specs.Fields.{behind_image, blocks, checkpoint_size, entry_of, image_length, image_part, magic, options_at, raw_at, raws_from, version, words}
-use Rattle.xt_record.specs.Parts.{entry_bytes, first_operand, kind_number, options_bytes, second_operand}
+use Rattle.xt_record.specs.RecordingParts.{entry_bytes, first_operand, kind_number, options_bytes, second_operand}
 
 -- ---- a word in front
 

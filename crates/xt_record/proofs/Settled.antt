@@ -6,7 +6,7 @@ use Rattle.std.proofs.lemmas.List.Elements.{All-cons, All-head, All-nil, All-tai
 use Rattle.xt_trace.specs.declared.run.Run.{Run}
 use Rattle.xt_image.specs.declared.image.Image.{Image}
 use Rattle.xt_image.specs.Layout.{word_at}
-use Rattle.xt_image.specs.Parts.{IsWellFormed}
+use Rattle.xt_image.specs.ImageParts.{IsWellFormed}
 use Rattle.xt_image.proofs.Joined.{IsBytes}
 use Rattle.xt_image.proofs.Standing.{word_fits}
 use Rattle.xt_core.specs.Runs.{IsRunOf}
@@ -14,7 +14,7 @@ use Rattle.xt_record.specs.Fields.{behind_image, entry_count, image_in, image_le
 use Rattle.xt_record.specs.Fields as field
 use Rattle.xt_record.specs.Fitting.{FitsRun, HasWords}
 use Rattle.xt_record.specs.Format.{Reads, recording_fault, run_in}
-use Rattle.xt_record.specs.Parts.{first_operand, second_operand}
+use Rattle.xt_record.specs.RecordingParts.{first_operand, second_operand}
 use Rattle.xt_record.specs.Written.{recording_bytes}
 use Rattle.xt_record.proofs.Whole.{written_again}
 

@@ -15,7 +15,7 @@ use Rattle.xt_trace.specs.declared.run.Run.{Run}
 use Rattle.xt_trace.specs.Calls.{calls_in}
 use Rattle.xt_image.specs.declared.image.Image.{Image}
 use Rattle.xt_trace.specs.Reached.{Reached}
-use Rattle.xt_trace.specs.Runs.{opened}
+use Rattle.xt_trace.specs.Runs.{world_at_start}
 use Rattle.xt_trace.specs.Schedule.{cores_of, places_from, schedule_from}
 use Rattle.xt_trace.specs.Short.{ShortCore, ShortWorld, short_advance, short_core, short_world}
 use Rattle.xt_trace.specs.Traces.{Traced, trace_over}
@@ -42,16 +42,16 @@ use Rattle.xt_record.proofs.Turns.{advance_append}
 
 -- the turns of a list, with the records of both cores
 abbrev pub world_by : Image → Options → List ℕ → World State
-world_by image o list = advance (processor (code_of image)) list (opened (opening_of image o))
+world_by image o list = advance (processor (code_of image)) list (world_at_start (opening_of image o))
 
 abbrev pub IsWorld : Image → Options → List ℕ → ShortWorld State → Type 0
 IsWorld image o list w = w ≡ short_advance (processor (code_of image)) list (opening_world image o)
 
 pub with_records : (image : Image) (o : Options) (list : List ℕ) (w : ShortWorld State) → IsWorld image o list w → short_world (world_by image o list) ≡ w
-with_records image o list w is = short_world_advanced (processor (code_of image)) list (opened (opening_of image o)) ∙ sym is
+with_records image o list w is = short_world_advanced (processor (code_of image)) list (world_at_start (opening_of image o)) ∙ sym is
 
 pub reached : (image : Image) (o : Options) (list : List ℕ) → Reached (processor (code_of image)) (opening_of image o) (world_by image o list)
-reached image o list = let P = processor (code_of image) in advance_keeps P (opening_of image o) list (opened (opening_of image o)) (opened_reached P (opening_of image o))
+reached image o list = let P = processor (code_of image) in advance_keeps P (opening_of image o) list (world_at_start (opening_of image o)) (opened_reached P (opening_of image o))
 
 -- memory is what the entries leave
 memory_is : (image : Image) (o : Options) (list : List ℕ) (c0 c1 : ShortCore State) (m : MemoryContents) (h : List Entry)

@@ -10,14 +10,14 @@ use Rattle.xt_map.specs.declared.access.Kind.TheVariants.{Load, Store, Cas}
 use Rattle.xt_map.specs.declared.contents.MemoryContents.{MemoryContents}
 use Rattle.xt_map.specs.Serving.{memory_past, reply_to}
 use Rattle.xt_map.proofs.Sent.{access_sends}
-use Rattle.xt_bus.specs.States.{MemoryState, served}
+use Rattle.xt_bus.specs.States.{MemoryState, memory_after_access}
 use Rattle.xt_trace.specs.Short.{short_advance, short_give}
 use Rattle.xt_trace.specs.Worlds.{entry, left_past}
 use Rattle.xt_trace.proofs.Ends.{left_at_most}
 use Rattle.xt_trace.specs.Schedule.{place_before}
 use Rattle.xt_exec.specs.Chips.{processor, turn_asks}
 use Rattle.xt_exec.specs.Turn.{turn}
-use Rattle.xt_core.specs.Cores.{AwaitsReply, Asks, CoreState, turned}
+use Rattle.xt_core.specs.Cores.{AwaitsReply, Asks, CoreState, core_after_turn}
 use Rattle.xt_record.specs.declared.fault.RecordFault.TheVariants as fault
 use Rattle.xt_record.specs.declared.setting.Setting.{Setting}
 use Rattle.xt_image.specs.Findings.{fails}
@@ -112,8 +112,8 @@ pub took : (c : ℕ → ℕ) (number : ℕ) (before other waits after : CoreStat
     → number < 2 → e.core ≡ number
     → Arrives c number before other waits old.memory.contents index (Some a) old.points.items mid.points.items
     → mid.memory ≡ old.memory → mid.code ≡ old.code → same_access a e.access ≡ true → right ≡ reply_to mid.memory.contents a → eqb e.reply right ≡ true
-    → ((code : ℕ → ℕ) → AwaitsReply code waits → after ≡ turned code right waits)
-    → new.memory ≡ served mid.memory a → new.code ≡ mid.code → new.points.items ≡ mid.points.items
+    → ((code : ℕ → ℕ) → AwaitsReply code waits → after ≡ core_after_turn code right waits)
+    → new.memory ≡ memory_after_access mid.memory a → new.code ≡ mid.code → new.points.items ≡ mid.points.items
     → Took c number before other after old new index e
 took c number before other waits after old mid new index e a right lt core h memory code same is test ends served_is code_is points_is =
     let P = processor c in
@@ -124,9 +124,9 @@ took c number before other waits after old mid new index e a right lt core h mem
     let right_is : right ≡ reply_to m a = is ∙ ap (λ (x : MemoryState). reply_to x.contents a) memory in
     let whole : e ≡ entry number a (reply_to m a) =
     entry_is e number a (reply_to m a) core (same_accesses a e.access same) (eqb-true e.reply right test ∙ right_is) in
-    let after_is : after ≡ turned c (reply_to m a) free =
-    ends c asks.awaits ∙ ap (turned c right) asks.same ∙ ap (λ (r : ℕ). turned c r free) right_is in
-    let past : new.memory ≡ served old.memory a = served_is ∙ ap (λ (x : MemoryState). served x a) memory in
+    let after_is : after ≡ core_after_turn c (reply_to m a) free =
+    ends c asks.awaits ∙ ap (core_after_turn c right) asks.same ∙ ap (λ (r : ℕ). core_after_turn c r free) right_is in
+    let past : new.memory ≡ memory_after_access old.memory a = served_is ∙ ap (λ (x : MemoryState). memory_after_access x a) memory in
     let contents : new.memory.contents ≡ memory_past m a = ap (λ (x : MemoryState). x.contents) past in
     let room : new.memory.room ≡ old.memory.room = ap (λ (x : MemoryState). x.room) past in
     let made = (turn c free.state (reply_to m a)).0 in
@@ -141,8 +141,8 @@ took c number before other waits after old mid new index e a right lt core h mem
           (sym (judged e number index free.count right m a true same right_is test));
       leads = λ hs.
           ap (λ (k : CoreState). beside number k other (line_at new.memory.contents (hs ++ e ∷ []))) after_is
-          ∙ ap (λ (x : MemoryContents). beside number (turned c (reply_to m a) free) other (line_at x (hs ++ e ∷ []))) contents
-          ∙ ap (λ (x : Entry). beside number (turned c (reply_to m a) free) other (line_at (memory_past m a) (hs ++ x ∷ []))) whole
+          ∙ ap (λ (x : MemoryContents). beside number (core_after_turn c (reply_to m a) free) other (line_at x (hs ++ e ∷ []))) contents
+          ∙ ap (λ (x : Entry). beside number (core_after_turn c (reply_to m a) free) other (line_at (memory_past m a) (hs ++ x ∷ []))) whole
           ∙ call_turn c number free other m hs a lt asks.left asks.asks
           ∙ ap (short_give P number) (h.went.leads (line_at m hs))
           ∙ sym (advance_append P (replicate turns number) (number ∷ []) (beside number before other (line_at m hs)))

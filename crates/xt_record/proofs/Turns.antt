@@ -9,7 +9,7 @@ use Rattle.xt_trace.specs.Short.{ShortWorld, short_advance, short_give, short_gi
 use Rattle.xt_trace.specs.Worlds.{Line, entry, line_past, answer}
 use Rattle.xt_exec.specs.Chips.{processor}
 use Rattle.xt_exec.specs.Turn.{demand}
-use Rattle.xt_core.specs.Cores.{CoreState, turned}
+use Rattle.xt_core.specs.Cores.{CoreState, core_after_turn}
 use Rattle.xt_record.specs.Walking.{beside, line_at}
 
 pub advance_append : {S : Type 0} (P : Chip S) (xs ys : List ℕ) (w : ShortWorld S) → short_advance P (xs ++ ys) w ≡ short_advance P ys (short_advance P xs w)
@@ -32,12 +32,12 @@ give_one {S = S} P c w n d left asks =
     ap at left ∙ ap from asks
 
 pub local_turn : (code : ℕ → ℕ) (number : ℕ) (own other : CoreState) (b : Line) → 0 < own.left → demand code own.state ≡ None
-    → beside number (turned code 0 own) other b ≡ short_give (processor code) number (beside number own other b)
+    → beside number (core_after_turn code 0 own) other b ≡ short_give (processor code) number (beside number own other b)
 local_turn code zero own other b some asks = sym (give_zero (processor code) (beside 0 own other b) (own.left - 1) None (omega arith) asks)
 local_turn code (suc c) own other b some asks = sym (give_one (processor code) c (beside (suc c) own other b) (own.left - 1) None (omega arith) asks)
 
 pub call_turn : (code : ℕ → ℕ) (number : ℕ) (own other : CoreState) (m : MemoryContents) (h : List Entry) (a : Access) → number < 2 → 0 < own.left → demand code own.state ≡ Some a
-    → beside number (turned code (reply_to m a) own) other (line_at (memory_past m a) (h ++ entry number a (reply_to m a) ∷ []))
+    → beside number (core_after_turn code (reply_to m a) own) other (line_at (memory_past m a) (h ++ entry number a (reply_to m a) ∷ []))
     ≡ short_give (processor code) number (beside number own other (line_at m h))
 call_turn code zero own other m h a lt some asks = sym (give_zero (processor code) (beside 0 own other (line_at m h)) (own.left - 1) (Some a) (omega arith) asks)
 call_turn code (suc zero) own other m h a lt some asks = sym (give_one (processor code) 0 (beside 1 own other (line_at m h)) (own.left - 1) (Some a) (omega arith) asks)

@@ -20,7 +20,7 @@ use Rattle.xt_trace.specs.Validity.{IsValid, IsValidStack}
 use Rattle.xt_image.specs.declared.image.Image.{Image}
 use Rattle.xt_image.specs.Layout.{word_at}
 use Rattle.xt_image.specs.Format.{image_of}
-use Rattle.xt_image.specs.Parts.{IsWellFormed, image_bytes}
+use Rattle.xt_image.specs.ImageParts.{IsWellFormed, image_bytes}
 use Rattle.xt_image.specs.Rules.{image_fault}
 use Rattle.xt_image.proofs.Written.{file_again}
 use Rattle.xt_core.specs.Runs.{IsRunOf}
@@ -30,7 +30,7 @@ use Rattle.xt_record.specs.Fields as field
 use Rattle.xt_record.specs.Fields.{behind_image, checkpoint_count, checkpoint_size, checkpoints_in, blocks, entries_end, entry_count, image_in, image_length, image_part, length_behind, magic, options_at, raws_from, raws_in, version, words}
 use Rattle.xt_record.specs.Fitting.{FitsRun}
 use Rattle.xt_record.specs.Format.{recording_fault, run_in, run_with}
-use Rattle.xt_record.specs.Parts.{entry_bytes, options_bytes}
+use Rattle.xt_record.specs.RecordingParts.{entry_bytes, options_bytes}
 use Rattle.xt_image.specs.Findings.{fails, first, or_else}
 use Rattle.xt_record.specs.Rules.{Finding, is_entry, is_valid, is_valid_stack, options_finding, part_rules, shape_finding}
 use Rattle.xt_record.specs.Standing.{turn_rules}

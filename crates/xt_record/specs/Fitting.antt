@@ -5,7 +5,7 @@
 use Rattle.std.specs.Prelude.{◌<◌, ◌^◌, All}
 use Rattle.xt_map.specs.declared.access.Entry.{Entry}
 use Rattle.xt_trace.specs.declared.run.Run.{Run}
-use Rattle.xt_record.specs.Parts.{first_operand, second_operand}
+use Rattle.xt_record.specs.RecordingParts.{first_operand, second_operand}
 
 -- both operands of an entry, and its reply
 pub record HasWords (e : Entry) : Type 0 where

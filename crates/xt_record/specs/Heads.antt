@@ -8,7 +8,7 @@ use Rattle.xt_map.specs.Placing.{IsPlaced}
 use Rattle.xt_trace.specs.Validity.{IsValid}
 use Rattle.xt_image.specs.declared.image.Image.{Image}
 use Rattle.xt_image.specs.Format.{image_of}
-use Rattle.xt_image.specs.Parts.{IsWellFormed}
+use Rattle.xt_image.specs.ImageParts.{IsWellFormed}
 use Rattle.xt_image.specs.Rules.{image_fault}
 use Rattle.xt_record.specs.declared.fault.RecordFault.{RecordFault}
 use Rattle.xt_record.specs.declared.fault.RecordFault.TheVariants as fault

@@ -1,6 +1,6 @@
 -- Profile: the format is this project's own; RECORDING.md describes it.
 pub mod Fields
-pub mod Parts
+pub mod RecordingParts
 pub mod Fitting
 pub mod Rules
 pub mod Heads

@@ -4,11 +4,11 @@ use Rattle.std.specs.Prelude.{◌≡◌, ◌≢◌, ℕ, zero, suc, ◌+◌, ◌
 use Rattle.std.specs.Prelude.{drop, Some, None, Result, Ok, Err}
 use Rattle.xt_map.specs.declared.access.Entry.{Entry}
 use Rattle.xt_map.specs.Memory.{constant_byte}
-use Rattle.xt_bus.specs.States.{holding}
+use Rattle.xt_bus.specs.States.{memory_state}
 use Rattle.xt_trace.specs.declared.options.Options.{Options}
 use Rattle.xt_trace.specs.declared.run.Run.{Run}
 use Rattle.xt_image.specs.declared.image.Image.{Image}
-use Rattle.xt_trace.specs.Runs.{opened}
+use Rattle.xt_trace.specs.Runs.{world_at_start}
 use Rattle.xt_trace.specs.Schedule.{cores_of, schedule_from}
 use Rattle.xt_trace.specs.Short.{ShortWorld, short_advance, short_world}
 use Rattle.xt_exec.specs.Chips.{processor}
@@ -31,7 +31,7 @@ use Rattle.xt_record.specs.Walking.{Ends, HasRoom, Takes, beside, line_at, point
 -- what both cores work on before the first entry
 pub record StandsOpen (image : Image) (o : Options) (s : Setting) : Type 0 where
   pub code_is : s.code ≡ image.segments
-  pub memory_is : s.memory ≡ holding (memory_of image o) (o.turns0 + o.turns1)
+  pub memory_is : s.memory ≡ memory_state (memory_of image o) (o.turns0 + o.turns1)
   pub points_are : s.points.items ≡ []
 
 -- no access waits, and there is room for what the turns that are left send
@@ -47,7 +47,7 @@ IsFree w = IsFreeAt w.core0 w.core1 w.setting
 -- ---- a walk after its first entries
 
 abbrev pub opening_world : Image → Options → ShortWorld State
-opening_world image o = short_world (opened (opening_of image o))
+opening_world image o = short_world (world_at_start (opening_of image o))
 
 -- the run that is walked
 abbrev pub run_in : List Entry → Walk → Run

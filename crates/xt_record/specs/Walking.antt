@@ -83,9 +83,9 @@ abbrev pub IsNext : (ℕ → ℕ) → Option Access → CoreState → CoreState 
 IsNext code None free after = (free.left ≡ 0) × (after ≡ free)
 IsNext code (Some a) free after = Asks code free after a
 
-abbrev pub asked : Option Access → ℕ
-asked None = 0
-asked (Some a) = 1
+abbrev pub access_count : Option Access → ℕ
+access_count None = 0
+access_count (Some a) = 1
 
 -- A core made so many local turns.
 pub record Went
@@ -114,7 +114,7 @@ pub record Arrives
   pub free : CoreState
   pub went : Went code number before other free turns
   pub next_is : IsNext code next free after
-  pub adds : Adds code number before other m entries (turns + asked next) old new
+  pub adds : Adds code number before other m entries (turns + access_count next) old new
 
 -- ---- one entry
 

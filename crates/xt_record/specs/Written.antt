@@ -4,10 +4,10 @@ use Rattle.std.specs.Prelude.{ℕ, List, [], ◌∷◌, ◌++◌, length}
 use Rattle.std.specs.List.{concat, flat_map}
 use Rattle.xt_trace.specs.declared.run.Run.{Run}
 use Rattle.xt_image.specs.declared.image.Image.{Image}
-use Rattle.xt_image.specs.Parts.{image_bytes}
+use Rattle.xt_image.specs.ImageParts.{image_bytes}
 use Rattle.xt_record.specs.Checkpoints.{checkpoints_of}
 use Rattle.xt_record.specs.Fields.{magic, words}
-use Rattle.xt_record.specs.Parts.{entry_bytes, options_bytes}
+use Rattle.xt_record.specs.RecordingParts.{entry_bytes, options_bytes}
 
 -- version 2: the head, the image, the options, the entries, and the checkpoints
 unfoldable pub recording_bytes : Image → Run → List ℕ

@@ -2,7 +2,7 @@
 ghost use Rattle.std.specs.Prelude.{◌≡◌, ◌<◌, ℕ, All, List, None};
 ghost use Rattle.xt_trace.specs.declared.run.Run.{Run};
 ghost use Rattle.xt_image.specs.declared.image.Image.{Image};
-ghost use Rattle.xt_image.specs.Parts.{IsWellFormed};
+ghost use Rattle.xt_image.specs.ImageParts.{IsWellFormed};
 ghost use Rattle.xt_core.specs.Runs.{IsRunOf};
 ghost use Rattle.xt_record.specs.Fields.{image_in};
 ghost use Rattle.xt_record.specs.Fitting.{FitsRun};

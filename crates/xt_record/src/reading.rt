@@ -1,6 +1,6 @@
 //! A recording, read.
 ghost use Rattle.std.specs.Prelude.{◌≡◌, ◌≤◌, ◌+◌, ◌*◌, None, length, IfOk, if◌then◌else◌, ◌==◌};
-ghost use Rattle.xt_image.specs.Parts.{IsWellFormed};
+ghost use Rattle.xt_image.specs.ImageParts.{IsWellFormed};
 ghost use Rattle.xt_core.specs.Runs.{IsRunOf};
 ghost use Rattle.xt_record.specs.Fields.{behind_image, blocks, checkpoint_size, checkpoints_in, version};
 ghost use Rattle.xt_record.specs.Format.{Reads, recording_fault};

@@ -1,13 +1,13 @@
 //! A recording, written.
 ghost use Rattle.std.specs.Prelude.{◌≡◌, ◌≤◌, ◌++◌, length, IfOk, Ok, OnOk};
 ghost use Rattle.std.specs.List.{concat, flat_map};
-ghost use Rattle.xt_image.specs.Parts.{IsWellFormed};
+ghost use Rattle.xt_image.specs.ImageParts.{IsWellFormed};
 ghost use Rattle.xt_core.specs.Runs.{IsRunOf};
 ghost use Rattle.xt_record.specs.Checkpoints.{checkpoints_of};
 ghost use Rattle.xt_record.specs.Fitting.{FitsRun};
 ghost use Rattle.xt_record.specs.Format.{Reads, recording_fault};
 ghost use Rattle.xt_record.specs.Written.{recording_bytes};
-ghost use Rattle.xt_record.specs.Parts.{entry_bytes, first_operand, kind_number, options_bytes, second_operand};
+ghost use Rattle.xt_record.specs.RecordingParts.{entry_bytes, first_operand, kind_number, options_bytes, second_operand};
 
 use crate::fault::RecordFault;
 use crate::points::POINT_SIZE;
@@ -36,7 +36,7 @@ fn fields_of(kind: Kind) -> (u8, u32, u32)
 
 // The 20 bytes of an entry.
 #[inline(always)]
-#[tactic(auto, unfolding(crate::specs::Parts::entry_bytes))]
+#[tactic(auto, unfolding(crate::specs::RecordingParts::entry_bytes))]
 fn bytes_of(entry: &Entry) -> [u8; 20]
     ensures { result ≡ entry_bytes entry.now }
 {

@@ -12,7 +12,7 @@ use Rattle.xt_replay.specs.declared.pair.Checkpoint.{Checkpoint}
 use Rattle.xt_replay.specs.declared.pair.Mark.{Mark}
 use Rattle.xt_replay.specs.declared.pair.Pair.{Pair}
 use Rattle.xt_replay.specs.declared.replay.Replay.TheInside.{Inside}
-use Rattle.xt_replay.specs.Kept.{IsCopy, IsKept, replay_in}
+use Rattle.xt_replay.specs.ReplayFields.{IsCopy, IsKept, replay_in}
 use Rattle.xt_replay.specs.Places.{trace_in}
 use Rattle.xt_replay.specs.Shown.{ReplayState, Shown, shown_at, step_in}
 use Rattle.xt_replay.specs.Stands.{Comes, Fits, HasRoom, IsAsRoomy, Stand, made_in, mark_stand, stand_in, stand_of, stand_past}

@@ -7,7 +7,7 @@ use Rattle.xt_map.specs.declared.access.Entry.{Entry}
 use Rattle.xt_map.specs.Serving.{reply_to}
 use Rattle.xt_trace.specs.declared.record.StepRecord.{StepRecord}
 use Rattle.xt_trace.specs.Chip.{Chip}
-use Rattle.xt_trace.specs.Runs.{Opening, Run, opened, IsRunOf, schedule_of}
+use Rattle.xt_trace.specs.Runs.{Opening, Run, world_at_start, IsRunOf, schedule_of}
 use Rattle.xt_trace.specs.Schedule.{cores_of, places_from, schedule_from}
 use Rattle.xt_trace.specs.Walks.{IsWalk, next_record, state_at}
 use Rattle.xt_trace.specs.Worlds.{Core, Line, World, entry, line_past, core_past, line_given, core_given, give, advance, answer}
@@ -189,7 +189,7 @@ next_turn P r p w a lt = next_by P r p w a lt (split a.es (length w.core0.record
 
 pub state_on : {S : Type 0} (P : Chip S) (o : Opening S) (l : List ℕ) (p c : ℕ) → p < length l → get_or l p 0 ≡ c → state_at P o l (p + 1) ≡ give P c (state_at P o l p)
 state_on {S = S} P o l p c lt here =
-    ap (λ (q : List ℕ). advance P q (opened o)) (take_more l p 0 lt) ∙ advance_append P (take p l) (get_or l p 0 ∷ []) (opened o)
+    ap (λ (q : List ℕ). advance P q (world_at_start o)) (take_more l p 0 lt) ∙ advance_append P (take p l) (get_or l p 0 ∷ []) (world_at_start o)
     ∙ ap (λ (k : ℕ). give P k (state_at P o l p)) here
 
 at_start : {S : Type 0} (P : Chip S) (o : Opening S) (r : Run S) → IsRunOf P o r → At P r 0 (state_at P o (schedule_of r) 0)
@@ -285,7 +285,7 @@ history_at {S = S} P o r h p =
     let l = schedule_of r in
     let w = state_at P o l p in
     let g = advance_grows P (drop p l) w in
-    let whole : advance P (drop p l) w ≡ done P (opened o) r.history =
-    sym (advance_append P (take p l) (drop p l) (opened o)) ∙ ap (λ (q : List ℕ). advance P q (opened o)) (take-append-drop p l) ∙ own_world P o r h in
+    let whole : advance P (drop p l) w ≡ done P (world_at_start o) r.history =
+    sym (advance_append P (take p l) (drop p l) (world_at_start o)) ∙ ap (λ (q : List ℕ). advance P q (world_at_start o)) (take-append-drop p l) ∙ own_world P o r h in
     let all : w.line.history ++ g.more ≡ r.history = sym g.is ∙ ap (λ (v : World S). v.line.history) whole in
     sym (take-append_seam w.line.history g.more) ∙ ap (take (length w.line.history)) all

@@ -1,4 +1,4 @@
 pub mod Places
 pub mod Shown
 pub mod Stands
-pub mod Kept
+pub mod ReplayFields

@@ -16,8 +16,8 @@ pub record ReplayState : Type 0 where
   pub position : ℕ
 
 -- the same run at another position
-abbrev pub moved : ReplayState → ℕ → ReplayState
-moved r p = record r { position = p }
+abbrev pub replay_at : ReplayState → ℕ → ReplayState
+replay_at r p = record r { position = p }
 
 -- the state of each core and the number of its next step, what memory holds, and
 -- the image's constant bytes

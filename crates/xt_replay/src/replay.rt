@@ -39,7 +39,7 @@ impl<'a> Model for Replay<'a> {
 
     ghost Value = { ReplayState };
 
-    ghost use Rattle.xt_replay.specs.Kept.{replay_in, IsKept};
+    ghost use Rattle.xt_replay.specs.ReplayFields.{replay_in, IsKept};
 
     ghost view = { replay_in };
 
@@ -91,7 +91,7 @@ impl<'a> Replay<'a> {
     ghost use Rattle.xt_core.specs.Positions.{schedule_in, world_at};
     ghost use Rattle.xt_core.specs.Runs.{IsRunOf};
     ghost use Rattle.xt_replay.specs.Places.{position_of, trace_in};
-    ghost use Rattle.xt_replay.specs.Shown.{moved, shown_at, step_in};
+    ghost use Rattle.xt_replay.specs.Shown.{replay_at, shown_at, step_in};
     ghost use Rattle.xt_replay.specs.Stands.{Comes};
 
     /// The run at position 0. All memory is taken here, also that of copies of what the run has at
@@ -175,7 +175,7 @@ impl<'a> Replay<'a> {
 
     // Goes back to the start.
     fn restart(&mut self)
-        ensures { self.new ≡ moved self.old 0 }
+        ensures { self.new ≡ replay_at self.old 0 }
     {
         self.pair.restore(&self.opening);
         self.position = 0;
@@ -184,7 +184,7 @@ impl<'a> Replay<'a> {
     // One step on.
     fn step(&mut self)
         requires { self.old.position < length (schedule_in self.old.run) }
-        ensures { self.new ≡ moved self.old (self.old.position + 1) }
+        ensures { self.new ≡ replay_at self.old (self.old.position + 1) }
     {
         if next_of(self.run, self.pair.used, self.pair.step0) == 0 {
             self.pair.give0(&self.code);
@@ -196,7 +196,7 @@ impl<'a> Replay<'a> {
 
     // Goes back to the start where it stands after a position.
     fn back(&mut self, position: u32)
-        ensures moved { self.new ≡ moved self.old self.new.position }
+        ensures moved { self.new ≡ replay_at self.old self.new.position }
         ensures within { self.new.position ≤ position }
     {
         if position < self.position() {
@@ -207,7 +207,7 @@ impl<'a> Replay<'a> {
     // Goes to the near copy, where the walk from there to a position is short, and shorter than
     // from where it stands.
     fn resume_near(&mut self, position: u32)
-        ensures { self.new ≡ moved self.old self.new.position }
+        ensures { self.new ≡ replay_at self.old self.new.position }
     {
         if self.near.is_closer(self.position, position) && position - self.near.position <= NEAR {
             self.pair.restore(&self.near.mark);
@@ -218,7 +218,7 @@ impl<'a> Replay<'a> {
     // Goes to the last checkpoint that is not after a position, where the walk from there is
     // shorter than from where it stands.
     fn resume_checkpoint(&mut self, position: u32)
-        ensures { self.new ≡ moved self.old self.new.position }
+        ensures { self.new ≡ replay_at self.old self.new.position }
     {
         let n = self.checkpoints.len().min((position / APART) as usize);
         if n > 0
@@ -234,7 +234,7 @@ impl<'a> Replay<'a> {
     fn walk(&mut self, position: u32)
         requires from { self.old.position ≤ position }
         requires within { position ≤ length (schedule_in self.old.run) }
-        ensures { self.new ≡ moved self.old position }
+        ensures { self.new ≡ replay_at self.old position }
     {
         'steps: while self.position() < position {
             self.step();
@@ -256,7 +256,7 @@ impl<'a> Replay<'a> {
 
     // Keeps a copy at each multiple of 65,536 steps that lies before the end.
     fn keep_all(&mut self, alloc: Global) -> Result<(), AllocError>
-        ensures { self.new ≡ moved self.old self.new.position }
+        ensures { self.new ≡ replay_at self.old self.new.position }
     {
         'copies: while APART < self.end() - self.position() {
             self.walk(self.position() + APART);
@@ -278,7 +278,7 @@ impl<'a> Replay<'a> {
     fn keep_near(&mut self, position: u32)
         requires from { self.old.position ≤ position }
         requires within { position ≤ length (schedule_in self.old.run) }
-        ensures moved { self.new ≡ moved self.old self.new.position }
+        ensures moved { self.new ≡ replay_at self.old self.new.position }
         ensures within { self.new.position ≤ position }
     {
         if NEAR < position - self.position() {
@@ -291,7 +291,7 @@ impl<'a> Replay<'a> {
     /// changes. Takes no memory.
     pub fn seek(&mut self, position: u32) -> Result<(), PastEnd>
         ensures { MatchResult result
-            (λ _. (position ≤ length (schedule_in self.old.run)) × (self.new ≡ moved self.old position))
+            (λ _. (position ≤ length (schedule_in self.old.run)) × (self.new ≡ replay_at self.old position))
             (λ _. (length (schedule_in self.old.run) < position) × (self.new ≡ self.old)) }
     {
         if self.end() < position {
@@ -377,7 +377,7 @@ impl<'a> Replay<'a> {
     fn resume_before(&mut self, core: u8, step: u32)
         requires core { core < 2 }
         requires step { step ≤ (trace_in core self.old.run).count }
-        ensures moved { self.new ≡ moved self.old self.new.position }
+        ensures moved { self.new ≡ replay_at self.old self.new.position }
         ensures comes { Comes self.new.image self.new.run core step self.new.position }
     {
         let count = self.count(core);
@@ -403,7 +403,7 @@ impl<'a> Replay<'a> {
         requires core { core < 2 }
         requires step { step ≤ (trace_in core self.old.run).count }
         requires comes { Comes self.old.image self.old.run core step self.old.position }
-        ensures { self.new ≡ moved self.old (position_of core step self.old.run) }
+        ensures { self.new ≡ replay_at self.old (position_of core step self.old.run) }
     {
         'steps: while !self.is_at(core, step) {
             self.step();
@@ -419,7 +419,7 @@ impl<'a> Replay<'a> {
     pub fn goto(&mut self, core: u8, step: u32) -> Result<(), PastEnd>
         requires { core < 2 }
         ensures { MatchResult result
-            (λ _. (step ≤ (trace_in core self.old.run).count) × (self.new ≡ moved self.old (position_of core step self.old.run)))
+            (λ _. (step ≤ (trace_in core self.old.run).count) × (self.new ≡ replay_at self.old (position_of core step self.old.run)))
             (λ _. ((trace_in core self.old.run).count < step) × (self.new ≡ self.old)) }
     {
         if self.count(core) < step {

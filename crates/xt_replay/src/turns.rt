@@ -3,9 +3,9 @@ ghost use Rattle.std.specs.Prelude.{◌≡◌, ◌+◌, ◌<◌, ◌≤◌, None
 ghost use Rattle.xt_map.specs.Memory.{constant_byte};
 ghost use Rattle.xt_trace.specs.Validity.{IsValid};
 ghost use Rattle.xt_trace.specs.Worlds.{answer, memory_left};
-ghost use Rattle.xt_bus.specs.States.{holding};
+ghost use Rattle.xt_bus.specs.States.{memory_state};
 ghost use Rattle.xt_exec.specs.Turn.{demand};
-ghost use Rattle.xt_core.specs.Cores.{turned};
+ghost use Rattle.xt_core.specs.Cores.{core_after_turn};
 ghost use Rattle.xt_core.specs.Runs.{opening_of};
 ghost use Rattle.xt_replay.specs.Stands.{entries_past, HasRoom, IsAsRoomy, mark_stand, stand_of, stand_opening, stand_past};
 
@@ -24,8 +24,8 @@ fn make_turn(core: &mut Core<WindowFile>, code: &Constants, memory: &mut Memory)
     requires left { 0 < core.old.left }
     requires room { length memory.old.contents.sent < memory.old.room }
     ensures asks { (n : ℕ) → entries_past (demand (constant_byte code.now) core.old.state) n ≡ (if result then n + 1 else n) }
-    ensures core { core.new ≡ turned (constant_byte code.now) (answer (demand (constant_byte code.now) core.old.state) memory.old.contents) core.old }
-    ensures memory { memory.new ≡ holding (memory_left (demand (constant_byte code.now) core.old.state) memory.old.contents) memory.old.room }
+    ensures core { core.new ≡ core_after_turn (constant_byte code.now) (answer (demand (constant_byte code.now) core.old.state) memory.old.contents) core.old }
+    ensures memory { memory.new ≡ memory_state (memory_left (demand (constant_byte code.now) core.old.state) memory.old.contents) memory.old.room }
 {
     match core.turn_begin(code) {
         Begin::Bus(access) => {

@@ -4,7 +4,7 @@ use Rattle.std.specs.Prelude.{◌==◌, if◌then◌else◌}
 use mathlib.Core.List.{append_assoc, append-nil}
 use Rattle.xt_map.specs.Regions.{region_of, uart_transmit, uart_status}
 use Rattle.xt_map.specs.Memory.{with_byte_in, with_byte, with_bytes, low_bytes}
-use Rattle.xt_map.specs.Serving.{with_sent, changed, number_at, memory_past}
+use Rattle.xt_map.specs.Serving.{with_sent, contents_after, number_at, memory_past}
 use Rattle.xt_map.specs.declared.regions.Region.{Region}
 use Rattle.xt_map.specs.declared.regions.Region.TheVariants as region
 use Rattle.xt_map.specs.declared.access.Kind.{Kind}
@@ -39,7 +39,7 @@ cond-sent true x y m p q = p
 cond-sent false x y m p q = q
 
 -- an access outside UART0 sends nothing
-changed-sent : (m : MemoryContents) (a size : ℕ) (k : Kind) → (changed m a size k).sent ≡ m.sent
+changed-sent : (m : MemoryContents) (a size : ℕ) (k : Kind) → (contents_after m a size k).sent ≡ m.sent
 changed-sent m a size Load = refl
 changed-sent m a size (Store v) = with_bytes-sent m a (low_bytes size v)
 changed-sent m a size (Cas expected new) = cond-sent (number_at m a size == expected) _ _ m (with_bytes-sent m a (low_bytes size new)) refl

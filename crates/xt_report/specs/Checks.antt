@@ -7,7 +7,7 @@ use Rattle.xt_map.specs.declared.segment.Segment.{Segment}
 use Rattle.xt_image.specs.declared.image.Image.{Image}
 use Rattle.xt_disasm.specs.Listing.{segment_line}
 use Rattle.xt_core.specs.Runs.{code_of}
-use Rattle.xt_handlers.specs.Answers.{handlers_of}
+use Rattle.xt_handlers.specs.CheckAnswers.{handlers_of}
 use Rattle.xt_report.specs.Verdicts.{handlers_line}
 
 abbrev pub yes_or_no : Bool → List ℕ

@@ -1,7 +1,7 @@
 //! What `check` prints.
 ghost use Rattle.std.specs.Prelude.{◌≡◌, ◌%◌, ◌++◌, IfOk, OnOk, string_bytes};
 ghost use Rattle.xt_report.specs.Checks.{check_text, image_line, line_of, segment_lines, yes_or_no};
-ghost use Rattle.xt_image.specs.Parts.{IsWellFormed};
+ghost use Rattle.xt_image.specs.ImageParts.{IsWellFormed};
 
 use crate::verdict_lines::handlers_line;
 use std::alloc::{AllocError, Global};

@@ -20,7 +20,7 @@ use Rattle.xt_special.specs.Access.{value_read}
 use Rattle.xt_special.specs.Control.{bit_of, ps_of, ps_word}
 use Rattle.xt_special.specs.Shape.{IsPs}
 use Rattle.xt_fetch.specs.Code.{code_number}
-use Rattle.xt_rows.specs.Numbers.{plus, minus, extended, linked}
+use Rattle.xt_rows.specs.Numbers.{plus, minus, loaded_value, return_address}
 
 -- ---- sums, products and quotients
 
@@ -255,11 +255,11 @@ pub minus_small : (x n : ℕ) → minus x n < 2 ^ 32
 unfolding minus
 minus_small x n = omega arith
 
-pub linked_small : (size pc : ℕ) → size < 4 → linked size pc < 2 ^ 32
+pub linked_small : (size pc : ℕ) → size < 4 → return_address size pc < 2 ^ 32
 linked_small size pc h = omega arith
 
-pub extended_small : (signed : Bool) (n : ℕ) → n < 2 ^ 32 → extended signed n < 2 ^ 32
-unfolding extended
+pub extended_small : (signed : Bool) (n : ℕ) → n < 2 ^ 32 → loaded_value signed n < 2 ^ 32
+unfolding loaded_value
 extended_small true n h = sign_extended_small n 16 (omega arith)
 extended_small false n h = h
 

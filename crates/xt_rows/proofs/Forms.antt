@@ -81,7 +81,7 @@ use Rattle.xt_alu.specs.Shifts.{src, srl, sra, sll, slli, srai, srli, extui, ssr
 use Rattle.xt_bool.specs.Registers.{logic, group}
 use Rattle.xt_bool.specs.declared.BoolOp.TheVariants as op
 use Rattle.xt_fetch.specs.Code.{code_number}
-use Rattle.xt_rows.specs.declared.outcome.Awaited.{Awaited}
+use Rattle.xt_rows.specs.declared.outcome.ReplyTarget.{ReplyTarget}
 use Rattle.xt_rows.specs.declared.outcome.Flow.TheVariants.{Goes}
 use Rattle.xt_rows.specs.declared.outcome.WindowRegister.{WindowRegister}
 use Rattle.xt_rows.specs.declared.outcome.WindowRegister.TheVariants as window
@@ -89,12 +89,12 @@ use Rattle.xt_rows.specs.declared.outcome.WindowStep.{WindowStep}
 use Rattle.xt_rows.specs.declared.outcome.WindowStep.TheVariants.{Enters, Returns, EndsOverflow, EndsUnderflow, Rotates, MovesStack, Reads, Sets, Exchanges}
 use Rattle.xt_rows.specs.declared.outcome.Outcome.{Outcome}
 use Rattle.xt_rows.specs.declared.outcome.Outcome.TheVariants.{Does, Raises, Asks, Stops, Windowed}
-use Rattle.xt_rows.specs.Numbers.{plus, minus, natural, extended, linked, branch_target, call_target, address_behind, literal_address}
-use Rattle.xt_rows.specs.Operands.{call_size, callx_size, named}
-use Rattle.xt_rows.specs.Effects.{unchanged, puts, moves, divides, goes, branches, calls, loops, asks, aligned, loads, stores, swaps, window_register, reads_special, writes_special, exchanges_special, sets_special, write_to}
+use Rattle.xt_rows.specs.Numbers.{plus, minus, natural, loaded_value, return_address, branch_target, call_target, address_behind, literal_address}
+use Rattle.xt_rows.specs.Operands.{call_size, callx_size, highest_register}
+use Rattle.xt_rows.specs.Effects.{no_change, puts, moves, divides, goes, branches, calls, loops, asks, if_aligned, loads, stores, swaps, window_register, reads_special, writes_special, exchanges_special, sets_special, write_to}
 use Rattle.xt_rows.specs.Outcomes.{three_outcome, shift_outcome, memory_outcome, control_outcome, system_outcome, density_outcome, boolean_outcome, booleans, outcome, sets_br, sets_sar}
 use Rattle.xt_rows.specs.Kinds.{is_entry, is_movsp, is_windowing, names_window_register, moved_to, FitsStep}
-use Rattle.xt_rows.specs.Laws.{IsProperAddress, IsProperStep, IsGiven}
+use Rattle.xt_rows.specs.RowLaws.{IsProperAddress, IsProperStep, IsGiven}
 use Rattle.xt_rows.proofs.Bounds.{IsSize, One, Two, Four, addx_small, subx_small, mul16u_small, mul16s_small, mull_small, muluh_small, mulsh_small, quou_small, quos_small, remu_small, rems_small, signed_min_small, signed_max_small, min_small, max_small, and_small, or_small, xor_small, neg_small, abs_small, sext_small, clamps_small, nsa_small, nsau_small, src_small, srl_small, sra_small, sll_small, slli_small, srai_small, srli_small, extui_small, ssr_small, ssl_small, ssa8l_small, ssa8b_small, plus_small, minus_small, logic_small, group_small}
 
 -- ---- what an instruction is
@@ -200,105 +200,105 @@ module _ (code : ℕ → ℕ) (pc x y u v : ℕ) where
   -- x and y, u and v are what the row is given, as in `Outcomes`; ps and t are PS and THREADPTR
   pub data Form : Insn → Makes → Type 0 where
     -- a register receives a value; of constant memory, what a load reads
-    Puts : {i : Insn} (number value : ℕ) → is_calm i ≡ true → number ≤ named i → (AreGiven i x y u v → value < 2 ^ 32) → Form i (λ ps t. puts number value (unchanged ps t))
-    PutsLoaded : {i : Insn} (size : ℕ) (signed : Bool) (number addr : ℕ) → IsLoad i signed → IsSize size → is_calm i ≡ true → number ≤ named i
-        → Form i (λ ps t. puts number (extended signed (code_number code addr size)) (unchanged ps t))
-    Jumps : {i : Insn} (target : ℕ) → is_calm i ≡ true → (AreGiven i x y u v → target < 2 ^ 32) → Form i (λ ps t. goes target (unchanged ps t))
+    Puts : {i : Insn} (number value : ℕ) → is_calm i ≡ true → number ≤ highest_register i → (AreGiven i x y u v → value < 2 ^ 32) → Form i (λ ps t. puts number value (no_change ps t))
+    PutsLoaded : {i : Insn} (size : ℕ) (signed : Bool) (number addr : ℕ) → IsLoad i signed → IsSize size → is_calm i ≡ true → number ≤ highest_register i
+        → Form i (λ ps t. puts number (loaded_value signed (code_number code addr size)) (no_change ps t))
+    Jumps : {i : Insn} (target : ℕ) → is_calm i ≡ true → (AreGiven i x y u v → target < 2 ^ 32) → Form i (λ ps t. goes target (no_change ps t))
     -- CALL0 and CALLX0, and the other calls
     Calls : {i : Insn} (target : ℕ) → is_calm i ≡ true → (AreGiven i x y u v → target < 2 ^ 32)
-        → Form i (λ ps t. Does (record (unchanged ps t) { write = write_to 0 (address_behind pc); flow = Goes target }))
-    CallsWindow : {i : Insn} (size target : ℕ) → size < 4 → is_calm i ≡ true → 4 * size ≤ named i → (AreGiven i x y u v → target < 2 ^ 32)
-        → Form i (λ ps t. Does (record (unchanged ps t) { write = write_to (4 * size) (linked size pc); ps = record ps { callinc = size }; flow = Goes target }))
-    Loops : {i : Insn} (passes : Bool) (offset : ℤ) → is_calm i ≡ true → Form i (λ ps t. loops passes x pc offset (unchanged ps t))
+        → Form i (λ ps t. Does (record (no_change ps t) { write = write_to 0 (address_behind pc); flow = Goes target }))
+    CallsWindow : {i : Insn} (size target : ℕ) → size < 4 → is_calm i ≡ true → 4 * size ≤ highest_register i → (AreGiven i x y u v → target < 2 ^ 32)
+        → Form i (λ ps t. Does (record (no_change ps t) { write = write_to (4 * size) (return_address size pc); ps = record ps { callinc = size }; flow = Goes target }))
+    Loops : {i : Insn} (passes : Bool) (offset : ℤ) → is_calm i ≡ true → Form i (λ ps t. loops passes x pc offset (no_change ps t))
     -- SAR or BR receives a value
     SetsRegister : {i : Insn} (number value : ℕ) → is_calm i ≡ true → number < 177 → (AreGiven i x y u v → CanHold number value × (value < 2 ^ 32))
-        → Form i (λ ps t. sets_special number value (unchanged ps t))
+        → Form i (λ ps t. sets_special number value (no_change ps t))
     -- RSR, WSR and XSR of a register that is kept with the others
-    PutsSpecial : {r n : ℕ} → Form (insn.System (system.Rsr SpecialName.Rsr r n)) (λ ps t. puts r (value_read n u ps) (unchanged ps t))
-    WritesSpecial : {r n : ℕ} → Form (insn.System (system.Rsr SpecialName.Wsr r n)) (λ ps t. Does (record (unchanged ps t) { sets = written_by n x v; ps = ps_written n x ps }))
+    PutsSpecial : {r n : ℕ} → Form (insn.System (system.Rsr SpecialName.Rsr r n)) (λ ps t. puts r (value_read n u ps) (no_change ps t))
+    WritesSpecial : {r n : ℕ} → Form (insn.System (system.Rsr SpecialName.Wsr r n)) (λ ps t. Does (record (no_change ps t) { sets = written_by n x v; ps = ps_written n x ps }))
     ExchangesSpecial : {r n : ℕ} → Form (insn.System (system.Rsr SpecialName.Xsr r n))
-        (λ ps t. Does (record (unchanged ps t) { write = write_to r (value_read n u ps); sets = written_by n x v; ps = ps_written n x ps }))
+        (λ ps t. Does (record (no_change ps t) { write = write_to r (value_read n u ps); sets = written_by n x v; ps = ps_written n x ps }))
     -- RUR and WUR
-    PutsPointer : {r n : ℕ} → Form (insn.System (system.Rur UserName.Rur r n)) (λ ps t. puts r t (unchanged ps t))
-    SetsPointer : {r n : ℕ} → Form (insn.System (system.Rur UserName.Wur r n)) (λ ps t. Does (record (unchanged ps t) { threadptr = x }))
+    PutsPointer : {r n : ℕ} → Form (insn.System (system.Rur UserName.Rur r n)) (λ ps t. puts r t (no_change ps t))
+    SetsPointer : {r n : ℕ} → Form (insn.System (system.Rur UserName.Wur r n)) (λ ps t. Does (record (no_change ps t) { threadptr = x }))
     -- RFE, RFI, RSIL and WAITI
-    EndsException : Form (insn.System (system.Rfe ReturnName.Rfe)) (λ ps t. Does (record (unchanged ps t) { ps = record ps { excm = false }; flow = Goes u }))
-    EndsInterrupt : {level : ℤ} → Form (insn.System (system.Rfi level)) (λ ps t. Does (record (unchanged ps t) { ps = ps_of v; flow = Goes u }))
+    EndsException : Form (insn.System (system.Rfe ReturnName.Rfe)) (λ ps t. Does (record (no_change ps t) { ps = record ps { excm = false }; flow = Goes u }))
+    EndsInterrupt : {level : ℤ} → Form (insn.System (system.Rfi level)) (λ ps t. Does (record (no_change ps t) { ps = ps_of v; flow = Goes u }))
     SetsLevel : {r : ℕ} {level : ℤ} → Form (insn.System (system.Rsil LevelName.Rsil r level))
-        (λ ps t. Does (record (unchanged ps t) { write = write_to r (ps_word ps); ps = record ps { intlevel = natural level } }))
-    Waits : {r : ℕ} {level : ℤ} → Form (insn.System (system.Rsil LevelName.Waiti r level)) (λ ps t. Does (record (unchanged ps t) { ps = record ps { intlevel = natural level }; waits = true }))
-    Nothing : {i : Insn} → is_calm i ≡ true → Form i (λ ps t. Does (unchanged ps t))
+        (λ ps t. Does (record (no_change ps t) { write = write_to r (ps_word ps); ps = record ps { intlevel = natural level } }))
+    Waits : {r : ℕ} {level : ℤ} → Form (insn.System (system.Rsil LevelName.Waiti r level)) (λ ps t. Does (record (no_change ps t) { ps = record ps { intlevel = natural level }; waits = true }))
+    Nothing : {i : Insn} → is_calm i ≡ true → Form i (λ ps t. Does (no_change ps t))
     Refuses : {i : Insn} (cause : ℕ) (address : Option ℕ) → cause < 64 → IsProperAddress address → Form i (λ ps t. Raises cause address)
     Halts : {i : Insn} → Form i (λ ps t. Stops)
     MovesWindow : {i : Insn} (step : WindowStep) → FitsStep i step → (AreGiven i x y u v → IsProperStep step) → Form i (λ ps t. Windowed step)
-    AsksLoad : {i : Insn} (size : ℕ) (signed : Bool) (number addr : ℕ) → IsLoad i signed → is_calm i ≡ true → number ≤ named i → is_mapped (record { addr = addr; size = size; kind = Load }) ≡ true
-        → Form i (λ ps t. Asks (record { addr = addr; size = size; kind = Load }) (Some (record { number = number; signed = signed })) (unchanged ps t))
+    AsksLoad : {i : Insn} (size : ℕ) (signed : Bool) (number addr : ℕ) → IsLoad i signed → is_calm i ≡ true → number ≤ highest_register i → is_mapped (record { addr = addr; size = size; kind = Load }) ≡ true
+        → Form i (λ ps t. Asks (record { addr = addr; size = size; kind = Load }) (Some (record { number = number; signed = signed })) (no_change ps t))
     AsksStore : {i : Insn} (size : ℕ) (offset : ℤ) → IsStore i offset → is_calm i ≡ true → is_mapped (record { addr = plus x offset; size = size; kind = Store (y % 2 ^ (8 * size)) }) ≡ true
-        → Form i (λ ps t. Asks (record { addr = plus x offset; size = size; kind = Store (y % 2 ^ (8 * size)) }) None (unchanged ps t))
+        → Form i (λ ps t. Asks (record { addr = plus x offset; size = size; kind = Store (y % 2 ^ (8 * size)) }) None (no_change ps t))
     AsksSwap : {r s : ℕ} {offset : ℤ} → is_mapped (record { addr = plus x offset; size = 4; kind = Cas u y }) ≡ true
-        → Form (insn.Memory (memory.S32c1i r s offset)) (λ ps t. Asks (record { addr = plus x offset; size = 4; kind = Cas u y }) (Some (record { number = r; signed = false })) (unchanged ps t))
+        → Form (insn.Memory (memory.S32c1i r s offset)) (λ ps t. Asks (record { addr = plus x offset; size = 4; kind = Cas u y }) (Some (record { number = r; signed = false })) (no_change ps t))
 
   -- ---- the words of the formulas
   either : {i : Insn} {o p : Makes} (b : Bool) → (b ≡ true → Form i o) → (b ≡ false → Form i p) → Form i (λ ps t. cond b (o ps t) (p ps t))
   either true f g = f refl
   either false f g = g refl
 
-  moves_form : {i : Insn} (b : Bool) (number : ℕ) → is_calm i ≡ true → number ≤ named i → Form i (λ ps t. moves b number x (unchanged ps t))
+  moves_form : {i : Insn} (b : Bool) (number : ℕ) → is_calm i ≡ true → number ≤ highest_register i → Form i (λ ps t. moves b number x (no_change ps t))
   moves_form b number c n = either b (λ h. Puts number x c n (λ g. g.x_word)) (λ h. Nothing c)
 
-  divides_form : {i : Insn} (number value : ℕ) → is_calm i ≡ true → number ≤ named i → (AreGiven i x y u v → value < 2 ^ 32) → Form i (λ ps t. divides y number value (unchanged ps t))
+  divides_form : {i : Insn} (number value : ℕ) → is_calm i ≡ true → number ≤ highest_register i → (AreGiven i x y u v → value < 2 ^ 32) → Form i (λ ps t. divides y number value (no_change ps t))
   divides_form number value c n w = either (y == 0) (λ h. Refuses 6 None (omega arith) tt) (λ h. Puts number value c n w)
 
-  branches_form : {i : Insn} (b : Bool) (offset : ℤ) → is_calm i ≡ true → Form i (λ ps t. branches b pc offset (unchanged ps t))
+  branches_form : {i : Insn} (b : Bool) (offset : ℤ) → is_calm i ≡ true → Form i (λ ps t. branches b pc offset (no_change ps t))
   branches_form b offset c = either b (λ h. Jumps (branch_target pc offset) c (λ g. plus_small _ offset)) (λ h. Nothing c)
 
-  calls_form : {i : Insn} (size target : ℕ) → size < 4 → is_calm i ≡ true → 4 * size ≤ named i → (AreGiven i x y u v → target < 2 ^ 32) → Form i (λ ps t. calls size target pc (unchanged ps t))
+  calls_form : {i : Insn} (size target : ℕ) → size < 4 → is_calm i ≡ true → 4 * size ≤ highest_register i → (AreGiven i x y u v → target < 2 ^ 32) → Form i (λ ps t. calls size target pc (no_change ps t))
   calls_form size target s c n w = either (size == 0) (λ h. Calls target c w) (λ h. CallsWindow size target s c n w)
 
-  aligned_form : {i : Insn} {o : Makes} (size addr : ℕ) → addr < 2 ^ 32 → Form i o → Form i (λ ps t. aligned size addr (o ps t))
+  aligned_form : {i : Insn} {o : Makes} (size addr : ℕ) → addr < 2 ^ 32 → Form i o → Form i (λ ps t. if_aligned size addr (o ps t))
   aligned_form size addr small f = either ((addr % size) == 0) (λ h. f) (λ h. Refuses 9 (Some addr) (omega arith) small)
 
-  asks_form : {i : Insn} (a : Access) (w : Option Awaited) → a.addr < 2 ^ 32 → (is_mapped a ≡ true → Form i (λ ps t. Asks a w (unchanged ps t))) → Form i (λ ps t. asks a w (unchanged ps t))
+  asks_form : {i : Insn} (a : Access) (w : Option ReplyTarget) → a.addr < 2 ^ 32 → (is_mapped a ≡ true → Form i (λ ps t. Asks a w (no_change ps t))) → Form i (λ ps t. asks a w (no_change ps t))
   asks_form a w small f = either (is_mapped a) f (λ h. Refuses 3 (Some a.addr) (omega arith) small)
 
-  loads_form : {i : Insn} (size : ℕ) (signed : Bool) (number addr : ℕ) → IsLoad i signed → IsSize size → addr < 2 ^ 32 → is_calm i ≡ true → number ≤ named i → Form i (λ ps t. loads code size signed number addr (unchanged ps t))
+  loads_form : {i : Insn} (size : ℕ) (signed : Bool) (number addr : ℕ) → IsLoad i signed → IsSize size → addr < 2 ^ 32 → is_calm i ≡ true → number ≤ highest_register i → Form i (λ ps t. loads code size signed number addr (no_change ps t))
   loads_form size signed number addr l z small c n = aligned_form size addr small
       (either (is_constant (region_of addr)) (λ h. PutsLoaded size signed number addr l z c n)
       (λ h. asks_form (record { addr = addr; size = size; kind = Load }) (Some (record { number = number; signed = signed })) small (AsksLoad size signed number addr l c n)))
 
-  stores_form : {i : Insn} (size : ℕ) (offset : ℤ) → IsStore i offset → is_calm i ≡ true → Form i (λ ps t. stores size y (plus x offset) (unchanged ps t))
+  stores_form : {i : Insn} (size : ℕ) (offset : ℤ) → IsStore i offset → is_calm i ≡ true → Form i (λ ps t. stores size y (plus x offset) (no_change ps t))
   stores_form size offset s c = aligned_form size (plus x offset) (plus_small x offset)
       (asks_form (record { addr = plus x offset; size = size; kind = Store (y % 2 ^ (8 * size)) }) None (plus_small x offset) (AsksStore size offset s c))
 
-  swaps_form : (r s : ℕ) (offset : ℤ) → Form (insn.Memory (memory.S32c1i r s offset)) (λ ps t. swaps u y r (plus x offset) (unchanged ps t))
+  swaps_form : (r s : ℕ) (offset : ℤ) → Form (insn.Memory (memory.S32c1i r s offset)) (λ ps t. swaps u y r (plus x offset) (no_change ps t))
   swaps_form r s offset = aligned_form 4 (plus x offset) (plus_small x offset)
       (asks_form (record { addr = plus x offset; size = 4; kind = Cas u y }) (Some (record { number = r; signed = false })) (plus_small x offset) (λ m. AsksSwap m))
 
-  sar_form : {i : Insn} (amount : ℕ) → is_calm i ≡ true → (AreGiven i x y u v → amount < 2 ^ 6) → Form i (λ ps t. sets_sar amount (unchanged ps t))
+  sar_form : {i : Insn} (amount : ℕ) → is_calm i ≡ true → (AreGiven i x y u v → amount < 2 ^ 6) → Form i (λ ps t. sets_sar amount (no_change ps t))
   sar_form amount c w = SetsRegister 3 amount c (omega arith) (λ g. let h : amount < 2 ^ 6 = w g in (record { as_sar = λ same. h; as_vecbase = λ same. absurd (omega arith) }, omega arith))
 
-  br_form : {i : Insn} (value : ℕ) → is_calm i ≡ true → (AreGiven i x y u v → value < 2 ^ 16) → Form i (λ ps t. sets_br value (unchanged ps t))
+  br_form : {i : Insn} (value : ℕ) → is_calm i ≡ true → (AreGiven i x y u v → value < 2 ^ 16) → Form i (λ ps t. sets_br value (no_change ps t))
   br_form value c w = SetsRegister 4 value c (omega arith) (λ g. let h : value < 2 ^ 16 = w g in (holds_any 4 value refl refl, omega arith))
 
   -- ---- special registers
-  rsr_form : (r n : ℕ) (w : Option WindowRegister) → window_register n ≡ w → Form (insn.System (system.Rsr SpecialName.Rsr r n)) (λ ps t. reads_special w r n u (unchanged ps t))
+  rsr_form : (r n : ℕ) (w : Option WindowRegister) → window_register n ≡ w → Form (insn.System (system.Rsr SpecialName.Rsr r n)) (λ ps t. reads_special w r n u (no_change ps t))
   unfolding names_window_register
   rsr_form r n None h = PutsSpecial
   rsr_form r n (Some k) h = MovesWindow (Reads k r) (some_window_register n k h) (λ g. below r (and_parts _ _ g.range).0)
 
-  wsr_form : (r n : ℕ) (w : Option WindowRegister) → window_register n ≡ w → Form (insn.System (system.Rsr SpecialName.Wsr r n)) (λ ps t. writes_special w n x v (unchanged ps t))
+  wsr_form : (r n : ℕ) (w : Option WindowRegister) → window_register n ≡ w → Form (insn.System (system.Rsr SpecialName.Wsr r n)) (λ ps t. writes_special w n x v (no_change ps t))
   unfolding names_window_register
   wsr_form r n None h = WritesSpecial
   wsr_form r n (Some k) h = MovesWindow (Sets k x) (some_window_register n k h) (λ g. g.x_word)
 
-  xsr_form : (r n : ℕ) (w : Option WindowRegister) → window_register n ≡ w → Form (insn.System (system.Rsr SpecialName.Xsr r n)) (λ ps t. exchanges_special w r n x u v (unchanged ps t))
+  xsr_form : (r n : ℕ) (w : Option WindowRegister) → window_register n ≡ w → Form (insn.System (system.Rsr SpecialName.Xsr r n)) (λ ps t. exchanges_special w r n x u v (no_change ps t))
   unfolding names_window_register
   xsr_form r n None h = ExchangesSpecial
   xsr_form r n (Some k) h = MovesWindow (Exchanges k r x) (some_window_register n k h) (λ g. (below r (and_parts _ _ g.range).0, g.x_word))
 
   -- ---- the tables of rows
-  three_form : (i : Three) → Form (insn.Three i) (λ ps t. three_outcome i x y u (unchanged ps t))
-  unfolding three_outcome named is_calm
+  three_form : (i : Three) → Form (insn.Three i) (λ ps t. three_outcome i x y u (no_change ps t))
+  unfolding three_outcome highest_register is_calm
   three_form (three.And AndName.And r s t) = Puts r (bit_and x y) refl (omega arith) (λ g. and_small x y g.x_word)
   three_form (three.And AndName.Or r s t) = Puts r (bit_or x y) refl (omega arith) (λ g. or_small x y g.x_word g.y_word)
   three_form (three.And AndName.Xor r s t) = Puts r (bit_xor x y) refl (omega arith) (λ g. xor_small x y g.x_word g.y_word)
@@ -329,8 +329,8 @@ module _ (code : ℕ → ℕ) (pc x y u v : ℕ) where
   three_form (three.Moveqz MoveName.Movltz r s t) = moves_form (holds cond_.Lt y 0) r refl (omega arith)
   three_form (three.Moveqz MoveName.Movgez r s t) = moves_form (holds cond_.Ge y 0) r refl (omega arith)
 
-  shift_form : (i : Shift) → Form (insn.Shift i) (λ ps t. shift_outcome i x u (unchanged ps t))
-  unfolding shift_outcome named is_calm is_movsp
+  shift_form : (i : Shift) → Form (insn.Shift i) (λ ps t. shift_outcome i x u (no_change ps t))
+  unfolding shift_outcome highest_register is_calm is_movsp
   shift_form (shift.Neg NegName.Neg r t) = Puts r (neg x) refl (omega arith) (λ g. neg_small x)
   shift_form (shift.Neg NegName.Abs r t) = Puts r (abs x) refl (omega arith) (λ g. abs_small x g.x_word)
   shift_form (shift.Srl SrlName.Srl r t) = Puts r (srl x u) refl (omega arith) (λ g. srl_small x u)
@@ -351,8 +351,8 @@ module _ (code : ℕ → ℕ) (pc x y u v : ℕ) where
   shift_form (shift.Ssa8l Ssa8Name.Ssa8b s) = sar_form (ssa8b x) refl (λ g. ssa8b_small x)
   shift_form (shift.Ssai n) = sar_form (natural n) refl (λ g. let h = at_most 0 31 n g.range in omega arith)
 
-  memory_form : (i : Memory) → Form (insn.Memory i) (λ ps t. memory_outcome code i pc x y u (unchanged ps t))
-  unfolding memory_outcome named is_calm
+  memory_form : (i : Memory) → Form (insn.Memory i) (λ ps t. memory_outcome code i pc x y u (no_change ps t))
+  unfolding memory_outcome highest_register is_calm
   memory_form (memory.L8ui ByteName.L8ui t s offset) = loads_form 1 false t (plus x offset) l8ui One (plus_small x offset) refl (omega arith)
   memory_form (memory.L8ui ByteName.S8i t s offset) = stores_form 1 offset s8i refl
   memory_form (memory.L16ui HalfName.L16ui t s offset) = loads_form 2 false t (plus x offset) l16ui Two (plus_small x offset) refl (omega arith)
@@ -370,8 +370,8 @@ module _ (code : ℕ → ℕ) (pc x y u v : ℕ) where
   memory_form (memory.Addi t s n) = Puts t (plus x n) refl (omega arith) (λ g. plus_small x n)
   memory_form (memory.Addmi t s n) = Puts t (plus x n) refl (omega arith) (λ g. plus_small x n)
 
-  control_form : (i : Control) → Form (insn.Control i) (λ ps t. control_outcome i pc x y (unchanged ps t))
-  unfolding control_outcome named is_calm
+  control_form : (i : Control) → Form (insn.Control i) (λ ps t. control_outcome i pc x y (no_change ps t))
+  unfolding control_outcome highest_register is_calm
   control_form (control.J offset) = Jumps (branch_target pc offset) refl (λ g. plus_small _ offset)
   control_form (control.Call0 name offset) = calls_form (call_size name) (call_target pc offset) (call_small name) refl (omega arith) (λ g. plus_small _ offset)
   control_form (control.Ret RetName.Ret) = Jumps x refl (λ g. g.x_word)
@@ -407,7 +407,7 @@ module _ (code : ℕ → ℕ) (pc x y u v : ℕ) where
   control_form (control.Loop LoopName.Loopnez s offset) = Loops (holds cond_.Eq x 0) offset refl
   control_form (control.Loop LoopName.Loopgtz s offset) = Loops (holds cond_.Ge 0 x) offset refl
 
-  system_form : (i : System) → Form (insn.System i) (λ ps t. system_outcome i x u v (unchanged ps t))
+  system_form : (i : System) → Form (insn.System i) (λ ps t. system_outcome i x u v (no_change ps t))
   unfolding system_outcome is_calm is_windowing
   system_form (system.Ill SyncName.Ill) = Refuses 0 None (omega arith) tt
   system_form (system.Ill SyncName.Isync) = Nothing refl
@@ -434,8 +434,8 @@ module _ (code : ℕ → ℕ) (pc x y u v : ℕ) where
   system_form (system.Rur UserName.Rur r n) = PutsPointer
   system_form (system.Rur UserName.Wur t n) = SetsPointer
 
-  density_form : (i : Density) → Form (insn.Density i) (λ ps t. density_outcome code i pc x y (unchanged ps t))
-  unfolding density_outcome named is_calm
+  density_form : (i : Density) → Form (insn.Density i) (λ ps t. density_outcome code i pc x y (no_change ps t))
+  unfolding density_outcome highest_register is_calm
   density_form (density.L32i NarrowName.L32i t s offset) = loads_form 4 false t (plus x offset) l32i_n Four (plus_small x offset) refl (omega arith)
   density_form (density.L32i NarrowName.S32i t s offset) = stores_form 4 offset s32i_n refl
   density_form (density.Add r s t) = Puts r (addx x y 0) refl (omega arith) (λ g. addx_small x y 0)
@@ -450,8 +450,8 @@ module _ (code : ℕ → ℕ) (pc x y u v : ℕ) where
   density_form (density.Ret NarrowRetName.Ill) = Refuses 0 None (omega arith) tt
   density_form (density.Break n) = Halts
 
-  boolean_form : (i : Boolean) → Form (insn.Boolean i) (λ ps t. boolean_outcome i pc x u (unchanged ps t))
-  unfolding boolean_outcome named is_calm
+  boolean_form : (i : Boolean) → Form (insn.Boolean i) (λ ps t. boolean_outcome i pc x u (no_change ps t))
+  unfolding boolean_outcome highest_register is_calm
   boolean_form (boolean.Andb LogicName.Andb r s t) = br_form (logic op.And (booleans u) r s t) refl (λ g. logic_small _ (booleans u) r s t (omega arith) (first_of_3 r s t g.range))
   boolean_form (boolean.Andb LogicName.Andbc r s t) = br_form (logic op.AndNot (booleans u) r s t) refl (λ g. logic_small _ (booleans u) r s t (omega arith) (first_of_3 r s t g.range))
   boolean_form (boolean.Andb LogicName.Orb r s t) = br_form (logic op.Or (booleans u) r s t) refl (λ g. logic_small _ (booleans u) r s t (omega arith) (first_of_3 r s t g.range))

@@ -3,15 +3,15 @@ use Rattle.std.proofs.Common.{◌≡◌, ℕ, Bool, false, cond, eqb, refl}
 use Rattle.xt_isa.specs.declared.Insn.{Insn}
 use Rattle.xt_special.specs.declared.ps.Ps.{Ps}
 use Rattle.xt_special.specs.Control.{ps_of}
-use Rattle.xt_rows.specs.Effects.{unchanged}
-use Rattle.xt_rows.specs.Laws.{sets_mode, KeepsMode, ModesAreKept}
+use Rattle.xt_rows.specs.Effects.{no_change}
+use Rattle.xt_rows.specs.RowLaws.{sets_mode, KeepsMode, ModesAreKept}
 use Rattle.xt_rows.proofs.Forms.{Form, Puts, PutsLoaded, Jumps, Calls, CallsWindow, Loops, SetsRegister, PutsSpecial, WritesSpecial, ExchangesSpecial, PutsPointer, SetsPointer, EndsException, EndsInterrupt, SetsLevel, Waits, Nothing, Makes, rows_have_forms}
 
 written_mode : (b : Bool) (x : ℕ) (ps : Ps) → b ≡ false → ((cond b (ps_of x) ps).intlevel ≡ ps.intlevel) × ((cond b (ps_of x) ps).excm ≡ ps.excm)
 written_mode b x ps none = rw none (refl, refl)
 
 module _ (code : ℕ → ℕ) (pc x y u v : ℕ) where
-  form_keeps : {i : Insn} {o : Makes} → Form code pc x y u v i o → (ps : Ps) (t : ℕ) → sets_mode i ≡ false → KeepsMode (unchanged ps t) (o ps t)
+  form_keeps : {i : Insn} {o : Makes} → Form code pc x y u v i o → (ps : Ps) (t : ℕ) → sets_mode i ≡ false → KeepsMode (no_change ps t) (o ps t)
   unfolding sets_mode
   form_keeps (Puts number value c n w) ps t none = (refl, refl, refl)
   form_keeps (PutsLoaded size signed number addr l z c n) ps t none = (refl, refl, refl)

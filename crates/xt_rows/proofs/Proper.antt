@@ -11,10 +11,10 @@ use Rattle.xt_special.specs.Shape.{IsPs, CanHold, IsProperSet, AreProperSets}
 use Rattle.xt_fetch.specs.Code.{AreBytes, code_number}
 use Rattle.xt_rows.specs.declared.outcome.Flow.TheVariants.{Falls, Goes}
 use Rattle.xt_isa.specs.Ranges.{in_range}
-use Rattle.xt_rows.specs.Numbers.{natural, extended, linked, branch_target, address_behind}
-use Rattle.xt_rows.specs.Operands.{named}
+use Rattle.xt_rows.specs.Numbers.{natural, loaded_value, return_address, branch_target, address_behind}
+use Rattle.xt_rows.specs.Operands.{highest_register}
 use Rattle.xt_rows.specs.Outcomes.{outcome}
-use Rattle.xt_rows.specs.Laws.{IsWord, IsProperFlow, IsProper, IsGiven, IsAny}
+use Rattle.xt_rows.specs.RowLaws.{IsWord, IsProperFlow, IsProper, IsGiven, IsAny}
 use Rattle.xt_rows.proofs.Bounds.{IsSize, and_small, or_small, plus_small, minus_small, linked_small, extended_small, code_number_small, ps_word_small, ps_of_proper, value_read_small}
 use Rattle.xt_rows.proofs.Forms.{Form, Puts, PutsLoaded, Jumps, Calls, CallsWindow, Loops, SetsRegister, PutsSpecial, WritesSpecial, ExchangesSpecial, PutsPointer, SetsPointer, EndsException, EndsInterrupt, SetsLevel, Waits, Nothing, Refuses, Halts, MovesWindow, AsksLoad, AsksStore, AsksSwap, Makes, given, below, at_most, holds_any, rows_have_forms}
 use Rattle.xt_rows.proofs.Registers.{names_registers}
@@ -25,7 +25,7 @@ abbrev Weak : (ℕ → Type 0) → Type 0
 Weak W = (n : ℕ) → n < 2 ^ 32 → W n
 
 abbrev Loaded : (ℕ → Type 0) → (ℕ → ℕ) → Type 0
-Loaded W code = (signed : Bool) (a size : ℕ) → IsSize size → W (extended signed (code_number code a size))
+Loaded W code = (signed : Bool) (a size : ℕ) → IsSize size → W (loaded_value signed (code_number code a size))
 
 -- ---- special registers
 
@@ -102,7 +102,7 @@ level_fits : (n : ℕ) (ps : Ps) → n ≤ 15 → IsPs ps → IsPs (record ps { 
 level_fits n ps h f = record { intlevel_fits = omega arith; ring_fits = f.ring_fits; owb_fits = f.owb_fits; callinc_fits = f.callinc_fits }
 
 module _ (W : ℕ → Type 0) (weak : Weak W) (code : ℕ → ℕ) (loaded : Loaded W code) (pc x y u v : ℕ) where
-  register : (i : Insn) (number : ℕ) → number ≤ named i → in_range i ≡ true → number < 16
+  register : (i : Insn) (number : ℕ) → number ≤ highest_register i → in_range i ≡ true → number < 16
   register i number n ok = let h = names_registers i ok in omega arith
 
   passed : (b : Bool) (offset : ℤ) → IsProperFlow (cond b (Goes (branch_target pc offset)) Falls)
@@ -110,13 +110,13 @@ module _ (W : ℕ → Type 0) (weak : Weak W) (code : ℕ → ℕ) (loaded : Loa
   passed false offset = tt
 
   form_proper : {i : Insn} {o : Makes} → Form code pc x y u v i o → (ps : Ps) (t : ℕ) → IsGiven i pc x y u v ps t → IsProper W (o ps t)
-  unfolding named
+  unfolding highest_register
   form_proper {i = i} (Puts number value c n w) ps t g = record { write = (register i number n g.range, weak value (w (given g))); sets = (tt, tt, tt); ps = g.fields; threadptr = g.threadptr_word; flow = tt }
   form_proper {i = i} (PutsLoaded size signed number addr l z c n) ps t g = record { write = (register i number n g.range, loaded signed addr size z); sets = (tt, tt, tt); ps = g.fields; threadptr = g.threadptr_word; flow = tt }
   form_proper (Jumps target c w) ps t g = record { write = tt; sets = (tt, tt, tt); ps = g.fields; threadptr = g.threadptr_word; flow = w (given g) }
   form_proper (Calls target c w) ps t g = record { write = (omega arith, weak (address_behind pc) (omega arith)); sets = (tt, tt, tt); ps = g.fields; threadptr = g.threadptr_word; flow = w (given g) }
   form_proper (CallsWindow size target s c n w) ps t g = record {
-    write = (omega arith, weak (linked size pc) (linked_small size pc s));
+    write = (omega arith, weak (return_address size pc) (linked_small size pc s));
     sets = (tt, tt, tt);
     ps = record { intlevel_fits = g.fields.intlevel_fits; ring_fits = g.fields.ring_fits; owb_fits = g.fields.owb_fits; callinc_fits = s };
     threadptr = g.threadptr_word;

@@ -30,8 +30,8 @@ use Rattle.xt_isa.specs.declared.density.NarrowRetName.TheVariants as NarrowRetN
 use Rattle.xt_isa.specs.declared.boolean.Boolean.{Boolean}
 use Rattle.xt_isa.specs.declared.boolean.Boolean.TheVariants as boolean
 use Rattle.xt_isa.specs.Ranges.{one_register, two_registers, three_registers, in_range, three_in_range, shift_in_range, memory_in_range, control_in_range, system_in_range, density_in_range, boolean_in_range}
-use Rattle.xt_rows.specs.Operands.{call_size, callx_size, three_reads, shift_reads, memory_reads, control_reads, system_reads, density_reads, boolean_reads, reads, special_reads, three_named, shift_named, memory_named, control_named, system_named, density_named, boolean_named, named}
-use Rattle.xt_rows.specs.Laws.{IsHeld, IsRegister, IsShiftAmount}
+use Rattle.xt_rows.specs.Operands.{call_size, callx_size, three_reads, shift_reads, memory_reads, control_reads, system_reads, density_reads, boolean_reads, reads, special_reads, three_named, shift_named, memory_named, control_named, system_named, density_named, boolean_named, highest_register}
+use Rattle.xt_rows.specs.RowLaws.{IsHeld, IsRegister, IsShiftAmount}
 use Rattle.xt_rows.specs.Kinds.{IsAtMost, ReadsAreNamed}
 
 abbrev AreAtMost : ℕ → Option ℕ × Option ℕ → Type 0
@@ -125,7 +125,7 @@ boolean_reads_named (boolean.Bf name s offset) = (tt, tt)
 boolean_reads_named (boolean.Movf name r s t) = (omega arith, tt)
 
 pub reads_named : ReadsAreNamed
-unfolding reads named
+unfolding reads highest_register
 reads_named (insn.Three i) = (three_reads_named i)
 reads_named (insn.Shift i) = (shift_reads_named i)
 reads_named (insn.Memory i) = (memory_reads_named i)
@@ -262,8 +262,8 @@ boolean_names (boolean.Any8 name t s) ok = omega arith
 boolean_names (boolean.Bf name s offset) ok = omega arith
 boolean_names (boolean.Movf name r s t) ok = let p = all r s t ok in max_2 r s p.0 p.1
 
-pub names_registers : (i : Insn) → in_range i ≡ true → named i < 16
-unfolding named
+pub names_registers : (i : Insn) → in_range i ≡ true → highest_register i < 16
+unfolding highest_register
 names_registers (insn.Three i) ok = three_names i ok
 names_registers (insn.Shift i) ok = shift_names i ok
 names_registers (insn.Memory i) ok = memory_names i ok
@@ -284,7 +284,7 @@ pub reads_registers : (i : Insn) → in_range i ≡ true → AreRegisters (reads
 reads_registers i ok =
     let each = reads_named i in
     let small = names_registers i ok in
-    (at_most (named i) (reads i).0 small each.0, at_most (named i) (reads i).1 small each.1)
+    (at_most (highest_register i) (reads i).0 small each.0, at_most (highest_register i) (reads i).1 small each.1)
 
 -- a row that shifts by SAR has what SAR can hold
 pub shift_amount : (i : Insn) (u : ℕ) → IsHeld (special_reads i).0 u → IsShiftAmount i u

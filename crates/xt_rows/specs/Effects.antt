@@ -17,7 +17,7 @@ use Rattle.xt_special.specs.Access.{value_read, ps_written, written_by, set_to, 
 use Rattle.xt_special.specs.Access.{no_sets}
 use Rattle.xt_fetch.specs.Code.{code_number}
 use Rattle.xt_trace.specs.declared.record.RegWrite.{RegWrite}
-use Rattle.xt_rows.specs.declared.outcome.Awaited.{Awaited}
+use Rattle.xt_rows.specs.declared.outcome.ReplyTarget.{ReplyTarget}
 use Rattle.xt_rows.specs.declared.outcome.Flow.TheVariants.{Falls, Goes}
 use Rattle.xt_rows.specs.declared.outcome.Effect.{Effect}
 use Rattle.xt_rows.specs.declared.outcome.WindowRegister.{WindowRegister}
@@ -25,7 +25,8 @@ use Rattle.xt_rows.specs.declared.outcome.WindowRegister.TheVariants as window
 use Rattle.xt_rows.specs.declared.outcome.WindowStep.TheVariants.{Reads, Sets, Exchanges}
 use Rattle.xt_rows.specs.declared.outcome.Outcome.{Outcome}
 use Rattle.xt_rows.specs.declared.outcome.Outcome.TheVariants.{Does, Raises, Asks, Windowed}
-use Rattle.xt_rows.specs.Numbers.{minus, extended, address_behind, branch_target, linked}
+use Rattle.xt_rows.specs.Numbers.{minus, loaded_value, address_behind, branch_target}
+use Rattle.xt_rows.specs.Numbers.{return_address}
 
 -- ---- causes of exceptions (EXCCAUSE)
 
@@ -48,15 +49,15 @@ no_caller_window = 5
 abbrev pub divide_by_zero : ℕ
 divide_by_zero = 6
 
-abbrev pub misaligned : ℕ
-misaligned = 9
+abbrev pub alignment_error : ℕ
+alignment_error = 9
 
 -- ---- effects
 -- Each row begins with the effect e of an instruction that changes nothing and goes on to the next
 -- one, and changes parts of it.
 
-abbrev pub unchanged : Ps → ℕ → Effect
-unchanged ps threadptr = record {
+abbrev pub no_change : Ps → ℕ → Effect
+no_change ps threadptr = record {
   write = None;
   sets = no_sets;
   ps = ps;
@@ -96,7 +97,7 @@ abbrev pub calls : ℕ → ℕ → ℕ → Effect → Outcome
 calls size target pc e =
     if size == 0 then Does (record e { write = write_to 0 (address_behind pc); flow = Goes target })
     else Does (record e {
-      write = write_to (4 * size) (linked size pc);
+      write = write_to (4 * size) (return_address size pc);
       ps = record e.ps { callinc = size };
       flow = Goes target;
     })
@@ -118,33 +119,34 @@ loops passes count pc offset e =
 -- ---- accesses
 
 -- the access is made where the bus serves it
-abbrev pub asks : Access → Option Awaited → Effect → Outcome
+abbrev pub asks : Access → Option ReplyTarget → Effect → Outcome
 asks access awaited e =
     if is_mapped access then Asks access awaited e else Raises access_error (Some access.addr)
 
 -- alignment is tested before all else
-abbrev pub aligned : ℕ → ℕ → Outcome → Outcome
-aligned size addr outcome = if (addr % size) == 0 then outcome else Raises misaligned (Some addr)
+abbrev pub if_aligned : ℕ → ℕ → Outcome → Outcome
+if_aligned size addr outcome =
+    if (addr % size) == 0 then outcome else Raises alignment_error (Some addr)
 
 -- A load. Of constant regions it is answered at once, and is no access.
 abbrev pub loads : (ℕ → ℕ) → ℕ → Bool → ℕ → ℕ → Effect → Outcome
 loads code size signed number addr e =
-    aligned size addr
+    if_aligned size addr
     (if is_constant (region_of addr)
-    then puts number (extended signed (code_number code addr size)) e
+    then puts number (loaded_value signed (code_number code addr size)) e
     else asks (record { addr = addr; size = size; kind = Load })
     (Some (record { number = number; signed = signed })) e)
 
 -- a store of the low bytes of a value
 abbrev pub stores : ℕ → ℕ → ℕ → Effect → Outcome
 stores size value addr e =
-    aligned size addr
+    if_aligned size addr
     (asks (record { addr = addr; size = size; kind = Store (value % 2 ^ (8 * size)) }) None e)
 
 -- S32C1I: the word is exchanged where it is the expected one; the register receives the word read
 abbrev pub swaps : ℕ → ℕ → ℕ → ℕ → Effect → Outcome
 swaps expected new number addr e =
-    aligned 4 addr (asks (record { addr = addr; size = 4; kind = Cas expected new })
+    if_aligned 4 addr (asks (record { addr = addr; size = 4; kind = Cas expected new })
     (Some (record { number = number; signed = false })) e)
 
 -- ---- special registers

@@ -21,7 +21,7 @@ use Rattle.xt_special.specs.declared.ps.Ps.{Ps}
 use Rattle.xt_special.specs.Numbers as number
 use Rattle.xt_special.specs.Access.{is_window_register}
 use Rattle.xt_trace.specs.declared.record.RegWrite.{RegWrite}
-use Rattle.xt_rows.specs.declared.outcome.Awaited.{Awaited}
+use Rattle.xt_rows.specs.declared.outcome.ReplyTarget.{ReplyTarget}
 use Rattle.xt_rows.specs.declared.outcome.WindowStep.{WindowStep}
 use Rattle.xt_rows.specs.declared.outcome.WindowStep.TheVariants.{Enters, Returns, EndsOverflow}
 use Rattle.xt_rows.specs.declared.outcome.WindowStep.TheVariants.{EndsUnderflow, Rotates}
@@ -29,7 +29,7 @@ use Rattle.xt_rows.specs.declared.outcome.WindowStep.TheVariants.{MovesStack, Re
 use Rattle.xt_rows.specs.declared.outcome.WindowStep.TheVariants.{Exchanges}
 use Rattle.xt_rows.specs.declared.outcome.Outcome.{Outcome}
 use Rattle.xt_rows.specs.declared.outcome.Outcome.TheVariants.{Does, Raises, Asks, Stops, Windowed}
-use Rattle.xt_rows.specs.Operands.{reads, named}
+use Rattle.xt_rows.specs.Operands.{reads, highest_register}
 use Rattle.xt_special.specs.declared.writes.SpecialWrite.{SpecialWrite}
 use Rattle.xt_special.specs.Access.{set_to, no_set, SpecialWrites}
 use Rattle.xt_rows.specs.Outcomes.{outcome}
@@ -79,11 +79,11 @@ moved_to _ = None
 
 abbrev pub WritesNamed : Insn → Option RegWrite → Type 0
 WritesNamed i None = Unit {0}
-WritesNamed i (Some w) = w.reg ≤ named i
+WritesNamed i (Some w) = w.reg ≤ highest_register i
 
-abbrev pub AwaitsNamed : Insn → Option Awaited → Type 0
+abbrev pub AwaitsNamed : Insn → Option ReplyTarget → Type 0
 AwaitsNamed i None = Unit {0}
-AwaitsNamed i (Some a) = a.number ≤ named i
+AwaitsNamed i (Some a) = a.number ≤ highest_register i
 
 -- a write of another special register than this one, or none
 abbrev pub Spares : ℕ → Option SpecialWrite → Type 0
@@ -145,4 +145,6 @@ IsAtMost n None = Unit {0}
 IsAtMost n (Some number) = number ≤ n
 
 abbrev pub ReadsAreNamed : Type 0
-ReadsAreNamed = (i : Insn) → IsAtMost (named i) (reads i).0 × IsAtMost (named i) (reads i).1
+ReadsAreNamed =
+    (i : Insn) → IsAtMost (highest_register i) (reads i).0
+    × IsAtMost (highest_register i) (reads i).1

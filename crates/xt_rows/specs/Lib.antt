@@ -3,5 +3,5 @@ pub mod Operands
 pub mod Effects
 pub mod Outcomes
 pub mod Settling
-pub mod Laws
+pub mod RowLaws
 pub mod Kinds

@@ -20,8 +20,8 @@ natural (negsuc n) = 0
 
 -- what a load puts into its register: the number read, of 16 bits and signed where the
 -- instruction says so (L16SI)
-unfoldable pub extended : Bool → ℕ → ℕ
-extended signed n = if signed then sign_extended n 16 else n
+unfoldable pub loaded_value : Bool → ℕ → ℕ
+loaded_value signed n = if signed then sign_extended n 16 else n
 
 -- ---- addresses
 
@@ -42,5 +42,5 @@ abbrev pub literal_address : ℕ → ℤ → ℕ
 literal_address pc offset = plus ((pc + 3) % 2 ^ 32 / 4 * 4) offset
 
 -- a return address with the size of its call in the top two bits, and the low 30 bits of PC + 3
-abbrev pub linked : ℕ → ℕ → ℕ
-linked size pc = size * 2 ^ 30 + (pc + 3) % 2 ^ 30
+abbrev pub return_address : ℕ → ℕ → ℕ
+return_address size pc = size * 2 ^ 30 + (pc + 3) % 2 ^ 30

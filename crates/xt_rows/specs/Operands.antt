@@ -283,11 +283,11 @@ boolean_named (boolean.Any8 name t s) = 0
 boolean_named (boolean.Bf name s offset) = 0
 boolean_named (boolean.Movf name r s t) = max r s
 
-unfoldable pub named : Insn → ℕ
-named (insn.Three i) = three_named i
-named (insn.Shift i) = shift_named i
-named (insn.Memory i) = memory_named i
-named (insn.Control i) = control_named i
-named (insn.System i) = system_named i
-named (insn.Density i) = density_named i
-named (insn.Boolean i) = boolean_named i
+unfoldable pub highest_register : Insn → ℕ
+highest_register (insn.Three i) = three_named i
+highest_register (insn.Shift i) = shift_named i
+highest_register (insn.Memory i) = memory_named i
+highest_register (insn.Control i) = control_named i
+highest_register (insn.System i) = system_named i
+highest_register (insn.Density i) = density_named i
+highest_register (insn.Boolean i) = boolean_named i

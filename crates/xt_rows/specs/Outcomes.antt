@@ -98,7 +98,7 @@ use Rattle.xt_rows.specs.declared.outcome.Outcome.{Outcome}
 use Rattle.xt_rows.specs.declared.outcome.Outcome.TheVariants.{Does, Raises, Stops, Windowed}
 use Rattle.xt_rows.specs.Numbers.{plus, minus, natural, branch_target, call_target, literal_address}
 use Rattle.xt_rows.specs.Operands.{call_size, callx_size, reads, special_reads}
-use Rattle.xt_rows.specs.Effects.{illegal_instruction, system_call, unchanged, write_to, puts}
+use Rattle.xt_rows.specs.Effects.{illegal_instruction, system_call, no_change, write_to, puts}
 use Rattle.xt_rows.specs.Effects.{moves, divides, goes, branches, calls, loops, loads}
 use Rattle.xt_rows.specs.Effects.{stores, swaps, window_register, reads_special, writes_special}
 use Rattle.xt_rows.specs.Effects.{exchanges_special, sets_special}
@@ -359,7 +359,7 @@ outcome_from code (insn.Density i) pc x y u v e = density_outcome code i pc x y 
 outcome_from code (insn.Boolean i) pc x y u v e = boolean_outcome i pc x u e
 
 unfoldable pub outcome : (ℕ → ℕ) → Insn → ℕ → ℕ → ℕ → ℕ → ℕ → Ps → ℕ → Outcome
-outcome code i pc x y u v ps threadptr = outcome_from code i pc x y u v (unchanged ps threadptr)
+outcome code i pc x y u v ps threadptr = outcome_from code i pc x y u v (no_change ps threadptr)
 
 -- ---- a row over a machine's registers
 

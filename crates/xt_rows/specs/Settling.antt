@@ -3,8 +3,8 @@
 -- the effects are those of the manual's chapters on the options).
 --
 -- Profile: only an instruction that falls through can go back in a loop.
--- Note: `settled` of a step of windows leaves the core at the instruction. The processor has its
--- own cases; the machine with frames takes this one for all but ENTRY and RETW, and there the
+-- Note: `after_outcome` of a step of windows leaves the core at the instruction. The processor has
+-- its own cases; the machine with frames takes this one for all but ENTRY and RETW, and there the
 -- instruction is a breach.
 use Rattle.std.specs.Prelude.{ℕ, ◌+◌, ◌-◌, ◌*◌, ◌/◌, ◌%◌, ◌^◌, if◌then◌else◌, Option, Some, None}
 use Rattle.std.specs.Prelude.{slice_set}
@@ -15,15 +15,15 @@ use Rattle.xt_trace.specs.declared.record.RegWrite.{RegWrite}
 use Rattle.xt_special.specs.Numbers as number
 use Rattle.xt_special.specs.Control.{Control, special_of}
 use Rattle.xt_special.specs.Access.{with_sets}
-use Rattle.xt_special.specs.Timers.{ticked}
+use Rattle.xt_special.specs.Timers.{after_tick}
 use Rattle.xt_special.specs.Exceptions.{after_exception}
 use Rattle.xt_special.specs.Interrupts.{after_interrupt}
 use Rattle.xt_loop.specs.Looping.{loops_back}
-use Rattle.xt_rows.specs.declared.outcome.Awaited.{Awaited}
+use Rattle.xt_rows.specs.declared.outcome.ReplyTarget.{ReplyTarget}
 use Rattle.xt_rows.specs.declared.outcome.Flow.{Flow}
 use Rattle.xt_rows.specs.declared.outcome.Flow.TheVariants.{Falls, Goes}
 use Rattle.xt_rows.specs.declared.outcome.Effect.{Effect}
-use Rattle.xt_rows.specs.Numbers.{extended}
+use Rattle.xt_rows.specs.Numbers.{loaded_value}
 use Rattle.xt_rows.specs.declared.outcome.Outcome.{Outcome}
 use Rattle.xt_rows.specs.declared.outcome.Outcome.TheVariants.{Does, Raises, Asks, Stops, Windowed}
 
@@ -71,12 +71,12 @@ pub record Settled : Type 0 where
   pub write : Option RegWrite
   pub access : Option Access
   -- the register that receives the reply
-  pub awaited : Option Awaited
+  pub awaited : Option ReplyTarget
   pub control : Control
 
 abbrev pub without_access : Kind → Option RegWrite → Control → Settled
 without_access kind write c =
-    record { kind = kind; write = write; access = None; awaited = None; control = ticked c }
+    record { kind = kind; write = write; access = None; awaited = None; control = after_tick c }
 
 abbrev pub settled_exception : ℕ → Option ℕ → Control → Settled
 settled_exception cause address c =
@@ -89,22 +89,22 @@ abbrev pub settled_wait : Control → Settled
 settled_wait c = without_access Waited None c
 
 -- an instruction of this length
-abbrev pub settled : Outcome → ℕ → Control → Settled
-settled (Does e) len c = without_access Executed e.write (after_effect e len c)
-settled (Raises cause address) len c = settled_exception cause address c
-settled (Asks access awaited e) len c =
+abbrev pub after_outcome : Outcome → ℕ → Control → Settled
+after_outcome (Does e) len c = without_access Executed e.write (after_effect e len c)
+after_outcome (Raises cause address) len c = settled_exception cause address c
+after_outcome (Asks access awaited e) len c =
     record {
       kind = Executed;
       write = None;
       access = Some access;
       awaited = awaited;
-      control = ticked (after_effect e len c);
+      control = after_tick (after_effect e len c);
     }
-settled Stops len c = without_access Stopped None c
+after_outcome Stops len c = without_access Stopped None c
 -- The processor has its own case for each step of windows, and never comes here with one. The
 -- machine with unbounded frames has its own cases for ENTRY and RETW alone: any other step of
 -- windows is a breach there, and does nothing here but end its turn.
-settled (Windowed step) len c = without_access Executed None c
+after_outcome (Windowed step) len c = without_access Executed None c
 
 -- ---- what the record of a turn shows of it
 
@@ -117,12 +117,12 @@ kind_of Stopped = kind.Stop
 
 -- ---- the reply: what the register that awaited it receives
 
-abbrev pub received : Awaited → ℕ → RegWrite
-received a reply = record { reg = a.number; value = extended a.signed reply }
+abbrev pub reply_write : ReplyTarget → ℕ → RegWrite
+reply_write a reply = record { reg = a.number; value = loaded_value a.signed reply }
 
-abbrev pub written : Option RegWrite → Option Awaited → ℕ → Option RegWrite
-written write None reply = write
-written write (Some a) reply = Some (received a reply)
+abbrev pub write_with_reply : Option RegWrite → Option ReplyTarget → ℕ → Option RegWrite
+write_with_reply write None reply = write
+write_with_reply write (Some a) reply = Some (reply_write a reply)
 
 -- ---- a return (chapter 'Windowed Register Option', RETW)
 

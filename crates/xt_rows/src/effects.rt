@@ -1,11 +1,11 @@
 ghost use Rattle.std.specs.Prelude.{◌≡◌, ◌+◌, ◌*◌, ◌%◌, ◌^◌, ◌<◌, true};
 ghost use Rattle.xt_map.specs.Memory.{constant_byte};
 ghost use Rattle.xt_map.specs.Regions.{is_size};
-ghost use Rattle.xt_rows.specs.Effects.{asks, branches, calls, exchanges_special, goes, loads, loops, moves, puts, reads_special, sets_special, stores, swaps, unchanged, window_register, write_to, writes_special};
+ghost use Rattle.xt_rows.specs.Effects.{asks, branches, calls, exchanges_special, goes, loads, loops, moves, puts, reads_special, sets_special, stores, swaps, no_change, window_register, write_to, writes_special};
 
 use crate::cause;
-use crate::numbers::{address_behind, branch_target, extended, linked, minus};
-use crate::outcome::{Awaited, Effect, Flow, Outcome, WindowRegister, WindowStep};
+use crate::numbers::{address_behind, branch_target, loaded_value, minus, return_address};
+use crate::outcome::{Effect, Flow, Outcome, ReplyTarget, WindowRegister, WindowStep};
 use xt_fetch::code_number;
 use xt_map::{Access, Constants, Kind, is_constant_at, mapped};
 use xt_special::{Ps, number, set_to};
@@ -13,8 +13,8 @@ use xt_trace::RegWrite;
 
 /// The effect of an instruction that changes nothing and goes on to the next one.
 #[inline(always)]
-pub fn unchanged(ps: Ps, threadptr: u32) -> Effect
-    ensures { result ≡ unchanged ps threadptr }
+pub fn no_change(ps: Ps, threadptr: u32) -> Effect
+    ensures { result ≡ no_change ps threadptr }
 {
     Effect {
         write: None,
@@ -93,7 +93,7 @@ pub fn calls(size: u8, target: u32, pc: u32, e: Effect) -> Outcome
         });
     }
     Outcome::Does(Effect {
-        write: write_to(4 * size, linked(size, pc)),
+        write: write_to(4 * size, return_address(size, pc)),
         ps: Ps {
             callinc: size,
             ..e.ps
@@ -131,7 +131,7 @@ pub fn loops(passes: bool, count: u32, pc: u32, offset: i32, e: Effect) -> Outco
 
 // An access, which is made where the bus serves it.
 #[inline(always)]
-fn asks(access: Access, awaited: Option<Awaited>, e: Effect) -> Outcome
+fn asks(access: Access, awaited: Option<ReplyTarget>, e: Effect) -> Outcome
     ensures { result ≡ asks access awaited e }
 {
     if mapped(&access) {
@@ -151,14 +151,18 @@ pub fn loads(code: &Constants, size: u8, signed: bool, number: u8, addr: u32, e:
         return Outcome::Raises(cause::MISALIGNED, Some(addr));
     }
     if is_constant_at(addr) {
-        return puts(number, extended(signed, code_number(code, addr, size)), e);
+        return puts(
+            number,
+            loaded_value(signed, code_number(code, addr, size)),
+            e,
+        );
     }
     let access = Access {
         addr,
         size,
         kind: Kind::Load,
     };
-    asks(access, Some(Awaited { number, signed }), e)
+    asks(access, Some(ReplyTarget { number, signed }), e)
 }
 
 // The low bytes of a value.
@@ -206,7 +210,7 @@ pub fn swaps(expected: u32, new: u32, number: u8, addr: u32, e: Effect) -> Outco
     };
     asks(
         access,
-        Some(Awaited {
+        Some(ReplyTarget {
             number,
             signed: false,
         }),

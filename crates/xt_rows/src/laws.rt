@@ -2,7 +2,7 @@
 #![tactic(auto)]
 
 ghost use Rattle.xt_rows.specs.Kinds.{OutcomesFit, ReadsAreNamed};
-ghost use Rattle.xt_rows.specs.Laws.{ModesAreKept, OutcomesAreProper, ReadsOnlyItsRegisters, RegistersExist};
+ghost use Rattle.xt_rows.specs.RowLaws.{ModesAreKept, OutcomesAreProper, ReadsOnlyItsRegisters, RegistersExist};
 
 /// A row looks at nothing but the registers that it reads, PC, PS and THREADPTR: where these are
 /// equal, its outcomes are.

@@ -22,6 +22,6 @@ mod three;
 
 pub use effects::write_to;
 pub use numbers::{minus, natural};
-pub use operands::{named, reads, special_reads};
-pub use outcome::{Awaited, Effect, Flow, Outcome, WindowRegister, WindowStep};
+pub use operands::{highest_register, reads, special_reads};
+pub use outcome::{Effect, Flow, Outcome, ReplyTarget, WindowRegister, WindowStep};
 pub use rows::{Values, outcome_of};

@@ -1,5 +1,5 @@
 ghost use Rattle.std.specs.Prelude.{◌≡◌, ◌<◌};
-ghost use Rattle.xt_rows.specs.Numbers.{address_behind, branch_target, call_target, extended, linked, literal_address, minus, natural, plus};
+ghost use Rattle.xt_rows.specs.Numbers.{address_behind, branch_target, call_target, loaded_value, return_address, literal_address, minus, natural, plus};
 
 use xt_word::sext;
 
@@ -32,10 +32,10 @@ pub fn natural(n: i32) -> u32
 
 /// What a load puts into its register: the number read, whose low 16 bits are signed where the
 /// instruction says so (L16SI).
-#[tactic(auto, unfolding(crate::specs::Numbers::extended))]
+#[tactic(auto, unfolding(crate::specs::Numbers::loaded_value))]
 #[inline(always)]
-pub fn extended(signed: bool, n: u32) -> u32
-    ensures { result ≡ extended signed n }
+pub fn loaded_value(signed: bool, n: u32) -> u32
+    ensures { result ≡ loaded_value signed n }
 {
     if signed { sext(n, 16) } else { n }
 }
@@ -77,9 +77,9 @@ pub fn literal_address(pc: u32, offset: i32) -> u32
 /// The return address of a call at `pc` by 1, 2 or 3 windows: the size in the top two bits, and the
 /// low 30 bits of PC + 3.
 #[inline(always)]
-pub fn linked(size: u8, pc: u32) -> u32
+pub fn return_address(size: u8, pc: u32) -> u32
     requires { size < 4 }
-    ensures { result ≡ linked size pc }
+    ensures { result ≡ return_address size pc }
 {
     size as u32 * 0x4000_0000 + pc.wrapping_add(3) % 0x4000_0000
 }

@@ -2,7 +2,7 @@ ghost use Rattle.std.specs.Prelude.{◌≡◌, ◌<◌, true};
 ghost use Rattle.xt_isa.specs.Ranges.{in_range, natural_within};
 ghost use Rattle.xt_special.specs.Numbers as number;
 ghost use Rattle.xt_rows.specs.Numbers.{natural};
-ghost use Rattle.xt_rows.specs.Operands.{boolean_named, boolean_reads, call_size, callx_size, changes_interrupt, control_named, control_reads, density_named, density_reads, memory_named, memory_reads, named, reads, shift_named, shift_reads, special_reads, system_named, system_reads, system_special_reads, three_named, three_reads, two};
+ghost use Rattle.xt_rows.specs.Operands.{boolean_named, boolean_reads, call_size, callx_size, changes_interrupt, control_named, control_reads, density_named, density_reads, memory_named, memory_reads, highest_register, reads, shift_named, shift_reads, special_reads, system_named, system_reads, system_special_reads, three_named, three_reads, two};
 
 use crate::numbers::natural;
 use xt_isa::boolean::Boolean;
@@ -352,10 +352,10 @@ fn boolean_named(i: Boolean) -> u8
 }
 
 /// The highest visible register that the instruction names, or 0 where it names none.
-#[tactic(auto, unfolding(crate::specs::Operands::named))]
+#[tactic(auto, unfolding(crate::specs::Operands::highest_register))]
 #[inline(always)]
-pub fn named(i: Insn) -> u8
-    ensures { result ≡ named i }
+pub fn highest_register(i: Insn) -> u8
+    ensures { result ≡ highest_register i }
 {
     match i {
         Insn::Three(i) => three_named(i),

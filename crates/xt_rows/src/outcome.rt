@@ -4,7 +4,7 @@ use xt_trace::RegWrite;
 
 /// The visible register that receives the reply to an access.
 #[derive(Clone, Copy)]
-pub struct Awaited {
+pub struct ReplyTarget {
     /// The visible register, 0 to 15.
     pub number: u8,
     /// Whether the reply is a signed number of 16 bits (L16SI).
@@ -80,7 +80,7 @@ pub enum Outcome {
     Raises(u8, Option<u32>),
     /// It makes this access; the register, if any, receives the reply, and this is the rest of the
     /// effect.
-    Asks(Access, Option<Awaited>, Effect),
+    Asks(Access, Option<ReplyTarget>, Effect),
     /// It stops the core.
     Stops,
     /// It does something with windows, for which a machine has its own cases.

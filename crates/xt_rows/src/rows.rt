@@ -2,14 +2,14 @@ ghost use Rattle.std.specs.Prelude.{◌≡◌, true};
 ghost use Rattle.xt_isa.specs.Ranges.{in_range};
 ghost use Rattle.xt_map.specs.Memory.{constant_byte};
 ghost use Rattle.xt_special.specs.Shape.{IsPs};
-ghost use Rattle.xt_rows.specs.Laws.{AsksWith, IsAny, IsProper, IsShiftAmount};
-ghost use Rattle.xt_rows.specs.Effects.{unchanged};
+ghost use Rattle.xt_rows.specs.RowLaws.{AsksWith, IsAny, IsProper, IsShiftAmount};
+ghost use Rattle.xt_rows.specs.Effects.{no_change};
 ghost use Rattle.xt_rows.specs.Outcomes.{outcome};
 
 use crate::boolean::boolean_outcome;
 use crate::control::control_outcome;
 use crate::density::density_outcome;
-use crate::effects::unchanged;
+use crate::effects::no_change;
 use crate::memory::memory_outcome;
 use crate::outcome::Outcome;
 use crate::shift::shift_outcome;
@@ -48,7 +48,7 @@ fn row_outcome<U>(
     requires ps { IsPs ps }
     ensures { result ≡ outcome (constant_byte code.now) i pc values.x values.y values.u values.v ps threadptr }
 {
-    let e = unchanged(ps, threadptr);
+    let e = no_change(ps, threadptr);
     let Values { x, y, u, v } = values;
     match i {
         Insn::Three(i) => three_outcome::<U>(i, x, y, u, e),
@@ -83,7 +83,7 @@ pub fn outcome_of<U>(
     requires ps { IsPs ps }
     ensures formula { result ≡ outcome (constant_byte code.now) i pc values.x values.y values.u values.v ps threadptr }
     ensures proper { IsProper IsAny result }
-    ensures alone { AsksWith (unchanged ps threadptr) result }
+    ensures alone { AsksWith (no_change ps threadptr) result }
 {
     row_outcome::<U>(code, i, pc, values, ps, threadptr)
 }

@@ -5,12 +5,12 @@
 ghost use Rattle.std.specs.Prelude.{◌≡◌, Bool, None, slice_index};
 ghost use Rattle.xt_special.specs.Values.{control_at};
 ghost use Rattle.xt_rows.specs.declared.outcome.Flow.TheVariants.{Falls};
-ghost use Rattle.xt_rows.specs.Laws.{IsAny, IsHeld, IsProperAwaited, IsProperEffect, IsProperWrite};
+ghost use Rattle.xt_rows.specs.RowLaws.{IsAny, IsHeld, IsProperAwaited, IsProperEffect, IsProperWrite};
 ghost use Rattle.xt_rows.specs.Outcomes.{value_of};
-ghost use Rattle.xt_rows.specs.Settling.{after_effect, after_flow, return_pc, written};
+ghost use Rattle.xt_rows.specs.Settling.{after_effect, after_flow, return_pc, write_with_reply};
 
-use crate::numbers::extended;
-use crate::outcome::{Awaited, Effect, Flow};
+use crate::numbers::loaded_value;
+use crate::outcome::{Effect, Flow, ReplyTarget};
 use xt_special::{Special, number};
 use xt_trace::RegWrite;
 
@@ -76,14 +76,14 @@ pub fn return_pc(pc: u32, a0: u32) -> u32
 
 /// The register that receives the reply, with the value that it receives.
 #[inline(always)]
-pub fn received(awaited: Option<Awaited>, reply: u32) -> Option<RegWrite>
+pub fn reply_write(awaited: Option<ReplyTarget>, reply: u32) -> Option<RegWrite>
     requires { IsProperAwaited awaited }
-    ensures value { result ≡ written None awaited reply }
+    ensures value { result ≡ write_with_reply None awaited reply }
     ensures register { IsProperWrite IsAny result }
 {
     let a = awaited?;
     Some(RegWrite {
         reg: a.number,
-        value: extended(a.signed, reply),
+        value: loaded_value(a.signed, reply),
     })
 }

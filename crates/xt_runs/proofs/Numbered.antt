@@ -4,8 +4,8 @@ use Rattle.std.specs.Io.KnownBytes.{Appends}
 use Rattle.xt_io.specs.Causes.{Rose}
 use Rattle.xt_io.specs.Whole.{AppendsPrefix}
 use Rattle.xt_image.specs.declared.image.Image.{Image}
-use Rattle.xt_image.specs.Parts.{image_bytes}
-use Rattle.xt_gen.specs.Generated.{generated}
+use Rattle.xt_image.specs.ImageParts.{image_bytes}
+use Rattle.xt_gen.specs.Generated.{generated_image}
 use Rattle.xt_command_line.specs.declared.options.RunOptions.{RunOptions}
 use Rattle.xt_command_line.specs.Options.{AreValid}
 use Rattle.xt_status.specs.declared.status.Status.{Status}
@@ -27,7 +27,7 @@ options_are_valid = λ entry code. record {
 }
 
 -- what is so of the image that was made is so of the number
-pub of_number : (number : ℕ) (o : RunOptions) (image : Image) (w : Whole) → o ≡ gen_options → image ≡ generated number
+pub of_number : (number : ℕ) (o : RunOptions) (image : Image) (w : Whole) → o ≡ gen_options → image ≡ generated_image number
     → IsRunOfImage o image w.run → IsJudged image w → IsGenerated number w
 of_number number o image w given made is_run judged =
     let P : RunOptions → Type 0 = λ x. IsRunOfImage x image w.run in
@@ -35,7 +35,7 @@ of_number number o image w given made is_run judged =
     let J : Image → Type 0 = λ i. IsJudged i w in
     record { is_run = subst Q made (subst P given is_run); judged = subst J made judged }
 
-pub of_size : (number size : ℕ) (image : Image) (w : Whole) (text : List ℕ) → size ≡ length (image_bytes image) → image ≡ generated number
+pub of_size : (number size : ℕ) (image : Image) (w : Whole) (text : List ℕ) → size ≡ length (image_bytes image) → image ≡ generated_image number
     → text ≡ summary_text number size w → text ≡ gen_text number w
 of_size number size image w text long made is = is ∙ ap (λ n. summary_text number n w) (long ∙ ap (λ i. length (image_bytes i)) made)
 
@@ -43,17 +43,17 @@ of_size number size image w text long made is = is ∙ ap (λ n. summary_text nu
 
 pub gen_memory : (number : ℕ) (a b : Option (List ℕ)) (f g : ℕ) (whole : Whole) (s : Status) (w : Option Whole) → s ≡ status.Memory → w ≡ None
     → IsGenerated number whole → AppendsPrefix a b (gen_text number whole) → Generates number a b f g s w
-gen_memory number a b f g whole s w is none generated front =
+gen_memory number a b f g whole s w is none generated_image front =
     let P : Status → Type 0 = λ x. Generates number a b f g x None in
     let Q : Option Whole → Type 0 = λ x. Generates number a b f g s x in
-    subst Q (sym none) (subst P (sym is) (inr (whole, generated, front)))
+    subst Q (sym none) (subst P (sym is) (inr (whole, generated_image, front)))
 
 pub gen_done : (number : ℕ) (a b : Option (List ℕ)) (f g : ℕ) (w : Whole) (s : Status) → s ≡ status.Done
     → IsGenerated number w → Appends a b (gen_text number w) → Generates number a b f g s (Some w)
-gen_done number a b f g w s is generated whole =
-    let P : Status → Type 0 = λ x. Generates number a b f g x (Some w) in subst P (sym is) (generated, whole)
+gen_done number a b f g w s is generated_image whole =
+    let P : Status → Type 0 = λ x. Generates number a b f g x (Some w) in subst P (sym is) (generated_image, whole)
 
 pub gen_failed : (number : ℕ) (a b : Option (List ℕ)) (f g : ℕ) (w : Whole) (s : Status) → s ≡ status.WriteFault
     → IsGenerated number w → AppendsPrefix a b (gen_text number w) → Rose f g → Generates number a b f g s (Some w)
-gen_failed number a b f g w s is generated front rose =
-    let P : Status → Type 0 = λ x. Generates number a b f g x (Some w) in subst P (sym is) (generated, front, rose)
+gen_failed number a b f g w s is generated_image front rose =
+    let P : Status → Type 0 = λ x. Generates number a b f g x (Some w) in subst P (sym is) (generated_image, front, rose)

@@ -6,7 +6,7 @@ use Rattle.std.proofs.lemmas.List.{drop_more}
 use Rattle.xt_image.specs.declared.image.Image.{Image}
 use Rattle.xt_trace.specs.declared.run.Run.{Run}
 use Rattle.xt_core.specs.Positions.{schedule_in}
-use Rattle.xt_replay.specs.Shown.{ReplayState, moved, shown_at}
+use Rattle.xt_replay.specs.Shown.{ReplayState, replay_at, shown_at}
 use Rattle.xt_command_line.specs.declared.spans.Span.{Span}
 use Rattle.xt_runs.specs.Memory.{shown_last}
 
@@ -21,12 +21,12 @@ line_more f old new whole k spans d here printed so_far =
 
 -- a replay that was told to stand at the end stands there
 pub stood : {T E : Type 0} (old new : ReplayState) (r : Result T E) (end : ℕ) → end ≡ length (schedule_in old.run)
-    → MatchResult r (λ _. (end ≤ length (schedule_in old.run)) × (new ≡ moved old end)) (λ _. (length (schedule_in old.run) < end) × (new ≡ old))
-    → new ≡ moved old (length (schedule_in old.run))
-stood old new (Ok u) end is (within, same) = same ∙ ap (moved old) is
+    → MatchResult r (λ _. (end ≤ length (schedule_in old.run)) × (new ≡ replay_at old end)) (λ _. (length (schedule_in old.run) < end) × (new ≡ old))
+    → new ≡ replay_at old (length (schedule_in old.run))
+stood old new (Ok u) end is (within, same) = same ∙ ap (replay_at old) is
 stood old new (Err e) end is (beyond, same) = absurd (omega (arith, is, beyond))
 
-pub shows_last : (image : Image) (run : Run) (old new : ReplayState) → old ≡ record { image = image; run = run; position = 0 } → new ≡ moved old (length (schedule_in old.run))
+pub shows_last : (image : Image) (run : Run) (old new : ReplayState) → old ≡ record { image = image; run = run; position = 0 } → new ≡ replay_at old (length (schedule_in old.run))
     → shown_at new.image new.run new.position ≡ shown_last image run
 shows_last image run old new is stands =
     ap (λ (s : ReplayState). shown_at s.image s.run s.position) stands

@@ -4,11 +4,11 @@ use Rattle.xt_image.specs.declared.image.Image.{Image}
 use Rattle.xt_trace.specs.declared.run.Run.{Run}
 use Rattle.xt_events.specs.Events.{events_text}
 use Rattle.xt_race.specs.Races.{events_of}
-use Rattle.xt_race.specs.Texts.{IsRaceText}
+use Rattle.xt_race.specs.RaceTexts.{IsRaceText}
 use Rattle.xt_profile.specs.Profiled.{profile_of}
-use Rattle.xt_profile.specs.Texts.{profile_text}
+use Rattle.xt_profile.specs.ProfileText.{profile_text}
 use Rattle.xt_uses.specs.declared.discipline.Discipline.TheVariants.{Strict}
-use Rattle.xt_use_report.specs.Told.{IsUsesTold}
+use Rattle.xt_use_report.specs.UseFindings.{IsUsesTold}
 use Rattle.xt_command_line.specs.declared.options.RunOptions.{RunOptions}
 use Rattle.xt_runs.specs.Memory.{memory_text}
 

@@ -1,7 +1,7 @@
 -- The options of the image that is made of a number, and what `gen` writes of its run ('profile').
 use Rattle.std.specs.Prelude.{ℕ, None, List, length, false}
-use Rattle.xt_image.specs.Parts.{image_bytes}
-use Rattle.xt_gen.specs.Generated.{generated}
+use Rattle.xt_image.specs.ImageParts.{image_bytes}
+use Rattle.xt_gen.specs.Generated.{generated_image}
 use Rattle.xt_command_line.specs.declared.options.RunOptions.{RunOptions}
 use Rattle.xt_command_line.specs.declared.turn_orders.TurnOrder.TheVariants as order
 use Rattle.xt_report.specs.declared.whole.Whole.{Whole}
@@ -28,4 +28,4 @@ gen_options = record {
 
 -- the summary of the image that is made of a number, and of its run
 abbrev pub gen_text : ℕ → Whole → List ℕ
-gen_text number w = summary_text number (length (image_bytes (generated number))) w
+gen_text number w = summary_text number (length (image_bytes (generated_image number))) w

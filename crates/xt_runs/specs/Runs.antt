@@ -12,7 +12,7 @@ use Rattle.xt_image.specs.Rules.{image_fault}
 use Rattle.xt_image.specs.Format.{image_of}
 use Rattle.xt_trace.specs.declared.options.Options.{Options}
 use Rattle.xt_trace.specs.declared.run.Run.{Run}
-use Rattle.xt_gen.specs.Generated.{generated}
+use Rattle.xt_gen.specs.Generated.{generated_image}
 use Rattle.xt_gen.specs.Orders.{seeded_order}
 use Rattle.xt_core.specs.Runs.{IsRunOf, records_of}
 use Rattle.xt_machine.specs.Lists.{run_of_list, schedule_in}
@@ -146,8 +146,8 @@ Runs t o e _ _ _ = ⊥
 
 -- this is a run of the image that is made of the number, and what is found of it
 pub record IsGenerated (number : ℕ) (w : Whole) : Type 0 where
-  pub is_run : IsRunOfImage gen_options (generated number) w.run
-  pub judged : IsJudged (generated number) w
+  pub is_run : IsRunOfImage gen_options (generated_image number) w.run
+  pub judged : IsJudged (generated_image number) w
 
 -- each status, with its cause and what was written
 abbrev pub Generates :

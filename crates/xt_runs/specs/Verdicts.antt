@@ -8,7 +8,7 @@ use Rattle.xt_frames.specs.Verdict.{verdict}
 use Rattle.xt_frames.specs.declared.kinds.Judged.{Judged}
 use Rattle.xt_frames.specs.declared.kinds.Judged.TheVariants as judged
 use Rattle.xt_handlers.specs.declared.Handlers.{Handlers}
-use Rattle.xt_handlers.specs.Answers.{handlers_of}
+use Rattle.xt_handlers.specs.CheckAnswers.{handlers_of}
 use Rattle.xt_discipline.specs.Schedules.{schedule_in}
 use Rattle.xt_discipline.specs.Verdicts.{are_yes, opened0, opened1}
 use Rattle.xt_machine.specs.Framed.{IsFrameRunOf, judgement_of}

@@ -2,7 +2,7 @@
 ghost use Rattle.std.specs.Prelude.{◌≡◌, ◌++◌, IfOk};
 ghost use Rattle.xt_runs.specs.Analyses.{AreAnalyses, IsEventsOf, IsProfileOf, IsRaceOf, IsUsesTextOf, IsWanted};
 ghost use Rattle.xt_core.specs.Runs.{IsRunOf};
-ghost use Rattle.xt_image.specs.Parts.{IsWellFormed};
+ghost use Rattle.xt_image.specs.ImageParts.{IsWellFormed};
 ghost use Rattle.xt_map.specs.Placing.{IsPlaced};
 
 use crate::memory::memory_text;

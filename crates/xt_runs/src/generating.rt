@@ -10,7 +10,7 @@ use std::alloc::{AllocError, Global};
 use std::sync::Wait;
 use std::thread::Threads;
 use xt_command_line::{DEFAULT_VECBASE, RunOptions, TurnOrder};
-use xt_gen::generated;
+use xt_gen::generated_image;
 use xt_image::written_length;
 use xt_io::{Gate, Refused, Sink};
 use xt_map::Text;
@@ -57,7 +57,7 @@ fn run_generated<G: Gate, R: Threads + Wait + Sync>(
     ensures run { IfOk result (λ made. IsGenerated number made.0) }
     ensures text { IfOk result (λ made. made.1 ≡ gen_text number made.0) }
 {
-    let image = generated(alloc, number)?;
+    let image = generated_image(alloc, number)?;
     let size = written_length(&image);
     let options = gen_options();
     let whole = judge_image(rt, alloc, &options, &image, gate)?;

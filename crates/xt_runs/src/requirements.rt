@@ -2,7 +2,7 @@
 ghost use Rattle.std.specs.Prelude.{◌≡◌, IfOk};
 ghost use Rattle.xt_runs.specs.Requirements.{IsUnmet, IsUnmetBy, IsUnmetIn, is_used_up, stop_line, unmet_break, unmet_race, unmet_used, unmet_whole};
 ghost use Rattle.xt_core.specs.Runs.{IsRunOf};
-ghost use Rattle.xt_image.specs.Parts.{IsWellFormed};
+ghost use Rattle.xt_image.specs.ImageParts.{IsWellFormed};
 
 use std::alloc::{AllocError, Global};
 use xt_command_line::{Requirement, RunOptions};

@@ -2,7 +2,7 @@
 ghost use Rattle.std.specs.Prelude.{◌≡◌};
 ghost use Rattle.xt_command_line.specs.Options.{AreValid};
 ghost use Rattle.xt_core.specs.Runs.{IsRunOf};
-ghost use Rattle.xt_image.specs.Parts.{IsWellFormed};
+ghost use Rattle.xt_image.specs.ImageParts.{IsWellFormed};
 ghost use Rattle.xt_record.specs.Written.{recording_bytes};
 ghost use Rattle.xt_runs.specs.Runs.{FinishesRun, Runs, run_text, wanted_text};
 ghost use Rattle.xt_status.specs.Calls.{ends};

@@ -2,7 +2,7 @@
 ghost use Rattle.std.specs.Prelude.{◌≡◌, ◌<◌, All, IfOk, IfSome, None, Some, option_map};
 ghost use Rattle.xt_runs.specs.Runs.{IsRunOfImage, cores_for, cores_of_options};
 ghost use Rattle.xt_runs.specs.Verdicts.{IsJudged};
-ghost use Rattle.xt_image.specs.Parts.{IsWellFormed};
+ghost use Rattle.xt_image.specs.ImageParts.{IsWellFormed};
 ghost use Rattle.xt_command_line.specs.Options.{AreValid};
 
 use crate::verdicts::judged;

@@ -7,7 +7,7 @@ use Rattle.xt_search.specs.declared.graph.Kept.{Kept}
 use Rattle.xt_search.specs.declared.graph.Nexts.{Nexts}
 use Rattle.xt_search.specs.Worlds.{IsOrder, Reaches}
 use Rattle.xt_search.specs.Graphs.{AreNexts, IsAt, IsGraph, IsNext, IsWhole}
-use Rattle.xt_search.specs.Ends.{AreMarks, AreSound, CanEnd, IsSettled, unmarked}
+use Rattle.xt_search.specs.Ends.{AreMarks, AreSound, CanEnd, IsSettled, unmarked_count}
 use Rattle.xt_search.proofs.Numbers.{at_kept, at_once, at_within}
 use Rattle.xt_search.proofs.Endings.{some_at}
 
@@ -31,16 +31,16 @@ pub falls : (b : Bool) (new old : ℕ) → new ≤ old → (b ≡ true → new <
 falls true new old h f = let l : new < old = f refl in omega arith
 falls false new old h f = omega arith
 
-pub falls_from : (b was : Bool) (after new bs cs : List Bool) → after ≡ new → bs ≡ cs → was ≡ true → unmarked new ≤ unmarked bs → (b ≡ true → unmarked new < unmarked bs)
-    → unmarked after + (if b then 1 else 0) < unmarked cs + (if was then 1 else 0)
+pub falls_from : (b was : Bool) (after new bs cs : List Bool) → after ≡ new → bs ≡ cs → was ≡ true → unmarked_count new ≤ unmarked_count bs → (b ≡ true → unmarked_count new < unmarked_count bs)
+    → unmarked_count after + (if b then 1 else 0) < unmarked_count cs + (if was then 1 else 0)
 falls_from b true after new bs cs d e w h f =
-    let i : unmarked bs ≡ unmarked cs = ap unmarked e in
-    let j : unmarked after ≡ unmarked new = ap unmarked d in
-    falls b (unmarked after) (unmarked cs) (omega arith) (λ t. let l : unmarked new < unmarked bs = f t in omega arith)
+    let i : unmarked_count bs ≡ unmarked_count cs = ap unmarked_count e in
+    let j : unmarked_count after ≡ unmarked_count new = ap unmarked_count d in
+    falls b (unmarked_count after) (unmarked_count cs) (omega arith) (λ t. let l : unmarked_count new < unmarked_count bs = f t in omega arith)
 falls_from b false after new bs cs d e w h f = absurd cc
 
 -- there are fewer without a mark
-pub fewer_unmarked : (bs : List Bool) (at : ℕ) → slice_get bs at ≡ Some false → unmarked bs ≡ suc (unmarked (slice_set bs at true))
+pub fewer_unmarked : (bs : List Bool) (at : ℕ) → slice_get bs at ≡ Some false → unmarked_count bs ≡ suc (unmarked_count (slice_set bs at true))
 fewer_unmarked [] zero e = absurd cc
 fewer_unmarked [] (suc at) e = absurd cc
 fewer_unmarked (true ∷ bs) zero e = absurd cc

@@ -42,7 +42,7 @@ pub record AreMarks {W : Type 0} (Leads : ℕ → W → W → Type 0) (ends : W 
       → IsStuck Leads ends w
 
 -- how many are not marked
-abbrev pub unmarked : List Bool → ℕ
-unmarked [] = 0
-unmarked (true ∷ bs) = unmarked bs
-unmarked (false ∷ bs) = suc (unmarked bs)
+abbrev pub unmarked_count : List Bool → ℕ
+unmarked_count [] = 0
+unmarked_count (true ∷ bs) = unmarked_count bs
+unmarked_count (false ∷ bs) = suc (unmarked_count bs)

@@ -1,7 +1,7 @@
 //! From which kept worlds an end can be reached.
 ghost use Rattle.std.specs.Prelude.{◌≡◌, ℕ, ◌<◌, ◌≤◌, true, false, Some, IfOk, length, slice_get, slice_set};
 ghost use Rattle.xt_search.specs.Graphs.{IsGraph, IsWhole};
-ghost use Rattle.xt_search.specs.Ends.{AreMarks, AreSound, IsSettled, unmarked};
+ghost use Rattle.xt_search.specs.Ends.{AreMarks, AreSound, IsSettled, unmarked_count};
 
 use crate::graph::Graph;
 use crate::machine::Machine;
@@ -33,8 +33,8 @@ fn mark_more<M: Machine>(machine: &M, graph: &Graph<M::World>, marks: &mut [bool
     requires graph { IsGraph (M.Leads machine.now) graph.now }
     requires sound { AreSound (M.Leads machine.now) (M.ends machine.now) graph.now marks.old }
     ensures sound { AreSound (M.Leads machine.now) (M.ends machine.now) graph.now marks.new }
-    ensures more { unmarked marks.new ≤ unmarked marks.old }
-    ensures fewer { result ≡ true → unmarked marks.new < unmarked marks.old }
+    ensures more { unmarked_count marks.new ≤ unmarked_count marks.old }
+    ensures fewer { result ≡ true → unmarked_count marks.new < unmarked_count marks.old }
     ensures settled { result ≡ false → (k : ℕ) → k < length graph.now.kept.items → IsSettled (M.ends machine.now) graph.now marks.new k }
 {
     let mut changed = false;

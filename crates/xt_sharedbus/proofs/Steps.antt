@@ -15,31 +15,31 @@ use Rattle.xt_sharedbus.specs.declared.view.Hand.{Hand}
 use Rattle.xt_sharedbus.specs.declared.view.View.{View}
 use Rattle.xt_sharedbus.specs.declared.view.View.TheVariants.{Unopened, Live, Spent}
 use Rattle.xt_sharedbus.specs.declared.rule.Item.{Item}
-use Rattle.xt_sharedbus.specs.Views.{unopened, spent, part, hand_of, part_in, hand_in, grown, grown_if, given}
+use Rattle.xt_sharedbus.specs.Views.{unopened_view, spent_view, part, hand_of, part_in, hand_in, part_after_entry, grown_if, view_after_entry}
 use Rattle.xt_sharedbus.specs.Rule.{Nowhere, Once, HasOpening, AnswersFor, IsOpen, IsUnopened, HoldsOneBus, Opened, FindsEmpty, Took, Gave, GaveSame}
 use Rattle.xt_sharedbus.proofs.Once.{all_set, all_end, nowhere_set, nowhere_end, once_is, once_set, once_gone, once_new, once_kept, once_end, once_last, once_moved}
 
-pub begins : HoldsOneBus [] (unopened ∷ [])
+pub begins : HoldsOneBus [] (unopened_view ∷ [])
 begins = inl (refl, refl)
 
 -- before the open step there is the unopened view alone
-alone : (views : List View) (port : ℕ) (v : View) → views ≡ unopened ∷ [] → get_elem? views port ≡ some v → (port ≡ 0) × (v ≡ unopened)
-alone views zero v is at = (refl, some-injective v unopened (sym at ∙ ap (λ (l : List View). get_elem? l 0) is))
+alone : (views : List View) (port : ℕ) (v : View) → views ≡ unopened_view ∷ [] → get_elem? views port ≡ some v → (port ≡ 0) × (v ≡ unopened_view)
+alone views zero v is at = (refl, some-injective v unopened_view (sym at ∙ ap (λ (l : List View). get_elem? l 0) is))
 alone views (suc k) v is at = absurd (some-ne-none v (sym at ∙ ap (λ (l : List View). get_elem? l (suc k)) is))
 
 -- a live view has seen the open step
 after_open : (items : List Item) (views : List View) (port : ℕ) (m : MemoryContents) (a b : Option Part) (h : Option Hand) → HoldsOneBus items views → get_elem? views port ≡ some (Live m a b h) → IsOpen items views
 after_open items views port m a b h k at =
-    ⊎_elim (λ (u : IsUnopened items views). let e : Live m a b h ≡ unopened = (alone views port (Live m a b h) u.1 at).1 in absurd cc) (λ (o : IsOpen items views). o) k
+    ⊎_elim (λ (u : IsUnopened items views). let e : Live m a b h ≡ unopened_view = (alone views port (Live m a b h) u.1 at).1 in absurd cc) (λ (o : IsOpen items views). o) k
 
 -- open
-pub opens : (n port : ℕ) (x : Item) → x.bus.value.history ≡ [] → x.turns0 + x.turns1 ≤ x.bus.value.spare → Pushes HoldsOneBus n port unopened x (Opened unopened x)
+pub opens : (n port : ℕ) (x : Item) → x.bus.value.history ≡ [] → x.turns0 + x.turns1 ≤ x.bus.value.spare → Pushes HoldsOneBus n port unopened_view x (Opened unopened_view x)
 opens n port x empty room items views short k at =
     let w : View = Live x.bus.value.opening (Some (part [] x.turns0)) (Some (part [] x.turns1)) None in
     ⊎_elim
     (λ (u : IsUnopened items views).
-    let only : (A : Type 0) (f : View → Option A) (y : A) → f unopened ≡ None → f w ≡ Some y → Once f y (set views port w) =
-    (λ A f y none is. once_new f views port unopened w y at (λ i r e. ap f (alone views i r u.1 e).1 ∙ none) is) in (
+    let only : (A : Type 0) (f : View → Option A) (y : A) → f unopened_view ≡ None → f w ≡ Some y → Once f y (set views port w) =
+    (λ A f y none is. once_new f views port unopened_view w y at (λ i r e. ap f (alone views i r u.1 e).1 ∙ none) is) in (
       w,
       inr (
         x.bus.value.opening,
@@ -49,14 +49,14 @@ opens n port x empty room items views short k at =
         inl (x, ap (λ (l : List Item). l ++ x ∷ []) u.0, refl, refl, nowhere_set hand_in views port w (λ i r e. ap hand_in (alone views i r u.1 e).1) refl),
         λ i r e.
             ⊎_elim (λ (t : (i ≡ port) × (w ≡ r)). let P : View → Type 0 = λ y. HasOpening x.bus.value.opening y in subst P t.1 refl)
-            (λ (t : (i ≢ port) × (get_elem? views i ≡ some r)). absurd (t.0 ((alone views i r u.1 t.1).0 ∙ sym (alone views port unopened u.1 at).0))) (at_set views port i w r e),
+            (λ (t : (i ≢ port) × (get_elem? views i ≡ some r)). absurd (t.0 ((alone views i r u.1 t.1).0 ∙ sym (alone views port unopened_view u.1 at).0))) (at_set views port i w r e),
         (only Part (part_in 0) (part [] x.turns0) refl refl, ap (λ (l : List Entry). calls_of 0 l) empty),
         (only Part (part_in 1) (part [] x.turns1) refl refl, ap (λ (l : List Entry). calls_of 1 l) empty),
         room,
       ),
       refl,
     ))
-    (λ (o : IsOpen items views). absurd (o.5 port unopened at)) k
+    (λ (o : IsOpen items views). absurd (o.5 port unopened_view at)) k
 
 -- take
 part_known : (c : ℕ) (p q r : Part) (h : Hand) (views : List View) (port : ℕ) (v : View) → c < 2 → get_elem? views port ≡ some v → part_in c v ≡ Some r
@@ -132,22 +132,22 @@ list_grows false p y l is = is
 
 -- a core's part after a push of one entry
 answers_grown : (c port : ℕ) (views : List View) (v w : View) (h g : Hand) (e : Entry) (p : Part) (r : Option Part) → get_elem? views port ≡ some v → g.history ≡ h.history ++ e ∷ []
-    → part_in c v ≡ r → part_in c w ≡ grown_if c e r → (r ≡ None → (e.core == c) ≡ false) → AnswersFor c p h views → AnswersFor c (grown c e p) g (set views port w)
+    → part_in c v ≡ r → part_in c w ≡ grown_if c e r → (r ≡ None → (e.core == c) ≡ false) → AnswersFor c p h views → AnswersFor c (part_after_entry c e p) g (set views port w)
 answers_grown c port views v w h g e p None at longer was now other k =
-    let same : grown c e p ≡ p = ap (λ (d : Bool). cond d (record { list = p.list ++ (e.access, e.reply) ∷ []; left = p.left - 1 }) p) (other refl) in
+    let same : part_after_entry c e p ≡ p = ap (λ (d : Bool). cond d (record { list = p.list ++ (e.access, e.reply) ∷ []; left = p.left - 1 }) p) (other refl) in
     let P : Part → Type 0 = λ q. Once (part_in c) q (set views port w) in (
       subst P (sym same) (once_kept (part_in c) views port v w p at k.0 (now ∙ sym was)),
       ap (λ (l : List Entry). calls_of c l) longer ∙ (calls_push c h.history e ∙ list_grows (e.core == c) p (e.access, e.reply) (calls_of c h.history) k.1),
     )
 answers_grown c port views v w h g e p (Some q) at longer was now other k =
     let same : q ≡ p = (once_is (part_in c) views port v p q at was k.0).1 in (
-      once_set (part_in c) views port v w p q (grown c e p) at was k.0 (now ∙ ap (λ (s : Part). Some (grown c e s)) same),
+      once_set (part_in c) views port v w p q (part_after_entry c e p) at was k.0 (now ∙ ap (λ (s : Part). Some (part_after_entry c e s)) same),
       ap (λ (l : List Entry). calls_of c l) longer ∙ (calls_push c h.history e ∙ list_grows (e.core == c) p (e.access, e.reply) (calls_of c h.history) k.1),
     )
 
 -- the sum of the accesses left falls with the spare
 sum_falls : (k : ℕ) (e : Entry) (p q r : Part) (v : View) (views : List View) (port s : ℕ) (h g : Hand) → k < 2 → e.core ≡ k → get_elem? views port ≡ some v → part_in k v ≡ Some r → 0 < r.left
-    → AnswersFor 0 p h views → AnswersFor 1 q h views → p.left + q.left ≤ s + 1 → (grown 0 e p).left + (grown 1 e q).left ≤ s
+    → AnswersFor 0 p h views → AnswersFor 1 q h views → p.left + q.left ≤ s + 1 → (part_after_entry 0 e p).left + (part_after_entry 1 e q).left ≤ s
 sum_falls zero e p q r v views port s h g two core at is some_left zeros ones room =
     let same : r ≡ p = (once_is (part_in 0) views port v p r at is zeros.0).1 in
     let L : Part → Type 0 = λ y. 0 < y.left in
@@ -176,7 +176,7 @@ pub gives : (n port : ℕ) (m : MemoryContents) (a b : Option Part) (h : Hand) (
     → x.bus.value.opening ≡ m → x.bus.value.history ≡ h.history ++ e ∷ [] → x.bus.value.spare + 1 ≡ h.spare → Pushes HoldsOneBus n port (Live m a b (Some h)) x (Gave (Live m a b (Some h)) x)
 gives n port m a b h x e r two own some_left opening longer spare items views short k at =
     let v : View = Live m a b (Some h) in
-    let w : View = given e v in
+    let w : View = view_after_entry e v in
     let o = after_open items views port m a b (Some h) k at in
     ⊎_elim
     (λ (t : (y : Item) × (items ≡ y ∷ []) × (y.bus.value.opening ≡ o.0) × (hand_of y.bus.value ≡ o.1) × Nowhere hand_in views).
@@ -190,8 +190,8 @@ gives n port m a b h x e r two own some_left opening longer spare items views sh
       inr (
         o.0,
         hand_of x.bus.value,
-        grown 0 e o.2,
-        grown 1 e o.3,
+        part_after_entry 0 e o.2,
+        part_after_entry 1 e o.3,
         inl (x, ap (λ (l : List Item). l ++ x ∷ []) t.0, opening ∙ o.5 port v at, refl, once_gone hand_in views port v w o.1 h at refl t.1 refl),
         all_set (HasOpening o.0) views port w o.5 (o.5 port v at),
         answers_grown 0 port views v w o.1 (hand_of x.bus.value) e o.2 a at longer' refl refl (λ none. not_own 0 e.core e v r (omega arith) two refl own none) o.6,
@@ -253,7 +253,7 @@ forks port m p q items views k at =
     )
 
 -- join a pass
-pub merges : (port : ℕ) (m n : MemoryContents) (p q : Part) (other : ℕ) → Merges HoldsOneBus port (Live m (Some p) None None) other (Live n None (Some q) None) (Live m (Some p) (Some q) None) spent
+pub merges : (port : ℕ) (m n : MemoryContents) (p q : Part) (other : ℕ) → Merges HoldsOneBus port (Live m (Some p) None None) other (Live n None (Some q) None) (Live m (Some p) (Some q) None) spent_view
 merges port m n p q other items views k at two at' =
     let v : View = Live m (Some p) None None in
     let u : View = Live n None (Some q) None in
@@ -270,11 +270,11 @@ merges port m n p q other items views k at two at' =
       o.3,
       ⊎_elim
           (λ (t : (y : Item) × (items ≡ y ∷ []) × (y.bus.value.opening ≡ o.0) × (hand_of y.bus.value ≡ o.1) × Nowhere hand_in views).
-          inl (t.0, t.1, t.2, t.3, nowhere_set hand_in vs other spent (nowhere_set hand_in views port both t.4 refl) refl))
+          inl (t.0, t.1, t.2, t.3, nowhere_set hand_in vs other spent_view (nowhere_set hand_in views port both t.4 refl) refl))
           (λ (t : (items ≡ []) × Once hand_in o.1 views).
-          inr (t.0, once_kept hand_in vs other u spent o.1 at' (once_kept hand_in views port v both o.1 at t.1 refl) refl)) o.4,
-      all_set (HasOpening o.0) vs other spent (all_set (HasOpening o.0) views port both o.5 (o.5 port v at)) tt,
-      (once_kept (part_in 0) vs other u spent o.2 at' (once_kept (part_in 0) views port v both o.2 at o.6.0 refl) refl, o.6.1),
-      (once_moved (part_in 1) views port other v u both spent o.3 q at was (λ e. two (sym e)) refl o.7.0 (ap Some same) refl, o.7.1),
+          inr (t.0, once_kept hand_in vs other u spent_view o.1 at' (once_kept hand_in views port v both o.1 at t.1 refl) refl)) o.4,
+      all_set (HasOpening o.0) vs other spent_view (all_set (HasOpening o.0) views port both o.5 (o.5 port v at)) tt,
+      (once_kept (part_in 0) vs other u spent_view o.2 at' (once_kept (part_in 0) views port v both o.2 at o.6.0 refl) refl, o.6.1),
+      (once_moved (part_in 1) views port other v u both spent_view o.3 q at was (λ e. two (sym e)) refl o.7.0 (ap Some same) refl, o.7.1),
       o.8,
     )

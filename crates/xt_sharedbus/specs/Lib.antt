@@ -3,7 +3,7 @@
 -- it.
 pub mod Views
 pub mod Rule
-pub mod Laws
+pub mod QueueLaws
 pub mod SeatState
 pub mod Seats
 pub mod Halves

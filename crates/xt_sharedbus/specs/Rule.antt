@@ -12,8 +12,9 @@ use Rattle.xt_sharedbus.specs.declared.view.Hand.{Hand}
 use Rattle.xt_sharedbus.specs.declared.view.View.{View}
 use Rattle.xt_sharedbus.specs.declared.view.View.TheVariants.{Unopened, Live, Spent}
 use Rattle.xt_sharedbus.specs.declared.rule.Item.{Item}
-use Rattle.xt_sharedbus.specs.Views.{unopened, part, hand_of, part_in, hand_in, given, holding}
-use Rattle.xt_sharedbus.specs.Views.{emptied}
+use Rattle.xt_sharedbus.specs.Views.{unopened_view, part, hand_of, part_in, hand_in}
+use Rattle.xt_sharedbus.specs.Views.{view_after_entry, view_with_hand}
+use Rattle.xt_sharedbus.specs.Views.{view_without_hand}
 
 module _ {A : Type 0} (f : View → Option A) where
   -- no view has it
@@ -65,7 +66,7 @@ IsOpen items views =
 
 -- the bus was not put in yet
 abbrev pub IsUnopened : List Item → List View → Type 0
-IsUnopened items views = (items ≡ []) × (views ≡ unopened ∷ [])
+IsUnopened items views = (items ≡ []) × (views ≡ unopened_view ∷ [])
 
 abbrev pub HoldsOneBus : List Item → List View → Type 0
 HoldsOneBus items views = IsUnopened items views ⊎ IsOpen items views
@@ -96,15 +97,15 @@ Agrees v x =
 
 -- a pop leaves the popped history and spare as the hand
 abbrev pub Took : View → Item → View → Type 0
-Took v x w = (w ≡ holding (hand_of x.bus.value) v) × Agrees v x
+Took v x w = (w ≡ view_with_hand (hand_of x.bus.value) v) × Agrees v x
 
 -- a push of the hand's bus, which has one entry more than it had; that core's list is longer by it,
 -- and its accesses left are fewer by one
 abbrev pub Gave : View → Item → View → Type 0
 Gave v x w =
     (h : Hand) × (e : Entry) × (hand_in v ≡ Some h) × (x.bus.value.history ≡ h.history ++ e ∷ [])
-    × (w ≡ given e v)
+    × (w ≡ view_after_entry e v)
 
 -- a push of the hand's bus as it was
 abbrev pub GaveSame : View → Item → View → Type 0
-GaveSame v x w = (hand_in v ≡ Some (hand_of x.bus.value)) × (w ≡ emptied v)
+GaveSame v x w = (hand_in v ≡ Some (hand_of x.bus.value)) × (w ≡ view_without_hand v)

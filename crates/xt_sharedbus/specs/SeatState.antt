@@ -19,8 +19,8 @@ fresh bus core left opening =
     record { bus = bus; core = core; left = left; opening = opening; list = [] }
 
 -- after one access more
-abbrev pub went : SeatState → Access → ℕ → SeatState
-went s a reply = record {
+abbrev pub seat_after_access : SeatState → Access → ℕ → SeatState
+seat_after_access s a reply = record {
   bus = s.bus;
   core = s.core;
   left = s.left - 1;

@@ -9,7 +9,7 @@ use Rattle.xt_sharedbus.specs.declared.view.View.{View}
 use Rattle.xt_sharedbus.specs.declared.view.View.TheVariants.{Unopened, Live, Spent}
 use Rattle.xt_sharedbus.specs.declared.shared.CoreSeat.TheInside.{Inside}
 use Rattle.xt_sharedbus.specs.SeatState.{SeatState}
-use Rattle.xt_sharedbus.specs.Views.{part, part_in, seated}
+use Rattle.xt_sharedbus.specs.Views.{part, part_in, seat_view}
 
 -- what stands where there is no opening memory
 abbrev pub no_contents : MemoryContents
@@ -39,4 +39,4 @@ seat_of s = record {
 pub record IsSeated (s : Inside) : Type 0 where
   pub core : s.core < 2
   pub free : s.pass.me.1 ≡ []
-  pub knows : view s.pass ≡ seated (seat_of s).opening s.core (part (seat_of s).list s.left)
+  pub knows : view s.pass ≡ seat_view (seat_of s).opening s.core (part (seat_of s).list s.left)

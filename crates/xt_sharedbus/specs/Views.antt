@@ -11,11 +11,11 @@ use Rattle.xt_sharedbus.specs.declared.view.Hand.{Hand}
 use Rattle.xt_sharedbus.specs.declared.view.View.{View}
 use Rattle.xt_sharedbus.specs.declared.view.View.TheVariants.{Unopened, Live, Spent}
 
-abbrev pub unopened : View
-unopened = Unopened
+abbrev pub unopened_view : View
+unopened_view = Unopened
 
-abbrev pub spent : View
-spent = Spent
+abbrev pub spent_view : View
+spent_view = Spent
 
 abbrev pub part : List (Access × ℕ) → ℕ → Part
 part list left = record { list = list; left = left }
@@ -36,25 +36,25 @@ hand_in Spent = None
 hand_in (Live m a b h) = h
 
 -- a core's part after an entry, which is this core's own or the other's
-abbrev pub grown : ℕ → Entry → Part → Part
-grown c e p =
+abbrev pub part_after_entry : ℕ → Entry → Part → Part
+part_after_entry c e p =
     cond (e.core == c) (record { list = p.list ++ (e.access, e.reply) ∷ []; left = p.left - 1 }) p
 
 abbrev pub grown_if : ℕ → Entry → Option Part → Option Part
 grown_if c e None = None
-grown_if c e (Some p) = Some (grown c e p)
+grown_if c e (Some p) = Some (part_after_entry c e p)
 
 -- the view that has given its bus back, one entry longer
-abbrev pub given : Entry → View → View
-given e Unopened = Unopened
-given e Spent = Spent
-given e (Live m a b h) = Live m (grown_if 0 e a) (grown_if 1 e b) None
+abbrev pub view_after_entry : Entry → View → View
+view_after_entry e Unopened = Unopened
+view_after_entry e Spent = Spent
+view_after_entry e (Live m a b h) = Live m (grown_if 0 e a) (grown_if 1 e b) None
 
 -- the view with this bus in its hand
-abbrev pub holding : Hand → View → View
-holding h Unopened = Unopened
-holding h Spent = Spent
-holding h (Live m a b _) = Live m a b (Some h)
+abbrev pub view_with_hand : Hand → View → View
+view_with_hand h Unopened = Unopened
+view_with_hand h Spent = Spent
+view_with_hand h (Live m a b _) = Live m a b (Some h)
 
 abbrev pub for_zero : View → View
 for_zero Unopened = Unopened
@@ -73,12 +73,12 @@ for_both Spent w = Spent
 for_both (Live m a b h) w = Live m a (part_in 1 w) h
 
 -- the view of a seat that is between two calls
-abbrev pub seated : MemoryContents → ℕ → Part → View
-seated m zero p = Live m (Some p) None None
-seated m (suc c) p = Live m None (Some p) None
+abbrev pub seat_view : MemoryContents → ℕ → Part → View
+seat_view m zero p = Live m (Some p) None None
+seat_view m (suc c) p = Live m None (Some p) None
 
 -- the view with nothing in its hand
-abbrev pub emptied : View → View
-emptied Unopened = Unopened
-emptied Spent = Spent
-emptied (Live m a b h) = Live m a b None
+abbrev pub view_without_hand : View → View
+view_without_hand Unopened = Unopened
+view_without_hand Spent = Spent
+view_without_hand (Live m a b h) = Live m a b None

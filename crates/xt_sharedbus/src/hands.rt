@@ -2,7 +2,7 @@
 ghost use Rattle.std.specs.Prelude.{◌≡◌, ◌+◌, ◌≤◌, []};
 ghost use Rattle.crossbeam_queue.specs.Passes.{view, IsPassOf, IsSamePass, ruled_capacity};
 ghost use Rattle.xt_sharedbus.specs.Rule.{Opened, Took, Gave};
-ghost use Rattle.xt_sharedbus.specs.Views.{unopened};
+ghost use Rattle.xt_sharedbus.specs.Views.{unopened_view};
 ghost use Rattle.xt_sharedbus.specs.Halves.{IsIdle, IsOneEntryOn};
 
 use crate::rule::{Gives, Item, Opens, Queue, Seat, Takes};
@@ -51,7 +51,7 @@ pub(crate) fn give<R: Wait>(rt: &R, queue: &Queue, pass: &mut Seat, item: Item)
 pub(crate) fn open<R: Wait>(rt: &R, queue: &Queue, pass: &mut Seat, item: Item)
     requires queue { IsPassOf queue.now pass.old }
     requires one { ruled_capacity queue.now ≡ 1 }
-    requires unopened { view pass.old ≡ unopened }
+    requires unopened { view pass.old ≡ unopened_view }
     requires empty { item.bus.value.history ≡ [] }
     requires room { item.turns0 + item.turns1 ≤ item.bus.value.spare }
     ensures queue { IsSamePass pass.old pass.new }

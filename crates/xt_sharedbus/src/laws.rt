@@ -1,5 +1,5 @@
 //! The kinds of step keep the rule of the shared queue.
-ghost use Rattle.xt_sharedbus.specs.Laws.{FindsEmptyInHand, GiveBackKeepsRule, JoinKeepsRule, OpenKeepsRule, ReturnKeepsRule, SplitKeepsRule, TakeKeepsRule};
+ghost use Rattle.xt_sharedbus.specs.QueueLaws.{FindsEmptyInHand, GiveBackKeepsRule, JoinKeepsRule, OpenKeepsRule, ReturnKeepsRule, SplitKeepsRule, TakeKeepsRule};
 
 /// Whatever the queue holds and whatever the other passes know, the rule of the shared queue is kept
 /// by each kind of step: the first push, a pop, a push of the bus with one entry more or with none,

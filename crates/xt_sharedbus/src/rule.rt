@@ -20,11 +20,11 @@ pub struct OneBus;
 
 impl Protocol<Item, View> for OneBus {
     ghost use Rattle.xt_sharedbus.specs.Rule.{HoldsOneBus};
-    ghost use Rattle.xt_sharedbus.specs.Views.{unopened};
+    ghost use Rattle.xt_sharedbus.specs.Views.{unopened_view};
 
     ghost holds = { HoldsOneBus };
 
-    ghost first = { unopened };
+    ghost first = { unopened_view };
 }
 
 /// The first push.
@@ -82,11 +82,11 @@ impl Split<View> for Cores {
 }
 
 impl Join<View> for Cores {
-    ghost use Rattle.xt_sharedbus.specs.Views.{for_both, spent};
+    ghost use Rattle.xt_sharedbus.specs.Views.{for_both, spent_view};
 
     ghost both = { for_both };
 
-    ghost spent = { spent };
+    ghost spent = { spent_view };
 }
 
 pub(crate) type Queue = RuledArrayQueue<Item, View, OneBus>;

@@ -2,7 +2,7 @@
 ghost use Rattle.std.specs.Prelude.{◌≡◌, ◌+◌, ◌<◌, ◌≤◌, [], true, MatchResult};
 ghost use Rattle.xt_map.specs.History.{calls_of, memory_after, IsLegal, IsOfCores};
 ghost use Rattle.xt_map.specs.Regions.{is_mapped};
-ghost use Rattle.xt_sharedbus.specs.SeatState.{fresh, went};
+ghost use Rattle.xt_sharedbus.specs.SeatState.{fresh, seat_after_access};
 
 use crate::hands::{give, open, take};
 use crate::rule::{Cores, Item, Queue, Seat};
@@ -125,7 +125,7 @@ impl SharedBus {
         requires bus { seat.old.bus ≡ self.now }
         requires left { 0 < seat.old.left }
         requires access { is_mapped access ≡ true }
-        ensures { seat.new ≡ went seat.old access result }
+        ensures { seat.new ≡ seat_after_access seat.old access result }
     {
         let core = seat.core;
         let mut item = take(rt, &self.queue, &mut seat.pass);

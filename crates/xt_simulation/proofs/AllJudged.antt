@@ -4,7 +4,7 @@ use Rattle.std.proofs.Math.Seq.{take-length}
 use Rattle.xt_trace.specs.declared.record.StepRecord.{StepRecord}
 use Rattle.xt_trace.specs.Chip.{Chip}
 use Rattle.xt_trace.specs.Worlds.{World, give}
-use Rattle.xt_trace.specs.Runs.{opened, schedule_of}
+use Rattle.xt_trace.specs.Runs.{world_at_start, schedule_of}
 use Rattle.xt_trace.specs.Walks.{IsWalk, next_record}
 use Rattle.xt_trace.proofs.Walks.{own_walk}
 use Rattle.xt_exec.specs.Chips.{processor}
@@ -50,6 +50,6 @@ runs_are_all_judged o code turns0 turns1 r run none =
     let course : Course = record { code = code; bounds = by_core (bounds0 o) (bounds1 o); opening = by_core (frame0 o) (frame1 o); turns = turns cores xs ys } in
     let j : IsJudgement course (judged_in o code cores xs ys) = walk_finds code (bounds0 o) (bounds1 o) cores xs ys (frame0 o) (frame1 o) in
     let last = ended course j.place (judged_in o code cores xs ys).breach none j.first.here in (
-      j.judged0 ∙ judged_at_end course 0 j.place xs last (all_of_0 (processor code) cores (opened opening) xs ys walk),
-      j.judged1 ∙ judged_at_end course 1 j.place ys last (all_of_1 (processor code) cores (opened opening) xs ys walk),
+      j.judged0 ∙ judged_at_end course 0 j.place xs last (all_of_0 (processor code) cores (world_at_start opening) xs ys walk),
+      j.judged1 ∙ judged_at_end course 1 j.place ys last (all_of_1 (processor code) cores (world_at_start opening) xs ys walk),
     )

@@ -3,8 +3,8 @@ use Rattle.std.proofs.Common.{◌≡◌, inl, inr, ℕ, ◌+◌, ◌-◌, ◌*�
 use Rattle.std.proofs.lemmas.Bool.{or_left, or_right}
 use Rattle.xt_window.specs.Ring.{place, visible}
 use Rattle.xt_exec.specs.State.{State}
-use Rattle.xt_exec.specs.Laws.{IsShaped}
-use Rattle.xt_frames.specs.Frames.{Frame, FrameState, known, moved}
+use Rattle.xt_exec.specs.TurnLaws.{IsShaped}
+use Rattle.xt_frames.specs.Frames.{Frame, FrameState, value_or_zero, windows_moved}
 use Rattle.xt_frames.specs.SaveAreas.{areas, sp_of, before, covers_byte, is_live}
 use Rattle.xt_frames.specs.Breaches.{Bounds}
 use Rattle.xt_frames.specs.Stacks.{Chain, Stack}
@@ -17,7 +17,7 @@ use Rattle.xt_simulation.proofs.Stretched.{oldest, newest_of, overflows_find_fra
 use Rattle.xt_stretch.specs.Needs.{callee_sp, link, link_word}
 use Rattle.xt_stretch.specs.declared.Side.{Side}
 use Rattle.xt_stretch.specs.declared.Side.TheVariants.{Overflow, Underflow}
-use Rattle.xt_stretch.specs.Machines.{meant}
+use Rattle.xt_stretch.specs.Machines.{symbol_value}
 use Rattle.xt_stretch.specs.Frames.{HasFrames, IsOwnByte}
 use Rattle.xt_stretch.specs.Joined.{Finds, IsShaped as HasShape}
 use Rattle.xt_stretch.proofs.Joins.{overflow_frames, underflow_frames, own_link_is, saved_sp_is, saved_link_is}
@@ -28,10 +28,10 @@ use Rattle.xt_simulation.specs.Handling.{InDram, Begins}
 pub record Found (side : Side) (opened : ℕ → ℕ) (b : Bounds) (start : State) (f : FrameState) (front : List Frame) (g : Frame) (rest : List Frame) : Type 0 where
   pub frames : HasFrames side g.by (start_of start opened rest)
   pub whole : f.frames ≡ above side front ++ g ∷ rest
-  pub chain : Chain b.range.lo b.range.hi (sp_under (known f.seen 1) (above side front)) (g ∷ rest)
-  pub callee : meant (start_of start opened rest) (callee_sp g.by) ≡ sp_under (known f.seen 1) (above side front)
-  pub own : meant (start_of start opened rest) (link_word side g.by).base ≡ sp_of g
-  pub top : meant (start_of start opened rest) (link side g.by) ≡ before b.range.hi rest
+  pub chain : Chain b.range.lo b.range.hi (sp_under (value_or_zero f.seen 1) (above side front)) (g ∷ rest)
+  pub callee : symbol_value (start_of start opened rest) (callee_sp g.by) ≡ sp_under (value_or_zero f.seen 1) (above side front)
+  pub own : symbol_value (start_of start opened rest) (link_word side g.by).base ≡ sp_of g
+  pub top : symbol_value (start_of start opened rest) (link side g.by) ≡ before b.range.hi rest
 
 shape_of : (b : Bounds) (start : State) (opened : ℕ → ℕ) (n : ℕ) (rest : List Frame) → InDram b → IsShaped start → 0 < n → n ≤ 3 → HasShape b.range.lo b.range.hi n (start_of start opened rest)
 shape_of b start opened n rest d s pos small = record {
@@ -40,7 +40,7 @@ shape_of b start opened n rest d s pos small = record {
   low = d.low;
   high = d.high;
   registers = s.count;
-  fits = λ i h. s.words (place (moved rest % 16) i);
+  fits = λ i h. s.words (place (windows_moved rest % 16) i);
 }
 
 -- the same window by its number and by its remainder
@@ -57,7 +57,7 @@ pub found_over : (b : Bounds) (lost : ℕ → Bool) (s : State) (f : FrameState)
 found_over b lost s f front g rest m d shaped pos small l =
     let o = oldest b f front g rest m l in
     let n = g.by in
-    let w = moved rest in
+    let w = windows_moved rest in
     let callee : visible s.regs (w % 16) (4 * n + 1) ≡ visible s.regs w (4 * n + 1) = same_visible s.regs w (4 * n + 1) in
     let own : visible s.regs (w % 16) 1 ≡ visible s.regs w 1 = same_visible s.regs w 1 in
     let top : word m (visible s.regs (w % 16) 1 - 12) ≡ word m (visible s.regs w 1 - 12) = ap (λ x. word m (x - 12)) own in
@@ -77,7 +77,7 @@ pub found_under : (b : Bounds) (lost : ℕ → Bool) (s : State) (f : FrameState
 found_under b lost s f front g rest m d shaped pos small l =
     let o = newest_of b f g rest m l in
     let n = g.by in
-    let w = moved rest in
+    let w = windows_moved rest in
     let callee : visible s.regs (w % 16) (4 * n + 1) ≡ visible s.regs w (4 * n + 1) = same_visible s.regs w (4 * n + 1) in
     let own : word m (visible s.regs (w % 16) (4 * n + 1) - 12) ≡ word m (visible s.regs w (4 * n + 1) - 12) = ap (λ x. word m (x - 12)) callee in
     let top : word m (word m (visible s.regs (w % 16) (4 * n + 1) - 12) - 12) ≡ word m (word m (visible s.regs w (4 * n + 1) - 12) - 12) = ap (λ x. word m (x - 12)) own in
@@ -113,9 +113,9 @@ link_byte lo hi sp n [] a c big low up = or_left _ _ (touched_at (hi - 76) 4 a (
 link_byte lo hi sp n (f ∷ fs) a c big low up = or_left _ _ (touched_at (sp - 16) 16 a (omega arith) (omega arith))
 
 module _ {side : Side} {opened : ℕ → ℕ} {b : Bounds} {start : State} {f : FrameState} {front : List Frame} {g : Frame} {rest : List Frame} (r : Found side opened b start f front g rest) where
-  live_from : (a : ℕ) → covers_byte (areas b.range.hi (sp_under (known f.seen 1) (above side front)) (called_under 1 (above side front)) (g ∷ rest)) a ≡ true → is_live b.range f a ≡ true
+  live_from : (a : ℕ) → covers_byte (areas b.range.hi (sp_under (value_or_zero f.seen 1) (above side front)) (called_under 1 (above side front)) (g ∷ rest)) a ≡ true → is_live b.range f a ≡ true
   live_from a h =
-      let whole = live_end b.range.hi (known f.seen 1) 1 (above side front) (g ∷ rest) a h in
+      let whole = live_end b.range.hi (value_or_zero f.seen 1) 1 (above side front) (g ∷ rest) a h in
       rw r.whole whole
 
   pub own_live : (a : ℕ) → IsOwnByte side g.by (start_of start opened rest) a → is_live b.range f a ≡ true
@@ -124,7 +124,7 @@ module _ {side : Side} {opened : ℕ → ℕ} {b : Bounds} {start : State} {f : 
       let l = h.0 in
       let u = h.1 in
       let low = r.chain.0.low in
-      live_from a (or_left _ _ (touched_at (sp_under (known f.seen 1) (above side front) - 16) 16 a (omega arith) (omega arith)))
+      live_from a (or_left _ _ (touched_at (sp_under (value_or_zero f.seen 1) (above side front) - 16) 16 a (omega arith) (omega arith)))
   own_live a (inr (two, inl h)) =
       let top = r.top in
       let l = h.0 in

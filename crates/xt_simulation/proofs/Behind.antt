@@ -1,7 +1,7 @@
 -- What a return finds behind the newest window.
 use Rattle.std.proofs.Common.{◌≡◌, ℕ, ◌+◌, ◌-◌, ◌<◌, true, false, eqb, List, [], ◌∷◌, Option, ◌∙◌, refl, arith}
 use Rattle.std.proofs.lemmas.Bool.{ne_eqb, or_right, or_from}
-use Rattle.xt_frames.specs.Frames.{Frame, moved}
+use Rattle.xt_frames.specs.Frames.{Frame, windows_moved}
 use Rattle.xt_simulation.specs.Ring.{stands, Windows}
 use Rattle.xt_window.specs.Moves.{behind}
 use Rattle.xt_window.specs.Ring.{bit, first_of_three}
@@ -14,10 +14,10 @@ module _ {regs : List ℕ} {base start : ℕ} {seen : List (Option ℕ)} {f : Fr
       let e = w.based in
       let fit = w.fits in
       let s = w.shaped.0.within in
-      bit_is w (base + (16 - k)) (moved (f ∷ ring) + low - k) (omega arith) (omega arith) (omega arith)
-      ∙ or_from (eqb (moved (f ∷ ring) + low - k) (f.by + moved ring + low)) (stands (moved (f ∷ ring) + low - k) ring low)
+      bit_is w (base + (16 - k)) (windows_moved (f ∷ ring) + low - k) (omega arith) (omega arith) (omega arith)
+      ∙ or_from (eqb (windows_moved (f ∷ ring) + low - k) (f.by + windows_moved ring + low)) (stands (windows_moved (f ∷ ring) + low - k) ring low)
       (ne_eqb _ _ (λ same. omega arith))
-      (stands_above (moved (f ∷ ring) + low - k) ring low (omega arith))
+      (stands_above (windows_moved (f ∷ ring) + low - k) ring low (omega arith))
 
   pub caller_bit : bit start (base + (16 - f.by)) ≡ true
   caller_bit =
@@ -25,8 +25,8 @@ module _ {regs : List ℕ} {base start : ℕ} {seen : List (Option ℕ)} {f : Fr
       let fit = w.fits in
       let s = w.shaped.0.within in
       let p = w.shaped.0.moves in
-      bit_is w (base + (16 - f.by)) (moved ring + low) (omega arith) (omega arith) (omega arith)
-      ∙ or_right (eqb (moved ring + low) (f.by + moved ring + low)) (stands (moved ring + low) ring low) (stands_newest ring low)
+      bit_is w (base + (16 - f.by)) (windows_moved ring + low) (omega arith) (omega arith) (omega arith)
+      ∙ or_right (eqb (windows_moved ring + low) (f.by + windows_moved ring + low)) (stands (windows_moved ring + low) ring low) (stands_newest ring low)
 
   pub caller_behind : behind start base ≡ f.by
   unfolding behind

@@ -6,36 +6,36 @@ use Rattle.xt_special.specs.declared.ps.Ps.{Ps}
 use Rattle.xt_special.specs.Numbers as number
 use Rattle.xt_special.specs.Control.{special_of}
 use Rattle.xt_special.specs.Shape.{HasShape}
-use Rattle.xt_rows.specs.Laws.{IsWord}
+use Rattle.xt_rows.specs.RowLaws.{IsWord}
 use Rattle.xt_exec.specs.State.{State}
-use Rattle.xt_exec.specs.Laws.{AreWords, IsShaped}
-use Rattle.xt_frames.specs.Frames.{Frame, FrameState, known, moved}
-use Rattle.xt_frames.specs.FrameStep.{laid}
+use Rattle.xt_exec.specs.TurnLaws.{AreWords, IsShaped}
+use Rattle.xt_frames.specs.Frames.{Frame, FrameState, value_or_zero, windows_moved}
+use Rattle.xt_frames.specs.FrameStep.{with_inputs}
 use Rattle.xt_frames.specs.SaveAreas.{areas, covers_byte, is_live}
 use Rattle.xt_frames.specs.Breaches.{Bounds}
 use Rattle.xt_frames.specs.Stacks.{Stack}
 use Rattle.xt_stretch.specs.declared.Side.{Side}
 use Rattle.xt_stretch.specs.declared.Side.TheVariants.{Overflow, Underflow}
-use Rattle.xt_stretch.specs.Kept.{Stands}
+use Rattle.xt_stretch.specs.HandlerInvariants.{Stands}
 use Rattle.xt_stretch.specs.Machines.{Machine}
 use Rattle.xt_simulation.specs.Stacks.{Saved, sp_under}
 use Rattle.xt_simulation.specs.Ring.{Windows}
 use Rattle.xt_simulation.specs.Relation.{Same, Plain, inputs, lost_at}
 use Rattle.xt_simulation.specs.Cores.{word, Related}
-use Rattle.xt_simulation.specs.InHandlers.{as_left, left, special_left, start_of}
+use Rattle.xt_simulation.specs.InHandlers.{as_left, value_left, special_left, start_of}
 use Rattle.xt_simulation.specs.Stretches.{InHandler}
 use Rattle.xt_simulation.specs.Handling.{Begins, Handling, machine}
 use Rattle.xt_simulation.proofs.Evenly.{not_lost}
 use Rattle.xt_simulation.proofs.Laid.{laid_length, laid_other, relaid, same_relaid}
 
 -- ---- the special registers as they are left
-left_is : (old from to : ℕ) → from ≡ old → left old from to ≡ to
+left_is : (old from to : ℕ) → from ≡ old → value_left old from to ≡ to
 left_is old from to e = ⊎_elim
     (λ same. cond-true (eqb to from) old to same ∙ (sym e ∙ sym (eqb-true to from same)))
     (λ other. cond-false (eqb to from) old to other)
     (cases_Bool (eqb to from))
 
-left_word : (old from to : ℕ) → IsWord old → IsWord to → IsWord (left old from to)
+left_word : (old from to : ℕ) → IsWord old → IsWord to → IsWord (value_left old from to)
 left_word old from to a b = ⊎_elim
     (λ same. subst IsWord (sym (cond-true (eqb to from) old to same)) a)
     (λ other. subst IsWord (sym (cond-false (eqb to from) old to other)) b)
@@ -49,7 +49,7 @@ left_length (x ∷ xs) froms [] a b = omega arith
 left_length (x ∷ xs) [] (z ∷ zs) a b = omega arith
 left_length [] (y ∷ ys) [] a b = omega arith
 
-left_at : (old from to : List ℕ) → length old ≡ length to → length from ≡ length to → (k : ℕ) → get_or (special_left old from to) k 0 ≡ left (get_or old k 0) (get_or from k 0) (get_or to k 0)
+left_at : (old from to : List ℕ) → length old ≡ length to → length from ≡ length to → (k : ℕ) → get_or (special_left old from to) k 0 ≡ value_left (get_or old k 0) (get_or from k 0) (get_or to k 0)
 left_at [] [] [] a b k = refl
 left_at (x ∷ xs) (y ∷ ys) (z ∷ zs) a b zero = refl
 left_at (x ∷ xs) (y ∷ ys) (z ∷ zs) a b (suc k) = left_at xs ys zs (omega arith) (omega arith) k
@@ -69,7 +69,7 @@ pub record Carries (b : Bounds) (t after : State) (f g : FrameState) : Type 0 wh
   pub ps : after.control.ps ≡ t.control.ps
   pub epc1 : special_of after.control (number.epc 1) ≡ special_of t.control (number.epc 1)
   pub running : after.control.waits ≡ false
-  pub special : Same (lost_at false g) after.control.special (laid (inputs 0 after) g).control.special
+  pub special : Same (lost_at false g) after.control.special (with_inputs (inputs 0 after) g).control.special
   pub threadptr : after.control.threadptr ≡ g.control.threadptr
   pub awake : g.control.waits ≡ false
   pub count : length after.control.special ≡ 256
@@ -86,11 +86,11 @@ pub record Carries (b : Bounds) (t after : State) (f g : FrameState) : Type 0 wh
 -- the same registers and frames have the same live bytes
 pub live_same : (b : Bounds) (f g : FrameState) → g.seen ≡ f.seen → g.frames ≡ f.frames → (a : ℕ) → is_live b.range g a ≡ is_live b.range f a
 live_same b f g seen frames a =
-    ap (λ s. covers_byte (areas b.range.hi (known s 1) 1 g.frames) a) seen ∙ ap (λ fs. covers_byte (areas b.range.hi (known f.seen 1) 1 fs) a) frames
+    ap (λ s. covers_byte (areas b.range.hi (value_or_zero s 1) 1 g.frames) a) seen ∙ ap (λ fs. covers_byte (areas b.range.hi (value_or_zero f.seen 1) 1 fs) a) frames
 
 module _ {b : Bounds} {t after : State} {f g : FrameState} (c : Carries b t after f g) where
   epc1_lost : (k : ℕ) → lost_at false g k ≡ false → k ≢ 177
-  epc1_lost k known e = false≢true (sym known ∙ ap (lost_at false g) e)
+  epc1_lost k value_or_zero e = false≢true (sym value_or_zero ∙ ap (lost_at false g) e)
 
   -- ---- where the handler began
   module _ {before : State} (i : InHandler before.control t.control before.base) (begun : IsShaped before) where
@@ -106,7 +106,7 @@ module _ {b : Bounds} {t after : State} {f g : FrameState} (c : Carries b t afte
     left_size : length special ≡ length after.control.special
     left_size = left_length before.control.special t.control.special after.control.special old_size from_size
 
-    at : (k : ℕ) → get_or special k 0 ≡ left (get_or before.control.special k 0) (get_or t.control.special k 0) (get_or after.control.special k 0)
+    at : (k : ℕ) → get_or special k 0 ≡ value_left (get_or before.control.special k 0) (get_or t.control.special k 0) (get_or after.control.special k 0)
     at k = left_at before.control.special t.control.special after.control.special old_size from_size k
 
     -- but EPC1, INTERRUPT and CCOUNT
@@ -123,7 +123,7 @@ module _ {b : Bounds} {t after : State} {f g : FrameState} (c : Carries b t afte
       vecbase_aligned = rw (left_other 231 (λ e. omega arith) (λ e. omega arith) (λ e. omega arith)) c.shape.vecbase_aligned;
     }
 
-    left_threadptr : left before.control.threadptr t.control.threadptr after.control.threadptr ≡ after.control.threadptr
+    left_threadptr : value_left before.control.threadptr t.control.threadptr after.control.threadptr ≡ after.control.threadptr
     left_threadptr = left_is before.control.threadptr t.control.threadptr after.control.threadptr i.threadptr
 
     special_even : Same (lost_at false g) special (relaid special g.control.special)
@@ -133,7 +133,7 @@ module _ {b : Bounds} {t after : State} {f g : FrameState} (c : Carries b t afte
         same_relaid (lost_at false g) special g.control.special
         (left_size ∙ (c.special.size ∙ laid_length g.control.special count bits))
         c.special.only
-        (λ k known not_bits not_count. left_other k (epc1_lost k known) not_bits not_count ∙ (c.special.at k known ∙ laid_other g.control.special count bits k not_bits not_count))
+        (λ k value_or_zero not_bits not_count. left_other k (epc1_lost k value_or_zero) not_bits not_count ∙ (c.special.at k value_or_zero ∙ laid_other g.control.special count bits k not_bits not_count))
 
     vectors_left : special_of (as_left before t after).control number.vecbase ≡ b.vecbase
     vectors_left =
@@ -145,7 +145,7 @@ module _ {b : Bounds} {t after : State} {f g : FrameState} (c : Carries b t afte
     module _ {lost : ℕ → Bool} {ring spilled : List Frame} (running : before.control.waits ≡ false) where
       plain_left : Plain b.vecbase lost before f ring spilled → Plain b.vecbase (lost_at false g) (as_left before t after) g ring spilled
       plain_left l = record {
-        windows = subst (λ seen. Windows before.regs before.base before.start seen ring (moved spilled)) (sym c.seen) l.windows;
+        windows = subst (λ seen. Windows before.regs before.base before.start seen ring (windows_moved spilled)) (sym c.seen) l.windows;
         frames = c.frames ∙ l.frames;
         older = l.older;
         even = record {
@@ -164,7 +164,7 @@ module _ {b : Bounds} {t after : State} {f g : FrameState} (c : Carries b t afte
       related_left {m = m} r = record {
         plain = plain_left r.plain;
         stack = subst (λ seen. Stack b.range.lo b.range.hi seen g.frames) (sym c.seen) (subst (λ frames. Stack b.range.lo b.range.hi f.seen frames) (sym c.frames) r.stack);
-        saved = subst (λ seen. Saved (word m) b.range.hi (sp_under (known seen 1) ring) spilled) (sym c.seen) r.saved;
+        saved = subst (λ seen. Saved (word m) b.range.hi (sp_under (value_or_zero seen 1) ring) spilled) (sym c.seen) r.saved;
       }
 
     begins_left : (side : Side) (lost : ℕ → Bool) (opened : ℕ → ℕ) (front : List Frame) (moving : Frame) (rest : List Frame) → before.control.waits ≡ false

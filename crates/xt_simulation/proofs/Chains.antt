@@ -3,7 +3,7 @@ use Rattle.std.proofs.Common.{◌≡◌, ℕ, ◌+◌, ◌-◌, ◌*◌, ◌<◌
 use Rattle.std.proofs.lemmas.Bool.{or_cases, or_right, or_left, and_parts, leb-true, ltb-true, true≢false}
 use Rattle.xt_map.proofs.Alike.{touched_at}
 use Rattle.xt_exec.specs.State.{State}
-use Rattle.xt_frames.specs.Frames.{Frame, FrameState, known}
+use Rattle.xt_frames.specs.Frames.{Frame, FrameState, value_or_zero}
 use Rattle.xt_frames.specs.SaveAreas.{Area, areas, sp_of, before, touches, covers_byte, is_live}
 use Rattle.xt_frames.specs.Breaches.{Bounds}
 use Rattle.xt_frames.specs.Stacks.{IsFrame, AreFrames}
@@ -99,8 +99,8 @@ covered_within x hi a (y ∷ more) rise end c =
 
 pub live_in_range : LiveInRange
 live_in_range r f a k c =
-    covered_within r.lo r.hi a (areas r.hi (known f.seen 1) 1 f.frames) (areas_rise r.lo r.hi f.seen f.frames k)
-    (areas_end r.lo r.hi (known f.seen 1) 1 f.frames k.range k.shaped k.chain (omega arith) (omega arith)) c
+    covered_within r.lo r.hi a (areas r.hi (value_or_zero f.seen 1) 1 f.frames) (areas_rise r.lo r.hi f.seen f.frames k)
+    (areas_end r.lo r.hi (value_or_zero f.seen 1) 1 f.frames k.range k.shaped k.chain (omega arith) (omega arith)) c
 
 -- ---- a core whose live bytes stay
 same_word : (old new : ℕ → ℕ) (a : ℕ) → ((b : ℕ) → a ≤ b → b < a + 4 → new b ≡ old b) → word new a ≡ word old a
@@ -114,15 +114,15 @@ same_word old new a same =
 pub related_spared : {lost : ℕ → Bool} {s : State} {ring spilled : List Frame} (old new : ℕ → ℕ) (b : Bounds) (f : FrameState) → ((a : ℕ) → is_live b.range f a ≡ true → new a ≡ old a) → Related old b lost s f ring spilled → Related new b lost s f ring spilled
 related_spared {ring = ring} {spilled = spilled} old new b f same l =
     let k = l.stack in
-    let c : Chain b.range.lo b.range.hi (known f.seen 1) (ring ++ spilled) = rw l.plain.frames at k.chain in
+    let c : Chain b.range.lo b.range.hi (value_or_zero f.seen 1) (ring ++ spilled) = rw l.plain.frames at k.chain in
     let shape : AreFrames (ring ++ spilled) = rw l.plain.frames at k.shaped in
     record {
       plain = l.plain;
       stack = k;
-      saved = saved_in_areas (word old) (word new) b.range.lo b.range.hi (sp_under (known f.seen 1) ring) (called_under 1 ring) spilled k.range (frames_after ring spilled shape) (chain_end b.range.lo b.range.hi (known f.seen 1) ring spilled c)
+      saved = saved_in_areas (word old) (word new) b.range.lo b.range.hi (sp_under (value_or_zero f.seen 1) ring) (called_under 1 ring) spilled k.range (frames_after ring spilled shape) (chain_end b.range.lo b.range.hi (value_or_zero f.seen 1) ring spilled c)
           (λ a cover.
-          let whole = covers_end b.range.hi (known f.seen 1) 1 ring spilled a cover in
-          let back : Covers (areas b.range.hi (known f.seen 1) 1 f.frames) a = rw l.plain.frames whole in
-          same_word old new a (λ x lo up. same x (covered_byte (areas b.range.hi (known f.seen 1) 1 f.frames) a x back lo up)))
+          let whole = covers_end b.range.hi (value_or_zero f.seen 1) 1 ring spilled a cover in
+          let back : Covers (areas b.range.hi (value_or_zero f.seen 1) 1 f.frames) a = rw l.plain.frames whole in
+          same_word old new a (λ x lo up. same x (covered_byte (areas b.range.hi (value_or_zero f.seen 1) 1 f.frames) a x back lo up)))
           l.saved;
     }

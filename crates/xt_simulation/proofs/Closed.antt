@@ -5,8 +5,8 @@ use Rattle.xt_frames.specs.Breaches.{Bounds, lost_of}
 use Rattle.std.proofs.Math.Bool.{or-false, or_assoc}
 use Rattle.std.proofs.lemmas.Bool.{and_from, and_parts, eq-eqb, ne_eqb, cases_eq, cases_lt, or_left, or_right, or_from, or_parts, or_cases, false_from_ne_true, false≢true}
 use Rattle.xt_exec.specs.State.{State}
-use Rattle.xt_frames.specs.FrameStep.{laid}
-use Rattle.xt_frames.specs.Frames.{Frame, moved, FrameState}
+use Rattle.xt_frames.specs.FrameStep.{with_inputs}
+use Rattle.xt_frames.specs.Frames.{Frame, windows_moved, FrameState}
 use Rattle.xt_simulation.specs.Closing.{SpillsKeepPlain, FillsKeepPlain}
 use Rattle.xt_simulation.specs.Cores.{Related}
 use Rattle.xt_simulation.specs.InHandlers.{Resumes, Holds}
@@ -21,7 +21,7 @@ use Rattle.xt_simulation.proofs.Modular.{one_window, bit_at_window, bit_with_sam
 use Rattle.xt_simulation.proofs.RingLemmas.{some_within, stands_within, stands_above}
 
 -- ---- the ring at its old end
-pub moved_end : (ring : List Frame) (g : Frame) → moved (ring ++ g ∷ []) ≡ moved ring + g.by
+pub moved_end : (ring : List Frame) (g : Frame) → windows_moved (ring ++ g ∷ []) ≡ windows_moved ring + g.by
 moved_end [] g = omega arith
 moved_end (f ∷ fs) g = let h = moved_end fs g in omega arith
 
@@ -32,25 +32,25 @@ frames_end (f ∷ fs) g h = let r = frames_end fs g h.1 in ((h.0, r.0), r.1)
 pub stands_end : (w : ℕ) (ring : List Frame) (g : Frame) (low : ℕ) → stands w (ring ++ g ∷ []) low ≡ (stands w ring (g.by + low) || eqb w low)
 stands_end w [] g low = ap (λ x. eqb w x || eqb w low) (let e : g.by + 0 + low ≡ g.by + low = omega arith in e)
 stands_end w (f ∷ fs) g low =
-    let e : f.by + moved (fs ++ g ∷ []) + low ≡ f.by + moved fs + (g.by + low) = (let m = moved_end fs g in omega arith) in
+    let e : f.by + windows_moved (fs ++ g ∷ []) + low ≡ f.by + windows_moved fs + (g.by + low) = (let m = moved_end fs g in omega arith) in
     let h = stands_end w fs g low in
     ap (λ x. eqb w x || stands w (fs ++ g ∷ []) low) e
-    ∙ (ap (λ y. eqb w (f.by + moved fs + (g.by + low)) || y) h
-    ∙ sym (or_assoc (eqb w (f.by + moved fs + (g.by + low))) (stands w fs (g.by + low)) (eqb w low)))
+    ∙ (ap (λ y. eqb w (f.by + windows_moved fs + (g.by + low)) || y) h
+    ∙ sym (or_assoc (eqb w (f.by + windows_moved fs + (g.by + low))) (stands w fs (g.by + low)) (eqb w low)))
 
 pub in_ring_end : (regs : List ℕ) (ring : List Frame) (g : Frame) (low : ℕ) → InRing regs (ring ++ g ∷ []) low → InRing regs ring (g.by + low) × Holds regs g.kept low
 in_ring_end regs [] g low h = let e : 0 + low ≡ low = omega arith in (tt, rw e at h.0)
 in_ring_end regs (f ∷ fs) g low h =
     let r = in_ring_end regs fs g low h.1 in
-    let e : moved (fs ++ g ∷ []) + low ≡ moved fs + (g.by + low) = (let m = moved_end fs g in omega arith) in
+    let e : windows_moved (fs ++ g ∷ []) + low ≡ windows_moved fs + (g.by + low) = (let m = moved_end fs g in omega arith) in
     ((rw e at h.0, r.0), r.1)
 
 -- registers above the window that was spilled
-in_ring_same : (regs other : List ℕ) (ring : List Frame) (low at : ℕ) → AreFrames ring → at ≤ low → moved ring + low < at + 16 → ((p : ℕ) → 4 * low ≤ p → p < 4 * at + 64 → get_or other (p % 64) 0 ≡ get_or regs (p % 64) 0) → InRing regs ring low → InRing other ring low
+in_ring_same : (regs other : List ℕ) (ring : List Frame) (low at : ℕ) → AreFrames ring → at ≤ low → windows_moved ring + low < at + 16 → ((p : ℕ) → 4 * low ≤ p → p < 4 * at + 64 → get_or other (p % 64) 0 ≡ get_or regs (p % 64) 0) → InRing regs ring low → InRing other ring low
 in_ring_same regs other [] low at shaped le fit same h = tt
 in_ring_same regs other (f ∷ fs) low at shaped le fit same h =
     let k = shaped.0.keeps in (
-      (λ i v e. let n = some_within f.kept i v e in same (4 * (moved fs + low) + i) (omega arith) (omega arith) ∙ h.0 i v e),
+      (λ i v e. let n = some_within f.kept i v e in same (4 * (windows_moved fs + low) + i) (omega arith) (omega arith) ∙ h.0 i v e),
       in_ring_same regs other fs low at shaped.1 le (omega arith) same h.1,
     )
 
@@ -72,7 +72,7 @@ same_overlaid {lost = lost} xs ys zs count bits e len same =
     let before : lost k ≡ false = (or_parts (lost_of false k) (lost k) known).1 in
     same k (not_epc1 lost k known) not_bits not_count ∙ (e.at k before ∙ laid_other ys count bits k not_bits not_count))
 
-resumed : {vecbase : ℕ} {lost : ℕ → Bool} {s : State} {ring spilled : List Frame} (f : FrameState) → Plain vecbase lost s f ring spilled → (t : State) → Resumes s.control t.control → Even (without_epc1 lost) t.control (laid (inputs 0 t) f).control
+resumed : {vecbase : ℕ} {lost : ℕ → Bool} {s : State} {ring spilled : List Frame} (f : FrameState) → Plain vecbase lost s f ring spilled → (t : State) → Resumes s.control t.control → Even (without_epc1 lost) t.control (with_inputs (inputs 0 t) f).control
 resumed {s = s} f l t r =
     let e = l.even in
     record {
@@ -141,7 +141,7 @@ module _ {regs : List ℕ} {base start : ℕ} {seen : List (Option ℕ)} {low : 
       let m = moved_end ring g in
       let fit = w.fits in
       let b = w.based in
-      let here : moved (ring ++ g ∷ []) + low ≡ moved ring + (g.by + low) = omega arith in
+      let here : windows_moved (ring ++ g ∷ []) + low ≡ windows_moved ring + (g.by + low) = omega arith in
       record {
         size = size ∙ w.size;
         wide = w.wide;
@@ -152,8 +152,8 @@ module _ {regs : List ℕ} {base start : ℕ} {seen : List (Option ℕ)} {low : 
         kept = in_ring_same regs other ring (g.by + low) low shape.0 (omega arith) (omega arith) (λ p lo hi. same p (omega arith) hi) (in_ring_end regs ring g low w.kept).0;
         visible = λ i v e.
             let room = w.room i v e in
-            let at : get_or regs (place (moved ring + (g.by + low)) i) 0 ≡ v = rw here at (w.visible i v e) in
-            same (4 * (moved ring + (g.by + low)) + i) (omega arith) (omega arith) ∙ at;
+            let at : get_or regs (place (windows_moved ring + (g.by + low)) i) 0 ≡ v = rw here at (w.visible i v e) in
+            same (4 * (windows_moved ring + (g.by + low)) + i) (omega arith) (omega arith) ∙ at;
         room = λ i v e. let room = w.room i v e in omega arith;
       }
 

@@ -5,7 +5,7 @@ use Rattle.std.proofs.lemmas.Bool.{both_ways, cases_Bool, cases_eq, cases_lt, tr
 use Rattle.std.proofs.lemmas.List.{get_or-set_same, get_or-set_other, length-set, get_or_past}
 use Rattle.xt_special.specs.Numbers as number
 use Rattle.xt_special.specs.Control.{Control, ps_word}
-use Rattle.xt_special.specs.Timers.{with_timer, ticked_special, ticked}
+use Rattle.xt_special.specs.Timers.{with_timer, ticked_special, after_tick}
 use Rattle.xt_special.specs.Exceptions.{with_address, after_general, after_double, after_exception}
 use Rattle.xt_special.specs.Interrupts.{pending_of, after_high_level, after_interrupt, interrupt_cause}
 use Rattle.xt_loop.specs.Looping.{loops_back}
@@ -157,7 +157,7 @@ same_ticked xs ys s =
     (same_timer (with_timer 0 (2 ^ 6) (counted xs)) (with_timer 0 (2 ^ 6) (counted ys)) 1 (2 ^ 15) refl
     (same_timer (counted xs) (counted ys) 0 (2 ^ 6) refl (same_counted xs ys s)))
 
-pub even_ticked : {lost : ℕ → Bool} (c d : Control) → Even lost c d → Even lost (ticked c) (ticked d)
+pub even_ticked : {lost : ℕ → Bool} (c d : Control) → Even lost c d → Even lost (after_tick c) (after_tick d)
 even_ticked c d e = record { pc = e.pc; ps = e.ps; threadptr = e.threadptr; waits = e.waits; special = same_ticked c.special d.special e.special }
 
 -- ---- exceptions and interrupts
@@ -296,10 +296,10 @@ numbers_set old mid n c d given rest k = ⊎_elim
 
 -- of level 1 an interrupt is taken outside exception mode alone
 pub interrupt_numbers : {lost : ℕ → Bool} (level : ℕ) (old : List Bool) (c d : Control) → (eqb level 1 ≡ true → c.ps.excm ≡ false) → Even lost c d
-    → Numbers old (set (set old (176 + level) false) (192 + level) false) (ticked (after_interrupt level c)) (ticked (after_interrupt level d))
+    → Numbers old (set (set old (176 + level) false) (192 + level) false) (after_tick (after_interrupt level c)) (after_tick (after_interrupt level d))
 interrupt_numbers {lost = lost} level old c d low e =
-    let x : Control = ticked (after_interrupt level c) in
-    let y : Control = ticked (after_interrupt level d) in
+    let x : Control = after_tick (after_interrupt level c) in
+    let y : Control = after_tick (after_interrupt level d) in
     let both : (get_or x.special (176 + level) 0 ≡ get_or y.special (176 + level) 0) × (get_or x.special (192 + level) 0 ≡ get_or y.special (192 + level) 0) = ⊎_elim
     (λ one.
     let is : level ≡ 1 = eqb-true level 1 one in

@@ -3,16 +3,16 @@ use Rattle.std.proofs.Common.{◌≡◌, ◌⊎◌, ⊎_elim, ℕ, zero, suc, �
 use Rattle.std.proofs.lemmas.Bool.{cases_lt, cond-true, cond-false, cases_Bool}
 use Rattle.std.proofs.lemmas.Bool.Decides.{nat_tests}
 use Rattle.std.proofs.lemmas.List.{get_or_past}
-use Rattle.xt_isa.specs.Spelling.{spelled, fields_at, length_of}
+use Rattle.xt_isa.specs.Spelling.{spelled_insn, fields_at, length_of}
 use Rattle.xt_isa.proofs.ThirdByte.{third_byte}
 use Rattle.xt_map.specs.Regions.{region_of}
-use Rattle.xt_fetch.specs.Fetching.{can_fetch, unfetchable, fetched_length, fetched_past, fetched, read_as}
+use Rattle.xt_fetch.specs.Fetching.{can_fetch, unfetchable, fetched_length, fetched_past, fetch_at, read_as}
 use Rattle.xt_fetch.specs.Code.{code_bytes}
 use Rattle.xt_stretch.specs.declared.Side.{Side}
 use Rattle.xt_stretch.specs.declared.HandlerVerdict.TheVariants.{Yes, No}
 use Rattle.xt_stretch.specs.Spelled.{step_of_spelled, step_of, lines_of}
-use Rattle.xt_stretch.specs.Handling.{handling}
-use Rattle.xt_stretch.specs.Kept.{step_at}
+use Rattle.xt_stretch.specs.Handling.{handling_verdict}
+use Rattle.xt_stretch.specs.HandlerInvariants.{step_at}
 use Rattle.xt_handlers.specs.Vectors.{vector_at, vector_bytes, verdict_of}
 
 -- ---- the bytes of a vector
@@ -41,8 +41,8 @@ unfetchable_none a (suc n) h =
     ∙ unfetchable_none (a + 1) n (λ k l. let e : (a + 1) + k ≡ a + suc k = omega arith in rw e (h (suc k) (omega arith)))
 
 pub fetched_is : (code : ℕ → ℕ) (pc : ℕ) → ((k : ℕ) → k < length_of (code pc) → can_fetch (pc + k) ≡ true) → 0 < length_of (code pc)
-    → fetched code pc ≡ read_as (spelled (fields_at (code pc) (code (pc + 1)) (code (pc + 2)))) (length_of (code pc))
-unfolding fetched
+    → fetch_at code pc ≡ read_as (spelled_insn (fields_at (code pc) (code (pc + 1)) (code (pc + 2)))) (length_of (code pc))
+unfolding fetch_at
 fetched_is code pc h pos =
     let z : pc + 0 ≡ pc = omega arith in
     let first : can_fetch pc ≡ true = rw z at (h 0 pos) in
@@ -57,7 +57,7 @@ two_means : (a : ℕ) → length_of a ≡ 2 → (8 ≤ a % 16) × (a % 16 < 14)
 two_means a h = grind (arith, nat_tests)
 
 -- of a two-byte instruction the third byte plays no part
-third_free : (a b c d : ℕ) → length_of a ≡ 2 → spelled (fields_at a b c) ≡ spelled (fields_at a b d)
+third_free : (a b c d : ℕ) → length_of a ≡ 2 → spelled_insn (fields_at a b c) ≡ spelled_insn (fields_at a b d)
 third_free a b c d h =
     let m = two_means a h in
     let k : ℕ = a % 16 - 8 in
@@ -117,12 +117,12 @@ pub vector_fetches : (code : ℕ → ℕ) (vecbase : ℕ) (side : Side) (n k : �
 vector_fetches code vecbase side n k aligned answered h =
     ⊎_elim
     (λ can. region_whole (vector_at vecbase side n) k (omega arith) h can)
-    (λ cannot. let bad : No 0 ≡ Yes = sym (cond-false (can_fetch (vector_at vecbase side n)) (handling side n (lines_of (vector_bytes code (vector_at vecbase side n)))) (No 0) cannot) ∙ answered in absurd cc)
+    (λ cannot. let bad : No 0 ≡ Yes = sym (cond-false (can_fetch (vector_at vecbase side n)) (handling_verdict side n (lines_of (vector_bytes code (vector_at vecbase side n)))) (No 0) cannot) ∙ answered in absurd cc)
     (cases_Bool (can_fetch (vector_at vecbase side n)))
 
-pub vector_handles : (code : ℕ → ℕ) (vecbase : ℕ) (side : Side) (n : ℕ) → verdict_of code vecbase side n ≡ Yes → handling side n (lines_of (vector_bytes code (vector_at vecbase side n))) ≡ Yes
+pub vector_handles : (code : ℕ → ℕ) (vecbase : ℕ) (side : Side) (n : ℕ) → verdict_of code vecbase side n ≡ Yes → handling_verdict side n (lines_of (vector_bytes code (vector_at vecbase side n))) ≡ Yes
 vector_handles code vecbase side n answered =
     ⊎_elim
-    (λ can. sym (cond-true (can_fetch (vector_at vecbase side n)) (handling side n (lines_of (vector_bytes code (vector_at vecbase side n)))) (No 0) can) ∙ answered)
-    (λ cannot. let bad : No 0 ≡ Yes = sym (cond-false (can_fetch (vector_at vecbase side n)) (handling side n (lines_of (vector_bytes code (vector_at vecbase side n)))) (No 0) cannot) ∙ answered in absurd cc)
+    (λ can. sym (cond-true (can_fetch (vector_at vecbase side n)) (handling_verdict side n (lines_of (vector_bytes code (vector_at vecbase side n)))) (No 0) can) ∙ answered)
+    (λ cannot. let bad : No 0 ≡ Yes = sym (cond-false (can_fetch (vector_at vecbase side n)) (handling_verdict side n (lines_of (vector_bytes code (vector_at vecbase side n)))) (No 0) cannot) ∙ answered in absurd cc)
     (cases_Bool (can_fetch (vector_at vecbase side n)))

@@ -7,23 +7,23 @@ use Rattle.xt_isa.specs.declared.Insn.TheVariants as insn
 use Rattle.xt_isa.specs.declared.system.System.TheVariants as system
 use Rattle.xt_isa.specs.declared.system.ReturnName.TheVariants as return
 use Rattle.xt_isa.specs.Ranges.{in_range}
-use Rattle.xt_isa.specs.Spelling.{spelled, fields_at, length_of}
+use Rattle.xt_isa.specs.Spelling.{spelled_insn, fields_at, length_of}
 use Rattle.xt_isa.proofs.Ranged.{spelled_at_in_range}
 use Rattle.xt_map.specs.declared.contents.MemoryContents.{MemoryContents}
 use Rattle.xt_map.specs.Memory.{HasSizes, byte_at}
 use Rattle.xt_special.specs.declared.ps.Ps.{Ps}
 use Rattle.xt_special.specs.Numbers as number
 use Rattle.xt_special.specs.Control.{special_of}
-use Rattle.xt_special.specs.Timers.{ticked}
+use Rattle.xt_special.specs.Timers.{after_tick}
 use Rattle.xt_special.specs.Interrupts.{pending_of}
 use Rattle.xt_window.specs.Ring.{place, visible, with_bit, without_bit}
 use Rattle.xt_trace.specs.declared.record.StepKind.TheVariants as kind
-use Rattle.xt_fetch.specs.Fetching.{Fetches, fetched, can_fetch, read_as}
+use Rattle.xt_fetch.specs.Fetching.{Fetches, fetch_at, can_fetch, read_as}
 use Rattle.xt_exec.specs.State.{State}
-use Rattle.xt_exec.specs.Laws.{IsShaped}
-use Rattle.xt_exec.specs.Turn.{planned, demand, turn, window_exception}
-use Rattle.xt_frames.specs.Frames.{Frame, FrameState, moved}
-use Rattle.xt_frames.specs.FrameStep.{laid}
+use Rattle.xt_exec.specs.TurnLaws.{IsShaped}
+use Rattle.xt_exec.specs.Turn.{planned_turn, demand, turn, window_exception}
+use Rattle.xt_frames.specs.Frames.{Frame, FrameState, windows_moved}
+use Rattle.xt_frames.specs.FrameStep.{with_inputs}
 use Rattle.xt_frames.specs.SaveAreas.{sp_of, touches, is_live}
 use Rattle.xt_frames.specs.Breaches.{Bounds, window_breach}
 use Rattle.xt_frames.specs.Nesting.{is_nesting}
@@ -38,20 +38,20 @@ use Rattle.xt_map.proofs.Alike.{touched_at}
 use Rattle.xt_simulation.proofs.Closed.{in_ring_end, related_lost, epc1_lost}
 use Rattle.xt_simulation.proofs.Windowed.{enters_window, visible_value}
 use Rattle.xt_simulation.proofs.Stretched.{overflows_keep_related, underflows_keep_related, stretches_begin, stretches_go_on, stretches_end, oldest, newest_of}
-use Rattle.xt_stretch.specs.Symbols.{Effect, applied, opening}
+use Rattle.xt_stretch.specs.Symbols.{Effect, effect_after_step, opening}
 use Rattle.xt_stretch.specs.Needs.{callee_sp, link, save_word, has_effect}
 use Rattle.xt_stretch.specs.declared.Side.{Side}
 use Rattle.xt_stretch.specs.declared.Side.TheVariants.{Overflow, Underflow}
-use Rattle.xt_stretch.specs.declared.Step.{Step}
-use Rattle.xt_stretch.specs.declared.Step.TheVariants.{Rfwo, Rfwu, Foreign}
+use Rattle.xt_stretch.specs.declared.HandlerInsn.{HandlerInsn}
+use Rattle.xt_stretch.specs.declared.HandlerInsn.TheVariants.{Rfwo, Rfwu, Foreign}
 use Rattle.xt_stretch.specs.declared.HandlerVerdict.TheVariants.{Yes}
 use Rattle.xt_stretch.specs.Spelled.{step_of_insn, step_of_spelled, step_of}
 use Rattle.xt_stretch.proofs.Lines.{handling_is}
 use Rattle.xt_stretch.specs.Machines as small
 use Rattle.xt_stretch.specs.Running as stepping
-use Rattle.xt_stretch.specs.Machines.{Machine, word_at, meant, address_of, IsElsewhere}
+use Rattle.xt_stretch.specs.Machines.{Machine, word_at, symbol_value, address_of, IsElsewhere}
 use Rattle.xt_stretch.specs.Frames.{HasFrames, IsOwnByte}
-use Rattle.xt_stretch.specs.Kept.{Does, Stands, Spares, Touches, Turns, Moves, Closes, Done, step_at, ending_of, opening_flags}
+use Rattle.xt_stretch.specs.HandlerInvariants.{Does, Stands, Spares, Touches, Turns, Moves, Closes, Done, step_at, ending_of, opening_flags}
 use Rattle.xt_stretch.proofs.Places.{room_from, spares_from}
 use Rattle.xt_stretch.proofs.Runs.{stands_first}
 use Rattle.xt_stretch.proofs.Turning.{turns, done, spared}
@@ -101,7 +101,7 @@ two_sides : (side : Side) → side ≡ Overflow → side ≡ Underflow → ⊥
 two_sides side o u = let q : Overflow ≡ Underflow = sym o ∙ u in absurd cc
 
 -- ---- endings
-is_rfwo : {i : Insn} {step : Step} → Shown i step → step ≡ Rfwo → i ≡ insn.System (system.Rfe return.Rfwo)
+is_rfwo : {i : Insn} {step : HandlerInsn} → Shown i step → step ≡ Rfwo → i ≡ insn.System (system.Rfe return.Rfwo)
 is_rfwo load e = absurd cc
 is_rfwo store e = absurd cc
 is_rfwo wide_nop e = absurd cc
@@ -110,7 +110,7 @@ is_rfwo ends_overflow e = refl
 is_rfwo ends_underflow e = absurd cc
 is_rfwo other e = absurd cc
 
-is_rfwu : {i : Insn} {step : Step} → Shown i step → step ≡ Rfwu → i ≡ insn.System (system.Rfe return.Rfwu)
+is_rfwu : {i : Insn} {step : HandlerInsn} → Shown i step → step ≡ Rfwu → i ≡ insn.System (system.Rfe return.Rfwu)
 is_rfwu load e = absurd cc
 is_rfwu store e = absurd cc
 is_rfwu wide_nop e = absurd cc
@@ -119,7 +119,7 @@ is_rfwu ends_overflow e = absurd cc
 is_rfwu ends_underflow e = refl
 is_rfwu other e = absurd cc
 
-not_ending : {i : Insn} {step : Step} (side : Side) (n : ℕ) (start : Machine) (flags after : List Bool) (now : Machine) → Shown i step → Does side n start flags after now step → ends_stretch i ≡ false
+not_ending : {i : Insn} {step : HandlerInsn} (side : Side) (n : ℕ) (start : Machine) (flags after : List Bool) (now : Machine) → Shown i step → Does side n start flags after now step → ends_stretch i ≡ false
 unfolding ends_stretch
 not_ending side n start flags after now load d = refl
 not_ending side n start flags after now store d = refl
@@ -129,7 +129,7 @@ not_ending side n start flags after now ends_overflow d = absurd d
 not_ending side n start flags after now ends_underflow d = absurd d
 not_ending side n start flags after now other d = absurd d
 
-not_foreign : (side : Side) (n : ℕ) (start : Machine) (flags after : List Bool) (now : Machine) (step : Step) → step ≡ Foreign → Does side n start flags after now step → ⊥
+not_foreign : (side : Side) (n : ℕ) (start : Machine) (flags after : List Bool) (now : Machine) (step : HandlerInsn) → step ≡ Foreign → Does side n start flags after now step → ⊥
 not_foreign side n start flags after now step e d = let f : Does side n start flags after now Foreign = subst (λ x. Does side n start flags after now x) e d in f
 
 -- ---- the same handler's state in another machine
@@ -153,7 +153,7 @@ with_same start w = let e : w % 16 % 16 ≡ w % 16 = omega arith in rw e refl
 saves : ℕ → ℕ → ℕ → ℕ → Bool
 saves callee top n a = touches (callee - 16) 16 a || touches (top - 16 * n) (16 * (n - 1)) a
 
-save_free : (n : ℕ) (start : Machine) (f : HasFrames Overflow n start) (callee top a : ℕ) → meant start (callee_sp n) ≡ callee → meant start (link Overflow n) ≡ top → saves callee top n a ≡ false → IsElsewhere n start a
+save_free : (n : ℕ) (start : Machine) (f : HasFrames Overflow n start) (callee top a : ℕ) → symbol_value start (callee_sp n) ≡ callee → symbol_value start (link Overflow n) ≡ top → saves callee top n a ≡ false → IsElsewhere n start a
 unfolding saves
 save_free n start f callee top a e t h = λ k l. by_place k l (cases_lt k 4)
   where
@@ -207,16 +207,16 @@ module _ (b : Bounds) (lost : ℕ → Bool) (before t : State) (f : FrameState) 
     (saved : (k : ℕ) → k < 4 * g.by → word_at now (address_of (start_of before opened rest) (save_word Overflow g.by k)) ≡ small.visible (start_of before opened rest) k)
     (kept : (a : ℕ) → is_live b.range f a ≡ true → IsElsewhere g.by (start_of before opened rest) a → now a ≡ opened a) where
   over_callee : ℕ
-  over_callee = visible before.regs (moved rest) (4 * g.by + 1)
+  over_callee = visible before.regs (windows_moved rest) (4 * g.by + 1)
 
   over_top : ℕ
-  over_top = word opened (visible before.regs (moved rest) 1 - 12)
+  over_top = word opened (visible before.regs (windows_moved rest) 1 - 12)
 
-  callee_is : meant (start_of before opened rest) (callee_sp g.by) ≡ over_callee
+  callee_is : symbol_value (start_of before opened rest) (callee_sp g.by) ≡ over_callee
   unfolding over_callee
-  callee_is = same_visible before.regs (moved rest) (4 * g.by + 1)
+  callee_is = same_visible before.regs (windows_moved rest) (4 * g.by + 1)
 
-  top_is : meant (start_of before opened rest) (link Overflow g.by) ≡ over_top
+  top_is : symbol_value (start_of before opened rest) (link Overflow g.by) ≡ over_top
   unfolding over_top
   top_is = r.top ∙ sym (oldest b f front g rest opened l).top
 
@@ -240,7 +240,7 @@ module _ (b : Bounds) (lost : ℕ → Bool) (before t : State) (f : FrameState) 
       (mixed_other (saves over_callee over_top g.by) now opened (a + 2) (own (a + 2) (omega arith) (omega arith)))
       (mixed_other (saves over_callee over_top g.by) now opened (a + 3) (own (a + 3) (omega arith) (omega arith)))
 
-  stored : stretches.Stores opened new_bytes before (moved rest) g.by
+  stored : stretches.Stores opened new_bytes before (windows_moved rest) g.by
   unfolding over_callee over_top saves
   stored = record {
     low = λ i small_i.
@@ -249,14 +249,14 @@ module _ (b : Bounds) (lost : ℕ → Bool) (before t : State) (f : FrameState) 
         let k : i < 4 * g.by = (let p = r.frames.some in omega arith) in
         let at : address_of (start_of before opened rest) (save_word Overflow g.by i) ≡ over_callee - 16 + 4 * i = save_low Overflow g.by i (start_of before opened rest) r.frames small_i ∙ ap (λ x. x - 16 + 4 * i) c in
         word_own (over_callee - 16 + 4 * i) (λ x lo up. or_left _ _ (touched_at (over_callee - 16) 16 x (omega arith) (omega arith)))
-        ∙ (ap (word now) (sym at) ∙ (saved i k ∙ same_visible before.regs (moved rest) i));
+        ∙ (ap (word now) (sym at) ∙ (saved i k ∙ same_visible before.regs (windows_moved rest) i));
     high = λ i big_i k.
         let two : 1 < g.by = omega arith in
         let big = r.frames.caller_low two in
         let t = top_is in
         let at : address_of (start_of before opened rest) (save_word Overflow g.by i) ≡ over_top - 16 * g.by + 4 * (i - 4) = save_high Overflow g.by i (start_of before opened rest) r.frames big_i k ∙ ap (λ x. x - 16 * g.by + 4 * (i - 4)) t in
         word_own (over_top - 16 * g.by + 4 * (i - 4)) (λ x lo up. or_right _ _ (touched_at (over_top - 16 * g.by) (16 * (g.by - 1)) x (omega arith) (omega arith)))
-        ∙ (ap (word now) (sym at) ∙ (saved i k ∙ same_visible before.regs (moved rest) i));
+        ∙ (ap (word now) (sym at) ∙ (saved i k ∙ same_visible before.regs (windows_moved rest) i));
     others = λ a away.
         let big = r.frames.callee_low in
         let c = callee_is in
@@ -270,7 +270,7 @@ module _ (b : Bounds) (lost : ℕ → Bool) (before t : State) (f : FrameState) 
       top_large : 16 * g.by ≤ over_top
       top_large = let t = (oldest b f front g rest opened l).top in let large = r.chain.0.large in omega arith
 
-  pub over_end : Changes before t (moved rest) g.by → t.start ≡ without_bit before.start (moved rest) → Related now b (without_epc1 lost) t f front (g ∷ rest)
+  pub over_end : Changes before t (windows_moved rest) g.by → t.start ≡ without_bit before.start (windows_moved rest) → Related now b (without_epc1 lost) t f front (g ∷ rest)
   unfolding new_bytes
   over_end changes bits =
       let middle = overflows_keep_related b lost before t f front g rest opened new_bytes l changes bits stored in
@@ -282,23 +282,23 @@ module _ (b : Bounds) (lost : ℕ → Bool) (before t : State) (f : FrameState) 
 -- ---- the end of an underflow's handler
 module _ (b : Bounds) (lost : ℕ → Bool) (before t : State) (f : FrameState) (front : List Frame) (g : Frame) (rest : List Frame) (opened now : ℕ → ℕ)
     (r : Found Underflow opened b before f front g rest) (l : Related opened b lost before f [] (g ∷ rest))
-    (loaded : (k : ℕ) → k < 4 * g.by → visible t.regs (moved rest % 16) k ≡ word_at opened (address_of (start_of before opened rest) (save_word Underflow g.by k)))
+    (loaded : (k : ℕ) → k < 4 * g.by → visible t.regs (windows_moved rest % 16) k ≡ word_at opened (address_of (start_of before opened rest) (save_word Underflow g.by k)))
     (kept : (a : ℕ) → is_live b.range f a ≡ true → now a ≡ opened a) where
-  under_loads : stretches.Loads opened before t (moved rest) g.by
+  under_loads : stretches.Loads opened before t (windows_moved rest) g.by
   under_loads =
       let o = newest_of b f g rest opened l in
-      let callee = same_visible before.regs (moved rest) (4 * g.by + 1) in
-      let w1 : word opened (visible before.regs (moved rest) (4 * g.by + 1) - 12) ≡ sp_of g = ap (λ x. word opened (x - 12)) o.callee ∙ o.own in
-      let top : meant (start_of before opened rest) (link Underflow g.by) ≡ word opened (word opened (visible before.regs (moved rest) (4 * g.by + 1) - 12) - 12) = r.top ∙ sym (ap (λ x. word opened (x - 12)) w1 ∙ o.top) in
+      let callee = same_visible before.regs (windows_moved rest) (4 * g.by + 1) in
+      let w1 : word opened (visible before.regs (windows_moved rest) (4 * g.by + 1) - 12) ≡ sp_of g = ap (λ x. word opened (x - 12)) o.callee ∙ o.own in
+      let top : symbol_value (start_of before opened rest) (link Underflow g.by) ≡ word opened (word opened (visible before.regs (windows_moved rest) (4 * g.by + 1) - 12) - 12) = r.top ∙ sym (ap (λ x. word opened (x - 12)) w1 ∙ o.top) in
       record {
         low = λ i small_i.
             let k : i < 4 * g.by = (let p = r.frames.some in omega arith) in
-            sym (same_visible t.regs (moved rest) i) ∙ (loaded i k ∙ ap (word opened) (save_low Underflow g.by i (start_of before opened rest) r.frames small_i ∙ ap (λ x. x - 16 + 4 * i) callee));
+            sym (same_visible t.regs (windows_moved rest) i) ∙ (loaded i k ∙ ap (word opened) (save_low Underflow g.by i (start_of before opened rest) r.frames small_i ∙ ap (λ x. x - 16 + 4 * i) callee));
         high = λ i big_i k.
-            sym (same_visible t.regs (moved rest) i) ∙ (loaded i k ∙ ap (word opened) (save_high Underflow g.by i (start_of before opened rest) r.frames big_i k ∙ ap (λ x. x - 16 * g.by + 4 * (i - 4)) top));
+            sym (same_visible t.regs (windows_moved rest) i) ∙ (loaded i k ∙ ap (word opened) (save_high Underflow g.by i (start_of before opened rest) r.frames big_i k ∙ ap (λ x. x - 16 * g.by + 4 * (i - 4)) top));
       }
 
-  pub under_end : Changes before t (moved rest) g.by → t.start ≡ with_bit before.start (moved rest) → Related now b (without_epc1 lost) t f (g ∷ []) rest
+  pub under_end : Changes before t (windows_moved rest) g.by → t.start ≡ with_bit before.start (windows_moved rest) → Related now b (without_epc1 lost) t f (g ∷ []) rest
   under_end changes bits = related_spared opened now b f kept (underflows_keep_related b lost before t f g rest opened l changes bits under_loads)
 
 -- ---- what a whole stretch has done
@@ -318,12 +318,12 @@ seen_after : (side : Side) (m : ℕ → ℕ) (b : Bounds) (t : State) (f : Frame
 seen_after Overflow m b t f front g rest l i v e = visible_value l.plain.windows i v e
 seen_after Underflow m b t f front g rest l i v e = visible_value l.plain.windows i v e
 
-stored_frame : (side : Side) (m : ℕ → ℕ) (b : Bounds) (lost : ℕ → Bool) (s : State) (f : FrameState) (front : List Frame) (g : Frame) (rest : List Frame) → Begins side m b lost s f front g rest → side ≡ Overflow → Holds s.regs g.kept (moved rest)
-stored_frame Overflow m b lost s f front g rest l e = (in_ring_end s.regs front g (moved rest) l.plain.windows.kept).1
+stored_frame : (side : Side) (m : ℕ → ℕ) (b : Bounds) (lost : ℕ → Bool) (s : State) (f : FrameState) (front : List Frame) (g : Frame) (rest : List Frame) → Begins side m b lost s f front g rest → side ≡ Overflow → Holds s.regs g.kept (windows_moved rest)
+stored_frame Overflow m b lost s f front g rest l e = (in_ring_end s.regs front g (windows_moved rest) l.plain.windows.kept).1
 stored_frame Underflow m b lost s f front g rest l e = absurd cc
 
-returned_frame : (side : Side) (m : ℕ → ℕ) (b : Bounds) (t : State) (f : FrameState) (front : List Frame) (g : Frame) (rest : List Frame) → Settles side m b t f front g rest → side ≡ Underflow → Holds t.regs g.kept (moved rest)
-returned_frame Underflow m b t f front g rest l e = (let z : 0 + moved rest ≡ moved rest = omega arith in rw z at l.plain.windows.kept.0)
+returned_frame : (side : Side) (m : ℕ → ℕ) (b : Bounds) (t : State) (f : FrameState) (front : List Frame) (g : Frame) (rest : List Frame) → Settles side m b t f front g rest → side ≡ Underflow → Holds t.regs g.kept (windows_moved rest)
+returned_frame Underflow m b t f front g rest l e = (let z : 0 + windows_moved rest ≡ windows_moved rest = omega arith in rw z at l.plain.windows.kept.0)
 returned_frame Overflow m b t f front g rest l e = absurd cc
 
 over_free : (side : Side) (n : ℕ) (start : Machine) (a : ℕ) → side ≡ Overflow → IsElsewhere n start a → Untouched side n start a
@@ -359,13 +359,13 @@ moves_frame side b m before after opened f front g rest lost begins r settles st
 module _ (code : ℕ → ℕ) (constant : (a : ℕ) → code a < 2 ^ 8) (b : Bounds) (dram : InDram b) (aligned : b.vecbase % 2 ^ 10 ≡ 0) (handlers : Handlers code b.vecbase) where
   -- ---- the record of a window exception
   entered : (side : Side) (m : MemoryContents) (fresh : Bool) (s : State) (f : FrameState) (front : List Frame) (g : Frame) (rest : List Frame) → Begins side (byte_at m) b (lost_at fresh f) s f front g rest → special_of s.control number.vecbase ≡ b.vecbase
-      → 0 < g.by → g.by ≤ 3 → s.control.ps.excm ≡ false → s.control.waits ≡ false → IsShaped s → planned code s ≡ window_exception (vector_number side g.by) (moved rest % 16) s
+      → 0 < g.by → g.by ≤ 3 → s.control.ps.excm ≡ false → s.control.waits ≡ false → IsShaped s → planned_turn code s ≡ window_exception (vector_number side g.by) (windows_moved rest % 16) s
       → (demand code s ≡ None) × Handling code b m (state_now code m s) f s (byte_at m)
   unfolding turn
   entered side m fresh s f front g rest begins vectors moves within low running shaped is =
       let start = start_of s (byte_at m) rest in
       let d : demand code s ≡ None = plan_asks code s _ is in
-      let t : state_now code m s ≡ (window_exception (vector_number side g.by) (moved rest % 16) s).after = (rw is refl) in
+      let t : state_now code m s ≡ (window_exception (vector_number side g.by) (windows_moved rest % 16) s).after = (rw is refl) in
       let r : Found side (byte_at m) b s f front g rest = found side b (lost_at fresh f) s f front g rest (byte_at m) dram shaped moves within begins in
       let long : number.epc 1 < length s.control.special = (let c = shaped.control.count in omega arith) in
       let answered = handlers side g.by moves (omega arith) in
@@ -395,8 +395,8 @@ module _ (code : ℕ → ℕ) (constant : (a : ℕ) → code a < 2 ^ 8) (b : Bou
         }),
       )
 
-  pub begins_at : (m : MemoryContents) (fresh : Bool) (s : State) (f : FrameState) (ring spilled : List Frame) (reply : ℕ) → Related (byte_at m) b (lost_at fresh f) s f ring spilled → IsShaped s → is_window (planned code s).kind ≡ true
-      → window_breach code (planned code s).kind (laid (inputs reply s) f) ≡ None → (demand code s ≡ None) × Handling code b m (state_now code m s) f s (byte_at m)
+  pub begins_at : (m : MemoryContents) (fresh : Bool) (s : State) (f : FrameState) (ring spilled : List Frame) (reply : ℕ) → Related (byte_at m) b (lost_at fresh f) s f ring spilled → IsShaped s → is_window (planned_turn code s).kind ≡ true
+      → window_breach code (planned_turn code s).kind (with_inputs (inputs reply s) f) ≡ None → (demand code s ≡ None) × Handling code b m (state_now code m s) f s (byte_at m)
   begins_at m fresh s f ring spilled reply l shaped window none =
       ⊎_elim
       (λ (o : relation.Overflows code s ring spilled).
@@ -425,7 +425,7 @@ module _ (code : ℕ → ℕ) (constant : (a : ℕ) → code a < 2 ^ 8) (b : Bou
     low_now = let e = h.control.ps in rw e refl
 
     -- the judge takes an interrupt of level 5 as a nested one; the others are masked
-    pub untaken_now : is_nesting (planned code s).kind ≡ false → ltb 0 (pending_of s.control) ≡ false
+    pub untaken_now : is_nesting (planned_turn code s).kind ≡ false → ltb 0 (pending_of s.control) ≡ false
     untaken_now calm = quiet_level code s low_now calm
 
     pub running_now : s.control.waits ≡ false
@@ -448,9 +448,9 @@ module _ (code : ℕ → ℕ) (constant : (a : ℕ) → code a < 2 ^ 8) (b : Bou
     inside = rw (← first_byte) turn_here.inside
 
     -- the fetch at PC
-    fetch : fetched code s.control.pc ≡ read_as (spelled (fields_at (code (vector + h.offset)) (code (vector + h.offset + 1)) (code (vector + h.offset + 2)))) (length_of (code (vector + h.offset)))
+    fetch : fetch_at code s.control.pc ≡ read_as (spelled_insn (fields_at (code (vector + h.offset)) (code (vector + h.offset + 1)) (code (vector + h.offset + 2)))) (length_of (code (vector + h.offset)))
     fetch =
-        ap (fetched code) h.pc
+        ap (fetch_at code) h.pc
         ∙ fetched_is code (vector + h.offset)
         (λ k l. let e : vector + h.offset + k ≡ vector + (h.offset + k) = omega arith in rw e (vector_fetches code b.vecbase h.side n (h.offset + k) aligned answered (let i = inside in omega arith)))
         (⊎_elim (λ e. omega arith) (λ e. omega arith) (length_is (code (vector + h.offset))))
@@ -460,10 +460,10 @@ module _ (code : ℕ → ℕ) (constant : (a : ℕ) → code a < 2 ^ 8) (b : Bou
 
     -- ---- the instruction at PC
     data AtPc : Type 0 where
-      some_insn : (i : Insn) → fetched code s.control.pc ≡ Fetches i len → in_range i ≡ true → step_at (vector_bytes code vector) h.offset ≡ step_of_insn i → AtPc
+      some_insn : (i : Insn) → fetch_at code s.control.pc ≡ Fetches i len → in_range i ≡ true → step_at (vector_bytes code vector) h.offset ≡ step_of_insn i → AtPc
       no_insn : step_at (vector_bytes code vector) h.offset ≡ Foreign → AtPc
 
-    at_pc : (o : Option Insn) → spelled (fields_at (code (vector + h.offset)) (code (vector + h.offset + 1)) (code (vector + h.offset + 2))) ≡ o → AtPc
+    at_pc : (o : Option Insn) → spelled_insn (fields_at (code (vector + h.offset)) (code (vector + h.offset + 1)) (code (vector + h.offset + 2))) ≡ o → AtPc
     unfolding len step_of
     at_pc None e = no_insn (step_here ∙ ap step_of_spelled e)
     at_pc (Some i) e = some_insn i (fetch ∙ ap (λ o. read_as o (length_of (code (vector + h.offset)))) e)
@@ -471,15 +471,15 @@ module _ (code : ℕ → ℕ) (constant : (a : ℕ) → code a < 2 ^ 8) (b : Bou
         (step_here ∙ ap step_of_spelled e)
 
     insn_here : AtPc
-    insn_here = at_pc (spelled (fields_at (code (vector + h.offset)) (code (vector + h.offset + 1)) (code (vector + h.offset + 2)))) refl
+    insn_here = at_pc (spelled_insn (fields_at (code (vector + h.offset)) (code (vector + h.offset + 1)) (code (vector + h.offset + 2)))) refl
 
     -- ---- one handler step
     -- the handler goes on, or it ends
     pub data Next : Type 0 where
-      goes_on : closes code (planned code s).kind s.control.pc ≡ false → Handling code b (memory_now code m s) (state_now code m s) f before opened
+      goes_on : closes code (planned_turn code s).kind s.control.pc ≡ false → Handling code b (memory_now code m s) (state_now code m s) f before opened
           → ((a : ℕ) → is_live b.range f a ≡ false → byte_at (memory_now code m s) a ≡ byte_at m a)
           → ((a : ℕ) → Untouched h.side n start a → byte_at (memory_now code m s) a ≡ byte_at m a) → Next
-      ends : closes code (planned code s).kind s.control.pc ≡ true → Settles h.side (byte_at m) b (state_now code m s) f h.front h.g h.rest → memory_now code m s ≡ m
+      ends : closes code (planned_turn code s).kind s.control.pc ≡ true → Settles h.side (byte_at m) b (state_now code m s) f h.front h.g h.rest → memory_now code m s ≡ m
           → Stretch h.side n before (state_now code m s) opened (byte_at m) h.rest → Next
 
     not_own : (a : ℕ) → is_live b.range f a ≡ false → IsOwnByte h.side n start a → ⊥
@@ -513,13 +513,13 @@ module _ (code : ℕ → ℕ) (constant : (a : ℕ) → code a < 2 ^ 8) (b : Bou
           running = h.running;
           shaped = h.shaped;
           offset = h.offset + length_of (get_or (vector_bytes code vector) h.offset 0);
-          effect = applied h.effect (step_at (vector_bytes code vector) h.offset);
+          effect = effect_after_step h.effect (step_at (vector_bytes code vector) h.offset);
           flags = mv.after;
           pc = pc_on ∙ ap (λ x. vector + (h.offset + length_of x)) (sym first_byte);
           handles = mv.handles;
           control = stretches_go_on before.control s.control before.base ((s.control.pc + length_of (code (vector + h.offset))) % 2 ^ 32) h.control;
           bits = h.bits;
-          stands = moved_machine h.side n start (applied h.effect (step_at (vector_bytes code vector) h.offset)) mv.after mv.next s.base (byte_at (memory_now code m s)) mv.stands base t.bytes;
+          stands = moved_machine h.side n start (effect_after_step h.effect (step_at (vector_bytes code vector) h.offset)) mv.after mv.next s.base (byte_at (memory_now code m s)) mv.stands base t.bytes;
           kept = λ a live free. t.bytes a ∙ (step_keeps h.side n start (byte_at m) mv.next.bytes a mv.touches free ∙ h.kept a live free);
         })
 
@@ -528,28 +528,28 @@ module _ (code : ℕ → ℕ) (constant : (a : ℕ) → code a < 2 ^ 8) (b : Bou
       step_goes : (mv : Moves h.side n start (vector_bytes code vector) h.offset h.effect h.flags (machine m s)) → IsShaped s → HasSizes m → AtPc → Next
       step_goes mv shaped sizes (no_insn e) = absurd (not_foreign h.side n start h.flags mv.after (machine m s) (step_at (vector_bytes code vector) h.offset) e mv.does)
       step_goes mv shaped sizes (some_insn i at range e) =
-          let is : stepping.stepped (step_of_insn i) (machine m s) ≡ Some mv.next = subst (λ x. stepping.stepped x (machine m s) ≡ Some mv.next) e mv.is in
+          let is : stepping.machine_after_step (step_of_insn i) (machine m s) ≡ Some mv.next = subst (λ x. stepping.machine_after_step x (machine m s) ≡ Some mv.next) e mv.is in
           let may : stepping.MayAccess (step_of_insn i) (machine m s) = subst (λ x. stepping.MayAccess x (machine m s)) e mv.access in
           let does : Does h.side n start h.flags mv.after (machine m s) (step_of_insn i) = subst (λ x. Does h.side n start h.flags mv.after (machine m s) x) e mv.does in
           let t = turned code m s low_now untaken running_now len i (step_of_insn i) mv.next (shown i) at range may (λ k. shaped.words (place s.base k)) sizes is in
-          let no : closes code (planned code s).kind s.control.pc ≡ false = ap (λ k. closes code k s.control.pc) t.kind ∙ (ap fetched_ends at ∙ not_ending h.side n start h.flags mv.after (machine m s) (shown i) does) in
+          let no : closes code (planned_turn code s).kind s.control.pc ≡ false = ap (λ k. closes code k s.control.pc) t.kind ∙ (ap fetched_ends at ∙ not_ending h.side n start h.flags mv.after (machine m s) (shown i) does) in
           goes_on no (went_on mv t) (λ a dead. t.bytes a ∙ step_keeps h.side n start (byte_at m) mv.next.bytes a mv.touches (untouched_from h.side n start a at_start.frames (not_own a dead)))
           (λ a free. t.bytes a ∙ step_keeps h.side n start (byte_at m) mv.next.bytes a mv.touches free)
 
       -- ---- the ending
-      changes_from : (start_bits : ℕ) → Done h.side n start (machine m s) → Changes before (record { regs = s.regs; base = s.control.ps.owb; start = start_bits; control = ticked (record s.control { pc = special_of s.control (number.epc 1); ps = record s.control.ps { excm = false } }) }) (moved h.rest) n
+      changes_from : (start_bits : ℕ) → Done h.side n start (machine m s) → Changes before (record { regs = s.regs; base = s.control.ps.owb; start = start_bits; control = after_tick (record s.control { pc = special_of s.control (number.epc 1); ps = record s.control.ps { excm = false } }) }) (windows_moved h.rest) n
       changes_from start_bits d = record {
         base = ap (λ (p : Ps). p.owb) h.control.ps;
         size = h.stands.size ∙ sym at_start.frames.registers;
-        others = λ p lo hi. others_stay_above n (moved h.rest) start (machine m s) p d.registers refl lo hi;
+        others = λ p lo hi. others_stay_above n (windows_moved h.rest) start (machine m s) p d.registers refl lo hi;
         control = stretches_end before.control s.control before.base h.low h.control;
       }
 
-      base_is : s.base ≡ moved h.rest % 16
+      base_is : s.base ≡ windows_moved h.rest % 16
       base_is = h.stands.base
 
-      stretch_from : (start_bits : ℕ) → Done h.side n start (machine m s) → (h.side ≡ Overflow → start_bits ≡ without_bit before.start (moved h.rest)) → (h.side ≡ Underflow → start_bits ≡ with_bit before.start (moved h.rest))
-          → Stretch h.side n before (record { regs = s.regs; base = s.control.ps.owb; start = start_bits; control = ticked (record s.control { pc = special_of s.control (number.epc 1); ps = record s.control.ps { excm = false } }) }) opened (byte_at m) h.rest
+      stretch_from : (start_bits : ℕ) → Done h.side n start (machine m s) → (h.side ≡ Overflow → start_bits ≡ without_bit before.start (windows_moved h.rest)) → (h.side ≡ Underflow → start_bits ≡ with_bit before.start (windows_moved h.rest))
+          → Stretch h.side n before (record { regs = s.regs; base = s.control.ps.owb; start = start_bits; control = after_tick (record s.control { pc = special_of s.control (number.epc 1); ps = record s.control.ps { excm = false } }) }) opened (byte_at m) h.rest
       stretch_from start_bits d over under = record { changes = changes_from start_bits d; overflow_bit = over; underflow_bit = under; saved = d.saved; loaded = λ e k l. ap (λ x. visible s.regs x k) (sym base_is) ∙ d.loaded e k l }
 
       over_ends : h.side ≡ Overflow → has_effect h.side n h.effect ≡ true → Ended code m s low_now untaken running_now len (without_bit s.start s.base) → Settles h.side (byte_at m) b (state_now code m s) f h.front h.g h.rest
@@ -558,7 +558,7 @@ module _ (code : ℕ → ℕ) (constant : (a : ℕ) → code a < 2 ^ 8) (b : Bou
           let l : Begins Overflow opened b (lost_at h.fresh f) before f h.front h.g h.rest = subst (λ z. Begins z opened b (lost_at h.fresh f) before f h.front h.g h.rest) e h.begins in
           let r : Found Overflow opened b before f h.front h.g h.rest = subst (λ z. Found z opened b before f h.front h.g h.rest) e at_start in
           let kept : (a : ℕ) → is_live b.range f a ≡ true → IsElsewhere n start a → byte_at m a ≡ opened a = λ a live away. h.kept a live (subst (λ z. Untouched z n start a) (sym e) away) in
-          let bits : without_bit s.start s.base ≡ without_bit before.start (moved h.rest) = (let p = h.bits in let q = base_is in rw (p, q) (without_same before.start (moved h.rest))) in
+          let bits : without_bit s.start s.base ≡ without_bit before.start (windows_moved h.rest) = (let p = h.bits in let q = base_is in rw (p, q) (without_same before.start (windows_moved h.rest))) in
           let P : State → Type 0 = λ t. Settles Overflow (byte_at m) b t f h.front h.g h.rest in
           let Q : Side → Type 0 = λ z. Settles z (byte_at m) b (state_now code m s) f h.front h.g h.rest in
           subst Q (sym e) (subst P (sym x.after) (related_lost (epc1_lost h.fresh f) (over_end b (lost_at h.fresh f) before _ f h.front h.g h.rest opened (byte_at m) r l (d.saved e) kept (changes_from (without_bit s.start s.base) d) bits)))
@@ -569,8 +569,8 @@ module _ (code : ℕ → ℕ) (constant : (a : ℕ) → code a < 2 ^ 8) (b : Bou
           let l : Begins Underflow opened b (lost_at h.fresh f) before f h.front h.g h.rest = subst (λ z. Begins z opened b (lost_at h.fresh f) before f h.front h.g h.rest) e h.begins in
           let r : Found Underflow opened b before f h.front h.g h.rest = subst (λ z. Found z opened b before f h.front h.g h.rest) e at_start in
           let kept : (a : ℕ) → is_live b.range f a ≡ true → byte_at m a ≡ opened a = λ a live. h.kept a live (subst (λ z. Untouched z n start a) (sym e) tt) in
-          let bits : with_bit s.start s.base ≡ with_bit before.start (moved h.rest) = (let p = h.bits in let q = base_is in rw (p, q) (with_same before.start (moved h.rest))) in
-          let loaded : (k : ℕ) → k < 4 * n → visible s.regs (moved h.rest % 16) k ≡ word_at opened (address_of start (save_word Underflow n k)) = λ k l. ap (λ x. visible s.regs x k) (sym base_is) ∙ d.loaded e k l in
+          let bits : with_bit s.start s.base ≡ with_bit before.start (windows_moved h.rest) = (let p = h.bits in let q = base_is in rw (p, q) (with_same before.start (windows_moved h.rest))) in
+          let loaded : (k : ℕ) → k < 4 * n → visible s.regs (windows_moved h.rest % 16) k ≡ word_at opened (address_of start (save_word Underflow n k)) = λ k l. ap (λ x. visible s.regs x k) (sym base_is) ∙ d.loaded e k l in
           let P : State → Type 0 = λ t. Settles Underflow (byte_at m) b t f h.front h.g h.rest in
           let Q : Side → Type 0 = λ z. Settles z (byte_at m) b (state_now code m s) f h.front h.g h.rest in
           subst Q (sym e) (subst P (sym x.after) (related_lost (epc1_lost h.fresh f) (under_end b (lost_at h.fresh f) before _ f h.front h.g h.rest opened (byte_at m) r l loaded kept (changes_from (with_bit s.start s.base) d) bits)))
@@ -578,18 +578,18 @@ module _ (code : ℕ → ℕ) (constant : (a : ℕ) → code a < 2 ^ 8) (b : Bou
       over_stretch : h.side ≡ Overflow → has_effect h.side n h.effect ≡ true → Ended code m s low_now untaken running_now len (without_bit s.start s.base) → Stretch h.side n before (state_now code m s) opened (byte_at m) h.rest
       over_stretch e has x =
           let d = done h.side n start h.effect h.flags (machine m s) (let w = h.within in omega arith) h.stands has in
-          let bits : without_bit s.start s.base ≡ without_bit before.start (moved h.rest) = (let p = h.bits in let q = base_is in rw (p, q) (without_same before.start (moved h.rest))) in
+          let bits : without_bit s.start s.base ≡ without_bit before.start (windows_moved h.rest) = (let p = h.bits in let q = base_is in rw (p, q) (without_same before.start (windows_moved h.rest))) in
           let P : State → Type 0 = λ t. Stretch h.side n before t opened (byte_at m) h.rest in
           subst P (sym x.after) (stretch_from (without_bit s.start s.base) d (λ o. bits) (λ u. absurd (two_sides h.side e u)))
 
       under_stretch : h.side ≡ Underflow → has_effect h.side n h.effect ≡ true → Ended code m s low_now untaken running_now len (with_bit s.start s.base) → Stretch h.side n before (state_now code m s) opened (byte_at m) h.rest
       under_stretch e has x =
           let d = done h.side n start h.effect h.flags (machine m s) (let w = h.within in omega arith) h.stands has in
-          let bits : with_bit s.start s.base ≡ with_bit before.start (moved h.rest) = (let p = h.bits in let q = base_is in rw (p, q) (with_same before.start (moved h.rest))) in
+          let bits : with_bit s.start s.base ≡ with_bit before.start (windows_moved h.rest) = (let p = h.bits in let q = base_is in rw (p, q) (with_same before.start (windows_moved h.rest))) in
           let P : State → Type 0 = λ t. Stretch h.side n before t opened (byte_at m) h.rest in
           subst P (sym x.after) (stretch_from (with_bit s.start s.base) d (λ o. absurd (two_sides h.side o e)) (λ u. bits))
 
-      closes_at : (i : Insn) → fetched code s.control.pc ≡ Fetches i len → (planned code s).kind ≡ kind.Insn → ends_stretch i ≡ true → closes code (planned code s).kind s.control.pc ≡ true
+      closes_at : (i : Insn) → fetch_at code s.control.pc ≡ Fetches i len → (planned_turn code s).kind ≡ kind.Insn → ends_stretch i ≡ true → closes code (planned_turn code s).kind s.control.pc ≡ true
       closes_at i at k e = ap (λ k. closes code k s.control.pc) k ∙ (ap fetched_ends at ∙ e)
 
       rfwo_closes : (i : Insn) → i ≡ insn.System (system.Rfe return.Rfwo) → ends_stretch i ≡ true
@@ -600,7 +600,7 @@ module _ (code : ℕ → ℕ) (constant : (a : ℕ) → code a < 2 ^ 8) (b : Bou
       unfolding ends_stretch
       rfwu_closes i e = rw e refl
 
-      ends_by : (side : Side) → h.side ≡ side → (i : Insn) → fetched code s.control.pc ≡ Fetches i len → step_of_insn i ≡ ending_of side → has_effect h.side n h.effect ≡ true → Next
+      ends_by : (side : Side) → h.side ≡ side → (i : Insn) → fetch_at code s.control.pc ≡ Fetches i len → step_of_insn i ≡ ending_of side → has_effect h.side n h.effect ≡ true → Next
       ends_by Overflow e i at is has =
           let same = is_rfwo (shown i) is in
           let x = ends_with_rfwo code m s low_now untaken running_now len (at ∙ ap (λ i. Fetches i len) same) in

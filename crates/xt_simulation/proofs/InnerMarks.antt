@@ -16,7 +16,7 @@ use Rattle.xt_special.specs.declared.ps.Ps.{Ps}
 use Rattle.xt_special.specs.Numbers as number
 use Rattle.xt_special.specs.Control.{Control, special_of, ps_word}
 use Rattle.xt_special.specs.Access.{SpecialWrites, is_ccompare, is_eps, no_set, no_sets, ps_written, set_to, value_kept, value_read, with_sets, written_by}
-use Rattle.xt_special.specs.Timers.{ticked}
+use Rattle.xt_special.specs.Timers.{after_tick}
 use Rattle.xt_special.proofs.Kept.{ticked_other}
 use Rattle.xt_window.specs.Ring.{place, visible}
 use Rattle.xt_trace.specs.declared.record.StepKind.TheVariants as kind
@@ -25,26 +25,26 @@ use Rattle.xt_rows.specs.declared.outcome.Effect.{Effect}
 use Rattle.xt_rows.specs.declared.outcome.Outcome.{Outcome}
 use Rattle.xt_rows.specs.declared.outcome.Outcome.TheVariants.{Does}
 use Rattle.xt_rows.specs.declared.outcome.WindowRegister.{WindowRegister}
-use Rattle.xt_rows.specs.Effects.{exchanges_special, reads_special, unchanged, window_register, write_to, writes_special}
+use Rattle.xt_rows.specs.Effects.{exchanges_special, reads_special, no_change, window_register, write_to, writes_special}
 use Rattle.xt_rows.specs.Kinds.{moved_to}
 use Rattle.xt_rows.specs.Operands.{changes_interrupt, reads, special_reads}
 use Rattle.xt_rows.specs.Outcomes.{outcome, outcome_at, system_outcome, value_of}
-use Rattle.xt_rows.specs.Settling.{Executed, after_effect, written}
-use Rattle.xt_fetch.specs.Fetching.{Fetches, fetched}
+use Rattle.xt_rows.specs.Settling.{Executed, after_effect, write_with_reply}
+use Rattle.xt_fetch.specs.Fetching.{Fetches, fetch_at}
 use Rattle.xt_exec.specs.State.{State}
-use Rattle.xt_exec.specs.Laws.{IsShaped}
-use Rattle.xt_exec.specs.Turn.{done, planned, with_write}
+use Rattle.xt_exec.specs.TurnLaws.{IsShaped}
+use Rattle.xt_exec.specs.Turn.{outcome_turn, planned_turn, with_write}
 use Rattle.xt_frames.specs.declared.holes.Nested.{Nested}
-use Rattle.xt_frames.specs.Frames.{FrameState, known, seen_after_write}
-use Rattle.xt_frames.specs.FrameStep.{FrameTurn, done_in_frame, fetched_step, in_frame, laid}
+use Rattle.xt_frames.specs.Frames.{FrameState, value_or_zero, seen_after_write}
+use Rattle.xt_frames.specs.FrameStep.{FrameTurn, done_in_frame, fetched_step, in_frame, with_inputs}
 use Rattle.xt_frames.specs.Marks.{holds_marks, mark_read, marked_seen, marked_write, marks_after, moves_marks}
-use Rattle.xt_frames.specs.Nesting.{ends_nested, inside, nested_insn}
+use Rattle.xt_frames.specs.Nesting.{ends_nested, nested_view, nested_insn}
 use Rattle.xt_frames.specs.Breaches.{Bounds, is_sp, is_unset, lacks, lost_of, may_write_sp, reads_no_mark, reads_none_in, writes_sp}
 use Rattle.xt_frames.specs.Judging.{value_in}
 use Rattle.xt_frames.proofs.Shown.{Sound}
 use Rattle.xt_simulation.specs.Relation.{Even, Same, can_be_lost, inputs}
 use Rattle.xt_simulation.specs.Steps.{record_now, reply_now, state_now}
-use Rattle.xt_simulation.specs.Nested.{IsInside, IsSpare, marked}
+use Rattle.xt_simulation.specs.Nested.{IsInside, IsSpare, marked_value}
 use Rattle.xt_simulation.proofs.Evenly.{even_ticked, lost_in}
 use Rattle.xt_simulation.proofs.Inner.{Inner, laid_excm}
 use Rattle.xt_simulation.proofs.Laid.{even_laid, laid_other}
@@ -107,7 +107,7 @@ module _ (n : ℕ) (holds : holds_marks n ≡ true) where
 
 -- ---- the three rows
 abbrev pub moving : Option RegWrite → SpecialWrites → Control → Effect
-moving w sets c = record (unchanged c.ps c.threadptr) { write = w; sets = sets }
+moving w sets c = record (no_change c.ps c.threadptr) { write = w; sets = sets }
 
 abbrev pub sets_one : ℕ → ℕ → SpecialWrites
 sets_one n v = (set_to n v, no_set, no_set)
@@ -116,25 +116,25 @@ module _ (code : ℕ → ℕ) (t n : ℕ) (holds : holds_marks n ≡ true) (regs
   rsr_is : outcome_at code (insn.System (system.Rsr SpecialName.Rsr t n)) regs c ≡ Does (moving (write_to t (special_of c n)) no_sets c)
   unfolding outcome system_outcome reads special_reads
   rsr_is =
-      ap (λ (w : Option WindowRegister). reads_special w t n (special_of c n) (unchanged c.ps c.threadptr)) (no_window n holds)
+      ap (λ (w : Option WindowRegister). reads_special w t n (special_of c n) (no_change c.ps c.threadptr)) (no_window n holds)
       ∙ ap (λ v. Does (moving (write_to t v) no_sets c)) (read_whole n holds (special_of c n) c.ps)
 
   wsr_is : outcome_at code (insn.System (system.Rsr SpecialName.Wsr t n)) regs c ≡ Does (moving None (sets_one n (regs t)) c)
   unfolding outcome system_outcome reads special_reads
   wsr_is =
       let v : ℕ = value_of (special_of c) (changes_interrupt n) in
-      ap (λ (w : Option WindowRegister). writes_special w n (regs t) v (unchanged c.ps c.threadptr)) (no_window n holds)
-      ∙ (ap (λ z. (let e : Effect = record (unchanged c.ps c.threadptr) { sets = z; ps = ps_written n (regs t) c.ps } in Does e)) (written_whole n holds (regs t) v)
-      ∙ ap (λ p. (let e : Effect = record (unchanged c.ps c.threadptr) { sets = sets_one n (regs t); ps = p } in Does e)) (ps_whole n holds (regs t) c.ps))
+      ap (λ (w : Option WindowRegister). writes_special w n (regs t) v (no_change c.ps c.threadptr)) (no_window n holds)
+      ∙ (ap (λ z. (let e : Effect = record (no_change c.ps c.threadptr) { sets = z; ps = ps_written n (regs t) c.ps } in Does e)) (written_whole n holds (regs t) v)
+      ∙ ap (λ p. (let e : Effect = record (no_change c.ps c.threadptr) { sets = sets_one n (regs t); ps = p } in Does e)) (ps_whole n holds (regs t) c.ps))
 
   xsr_is : outcome_at code (insn.System (system.Rsr SpecialName.Xsr t n)) regs c ≡ Does (moving (write_to t (special_of c n)) (sets_one n (regs t)) c)
   unfolding outcome system_outcome reads special_reads
   xsr_is =
       let v : ℕ = value_of (special_of c) (changes_interrupt n) in
       let u : ℕ = special_of c n in
-      ap (λ (w : Option WindowRegister). exchanges_special w t n (regs t) u v (unchanged c.ps c.threadptr)) (no_window n holds)
-      ∙ (ap (λ z. (let e : Effect = record (unchanged c.ps c.threadptr) { write = write_to t (value_read n u c.ps); sets = z; ps = ps_written n (regs t) c.ps } in Does e)) (written_whole n holds (regs t) v)
-      ∙ (ap (λ p. (let e : Effect = record (unchanged c.ps c.threadptr) { write = write_to t (value_read n u c.ps); sets = sets_one n (regs t); ps = p } in Does e)) (ps_whole n holds (regs t) c.ps)
+      ap (λ (w : Option WindowRegister). exchanges_special w t n (regs t) u v (no_change c.ps c.threadptr)) (no_window n holds)
+      ∙ (ap (λ z. (let e : Effect = record (no_change c.ps c.threadptr) { write = write_to t (value_read n u c.ps); sets = z; ps = ps_written n (regs t) c.ps } in Does e)) (written_whole n holds (regs t) v)
+      ∙ (ap (λ p. (let e : Effect = record (no_change c.ps c.threadptr) { write = write_to t (value_read n u c.ps); sets = sets_one n (regs t); ps = p } in Does e)) (ps_whole n holds (regs t) c.ps)
       ∙ ap (λ z. Does (moving (write_to t z) (sets_one n (regs t)) c)) (read_whole n holds u c.ps)))
 
 -- ---- what such a row leaves: in exception mode no loop goes back
@@ -150,29 +150,29 @@ regs_after None s = s.regs
 regs_after (Some w) s = set s.regs (place s.base w.reg) w.value
 
 abbrev moved_state : Option RegWrite → SpecialWrites → ℕ → State → State
-moved_state w sets len s = record { regs = regs_after w s; base = s.base; start = s.start; control = ticked (moved_on sets len s.control) }
+moved_state w sets len s = record { regs = regs_after w s; base = s.base; start = s.start; control = after_tick (moved_on sets len s.control) }
 
 with_write_is : (w : Option RegWrite) (s : State) (c : Control) → with_write w (record s { control = c }) ≡ record { regs = regs_after w s; base = s.base; start = s.start; control = c }
 with_write_is None s c = refl
 with_write_is (Some w) s c = refl
 
-module _ (code : ℕ → ℕ) (m : MemoryContents) (s : State) (len : ℕ) (w : Option RegWrite) (sets : SpecialWrites) (plan : planned code s ≡ done (Does (moving w sets s.control)) len s) where
+module _ (code : ℕ → ℕ) (m : MemoryContents) (s : State) (len : ℕ) (w : Option RegWrite) (sets : SpecialWrites) (plan : planned_turn code s ≡ outcome_turn (Does (moving w sets s.control)) len s) where
   state_is : s.control.ps.excm ≡ true → state_now code m s ≡ moved_state w sets len s
   state_is e =
-      plan_state code s (done (Does (moving w sets s.control)) len s) plan (reply_now code m s)
-      ∙ (with_write_is w s (ticked (after_effect (moving w sets s.control) len s.control))
-      ∙ ap (λ (c : Control). (let t : State = record { regs = regs_after w s; base = s.base; start = s.start; control = ticked c } in t)) (effect_is w sets len s.control e))
+      plan_state code s (outcome_turn (Does (moving w sets s.control)) len s) plan (reply_now code m s)
+      ∙ (with_write_is w s (after_tick (after_effect (moving w sets s.control) len s.control))
+      ∙ ap (λ (c : Control). (let t : State = record { regs = regs_after w s; base = s.base; start = s.start; control = after_tick c } in t)) (effect_is w sets len s.control e))
 
   write_is : (record_now code m s).write ≡ w
-  write_is = plan_write code s (done (Does (moving w sets s.control)) len s) plan (reply_now code m s)
+  write_is = plan_write code s (outcome_turn (Does (moving w sets s.control)) len s) plan (reply_now code m s)
 
 abbrev moved_frame : Option RegWrite → SpecialWrites → ℕ → ℕ → FrameState → FrameTurn
-moved_frame w sets len reply g = in_frame (record { kind = Executed; write = w; access = None; awaited = None; control = ticked (moved_on sets len g.control) }) reply g
+moved_frame w sets len reply g = in_frame (record { kind = Executed; write = w; access = None; awaited = None; control = after_tick (moved_on sets len g.control) }) reply g
 
 frame_is : (o : Outcome) (w : Option RegWrite) (sets : SpecialWrites) (len reply : ℕ) (g : FrameState) → o ≡ Does (moving w sets g.control) → g.control.ps.excm ≡ true → done_in_frame o len reply g ≡ moved_frame w sets len reply g
 frame_is o w sets len reply g is e =
     ap (λ o. done_in_frame o len reply g) is
-    ∙ ap (λ (c : Control). in_frame (record { kind = Executed; write = w; access = None; awaited = None; control = ticked c }) reply g) (effect_is w sets len g.control e)
+    ∙ ap (λ (c : Control). in_frame (record { kind = Executed; write = w; access = None; awaited = None; control = after_tick c }) reply g) (effect_is w sets len g.control e)
 
 -- ---- special registers
 -- what holds of them in a nested interrupt
@@ -180,7 +180,7 @@ pub record InSpecials (suspended : State) (xs ys : List ℕ) (unset : List Bool)
   pub size : length xs ≡ 256
   pub count : length unset ≡ 256
   pub same : Same (lost_in false unset) xs ys
-  pub stored : (n k : ℕ) → get_or saved n None ≡ Some k → (get_or xs n 0 ≡ marked suspended k) × (get_or unset n false ≡ true)
+  pub stored : (n k : ℕ) → get_or saved n None ≡ Some k → (get_or xs n 0 ≡ marked_value suspended k) × (get_or unset n false ≡ true)
 
 set_mark : (saved : List (Option ℕ)) (n k : ℕ) (mark : Option ℕ) → get_or (set saved n mark) n None ≡ Some k → mark ≡ Some k
 set_mark saved n k mark e = ⊎_elim
@@ -190,7 +190,7 @@ set_mark saved n k mark e = ⊎_elim
 
 -- one is written: with a mark, or with an equal value
 module _ {suspended : State} {xs ys : List ℕ} {unset : List Bool} {saved : List (Option ℕ)} (r : InSpecials suspended xs ys unset saved)
-    (n : ℕ) (holds : holds_marks n ≡ true) (v w : ℕ) (mark : Option ℕ) (equal : is_some mark ≡ false → v ≡ w) (means : (k : ℕ) → mark ≡ Some k → v ≡ marked suspended k) where
+    (n : ℕ) (holds : holds_marks n ≡ true) (v w : ℕ) (mark : Option ℕ) (equal : is_some mark ≡ false → v ≡ w) (means : (k : ℕ) → mark ≡ Some k → v ≡ marked_value suspended k) where
   lost_other : (k : ℕ) → k ≢ n → lost_in false (set unset n (is_some mark)) k ≡ lost_in false unset k
   lost_other k other = ap (λ b. lost_of false k || b) (get_or-set_other unset n k (is_some mark) false other)
 
@@ -198,11 +198,11 @@ module _ {suspended : State} {xs ys : List ℕ} {unset : List Bool} {saved : Lis
   unset_at = get_or-set_same unset n (is_some mark) false (let c = r.count in let b = mark_below n holds in omega arith)
 
   equal_at : lost_in false (set unset n (is_some mark)) n ≡ false → get_or (set xs n v) n 0 ≡ get_or (set ys n w) n 0
-  equal_at known =
+  equal_at value_or_zero =
       let b = mark_below n holds in
       let x = r.size in
       let y = r.same.size in
-      let lose : is_some mark ≡ false = sym unset_at ∙ (or_parts (lost_of false n) (get_or (set unset n (is_some mark)) n false) known).1 in
+      let lose : is_some mark ≡ false = sym unset_at ∙ (or_parts (lost_of false n) (get_or (set unset n (is_some mark)) n false) value_or_zero).1 in
       get_or-set_same xs n v 0 (omega arith) ∙ (equal lose ∙ sym (get_or-set_same ys n w 0 (omega arith)))
 
   same_moved : Same (lost_in false (set unset n (is_some mark))) (set xs n v) (set ys n w)
@@ -212,13 +212,13 @@ module _ {suspended : State} {xs ys : List ℕ} {unset : List Bool} {saved : Lis
         (λ e. subst (λ j. can_be_lost j ≡ true) (sym e) (mark_can_be_lost n holds))
         (λ other. r.same.only k (sym (lost_other k other) ∙ lost))
         (cases_eq k n);
-    at = λ k known. ⊎_elim
-        (λ e. subst (λ j. get_or (set xs n v) j 0 ≡ get_or (set ys n w) j 0) (sym e) (equal_at (subst (λ j. lost_in false (set unset n (is_some mark)) j ≡ false) e known)))
-        (λ other. get_or-set_other xs n k v 0 other ∙ (r.same.at k (sym (lost_other k other) ∙ known) ∙ sym (get_or-set_other ys n k w 0 other)))
+    at = λ k value_or_zero. ⊎_elim
+        (λ e. subst (λ j. get_or (set xs n v) j 0 ≡ get_or (set ys n w) j 0) (sym e) (equal_at (subst (λ j. lost_in false (set unset n (is_some mark)) j ≡ false) e value_or_zero)))
+        (λ other. get_or-set_other xs n k v 0 other ∙ (r.same.at k (sym (lost_other k other) ∙ value_or_zero) ∙ sym (get_or-set_other ys n k w 0 other)))
         (cases_eq k n);
   }
 
-  stored_at : (k : ℕ) → mark ≡ Some k → (get_or (set xs n v) n 0 ≡ marked suspended k) × (get_or (set unset n (is_some mark)) n false ≡ true)
+  stored_at : (k : ℕ) → mark ≡ Some k → (get_or (set xs n v) n 0 ≡ marked_value suspended k) × (get_or (set unset n (is_some mark)) n false ≡ true)
   stored_at k is =
       let b = mark_below n holds in
       let x = r.size in
@@ -232,7 +232,7 @@ module _ {suspended : State} {xs ys : List ℕ} {unset : List Bool} {saved : Lis
     stored = λ j k at. ⊎_elim
         (λ e.
         let here : mark ≡ Some k = set_mark saved n k mark (subst (λ i. get_or (set saved n mark) i None ≡ Some k) e at) in
-        subst (λ i. (get_or (set xs n v) i 0 ≡ marked suspended k) × (get_or (set unset n (is_some mark)) i false ≡ true)) (sym e) (stored_at k here))
+        subst (λ i. (get_or (set xs n v) i 0 ≡ marked_value suspended k) × (get_or (set unset n (is_some mark)) i false ≡ true)) (sym e) (stored_at k here))
         (λ other.
         let old = r.stored j k (sym (get_or-set_other saved n j mark None other) ∙ at) in
         (get_or-set_other xs n j v 0 other ∙ old.0, get_or-set_other unset n j (is_some mark) false other ∙ old.1))
@@ -256,7 +256,7 @@ pub record InRegisters (suspended : State) (base : ℕ) (regs : List ℕ) (seen 
   pub spread : length held ≡ 16
   pub others : (p : ℕ) → (IsSpare base p → ⊥) → get_or regs p 0 ≡ get_or suspended.regs p 0
   pub numbers : (i v : ℕ) → get_or seen i None ≡ Some v → visible regs base i ≡ v
-  pub marks : (i k : ℕ) → get_or held i None ≡ Some k → (visible regs base i ≡ marked suspended k) × (get_or seen i None ≡ None)
+  pub marks : (i k : ℕ) → get_or held i None ≡ Some k → (visible regs base i ≡ marked_value suspended k) × (get_or seen i None ≡ None)
 
 abbrev IsWritable : ℕ → Type 0
 IsWritable t = (t < 4) × (t ≢ 1)
@@ -296,7 +296,7 @@ module _ {suspended : State} {base : ℕ} {regs : List ℕ} {seen held : List (O
     spread = length-set held t None ∙ r.spread;
     others = others_after;
     numbers = λ i u at. written_numbers regs seen base t v all r.wide small r.numbers i u (subst (λ z. get_or (set seen t (Some z)) i None ≡ Some u) (sym same) at);
-    marks = λ i k at. written_marks regs seen held base t v w (marked suspended) r.spread small r.marks i k at;
+    marks = λ i k at. written_marks regs seen held base t v w (marked_value suspended) r.spread small r.marks i k at;
   }
 
   -- with a mark
@@ -306,7 +306,7 @@ module _ {suspended : State} {base : ℕ} {regs : List ℕ} {seen held : List (O
   seen_other : (i : ℕ) → i ≢ t → get_or (set (set seen t (Some w)) t None) i None ≡ get_or seen i None
   seen_other i other = get_or-set_other (set seen t (Some w)) t i None None other ∙ get_or-set_other seen t i (Some w) None other
 
-  registers_marked : (mark : ℕ) → v ≡ marked suspended mark → InRegisters suspended base (set regs (place base t) v) (set (set seen t (Some w)) t None) (set held t (Some mark))
+  registers_marked : (mark : ℕ) → v ≡ marked_value suspended mark → InRegisters suspended base (set regs (place base t) v) (set (set seen t (Some w)) t None) (set held t (Some mark))
   registers_marked mark means = record {
     size = length-set regs (place base t) v ∙ r.size;
     wide = length-set (set seen t (Some w)) t None ∙ (length-set seen t (Some w) ∙ r.wide);
@@ -321,7 +321,7 @@ module _ {suspended : State} {base : ℕ} {regs : List ℕ} {seen held : List (O
     marks = λ i k at. ⊎_elim
         (λ e.
         let same : mark ≡ k = same_Some mark k (sym (held_at (Some mark)) ∙ subst (λ j. get_or (set held t (Some mark)) j None ≡ Some k) e at) in
-        subst (λ j. (visible (set regs (place base t) v) base j ≡ marked suspended k) × (get_or (set (set seen t (Some w)) t None) j None ≡ None)) (sym e) (here ∙ (means ∙ ap (marked suspended) same), emptied))
+        subst (λ j. (visible (set regs (place base t) v) base j ≡ marked_value suspended k) × (get_or (set (set seen t (Some w)) t None) j None ≡ None)) (sym e) (here ∙ (means ∙ ap (marked_value suspended) same), emptied))
         (λ other.
         let old : get_or held i None ≡ Some k = sym (get_or-set_other held t i (Some mark) None other) ∙ at in
         let was = r.marks i k old in
@@ -330,7 +330,7 @@ module _ {suspended : State} {base : ℕ} {regs : List ℕ} {seen held : List (O
   }
 
   -- with what was read: a mark, or an equal value
-  registers_moved : (mark : Option ℕ) → (mark ≡ None → v ≡ w) → ((k : ℕ) → mark ≡ Some k → v ≡ marked suspended k)
+  registers_moved : (mark : Option ℕ) → (mark ≡ None → v ≡ w) → ((k : ℕ) → mark ≡ Some k → v ≡ marked_value suspended k)
       → InRegisters suspended base (set regs (place base t) v) (marked_seen mark (write_to t w) (set seen t (Some w))) (marks_after mark (write_to t w) held)
   registers_moved None equal means = registers_written (equal refl)
   registers_moved (Some k) equal means = registers_marked k (means k refl)
@@ -351,14 +351,14 @@ next_frame c unset x f = record {
 -- the frame machine's: it reads this mark, or none
 abbrev moved_nested : Option ℕ → Option RegWrite → SpecialWrites → List (Option ℕ) → ℕ → Nested → FrameState → Nested
 moved_nested mark w sets saved len x g =
-    next_nested (ticked (moved_on sets len g.control)) (marked_seen mark w (seen_after_write w x.seen)) (marks_after mark w x.marks) saved
+    next_nested (after_tick (moved_on sets len g.control)) (marked_seen mark w (seen_after_write w x.seen)) (marks_after mark w x.marks) saved
 
 abbrev moved_turn : Option ℕ → ℕ → Option RegWrite → SpecialWrites → List Bool → List (Option ℕ) → ℕ → Nested → FrameState → FrameState → FrameTurn
 moved_turn mark value w sets unset saved len x f g = record {
   kind = kind.Insn;
   write = marked_write mark value w;
   access = None;
-  after = next_frame (ticked (moved_on sets len g.control)) unset (moved_nested mark w sets saved len x g) f;
+  after = next_frame (after_tick (moved_on sets len g.control)) unset (moved_nested mark w sets saved len x g) f;
 }
 
 -- the record's write: where a mark is read, its value is an input
@@ -369,7 +369,7 @@ write_alike (Some k) t a c o is equal = subst (λ p. p ≡ marked_write (Some k)
 module _ (code : ℕ → ℕ) (b : Bounds) (m : MemoryContents) (s : State) (f : FrameState) (suspended : State) (x : Nested) (h : IsInside suspended s f x) (shaped : IsShaped s)
     (count : length f.unset ≡ 256) (spread : length x.marks ≡ 16) (len reply : ℕ) where
   abbrev g : FrameState
-  g = laid (inputs 0 s) (inside x f)
+  g = with_inputs (inputs 0 s) (nested_view x f)
 
   specials_now : InSpecials suspended s.control.special g.control.special f.unset x.saved
   specials_now = record { size = shaped.control.count; count = count; same = h.even.special; stored = h.saved }
@@ -381,15 +381,15 @@ module _ (code : ℕ → ℕ) (b : Bounds) (m : MemoryContents) (s : State) (f :
   framed_other k a c = laid_other f.control.special (special_of s.control 234) (special_of s.control 226) k a c
 
   module _ (w v : Option RegWrite) (sets framed : SpecialWrites) (mark : Option ℕ) (unset : List Bool) (saved : List (Option ℕ))
-      (plan : planned code s ≡ done (Does (moving w sets s.control)) len s)
+      (plan : planned_turn code s ≡ outcome_turn (Does (moving w sets s.control)) len s)
       (registers : InRegisters suspended s.base (regs_after w s) (marked_seen mark v (seen_after_write v x.seen)) (marks_after mark v x.marks))
       (specials : InSpecials suspended (with_sets sets s.control.special) (with_sets framed g.control.special) unset saved)
       (spares : SparesOthers sets) (spares_framed : SparesOthers framed) where
     abbrev c : Control
-    c = ticked (moved_on sets len s.control)
+    c = after_tick (moved_on sets len s.control)
 
     abbrev d : Control
-    d = ticked (moved_on framed len g.control)
+    d = after_tick (moved_on framed len g.control)
 
     abbrev y : Nested
     y = moved_nested mark v framed saved len x g
@@ -412,7 +412,7 @@ module _ (code : ℕ → ℕ) (b : Bounds) (m : MemoryContents) (s : State) (f :
       special = specials.same;
     })
 
-    stored_after : (n k : ℕ) → get_or saved n None ≡ Some k → (get_or c.special n 0 ≡ marked suspended k) × (get_or unset n false ≡ true)
+    stored_after : (n k : ℕ) → get_or saved n None ≡ Some k → (get_or c.special n 0 ≡ marked_value suspended k) × (get_or unset n false ≡ true)
     stored_after n k at =
         let now = specials.stored n k at in
         let is = can_saved n (specials.same.only n (or_right (lost_of false n) (get_or unset n false) now.1)) in
@@ -420,7 +420,7 @@ module _ (code : ℕ → ℕ) (b : Bounds) (m : MemoryContents) (s : State) (f :
 
     inside_moved : IsInside suspended (moved_state w sets len s) u y
     inside_moved = record {
-      even = even_laid (moved_state w sets len s) (inside y u) even_moved;
+      even = even_laid (moved_state w sets len s) (nested_view y u) even_moved;
       level = h.level;
       mode = h.mode;
       running = refl;
@@ -452,13 +452,13 @@ module _ (code : ℕ → ℕ) (b : Bounds) (m : MemoryContents) (s : State) (f :
           frames = refl;
           pc = refl;
           ps = refl;
-          kind = plan_kind code s (done (Does (moving w sets s.control)) len s) plan (reply_now code m s);
+          kind = plan_kind code s (outcome_turn (Does (moving w sets s.control)) len s) plan (reply_now code m s);
           write = write;
-          access = plan_access code s (done (Does (moving w sets s.control)) len s) plan (reply_now code m s);
+          access = plan_access code s (outcome_turn (Does (moving w sets s.control)) len s) plan (reply_now code m s);
         }
 
   -- ---- what the row reads: a mark, or the core's value
-  read_register : (t : ℕ) → (lacks x.seen (Some t) && lacks x.marks (Some t)) ≡ false → is_some (get_or x.marks t None) ≡ false → visible s.regs s.base t ≡ known x.seen t
+  read_register : (t : ℕ) → (lacks x.seen (Some t) && lacks x.marks (Some t)) ≡ false → is_some (get_or x.marks t None) ≡ false → visible s.regs s.base t ≡ value_or_zero x.seen t
   read_register t told none = ⊎_elim
       (λ e.
       let v = some_value (get_or x.seen t None) e in
@@ -474,11 +474,11 @@ module _ (code : ℕ → ℕ) (b : Bounds) (m : MemoryContents) (s : State) (f :
 
   -- ---- the whole step
   abbrev IsPlanned : Insn → Type 0
-  IsPlanned i = planned code s ≡ done (outcome_at code i (visible s.regs s.base) s.control) len s
+  IsPlanned i = planned_turn code s ≡ outcome_turn (outcome_at code i (visible s.regs s.base) s.control) len s
 
   -- the frame machine executes the instruction on the state inside
   abbrev laid_turn : Insn → FrameTurn
-  laid_turn i = done_in_frame (outcome_at code i (known x.seen) g.control) len reply g
+  laid_turn i = done_in_frame (outcome_at code i (value_or_zero x.seen) g.control) len reply g
 
   -- what is left of it, where the record's write is an input
   abbrev IsLeft : Insn → Type 0
@@ -487,7 +487,7 @@ module _ (code : ℕ → ℕ) (b : Bounds) (m : MemoryContents) (s : State) (f :
   closing : (i : Insn) (w v : Option RegWrite) (sets framed : SpecialWrites) (mark : Option ℕ) (unset : List Bool) (saved : List (Option ℕ))
       → IsPlanned i → special_of (laid_turn i).after.control number.vecbase ≡ b.vecbase
       → outcome_at code i (visible s.regs s.base) s.control ≡ Does (moving w sets s.control)
-      → outcome_at code i (known x.seen) g.control ≡ Does (moving v framed g.control)
+      → outcome_at code i (value_or_zero x.seen) g.control ≡ Does (moving v framed g.control)
       → ((value : ℕ) → nested_insn i value x f (moved_frame v framed len reply g) ≡ moved_turn mark value v framed unset saved len x f g)
       → InRegisters suspended s.base (regs_after w s) (marked_seen mark v (seen_after_write v x.seen)) (marks_after mark v x.marks)
       → InSpecials suspended (with_sets sets s.control.special) (with_sets framed g.control.special) unset saved
@@ -495,8 +495,8 @@ module _ (code : ℕ → ℕ) (b : Bounds) (m : MemoryContents) (s : State) (f :
       → ((o : Option RegWrite) → o ≡ w → o ≡ marked_write mark (value_in o) v)
       → IsLeft i
   closing i w v sets framed mark unset saved plan vectors does does_framed nested registers specials spares spares_framed write =
-      let plan_is : planned code s ≡ done (Does (moving w sets s.control)) len s = plan ∙ ap (λ o. done o len s) does in
-      let turn_is : laid_turn i ≡ moved_frame v framed len reply g = frame_is (outcome_at code i (known x.seen) g.control) v framed len reply g does_framed (laid_excm h) in
+      let plan_is : planned_turn code s ≡ outcome_turn (Does (moving w sets s.control)) len s = plan ∙ ap (λ o. outcome_turn o len s) does in
+      let turn_is : laid_turn i ≡ moved_frame v framed len reply g = frame_is (outcome_at code i (value_or_zero x.seen) g.control) v framed len reply g does_framed (laid_excm h) in
       let value : ℕ = value_in (record_now code m s).write in
       subst (λ u. Inner code b m s f suspended u) (sym (ap (λ u. nested_insn i value x f u) turn_is ∙ nested value))
       (inner_moved w v sets framed mark unset saved plan_is registers specials spares spares_framed
@@ -516,64 +516,64 @@ module _ (code : ℕ → ℕ) (b : Bounds) (m : MemoryContents) (s : State) (f :
         registers_moved registers_now shaped.count t writable (special_of s.control n) (special_of g.control n) read_mark (read_special n holds told) (λ k e. (h.saved n k e).0)
 
     specials_set : (lacks x.seen (Some t) && lacks x.marks (Some t)) ≡ false
-        → InSpecials suspended (set s.control.special n (visible s.regs s.base t)) (set g.control.special n (known x.seen t)) (set f.unset n (is_some moved_mark)) (set x.saved n moved_mark)
+        → InSpecials suspended (set s.control.special n (visible s.regs s.base t)) (set g.control.special n (value_or_zero x.seen t)) (set f.unset n (is_some moved_mark)) (set x.saved n moved_mark)
     specials_set told =
-        specials_moved specials_now n holds (visible s.regs s.base t) (known x.seen t) moved_mark (read_register t told) (λ k e. (h.marks t k e).0)
+        specials_moved specials_now n holds (visible s.regs s.base t) (value_or_zero x.seen t) moved_mark (read_register t told) (λ k e. (h.marks t k e).0)
 
     rsr_inside : (let i = insn.System (system.Rsr SpecialName.Rsr t n) in
-        IsWritable t → reads_no_mark i x (inside x f) ≡ false → IsPlanned i → special_of (laid_turn i).after.control number.vecbase ≡ b.vecbase → IsLeft i)
+        IsWritable t → reads_no_mark i x (nested_view x f) ≡ false → IsPlanned i → special_of (laid_turn i).after.control number.vecbase ≡ b.vecbase → IsLeft i)
     unfolding reads special_reads ends_nested mark_read moved_to
     rsr_inside writable told plan vectors =
         let parts = or_parts (lacks x.seen None && lacks x.marks None) (is_unset f.unset (Some n) && lacks x.saved (Some n)) told in
         closing (insn.System (system.Rsr SpecialName.Rsr t n)) (write_to t (special_of s.control n)) (write_to t (special_of g.control n)) no_sets no_sets read_mark f.unset x.saved
-        plan vectors (rsr_is code t n holds (visible s.regs s.base) s.control) (rsr_is code t n holds (known x.seen) g.control) (λ value. refl)
+        plan vectors (rsr_is code t n holds (visible s.regs s.base) s.control) (rsr_is code t n holds (value_or_zero x.seen) g.control) (λ value. refl)
         (registers_read writable parts.1) specials_now none_spares none_spares
         (λ o is. write_alike read_mark t (special_of s.control n) (special_of g.control n) o is (read_special n holds parts.1))
 
     wsr_inside : (let i = insn.System (system.Rsr SpecialName.Wsr t n) in
-        reads_no_mark i x (inside x f) ≡ false → IsPlanned i → special_of (laid_turn i).after.control number.vecbase ≡ b.vecbase → IsLeft i)
+        reads_no_mark i x (nested_view x f) ≡ false → IsPlanned i → special_of (laid_turn i).after.control number.vecbase ≡ b.vecbase → IsLeft i)
     unfolding reads special_reads ends_nested mark_read moved_to
     wsr_inside told plan vectors =
         let parts = or_parts (lacks x.seen (Some t) && lacks x.marks (Some t)) (is_unset f.unset None && lacks x.saved None) told in
-        closing (insn.System (system.Rsr SpecialName.Wsr t n)) None None (sets_one n (visible s.regs s.base t)) (sets_one n (known x.seen t)) None (set f.unset n (is_some moved_mark)) (set x.saved n moved_mark)
-        plan vectors (wsr_is code t n holds (visible s.regs s.base) s.control) (wsr_is code t n holds (known x.seen) g.control) (λ value. refl)
-        registers_now (specials_set parts.0) (one_spares n (visible s.regs s.base t) holds) (one_spares n (known x.seen t) holds)
+        closing (insn.System (system.Rsr SpecialName.Wsr t n)) None None (sets_one n (visible s.regs s.base t)) (sets_one n (value_or_zero x.seen t)) None (set f.unset n (is_some moved_mark)) (set x.saved n moved_mark)
+        plan vectors (wsr_is code t n holds (visible s.regs s.base) s.control) (wsr_is code t n holds (value_or_zero x.seen) g.control) (λ value. refl)
+        registers_now (specials_set parts.0) (one_spares n (visible s.regs s.base t) holds) (one_spares n (value_or_zero x.seen t) holds)
         (λ o is. is)
 
     xsr_inside : (let i = insn.System (system.Rsr SpecialName.Xsr t n) in
-        IsWritable t → reads_no_mark i x (inside x f) ≡ false → IsPlanned i → special_of (laid_turn i).after.control number.vecbase ≡ b.vecbase → IsLeft i)
+        IsWritable t → reads_no_mark i x (nested_view x f) ≡ false → IsPlanned i → special_of (laid_turn i).after.control number.vecbase ≡ b.vecbase → IsLeft i)
     unfolding reads special_reads ends_nested mark_read moved_to
     xsr_inside writable told plan vectors =
         let parts = or_parts (lacks x.seen (Some t) && lacks x.marks (Some t)) (is_unset f.unset (Some n) && lacks x.saved (Some n)) told in
-        closing (insn.System (system.Rsr SpecialName.Xsr t n)) (write_to t (special_of s.control n)) (write_to t (special_of g.control n)) (sets_one n (visible s.regs s.base t)) (sets_one n (known x.seen t)) read_mark (set f.unset n (is_some moved_mark)) (set x.saved n moved_mark)
-        plan vectors (xsr_is code t n holds (visible s.regs s.base) s.control) (xsr_is code t n holds (known x.seen) g.control) (λ value. refl)
-        (registers_read writable parts.1) (specials_set parts.0) (one_spares n (visible s.regs s.base t) holds) (one_spares n (known x.seen t) holds)
+        closing (insn.System (system.Rsr SpecialName.Xsr t n)) (write_to t (special_of s.control n)) (write_to t (special_of g.control n)) (sets_one n (visible s.regs s.base t)) (sets_one n (value_or_zero x.seen t)) read_mark (set f.unset n (is_some moved_mark)) (set x.saved n moved_mark)
+        plan vectors (xsr_is code t n holds (visible s.regs s.base) s.control) (xsr_is code t n holds (value_or_zero x.seen) g.control) (λ value. refl)
+        (registers_read writable parts.1) (specials_set parts.0) (one_spares n (visible s.regs s.base t) holds) (one_spares n (value_or_zero x.seen t) holds)
         (λ o is. write_alike read_mark t (special_of s.control n) (special_of g.control n) o is (read_special n holds parts.1))
 
   -- RSR and XSR write no a1
   writable_by : (t v : ℕ) (i : Insn) → t < 4 → may_write_sp i ≡ false → (shown : Option RegWrite) → writes_sp i (record_now code m s).write shown ≡ false → (record_now code m s).write ≡ write_to t v → IsWritable t
-  writable_by t v i low none shown written is =
-      let one : (is_sp (record_now code m s).write || is_sp shown) ≡ false = ap (λ y. not y && (is_sp (record_now code m s).write || is_sp shown)) (sym none) ∙ written in
+  writable_by t v i low none shown write_with_reply is =
+      let one : (is_sp (record_now code m s).write || is_sp shown) ≡ false = ap (λ y. not y && (is_sp (record_now code m s).write || is_sp shown)) (sym none) ∙ write_with_reply in
       let sp : eqb t 1 ≡ false = ap is_sp (sym is) ∙ (or_parts (is_sp (record_now code m s).write) (is_sp shown) one).0 in
       (low, eqb-false t 1 sp)
 
-  marks_inside : (i : Insn) → moves_marks i ≡ true → reads_no_mark i x (inside x f) ≡ false → (shown : Option RegWrite) → writes_sp i (record_now code m s).write shown ≡ false
+  marks_inside : (i : Insn) → moves_marks i ≡ true → reads_no_mark i x (nested_view x f) ≡ false → (shown : Option RegWrite) → writes_sp i (record_now code m s).write shown ≡ false
       → IsPlanned i → special_of (laid_turn i).after.control number.vecbase ≡ b.vecbase → IsLeft i
   unfolding moves_marks may_write_sp
-  marks_inside (insn.System (system.Rsr SpecialName.Rsr t n)) moves told shown written plan vectors =
+  marks_inside (insn.System (system.Rsr SpecialName.Rsr t n)) moves told shown write_with_reply plan vectors =
       let both = and_parts (ltb t 4) (holds_marks n) moves in
       let low = ltb-true t 4 both.0 in
-      let is = write_is code m s len (write_to t (special_of s.control n)) no_sets (plan ∙ ap (λ o. done o len s) (rsr_is code t n both.1 (visible s.regs s.base) s.control)) in
-      rsr_inside t n low both.1 (writable_by t (special_of s.control n) (insn.System (system.Rsr SpecialName.Rsr t n)) low refl shown written is) told plan vectors
-  marks_inside (insn.System (system.Rsr SpecialName.Wsr t n)) moves told shown written plan vectors =
+      let is = write_is code m s len (write_to t (special_of s.control n)) no_sets (plan ∙ ap (λ o. outcome_turn o len s) (rsr_is code t n both.1 (visible s.regs s.base) s.control)) in
+      rsr_inside t n low both.1 (writable_by t (special_of s.control n) (insn.System (system.Rsr SpecialName.Rsr t n)) low refl shown write_with_reply is) told plan vectors
+  marks_inside (insn.System (system.Rsr SpecialName.Wsr t n)) moves told shown write_with_reply plan vectors =
       let both = and_parts (ltb t 4) (holds_marks n) moves in
       wsr_inside t n (ltb-true t 4 both.0) both.1 told plan vectors
-  marks_inside (insn.System (system.Rsr SpecialName.Xsr t n)) moves told shown written plan vectors =
+  marks_inside (insn.System (system.Rsr SpecialName.Xsr t n)) moves told shown write_with_reply plan vectors =
       let both = and_parts (ltb t 4) (holds_marks n) moves in
       let low = ltb-true t 4 both.0 in
-      let is = write_is code m s len (write_to t (special_of s.control n)) (sets_one n (visible s.regs s.base t)) (plan ∙ ap (λ o. done o len s) (xsr_is code t n both.1 (visible s.regs s.base) s.control)) in
-      xsr_inside t n low both.1 (writable_by t (special_of s.control n) (insn.System (system.Rsr SpecialName.Xsr t n)) low refl shown written is) told plan vectors
-  marks_inside _ moves told shown written plan vectors = absurd (true≢false (sym moves))
+      let is = write_is code m s len (write_to t (special_of s.control n)) (sets_one n (visible s.regs s.base t)) (plan ∙ ap (λ o. outcome_turn o len s) (xsr_is code t n both.1 (visible s.regs s.base) s.control)) in
+      xsr_inside t n low both.1 (writable_by t (special_of s.control n) (insn.System (system.Rsr SpecialName.Xsr t n)) low refl shown write_with_reply is) told plan vectors
+  marks_inside _ moves told shown write_with_reply plan vectors = absurd (true≢false (sym moves))
 
   -- an instruction that moves a mark and shows no breach
   marked_inner : (live stale : ℕ → Bool) (i : Insn) → let u : FrameTurn = fetched_step (Fetches i len) code reply g in
@@ -587,9 +587,9 @@ module _ (code : ℕ → ℕ) (b : Bounds) (m : MemoryContents) (s : State) (f :
 pub marks_moved :
     (code : ℕ → ℕ) (b : Bounds) (m : MemoryContents) (s : State) (f : FrameState) (suspended : State) (live stale : ℕ → Bool) (x : Nested) (i : Insn) (len : ℕ)
     → f.nested ≡ Some x → IsInside suspended s f x → IsShaped s → length f.unset ≡ 256 → length x.marks ≡ 16
-    → fetched code s.control.pc ≡ Fetches i len → moves_marks i ≡ true
-    → planned code s ≡ done (outcome_at code i (visible s.regs s.base) s.control) len s
-    → let g : FrameState = laid (inputs 0 s) (inside x f) in
+    → fetch_at code s.control.pc ≡ Fetches i len → moves_marks i ≡ true
+    → planned_turn code s ≡ outcome_turn (outcome_at code i (visible s.regs s.base) s.control) len s
+    → let g : FrameState = with_inputs (inputs 0 s) (nested_view x f) in
     let u : FrameTurn = fetched_step (Fetches i len) code (reply_now code m s) g in
     Sound b false live stale i (record_now code m s) g u
     → Inner code b m s f suspended (nested_insn i (value_in (record_now code m s).write) x f u)

@@ -16,34 +16,34 @@ use Rattle.xt_map.specs.declared.access.Access.{Access}
 use Rattle.xt_map.specs.declared.contents.MemoryContents.{MemoryContents}
 use Rattle.xt_special.specs.declared.ps.Ps.{Ps}
 use Rattle.xt_special.specs.Control.{Control, special_of}
-use Rattle.xt_special.specs.Timers.{ticked}
+use Rattle.xt_special.specs.Timers.{after_tick}
 use Rattle.xt_window.specs.Ring.{visible}
 use Rattle.xt_trace.specs.declared.record.RegWrite.{RegWrite}
 use Rattle.xt_trace.specs.declared.record.StepRecord.{StepRecord}
-use Rattle.xt_rows.specs.declared.outcome.Awaited.{Awaited}
+use Rattle.xt_rows.specs.declared.outcome.ReplyTarget.{ReplyTarget}
 use Rattle.xt_rows.specs.declared.outcome.Effect.{Effect}
 use Rattle.xt_rows.specs.declared.outcome.Outcome.{Outcome}
 use Rattle.xt_rows.specs.declared.outcome.Outcome.TheVariants.{Does, Raises, Asks, Stops, Windowed}
 use Rattle.xt_rows.specs.declared.outcome.WindowStep.TheVariants.{Enters, Returns, EndsOverflow, EndsUnderflow, Rotates, MovesStack, Reads, Sets, Exchanges}
 use Rattle.xt_rows.specs.declared.outcome.WindowRegister.{WindowRegister}
-use Rattle.xt_rows.specs.Effects.{illegal_instruction, unchanged, window_register, writes_special, exchanges_special}
+use Rattle.xt_rows.specs.Effects.{illegal_instruction, no_change, window_register, writes_special, exchanges_special}
 use Rattle.xt_rows.specs.Kinds.{is_saved, moved_to, sets_epc1, is_windowing, AllSpare, SetsOne, WritesNamed, Fits}
-use Rattle.xt_rows.specs.Laws.{sets_mode, KeepsMode, AsksWith}
-use Rattle.xt_rows.specs.Operands.{reads, special_reads, named}
+use Rattle.xt_rows.specs.RowLaws.{sets_mode, KeepsMode, AsksWith}
+use Rattle.xt_rows.specs.Operands.{reads, special_reads, highest_register}
 use Rattle.xt_rows.specs.Outcomes.{outcome, control_outcome, density_outcome, system_outcome, outcome_at}
-use Rattle.xt_rows.specs.Settling.{Kind, Executed, Stopped, Settled, after_effect, settled, written}
+use Rattle.xt_rows.specs.Settling.{Kind, Executed, Stopped, Settled, after_effect, after_outcome, write_with_reply}
 use Rattle.xt_rows.proofs.Fitting.{outcome_fits, outcome_alone}
 use Rattle.xt_rows.proofs.Modes.{modes_kept}
 use Rattle.xt_fetch.specs.Code.{AreBytes}
-use Rattle.xt_fetch.specs.Fetching.{Fetched, Fetches, Fails, SpellsNothing, fetched}
+use Rattle.xt_fetch.specs.Fetching.{Fetched, Fetches, Fails, SpellsNothing, fetch_at}
 use Rattle.xt_exec.specs.State.{State}
-use Rattle.xt_exec.specs.Laws.{IsShaped}
-use Rattle.xt_exec.specs.Turn.{planned, turn, in_window, is_illegal, done}
+use Rattle.xt_exec.specs.TurnLaws.{IsShaped}
+use Rattle.xt_exec.specs.Turn.{planned_turn, turn, in_window, is_illegal, outcome_turn}
 use Rattle.xt_frames.specs.declared.holes.Nested.{Nested}
-use Rattle.xt_frames.specs.Frames.{FrameState, known, seen_after_write}
-use Rattle.xt_frames.specs.FrameStep.{FrameTurn, in_frame, raised, pushed, popped, windowed_in_frame, done_in_frame, fetched_step, laid, laid_step}
+use Rattle.xt_frames.specs.Frames.{FrameState, value_or_zero, seen_after_write}
+use Rattle.xt_frames.specs.FrameStep.{FrameTurn, in_frame, exception_in_frame, entry_in_frame, return_in_frame, windowed_in_frame, done_in_frame, fetched_step, with_inputs, step_with_inputs}
 use Rattle.xt_frames.specs.Marks.{are_own_marks, moves_marks, mark_read, marked_write, unset_by, unset_written}
-use Rattle.xt_frames.specs.Nesting.{disturbs_nested, ends_nested, inside, keeping, nested_after, nested_fetched, nested_insn}
+use Rattle.xt_frames.specs.Nesting.{disturbs_nested, ends_nested, nested_view, with_kept_frame, nested_after, nested_fetched, nested_insn}
 use Rattle.xt_frames.specs.Breaches.{Bounds, breach_of, breaks_nested, fetched_tests, insn_tests, is_exception, is_unset, lacks, loses_epc1, lost_of, names_high, other_tests, reads_epc1, reads_none_in, reads_unset, writes_sp}
 use Rattle.xt_frames.specs.Judging.{step_on, value_in}
 use Rattle.xt_frames.proofs.Inside.{step_inside}
@@ -51,7 +51,7 @@ use Rattle.xt_frames.proofs.Shown.{NoneShown, Sound, KeepsSp, keeps_sp, sound}
 use Rattle.xt_frames.proofs.StackSteps.{step_fetches}
 use Rattle.xt_simulation.specs.Relation.{Even, inputs}
 use Rattle.xt_simulation.specs.Steps.{reply_now, record_now}
-use Rattle.xt_simulation.specs.Nested.{IsInside, IsSpare, marked}
+use Rattle.xt_simulation.specs.Nested.{IsInside, IsSpare, marked_value}
 use Rattle.xt_simulation.proofs.Evenly.{effect_even, even_ticked, lost_in}
 use Rattle.xt_simulation.proofs.Judged.{awaited_named}
 use Rattle.xt_simulation.proofs.Judges.{record_reply}
@@ -106,12 +106,12 @@ pub record Leaves (s : State) (f : FrameState) (x : Nested) (i : Insn) (c d : Co
   pub mode : c.ps.excm ≡ s.control.ps.excm
   pub running : c.waits ≡ false
   pub spared : (n : ℕ) → is_saved n ≡ true → Elsewhere (moved_to i) n → special_of c n ≡ special_of s.control n
-  pub framed : Elsewhere (moved_to i) 177 → special_of d 177 ≡ special_of (laid (inputs 0 s) (inside x f)).control 177
+  pub framed : Elsewhere (moved_to i) 177 → special_of d 177 ≡ special_of (with_inputs (inputs 0 s) (nested_view x f)).control 177
 
 -- and the step of the state inside leaves this
 abbrev pub left_turn : Insn → Nested → FrameState → FrameTurn → FrameTurn
 left_turn i x f u = record u {
-  after = record (keeping f u.after) { unset = unset_left i f x; nested = Some (nested_after i None x u) };
+  after = record (with_kept_frame f u.after) { unset = unset_left i f x; nested = Some (nested_after i None x u) };
 }
 
 pub left_is : (i : Insn) (value : ℕ) (x : Nested) (f : FrameState) (u : FrameTurn) → ends_nested i ≡ false → mark_read i x.saved ≡ None → nested_insn i value x f u ≡ left_turn i x f u
@@ -119,7 +119,7 @@ left_is i value x f u goes_on none =
     cond-false (ends_nested i) _ _ goes_on
     ∙ ap (λ (mark : Option ℕ). (let v : FrameTurn = record u {
       write = marked_write mark value u.write;
-      after = record (keeping f u.after) { unset = unset_left i f x; nested = Some (nested_after i mark x u) };
+      after = record (with_kept_frame f u.after) { unset = unset_left i f x; nested = Some (nested_after i mark x u) };
     } in v)) none
 
 seen_size : (w : Option RegWrite) (seen : List (Option ℕ)) → length (seen_after_write w seen) ≡ length seen
@@ -129,20 +129,20 @@ seen_size (Some w) seen = length-set seen w.reg (Some w.value)
 module _ {suspended s : State} {f : FrameState} {x : Nested} (h : IsInside suspended s f x) where
   -- the frame machine's state before the step, over which the inputs are laid
   abbrev before : FrameState
-  before = laid (inputs 0 s) (inside x f)
+  before = with_inputs (inputs 0 s) (nested_view x f)
 
   special_saved : (n k : ℕ) → get_or x.saved n None ≡ Some k → is_saved n ≡ true
   special_saved n k e = can_saved n (h.even.special.only n (or_right (lost_of false n) (get_or f.unset n false) (h.saved n k e).1))
 
-  module _ (count : length s.regs ≡ 64) (wide : length x.marks ≡ 16) (i : Insn) (v : Settled) (reply : ℕ) (narrow : IsNarrow (written v.write v.awaited reply)) (c : Control) (l : Leaves s f x i c v.control) (reads : ReadsNumber (moved_to i) x.marks) (epc : Elsewhere (moved_to i) 181) (eps : Elsewhere (moved_to i) 197) where
-    pub left_inside : IsInside suspended (after_write (written v.write v.awaited reply) c s) (left_turn i x f (in_frame v reply (laid (inputs 0 s) (inside x f)))).after (nested_after i None x (in_frame v reply (laid (inputs 0 s) (inside x f))))
+  module _ (count : length s.regs ≡ 64) (wide : length x.marks ≡ 16) (i : Insn) (v : Settled) (reply : ℕ) (narrow : IsNarrow (write_with_reply v.write v.awaited reply)) (c : Control) (l : Leaves s f x i c v.control) (reads : ReadsNumber (moved_to i) x.marks) (epc : Elsewhere (moved_to i) 181) (eps : Elsewhere (moved_to i) 197) where
+    pub left_inside : IsInside suspended (after_write (write_with_reply v.write v.awaited reply) c s) (left_turn i x f (in_frame v reply (with_inputs (inputs 0 s) (nested_view x f)))).after (nested_after i None x (in_frame v reply (with_inputs (inputs 0 s) (nested_view x f))))
     left_inside =
-        let w : Option RegWrite = written v.write v.awaited reply in
+        let w : Option RegWrite = write_with_reply v.write v.awaited reply in
         let t : State = after_write w c s in
-        let u : FrameTurn = in_frame v reply (laid (inputs 0 s) (inside x f)) in
+        let u : FrameTurn = in_frame v reply (with_inputs (inputs 0 s) (nested_view x f)) in
         let keeps = write_keeps w (record s { control = c }) in
         let is : t.control ≡ c = keeps.2 in
-        let left : FrameState = inside (nested_after i None x u) (left_turn i x f u).after in
+        let left : FrameState = nested_view (nested_after i None x u) (left_turn i x f u).after in
         let even : Even (lost_in false (unset_left i f x)) c left.control = record { pc = l.even.pc; ps = l.even.ps; threadptr = l.even.threadptr; waits = l.even.waits; special = l.even.special } in
         record {
           even = even_laid t left (subst (λ (q : Control). Even (lost_in false (unset_left i f x)) q left.control) (sym is) even);
@@ -158,7 +158,7 @@ module _ {suspended s : State} {f : FrameState} {x : Nested} (h : IsInside suspe
           wide = seen_size w x.seen ∙ h.wide;
           others = λ p other. write_others c s w narrow p other ∙ h.others p (λ e. other (subst (λ (q : ℕ). IsSpare q p) (sym keeps.0) e));
           numbers = write_numbers c s w narrow count x.seen h.wide h.numbers;
-          marks = write_marks c s w narrow (marked suspended) x.seen x.marks wide h.marks;
+          marks = write_marks c s w narrow (marked_value suspended) x.seen x.marks wide h.marks;
           saved = λ n k e.
               let q = saved_left (moved_to i) x.marks x.saved f.unset n k reads e in
               let was = h.saved n k q.0 in
@@ -168,10 +168,10 @@ module _ {suspended s : State} {f : FrameState} {x : Nested} (h : IsInside suspe
   -- ---- what an effect leaves, and BREAK
   module _ (i : Insn) (reads : ReadsNumber (moved_to i) x.marks) where
     pub effect_leaves : (e : Effect) (len : ℕ) → ((n : ℕ) → is_saved n ≡ true → SetsOne (moved_to i) n e.sets) → e.ps.intlevel ≡ s.control.ps.intlevel → e.ps.excm ≡ s.control.ps.excm → e.waits ≡ false
-        → Leaves s f x i (ticked (after_effect e len s.control)) (ticked (after_effect e len (laid (inputs 0 s) (inside x f)).control))
+        → Leaves s f x i (after_tick (after_effect e len s.control)) (after_tick (after_effect e len (with_inputs (inputs 0 s) (nested_view x f)).control))
     effect_leaves e len sets level mode running =
         let c : Control = s.control in
-        let d : Control = (laid (inputs 0 s) (inside x f)).control in
+        let d : Control = (with_inputs (inputs 0 s) (nested_view x f)).control in
         let m = effect_mode e len c in
         record {
           even = even_ticked (after_effect e len c) (after_effect e len d) (effect_even e len c d h.even.pc (same_moved (moved_to i) e.sets x.marks f.unset h.even.special reads sets));
@@ -182,12 +182,12 @@ module _ {suspended s : State} {f : FrameState} {x : Nested} (h : IsInside suspe
           framed = λ other. ticked_saved (after_effect e len d) 177 refl ∙ effect_spares e len d 177 refl (all_spare (moved_to i) 177 e.sets (sets 177 refl) other);
         }
 
-    pub stops_leaves : moved_to i ≡ None → Leaves s f x i (ticked s.control) (ticked (laid (inputs 0 s) (inside x f)).control)
+    pub stops_leaves : moved_to i ≡ None → Leaves s f x i (after_tick s.control) (after_tick (with_inputs (inputs 0 s) (nested_view x f)).control)
     stops_leaves none =
         let c : Control = s.control in
-        let d : Control = (laid (inputs 0 s) (inside x f)).control in
+        let d : Control = (with_inputs (inputs 0 s) (nested_view x f)).control in
         record {
-          even = subst (λ (o : Option (ℕ × ℕ)). Even (lost_in false (unset_by o x.marks f.unset)) (ticked c) (ticked d)) (sym none) (even_ticked c d h.even);
+          even = subst (λ (o : Option (ℕ × ℕ)). Even (lost_in false (unset_by o x.marks f.unset)) (after_tick c) (after_tick d)) (sym none) (even_ticked c d h.even);
           level = refl;
           mode = refl;
           running = h.running;
@@ -196,14 +196,14 @@ module _ {suspended s : State} {f : FrameState} {x : Nested} (h : IsInside suspe
         }
 
 -- ---- the register that is written
-names_low : (i : Insn) (g : FrameState) → g.control.ps.excm ≡ true → names_high i g ≡ false → named i < 4
+names_low : (i : Insn) (g : FrameState) → g.control.ps.excm ≡ true → names_high i g ≡ false → highest_register i < 4
 names_low i g e high =
     ⊎_elim
     (λ low. absurd (both_ways _ low e))
-    (λ low. leb-false 4 (named i) low)
-    (and_cases g.control.ps.excm (leb 4 (named i)) high)
+    (λ low. leb-false 4 (highest_register i) low)
+    (and_cases g.control.ps.excm (leb 4 (highest_register i)) high)
 
-narrow_write : (i : Insn) (w : Option RegWrite) → named i < 4 → WritesNamed i w → KeepsSp w → IsNarrow w
+narrow_write : (i : Insn) (w : Option RegWrite) → highest_register i < 4 → WritesNamed i w → KeepsSp w → IsNarrow w
 narrow_write i None low within keeps = tt
 narrow_write i (Some w) low within keeps = (omega arith, keeps)
 
@@ -236,11 +236,11 @@ module _ {suspended s : State} {f : FrameState} {x : Nested} (h : IsInside suspe
   pub record Read (i : Insn) : Type 0 where
     pub number : ReadsNumber (moved_to i) x.marks
     pub mark : mark_read i x.saved ≡ None
-    pub outcome : (code : ℕ → ℕ) → outcome_at code i (visible s.regs s.base) s.control ≡ outcome_at code i (known x.seen) (laid (inputs 0 s) (inside x f)).control
+    pub outcome : (code : ℕ → ℕ) → outcome_at code i (visible s.regs s.base) s.control ≡ outcome_at code i (value_or_zero x.seen) (with_inputs (inputs 0 s) (nested_view x f)).control
 
-  pub read_by : (i : Insn) → reads_unset i (laid (inputs 0 s) (inside x f)) ≡ false → reads_epc1 false i ≡ false → Read i
+  pub read_by : (i : Insn) → reads_unset i (with_inputs (inputs 0 s) (nested_view x f)) ≡ false → reads_epc1 false i ≡ false → Read i
   read_by i unset none =
-      let g : FrameState = laid (inputs 0 s) (inside x f) in
+      let g : FrameState = with_inputs (inputs 0 s) (nested_view x f) in
       let r = what_is_read false i g unset none in
       record {
         number = reads_number i r.first;
@@ -285,16 +285,16 @@ exchanges_on (Some w) t n x u v e q = cc
 
 pub stops_move_none : (code : ℕ → ℕ) (i : Insn) (pc x y u v : ℕ) (ps : Ps) (threadptr : ℕ) → outcome code i pc x y u v ps threadptr ≡ Stops → moved_to i ≡ None
 unfolding outcome system_outcome moved_to
-stops_move_none code (insn.System (system.Rsr SpecialName.Wsr t n)) pc x y u v ps threadptr is = absurd (writes_on (window_register n) n x v (unchanged ps threadptr) is)
-stops_move_none code (insn.System (system.Rsr SpecialName.Xsr t n)) pc x y u v ps threadptr is = absurd (exchanges_on (window_register n) t n x u v (unchanged ps threadptr) is)
+stops_move_none code (insn.System (system.Rsr SpecialName.Wsr t n)) pc x y u v ps threadptr is = absurd (writes_on (window_register n) n x v (no_change ps threadptr) is)
+stops_move_none code (insn.System (system.Rsr SpecialName.Xsr t n)) pc x y u v ps threadptr is = absurd (exchanges_on (window_register n) t n x u v (no_change ps threadptr) is)
 stops_move_none code _ pc x y u v ps threadptr is = refl
 
 -- ---- ENTRY and RETW are illegal in exception mode
 entry_raises : (number value len reply : ℕ) (g : FrameState) → g.control.ps.excm ≡ true → is_exception (windowed_in_frame (Enters number value) len reply g).kind ≡ true
-entry_raises number value len reply g e = ap (λ (u : FrameTurn). is_exception u.kind) (cond-true g.control.ps.excm (raised illegal_instruction None g) (pushed number value len g) e)
+entry_raises number value len reply g e = ap (λ (u : FrameTurn). is_exception u.kind) (cond-true g.control.ps.excm (exception_in_frame illegal_instruction None g) (entry_in_frame number value len g) e)
 
 return_raises : (a0 len reply : ℕ) (g : FrameState) → g.control.ps.excm ≡ true → is_exception (windowed_in_frame (Returns a0) len reply g).kind ≡ true
-return_raises a0 len reply g e = ap (λ (u : FrameTurn). is_exception u.kind) (cond-true g.control.ps.excm (raised illegal_instruction None g) (popped a0 g) e)
+return_raises a0 len reply g e = ap (λ (u : FrameTurn). is_exception u.kind) (cond-true g.control.ps.excm (exception_in_frame illegal_instruction None g) (return_in_frame a0 g) e)
 
 illegal_raises : (code : ℕ → ℕ) (i : Insn) (len reply : ℕ) (s : State) (g : FrameState) → g.control.ps.excm ≡ true → is_illegal i s ≡ true → is_exception (fetched_step (Fetches i len) code reply g).kind ≡ true
 unfolding is_illegal outcome control_outcome density_outcome
@@ -305,21 +305,21 @@ illegal_raises code _ len reply s g e bad = absurd (true≢false (sym bad))
 
 -- ---- a step of one core, where f has the nested interrupt x
 module _ (code : ℕ → ℕ) (b : Bounds) (m : MemoryContents) (s : State) (f : FrameState) (suspended : State) (live stale : ℕ → Bool) (x : Nested) (h : IsInside suspended s f x) (shaped : IsShaped s) (wide : length x.marks ≡ 16) (i : Insn) (len : ℕ) where
-  framed_epc1 : special_of (laid (inputs 0 s) (inside x f)).control 177 ≡ special_of f.control 177
+  framed_epc1 : special_of (with_inputs (inputs 0 s) (nested_view x f)).control 177 ≡ special_of f.control 177
   framed_epc1 = laid_other f.control.special (special_of s.control 234) (special_of s.control 226) 177 (λ e. omega (arith, e)) (λ e. omega (arith, e))
 
-  left_inner : (k : Kind) (write : Option RegWrite) (access : Option Access) (awaited : Option Awaited) (c d : Control)
+  left_inner : (k : Kind) (write : Option RegWrite) (access : Option Access) (awaited : Option ReplyTarget) (c d : Control)
       → let t : Settled = record { kind = k; write = write; access = access; awaited = awaited; control = c } in
       let v : Settled = record { kind = k; write = write; access = access; awaited = awaited; control = d } in
-      planned code s ≡ in_window t s → IsNarrow (written write awaited (reply_now code m s)) → Leaves s f x i c d → ReadsNumber (moved_to i) x.marks → Elsewhere (moved_to i) 181 → Elsewhere (moved_to i) 197 → Elsewhere (moved_to i) 177
+      planned_turn code s ≡ in_window t s → IsNarrow (write_with_reply write awaited (reply_now code m s)) → Leaves s f x i c d → ReadsNumber (moved_to i) x.marks → Elsewhere (moved_to i) 181 → Elsewhere (moved_to i) 197 → Elsewhere (moved_to i) 177
       → special_of d 231 ≡ b.vecbase
-      → Inner code b m s f suspended (left_turn i x f (in_frame v (reply_now code m s) (laid (inputs 0 s) (inside x f))))
+      → Inner code b m s f suspended (left_turn i x f (in_frame v (reply_now code m s) (with_inputs (inputs 0 s) (nested_view x f))))
   left_inner k write access awaited c d is narrow l reads epc eps epc1 vectors =
       let t : Settled = record { kind = k; write = write; access = access; awaited = awaited; control = c } in
       let v : Settled = record { kind = k; write = write; access = access; awaited = awaited; control = d } in
       let reply : ℕ = reply_now code m s in
-      let u : FrameTurn = in_frame v reply (laid (inputs 0 s) (inside x f)) in
-      let w : Option RegWrite = written write awaited reply in
+      let u : FrameTurn = in_frame v reply (with_inputs (inputs 0 s) (nested_view x f)) in
+      let w : Option RegWrite = write_with_reply write awaited reply in
       let now : (turn code s reply).1 ≡ after_write w c s = plan_state code s (in_window t s) is reply in
       record {
         x = nested_after i None x u;
@@ -338,41 +338,41 @@ module _ (code : ℕ → ℕ) (b : Bounds) (m : MemoryContents) (s : State) (f :
       }
 
   -- what is known of its row
-  module _ (u : FrameTurn) (o : Sound b false live stale i (record_now code m s) (laid (inputs 0 s) (inside x f)) u) (q : Quiet i x (laid (inputs 0 s) (inside x f)) u) (r : Read h i) (goes_on : ends_nested i ≡ false) where
-    does_inner : (e : Effect) → outcome_at code i (visible s.regs s.base) s.control ≡ Does e → Fits i (Does e) → planned code s ≡ done (Does e) len s → writes_sp i (record_now code m s).write e.write ≡ false
-        → special_of (settled (Does e) len (laid (inputs 0 s) (inside x f)).control).control 231 ≡ b.vecbase
-        → Inner code b m s f suspended (left_turn i x f (done_in_frame (Does e) len (reply_now code m s) (laid (inputs 0 s) (inside x f))))
+  module _ (u : FrameTurn) (o : Sound b false live stale i (record_now code m s) (with_inputs (inputs 0 s) (nested_view x f)) u) (q : Quiet i x (with_inputs (inputs 0 s) (nested_view x f)) u) (r : Read h i) (goes_on : ends_nested i ≡ false) where
+    does_inner : (e : Effect) → outcome_at code i (visible s.regs s.base) s.control ≡ Does e → Fits i (Does e) → planned_turn code s ≡ outcome_turn (Does e) len s → writes_sp i (record_now code m s).write e.write ≡ false
+        → special_of (after_outcome (Does e) len (with_inputs (inputs 0 s) (nested_view x f)).control).control 231 ≡ b.vecbase
+        → Inner code b m s f suspended (left_turn i x f (done_in_frame (Does e) len (reply_now code m s) (with_inputs (inputs 0 s) (nested_view x f))))
     does_inner e same fit is sp vectors =
-        let mode : KeepsMode (unchanged s.control.ps s.control.threadptr) (Does e) = subst (KeepsMode (unchanged s.control.ps s.control.threadptr)) same (modes_kept code i s.control.pc _ _ _ _ s.control.ps s.control.threadptr (quiet_mode i q.disturbs goes_on o.windowing)) in
+        let mode : KeepsMode (no_change s.control.ps s.control.threadptr) (Does e) = subst (KeepsMode (no_change s.control.ps s.control.threadptr)) same (modes_kept code i s.control.pc _ _ _ _ s.control.ps s.control.threadptr (quiet_mode i q.disturbs goes_on o.windowing)) in
         let other = kept_elsewhere i q.disturbs in
         left_inner Executed e.write None None _ _ is
-        (narrow_write i e.write (names_low i (laid (inputs 0 s) (inside x f)) (laid_excm h) o.high) fit.0 (keeps_sp i (record_now code m s).write e.write fit.2 o.movsp sp))
+        (narrow_write i e.write (names_low i (with_inputs (inputs 0 s) (nested_view x f)) (laid_excm h) o.high) fit.0 (keeps_sp i (record_now code m s).write e.write fit.2 o.movsp sp))
         (effect_leaves h i r.number e len fit.1 mode.0 mode.1 mode.2)
         r.number other.0 other.1 (epc1_elsewhere i q.epc1) vectors
 
-    asks_inner : (access : Access) (awaited : Option Awaited) (e : Effect) → outcome_at code i (visible s.regs s.base) s.control ≡ Asks access awaited e → Fits i (Asks access awaited e) → planned code s ≡ done (Asks access awaited e) len s → writes_sp i (record_now code m s).write (written None awaited (reply_now code m s)) ≡ false
-        → special_of (settled (Asks access awaited e) len (laid (inputs 0 s) (inside x f)).control).control 231 ≡ b.vecbase
-        → Inner code b m s f suspended (left_turn i x f (done_in_frame (Asks access awaited e) len (reply_now code m s) (laid (inputs 0 s) (inside x f))))
+    asks_inner : (access : Access) (awaited : Option ReplyTarget) (e : Effect) → outcome_at code i (visible s.regs s.base) s.control ≡ Asks access awaited e → Fits i (Asks access awaited e) → planned_turn code s ≡ outcome_turn (Asks access awaited e) len s → writes_sp i (record_now code m s).write (write_with_reply None awaited (reply_now code m s)) ≡ false
+        → special_of (after_outcome (Asks access awaited e) len (with_inputs (inputs 0 s) (nested_view x f)).control).control 231 ≡ b.vecbase
+        → Inner code b m s f suspended (left_turn i x f (done_in_frame (Asks access awaited e) len (reply_now code m s) (with_inputs (inputs 0 s) (nested_view x f))))
     asks_inner access awaited e same fit is sp vectors =
-        let alone : e ≡ unchanged s.control.ps s.control.threadptr = subst (AsksWith (unchanged s.control.ps s.control.threadptr)) same (outcome_alone code i s.control.pc _ _ _ _ s.control.ps s.control.threadptr) in
+        let alone : e ≡ no_change s.control.ps s.control.threadptr = subst (AsksWith (no_change s.control.ps s.control.threadptr)) same (outcome_alone code i s.control.pc _ _ _ _ s.control.ps s.control.threadptr) in
         let other = kept_elsewhere i q.disturbs in
         let sets : (n : ℕ) → is_saved n ≡ true → SetsOne (moved_to i) n e.sets = λ n h. subst (λ (o : Option (ℕ × ℕ)). SetsOne o n e.sets) (sym fit.1) (subst (λ (z : Effect). AllSpare n z.sets) (sym alone) (tt, tt, tt)) in
         left_inner Executed None (Some access) awaited _ _ is
-        (narrow_write i (written None awaited (reply_now code m s)) (names_low i (laid (inputs 0 s) (inside x f)) (laid_excm h) o.high) (awaited_named i awaited (reply_now code m s) fit.0) (keeps_sp i (record_now code m s).write (written None awaited (reply_now code m s)) fit.2 o.movsp sp))
+        (narrow_write i (write_with_reply None awaited (reply_now code m s)) (names_low i (with_inputs (inputs 0 s) (nested_view x f)) (laid_excm h) o.high) (awaited_named i awaited (reply_now code m s) fit.0) (keeps_sp i (record_now code m s).write (write_with_reply None awaited (reply_now code m s)) fit.2 o.movsp sp))
         (effect_leaves h i r.number e len sets (ap (λ (z : Effect). z.ps.intlevel) alone) (ap (λ (z : Effect). z.ps.excm) alone) (ap (λ (z : Effect). z.waits) alone))
         r.number other.0 other.1 (epc1_elsewhere i q.epc1) vectors
 
-    stops_inner : outcome_at code i (visible s.regs s.base) s.control ≡ Stops → planned code s ≡ done Stops len s
-        → special_of (ticked (laid (inputs 0 s) (inside x f)).control) 231 ≡ b.vecbase
-        → Inner code b m s f suspended (left_turn i x f (done_in_frame Stops len (reply_now code m s) (laid (inputs 0 s) (inside x f))))
+    stops_inner : outcome_at code i (visible s.regs s.base) s.control ≡ Stops → planned_turn code s ≡ outcome_turn Stops len s
+        → special_of (after_tick (with_inputs (inputs 0 s) (nested_view x f)).control) 231 ≡ b.vecbase
+        → Inner code b m s f suspended (left_turn i x f (done_in_frame Stops len (reply_now code m s) (with_inputs (inputs 0 s) (nested_view x f))))
     stops_inner same is vectors =
         let other = kept_elsewhere i q.disturbs in
         left_inner Stopped None None None _ _ is tt
         (stops_leaves h i r.number (stops_move_none code i s.control.pc _ _ _ _ s.control.ps s.control.threadptr same))
         r.number other.0 other.1 (epc1_elsewhere i q.epc1) vectors
 
-    row_inner : (y : Outcome) → outcome_at code i (visible s.regs s.base) s.control ≡ y → Fits i y → planned code s ≡ done y len s
-        → let g : FrameState = laid (inputs 0 s) (inside x f) in
+    row_inner : (y : Outcome) → outcome_at code i (visible s.regs s.base) s.control ≡ y → Fits i y → planned_turn code s ≡ outcome_turn y len s
+        → let g : FrameState = with_inputs (inputs 0 s) (nested_view x f) in
         let v : FrameTurn = done_in_frame y len (reply_now code m s) g in
         is_exception v.kind ≡ false → writes_sp i (record_now code m s).write v.write ≡ false → special_of v.after.control 231 ≡ b.vecbase
         → Inner code b m s f suspended (left_turn i x f v)
@@ -380,8 +380,8 @@ module _ (code : ℕ → ℕ) (b : Bounds) (m : MemoryContents) (s : State) (f :
     row_inner (Raises cause addr) same fit is kind sp vectors = absurd (true≢false kind)
     row_inner (Asks access awaited e) same fit is kind sp vectors = asks_inner access awaited e same fit is sp vectors
     row_inner Stops same fit is kind sp vectors = stops_inner same is vectors
-    row_inner (Windowed (Enters number value)) same fit is kind sp vectors = absurd (both_ways _ kind (entry_raises number value len (reply_now code m s) (laid (inputs 0 s) (inside x f)) (laid_excm h)))
-    row_inner (Windowed (Returns a0)) same fit is kind sp vectors = absurd (both_ways _ kind (return_raises a0 len (reply_now code m s) (laid (inputs 0 s) (inside x f)) (laid_excm h)))
+    row_inner (Windowed (Enters number value)) same fit is kind sp vectors = absurd (both_ways _ kind (entry_raises number value len (reply_now code m s) (with_inputs (inputs 0 s) (nested_view x f)) (laid_excm h)))
+    row_inner (Windowed (Returns a0)) same fit is kind sp vectors = absurd (both_ways _ kind (return_raises a0 len (reply_now code m s) (with_inputs (inputs 0 s) (nested_view x f)) (laid_excm h)))
     row_inner (Windowed (EndsOverflow epc1)) same fit is kind sp vectors = absurd (both_ways _ o.windowing fit)
     row_inner (Windowed (EndsUnderflow epc1)) same fit is kind sp vectors = absurd (both_ways _ o.windowing fit)
     row_inner (Windowed (Rotates n)) same fit is kind sp vectors = absurd (both_ways _ o.windowing fit)
@@ -391,13 +391,13 @@ module _ (code : ℕ → ℕ) (b : Bounds) (m : MemoryContents) (s : State) (f :
     row_inner (Windowed (Exchanges register number value)) same fit is kind sp vectors = absurd (both_ways _ o.window_register fit)
 
   -- an instruction that moves no mark
-  pub unmarked_inner : (value : ℕ) → let g : FrameState = laid (inputs 0 s) (inside x f) in
+  pub unmarked_inner : (value : ℕ) → let g : FrameState = with_inputs (inputs 0 s) (nested_view x f) in
       let u : FrameTurn = fetched_step (Fetches i len) code (reply_now code m s) g in
       Sound b false live stale i (record_now code m s) g u → f.nested ≡ Some x → moves_marks i ≡ false → ends_nested i ≡ false
-      → planned code s ≡ done (outcome_at code i (visible s.regs s.base) s.control) len s
+      → planned_turn code s ≡ outcome_turn (outcome_at code i (visible s.regs s.base) s.control) len s
       → Inner code b m s f suspended (nested_insn i value x f u)
   unmarked_inner value o nested unmoved goes_on is =
-      let g : FrameState = laid (inputs 0 s) (inside x f) in
+      let g : FrameState = with_inputs (inputs 0 s) (nested_view x f) in
       let reply : ℕ = reply_now code m s in
       let u : FrameTurn = fetched_step (Fetches i len) code reply g in
       let q = quiet_of b live stale i (record_now code m s) g u x nested o in
@@ -406,7 +406,7 @@ module _ (code : ℕ → ℕ) (b : Bounds) (m : MemoryContents) (s : State) (f :
       let r = read_by h i reads q.lost in
       let same = r.outcome code in
       let P : Outcome → Type 0 = λ y. (let v : FrameTurn = done_in_frame y len reply g in is_exception v.kind ≡ false → writes_sp i (record_now code m s).write v.write ≡ false → special_of v.after.control 231 ≡ b.vecbase → Inner code b m s f suspended (left_turn i x f v)) in
-      let inner : P (outcome_at code i (known x.seen) g.control) = subst P same (row_inner u o q r goes_on (outcome_at code i (visible s.regs s.base) s.control) refl (outcome_fits code i s.control.pc _ _ _ _ s.control.ps s.control.threadptr) is) in
+      let inner : P (outcome_at code i (value_or_zero x.seen) g.control) = subst P same (row_inner u o q r goes_on (outcome_at code i (visible s.regs s.base) s.control) refl (outcome_fits code i s.control.pc _ _ _ _ s.control.ps s.control.threadptr) is) in
       subst (λ (z : FrameTurn). Inner code b m s f suspended z) (sym (left_is i value x f u goes_on r.mark)) (inner q.kind o.written o.vectors)
 
 -- ---- RFI 5, or another
@@ -418,12 +418,12 @@ module _ (code : ℕ → ℕ) (b : Bounds) (m : MemoryContents) (s : State) (f :
   abbrev Next : FrameTurn → Type 0
   Next u = Ends code s x ⊎ Inner code b m s f suspended u
 
-  insn_next : (i : Insn) (len : ℕ) → fetched code s.control.pc ≡ Fetches i len
-      → let g : FrameState = laid (inputs 0 s) (inside x f) in
+  insn_next : (i : Insn) (len : ℕ) → fetch_at code s.control.pc ≡ Fetches i len
+      → let g : FrameState = with_inputs (inputs 0 s) (nested_view x f) in
       let u : FrameTurn = fetched_step (Fetches i len) code (reply_now code m s) g in
       NoneShown (insn_tests b false live stale i (record_now code m s) g u) → Next (nested_insn i (value_in (record_now code m s).write) x f u)
   insn_next i len at none =
-      let g : FrameState = laid (inputs 0 s) (inside x f) in
+      let g : FrameState = with_inputs (inputs 0 s) (nested_view x f) in
       let u : FrameTurn = fetched_step (Fetches i len) code (reply_now code m s) g in
       let o = sound b false live stale i (record_now code m s) g u none in
       let q = quiet_of b live stale i (record_now code m s) g u x nested o in
@@ -438,32 +438,32 @@ module _ (code : ℕ → ℕ) (b : Bounds) (m : MemoryContents) (s : State) (f :
       (cases_Bool (moves_marks i)))
       (cases_Bool (ends_nested i))
 
-  fetched_next : (at : Fetched) → fetched code s.control.pc ≡ at
-      → let g : FrameState = laid (inputs 0 s) (inside x f) in
+  fetched_next : (at : Fetched) → fetch_at code s.control.pc ≡ at
+      → let g : FrameState = with_inputs (inputs 0 s) (nested_view x f) in
       let u : FrameTurn = fetched_step at code (reply_now code m s) g in
       NoneShown (fetched_tests b false live stale at (record_now code m s) g u) → Next (nested_fetched at (value_in (record_now code m s).write) x f u)
-  fetched_next (Fails address) at none = absurd (other_breaks b live stale (record_now code m s) (laid (inputs 0 s) (inside x f)) (fetched_step (Fails address) code (reply_now code m s) (laid (inputs 0 s) (inside x f))) x nested none)
-  fetched_next SpellsNothing at none = absurd (other_breaks b live stale (record_now code m s) (laid (inputs 0 s) (inside x f)) (fetched_step SpellsNothing code (reply_now code m s) (laid (inputs 0 s) (inside x f))) x nested none)
+  fetched_next (Fails address) at none = absurd (other_breaks b live stale (record_now code m s) (with_inputs (inputs 0 s) (nested_view x f)) (fetched_step (Fails address) code (reply_now code m s) (with_inputs (inputs 0 s) (nested_view x f))) x nested none)
+  fetched_next SpellsNothing at none = absurd (other_breaks b live stale (record_now code m s) (with_inputs (inputs 0 s) (nested_view x f)) (fetched_step SpellsNothing code (reply_now code m s) (with_inputs (inputs 0 s) (nested_view x f))) x nested none)
   fetched_next (Fetches i len) at none = insn_next i len at none
 
   next_step : breach_of b false code live stale true (record_now code m s) f ≡ None → Next (step_on code true (record_now code m s) f)
   next_step none =
       let rec : StepRecord = record_now code m s in
       let reply : ℕ = reply_now code m s in
-      let g : FrameState = laid (inputs 0 s) (inside x f) in
+      let g : FrameState = with_inputs (inputs 0 s) (nested_view x f) in
       let value : ℕ = value_in rec.write in
-      let at : Fetched = fetched code s.control.pc in
+      let at : Fetched = fetch_at code s.control.pc in
       let same = laid_same h code m shaped in
-      let here : laid_step code rec.reply g ≡ fetched_step at code reply g =
-      ap (λ y. laid_step code y g) (record_reply code m s) ∙ (step_fetches code reply g (laid_quiet h) (laid_runs h) ∙ ap (λ p. fetched_step (fetched code p) code reply g) (sym h.even.pc)) in
-      let at_pc : NoneShown (fetched_tests b false live stale at rec g (laid_step code rec.reply g)) =
-      subst (λ p. NoneShown (fetched_tests b false live stale (fetched code p) rec g (laid_step code rec.reply g))) (sym h.even.pc) (laid_tests h code b m live stale nested shaped none) in
+      let here : step_with_inputs code rec.reply g ≡ fetched_step at code reply g =
+      ap (λ y. step_with_inputs code y g) (record_reply code m s) ∙ (step_fetches code reply g (laid_quiet h) (laid_runs h) ∙ ap (λ p. fetched_step (fetch_at code p) code reply g) (sym h.even.pc)) in
+      let at_pc : NoneShown (fetched_tests b false live stale at rec g (step_with_inputs code rec.reply g)) =
+      subst (λ p. NoneShown (fetched_tests b false live stale (fetch_at code p) rec g (step_with_inputs code rec.reply g))) (sym h.even.pc) (laid_tests h code b m live stale nested shaped none) in
       let tests : NoneShown (fetched_tests b false live stale at rec g (fetched_step at code reply g)) =
       subst (λ (v : FrameTurn). NoneShown (fetched_tests b false live stale at rec g v)) here at_pc in
       let step : step_on code true rec f ≡ nested_fetched at value x f (fetched_step at code reply g) =
       step_inside code true rec f x nested
-      ∙ (ap (λ (y : FrameState). nested_fetched (fetched code y.control.pc) value x f (laid_step code rec.reply y)) same
-      ∙ (ap (λ p. nested_fetched (fetched code p) value x f (laid_step code rec.reply g)) (sym h.even.pc)
+      ∙ (ap (λ (y : FrameState). nested_fetched (fetch_at code y.control.pc) value x f (step_with_inputs code rec.reply y)) same
+      ∙ (ap (λ p. nested_fetched (fetch_at code p) value x f (step_with_inputs code rec.reply g)) (sym h.even.pc)
       ∙ ap (λ (v : FrameTurn). nested_fetched at value x f v) here)) in
       subst Next (sym step) (fetched_next at refl tests)
 

@@ -7,7 +7,7 @@ use Rattle.std.proofs.lemmas.List.{get_or-set_other, length-set}
 use Rattle.xt_special.specs.Control.{Control, special_of}
 use Rattle.xt_special.specs.declared.writes.SpecialWrite.{SpecialWrite}
 use Rattle.xt_special.specs.Access.{SpecialWrites, with_set, with_sets}
-use Rattle.xt_special.specs.Timers.{ticked}
+use Rattle.xt_special.specs.Timers.{after_tick}
 use Rattle.xt_special.proofs.Kept.{ticked_other}
 use Rattle.xt_window.specs.Ring.{place, visible}
 use Rattle.xt_trace.specs.declared.record.RegWrite.{RegWrite}
@@ -182,7 +182,7 @@ saved_apart : (k n : ℕ) → is_saved k ≡ true → is_saved n ≡ false → k
 saved_apart k n h other e = both_ways (is_saved n) other (subst (λ j. is_saved j ≡ true) e h)
 
 -- a register that saves another, and is not written
-pub ticked_saved : (c : Control) (k : ℕ) → is_saved k ≡ true → special_of (ticked c) k ≡ special_of c k
+pub ticked_saved : (c : Control) (k : ℕ) → is_saved k ≡ true → special_of (after_tick c) k ≡ special_of c k
 ticked_saved c k h = ticked_other c.special k (saved_apart k 226 h refl) (saved_apart k 234 h refl)
 
 pub effect_spares : (e : Effect) (len : ℕ) (c : Control) (k : ℕ) → is_saved k ≡ true → AllSpare k e.sets → special_of (after_effect e len c) k ≡ special_of c k

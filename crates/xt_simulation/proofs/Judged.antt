@@ -15,28 +15,28 @@ use Rattle.xt_isa.specs.declared.system.SpecialName.TheVariants as SpecialName
 use Rattle.xt_isa.specs.Ranges.{in_range}
 use Rattle.xt_special.specs.declared.ps.Ps.{Ps}
 use Rattle.xt_special.specs.Control.{Control}
-use Rattle.xt_special.specs.Timers.{ticked}
+use Rattle.xt_special.specs.Timers.{after_tick}
 use Rattle.xt_special.specs.Exceptions.{after_exception}
 use Rattle.xt_window.specs.Ring.{visible, ahead}
 use Rattle.xt_window.specs.Moves.{behind}
 use Rattle.xt_trace.specs.declared.record.StepRecord.{StepRecord}
 use Rattle.xt_trace.specs.declared.record.RegWrite.{RegWrite}
-use Rattle.xt_rows.specs.declared.outcome.Awaited.{Awaited}
+use Rattle.xt_rows.specs.declared.outcome.ReplyTarget.{ReplyTarget}
 use Rattle.xt_rows.specs.declared.outcome.Effect.{Effect}
 use Rattle.xt_fetch.specs.Fetching.{Fetched, Fetches}
 use Rattle.xt_special.specs.Access.{set_to, no_set, with_sets, is_eps}
 use Rattle.xt_rows.specs.Effects.{illegal_instruction}
-use Rattle.xt_rows.specs.Operands.{named}
+use Rattle.xt_rows.specs.Operands.{highest_register}
 use Rattle.xt_rows.specs.Outcomes.{outcome, control_outcome, density_outcome}
 use Rattle.xt_rows.specs.Settling.{settled_exception, after_effect}
 use Rattle.xt_rows.proofs.Registers.{names_registers}
 use Rattle.xt_exec.specs.State.{State}
-use Rattle.xt_exec.specs.Turn.{in_window, has_windows, looks, window_check, return_size, is_illegal, illegal_return, written}
-use Rattle.xt_frames.specs.Frames.{Frame, FrameState, known, moved}
-use Rattle.xt_frames.specs.FrameStep.{FrameTurn, raised, fetched_step}
+use Rattle.xt_exec.specs.Turn.{in_window, has_windows, looks, window_check, return_size, is_illegal, illegal_return, write_with_reply}
+use Rattle.xt_frames.specs.Frames.{Frame, FrameState, value_or_zero, windows_moved}
+use Rattle.xt_frames.specs.FrameStep.{FrameTurn, exception_in_frame, fetched_step}
 use Rattle.xt_frames.specs.Marks.{holds_marks, unset_by, unset_written}
 use Rattle.xt_frames.specs.Nesting.{unset_after}
-use Rattle.xt_frames.specs.Breaches.{Bounds, sets_epc1, names_high, writes_epc1, falls, fresh_after}
+use Rattle.xt_frames.specs.Breaches.{Bounds, sets_epc1, names_high, writes_epc1, ends_exception_mode, fresh_after}
 use Rattle.xt_simulation.specs.Stacks.{sp_under}
 use Rattle.xt_simulation.specs.Relation.{Even, Level, can_be_lost, lost_at}
 use Rattle.xt_simulation.proofs.WindowLemmas.{passes}
@@ -44,7 +44,7 @@ use Rattle.xt_simulation.proofs.Behind.{caller_behind, none_behind}
 use Rattle.xt_rows.specs.Kinds.{SetsOne, SetsSaved, is_saved, moved_to, WritesNamed, AwaitsNamed, IsReturn, is_entry}
 use Rattle.xt_frames.proofs.Shown.{Sound, entry_number}
 use Rattle.xt_simulation.proofs.Windowed.{a0_known, return_names, return_has_caller, return_is}
-use Rattle.xt_exec.specs.Finishing.{Turn, finished}
+use Rattle.xt_exec.specs.Finishing.{Turn, finished_turn}
 use Rattle.xt_simulation.specs.JudgedSteps.{Steps}
 use Rattle.xt_simulation.proofs.Evenly.{Numbers, at_given, except, lost_in, numbers_set, same_at, same_given, same_numbers, even_effect, even_flow, even_ticked, even_raise_epc1, even_after}
 use Rattle.xt_simulation.proofs.Ordinary.{Ends, HasRoom, in_both, raise_alike}
@@ -55,14 +55,14 @@ abbrev pub Target : ℕ → Bool → List Bool → List Frame → ℕ → Fetche
 Target vecbase fresh unset spilled under at s t u = Ends vecbase t u → Steps vecbase (lost_in (fresh_after fresh t.kind at s.control.ps t.after.control.ps) (unset_after t.kind at unset)) spilled under t u
 
 module _ {vecbase : ℕ} (fresh : Bool) {s : State} {g : FrameState} {ring spilled : List Frame} (l : Level vecbase (lost_at fresh g) s g ring spilled) where
-  pub raise_target : (at : Fetched) (cause reply : ℕ) (addr : Option ℕ) → Target vecbase fresh g.unset spilled (sp_under (known g.seen 1) ring) at s (finished (in_window (settled_exception cause addr s.control) s) reply) (raised cause addr g)
+  pub raise_target : (at : Fetched) (cause reply : ℕ) (addr : Option ℕ) → Target vecbase fresh g.unset spilled (sp_under (value_or_zero g.seen 1) ring) at s (finished_turn (in_window (settled_exception cause addr s.control) s) reply) (exception_in_frame cause addr g)
   unfolding writes_epc1
   raise_target at cause reply addr ends =
       let a = raise_alike cause addr s.control g.control l.even in
       let c : Control = (settled_exception cause addr s.control).control in
       let d : Control = (settled_exception cause addr g.control).control in
       in_both l (settled_exception cause addr s.control) (settled_exception cause addr g.control) reply
-      (record { kind = refl; write = refl; access = refl; awaited = refl; even = even_after fresh (not s.control.ps.excm) (not (falls s.control.ps (after_exception cause addr s.control).ps)) g.unset g.unset c d a.even (λ w. at_given (lost_at fresh g) 177 (even_ticked _ _ (even_raise_epc1 cause addr s.control g.control (not-true _ w) l.even))) (same_numbers g.unset c d) })
+      (record { kind = refl; write = refl; access = refl; awaited = refl; even = even_after fresh (not s.control.ps.excm) (not (ends_exception_mode s.control.ps (after_exception cause addr s.control).ps)) g.unset g.unset c d a.even (λ w. at_given (lost_at fresh g) 177 (even_ticked _ _ (even_raise_epc1 cause addr s.control g.control (not-true _ w) l.even))) (same_numbers g.unset c d) })
       tt tt ends
 
 module _ {vecbase : ℕ} {lost : ℕ → Bool} {s : State} {g : FrameState} {ring spilled : List Frame} (l : Level vecbase lost s g ring spilled) where
@@ -123,19 +123,19 @@ illegal_excm {b = b} {s = s} {g = g} l (insn.Control (control.Entry number size)
     )
 illegal_excm l _ o bad = absurd (true≢false (sym bad))
 
-pub excm_step : (code : ℕ → ℕ) (i : Insn) (len reply : ℕ) (g : FrameState) → Calls i → g.control.ps.excm ≡ true → fetched_step (Fetches i len) code reply g ≡ raised illegal_instruction None g
+pub excm_step : (code : ℕ → ℕ) (i : Insn) (len reply : ℕ) (g : FrameState) → Calls i → g.control.ps.excm ≡ true → fetched_step (Fetches i len) code reply g ≡ exception_in_frame illegal_instruction None g
 unfolding outcome control_outcome density_outcome
 excm_step code i len reply g c e =
-    let P : Insn → Type 0 = λ j. fetched_step (Fetches j len) code reply g ≡ raised illegal_instruction None g in
+    let P : Insn → Type 0 = λ j. fetched_step (Fetches j len) code reply g ≡ exception_in_frame illegal_instruction None g in
     ⊎_elim
     (λ r. ⊎_elim
-    (λ q. subst P (sym q) (cond-true g.control.ps.excm (raised illegal_instruction None g) _ e))
-    (λ q. subst P (sym q) (cond-true g.control.ps.excm (raised illegal_instruction None g) _ e))
+    (λ q. subst P (sym q) (cond-true g.control.ps.excm (exception_in_frame illegal_instruction None g) _ e))
+    (λ q. subst P (sym q) (cond-true g.control.ps.excm (exception_in_frame illegal_instruction None g) _ e))
     r)
-    (λ n. subst P (sym n.2) (cond-true g.control.ps.excm (raised illegal_instruction None g) _ e))
+    (λ n. subst P (sym n.2) (cond-true g.control.ps.excm (exception_in_frame illegal_instruction None g) _ e))
     c
 
-looks_named : (i : Insn) (ps : Ps) → is_entry i ≡ false → looks i ps ≡ named i / 4
+looks_named : (i : Insn) (ps : Ps) → is_entry i ≡ false → looks i ps ≡ highest_register i / 4
 unfolding is_entry
 looks_named (insn.Control (control.Entry number size)) ps h = absurd (true≢false h)
 looks_named _ ps h = refl
@@ -148,16 +148,16 @@ module _ {vecbase : ℕ} {lost : ℕ → Bool} {s : State} {g : FrameState} {rin
   pub checked_ahead : (i : Insn) → s.control.ps.excm ≡ false → window_check i s ≡ 0 → ahead s.start s.base (looks i s.control.ps) ≡ 0
   checked_ahead i low c = sym (cond-true (has_windows s.control.ps) (ahead s.start s.base (looks i s.control.ps)) 0 (may_now low)) ∙ c
 
-  room_named : (i : Insn) → in_range i ≡ true → is_entry i ≡ false → names_high i g ≡ false → window_check i s ≡ 0 → moved ring + named i / 4 < 16
+  room_named : (i : Insn) → in_range i ≡ true → is_entry i ≡ false → names_high i g ≡ false → window_check i s ≡ 0 → windows_moved ring + highest_register i / 4 < 16
   room_named i ok other high c =
       let n = names_registers i ok in
       let fit = l.windows.fits in
       ⊎_elim
       (λ set_. ⊎_elim
       (λ bad. absurd (both_ways _ bad (sym (same_excm l) ∙ set_)))
-      (λ low. let b = leb-false 4 (named i) low in omega arith)
-      (and_cases g.control.ps.excm (leb 4 (named i)) high))
-      (λ low. passes l.windows (named i / 4) (omega arith) (rw (looks_named i s.control.ps other) at (checked_ahead i low c)))
+      (λ low. let b = leb-false 4 (highest_register i) low in omega arith)
+      (and_cases g.control.ps.excm (leb 4 (highest_register i)) high))
+      (λ low. passes l.windows (highest_register i / 4) (omega arith) (rw (looks_named i s.control.ps other) at (checked_ahead i low c)))
       (cases_Bool s.control.ps.excm)
 
   pub has_room : (i : Insn) → in_range i ≡ true → is_entry i ≡ false → names_high i g ≡ false → window_check i s ≡ 0 → (o : Option RegWrite) → WritesNamed i o → HasRoom ring o
@@ -168,7 +168,7 @@ module _ {vecbase : ℕ} {lost : ℕ → Bool} {s : State} {g : FrameState} {rin
       (omega arith, omega arith)
 
 -- ---- an effect
-pub awaited_named : (i : Insn) (awaited : Option Awaited) (reply : ℕ) → AwaitsNamed i awaited → WritesNamed i (written None awaited reply)
+pub awaited_named : (i : Insn) (awaited : Option ReplyTarget) (reply : ℕ) → AwaitsNamed i awaited → WritesNamed i (write_with_reply None awaited reply)
 awaited_named i None reply h = tt
 awaited_named i (Some a) reply h = h
 
@@ -201,10 +201,10 @@ lost_saved n h = ⊎_elim
     (or_cases (eqb n 177) (eqb n 181 || (is_eps n || holds_marks n)) h)
 
 -- the register that it names has a number
-named_given : {lost : ℕ → Bool} (i : Insn) (e : Effect) (len t n : ℕ) (c d : Control) → moved_to i ≡ Some (t, n) → SetsSaved i e.sets → Even lost c d → get_or (ticked (after_effect e len c)).special n 0 ≡ get_or (ticked (after_effect e len d)).special n 0
+named_given : {lost : ℕ → Bool} (i : Insn) (e : Effect) (len t n : ℕ) (c d : Control) → moved_to i ≡ Some (t, n) → SetsSaved i e.sets → Even lost c d → get_or (after_tick (after_effect e len c)).special n 0 ≡ get_or (after_tick (after_effect e len d)).special n 0
 named_given {lost = lost} i e len t n c d is sets h =
-    let x : Control = ticked (after_effect e len c) in
-    let y : Control = ticked (after_effect e len d) in
+    let x : Control = after_tick (after_effect e len c) in
+    let y : Control = after_tick (after_effect e len d) in
     ⊎_elim
     (λ can.
     let one : SetsOne (Some (t, n)) n e.sets = subst (λ (o : Option (ℕ × ℕ)). SetsOne o n e.sets) is (sets n (lost_saved n can)) in
@@ -216,14 +216,14 @@ named_given {lost = lost} i e len t n c d is sets h =
 abbrev no_mark : Option ℕ
 no_mark = None
 
-pub effect_numbers : {lost : ℕ → Bool} (i : Insn) (e : Effect) (len : ℕ) (c d : Control) (old : List Bool) → SetsSaved i e.sets → Even lost c d → Numbers old (unset_written i [] old) (ticked (after_effect e len c)) (ticked (after_effect e len d))
+pub effect_numbers : {lost : ℕ → Bool} (i : Insn) (e : Effect) (len : ℕ) (c d : Control) (old : List Bool) → SetsSaved i e.sets → Even lost c d → Numbers old (unset_written i [] old) (after_tick (after_effect e len c)) (after_tick (after_effect e len d))
 effect_numbers {lost = lost} i e len c d old sets h = by (moved_to i) refl
   where
     x : Control
-    x = ticked (after_effect e len c)
+    x = after_tick (after_effect e len c)
 
     y : Control
-    y = ticked (after_effect e len d)
+    y = after_tick (after_effect e len d)
 
     by : (o : Option (ℕ × ℕ)) → moved_to i ≡ o → Numbers old (unset_by o [] old) x y
     by None is = same_numbers old x y
@@ -238,7 +238,7 @@ sets_moved (insn.System (system.Rsr SpecialName.Wsr t n)) h = (t, ap (λ n. Some
 sets_moved (insn.System (system.Rsr SpecialName.Xsr t n)) h = (t, ap (λ n. Some (t, n)) (eqb-true n 177 h))
 sets_moved _ h = absurd (true≢false (sym h))
 
-pub epc1_effect : {lost : ℕ → Bool} (i : Insn) (e : Effect) (len : ℕ) (c d : Control) → SetsSaved i e.sets → Even lost c d → sets_epc1 i ≡ true → get_or (ticked (after_effect e len c)).special 177 0 ≡ get_or (ticked (after_effect e len d)).special 177 0
+pub epc1_effect : {lost : ℕ → Bool} (i : Insn) (e : Effect) (len : ℕ) (c d : Control) → SetsSaved i e.sets → Even lost c d → sets_epc1 i ≡ true → get_or (after_tick (after_effect e len c)).special 177 0 ≡ get_or (after_tick (after_effect e len d)).special 177 0
 epc1_effect i e len c d sets h w = let q = sets_moved i w in named_given i e len q.0 177 c d q.1 sets h
 
 -- another instruction writes neither EPC1 nor another

@@ -4,14 +4,14 @@ use Rattle.std.proofs.lemmas.Bool.{or_left}
 use Rattle.xt_map.specs.declared.access.Access.{Access}
 use Rattle.xt_map.specs.declared.contents.MemoryContents.{MemoryContents}
 use Rattle.xt_map.specs.Memory.{HasSizes, byte_at}
-use Rattle.xt_fetch.specs.Fetching.{fetched}
+use Rattle.xt_fetch.specs.Fetching.{fetch_at}
 use Rattle.xt_fetch.specs.Code.{AreBytes}
 use Rattle.xt_exec.specs.State.{State}
-use Rattle.xt_exec.specs.Laws.{IsShaped}
-use Rattle.xt_exec.specs.Turn.{planned, demand, turn, reply_where}
+use Rattle.xt_exec.specs.TurnLaws.{IsShaped}
+use Rattle.xt_exec.specs.Turn.{planned_turn, demand, turn, reply_where}
 use Rattle.xt_exec.proofs.Shapes.{turn_shaped}
-use Rattle.xt_frames.specs.Frames.{Frame, FrameState, known}
-use Rattle.xt_frames.specs.FrameStep.{FrameTurn, laid, laid_step}
+use Rattle.xt_frames.specs.Frames.{Frame, FrameState, value_or_zero}
+use Rattle.xt_frames.specs.FrameStep.{FrameTurn, with_inputs, step_with_inputs}
 use Rattle.xt_frames.specs.SaveAreas.{is_live}
 use Rattle.xt_frames.specs.HandlerSteps.{is_window}
 use Rattle.xt_frames.proofs.Inside.{breach_plain, step_plain, fresh_plain}
@@ -49,7 +49,7 @@ lay {s = s} {g = g} l = record {
 }
 
 -- the inputs of a record are those of its state
-pub same_laid : (code : ℕ → ℕ) (s : State) (reply : ℕ) (f : FrameState) → s.control.ps.owb < 16 → laid (inputs_of (turn code s reply).0) f ≡ laid (inputs 0 s) f
+pub same_laid : (code : ℕ → ℕ) (s : State) (reply : ℕ) (f : FrameState) → s.control.ps.owb < 16 → with_inputs (inputs_of (turn code s reply).0) f ≡ with_inputs (inputs 0 s) f
 unfolding turn
 same_laid code s reply f small = let e : s.control.ps.owb % 16 ≡ s.control.ps.owb = omega arith in rw e refl
 
@@ -86,9 +86,9 @@ pub record JudgedStep (code : ℕ → ℕ) (b : Bounds) (fresh : Bool) (s : Stat
       → Related (byte_at (memory_now code m s)) b (lost_at (fresh_turn fresh code (reply_now code m s) s) u.after) (state_now code m s) u.after ring spilled
 
 module _ (code : ℕ → ℕ) (bytes : AreBytes code) (b : Bounds) (fresh : Bool) (s : State) (f : FrameState) (ring spilled : List Frame) (m : MemoryContents) (l : Related (byte_at m) b (lost_at fresh f) s f ring spilled) (plain : f.nested ≡ None) (shaped : IsShaped s) (real : IsMemory m)
-    (nowindow : is_window (planned code s).kind ≡ false) (live stale : ℕ → Bool) (quiet : laid_breach b fresh code live stale (record_now code m s) (laid (inputs_of (record_now code m s)) f) ≡ None) where
+    (nowindow : is_window (planned_turn code s).kind ≡ false) (live stale : ℕ → Bool) (quiet : laid_breach b fresh code live stale (record_now code m s) (with_inputs (inputs_of (record_now code m s)) f) ≡ None) where
   abbrev laid_f : FrameState
-  laid_f = laid (inputs 0 s) f
+  laid_f = with_inputs (inputs 0 s) f
 
   quiet_f : laid_breach b fresh code live stale (record_now code m s) laid_f ≡ None
   quiet_f = subst (λ x. laid_breach b fresh code live stale (record_now code m s) x ≡ None) (same_laid code s (reply_now code m s) f shaped.control.ps.owb_fits) quiet
@@ -106,10 +106,10 @@ module _ (code : ℕ → ℕ) (bytes : AreBytes code) (b : Bounds) (fresh : Bool
         ps = p.level.even.ps;
         ring = p.ring;
         related = λ mine.
-            let saved : Saved (word (byte_at (memory_now code m s))) b.range.hi (sp_under (known f.seen 1) ring) spilled = (related_spared (byte_at m) (byte_at (memory_now code m s)) b f mine l).saved in
+            let saved : Saved (word (byte_at (memory_now code m s))) b.range.hi (sp_under (value_or_zero f.seen 1) ring) spilled = (related_spared (byte_at m) (byte_at (memory_now code m s)) b f mine l).saved in
             record {
               plain = lay p.level;
-              stack = subst (λ x. Stack b.range.lo b.range.hi (laid_step code x laid_f).after.seen (laid_step code x laid_f).after.frames) (record_reply code m s) stack;
+              stack = subst (λ x. Stack b.range.lo b.range.hi (step_with_inputs code x laid_f).after.seen (step_with_inputs code x laid_f).after.frames) (record_reply code m s) stack;
               saved = rw p.same saved;
             };
       }
@@ -119,14 +119,14 @@ module _ (code : ℕ → ℕ) (bytes : AreBytes code) (b : Bounds) (fresh : Bool
 
 module _ (code : ℕ → ℕ) (bytes : AreBytes code) (b : Bounds) (fresh : Bool) (s : State) (f : FrameState) (ring spilled : List Frame) (m framed : MemoryContents) (others stale : ℕ → Bool)
     (l : Related (byte_at m) b (lost_at fresh f) s f ring spilled) (plain : f.nested ≡ None) (shaped : IsShaped s) (real : IsMemory m) (sizes : HasSizes framed) (agree : Agree (live_of b f others) stale m framed)
-    (nowindow : is_window (planned code s).kind ≡ false) (none : breach_of b fresh code (live_of b f others) stale false (record_now code m s) f ≡ None) where
+    (nowindow : is_window (planned_turn code s).kind ≡ false) (none : breach_of b fresh code (live_of b f others) stale false (record_now code m s) f ≡ None) where
   abbrev g : FrameState
-  g = laid (inputs 0 s) f
+  g = with_inputs (inputs 0 s) f
 
-  same_g : laid (inputs_of (record_now code m s)) f ≡ g
+  same_g : with_inputs (inputs_of (record_now code m s)) f ≡ g
   same_g = same_laid code s (reply_now code m s) f shaped.control.ps.owb_fits
 
-  quiet : laid_breach b fresh code (live_of b f others) stale (record_now code m s) (laid (inputs_of (record_now code m s)) f) ≡ None
+  quiet : laid_breach b fresh code (live_of b f others) stale (record_now code m s) (with_inputs (inputs_of (record_now code m s)) f) ≡ None
   quiet = sym (breach_plain b fresh code (live_of b f others) stale (record_now code m s) f plain) ∙ none
 
   same_step : step_on code false (record_now code m s) f ≡ plain_after code (reply_now code m s) g
@@ -143,16 +143,16 @@ module _ (code : ℕ → ℕ) (bytes : AreBytes code) (b : Bounds) (fresh : Bool
   pub judge_areas : KeepsAreas (live_of b f others) stale (demand code s)
   judge_areas = step_areas code bytes b fresh s f ring spilled m l plain shaped real nowindow (live_of b f others) stale quiet
 
-  same_fresh : (planned code s).kind ≡ u.kind → (turn_of code s (reply_now code m s)).after.control.ps ≡ u.after.control.ps → fresh_turn fresh code (reply_now code m s) s ≡ fresh_on fresh code false (record_now code m s) f
+  same_fresh : (planned_turn code s).kind ≡ u.kind → (turn_of code s (reply_now code m s)).after.control.ps ≡ u.after.control.ps → fresh_turn fresh code (reply_now code m s) s ≡ fresh_on fresh code false (record_now code m s) f
   same_fresh kind after =
       let rec = record_now code m s in
       let ps : s.control.ps ≡ g.control.ps = l.plain.even.ps in
-      let kept : (laid_step code rec.reply (laid (inputs_of rec) f)).after.nested ≡ None = (laid_stays code rec.reply (laid (inputs_of rec) f)).0 ∙ plain in
-      let F : FrameState → ℕ → Bool = λ x reply. fresh_after fresh (laid_step code reply x).kind (fetched code x.control.pc) x.control.ps (laid_step code reply x).after.control.ps in
-      ap (λ pc. fresh_after fresh (planned code s).kind (fetched code pc) s.control.ps (turn_of code s (reply_now code m s)).after.control.ps) l.plain.even.pc
-      ∙ (ap (λ x. fresh_after fresh (planned code s).kind (fetched code g.control.pc) x (turn_of code s (reply_now code m s)).after.control.ps) ps
-      ∙ (ap (λ x. fresh_after fresh (planned code s).kind (fetched code g.control.pc) g.control.ps x) after
-      ∙ (ap (λ x. fresh_after fresh x (fetched code g.control.pc) g.control.ps u.after.control.ps) kind
+      let kept : (step_with_inputs code rec.reply (with_inputs (inputs_of rec) f)).after.nested ≡ None = (laid_stays code rec.reply (with_inputs (inputs_of rec) f)).0 ∙ plain in
+      let F : FrameState → ℕ → Bool = λ x reply. fresh_after fresh (step_with_inputs code reply x).kind (fetch_at code x.control.pc) x.control.ps (step_with_inputs code reply x).after.control.ps in
+      ap (λ pc. fresh_after fresh (planned_turn code s).kind (fetch_at code pc) s.control.ps (turn_of code s (reply_now code m s)).after.control.ps) l.plain.even.pc
+      ∙ (ap (λ x. fresh_after fresh (planned_turn code s).kind (fetch_at code g.control.pc) x (turn_of code s (reply_now code m s)).after.control.ps) ps
+      ∙ (ap (λ x. fresh_after fresh (planned_turn code s).kind (fetch_at code g.control.pc) g.control.ps x) after
+      ∙ (ap (λ x. fresh_after fresh x (fetch_at code g.control.pc) g.control.ps u.after.control.ps) kind
       ∙ (ap (F g) (sym (record_reply code m s))
       ∙ (ap (λ x. F x rec.reply) (sym same_g)
       ∙ sym (fresh_plain fresh code rec f plain kept))))))

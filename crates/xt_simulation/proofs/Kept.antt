@@ -3,7 +3,7 @@ use Rattle.std.proofs.Common.{◌≡◌, ℕ, ◌+◌, ◌-◌, ◌*◌, ◌/◌
 use Rattle.std.proofs.Math.ListN.{set}
 use Rattle.std.proofs.lemmas.Bool.{eq-eqb, ne_eqb, cases_eq, cases_lt, or_left}
 use Rattle.std.proofs.lemmas.List.{get_or-set_same, get_or-set_other, length-set, get_or_past, length-append, length-take, length-drop, length-replicate, get_or-take, get_or-drop, get_or_append_left, get_or-append_right, get_or-replicate}
-use Rattle.xt_frames.specs.Frames.{Frame, moved, seen_after_call, seen_after_return}
+use Rattle.xt_frames.specs.Frames.{Frame, windows_moved, seen_after_call, seen_after_return}
 use Rattle.xt_simulation.specs.Ring.{stands, Windows}
 use Rattle.xt_window.specs.Moves.{base_after_call, base_after_return}
 use Rattle.xt_window.specs.Ring.{place, visible, bit, with_bit, without_bit}
@@ -37,14 +37,14 @@ written_numbers regs seen base r v all wide narrow old i u e =
     (λ h. set_there regs base r v i narrow (omega arith) h.0 ∙ old i u h.1)
     (set_some seen r v i u (omega arith) e)
 
-module _ {regs : List ℕ} {base start : ℕ} {seen : List (Option ℕ)} {ring : List Frame} {low : ℕ} (w : Windows regs base start seen ring low) (r v : ℕ) (narrow : r < 16) (free : moved ring + r / 4 < 16) where
-  same_place : place base r ≡ place (moved ring + low) r
-  same_place = place_at base (moved ring + low) r (let e = w.based in omega arith)
+module _ {regs : List ℕ} {base start : ℕ} {seen : List (Option ℕ)} {ring : List Frame} {low : ℕ} (w : Windows regs base start seen ring low) (r v : ℕ) (narrow : r < 16) (free : windows_moved ring + r / 4 < 16) where
+  same_place : place base r ≡ place (windows_moved ring + low) r
+  same_place = place_at base (windows_moved ring + low) r (let e = w.based in omega arith)
 
-  pub visible_after_write : (i u : ℕ) → get_or (set seen r (Some v)) i None ≡ Some u → get_or (set regs (place (moved ring + low) r) v) (place (moved ring + low) i) 0 ≡ u
-  visible_after_write i u e = written_numbers regs seen (moved ring + low) r v w.size w.wide narrow w.visible i u e
+  pub visible_after_write : (i u : ℕ) → get_or (set seen r (Some v)) i None ≡ Some u → get_or (set regs (place (windows_moved ring + low) r) v) (place (windows_moved ring + low) i) 0 ≡ u
+  visible_after_write i u e = written_numbers regs seen (windows_moved ring + low) r v w.size w.wide narrow w.visible i u e
 
-  pub room_after_write : (i u : ℕ) → get_or (set seen r (Some v)) i None ≡ Some u → moved ring + i / 4 < 16
+  pub room_after_write : (i u : ℕ) → get_or (set seen r (Some v)) i None ≡ Some u → windows_moved ring + i / 4 < 16
   room_after_write i u e =
       let wide = w.wide in
       ⊎_elim (λ h. let same = h.0 in rw same free) (λ h. w.room i u h.1) (set_some seen r v i u (omega arith) e)
@@ -57,7 +57,7 @@ module _ {regs : List ℕ} {base start : ℕ} {seen : List (Option ℕ)} {ring :
     fits = w.fits;
     based = w.based;
     bits = w.bits;
-    kept = rw same_place (in_ring_set regs ring low (4 * (moved ring + low) + r) v w.shaped (omega arith) (omega arith) w.kept);
+    kept = rw same_place (in_ring_set regs ring low (4 * (windows_moved ring + low) + r) v w.shaped (omega arith) (omega arith) w.kept);
     visible = λ i u e. rw same_place (visible_after_write i u e);
     room = room_after_write;
   }
@@ -86,17 +86,17 @@ take_some seen n i v e =
     let below : i < n = omega arith in
     (below, sym (get_or-take n seen i None below) ∙ e)
 
-module _ {regs : List ℕ} {base start : ℕ} {seen : List (Option ℕ)} {ring : List Frame} {low : ℕ} (w : Windows regs base start seen ring low) (n : ℕ) (moves : 0 < n) (within : n ≤ 3) (free : moved ring + n < 16) where
-  new_bits : (k : ℕ) → low ≤ k → k < low + 16 → bit (with_bit start (base_after_call base n)) k ≡ (eqb k (n + moved ring + low) || stands k ring low)
+module _ {regs : List ℕ} {base start : ℕ} {seen : List (Option ℕ)} {ring : List Frame} {low : ℕ} (w : Windows regs base start seen ring low) (n : ℕ) (moves : 0 < n) (within : n ≤ 3) (free : windows_moved ring + n < 16) where
+  new_bits : (k : ℕ) → low ≤ k → k < low + 16 → bit (with_bit start (base_after_call base n)) k ≡ (eqb k (n + windows_moved ring + low) || stands k ring low)
   new_bits k at_least below =
       let e = w.based in
       ⊎_elim
-      (λ same. bit_with_same start (base_after_call base n) k (omega arith) ∙ sym (or_left (eqb k (n + moved ring + low)) (stands k ring low) (eq-eqb _ _ same)))
+      (λ same. bit_with_same start (base_after_call base n) k (omega arith) ∙ sym (or_left (eqb k (n + windows_moved ring + low)) (stands k ring low) (eq-eqb _ _ same)))
       (λ other.
-      let f : eqb k (n + moved ring + low) ≡ false = ne_eqb _ _ other in
-      bit_with_other start (base_after_call base n) k (λ same. other (one_window k (n + moved ring + low) (omega arith) (omega arith) (omega arith)))
+      let f : eqb k (n + windows_moved ring + low) ≡ false = ne_eqb _ _ other in
+      bit_with_other start (base_after_call base n) k (λ same. other (one_window k (n + windows_moved ring + low) (omega arith) (omega arith) (omega arith)))
       ∙ (w.bits k at_least below ∙ rw f refl))
-      (cases_eq k (n + moved ring + low))
+      (cases_eq k (n + windows_moved ring + low))
 
   pub called : Windows regs (base_after_call base n) (with_bit start (base_after_call base n)) (seen_after_call seen n) (record { by = n; kept = take (4 * n) seen } ∷ ring) low
   called =
@@ -116,7 +116,7 @@ module _ {regs : List ℕ} {base start : ℕ} {seen : List (Option ℕ)} {ring :
         kept = ((λ i v h. w.visible i v (take_some seen (4 * n) i v h).1), w.kept);
         visible = (λ i v h.
             let s = w.visible (4 * n + i) v (drop_some seen (4 * n) (16 - 4 * n) i v (omega arith) h) in
-            let p : place (n + moved ring + low) i ≡ place (moved ring + low) (4 * n + i) = omega arith in
+            let p : place (n + windows_moved ring + low) i ≡ place (windows_moved ring + low) (4 * n + i) = omega arith in
             rw p s);
         room = (λ i v h.
             let s = w.room (4 * n + i) v (drop_some seen (4 * n) (16 - 4 * n) i v (omega arith) h) in
@@ -133,10 +133,10 @@ module _ {regs : List ℕ} {base start : ℕ} {seen : List (Option ℕ)} {f : Fr
       ⊎_elim
       (λ same. bit_without_same start base k (omega arith) ∙ sym (stands_above k ring low (omega arith)))
       (λ other.
-      let g : eqb k (f.by + moved ring + low) ≡ false = ne_eqb _ _ other in
-      bit_without_other start base k (λ same. other (one_window k (f.by + moved ring + low) (omega arith) (omega arith) (omega arith)))
+      let g : eqb k (f.by + windows_moved ring + low) ≡ false = ne_eqb _ _ other in
+      bit_without_other start base k (λ same. other (one_window k (f.by + windows_moved ring + low) (omega arith) (omega arith) (omega arith)))
       ∙ (w.bits k at_least below ∙ rw g refl))
-      (cases_eq k (f.by + moved ring + low))
+      (cases_eq k (f.by + windows_moved ring + low))
 
   back_some : (i v : ℕ) → get_or (seen_after_return f.kept seen f.by) i None ≡ Some v → ((i < 4 * f.by) × (get_or f.kept i None ≡ Some v)) ⊎ ((4 * f.by ≤ i) × (i < 16) × (get_or seen (i - 4 * f.by) None ≡ Some v))
   back_some i v e =
@@ -172,7 +172,7 @@ module _ {regs : List ℕ} {base start : ℕ} {seen : List (Option ℕ)} {f : Fr
             (λ mine. w.kept.0 i v mine.1)
             (λ theirs.
             let at = w.visible (i - 4 * f.by) v theirs.2 in
-            let p : place (moved ring + low) i ≡ place (f.by + moved ring + low) (i - 4 * f.by) = (let b = theirs.0 in omega arith) in
+            let p : place (windows_moved ring + low) i ≡ place (f.by + windows_moved ring + low) (i - 4 * f.by) = (let b = theirs.0 in omega arith) in
             rw p at)
             (back_some i v h));
         room = (λ i v h. ⊎_elim

@@ -6,7 +6,7 @@ use Rattle.std.proofs.lemmas.List.{get_or-set_same, get_or-set_other, get_or_pas
 use Rattle.xt_special.specs.declared.ps.Ps.{Ps}
 use Rattle.xt_exec.specs.State.{State}
 use Rattle.xt_frames.specs.Frames.{FrameState}
-use Rattle.xt_frames.specs.FrameStep.{laid}
+use Rattle.xt_frames.specs.FrameStep.{with_inputs}
 use Rattle.xt_simulation.specs.Relation.{Same, Even, inputs, can_be_lost}
 
 set_own : (xs ys : List ℕ) (k : ℕ) → length xs ≡ length ys → get_or (set ys k (get_or xs k 0)) k 0 ≡ get_or xs k 0
@@ -50,7 +50,7 @@ same_relaid lost xs ys size only at = record {
 pub laid_after : {lost : ℕ → Bool} {xs ys : List ℕ} → Same lost xs ys → Same lost xs (relaid xs ys)
 laid_after {lost = lost} {xs = xs} {ys = ys} s = same_relaid lost xs ys s.size s.only (λ k known not_bits not_count. s.at k known)
 
-pub even_laid : {lost : ℕ → Bool} (s : State) (f : FrameState) → Even lost s.control f.control → Even lost s.control (laid (inputs 0 s) f).control
+pub even_laid : {lost : ℕ → Bool} (s : State) (f : FrameState) → Even lost s.control f.control → Even lost s.control (with_inputs (inputs 0 s) f).control
 even_laid s f e = record {
   pc = e.pc;
   ps = ap (λ (p : Ps). (let q : Ps = record p { owb = s.control.ps.owb } in q)) e.ps;

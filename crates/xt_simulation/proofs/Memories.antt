@@ -1,5 +1,5 @@
 -- Judged accesses keep the two memories equal outside save areas, and touch nothing that is saved.
-use Rattle.xt_exec.specs.Laws.{IsServed}
+use Rattle.xt_exec.specs.TurnLaws.{IsServed}
 use Rattle.xt_map.proofs.Small.{past_memory, to_small}
 use Rattle.xt_map.proofs.Alike.{inside, untouched, touched_alike, same_bytes, same_reply}
 use Rattle.std.proofs.Common.{◌≡◌, ◌⊎◌, ⊎_elim, inl, inr, ℕ, zero, suc, ◌+◌, ◌^◌, ◌<◌, ◌≤◌, Bool, true, false, ◌||◌, ◌&&◌, not, refl, sym, ◌∙◌, ap, arith, Some, None, Option}

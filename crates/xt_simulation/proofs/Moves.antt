@@ -9,9 +9,9 @@ use Rattle.xt_window.specs.Moves.{base_after_return}
 use Rattle.xt_rows.specs.declared.outcome.Flow.TheVariants.{Falls}
 use Rattle.xt_rows.specs.Settling.{after_flow}
 use Rattle.xt_exec.specs.State.{State}
-use Rattle.xt_exec.specs.Turn.{entered, returned, underflow, return_size, return_pc}
-use Rattle.xt_frames.specs.Frames.{Frame, FrameState, known, moved, seen_after_call, seen_after_return}
-use Rattle.xt_frames.specs.FrameStep.{pushed, popped}
+use Rattle.xt_exec.specs.Turn.{entry_turn, return_turn, underflow, return_size, return_pc}
+use Rattle.xt_frames.specs.Frames.{Frame, FrameState, value_or_zero, windows_moved, seen_after_call, seen_after_return}
+use Rattle.xt_frames.specs.FrameStep.{entry_in_frame, return_in_frame}
 use Rattle.xt_frames.specs.Stacks.{IsFrame}
 use Rattle.xt_simulation.specs.Stacks.{sp_under}
 use Rattle.xt_simulation.specs.Relation.{Even, Level}
@@ -19,24 +19,24 @@ use Rattle.xt_simulation.proofs.Modular.{bit_at_window}
 use Rattle.xt_simulation.proofs.Kept as kept
 use Rattle.xt_simulation.proofs.Behind.{free_behind}
 use Rattle.xt_simulation.proofs.Windowed.{caller_there}
-use Rattle.xt_exec.specs.Finishing.{finished}
+use Rattle.xt_exec.specs.Finishing.{finished_turn}
 use Rattle.xt_simulation.specs.JudgedSteps.{Steps}
 use Rattle.xt_simulation.proofs.Evenly.{even_flow, even_ticked}
 use Rattle.xt_simulation.proofs.Ordinary.{Ends, even_level}
 
-enters_sp : (seen : List (Option ℕ)) (n value : ℕ) (ring : List Frame) → 0 < n → n ≤ 3 → length seen ≡ 16 → sp_under (known (set (seen_after_call seen n) 1 (Some value)) 1) (record { by = n; kept = take (4 * n) seen } ∷ ring) ≡ sp_under (known seen 1) ring
+enters_sp : (seen : List (Option ℕ)) (n value : ℕ) (ring : List Frame) → 0 < n → n ≤ 3 → length seen ≡ 16 → sp_under (value_or_zero (set (seen_after_call seen n) 1 (Some value)) 1) (record { by = n; kept = take (4 * n) seen } ∷ ring) ≡ sp_under (value_or_zero seen 1) ring
 enters_sp seen n value ring pos small wide =
     ap (λ x. sp_under (unwrap_or x 0) ring) (get_or-take (4 * n) seen 1 None (omega arith))
 
-leaves_sp : (seen : List (Option ℕ)) (f : Frame) (ring : List Frame) → IsFrame f → sp_under (known (seen_after_return f.kept seen f.by) 1) ring ≡ sp_under (known seen 1) (f ∷ ring)
+leaves_sp : (seen : List (Option ℕ)) (f : Frame) (ring : List Frame) → IsFrame f → sp_under (value_or_zero (seen_after_return f.kept seen f.by) 1) ring ≡ sp_under (value_or_zero seen 1) (f ∷ ring)
 leaves_sp seen f ring shape =
     let k = shape.keeps in
     let m = shape.moves in
     ap (λ x. sp_under (unwrap_or x 0) ring) (get_or_append_left f.kept (take (16 - 4 * f.by) seen) None 1 (omega arith))
 
-pub enters : {vecbase : ℕ} {lost : ℕ → Bool} {s : State} {g : FrameState} {ring spilled : List Frame} → Level vecbase lost s g ring spilled → (value len reply : ℕ) → 0 < s.control.ps.callinc → moved ring + s.control.ps.callinc < 16
-    → Ends vecbase (finished (entered 1 value len s) reply) (pushed 1 value len g) → Steps vecbase lost spilled (sp_under (known g.seen 1) ring) (finished (entered 1 value len s) reply) (pushed 1 value len g)
-unfolding entered pushed
+pub enters : {vecbase : ℕ} {lost : ℕ → Bool} {s : State} {g : FrameState} {ring spilled : List Frame} → Level vecbase lost s g ring spilled → (value len reply : ℕ) → 0 < s.control.ps.callinc → windows_moved ring + s.control.ps.callinc < 16
+    → Ends vecbase (finished_turn (entry_turn 1 value len s) reply) (entry_in_frame 1 value len g) → Steps vecbase lost spilled (sp_under (value_or_zero g.seen 1) ring) (finished_turn (entry_turn 1 value len s) reply) (entry_in_frame 1 value len g)
+unfolding entry_turn entry_in_frame
 enters {s = s} {g = g} {ring = ring} {spilled = spilled} l value len reply pos room ends =
     let n : s.control.ps.callinc ≡ g.control.ps.callinc = ap (λ p. p.callinc) l.even.ps in
     let c = l.calls in
@@ -65,8 +65,8 @@ moved_even p q e h = record { pc = e; ps = h.ps; threadptr = h.threadptr; waits 
 
 -- where the caller stands in the ring
 pub leaves : {vecbase : ℕ} {lost : ℕ → Bool} {s : State} {g : FrameState} {f : Frame} {ring spilled : List Frame} → Level vecbase lost s g (f ∷ ring) spilled → (a0 reply : ℕ) → return_size a0 ≡ f.by
-    → Ends vecbase (finished (returned a0 s) reply) (popped a0 g) → Steps vecbase lost spilled (sp_under (known g.seen 1) (f ∷ ring)) (finished (returned a0 s) reply) (popped a0 g)
-unfolding returned popped
+    → Ends vecbase (finished_turn (return_turn a0 s) reply) (return_in_frame a0 g) → Steps vecbase lost spilled (sp_under (value_or_zero g.seen 1) (f ∷ ring)) (finished_turn (return_turn a0 s) reply) (return_in_frame a0 g)
+unfolding return_turn return_in_frame
 leaves {vecbase = vecbase} {lost = lost} {s = s} {g = g} {f = f} {ring = ring} {spilled = spilled} l a0 reply n =
     let w = l.windows in
     let at : bit s.start (base_after_return s.base f.by) ≡ true = caller_there w in
@@ -90,8 +90,8 @@ leaves {vecbase = vecbase} {lost = lost} {s = s} {g = g} {f = f} {ring = ring} {
     })
 
 -- where the caller does not stand in the ring, the return is an underflow
-pub underflows : {vecbase : ℕ} {lost : ℕ → Bool} {s : State} {g : FrameState} {spilled : List Frame} → Level vecbase lost s g [] spilled → (a0 : ℕ) → 0 < return_size a0 → return_size a0 ≤ 3 → returned a0 s ≡ underflow (return_size a0) s
-unfolding returned
+pub underflows : {vecbase : ℕ} {lost : ℕ → Bool} {s : State} {g : FrameState} {spilled : List Frame} → Level vecbase lost s g [] spilled → (a0 : ℕ) → 0 < return_size a0 → return_size a0 ≤ 3 → return_turn a0 s ≡ underflow (return_size a0) s
+unfolding return_turn
 underflows {s = s} l a0 pos small =
     let at : bit s.start (base_after_return s.base (return_size a0)) ≡ false = bit_at_window s.start (base_after_return s.base (return_size a0)) (s.base + (16 - return_size a0)) (omega arith) ∙ free_behind l.windows (return_size a0) pos (omega arith) in
     rw at refl

@@ -10,15 +10,15 @@ use Rattle.xt_trace.specs.declared.record.StepKind.{StepKind}
 use Rattle.xt_trace.specs.declared.record.StepKind.TheVariants as kind
 use Rattle.xt_rows.specs.declared.outcome.Outcome.TheVariants.{Does}
 use Rattle.xt_rows.specs.Settling.{settled_interrupt}
-use Rattle.xt_fetch.specs.Fetching.{Fetched, Fetches, Fails, SpellsNothing, fetched}
+use Rattle.xt_fetch.specs.Fetching.{Fetched, Fetches, Fails, SpellsNothing, fetch_at}
 use Rattle.xt_exec.specs.State.{State}
-use Rattle.xt_exec.specs.Laws.{IsShaped}
-use Rattle.xt_exec.specs.Turn.{in_window, planned, demand, turn, done, reply_where}
+use Rattle.xt_exec.specs.TurnLaws.{IsShaped}
+use Rattle.xt_exec.specs.Turn.{in_window, planned_turn, demand, turn, outcome_turn, reply_where}
 use Rattle.xt_frames.specs.declared.holes.Nested.{Nested}
 use Rattle.xt_frames.specs.Frames.{FrameState}
-use Rattle.xt_frames.specs.FrameStep.{FrameTurn, laid, laid_step}
+use Rattle.xt_frames.specs.FrameStep.{FrameTurn, with_inputs, step_with_inputs}
 use Rattle.xt_frames.specs.Marks.{are_own_marks}
-use Rattle.xt_frames.specs.Nesting.{begins, begun, current, inside, is_nesting}
+use Rattle.xt_frames.specs.Nesting.{begins, nested_entry, current, nested_view, is_nesting}
 use Rattle.xt_frames.specs.HandlerSteps.{returns, fetched_returns}
 use Rattle.xt_frames.specs.Breaches.{Bounds, inputs_of, breach_of, fetched_tests, fetched_sets_epc1, writes_epc1, fresh_after, touches_save_area, loads_stale}
 use Rattle.xt_frames.specs.Judging.{fresh_on, step_on, place_on}
@@ -47,8 +47,8 @@ pub record Back (s t suspended : State) : Type 0 where
   pub ps : t.control.ps ≡ suspended.control.ps
 
 -- ---- the record that begins one
-module _ (code : ℕ → ℕ) (m : MemoryContents) (s : State) (f : FrameState) (nesting : is_nesting (planned code s).kind ≡ true) (none : f.nested ≡ None) where
-  begun_now : step_on code true (record_now code m s) f ≡ begun (laid (inputs_of (record_now code m s)) f)
+module _ (code : ℕ → ℕ) (m : MemoryContents) (s : State) (f : FrameState) (nesting : is_nesting (planned_turn code s).kind ≡ true) (none : f.nested ≡ None) where
+  begun_now : step_on code true (record_now code m s) f ≡ nested_entry (with_inputs (inputs_of (record_now code m s)) f)
   begun_now = step_begins code (record_now code m s) f (nesting_now code m s nesting) none
 
   pub no_access : demand code s ≡ None
@@ -69,9 +69,9 @@ module _ (code : ℕ → ℕ) (m : MemoryContents) (s : State) (f : FrameState) 
   pub begin_fresh : (fresh : Bool) → fresh_on fresh code true (record_now code m s) f ≡ fresh
   begin_fresh fresh =
       let rec = record_now code m s in
-      let at = fetched code (current f).control.pc in
-      ap (λ (u : FrameTurn). fresh_after fresh u.kind at (laid (inputs_of rec) (current f)).control.ps (current u.after).control.ps) begun_now
-      ∙ sym (fresh_begun fresh at (laid (inputs_of rec) (current f)) (laid (inputs_of rec) f))
+      let at = fetch_at code (current f).control.pc in
+      ap (λ (u : FrameTurn). fresh_after fresh u.kind at (with_inputs (inputs_of rec) (current f)).control.ps (current u.after).control.ps) begun_now
+      ∙ sym (fresh_begun fresh at (with_inputs (inputs_of rec) (current f)) (with_inputs (inputs_of rec) f))
 
 -- ---- a step inside one that shows no breach
 not_written : (k : StepKind) (at : Fetched) (ps : Ps) → ps.excm ≡ true → fetched_sets_epc1 at ≡ false → writes_epc1 k at ps ≡ false
@@ -94,36 +94,36 @@ module _ {code : ℕ → ℕ} {b : Bounds} {m : MemoryContents} {s : State} {f :
   rec = record_now code m s
 
   abbrev g : FrameState
-  g = laid (inputs 0 s) (inside h.x f)
+  g = with_inputs (inputs 0 s) (nested_view h.x f)
 
-  tests : NoneShown (fetched_tests b false live stale (fetched code g.control.pc) rec g (laid_step code rec.reply g))
+  tests : NoneShown (fetched_tests b false live stale (fetch_at code g.control.pc) rec g (step_with_inputs code rec.reply g))
   tests = laid_tests h.inside code b m live stale h.nested shaped none
 
-  quiet : (fetched_sets_epc1 (fetched code g.control.pc) ≡ false) × (fetched_returns (fetched code g.control.pc) ≡ true → are_own_marks h.x.marks ≡ true)
-  quiet = fetched_quiet b live stale (fetched code g.control.pc) rec g (laid_step code rec.reply g) h.x h.nested tests
+  quiet : (fetched_sets_epc1 (fetch_at code g.control.pc) ≡ false) × (fetched_returns (fetch_at code g.control.pc) ≡ true → are_own_marks h.x.marks ≡ true)
+  quiet = fetched_quiet b live stale (fetch_at code g.control.pc) rec g (step_with_inputs code rec.reply g) h.x h.nested tests
 
   pub nested_areas : KeepsAreas live stale (demand code s)
   nested_areas =
-      let k = areas_fetched b false live stale (fetched code g.control.pc) rec g (laid_step code rec.reply g) tests in
+      let k = areas_fetched b false live stale (fetch_at code g.control.pc) rec g (step_with_inputs code rec.reply g) tests in
       let a = record_access code s (reply_now code m s) in
       keeps_from live stale (demand code s) (ap (touches_save_area live) (sym a) ∙ k.0) (ap (loads_stale live stale) (sym a) ∙ k.1)
 
   pub nested_fresh : fresh_on false code true rec f ≡ false
   nested_fresh =
-      let y = laid (inputs_of rec) (inside h.x f) in
+      let y = with_inputs (inputs_of rec) (nested_view h.x f) in
       let excm_y : y.control.ps.excm ≡ true = ap (λ (z : FrameState). z.control.ps.excm) (laid_same h.inside code m shaped) ∙ laid_excm h.inside in
-      fresh_inside false code true rec f h.x h.nested ∙ or_from _ _ (not_written (laid_step code rec.reply y).kind (fetched code y.control.pc) y.control.ps excm_y quiet.0) refl
+      fresh_inside false code true rec f h.x h.nested ∙ or_from _ _ (not_written (step_with_inputs code rec.reply y).kind (fetch_at code y.control.pc) y.control.ps excm_y quiet.0) refl
 
   -- ---- the end of the interrupt
-  here : fetched_returns (fetched code s.control.pc) ≡ true → (len : ℕ) × (planned code s ≡ done (Does (back s.control)) len s)
-  here ends = back_at code s h.inside.mode h.inside.level h.inside.running (fetched code s.control.pc) refl ends
+  here : fetched_returns (fetch_at code s.control.pc) ≡ true → (len : ℕ) × (planned_turn code s ≡ outcome_turn (Does (back s.control)) len s)
+  here ends = back_at code s h.inside.mode h.inside.level h.inside.running (fetch_at code s.control.pc) refl ends
 
   pc_same : s.control.pc ≡ h.x.pc
   pc_same = h.inside.even.pc
 
-  pub nested_back : returns code (planned code s).kind s.control.pc ≡ true → Back s (state_now code m s) suspended
+  pub nested_back : returns code (planned_turn code s).kind s.control.pc ≡ true → Back s (state_now code m s) suspended
   nested_back e =
-      let plan = here (returns_fetched code (planned code s).kind s.control.pc e) in
+      let plan = here (returns_fetched code (planned_turn code s).kind s.control.pc e) in
       let state = back_state code s (reply_now code m s) plan.0 plan.1 in
       record {
         regs = ap (λ (t : State). t.regs) state;
@@ -132,8 +132,8 @@ module _ {code : ℕ → ℕ} {b : Bounds} {m : MemoryContents} {s : State} {f :
         ps = ap (λ (t : State). t.control.ps) state ∙ back_ps h.inside h.handling;
       }
 
-  pub nested_seen : returns code (planned code s).kind s.control.pc ≡ true → (i : ℕ) → visible (state_now code m s).regs (state_now code m s).base i ≡ visible suspended.regs suspended.base i
+  pub nested_seen : returns code (planned_turn code s).kind s.control.pc ≡ true → (i : ℕ) → visible (state_now code m s).regs (state_now code m s).base i ≡ visible suspended.regs suspended.base i
   nested_seen e i =
       let back = nested_back e in
-      let at : fetched_returns (fetched code g.control.pc) ≡ true = subst (λ pc. fetched_returns (fetched code pc) ≡ true) pc_same (returns_fetched code (planned code s).kind s.control.pc e) in
+      let at : fetched_returns (fetch_at code g.control.pc) ≡ true = subst (λ pc. fetched_returns (fetch_at code pc) ≡ true) pc_same (returns_fetched code (planned_turn code s).kind s.control.pc e) in
       ap (λ r. visible r (state_now code m s).base i) (back.regs ∙ same_regs h.inside (quiet.1 at)) ∙ ap (λ x. visible suspended.regs x i) back.base

@@ -7,10 +7,10 @@ use Rattle.xt_map.specs.Touching.{IsMemory}
 use Rattle.xt_trace.specs.declared.record.StepRecord.{StepRecord}
 use Rattle.xt_fetch.specs.Code.{AreBytes}
 use Rattle.xt_exec.specs.State.{State}
-use Rattle.xt_exec.specs.Laws.{IsShaped}
-use Rattle.xt_exec.specs.Turn.{planned, turn}
+use Rattle.xt_exec.specs.TurnLaws.{IsShaped}
+use Rattle.xt_exec.specs.Turn.{planned_turn, turn}
 use Rattle.xt_frames.specs.Frames.{FrameState}
-use Rattle.xt_frames.specs.FrameStep.{laid}
+use Rattle.xt_frames.specs.FrameStep.{with_inputs}
 use Rattle.xt_frames.specs.Nesting.{is_nesting}
 use Rattle.xt_frames.specs.SaveAreas.{Range, is_live}
 use Rattle.xt_frames.specs.HandlerSteps.{Mode, Plain, Handles, Nests, is_window, closes, mode_after}
@@ -54,7 +54,7 @@ pub onward_core : (code : ℕ → ℕ) (m : MemoryContents) (b : Bounds) (fresh 
 onward_core code m b fresh s f e last (StaysIn is h) = subst (λ z. InCore code (cond z Handles Nests) m b fresh s f e) (sym is) h
 onward_core code m b fresh s f e last (GoesBack is none h) = subst (λ z. InCore code (cond z Handles Nests) m b fresh s f e) (sym is) (h, none)
 
-pub kind_now : (code : ℕ → ℕ) (m : MemoryContents) (s : State) → (record_now code m s).kind ≡ (planned code s).kind
+pub kind_now : (code : ℕ → ℕ) (m : MemoryContents) (s : State) → (record_now code m s).kind ≡ (planned_turn code s).kind
 unfolding turn
 kind_now code m s = refl
 
@@ -83,7 +83,7 @@ module _ (code : ℕ → ℕ) (bytes : AreBytes code) (b : Bounds) (good : IsGoo
     idle_to mode next later is h only = record { next = subst (λ (z : Mode). InCore code z (memory_now code m s) b later (state_now code m s) f (entered_by mode s m e)) (sym is) h; only = only }
 
     -- the record of a window exception
-    pub plain_idle : (fresh later : Bool) → InCore code Plain m b fresh s f e → is_window (planned code s).kind ≡ true → window_breach code (planned code s).kind (laid (inputs 0 s) f) ≡ None → Idle Plain later
+    pub plain_idle : (fresh later : Bool) → InCore code Plain m b fresh s f e → is_window (planned_turn code s).kind ≡ true → window_breach code (planned_turn code s).kind (with_inputs (inputs 0 s) f) ≡ None → Idle Plain later
     plain_idle fresh later h window none =
         let k = stretches_are_entered code bytes b good m fresh s f h.0.ring h.0.spilled 0 h.0.related shaped window none in
         let same : memory_now code m s ≡ m = ap (memory_after_step m) k.0 in
@@ -91,13 +91,13 @@ module _ (code : ℕ → ℕ) (bytes : AreBytes code) (b : Bounds) (good : IsGoo
         (subst (λ (y : MemoryContents). Handling code b y (state_now code m s) f s (byte_at m)) (sym same) k.1, h.1) (λ a dead. ap (λ (y : MemoryContents). byte_at y a) same)
 
     -- a handler step goes on or ends the stretch
-    pub handles_idle : (fresh : Bool) → InCore code Handles m b fresh s f e → IsMemory m → is_nesting (planned code s).kind ≡ false → Idle Handles false
+    pub handles_idle : (fresh : Bool) → InCore code Handles m b fresh s f e → IsMemory m → is_nesting (planned_turn code s).kind ≡ false → Idle Handles false
     handles_idle fresh h real other = by_step (handler_steps_are_kept code bytes b good m s f e.before e.opened h.0 shaped real.sizes other)
       where
-        to_mode : (last : Bool) → closes code (planned code s).kind s.control.pc ≡ last → mode_after code Handles rec ≡ cond last Plain Handles
+        to_mode : (last : Bool) → closes code (planned_turn code s).kind s.control.pc ≡ last → mode_after code Handles rec ≡ cond last Plain Handles
         to_mode last is =
             cond-false (is_nesting rec.kind) Nests (cond (closes code rec.kind rec.pc) Plain Handles) (ap is_nesting (kind_now code m s) ∙ other)
-            ∙ ap (λ z. cond z Plain Handles) (ap (λ k. closes code k rec.pc) (kind_now code m s) ∙ (ap (closes code (planned code s).kind) (pc_now code m s) ∙ is))
+            ∙ ap (λ z. cond z Plain Handles) (ap (λ k. closes code k rec.pc) (kind_now code m s) ∙ (ap (closes code (planned_turn code s).kind) (pc_now code m s) ∙ is))
 
         by_step : HandlerStep code b m s f e.before e.opened → Idle Handles false
         by_step (steps_on open_ inside only alone) = idle_to Handles Handles false (to_mode false open_) (inside, h.1) only
@@ -106,7 +106,7 @@ module _ (code : ℕ → ℕ) (bytes : AreBytes code) (b : Bounds) (good : IsGoo
             (subst (λ (y : MemoryContents). Somewhere (byte_at y) b (lost_at false f) (state_now code m s) f) (sym same) somewhere, h.1) (λ a dead. ap (λ (y : MemoryContents). byte_at y a) same)
 
     -- ---- the record that begins a nested interrupt
-    pub begin_core : (fresh : Bool) → InCore code Handles m b fresh s f e → length f.unset ≡ 256 → is_nesting (planned code s).kind ≡ true
+    pub begin_core : (fresh : Bool) → InCore code Handles m b fresh s f e → length f.unset ≡ 256 → is_nesting (planned_turn code s).kind ≡ true
         → Suspends code b (memory_now code m s) (state_now code m s) (step_on code true rec f).after (as_left e.before s (state_now code m s)) e.opened s
     begin_core fresh h count nesting =
         let same : memory_now code m s ≡ m = ap (memory_after_step m) (no_access code m s f nesting h.1) in

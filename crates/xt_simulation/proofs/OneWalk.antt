@@ -14,7 +14,7 @@ use Rattle.xt_frames.specs.Breaches.{Bounds}
 use Rattle.xt_frames.specs.Judging.{Standing, Seen, Handled, Judges, Breaks}
 use Rattle.xt_frames.specs.Verdict.{Known, Judgement, entry_of, is_nested, judgement, opening_known, past_handled_0, past_handled_1, past_judged_0, past_judged_1, seen_0, seen_1, passed_0, passed_1}
 use Rattle.xt_simulation.specs.Steps.{record_now, state_now, memory_now}
-use Rattle.xt_simulation.specs.Walking.{Entered, World, entered_by, entered_past, moved_by, moved0, moved1, given, walked}
+use Rattle.xt_simulation.specs.Walking.{Entered, World, entered_by, entered_past, moved_by, moved0, moved1, world_after_turn, world_after_turns}
 use Rattle.xt_simulation.specs.Opening.{bounds0, bounds1, frame0, frame1}
 use Rattle.xt_simulation.specs.Headline.{turns_of, BreachesStay}
 use Rattle.xt_simulation.proofs.Headline.{world_of, next_is, core_next, line_next}
@@ -24,7 +24,7 @@ module _ (code : ℕ → ℕ) (b0 b1 : Bounds) where
   pub record Reaches (cs : List Bool) (from : Option World) (v : worlds.World State) (k : Known) : Type 0 where
     pub entered0 : Entered
     pub entered1 : Entered
-    pub walk : walked code b0 b1 cs from ≡ Some (world_of code v k entered0 entered1)
+    pub walk : world_after_turns code b0 b1 cs from ≡ Some (world_of code v k entered0 entered1)
 
   -- a turn of core 0, and of core 1, into the run's next state and memory
   arrives0 : (v : worlds.World State) (k : Known) (e0 e1 at : Entered) (standing : Standing) (stale : ℕ → Bool) (judged : List (Bool × StepRecord)) (entries left : List Entry) → 0 < v.core0.left → entries ≡ left
@@ -53,13 +53,13 @@ module _ (code : ℕ → ℕ) (b0 b1 : Bounds) where
     pub whole : j.breach ≡ None → (made ≡ turns_of cs) × (at ≡ advance (processor code) cs v)
 
   -- one turn before the rest of a walk
-  turned : (c : Bool) (w : World) (n : Option World) {cs : List Bool} {v : worlds.World State} {k : Known} → given code b0 b1 c w ≡ n → Reaches cs n v k → Reaches (c ∷ cs) (Some w) v k
-  turned c w n {cs = cs} is r = record { entered0 = r.entered0; entered1 = r.entered1; walk = ap (walked code b0 b1 cs) is ∙ r.walk }
+  turned : (c : Bool) (w : World) (n : Option World) {cs : List Bool} {v : worlds.World State} {k : Known} → world_after_turn code b0 b1 c w ≡ n → Reaches cs n v k → Reaches (c ∷ cs) (Some w) v k
+  turned c w n {cs = cs} is r = record { entered0 = r.entered0; entered1 = r.entered1; walk = ap (world_after_turns code b0 b1 cs) is ∙ r.walk }
 
-  come0 : (w : World) (n : Option World) {cs : List ℕ} {v : worlds.World State} {j : Judgement} → given code b0 b1 true w ≡ n → Comes cs n (give (processor code) 0 v) j → Comes (0 ∷ cs) (Some w) v j
+  come0 : (w : World) (n : Option World) {cs : List ℕ} {v : worlds.World State} {j : Judgement} → world_after_turn code b0 b1 true w ≡ n → Comes cs n (give (processor code) 0 v) j → Comes (0 ∷ cs) (Some w) v j
   come0 w n is r = record { made = true ∷ r.made; at = r.at; reaches = turned true w n is r.reaches; whole = λ e. (ap (λ l. true ∷ l) (r.whole e).0, (r.whole e).1) }
 
-  come1 : (w : World) (n : Option World) {c : ℕ} {cs : List ℕ} {v : worlds.World State} {j : Judgement} → given code b0 b1 false w ≡ n → Comes cs n (give (processor code) 1 v) j → Comes (suc c ∷ cs) (Some w) v j
+  come1 : (w : World) (n : Option World) {c : ℕ} {cs : List ℕ} {v : worlds.World State} {j : Judgement} → world_after_turn code b0 b1 false w ≡ n → Comes cs n (give (processor code) 1 v) j → Comes (suc c ∷ cs) (Some w) v j
   come1 w n is r = record { made = false ∷ r.made; at = r.at; reaches = turned false w n is r.reaches; whole = λ e. (ap (λ l. false ∷ l) (r.whole e).0, (r.whole e).1) }
 
   -- nothing is left, or the next record is a breach

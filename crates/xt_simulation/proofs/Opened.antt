@@ -15,9 +15,9 @@ use Rattle.xt_special.specs.Control.{Control, special_of}
 use Rattle.xt_special.specs.Opening.{no_special, opening_special, opening_control}
 use Rattle.xt_window.specs.Ring.{visible, bit, cleared_regs}
 use Rattle.xt_exec.specs.State.{State, opening_state, opening_regs, prid_of}
-use Rattle.xt_exec.specs.Laws.{IsShaped}
+use Rattle.xt_exec.specs.TurnLaws.{IsShaped}
 use Rattle.xt_exec.proofs.Shapes.{opening_shaped}
-use Rattle.xt_frames.specs.Frames.{known}
+use Rattle.xt_frames.specs.Frames.{value_or_zero}
 use Rattle.xt_frames.specs.SaveAreas.{Range}
 use Rattle.xt_frames.specs.Breaches.{lost_of, Bounds}
 use Rattle.xt_frames.specs.Frames.{all_set}
@@ -123,7 +123,7 @@ opening_related core pc b m i shaped link =
         wide = values_length (visible (opening_state core pc b.vecbase b.range.hi).regs (opening_state core pc b.vecbase b.range.hi).base) 0 16;
         shaped = tt;
         sp = refl;
-        chain = (let r = i.room in let e : known (frame_of (opening_state core pc b.vecbase b.range.hi)).seen 1 ≡ b.range.hi - 64 = sp in omega arith);
+        chain = (let r = i.room in let e : value_or_zero (frame_of (opening_state core pc b.vecbase b.range.hi)).seen 1 ≡ b.range.hi - 64 = sp in omega arith);
       };
       saved = link;
     }

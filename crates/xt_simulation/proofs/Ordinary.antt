@@ -12,10 +12,10 @@ use Rattle.xt_rows.specs.declared.outcome.Outcome.{Outcome}
 use Rattle.xt_rows.specs.declared.outcome.Outcome.TheVariants.{Does, Raises, Asks, Stops, Windowed}
 use Rattle.xt_rows.specs.Operands.{reads, special_reads}
 use Rattle.xt_rows.specs.Outcomes.{outcome_at, value_of}
-use Rattle.xt_rows.specs.Settling.{Settled, settled, settled_exception, after_effect}
+use Rattle.xt_rows.specs.Settling.{Settled, after_outcome, settled_exception, after_effect}
 use Rattle.xt_exec.specs.State.{State}
-use Rattle.xt_exec.specs.Turn.{in_window, kind_of, written, with_write}
-use Rattle.xt_frames.specs.Frames.{Frame, FrameState, known, moved, seen_after_write}
+use Rattle.xt_exec.specs.Turn.{in_window, kind_of, write_with_reply, with_write}
+use Rattle.xt_frames.specs.Frames.{Frame, FrameState, value_or_zero, windows_moved, seen_after_write}
 use Rattle.xt_frames.specs.FrameStep.{FrameTurn, in_frame}
 use Rattle.xt_frames.specs.declared.holes.Nested.{Nested}
 use Rattle.xt_frames.specs.Breaches.{lost_of, lacks, is_unset, reads_none, reads_none_in, reads_unset, reads_lost, reads_epc1, loses_epc1}
@@ -25,7 +25,7 @@ use Rattle.xt_simulation.specs.Stacks.{sp_under}
 use Rattle.xt_simulation.specs.Relation.{Even, Level, lost_at}
 use Rattle.xt_simulation.proofs.Kept as kept
 use Rattle.xt_simulation.proofs.Windowed.{some_value, visible_value}
-use Rattle.xt_exec.specs.Finishing.{Turn, finished}
+use Rattle.xt_exec.specs.Finishing.{Turn, finished_turn}
 use Rattle.xt_simulation.specs.JudgedSteps.{Steps}
 use Rattle.xt_simulation.proofs.Evenly.{same_at, even_effect, even_ticked, even_raise}
 
@@ -48,18 +48,18 @@ what_is_read fresh i g unset lost =
     record { first = a.0; second = b.0; special = c.0; other = c.1; lost = e.0; other_lost = e.1 }
 
 module _ (fresh : Bool) (s : State) (g : FrameState) (even : Even (lost_at fresh g) s.control g.control) (numbers : (i v : ℕ) → get_or g.seen i None ≡ Some v → visible s.regs s.base i ≡ v) where
-  same_value : (o : Option ℕ) → lacks g.seen o ≡ false → value_of (visible s.regs s.base) o ≡ value_of (known g.seen) o
+  same_value : (o : Option ℕ) → lacks g.seen o ≡ false → value_of (visible s.regs s.base) o ≡ value_of (value_or_zero g.seen) o
   same_value None h = refl
   same_value (Some k) h =
       let v = some_value (get_or g.seen k None) h in
-      let b : known g.seen k ≡ v.0 = ap (λ o. unwrap_or o 0) v.1 in
+      let b : value_or_zero g.seen k ≡ v.0 = ap (λ o. unwrap_or o 0) v.1 in
       numbers k v.0 v.1 ∙ sym b
 
   same_special : (o : Option ℕ) → reads_lost fresh o ≡ false → is_unset g.unset o ≡ false → value_of (special_of s.control) o ≡ value_of (special_of g.control) o
   same_special None h u = refl
   same_special (Some k) h u = even.special.at k (or_from (lost_of fresh k) (get_or g.unset k false) h u)
 
-  pub outcome_read : (code : ℕ → ℕ) (i : Insn) → Reads fresh i g → outcome_at code i (visible s.regs s.base) s.control ≡ outcome_at code i (known g.seen) g.control
+  pub outcome_read : (code : ℕ → ℕ) (i : Insn) → Reads fresh i g → outcome_at code i (visible s.regs s.base) s.control ≡ outcome_at code i (value_or_zero g.seen) g.control
   outcome_read code i r =
       let x = same_value (reads i).0 r.first in
       let y = same_value (reads i).1 r.second in
@@ -71,7 +71,7 @@ module _ (fresh : Bool) (s : State) (g : FrameState) (even : Even (lost_at fresh
       cc
 
 -- outside nested interrupts
-pub same_outcome : {vecbase : ℕ} (fresh : Bool) {s : State} {g : FrameState} {ring spilled : List Frame} → Level vecbase (lost_at fresh g) s g ring spilled → (code : ℕ → ℕ) (i : Insn) → g.nested ≡ None → reads_none i g ≡ false → loses_epc1 g.nested fresh i ≡ false → outcome_at code i (visible s.regs s.base) s.control ≡ outcome_at code i (known g.seen) g.control
+pub same_outcome : {vecbase : ℕ} (fresh : Bool) {s : State} {g : FrameState} {ring spilled : List Frame} → Level vecbase (lost_at fresh g) s g ring spilled → (code : ℕ → ℕ) (i : Insn) → g.nested ≡ None → reads_none i g ≡ false → loses_epc1 g.nested fresh i ≡ false → outcome_at code i (visible s.regs s.base) s.control ≡ outcome_at code i (value_or_zero g.seen) g.control
 same_outcome fresh {s = s} {g = g} l code i plain unset lost =
     let u : reads_unset i g ≡ false = subst (λ (o : Option Nested). reads_none_in o i g ≡ false) plain unset in
     let n : reads_epc1 fresh i ≡ false = subst (λ (o : Option Nested). loses_epc1 o fresh i ≡ false) plain lost in
@@ -88,7 +88,7 @@ pub record Alike (lost : ℕ → Bool) (t u : Settled) : Type 0 where
 pub raise_alike : {lost : ℕ → Bool} (cause : ℕ) (addr : Option ℕ) (c d : Control) → Even lost c d → Alike lost (settled_exception cause addr c) (settled_exception cause addr d)
 raise_alike cause addr c d e = record { kind = refl; write = refl; access = refl; awaited = refl; even = even_ticked (after_exception cause addr c) (after_exception cause addr d) (even_raise cause addr c d e) }
 
-pub settled_alike : {lost : ℕ → Bool} (o : Outcome) (len : ℕ) (c d : Control) → Even lost c d → Alike lost (settled o len c) (settled o len d)
+pub settled_alike : {lost : ℕ → Bool} (o : Outcome) (len : ℕ) (c d : Control) → Even lost c d → Alike lost (after_outcome o len c) (after_outcome o len d)
 settled_alike (Does e) len c d h = record { kind = refl; write = refl; access = refl; awaited = refl; even = even_ticked (after_effect e len c) (after_effect e len d) (even_effect e len c d h) }
 settled_alike (Raises cause addr) len c d h = raise_alike cause addr c d h
 settled_alike (Asks access awaited e) len c d h = record { kind = refl; write = refl; access = refl; awaited = refl; even = even_ticked (after_effect e len c) (after_effect e len d) (even_effect e len c d h) }
@@ -98,7 +98,7 @@ settled_alike (Windowed step) len c d h = record { kind = refl; write = refl; ac
 -- ---- a write in both machines
 abbrev pub HasRoom : List Frame → Option RegWrite → Type 0
 HasRoom ring None = Unit {0}
-HasRoom ring (Some w) = (w.reg < 16) × (moved ring + w.reg / 4 < 16)
+HasRoom ring (Some w) = (w.reg < 16) × (windows_moved ring + w.reg / 4 < 16)
 
 pub write_keeps : (o : Option RegWrite) (s : State) → ((with_write o s).base ≡ s.base) × ((with_write o s).start ≡ s.start) × ((with_write o s).control ≡ s.control)
 write_keeps None s = (refl, refl, refl)
@@ -121,19 +121,19 @@ pub even_level : {vecbase : ℕ} {lost : ℕ → Bool} {c d : Control} → Even 
 even_level e v = same_at e.special 231 refl ∙ v
 
 pub in_both : {vecbase : ℕ} {old lost : ℕ → Bool} {s : State} {g : FrameState} {ring spilled : List Frame} → Level vecbase old s g ring spilled → (t u : Settled) (reply : ℕ) → Alike lost t u
-    → HasRoom ring (written t.write t.awaited reply) → KeepsSp (written t.write t.awaited reply) → Ends vecbase (finished (in_window t s) reply) (in_frame u reply g)
-    → Steps vecbase lost spilled (sp_under (known g.seen 1) ring) (finished (in_window t s) reply) (in_frame u reply g)
+    → HasRoom ring (write_with_reply t.write t.awaited reply) → KeepsSp (write_with_reply t.write t.awaited reply) → Ends vecbase (finished_turn (in_window t s) reply) (in_frame u reply g)
+    → Steps vecbase lost spilled (sp_under (value_or_zero g.seen 1) ring) (finished_turn (in_window t s) reply) (in_frame u reply g)
 in_both {lost = lost} {s = s} {g = g} {ring = ring} {spilled = spilled} l t u reply a room keeps ends =
-    let same : written t.write t.awaited reply ≡ written u.write u.awaited reply = (let w = a.write in let x = a.awaited in rw (w, x) refl) in
-    let control : (with_write (written t.write t.awaited reply) (record s { control = t.control })).control ≡ t.control = write_control (written t.write t.awaited reply) (record s { control = t.control }) in
-    let even : Even lost (with_write (written t.write t.awaited reply) (record s { control = t.control })).control u.control = rw control a.even in
+    let same : write_with_reply t.write t.awaited reply ≡ write_with_reply u.write u.awaited reply = (let w = a.write in let x = a.awaited in rw (w, x) refl) in
+    let control : (with_write (write_with_reply t.write t.awaited reply) (record s { control = t.control })).control ≡ t.control = write_control (write_with_reply t.write t.awaited reply) (record s { control = t.control }) in
+    let even : Even lost (with_write (write_with_reply t.write t.awaited reply) (record s { control = t.control })).control u.control = rw control a.even in
     record {
       kind = ap kind_of a.kind;
       write = same;
       access = a.access;
       ring = ring;
       level = record {
-        windows = rw (← same) (written_windows (record s { control = t.control }) (written t.write t.awaited reply) l.windows room);
+        windows = rw (← same) (written_windows (record s { control = t.control }) (write_with_reply t.write t.awaited reply) l.windows room);
         frames = l.frames;
         older = l.older;
         even = even;
@@ -141,5 +141,5 @@ in_both {lost = lost} {s = s} {g = g} {ring = ring} {spilled = spilled} l t u re
         calls = ends.calls;
         vectors = even_level even ends.vectors;
       };
-      same = ap (λ x. sp_under x ring) (ap (λ o. known (seen_after_write o g.seen) 1) (sym same) ∙ sp_written g.seen (written t.write t.awaited reply) keeps);
+      same = ap (λ x. sp_under x ring) (ap (λ o. value_or_zero (seen_after_write o g.seen) 1) (sym same) ∙ sp_written g.seen (write_with_reply t.write t.awaited reply) keeps);
     }

@@ -7,10 +7,10 @@ use Rattle.xt_special.specs.declared.ps.Ps.{Ps}
 use Rattle.xt_special.specs.Control.{special_of}
 use Rattle.xt_special.specs.Interrupts.{current_level, level_5_bits, pending_level, pending_of}
 use Rattle.xt_exec.specs.State.{State}
-use Rattle.xt_exec.specs.Laws.{IsShaped}
-use Rattle.xt_exec.specs.Turn.{planned}
+use Rattle.xt_exec.specs.TurnLaws.{IsShaped}
+use Rattle.xt_exec.specs.Turn.{planned_turn}
 use Rattle.xt_frames.specs.Frames.{FrameState}
-use Rattle.xt_frames.specs.FrameStep.{laid}
+use Rattle.xt_frames.specs.FrameStep.{with_inputs}
 use Rattle.xt_frames.specs.Nesting.{is_nesting}
 use Rattle.xt_frames.specs.Breaches.{Bounds, inputs_of}
 use Rattle.xt_simulation.specs.Relation.{inputs}
@@ -50,11 +50,11 @@ five_kept interrupt enabled p q same e =
     let open_ = five_open interrupt enabled p e in
     five_taken interrupt enabled q open_.0 (lt-ltb (current_level q) 5 (low_enough p q same (ltb-true (current_level p) 5 open_.1)))
 
-pub pending_in_frames : {code : ℕ → ℕ} {b : Bounds} {m : MemoryContents} {s : State} {f : FrameState} {before : State} {opened : ℕ → ℕ} → Handling code b m s f before opened → IsShaped s → is_nesting (planned code s).kind ≡ true
-    → pending_of (laid (inputs_of (record_now code m s)) f).control ≡ 5
+pub pending_in_frames : {code : ℕ → ℕ} {b : Bounds} {m : MemoryContents} {s : State} {f : FrameState} {before : State} {opened : ℕ → ℕ} → Handling code b m s f before opened → IsShaped s → is_nesting (planned_turn code s).kind ≡ true
+    → pending_of (with_inputs (inputs_of (record_now code m s)) f).control ≡ 5
 pending_in_frames {code = code} {m = m} {s = s} {f = f} h shaped nesting =
     let l = beside h in
-    let g = laid (inputs 0 s) f in
+    let g = with_inputs (inputs 0 s) f in
     let bits : special_of s.control 226 ≡ special_of g.control 226 = same_at l.special 226 refl in
     let enabled : special_of s.control 228 ≡ special_of g.control 228 = same_at l.special 228 refl in
     let now : pending_level (special_of s.control 226) (special_of s.control 228) s.control.ps ≡ 5 = level_taken code s nesting in

@@ -2,7 +2,7 @@
 use Rattle.std.proofs.Common.{◌≡◌, ℕ, Some, None, List, length, take, refl, subst}
 use Rattle.std.proofs.Math.Seq.{take-length}
 use Rattle.xt_trace.specs.declared.record.StepRecord.{StepRecord}
-use Rattle.xt_trace.specs.Runs.{opened, schedule_of}
+use Rattle.xt_trace.specs.Runs.{world_at_start, schedule_of}
 use Rattle.xt_trace.specs.Walks.{IsWalk, state_at}
 use Rattle.xt_trace.proofs.Walks.{own_walk}
 use Rattle.xt_exec.specs.Chips.{processor}
@@ -14,13 +14,13 @@ use Rattle.xt_simulation.proofs.Headline.{world_of, alike0, alike1, stretches_mo
 use Rattle.xt_simulation.proofs.OneWalk.{Comes, Reaches, one_walk}
 
 -- ---- the judge's walk over a run
-module _ (o : Openings) (code : ℕ → ℕ) (turns0 turns1 : ℕ) (c : IsCovered o code) (cores : List ℕ) (xs ys : List StepRecord) (walk : IsWalk (processor code) cores (opened (opening_of o turns0 turns1)) xs ys) where
+module _ (o : Openings) (code : ℕ → ℕ) (turns0 turns1 : ℕ) (c : IsCovered o code) (cores : List ℕ) (xs ys : List StepRecord) (walk : IsWalk (processor code) cores (world_at_start (opening_of o turns0 turns1)) xs ys) where
   -- the walk of both cores beside it
-  beside : (p : ℕ) → Comes code (bounds0 o) (bounds1 o) (take p cores) (Some (opening_world o)) (opened (opening_of o turns0 turns1)) (judged_in o code (take p cores) xs ys)
+  beside : (p : ℕ) → Comes code (bounds0 o) (bounds1 o) (take p cores) (Some (opening_world o)) (world_at_start (opening_of o turns0 turns1)) (judged_in o code (take p cores) xs ys)
   beside p =
-      let C : FrameState → FrameState → Type 0 = λ f g. Comes code (bounds0 o) (bounds1 o) (take p cores) (Some (opening_world o)) (opened (opening_of o turns0 turns1)) (judgement code (bounds0 o) (bounds1 o) (take p cores) xs ys (opening_known f g)) in
+      let C : FrameState → FrameState → Type 0 = λ f g. Comes code (bounds0 o) (bounds1 o) (take p cores) (Some (opening_world o)) (world_at_start (opening_of o turns0 turns1)) (judgement code (bounds0 o) (bounds1 o) (take p cores) xs ys (opening_known f g)) in
       let here : C (frame_of (state0 o)) (frame_of (state1 o)) =
-      one_walk code (bounds0 o) (bounds1 o) p cores (opened (opening_of o turns0 turns1)) (opening_known (frame_of (state0 o)) (frame_of (state1 o))) (opening_core (state0 o)).entered (opening_core (state1 o)).entered xs ys walk in
+      one_walk code (bounds0 o) (bounds1 o) p cores (world_at_start (opening_of o turns0 turns1)) (opening_known (frame_of (state0 o)) (frame_of (state1 o))) (opening_core (state0 o)).entered (opening_core (state1 o)).entered xs ys walk in
       subst (C (frame0 o)) (alike1 o) (subst (λ f. C f (frame_of (state1 o))) (alike0 o) here)
 
   -- what it judges is a frame run

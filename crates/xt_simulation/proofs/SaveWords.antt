@@ -3,7 +3,7 @@ use Rattle.std.proofs.Common.{◌≡◌, ⊎_elim, inl, inr, ℕ, ◌+◌, ◌-�
 use Rattle.std.proofs.lemmas.Bool.{cases_lt, cond-true, cond-false, lt-ltb, le-ltb, or_right, eq-eqb, ne_eqb}
 use Rattle.xt_exec.specs.State.{State}
 use Rattle.xt_window.specs.Ring.{bit}
-use Rattle.xt_frames.specs.Frames.{Frame, FrameState, moved}
+use Rattle.xt_frames.specs.Frames.{Frame, FrameState, windows_moved}
 use Rattle.xt_frames.specs.Breaches.{Bounds}
 use Rattle.xt_stretch.specs.declared.Side.{Side}
 use Rattle.xt_stretch.specs.declared.Side.TheVariants.{Overflow, Underflow}
@@ -44,33 +44,33 @@ module _ {side : Side} {opened : ℕ → ℕ} {b : Bounds} {before : State} {f :
   }
 
 -- the bit of WINDOWSTART before a stretch
-pub stood_before : (side : Side) (m : ℕ → ℕ) (b : Bounds) (lost : ℕ → Bool) (s : State) (f : FrameState) (front : List Frame) (g : Frame) (rest : List Frame) → Begins side m b lost s f front g rest → side ≡ Overflow → bit s.start (moved rest) ≡ true
+pub stood_before : (side : Side) (m : ℕ → ℕ) (b : Bounds) (lost : ℕ → Bool) (s : State) (f : FrameState) (front : List Frame) (g : Frame) (rest : List Frame) → Begins side m b lost s f front g rest → side ≡ Overflow → bit s.start (windows_moved rest) ≡ true
 stood_before Overflow m b lost s f front g rest l e =
-    l.plain.windows.bits (moved rest) (omega arith) (omega arith)
-    ∙ (stands_end (moved rest) front g (moved rest) ∙ or_right _ (eqb (moved rest) (moved rest)) (eq-eqb (moved rest) (moved rest) refl))
+    l.plain.windows.bits (windows_moved rest) (omega arith) (omega arith)
+    ∙ (stands_end (windows_moved rest) front g (windows_moved rest) ∙ or_right _ (eqb (windows_moved rest) (windows_moved rest)) (eq-eqb (windows_moved rest) (windows_moved rest) refl))
 stood_before Underflow m b lost s f front g rest l e = absurd cc
 
-pub spilled_before : (side : Side) (m : ℕ → ℕ) (b : Bounds) (lost : ℕ → Bool) (s : State) (f : FrameState) (front : List Frame) (g : Frame) (rest : List Frame) → Begins side m b lost s f front g rest → side ≡ Underflow → bit s.start (moved rest) ≡ false
+pub spilled_before : (side : Side) (m : ℕ → ℕ) (b : Bounds) (lost : ℕ → Bool) (s : State) (f : FrameState) (front : List Frame) (g : Frame) (rest : List Frame) → Begins side m b lost s f front g rest → side ≡ Underflow → bit s.start (windows_moved rest) ≡ false
 spilled_before Underflow m b lost s f front g rest l e =
     let shape = l.plain.older.0 in
     let pos = shape.moves in
     let small = shape.within in
-    bit_at_window s.start (moved rest) (moved rest + 16) (omega arith)
-    ∙ (l.plain.windows.bits (moved rest + 16) (omega arith) (omega arith) ∙ ne_eqb (moved rest + 16) (g.by + moved rest) (λ z. omega arith))
+    bit_at_window s.start (windows_moved rest) (windows_moved rest + 16) (omega arith)
+    ∙ (l.plain.windows.bits (windows_moved rest + 16) (omega arith) (omega arith) ∙ ne_eqb (windows_moved rest + 16) (g.by + windows_moved rest) (λ z. omega arith))
 spilled_before Overflow m b lost s f front g rest l e = absurd cc
 
 -- ---- which frame it is
-moved_both : (xs ys : List Frame) → moved (xs ++ ys) ≡ moved xs + moved ys
+moved_both : (xs ys : List Frame) → windows_moved (xs ++ ys) ≡ windows_moved xs + windows_moved ys
 moved_both [] ys = omega arith
 moved_both (x ∷ xs) ys = let rest = moved_both xs ys in omega arith
 
-pub newest_before : (side : Side) (m : ℕ → ℕ) (b : Bounds) (lost : ℕ → Bool) (s : State) (f : FrameState) (front : List Frame) (g : Frame) (rest : List Frame) → Begins side m b lost s f front g rest → s.base ≡ moved f.frames % 16
-newest_before Overflow m b lost s f front g rest l = l.plain.windows.based ∙ ap (λ n. n % 16) (sym (ap moved l.plain.frames ∙ moved_both (front ++ g ∷ []) rest))
-newest_before Underflow m b lost s f front g rest l = l.plain.windows.based ∙ ap (λ n. n % 16) (sym (ap moved l.plain.frames ∙ moved_both [] (g ∷ rest)))
+pub newest_before : (side : Side) (m : ℕ → ℕ) (b : Bounds) (lost : ℕ → Bool) (s : State) (f : FrameState) (front : List Frame) (g : Frame) (rest : List Frame) → Begins side m b lost s f front g rest → s.base ≡ windows_moved f.frames % 16
+newest_before Overflow m b lost s f front g rest l = l.plain.windows.based ∙ ap (λ n. n % 16) (sym (ap windows_moved l.plain.frames ∙ moved_both (front ++ g ∷ []) rest))
+newest_before Underflow m b lost s f front g rest l = l.plain.windows.based ∙ ap (λ n. n % 16) (sym (ap windows_moved l.plain.frames ∙ moved_both [] (g ∷ rest)))
 
 pub oldest_before : (side : Side) (m : ℕ → ℕ) (b : Bounds) (lost : ℕ → Bool) (s : State) (f : FrameState) (front : List Frame) (g : Frame) (rest : List Frame) → Begins side m b lost s f front g rest
-    → side ≡ Overflow → (w : ℕ) → moved f.frames < w → w < moved rest + 16 → bit s.start w ≡ false
+    → side ≡ Overflow → (w : ℕ) → windows_moved f.frames < w → w < windows_moved rest + 16 → bit s.start w ≡ false
 oldest_before Overflow m b lost s f front g rest l e w above_newest below =
-    let all : moved f.frames ≡ moved (front ++ g ∷ []) + moved rest = ap moved l.plain.frames ∙ moved_both (front ++ g ∷ []) rest in
-    l.plain.windows.bits w (omega arith) (omega arith) ∙ stands_above w (front ++ g ∷ []) (moved rest) (omega arith)
+    let all : windows_moved f.frames ≡ windows_moved (front ++ g ∷ []) + windows_moved rest = ap windows_moved l.plain.frames ∙ moved_both (front ++ g ∷ []) rest in
+    l.plain.windows.bits w (omega arith) (omega arith) ∙ stands_above w (front ++ g ∷ []) (windows_moved rest) (omega arith)
 oldest_before Underflow m b lost s f front g rest l e w above_newest below = absurd cc

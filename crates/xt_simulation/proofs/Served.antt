@@ -4,11 +4,11 @@ use Rattle.std.proofs.lemmas.Bool.{cases_Bool}
 use Rattle.xt_map.specs.declared.access.Access.{Access}
 use Rattle.xt_special.specs.Interrupts.{pending_of}
 use Rattle.xt_trace.specs.declared.record.StepRecord.{StepRecord}
-use Rattle.xt_fetch.specs.Fetching.{Fetched, Fetches, Fails, SpellsNothing, fetched}
+use Rattle.xt_fetch.specs.Fetching.{Fetched, Fetches, Fails, SpellsNothing, fetch_at}
 use Rattle.xt_exec.specs.State.{State}
 use Rattle.xt_exec.specs.Turn.{demand, turn}
 use Rattle.xt_frames.specs.Frames.{Frame, FrameState}
-use Rattle.xt_frames.specs.FrameStep.{FrameTurn, laid_step}
+use Rattle.xt_frames.specs.FrameStep.{FrameTurn, step_with_inputs}
 use Rattle.xt_frames.specs.Breaches.{Bounds, fetched_tests, laid_breach, touches_save_area, loads_stale}
 use Rattle.xt_simulation.specs.Relation.{Level, lost_at}
 use Rattle.xt_frames.proofs.Shown.{NoneShown, none_shown}
@@ -43,6 +43,6 @@ areas_kept code b fresh live stale s g ring spilled reply l none =
     let w_g = sym l.even.waits ∙ w in
     let rec = (turn code s reply).0 in
     let f = breach_fetches b fresh code live stale rec g no_g w_g in
-    areas_fetched b fresh live stale (fetched code g.control.pc) rec g (laid_step code rec.reply g) (none_shown (fetched_tests b fresh live stale (fetched code g.control.pc) rec g (laid_step code rec.reply g)) (sym f ∙ none)))
+    areas_fetched b fresh live stale (fetch_at code g.control.pc) rec g (step_with_inputs code rec.reply g) (none_shown (fetched_tests b fresh live stale (fetch_at code g.control.pc) rec g (step_with_inputs code rec.reply g)) (sym f ∙ none)))
     (cases_Bool s.control.waits))
     (cases_Bool (ltb 0 (pending_of s.control)))

@@ -5,7 +5,7 @@ use Rattle.std.proofs.lemmas.Bool.{cases_lt}
 use Rattle.std.proofs.lemmas.List.{get_or-set_same, get_or-set_other, length-set}
 use Rattle.xt_special.proofs.Kept.{ticked_other, ticked_length}
 use Rattle.xt_exec.specs.State.{State}
-use Rattle.xt_frames.specs.Frames.{Frame, moved, FrameState, known}
+use Rattle.xt_frames.specs.Frames.{Frame, windows_moved, FrameState, value_or_zero}
 use Rattle.xt_frames.specs.SaveAreas.{sp_of, before}
 use Rattle.xt_simulation.specs.Cores.{word, Related}
 use Rattle.xt_simulation.specs.Ring.{InRing}
@@ -26,7 +26,7 @@ use Rattle.xt_simulation.proofs.Chains.{chain_end, frames_after}
 
 -- ---- stack pointers in the ring
 -- the frame that the last of these callers called has its stack pointer in its window's a1
-callee_sp : (regs : List ℕ) (lo hi sp : ℕ) (ring spilled : List Frame) (low : ℕ) → get_or regs (place (moved ring + low) 1) 0 ≡ sp → Chain lo hi sp (ring ++ spilled) → InRing regs ring low → get_or regs (place low 1) 0 ≡ sp_under sp ring
+callee_sp : (regs : List ℕ) (lo hi sp : ℕ) (ring spilled : List Frame) (low : ℕ) → get_or regs (place (windows_moved ring + low) 1) 0 ≡ sp → Chain lo hi sp (ring ++ spilled) → InRing regs ring low → get_or regs (place low 1) 0 ≡ sp_under sp ring
 callee_sp regs lo hi sp [] spilled low at c h = let e : 0 + low ≡ low = omega arith in rw e at at
 callee_sp regs lo hi sp (f ∷ fs) spilled low at c h = callee_sp regs lo hi (sp_of f) fs spilled low (h.0 1 (sp_of f) c.0.kept) c.1 h.1
 
@@ -38,29 +38,29 @@ under_end sp (f ∷ fs) g = under_end (sp_of f) fs g
 pub record Oldest (old : ℕ → ℕ) (b : Bounds) (s : State) (f : FrameState) (ring : List Frame) (g : Frame) (spilled : List Frame) : Type 0 where
   pub these : AreFrames (g ∷ spilled)
   pub whole : f.frames ≡ ring ++ g ∷ spilled
-  pub chain : Chain b.range.lo b.range.hi (sp_under (known f.seen 1) ring) (g ∷ spilled)
-  pub holds : Holds s.regs g.kept (moved spilled)
-  pub callee : visible s.regs (moved spilled) (4 * g.by + 1) ≡ sp_under (known f.seen 1) ring
-  pub own : visible s.regs (moved spilled) 1 ≡ sp_of g
+  pub chain : Chain b.range.lo b.range.hi (sp_under (value_or_zero f.seen 1) ring) (g ∷ spilled)
+  pub holds : Holds s.regs g.kept (windows_moved spilled)
+  pub callee : visible s.regs (windows_moved spilled) (4 * g.by + 1) ≡ sp_under (value_or_zero f.seen 1) ring
+  pub own : visible s.regs (windows_moved spilled) 1 ≡ sp_of g
   pub saved : Saved (word old) b.range.hi (sp_of g) spilled
-  pub top : word old (visible s.regs (moved spilled) 1 - 12) ≡ before b.range.hi spilled
+  pub top : word old (visible s.regs (windows_moved spilled) 1 - 12) ≡ before b.range.hi spilled
 
 pub oldest : {lost : ℕ → Bool} {s : State} (b : Bounds) (f : FrameState) (ring : List Frame) (g : Frame) (spilled : List Frame) (old : ℕ → ℕ) → Related old b lost s f (ring ++ g ∷ []) spilled → Oldest old b s f ring g spilled
 oldest {s = s} b f ring g spilled old l =
-    let low = moved spilled in
+    let low = windows_moved spilled in
     let w = l.plain.windows in
     let k = l.stack in
     let whole : f.frames ≡ ring ++ g ∷ spilled = l.plain.frames ∙ append_assoc ring (g ∷ []) spilled in
-    let chain : Chain b.range.lo b.range.hi (known f.seen 1) (ring ++ g ∷ spilled) = rw whole at k.chain in
+    let chain : Chain b.range.lo b.range.hi (value_or_zero f.seen 1) (ring ++ g ∷ spilled) = rw whole at k.chain in
     let shape : AreFrames (ring ++ g ∷ spilled) = rw whole at k.shaped in
-    let last = chain_end b.range.lo b.range.hi (known f.seen 1) ring (g ∷ spilled) chain in
+    let last = chain_end b.range.lo b.range.hi (value_or_zero f.seen 1) ring (g ∷ spilled) chain in
     let halves = in_ring_end s.regs ring g low w.kept in
     let own : visible s.regs low 1 ≡ sp_of g = halves.1 1 (sp_of g) last.0.kept in
-    let newest = w.visible 1 (known f.seen 1) k.sp in
-    let higher : moved (ring ++ g ∷ []) + low ≡ moved ring + (g.by + low) = (let m = moved_end ring g in omega arith) in
-    let callee0 = callee_sp s.regs b.range.lo b.range.hi (known f.seen 1) ring (g ∷ spilled) (g.by + low) (rw higher at newest) chain halves.0 in
+    let newest = w.visible 1 (value_or_zero f.seen 1) k.sp in
+    let higher : windows_moved (ring ++ g ∷ []) + low ≡ windows_moved ring + (g.by + low) = (let m = moved_end ring g in omega arith) in
+    let callee0 = callee_sp s.regs b.range.lo b.range.hi (value_or_zero f.seen 1) ring (g ∷ spilled) (g.by + low) (rw higher at newest) chain halves.0 in
     let same_place : place (g.by + low) 1 ≡ place low (4 * g.by + 1) = omega arith in
-    let saved : Saved (word old) b.range.hi (sp_of g) spilled = rw (under_end (known f.seen 1) ring g) at l.saved in
+    let saved : Saved (word old) b.range.hi (sp_of g) spilled = rw (under_end (value_or_zero f.seen 1) ring g) at l.saved in
     record {
       these = frames_after ring (g ∷ spilled) shape;
       whole = whole;
@@ -100,7 +100,7 @@ finds lo hi callee own top g rest sp r c e f h =
 pub overflows_find_frames : OverflowsFindFrames
 overflows_find_frames b lost s f ring g spilled m l =
     let o = oldest b f ring g spilled m l in
-    finds b.range.lo b.range.hi _ _ _ g spilled (sp_under (known f.seen 1) ring) l.stack.range o.chain o.callee o.own o.top
+    finds b.range.lo b.range.hi _ _ _ g spilled (sp_under (value_or_zero f.seen 1) ring) l.stack.range o.chain o.callee o.own o.top
 
 pub overflows_keep_related : OverflowsKeepRelated
 overflows_keep_related b lost s t f ring g spilled old new l c start st =
@@ -111,7 +111,7 @@ overflows_keep_related b lost s t f ring g spilled old new l c start st =
     record {
       plain = spills b.vecbase lost s t f ring g spilled l.plain c start;
       stack = l.stack;
-      saved = spills_are_saved (word old) (word new) b.range.lo b.range.hi (sp_under (known f.seen 1) ring) g spilled l.stack.range o.these o.chain o.saved
+      saved = spills_are_saved (word old) (word new) b.range.lo b.range.hi (sp_under (value_or_zero f.seen 1) ring) g spilled l.stack.range o.these o.chain o.saved
           (λ i v small e. rw callee at (st.low i small) ∙ o.holds i v e)
           (λ i v big e. let n = some_within g.kept i v e in rw top at (st.high i big (omega arith)) ∙ o.holds i v e)
           (λ a h. st.others a (rw (callee, top) h));
@@ -119,34 +119,34 @@ overflows_keep_related b lost s t f ring g spilled old new l c start st =
 
 -- what stands where an underflow begins
 pub record Newest (m : ℕ → ℕ) (b : Bounds) (s : State) (f : FrameState) (g : Frame) (rest : List Frame) : Type 0 where
-  pub chain : Chain b.range.lo b.range.hi (known f.seen 1) (g ∷ rest)
-  pub callee : visible s.regs (moved rest) (4 * g.by + 1) ≡ known f.seen 1
-  pub own : word m (known f.seen 1 - 12) ≡ sp_of g
+  pub chain : Chain b.range.lo b.range.hi (value_or_zero f.seen 1) (g ∷ rest)
+  pub callee : visible s.regs (windows_moved rest) (4 * g.by + 1) ≡ value_or_zero f.seen 1
+  pub own : word m (value_or_zero f.seen 1 - 12) ≡ sp_of g
   pub top : word m (sp_of g - 12) ≡ before b.range.hi rest
 
 pub newest_of : {lost : ℕ → Bool} {s : State} (b : Bounds) (f : FrameState) (g : Frame) (rest : List Frame) (m : ℕ → ℕ) → Related m b lost s f [] (g ∷ rest) → Newest m b s f g rest
 newest_of b f g rest m l =
-    let low = moved rest in
+    let low = windows_moved rest in
     let k = l.stack in
-    let chain : Chain b.range.lo b.range.hi (known f.seen 1) (g ∷ rest) = rw l.plain.frames at k.chain in
-    let newest = l.plain.windows.visible 1 (known f.seen 1) k.sp in
+    let chain : Chain b.range.lo b.range.hi (value_or_zero f.seen 1) (g ∷ rest) = rw l.plain.frames at k.chain in
+    let newest = l.plain.windows.visible 1 (value_or_zero f.seen 1) k.sp in
     let same_place : place (0 + (g.by + low)) 1 ≡ place low (4 * g.by + 1) = omega arith in
     let saved = l.saved in
     record {
       chain = chain;
       callee = rw same_place at newest;
-      own = links_are_saved (word m) b.range.lo b.range.hi (known f.seen 1) (g ∷ rest) k.range chain saved;
+      own = links_are_saved (word m) b.range.lo b.range.hi (value_or_zero f.seen 1) (g ∷ rest) k.range chain saved;
       top = links_are_saved (word m) b.range.lo b.range.hi (sp_of g) rest k.range chain.1 saved.2;
     }
 
 pub underflows_find_frames : UnderflowsFindFrames
 underflows_find_frames b lost s f g rest m l =
     let n = newest_of b f g rest m l in
-    finds b.range.lo b.range.hi _ _ _ g rest (known f.seen 1) l.stack.range n.chain n.callee (rw n.callee n.own) (rw (n.callee, n.own) n.top)
+    finds b.range.lo b.range.hi _ _ _ g rest (value_or_zero f.seen 1) l.stack.range n.chain n.callee (rw n.callee n.own) (rw (n.callee, n.own) n.top)
 
 pub underflows_keep_related : UnderflowsKeepRelated
 underflows_keep_related b lost s t f g rest m l c start ld =
-    let low = moved rest in
+    let low = windows_moved rest in
     let n = newest_of b f g rest m l in
     let callee = n.callee in
     let link = n.own in

@@ -7,16 +7,16 @@ use Rattle.xt_map.specs.Memory.{byte_at}
 use Rattle.xt_special.specs.declared.ps.Ps.{Ps}
 use Rattle.xt_special.specs.Control.{Control}
 use Rattle.xt_fetch.specs.Code.{AreBytes}
-use Rattle.xt_fetch.specs.Fetching.{fetched}
+use Rattle.xt_fetch.specs.Fetching.{fetch_at}
 use Rattle.xt_exec.specs.State.{State}
-use Rattle.xt_exec.specs.Laws.{IsShaped, IsShapedControl}
-use Rattle.xt_exec.specs.Turn.{Planned, planned, demand, turn, written}
+use Rattle.xt_exec.specs.TurnLaws.{IsShaped, IsShapedControl}
+use Rattle.xt_exec.specs.Turn.{Planned, planned_turn, demand, turn, write_with_reply}
 use Rattle.xt_exec.proofs.Shapes.{turn_shaped}
 use Rattle.xt_frames.specs.declared.holes.Nested.{Nested}
 use Rattle.xt_frames.specs.Frames.{FrameState}
-use Rattle.xt_frames.specs.FrameStep.{FrameTurn, laid, laid_step}
+use Rattle.xt_frames.specs.FrameStep.{FrameTurn, with_inputs, step_with_inputs}
 use Rattle.xt_frames.specs.HandlerSteps.{fetched_returns, returns}
-use Rattle.xt_frames.specs.Nesting.{inside}
+use Rattle.xt_frames.specs.Nesting.{nested_view}
 use Rattle.xt_frames.specs.SaveAreas.{is_live}
 use Rattle.xt_frames.specs.Breaches.{Bounds, inputs_of}
 use Rattle.xt_frames.specs.Judging.{step_on, live_of, value_in}
@@ -24,7 +24,7 @@ use Rattle.xt_frames.proofs.Inside.{ended_fetched, returns_fetched, step_inside}
 use Rattle.xt_simulation.specs.InHandlers.{as_left}
 use Rattle.xt_simulation.specs.Steps.{reply_at, reply_now, record_now, state_now, memory_now}
 use Rattle.xt_simulation.specs.Handling.{IsGood, Handling}
-use Rattle.xt_simulation.specs.Nested.{Onward, StaysIn, GoesBack, NestedAreSpared, NestedBegin, NestedStepsAreKept, Suspends, resumed}
+use Rattle.xt_simulation.specs.Nested.{Onward, StaysIn, GoesBack, NestedAreSpared, NestedBegin, NestedStepsAreKept, Suspends, resumed_state}
 use Rattle.xt_simulation.proofs.Memories.{live_kept, replies_agree}
 use Rattle.xt_simulation.proofs.Judges.{record_access, record_reply}
 use Rattle.xt_simulation.proofs.Handled.{handlers_are_spared}
@@ -42,7 +42,7 @@ nested_are_spared code bytes b good old new s f before opened suspended h same =
   x = h.x;
   nested = h.nested;
   inside = h.inside;
-  handling = handlers_are_spared code bytes b good old new (resumed suspended s) f before opened h.handling same;
+  handling = handlers_are_spared code bytes b good old new (resumed_state suspended s) f before opened h.handling same;
 }
 
 -- ---- the beginning
@@ -51,9 +51,9 @@ nested_begin = taken_begin
 
 -- ---- a step inside
 -- a written register is no part of the control state, so the reply is none
-turn_control : (code : ℕ → ℕ) (s : State) (reply : ℕ) → (turn code s reply).1.control ≡ (planned code s).after.control
+turn_control : (code : ℕ → ℕ) (s : State) (reply : ℕ) → (turn code s reply).1.control ≡ (planned_turn code s).after.control
 unfolding turn
-turn_control code s reply = write_control (written (planned code s).write (planned code s).awaited reply) (planned code s).after
+turn_control code s reply = write_control (write_with_reply (planned_turn code s).write (planned_turn code s).awaited reply) (planned_turn code s).after
 
 control_now : (code : ℕ → ℕ) (m : MemoryContents) (s : State) → AreBytes code → IsShaped s → IsShapedControl (state_now code m s).control
 control_now code m s bytes shaped =
@@ -73,9 +73,9 @@ module _ {code : ℕ → ℕ} (bytes : AreBytes code) {b : Bounds} (good : IsGoo
   now = state_now code m s
 
   abbrev last : Bool
-  last = returns code (planned code s).kind s.control.pc
+  last = returns code (planned_turn code s).kind s.control.pc
 
-  inner_carries : Inner code b m s f suspended u → Carries b (resumed suspended s) (resumed suspended now) f u.after
+  inner_carries : Inner code b m s f suspended u → Carries b (resumed_state suspended s) (resumed_state suspended now) f u.after
   inner_carries i =
       let c = control_now code m s bytes shaped in
       record {
@@ -103,17 +103,17 @@ module _ {code : ℕ → ℕ} (bytes : AreBytes code) {b : Bounds} (good : IsGoo
   -- RFI 5 ends the interrupt, and nothing else does
   ends_last : Ends code s h.x → last ≡ true
   ends_last e =
-      let at : fetched_returns (fetched code s.control.pc) ≡ true = ap fetched_returns e.at ∙ e.ends in
-      let plan = (back_at code s h.inside.mode h.inside.level h.inside.running (fetched code s.control.pc) refl at).1 in
+      let at : fetched_returns (fetch_at code s.control.pc) ≡ true = ap fetched_returns e.at ∙ e.ends in
+      let plan = (back_at code s h.inside.mode h.inside.level h.inside.running (fetch_at code s.control.pc) refl at).1 in
       ap (λ k. returns code k s.control.pc) (ap (λ (p : Planned). p.kind) plan) ∙ at
 
   inner_last : Inner code b m s f suspended u → last ≡ false
   inner_last i =
       false_from_ne_true last
       (λ t.
-      let at : fetched_returns (fetched code h.x.pc) ≡ true = subst (λ pc. fetched_returns (fetched code pc) ≡ true) h.inside.even.pc (returns_fetched code (planned code s).kind s.control.pc t) in
+      let at : fetched_returns (fetch_at code h.x.pc) ≡ true = subst (λ pc. fetched_returns (fetch_at code pc) ≡ true) h.inside.even.pc (returns_fetched code (planned_turn code s).kind s.control.pc t) in
       let rec = record_now code m s in
-      let none : u.after.nested ≡ None = ap (λ (z : FrameTurn). z.after.nested) (step_inside code true rec f h.x h.nested) ∙ ended_fetched (fetched code h.x.pc) (value_in rec.write) h.x f (laid_step code rec.reply (laid (inputs_of rec) (inside h.x f))) at in
+      let none : u.after.nested ≡ None = ap (λ (z : FrameTurn). z.after.nested) (step_inside code true rec f h.x h.nested) ∙ ended_fetched (fetch_at code h.x.pc) (value_in rec.write) h.x f (step_with_inputs code rec.reply (with_inputs (inputs_of rec) (nested_view h.x f))) at in
       let some : Some i.x ≡ None = sym i.nested ∙ none in
       absurd cc)
 

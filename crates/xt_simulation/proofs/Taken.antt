@@ -9,7 +9,7 @@ use Rattle.xt_map.specs.declared.contents.MemoryContents.{MemoryContents}
 use Rattle.xt_special.specs.declared.ps.Ps.{Ps}
 use Rattle.xt_special.specs.Numbers as number
 use Rattle.xt_special.specs.Control.{special_of, ps_word}
-use Rattle.xt_special.specs.Timers.{ticked}
+use Rattle.xt_special.specs.Timers.{after_tick}
 use Rattle.xt_special.specs.Interrupts.{pending_of, after_interrupt}
 use Rattle.xt_special.proofs.Kept.{ticked_other}
 use Rattle.xt_window.specs.Ring.{visible, bit}
@@ -17,20 +17,20 @@ use Rattle.xt_window.specs.Moves.{base_after_return, behind}
 use Rattle.xt_rows.specs.declared.outcome.Outcome.{Outcome}
 use Rattle.xt_rows.specs.declared.outcome.Outcome.TheVariants.{Does, Raises, Asks, Stops, Windowed}
 use Rattle.xt_rows.specs.declared.outcome.WindowStep.TheVariants.{Enters, Returns, EndsOverflow, EndsUnderflow, Rotates, MovesStack, Reads, Sets, Exchanges}
-use Rattle.xt_fetch.specs.Fetching.{Fetched, Fetches, Fails, SpellsNothing, fetched}
+use Rattle.xt_fetch.specs.Fetching.{Fetched, Fetches, Fails, SpellsNothing, fetch_at}
 use Rattle.xt_rows.specs.Effects.{write_to, no_caller_window, illegal_instruction}
 use Rattle.xt_rows.specs.Outcomes.{outcome_at}
 use Rattle.xt_rows.specs.Settling.{settled_interrupt}
 use Rattle.xt_exec.specs.State.{State}
-use Rattle.xt_exec.specs.Laws.{IsShaped}
-use Rattle.xt_exec.specs.Turn.{Planned, planned, demand, turn, in_window, raises, overflow, underflow, window_step, entered, returned, moved_stack, return_size, falls, is_illegal, window_check, done, checked, fetched_turn, with_write, written}
+use Rattle.xt_exec.specs.TurnLaws.{IsShaped}
+use Rattle.xt_exec.specs.Turn.{Planned, planned_turn, demand, turn, in_window, raises, overflow, underflow, window_step, entry_turn, return_turn, moved_stack, return_size, fall_through, is_illegal, window_check, outcome_turn, turn_or_overflow, fetched_turn, with_write, write_with_reply}
 use Rattle.xt_exec.specs.Turn as turns
 use Rattle.xt_exec.proofs.Finished.{turn_taken, turn_waits, turn_fetches}
 use Rattle.xt_frames.specs.declared.holes.Nested.{Nested}
 use Rattle.xt_frames.specs.Frames.{Frame, FrameState}
-use Rattle.xt_frames.specs.FrameStep.{FrameTurn, laid}
+use Rattle.xt_frames.specs.FrameStep.{FrameTurn, with_inputs}
 use Rattle.xt_frames.specs.Marks.{own_marks}
-use Rattle.xt_frames.specs.Nesting.{begun, inside, is_nesting}
+use Rattle.xt_frames.specs.Nesting.{nested_entry, nested_view, is_nesting}
 use Rattle.xt_frames.specs.Breaches.{Bounds, lost_of}
 use Rattle.xt_frames.specs.Judging.{step_on}
 use Rattle.xt_frames.proofs.Inside.{step_begins}
@@ -41,7 +41,7 @@ use Rattle.xt_simulation.specs.Cores.{Related}
 use Rattle.xt_simulation.specs.InHandlers.{as_left}
 use Rattle.xt_simulation.specs.Steps.{reply_now, record_now, state_now}
 use Rattle.xt_simulation.specs.Handling.{Begins, Handling}
-use Rattle.xt_simulation.specs.Nested.{IsInside, Suspends, NestedBegin, resumed}
+use Rattle.xt_simulation.specs.Nested.{IsInside, Suspends, NestedBegin, resumed_state}
 use Rattle.xt_simulation.proofs.Carried.{Carries, carried}
 use Rattle.xt_simulation.proofs.Closed.{epc1_lost, same_lost, same_overlaid}
 use Rattle.xt_simulation.proofs.Evenly.{not_lost, same_ticked}
@@ -59,14 +59,14 @@ overflow_quiet : (k : ℕ) (s : State) → is_nesting (overflow k s).kind ≡ fa
 unfolding overflow
 overflow_quiet k s = refl
 
-done_quiet : (o : Outcome) (len : ℕ) (s : State) → is_nesting (done o len s).kind ≡ false
-unfolding entered returned turns.resumed moved_stack underflow
+done_quiet : (o : Outcome) (len : ℕ) (s : State) → is_nesting (outcome_turn o len s).kind ≡ false
+unfolding entry_turn return_turn turns.resuming_turn moved_stack underflow
 done_quiet (Windowed (Enters number value)) len s = refl
 done_quiet (Windowed (Returns a0)) len s = if_quiet (bit s.start (base_after_return s.base (return_size a0))) _ _ refl refl
 done_quiet (Windowed (EndsOverflow epc1)) len s = refl
 done_quiet (Windowed (EndsUnderflow epc1)) len s = refl
 done_quiet (Windowed (Rotates n)) len s = refl
-done_quiet (Windowed (MovesStack number value)) len s = if_quiet (eqb (behind s.start s.base) 0) (raises no_caller_window s) (window_step (write_to number value) (falls len s)) refl refl
+done_quiet (Windowed (MovesStack number value)) len s = if_quiet (eqb (behind s.start s.base) 0) (raises no_caller_window s) (window_step (write_to number value) (fall_through len s)) refl refl
 done_quiet (Windowed (Reads register number)) len s = refl
 done_quiet (Windowed (Sets register value)) len s = refl
 done_quiet (Windowed (Exchanges register number value)) len s = refl
@@ -75,25 +75,25 @@ done_quiet (Raises cause address) len s = refl
 done_quiet (Asks access awaited e) len s = refl
 done_quiet Stops len s = refl
 
-checked_quiet : (k : ℕ) (code : ℕ → ℕ) (i : Insn) (len : ℕ) (s : State) → is_nesting (checked k code i len s).kind ≡ false
+checked_quiet : (k : ℕ) (code : ℕ → ℕ) (i : Insn) (len : ℕ) (s : State) → is_nesting (turn_or_overflow k code i len s).kind ≡ false
 checked_quiet zero code i len s = done_quiet (outcome_at code i (visible s.regs s.base) s.control) len s
 checked_quiet (suc k) code i len s = overflow_quiet (suc k) s
 
 fetched_quiet : (at : Fetched) (code : ℕ → ℕ) (s : State) → is_nesting (fetched_turn at code s).kind ≡ false
 fetched_quiet (Fails address) code s = refl
 fetched_quiet SpellsNothing code s = refl
-fetched_quiet (Fetches i len) code s = if_quiet (is_illegal i s) (raises illegal_instruction s) (checked (window_check i s) code i len s) refl (checked_quiet (window_check i s) code i len s)
+fetched_quiet (Fetches i len) code s = if_quiet (is_illegal i s) (raises illegal_instruction s) (turn_or_overflow (window_check i s) code i len s) refl (checked_quiet (window_check i s) code i len s)
 
-pub level_taken : (code : ℕ → ℕ) (s : State) → is_nesting (planned code s).kind ≡ true → pending_of s.control ≡ 5
+pub level_taken : (code : ℕ → ℕ) (s : State) → is_nesting (planned_turn code s).kind ≡ true → pending_of s.control ≡ 5
 level_taken code s h = ⊎_elim
     (λ yes_. eqb-true (pending_of s.control) 5 (sym (ap (λ (p : Planned). is_nesting p.kind) (turn_taken code s yes_)) ∙ h))
     (λ quiet. ⊎_elim
     (λ waits. absurd (false≢true (sym (ap (λ (p : Planned). is_nesting p.kind) (turn_waits code s quiet waits)) ∙ h)))
-    (λ runs. absurd (false≢true (sym (fetched_quiet (fetched code s.control.pc) code s) ∙ (sym (ap (λ (p : Planned). is_nesting p.kind) (turn_fetches code s quiet runs)) ∙ h))))
+    (λ runs. absurd (false≢true (sym (fetched_quiet (fetch_at code s.control.pc) code s) ∙ (sym (ap (λ (p : Planned). is_nesting p.kind) (turn_fetches code s quiet runs)) ∙ h))))
     (cases_Bool s.control.waits))
     (cases_Bool (ltb 0 (pending_of s.control)))
 
-pub nesting_taken : (code : ℕ → ℕ) (s : State) → is_nesting (planned code s).kind ≡ true → planned code s ≡ in_window (settled_interrupt 5 s.control) s
+pub nesting_taken : (code : ℕ → ℕ) (s : State) → is_nesting (planned_turn code s).kind ≡ true → planned_turn code s ≡ in_window (settled_interrupt 5 s.control) s
 nesting_taken code s h =
     let five = level_taken code s h in
     turn_taken code s (lt-ltb 0 (pending_of s.control) (omega (arith, five))) ∙ ap (λ n. in_window (settled_interrupt n s.control) s) five
@@ -150,7 +150,7 @@ same_five lost unset xs ys pc ps other_pc other_ps long s = record {
 
 -- ---- a handler step beside the frame state
 record Opens (b : Bounds) (lost : ℕ → Bool) (before : State) (f : FrameState) : Type 0 where
-  even : Even lost before.control (laid (inputs 0 before) f).control
+  even : Even lost before.control (with_inputs (inputs 0 before) f).control
   woe : before.control.ps.woe ≡ true
   vectors : special_of before.control number.vecbase ≡ b.vecbase
 
@@ -199,13 +199,13 @@ own_place (suc (suc (suc (suc i)))) k e = let n : None ≡ Some k = sym (none_in
 -- ---- the step that begins one
 module _ {b : Bounds} {s : State} {f : FrameState} (l : Beside b s f) (shaped : IsShaped s) (count : length f.unset ≡ 256) where
   abbrev taken : State
-  taken = record s { control = ticked (after_interrupt 5 s.control) }
+  taken = record s { control = after_tick (after_interrupt 5 s.control) }
 
   abbrev g : FrameState
-  g = laid (inputs 0 s) f
+  g = with_inputs (inputs 0 s) f
 
   abbrev framed : FrameState
-  framed = (begun g).after
+  framed = (nested_entry g).after
 
   abbrev fresh_nested : Nested
   fresh_nested = record {
@@ -246,7 +246,7 @@ module _ {b : Bounds} {s : State} {f : FrameState} (l : Beside b s f) (shaped : 
       ticked_other (saved_five s.control.special s.control.pc (ps_word s.control.ps)) 197 (λ e. omega arith) (λ e. omega arith)
       ∙ get_or-set_same (set s.control.special 181 s.control.pc) 197 (ps_word s.control.ps) 0 (omega arith)
 
-  taken_even : Even (lost_at false framed) taken.control (laid (inputs 0 taken) (inside fresh_nested framed)).control
+  taken_even : Even (lost_at false framed) taken.control (with_inputs (inputs 0 taken) (nested_view fresh_nested framed)).control
   unfolding after_interrupt
   taken_even = record {
     pc = ap (λ v. v + 0x100 + 0x40 * 5) (l.special.at 231 (not_lost l.special 231 refl));
@@ -284,7 +284,7 @@ module _ {b : Bounds} {s : State} {f : FrameState} (l : Beside b s f) (shaped : 
       ∙ (laid_other f.control.special (special_of s.control 234) (special_of s.control 226) 231 (λ e. omega arith) (λ e. omega arith)
       ∙ l.vectors))
 
-  pub begun_carries : IsShaped taken → Carries b s (resumed s taken) f framed
+  pub begun_carries : IsShaped taken → Carries b s (resumed_state s taken) f framed
   unfolding after_interrupt
   begun_carries t = record {
     regs = refl;
@@ -309,26 +309,26 @@ module _ {b : Bounds} {s : State} {f : FrameState} (l : Beside b s f) (shaped : 
   }
 
 -- ---- as a step of both machines
-pub state_taken : (code : ℕ → ℕ) (s : State) (reply : ℕ) → planned code s ≡ in_window (settled_interrupt 5 s.control) s → (turn code s reply).1 ≡ record s { control = ticked (after_interrupt 5 s.control) }
+pub state_taken : (code : ℕ → ℕ) (s : State) (reply : ℕ) → planned_turn code s ≡ in_window (settled_interrupt 5 s.control) s → (turn code s reply).1 ≡ record s { control = after_tick (after_interrupt 5 s.control) }
 state_taken code s reply is = plan_state code s (in_window (settled_interrupt 5 s.control) s) is reply
 
-pub nesting_now : (code : ℕ → ℕ) (m : MemoryContents) (s : State) → is_nesting (planned code s).kind ≡ true → is_nesting (record_now code m s).kind ≡ true
+pub nesting_now : (code : ℕ → ℕ) (m : MemoryContents) (s : State) → is_nesting (planned_turn code s).kind ≡ true → is_nesting (record_now code m s).kind ≡ true
 unfolding turn
 nesting_now code m s nesting = nesting
 
-pub asks_nothing : (code : ℕ → ℕ) (s : State) → planned code s ≡ in_window (settled_interrupt 5 s.control) s → demand code s ≡ None
+pub asks_nothing : (code : ℕ → ℕ) (s : State) → planned_turn code s ≡ in_window (settled_interrupt 5 s.control) s → demand code s ≡ None
 asks_nothing code s is = plan_asks code s (in_window (settled_interrupt 5 s.control) s) is
 
 pub taken_begin : NestedBegin
 taken_begin code bytes b good m s f before opened h none shaped count nesting =
     let is = nesting_taken code s nesting in
     let state = state_taken code s (reply_now code m s) is in
-    let step = step_begins code (record_now code m s) f (nesting_now code m s nesting) none ∙ ap begun (same_laid code s (reply_now code m s) f shaped.control.ps.owb_fits) in
+    let step = step_begins code (record_now code m s) f (nesting_now code m s nesting) none ∙ ap nested_entry (same_laid code s (reply_now code m s) f shaped.control.ps.owb_fits) in
     let l = beside h in
     let next : IsShaped (state_now code m s) = shaped_silent code m s bytes shaped (asks_nothing code s is) in
     let P : State → Type 0 = λ t. IsShaped t in
     let Q : State → Type 0 = λ t. Suspends code b m t (step_on code true (record_now code m s) f).after (as_left before s t) opened s in
-    let R : FrameTurn → Type 0 = λ u. Suspends code b m (record s { control = ticked (after_interrupt 5 s.control) }) u.after (as_left before s (record s { control = ticked (after_interrupt 5 s.control) })) opened s in
+    let R : FrameTurn → Type 0 = λ u. Suspends code b m (record s { control = after_tick (after_interrupt 5 s.control) }) u.after (as_left before s (record s { control = after_tick (after_interrupt 5 s.control) })) opened s in
     subst Q (sym state) (subst R (sym step) (record {
       x = fresh_nested l shaped count;
       nested = begun_nested l shaped count;

@@ -21,7 +21,7 @@ use Rattle.xt_map.specs.Memory.{HasSizes, byte_at}
 use Rattle.xt_special.specs.declared.ps.Ps.{Ps}
 use Rattle.xt_special.specs.Numbers as number
 use Rattle.xt_special.specs.Control.{Control, special_of}
-use Rattle.xt_special.specs.Timers.{ticked}
+use Rattle.xt_special.specs.Timers.{after_tick}
 use Rattle.xt_special.specs.Interrupts.{current_level, pending_level, pending_of}
 use Rattle.xt_loop.specs.Looping.{loops_back}
 use Rattle.xt_window.specs.Ring.{place, visible, ahead, with_bit, without_bit}
@@ -30,20 +30,20 @@ use Rattle.xt_rows.specs.declared.outcome.Flow.TheVariants.{Falls}
 use Rattle.xt_rows.specs.declared.outcome.Outcome.{Outcome}
 use Rattle.xt_rows.specs.declared.outcome.Outcome.TheVariants.{Does, Asks, Windowed}
 use Rattle.xt_rows.specs.declared.outcome.WindowStep.TheVariants.{EndsOverflow, EndsUnderflow}
-use Rattle.xt_fetch.specs.Fetching.{Fetches, fetched}
-use Rattle.xt_rows.specs.Numbers.{plus, extended}
+use Rattle.xt_fetch.specs.Fetching.{Fetches, fetch_at}
+use Rattle.xt_rows.specs.Numbers.{plus, loaded_value}
 use Rattle.xt_rows.specs.Operands.{reads, special_reads}
-use Rattle.xt_rows.specs.Effects.{unchanged, loads, stores, illegal_instruction}
+use Rattle.xt_rows.specs.Effects.{no_change, loads, stores, illegal_instruction}
 use Rattle.xt_rows.specs.Outcomes.{outcome, memory_outcome, system_outcome, density_outcome, outcome_at}
 use Rattle.xt_rows.specs.Settling.{after_flow, after_effect}
 use Rattle.xt_exec.specs.State.{State}
-use Rattle.xt_exec.specs.Turn.{Planned, planned, demand, written, with_write, raises, has_windows, looks, window_check, is_illegal, done, checked, fetched_turn, resumed}
+use Rattle.xt_exec.specs.Turn.{Planned, planned_turn, demand, write_with_reply, with_write, raises, has_windows, looks, window_check, is_illegal, outcome_turn, turn_or_overflow, fetched_turn, resuming_turn}
 use Rattle.xt_exec.proofs.Finished.{turn_fetches, turn_taken}
 use Rattle.xt_frames.specs.Nesting.{is_nesting, nested_level}
-use Rattle.xt_stretch.specs.declared.Step.{Step}
-use Rattle.xt_stretch.specs.declared.Step.TheVariants.{L32e, S32e, Nop, Rfwo, Rfwu, Foreign}
+use Rattle.xt_stretch.specs.declared.HandlerInsn.{HandlerInsn}
+use Rattle.xt_stretch.specs.declared.HandlerInsn.TheVariants.{L32e, S32e, Nop, Rfwo, Rfwu, Foreign}
 use Rattle.xt_stretch.specs.Spelled.{step_of_insn}
-use Rattle.xt_stretch.specs.Running.{is_access, with_word, stepped, MayAccess}
+use Rattle.xt_stretch.specs.Running.{is_access, with_word, machine_after_step, MayAccess}
 use Rattle.xt_stretch.specs.Machines.{Machine, address, word_at}
 use Rattle.xt_simulation.specs.Steps.{reply_at, memory_after_step, reply_now, state_now, memory_now}
 use Rattle.xt_simulation.specs.Handling.{machine}
@@ -51,7 +51,7 @@ use Rattle.xt_simulation.proofs.Plans.{plan_asks, plan_state}
 use Rattle.xt_simulation.proofs.Words.{loads_ask, stores_ask, word_replied, word_stored, load_keeps}
 
 -- ---- an instruction, by what it is to a handler
-pub data Shown : Insn → Step → Type 0 where
+pub data Shown : Insn → HandlerInsn → Type 0 where
   load : {t s : ℕ} {offset : ℤ} → Shown (insn.Memory (memory.L32e window.L32e t s offset)) (L32e t s (unsigned_abs offset))
   store : {t s : ℕ} {offset : ℤ} → Shown (insn.Memory (memory.L32e window.S32e t s offset)) (S32e t s (unsigned_abs offset))
   wide_nop : Shown (insn.System (system.Excw wait.Nop)) Nop
@@ -89,11 +89,11 @@ five_or_none interrupt enabled ps e =
     let one : ltb (max ps.intlevel 3) 1 ≡ false = le-ltb (max ps.intlevel 3) 1 (omega arith) in
     rw (e, three, one) (first_of _ _ _)
 
-pub quiet_level : (code : ℕ → ℕ) (s : State) → s.control.ps.excm ≡ true → is_nesting (planned code s).kind ≡ false → ltb 0 (pending_of s.control) ≡ false
+pub quiet_level : (code : ℕ → ℕ) (s : State) → s.control.ps.excm ≡ true → is_nesting (planned_turn code s).kind ≡ false → ltb 0 (pending_of s.control) ≡ false
 quiet_level code s e h = ⊎_elim
     (λ five.
     let taken = turn_taken code s (lt-ltb 0 (pending_of s.control) (omega (arith, five))) in
-    let is : is_nesting (planned code s).kind ≡ eqb (pending_of s.control) 5 = ap (λ (p : Planned). is_nesting p.kind) taken in
+    let is : is_nesting (planned_turn code s).kind ≡ eqb (pending_of s.control) 5 = ap (λ (p : Planned). is_nesting p.kind) taken in
     absurd (both_ways _ h (is ∙ eq-eqb (pending_of s.control) 5 five)))
     (λ none. ap (ltb 0) none)
     (five_or_none (special_of s.control number.interrupt) (special_of s.control number.intenable) s.control.ps e)
@@ -141,21 +141,21 @@ falls_on c len e =
     let n : loops_back (special_of c number.lend) (special_of c number.lcount) c.ps.excm ((c.pc + len) % 2 ^ 32) ≡ false = rw e (stays (special_of c number.lend) (special_of c number.lcount) ((c.pc + len) % 2 ^ 32)) in
     cond-false (loops_back (special_of c number.lend) (special_of c number.lcount) c.ps.excm ((c.pc + len) % 2 ^ 32)) _ _ n
 
-pub calm_effect : (c : Control) (len : ℕ) → c.ps.excm ≡ true → c.waits ≡ false → after_effect (unchanged c.ps c.threadptr) len c ≡ record c { pc = (c.pc + len) % 2 ^ 32 }
+pub calm_effect : (c : Control) (len : ℕ) → c.ps.excm ≡ true → c.waits ≡ false → after_effect (no_change c.ps c.threadptr) len c ≡ record c { pc = (c.pc + len) % 2 ^ 32 }
 unfolding after_effect
 calm_effect c len e w = falls_on (record c { waits = false }) len e ∙ rw w refl
 
 -- ---- the turn, where no interrupt is taken
 module _ (code : ℕ → ℕ) (s : State) (low : s.control.ps.excm ≡ true) (untaken : ltb 0 (pending_of s.control) ≡ false) (running : s.control.waits ≡ false) where
-  pub turn_does : (i : Insn) (len : ℕ) → fetched code s.control.pc ≡ Fetches i len → is_illegal i s ≡ false → planned code s ≡ done (outcome_at code i (visible s.regs s.base) s.control) len s
+  pub turn_does : (i : Insn) (len : ℕ) → fetch_at code s.control.pc ≡ Fetches i len → is_illegal i s ≡ false → planned_turn code s ≡ outcome_turn (outcome_at code i (visible s.regs s.base) s.control) len s
   turn_does i len at legal =
       turn_fetches code s untaken running
       ∙ (ap (λ f. fetched_turn f code s) at
-      ∙ (cond-false (is_illegal i s) (raises illegal_instruction s) (checked (window_check i s) code i len s) legal
-      ∙ ap (λ k. checked k code i len s) (no_check i s low)))
+      ∙ (cond-false (is_illegal i s) (raises illegal_instruction s) (turn_or_overflow (window_check i s) code i len s) legal
+      ∙ ap (λ k. turn_or_overflow k code i len s) (no_check i s low)))
 
-  turn_settles : (i : Insn) (len : ℕ) (o : Outcome) → fetched code s.control.pc ≡ Fetches i len → is_illegal i s ≡ false → outcome_at code i (visible s.regs s.base) s.control ≡ o → planned code s ≡ done o len s
-  turn_settles i len o at legal is = turn_does i len at legal ∙ ap (λ o. done o len s) is
+  turn_settles : (i : Insn) (len : ℕ) (o : Outcome) → fetch_at code s.control.pc ≡ Fetches i len → is_illegal i s ≡ false → outcome_at code i (visible s.regs s.base) s.control ≡ o → planned_turn code s ≡ outcome_turn o len s
+  turn_settles i len o at legal is = turn_does i len at legal ∙ ap (λ o. outcome_turn o len s) is
 
 -- ---- addresses
 within_means : (offset : ℤ) → window_within offset ≡ true → (x : ℕ) → plus x offset ≡ address x (unsigned_abs offset)
@@ -169,30 +169,30 @@ loads_at t s offset name h x = within_means offset (and_parts (two_registers t s
 -- ---- an instruction that is not the ending
 -- the state and memory after it are those of the small machine, and PC goes on
 pub record Turned (code : ℕ → ℕ) (m : MemoryContents) (s : State) (len : ℕ) (next : Machine) : Type 0 where
-  pub kind : (planned code s).kind ≡ kind.Insn
-  pub after : state_now code m s ≡ record { regs = next.ring; base = s.base; start = s.start; control = ticked (record s.control { pc = (s.control.pc + len) % 2 ^ 32 }) }
+  pub kind : (planned_turn code s).kind ≡ kind.Insn
+  pub after : state_now code m s ≡ record { regs = next.ring; base = s.base; start = s.start; control = after_tick (record s.control { pc = (s.control.pc + len) % 2 ^ 32 }) }
   pub bytes : (a : ℕ) → byte_at (memory_now code m s) a ≡ next.bytes a
 
 module _ (code : ℕ → ℕ) (m : MemoryContents) (s : State) (low : s.control.ps.excm ≡ true) (untaken : ltb 0 (pending_of s.control) ≡ false) (running : s.control.waits ≡ false) (len : ℕ) where
   load_outcome : (t r : ℕ) (offset : ℤ) → in_range (insn.Memory (memory.L32e window.L32e t r offset)) ≡ true → is_access (address (visible s.regs s.base r) (unsigned_abs offset)) ≡ true
-      → outcome_at code (insn.Memory (memory.L32e window.L32e t r offset)) (visible s.regs s.base) s.control ≡ Asks (record { addr = address (visible s.regs s.base r) (unsigned_abs offset); size = 4; kind = Load }) (Some (record { number = t; signed = false })) (unchanged s.control.ps s.control.threadptr)
+      → outcome_at code (insn.Memory (memory.L32e window.L32e t r offset)) (visible s.regs s.base) s.control ≡ Asks (record { addr = address (visible s.regs s.base r) (unsigned_abs offset); size = 4; kind = Load }) (Some (record { number = t; signed = false })) (no_change s.control.ps s.control.threadptr)
   unfolding outcome memory_outcome reads special_reads
   load_outcome t r offset range may =
-      ap (λ a. loads code 4 false t a (unchanged s.control.ps s.control.threadptr)) (loads_at t r offset window.L32e range (visible s.regs s.base r))
-      ∙ loads_ask code t (address (visible s.regs s.base r) (unsigned_abs offset)) (unchanged s.control.ps s.control.threadptr) may
+      ap (λ a. loads code 4 false t a (no_change s.control.ps s.control.threadptr)) (loads_at t r offset window.L32e range (visible s.regs s.base r))
+      ∙ loads_ask code t (address (visible s.regs s.base r) (unsigned_abs offset)) (no_change s.control.ps s.control.threadptr) may
 
   store_outcome : (t r : ℕ) (offset : ℤ) → in_range (insn.Memory (memory.L32e window.S32e t r offset)) ≡ true → is_access (address (visible s.regs s.base r) (unsigned_abs offset)) ≡ true
-      → outcome_at code (insn.Memory (memory.L32e window.S32e t r offset)) (visible s.regs s.base) s.control ≡ Asks (record { addr = address (visible s.regs s.base r) (unsigned_abs offset); size = 4; kind = Store (visible s.regs s.base t % 2 ^ (8 * 4)) }) None (unchanged s.control.ps s.control.threadptr)
+      → outcome_at code (insn.Memory (memory.L32e window.S32e t r offset)) (visible s.regs s.base) s.control ≡ Asks (record { addr = address (visible s.regs s.base r) (unsigned_abs offset); size = 4; kind = Store (visible s.regs s.base t % 2 ^ (8 * 4)) }) None (no_change s.control.ps s.control.threadptr)
   unfolding outcome memory_outcome reads special_reads
   store_outcome t r offset range may =
-      ap (λ a. stores 4 (visible s.regs s.base t) a (unchanged s.control.ps s.control.threadptr)) (loads_at t r offset window.S32e range (visible s.regs s.base r))
-      ∙ stores_ask (visible s.regs s.base t) (address (visible s.regs s.base r) (unsigned_abs offset)) (unchanged s.control.ps s.control.threadptr) may
+      ap (λ a. stores 4 (visible s.regs s.base t) a (no_change s.control.ps s.control.threadptr)) (loads_at t r offset window.S32e range (visible s.regs s.base r))
+      ∙ stores_ask (visible s.regs s.base t) (address (visible s.regs s.base r) (unsigned_abs offset)) (no_change s.control.ps s.control.threadptr) may
 
-  wide_outcome : outcome_at code (insn.System (system.Excw wait.Nop)) (visible s.regs s.base) s.control ≡ Does (unchanged s.control.ps s.control.threadptr)
+  wide_outcome : outcome_at code (insn.System (system.Excw wait.Nop)) (visible s.regs s.base) s.control ≡ Does (no_change s.control.ps s.control.threadptr)
   unfolding outcome system_outcome reads special_reads
   wide_outcome = refl
 
-  narrow_outcome : outcome_at code (insn.Density (density.Ret narrow.Nop)) (visible s.regs s.base) s.control ≡ Does (unchanged s.control.ps s.control.threadptr)
+  narrow_outcome : outcome_at code (insn.Density (density.Ret narrow.Nop)) (visible s.regs s.base) s.control ≡ Does (no_change s.control.ps s.control.threadptr)
   unfolding outcome density_outcome reads special_reads
   narrow_outcome = refl
 
@@ -209,53 +209,53 @@ module _ (code : ℕ → ℕ) (m : MemoryContents) (s : State) (low : s.control.
   narrow_legal = refl
 
   -- the planned turn tells the state and the memory
-  pub from_plan : (p : Planned) (next : Machine) → planned code s ≡ p → p.kind ≡ kind.Insn
-      → with_write (written p.write p.awaited (reply_at m p.access)) p.after ≡ record { regs = next.ring; base = s.base; start = s.start; control = ticked (record s.control { pc = (s.control.pc + len) % 2 ^ 32 }) }
+  pub from_plan : (p : Planned) (next : Machine) → planned_turn code s ≡ p → p.kind ≡ kind.Insn
+      → with_write (write_with_reply p.write p.awaited (reply_at m p.access)) p.after ≡ record { regs = next.ring; base = s.base; start = s.start; control = after_tick (record s.control { pc = (s.control.pc + len) % 2 ^ 32 }) }
       → ((a : ℕ) → byte_at (memory_after_step m p.access) a ≡ next.bytes a) → Turned code m s len next
   from_plan p next is k after bytes =
       let d : demand code s ≡ p.access = plan_asks code s p is in
       record {
         kind = ap (λ (p : Planned). p.kind) is ∙ k;
-        after = plan_state code s p is (reply_now code m s) ∙ (ap (λ o. with_write (written p.write p.awaited (reply_at m o)) p.after) d ∙ after);
+        after = plan_state code s p is (reply_now code m s) ∙ (ap (λ o. with_write (write_with_reply p.write p.awaited (reply_at m o)) p.after) d ∙ after);
         bytes = λ a. ap (λ o. byte_at (memory_after_step m o) a) d ∙ bytes a;
       }
 
-  calm : after_effect (unchanged s.control.ps s.control.threadptr) len s.control ≡ record s.control { pc = (s.control.pc + len) % 2 ^ 32 }
+  calm : after_effect (no_change s.control.ps s.control.threadptr) len s.control ≡ record s.control { pc = (s.control.pc + len) % 2 ^ 32 }
   calm = calm_effect s.control len low running
 
-  load_turn : (t r : ℕ) (offset : ℤ) (next : Machine) → fetched code s.control.pc ≡ Fetches (insn.Memory (memory.L32e window.L32e t r offset)) len → in_range (insn.Memory (memory.L32e window.L32e t r offset)) ≡ true
-      → is_access (address (visible s.regs s.base r) (unsigned_abs offset)) ≡ true → stepped (L32e t r (unsigned_abs offset)) (machine m s) ≡ Some next → Turned code m s len next
-  unfolding extended
+  load_turn : (t r : ℕ) (offset : ℤ) (next : Machine) → fetch_at code s.control.pc ≡ Fetches (insn.Memory (memory.L32e window.L32e t r offset)) len → in_range (insn.Memory (memory.L32e window.L32e t r offset)) ≡ true
+      → is_access (address (visible s.regs s.base r) (unsigned_abs offset)) ≡ true → machine_after_step (L32e t r (unsigned_abs offset)) (machine m s) ≡ Some next → Turned code m s len next
+  unfolding loaded_value
   load_turn t r offset next at range may is =
       let a : ℕ = address (visible s.regs s.base r) (unsigned_abs offset) in
-      let o : Outcome = Asks (record { addr = a; size = 4; kind = Load }) (Some (record { number = t; signed = false })) (unchanged s.control.ps s.control.threadptr) in
+      let o : Outcome = Asks (record { addr = a; size = 4; kind = Load }) (Some (record { number = t; signed = false })) (no_change s.control.ps s.control.threadptr) in
       let p = turn_settles code s low untaken running (insn.Memory (memory.L32e window.L32e t r offset)) len o at (load_legal t r offset window.L32e) (load_outcome t r offset range may) in
       let to : Machine = record { ring = set s.regs (place s.base t) (word_at (byte_at m) a); base = s.base; bytes = byte_at m } in
       let n : to ≡ next = (cond_some (is_access a) to next is).1 in
       let v = word_replied m a may in
-      subst (Turned code m s len) n (from_plan (done o len s) to p refl (rw (v, calm) refl) (λ x. ap (λ n. byte_at n x) (load_keeps m a 4)))
+      subst (Turned code m s len) n (from_plan (outcome_turn o len s) to p refl (rw (v, calm) refl) (λ x. ap (λ n. byte_at n x) (load_keeps m a 4)))
 
-  store_turn : (t r : ℕ) (offset : ℤ) (next : Machine) → fetched code s.control.pc ≡ Fetches (insn.Memory (memory.L32e window.S32e t r offset)) len → in_range (insn.Memory (memory.L32e window.S32e t r offset)) ≡ true
-      → is_access (address (visible s.regs s.base r) (unsigned_abs offset)) ≡ true → visible s.regs s.base t < 2 ^ 32 → HasSizes m → stepped (S32e t r (unsigned_abs offset)) (machine m s) ≡ Some next → Turned code m s len next
+  store_turn : (t r : ℕ) (offset : ℤ) (next : Machine) → fetch_at code s.control.pc ≡ Fetches (insn.Memory (memory.L32e window.S32e t r offset)) len → in_range (insn.Memory (memory.L32e window.S32e t r offset)) ≡ true
+      → is_access (address (visible s.regs s.base r) (unsigned_abs offset)) ≡ true → visible s.regs s.base t < 2 ^ 32 → HasSizes m → machine_after_step (S32e t r (unsigned_abs offset)) (machine m s) ≡ Some next → Turned code m s len next
   store_turn t r offset next at range may small sizes is =
       let a : ℕ = address (visible s.regs s.base r) (unsigned_abs offset) in
       let v : ℕ = visible s.regs s.base t in
-      let o : Outcome = Asks (record { addr = a; size = 4; kind = Store (v % 2 ^ (8 * 4)) }) None (unchanged s.control.ps s.control.threadptr) in
+      let o : Outcome = Asks (record { addr = a; size = 4; kind = Store (v % 2 ^ (8 * 4)) }) None (no_change s.control.ps s.control.threadptr) in
       let p = turn_settles code s low untaken running (insn.Memory (memory.L32e window.S32e t r offset)) len o at (load_legal t r offset window.S32e) (store_outcome t r offset range may) in
       let to : Machine = record { ring = s.regs; base = s.base; bytes = with_word (byte_at m) a v } in
       let n : to ≡ next = (cond_some (is_access a) to next is).1 in
-      subst (Turned code m s len) n (from_plan (done o len s) to p refl (rw calm refl) (λ x. word_stored m a v x sizes may small))
+      subst (Turned code m s len) n (from_plan (outcome_turn o len s) to p refl (rw calm refl) (λ x. word_stored m a v x sizes may small))
 
-  nop_turn : (i : Insn) (next : Machine) → fetched code s.control.pc ≡ Fetches i len → is_illegal i s ≡ false → outcome_at code i (visible s.regs s.base) s.control ≡ Does (unchanged s.control.ps s.control.threadptr)
-      → stepped Nop (machine m s) ≡ Some next → Turned code m s len next
+  nop_turn : (i : Insn) (next : Machine) → fetch_at code s.control.pc ≡ Fetches i len → is_illegal i s ≡ false → outcome_at code i (visible s.regs s.base) s.control ≡ Does (no_change s.control.ps s.control.threadptr)
+      → machine_after_step Nop (machine m s) ≡ Some next → Turned code m s len next
   nop_turn i next at legal does is =
-      let o : Outcome = Does (unchanged s.control.ps s.control.threadptr) in
+      let o : Outcome = Does (no_change s.control.ps s.control.threadptr) in
       let p = turn_settles code s low untaken running i len o at legal does in
       let n : machine m s ≡ next = (let q : Some (machine m s) ≡ Some next = is in cc) in
-      subst (Turned code m s len) n (from_plan (done o len s) (machine m s) p refl (rw calm refl) (λ x. refl))
+      subst (Turned code m s len) n (from_plan (outcome_turn o len s) (machine m s) p refl (rw calm refl) (λ x. refl))
 
-  pub turned : (i : Insn) (step : Step) (next : Machine) → Shown i step → fetched code s.control.pc ≡ Fetches i len → in_range i ≡ true → MayAccess step (machine m s) → ((k : ℕ) → visible s.regs s.base k < 2 ^ 32) → HasSizes m
-      → stepped step (machine m s) ≡ Some next → Turned code m s len next
+  pub turned : (i : Insn) (step : HandlerInsn) (next : Machine) → Shown i step → fetch_at code s.control.pc ≡ Fetches i len → in_range i ≡ true → MayAccess step (machine m s) → ((k : ℕ) → visible s.regs s.base k < 2 ^ 32) → HasSizes m
+      → machine_after_step step (machine m s) ≡ Some next → Turned code m s len next
   turned i step next (load {t = t} {s = r} {offset = offset}) at range may small sizes is = load_turn t r offset next at range may is
   turned i step next (store {t = t} {s = r} {offset = offset}) at range may small sizes is = store_turn t r offset next at range may (small t) sizes is
   turned i step next wide_nop at range may small sizes is = nop_turn (insn.System (system.Excw wait.Nop)) next at wide_legal wide_outcome is
@@ -265,21 +265,21 @@ module _ (code : ℕ → ℕ) (m : MemoryContents) (s : State) (low : s.control.
   turned i step next other at range may small sizes is = absurd cc
 
   -- ---- the ending
-  overflow_ends : fetched code s.control.pc ≡ Fetches (insn.System (system.Rfe return.Rfwo)) len → planned code s ≡ resumed (without_bit s.start s.base) (special_of s.control (number.epc 1)) s
+  overflow_ends : fetch_at code s.control.pc ≡ Fetches (insn.System (system.Rfe return.Rfwo)) len → planned_turn code s ≡ resuming_turn (without_bit s.start s.base) (special_of s.control (number.epc 1)) s
   unfolding outcome system_outcome reads special_reads is_illegal
   overflow_ends at = turn_settles code s low untaken running (insn.System (system.Rfe return.Rfwo)) len (Windowed (EndsOverflow (special_of s.control (number.epc 1)))) at refl refl
 
-  underflow_ends : fetched code s.control.pc ≡ Fetches (insn.System (system.Rfe return.Rfwu)) len → planned code s ≡ resumed (with_bit s.start s.base) (special_of s.control (number.epc 1)) s
+  underflow_ends : fetch_at code s.control.pc ≡ Fetches (insn.System (system.Rfe return.Rfwu)) len → planned_turn code s ≡ resuming_turn (with_bit s.start s.base) (special_of s.control (number.epc 1)) s
   unfolding outcome system_outcome reads special_reads is_illegal
   underflow_ends at = turn_settles code s low untaken running (insn.System (system.Rfe return.Rfwu)) len (Windowed (EndsUnderflow (special_of s.control (number.epc 1)))) at refl refl
 
   pub record Ended (start : ℕ) : Type 0 where
-    pub kind : (planned code s).kind ≡ kind.Insn
-    pub after : state_now code m s ≡ record { regs = s.regs; base = s.control.ps.owb; start = start; control = ticked (record s.control { pc = special_of s.control (number.epc 1); ps = record s.control.ps { excm = false } }) }
+    pub kind : (planned_turn code s).kind ≡ kind.Insn
+    pub after : state_now code m s ≡ record { regs = s.regs; base = s.control.ps.owb; start = start; control = after_tick (record s.control { pc = special_of s.control (number.epc 1); ps = record s.control.ps { excm = false } }) }
     pub memory : memory_now code m s ≡ m
 
-  from_ending : (start : ℕ) → planned code s ≡ resumed start (special_of s.control (number.epc 1)) s → Ended start
-  unfolding resumed
+  from_ending : (start : ℕ) → planned_turn code s ≡ resuming_turn start (special_of s.control (number.epc 1)) s → Ended start
+  unfolding resuming_turn
   from_ending start is =
       let d : demand code s ≡ None = plan_asks code s _ is in
       record {
@@ -288,8 +288,8 @@ module _ (code : ℕ → ℕ) (m : MemoryContents) (s : State) (low : s.control.
         memory = ap (memory_after_step m) d;
       }
 
-  pub ends_with_rfwo : fetched code s.control.pc ≡ Fetches (insn.System (system.Rfe return.Rfwo)) len → Ended (without_bit s.start s.base)
+  pub ends_with_rfwo : fetch_at code s.control.pc ≡ Fetches (insn.System (system.Rfe return.Rfwo)) len → Ended (without_bit s.start s.base)
   ends_with_rfwo at = from_ending (without_bit s.start s.base) (overflow_ends at)
 
-  pub ends_with_rfwu : fetched code s.control.pc ≡ Fetches (insn.System (system.Rfe return.Rfwu)) len → Ended (with_bit s.start s.base)
+  pub ends_with_rfwu : fetch_at code s.control.pc ≡ Fetches (insn.System (system.Rfe return.Rfwu)) len → Ended (with_bit s.start s.base)
   ends_with_rfwu at = from_ending (with_bit s.start s.base) (underflow_ends at)

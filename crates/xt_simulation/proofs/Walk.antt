@@ -14,20 +14,20 @@ use Rattle.xt_map.proofs.Grown.{memory_after_push, legal_push}
 use Rattle.xt_trace.specs.declared.record.StepRecord.{StepRecord}
 use Rattle.xt_fetch.specs.Code.{AreBytes}
 use Rattle.xt_exec.specs.State.{State}
-use Rattle.xt_exec.specs.Laws.{IsShaped}
-use Rattle.xt_exec.specs.Turn.{planned, demand, turn}
+use Rattle.xt_exec.specs.TurnLaws.{IsShaped}
+use Rattle.xt_exec.specs.Turn.{planned_turn, demand, turn}
 use Rattle.xt_special.specs.Numbers as number
 use Rattle.xt_special.specs.Control.{special_of}
 use Rattle.xt_exec.proofs.Served.{demand_served}
 use Rattle.xt_frames.specs.declared.kinds.BreachKind.{BreachKind}
 use Rattle.xt_frames.specs.declared.holes.Nested.{Nested}
 use Rattle.xt_frames.specs.Frames.{FrameState}
-use Rattle.xt_frames.specs.FrameStep.{FrameTurn, laid}
+use Rattle.xt_frames.specs.FrameStep.{FrameTurn, with_inputs}
 use Rattle.xt_frames.specs.Nesting.{current, current_in, is_nesting}
 use Rattle.xt_frames.specs.SaveAreas.{is_live}
 use Rattle.xt_frames.specs.HandlerSteps.{Mode, Plain, Handles, Nests, is_window, closes, returns, mode_after}
 use Rattle.xt_frames.specs.Breaches.{Bounds, inputs_of, breach_of, window_breach, stale_after}
-use Rattle.xt_frames.specs.Judging.{Seen, handled, seen_window, seen_step, seen_judged, step_on, place_on, live_of, fresh_on}
+use Rattle.xt_frames.specs.Judging.{Seen, handled_record, seen_window, seen_step, seen_judged, step_on, place_on, live_of, fresh_on}
 use Rattle.xt_frames.specs.Verdict.{entry_of, IsStepOf, IsFrameTrace}
 use Rattle.xt_map.specs.Touching.{IsMemory}
 use Rattle.xt_simulation.specs.Relation.{inputs}
@@ -37,7 +37,7 @@ use Rattle.xt_simulation.specs.Handling.{IsGood, HandlerStep, steps_on, closes_s
 use Rattle.xt_simulation.specs.Nested.{Onward, StaysIn, GoesBack}
 use Rattle.xt_simulation.specs.Memories.{Agree, KeepsAreas}
 use Rattle.xt_simulation.specs.Judges.{Matches, After}
-use Rattle.xt_simulation.specs.Walking.{Entered, Core, World, Moved, entered_by, entered_past, KeepsStretches, GivesBack, moved_by, move, moved0, moved1, given, walked, frame_after, IsWorldRun, Apart}
+use Rattle.xt_simulation.specs.Walking.{Entered, Core, World, Moved, entered_by, entered_past, KeepsStretches, GivesBack, moved_by, move, moved0, moved1, world_after_turn, world_after_turns, frame_after, IsWorldRun, Apart}
 use Rattle.xt_simulation.proofs.Handled.{handler_steps_are_kept, stores_alone}
 use Rattle.xt_simulation.proofs.OneCore.{Idle, InCore, begin_core, core_spared, core_stack, handles_idle, kind_now, live_apart, onward_core, pc_now, plain_idle}
 use Rattle.xt_simulation.proofs.Carried.{live_same}
@@ -230,7 +230,7 @@ module _ (code : ℕ → ℕ) (bytes : AreBytes code) where
         subst (λ (z : Mode). Keeps b c (core_in mode) theirs m framed (judged_to nested z fresh_next entered)) (sym is) moved
 
     -- ---- within handler steps
-    nesting_is : (last : Bool) → is_nesting rec.kind ≡ last → is_nesting (planned code s).kind ≡ last
+    nesting_is : (last : Bool) → is_nesting rec.kind ≡ last → is_nesting (planned_turn code s).kind ≡ last
     nesting_is last e = ap is_nesting (sym (kind_now code m s)) ∙ e
 
     handles_keeps : is_nesting rec.kind ≡ false → Before Handles → Keeps b c (core_in Handles) theirs m framed (record { mine = record { state = now; entered = at; standing = record { frame = f; fresh = false; mode = mode_after code Handles rec }; judged = recs }; stale = stale; entries = [] })
@@ -240,16 +240,16 @@ module _ (code : ℕ → ℕ) (bytes : AreBytes code) where
         (subst (λ (z : Mode). Calm z (memory_now code m s) b false f at) (sym next) (calm_handles (memory_now code m s) b f at (closes code rec.kind rec.pc)))
 
     -- ---- a window exception
-    window_is : (last : Bool) → is_window rec.kind ≡ last → is_window (planned code s).kind ≡ last
+    window_is : (last : Bool) → is_window rec.kind ≡ last → is_window (planned_turn code s).kind ≡ last
     window_is last e = ap is_window (sym (kind_now code m s)) ∙ e
 
-    same_window : f.nested ≡ None → IsShaped s → window_breach code rec.kind (laid (inputs_of rec) (current f)) ≡ window_breach code (planned code s).kind (laid (inputs 0 s) f)
+    same_window : f.nested ≡ None → IsShaped s → window_breach code rec.kind (with_inputs (inputs_of rec) (current f)) ≡ window_breach code (planned_turn code s).kind (with_inputs (inputs 0 s) f)
     unfolding turn
     same_window none shaped =
-        ap (λ (o : Option Nested). window_breach code (planned code s).kind (laid (inputs_of rec) (current_in o f))) none
-        ∙ ap (λ g. window_breach code (planned code s).kind g) (same_laid code s (reply_now code m s) f shaped.control.ps.owb_fits)
+        ap (λ (o : Option Nested). window_breach code (planned_turn code s).kind (with_inputs (inputs_of rec) (current_in o f))) none
+        ∙ ap (λ g. window_breach code (planned_turn code s).kind g) (same_laid code s (reply_now code m s) f shaped.control.ps.owb_fits)
 
-    window_keeps : (o : Option BreachKind) → window_breach code rec.kind (laid (inputs_of rec) (current f)) ≡ o → is_window rec.kind ≡ true → Before Plain → (x : Moved) → moved_by (seen_window o f) core (core_in Plain) m now rec stale ≡ Some x → Keeps b c (core_in Plain) theirs m framed x
+    window_keeps : (o : Option BreachKind) → window_breach code rec.kind (with_inputs (inputs_of rec) (current f)) ≡ o → is_window rec.kind ≡ true → Before Plain → (x : Moved) → moved_by (seen_window o f) core (core_in Plain) m now rec stale ≡ Some x → Keeps b c (core_in Plain) theirs m framed x
     window_keeps (Some kind) e window h x k = absurd cc
     window_keeps None e window h x k =
         subst (Keeps b c (core_in Plain) theirs m framed) (same_Some _ x k)
@@ -292,7 +292,7 @@ module _ (code : ℕ → ℕ) (bytes : AreBytes code) where
     nested_next = entered_past Nests s m now at
 
     abbrev last : Bool
-    last = returns code (planned code s).kind s.control.pc
+    last = returns code (planned_turn code s).kind s.control.pc
 
     module _ (h : Before Nests) (none_fresh : breach_of b fresh code (live_of b f others) stale true rec f ≡ None) where
       none : breach_of b false code (live_of b f others) stale true rec f ≡ None
@@ -322,7 +322,7 @@ module _ (code : ℕ → ℕ) (bytes : AreBytes code) where
           (subst (λ pc. Matches pc rec (step_on code true rec f) framed) (sym (place_inside rec f inside.x inside.nested)) step.0, step.1)
 
     returns_now : returns code rec.kind rec.pc ≡ last
-    returns_now = ap (λ k. returns code k rec.pc) (kind_now code m s) ∙ ap (returns code (planned code s).kind) (pc_now code m s)
+    returns_now = ap (λ k. returns code k rec.pc) (kind_now code m s) ∙ ap (returns code (planned_turn code s).kind) (pc_now code m s)
 
     nested_keeps : (o : Option BreachKind) → breach_of b fresh code (live_of b f others) stale true rec f ≡ o → Before Nests → (x : Moved)
         → moved_by (seen_step o code b (record { frame = f; fresh = fresh; mode = Nests }) others stale true rec) core (core_in Nests) m now rec stale ≡ Some x → Keeps b c (core_in Nests) theirs m framed x
@@ -361,10 +361,10 @@ module _ (code : ℕ → ℕ) (bytes : AreBytes code) where
     plain_keeps : Before Plain → (x : Moved) → move code b c core (core_in Plain) theirs m stale ≡ Some x → Keeps b c (core_in Plain) theirs m framed x
     plain_keeps h x k =
         let P : Seen → Type 0 = λ o. moved_by o core (core_in Plain) m now rec stale ≡ Some x in
-        let W : Seen = seen_window (window_breach code rec.kind (laid (inputs_of rec) (current f))) f in
+        let W : Seen = seen_window (window_breach code rec.kind (with_inputs (inputs_of rec) (current f))) f in
         let J : Seen = seen_judged code b (core_in Plain).standing others stale false rec in
         ⊎_elim
-        (λ window. window_keeps (window_breach code rec.kind (laid (inputs_of rec) (current f))) refl window h x (subst P (cond-true (is_window rec.kind) W J window) k))
+        (λ window. window_keeps (window_breach code rec.kind (with_inputs (inputs_of rec) (current f))) refl window h x (subst P (cond-true (is_window rec.kind) W J window) k))
         (λ nowindow. judged_keeps (breach_of b fresh code (live_of b f others) stale false rec f) refl nowindow h x (subst P (cond-false (is_window rec.kind) W J nowindow) k))
         (cases_Bool (is_window rec.kind))
 
@@ -372,7 +372,7 @@ module _ (code : ℕ → ℕ) (bytes : AreBytes code) where
     within_keeps h x k =
         let P : Seen → Type 0 = λ o. moved_by o core (core_in Handles) m now rec stale ≡ Some x in
         let J : Seen = seen_judged code b (core_in Handles).standing others stale true rec in
-        let H : Seen = handled code (core_in Handles).standing rec in
+        let H : Seen = handled_record code (core_in Handles).standing rec in
         ⊎_elim
         (λ nesting. begin_keeps (breach_of b fresh code (live_of b f others) stale true rec f) nesting h x (subst P (cond-true (is_nesting rec.kind) J H nesting) k))
         (λ other_kind. subst (Keeps b c (core_in Handles) theirs m framed) (same_Some _ x (subst P (cond-false (is_nesting rec.kind) J H other_kind) k)) (handles_keeps other_kind h))
@@ -389,7 +389,7 @@ module _ (code : ℕ → ℕ) (bytes : AreBytes code) where
     move_leaves Nests h x k is ends = nested_leaves (breach_of b fresh code (live_of b f others) stale true rec f) refl h x k ends
 
   -- ---- whole stretches
-  step_moves : (b : Bounds) (m : MemoryContents) (s : State) (f : FrameState) (e : Entered) → HandlerStep code b m s f e.before e.opened → closes code (planned code s).kind s.control.pc ≡ true → MovesFrame b f e.before (state_now code m s) e.opened (byte_at m)
+  step_moves : (b : Bounds) (m : MemoryContents) (s : State) (f : FrameState) (e : Entered) → HandlerStep code b m s f e.before e.opened → closes code (planned_turn code s).kind s.control.pc ≡ true → MovesFrame b f e.before (state_now code m s) e.opened (byte_at m)
   step_moves b m s f e (steps_on open_ inside only alone) closed_ = absurd (false≢true (sym open_ ∙ closed_))
   step_moves b m s f e (closes_stretch closed_ moves somewhere same alone) h = moves
 
@@ -403,13 +403,13 @@ module _ (code : ℕ → ℕ) (bytes : AreBytes code) where
   mode_keeps b good m Plain fresh s f e recs h shaped real = ((λ is. absurd cc), (λ is. absurd cc), (λ is. absurd cc))
   mode_keeps b good m Nests fresh s f e recs h shaped real = ((λ is. absurd cc), (λ is. absurd cc), (λ is. absurd cc))
   mode_keeps b good m Handles fresh s f e recs h shaped real = (
-    (λ is closed_. step_moves b m s f e (handler_steps_are_kept code bytes b good m s f e.before e.opened h.0 shaped real.sizes (closes_plain code (planned code s).kind s.control.pc closed_)) closed_),
+    (λ is closed_. step_moves b m s f e (handler_steps_are_kept code bytes b good m s f e.before e.opened h.0 shaped real.sizes (closes_plain code (planned_turn code s).kind s.control.pc closed_)) closed_),
     (λ is. ⊎_elim
         (λ nesting.
         let same : memory_now code m s ≡ m = ap (memory_after_step m) (no_access code m s f nesting h.1) in
         stores_alone code bytes b good.dram good.aligned good.handlers h.0 (byte_at (memory_now code m s)) (λ a free. ap (λ x. byte_at x a) same))
         (λ other_kind. step_alone b m s f e (handler_steps_are_kept code bytes b good m s f e.before e.opened h.0 shaped real.sizes other_kind))
-        (cases_Bool (is_nesting (planned code s).kind))),
+        (cases_Bool (is_nesting (planned_turn code s).kind))),
     (λ is nesting. pending_in_frames h.0 shaped nesting),
   )
 
@@ -464,16 +464,16 @@ module _ (code : ℕ → ℕ) (bytes : AreBytes code) where
     pub gives1 : (w : World) → Holds b0 b1 opening f0 f1 w → GivesBack code b1 b0 1 w.core1 w.core0 w.memory w.stale
     gives1 w h = move_leaves b1 b0 good1 good0 flipped 1 w.core1.state w.core1.entered w.core1.standing.frame w.core1.standing.fresh w.core1.judged w.core0 w.memory (memory_after opening w.entries) w.stale w.core1.standing.mode (turned b0 b1 w.core0 w.core1 w.memory (memory_after opening w.entries) w.stale h.both)
 
-    pub given_keeps : (c : Bool) (w v : World) → Holds b0 b1 opening f0 f1 w → given code b0 b1 c w ≡ Some v → Holds b0 b1 opening f0 f1 v
+    pub given_keeps : (c : Bool) (w v : World) → Holds b0 b1 opening f0 f1 w → world_after_turn code b0 b1 c w ≡ Some v → Holds b0 b1 opening f0 f1 v
     given_keeps true w v h e = moved0_keeps w v (move code b0 b1 0 w.core0 w.core1 w.memory w.stale) h (move0_keeps w h) e
     given_keeps false w v h e = moved1_keeps w v (move code b1 b0 1 w.core1 w.core0 w.memory w.stale) h (move1_keeps w h) e
 
-    walked_from : (cores : List Bool) (o : Option World) (v : World) → ((x : World) → o ≡ Some x → Holds b0 b1 opening f0 f1 x) → walked code b0 b1 cores o ≡ Some v → Holds b0 b1 opening f0 f1 v
+    walked_from : (cores : List Bool) (o : Option World) (v : World) → ((x : World) → o ≡ Some x → Holds b0 b1 opening f0 f1 x) → world_after_turns code b0 b1 cores o ≡ Some v → Holds b0 b1 opening f0 f1 v
     walked_from [] o v h e = h v e
     walked_from (c ∷ cs) None v h e = absurd cc
-    walked_from (c ∷ cs) (Some w) v h e = walked_from cs (given code b0 b1 c w) v (λ x k. given_keeps c w x (h w refl) k) e
+    walked_from (c ∷ cs) (Some w) v h e = walked_from cs (world_after_turn code b0 b1 c w) v (λ x k. given_keeps c w x (h w refl) k) e
 
-    pub walked_keeps : (cores : List Bool) (w v : World) → Holds b0 b1 opening f0 f1 w → walked code b0 b1 cores (Some w) ≡ Some v → Holds b0 b1 opening f0 f1 v
+    pub walked_keeps : (cores : List Bool) (w v : World) → Holds b0 b1 opening f0 f1 w → world_after_turns code b0 b1 cores (Some w) ≡ Some v → Holds b0 b1 opening f0 f1 v
     walked_keeps cores w v h e = walked_from cores (Some w) v (λ x k. subst (Holds b0 b1 opening f0 f1) (same_Some w x k) h) e
 
     pub frame_run : (w : World) → Holds b0 b1 opening f0 f1 w → IsWorldRun code opening f0 f1 w

@@ -8,28 +8,28 @@ use Rattle.xt_isa.specs.declared.Insn.{Insn}
 use Rattle.xt_isa.specs.Ranges.{in_range}
 use Rattle.xt_special.specs.Numbers as number
 use Rattle.xt_special.specs.Control.{Control, special_of}
-use Rattle.xt_special.specs.Timers.{ticked}
+use Rattle.xt_special.specs.Timers.{after_tick}
 use Rattle.xt_special.specs.Interrupts.{pending_of, after_interrupt}
 use Rattle.xt_trace.specs.declared.record.StepRecord.{StepRecord}
-use Rattle.xt_fetch.specs.Fetching.{Fetched, Fetches, Fails, SpellsNothing, fetched}
+use Rattle.xt_fetch.specs.Fetching.{Fetched, Fetches, Fails, SpellsNothing, fetch_at}
 use Rattle.xt_rows.specs.Effects.{illegal_instruction, fetch_error}
 use Rattle.xt_rows.specs.Settling.{settled_interrupt, settled_wait}
 use Rattle.xt_exec.proofs.Specials.{level_small}
 use Rattle.xt_fetch.specs.Code.{AreBytes}
 use Rattle.xt_exec.specs.State.{State}
-use Rattle.xt_exec.specs.Laws.{IsShaped}
-use Rattle.xt_exec.specs.Turn.{Planned, planned, in_window, fetched_turn, turn}
-use Rattle.xt_frames.specs.Frames.{Frame, FrameState, known}
-use Rattle.xt_frames.specs.FrameStep.{FrameTurn, in_frame, fetched_step, laid_step}
+use Rattle.xt_exec.specs.TurnLaws.{IsShaped}
+use Rattle.xt_exec.specs.Turn.{Planned, planned_turn, in_window, fetched_turn, turn}
+use Rattle.xt_frames.specs.Frames.{Frame, FrameState, value_or_zero}
+use Rattle.xt_frames.specs.FrameStep.{FrameTurn, in_frame, fetched_step, step_with_inputs}
 use Rattle.xt_frames.specs.HandlerSteps.{is_window}
 use Rattle.xt_frames.specs.Nesting.{unset_after}
-use Rattle.xt_frames.specs.Breaches.{Bounds, first_shown, fetched_tests, other_tests, laid_breach, writes_epc1, falls, fresh_after}
+use Rattle.xt_frames.specs.Breaches.{Bounds, first_shown, fetched_tests, other_tests, laid_breach, writes_epc1, ends_exception_mode, fresh_after}
 use Rattle.xt_simulation.specs.Stacks.{sp_under}
 use Rattle.xt_simulation.specs.Relation.{Level, lost_at}
 use Rattle.xt_frames.proofs.StackSteps.{breach_fetches, step_fetches, step_taken, step_waits}
 use Rattle.xt_frames.proofs.Shown.{NoneShown, none_shown, sound}
 use Rattle.xt_exec.proofs.Finished.{turn_taken, turn_waits, turn_fetches}
-use Rattle.xt_exec.specs.Finishing.{Turn, finished}
+use Rattle.xt_exec.specs.Finishing.{Turn, finished_turn}
 use Rattle.xt_simulation.specs.JudgedSteps.{Steps, KeepsLevel, fresh_turn, plain_after, turn_of}
 use Rattle.xt_simulation.proofs.Evenly.{at_given, interrupt_numbers, lost_in, same_at, same_numbers, even_ticked, even_interrupt, even_interrupt_epc1, even_after, same_pending}
 use Rattle.xt_simulation.proofs.Turns.{low_level}
@@ -38,29 +38,29 @@ use Rattle.xt_simulation.proofs.Judged.{Target, raise_target, steps_with}
 use Rattle.xt_simulation.proofs.Executed.{insn_target}
 
 module _ {vecbase : ℕ} (fresh : Bool) {s : State} {g : FrameState} {ring spilled : List Frame} (l : Level vecbase (lost_at fresh g) s g ring spilled) (at : Fetched) (reply : ℕ) where
-  taken_target : (level : ℕ) → (eqb level 1 ≡ true → s.control.ps.excm ≡ false) → Target vecbase fresh g.unset spilled (sp_under (known g.seen 1) ring) at s (finished (in_window (settled_interrupt level s.control) s) reply) (in_frame (settled_interrupt level g.control) reply g)
+  taken_target : (level : ℕ) → (eqb level 1 ≡ true → s.control.ps.excm ≡ false) → Target vecbase fresh g.unset spilled (sp_under (value_or_zero g.seen 1) ring) at s (finished_turn (in_window (settled_interrupt level s.control) s) reply) (in_frame (settled_interrupt level g.control) reply g)
   unfolding writes_epc1
   taken_target level low ends =
-      let c : Control = ticked (after_interrupt level s.control) in
-      let d : Control = ticked (after_interrupt level g.control) in
+      let c : Control = after_tick (after_interrupt level s.control) in
+      let d : Control = after_tick (after_interrupt level g.control) in
       in_both l (settled_interrupt level s.control) (settled_interrupt level g.control) reply
       (record {
         kind = refl;
         write = refl;
         access = refl;
         awaited = refl;
-        even = even_after fresh (eqb level 1 && not s.control.ps.excm) (not (falls s.control.ps (after_interrupt level s.control).ps)) g.unset (set (set g.unset (number.epc level) false) (number.eps level) false) c d
+        even = even_after fresh (eqb level 1 && not s.control.ps.excm) (not (ends_exception_mode s.control.ps (after_interrupt level s.control).ps)) g.unset (set (set g.unset (number.epc level) false) (number.eps level) false) c d
             (even_ticked _ _ (even_interrupt level s.control g.control l.even))
             (λ w. at_given (lost_at fresh g) 177 (even_ticked _ _ (even_interrupt_epc1 level s.control g.control w l.even)))
             (interrupt_numbers level g.unset s.control g.control low l.even);
       })
       tt tt ends
 
-  waits_target : Target vecbase fresh g.unset spilled (sp_under (known g.seen 1) ring) at s (finished (in_window (settled_wait s.control) s) reply) (in_frame (settled_wait g.control) reply g)
+  waits_target : Target vecbase fresh g.unset spilled (sp_under (value_or_zero g.seen 1) ring) at s (finished_turn (in_window (settled_wait s.control) s) reply) (in_frame (settled_wait g.control) reply g)
   unfolding writes_epc1
   waits_target ends =
       in_both l (settled_wait s.control) (settled_wait g.control) reply
-      (record { kind = refl; write = refl; access = refl; awaited = refl; even = even_after fresh false (not (falls s.control.ps s.control.ps)) g.unset g.unset (ticked s.control) (ticked g.control) (even_ticked s.control g.control l.even) (λ w. absurd (true≢false (sym w))) (same_numbers g.unset (ticked s.control) (ticked g.control)) })
+      (record { kind = refl; write = refl; access = refl; awaited = refl; even = even_after fresh false (not (ends_exception_mode s.control.ps s.control.ps)) g.unset g.unset (after_tick s.control) (after_tick g.control) (even_ticked s.control g.control l.even) (λ w. absurd (true≢false (sym w))) (same_numbers g.unset (after_tick s.control) (after_tick g.control)) })
       tt tt ends
 
 module _ {vecbase : ℕ} {lost : ℕ → Bool} {s : State} {g : FrameState} {ring spilled : List Frame} (l : Level vecbase lost s g ring spilled) where
@@ -79,8 +79,8 @@ other_ends : (b : Bounds) (live stale : ℕ → Bool) (rec : StepRecord) (g : Fr
 other_ends b live stale rec g t u (saves, (loads, (woe, (vectors, more)))) calls = record { calls = calls; woe = not-false _ woe; vectors = eqb-true _ _ (not-false _ vectors) }
 
 fetched_target : (b : Bounds) (live stale : ℕ → Bool) (rec : StepRecord) (fresh : Bool) {s : State} {g : FrameState} {ring spilled : List Frame} → Level b.vecbase (lost_at fresh g) s g ring spilled → g.nested ≡ None → (code : ℕ → ℕ) (at : Fetched) (reply : ℕ) → ((i : Insn) (len : ℕ) → at ≡ Fetches i len → in_range i ≡ true)
-    → NoneShown (fetched_tests b fresh live stale at rec g (fetched_step at code reply g)) → is_window (fetched_turn at code s).kind ≡ false → (finished (fetched_turn at code s) reply).after.control.ps.callinc < 4
-    → Steps b.vecbase (lost_in (fresh_after fresh (fetched_turn at code s).kind at s.control.ps (finished (fetched_turn at code s) reply).after.control.ps) (unset_after (fetched_turn at code s).kind at g.unset)) spilled (sp_under (known g.seen 1) ring) (finished (fetched_turn at code s) reply) (fetched_step at code reply g)
+    → NoneShown (fetched_tests b fresh live stale at rec g (fetched_step at code reply g)) → is_window (fetched_turn at code s).kind ≡ false → (finished_turn (fetched_turn at code s) reply).after.control.ps.callinc < 4
+    → Steps b.vecbase (lost_in (fresh_after fresh (fetched_turn at code s).kind at s.control.ps (finished_turn (fetched_turn at code s) reply).after.control.ps) (unset_after (fetched_turn at code s).kind at g.unset)) spilled (sp_under (value_or_zero g.seen 1) ring) (finished_turn (fetched_turn at code s) reply) (fetched_step at code reply g)
 fetched_target b live stale rec fresh {g = g} l plain code (Fails addr) reply ok none nowindow calls = raise_target fresh l (Fails addr) fetch_error reply (Some addr) (other_ends b live stale rec g _ _ none calls)
 fetched_target b live stale rec fresh {g = g} l plain code SpellsNothing reply ok none nowindow calls = raise_target fresh l SpellsNothing illegal_instruction reply None (other_ends b live stale rec g _ _ none calls)
 fetched_target b live stale rec fresh {g = g} l plain code (Fetches i len) reply ok none nowindow calls =
@@ -89,44 +89,44 @@ fetched_target b live stale rec fresh {g = g} l plain code (Fetches i len) reply
 
 -- the frame step, before it gives numbers
 whole_turn : (code : ℕ → ℕ) → AreBytes code → (b : Bounds) (fresh : Bool) (live stale : ℕ → Bool) (s : State) (g : FrameState) (ring spilled : List Frame) (reply : ℕ)
-    → Level b.vecbase (lost_at fresh g) s g ring spilled → g.nested ≡ None → IsShaped s → IsShaped (turn code s reply).1 → (turn code s reply).0.reply ≡ reply → is_window (planned code s).kind ≡ false → laid_breach b fresh code live stale (turn code s reply).0 g ≡ None
-    → Steps b.vecbase (lost_in (fresh_turn fresh code reply s) (unset_after (planned code s).kind (fetched code s.control.pc) g.unset)) spilled (sp_under (known g.seen 1) ring) (turn_of code s reply) (laid_step code reply g)
+    → Level b.vecbase (lost_at fresh g) s g ring spilled → g.nested ≡ None → IsShaped s → IsShaped (turn code s reply).1 → (turn code s reply).0.reply ≡ reply → is_window (planned_turn code s).kind ≡ false → laid_breach b fresh code live stale (turn code s reply).0 g ≡ None
+    → Steps b.vecbase (lost_in (fresh_turn fresh code reply s) (unset_after (planned_turn code s).kind (fetch_at code s.control.pc) g.unset)) spilled (sp_under (value_or_zero g.seen 1) ring) (turn_of code s reply) (step_with_inputs code reply g)
 unfolding turn
 whole_turn code bytes b fresh live stale s g ring spilled reply l plain shaped after reply_is nowindow none =
     let p = same_pending s.control g.control l.even in
-    let under = sp_under (known g.seen 1) ring in
-    let at = fetched code s.control.pc in
-    let P : Planned → Type 0 = λ t. is_window t.kind ≡ false → (finished t reply).after.control.ps.callinc < 4 → Steps b.vecbase (lost_in (fresh_after fresh t.kind at s.control.ps (finished t reply).after.control.ps) (unset_after t.kind at g.unset)) spilled under (finished t reply) (laid_step code reply g) in
-    let calls : (finished (planned code s) reply).after.control.ps.callinc < 4 = after.control.ps.callinc_fits in
+    let under = sp_under (value_or_zero g.seen 1) ring in
+    let at = fetch_at code s.control.pc in
+    let P : Planned → Type 0 = λ t. is_window t.kind ≡ false → (finished_turn t reply).after.control.ps.callinc < 4 → Steps b.vecbase (lost_in (fresh_after fresh t.kind at s.control.ps (finished_turn t reply).after.control.ps) (unset_after t.kind at g.unset)) spilled under (finished_turn t reply) (step_with_inputs code reply g) in
+    let calls : (finished_turn (planned_turn code s) reply).after.control.ps.callinc < 4 = after.control.ps.callinc_fits in
     ⊎_elim
     (λ yes.
     let yes_g : ltb 0 (pending_of g.control) ≡ true = subst (λ x. ltb 0 x ≡ true) p yes in
     let t = turn_taken code s yes in
     let u0 = step_taken code reply g yes_g in
-    let u : laid_step code reply g ≡ in_frame (settled_interrupt (pending_of s.control) g.control) reply g = u0 ∙ ap (λ x. in_frame (settled_interrupt x g.control) reply g) (sym p) in
+    let u : step_with_inputs code reply g ≡ in_frame (settled_interrupt (pending_of s.control) g.control) reply g = u0 ∙ ap (λ x. in_frame (settled_interrupt x g.control) reply g) (sym p) in
     let small = level_small (special_of s.control number.interrupt) (special_of s.control number.intenable) s.control.ps in
-    let Q : FrameTurn → Type 0 = λ u. Steps b.vecbase (lost_in (fresh_after fresh (in_window (settled_interrupt (pending_of s.control) s.control) s).kind at s.control.ps (finished (in_window (settled_interrupt (pending_of s.control) s.control) s) reply).after.control.ps) (unset_after (in_window (settled_interrupt (pending_of s.control) s.control) s).kind at g.unset)) spilled under (finished (in_window (settled_interrupt (pending_of s.control) s.control) s) reply) u in
-    subst P (sym t) (λ h c. subst Q (sym u) (taken_target fresh l at reply (pending_of s.control) (low_level s.control) (from_level l (ticked (after_interrupt (pending_of s.control) g.control)) _ _ refl (tick_kept g.control (after_interrupt (pending_of s.control) g.control) (interrupt_kept (pending_of s.control) g.control small)) c))) nowindow calls)
+    let Q : FrameTurn → Type 0 = λ u. Steps b.vecbase (lost_in (fresh_after fresh (in_window (settled_interrupt (pending_of s.control) s.control) s).kind at s.control.ps (finished_turn (in_window (settled_interrupt (pending_of s.control) s.control) s) reply).after.control.ps) (unset_after (in_window (settled_interrupt (pending_of s.control) s.control) s).kind at g.unset)) spilled under (finished_turn (in_window (settled_interrupt (pending_of s.control) s.control) s) reply) u in
+    subst P (sym t) (λ h c. subst Q (sym u) (taken_target fresh l at reply (pending_of s.control) (low_level s.control) (from_level l (after_tick (after_interrupt (pending_of s.control) g.control)) _ _ refl (tick_kept g.control (after_interrupt (pending_of s.control) g.control) (interrupt_kept (pending_of s.control) g.control small)) c))) nowindow calls)
     (λ no.
     let no_g : ltb 0 (pending_of g.control) ≡ false = subst (λ x. ltb 0 x ≡ false) p no in
     ⊎_elim
     (λ w.
     let t = turn_waits code s no w in
     let u = step_waits code reply g no_g (sym l.even.waits ∙ w) in
-    let Q : FrameTurn → Type 0 = λ u. Steps b.vecbase (lost_in (fresh_after fresh (in_window (settled_wait s.control) s).kind at s.control.ps (finished (in_window (settled_wait s.control) s) reply).after.control.ps) (unset_after (in_window (settled_wait s.control) s).kind at g.unset)) spilled under (finished (in_window (settled_wait s.control) s) reply) u in
-    subst P (sym t) (λ h c. subst Q (sym u) (waits_target fresh l at reply (from_level l (ticked g.control) _ _ refl (tick_kept g.control g.control (refl, refl)) c))) nowindow calls)
+    let Q : FrameTurn → Type 0 = λ u. Steps b.vecbase (lost_in (fresh_after fresh (in_window (settled_wait s.control) s).kind at s.control.ps (finished_turn (in_window (settled_wait s.control) s) reply).after.control.ps) (unset_after (in_window (settled_wait s.control) s).kind at g.unset)) spilled under (finished_turn (in_window (settled_wait s.control) s) reply) u in
+    subst P (sym t) (λ h c. subst Q (sym u) (waits_target fresh l at reply (from_level l (after_tick g.control) _ _ refl (tick_kept g.control g.control (refl, refl)) c))) nowindow calls)
     (λ w.
     let w_g = sym l.even.waits ∙ w in
     let rec = (turn code s reply).0 in
     let t = turn_fetches code s no w in
     let u = step_fetches code reply g no_g w_g in
     let f = breach_fetches b fresh code live stale rec g no_g w_g in
-    let h0 : first_shown (fetched_tests b fresh live stale (fetched code g.control.pc) rec g (laid_step code rec.reply g)) ≡ None = sym f ∙ none in
-    let h1 : first_shown (fetched_tests b fresh live stale (fetched code g.control.pc) rec g (laid_step code reply g)) ≡ None = subst (λ x. first_shown (fetched_tests b fresh live stale (fetched code g.control.pc) rec g (laid_step code x g)) ≡ None) reply_is h0 in
-    let h2 : first_shown (fetched_tests b fresh live stale (fetched code g.control.pc) rec g (fetched_step (fetched code g.control.pc) code reply g)) ≡ None = subst (λ v. first_shown (fetched_tests b fresh live stale (fetched code g.control.pc) rec g v) ≡ None) u h1 in
-    let h3 : first_shown (fetched_tests b fresh live stale at rec g (fetched_step at code reply g)) ≡ None = subst (λ x. first_shown (fetched_tests b fresh live stale (fetched code x) rec g (fetched_step (fetched code x) code reply g)) ≡ None) (sym l.even.pc) h2 in
-    let here : laid_step code reply g ≡ fetched_step at code reply g = u ∙ ap (λ x. fetched_step (fetched code x) code reply g) (sym l.even.pc) in
-    let Q : FrameTurn → Type 0 = λ u. Steps b.vecbase (lost_in (fresh_after fresh (fetched_turn at code s).kind at s.control.ps (finished (fetched_turn at code s) reply).after.control.ps) (unset_after (fetched_turn at code s).kind at g.unset)) spilled under (finished (fetched_turn at code s) reply) u in
+    let h0 : first_shown (fetched_tests b fresh live stale (fetch_at code g.control.pc) rec g (step_with_inputs code rec.reply g)) ≡ None = sym f ∙ none in
+    let h1 : first_shown (fetched_tests b fresh live stale (fetch_at code g.control.pc) rec g (step_with_inputs code reply g)) ≡ None = subst (λ x. first_shown (fetched_tests b fresh live stale (fetch_at code g.control.pc) rec g (step_with_inputs code x g)) ≡ None) reply_is h0 in
+    let h2 : first_shown (fetched_tests b fresh live stale (fetch_at code g.control.pc) rec g (fetched_step (fetch_at code g.control.pc) code reply g)) ≡ None = subst (λ v. first_shown (fetched_tests b fresh live stale (fetch_at code g.control.pc) rec g v) ≡ None) u h1 in
+    let h3 : first_shown (fetched_tests b fresh live stale at rec g (fetched_step at code reply g)) ≡ None = subst (λ x. first_shown (fetched_tests b fresh live stale (fetch_at code x) rec g (fetched_step (fetch_at code x) code reply g)) ≡ None) (sym l.even.pc) h2 in
+    let here : step_with_inputs code reply g ≡ fetched_step at code reply g = u ∙ ap (λ x. fetched_step (fetch_at code x) code reply g) (sym l.even.pc) in
+    let Q : FrameTurn → Type 0 = λ u. Steps b.vecbase (lost_in (fresh_after fresh (fetched_turn at code s).kind at s.control.ps (finished_turn (fetched_turn at code s) reply).after.control.ps) (unset_after (fetched_turn at code s).kind at g.unset)) spilled under (finished_turn (fetched_turn at code s) reply) u in
     subst P (sym t) (λ h c. subst Q (sym here) (fetched_target b live stale rec fresh l plain code at reply (λ i len e. fetched_range code s.control.pc i len bytes e) (none_shown (fetched_tests b fresh live stale at rec g (fetched_step at code reply g)) h3) h c)) nowindow calls)
     (cases_Bool s.control.waits))
     (cases_Bool (ltb 0 (pending_of s.control)))
@@ -136,6 +136,6 @@ pub keeps_level : KeepsLevel
 keeps_level code bytes b fresh live stale s g ring spilled reply l plain shaped after reply_is nowindow none =
     let w = whole_turn code bytes b fresh live stale s g ring spilled reply l plain shaped after reply_is nowindow none in
     let u = plain_after code reply g in
-    let same : unset_after (planned code s).kind (fetched code s.control.pc) g.unset ≡ u.after.unset =
-    ap (λ k. unset_after k (fetched code s.control.pc) g.unset) w.kind ∙ ap (λ pc. unset_after (laid_step code reply g).kind (fetched code pc) g.unset) l.even.pc in
-    subst (λ x. Steps b.vecbase (lost_in (fresh_turn fresh code reply s) x) spilled (sp_under (known g.seen 1) ring) (turn_of code s reply) u) same (steps_with u.after.unset w.level.even w)
+    let same : unset_after (planned_turn code s).kind (fetch_at code s.control.pc) g.unset ≡ u.after.unset =
+    ap (λ k. unset_after k (fetch_at code s.control.pc) g.unset) w.kind ∙ ap (λ pc. unset_after (step_with_inputs code reply g).kind (fetch_at code pc) g.unset) l.even.pc in
+    subst (λ x. Steps b.vecbase (lost_in (fresh_turn fresh code reply s) x) spilled (sp_under (value_or_zero g.seen 1) ring) (turn_of code s reply) u) same (steps_with u.after.unset w.level.even w)

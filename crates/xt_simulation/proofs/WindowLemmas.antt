@@ -1,7 +1,7 @@
 -- What the checks of the window bits find, and that a write, a call and a return keep the windows.
 use Rattle.std.proofs.Common.{◌≡◌, ℕ, ◌+◌, ◌-◌, ◌%◌, ◌<◌, ◌≤◌, ◌⊎◌, Bool, true, false, ◌&&◌, eqb, leb, suc, zero, List, [], ◌∷◌, Option, sym, ◌∙◌, refl, arith, inl, inr, ⊎_elim}
 use Rattle.std.proofs.lemmas.Bool.{eq-eqb, ne_eqb, cases_lt, or_right, or_left, or_from, and_parts, and_from, le-leb, leb-true, both_ways}
-use Rattle.xt_frames.specs.Frames.{Frame, moved}
+use Rattle.xt_frames.specs.Frames.{Frame, windows_moved}
 use Rattle.xt_simulation.specs.Ring.{stands, Windows, oldest_by}
 use Rattle.xt_frames.specs.Stacks.{AreFrames}
 use Rattle.xt_window.specs.Ring.{bit, first_of_three, ahead, size_at}
@@ -81,12 +81,12 @@ found_at q n p pos e =
     (found (leb 1 q && p 1) (leb 2 q && p 2) (leb 3 q && p 3) n pos e)
 
 -- ---- gaps between windows
-oldest_moves : (ring : List Frame) → oldest_by ring ≤ moved ring
+oldest_moves : (ring : List Frame) → oldest_by ring ≤ windows_moved ring
 oldest_moves [] = omega arith
 oldest_moves (f ∷ []) = omega arith
 oldest_moves (f ∷ (g ∷ fs)) = let h = oldest_moves (g ∷ fs) in omega arith
 
-pub oldest_within : (ring : List Frame) → AreFrames ring → 0 < moved ring → (0 < oldest_by ring) × (oldest_by ring ≤ 3)
+pub oldest_within : (ring : List Frame) → AreFrames ring → 0 < windows_moved ring → (0 < oldest_by ring) × (oldest_by ring ≤ 3)
 oldest_within [] shaped h = (omega arith, omega arith)
 oldest_within (f ∷ []) shaped h = (shaped.0.moves, shaped.0.within)
 oldest_within (f ∷ (g ∷ fs)) shaped h = let m = shaped.1.0.moves in oldest_within (g ∷ fs) shaped.1 (omega arith)
@@ -99,14 +99,14 @@ stands_gap (f ∷ []) low j shaped pos h =
 stands_gap (f ∷ (g ∷ fs)) low j shaped pos h =
     let m = oldest_moves (g ∷ fs) in
     let p = shaped.0.moves in
-    or_from (eqb (low + j) (f.by + moved (g ∷ fs) + low)) (stands (low + j) (g ∷ fs) low) (ne_eqb _ _ (λ e. omega arith)) (stands_gap (g ∷ fs) low j shaped.1 pos h)
+    or_from (eqb (low + j) (f.by + windows_moved (g ∷ fs) + low)) (stands (low + j) (g ∷ fs) low) (ne_eqb _ _ (λ e. omega arith)) (stands_gap (g ∷ fs) low j shaped.1 pos h)
 
-pub stands_next : (ring : List Frame) (low : ℕ) → 0 < moved ring → AreFrames ring → stands (low + oldest_by ring) ring low ≡ true
+pub stands_next : (ring : List Frame) (low : ℕ) → 0 < windows_moved ring → AreFrames ring → stands (low + oldest_by ring) ring low ≡ true
 stands_next [] low h shaped = absurd (omega arith)
 stands_next (f ∷ []) low h shaped = or_left (eqb (low + f.by) (f.by + 0 + low)) (eqb (low + f.by) low) (eq-eqb _ _ (omega arith))
 stands_next (f ∷ (g ∷ fs)) low h shaped =
     let p = shaped.1.0.moves in
-    or_right (eqb (low + oldest_by (g ∷ fs)) (f.by + moved (g ∷ fs) + low)) (stands (low + oldest_by (g ∷ fs)) (g ∷ fs) low) (stands_next (g ∷ fs) low (omega arith) shaped.1)
+    or_right (eqb (low + oldest_by (g ∷ fs)) (f.by + windows_moved (g ∷ fs) + low)) (stands (low + oldest_by (g ∷ fs)) (g ∷ fs) low) (stands_next (g ∷ fs) low (omega arith) shaped.1)
 
 -- ---- what the checks find
 module _ {regs : List ℕ} {base start : ℕ} {seen : List (Option ℕ)} {ring : List Frame} {low : ℕ} (w : Windows regs base start seen ring low) where
@@ -114,28 +114,28 @@ module _ {regs : List ℕ} {base start : ℕ} {seen : List (Option ℕ)} {ring :
   pub bit_is : (a b : ℕ) → a % 16 ≡ b % 16 → low ≤ b → b < low + 16 → bit start a ≡ stands b ring low
   bit_is a b e at_least below = bit_at_window start a b e ∙ w.bits b at_least below
 
-  pub free_ahead : (k : ℕ) → 0 < k → moved ring + k < 16 → bit start (base + k) ≡ false
+  pub free_ahead : (k : ℕ) → 0 < k → windows_moved ring + k < 16 → bit start (base + k) ≡ false
   free_ahead k pos h =
       let e = w.based in
-      bit_is (base + k) (moved ring + low + k) (omega arith) (omega arith) (omega arith) ∙ stands_above (moved ring + low + k) ring low (omega arith)
+      bit_is (base + k) (windows_moved ring + low + k) (omega arith) (omega arith) (omega arith) ∙ stands_above (windows_moved ring + low + k) ring low (omega arith)
 
-  pub oldest_ahead : (k : ℕ) → moved ring + k ≡ 16 → bit start (base + k) ≡ true
+  pub oldest_ahead : (k : ℕ) → windows_moved ring + k ≡ 16 → bit start (base + k) ≡ true
   oldest_ahead k h =
       let e = w.based in
       bit_is (base + k) low (omega arith) (omega arith) (omega arith) ∙ stands_lowest ring low
 
-  gap_after : (k j : ℕ) → moved ring + k ≡ 16 → 0 < j → j < oldest_by ring → oldest_by ring ≤ 3 → bit start (base + k + j) ≡ false
+  gap_after : (k j : ℕ) → windows_moved ring + k ≡ 16 → 0 < j → j < oldest_by ring → oldest_by ring ≤ 3 → bit start (base + k + j) ≡ false
   gap_after k j h pos below within =
       let e = w.based in
       bit_is (base + k + j) (low + j) (omega arith) (omega arith) (omega arith) ∙ stands_gap ring low j w.shaped pos below
 
-  next_after : (k : ℕ) → moved ring + k ≡ 16 → k ≤ 3 → oldest_by ring ≤ 3 → bit start (base + k + oldest_by ring) ≡ true
+  next_after : (k : ℕ) → windows_moved ring + k ≡ 16 → k ≤ 3 → oldest_by ring ≤ 3 → bit start (base + k + oldest_by ring) ≡ true
   next_after k h small within =
       let e = w.based in
       bit_is (base + k + oldest_by ring) (low + oldest_by ring) (omega arith) (omega arith) (omega arith) ∙ stands_next ring low (omega arith) w.shaped
 
   -- an overflow's vector is that of the ring's oldest caller
-  pub size_at_oldest : (k : ℕ) → k ≤ 3 → moved ring + k ≡ 16 → size_at start (base + k) ≡ oldest_by ring
+  pub size_at_oldest : (k : ℕ) → k ≤ 3 → windows_moved ring + k ≡ 16 → size_at start (base + k) ≡ oldest_by ring
   unfolding size_at
   size_at_oldest k within h =
       let o = oldest_within ring w.shaped (omega arith) in
@@ -153,19 +153,19 @@ module _ {regs : List ℕ} {base start : ℕ} {seen : List (Option ℕ)} {ring :
       (at_or_above 1 (oldest_by ring) o.0)
 
   -- the window check passes where there is room for the windows that it looks at
-  pub passes : (q : ℕ) → q ≤ 3 → ahead start base q ≡ 0 → moved ring + q < 16
+  pub passes : (q : ℕ) → q ≤ 3 → ahead start base q ≡ 0 → windows_moved ring + q < 16
   unfolding ahead
   passes q small h =
       ⊎_elim
       (λ room. room)
       (λ full.
       let f = w.fits in
-      let at : bit start (base + (16 - moved ring)) ≡ true = oldest_ahead (16 - moved ring) (omega arith) in
-      absurd (none_hit q (16 - moved ring) (λ k. bit start (base + k)) (omega arith) (omega arith) small at h))
-      (cases_lt (moved ring + q) 16)
+      let at : bit start (base + (16 - windows_moved ring)) ≡ true = oldest_ahead (16 - windows_moved ring) (omega arith) in
+      absurd (none_hit q (16 - windows_moved ring) (λ k. bit start (base + k)) (omega arith) (omega arith) small at h))
+      (cases_lt (windows_moved ring + q) 16)
 
   -- where it hits, it hits the oldest window
-  pub hits : (q n : ℕ) → 0 < n → ahead start base q ≡ n → (n ≤ q) × (n ≤ 3) × (moved ring + n ≡ 16)
+  pub hits : (q n : ℕ) → 0 < n → ahead start base q ≡ n → (n ≤ q) × (n ≤ 3) × (windows_moved ring + n ≡ 16)
   unfolding ahead
   hits q n pos h =
       let f = found_at q n (λ k. bit start (base + k)) pos h in
@@ -174,6 +174,6 @@ module _ {regs : List ℕ} {base start : ℕ} {seen : List (Option ℕ)} {ring :
       (λ low_side. absurd (both_ways _ (free_ahead n pos low_side) f.2))
       (λ rest. ⊎_elim
       (λ same. (f.0, f.1, same))
-      (λ above. absurd (both_ways _ (f.3 (16 - moved ring) (omega arith) (omega arith)) (oldest_ahead (16 - moved ring) (omega arith))))
-      (at_or_above 16 (moved ring + n) rest))
-      (cases_lt (moved ring + n) 16)
+      (λ above. absurd (both_ways _ (f.3 (16 - windows_moved ring) (omega arith) (omega arith)) (oldest_ahead (16 - windows_moved ring) (omega arith))))
+      (at_or_above 16 (windows_moved ring + n) rest))
+      (cases_lt (windows_moved ring + n) 16)

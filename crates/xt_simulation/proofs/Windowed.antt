@@ -16,16 +16,16 @@ use Rattle.xt_trace.specs.declared.record.StepKind.TheVariants as kind
 use Rattle.xt_rows.specs.declared.outcome.WindowStep.TheVariants.{Enters, Returns, EndsOverflow, EndsUnderflow, Rotates, MovesStack, Reads, Sets, Exchanges}
 use Rattle.xt_rows.specs.declared.outcome.Outcome.{Outcome}
 use Rattle.xt_rows.specs.declared.outcome.Outcome.TheVariants.{Does, Raises, Asks, Stops, Windowed}
-use Rattle.xt_fetch.specs.Fetching.{Fetched, Fetches, Fails, SpellsNothing, fetched}
+use Rattle.xt_fetch.specs.Fetching.{Fetched, Fetches, Fails, SpellsNothing, fetch_at}
 use Rattle.xt_rows.specs.Effects.{illegal_instruction, write_to, no_caller_window}
 use Rattle.xt_rows.specs.Operands.{reads, special_reads}
 use Rattle.xt_rows.specs.Outcomes.{outcome_at, value_of}
 use Rattle.xt_exec.specs.State.{State}
-use Rattle.xt_exec.specs.Laws.{IsShaped}
+use Rattle.xt_exec.specs.TurnLaws.{IsShaped}
 use Rattle.xt_exec.proofs.Returns.{return_value}
-use Rattle.xt_exec.specs.Turn.{Planned, planned, raises, has_windows, looks, window_check, window_exception, overflow, underflow, window_step, entered, returned, resumed, moved_stack, return_size, is_illegal, done, checked, fetched_turn, falls}
+use Rattle.xt_exec.specs.Turn.{Planned, planned_turn, raises, has_windows, looks, window_check, window_exception, overflow, underflow, window_step, entry_turn, return_turn, resuming_turn, moved_stack, return_size, is_illegal, outcome_turn, turn_or_overflow, fetched_turn, fall_through}
 use Rattle.xt_frames.proofs.Shown.{NoneShown, none_shown}
-use Rattle.xt_frames.specs.Frames.{Frame, FrameState, known, moved}
+use Rattle.xt_frames.specs.Frames.{Frame, FrameState, value_or_zero, windows_moved}
 use Rattle.xt_frames.specs.HandlerSteps.{is_window}
 use Rattle.xt_frames.specs.declared.holes.Nested.{Nested}
 use Rattle.xt_frames.specs.Marks.{moves_marks}
@@ -43,53 +43,53 @@ use Rattle.xt_rows.proofs.Fitting.{outcome_fits}
 pub record Checks (code : ℕ → ℕ) (s : State) : Type 0 where
   pub insn : Insn
   pub len : ℕ
-  pub at : fetched code s.control.pc ≡ Fetches insn len
+  pub at : fetch_at code s.control.pc ≡ Fetches insn len
   pub running : s.control.waits ≡ false
   pub legal : is_illegal insn s ≡ false
-  pub same : planned code s ≡ checked (window_check insn s) code insn len s
+  pub same : planned_turn code s ≡ turn_or_overflow (window_check insn s) code insn len s
 
 not_window : {X : Type 0} (p q : Planned) → p ≡ q → is_window q.kind ≡ false → is_window p.kind ≡ true → X
 not_window p q e isnt is = let f : is_window p.kind ≡ false = rw e isnt in absurd (both_ways _ f is)
 
-fetched_checks : (code : ℕ → ℕ) (s : State) (at : Fetched) → fetched code s.control.pc ≡ at → s.control.waits ≡ false → planned code s ≡ fetched_turn at code s → is_window (planned code s).kind ≡ true → Checks code s
+fetched_checks : (code : ℕ → ℕ) (s : State) (at : Fetched) → fetch_at code s.control.pc ≡ at → s.control.waits ≡ false → planned_turn code s ≡ fetched_turn at code s → is_window (planned_turn code s).kind ≡ true → Checks code s
 fetched_checks code s (Fails addr) e w t is = not_window _ _ t refl is
 fetched_checks code s SpellsNothing e w t is = not_window _ _ t refl is
 fetched_checks code s (Fetches i len) e w t is =
     ⊎_elim
-    (λ bad. not_window _ _ (t ∙ cond-true (is_illegal i s) (raises illegal_instruction s) (checked (window_check i s) code i len s) bad) refl is)
-    (λ legal. record { insn = i; len = len; at = e; running = w; legal = legal; same = t ∙ cond-false (is_illegal i s) (raises illegal_instruction s) (checked (window_check i s) code i len s) legal })
+    (λ bad. not_window _ _ (t ∙ cond-true (is_illegal i s) (raises illegal_instruction s) (turn_or_overflow (window_check i s) code i len s) bad) refl is)
+    (λ legal. record { insn = i; len = len; at = e; running = w; legal = legal; same = t ∙ cond-false (is_illegal i s) (raises illegal_instruction s) (turn_or_overflow (window_check i s) code i len s) legal })
     (cases_Bool (is_illegal i s))
 
-pub checks : (code : ℕ → ℕ) (s : State) → is_window (planned code s).kind ≡ true → Checks code s
+pub checks : (code : ℕ → ℕ) (s : State) → is_window (planned_turn code s).kind ≡ true → Checks code s
 checks code s is =
     ⊎_elim
     (λ taken. not_window _ _ (turn_taken code s taken) refl is)
     (λ isnt. ⊎_elim
     (λ w. not_window _ _ (turn_waits code s isnt w) refl is)
-    (λ w. fetched_checks code s (fetched code s.control.pc) refl w (turn_fetches code s isnt w) is)
+    (λ w. fetched_checks code s (fetch_at code s.control.pc) refl w (turn_fetches code s isnt w) is)
     (cases_Bool s.control.waits))
     (cases_Bool (ltb 0 (pending_of s.control)))
 
 -- ---- what a turn is that passes the check
-pub returned_kind : (a0 : ℕ) (s : State) → ((returned a0 s).kind ≡ kind.Insn) ⊎ (returned a0 s ≡ underflow (return_size a0) s)
-unfolding returned
+pub returned_kind : (a0 : ℕ) (s : State) → ((return_turn a0 s).kind ≡ kind.Insn) ⊎ (return_turn a0 s ≡ underflow (return_size a0) s)
+unfolding return_turn
 returned_kind a0 s = ⊎_elim
     (λ is. inl (ap (λ (p : Planned). p.kind) (cond-true (bit s.start (base_after_return s.base (return_size a0))) _ (underflow (return_size a0) s) is)))
     (λ isnt. inr (cond-false (bit s.start (base_after_return s.base (return_size a0))) _ _ isnt))
     (cases_Bool (bit s.start (base_after_return s.base (return_size a0))))
 
-pub entered_kind : (number value len : ℕ) (s : State) → (entered number value len s).kind ≡ kind.Insn
-unfolding entered
+pub entered_kind : (number value len : ℕ) (s : State) → (entry_turn number value len s).kind ≡ kind.Insn
+unfolding entry_turn
 entered_kind number value len s = refl
 
-resumed_kind : (start epc1 : ℕ) (s : State) → (resumed start epc1 s).kind ≡ kind.Insn
-unfolding resumed
+resumed_kind : (start epc1 : ℕ) (s : State) → (resuming_turn start epc1 s).kind ≡ kind.Insn
+unfolding resuming_turn
 resumed_kind start epc1 s = refl
 
 moved_kind : (number value len : ℕ) (s : State) → is_window (moved_stack number value len s).kind ≡ false
 unfolding moved_stack
 moved_kind number value len s =
-    elim (eqb (behind s.start s.base) 0) as (λ b. is_window (cond b (raises no_caller_window s) (window_step (write_to number value) (falls len s))).kind ≡ false)
+    elim (eqb (behind s.start s.base) 0) as (λ b. is_window (cond b (raises no_caller_window s) (window_step (write_to number value) (fall_through len s))).kind ≡ false)
     [ true ↦ refl | false ↦ refl ]
 
 -- a row that enters a window exception is a return whose caller's window is not there
@@ -98,7 +98,7 @@ pub record Under (o : Outcome) (p : Planned) (s : State) : Type 0 where
   pub is : o ≡ Windowed (Returns a0)
   pub same : p ≡ underflow (return_size a0) s
 
-done_window : (o : Outcome) (len : ℕ) (s : State) → is_window (done o len s).kind ≡ true → Under o (done o len s) s
+done_window : (o : Outcome) (len : ℕ) (s : State) → is_window (outcome_turn o len s).kind ≡ true → Under o (outcome_turn o len s) s
 done_window (Does e) len s h = absurd (true≢false (sym h))
 done_window (Raises cause addr) len s h = absurd (true≢false (sym h))
 done_window (Asks access awaited e) len s h = absurd (true≢false (sym h))
@@ -128,7 +128,7 @@ last_of (f ∷ (g ∷ fs)) h = let r = last_of (g ∷ fs) h in record { front = 
 windows_low : (s : State) → has_windows s.control.ps ≡ true → s.control.ps.excm ≡ false
 windows_low s h = not-true _ (and_parts s.control.ps.woe (not s.control.ps.excm) h).1
 
-over_at : {vecbase : ℕ} {lost : ℕ → Bool} {s : State} {g : FrameState} {ring spilled : List Frame} → Level vecbase lost s g ring spilled → (code : ℕ → ℕ) (i : Insn) (k : ℕ) → s.control.waits ≡ false → window_check i s ≡ suc k → planned code s ≡ overflow (suc k) s → Overflows code s ring spilled
+over_at : {vecbase : ℕ} {lost : ℕ → Bool} {s : State} {g : FrameState} {ring spilled : List Frame} → Level vecbase lost s g ring spilled → (code : ℕ → ℕ) (i : Insn) (k : ℕ) → s.control.waits ≡ false → window_check i s ≡ suc k → planned_turn code s ≡ overflow (suc k) s → Overflows code s ring spilled
 unfolding overflow
 over_at {s = s} {ring = ring} {spilled = spilled} l code i k w c is =
     let may : has_windows s.control.ps ≡ true = ⊎_elim (λ m. m) (λ m. let z = sym (cond-false (has_windows s.control.ps) (ahead s.start s.base (looks i s.control.ps)) 0 m) ∙ c in absurd (omega (arith, z))) (cases_Bool (has_windows s.control.ps)) in
@@ -139,7 +139,7 @@ over_at {s = s} {ring = ring} {spilled = spilled} l code i k w c is =
     let within = oldest_within ring l.windows.shaped (let e = h.2 in let m = h.1 in omega arith) in
     let r = last_of ring within.0 in
     let size : size_at s.start (s.base + suc k) ≡ r.g.by = o ∙ sym r.by in
-    let base : base_after_call s.base (suc k) ≡ moved spilled % 16 = (let e = h.2 in omega arith) in
+    let base : base_after_call s.base (suc k) ≡ windows_moved spilled % 16 = (let e = h.2 in omega arith) in
     let by = r.by in
     record {
       front = r.front;
@@ -159,7 +159,7 @@ some_value (Some v) h = (v, refl)
 
 pub visible_value : {regs : List ℕ} {base start : ℕ} {seen : List (Option ℕ)} {ring : List Frame} {low : ℕ} (w : Windows regs base start seen ring low) (k v : ℕ) → get_or seen k None ≡ Some v → get_or regs (place base k) 0 ≡ v
 visible_value {base = base} {ring = ring} {low = low} w k v h =
-    let p : place base k ≡ place (moved ring + low) k = place_at base (moved ring + low) k (let e = w.based in omega arith) in
+    let p : place base k ≡ place (windows_moved ring + low) k = place_at base (windows_moved ring + low) k (let e = w.based in omega arith) in
     rw p (w.visible k v h)
 
 return_reads : (i : Insn) → IsReturn i → reads i ≡ (Some 0, None)
@@ -180,18 +180,18 @@ none_unset i (inl e) (Some x) g h = let q : reads_unset (insn.Control (control.R
 none_unset i (inr e) (Some x) g h = let q : reads_unset (insn.Density (density.Ret NarrowRetName.Retw)) g ≡ false = rw e at h in rw e q
 
 -- a0 is known, and is the processor's
-pub a0_known : {vecbase : ℕ} {lost : ℕ → Bool} {s : State} {g : FrameState} {ring spilled : List Frame} → Level vecbase lost s g ring spilled → (i : Insn) → IsReturn i → reads_none i g ≡ false → known g.seen 0 ≡ visible s.regs s.base 0
+pub a0_known : {vecbase : ℕ} {lost : ℕ → Bool} {s : State} {g : FrameState} {ring spilled : List Frame} → Level vecbase lost s g ring spilled → (i : Insn) → IsReturn i → reads_none i g ≡ false → value_or_zero g.seen 0 ≡ visible s.regs s.base 0
 a0_known {g = g} l i r h =
     let e = return_reads i r in
     let u : lacks g.seen (reads i).0 ≡ false = (or_parts (lacks g.seen (reads i).0) (lacks g.seen (reads i).1 || (is_unset g.unset (special_reads i).0 || is_unset g.unset (special_reads i).1)) (none_unset i r g.nested g h)).0 in
     let k : lacks g.seen (Some 0) ≡ false = subst (λ (o : Option ℕ × Option ℕ). lacks g.seen o.0 ≡ false) e u in
     let v = some_value (get_or g.seen 0 None) k in
-    let b : known g.seen 0 ≡ v.0 = ap (λ o. unwrap_or o 0) v.1 in
+    let b : value_or_zero g.seen 0 ≡ v.0 = ap (λ o. unwrap_or o 0) v.1 in
     b ∙ sym (visible_value l.windows 0 v.0 v.1)
 
-pub return_names : (f : Frame) (rest : List Frame) (i : Insn) (g : FrameState) → is_return i ≡ true → g.frames ≡ f ∷ rest → returns_elsewhere i g ≡ false → return_size (known g.seen 0) ≡ f.by
+pub return_names : (f : Frame) (rest : List Frame) (i : Insn) (g : FrameState) → is_return i ≡ true → g.frames ≡ f ∷ rest → returns_elsewhere i g ≡ false → return_size (value_or_zero g.seen 0) ≡ f.by
 return_names f rest i g is e h =
-    let m : mismatches (f ∷ rest) (known g.seen 0) ≡ false = rw (is, e) at h in
+    let m : mismatches (f ∷ rest) (value_or_zero g.seen 0) ≡ false = rw (is, e) at h in
     eqb-true _ _ (not-false _ m)
 
 pub return_has_caller : (i : Insn) (g : FrameState) → is_return i ≡ true → g.frames ≡ [] → has_no_caller i g ≡ false → ⊥
@@ -204,8 +204,8 @@ caller_there {base = base} {start = start} {f = f} w =
     let k = shape.within in
     bit_at_window start (base_after_return base f.by) (base + (16 - f.by)) (omega arith) ∙ caller_bit w
 
-pub leaves_kind : {vecbase : ℕ} {lost : ℕ → Bool} {s : State} {g : FrameState} {f : Frame} {ring spilled : List Frame} → Level vecbase lost s g (f ∷ ring) spilled → (a0 : ℕ) → return_size a0 ≡ f.by → (returned a0 s).kind ≡ kind.Insn
-unfolding returned
+pub leaves_kind : {vecbase : ℕ} {lost : ℕ → Bool} {s : State} {g : FrameState} {f : Frame} {ring spilled : List Frame} → Level vecbase lost s g (f ∷ ring) spilled → (a0 : ℕ) → return_size a0 ≡ f.by → (return_turn a0 s).kind ≡ kind.Insn
+unfolding return_turn
 leaves_kind {s = s} {f = f} l a0 n =
     let at = caller_there l.windows in
     rw (n, at) refl
@@ -225,7 +225,7 @@ return_windows i s (inr e) h =
     not-false _ (or_parts _ (not (has_windows s.control.ps)) z).1
 
 under_at : {vecbase : ℕ} {lost : ℕ → Bool} {s : State} {g : FrameState} (ring spilled : List Frame) → Level vecbase lost s g ring spilled → (code : ℕ → ℕ) (i : Insn) (a0 : ℕ) → IsReturn i → s.control.waits ≡ false → is_illegal i s ≡ false
-    → visible s.regs s.base 0 ≡ a0 → NoneShown (return_tests i g) → returned a0 s ≡ underflow (return_size a0) s → planned code s ≡ underflow (return_size a0) s → Underflows code s ring spilled
+    → visible s.regs s.base 0 ≡ a0 → NoneShown (return_tests i g) → return_turn a0 s ≡ underflow (return_size a0) s → planned_turn code s ≡ underflow (return_size a0) s → Underflows code s ring spilled
 unfolding underflow
 under_at {s = s} {g = g} (f ∷ ring) spilled l code i a0 r w legal v none u is =
     let a = a0_known l i r none.0 in
@@ -240,7 +240,7 @@ under_at {s = s} {g = g} [] (f ∷ rest) l code i a0 r w legal v none u is =
     let b = l.windows.based in
     let shape = l.older.0 in
     let small = shape.within in
-    let base : base_after_return s.base (return_size a0) ≡ moved rest % 16 = rw here (omega arith) in
+    let base : base_after_return s.base (return_size a0) ≡ windows_moved rest % 16 = rw here (omega arith) in
     record {
       empty = refl;
       g = f;
@@ -250,7 +250,7 @@ under_at {s = s} {g = g} [] (f ∷ rest) l code i a0 r w legal v none u is =
       within = shape.within;
       running = w;
       low = windows_low s (return_windows i s r legal);
-      is = is ∙ ap (λ x. window_exception (2 * (return_size a0 - 1) + 1) x s) base ∙ ap (λ n. window_exception (2 * (n - 1) + 1) (moved rest % 16) s) here;
+      is = is ∙ ap (λ x. window_exception (2 * (return_size a0 - 1) + 1) x s) base ∙ ap (λ n. window_exception (2 * (n - 1) + 1) (windows_moved rest % 16) s) here;
     }
 under_at {g = g} [] [] l code i a0 r w legal v none u is = absurd (return_has_caller i g (return_is i r) l.frames none.1.1.0)
 
@@ -263,32 +263,32 @@ underflow_vector (suc (suc (suc zero))) h = refl
 underflow_vector (suc (suc (suc (suc n)))) h = absurd (omega arith)
 
 -- the tests of an underflow's record are those of its RETW
-under_tests : (code : ℕ → ℕ) (i : Insn) (len size : ℕ) (s : State) (g : FrameState) → size < 4 → is_return i ≡ true → fetched code g.control.pc ≡ Fetches i len → window_breach code (underflow size s).kind g ≡ None → NoneShown (return_tests i g)
+under_tests : (code : ℕ → ℕ) (i : Insn) (len size : ℕ) (s : State) (g : FrameState) → size < 4 → is_return i ≡ true → fetch_at code g.control.pc ≡ Fetches i len → window_breach code (underflow size s).kind g ≡ None → NoneShown (return_tests i g)
 unfolding underflow window_breach
 under_tests code i len size s g small is at h =
     let under : is_underflow (2 * (size - 1) + 1) ≡ true = underflow_vector size small in
-    let h1 : fetched_return_breach (fetched code g.control.pc) g ≡ None = sym (cond-true (is_underflow (2 * (size - 1) + 1)) (fetched_return_breach (fetched code g.control.pc) g) None under) ∙ h in
+    let h1 : fetched_return_breach (fetch_at code g.control.pc) g ≡ None = sym (cond-true (is_underflow (2 * (size - 1) + 1)) (fetched_return_breach (fetch_at code g.control.pc) g) None under) ∙ h in
     let h2 : fetched_return_breach (Fetches i len) g ≡ None = rw at at h1 in
     none_shown (return_tests i g) (sym (cond-true (is_return i) (first_shown (return_tests i g)) None is) ∙ h2)
 
-under_done : {vecbase : ℕ} {lost : ℕ → Bool} {s : State} {g : FrameState} {ring spilled : List Frame} → Level vecbase lost s g ring spilled → (code : ℕ → ℕ) (i : Insn) (len : ℕ) → IsShaped s → s.control.waits ≡ false → is_illegal i s ≡ false → fetched code s.control.pc ≡ Fetches i len
-    → planned code s ≡ done (outcome_at code i (visible s.regs s.base) s.control) len s → is_window (planned code s).kind ≡ true → window_breach code (planned code s).kind g ≡ None → Underflows code s ring spilled
+under_done : {vecbase : ℕ} {lost : ℕ → Bool} {s : State} {g : FrameState} {ring spilled : List Frame} → Level vecbase lost s g ring spilled → (code : ℕ → ℕ) (i : Insn) (len : ℕ) → IsShaped s → s.control.waits ≡ false → is_illegal i s ≡ false → fetch_at code s.control.pc ≡ Fetches i len
+    → planned_turn code s ≡ outcome_turn (outcome_at code i (visible s.regs s.base) s.control) len s → is_window (planned_turn code s).kind ≡ true → window_breach code (planned_turn code s).kind g ≡ None → Underflows code s ring spilled
 under_done {s = s} {g = g} {ring = ring} {spilled = spilled} l code i len shaped w legal at is window none =
     let o = outcome_at code i (visible s.regs s.base) s.control in
-    let window2 : is_window (done o len s).kind ≡ true = rw is at window in
+    let window2 : is_window (outcome_turn o len s).kind ≡ true = rw is at window in
     let d = done_window o len s window2 in
     let r : IsReturn i = (let f : Fits i (Windowed (Returns d.a0)) = subst (Fits i) d.is (outcome_fits code i s.control.pc (value_of (visible s.regs s.base) (reads i).0) (value_of (visible s.regs s.base) (reads i).1) _ _ s.control.ps s.control.threadptr) in f) in
     let v = return_value code i (visible s.regs s.base) s.control d.a0 r d.is in
     let word_ : visible s.regs s.base 0 < 2 ^ 32 = shaped.words (place s.base 0) in
     let small : return_size d.a0 < 4 = omega (arith, word_, v) in
-    let same : planned code s ≡ underflow (return_size d.a0) s = is ∙ d.same in
-    let here : done (Windowed (Returns d.a0)) len s ≡ underflow (return_size d.a0) s = ap (λ x. done x len s) (sym d.is) ∙ d.same in
-    let at_g : fetched code g.control.pc ≡ Fetches i len = ap (fetched code) (sym l.even.pc) ∙ at in
+    let same : planned_turn code s ≡ underflow (return_size d.a0) s = is ∙ d.same in
+    let here : outcome_turn (Windowed (Returns d.a0)) len s ≡ underflow (return_size d.a0) s = ap (λ x. outcome_turn x len s) (sym d.is) ∙ d.same in
+    let at_g : fetch_at code g.control.pc ≡ Fetches i len = ap (fetch_at code) (sym l.even.pc) ∙ at in
     let none2 : window_breach code (underflow (return_size d.a0) s).kind g ≡ None = subst (λ (p : Planned). window_breach code p.kind g ≡ None) same none in
     under_at ring spilled l code i d.a0 r w legal v (under_tests code i len (return_size d.a0) s g small (return_is i r) at_g none2) here same
 
-window_turn : {vecbase : ℕ} {lost : ℕ → Bool} {s : State} {g : FrameState} {ring spilled : List Frame} → Level vecbase lost s g ring spilled → (code : ℕ → ℕ) (i : Insn) (len k : ℕ) → IsShaped s → s.control.waits ≡ false → is_illegal i s ≡ false → fetched code s.control.pc ≡ Fetches i len
-    → window_check i s ≡ k → planned code s ≡ checked k code i len s → is_window (planned code s).kind ≡ true → window_breach code (planned code s).kind g ≡ None → Overflows code s ring spilled ⊎ Underflows code s ring spilled
+window_turn : {vecbase : ℕ} {lost : ℕ → Bool} {s : State} {g : FrameState} {ring spilled : List Frame} → Level vecbase lost s g ring spilled → (code : ℕ → ℕ) (i : Insn) (len k : ℕ) → IsShaped s → s.control.waits ≡ false → is_illegal i s ≡ false → fetch_at code s.control.pc ≡ Fetches i len
+    → window_check i s ≡ k → planned_turn code s ≡ turn_or_overflow k code i len s → is_window (planned_turn code s).kind ≡ true → window_breach code (planned_turn code s).kind g ≡ None → Overflows code s ring spilled ⊎ Underflows code s ring spilled
 window_turn l code i len zero shaped w legal at c is window none = inr (under_done l code i len shaped w legal at is window none)
 window_turn l code i len (suc k) shaped w legal at c is window none = inl (over_at l code i k w c is)
 

@@ -2,7 +2,7 @@
 -- One core outside handler steps, with memory as bytes by address.
 use Rattle.std.specs.Prelude.{◌≡◌, ◌≤◌, ◌<◌, ℕ, ◌+◌, ◌*◌, Bool, true, List, [], ◌∷◌, ◌⊎◌}
 use Rattle.xt_exec.specs.State.{State}
-use Rattle.xt_frames.specs.Frames.{Frame, FrameState, known}
+use Rattle.xt_frames.specs.Frames.{Frame, FrameState, value_or_zero}
 use Rattle.xt_frames.specs.SaveAreas.{Range, Area, areas, is_live}
 use Rattle.xt_frames.specs.Breaches.{Bounds}
 use Rattle.xt_frames.specs.Stacks.{AreFrames}
@@ -19,7 +19,7 @@ pub record Related
     (ring spilled : List Frame) : Type 0 where
   pub plain : Plain b.vecbase lost s f ring spilled
   pub stack : Stack b.range.lo b.range.hi f.seen f.frames
-  pub saved : Saved (word m) b.range.hi (sp_under (known f.seen 1) ring) spilled
+  pub saved : Saved (word m) b.range.hi (sp_under (value_or_zero f.seen 1) ring) spilled
 
 -- the four bytes of a word lie in one area
 abbrev pub Covers : List Area → ℕ → Type 0

@@ -7,10 +7,10 @@ use Rattle.xt_map.specs.declared.contents.MemoryContents.{MemoryContents}
 use Rattle.xt_map.specs.Memory.{HasSizes, byte_at}
 use Rattle.xt_fetch.specs.Code.{AreBytes}
 use Rattle.xt_exec.specs.State.{State}
-use Rattle.xt_exec.specs.Laws.{IsShaped}
-use Rattle.xt_exec.specs.Turn.{planned, demand}
+use Rattle.xt_exec.specs.TurnLaws.{IsShaped}
+use Rattle.xt_exec.specs.Turn.{planned_turn, demand}
 use Rattle.xt_frames.specs.Frames.{Frame, FrameState}
-use Rattle.xt_frames.specs.FrameStep.{laid}
+use Rattle.xt_frames.specs.FrameStep.{with_inputs}
 use Rattle.xt_frames.specs.SaveAreas.{is_live}
 use Rattle.xt_frames.specs.HandlerSteps.{is_window}
 use Rattle.xt_frames.specs.Nesting.{is_nesting}
@@ -26,8 +26,8 @@ StretchesAreEntered =
     → (m : MemoryContents) (fresh : Bool) (s : State) (f : FrameState)
     (ring spilled : List Frame) (reply : ℕ)
     → Related (byte_at m) b (lost_at fresh f) s f ring spilled → IsShaped s
-    → is_window (planned code s).kind ≡ true
-    → window_breach code (planned code s).kind (laid (inputs reply s) f) ≡ None
+    → is_window (planned_turn code s).kind ≡ true
+    → window_breach code (planned_turn code s).kind (with_inputs (inputs reply s) f) ≡ None
     → (demand code s ≡ None) × Handling code b m (state_now code m s) f s (byte_at m)
 
 abbrev pub HandlerStepsAreKept : Type 0
@@ -35,7 +35,7 @@ HandlerStepsAreKept =
     (code : ℕ → ℕ) → AreBytes code → (b : Bounds) → IsGood code b
     → (m : MemoryContents) (s : State) (f : FrameState) (before : State) (opened : ℕ → ℕ)
     → Handling code b m s f before opened → IsShaped s → HasSizes m
-    → is_nesting (planned code s).kind ≡ false
+    → is_nesting (planned_turn code s).kind ≡ false
     → HandlerStep code b m s f before opened
 
 abbrev pub HandlersAreSpared : Type 0

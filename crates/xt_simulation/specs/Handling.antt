@@ -7,8 +7,8 @@ use Rattle.std.specs.Prelude.{◌++◌}
 use Rattle.xt_map.specs.declared.contents.MemoryContents.{MemoryContents}
 use Rattle.xt_map.specs.Memory.{byte_at}
 use Rattle.xt_exec.specs.State.{State}
-use Rattle.xt_exec.specs.Laws.{IsShaped}
-use Rattle.xt_exec.specs.Turn.{planned}
+use Rattle.xt_exec.specs.TurnLaws.{IsShaped}
+use Rattle.xt_exec.specs.Turn.{planned_turn}
 use Rattle.xt_frames.specs.HandlerSteps.{closes}
 use Rattle.xt_frames.specs.Frames.{Frame, FrameState}
 use Rattle.xt_frames.specs.SaveAreas.{is_live}
@@ -20,7 +20,7 @@ use Rattle.xt_stretch.specs.Symbols.{Effect}
 use Rattle.xt_stretch.specs.declared.Side.{Side}
 use Rattle.xt_stretch.specs.declared.Side.TheVariants.{Overflow, Underflow}
 use Rattle.xt_stretch.specs.Machines.{Machine}
-use Rattle.xt_stretch.specs.Kept.{Stands, Handles}
+use Rattle.xt_stretch.specs.HandlerInvariants.{Stands, Handles}
 use Rattle.xt_handlers.specs.Vectors.{vector_at, vector_bytes, Handlers}
 use Rattle.xt_simulation.specs.Steps.{state_now, memory_now}
 use Rattle.xt_simulation.specs.InHandlers.{start_of, Untouched, MovesFrame, StoresAlone}
@@ -96,12 +96,12 @@ Settles Underflow m b t f front g rest = Related m b (lost_at false f) t f (g �
 pub data HandlerStep
     (code : ℕ → ℕ) (b : Bounds) (m : MemoryContents) (s : State) (f : FrameState)
     (before : State) (opened : ℕ → ℕ) : Type 0 where
-  steps_on : closes code (planned code s).kind s.control.pc ≡ false
+  steps_on : closes code (planned_turn code s).kind s.control.pc ≡ false
       → Handling code b (memory_now code m s) (state_now code m s) f before opened
       → ((a : ℕ) → is_live b.range f a ≡ false → byte_at (memory_now code m s) a ≡ byte_at m a)
       → StoresAlone b f before s opened (byte_at m) (byte_at (memory_now code m s))
       → HandlerStep code b m s f before opened
-  closes_stretch : closes code (planned code s).kind s.control.pc ≡ true
+  closes_stretch : closes code (planned_turn code s).kind s.control.pc ≡ true
       → MovesFrame b f before (state_now code m s) opened (byte_at m)
       → Somewhere (byte_at m) b (lost_at false f) (state_now code m s) f
       → memory_now code m s ≡ m

@@ -28,7 +28,7 @@ use Rattle.xt_trace.specs.declared.options.Options.{Options}
 use Rattle.xt_trace.specs.declared.record.StepRecord.{StepRecord}
 use Rattle.xt_fetch.specs.Code.{AreBytes}
 use Rattle.xt_trace.specs.Traces.{trace_over}
-use Rattle.xt_trace.specs.Runs.{Opening, Run, opened, IsRunOf, schedule_of}
+use Rattle.xt_trace.specs.Runs.{Opening, Run, world_at_start, IsRunOf, schedule_of}
 use Rattle.xt_trace.specs.Short.{ShortRun, IsShortRunOf, short_schedule}
 use Rattle.xt_trace.specs.Walks.{IsWalk, state_at}
 use Rattle.xt_trace.specs.Worlds as worlds
@@ -41,7 +41,7 @@ use Rattle.xt_frames.specs.Verdict.{Known, Judgement, judgement, opening_known, 
 use Rattle.xt_stretch.specs.declared.Side.TheVariants.{Overflow, Underflow}
 use Rattle.xt_stretch.specs.declared.HandlerVerdict.TheVariants.{Yes}
 use Rattle.xt_handlers.specs.Vectors.{verdict_of, Handlers}
-use Rattle.xt_simulation.specs.Walking.{World, walked, GivesBack, KeepsStretches}
+use Rattle.xt_simulation.specs.Walking.{World, world_after_turns, GivesBack, KeepsStretches}
 use Rattle.xt_simulation.specs.Walking.{IsWorldRun, Apart}
 use Rattle.xt_simulation.specs.Opening.{Openings, IsOpening, bounds0, bounds1, state0, state1}
 use Rattle.xt_simulation.specs.Opening.{frame0, frame1, memory_of, frame_of, opening_world}
@@ -72,7 +72,7 @@ abbrev pub TurnsAreFrames : Type 0
 TurnsAreFrames =
     (o : Openings) (code : ℕ → ℕ) → IsCovered o code
     → (cores : List Bool) (w : World)
-    → walked code (bounds0 o) (bounds1 o) cores (Some (opening_world o)) ≡ Some w
+    → world_after_turns code (bounds0 o) (bounds1 o) cores (Some (opening_world o)) ≡ Some w
     → IsWorldRun code (memory_of o) (frame_of (state0 o)) (frame_of (state1 o)) w
 
 -- and at each place of it, where a core's next turn ends a stretch of handler steps, the stretch
@@ -81,7 +81,7 @@ abbrev pub StretchesMoveFrames : Type 0
 StretchesMoveFrames =
     (o : Openings) (code : ℕ → ℕ) → IsCovered o code
     → (cores : List Bool) (w : World)
-    → walked code (bounds0 o) (bounds1 o) cores (Some (opening_world o)) ≡ Some w
+    → world_after_turns code (bounds0 o) (bounds1 o) cores (Some (opening_world o)) ≡ Some w
     → KeepsStretches code (bounds0 o) w.memory w.core0
     × KeepsStretches code (bounds1 o) w.memory w.core1
 
@@ -90,7 +90,7 @@ abbrev pub NestedGiveBack : Type 0
 NestedGiveBack =
     (o : Openings) (code : ℕ → ℕ) → IsCovered o code
     → (cores : List Bool) (w : World)
-    → walked code (bounds0 o) (bounds1 o) cores (Some (opening_world o)) ≡ Some w
+    → world_after_turns code (bounds0 o) (bounds1 o) cores (Some (opening_world o)) ≡ Some w
     → GivesBack code (bounds0 o) (bounds1 o) 0 w.core0 w.core1 w.memory w.stale
     × GivesBack code (bounds1 o) (bounds0 o) 1 w.core1 w.core0 w.memory w.stale
 
@@ -118,7 +118,7 @@ abbrev pub WalksAreFrames : Type 0
 WalksAreFrames =
     (o : Openings) (code : ℕ → ℕ) (turns0 turns1 : ℕ) → IsCovered o code
     → (cores : List ℕ) (xs ys : List StepRecord)
-    → IsWalk (processor code) cores (opened (opening_of o turns0 turns1)) xs ys
+    → IsWalk (processor code) cores (world_at_start (opening_of o turns0 turns1)) xs ys
     → AreFrames o code (judged_in o code cores xs ys)
 
 -- and so of every run: its history is legal and its traces are the processor's over the replies
@@ -167,7 +167,7 @@ pub record Position
     (o : Openings) (code : ℕ → ℕ) (turns0 turns1 : ℕ) (cores : List ℕ) (p : ℕ) (k : Known)
     : Type 0 where
   pub world : World
-  pub reached : walked code (bounds0 o) (bounds1 o) (turns_of (take p cores))
+  pub reached : world_after_turns code (bounds0 o) (bounds1 o) (turns_of (take p cores))
       (Some (opening_world o)) ≡ Some world
   pub knows : Knows world k
   pub stands : StandsAt world

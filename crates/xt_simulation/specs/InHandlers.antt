@@ -4,14 +4,14 @@
 -- by their stack pointers, in live save areas. The moved frame's bit of WINDOWSTART was set before
 -- an overflow and clear before an underflow. In `oldest` windows are counted without end, so that
 -- window w + 16 is window w again: before an overflow no bit is set behind the newest frame's
--- window, which is `moved f.frames`, before the moved frame's comes again.
+-- window, which is `windows_moved f.frames`, before the moved frame's comes again.
 use Rattle.std.specs.Prelude.{◌≡◌, ◌≢◌, ◌≤◌, ◌<◌, ℕ, ◌+◌, ◌-◌, ◌*◌, ◌%◌, true, false, nat_lt}
 use Rattle.std.specs.Prelude.{◌==◌, if◌then◌else◌, Option, Some, None}
 use Rattle.std.specs.Prelude.{List, [], ◌∷◌, ◌++◌, length, slice_index, slice_index_or}
 use Rattle.xt_special.specs.Numbers as number
 use Rattle.xt_special.specs.Control.{Control}
 use Rattle.xt_exec.specs.State.{State}
-use Rattle.xt_frames.specs.Frames.{Frame, FrameState, known, moved}
+use Rattle.xt_frames.specs.Frames.{Frame, FrameState, value_or_zero, windows_moved}
 use Rattle.xt_frames.specs.SaveAreas.{is_live, sp_of, before as sp_before}
 use Rattle.xt_frames.specs.Breaches.{Bounds}
 use Rattle.xt_stretch.specs.declared.Side.{Side}
@@ -33,12 +33,12 @@ pub record Resumes (c d : Control) : Type 0 where
       → slice_index d.special k ≡ slice_index c.special k
 
 -- a register after a nested step that has changed it, and else as it was before the stretch
-abbrev pub left : ℕ → ℕ → ℕ → ℕ
-left old from to = if to == from then old else to
+abbrev pub value_left : ℕ → ℕ → ℕ → ℕ
+value_left old from to = if to == from then old else to
 
 abbrev pub special_left : List ℕ → List ℕ → List ℕ → List ℕ
 special_left (old ∷ olds) (from ∷ froms) (to ∷ tos) =
-    left old from to ∷ special_left olds froms tos
+    value_left old from to ∷ special_left olds froms tos
 special_left _ _ _ = []
 
 -- The state before a stretch, with THREADPTR and the special registers that a nested step from this
@@ -47,7 +47,7 @@ abbrev pub as_left : State → State → State → State
 as_left before from to = record before {
   control = record before.control {
     special = special_left before.control.special from.control.special to.control.special;
-    threadptr = left before.control.threadptr from.control.threadptr to.control.threadptr;
+    threadptr = value_left before.control.threadptr from.control.threadptr to.control.threadptr;
   };
 }
 
@@ -80,7 +80,8 @@ Holds regs kept w =
 
 -- the handler's window, with the registers and the bytes at the record of the window exception
 abbrev pub start_of : State → (ℕ → ℕ) → List Frame → Machine
-start_of before opened rest = record { ring = before.regs; base = moved rest % 16; bytes = opened }
+start_of before opened rest =
+    record { ring = before.regs; base = windows_moved rest % 16; bytes = opened }
 
 -- the handler has not to store there
 abbrev pub Untouched : Side → ℕ → Machine → ℕ → Type 0
@@ -94,14 +95,14 @@ Untouched Underflow n start a = Unit {0}
 pub record Stretch
     (side : Side) (n : ℕ) (before after : State) (opened now : ℕ → ℕ)
     (rest : List Frame) : Type 0 where
-  pub changes : Changes before after (moved rest) n
-  pub overflow_bit : side ≡ Overflow → after.start ≡ without_bit before.start (moved rest)
-  pub underflow_bit : side ≡ Underflow → after.start ≡ with_bit before.start (moved rest)
+  pub changes : Changes before after (windows_moved rest) n
+  pub overflow_bit : side ≡ Overflow → after.start ≡ without_bit before.start (windows_moved rest)
+  pub underflow_bit : side ≡ Underflow → after.start ≡ with_bit before.start (windows_moved rest)
   pub saved : side ≡ Overflow → (k : ℕ) → k < 4 * n
       → word_at now (address_of (start_of before opened rest) (save_word Overflow n k)) ≡ visible
-      before.regs (moved rest % 16) k
+      before.regs (windows_moved rest % 16) k
   pub loaded : side ≡ Underflow → (k : ℕ) → k < 4 * n
-      → visible after.regs (moved rest % 16) k ≡ word_at opened
+      → visible after.regs (windows_moved rest % 16) k ≡ word_at opened
       (address_of (start_of before opened rest) (save_word Underflow n k))
 
 -- the callers in the ring above the moved frame
@@ -119,7 +120,7 @@ sp_under sp (f ∷ fs) = sp_under (sp_of f) fs
 -- frame that g called, the others in the bytes that end 16 below its caller's.
 abbrev pub saved_at : Bounds → FrameState → List Frame → Frame → List Frame → ℕ → ℕ
 saved_at b f newer g rest k =
-    if nat_lt k 4 then sp_under (known f.seen 1) newer - 16 + 4 * k
+    if nat_lt k 4 then sp_under (value_or_zero f.seen 1) newer - 16 + 4 * k
     else sp_before b.range.hi rest - 16 * g.by + 4 * (k - 4)
 
 -- the handler's save words are these, and they lie in live save areas of the core
@@ -144,18 +145,19 @@ pub record MovesFrame
   pub frames : f.frames ≡ above side front ++ g ∷ rest
   pub areas : InAreas b f side (above side front) g rest (start_of before opened rest)
   -- its window stood before an overflow, and not before an underflow
-  pub stood : side ≡ Overflow → bit before.start (moved rest) ≡ true
+  pub stood : side ≡ Overflow → bit before.start (windows_moved rest) ≡ true
   -- and in an overflow it is the oldest in the ring: from the newest frame's window round to its
   -- own no other stands
-  pub newest : before.base ≡ moved f.frames % 16
+  pub newest : before.base ≡ windows_moved f.frames % 16
   pub oldest : side ≡ Overflow
-      → (w : ℕ) → moved f.frames < w → w < moved rest + 16 → bit before.start w ≡ false
-  pub spilled : side ≡ Underflow → bit before.start (moved rest) ≡ false
+      → (w : ℕ) → windows_moved f.frames < w → w < windows_moved rest + 16 → bit before.start w
+      ≡ false
+  pub spilled : side ≡ Underflow → bit before.start (windows_moved rest) ≡ false
   pub stretch : Stretch side g.by before after opened now rest
   pub seen : (i v : ℕ) → slice_index_or f.seen i None ≡ Some v
       → (visible before.regs before.base i ≡ v) × (visible after.regs after.base i ≡ v)
-  pub stored : side ≡ Overflow → Holds before.regs g.kept (moved rest)
-  pub returned : side ≡ Underflow → Holds after.regs g.kept (moved rest)
+  pub stored : side ≡ Overflow → Holds before.regs g.kept (windows_moved rest)
+  pub returned : side ≡ Underflow → Holds after.regs g.kept (windows_moved rest)
   pub elsewhere : (a : ℕ) → is_live b.range f a ≡ true
       → Untouched side g.by (start_of before opened rest) a → now a ≡ opened a
 
@@ -171,7 +173,7 @@ pub record StoresAlone
   pub areas : InAreas b f side (above side front) g rest (start_of before opened rest)
   pub vector_low : vector_at b.vecbase side g.by ≤ s.control.pc
   pub vector_high : s.control.pc < vector_at b.vecbase side g.by + 64
-  pub window : s.base ≡ moved rest % 16
+  pub window : s.base ≡ windows_moved rest % 16
   pub elsewhere : side ≡ Overflow
       → (a : ℕ) → IsElsewhere g.by (start_of before opened rest) a → new a ≡ old a
   pub nowhere : side ≡ Underflow → (a : ℕ) → new a ≡ old a

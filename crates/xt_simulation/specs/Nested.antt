@@ -12,13 +12,13 @@ use Rattle.xt_special.specs.Control.{special_of, ps_word}
 use Rattle.xt_window.specs.Ring.{place, visible}
 use Rattle.xt_fetch.specs.Code.{AreBytes}
 use Rattle.xt_exec.specs.State.{State}
-use Rattle.xt_exec.specs.Laws.{IsShaped}
-use Rattle.xt_exec.specs.Turn.{planned}
+use Rattle.xt_exec.specs.TurnLaws.{IsShaped}
+use Rattle.xt_exec.specs.Turn.{planned_turn}
 use Rattle.xt_frames.specs.declared.holes.Nested.{Nested}
 use Rattle.xt_frames.specs.Frames.{FrameState}
-use Rattle.xt_frames.specs.FrameStep.{laid}
+use Rattle.xt_frames.specs.FrameStep.{with_inputs}
 use Rattle.xt_frames.specs.HandlerSteps.{returns}
-use Rattle.xt_frames.specs.Nesting.{inside, is_nesting, nested_level}
+use Rattle.xt_frames.specs.Nesting.{nested_view, is_nesting, nested_level}
 use Rattle.xt_frames.specs.SaveAreas.{is_live}
 use Rattle.xt_frames.specs.Breaches.{Bounds, breach_of}
 use Rattle.xt_frames.specs.Judging.{step_on, live_of}
@@ -30,8 +30,8 @@ use Rattle.xt_simulation.specs.Judges.{Matches}
 use Rattle.xt_simulation.specs.Handling.{IsGood, Handling}
 
 -- the state that RFI 5 makes, but for the end of its turn
-abbrev pub resumed : State → State → State
-resumed suspended s = record s {
+abbrev pub resumed_state : State → State → State
+resumed_state suspended s = record s {
   regs = suspended.regs;
   control = record s.control { pc = suspended.control.pc; ps = suspended.control.ps };
 }
@@ -41,14 +41,14 @@ abbrev pub IsSpare : ℕ → ℕ → Type 0
 IsSpare base p = (p ≡ place base 0) ⊎ ((p ≡ place base 2) ⊎ (p ≡ place base 3))
 
 -- what visible register k held when the interrupt was taken
-abbrev pub marked : State → ℕ → ℕ
-marked suspended k = visible suspended.regs suspended.base k
+abbrev pub marked_value : State → ℕ → ℕ
+marked_value suspended k = visible suspended.regs suspended.base k
 
 -- the core now, beside the frame state, where `suspended` is its state when the interrupt was taken
 pub record IsInside (suspended s : State) (f : FrameState) (x : Nested) : Type 0 where
   -- PC, PS, THREADPTR, and the special registers that have a number; the window exception has
   -- written EPC1
-  pub even : Even (lost_at false f) s.control (laid (inputs 0 s) (inside x f)).control
+  pub even : Even (lost_at false f) s.control (with_inputs (inputs 0 s) (nested_view x f)).control
   -- so neither an interrupt nor a window exception comes
   pub level : s.control.ps.intlevel ≡ nested_level
   pub mode : s.control.ps.excm ≡ true
@@ -67,9 +67,10 @@ pub record IsInside (suspended s : State) (f : FrameState) (x : Nested) : Type 0
   pub numbers : (i v : ℕ) → slice_index_or x.seen i None ≡ Some v → visible s.regs s.base i ≡ v
   -- the marks, which stand where there is no number
   pub marks : (i k : ℕ) → slice_index_or x.marks i None ≡ Some k
-      → (visible s.regs s.base i ≡ marked suspended k) × (slice_index_or x.seen i None ≡ None)
+      → (visible s.regs s.base i ≡ marked_value suspended k) × (slice_index_or x.seen i None ≡ None)
   pub saved : (n k : ℕ) → slice_index_or x.saved n None ≡ Some k
-      → (special_of s.control n ≡ marked suspended k) × (slice_index_or f.unset n false ≡ true)
+      → (special_of s.control n ≡ marked_value suspended k)
+      × (slice_index_or f.unset n false ≡ true)
 
 pub record Suspends
     (code : ℕ → ℕ) (b : Bounds) (m : MemoryContents) (s : State) (f : FrameState)
@@ -78,7 +79,7 @@ pub record Suspends
   pub nested : f.nested ≡ Some x
   pub inside : IsInside suspended s f x
   -- its own fields are those that are kept
-  pub handling : Handling code b m (resumed suspended s) f before opened
+  pub handling : Handling code b m (resumed_state suspended s) f before opened
 
 -- ---- what is said of nested interrupts
 
@@ -88,7 +89,7 @@ NestedBegin =
     (code : ℕ → ℕ) → AreBytes code → (b : Bounds) → IsGood code b
     → (m : MemoryContents) (s : State) (f : FrameState) (before : State) (opened : ℕ → ℕ)
     → Handling code b m s f before opened → f.nested ≡ None → IsShaped s
-    → length f.unset ≡ 256 → is_nesting (planned code s).kind ≡ true
+    → length f.unset ≡ 256 → is_nesting (planned_turn code s).kind ≡ true
     → Suspends code b m (state_now code m s)
     (step_on code true (record_now code m s) f).after
     (as_left before s (state_now code m s)) opened s
@@ -116,7 +117,7 @@ NestedStepsAreKept =
     × Onward code b (memory_now code m s) (state_now code m s)
     (step_on code true (record_now code m s) f).after
     (as_left before s (state_now code m s)) opened suspended
-    (returns code (planned code s).kind s.control.pc)
+    (returns code (planned_turn code s).kind s.control.pc)
 
 -- an access of the other core that touches no live byte
 abbrev pub NestedAreSpared : Type 0

@@ -9,7 +9,7 @@ use Rattle.xt_trace.specs.declared.options.Stack.{Stack}
 use Rattle.xt_trace.specs.declared.options.Options.{Options}
 use Rattle.xt_trace.specs.Validity.{IsValid}
 use Rattle.xt_window.specs.Ring.{visible}
-use Rattle.xt_rows.specs.Laws.{IsWord}
+use Rattle.xt_rows.specs.RowLaws.{IsWord}
 use Rattle.xt_exec.specs.State.{State, opening_state}
 use Rattle.xt_frames.specs.Frames.{FrameState, all_set, opening_frame}
 use Rattle.xt_frames.specs.SaveAreas.{Range}

@@ -7,10 +7,10 @@ use Rattle.xt_special.specs.Numbers as number
 use Rattle.xt_special.specs.Control.{Control, special_of}
 use Rattle.xt_special.specs.Access.{is_eps}
 use Rattle.xt_exec.specs.State.{State}
-use Rattle.xt_exec.specs.Laws.{IsShaped}
-use Rattle.xt_exec.specs.Turn.{planned, window_exception}
-use Rattle.xt_frames.specs.Frames.{Frame, FrameState, moved}
-use Rattle.xt_frames.specs.FrameStep.{Inputs, laid}
+use Rattle.xt_exec.specs.TurnLaws.{IsShaped}
+use Rattle.xt_exec.specs.Turn.{planned_turn, window_exception}
+use Rattle.xt_frames.specs.Frames.{Frame, FrameState, windows_moved}
+use Rattle.xt_frames.specs.FrameStep.{Inputs, with_inputs}
 use Rattle.xt_frames.specs.HandlerSteps.{is_window}
 use Rattle.xt_frames.specs.Breaches.{lost_of, window_breach}
 use Rattle.xt_frames.specs.Marks.{holds_marks}
@@ -60,7 +60,7 @@ inputs reply s =
 pub record Level
     (vecbase : ℕ) (lost : ℕ → Bool) (s : State) (g : FrameState)
     (ring spilled : List Frame) : Type 0 where
-  pub windows : Windows s.regs s.base s.start g.seen ring (moved spilled)
+  pub windows : Windows s.regs s.base s.start g.seen ring (windows_moved spilled)
   pub frames : g.frames ≡ ring ++ spilled
   pub older : AreFrames spilled
   pub even : Even lost s.control g.control
@@ -71,7 +71,7 @@ pub record Level
 -- outside handler steps, where `ring` are the callers whose windows stand and `spilled` the older
 -- ones
 abbrev pub Plain : ℕ → (ℕ → Bool) → State → FrameState → List Frame → List Frame → Type 0
-Plain vecbase lost s f ring spilled = Level vecbase lost s (laid (inputs 0 s) f) ring spilled
+Plain vecbase lost s f ring spilled = Level vecbase lost s (with_inputs (inputs 0 s) f) ring spilled
 
 -- ---- window exceptions
 
@@ -85,7 +85,7 @@ pub record Overflows (code : ℕ → ℕ) (s : State) (ring spilled : List Frame
   pub within : g.by ≤ 3
   pub running : s.control.waits ≡ false
   pub low : s.control.ps.excm ≡ false
-  pub is : planned code s ≡ window_exception (2 * (g.by - 1)) (moved spilled % 16) s
+  pub is : planned_turn code s ≡ window_exception (2 * (g.by - 1)) (windows_moved spilled % 16) s
 
 -- an underflow: no caller stands in the ring, and the window of the newest spilled one, g, is to be
 -- loaded, through the vector of its size
@@ -98,7 +98,7 @@ pub record Underflows (code : ℕ → ℕ) (s : State) (ring spilled : List Fram
   pub within : g.by ≤ 3
   pub running : s.control.waits ≡ false
   pub low : s.control.ps.excm ≡ false
-  pub is : planned code s ≡ window_exception (2 * (g.by - 1) + 1) (moved rest % 16) s
+  pub is : planned_turn code s ≡ window_exception (2 * (g.by - 1) + 1) (windows_moved rest % 16) s
 
 -- a turn that enters a window exception, where its record shows no breach
 abbrev pub EntersWindow : Type 0
@@ -107,6 +107,6 @@ EntersWindow =
     (ring spilled : List Frame) (reply : ℕ)
     → Plain vecbase lost s f ring spilled
     → IsShaped s
-    → is_window (planned code s).kind ≡ true
-    → window_breach code (planned code s).kind (laid (inputs reply s) f) ≡ None
+    → is_window (planned_turn code s).kind ≡ true
+    → window_breach code (planned_turn code s).kind (with_inputs (inputs reply s) f) ≡ None
     → Overflows code s ring spilled ⊎ Underflows code s ring spilled

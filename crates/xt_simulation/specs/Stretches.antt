@@ -4,11 +4,11 @@ use Rattle.std.specs.Prelude.{◌≡◌, ◌≢◌, ℕ, ◌+◌, ◌-◌, ◌*�
 use Rattle.std.specs.Prelude.{[], ◌∷◌, ◌++◌, slice_index, length}
 use Rattle.xt_special.specs.Numbers as number
 use Rattle.xt_special.specs.Control.{Control, special_of}
-use Rattle.xt_special.specs.Timers.{ticked}
+use Rattle.xt_special.specs.Timers.{after_tick}
 use Rattle.xt_special.specs.WindowExceptions.{after_window_exception}
 use Rattle.xt_window.specs.Ring.{visible, with_bit, without_bit}
 use Rattle.xt_exec.specs.State.{State}
-use Rattle.xt_frames.specs.Frames.{Frame, FrameState, moved}
+use Rattle.xt_frames.specs.Frames.{Frame, FrameState, windows_moved}
 use Rattle.xt_frames.specs.Breaches.{Bounds}
 use Rattle.xt_stretch.specs.Joined.{Finds}
 use Rattle.xt_simulation.specs.Stacks.{IsElsewhere}
@@ -39,9 +39,9 @@ OverflowsKeepRelated =
     (b : Bounds) (lost : ℕ → Bool) (s t : State) (f : FrameState) (ring : List Frame) (g : Frame)
     (spilled : List Frame) (old new : ℕ → ℕ)
     → Related old b lost s f (ring ++ g ∷ []) spilled
-    → Changes s t (moved spilled) g.by
-    → t.start ≡ without_bit s.start (moved spilled)
-    → Stores old new s (moved spilled) g.by
+    → Changes s t (windows_moved spilled) g.by
+    → t.start ≡ without_bit s.start (windows_moved spilled)
+    → Stores old new s (windows_moved spilled) g.by
     → Related new b (without_epc1 lost) t f ring (g ∷ spilled)
 
 abbrev pub UnderflowsKeepRelated : Type 0
@@ -49,9 +49,9 @@ UnderflowsKeepRelated =
     (b : Bounds) (lost : ℕ → Bool) (s t : State) (f : FrameState) (g : Frame) (rest : List Frame)
     (m : ℕ → ℕ)
     → Related m b lost s f [] (g ∷ rest)
-    → Changes s t (moved rest) g.by
-    → t.start ≡ with_bit s.start (moved rest)
-    → Loads m s t (moved rest) g.by
+    → Changes s t (windows_moved rest) g.by
+    → t.start ≡ with_bit s.start (windows_moved rest)
+    → Loads m s t (windows_moved rest) g.by
     → Related m b (without_epc1 lost) t f (g ∷ []) rest
 
 -- ---- PC, PS and the special registers within a stretch
@@ -67,19 +67,19 @@ pub record InHandler (before now : Control) (base : ℕ) : Type 0 where
 abbrev pub StretchesBegin : Type 0
 StretchesBegin =
     (c : Control) (base vector : ℕ) → number.epc 1 < length c.special
-    → InHandler c (ticked (after_window_exception base vector c)) base
+    → InHandler c (after_tick (after_window_exception base vector c)) base
 
 abbrev pub StretchesGoOn : Type 0
 StretchesGoOn =
     (before now : Control) (base pc : ℕ) → InHandler before now base
-    → InHandler before (ticked (record now { pc = pc })) base
+    → InHandler before (after_tick (record now { pc = pc })) base
 
 -- RFWO and RFWU, beside the window
 abbrev pub StretchesEnd : Type 0
 StretchesEnd =
     (before now : Control) (base : ℕ) → before.ps.excm ≡ false → InHandler before now base
     → let ps = record now.ps { excm = false } in
-    Resumes before (ticked (record now { pc = special_of now (number.epc 1); ps = ps }))
+    Resumes before (after_tick (record now { pc = special_of now (number.epc 1); ps = ps }))
 
 -- ---- what a handler finds
 
@@ -88,14 +88,15 @@ OverflowsFindFrames =
     (b : Bounds) (lost : ℕ → Bool) (s : State) (f : FrameState) (ring : List Frame) (g : Frame)
     (spilled : List Frame) (m : ℕ → ℕ)
     → Related m b lost s f (ring ++ g ∷ []) spilled
-    → Finds b.range.lo b.range.hi g.by (visible s.regs (moved spilled) (4 * g.by + 1))
-    (visible s.regs (moved spilled) 1) (word m (visible s.regs (moved spilled) 1 - 12))
+    → Finds b.range.lo b.range.hi g.by (visible s.regs (windows_moved spilled) (4 * g.by + 1))
+    (visible s.regs (windows_moved spilled) 1)
+    (word m (visible s.regs (windows_moved spilled) 1 - 12))
 
 abbrev pub UnderflowsFindFrames : Type 0
 UnderflowsFindFrames =
     (b : Bounds) (lost : ℕ → Bool) (s : State) (f : FrameState) (g : Frame) (rest : List Frame)
     (m : ℕ → ℕ)
     → Related m b lost s f [] (g ∷ rest)
-    → Finds b.range.lo b.range.hi g.by (visible s.regs (moved rest) (4 * g.by + 1))
-    (word m (visible s.regs (moved rest) (4 * g.by + 1) - 12))
-    (word m (word m (visible s.regs (moved rest) (4 * g.by + 1) - 12) - 12))
+    → Finds b.range.lo b.range.hi g.by (visible s.regs (windows_moved rest) (4 * g.by + 1))
+    (word m (visible s.regs (windows_moved rest) (4 * g.by + 1) - 12))
+    (word m (word m (visible s.regs (windows_moved rest) (4 * g.by + 1) - 12) - 12))

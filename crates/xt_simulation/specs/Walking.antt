@@ -9,15 +9,15 @@ use Rattle.xt_special.specs.Interrupts.{pending_of}
 use Rattle.xt_exec.specs.State.{State}
 use Rattle.xt_frames.specs.Frames.{FrameState}
 use Rattle.xt_frames.specs.SaveAreas.{Range, is_live}
-use Rattle.xt_frames.specs.FrameStep.{laid}
+use Rattle.xt_frames.specs.FrameStep.{with_inputs}
 use Rattle.xt_frames.specs.Nesting.{is_nesting, nested_level}
 use Rattle.xt_frames.specs.Breaches.{Bounds, inputs_of}
 use Rattle.xt_simulation.specs.Steps.{record_now, state_now, memory_now}
 use Rattle.xt_simulation.specs.InHandlers.{LeavesHandler, MovesFrame, StoresAlone, as_left}
 use Rattle.xt_map.specs.Memory.{byte_at}
-use Rattle.xt_exec.specs.Turn.{planned}
+use Rattle.xt_exec.specs.Turn.{planned_turn}
 use Rattle.xt_frames.specs.HandlerSteps.{Mode, Plain, Handles, Nests, closes, returns}
-use Rattle.xt_frames.specs.Judging.{Standing, Seen, Handled, Judges, Breaks, step_on, seen}
+use Rattle.xt_frames.specs.Judging.{Standing, Seen, Handled, Judges, Breaks, step_on, seen_record}
 use Rattle.xt_frames.specs.Verdict.{entry_of, is_nested, IsFrameTrace}
 
 -- where a core's last window exception was entered: the state before its record, with the special
@@ -92,7 +92,7 @@ abbrev pub move :
 move code b c core mine theirs m stale =
     let rec = record_now code m mine.state in
     moved_by
-    (seen code b mine.standing (is_live c.range theirs.standing.frame) stale rec)
+    (seen_record code b mine.standing (is_live c.range theirs.standing.frame) stale rec)
     core
     mine
     m
@@ -123,14 +123,17 @@ moved1 code w (Some x) =
     })
 
 -- one turn: of core 0 where the place says so, else of core 1; nothing comes of a breach
-abbrev pub given : (ℕ → ℕ) → Bounds → Bounds → Bool → World → Option World
-given code b0 b1 true w = moved0 code w (move code b0 b1 0 w.core0 w.core1 w.memory w.stale)
-given code b0 b1 false w = moved1 code w (move code b1 b0 1 w.core1 w.core0 w.memory w.stale)
+abbrev pub world_after_turn : (ℕ → ℕ) → Bounds → Bounds → Bool → World → Option World
+world_after_turn code b0 b1 true w =
+    moved0 code w (move code b0 b1 0 w.core0 w.core1 w.memory w.stale)
+world_after_turn code b0 b1 false w =
+    moved1 code w (move code b1 b0 1 w.core1 w.core0 w.memory w.stale)
 
-abbrev pub walked : (ℕ → ℕ) → Bounds → Bounds → List Bool → Option World → Option World
-walked code b0 b1 [] w = w
-walked code b0 b1 (c ∷ cs) None = None
-walked code b0 b1 (c ∷ cs) (Some w) = walked code b0 b1 cs (given code b0 b1 c w)
+abbrev pub world_after_turns : (ℕ → ℕ) → Bounds → Bounds → List Bool → Option World → Option World
+world_after_turns code b0 b1 [] w = w
+world_after_turns code b0 b1 (c ∷ cs) None = None
+world_after_turns code b0 b1 (c ∷ cs) (Some w) =
+    world_after_turns code b0 b1 cs (world_after_turn code b0 b1 c w)
 
 -- ---- a frame run
 
@@ -153,7 +156,8 @@ Apart r q = (r.hi ≤ q.lo) ⊎ (q.hi ≤ r.lo)
 -- where the core's next turn ends a stretch, the stretch has moved one frame
 abbrev pub EndsWell : (ℕ → ℕ) → Bounds → MemoryContents → Core → Type 0
 EndsWell code b m c =
-    c.standing.mode ≡ Handles → closes code (planned code c.state).kind c.state.control.pc ≡ true
+    c.standing.mode ≡ Handles → closes code (planned_turn code c.state).kind c.state.control.pc
+    ≡ true
     → MovesFrame
     b
     c.standing.frame
@@ -179,8 +183,8 @@ HandlesAlone code b m c =
 -- frames too: by the INTERRUPT that it is told, and by its own INTENABLE and PS
 abbrev pub IsPending : (ℕ → ℕ) → MemoryContents → Core → Type 0
 IsPending code m c =
-    c.standing.mode ≡ Handles → is_nesting (planned code c.state).kind ≡ true
-    → pending_of (laid (inputs_of (record_now code m c.state)) c.standing.frame).control
+    c.standing.mode ≡ Handles → is_nesting (planned_turn code c.state).kind ≡ true
+    → pending_of (with_inputs (inputs_of (record_now code m c.state)) c.standing.frame).control
     ≡ nested_level
 
 abbrev pub KeepsStretches : (ℕ → ℕ) → Bounds → MemoryContents → Core → Type 0
@@ -195,7 +199,7 @@ abbrev pub GivesBack :
 GivesBack code b c core mine theirs m stale =
     (x : Moved) → move code b c core mine theirs m stale ≡ Some x
     → mine.standing.mode ≡ Nests
-    → returns code (planned code mine.state).kind mine.state.control.pc ≡ true
+    → returns code (planned_turn code mine.state).kind mine.state.control.pc ≡ true
     → LeavesHandler
     b
     mine.standing.frame

@@ -4,7 +4,7 @@ use Rattle.std.proofs.Math.ListN.{set}
 use Rattle.std.proofs.lemmas.List.{get_or-set_other, length-set}
 use Rattle.xt_special.specs.Numbers as number
 use Rattle.xt_special.specs.Control.{Control, special_of}
-use Rattle.xt_special.specs.Timers.{with_timer, ticked_special, ticked}
+use Rattle.xt_special.specs.Timers.{with_timer, ticked_special, after_tick}
 use Rattle.xt_special.specs.Exceptions.{after_exception, after_double, after_general}
 use Rattle.xt_special.specs.Interrupts.{after_interrupt, after_high_level, interrupt_cause}
 
@@ -62,5 +62,5 @@ interrupt_kept level c small = awake_kept (cond (eqb level 1) (after_exception i
     awake_kept : (d : Control) → Kept c d → Kept c (record d { waits = false })
     awake_kept d k = k
 
-pub tick_kept : (c d : Control) → Kept c d → Kept c (ticked d)
+pub tick_kept : (c d : Control) → Kept c d → Kept c (after_tick d)
 tick_kept c d k = (k.0, ticked_other d.special 231 (λ e. omega arith) (λ e. omega arith) ∙ k.1)

@@ -21,5 +21,5 @@ ticked_special special =
     with_timer 2 (2 ^ 16) (with_timer 1 (2 ^ 15) (with_timer 0 (2 ^ 6)
     (slice_set special number.ccount ((slice_index special number.ccount + 1) % 2 ^ 32))))
 
-abbrev pub ticked : Control → Control
-ticked c = record c { special = ticked_special c.special }
+abbrev pub after_tick : Control → Control
+after_tick c = record c { special = ticked_special c.special }

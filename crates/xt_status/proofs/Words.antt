@@ -7,11 +7,11 @@ use Rattle.xt_record.specs.declared.fault.RecordFault.{RecordFault}
 use Rattle.xt_record.specs.declared.fault.RecordFault.TheVariants as record_fault
 use Rattle.xt_status.specs.declared.status.Status.{Status}
 use Rattle.xt_status.specs.declared.status.Status.TheVariants as status
-use Rattle.xt_status.specs.Statuses.{fault_text, image_fault_name, image_fault_numbers, named, record_fault_name, record_fault_numbers, record_fault_text, status_name, status_numbers, status_words}
+use Rattle.xt_status.specs.Statuses.{fault_text, image_fault_name, image_fault_numbers, name_and_numbers, record_fault_name, record_fault_numbers, record_fault_text, status_name, status_numbers, status_words}
 
 -- ---- what is of no other form is a name with numbers
 
-pub plain_image : (f : ImageFault) → ((kept computed : List ℕ) → f ≡ fault.Digest kept computed → ⊥) → named (image_fault_name f) (image_fault_numbers f) ≡ fault_text f
+pub plain_image : (f : ImageFault) → ((kept computed : List ℕ) → f ≡ fault.Digest kept computed → ⊥) → name_and_numbers (image_fault_name f) (image_fault_numbers f) ≡ fault_text f
 plain_image fault.Short other = refl
 plain_image (fault.Magic byte) other = refl
 plain_image (fault.Count count) other = refl
@@ -28,7 +28,7 @@ plain_image (fault.Digest kept computed) other = absurd (other kept computed ref
 plain_image (fault.Entry address) other = refl
 plain_image fault.Memory other = refl
 
-pub plain_record : (f : RecordFault) → ((i : ImageFault) → f ≡ record_fault.Image i → ⊥) → named (record_fault_name f) (record_fault_numbers f) ≡ record_fault_text f
+pub plain_record : (f : RecordFault) → ((i : ImageFault) → f ≡ record_fault.Image i → ⊥) → name_and_numbers (record_fault_name f) (record_fault_numbers f) ≡ record_fault_text f
 plain_record record_fault.Short other = refl
 plain_record record_fault.Magic other = refl
 plain_record (record_fault.Version version) other = refl
@@ -42,7 +42,7 @@ plain_record (record_fault.Checkpoint index) other = refl
 plain_record record_fault.Memory other = refl
 
 pub plain_status : (s : Status) → ((f : ImageFault) → s ≡ status.Image f → ⊥) → ((f : ElfFault) → s ≡ status.Elf f → ⊥) → ((f : RecordFault) → s ≡ status.Recording f → ⊥)
-    → named (status_name s) (status_numbers s) ≡ status_words s
+    → name_and_numbers (status_name s) (status_numbers s) ≡ status_words s
 plain_status status.Done image elf recording = refl
 plain_status (status.Usage rule) image elf recording = refl
 plain_status (status.Image f) image elf recording = absurd (image f refl)

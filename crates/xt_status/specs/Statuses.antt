@@ -24,11 +24,12 @@ use Rattle.xt_status.specs.declared.status.Status.TheVariants.{WriteFault, TooLa
 -- ---- a name with numbers
 
 -- a name, and behind it each number in decimal, with a blank before it
-abbrev pub named : List ℕ → Numbers → List ℕ
-named name numbers.Zero = name
-named name (numbers.One a) = name ++ (codes " " ++ decimal a)
-named name (numbers.Two a b) = name ++ (codes " " ++ (decimal a ++ (codes " " ++ decimal b)))
-named name (numbers.Three a b c) =
+abbrev pub name_and_numbers : List ℕ → Numbers → List ℕ
+name_and_numbers name numbers.Zero = name
+name_and_numbers name (numbers.One a) = name ++ (codes " " ++ decimal a)
+name_and_numbers name (numbers.Two a b) =
+    name ++ (codes " " ++ (decimal a ++ (codes " " ++ decimal b)))
+name_and_numbers name (numbers.Three a b c) =
     name ++ (codes " " ++ (decimal a ++ (codes " " ++ (decimal b ++ (codes " " ++ decimal c)))))
 
 -- ---- a fault of an image
@@ -67,7 +68,7 @@ image_fault_numbers _ = numbers.Zero
 abbrev pub fault_text : ImageFault → List ℕ
 fault_text (fault.Digest kept computed) =
     codes "Digest " ++ (encode_lower kept ++ (codes " " ++ encode_lower computed))
-fault_text f = named (image_fault_name f) (image_fault_numbers f)
+fault_text f = name_and_numbers (image_fault_name f) (image_fault_numbers f)
 
 -- ---- a fault of an ELF executable
 
@@ -100,7 +101,7 @@ elf_fault_numbers (elf.Entry address) = numbers.One address
 elf_fault_numbers _ = numbers.Zero
 
 abbrev pub elf_fault_text : ElfFault → List ℕ
-elf_fault_text f = named (elf_fault_name f) (elf_fault_numbers f)
+elf_fault_text f = name_and_numbers (elf_fault_name f) (elf_fault_numbers f)
 
 -- ---- a fault of a recording
 
@@ -128,7 +129,7 @@ record_fault_numbers _ = numbers.Zero
 -- a fault of its image is the image's
 abbrev pub record_fault_text : RecordFault → List ℕ
 record_fault_text (record_fault.Image f) = codes "Image " ++ fault_text f
-record_fault_text f = named (record_fault_name f) (record_fault_numbers f)
+record_fault_text f = name_and_numbers (record_fault_name f) (record_fault_numbers f)
 
 -- ---- a status
 
@@ -156,7 +157,7 @@ abbrev pub status_words : Status → List ℕ
 status_words (Image f) = codes "Image " ++ fault_text f
 status_words (Elf f) = codes "Elf " ++ elf_fault_text f
 status_words (Recording f) = codes "Recording " ++ record_fault_text f
-status_words s = named (status_name s) (status_numbers s)
+status_words s = name_and_numbers (status_name s) (status_numbers s)
 
 -- `xt:`, the words of the status, and a newline
 unfoldable pub status_text : Status → List ℕ

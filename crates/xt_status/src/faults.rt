@@ -2,7 +2,7 @@
 ghost use Rattle.std.specs.Prelude.{◌≡◌, IfOk, string_bytes};
 ghost use Rattle.xt_status.specs.Statuses.{elf_fault_name, elf_fault_numbers, elf_fault_text, fault_text, image_fault_name, image_fault_numbers, record_fault_name, record_fault_numbers, record_fault_text};
 
-use crate::numbers::{Numbers, named};
+use crate::numbers::{Numbers, name_and_numbers};
 use std::alloc::{AllocError, Global};
 use xt_elf::ElfFault;
 use xt_image::ImageFault;
@@ -62,7 +62,7 @@ pub fn image_fault_text(alloc: Global, fault: &ImageFault) -> Result<String, All
             let computed = hex::encode(alloc, computed)?;
             format!(in alloc; "Digest {kept} {computed}")
         }
-        _ => named(alloc, image_fault_name(fault), image_fault_numbers(fault)),
+        _ => name_and_numbers(alloc, image_fault_name(fault), image_fault_numbers(fault)),
     }
 }
 
@@ -112,7 +112,7 @@ fn elf_fault_numbers(fault: &ElfFault) -> Numbers
 pub fn elf_fault_text(alloc: Global, fault: &ElfFault) -> Result<String, AllocError>
     ensures { IfOk result (λ text. string_bytes text ≡ elf_fault_text fault.now) }
 {
-    named(alloc, elf_fault_name(fault), elf_fault_numbers(fault))
+    name_and_numbers(alloc, elf_fault_name(fault), elf_fault_numbers(fault))
 }
 
 fn record_fault_name(fault: &RecordFault) -> &'static str
@@ -160,6 +160,6 @@ pub fn record_fault_text(alloc: Global, fault: &RecordFault) -> Result<String, A
             let fault = image_fault_text(alloc, fault)?;
             format!(in alloc; "Image {fault}")
         }
-        _ => named(alloc, record_fault_name(fault), record_fault_numbers(fault)),
+        _ => name_and_numbers(alloc, record_fault_name(fault), record_fault_numbers(fault)),
     }
 }

@@ -1,6 +1,6 @@
 //! A name with numbers behind it.
 ghost use Rattle.std.specs.Prelude.{◌≡◌, IfOk, string_bytes};
-ghost use Rattle.xt_status.specs.Statuses.{named};
+ghost use Rattle.xt_status.specs.Statuses.{name_and_numbers};
 
 use std::alloc::{AllocError, Global};
 
@@ -18,8 +18,8 @@ pub enum Numbers {
 }
 
 /// A name, and behind it the numbers in decimal. The only error is running out of memory.
-pub fn named(alloc: Global, name: &str, numbers: Numbers) -> Result<String, AllocError>
-    ensures { IfOk result (λ text. string_bytes text ≡ named name.now numbers) }
+pub fn name_and_numbers(alloc: Global, name: &str, numbers: Numbers) -> Result<String, AllocError>
+    ensures { IfOk result (λ text. string_bytes text ≡ name_and_numbers name.now numbers) }
 {
     match numbers {
         Numbers::Zero => format!(in alloc; "{name}"),

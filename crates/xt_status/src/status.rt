@@ -3,7 +3,7 @@ ghost use Rattle.std.specs.Prelude.{◌≡◌, IfOk, string_bytes};
 ghost use Rattle.xt_status.specs.Statuses.{status_after, status_code, status_name, status_numbers, status_text, status_words};
 
 use crate::faults::{elf_fault_text, image_fault_text, record_fault_text};
-use crate::numbers::{Numbers, named};
+use crate::numbers::{Numbers, name_and_numbers};
 use std::alloc::{AllocError, Global};
 use xt_elf::ElfFault;
 use xt_image::ImageFault;
@@ -115,7 +115,7 @@ fn status_words(alloc: Global, status: &Status) -> Result<String, AllocError>
             let fault = record_fault_text(alloc, fault)?;
             format!(in alloc; "Recording {fault}")
         }
-        _ => named(alloc, status_name(status), status_numbers(status)),
+        _ => name_and_numbers(alloc, status_name(status), status_numbers(status)),
     }
 }
 

@@ -2,14 +2,14 @@
 use Rattle.std.proofs.Common.{◌≡◌, ℕ, zero, suc, ◌+◌, ◌-◌, ◌<◌, ◌≤◌, refl, sym, ◌∙◌, ap, arith, List, [], ◌∷◌, length, get_or, drop}
 use Rattle.std.proofs.lemmas.Bool.{cond-true, cond-false, le-ltb, lt-ltb}
 use Rattle.std.proofs.lemmas.List.{drop_more, get_or-drop, length-drop, drop_all}
-use Rattle.xt_stretch.specs.Symbols.{Effect, applied, opening}
-use Rattle.xt_stretch.specs.Handling.{answer_at, ending, walk, handling}
+use Rattle.xt_stretch.specs.Symbols.{Effect, effect_after_step, opening}
+use Rattle.xt_stretch.specs.Handling.{answer_at, ending_verdict, walk, handling_verdict}
 use Rattle.xt_isa.specs.Spelling.{length_of}
 use Rattle.xt_stretch.specs.Spelled.{step_of, lines_in, lines_of}
 use Rattle.xt_stretch.specs.declared.Side.{Side}
 use Rattle.xt_stretch.specs.declared.Side.TheVariants.{Overflow, Underflow}
-use Rattle.xt_stretch.specs.declared.Step.{Step}
-use Rattle.xt_stretch.specs.declared.Step.TheVariants.{Rfwo, Rfwu}
+use Rattle.xt_stretch.specs.declared.HandlerInsn.{HandlerInsn}
+use Rattle.xt_stretch.specs.declared.HandlerInsn.TheVariants.{Rfwo, Rfwu}
 use Rattle.xt_stretch.specs.declared.HandlerVerdict.{HandlerVerdict}
 
 skip : (bytes : List ℕ) (k o : ℕ) → o + k ≤ length bytes → lines_in k o (drop o bytes) ≡ lines_in 0 (o + k) (drop (o + k) bytes)
@@ -45,26 +45,26 @@ lines_cut bytes o low h =
     ap (lines_in 0 o) (drop_more bytes o 0 low)
     ∙ cond-true _ _ _ (lt-ltb (length (drop (o + 1) bytes) + 1) (length_of (get_or bytes o 0)) (omega (arith, length-drop (o + 1) bytes)))
 
-pub handling_is : (side : Side) (n : ℕ) (bytes : List ℕ) → walk side n opening (lines_in 0 0 (drop 0 bytes)) ≡ handling side n (lines_of bytes)
+pub handling_is : (side : Side) (n : ℕ) (bytes : List ℕ) → walk side n opening (lines_in 0 0 (drop 0 bytes)) ≡ handling_verdict side n (lines_of bytes)
 unfolding lines_of
 handling_is side n bytes = refl
 
 -- the answer by the instruction at an offset
-pub here : (side : Side) (n : ℕ) (e : Effect) (bytes : List ℕ) (o len second third : ℕ) (step : Step) (answer : HandlerVerdict) →
+pub here : (side : Side) (n : ℕ) (e : Effect) (bytes : List ℕ) (o len second third : ℕ) (step : HandlerInsn) (answer : HandlerVerdict) →
     2 ≤ len → len ≡ length_of (get_or bytes o 0) → o + len ≤ length bytes → second ≡ get_or bytes (o + 1) 0 → third ≡ get_or bytes (o + 2) 0 →
     step ≡ step_of (get_or bytes o 0) second third → walk side n e (lines_in 0 o (drop o bytes)) ≡ answer →
-    answer_at side n e o step (walk side n (applied e step) (lines_in 0 (o + len) (drop (o + len) bytes))) ≡ answer
+    answer_at side n e o step (walk side n (effect_after_step e step) (lines_in 0 (o + len) (drop (o + len) bytes))) ≡ answer
 here side n e bytes o len second third step answer low is h b c st w =
     let rest = lines_in 0 (o + len) (drop (o + len) bytes) in
     let same : step ≡ step_of (get_or bytes o 0) (get_or bytes (o + 1) 0) (get_or bytes (o + 2) 0) =
     st ∙ (ap (λ x. step_of (get_or bytes o 0) x third) b ∙ ap (λ x. step_of (get_or bytes o 0) (get_or bytes (o + 1) 0) x) c) in
-    ap (λ (x : Step). answer_at side n e o x (walk side n (applied e x) rest)) same
+    ap (λ (x : HandlerInsn). answer_at side n e o x (walk side n (effect_after_step e x) rest)) same
     ∙ (sym (ap (walk side n e) (lines_at bytes o len low is h)) ∙ w)
 
-pub rfwo_ends : (side : Side) (n o : ℕ) (e : Effect) (rest : HandlerVerdict) → side ≡ Overflow → answer_at side n e o Rfwo rest ≡ ending side n e o
+pub rfwo_ends : (side : Side) (n o : ℕ) (e : Effect) (rest : HandlerVerdict) → side ≡ Overflow → answer_at side n e o Rfwo rest ≡ ending_verdict side n e o
 rfwo_ends Overflow n o e rest h = refl
 rfwo_ends Underflow n o e rest h = absurd cc
 
-pub rfwu_ends : (side : Side) (n o : ℕ) (e : Effect) (rest : HandlerVerdict) → side ≡ Underflow → answer_at side n e o Rfwu rest ≡ ending side n e o
+pub rfwu_ends : (side : Side) (n o : ℕ) (e : Effect) (rest : HandlerVerdict) → side ≡ Underflow → answer_at side n e o Rfwu rest ≡ ending_verdict side n e o
 rfwu_ends Underflow n o e rest h = refl
 rfwu_ends Overflow n o e rest h = absurd cc

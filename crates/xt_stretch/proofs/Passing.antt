@@ -1,35 +1,35 @@
 -- The six common handlers pass the check, by evaluation.
 use Rattle.std.proofs.Common.{◌≡◌, refl}
-use Rattle.xt_isa.specs.Spelling.{spelled, all_rows}
+use Rattle.xt_isa.specs.Spelling.{spelled_insn, all_rows}
 use Rattle.xt_stretch.specs.declared.Side.TheVariants.{Overflow, Underflow}
 use Rattle.xt_stretch.specs.declared.HandlerVerdict.TheVariants.{Yes}
 use Rattle.xt_stretch.specs.Needs.{has_effect}
-use Rattle.xt_stretch.specs.Handling.{handling}
+use Rattle.xt_stretch.specs.Handling.{handling_verdict}
 use Rattle.xt_stretch.specs.Spelled.{step_of, step_of_insn, lines_of}
 use Rattle.xt_stretch.specs.Common.{overflow4, underflow4, overflow8, underflow8, overflow12, underflow12, CommonHandlersPass}
 
-overflow4_passes : handling Overflow 1 (lines_of overflow4) ≡ Yes
-unfolding lines_of step_of spelled all_rows step_of_insn has_effect
+overflow4_passes : handling_verdict Overflow 1 (lines_of overflow4) ≡ Yes
+unfolding lines_of step_of spelled_insn all_rows step_of_insn has_effect
 overflow4_passes = refl
 
-underflow4_passes : handling Underflow 1 (lines_of underflow4) ≡ Yes
-unfolding lines_of step_of spelled all_rows step_of_insn has_effect
+underflow4_passes : handling_verdict Underflow 1 (lines_of underflow4) ≡ Yes
+unfolding lines_of step_of spelled_insn all_rows step_of_insn has_effect
 underflow4_passes = refl
 
-overflow8_passes : handling Overflow 2 (lines_of overflow8) ≡ Yes
-unfolding lines_of step_of spelled all_rows step_of_insn has_effect
+overflow8_passes : handling_verdict Overflow 2 (lines_of overflow8) ≡ Yes
+unfolding lines_of step_of spelled_insn all_rows step_of_insn has_effect
 overflow8_passes = refl
 
-underflow8_passes : handling Underflow 2 (lines_of underflow8) ≡ Yes
-unfolding lines_of step_of spelled all_rows step_of_insn has_effect
+underflow8_passes : handling_verdict Underflow 2 (lines_of underflow8) ≡ Yes
+unfolding lines_of step_of spelled_insn all_rows step_of_insn has_effect
 underflow8_passes = refl
 
-overflow12_passes : handling Overflow 3 (lines_of overflow12) ≡ Yes
-unfolding lines_of step_of spelled all_rows step_of_insn has_effect
+overflow12_passes : handling_verdict Overflow 3 (lines_of overflow12) ≡ Yes
+unfolding lines_of step_of spelled_insn all_rows step_of_insn has_effect
 overflow12_passes = refl
 
-underflow12_passes : handling Underflow 3 (lines_of underflow12) ≡ Yes
-unfolding lines_of step_of spelled all_rows step_of_insn has_effect
+underflow12_passes : handling_verdict Underflow 3 (lines_of underflow12) ≡ Yes
+unfolding lines_of step_of spelled_insn all_rows step_of_insn has_effect
 underflow12_passes = refl
 
 pub common_handlers_pass : CommonHandlersPass

@@ -6,9 +6,9 @@ use Rattle.xt_stretch.specs.Needs.{is_among, named_words, callee_sp, link, link_
 use Rattle.xt_stretch.specs.declared.Side.{Side}
 use Rattle.xt_stretch.specs.declared.Side.TheVariants.{Overflow, Underflow}
 use Rattle.xt_stretch.specs.Running.{is_access}
-use Rattle.xt_stretch.specs.Machines.{Machine, word_at, address, meant, address_of}
+use Rattle.xt_stretch.specs.Machines.{Machine, word_at, address, symbol_value, address_of}
 use Rattle.xt_stretch.specs.Frames.{HasFrames, HasRoom, IsOwn, IsOwnByte}
-use Rattle.xt_stretch.specs.Kept.{Spares}
+use Rattle.xt_stretch.specs.HandlerInvariants.{Spares}
 use Rattle.xt_stretch.proofs.Words.{access_from, address_is}
 use Rattle.xt_stretch.proofs.Wanted.{IsNamed, the_link, a_save, named_is}
 
@@ -22,44 +22,44 @@ twelve Overflow n = refl
 twelve Underflow n = refl
 
 module _ (side : Side) (n : ℕ) (start : Machine) (f : HasFrames side n start) where
-  pub lies : (k : ℕ) → k < 4 * n → Lies (meant start (callee_sp n)) (meant start (link_word side n).base) (meant start (link side n)) n k (address_of start (save_word side n k))
+  pub lies : (k : ℕ) → k < 4 * n → Lies (symbol_value start (callee_sp n)) (symbol_value start (link_word side n).base) (symbol_value start (link side n)) n k (address_of start (save_word side n k))
   lies k l = ⊎_elim
       (λ h.
       let w : Word = record { base = callee_sp n; back = 16 - 4 * k } in
-      let is : address_of start (save_word side n k) ≡ meant start (callee_sp n) - (16 - 4 * k) =
-      ap (address_of start) (cond-true _ w _ (lt-ltb k 4 h)) ∙ address_is (meant start (callee_sp n)) (16 - 4 * k) (omega (arith, f.callee_low)) (omega (arith, f.callee_high)) in
+      let is : address_of start (save_word side n k) ≡ symbol_value start (callee_sp n) - (16 - 4 * k) =
+      ap (address_of start) (cond-true _ w _ (lt-ltb k 4 h)) ∙ address_is (symbol_value start (callee_sp n)) (16 - 4 * k) (omega (arith, f.callee_low)) (omega (arith, f.callee_high)) in
       near h (omega (arith, is, f.callee_low)))
       (λ h.
       let two : 1 < n = omega arith in
       let w : Word = record { base = link side n; back = 16 * n - 4 * (k - 4) } in
-      let is : address_of start (save_word side n k) ≡ meant start (link side n) - (16 * n - 4 * (k - 4)) =
-      ap (address_of start) (cond-false _ _ w (le-ltb k 4 h)) ∙ address_is (meant start (link side n)) (16 * n - 4 * (k - 4)) (omega (arith, f.caller_low two, f.own_low two, f.callee_low)) (omega (arith, f.caller_high two)) in
+      let is : address_of start (save_word side n k) ≡ symbol_value start (link side n) - (16 * n - 4 * (k - 4)) =
+      ap (address_of start) (cond-false _ _ w (le-ltb k 4 h)) ∙ address_is (symbol_value start (link side n)) (16 * n - 4 * (k - 4)) (omega (arith, f.caller_low two, f.own_low two, f.callee_low)) (omega (arith, f.caller_high two)) in
       far h two (omega (arith, is, f.caller_low two, f.own_low two, f.callee_low)))
       (cases_lt k 4)
 
-  access_at : (k a : ℕ) → k < 4 * n → Lies (meant start (callee_sp n)) (meant start (link_word side n).base) (meant start (link side n)) n k a → is_access a ≡ true
+  access_at : (k a : ℕ) → k < 4 * n → Lies (symbol_value start (callee_sp n)) (symbol_value start (link_word side n).base) (symbol_value start (link side n)) n k a → is_access a ≡ true
   access_at k a l (near h e) =
       access_from a (omega (arith, e, f.callee_aligned)) (omega (arith, e, f.callee_low)) (omega (arith, e, f.callee_high))
   access_at k a l (far h two e) =
       access_from a (omega (arith, e, f.caller_aligned two)) (omega (arith, e, f.caller_low two, f.own_low two, f.callee_low)) (omega (arith, e, f.caller_high two))
 
-  apart_at : (j k a b : ℕ) → j < 4 * n → k < 4 * n → j ≢ k → Lies (meant start (callee_sp n)) (meant start (link_word side n).base) (meant start (link side n)) n j a →
-      Lies (meant start (callee_sp n)) (meant start (link_word side n).base) (meant start (link side n)) n k b → a ≢ b
+  apart_at : (j k a b : ℕ) → j < 4 * n → k < 4 * n → j ≢ k → Lies (symbol_value start (callee_sp n)) (symbol_value start (link_word side n).base) (symbol_value start (link side n)) n j a →
+      Lies (symbol_value start (callee_sp n)) (symbol_value start (link_word side n).base) (symbol_value start (link side n)) n k b → a ≢ b
   apart_at j k a b lj lk ne (near h e) (near i d) q = omega (arith, e, d, q)
   apart_at j k a b lj lk ne (near h e) (far i two d) q = omega (arith, e, d, q, f.caller_low two, f.own_low two)
   apart_at j k a b lj lk ne (far h two e) (near i d) q = omega (arith, e, d, q, f.caller_low two, f.own_low two)
   apart_at j k a b lj lk ne (far h two e) (far i three d) q = omega (arith, e, d, q)
 
-  pub link_at : 1 < n → address_of start (link_word side n) ≡ meant start (link_word side n).base - 12
-  link_at two = ap (address (meant start (link_word side n).base)) (twelve side n)
-      ∙ address_is (meant start (link_word side n).base) 12 (omega (arith, f.own_low two, f.callee_low)) (omega (arith, f.caller_low two, f.caller_high two))
+  pub link_at : 1 < n → address_of start (link_word side n) ≡ symbol_value start (link_word side n).base - 12
+  link_at two = ap (address (symbol_value start (link_word side n).base)) (twelve side n)
+      ∙ address_is (symbol_value start (link_word side n).base) 12 (omega (arith, f.own_low two, f.callee_low)) (omega (arith, f.caller_low two, f.caller_high two))
 
   link_access : 1 < n → is_access (address_of start (link_word side n)) ≡ true
   link_access two =
       let e = link_at two in
       access_from _ (omega (arith, e, f.own_aligned two, f.own_low two, f.callee_low)) (omega (arith, e, f.own_low two, f.callee_low)) (omega (arith, e, f.own_low two, f.callee_low, f.caller_low two, f.caller_high two))
 
-  link_apart : 1 < n → (k a : ℕ) → k < 4 * n → Lies (meant start (callee_sp n)) (meant start (link_word side n).base) (meant start (link side n)) n k a → address_of start (link_word side n) ≢ a
+  link_apart : 1 < n → (k a : ℕ) → k < 4 * n → Lies (symbol_value start (callee_sp n)) (symbol_value start (link_word side n).base) (symbol_value start (link side n)) n k a → address_of start (link_word side n) ≢ a
   link_apart two k a l (near h e) q = omega (arith, link_at two, q, e, f.own_low two, f.callee_low)
   link_apart two k a l (far h t e) q = omega (arith, link_at two, q, e, f.caller_low two, f.own_low two, f.callee_low)
 
@@ -94,7 +94,7 @@ room_from Underflow n start f = record {
   unread = λ o. absurd cc;
 }
 
-own_save : (side : Side) (n : ℕ) (start : Machine) (k a : ℕ) → HasFrames side n start → k < 4 * n → Lies (meant start (callee_sp n)) (meant start (link_word side n).base) (meant start (link side n)) n k a → IsOwn side n start a
+own_save : (side : Side) (n : ℕ) (start : Machine) (k a : ℕ) → HasFrames side n start → k < 4 * n → Lies (symbol_value start (callee_sp n)) (symbol_value start (link_word side n).base) (symbol_value start (link side n)) n k a → IsOwn side n start a
 own_save side n start k a f l (near h e) = inl (omega (arith, e), omega (arith, e))
 own_save side n start k a f l (far h two e) = inr (two, inl (omega (arith, e), omega (arith, e)))
 
@@ -106,7 +106,7 @@ save_is_own n start w k f l e = rw e (saves_own Underflow n k start f l)
 
 own_word : (side : Side) (n : ℕ) (start : Machine) (w : Word) → HasFrames side n start → IsNamed side n w → IsOwn side n start (address_of start w)
 own_word side n start w f (the_link two e) =
-    let at : address_of start w ≡ meant start (link_word side n).base - 12 = ap (address_of start) e ∙ link_at side n start f two in
+    let at : address_of start w ≡ symbol_value start (link_word side n).base - 12 = ap (address_of start) e ∙ link_at side n start f two in
     inr (two, inr (omega (arith, at, f.own_low two, f.callee_low)))
 own_word Overflow n start w f (a_save k u l e) = absurd cc
 own_word Underflow n start w f (a_save k u l e) = save_is_own n start w k f l e

@@ -2,21 +2,21 @@
 use Rattle.std.proofs.Common.{◌≡◌, ⊎_elim, ℕ, zero, suc, ◌+◌, ◌*◌, ◌<◌, ◌≤◌, Bool, true, false, ◌&&◌, ltb, refl, sym, ◌∙◌, ap, arith, List, [], ◌∷◌, length, get_or, replicate, Option, Some}
 use Rattle.std.proofs.lemmas.Bool.{cond-true, cond-false, false≢true, true≢false, and_parts, or_cases, cases_Bool, cases_lt, lt-ltb, le-ltb, ltb-true}
 use Rattle.std.proofs.lemmas.List.{get_or_past, get_or-replicate, length-replicate}
-use Rattle.xt_stretch.specs.Symbols.{Symbol, Init, Load, Effect, register, applied, opening, same}
+use Rattle.xt_stretch.specs.Symbols.{Symbol, Init, Load, Effect, register, effect_after_step, opening, same}
 use Rattle.xt_stretch.specs.Needs.{save_of, save_word, saves_from, still_wanted, wanted_stores, are_named, is_done, is_right, are_right, has_effect}
-use Rattle.xt_stretch.specs.Needs.{marked}
-use Rattle.xt_stretch.specs.Handling.{Line, answer_at, walk, handling}
+use Rattle.xt_stretch.specs.Needs.{marked_stores}
+use Rattle.xt_stretch.specs.Handling.{Line, answer_at, walk, handling_verdict}
 use Rattle.xt_stretch.specs.Spelled.{HasRegisters}
 use Rattle.xt_stretch.specs.declared.Side.{Side}
 use Rattle.xt_stretch.specs.declared.Side.TheVariants.{Overflow, Underflow}
-use Rattle.xt_stretch.specs.declared.Step.{Step}
-use Rattle.xt_stretch.specs.declared.Step.TheVariants.{L32e, S32e, Nop, Rfwo, Rfwu, Foreign}
+use Rattle.xt_stretch.specs.declared.HandlerInsn.{HandlerInsn}
+use Rattle.xt_stretch.specs.declared.HandlerInsn.TheVariants.{L32e, S32e, Nop, Rfwo, Rfwu, Foreign}
 use Rattle.xt_stretch.specs.declared.HandlerVerdict.TheVariants.{Yes}
 use Rattle.xt_stretch.proofs.Stores.{some_marked}
-use Rattle.xt_stretch.specs.Running.{then_ran, ran_at, ran}
-use Rattle.xt_stretch.specs.Machines.{Machine, visible, word_at, meant, address_of}
+use Rattle.xt_stretch.specs.Running.{then_ran, ran_at, machine_after_lines}
+use Rattle.xt_stretch.specs.Machines.{Machine, visible, word_at, symbol_value, address_of}
 use Rattle.xt_stretch.specs.Frames.{HasRoom}
-use Rattle.xt_stretch.specs.Kept.{Stands, HaveRegisters, KeepsRegisters, Stores, Loads, Touches, opening_flags}
+use Rattle.xt_stretch.specs.HandlerInvariants.{Stands, HaveRegisters, KeepsRegisters, Stores, Loads, Touches, opening_flags}
 use Rattle.xt_stretch.proofs.Wanted.{same_is}
 use Rattle.xt_stretch.proofs.Unspoiled.{ending_yes}
 use Rattle.xt_stretch.proofs.Steps.{StepMoves, load_moves, store_moves, no_store}
@@ -36,8 +36,8 @@ Touches-trans side n start a b c p q = record {
   never = λ u x. q.never u x ∙ p.never u x;
 }
 
-on : (side : Side) (n : ℕ) (start : Machine) (e : Effect) (flags : List Bool) (step : Step) (now : Machine) (lines : List Line) (m : StepMoves side n start e flags step now) →
-    Ends side n start m.next (ran lines m.next) → (result : Option Machine) → result ≡ then_ran (ran lines) (Some m.next) → Ends side n start now result
+on : (side : Side) (n : ℕ) (start : Machine) (e : Effect) (flags : List Bool) (step : HandlerInsn) (now : Machine) (lines : List Line) (m : StepMoves side n start e flags step now) →
+    Ends side n start m.next (machine_after_lines lines m.next) → (result : Option Machine) → result ≡ then_ran (machine_after_lines lines) (Some m.next) → Ends side n start now result
 on side n start e flags step now lines m r result is = record {
   effect = r.effect;
   flags = r.flags;
@@ -59,15 +59,15 @@ at_once side n start e flags now stands done = record {
   touches = record { elsewhere = λ x h. refl; never = λ u x. refl };
 }
 
-at_line : (side : Side) (n : ℕ) (start : Machine) (o : ℕ) (e : Effect) (flags : List Bool) (now : Machine) (step : Step) (lines : List Line) → HasRoom side n start →
-    ((e : Effect) (flags : List Bool) (now : Machine) → Stands side n start e flags now → walk side n e lines ≡ Yes → Ends side n start now (ran lines now)) →
-    HasRegisters step → Stands side n start e flags now → answer_at side n e o step (walk side n (applied e step) lines) ≡ Yes → Ends side n start now (ran_at step (ran lines) now)
+at_line : (side : Side) (n : ℕ) (start : Machine) (o : ℕ) (e : Effect) (flags : List Bool) (now : Machine) (step : HandlerInsn) (lines : List Line) → HasRoom side n start →
+    ((e : Effect) (flags : List Bool) (now : Machine) → Stands side n start e flags now → walk side n e lines ≡ Yes → Ends side n start now (machine_after_lines lines now)) →
+    HasRegisters step → Stands side n start e flags now → answer_at side n e o step (walk side n (effect_after_step e step) lines) ≡ Yes → Ends side n start now (ran_at step (machine_after_lines lines) now)
 at_line side n start o e flags now (L32e t s back) lines room ih regs stands y =
     let m : StepMoves side n start e flags (L32e t s back) now = load_moves side n start e flags now lines room stands t s back regs.0 regs.1 y in
-    on side n start e flags (L32e t s back) now lines m (ih (applied e (L32e t s back)) m.after m.next m.stands y) _ (ap (then_ran (ran lines)) m.is)
+    on side n start e flags (L32e t s back) now lines m (ih (effect_after_step e (L32e t s back)) m.after m.next m.stands y) _ (ap (then_ran (machine_after_lines lines)) m.is)
 at_line Overflow n start o e flags now (S32e t s back) lines room ih regs stands y =
     let m : StepMoves Overflow n start e flags (S32e t s back) now = store_moves Overflow n start e flags now lines room stands t s back refl regs.0 regs.1 y in
-    on Overflow n start e flags (S32e t s back) now lines m (ih (applied e (S32e t s back)) m.after m.next m.stands y) _ (ap (then_ran (ran lines)) m.is)
+    on Overflow n start e flags (S32e t s back) now lines m (ih (effect_after_step e (S32e t s back)) m.after m.next m.stands y) _ (ap (then_ran (machine_after_lines lines)) m.is)
 at_line Underflow n start o e flags now (S32e t s back) lines room ih regs stands y = absurd (no_store Underflow n start e flags now lines room stands t s back refl y)
 at_line side n start o e flags now Nop lines room ih regs stands y = ih e flags now stands y
 at_line Overflow n start o e flags now Rfwo lines room ih regs stands y = at_once Overflow n start e flags now stands (ending_yes Overflow n o e y)
@@ -77,7 +77,7 @@ at_line Underflow n start o e flags now Rfwu lines room ih regs stands y = at_on
 at_line side n start o e flags now Foreign lines room ih regs stands y = absurd cc
 
 pub run_ends : (side : Side) (n : ℕ) (start : Machine) (lines : List Line) → HasRoom side n start → HaveRegisters lines →
-    (e : Effect) (flags : List Bool) (now : Machine) → Stands side n start e flags now → walk side n e lines ≡ Yes → Ends side n start now (ran lines now)
+    (e : Effect) (flags : List Bool) (now : Machine) → Stands side n start e flags now → walk side n e lines ≡ Yes → Ends side n start now (machine_after_lines lines now)
 run_ends side n start [] room regs e flags now stands y = absurd cc
 run_ends side n start (l ∷ lines) room regs e flags now stands y =
     at_line side n start l.offset e flags now l.step lines room (run_ends side n start lines room regs.1) regs.0 stands y
@@ -102,11 +102,11 @@ opening_register (suc (suc (suc (suc (suc (suc (suc (suc (suc (suc (suc (suc (su
 opening_register (suc (suc (suc (suc (suc (suc (suc (suc (suc (suc (suc (suc (suc (suc (suc zero))))))))))))))) h = refl
 opening_register (suc (suc (suc (suc (suc (suc (suc (suc (suc (suc (suc (suc (suc (suc (suc (suc n)))))))))))))))) h = absurd (omega arith)
 
-all_marked : (n i count : ℕ) → saves_from n i count ≡ marked n i (replicate count true)
+all_marked : (n i count : ℕ) → saves_from n i count ≡ marked_stores n i (replicate count true)
 all_marked n i zero = refl
 all_marked n i (suc count) = ap (λ ss. save_of n i ∷ ss) (all_marked n (i + 1) count)
 
-opening_wanted : (side : Side) (n : ℕ) → wanted_stores side n ≡ marked n 0 (opening_flags side n)
+opening_wanted : (side : Side) (n : ℕ) → wanted_stores side n ≡ marked_stores n 0 (opening_flags side n)
 opening_wanted Overflow n = all_marked n 0 (4 * n)
 opening_wanted Underflow n = refl
 
@@ -123,7 +123,7 @@ stands_first side n start room = record {
   base = refl;
   size = room.registers;
   symbols = refl;
-  shown = λ i h. ap (meant start) (sym (opening_register i h));
+  shown = λ i h. ap (symbol_value start) (sym (opening_register i h));
   hidden = λ p h far. refl;
   wanted = ap Some (opening_wanted side n);
   few = opening_few side n;
@@ -131,7 +131,7 @@ stands_first side n start room = record {
   saved = λ o k l h. absurd (opening_saved side n k o l h);
 }
 
-pub run_first : (side : Side) (n : ℕ) (start : Machine) (lines : List Line) → HasRoom side n start → HaveRegisters lines → handling side n lines ≡ Yes → Ends side n start start (ran lines start)
+pub run_first : (side : Side) (n : ℕ) (start : Machine) (lines : List Line) → HasRoom side n start → HaveRegisters lines → handling_verdict side n lines ≡ Yes → Ends side n start start (machine_after_lines lines start)
 run_first side n start lines room regs y = run_ends side n start lines room regs opening (opening_flags side n) start (stands_first side n start room) y
 
 -- ---- the end
@@ -171,13 +171,13 @@ module _ (side : Side) (n : ℕ) (start now : Machine) (result : Option Machine)
   pub keeps_registers : KeepsRegisters n start r.end
   keeps_registers = record {
     base = r.stands.base;
-    kept = λ i low high. r.stands.shown i high ∙ ap (meant start) (unchanged side n i (register r.effect.regs i) low (right_here side n i r.effect (parts_of side n r.effect r.done) r.stands.symbols high));
+    kept = λ i low high. r.stands.shown i high ∙ ap (symbol_value start) (unchanged side n i (register r.effect.regs i) low (right_here side n i r.effect (parts_of side n r.effect r.done) r.stands.symbols high));
     hidden = r.stands.hidden;
   }
 
   no_flag : (k : ℕ) → get_or r.flags k false ≡ false
   no_flag k =
-      let done : is_done (Some (marked n 0 r.flags)) ≡ true = sym (ap is_done r.stands.wanted) ∙ (parts_of side n r.effect r.done).stores in
+      let done : is_done (Some (marked_stores n 0 r.flags)) ≡ true = sym (ap is_done r.stands.wanted) ∙ (parts_of side n r.effect r.done).stores in
       ⊎_elim
       (λ p. ⊎_elim
       (λ l. absurd (false≢true (sym (some_marked n 0 k r.flags l p) ∙ done)))
@@ -194,7 +194,7 @@ pub loaded_registers : (n : ℕ) (start now : Machine) (result : Option Machine)
     visible r.end k ≡ word_at start.bytes (address_of start (save_word Underflow n k))
 loaded_registers n start now result r three k l =
     let h : k < 16 = omega arith in
-    r.stands.shown k h ∙ ap (meant start) (loaded_symbol n k (register r.effect.regs k) l (right_here Underflow n k r.effect (parts_of Underflow n r.effect r.done) r.stands.symbols h))
+    r.stands.shown k h ∙ ap (symbol_value start) (loaded_symbol n k (register r.effect.regs k) l (right_here Underflow n k r.effect (parts_of Underflow n r.effect r.done) r.stands.symbols h))
 
 pub stores_frame : (n : ℕ) (start : Machine) (result : Option Machine) (r : Ends Overflow n start start result) → Stores n start r.end
 stores_frame n start result r = record {

@@ -2,31 +2,31 @@
 use Rattle.std.proofs.Common.{◌≡◌, ◌≢◌, ⊎_elim, ℕ, ◌+◌, ◌*◌, ◌<◌, Bool, true, false, refl, sym, ◌∙◌, ap, arith, List, [], length, get_or, set, Some, None}
 use Rattle.std.proofs.lemmas.Bool.{cond-true, false≢true, and_parts, cases_eq, cases_lt}
 use Rattle.std.proofs.lemmas.List.{get_or-set_same, get_or-set_other, length-set, get_or_past}
-use Rattle.xt_stretch.specs.Symbols.{Init, Load, Word, Store, Effect, register, applied}
+use Rattle.xt_stretch.specs.Symbols.{Init, Load, Word, Store, Effect, register, effect_after_step}
 use Rattle.xt_stretch.specs.Needs.{save_of, save_word, then_without, without, still_wanted, wanted_stores, is_among, named_words, are_named}
-use Rattle.xt_stretch.specs.Needs.{marked}
+use Rattle.xt_stretch.specs.Needs.{marked_stores}
 use Rattle.xt_stretch.specs.Handling.{Line, walk}
 use Rattle.xt_stretch.specs.declared.Side.{Side}
 use Rattle.xt_stretch.specs.declared.Side.TheVariants.{Overflow, Underflow}
-use Rattle.xt_stretch.specs.declared.Step.{Step}
-use Rattle.xt_stretch.specs.declared.Step.TheVariants.{L32e, S32e}
+use Rattle.xt_stretch.specs.declared.HandlerInsn.{HandlerInsn}
+use Rattle.xt_stretch.specs.declared.HandlerInsn.TheVariants.{L32e, S32e}
 use Rattle.xt_stretch.specs.declared.HandlerVerdict.TheVariants.{Yes}
 use Rattle.xt_stretch.proofs.Stores.{nothing_left}
-use Rattle.xt_stretch.specs.Running.{with_word, is_access, stepped, MayAccess}
-use Rattle.xt_stretch.specs.Machines.{Machine, place, visible, word_at, address, meant, address_of}
+use Rattle.xt_stretch.specs.Running.{with_word, is_access, machine_after_step, MayAccess}
+use Rattle.xt_stretch.specs.Machines.{Machine, place, visible, word_at, address, symbol_value, address_of}
 use Rattle.xt_stretch.specs.Frames.{HasRoom}
-use Rattle.xt_stretch.specs.Kept.{Does, Stands, Touches}
+use Rattle.xt_stretch.specs.HandlerInvariants.{Does, Stands, Touches}
 use Rattle.xt_stretch.proofs.Words.{access_means, words_apart, with_word-elsewhere, word_at-same, word_at-other, places_apart, place_below}
 use Rattle.xt_stretch.proofs.Wanted.{Takes, taken_out}
 use Rattle.xt_stretch.proofs.Unspoiled.{stores_wanted, loads_named}
 
-pub record StepMoves (side : Side) (n : ℕ) (start : Machine) (e : Effect) (flags : List Bool) (step : Step) (now : Machine) : Type 0 where
+pub record StepMoves (side : Side) (n : ℕ) (start : Machine) (e : Effect) (flags : List Bool) (step : HandlerInsn) (now : Machine) : Type 0 where
   pub after : List Bool
   pub next : Machine
-  pub is : stepped step now ≡ Some next
+  pub is : machine_after_step step now ≡ Some next
   pub access : MayAccess step now
   pub does : Does side n start flags after now step
-  pub stands : Stands side n start (applied e step) after next
+  pub stands : Stands side n start (effect_after_step e step) after next
   pub touches : Touches side n start now.bytes next.bytes
 
 two_sides : (side : Side) → side ≡ Overflow → side ≡ Underflow → ⊥
@@ -55,15 +55,15 @@ module _ (side : Side) (n : ℕ) (start : Machine) (e : Effect) (flags : List Bo
   visible_at : (t v : ℕ) → t < 16 → get_or (set now.ring (place now.base t) v) (place now.base t) 0 ≡ v
   visible_at t v ht = get_or-set_same now.ring (place now.base t) v 0 (let l : place now.base t < 64 = place_below now.base t in omega (arith, stands.size))
 
-  pub load_moves : (t s back : ℕ) → t < 16 → s < 16 → walk side n (applied e (L32e t s back)) lines ≡ Yes → StepMoves side n start e flags (L32e t s back) now
+  pub load_moves : (t s back : ℕ) → t < 16 → s < 16 → walk side n (effect_after_step e (L32e t s back)) lines ≡ Yes → StepMoves side n start e flags (L32e t s back) now
   load_moves t s back ht hs handles =
       let w : Word = record { base = register e.regs s; back = back } in
       let a = address (visible now s) back in
       let at : a ≡ address_of start w = ap (λ x. address x back) (stands.shown s hs) in
-      let named : is_among w (named_words side n) ≡ true = (and_parts (is_among w (named_words side n)) (are_named side n e.loads) (loads_named side n lines (applied e (L32e t s back)) handles)).0 in
+      let named : is_among w (named_words side n) ≡ true = (and_parts (is_among w (named_words side n)) (are_named side n e.loads) (loads_named side n lines (effect_after_step e (L32e t s back)) handles)).0 in
       let good : is_access a ≡ true = ap is_access at ∙ room.loads w named in
       let v = word_at now.bytes a in
-      let value : v ≡ meant start (Load (register e.regs s) back) = ap (word_at now.bytes) at ∙ stands.read w named in
+      let value : v ≡ symbol_value start (Load (register e.regs s) back) = ap (word_at now.bytes) at ∙ stands.read w named in
       let next : Machine = record { ring = set now.ring (place now.base t) v; base = now.base; bytes = now.bytes } in
       record {
         after = flags;
@@ -77,9 +77,9 @@ module _ (side : Side) (n : ℕ) (start : Machine) (e : Effect) (flags : List Bo
           symbols = length-set e.regs t (Load (register e.regs s) back) ∙ stands.symbols;
           shown = λ i hi. ⊎_elim
               (λ same. ap (λ j. get_or (set now.ring (place now.base t) v) (place now.base j) 0) same ∙ (visible_at t v ht ∙ (value
-              ∙ sym (ap (λ j. meant start (register (set e.regs t (Load (register e.regs s) back)) j)) same
-              ∙ ap (meant start) (get_or-set_same e.regs t (Load (register e.regs s) back) (Init 16) (omega (arith, stands.symbols)))))))
-              (λ ne. visible_after t v i ht hi ne ∙ (stands.shown i hi ∙ sym (ap (meant start) (get_or-set_other e.regs t i (Load (register e.regs s) back) (Init 16) ne))))
+              ∙ sym (ap (λ j. symbol_value start (register (set e.regs t (Load (register e.regs s) back)) j)) same
+              ∙ ap (symbol_value start) (get_or-set_same e.regs t (Load (register e.regs s) back) (Init 16) (omega (arith, stands.symbols)))))))
+              (λ ne. visible_after t v i ht hi ne ∙ (stands.shown i hi ∙ sym (ap (symbol_value start) (get_or-set_other e.regs t i (Load (register e.regs s) back) (Init 16) ne))))
               (cases_eq i t);
           hidden = λ p hp far.
               let ne : p ≢ place now.base t = λ q. far t ht (q ∙ ap (λ b. place b t) stands.base) in
@@ -92,13 +92,13 @@ module _ (side : Side) (n : ℕ) (start : Machine) (e : Effect) (flags : List Bo
         touches = record { elsewhere = λ x h. refl; never = λ h x. refl };
       }
 
-  pub store_moves : (t s back : ℕ) → side ≡ Overflow → t < 16 → s < 16 → walk side n (applied e (S32e t s back)) lines ≡ Yes → StepMoves side n start e flags (S32e t s back) now
+  pub store_moves : (t s back : ℕ) → side ≡ Overflow → t < 16 → s < 16 → walk side n (effect_after_step e (S32e t s back)) lines ≡ Yes → StepMoves side n start e flags (S32e t s back) now
   store_moves t s back over ht hs handles =
       let w : Word = record { base = register e.regs s; back = back } in
       let st : Store = record { word = w; value = register e.regs t } in
       let a = address (visible now s) back in
-      let left = stores_wanted side n lines (applied e (S32e t s back)) handles in
-      let after : without st (marked n 0 flags) ≡ Some left.0 = sym (ap (then_without st) stands.wanted) ∙ left.1 in
+      let left = stores_wanted side n lines (effect_after_step e (S32e t s back)) handles in
+      let after : without st (marked_stores n 0 flags) ≡ Some left.0 = sym (ap (then_without st) stands.wanted) ∙ left.1 in
       let taken : Takes n 0 st flags left.0 = taken_out n 0 st flags left.0 after in
       let k = taken.k in
       let zero_plus : 0 + k ≡ k = omega arith in
@@ -108,7 +108,7 @@ module _ (side : Side) (n : ℕ) (start : Machine) (e : Effect) (flags : List Bo
       let at : a ≡ b = ap (λ x. address x back) (stands.shown s hs) ∙ ap (λ (x : Store). address_of start x.word) is in
       let good : is_access b ≡ true = room.stores over k small in
       let v = visible now t in
-      let value : v ≡ visible start k = stands.shown t ht ∙ ap (λ (x : Store). meant start x.value) is in
+      let value : v ≡ visible start k = stands.shown t ht ∙ ap (λ (x : Store). symbol_value start x.value) is in
       let fits : v < 4294967296 = value_below start v k room.fits value (omega (arith, room.three)) in
       let next : Machine = record { ring = now.ring; base = now.base; bytes = with_word now.bytes a v } in
       let next_is : with_word now.bytes a v ≡ with_word now.bytes b v = ap (λ x. with_word now.bytes x v) at in
@@ -145,10 +145,10 @@ module _ (side : Side) (n : ℕ) (start : Machine) (e : Effect) (flags : List Bo
         };
       }
 
-  pub no_store : (t s back : ℕ) → side ≡ Underflow → walk side n (applied e (S32e t s back)) lines ≡ Yes → ⊥
+  pub no_store : (t s back : ℕ) → side ≡ Underflow → walk side n (effect_after_step e (S32e t s back)) lines ≡ Yes → ⊥
   no_store t s back under handles =
       let st : Store = record { word = record { base = register e.regs s; back = back }; value = register e.regs t } in
-      let left = stores_wanted side n lines (applied e (S32e t s back)) handles in
+      let left = stores_wanted side n lines (effect_after_step e (S32e t s back)) handles in
       let none : wanted_stores side n ≡ [] = ap (λ x. wanted_stores x n) under in
       let is : then_without st (still_wanted e.stores []) ≡ Some left.0 = ap (λ ws. then_without st (still_wanted e.stores ws)) (sym none) ∙ left.1 in
       ⊎_elim

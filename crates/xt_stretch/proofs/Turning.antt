@@ -2,7 +2,7 @@
 use Rattle.std.proofs.Common.{◌≡◌, ⊎_elim, inl, inr, ℕ, zero, suc, ◌+◌, ◌-◌, ◌<◌, ◌≤◌, Bool, true, refl, sym, ◌∙◌, ap, arith, List, [], ◌∷◌, length, get_or, drop, Some, None, Option, ℤ, ltb}
 use Rattle.std.proofs.lemmas.Bool.{cond_both, cases_lt, and_parts, ltb-true}
 use Rattle.std.proofs.lemmas.Bool.Decides.{nat_tests}
-use Rattle.xt_stretch.specs.Symbols.{Effect, applied}
+use Rattle.xt_stretch.specs.Symbols.{Effect, effect_after_step}
 use Rattle.xt_stretch.specs.Needs.{has_effect}
 use Rattle.xt_stretch.specs.Handling.{Line, answer_at, walk}
 use Rattle.xt_isa.specs.declared.Insn.{Insn}
@@ -16,18 +16,18 @@ use Rattle.xt_isa.specs.declared.system.ReturnName.TheVariants as return
 use Rattle.xt_isa.specs.declared.density.Density.TheVariants as density
 use Rattle.xt_isa.specs.declared.density.NarrowRetName.TheVariants as narrow
 use Rattle.xt_isa.specs.Ranges.{in_range, two_registers, window_within}
-use Rattle.xt_isa.specs.Spelling.{spelled, fields_at, length_of}
+use Rattle.xt_isa.specs.Spelling.{spelled_insn, fields_at, length_of}
 use Rattle.xt_isa.proofs.Ranged.{spelled_at_in_range}
 use Rattle.xt_stretch.specs.Spelled.{HasRegisters, window_step_of, step_of_insn, step_of_spelled, step_of, lines_in, lines_of}
 use Rattle.xt_stretch.specs.declared.Side.{Side}
 use Rattle.xt_stretch.specs.declared.Side.TheVariants.{Overflow, Underflow}
-use Rattle.xt_stretch.specs.declared.Step.{Step}
-use Rattle.xt_stretch.specs.declared.Step.TheVariants.{L32e, S32e, Nop, Rfwo, Rfwu, Foreign}
+use Rattle.xt_stretch.specs.declared.HandlerInsn.{HandlerInsn}
+use Rattle.xt_stretch.specs.declared.HandlerInsn.TheVariants.{L32e, S32e, Nop, Rfwo, Rfwu, Foreign}
 use Rattle.xt_stretch.specs.declared.HandlerVerdict.TheVariants.{Yes, No}
 use Rattle.xt_stretch.proofs.Lines.{here, lines_end, lines_cut}
 use Rattle.xt_stretch.specs.Machines.{Machine}
 use Rattle.xt_stretch.specs.Frames.{HasRoom}
-use Rattle.xt_stretch.specs.Kept.{Stands, HaveRegisters, Spares, step_at, ending_of, Handles, Turns, Done}
+use Rattle.xt_stretch.specs.HandlerInvariants.{Stands, HaveRegisters, Spares, step_at, ending_of, Handles, Turns, Done}
 use Rattle.xt_stretch.proofs.Unspoiled.{ending_yes}
 use Rattle.xt_stretch.proofs.Steps.{StepMoves, load_moves, store_moves, no_store}
 use Rattle.xt_stretch.proofs.Runs.{Ends, at_once, keeps_registers, saved_words, loaded_registers}
@@ -55,14 +55,14 @@ spelled_registers (Some i) h = insn_registers i (h i refl)
 
 pub step_registers : (a b c : ℕ) → a < 256 → b < 256 → c < 256 → HasRegisters (step_of a b c)
 unfolding step_of
-step_registers a b c p q r = spelled_registers (spelled (fields_at a b c)) (λ i e. spelled_at_in_range a b c i p q r e)
+step_registers a b c p q r = spelled_registers (spelled_insn (fields_at a b c)) (λ i e. spelled_at_in_range a b c i p q r e)
 
-pub data Goes (side : Side) (n : ℕ) (start : Machine) (e : Effect) (flags : List Bool) (step : Step) (now : Machine) (rest : List Line) : Type 0 where
+pub data Goes (side : Side) (n : ℕ) (start : Machine) (e : Effect) (flags : List Bool) (step : HandlerInsn) (now : Machine) (rest : List Line) : Type 0 where
   closes : step ≡ ending_of side → has_effect side n e ≡ true → Goes side n start e flags step now rest
-  moves : StepMoves side n start e flags step now → walk side n (applied e step) rest ≡ Yes → Goes side n start e flags step now rest
+  moves : StepMoves side n start e flags step now → walk side n (effect_after_step e step) rest ≡ Yes → Goes side n start e flags step now rest
 
-goes : (side : Side) (n : ℕ) (start : Machine) (o : ℕ) (e : Effect) (flags : List Bool) (now : Machine) (step : Step) (rest : List Line) → HasRoom side n start →
-    HasRegisters step → Stands side n start e flags now → answer_at side n e o step (walk side n (applied e step) rest) ≡ Yes → Goes side n start e flags step now rest
+goes : (side : Side) (n : ℕ) (start : Machine) (o : ℕ) (e : Effect) (flags : List Bool) (now : Machine) (step : HandlerInsn) (rest : List Line) → HasRoom side n start →
+    HasRegisters step → Stands side n start e flags now → answer_at side n e o step (walk side n (effect_after_step e step) rest) ≡ Yes → Goes side n start e flags step now rest
 goes side n start o e flags now (L32e t s back) rest room regs stands y = moves (load_moves side n start e flags now rest room stands t s back regs.0 regs.1 y) y
 goes Overflow n start o e flags now (S32e t s back) rest room regs stands y = moves (store_moves Overflow n start e flags now rest room stands t s back refl regs.0 regs.1 y) y
 goes Underflow n start o e flags now (S32e t s back) rest room regs stands y = absurd (no_store Underflow n start e flags now rest room stands t s back refl y)

@@ -2,8 +2,8 @@
 use Rattle.std.proofs.Common.{◌≡◌, ◌≢◌, ⊎_elim, ℕ, zero, suc, ◌+◌, ◌*◌, ◌<◌, Bool, true, false, ◌==◌, refl, sym, ◌∙◌, ap, arith, List, [], ◌∷◌, get_or, set, Option, Some, None}
 use Rattle.std.proofs.lemmas.Bool.{cond-true, cond-false, and_parts, eqb-true, false≢true, or_cases, cases_Bool, eq-eqb}
 use Rattle.xt_stretch.specs.Symbols.{Symbol, Init, Load, Word, Store, same, same_word, same_store}
-use Rattle.xt_stretch.specs.Needs.{save_of, save_word, save_words_from, link_word, named_words, is_among, kept, without}
-use Rattle.xt_stretch.specs.Needs.{marked}
+use Rattle.xt_stretch.specs.Needs.{save_of, save_word, save_words_from, link_word, named_words, is_among, with_store, without}
+use Rattle.xt_stretch.specs.Needs.{marked_stores}
 use Rattle.xt_stretch.specs.declared.Side.{Side}
 use Rattle.xt_stretch.specs.declared.Side.TheVariants.{Overflow, Underflow}
 
@@ -41,17 +41,17 @@ pub record Takes (n i : ℕ) (s : Store) (flags : List Bool) (left : List Store)
   pub k : ℕ
   pub is : s ≡ save_of n (i + k)
   pub flag : get_or flags k false ≡ true
-  pub left_is : left ≡ marked n i (set flags k false)
+  pub left_is : left ≡ marked_stores n i (set flags k false)
 
-none_is : (t : Store) (left : List Store) → kept t None ≡ Some left → ⊥
+none_is : (t : Store) (left : List Store) → with_store t None ≡ Some left → ⊥
 none_is t left h = absurd cc
 
 -- `Some` of a list that keeps its first store
-kept_is : (t : Store) (o : Option (List Store)) (left : List Store) → kept t o ≡ Some left → (rest : List Store) × (o ≡ Some rest) × (left ≡ t ∷ rest)
+kept_is : (t : Store) (o : Option (List Store)) (left : List Store) → with_store t o ≡ Some left → (rest : List Store) × (o ≡ Some rest) × (left ≡ t ∷ rest)
 kept_is t None left h = absurd (none_is t left h)
 kept_is t (Some rest) left h = (rest, refl, cc)
 
-pub taken_out : (n i : ℕ) (s : Store) (flags : List Bool) (left : List Store) → without s (marked n i flags) ≡ Some left → Takes n i s flags left
+pub taken_out : (n i : ℕ) (s : Store) (flags : List Bool) (left : List Store) → without s (marked_stores n i flags) ≡ Some left → Takes n i s flags left
 taken_out n i s [] left h = absurd cc
 taken_out n i s (false ∷ flags) left h =
     let t : Takes n (i + 1) s flags left = taken_out n (i + 1) s flags left h in
@@ -61,11 +61,11 @@ taken_out n i s (true ∷ flags) left h =
     ⊎_elim
     (λ p.
     let e : i ≡ i + 0 = omega arith in
-    let first : Some (marked n (i + 1) flags) ≡ Some left = sym (cond-true _ _ _ p) ∙ h in
+    let first : Some (marked_stores n (i + 1) flags) ≡ Some left = sym (cond-true _ _ _ p) ∙ h in
     record { k = 0; is = same_store_is s (save_of n i) p ∙ ap (save_of n) e; flag = refl; left_is = cc })
     (λ p.
-    let later : kept (save_of n i) (without s (marked n (i + 1) flags)) ≡ Some left = sym (cond-false _ _ _ p) ∙ h in
-    let r = kept_is (save_of n i) (without s (marked n (i + 1) flags)) left later in
+    let later : with_store (save_of n i) (without s (marked_stores n (i + 1) flags)) ≡ Some left = sym (cond-false _ _ _ p) ∙ h in
+    let r = kept_is (save_of n i) (without s (marked_stores n (i + 1) flags)) left later in
     let t : Takes n (i + 1) s flags r.0 = taken_out n (i + 1) s flags r.0 r.1 in
     let e : (i + 1) + t.k ≡ i + suc t.k = omega arith in
     record { k = suc t.k; is = t.is ∙ ap (save_of n) e; flag = t.flag; left_is = r.2 ∙ ap (λ ss. save_of n i ∷ ss) t.left_is })

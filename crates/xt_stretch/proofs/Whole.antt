@@ -2,25 +2,25 @@
 use Rattle.std.proofs.Common.{◌≡◌, ℕ, ◌+◌, ◌-◌, ◌<◌, List, get_or, drop, ⊎_elim, ◌∙◌, arith, slice_range}
 use Rattle.std.proofs.lemmas.Bool.{cases_lt}
 use Rattle.std.proofs.lemmas.List.{get_or-take, get_or-drop, get_or_past, length-take}
-use Rattle.xt_stretch.specs.Handling.{handling}
+use Rattle.xt_stretch.specs.Handling.{handling_verdict}
 use Rattle.xt_stretch.specs.Spelled.{lines_of}
 use Rattle.xt_stretch.specs.declared.Side.TheVariants.{Overflow, Underflow}
 use Rattle.xt_stretch.specs.declared.HandlerVerdict.TheVariants.{Yes}
-use Rattle.xt_stretch.specs.Running.{ran}
-use Rattle.xt_stretch.specs.Kept.{StoresFrames, LoadsFrames}
+use Rattle.xt_stretch.specs.Running.{machine_after_lines}
+use Rattle.xt_stretch.specs.HandlerInvariants.{StoresFrames, LoadsFrames}
 use Rattle.xt_stretch.proofs.Places.{room_from}
 use Rattle.xt_stretch.proofs.Runs.{run_first, stores_frame, loads_frame}
 use Rattle.xt_stretch.proofs.Turning.{bytes_registers}
 
-pub stores_frames : (n : ℕ) (bytes : List ℕ) → 0 < n → n < 4 → ((i : ℕ) → get_or bytes i 0 < 256) → handling Overflow n (lines_of bytes) ≡ Yes → StoresFrames n bytes
+pub stores_frames : (n : ℕ) (bytes : List ℕ) → 0 < n → n < 4 → ((i : ℕ) → get_or bytes i 0 < 256) → handling_verdict Overflow n (lines_of bytes) ≡ Yes → StoresFrames n bytes
 stores_frames n bytes low high below y = λ start f.
     let r = run_first Overflow n start (lines_of bytes) (room_from Overflow n start f) (bytes_registers bytes below) y in
-    record { end = r.end; is = r.is; holds = stores_frame n start (ran (lines_of bytes) start) r }
+    record { end = r.end; is = r.is; holds = stores_frame n start (machine_after_lines (lines_of bytes) start) r }
 
-pub loads_frames : (n : ℕ) (bytes : List ℕ) → 0 < n → n < 4 → ((i : ℕ) → get_or bytes i 0 < 256) → handling Underflow n (lines_of bytes) ≡ Yes → LoadsFrames n bytes
+pub loads_frames : (n : ℕ) (bytes : List ℕ) → 0 < n → n < 4 → ((i : ℕ) → get_or bytes i 0 < 256) → handling_verdict Underflow n (lines_of bytes) ≡ Yes → LoadsFrames n bytes
 loads_frames n bytes low high below y = λ start f.
     let r = run_first Underflow n start (lines_of bytes) (room_from Underflow n start f) (bytes_registers bytes below) y in
-    record { end = r.end; is = r.is; holds = loads_frame n start (ran (lines_of bytes) start) r high }
+    record { end = r.end; is = r.is; holds = loads_frame n start (machine_after_lines (lines_of bytes) start) r high }
 
 pub range_below : (code : List ℕ) (a b i : ℕ) → ((i : ℕ) → get_or code i 0 < 256) → get_or (slice_range code a b) i 0 < 256
 range_below code a b i below =

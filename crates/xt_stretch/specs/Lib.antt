@@ -5,6 +5,6 @@ pub mod Handling
 pub mod Spelled
 pub mod Running
 pub mod Frames
-pub mod Kept
+pub mod HandlerInvariants
 pub mod Joined
 pub mod Common

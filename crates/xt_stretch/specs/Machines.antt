@@ -26,13 +26,13 @@ unfoldable pub address : ℕ → ℕ → ℕ
 address base back = (base + 4294967296 - back) % 4294967296
 
 -- the value that a symbol has there
-abbrev pub meant : Machine → Symbol → ℕ
-meant start (Init i) = visible start i
-meant start (Load base back) = word_at start.bytes (address (meant start base) back)
+abbrev pub symbol_value : Machine → Symbol → ℕ
+symbol_value start (Init i) = visible start i
+symbol_value start (Load base back) = word_at start.bytes (address (symbol_value start base) back)
 
 -- the address of a word
 abbrev pub address_of : Machine → Word → ℕ
-address_of start w = address (meant start w.base) w.back
+address_of start w = address (symbol_value start w.base) w.back
 
 -- an address that no save of the frame touches
 abbrev pub IsElsewhere : ℕ → Machine → ℕ → Type 0

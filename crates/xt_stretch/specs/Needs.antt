@@ -70,14 +70,14 @@ are_right side n i [] = true
 are_right side n i (x ∷ xs) = is_right side n i x && are_right side n (i + 1) xs
 
 -- a list that began with a store and whose rest was changed so
-abbrev pub kept : Store → Option (List Store) → Option (List Store)
-kept t None = None
-kept t (Some us) = Some (t ∷ us)
+abbrev pub with_store : Store → Option (List Store) → Option (List Store)
+with_store t None = None
+with_store t (Some us) = Some (t ∷ us)
 
 -- a list without the first store that is the same
 abbrev pub without : Store → List Store → Option (List Store)
 without s [] = None
-without s (t ∷ ts) = if same_store s t then Some ts else kept t (without s ts)
+without s (t ∷ ts) = if same_store s t then Some ts else with_store t (without s ts)
 
 abbrev pub then_without : Store → Option (List Store) → Option (List Store)
 then_without s None = None
@@ -104,10 +104,10 @@ has_effect side n e =
     && (are_named side n e.loads && are_right side n 0 e.regs)
 
 -- the stores of the registers from i on that are marked
-abbrev pub marked : ℕ → ℕ → List Bool → List Store
-marked n i [] = []
-marked n i (true ∷ flags) = save_of n i ∷ marked n (i + 1) flags
-marked n i (false ∷ flags) = marked n (i + 1) flags
+abbrev pub marked_stores : ℕ → ℕ → List Bool → List Store
+marked_stores n i [] = []
+marked_stores n i (true ∷ flags) = save_of n i ∷ marked_stores n (i + 1) flags
+marked_stores n i (false ∷ flags) = marked_stores n (i + 1) flags
 
 -- some load or store was wrong, so that no end is right
 abbrev pub IsSpoiled : Side → ℕ → Effect → Type 0

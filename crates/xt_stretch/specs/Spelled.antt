@@ -12,17 +12,17 @@ use Rattle.xt_isa.specs.declared.system.WaitName.TheVariants as wait
 use Rattle.xt_isa.specs.declared.system.ReturnName.TheVariants as return
 use Rattle.xt_isa.specs.declared.density.Density.TheVariants as density
 use Rattle.xt_isa.specs.declared.density.NarrowRetName.TheVariants as narrow
-use Rattle.xt_isa.specs.Spelling.{spelled, fields_at, length_of}
+use Rattle.xt_isa.specs.Spelling.{spelled_insn, fields_at, length_of}
 use Rattle.xt_stretch.specs.Handling.{Line}
-use Rattle.xt_stretch.specs.declared.Step.{Step}
-use Rattle.xt_stretch.specs.declared.Step.TheVariants.{L32e, S32e, Nop, Rfwo, Rfwu, Foreign}
+use Rattle.xt_stretch.specs.declared.HandlerInsn.{HandlerInsn}
+use Rattle.xt_stretch.specs.declared.HandlerInsn.TheVariants.{L32e, S32e, Nop, Rfwo, Rfwu, Foreign}
 
-abbrev pub window_step_of : WindowName → ℕ → ℕ → ℤ → Step
+abbrev pub window_step_of : WindowName → ℕ → ℕ → ℤ → HandlerInsn
 window_step_of window.L32e t s offset = L32e t s (unsigned_abs offset)
 window_step_of window.S32e t s offset = S32e t s (unsigned_abs offset)
 
 -- what an instruction is to a handler
-unfoldable pub step_of_insn : Insn → Step
+unfoldable pub step_of_insn : Insn → HandlerInsn
 step_of_insn (insn.Memory (memory.L32e name t s offset)) = window_step_of name t s offset
 step_of_insn (insn.System (system.Excw wait.Nop)) = Nop
 step_of_insn (insn.Density (density.Ret narrow.Nop)) = Nop
@@ -30,13 +30,13 @@ step_of_insn (insn.System (system.Rfe return.Rfwo)) = Rfwo
 step_of_insn (insn.System (system.Rfe return.Rfwu)) = Rfwu
 step_of_insn _ = Foreign
 
-abbrev pub step_of_spelled : Option Insn → Step
+abbrev pub step_of_spelled : Option Insn → HandlerInsn
 step_of_spelled None = Foreign
 step_of_spelled (Some i) = step_of_insn i
 
 -- what three bytes spell; of a two-byte instruction the third plays no part
-unfoldable pub step_of : ℕ → ℕ → ℕ → Step
-step_of a b c = step_of_spelled (spelled (fields_at a b c))
+unfoldable pub step_of : ℕ → ℕ → ℕ → HandlerInsn
+step_of a b c = step_of_spelled (spelled_insn (fields_at a b c))
 
 -- the instructions that lie whole in the bytes; `inside` bytes more belong to the one before
 abbrev pub lines_in : ℕ → ℕ → List ℕ → List Line
@@ -53,7 +53,7 @@ unfoldable pub lines_of : List ℕ → List Line
 lines_of bytes = lines_in 0 0 bytes
 
 -- the register numbers of a step, and how far below its base a word lies
-abbrev pub HasRegisters : Step → Type 0
+abbrev pub HasRegisters : HandlerInsn → Type 0
 HasRegisters (L32e t s back) = (t < 16) × (s < 16)
 HasRegisters (S32e t s back) = (t < 16) × (s < 16)
 HasRegisters Nop = Unit {0}

@@ -4,8 +4,8 @@
 -- Note: a symbol `Load` is the word as it stood at the start; that no store comes between is part
 -- of the proof. What follows RFWO or RFWU in the 64 bytes is not looked at.
 use Rattle.std.specs.Prelude.{ℕ, ◌==◌, ◌&&◌, Bool, false, List, [], ◌∷◌, slice_index_or, slice_set}
-use Rattle.xt_stretch.specs.declared.Step.{Step}
-use Rattle.xt_stretch.specs.declared.Step.TheVariants.{L32e, S32e, Nop, Rfwo, Rfwu, Foreign}
+use Rattle.xt_stretch.specs.declared.HandlerInsn.{HandlerInsn}
+use Rattle.xt_stretch.specs.declared.HandlerInsn.TheVariants.{L32e, S32e, Nop, Rfwo, Rfwu, Foreign}
 
 -- the value of a register at the start, or of a word of memory at the start, by its base and how
 -- far below it
@@ -31,13 +31,13 @@ pub record Effect : Type 0 where
 abbrev pub register : List Symbol → ℕ → Symbol
 register regs i = slice_index_or regs i (Init 16)
 
-abbrev pub applied : Effect → Step → Effect
-applied e (L32e t s back) = record {
+abbrev pub effect_after_step : Effect → HandlerInsn → Effect
+effect_after_step e (L32e t s back) = record {
   regs = slice_set e.regs t (Load (register e.regs s) back);
   stores = e.stores;
   loads = record { base = register e.regs s; back = back } ∷ e.loads;
 }
-applied e (S32e t s back) = record {
+effect_after_step e (S32e t s back) = record {
   regs = e.regs;
   stores = record {
     word = record { base = register e.regs s; back = back };
@@ -45,10 +45,10 @@ applied e (S32e t s back) = record {
   } ∷ e.stores;
   loads = e.loads;
 }
-applied e Nop = e
-applied e Rfwo = e
-applied e Rfwu = e
-applied e Foreign = e
+effect_after_step e Nop = e
+effect_after_step e Rfwo = e
+effect_after_step e Rfwu = e
+effect_after_step e Foreign = e
 
 -- before the first instruction
 abbrev pub opening : Effect

@@ -2,29 +2,29 @@
 #![tactic(auto)]
 
 ghost use Rattle.std.specs.Prelude.{◌≡◌, ◌+◌, ◌*◌, ◌%◌, ◌≤◌, ◌<◌, ℕ, List, slice_index};
-ghost use Rattle.xt_stretch.specs.Handling.{handling};
+ghost use Rattle.xt_stretch.specs.Handling.{handling_verdict};
 ghost use Rattle.xt_stretch.specs.Spelled.{lines_of};
 ghost use Rattle.xt_stretch.specs.declared.Side.TheVariants.{Overflow, Underflow};
 ghost use Rattle.xt_stretch.specs.declared.HandlerVerdict.TheVariants.{Yes};
-ghost use Rattle.xt_stretch.specs.Running.{ran};
+ghost use Rattle.xt_stretch.specs.Running.{machine_after_lines};
 ghost use Rattle.xt_stretch.specs.Machines.{Machine, visible};
-ghost use Rattle.xt_stretch.specs.Kept.{KeepsRegisters, Reaches};
+ghost use Rattle.xt_stretch.specs.HandlerInvariants.{KeepsRegisters, Reaches};
 ghost use Rattle.xt_stretch.specs.Joined.{Finds, IsShaped, LoadsWords, StoresWords, own_link, saved_link, saved_sp};
 
 /// An overflow handler that passes the check, run where the stack pointers are a chain.
 pub fn overflow_moves_words()
     ensures { (lo hi n : ℕ) (bytes : List ℕ) (start : Machine) → IsShaped lo hi n start → ((i : ℕ) → slice_index bytes i < 256)
-        → handling Overflow n (lines_of bytes) ≡ Yes
+        → handling_verdict Overflow n (lines_of bytes) ≡ Yes
         → Finds lo hi n (visible start (4 * n + 1)) (visible start 1) (own_link start)
-        → Reaches (ran (lines_of bytes) start) (λ end. KeepsRegisters n start end × StoresWords n start end) }
+        → Reaches (machine_after_lines (lines_of bytes) start) (λ end. KeepsRegisters n start end × StoresWords n start end) }
 {}
 
 /// An underflow handler that passes the check, run where the stack pointers are a chain.
 pub fn underflow_moves_words()
     ensures { (lo hi n : ℕ) (bytes : List ℕ) (start : Machine) → IsShaped lo hi n start → ((i : ℕ) → slice_index bytes i < 256)
-        → handling Underflow n (lines_of bytes) ≡ Yes
+        → handling_verdict Underflow n (lines_of bytes) ≡ Yes
         → Finds lo hi n (visible start (4 * n + 1)) (saved_sp start n) (saved_link start n)
-        → Reaches (ran (lines_of bytes) start) (λ end. KeepsRegisters n start end × LoadsWords n start end) }
+        → Reaches (machine_after_lines (lines_of bytes) start) (λ end. KeepsRegisters n start end × LoadsWords n start end) }
 {}
 
 /// A handler changes no register but the frame's own, by window numbers that are never reduced.

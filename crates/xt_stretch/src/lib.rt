@@ -11,12 +11,12 @@ pub mod joining;
 pub mod turns;
 
 ghost use Rattle.std.specs.Prelude.{◌≡◌, ◌<◌, ℕ, List, slice_index};
-ghost use Rattle.xt_stretch.specs.Handling.{handling};
+ghost use Rattle.xt_stretch.specs.Handling.{handling_verdict};
 ghost use Rattle.xt_stretch.specs.Spelled.{lines_of};
 ghost use Rattle.xt_stretch.specs.declared.Side.TheVariants.{Overflow, Underflow};
 ghost use Rattle.xt_stretch.specs.declared.HandlerVerdict.TheVariants.{Yes};
 ghost use Rattle.xt_stretch.specs.Common.{CommonHandlersPass};
-ghost use Rattle.xt_stretch.specs.Kept.{LoadsFrames, StoresFrames};
+ghost use Rattle.xt_stretch.specs.HandlerInvariants.{LoadsFrames, StoresFrames};
 
 /// Which kind of window exception a vector is for.
 #[derive(Clone, Copy, PartialEq, Eq, Debug)]
@@ -27,7 +27,7 @@ pub enum Side {
 
 /// An instruction, as far as a handler may use it.
 #[derive(Clone, Copy, PartialEq, Eq, Debug)]
-pub enum Step {
+pub enum HandlerInsn {
     /// L32E: target register, base register, and how far below its base the word lies.
     L32e(u8, u8, u8),
     /// S32E: source register, base register, and how far below its base the word lies.
@@ -52,13 +52,13 @@ pub enum HandlerVerdict {
 /// An overflow handler that passes the check stores the oldest frame's registers, and nothing else.
 pub fn overflow_stores_a_frame()
     ensures { (n : ℕ) (bytes : List ℕ) → 0 < n → n < 4 → ((i : ℕ) → slice_index bytes i < 256)
-        → handling Overflow n (lines_of bytes) ≡ Yes → StoresFrames n bytes }
+        → handling_verdict Overflow n (lines_of bytes) ≡ Yes → StoresFrames n bytes }
 {}
 
 /// An underflow handler that passes the check loads the caller's registers, and nothing else.
 pub fn underflow_loads_a_frame()
     ensures { (n : ℕ) (bytes : List ℕ) → 0 < n → n < 4 → ((i : ℕ) → slice_index bytes i < 256)
-        → handling Underflow n (lines_of bytes) ≡ Yes → LoadsFrames n bytes }
+        → handling_verdict Underflow n (lines_of bytes) ≡ Yes → LoadsFrames n bytes }
 {}
 
 /// There are six handlers that pass the check: those of every program for this processor.

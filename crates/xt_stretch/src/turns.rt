@@ -8,7 +8,7 @@ ghost use Rattle.xt_stretch.specs.Machines.{address_of, Machine, place};
 ghost use Rattle.xt_stretch.specs.declared.Side.{Side};
 ghost use Rattle.xt_stretch.specs.declared.Side.TheVariants.{Overflow, Underflow};
 ghost use Rattle.xt_stretch.specs.Frames.{HasFrames, HasRoom, IsOwn, IsOwnByte};
-ghost use Rattle.xt_stretch.specs.Kept.{Done, Handles, KeepsRegisters, Spares, Stands, Turns, opening_flags};
+ghost use Rattle.xt_stretch.specs.HandlerInvariants.{Done, Handles, KeepsRegisters, Spares, Stands, Turns, opening_flags};
 
 /// A chain of stack pointers in DRAM gives room.
 pub fn frames_give_room()

@@ -7,10 +7,10 @@ use Rattle.xt_isa.specs.declared.Insn.TheVariants as insn
 use Rattle.xt_isa.specs.declared.system.System.TheVariants as system
 use Rattle.xt_special.specs.Interrupts.{pending_of}
 use Rattle.xt_rows.specs.Settling.{settled_interrupt, settled_wait}
-use Rattle.xt_fetch.specs.Fetching.{Fetched, Fetches, fetched}
+use Rattle.xt_fetch.specs.Fetching.{Fetched, Fetches, fetch_at}
 use Rattle.xt_window.specs.Ring.{visible}
 use Rattle.xt_exec.specs.State.{State}
-use Rattle.xt_exec.specs.Turn.{Planned, checked, fetched_turn, in_window, is_illegal, overflow, planned, raises, window_check}
+use Rattle.xt_exec.specs.Turn.{Planned, turn_or_overflow, fetched_turn, in_window, is_illegal, overflow, planned_turn, raises, window_check}
 use Rattle.xt_timeless.specs.Time.{executes, reads_time}
 use Rattle.xt_timeless.proofs.Turning.{time_kind}
 
@@ -31,7 +31,7 @@ level_test : (l : ℕ) → eqb l 0 ≡ not (nat_lt 0 l)
 level_test zero = refl
 level_test (suc l) = suc_no l ∙ ap not (sym (lt-ltb 0 (suc l) (omega arith)))
 
-checked_kind : (distance : ℕ) (code : ℕ → ℕ) (i : Insn) (len : ℕ) (s : State) → reads_time i ≡ true → eqb distance 0 ≡ executes (checked distance code i len s).kind
+checked_kind : (distance : ℕ) (code : ℕ → ℕ) (i : Insn) (len : ℕ) (s : State) → reads_time i ≡ true → eqb distance 0 ≡ executes (turn_or_overflow distance code i len s).kind
 checked_kind zero code i len s h = sym (ap executes (time_kind code i (visible s.regs s.base) s.control len s h))
 checked_kind (suc distance) code i len s h = suc_no distance ∙ sym (overflow_kind (suc distance) s)
 
@@ -40,17 +40,17 @@ fetched_kind code i len s h =
     checked_kind (window_check i s) code i len s h ∙ ap (λ (b : Bool). executes (choice b).kind) (sym (legal i s h))
   where
     choice : Bool → Planned
-    choice b = cond b (raises 0 s) (checked (window_check i s) code i len s)
+    choice b = cond b (raises 0 s) (turn_or_overflow (window_check i s) code i len s)
 
 -- no interrupt is taken, the core does not wait, and no window is in the way
-pub executed : (code : ℕ → ℕ) (i : Insn) (len : ℕ) (s : State) → reads_time i ≡ true → fetched code s.control.pc ≡ Fetches i len
-    → (eqb (pending_of s.control) 0 && (not s.control.waits && eqb (window_check i s) 0)) ≡ executes (planned code s).kind
-unfolding planned
+pub executed : (code : ℕ → ℕ) (i : Insn) (len : ℕ) (s : State) → reads_time i ≡ true → fetch_at code s.control.pc ≡ Fetches i len
+    → (eqb (pending_of s.control) 0 && (not s.control.waits && eqb (window_check i s) 0)) ≡ executes (planned_turn code s).kind
+unfolding planned_turn
 executed code i len s h e =
     ap (λ (b : Bool). b && (not s.control.waits && eqb (window_check i s) 0)) (level_test (pending_of s.control)) ∙ by_tests (nat_lt 0 (pending_of s.control)) s.control.waits
   where
     choice : Bool → Bool → Planned
-    choice b w = cond b (in_window (settled_interrupt (pending_of s.control) s.control) s) (cond w (in_window (settled_wait s.control) s) (fetched_turn (fetched code s.control.pc) code s))
+    choice b w = cond b (in_window (settled_interrupt (pending_of s.control) s.control) s) (cond w (in_window (settled_wait s.control) s) (fetched_turn (fetch_at code s.control.pc) code s))
 
     by_tests : (b w : Bool) → (not b && (not w && eqb (window_check i s) 0)) ≡ executes (choice b w).kind
     by_tests true w = refl

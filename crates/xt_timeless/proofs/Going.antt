@@ -12,10 +12,10 @@ use Rattle.xt_trace.proofs.Short.{stopped_push}
 use Rattle.xt_fetch.specs.Code.{AreBytes}
 use Rattle.xt_exec.specs.Chips.{processor}
 use Rattle.xt_exec.specs.State.{State}
-use Rattle.xt_exec.specs.Turn.{demand, planned, turn, with_write, written}
+use Rattle.xt_exec.specs.Turn.{demand, planned_turn, turn, with_write, write_with_reply}
 use Rattle.xt_timeless.specs.Time.{AreEqualButForTime, uses_time, without_time}
 use Rattle.xt_timeless.specs.Bare.{Bare, BareWorld, bare_given, bare_in, bare_memory, bare_of, bare_past, bare_turned}
-use Rattle.xt_timeless.specs.Laws.{AreSame, HasTurns, HaveTurns, WorldsKeepTimeOut, core_of}
+use Rattle.xt_timeless.specs.TimeLaws.{AreSame, HasTurns, HaveTurns, WorldsKeepTimeOut, core_of}
 use Rattle.xt_timeless.proofs.Turning.{time_is_used_by_both, turns_alike}
 
 -- ---- a turn and its record
@@ -24,20 +24,20 @@ written_alone : (w : Option RegWrite) (s : State) → without_time (with_write w
 written_alone None s = refl
 written_alone (Some w) s = refl
 
-pub same_demand : (code : ℕ → ℕ) (s t : State) → AreSame (planned code s) (planned code t) → demand code s ≡ demand code t
+pub same_demand : (code : ℕ → ℕ) (s t : State) → AreSame (planned_turn code s) (planned_turn code t) → demand code s ≡ demand code t
 unfolding demand
 same_demand code s t h = h.access
 
-pub same_kind : (code : ℕ → ℕ) (s t : State) (reply : ℕ) → AreSame (planned code s) (planned code t) → (turn code s reply).0.kind ≡ (turn code t reply).0.kind
+pub same_kind : (code : ℕ → ℕ) (s t : State) (reply : ℕ) → AreSame (planned_turn code s) (planned_turn code t) → (turn code s reply).0.kind ≡ (turn code t reply).0.kind
 unfolding turn
 same_kind code s t reply h = h.kind
 
-pub same_after : (code : ℕ → ℕ) (s t : State) (reply : ℕ) → AreSame (planned code s) (planned code t) → without_time (turn code s reply).1 ≡ without_time (turn code t reply).1
+pub same_after : (code : ℕ → ℕ) (s t : State) (reply : ℕ) → AreSame (planned_turn code s) (planned_turn code t) → without_time (turn code s reply).1 ≡ without_time (turn code t reply).1
 unfolding turn
 same_after code s t reply h =
-    let p = planned code s in
-    let q = planned code t in
-    written_alone (written p.write p.awaited reply) p.after ∙ (λ i. with_write (written (h.write i) (h.awaited i) reply) (h.after i)) ∙ sym (written_alone (written q.write q.awaited reply) q.after)
+    let p = planned_turn code s in
+    let q = planned_turn code t in
+    written_alone (write_with_reply p.write p.awaited reply) p.after ∙ (λ i. with_write (write_with_reply (h.write i) (h.awaited i) reply) (h.after i)) ∙ sym (written_alone (write_with_reply q.write q.awaited reply) q.after)
 
 -- ---- one core
 

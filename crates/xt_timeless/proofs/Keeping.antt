@@ -5,7 +5,7 @@ use Rattle.xt_special.specs.declared.ps.Ps.{Ps}
 use Rattle.xt_special.specs.declared.writes.SpecialWrite.{SpecialWrite}
 use Rattle.xt_special.specs.Control.{Control, special_of, ps_word}
 use Rattle.xt_special.specs.Access.{SpecialWrites, changed_by, is_ccompare, no_set, set_to, software_bits, timer_bit, value_kept, with_set, with_sets, without_bits, written_by}
-use Rattle.xt_special.specs.Timers.{ticked, ticked_special}
+use Rattle.xt_special.specs.Timers.{after_tick, ticked_special}
 use Rattle.xt_special.specs.Exceptions.{after_double, after_exception, after_general, with_address}
 use Rattle.xt_special.specs.Interrupts.{after_high_level, after_interrupt, current_level, pending_level, pending_of}
 use Rattle.xt_special.specs.WindowExceptions.{after_window_exception}
@@ -34,8 +34,8 @@ kept c ys a = record { list = ys; alike = a; is = refl }
 
 -- ---- the tick
 
-pub kept_tick : (c d : Control) → IsKept c d → IsKept (ticked c) (ticked d)
-kept_tick c d k = record { list = ticked_special k.list; alike = both_ticked c.special k.list k.alike; is = ap ticked k.is }
+pub kept_tick : (c d : Control) → IsKept c d → IsKept (after_tick c) (after_tick d)
+kept_tick c d k = record { list = ticked_special k.list; alike = both_ticked c.special k.list k.alike; is = ap after_tick k.is }
 
 -- ---- exceptions and interrupts
 

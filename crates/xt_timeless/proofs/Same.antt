@@ -20,7 +20,7 @@ use Rattle.xt_rows.specs.declared.outcome.Effect.{Effect}
 use Rattle.xt_rows.specs.declared.outcome.WindowRegister.{WindowRegister}
 use Rattle.xt_rows.specs.declared.outcome.Outcome.{Outcome}
 use Rattle.xt_rows.specs.declared.outcome.Outcome.TheVariants.{Does}
-use Rattle.xt_rows.specs.Effects.{unchanged, window_register, write_to, writes_special, exchanges_special}
+use Rattle.xt_rows.specs.Effects.{no_change, window_register, write_to, writes_special, exchanges_special}
 use Rattle.xt_rows.specs.Numbers.{natural}
 use Rattle.xt_rows.specs.Operands.{changes_interrupt, memory_special_reads, reads, shift_special_reads, special_reads, system_special_reads, three_special_reads}
 use Rattle.xt_rows.specs.Outcomes.{outcome, outcome_at, system_outcome, value_of}
@@ -103,7 +103,7 @@ module _ (code : ℕ → ℕ) (registers : ℕ → ℕ) (c : Control) (ys : List
       v zs = value_of (slice_index zs) (changes_interrupt n)
 
       e : Effect
-      e = unchanged c.ps c.threadptr
+      e = no_change c.ps c.threadptr
 
       by_register : (r : Option WindowRegister) → AreAlikeOutcomes c.special ys (writes_special r n x (v c.special) e) (writes_special r n x (v ys) e)
       by_register None = inr (record e { sets = written_by n x (v c.special); ps = ps_written n x e.ps }, written_by n x (v ys), refl, refl, written_alike n x (v c.special) (v ys) c.special ys (interrupt_same c.special ys a n) a)
@@ -123,7 +123,7 @@ module _ (code : ℕ → ℕ) (registers : ℕ → ℕ) (c : Control) (ys : List
       v zs = value_of (slice_index zs) (changes_interrupt n)
 
       e : Effect
-      e = unchanged c.ps c.threadptr
+      e = no_change c.ps c.threadptr
 
       by_register : (r : Option WindowRegister) → AreAlikeOutcomes c.special ys (exchanges_special r t n x (slice_index c.special n) (v c.special) e) (exchanges_special r t n x (slice_index ys n) (v ys) e)
       by_register None =

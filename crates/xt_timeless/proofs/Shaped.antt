@@ -2,8 +2,8 @@
 use Rattle.std.proofs.Common.{◌≢◌, ℕ, ◌-◌, ◌^◌, List, slice_index, slice_set, arith}
 use Rattle.std.proofs.lemmas.Nat.{and_le_l}
 use Rattle.xt_special.specs.Access.{without_bits}
-use Rattle.xt_rows.specs.Laws.{IsWord}
-use Rattle.xt_exec.specs.Laws.{IsShaped}
+use Rattle.xt_rows.specs.RowLaws.{IsWord}
+use Rattle.xt_exec.specs.TurnLaws.{IsShaped}
 use Rattle.xt_exec.specs.State.{State}
 use Rattle.xt_exec.proofs.Specials.{IsShapedSpecial, set_shaped}
 use Rattle.xt_timeless.specs.Time.{special_without_time, timer_bits, without_time}

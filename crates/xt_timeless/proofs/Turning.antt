@@ -12,7 +12,7 @@ use Rattle.xt_isa.specs.declared.system.SpecialName.TheVariants as SpecialName
 use Rattle.xt_isa.specs.Ranges.{in_range}
 use Rattle.xt_special.specs.Control.{Control, special_of}
 use Rattle.xt_special.specs.Access.{SpecialWrites, with_sets}
-use Rattle.xt_special.specs.Timers.{ticked}
+use Rattle.xt_special.specs.Timers.{after_tick}
 use Rattle.xt_special.specs.Interrupts.{pending_of}
 use Rattle.xt_special.specs.Exceptions.{after_exception}
 use Rattle.xt_window.specs.Ring.{bit, visible, with_bit, without_bit, size_at}
@@ -28,18 +28,18 @@ use Rattle.xt_rows.specs.declared.outcome.WindowStep.{WindowStep}
 use Rattle.xt_rows.specs.declared.outcome.WindowStep.TheVariants.{Enters, Returns, EndsOverflow, EndsUnderflow, Rotates, MovesStack, Reads, Sets, Exchanges}
 use Rattle.xt_rows.specs.declared.outcome.Outcome.{Outcome}
 use Rattle.xt_rows.specs.declared.outcome.Outcome.TheVariants.{Does, Raises, Asks, Stops, Windowed}
-use Rattle.xt_rows.specs.Effects.{unchanged, window_register, exchanges_special, reads_special, write_to}
+use Rattle.xt_rows.specs.Effects.{no_change, window_register, exchanges_special, reads_special, write_to}
 use Rattle.xt_rows.specs.Operands.{changes_interrupt, reads, special_reads}
 use Rattle.xt_rows.specs.Outcomes.{outcome, outcome_at, system_outcome, value_of}
 use Rattle.xt_rows.specs.Settling.{after_flow, settled_interrupt, settled_wait}
 use Rattle.xt_fetch.specs.Code.{AreBytes}
-use Rattle.xt_fetch.specs.Fetching.{Fetched, Fetches, Fails, SpellsNothing, fetched}
+use Rattle.xt_fetch.specs.Fetching.{Fetched, Fetches, Fails, SpellsNothing, fetch_at}
 use Rattle.xt_fetch.proofs.Fetches.{fetched_range}
 use Rattle.xt_exec.specs.State.{State}
-use Rattle.xt_exec.specs.Turn.{Planned, checked, done, entered, fetched_turn, in_window, is_illegal, moved_stack, overflow, planned, raises, resumed, return_pc, return_size, returned, underflow, window_check, window_exception, window_step, windowed}
+use Rattle.xt_exec.specs.Turn.{Planned, turn_or_overflow, outcome_turn, entry_turn, fetched_turn, in_window, is_illegal, moved_stack, overflow, planned_turn, raises, resuming_turn, return_pc, return_size, return_turn, underflow, window_check, window_exception, window_step, window_turn}
 use Rattle.xt_timeless.specs.Time.{executes, fetches_time, reads_time, special_without_time, timer_bits, uses_time, without_time}
 use Rattle.xt_timeless.specs.Alike.{AreAlike}
-use Rattle.xt_timeless.specs.Laws.{AreSame, TimeIsUsedByBoth, TurnsKeepTimeOut}
+use Rattle.xt_timeless.specs.TimeLaws.{AreSame, TimeIsUsedByBoth, TurnsKeepTimeOut}
 use Rattle.xt_timeless.proofs.Lists.{alike_sym, cleared_alike, same_cleared}
 use Rattle.xt_timeless.proofs.Keeping.{IsKept, kept, kept_effect, kept_exception, kept_flow, kept_interrupt, kept_pending, kept_tick, kept_window, sets_alike, with_special}
 use Rattle.xt_timeless.proofs.Same.{AreAlikeOutcomes, outcomes_alike}
@@ -62,13 +62,13 @@ pub record AreKept (p q : Planned) : Type 0 where
   pub after : IsKeptState p.after q.after
 
 step_kept : (write : Option RegWrite) (s : State) (c d : Control) → IsKept c d → AreKept (window_step write (record s { control = c })) (window_step write (record s { control = d }))
-step_kept write s c d k = record { kind = refl; write = refl; access = refl; awaited = refl; after = kept_state s (ticked c) (ticked d) (kept_tick c d k) }
+step_kept write s c d k = record { kind = refl; write = refl; access = refl; awaited = refl; after = kept_state s (after_tick c) (after_tick d) (kept_tick c d k) }
 
 module _ (s : State) (ys : List ℕ) (a : AreAlike s.control.special ys) where
   falls_kept : (len : ℕ) → IsKept (after_flow Falls len s.control) (after_flow Falls len (with_special s.control ys))
   falls_kept len = kept_flow s.control ys a Falls len
 
-  raises_kept : (cause : ℕ) (address : Option ℕ) → IsKeptState (record s { control = ticked (after_exception cause address s.control) }) (record s { control = ticked (after_exception cause address (with_special s.control ys)) })
+  raises_kept : (cause : ℕ) (address : Option ℕ) → IsKeptState (record s { control = after_tick (after_exception cause address s.control) }) (record s { control = after_tick (after_exception cause address (with_special s.control ys)) })
   raises_kept cause address = kept_state s _ _ (kept_tick _ _ (kept_exception s.control ys a cause address))
 
   raised_kept : (cause : ℕ) → AreKept (raises cause s) (raises cause (record s { control = with_special s.control ys }))
@@ -93,14 +93,14 @@ module _ (s : State) (ys : List ℕ) (a : AreAlike s.control.special ys) where
 
   -- ---- steps of windows
 
-  entered_kept : (number value len : ℕ) → AreKept (entered number value len s) (entered number value len (record s { control = with_special s.control ys }))
-  unfolding entered
+  entered_kept : (number value len : ℕ) → AreKept (entry_turn number value len s) (entry_turn number value len (record s { control = with_special s.control ys }))
+  unfolding entry_turn
   entered_kept number value len =
       let base = base_after_call s.base s.control.ps.callinc in
       step_kept (write_to number value) (record s { base = base; start = with_bit s.start base }) _ _ (falls_kept len)
 
-  returned_kept : (a0 : ℕ) → AreKept (returned a0 s) (returned a0 (record s { control = with_special s.control ys }))
-  unfolding returned
+  returned_kept : (a0 : ℕ) → AreKept (return_turn a0 s) (return_turn a0 (record s { control = with_special s.control ys }))
+  unfolding return_turn
   returned_kept a0 = by_test (bit s.start (base_after_return s.base (return_size a0)))
     where
       back : State → Planned
@@ -117,8 +117,8 @@ module _ (s : State) (ys : List ℕ) (a : AreAlike s.control.special ys) where
           (kept (record s.control { pc = return_pc s.control.pc a0 }) ys a)
       by_test false = underflow_kept (return_size a0)
 
-  resumed_kept : (start epc1 : ℕ) → AreKept (resumed start epc1 s) (resumed start epc1 (record s { control = with_special s.control ys }))
-  unfolding resumed
+  resumed_kept : (start epc1 : ℕ) → AreKept (resuming_turn start epc1 s) (resuming_turn start epc1 (record s { control = with_special s.control ys }))
+  unfolding resuming_turn
   resumed_kept start epc1 =
       step_kept None (record s { base = s.control.ps.owb; start = start }) (record s.control { pc = epc1; ps = record s.control.ps { excm = false } }) _
       (kept (record s.control { pc = epc1; ps = record s.control.ps { excm = false } }) ys a)
@@ -136,7 +136,7 @@ module _ (s : State) (ys : List ℕ) (a : AreAlike s.control.special ys) where
       by_test true = raised_kept 5
       by_test false = step_kept (write_to number value) s _ _ (falls_kept len)
 
-  windowed_kept : (step : WindowStep) (len : ℕ) → AreKept (windowed step len s) (windowed step len (record s { control = with_special s.control ys }))
+  windowed_kept : (step : WindowStep) (len : ℕ) → AreKept (window_turn step len s) (window_turn step len (record s { control = with_special s.control ys }))
   windowed_kept (Enters number value) len = entered_kept number value len
   windowed_kept (Returns a0) len = returned_kept a0
   windowed_kept (EndsOverflow epc1) len = resumed_kept (without_bit s.start s.base) epc1
@@ -153,7 +153,7 @@ module _ (s : State) (ys : List ℕ) (a : AreAlike s.control.special ys) where
   -- ---- outcomes
 
   does_kept : (e : Effect) (sets : SpecialWrites) (len : ℕ) → AreAlike (with_sets e.sets s.control.special) (with_sets sets ys)
-      → AreKept (done (Does e) len s) (done (Does (record e { sets = sets })) len (record s { control = with_special s.control ys }))
+      → AreKept (outcome_turn (Does e) len s) (outcome_turn (Does (record e { sets = sets })) len (record s { control = with_special s.control ys }))
   does_kept e sets len al = record {
     kind = refl;
     write = refl;
@@ -162,7 +162,7 @@ module _ (s : State) (ys : List ℕ) (a : AreAlike s.control.special ys) where
     after = kept_state s _ _ (kept_tick _ _ (kept_effect e sets len s.control ys al));
   }
 
-  outcome_kept : (o : Outcome) (len : ℕ) → AreKept (done o len s) (done o len (record s { control = with_special s.control ys }))
+  outcome_kept : (o : Outcome) (len : ℕ) → AreKept (outcome_turn o len s) (outcome_turn o len (record s { control = with_special s.control ys }))
   outcome_kept (Does e) len = does_kept e e.sets len (sets_alike e.sets s.control.special ys a)
   outcome_kept (Raises cause address) len = record { kind = refl; write = refl; access = refl; awaited = refl; after = raises_kept cause address }
   outcome_kept (Asks access awaited e) len = record {
@@ -175,22 +175,22 @@ module _ (s : State) (ys : List ℕ) (a : AreAlike s.control.special ys) where
   outcome_kept Stops len = record { kind = refl; write = refl; access = refl; awaited = refl; after = kept_state s _ _ (kept_tick _ _ (kept s.control ys a)) }
   outcome_kept (Windowed step) len = windowed_kept step len
 
-  done_kept : (o p : Outcome) (len : ℕ) → AreAlikeOutcomes s.control.special ys o p → AreKept (done o len s) (done p len (record s { control = with_special s.control ys }))
+  done_kept : (o p : Outcome) (len : ℕ) → AreAlikeOutcomes s.control.special ys o p → AreKept (outcome_turn o len s) (outcome_turn p len (record s { control = with_special s.control ys }))
   done_kept o p len h =
       ⊎_elim
-      (λ (e : o ≡ p). subst (λ (q : Outcome). AreKept (done o len s) (done q len (record s { control = with_special s.control ys }))) e (outcome_kept o len))
+      (λ (e : o ≡ p). subst (λ (q : Outcome). AreKept (outcome_turn o len s) (outcome_turn q len (record s { control = with_special s.control ys }))) e (outcome_kept o len))
       (λ (d : (e : Effect) × (sets : SpecialWrites) × (o ≡ Does e) × (p ≡ Does (record e { sets = sets })) × AreAlike (with_sets e.sets s.control.special) (with_sets sets ys)).
-      subst (λ (q : Outcome). AreKept (done q len s) (done p len (record s { control = with_special s.control ys }))) (sym d.2)
-      (subst (λ (q : Outcome). AreKept (done (Does d.0) len s) (done q len (record s { control = with_special s.control ys }))) (sym d.3) (does_kept d.0 d.1 len d.4)))
+      subst (λ (q : Outcome). AreKept (outcome_turn q len s) (outcome_turn p len (record s { control = with_special s.control ys }))) (sym d.2)
+      (subst (λ (q : Outcome). AreKept (outcome_turn (Does d.0) len s) (outcome_turn q len (record s { control = with_special s.control ys }))) (sym d.3) (does_kept d.0 d.1 len d.4)))
       h
 
 -- ---- an instruction that reads a register of time is executed, where it comes to that
 
-pub time_kind : (code : ℕ → ℕ) (i : Insn) (registers : ℕ → ℕ) (c : Control) (len : ℕ) (s : State) → reads_time i ≡ true → (done (outcome_at code i registers c) len s).kind ≡ kind.Insn
+pub time_kind : (code : ℕ → ℕ) (i : Insn) (registers : ℕ → ℕ) (c : Control) (len : ℕ) (s : State) → reads_time i ≡ true → (outcome_turn (outcome_at code i registers c) len s).kind ≡ kind.Insn
 unfolding outcome system_outcome special_reads
 time_kind code (insn.System (system.Rsr SpecialName.Rsr t n)) registers c len s h = by_register (window_register n)
   where
-    by_register : (r : Option WindowRegister) → (done (reads_special r t n (value_of (special_of c) (Some n)) (unchanged c.ps c.threadptr)) len s).kind ≡ kind.Insn
+    by_register : (r : Option WindowRegister) → (outcome_turn (reads_special r t n (value_of (special_of c) (Some n)) (no_change c.ps c.threadptr)) len s).kind ≡ kind.Insn
     by_register None = refl
     by_register (Some w) = refl
 time_kind code (insn.System (system.Rsr SpecialName.Xsr t n)) registers c len s h = by_register (window_register n)
@@ -199,7 +199,7 @@ time_kind code (insn.System (system.Rsr SpecialName.Xsr t n)) registers c len s 
     i = insn.System (system.Rsr SpecialName.Xsr t n)
 
     by_register : (r : Option WindowRegister)
-        → (done (exchanges_special r t n (value_of registers (reads i).0) (value_of (special_of c) (Some n)) (value_of (special_of c) (changes_interrupt n)) (unchanged c.ps c.threadptr)) len s).kind ≡ kind.Insn
+        → (outcome_turn (exchanges_special r t n (value_of registers (reads i).0) (value_of (special_of c) (Some n)) (value_of (special_of c) (changes_interrupt n)) (no_change c.ps c.threadptr)) len s).kind ≡ kind.Insn
     by_register None = refl
     by_register (Some w) = refl
 time_kind code _ registers c len s h = absurd (true≢false (sym h))
@@ -219,8 +219,8 @@ illegal_same _ s ys = refl
 
 module _ (code : ℕ → ℕ) (s : State) (ys : List ℕ) (a : AreAlike s.control.special ys) where
   done_stage : (i : Insn) (len : ℕ) (b : Bool) → reads_time i ≡ b → in_range i ≡ true
-      → Stage b (done (outcome_at code i (visible s.regs s.base) s.control) len s)
-      (done (outcome_at code i (visible s.regs s.base) (with_special s.control ys)) len (record s { control = with_special s.control ys }))
+      → Stage b (outcome_turn (outcome_at code i (visible s.regs s.base) s.control) len s)
+      (outcome_turn (outcome_at code i (visible s.regs s.base) (with_special s.control ys)) len (record s { control = with_special s.control ys }))
   done_stage i len false h ok =
       inl (done_kept s ys a (outcome_at code i (visible s.regs s.base) s.control) (outcome_at code i (visible s.regs s.base) (with_special s.control ys)) len
       (outcomes_alike code (visible s.regs s.base) s.control ys a i ok h))
@@ -231,7 +231,7 @@ module _ (code : ℕ → ℕ) (s : State) (ys : List ℕ) (a : AreAlike s.contro
         refl,
       )
 
-  checked_stage : (distance : ℕ) (i : Insn) (len : ℕ) → in_range i ≡ true → Stage (reads_time i) (checked distance code i len s) (checked distance code i len (record s { control = with_special s.control ys }))
+  checked_stage : (distance : ℕ) (i : Insn) (len : ℕ) → in_range i ≡ true → Stage (reads_time i) (turn_or_overflow distance code i len s) (turn_or_overflow distance code i len (record s { control = with_special s.control ys }))
   checked_stage zero i len ok = done_stage i len (reads_time i) refl ok
   checked_stage (suc distance) i len ok = inl (overflow_kept s ys a (suc distance))
 
@@ -243,24 +243,24 @@ module _ (code : ℕ → ℕ) (s : State) (ys : List ℕ) (a : AreAlike s.contro
       subst (λ (b : Bool). Stage (reads_time i) (choice (is_illegal i s) s) (choice b (record s { control = with_special s.control ys }))) (illegal_same i s ys) (by_test (is_illegal i s))
     where
       choice : Bool → State → Planned
-      choice b u = cond b (raises 0 u) (checked (window_check i s) code i len u)
+      choice b u = cond b (raises 0 u) (turn_or_overflow (window_check i s) code i len u)
 
       by_test : (b : Bool) → Stage (reads_time i) (choice b s) (choice b (record s { control = with_special s.control ys }))
       by_test true = inl (raised_kept s ys a 0)
       by_test false = checked_stage (window_check i s) i len (ok i len refl)
 
   planned_stage : AreBytes code → bit_and (special_of s.control 228) timer_bits ≡ 0
-      → Stage (fetches_time (fetched code s.control.pc)) (planned code s) (planned code (record s { control = with_special s.control ys }))
-  unfolding planned
+      → Stage (fetches_time (fetch_at code s.control.pc)) (planned_turn code s) (planned_turn code (record s { control = with_special s.control ys }))
+  unfolding planned_turn
   planned_stage bytes none =
       subst (λ (l : ℕ). Stage time (body (pending_of s.control) s) (body l (record s { control = with_special s.control ys }))) (kept_pending s.control ys a none)
       (by_tests (nat_lt 0 (pending_of s.control)) s.control.waits)
     where
       time : Bool
-      time = fetches_time (fetched code s.control.pc)
+      time = fetches_time (fetch_at code s.control.pc)
 
       choice : Bool → Bool → ℕ → State → Planned
-      choice b w l u = cond b (in_window (settled_interrupt l u.control) u) (cond w (in_window (settled_wait u.control) u) (fetched_turn (fetched code s.control.pc) code u))
+      choice b w l u = cond b (in_window (settled_interrupt l u.control) u) (cond w (in_window (settled_wait u.control) u) (fetched_turn (fetch_at code s.control.pc) code u))
 
       body : ℕ → State → Planned
       body l u = choice (nat_lt 0 l) s.control.waits l u
@@ -274,7 +274,7 @@ module _ (code : ℕ → ℕ) (s : State) (ys : List ℕ) (a : AreAlike s.contro
         after = kept_state s _ _ (kept_tick _ _ (kept_interrupt s.control ys a (pending_of s.control)));
       })
       by_tests false true = inl (record { kind = refl; write = refl; access = refl; awaited = refl; after = kept_state s _ _ (kept_tick _ _ (kept s.control ys a)) })
-      by_tests false false = fetched_stage (fetched code s.control.pc) (λ i len e. fetched_range code s.control.pc i len bytes e)
+      by_tests false false = fetched_stage (fetch_at code s.control.pc) (λ i len e. fetched_range code s.control.pc i len bytes e)
 
 -- ---- time is left out
 
@@ -304,36 +304,36 @@ module _ (code : ℕ → ℕ) (bytes : AreBytes code) (s : State) where
   both_use : (b : Bool) → eqb (bit_and (special_of s.control 228) timer_bits) 0 ≡ b → uses_time code s ≡ uses_time code (without_time s)
   both_use b h =
       let e : bit_and (special_of s.control 228) timer_bits ≡ bit_and (special_of (without_time s).control 228) timer_bits = ap (λ (v : ℕ). bit_and v timer_bits) (cleared.same 228 refl) in
-      ap (λ (v : ℕ). not (eqb v 0) || (executes (planned code s).kind && f)) e ∙ by_test b (ap (λ (v : ℕ). eqb v 0) (sym e) ∙ h)
+      ap (λ (v : ℕ). not (eqb v 0) || (executes (planned_turn code s).kind && f)) e ∙ by_test b (ap (λ (v : ℕ). eqb v 0) (sym e) ∙ h)
     where
       f : Bool
-      f = fetches_time (fetched code s.control.pc)
+      f = fetches_time (fetch_at code s.control.pc)
 
       m : Bool
       m = eqb (bit_and (special_of (without_time s).control 228) timer_bits) 0
 
-      kinds : Stage f (planned code s) (planned code (without_time s)) → (executes (planned code s).kind && f) ≡ (executes (planned code (without_time s)).kind && f)
+      kinds : Stage f (planned_turn code s) (planned_turn code (without_time s)) → (executes (planned_turn code s).kind && f) ≡ (executes (planned_turn code (without_time s)).kind && f)
       kinds st = ⊎_elim
-          (λ (k : AreKept (planned code s) (planned code (without_time s))). ap (λ (d : StepKind). executes d && f) k.kind)
-          (λ (k : ((planned code s).kind ≡ kind.Insn) × ((planned code (without_time s)).kind ≡ kind.Insn) × (f ≡ true)). ap (λ (d : StepKind). executes d && f) (k.0 ∙ sym k.1))
+          (λ (k : AreKept (planned_turn code s) (planned_turn code (without_time s))). ap (λ (d : StepKind). executes d && f) k.kind)
+          (λ (k : ((planned_turn code s).kind ≡ kind.Insn) × ((planned_turn code (without_time s)).kind ≡ kind.Insn) × (f ≡ true)). ap (λ (d : StepKind). executes d && f) (k.0 ∙ sym k.1))
           st
 
-      by_test : (b : Bool) → m ≡ b → (not m || (executes (planned code s).kind && f)) ≡ (not m || (executes (planned code (without_time s)).kind && f))
+      by_test : (b : Bool) → m ≡ b → (not m || (executes (planned_turn code s).kind && f)) ≡ (not m || (executes (planned_turn code (without_time s)).kind && f))
       by_test true g =
           let none = eqb-true (bit_and (special_of s.control 228) timer_bits) 0 (ap (λ (v : ℕ). eqb (bit_and v timer_bits) 0) (cleared.same 228 refl) ∙ g) in
           ap (λ (z : Bool). not m || z) (kinds (planned_stage code s (special_without_time s.control.special) cleared bytes none))
-      by_test false g = ap (λ (k : Bool). not k || (executes (planned code s).kind && f)) g ∙ sym (ap (λ (k : Bool). not k || (executes (planned code (without_time s)).kind && f)) g)
+      by_test false g = ap (λ (k : Bool). not k || (executes (planned_turn code s).kind && f)) g ∙ sym (ap (λ (k : Bool). not k || (executes (planned_turn code (without_time s)).kind && f)) g)
 
   pub uses_alike : uses_time code s ≡ uses_time code (without_time s)
   uses_alike = both_use (eqb (bit_and (special_of s.control 228) timer_bits) 0) refl
 
-  pub turns_alike : uses_time code s ≡ false → AreSame (planned code s) (planned code (without_time s))
+  pub turns_alike : uses_time code s ≡ false → AreSame (planned_turn code s) (planned_turn code (without_time s))
   turns_alike free =
-      let parts = or_parts (not (eqb (bit_and (special_of s.control 228) timer_bits) 0)) (executes (planned code s).kind && fetches_time (fetched code s.control.pc)) free in
+      let parts = or_parts (not (eqb (bit_and (special_of s.control 228) timer_bits) 0)) (executes (planned_turn code s).kind && fetches_time (fetch_at code s.control.pc)) free in
       let none = eqb-true (bit_and (special_of s.control 228) timer_bits) 0 (not_false (eqb (bit_and (special_of s.control 228) timer_bits) 0) parts.0) in
       ⊎_elim
-      (λ (k : AreKept (planned code s) (planned code (without_time s))). kept_same (planned code s) (planned code (without_time s)) k)
-      (λ (k : ((planned code s).kind ≡ kind.Insn) × ((planned code (without_time s)).kind ≡ kind.Insn) × (fetches_time (fetched code s.control.pc) ≡ true)).
+      (λ (k : AreKept (planned_turn code s) (planned_turn code (without_time s))). kept_same (planned_turn code s) (planned_turn code (without_time s)) k)
+      (λ (k : ((planned_turn code s).kind ≡ kind.Insn) × ((planned_turn code (without_time s)).kind ≡ kind.Insn) × (fetches_time (fetch_at code s.control.pc) ≡ true)).
       let g : true ≡ false = sym (λ i. executes (k.0 i) && k.2 i) ∙ parts.1 in
       absurd (true≢false g))
       (planned_stage code s (special_without_time s.control.special) cleared bytes none)
@@ -349,6 +349,6 @@ pub turns_keep_time_out : TurnsKeepTimeOut
 turns_keep_time_out code s t bytes e free =
     let free_t = sym (time_is_used_by_both code s t bytes e) ∙ free in
     let left = turns_alike code bytes s free in
-    let right = same_sym (planned code t) (planned code (without_time t)) (turns_alike code bytes t free_t) in
-    same_trans (planned code s) (planned code (without_time s)) (planned code t) left
-    (subst (λ (u : State). AreSame (planned code u) (planned code t)) (sym e) right)
+    let right = same_sym (planned_turn code t) (planned_turn code (without_time t)) (turns_alike code bytes t free_t) in
+    same_trans (planned_turn code s) (planned_turn code (without_time s)) (planned_turn code t) left
+    (subst (λ (u : State). AreSame (planned_turn code u) (planned_turn code t)) (sym e) right)

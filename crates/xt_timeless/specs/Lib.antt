@@ -1,4 +1,4 @@
 pub mod Time
 pub mod Alike
 pub mod Bare
-pub mod Laws
+pub mod TimeLaws

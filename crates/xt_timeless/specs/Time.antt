@@ -15,9 +15,9 @@ use Rattle.xt_trace.specs.declared.record.StepKind.{StepKind}
 use Rattle.xt_trace.specs.declared.record.StepKind.TheVariants as kind
 use Rattle.xt_trace.specs.Traces.{has_stopped}
 use Rattle.xt_trace.specs.Worlds.{World}
-use Rattle.xt_fetch.specs.Fetching.{Fetched, Fetches, Fails, SpellsNothing, fetched}
+use Rattle.xt_fetch.specs.Fetching.{Fetched, Fetches, Fails, SpellsNothing, fetch_at}
 use Rattle.xt_exec.specs.State.{State}
-use Rattle.xt_exec.specs.Turn.{planned}
+use Rattle.xt_exec.specs.Turn.{planned_turn}
 
 -- bits 6, 15 and 16, which the timers set
 abbrev pub timer_bits : ℕ
@@ -72,4 +72,4 @@ executes _ = false
 abbrev pub uses_time : (ℕ → ℕ) → State → Bool
 uses_time code s =
     not (bit_and (special_of s.control number.intenable) timer_bits == 0)
-    || (executes (planned code s).kind && fetches_time (fetched code s.control.pc))
+    || (executes (planned_turn code s).kind && fetches_time (fetch_at code s.control.pc))

@@ -1,7 +1,7 @@
 //! Laws of time. Each is the contract of a function that does nothing.
 #![tactic(auto)]
 
-ghost use Rattle.xt_timeless.specs.Laws.{TimeIsUsedByBoth, TurnsKeepTimeOut, WorldsKeepTimeOut};
+ghost use Rattle.xt_timeless.specs.TimeLaws.{TimeIsUsedByBoth, TurnsKeepTimeOut, WorldsKeepTimeOut};
 
 /// From states that are equal but for time, a turn that uses no time is the same turn, and leaves
 /// states that are equal but for time.

@@ -2,11 +2,11 @@
 ghost use Rattle.std.specs.Prelude.{◌≡◌, ℕ, ◌==◌, ◌&&◌, ◌||◌, not, true, slice_index};
 ghost use Rattle.xt_isa.specs.Ranges.{in_range};
 ghost use Rattle.xt_map.specs.Memory.{constant_byte};
-ghost use Rattle.xt_fetch.specs.Fetching.{Fetches, fetched};
+ghost use Rattle.xt_fetch.specs.Fetching.{Fetches, fetch_at};
 ghost use Rattle.xt_special.specs.Numbers as numbers;
 ghost use Rattle.xt_special.specs.Interrupts.{pending_level};
 ghost use Rattle.xt_exec.specs.States.{state_of};
-ghost use Rattle.xt_exec.specs.Turn.{planned, window_check};
+ghost use Rattle.xt_exec.specs.Turn.{planned_turn, window_check};
 ghost use Rattle.xt_timeless.specs.Time.{executes, fetches_time, is_of_time, reads_time, uses_time};
 
 use crate::clearing::TIMER_BITS;
@@ -15,7 +15,7 @@ use xt_exec::Regs;
 use xt_isa::Insn;
 use xt_isa::system::{SpecialName, System};
 use xt_map::Constants;
-use xt_rows::named;
+use xt_rows::highest_register;
 use xt_special::{Special, number};
 use xt_window::Windows;
 
@@ -57,7 +57,7 @@ fn is_free<W: Windows>(r: &Regs<W>, insn: Insn) -> bool
     if !r.sr.woe() || r.sr.excm() {
         return true;
     }
-    r.win.check(named(insn) / 4).is_none()
+    r.win.check(highest_register(insn) / 4).is_none()
 }
 
 // Whether all three hold.
@@ -80,7 +80,7 @@ fn is_executed<W: Windows>(r: &Regs<W>, insn: Insn) -> bool
     requires range { in_range insn ≡ true }
     requires time { reads_time insn ≡ true }
     ensures { let s = state_of W.regs W.base W.start r.now in
-        (code : ℕ → ℕ) (len : ℕ) → fetched code s.control.pc ≡ Fetches insn len → result ≡ executes (planned code s).kind }
+        (code : ℕ → ℕ) (len : ℕ) → fetch_at code s.control.pc ≡ Fetches insn len → result ≡ executes (planned_turn code s).kind }
 {
     are_all(is_calm(&r.sr), !r.waiting, is_free(r, insn))
 }
@@ -88,7 +88,7 @@ fn is_executed<W: Windows>(r: &Regs<W>, insn: Insn) -> bool
 // Whether the next turn executes an instruction that reads a register of time.
 fn executes_time<W: Windows>(r: &Regs<W>, code: &Constants) -> bool
     ensures { let s = state_of W.regs W.base W.start r.now in
-        result ≡ (executes (planned (constant_byte code.now) s).kind && fetches_time (fetched (constant_byte code.now) s.control.pc)) }
+        result ≡ (executes (planned_turn (constant_byte code.now) s).kind && fetches_time (fetch_at (constant_byte code.now) s.control.pc)) }
 {
     match instruction_at::<W>(code, r.pc) {
         Fetch::Insn(insn, _) => {

@@ -4,25 +4,25 @@ use Rattle.std.specs.Prelude.{◌≡◌, ℕ, Bool, true, false, if◌then◌els
 use Rattle.std.specs.Prelude.{unwrap_or}
 use Rattle.std.specs.Option.{option_map}
 use Rattle.xt_image.specs.declared.image.Image.{Image}
-use Rattle.xt_image.specs.Parts.{image_bytes}
+use Rattle.xt_image.specs.ImageParts.{image_bytes}
 use Rattle.xt_elf.specs.Format.{elf_image}
 use Rattle.xt_elf.specs.Rules.{elf_fault}
 use Rattle.xt_asm.specs.Kinds.{text_fault}
 use Rattle.xt_asm.specs.Images.{IsImageOfText}
 use Rattle.xt_disasm.specs.Listing.{listing_text}
 use Rattle.xt_flow.specs.Printing.{IsFlowText}
-use Rattle.xt_flow.specs.Sources.{IsFlowSource, source_by, swept}
+use Rattle.xt_flow.specs.Sources.{IsFlowSource, source_by, plain_reading}
 use Rattle.xt_record.specs.Fields.{image_in}
 use Rattle.xt_record.specs.Format.{run_in}
 use Rattle.xt_record.specs.Written.{recording_bytes}
 use Rattle.xt_events.specs.Events.{events_text}
-use Rattle.xt_counts.specs.Texts.{IsCountsText}
+use Rattle.xt_counts.specs.CountsText.{IsCountsText}
 use Rattle.xt_events.specs.Lines.{filtered_text}
 use Rattle.xt_events.specs.declared.filter.Filter.{Filter}
 use Rattle.xt_race.specs.Races.{events_of}
-use Rattle.xt_race.specs.Texts.{IsRaceText}
+use Rattle.xt_race.specs.RaceTexts.{IsRaceText}
 use Rattle.xt_profile.specs.Profiled.{profile_of, whole_of}
-use Rattle.xt_profile.specs.Texts.{profile_text, whole_text}
+use Rattle.xt_profile.specs.ProfileText.{profile_text, whole_text}
 use Rattle.xt_command_line.specs.declared.command.Listing.{Listing}
 use Rattle.xt_command_line.specs.declared.command.ProfileOptions.{ProfileOptions}
 use Rattle.xt_command_line.specs.declared.command.Way.{Way}
@@ -30,7 +30,7 @@ use Rattle.xt_command_line.specs.declared.command.Way.TheVariants as way
 use Rattle.xt_command_line.specs.declared.command.Turns.{Turns}
 use Rattle.xt_command_line.specs.declared.outcomes.OutcomeOptions.{OutcomeOptions}
 use Rattle.xt_command_line.specs.Options.{with_entry}
-use Rattle.xt_outcome_report.specs.Texts.{IsAnswersText}
+use Rattle.xt_outcome_report.specs.OutcomesText.{IsAnswersText}
 use Rattle.xt_status.specs.declared.status.Status.{Status}
 use Rattle.xt_status.specs.declared.status.Status.TheVariants as status
 
@@ -56,15 +56,15 @@ abbrev pub IsAssembled : List ℕ → List ℕ → Type 0
 IsAssembled input bytes = (image : Image) × IsImageOfText input image × (bytes ≡ image_bytes image)
 
 -- the image of an ELF executable as a file
-unfoldable pub converted : List ℕ → List ℕ
-converted input = image_bytes (elf_image input)
+unfoldable pub converted_image : List ℕ → List ℕ
+converted_image input = image_bytes (elf_image input)
 
 -- the listing of an image: each executable segment from its first byte on, or what control reaches
 -- from the image's entry, that of core 1, which is the image's where the words say none, the
 -- vectors and the roots; as such, or as a text in the assembly language with the other segments
 abbrev pub IsListedBy : Way → Bool → Image → List ℕ → Type 0
 IsListedBy way.Sweep false image bytes = bytes ≡ listing_text image
-IsListedBy way.Sweep true image bytes = bytes ≡ source_by swept image
+IsListedBy way.Sweep true image bytes = bytes ≡ source_by plain_reading image
 IsListedBy (way.Flow o) false image bytes =
     IsFlowText image o.vecbase (unwrap_or o.entry1 image.entry) o.roots bytes
 IsListedBy (way.Flow o) true image bytes =
@@ -79,20 +79,20 @@ AreOutcomesTold o image bytes =
     IsAnswersText image (with_entry o.run image.entry) o.timed o.words bytes
 
 -- the recording, in version 2, of the run that a recording holds
-unfoldable pub migrated : List ℕ → List ℕ
-migrated input = recording_bytes (image_in input) (run_in input)
+unfoldable pub migrated_recording : List ℕ → List ℕ
+migrated_recording input = recording_bytes (image_in input) (run_in input)
 
 -- what happened to each core in that run
-unfoldable pub happened : List ℕ → List ℕ
-happened input = events_text (image_in input) (run_in input)
+unfoldable pub events_output : List ℕ → List ℕ
+events_output input = events_text (image_in input) (run_in input)
 
 -- what is asked for of a turn
 abbrev pub filter_of : Turns → Filter
 filter_of t = record { core = t.core; accesses = t.accesses; jumps = t.jumps }
 
 -- the lines of these turns of that run
-unfoldable pub traced : Turns → List ℕ → List ℕ
-traced t input = filtered_text (filter_of t) (image_in input) (run_in input) t.from t.to
+unfoldable pub trace_output : Turns → List ℕ → List ℕ
+trace_output t input = filtered_text (filter_of t) (image_in input) (run_in input) t.from t.to
 
 -- how often each core executed the instruction at each address in that run
 abbrev pub IsCountsTold : List ℕ → List ℕ → Type 0
@@ -110,5 +110,5 @@ profile_by o image r =
     else profile_text o.depth (profile_of o.depth image r)
 
 -- that of the run that a recording holds
-unfoldable pub profiled : ProfileOptions → List ℕ → List ℕ
-profiled o input = profile_by o (image_in input) (run_in input)
+unfoldable pub profile_output : ProfileOptions → List ℕ → List ℕ
+profile_output o input = profile_by o (image_in input) (run_in input)

@@ -1,7 +1,7 @@
 //! The commands `dis`, `check` and `outcomes`.
 ghost use Rattle.std.specs.Prelude.{◌≡◌, ◌≢◌, ◌≤◌, ◌%◌, length, IfOk, IfErr, Some};
 ghost use Rattle.xt_image.specs.Format.{image_of};
-ghost use Rattle.xt_image.specs.Parts.{IsWellFormed};
+ghost use Rattle.xt_image.specs.ImageParts.{IsWellFormed};
 ghost use Rattle.xt_report.specs.Checks.{check_text};
 ghost use Rattle.xt_status.specs.Inputs.{image_refusal};
 ghost use Rattle.xt_command_line.specs.Outcomes.{AreOutcomeOptions};

@@ -3,9 +3,9 @@ ghost use Rattle.std.specs.Prelude.{◌≡◌, ◌≢◌, IfOk, IfErr, Some};
 ghost use Rattle.xt_record.specs.Fields.{image_in};
 ghost use Rattle.xt_record.specs.Format.{run_in};
 ghost use Rattle.xt_status.specs.Inputs.{recording_refusal};
-ghost use Rattle.xt_tools.specs.Commands.{IsCountsTold, IsMade, IsRaceTold, filter_of, happened, migrated, profiled, traced};
+ghost use Rattle.xt_tools.specs.Commands.{IsCountsTold, IsMade, IsRaceTold, filter_of, events_output, migrated_recording, profile_output, trace_output};
 ghost use Rattle.xt_tools.specs.Puts.{Puts};
-ghost use Rattle.xt_use_report.specs.Told.{IsUsesTold};
+ghost use Rattle.xt_use_report.specs.UseFindings.{IsUsesTold};
 
 use crate::turns::write_turns;
 use std::alloc::Global;
@@ -23,9 +23,9 @@ use xt_use_report::uses_text;
 use xt_uses::Discipline;
 
 /// The same recording in version 2, or the status of its first fault.
-#[tactic(auto, unfolding(crate::specs::Commands::migrated))]
+#[tactic(auto, unfolding(crate::specs::Commands::migrated_recording))]
 pub fn migrate(alloc: Global, input: &[u8]) -> Result<Text, Status>
-    ensures ok { IfOk result (λ bytes. IsMade (recording_refusal input.now) (bytes ≡ migrated input.now)) }
+    ensures ok { IfOk result (λ bytes. IsMade (recording_refusal input.now) (bytes ≡ migrated_recording input.now)) }
     ensures refused { IfErr result (λ status. status ≢ Status.Memory → recording_refusal input.now ≡ Some status) }
 {
     let (image, run) = recording_in(alloc, input)?;
@@ -36,9 +36,9 @@ pub fn migrate(alloc: Global, input: &[u8]) -> Result<Text, Status>
 }
 
 /// What happened to each core in a recorded run, or the status of the recording's first fault.
-#[tactic(auto, unfolding(crate::specs::Commands::happened))]
+#[tactic(auto, unfolding(crate::specs::Commands::events_output))]
 pub fn events(alloc: Global, input: &[u8]) -> Result<Text, Status>
-    ensures ok { IfOk result (λ bytes. IsMade (recording_refusal input.now) (bytes ≡ happened input.now)) }
+    ensures ok { IfOk result (λ bytes. IsMade (recording_refusal input.now) (bytes ≡ events_output input.now)) }
     ensures refused { IfErr result (λ status. status ≢ Status.Memory → recording_refusal input.now ≡ Some status) }
 {
     let (image, run) = recording_in(alloc, input)?;
@@ -68,9 +68,9 @@ pub fn race(alloc: Global, input: &[u8]) -> Result<Text, Status>
 }
 
 /// The call profile of a recorded run, with these options, or the status of the recording's first fault.
-#[tactic(auto, unfolding(crate::specs::Commands::profiled))]
+#[tactic(auto, unfolding(crate::specs::Commands::profile_output))]
 pub fn profile(alloc: Global, options: ProfileOptions, input: &[u8]) -> Result<Text, Status>
-    ensures ok { IfOk result (λ bytes. IsMade (recording_refusal input.now) (bytes ≡ profiled options input.now)) }
+    ensures ok { IfOk result (λ bytes. IsMade (recording_refusal input.now) (bytes ≡ profile_output options input.now)) }
     ensures refused { IfErr result (λ status. status ≢ Status.Memory → recording_refusal input.now ≡ Some status) }
 {
     let (image, run) = recording_in(alloc, input)?;
@@ -110,7 +110,7 @@ fn filter_of(turns: Turns) -> Filter
 /// Writes the lines of these turns of a recorded run, in writes of up to 65,536 bytes, or ends with the
 /// status of the recording's first fault.
 pub fn trace<K: Sink>(alloc: Global, turns: Turns, input: &[u8], sink: &mut K) -> Status
-    ensures { Puts (recording_refusal input.now) (λ bytes. bytes ≡ traced turns input.now)
+    ensures { Puts (recording_refusal input.now) (λ bytes. bytes ≡ trace_output turns input.now)
         (K.told sink.old) (K.told sink.new) (K.faults sink.old) (K.faults sink.new) result }
 {
     let (image, run) = match recording_in(alloc, input) {

@@ -1,7 +1,7 @@
 //! The commands over assembly texts and ELF executables.
 ghost use Rattle.std.specs.Prelude.{◌≡◌, ◌≢◌, ◌≤◌, length, IfOk, IfErr, Some};
 ghost use Rattle.xt_asm.specs.Maps.{IsMapOfText};
-ghost use Rattle.xt_tools.specs.Commands.{IsAssembled, IsMade, converted, elf_refusal, text_refusal};
+ghost use Rattle.xt_tools.specs.Commands.{IsAssembled, IsMade, converted_image, elf_refusal, text_refusal};
 
 use std::alloc::Global;
 use xt_asm::{assemble, label_map};
@@ -50,10 +50,10 @@ pub fn map_text(alloc: Global, input: &[u8]) -> Result<Text, Status>
 }
 
 /// The image of an ELF executable as a file, or the status of the executable's first fault.
-#[tactic(auto, unfolding(crate::specs::Commands::converted, crate::specs::Commands::elf_refusal))]
+#[tactic(auto, unfolding(crate::specs::Commands::converted_image, crate::specs::Commands::elf_refusal))]
 pub fn converted_file(alloc: Global, input: &[u8]) -> Result<Text, Status>
     requires { length input.now ≤ 67108864 }
-    ensures ok { IfOk result (λ bytes. IsMade (elf_refusal input.now) (bytes ≡ converted input.now)) }
+    ensures ok { IfOk result (λ bytes. IsMade (elf_refusal input.now) (bytes ≡ converted_image input.now)) }
     ensures refused { IfErr result (λ status. status ≢ Status.Memory → elf_refusal input.now ≡ Some status) }
 {
     let image = match from_elf(alloc, input) {

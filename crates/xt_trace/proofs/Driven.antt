@@ -6,7 +6,7 @@ use Rattle.xt_trace.specs.declared.record.StepRecord.{StepRecord}
 use Rattle.xt_trace.specs.Chip.{Chip}
 use Rattle.xt_trace.specs.Traces.{trace_over}
 use Rattle.xt_trace.specs.Calls.{call_before, calls_in}
-use Rattle.xt_trace.specs.Worlds.{Core, core_past, closed}
+use Rattle.xt_trace.specs.Worlds.{Core, core_past, finished_core}
 use Rattle.xt_trace.specs.Runs.{traced_so_far}
 use Rattle.xt_trace.specs.Driven.{replies_in, Drove}
 use Rattle.xt_trace.proofs.Turns.{core, closed_turn}
@@ -31,8 +31,8 @@ calls_turn P k n d r e =
     calls_in_push k.records (P.turn k.state r).0 ∙ ap (λ (l : List (Access × ℕ)). calls_in k.records ++ l) (record_call P k.state d r e)
 
 -- a core of which it is known how many turns it has left
-known : {S : Type 0} (P : Chip S) (k : Core S) (n : ℕ) (f : List ℕ) → k.left ≡ n → closed P (core k.state n k.records) f ≡ closed P k f
-known P k n f e = ap (λ (i : ℕ). closed P (core k.state i k.records) f) (sym e)
+known : {S : Type 0} (P : Chip S) (k : Core S) (n : ℕ) (f : List ℕ) → k.left ≡ n → finished_core P (core k.state n k.records) f ≡ finished_core P k f
+known P k n f e = ap (λ (i : ℕ). finished_core P (core k.state i k.records) f) (sym e)
 
 pub drove_none : {S : Type 0} (P : Chip S) (k : Core S) → Drove P k k []
 drove_none P k = record { calls = sym (append-nil (calls_in k.records)); trace = λ f. refl }
@@ -51,12 +51,12 @@ drove_call P from k made n a r left e h =
     record {
       calls = calls_turn P k n (Some a) r e ∙ ap (λ (l : List (Access × ℕ)). l ++ (a, r) ∷ []) h.calls ∙ append_assoc (calls_in from.records) made ((a, r) ∷ []);
       trace = λ f. sym (closed_turn P k.state n k.records (Some a) (r ∷ f) e) ∙ known P k (suc n) (r ∷ f) left ∙ h.trace (r ∷ f)
-          ∙ ap (closed P from) (sym (ap (λ (l : List ℕ). l ++ f) (map-append (λ (p : Access × ℕ). p.1) made ((a, r) ∷ [])) ∙ append_assoc (replies_in made) (r ∷ []) f));
+          ∙ ap (finished_core P from) (sym (ap (λ (l : List ℕ). l ++ f) (map-append (λ (p : Access × ℕ). p.1) made ((a, r) ∷ [])) ∙ append_assoc (replies_in made) (r ∷ []) f));
     }
 
 -- at its end a core has made its whole trace
 pub drove_ended : {S : Type 0} (P : Chip S) (s : S) (n : ℕ) (k : Core S) (made : List (Access × ℕ)) → k.left ≡ 0
     → Drove P (core s n []) k made → traced_so_far k ≡ trace_over P s n (replies_in made)
 drove_ended P s n k made e h =
-    let here : closed P k [] ≡ core k.state 0 k.records = sym (known P k 0 [] e) ∙ ap (core k.state 0) (append-nil k.records) in
-    ap (traced_so_far) (sym here ∙ h.trace [] ∙ ap (closed P (core s n [])) (append-nil (replies_in made)))
+    let here : finished_core P k [] ≡ core k.state 0 k.records = sym (known P k 0 [] e) ∙ ap (core k.state 0) (append-nil k.records) in
+    ap (traced_so_far) (sym here ∙ h.trace [] ∙ ap (finished_core P (core s n [])) (append-nil (replies_in made)))

@@ -5,8 +5,8 @@ use Rattle.xt_trace.specs.declared.record.StepRecord.{StepRecord}
 use Rattle.xt_trace.specs.Calls.{is_stop}
 use Rattle.xt_trace.specs.Chip.{Chip}
 use Rattle.xt_map.specs.History.{calls_of}
-use Rattle.xt_trace.specs.Worlds.{Core, Line, World, left_past, core_given, give, advance, rest_of, finished, answer}
-use Rattle.xt_trace.specs.Runs.{Opening, opened, run_at, IsRunOf, run_of}
+use Rattle.xt_trace.specs.Worlds.{Core, Line, World, left_past, core_given, give, advance, rest_of, finished_world, answer}
+use Rattle.xt_trace.specs.Runs.{Opening, world_at_start, run_at, IsRunOf, run_of}
 use Rattle.xt_trace.proofs.Driven.{drove_ended}
 use Rattle.xt_trace.proofs.Keeping.{advance_keeps, opened_reached}
 
@@ -41,7 +41,7 @@ record Ended {S : Type 0} (P : Chip S) (w : World S) : Type 0 where
   zero : w.core0.left ≡ 0
   one : w.core1.left ≡ 0
 
-finished_ended : {S : Type 0} (P : Chip S) (w : World S) → Ended P (finished P w)
+finished_ended : {S : Type 0} (P : Chip S) (w : World S) → Ended P (finished_world P w)
 finished_ended {S = S} P w =
     let v = advance P (replicate w.core0.left 0) w in
     let is = advance_append P (replicate w.core0.left 0) (replicate w.core1.left 1) w in
@@ -54,9 +54,9 @@ finished_ended {S = S} P w =
 -- the run of a list is a run of its opening
 pub run_at_is_run : {S : Type 0} (P : Chip S) (o : Opening S) (list : List ℕ) → IsRunOf P o (run_at P o list)
 run_at_is_run P o list =
-    let v = advance P list (opened o) in
-    let w = finished P v in
-    let h = advance_keeps P o (rest_of v) v (advance_keeps P o list (opened o) (opened_reached P o)) in
+    let v = advance P list (world_at_start o) in
+    let w = finished_world P v in
+    let h = advance_keeps P o (rest_of v) v (advance_keeps P o list (world_at_start o) (opened_reached P o)) in
     let e = finished_ended P v in
     record {
       legal = h.legal;
@@ -78,9 +78,9 @@ advance_same P c i w v e =
 
 -- the list, core 0's rest and core 1's rest come to the run of the list
 pub run_at_comes : {S : Type 0} (P : Chip S) (o : Opening S) (list : List ℕ) (i n m : ℕ) (u v w : World S) → length list ≤ i → n ≡ u.core0.left → m ≡ u.core1.left
-    → u ≡ advance P (take i list) (opened o) → v ≡ advance P (replicate n 0) u → w ≡ advance P (replicate m 1) v → run_of w ≡ run_at P o list
+    → u ≡ advance P (take i list) (world_at_start o) → v ≡ advance P (replicate n 0) u → w ≡ advance P (replicate m 1) v → run_of w ≡ run_at P o list
 run_at_comes {S = S} P o list i n m u v w le n_is m_is e f g =
     ap (run_of) (g ∙ ap (advance P (replicate m 1)) f
     ∙ ap (λ (k : ℕ). advance P (replicate k 1) (advance P (replicate n 0) u)) m_is ∙ ap (λ (k : ℕ). advance P (replicate u.core1.left 1) (advance P (replicate k 0) u)) n_is
     ∙ sym (advance_append P (replicate u.core0.left 0) (replicate u.core1.left 1) u)
-    ∙ ap (finished P) (e ∙ ap (λ (l : List ℕ). advance P l (opened o)) (take_all i list le)))
+    ∙ ap (finished_world P) (e ∙ ap (λ (l : List ℕ). advance P l (world_at_start o)) (take_all i list le)))

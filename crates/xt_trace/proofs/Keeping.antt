@@ -11,7 +11,7 @@ use Rattle.xt_trace.specs.Chip.{Chip}
 use Rattle.xt_trace.specs.Calls.{call_before}
 use Rattle.xt_map.specs.History.{calls_of}
 use Rattle.xt_trace.specs.Worlds.{Core, Line, World, core_past, line_past, line_given, core_given, give, advance}
-use Rattle.xt_trace.specs.Runs.{Opening, opened}
+use Rattle.xt_trace.specs.Runs.{Opening, world_at_start}
 use Rattle.xt_trace.specs.Driven.{Drove}
 use Rattle.xt_trace.specs.Reached.{Reached}
 use Rattle.xt_trace.proofs.Driven.{drove_none, drove_local, drove_call}
@@ -79,8 +79,8 @@ give_keeps P o zero w h =
       legal = l.legal;
       memory = l.memory;
       cores = l.cores;
-      zero = core_turn P 0 (opened o).core0 w.core0 w.line w.core0.left refl refl h.zero;
-      one = core_idle P 0 1 (opened o).core1 w.core1 w.core0 w.line w.core0.left refl h.one;
+      zero = core_turn P 0 (world_at_start o).core0 w.core0 w.line w.core0.left refl refl h.zero;
+      one = core_idle P 0 1 (world_at_start o).core1 w.core1 w.core0 w.line w.core0.left refl h.one;
     }
 give_keeps P o (suc c) w h =
     let l = line_turn P o.memory 1 w.core1 w.line w.core1.left (omega arith) (line_in P o w h) in
@@ -88,20 +88,20 @@ give_keeps P o (suc c) w h =
       legal = l.legal;
       memory = l.memory;
       cores = l.cores;
-      zero = core_idle P 1 0 (opened o).core0 w.core0 w.core1 w.line w.core1.left refl h.zero;
-      one = core_turn P 1 (opened o).core1 w.core1 w.line w.core1.left refl refl h.one;
+      zero = core_idle P 1 0 (world_at_start o).core0 w.core0 w.core1 w.line w.core1.left refl h.zero;
+      one = core_turn P 1 (world_at_start o).core1 w.core1 w.line w.core1.left refl refl h.one;
     }
 
 pub advance_keeps : {S : Type 0} (P : Chip S) (o : Opening S) (list : List ℕ) (w : World S) → Reached P o w → Reached P o (advance P list w)
 advance_keeps P o [] w h = h
 advance_keeps P o (c ∷ cs) w h = advance_keeps P o cs (give P c w) (give_keeps P o c w h)
 
-pub opened_reached : {S : Type 0} (P : Chip S) (o : Opening S) → Reached P o (opened o)
+pub opened_reached : {S : Type 0} (P : Chip S) (o : Opening S) → Reached P o (world_at_start o)
 opened_reached P o =
     record {
       legal = λ k e at. absurd cc;
       memory = refl;
       cores = λ k e at. absurd cc;
-      zero = drove_none P (opened o).core0;
-      one = drove_none P (opened o).core1;
+      zero = drove_none P (world_at_start o).core0;
+      one = drove_none P (world_at_start o).core1;
     }

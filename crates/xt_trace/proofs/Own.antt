@@ -12,9 +12,9 @@ use Rattle.xt_trace.specs.Traces.{Traced, trace_over, reply_for, replies_past}
 use Rattle.xt_trace.specs.Calls.{call_before, calls_in}
 use Rattle.xt_map.specs.History.{calls_of, replies_of}
 use Rattle.xt_trace.specs.Schedule.{place_before, places_from, cores_of}
-use Rattle.xt_trace.specs.Worlds.{Core, Line, World, line_past, left_past, core_past, line_given, core_given, give, advance, finished, closed}
+use Rattle.xt_trace.specs.Worlds.{Core, Line, World, line_past, left_past, core_past, line_given, core_given, give, advance, finished_world, finished_core}
 use Rattle.xt_trace.specs.Schedule.{schedule_from}
-use Rattle.xt_trace.specs.Runs.{Opening, Run, opened, run_of, run_at, IsRunOf, schedule_of}
+use Rattle.xt_trace.specs.Runs.{Opening, Run, world_at_start, run_of, run_at, IsRunOf, schedule_of}
 use Rattle.xt_trace.proofs.Turns.{core, trace_turn, closed_turn}
 use Rattle.xt_trace.proofs.Ends.{advance_append, left_at_most}
 
@@ -31,7 +31,7 @@ record Segment {S : Type 0} (P : Chip S) (c : ℕ) (put : Core S → Line → Wo
   places : places_from i (made P k (r ∷ f)) ≡ place ∷ places_from (suc place) (made P next f)
   size : length (made P k (r ∷ f)) + i ≡ length (made P next f) + suc place
   calls : calls_in (made P k (r ∷ f)) ≡ (a, r) ∷ calls_in (made P next f)
-  end : closed P k (r ∷ f) ≡ closed P next f
+  end : finished_core P k (r ∷ f) ≡ finished_core P next f
   leads : advance P (replicate (suc place - i) c) (put k b) ≡ put next (line_past c (Some a) b)
 
 first_call : (x y : Access) (r q : ℕ) (xs ys : List (Access × ℕ)) → ◌≡◌ {A = List (Access × ℕ)} ((x, r) ∷ xs) ((y, q) ∷ ys) → x ≡ y
@@ -120,12 +120,12 @@ module _ {S : Type 0} (P : Chip S) (c : ℕ) (put : Core S → Line → World S)
 
   -- the turns after the last call
   remaining : (N n : ℕ) (s : S) (l : List StepRecord) (b : Line) → n ≤ N → calls_in (made P (core s n l) []) ≡ []
-      → advance P (replicate (length (made P (core s n l) [])) c) (put (core s n l) b) ≡ put (closed P (core s n l) []) b
+      → advance P (replicate (length (made P (core s n l) [])) c) (put (core s n l) b) ≡ put (finished_core P (core s n l) []) b
   remaining N zero s l b h e = ap (λ (xs : List StepRecord). put (core s 0 xs) b) (sym (append-nil l))
   remaining zero (suc n) s l b h e = absurd (omega arith)
   remaining (suc N) (suc n) s l b h e =
       let k = core s (suc n) l in
-      elim (P.demand s) as (λ d. P.demand s ≡ d → advance P (replicate (length (made P k [])) c) (put k b) ≡ put (closed P k []) b) [
+      elim (P.demand s) as (λ d. P.demand s ≡ d → advance P (replicate (length (made P k [])) c) (put k b) ≡ put (finished_core P k []) b) [
         | None ↦ λ q.
             let t = P.turn s 0 in
             let is = made_turn P s n l None [] q in
@@ -153,7 +153,7 @@ abbrev pub line_after : Line → List Entry → Line
 line_after b es = record { memory = memory_after b.memory es; history = b.history ++ es }
 
 abbrev pub done : {S : Type 0} (P : Chip S) → World S → List Entry → World S
-done P w es = record { line = line_after w.line es; core0 = closed P w.core0 (replies_of 0 es); core1 = closed P w.core1 (replies_of 1 es) }
+done P w es = record { line = line_after w.line es; core0 = finished_core P w.core0 (replies_of 0 es); core1 = finished_core P w.core1 (replies_of 1 es) }
 
 -- what is left of a run: the entries to come, over which each core makes their calls, and where each core stands among its places
 record Ahead {S : Type 0} (P : Chip S) (w : World S) (es : List Entry) (i : ℕ) (ps : List ℕ) (n j : ℕ) (qs : List ℕ) (m : ℕ) : Type 0 where
@@ -195,8 +195,8 @@ run_answered {S = S} P zero a es lt next w i ps n j qs m h =
     let rest = schedule_from (cores_of es) (suc g.place) qs' n j qs m in
     ap (λ (x : List ℕ). advance P (schedule_from (0 ∷ cores_of es) i x n j qs m) w) (sym h.places0 ∙ g.places)
     ∙ advance_append P (replicate (suc g.place - i) 0) rest w ∙ ap (advance P rest) g.leads ∙ next v (suc g.place) qs' n j qs m ahead
-    ∙ ap (λ (k : Core S). put0 (closed P w.core1 (replies_of 1 es)) k (line_after v.line es)) (sym g.end)
-    ∙ ap (λ (l : List Entry). put0 (closed P w.core1 (replies_of 1 es)) (closed P w.core0 (e.reply ∷ f)) (record { memory = memory_after v.line.memory es; history = l }))
+    ∙ ap (λ (k : Core S). put0 (finished_core P w.core1 (replies_of 1 es)) k (line_after v.line es)) (sym g.end)
+    ∙ ap (λ (l : List Entry). put0 (finished_core P w.core1 (replies_of 1 es)) (finished_core P w.core0 (e.reply ∷ f)) (record { memory = memory_after v.line.memory es; history = l }))
     (append_assoc w.line.history (e ∷ []) es)
 run_answered {S = S} P (suc zero) a es lt next w i ps n j qs m h =
     let e = entry 1 a (reply_to w.line.memory a) in
@@ -217,36 +217,36 @@ run_answered {S = S} P (suc zero) a es lt next w i ps n j qs m h =
     let rest = schedule_from (cores_of es) i ps n (suc g.place) qs' m in
     ap (λ (x : List ℕ). advance P (schedule_from (1 ∷ cores_of es) i ps n j x m) w) (sym h.places1 ∙ g.places)
     ∙ advance_append P (replicate (suc g.place - j) 1) rest w ∙ ap (advance P rest) g.leads ∙ next v i ps n (suc g.place) qs' m ahead
-    ∙ ap (λ (k : Core S). put1 (closed P w.core0 (replies_of 0 es)) k (line_after v.line es)) (sym g.end)
-    ∙ ap (λ (l : List Entry). put1 (closed P w.core0 (replies_of 0 es)) (closed P w.core1 (e.reply ∷ f)) (record { memory = memory_after v.line.memory es; history = l }))
+    ∙ ap (λ (k : Core S). put1 (finished_core P w.core0 (replies_of 0 es)) k (line_after v.line es)) (sym g.end)
+    ∙ ap (λ (l : List Entry). put1 (finished_core P w.core0 (replies_of 0 es)) (finished_core P w.core1 (e.reply ∷ f)) (record { memory = memory_after v.line.memory es; history = l }))
     (append_assoc w.line.history (e ∷ []) es)
 run_answered {S = S} P (suc (suc c)) a es lt next w i ps n j qs m h = absurd (omega arith)
 
 run_ahead : {S : Type 0} (P : Chip S) (es : List Entry) (w : World S) (i : ℕ) (ps : List ℕ) (n j : ℕ) (qs : List ℕ) (m : ℕ)
     → Ahead P w es i ps n j qs m → advance P (schedule_from (cores_of es) i ps n j qs m) w ≡ done P w es
 run_ahead {S = S} P [] w i ps n j qs m h =
-    let c0 = closed P w.core0 [] in
+    let c0 = finished_core P w.core0 [] in
     let r0 : advance P (replicate (n - i) 0) w ≡ put0 w.core1 c0 w.line =
     ap (λ (x : ℕ). advance P (replicate x 0) w) (let q : n - i ≡ length (made P w.core0 []) = omega (arith, h.size0) in q)
     ∙ remaining P 0 (put0 w.core1) (λ k b. refl) w.core0.left w.core0.left w.core0.state w.core0.records w.line (omega arith) (sym h.calls0) in
-    let r1 : advance P (replicate (m - j) 1) (put0 w.core1 c0 w.line) ≡ put1 c0 (closed P w.core1 []) w.line =
+    let r1 : advance P (replicate (m - j) 1) (put0 w.core1 c0 w.line) ≡ put1 c0 (finished_core P w.core1 []) w.line =
     ap (λ (x : ℕ). advance P (replicate x 1) (put1 c0 w.core1 w.line)) (let q : m - j ≡ length (made P w.core1 []) = omega (arith, h.size1) in q)
     ∙ remaining P 1 (put1 c0) (λ k b. refl) w.core1.left w.core1.left w.core1.state w.core1.records w.line (omega arith) (sym h.calls1) in
     advance_append P (replicate (n - i) 0) (replicate (m - j) 1) w ∙ ap (advance P (replicate (m - j) 1)) r0 ∙ r1
-    ∙ ap (λ (l : List Entry). put1 c0 (closed P w.core1 []) (record { memory = w.line.memory; history = l })) (sym (append-nil w.line.history))
+    ∙ ap (λ (l : List Entry). put1 c0 (finished_core P w.core1 []) (record { memory = w.line.memory; history = l })) (sym (append-nil w.line.history))
 run_ahead {S = S} P (e ∷ es) w i ps n j qs m h =
     let F : ℕ → Type 0 = λ r. Ahead P w (entry e.core e.access r ∷ es) i ps n j qs m → advance P (schedule_from (e.core ∷ cores_of es) i ps n j qs m) w ≡ done P w (entry e.core e.access r ∷ es) in
     subst F (sym (h.legal 0 e refl)) (run_answered P e.core e.access es (h.cores 0 e refl) (run_ahead P es) w i ps n j qs m) h
 
 -- The turns of a run's own schedule come to its history, its memory and both traces, and leave no turn.
-pub own_world : {S : Type 0} (P : Chip S) (o : Opening S) (r : Run S) → IsRunOf P o r → advance P (schedule_of r) (opened o) ≡ done P (opened o) r.history
+pub own_world : {S : Type 0} (P : Chip S) (o : Opening S) (r : Run S) → IsRunOf P o r → advance P (schedule_of r) (world_at_start o) ≡ done P (world_at_start o) r.history
 own_world {S = S} P o r h =
     let es = r.history in
     let t0 = r.trace0.records in
     let t1 = r.trace1.records in
-    let same0 : made P (opened o).core0 (replies_of 0 es) ≡ t0 = ap (λ (t : Traced S). t.records) (sym h.trace0) in
-    let same1 : made P (opened o).core1 (replies_of 1 es) ≡ t1 = ap (λ (t : Traced S). t.records) (sym h.trace1) in
-    run_ahead P es (opened o) 0 (places_from 0 t0) (length t0) 0 (places_from 0 t1) (length t1) (record {
+    let same0 : made P (world_at_start o).core0 (replies_of 0 es) ≡ t0 = ap (λ (t : Traced S). t.records) (sym h.trace0) in
+    let same1 : made P (world_at_start o).core1 (replies_of 1 es) ≡ t1 = ap (λ (t : Traced S). t.records) (sym h.trace1) in
+    run_ahead P es (world_at_start o) 0 (places_from 0 t0) (length t0) 0 (places_from 0 t1) (length t1) (record {
       legal = h.legal;
       cores = h.cores;
       calls0 = h.calls0 ∙ ap calls_in (sym same0);
@@ -261,6 +261,6 @@ own_world {S = S} P o r h =
 pub own_schedule : {S : Type 0} (P : Chip S) (o : Opening S) (r : Run S) → IsRunOf P o r → run_at P o (schedule_of r) ≡ r
 own_schedule {S = S} P o r h =
     let again : (x y : Traced S) → Run S = λ x y. record { history = r.history; trace0 = x; trace1 = y } in
-    ap (λ (u : World S). run_of (finished P u)) (own_world P o r h)
+    ap (λ (u : World S). run_of (finished_world P u)) (own_world P o r h)
     ∙ ap (λ (x : Traced S). again x (trace_over P o.state1 o.turns1 (replies_of 1 r.history))) (sym h.trace0)
     ∙ ap (again r.trace0) (sym h.trace1)

@@ -5,7 +5,7 @@ use Rattle.xt_map.specs.declared.access.Access.{Access}
 use Rattle.xt_trace.specs.declared.record.StepRecord.{StepRecord}
 use Rattle.xt_trace.specs.Calls.{is_stop}
 use Rattle.xt_trace.specs.Chip.{Chip}
-use Rattle.xt_trace.specs.Traces.{Traced, ended, trace_over, reply_for, replies_past, has_stopped}
+use Rattle.xt_trace.specs.Traces.{Traced, empty_trace, trace_over, reply_for, replies_past, has_stopped}
 use Rattle.xt_trace.specs.Calls.{call_before, calls_in}
 use Rattle.xt_map.specs.History.{IsOfCores, calls_of, replies_of}
 use Rattle.xt_trace.specs.Schedule.{place_before, places_from}
@@ -97,7 +97,7 @@ trace_bound P s (suc n) rs =
     let t = P.turn s (reply_for (P.demand s) rs) in
     let rest = trace_over P t.1 n (replies_past (P.demand s) rs) in
     let h : length rest.records ≤ n = trace_bound P t.1 n (replies_past (P.demand s) rs) in
-    elim (is_stop t.0.kind) as (λ b. suc (length (cond b (ended t.1) rest).records) ≤ suc n) [ true ↦ omega arith | false ↦ omega arith ]
+    elim (is_stop t.0.kind) as (λ b. suc (length (cond b (empty_trace t.1) rest).records) ≤ suc n) [ true ↦ omega arith | false ↦ omega arith ]
 
 places_many : (i : ℕ) (xs : List StepRecord) → length (places_from i xs) ≡ length (calls_in xs)
 places_many i [] = refl

@@ -13,7 +13,7 @@ use Rattle.xt_map.specs.History.{calls_of}
 use Rattle.xt_trace.specs.Schedule.{cores_of, places_from}
 use Rattle.xt_trace.specs.Worlds.{Core, Line, World, core_given, give, advance}
 use Rattle.xt_trace.specs.Schedule.{schedule_from}
-use Rattle.xt_trace.specs.Runs.{Opening, Run, opened, IsRunOf, schedule_of}
+use Rattle.xt_trace.specs.Runs.{Opening, Run, world_at_start, IsRunOf, schedule_of}
 use Rattle.xt_trace.specs.Short.{short_run, short_trace, IsRising}
 use Rattle.xt_trace.specs.Walks.{next_record, IsWalk}
 use Rattle.xt_trace.proofs.Own.{own_world}
@@ -112,10 +112,10 @@ measured (e ∷ es) cores i ps n j qs m up vp le me x y =
     measured_at e.core e.access e.reply es (cores 0 e refl) (measured es (λ k z at. cores (suc k) z at)) i ps n j qs m up vp le me x y
 
 -- each step of a run's own schedule is one turn, whose record is the next of its core's trace
-pub own_walk : {S : Type 0} (P : Chip S) (o : Opening S) (r : Run S) → IsRunOf P o r → IsWalk P (schedule_of r) (opened o) r.trace0.records r.trace1.records
+pub own_walk : {S : Type 0} (P : Chip S) (o : Opening S) (r : Run S) → IsRunOf P o r → IsWalk P (schedule_of r) (world_at_start o) r.trace0.records r.trace1.records
 unfolding Measured
 own_walk {S = S} P o r h =
-    let w = advance P (schedule_of r) (opened o) in
+    let w = advance P (schedule_of r) (world_at_start o) in
     let is = own_world P o r h in
     let s = run_has_places P o (short_run r) (record {
       legal = h.legal;
@@ -128,7 +128,7 @@ own_walk {S = S} P o r h =
     let long : length (schedule_of r) ≡ (length r.trace0.records - 0) + (length r.trace1.records - 0) =
     measured r.history h.cores 0 (places_from 0 r.trace0.records) (length r.trace0.records) 0 (places_from 0 r.trace1.records) (length r.trace1.records)
     s.rise0 s.rise1 (omega arith) (omega arith) s.calls0 s.calls1 in
-    full_walk P (schedule_of r) (opened o) r.trace0.records r.trace1.records
+    full_walk P (schedule_of r) (world_at_start o) r.trace0.records r.trace1.records
     (ap (λ (u : World S). u.core0.records) is ∙ ap (λ (z : Traced S). z.records) (sym h.trace0))
     (ap (λ (u : World S). u.core1.records) is ∙ ap (λ (z : Traced S). z.records) (sym h.trace1))
     (omega (arith, long))

@@ -3,7 +3,7 @@ use Rattle.std.specs.Prelude.{◌≡◌, ℕ, List, ◌++◌, map}
 use Rattle.xt_map.specs.declared.access.Access.{Access}
 use Rattle.xt_trace.specs.Chip.{Chip}
 use Rattle.xt_trace.specs.Calls.{calls_in}
-use Rattle.xt_trace.specs.Worlds.{Core, closed}
+use Rattle.xt_trace.specs.Worlds.{Core, finished_core}
 
 abbrev pub replies_in : List (Access × ℕ) → List ℕ
 replies_in cs = map (λ (p : Access × ℕ). p.1) cs
@@ -14,4 +14,5 @@ replies_in cs = map (λ (p : Access × ℕ). p.1) cs
 pub record Drove {S : Type 0}
     (P : Chip S) (from to : Core S) (made : List (Access × ℕ)) : Type 0 where
   pub calls : calls_in to.records ≡ calls_in from.records ++ made
-  pub trace : (future : List ℕ) → closed P to future ≡ closed P from (replies_in made ++ future)
+  pub trace : (future : List ℕ) → finished_core P to future
+      ≡ finished_core P from (replies_in made ++ future)

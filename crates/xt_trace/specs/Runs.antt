@@ -13,7 +13,7 @@ use Rattle.xt_trace.specs.Traces.{Traced, trace_over}
 use Rattle.xt_trace.specs.Calls.{calls_in}
 use Rattle.xt_map.specs.History.{calls_of, replies_of}
 use Rattle.xt_trace.specs.Schedule.{places_from, cores_of}
-use Rattle.xt_trace.specs.Worlds.{Core, World, advance, finished}
+use Rattle.xt_trace.specs.Worlds.{Core, World, advance, finished_world}
 use Rattle.xt_trace.specs.Schedule.{schedule}
 
 -- what a run opens with
@@ -31,8 +31,8 @@ pub record Run (S : Type 0) : Type 0 where
   pub trace1 : Traced S
 
 -- both cores with all of their turns, and the bus before its first access
-abbrev pub opened : {S : Type 0} → Opening S → World S
-opened o =
+abbrev pub world_at_start : {S : Type 0} → Opening S → World S
+world_at_start o =
     record {
       line = record { memory = o.memory; history = [] };
       core0 = record { state = o.state0; left = o.turns0; records = [] };
@@ -52,7 +52,7 @@ run_of w = record {
 -- The run of a list of cores: each number gives that core its next turn, or nothing where it has
 -- ended; then core 0's remaining turns follow, and then core 1's.
 abbrev pub run_at : {S : Type 0} (P : Chip S) → Opening S → List ℕ → Run S
-run_at P o list = run_of (finished P (advance P list (opened o)))
+run_at P o list = run_of (finished_world P (advance P list (world_at_start o)))
 
 -- A run of an opening: the history is legal, each trace is the processor's over the replies of its
 -- core's entries, and the accesses of each core in the history are those of its trace.

@@ -28,20 +28,20 @@ pub record Traced (S : Type 0) : Type 0 where
   pub records : List StepRecord
   pub last : S
 
-abbrev pub ended : {S : Type 0} → S → Traced S
-ended s = record { records = []; last = s }
+abbrev pub empty_trace : {S : Type 0} → S → Traced S
+empty_trace s = record { records = []; last = s }
 
-abbrev pub began : {S : Type 0} → StepRecord → Traced S → Traced S
-began r rest = record { records = r ∷ rest.records; last = rest.last }
+abbrev pub with_first_record : {S : Type 0} → StepRecord → Traced S → Traced S
+with_first_record r rest = record { records = r ∷ rest.records; last = rest.last }
 
 -- The trace from a state with so many turns left. The k-th record with an access takes the k-th
 -- reply. It ends after its first Stop, or with the last turn.
 abbrev pub trace_over : {S : Type 0} (P : Chip S) → S → ℕ → List ℕ → Traced S
-trace_over P s zero replies = ended s
+trace_over P s zero replies = empty_trace s
 trace_over P s (suc n) replies =
     let t = P.turn s (reply_for (P.demand s) replies) in
     let rest = trace_over P t.1 n (replies_past (P.demand s) replies) in
-    began t.0 (if is_stop t.0.kind then ended t.1 else rest)
+    with_first_record t.0 (if is_stop t.0.kind then empty_trace t.1 else rest)
 
 -- one of the records is a Stop
 abbrev pub has_stopped : List StepRecord → Bool

@@ -4,7 +4,7 @@ use Rattle.std.specs.Prelude.{◌≡◌, ℕ, zero, suc, ◌<◌, List, [], ◌�
 use Rattle.xt_trace.specs.declared.record.StepRecord.{StepRecord}
 use Rattle.xt_trace.specs.Chip.{Chip}
 use Rattle.xt_trace.specs.Worlds.{Core, Line, World, give, advance, answer}
-use Rattle.xt_trace.specs.Runs.{Opening, opened}
+use Rattle.xt_trace.specs.Runs.{Opening, world_at_start}
 
 -- the record of a core's next turn
 abbrev pub next_record : {S : Type 0} (P : Chip S) → Core S → Line → StepRecord
@@ -22,4 +22,4 @@ IsWalk P (suc c ∷ cs) w xs ys =
 
 -- the state of both cores and of the bus after the first p steps of a list
 abbrev pub state_at : {S : Type 0} (P : Chip S) → Opening S → List ℕ → ℕ → World S
-state_at P o list p = advance P (take p list) (opened o)
+state_at P o list p = advance P (take p list) (world_at_start o)

@@ -91,11 +91,11 @@ advance P (c ∷ cs) w = advance P cs (give P c w)
 abbrev pub rest_of : {S : Type 0} → World S → List ℕ
 rest_of w = replicate w.core0.left 0 ++ replicate w.core1.left 1
 
-abbrev pub finished : {S : Type 0} (P : Chip S) → World S → World S
-finished P w = advance P (rest_of w) w
+abbrev pub finished_world : {S : Type 0} (P : Chip S) → World S → World S
+finished_world P w = advance P (rest_of w) w
 
 -- the core run to its end over these replies
-abbrev pub closed : {S : Type 0} (P : Chip S) → Core S → List ℕ → Core S
-closed P k rs =
+abbrev pub finished_core : {S : Type 0} (P : Chip S) → Core S → List ℕ → Core S
+finished_core P k rs =
     let z = trace_over P k.state k.left rs in
     record { state = z.last; left = 0; records = k.records ++ z.records }

@@ -1,7 +1,7 @@
 //! Laws of runs. Each is the contract of a function that does nothing, for a processor whose states are any type.
 ghost use Rattle.std.specs.Prelude.{◌≡◌, ℕ, List};
 ghost use Rattle.xt_trace.specs.Chip.{Chip};
-ghost use Rattle.xt_trace.specs.Runs.{IsRunOf, Opening, Run, opened, run_at, schedule_of};
+ghost use Rattle.xt_trace.specs.Runs.{IsRunOf, Opening, Run, world_at_start, run_at, schedule_of};
 ghost use Rattle.xt_trace.specs.Walks.{IsWalk};
 
 /// The run of any list of cores is a run of its opening: its history is legal and of cores 0 and 1, its traces
@@ -18,5 +18,5 @@ pub fn run_is_that_of_its_schedule<S>()
 
 /// Each number of a run's own schedule is one turn of that core, whose record is the next of its trace.
 pub fn schedule_walks_the_records<S>()
-    ensures { (P : Chip S) (o : Opening S) (r : Run S) → IsRunOf P o r → IsWalk P (schedule_of r) (opened o) r.trace0.records r.trace1.records }
+    ensures { (P : Chip S) (o : Opening S) (r : Run S) → IsRunOf P o r → IsWalk P (schedule_of r) (world_at_start o) r.trace0.records r.trace1.records }
 {}

@@ -6,13 +6,13 @@ pub record UartState : Type 0 where
   pub sent : List ℕ
   pub spare : ℕ
 
-abbrev pub sending : List ℕ → ℕ → UartState
-sending sent spare = record { sent = sent; spare = spare }
+abbrev pub uart_state : List ℕ → ℕ → UartState
+uart_state sent spare = record { sent = sent; spare = spare }
 
 -- nothing was sent
-abbrev pub cleared : ℕ → UartState
-cleared room = sending [] room
+abbrev pub silent_uart : ℕ → UartState
+silent_uart room = uart_state [] room
 
 -- after one byte more
 abbrev pub past : UartState → ℕ → UartState
-past s b = sending (s.sent ++ b ∷ []) (s.spare - 1)
+past s b = uart_state (s.sent ++ b ∷ []) (s.spare - 1)

@@ -5,7 +5,7 @@
 #![tactic(auto)]
 
 ghost use Rattle.std.specs.Prelude.{◌≡◌, ◌+◌, ◌-◌, ◌<◌, ◌≤◌, length, IfOk};
-ghost use Rattle.xt_uart.specs.State.{cleared, past, sending};
+ghost use Rattle.xt_uart.specs.State.{silent_uart, past, uart_state};
 
 use std::alloc::{AllocError, Global};
 use std::marker::Model;
@@ -23,9 +23,9 @@ impl Model for Uart {
     ghost Value = { UartState };
 
     ghost use Rattle.std.specs.Prelude.{◌+◌, ◌≤◌, vec_len, vec_capacity};
-    ghost use Rattle.xt_uart.specs.State.{sending};
+    ghost use Rattle.xt_uart.specs.State.{uart_state};
 
-    ghost view = { λ u. sending u.bytes.items u.spare };
+    ghost view = { λ u. uart_state u.bytes.items u.spare };
 
     ghost invariant = { λ u. vec_len u.bytes + u.spare ≤ vec_capacity u.bytes };
 }
@@ -33,7 +33,7 @@ impl Model for Uart {
 impl Uart {
     /// A UART that has sent nothing and may send `room` bytes.
     pub fn make(alloc: Global, room: usize) -> Result<Uart, AllocError>
-        ensures { IfOk result (λ u. u ≡ cleared room) }
+        ensures { IfOk result (λ u. u ≡ silent_uart room) }
     {
         Ok(Uart {
             bytes: Vec::with_capacity(alloc, room)?,
@@ -68,7 +68,7 @@ impl Uart {
     /// Takes no memory.
     pub fn copy_from(&mut self, other: &Uart)
         requires { length other.now.sent ≤ length self.old.sent + self.old.spare }
-        ensures { self.new ≡ sending other.now.sent (length self.old.sent + self.old.spare - length other.now.sent) }
+        ensures { self.new ≡ uart_state other.now.sent (length self.old.sent + self.old.spare - length other.now.sent) }
     {
         let room = self.bytes.len() + self.spare;
         self.bytes.clear();

@@ -12,8 +12,8 @@ use Rattle.xt_trace.specs.declared.run.Run.{Run}
 use Rattle.xt_trace.specs.Schedule.{cores_of, places_from, schedule, schedule_in}
 use Rattle.xt_trace.specs.Short.{ShortRun, short_schedule, short_trace}
 use Rattle.xt_image.specs.declared.image.Image.{Image}
-use Rattle.xt_image.specs.Parts.{FitsImage, FitsSegment}
-use Rattle.xt_rows.specs.Laws.{IsWord}
+use Rattle.xt_image.specs.ImageParts.{FitsImage, FitsSegment}
+use Rattle.xt_rows.specs.RowLaws.{IsWord}
 use Rattle.xt_exec.specs.State.{State}
 use Rattle.xt_core.specs.Runs.{IsRunOf, code_of, records_of}
 use Rattle.xt_frames.specs.declared.kinds.Breach.{Breach}
@@ -23,7 +23,7 @@ use Rattle.xt_stretch.specs.declared.HandlerVerdict.TheVariants.{Yes, No}
 use Rattle.xt_stretch.specs.declared.Side.TheVariants.{Overflow, Underflow}
 use Rattle.xt_handlers.specs.declared.Handlers as declared
 use Rattle.xt_handlers.specs.Vectors.{Handlers, verdict_of}
-use Rattle.xt_handlers.specs.Answers.{handlers_of}
+use Rattle.xt_handlers.specs.CheckAnswers.{handlers_of}
 use Rattle.xt_discipline.specs.Verdicts.{are_yes, is_yes, opened0, opened1}
 use Rattle.xt_simulation.specs.Headline.{IsRunOfImage}
 use Rattle.xt_simulation.specs.Opening.{AreSmall, IsRunnable, memory_of}
@@ -35,9 +35,9 @@ use Rattle.xt_use_walk.specs.declared.walk.Uses.TheVariants.{Unchecked, Whole, B
 use Rattle.xt_use_walk.specs.Verdicts.{IsSaid, IsUsesOf, UsesAreOne, course_in}
 use Rattle.xt_uses.specs.declared.discipline.Discipline.{Discipline}
 use Rattle.xt_uses.specs.declared.discipline.Discipline.TheVariants.{Lenient}
-use Rattle.xt_use_run.specs.Laws as laws
-use Rattle.xt_use_run.specs.Laws.{UsesAreSo, UsesOfRunsAreLater}
-use Rattle.xt_fillings.specs.Laws.{RunsAreDecided}
+use Rattle.xt_use_run.specs.UseRunLaws as laws
+use Rattle.xt_use_run.specs.UseRunLaws.{UsesAreSo, UsesOfRunsAreLater}
+use Rattle.xt_fillings.specs.FillingLaws.{RunsAreDecided}
 use Rattle.xt_use_report.specs.Held.{AreDecided, AreSo, AreUsesLater, AreUsesSo, IsLater, IsOnly, course_of, is_checked, found_in, opening}
 
 -- ---- a run of an image with what is kept of its records

@@ -4,14 +4,14 @@ use Rattle.std.proofs.lemmas.Bool.Decides.{nat_tests}
 use Rattle.xt_isa.specs.declared.Insn.{Insn}
 use Rattle.xt_isa.specs.Spelling.{length_of}
 use Rattle.xt_map.specs.Regions.{is_executable, region_of}
-use Rattle.xt_fetch.specs.Fetching.{Fetches, can_fetch, fetched, fetched_past, unfetchable}
+use Rattle.xt_fetch.specs.Fetching.{Fetches, can_fetch, fetch_at, fetched_past, unfetchable}
 
 executable_small : (a : ℕ) → is_executable (region_of a) ≡ true → a + 4 < 2 ^ 32
 unfolding region_of
 executable_small a h = grind (arith, nat_tests)
 
-pub fetches_small : (code : ℕ → ℕ) (pc : ℕ) (i : Insn) (len : ℕ) → fetched code pc ≡ Fetches i len → pc + 4 < 2 ^ 32
-unfolding fetched
+pub fetches_small : (code : ℕ → ℕ) (pc : ℕ) (i : Insn) (len : ℕ) → fetch_at code pc ≡ Fetches i len → pc + 4 < 2 ^ 32
+unfolding fetch_at
 fetches_small code pc i len is = by_test (can_fetch pc) refl is
   where
     fails : (u : Bool) → u ≡ false → fetched_past (cond u None (Some pc)) code pc ≡ Fetches i len → ⊥

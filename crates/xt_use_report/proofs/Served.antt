@@ -7,10 +7,10 @@ use Rattle.xt_map.specs.Regions.{is_mapped}
 use Rattle.xt_map.specs.History.{replies_of}
 use Rattle.xt_trace.specs.declared.run.Run.{Run}
 use Rattle.xt_trace.specs.Calls.{is_stop}
-use Rattle.xt_trace.specs.Traces.{ended, replies_past, reply_for, trace_over}
+use Rattle.xt_trace.specs.Traces.{empty_trace, replies_past, reply_for, trace_over}
 use Rattle.xt_image.specs.declared.image.Image.{Image}
 use Rattle.xt_exec.specs.Chips.{processor, turn_asks}
-use Rattle.xt_exec.specs.Laws as laws
+use Rattle.xt_exec.specs.TurnLaws as laws
 use Rattle.xt_exec.specs.State.{State}
 use Rattle.xt_exec.specs.Turn.{demand}
 use Rattle.xt_exec.proofs.Served.{demand_served}
@@ -31,8 +31,8 @@ trace_served code s (suc n) replies =
     let rest = trace_over P t.1 n (replies_past (demand code s) replies) in
     let h : All IsServed rest.records = trace_served code t.1 n (replies_past (demand code s) replies) in
     let first : IsServed t.0 = served_by t.0.access (subst laws.IsServed (sym (turn_asks code s reply)) (demand_served code s)) in
-    All-cons IsServed t.0 (cond (is_stop t.0.kind) (ended t.1) rest).records first
-    (elim (is_stop t.0.kind) as (λ b. All IsServed (cond b (ended t.1) rest).records) [ true ↦ All-nil IsServed | false ↦ h ])
+    All-cons IsServed t.0 (cond (is_stop t.0.kind) (empty_trace t.1) rest).records first
+    (elim (is_stop t.0.kind) as (λ b. All IsServed (cond b (empty_trace t.1) rest).records) [ true ↦ All-nil IsServed | false ↦ h ])
 
 pub records_served : (core : ℕ) (image : Image) (r : Run) → All IsServed (records_of core image r).records
 records_served core image r =

@@ -7,19 +7,19 @@ use Rattle.xt_image.specs.declared.image.Image.{Image}
 use Rattle.xt_core.specs.Runs.{code_of, records_of}
 use Rattle.xt_frames.specs.declared.kinds.Breach.{Breach}
 use Rattle.xt_frames.specs.FirstBreach.{Course, IsFirstBreach, IsJudgedTurn}
-use Rattle.xt_handlers.specs.Answers.{handlers_of}
+use Rattle.xt_handlers.specs.CheckAnswers.{handlers_of}
 use Rattle.xt_discipline.specs.Verdicts.{are_yes}
 use Rattle.xt_simulation.specs.Opening.{Openings, memory_of, openings_of}
 use Rattle.xt_simulation.specs.Walking.{Apart}
 use Rattle.xt_uses.specs.declared.discipline.Discipline.TheVariants.{Lenient}
 use Rattle.xt_uses.specs.declared.discipline.Discipline.{Discipline}
-use Rattle.xt_uses.specs.FirstUse.{History, IsFirstUse, IsHistory, carried}
+use Rattle.xt_uses.specs.FirstUse.{History, IsFirstUse, IsHistory, carried_count}
 use Rattle.xt_uses.specs.UseLaws.{IsUseRun}
 use Rattle.xt_use_walk.specs.declared.walk.Uses.{Uses}
 use Rattle.xt_use_walk.specs.declared.walk.Uses.TheVariants.{Unchecked, Whole, Broken}
 use Rattle.xt_use_walk.specs.Verdicts.{IsUsesOf, course_in}
 use Rattle.xt_fillings.specs.Fillings.{Filling}
-use Rattle.xt_fillings.specs.Laws.{FollowsRecord}
+use Rattle.xt_fillings.specs.FillingLaws.{FollowsRecord}
 
 -- a run of an image, to be judged: the records of both cores, in the order of its schedule
 abbrev pub course_of : Image → Run → Course
@@ -72,7 +72,7 @@ IsLater c =
     (h : History) (p q : ℕ) (breach found : Option Breach)
     → IsHistory Lenient c h → IsFirstBreach c p breach → IsFirstUse c h q found
     → (p ≤ q)
-    × (breach ≡ None → (found ≡ None) × (carried c h 0 q ≡ 0) × (carried c h 1 q ≡ 0))
+    × (breach ≡ None → (found ≡ None) × (carried_count c h 0 q ≡ 0) × (carried_count c h 1 q ≡ 0))
 
 -- so where the stack discipline shows none, the answer of the lenient discipline is that uses are
 -- whole and carry nothing

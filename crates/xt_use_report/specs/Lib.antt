@@ -1,3 +1,3 @@
-pub mod Texts
+pub mod UsesText
 pub mod Held
-pub mod Told
+pub mod UseFindings

@@ -1,8 +1,8 @@
 //! What the discipline of uses says of a run of an image.
 ghost use Rattle.std.specs.Prelude.{IfOk};
 ghost use Rattle.xt_core.specs.Runs.{IsRunOf};
-ghost use Rattle.xt_rows.specs.Laws.{IsWord};
-ghost use Rattle.xt_image.specs.Parts.{IsWellFormed};
+ghost use Rattle.xt_rows.specs.RowLaws.{IsWord};
+ghost use Rattle.xt_image.specs.ImageParts.{IsWellFormed};
 ghost use Rattle.xt_use_walk.specs.Verdicts.{IsUsesOf};
 ghost use Rattle.xt_use_report.specs.Held.{AreUsesLater, AreUsesSo, IsOnly, course_of, is_checked};
 

@@ -1,11 +1,11 @@
 //! What is printed of the uses of a run.
 ghost use Rattle.std.specs.Prelude.{◌≡◌, ◌++◌, ◌+◌, ◌<◌, ◌^◌, IfOk, OnOk, codes, string_bytes};
 ghost use Rattle.xt_map.specs.Memory.{constant_byte};
-ghost use Rattle.xt_fetch.specs.Fetching.{fetched};
+ghost use Rattle.xt_fetch.specs.Fetching.{fetch_at};
 ghost use Rattle.xt_core.specs.Runs.{IsRunOf};
-ghost use Rattle.xt_image.specs.Parts.{IsWellFormed};
-ghost use Rattle.xt_use_report.specs.Texts.{broken_text, held_text, insn_text, lack_text, lacks_text, listed_at, uses_text, whole_text};
-ghost use Rattle.xt_use_report.specs.Told.{IsUsesTold};
+ghost use Rattle.xt_image.specs.ImageParts.{IsWellFormed};
+ghost use Rattle.xt_use_report.specs.UsesText.{broken_text, held_text, insn_text, lack_text, lacks_text, listed_at, uses_text, whole_text};
+ghost use Rattle.xt_use_report.specs.UseFindings.{IsUsesTold};
 
 use crate::report::uses_of;
 use std::alloc::{AllocError, Global};
@@ -34,7 +34,7 @@ fn push_listed(out: &mut String, code: &Constants, pc: u32) -> Result<(), AllocE
 
 // The line of the instruction that an address fetches, if any.
 fn insn_text(alloc: Global, code: &Constants, pc: u32) -> Result<String, AllocError>
-    ensures { IfOk result (λ text. string_bytes text ≡ insn_text (fetched (constant_byte code.now) pc) (constant_byte code.now) pc) }
+    ensures { IfOk result (λ text. string_bytes text ≡ insn_text (fetch_at (constant_byte code.now) pc) (constant_byte code.now) pc) }
 {
     let mut out = String::new(alloc);
     match instruction_at::<Uses>(code, pc) {
@@ -112,7 +112,7 @@ fn none_text(alloc: Global) -> Result<Text, AllocError>
 }
 
 // Appends the line of what is carried.
-#[tactic(auto, unfolding(crate::specs::Texts::whole_text))]
+#[tactic(auto, unfolding(crate::specs::UsesText::whole_text))]
 fn push_whole(out: &mut String, carried0: u32, carried1: u32) -> Result<(), AllocError>
     ensures { OnOk result (string_bytes out.new ≡ string_bytes out.old ++ whole_text carried0 carried1) }
 {

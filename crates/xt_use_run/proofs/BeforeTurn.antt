@@ -5,7 +5,7 @@ use Rattle.xt_map.specs.declared.contents.MemoryContents.{MemoryContents}
 use Rattle.xt_map.specs.History.{memory_after}
 use Rattle.xt_map.specs.Memory.{byte_at}
 use Rattle.xt_exec.specs.State.{State, opening_state}
-use Rattle.xt_exec.specs.Laws.{IsShaped}
+use Rattle.xt_exec.specs.TurnLaws.{IsShaped}
 use Rattle.xt_frames.specs.Breaches.{Bounds}
 use Rattle.xt_frames.specs.Frames.{opening_frame}
 use Rattle.xt_frames.specs.HandlerSteps.{Mode, Plain}

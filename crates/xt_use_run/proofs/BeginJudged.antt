@@ -8,11 +8,11 @@ use Rattle.xt_trace.specs.declared.record.StepRecord.{StepRecord}
 use Rattle.xt_frames.specs.HandlerSteps.{Handles, returns}
 use Rattle.xt_fetch.specs.Code.{AreBytes}
 use Rattle.xt_exec.specs.State.{State}
-use Rattle.xt_exec.specs.Laws.{IsShaped}
-use Rattle.xt_exec.specs.Turn.{planned}
+use Rattle.xt_exec.specs.TurnLaws.{IsShaped}
+use Rattle.xt_exec.specs.Turn.{planned_turn}
 use Rattle.xt_frames.specs.Frames.{FrameState}
-use Rattle.xt_frames.specs.FrameStep.{FrameTurn, laid}
-use Rattle.xt_frames.specs.Nesting.{begun, is_nesting}
+use Rattle.xt_frames.specs.FrameStep.{FrameTurn, with_inputs}
+use Rattle.xt_frames.specs.Nesting.{nested_entry, is_nesting}
 use Rattle.xt_frames.specs.Breaches.{Bounds, inputs_of, touches_save_area}
 use Rattle.xt_simulation.proofs.Judges.{record_access}
 use Rattle.xt_uses.specs.UseBreaches.{swaps_unknown}
@@ -39,13 +39,13 @@ begin_last code kind_.Insn pc e = absurd (false≢true e)
 begin_last code _ pc e = refl
 
 pub begin_judged : (code : ℕ → ℕ) → AreBytes code → (b : Bounds) → IsGood code b → (m : MemoryContents) (s : State) (us : UseState) (live : ℕ → Bool) (kb : ℕ → ℕ) (fresh : Bool) {f : FrameState} (e : Entered)
-    → InCore code Handles m b fresh s f e → Knows f us → us.frame.nested ≡ None → IsShaped s → is_nesting (planned code s).kind ≡ true
+    → InCore code Handles m b fresh s f e → Knows f us → us.frame.nested ≡ None → IsShaped s → is_nesting (planned_turn code s).kind ≡ true
     → InnerUse code b m s e.opened s live kb (full_step code true (record_now code m s) kb us)
 begin_judged code bytes b good m s us live kb fresh {f = f} e h kn sn shaped nesting =
     let rec : StepRecord = record_now code m s in
     let kind : is_nesting rec.kind ≡ true = nesting_now code m s nesting in
     let u : FrameTurn = step_on code true rec f in
-    let framed : u ≡ begun (laid (inputs_of rec) f) = step_begins code rec f kind h.1 in
+    let framed : u ≡ nested_entry (with_inputs (inputs_of rec) f) = step_begins code rec f kind h.1 in
     let follows : Follows (full_step code true rec kb us) u = subst (λ z. Follows z u) (sym (use_begins code rec kb us kind sn)) (subst (Follows _) (sym framed) (begin_follows kn (inputs_of rec))) in
     let same = begin_matches code m s f nesting h.1 m in
     let asked : rec.access ≡ None = record_access code s (reply_now code m s) ∙ no_access code m s f nesting h.1 in
@@ -53,6 +53,6 @@ begin_judged code bytes b good m s us live kb fresh {f = f} e h kn sn shaped nes
       fits = record_fits (ap (touches_save_area live) asked) (ap (swaps_unknown kb) asked) same.kind same.write same.access follows;
       frame = u.after;
       left = as_left e.before s (state_now code m s);
-      next = StaysIn (begin_last code (planned code s).kind s.control.pc nesting) (begin_core code bytes b good m s shaped f e fresh h kn.unset.size nesting);
+      next = StaysIn (begin_last code (planned_turn code s).kind s.control.pc nesting) (begin_core code bytes b good m s shaped f e fresh h kn.unset.size nesting);
       knows = follows.knows;
     }

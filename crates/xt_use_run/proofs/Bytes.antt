@@ -10,10 +10,10 @@ use Rattle.xt_map.specs.declared.contents.MemoryContents.{MemoryContents}
 use Rattle.xt_map.specs.Memory.{byte_at, bytes_at, little_endian}
 use Rattle.xt_map.proofs.Alike.{size_small}
 use Rattle.xt_map.specs.Regions.{is_mapped, is_memory, is_size, is_uart, kind_fits, region_of, uart_takes}
-use Rattle.xt_map.specs.Serving.{number_at, replied, reply_to}
+use Rattle.xt_map.specs.Serving.{number_at, access_reply, reply_to}
 use Rattle.xt_map.specs.Touching.{IsMemory, is_store}
 use Rattle.xt_frames.specs.Breaches.{some_byte}
-use Rattle.xt_uses.specs.Words.{all_bits, cut, flipped}
+use Rattle.xt_uses.specs.Words.{all_bits, masked, complement}
 use Rattle.xt_uses.specs.UseBreaches.{swaps_unknown}
 use Rattle.xt_uses.specs.UseStep.{reply_mask, unknown_bits}
 use Rattle.xt_uses.specs.UseLaws.{AgreeIn, IsAnswered}
@@ -64,16 +64,16 @@ module _ (kb : ℕ → ℕ) (real framed : MemoryContents) (r : IsMemory real) (
   number_small m q zero a i h = bit_at-zero i
   number_small m q (suc n) a i h = high_bit (byte_at m a) (little_endian (bytes_at m (a + 1) n)) i (q.small a) (omega arith) ∙ number_small m q n (a + 1) (i - 8) (omega arith)
 
-  numbers_agree : (n a : ℕ) → n ≤ 4 → AgreeIn (flipped (unknown_bits kb a n)) (number_at real a n) (number_at framed a n)
+  numbers_agree : (n a : ℕ) → n ≤ 4 → AgreeIn (complement (unknown_bits kb a n)) (number_at real a n) (number_at framed a n)
   numbers_agree n a small =
-      agree_from (flipped (unknown_bits kb a n)) (number_at real a n) (number_at framed a n)
+      agree_from (complement (unknown_bits kb a n)) (number_at real a n) (number_at framed a n)
       (λ i one. ⊎_elim
       (λ low. number_bits n a i (let f = flipped_at (unknown_bits kb a n) i low in omega (arith, f, one, bit_at-lt (unknown_bits kb a n) i)))
       (λ high. number_small real r n a i (omega arith) ∙ sym (number_small framed w n a i (omega arith)))
       (cases_lt i 32))
 
   -- the reply to a store is 0
-  replied_agree : (t : Bool) (mask : ℕ) (k : Kind) (n p : ℕ) → t ≡ true → AgreeIn mask n p → AgreeIn (cond (t && not (is_store k)) mask all_bits) (replied k n) (replied k p)
+  replied_agree : (t : Bool) (mask : ℕ) (k : Kind) (n p : ℕ) → t ≡ true → AgreeIn mask n p → AgreeIn (cond (t && not (is_store k)) mask all_bits) (access_reply k n) (access_reply k p)
   replied_agree t mask Load n p memory h = subst (λ (b : Bool). AgreeIn (cond (b && true) mask all_bits) n p) (sym memory) h
   replied_agree t mask (Store v) n p memory h = refl
   replied_agree t mask (Cas expected new) n p memory h = subst (λ (b : Bool). AgreeIn (cond (b && true) mask all_bits) n p) (sym memory) h
@@ -82,14 +82,14 @@ module _ (kb : ℕ → ℕ) (real framed : MemoryContents) (r : IsMemory real) (
   pub reply_fits : (access : Access) → is_mapped access ≡ true → AgreeIn (reply_mask kb (Some access)) (reply_to real access) (reply_to framed access)
   unfolding reply_to
   reply_fits access mapped = ⊎_elim
-      (λ uart. ap (cut (reply_mask kb (Some access))) (cond-true (is_uart access.addr) 0 (replied access.kind (number_at real access.addr access.size)) uart ∙ sym (cond-true (is_uart access.addr) 0 (replied access.kind (number_at framed access.addr access.size)) uart)))
+      (λ uart. ap (masked (reply_mask kb (Some access))) (cond-true (is_uart access.addr) 0 (access_reply access.kind (number_at real access.addr access.size)) uart ∙ sym (cond-true (is_uart access.addr) 0 (access_reply access.kind (number_at framed access.addr access.size)) uart)))
       (λ other.
       let memory : is_memory (region_of access.addr) ≡ true = memory_is access mapped other in
-      let a = cond-false (is_uart access.addr) 0 (replied access.kind (number_at real access.addr access.size)) other in
-      let b = cond-false (is_uart access.addr) 0 (replied access.kind (number_at framed access.addr access.size)) other in
-      let here : AgreeIn (reply_mask kb (Some access)) (replied access.kind (number_at real access.addr access.size)) (replied access.kind (number_at framed access.addr access.size)) =
-      replied_agree (is_memory (region_of access.addr)) (flipped (unknown_bits kb access.addr access.size)) access.kind (number_at real access.addr access.size) (number_at framed access.addr access.size) memory (numbers_agree access.size access.addr (size_small access mapped)) in
-      ap (cut (reply_mask kb (Some access))) a ∙ (here ∙ sym (ap (cut (reply_mask kb (Some access))) b)))
+      let a = cond-false (is_uart access.addr) 0 (access_reply access.kind (number_at real access.addr access.size)) other in
+      let b = cond-false (is_uart access.addr) 0 (access_reply access.kind (number_at framed access.addr access.size)) other in
+      let here : AgreeIn (reply_mask kb (Some access)) (access_reply access.kind (number_at real access.addr access.size)) (access_reply access.kind (number_at framed access.addr access.size)) =
+      replied_agree (is_memory (region_of access.addr)) (complement (unknown_bits kb access.addr access.size)) access.kind (number_at real access.addr access.size) (number_at framed access.addr access.size) memory (numbers_agree access.size access.addr (size_small access mapped)) in
+      ap (masked (reply_mask kb (Some access))) a ∙ (here ∙ sym (ap (masked (reply_mask kb (Some access))) b)))
       (cases_Bool (is_uart access.addr))
     where
       memory_is : (x : Access) → is_mapped x ≡ true → is_uart x.addr ≡ false → is_memory (region_of x.addr) ≡ true
@@ -114,8 +114,8 @@ swap_answered kb None e = tt
 swap_answered kb (Some a) e = λ swap.
     let p : some_byte (λ b. not (eqb (kb b) 255)) a.addr a.size ≡ false = subst (λ z. (z && some_byte (λ b. not (eqb (kb b) 255)) a.addr a.size) ≡ false) swap e in
     let none : unknown_bits kb a.addr a.size ≡ 0 = none_unknown kb a.addr a.size p in
-    by_region (is_memory (region_of a.addr) && not (is_store a.kind)) (ap flipped none)
+    by_region (is_memory (region_of a.addr) && not (is_store a.kind)) (ap complement none)
   where
-    by_region : (t : Bool) → flipped (unknown_bits kb a.addr a.size) ≡ all_bits → cond t (flipped (unknown_bits kb a.addr a.size)) all_bits ≡ all_bits
+    by_region : (t : Bool) → complement (unknown_bits kb a.addr a.size) ≡ all_bits → cond t (complement (unknown_bits kb a.addr a.size)) all_bits ≡ all_bits
     by_region true h = h
     by_region false h = refl

@@ -7,8 +7,8 @@ use Rattle.xt_map.specs.Touching.{IsMemory}
 use Rattle.xt_trace.specs.declared.record.StepRecord.{StepRecord}
 use Rattle.xt_fetch.specs.Code.{AreBytes}
 use Rattle.xt_exec.specs.State.{State}
-use Rattle.xt_exec.specs.Laws.{IsShaped}
-use Rattle.xt_exec.specs.Turn.{demand, planned}
+use Rattle.xt_exec.specs.TurnLaws.{IsShaped}
+use Rattle.xt_exec.specs.Turn.{demand, planned_turn}
 use Rattle.xt_frames.specs.HandlerSteps.{Mode, Plain, Handles, Nests, closes, is_window, mode_after, returns}
 use Rattle.xt_frames.specs.Nesting.{is_nesting}
 use Rattle.xt_frames.specs.SaveAreas.{is_live}
@@ -112,11 +112,11 @@ module _ (rows : RowsAgree) (code : ℕ → ℕ) (bytes : AreBytes code) (b : Bo
   }
 
   -- in a nested interrupt, which goes on or has ended
-  inner_next : (mode : Mode) (fresh : Bool) → mode_after code mode rec ≡ cond (returns code (planned code s).kind s.control.pc) Handles Nests → is_judged mode rec.kind ≡ true → is_nested mode ≡ true
+  inner_next : (mode : Mode) (fresh : Bool) → mode_after code mode rec ≡ cond (returns code (planned_turn code s).kind s.control.pc) Handles Nests → is_judged mode rec.kind ≡ true → is_nested mode ≡ true
       → (before : FrameState) → Knows before us → AreFrames before.frames → (e : Entered) → InnerUse code b m s e.opened e.suspended live kb (full true) → CoreNext mode fresh
   inner_next mode fresh is j nested before k shaped e u =
       judged_next mode _ fresh is j (subst (λ z. RecordFits live kb rec (full z)) (sym nested) u.fits) u.frame (record e { before = u.left })
-      (onward_core code (memory_now code m s) b (next_fresh mode fresh) (state_now code m s) u.frame (record e { before = u.left }) (returns code (planned code s).kind s.control.pc) u.next)
+      (onward_core code (memory_now code m s) b (next_fresh mode fresh) (state_now code m s) u.frame (record e { before = u.left }) (returns code (planned_turn code s).kind s.control.pc) u.next)
       (subst (λ z. Knows u.frame (use_step code z rec kb us).after) (sym nested) (left_known true before k shaped u.frame u.knows))
 
   -- ---- each mode
@@ -132,7 +132,7 @@ module _ (rows : RowsAgree) (code : ℕ → ℕ) (bytes : AreBytes code) (b : Bo
       let u : JudgedUse code b (not lost) m s live kb (full false) = plain_judged rows code bytes b (not lost) s m shaped real no us (no_nested h.knows h.core.1) masks live own kb l h.knows h.core.1 (test_of Plain lost true (ap not isnt) none) in
       judged_next Plain Plain (not lost) (cond-false (is_window rec.kind) Handles Plain isnt) (ap not isnt) u.fits u.frame h.entered
       (record { ring = u.ring; spilled = u.spilled; related = u.related }, u.nested) (left_known false h.frame h.knows l.stack.shaped u.frame u.knows))
-      (cases_Bool (is_window (planned code s).kind))
+      (cases_Bool (is_window (planned_turn code s).kind))
     where
       l : Related (byte_at m) b (lost_at (not lost) h.frame) s h.frame h.core.0.ring h.core.0.spilled
       l = h.core.0.related
@@ -146,17 +146,17 @@ module _ (rows : RowsAgree) (code : ℕ → ℕ) (bytes : AreBytes code) (b : Bo
       (λ nesting.
       let j : is_judged Handles rec.kind ≡ true = ap is_nesting (kind_now code m s) ∙ nesting in
       let e : Entered = record h.entered { suspended = s } in
-      let to : mode_after code Handles rec ≡ cond (returns code (planned code s).kind s.control.pc) Handles Nests = cond-true (is_nesting rec.kind) Nests (cond (closes code rec.kind rec.pc) Plain Handles) j ∙ ap (λ z. cond z Handles Nests) (sym (begin_last code (planned code s).kind s.control.pc nesting)) in
+      let to : mode_after code Handles rec ≡ cond (returns code (planned_turn code s).kind s.control.pc) Handles Nests = cond-true (is_nesting rec.kind) Nests (cond (closes code rec.kind rec.pc) Plain Handles) j ∙ ap (λ z. cond z Handles Nests) (sym (begin_last code (planned_turn code s).kind s.control.pc nesting)) in
       inner_next Handles (not lost) to j refl h.frame h.knows (shaped_frames Handles (not lost) h) e
       (begin_judged code bytes b good m s us live kb (not lost) h.entered h.core h.knows (no_nested h.knows h.core.1) shaped nesting))
       (λ other. idle_next Handles (not lost) (ap is_nesting (kind_now code m s) ∙ other) h.frame h.entered h.knows (handles_idle code bytes b good m s shaped h.frame h.entered (not lost) h.core real other))
-      (cases_Bool (is_nesting (planned code s).kind))
+      (cases_Bool (is_nesting (planned_turn code s).kind))
 
   -- in a nested interrupt
   nests_turn : (lost : Bool) → InCoreUse code Nests m b (not lost) s us → record_use code b Nests us lost live kb rec ≡ None → CoreNext Nests (not lost)
   nests_turn lost h none =
       let y = nested_some us.masks.inner h.frame.nested us.frame.nested h.core.x h.knows.nested h.core.nested in
-      let now : returns code rec.kind rec.pc ≡ returns code (planned code s).kind s.control.pc = ap (λ k. returns code k rec.pc) (kind_now code m s) ∙ ap (returns code (planned code s).kind) (pc_now code m s) in
+      let now : returns code rec.kind rec.pc ≡ returns code (planned_turn code s).kind s.control.pc = ap (λ k. returns code k rec.pc) (kind_now code m s) ∙ ap (returns code (planned_turn code s).kind) (pc_now code m s) in
       inner_next Nests (not lost) (ap (λ z. cond z Handles Nests) now) refl refl h.frame h.knows (shaped_frames Nests (not lost) h) h.entered
       (nested_judged rows code bytes b good (not lost) m s shaped h.entered.opened h.entered.suspended us y.0 y.1 masks live own kb h.core h.knows none)
 

@@ -15,7 +15,7 @@ use Rattle.xt_simulation.proofs.Evenly.{even_flow, same_sets}
 use Rattle.xt_simulation.proofs.InnerSteps.{Elsewhere, all_spare, effect_spares}
 use Rattle.xt_uses.specs.declared.discipline.Discipline.{Discipline}
 use Rattle.xt_uses.specs.declared.words.Word.{Word}
-use Rattle.xt_uses.specs.Words.{Fits, cut}
+use Rattle.xt_uses.specs.Words.{Fits, masked}
 use Rattle.xt_uses.specs.Used.{counted_bits}
 use Rattle.xt_uses.specs.UseLaws.{AgreeIn, SetsAgree}
 use Rattle.xt_use_run.specs.Knowing.{ControlFit, ControlLeft, is_partial, with_owb, with_pointer}
@@ -77,18 +77,18 @@ module _ (o : Option (ℕ × ℕ)) {by : Discipline} {special : List ℕ} {bits 
       flow_special w.flow len (record { pc = k.pc; special = with_sets w.sets k.special; ps = w.ps; threadptr = w.threadptr; waits = w.waits }) n other
       ∙ (ap (λ (v : SpecialWrites). get_or (with_sets v k.special) n 0) is ∙ get_or-set_same k.special n y 0 (omega (arith, size, low)))
 
-  marks_fit : (len n : ℕ) → holds_marks n ≡ true → cut (get_or (moved_masks o a.mask special) n 0) (special_of (after_effect m len c) n) ≡ special_of (after_effect e len d) n
+  marks_fit : (len n : ℕ) → holds_marks n ≡ true → masked (get_or (moved_masks o a.mask special) n 0) (special_of (after_effect m len c) n) ≡ special_of (after_effect e len d) n
   marks_fit len n h = by_row o refl
     where
-      apart : Elsewhere o n → cut (get_or (moved_masks o a.mask special) n 0) (special_of (after_effect m len c) n) ≡ special_of (after_effect e len d) n
+      apart : Elsewhere o n → masked (get_or (moved_masks o a.mask special) n 0) (special_of (after_effect m len c) n) ≡ special_of (after_effect e len d) n
       apart else =
           let saved = mark_saved n h in
           let p = effect_spares m len c n saved (all_spare o n m.sets (first n saved) else) in
           let q = effect_spares e len d n saved (all_spare o n e.sets (second n saved) else) in
           let r = masks_elsewhere o a.mask special n else in
-          ap (λ z. cut z (special_of (after_effect m len c) n)) r ∙ (ap (cut (get_or special n 0)) p ∙ (f.fits n h ∙ sym q))
+          ap (λ z. masked z (special_of (after_effect m len c) n)) r ∙ (ap (masked (get_or special n 0)) p ∙ (f.fits n h ∙ sym q))
 
-      by_row : (p : Option (ℕ × ℕ)) → o ≡ p → cut (get_or (moved_masks o a.mask special) n 0) (special_of (after_effect m len c) n) ≡ special_of (after_effect e len d) n
+      by_row : (p : Option (ℕ × ℕ)) → o ≡ p → masked (get_or (moved_masks o a.mask special) n 0) (special_of (after_effect m len c) n) ≡ special_of (after_effect e len d) n
       by_row None is = apart (subst (λ (p : Option (ℕ × ℕ)). Elsewhere p n) (sym is) tt)
       by_row (Some p) is = ⊎_elim
           (λ same.
@@ -100,7 +100,7 @@ module _ (o : Option (ℕ × ℕ)) {by : Discipline} {special : List ℕ} {bits 
           let r : special_of (after_effect e len d) n ≡ a.value = set_value e len n a.value d (sym f.even.special.size ∙ count) low apart (subst (λ k. e.sets ≡ (set_to k a.value, no_set, no_set)) same (gives_too p is h2)) in
           let z : get_or (moved_masks o a.mask special) n 0 ≡ a.mask =
           ap (λ (p : Option (ℕ × ℕ)). get_or (moved_masks p a.mask special) n 0) is ∙ (ap (λ k. get_or (set special k a.mask) n 0) same ∙ get_or-set_same special n a.mask 0 (omega arith)) in
-          ap (λ k. cut k (special_of (after_effect m len c) n)) z ∙ (ap (cut a.mask) q ∙ (word ∙ sym r)))
+          ap (λ k. masked k (special_of (after_effect m len c) n)) z ∙ (ap (masked a.mask) q ∙ (word ∙ sym r)))
           (λ other. apart (subst (λ (p : Option (ℕ × ℕ)). Elsewhere p n) (sym is) other))
           (cases_eq p.1 n)
 
@@ -143,7 +143,7 @@ module _ (o : Option (ℕ × ℕ)) {by : Discipline} {special : List ℕ} {bits 
           let q : special_of (after_effect m len c) n ≡ k.0 = set_value m len n k.0 c count (omega arith) (λ z. omega arith) (subst (λ j. m.sets ≡ (set_to j k.0, no_set, no_set)) same both.0) in
           let r : special_of (after_effect e len d) n ≡ k.1 = set_value e len n k.1 d (sym f.even.special.size ∙ count) (omega arith) (λ z. omega arith) (subst (λ j. e.sets ≡ (set_to j k.1, no_set, no_set)) same both.1) in
           let agree : AgreeIn (counted_bits by n) k.0 k.1 = subst (λ j. AgreeIn (counted_bits by j) k.0 k.1) same both.2 in
-          ap (cut (counted_bits by n)) q ∙ (agree ∙ sym (ap (cut (counted_bits by n)) r)))
+          ap (masked (counted_bits by n)) q ∙ (agree ∙ sym (ap (masked (counted_bits by n)) r)))
           (λ other. apart (subst (λ (p : Option (ℕ × ℕ)). Elsewhere p n) (sym is) other))
           (cases_eq p.1 n)
 
@@ -168,10 +168,10 @@ module _ (o : Option (ℕ × ℕ)) {by : Discipline} {special : List ℕ} {bits 
       subst (λ n. Even is_partial (after_effect m len c) (with_pointer (after_effect m len c).threadptr (with_owb n (after_effect e len d)))) (sym (ap (λ (q : Ps). q.owb) (effect_ps m len c)))
       (subst (λ t. Even is_partial (after_effect m len c) (with_pointer t (with_owb m.ps.owb (after_effect e len d)))) (sym (effect_pointer m len c)) (effect_even len ps flow waits))
 
-  pub effect_fits : (len pointer : ℕ) → x < 2 ^ 32 → m.ps ≡ record e.ps { owb = m.ps.owb } → m.flow ≡ e.flow → m.waits ≡ e.waits → cut pointer m.threadptr ≡ e.threadptr → ControlLeft by (moved_masks o a.mask special) pointer (after_effect m len c) (after_effect e len d)
+  pub effect_fits : (len pointer : ℕ) → x < 2 ^ 32 → m.ps ≡ record e.ps { owb = m.ps.owb } → m.flow ≡ e.flow → m.waits ≡ e.waits → masked pointer m.threadptr ≡ e.threadptr → ControlLeft by (moved_masks o a.mask special) pointer (after_effect m len c) (after_effect e len d)
   effect_fits len pointer small ps flow waits cuts = record {
     even = told_even len ps flow waits;
-    pointer = ap (cut pointer) (effect_pointer m len c) ∙ (cuts ∙ sym (effect_pointer e len d));
+    pointer = ap (masked pointer) (effect_pointer m len c) ∙ (cuts ∙ sym (effect_pointer e len d));
     spread = masks_length o a.mask special ∙ f.spread;
     words = λ n h. words_stay len n small h;
     fits = marks_fit len;

@@ -6,10 +6,10 @@ use Rattle.xt_isa.specs.declared.Insn.TheVariants as insn
 use Rattle.xt_isa.specs.declared.shift.Shift.TheVariants as shift
 use Rattle.xt_special.specs.Interrupts.{pending_of}
 use Rattle.xt_trace.specs.declared.record.StepRecord.{StepRecord}
-use Rattle.xt_fetch.specs.Fetching.{Fetched, Fetches, Fails, SpellsNothing, fetched}
+use Rattle.xt_fetch.specs.Fetching.{Fetched, Fetches, Fails, SpellsNothing, fetch_at}
 use Rattle.xt_rows.specs.Kinds.{is_movsp}
 use Rattle.xt_frames.specs.Frames.{FrameState}
-use Rattle.xt_frames.specs.FrameStep.{FrameTurn, fetched_step, laid_step}
+use Rattle.xt_frames.specs.FrameStep.{FrameTurn, fetched_step, step_with_inputs}
 use Rattle.xt_frames.specs.Breaches.{Bounds, first_shown, other_tests, vector_test}
 use Rattle.xt_frames.proofs.Shown.{NoneShown, none_shown}
 use Rattle.xt_frames.proofs.StackSteps.{step_fetches}
@@ -23,7 +23,7 @@ pub laid_pends : (b : Bounds) (fresh : Bool) (code : ℕ → ℕ) (live : ℕ �
 unfolding laid_use
 laid_pends b fresh code live kb rec s h e = cond-true (ltb 0 (pending_of h.control) || h.control.waits) _ _ e
 
-laid_fetches : (b : Bounds) (fresh : Bool) (code : ℕ → ℕ) (live : ℕ → Bool) (kb : ℕ → ℕ) (rec : StepRecord) (s : UseState) (h : FrameState) → (ltb 0 (pending_of h.control) || h.control.waits) ≡ false → laid_use b fresh code live kb rec s h ≡ first_shown (fetched_uses b fresh live kb (fetched code h.control.pc) rec s h (laid_step code rec.reply h))
+laid_fetches : (b : Bounds) (fresh : Bool) (code : ℕ → ℕ) (live : ℕ → Bool) (kb : ℕ → ℕ) (rec : StepRecord) (s : UseState) (h : FrameState) → (ltb 0 (pending_of h.control) || h.control.waits) ≡ false → laid_use b fresh code live kb rec s h ≡ first_shown (fetched_uses b fresh live kb (fetch_at code h.control.pc) rec s h (step_with_inputs code rec.reply h))
 unfolding laid_use
 laid_fetches b fresh code live kb rec s h e = cond-false (ltb 0 (pending_of h.control) || h.control.waits) _ _ e
 
@@ -42,20 +42,20 @@ moves_denied {b = b} {fresh = fresh} {live = live} {kb = kb} i {rec = rec} {us =
     (form.1, (same, subst (λ j. Denied b fresh live kb j rec us h v) same d))
 
 module _ (b : Bounds) (fresh : Bool) (code : ℕ → ℕ) (live : ℕ → Bool) (kb : ℕ → ℕ) (rec : StepRecord) (us : UseState) (h : FrameState) (still : ltb 0 (pending_of h.control) ≡ false) (awake : h.control.waits ≡ false) (none : laid_use b fresh code live kb rec us h ≡ None) where
-  shown_at : (at : Fetched) → fetched code h.control.pc ≡ at → first_shown (fetched_uses b fresh live kb at rec us h (laid_step code rec.reply h)) ≡ None
-  shown_at at e = ap (λ z. first_shown (fetched_uses b fresh live kb z rec us h (laid_step code rec.reply h))) (sym e) ∙ (sym (laid_fetches b fresh code live kb rec us h (or_from _ _ still awake)) ∙ none)
+  shown_at : (at : Fetched) → fetch_at code h.control.pc ≡ at → first_shown (fetched_uses b fresh live kb at rec us h (step_with_inputs code rec.reply h)) ≡ None
+  shown_at at e = ap (λ z. first_shown (fetched_uses b fresh live kb z rec us h (step_with_inputs code rec.reply h))) (sym e) ∙ (sym (laid_fetches b fresh code live kb rec us h (or_from _ _ still awake)) ∙ none)
 
-  pub row_denied : (i : Insn) (len : ℕ) → fetched code h.control.pc ≡ Fetches i len → Denied b fresh live kb i rec us h (fetched_step (Fetches i len) code rec.reply h)
+  pub row_denied : (i : Insn) (len : ℕ) → fetch_at code h.control.pc ≡ Fetches i len → Denied b fresh live kb i rec us h (fetched_step (Fetches i len) code rec.reply h)
   row_denied i len e =
-      let step : laid_step code rec.reply h ≡ fetched_step (Fetches i len) code rec.reply h = step_fetches code rec.reply h still awake ∙ ap (λ z. fetched_step z code rec.reply h) e in
+      let step : step_with_inputs code rec.reply h ≡ fetched_step (Fetches i len) code rec.reply h = step_fetches code rec.reply h still awake ∙ ap (λ z. fetched_step z code rec.reply h) e in
       denied b fresh live kb i rec us h (fetched_step (Fetches i len) code rec.reply h) (subst (λ (z : FrameTurn). first_shown (fetched_uses b fresh live kb (Fetches i len) rec us h z) ≡ None) step (shown_at (Fetches i len) e))
 
   -- nothing is fetched, or no instruction
   abbrev Others : Type 0
-  Others = NoneShown (use_tests false (swaps_unknown kb rec.access) false (other_tests b live nowhere rec h (laid_step code rec.reply h)))
+  Others = NoneShown (use_tests false (swaps_unknown kb rec.access) false (other_tests b live nowhere rec h (step_with_inputs code rec.reply h)))
 
-  pub fails_shown : (a : ℕ) → fetched code h.control.pc ≡ Fails a → Others
-  fails_shown a e = none_shown (use_tests false (swaps_unknown kb rec.access) false (other_tests b live nowhere rec h (laid_step code rec.reply h))) (shown_at (Fails a) e)
+  pub fails_shown : (a : ℕ) → fetch_at code h.control.pc ≡ Fails a → Others
+  fails_shown a e = none_shown (use_tests false (swaps_unknown kb rec.access) false (other_tests b live nowhere rec h (step_with_inputs code rec.reply h))) (shown_at (Fails a) e)
 
-  pub spells_shown : fetched code h.control.pc ≡ SpellsNothing → Others
-  spells_shown e = none_shown (use_tests false (swaps_unknown kb rec.access) false (other_tests b live nowhere rec h (laid_step code rec.reply h))) (shown_at SpellsNothing e)
+  pub spells_shown : fetch_at code h.control.pc ≡ SpellsNothing → Others
+  spells_shown e = none_shown (use_tests false (swaps_unknown kb rec.access) false (other_tests b live nowhere rec h (step_with_inputs code rec.reply h))) (shown_at SpellsNothing e)

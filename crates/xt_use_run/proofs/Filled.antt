@@ -7,7 +7,7 @@ use Rattle.std.proofs.lemmas.Bool.{cases_eq}
 use Rattle.std.proofs.lemmas.List.{get_or-set_same, get_or-set_other, length-set}
 use Rattle.xt_window.specs.Ring.{place, visible}
 use Rattle.xt_exec.specs.State.{State}
-use Rattle.xt_frames.specs.Frames.{Frame, FrameState, known, moved}
+use Rattle.xt_frames.specs.Frames.{Frame, FrameState, value_or_zero, windows_moved}
 use Rattle.xt_frames.specs.Breaches.{Bounds}
 use Rattle.xt_simulation.specs.Ring.{Windows}
 use Rattle.xt_simulation.specs.Cores.{Related}
@@ -21,11 +21,11 @@ use Rattle.xt_use_run.proofs.Seen.{filled}
 abbrev pub with_seen : ℕ → ℕ → FrameState → FrameState
 with_seen r v f = record f { seen = set f.seen r (Some v) }
 
-module _ {b : Bounds} {m : ℕ → ℕ} {lost : ℕ → Bool} {s : State} {f : FrameState} {ring spilled : List Frame} (l : Related m b lost s f ring spilled) (r : ℕ) (narrow : r < 16) (room : moved ring + r / 4 < 16) where
+module _ {b : Bounds} {m : ℕ → ℕ} {lost : ℕ → Bool} {s : State} {f : FrameState} {ring spilled : List Frame} (l : Related m b lost s f ring spilled) (r : ℕ) (narrow : r < 16) (room : windows_moved ring + r / 4 < 16) where
   abbrev real : ℕ
   real = visible s.regs s.base r
 
-  w : Windows s.regs s.base s.start f.seen ring (moved spilled)
+  w : Windows s.regs s.base s.start f.seen ring (windows_moved spilled)
   w = l.plain.windows
 
   set_seen : (i v : ℕ) → get_or (set f.seen r (Some real)) i None ≡ Some v → ((i ≡ r) × (real ≡ v)) ⊎ ((i ≢ r) × (get_or f.seen i None ≡ Some v))
@@ -38,7 +38,7 @@ module _ {b : Bounds} {m : ℕ → ℕ} {lost : ℕ → Bool} {s : State} {f : F
       (λ other. inr (other, sym (get_or-set_other f.seen r i (Some real) None other) ∙ e))
       (cases_eq i r)
 
-  pub filled_windows : Windows s.regs s.base s.start (set f.seen r (Some real)) ring (moved spilled)
+  pub filled_windows : Windows s.regs s.base s.start (set f.seen r (Some real)) ring (windows_moved spilled)
   filled_windows = record {
     size = w.size;
     wide = length-set f.seen r (Some real) ∙ w.wide;
@@ -49,28 +49,28 @@ module _ {b : Bounds} {m : ℕ → ℕ} {lost : ℕ → Bool} {s : State} {f : F
     kept = w.kept;
     visible = λ i v e. ⊎_elim
         (λ h.
-        let p : place s.base r ≡ place (moved ring + moved spilled) r = place_at s.base (moved ring + moved spilled) r (let d = w.based in omega arith) in
-        subst (λ j. get_or s.regs (place (moved ring + moved spilled) j) 0 ≡ v) (sym h.0) (ap (λ z. get_or s.regs z 0) (sym p) ∙ h.1))
+        let p : place s.base r ≡ place (windows_moved ring + windows_moved spilled) r = place_at s.base (windows_moved ring + windows_moved spilled) r (let d = w.based in omega arith) in
+        subst (λ j. get_or s.regs (place (windows_moved ring + windows_moved spilled) j) 0 ≡ v) (sym h.0) (ap (λ z. get_or s.regs z 0) (sym p) ∙ h.1))
         (λ h. w.visible i v h.1)
         (set_seen i v e);
     room = λ i v e. ⊎_elim
-        (λ h. subst (λ j. moved ring + j / 4 < 16) (sym h.0) room)
+        (λ h. subst (λ j. windows_moved ring + j / 4 < 16) (sym h.0) room)
         (λ h. w.room i v h.1)
         (set_seen i v e);
   }
 
   -- a1 has its number
-  same_sp : known (set f.seen r (Some real)) 1 ≡ known f.seen 1
+  same_sp : value_or_zero (set f.seen r (Some real)) 1 ≡ value_or_zero f.seen 1
   same_sp = ⊎_elim
       (λ one.
       let wide = w.wide in
       let at : get_or (set f.seen 1 (Some real)) 1 None ≡ Some real = get_or-set_same f.seen 1 (Some real) None (omega arith) in
-      let v : visible s.regs s.base 1 ≡ known f.seen 1 = visible_value w 1 (known f.seen 1) l.stack.sp in
-      ap (λ j. known (set f.seen j (Some real)) 1) one ∙ (ap (λ (o : Option ℕ). unwrap_or o 0) at ∙ (ap (visible s.regs s.base) one ∙ v)))
+      let v : visible s.regs s.base 1 ≡ value_or_zero f.seen 1 = visible_value w 1 (value_or_zero f.seen 1) l.stack.sp in
+      ap (λ j. value_or_zero (set f.seen j (Some real)) 1) one ∙ (ap (λ (o : Option ℕ). unwrap_or o 0) at ∙ (ap (visible s.regs s.base) one ∙ v)))
       (λ other. ap (λ (o : Option ℕ). unwrap_or o 0) (get_or-set_other f.seen r 1 (Some real) None (λ e. other (sym e))))
       (cases_eq r 1)
 
-  sp_there : get_or (set f.seen r (Some real)) 1 None ≡ Some (known (set f.seen r (Some real)) 1)
+  sp_there : get_or (set f.seen r (Some real)) 1 None ≡ Some (value_or_zero (set f.seen r (Some real)) 1)
   sp_there = ⊎_elim
       (λ one.
       let wide = w.wide in

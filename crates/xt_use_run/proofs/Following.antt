@@ -15,16 +15,16 @@ use Rattle.xt_trace.specs.declared.record.StepRecord.{StepRecord}
 use Rattle.xt_fetch.specs.Fetching.{Fetched, Fetches}
 use Rattle.xt_rows.specs.Kinds.{is_entry, is_return, moved_to}
 use Rattle.xt_frames.specs.Frames.{FrameState, seen_after_write}
-use Rattle.xt_frames.specs.FrameStep.{FrameTurn, Inputs, laid}
+use Rattle.xt_frames.specs.FrameStep.{FrameTurn, Inputs, with_inputs}
 use Rattle.xt_frames.specs.Marks.{unset_written}
 use Rattle.xt_frames.specs.Nesting.{unset_after}
 use Rattle.xt_frames.specs.Breaches.{touches_save_area}
 use Rattle.xt_frames.specs.declared.holes.Nested.{Nested}
 use Rattle.xt_frames.proofs.Shown.{KeepsSp, sp_written}
 use Rattle.xt_uses.specs.Words.{all_bits}
-use Rattle.xt_uses.specs.UseState.{Masks, UseState, current_masks, first_word, second_word}
+use Rattle.xt_uses.specs.UseState.{ValidityBits, UseState, current_masks, first_word, second_word}
 use Rattle.xt_uses.specs.UseBreaches.{swaps_unknown}
-use Rattle.xt_uses.specs.UseStep.{UseTurn, called, cut_seen, cut_state, cut_write, executed, frames_moved, insn_turn, masks_past, pointer_written, returned, special_written, use_turn, visible_written}
+use Rattle.xt_uses.specs.UseStep.{UseTurn, bits_after_call, cut_seen, cut_state, cut_write, step_insn, frames_moved, insn_turn, masks_past, pointer_written, bits_after_return, special_written, use_turn, visible_written}
 use Rattle.xt_uses.specs.UseLaws.{AccessFits, IsSent, KindFits, KindsAgree, WriteFits, WritesAgree, pointer_mask}
 use Rattle.xt_use_run.specs.Knowing.{ControlLeft, Follows, Knows, NowFit, SeenFit, UnsetFit}
 use Rattle.xt_use_run.proofs.Effects.{moved_masks}
@@ -63,10 +63,10 @@ with_unset unset u = record u { after = record u.after { unset = unset } }
 
 module _ {f : FrameState} {s : UseState} (k : Knows f s) (fn : f.nested ≡ None) (sn : s.frame.nested ≡ None) (inp : Inputs) where
   abbrev g : FrameState
-  g = laid inp f
+  g = with_inputs inp f
 
   abbrev h : FrameState
-  h = laid inp s.frame
+  h = with_inputs inp s.frame
 
   pub plain_masks : current_masks s ≡ s.masks.seen
   plain_masks = ap (λ (o : Option Nested). cond (is_some o) s.masks.inner s.masks.seen) sn
@@ -86,7 +86,7 @@ module _ {f : FrameState} {s : UseState} (k : Knows f s) (fn : f.nested ≡ None
       let x = (first_word i s h).mask in
       let n = h.control.ps.callinc in
       let m = s.masks in
-      let a : frames_moved i n m ≡ m = cond-false (is_entry i) (called n m) (cond (is_return i) (returned m.kept m) m) no_entry ∙ cond-false (is_return i) (returned m.kept m) m no_return in
+      let a : frames_moved i n m ≡ m = cond-false (is_entry i) (bits_after_call n m) (cond (is_return i) (bits_after_return m.kept m) m) no_entry ∙ cond-false (is_return i) (bits_after_return m.kept m) m no_return in
       ap (λ (o : Option Nested). visible_written (is_some o) u.write mask (pointer_written i x (special_written (moved_to i) x (frames_moved i n m)))) sn
       ∙ (ap (λ z. visible_written false u.write mask (pointer_written i x (special_written (moved_to i) x z))) a
       ∙ (ap (λ z. visible_written false u.write mask (pointer_written i x z)) (special_is (moved_to i) x m)
@@ -110,7 +110,7 @@ module _ {f : FrameState} {s : UseState} (k : Knows f s) (fn : f.nested ≡ None
   ordinary_after : (i : Insn) (mask : ℕ) (u v : FrameTurn) (us vs : List Bool) → Ordinary i s g h mask u v → IsVisible u.write → KeepsSp u.write → UnsetFit (moved_masks (moved_to i) (first_word i s h).mask s.masks.special) us vs
       → Knows (record u.after { unset = us }) (record { frame = cut_state mask v.write v.after.nested (record v.after { unset = vs }); masks = masks_past i mask s h (with_unset vs v) })
   ordinary_after i mask u v us vs o low keeps unset =
-      let m : Masks = record s.masks { seen = written_list v.write mask s.masks.seen; special = moved_masks (moved_to i) (first_word i s h).mask s.masks.special; threadptr = pointer_mask i (first_word i s h).mask s.masks.threadptr } in
+      let m : ValidityBits = record s.masks { seen = written_list v.write mask s.masks.seen; special = moved_masks (moved_to i) (first_word i s h).mask s.masks.special; threadptr = pointer_mask i (first_word i s h).mask s.masks.threadptr } in
       let before : Knows (record g { seen = seen_after_write u.write g.seen; control = u.after.control; unset = us }) (record { frame = record h { seen = cut_seen mask v.write (seen_after_write v.write h.seen); control = v.after.control; unset = vs }; masks = m }) =
       past i mask u.write v.write u.after.control v.after.control us vs o.write low keeps m.special m.threadptr o.control unset in
       let at : FrameState = record h { seen = seen_after_write v.write h.seen; control = v.after.control } in
@@ -120,7 +120,7 @@ module _ {f : FrameState} {s : UseState} (k : Knows f s) (fn : f.nested ≡ None
       subst (λ (z : FrameState). Knows (record z { unset = us }) (record { frame = cut_state mask v.write at.nested (record at { unset = vs }); masks = m })) (sym o.is) open_ in
       let second : Knows (record u.after { unset = us }) (record { frame = cut_state mask v.write v.after.nested (record v.after { unset = vs }); masks = m }) =
       subst (λ (z : FrameState). Knows (record u.after { unset = us }) (record { frame = cut_state mask v.write z.nested (record z { unset = vs }); masks = m })) (sym o.is_too) first in
-      subst (λ (z : Masks). Knows (record u.after { unset = us }) (record { frame = cut_state mask v.write v.after.nested (record v.after { unset = vs }); masks = z })) (sym (masks_is i mask (with_unset vs v) o.no_entry o.no_return)) second
+      subst (λ (z : ValidityBits). Knows (record u.after { unset = us }) (record { frame = cut_state mask v.write v.after.nested (record v.after { unset = vs }); masks = z })) (sym (masks_is i mask (with_unset vs v) o.no_entry o.no_return)) second
 
   abbrev result : Insn → ℕ → ℕ
   result i r = (insn_turn i r s h (record { kind = step.Insn; write = None; access = None; after = h })).mask
@@ -139,11 +139,11 @@ module _ {f : FrameState} {s : UseState} (k : Knows f s) (fn : f.nested ≡ None
   }
 
   pub ordinary_follows : (i : Insn) (len r : ℕ) (u v : FrameTurn) → Ordinary i s g h (result i r) u v → IsVisible u.write → KeepsSp u.write
-      → Follows (use_turn (executed v.kind (Fetches i len)) r s h (with_unset (unset_after v.kind (Fetches i len) s.frame.unset) v)) (with_unset (unset_after u.kind (Fetches i len) f.unset) u)
-  unfolding executed
+      → Follows (use_turn (step_insn v.kind (Fetches i len)) r s h (with_unset (unset_after v.kind (Fetches i len) s.frame.unset) v)) (with_unset (unset_after u.kind (Fetches i len) f.unset) u)
+  unfolding step_insn
   ordinary_follows i len r u v o low keeps =
       let at : Fetched = Fetches i len in
-      let a : executed v.kind at ≡ Some i = ap (λ (z : StepKind). executed z at) o.kind_too in
+      let a : step_insn v.kind at ≡ Some i = ap (λ (z : StepKind). step_insn z at) o.kind_too in
       let b : unset_after v.kind at s.frame.unset ≡ unset_written i [] s.frame.unset = ap (λ (z : StepKind). unset_after z at s.frame.unset) o.kind_too in
       let c : unset_after u.kind at f.unset ≡ unset_written i [] f.unset = ap (λ (z : StepKind). unset_after z at f.unset) o.kind in
       subst (λ (z : Option Insn). Follows (use_turn z r s h (with_unset (unset_after v.kind at s.frame.unset) v)) (with_unset (unset_after u.kind at f.unset) u)) (sym a)
@@ -152,7 +152,7 @@ module _ {f : FrameState} {s : UseState} (k : Knows f s) (fn : f.nested ≡ None
 
   -- ---- no instruction is executed
   pub quiet_follows : (at : Fetched) (r : ℕ) (u v : FrameTurn) → Quiet s g h u v
-      → Follows (use_turn (executed v.kind at) r s h (with_unset (unset_after v.kind at s.frame.unset) v)) (with_unset (unset_after u.kind at f.unset) u)
+      → Follows (use_turn (step_insn v.kind at) r s h (with_unset (unset_after v.kind at s.frame.unset) v)) (with_unset (unset_after u.kind at f.unset) u)
   quiet_follows at r u v q =
       let us = unset_after u.kind at f.unset in
       let vs = unset_after v.kind at s.frame.unset in

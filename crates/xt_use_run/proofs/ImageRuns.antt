@@ -9,7 +9,7 @@ use Rattle.xt_map.specs.History.{replies_of}
 use Rattle.xt_map.specs.Touching.{IsMemory}
 use Rattle.xt_trace.specs.declared.options.Options.{Options}
 use Rattle.xt_trace.specs.declared.record.StepRecord.{StepRecord}
-use Rattle.xt_trace.specs.Runs.{IsRunOf, Opening, Run, opened, schedule_of}
+use Rattle.xt_trace.specs.Runs.{IsRunOf, Opening, Run, world_at_start, schedule_of}
 use Rattle.xt_trace.specs.Schedule.{cores_of, schedule}
 use Rattle.xt_trace.specs.Short.{IsShortRunOf, ShortRun, ShortTrace, short_schedule, short_trace}
 use Rattle.xt_trace.specs.Traces.{trace_over}
@@ -25,12 +25,12 @@ use Rattle.xt_simulation.specs.Headline.{IsRunOfImage, opening_of, records0, rec
 use Rattle.xt_simulation.proofs.Opened.{opening_is_memory, stack_shaped}
 use Rattle.xt_uses.specs.UseLaws as uses
 use Rattle.xt_uses.proofs.LaterUses.{uses_later}
-use Rattle.xt_use_run.specs.Laws.{RunsAreOrdinary, UsesOfRunsAreLater, course_of}
+use Rattle.xt_use_run.specs.UseRunLaws.{RunsAreOrdinary, UsesOfRunsAreLater, course_of}
 use Rattle.xt_use_run.proofs.OrdinaryRuns.{AreShaped, is_ordinary, tells_words}
 
 -- ---- a run's own schedule walks the records of its traces
 short_walk : (code : ℕ → ℕ) (o : Opening State) (r : ShortRun State) → IsShortRunOf (processor code) o r
-    → IsWalk (processor code) (short_schedule r) (opened o) (trace_over (processor code) o.state0 o.turns0 (replies_of 0 r.history)).records (trace_over (processor code) o.state1 o.turns1 (replies_of 1 r.history)).records
+    → IsWalk (processor code) (short_schedule r) (world_at_start o) (trace_over (processor code) o.state0 o.turns0 (replies_of 0 r.history)).records (trace_over (processor code) o.state1 o.turns1 (replies_of 1 r.history)).records
 short_walk code o r h =
     let whole : Run State = record {
       history = r.history;
@@ -40,7 +40,7 @@ short_walk code o r h =
     let is : IsRunOf (processor code) o whole = record { legal = h.legal; cores = h.cores; trace0 = refl; trace1 = refl; calls0 = h.calls0; calls1 = h.calls1 } in
     let in_order : ShortTrace State → ShortTrace State → List ℕ = λ x y. schedule (cores_of r.history) x.places x.count y.places y.count in
     let same : schedule_of whole ≡ short_schedule r = ap (λ (x : ShortTrace State). in_order x (short_trace whole.trace1)) (sym h.trace0) ∙ ap (in_order r.trace0) (sym h.trace1) in
-    subst (λ (cores : List ℕ). IsWalk (processor code) cores (opened o) whole.trace0.records whole.trace1.records) same (own_walk (processor code) o whole is)
+    subst (λ (cores : List ℕ). IsWalk (processor code) cores (world_at_start o) whole.trace0.records whole.trace1.records) same (own_walk (processor code) o whole is)
 
 -- ---- what an image that can be run opens with
 small_if : (b : Bool) (s : Segment) (o : Option Segment) (f : Segment → ℕ) → f s < 2 ^ 8 → option_map_or f o 0 < 2 ^ 8 → option_map_or f (cond b (Some s) o) 0 < 2 ^ 8
@@ -112,13 +112,13 @@ module _ (segments : List Segment) (entry : ℕ) (o : Options) (given : IsRunnab
       stack_word = let high = opening_is.stack1.high in omega (arith, high);
     }
 
-    pub image_walk : IsRunOfImage segments entry o r → IsWalk (processor (constant_byte segments)) (short_schedule r) (opened (opening_of at o.turns0 o.turns1)) (records0 at (constant_byte segments) o.turns0 r) (records1 at (constant_byte segments) o.turns1 r)
+    pub image_walk : IsRunOfImage segments entry o r → IsWalk (processor (constant_byte segments)) (short_schedule r) (world_at_start (opening_of at o.turns0 o.turns1)) (records0 at (constant_byte segments) o.turns0 r) (records1 at (constant_byte segments) o.turns1 r)
     image_walk run = short_walk (constant_byte segments) (opening_of at o.turns0 o.turns1) r run
 
     ordinary_run : IsRunOfImage segments entry o r → uses.IsOrdinary course × uses.TellsWords course × IsMemory (memory_of at)
     ordinary_run run =
         let bytes = code_bytes segments given.bytes in
-        let w = opened (opening_of at o.turns0 o.turns1) in
+        let w = world_at_start (opening_of at o.turns0 o.turns1) in
         let xs : List StepRecord = records0 at (constant_byte segments) o.turns0 r in
         let ys : List StepRecord = records1 at (constant_byte segments) o.turns1 r in (
           is_ordinary course bytes (short_schedule r) w xs ys (image_walk run) refl shaped_at core_opens,

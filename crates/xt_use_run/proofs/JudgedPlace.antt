@@ -5,12 +5,12 @@ use Rattle.std.proofs.lemmas.Bool.{cond-true, not-false}
 use Rattle.std.proofs.lemmas.Option.{same_Some}
 use Rattle.xt_map.specs.declared.contents.MemoryContents.{MemoryContents}
 use Rattle.xt_trace.specs.declared.record.StepRecord.{StepRecord}
-use Rattle.xt_fetch.specs.Fetching.{fetched}
+use Rattle.xt_fetch.specs.Fetching.{fetch_at}
 use Rattle.xt_exec.specs.State.{State}
-use Rattle.xt_exec.specs.Laws.{IsShaped}
+use Rattle.xt_exec.specs.TurnLaws.{IsShaped}
 use Rattle.xt_frames.specs.declared.holes.Nested.{Nested}
 use Rattle.xt_frames.specs.Frames.{FrameState}
-use Rattle.xt_frames.specs.FrameStep.{laid}
+use Rattle.xt_frames.specs.FrameStep.{with_inputs}
 use Rattle.xt_frames.specs.HandlerSteps.{Mode, Plain, Handles, Nests, closes, is_window, mode_after, returns}
 use Rattle.xt_frames.specs.Nesting.{begins, current, is_nesting}
 use Rattle.xt_frames.specs.Breaches.{Bounds, inputs_of, writes_epc1}
@@ -67,12 +67,12 @@ module _ (code : ℕ → ℕ) (m : MemoryContents) (b : Bounds) (s : State) (sha
       pc_now code m s ∙ (h.core.inside.even.pc ∙ (y.2 ∙ sym (place_inside rec us.frame y.0 y.1)))
 
   abbrev found : FrameState
-  found = laid (inputs_of rec) (current us.frame)
+  found = with_inputs (inputs_of rec) (current us.frame)
 
   pub fresh_is : (mode : Mode) (lost later : Bool) (t : UseTurn) → InCoreUse code mode m b (not lost) s us → is_judged mode rec.kind ≡ true → rec.kind ≡ t.turn.kind
       → InCoreUse code (mode_after code mode rec) (memory_now code m s) b later (state_now code m s) t.after → mode_after code mode rec ≡ Plain
       → fresh_next mode (not lost) (fresh_turn (not lost) code (reply_now code m s) s)
-      ≡ (writes_epc1 t.turn.kind (fetched code found.control.pc) found.control.ps || (not lost && not (found.control.ps.excm && not (current t.after.frame).control.ps.excm)))
+      ≡ (writes_epc1 t.turn.kind (fetch_at code found.control.pc) found.control.ps || (not lost && not (found.control.ps.excm && not (current t.after.frame).control.ps.excm)))
   fresh_is Plain lost later t h judged kind next plain =
       fresh_use code m b (not lost) s shaped us h t kind (subst (λ (z : Mode). InCoreUse code z (memory_now code m s) b later (state_now code m s) t.after) plain next)
   fresh_is Handles lost later t h judged kind next plain =

@@ -3,9 +3,9 @@ use Rattle.std.proofs.Common.{◌≡◌, ℕ, ◌+◌, ◌*◌, ◌^◌, ◌<◌
 use Rattle.std.specs.Prelude.{unwrap_or}
 use Rattle.std.proofs.lemmas.Bool.{cases_Bool}
 use Rattle.xt_isa.specs.declared.Insn.{Insn}
-use Rattle.xt_frames.specs.Frames.{Frame, FrameState, known}
+use Rattle.xt_frames.specs.Frames.{Frame, FrameState, value_or_zero}
 use Rattle.xt_frames.specs.Stacks.{AreFrames}
-use Rattle.xt_uses.specs.Words.{cut}
+use Rattle.xt_uses.specs.Words.{masked}
 use Rattle.xt_uses.specs.UseState.{UseState}
 use Rattle.xt_uses.specs.UseStep.{is_left, leave_results, left_after, left_of}
 use Rattle.xt_uses.proofs.Left.{left_get, left_length, left_none, left_own}
@@ -28,12 +28,12 @@ module _ (first : ℕ) where
         let e = from_zero i true l in
         let m = left_get 0 first 0 masks i 0 e in
         let y = ap (λ (o : Option ℕ). unwrap_or o 0) (left_get None first 0 ys i None e) in
-        ap (λ k. cut k (known xs i)) m ∙ (s.fits i ∙ sym y))
+        ap (λ k. masked k (value_or_zero xs i)) m ∙ (s.fits i ∙ sym y))
         (λ n.
         let e = from_zero i false n in
         let m = left_none 0 first 0 masks i e in
         let y = ap (λ (o : Option ℕ). unwrap_or o 0) (left_none None first 0 ys i e) in
-        ap (λ k. cut k (known xs i)) m ∙ (cut_zero (known xs i) ∙ sym y))
+        ap (λ k. masked k (value_or_zero xs i)) m ∙ (cut_zero (value_or_zero xs i) ∙ sym y))
         (cases_Bool (is_left first i));
     lacks = λ i none. ⊎_elim
         (λ l. left_get 0 first 0 masks i 0 (from_zero i true l) ∙ s.lacks i none)

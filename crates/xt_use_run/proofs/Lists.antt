@@ -14,16 +14,16 @@ use Rattle.xt_trace.specs.declared.record.RegWrite.{RegWrite}
 use Rattle.xt_trace.specs.declared.record.StepKind.{StepKind}
 use Rattle.xt_trace.specs.declared.record.StepKind.TheVariants as step
 use Rattle.xt_fetch.specs.Fetching.{Fetched, Fetches, Fails, SpellsNothing}
-use Rattle.xt_frames.specs.Frames.{FrameState, known, seen_after_write}
-use Rattle.xt_frames.specs.FrameStep.{Inputs, laid}
+use Rattle.xt_frames.specs.Frames.{FrameState, value_or_zero, seen_after_write}
+use Rattle.xt_frames.specs.FrameStep.{Inputs, with_inputs}
 use Rattle.xt_frames.specs.Marks.{holds_marks, unset_by}
 use Rattle.xt_frames.specs.Nesting.{unset_after}
 use Rattle.xt_simulation.proofs.Evenly.{same_set}
 use Rattle.xt_uses.specs.Used.{counted_bits}
 use Rattle.xt_uses.specs.declared.discipline.Discipline.{Discipline}
-use Rattle.xt_uses.specs.Words.{cut}
-use Rattle.xt_uses.specs.UseState.{Masks}
-use Rattle.xt_uses.specs.UseStep.{cut_number, cut_seen, executed, pointer_written, special_written, visible_written}
+use Rattle.xt_uses.specs.Words.{masked}
+use Rattle.xt_uses.specs.UseState.{ValidityBits}
+use Rattle.xt_uses.specs.UseStep.{cut_number, cut_seen, step_insn, pointer_written, special_written, visible_written}
 use Rattle.xt_uses.specs.UseLaws.{WritesAgree, pointer_mask}
 use Rattle.xt_use_run.specs.Knowing.{ControlFit, ControlLeft, SeenFit, UnsetFit}
 use Rattle.xt_use_run.proofs.Effects.{moved_masks}
@@ -31,11 +31,11 @@ use Rattle.xt_use_run.proofs.Seen.{known_other, known_same, set_fits}
 use Rattle.xt_use_run.proofs.Specials.{mark_range}
 
 -- ---- masks
-pub special_is : (o : Option (ℕ × ℕ)) (mask : ℕ) (m : Masks) → special_written o mask m ≡ record m { special = moved_masks o mask m.special }
+pub special_is : (o : Option (ℕ × ℕ)) (mask : ℕ) (m : ValidityBits) → special_written o mask m ≡ record m { special = moved_masks o mask m.special }
 special_is None mask m = refl
 special_is (Some p) mask m = refl
 
-pub pointer_is : (i : Insn) (mask : ℕ) (m : Masks) → pointer_written i mask m ≡ record m { threadptr = pointer_mask i mask m.threadptr }
+pub pointer_is : (i : Insn) (mask : ℕ) (m : ValidityBits) → pointer_written i mask m ≡ record m { threadptr = pointer_mask i mask m.threadptr }
 unfolding pointer_written pointer_mask
 pointer_is (insn.System (system.Rur UserName.Wur t n)) mask m = refl
 pointer_is _ mask m = refl
@@ -44,11 +44,11 @@ abbrev pub written_list : Option RegWrite → ℕ → List ℕ → List ℕ
 written_list None mask xs = xs
 written_list (Some w) mask xs = set xs w.reg mask
 
-pub visible_is : (o : Option RegWrite) (mask : ℕ) (m : Masks) → visible_written false o mask m ≡ record m { seen = written_list o mask m.seen }
+pub visible_is : (o : Option RegWrite) (mask : ℕ) (m : ValidityBits) → visible_written false o mask m ≡ record m { seen = written_list o mask m.seen }
 visible_is None mask m = refl
 visible_is (Some w) mask m = refl
 
-pub inner_is : (o : Option RegWrite) (mask : ℕ) (m : Masks) → visible_written true o mask m ≡ record m { inner = written_list o mask m.inner }
+pub inner_is : (o : Option RegWrite) (mask : ℕ) (m : ValidityBits) → visible_written true o mask m ≡ record m { inner = written_list o mask m.inner }
 inner_is None mask m = refl
 inner_is (Some w) mask m = refl
 
@@ -66,20 +66,20 @@ write_fits {masks = masks} {xs = xs} {ys = ys} s mask (Some v) (Some w) agree lo
     let narrow : w.reg < 16 = subst (λ r. r < 16) reg low in
     let at : get_or (set ys w.reg (Some w.value)) w.reg None ≡ Some w.value = get_or-set_same ys w.reg (Some w.value) None (omega arith) in
     -- first the number that is written, and then its known bits
-    let first : SeenFit 16 (set masks w.reg (mask)) (set xs w.reg (Some v.value)) (set ys w.reg (Some (cut mask w.value))) = set_fits s w.reg mask (Some v.value) (Some (cut mask w.value)) narrow agree.1 (λ e. absurd cc) in
+    let first : SeenFit 16 (set masks w.reg (mask)) (set xs w.reg (Some v.value)) (set ys w.reg (Some (masked mask w.value))) = set_fits s w.reg mask (Some v.value) (Some (masked mask w.value)) narrow agree.1 (λ e. absurd cc) in
     let len = length-set ys w.reg (Some w.value) in
-    let second : SeenFit 16 (set masks w.reg mask) (set xs w.reg (Some v.value)) (set (set ys w.reg (Some w.value)) w.reg (Some (cut mask w.value))) = record {
+    let second : SeenFit 16 (set masks w.reg mask) (set xs w.reg (Some v.value)) (set (set ys w.reg (Some w.value)) w.reg (Some (masked mask w.value))) = record {
       size = first.size;
-      wide = length-set (set ys w.reg (Some w.value)) w.reg (Some (cut mask w.value)) ∙ (len ∙ wide);
+      wide = length-set (set ys w.reg (Some w.value)) w.reg (Some (masked mask w.value)) ∙ (len ∙ wide);
       spread = first.spread;
       fits = λ i. first.fits i ∙ ⊎_elim
           (λ is.
-          let a : known (set ys w.reg (Some (cut mask w.value))) w.reg ≡ cut mask w.value = known_same ys w.reg (Some (cut mask w.value)) (omega arith) in
-          let b : known (set (set ys w.reg (Some w.value)) w.reg (Some (cut mask w.value))) w.reg ≡ cut mask w.value = known_same (set ys w.reg (Some w.value)) w.reg (Some (cut mask w.value)) (omega arith) in
-          subst (λ k. known (set ys w.reg (Some (cut mask w.value))) k ≡ known (set (set ys w.reg (Some w.value)) w.reg (Some (cut mask w.value))) k) (sym is) (a ∙ sym b))
+          let a : value_or_zero (set ys w.reg (Some (masked mask w.value))) w.reg ≡ masked mask w.value = known_same ys w.reg (Some (masked mask w.value)) (omega arith) in
+          let b : value_or_zero (set (set ys w.reg (Some w.value)) w.reg (Some (masked mask w.value))) w.reg ≡ masked mask w.value = known_same (set ys w.reg (Some w.value)) w.reg (Some (masked mask w.value)) (omega arith) in
+          subst (λ k. value_or_zero (set ys w.reg (Some (masked mask w.value))) k ≡ value_or_zero (set (set ys w.reg (Some w.value)) w.reg (Some (masked mask w.value))) k) (sym is) (a ∙ sym b))
           (λ other.
-          known_other ys w.reg i (Some (cut mask w.value)) other
-          ∙ (sym (known_other ys w.reg i (Some w.value) other) ∙ sym (known_other (set ys w.reg (Some w.value)) w.reg i (Some (cut mask w.value)) other)))
+          known_other ys w.reg i (Some (masked mask w.value)) other
+          ∙ (sym (known_other ys w.reg i (Some w.value) other) ∙ sym (known_other (set ys w.reg (Some w.value)) w.reg i (Some (masked mask w.value)) other)))
           (cases_eq i w.reg);
       lacks = first.lacks;
     } in
@@ -90,7 +90,7 @@ write_fits s mask None (Some w) agree low = absurd agree
 write_fits s mask (Some v) None agree low = absurd agree
 
 -- of another register than r
-pub write_other : (mask r : ℕ) (w : Option RegWrite) (ys : List (Option ℕ)) → ((z : RegWrite) → w ≡ Some z → r ≢ z.reg) → known (cut_seen mask w (seen_after_write w ys)) r ≡ known ys r
+pub write_other : (mask r : ℕ) (w : Option RegWrite) (ys : List (Option ℕ)) → ((z : RegWrite) → w ≡ Some z → r ≢ z.reg) → value_or_zero (cut_seen mask w (seen_after_write w ys)) r ≡ value_or_zero ys r
 write_other mask r None ys h = refl
 write_other mask r (Some w) ys h =
     let other = h w refl in
@@ -161,8 +161,8 @@ moved_unset u None mask marks spread gone = u
 moved_unset u (Some p) mask marks spread gone = set_unset u p.1 mask (is_some (get_or marks p.0 None)) spread (gone p refl)
 
 -- where no instruction is executed
-pub rest_unset : {special : List ℕ} {xs ys : List Bool} → UnsetFit special xs ys → (k : StepKind) (at : Fetched) → executed k at ≡ None → UnsetFit special (unset_after k at xs) (unset_after k at ys)
-unfolding executed
+pub rest_unset : {special : List ℕ} {xs ys : List Bool} → UnsetFit special xs ys → (k : StepKind) (at : Fetched) → step_insn k at ≡ None → UnsetFit special (unset_after k at xs) (unset_after k at ys)
+unfolding step_insn
 rest_unset u (step.Interrupt level) at idle = clear_unset (clear_unset u (176 + level)) (192 + level)
 rest_unset u step.Insn (Fetches i len) idle = absurd cc
 rest_unset u step.Insn (Fails address) idle = u
@@ -170,7 +170,7 @@ rest_unset u step.Insn SpellsNothing idle = u
 rest_unset u _ at idle = u
 
 -- ---- the inputs of a step, laid over both
-pub laid_fits : {by : Discipline} {special : List ℕ} {bits : ℕ} (inp : Inputs) (f g : FrameState) → ControlLeft by special bits f.control g.control → ControlFit by special bits (laid inp f).control (laid inp g).control
+pub laid_fits : {by : Discipline} {special : List ℕ} {bits : ℕ} (inp : Inputs) (f g : FrameState) → ControlLeft by special bits f.control g.control → ControlFit by special bits (with_inputs inp f).control (with_inputs inp g).control
 laid_fits {by = by} {special = special} inp f g k = record {
   even = record {
     pc = k.even.pc;
@@ -190,11 +190,11 @@ laid_fits {by = by} {special = special} inp f g k = record {
       let count : n ≢ 234 = λ e. both_ways (holds_marks n) (subst (λ j. holds_marks j ≡ false) (sym e) refl) h in
       let a = get_or-set_other (set f.control.special 234 inp.ccount) 226 n inp.interrupt 0 bits_ ∙ get_or-set_other f.control.special 234 n inp.ccount 0 count in
       let b = get_or-set_other (set g.control.special 234 inp.ccount) 226 n inp.interrupt 0 bits_ ∙ get_or-set_other g.control.special 234 n inp.ccount 0 count in
-      ap (cut (get_or special n 0)) a ∙ (k.fits n h ∙ sym b);
+      ap (masked (get_or special n 0)) a ∙ (k.fits n h ∙ sym b);
   saved = λ n h.
       let bits_ : n ≢ 226 = λ e. both_ways (is_eps n) (subst (λ j. is_eps j ≡ false) (sym e) refl) h in
       let count : n ≢ 234 = λ e. both_ways (is_eps n) (subst (λ j. is_eps j ≡ false) (sym e) refl) h in
       let a = get_or-set_other (set f.control.special 234 inp.ccount) 226 n inp.interrupt 0 bits_ ∙ get_or-set_other f.control.special 234 n inp.ccount 0 count in
       let b = get_or-set_other (set g.control.special 234 inp.ccount) 226 n inp.interrupt 0 bits_ ∙ get_or-set_other g.control.special 234 n inp.ccount 0 count in
-      ap (cut (counted_bits by n)) a ∙ (k.saved n h ∙ sym (ap (cut (counted_bits by n)) b));
+      ap (masked (counted_bits by n)) a ∙ (k.saved n h ∙ sym (ap (masked (counted_bits by n)) b));
 }

@@ -11,20 +11,20 @@ use Rattle.xt_trace.specs.declared.record.StepKind.{StepKind}
 use Rattle.xt_trace.specs.declared.record.StepKind.TheVariants as kind
 use Rattle.xt_trace.specs.declared.record.StepRecord.{StepRecord}
 use Rattle.xt_fetch.specs.Code.{AreBytes}
-use Rattle.xt_fetch.specs.Fetching.{Fetched, Fetches, fetched}
+use Rattle.xt_fetch.specs.Fetching.{Fetched, Fetches, fetch_at}
 use Rattle.xt_fetch.proofs.Fetches.{fetched_range}
 use Rattle.xt_rows.specs.Operands.{reads, special_reads}
 use Rattle.xt_frames.specs.Frames.{FrameState}
-use Rattle.xt_frames.specs.FrameStep.{FrameTurn, laid}
+use Rattle.xt_frames.specs.FrameStep.{FrameTurn, with_inputs}
 use Rattle.xt_frames.specs.Marks.{holds_marks}
 use Rattle.xt_frames.specs.Nesting.{begins, current}
 use Rattle.xt_frames.specs.Breaches.{inputs_of}
 use Rattle.xt_frames.specs.Judging.{value_in}
-use Rattle.xt_uses.specs.Words.{all_bits, flipped}
+use Rattle.xt_uses.specs.Words.{all_bits, complement}
 use Rattle.xt_uses.specs.Used.{counted_bits}
 use Rattle.xt_uses.specs.Known.{result_mask}
 use Rattle.xt_uses.specs.UseState.{UseState, current_masks, first_word, second_word, special_operand, special_word, visible_word}
-use Rattle.xt_uses.specs.UseStep.{executed, full_step, inner_unknown, other_turn, reply_mask, unknown_bits, use_step, use_turn, value_step}
+use Rattle.xt_uses.specs.UseStep.{step_insn, full_step, inner_unknown, other_turn, reply_mask, unknown_bits, use_step, use_turn, value_step}
 use Rattle.xt_uses.proofs.Bits.{flipped_word}
 use Rattle.xt_uses.proofs.Owb.{counted_word}
 use Rattle.xt_uses.proofs.RowsWords.{result_word}
@@ -44,7 +44,7 @@ pub reply_small : (kb : ℕ → ℕ) (o : Option Access) → ((a : Access) → o
 reply_small kb None mapped = omega arith
 reply_small kb (Some a) mapped = by_region (is_memory (region_of a.addr) && not (is_store a.kind))
   where
-    by_region : (t : Bool) → cond t (flipped (unknown_bits kb a.addr a.size)) all_bits < 2 ^ 32
+    by_region : (t : Bool) → cond t (complement (unknown_bits kb a.addr a.size)) all_bits < 2 ^ 32
     by_region true = flipped_word (unknown_bits kb a.addr a.size) (unknown_small kb a.addr a.size (size_small a (mapped a refl)))
     by_region false = omega arith
 
@@ -65,13 +65,13 @@ special_word_small s f (Some n) w = by_mark (holds_marks n)
     by_mark false = counted_word s.masks.discipline n
 
 -- ---- a step
-kind_range : (code : ℕ → ℕ) → AreBytes code → (pc : ℕ) (i : Insn) (k : StepKind) (f : Fetched) → fetched code pc ≡ f → executed k f ≡ Some i → in_range i ≡ true
-unfolding executed
+kind_range : (code : ℕ → ℕ) → AreBytes code → (pc : ℕ) (i : Insn) (k : StepKind) (f : Fetched) → fetch_at code pc ≡ f → step_insn k f ≡ Some i → in_range i ≡ true
+unfolding step_insn
 kind_range code bytes pc i kind.Insn (Fetches j len) same e = let is : j ≡ i = cc in fetched_range code pc i len bytes (same ∙ ap (λ z. Fetches z len) is)
 kind_range code bytes pc i _ _ same e = absurd cc
 
-executed_range : (code : ℕ → ℕ) → AreBytes code → (pc : ℕ) (k : StepKind) (i : Insn) → executed k (fetched code pc) ≡ Some i → in_range i ≡ true
-executed_range code bytes pc k i e = kind_range code bytes pc i k (fetched code pc) refl e
+executed_range : (code : ℕ → ℕ) → AreBytes code → (pc : ℕ) (k : StepKind) (i : Insn) → step_insn k (fetch_at code pc) ≡ Some i → in_range i ≡ true
+executed_range code bytes pc k i e = kind_range code bytes pc i k (fetch_at code pc) refl e
 
 turn_small : (o : Option Insn) (reply : ℕ) (s : UseState) (f : FrameState) (u : FrameTurn) → ((i : Insn) → o ≡ Some i → in_range i ≡ true) → reply < 2 ^ 32 → MaskWords s.masks → MaskWords (use_turn o reply s f u).after.masks
 turn_small None reply s f u ok h w = w
@@ -88,15 +88,15 @@ full_small : (code : ℕ → ℕ) → AreBytes code → (nested : Bool) (rec : S
 full_small code bytes nested rec kb s reply w = by_begin (begins nested rec.kind s.frame)
   where
     f : FrameState
-    f = laid (inputs_of rec) (current s.frame)
+    f = with_inputs (inputs_of rec) (current s.frame)
 
     u : FrameTurn
     u = value_step code false (value_in rec.write) (inputs_of rec) s.frame
 
-    other : MaskWords (use_turn (executed u.kind (fetched code f.control.pc)) (reply_mask kb rec.access) s f u).after.masks
-    other = turn_small (executed u.kind (fetched code f.control.pc)) (reply_mask kb rec.access) s f u (executed_range code bytes f.control.pc u.kind) reply w
+    other : MaskWords (use_turn (step_insn u.kind (fetch_at code f.control.pc)) (reply_mask kb rec.access) s f u).after.masks
+    other = turn_small (step_insn u.kind (fetch_at code f.control.pc)) (reply_mask kb rec.access) s f u (executed_range code bytes f.control.pc u.kind) reply w
 
-    by_begin : (b : Bool) → MaskWords (cond b (other_turn (inner_unknown s.masks) (value_step code true (value_in rec.write) (inputs_of rec) s.frame)) (use_turn (executed u.kind (fetched code f.control.pc)) (reply_mask kb rec.access) s f u)).after.masks
+    by_begin : (b : Bool) → MaskWords (cond b (other_turn (inner_unknown s.masks) (value_step code true (value_in rec.write) (inputs_of rec) s.frame)) (use_turn (step_insn u.kind (fetch_at code f.control.pc)) (reply_mask kb rec.access) s f u)).after.masks
     by_begin true = begin_small s.masks w
     by_begin false = other
 

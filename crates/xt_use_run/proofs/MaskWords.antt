@@ -14,8 +14,8 @@ use Rattle.xt_frames.specs.Frames.{FrameState}
 use Rattle.xt_rows.specs.Kinds.{is_entry, is_return, moved_to}
 use Rattle.xt_uses.specs.Words.{all_bits}
 use Rattle.xt_uses.specs.declared.discipline.Discipline.{Discipline}
-use Rattle.xt_uses.specs.UseState.{Masks, UseState, first_word, whole_masks}
-use Rattle.xt_uses.specs.UseStep.{called, frames_moved, inner_unknown, masks_past, pointer_written, returned, special_written, visible_written}
+use Rattle.xt_uses.specs.UseState.{ValidityBits, UseState, first_word, whole_masks}
+use Rattle.xt_uses.specs.UseStep.{bits_after_call, frames_moved, inner_unknown, masks_past, pointer_written, bits_after_return, special_written, visible_written}
 use Rattle.xt_use_run.proofs.Operands.{AreMasks}
 use Rattle.xt_use_run.proofs.Seen.{blank}
 
@@ -26,7 +26,7 @@ abbrev pub AllSmall : List (List ℕ) → Type 0
 AllSmall [] = Unit {0}
 AllSmall (k ∷ ks) = AreSmall k × AllSmall ks
 
-pub record MaskWords (m : Masks) : Type 0 where
+pub record MaskWords (m : ValidityBits) : Type 0 where
   pub seen : AreSmall m.seen
   pub kept : AllSmall m.kept
   pub special : AreSmall m.special
@@ -70,7 +70,7 @@ join_small xs ys s t i = ⊎_elim
     (cases_lt i (length xs))
 
 -- ---- the parts of a step
-called_small : (n : ℕ) (m : Masks) → MaskWords m → MaskWords (called n m)
+called_small : (n : ℕ) (m : ValidityBits) → MaskWords m → MaskWords (bits_after_call n m)
 called_small n m w = record {
   seen = join_small (drop (4 * n) m.seen) (replicate (4 * n) 0) (drop_small (4 * n) m.seen w.seen) (blank_small (4 * n));
   kept = (take_small (4 * n) m.seen w.seen, w.kept);
@@ -79,7 +79,7 @@ called_small n m w = record {
   inner = w.inner;
 }
 
-returned_small : (kept : List (List ℕ)) (m : Masks) → AllSmall kept → MaskWords m → MaskWords (returned kept m)
+returned_small : (kept : List (List ℕ)) (m : ValidityBits) → AllSmall kept → MaskWords m → MaskWords (bits_after_return kept m)
 returned_small [] m k w = w
 returned_small (x ∷ xs) m k w = record {
   seen = join_small x (take (16 - length x) m.seen) k.0 (take_small (16 - length x) m.seen w.seen);
@@ -89,24 +89,24 @@ returned_small (x ∷ xs) m k w = record {
   inner = w.inner;
 }
 
-frames_small : (i : Insn) (n : ℕ) (m : Masks) → MaskWords m → MaskWords (frames_moved i n m)
+frames_small : (i : Insn) (n : ℕ) (m : ValidityBits) → MaskWords m → MaskWords (frames_moved i n m)
 frames_small i n m w = by_row (is_entry i) (is_return i)
   where
-    by_row : (a b : Bool) → MaskWords (cond a (called n m) (cond b (returned m.kept m) m))
+    by_row : (a b : Bool) → MaskWords (cond a (bits_after_call n m) (cond b (bits_after_return m.kept m) m))
     by_row true b = called_small n m w
     by_row false true = returned_small m.kept m w.kept w
     by_row false false = w
 
-special_small : (o : Option (ℕ × ℕ)) (mask : ℕ) (m : Masks) → mask < 2 ^ 32 → MaskWords m → MaskWords (special_written o mask m)
+special_small : (o : Option (ℕ × ℕ)) (mask : ℕ) (m : ValidityBits) → mask < 2 ^ 32 → MaskWords m → MaskWords (special_written o mask m)
 special_small None mask m h w = w
 special_small (Some p) mask m h w = record { seen = w.seen; kept = w.kept; special = set_small m.special p.1 mask h w.special; threadptr = w.threadptr; inner = w.inner }
 
-pointer_small : (i : Insn) (mask : ℕ) (m : Masks) → mask < 2 ^ 32 → MaskWords m → MaskWords (pointer_written i mask m)
+pointer_small : (i : Insn) (mask : ℕ) (m : ValidityBits) → mask < 2 ^ 32 → MaskWords m → MaskWords (pointer_written i mask m)
 unfolding pointer_written
 pointer_small (insn.System (system.Rur UserName.Wur t n)) mask m h w = record { seen = w.seen; kept = w.kept; special = w.special; threadptr = h; inner = w.inner }
 pointer_small _ mask m h w = w
 
-visible_small : (nested : Bool) (o : Option RegWrite) (mask : ℕ) (m : Masks) → mask < 2 ^ 32 → MaskWords m → MaskWords (visible_written nested o mask m)
+visible_small : (nested : Bool) (o : Option RegWrite) (mask : ℕ) (m : ValidityBits) → mask < 2 ^ 32 → MaskWords m → MaskWords (visible_written nested o mask m)
 visible_small true None mask m h w = w
 visible_small false None mask m h w = w
 visible_small true (Some x) mask m h w = record { seen = w.seen; kept = w.kept; special = w.special; threadptr = w.threadptr; inner = set_small m.inner x.reg mask h w.inner }
@@ -121,7 +121,7 @@ past_small i mask s f u h k w =
     let c = pointer_small i x (special_written (moved_to i) x (frames_moved i f.control.ps.callinc s.masks)) k b in
     visible_small (is_some s.frame.nested) u.write mask (pointer_written i x (special_written (moved_to i) x (frames_moved i f.control.ps.callinc s.masks))) h c
 
-pub begin_small : (m : Masks) → MaskWords m → MaskWords (inner_unknown m)
+pub begin_small : (m : ValidityBits) → MaskWords m → MaskWords (inner_unknown m)
 begin_small m w = record { seen = w.seen; kept = w.kept; special = w.special; threadptr = w.threadptr; inner = blank_small 16 }
 
 whole_small : (n : ℕ) → AreSmall (replicate n all_bits)

@@ -8,16 +8,16 @@ use Rattle.xt_isa.specs.declared.Insn.TheVariants as insn
 use Rattle.xt_isa.specs.declared.shift.Shift.TheVariants as shift
 use Rattle.xt_trace.specs.declared.record.RegWrite.{RegWrite}
 use Rattle.xt_rows.specs.declared.outcome.Effect.{Effect}
-use Rattle.xt_rows.specs.Effects.{unchanged, write_to}
+use Rattle.xt_rows.specs.Effects.{no_change, write_to}
 use Rattle.xt_rows.specs.Kinds.{is_entry, is_return, moved_to}
 use Rattle.xt_frames.specs.declared.holes.Nested.{Nested}
-use Rattle.xt_frames.specs.Frames.{FrameState, known, seen_after_write}
-use Rattle.xt_frames.specs.FrameStep.{FrameTurn, Inputs, laid}
+use Rattle.xt_frames.specs.Frames.{FrameState, value_or_zero, seen_after_write}
+use Rattle.xt_frames.specs.FrameStep.{FrameTurn, Inputs, with_inputs}
 use Rattle.xt_uses.specs.declared.discipline.Discipline.{Discipline}
 use Rattle.xt_uses.specs.declared.words.Word.{Word}
 use Rattle.xt_uses.specs.Words.{all_bits, is_whole, mask_where}
 use Rattle.xt_uses.specs.Known.{result_mask, shift_mask}
-use Rattle.xt_uses.specs.UseState.{Masks, UseState, first_word}
+use Rattle.xt_uses.specs.UseState.{ValidityBits, UseState, first_word}
 use Rattle.xt_uses.specs.UseStep.{cut_number, cut_seen, cut_state, frames_moved, insn_turn, masks_past, pointer_written, special_written, stack_moved, visible_written}
 use Rattle.xt_use_run.specs.Knowing.{ControlLeft, Follows, Knows, NowFit}
 use Rattle.xt_use_run.proofs.Effects.{effect_fits}
@@ -30,7 +30,7 @@ use Rattle.xt_use_run.proofs.Specials.{ticked_fits, told_ps}
 abbrev pub movsp : ℕ → ℕ → Insn
 movsp t q = insn.Shift (shift.Movsp t q)
 
-move_masks : (t q : ℕ) (mask : ℕ) (m : Masks) (v : Option RegWrite) (n x : ℕ) → visible_written false v mask (pointer_written (movsp t q) x (special_written (moved_to (movsp t q)) x (frames_moved (movsp t q) n m))) ≡ record m { seen = written_list v mask m.seen }
+move_masks : (t q : ℕ) (mask : ℕ) (m : ValidityBits) (v : Option RegWrite) (n x : ℕ) → visible_written false v mask (pointer_written (movsp t q) x (special_written (moved_to (movsp t q)) x (frames_moved (movsp t q) n m))) ≡ record m { seen = written_list v mask m.seen }
 unfolding moved_to is_entry is_return pointer_written
 move_masks t q mask m v n x = visible_is v mask m
 
@@ -40,21 +40,21 @@ move_result by t q a b c pointer r h = ap mask_where h
 
 -- ---- both machines move the stack pointer to one value
 module _ {f : FrameState} {s : UseState} (k : Knows f s) (fn : f.nested ≡ None) (sn : s.frame.nested ≡ None) (inp : Inputs) (q len x : ℕ)
-    (same : known s.frame.seen q ≡ x) (word : x < 2 ^ 32) (whole : is_whole (first_word (movsp 1 q) s (laid inp s.frame)) ≡ true) (count : length f.control.special ≡ 256) where
+    (same : value_or_zero s.frame.seen q ≡ x) (word : x < 2 ^ 32) (whole : is_whole (first_word (movsp 1 q) s (with_inputs inp s.frame)) ≡ true) (count : length f.control.special ≡ 256) where
   abbrev g : FrameState
-  g = laid inp f
+  g = with_inputs inp f
 
   abbrev h : FrameState
-  h = laid inp s.frame
+  h = with_inputs inp s.frame
 
   now : NowFit s g h
   now = now_plain k fn sn inp
 
   abbrev effect_f : Effect
-  effect_f = record (unchanged g.control.ps g.control.threadptr) { write = write_to 1 x }
+  effect_f = record (no_change g.control.ps g.control.threadptr) { write = write_to 1 x }
 
   abbrev effect_s : Effect
-  effect_s = record (unchanged h.control.ps h.control.threadptr) { write = write_to 1 x }
+  effect_s = record (no_change h.control.ps h.control.threadptr) { write = write_to 1 x }
 
   pub move_control : ControlLeft s.masks.discipline s.masks.special s.masks.threadptr (stack_moved 1 x len g).after.control (stack_moved 1 x len h).after.control
   move_control =
@@ -68,7 +68,7 @@ module _ {f : FrameState} {s : UseState} (k : Knows f s) (fn : f.nested ≡ None
       let wide = k.seen.wide in
       let l = length-set s.frame.seen 1 (Some x) in
       let at : get_or (set s.frame.seen 1 (Some x)) 1 None ≡ Some x = get_or-set_same s.frame.seen 1 (Some x) None (omega arith) in
-      let sp_s : known (cut_seen all_bits (write_to 1 x) (set s.frame.seen 1 (Some x))) 1 ≡ x =
+      let sp_s : value_or_zero (cut_seen all_bits (write_to 1 x) (set s.frame.seen 1 (Some x))) 1 ≡ x =
       known_same (set s.frame.seen 1 (Some x)) 1 (cut_number all_bits (get_or (set s.frame.seen 1 (Some x)) 1 None)) (omega arith) ∙ (ap (λ (o : Option ℕ). unwrap_or (cut_number all_bits o) 0) at ∙ cut_all x word) in
       record {
         seen = write_fits k.seen all_bits (write_to 1 x) (write_to 1 x) (refl, refl) (omega arith);
@@ -79,7 +79,7 @@ module _ {f : FrameState} {s : UseState} (k : Knows f s) (fn : f.nested ≡ None
         nested = k.nested;
       }
 
-  pub move_follows : (r : ℕ) → Follows (insn_turn (movsp 1 q) r s h (stack_moved 1 (known h.seen q) len h)) (stack_moved 1 x len g)
+  pub move_follows : (r : ℕ) → Follows (insn_turn (movsp 1 q) r s h (stack_moved 1 (value_or_zero h.seen q) len h)) (stack_moved 1 x len g)
   move_follows r = subst (λ z. Follows (insn_turn (movsp 1 q) r s h (stack_moved 1 z len h)) (stack_moved 1 x len g)) (sym same) here
     where
       mask_is : (insn_turn (movsp 1 q) r s h (stack_moved 1 x len h)).mask ≡ all_bits
@@ -100,7 +100,7 @@ module _ {f : FrameState} {s : UseState} (k : Knows f s) (fn : f.nested ≡ None
             access = tt;
             sent = tt;
             knows =
-                subst (λ (z : Masks). Knows (stack_moved 1 x len g).after (record { frame = cut_state mask (write_to 1 x) v.after.nested v.after; masks = z })) (sym (masks_are mask))
+                subst (λ (z : ValidityBits). Knows (stack_moved 1 x len g).after (record { frame = cut_state mask (write_to 1 x) v.after.nested v.after; masks = z })) (sym (masks_are mask))
                 (subst (λ z. Knows (stack_moved 1 x len g).after (record { frame = cut_state z (write_to 1 x) v.after.nested v.after; masks = record s.masks { seen = written_list (write_to 1 x) z s.masks.seen } })) (sym mask_is)
                 (subst (λ (o : Option Nested). Knows (stack_moved 1 x len g).after (record { frame = cut_state all_bits (write_to 1 x) o v.after; masks = record s.masks { seen = written_list (write_to 1 x) all_bits s.masks.seen } })) (sym sn) move_knows));
           }

@@ -6,7 +6,7 @@ use Rattle.std.proofs.lemmas.Bool.{and_parts, cond-false, eqb-true, false≢true
 use Rattle.std.proofs.lemmas.List.{get_or-set_same, length-set}
 use Rattle.xt_special.specs.declared.ps.Ps.{Ps}
 use Rattle.xt_special.specs.Control.{Control, special_of}
-use Rattle.xt_special.specs.Timers.{ticked}
+use Rattle.xt_special.specs.Timers.{after_tick}
 use Rattle.xt_window.specs.Ring.{place, visible}
 use Rattle.xt_window.specs.Moves.{behind}
 use Rattle.xt_trace.specs.declared.record.StepKind.{StepKind}
@@ -19,8 +19,8 @@ use Rattle.xt_rows.specs.Operands.{reads}
 use Rattle.xt_rows.specs.Outcomes.{outcome, outcome_at, shift_outcome}
 use Rattle.xt_rows.specs.Settling.{after_effect, after_flow}
 use Rattle.xt_exec.specs.State.{State}
-use Rattle.xt_exec.specs.Turn.{checked, done, falls, fetched_turn, is_illegal, moved_stack, planned, raises, window_check, window_step}
-use Rattle.xt_frames.specs.Frames.{Frame, FrameState, known}
+use Rattle.xt_exec.specs.Turn.{turn_or_overflow, outcome_turn, fall_through, fetched_turn, is_illegal, moved_stack, planned_turn, raises, window_check, window_step}
+use Rattle.xt_frames.specs.Frames.{Frame, FrameState, value_or_zero}
 use Rattle.xt_frames.specs.SaveAreas.{Range, sp_of}
 use Rattle.xt_frames.specs.Stacks.{Chain, Stack}
 use Rattle.xt_simulation.specs.Relation.{Even, Level}
@@ -40,7 +40,7 @@ pub record Keeps (r : Range) (t q : ℕ) (k : StepKind) (h : FrameState) : Type 
   pub insn : is_insn k ≡ true
   pub one : t ≡ 1
   pub low : h.control.ps.excm ≡ false
-  pub stack : keeps_stack r (known h.seen q) h.frames ≡ true
+  pub stack : keeps_stack r (value_or_zero h.seen q) h.frames ≡ true
 
 pub keeps : (r : Range) (t q : ℕ) (k : StepKind) (h : FrameState) → breaks_stack r (movsp t q) k h ≡ false → Keeps r t q k h
 unfolding breaks_stack
@@ -59,23 +59,23 @@ pub not_illegal : (t q : ℕ) (s : State) → is_illegal (movsp t q) s ≡ false
 unfolding is_illegal
 not_illegal t q s = refl
 
-pub movsp_turn : (code : ℕ → ℕ) (s : State) (t q len : ℕ) → planned code s ≡ fetched_turn (Fetches (movsp t q) len) code s → window_check (movsp t q) s ≡ 0 → planned code s ≡ moved_stack t (visible s.regs s.base q) len s
+pub movsp_turn : (code : ℕ → ℕ) (s : State) (t q len : ℕ) → planned_turn code s ≡ fetched_turn (Fetches (movsp t q) len) code s → window_check (movsp t q) s ≡ 0 → planned_turn code s ≡ moved_stack t (visible s.regs s.base q) len s
 movsp_turn code s t q len is free =
     is
-    ∙ (cond-false (is_illegal (movsp t q) s) (raises _ s) (checked (window_check (movsp t q) s) code (movsp t q) len s) (not_illegal t q s)
-    ∙ (ap (λ k. checked k code (movsp t q) len s) free ∙ ap (λ o. done o len s) (movsp_outcome code t q (visible s.regs s.base) s.control)))
+    ∙ (cond-false (is_illegal (movsp t q) s) (raises _ s) (turn_or_overflow (window_check (movsp t q) s) code (movsp t q) len s) (not_illegal t q s)
+    ∙ (ap (λ k. turn_or_overflow k code (movsp t q) len s) free ∙ ap (λ o. outcome_turn o len s) (movsp_outcome code t q (visible s.regs s.base) s.control)))
 
 -- it is executed, so a caller stands in the ring
 pub movsp_ring : {vecbase : ℕ} {lost : ℕ → Bool} {s : State} {g : FrameState} (ring : List Frame) {spilled : List Frame} → Level vecbase lost s g ring spilled → (t x len : ℕ) → is_insn (moved_stack t x len s).kind ≡ true
-    → (moved_stack t x len s ≡ window_step (write_to t x) (falls len s)) × (ring ≡ [] → ⊥)
+    → (moved_stack t x len s ≡ window_step (write_to t x) (fall_through len s)) × (ring ≡ [] → ⊥)
 unfolding moved_stack
 movsp_ring {s = s} [] l t x len e =
     let n : behind s.start s.base ≡ 0 = none_behind l.windows in
-    let z : is_insn (cond (eqb 0 0) (raises no_caller_window s) (window_step (write_to t x) (falls len s))).kind ≡ true = subst (λ k. is_insn (cond (eqb k 0) (raises no_caller_window s) (window_step (write_to t x) (falls len s))).kind ≡ true) n e in
+    let z : is_insn (cond (eqb 0 0) (raises no_caller_window s) (window_step (write_to t x) (fall_through len s))).kind ≡ true = subst (λ k. is_insn (cond (eqb k 0) (raises no_caller_window s) (window_step (write_to t x) (fall_through len s))).kind ≡ true) n e in
     absurd (false≢true z)
 movsp_ring {s = s} (c ∷ ring) l t x len e = (by_test (eqb (behind s.start s.base) 0) e, λ z. absurd cc)
   where
-    by_test : (b : Bool) → is_insn (cond b (raises no_caller_window s) (window_step (write_to t x) (falls len s))).kind ≡ true → cond b (raises no_caller_window s) (window_step (write_to t x) (falls len s)) ≡ window_step (write_to t x) (falls len s)
+    by_test : (b : Bool) → is_insn (cond b (raises no_caller_window s) (window_step (write_to t x) (fall_through len s))).kind ≡ true → cond b (raises no_caller_window s) (window_step (write_to t x) (fall_through len s)) ≡ window_step (write_to t x) (fall_through len s)
     by_test true e = absurd (false≢true e)
     by_test false e = refl
 
@@ -97,13 +97,13 @@ pub movsp_stack : (r : Range) (x : ℕ) (ms : List (List ℕ)) (f h : FrameState
 movsp_stack r x ms f h k e st =
     let wide = st.wide in
     let at : get_or (set f.seen 1 (Some x)) 1 None ≡ Some x = get_or-set_same f.seen 1 (Some x) None (omega arith) in
-    let sp : known (set f.seen 1 (Some x)) 1 ≡ x = ap (λ (o : Option ℕ). unwrap_or o 0) at in
+    let sp : value_or_zero (set f.seen 1 (Some x)) 1 ≡ x = ap (λ (o : Option ℕ). unwrap_or o 0) at in
     record {
       range = st.range;
       wide = length-set f.seen 1 (Some x) ∙ wide;
       shaped = st.shaped;
       sp = at ∙ ap (λ z. Some z) (sym sp);
-      chain = rw sp (link_fits r x ms f.frames h.frames (known f.seen 1) k e st.chain);
+      chain = rw sp (link_fits r x ms f.frames h.frames (value_or_zero f.seen 1) k e st.chain);
     }
 
 -- a caller in the ring hides the newest stack pointer
@@ -120,13 +120,13 @@ falls_ps len c = by_test _ _ _
     by_test false pc next = refl
 
 pub movsp_level : {vecbase : ℕ} {lost : ℕ → Bool} {s : State} {g : FrameState} {ring spilled : List Frame} → Level vecbase lost s g ring spilled → (x len : ℕ) → s.control.waits ≡ false
-    → let next = falls len s in
-    Level vecbase lost (record next { regs = set s.regs (place s.base 1) x; control = ticked next.control }) (stack_moved 1 x len g).after ring spilled
+    → let next = fall_through len s in
+    Level vecbase lost (record next { regs = set s.regs (place s.base 1) x; control = after_tick next.control }) (stack_moved 1 x len g).after ring spilled
 unfolding after_effect
 movsp_level {lost = lost} {s = s} {g = g} {ring = ring} l x len awake =
     let fit = l.windows.fits in
     let even0 : Even lost s.control (record g.control { waits = false }) = record { pc = l.even.pc; ps = l.even.ps; threadptr = l.even.threadptr; waits = awake; special = l.even.special } in
-    let even : Even lost (ticked (after_flow Falls len s.control)) (ticked (after_flow Falls len (record g.control { waits = false }))) = even_ticked _ _ (even_flow Falls len s.control (record g.control { waits = false }) even0) in
+    let even : Even lost (after_tick (after_flow Falls len s.control)) (after_tick (after_flow Falls len (record g.control { waits = false }))) = even_ticked _ _ (even_flow Falls len s.control (record g.control { waits = false }) even0) in
     record {
       windows = kept.written l.windows 1 x (omega arith) (omega arith);
       frames = l.frames;

@@ -10,14 +10,14 @@ use Rattle.xt_special.specs.Numbers as number
 use Rattle.xt_special.specs.Control.{special_of}
 use Rattle.xt_window.specs.Ring.{visible}
 use Rattle.xt_exec.specs.State.{State}
-use Rattle.xt_exec.specs.Laws.{IsShaped}
+use Rattle.xt_exec.specs.TurnLaws.{IsShaped}
 use Rattle.xt_frames.specs.declared.holes.Nested.{Nested}
 use Rattle.xt_frames.specs.Frames.{FrameState}
-use Rattle.xt_frames.specs.FrameStep.{laid}
+use Rattle.xt_frames.specs.FrameStep.{with_inputs}
 use Rattle.xt_frames.specs.Marks.{holds_marks}
 use Rattle.xt_frames.specs.Breaches.{Bounds}
 use Rattle.xt_simulation.specs.InHandlers.{as_left}
-use Rattle.xt_simulation.specs.Nested.{Suspends, resumed}
+use Rattle.xt_simulation.specs.Nested.{Suspends, resumed_state}
 use Rattle.xt_simulation.specs.Relation.{Same, inputs, lost_at}
 use Rattle.xt_simulation.proofs.Carried.{Carries, carried}
 use Rattle.xt_simulation.proofs.Taken.{beside}
@@ -30,7 +30,7 @@ use Rattle.xt_use_run.proofs.SpecialFilled.{same_filled, special_knows, with_spe
 module _ {code : ℕ → ℕ} {b : Bounds} {m : MemoryContents} {s : State} {f : FrameState} {before : State} {opened : ℕ → ℕ} {suspended : State} (h : Suspends code b m s f before opened suspended) (shaped : IsShaped s) where
   -- a frame state in which registers and frames are as they are in f
   same_carries : (g : FrameState) → g.seen ≡ f.seen → g.frames ≡ f.frames → g.control.pc ≡ f.control.pc → g.control.ps ≡ f.control.ps → g.control.threadptr ≡ f.control.threadptr → g.control.waits ≡ f.control.waits
-      → special_of g.control number.vecbase ≡ special_of f.control number.vecbase → Same (lost_at false g) s.control.special (laid (inputs 0 s) g).control.special → Carries b (resumed suspended s) (resumed suspended s) f g
+      → special_of g.control number.vecbase ≡ special_of f.control number.vecbase → Same (lost_at false g) s.control.special (with_inputs (inputs 0 s) g).control.special → Carries b (resumed_state suspended s) (resumed_state suspended s) f g
   same_carries g seen frames pc ps pointer waits vectors special = record {
     regs = refl;
     base = refl;
@@ -66,7 +66,7 @@ module _ {code : ℕ → ℕ} {b : Bounds} {m : MemoryContents} {s : State} {f :
     at_r : get_or (set h.x.seen r (Some real)) r None ≡ Some real
     at_r = get_or-set_same h.x.seen r (Some real) None (let wide = h.inside.wide in omega arith)
 
-    pub inner_filled : Suspends code b m s g (as_left before (resumed suspended s) (resumed suspended s)) opened suspended
+    pub inner_filled : Suspends code b m s g (as_left before (resumed_state suspended s) (resumed_state suspended s)) opened suspended
     inner_filled = record {
       x = x;
       nested = refl;
@@ -131,13 +131,13 @@ module _ {code : ℕ → ℕ} {b : Bounds} {m : MemoryContents} {s : State} {f :
     abbrev k : FrameState
     k = with_special n value f
 
-    special_same : Same (lost_at false k) s.control.special (laid (inputs 0 s) k).control.special
+    special_same : Same (lost_at false k) s.control.special (with_inputs (inputs 0 s) k).control.special
     special_same = same_filled false s f n mark count wide h.inside.even.special
 
     not_vectors : special_of k.control number.vecbase ≡ special_of f.control number.vecbase
     not_vectors = get_or-set_other f.control.special n 231 value 0 (λ e. both_ways (holds_marks n) (subst (λ j. holds_marks j ≡ false) e refl) mark)
 
-    pub special_filled : Suspends code b m s k (as_left before (resumed suspended s) (resumed suspended s)) opened suspended
+    pub special_filled : Suspends code b m s k (as_left before (resumed_state suspended s) (resumed_state suspended s)) opened suspended
     special_filled = record {
       x = h.x;
       nested = h.nested;

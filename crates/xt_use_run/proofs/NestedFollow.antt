@@ -16,14 +16,14 @@ use Rattle.xt_trace.specs.declared.record.StepKind.TheVariants as step
 use Rattle.xt_rows.specs.Kinds.{is_entry, is_return, moved_to}
 use Rattle.xt_rows.specs.Operands.{reads}
 use Rattle.xt_frames.specs.declared.holes.Nested.{Nested}
-use Rattle.xt_frames.specs.Frames.{FrameState, known, seen_after_write}
-use Rattle.xt_frames.specs.FrameStep.{FrameTurn, Inputs, laid}
+use Rattle.xt_frames.specs.Frames.{FrameState, value_or_zero, seen_after_write}
+use Rattle.xt_frames.specs.FrameStep.{FrameTurn, Inputs, with_inputs}
 use Rattle.xt_frames.specs.Marks.{marked_seen, marked_write, marks_after, saved_by, unset_by, unset_written}
-use Rattle.xt_frames.specs.Nesting.{inside, keeping, nested_after}
+use Rattle.xt_frames.specs.Nesting.{nested_view, with_kept_frame, nested_after}
 use Rattle.xt_uses.specs.declared.discipline.Discipline.{Discipline}
-use Rattle.xt_uses.specs.Words.{all_bits, cut}
-use Rattle.xt_uses.specs.UseState.{Masks, UseState, current_masks, first_word, second_word, visible_word}
-use Rattle.xt_uses.specs.UseStep.{called, cut_number, cut_seen, cut_state, cut_write, frames_moved, insn_turn, masks_past, other_turn, pointer_written, returned, special_written, visible_written}
+use Rattle.xt_uses.specs.Words.{all_bits, masked}
+use Rattle.xt_uses.specs.UseState.{ValidityBits, UseState, current_masks, first_word, second_word, visible_word}
+use Rattle.xt_uses.specs.UseStep.{bits_after_call, cut_number, cut_seen, cut_state, cut_write, frames_moved, insn_turn, masks_past, other_turn, pointer_written, bits_after_return, special_written, visible_written}
 use Rattle.xt_uses.specs.UseLaws.{AccessFits, IsSent, WriteFits, WritesAgree, pointer_mask}
 use Rattle.xt_use_run.specs.Knowing.{ControlFit, Follows, InnerFit, Knows, NowFit, SeenFit, UnsetFit}
 use Rattle.xt_use_run.proofs.Effects.{moved_masks}
@@ -76,7 +76,7 @@ mark_fits {masks = masks} {xs = xs} {ys = ys} s mask value (Some k) (Some v) (So
     let reg : v.reg ≡ w.reg = h.0 in
     let narrow : w.reg < 16 = subst (λ r. r < 16) reg low in
     let none : Option ℕ = None in
-    let base : SeenFit 16 (set masks w.reg mask) (set xs w.reg (Some v.value)) (set ys w.reg (Some (cut mask w.value))) = set_fits s w.reg mask (Some v.value) (Some (cut mask w.value)) narrow h.1 (λ e. absurd cc) in
+    let base : SeenFit 16 (set masks w.reg mask) (set xs w.reg (Some v.value)) (set ys w.reg (Some (masked mask w.value))) = set_fits s w.reg mask (Some v.value) (Some (masked mask w.value)) narrow h.1 (λ e. absurd cc) in
     let wide_x = length-set xs w.reg (Some v.value) in
     let wide_y = length-set ys w.reg (Some w.value) in
     let size = s.size in
@@ -86,20 +86,20 @@ mark_fits {masks = masks} {xs = xs} {ys = ys} s mask value (Some k) (Some v) (So
     let q : get_or (set (set ys w.reg (Some w.value)) w.reg none) w.reg None ≡ None = get_or-set_same (set ys w.reg (Some w.value)) w.reg none None (omega arith) in
     let list : List (Option ℕ) = set (set (set ys w.reg (Some w.value)) w.reg none) w.reg (cut_number mask (get_or (set (set ys w.reg (Some w.value)) w.reg none) w.reg None)) in
     let wide_z = length-set (set ys w.reg (Some w.value)) w.reg none in
-    let at_list : known list w.reg ≡ 0 = known_same (set (set ys w.reg (Some w.value)) w.reg none) w.reg (cut_number mask (get_or (set (set ys w.reg (Some w.value)) w.reg none) w.reg None)) (omega arith) ∙ ap (λ (o : Option ℕ). unwrap_or (cut_number mask o) 0) q in
+    let at_list : value_or_zero list w.reg ≡ 0 = known_same (set (set ys w.reg (Some w.value)) w.reg none) w.reg (cut_number mask (get_or (set (set ys w.reg (Some w.value)) w.reg none) w.reg None)) (omega arith) ∙ ap (λ (o : Option ℕ). unwrap_or (cut_number mask o) 0) q in
     let here : SeenFit 16 (set masks w.reg mask) (set (set xs w.reg (Some v.value)) w.reg none) list = record {
       size = length-set (set xs w.reg (Some v.value)) w.reg none ∙ (wide_x ∙ size);
       wide = length-set (set (set ys w.reg (Some w.value)) w.reg none) w.reg (cut_number mask (get_or (set (set ys w.reg (Some w.value)) w.reg none) w.reg None)) ∙ (wide_z ∙ (wide_y ∙ wide));
       spread = base.spread;
       fits = λ i. ⊎_elim
-          (λ is. subst (λ j. cut (get_or (set masks w.reg mask) j 0) (known (set (set xs w.reg (Some v.value)) w.reg none) j) ≡ known list j) (sym is)
-          (ap (λ z. cut z (known (set (set xs w.reg (Some v.value)) w.reg none) w.reg)) m_at ∙ (cut_zero _ ∙ sym at_list)))
+          (λ is. subst (λ j. masked (get_or (set masks w.reg mask) j 0) (value_or_zero (set (set xs w.reg (Some v.value)) w.reg none) j) ≡ value_or_zero list j) (sym is)
+          (ap (λ z. masked z (value_or_zero (set (set xs w.reg (Some v.value)) w.reg none) w.reg)) m_at ∙ (cut_zero _ ∙ sym at_list)))
           (λ other.
           let a = known_other (set xs w.reg (Some v.value)) w.reg i none other in
-          let c : known list i ≡ known (set ys w.reg (Some (cut mask w.value))) i =
+          let c : value_or_zero list i ≡ value_or_zero (set ys w.reg (Some (masked mask w.value))) i =
           known_other (set (set ys w.reg (Some w.value)) w.reg none) w.reg i (cut_number mask (get_or (set (set ys w.reg (Some w.value)) w.reg none) w.reg None)) other
-          ∙ (known_other (set ys w.reg (Some w.value)) w.reg i none other ∙ (known_other ys w.reg i (Some w.value) other ∙ sym (known_other ys w.reg i (Some (cut mask w.value)) other))) in
-          ap (cut (get_or (set masks w.reg mask) i 0)) a ∙ (base.fits i ∙ sym c))
+          ∙ (known_other (set ys w.reg (Some w.value)) w.reg i none other ∙ (known_other ys w.reg i (Some w.value) other ∙ sym (known_other ys w.reg i (Some (masked mask w.value)) other))) in
+          ap (masked (get_or (set masks w.reg mask) i 0)) a ∙ (base.fits i ∙ sym c))
           (cases_eq i w.reg);
       lacks = λ i e. ⊎_elim
           (λ is. subst (λ j. get_or (set masks w.reg mask) j 0 ≡ 0) (sym is) m_at)
@@ -113,10 +113,10 @@ mark_fits s mask value (Some k) (Some v) None h low gone = absurd h
 -- ---- the states inside
 module _ {f : FrameState} {s : UseState} (k : Knows f s) (x y : Nested) (fx : f.nested ≡ Some x) (sy : s.frame.nested ≡ Some y) (inner : InnerFit s.masks.inner x y) (inp : Inputs) where
   abbrev g : FrameState
-  g = laid inp (inside x f)
+  g = with_inputs inp (nested_view x f)
 
   abbrev h : FrameState
-  h = laid inp (inside y s.frame)
+  h = with_inputs inp (nested_view y s.frame)
 
   inner_masks : current_masks s ≡ s.masks.inner
   inner_masks = ap (λ (o : Option Nested). cond (is_some o) s.masks.inner s.masks.seen) sy
@@ -125,7 +125,7 @@ module _ {f : FrameState} {s : UseState} (k : Knows f s) (x y : Nested) (fx : f.
   now_inside = record {
     seen = subst (λ m. SeenFit 16 m x.seen y.seen) (sym inner_masks) inner.seen;
     frames = k.frames;
-    control = laid_fits inp (inside x f) (inside y s.frame) (placed_fits k.control x.pc y.pc x.ps (record y.ps { owb = x.ps.owb }) inner.pc inner.ps);
+    control = laid_fits inp (nested_view x f) (nested_view y s.frame) (placed_fits k.control x.pc y.pc x.ps (record y.ps { owb = x.ps.owb }) inner.pc inner.ps);
     unset = k.unset;
   }
 
@@ -159,7 +159,7 @@ module _ {f : FrameState} {s : UseState} (k : Knows f s) (x y : Nested) (fx : f.
         let z = (first_word i s h).mask in
         let n = h.control.ps.callinc in
         let m = s.masks in
-        let a : frames_moved i n m ≡ m = cond-false (is_entry i) (called n m) (cond (is_return i) (returned m.kept m) m) no_entry ∙ cond-false (is_return i) (returned m.kept m) m no_return in
+        let a : frames_moved i n m ≡ m = cond-false (is_entry i) (bits_after_call n m) (cond (is_return i) (bits_after_return m.kept m) m) no_entry ∙ cond-false (is_return i) (bits_after_return m.kept m) m no_return in
         ap (λ (o : Option Nested). visible_written (is_some o) u.write mask (pointer_written i z (special_written (moved_to i) z (frames_moved i n m)))) sy
         ∙ (ap (λ w. visible_written true u.write mask (pointer_written i z (special_written (moved_to i) z w))) a
         ∙ (ap (λ w. visible_written true u.write mask (pointer_written i z w)) (special_is (moved_to i) z m)
@@ -169,7 +169,7 @@ module _ {f : FrameState} {s : UseState} (k : Knows f s) (x y : Nested) (fx : f.
     abbrev goes_on : Insn → ℕ → Option ℕ → Nested → FrameState → FrameTurn → FrameTurn
     goes_on i value mark z q u = record u {
       write = marked_write mark value u.write;
-      after = record (keeping q u.after) { unset = unset_written i z.marks q.unset; nested = Some (nested_after i mark z u) };
+      after = record (with_kept_frame q u.after) { unset = unset_written i z.marks q.unset; nested = Some (nested_after i mark z u) };
     }
 
     abbrev result : Insn → ℕ → ℕ
@@ -201,7 +201,7 @@ module _ {f : FrameState} {s : UseState} (k : Knows f s) (x y : Nested) (fx : f.
         access = access_cut (second_word i s h).mask u.access v.access o.access o.stored;
         sent = o.sent;
         knows =
-            subst (λ (z : Masks). Knows (goes_on i value mark x f u).after (record { frame = cut_state m (marked_write mark value v.write) (goes_on i value mark y s.frame v).after.nested (goes_on i value mark y s.frame v).after; masks = z })) (sym (inner_past i m (goes_on i value mark y s.frame v) o.no_entry o.no_return)) (record {
+            subst (λ (z : ValidityBits). Knows (goes_on i value mark x f u).after (record { frame = cut_state m (marked_write mark value v.write) (goes_on i value mark y s.frame v).after.nested (goes_on i value mark y s.frame v).after; masks = z })) (sym (inner_past i m (goes_on i value mark y s.frame v) o.no_entry o.no_return)) (record {
               seen = k.seen;
               sp = k.sp;
               frames = k.frames;
@@ -213,7 +213,7 @@ module _ {f : FrameState} {s : UseState} (k : Knows f s) (x y : Nested) (fx : f.
 
     -- ---- RFI 5
     abbrev ended : FrameState → FrameTurn → FrameTurn
-    ended q u = record u { after = record (keeping q u.after) { nested = None } }
+    ended q u = record u { after = record (with_kept_frame q u.after) { nested = None } }
 
     module _ (i : Insn) (r : ℕ) (u v : FrameTurn) (o : Ordinary i s g h (result i r) u v) (still : moved_to i ≡ None) (silent : v.write ≡ None) where
       abbrev ending_mask : ℕ
@@ -233,7 +233,7 @@ module _ {f : FrameState} {s : UseState} (k : Knows f s) (x y : Nested) (fx : f.
         access = access_cut (second_word i s h).mask u.access v.access o.access o.stored;
         sent = o.sent;
         knows =
-            subst (λ (z : Masks). Knows (ended f u).after (record { frame = cut_state ending_mask v.write None (ended s.frame v).after; masks = z })) (sym (inner_past i ending_mask (ended s.frame v) o.no_entry o.no_return))
+            subst (λ (z : ValidityBits). Knows (ended f u).after (record { frame = cut_state ending_mask v.write None (ended s.frame v).after; masks = z })) (sym (inner_past i ending_mask (ended s.frame v) o.no_entry o.no_return))
             (subst (λ (w : Option RegWrite). Knows (ended f u).after (record { frame = cut_state ending_mask w None (ended s.frame v).after; masks = record s.masks { inner = written_list w ending_mask s.masks.inner; special = moved_masks (moved_to i) (first_word i s h).mask s.masks.special; threadptr = pointer_mask i (first_word i s h).mask s.masks.threadptr } })) (sym silent) (record {
               seen = k.seen;
               sp = k.sp;

@@ -6,16 +6,16 @@ use Rattle.xt_map.specs.declared.contents.MemoryContents.{MemoryContents}
 use Rattle.xt_special.specs.Interrupts.{pending_of}
 use Rattle.xt_trace.specs.declared.record.StepKind.{StepKind}
 use Rattle.xt_trace.specs.declared.record.StepRecord.{StepRecord}
-use Rattle.xt_fetch.specs.Fetching.{fetched}
+use Rattle.xt_fetch.specs.Fetching.{fetch_at}
 use Rattle.xt_fetch.specs.Code.{AreBytes}
 use Rattle.xt_exec.specs.State.{State}
-use Rattle.xt_exec.specs.Laws.{IsShaped}
-use Rattle.xt_exec.specs.Turn.{demand, planned, turn}
+use Rattle.xt_exec.specs.TurnLaws.{IsShaped}
+use Rattle.xt_exec.specs.Turn.{demand, planned_turn, turn}
 use Rattle.xt_frames.specs.HandlerSteps.{returns}
 use Rattle.xt_frames.specs.declared.holes.Nested.{Nested}
 use Rattle.xt_frames.specs.Frames.{FrameState}
-use Rattle.xt_frames.specs.FrameStep.{FrameTurn, laid}
-use Rattle.xt_frames.specs.Nesting.{begins, current_in, inside, is_nesting, nested_turn, turn_in}
+use Rattle.xt_frames.specs.FrameStep.{FrameTurn, with_inputs}
+use Rattle.xt_frames.specs.Nesting.{begins, current_in, nested_view, is_nesting, nested_turn, turn_in}
 use Rattle.xt_frames.specs.Breaches.{Bounds, inputs_of, touches_save_area}
 use Rattle.xt_frames.specs.Judging.{step_on, value_in}
 use Rattle.xt_frames.specs.SaveAreas.{is_live}
@@ -28,7 +28,7 @@ use Rattle.xt_simulation.proofs.Inner.{Ends, Inner}
 use Rattle.xt_simulation.proofs.Judges.{record_access}
 use Rattle.xt_uses.specs.UseBreaches.{laid_use, swaps_unknown, use_breach}
 use Rattle.xt_uses.specs.UseState.{UseState}
-use Rattle.xt_uses.specs.UseStep.{UseTurn, executed, full_step, movsp_of, reply_mask, turn_or, use_turn, value_step}
+use Rattle.xt_uses.specs.UseStep.{UseTurn, step_insn, full_step, movsp_of, reply_mask, turn_or, use_turn, value_step}
 use Rattle.xt_use_run.specs.Knowing.{Follows, Knows}
 use Rattle.xt_use_run.proofs.Following.{RecordFits, record_fits}
 use Rattle.xt_use_run.proofs.Spared.{live_known, spared}
@@ -39,7 +39,7 @@ pub record InnerUse (code : ℕ → ℕ) (b : Bounds) (m : MemoryContents) (s : 
   pub fits : RecordFits live kb (record_now code m s) t
   pub frame : FrameState
   pub left : State
-  pub next : Onward code b (memory_now code m s) (state_now code m s) frame left opened suspended (returns code (planned code s).kind s.control.pc)
+  pub next : Onward code b (memory_now code m s) (state_now code m s) frame left opened suspended (returns code (planned_turn code s).kind s.control.pc)
   pub knows : Knows frame t.after
 
 -- ---- the step of the machine of uses
@@ -50,8 +50,8 @@ no_move_inside : (code : ℕ → ℕ) (h : FrameState) (y : Nested) → h.nested
 no_move_inside code h y e = cond-true (is_some h.nested || (ltb 0 (pending_of h.control) || h.control.waits)) None _ (or_left _ _ (ap (λ (o : Option Nested). is_some o) e))
 
 pub use_inside : (code : ℕ → ℕ) (rec : StepRecord) (bytes : ℕ → ℕ) (s : UseState) (y : Nested) → s.frame.nested ≡ Some y
-    → let h = laid (inputs_of rec) (inside y s.frame) in let w = nested_turn code (value_in rec.write) (inputs_of rec) y s.frame in
-    full_step code true rec bytes s ≡ use_turn (executed w.kind (fetched code h.control.pc)) (reply_mask bytes rec.access) s h w
+    → let h = with_inputs (inputs_of rec) (nested_view y s.frame) in let w = nested_turn code (value_in rec.write) (inputs_of rec) y s.frame in
+    full_step code true rec bytes s ≡ use_turn (step_insn w.kind (fetch_at code h.control.pc)) (reply_mask bytes rec.access) s h w
 unfolding value_step
 use_inside code rec bytes s y sy =
     let inp = inputs_of rec in
@@ -59,15 +59,15 @@ use_inside code rec bytes s y sy =
     let r = reply_mask bytes rec.access in
     let U : Option FrameTurn → Option Nested → UseTurn = λ z o. (
     let w = turn_or z (turn_in o code value inp s.frame) in
-    let k = laid inp (current_in o s.frame) in
-    use_turn (executed w.kind (fetched code k.control.pc)) r s k w
+    let k = with_inputs inp (current_in o s.frame) in
+    use_turn (step_insn w.kind (fetch_at code k.control.pc)) r s k w
     ) in
-    cond-false (begins true rec.kind s.frame) _ _ (no_beginning rec.kind s.frame y sy) ∙ (ap (U (movsp_of code (laid inp s.frame))) sy ∙ ap (λ z. U z (Some y)) (no_move_inside code (laid inp s.frame) y sy))
+    cond-false (begins true rec.kind s.frame) _ _ (no_beginning rec.kind s.frame y sy) ∙ (ap (U (movsp_of code (with_inputs inp s.frame))) sy ∙ ap (λ z. U z (Some y)) (no_move_inside code (with_inputs inp s.frame) y sy))
 
 pub breach_use_inside : (b : Bounds) (fresh : Bool) (code : ℕ → ℕ) (live : ℕ → Bool) (bytes : ℕ → ℕ) (rec : StepRecord) (s : UseState) (y : Nested) → s.frame.nested ≡ Some y
-    → use_breach b fresh code live bytes true rec s ≡ laid_use b fresh code live bytes rec s (laid (inputs_of rec) (inside y s.frame))
+    → use_breach b fresh code live bytes true rec s ≡ laid_use b fresh code live bytes rec s (with_inputs (inputs_of rec) (nested_view y s.frame))
 breach_use_inside b fresh code live bytes rec s y sy =
-    cond-false (begins true rec.kind s.frame) None _ (no_beginning rec.kind s.frame y sy) ∙ ap (λ (o : Option Nested). laid_use b fresh code live bytes rec s (laid (inputs_of rec) (current_in o s.frame))) sy
+    cond-false (begins true rec.kind s.frame) None _ (no_beginning rec.kind s.frame y sy) ∙ ap (λ (o : Option Nested). laid_use b fresh code live bytes rec s (with_inputs (inputs_of rec) (current_in o s.frame))) sy
 
 -- ---- from the step of the frame state
 module _ (code : ℕ → ℕ) (bytes : AreBytes code) (b : Bounds) (good : IsGood code b) (m : MemoryContents) (s : State) {f : FrameState} {before : State} {opened : ℕ → ℕ} {suspended : State} (h : Suspends code b m s f before opened suspended) (shaped : IsShaped s)

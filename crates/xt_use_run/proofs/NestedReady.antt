@@ -6,10 +6,10 @@ use Rattle.std.proofs.lemmas.Bool.{and_left, and_right, cases_Bool, cond-false, 
 use Rattle.xt_isa.specs.declared.Insn.{Insn}
 use Rattle.xt_map.specs.declared.contents.MemoryContents.{MemoryContents}
 use Rattle.xt_window.specs.Ring.{visible}
-use Rattle.xt_rows.specs.Laws.{IsRegister}
+use Rattle.xt_rows.specs.RowLaws.{IsRegister}
 use Rattle.xt_rows.specs.Operands.{reads, special_reads}
 use Rattle.xt_exec.specs.State.{State}
-use Rattle.xt_exec.specs.Laws.{IsShaped}
+use Rattle.xt_exec.specs.TurnLaws.{IsShaped}
 use Rattle.xt_frames.specs.declared.holes.Nested.{Nested}
 use Rattle.xt_frames.specs.Frames.{FrameState}
 use Rattle.xt_frames.specs.Marks.{holds_marks, moves_marks}

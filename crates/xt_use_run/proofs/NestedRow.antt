@@ -12,12 +12,12 @@ use Rattle.xt_window.specs.Ring.{place}
 use Rattle.xt_rows.specs.Operands.{changes_interrupt, reads, special_reads}
 use Rattle.xt_rows.specs.Outcomes.{value_of}
 use Rattle.xt_exec.specs.State.{State}
-use Rattle.xt_exec.specs.Laws.{IsShaped}
+use Rattle.xt_exec.specs.TurnLaws.{IsShaped}
 use Rattle.xt_frames.specs.declared.holes.Nested.{Nested}
-use Rattle.xt_frames.specs.Frames.{FrameState, known}
-use Rattle.xt_frames.specs.FrameStep.{laid}
+use Rattle.xt_frames.specs.Frames.{FrameState, value_or_zero}
+use Rattle.xt_frames.specs.FrameStep.{with_inputs}
 use Rattle.xt_frames.specs.Marks.{holds_marks, mark_read, moves_marks}
-use Rattle.xt_frames.specs.Nesting.{inside}
+use Rattle.xt_frames.specs.Nesting.{nested_view}
 use Rattle.xt_frames.specs.Breaches.{Bounds, is_unset, lost_of, reads_lost}
 use Rattle.xt_simulation.specs.Nested.{Suspends}
 use Rattle.xt_simulation.specs.Relation.{inputs}
@@ -36,13 +36,13 @@ inner_of {masks = masks} {y = y} k e = subst (λ (z : Option Nested). NestedFit 
 -- ---- what is read in it
 module _ {code : ℕ → ℕ} {b : Bounds} {m : MemoryContents} {s : State} {f : FrameState} {before : State} {opened : ℕ → ℕ} {suspended : State} (h : Suspends code b m s f before opened suspended) (shaped : IsShaped s) {us : UseState} (kn : Knows f us) where
   abbrev g0 : FrameState
-  g0 = laid (inputs 0 s) (inside h.x f)
+  g0 = with_inputs (inputs 0 s) (nested_view h.x f)
 
-  pub seen_small : (o : Option ℕ) → value_of (known h.x.seen) o < 2 ^ 32
+  pub seen_small : (o : Option ℕ) → value_of (value_or_zero h.x.seen) o < 2 ^ 32
   seen_small None = omega arith
   seen_small (Some k) = by_value (get_or h.x.seen k None) refl
     where
-      by_value : (o : Option ℕ) → get_or h.x.seen k None ≡ o → known h.x.seen k < 2 ^ 32
+      by_value : (o : Option ℕ) → get_or h.x.seen k None ≡ o → value_or_zero h.x.seen k < 2 ^ 32
       by_value None e = subst (λ z. z < 2 ^ 32) (sym (ap (λ (o : Option ℕ). unwrap_or o 0) e)) (omega arith)
       by_value (Some v) e = subst (λ z. z < 2 ^ 32) (h.inside.numbers k v e ∙ sym (ap (λ (o : Option ℕ). unwrap_or o 0) e)) (shaped.words (place s.base k))
 

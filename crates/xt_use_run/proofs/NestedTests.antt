@@ -11,7 +11,7 @@ use Rattle.xt_special.specs.declared.ps.Ps.{Ps}
 use Rattle.xt_trace.specs.declared.record.StepRecord.{StepRecord}
 use Rattle.xt_fetch.specs.Fetching.{Fetches}
 use Rattle.xt_rows.specs.Kinds.{is_entry, is_movsp, is_return}
-use Rattle.xt_rows.specs.Operands.{named, reads}
+use Rattle.xt_rows.specs.Operands.{highest_register, reads}
 use Rattle.xt_frames.specs.declared.holes.Nested.{Nested}
 use Rattle.xt_frames.specs.Frames.{FrameState}
 use Rattle.xt_frames.specs.FrameStep.{FrameTurn, fetched_step}
@@ -116,7 +116,7 @@ module _ {b : Bounds} {fresh : Bool} {live : ℕ → Bool} {kb : ℕ → ℕ} {i
                         (
                           nowhere_loads rec.access,
                           (
-                            ap (λ (p : Ps). p.excm && leb 4 (named i)) now.control.even.ps ∙ d.high,
+                            ap (λ (p : Ps). p.excm && leb 4 (highest_register i)) now.control.even.ps ∙ d.high,
                             (
                               d.windowing,
                               (

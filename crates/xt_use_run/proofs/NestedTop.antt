@@ -18,25 +18,25 @@ use Rattle.xt_uses.specs.declared.discipline.Discipline.{Discipline}
 use Rattle.xt_uses.specs.declared.words.Word.{Word}
 use Rattle.xt_simulation.proofs.Judges.{record_access}
 use Rattle.xt_simulation.proofs.Resumed.{ends_access}
-use Rattle.xt_fetch.specs.Fetching.{Fetched, Fetches, fetched}
+use Rattle.xt_fetch.specs.Fetching.{Fetched, Fetches, fetch_at}
 use Rattle.xt_fetch.specs.Code.{AreBytes}
 use Rattle.xt_fetch.proofs.Fetches.{fetched_range}
 use Rattle.xt_rows.specs.declared.outcome.Effect.{Effect}
 use Rattle.xt_rows.specs.declared.outcome.Outcome.{Outcome}
 use Rattle.xt_rows.specs.declared.outcome.Outcome.TheVariants.{Does, Windowed}
 use Rattle.xt_rows.specs.declared.outcome.WindowStep.TheVariants.{Enters}
-use Rattle.xt_rows.specs.Laws.{IsHeld, IsProper, IsWord}
+use Rattle.xt_rows.specs.RowLaws.{IsHeld, IsProper, IsWord}
 use Rattle.xt_rows.specs.Operands.{reads, special_reads}
 use Rattle.xt_rows.specs.Outcomes.{outcome_at, value_of}
 use Rattle.xt_rows.proofs.Proper.{outcome_words}
 use Rattle.xt_rows.proofs.Registers.{shift_amount}
 use Rattle.xt_exec.specs.State.{State}
-use Rattle.xt_exec.specs.Laws.{IsShaped}
+use Rattle.xt_exec.specs.TurnLaws.{IsShaped}
 use Rattle.xt_frames.specs.declared.holes.Nested.{Nested}
-use Rattle.xt_frames.specs.Frames.{FrameState, known}
-use Rattle.xt_frames.specs.FrameStep.{FrameTurn, done_in_frame, fetched_step, laid, laid_step}
+use Rattle.xt_frames.specs.Frames.{FrameState, value_or_zero}
+use Rattle.xt_frames.specs.FrameStep.{FrameTurn, done_in_frame, fetched_step, with_inputs, step_with_inputs}
 use Rattle.xt_frames.specs.Marks.{holds_marks, mark_read, marked_write, moves_marks, unset_written}
-use Rattle.xt_frames.specs.Nesting.{ends_nested, inside, keeping, nested_after, nested_fetched, nested_insn}
+use Rattle.xt_frames.specs.Nesting.{ends_nested, nested_view, with_kept_frame, nested_after, nested_fetched, nested_insn}
 use Rattle.xt_frames.specs.Breaches.{Bounds, breach_of, fetched_tests, first_shown, inputs_of, insn_tests, is_exception, is_unset, lost_of, loses_epc1, reads_epc1, reads_lost, reads_none, reads_none_in}
 use Rattle.xt_frames.specs.Judging.{step_on, value_in}
 use Rattle.xt_frames.specs.SaveAreas.{is_live}
@@ -56,7 +56,7 @@ use Rattle.xt_uses.specs.Used.{used_are_known}
 use Rattle.xt_uses.specs.UseBreaches.{has_no_number, holds_mark, nowhere, reads_mark, reads_no_number}
 use Rattle.xt_uses.specs.UseState.{UseState, first_word, second_word, special_operand}
 use Rattle.xt_uses.specs.Known.{result_mask}
-use Rattle.xt_uses.specs.UseStep.{UseTurn, executed, full_step, insn_turn, reply_mask, use_turn}
+use Rattle.xt_uses.specs.UseStep.{UseTurn, step_insn, full_step, insn_turn, reply_mask, use_turn}
 use Rattle.xt_uses.specs.UseLaws.{OutcomesAgree, RowsAgree}
 use Rattle.xt_use_run.specs.Knowing.{Follows, InnerFit, Knows, NestedFit, NowFit, with_pointer}
 use Rattle.xt_use_run.proofs.Agreed.{Uses, uses_known}
@@ -71,8 +71,8 @@ use Rattle.xt_use_run.proofs.NestedRow.{inner_of, mark_gone, seen_small, special
 use Rattle.xt_use_run.proofs.PlainRow.{visible_named}
 use Rattle.xt_use_run.proofs.Reading.{numbered}
 
-pub executed_insn : (i : Insn) (len : ℕ) → executed step.Insn (Fetches i len) ≡ Some i
-unfolding executed
+pub executed_insn : (i : Insn) (len : ℕ) → step_insn step.Insn (Fetches i len) ≡ Some i
+unfolding step_insn
 executed_insn i len = refl
 
 pub ends_result : (by : Discipline) (i : Insn) (x y u : Word) (pointer r : ℕ) → ends_nested i ≡ true → result_mask by i x y u pointer r ≡ result_mask by i x y u pointer all_bits
@@ -80,13 +80,13 @@ unfolding ends_nested result_mask
 ends_result by (insn.System (system.Rfi level)) x y u pointer r e = refl
 ends_result by _ x y u pointer r e = absurd (false≢true e)
 
-pub ending_is : (i : Insn) (value : ℕ) (x : Nested) (f : FrameState) (u : FrameTurn) → ends_nested i ≡ true → nested_insn i value x f u ≡ record u { after = record (keeping f u.after) { nested = None } }
+pub ending_is : (i : Insn) (value : ℕ) (x : Nested) (f : FrameState) (u : FrameTurn) → ends_nested i ≡ true → nested_insn i value x f u ≡ record u { after = record (with_kept_frame f u.after) { nested = None } }
 ending_is i value x f u ends = cond-true (ends_nested i) _ _ ends
 
 abbrev pub goes_on_turn : Insn → ℕ → Option ℕ → Nested → FrameState → FrameTurn → FrameTurn
 goes_on_turn i value mark z q u = record u {
   write = marked_write mark value u.write;
-  after = record (keeping q u.after) { unset = unset_written i z.marks q.unset; nested = Some (nested_after i mark z u) };
+  after = record (with_kept_frame q u.after) { unset = unset_written i z.marks q.unset; nested = Some (nested_after i mark z u) };
 }
 
 pub going_is : (i : Insn) (value : ℕ) (x : Nested) (f : FrameState) (u : FrameTurn) → ends_nested i ≡ false → nested_insn i value x f u ≡ goes_on_turn i value (mark_read i x.saved) x f u
@@ -95,33 +95,33 @@ going_is i value x f u goes = cond-false (ends_nested i) _ _ goes
 -- the machine of uses follows a step inside where it follows what that step is; `told` and `value` are what both are told of the record's write
 module _ (us : UseState) (f : FrameState) (x y : Nested) (i : Insn) (len k told value : ℕ) (h : FrameState) (u v : FrameTurn) where
   abbrev pub InnerFollows : Type 0
-  InnerFollows = Follows (use_turn (executed v.kind (Fetches i len)) k us h (nested_insn i told y us.frame v)) (nested_insn i value x f u)
+  InnerFollows = Follows (use_turn (step_insn v.kind (Fetches i len)) k us h (nested_insn i told y us.frame v)) (nested_insn i value x f u)
 
-  turn_follows : {o : Option Insn} {v2 u2 : FrameTurn} → executed v.kind (Fetches i len) ≡ o → nested_insn i told y us.frame v ≡ v2 → nested_insn i value x f u ≡ u2 → Follows (use_turn o k us h v2) u2 → InnerFollows
+  turn_follows : {o : Option Insn} {v2 u2 : FrameTurn} → step_insn v.kind (Fetches i len) ≡ o → nested_insn i told y us.frame v ≡ v2 → nested_insn i value x f u ≡ u2 → Follows (use_turn o k us h v2) u2 → InnerFollows
   turn_follows {o = o} {v2 = v2} is first second here =
       subst (λ z. Follows (use_turn z k us h (nested_insn i told y us.frame v)) (nested_insn i value x f u)) (sym is)
       (subst (λ (z : FrameTurn). Follows (use_turn o k us h z) (nested_insn i value x f u)) (sym first) (subst (Follows (use_turn o k us h v2)) (sym second) here))
 
   -- RFI 5
-  pub ends_turn : v.kind ≡ step.Insn → ends_nested i ≡ true → Follows (insn_turn i k us h (record v { after = record (keeping us.frame v.after) { nested = None } })) (record u { after = record (keeping f u.after) { nested = None } }) → InnerFollows
-  ends_turn kind ends here = turn_follows (ap (λ z. executed z (Fetches i len)) kind ∙ executed_insn i len) (ending_is i told y us.frame v ends) (ending_is i value x f u ends) here
+  pub ends_turn : v.kind ≡ step.Insn → ends_nested i ≡ true → Follows (insn_turn i k us h (record v { after = record (with_kept_frame us.frame v.after) { nested = None } })) (record u { after = record (with_kept_frame f u.after) { nested = None } }) → InnerFollows
+  ends_turn kind ends here = turn_follows (ap (λ z. step_insn z (Fetches i len)) kind ∙ executed_insn i len) (ending_is i told y us.frame v ends) (ending_is i value x f u ends) here
 
   -- any other
-  pub goes_turn : (o : Option Insn) → executed v.kind (Fetches i len) ≡ o → ends_nested i ≡ false → x.saved ≡ y.saved → Follows (use_turn o k us h (goes_on_turn i told (mark_read i x.saved) y us.frame v)) (goes_on_turn i value (mark_read i x.saved) x f u) → InnerFollows
+  pub goes_turn : (o : Option Insn) → step_insn v.kind (Fetches i len) ≡ o → ends_nested i ≡ false → x.saved ≡ y.saved → Follows (use_turn o k us h (goes_on_turn i told (mark_read i x.saved) y us.frame v)) (goes_on_turn i value (mark_read i x.saved) x f u) → InnerFollows
   goes_turn o is goes saved here =
       turn_follows is (going_is i told y us.frame v goes ∙ ap (λ z. goes_on_turn i told (mark_read i z) y us.frame v) (sym saved)) (going_is i value x f u goes) here
 
 pub use_insn_inside : (code : ℕ → ℕ) (rec : StepRecord) (kb : ℕ → ℕ) (us : UseState) (y : Nested) → us.frame.nested ≡ Some y → (i : Insn) (len : ℕ)
-    → let h = laid (inputs_of rec) (inside y us.frame) in let v = fetched_step (Fetches i len) code rec.reply h in
-    fetched code h.control.pc ≡ Fetches i len → laid_step code rec.reply h ≡ v
-    → full_step code true rec kb us ≡ use_turn (executed v.kind (Fetches i len)) (reply_mask kb rec.access) us h (nested_insn i (value_in rec.write) y us.frame v)
+    → let h = with_inputs (inputs_of rec) (nested_view y us.frame) in let v = fetched_step (Fetches i len) code rec.reply h in
+    fetch_at code h.control.pc ≡ Fetches i len → step_with_inputs code rec.reply h ≡ v
+    → full_step code true rec kb us ≡ use_turn (step_insn v.kind (Fetches i len)) (reply_mask kb rec.access) us h (nested_insn i (value_in rec.write) y us.frame v)
 use_insn_inside code rec kb us y sy i len at step =
-    let h = laid (inputs_of rec) (inside y us.frame) in
+    let h = with_inputs (inputs_of rec) (nested_view y us.frame) in
     let v = fetched_step (Fetches i len) code rec.reply h in
     let told = value_in rec.write in
     let k = reply_mask kb rec.access in
-    let U : Fetched → FrameTurn → UseTurn = λ z w. use_turn (executed (nested_fetched z told y us.frame w).kind z) k us h (nested_fetched z told y us.frame w) in
-    use_inside code rec kb us y sy ∙ (ap (U (fetched code h.control.pc)) step ∙ (ap (λ z. U z v) at ∙ ap (λ z. use_turn (executed z (Fetches i len)) k us h (nested_insn i told y us.frame v)) (kind_inside (Fetches i len) told y us.frame v)))
+    let U : Fetched → FrameTurn → UseTurn = λ z w. use_turn (step_insn (nested_fetched z told y us.frame w).kind z) k us h (nested_fetched z told y us.frame w) in
+    use_inside code rec kb us y sy ∙ (ap (U (fetch_at code h.control.pc)) step ∙ (ap (λ z. U z v) at ∙ ap (λ z. use_turn (step_insn z (Fetches i len)) k us h (nested_insn i told y us.frame v)) (kind_inside (Fetches i len) told y us.frame v)))
 
 pub count_inside : {code : ℕ → ℕ} {b : Bounds} {m : MemoryContents} {s : State} {f : FrameState} {before : State} {opened : ℕ → ℕ} {suspended : State} → Suspends code b m s f before opened suspended → IsShaped s → length f.control.special ≡ 256
 count_inside {s = s} {f = f} h shaped = sym (laid_length f.control.special (special_of s.control 234) (special_of s.control 226)) ∙ (sym h.inside.even.special.size ∙ shaped.control.count)
@@ -132,7 +132,7 @@ module _ (rows : RowsAgree) (code : ℕ → ℕ) (bytes : AreBytes code) (b : Bo
   rec = record_now code m s
 
   abbrev h : FrameState
-  h = laid (inputs_of rec) (inside y us.frame)
+  h = with_inputs (inputs_of rec) (nested_view y us.frame)
 
   abbrev target : Type 0
   target = InnerUse code b m s opened suspended live kb (full_step code true rec kb us)
@@ -143,12 +143,12 @@ module _ (rows : RowsAgree) (code : ℕ → ℕ) (bytes : AreBytes code) (b : Bo
     inner = inner_of (subst (λ (o : Option Nested). NestedFit us.masks.inner f.nested o) sy kn.nested) q.nested
 
     abbrev g : FrameState
-    g = laid (inputs_of rec) (inside q.x f)
+    g = with_inputs (inputs_of rec) (nested_view q.x f)
 
     now : NowFit us g h
     now = now_inside kn q.x y q.nested sy inner (inputs_of rec)
 
-    same_g : g ≡ laid (inputs 0 s) (inside q.x f)
+    same_g : g ≡ with_inputs (inputs 0 s) (nested_view q.x f)
     same_g = laid_same q.inside code m shaped
 
     mode_g : g.control.ps.excm ≡ true
@@ -178,30 +178,30 @@ module _ (rows : RowsAgree) (code : ℕ → ℕ) (bytes : AreBytes code) (b : Bo
     count : length g.control.special ≡ 256
     count = laid_length f.control.special _ _ ∙ count_inside q shaped
 
-    module _ (i : Insn) (len : ℕ) (at : fetched code s.control.pc ≡ Fetches i len) (d : Denied b fresh live kb i rec us h (fetched_step (Fetches i len) code rec.reply h)) (read_all : reads_none_in (Some q.x) i g ≡ false) where
+    module _ (i : Insn) (len : ℕ) (at : fetch_at code s.control.pc ≡ Fetches i len) (d : Denied b fresh live kb i rec us h (fetched_step (Fetches i len) code rec.reply h)) (read_all : reads_none_in (Some q.x) i g ≡ false) where
       abbrev v : FrameTurn
       v = fetched_step (Fetches i len) code rec.reply h
 
       abbrev u : FrameTurn
       u = fetched_step (Fetches i len) code rec.reply g
 
-      at_g : fetched code g.control.pc ≡ Fetches i len
-      at_g = ap (fetched code) (sym pc_g) ∙ at
+      at_g : fetch_at code g.control.pc ≡ Fetches i len
+      at_g = ap (fetch_at code) (sym pc_g) ∙ at
 
-      at_h : fetched code h.control.pc ≡ Fetches i len
-      at_h = ap (fetched code) (sym pc_h) ∙ at
+      at_h : fetch_at code h.control.pc ≡ Fetches i len
+      at_h = ap (fetch_at code) (sym pc_h) ∙ at
 
-      step_g : laid_step code rec.reply g ≡ u
+      step_g : step_with_inputs code rec.reply g ≡ u
       step_g = step_fetches code rec.reply g still_g runs_g ∙ ap (λ z. fetched_step z code rec.reply g) at_g
 
-      step_h : laid_step code rec.reply h ≡ v
+      step_h : step_with_inputs code rec.reply h ≡ v
       step_h = step_fetches code rec.reply h still_h runs_h ∙ ap (λ z. fetched_step z code rec.reply h) at_h
 
       abbrev value : ℕ
       value = value_in rec.write
 
       framed : step_on code true rec f ≡ nested_insn i value q.x f u
-      framed = step_inside code true rec f q.x q.nested ∙ (ap (λ (z : FrameTurn). nested_fetched (fetched code g.control.pc) value q.x f z) step_g ∙ ap (λ z. nested_fetched z value q.x f u) at_g)
+      framed = step_inside code true rec f q.x q.nested ∙ (ap (λ (z : FrameTurn). nested_fetched (fetch_at code g.control.pc) value q.x f z) step_g ∙ ap (λ z. nested_fetched z value q.x f u) at_g)
 
       abbrev k : ℕ
       k = reply_mask kb rec.access
@@ -209,7 +209,7 @@ module _ (rows : RowsAgree) (code : ℕ → ℕ) (bytes : AreBytes code) (b : Bo
       abbrev turn_v : FrameTurn
       turn_v = nested_insn i value y us.frame v
 
-      used : full_step code true rec kb us ≡ use_turn (executed v.kind (Fetches i len)) k us h turn_v
+      used : full_step code true rec kb us ≡ use_turn (step_insn v.kind (Fetches i len)) k us h turn_v
       used = use_insn_inside code rec kb us y sy i len at_h step_h
 
       reads_g : reads_none i g ≡ false
@@ -219,15 +219,15 @@ module _ (rows : RowsAgree) (code : ℕ → ℕ) (bytes : AreBytes code) (b : Bo
       quiet t =
           breach_inside b false code nowhere nowhere true rec f q.x q.nested
           ∙ (breach_fetches b false code nowhere nowhere rec g still_g runs_g
-          ∙ (ap (λ z. first_shown (fetched_tests b false nowhere nowhere z rec g (laid_step code rec.reply g))) at_g
+          ∙ (ap (λ z. first_shown (fetched_tests b false nowhere nowhere z rec g (step_with_inputs code rec.reply g))) at_g
           ∙ (ap (λ (z : FrameTurn). first_shown (insn_tests b false nowhere nowhere i rec g z)) step_g ∙ shown_none (insn_tests b false nowhere nowhere i rec g u) t)))
 
-      pub conclude : {mask : ℕ} → RowStep i us g h mask u v → u.kind ≡ v.kind → Follows (use_turn (executed v.kind (Fetches i len)) k us h turn_v) (nested_insn i value q.x f u) → target
+      pub conclude : {mask : ℕ} → RowStep i us g h mask u v → u.kind ≡ v.kind → Follows (use_turn (step_insn v.kind (Fetches i len)) k us h turn_v) (nested_insn i value q.x f u) → target
       conclude row kinds follows =
           let tests = inner_tests code len y d sy mode_h q.x q.nested inner.marks now row kinds reads_g in
           let next = inner_step code bytes b m s f suspended nowhere nowhere q.x q.nested q.inside shaped kn.unset.size inner.spread (quiet tests) in
           inner_use code bytes b good m s q shaped kn live own d.saves kb d.loads
-          (subst (λ z. Follows z (step_on code true rec f)) (sym used) (subst (Follows (use_turn (executed v.kind (Fetches i len)) k us h turn_v)) (sym framed) follows)) next
+          (subst (λ z. Follows z (step_on code true rec f)) (sym used) (subst (Follows (use_turn (step_insn v.kind (Fetches i len)) k us h turn_v)) (sym framed) follows)) next
 
       -- ---- RFI 5
       bare : (n j : ℕ) → get_or q.x.marks n None ≡ Some j → get_or us.masks.inner n 0 ≡ 0
@@ -272,7 +272,7 @@ module _ (rows : RowsAgree) (code : ℕ → ℕ) (bytes : AreBytes code) (b : Bo
         held None lost none = refl
         held (Some n) lost none = λ is.
             let plain : holds_marks n ≡ false = subst (λ z. holds_marks z ≡ false) (sym is) refl in
-            let a : special_of s.control n ≡ special_of (laid (inputs 0 s) (inside q.x f)).control n = q.inside.even.special.at n (or_from (lost_of false n) (get_or f.unset n false) lost (there (Some n) none n refl plain)) in
+            let a : special_of s.control n ≡ special_of (with_inputs (inputs 0 s) (nested_view q.x f)).control n = q.inside.even.special.at n (or_from (lost_of false n) (get_or f.unset n false) lost (there (Some n) none n refl plain)) in
             let c : special_of g.control n ≡ special_of s.control n = ap (λ (z : FrameState). special_of z.control n) same_g ∙ sym a in
             subst (λ z. z < 2 ^ 6) (sym c) (subst (λ j. special_of s.control j < 2 ^ 6) (sym is) shaped.control.shape.sar_fits)
 
@@ -290,9 +290,9 @@ module _ (rows : RowsAgree) (code : ℕ → ℕ) (bytes : AreBytes code) (b : Bo
         }
 
         abbrev o : Outcome
-        o = outcome_at code i (known g.seen) g.control
+        o = outcome_at code i (value_or_zero g.seen) g.control
 
-        agree : OutcomesAgree us.masks.discipline i (row_masks i us h) o (outcome_at code i (known h.seen) h.control)
+        agree : OutcomesAgree us.masks.discipline i (row_masks i us h) o (outcome_at code i (value_or_zero h.seen) h.control)
         agree = row_agrees now rows masks code i given uses.used
 
         proper : EntersWord o
@@ -334,9 +334,9 @@ module _ (rows : RowsAgree) (code : ℕ → ℕ) (bytes : AreBytes code) (b : Bo
             let R : List (Option ℕ) → List (Option ℕ) → Bool = λ ms ss. not (moves_marks i) && (holds_mark ms (reads i).0 || (holds_mark ms (reads i).1 || (holds_mark ss (special_reads i).0 || holds_mark ss (special_reads i).1))) in
             ap (λ z. R z q.x.saved) inner.marks ∙ (ap (R y.marks) inner.saved ∙ a)
 
-        by_row : RowStep i us g h (mask_of k) u v → Follows (use_turn (executed v.kind (Fetches i len)) k us h turn_v) (nested_insn i value q.x f u)
+        by_row : RowStep i us g h (mask_of k) u v → Follows (use_turn (step_insn v.kind (Fetches i len)) k us h turn_v) (nested_insn i value q.x f u)
         by_row (Executes x) =
-            goes_turn us f q.x y i len k value value h u v (Some i) (ap (λ z. executed z (Fetches i len)) x.kind_too ∙ executed_insn i len) goes inner.saved
+            goes_turn us f q.x y i len k value value h u v (Some i) (ap (λ z. step_insn z (Fetches i len)) x.kind_too ∙ executed_insn i len) goes inner.saved
             (goes_follows kn q.x y q.nested sy inner (inputs_of rec) bare i k value mark (λ j e. mark_gone code q kn i j k h e marks_read) u v x (visible_named i ok u.write x.narrow))
         by_row (Rests x (inl bad)) = absurd (both_ways (is_exception v.kind) (no_exception code len y d sy mode_h) (ap is_exception (sym x.kind) ∙ bad))
         by_row (Rests x (inr none)) = goes_turn us f q.x y i len k value value h u v None (x.idle (Fetches i len)) goes inner.saved (stops_follows kn q.x y q.nested sy inner (inputs_of rec) bare i value mark u v x none)

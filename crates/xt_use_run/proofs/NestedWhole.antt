@@ -7,18 +7,18 @@ use Rattle.xt_isa.specs.Ranges.{in_range}
 use Rattle.xt_map.specs.declared.contents.MemoryContents.{MemoryContents}
 use Rattle.xt_special.specs.Interrupts.{pending_of}
 use Rattle.xt_trace.specs.declared.record.StepRecord.{StepRecord}
-use Rattle.xt_fetch.specs.Fetching.{Fetched, Fetches, Fails, SpellsNothing, fetched}
+use Rattle.xt_fetch.specs.Fetching.{Fetched, Fetches, Fails, SpellsNothing, fetch_at}
 use Rattle.xt_fetch.specs.Code.{AreBytes}
 use Rattle.xt_fetch.proofs.Fetches.{fetched_range}
 use Rattle.xt_rows.specs.Operands.{reads, special_reads}
 use Rattle.xt_rows.proofs.Registers.{reads_registers}
 use Rattle.xt_exec.specs.State.{State}
-use Rattle.xt_exec.specs.Laws.{IsShaped}
+use Rattle.xt_exec.specs.TurnLaws.{IsShaped}
 use Rattle.xt_frames.specs.declared.holes.Nested.{Nested}
 use Rattle.xt_frames.specs.Frames.{FrameState}
-use Rattle.xt_frames.specs.FrameStep.{FrameTurn, fetched_step, laid, laid_step}
+use Rattle.xt_frames.specs.FrameStep.{FrameTurn, fetched_step, with_inputs, step_with_inputs}
 use Rattle.xt_frames.specs.Marks.{moves_marks}
-use Rattle.xt_frames.specs.Nesting.{ends_nested, inside}
+use Rattle.xt_frames.specs.Nesting.{ends_nested, nested_view}
 use Rattle.xt_frames.specs.Breaches.{Bounds, inputs_of, is_unset, lacks, other_tests, reads_none_in}
 use Rattle.xt_frames.specs.SaveAreas.{is_live}
 use Rattle.xt_frames.proofs.Shown.{NoneShown}
@@ -68,7 +68,7 @@ module _ (rows : RowsAgree) (code : ℕ → ℕ) (bytes : AreBytes code) (b : Bo
   rec = record_now code m s
 
   abbrev h : FrameState
-  h = laid (inputs_of rec) (inside y us.frame)
+  h = with_inputs (inputs_of rec) (nested_view y us.frame)
 
   abbrev target : Type 0
   target = InnerUse code b m s opened suspended live kb (full_step code true rec kb us)
@@ -82,16 +82,16 @@ module _ (rows : RowsAgree) (code : ℕ → ℕ) (bytes : AreBytes code) (b : Bo
   same_pc : s.control.pc ≡ h.control.pc
   same_pc = pc_h rows code bytes b good fresh m s shaped opened suspended us y sy masks live own kb q kn
 
-  at_h : (at : Fetched) → fetched code s.control.pc ≡ at → fetched code h.control.pc ≡ at
-  at_h at e = ap (fetched code) (sym same_pc) ∙ e
+  at_h : (at : Fetched) → fetch_at code s.control.pc ≡ at → fetch_at code h.control.pc ≡ at
+  at_h at e = ap (fetch_at code) (sym same_pc) ∙ e
 
-  module _ (i : Insn) (len : ℕ) (at : fetched code s.control.pc ≡ Fetches i len) (d : Denied b fresh live kb i rec us h (fetched_step (Fetches i len) code rec.reply h)) where
+  module _ (i : Insn) (len : ℕ) (at : fetch_at code s.control.pc ≡ Fetches i len) (d : Denied b fresh live kb i rec us h (fetched_step (Fetches i len) code rec.reply h)) where
     ok : in_range i ≡ true
     ok = fetched_range code s.control.pc i len bytes at
 
     ends : ends_nested i ≡ true → target
     ends e =
-        let reads_none_ : reads_none_in (Some q.x) i (laid (inputs_of rec) (inside q.x f)) ≡ false = cond-false (moves_marks i) _ _ (ends_no_marks i e) ∙ and_left _ _ (ap not e) in
+        let reads_none_ : reads_none_in (Some q.x) i (with_inputs (inputs_of rec) (nested_view q.x f)) ≡ false = cond-false (moves_marks i) _ _ (ends_no_marks i e) ∙ and_left _ _ (ap not e) in
         ends_target rows code bytes b good fresh m s shaped opened suspended us y sy masks live own kb q kn i len at d reads_none_ e
 
     goes : ends_nested i ≡ false → target
@@ -110,16 +110,16 @@ module _ (rows : RowsAgree) (code : ℕ → ℕ) (bytes : AreBytes code) (b : Bo
         let second : Has x.seen x.marks (reads i).1 = to_end (reads i).1 two.has in
         let special : HasSpecial all.frame.unset x.saved (special_reads i).0 = ap (λ z. is_unset all.frame.unset (special_reads i).0 && lacks z (special_reads i).0) all.saved_same ∙ last.has in
         let other : is_unset all.frame.unset (special_reads i).1 ≡ false = numbered all.knows (special_reads i).1 n.1 (no_mark (special_reads i).1 (second_special i ok)) in
-        let g : FrameState = laid (inputs_of rec) (inside x all.frame) in
+        let g : FrameState = with_inputs (inputs_of rec) (nested_view x all.frame) in
         let read : reads_none_in (Some x) i g ≡ false = row_reads i x g (marks_none i us h x y inner sy d.unset) first second special other in
         goes_target rows code bytes b good fresh m s shaped opened suspended us y sy masks live own kb all.holds all.knows i len at d read e
 
-  by_fetch : (at : Fetched) → fetched code s.control.pc ≡ at → laid_use b fresh code live kb rec us h ≡ None → target
-  by_fetch (Fails a) e none = absurd (other_breaks b live kb rec h (laid_step code rec.reply h) y sy (fails_shown b fresh code live kb rec us h still runs none a (at_h (Fails a) e)))
-  by_fetch SpellsNothing e none = absurd (other_breaks b live kb rec h (laid_step code rec.reply h) y sy (spells_shown b fresh code live kb rec us h still runs none (at_h SpellsNothing e)))
+  by_fetch : (at : Fetched) → fetch_at code s.control.pc ≡ at → laid_use b fresh code live kb rec us h ≡ None → target
+  by_fetch (Fails a) e none = absurd (other_breaks b live kb rec h (step_with_inputs code rec.reply h) y sy (fails_shown b fresh code live kb rec us h still runs none a (at_h (Fails a) e)))
+  by_fetch SpellsNothing e none = absurd (other_breaks b live kb rec h (step_with_inputs code rec.reply h) y sy (spells_shown b fresh code live kb rec us h still runs none (at_h SpellsNothing e)))
   by_fetch (Fetches i len) e none =
       let d = row_denied b fresh code live kb rec us h still runs none i len (at_h (Fetches i len) e) in
       ⊎_elim (λ z. ends i len e d z) (λ z. goes i len e d z) (cases_Bool (ends_nested i))
 
   pub nested_judged : use_breach b fresh code live kb true rec us ≡ None → target
-  nested_judged none = by_fetch (fetched code s.control.pc) refl (sym (breach_use_inside b fresh code live kb rec us y sy) ∙ none)
+  nested_judged none = by_fetch (fetch_at code s.control.pc) refl (sym (breach_use_inside b fresh code live kb rec us y sy) ∙ none)

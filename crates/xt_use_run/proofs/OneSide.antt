@@ -10,7 +10,7 @@ use Rattle.xt_map.proofs.Grown.{memory_after_push}
 use Rattle.xt_trace.specs.declared.record.StepRecord.{StepRecord}
 use Rattle.xt_fetch.specs.Code.{AreBytes}
 use Rattle.xt_exec.specs.State.{State}
-use Rattle.xt_exec.specs.Laws.{IsServed}
+use Rattle.xt_exec.specs.TurnLaws.{IsServed}
 use Rattle.xt_exec.proofs.Served.{demand_served}
 use Rattle.xt_frames.specs.HandlerSteps.{Mode, Plain, mode_after}
 use Rattle.xt_frames.specs.SaveAreas.{is_live}

@@ -6,16 +6,16 @@ use Rattle.std.proofs.lemmas.List.{get_or_past, get_or-replicate, length-replica
 use Rattle.xt_special.specs.Control.{special_of}
 use Rattle.xt_window.specs.Ring.{place, visible}
 use Rattle.xt_exec.specs.State.{State, opening_state}
-use Rattle.xt_exec.specs.Laws.{IsShaped}
+use Rattle.xt_exec.specs.TurnLaws.{IsShaped}
 use Rattle.xt_exec.proofs.Shapes.{opening_shaped}
-use Rattle.xt_frames.specs.Frames.{FrameState, all_set, known}
+use Rattle.xt_frames.specs.Frames.{FrameState, all_set, value_or_zero}
 use Rattle.xt_simulation.specs.Opening.{frame_of, values_from}
 use Rattle.xt_simulation.proofs.Headline.{opens_alike}
-use Rattle.xt_uses.specs.Words.{all_bits, cut}
+use Rattle.xt_uses.specs.Words.{all_bits, masked}
 use Rattle.xt_uses.specs.declared.discipline.Discipline.{Discipline}
 use Rattle.xt_uses.specs.UseState.{opening_use}
 use Rattle.xt_use_run.specs.Knowing.{ControlFit, Knows, SeenFit, UnsetFit}
-use Rattle.xt_use_run.specs.Laws.{ShadowsOpen}
+use Rattle.xt_use_run.specs.UseRunLaws.{ShadowsOpen}
 use Rattle.xt_use_run.proofs.Operands.{cut_all}
 use Rattle.xt_use_run.proofs.Seen.{cut_zero}
 use Rattle.xt_use_run.proofs.Specials.{left_fits, mark_range, partial_lost}
@@ -42,12 +42,12 @@ module _ (s : State) (shaped : IsShaped s) where
     fits = λ i. ⊎_elim
         (λ low.
         let m : get_or (replicate 16 all_bits) i 0 ≡ all_bits = get_or-replicate 16 i all_bits 0 low in
-        let v : known seen i ≡ visible s.regs s.base i = ap (λ (o : Option ℕ). unwrap_or o 0) (values_at (visible s.regs s.base) 0 16 i low) ∙ ap (visible s.regs s.base) (let e : 0 + i ≡ i = omega arith in e) in
-        ap (λ z. cut z (known seen i)) m ∙ cut_all (known seen i) (subst (λ z. z < 2 ^ 32) (sym v) (shaped.words (place s.base i))))
+        let v : value_or_zero seen i ≡ visible s.regs s.base i = ap (λ (o : Option ℕ). unwrap_or o 0) (values_at (visible s.regs s.base) 0 16 i low) ∙ ap (visible s.regs s.base) (let e : 0 + i ≡ i = omega arith in e) in
+        ap (λ z. masked z (value_or_zero seen i)) m ∙ cut_all (value_or_zero seen i) (subst (λ z. z < 2 ^ 32) (sym v) (shaped.words (place s.base i))))
         (λ high.
         let m : get_or (replicate 16 all_bits) i 0 ≡ 0 = get_or_past (replicate 16 all_bits) i 0 (let l = length-replicate 16 all_bits in omega arith) in
-        let v : known seen i ≡ 0 = ap (λ (o : Option ℕ). unwrap_or o 0) (get_or_past seen i None (let l = values_size (visible s.regs s.base) 0 16 in omega arith)) in
-        ap (λ z. cut z (known seen i)) m ∙ (cut_zero (known seen i) ∙ sym v))
+        let v : value_or_zero seen i ≡ 0 = ap (λ (o : Option ℕ). unwrap_or o 0) (get_or_past seen i None (let l = values_size (visible s.regs s.base) 0 16 in omega arith)) in
+        ap (λ z. masked z (value_or_zero seen i)) m ∙ (cut_zero (value_or_zero seen i) ∙ sym v))
         (cases_lt i 16);
     lacks = λ i e. ⊎_elim
         (λ low. let v = values_at (visible s.regs s.base) 0 16 i low in absurd cc)
@@ -57,13 +57,13 @@ module _ (s : State) (shaped : IsShaped s) where
 
   opens_control : (d : Discipline) → ControlFit d (replicate 256 all_bits) all_bits s.control s.control
   opens_control d = record {
-    even = record { pc = refl; ps = refl; threadptr = refl; waits = refl; special = record { size = refl; only = partial_lost; at = λ k known. refl } };
+    even = record { pc = refl; ps = refl; threadptr = refl; waits = refl; special = record { size = refl; only = partial_lost; at = λ k value_or_zero. refl } };
     pointer = cut_all s.control.threadptr shaped.control.threadptr;
     spread = length-replicate 256 all_bits;
     words = λ n h. shaped.control.words n;
     fits = λ n h.
         let low : n < 256 = ⊎_elim (λ r. let hi = r.1 in omega arith) (λ r. let hi = r.1 in omega arith) (mark_range n h) in
-        ap (λ z. cut z (special_of s.control n)) (get_or-replicate 256 n all_bits 0 low) ∙ cut_all (special_of s.control n) (shaped.control.words n);
+        ap (λ z. masked z (special_of s.control n)) (get_or-replicate 256 n all_bits 0 low) ∙ cut_all (special_of s.control n) (shaped.control.words n);
     saved = λ n h. refl;
   }
 

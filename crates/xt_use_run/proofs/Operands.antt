@@ -14,13 +14,13 @@ use Rattle.xt_isa.specs.declared.system.SpecialName.TheVariants as SpecialName
 use Rattle.xt_isa.specs.Ranges.{in_range, natural_within}
 use Rattle.xt_special.specs.Control.{special_of}
 use Rattle.xt_special.specs.Access.{is_ccompare, is_eps}
-use Rattle.xt_rows.specs.Laws.{IsGiven}
+use Rattle.xt_rows.specs.RowLaws.{IsGiven}
 use Rattle.xt_rows.specs.Numbers.{natural}
 use Rattle.xt_rows.specs.Operands.{reads, special_reads, changes_interrupt}
 use Rattle.xt_rows.specs.Outcomes.{outcome, outcome_at, value_of}
-use Rattle.xt_frames.specs.Frames.{FrameState, known}
+use Rattle.xt_frames.specs.Frames.{FrameState, value_or_zero}
 use Rattle.xt_frames.specs.Marks.{holds_marks}
-use Rattle.xt_uses.specs.Words.{Fits, all_bits, cut, whole_word}
+use Rattle.xt_uses.specs.Words.{Fits, all_bits, masked, whole_word}
 use Rattle.xt_uses.specs.Used.{counted_bits, used_are_known}
 use Rattle.xt_uses.specs.UseState.{UseState, current_masks, first_word, second_word, special_operand, special_word, visible_word}
 use Rattle.xt_uses.specs.UseLaws.{AgreeIn, IsKnownNumber, OthersAgree, OutcomesAgree, RowMasks, RowsAgree, SpecialFits, masks_of_row}
@@ -29,7 +29,7 @@ use Rattle.xt_uses.proofs.Wholes.{fits_agree}
 use Rattle.xt_use_run.specs.Knowing.{NowFit}
 use Rattle.xt_use_run.proofs.Specials.{mark_range, whole_number}
 
-pub cut_all : (n : ℕ) → n < 2 ^ 32 → cut all_bits n ≡ n
+pub cut_all : (n : ℕ) → n < 2 ^ 32 → masked all_bits n ≡ n
 cut_all n h = let e = and_mask n 32 in omega (arith, e)
 
 -- ---- the second special register that a row reads holds no mark
@@ -78,7 +78,7 @@ second_special (insn.Density i) ok = tt
 second_special (insn.Boolean i) ok = tt
 
 -- ---- words and numbers
-pub word_value : (s : UseState) (h : FrameState) (o : Option ℕ) → (visible_word s h o).value ≡ value_of (known h.seen) o
+pub word_value : (s : UseState) (h : FrameState) (o : Option ℕ) → (visible_word s h o).value ≡ value_of (value_or_zero h.seen) o
 word_value s h None = refl
 word_value s h (Some k) = refl
 
@@ -103,13 +103,13 @@ mask_small s h w (Some k) = w.seen k
 
 -- what the row is given of the frame state
 abbrev pub IsGivenAt : Insn → FrameState → Type 0
-IsGivenAt i g = IsGiven i g.control.pc (value_of (known g.seen) (reads i).0) (value_of (known g.seen) (reads i).1) (value_of (special_of g.control) (special_reads i).0) (value_of (special_of g.control) (special_reads i).1) g.control.ps g.control.threadptr
+IsGivenAt i g = IsGiven i g.control.pc (value_of (value_or_zero g.seen) (reads i).0) (value_of (value_or_zero g.seen) (reads i).1) (value_of (special_of g.control) (special_reads i).0) (value_of (special_of g.control) (special_reads i).1) g.control.ps g.control.threadptr
 
 abbrev pub row_masks : Insn → UseState → FrameState → RowMasks
 row_masks i s h = masks_of_row s.masks.discipline i (first_word i s h) (second_word i s h) (special_operand i s h) s.masks.threadptr
 
 module _ {s : UseState} {g h : FrameState} (f : NowFit s g h) where
-  pub word_fits : (o : Option ℕ) → Fits (value_of (known g.seen) o) (visible_word s h o)
+  pub word_fits : (o : Option ℕ) → Fits (value_of (value_or_zero g.seen) o) (visible_word s h o)
   word_fits None = whole_zero
   word_fits (Some k) = f.seen.fits k
 
@@ -120,13 +120,13 @@ module _ {s : UseState} {g h : FrameState} (f : NowFit s g h) where
   special_fits None small = whole_zero
   special_fits (Some n) small = ⊎_elim
       (λ mark.
-      let fits : Fits (special_of g.control n) (special_word s h (Some n)) = ap (λ (b : Bool). cut (cond b (get_or s.masks.special n 0) (counted_bits s.masks.discipline n)) (special_of g.control n)) mark ∙ f.control.fits n mark in
+      let fits : Fits (special_of g.control n) (special_word s h (Some n)) = ap (λ (b : Bool). masked (cond b (get_or s.masks.special n 0) (counted_bits s.masks.discipline n)) (special_of g.control n)) mark ∙ f.control.fits n mark in
       (λ owb. fits, fits_agree (special_of g.control n) (special_word s h (Some n)) fits))
       (λ other.
       let mask : (special_word s h (Some n)).mask ≡ counted_bits s.masks.discipline n = ap (λ (b : Bool). cond b (get_or s.masks.special n 0) (counted_bits s.masks.discipline n)) other in (
         λ owb.
             let same = even_at n other (or_parts (eqb n 230) (is_eps n) owb).1 in
-            ap (λ m. cut m (special_of g.control n)) (mask ∙ counts_all s.masks.discipline n owb) ∙ (cut_all (special_of g.control n) small ∙ same),
+            ap (λ m. masked m (special_of g.control n)) (mask ∙ counts_all s.masks.discipline n owb) ∙ (cut_all (special_of g.control n) small ∙ same),
         subst (λ m. AgreeIn m (special_of g.control n) (special_of h.control n)) (sym mask) (agrees_at n other),
       ))
       (cases_Bool (holds_marks n))
@@ -134,7 +134,7 @@ module _ {s : UseState} {g h : FrameState} (f : NowFit s g h) where
       agrees_at : (n : ℕ) → holds_marks n ≡ false → AgreeIn (counted_bits s.masks.discipline n) (special_of g.control n) (special_of h.control n)
       agrees_at n other = ⊎_elim
           (λ eps. f.control.saved n eps)
-          (λ no_eps. ap (cut (counted_bits s.masks.discipline n)) (even_at n other no_eps))
+          (λ no_eps. ap (masked (counted_bits s.masks.discipline n)) (even_at n other no_eps))
           (cases_Bool (is_eps n))
 
   pub others_agree : (o : Option ℕ) → NoMark o → OthersAgree s.masks.discipline o (value_of (special_of g.control) o) (value_of (special_of h.control) o)
@@ -143,18 +143,18 @@ module _ {s : UseState} {g h : FrameState} (f : NowFit s g h) where
     λ owb. even_at n e (or_parts (eqb n 230) (is_eps n) owb).1,
     ⊎_elim
         (λ eps. f.control.saved n eps)
-        (λ no_eps. ap (cut (counted_bits s.masks.discipline n)) (even_at n e no_eps))
+        (λ no_eps. ap (masked (counted_bits s.masks.discipline n)) (even_at n e no_eps))
         (cases_Bool (is_eps n)),
   )
 
   pub row_agrees : RowsAgree → AreMasks s → (code : ℕ → ℕ) (i : Insn) → IsGivenAt i g → used_are_known s.masks.discipline i (first_word i s h) (second_word i s h) ≡ true
-      → OutcomesAgree s.masks.discipline i (row_masks i s h) (outcome_at code i (known g.seen) g.control) (outcome_at code i (known h.seen) h.control)
+      → OutcomesAgree s.masks.discipline i (row_masks i s h) (outcome_at code i (value_or_zero g.seen) g.control) (outcome_at code i (value_or_zero h.seen) h.control)
   row_agrees rows small code i given used =
       let a = first_word i s h in
       let b = second_word i s h in
       let c = special_operand i s h in
-      let x = value_of (known g.seen) (reads i).0 in
-      let y = value_of (known g.seen) (reads i).1 in
+      let x = value_of (value_or_zero g.seen) (reads i).0 in
+      let y = value_of (value_or_zero g.seen) (reads i).1 in
       let u = value_of (special_of g.control) (special_reads i).0 in
       let v = value_of (special_of g.control) (special_reads i).1 in
       let w = value_of (special_of h.control) (special_reads i).1 in
@@ -163,15 +163,15 @@ module _ {s : UseState} {g h : FrameState} (f : NowFit s g h) where
         second = word_fits (reads i).1;
         special = special_fits (special_reads i).0 given.u_word;
         other = others_agree (special_reads i).1 (second_special i given.range);
-        same = λ e. (ap (value_of (known g.seen)) e, ap (visible_word s h) e);
+        same = λ e. (ap (value_of (value_or_zero g.seen)) e, ap (visible_word s h) e);
         first_mask = mask_small s h small (reads i).0;
         second_mask = mask_small s h small (reads i).1;
         number = known_number s h (special_reads i).0;
         used = used;
       }) in
-      subst (OutcomesAgree s.masks.discipline i (row_masks i s h) (outcome_at code i (known g.seen) g.control)) same here
+      subst (OutcomesAgree s.masks.discipline i (row_masks i s h) (outcome_at code i (value_or_zero g.seen) g.control)) same here
     where
-      same : outcome code i g.control.pc (first_word i s h).value (second_word i s h).value (special_operand i s h).value (value_of (special_of h.control) (special_reads i).1) g.control.ps (cut s.masks.threadptr g.control.threadptr) ≡ outcome_at code i (known h.seen) h.control
+      same : outcome code i g.control.pc (first_word i s h).value (second_word i s h).value (special_operand i s h).value (value_of (special_of h.control) (special_reads i).1) g.control.ps (masked s.masks.threadptr g.control.threadptr) ≡ outcome_at code i (value_or_zero h.seen) h.control
       same =
           let a = word_value s h (reads i).0 in
           let b = word_value s h (reads i).1 in

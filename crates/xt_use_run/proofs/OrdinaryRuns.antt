@@ -9,7 +9,7 @@ use Rattle.xt_trace.specs.Worlds as worlds
 use Rattle.xt_trace.specs.Walks.{IsWalk}
 use Rattle.xt_fetch.specs.Code.{AreBytes}
 use Rattle.xt_exec.specs.State.{State}
-use Rattle.xt_exec.specs.Laws.{IsShaped}
+use Rattle.xt_exec.specs.TurnLaws.{IsShaped}
 use Rattle.xt_exec.specs.Turn.{demand}
 use Rattle.xt_exec.specs.Chips.{processor}
 use Rattle.xt_frames.specs.FirstBreach.{Course, IsTurn, Turn, turn_of, turns}

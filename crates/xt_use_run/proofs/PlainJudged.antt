@@ -5,18 +5,18 @@ use Rattle.xt_map.specs.declared.contents.MemoryContents.{MemoryContents}
 use Rattle.xt_map.specs.Memory.{byte_at}
 use Rattle.xt_map.specs.Touching.{IsMemory}
 use Rattle.xt_special.specs.Interrupts.{pending_of}
-use Rattle.xt_fetch.specs.Fetching.{Fetched, Fetches, Fails, SpellsNothing, fetched}
+use Rattle.xt_fetch.specs.Fetching.{Fetched, Fetches, Fails, SpellsNothing, fetch_at}
 use Rattle.xt_fetch.specs.Code.{AreBytes}
 use Rattle.xt_rows.specs.Effects.{fetch_error, illegal_instruction}
 use Rattle.xt_rows.specs.Kinds.{is_movsp}
 use Rattle.xt_exec.specs.State.{State}
-use Rattle.xt_exec.specs.Laws.{IsShaped}
-use Rattle.xt_exec.specs.Turn.{demand, planned}
+use Rattle.xt_exec.specs.TurnLaws.{IsShaped}
+use Rattle.xt_exec.specs.Turn.{demand, planned_turn}
 use Rattle.xt_exec.proofs.Finished.{turn_taken, turn_waits}
 use Rattle.xt_trace.specs.declared.record.StepRecord.{StepRecord}
 use Rattle.xt_frames.specs.declared.holes.Nested.{Nested}
 use Rattle.xt_frames.specs.Frames.{Frame, FrameState}
-use Rattle.xt_frames.specs.FrameStep.{laid}
+use Rattle.xt_frames.specs.FrameStep.{with_inputs}
 use Rattle.xt_frames.specs.HandlerSteps.{is_window}
 use Rattle.xt_frames.specs.Nesting.{current_in}
 use Rattle.xt_frames.specs.SaveAreas.{is_live}
@@ -49,25 +49,25 @@ pub no_move_spells : (f : FrameState) → fetched_movsp SpellsNothing f ≡ None
 unfolding fetched_movsp
 no_move_spells f = refl
 
-module _ (rows : RowsAgree) (code : ℕ → ℕ) (bytes : AreBytes code) (b : Bounds) (fresh : Bool) (s : State) (m : MemoryContents) (shaped : IsShaped s) (real : IsMemory m) (nowindow : is_window (planned code s).kind ≡ false)
+module _ (rows : RowsAgree) (code : ℕ → ℕ) (bytes : AreBytes code) (b : Bounds) (fresh : Bool) (s : State) (m : MemoryContents) (shaped : IsShaped s) (real : IsMemory m) (nowindow : is_window (planned_turn code s).kind ≡ false)
     (us : UseState) (sn : us.frame.nested ≡ None) (masks : AreMasks us) (live : ℕ → Bool) (own : (a : ℕ) → is_live b.range us.frame a ≡ true → live a ≡ true) (kb : ℕ → ℕ)
     {f : FrameState} {ring spilled : List Frame} (l : Related (byte_at m) b (lost_at fresh f) s f ring spilled) (kn : Knows f us) (fn : f.nested ≡ None) where
   abbrev rec : StepRecord
   rec = record_now code m s
 
   abbrev h : FrameState
-  h = laid (inputs_of rec) us.frame
+  h = with_inputs (inputs_of rec) us.frame
 
-  now : NowFit us (laid (inputs_of rec) f) h
+  now : NowFit us (with_inputs (inputs_of rec) f) h
   now = now_plain kn fn sn (inputs_of rec)
 
-  same_f : laid (inputs_of rec) f ≡ laid (inputs 0 s) f
+  same_f : with_inputs (inputs_of rec) f ≡ with_inputs (inputs 0 s) f
   same_f = same_laid code s (reply_now code m s) f shaped.control.ps.owb_fits
 
   same_pend : pending_of s.control ≡ pending_of h.control
   same_pend =
-      same_pending s.control (laid (inputs 0 s) f).control l.plain.even
-      ∙ (ap (λ (z : FrameState). pending_of z.control) (sym same_f) ∙ same_pending (laid (inputs_of rec) f).control (with_pointer (laid (inputs_of rec) f).control.threadptr h.control) now.control.even)
+      same_pending s.control (with_inputs (inputs 0 s) f).control l.plain.even
+      ∙ (ap (λ (z : FrameState). pending_of z.control) (sym same_f) ∙ same_pending (with_inputs (inputs_of rec) f).control (with_pointer (with_inputs (inputs_of rec) f).control.threadptr h.control) now.control.even)
 
   same_waits : s.control.waits ≡ h.control.waits
   same_waits = l.plain.even.waits ∙ now.control.even.waits
@@ -105,10 +105,10 @@ module _ (rows : RowsAgree) (code : ℕ → ℕ) (bytes : AreBytes code) (b : Bo
     awake_h : h.control.waits ≡ false
     awake_h = sym same_waits ∙ awake
 
-    at_h : (at : Fetched) → fetched code s.control.pc ≡ at → fetched code h.control.pc ≡ at
-    at_h at e = ap (fetched code) (sym same_pc) ∙ e
+    at_h : (at : Fetched) → fetch_at code s.control.pc ≡ at → fetch_at code h.control.pc ≡ at
+    at_h at e = ap (fetch_at code) (sym same_pc) ∙ e
 
-    by_fetch : (at : Fetched) → fetched code s.control.pc ≡ at → laid_use b fresh code live kb rec us h ≡ None → target
+    by_fetch : (at : Fetched) → fetch_at code s.control.pc ≡ at → laid_use b fresh code live kb rec us h ≡ None → target
     by_fetch (Fails a) e none =
         fails_judged code bytes b fresh s m shaped real nowindow us sn live own kb l kn fn still_h awake_h (Fails a) (at_h (Fails a) e) (no_move_fails a) fetch_error (Some a) (λ x. refl) (λ x w live. refl) (fails_shown b fresh code live kb rec us h still_h awake_h none a (at_h (Fails a) e))
     by_fetch SpellsNothing e none =
@@ -122,8 +122,8 @@ module _ (rows : RowsAgree) (code : ℕ → ℕ) (bytes : AreBytes code) (b : Bo
 
   pub plain_judged : use_breach b fresh code live kb false rec us ≡ None → target
   plain_judged none =
-      let none_h : laid_use b fresh code live kb rec us h ≡ None = ap (λ (o : Option Nested). laid_use b fresh code live kb rec us (laid (inputs_of rec) (current_in o us.frame))) (sym sn) ∙ none in
+      let none_h : laid_use b fresh code live kb rec us h ≡ None = ap (λ (o : Option Nested). laid_use b fresh code live kb rec us (with_inputs (inputs_of rec) (current_in o us.frame))) (sym sn) ∙ none in
       ⊎_elim
       (λ pends. taken none_h pends)
-      (λ still. ⊎_elim (λ w. waiting none_h still w) (λ w. by_fetch still w (fetched code s.control.pc) refl none_h) (cases_Bool s.control.waits))
+      (λ still. ⊎_elim (λ w. waiting none_h still w) (λ w. by_fetch still w (fetch_at code s.control.pc) refl none_h) (cases_Bool s.control.waits))
       (cases_Bool (ltb 0 (pending_of s.control)))

@@ -11,7 +11,7 @@ use Rattle.xt_map.specs.Memory.{byte_at}
 use Rattle.xt_map.specs.Touching.{IsMemory}
 use Rattle.xt_special.specs.declared.ps.Ps.{Ps}
 use Rattle.xt_special.specs.Interrupts.{pending_of}
-use Rattle.xt_fetch.specs.Fetching.{Fetched, Fetches, fetched}
+use Rattle.xt_fetch.specs.Fetching.{Fetched, Fetches, fetch_at}
 use Rattle.xt_fetch.specs.Code.{AreBytes}
 use Rattle.xt_fetch.proofs.Fetches.{fetched_range}
 use Rattle.xt_rows.specs.declared.outcome.Effect.{Effect}
@@ -19,20 +19,20 @@ use Rattle.xt_rows.specs.declared.outcome.Outcome.{Outcome}
 use Rattle.xt_rows.specs.declared.outcome.Outcome.TheVariants.{Does, Windowed}
 use Rattle.xt_rows.specs.declared.outcome.WindowStep.TheVariants.{Enters}
 use Rattle.xt_rows.specs.Kinds.{WritesNamed, is_entry, is_movsp}
-use Rattle.xt_rows.specs.Laws.{IsProper, IsWord}
-use Rattle.xt_rows.specs.Operands.{named, reads, special_reads}
+use Rattle.xt_rows.specs.RowLaws.{IsProper, IsWord}
+use Rattle.xt_rows.specs.Operands.{highest_register, reads, special_reads}
 use Rattle.xt_rows.specs.Outcomes.{outcome_at}
 use Rattle.xt_rows.proofs.Proper.{outcome_words}
 use Rattle.xt_rows.proofs.Registers.{names_registers}
 use Rattle.xt_exec.specs.State.{State}
-use Rattle.xt_exec.specs.Laws.{IsShaped}
-use Rattle.xt_exec.specs.Turn.{Planned, checked, fetched_turn, is_illegal, overflow, planned, raises, window_check}
+use Rattle.xt_exec.specs.TurnLaws.{IsShaped}
+use Rattle.xt_exec.specs.Turn.{Planned, turn_or_overflow, fetched_turn, is_illegal, overflow, planned_turn, raises, window_check}
 use Rattle.xt_exec.proofs.Finished.{turn_fetches}
 use Rattle.xt_trace.specs.declared.record.RegWrite.{RegWrite}
 use Rattle.xt_trace.specs.declared.record.StepRecord.{StepRecord}
 use Rattle.xt_frames.specs.declared.holes.Nested.{Nested}
-use Rattle.xt_frames.specs.Frames.{Frame, FrameState, known}
-use Rattle.xt_frames.specs.FrameStep.{FrameTurn, done_in_frame, fetched_step, laid, laid_step}
+use Rattle.xt_frames.specs.Frames.{Frame, FrameState, value_or_zero}
+use Rattle.xt_frames.specs.FrameStep.{FrameTurn, done_in_frame, fetched_step, with_inputs, step_with_inputs}
 use Rattle.xt_frames.specs.HandlerSteps.{is_window}
 use Rattle.xt_frames.specs.Marks.{holds_marks}
 use Rattle.xt_frames.specs.Nesting.{ends_nested, unset_after}
@@ -53,7 +53,7 @@ use Rattle.xt_simulation.proofs.Windowed.{return_has_caller}
 use Rattle.xt_uses.specs.Words.{all_bits}
 use Rattle.xt_uses.specs.UseBreaches.{has_no_number, nowhere, reads_no_number}
 use Rattle.xt_uses.specs.UseState.{UseState}
-use Rattle.xt_uses.specs.UseStep.{UseTurn, executed, fetched_movsp, full_step, movsp_of, reply_mask, use_turn}
+use Rattle.xt_uses.specs.UseStep.{UseTurn, step_insn, fetched_movsp, full_step, movsp_of, reply_mask, use_turn}
 use Rattle.xt_uses.specs.UseLaws.{OutcomesAgree, RowsAgree}
 use Rattle.xt_use_run.specs.Knowing.{Follows, Knows, NowFit, with_pointer}
 use Rattle.xt_use_run.proofs.Agreed.{Uses, alike_after, return_whole, sp_tested, uses_known}
@@ -97,31 +97,31 @@ pub entry_one : (i : Insn) (number : ℕ) (size : ℤ) (b : Bounds) (h : FrameSt
 entry_one i number size b h is e = entry_number number size b.range h (subst (λ j. other_frame_size b.range j h ≡ false) is e)
 
 -- the turn passes the window check, where the instruction is legal
-pub passes_check : (code : ℕ → ℕ) (s : State) (i : Insn) (len : ℕ) → planned code s ≡ fetched_turn (Fetches i len) code s → is_window (planned code s).kind ≡ false → is_illegal i s ≡ false → window_check i s ≡ 0
+pub passes_check : (code : ℕ → ℕ) (s : State) (i : Insn) (len : ℕ) → planned_turn code s ≡ fetched_turn (Fetches i len) code s → is_window (planned_turn code s).kind ≡ false → is_illegal i s ≡ false → window_check i s ≡ 0
 passes_check code s i len is nowindow legal = by_check (window_check i s) refl
   where
-    here : planned code s ≡ checked (window_check i s) code i len s
-    here = is ∙ cond-false (is_illegal i s) (raises _ s) (checked (window_check i s) code i len s) legal
+    here : planned_turn code s ≡ turn_or_overflow (window_check i s) code i len s
+    here = is ∙ cond-false (is_illegal i s) (raises _ s) (turn_or_overflow (window_check i s) code i len s) legal
 
     by_check : (k : ℕ) → window_check i s ≡ k → k ≡ 0
     by_check zero e = refl
     by_check (suc k) e =
-        let p : planned code s ≡ overflow (suc k) s = here ∙ ap (λ z. checked z code i len s) e in
-        let w : is_window (planned code s).kind ≡ true = ap (λ (q : Planned). is_window q.kind) p ∙ overflow_window (suc k) s in
+        let p : planned_turn code s ≡ overflow (suc k) s = here ∙ ap (λ z. turn_or_overflow z code i len s) e in
+        let w : is_window (planned_turn code s).kind ≡ true = ap (λ (q : Planned). is_window q.kind) p ∙ overflow_window (suc k) s in
         absurd (both_ways _ nowindow w)
 
 pub visible_named : (i : Insn) → in_range i ≡ true → (o : Option RegWrite) → WritesNamed i o → IsVisible o
 visible_named i ok None h = tt
 visible_named i ok (Some w) h = let n = names_registers i ok in omega arith
 
-module _ (rows : RowsAgree) (code : ℕ → ℕ) (bytes : AreBytes code) (b : Bounds) (fresh : Bool) (s : State) (m : MemoryContents) (shaped : IsShaped s) (real : IsMemory m) (nowindow : is_window (planned code s).kind ≡ false)
+module _ (rows : RowsAgree) (code : ℕ → ℕ) (bytes : AreBytes code) (b : Bounds) (fresh : Bool) (s : State) (m : MemoryContents) (shaped : IsShaped s) (real : IsMemory m) (nowindow : is_window (planned_turn code s).kind ≡ false)
     (us : UseState) (sn : us.frame.nested ≡ None) (masks : AreMasks us) (live : ℕ → Bool) (own : (a : ℕ) → is_live b.range us.frame a ≡ true → live a ≡ true) (kb : ℕ → ℕ)
-    (still : ltb 0 (pending_of s.control) ≡ false) (awake : s.control.waits ≡ false) (i : Insn) (len : ℕ) (at : fetched code s.control.pc ≡ Fetches i len) (movsp : is_movsp i ≡ false) where
+    (still : ltb 0 (pending_of s.control) ≡ false) (awake : s.control.waits ≡ false) (i : Insn) (len : ℕ) (at : fetch_at code s.control.pc ≡ Fetches i len) (movsp : is_movsp i ≡ false) where
   abbrev rec : StepRecord
   rec = record_now code m s
 
   abbrev h : FrameState
-  h = laid (inputs_of rec) us.frame
+  h = with_inputs (inputs_of rec) us.frame
 
   ok : in_range i ≡ true
   ok = fetched_range code s.control.pc i len bytes at
@@ -140,18 +140,18 @@ module _ (rows : RowsAgree) (code : ℕ → ℕ) (bytes : AreBytes code) (b : Bo
     epc1 = epc1_known fresh i h sn d.lost
 
     abbrev g0 : FrameState
-    g0 = laid (inputs_of rec) f
+    g0 = with_inputs (inputs_of rec) f
 
     first_now : NowFit us g0 h
     first_now = now_plain kn fn sn (inputs_of rec)
 
-    same_f : g0 ≡ laid (inputs 0 s) f
+    same_f : g0 ≡ with_inputs (inputs 0 s) f
     same_f = same_laid code s (reply_now code m s) f shaped.control.ps.owb_fits
 
-    high : names_high i (laid (inputs 0 s) f) ≡ false
-    high = subst (λ (x : FrameState). names_high i x ≡ false) same_f (ap (λ (p : Ps). p.excm && leb 4 (named i)) first_now.control.even.ps ∙ d.high)
+    high : names_high i (with_inputs (inputs 0 s) f) ≡ false
+    high = subst (λ (x : FrameState). names_high i x ≡ false) same_f (ap (λ (p : Ps). p.excm && leb 4 (highest_register i)) first_now.control.even.ps ∙ d.high)
 
-    sized : other_frame_size b.range i (laid (inputs 0 s) f) ≡ false
+    sized : other_frame_size b.range i (with_inputs (inputs 0 s) f) ≡ false
     sized = subst (λ (x : FrameState). other_frame_size b.range i x ≡ false) same_f (size_row b.range i g0 h (ap (λ (p : Ps). p.callinc) first_now.control.even.ps) kn.sp (before_same b.range.hi us.masks.kept f.frames us.frame.frames kn.frames) d.size)
 
     r : Ready b (byte_at m) fresh s ring spilled us i
@@ -160,9 +160,9 @@ module _ (rows : RowsAgree) (code : ℕ → ℕ) (bytes : AreBytes code) (b : Bo
         ready shaped i f l kn fn seats.0 seats.1 numbers.0 numbers.1 (no_mark (special_reads i).1 (second_special i ok))
 
     abbrev g : FrameState
-    g = laid (inputs_of rec) r.frame
+    g = with_inputs (inputs_of rec) r.frame
 
-    same_g : g ≡ laid (inputs 0 s) r.frame
+    same_g : g ≡ with_inputs (inputs 0 s) r.frame
     same_g = same_laid code s (reply_now code m s) r.frame shaped.control.ps.owb_fits
 
     now : NowFit us g h
@@ -172,9 +172,9 @@ module _ (rows : RowsAgree) (code : ℕ → ℕ) (bytes : AreBytes code) (b : Bo
     given = subst (IsGivenAt i) (sym same_g) (given_now shaped r ok epc1.0 epc1.1)
 
     abbrev o : Outcome
-    o = outcome_at code i (known g.seen) g.control
+    o = outcome_at code i (value_or_zero g.seen) g.control
 
-    agree : OutcomesAgree us.masks.discipline i (row_masks i us h) o (outcome_at code i (known h.seen) h.control)
+    agree : OutcomesAgree us.masks.discipline i (row_masks i us h) o (outcome_at code i (value_or_zero h.seen) h.control)
     agree = row_agrees now rows masks code i given uses.used
 
     proper : EntersWord o
@@ -213,20 +213,20 @@ module _ (rows : RowsAgree) (code : ℕ → ℕ) (bytes : AreBytes code) (b : Bo
     pc_g : s.control.pc ≡ g.control.pc
     pc_g = r.related.plain.even.pc
 
-    at_g : fetched code g.control.pc ≡ Fetches i len
-    at_g = ap (fetched code) (sym pc_g) ∙ at
+    at_g : fetch_at code g.control.pc ≡ Fetches i len
+    at_g = ap (fetch_at code) (sym pc_g) ∙ at
 
     still_g : ltb 0 (pending_of g.control) ≡ false
-    still_g = ap (λ (x : FrameState). ltb 0 (pending_of x.control)) same_g ∙ (ap (λ n. ltb 0 n) (sym (same_pending s.control (laid (inputs 0 s) r.frame).control r.related.plain.even)) ∙ still)
+    still_g = ap (λ (x : FrameState). ltb 0 (pending_of x.control)) same_g ∙ (ap (λ n. ltb 0 n) (sym (same_pending s.control (with_inputs (inputs 0 s) r.frame).control r.related.plain.even)) ∙ still)
 
     awake_g : g.control.waits ≡ false
     awake_g = sym r.related.plain.even.waits ∙ awake
 
-    step_g : laid_step code rec.reply g ≡ u
+    step_g : step_with_inputs code rec.reply g ≡ u
     step_g = step_fetches code rec.reply g still_g awake_g ∙ ap (λ z. fetched_step z code rec.reply g) at_g
 
-    at_h : fetched code h.control.pc ≡ Fetches i len
-    at_h = ap (fetched code) (sym now.control.even.pc) ∙ at_g
+    at_h : fetch_at code h.control.pc ≡ Fetches i len
+    at_h = ap (fetch_at code) (sym now.control.even.pc) ∙ at_g
 
     still_h : ltb 0 (pending_of h.control) ≡ false
     still_h = ap (λ n. ltb 0 n) (sym (same_pending g.control (with_pointer g.control.threadptr h.control) now.control.even)) ∙ still_g
@@ -234,13 +234,13 @@ module _ (rows : RowsAgree) (code : ℕ → ℕ) (bytes : AreBytes code) (b : Bo
     awake_h : h.control.waits ≡ false
     awake_h = sym now.control.even.waits ∙ awake_g
 
-    step_h : laid_step code rec.reply h ≡ v
+    step_h : step_with_inputs code rec.reply h ≡ v
     step_h = step_fetches code rec.reply h still_h awake_h ∙ ap (λ z. fetched_step z code rec.reply h) at_h
 
     quiet : laid_breach b fresh code nowhere nowhere rec g ≡ None
     quiet =
         breach_fetches b fresh code nowhere nowhere rec g still_g awake_g
-        ∙ (ap (λ z. first_shown (fetched_tests b fresh nowhere nowhere z rec g (laid_step code rec.reply g))) at_g
+        ∙ (ap (λ z. first_shown (fetched_tests b fresh nowhere nowhere z rec g (step_with_inputs code rec.reply g))) at_g
         ∙ (ap (λ (z : FrameTurn). first_shown (insn_tests b fresh nowhere nowhere i rec g z)) step_g
         ∙ shown_none (insn_tests b fresh nowhere nowhere i rec g u) (tests_too d tested (reads_all i g r.nested r.first r.second r.special r.other) movsp)))
 
@@ -254,9 +254,9 @@ module _ (rows : RowsAgree) (code : ℕ → ℕ) (bytes : AreBytes code) (b : Bo
     abbrev turn_v : FrameTurn
     turn_v = with_unset (unset_after v.kind (Fetches i len) us.frame.unset) v
 
-    plain_is : plain_after code (reply_now code m s) (laid (inputs 0 s) r.frame) ≡ turn_u
+    plain_is : plain_after code (reply_now code m s) (with_inputs (inputs 0 s) r.frame) ≡ turn_u
     plain_is =
-        let W : FrameTurn → FrameTurn = λ z. with_unset (unset_after z.kind (fetched code g.control.pc) r.frame.unset) z in
+        let W : FrameTurn → FrameTurn = λ z. with_unset (unset_after z.kind (fetch_at code g.control.pc) r.frame.unset) z in
         ap (plain_after code (reply_now code m s)) (sym same_g)
         ∙ (ap (λ z. plain_after code z g) (sym (record_reply code m s))
         ∙ (ap W step_g ∙ ap (λ z. with_unset (unset_after u.kind z r.frame.unset) u) at_g))
@@ -276,11 +276,11 @@ module _ (rows : RowsAgree) (code : ℕ → ℕ) (bytes : AreBytes code) (b : Bo
     three : g.control.ps.callinc ≤ 3
     three =
         let a : s.control.ps.callinc < 4 = r.related.plain.calls in
-        let c : s.control.ps.callinc ≡ (laid (inputs 0 s) r.frame).control.ps.callinc = ap (λ (p : Ps). p.callinc) r.related.plain.even.ps in
-        let e : g.control.ps.callinc ≡ (laid (inputs 0 s) r.frame).control.ps.callinc = ap (λ (x : FrameState). x.control.ps.callinc) same_g in
+        let c : s.control.ps.callinc ≡ (with_inputs (inputs 0 s) r.frame).control.ps.callinc = ap (λ (p : Ps). p.callinc) r.related.plain.even.ps in
+        let e : g.control.ps.callinc ≡ (with_inputs (inputs 0 s) r.frame).control.ps.callinc = ap (λ (x : FrameState). x.control.ps.callinc) same_g in
         omega arith
 
-    by_row : RowStep i us g h (result now code i count given.x_word k) u v → Follows (use_turn (executed v.kind (Fetches i len)) k us h turn_v) turn_u
+    by_row : RowStep i us g h (result now code i count given.x_word k) u v → Follows (use_turn (step_insn v.kind (Fetches i len)) k us h turn_v) turn_u
     by_row (Executes x) = ordinary_follows r.knows r.nested sn (inputs_of rec) i len k u v x (visible_named i ok u.write x.narrow) (keeps_a1 x.no_entry)
     by_row (Rests x why) = quiet_follows r.knows r.nested sn (inputs_of rec) (Fetches i len) k u v x
     by_row (Pushes number value n low entry size is small eu ev) =
@@ -289,15 +289,15 @@ module _ (rows : RowsAgree) (code : ℕ → ℕ) (bytes : AreBytes code) (b : Bo
     by_row (Pops a0 low return_ eu ev) =
         pops_follows r.knows sn (inputs_of rec) now.control i return_ a0 len r.related.stack.shaped (λ e. return_has_caller i g return_ e (caller_too tested b.range d.caller)) k u v eu ev
 
-    same_use : full_step code false rec kb us ≡ use_turn (executed v.kind (Fetches i len)) k us h turn_v
+    same_use : full_step code false rec kb us ≡ use_turn (step_insn v.kind (Fetches i len)) k us h turn_v
     same_use =
-        let U : Fetched → FrameTurn → UseTurn = λ z w. use_turn (executed w.kind z) k us h (with_unset (unset_after w.kind z us.frame.unset) w) in
-        use_plain code rec kb us sn no_move ∙ (ap (U (fetched code h.control.pc)) step_h ∙ ap (λ z. U z v) at_h)
+        let U : Fetched → FrameTurn → UseTurn = λ z w. use_turn (step_insn w.kind z) k us h (with_unset (unset_after w.kind z us.frame.unset) w) in
+        use_plain code rec kb us sn no_move ∙ (ap (U (fetch_at code h.control.pc)) step_h ∙ ap (λ z. U z v) at_h)
       where
         no_move : movsp_of code h ≡ None
         no_move = by_test (is_some us.frame.nested || (ltb 0 (pending_of h.control) || h.control.waits))
           where
-            by_test : (t : Bool) → cond t None (fetched_movsp (fetched code h.control.pc) h) ≡ None
+            by_test : (t : Bool) → cond t None (fetched_movsp (fetch_at code h.control.pc) h) ≡ None
             by_test true = refl
             by_test false = ap (λ z. fetched_movsp z h) at_h ∙ row_moves_none i len h movsp
 
@@ -306,6 +306,6 @@ module _ (rows : RowsAgree) (code : ℕ → ℕ) (bytes : AreBytes code) (b : Bo
 
     pub row_judged : JudgedUse code b fresh m s live kb (full_step code false rec kb us)
     row_judged =
-        let follows : Follows (full_step code false rec kb us) (plain_after code (reply_now code m s) (laid (inputs 0 s) r.frame)) =
-        subst (λ z. Follows z (plain_after code (reply_now code m s) (laid (inputs 0 s) r.frame))) (sym same_use) (subst (Follows (use_turn (executed v.kind (Fetches i len)) k us h turn_v)) (sym plain_is) (by_row real_row)) in
+        let follows : Follows (full_step code false rec kb us) (plain_after code (reply_now code m s) (with_inputs (inputs 0 s) r.frame)) =
+        subst (λ z. Follows z (plain_after code (reply_now code m s) (with_inputs (inputs 0 s) r.frame))) (sym same_use) (subst (Follows (use_turn (step_insn v.kind (Fetches i len)) k us h turn_v)) (sym plain_is) (by_row real_row)) in
         finish code bytes b fresh s m shaped real nowindow r.related r.nested quiet live kb r.knows own d.saves d.loads follows (ap (λ (z : FrameTurn). z.after.nested) plain_is ∙ nested_after)

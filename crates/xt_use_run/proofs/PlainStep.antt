@@ -8,16 +8,16 @@ use Rattle.xt_isa.specs.declared.shift.Shift.TheVariants as shift
 use Rattle.xt_map.specs.declared.contents.MemoryContents.{MemoryContents}
 use Rattle.xt_map.specs.Memory.{byte_at}
 use Rattle.xt_map.specs.Touching.{IsMemory}
-use Rattle.xt_fetch.specs.Fetching.{Fetches, fetched}
+use Rattle.xt_fetch.specs.Fetching.{Fetches, fetch_at}
 use Rattle.xt_fetch.specs.Code.{AreBytes}
 use Rattle.xt_rows.specs.Kinds.{is_movsp}
 use Rattle.xt_exec.specs.State.{State}
-use Rattle.xt_exec.specs.Laws.{IsShaped}
-use Rattle.xt_exec.specs.Turn.{demand, planned, turn}
+use Rattle.xt_exec.specs.TurnLaws.{IsShaped}
+use Rattle.xt_exec.specs.Turn.{demand, planned_turn, turn}
 use Rattle.xt_trace.specs.declared.record.StepRecord.{StepRecord}
 use Rattle.xt_frames.specs.declared.holes.Nested.{Nested}
 use Rattle.xt_frames.specs.Frames.{Frame, FrameState}
-use Rattle.xt_frames.specs.FrameStep.{FrameTurn, laid, laid_step}
+use Rattle.xt_frames.specs.FrameStep.{FrameTurn, with_inputs, step_with_inputs}
 use Rattle.xt_frames.specs.HandlerSteps.{is_window}
 use Rattle.xt_frames.specs.Nesting.{current_in, turn_in, unset_after}
 use Rattle.xt_frames.specs.SaveAreas.{is_live}
@@ -30,7 +30,7 @@ use Rattle.xt_simulation.specs.Steps.{memory_now, record_now, reply_now, state_n
 use Rattle.xt_simulation.proofs.Judges.{JudgedStep, judged_step}
 use Rattle.xt_uses.specs.UseBreaches.{nowhere, swaps_unknown}
 use Rattle.xt_uses.specs.UseState.{UseState}
-use Rattle.xt_uses.specs.UseStep.{UseTurn, executed, fetched_movsp, full_step, movsp_of, reply_mask, turn_or, use_turn, value_step}
+use Rattle.xt_uses.specs.UseStep.{UseTurn, step_insn, fetched_movsp, full_step, movsp_of, reply_mask, turn_or, use_turn, value_step}
 use Rattle.xt_use_run.specs.Knowing.{Follows, Knows}
 use Rattle.xt_use_run.proofs.Following.{RecordFits, record_fits, with_unset}
 use Rattle.xt_use_run.proofs.Spared.{live_known, spared}
@@ -51,9 +51,9 @@ unfolding fetched_movsp is_movsp
 row_moves_none (insn.Shift (shift.Movsp t s)) len f h = absurd (false≢true (sym h))
 row_moves_none _ len f h = refl
 
-pub use_plain : (code : ℕ → ℕ) (rec : StepRecord) (bytes : ℕ → ℕ) (s : UseState) → s.frame.nested ≡ None → movsp_of code (laid (inputs_of rec) s.frame) ≡ None
-    → let h = laid (inputs_of rec) s.frame in let v = laid_step code rec.reply h in
-    full_step code false rec bytes s ≡ use_turn (executed v.kind (fetched code h.control.pc)) (reply_mask bytes rec.access) s h (with_unset (unset_after v.kind (fetched code h.control.pc) s.frame.unset) v)
+pub use_plain : (code : ℕ → ℕ) (rec : StepRecord) (bytes : ℕ → ℕ) (s : UseState) → s.frame.nested ≡ None → movsp_of code (with_inputs (inputs_of rec) s.frame) ≡ None
+    → let h = with_inputs (inputs_of rec) s.frame in let v = step_with_inputs code rec.reply h in
+    full_step code false rec bytes s ≡ use_turn (step_insn v.kind (fetch_at code h.control.pc)) (reply_mask bytes rec.access) s h (with_unset (unset_after v.kind (fetch_at code h.control.pc) s.frame.unset) v)
 unfolding value_step
 use_plain code rec bytes s sn none =
     let inp = inputs_of rec in
@@ -61,12 +61,12 @@ use_plain code rec bytes s sn none =
     let r = reply_mask bytes rec.access in
     let U : Option FrameTurn → Option Nested → UseTurn = λ z o. (
     let w = turn_or z (turn_in o code value inp s.frame) in
-    let k = laid inp (current_in o s.frame) in
-    use_turn (executed w.kind (fetched code k.control.pc)) r s k w
+    let k = with_inputs inp (current_in o s.frame) in
+    use_turn (step_insn w.kind (fetch_at code k.control.pc)) r s k w
     ) in
-    ap (U (movsp_of code (laid inp s.frame))) sn ∙ ap (λ z. U z None) none
+    ap (U (movsp_of code (with_inputs inp s.frame))) sn ∙ ap (λ z. U z None) none
 
-module _ (code : ℕ → ℕ) (bytes : AreBytes code) (b : Bounds) (fresh : Bool) (s : State) (m : MemoryContents) (shaped : IsShaped s) (real : IsMemory m) (nowindow : is_window (planned code s).kind ≡ false) where
+module _ (code : ℕ → ℕ) (bytes : AreBytes code) (b : Bounds) (fresh : Bool) (s : State) (m : MemoryContents) (shaped : IsShaped s) (real : IsMemory m) (nowindow : is_window (planned_turn code s).kind ≡ false) where
   abbrev rec : StepRecord
   rec = record_now code m s
 
@@ -74,9 +74,9 @@ module _ (code : ℕ → ℕ) (bytes : AreBytes code) (b : Bounds) (fresh : Bool
   reply = reply_now code m s
 
   -- ---- what follows from the step of the frame state
-  module _ {f : FrameState} {ring spilled : List Frame} (l : Related (byte_at m) b (lost_at fresh f) s f ring spilled) (none : f.nested ≡ None) (quiet : laid_breach b fresh code nowhere nowhere rec (laid (inputs_of rec) f) ≡ None) where
+  module _ {f : FrameState} {ring spilled : List Frame} (l : Related (byte_at m) b (lost_at fresh f) s f ring spilled) (none : f.nested ≡ None) (quiet : laid_breach b fresh code nowhere nowhere rec (with_inputs (inputs_of rec) f) ≡ None) where
     abbrev u : FrameTurn
-    u = plain_after code reply (laid (inputs 0 s) f)
+    u = plain_after code reply (with_inputs (inputs 0 s) f)
 
     abbrev same : JudgedStep code b fresh s f m spilled u
     same = judged_step code bytes b fresh s f ring spilled m l none shaped real nowindow nowhere nowhere quiet

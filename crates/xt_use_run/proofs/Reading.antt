@@ -16,15 +16,15 @@ use Rattle.xt_special.specs.Shape.{IsPs}
 use Rattle.xt_special.specs.Control.{special_of}
 use Rattle.xt_window.specs.Ring.{place, visible}
 use Rattle.xt_rows.specs.Kinds.{IsAtMost, is_entry}
-use Rattle.xt_rows.specs.Laws.{IsHeld}
-use Rattle.xt_rows.specs.Operands.{named, reads, special_reads}
+use Rattle.xt_rows.specs.RowLaws.{IsHeld}
+use Rattle.xt_rows.specs.Operands.{highest_register, reads, special_reads}
 use Rattle.xt_rows.specs.Outcomes.{value_of}
 use Rattle.xt_rows.proofs.Registers.{reads_named, shift_amount}
 use Rattle.xt_exec.specs.State.{State}
-use Rattle.xt_exec.specs.Laws.{IsShaped}
+use Rattle.xt_exec.specs.TurnLaws.{IsShaped}
 use Rattle.xt_exec.specs.Turn.{is_illegal, window_check}
-use Rattle.xt_frames.specs.Frames.{Frame, FrameState, known, moved}
-use Rattle.xt_frames.specs.FrameStep.{laid}
+use Rattle.xt_frames.specs.Frames.{Frame, FrameState, value_or_zero, windows_moved}
+use Rattle.xt_frames.specs.FrameStep.{with_inputs}
 use Rattle.xt_frames.specs.SaveAreas.{Range}
 use Rattle.xt_frames.specs.Breaches.{Bounds, is_unset, lacks, lost_of, names_high, other_frame_size, reads_lost}
 use Rattle.xt_frames.specs.Marks.{holds_marks}
@@ -45,12 +45,12 @@ use Rattle.xt_use_run.proofs.SpecialFilled.{special_knows, special_related, with
 -- ---- there is room for the register in the core's own windows
 abbrev pub HasSeat : List Frame → Option ℕ → Type 0
 HasSeat ring None = Unit {0}
-HasSeat ring (Some r) = (r < 16) × (moved ring + r / 4 < 16)
+HasSeat ring (Some r) = (r < 16) × (windows_moved ring + r / 4 < 16)
 
 pub low_seat : {vecbase : ℕ} {lost : ℕ → Bool} {s : State} {g : FrameState} {ring spilled : List Frame} → Level vecbase lost s g ring spilled → (r : ℕ) → r < 4 → HasSeat ring (Some r)
 low_seat l r low = let fit = l.windows.fits in (omega arith, omega arith)
 
-named_seat : {vecbase : ℕ} {lost : ℕ → Bool} {s : State} {g : FrameState} {ring spilled : List Frame} → Level vecbase lost s g ring spilled → (i : Insn) → in_range i ≡ true → is_entry i ≡ false → names_high i g ≡ false → window_check i s ≡ 0 → (o : Option ℕ) → IsAtMost (named i) o → HasSeat ring o
+named_seat : {vecbase : ℕ} {lost : ℕ → Bool} {s : State} {g : FrameState} {ring spilled : List Frame} → Level vecbase lost s g ring spilled → (i : Insn) → in_range i ≡ true → is_entry i ≡ false → names_high i g ≡ false → window_check i s ≡ 0 → (o : Option ℕ) → IsAtMost (highest_register i) o → HasSeat ring o
 named_seat l i ok entry high free None h = tt
 named_seat {ring = ring} l i ok entry high free (Some r) h = has_room l i ok entry high free (Some (record { reg = r; value = 0 })) h
 
@@ -161,9 +161,9 @@ module _ {b : Bounds} {m : ℕ → ℕ} {fresh : Bool} {s : State} {ring spilled
 -- ---- what the row is given
 module _ {b : Bounds} {m : ℕ → ℕ} {fresh : Bool} {s : State} {ring spilled : List Frame} {u : UseState} {i : Insn} (shaped : IsShaped s) (r : Ready b m fresh s ring spilled u i) where
   abbrev now : FrameState
-  now = laid (inputs 0 s) r.frame
+  now = with_inputs (inputs 0 s) r.frame
 
-  seen_value : (o : Option ℕ) → lacks r.frame.seen o ≡ false → value_of (known now.seen) o ≡ value_of (visible s.regs s.base) o
+  seen_value : (o : Option ℕ) → lacks r.frame.seen o ≡ false → value_of (value_or_zero now.seen) o ≡ value_of (visible s.regs s.base) o
   seen_value None h = refl
   seen_value (Some k) h = let v = some_value (get_or r.frame.seen k None) h in ap (λ (o : Option ℕ). unwrap_or o 0) v.1 ∙ sym (visible_value r.related.plain.windows k v.0 v.1)
 

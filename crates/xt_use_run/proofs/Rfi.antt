@@ -12,14 +12,14 @@ use Rattle.xt_rows.specs.Kinds.{moved_to}
 use Rattle.xt_rows.specs.Numbers.{natural}
 use Rattle.xt_rows.specs.Operands.{reads, special_reads}
 use Rattle.xt_rows.specs.Outcomes.{outcome, outcome_at, system_outcome, value_of}
-use Rattle.xt_frames.specs.Frames.{FrameState, known}
+use Rattle.xt_frames.specs.Frames.{FrameState, value_or_zero}
 use Rattle.xt_frames.specs.FrameStep.{done_in_frame, fetched_step}
 use Rattle.xt_frames.specs.Marks.{moves_marks}
 use Rattle.xt_rows.specs.declared.outcome.Effect.{Effect}
 use Rattle.xt_rows.specs.declared.outcome.Outcome.TheVariants.{Does}
 use Rattle.xt_use_run.proofs.Rows.{Ordinary, does_ordinary}
 use Rattle.xt_frames.specs.Nesting.{ends_nested}
-use Rattle.xt_uses.specs.Words.{cut}
+use Rattle.xt_uses.specs.Words.{masked}
 use Rattle.xt_uses.specs.UseState.{UseState}
 use Rattle.xt_uses.specs.UseLaws.{EffectsAgree, OutcomesAgree, pointer_mask}
 use Rattle.xt_uses.proofs.Owb.{words_of_ps}
@@ -38,7 +38,7 @@ unfolding ends_nested outcome system_outcome
 ends_silent code (insn.System (system.Rfi level)) len reply g e = refl
 ends_silent code _ len reply g e = absurd (false≢true e)
 
-pub ends_agree : {s : UseState} {g h : FrameState} → NowFit s g h → (code : ℕ → ℕ) (i : Insn) → in_range i ≡ true → ends_nested i ≡ true → OutcomesAgree s.masks.discipline i (row_masks i s h) (outcome_at code i (known g.seen) g.control) (outcome_at code i (known h.seen) h.control)
+pub ends_agree : {s : UseState} {g h : FrameState} → NowFit s g h → (code : ℕ → ℕ) (i : Insn) → in_range i ≡ true → ends_nested i ≡ true → OutcomesAgree s.masks.discipline i (row_masks i s h) (outcome_at code i (value_or_zero g.seen) g.control) (outcome_at code i (value_or_zero h.seen) h.control)
 unfolding ends_nested outcome system_outcome moved_to special_reads reads pointer_mask
 ends_agree {s = s} {g = g} {h = h} f code (insn.System (system.Rfi level)) ok e =
     let small = small_level level ok in
@@ -48,7 +48,7 @@ ends_agree {s = s} {g = g} {h = h} f code (insn.System (system.Rfi level)) ok e 
       write = tt;
       sets = refl;
       ps = words_of_ps s.masks.discipline (192 + natural level) (special_of g.control (192 + natural level)) (special_of h.control (192 + natural level)) v.1;
-      threadptr = sym (cut_twice s.masks.threadptr g.control.threadptr) ∙ ap (cut s.masks.threadptr) f.control.pointer;
+      threadptr = sym (cut_twice s.masks.threadptr g.control.threadptr) ∙ ap (masked s.masks.threadptr) f.control.pointer;
       flow = ap (λ n. Goes n) u;
       waits = refl;
     }
@@ -67,10 +67,10 @@ ends_does code _ ar c e = absurd (false≢true e)
 -- both machines execute it
 pub ends_ordinary : {s : UseState} {g h : FrameState} → NowFit s g h → (code : ℕ → ℕ) (i : Insn) (len reply : ℕ) → length g.control.special ≡ 256 → in_range i ≡ true → ends_nested i ≡ true → Ordinary i s g h (row_masks i s h).result (fetched_step (Fetches i len) code reply g) (fetched_step (Fetches i len) code reply h)
 ends_ordinary {s = s} {g = g} {h = h} f code i len reply count ok e =
-    let m = ends_does code i (known g.seen) g.control e in
-    let k = ends_does code i (known h.seen) h.control e in
-    let agree : EffectsAgree s.masks.discipline i (row_masks i s h) m.0 k.0 = subst (λ y. OutcomesAgree s.masks.discipline i (row_masks i s h) (Does m.0) y) k.1 (subst (λ y. OutcomesAgree s.masks.discipline i (row_masks i s h) y (outcome_at code i (known h.seen) h.control)) m.1 (ends_agree f code i ok e)) in
-    let here = does_ordinary f code i count (ends_reads i (known g.seen) e) len reply m.0 k.0 m.1 k.1 agree in
+    let m = ends_does code i (value_or_zero g.seen) g.control e in
+    let k = ends_does code i (value_or_zero h.seen) h.control e in
+    let agree : EffectsAgree s.masks.discipline i (row_masks i s h) m.0 k.0 = subst (λ y. OutcomesAgree s.masks.discipline i (row_masks i s h) (Does m.0) y) k.1 (subst (λ y. OutcomesAgree s.masks.discipline i (row_masks i s h) y (outcome_at code i (value_or_zero h.seen) h.control)) m.1 (ends_agree f code i ok e)) in
+    let here = does_ordinary f code i count (ends_reads i (value_or_zero g.seen) e) len reply m.0 k.0 m.1 k.1 agree in
     subst (λ y. Ordinary i s g h (row_masks i s h).result (done_in_frame y len reply g) (fetched_step (Fetches i len) code reply h)) (sym m.1)
     (subst (λ y. Ordinary i s g h (row_masks i s h).result (done_in_frame (Does m.0) len reply g) (done_in_frame y len reply h)) (sym k.1) here)
 

@@ -6,28 +6,28 @@ use Rattle.std.proofs.lemmas.Bool.{cases_eq, cases_lt}
 use Rattle.std.proofs.lemmas.List.{get_or-set_same, get_or-set_other, length-set, get_or_past, length-append, length-take, length-drop, length-replicate, get_or-take, get_or-drop, get_or_append_left, get_or-append_right, get_or-replicate}
 use Rattle.std.proofs.lemmas.Nat.{and_assoc}
 use Rattle.std.specs.Int.Bits.{and_self, and_zero_r}
-use Rattle.xt_frames.specs.Frames.{known, seen_after_call}
-use Rattle.xt_uses.specs.Words.{cut}
+use Rattle.xt_frames.specs.Frames.{value_or_zero, seen_after_call}
+use Rattle.xt_uses.specs.Words.{masked}
 use Rattle.xt_use_run.specs.Knowing.{SeenFit}
 
-pub cut_zero : (n : ℕ) → cut 0 n ≡ 0
+pub cut_zero : (n : ℕ) → masked 0 n ≡ 0
 cut_zero n = and_zero_r n
 
-pub cut_twice : (mask n : ℕ) → cut mask (cut mask n) ≡ cut mask n
+pub cut_twice : (mask n : ℕ) → masked mask (masked mask n) ≡ masked mask n
 cut_twice mask n = and_assoc mask n mask ∙ ap (bit_and n) (and_self mask)
 
 -- ---- the value of a register
 abbrev value : Option ℕ → ℕ
 value o = unwrap_or o 0
 
-pub known_same : (xs : List (Option ℕ)) (r : ℕ) (o : Option ℕ) → r < length xs → known (set xs r o) r ≡ value o
+pub known_same : (xs : List (Option ℕ)) (r : ℕ) (o : Option ℕ) → r < length xs → value_or_zero (set xs r o) r ≡ value o
 known_same xs r o within = ap value (get_or-set_same xs r o None within)
 
-pub known_other : (xs : List (Option ℕ)) (r i : ℕ) (o : Option ℕ) → i ≢ r → known (set xs r o) i ≡ known xs i
+pub known_other : (xs : List (Option ℕ)) (r i : ℕ) (o : Option ℕ) → i ≢ r → value_or_zero (set xs r o) i ≡ value_or_zero xs i
 known_other xs r i o other = ap value (get_or-set_other xs r i o None other)
 
 -- one register, and its mask, are exchanged
-pub set_fits : {n : ℕ} {masks : List ℕ} {xs ys : List (Option ℕ)} → SeenFit n masks xs ys → (r mask : ℕ) (o p : Option ℕ) → r < n → cut mask (value o) ≡ value p → (o ≡ None → mask ≡ 0)
+pub set_fits : {n : ℕ} {masks : List ℕ} {xs ys : List (Option ℕ)} → SeenFit n masks xs ys → (r mask : ℕ) (o p : Option ℕ) → r < n → masked mask (value o) ≡ value p → (o ≡ None → mask ≡ 0)
     → SeenFit n (set masks r mask) (set xs r o) (set ys r p)
 set_fits {n = n} {masks = masks} {xs = xs} {ys = ys} s r mask o p within fits lacks =
     let size = s.size in
@@ -39,8 +39,8 @@ set_fits {n = n} {masks = masks} {xs = xs} {ys = ys} s r mask o p within fits la
       spread = length-set masks r mask ∙ spread;
       fits = λ i. ⊎_elim
           (λ same.
-          let a : known (set xs r o) r ≡ value o = known_same xs r o (omega arith) in
-          let b : known (set ys r p) r ≡ value p = known_same ys r p (omega arith) in
+          let a : value_or_zero (set xs r o) r ≡ value o = known_same xs r o (omega arith) in
+          let b : value_or_zero (set ys r p) r ≡ value p = known_same ys r p (omega arith) in
           let c : get_or (set masks r mask) r 0 ≡ mask = get_or-set_same masks r mask 0 (omega arith) in
           rw same (rw (a, b, c) fits))
           (λ other.
@@ -61,17 +61,17 @@ set_fits {n = n} {masks = masks} {xs = xs} {ys = ys} s r mask o p within fits la
 
 -- a register that has no number receives one
 module _ {n : ℕ} {masks : List ℕ} {xs ys : List (Option ℕ)} (s : SeenFit n masks xs ys) (r v : ℕ) (within : r < n) (before : (get_or xs r None ≡ None) ⊎ (get_or xs r None ≡ Some v)) where
-  here : known (set xs r (Some v)) r ≡ v
+  here : value_or_zero (set xs r (Some v)) r ≡ v
   here = known_same xs r (Some v) (let size = s.size in omega arith)
 
-  at_fill : cut (get_or masks r 0) v ≡ known ys r
+  at_fill : masked (get_or masks r 0) v ≡ value_or_zero ys r
   at_fill = ⊎_elim
       (λ none.
       let m : get_or masks r 0 ≡ 0 = s.lacks r none in
-      let f : cut (get_or masks r 0) (known xs r) ≡ known ys r = s.fits r in
-      let g : cut 0 (known xs r) ≡ known ys r = rw m at f in
-      rw m (cut_zero v ∙ sym (cut_zero (known xs r)) ∙ g))
-      (λ some. let k : known xs r ≡ v = ap value some in let f : cut (get_or masks r 0) (known xs r) ≡ known ys r = s.fits r in rw k at f)
+      let f : masked (get_or masks r 0) (value_or_zero xs r) ≡ value_or_zero ys r = s.fits r in
+      let g : masked 0 (value_or_zero xs r) ≡ value_or_zero ys r = rw m at f in
+      rw m (cut_zero v ∙ sym (cut_zero (value_or_zero xs r)) ∙ g))
+      (λ some. let k : value_or_zero xs r ≡ v = ap value some in let f : masked (get_or masks r 0) (value_or_zero xs r) ≡ value_or_zero ys r = s.fits r in rw k at f)
       before
 
   pub filled : SeenFit n masks (set xs r (Some v)) ys
@@ -80,7 +80,7 @@ module _ {n : ℕ} {masks : List ℕ} {xs ys : List (Option ℕ)} (s : SeenFit n
     wide = s.wide;
     spread = s.spread;
     fits = λ i. ⊎_elim
-        (λ same. rw same (ap (cut (get_or masks r 0)) here ∙ at_fill))
+        (λ same. rw same (ap (masked (get_or masks r 0)) here ∙ at_fill))
         (λ other. let a = known_other xs r i (Some v) other in rw a (s.fits i))
         (cases_eq i r);
     lacks = λ i e. ⊎_elim
@@ -93,8 +93,8 @@ module _ {n : ℕ} {masks : List ℕ} {xs ys : List (Option ℕ)} (s : SeenFit n
   }
 
 -- ---- parts of lists
-pub fits_at : {m k : ℕ} {o p q r : Option ℕ} → o ≡ q → p ≡ r → m ≡ k → cut k (value q) ≡ value r → cut m (value o) ≡ value p
-fits_at {m = m} {q = q} e f g h = ap (λ (x : Option ℕ). cut m (value x)) e ∙ (ap (λ z. cut z (value q)) g ∙ (h ∙ sym (ap value f)))
+pub fits_at : {m k : ℕ} {o p q r : Option ℕ} → o ≡ q → p ≡ r → m ≡ k → masked k (value q) ≡ value r → masked m (value o) ≡ value p
+fits_at {m = m} {q = q} e f g h = ap (λ (x : Option ℕ). masked m (value x)) e ∙ (ap (λ z. masked z (value q)) g ∙ (h ∙ sym (ap value f)))
 
 pub take_low : {X : Type 0} (n : ℕ) (xs : List X) (i : ℕ) (d : X) → i < n → get_or (take n xs) i d ≡ get_or xs i d
 take_low n xs i d h = get_or-take n xs i d h

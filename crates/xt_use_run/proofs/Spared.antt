@@ -7,7 +7,7 @@ use Rattle.xt_map.specs.declared.access.Kind.TheVariants.{Load, Store, Cas}
 use Rattle.xt_map.specs.declared.contents.MemoryContents.{MemoryContents}
 use Rattle.xt_map.specs.Memory.{byte_at}
 use Rattle.xt_map.specs.Serving.{memory_past}
-use Rattle.xt_frames.specs.Frames.{Frame, FrameState, known}
+use Rattle.xt_frames.specs.Frames.{Frame, FrameState, value_or_zero}
 use Rattle.xt_frames.specs.SaveAreas.{Area, Range, areas, covers_byte, is_live, sp_of}
 use Rattle.xt_frames.specs.Breaches.{loads_stale, some_byte, touches_save_area}
 use Rattle.xt_simulation.specs.Steps.{memory_after_step}
@@ -32,7 +32,7 @@ areas_same (m ∷ ms) (f ∷ fs) [] h hi sp n = absurd h
 
 pub live_known : {f : FrameState} {s : UseState} → Knows f s → (r : Range) (a : ℕ) → is_live r f a ≡ is_live r s.frame a
 live_known {f = f} {s = s} k r a =
-    ap (λ sp. covers_byte (areas r.hi sp 1 f.frames) a) k.sp ∙ ap (λ list. covers_byte list a) (areas_same s.masks.kept f.frames s.frame.frames k.frames r.hi (known s.frame.seen 1) 1)
+    ap (λ sp. covers_byte (areas r.hi sp 1 f.frames) a) k.sp ∙ ap (λ list. covers_byte list a) (areas_same s.masks.kept f.frames s.frame.frames k.frames r.hi (value_or_zero s.frame.seen 1) 1)
 
 pub load_leaves : (m : MemoryContents) (addr size : ℕ) → memory_past m (record { addr = addr; size = size; kind = Load }) ≡ m
 unfolding memory_past

@@ -12,7 +12,7 @@ use Rattle.xt_frames.specs.Marks.{holds_marks}
 use Rattle.xt_simulation.specs.Relation.{Same, lost_at}
 use Rattle.xt_simulation.specs.Cores.{Related}
 use Rattle.xt_simulation.proofs.Laid.{laid_other, relaid, same_relaid}
-use Rattle.xt_uses.specs.Words.{cut}
+use Rattle.xt_uses.specs.Words.{masked}
 use Rattle.xt_uses.specs.Used.{counted_bits}
 use Rattle.xt_uses.specs.UseState.{UseState}
 use Rattle.xt_uses.proofs.RowsMarks.{eps_unmarked}
@@ -96,12 +96,12 @@ module _ (fresh : Bool) (s : State) (f : FrameState) (n : ℕ) (mark : holds_mar
           (λ other. subst (λ z. z < 2 ^ 32) (sym (get_or-set_other f.control.special n j real 0 other)) (k.control.words j h))
           (cases_eq j n);
       fits = λ j h. ⊎_elim
-          (λ is. subst (λ i. cut (get_or u.masks.special i 0) (get_or (set f.control.special n real) i 0) ≡ special_of u.frame.control i) (sym is) (ap (cut (get_or u.masks.special n 0)) set_here ∙ here))
-          (λ other. ap (cut (get_or u.masks.special j 0)) (get_or-set_other f.control.special n j real 0 other) ∙ k.control.fits j h)
+          (λ is. subst (λ i. masked (get_or u.masks.special i 0) (get_or (set f.control.special n real) i 0) ≡ special_of u.frame.control i) (sym is) (ap (masked (get_or u.masks.special n 0)) set_here ∙ here))
+          (λ other. ap (masked (get_or u.masks.special j 0)) (get_or-set_other f.control.special n j real 0 other) ∙ k.control.fits j h)
           (cases_eq j n);
       saved = λ j h.
           let other : j ≢ n = λ e. both_ways (holds_marks n) (eps_unmarked n (subst (λ i. is_eps i ≡ true) e h)) mark in
-          ap (cut (counted_bits u.masks.discipline j)) (get_or-set_other f.control.special n j real 0 other) ∙ k.control.saved j h;
+          ap (masked (counted_bits u.masks.discipline j)) (get_or-set_other f.control.special n j real 0 other) ∙ k.control.saved j h;
     };
     unset = record {
       size = length-set f.unset n false ∙ k.unset.size;
@@ -117,13 +117,13 @@ module _ (fresh : Bool) (s : State) (f : FrameState) (n : ℕ) (mark : holds_mar
     nested = k.nested;
   }
     where
-      here : cut (get_or u.masks.special n 0) real ≡ special_of u.frame.control n
+      here : masked (get_or u.masks.special n 0) real ≡ special_of u.frame.control n
       here = ⊎_elim
           (λ gone.
           let z : get_or u.masks.special n 0 ≡ 0 = k.unset.lacks n mark gone in
-          let o : cut (get_or u.masks.special n 0) (special_of f.control n) ≡ special_of u.frame.control n = k.control.fits n mark in
-          ap (λ i. cut i real) z ∙ (cut_zero real ∙ (sym (cut_zero (special_of f.control n)) ∙ (ap (λ i. cut i (special_of f.control n)) (sym z) ∙ o))))
-          (λ there. ap (cut (get_or u.masks.special n 0)) (sym (was_real old there)) ∙ k.control.fits n mark)
+          let o : masked (get_or u.masks.special n 0) (special_of f.control n) ≡ special_of u.frame.control n = k.control.fits n mark in
+          ap (λ i. masked i real) z ∙ (cut_zero real ∙ (sym (cut_zero (special_of f.control n)) ∙ (ap (λ i. masked i (special_of f.control n)) (sym z) ∙ o))))
+          (λ there. ap (masked (get_or u.masks.special n 0)) (sym (was_real old there)) ∙ k.control.fits n mark)
           (cases_Bool (get_or f.unset n false))
 
   pub special_related : {m : ℕ → ℕ} {b : Bounds} {ring spilled : List Frame} → Related m b (lost_at fresh f) s f ring spilled → Related m b (lost_at fresh (with_special n real f)) s (with_special n real f) ring spilled

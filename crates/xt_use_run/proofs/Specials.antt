@@ -10,7 +10,7 @@ use Rattle.xt_isa.specs.declared.system.System.TheVariants as system
 use Rattle.xt_isa.specs.declared.system.SpecialName.TheVariants as SpecialName
 use Rattle.xt_special.specs.Control.{Control, ps_word, special_of}
 use Rattle.xt_special.specs.Access.{is_eps, set_to, no_set, written_by, value_kept}
-use Rattle.xt_special.specs.Timers.{ticked}
+use Rattle.xt_special.specs.Timers.{after_tick}
 use Rattle.xt_special.specs.Exceptions.{with_address, after_general, after_double, after_exception}
 use Rattle.xt_special.specs.Interrupts.{after_high_level, after_interrupt, interrupt_cause}
 use Rattle.xt_special.specs.declared.ps.Ps.{Ps}
@@ -20,7 +20,7 @@ use Rattle.xt_rows.specs.declared.outcome.Effect.{Effect}
 use Rattle.xt_rows.specs.declared.outcome.Outcome.{Outcome}
 use Rattle.xt_rows.specs.declared.outcome.Outcome.TheVariants.{Does}
 use Rattle.xt_rows.specs.declared.outcome.WindowRegister.{WindowRegister}
-use Rattle.xt_rows.specs.Effects.{unchanged, window_register, writes_special, exchanges_special}
+use Rattle.xt_rows.specs.Effects.{no_change, window_register, writes_special, exchanges_special}
 use Rattle.xt_rows.specs.Kinds.{is_saved, moved_to}
 use Rattle.xt_rows.specs.Outcomes.{outcome, system_outcome}
 use Rattle.xt_rows.specs.Settling.{after_flow}
@@ -29,7 +29,7 @@ use Rattle.xt_simulation.specs.Relation.{Even, can_be_lost}
 use Rattle.xt_simulation.proofs.Evenly.{even_ticked, even_raise, even_interrupt, set_even}
 use Rattle.xt_simulation.proofs.InnerSteps.{can_saved, ticked_saved}
 use Rattle.xt_uses.specs.declared.discipline.Discipline.{Discipline}
-use Rattle.xt_uses.specs.Words.{cut}
+use Rattle.xt_uses.specs.Words.{masked}
 use Rattle.xt_uses.specs.Used.{counted_bits}
 use Rattle.xt_uses.specs.UseLaws.{AgreeIn}
 use Rattle.xt_use_run.specs.Knowing.{ControlFit, ControlLeft, is_partial, with_owb, with_pointer}
@@ -91,10 +91,10 @@ pub moved_sets : (code : ℕ → ℕ) (i : Insn) (pc x y u v : ℕ) (ps : Ps) (t
 unfolding moved_to outcome system_outcome
 moved_sets code (insn.System (system.Rsr SpecialName.Wsr a n)) pc x y u v ps t p e h =
     let q : (a, n) ≡ p = ap (λ (o : Option (ℕ × ℕ)). unwrap_or o (0, 0)) e in
-    subst (λ (r : ℕ × ℕ). holds_marks r.1 ≡ true → SetsTo r.1 x (writes_special (window_register n) n x v (unchanged ps t))) q (writes_mark (window_register n) n x v (unchanged ps t)) h
+    subst (λ (r : ℕ × ℕ). holds_marks r.1 ≡ true → SetsTo r.1 x (writes_special (window_register n) n x v (no_change ps t))) q (writes_mark (window_register n) n x v (no_change ps t)) h
 moved_sets code (insn.System (system.Rsr SpecialName.Xsr a n)) pc x y u v ps t p e h =
     let q : (a, n) ≡ p = ap (λ (o : Option (ℕ × ℕ)). unwrap_or o (0, 0)) e in
-    subst (λ (r : ℕ × ℕ). holds_marks r.1 ≡ true → SetsTo r.1 x (exchanges_special (window_register n) a n x u v (unchanged ps t))) q (exchanges_mark (window_register n) a n x u v (unchanged ps t)) h
+    subst (λ (r : ℕ × ℕ). holds_marks r.1 ≡ true → SetsTo r.1 x (exchanges_special (window_register n) a n x u v (no_change ps t))) q (exchanges_mark (window_register n) a n x u v (no_change ps t)) h
 moved_sets code _ pc x y u v ps t p e h = absurd cc
 
 -- ---- what keeps EXCSAVE and MISC as they are
@@ -228,7 +228,7 @@ told_ps {p = p} e = ap (λ (z : Ps). record z { owb = p.owb }) e
 -- ---- control states that fit
 module _ {by : Discipline} {special : List ℕ} {bits : ℕ} {c d : Control} (f : ControlFit by special bits c d) where
   pub saved_as : (n : ℕ) (x y : Control) → is_eps n ≡ true → special_of x n ≡ special_of c n → special_of y n ≡ special_of d n → AgreeIn (counted_bits by n) (special_of x n) (special_of y n)
-  saved_as n x y h a b = ap (cut (counted_bits by n)) a ∙ (f.saved n h ∙ sym (ap (cut (counted_bits by n)) b))
+  saved_as n x y h a b = ap (masked (counted_bits by n)) a ∙ (f.saved n h ∙ sym (ap (masked (counted_bits by n)) b))
 
   pub same_ps : c.ps ≡ d.ps
   same_ps = f.even.ps
@@ -244,7 +244,7 @@ module _ {by : Discipline} {special : List ℕ} {bits : ℕ} {c d : Control} (f 
     saved = f.saved;
   }
 
-  pub ticked_fits : ControlFit by special bits (ticked c) (ticked d)
+  pub ticked_fits : ControlFit by special bits (after_tick c) (after_tick d)
   ticked_fits = record {
     even = even_ticked c (with_pointer c.threadptr d) f.even;
     pointer = f.pointer;
@@ -253,8 +253,8 @@ module _ {by : Discipline} {special : List ℕ} {bits : ℕ} {c d : Control} (f 
     fits = λ n h.
         let a = ticked_saved c n (mark_saved n h) in
         let b = ticked_saved d n (mark_saved n h) in
-        ap (cut (get_or special n 0)) a ∙ (f.fits n h ∙ sym b);
-    saved = λ n h. saved_as n (ticked c) (ticked d) h (ticked_saved c n (eps_saved n h)) (ticked_saved d n (eps_saved n h));
+        ap (masked (get_or special n 0)) a ∙ (f.fits n h ∙ sym b);
+    saved = λ n h. saved_as n (after_tick c) (after_tick d) h (ticked_saved c n (eps_saved n h)) (ticked_saved d n (eps_saved n h));
   }
 
   -- both go the same way, which leaves THREADPTR, EXCSAVE and MISC
@@ -262,10 +262,10 @@ module _ {by : Discipline} {special : List ℕ} {bits : ℕ} {c d : Control} (f 
       → ((n : ℕ) → is_eps n ≡ true → AgreeIn (counted_bits by n) (special_of x n) (special_of y n)) → ControlFit by special bits x y
   kept_fits x y a b t u e eps = record {
     even = subst (λ z. Even is_partial x (with_pointer z y)) (sym t) e;
-    pointer = ap (cut bits) t ∙ (f.pointer ∙ sym u);
+    pointer = ap (masked bits) t ∙ (f.pointer ∙ sym u);
     spread = f.spread;
     words = λ n h. subst (λ z. z < 2 ^ 32) (sym (a n h)) (f.words n h);
-    fits = λ n h. ap (cut (get_or special n 0)) (a n h) ∙ (f.fits n h ∙ sym (b n h));
+    fits = λ n h. ap (masked (get_or special n 0)) (a n h) ∙ (f.fits n h ∙ sym (b n h));
     saved = eps;
   }
 
@@ -286,7 +286,7 @@ module _ {by : Discipline} {special : List ℕ} {bits : ℕ} {c d : Control} (f 
       (λ (is : n ≡ 192 + level).
       let e : get_or (set (set c.special (176 + level) c.pc) (192 + level) (ps_word c.ps)) n 0 ≡ get_or (set (set d.special (176 + level) d.pc) (192 + level) (ps_word c.ps)) n 0 =
       set_even (set c.special (176 + level) c.pc) (set d.special (176 + level) d.pc) (192 + level) (ps_word c.ps) n size (λ other. absurd (other is)) in
-      ap (cut (counted_bits by n)) (e ∙ ap (λ v. get_or (set (set d.special (176 + level) d.pc) (192 + level) v) n 0) value))
+      ap (masked (counted_bits by n)) (e ∙ ap (λ v. get_or (set (set d.special (176 + level) d.pc) (192 + level) v) n 0) value))
       (λ other.
       let a = get_or-set_other (set c.special (176 + level) c.pc) (192 + level) n (ps_word c.ps) 0 other ∙ epc c in
       let b = get_or-set_other (set d.special (176 + level) d.pc) (192 + level) n (ps_word d.ps) 0 other ∙ epc d in

@@ -12,9 +12,9 @@ use Rattle.xt_special.specs.Control.{special_of}
 use Rattle.xt_trace.specs.declared.record.RegWrite.{RegWrite}
 use Rattle.xt_trace.specs.declared.record.StepRecord.{StepRecord}
 use Rattle.xt_rows.specs.Kinds.{is_movsp, is_return, is_windowing, names_window_register}
-use Rattle.xt_rows.specs.Operands.{named}
+use Rattle.xt_rows.specs.Operands.{highest_register}
 use Rattle.xt_frames.specs.declared.holes.Nested.{Nested}
-use Rattle.xt_frames.specs.Frames.{Frame, FrameState, known}
+use Rattle.xt_frames.specs.Frames.{Frame, FrameState, value_or_zero}
 use Rattle.xt_frames.specs.FrameStep.{FrameTurn}
 use Rattle.xt_frames.specs.SaveAreas.{Range, before}
 use Rattle.xt_frames.specs.Breaches.{Bounds, Test, breaks_nested, first_shown, has_no_caller, insn_tests, is_empty, leaves_range, loads_stale, loses_epc1, mismatches, misaligns_sp, moves_vectors, names_high, opens_nothing, other_frame_size, reads_none, returns_elsewhere, some_byte, touches_save_area, vector_test, writes_sp}
@@ -74,8 +74,8 @@ denied b fresh live bytes i rec s h v none = by_tests (none_shown (use_tests (us
 pub record Tested (i : Insn) (g h : FrameState) (u v : FrameTurn) : Type 0 where
   pub ps : g.control.ps ≡ h.control.ps
   pub pc : g.control.pc ≡ h.control.pc
-  pub sp : known g.seen 1 ≡ known h.seen 1
-  pub a0 : is_return i ≡ true → known g.seen 0 ≡ known h.seen 0
+  pub sp : value_or_zero g.seen 1 ≡ value_or_zero h.seen 1
+  pub a0 : is_return i ≡ true → value_or_zero g.seen 0 ≡ value_or_zero h.seen 0
   pub masks : List (List ℕ)
   pub frames : FramesFit masks g.frames h.frames
   pub nested : g.nested ≡ None
@@ -108,17 +108,17 @@ empty_same [] (f ∷ fs) gs h = absurd h
 empty_same (m ∷ ms) [] gs h = absurd h
 empty_same (m ∷ ms) (f ∷ fs) [] h = absurd h
 
-pub size_row : (r : Range) (j : Insn) (g h : FrameState) → g.control.ps.callinc ≡ h.control.ps.callinc → known g.seen 1 ≡ known h.seen 1 → before r.hi g.frames ≡ before r.hi h.frames → other_frame_size r j h ≡ false → other_frame_size r j g ≡ false
+pub size_row : (r : Range) (j : Insn) (g h : FrameState) → g.control.ps.callinc ≡ h.control.ps.callinc → value_or_zero g.seen 1 ≡ value_or_zero h.seen 1 → before r.hi g.frames ≡ before r.hi h.frames → other_frame_size r j h ≡ false → other_frame_size r j g ≡ false
 unfolding other_frame_size
 size_row r (insn.Control (control.Entry number size)) g h n sp q e = rw (sp, n, q) e
 size_row r _ g h n sp q e = refl
 
-low_row : (r : Range) (j : Insn) (g h : FrameState) → known g.seen 1 ≡ known h.seen 1 → leaves_range r j h ≡ false → leaves_range r j g ≡ false
+low_row : (r : Range) (j : Insn) (g h : FrameState) → value_or_zero g.seen 1 ≡ value_or_zero h.seen 1 → leaves_range r j h ≡ false → leaves_range r j g ≡ false
 unfolding leaves_range
 low_row r (insn.Control (control.Entry number size)) g h sp e = rw sp e
 low_row r _ g h sp e = refl
 
-align_row : (j : Insn) (g h : FrameState) → known g.seen 1 ≡ known h.seen 1 → misaligns_sp j h ≡ false → misaligns_sp j g ≡ false
+align_row : (j : Insn) (g h : FrameState) → value_or_zero g.seen 1 ≡ value_or_zero h.seen 1 → misaligns_sp j h ≡ false → misaligns_sp j g ≡ false
 unfolding misaligns_sp
 align_row (insn.Control (control.Entry number size)) g h sp e = rw sp e
 align_row _ g h sp e = refl
@@ -128,12 +128,12 @@ unfolding opens_nothing
 opens_row (insn.Control (control.Entry number size)) g h p e = rw p e
 opens_row _ g h p e = refl
 
-pub mismatch_row : (i : Insn) (ms : List (List ℕ)) (g h : FrameState) → FramesFit ms g.frames h.frames → (is_return i ≡ true → known g.seen 0 ≡ known h.seen 0) → returns_elsewhere i h ≡ false → returns_elsewhere i g ≡ false
+pub mismatch_row : (i : Insn) (ms : List (List ℕ)) (g h : FrameState) → FramesFit ms g.frames h.frames → (is_return i ≡ true → value_or_zero g.seen 0 ≡ value_or_zero h.seen 0) → returns_elsewhere i h ≡ false → returns_elsewhere i g ≡ false
 mismatch_row i ms g h frames a0 e = ⊎_elim
     (λ is.
-    let a : mismatches g.frames (known g.seen 0) ≡ mismatches h.frames (known h.seen 0) = ap (mismatches g.frames) (a0 is) ∙ mismatch_same (known h.seen 0) ms g.frames h.frames frames in
+    let a : mismatches g.frames (value_or_zero g.seen 0) ≡ mismatches h.frames (value_or_zero h.seen 0) = ap (mismatches g.frames) (a0 is) ∙ mismatch_same (value_or_zero h.seen 0) ms g.frames h.frames frames in
     ap (λ z. is_return i && z) a ∙ e)
-    (λ isnt. ap (λ z. z && mismatches g.frames (known g.seen 0)) isnt)
+    (λ isnt. ap (λ z. z && mismatches g.frames (value_or_zero g.seen 0)) isnt)
     (cases_Bool (is_return i))
 
 pub caller_row : (i : Insn) (ms : List (List ℕ)) (g h : FrameState) → FramesFit ms g.frames h.frames → has_no_caller i h ≡ false → has_no_caller i g ≡ false
@@ -159,7 +159,7 @@ module _ {i : Insn} {g h : FrameState} {u v : FrameTurn} (t : Tested i g h u v) 
   caller_too e = caller_row i t.masks g h t.frames e
 
   high_too : names_high i h ≡ false → names_high i g ≡ false
-  high_too e = ap (λ (p : Ps). p.excm && leb 4 (named i)) t.ps ∙ e
+  high_too e = ap (λ (p : Ps). p.excm && leb 4 (highest_register i)) t.ps ∙ e
 
 -- so the tests of the stack discipline show nothing
 pub tests_too : {b : Bounds} {fresh : Bool} {live : ℕ → Bool} {bytes : ℕ → ℕ} {i : Insn} {rec : StepRecord} {s : UseState} {g h : FrameState} {u v : FrameTurn}

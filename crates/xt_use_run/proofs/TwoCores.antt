@@ -5,7 +5,7 @@ use Rattle.xt_map.specs.declared.contents.MemoryContents.{MemoryContents}
 use Rattle.xt_map.specs.Touching.{IsMemory}
 use Rattle.xt_fetch.specs.Code.{AreBytes}
 use Rattle.xt_exec.specs.State.{State}
-use Rattle.xt_exec.specs.Laws.{IsServed, IsShaped}
+use Rattle.xt_exec.specs.TurnLaws.{IsServed, IsShaped}
 use Rattle.xt_exec.specs.Turn.{demand}
 use Rattle.xt_exec.proofs.Served.{demand_served}
 use Rattle.xt_frames.specs.HandlerSteps.{Mode, mode_after}

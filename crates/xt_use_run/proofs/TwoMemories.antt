@@ -10,7 +10,7 @@ use Rattle.xt_map.specs.Serving.{memory_past}
 use Rattle.xt_map.specs.Touching.{is_load, is_store, touches}
 use Rattle.xt_map.proofs.Alike.{inside, touched_alike, untouched}
 use Rattle.xt_trace.specs.declared.record.StepRecord.{StepRecord}
-use Rattle.xt_exec.specs.Laws.{IsServed}
+use Rattle.xt_exec.specs.TurnLaws.{IsServed}
 use Rattle.xt_frames.specs.Breaches.{some_byte, stores_at}
 use Rattle.xt_frames.specs.FirstBreach.{Course, IsJudgedTurn, LeavesByte}
 use Rattle.xt_simulation.specs.Steps.{memory_after_step}

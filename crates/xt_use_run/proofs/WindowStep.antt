@@ -13,16 +13,16 @@ use Rattle.xt_window.specs.Ring.{visible}
 use Rattle.xt_trace.specs.declared.record.StepKind.{StepKind}
 use Rattle.xt_trace.specs.declared.record.StepKind.TheVariants as step
 use Rattle.xt_trace.specs.declared.record.StepRecord.{StepRecord}
-use Rattle.xt_fetch.specs.Fetching.{Fetched, Fetches, Fails, SpellsNothing, fetched}
+use Rattle.xt_fetch.specs.Fetching.{Fetched, Fetches, Fails, SpellsNothing, fetch_at}
 use Rattle.xt_rows.specs.Kinds.{is_return}
 use Rattle.xt_rows.specs.Operands.{reads, special_reads}
 use Rattle.xt_rows.specs.Outcomes.{value_of}
 use Rattle.xt_exec.specs.State.{State}
-use Rattle.xt_exec.specs.Laws.{IsShaped}
-use Rattle.xt_exec.specs.Turn.{planned, turn}
+use Rattle.xt_exec.specs.TurnLaws.{IsShaped}
+use Rattle.xt_exec.specs.Turn.{planned_turn, turn}
 use Rattle.xt_frames.specs.declared.holes.Nested.{Nested}
-use Rattle.xt_frames.specs.Frames.{Frame, FrameState, known}
-use Rattle.xt_frames.specs.FrameStep.{laid}
+use Rattle.xt_frames.specs.Frames.{Frame, FrameState, value_or_zero}
+use Rattle.xt_frames.specs.FrameStep.{with_inputs}
 use Rattle.xt_frames.specs.Nesting.{current_in}
 use Rattle.xt_frames.specs.Breaches.{Bounds, fetched_return_breach, first_shown, inputs_of, is_unset, is_underflow, lacks, reads_none, reads_none_in, return_tests, window_breach}
 use Rattle.xt_frames.proofs.Shown.{NoneShown, none_shown}
@@ -57,12 +57,12 @@ return_read i g is none there =
     let d : is_unset g.unset (special_reads i).1 ≡ false = ap (λ (o : Option ℕ × Option ℕ). is_unset g.unset o.1) r.1 in
     ap (λ (o : Option Nested). reads_none_in o i g) none ∙ or_from _ _ a (or_from _ _ b (or_from _ _ c d))
 
-module _ {us : UseState} {g h : FrameState} (now : NowFit us g h) (none : g.nested ≡ None) (there : lacks g.seen (Some 0) ≡ false) (word : known g.seen 0 < 2 ^ 32) where
+module _ {us : UseState} {g h : FrameState} (now : NowFit us g h) (none : g.nested ≡ None) (there : lacks g.seen (Some 0) ≡ false) (word : value_or_zero g.seen 0 < 2 ^ 32) where
   return_too : (i : Insn) → is_return i ≡ true → NoneShown (use_tests (uses_unknown i us h) false false (return_tests i h)) → first_shown (return_tests i g) ≡ None
   return_too i is (unset, (mismatch, (caller, more))) =
       let uses = uses_known i us h unset in
-      let small : value_of (known g.seen) (reads i).0 < 2 ^ 32 = subst (λ (o : Option ℕ × Option ℕ). value_of (known g.seen) o.0 < 2 ^ 32) (sym (return_reads i is).0) word in
-      let a0 : known g.seen 0 ≡ known h.seen 0 = return_whole now i uses.used small is in
+      let small : value_of (value_or_zero g.seen) (reads i).0 < 2 ^ 32 = subst (λ (o : Option ℕ × Option ℕ). value_of (value_or_zero g.seen) o.0 < 2 ^ 32) (sym (return_reads i is).0) word in
+      let a0 : value_or_zero g.seen 0 ≡ value_or_zero h.seen 0 = return_whole now i uses.used small is in
       shown_none (return_tests i g) (
         return_read i g is none there,
         (mismatch_row i us.masks.kept g h now.frames (λ e. a0) mismatch, (caller_row i us.masks.kept g h now.frames caller, tt)),
@@ -76,14 +76,14 @@ module _ {us : UseState} {g h : FrameState} (now : NowFit us g h) (none : g.nest
       (λ isnt. cond-false (is_return i) (first_shown (return_tests i g)) None isnt)
       (cases_Bool (is_return i))
 
-  window_too : (code : ℕ → ℕ) (k : StepKind) → (cond (underflows k) (fetched_return_use (fetched code h.control.pc) us h) None) ≡ None → window_breach code k g ≡ None
+  window_too : (code : ℕ → ℕ) (k : StepKind) → (cond (underflows k) (fetched_return_use (fetch_at code h.control.pc) us h) None) ≡ None → window_breach code k g ≡ None
   unfolding window_breach
   window_too code (step.Window vector) e = ⊎_elim
       (λ is.
-      let same : fetched code g.control.pc ≡ fetched code h.control.pc = ap (fetched code) now.control.even.pc in
-      let here : fetched_return_use (fetched code h.control.pc) us h ≡ None = sym (cond-true (is_underflow vector) (fetched_return_use (fetched code h.control.pc) us h) None is) ∙ e in
-      cond-true (is_underflow vector) (fetched_return_breach (fetched code g.control.pc) g) None is ∙ (ap (λ z. fetched_return_breach z g) same ∙ fetched_too (fetched code h.control.pc) here))
-      (λ isnt. cond-false (is_underflow vector) (fetched_return_breach (fetched code g.control.pc) g) None isnt)
+      let same : fetch_at code g.control.pc ≡ fetch_at code h.control.pc = ap (fetch_at code) now.control.even.pc in
+      let here : fetched_return_use (fetch_at code h.control.pc) us h ≡ None = sym (cond-true (is_underflow vector) (fetched_return_use (fetch_at code h.control.pc) us h) None is) ∙ e in
+      cond-true (is_underflow vector) (fetched_return_breach (fetch_at code g.control.pc) g) None is ∙ (ap (λ z. fetched_return_breach z g) same ∙ fetched_too (fetch_at code h.control.pc) here))
+      (λ isnt. cond-false (is_underflow vector) (fetched_return_breach (fetch_at code g.control.pc) g) None isnt)
       (cases_Bool (is_underflow vector))
   window_too code _ e = refl
 
@@ -93,11 +93,11 @@ pub record EntersUse (code : ℕ → ℕ) (b : Bounds) (m : MemoryContents) (fre
   pub nested : frame.nested ≡ None
   pub knows : Knows frame us
   pub somewhere : Somewhere (byte_at m) b (lost_at fresh frame) s frame
-  pub quiet : window_breach code (planned code s).kind (laid (inputs 0 s) frame) ≡ None
+  pub quiet : window_breach code (planned_turn code s).kind (with_inputs (inputs 0 s) frame) ≡ None
 
-use_window : (code : ℕ → ℕ) (rec : StepRecord) (us : UseState) → us.frame.nested ≡ None → window_use code rec us ≡ cond (underflows rec.kind) (fetched_return_use (fetched code (laid (inputs_of rec) us.frame).control.pc) us (laid (inputs_of rec) us.frame)) None
+use_window : (code : ℕ → ℕ) (rec : StepRecord) (us : UseState) → us.frame.nested ≡ None → window_use code rec us ≡ cond (underflows rec.kind) (fetched_return_use (fetch_at code (with_inputs (inputs_of rec) us.frame).control.pc) us (with_inputs (inputs_of rec) us.frame)) None
 unfolding window_use
-use_window code rec us sn = ap (λ (o : Option Nested). cond (underflows rec.kind) (fetched_return_use (fetched code (laid (inputs_of rec) (current_in o us.frame)).control.pc) us (laid (inputs_of rec) (current_in o us.frame))) None) sn
+use_window code rec us sn = ap (λ (o : Option Nested). cond (underflows rec.kind) (fetched_return_use (fetch_at code (with_inputs (inputs_of rec) (current_in o us.frame)).control.pc) us (with_inputs (inputs_of rec) (current_in o us.frame))) None) sn
 
 pub enters_use : (code : ℕ → ℕ) → (b : Bounds) (m : MemoryContents) (fresh : Bool) (s : State) (us : UseState) {f : FrameState} {ring spilled : List Frame}
     → Related (byte_at m) b (lost_at fresh f) s f ring spilled → Knows f us → f.nested ≡ None → us.frame.nested ≡ None → IsShaped s → window_use code (record_now code m s) us ≡ None
@@ -112,9 +112,9 @@ enters_use code b m fresh s us {f = f} {ring = ring} {spilled = spilled} l kn fn
     let kg : Knows g us = filled_knows l 0 seat.0 seat.1 kn in
     let wide = l.plain.windows.wide in
     let there : lacks g.seen (Some 0) ≡ false = lacks_here f.seen 0 v (omega arith) in
-    let word : known g.seen 0 < 2 ^ 32 = subst (λ z. z < 2 ^ 32) (sym (known_same f.seen 0 (Some v) (omega arith))) (shaped.words _) in
+    let word : value_or_zero g.seen 0 < 2 ^ 32 = subst (λ z. z < 2 ^ 32) (sym (known_same f.seen 0 (Some v) (omega arith))) (shaped.words _) in
     let now = now_plain kg fn sn (inputs_of rec) in
-    let same : laid (inputs_of rec) g ≡ laid (inputs 0 s) g = same_laid code s (reply_now code m s) g shaped.control.ps.owb_fits in
-    let quiet : window_breach code (planned code s).kind (laid (inputs_of rec) g) ≡ None = window_too now fn there word code (planned code s).kind (sym (use_window code rec us sn) ∙ none) in
-    let quiet_s : window_breach code (planned code s).kind (laid (inputs 0 s) g) ≡ None = subst (λ (z : FrameState). window_breach code (planned code s).kind z ≡ None) same quiet in
+    let same : with_inputs (inputs_of rec) g ≡ with_inputs (inputs 0 s) g = same_laid code s (reply_now code m s) g shaped.control.ps.owb_fits in
+    let quiet : window_breach code (planned_turn code s).kind (with_inputs (inputs_of rec) g) ≡ None = window_too now fn there word code (planned_turn code s).kind (sym (use_window code rec us sn) ∙ none) in
+    let quiet_s : window_breach code (planned_turn code s).kind (with_inputs (inputs 0 s) g) ≡ None = subst (λ (z : FrameState). window_breach code (planned_turn code s).kind z ≡ None) same quiet in
     record { frame = g; nested = fn; knows = kg; somewhere = record { ring = ring; spilled = spilled; related = lg }; quiet = quiet_s }

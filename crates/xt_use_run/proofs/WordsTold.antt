@@ -16,10 +16,10 @@ use Rattle.xt_window.specs.Ring.{place}
 use Rattle.xt_trace.specs.declared.record.RegWrite.{RegWrite}
 use Rattle.xt_trace.specs.declared.record.StepRecord.{StepRecord}
 use Rattle.xt_fetch.specs.Code.{AreBytes}
-use Rattle.xt_rows.specs.Laws.{IsWord}
+use Rattle.xt_rows.specs.RowLaws.{IsWord}
 use Rattle.xt_exec.specs.State.{State}
-use Rattle.xt_exec.specs.Laws.{IsServed, IsShaped}
-use Rattle.xt_exec.specs.Turn.{demand, planned, turn, with_write, written}
+use Rattle.xt_exec.specs.TurnLaws.{IsServed, IsShaped}
+use Rattle.xt_exec.specs.Turn.{demand, planned_turn, turn, with_write, write_with_reply}
 use Rattle.xt_exec.proofs.Served.{demand_served}
 use Rattle.xt_simulation.specs.Steps.{record_now, reply_now}
 use Rattle.xt_simulation.proofs.Judges.{record_access, record_reply, shaped_now}
@@ -65,7 +65,7 @@ module _ (code : ℕ → ℕ) (bytes : AreBytes code) (m : MemoryContents) (real
 
   told_write : (w : RegWrite) → (record_now code m s).write ≡ Some w → IsWord w.value
   unfolding turn
-  told_write w e = written_word (written (planned code s).write (planned code s).awaited (reply_now code m s)) (planned code s).after w (shaped_now code m s bytes shaped real) e
+  told_write w e = written_word (write_with_reply (planned_turn code s).write (planned_turn code s).awaited (reply_now code m s)) (planned_turn code s).after w (shaped_now code m s bytes shaped real) e
 
   pub told_now : ToldWords (record_now code m s)
   told_now = record {

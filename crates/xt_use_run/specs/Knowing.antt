@@ -6,12 +6,12 @@ use Rattle.std.specs.Prelude.{None, List, [], ◌∷◌, length, slice_index_or}
 use Rattle.xt_special.specs.Control.{Control, special_of}
 use Rattle.xt_special.specs.Access.{is_eps}
 use Rattle.xt_frames.specs.declared.holes.Nested.{Nested}
-use Rattle.xt_frames.specs.Frames.{Frame, FrameState, known}
+use Rattle.xt_frames.specs.Frames.{Frame, FrameState, value_or_zero}
 use Rattle.xt_frames.specs.Marks.{holds_marks}
 use Rattle.xt_frames.specs.SaveAreas.{sp_of}
 use Rattle.xt_simulation.specs.Relation.{Even}
 use Rattle.xt_uses.specs.declared.discipline.Discipline.{Discipline}
-use Rattle.xt_uses.specs.Words.{cut}
+use Rattle.xt_uses.specs.Words.{masked}
 use Rattle.xt_uses.specs.Used.{counted_bits}
 use Rattle.xt_frames.specs.FrameStep.{FrameTurn}
 use Rattle.xt_uses.specs.UseState.{UseState, current_masks}
@@ -26,7 +26,7 @@ pub record SeenFit (n : ℕ) (masks : List ℕ) (xs ys : List (Option ℕ)) : Ty
   pub size : length xs ≡ n
   pub wide : length ys ≡ n
   pub spread : length masks ≡ n
-  pub fits : (i : ℕ) → cut (slice_index_or masks i 0) (known xs i) ≡ known ys i
+  pub fits : (i : ℕ) → masked (slice_index_or masks i 0) (value_or_zero xs i) ≡ value_or_zero ys i
   pub lacks : (i : ℕ) → slice_index_or xs i None ≡ None → slice_index_or masks i 0 ≡ 0
 
 -- and the registers that are kept for frames; of a stack pointer all is known
@@ -55,11 +55,11 @@ pub record ControlFit
     (by : Discipline) (special : List ℕ) (known_bits : ℕ) (c d : Control)
     : Type 0 where
   pub even : Even is_partial c (with_pointer c.threadptr d)
-  pub pointer : cut known_bits c.threadptr ≡ d.threadptr
+  pub pointer : masked known_bits c.threadptr ≡ d.threadptr
   pub spread : length special ≡ 256
   pub words : (n : ℕ) → holds_marks n ≡ true → special_of c n < 2 ^ 32
   pub fits : (n : ℕ) → holds_marks n ≡ true
-      → cut (slice_index_or special n 0) (special_of c n) ≡ special_of d n
+      → masked (slice_index_or special n 0) (special_of c n) ≡ special_of d n
   pub saved : (n : ℕ) → is_eps n ≡ true
       → AgreeIn (counted_bits by n) (special_of c n) (special_of d n)
 
@@ -104,7 +104,7 @@ NestedFit inner _ _ = ⊥
 -- the machine of uses in the state s knows the frame state f
 pub record Knows (f : FrameState) (s : UseState) : Type 0 where
   pub seen : SeenFit 16 s.masks.seen f.seen s.frame.seen
-  pub sp : known f.seen 1 ≡ known s.frame.seen 1
+  pub sp : value_or_zero f.seen 1 ≡ value_or_zero s.frame.seen 1
   pub frames : FramesFit s.masks.kept f.frames s.frame.frames
   pub control :
       ControlLeft s.masks.discipline s.masks.special s.masks.threadptr f.control s.frame.control

@@ -1,2 +1,2 @@
 pub mod Knowing
-pub mod Laws
+pub mod UseRunLaws

@@ -1,7 +1,7 @@
 //! Laws of the relation between the processor and the machine of uses.
 #![tactic(auto)]
 
-ghost use Rattle.xt_use_run.specs.Laws.{RunsAreOrdinary, ShadowsOpen, UsesAreSo, UsesOfRunsAreLater};
+ghost use Rattle.xt_use_run.specs.UseRunLaws.{RunsAreOrdinary, ShadowsOpen, UsesAreSo, UsesOfRunsAreLater};
 
 /// Both machines open alike, and all is known.
 pub fn shadows_open()

@@ -5,7 +5,7 @@ use Rattle.std.proofs.lemmas.Bool.Decides.{nat_tests}
 use Rattle.std.proofs.lemmas.List.{get_or-append_right, get_or-drop, get_or-replicate, get_or-take, get_or_append_left, length-append, length-drop, length-replicate, length-take-le, take-append-le}
 use Rattle.std.proofs.Math.Seq.{take-length}
 use Rattle.xt_map.specs.Touching.{touches}
-use Rattle.xt_use_walk.specs.Bytes.{AreBytes, is_byte, place}
+use Rattle.xt_use_walk.specs.MaskedBytes.{AreBytes, is_byte, place}
 use Rattle.xt_use_walk.proofs.Places.{next_place, place_small, same_place}
 
 -- ---- the places of bytes in a row

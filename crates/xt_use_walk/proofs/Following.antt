@@ -5,19 +5,19 @@ use Rattle.xt_map.specs.declared.access.Access.{Access}
 use Rattle.xt_map.specs.Touching.{touches}
 use Rattle.xt_map.proofs.Alike.{touched_at}
 use Rattle.xt_frames.specs.Breaches.{touches_save_area}
-use Rattle.xt_frames.specs.Frames.{Frame, FrameState, known}
+use Rattle.xt_frames.specs.Frames.{Frame, FrameState, value_or_zero}
 use Rattle.xt_frames.specs.Stacks.{Stack}
 use Rattle.xt_frames.proofs.Stacked.{chain_top}
 use Rattle.xt_discipline.specs.declared.bytes.Held.{Held}
 use Rattle.xt_discipline.specs.declared.bytes.Change.TheVariants.{Enters, Leaves}
 use Rattle.xt_discipline.specs.declared.side.Areas.{Areas}
-use Rattle.xt_discipline.specs.Bytes.{Agrees, AreChanged, either, first, held_at, is_held, is_marked, opened_at, other_live, own_live}
+use Rattle.xt_discipline.specs.ByteMarks.{Agrees, AreChanged, either, first, held_at, is_held, is_marked, opened_at, other_live, own_live}
 use Rattle.xt_discipline.specs.Sides.{IsCallOf, IsNewestCall, in_areas}
 use Rattle.xt_discipline.proofs.Known.{all_changed, enters_other, enters_own, leaves_other, leaves_own, return_own, saves_turned}
 use Rattle.xt_discipline.proofs.Lives.{opened_inside}
 use Rattle.xt_uses.specs.UseWalk.{mask_stored}
 use Rattle.xt_use_walk.specs.declared.side.Bytes.{Bytes}
-use Rattle.xt_use_walk.specs.Bytes.{AreBytes, AreFull, AreMasks, KnowsBytes, TellsLive, is_byte, is_live_byte, mask_at, stored_over, without}
+use Rattle.xt_use_walk.specs.MaskedBytes.{AreBytes, AreFull, AreMasks, KnowsBytes, TellsLive, is_byte, is_live_byte, mask_at, stored_over, without}
 use Rattle.xt_use_walk.specs.Sides.{AreaBytes}
 use Rattle.xt_use_walk.proofs.Places.{dram_byte}
 use Rattle.xt_use_walk.proofs.Stores.{stored_same}
@@ -110,7 +110,7 @@ knows_follows core old new own own_now others test masks k full live are comes s
 
 -- ---- the areas of a call
 pub area_bytes : (lo hi : ℕ) (seen : List (Option ℕ)) (frames : List Frame) (x : Areas) → Stack lo hi seen frames → first ≤ lo → hi ≤ 2 ^ 30 → 0 < length frames
-    → ((f : Frame) (fs : List Frame) → frames ≡ f ∷ fs → (a : ℕ) → in_areas x a ≡ opened_at hi (known seen 1) f fs a) → AreaBytes x
+    → ((f : Frame) (fs : List Frame) → frames ≡ f ∷ fs → (a : ℕ) → in_areas x a ≡ opened_at hi (value_or_zero seen 1) f fs a) → AreaBytes x
 area_bytes lo hi seen [] x k low high some is = absurd (omega (arith, some))
 area_bytes lo hi seen (f ∷ fs) x k low high some is = record {
   low = λ a l h. inside a (or_from_left (touches x.low 16 a) (touches x.high x.size a) (touched x.low 16 a l h));
@@ -135,14 +135,14 @@ area_bytes lo hi seen (f ∷ fs) x k low high some is = record {
     or_from_right true y e = refl
     or_from_right false y e = e
 
-pub sp_bytes : (lo hi : ℕ) (seen : List (Option ℕ)) (frames : List Frame) → Stack lo hi seen frames → first ≤ lo → hi ≤ 2 ^ 30 → AreBytes (known seen 1 - 16) 16
+pub sp_bytes : (lo hi : ℕ) (seen : List (Option ℕ)) (frames : List Frame) → Stack lo hi seen frames → first ≤ lo → hi ≤ 2 ^ 30 → AreBytes (value_or_zero seen 1 - 16) 16
 sp_bytes lo hi seen frames k low high a l h =
-    let t = chain_top lo hi (known seen 1) frames k.range k.chain in
+    let t = chain_top lo hi (value_or_zero seen 1) frames k.range k.chain in
     let top = t.0 in
     let bottom = t.1 in
     dram_byte a (omega (arith, l, low, bottom)) (omega (arith, h, high, top, bottom))
 
-pub low_bytes : (lo hi : ℕ) (seen : List (Option ℕ)) (frames : List Frame) (from : ℕ) → Stack lo hi seen frames → first ≤ lo → hi ≤ 2 ^ 30 → from ≡ known seen 1 - 16 → AreBytes from 16
+pub low_bytes : (lo hi : ℕ) (seen : List (Option ℕ)) (frames : List Frame) (from : ℕ) → Stack lo hi seen frames → first ≤ lo → hi ≤ 2 ^ 30 → from ≡ value_or_zero seen 1 - 16 → AreBytes from 16
 low_bytes lo hi seen frames from k low high e = subst (λ (n : ℕ). AreBytes n 16) (sym e) (sp_bytes lo hi seen frames k low high)
 
 -- ---- the newest call, by the end of the stack that the bounds have

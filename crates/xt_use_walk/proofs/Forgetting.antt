@@ -4,15 +4,15 @@ use Rattle.std.proofs.lemmas.Bool.{and_left, and_right, cond-false, false_from_n
 use Rattle.std.proofs.lemmas.Bool.Decides.{nat_tests}
 use Rattle.xt_map.specs.Touching.{touches}
 use Rattle.xt_frames.specs.Breaches.{Bounds}
-use Rattle.xt_frames.specs.Frames.{Frame, FrameState, known}
+use Rattle.xt_frames.specs.Frames.{Frame, FrameState, value_or_zero}
 use Rattle.xt_frames.specs.Stacks.{Stack}
 use Rattle.xt_frames.proofs.Stacked.{chain_top}
-use Rattle.xt_discipline.specs.Bytes.{first}
+use Rattle.xt_discipline.specs.ByteMarks.{first}
 use Rattle.xt_discipline.specs.declared.bytes.Held.{Held}
 use Rattle.xt_uses.specs.UseState.{UseState, is_strict_in, rises_over, stack_pointer}
 use Rattle.xt_use_walk.specs.declared.side.Bytes.{Bytes}
-use Rattle.xt_use_walk.specs.Bytes.{AreBytes, AreFull, AreMasks, KnowsBytes, TellsLive, mask_at, without}
-use Rattle.xt_use_walk.specs.Sides.{StackOf, forgotten}
+use Rattle.xt_use_walk.specs.MaskedBytes.{AreBytes, AreFull, AreMasks, KnowsBytes, TellsLive, mask_at, without}
+use Rattle.xt_use_walk.specs.Sides.{StackOf, forgets_byte}
 use Rattle.xt_use_walk.proofs.Places.{dram_byte}
 
 -- where the stack pointer has risen
@@ -27,17 +27,17 @@ pub forgotten_none : (b : Bool) (sp now a : ℕ) → ltb sp now ≡ false → (b
 forgotten_none b sp now a e = and_right b (rises_over sp now a) (and_left (ltb sp now) (leb sp (a + 16) && ltb a now) e)
 
 -- it lies 16 bytes above the beginning of the stack, at least
-pub low_sp : (b c : Bounds) (f : FrameState) (sp : ℕ) → c ≡ b → StackOf b f → sp ≡ known f.seen 1 → c.range.lo + 16 ≤ sp
+pub low_sp : (b c : Bounds) (f : FrameState) (sp : ℕ) → c ≡ b → StackOf b f → sp ≡ value_or_zero f.seen 1 → c.range.lo + 16 ≤ sp
 low_sp b c f sp e k at =
-    let t = chain_top b.range.lo b.range.hi (known f.seen 1) f.frames k.range k.chain in
+    let t = chain_top b.range.lo b.range.hi (value_or_zero f.seen 1) f.frames k.range k.chain in
     let bottom = t.1 in
     let here : b.range.lo + 16 ≤ sp = omega (arith, at, bottom) in
     subst (λ (x : Bounds). x.range.lo + 16 ≤ sp) (sym e) here
 
 -- the bytes over which it has risen are bytes of memory
-pub risen_bytes : (lo hi sp now : ℕ) (seen : List (Option ℕ)) (frames : List Frame) → Stack lo hi seen frames → first ≤ lo → hi ≤ 2 ^ 30 → lo + 16 ≤ sp → now ≡ known seen 1 → AreBytes (sp - 16) (now - (sp - 16))
+pub risen_bytes : (lo hi sp now : ℕ) (seen : List (Option ℕ)) (frames : List Frame) → Stack lo hi seen frames → first ≤ lo → hi ≤ 2 ^ 30 → lo + 16 ≤ sp → now ≡ value_or_zero seen 1 → AreBytes (sp - 16) (now - (sp - 16))
 risen_bytes lo hi sp now seen frames k low high bottom at a l h =
-    let t = chain_top lo hi (known seen 1) frames k.range k.chain in
+    let t = chain_top lo hi (value_or_zero seen 1) frames k.range k.chain in
     let top = t.0 in
     dram_byte a (omega (arith, l, low, bottom)) (omega (arith, h, high, top, at, bottom))
 
@@ -58,14 +58,14 @@ knows_forgotten core old new own others test masks k full same are = record {
 }
 
 -- nothing, where the stack pointer stays
-pub knows_unmoved : (core : ℕ) (x : Bytes) (own others : ℕ → Bool) (masks : ℕ → ℕ) (s : UseState) (sp : ℕ) → stack_pointer s ≡ sp → KnowsBytes core x own others masks → KnowsBytes core x own others (without (forgotten s sp) masks)
+pub knows_unmoved : (core : ℕ) (x : Bytes) (own others : ℕ → Bool) (masks : ℕ → ℕ) (s : UseState) (sp : ℕ) → stack_pointer s ≡ sp → KnowsBytes core x own others masks → KnowsBytes core x own others (without (forgets_byte s sp) masks)
 knows_unmoved core x own others masks s sp e k =
-    let none : (a : ℕ) → forgotten s sp a ≡ false = λ a. forgotten_none (is_strict_in s) sp (stack_pointer s) a (not_less sp (stack_pointer s) e) in
+    let none : (a : ℕ) → forgets_byte s sp a ≡ false = λ a. forgotten_none (is_strict_in s) sp (stack_pointer s) a (not_less sp (stack_pointer s) e) in
     record {
       full = k.full;
       live = k.live;
-      masks_are = λ a h. k.masks_are a h ∙ sym (cond-false (forgotten s sp a) 0 (masks a) (none a));
-      unknown = λ a l. zero_over (forgotten s sp a) (own a || others a) (masks a) (k.unknown a l);
+      masks_are = λ a h. k.masks_are a h ∙ sym (cond-false (forgets_byte s sp a) 0 (masks a) (none a));
+      unknown = λ a l. zero_over (forgets_byte s sp a) (own a || others a) (masks a) (k.unknown a l);
     }
 
 -- ---- both cores as they open

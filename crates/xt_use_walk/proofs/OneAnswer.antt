@@ -4,7 +4,7 @@ use Rattle.std.proofs.lemmas.Option.{none-some, same_Some}
 use Rattle.xt_frames.specs.FirstBreach.{Course, IsTurn, Turn}
 use Rattle.xt_frames.proofs.Prefixes.{same_turn}
 use Rattle.xt_uses.specs.declared.discipline.Discipline.{Discipline}
-use Rattle.xt_uses.specs.FirstUse.{IsFirstUse, IsVerdict, carried}
+use Rattle.xt_uses.specs.FirstUse.{IsFirstUse, IsVerdict, carried_count}
 use Rattle.xt_uses.specs.Lacks.{lacks_before}
 use Rattle.xt_uses.proofs.LaterHistories.{history_is_one}
 use Rattle.xt_uses.proofs.LaterVerdicts.{same_place, verdict_one}
@@ -13,7 +13,7 @@ use Rattle.xt_use_walk.specs.declared.walk.Uses.{Uses}
 use Rattle.xt_use_walk.specs.declared.walk.Uses.TheVariants.{Unchecked, Whole, Broken}
 use Rattle.xt_use_walk.specs.Verdicts.{IsBroken, IsSaid, UsesAreOne}
 
-verdict_of : (d : Discipline) (r : Course) (first : walk.FirstUse) (b : IsBroken d r first) → IsVerdict d r (Some first.breach) (carried r b.history 0 b.place) (carried r b.history 1 b.place)
+verdict_of : (d : Discipline) (r : Course) (first : walk.FirstUse) (b : IsBroken d r first) → IsVerdict d r (Some first.breach) (carried_count r b.history 0 b.place) (carried_count r b.history 1 b.place)
 verdict_of d r first b = record { history = b.history; is_history = b.is_history; place = b.place; first = b.is_first; counts0 = refl; counts1 = refl }
 
 same_first : (d : Discipline) (r : Course) (one other : walk.FirstUse) → IsBroken d r one → IsBroken d r other → one ≡ other

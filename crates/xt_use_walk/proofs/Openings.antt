@@ -7,9 +7,9 @@ use Rattle.xt_map.specs.Touching.{touches}
 use Rattle.xt_trace.specs.declared.options.Options.{Options}
 use Rattle.xt_trace.specs.declared.options.Stack.{Stack}
 use Rattle.xt_trace.specs.Validity.{IsValid, IsValidStack}
-use Rattle.xt_frames.specs.Walked.{opened, stack_of}
+use Rattle.xt_frames.specs.Walked.{opening_walked, stack_of}
 use Rattle.xt_discipline.specs.declared.side.Mode.TheVariants as mode
-use Rattle.xt_discipline.specs.Bytes.{IsEnd, first}
+use Rattle.xt_discipline.specs.ByteMarks.{IsEnd, first}
 use Rattle.xt_discipline.proofs.Opens.{live_opened, stack_valid}
 use Rattle.xt_frames.specs.Frames.{opening_seen}
 use Rattle.xt_uses.specs.declared.discipline.Discipline.{Discipline}
@@ -18,7 +18,7 @@ use Rattle.xt_uses.specs.UseParts.{UseWalked, opened_use}
 use Rattle.xt_uses.specs.UseWalk.{opening_masks, opening_use_standing}
 use Rattle.xt_use_walk.specs.declared.side.Side.{Side}
 use Rattle.xt_use_walk.specs.declared.walk.Walk.{Walk}
-use Rattle.xt_use_walk.specs.Bytes.{AreBytes, KnowsBytes, is_byte}
+use Rattle.xt_use_walk.specs.MaskedBytes.{AreBytes, KnowsBytes, is_byte}
 use Rattle.xt_use_walk.specs.Sides.{live_in}
 use Rattle.xt_use_walk.specs.Walks.{AreOpened, IsKnown, IsOpened, below_opening}
 
@@ -29,7 +29,7 @@ nothing_less : (n : ℕ) → 0 ≤ n
 nothing_less n = omega arith
 
 known_opened : (d : Discipline) (core pc hi : ℕ) (o : Options) → IsValid o → hi ≡ (stack_of core o).hi
-    → IsKnown (side_at core hi (opened_use d core pc o)) core (opened core pc o).bounds (opening_use_standing d (opened core pc o).state)
+    → IsKnown (side_at core hi (opened_use d core pc o)) core (opening_walked core pc o).bounds (opening_use_standing d (opening_walked core pc o).state)
 known_opened d core pc hi o v e =
     let s = stack_valid core o v in
     record {
@@ -40,10 +40,10 @@ known_opened d core pc hi o v e =
     }
 
 live_at : (d : Discipline) (core pc a : ℕ) (o : Options) → live_in (opened_use d core pc o) a ≡ touches ((stack_of core o).hi - 76) 4 a
-live_at d core pc a o = live_opened (stack_of core o).lo (stack_of core o).hi a (opened core pc o).state refl
+live_at d core pc a o = live_opened (stack_of core o).lo (stack_of core o).hi a (opening_walked core pc o).state refl
 
 -- the stack pointer with which a core opens
-below_at : (d : Discipline) (core pc a : ℕ) (o : Options) → below_opening d (stack_of core o) a ≡ opens_unknown (opened core pc o).bounds.range (opening_use d (opened core pc o).state) a
+below_at : (d : Discipline) (core pc a : ℕ) (o : Options) → below_opening d (stack_of core o) a ≡ opens_unknown (opening_walked core pc o).bounds.range (opening_use d (opening_walked core pc o).state) a
 unfolding opening_seen
 below_at d core pc a o = refl
 
@@ -51,8 +51,8 @@ pub opens : (d : Discipline) (w : Walk) (code : List Segment) (entry : ℕ) (o :
     → w.side0 ≡ side_at 0 o.stack0.hi (opened_use d 0 entry o) → w.side1 ≡ side_at 1 o.stack1.hi (opened_use d 1 o.entry1 o)
     → AreOpened d w.bytes o.stack0 o.stack1 → IsOpened d w code entry o
 opens d w code entry o v code_is zero_is one_is k =
-    let a = opened 0 entry o in
-    let b = opened 1 o.entry1 o in
+    let a = opening_walked 0 entry o in
+    let b = opening_walked 1 o.entry1 o in
     let one_side = side_at 0 o.stack0.hi (opened_use d 0 entry o) in
     let other_side = side_at 1 o.stack1.hi (opened_use d 1 o.entry1 o) in
     let masks = opening_masks d a.bounds b.bounds a.state b.state in

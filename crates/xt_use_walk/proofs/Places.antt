@@ -9,7 +9,7 @@ use Rattle.xt_map.specs.Regions.{is_memory, region_of}
 use Rattle.xt_map.specs.Touching.{touches}
 use Rattle.xt_map.proofs.Ranged.{dram_range, range_dram, rtc_fast_data_range, rtc_slow_range}
 use Rattle.xt_use_walk.specs.declared.bytes.ByteMasks.{ByteMasks}
-use Rattle.xt_use_walk.specs.Bytes.{AreMasks, is_byte, mask_at, place, put_at, without}
+use Rattle.xt_use_walk.specs.MaskedBytes.{AreMasks, is_byte, mask_at, place, put_at, without}
 
 -- ---- the three regions
 data IsIn (a : ℕ) : Type 0 where

@@ -10,7 +10,7 @@ use Rattle.xt_frames.specs.declared.kinds.Breach.{Breach}
 use Rattle.xt_frames.specs.Breaches.{Bounds}
 use Rattle.xt_frames.specs.Frames.{FrameState}
 use Rattle.xt_frames.specs.FirstBreach.{Course, IsTurn, records_before, turns}
-use Rattle.xt_frames.specs.Walked.{opened}
+use Rattle.xt_frames.specs.Walked.{opening_walked}
 use Rattle.xt_discipline.specs.Ended.{records_left}
 use Rattle.xt_discipline.specs.Schedules.{schedule_in}
 use Rattle.xt_uses.specs.declared.discipline.Discipline.{Discipline}
@@ -78,12 +78,12 @@ said d r b0 b1 f0 f1 cs xs ys j (Broken first) is u t = said_broken d r b0 b1 f0
 -- ---- in the words of the image and its run
 uses_are : (d : Discipline) (w : Walk) (code : List Segment) (image : Image) (r : Run) (xs ys : List StepRecord) (uses : Uses) (good : Bool) → good ≡ true → IsOpened d w code image.entry r.options → code ≡ image.segments
     → IsTold (constant_byte w.code)
-    (use_judgement (constant_byte w.code) (opened 0 image.entry r.options).bounds (opened 1 r.options.entry1 r.options).bounds (schedule_in r) xs ys (opening_use_known d (opened 0 image.entry r.options).bounds (opened 1 r.options.entry1 r.options).bounds (opened 0 image.entry r.options).state (opened 1 r.options.entry1 r.options).state))
-    (opening_use_known d (opened 0 image.entry r.options).bounds (opened 1 r.options.entry1 r.options).bounds (opened 0 image.entry r.options).state (opened 1 r.options.entry1 r.options).state) xs ys uses
+    (use_judgement (constant_byte w.code) (opening_walked 0 image.entry r.options).bounds (opening_walked 1 r.options.entry1 r.options).bounds (schedule_in r) xs ys (opening_use_known d (opening_walked 0 image.entry r.options).bounds (opening_walked 1 r.options.entry1 r.options).bounds (opening_walked 0 image.entry r.options).state (opening_walked 1 r.options.entry1 r.options).state))
+    (opening_use_known d (opening_walked 0 image.entry r.options).bounds (opening_walked 1 r.options.entry1 r.options).bounds (opening_walked 0 image.entry r.options).state (opening_walked 1 r.options.entry1 r.options).state) xs ys uses
     → IsUsesOf d good (course_in image r xs ys) uses
 uses_are d w code image r xs ys uses good e o code_is told =
-    let a = opened 0 image.entry r.options in
-    let b = opened 1 r.options.entry1 r.options in
+    let a = opening_walked 0 image.entry r.options in
+    let b = opening_walked 1 r.options.entry1 r.options in
     let k = opening_use_known d a.bounds b.bounds a.state b.state in
     let T : List Segment → Type 0 = λ s. IsTold (constant_byte s) (use_judgement (constant_byte s) a.bounds b.bounds (schedule_in r) xs ys k) k xs ys uses in
     let c = course_in image r xs ys in
@@ -94,8 +94,8 @@ uses_are d w code image r xs ys uses good e o code_is told =
 
 pub all_uses_are : {E : Type 0} (d : Discipline) (w : Walk) (code : List Segment) (image : Image) (r : Run) (xs ys : List StepRecord) (out : Result Uses E) (good : Bool) → good ≡ true → IsOpened d w code image.entry r.options → code ≡ image.segments
     → IfOk out (IsTold (constant_byte w.code)
-    (use_judgement (constant_byte w.code) (opened 0 image.entry r.options).bounds (opened 1 r.options.entry1 r.options).bounds (schedule_in r) xs ys (opening_use_known d (opened 0 image.entry r.options).bounds (opened 1 r.options.entry1 r.options).bounds (opened 0 image.entry r.options).state (opened 1 r.options.entry1 r.options).state))
-    (opening_use_known d (opened 0 image.entry r.options).bounds (opened 1 r.options.entry1 r.options).bounds (opened 0 image.entry r.options).state (opened 1 r.options.entry1 r.options).state) xs ys)
+    (use_judgement (constant_byte w.code) (opening_walked 0 image.entry r.options).bounds (opening_walked 1 r.options.entry1 r.options).bounds (schedule_in r) xs ys (opening_use_known d (opening_walked 0 image.entry r.options).bounds (opening_walked 1 r.options.entry1 r.options).bounds (opening_walked 0 image.entry r.options).state (opening_walked 1 r.options.entry1 r.options).state))
+    (opening_use_known d (opening_walked 0 image.entry r.options).bounds (opening_walked 1 r.options.entry1 r.options).bounds (opening_walked 0 image.entry r.options).state (opening_walked 1 r.options.entry1 r.options).state) xs ys)
     → IfOk out (λ uses. IsUsesOf d good (course_in image r xs ys) uses)
 all_uses_are d w code image r xs ys (Ok uses) good e o code_is told = uses_are d w code image r xs ys uses good e o code_is told
 all_uses_are d w code image r xs ys (Err error) good e o code_is told = tt

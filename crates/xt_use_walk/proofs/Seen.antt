@@ -12,13 +12,13 @@ use Rattle.xt_frames.specs.HandlerSteps.{Mode, Handles, is_window, mode_after}
 use Rattle.xt_frames.specs.Nesting.{is_nesting}
 use Rattle.xt_discipline.specs.declared.side.Mode as declared
 use Rattle.xt_discipline.specs.declared.side.Mode.TheVariants as mode
-use Rattle.xt_discipline.specs.Bytes.{Agrees, either, held_at}
+use Rattle.xt_discipline.specs.ByteMarks.{Agrees, either, held_at}
 use Rattle.xt_discipline.specs.Sides.{mode_of}
 use Rattle.xt_discipline.proofs.Seeing.{at_last, breach_is, late, le_more, le_same, next_is}
 use Rattle.xt_uses.specs.declared.testing.Touched.{Touched}
 use Rattle.xt_uses.specs.declared.told.Used.{Used}
-use Rattle.xt_uses.specs.declared.told.Stopped.{Stopped}
-use Rattle.xt_uses.specs.declared.told.Stopped.TheVariants.{Breaks, NoMemory}
+use Rattle.xt_uses.specs.declared.told.JudgeError.{JudgeError}
+use Rattle.xt_uses.specs.declared.told.JudgeError.TheVariants.{Breaks, NoMemory}
 use Rattle.xt_uses.specs.UseBreaches.{use_breach, window_use}
 use Rattle.xt_uses.specs.UseParts.{IsTouched, IsUseJudged, IsUsed, UseMoves, UseWalked, fresh_at, fresh_use, use_past}
 use Rattle.xt_uses.specs.Disciplines.{is_strict}
@@ -28,8 +28,8 @@ use Rattle.xt_uses.specs.UseStep.{carries, use_step}
 use Rattle.xt_uses.specs.UseWalk.{UseHandled, UseSeen, UseStanding, count_of, handled_past, live_with, lost_with, mask_stored, masks_after, use_seen, use_seen_in, use_seen_judged, use_seen_step, use_seen_window}
 use Rattle.xt_use_walk.specs.declared.side.Bytes.{Bytes}
 use Rattle.xt_use_walk.specs.declared.side.Side.{Side}
-use Rattle.xt_use_walk.specs.Bytes.{KnowsBytes, mask_at, without}
-use Rattle.xt_use_walk.specs.Sides.{BeginsUse, IsFollowed, IsUsePast, IsUseSeen, IsUseSide, forgotten, live_in, standing_of}
+use Rattle.xt_use_walk.specs.MaskedBytes.{KnowsBytes, mask_at, without}
+use Rattle.xt_use_walk.specs.Sides.{BeginsUse, IsFollowed, IsUsePast, IsUseSeen, IsUseSide, forgets_byte, live_in, standing_of}
 use Rattle.xt_use_walk.proofs.Following.{knows_same, saves_told}
 use Rattle.xt_use_walk.proofs.Served.{reply_same, swaps_same}
 
@@ -76,7 +76,7 @@ plain_seen old others masks code rec h w =
 plain_handles : (code : ℕ → ℕ) (old : declared.Mode) (rec : StepRecord) → old ≡ mode.Plain → is_window rec.kind ≡ true → mode_after code (mode_of old) rec ≡ Handles
 plain_handles code old rec h w = ap (λ (m : declared.Mode). mode_after code (mode_of m) rec) h ∙ cond-true (is_window rec.kind) _ _ w
 
-pub begin_seen : (old new : Side) (bytes : Bytes) (others : ℕ → Bool) (masks : ℕ → ℕ) (code : ℕ → ℕ) (rec : StepRecord) (r : Result Unit Stopped) → old.mode ≡ mode.Plain → is_window rec.kind ≡ true → IsUseSide old
+pub begin_seen : (old new : Side) (bytes : Bytes) (others : ℕ → Bool) (masks : ℕ → ℕ) (code : ℕ → ℕ) (rec : StepRecord) (r : Result Unit JudgeError) → old.mode ≡ mode.Plain → is_window rec.kind ≡ true → IsUseSide old
     → BeginsUse (window_use code rec old.uses.state) old r new → KnowsBytes old.core bytes (live_in old.uses) others masks
     → IsUseSeen old new bytes others masks (use_seen code old.uses.bounds (standing_of old) others masks rec) r
 begin_seen old new bytes others masks code rec (Ok u) h w k begins known =
@@ -87,7 +87,7 @@ begin_seen old new bytes others masks code rec (Ok u) h w k begins known =
     subst (λ (s : UseSeen). IsUseSeen old new bytes others masks s (Ok u)) (sym z) (subst P (sym begins.1) there)
 begin_seen old new bytes others masks code rec (Err (Breaks b)) h w k begins known =
     let z = plain_seen old others masks code rec h w ∙ ap (λ (o : Option BreachKind). use_seen_window o code (standing_of old) rec) begins.0 in
-    let r : Result Unit Stopped = Err (Breaks b) in
+    let r : Result Unit JudgeError = Err (Breaks b) in
     subst (λ (s : UseSeen). IsUseSeen old new bytes others masks s r) (sym z) (breach_is b old.core old.steps (begins.1 ∙ k.core_is) begins.2, begins.3)
 begin_seen old new bytes others masks code rec (Err (NoMemory e)) h w k begins known = tt
 
@@ -106,7 +106,7 @@ pub nested_judged : (old : Side) (others : ℕ → Bool) (masks : ℕ → ℕ) (
     → use_seen code old.uses.bounds (standing_of old) others masks rec ≡ use_seen_judged code old.uses.bounds (standing_of old) others masks true rec
 nested_judged old others masks code rec h = ap (λ (m : declared.Mode). use_seen_in (mode_of m) code old.uses.bounds (standing_of old) others masks rec) h
 
-pub step_seen : (old new : Side) (bytes : Bytes) (others : ℕ → Bool) (masks : ℕ → ℕ) (s t : UseSeen) (r : Result Unit Stopped) → s ≡ t → IsUseSeen old new bytes others masks t r → IsUseSeen old new bytes others masks s r
+pub step_seen : (old new : Side) (bytes : Bytes) (others : ℕ → Bool) (masks : ℕ → ℕ) (s t : UseSeen) (r : Result Unit JudgeError) → s ≡ t → IsUseSeen old new bytes others masks t r → IsUseSeen old new bytes others masks s r
 step_seen old new bytes others masks s t r same judged = subst (λ (x : UseSeen). IsUseSeen old new bytes others masks x r) (sym same) judged
 
 -- what a record touches, by these live bytes and masks
@@ -125,12 +125,12 @@ abbrev pub found_by : Side → (ℕ → Bool) → (ℕ → ℕ) → (ℕ → ℕ
 found_by old others masks code nested rec = use_breach old.uses.bounds (fresh_at old.uses old.steps) code (either (live_in old.uses) others) masks nested rec old.uses.state
 
 -- ---- the answer of the machine
-pub past_where : (found : Option BreachKind) (w new : UseWalked) (code : ℕ → ℕ) (index : ℕ) (nested : Bool) (rec : StepRecord) (bytes : ℕ → ℕ) (r : Result Used Stopped) (used : Used) → r ≡ Ok used → IsUseJudged found w code index nested rec bytes r new
+pub past_where : (found : Option BreachKind) (w new : UseWalked) (code : ℕ → ℕ) (index : ℕ) (nested : Bool) (rec : StepRecord) (bytes : ℕ → ℕ) (r : Result Used JudgeError) (used : Used) → r ≡ Ok used → IsUseJudged found w code index nested rec bytes r new
     → (found ≡ None) × (new ≡ use_past w code index nested rec bytes) × IsUsed code nested rec bytes w.state used
-past_where found w new code index nested rec bytes r used e j = subst (λ (x : Result Used Stopped). IsUseJudged found w code index nested rec bytes x new) e j
+past_where found w new code index nested rec bytes r used e j = subst (λ (x : Result Used JudgeError). IsUseJudged found w code index nested rec bytes x new) e j
 
-pub moves_where : (g f : FrameState) (r : Result Used Stopped) (used : Used) → r ≡ Ok used → OnOk r (UseMoves g f) → UseMoves g f
-moves_where g f r used e m = subst (λ (x : Result Used Stopped). OnOk x (UseMoves g f)) e m
+pub moves_where : (g f : FrameState) (r : Result Used JudgeError) (used : Used) → r ≡ Ok used → OnOk r (UseMoves g f) → UseMoves g f
+moves_where g f r used e m = subst (λ (x : Result Used JudgeError). OnOk x (UseMoves g f)) e m
 
 -- the core past a judged step
 pub side_past : (s : Side) (uses : UseWalked) (code : ℕ → ℕ) (nested : Bool) (rec : StepRecord) (bytes : ℕ → ℕ) (next : declared.Mode) (n : ℕ) → IsUseSide s → uses ≡ use_past s.uses code s.steps nested rec bytes → n ≤ 1
@@ -141,7 +141,7 @@ side_past s uses code nested rec bytes next n k is few =
     subst P (sym is) there
 
 -- also where no more is known of the bytes that a record touches than that there are some such bytes
-pub side_goes : (s : Side) (uses : UseWalked) (code : ℕ → ℕ) (nested : Bool) (rec : StepRecord) (next : declared.Mode) (n : ℕ) (t : Touched) (r : Result Used Stopped) (used : Used) → IsUseSide s → r ≡ Ok used → n ≤ 1
+pub side_goes : (s : Side) (uses : UseWalked) (code : ℕ → ℕ) (nested : Bool) (rec : StepRecord) (next : declared.Mode) (n : ℕ) (t : Touched) (r : Result Used JudgeError) (used : Used) → IsUseSide s → r ≡ Ok used → n ≤ 1
     → ((live : ℕ → Bool) × (bytes : ℕ → ℕ) × IsTouched t rec live bytes)
     → ((live : ℕ → Bool) (bytes : ℕ → ℕ) → IsTouched t rec live bytes → IsUseJudged (use_breach s.uses.bounds (fresh_at s.uses s.steps) code live bytes nested rec s.uses.state) s.uses code s.steps nested rec bytes r uses)
     → IsUseSide (record s { uses = uses; mode = next; steps = s.steps + 1; carried = s.carried + n }) × (uses.bounds ≡ s.uses.bounds)
@@ -164,7 +164,7 @@ over_three false false true m = refl
 over_three false false false m = refl
 
 -- what it forgets, by the state before it
-pub forgotten_by : (s u : UseState) (sp a : ℕ) → sp ≡ stack_pointer s → u.masks.discipline ≡ s.masks.discipline → forgotten u sp a ≡ forgets s u a
+pub forgotten_by : (s u : UseState) (sp a : ℕ) → sp ≡ stack_pointer s → u.masks.discipline ≡ s.masks.discipline → forgets_byte u sp a ≡ forgets s u a
 forgotten_by s u sp a e d = λ i. is_strict (d i) && rises_over (e i) (stack_pointer u) a
 
 -- a judged step that shows no breach
@@ -173,7 +173,7 @@ pub judged_past : (old new : Side) (uses : UseWalked) (bytes : Bytes) (others : 
     → stored ≡ (use_step code nested rec masks old.uses.state).stored → n ≡ count_of (carries code rec old.uses.state (use_step code nested rec masks old.uses.state)) → n ≤ 1
     → new ≡ record old { uses = uses; mode = next; steps = old.steps + 1; carried = old.carried + n }
     → (sp : ℕ) → sp ≡ stack_pointer old.uses.state → KnowsBytes old.core bytes (is_live old.uses.bounds.range uses.state.frame) others
-    (without (forgotten uses.state sp) (without (λ a. is_live old.uses.bounds.range uses.state.frame a || others a) (without (λ a. live_in old.uses a || others a) (mask_stored stored rec.access masks))))
+    (without (forgets_byte uses.state sp) (without (λ a. is_live old.uses.bounds.range uses.state.frame a || others a) (without (λ a. live_in old.uses a || others a) (mask_stored stored rec.access masks))))
     → IsUseSeen old new bytes others masks (use_seen_step found code old.uses.bounds (standing_of old) others masks nested rec) (Ok u)
 judged_past old new uses bytes others masks code rec found u nested next stored n h k none is stores counts few made sp at_sp known =
     let r = old.uses.bounds.range in
@@ -184,7 +184,7 @@ judged_past old new uses bytes others masks code rec found u nested next stored 
     let st = standing t.after fresh m (suc old.steps) (old.carried + count_of (carries code rec old.uses.state t)) in
     let at : UseWalked → ℕ → Side = λ x i. record old { uses = x; mode = next; steps = old.steps + 1; carried = old.carried + i } in
     let after : (ℕ → ℕ) = masks_after (live_with old.uses.bounds t.after.frame others) (lost_with old.uses.bounds old.uses.state t.after others) t.stored rec.access masks in
-    let K : UseWalked → ℕ → Type 0 = λ x s. KnowsBytes old.core bytes (is_live r x.state.frame) others (without (forgotten x.state sp) (without (λ a. is_live r x.state.frame a || others a) (without (λ a. live_in old.uses a || others a) (mask_stored s rec.access masks)))) in
+    let K : UseWalked → ℕ → Type 0 = λ x s. KnowsBytes old.core bytes (is_live r x.state.frame) others (without (forgets_byte x.state sp) (without (λ a. is_live r x.state.frame a || others a) (without (λ a. live_in old.uses a || others a) (mask_stored s rec.access masks)))) in
     let moved : K w t.stored = subst (λ (s : ℕ). K w s) stores (subst (λ (x : UseWalked). K x stored) is known) in
     let P : Side → Type 0 = λ s. IsUsePast old s bytes others after st in
     let there : P (at w n) = record {
@@ -197,7 +197,7 @@ judged_past old new uses bytes others masks code rec found u nested next stored 
           ∙ (ap (λ (x : Mode). standing t.after fresh x (old.steps + 1) (old.carried + n)) h
           ∙ (ap (λ (s : ℕ). standing t.after fresh m s (old.carried + n)) (next_is old.steps) ∙ ap (λ (i : ℕ). standing t.after fresh m (suc old.steps) (old.carried + i)) counts));
       bytes_are =
-          knows_same old.core bytes (is_live r t.after.frame) others (without (forgotten t.after sp) (without (λ a. is_live r t.after.frame a || others a) (without (λ a. live_in old.uses a || others a) (mask_stored t.stored rec.access masks)))) after
+          knows_same old.core bytes (is_live r t.after.frame) others (without (forgets_byte t.after sp) (without (λ a. is_live r t.after.frame a || others a) (without (λ a. live_in old.uses a || others a) (mask_stored t.stored rec.access masks)))) after
           (λ a.
           ap (λ b. cond b 0 (cond (is_live r t.after.frame a || others a) 0 (cond (live_in old.uses a || others a) 0 (mask_stored t.stored rec.access masks a)))) (forgotten_by old.uses.state t.after sp a at_sp (step_same code nested rec masks old.uses.state))
           ∙ over_three (forgets old.uses.state t.after a) (is_live r t.after.frame a || others a) (live_in old.uses a || others a) (mask_stored t.stored rec.access masks a)) moved;
@@ -206,13 +206,13 @@ judged_past old new uses bytes others masks code rec found u nested next stored 
     subst (λ (o : Option BreachKind). IsUseSeen old new bytes others masks (use_seen_step o code old.uses.bounds (standing_of old) others masks nested rec) (Ok u)) (sym none) (subst P (sym new_is) there)
 
 -- and one that shows one, or finds too little memory
-pub judged_stops : (old new : Side) (bytes : Bytes) (others : ℕ → Bool) (masks : ℕ → ℕ) (code : ℕ → ℕ) (nested : Bool) (rec : StepRecord) (uses : UseWalked) (s : Stopped) (r : Result Used Stopped)
+pub judged_stops : (old new : Side) (bytes : Bytes) (others : ℕ → Bool) (masks : ℕ → ℕ) (code : ℕ → ℕ) (nested : Bool) (rec : StepRecord) (uses : UseWalked) (s : JudgeError) (r : Result Used JudgeError)
     → IsUseSide old → r ≡ Err s → IsUseJudged (found_by old others masks code nested rec) old.uses code old.steps nested rec masks r uses → new ≡ record old { uses = uses }
     → IsUseSeen old new bytes others masks (use_seen_judged code old.uses.bounds (standing_of old) others masks nested rec) (Err s)
 judged_stops old new bytes others masks code nested rec uses (Breaks b) r k is j made =
-    let out : Result Used Stopped = Err (Breaks b) in
-    let at : IsUseJudged (found_by old others masks code nested rec) old.uses code old.steps nested rec masks out uses = subst (λ (x : Result Used Stopped). IsUseJudged (found_by old others masks code nested rec) old.uses code old.steps nested rec masks x uses) is j in
-    let answer : Result Unit Stopped = Err (Breaks b) in
+    let out : Result Used JudgeError = Err (Breaks b) in
+    let at : IsUseJudged (found_by old others masks code nested rec) old.uses code old.steps nested rec masks out uses = subst (λ (x : Result Used JudgeError). IsUseJudged (found_by old others masks code nested rec) old.uses code old.steps nested rec masks x uses) is j in
+    let answer : Result Unit JudgeError = Err (Breaks b) in
     let same : new ≡ old = made ∙ ap (λ (x : UseWalked). record old { uses = x }) at.1 in
     subst (λ (o : Option BreachKind). IsUseSeen old new bytes others masks (use_seen_step o code old.uses.bounds (standing_of old) others masks nested rec) answer) (sym at.0.0)
     (breach_is b old.core old.steps (at.0.1 ∙ k.core_is) at.0.2, same)

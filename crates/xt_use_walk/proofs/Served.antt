@@ -12,10 +12,10 @@ use Rattle.xt_map.specs.Touching.{is_store, touches}
 use Rattle.xt_map.proofs.Alike.{inside, three_sizes}
 use Rattle.xt_map.proofs.Ranged.{dram_range, range_dram, range_rtc_fast_data, range_rtc_slow, rtc_fast_data_range, rtc_slow_range}
 use Rattle.xt_frames.specs.Breaches.{some_byte}
-use Rattle.xt_uses.specs.Words.{all_bits, flipped}
+use Rattle.xt_uses.specs.Words.{all_bits, complement}
 use Rattle.xt_uses.specs.UseStep.{reply_mask, unknown_bits}
 use Rattle.xt_uses.specs.UseBreaches.{is_swap, swaps_unknown}
-use Rattle.xt_use_walk.specs.Bytes.{AreBytes, is_byte}
+use Rattle.xt_use_walk.specs.MaskedBytes.{AreBytes, is_byte}
 use Rattle.xt_use_walk.proofs.Places.{byte_large}
 
 -- ---- where they lie
@@ -155,7 +155,7 @@ module _ (f g : ℕ → ℕ) (same : (a : ℕ) → is_byte a ≡ true → f a �
   pub reply_same : (o : Option Access) → IfSome o (λ a. is_mapped a ≡ true) → reply_mask f o ≡ reply_mask g o
   reply_same None h = refl
   reply_same (Some a) h = ⊎_elim
-      (λ m. ap (λ (x : ℕ). cond (is_memory (region_of a.addr) && not (is_store a.kind)) (flipped x) all_bits) (bits_same a.size a.addr (served_bytes a h m)))
+      (λ m. ap (λ (x : ℕ). cond (is_memory (region_of a.addr) && not (is_store a.kind)) (complement x) all_bits) (bits_same a.size a.addr (served_bytes a h m)))
       (λ n. let off : (is_memory (region_of a.addr) && not (is_store a.kind)) ≡ false = ap (λ (b : Bool). b && not (is_store a.kind)) n in cond-false _ _ _ off ∙ sym (cond-false _ _ _ off))
       (cases_Bool (is_memory (region_of a.addr)))
 

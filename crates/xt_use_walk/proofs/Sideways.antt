@@ -2,7 +2,7 @@
 use Rattle.std.proofs.Common.{ℕ, zero, suc, Bool, ◌∙◌}
 use Rattle.std.proofs.Math.Bool.{or_comm}
 use Rattle.xt_use_walk.specs.declared.side.Bytes.{Bytes}
-use Rattle.xt_use_walk.specs.Bytes.{KnowsBytes}
+use Rattle.xt_use_walk.specs.MaskedBytes.{KnowsBytes}
 
 -- the number of the other core
 abbrev pub other_than : ℕ → ℕ

@@ -11,15 +11,15 @@ use Rattle.xt_map.proofs.Alike.{inside, three_sizes, touched_at}
 use Rattle.xt_trace.specs.declared.record.StepRecord.{StepRecord}
 use Rattle.xt_frames.specs.Breaches.{is_load, some_byte, touches_save_area}
 use Rattle.xt_discipline.specs.declared.bytes.Held.{Held}
-use Rattle.xt_discipline.specs.Bytes.{either, first, held_at, is_marked, nothing, other_live, own_live}
+use Rattle.xt_discipline.specs.ByteMarks.{either, first, held_at, is_marked, nothing, other_live, own_live}
 use Rattle.xt_uses.specs.FirstUse.{stored_byte}
 use Rattle.xt_uses.specs.UseBreaches.{is_swap, swaps_unknown}
 use Rattle.xt_uses.specs.UseParts.{IsTouched}
 use Rattle.xt_uses.specs.UseStep.{reply_mask, unknown_bits}
-use Rattle.xt_uses.specs.Words.{all_bits, flipped}
+use Rattle.xt_uses.specs.Words.{all_bits, complement}
 use Rattle.xt_use_walk.specs.declared.bytes.ByteMasks.{ByteMasks}
 use Rattle.xt_use_walk.specs.declared.side.Bytes.{Bytes}
-use Rattle.xt_use_walk.specs.Bytes.{AreKnown, AreMasks, KnowsAccess, KnowsBytes, TellsLive, is_byte, is_live_byte, mask_at, stored_on}
+use Rattle.xt_use_walk.specs.MaskedBytes.{AreKnown, AreMasks, KnowsAccess, KnowsBytes, TellsLive, is_byte, is_live_byte, mask_at, stored_on}
 use Rattle.xt_use_walk.proofs.Places.{dram_byte}
 use Rattle.xt_use_walk.proofs.Served.{served_bytes, swap_memory, touches_no_byte}
 
@@ -130,11 +130,11 @@ module _ (core : ℕ) (x : Bytes) (own others : ℕ → Bool) (masks : ℕ → �
 
   reply_all : reply_mask masks (Some a) ≡ all_bits
   reply_all = ⊎_elim
-      (λ m. ap (λ z. cond (is_memory (region_of a.addr) && not (is_store a.kind)) (flipped z) all_bits) (lacks_none masks a.addr a.size (masks_known m)) ∙ same_both (is_memory (region_of a.addr) && not (is_store a.kind)))
+      (λ m. ap (λ z. cond (is_memory (region_of a.addr) && not (is_store a.kind)) (complement z) all_bits) (lacks_none masks a.addr a.size (masks_known m)) ∙ same_both (is_memory (region_of a.addr) && not (is_store a.kind)))
       (λ n. cond-false _ _ _ (ap (λ b. b && not (is_store a.kind)) n))
       (cases_Bool (is_memory (region_of a.addr)))
     where
-      same_both : (b : Bool) → cond b (flipped 0) all_bits ≡ all_bits
+      same_both : (b : Bool) → cond b (complement 0) all_bits ≡ all_bits
       same_both true = refl
       same_both false = refl
 
@@ -165,8 +165,8 @@ touched_some rec = by rec.access refl
     whole true a n = differs_none (λ x. 255) a n (λ x l u. refl)
     whole false a n = refl
 
-    reply : (b : Bool) (a n : ℕ) → cond b (flipped (unknown_bits (λ x. 255) a n)) all_bits ≡ all_bits
-    reply true a n = ap flipped (lacks_none (λ x. 255) a n (λ x l u. refl))
+    reply : (b : Bool) (a n : ℕ) → cond b (complement (unknown_bits (λ x. 255) a n)) all_bits ≡ all_bits
+    reply true a n = ap complement (lacks_none (λ x. 255) a n (λ x l u. refl))
     reply false a n = refl
 
     by : (o : Option Access) → rec.access ≡ o → IsTouched (record { saves = false; swaps = false; reply = all_bits }) rec (λ a. false) (λ a. 255)

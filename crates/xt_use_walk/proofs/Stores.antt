@@ -9,7 +9,7 @@ use Rattle.xt_discipline.specs.declared.bytes.Held.{Held}
 use Rattle.xt_uses.specs.FirstUse.{stored_byte}
 use Rattle.xt_uses.specs.UseWalk.{mask_stored}
 use Rattle.xt_use_walk.specs.declared.bytes.ByteMasks.{ByteMasks}
-use Rattle.xt_use_walk.specs.Bytes.{AreMasks, is_byte, is_live_byte, mask_at, put_at, put_free, stored_on, stored_over}
+use Rattle.xt_use_walk.specs.MaskedBytes.{AreMasks, is_byte, is_live_byte, mask_at, put_at, put_free, stored_on, stored_over}
 use Rattle.xt_use_walk.proofs.Places.{touches_nothing}
 use Rattle.xt_use_walk.proofs.Served.{touches_no_byte}
 

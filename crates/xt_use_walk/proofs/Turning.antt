@@ -7,8 +7,8 @@ use Rattle.xt_map.specs.declared.access.Access.{Access}
 use Rattle.xt_trace.specs.declared.record.StepRecord.{StepRecord}
 use Rattle.xt_trace.specs.Left.{first_of, rest_of}
 use Rattle.xt_frames.specs.declared.kinds.Breach.{Breach}
-use Rattle.xt_uses.specs.declared.told.Stopped.{Stopped}
-use Rattle.xt_uses.specs.declared.told.Stopped.TheVariants as stopped
+use Rattle.xt_uses.specs.declared.told.JudgeError.{JudgeError}
+use Rattle.xt_uses.specs.declared.told.JudgeError.TheVariants as stopped
 use Rattle.xt_uses.specs.Lacks.{lacks_before}
 use Rattle.xt_uses.specs.UseWalk.{UseBroken, UseHandled, UseJudged, UseSeen, use_seen}
 use Rattle.xt_use_walk.specs.declared.side.Bytes.{Bytes}
@@ -46,11 +46,11 @@ turns_memory code old new bytes others masks (x ∷ xs) left (NoMemory error) is
 turns_memory code old new bytes others masks xs left NoRecord is = absurd is
 turns_memory code old new bytes others masks xs left (Breaks first) is = absurd is
 
-pub turns_seen : (code : ℕ → ℕ) (old new : Side) (bytes : Bytes) (others : ℕ → Bool) (masks : ℕ → ℕ) (xs left : List StepRecord) (x : StepRecord) (u : Unit) (out : Result Unit Stopped) → Some x ≡ first_of xs → left ≡ rest_of xs → out ≡ Ok u
+pub turns_seen : (code : ℕ → ℕ) (old new : Side) (bytes : Bytes) (others : ℕ → Bool) (masks : ℕ → ℕ) (xs left : List StepRecord) (x : StepRecord) (u : Unit) (out : Result Unit JudgeError) → Some x ≡ first_of xs → left ≡ rest_of xs → out ≡ Ok u
     → IsUseSeen old new bytes others masks (use_seen code old.uses.bounds (standing_of old) others masks x) out → Turns code old new bytes others masks xs left (Ok u)
 turns_seen code old new bytes others masks [] left x u out e rest is seen = absurd (none-some x (sym e))
 turns_seen code old new bytes others masks (y ∷ ys) left x u out e rest is seen =
-    let R : Result Unit Stopped → Type 0 = λ r. IsUseSeen old new bytes others masks (use_seen code old.uses.bounds (standing_of old) others masks x) r in
+    let R : Result Unit JudgeError → Type 0 = λ r. IsUseSeen old new bytes others masks (use_seen code old.uses.bounds (standing_of old) others masks x) r in
     let S : StepRecord → Type 0 = λ z. IsUseSeen old new bytes others masks (use_seen code old.uses.bounds (standing_of old) others masks z) (Ok u) in
     (rest, subst S (same_Some x y e) (subst R is seen))
 
@@ -59,12 +59,12 @@ stands old new bytes others masks (UseHandled st) b h = absurd h
 stands old new bytes others masks (UseJudged st after) b h = absurd h
 stands old new bytes others masks (UseBroken kind) b h = h.1
 
-pub turns_breaks : (code : ℕ → ℕ) (old new : Side) (bytes : Bytes) (others : ℕ → Bool) (masks : ℕ → ℕ) (xs left : List StepRecord) (x : StepRecord) (out : Result Unit Stopped) (first : FirstUse) → Some x ≡ first_of xs → out ≡ Err (stopped.Breaks first.breach)
+pub turns_breaks : (code : ℕ → ℕ) (old new : Side) (bytes : Bytes) (others : ℕ → Bool) (masks : ℕ → ℕ) (xs left : List StepRecord) (x : StepRecord) (out : Result Unit JudgeError) (first : FirstUse) → Some x ≡ first_of xs → out ≡ Err (stopped.Breaks first.breach)
     → IsUseSeen old new bytes others masks (use_seen code old.uses.bounds (standing_of old) others masks x) out → first.rec ≡ x → first.lacks ≡ lacks_before code x new.uses.state → Turns code old new bytes others masks xs left (Err (Breaks first))
 turns_breaks code old new bytes others masks [] left x out first e is seen rec lacks = absurd (none-some x (sym e))
 turns_breaks code old new bytes others masks (y ∷ ys) left x out first e is seen rec lacks =
-    let broken : Result Unit Stopped = Err (stopped.Breaks first.breach) in
-    let R : Result Unit Stopped → Type 0 = λ r. IsUseSeen old new bytes others masks (use_seen code old.uses.bounds (standing_of old) others masks x) r in
+    let broken : Result Unit JudgeError = Err (stopped.Breaks first.breach) in
+    let R : Result Unit JudgeError → Type 0 = λ r. IsUseSeen old new bytes others masks (use_seen code old.uses.bounds (standing_of old) others masks x) r in
     let S : StepRecord → Type 0 = λ z. IsUseSeen old new bytes others masks (use_seen code old.uses.bounds (standing_of old) others masks z) broken in
     let same : x ≡ y = same_Some x y e in
     let there : R broken = subst R is seen in

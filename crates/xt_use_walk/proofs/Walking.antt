@@ -6,8 +6,8 @@ use Rattle.xt_frames.specs.declared.kinds.Breach.{Breach}
 use Rattle.xt_frames.specs.Breaches.{Bounds}
 use Rattle.xt_frames.specs.SaveAreas.{is_live}
 use Rattle.xt_discipline.specs.Ended.{records_left}
-use Rattle.xt_uses.specs.declared.told.Stopped.{Stopped}
-use Rattle.xt_uses.specs.declared.told.Stopped.TheVariants as stopped
+use Rattle.xt_uses.specs.declared.told.JudgeError.{JudgeError}
+use Rattle.xt_uses.specs.declared.told.JudgeError.TheVariants as stopped
 use Rattle.xt_uses.specs.Lacks.{lacks_before}
 use Rattle.xt_uses.specs.UseState.{UseState}
 use Rattle.xt_uses.specs.UseWalk.{UseBroken, UseHandled, UseJudged, UseJudgement, UseKnown, UseSeen, UseStanding, use_judgement, use_passed_0, use_passed_1, use_seen}
@@ -17,7 +17,7 @@ use Rattle.xt_use_walk.specs.declared.walk.End.{End}
 use Rattle.xt_use_walk.specs.declared.walk.End.TheVariants.{NoRecord, Breaks, NoMemory}
 use Rattle.xt_use_walk.specs.declared.walk.FirstUse.{FirstUse}
 use Rattle.xt_use_walk.specs.declared.walk.Walk.{Walk}
-use Rattle.xt_use_walk.specs.Bytes.{KnowsBytes}
+use Rattle.xt_use_walk.specs.MaskedBytes.{KnowsBytes}
 use Rattle.xt_use_walk.specs.Sides.{IsUsePast, IsUseSeen, live_in, standing_of}
 use Rattle.xt_use_walk.specs.Walks.{Advances, AreTaken, IsKnown, IsShown, IsTurned, Knows, Turns, standing_in}
 use Rattle.xt_use_walk.proofs.Sideways.{turned_bytes}
@@ -175,7 +175,7 @@ turned_0 code w new b0 b1 k (x ∷ xs) left ys (Err (NoMemory error)) h same cod
 turned_0 code w new b0 b1 k (x ∷ xs) left ys (Err (Breaks first)) h same code_is t =
     let e = seen_is code w.side0 w.side1 0 1 b0 b1 k.first k.second k.masks x h.zero h.one in
     let s = use_seen code b0 k.first (is_live b1.range k.second.state.frame) k.masks x in
-    let r : Result Unit Stopped = Err (stopped.Breaks first.breach) in
+    let r : Result Unit JudgeError = Err (stopped.Breaks first.breach) in
     let broken = breaks_0 w new.side0 new.bytes b0 b1 k first.breach h s (subst (λ (v : UseSeen). IsUseSeen w.side0 new.side0 new.bytes (live_in w.side1.uses) k.masks v r) e t.2) in
     λ cs.
     let b = broken (λ n. use_judgement code b0 b1 cs xs ys n) in
@@ -252,7 +252,7 @@ turned_1 code w new b0 b1 k (y ∷ ys) left xs (Err (NoMemory error)) h same cod
 turned_1 code w new b0 b1 k (y ∷ ys) left xs (Err (Breaks first)) h same code_is t =
     let e = seen_is code w.side1 w.side0 1 0 b1 b0 k.second k.first k.masks y h.one h.zero in
     let s = use_seen code b1 k.second (is_live b0.range k.first.state.frame) k.masks y in
-    let r : Result Unit Stopped = Err (stopped.Breaks first.breach) in
+    let r : Result Unit JudgeError = Err (stopped.Breaks first.breach) in
     let broken = breaks_1 w new.side1 new.bytes b0 b1 k first.breach h s (subst (λ (v : UseSeen). IsUseSeen w.side1 new.side1 new.bytes (live_in w.side0.uses) k.masks v r) e t.2) in
     λ cs.
     let b = broken (λ n. use_judgement code b0 b1 cs xs ys n) in

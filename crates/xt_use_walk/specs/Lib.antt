@@ -1,4 +1,4 @@
-pub mod Bytes
+pub mod MaskedBytes
 pub mod Sides
 pub mod Verdicts
 pub mod Walks

@@ -9,16 +9,16 @@ use Rattle.xt_frames.specs.SaveAreas.{Range, is_live}
 use Rattle.xt_frames.specs.Stacks.{Stack}
 use Rattle.xt_discipline.specs.declared.side.Areas.{Areas}
 use Rattle.xt_discipline.specs.declared.side.Mode.TheVariants as mode
-use Rattle.xt_discipline.specs.Bytes.{first}
+use Rattle.xt_discipline.specs.ByteMarks.{first}
 use Rattle.xt_discipline.specs.Sides.{mode_of}
-use Rattle.xt_uses.specs.declared.told.Stopped.{Stopped}
-use Rattle.xt_uses.specs.declared.told.Stopped.TheVariants.{Breaks, NoMemory}
+use Rattle.xt_uses.specs.declared.told.JudgeError.{JudgeError}
+use Rattle.xt_uses.specs.declared.told.JudgeError.TheVariants.{Breaks, NoMemory}
 use Rattle.xt_uses.specs.UseParts.{UseWalked, fresh_at}
 use Rattle.xt_uses.specs.UseState.{UseState, is_strict_in, rises_over, stack_pointer}
 use Rattle.xt_uses.specs.UseWalk.{UseStanding, UseSeen, UseHandled, UseJudged, UseBroken}
 use Rattle.xt_use_walk.specs.declared.side.Bytes.{Bytes}
 use Rattle.xt_use_walk.specs.declared.side.Side.{Side}
-use Rattle.xt_use_walk.specs.Bytes.{AreBytes, KnowsBytes, without}
+use Rattle.xt_use_walk.specs.MaskedBytes.{AreBytes, KnowsBytes, without}
 
 -- the live bytes of a core
 abbrev pub live_in : UseWalked → ℕ → Bool
@@ -50,8 +50,8 @@ IsFollowed core r g u old new =
     → KnowsBytes core new (is_live r u) others (without (λ a. is_live r u a || others a) masks)
 
 -- the bytes that a step forgets, by the state that it leaves and the stack pointer before it
-abbrev pub forgotten : UseState → ℕ → ℕ → Bool
-forgotten s sp a = is_strict_in s && rises_over sp (stack_pointer s) a
+abbrev pub forgets_byte : UseState → ℕ → ℕ → Bool
+forgets_byte s sp a = is_strict_in s && rises_over sp (stack_pointer s) a
 
 -- ---- a record of the core
 
@@ -80,7 +80,7 @@ pub record IsUsePast
 -- The answer is what the definition sees in the record. After a breach nothing has changed; too
 -- little memory says nothing.
 abbrev pub IsUseSeen :
-    Side → Side → Bytes → (ℕ → Bool) → (ℕ → ℕ) → UseSeen → Result Unit Stopped → Type 0
+    Side → Side → Bytes → (ℕ → Bool) → (ℕ → ℕ) → UseSeen → Result Unit JudgeError → Type 0
 IsUseSeen old new bytes others masks seen (Err (NoMemory e)) = Unit {0}
 IsUseSeen old new bytes others masks (UseHandled st) (Ok u) =
     IsUsePast old new bytes others masks st
@@ -93,7 +93,7 @@ IsUseSeen old new bytes others masks (UseHandled st) (Err (Breaks b)) = ⊥
 IsUseSeen old new bytes others masks (UseJudged st after) (Err (Breaks b)) = ⊥
 
 -- handler steps begin, where the record that begins them shows no breach
-abbrev pub BeginsUse : Option BreachKind → Side → Result Unit Stopped → Side → Type 0
+abbrev pub BeginsUse : Option BreachKind → Side → Result Unit JudgeError → Side → Type 0
 BeginsUse found old (Ok u) new =
     (found ≡ None) × (new ≡ record old { mode = mode.Handles; steps = old.steps + 1 })
 BeginsUse found old (Err (Breaks b)) new =

@@ -9,9 +9,9 @@ use Rattle.xt_trace.specs.declared.options.Options.{Options}
 use Rattle.xt_trace.specs.declared.options.Stack.{Stack}
 use Rattle.xt_trace.specs.declared.record.StepRecord.{StepRecord}
 use Rattle.xt_frames.specs.Breaches.{Bounds}
-use Rattle.xt_frames.specs.Walked.{opened}
+use Rattle.xt_frames.specs.Walked.{opening_walked}
 use Rattle.xt_discipline.specs.Ended.{records_left}
-use Rattle.xt_uses.specs.declared.told.Stopped.TheVariants as stopped
+use Rattle.xt_uses.specs.declared.told.JudgeError.TheVariants as stopped
 use Rattle.xt_uses.specs.Disciplines.{is_strict}
 use Rattle.xt_uses.specs.declared.discipline.Discipline.{Discipline}
 use Rattle.xt_uses.specs.Lacks.{lacks_before}
@@ -25,7 +25,7 @@ use Rattle.xt_use_walk.specs.declared.walk.FirstUse.{FirstUse}
 use Rattle.xt_use_walk.specs.declared.walk.Uses.{Uses}
 use Rattle.xt_use_walk.specs.declared.walk.Uses.TheVariants.{Unchecked, Whole, Broken}
 use Rattle.xt_use_walk.specs.declared.walk.Walk.{Walk}
-use Rattle.xt_use_walk.specs.Bytes.{KnowsBytes}
+use Rattle.xt_use_walk.specs.MaskedBytes.{KnowsBytes}
 use Rattle.xt_use_walk.specs.Sides.{IsUseSeen, IsUseSide, live_in, standing_of}
 
 -- ---- what the walk knows
@@ -141,9 +141,9 @@ pub record IsOpened
   pub code_is : w.code ≡ code
   pub steps0 : w.side0.steps ≡ 0
   pub steps1 : w.side1.steps ≡ 0
-  pub knows : Knows w (opened 0 entry o).bounds (opened 1 o.entry1 o).bounds
-      (opening_use_known d (opened 0 entry o).bounds (opened 1 o.entry1 o).bounds
-      (opened 0 entry o).state (opened 1 o.entry1 o).state)
+  pub knows : Knows w (opening_walked 0 entry o).bounds (opening_walked 1 o.entry1 o).bounds
+      (opening_use_known d (opening_walked 0 entry o).bounds (opening_walked 1 o.entry1 o).bounds
+      (opening_walked 0 entry o).state (opening_walked 1 o.entry1 o).state)
 
 -- ---- along a schedule
 

@@ -7,7 +7,7 @@ ghost use Rattle.xt_map.specs.Touching.{touches};
 ghost use Rattle.xt_frames.specs.Breaches.{some_byte};
 ghost use Rattle.xt_uses.specs.UseBreaches.{swaps_unknown};
 ghost use Rattle.xt_uses.specs.UseStep.{reply_mask, unknown_bits};
-ghost use Rattle.xt_use_walk.specs.Bytes.{AreBytes, AreMasks, IsFull, KnowsAccess, is_byte, mask_at, place, put_at, without};
+ghost use Rattle.xt_use_walk.specs.MaskedBytes.{AreBytes, AreMasks, IsFull, KnowsAccess, is_byte, mask_at, place, put_at, without};
 
 use std::alloc::{AllocError, Global};
 use xt_map::{Access, Kind, is_in_memory};

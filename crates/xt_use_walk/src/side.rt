@@ -8,15 +8,15 @@ ghost use Rattle.xt_map.specs.Touching.{touches};
 ghost use Rattle.xt_frames.specs.Frames.{FrameState};
 ghost use Rattle.xt_frames.specs.HandlerSteps.{mode_after};
 ghost use Rattle.xt_discipline.specs.declared.bytes.Change.TheVariants.{Enters, Leaves};
-ghost use Rattle.xt_discipline.specs.Bytes.{Agrees, AreChanged, either, is_held};
+ghost use Rattle.xt_discipline.specs.ByteMarks.{Agrees, AreChanged, either, is_held};
 ghost use Rattle.xt_discipline.specs.Sides.{IsCallOf, in_areas, mode_of};
 ghost use Rattle.xt_uses.specs.Lacks.{lacks_before};
 ghost use Rattle.xt_uses.specs.UseBreaches.{window_use};
 ghost use Rattle.xt_uses.specs.UseParts.{IsTouched, UseMoves};
 ghost use Rattle.xt_uses.specs.UseWalk.{count_of, use_seen, use_seen_judged};
 ghost use Rattle.xt_uses.specs.FirstUse.{stored_byte};
-ghost use Rattle.xt_use_walk.specs.Bytes.{AreBytes, AreFull, AreMasks, AreShifted, KnowsBytes, is_byte, mask_at, put_free, stored_on, stored_over, without};
-ghost use Rattle.xt_use_walk.specs.Sides.{AreaBytes, BeginsUse, IsFollowed, IsUseSeen, IsUseSide, StackOf, forgotten, live_in, standing_of};
+ghost use Rattle.xt_use_walk.specs.MaskedBytes.{AreBytes, AreFull, AreMasks, AreShifted, KnowsBytes, is_byte, mask_at, put_free, stored_on, stored_over, without};
+ghost use Rattle.xt_use_walk.specs.Sides.{AreaBytes, BeginsUse, IsFollowed, IsUseSeen, IsUseSide, StackOf, forgets_byte, live_in, standing_of};
 
 use crate::bytes::ByteMasks;
 use xt_discipline::{
@@ -26,7 +26,7 @@ use xt_discipline::{
 use xt_frames::is_nesting;
 use xt_map::{Access, Constants, Kind, is_in_memory};
 use xt_trace::StepRecord;
-use xt_uses::{ALL_BITS, Lack, Stopped, Touched, UseCore};
+use xt_uses::{ALL_BITS, JudgeError, Lack, Touched, UseCore};
 
 /// What is known of the bytes of memory.
 #[derive(Drop)]
@@ -260,7 +260,7 @@ impl Side {
         requires low { self.now.uses.bounds.range.lo + 16 ≤ sp }
         ensures full { AreFull bytes.new }
         ensures marks { bytes.new.marks.items ≡ bytes.old.marks.items }
-        ensures masks { AreMasks bytes.new.masks (without (forgotten self.now.uses.state sp) (mask_at bytes.old.masks)) }
+        ensures masks { AreMasks bytes.new.masks (without (forgets_byte self.now.uses.state sp) (mask_at bytes.old.masks)) }
     {
         if !self.uses.is_strict() {
             return;
@@ -282,7 +282,7 @@ impl Side {
         nested: bool,
         next: Mode,
         touched: &Touched,
-    ) -> Result<(), Stopped>
+    ) -> Result<(), JudgeError>
         requires side { IsUseSide self.old }
         requires room { self.old.steps + 1 < 2 ^ 32 }
         requires served { IfSome rec.now.access (λ a. is_mapped a ≡ true) }
@@ -318,7 +318,7 @@ impl Side {
         rec: &StepRecord,
         nested: bool,
         next: Mode,
-    ) -> Result<(), Stopped>
+    ) -> Result<(), JudgeError>
         requires side { IsUseSide self.old }
         requires room { self.old.steps + 1 < 2 ^ 32 }
         requires served { IfSome rec.now.access (λ a. is_mapped a ≡ true) }
@@ -341,12 +341,12 @@ impl Side {
 
     /// Tests the record of a window exception outside handler steps: a breach, after which nothing has changed, or the first of the
     /// handler steps.
-    fn begin(&mut self, code: &Constants, rec: &StepRecord) -> Result<(), Stopped>
+    fn begin(&mut self, code: &Constants, rec: &StepRecord) -> Result<(), JudgeError>
         requires { self.old.steps + 1 < 2 ^ 32 }
         ensures { BeginsUse (window_use (constant_byte code.now) rec.now self.old.uses.state) self.old result self.new }
     {
         if let Err(breach) = self.uses.test(code, self.steps, rec) {
-            return Err(Stopped::Breaks(breach));
+            return Err(JudgeError::Breaks(breach));
         }
         self.mode = Mode::Handles;
         self.steps += 1;
@@ -359,7 +359,7 @@ impl Side {
         code: &Constants,
         bytes: &mut Bytes,
         rec: &StepRecord,
-    ) -> Result<(), Stopped>
+    ) -> Result<(), JudgeError>
         requires side { IsUseSide self.old }
         requires room { self.old.steps + 1 < 2 ^ 32 }
         requires served { IfSome rec.now.access (λ a. is_mapped a ≡ true) }

@@ -12,7 +12,7 @@ ghost use Rattle.xt_discipline.specs.Schedules.{HasSchedule, schedule_in};
 ghost use Rattle.xt_uses.specs.UseParts.{opened_use};
 ghost use Rattle.xt_uses.specs.UseWalk.{UseKnown, use_judgement};
 ghost use Rattle.xt_use_walk.specs.declared.walk.Uses.TheVariants.{Whole};
-ghost use Rattle.xt_use_walk.specs.Bytes.{AreFull, AreMasks, IsFull, KnowsBytes, mask_at, without};
+ghost use Rattle.xt_use_walk.specs.MaskedBytes.{AreFull, AreMasks, IsFull, KnowsBytes, mask_at, without};
 ghost use Rattle.xt_use_walk.specs.Sides.{IsUseSide, live_in};
 ghost use Rattle.xt_use_walk.specs.Verdicts.{IsServed};
 ghost use Rattle.xt_use_walk.specs.Walks.{AreOpened, IsOpened, below_opening, IsTold, IsTurned, IsWalked, Knows, Turns};
@@ -20,11 +20,11 @@ ghost use Rattle.xt_use_walk.specs.Walks.{AreOpened, IsOpened, below_opening, Is
 use crate::bytes::ByteMasks;
 use crate::side::{Bytes, Side};
 use std::alloc::{AllocError, Global};
-use xt_discipline::{Mode, Order, opening_marks};
+use xt_discipline::{Mode, ScheduleIter, opening_marks};
 use xt_frames::Breach;
 use xt_map::Constants;
 use xt_trace::{Options, Records, Run, Stack, StepRecord};
-use xt_uses::{Discipline, Lack, Stopped, UseCore};
+use xt_uses::{Discipline, JudgeError, Lack, UseCore};
 
 /// The first use of something that is not known, or another breach.
 #[derive(Clone, Copy)]
@@ -144,12 +144,12 @@ fn turn_of<R: Records>(
         None => Err(End::NoRecord),
         Some(rec) => match side.see(code, bytes, &rec) {
             Ok(()) => Ok(()),
-            Err(Stopped::Breaks(breach)) => Err(End::Breaks(FirstUse {
+            Err(JudgeError::Breaks(breach)) => Err(End::Breaks(FirstUse {
                 breach,
                 rec,
                 lacks: side.lacks(code, &rec),
             })),
-            Err(Stopped::NoMemory(error)) => Err(End::NoMemory(error)),
+            Err(JudgeError::NoMemory(error)) => Err(End::NoMemory(error)),
         },
     }
 }
@@ -220,7 +220,7 @@ impl<'a> Walk<'a> {
             → IsWalked (constant_byte self.old.code) (use_judgement (constant_byte self.old.code) b0 b1 (schedule_in run.now) (R.left records0.old) (R.left records1.old) k)
             k (R.left records0.old) (R.left records1.old) self.new result }
     {
-        for core in Order::of(run) {
+        for core in ScheduleIter::of(run) {
             self.turn(core, records0, records1)?;
         }
         Ok(())

@@ -4,7 +4,7 @@ use Rattle.std.specs.Prelude.{min}
 use Rattle.std.specs.Int.{bit_at}
 use Rattle.std.proofs.lemmas.Bool.{cases_lt}
 use Rattle.std.proofs.lemmas.Nat.Bits.{same_from_bits, bit_at_and, bit_at-lt, bit_at_above}
-use Rattle.xt_uses.specs.Words.{cut, moved_mask, flipped}
+use Rattle.xt_uses.specs.Words.{masked, moved_mask, complement}
 use Rattle.xt_uses.specs.UseLaws.{AgreeIn}
 use Rattle.xt_uses.proofs.Bits.{bit_is, bit_at_rest, bit_at_rest_above, flipped_at, flipped_word}
 
@@ -15,20 +15,20 @@ agree_at mask n m i h one =
 
 pub agree_from : (mask n m : ℕ) → ((i : ℕ) → bit_at mask i ≡ 1 → bit_at n i ≡ bit_at m i) → AgreeIn mask n m
 agree_from mask n m h =
-    let each : (i : ℕ) → bit_at (cut mask n) i ≡ bit_at (cut mask m) i =
+    let each : (i : ℕ) → bit_at (masked mask n) i ≡ bit_at (masked mask m) i =
     λ i. bit_at_and n mask i
     ∙ ⊎_elim
     (λ zero. omega arith)
     (λ one. ap (λ x. min x (bit_at mask i)) (h i one))
     (bit_is mask i)
     ∙ sym (bit_at_and m mask i) in
-    same_from_bits (cut mask n) (cut mask m) each
+    same_from_bits (masked mask n) (masked mask m) each
 
 pub agree_none : (n m : ℕ) → AgreeIn 0 n m
 agree_none n m = agree_from 0 n m (λ i one. absurd (omega arith))
 
-pub cut_agrees : (mask n : ℕ) → AgreeIn mask n (cut mask n)
-cut_agrees mask n = agree_from mask n (cut mask n) (λ i one. let e = bit_at_and n mask i in omega (arith, bit_at-lt n i))
+pub cut_agrees : (mask n : ℕ) → AgreeIn mask n (masked mask n)
+cut_agrees mask n = agree_from mask n (masked mask n) (λ i one. let e = bit_at_and n mask i in omega (arith, bit_at-lt n i))
 
 pub rest_agrees : (mask n m k : ℕ) → AgreeIn mask n m → AgreeIn mask (n % 2 ^ k) (m % 2 ^ k)
 rest_agrees mask n m k h =
@@ -51,7 +51,7 @@ module _ (f : ℕ → ℕ) (mask n m : ℕ) (a : mask < 2 ^ 32) (b : n < 2 ^ 32)
   from_source : (i : ℕ) → i < 32 → Source f i → bit_at (moved_mask f mask) i ≡ 1 → bit_at (f n) i ≡ bit_at (f m) i
   from_source i low (Zero z) one = z n b ∙ sym (z m c)
   from_source i low (From j within s) one =
-      let known : bit_at mask j ≡ 1 = (let p = flipped_at (f (flipped mask)) i low in let q = s (flipped mask) (flipped_word mask a) in let r = flipped_at mask j within in omega (arith, bit_at-lt mask j)) in
+      let known : bit_at mask j ≡ 1 = (let p = flipped_at (f (complement mask)) i low in let q = s (complement mask) (flipped_word mask a) in let r = flipped_at mask j within in omega (arith, bit_at-lt mask j)) in
       s n b ∙ agree_at mask n m j h known ∙ sym (s m c)
 
   pub moved_agrees : IsMove f → AgreeIn (moved_mask f mask) (f n) (f m)

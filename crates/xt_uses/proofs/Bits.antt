@@ -4,7 +4,7 @@ use Rattle.std.specs.Int.{bit_at, w32}
 use Rattle.std.proofs.lemmas.Nat.{shr-shr, xor_lt, mod_below, pow_pos}
 use Rattle.std.proofs.lemmas.Nat.Bits.{bit_at_xor, bit_at-lt, bit_at-zero, bit_at_ones, bit_at_above, bit_at_cat_low, bit_at_cat_high, bit_at_not}
 use Rattle.std.proofs.Math.Nat.{mod-add-div'}
-use Rattle.xt_uses.specs.Words.{all_bits, flipped}
+use Rattle.xt_uses.specs.Words.{all_bits, complement}
 
 pub zero_or_one : (n : ℕ) → n < 2 → (n ≡ 0) ⊎ (n ≡ 1)
 zero_or_one zero h = inl refl
@@ -37,12 +37,12 @@ bit_at_times_high n k i h =
     ap (λ x. bit_at x i) e ∙ bit_at_cat_high n k 0 i (pow_pos k) h
 
 -- ---- the other bits of a word
-pub flipped_word : (bits : ℕ) → bits < 2 ^ 32 → flipped bits < 2 ^ 32
+pub flipped_word : (bits : ℕ) → bits < 2 ^ 32 → complement bits < 2 ^ 32
 flipped_word bits h = xor_lt 32 bits all_bits h (omega arith)
 
-pub flipped_at : (bits i : ℕ) → i < 32 → bit_at (flipped bits) i ≡ 1 - bit_at bits i
+pub flipped_at : (bits i : ℕ) → i < 32 → bit_at (complement bits) i ≡ 1 - bit_at bits i
 flipped_at bits i h =
-    let e : bit_at (flipped bits) i ≡ (bit_at bits i + bit_at all_bits i) % 2 = bit_at_xor bits all_bits i in
+    let e : bit_at (complement bits) i ≡ (bit_at bits i + bit_at all_bits i) % 2 = bit_at_xor bits all_bits i in
     let o : bit_at all_bits i ≡ 1 = bit_at_ones 32 i h in
     omega (arith, bit_at-lt bits i)
 

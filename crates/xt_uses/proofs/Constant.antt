@@ -9,39 +9,39 @@ use Rattle.xt_trace.specs.declared.record.RegWrite.{RegWrite}
 use Rattle.xt_trace.specs.declared.record.StepRecord.{StepRecord}
 use Rattle.xt_rows.specs.Kinds.{is_entry, is_return, moved_to}
 use Rattle.xt_frames.specs.Frames.{Frame, FrameState}
-use Rattle.xt_fetch.specs.Fetching.{fetched}
-use Rattle.xt_frames.specs.FrameStep.{FrameTurn, laid}
+use Rattle.xt_fetch.specs.Fetching.{fetch_at}
+use Rattle.xt_frames.specs.FrameStep.{FrameTurn, with_inputs}
 use Rattle.xt_frames.specs.Nesting.{begins, current}
 use Rattle.xt_frames.specs.Breaches.{inputs_of}
 use Rattle.xt_frames.specs.Judging.{value_in}
 use Rattle.xt_frames.specs.FirstBreach.{Course}
 use Rattle.xt_uses.specs.Disciplines.{Discipline}
-use Rattle.xt_uses.specs.UseState.{Masks, UseState}
-use Rattle.xt_uses.specs.UseStep.{UseTurn, called, executed, frames_moved, full_step, leave_results, masks_past, pointer_written, reply_mask, returned, special_written, use_step, use_turn, value_step, visible_written}
+use Rattle.xt_uses.specs.UseState.{ValidityBits, UseState}
+use Rattle.xt_uses.specs.UseStep.{UseTurn, bits_after_call, step_insn, frames_moved, full_step, leave_results, masks_past, pointer_written, reply_mask, bits_after_return, special_written, use_step, use_turn, value_step, visible_written}
 use Rattle.xt_uses.specs.FirstUse.{History, IsHistory}
 use Rattle.xt_uses.proofs.LaterHistories.{judged_or_idle}
 use Rattle.xt_uses.proofs.Returning.{left_holds}
 
-abbrev Same : Masks → Masks → Type 0
+abbrev Same : ValidityBits → ValidityBits → Type 0
 Same m k = k.discipline ≡ m.discipline
 
-returned_same : (kept : List (List ℕ)) (m : Masks) → Same m (returned kept m)
+returned_same : (kept : List (List ℕ)) (m : ValidityBits) → Same m (bits_after_return kept m)
 returned_same [] m = refl
 returned_same (k ∷ rest) m = refl
 
-moved_same : (i : Insn) (n : ℕ) (m : Masks) → Same m (frames_moved i n m)
-moved_same i n m = cond_both (is_entry i) (called n m) (cond (is_return i) (returned m.kept m) m) (Same m) (λ e. refl) (λ e. cond_both (is_return i) (returned m.kept m) m (Same m) (λ r. returned_same m.kept m) (λ r. refl))
+moved_same : (i : Insn) (n : ℕ) (m : ValidityBits) → Same m (frames_moved i n m)
+moved_same i n m = cond_both (is_entry i) (bits_after_call n m) (cond (is_return i) (bits_after_return m.kept m) m) (Same m) (λ e. refl) (λ e. cond_both (is_return i) (bits_after_return m.kept m) m (Same m) (λ r. returned_same m.kept m) (λ r. refl))
 
-special_same : (o : Option (ℕ × ℕ)) (mask : ℕ) (m : Masks) → Same m (special_written o mask m)
+special_same : (o : Option (ℕ × ℕ)) (mask : ℕ) (m : ValidityBits) → Same m (special_written o mask m)
 special_same None mask m = refl
 special_same (Some p) mask m = refl
 
-pointer_same : (i : Insn) (mask : ℕ) (m : Masks) → Same m (pointer_written i mask m)
+pointer_same : (i : Insn) (mask : ℕ) (m : ValidityBits) → Same m (pointer_written i mask m)
 unfolding pointer_written
 pointer_same (insn.System (system.Rur UserName.Wur t n)) mask m = refl
 pointer_same _ mask m = refl
 
-visible_same : (nested : Bool) (w : Option RegWrite) (mask : ℕ) (m : Masks) → Same m (visible_written nested w mask m)
+visible_same : (nested : Bool) (w : Option RegWrite) (mask : ℕ) (m : ValidityBits) → Same m (visible_written nested w mask m)
 visible_same nested None mask m = refl
 visible_same true (Some w) mask m = refl
 visible_same false (Some w) mask m = refl
@@ -56,9 +56,9 @@ turn_same (Some i) reply s f u = past_same i (use_turn (Some i) reply s f u).mas
 
 full_same : (code : ℕ → ℕ) (nested : Bool) (rec : StepRecord) (bytes : ℕ → ℕ) (s : UseState) → Same s.masks (full_step code nested rec bytes s).after.masks
 full_same code nested rec bytes s =
-    let f = laid (inputs_of rec) (current s.frame) in
+    let f = with_inputs (inputs_of rec) (current s.frame) in
     let u = value_step code false (value_in rec.write) (inputs_of rec) s.frame in
-    cond_both (begins nested rec.kind s.frame) _ _ (λ (t : UseTurn). Same s.masks t.after.masks) (λ e. refl) (λ e. turn_same (executed u.kind (fetched code f.control.pc)) (reply_mask bytes rec.access) s f u)
+    cond_both (begins nested rec.kind s.frame) _ _ (λ (t : UseTurn). Same s.masks t.after.masks) (λ e. refl) (λ e. turn_same (step_insn u.kind (fetch_at code f.control.pc)) (reply_mask bytes rec.access) s f u)
 
 results_same : (frames : List Frame) (u : UseState) → Same u.masks (leave_results frames u).masks
 results_same [] u = refl
@@ -67,8 +67,8 @@ results_same (g ∷ rest) u = refl
 pub step_same : (code : ℕ → ℕ) (nested : Bool) (rec : StepRecord) (bytes : ℕ → ℕ) (s : UseState) → (use_step code nested rec bytes s).after.masks.discipline ≡ s.masks.discipline
 step_same code nested rec bytes s =
     let t = full_step code nested rec bytes s in
-    let f = laid (inputs_of rec) (current s.frame) in
-    left_holds (λ u. Same t.after.masks u.masks) (executed t.turn.kind (fetched code f.control.pc)) s t.after refl (results_same s.frame.frames t.after) ∙ full_same code nested rec bytes s
+    let f = with_inputs (inputs_of rec) (current s.frame) in
+    left_holds (λ u. Same t.after.masks u.masks) (step_insn t.turn.kind (fetch_at code f.control.pc)) s t.after refl (results_same s.frame.frames t.after) ∙ full_same code nested rec bytes s
 
 -- along a history
 pub discipline_is : (d : Discipline) (r : Course) (h : History) → IsHistory d r h → (p core : ℕ) → (h.state core p).masks.discipline ≡ d

@@ -8,7 +8,7 @@ use Rattle.xt_special.specs.Access.{SpecialWrites, no_set, set_to, with_set, wit
 use Rattle.xt_special.specs.Control.{Control, special_of}
 use Rattle.xt_special.specs.Exceptions.{after_double, after_exception, after_general, with_address}
 use Rattle.xt_special.specs.Interrupts.{after_high_level, after_interrupt}
-use Rattle.xt_special.specs.Timers.{ticked, ticked_special, with_timer}
+use Rattle.xt_special.specs.Timers.{after_tick, ticked_special, with_timer}
 use Rattle.xt_loop.specs.Looping.{loops_back}
 use Rattle.xt_rows.specs.declared.outcome.Effect.{Effect}
 use Rattle.xt_rows.specs.declared.outcome.Flow.{Flow}
@@ -52,7 +52,7 @@ pub record Keeps (c d : Control) : Type 0 where
   pub special : Spared c.special d.special
   pub threadptr : d.threadptr ≡ c.threadptr
 
-pub keeps_tick : (c d : Control) → Keeps c d → Keeps c (ticked d)
+pub keeps_tick : (c d : Control) → Keeps c d → Keeps c (after_tick d)
 keeps_tick c d k = record { special = spared_tick c.special d.special k.special; threadptr = k.threadptr }
 
 pub keeps_same : (c : Control) → Keeps c c
@@ -92,7 +92,7 @@ keeps_flow Falls len c = cond_both (loops_back (special_of c 1) (special_of c 2)
 abbrev pub with_effect : Effect → Control → Control
 with_effect e c = record { pc = c.pc; special = with_sets e.sets c.special; ps = e.ps; threadptr = e.threadptr; waits = e.waits }
 
-pub keeps_effect : (e : Effect) (len : ℕ) (c : Control) → Keeps (with_effect e c) (ticked (after_effect e len c))
+pub keeps_effect : (e : Effect) (len : ℕ) (c : Control) → Keeps (with_effect e c) (after_tick (after_effect e len c))
 unfolding after_effect
 keeps_effect e len c = keeps_tick (with_effect e c) (after_flow e.flow len (with_effect e c)) (keeps_flow e.flow len (with_effect e c))
 

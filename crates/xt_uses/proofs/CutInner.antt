@@ -17,38 +17,38 @@ use Rattle.xt_special.specs.Control.{Control, ps_of, special_of}
 use Rattle.xt_rows.specs.Numbers.{natural}
 use Rattle.xt_rows.specs.declared.outcome.Flow.TheVariants.{Goes}
 use Rattle.xt_special.specs.Interrupts.{pending_of}
-use Rattle.xt_special.specs.Timers.{ticked}
+use Rattle.xt_special.specs.Timers.{after_tick}
 use Rattle.xt_trace.specs.declared.record.RegWrite.{RegWrite}
 use Rattle.xt_trace.specs.declared.record.StepKind.{StepKind}
 use Rattle.xt_trace.specs.declared.record.StepKind.TheVariants as kind
 use Rattle.xt_trace.specs.declared.record.StepRecord.{StepRecord}
-use Rattle.xt_fetch.specs.Fetching.{Fetched, Fetches, Fails, SpellsNothing, fetched}
+use Rattle.xt_fetch.specs.Fetching.{Fetched, Fetches, Fails, SpellsNothing, fetch_at}
 use Rattle.xt_rows.specs.declared.outcome.Effect.{Effect}
 use Rattle.xt_rows.specs.declared.outcome.Outcome.{Outcome}
 use Rattle.xt_rows.specs.declared.outcome.Outcome.TheVariants.{Does, Raises, Asks, Stops, Windowed}
 use Rattle.xt_rows.specs.declared.outcome.WindowStep.TheVariants.{Enters, Returns, EndsOverflow, EndsUnderflow, Rotates, MovesStack, Reads, Sets, Exchanges}
-use Rattle.xt_rows.specs.Effects.{illegal_instruction, unchanged}
+use Rattle.xt_rows.specs.Effects.{illegal_instruction, no_change}
 use Rattle.xt_rows.specs.Kinds.{Fits, SetsOne, is_entry, is_movsp, is_return, moved_to}
-use Rattle.xt_rows.specs.Laws.{AsksWith, KeepsMode}
+use Rattle.xt_rows.specs.RowLaws.{AsksWith, KeepsMode}
 use Rattle.xt_rows.specs.Operands.{reads, special_reads}
 use Rattle.xt_rows.specs.Outcomes.{outcome, system_outcome, outcome_at, value_of}
 use Rattle.xt_rows.specs.Settling.{after_effect}
 use Rattle.xt_rows.proofs.Fitting.{outcome_alone, outcome_fits}
 use Rattle.xt_rows.proofs.Modes.{modes_kept}
 use Rattle.xt_frames.specs.declared.holes.Nested.{Nested}
-use Rattle.xt_frames.specs.Frames.{Frame, FrameState, known, seen_after_write}
-use Rattle.xt_frames.specs.FrameStep.{FrameTurn, Inputs, done_in_frame, fetched_step, laid, laid_step, popped, pushed, raised}
+use Rattle.xt_frames.specs.Frames.{Frame, FrameState, value_or_zero, seen_after_write}
+use Rattle.xt_frames.specs.FrameStep.{FrameTurn, Inputs, done_in_frame, fetched_step, with_inputs, step_with_inputs, return_in_frame, entry_in_frame, exception_in_frame}
 use Rattle.xt_frames.specs.Marks.{holds_marks, mark_read, marked_seen, marked_write, marks_after, moves_marks, saved_by, unset_by}
-use Rattle.xt_frames.specs.Nesting.{disturbs_nested, ends_nested, inside, keeping, nested_after, nested_fetched}
+use Rattle.xt_frames.specs.Nesting.{disturbs_nested, ends_nested, nested_view, with_kept_frame, nested_after, nested_fetched}
 use Rattle.xt_frames.specs.SaveAreas.{Range}
 use Rattle.xt_frames.specs.Breaches.{Bounds, is_exception}
 use Rattle.xt_frames.proofs.Shown.{NoneShown}
 use Rattle.xt_frames.proofs.StackSteps.{step_fetches}
-use Rattle.xt_uses.specs.Words.{all_bits, cut}
+use Rattle.xt_uses.specs.Words.{all_bits, masked}
 use Rattle.xt_uses.specs.Used.{counted_bits}
 use Rattle.xt_uses.specs.Known.{result_mask, system_mask}
-use Rattle.xt_uses.specs.UseState.{Masks, UseState, first_word, second_word, special_operand, visible_word}
-use Rattle.xt_uses.specs.UseStep.{UseTurn, called, cut_number, cut_seen, executed, frames_moved, pointer_written, returned, special_written, use_turn, visible_written}
+use Rattle.xt_uses.specs.UseState.{ValidityBits, UseState, first_word, second_word, special_operand, visible_word}
+use Rattle.xt_uses.specs.UseStep.{UseTurn, bits_after_call, cut_number, cut_seen, step_insn, frames_moved, pointer_written, bits_after_return, special_written, use_turn, visible_written}
 use Rattle.xt_uses.specs.UseBreaches.{breaks_stack, fetched_uses, holds_mark, laid_use, reads_mark, swaps_unknown, uses_unknown}
 use Rattle.xt_uses.specs.UseLaws.{AreCut, IsCutAt}
 use Rattle.xt_uses.proofs.CutControl.{Spared, keeps_effect, keeps_same, keeps_tick, sets_size, sets_spare, spared_same, spared_set}
@@ -79,9 +79,9 @@ unfolding is_movsp breaks_stack
 movsp_shown range (insn.Shift (shift.Movsp t s)) k g e excm = not_from_false _ (and_right _ _ (and_right _ _ (and_left _ _ (not_from_true _ excm))))
 movsp_shown range _ k g e excm = absurd cc
 
-module _ {seen : List (Option ℕ)} {frames : List Frame} {special : List ℕ} {unset : List Bool} {threadptr : ℕ} {x : Nested} {waits : Bool} {m : Masks} (w : Cut seen frames special unset threadptr (Some x) waits m) where
+module _ {seen : List (Option ℕ)} {frames : List Frame} {special : List ℕ} {unset : List Bool} {threadptr : ℕ} {x : Nested} {waits : Bool} {m : ValidityBits} (w : Cut seen frames special unset threadptr (Some x) waits m) where
   -- ---- WSR and XSR
-  inner_special : (o : Option (ℕ × ℕ)) (given v : ℕ) (sets : SpecialWrites) → cut given v ≡ v → ((n : ℕ) → holds_marks n ≡ true → SetsOne o n sets) → ((p : ℕ × ℕ) → o ≡ Some p → holds_marks p.1 ≡ true → sets ≡ (set_to p.1 v, no_set, no_set))
+  inner_special : (o : Option (ℕ × ℕ)) (given v : ℕ) (sets : SpecialWrites) → masked given v ≡ v → ((n : ℕ) → holds_marks n ≡ true → SetsOne o n sets) → ((p : ℕ × ℕ) → o ≡ Some p → holds_marks p.1 ≡ true → sets ≡ (set_to p.1 v, no_set, no_set))
       → ((p : ℕ × ℕ) → o ≡ Some p → (j : ℕ) → get_or x.marks p.0 None ≡ Some j → (holds_marks p.1 ≡ true) × (given ≡ 0))
       → Cut seen frames (with_sets sets special) (unset_by o x.marks unset) threadptr (Some (with_saved o x)) waits (special_written o given m)
   inner_special None given v sets c one value marked = cut_spared w (with_sets sets special) (record { at = λ n h. sets_spare sets special n (one n h); size = sets_size sets special }) threadptr refl
@@ -186,18 +186,18 @@ module _ {seen : List (Option ℕ)} {frames : List Frame} {special : List ℕ} {
         inside = record { excm = excm; level = level; runs = runs; wide = i.wide; spread = i.spread; count = i.count; marks = i.marks; saved = i.saved };
       }
 
-module _ (seen : List (Option ℕ)) (frames : List Frame) (control : Control) (unset : List Bool) (x : Nested) (m : Masks) (w : Cut seen frames control.special unset control.threadptr (Some x) control.waits m) (inp : Inputs) (value : ℕ) where
+module _ (seen : List (Option ℕ)) (frames : List Frame) (control : Control) (unset : List Bool) (x : Nested) (m : ValidityBits) (w : Cut seen frames control.special unset control.threadptr (Some x) control.waits m) (inp : Inputs) (value : ℕ) where
   abbrev f : FrameState
   f = record { seen = seen; frames = frames; control = control; unset = unset; nested = Some x }
 
   abbrev g : FrameState
-  g = laid inp (inside x f)
+  g = with_inputs inp (nested_view x f)
 
   abbrev s : UseState
   s = record { frame = f; masks = m }
 
   abbrev Leaves : Fetched → ℕ → FrameTurn → Type 0
-  Leaves at r u = (let t : UseTurn = use_turn (executed u.kind at) r s g u in IsCut t.after.frame t.after.masks)
+  Leaves at r u = (let t : UseTurn = use_turn (step_insn u.kind at) r s g u in IsCut t.after.frame t.after.masks)
 
   laid_cut : Cut seen frames g.control.special unset control.threadptr (Some x) control.waits m
   laid_cut = cut_spared w g.control.special (spared_set control.special _ 226 inp.interrupt refl (spared_set control.special control.special 234 inp.ccount refl (spared_same control.special))) control.threadptr refl
@@ -213,22 +213,22 @@ module _ (seen : List (Option ℕ)) (frames : List Frame) (control : Control) (u
   abbrev left : Insn → FrameTurn → FrameTurn
   left i v = record v {
     write = marked_write (mark_read i x.saved) value v.write;
-    after = record (keeping f v.after) {
+    after = record (with_kept_frame f v.after) {
       unset = unset_by (moved_to i) x.marks unset;
       nested = Some (nested_after i (mark_read i x.saved) x v);
     };
   }
 
   abbrev ended : FrameTurn → FrameTurn
-  ended v = record v { after = record (keeping f v.after) { nested = None } }
+  ended v = record v { after = record (with_kept_frame f v.after) { nested = None } }
 
   -- RFI 5
-  ends : (level : ℤ) (len r reply : ℕ) (code : ℕ → ℕ) → Leaves (Fetches (insn.System (system.Rfi level)) len) r (ended (done_in_frame (outcome_at code (insn.System (system.Rfi level)) (known x.seen) g.control) len reply g))
-  unfolding executed outcome system_outcome reads special_reads moved_to pointer_written is_entry is_return
+  ends : (level : ℤ) (len r reply : ℕ) (code : ℕ → ℕ) → Leaves (Fetches (insn.System (system.Rfi level)) len) r (ended (done_in_frame (outcome_at code (insn.System (system.Rfi level)) (value_or_zero x.seen) g.control) len reply g))
+  unfolding step_insn outcome system_outcome reads special_reads moved_to pointer_written is_entry is_return
   ends level len r reply code =
-      let e : Effect = record (unchanged g.control.ps control.threadptr) { ps = ps_of (special_of g.control (192 + natural level)); flow = Goes (special_of g.control (176 + natural level)) } in
+      let e : Effect = record (no_change g.control.ps control.threadptr) { ps = ps_of (special_of g.control (192 + natural level)); flow = Goes (special_of g.control (176 + natural level)) } in
       let k = keeps_effect e len g.control in
-      cut_ended (cut_spared laid_cut (ticked (after_effect e len g.control)).special k.special (ticked (after_effect e len g.control)).threadptr k.threadptr) (ticked (after_effect e len g.control)).waits
+      cut_ended (cut_spared laid_cut (after_tick (after_effect e len g.control)).special k.special (after_tick (after_effect e len g.control)).threadptr k.threadptr) (after_tick (after_effect e len g.control)).waits
 
   -- the mask of a register that receives a mark is 0
   marked_zero : (i : Insn) (a b : ℕ) (j : ℕ) → mark_read i x.saved ≡ Some j → (r : ℕ) → result_mask m.discipline i (first_word i s g) (second_word i s g) (special_operand i s g) m.threadptr r ≡ 0
@@ -243,7 +243,7 @@ module _ (seen : List (Option ℕ)) (frames : List Frame) (control : Control) (u
 
   module _ (i : Insn) (len r : ℕ) where
     abbrev v : ℕ
-    v = value_of (known x.seen) (reads i).0
+    v = value_of (value_or_zero x.seen) (reads i).0
 
     abbrev given : ℕ
     given = (first_word i s g).mask
@@ -254,7 +254,7 @@ module _ (seen : List (Option ℕ)) (frames : List Frame) (control : Control) (u
     abbrev mark : Option ℕ
     mark = mark_read i x.saved
 
-    operand_cut : (o : Option ℕ) → cut (visible_word s g o).mask (value_of (known x.seen) o) ≡ value_of (known x.seen) o
+    operand_cut : (o : Option ℕ) → masked (visible_word s g o).mask (value_of (value_or_zero x.seen) o) ≡ value_of (value_or_zero x.seen) o
     operand_cut None = refl
     operand_cut (Some k) = cut_value x.seen m.inner w.inner k
 
@@ -290,31 +290,31 @@ module _ (seen : List (Option ℕ)) (frames : List Frame) (control : Control) (u
 
     goes_on : uses_unknown i s g ≡ false → frames_moved i x.ps.callinc m ≡ m → (write : Option RegWrite) (access : Option Access) (c : Control) (sets : SpecialWrites) → Gives sets c → c.ps.excm ≡ true → c.ps.intlevel ≡ 5 → c.waits ≡ false
         → Leaves (Fetches i len) r (left i (wrote write access c))
-    unfolding executed
+    unfolding step_insn
     goes_on uses still write access c sets k excm level runs =
         let one = inner_special laid_cut (moved_to i) given v sets (operand_cut (reads i).0) k.one k.value_is (marked uses) in
         let two = inner_written (cut_pointer one i given v (operand_cut (reads i).0)) mark value write mask (λ j e. marked_zero i 0 0 j e r) in
         let three = cut_spared (inner_place two c.pc c.ps c.waits excm level runs) c.special k.special c.threadptr k.pointer in
         subst
-        (λ q. (let t : UseTurn = use_turn (executed kind.Insn (Fetches i len)) r s g (left i (wrote write access c)) in IsCut t.after.frame (visible_written true (marked_write mark value write) mask (pointer_written i given (special_written (moved_to i) given q)))))
+        (λ q. (let t : UseTurn = use_turn (step_insn kind.Insn (Fetches i len)) r s g (left i (wrote write access c)) in IsCut t.after.frame (visible_written true (marked_write mark value write) mask (pointer_written i given (special_written (moved_to i) given q)))))
         (sym still)
         three
 
     still : is_entry i ≡ false → is_return i ≡ false → frames_moved i x.ps.callinc m ≡ m
-    still e n = cond-false (is_entry i) (called x.ps.callinc m) (cond (is_return i) (returned m.kept m) m) e ∙ cond-false (is_return i) (returned m.kept m) m n
+    still e n = cond-false (is_entry i) (bits_after_call x.ps.callinc m) (cond (is_return i) (bits_after_return m.kept m) m) e ∙ cond-false (is_return i) (bits_after_return m.kept m) m n
 
     abbrev Stopped : Option (ℕ × ℕ) → Option ℕ → Type 0
-    Stopped o k = Cut seen frames (ticked g.control).special (unset_by o x.marks unset) control.threadptr
+    Stopped o k = Cut seen frames (after_tick g.control).special (unset_by o x.marks unset) control.threadptr
         (Some (record { pc = x.pc; seen = marked_seen k None x.seen; ps = g.control.ps; marks = marks_after k None x.marks; saved = saved_by o x.marks x.saved }))
         control.waits m
 
-    stops : (code : ℕ → ℕ) (reply : ℕ) → IsStop (outcome_at code i (known x.seen) g.control) → Leaves (Fetches i len) r (left i (done_in_frame Stops len reply g))
-    unfolding executed
+    stops : (code : ℕ → ℕ) (reply : ℕ) → IsStop (outcome_at code i (value_or_zero x.seen) g.control) → Leaves (Fetches i len) r (left i (done_in_frame Stops len reply g))
+    unfolding step_insn
     stops code reply h =
         let alone : IsAlone i x.saved = stop_alone code i x.pc _ _ _ _ g.control.ps control.threadptr x.saved h in
         let k = keeps_tick g.control g.control (keeps_same g.control) in
         subst (λ o. Stopped o mark) (sym alone.moved) (subst (λ q. Stopped None q) (sym alone.mark)
-        (inner_place (cut_spared laid_cut (ticked g.control).special k.special control.threadptr refl) x.pc g.control.ps control.waits w.inside.excm w.inside.level w.inside.runs))
+        (inner_place (cut_spared laid_cut (after_tick g.control).special k.special control.threadptr refl) x.pc g.control.ps control.waits w.inside.excm w.inside.level w.inside.runs))
 
     module _ (code : ℕ → ℕ) (reply : ℕ) (unset_is movsp_is : Bool) where
       calm : (u : FrameTurn) → Unused i g u unset_is movsp_is → is_exception u.kind ≡ false
@@ -323,33 +323,33 @@ module _ (seen : List (Option ℕ)) (frames : List Frame) (control : Control) (u
       undisturbed : (u : FrameTurn) → Unused i g u unset_is movsp_is → disturbs_nested i ≡ false
       undisturbed u o = (or_parts (disturbs_nested i) _ (or_parts (is_exception u.kind) _ o.nested).1).0
 
-      raised_in : (u : FrameTurn) → Unused i g (cond g.control.ps.excm (raised illegal_instruction None g) u) unset_is movsp_is → ⊥
-      raised_in u o = both_ways (is_exception (cond g.control.ps.excm (raised illegal_instruction None g) u).kind) (calm (cond g.control.ps.excm (raised illegal_instruction None g) u) o)
-          (ap (λ (t : FrameTurn). is_exception t.kind) (cond-true g.control.ps.excm (raised illegal_instruction None g) u w.inside.excm))
+      raised_in : (u : FrameTurn) → Unused i g (cond g.control.ps.excm (exception_in_frame illegal_instruction None g) u) unset_is movsp_is → ⊥
+      raised_in u o = both_ways (is_exception (cond g.control.ps.excm (exception_in_frame illegal_instruction None g) u).kind) (calm (cond g.control.ps.excm (exception_in_frame illegal_instruction None g) u) o)
+          (ap (λ (t : FrameTurn). is_exception t.kind) (cond-true g.control.ps.excm (exception_in_frame illegal_instruction None g) u w.inside.excm))
 
-      done : (o : Outcome) → outcome_at code i (known x.seen) g.control ≡ o → Fits i o → uses_unknown i s g ≡ false → ends_nested i ≡ false → is_movsp i ≡ false → Unused i g (done_in_frame o len reply g) unset_is movsp_is
+      done : (o : Outcome) → outcome_at code i (value_or_zero x.seen) g.control ≡ o → Fits i o → uses_unknown i s g ≡ false → ends_nested i ≡ false → is_movsp i ≡ false → Unused i g (done_in_frame o len reply g) unset_is movsp_is
           → Leaves (Fetches i len) r (left i (done_in_frame o len reply g))
       done (Does e) q fits uses goes stays o =
           let d = undisturbed (done_in_frame (Does e) len reply g) o in
-          let k : KeepsMode (unchanged g.control.ps control.threadptr) (Does e) = subst (λ o. KeepsMode (unchanged g.control.ps control.threadptr) o) q (modes_kept code i x.pc _ _ _ _ g.control.ps control.threadptr (keeps_mode i d goes o.windowing)) in
+          let k : KeepsMode (no_change g.control.ps control.threadptr) (Does e) = subst (λ o. KeepsMode (no_change g.control.ps control.threadptr) o) q (modes_kept code i x.pc _ _ _ _ g.control.ps control.threadptr (keeps_mode i d goes o.windowing)) in
           let c = effect_mode e len g.control in
           let p : LeavesPointer (pointer_left i v control.threadptr) (Does e) = subst (λ o. LeavesPointer (pointer_left i v control.threadptr) o) q (pointer_kept code i x.pc v _ _ _ g.control.ps control.threadptr) in
           let t = keeps_effect e len g.control in
-          goes_on uses (still fits.2 (no_return code i (known x.seen) g.control (Does e) q (λ h. h))) e.write None _ e.sets
+          goes_on uses (still fits.2 (no_return code i (value_or_zero x.seen) g.control (Does e) q (λ h. h))) e.write None _ e.sets
           (record { one = λ n h. fits.1 n (marks_saved n h); value_is = λ j is h. moved_value code i j x.pc v _ _ _ g.control.ps control.threadptr e is h q; special = t.special; pointer = t.threadptr ∙ p })
           (ap (λ (b : Ps). b.excm) c.0 ∙ (k.1 ∙ w.inside.excm)) (ap (λ (b : Ps). b.intlevel) c.0 ∙ (k.0 ∙ w.inside.level)) (c.1 ∙ k.2)
       done (Raises cause address) q fits uses goes stays o = absurd (both_ways true (calm (done_in_frame (Raises cause address) len reply g) o) refl)
       done (Asks access awaited e) q fits uses goes stays o =
-          let k : e ≡ unchanged g.control.ps control.threadptr = subst (λ o. AsksWith (unchanged g.control.ps control.threadptr) o) q (outcome_alone code i x.pc _ _ _ _ g.control.ps control.threadptr) in
+          let k : e ≡ no_change g.control.ps control.threadptr = subst (λ o. AsksWith (no_change g.control.ps control.threadptr) o) q (outcome_alone code i x.pc _ _ _ _ g.control.ps control.threadptr) in
           let c = effect_mode e len g.control in
           let p : LeavesPointer (pointer_left i v control.threadptr) (Asks access awaited e) = subst (λ o. LeavesPointer (pointer_left i v control.threadptr) o) q (pointer_kept code i x.pc v _ _ _ g.control.ps control.threadptr) in
           let t = keeps_effect e len g.control in
-          goes_on uses (still fits.2 (no_return code i (known x.seen) g.control (Asks access awaited e) q (λ h. h))) _ _ _ e.sets
+          goes_on uses (still fits.2 (no_return code i (value_or_zero x.seen) g.control (Asks access awaited e) q (λ h. h))) _ _ _ e.sets
           (record { one = λ n h. subst (λ (d : Effect). SetsOne (moved_to i) n d.sets) (sym k) (none_moved (moved_to i) fits.1 n); value_is = λ j is h. absurd (none-some j (sym fits.1 ∙ is)); special = t.special; pointer = t.threadptr ∙ p })
           (ap (λ (b : Ps). b.excm) (c.0 ∙ ap (λ (d : Effect). d.ps) k) ∙ w.inside.excm) (ap (λ (b : Ps). b.intlevel) (c.0 ∙ ap (λ (d : Effect). d.ps) k) ∙ w.inside.level) (c.1 ∙ ap (λ (d : Effect). d.waits) k)
       done Stops q fits uses goes stays o = stops code reply (subst IsStop (sym q) tt)
-      done (Windowed (Enters number value)) q fits uses goes stays o = absurd (raised_in (pushed number value len g) o)
-      done (Windowed (Returns a0)) q fits uses goes stays o = absurd (raised_in (popped a0 g) o)
+      done (Windowed (Enters number value)) q fits uses goes stays o = absurd (raised_in (entry_in_frame number value len g) o)
+      done (Windowed (Returns a0)) q fits uses goes stays o = absurd (raised_in (return_in_frame a0 g) o)
       done (Windowed (EndsOverflow epc1)) q fits uses goes stays o = absurd (both_ways _ o.windowing fits)
       done (Windowed (EndsUnderflow epc1)) q fits uses goes stays o = absurd (both_ways _ o.windowing fits)
       done (Windowed (Rotates n)) q fits uses goes stays o = absurd (both_ways _ o.windowing fits)
@@ -368,14 +368,14 @@ module _ (seen : List (Option ℕ)) (frames : List Frame) (control : Control) (u
         let o = unused b fresh live rec g u i (uses_unknown i s g) (swaps_unknown bytes rec.access) (breaks_stack b.range i rec.kind g) none in
         let stays : is_movsp i ≡ false = false_from_ne_true (is_movsp i) (λ h. both_ways (breaks_stack b.range i rec.kind g) o.movsp_quiet (movsp_shown b.range i rec.kind g h w.inside.excm)) in
         cond_both (ends_nested i) (ended u) (left i u) (Leaves (Fetches i len) r)
-        (λ ending. let q = is_ending i ending in subst (λ j. Leaves (Fetches j len) r (ended (done_in_frame (outcome_at code j (known x.seen) g.control) len reply g))) (sym q.is) (ends q.level len r reply code))
-        (λ goes. done i len r code reply (uses_unknown i s g) (breaks_stack b.range i rec.kind g) (outcome_at code i (known x.seen) g.control) refl (outcome_fits code i x.pc _ _ _ _ g.control.ps control.threadptr) o.known goes stays o)
+        (λ ending. let q = is_ending i ending in subst (λ j. Leaves (Fetches j len) r (ended (done_in_frame (outcome_at code j (value_or_zero x.seen) g.control) len reply g))) (sym q.is) (ends q.level len r reply code))
+        (λ goes. done i len r code reply (uses_unknown i s g) (breaks_stack b.range i rec.kind g) (outcome_at code i (value_or_zero x.seen) g.control) refl (outcome_fits code i x.pc _ _ _ _ g.control.ps control.threadptr) o.known goes stays o)
 
     quiet : ltb 0 (pending_of g.control) ≡ false
     quiet = ap (ltb 0) (none_pending (special_of g.control 226) (special_of g.control 228) g.control.ps w.inside.excm w.inside.level)
 
-    pub inner_cut : laid_use b fresh code live bytes rec s g ≡ None → Leaves (fetched code x.pc) r (nested_fetched (fetched code x.pc) value x f (laid_step code rec.reply g))
+    pub inner_cut : laid_use b fresh code live bytes rec s g ≡ None → Leaves (fetch_at code x.pc) r (nested_fetched (fetch_at code x.pc) value x f (step_with_inputs code rec.reply g))
     inner_cut none = subst
-        (λ u. Leaves (fetched code x.pc) r (nested_fetched (fetched code x.pc) value x f u))
+        (λ u. Leaves (fetch_at code x.pc) r (nested_fetched (fetch_at code x.pc) value x f u))
         (sym (step_fetches code rec.reply g quiet w.inside.runs))
-        (fetches (fetched code x.pc) rec.reply (uses_shown code b fresh live bytes rec s g quiet w.inside.runs none))
+        (fetches (fetch_at code x.pc) rec.reply (uses_shown code b fresh live bytes rec s g quiet w.inside.runs none))

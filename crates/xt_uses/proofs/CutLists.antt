@@ -5,12 +5,12 @@ use Rattle.std.specs.Prelude.{bit_and}
 use Rattle.std.specs.Int.Bits.{and_self}
 use Rattle.std.proofs.lemmas.Nat.{and_assoc}
 use Rattle.xt_trace.specs.declared.record.RegWrite.{RegWrite}
-use Rattle.xt_frames.specs.Frames.{known, seen_after_write}
-use Rattle.xt_uses.specs.Words.{cut}
+use Rattle.xt_frames.specs.Frames.{value_or_zero, seen_after_write}
+use Rattle.xt_uses.specs.Words.{masked}
 use Rattle.xt_uses.specs.UseStep.{cut_number, cut_seen}
 use Rattle.xt_uses.specs.UseLaws.{AreCut, IsCutAt}
 
-pub cut_twice : (mask n : ℕ) → cut mask (cut mask n) ≡ cut mask n
+pub cut_twice : (mask n : ℕ) → masked mask (masked mask n) ≡ masked mask n
 cut_twice mask n = and_assoc mask n mask ∙ ap (λ k. bit_and n k) (and_self mask)
 
 -- ---- one register
@@ -28,7 +28,7 @@ cut_at [] (y ∷ ys) h i = absurd h
 cut_at (x ∷ xs) [] h i = absurd h
 
 -- the value that is read, 0 where there is none
-pub cut_value : (xs : List (Option ℕ)) (ys : List ℕ) → AreCut xs ys → (i : ℕ) → cut (get_or ys i 0) (known xs i) ≡ known xs i
+pub cut_value : (xs : List (Option ℕ)) (ys : List ℕ) → AreCut xs ys → (i : ℕ) → masked (get_or ys i 0) (value_or_zero xs i) ≡ value_or_zero xs i
 cut_value [] [] h i = refl
 cut_value (None ∷ xs) (y ∷ ys) h zero = ap (λ m. bit_and 0 m) h.0
 cut_value (Some n ∷ xs) (y ∷ ys) h zero = h.0

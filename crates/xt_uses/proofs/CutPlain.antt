@@ -13,32 +13,32 @@ use Rattle.xt_special.specs.Access.{SpecialWrites, no_set, no_sets, set_to, with
 use Rattle.xt_special.specs.Control.{Control}
 use Rattle.xt_special.specs.Exceptions.{after_exception}
 use Rattle.xt_special.specs.Interrupts.{after_interrupt, pending_of}
-use Rattle.xt_special.specs.Timers.{ticked}
+use Rattle.xt_special.specs.Timers.{after_tick}
 use Rattle.xt_trace.specs.declared.record.RegWrite.{RegWrite}
 use Rattle.xt_trace.specs.declared.record.StepKind.TheVariants as kind
 use Rattle.xt_trace.specs.declared.record.StepRecord.{StepRecord}
-use Rattle.xt_fetch.specs.Fetching.{Fetched, Fetches, Fails, SpellsNothing, fetched}
+use Rattle.xt_fetch.specs.Fetching.{Fetched, Fetches, Fails, SpellsNothing, fetch_at}
 use Rattle.xt_rows.specs.declared.outcome.Effect.{Effect}
 use Rattle.xt_rows.specs.declared.outcome.Flow.TheVariants.{Falls}
 use Rattle.xt_rows.specs.declared.outcome.Outcome.{Outcome}
 use Rattle.xt_rows.specs.declared.outcome.Outcome.TheVariants.{Does, Raises, Asks, Stops, Windowed}
 use Rattle.xt_rows.specs.declared.outcome.WindowStep.TheVariants.{Enters, Returns, EndsOverflow, EndsUnderflow, Rotates, MovesStack, Reads, Sets, Exchanges}
-use Rattle.xt_rows.specs.Effects.{illegal_instruction, unchanged, write_to}
+use Rattle.xt_rows.specs.Effects.{illegal_instruction, no_change, write_to}
 use Rattle.xt_rows.specs.Kinds.{Fits, IsReturn, SetsOne, is_entry, is_movsp, is_return, is_windowing, moved_to, names_window_register}
-use Rattle.xt_rows.specs.Laws.{AsksWith}
+use Rattle.xt_rows.specs.RowLaws.{AsksWith}
 use Rattle.xt_rows.specs.Operands.{reads}
 use Rattle.xt_rows.specs.Outcomes.{outcome_at, value_of}
 use Rattle.xt_rows.specs.Settling.{after_effect, settled_interrupt, settled_wait}
 use Rattle.xt_rows.proofs.Fitting.{outcome_alone, outcome_fits}
-use Rattle.xt_frames.specs.Frames.{Frame, FrameState, known, seen_after_call, seen_after_return, seen_after_write}
-use Rattle.xt_frames.specs.FrameStep.{FrameTurn, Inputs, done_in_frame, fetched_step, in_frame, laid, laid_step, popped, popped_from, pushed, raised}
+use Rattle.xt_frames.specs.Frames.{Frame, FrameState, value_or_zero, seen_after_call, seen_after_return, seen_after_write}
+use Rattle.xt_frames.specs.FrameStep.{FrameTurn, Inputs, done_in_frame, fetched_step, in_frame, with_inputs, step_with_inputs, return_in_frame, return_to_frame, entry_in_frame, exception_in_frame}
 use Rattle.xt_frames.specs.Marks.{holds_marks, unset_by}
 use Rattle.xt_frames.specs.Nesting.{unset_after}
 use Rattle.xt_frames.proofs.StackSteps.{step_fetches, step_taken, step_waits, turn_if}
-use Rattle.xt_uses.specs.Words.{cut}
+use Rattle.xt_uses.specs.Words.{masked}
 use Rattle.xt_uses.specs.Known.{result_mask}
-use Rattle.xt_uses.specs.UseState.{Masks, UseState, first_word, second_word, special_operand, visible_word}
-use Rattle.xt_uses.specs.UseStep.{UseTurn, called, executed, fetched_movsp, frames_moved, movsp_of, returned, turn_or, use_turn}
+use Rattle.xt_uses.specs.UseState.{ValidityBits, UseState, first_word, second_word, special_operand, visible_word}
+use Rattle.xt_uses.specs.UseStep.{UseTurn, bits_after_call, step_insn, fetched_movsp, frames_moved, movsp_of, bits_after_return, turn_or, use_turn}
 use Rattle.xt_frames.specs.Breaches.{Bounds}
 use Rattle.xt_frames.proofs.Shown.{NoneShown}
 use Rattle.xt_uses.specs.UseBreaches.{breaks_stack, fetched_uses, laid_use, swaps_unknown, uses_unknown}
@@ -90,12 +90,12 @@ pub none_moved : (o : Option (ℕ × ℕ)) → o ≡ None → (n : ℕ) → Sets
 none_moved None e n = (tt, tt, tt)
 none_moved (Some p) e n = absurd (none-some p (sym e))
 
-module _ (seen : List (Option ℕ)) (frames : List Frame) (control : Control) (unset : List Bool) (m : Masks) (w : Cut seen frames control.special unset control.threadptr None control.waits m) (inp : Inputs) where
+module _ (seen : List (Option ℕ)) (frames : List Frame) (control : Control) (unset : List Bool) (m : ValidityBits) (w : Cut seen frames control.special unset control.threadptr None control.waits m) (inp : Inputs) where
   abbrev f : FrameState
   f = record { seen = seen; frames = frames; control = control; unset = unset; nested = None }
 
   abbrev g : FrameState
-  g = laid inp f
+  g = with_inputs inp f
 
   abbrev s : UseState
   s = record { frame = f; masks = m }
@@ -104,7 +104,7 @@ module _ (seen : List (Option ℕ)) (frames : List Frame) (control : Control) (u
   turned at v = record v { after = record v.after { unset = unset_after v.kind at unset } }
 
   abbrev Leaves : Fetched → ℕ → FrameTurn → Type 0
-  Leaves at r u = (let t : UseTurn = use_turn (executed u.kind at) r s g u in IsCut t.after.frame t.after.masks)
+  Leaves at r u = (let t : UseTurn = use_turn (step_insn u.kind at) r s g u in IsCut t.after.frame t.after.masks)
 
   laid_cut : Cut seen frames g.control.special unset control.threadptr None control.waits m
   laid_cut = cut_spared w g.control.special (spared_set control.special _ 226 inp.interrupt refl (spared_set control.special control.special 234 inp.ccount refl (spared_same control.special))) control.threadptr refl
@@ -120,28 +120,28 @@ module _ (seen : List (Option ℕ)) (frames : List Frame) (control : Control) (u
       (held unset (176 + level) n false false (λ b. b ≡ get_or unset n false) (λ e. absurd (omega (arith, e, small, high))) refl)
 
   takes : (at : Fetched) (level reply r : ℕ) → level ≤ 5 → Leaves at r (turned at (in_frame (settled_interrupt level g.control) reply g))
-  unfolding executed
+  unfolding step_insn
   takes at level reply r small =
-      let c : Control = ticked (after_interrupt level g.control) in
+      let c : Control = after_tick (after_interrupt level g.control) in
       let k = kept_cut c (keeps_tick g.control (after_interrupt level g.control) (keeps_interrupt level g.control small)) in
       cut_ended (cut_unset k (set (set unset (176 + level) false) (192 + level) false) (length-set (set unset (176 + level) false) (192 + level) false ∙ (length-set unset (176 + level) false ∙ w.holes)) (λ n h. level_apart level n small h)) c.waits
 
   waits : (at : Fetched) (reply r : ℕ) → Leaves at r (turned at (in_frame (settled_wait g.control) reply g))
-  unfolding executed
-  waits at reply r = kept_cut (ticked g.control) (keeps_tick g.control g.control (keeps_same g.control))
+  unfolding step_insn
+  waits at reply r = kept_cut (after_tick g.control) (keeps_tick g.control g.control (keeps_same g.control))
 
-  raises : (at : Fetched) (cause : ℕ) (address : Option ℕ) (r : ℕ) → Leaves at r (turned at (raised cause address g))
-  unfolding executed
-  raises at cause address r = kept_cut (ticked (after_exception cause address g.control)) (keeps_tick g.control (after_exception cause address g.control) (keeps_exception cause address g.control))
+  raises : (at : Fetched) (cause : ℕ) (address : Option ℕ) (r : ℕ) → Leaves at r (turned at (exception_in_frame cause address g))
+  unfolding step_insn
+  raises at cause address r = kept_cut (after_tick (after_exception cause address g.control)) (keeps_tick g.control (after_exception cause address g.control) (keeps_exception cause address g.control))
 
   stops : (at : Fetched) (len reply r : ℕ) → Leaves at r (turned at (done_in_frame Stops len reply g))
-  unfolding executed
-  stops at len reply r = kept_cut (ticked g.control) (keeps_tick g.control g.control (keeps_same g.control))
+  unfolding step_insn
+  stops at len reply r = kept_cut (after_tick g.control) (keeps_tick g.control g.control (keeps_same g.control))
 
   -- ---- an instruction is executed
   module _ (i : Insn) (len r : ℕ) where
     abbrev x : ℕ
-    x = value_of (known seen) (reads i).0
+    x = value_of (value_or_zero seen) (reads i).0
 
     abbrev given : ℕ
     given = (first_word i s g).mask
@@ -149,7 +149,7 @@ module _ (seen : List (Option ℕ)) (frames : List Frame) (control : Control) (u
     abbrev mask : ℕ
     mask = result_mask m.discipline i (first_word i s g) (second_word i s g) (special_operand i s g) m.threadptr r
 
-    operand_cut : (o : Option ℕ) → cut (visible_word s g o).mask (value_of (known seen) o) ≡ value_of (known seen) o
+    operand_cut : (o : Option ℕ) → masked (visible_word s g o).mask (value_of (value_or_zero seen) o) ≡ value_of (value_or_zero seen) o
     operand_cut None = refl
     operand_cut (Some k) = cut_value seen m.seen w.seen_cut k
 
@@ -171,7 +171,7 @@ module _ (seen : List (Option ℕ)) (frames : List Frame) (control : Control) (u
     writes : (write : Option RegWrite) (access : Option Access) (c : Control) (old : List (Option ℕ)) (olds : List Frame) (sets : SpecialWrites) → Gives sets c
         → Cut old olds g.control.special unset control.threadptr None control.waits (frames_moved i control.ps.callinc m)
         → Leaves (Fetches i len) r (wrote write access c old olds (unset_by (moved_to i) [] unset))
-    unfolding executed
+    unfolding step_insn
     writes write access c old olds sets k y =
         let one = cut_special y (moved_to i) given x sets (operand_cut (reads i).0) k.one k.value in
         let two = cut_register (cut_pointer one i given x (operand_cut (reads i).0)) write mask in
@@ -188,56 +188,56 @@ module _ (seen : List (Option ℕ)) (frames : List Frame) (control : Control) (u
     unmoved : is_entry i ≡ false → is_return i ≡ false → Cut seen frames g.control.special unset control.threadptr None control.waits (frames_moved i control.ps.callinc m)
     unmoved e n = subst
         (λ k. Cut seen frames g.control.special unset control.threadptr None control.waits k)
-        (sym (cond-false (is_entry i) (called control.ps.callinc m) (cond (is_return i) (returned m.kept m) m) e ∙ cond-false (is_return i) (returned m.kept m) m n))
+        (sym (cond-false (is_entry i) (bits_after_call control.ps.callinc m) (cond (is_return i) (bits_after_return m.kept m) m) e ∙ cond-false (is_return i) (bits_after_return m.kept m) m n))
         laid_cut
 
-    entered : is_entry i ≡ true → frames_moved i control.ps.callinc m ≡ called control.ps.callinc m
-    entered e = cond-true (is_entry i) (called control.ps.callinc m) (cond (is_return i) (returned m.kept m) m) e
+    entered : is_entry i ≡ true → frames_moved i control.ps.callinc m ≡ bits_after_call control.ps.callinc m
+    entered e = cond-true (is_entry i) (bits_after_call control.ps.callinc m) (cond (is_return i) (bits_after_return m.kept m) m) e
 
-    left : is_entry i ≡ false → is_return i ≡ true → frames_moved i control.ps.callinc m ≡ returned m.kept m
-    left e n = cond-false (is_entry i) (called control.ps.callinc m) (cond (is_return i) (returned m.kept m) m) e ∙ cond-true (is_return i) (returned m.kept m) m n
+    left : is_entry i ≡ false → is_return i ≡ true → frames_moved i control.ps.callinc m ≡ bits_after_return m.kept m
+    left e n = cond-false (is_entry i) (bits_after_call control.ps.callinc m) (cond (is_return i) (bits_after_return m.kept m) m) e ∙ cond-true (is_return i) (bits_after_return m.kept m) m n
 
-    pushes : (number value : ℕ) → is_entry i ≡ true → IsCalm i → Leaves (Fetches i len) r (turned (Fetches i len) (pushed number value len g))
-    unfolding pushed
+    pushes : (number value : ℕ) → is_entry i ≡ true → IsCalm i → Leaves (Fetches i len) r (turned (Fetches i len) (entry_in_frame number value len g))
+    unfolding entry_in_frame
     pushes number value e calm = writes (write_to number value) None _ (seen_after_call seen control.ps.callinc) (record { by = control.ps.callinc; kept = take (4 * control.ps.callinc) seen } ∷ frames) no_sets
         (calm_gives calm _ (keeps_tick g.control _ (keeps_flow Falls len g.control)))
         (subst (λ k. Cut (seen_after_call seen control.ps.callinc) (record { by = control.ps.callinc; kept = take (4 * control.ps.callinc) seen } ∷ frames) g.control.special unset control.threadptr None control.waits k) (sym (entered e)) (cut_called laid_cut control.ps.callinc))
 
-    pops : (fs : List Frame) → frames ≡ fs → (a0 : ℕ) → is_entry i ≡ false → is_return i ≡ true → IsCalm i → Leaves (Fetches i len) r (turned (Fetches i len) (popped_from fs a0 g))
+    pops : (fs : List Frame) → frames ≡ fs → (a0 : ℕ) → is_entry i ≡ false → is_return i ≡ true → IsCalm i → Leaves (Fetches i len) r (turned (Fetches i len) (return_to_frame fs a0 g))
     pops [] e a0 n h calm = raises (Fetches i len) illegal_instruction None r
     pops (k ∷ rest) e a0 n h calm = writes None None _ (seen_after_return k.kept seen k.by) rest no_sets
         (calm_gives calm _ (keeps_tick g.control _ (record { special = spared_same g.control.special; threadptr = refl })))
         (subst (λ q. Cut (seen_after_return k.kept seen k.by) rest g.control.special unset control.threadptr None control.waits q) (sym (left n h)) (cut_returned (subst (λ fs. Cut seen fs g.control.special unset control.threadptr None control.waits m) e laid_cut)))
 
     effect_gives : (e : Effect) → ((n : ℕ) → holds_marks n ≡ true → SetsOne (moved_to i) n e.sets) → ((p : ℕ × ℕ) → moved_to i ≡ Some p → holds_marks p.1 ≡ true → e.sets ≡ (set_to p.1 x, no_set, no_set)) → e.threadptr ≡ pointer_left i x control.threadptr
-        → Gives e.sets (ticked (after_effect e len g.control))
+        → Gives e.sets (after_tick (after_effect e len g.control))
     effect_gives e one value pointer =
         let k = keeps_effect e len g.control in
         record { one = one; value = value; special = k.special; pointer = k.threadptr ∙ pointer }
 
-    done : (code : ℕ → ℕ) (reply : ℕ) (o : Outcome) → outcome_at code i (known seen) g.control ≡ o → Fits i o → is_windowing i ≡ false → names_window_register i ≡ false → is_movsp i ≡ false → Leaves (Fetches i len) r (turned (Fetches i len) (done_in_frame o len reply g))
-    unfolding popped
+    done : (code : ℕ → ℕ) (reply : ℕ) (o : Outcome) → outcome_at code i (value_or_zero seen) g.control ≡ o → Fits i o → is_windowing i ≡ false → names_window_register i ≡ false → is_movsp i ≡ false → Leaves (Fetches i len) r (turned (Fetches i len) (done_in_frame o len reply g))
+    unfolding return_in_frame
     done code reply (Does e) q fits a b c =
         let p : LeavesPointer (pointer_left i x control.threadptr) (Does e) = subst (λ o. LeavesPointer (pointer_left i x control.threadptr) o) q (pointer_kept code i control.pc x _ _ _ g.control.ps control.threadptr) in
         writes e.write None _ seen frames e.sets
         (effect_gives e (λ n h. fits.1 n (marks_saved n h)) (λ k is h. moved_value code i k control.pc x _ _ _ g.control.ps control.threadptr e is h q) p)
-        (unmoved fits.2 (no_return code i (known seen) g.control (Does e) q (λ h. h)))
+        (unmoved fits.2 (no_return code i (value_or_zero seen) g.control (Does e) q (λ h. h)))
     done code reply (Raises cause address) q fits a b c = raises (Fetches i len) cause address r
     done code reply (Asks access awaited e) q fits a b c =
         let p : LeavesPointer (pointer_left i x control.threadptr) (Asks access awaited e) = subst (λ o. LeavesPointer (pointer_left i x control.threadptr) o) q (pointer_kept code i control.pc x _ _ _ g.control.ps control.threadptr) in
-        let k : e ≡ unchanged g.control.ps control.threadptr = subst (λ o. AsksWith (unchanged g.control.ps control.threadptr) o) q (outcome_alone code i control.pc _ _ _ _ g.control.ps control.threadptr) in
+        let k : e ≡ no_change g.control.ps control.threadptr = subst (λ o. AsksWith (no_change g.control.ps control.threadptr) o) q (outcome_alone code i control.pc _ _ _ _ g.control.ps control.threadptr) in
         writes _ _ _ seen frames e.sets
         (effect_gives e (λ n h. subst (λ (d : Effect). SetsOne (moved_to i) n d.sets) (sym k) (none_moved (moved_to i) fits.1 n)) (λ j is h. absurd (none-some j (sym fits.1 ∙ is))) p)
-        (unmoved fits.2 (no_return code i (known seen) g.control (Asks access awaited e) q (λ h. h)))
+        (unmoved fits.2 (no_return code i (value_or_zero seen) g.control (Asks access awaited e) q (λ h. h)))
     done code reply Stops q fits a b c = stops (Fetches i len) len reply r
     done code reply (Windowed (Enters number value)) q fits a b c =
         let P : FrameTurn → Type 0 = λ v. Leaves (Fetches i len) r (turned (Fetches i len) v) in
-        turn_if P g.control.ps.excm (raised illegal_instruction None g) (pushed number value len g) (raises (Fetches i len) illegal_instruction None r)
+        turn_if P g.control.ps.excm (exception_in_frame illegal_instruction None g) (entry_in_frame number value len g) (raises (Fetches i len) illegal_instruction None r)
         (pushes number value (entry_is i number fits.0 fits.1) (subst IsCalm (sym fits.1) (entry_calm number fits.0)))
     done code reply (Windowed (Returns a0)) q fits a b c =
         let P : FrameTurn → Type 0 = λ v. Leaves (Fetches i len) r (turned (Fetches i len) v) in
         let is = returns_is i fits in
-        turn_if P g.control.ps.excm (raised illegal_instruction None g) (popped_from frames a0 g) (raises (Fetches i len) illegal_instruction None r) (pops frames refl a0 is.1 is.0 (return_calm i fits))
+        turn_if P g.control.ps.excm (exception_in_frame illegal_instruction None g) (return_to_frame frames a0 g) (raises (Fetches i len) illegal_instruction None r) (pops frames refl a0 is.1 is.0 (return_calm i fits))
     done code reply (Windowed (EndsOverflow epc1)) q fits a b c = absurd (both_ways _ a fits)
     done code reply (Windowed (EndsUnderflow epc1)) q fits a b c = absurd (both_ways _ a fits)
     done code reply (Windowed (Rotates n)) q fits a b c = absurd (both_ways _ a fits)
@@ -253,8 +253,8 @@ module _ (seen : List (Option ℕ)) (frames : List Frame) (control : Control) (u
       let i : Insn = insn.Shift (shift.Movsp t k) in
       let calm = movsp_calm t k in
       let is = movsp_is t k in
-      let e : Effect = record (unchanged g.control.ps control.threadptr) { write = write_to t (known seen k) } in
-      writes i len r (write_to t (known seen k)) None _ seen frames e.sets
+      let e : Effect = record (no_change g.control.ps control.threadptr) { write = write_to t (value_or_zero seen k) } in
+      writes i len r (write_to t (value_or_zero seen k)) None _ seen frames e.sets
       (effect_gives i len r e (λ n h. none_moved (moved_to i) calm.moved n) (λ p same h. absurd (none-some p (sym calm.moved ∙ same))) (sym (calm.pointer (x i len r) control.threadptr)))
       (unmoved i len r is.0 is.1)
 
@@ -272,26 +272,26 @@ module _ (seen : List (Option ℕ)) (frames : List Frame) (control : Control) (u
         subst (λ j. Leaves (Fetches j len) r (turn_or (fetched_movsp (Fetches j len) g) (turned (Fetches j len) (fetched_step (Fetches j len) code reply g)))) (sym q.is) (moves_stack q.t q.s len r reply code))
         (λ stays.
         subst (λ k. Leaves (Fetches i len) r (turn_or k (turned (Fetches i len) (fetched_step (Fetches i len) code reply g)))) (sym (no_movsp i len g stays))
-        (done i len r code reply (outcome_at code i (known seen) g.control) refl (outcome_fits code i g.control.pc _ _ _ _ g.control.ps g.control.threadptr) o.windowing o.window_register stays))
+        (done i len r code reply (outcome_at code i (value_or_zero seen) g.control) refl (outcome_fits code i g.control.pc _ _ _ _ g.control.ps g.control.threadptr) o.windowing o.window_register stays))
         (cases_Bool (is_movsp i))
 
     abbrev at : Fetched
-    at = fetched code control.pc
+    at = fetch_at code control.pc
 
-    pub plain_cut : laid_use b fresh code live bytes rec s g ≡ None → Leaves at r (turn_or (movsp_of code g) (turned at (laid_step code rec.reply g)))
+    pub plain_cut : laid_use b fresh code live bytes rec s g ≡ None → Leaves at r (turn_or (movsp_of code g) (turned at (step_with_inputs code rec.reply g)))
     plain_cut none = ⊎_elim
         (λ level.
         let busy = or_left (ltb 0 (pending_of g.control)) control.waits level in
-        subst (λ o. Leaves at r (turn_or o (turned at (laid_step code rec.reply g)))) (sym (cond-true (ltb 0 (pending_of g.control) || control.waits) None (fetched_movsp at g) busy))
+        subst (λ o. Leaves at r (turn_or o (turned at (step_with_inputs code rec.reply g)))) (sym (cond-true (ltb 0 (pending_of g.control) || control.waits) None (fetched_movsp at g) busy))
         (subst (λ v. Leaves at r (turned at v)) (sym (step_taken code rec.reply g level)) (takes at (pending_of g.control) rec.reply r (level_small _ _ _))))
         (λ quiet. ⊎_elim
         (λ idle.
         let busy = or_right (ltb 0 (pending_of g.control)) control.waits idle in
-        subst (λ o. Leaves at r (turn_or o (turned at (laid_step code rec.reply g)))) (sym (cond-true (ltb 0 (pending_of g.control) || control.waits) None (fetched_movsp at g) busy))
+        subst (λ o. Leaves at r (turn_or o (turned at (step_with_inputs code rec.reply g)))) (sym (cond-true (ltb 0 (pending_of g.control) || control.waits) None (fetched_movsp at g) busy))
         (subst (λ v. Leaves at r (turned at v)) (sym (step_waits code rec.reply g quiet idle)) (waits at rec.reply r)))
         (λ runs.
         let free = or_from (ltb 0 (pending_of g.control)) control.waits quiet runs in
-        subst (λ o. Leaves at r (turn_or o (turned at (laid_step code rec.reply g)))) (sym (cond-false (ltb 0 (pending_of g.control) || control.waits) None (fetched_movsp at g) free))
+        subst (λ o. Leaves at r (turn_or o (turned at (step_with_inputs code rec.reply g)))) (sym (cond-false (ltb 0 (pending_of g.control) || control.waits) None (fetched_movsp at g) free))
         (subst (λ v. Leaves at r (turn_or (fetched_movsp at g) (turned at v))) (sym (step_fetches code rec.reply g quiet runs))
         (fetches at rec.reply (uses_shown code b fresh live bytes rec s g quiet runs none))))
         (cases_Bool control.waits))

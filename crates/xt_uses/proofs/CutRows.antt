@@ -8,7 +8,7 @@ use Rattle.xt_isa.specs.declared.system.SpecialName.TheVariants as SpecialName
 use Rattle.xt_rows.specs.declared.outcome.Effect.{Effect}
 use Rattle.xt_rows.specs.declared.outcome.Outcome.{Outcome}
 use Rattle.xt_rows.specs.declared.outcome.Outcome.TheVariants.{Does}
-use Rattle.xt_rows.specs.Effects.{unchanged, window_register, writes_special, exchanges_special}
+use Rattle.xt_rows.specs.Effects.{no_change, window_register, writes_special, exchanges_special}
 use Rattle.xt_rows.specs.Outcomes.{system_outcome, outcome}
 use Rattle.xt_special.specs.declared.ps.Ps.{Ps}
 use Rattle.xt_special.specs.Access.{SpecialWrites, is_ccompare, is_eps, no_set, set_to, value_kept, written_by}
@@ -81,11 +81,11 @@ unfolding outcome system_outcome moved_to sets_of second_of
 moved_value code (insn.System (system.Rsr SpecialName.Wsr r n)) p pc x y u v ps t e m h q =
     let same : n ≡ p.1 = ap (λ (o : Option (ℕ × ℕ)). second_of o n) m in
     let own : holds_marks n ≡ true = subst (λ k. holds_marks k ≡ true) (sym same) h in
-    let w : Does e ≡ writes_special None n x v (unchanged ps t) = sym q ∙ ap (λ o. writes_special o n x v (unchanged ps t)) (no_window n own) in
+    let w : Does e ≡ writes_special None n x v (no_change ps t) = sym q ∙ ap (λ o. writes_special o n x v (no_change ps t)) (no_window n own) in
     ap sets_of w ∙ (one_written n own x v ∙ ap (λ k. (set_to k x, no_set, no_set)) same)
 moved_value code (insn.System (system.Rsr SpecialName.Xsr r n)) p pc x y u v ps t e m h q =
     let same : n ≡ p.1 = ap (λ (o : Option (ℕ × ℕ)). second_of o n) m in
     let own : holds_marks n ≡ true = subst (λ k. holds_marks k ≡ true) (sym same) h in
-    let w : Does e ≡ exchanges_special None r n x u v (unchanged ps t) = sym q ∙ ap (λ o. exchanges_special o r n x u v (unchanged ps t)) (no_window n own) in
+    let w : Does e ≡ exchanges_special None r n x u v (no_change ps t) = sym q ∙ ap (λ o. exchanges_special o r n x u v (no_change ps t)) (no_window n own) in
     ap sets_of w ∙ (one_written n own x v ∙ ap (λ k. (set_to k x, no_set, no_set)) same)
 moved_value code _ p pc x y u v ps t e m h q = absurd cc

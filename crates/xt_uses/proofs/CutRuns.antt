@@ -9,7 +9,7 @@ use Rattle.xt_frames.specs.declared.kinds.BreachKind.{BreachKind}
 use Rattle.xt_frames.specs.Frames.{all_set, opening_frame, opening_seen}
 use Rattle.xt_frames.specs.Verdict.{is_nested}
 use Rattle.xt_frames.specs.FirstBreach.{Course, IsJudgedTurn, is_judged, mode_before}
-use Rattle.xt_uses.specs.Words.{all_bits, cut}
+use Rattle.xt_uses.specs.Words.{all_bits, masked}
 use Rattle.xt_uses.specs.Disciplines.{Discipline}
 use Rattle.xt_uses.specs.UseState.{UseState, whole_masks}
 use Rattle.xt_uses.specs.UseBreaches.{use_breach}
@@ -50,7 +50,7 @@ cut_opens core pc vecbase stack_end small d =
     record {
       seen_cut = opening_cut stack_end small;
       kept = tt;
-      special_cut = λ n h. subst (λ v. cut (get_or (replicate 256 all_bits) n 0) v ≡ v) (sym (s.at n h ∙ replicated 256 n 0)) refl;
+      special_cut = λ n h. subst (λ v. masked (get_or (replicate 256 all_bits) n 0) v ≡ v) (sym (s.at n h ∙ replicated 256 n 0)) refl;
       lost = λ n h e. absurd (true≢false (sym e ∙ replicated 256 n false));
       pointer = refl;
       inner = tt;

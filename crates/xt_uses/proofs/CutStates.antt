@@ -15,9 +15,9 @@ use Rattle.xt_rows.specs.Kinds.{SetsOne}
 use Rattle.xt_frames.specs.declared.holes.Nested.{Nested}
 use Rattle.xt_frames.specs.Frames.{Frame, FrameState, seen_after_call, seen_after_return, seen_after_write}
 use Rattle.xt_frames.specs.Marks.{holds_marks, unset_by}
-use Rattle.xt_uses.specs.Words.{cut}
-use Rattle.xt_uses.specs.UseState.{Masks, UseState}
-use Rattle.xt_uses.specs.UseStep.{called, cut_number, cut_seen, inner_unknown, leave_results, pointer_written, returned, special_written, visible_written}
+use Rattle.xt_uses.specs.Words.{masked}
+use Rattle.xt_uses.specs.UseState.{ValidityBits, UseState}
+use Rattle.xt_uses.specs.UseStep.{bits_after_call, cut_number, cut_seen, inner_unknown, leave_results, pointer_written, bits_after_return, special_written, visible_written}
 use Rattle.xt_uses.specs.UseLaws.{AreCut, AreKeptCut, InnerIsCut, IsCutState}
 use Rattle.xt_uses.proofs.CutControl.{Spared, marks_apart, sets_one, sets_size, sets_spare}
 use Rattle.xt_uses.proofs.CutLists.{cut_append, cut_drop, cut_length, cut_none, cut_take, cut_visible}
@@ -27,13 +27,13 @@ use Rattle.xt_uses.proofs.Left.{cut_left, left_length}
 use Rattle.xt_uses.proofs.WholeLists.{held, held_both, replicated}
 use Rattle.xt_uses.proofs.WholeStates.{AreFull, IsInside, begun_inner}
 
-pub record Cut (seen : List (Option ℕ)) (frames : List Frame) (special : List ℕ) (unset : List Bool) (threadptr : ℕ) (nested : Option Nested) (waits : Bool) (m : Masks) : Type 0 where
+pub record Cut (seen : List (Option ℕ)) (frames : List Frame) (special : List ℕ) (unset : List Bool) (threadptr : ℕ) (nested : Option Nested) (waits : Bool) (m : ValidityBits) : Type 0 where
   pub seen_cut : AreCut seen m.seen
   pub kept : AreKeptCut frames m.kept
-  pub special_cut : (n : ℕ) → holds_marks n ≡ true → cut (get_or m.special n 0) (get_or special n 0) ≡ get_or special n 0
+  pub special_cut : (n : ℕ) → holds_marks n ≡ true → masked (get_or m.special n 0) (get_or special n 0) ≡ get_or special n 0
   -- of a special register without a number nothing is known
   pub lost : (n : ℕ) → holds_marks n ≡ true → get_or unset n false ≡ true → get_or m.special n 0 ≡ 0
-  pub pointer : cut m.threadptr threadptr ≡ threadptr
+  pub pointer : masked m.threadptr threadptr ≡ threadptr
   pub inner : InnerIsCut nested m.inner
   pub count : length m.special ≡ 256
   pub values : length special ≡ 256
@@ -42,39 +42,39 @@ pub record Cut (seen : List (Option ℕ)) (frames : List Frame) (special : List 
   pub full : AreFull frames
   pub inside : IsInside nested waits unset
 
-abbrev pub IsCut : FrameState → Masks → Type 0
+abbrev pub IsCut : FrameState → ValidityBits → Type 0
 IsCut f m = Cut f.seen f.frames f.control.special f.unset f.control.threadptr f.nested f.control.waits m
 
-pub state_cut : (f : FrameState) (m : Masks) → IsCut f m → IsCutState f m
+pub state_cut : (f : FrameState) (m : ValidityBits) → IsCut f m → IsCutState f m
 state_cut f m w = record { seen = w.seen_cut; kept = w.kept; special = w.special_cut; lost = w.lost; threadptr = w.pointer; inner = w.inner }
 
 below : (n : ℕ) → holds_marks n ≡ true → n < 256
 below n h = let between = marks_between n h in ⊎_elim (λ q. omega (arith, q)) (λ q. omega (arith, q)) between
 
-pointer_cut : (i : Insn) (given x t : ℕ) (m : Masks) → cut given x ≡ x → cut m.threadptr t ≡ t → cut (pointer_written i given m).threadptr (pointer_left i x t) ≡ pointer_left i x t
+pointer_cut : (i : Insn) (given x t : ℕ) (m : ValidityBits) → masked given x ≡ x → masked m.threadptr t ≡ t → masked (pointer_written i given m).threadptr (pointer_left i x t) ≡ pointer_left i x t
 unfolding pointer_written pointer_left
 pointer_cut (insn.System (system.Rur UserName.Wur r n)) given x t m p q = p
 pointer_cut _ given x t m p q = q
 
-record SameMasks (m k : Masks) : Type 0 where
+record SameMasks (m k : ValidityBits) : Type 0 where
   seen : k.seen ≡ m.seen
   kept : k.kept ≡ m.kept
   special : k.special ≡ m.special
   inner : k.inner ≡ m.inner
 
-pointer_same : (i : Insn) (given : ℕ) (m : Masks) → SameMasks m (pointer_written i given m)
+pointer_same : (i : Insn) (given : ℕ) (m : ValidityBits) → SameMasks m (pointer_written i given m)
 unfolding pointer_written
 pointer_same (insn.System (system.Rur UserName.Wur r n)) given m = record { seen = refl; kept = refl; special = refl; inner = refl }
 pointer_same _ given m = record { seen = refl; kept = refl; special = refl; inner = refl }
 
-module _ {seen : List (Option ℕ)} {frames : List Frame} {special : List ℕ} {unset : List Bool} {threadptr : ℕ} {nested : Option Nested} {waits : Bool} {m : Masks} (w : Cut seen frames special unset threadptr nested waits m) where
-  pub cut_pointer : (i : Insn) (given x : ℕ) → cut given x ≡ x → Cut seen frames special unset (pointer_left i x threadptr) nested waits (pointer_written i given m)
+module _ {seen : List (Option ℕ)} {frames : List Frame} {special : List ℕ} {unset : List Bool} {threadptr : ℕ} {nested : Option Nested} {waits : Bool} {m : ValidityBits} (w : Cut seen frames special unset threadptr nested waits m) where
+  pub cut_pointer : (i : Insn) (given x : ℕ) → masked given x ≡ x → Cut seen frames special unset (pointer_left i x threadptr) nested waits (pointer_written i given m)
   cut_pointer i given x p =
       let s = pointer_same i given m in
       record {
         seen_cut = subst (λ ys. AreCut seen ys) (sym s.seen) w.seen_cut;
         kept = subst (λ ys. AreKeptCut frames ys) (sym s.kept) w.kept;
-        special_cut = λ n h. subst (λ ys. cut (get_or ys n 0) (get_or special n 0) ≡ get_or special n 0) (sym s.special) (w.special_cut n h);
+        special_cut = λ n h. subst (λ ys. masked (get_or ys n 0) (get_or special n 0) ≡ get_or special n 0) (sym s.special) (w.special_cut n h);
         lost = λ n h e. ap (λ ys. get_or ys n 0) s.special ∙ w.lost n h e;
         pointer = pointer_cut i given x threadptr m p w.pointer;
         inner = subst (λ ys. InnerIsCut nested ys) (sym s.inner) w.inner;
@@ -90,9 +90,9 @@ module _ {seen : List (Option ℕ)} {frames : List Frame} {special : List ℕ} {
   cut_spared ys s t e = record {
     seen_cut = w.seen_cut;
     kept = w.kept;
-    special_cut = λ n h. subst (λ v. cut (get_or m.special n 0) v ≡ v) (sym (s.at n h)) (w.special_cut n h);
+    special_cut = λ n h. subst (λ v. masked (get_or m.special n 0) v ≡ v) (sym (s.at n h)) (w.special_cut n h);
     lost = w.lost;
-    pointer = subst (λ v. cut m.threadptr v ≡ v) (sym e) w.pointer;
+    pointer = subst (λ v. masked m.threadptr v ≡ v) (sym e) w.pointer;
     inner = w.inner;
     count = w.count;
     values = s.size ∙ w.values;
@@ -106,20 +106,20 @@ module _ {seen : List (Option ℕ)} {frames : List Frame} {special : List ℕ} {
   cut_ended awake = record { seen_cut = w.seen_cut; kept = w.kept; special_cut = w.special_cut; lost = w.lost; pointer = w.pointer; inner = tt; count = w.count; values = w.values; holes = w.holes; wide = w.wide; full = w.full; inside = tt }
 
   -- ---- WSR and XSR: of the special registers, the one that is written, or none
-  pub moved_cut : (p : ℕ × ℕ) (given x : ℕ) (sets : SpecialWrites) → cut given x ≡ x → ((n : ℕ) → holds_marks n ≡ true → SetsOne (Some p) n sets) → (holds_marks p.1 ≡ true → sets ≡ (set_to p.1 x, no_set, no_set))
-      → (n : ℕ) → holds_marks n ≡ true → cut (get_or (set m.special p.1 given) n 0) (get_or (with_sets sets special) n 0) ≡ get_or (with_sets sets special) n 0
+  pub moved_cut : (p : ℕ × ℕ) (given x : ℕ) (sets : SpecialWrites) → masked given x ≡ x → ((n : ℕ) → holds_marks n ≡ true → SetsOne (Some p) n sets) → (holds_marks p.1 ≡ true → sets ≡ (set_to p.1 x, no_set, no_set))
+      → (n : ℕ) → holds_marks n ≡ true → masked (get_or (set m.special p.1 given) n 0) (get_or (with_sets sets special) n 0) ≡ get_or (with_sets sets special) n 0
   moved_cut p given x sets c one value n h = ⊎_elim
       (λ same.
       let own : holds_marks p.1 ≡ true = subst (λ k. holds_marks k ≡ true) same h in
       let low : p.1 < 256 = below p.1 own in
       let there : get_or (with_sets sets special) p.1 0 ≡ x = sets_one sets special p.1 x (value own) (let v = w.values in omega (arith, v, low)) in
       let mask : get_or (set m.special p.1 given) p.1 0 ≡ given = get_or-set_same m.special p.1 given 0 (let v = w.count in omega (arith, v, low)) in
-      subst (λ k. cut (get_or (set m.special p.1 given) k 0) (get_or (with_sets sets special) k 0) ≡ get_or (with_sets sets special) k 0) (sym same)
-      ((λ i. cut (mask i) (there i)) ∙ (c ∙ sym there)))
+      subst (λ k. masked (get_or (set m.special p.1 given) k 0) (get_or (with_sets sets special) k 0) ≡ get_or (with_sets sets special) k 0) (sym same)
+      ((λ i. masked (mask i) (there i)) ∙ (c ∙ sym there)))
       (λ other.
       let v : get_or (with_sets sets special) n 0 ≡ get_or special n 0 = sets_spare sets special n ((one n h).1 (λ e. other (sym e))) in
       let mask : get_or (set m.special p.1 given) n 0 ≡ get_or m.special n 0 = get_or-set_other m.special p.1 n given 0 other in
-      (λ i. cut (mask i) (v i)) ∙ (w.special_cut n h ∙ sym v))
+      (λ i. masked (mask i) (v i)) ∙ (w.special_cut n h ∙ sym v))
       (cases_eq n p.1)
 
   pub moved_lost : (p : ℕ × ℕ) (given : ℕ) (b : Bool) → (holds_marks p.1 ≡ true → b ≡ true → given ≡ 0)
@@ -131,7 +131,7 @@ seen_length : (o : Option RegWrite) (seen : List (Option ℕ)) → length (seen_
 seen_length None seen = refl
 seen_length (Some w) seen = length-set seen w.reg (Some w.value)
 
-module _ {seen : List (Option ℕ)} {frames : List Frame} {special : List ℕ} {unset : List Bool} {threadptr : ℕ} {waits : Bool} {m : Masks} (w : Cut seen frames special unset threadptr None waits m) where
+module _ {seen : List (Option ℕ)} {frames : List Frame} {special : List ℕ} {unset : List Bool} {threadptr : ℕ} {waits : Bool} {m : ValidityBits} (w : Cut seen frames special unset threadptr None waits m) where
   pub cut_register : (o : Option RegWrite) (mask : ℕ) → Cut (cut_seen mask o (seen_after_write o seen)) frames special unset threadptr None waits (visible_written false o mask m)
   cut_register None mask = w
   cut_register (Some r) mask =
@@ -152,7 +152,7 @@ module _ {seen : List (Option ℕ)} {frames : List Frame} {special : List ℕ} {
         inside = tt;
       }
 
-  pub cut_special : (o : Option (ℕ × ℕ)) (given x : ℕ) (sets : SpecialWrites) → cut given x ≡ x → ((n : ℕ) → holds_marks n ≡ true → SetsOne o n sets) → ((p : ℕ × ℕ) → o ≡ Some p → holds_marks p.1 ≡ true → sets ≡ (set_to p.1 x, no_set, no_set))
+  pub cut_special : (o : Option (ℕ × ℕ)) (given x : ℕ) (sets : SpecialWrites) → masked given x ≡ x → ((n : ℕ) → holds_marks n ≡ true → SetsOne o n sets) → ((p : ℕ × ℕ) → o ≡ Some p → holds_marks p.1 ≡ true → sets ≡ (set_to p.1 x, no_set, no_set))
       → Cut seen frames (with_sets sets special) (unset_by o [] unset) threadptr None waits (special_written o given m)
   cut_special None given x sets c one value = cut_spared w (with_sets sets special) (record { at = λ n h. sets_spare sets special n (one n h); size = sets_size sets special }) threadptr refl
   cut_special (Some p) given x sets c one value = record {
@@ -173,7 +173,7 @@ module _ {seen : List (Option ℕ)} {frames : List Frame} {special : List ℕ} {
   pub cut_unset : (other : List Bool) → length other ≡ 256 → ((n : ℕ) → holds_marks n ≡ true → get_or other n false ≡ get_or unset n false) → Cut seen frames special other threadptr None waits m
   cut_unset other l h = record { seen_cut = w.seen_cut; kept = w.kept; special_cut = w.special_cut; lost = λ n is e. w.lost n is (sym (h n is) ∙ e); pointer = w.pointer; inner = tt; count = w.count; values = w.values; holes = l; wide = w.wide; full = w.full; inside = tt }
 
-  pub cut_called : (n : ℕ) → Cut (seen_after_call seen n) (record { by = n; kept = take (4 * n) seen } ∷ frames) special unset threadptr None waits (called n m)
+  pub cut_called : (n : ℕ) → Cut (seen_after_call seen n) (record { by = n; kept = take (4 * n) seen } ∷ frames) special unset threadptr None waits (bits_after_call n m)
   cut_called n =
       let wide = w.wide in
       let d = length-drop (4 * n) seen in
@@ -195,8 +195,8 @@ module _ {seen : List (Option ℕ)} {frames : List Frame} {special : List ℕ} {
         inside = tt;
       }
 
-back_cut : {seen : List (Option ℕ)} {g : Frame} {frames : List Frame} {special : List ℕ} {unset : List Bool} {threadptr : ℕ} {waits : Bool} {m : Masks} → Cut seen (g ∷ frames) special unset threadptr None waits m → (kept : List (List ℕ)) → AreKeptCut (g ∷ frames) kept
-    → Cut (seen_after_return g.kept seen g.by) frames special unset threadptr None waits (returned kept m)
+back_cut : {seen : List (Option ℕ)} {g : Frame} {frames : List Frame} {special : List ℕ} {unset : List Bool} {threadptr : ℕ} {waits : Bool} {m : ValidityBits} → Cut seen (g ∷ frames) special unset threadptr None waits m → (kept : List (List ℕ)) → AreKeptCut (g ∷ frames) kept
+    → Cut (seen_after_return g.kept seen g.by) frames special unset threadptr None waits (bits_after_return kept m)
 back_cut w [] h = absurd h
 back_cut {seen} {g} {frames} {special} {unset} {threadptr} {waits} {m} w (k ∷ rest) h =
     let same : 16 - length k ≡ 16 - 4 * g.by = ap (λ n. 16 - n) (sym (cut_length g.kept k h.0)) ∙ w.full.0 in
@@ -219,12 +219,12 @@ back_cut {seen} {g} {frames} {special} {unset} {threadptr} {waits} {m} w (k ∷ 
       inside = tt;
     }
 
-pub cut_returned : {seen : List (Option ℕ)} {g : Frame} {frames : List Frame} {special : List ℕ} {unset : List Bool} {threadptr : ℕ} {waits : Bool} {m : Masks} → Cut seen (g ∷ frames) special unset threadptr None waits m
-    → Cut (seen_after_return g.kept seen g.by) frames special unset threadptr None waits (returned m.kept m)
+pub cut_returned : {seen : List (Option ℕ)} {g : Frame} {frames : List Frame} {special : List ℕ} {unset : List Bool} {threadptr : ℕ} {waits : Bool} {m : ValidityBits} → Cut seen (g ∷ frames) special unset threadptr None waits m
+    → Cut (seen_after_return g.kept seen g.by) frames special unset threadptr None waits (bits_after_return m.kept m)
 cut_returned {m = m} w = back_cut w m.kept w.kept
 
 -- ---- a nested interrupt begins
-pub cut_begun : {seen : List (Option ℕ)} {frames : List Frame} {special : List ℕ} {unset : List Bool} {threadptr : ℕ} {waits : Bool} {m : Masks} → Cut seen frames special unset threadptr None waits m → (pc : ℕ) (ps : Ps) → ps.excm ≡ true → ps.intlevel ≡ 5
+pub cut_begun : {seen : List (Option ℕ)} {frames : List Frame} {special : List ℕ} {unset : List Bool} {threadptr : ℕ} {waits : Bool} {m : ValidityBits} → Cut seen frames special unset threadptr None waits m → (pc : ℕ) (ps : Ps) → ps.excm ≡ true → ps.intlevel ≡ 5
     → Cut seen frames special (set (set unset 181 true) 197 true) threadptr (Some (begun_inner pc ps)) false (inner_unknown m)
 cut_begun {seen} {frames} {special} {unset} {threadptr} {waits} {m} w pc ps excm level = record {
   seen_cut = w.seen_cut;

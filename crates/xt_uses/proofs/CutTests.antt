@@ -4,10 +4,10 @@ use Rattle.std.proofs.lemmas.Bool.{cond-false, or_from}
 use Rattle.xt_isa.specs.declared.Insn.{Insn}
 use Rattle.xt_special.specs.Interrupts.{pending_of}
 use Rattle.xt_trace.specs.declared.record.StepRecord.{StepRecord}
-use Rattle.xt_fetch.specs.Fetching.{fetched}
+use Rattle.xt_fetch.specs.Fetching.{fetch_at}
 use Rattle.xt_rows.specs.Kinds.{is_windowing, names_window_register}
 use Rattle.xt_frames.specs.Frames.{FrameState}
-use Rattle.xt_frames.specs.FrameStep.{FrameTurn, fetched_step, laid_step}
+use Rattle.xt_frames.specs.FrameStep.{FrameTurn, fetched_step, step_with_inputs}
 use Rattle.xt_frames.specs.Breaches.{Bounds, breaks_nested, first_shown, insn_tests}
 use Rattle.xt_frames.proofs.Shown.{NoneShown, none_shown}
 use Rattle.xt_frames.proofs.StackSteps.{step_fetches}
@@ -26,14 +26,14 @@ unused b fresh live rec g u i unset swap movsp (reads, (written, (size, (low, (a
     record { known = reads; windowing = windowing; window_register = window_register; movsp_quiet = moves; nested = nested }
 
 use_fetches : (code : ℕ → ℕ) (b : Bounds) (fresh : Bool) (live : ℕ → Bool) (bytes : ℕ → ℕ) (rec : StepRecord) (s : UseState) (g : FrameState) → ltb 0 (pending_of g.control) ≡ false → g.control.waits ≡ false
-    → laid_use b fresh code live bytes rec s g ≡ first_shown (fetched_uses b fresh live bytes (fetched code g.control.pc) rec s g (laid_step code rec.reply g))
+    → laid_use b fresh code live bytes rec s g ≡ first_shown (fetched_uses b fresh live bytes (fetch_at code g.control.pc) rec s g (step_with_inputs code rec.reply g))
 unfolding laid_use
 use_fetches code b fresh live bytes rec s g quiet runs = cond-false (ltb 0 (pending_of g.control) || g.control.waits) _ _ (or_from (ltb 0 (pending_of g.control)) g.control.waits quiet runs)
 
 pub uses_shown : (code : ℕ → ℕ) (b : Bounds) (fresh : Bool) (live : ℕ → Bool) (bytes : ℕ → ℕ) (rec : StepRecord) (s : UseState) (g : FrameState) → ltb 0 (pending_of g.control) ≡ false → g.control.waits ≡ false → laid_use b fresh code live bytes rec s g ≡ None
-    → NoneShown (fetched_uses b fresh live bytes (fetched code g.control.pc) rec s g (fetched_step (fetched code g.control.pc) code rec.reply g))
+    → NoneShown (fetched_uses b fresh live bytes (fetch_at code g.control.pc) rec s g (fetched_step (fetch_at code g.control.pc) code rec.reply g))
 uses_shown code b fresh live bytes rec s g quiet runs none =
     let u = step_fetches code rec.reply g quiet runs in
-    let h0 : first_shown (fetched_uses b fresh live bytes (fetched code g.control.pc) rec s g (laid_step code rec.reply g)) ≡ None = sym (use_fetches code b fresh live bytes rec s g quiet runs) ∙ none in
-    none_shown (fetched_uses b fresh live bytes (fetched code g.control.pc) rec s g (fetched_step (fetched code g.control.pc) code rec.reply g))
-    (subst (λ v. first_shown (fetched_uses b fresh live bytes (fetched code g.control.pc) rec s g v) ≡ None) u h0)
+    let h0 : first_shown (fetched_uses b fresh live bytes (fetch_at code g.control.pc) rec s g (step_with_inputs code rec.reply g)) ≡ None = sym (use_fetches code b fresh live bytes rec s g quiet runs) ∙ none in
+    none_shown (fetched_uses b fresh live bytes (fetch_at code g.control.pc) rec s g (fetched_step (fetch_at code g.control.pc) code rec.reply g))
+    (subst (λ v. first_shown (fetched_uses b fresh live bytes (fetch_at code g.control.pc) rec s g v) ≡ None) u h0)

@@ -4,16 +4,16 @@ use Rattle.std.proofs.lemmas.Bool.{and_right}
 use Rattle.xt_special.specs.Control.{Control}
 use Rattle.xt_special.specs.Interrupts.{after_interrupt}
 use Rattle.xt_trace.specs.declared.record.StepRecord.{StepRecord}
-use Rattle.xt_fetch.specs.Fetching.{Fetched, fetched}
+use Rattle.xt_fetch.specs.Fetching.{Fetched, fetch_at}
 use Rattle.xt_frames.specs.declared.holes.Nested.{Nested}
 use Rattle.xt_frames.specs.declared.kinds.BreachKind.{BreachKind}
 use Rattle.xt_frames.specs.Frames.{Frame, FrameState}
-use Rattle.xt_frames.specs.FrameStep.{Inputs, laid}
+use Rattle.xt_frames.specs.FrameStep.{Inputs, with_inputs}
 use Rattle.xt_frames.specs.Nesting.{begins, current, is_nesting}
 use Rattle.xt_frames.specs.Breaches.{Bounds, inputs_of}
 use Rattle.xt_frames.specs.Judging.{value_in}
-use Rattle.xt_uses.specs.UseState.{Masks, UseState}
-use Rattle.xt_uses.specs.UseStep.{UseTurn, executed, full_step, inner_unknown, other_turn, reply_mask, use_step, use_turn, value_step}
+use Rattle.xt_uses.specs.UseState.{ValidityBits, UseState}
+use Rattle.xt_uses.specs.UseStep.{UseTurn, step_insn, full_step, inner_unknown, other_turn, reply_mask, use_step, use_turn, value_step}
 use Rattle.xt_uses.specs.UseBreaches.{laid_use, use_breach}
 use Rattle.xt_uses.proofs.CutControl.{keeps_interrupt, keeps_tick, spared_same, spared_set}
 use Rattle.xt_uses.proofs.CutInner.{inner_cut}
@@ -21,7 +21,7 @@ use Rattle.xt_uses.proofs.CutPlain.{plain_cut}
 use Rattle.xt_uses.proofs.CutStates.{IsCut, cut_begun, cut_results, cut_spared}
 use Rattle.xt_uses.proofs.Returning.{left_holds}
 
-module _ (code : ℕ → ℕ) (b : Bounds) (fresh : Bool) (live : ℕ → Bool) (nested : Bool) (rec : StepRecord) (bytes : ℕ → ℕ) (m : Masks) where
+module _ (code : ℕ → ℕ) (b : Bounds) (fresh : Bool) (live : ℕ → Bool) (nested : Bool) (rec : StepRecord) (bytes : ℕ → ℕ) (m : ValidityBits) where
   abbrev inp : Inputs
   inp = inputs_of rec
 
@@ -29,7 +29,7 @@ module _ (code : ℕ → ℕ) (b : Bounds) (fresh : Bool) (live : ℕ → Bool) 
   value = value_in rec.write
 
   abbrev at : FrameState → Fetched
-  at f = fetched code (laid inp (current f)).control.pc
+  at f = fetch_at code (with_inputs inp (current f)).control.pc
 
   abbrev used : FrameState → Bool → UseTurn
   used f starts =
@@ -37,10 +37,10 @@ module _ (code : ℕ → ℕ) (b : Bounds) (fresh : Bool) (live : ℕ → Bool) 
       let u = value_step code false value inp f in
       cond starts
       (other_turn (inner_unknown m) (value_step code true value inp f))
-      (use_turn (executed u.kind (at f)) (reply_mask bytes rec.access) s (laid inp (current f)) u)
+      (use_turn (step_insn u.kind (at f)) (reply_mask bytes rec.access) s (with_inputs inp (current f)) u)
 
   abbrev shown : FrameState → Bool → Option BreachKind
-  shown f starts = cond {A = Option BreachKind} starts None (laid_use b fresh code live bytes rec (record { frame = f; masks = m }) (laid inp (current f)))
+  shown f starts = cond {A = Option BreachKind} starts None (laid_use b fresh code live bytes rec (record { frame = f; masks = m }) (with_inputs inp (current f)))
 
   abbrev Keeps_cut : FrameState → Bool → Type 0
   Keeps_cut f starts = shown f starts ≡ None → IsCut (used f starts).after.frame (used f starts).after.masks
@@ -52,7 +52,7 @@ module _ (code : ℕ → ℕ) (b : Bounds) (fresh : Bool) (live : ℕ → Bool) 
     starts : IsCut plain m → Keeps_cut plain true
     unfolding value_step after_interrupt
     starts w none =
-        let g : FrameState = laid inp plain in
+        let g : FrameState = with_inputs inp plain in
         let k = keeps_tick g.control (after_interrupt 5 g.control) (keeps_interrupt 5 g.control (omega arith)) in
         let laid_cut = cut_spared w g.control.special (spared_set control.special _ 226 inp.interrupt refl (spared_set control.special control.special 234 inp.ccount refl (spared_same control.special))) control.threadptr refl in
         cut_begun (cut_spared laid_cut _ k.special _ k.threadptr) _ _ refl refl
@@ -95,4 +95,4 @@ module _ (code : ℕ → ℕ) (b : Bounds) (fresh : Bool) (live : ℕ → Bool) 
       let s : UseState = record { frame = f; masks = m } in
       let u = (full_step code nested rec bytes s).after in
       let c = cut_full f w none in
-      left_holds (λ t. IsCut t.frame t.masks) (executed (full_step code nested rec bytes s).turn.kind (at f)) s u c (cut_results f.frames u c)
+      left_holds (λ t. IsCut t.frame t.masks) (step_insn (full_step code nested rec bytes s).turn.kind (at f)) s u c (cut_results f.frames u c)

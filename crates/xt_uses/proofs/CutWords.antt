@@ -9,7 +9,7 @@ use Rattle.xt_isa.specs.declared.Insn.TheVariants as insn
 use Rattle.xt_isa.specs.declared.three.Three.TheVariants as three
 use Rattle.xt_isa.specs.declared.shift.Shift.TheVariants as shift
 use Rattle.xt_isa.specs.Ranges.{in_range}
-use Rattle.xt_isa.specs.Spelling.{spelled, fields_at, length_of}
+use Rattle.xt_isa.specs.Spelling.{spelled_insn, fields_at, length_of}
 use Rattle.xt_isa.proofs.Ranged.{spelled_at_in_range}
 use Rattle.xt_map.specs.Regions.{region_of, is_executable}
 use Rattle.xt_special.specs.declared.ps.Ps.{Ps}
@@ -19,30 +19,30 @@ use Rattle.xt_special.specs.Shape.{IsPs}
 use Rattle.xt_trace.specs.declared.record.RegWrite.{RegWrite}
 use Rattle.xt_trace.specs.declared.record.StepRecord.{StepRecord}
 use Rattle.xt_fetch.specs.Code.{AreBytes}
-use Rattle.xt_fetch.specs.Fetching.{Fetched, Fetches, Fails, SpellsNothing, can_fetch, fetched, fetched_length, fetched_past, read_as, unfetchable}
-use Rattle.xt_rows.specs.declared.outcome.Awaited.{Awaited}
+use Rattle.xt_fetch.specs.Fetching.{Fetched, Fetches, Fails, SpellsNothing, can_fetch, fetch_at, fetched_length, fetched_past, read_as, unfetchable}
+use Rattle.xt_rows.specs.declared.outcome.ReplyTarget.{ReplyTarget}
 use Rattle.xt_rows.specs.declared.outcome.Flow.TheVariants.{Falls}
 use Rattle.xt_rows.specs.declared.outcome.Outcome.{Outcome}
 use Rattle.xt_rows.specs.declared.outcome.Outcome.TheVariants.{Does, Raises, Asks, Stops, Windowed}
 use Rattle.xt_rows.specs.declared.outcome.WindowStep.{WindowStep}
 use Rattle.xt_rows.specs.declared.outcome.WindowStep.TheVariants.{Enters, Returns}
 use Rattle.xt_rows.specs.Effects.{fetch_error, illegal_instruction}
-use Rattle.xt_rows.specs.Laws.{IsProper, IsProperAddress, IsProperStep, IsProperWrite, IsShiftAmount, IsWord}
+use Rattle.xt_rows.specs.RowLaws.{IsProper, IsProperAddress, IsProperStep, IsProperWrite, IsShiftAmount, IsWord}
 use Rattle.xt_rows.specs.Operands.{reads, special_reads}
 use Rattle.xt_rows.specs.Outcomes.{outcome_at, value_of}
-use Rattle.xt_rows.specs.Settling.{Settled, return_pc, settled, settled_exception, settled_interrupt, settled_wait, written}
+use Rattle.xt_rows.specs.Settling.{Settled, return_pc, after_outcome, settled_exception, settled_interrupt, settled_wait, write_with_reply}
 use Rattle.xt_rows.proofs.Bounds.{extended_small}
 use Rattle.xt_rows.proofs.Proper.{outcome_words}
 use Rattle.xt_special.specs.Opening.{opening_control, prid_of}
 use Rattle.xt_exec.specs.State.{opening_state}
-use Rattle.xt_exec.specs.Laws.{IsShapedControl}
+use Rattle.xt_exec.specs.TurnLaws.{IsShapedControl}
 use Rattle.xt_exec.proofs.Shapes.{opening_shaped}
 use Rattle.xt_exec.proofs.Specials.{IsShapedSpecial, effect_shaped, exception_shaped, flow_shaped, interrupt_shaped, level_small, set_shaped, ticked_shaped}
 use Rattle.xt_frames.specs.declared.holes.Nested.{Nested}
-use Rattle.xt_frames.specs.Frames.{Frame, FrameState, known, opening_seen, seen_after_write}
-use Rattle.xt_frames.specs.FrameStep.{FrameTurn, Inputs, done_in_frame, fetched_step, in_frame, laid, laid_step, popped, popped_from, pushed, raised, windowed_in_frame}
+use Rattle.xt_frames.specs.Frames.{Frame, FrameState, value_or_zero, opening_seen, seen_after_write}
+use Rattle.xt_frames.specs.FrameStep.{FrameTurn, Inputs, done_in_frame, fetched_step, in_frame, with_inputs, step_with_inputs, return_in_frame, return_to_frame, entry_in_frame, exception_in_frame, windowed_in_frame}
 use Rattle.xt_frames.specs.Marks.{mark_read, marked_seen, marked_write}
-use Rattle.xt_frames.specs.Nesting.{begins, begun, ends_nested, inside, nested_fetched, nested_insn, turn_in}
+use Rattle.xt_frames.specs.Nesting.{begins, nested_entry, ends_nested, nested_view, nested_fetched, nested_insn, turn_in}
 use Rattle.xt_frames.specs.Breaches.{inputs_of}
 use Rattle.xt_frames.specs.Judging.{step_on, value_in}
 use Rattle.xt_frames.proofs.StackSteps.{turn_if}
@@ -77,7 +77,7 @@ words_append (x ∷ xs) ys v w (suc i) n e = words_append xs ys (λ j. v (suc j)
 words_none : (k : ℕ) → AreWords (replicate k None)
 words_none k i n e = absurd (none-some n (sym (replicated {A = Option ℕ} k i None) ∙ e))
 
-known_word : (xs : List (Option ℕ)) (i : ℕ) → AreWords xs → IsWord (known xs i)
+known_word : (xs : List (Option ℕ)) (i : ℕ) → AreWords xs → IsWord (value_or_zero xs i)
 known_word xs i w = by (get_or xs i None) refl
   where
     by : (o : Option ℕ) → get_or xs i None ≡ o → IsWord (unwrap_or o 0)
@@ -113,7 +113,7 @@ pub record AreInputs (inp : Inputs) : Type 0 where
 special_of_control : (c : Control) → IsShapedControl c → IsShapedSpecial c.special
 special_of_control c f = record { count = f.count; words = f.words; shape = f.shape }
 
-laid_shaped : (inp : Inputs) (f : FrameState) → AreInputs inp → IsShapedFrame f → IsShapedFrame (laid inp f)
+laid_shaped : (inp : Inputs) (f : FrameState) → AreInputs inp → IsShapedFrame f → IsShapedFrame (with_inputs inp f)
 laid_shaped inp f a k =
     let c = k.control in
     let special : IsShapedSpecial (slice_set (slice_set f.control.special 234 inp.ccount) 226 inp.interrupt) =
@@ -137,7 +137,7 @@ laid_shaped inp f a k =
 placed : (c : Control) (pc : ℕ) (ps : Ps) → IsShapedControl c → IsWord pc → IsPs ps → IsShapedControl (record c { pc = pc; ps = ps })
 placed c pc ps f p q = record { pc = p; count = f.count; words = f.words; shape = f.shape; ps = q; threadptr = f.threadptr }
 
-inside_shaped : (x : Nested) (f : FrameState) → IsShapedFrame f → IsShapedInner x → IsShapedFrame (inside x f)
+inside_shaped : (x : Nested) (f : FrameState) → IsShapedFrame f → IsShapedInner x → IsShapedFrame (nested_view x f)
 inside_shaped x f k i = record { control = placed f.control x.pc x.ps k.control i.pc i.ps; seen = i.seen; kept = k.kept; nested = k.nested }
 
 -- ---- a register that is written
@@ -145,7 +145,7 @@ abbrev pub IsWordWrite : Option RegWrite → Type 0
 IsWordWrite None = Unit {0}
 IsWordWrite (Some w) = IsWord w.value
 
-word_write : (write : Option RegWrite) (awaited : Option Awaited) (reply : ℕ) → IsProperWrite (λ n. IsWord n) write → IsWord reply → IsWordWrite (written write awaited reply)
+word_write : (write : Option RegWrite) (awaited : Option ReplyTarget) (reply : ℕ) → IsProperWrite (λ n. IsWord n) write → IsWord reply → IsWordWrite (write_with_reply write awaited reply)
 word_write None None reply p q = tt
 word_write (Some w) None reply p q = p.1
 word_write write (Some a) reply p q = extended_small a.signed reply q
@@ -157,15 +157,15 @@ write_words (Some r) seen p w = words_set seen r.reg (Some r.value) w (λ n e. s
 abbrev LeavesShape : FrameTurn → Type 0
 LeavesShape u = IsShapedFrame u.after × IsWordWrite u.write
 
-settles : (t : Settled) (reply : ℕ) (f : FrameState) → IsShapedFrame f → IsShapedControl t.control → IsWordWrite (written t.write t.awaited reply) → LeavesShape (in_frame t reply f)
-settles t reply f k c w = (record { control = c; seen = write_words (written t.write t.awaited reply) f.seen w k.seen; kept = k.kept; nested = k.nested }, w)
+settles : (t : Settled) (reply : ℕ) (f : FrameState) → IsShapedFrame f → IsShapedControl t.control → IsWordWrite (write_with_reply t.write t.awaited reply) → LeavesShape (in_frame t reply f)
+settles t reply f k c w = (record { control = c; seen = write_words (write_with_reply t.write t.awaited reply) f.seen w k.seen; kept = k.kept; nested = k.nested }, w)
 
-raises : (cause : ℕ) (address : Option ℕ) (f : FrameState) → cause < 64 → IsProperAddress address → IsShapedFrame f → LeavesShape (raised cause address f)
+raises : (cause : ℕ) (address : Option ℕ) (f : FrameState) → cause < 64 → IsProperAddress address → IsShapedFrame f → LeavesShape (exception_in_frame cause address f)
 raises cause address f p a k = settles (settled_exception cause address f.control) 0 f k (ticked_shaped _ (exception_shaped cause address f.control p a k.control)) tt
 
 -- ---- calls and returns
-pushes : (number value len : ℕ) (f : FrameState) → IsWord value → IsShapedFrame f → LeavesShape (pushed number value len f)
-unfolding pushed
+pushes : (number value len : ℕ) (f : FrameState) → IsWord value → IsShapedFrame f → LeavesShape (entry_in_frame number value len f)
+unfolding entry_in_frame
 pushes number value len f p k =
     let n = f.control.ps.callinc in (
       record {
@@ -179,7 +179,7 @@ pushes number value len f p k =
       p,
     )
 
-pops : (frames : List Frame) (a0 : ℕ) (f : FrameState) → KeepWords frames → IsShapedFrame f → LeavesShape (popped_from frames a0 f)
+pops : (frames : List Frame) (a0 : ℕ) (f : FrameState) → KeepWords frames → IsShapedFrame f → LeavesShape (return_to_frame frames a0 f)
 pops [] a0 f h k = raises illegal_instruction None f (omega arith) tt k
 pops (g ∷ rest) a0 f h k =
     let c = k.control in
@@ -194,16 +194,16 @@ pops (g ∷ rest) a0 f h k =
     )
 
 windows : (step : WindowStep) (len reply : ℕ) (f : FrameState) → IsProperStep step → IsShapedFrame f → LeavesShape (windowed_in_frame step len reply f)
-unfolding popped
+unfolding return_in_frame
 windows (Enters number value) len reply f p k = turn_if LeavesShape f.control.ps.excm _ _ (raises illegal_instruction None f (omega arith) tt k) (pushes number value len f p.1 k)
 windows (Returns a0) len reply f p k = turn_if LeavesShape f.control.ps.excm _ _ (raises illegal_instruction None f (omega arith) tt k) (pops f.frames a0 f k.kept k)
-windows step len reply f p k = settles (settled (Windowed step) len f.control) reply f k (ticked_shaped f.control k.control) tt
+windows step len reply f p k = settles (after_outcome (Windowed step) len f.control) reply f k (ticked_shaped f.control k.control) tt
 
 done : (o : Outcome) (len reply : ℕ) (f : FrameState) → IsProper (λ n. IsWord n) o → IsWord reply → IsShapedFrame f → LeavesShape (done_in_frame o len reply f)
-done (Does e) len reply f p q k = settles (settled (Does e) len f.control) reply f k (ticked_shaped _ (effect_shaped e len f.control p k.control)) (word_write e.write None reply p.write q)
+done (Does e) len reply f p q k = settles (after_outcome (Does e) len f.control) reply f k (ticked_shaped _ (effect_shaped e len f.control p k.control)) (word_write e.write None reply p.write q)
 done (Raises cause address) len reply f p q k = settles (settled_exception cause address f.control) reply f k (ticked_shaped _ (exception_shaped cause address f.control p.0 p.1 k.control)) tt
-done (Asks access awaited e) len reply f p q k = settles (settled (Asks access awaited e) len f.control) reply f k (ticked_shaped _ (effect_shaped e len f.control p.2 k.control)) (word_write None awaited reply tt q)
-done Stops len reply f p q k = settles (settled Stops len f.control) reply f k (ticked_shaped f.control k.control) tt
+done (Asks access awaited e) len reply f p q k = settles (after_outcome (Asks access awaited e) len f.control) reply f k (ticked_shaped _ (effect_shaped e len f.control p.2 k.control)) (word_write None awaited reply tt q)
+done Stops len reply f p q k = settles (after_outcome Stops len f.control) reply f k (ticked_shaped f.control k.control) tt
 done (Windowed step) len reply f p q k = windows step len reply f p k
 
 -- ---- what is fetched
@@ -243,16 +243,16 @@ IsGood (Fetches i len) = in_range i ≡ true
 IsGood (Fails address) = IsWord address
 IsGood SpellsNothing = Unit {0}
 
-fetched_good : (code : ℕ → ℕ) (pc : ℕ) → AreBytes code → IsWord pc → IsGood (fetched code pc)
-unfolding fetched IsGood
+fetched_good : (code : ℕ → ℕ) (pc : ℕ) → AreBytes code → IsWord pc → IsGood (fetch_at code pc)
+unfolding fetch_at IsGood
 fetched_good code pc bytes p = by_test (unfetchable pc (fetched_length code pc)) refl
   where
-    read : (x : Option Insn) → x ≡ spelled (fields_at (code pc) (code (pc + 1)) (code (pc + 2))) → IsGood (read_as x (length_of (code pc)))
+    read : (x : Option Insn) → x ≡ spelled_insn (fields_at (code pc) (code (pc + 1)) (code (pc + 2))) → IsGood (read_as x (length_of (code pc)))
     read None e = tt
     read (Some i) e = spelled_at_in_range (code pc) (code (pc + 1)) (code (pc + 2)) i (bytes pc) (bytes (pc + 1)) (bytes (pc + 2)) e
 
     by_test : (o : Option ℕ) → unfetchable pc (fetched_length code pc) ≡ o → IsGood (fetched_past o code pc)
-    by_test None e = read (spelled (fields_at (code pc) (code (pc + 1)) (code (pc + 2)))) refl
+    by_test None e = read (spelled_insn (fields_at (code pc) (code (pc + 1)) (code (pc + 2)))) refl
     by_test (Some a) e = unfetchable_word pc (fetched_length code pc) a p e
 
 fetches : (at : Fetched) (code : ℕ → ℕ) (reply : ℕ) (f : FrameState) → AreBytes code → IsGood at → IsWord reply → IsShapedFrame f → LeavesShape (fetched_step at code reply f)
@@ -261,13 +261,13 @@ fetches (Fails address) code reply f bytes good q k = raises fetch_error (Some a
 fetches SpellsNothing code reply f bytes good q k = raises illegal_instruction None f (omega arith) tt k
 fetches (Fetches i len) code reply f bytes good q k =
     let c = k.control in
-    done (outcome_at code i (known f.seen) f.control) len reply f
+    done (outcome_at code i (value_or_zero f.seen) f.control) len reply f
     (outcome_words code i f.control.pc _ _ _ _ f.control.ps f.control.threadptr bytes
     (record {
       range = good;
       pc_word = c.pc;
-      x_word = value_word (known f.seen) (reads i).0 (λ j. known_word f.seen j k.seen);
-      y_word = value_word (known f.seen) (reads i).1 (λ j. known_word f.seen j k.seen);
+      x_word = value_word (value_or_zero f.seen) (reads i).0 (λ j. known_word f.seen j k.seen);
+      y_word = value_word (value_or_zero f.seen) (reads i).1 (λ j. known_word f.seen j k.seen);
       u_word = value_word (special_of f.control) (special_reads i).0 c.words;
       v_word = value_word (special_of f.control) (special_reads i).1 c.words;
       sar = amount i (special_of f.control) c.shape.sar_fits;
@@ -276,17 +276,17 @@ fetches (Fetches i len) code reply f bytes good q k =
     }))
     q k
 
-laid_leaves : (code : ℕ → ℕ) (reply : ℕ) (f : FrameState) → AreBytes code → IsWord reply → IsShapedFrame f → LeavesShape (laid_step code reply f)
-unfolding laid_step
+laid_leaves : (code : ℕ → ℕ) (reply : ℕ) (f : FrameState) → AreBytes code → IsWord reply → IsShapedFrame f → LeavesShape (step_with_inputs code reply f)
+unfolding step_with_inputs
 laid_leaves code reply f bytes q k =
     turn_if LeavesShape (ltb 0 (pending_of f.control)) _ _
     (settles (settled_interrupt (pending_of f.control) f.control) reply f k (ticked_shaped _ (interrupt_shaped (pending_of f.control) f.control (level_small _ _ _) k.control)) tt)
     (turn_if LeavesShape f.control.waits _ _
     (settles (settled_wait f.control) reply f k (ticked_shaped f.control k.control) tt)
-    (fetches (fetched code f.control.pc) code reply f bytes (fetched_good code f.control.pc bytes k.control.pc) q k))
+    (fetches (fetch_at code f.control.pc) code reply f bytes (fetched_good code f.control.pc bytes k.control.pc) q k))
 
 -- ---- nested interrupts
-begins_leaves : (f : FrameState) → IsShapedFrame f → LeavesShape (begun f)
+begins_leaves : (f : FrameState) → IsShapedFrame f → LeavesShape (nested_entry f)
 begins_leaves f k =
     let c = ticked_shaped _ (interrupt_shaped 5 f.control (omega arith) k.control) in (
       record {
@@ -332,17 +332,17 @@ module _ (x : Nested) (f : FrameState) (k : IsShapedFrame f) (u : FrameTurn) (h 
 module _ (code : ℕ → ℕ) (bytes : AreBytes code) (inp : Inputs) (a : AreInputs inp) (f : FrameState) (k : IsShapedFrame f) where
   turn_leaves : (n : Option Nested) → f.nested ≡ n → (value : ℕ) → LeavesWords value (turn_in n code value inp f)
   turn_leaves None e value =
-      let h = laid_leaves code inp.reply (laid inp f) bytes a.reply (laid_shaped inp f a k) in
+      let h = laid_leaves code inp.reply (with_inputs inp f) bytes a.reply (laid_shaped inp f a k) in
       (record { control = h.0.control; seen = h.0.seen; kept = h.0.kept; nested = h.0.nested }, λ v. h.1)
   turn_leaves (Some x) e value =
       let inner : IsShapedInner x = subst IsShapedNested e k.nested in
-      let h = laid_leaves code inp.reply (laid inp (inside x f)) bytes a.reply (laid_shaped inp (inside x f) a (inside_shaped x f k inner)) in
-      nested_leaves x f k (laid_step code inp.reply (laid inp (inside x f))) h (fetched code (laid inp (inside x f)).control.pc) value
+      let h = laid_leaves code inp.reply (with_inputs inp (nested_view x f)) bytes a.reply (laid_shaped inp (nested_view x f) a (inside_shaped x f k inner)) in
+      nested_leaves x f k (step_with_inputs code inp.reply (with_inputs inp (nested_view x f))) h (fetch_at code (with_inputs inp (nested_view x f)).control.pc) value
 
 pub step_leaves : (code : ℕ → ℕ) (nested : Bool) (rec : StepRecord) (f : FrameState) → AreBytes code → AreInputs (inputs_of rec) → IsShapedFrame f
     → IsShapedFrame (step_on code nested rec f).after × (IsWord (value_in rec.write) → IsWordWrite (step_on code nested rec f).write)
 step_leaves code nested rec f bytes a k = turn_if (LeavesWords (value_in rec.write)) (begins nested rec.kind f) _ _
-    (let b = begins_leaves (laid (inputs_of rec) f) (laid_shaped (inputs_of rec) f a k) in (b.0, λ v. b.1))
+    (let b = begins_leaves (with_inputs (inputs_of rec) f) (laid_shaped (inputs_of rec) f a k) in (b.0, λ v. b.1))
     (turn_leaves code bytes (inputs_of rec) a f k f.nested refl (value_in rec.write))
 
 pub inputs_words : (rec : StepRecord) → IsWord rec.ccount × IsWord rec.interrupt × IsWord rec.reply → AreInputs (inputs_of rec)

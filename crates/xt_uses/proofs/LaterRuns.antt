@@ -13,7 +13,7 @@ use Rattle.xt_map.proofs.Grown.{legal_push}
 use Rattle.xt_map.proofs.Small.{past_memory, to_small}
 use Rattle.xt_trace.specs.declared.record.RegWrite.{RegWrite}
 use Rattle.xt_trace.specs.declared.record.StepRecord.{StepRecord}
-use Rattle.xt_rows.specs.Laws.{IsWord}
+use Rattle.xt_rows.specs.RowLaws.{IsWord}
 use Rattle.xt_frames.specs.declared.kinds.Breach.{Breach}
 use Rattle.xt_frames.specs.Frames.{FrameState}
 use Rattle.xt_frames.specs.FrameStep.{FrameTurn}
@@ -23,9 +23,9 @@ use Rattle.xt_frames.specs.FirstBreach.{Course, IsJudgedTurn, Turn, entries_befo
 use Rattle.xt_frames.specs.Judging.{place_on, step_on, value_in}
 use Rattle.xt_frames.specs.Verdict.{IsFrameTrace, IsStepOf, entry_of, is_nested}
 use Rattle.xt_frames.proofs.Prefixes.{own_judged}
-use Rattle.xt_uses.specs.Words.{all_bits, cut}
+use Rattle.xt_uses.specs.Words.{all_bits, masked}
 use Rattle.xt_uses.specs.Disciplines.{Lenient}
-use Rattle.xt_uses.specs.UseStep.{UseTurn, executed, receives_mark, reply_mask, value_step}
+use Rattle.xt_uses.specs.UseStep.{UseTurn, step_insn, receives_mark, reply_mask, value_step}
 use Rattle.xt_uses.specs.FirstUse.{History, IsFirstUse, IsHistory, use_at}
 use Rattle.xt_uses.specs.UseLaws.{AccessFits, AgreeIn, FitsStep, IsOrdinary, IsUnbroken, IsUseRun, ReplyFits, TellsWords, UseRunIsFrameRun}
 use Rattle.xt_uses.proofs.CutWords.{IsWordWrite, frame_shaped, inputs_words, step_leaves}
@@ -96,8 +96,8 @@ module _ (r : Course) (h : History) (opening : MemoryContents) (p q : ℕ) (foun
         ∙ same_values r.code (r.bounds core) fresh (live_before r i) stale nested rec (h.mask i) told (h.state core i).masks f (before.whole i core (omega arith)) none)
         (from_values r.code nested rec (h.mask i) (h.state core i))
 
-    marked : receives_mark (executed t.turn.kind (fetched_at r i core rec)) f.nested ≡ true → (w : RegWrite) → u.write ≡ Some w → w.value ≡ value_in rec.write
-    marked m w e = step_mark r.code nested rec f w (ap (λ k. receives_mark (executed k (fetched_at r i core rec)) f.nested) (sym steps.kind) ∙ m) e
+    marked : receives_mark (step_insn t.turn.kind (fetched_at r i core rec)) f.nested ≡ true → (w : RegWrite) → u.write ≡ Some w → w.value ≡ value_in rec.write
+    marked m w e = step_mark r.code nested rec f w (ap (λ k. receives_mark (step_insn k (fetched_at r i core rec)) f.nested) (sym steps.kind) ∙ m) e
 
     left : is_some t.turn.write ≡ true → (t.mask ≡ all_bits) ⊎ ((w : RegWrite) → u.write ≡ Some w → w.value ≡ value_in rec.write)
     left some = ⊎_elim
@@ -105,8 +105,8 @@ module _ (r : Course) (h : History) (opening : MemoryContents) (p q : ℕ) (foun
         (λ n. ⊎_elim
         (λ m. inr (marked m))
         (λ e. inl (eqb-true t.mask all_bits e))
-        (or_cases (receives_mark (executed t.turn.kind (fetched_at r i core rec)) f.nested) (eqb t.mask all_bits) (not-false _ n)))
-        (and_cases (is_some t.turn.write) (not (receives_mark (executed t.turn.kind (fetched_at r i core rec)) f.nested || eqb t.mask all_bits)) steps.written)
+        (or_cases (receives_mark (step_insn t.turn.kind (fetched_at r i core rec)) f.nested) (eqb t.mask all_bits) (not-false _ n)))
+        (and_cases (is_some t.turn.write) (not (receives_mark (step_insn t.turn.kind (fetched_at r i core rec)) f.nested || eqb t.mask all_bits)) steps.written)
 
     access : rec.access ≡ u.access
     access = access_same rec.access t.turn.access (subst (λ n. AccessFits n rec.access t.turn.access) steps.stored fits.access) (λ a v at k. tells.stores i core rec a v j.turn at k) ∙ values.0
@@ -127,8 +127,8 @@ module _ (r : Course) (h : History) (opening : MemoryContents) (p q : ℕ) (foun
         let tested = step_told r.code nested rec (r.bounds core) fresh (live_before r i) stale f a none (sym access ∙ at) in
         let all = told tested.0 tested.1 in
         let agree : AgreeIn (reply_mask (h.mask i) rec.access) rec.reply (reply_to m a) = subst (λ o. ReplyFits (reply_mask (h.mask i) rec.access) m o rec.reply) at fits.reply in
-        sym (ap (λ k. cut k rec.reply) all ∙ and_all rec.reply (ordinary.inputs i core rec j.turn).2)
-        ∙ (agree ∙ (ap (λ k. cut k (reply_to m a)) all ∙ and_all (reply_to m a) (to_small m a (memory_kept opening (entries_before r i) memory) (tells.served i core rec a j.turn at))))
+        sym (ap (λ k. masked k rec.reply) all ∙ and_all rec.reply (ordinary.inputs i core rec j.turn).2)
+        ∙ (agree ∙ (ap (λ k. masked k (reply_to m a)) all ∙ and_all (reply_to m a) (to_small m a (memory_kept opening (entries_before r i) memory) (tells.served i core rec a j.turn at))))
 
   -- ---- the accesses
   legal_more : (n : ℕ) → n < p → IsLegal opening (entries_before r n) → (o : Option Turn) → slice_get r.turns n ≡ o → IsLegal opening (entries_before r n ++ entries_in r n o)

@@ -13,15 +13,15 @@ use Rattle.xt_special.specs.Interrupts.{pending_of}
 use Rattle.xt_trace.specs.declared.record.StepKind.{StepKind}
 use Rattle.xt_trace.specs.declared.record.StepKind.TheVariants as kind
 use Rattle.xt_trace.specs.declared.record.StepRecord.{StepRecord}
-use Rattle.xt_fetch.specs.Fetching.{Fetched, Fetches, Fails, SpellsNothing, fetched}
+use Rattle.xt_fetch.specs.Fetching.{Fetched, Fetches, Fails, SpellsNothing, fetch_at}
 use Rattle.xt_rows.specs.Kinds.{is_movsp, is_return}
 use Rattle.xt_rows.specs.Numbers.{natural}
 use Rattle.xt_rows.specs.Operands.{changes_interrupt, reads, special_reads}
 use Rattle.xt_frames.specs.declared.holes.Nested.{Nested}
 use Rattle.xt_frames.specs.Frames.{Frame, FrameState}
-use Rattle.xt_frames.specs.FrameStep.{FrameTurn, Inputs, laid, laid_step}
+use Rattle.xt_frames.specs.FrameStep.{FrameTurn, Inputs, with_inputs, step_with_inputs}
 use Rattle.xt_frames.specs.Marks.{holds_marks, moves_marks}
-use Rattle.xt_frames.specs.Nesting.{begins, current, ends_nested, inside}
+use Rattle.xt_frames.specs.Nesting.{begins, current, ends_nested, nested_view}
 use Rattle.xt_frames.specs.SaveAreas.{Range}
 use Rattle.xt_frames.specs.Breaches.{Bounds, Test, breach_of, fetched_return_breach, fetched_tests, first_shown, inputs_of, insn_tests, is_underflow, is_unset, lacks, laid_breach, loads_stale, other_tests, reads_no_mark, reads_none, reads_unset, return_tests, touches_save_area, window_breach}
 use Rattle.xt_frames.specs.HandlerSteps.{Mode, Plain, Handles, Nests}
@@ -29,7 +29,7 @@ use Rattle.xt_frames.specs.Verdict.{is_nested}
 use Rattle.xt_frames.specs.FirstBreach.{handler_shows, is_judged, record_shows}
 use Rattle.xt_frames.proofs.Shown.{NoneShown, none_shown, sound}
 use Rattle.xt_uses.specs.Used.{system_used, used_are_known}
-use Rattle.xt_uses.specs.UseState.{Masks, UseState}
+use Rattle.xt_uses.specs.UseState.{ValidityBits, UseState}
 use Rattle.xt_uses.specs.UseBreaches.{breaks_stack, fetched_return_use, fetched_uses, has_no_number, holds_mark, laid_use, nowhere, reads_mark, reads_no_number, swaps_unknown, underflows, use_breach, use_tests, uses_unknown, window_use}
 use Rattle.xt_uses.specs.FirstUse.{handler_use, record_use}
 use Rattle.xt_uses.proofs.WholeInner.{is_ending, is_moving, no_mark, no_saved_mark}
@@ -91,22 +91,22 @@ no_numbers i g h =
     and_right _ _ (or_from (has_no_number g.unset (special_reads i).0) (has_no_number g.unset (special_reads i).1) (has_number g.unset (special_reads i).0 c.0) (has_number g.unset (special_reads i).1 c.1))
 
 -- ---- outside nested interrupts
-module _ (seen : List (Option ℕ)) (frames : List Frame) (control : Control) (unset : List Bool) (m : Masks) (w : Whole seen frames unset None control.waits m) (inp : Inputs) where
+module _ (seen : List (Option ℕ)) (frames : List Frame) (control : Control) (unset : List Bool) (m : ValidityBits) (w : Whole seen frames unset None control.waits m) (inp : Inputs) where
   abbrev plain : FrameState
   plain = record { seen = seen; frames = frames; control = control; unset = unset; nested = None }
 
-  plain_known : (i : Insn) → reads_none i (laid inp plain) ≡ false → uses_unknown i (record { frame = plain; masks = m }) (laid inp plain) ≡ false
+  plain_known : (i : Insn) → reads_none i (with_inputs inp plain) ≡ false → uses_unknown i (record { frame = plain; masks = m }) (with_inputs inp plain) ≡ false
   plain_known i h =
       let s : UseState = record { frame = plain; masks = m } in
-      or_from (reads_no_number i (laid inp plain)) _ (no_numbers i (laid inp plain) h) (not_from_true _ (used_true s (laid inp plain) i (operands_seen s (laid inp plain) i w.seen_masks h)))
+      or_from (reads_no_number i (with_inputs inp plain)) _ (no_numbers i (with_inputs inp plain) h) (not_from_true _ (used_true s (with_inputs inp plain) i (operands_seen s (with_inputs inp plain) i w.seen_masks h)))
 
 -- ---- in one
-module _ (seen : List (Option ℕ)) (frames : List Frame) (control : Control) (unset : List Bool) (x : Nested) (m : Masks) (w : Whole seen frames unset (Some x) control.waits m) (inp : Inputs) where
+module _ (seen : List (Option ℕ)) (frames : List Frame) (control : Control) (unset : List Bool) (x : Nested) (m : ValidityBits) (w : Whole seen frames unset (Some x) control.waits m) (inp : Inputs) where
   abbrev within : FrameState
   within = record { seen = seen; frames = frames; control = control; unset = unset; nested = Some x }
 
   abbrev g : FrameState
-  g = laid inp (inside x within)
+  g = with_inputs inp (nested_view x within)
 
   abbrev s : UseState
   s = record { frame = within; masks = m }
@@ -198,23 +198,23 @@ module _ (code : ℕ → ℕ) (b : Bounds) (fresh : Bool) (live stale : ℕ → 
 
     laid_quiet : laid_breach b fresh code live stale rec g ≡ None → laid_use b fresh code live bytes rec s g ≡ None
     unfolding laid_breach laid_use
-    laid_quiet e = either_none (ltb 0 (pending_of g.control) || g.control.waits) _ _ _ e (fetched_quiet (fetched code g.control.pc) (laid_step code rec.reply g))
+    laid_quiet e = either_none (ltb 0 (pending_of g.control) || g.control.waits) _ _ _ e (fetched_quiet (fetch_at code g.control.pc) (step_with_inputs code rec.reply g))
 
     fetched_return : (at : Fetched) → fetched_return_breach at g ≡ None → fetched_return_use at s g ≡ None
     fetched_return (Fetches i len) e = only_none (is_return i) (first_shown (return_tests i g)) _ e (λ none.
         let n = none_shown (return_tests i g) none in
-        none_first (use_tests (uses_unknown i s g) false false (return_tests i g)) (return_quiet b fresh live stale rec g (laid_step code rec.reply g) (uses_unknown i s g) false false i (known i n.0) n))
+        none_first (use_tests (uses_unknown i s g) false false (return_tests i g)) (return_quiet b fresh live stale rec g (step_with_inputs code rec.reply g) (uses_unknown i s g) false false i (known i n.0) n))
     fetched_return (Fails address) e = refl
     fetched_return SpellsNothing e = refl
 
-    window_quiet : (k : StepKind) → window_breach code k g ≡ None → cond (underflows k) (fetched_return_use (fetched code g.control.pc) s g) None ≡ None
+    window_quiet : (k : StepKind) → window_breach code k g ≡ None → cond (underflows k) (fetched_return_use (fetch_at code g.control.pc) s g) None ≡ None
     unfolding window_breach
-    window_quiet (kind.Window vector) e = only_none (is_underflow vector) (fetched_return_breach (fetched code g.control.pc) g) _ e (fetched_return (fetched code g.control.pc))
+    window_quiet (kind.Window vector) e = only_none (is_underflow vector) (fetched_return_breach (fetch_at code g.control.pc) g) _ e (fetched_return (fetch_at code g.control.pc))
     window_quiet _ e = refl
 
-  module _ (m : Masks) where
+  module _ (m : ValidityBits) where
     abbrev found : FrameState → FrameState
-    found f = laid (inputs_of rec) (current f)
+    found f = with_inputs (inputs_of rec) (current f)
 
     abbrev Knows : FrameState → Type 0
     Knows f = IsWholeState f m → (i : Insn) → reads_none i (found f) ≡ false → uses_unknown i (record { frame = f; masks = m }) (found f) ≡ false
@@ -232,7 +232,7 @@ module _ (code : ℕ → ℕ) (b : Bounds) (fresh : Bool) (live stale : ℕ → 
     handler_quiet Handles f w e = refl
     handler_quiet Nests f w e = refl
 
-pub record_quiet : (code : ℕ → ℕ) (b : Bounds) (lost : Bool) (live stale : ℕ → Bool) (rec : StepRecord) (bytes : ℕ → ℕ) (m : Masks) (mode : Mode) (f : FrameState)
+pub record_quiet : (code : ℕ → ℕ) (b : Bounds) (lost : Bool) (live stale : ℕ → Bool) (rec : StepRecord) (bytes : ℕ → ℕ) (m : ValidityBits) (mode : Mode) (f : FrameState)
     → (loads_stale live stale rec.access ≡ false → touches_save_area live rec.access ≡ false → swaps_unknown bytes rec.access ≡ false)
     → IsWholeState f m → record_shows code b mode f lost live stale rec ≡ None → record_use code b mode (record { frame = f; masks = m }) lost live bytes rec ≡ None
 record_quiet code b lost live stale rec bytes m mode f swaps w e = by (is_judged mode rec.kind) e

@@ -5,18 +5,18 @@ use Rattle.std.proofs.lemmas.Bool.{and_parts, both_ways, cases_Bool, cases_lt, c
 use Rattle.std.proofs.lemmas.Bool.Decides.{same_from_decides}
 use Rattle.std.proofs.lemmas.Option.{none-some, slice_get_within}
 use Rattle.xt_trace.specs.declared.record.StepRecord.{StepRecord}
-use Rattle.xt_fetch.specs.Fetching.{fetched}
+use Rattle.xt_fetch.specs.Fetching.{fetch_at}
 use Rattle.xt_frames.specs.declared.kinds.Breach.{Breach}
 use Rattle.xt_frames.specs.declared.kinds.BreachKind.{BreachKind}
 use Rattle.xt_frames.specs.Frames.{FrameState}
-use Rattle.xt_frames.specs.FrameStep.{laid}
+use Rattle.xt_frames.specs.FrameStep.{with_inputs}
 use Rattle.xt_frames.specs.Nesting.{current}
 use Rattle.xt_frames.specs.Breaches.{inputs_of, writes_epc1}
 use Rattle.xt_frames.specs.FirstBreach as frames
 use Rattle.xt_frames.specs.FirstBreach.{Course, IsFirstBreach, IsJudgedTurn, IsTurn, Turn, frame_before, is_judged, live_before, mode_before, step_at, turn_of}
 use Rattle.xt_uses.specs.Disciplines.{Lenient}
-use Rattle.xt_uses.specs.UseStep.{UseTurn, carries, executed, receives_mark, stores_unknown, writes_unknown}
-use Rattle.xt_uses.specs.FirstUse.{EndsMode, History, IsFirstUse, IsHistory, IsLost, Shows, carried, carries_at, live_at, record_use, use_at, writes_at}
+use Rattle.xt_uses.specs.UseStep.{UseTurn, carries, step_insn, receives_mark, stores_unknown, writes_unknown}
+use Rattle.xt_uses.specs.FirstUse.{EndsMode, History, IsFirstUse, IsHistory, IsLost, Shows, carried_count, carries_at, live_at, record_use, use_at, writes_at}
 use Rattle.xt_uses.specs.UseLaws.{IsOrdinary, IsUnbroken, UsesAreLater}
 use Rattle.xt_uses.proofs.LaterTests.{record_quiet}
 use Rattle.xt_uses.proofs.LaterVerdicts.{is_there}
@@ -29,17 +29,17 @@ module _ (r : Course) (h : History) (p : ℕ) (ordinary : IsOrdinary r) (is : Is
   writes_same i core rec l j =
       let kind = (agrees.steps i core rec l j).kind in
       let frame = agrees.frame i core (omega (arith, l)) in
-      λ k. writes_epc1 (kind k) (fetched r.code (laid (inputs_of rec) (current (frame k))).control.pc) (laid (inputs_of rec) (current (frame k))).control.ps
+      λ k. writes_epc1 (kind k) (fetch_at r.code (with_inputs (inputs_of rec) (current (frame k))).control.pc) (with_inputs (inputs_of rec) (current (frame k))).control.ps
 
   mode_there : (i core : ℕ) (rec : StepRecord) → i < p → IsJudgedTurn r i core rec → EndsMode r h i core rec → frames.EndsMode r i core rec
   mode_there i core rec l j e = (
-    sym (ap (λ (f : FrameState). (laid (inputs_of rec) (current f)).control.ps.excm) (agrees.frame i core (omega (arith, l)))) ∙ e.0,
+    sym (ap (λ (f : FrameState). (with_inputs (inputs_of rec) (current f)).control.ps.excm) (agrees.frame i core (omega (arith, l)))) ∙ e.0,
     sym (ap (λ (f : FrameState). (current f).control.ps.excm) (agrees.steps i core rec l j).frame) ∙ e.1,
   )
 
   mode_back : (i core : ℕ) (rec : StepRecord) → i < p → IsJudgedTurn r i core rec → frames.EndsMode r i core rec → EndsMode r h i core rec
   mode_back i core rec l j e = (
-    ap (λ (f : FrameState). (laid (inputs_of rec) (current f)).control.ps.excm) (agrees.frame i core (omega (arith, l))) ∙ e.0,
+    ap (λ (f : FrameState). (with_inputs (inputs_of rec) (current f)).control.ps.excm) (agrees.frame i core (omega (arith, l))) ∙ e.0,
     ap (λ (f : FrameState). (current f).control.ps.excm) (agrees.steps i core rec l j).frame ∙ e.1,
   )
 
@@ -93,9 +93,9 @@ module _ (r : Course) (h : History) (p : ℕ) (ordinary : IsOrdinary r) (is : Is
       let u : UseTurn = use_at r h i core rec in
       let frame = agrees.frame i core (omega (arith, l)) in
       or_from
-      (writes_unknown (receives_mark (executed u.turn.kind (fetched r.code (laid (inputs_of rec) (current (h.state core i).frame)).control.pc)) (h.state core i).frame.nested) u)
+      (writes_unknown (receives_mark (step_insn u.turn.kind (fetch_at r.code (with_inputs (inputs_of rec) (current (h.state core i).frame)).control.pc)) (h.state core i).frame.nested) u)
       (stores_unknown u.stored rec.access)
-      (ap (λ (f : FrameState). writes_unknown (receives_mark (executed u.turn.kind (fetched r.code (laid (inputs_of rec) (current f)).control.pc)) f.nested) u) frame ∙ t.written)
+      (ap (λ (f : FrameState). writes_unknown (receives_mark (step_insn u.turn.kind (fetch_at r.code (with_inputs (inputs_of rec) (current f)).control.pc)) f.nested) u) frame ∙ t.written)
       (ap (λ n. stores_unknown n rec.access) t.stored ∙ stores_known rec.access (λ a e. ordinary.sizes i core rec a j.turn e))
 
   turn_none : (i core : ℕ) → i < p → (o : Option Turn) → slice_get r.turns i ≡ o → carries_at r h core i o ≡ 0
@@ -109,7 +109,7 @@ module _ (r : Course) (h : History) (p : ℕ) (ordinary : IsOrdinary r) (is : Is
       (λ none. cond-false ((t.core == core && is_judged (mode_before r core i) t.rec.kind) && carries r.code t.rec (h.state core i) (use_at r h i core t.rec)) 1 0 none)
       (cases_Bool ((t.core == core && is_judged (mode_before r core i) t.rec.kind) && carries r.code t.rec (h.state core i) (use_at r h i core t.rec)))
 
-  pub carried_none : (core i : ℕ) → i ≤ p → carried r h core i ≡ 0
+  pub carried_none : (core i : ℕ) → i ≤ p → carried_count r h core i ≡ 0
   carried_none core zero l = refl
   carried_none core (suc i) l =
       let before = carried_none core i (omega (arith, l)) in

@@ -8,7 +8,7 @@ use Rattle.xt_frames.specs.declared.kinds.Breach.{Breach}
 use Rattle.xt_frames.specs.declared.kinds.BreachKind.{BreachKind}
 use Rattle.xt_frames.specs.FirstBreach.{Course, Turn, mode_before, records_before, turn_of}
 use Rattle.xt_frames.proofs.Prefixes.{same_turn}
-use Rattle.xt_uses.specs.FirstUse.{History, IsFirstUse, IsUse, Shows, carried, live_at, record_use}
+use Rattle.xt_uses.specs.FirstUse.{History, IsFirstUse, IsUse, Shows, carried_count, live_at, record_use}
 use Rattle.xt_uses.specs.UseLaws.{VerdictIsOne}
 use Rattle.xt_uses.proofs.LaterHistories.{history_is_one}
 
@@ -61,6 +61,6 @@ verdict_one d r one other n m k l x y =
     let there : IsFirstUse r x.history y.place other = subst (λ h. IsFirstUse r h y.place other) (sym same) y.first in
     let place = same_place r x.history x.place y.place one other x.first there in (
       same_found r x.history x.place y.place one other x.first there,
-      x.counts0 ∙ ((λ i. carried r (same i) 0 (place i)) ∙ sym y.counts0),
-      x.counts1 ∙ ((λ i. carried r (same i) 1 (place i)) ∙ sym y.counts1),
+      x.counts0 ∙ ((λ i. carried_count r (same i) 0 (place i)) ∙ sym y.counts0),
+      x.counts1 ∙ ((λ i. carried_count r (same i) 1 (place i)) ∙ sym y.counts1),
     )

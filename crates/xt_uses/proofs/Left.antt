@@ -6,7 +6,7 @@ use Rattle.std.proofs.lemmas.Option.{none-some, same_Some}
 use Rattle.xt_uses.specs.UseStep.{is_left, leave_results, left_of}
 use Rattle.xt_uses.specs.UseLaws.{AreCut, IsCutAt}
 use Rattle.xt_frames.specs.Frames.{Frame}
-use Rattle.xt_frames.specs.Parts.{newest_of}
+use Rattle.xt_frames.specs.KeptFrameState.{newest_of}
 use Rattle.xt_uses.specs.declared.stepping.Top.{Top}
 use Rattle.xt_uses.specs.UseState.{UseState}
 use Rattle.xt_uses.specs.UseParts.{forgot_to, use_at, without_register}

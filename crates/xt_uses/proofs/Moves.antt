@@ -8,7 +8,7 @@ use Rattle.std.proofs.lemmas.Nat.Bits.{bit_at_above, bit_at_cat_low, bit_at_cat_
 use Rattle.std.proofs.Math.Nat.{mod-le, mod-add-div'}
 use Rattle.std.proofs.Math.Pow.{high_ones, shr_lt}
 use Rattle.xt_word.specs.Words.{sign_extended}
-use Rattle.xt_rows.specs.Numbers.{extended}
+use Rattle.xt_rows.specs.Numbers.{loaded_value}
 use Rattle.xt_uses.proofs.Bits.{bit_is, bit_at_div, bit_at_rest, bit_at_rest_above, bit_at_times_low, bit_at_times_high}
 use Rattle.xt_uses.proofs.Agreeing.{IsMove, Source, Zero, From}
 
@@ -107,7 +107,7 @@ word_chosen v k g b =
 pub extends : (k : ℕ) → 0 < k → k ≤ 32 → IsMove (λ n. sign_extended n k)
 extends k p g = record { word = λ n h. word_chosen n k g (nat_lt (n % 2 ^ k) (2 ^ (k - 1))); bits = λ i low. sext_source k i p g low }
 
-pub extended_moves : (signed : Bool) → IsMove (λ n. extended signed n)
-unfolding extended
+pub extended_moves : (signed : Bool) → IsMove (λ n. loaded_value signed n)
+unfolding loaded_value
 extended_moves true = extends 16 (omega arith) (omega arith)
 extended_moves false = copies

@@ -11,7 +11,7 @@ use Rattle.xt_special.proofs.PsWords.{word_of_fields_of}
 use Rattle.xt_uses.specs.declared.discipline.Discipline.{Discipline}
 use Rattle.xt_uses.specs.declared.discipline.Discipline.TheVariants.{Strict, Lenient}
 use Rattle.xt_uses.specs.Disciplines.{is_strict}
-use Rattle.xt_uses.specs.Words.{Word, Fits, all_bits, cut, knows}
+use Rattle.xt_uses.specs.Words.{Word, Fits, all_bits, masked, knows}
 use Rattle.xt_uses.specs.Used.{counted_bits, holds_owb}
 use Rattle.xt_uses.specs.UseLaws.{AgreeIn, counted_ps}
 use Rattle.xt_uses.proofs.Bits.{bit_at_div, bit_at_rest, bit_at_rest_above}
@@ -113,7 +113,7 @@ cut_keeps mask k x y h =
 
 pub kept_words_agree : (mask x y : ℕ) → x < 2 ^ 32 → y < 2 ^ 32 → AgreeIn mask x y → AgreeIn mask (ps_word (ps_of x)) (ps_word (ps_of y))
 kept_words_agree mask x y a b h =
-    ap (cut mask) (word_of_fields_of x a) ∙ (cut_keeps mask 0x70FFF x y h ∙ sym (ap (cut mask) (word_of_fields_of y b)))
+    ap (masked mask) (word_of_fields_of x a) ∙ (cut_keeps mask 0x70FFF x y h ∙ sym (ap (masked mask) (word_of_fields_of y b)))
 
 -- ---- a word of which the bits that count are known
 pub counted_agree : (bits x : ℕ) (a : Word) → Fits x a → knows bits a ≡ true → AgreeIn bits x a.value

@@ -13,18 +13,18 @@ use Rattle.xt_trace.specs.declared.record.RegWrite.{RegWrite}
 use Rattle.xt_trace.specs.declared.record.StepKind.{StepKind}
 use Rattle.xt_trace.specs.declared.record.StepKind.TheVariants as kind
 use Rattle.xt_trace.specs.declared.record.StepRecord.{StepRecord}
-use Rattle.xt_fetch.specs.Fetching.{Fetched, Fetches, fetched}
+use Rattle.xt_fetch.specs.Fetching.{Fetched, Fetches, fetch_at}
 use Rattle.xt_rows.specs.Kinds.{is_entry, is_return, moved_to}
-use Rattle.xt_rows.specs.Laws.{IsProperWrite, IsWord}
+use Rattle.xt_rows.specs.RowLaws.{IsProperWrite, IsWord}
 use Rattle.xt_frames.specs.declared.breach.Limits.{Limits}
-use Rattle.xt_frames.specs.declared.holes.Holes.{Holes}
+use Rattle.xt_frames.specs.declared.holes.UndefinedParts.{UndefinedParts}
 use Rattle.xt_frames.specs.declared.holes.Nested.{Nested}
 use Rattle.xt_frames.specs.Frames.{Frame, FrameState, seen_after_write}
-use Rattle.xt_frames.specs.FrameStep.{FrameTurn, laid, laid_step}
+use Rattle.xt_frames.specs.FrameStep.{FrameTurn, with_inputs, step_with_inputs}
 use Rattle.xt_frames.specs.Nesting.{current, current_in, unset_after}
 use Rattle.xt_frames.specs.Judging.{value_in}
 use Rattle.xt_frames.specs.Breaches.{Test, first_shown, fresh_after, inputs_of, insn_tests, is_movsp, may_write_sp, touches_save_area}
-use Rattle.xt_frames.specs.Parts.{Upper, state_at}
+use Rattle.xt_frames.specs.KeptFrameState.{Upper, state_at}
 use Rattle.xt_frames.specs.Quick.{IsTurn, is_system}
 use Rattle.xt_frames.specs.Walked.{bounds_of}
 use Rattle.xt_frames.proofs.Mild.{IsStill, no_entry, tests_shown}
@@ -35,8 +35,8 @@ use Rattle.xt_uses.specs.declared.masks.TopMasks.{TopMasks}
 use Rattle.xt_uses.specs.Words.{Word, all_bits, whole_word}
 use Rattle.xt_uses.specs.Disciplines.{Lenient}
 use Rattle.xt_uses.specs.Known.{result_mask}
-use Rattle.xt_uses.specs.UseState.{Masks, UseState, first_word, second_word, special_operand}
-use Rattle.xt_uses.specs.UseStep.{UseTurn, carries, cut_seen, cut_state, executed, fetched_movsp, frames_moved, full_step, insn_turn, left_after, masks_past, movsp_of, pointer_written, receives_mark, reply_mask, special_written, stores_unknown, turn_or, use_step, use_turn, value_step, visible_written}
+use Rattle.xt_uses.specs.UseState.{ValidityBits, UseState, first_word, second_word, special_operand}
+use Rattle.xt_uses.specs.UseStep.{UseTurn, carries, cut_seen, cut_state, step_insn, fetched_movsp, frames_moved, full_step, insn_turn, left_after, masks_past, movsp_of, pointer_written, receives_mark, reply_mask, special_written, stores_unknown, turn_or, use_step, use_turn, value_step, visible_written}
 use Rattle.xt_uses.proofs.Returning.{no_return_left}
 use Rattle.xt_uses.specs.UseBreaches.{breaks_stack, fetched_uses, laid_use, nowhere, reads_mark, swaps_unknown, use_breach, use_tests, uses_unknown}
 use Rattle.xt_uses.specs.UseParts.{IsTaken, fresh_use, masks_at, use_at}
@@ -68,12 +68,12 @@ unfolding may_write_sp is_entry
 no_entry_mask (insn.Control (control.Entry number size)) e = absurd cc
 no_entry_mask _ e = refl
 
-no_pointer : (i : Insn) (mask : ℕ) (m : Masks) → is_system i ≡ false → pointer_written i mask m ≡ m
+no_pointer : (i : Insn) (mask : ℕ) (m : ValidityBits) → is_system i ≡ false → pointer_written i mask m ≡ m
 unfolding is_system pointer_written
 no_pointer (insn.System i) mask m e = absurd cc
 no_pointer _ mask m e = refl
 
-frames_still : (i : Insn) (n : ℕ) (m : Masks) → is_entry i ≡ false → is_return i ≡ false → frames_moved i n m ≡ m
+frames_still : (i : Insn) (n : ℕ) (m : ValidityBits) → is_entry i ≡ false → is_return i ≡ false → frames_moved i n m ≡ m
 frames_still i n m entry return = cond-false (is_entry i) _ _ entry ∙ cond-false (is_return i) _ _ return
 
 any_pointer : (by : Discipline) (i : Insn) (x y u : Word) (p reply : ℕ) → is_system i ≡ false → result_mask by i x y u p reply ≡ result_mask Lenient i x y u all_bits reply
@@ -84,8 +84,8 @@ any_pointer by _ x y u p reply e = refl
 whole_as : (w : Word) → w.mask ≡ all_bits → w ≡ whole_word w.value
 whole_as w e = λ j. record { value = w.value; mask = e j }
 
-executed_insn : (i : Insn) (len : ℕ) → executed kind.Insn (Fetches i len) ≡ Some i
-unfolding executed
+executed_insn : (i : Insn) (len : ℕ) → step_insn kind.Insn (Fetches i len) ≡ Some i
+unfolding step_insn
 executed_insn i len = refl
 
 either_none : (b : Bool) (o : Option FrameTurn) → o ≡ None → cond b None o ≡ None
@@ -100,7 +100,7 @@ are_read i s f w = record {
   special = whole_as (special_operand i s f) w.special;
 }
 
-module _ (limits : Limits) (fresh : Bool) (code : ℕ → ℕ) (rec : StepRecord) (h : Holes) (write : Option RegWrite) (v g x : Upper) (k : IsOver limits fresh code rec h write v g x) (frames : List Frame) (kept : List (List ℕ)) (m : TopMasks) (whole : AreWhole k.quick.i (use_at frames kept h v m) (state_at frames h g)) where
+module _ (limits : Limits) (fresh : Bool) (code : ℕ → ℕ) (rec : StepRecord) (h : UndefinedParts) (write : Option RegWrite) (v g x : Upper) (k : IsOver limits fresh code rec h write v g x) (frames : List Frame) (kept : List (List ℕ)) (m : TopMasks) (whole : AreWhole k.quick.i (use_at frames kept h v m) (state_at frames h g)) where
   abbrev i : Insn
   i = k.quick.i
 
@@ -115,10 +115,10 @@ module _ (limits : Limits) (fresh : Bool) (code : ℕ → ℕ) (rec : StepRecord
   over = state_at frames h g
 
   abbrev found : FrameState
-  found = laid (inputs_of rec) (current f)
+  found = with_inputs (inputs_of rec) (current f)
 
   found_is : found ≡ over
-  found_is = ap (λ (o : Option Nested). laid (inputs_of rec) (current_in o f)) k.plain ∙ sym (k.over frames)
+  found_is = ap (λ (o : Option Nested). with_inputs (inputs_of rec) (current_in o f)) k.plain ∙ sym (k.over frames)
 
   read : IsRead i s over
   read = are_read i s over whole
@@ -134,7 +134,7 @@ module _ (limits : Limits) (fresh : Bool) (code : ℕ → ℕ) (rec : StepRecord
 
   module _ (live : ℕ → Bool) (bytes : ℕ → ℕ) (saves : touches_save_area live rec.access ≡ false) (swaps : swaps_unknown bytes rec.access ≡ false) where
     abbrev here : FrameTurn
-    here = laid_step code rec.reply over
+    here = step_with_inputs code rec.reply over
 
     abbrev tests : (ℕ → Bool) → List Test
     tests a = use_tests (uses_unknown i s over) (swaps_unknown bytes rec.access) (breaks_stack (bounds_of limits).range i rec.kind over) (insn_tests (bounds_of limits) fresh a nowhere i rec over here)
@@ -160,20 +160,20 @@ module _ (limits : Limits) (fresh : Bool) (code : ℕ → ℕ) (rec : StepRecord
   values = value_step code false (value_in rec.write) (inputs_of rec) f
 
   abbrev turn_on : FrameState → FrameTurn
-  turn_on r = numbered (fetched code r.control.pc) h.unset (turn_or (movsp_of code r) (laid_step code rec.reply r))
+  turn_on r = numbered (fetch_at code r.control.pc) h.unset (turn_or (movsp_of code r) (step_with_inputs code rec.reply r))
 
   not_moved : movsp_of code over ≡ None
   not_moved =
-      either_none (is_some over.nested || (ltb 0 (pending_of over.control) || over.control.waits)) (fetched_movsp (fetched code over.control.pc) over)
+      either_none (is_some over.nested || (ltb 0 (pending_of over.control) || over.control.waits)) (fetched_movsp (fetch_at code over.control.pc) over)
       (ap (λ (at : Fetched). fetched_movsp at over) k.quick.at ∙ no_movsp i k.quick.len over no_move)
 
   turn_over : IsTurn (turn_on over) write frames h x
   turn_over =
-      let t = laid_step code rec.reply over in
+      let t = step_with_inputs code rec.reply over in
       let turn = k.quick.turn frames in
-      let N : FrameTurn → FrameTurn = λ u. numbered (fetched code over.control.pc) h.unset u in
+      let N : FrameTurn → FrameTurn = λ u. numbered (fetch_at code over.control.pc) h.unset u in
       let left : (N t).after ≡ state_at frames h x =
-      ap (λ (r : FrameState). record r { unset = unset_after t.kind (fetched code over.control.pc) h.unset }) turn.after
+      ap (λ (r : FrameState). record r { unset = unset_after t.kind (fetch_at code over.control.pc) h.unset }) turn.after
       ∙ ap (λ (unset : List Bool). record (state_at frames h x) { unset = unset }) (k.quick.unset frames) in
       let made : IsTurn (N t) write frames h x = record { kind = turn.kind; writes = turn.writes; after = left } in
       subst (λ (o : Option FrameTurn). IsTurn (N (turn_or o t)) write frames h x) (sym not_moved) made
@@ -193,15 +193,15 @@ module _ (limits : Limits) (fresh : Bool) (code : ℕ → ℕ) (rec : StepRecord
 
     step_is : step ≡ made
     step_is =
-        let at : executed values.kind (fetched code found.control.pc) ≡ Some i =
-        ap (λ (n : StepKind). executed n (fetched code found.control.pc)) values_are.kind
-        ∙ (ap (λ (r : FrameState). executed kind.Insn (fetched code r.control.pc)) found_is
-        ∙ (ap (executed kind.Insn) k.quick.at ∙ executed_insn i k.quick.len)) in
+        let at : step_insn values.kind (fetch_at code found.control.pc) ≡ Some i =
+        ap (λ (n : StepKind). step_insn n (fetch_at code found.control.pc)) values_are.kind
+        ∙ (ap (λ (r : FrameState). step_insn kind.Insn (fetch_at code r.control.pc)) found_is
+        ∙ (ap (step_insn kind.Insn) k.quick.at ∙ executed_insn i k.quick.len)) in
         let full : full_step code false rec bytes s ≡ made =
         ap (λ (o : Option Insn). use_turn o (reply_mask bytes rec.access) s found values) at
         ∙ (ap (λ (n : ℕ). insn_turn i n s found values) reply
         ∙ ap (λ (r : FrameState). insn_turn i all_bits s r values) found_is) in
-        ap (λ (t : UseTurn). record t { after = left_after (executed t.turn.kind (fetched code found.control.pc)) s t.after }) full
+        ap (λ (t : UseTurn). record t { after = left_after (step_insn t.turn.kind (fetch_at code found.control.pc)) s t.after }) full
         ∙ (ap (λ (o : Option Insn). record made { after = left_after o s made.after }) at
         ∙ ap (λ (u : UseState). record made { after = u }) (no_return_left i s made.after k.quick.row.common.return))
 
@@ -227,7 +227,7 @@ module _ (limits : Limits) (fresh : Bool) (code : ℕ → ℕ) (rec : StepRecord
     step_masks =
         let given = (first_word i s over).mask in
         let c = k.quick.row.common in
-        let V : Masks → Masks = λ ms. visible_written false write all_bits ms in
+        let V : ValidityBits → ValidityBits = λ ms. visible_written false write all_bits ms in
         let all = masks_at kept m in
         ap (λ (n : ℕ). masks_past i n s over values) mask_is
         ∙ (ap (λ (o : Option Nested). visible_written (is_some o) values.write all_bits (pointer_written i given (special_written (moved_to i) given (frames_moved i over.control.ps.callinc all)))) k.plain
@@ -238,14 +238,14 @@ module _ (limits : Limits) (fresh : Bool) (code : ℕ → ℕ) (rec : StepRecord
 
     step_fresh : IsProperWrite IsWord write → fresh ≡ fresh_use fresh code false rec bytes s
     step_fresh word =
-        let A : StepKind → FrameState → FrameState → Bool = λ n p q. fresh_after fresh n (fetched code p.control.pc) p.control.ps q.control.ps in
+        let A : StepKind → FrameState → FrameState → Bool = λ n p q. fresh_after fresh n (fetch_at code p.control.pc) p.control.ps q.control.ps in
         let after = state_at frames h x in
         sym
         (ap (λ (t : UseTurn). A t.turn.kind found (current t.after.frame)) step_is
         ∙ (ap (λ (r : FrameState). A values.kind found (current r)) (step_frame word)
         ∙ (ap (λ (o : Option Nested). A values.kind found (current_in o after)) k.plain
         ∙ (ap (λ (n : StepKind). A n found after) (values_are.kind ∙ sym (k.quick.turn frames).kind)
-        ∙ (ap (λ (r : FrameState). A (laid_step code rec.reply over).kind r after) found_is ∙ k.quick.kept frames)))))
+        ∙ (ap (λ (r : FrameState). A (step_with_inputs code rec.reply over).kind r after) found_is ∙ k.quick.kept frames)))))
 
     step_stored : step.stored ≡ all_bits
     step_stored = ap (λ (t : UseTurn). t.stored) step_is ∙ whole.second
@@ -254,7 +254,7 @@ module _ (limits : Limits) (fresh : Bool) (code : ℕ → ℕ) (rec : StepRecord
     step_carries mapped =
         let mask : step.mask ≡ all_bits = ap (λ (t : UseTurn). t.mask) step_is ∙ mask_is in
         or_from _ _
-        (and_right _ _ (not_from_true _ (or_right (receives_mark (executed step.turn.kind (fetched code found.control.pc)) h.nested) _ (eq-eqb _ all_bits mask))))
+        (and_right _ _ (not_from_true _ (or_right (receives_mark (step_insn step.turn.kind (fetch_at code found.control.pc)) h.nested) _ (eq-eqb _ all_bits mask))))
         (ap (λ (n : ℕ). stores_unknown n rec.access) step_stored ∙ whole_stored rec.access mapped)
 
     quick_taken : (n : TopMasks) → IsProperWrite IsWord write → IfSome rec.access (λ a. is_mapped a ≡ true) → masks_at kept n ≡ visible_written false write all_bits (masks_at kept m)

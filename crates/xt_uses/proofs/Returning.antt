@@ -3,7 +3,7 @@ use Rattle.std.proofs.Common.{◌≡◌, ℕ, ◌*◌, false, List, [], ◌∷�
 use Rattle.std.proofs.lemmas.Bool.{and_right, cond-false, cond_both}
 use Rattle.xt_isa.specs.declared.Insn.{Insn}
 use Rattle.xt_rows.specs.Kinds.{is_return}
-use Rattle.xt_frames.specs.Frames.{Frame, FrameState, known}
+use Rattle.xt_frames.specs.Frames.{Frame, FrameState, value_or_zero}
 use Rattle.xt_frames.specs.declared.holes.Nested.{Nested}
 use Rattle.xt_frames.specs.Nesting.{current, current_in}
 use Rattle.xt_frames.specs.Stacks.{AreFrames, Stack}
@@ -44,7 +44,7 @@ left_current o s u = left_holds (λ t. (current t.frame).control ≡ (current u.
 
 -- ---- the chain of stack pointers
 abbrev SameChain : ℕ → ℕ → FrameState → FrameState → Type 0
-SameChain lo hi f t = Stack lo hi t.seen t.frames × (t.frames ≡ f.frames) × (known t.seen 1 ≡ known f.seen 1)
+SameChain lo hi f t = Stack lo hi t.seen t.frames × (t.frames ≡ f.frames) × (value_or_zero t.seen 1 ≡ value_or_zero f.seen 1)
 
 results_stack : (lo hi : ℕ) (frames : List Frame) (u : UseState) → AreFrames frames → Stack lo hi u.frame.seen u.frame.frames → SameChain lo hi u.frame (leave_results frames u).frame
 results_stack lo hi [] u shaped k = (k, refl, refl)
@@ -53,7 +53,7 @@ results_stack lo hi (g ∷ rest) u shaped k =
     let first = 4 * g.by in
     let seen = u.frame.seen in
     let own = left_get None first 0 seen 1 None (left_own first 1 (omega (arith, moves))) in
-    let at = known_is (left_of None first 0 seen) 1 (known seen 1) (own ∙ k.sp) in (
+    let at = known_is (left_of None first 0 seen) 1 (value_or_zero seen 1) (own ∙ k.sp) in (
       record {
         range = k.range;
         wide = left_length None first 0 seen ∙ k.wide;

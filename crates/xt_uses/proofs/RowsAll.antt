@@ -9,10 +9,10 @@ use Rattle.xt_isa.specs.declared.shift.Shift.TheVariants as shift
 use Rattle.xt_isa.specs.declared.memory.Memory.{Memory}
 use Rattle.xt_isa.specs.declared.memory.Memory.TheVariants as memory
 use Rattle.xt_rows.specs.Operands.{reads, special_reads}
-use Rattle.xt_rows.specs.Effects.{unchanged}
+use Rattle.xt_rows.specs.Effects.{no_change}
 use Rattle.xt_rows.specs.Outcomes.{outcome, three_outcome, shift_outcome, memory_outcome, boolean_outcome}
 use Rattle.xt_uses.specs.declared.discipline.Discipline.{Discipline}
-use Rattle.xt_uses.specs.Words.{Word, Fits, all_bits, is_whole, cut}
+use Rattle.xt_uses.specs.Words.{Word, Fits, all_bits, is_whole, masked}
 use Rattle.xt_uses.specs.Used.{used_are_known}
 use Rattle.xt_uses.specs.Known.{result_mask}
 use Rattle.xt_uses.specs.UseLaws.{IsKnownNumber, SpecialFits, OutcomesAgree, RowsAgree, masks_of_row, pointer_mask}
@@ -74,25 +74,25 @@ memory_special by (memory.Addmi q s n) u c fits known = (fits, known)
 pub all_agree : RowsAgree
 unfolding outcome result_mask used_are_known pointer_mask special_reads reads
 all_agree by code (insn.Three i) pc x y u v w ps t pointer a b c given row =
-    subst (λ z. OutcomesAgree by (insn.Three i) (masks_of_row by (insn.Three i) a b c pointer) (three_outcome i x y z (unchanged ps t)) (three_outcome i a.value b.value c.value (unchanged ps (cut pointer t))))
+    subst (λ z. OutcomesAgree by (insn.Three i) (masks_of_row by (insn.Three i) a b c pointer) (three_outcome i x y z (no_change ps t)) (three_outcome i a.value b.value c.value (no_change ps (masked pointer t))))
     (let s = three_special by i u c row.special row.number in whole_value u c s.0 given.u_word s.1)
     (three_agrees by x y c.value a b row.first row.second given.x_word given.y_word (value_word x a row.first given.x_word) (value_word y b row.second given.y_word) row.first_mask row.second_mask
-    ps t (cut pointer t) a.mask pointer b.mask (cut_agrees pointer t) i row.used row.same)
+    ps t (masked pointer t) a.mask pointer b.mask (cut_agrees pointer t) i row.used row.same)
 all_agree by code (insn.Shift i) pc x y u v w ps t pointer a b c given row =
-    subst (λ z. OutcomesAgree by (insn.Shift i) (masks_of_row by (insn.Shift i) a b c pointer) (shift_outcome i x z (unchanged ps t)) (shift_outcome i a.value c.value (unchanged ps (cut pointer t))))
+    subst (λ z. OutcomesAgree by (insn.Shift i) (masks_of_row by (insn.Shift i) a b c pointer) (shift_outcome i x z (no_change ps t)) (shift_outcome i a.value c.value (no_change ps (masked pointer t))))
     (let s = shift_special by i u c row.special row.number in whole_value u c s.0 given.u_word s.1)
-    (shift_agrees by x c.value a row.first given.x_word row.first_mask ps t (cut pointer t) a.mask pointer b.mask (cut_agrees pointer t) i given.range row.used)
+    (shift_agrees by x c.value a row.first given.x_word row.first_mask ps t (masked pointer t) a.mask pointer b.mask (cut_agrees pointer t) i given.range row.used)
 all_agree by code (insn.Memory i) pc x y u v w ps t pointer a b c given row =
-    subst (λ z. OutcomesAgree by (insn.Memory i) (masks_of_row by (insn.Memory i) a b c pointer) (memory_outcome code i pc x y z (unchanged ps t)) (memory_outcome code i pc a.value b.value c.value (unchanged ps (cut pointer t))))
+    subst (λ z. OutcomesAgree by (insn.Memory i) (masks_of_row by (insn.Memory i) a b c pointer) (memory_outcome code i pc x y z (no_change ps t)) (memory_outcome code i pc a.value b.value c.value (no_change ps (masked pointer t))))
     (let s = memory_special by i u c row.special row.number in whole_value u c s.0 given.u_word s.1)
-    (memory_agrees by pc x y c.value a b row.first row.second given.x_word given.y_word ps t (cut pointer t) a.mask pointer (cut_agrees pointer t) code i row.first_mask row.used)
+    (memory_agrees by pc x y c.value a b row.first row.second given.x_word given.y_word ps t (masked pointer t) a.mask pointer (cut_agrees pointer t) code i row.first_mask row.used)
 all_agree by code (insn.Control i) pc x y u v w ps t pointer a b c given row =
-    control_agrees by pc x y a b row.first row.second given.x_word given.y_word ps t (cut pointer t) a.mask pointer b.mask (cut_agrees pointer t) i row.used
+    control_agrees by pc x y a b row.first row.second given.x_word given.y_word ps t (masked pointer t) a.mask pointer b.mask (cut_agrees pointer t) i row.used
 all_agree by code (insn.System i) pc x y u v w ps t pointer a b c given row =
-    system_agrees by x u v w a c row.first given.x_word given.u_word ps t (cut pointer t) pointer b.mask (cut_agrees pointer t) i given.range row.special row.other row.number row.used
+    system_agrees by x u v w a c row.first given.x_word given.u_word ps t (masked pointer t) pointer b.mask (cut_agrees pointer t) i given.range row.special row.other row.number row.used
 all_agree by code (insn.Density i) pc x y u v w ps t pointer a b c given row =
-    density_agrees by pc x y a b row.first row.second given.x_word given.y_word ps t (cut pointer t) a.mask pointer (cut_agrees pointer t) code i row.first_mask row.used row.same
+    density_agrees by pc x y a b row.first row.second given.x_word given.y_word ps t (masked pointer t) a.mask pointer (cut_agrees pointer t) code i row.first_mask row.used row.same
 all_agree by code (insn.Boolean i) pc x y u v w ps t pointer a b c given row =
-    subst (λ z. OutcomesAgree by (insn.Boolean i) (masks_of_row by (insn.Boolean i) a b c pointer) (boolean_outcome i pc x z (unchanged ps t)) (boolean_outcome i pc a.value c.value (unchanged ps (cut pointer t))))
+    subst (λ z. OutcomesAgree by (insn.Boolean i) (masks_of_row by (insn.Boolean i) a b c pointer) (boolean_outcome i pc x z (no_change ps t)) (boolean_outcome i pc a.value c.value (no_change ps (masked pointer t))))
     (whole_value u c (row.special.0 refl) given.u_word (mask_whole c (row.number refl)))
-    (boolean_agrees by pc x c.value a row.first ps t (cut pointer t) a.mask pointer b.mask (cut_agrees pointer t) i)
+    (boolean_agrees by pc x c.value a row.first ps t (masked pointer t) a.mask pointer b.mask (cut_agrees pointer t) i)

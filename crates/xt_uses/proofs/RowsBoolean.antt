@@ -13,7 +13,7 @@ use Rattle.xt_alu.specs.declared.conditions.Cond.TheVariants as test
 use Rattle.xt_bool.specs.Registers.{logic, group}
 use Rattle.xt_bool.specs.declared.BoolOp.TheVariants as op
 use Rattle.xt_special.specs.declared.ps.Ps.{Ps}
-use Rattle.xt_rows.specs.Effects.{unchanged}
+use Rattle.xt_rows.specs.Effects.{no_change}
 use Rattle.xt_rows.specs.Kinds.{moved_to}
 use Rattle.xt_rows.specs.Outcomes.{boolean_outcome, booleans}
 use Rattle.xt_uses.specs.declared.discipline.Discipline.{Discipline}
@@ -27,7 +27,7 @@ module _ (by : Discipline) (pc x u : ℕ) (a : Word) (f : Fits x a) (ps : Ps) (t
   abbrev masks : Boolean → RowMasks
   masks i = record { result = boolean_mask i a; given = given; pointer = pointer; stored = stored }
 
-  pub boolean_agrees : (i : Boolean) → OutcomesAgree by (insn.Boolean i) (masks i) (boolean_outcome i pc x u (unchanged ps t)) (boolean_outcome i pc a.value u (unchanged ps k))
+  pub boolean_agrees : (i : Boolean) → OutcomesAgree by (insn.Boolean i) (masks i) (boolean_outcome i pc x u (no_change ps t)) (boolean_outcome i pc a.value u (no_change ps k))
   unfolding boolean_outcome boolean_mask moved_to
   boolean_agrees (boolean.Andb LogicName.Andb r s q) = sets_agree by (insn.Boolean (boolean.Andb LogicName.Andb r s q)) (masks (boolean.Andb LogicName.Andb r s q)) ps t k p refl 4 (logic op.And (booleans u) r s q) (logic op.And (booleans u) r s q) refl
   boolean_agrees (boolean.Andb LogicName.Andbc r s q) = sets_agree by (insn.Boolean (boolean.Andb LogicName.Andbc r s q)) (masks (boolean.Andb LogicName.Andbc r s q)) ps t k p refl 4 (logic op.AndNot (booleans u) r s q) (logic op.AndNot (booleans u) r s q) refl

@@ -19,7 +19,7 @@ use Rattle.xt_rows.specs.declared.outcome.WindowStep.TheVariants.{Enters, Return
 use Rattle.xt_rows.specs.declared.outcome.Outcome.TheVariants.{Windowed}
 use Rattle.xt_rows.specs.Numbers.{plus, minus, natural, branch_target, call_target}
 use Rattle.xt_rows.specs.Operands.{call_size, callx_size}
-use Rattle.xt_rows.specs.Effects.{unchanged}
+use Rattle.xt_rows.specs.Effects.{no_change}
 use Rattle.xt_rows.specs.Kinds.{moved_to}
 use Rattle.xt_rows.specs.Outcomes.{control_outcome}
 use Rattle.xt_uses.specs.declared.discipline.Discipline.{Discipline}
@@ -39,7 +39,7 @@ module _ (by : Discipline) (pc x y : ℕ) (a b : Word) (f : Fits x a) (g : Fits 
       let both = and_parts (is_whole a) (is_whole b) used in
       ap (λ z. r z y) (sym (whole_value x a f h both.0)) ∙ ap (λ z. r a.value z) (sym (whole_value y b g l both.1))
 
-  pub control_agrees : (i : Control) → control_used i a b ≡ true → OutcomesAgree by (insn.Control i) (masks i) (control_outcome i pc x y (unchanged ps t)) (control_outcome i pc a.value b.value (unchanged ps k))
+  pub control_agrees : (i : Control) → control_used i a b ≡ true → OutcomesAgree by (insn.Control i) (masks i) (control_outcome i pc x y (no_change ps t)) (control_outcome i pc a.value b.value (no_change ps k))
   unfolding control_outcome control_used moved_to holds
   control_agrees (control.J offset) used = goes_agree by (insn.Control (control.J offset)) (masks (control.J offset)) ps t k p refl (branch_target pc offset) (branch_target pc offset) refl
   control_agrees (control.Call0 name offset) used = calls_agree by (insn.Control (control.Call0 name offset)) (masks (control.Call0 name offset)) ps t k p refl (call_size name) (call_target pc offset) (call_target pc offset) pc refl

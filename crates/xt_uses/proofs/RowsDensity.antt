@@ -13,7 +13,7 @@ use Rattle.xt_special.specs.declared.ps.Ps.{Ps}
 use Rattle.xt_rows.specs.declared.outcome.WindowStep.TheVariants.{Returns}
 use Rattle.xt_rows.specs.declared.outcome.Outcome.TheVariants.{Windowed}
 use Rattle.xt_rows.specs.Numbers.{plus}
-use Rattle.xt_rows.specs.Effects.{unchanged}
+use Rattle.xt_rows.specs.Effects.{no_change}
 use Rattle.xt_rows.specs.Kinds.{moved_to}
 use Rattle.xt_rows.specs.Operands.{density_reads}
 use Rattle.xt_rows.specs.Outcomes.{density_outcome}
@@ -31,7 +31,7 @@ module _ (by : Discipline) (pc x y : ℕ) (a b : Word) (f : Fits x a) (g : Fits 
   abbrev masks : Density → RowMasks
   masks i = record { result = density_mask i a b all_bits; given = given; pointer = pointer; stored = b.mask }
 
-  pub density_agrees : (code : ℕ → ℕ) (i : Density) → a.mask < 2 ^ 32 → density_used i a b ≡ true → ((density_reads i).0 ≡ (density_reads i).1 → (x ≡ y) × (a ≡ b)) → OutcomesAgree by (insn.Density i) (masks i) (density_outcome code i pc x y (unchanged ps t)) (density_outcome code i pc a.value b.value (unchanged ps k))
+  pub density_agrees : (code : ℕ → ℕ) (i : Density) → a.mask < 2 ^ 32 → density_used i a b ≡ true → ((density_reads i).0 ≡ (density_reads i).1 → (x ≡ y) × (a ≡ b)) → OutcomesAgree by (insn.Density i) (masks i) (density_outcome code i pc x y (no_change ps t)) (density_outcome code i pc a.value b.value (no_change ps k))
   unfolding density_outcome density_mask density_used moved_to
   density_agrees code (density.L32i NarrowName.L32i q s offset) m used same = loads_agree by (insn.Density (density.L32i NarrowName.L32i q s offset)) (masks (density.L32i NarrowName.L32i q s offset)) ps t k p refl code 4 false q (plus x offset) (plus a.value offset) (ap (λ z. plus z offset) (sym (whole_value x a f h used)))
   density_agrees code (density.L32i NarrowName.S32i q s offset) m used same = stores_agree by (insn.Density (density.L32i NarrowName.S32i q s offset)) (masks (density.L32i NarrowName.S32i q s offset)) ps t k p refl 4 y b.value (plus x offset) (plus a.value offset) (ap (λ z. plus z offset) (address by pc x y 0 a b f g h l ps t k given pointer p offset used)) (fits_agree y b g)

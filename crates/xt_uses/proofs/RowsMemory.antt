@@ -12,7 +12,7 @@ use Rattle.xt_isa.specs.declared.memory.WindowName.TheVariants as WindowName
 use Rattle.xt_map.specs.Regions.{uart_transmit}
 use Rattle.xt_special.specs.declared.ps.Ps.{Ps}
 use Rattle.xt_rows.specs.Numbers.{plus, literal_address}
-use Rattle.xt_rows.specs.Effects.{unchanged}
+use Rattle.xt_rows.specs.Effects.{no_change}
 use Rattle.xt_rows.specs.Kinds.{moved_to}
 use Rattle.xt_rows.specs.Outcomes.{memory_outcome}
 use Rattle.xt_uses.specs.declared.discipline.Discipline.{Discipline}
@@ -32,7 +32,7 @@ module _ (by : Discipline) (pc x y u : ℕ) (a b : Word) (f : Fits x a) (g : Fit
   pub address : (offset : ℤ) → store_used a b offset ≡ true → x ≡ a.value
   address offset used = sym (whole_value x a f h (and_parts (is_whole a) (if plus a.value offset == uart_transmit then knows (low_bits 8) b else true) used).0)
 
-  pub memory_agrees : (code : ℕ → ℕ) (i : Memory) → a.mask < 2 ^ 32 → memory_used i a b ≡ true → OutcomesAgree by (insn.Memory i) (masks i) (memory_outcome code i pc x y u (unchanged ps t)) (memory_outcome code i pc a.value b.value u (unchanged ps k))
+  pub memory_agrees : (code : ℕ → ℕ) (i : Memory) → a.mask < 2 ^ 32 → memory_used i a b ≡ true → OutcomesAgree by (insn.Memory i) (masks i) (memory_outcome code i pc x y u (no_change ps t)) (memory_outcome code i pc a.value b.value u (no_change ps k))
   unfolding memory_outcome memory_mask memory_used moved_to
   memory_agrees code (memory.L8ui ByteName.L8ui q s offset) m used = loads_agree by (insn.Memory (memory.L8ui ByteName.L8ui q s offset)) (masks (memory.L8ui ByteName.L8ui q s offset)) ps t k p refl code 1 false q (plus x offset) (plus a.value offset) (ap (λ z. plus z offset) (sym (whole_value x a f h used)))
   memory_agrees code (memory.L8ui ByteName.S8i q s offset) m used = stores_agree by (insn.Memory (memory.L8ui ByteName.S8i q s offset)) (masks (memory.L8ui ByteName.S8i q s offset)) ps t k p refl 1 y b.value (plus x offset) (plus a.value offset) (ap (λ z. plus z offset) (address offset used)) (fits_agree y b g)

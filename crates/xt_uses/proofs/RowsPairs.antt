@@ -6,7 +6,7 @@ use Rattle.std.proofs.lemmas.Nat.{mod_below, pow_pos}
 use Rattle.std.proofs.lemmas.Nat.Bits.{bit_at-lt, bit_at-zero, bit_at_above, bit_at_cat_low, bit_at_cat_high}
 use Rattle.xt_word.specs.Words.{pair_shifted}
 use Rattle.xt_alu.specs.Shifts.{src, srl, sll}
-use Rattle.xt_uses.specs.Words.{Word, flipped}
+use Rattle.xt_uses.specs.Words.{Word, complement}
 use Rattle.xt_uses.specs.Known.{src_mask}
 use Rattle.xt_uses.specs.UseLaws.{AgreeIn}
 use Rattle.xt_uses.proofs.Bits.{bit_at_div, bit_at_rest, flipped_word, flipped_at}
@@ -65,21 +65,21 @@ src_word s t k = pair_word s t k
 
 module _ (x y k : ℕ) (a b : Word) (f : AgreeIn a.mask x a.value) (g : AgreeIn b.mask y b.value) (h : x < 2 ^ 32) (l : y < 2 ^ 32) (v : a.value < 2 ^ 32) (w : b.value < 2 ^ 32) (m : a.mask < 2 ^ 32) (n : b.mask < 2 ^ 32) where
   abbrev moved : ℕ
-  moved = pair_shifted (flipped a.mask) (flipped b.mask) k
+  moved = pair_shifted (complement a.mask) (complement b.mask) k
 
-  from_low : (i : ℕ) → i < 32 → k + i < 32 → bit_at (flipped moved) i ≡ 1 → bit_at (pair_shifted x y k) i ≡ bit_at (pair_shifted a.value b.value k) i
+  from_low : (i : ℕ) → i < 32 → k + i < 32 → bit_at (complement moved) i ≡ 1 → bit_at (pair_shifted x y k) i ≡ bit_at (pair_shifted a.value b.value k) i
   from_low i low under one =
-      let p : bit_at (flipped moved) i ≡ 1 - bit_at moved i = flipped_at moved i low in
-      let q : bit_at moved i ≡ bit_at (flipped b.mask) (k + i) = pair_low (flipped a.mask) (flipped b.mask) k i low under in
-      let r : bit_at (flipped b.mask) (k + i) ≡ 1 - bit_at b.mask (k + i) = flipped_at b.mask (k + i) under in
+      let p : bit_at (complement moved) i ≡ 1 - bit_at moved i = flipped_at moved i low in
+      let q : bit_at moved i ≡ bit_at (complement b.mask) (k + i) = pair_low (complement a.mask) (complement b.mask) k i low under in
+      let r : bit_at (complement b.mask) (k + i) ≡ 1 - bit_at b.mask (k + i) = flipped_at b.mask (k + i) under in
       let known : bit_at b.mask (k + i) ≡ 1 = omega (arith, bit_at-lt b.mask (k + i)) in
       pair_low x y k i low under ∙ agree_at b.mask y b.value (k + i) g known ∙ sym (pair_low a.value b.value k i low under)
 
-  from_high : (i : ℕ) → i < 32 → 32 ≤ k + i → k + i - 32 < 32 → bit_at (flipped moved) i ≡ 1 → bit_at (pair_shifted x y k) i ≡ bit_at (pair_shifted a.value b.value k) i
+  from_high : (i : ℕ) → i < 32 → 32 ≤ k + i → k + i - 32 < 32 → bit_at (complement moved) i ≡ 1 → bit_at (pair_shifted x y k) i ≡ bit_at (pair_shifted a.value b.value k) i
   from_high i low over inside one =
-      let p : bit_at (flipped moved) i ≡ 1 - bit_at moved i = flipped_at moved i low in
-      let q : bit_at moved i ≡ bit_at (flipped a.mask) (k + i - 32) = pair_high (flipped a.mask) (flipped b.mask) k i (flipped_word b.mask n) low over in
-      let r : bit_at (flipped a.mask) (k + i - 32) ≡ 1 - bit_at a.mask (k + i - 32) = flipped_at a.mask (k + i - 32) inside in
+      let p : bit_at (complement moved) i ≡ 1 - bit_at moved i = flipped_at moved i low in
+      let q : bit_at moved i ≡ bit_at (complement a.mask) (k + i - 32) = pair_high (complement a.mask) (complement b.mask) k i (flipped_word b.mask n) low over in
+      let r : bit_at (complement a.mask) (k + i - 32) ≡ 1 - bit_at a.mask (k + i - 32) = flipped_at a.mask (k + i - 32) inside in
       let known : bit_at a.mask (k + i - 32) ≡ 1 = omega (arith, bit_at-lt a.mask (k + i - 32)) in
       pair_high x y k i l low over ∙ agree_at a.mask x a.value (k + i - 32) f known ∙ sym (pair_high a.value b.value k i w low over)
 
@@ -89,7 +89,7 @@ module _ (x y k : ℕ) (a b : Word) (f : AgreeIn a.mask x a.value) (g : AgreeIn 
       ∙ bit_at_above x 32 (k + i - 32) h past
       ∙ sym (pair_high a.value b.value k i w low over ∙ bit_at_above a.value 32 (k + i - 32) v past)
 
-  each_bit : (i : ℕ) → bit_at (flipped moved) i ≡ 1 → bit_at (pair_shifted x y k) i ≡ bit_at (pair_shifted a.value b.value k) i
+  each_bit : (i : ℕ) → bit_at (complement moved) i ≡ 1 → bit_at (pair_shifted x y k) i ≡ bit_at (pair_shifted a.value b.value k) i
   each_bit i one =
       ⊎_elim
       (λ low. ⊎_elim
@@ -101,4 +101,4 @@ module _ (x y k : ℕ) (a b : Word) (f : AgreeIn a.mask x a.value) (g : AgreeIn 
 
   pub src_agrees : AgreeIn (src_mask a b k) (src x y k) (src a.value b.value k)
   unfolding src
-  src_agrees = agree_from (flipped moved) (pair_shifted x y k) (pair_shifted a.value b.value k) each_bit
+  src_agrees = agree_from (complement moved) (pair_shifted x y k) (pair_shifted a.value b.value k) each_bit

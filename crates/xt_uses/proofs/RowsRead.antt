@@ -4,11 +4,11 @@ use Rattle.std.proofs.Common.{◌≡◌, ℕ, ◌^◌, ◌<◌, true, Option, So
 use Rattle.std.specs.Prelude.{slice_index_or}
 use Rattle.xt_isa.specs.declared.Insn.{Insn}
 use Rattle.xt_special.specs.Control.{Control, special_of}
-use Rattle.xt_rows.specs.Laws.{IsGiven, IsRegister}
+use Rattle.xt_rows.specs.RowLaws.{IsGiven, IsRegister}
 use Rattle.xt_rows.specs.Operands.{reads, special_reads}
 use Rattle.xt_rows.specs.Outcomes.{outcome, outcome_at, value_of}
-use Rattle.xt_frames.specs.Frames.{FrameState, known}
-use Rattle.xt_uses.specs.Words.{Fits, cut}
+use Rattle.xt_frames.specs.Frames.{FrameState, value_or_zero}
+use Rattle.xt_uses.specs.Words.{Fits, masked}
 use Rattle.xt_uses.specs.Used.{used_are_known}
 use Rattle.xt_uses.specs.UseState.{UseState, current_masks, first_word, second_word, special_operand, special_word, visible_word}
 use Rattle.xt_uses.specs.UseLaws.{IsKnownNumber, OthersAgree, OutcomesAgree, SpecialFits, masks_of_row}
@@ -16,7 +16,7 @@ use Rattle.xt_uses.proofs.RowsAll.{all_agree}
 
 -- ---- operands, of a state s of which f is what the next step finds
 module _ (s : UseState) (f : FrameState) where
-  visible_is : (o : Option ℕ) → (visible_word s f o).value ≡ value_of (known f.seen) o
+  visible_is : (o : Option ℕ) → (visible_word s f o).value ≡ value_of (value_or_zero f.seen) o
   visible_is None = refl
   visible_is (Some n) = refl
 
@@ -28,7 +28,7 @@ module _ (s : UseState) (f : FrameState) where
   special_number None = refl
   special_number (Some n) = λ unmarked. rw unmarked refl
 
-  pub visible_fits : (registers : ℕ → ℕ) → ((n : ℕ) → n < 16 → cut (slice_index_or (current_masks s) n 0) (registers n) ≡ known f.seen n) → (o : Option ℕ) → IsRegister o → Fits (value_of registers o) (visible_word s f o)
+  pub visible_fits : (registers : ℕ → ℕ) → ((n : ℕ) → n < 16 → masked (slice_index_or (current_masks s) n 0) (registers n) ≡ value_or_zero f.seen n) → (o : Option ℕ) → IsRegister o → Fits (value_of registers o) (visible_word s f o)
   visible_fits registers fit None h = refl
   visible_fits registers fit (Some n) h = fit n h
 
@@ -46,12 +46,12 @@ pub record ReadsFit (i : Insn) (registers : ℕ → ℕ) (c : Control) (s : UseS
   pub other : OthersAgree s.masks.discipline (special_reads i).1 (value_of (special_of c) (special_reads i).1) (value_of (special_of f.control) (special_reads i).1)
   pub pc : c.pc ≡ f.control.pc
   pub ps : c.ps ≡ f.control.ps
-  pub threadptr : cut s.masks.threadptr c.threadptr ≡ f.control.threadptr
+  pub threadptr : masked s.masks.threadptr c.threadptr ≡ f.control.threadptr
 
 module _ (code : ℕ → ℕ) (i : Insn) (registers : ℕ → ℕ) (c : Control) (s : UseState) (f : FrameState) where
   same_read : ReadsFit i registers c s f
-      → outcome code i c.pc (first_word i s f).value (second_word i s f).value (special_operand i s f).value (value_of (special_of f.control) (special_reads i).1) c.ps (cut s.masks.threadptr c.threadptr)
-      ≡ outcome_at code i (known f.seen) f.control
+      → outcome code i c.pc (first_word i s f).value (second_word i s f).value (special_operand i s f).value (value_of (special_of f.control) (special_reads i).1) c.ps (masked s.masks.threadptr c.threadptr)
+      ≡ outcome_at code i (value_or_zero f.seen) f.control
   same_read r =
       let x = visible_is s f (reads i).0 in
       let y = visible_is s f (reads i).1 in
@@ -64,7 +64,7 @@ module _ (code : ℕ → ℕ) (i : Insn) (registers : ℕ → ℕ) (c : Control)
   -- where what is used is known, the outcome over the registers agrees with the one over the words
   pub outcomes_agree : IsGiven i c.pc (value_of registers (reads i).0) (value_of registers (reads i).1) (value_of (special_of c) (special_reads i).0) (value_of (special_of c) (special_reads i).1) c.ps c.threadptr
       → ReadsFit i registers c s f → used_are_known s.masks.discipline i (first_word i s f) (second_word i s f) ≡ true
-      → OutcomesAgree s.masks.discipline i (masks_of_row s.masks.discipline i (first_word i s f) (second_word i s f) (special_operand i s f) s.masks.threadptr) (outcome_at code i registers c) (outcome_at code i (known f.seen) f.control)
+      → OutcomesAgree s.masks.discipline i (masks_of_row s.masks.discipline i (first_word i s f) (second_word i s f) (special_operand i s f) s.masks.threadptr) (outcome_at code i registers c) (outcome_at code i (value_or_zero f.seen) f.control)
   outcomes_agree given r used =
       subst (λ o. OutcomesAgree s.masks.discipline i (masks_of_row s.masks.discipline i (first_word i s f) (second_word i s f) (special_operand i s f) s.masks.threadptr) (outcome_at code i registers c) o)
       (same_read r)

@@ -17,7 +17,7 @@ use Rattle.xt_special.specs.declared.ps.Ps.{Ps}
 use Rattle.xt_rows.specs.declared.outcome.WindowStep.TheVariants.{MovesStack}
 use Rattle.xt_rows.specs.declared.outcome.Outcome.TheVariants.{Windowed}
 use Rattle.xt_rows.specs.Numbers.{natural}
-use Rattle.xt_rows.specs.Effects.{unchanged}
+use Rattle.xt_rows.specs.Effects.{no_change}
 use Rattle.xt_rows.specs.Kinds.{moved_to}
 use Rattle.xt_rows.specs.Outcomes.{shift_outcome}
 use Rattle.xt_uses.specs.declared.discipline.Discipline.{Discipline}
@@ -64,7 +64,7 @@ module _ (by : Discipline) (x u : ℕ) (a : Word) (f : Fits x a) (h : x < 2 ^ 32
   moved : (move : ℕ → ℕ) → IsMove move → AgreeIn (moved_mask move a.mask) (move x) (move a.value)
   moved move is = moved_agrees move a.mask x a.value m h (value_word x a f h) (fits_agree x a f) is
 
-  pub shift_agrees : (i : Shift) → in_range (insn.Shift i) ≡ true → shift_used i a ≡ true → OutcomesAgree by (insn.Shift i) (masks i) (shift_outcome i x u (unchanged ps t)) (shift_outcome i a.value u (unchanged ps k))
+  pub shift_agrees : (i : Shift) → in_range (insn.Shift i) ≡ true → shift_used i a ≡ true → OutcomesAgree by (insn.Shift i) (masks i) (shift_outcome i x u (no_change ps t)) (shift_outcome i a.value u (no_change ps k))
   unfolding shift_outcome shift_mask shift_used moved_to ssr ssl ssa8l ssa8b
   shift_agrees (shift.Neg NegName.Neg r q) range used = puts_agree by (insn.Shift (shift.Neg NegName.Neg r q)) (masks (shift.Neg NegName.Neg r q)) ps t k p refl r (neg x) (neg a.value) (neg_agrees a.mask m x a.value h (value_word x a f h) (fits_agree x a f))
   shift_agrees (shift.Neg NegName.Abs r q) range used = puts_agree by (insn.Shift (shift.Neg NegName.Abs r q)) (masks (shift.Neg NegName.Abs r q)) ps t k p refl r (abs x) (abs a.value) (where_first x a f h (λ z. abs z))

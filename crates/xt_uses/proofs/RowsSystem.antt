@@ -22,7 +22,7 @@ use Rattle.xt_rows.specs.declared.outcome.WindowStep.TheVariants.{EndsOverflow, 
 use Rattle.xt_rows.specs.declared.outcome.Outcome.TheVariants.{Windowed}
 use Rattle.xt_rows.specs.Numbers.{natural}
 use Rattle.xt_rows.specs.Operands.{changes_interrupt, special_reads}
-use Rattle.xt_rows.specs.Effects.{unchanged, window_register, reads_special, writes_special, exchanges_special}
+use Rattle.xt_rows.specs.Effects.{no_change, window_register, reads_special, writes_special, exchanges_special}
 use Rattle.xt_rows.specs.Kinds.{moved_to}
 use Rattle.xt_rows.specs.Outcomes.{system_outcome}
 use Rattle.xt_frames.specs.Marks.{holds_marks}
@@ -125,22 +125,22 @@ module _ (by : Discipline) (x u v w : ℕ) (a c : Word) (f : Fits x a) (h : x < 
       by_test true e = words_of_ps by n x a.value (counted n used (ap holds_marks (eqb-true n 230 e)))
       by_test false e = refl
 
-  rsr_agrees : (q n : ℕ) (z : Option WindowRegister) → AgreeIn c.mask u c.value → OutcomesAgree by (insn.System (system.Rsr SpecialName.Rsr q n)) (masks (system.Rsr SpecialName.Rsr q n)) (reads_special z q n u (unchanged ps t)) (reads_special z q n c.value (unchanged ps k))
+  rsr_agrees : (q n : ℕ) (z : Option WindowRegister) → AgreeIn c.mask u c.value → OutcomesAgree by (insn.System (system.Rsr SpecialName.Rsr q n)) (masks (system.Rsr SpecialName.Rsr q n)) (reads_special z q n u (no_change ps t)) (reads_special z q n c.value (no_change ps k))
   unfolding moved_to system_mask pointer_mask
   rsr_agrees q n None g = puts_agree by (insn.System (system.Rsr SpecialName.Rsr q n)) (masks (system.Rsr SpecialName.Rsr q n)) ps t k p refl q (value_read n u ps) (value_read n c.value ps) (value_agrees n g)
   rsr_agrees q n (Some z) g = refl
 
-  wsr_agrees : (q n : ℕ) (z : Option WindowRegister) → window_register n ≡ z → Uses n → v ≡ w → OutcomesAgree by (insn.System (system.Rsr SpecialName.Wsr q n)) (masks (system.Rsr SpecialName.Wsr q n)) (writes_special z n x v (unchanged ps t)) (writes_special z n a.value w (unchanged ps k))
+  wsr_agrees : (q n : ℕ) (z : Option WindowRegister) → window_register n ≡ z → Uses n → v ≡ w → OutcomesAgree by (insn.System (system.Rsr SpecialName.Wsr q n)) (masks (system.Rsr SpecialName.Wsr q n)) (writes_special z n x v (no_change ps t)) (writes_special z n a.value w (no_change ps k))
   unfolding moved_to system_mask pointer_mask
   wsr_agrees q n None e used same = record { write = tt; sets = written_agrees q n used same; ps = ps_agrees n used; threadptr = p; flow = refl; waits = refl }
   wsr_agrees q n (Some z) e used same = ap (λ y. Windowed (Sets z y)) (whole n used (window_unmarked n z e) (window_counts n z e))
 
-  xsr_agrees : (q n : ℕ) (z : Option WindowRegister) → window_register n ≡ z → AgreeIn c.mask u c.value → Uses n → v ≡ w → OutcomesAgree by (insn.System (system.Rsr SpecialName.Xsr q n)) (masks (system.Rsr SpecialName.Xsr q n)) (exchanges_special z q n x u v (unchanged ps t)) (exchanges_special z q n a.value c.value w (unchanged ps k))
+  xsr_agrees : (q n : ℕ) (z : Option WindowRegister) → window_register n ≡ z → AgreeIn c.mask u c.value → Uses n → v ≡ w → OutcomesAgree by (insn.System (system.Rsr SpecialName.Xsr q n)) (masks (system.Rsr SpecialName.Xsr q n)) (exchanges_special z q n x u v (no_change ps t)) (exchanges_special z q n a.value c.value w (no_change ps k))
   unfolding moved_to system_mask pointer_mask
   xsr_agrees q n None e g used same = record { write = (refl, value_agrees n g); sets = written_agrees q n used same; ps = ps_agrees n used; threadptr = p; flow = refl; waits = refl }
   xsr_agrees q n (Some z) e g used same = ap (λ y. Windowed (Exchanges z q y)) (whole n used (window_unmarked n z e) (window_counts n z e))
 
-  pub system_agrees : (i : System) → in_range (insn.System i) ≡ true → SpecialFits (special_reads (insn.System i)).0 u c → OthersAgree by (special_reads (insn.System i)).1 v w → IsKnownNumber by (special_reads (insn.System i)).0 c → system_used by i a ≡ true → OutcomesAgree by (insn.System i) (masks i) (system_outcome i x u v (unchanged ps t)) (system_outcome i a.value c.value w (unchanged ps k))
+  pub system_agrees : (i : System) → in_range (insn.System i) ≡ true → SpecialFits (special_reads (insn.System i)).0 u c → OthersAgree by (special_reads (insn.System i)).1 v w → IsKnownNumber by (special_reads (insn.System i)).0 c → system_used by i a ≡ true → OutcomesAgree by (insn.System i) (masks i) (system_outcome i x u v (no_change ps t)) (system_outcome i a.value c.value w (no_change ps k))
   unfolding system_outcome system_mask system_used moved_to pointer_mask special_reads
   system_agrees (system.Ill SyncName.Ill) range special other number used = refl
   system_agrees (system.Ill SyncName.Isync) range special other number used = nothing_agrees by (insn.System (system.Ill SyncName.Isync)) (masks (system.Ill SyncName.Isync)) ps t k p refl

@@ -7,7 +7,7 @@ use Rattle.std.proofs.lemmas.Nat.{and_le_l}
 use Rattle.std.proofs.lemmas.Nat.Bits.{same_from_bits, bit_at_and, bit_at_or, bit_at-lt, bit_at-pow_same, bit_at_ones, bit_at_above}
 use Rattle.xt_alu.specs.Conditions.{holds}
 use Rattle.xt_alu.specs.declared.conditions.Cond.TheVariants as test
-use Rattle.xt_uses.specs.Words.{Word, Fits, knows, is_whole, flipped, zeros, both_mask, and_mask, and_word, not_word}
+use Rattle.xt_uses.specs.Words.{Word, Fits, knows, is_whole, complement, zeros, both_mask, and_mask, and_word, not_word}
 use Rattle.xt_uses.specs.Used.{sign_bit, bit_number, low_bits, tested_known}
 use Rattle.xt_uses.specs.UseLaws.{AgreeIn}
 use Rattle.xt_uses.proofs.Bits.{bit_at_rest, bit_at_rest_above, flipped_at, top_clear, top_set}
@@ -97,9 +97,9 @@ module _ (x y : ℕ) (a b : Word) (f : Fits x a) (g : Fits y b) (h : x < 2 ^ 32)
           lacking_bits (bit_at x i) (bit_at y i) (bit_at a.mask i) (bit_at b.mask i) (bit_at a.value i) (bit_at b.value i) (bit_at (zeros a) i) (bit_at (zeros (not_word a)) i) (bit_at (zeros b) i)
           (bit_at (both_mask (not_word a) b) i) (bit_at (bit_or (zeros (not_word a)) (zeros b)) i) (bit_at (and_mask (not_word a) b) i)
           (bit_at-lt x i) (bit_at-lt y i) (bit_at-lt a.mask i) (bit_at-lt b.mask i) (value_at x a f i) (value_at y b g i)
-          (bit_at_and (flipped a.value) a.mask i ∙ ap (λ n. min n (bit_at a.mask i)) (flipped_at a.value i low))
-          (bit_at_and (flipped (zeros a)) a.mask i ∙ ap (λ n. min n (bit_at a.mask i)) (flipped_at (zeros a) i low))
-          (bit_at_and (flipped b.value) b.mask i ∙ ap (λ n. min n (bit_at b.mask i)) (flipped_at b.value i low))
+          (bit_at_and (complement a.value) a.mask i ∙ ap (λ n. min n (bit_at a.mask i)) (flipped_at a.value i low))
+          (bit_at_and (complement (zeros a)) a.mask i ∙ ap (λ n. min n (bit_at a.mask i)) (flipped_at (zeros a) i low))
+          (bit_at_and (complement b.value) b.mask i ∙ ap (λ n. min n (bit_at b.mask i)) (flipped_at b.value i low))
           (bit_at_and a.mask b.mask i) (bit_at_or (zeros (not_word a)) (zeros b) i) (bit_at_or (both_mask (not_word a) b) (bit_or (zeros (not_word a)) (zeros b)) i)
           (whole_at (and_word (not_word a) b) all i low)
 

@@ -30,9 +30,9 @@ use Rattle.xt_isa.specs.declared.boolean.Boolean.TheVariants as boolean
 use Rattle.xt_isa.specs.Ranges.{in_range, two_registers, natural_within}
 use Rattle.xt_alu.specs.Arithmetic.{sext}
 use Rattle.xt_alu.specs.Shifts.{src, srl, sra, sll, slli, srai, srli, extui}
-use Rattle.xt_rows.specs.Numbers.{natural, extended}
+use Rattle.xt_rows.specs.Numbers.{natural, loaded_value}
 use Rattle.xt_uses.specs.declared.discipline.Discipline.{Discipline}
-use Rattle.xt_uses.specs.Words.{Word, all_bits, and_mask, or_mask, both_mask, flipped, is_whole, mask_where, moved_mask, ones, zeros}
+use Rattle.xt_uses.specs.Words.{Word, all_bits, and_mask, or_mask, both_mask, complement, is_whole, mask_where, moved_mask, ones, zeros}
 use Rattle.xt_uses.specs.Known.{loaded_mask, three_mask, shift_mask, memory_mask, system_mask, density_mask, boolean_mask, result_mask}
 use Rattle.xt_uses.proofs.Bits.{flipped_word}
 use Rattle.xt_uses.proofs.Owb.{counted_word}
@@ -51,10 +51,10 @@ where_word true = omega arith
 where_word false = omega arith
 
 moved_word : (move : ℕ → ℕ) (mask : ℕ) → mask < 2 ^ 32 → IsMove move → moved_mask move mask < 2 ^ 32
-moved_word move mask h is = flipped_word (move (flipped mask)) (is.word (flipped mask) (flipped_word mask h))
+moved_word move mask h is = flipped_word (move (complement mask)) (is.word (complement mask) (flipped_word mask h))
 
 loaded_word : (signed : Bool) (reply : ℕ) → reply < 2 ^ 32 → loaded_mask signed reply < 2 ^ 32
-loaded_word signed reply h = moved_word (λ z. extended signed z) reply h (extended_moves signed)
+loaded_word signed reply h = moved_word (λ z. loaded_value signed z) reply h (extended_moves signed)
 
 memory_word : (i : Memory) (a : Word) (reply : ℕ) → a.mask < 2 ^ 32 → reply < 2 ^ 32 → memory_mask i a reply < 2 ^ 32
 unfolding memory_mask
@@ -100,8 +100,8 @@ module _ (a b : Word) (h : a.mask < 2 ^ 32) (g : b.mask < 2 ^ 32) where
 
   and_word : and_mask a b < 2 ^ 32
   and_word =
-      let p : zeros a < 2 ^ 32 = omega (arith, and_le_r (flipped a.value) a.mask) in
-      let q : zeros b < 2 ^ 32 = omega (arith, and_le_r (flipped b.value) b.mask) in
+      let p : zeros a < 2 ^ 32 = omega (arith, and_le_r (complement a.value) a.mask) in
+      let q : zeros b < 2 ^ 32 = omega (arith, and_le_r (complement b.value) b.mask) in
       or_lt 32 (both_mask a b) (bit_or (zeros a) (zeros b)) both_word (or_lt 32 (zeros a) (zeros b) p q)
 
   or_word : or_mask a b < 2 ^ 32
@@ -128,7 +128,7 @@ module _ (a b : Word) (h : a.mask < 2 ^ 32) (g : b.mask < 2 ^ 32) where
   three_word (three.Muluh name r s t) u = where_word (is_whole a && is_whole b)
   three_word (three.Quou name r s t) u = where_word (is_whole a && is_whole b)
   three_word (three.Min name r s t) u = where_word (is_whole a && is_whole b)
-  three_word (three.Src r s t) u = flipped_word (src (flipped a.mask) (flipped b.mask) u) (src_word (flipped a.mask) (flipped b.mask) u)
+  three_word (three.Src r s t) u = flipped_word (src (complement a.mask) (complement b.mask) u) (src_word (complement a.mask) (complement b.mask) u)
   three_word (three.Moveqz name r s t) u = h
 
   shift_word : (i : Shift) → in_range (insn.Shift i) ≡ true → (u : ℕ) → shift_mask i a u < 2 ^ 32

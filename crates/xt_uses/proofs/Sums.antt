@@ -9,7 +9,7 @@ use Rattle.std.proofs.Math.Nat.{add-mod, add-mul-mod_self_left, div-add-mod, mod
 use Rattle.xt_alu.specs.Arithmetic.{addx, subx, mull, neg}
 use Rattle.xt_alu.specs.Shifts.{slli}
 use Rattle.xt_rows.specs.Numbers.{plus}
-use Rattle.xt_uses.specs.Words.{Word, Fits, all_bits, below_unknown, cut, flipped}
+use Rattle.xt_uses.specs.Words.{Word, Fits, all_bits, below_unknown, masked, complement}
 use Rattle.xt_uses.specs.Known.{add_mask, scaled_mask, scaled_sum, sum_mask}
 use Rattle.xt_uses.specs.UseLaws.{AgreeIn}
 use Rattle.xt_uses.proofs.Bits.{bit_at_rest, bit_at_rest_above, flipped_word}
@@ -157,7 +157,7 @@ unfolding slli
 shifts k = times k
 
 pub scaled_word : (k mask : ℕ) → mask < 2 ^ 32 → scaled_mask k mask < 2 ^ 32
-scaled_word k mask h = flipped_word (slli (flipped mask) k) ((shifts k).word (flipped mask) (flipped_word mask h))
+scaled_word k mask h = flipped_word (slli (complement mask) k) ((shifts k).word (complement mask) (flipped_word mask h))
 
 pub scaled_sum_word : (k : ℕ) (a b : Word) → a.mask < 2 ^ 32 → scaled_sum k a b < 2 ^ 32
 scaled_sum_word k a b h = sum_word (scaled_mask k a.mask) b.mask (scaled_word k a.mask h)
@@ -176,7 +176,7 @@ module _ (x y : ℕ) (a b : Word) (f : Fits x a) (g : Fits y b) (h : x < 2 ^ 32)
   scaled k = moved_agrees (λ n. slli n k) a.mask x a.value m h (value_word x a f h) (fits_agree x a f) (shifts k)
 
   same_over : (mask n p q r : ℕ) → n ≡ p → q ≡ r → AgreeIn mask n q → AgreeIn mask p r
-  same_over mask n p q r e d agree = ap (λ z. cut mask z) (sym e) ∙ agree ∙ ap (λ z. cut mask z) d
+  same_over mask n p q r e d agree = ap (λ z. masked mask z) (sym e) ∙ agree ∙ ap (λ z. masked mask z) d
 
   pub addx_agrees : (k : ℕ) → AgreeIn (scaled_sum k a b) (addx x y k) (addx a.value b.value k)
   unfolding addx

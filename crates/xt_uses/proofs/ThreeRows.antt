@@ -17,7 +17,7 @@ use Rattle.xt_alu.specs.Shifts.{src}
 use Rattle.xt_alu.specs.Conditions.{holds}
 use Rattle.xt_alu.specs.declared.conditions.Cond.TheVariants as cond
 use Rattle.xt_special.specs.declared.ps.Ps.{Ps}
-use Rattle.xt_rows.specs.Effects.{unchanged}
+use Rattle.xt_rows.specs.Effects.{no_change}
 use Rattle.xt_rows.specs.Kinds.{moved_to}
 use Rattle.xt_rows.specs.Operands.{three_reads}
 use Rattle.xt_rows.specs.Outcomes.{three_outcome}
@@ -36,7 +36,7 @@ module _ (by : Discipline) (x y u : ℕ) (a b : Word) (f : Fits x a) (g : Fits y
   abbrev masks : Three → RowMasks
   masks i = record { result = three_mask i a b u; given = given; pointer = pointer; stored = stored }
 
-  pub three_agrees : (i : Three) → three_used i a b ≡ true → ((three_reads i).0 ≡ (three_reads i).1 → (x ≡ y) × (a ≡ b)) → OutcomesAgree by (insn.Three i) (masks i) (three_outcome i x y u (unchanged ps t)) (three_outcome i a.value b.value u (unchanged ps k))
+  pub three_agrees : (i : Three) → three_used i a b ≡ true → ((three_reads i).0 ≡ (three_reads i).1 → (x ≡ y) × (a ≡ b)) → OutcomesAgree by (insn.Three i) (masks i) (three_outcome i x y u (no_change ps t)) (three_outcome i a.value b.value u (no_change ps k))
   unfolding three_outcome three_mask three_used moved_to
   three_agrees (three.And AndName.And r s q) used same = puts_agree by (insn.Three (three.And AndName.And r s q)) (masks (three.And AndName.And r s q)) ps t k p refl r (bit_and x y) (bit_and a.value b.value) (and_agrees x y a b f g h l)
   three_agrees (three.And AndName.Or r s q) used same = puts_agree by (insn.Three (three.And AndName.Or r s q)) (masks (three.And AndName.Or r s q)) ps t k p refl r (bit_or x y) (bit_or a.value b.value) (or_agrees x y a b f g h l)

@@ -9,10 +9,10 @@ use Rattle.xt_isa.specs.declared.shift.Shift.TheVariants as shift
 use Rattle.xt_isa.specs.Ranges.{in_range}
 use Rattle.xt_special.specs.Interrupts.{pending_of}
 use Rattle.xt_trace.specs.declared.record.StepRecord.{StepRecord}
-use Rattle.xt_fetch.specs.Fetching.{Fetched, Fetches, Fails, SpellsNothing, fetched}
+use Rattle.xt_fetch.specs.Fetching.{Fetched, Fetches, Fails, SpellsNothing, fetch_at}
 use Rattle.xt_rows.specs.Settling.{settled_interrupt, settled_wait}
-use Rattle.xt_frames.specs.Frames.{Frame, FrameState, known}
-use Rattle.xt_frames.specs.FrameStep.{FrameTurn, fetched_step, in_frame, laid_step}
+use Rattle.xt_frames.specs.Frames.{Frame, FrameState, value_or_zero}
+use Rattle.xt_frames.specs.FrameStep.{FrameTurn, fetched_step, in_frame, step_with_inputs}
 use Rattle.xt_frames.specs.SaveAreas.{Range}
 use Rattle.xt_frames.specs.Breaches.{Bounds, first_shown, insn_tests, is_movsp}
 use Rattle.xt_frames.specs.Stacks.{Moves, Stack, Stays, Calls, Leaves}
@@ -48,7 +48,7 @@ unfolding is_movsp fetched_movsp
 no_movsp (insn.Shift (shift.Movsp t s)) len g e = absurd cc
 no_movsp _ len g e = refl
 
-pub made_movsp : (t s len : ℕ) (g : FrameState) → fetched_movsp (Fetches (insn.Shift (shift.Movsp t s)) len) g ≡ Some (stack_moved t (known g.seen s) len g)
+pub made_movsp : (t s len : ℕ) (g : FrameState) → fetched_movsp (Fetches (insn.Shift (shift.Movsp t s)) len) g ≡ Some (stack_moved t (value_or_zero g.seen s) len g)
 unfolding fetched_movsp
 made_movsp t s len g = refl
 
@@ -62,12 +62,12 @@ none_nothing g = refl
 
 module _ (b : Bounds) (fresh : Bool) (live : ℕ → Bool) (bytes : ℕ → ℕ) (rec : StepRecord) (code : ℕ → ℕ) (s : UseState) (g : FrameState) (k : Stack b.range.lo b.range.hi g.seen g.frames) (calls : g.control.ps.callinc < 4) where
   -- MOVSP
-  shifts : (t from len : ℕ) → KeepsStack b.range t from g → UseChain b.range g (stack_moved t (known g.seen from) len g)
+  shifts : (t from len : ℕ) → KeepsStack b.range t from g → UseChain b.range g (stack_moved t (value_or_zero g.seen from) len g)
   shifts t from len m =
       let on : Stack b.range.lo b.range.hi g.seen (m.frame ∷ m.rest) = subst (λ (fs : List Frame). Stack b.range.lo b.range.hi g.seen fs) m.frames_are k in
-      let moved = moved_stack b.range.lo b.range.hi g.seen m.frame m.rest (known g.seen from) on m.aligned m.low m.under in
-      let here : Stack b.range.lo b.range.hi (set g.seen 1 (Some (known g.seen from))) g.frames = subst (λ (fs : List Frame). Stack b.range.lo b.range.hi (set g.seen 1 (Some (known g.seen from))) fs) (sym m.frames_are) moved in
-      (subst (λ (n : ℕ). Stack b.range.lo b.range.hi (set g.seen n (Some (known g.seen from))) g.frames) (sym m.to_sp) here, use_moves.Stands refl)
+      let moved = moved_stack b.range.lo b.range.hi g.seen m.frame m.rest (value_or_zero g.seen from) on m.aligned m.low m.under in
+      let here : Stack b.range.lo b.range.hi (set g.seen 1 (Some (value_or_zero g.seen from))) g.frames = subst (λ (fs : List Frame). Stack b.range.lo b.range.hi (set g.seen 1 (Some (value_or_zero g.seen from))) fs) (sym m.frames_are) moved in
+      (subst (λ (n : ℕ). Stack b.range.lo b.range.hi (set g.seen n (Some (value_or_zero g.seen from))) g.frames) (sym m.to_sp) here, use_moves.Stands refl)
 
   insn_chain : (i : Insn) (len reply : ℕ) → in_range i ≡ true
       → NoneShown (use_tests (uses_unknown i s g) (swaps_unknown bytes rec.access) (breaks_stack b.range i rec.kind g) (insn_tests b fresh live nowhere i rec g (fetched_step (Fetches i len) code reply g)))
@@ -79,7 +79,7 @@ module _ (b : Bounds) (fresh : Bool) (live : ℕ → Bool) (bytes : ℕ → ℕ)
           let form = movsp_form i e in
           let quiet : breaks_stack b.range i rec.kind g ≡ false = use_movsp (uses_unknown i s g) (swaps_unknown bytes rec.access) (breaks_stack b.range i rec.kind g) b fresh live i rec g (fetched_step (Fetches i len) code reply g) none in
           let m = keeps_by_movsp b.range form.0 form.1 rec.kind g (sym (ap (λ (j : Insn). breaks_stack b.range j rec.kind g) form.2) ∙ quiet) in
-          let made : fetched_movsp (Fetches i len) g ≡ Some (stack_moved form.0 (known g.seen form.1) len g) = ap (λ (j : Insn). fetched_movsp (Fetches j len) g) form.2 ∙ made_movsp form.0 form.1 len g in
+          let made : fetched_movsp (Fetches i len) g ≡ Some (stack_moved form.0 (value_or_zero g.seen form.1) len g) = ap (λ (j : Insn). fetched_movsp (Fetches j len) g) form.2 ∙ made_movsp form.0 form.1 len g in
           subst (λ (o : Option FrameTurn). UseChain b.range g (turn_or o (fetched_step (Fetches i len) code reply g))) (sym made) (shifts form.0 form.1 len m)
       by_kind false e =
           let keeping = use_keeping (uses_unknown i s g) (swaps_unknown bytes rec.access) (breaks_stack b.range i rec.kind g) b fresh live i rec g (fetched_step (Fetches i len) code reply g) e none in
@@ -100,30 +100,30 @@ module _ (b : Bounds) (fresh : Bool) (live : ℕ → Bool) (bytes : ℕ → ℕ)
 -- the values of a step outside nested interrupts
 pub plain_chain : (b : Bounds) (fresh : Bool) (code : ℕ → ℕ) (live : ℕ → Bool) (bytes : ℕ → ℕ) (rec : StepRecord) (s : UseState) (g : FrameState)
     → Stack b.range.lo b.range.hi g.seen g.frames → g.control.ps.callinc < 4 → g.nested ≡ None
-    → ((i : Insn) (len : ℕ) → ltb 0 (pending_of g.control) ≡ false → g.control.waits ≡ false → fetched code g.control.pc ≡ Fetches i len → in_range i ≡ true)
-    → laid_use b fresh code live bytes rec s g ≡ None → UseChain b.range g (turn_or (movsp_of code g) (laid_step code rec.reply g))
+    → ((i : Insn) (len : ℕ) → ltb 0 (pending_of g.control) ≡ false → g.control.waits ≡ false → fetch_at code g.control.pc ≡ Fetches i len → in_range i ≡ true)
+    → laid_use b fresh code live bytes rec s g ≡ None → UseChain b.range g (turn_or (movsp_of code g) (step_with_inputs code rec.reply g))
 plain_chain b fresh code live bytes rec s g k calls plain ok none =
     let reply = rec.reply in
     let r = b.range in
-    let L = laid_step code reply g in
+    let L = step_with_inputs code reply g in
     let P = ltb 0 (pending_of g.control) in
     let W = g.control.waits in
     let N = is_some g.nested in
     let quiet_nested : N ≡ false = ap (λ o. is_some o) plain in
     ⊎_elim
     (λ level.
-    let off : movsp_of code g ≡ None = cond-true (N || (P || W)) None (fetched_movsp (fetched code g.control.pc) g) (or_right N _ (or_left P W level)) in
+    let off : movsp_of code g ≡ None = cond-true (N || (P || W)) None (fetched_movsp (fetch_at code g.control.pc) g) (or_right N _ (or_left P W level)) in
     let step = step_taken code reply g level in
     let t = in_frame (settled_interrupt (pending_of g.control) g.control) reply g in
     subst (λ (o : Option FrameTurn). UseChain r g (turn_or o L)) (sym off) (subst (UseChain r g) (sym step) (as_chain r g t (stays t k refl refl))))
     (λ quiet. ⊎_elim
     (λ w.
-    let off : movsp_of code g ≡ None = cond-true (N || (P || W)) None (fetched_movsp (fetched code g.control.pc) g) (or_right N _ (or_right P W w)) in
+    let off : movsp_of code g ≡ None = cond-true (N || (P || W)) None (fetched_movsp (fetch_at code g.control.pc) g) (or_right N _ (or_right P W w)) in
     let step = step_waits code reply g quiet w in
     let t = in_frame (settled_wait g.control) reply g in
     subst (λ (o : Option FrameTurn). UseChain r g (turn_or o L)) (sym off) (subst (UseChain r g) (sym step) (as_chain r g t (stays t k refl refl))))
     (λ w.
-    let at = fetched code g.control.pc in
+    let at = fetch_at code g.control.pc in
     let on : movsp_of code g ≡ fetched_movsp at g = cond-false (N || (P || W)) None (fetched_movsp at g) (or_from N _ quiet_nested (or_from P W quiet w)) in
     let step = step_fetches code reply g quiet w in
     let h0 : first_shown (fetched_uses b fresh live bytes at rec s g L) ≡ None = sym (use_fetches b fresh code live bytes rec s g quiet w) ∙ none in

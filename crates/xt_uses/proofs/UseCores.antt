@@ -2,15 +2,15 @@
 use Rattle.std.proofs.Common.{◌≡◌, ℕ, ◌+◌, Bool, true, false, eqb, List, Option, Some, None, sym, ◌∙◌, ap, get_or, subst}
 use Rattle.std.proofs.lemmas.Bool.{cond-true, cond-false}
 use Rattle.xt_trace.specs.declared.record.StepRecord.{StepRecord}
-use Rattle.xt_fetch.specs.Fetching.{fetched}
+use Rattle.xt_fetch.specs.Fetching.{fetch_at}
 use Rattle.xt_frames.specs.declared.breach.Case.{Case}
 use Rattle.xt_frames.specs.declared.kinds.BreachKind.{BreachKind}
-use Rattle.xt_frames.specs.Frames.{Frame, FrameState, known}
-use Rattle.xt_frames.specs.FrameStep.{laid}
+use Rattle.xt_frames.specs.Frames.{Frame, FrameState, value_or_zero}
+use Rattle.xt_frames.specs.FrameStep.{with_inputs}
 use Rattle.xt_frames.specs.Nesting.{current}
 use Rattle.xt_frames.specs.SaveAreas.{before}
 use Rattle.xt_frames.specs.Breaches.{Bounds, inputs_of}
-use Rattle.xt_frames.specs.Parts.{IsNewest, frames_after}
+use Rattle.xt_frames.specs.KeptFrameState.{IsNewest, frames_after}
 use Rattle.xt_frames.specs.Walked.{bounds_of}
 use Rattle.xt_uses.specs.declared.lacking.Lack.{Lack}
 use Rattle.xt_uses.specs.declared.stepping.Done.{Done}
@@ -64,17 +64,17 @@ module _ (code : ℕ → ℕ) (nested : Bool) (rec : StepRecord) (bytes : ℕ �
 pub other_window : (code : ℕ → ℕ) (rec : StepRecord) (s : UseState) → underflows rec.kind ≡ false → window_use code rec s ≡ None
 unfolding window_use
 other_window code rec s off =
-    let f = laid (inputs_of rec) (current s.frame) in
-    cond-false (underflows rec.kind) (fetched_return_use (fetched code f.control.pc) s f) None off
+    let f = with_inputs (inputs_of rec) (current s.frame) in
+    cond-false (underflows rec.kind) (fetched_return_use (fetch_at code f.control.pc) s f) None off
 
-pub tested_window : (code : ℕ → ℕ) (rec : StepRecord) (v w : UseWalked) (f : FrameState) (found : Option BreachKind) → v ≡ w → f ≡ laid (inputs_of rec) (current w.state.frame) → underflows rec.kind ≡ true
-    → found ≡ fetched_return_use (fetched code f.control.pc) v.state f → window_use code rec w.state ≡ found
+pub tested_window : (code : ℕ → ℕ) (rec : StepRecord) (v w : UseWalked) (f : FrameState) (found : Option BreachKind) → v ≡ w → f ≡ with_inputs (inputs_of rec) (current w.state.frame) → underflows rec.kind ≡ true
+    → found ≡ fetched_return_use (fetch_at code f.control.pc) v.state f → window_use code rec w.state ≡ found
 unfolding window_use
 tested_window code rec v w f found e is on by =
-    let g = laid (inputs_of rec) (current w.state.frame) in
-    cond-true (underflows rec.kind) (fetched_return_use (fetched code g.control.pc) w.state g) None on
-    ∙ (ap (λ (x : FrameState). fetched_return_use (fetched code x.control.pc) w.state x) (sym is)
-    ∙ (ap (λ (x : UseWalked). fetched_return_use (fetched code f.control.pc) x.state f) (sym e) ∙ sym by))
+    let g = with_inputs (inputs_of rec) (current w.state.frame) in
+    cond-true (underflows rec.kind) (fetched_return_use (fetch_at code g.control.pc) w.state g) None on
+    ∙ (ap (λ (x : FrameState). fetched_return_use (fetch_at code x.control.pc) w.state x) (sym is)
+    ∙ (ap (λ (x : UseWalked). fetched_return_use (fetch_at code f.control.pc) x.state f) (sym e) ∙ sym by))
 
 -- ---- a register of which not every bit is known
 pub no_lack : (v w : UseWalked) (f : FrameState) (n mask : ℕ) → v ≡ w → mask ≡ get_or (current_masks v.state) n 0 → mask ≡ all_bits → None ≡ lack_of w.state f n
@@ -83,11 +83,11 @@ no_lack v w f n mask e is all =
     sym (cond-true (eqb (get_or (current_masks w.state) n 0) all_bits) _ _ (ap (λ (m : ℕ). eqb m all_bits) here))
 
 pub one_lack : (v w : UseWalked) (f : FrameState) (seen : List (Option ℕ)) (n mask value : ℕ) (mark : Option ℕ) → v ≡ w → mask ≡ get_or (current_masks v.state) n 0 → eqb mask all_bits ≡ false
-    → f.seen ≡ seen → value ≡ known seen n → mark ≡ mark_in v.state.frame.nested n → Some (record { number = n; value = value; mask = mask; mark = mark }) ≡ lack_of w.state f n
+    → f.seen ≡ seen → value ≡ value_or_zero seen n → mark ≡ mark_in v.state.frame.nested n → Some (record { number = n; value = value; mask = mask; mark = mark }) ≡ lack_of w.state f n
 one_lack v w f seen n mask value mark e is off same at marked =
     let here : mask ≡ get_or (current_masks w.state) n 0 = is ∙ ap (λ (x : UseWalked). get_or (current_masks x.state) n 0) e in
     let L : ℕ → ℕ → Option ℕ → Option Lack = λ x m k. Some (record { number = n; value = x; mask = m; mark = k }) in
-    ap (λ (x : ℕ). L x mask mark) (at ∙ ap (λ (xs : List (Option ℕ)). known xs n) (sym same))
-    ∙ (ap (λ (m : ℕ). L (known f.seen n) m mark) here
-    ∙ (ap (L (known f.seen n) (get_or (current_masks w.state) n 0)) (marked ∙ ap (λ (x : UseWalked). mark_in x.state.frame.nested n) e)
+    ap (λ (x : ℕ). L x mask mark) (at ∙ ap (λ (xs : List (Option ℕ)). value_or_zero xs n) (sym same))
+    ∙ (ap (λ (m : ℕ). L (value_or_zero f.seen n) m mark) here
+    ∙ (ap (L (value_or_zero f.seen n) (get_or (current_masks w.state) n 0)) (marked ∙ ap (λ (x : UseWalked). mark_in x.state.frame.nested n) e)
     ∙ sym (cond-false (eqb (get_or (current_masks w.state) n 0) all_bits) _ _ (ap (λ (m : ℕ). eqb m all_bits) (sym here) ∙ off))))

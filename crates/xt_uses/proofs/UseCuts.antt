@@ -12,11 +12,11 @@ use Rattle.xt_special.specs.Interrupts.{pending_of}
 use Rattle.xt_trace.specs.declared.record.StepKind.{StepKind}
 use Rattle.xt_trace.specs.declared.record.StepKind.TheVariants as kind
 use Rattle.xt_trace.specs.declared.record.StepRecord.{StepRecord}
-use Rattle.xt_fetch.specs.Fetching.{Fetched, Fetches, Fails, SpellsNothing, fetched}
+use Rattle.xt_fetch.specs.Fetching.{Fetched, Fetches, Fails, SpellsNothing, fetch_at}
 use Rattle.xt_rows.specs.Settling.{settled_interrupt, settled_wait}
 use Rattle.xt_frames.specs.declared.holes.Nested.{Nested}
 use Rattle.xt_frames.specs.Frames.{Frame, FrameState}
-use Rattle.xt_frames.specs.FrameStep.{FrameTurn, fetched_step, in_frame, laid_step}
+use Rattle.xt_frames.specs.FrameStep.{FrameTurn, fetched_step, in_frame, step_with_inputs}
 use Rattle.xt_frames.specs.Breaches.{Bounds, first_shown, insn_tests, is_movsp, is_sp, may_write_sp, writes_sp}
 use Rattle.xt_frames.specs.Stacks.{Stack}
 use Rattle.xt_frames.proofs.Shown.{NoneShown, none_shown}
@@ -26,7 +26,7 @@ use Rattle.xt_uses.specs.Words.{Word, all_bits, is_whole}
 use Rattle.xt_uses.specs.Used.{used_are_known, shift_used}
 use Rattle.xt_uses.specs.Known.{result_mask, shift_mask}
 use Rattle.xt_uses.specs.UseState.{UseState, first_word, second_word}
-use Rattle.xt_uses.specs.UseStep.{cut_state, executed, fetched_movsp, movsp_of, turn_or, use_turn}
+use Rattle.xt_uses.specs.UseStep.{cut_state, step_insn, fetched_movsp, movsp_of, turn_or, use_turn}
 use Rattle.xt_uses.specs.UseBreaches.{breaks_stack, fetched_uses, laid_use, nowhere, reads_mark, reads_no_number, swaps_unknown, use_tests, uses_unknown}
 use Rattle.xt_uses.specs.UseParts.{register_of}
 use Rattle.xt_uses.proofs.UseChains.{movsp_form, no_movsp}
@@ -67,27 +67,27 @@ cut_frames mask w None f = refl
 cut_frames mask w (Some x) f = refl
 
 -- ---- what has been executed
-executed_fails : (k : StepKind) (a : ℕ) → executed k (Fails a) ≡ None
-unfolding executed
+executed_fails : (k : StepKind) (a : ℕ) → step_insn k (Fails a) ≡ None
+unfolding step_insn
 executed_fails kind.Insn a = refl
 executed_fails _ a = refl
 
-executed_nothing : (k : StepKind) → executed k SpellsNothing ≡ None
-unfolding executed
+executed_nothing : (k : StepKind) → step_insn k SpellsNothing ≡ None
+unfolding step_insn
 executed_nothing kind.Insn = refl
 executed_nothing _ = refl
 
-executed_is : (k : StepKind) (i : Insn) (len : ℕ) (j : Insn) → executed k (Fetches i len) ≡ Some j → i ≡ j
-unfolding executed
+executed_is : (k : StepKind) (i : Insn) (len : ℕ) (j : Insn) → step_insn k (Fetches i len) ≡ Some j → i ≡ j
+unfolding step_insn
 executed_is kind.Insn i len j e = cc
 executed_is _ i len j e = absurd cc
 
-executed_interrupt : (level : ℕ) (at : Fetched) → executed (kind.Interrupt level) at ≡ None
-unfolding executed
+executed_interrupt : (level : ℕ) (at : Fetched) → step_insn (kind.Interrupt level) at ≡ None
+unfolding step_insn
 executed_interrupt level at = refl
 
-executed_wait : (at : Fetched) → executed kind.Wait at ≡ None
-unfolding executed
+executed_wait : (at : Fetched) → step_insn kind.Wait at ≡ None
+unfolding step_insn
 executed_wait at = refl
 
 may_write_movsp : (t s : ℕ) → may_write_sp (insn.Shift (shift.Movsp t s)) ≡ true
@@ -107,7 +107,7 @@ module _ (b : Bounds) (fresh : Bool) (live : ℕ → Bool) (bytes : ℕ → ℕ)
 
   whole_fetched : (at : Fetched) (k : StepKind) → NoneShown (fetched_uses b fresh live bytes at rec s g (fetched_step at code rec.reply g))
       → (o : Option FrameTurn) → (o ≡ None) ⊎ (o ≡ fetched_movsp at g)
-      → (j : Insn) → executed k at ≡ Some j → is_sp (turn_or o (fetched_step at code rec.reply g)).write ≡ true → IsWhole j
+      → (j : Insn) → step_insn k at ≡ Some j → is_sp (turn_or o (fetched_step at code rec.reply g)).write ≡ true → IsWhole j
   whole_fetched (Fails a) k none o which j e sp = absurd (none-some j (sym (executed_fails k a) ∙ e))
   whole_fetched SpellsNothing k none o which j e sp = absurd (none-some j (sym (executed_nothing k) ∙ e))
   whole_fetched (Fetches i len) k none o which j e sp = λ w pointer reply.
@@ -126,17 +126,17 @@ module _ (b : Bounds) (fresh : Bool) (live : ℕ → Bool) (bytes : ℕ → ℕ)
       subst (λ (x : Insn). result_mask s.masks.discipline x (first_word x s g) (second_word x s g) w pointer reply ≡ all_bits) same (sp_mask s.masks.discipline i (first_word i s g) (second_word i s g) w pointer reply here used)
 
   abbrev values : FrameTurn
-  values = turn_or (movsp_of code g) (laid_step code rec.reply g)
+  values = turn_or (movsp_of code g) (step_with_inputs code rec.reply g)
 
-  pub whole_written : laid_use b fresh code live bytes rec s g ≡ None → (j : Insn) → executed values.kind (fetched code g.control.pc) ≡ Some j → is_sp values.write ≡ true → IsWhole j
+  pub whole_written : laid_use b fresh code live bytes rec s g ≡ None → (j : Insn) → step_insn values.kind (fetch_at code g.control.pc) ≡ Some j → is_sp values.write ≡ true → IsWhole j
   whole_written none j e sp =
       let reply = rec.reply in
-      let at = fetched code g.control.pc in
-      let L = laid_step code reply g in
+      let at = fetch_at code g.control.pc in
+      let L = step_with_inputs code reply g in
       let P = ltb 0 (pending_of g.control) in
       let W = g.control.waits in
       let N = is_some g.nested in
-      let never : (t : FrameTurn) → values ≡ t → executed t.kind at ≡ None → IsWhole j = λ t is off. absurd (none-some j (sym (ap (λ (v : FrameTurn). executed v.kind at) is ∙ off) ∙ e)) in
+      let never : (t : FrameTurn) → values ≡ t → step_insn t.kind at ≡ None → IsWhole j = λ t is off. absurd (none-some j (sym (ap (λ (v : FrameTurn). step_insn v.kind at) is ∙ off) ∙ e)) in
       ⊎_elim
       (λ level.
       let off : movsp_of code g ≡ None = cond-true (N || (P || W)) None (fetched_movsp at g) (or_right N _ (or_left P W level)) in

@@ -4,7 +4,7 @@ use Rattle.std.proofs.Common.{◌≡◌, ℕ, suc, ◌<◌, ◌≤◌, Bool, tru
 use Rattle.std.proofs.lemmas.Bool.{both_ways, not-true, and_parts, and_from, and_cases, and_left, and_right, or_parts, or_from, not_from_true, not_from_false, not-false, eq-eqb}
 use Rattle.std.proofs.lemmas.Bool.Decides.{Decides-like}
 use Rattle.xt_trace.specs.declared.record.StepRecord.{StepRecord}
-use Rattle.xt_frames.specs.Breaches.{falls}
+use Rattle.xt_frames.specs.Breaches.{ends_exception_mode}
 use Rattle.xt_frames.specs.Nesting.{current}
 use Rattle.xt_frames.specs.FirstBreach.{Course, IsJudgedTurn, IsTurn, Turn, is_judged, mode_before}
 use Rattle.xt_frames.proofs.Prefixes.{before_or_at, same_turn}
@@ -49,7 +49,7 @@ module _ (r : Course) (h : History) (p core : ℕ) (rec : StepRecord) (turn : Is
   writes = writes_at r h p core rec
 
   abbrev falling : Bool
-  falling = falls (found_at r h p core rec).control.ps (current (use_at r h p core rec).after.frame).control.ps
+  falling = ends_exception_mode (found_at r h p core rec).control.ps (current (use_at r h p core rec).after.frame).control.ps
 
   fell : (l : IsLost r h core (suc p)) → is_judged (mode_before r core p) rec.kind ≡ true → l.once ≡ p → falling ≡ true
   fell l j e =

@@ -17,7 +17,7 @@ use Rattle.xt_uses.specs.UseState.{UseState, forgets}
 use Rattle.xt_uses.specs.UseStep.{UseTurn, carries}
 use Rattle.xt_uses.specs.UseBreaches.{use_breach, window_use}
 use Rattle.xt_uses.specs.UseParts.{fresh_use}
-use Rattle.xt_uses.specs.FirstUse.{History, IsLost, Shows, carried, carries_at, handler_use, live_at, use_at}
+use Rattle.xt_uses.specs.FirstUse.{History, IsLost, Shows, carried_count, carries_at, handler_use, live_at, use_at}
 use Rattle.xt_uses.specs.UseWalk.{IsUseJudgement, UseBroken, UseHandled, UseJudged, UseJudgement, UseKnown, UseSeen, UseStanding, WalkFindsFirstUse, count_of, handled_past, live_with, lost_with, masks_after, opening_use_known, use_judgement, use_passed_0, use_passed_1, use_seen, use_seen_in, use_seen_judged, use_seen_step, use_seen_window}
 use Rattle.xt_uses.specs.Snapshots.{Snapshot, gone_in, history_of, live_in, lost_in, snapshot, states_past}
 use Rattle.xt_uses.proofs.UseHistories.{forgets_none, is_history, next_handled, next_judged, other_state, own_state}
@@ -61,7 +61,7 @@ standing_same : (s t : UseState) (x y : Bool) (m n : Mode) (a b k l : ℕ) → s
 standing_same s t x y m n a b k l p q e f g = λ i. standing (p i) (q i) (e i) (f i) (g i)
 
 abbrev standing_at : Discipline → Course → ℕ → ℕ → Bool → UseStanding
-standing_at d r core p lost = standing ((history_of d r).state core p) (not lost) (mode_before r core p) (length (records_before r core p)) (carried r (history_of d r) core p)
+standing_at d r core p lost = standing ((history_of d r).state core p) (not lost) (mode_before r core p) (length (records_before r core p)) (carried_count r (history_of d r) core p)
 
 -- what the walk sees of turn p, and what it keeps before the next
 data Outcome (d : Discipline) (r : Course) (p core : ℕ) (rec : StepRecord) (out : UseSeen) : Type 0 where
@@ -100,25 +100,25 @@ module _ (d : Discipline) (r : Course) where
     counted true = refl
     counted false = refl
 
-    own_carried : is_judged (mode_before r core p) rec.kind ≡ true → carried r h core p + count_of does ≡ carried r h core (suc p)
+    own_carried : is_judged (mode_before r core p) rec.kind ≡ true → carried_count r h core p + count_of does ≡ carried_count r h core (suc p)
     own_carried j =
         let here : ((core == core) && is_judged (mode_before r core p) rec.kind) ≡ true = and_from (core == core) (is_judged (mode_before r core p) rec.kind) (eq-eqb core core refl) j in
-        sym (ap (λ (o : Option Turn). carried r h core p + carries_at r h core p o) turn
-        ∙ (ap (λ (b : Bool). carried r h core p + cond (b && does) 1 0) here
-        ∙ ap (λ n. carried r h core p + n) (counted does)))
+        sym (ap (λ (o : Option Turn). carried_count r h core p + carries_at r h core p o) turn
+        ∙ (ap (λ (b : Bool). carried_count r h core p + cond (b && does) 1 0) here
+        ∙ ap (λ n. carried_count r h core p + n) (counted does)))
 
-    kept_carried : is_judged (mode_before r core p) rec.kind ≡ false → carried r h core p ≡ carried r h core (suc p)
+    kept_carried : is_judged (mode_before r core p) rec.kind ≡ false → carried_count r h core p ≡ carried_count r h core (suc p)
     kept_carried j =
         let off : ((core == core) && is_judged (mode_before r core p) rec.kind) ≡ false = and_right (core == core) _ j in
-        let e : carried r h core (suc p) ≡ carried r h core p + 0 = ap (λ (o : Option Turn). carried r h core p + carries_at r h core p o) turn
-        ∙ ap (λ (b : Bool). carried r h core p + cond (b && does) 1 0) off in
+        let e : carried_count r h core (suc p) ≡ carried_count r h core p + 0 = ap (λ (o : Option Turn). carried_count r h core p + carries_at r h core p o) turn
+        ∙ ap (λ (b : Bool). carried_count r h core p + cond (b && does) 1 0) off in
         omega (arith, e)
 
-    other_carried : (other : ℕ) → (core == other) ≡ false → carried r h other p ≡ carried r h other (suc p)
+    other_carried : (other : ℕ) → (core == other) ≡ false → carried_count r h other p ≡ carried_count r h other (suc p)
     other_carried other apart =
         let off : ((core == other) && is_judged (mode_before r other p) rec.kind) ≡ false = and_left (core == other) _ apart in
-        let e : carried r h other (suc p) ≡ carried r h other p + 0 = ap (λ (o : Option Turn). carried r h other p + carries_at r h other p o) turn
-        ∙ ap (λ (b : Bool). carried r h other p + cond (b && carries r.code rec (h.state other p) (use_at r h p other rec)) 1 0) off in
+        let e : carried_count r h other (suc p) ≡ carried_count r h other p + 0 = ap (λ (o : Option Turn). carried_count r h other p + carries_at r h other p o) turn
+        ∙ ap (λ (b : Bool). carried_count r h other p + cond (b && carries r.code rec (h.state other p) (use_at r h p other rec)) 1 0) off in
         omega (arith, e)
 
   module _ (core other : ℕ) (apart : (core == other) ≡ false) (live_all : (s : ℕ → UseState) → live_with (r.bounds core) (s core).frame (is_live (r.bounds other).range (s other).frame) ≡ live_in r s) (gone_all : (s t : ℕ → UseState) → s other ≡ t other → (a : ℕ) → forgets (s core) (t core) a ≡ gone_in s t a) (p : ℕ) (rec : StepRecord) (turn : IsTurn r p core rec) (lost : Bool) (is_lost : Decides lost (IsLost r h core p)) where
@@ -164,8 +164,8 @@ module _ (d : Discipline) (r : Course) where
     abbrev fresh_next : Bool
     fresh_next = fresh_use (not lost) r.code (is_nested mode) rec (h.mask p) (h.state core p)
 
-    standing_next : is_judged mode rec.kind ≡ true → standing u.after fresh_next (mode_after r.code mode rec) (suc (length (records_before r core p))) (carried r h core p + count_of (carries r.code rec (h.state core p) u)) ≡ standing_at d r core (suc p) (not fresh_next)
-    standing_next j = standing_same u.after (h.state core (suc p)) fresh_next (not (not fresh_next)) (mode_after r.code mode rec) (mode_before r core (suc p)) (suc (length (records_before r core p))) (length (records_before r core (suc p))) (carried r h core p + count_of (carries r.code rec (h.state core p) u)) (carried r h core (suc p))
+    standing_next : is_judged mode rec.kind ≡ true → standing u.after fresh_next (mode_after r.code mode rec) (suc (length (records_before r core p))) (carried_count r h core p + count_of (carries r.code rec (h.state core p) u)) ≡ standing_at d r core (suc p) (not fresh_next)
+    standing_next j = standing_same u.after (h.state core (suc p)) fresh_next (not (not fresh_next)) (mode_after r.code mode rec) (mode_before r core (suc p)) (suc (length (records_before r core p))) (length (records_before r core (suc p))) (carried_count r h core p + count_of (carries r.code rec (h.state core p) u)) (carried_count r h core (suc p))
         (sym (own_state d r p core rec turn j)) (sym (double_not fresh_next)) (sym (own_mode r p core rec turn)) (own_count r p core rec turn) (own_carried p core rec turn j)
 
     abbrev next_states : ℕ → UseState
@@ -212,7 +212,7 @@ module _ (d : Discipline) (r : Course) where
     out_told j = seen_as_handler mode r.code (r.bounds core) st others (h.mask p) rec j
 
     handles_next : is_judged mode rec.kind ≡ false → after_told None ≡ UseHandled (standing_at d r core (suc p) true)
-    handles_next j = ap UseHandled (standing_same (h.state core p) (h.state core (suc p)) false false (mode_after r.code mode rec) (mode_before r core (suc p)) (suc (length (records_before r core p))) (length (records_before r core (suc p))) (carried r h core p) (carried r h core (suc p))
+    handles_next j = ap UseHandled (standing_same (h.state core p) (h.state core (suc p)) false false (mode_after r.code mode rec) (mode_before r core (suc p)) (suc (length (records_before r core p))) (length (records_before r core (suc p))) (carried_count r h core p) (carried_count r h core (suc p))
         (sym (ap (λ (x : Snapshot). x.states core) (next_handled d r p core rec turn j))) refl (sym (own_mode r p core rec turn)) (own_count r p core rec turn) (kept_carried p core rec turn j))
 
     outcome_handled : is_judged mode rec.kind ≡ false → (o : Option BreachKind) → told ≡ o → Outcome d r p core rec out
@@ -240,7 +240,7 @@ module _ (d : Discipline) (r : Course) where
   within_more p core rec turn = slice_get_within r.turns p (turn_of core rec) turn
 
   other_standing : (p core : ℕ) (rec : StepRecord) → IsTurn r p core rec → (other : ℕ) (lost : Bool) → (core == other) ≡ false → standing_at d r other p lost ≡ standing_at d r other (suc p) lost
-  other_standing p core rec turn other lost apart = standing_same (h.state other p) (h.state other (suc p)) (not lost) (not lost) (mode_before r other p) (mode_before r other (suc p)) (length (records_before r other p)) (length (records_before r other (suc p))) (carried r h other p) (carried r h other (suc p))
+  other_standing p core rec turn other lost apart = standing_same (h.state other p) (h.state other (suc p)) (not lost) (not lost) (mode_before r other p) (mode_before r other (suc p)) (length (records_before r other p)) (length (records_before r other (suc p))) (carried_count r h other p) (carried_count r h other (suc p))
       (sym (other_state d r p core rec turn other apart)) refl (sym (other_mode r p core rec turn other apart)) (ap length (sym (other_records r p core rec turn other apart))) (other_carried p core rec turn other apart)
 
   module _ (p : ℕ) (rec : StepRecord) (lost0 lost1 : Bool) (s : Reached d r p lost0 lost1) (rest : UseKnown → UseJudgement) where

@@ -5,19 +5,19 @@ use Rattle.xt_special.specs.Control.{special_of}
 use Rattle.xt_rows.specs.Outcomes.{value_of}
 use Rattle.xt_frames.specs.Frames.{FrameState}
 use Rattle.xt_uses.specs.declared.masks.KeptMasks.{KeptMasks}
-use Rattle.xt_uses.specs.UseState.{Masks, UseState, special_word}
-use Rattle.xt_uses.specs.UseStep.{returned}
+use Rattle.xt_uses.specs.UseState.{ValidityBits, UseState, special_word}
+use Rattle.xt_uses.specs.UseStep.{bits_after_return}
 use Rattle.xt_uses.specs.UseParts.{kept_mask, mask_of, newest_masks, without_first}
 
 pub special_word_is : (s : UseState) (f : FrameState) (o : Option ℕ) (value mask : ℕ) → value ≡ value_of (special_of f.control) o → mask ≡ mask_of s.masks o → record { value = value; mask = mask } ≡ special_word s f o
 special_word_is s f None value mask p q = cc
 special_word_is s f (Some n) value mask p q = cc
 
-abbrev restored : KeptMasks → List (List ℕ) → Masks → Masks
+abbrev restored : KeptMasks → List (List ℕ) → ValidityBits → ValidityBits
 restored k rest m = record m { seen = take (4 * k.by) k.masks ++ take (16 - 4 * k.by) m.seen; kept = rest }
 
 -- RETW puts back those of the newest caller
-pub returned_newest : (k : KeptMasks) (kept : List (List ℕ)) (m : Masks) → length k.masks ≡ 12 → k.by < 4 → newest_masks kept ≡ Some (kept_mask k) → returned kept m ≡ restored k (without_first kept) m
+pub returned_newest : (k : KeptMasks) (kept : List (List ℕ)) (m : ValidityBits) → length k.masks ≡ 12 → k.by < 4 → newest_masks kept ≡ Some (kept_mask k) → bits_after_return kept m ≡ restored k (without_first kept) m
 returned_newest k [] m wide few e = absurd cc
 returned_newest k (x ∷ rest) m wide few e =
     let same : x ≡ kept_mask k = cc in
@@ -26,7 +26,7 @@ returned_newest k (x ∷ rest) m wide few e =
     ∙ ap (λ (n : ℕ). record m { seen = kept_mask k ++ take (16 - n) m.seen; kept = rest }) size
 
 -- there is none in the opening frame
-pub returned_none : (kept : List (List ℕ)) (m : Masks) → newest_masks kept ≡ None → returned kept m ≡ m
+pub returned_none : (kept : List (List ℕ)) (m : ValidityBits) → newest_masks kept ≡ None → bits_after_return kept m ≡ m
 returned_none [] m e = refl
 returned_none (x ∷ rest) m e = absurd cc
 

@@ -9,25 +9,25 @@ use Rattle.xt_isa.specs.declared.shift.Shift.TheVariants as shift
 use Rattle.xt_special.specs.Interrupts.{pending_of}
 use Rattle.xt_trace.specs.declared.record.RegWrite.{RegWrite}
 use Rattle.xt_trace.specs.declared.record.StepRecord.{StepRecord}
-use Rattle.xt_fetch.specs.Fetching.{Fetched, Fetches, Fails, SpellsNothing, fetched}
+use Rattle.xt_fetch.specs.Fetching.{Fetched, Fetches, Fails, SpellsNothing, fetch_at}
 use Rattle.xt_rows.specs.Kinds.{moved_to}
-use Rattle.xt_frames.specs.declared.holes.Holes.{Holes}
+use Rattle.xt_frames.specs.declared.holes.UndefinedParts.{UndefinedParts}
 use Rattle.xt_frames.specs.declared.holes.Nested.{Nested}
 use Rattle.xt_frames.specs.Frames.{Frame, FrameState}
-use Rattle.xt_frames.specs.FrameStep.{FrameTurn, laid, laid_step}
+use Rattle.xt_frames.specs.FrameStep.{FrameTurn, with_inputs, step_with_inputs}
 use Rattle.xt_frames.specs.Marks.{mark_read, marked_write}
-use Rattle.xt_frames.specs.Nesting.{current, current_in, ends_nested, inside, nested_fetched, turn_in, unset_after}
+use Rattle.xt_frames.specs.Nesting.{current, current_in, ends_nested, nested_view, nested_fetched, turn_in, unset_after}
 use Rattle.xt_frames.specs.Breaches.{inputs_of}
-use Rattle.xt_frames.specs.Parts.{Upper, state_at, turn_as}
+use Rattle.xt_frames.specs.KeptFrameState.{Upper, state_at, turn_as}
 use Rattle.xt_uses.specs.declared.stepping.Made.{Made}
 use Rattle.xt_frames.proofs.Inside.{kind_inside}
 use Rattle.xt_frames.proofs.StackSteps.{turn_if}
-use Rattle.xt_uses.specs.UseState.{Masks, UseState}
+use Rattle.xt_uses.specs.UseState.{ValidityBits, UseState}
 use Rattle.xt_uses.specs.UseStep.{cut_number, cut_seen, cut_state, cut_write, fetched_movsp, movsp_of, turn_or, use_turn, value_step, visible_written}
 use Rattle.xt_uses.specs.UseParts.{register_of, settled_in, write_where}
 
 -- ---- the register that is written alone counts
-pub visible_same : (nested : Bool) (w v : Option RegWrite) (mask : ℕ) (m : Masks) → register_of w ≡ register_of v → visible_written nested w mask m ≡ visible_written nested v mask m
+pub visible_same : (nested : Bool) (w v : Option RegWrite) (mask : ℕ) (m : ValidityBits) → register_of w ≡ register_of v → visible_written nested w mask m ≡ visible_written nested v mask m
 visible_same nested None None mask m e = refl
 visible_same nested None (Some v) mask m e = absurd cc
 visible_same nested (Some w) None mask m e = absurd cc
@@ -57,68 +57,68 @@ if_made false o t e = e
 
 -- ---- outside nested interrupts
 pub value_plain : (code : ℕ → ℕ) (value : ℕ) (rec : StepRecord) (f : FrameState) → f.nested ≡ None
-    → (let g = laid (inputs_of rec) f in numbered (fetched code g.control.pc) f.unset (turn_or (movsp_of code g) (laid_step code rec.reply g))) ≡ value_step code false value (inputs_of rec) f
+    → (let g = with_inputs (inputs_of rec) f in numbered (fetch_at code g.control.pc) f.unset (turn_or (movsp_of code g) (step_with_inputs code rec.reply g))) ≡ value_step code false value (inputs_of rec) f
 unfolding value_step
 value_plain code value rec f none =
     let inp = inputs_of rec in
-    let g = laid inp f in
-    numbered_or (fetched code g.control.pc) g (movsp_of code g) (laid_step code rec.reply g) (λ t e. if_made (is_some g.nested || (ltb 0 (pending_of g.control) || g.control.waits)) (fetched_movsp (fetched code g.control.pc) g) t e)
+    let g = with_inputs inp f in
+    numbered_or (fetch_at code g.control.pc) g (movsp_of code g) (step_with_inputs code rec.reply g) (λ t e. if_made (is_some g.nested || (ltb 0 (pending_of g.control) || g.control.waits)) (fetched_movsp (fetch_at code g.control.pc) g) t e)
     ∙ ap (λ (o : Option Nested). turn_or (movsp_of code g) (turn_in o code value inp f)) (sym none)
 
-pub settled_plain : (code : ℕ → ℕ) (value : ℕ) (rec : StepRecord) (frames : List Frame) (h : Holes) (v : Upper) (m : Made) → h.nested ≡ None
-    → state_at frames h m.before ≡ laid (inputs_of rec) (state_at frames h v)
-    → turn_as m.step frames h m.after ≡ turn_or (movsp_of code (state_at frames h m.before)) (laid_step code rec.reply (state_at frames h m.before))
+pub settled_plain : (code : ℕ → ℕ) (value : ℕ) (rec : StepRecord) (frames : List Frame) (h : UndefinedParts) (v : Upper) (m : Made) → h.nested ≡ None
+    → state_at frames h m.before ≡ with_inputs (inputs_of rec) (state_at frames h v)
+    → turn_as m.step frames h m.after ≡ turn_or (movsp_of code (state_at frames h m.before)) (step_with_inputs code rec.reply (state_at frames h m.before))
     → settled_in None code value m frames h v ≡ value_step code false value (inputs_of rec) (state_at frames h v)
 settled_plain code value rec frames h v m none found turn =
     let f = state_at frames h v in
-    let g = laid (inputs_of rec) f in
-    let T : FrameState → FrameTurn = λ s. turn_or (movsp_of code s) (laid_step code rec.reply s) in
+    let g = with_inputs (inputs_of rec) f in
+    let T : FrameState → FrameTurn = λ s. turn_or (movsp_of code s) (step_with_inputs code rec.reply s) in
     let now : turn_as m.step frames h m.after ≡ T g = turn ∙ ap T found in
-    let at : fetched code m.before.control.pc ≡ fetched code g.control.pc = ap (λ (s : FrameState). fetched code s.control.pc) found in
-    ap (λ (u : FrameTurn). numbered (fetched code m.before.control.pc) h.unset u) now
+    let at : fetch_at code m.before.control.pc ≡ fetch_at code g.control.pc = ap (λ (s : FrameState). fetch_at code s.control.pc) found in
+    ap (λ (u : FrameTurn). numbered (fetch_at code m.before.control.pc) h.unset u) now
     ∙ (ap (λ (x : Fetched). numbered x h.unset (T g)) at ∙ value_plain code value rec f none)
 
 -- ---- in one
 pub no_movsp : (code : ℕ → ℕ) (g : FrameState) (x : Nested) → g.nested ≡ Some x → movsp_of code g ≡ None
 no_movsp code g x e =
-    cond-true (is_some g.nested || (ltb 0 (pending_of g.control) || g.control.waits)) None (fetched_movsp (fetched code g.control.pc) g) (or_left _ _ (ap (λ (o : Option Nested). is_some o) e))
+    cond-true (is_some g.nested || (ltb 0 (pending_of g.control) || g.control.waits)) None (fetched_movsp (fetch_at code g.control.pc) g) (or_left _ _ (ap (λ (o : Option Nested). is_some o) e))
 
 pub value_nested : (code : ℕ → ℕ) (value : ℕ) (rec : StepRecord) (f : FrameState) (x : Nested) → f.nested ≡ Some x
-    → (let g = laid (inputs_of rec) (inside x f) in nested_fetched (fetched code g.control.pc) value x f (laid_step code rec.reply g)) ≡ value_step code false value (inputs_of rec) f
+    → (let g = with_inputs (inputs_of rec) (nested_view x f) in nested_fetched (fetch_at code g.control.pc) value x f (step_with_inputs code rec.reply g)) ≡ value_step code false value (inputs_of rec) f
 unfolding value_step
 value_nested code value rec f x some =
     let inp = inputs_of rec in
-    sym (ap (λ (o : Option FrameTurn). turn_or o (turn_in (Some x) code value inp f)) (no_movsp code (laid inp f) x some))
-    ∙ ap (λ (o : Option Nested). turn_or (movsp_of code (laid inp f)) (turn_in o code value inp f)) (sym some)
+    sym (ap (λ (o : Option FrameTurn). turn_or o (turn_in (Some x) code value inp f)) (no_movsp code (with_inputs inp f) x some))
+    ∙ ap (λ (o : Option Nested). turn_or (movsp_of code (with_inputs inp f)) (turn_in o code value inp f)) (sym some)
 
-pub settled_nested : (code : ℕ → ℕ) (value : ℕ) (rec : StepRecord) (frames : List Frame) (h : Holes) (v : Upper) (m : Made) (x : Nested) → h.nested ≡ Some x
-    → state_at frames h m.before ≡ laid (inputs_of rec) (inside x (state_at frames h v))
-    → turn_as m.step frames h m.after ≡ turn_or (movsp_of code (state_at frames h m.before)) (laid_step code rec.reply (state_at frames h m.before))
+pub settled_nested : (code : ℕ → ℕ) (value : ℕ) (rec : StepRecord) (frames : List Frame) (h : UndefinedParts) (v : Upper) (m : Made) (x : Nested) → h.nested ≡ Some x
+    → state_at frames h m.before ≡ with_inputs (inputs_of rec) (nested_view x (state_at frames h v))
+    → turn_as m.step frames h m.after ≡ turn_or (movsp_of code (state_at frames h m.before)) (step_with_inputs code rec.reply (state_at frames h m.before))
     → settled_in (Some x) code value m frames h v ≡ value_step code false value (inputs_of rec) (state_at frames h v)
 settled_nested code value rec frames h v m x some found turn =
     let f = state_at frames h v in
-    let g = laid (inputs_of rec) (inside x f) in
+    let g = with_inputs (inputs_of rec) (nested_view x f) in
     let b = state_at frames h m.before in
-    let plain : turn_as m.step frames h m.after ≡ laid_step code rec.reply b = turn ∙ ap (λ (o : Option FrameTurn). turn_or o (laid_step code rec.reply b)) (no_movsp code b x some) in
-    let now : turn_as m.step frames h m.after ≡ laid_step code rec.reply g = plain ∙ ap (laid_step code rec.reply) found in
-    let at : fetched code m.before.control.pc ≡ fetched code g.control.pc = ap (λ (s : FrameState). fetched code s.control.pc) found in
-    ap (λ (u : FrameTurn). nested_fetched (fetched code m.before.control.pc) value x f u) now
-    ∙ (ap (λ (y : Fetched). nested_fetched y value x f (laid_step code rec.reply g)) at ∙ value_nested code value rec f x some)
+    let plain : turn_as m.step frames h m.after ≡ step_with_inputs code rec.reply b = turn ∙ ap (λ (o : Option FrameTurn). turn_or o (step_with_inputs code rec.reply b)) (no_movsp code b x some) in
+    let now : turn_as m.step frames h m.after ≡ step_with_inputs code rec.reply g = plain ∙ ap (step_with_inputs code rec.reply) found in
+    let at : fetch_at code m.before.control.pc ≡ fetch_at code g.control.pc = ap (λ (s : FrameState). fetch_at code s.control.pc) found in
+    ap (λ (u : FrameTurn). nested_fetched (fetch_at code m.before.control.pc) value x f u) now
+    ∙ (ap (λ (y : Fetched). nested_fetched y value x f (step_with_inputs code rec.reply g)) at ∙ value_nested code value rec f x some)
 
 -- ---- either way
-pub settled_is_value : (o : Option Nested) (code : ℕ → ℕ) (value : ℕ) (rec : StepRecord) (frames : List Frame) (h : Holes) (v : Upper) (m : Made) → h.nested ≡ o
-    → state_at frames h m.before ≡ laid (inputs_of rec) (current (state_at frames h v))
-    → turn_as m.step frames h m.after ≡ turn_or (movsp_of code (state_at frames h m.before)) (laid_step code rec.reply (state_at frames h m.before))
+pub settled_is_value : (o : Option Nested) (code : ℕ → ℕ) (value : ℕ) (rec : StepRecord) (frames : List Frame) (h : UndefinedParts) (v : Upper) (m : Made) → h.nested ≡ o
+    → state_at frames h m.before ≡ with_inputs (inputs_of rec) (current (state_at frames h v))
+    → turn_as m.step frames h m.after ≡ turn_or (movsp_of code (state_at frames h m.before)) (step_with_inputs code rec.reply (state_at frames h m.before))
     → settled_in o code value m frames h v ≡ value_step code false value (inputs_of rec) (state_at frames h v)
 settled_is_value None code value rec frames h v m e found turn =
-    settled_plain code value rec frames h v m e (found ∙ ap (λ (o : Option Nested). laid (inputs_of rec) (current_in o (state_at frames h v))) e) turn
+    settled_plain code value rec frames h v m e (found ∙ ap (λ (o : Option Nested). with_inputs (inputs_of rec) (current_in o (state_at frames h v))) e) turn
 settled_is_value (Some x) code value rec frames h v m e found turn =
-    settled_nested code value rec frames h v m x e (found ∙ ap (λ (o : Option Nested). laid (inputs_of rec) (current_in o (state_at frames h v))) e) turn
+    settled_nested code value rec frames h v m x e (found ∙ ap (λ (o : Option Nested). with_inputs (inputs_of rec) (current_in o (state_at frames h v))) e) turn
 
 -- ---- what the step is, beside its state
-pub settled_kind : (o : Option Nested) (code : ℕ → ℕ) (value : ℕ) (m : Made) (frames : List Frame) (h : Holes) (v : Upper) → (settled_in o code value m frames h v).kind ≡ m.step.kind
+pub settled_kind : (o : Option Nested) (code : ℕ → ℕ) (value : ℕ) (m : Made) (frames : List Frame) (h : UndefinedParts) (v : Upper) → (settled_in o code value m frames h v).kind ≡ m.step.kind
 settled_kind None code value m frames h v = refl
-settled_kind (Some x) code value m frames h v = kind_inside (fetched code m.before.control.pc) value x (state_at frames h v) (turn_as m.step frames h m.after)
+settled_kind (Some x) code value m frames h v = kind_inside (fetch_at code m.before.control.pc) value x (state_at frames h v) (turn_as m.step frames h m.after)
 
 marked_register : (mark : Option ℕ) (value : ℕ) (w : Option RegWrite) → register_of (marked_write mark value w) ≡ register_of w
 marked_register None value w = refl
@@ -130,9 +130,9 @@ fetched_register (Fetches i len) value x f u = turn_if (λ (t : FrameTurn). regi
 fetched_register (Fails address) value x f u = refl
 fetched_register SpellsNothing value x f u = refl
 
-pub settled_register : (o : Option Nested) (code : ℕ → ℕ) (value : ℕ) (m : Made) (frames : List Frame) (h : Holes) (v : Upper) → register_of (settled_in o code value m frames h v).write ≡ register_of m.step.write
+pub settled_register : (o : Option Nested) (code : ℕ → ℕ) (value : ℕ) (m : Made) (frames : List Frame) (h : UndefinedParts) (v : Upper) → register_of (settled_in o code value m frames h v).write ≡ register_of m.step.write
 settled_register None code value m frames h v = refl
-settled_register (Some x) code value m frames h v = fetched_register (fetched code m.before.control.pc) value x (state_at frames h v) (turn_as m.step frames h m.after)
+settled_register (Some x) code value m frames h v = fetched_register (fetch_at code m.before.control.pc) value x (state_at frames h v) (turn_as m.step frames h m.after)
 
 -- ---- the register that is cut
 cut_seen_same : (mask : ℕ) (w v : Option RegWrite) (seen : List (Option ℕ)) → register_of w ≡ register_of v → cut_seen mask w seen ≡ cut_seen mask v seen

@@ -6,13 +6,13 @@ use Rattle.xt_map.specs.declared.access.Access.{Access}
 use Rattle.xt_map.specs.Touching.{is_load}
 use Rattle.xt_special.specs.Interrupts.{pending_of}
 use Rattle.xt_trace.specs.declared.record.StepRecord.{StepRecord}
-use Rattle.xt_fetch.specs.Fetching.{Fetched, Fetches, fetched}
+use Rattle.xt_fetch.specs.Fetching.{Fetched, Fetches, fetch_at}
 use Rattle.xt_rows.specs.Kinds.{is_return}
 use Rattle.xt_frames.specs.declared.breach.Case.{Case}
 use Rattle.xt_frames.specs.Frames.{Frame, FrameState}
-use Rattle.xt_frames.specs.FrameStep.{FrameTurn, laid_step}
+use Rattle.xt_frames.specs.FrameStep.{FrameTurn, step_with_inputs}
 use Rattle.xt_frames.specs.Breaches.{Bounds, first_shown, insn_tests, loads_stale, other_tests, return_tests, some_byte, touches_save_area, vector_test}
-use Rattle.xt_frames.specs.Parts.{IsCase}
+use Rattle.xt_frames.specs.KeptFrameState.{IsCase}
 use Rattle.xt_frames.proofs.TestRows.{no_byte}
 use Rattle.xt_uses.specs.declared.testing.Touched.{Touched}
 use Rattle.xt_uses.specs.UseState.{UseState}
@@ -26,7 +26,7 @@ unfolding laid_use
 use_alone b fresh code live bytes rec s f h = cond-true _ _ _ h
 
 pub use_fetches : (b : Bounds) (fresh : Bool) (code : ℕ → ℕ) (live : ℕ → Bool) (bytes : ℕ → ℕ) (rec : StepRecord) (s : UseState) (f : FrameState) → ltb 0 (pending_of f.control) ≡ false → f.control.waits ≡ false
-    → laid_use b fresh code live bytes rec s f ≡ first_shown (fetched_uses b fresh live bytes (fetched code f.control.pc) rec s f (laid_step code rec.reply f))
+    → laid_use b fresh code live bytes rec s f ≡ first_shown (fetched_uses b fresh live bytes (fetch_at code f.control.pc) rec s f (step_with_inputs code rec.reply f))
 unfolding laid_use
 use_fetches b fresh code live bytes rec s f e w = cond-false (ltb 0 (pending_of f.control) || f.control.waits) _ _ (or_from _ _ e w)
 

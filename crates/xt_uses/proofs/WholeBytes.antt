@@ -5,7 +5,7 @@ use Rattle.xt_map.specs.declared.access.Access.{Access}
 use Rattle.xt_map.specs.Regions.{is_memory, region_of}
 use Rattle.xt_map.specs.Touching.{is_load, is_store, touches}
 use Rattle.xt_frames.specs.Breaches.{loads_stale, some_byte, touches_save_area}
-use Rattle.xt_uses.specs.Words.{all_bits, flipped}
+use Rattle.xt_uses.specs.Words.{all_bits, complement}
 use Rattle.xt_uses.specs.UseStep.{reply_mask, stores_unknown, unknown_bits}
 use Rattle.xt_uses.specs.UseBreaches.{is_swap, swaps_unknown}
 use Rattle.xt_uses.specs.FirstUse.{stored_byte}
@@ -69,13 +69,13 @@ module _ (live stale : ℕ → Bool) (bytes : ℕ → ℕ) (told : (a : ℕ) →
   reply_known None h k = refl
   reply_known (Some a) h k = cond_both
       (is_memory (region_of a.addr) && not (is_store a.kind))
-      (flipped (unknown_bits bytes a.addr a.size))
+      (complement (unknown_bits bytes a.addr a.size))
       all_bits
       (λ n. n ≡ all_bits)
       (λ reads.
       let n = not-true (is_store a.kind) (and_parts (is_memory (region_of a.addr)) (not (is_store a.kind)) reads).1 in
       let p = apart a n h k in
-      ap flipped (bits_known a.size a.addr p.0 p.1))
+      ap complement (bits_known a.size a.addr p.0 p.1))
       (λ others. refl)
 
   pub swaps_known : (o : Option Access) → loads_stale live stale o ≡ false → touches_save_area live o ≡ false → swaps_unknown bytes o ≡ false

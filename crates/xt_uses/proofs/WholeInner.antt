@@ -18,7 +18,7 @@ use Rattle.xt_loop.specs.Looping.{loops_back}
 use Rattle.xt_trace.specs.declared.record.RegWrite.{RegWrite}
 use Rattle.xt_trace.specs.declared.record.StepKind.TheVariants as kind
 use Rattle.xt_trace.specs.declared.record.StepRecord.{StepRecord}
-use Rattle.xt_fetch.specs.Fetching.{Fetched, Fetches, Fails, SpellsNothing, fetched}
+use Rattle.xt_fetch.specs.Fetching.{Fetched, Fetches, Fails, SpellsNothing, fetch_at}
 use Rattle.xt_rows.specs.declared.outcome.Effect.{Effect}
 use Rattle.xt_rows.specs.declared.outcome.Flow.{Flow}
 use Rattle.xt_rows.specs.declared.outcome.Flow.TheVariants.{Falls, Goes}
@@ -26,9 +26,9 @@ use Rattle.xt_rows.specs.declared.outcome.Outcome.{Outcome}
 use Rattle.xt_rows.specs.declared.outcome.Outcome.TheVariants.{Does, Raises, Asks, Stops, Windowed}
 use Rattle.xt_rows.specs.declared.outcome.WindowRegister.{WindowRegister}
 use Rattle.xt_rows.specs.declared.outcome.WindowStep.TheVariants.{Enters, Returns, EndsOverflow, EndsUnderflow, Rotates, MovesStack, Reads, Sets, Exchanges}
-use Rattle.xt_rows.specs.Effects.{illegal_instruction, unchanged, window_register, reads_special, writes_special, exchanges_special}
+use Rattle.xt_rows.specs.Effects.{illegal_instruction, no_change, window_register, reads_special, writes_special, exchanges_special}
 use Rattle.xt_rows.specs.Kinds.{Fits, is_entry, is_return, is_windowing, moved_to}
-use Rattle.xt_rows.specs.Laws.{AsksWith, KeepsMode, sets_mode}
+use Rattle.xt_rows.specs.RowLaws.{AsksWith, KeepsMode, sets_mode}
 use Rattle.xt_rows.specs.Numbers.{natural}
 use Rattle.xt_rows.specs.Operands.{reads, special_reads}
 use Rattle.xt_rows.specs.Outcomes.{outcome, system_outcome, outcome_at}
@@ -36,10 +36,10 @@ use Rattle.xt_rows.specs.Settling.{after_effect, after_flow}
 use Rattle.xt_rows.proofs.Fitting.{outcome_alone, outcome_fits}
 use Rattle.xt_rows.proofs.Modes.{modes_kept}
 use Rattle.xt_frames.specs.declared.holes.Nested.{Nested}
-use Rattle.xt_frames.specs.Frames.{Frame, FrameState, known, seen_after_write}
-use Rattle.xt_frames.specs.FrameStep.{FrameTurn, Inputs, done_in_frame, fetched_step, laid, laid_step, popped, pushed, raised}
+use Rattle.xt_frames.specs.Frames.{Frame, FrameState, value_or_zero, seen_after_write}
+use Rattle.xt_frames.specs.FrameStep.{FrameTurn, Inputs, done_in_frame, fetched_step, with_inputs, step_with_inputs, return_in_frame, entry_in_frame, exception_in_frame}
 use Rattle.xt_frames.specs.Marks.{holds_marks, mark_read, marked_seen, marked_write, marks_after, moves_marks, saved_by, unset_by}
-use Rattle.xt_frames.specs.Nesting.{disturbs_nested, ends_nested, inside, keeping, nested_after, nested_fetched}
+use Rattle.xt_frames.specs.Nesting.{disturbs_nested, ends_nested, nested_view, with_kept_frame, nested_after, nested_fetched}
 use Rattle.xt_frames.specs.Breaches.{Bounds, fetched_tests, is_exception, is_unset, lacks, laid_breach, loads_stale, reads_no_mark, reads_unset, touches_save_area}
 use Rattle.xt_frames.proofs.Shown.{NoneShown, Sound, sound}
 use Rattle.xt_frames.proofs.StackSteps.{step_fetches}
@@ -47,8 +47,8 @@ use Rattle.xt_uses.specs.Disciplines.{Lenient}
 use Rattle.xt_uses.specs.Words.{Word, all_bits, mask_where}
 use Rattle.xt_uses.specs.Used.{counted_bits}
 use Rattle.xt_uses.specs.Known.{result_mask, system_mask}
-use Rattle.xt_uses.specs.UseState.{Masks, UseState, first_word, second_word, special_mask, special_operand}
-use Rattle.xt_uses.specs.UseStep.{called, cut_number, cut_seen, cut_state, executed, frames_moved, masks_past, pointer_written, returned, special_written, use_turn, visible_written}
+use Rattle.xt_uses.specs.UseState.{ValidityBits, UseState, first_word, second_word, special_mask, special_operand}
+use Rattle.xt_uses.specs.UseStep.{bits_after_call, cut_number, cut_seen, cut_state, step_insn, frames_moved, masks_past, pointer_written, bits_after_return, special_written, use_turn, visible_written}
 use Rattle.xt_uses.specs.UseLaws.{number_mask}
 use Rattle.xt_uses.proofs.WholeLists.{AreWords, InnerAreWords, mask_at, set_again}
 use Rattle.xt_uses.proofs.WholePlain.{no_return, tests_shown}
@@ -123,9 +123,9 @@ pub record IsAlone (i : Insn) (saved : List (Option ℕ)) : Type 0 where
 
 pub stop_alone : (code : ℕ → ℕ) (i : Insn) (pc x y u v : ℕ) (ps : Ps) (t : ℕ) (saved : List (Option ℕ)) → IsStop (outcome code i pc x y u v ps t) → IsAlone i saved
 unfolding outcome system_outcome moved_to mark_read ends_nested
-stop_alone code (insn.System (system.Rsr SpecialName.Rsr r n)) pc x y u v ps t saved h = absurd (reads_on (window_register n) r n u (unchanged ps t) h)
-stop_alone code (insn.System (system.Rsr SpecialName.Wsr r n)) pc x y u v ps t saved h = absurd (writes_on (window_register n) n x v (unchanged ps t) h)
-stop_alone code (insn.System (system.Rsr SpecialName.Xsr r n)) pc x y u v ps t saved h = absurd (exchanges_on (window_register n) r n x u v (unchanged ps t) h)
+stop_alone code (insn.System (system.Rsr SpecialName.Rsr r n)) pc x y u v ps t saved h = absurd (reads_on (window_register n) r n u (no_change ps t) h)
+stop_alone code (insn.System (system.Rsr SpecialName.Wsr r n)) pc x y u v ps t saved h = absurd (writes_on (window_register n) n x v (no_change ps t) h)
+stop_alone code (insn.System (system.Rsr SpecialName.Xsr r n)) pc x y u v ps t saved h = absurd (exchanges_on (window_register n) r n x u v (no_change ps t) h)
 stop_alone code (insn.System (system.Rfi level)) pc x y u v ps t saved h = absurd h
 stop_alone code _ pc x y u v ps t saved h = record { moved = refl; mark = refl; ends = refl }
 
@@ -174,7 +174,7 @@ cut_marked (Some k) value (Some w) old words =
     ap (λ o. set (set (set old w.reg (Some w.value)) w.reg None) w.reg (cut_number 0 o)) (none_there (set old w.reg (Some w.value)) w.reg)
     ∙ set_again (set old w.reg (Some w.value)) w.reg None None
 
-marked_mask : (mark : Option ℕ) (value : ℕ) (write : Option RegWrite) (mask : ℕ) (k : Masks) → visible_written true (marked_write mark value write) mask k ≡ visible_written true write mask k
+marked_mask : (mark : Option ℕ) (value : ℕ) (write : Option RegWrite) (mask : ℕ) (k : ValidityBits) → visible_written true (marked_write mark value write) mask k ≡ visible_written true write mask k
 marked_mask None value None mask k = refl
 marked_mask None value (Some w) mask k = refl
 marked_mask (Some j) value None mask k = refl
@@ -184,18 +184,18 @@ mark_or_all : (mark : Option ℕ) (mask : ℕ) → mask ≡ left_mask mark → (
 mark_or_all None mask e = eq-eqb mask all_bits e
 mark_or_all (Some k) mask e = refl
 
-module _ (seen : List (Option ℕ)) (frames : List Frame) (control : Control) (unset : List Bool) (x : Nested) (m : Masks) (w : Whole seen frames unset (Some x) control.waits m) (inp : Inputs) (value : ℕ) where
+module _ (seen : List (Option ℕ)) (frames : List Frame) (control : Control) (unset : List Bool) (x : Nested) (m : ValidityBits) (w : Whole seen frames unset (Some x) control.waits m) (inp : Inputs) (value : ℕ) where
   abbrev f : FrameState
   f = record { seen = seen; frames = frames; control = control; unset = unset; nested = Some x }
 
   abbrev g : FrameState
-  g = laid inp (inside x f)
+  g = with_inputs inp (nested_view x f)
 
   abbrev s : UseState
   s = record { frame = f; masks = m }
 
   abbrev Holds : Fetched → ℕ → FrameTurn → Type 0
-  Holds at r u = AreWords u.after.seen → InnerAreWords u.after.nested → Steps f at u (use_turn (executed u.kind at) r s g u)
+  Holds at r u = AreWords u.after.seen → InnerAreWords u.after.nested → Steps f at u (use_turn (step_insn u.kind at) r s g u)
 
   -- ---- marks where there is no number
   pub no_mark : (t : ℕ) → lacks x.seen (Some t) ≡ false → get_or x.marks t None ≡ None
@@ -239,7 +239,7 @@ module _ (seen : List (Option ℕ)) (frames : List Frame) (control : Control) (u
   pub record IsMoved (i : Insn) (r : ℕ) : Type 0 where
     pub mask : result_mask m.discipline i (first_word i s g) (second_word i s g) (special_operand i s g) m.threadptr r ≡ left_mask (mark_read i x.saved)
     pub moved : IsMovedMark (moved_to i) (first_word i s g).mask x.marks
-    pub pointer : (k : Masks) → pointer_written i (first_word i s g).mask k ≡ pointer_written i all_bits k
+    pub pointer : (k : ValidityBits) → pointer_written i (first_word i s g).mask k ≡ pointer_written i all_bits k
     pub stored : (second_word i s g).mask ≡ all_bits
 
   -- it reads numbers
@@ -305,14 +305,14 @@ module _ (seen : List (Option ℕ)) (frames : List Frame) (control : Control) (u
   abbrev left : Insn → FrameTurn → FrameTurn
   left i v = record v {
     write = marked_write (mark_read i x.saved) value v.write;
-    after = record (keeping f v.after) {
+    after = record (with_kept_frame f v.after) {
       unset = unset_by (moved_to i) x.marks unset;
       nested = Some (nested_after i (mark_read i x.saved) x v);
     };
   }
 
   abbrev ended : FrameTurn → FrameTurn
-  ended v = record v { after = record (keeping f v.after) { nested = None } }
+  ended v = record v { after = record (with_kept_frame f v.after) { nested = None } }
 
   module _ (i : Insn) (len r : ℕ) (unmoved : frames_moved i x.ps.callinc m ≡ m) where
     abbrev mark : Option ℕ
@@ -325,7 +325,7 @@ module _ (seen : List (Option ℕ)) (frames : List Frame) (control : Control) (u
     given = (first_word i s g).mask
 
     goes_on : IsMoved i r → (write : Option RegWrite) (access : Option Access) (c : Control) → c.ps.excm ≡ true → c.ps.intlevel ≡ 5 → c.waits ≡ false → Holds (Fetches i len) r (left i (wrote write access c))
-    unfolding executed
+    unfolding step_insn
     goes_on h write access c excm level runs words inner = record {
       frame = frame;
       whole = whole;
@@ -356,12 +356,12 @@ module _ (seen : List (Option ℕ)) (frames : List Frame) (control : Control) (u
             past
             (inner_place two c.pc c.ps c.waits excm level runs)
 
-  forgotten : (o : Option RegWrite) (number : ℕ) {k : Masks} {u : List Bool} {awake : Bool} → Whole seen frames u None awake k → Whole seen frames u None awake (visible_written true o number k)
+  forgotten : (o : Option RegWrite) (number : ℕ) {k : ValidityBits} {u : List Bool} {awake : Bool} → Whole seen frames u None awake k → Whole seen frames u None awake (visible_written true o number k)
   forgotten None number h = h
   forgotten (Some q) number h = record { seen_masks = h.seen_masks; kept = h.kept; special = h.special; threadptr = h.threadptr; inner = tt; count = h.count; holes = h.holes; wide = h.wide; full = h.full; inside = tt }
 
   ends : (level : ℤ) (len r : ℕ) (write : Option RegWrite) (access : Option Access) (c : Control) → Holds (Fetches (insn.System (system.Rfi level)) len) r (ended (wrote write access c))
-  unfolding executed result_mask system_mask reads moved_to pointer_written is_entry is_return
+  unfolding step_insn result_mask system_mask reads moved_to pointer_written is_entry is_return
   ends level len r write access c words inner = record {
     frame = λ j. record f { control = record c { pc = control.pc; ps = control.ps }; seen = uncut_seen write seen words j; nested = None };
     whole = forgotten write all_bits (whole_ended w c.waits);
@@ -376,8 +376,8 @@ module _ (seen : List (Option ℕ)) (frames : List Frame) (control : Control) (u
       control.waits m
 
   -- BREAK
-  stops : (code : ℕ → ℕ) (i : Insn) (len reply r : ℕ) → IsStop (outcome_at code i (known x.seen) g.control) → Holds (Fetches i len) r (left i (done_in_frame Stops len reply g))
-  unfolding executed
+  stops : (code : ℕ → ℕ) (i : Insn) (len reply r : ℕ) → IsStop (outcome_at code i (value_or_zero x.seen) g.control) → Holds (Fetches i len) r (left i (done_in_frame Stops len reply g))
+  unfolding step_insn
   stops code i len reply r h words inner = other_steps f (Fetches i len) (left i (done_in_frame Stops len reply g)) m
       (subst (λ o. Stopped o (mark_read i x.saved)) (sym alone.moved) (subst (λ mark. Stopped None mark) (sym alone.mark) (inner_place w x.pc g.control.ps control.waits w.inside.excm w.inside.level w.inside.runs)))
     where
@@ -389,7 +389,7 @@ module _ (seen : List (Option ℕ)) (frames : List Frame) (control : Control) (u
   Ends i len r v = (ends_nested i ≡ true → Holds (Fetches i len) r (ended v)) × (ends_nested i ≡ false → IsMoved i r → Holds (Fetches i len) r (left i v))
 
   in_place : (i : Insn) → is_entry i ≡ false → is_return i ≡ false → frames_moved i x.ps.callinc m ≡ m
-  in_place i e n = cond-false (is_entry i) (called x.ps.callinc m) (cond (is_return i) (returned m.kept m) m) e ∙ cond-false (is_return i) (returned m.kept m) m n
+  in_place i e n = cond-false (is_entry i) (bits_after_call x.ps.callinc m) (cond (is_return i) (bits_after_return m.kept m) m) e ∙ cond-false (is_return i) (bits_after_return m.kept m) m n
 
   wrote_holds : (i : Insn) (len r : ℕ) (write : Option RegWrite) (access : Option Access) (c : Control) → is_entry i ≡ false → is_return i ≡ false
       → (ends_nested i ≡ false → (c.ps.excm ≡ true) × (c.ps.intlevel ≡ 5) × (c.waits ≡ false)) → Ends i len r (wrote write access c)
@@ -406,27 +406,27 @@ module _ (seen : List (Option ℕ)) (frames : List Frame) (control : Control) (u
     undisturbed : (u : FrameTurn) → Sound b fresh live stale i rec g u → disturbs_nested i ≡ false
     undisturbed u sound = (or_parts (disturbs_nested i) _ (or_parts (is_exception u.kind) _ sound.nested).1).0
 
-    raised_in : (u : FrameTurn) → Sound b fresh live stale i rec g (cond g.control.ps.excm (raised illegal_instruction None g) u) → ⊥
-    raised_in u sound = both_ways (is_exception (cond g.control.ps.excm (raised illegal_instruction None g) u).kind) (calm (cond g.control.ps.excm (raised illegal_instruction None g) u) sound)
-        (ap (λ (v : FrameTurn). is_exception v.kind) (cond-true g.control.ps.excm (raised illegal_instruction None g) u w.inside.excm))
+    raised_in : (u : FrameTurn) → Sound b fresh live stale i rec g (cond g.control.ps.excm (exception_in_frame illegal_instruction None g) u) → ⊥
+    raised_in u sound = both_ways (is_exception (cond g.control.ps.excm (exception_in_frame illegal_instruction None g) u).kind) (calm (cond g.control.ps.excm (exception_in_frame illegal_instruction None g) u) sound)
+        (ap (λ (v : FrameTurn). is_exception v.kind) (cond-true g.control.ps.excm (exception_in_frame illegal_instruction None g) u w.inside.excm))
 
-    done : (o : Outcome) → outcome_at code i (known x.seen) g.control ≡ o → Fits i o → Sound b fresh live stale i rec g (done_in_frame o len reply g) → Ends i len r (done_in_frame o len reply g)
-    done (Does e) q fits sound = wrote_holds i len r e.write None _ fits.2 (no_return code i (known x.seen) g.control (Does e) q (λ h. h)) (λ goes.
+    done : (o : Outcome) → outcome_at code i (value_or_zero x.seen) g.control ≡ o → Fits i o → Sound b fresh live stale i rec g (done_in_frame o len reply g) → Ends i len r (done_in_frame o len reply g)
+    done (Does e) q fits sound = wrote_holds i len r e.write None _ fits.2 (no_return code i (value_or_zero x.seen) g.control (Does e) q (λ h. h)) (λ goes.
         let d = undisturbed (done_in_frame (Does e) len reply g) sound in
-        let k : KeepsMode (unchanged g.control.ps control.threadptr) (Does e) = subst (λ o. KeepsMode (unchanged g.control.ps control.threadptr) o) q (modes_kept code i x.pc _ _ _ _ g.control.ps control.threadptr (keeps_mode i d goes sound.windowing)) in
+        let k : KeepsMode (no_change g.control.ps control.threadptr) (Does e) = subst (λ o. KeepsMode (no_change g.control.ps control.threadptr) o) q (modes_kept code i x.pc _ _ _ _ g.control.ps control.threadptr (keeps_mode i d goes sound.windowing)) in
         let c = effect_mode e len g.control in
         (ap (λ (p : Ps). p.excm) c.0 ∙ (k.1 ∙ w.inside.excm), ap (λ (p : Ps). p.intlevel) c.0 ∙ (k.0 ∙ w.inside.level), c.1 ∙ k.2))
     done (Raises cause address) q fits sound = absurd (both_ways true (calm (done_in_frame (Raises cause address) len reply g) sound) refl)
-    done (Asks access awaited e) q fits sound = wrote_holds i len r _ _ _ fits.2 (no_return code i (known x.seen) g.control (Asks access awaited e) q (λ h. h)) (λ goes.
-        let k : e ≡ unchanged g.control.ps control.threadptr = subst (λ o. AsksWith (unchanged g.control.ps control.threadptr) o) q (outcome_alone code i x.pc _ _ _ _ g.control.ps control.threadptr) in
+    done (Asks access awaited e) q fits sound = wrote_holds i len r _ _ _ fits.2 (no_return code i (value_or_zero x.seen) g.control (Asks access awaited e) q (λ h. h)) (λ goes.
+        let k : e ≡ no_change g.control.ps control.threadptr = subst (λ o. AsksWith (no_change g.control.ps control.threadptr) o) q (outcome_alone code i x.pc _ _ _ _ g.control.ps control.threadptr) in
         let c = effect_mode e len g.control in
         (ap (λ (p : Ps). p.excm) (c.0 ∙ ap (λ (d : Effect). d.ps) k) ∙ w.inside.excm, ap (λ (p : Ps). p.intlevel) (c.0 ∙ ap (λ (d : Effect). d.ps) k) ∙ w.inside.level, c.1 ∙ ap (λ (d : Effect). d.waits) k))
     done Stops q fits sound =
-        let h : IsStop (outcome_at code i (known x.seen) g.control) = subst IsStop (sym q) tt in
+        let h : IsStop (outcome_at code i (value_or_zero x.seen) g.control) = subst IsStop (sym q) tt in
         let alone = stop_alone code i x.pc _ _ _ _ g.control.ps control.threadptr x.saved h in
         (λ ending. absurd (both_ways (ends_nested i) alone.ends ending), λ goes moved. stops code i len reply r h)
-    done (Windowed (Enters number value)) q fits sound = absurd (raised_in (pushed number value len g) sound)
-    done (Windowed (Returns a0)) q fits sound = absurd (raised_in (popped a0 g) sound)
+    done (Windowed (Enters number value)) q fits sound = absurd (raised_in (entry_in_frame number value len g) sound)
+    done (Windowed (Returns a0)) q fits sound = absurd (raised_in (return_in_frame a0 g) sound)
     done (Windowed (EndsOverflow epc1)) q fits sound = absurd (both_ways _ sound.windowing fits)
     done (Windowed (EndsUnderflow epc1)) q fits sound = absurd (both_ways _ sound.windowing fits)
     done (Windowed (Rotates n)) q fits sound = absurd (both_ways _ sound.windowing fits)
@@ -443,14 +443,14 @@ module _ (seen : List (Option ℕ)) (frames : List Frame) (control : Control) (u
     fetches lenient (Fetches i len) reply none =
         let v : FrameTurn = fetched_step (Fetches i len) code reply g in
         let o = sound b fresh live stale i rec g v none in
-        let d = done code b fresh live stale rec i len r reply (outcome_at code i (known x.seen) g.control) refl (outcome_fits code i x.pc _ _ _ _ g.control.ps control.threadptr) o in
+        let d = done code b fresh live stale rec i len r reply (outcome_at code i (value_or_zero x.seen) g.control) refl (outcome_fits code i x.pc _ _ _ _ g.control.ps control.threadptr) o in
         cond_both (ends_nested i) (ended v) (left i v) (Holds (Fetches i len) r) d.0 (λ goes. d.1 goes (moved_all lenient i r (told o.loads o.saves) goes o.unset))
 
     pub quiet : ltb 0 (pending_of g.control) ≡ false
     quiet = ap (ltb 0) (none_pending (special_of g.control 226) (special_of g.control 228) g.control.ps w.inside.excm w.inside.level)
 
-    pub inner_holds : m.discipline ≡ Lenient → laid_breach b fresh code live stale rec g ≡ None → Holds (fetched code x.pc) r (nested_fetched (fetched code x.pc) value x f (laid_step code rec.reply g))
+    pub inner_holds : m.discipline ≡ Lenient → laid_breach b fresh code live stale rec g ≡ None → Holds (fetch_at code x.pc) r (nested_fetched (fetch_at code x.pc) value x f (step_with_inputs code rec.reply g))
     inner_holds lenient none = subst
-        (λ v. Holds (fetched code x.pc) r (nested_fetched (fetched code x.pc) value x f v))
+        (λ v. Holds (fetch_at code x.pc) r (nested_fetched (fetch_at code x.pc) value x f v))
         (sym (step_fetches code rec.reply g quiet w.inside.runs))
-        (fetches lenient (fetched code x.pc) rec.reply (tests_shown code b fresh live stale rec g quiet w.inside.runs none))
+        (fetches lenient (fetch_at code x.pc) rec.reply (tests_shown code b fresh live stale rec g quiet w.inside.runs none))

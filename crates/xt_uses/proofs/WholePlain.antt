@@ -17,7 +17,7 @@ use Rattle.xt_special.specs.Interrupts.{pending_level, pending_of}
 use Rattle.xt_trace.specs.declared.record.RegWrite.{RegWrite}
 use Rattle.xt_trace.specs.declared.record.StepKind.TheVariants as kind
 use Rattle.xt_trace.specs.declared.record.StepRecord.{StepRecord}
-use Rattle.xt_fetch.specs.Fetching.{Fetched, Fetches, Fails, SpellsNothing, fetched}
+use Rattle.xt_fetch.specs.Fetching.{Fetched, Fetches, Fails, SpellsNothing, fetch_at}
 use Rattle.xt_rows.specs.declared.outcome.Outcome.{Outcome}
 use Rattle.xt_rows.specs.declared.outcome.Outcome.TheVariants.{Does, Raises, Asks, Stops, Windowed}
 use Rattle.xt_rows.specs.declared.outcome.WindowStep.TheVariants.{Enters, Returns, EndsOverflow, EndsUnderflow, Rotates, MovesStack, Reads, Sets, Exchanges}
@@ -26,8 +26,8 @@ use Rattle.xt_rows.specs.Kinds.{Fits, IsReturn, is_entry, is_movsp, is_return, m
 use Rattle.xt_rows.specs.Outcomes.{outcome, control_outcome, density_outcome, outcome_at}
 use Rattle.xt_rows.specs.Settling.{settled_interrupt, settled_wait}
 use Rattle.xt_rows.proofs.Fitting.{outcome_fits}
-use Rattle.xt_frames.specs.Frames.{Frame, FrameState, known, seen_after_call, seen_after_return, seen_after_write}
-use Rattle.xt_frames.specs.FrameStep.{FrameTurn, Inputs, done_in_frame, fetched_step, in_frame, laid, laid_step, popped, popped_from, pushed, raised}
+use Rattle.xt_frames.specs.Frames.{Frame, FrameState, value_or_zero, seen_after_call, seen_after_return, seen_after_write}
+use Rattle.xt_frames.specs.FrameStep.{FrameTurn, Inputs, done_in_frame, fetched_step, in_frame, with_inputs, step_with_inputs, return_in_frame, return_to_frame, entry_in_frame, exception_in_frame}
 use Rattle.xt_frames.specs.Marks.{holds_marks, unset_by}
 use Rattle.xt_frames.specs.Nesting.{unset_after}
 use Rattle.xt_frames.specs.Breaches.{Bounds, fetched_tests, first_shown, laid_breach, loads_stale, touches_save_area}
@@ -35,8 +35,8 @@ use Rattle.xt_frames.proofs.Shown.{NoneShown, Sound, none_shown, sound}
 use Rattle.xt_frames.proofs.StackSteps.{breach_fetches, step_fetches, step_taken, step_waits, turn_if}
 use Rattle.xt_uses.specs.Disciplines.{Lenient}
 use Rattle.xt_uses.specs.Words.{Word, all_bits}
-use Rattle.xt_uses.specs.UseState.{Masks, UseState, first_word}
-use Rattle.xt_uses.specs.UseStep.{called, executed, fetched_movsp, frames_moved, masks_past, movsp_of, pointer_written, returned, special_written, use_turn, visible_written}
+use Rattle.xt_uses.specs.UseState.{ValidityBits, UseState, first_word}
+use Rattle.xt_uses.specs.UseStep.{bits_after_call, step_insn, fetched_movsp, frames_moved, masks_past, movsp_of, pointer_written, bits_after_return, special_written, use_turn, visible_written}
 use Rattle.xt_uses.proofs.WholeLists.{AreWords, held}
 use Rattle.xt_uses.proofs.WholeStates.{Whole, special_high, whole_called, whole_ended, whole_pointer, whole_returned, whole_special, whole_unset, whole_visible}
 use Rattle.xt_uses.proofs.WholeSteps.{IsRead, Steps, insn_steps, operands_whole, other_steps}
@@ -85,19 +85,19 @@ no_movsp _ len f e = refl
 -- none of the tests of the instruction that is fetched is shown
 pub tests_shown : (code : ℕ → ℕ) (b : Bounds) (fresh : Bool) (live stale : ℕ → Bool) (rec : StepRecord) (g : FrameState)
     → ltb 0 (pending_of g.control) ≡ false → g.control.waits ≡ false → laid_breach b fresh code live stale rec g ≡ None
-    → NoneShown (fetched_tests b fresh live stale (fetched code g.control.pc) rec g (fetched_step (fetched code g.control.pc) code rec.reply g))
+    → NoneShown (fetched_tests b fresh live stale (fetch_at code g.control.pc) rec g (fetched_step (fetch_at code g.control.pc) code rec.reply g))
 tests_shown code b fresh live stale rec g quiet runs none =
     let u = step_fetches code rec.reply g quiet runs in
-    let h0 : first_shown (fetched_tests b fresh live stale (fetched code g.control.pc) rec g (laid_step code rec.reply g)) ≡ None = sym (breach_fetches b fresh code live stale rec g quiet runs) ∙ none in
-    none_shown (fetched_tests b fresh live stale (fetched code g.control.pc) rec g (fetched_step (fetched code g.control.pc) code rec.reply g))
-    (subst (λ v. first_shown (fetched_tests b fresh live stale (fetched code g.control.pc) rec g v) ≡ None) u h0)
+    let h0 : first_shown (fetched_tests b fresh live stale (fetch_at code g.control.pc) rec g (step_with_inputs code rec.reply g)) ≡ None = sym (breach_fetches b fresh code live stale rec g quiet runs) ∙ none in
+    none_shown (fetched_tests b fresh live stale (fetch_at code g.control.pc) rec g (fetched_step (fetch_at code g.control.pc) code rec.reply g))
+    (subst (λ v. first_shown (fetched_tests b fresh live stale (fetch_at code g.control.pc) rec g v) ≡ None) u h0)
 
-module _ (seen : List (Option ℕ)) (frames : List Frame) (control : Control) (unset : List Bool) (m : Masks) (w : Whole seen frames unset None control.waits m) (inp : Inputs) where
+module _ (seen : List (Option ℕ)) (frames : List Frame) (control : Control) (unset : List Bool) (m : ValidityBits) (w : Whole seen frames unset None control.waits m) (inp : Inputs) where
   abbrev f : FrameState
   f = record { seen = seen; frames = frames; control = control; unset = unset; nested = None }
 
   abbrev g : FrameState
-  g = laid inp f
+  g = with_inputs inp f
 
   abbrev s : UseState
   s = record { frame = f; masks = m }
@@ -107,7 +107,7 @@ module _ (seen : List (Option ℕ)) (frames : List Frame) (control : Control) (u
   turned at v = record v { after = record v.after { unset = unset_after v.kind at unset } }
 
   abbrev Holds : Fetched → ℕ → FrameTurn → Type 0
-  Holds at reply v = AreWords v.after.seen → Steps f at (turned at v) (use_turn (executed v.kind at) reply s g (turned at v))
+  Holds at reply v = AreWords v.after.seen → Steps f at (turned at v) (use_turn (step_insn v.kind at) reply s g (turned at v))
 
   -- ---- no instruction is executed
   level_apart : (level n : ℕ) → level ≤ 5 → holds_marks n ≡ true → get_or (set (set unset (176 + level) false) (192 + level) false) n false ≡ get_or unset n false
@@ -117,20 +117,20 @@ module _ (seen : List (Option ℕ)) (frames : List Frame) (control : Control) (u
       (held unset (176 + level) n false false (λ b. b ≡ get_or unset n false) (λ e. absurd (omega (arith, e, small, high))) refl)
 
   takes : (at : Fetched) (level reply r : ℕ) → level ≤ 5 → Holds at r (in_frame (settled_interrupt level g.control) reply g)
-  unfolding executed
+  unfolding step_insn
   takes at level reply r small words = other_steps f at (turned at (in_frame (settled_interrupt level g.control) reply g)) m
       (whole_ended (whole_unset w (set (set unset (176 + level) false) (192 + level) false) (length-set (set unset (176 + level) false) (192 + level) false ∙ (length-set unset (176 + level) false ∙ w.holes)) (λ n h. level_apart level n small h)) _)
 
   waits : (at : Fetched) (reply r : ℕ) → Holds at r (in_frame (settled_wait g.control) reply g)
-  unfolding executed
+  unfolding step_insn
   waits at reply r words = other_steps f at (turned at (in_frame (settled_wait g.control) reply g)) m (whole_ended w _)
 
-  raises : (at : Fetched) (cause : ℕ) (address : Option ℕ) (r : ℕ) → Holds at r (raised cause address g)
-  unfolding executed
-  raises at cause address r words = other_steps f at (turned at (raised cause address g)) m (whole_ended w _)
+  raises : (at : Fetched) (cause : ℕ) (address : Option ℕ) (r : ℕ) → Holds at r (exception_in_frame cause address g)
+  unfolding step_insn
+  raises at cause address r words = other_steps f at (turned at (exception_in_frame cause address g)) m (whole_ended w _)
 
   stops : (at : Fetched) (len reply r : ℕ) → Holds at r (done_in_frame Stops len reply g)
-  unfolding executed
+  unfolding step_insn
   stops at len reply r words = other_steps f at (turned at (done_in_frame Stops len reply g)) m (whole_ended w _)
 
   -- ---- an instruction is executed
@@ -146,7 +146,7 @@ module _ (seen : List (Option ℕ)) (frames : List Frame) (control : Control) (u
 
     writes : (write : Option RegWrite) (access : Option Access) (c : Control) (old : List (Option ℕ)) (olds : List Frame)
         → Whole old olds unset None control.waits (frames_moved i control.ps.callinc m) → Holds (Fetches i len) r (wrote write access c old olds)
-    unfolding executed
+    unfolding step_insn
     writes write access c old olds x words = insn_steps f (Fetches i len) m lenient g i r (turned (Fetches i len) (wrote write access c old olds)) read w.threadptr known_reply words tt past
       where
         given : (first_word i s g).mask ≡ all_bits
@@ -161,39 +161,39 @@ module _ (seen : List (Option ℕ)) (frames : List Frame) (control : Control) (u
     unmoved : is_entry i ≡ false → is_return i ≡ false → Whole seen frames unset None control.waits (frames_moved i control.ps.callinc m)
     unmoved e n = subst
         (λ k. Whole seen frames unset None control.waits k)
-        (sym (cond-false (is_entry i) (called control.ps.callinc m) (cond (is_return i) (returned m.kept m) m) e ∙ cond-false (is_return i) (returned m.kept m) m n))
+        (sym (cond-false (is_entry i) (bits_after_call control.ps.callinc m) (cond (is_return i) (bits_after_return m.kept m) m) e ∙ cond-false (is_return i) (bits_after_return m.kept m) m n))
         w
 
-    entered : is_entry i ≡ true → frames_moved i control.ps.callinc m ≡ called control.ps.callinc m
-    entered e = cond-true (is_entry i) (called control.ps.callinc m) (cond (is_return i) (returned m.kept m) m) e
+    entered : is_entry i ≡ true → frames_moved i control.ps.callinc m ≡ bits_after_call control.ps.callinc m
+    entered e = cond-true (is_entry i) (bits_after_call control.ps.callinc m) (cond (is_return i) (bits_after_return m.kept m) m) e
 
-    left : is_entry i ≡ false → is_return i ≡ true → frames_moved i control.ps.callinc m ≡ returned m.kept m
-    left e n = cond-false (is_entry i) (called control.ps.callinc m) (cond (is_return i) (returned m.kept m) m) e ∙ cond-true (is_return i) (returned m.kept m) m n
+    left : is_entry i ≡ false → is_return i ≡ true → frames_moved i control.ps.callinc m ≡ bits_after_return m.kept m
+    left e n = cond-false (is_entry i) (bits_after_call control.ps.callinc m) (cond (is_return i) (bits_after_return m.kept m) m) e ∙ cond-true (is_return i) (bits_after_return m.kept m) m n
 
-    pushes : (number value : ℕ) → is_entry i ≡ true → Holds (Fetches i len) r (pushed number value len g)
-    unfolding pushed
+    pushes : (number value : ℕ) → is_entry i ≡ true → Holds (Fetches i len) r (entry_in_frame number value len g)
+    unfolding entry_in_frame
     pushes number value e = writes _ _ _ (seen_after_call seen control.ps.callinc) (record { by = control.ps.callinc; kept = take (4 * control.ps.callinc) seen } ∷ frames)
         (subst (λ k. Whole (seen_after_call seen control.ps.callinc) (record { by = control.ps.callinc; kept = take (4 * control.ps.callinc) seen } ∷ frames) unset None control.waits k) (sym (entered e)) (whole_called w control.ps.callinc))
 
-    pops : (fs : List Frame) → frames ≡ fs → (a0 : ℕ) → is_entry i ≡ false → is_return i ≡ true → Holds (Fetches i len) r (popped_from fs a0 g)
+    pops : (fs : List Frame) → frames ≡ fs → (a0 : ℕ) → is_entry i ≡ false → is_return i ≡ true → Holds (Fetches i len) r (return_to_frame fs a0 g)
     pops [] e a0 n h = raises (Fetches i len) illegal_instruction None r
     pops (k ∷ rest) e a0 n h = writes None None _ (seen_after_return k.kept seen k.by) rest
         (subst (λ q. Whole (seen_after_return k.kept seen k.by) rest unset None control.waits q) (sym (left n h)) (whole_returned (subst (λ fs. Whole seen fs unset None control.waits m) e w)))
 
     done : (b : Bounds) (fresh : Bool) (live stale : ℕ → Bool) (rec : StepRecord) (v : FrameTurn) (code : ℕ → ℕ) (reply : ℕ) (o : Outcome)
-        → outcome_at code i (known seen) g.control ≡ o → Fits i o → Sound b fresh live stale i rec g v → Holds (Fetches i len) r (done_in_frame o len reply g)
-    unfolding popped
-    done b fresh live stale rec v code reply (Does e) q fits o = writes e.write None _ seen frames (unmoved fits.2 (no_return code i (known seen) g.control (Does e) q (λ h. h)))
+        → outcome_at code i (value_or_zero seen) g.control ≡ o → Fits i o → Sound b fresh live stale i rec g v → Holds (Fetches i len) r (done_in_frame o len reply g)
+    unfolding return_in_frame
+    done b fresh live stale rec v code reply (Does e) q fits o = writes e.write None _ seen frames (unmoved fits.2 (no_return code i (value_or_zero seen) g.control (Does e) q (λ h. h)))
     done b fresh live stale rec v code reply (Raises cause address) q fits o = raises (Fetches i len) cause address r
-    done b fresh live stale rec v code reply (Asks access awaited e) q fits o = writes _ _ _ seen frames (unmoved fits.2 (no_return code i (known seen) g.control (Asks access awaited e) q (λ h. h)))
+    done b fresh live stale rec v code reply (Asks access awaited e) q fits o = writes _ _ _ seen frames (unmoved fits.2 (no_return code i (value_or_zero seen) g.control (Asks access awaited e) q (λ h. h)))
     done b fresh live stale rec v code reply Stops q fits o = stops (Fetches i len) len reply r
     done b fresh live stale rec v code reply (Windowed (Enters number value)) q fits o =
         let P : FrameTurn → Type 0 = λ v. Holds (Fetches i len) r v in
-        turn_if P g.control.ps.excm (raised illegal_instruction None g) (pushed number value len g) (raises (Fetches i len) illegal_instruction None r) (pushes number value (entry_is i number fits.0 fits.1))
+        turn_if P g.control.ps.excm (exception_in_frame illegal_instruction None g) (entry_in_frame number value len g) (raises (Fetches i len) illegal_instruction None r) (pushes number value (entry_is i number fits.0 fits.1))
     done b fresh live stale rec v code reply (Windowed (Returns a0)) q fits o =
         let P : FrameTurn → Type 0 = λ v. Holds (Fetches i len) r v in
         let is = returns_is i fits in
-        turn_if P g.control.ps.excm (raised illegal_instruction None g) (popped_from frames a0 g) (raises (Fetches i len) illegal_instruction None r) (pops frames refl a0 is.1 is.0)
+        turn_if P g.control.ps.excm (exception_in_frame illegal_instruction None g) (return_to_frame frames a0 g) (raises (Fetches i len) illegal_instruction None r) (pops frames refl a0 is.1 is.0)
     done b fresh live stale rec v code reply (Windowed (EndsOverflow epc1)) q fits o = absurd (both_ways _ o.windowing fits)
     done b fresh live stale rec v code reply (Windowed (EndsUnderflow epc1)) q fits o = absurd (both_ways _ o.windowing fits)
     done b fresh live stale rec v code reply (Windowed (Rotates n)) q fits o = absurd (both_ways _ o.windowing fits)
@@ -210,14 +210,14 @@ module _ (seen : List (Option ℕ)) (frames : List Frame) (control : Control) (u
     fetches lenient (Fetches i len) reply none =
         let o = sound b fresh live stale i rec g (fetched_step (Fetches i len) code reply g) none in
         let read = operands_whole s g lenient i w.seen_masks w.special o.unset in
-        done lenient i len r read (told o.loads o.saves) b fresh live stale rec (fetched_step (Fetches i len) code reply g) code reply (outcome_at code i (known seen) g.control) refl (outcome_fits code i g.control.pc _ _ _ _ g.control.ps g.control.threadptr) o
+        done lenient i len r read (told o.loads o.saves) b fresh live stale rec (fetched_step (Fetches i len) code reply g) code reply (outcome_at code i (value_or_zero seen) g.control) refl (outcome_fits code i g.control.pc _ _ _ _ g.control.ps g.control.threadptr) o
 
-    pub plain_holds : m.discipline ≡ Lenient → laid_breach b fresh code live stale rec g ≡ None → Holds (fetched code control.pc) r (laid_step code rec.reply g)
+    pub plain_holds : m.discipline ≡ Lenient → laid_breach b fresh code live stale rec g ≡ None → Holds (fetch_at code control.pc) r (step_with_inputs code rec.reply g)
     plain_holds lenient none = ⊎_elim
-        (λ level. subst (Holds (fetched code control.pc) r) (sym (step_taken code rec.reply g level)) (takes (fetched code control.pc) (pending_of g.control) rec.reply r (level_small _ _ _)))
+        (λ level. subst (Holds (fetch_at code control.pc) r) (sym (step_taken code rec.reply g level)) (takes (fetch_at code control.pc) (pending_of g.control) rec.reply r (level_small _ _ _)))
         (λ quiet. ⊎_elim
-        (λ idle. subst (Holds (fetched code control.pc) r) (sym (step_waits code rec.reply g quiet idle)) (waits (fetched code control.pc) rec.reply r))
-        (λ runs. subst (Holds (fetched code control.pc) r) (sym (step_fetches code rec.reply g quiet runs)) (fetches lenient (fetched code control.pc) rec.reply (tests_shown code b fresh live stale rec g quiet runs none)))
+        (λ idle. subst (Holds (fetch_at code control.pc) r) (sym (step_waits code rec.reply g quiet idle)) (waits (fetch_at code control.pc) rec.reply r))
+        (λ runs. subst (Holds (fetch_at code control.pc) r) (sym (step_fetches code rec.reply g quiet runs)) (fetches lenient (fetch_at code control.pc) rec.reply (tests_shown code b fresh live stale rec g quiet runs none)))
         (cases_Bool control.waits))
         (cases_Bool (ltb 0 (pending_of g.control)))
 
@@ -230,8 +230,8 @@ module _ (seen : List (Option ℕ)) (frames : List Frame) (control : Control) (u
 
     pub plain_movsp : laid_breach b fresh code live stale rec g ≡ None → movsp_of code g ≡ None
     plain_movsp none = ⊎_elim
-        (λ busy. cond-true (ltb 0 (pending_of g.control) || control.waits) None (fetched_movsp (fetched code control.pc) g) busy)
+        (λ busy. cond-true (ltb 0 (pending_of g.control) || control.waits) None (fetched_movsp (fetch_at code control.pc) g) busy)
         (λ free.
         let parts = or_parts (ltb 0 (pending_of g.control)) control.waits free in
-        cond-false (ltb 0 (pending_of g.control) || control.waits) None (fetched_movsp (fetched code control.pc) g) free ∙ moves_nothing (fetched code control.pc) rec.reply (tests_shown code b fresh live stale rec g parts.0 parts.1 none))
+        cond-false (ltb 0 (pending_of g.control) || control.waits) None (fetched_movsp (fetch_at code control.pc) g) free ∙ moves_nothing (fetch_at code control.pc) rec.reply (tests_shown code b fresh live stale rec g parts.0 parts.1 none))
         (cases_Bool (ltb 0 (pending_of g.control) || control.waits))

@@ -44,10 +44,10 @@ use Rattle.xt_frames.specs.Marks.{holds_marks}
 use Rattle.xt_alu.specs.Arithmetic.{sext}
 use Rattle.xt_alu.specs.Shifts.{src, srl, sra, sll, slli, srai, srli, extui}
 use Rattle.xt_alu.specs.Signed.{signed}
-use Rattle.xt_rows.specs.Numbers.{natural, extended, plus}
+use Rattle.xt_rows.specs.Numbers.{natural, loaded_value, plus}
 use Rattle.xt_uses.specs.Disciplines.{Lenient, is_strict}
 use Rattle.xt_uses.specs.declared.discipline.Discipline.{Discipline}
-use Rattle.xt_uses.specs.Words.{all_bits, and_mask, and_word, cut, flipped, is_whole, knows, moved_mask, not_word, ones, or_mask, whole_word, zeros}
+use Rattle.xt_uses.specs.Words.{all_bits, and_mask, and_word, masked, complement, is_whole, knows, moved_mask, not_word, ones, or_mask, whole_word, zeros}
 use Rattle.xt_uses.specs.Used.{bit_number, control_used, counted_bits, density_used, holds_owb, memory_used, shift_used, store_used, system_used, tested_known, three_used, used_are_known}
 use Rattle.xt_uses.specs.Known.{add_mask, boolean_mask, density_mask, loaded_mask, memory_mask, result_mask, scaled_mask, scaled_sum, shift_mask, sum_mask, system_mask, three_mask}
 use Rattle.xt_uses.proofs.Sums.{below_whole}
@@ -72,7 +72,7 @@ low_and : (n : ℕ) → bit_and n all_bits < 2 ^ 32
 low_and n = omega (arith, below_all n)
 
 zeros_low : (a : ℕ) → zeros (whole_word a) < 2 ^ 32
-zeros_low a = low_and (flipped a)
+zeros_low a = low_and (complement a)
 
 pub and_whole : (a b : ℕ) → and_mask (whole_word a) (whole_word b) ≡ all_bits
 and_whole a b = or_all (bit_or (zeros (whole_word a)) (zeros (whole_word b))) (or_lt 32 (zeros (whole_word a)) (zeros (whole_word b)) (zeros_low a) (zeros_low b))
@@ -81,14 +81,14 @@ or_whole : (a b : ℕ) → or_mask (whole_word a) (whole_word b) ≡ all_bits
 or_whole a b = or_all (bit_or (ones (whole_word a)) (ones (whole_word b))) (or_lt 32 (ones (whole_word a)) (ones (whole_word b)) (low_and a) (low_and b))
 
 pub knows_whole : (bits a : ℕ) → bits < 2 ^ 32 → knows bits (whole_word a) ≡ true
-knows_whole bits a h = eq-eqb (cut all_bits bits) bits (and_all bits h)
+knows_whole bits a h = eq-eqb (masked all_bits bits) bits (and_all bits h)
 
 whole_test : (a : ℕ) → is_whole (whole_word a) ≡ true
 whole_test a = refl
 
 -- ---- moved bits
 moved_all : (move : ℕ → ℕ) → move 0 ≡ 0 → moved_mask move all_bits ≡ all_bits
-moved_all move e = ap (λ (n : ℕ). flipped n) e
+moved_all move e = ap (λ (n : ℕ). complement n) e
 
 none_over : (n : ℕ) → 0 / 2 ^ n ≡ 0
 none_over n = let l = shr_le 0 n in omega (arith, l)
@@ -132,20 +132,20 @@ sext_none : (b : ℕ) → sext 0 b ≡ 0
 unfolding sext
 sext_none b = let z = none_left (b + 1) in ap (λ (r : ℕ). cond (ltb r (2 ^ (b + 1 - 1))) r (r + (2 ^ 32 - 2 ^ (b + 1)))) z ∙ cond-true (ltb 0 (2 ^ (b + 1 - 1))) 0 (0 + (2 ^ 32 - 2 ^ (b + 1))) (lt-ltb 0 (2 ^ (b + 1 - 1)) (pow_pos (b + 1 - 1)))
 
-extended_none : (signed : Bool) → extended signed 0 ≡ 0
-unfolding extended
+extended_none : (signed : Bool) → loaded_value signed 0 ≡ 0
+unfolding loaded_value
 extended_none true = refl
 extended_none false = refl
 
 -- ---- sums
 scaled_whole : (k a b : ℕ) → scaled_sum k (whole_word a) (whole_word b) ≡ all_bits
-scaled_whole k a b = ap (λ (n : ℕ). sum_mask (flipped n) all_bits) (slli_none k) ∙ below_whole
+scaled_whole k a b = ap (λ (n : ℕ). sum_mask (complement n) all_bits) (slli_none k) ∙ below_whole
 
 add_whole : (s t a b : ℕ) → add_mask s t (whole_word a) (whole_word b) ≡ all_bits
 add_whole s t a b = by_test (eqb s t)
   where
     by_test : (p : Bool) → cond p (scaled_mask 1 all_bits) (sum_mask all_bits all_bits) ≡ all_bits
-    by_test true = ap (λ (n : ℕ). flipped n) (slli_none 1)
+    by_test true = ap (λ (n : ℕ). complement n) (slli_none 1)
     by_test false = below_whole
 
 -- ---- masks
@@ -163,25 +163,25 @@ three_whole (three.Sub SubName.Subx2 r s t) a b sar = scaled_whole 1 a b
 three_whole (three.Sub SubName.Subx4 r s t) a b sar = scaled_whole 2 a b
 three_whole (three.Sub SubName.Subx8 r s t) a b sar = scaled_whole 3 a b
 three_whole (three.Mull r s t) a b sar = below_whole
-three_whole (three.Src r s t) a b sar = ap (λ (n : ℕ). flipped n) (src_none sar)
+three_whole (three.Src r s t) a b sar = ap (λ (n : ℕ). complement n) (src_none sar)
 three_whole (three.Moveqz name r s t) a b sar = refl
 three_whole _ a b sar = refl
 
 shift_whole : (i : Shift) (a sar : ℕ) → shift_mask i (whole_word a) sar ≡ all_bits
 unfolding shift_mask
 shift_whole (shift.Neg NegName.Neg r t) a sar = below_whole
-shift_whole (shift.Srl SrlName.Srl r t) a sar = ap (λ (n : ℕ). flipped n) (srl_none sar)
-shift_whole (shift.Srl SrlName.Sra r t) a sar = ap (λ (n : ℕ). flipped n) (sra_none sar)
-shift_whole (shift.Sll r s) a sar = ap (λ (n : ℕ). flipped n) (sll_none sar)
-shift_whole (shift.Slli r s n) a sar = ap (λ (n : ℕ). flipped n) (slli_none (natural n))
-shift_whole (shift.Srai r t n) a sar = ap (λ (n : ℕ). flipped n) (srai_none (natural n))
-shift_whole (shift.Srli r t n) a sar = ap (λ (n : ℕ). flipped n) (srli_none (natural n))
-shift_whole (shift.Extui r t n width) a sar = ap (λ (n : ℕ). flipped n) (extui_none (natural n) (natural width))
-shift_whole (shift.Sext SextName.Sext r s b) a sar = ap (λ (n : ℕ). flipped n) (sext_none (natural b))
+shift_whole (shift.Srl SrlName.Srl r t) a sar = ap (λ (n : ℕ). complement n) (srl_none sar)
+shift_whole (shift.Srl SrlName.Sra r t) a sar = ap (λ (n : ℕ). complement n) (sra_none sar)
+shift_whole (shift.Sll r s) a sar = ap (λ (n : ℕ). complement n) (sll_none sar)
+shift_whole (shift.Slli r s n) a sar = ap (λ (n : ℕ). complement n) (slli_none (natural n))
+shift_whole (shift.Srai r t n) a sar = ap (λ (n : ℕ). complement n) (srai_none (natural n))
+shift_whole (shift.Srli r t n) a sar = ap (λ (n : ℕ). complement n) (srli_none (natural n))
+shift_whole (shift.Extui r t n width) a sar = ap (λ (n : ℕ). complement n) (extui_none (natural n) (natural width))
+shift_whole (shift.Sext SextName.Sext r s b) a sar = ap (λ (n : ℕ). complement n) (sext_none (natural b))
 shift_whole _ a sar = refl
 
 loaded_whole : (signed : Bool) → loaded_mask signed all_bits ≡ all_bits
-loaded_whole signed = ap (λ (n : ℕ). flipped n) (extended_none signed)
+loaded_whole signed = ap (λ (n : ℕ). complement n) (extended_none signed)
 
 memory_whole : (i : Memory) (a : ℕ) → memory_mask i (whole_word a) all_bits ≡ all_bits
 unfolding memory_mask
@@ -239,7 +239,7 @@ test_whole : (a b : ℕ) → tested_known (whole_word a) (whole_word b) ≡ true
 test_whole a b = knows_whole (bit_number b) a (bit_small b)
 
 both_test : (a b : ℕ) → is_whole (and_word (whole_word a) (whole_word b)) ≡ true
-both_test a b = ap (λ (m : ℕ). eqb (cut m all_bits) all_bits) (and_whole a b)
+both_test a b = ap (λ (m : ℕ). eqb (masked m all_bits) all_bits) (and_whole a b)
 
 not_test : (a b : ℕ) → is_whole (and_word (not_word (whole_word a)) (whole_word b)) ≡ true
 not_test a b = both_test (zeros (whole_word a)) b

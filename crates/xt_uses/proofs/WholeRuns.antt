@@ -3,10 +3,10 @@ use Rattle.std.proofs.Common.{◌≡◌, ℕ, zero, suc, ◌<◌, ◌≤◌, Boo
 use Rattle.std.proofs.lemmas.Bool.{both_ways, cases_lt, cond-false, cond-true, or_from}
 use Rattle.xt_map.specs.Touching.{touches}
 use Rattle.xt_trace.specs.declared.record.StepRecord.{StepRecord}
-use Rattle.xt_fetch.specs.Fetching.{Fetched, fetched}
+use Rattle.xt_fetch.specs.Fetching.{Fetched, fetch_at}
 use Rattle.xt_frames.specs.declared.kinds.BreachKind.{BreachKind}
 use Rattle.xt_frames.specs.Frames.{FrameState}
-use Rattle.xt_frames.specs.FrameStep.{laid}
+use Rattle.xt_frames.specs.FrameStep.{with_inputs}
 use Rattle.xt_frames.specs.Nesting.{current}
 use Rattle.xt_frames.specs.SaveAreas.{is_live}
 use Rattle.xt_frames.specs.Breaches.{breach_of, inputs_of}
@@ -34,7 +34,7 @@ or_false false c e = e
 
 -- ---- what holds up to turn p
 abbrev pub fetched_at : Course → ℕ → ℕ → StepRecord → Fetched
-fetched_at r i core rec = fetched r.code (laid (inputs_of rec) (current (frame_before r core i))).control.pc
+fetched_at r i core rec = fetch_at r.code (with_inputs (inputs_of rec) (current (frame_before r core i))).control.pc
 
 pub record Agrees (r : Course) (h : History) (p : ℕ) : Type 0 where
   pub frame : (i core : ℕ) → i ≤ p → (h.state core i).frame ≡ frame_before r core i

@@ -17,8 +17,8 @@ use Rattle.xt_frames.specs.Frames.{Frame, FrameState, all_set, opening_frame, op
 use Rattle.xt_frames.specs.Marks.{holds_marks, marked_seen, marks_after, own_marks, saved_by, unset_by}
 use Rattle.xt_uses.specs.Words.{all_bits, mask_where}
 use Rattle.xt_uses.specs.Disciplines.{Lenient}
-use Rattle.xt_uses.specs.UseState.{Masks, whole_masks}
-use Rattle.xt_uses.specs.UseStep.{called, inner_unknown, pointer_written, returned, special_written, visible_written}
+use Rattle.xt_uses.specs.UseState.{ValidityBits, whole_masks}
+use Rattle.xt_uses.specs.UseStep.{bits_after_call, inner_unknown, pointer_written, bits_after_return, special_written, visible_written}
 use Rattle.xt_uses.specs.UseLaws.{InnerIsWhole, MasksAreWhole, number_mask}
 use Rattle.xt_uses.proofs.WholeLists.{held, held_both, masks_called, masks_length, masks_none, masks_of, masks_returned, masks_set, replicated, set_again}
 
@@ -52,7 +52,7 @@ abbrev pub IsInside : Option Nested → Bool → List Bool → Type 0
 IsInside None waits unset = Unit {0}
 IsInside (Some x) waits unset = IsInner x waits unset
 
-pub record Whole (seen : List (Option ℕ)) (frames : List Frame) (unset : List Bool) (nested : Option Nested) (waits : Bool) (m : Masks) : Type 0 where
+pub record Whole (seen : List (Option ℕ)) (frames : List Frame) (unset : List Bool) (nested : Option Nested) (waits : Bool) (m : ValidityBits) : Type 0 where
   pub seen_masks : m.seen ≡ masks_of seen
   pub kept : m.kept ≡ kept_masks frames
   pub special : SpecialIsWhole m.special unset
@@ -64,14 +64,14 @@ pub record Whole (seen : List (Option ℕ)) (frames : List Frame) (unset : List 
   pub full : AreFull frames
   pub inside : IsInside nested waits unset
 
-abbrev pub IsWholeState : FrameState → Masks → Type 0
+abbrev pub IsWholeState : FrameState → ValidityBits → Type 0
 IsWholeState f m = Whole f.seen f.frames f.unset f.nested f.control.waits m
 
-pub masks_whole : (f : FrameState) (m : Masks) → IsWholeState f m → MasksAreWhole f m
+pub masks_whole : (f : FrameState) (m : ValidityBits) → IsWholeState f m → MasksAreWhole f m
 masks_whole f m w = record { seen = w.seen_masks; kept = w.kept; special = w.special; threadptr = w.threadptr; inner = w.inner }
 
 -- ---- THREADPTR
-module _ {seen : List (Option ℕ)} {frames : List Frame} {unset : List Bool} {nested : Option Nested} {waits : Bool} {m : Masks} (w : Whole seen frames unset nested waits m) where
+module _ {seen : List (Option ℕ)} {frames : List Frame} {unset : List Bool} {nested : Option Nested} {waits : Bool} {m : ValidityBits} (w : Whole seen frames unset nested waits m) where
   pub whole_pointer : (i : Insn) → Whole seen frames unset nested waits (pointer_written i all_bits m)
   unfolding pointer_written
   whole_pointer (insn.System (system.Rur UserName.Wur t n)) = record { seen_masks = w.seen_masks; kept = w.kept; special = w.special; threadptr = refl; inner = w.inner; count = w.count; holes = w.holes; wide = w.wide; full = w.full; inside = w.inside }
@@ -86,7 +86,7 @@ seen_length : (o : Option RegWrite) (seen : List (Option ℕ)) → length (seen_
 seen_length None seen = refl
 seen_length (Some w) seen = length-set seen w.reg (Some w.value)
 
-module _ {seen : List (Option ℕ)} {frames : List Frame} {unset : List Bool} {waits : Bool} {m : Masks} (w : Whole seen frames unset None waits m) where
+module _ {seen : List (Option ℕ)} {frames : List Frame} {unset : List Bool} {waits : Bool} {m : ValidityBits} (w : Whole seen frames unset None waits m) where
   pub whole_visible : (o : Option RegWrite) → Whole (seen_after_write o seen) frames unset None waits (visible_written false o all_bits m)
   whole_visible None = w
   whole_visible (Some r) =
@@ -135,7 +135,7 @@ module _ {seen : List (Option ℕ)} {frames : List Frame} {unset : List Bool} {w
     inside = tt;
   }
 
-  pub whole_called : (n : ℕ) → Whole (seen_after_call seen n) (record { by = n; kept = take (4 * n) seen } ∷ frames) unset None waits (called n m)
+  pub whole_called : (n : ℕ) → Whole (seen_after_call seen n) (record { by = n; kept = take (4 * n) seen } ∷ frames) unset None waits (bits_after_call n m)
   whole_called n =
       let wide = w.wide in
       let d = length-drop (4 * n) seen in
@@ -155,8 +155,8 @@ module _ {seen : List (Option ℕ)} {frames : List Frame} {unset : List Bool} {w
         inside = tt;
       }
 
-pub whole_returned : {seen : List (Option ℕ)} {g : Frame} {frames : List Frame} {unset : List Bool} {waits : Bool} {m : Masks} → Whole seen (g ∷ frames) unset None waits m → Whole (seen_after_return g.kept seen g.by) frames unset None waits (returned m.kept m)
-whole_returned {seen} {g} {frames} {unset} {waits} {m} w = subst (λ ks. Whole (seen_after_return g.kept seen g.by) frames unset None waits (returned ks m)) (sym w.kept) (record {
+pub whole_returned : {seen : List (Option ℕ)} {g : Frame} {frames : List Frame} {unset : List Bool} {waits : Bool} {m : ValidityBits} → Whole seen (g ∷ frames) unset None waits m → Whole (seen_after_return g.kept seen g.by) frames unset None waits (bits_after_return m.kept m)
+whole_returned {seen} {g} {frames} {unset} {waits} {m} w = subst (λ ks. Whole (seen_after_return g.kept seen g.by) frames unset None waits (bits_after_return ks m)) (sym w.kept) (record {
   seen_masks = back;
   kept = refl;
   special = w.special;
@@ -196,7 +196,7 @@ no_saved n = replicated {A = Option ℕ} 256 n None
 apart : (n k : ℕ) → holds_marks n ≡ true → holds_marks k ≡ false → k ≡ n → ⊥
 apart n k h g e = both_ways (holds_marks n) (subst (λ x. holds_marks x ≡ false) e g) h
 
-pub whole_begun : {seen : List (Option ℕ)} {frames : List Frame} {unset : List Bool} {waits : Bool} {m : Masks} → Whole seen frames unset None waits m → (pc : ℕ) (ps : Ps) → ps.excm ≡ true → ps.intlevel ≡ 5
+pub whole_begun : {seen : List (Option ℕ)} {frames : List Frame} {unset : List Bool} {waits : Bool} {m : ValidityBits} → Whole seen frames unset None waits m → (pc : ℕ) (ps : Ps) → ps.excm ≡ true → ps.intlevel ≡ 5
     → Whole seen frames (set (set unset 181 true) 197 true) (Some (begun_inner pc ps)) false (inner_unknown m)
 whole_begun {seen} {frames} {unset} {waits} {m} w pc ps excm level = record {
   seen_masks = w.seen_masks;
@@ -242,7 +242,7 @@ with_written mark write x = record x { seen = marked_seen mark write (seen_after
 abbrev pub with_place : ℕ → Ps → Nested → Nested
 with_place pc ps x = record x { pc = pc; ps = ps }
 
-module _ {seen : List (Option ℕ)} {frames : List Frame} {unset : List Bool} {x : Nested} {waits : Bool} {m : Masks} (w : Whole seen frames unset (Some x) waits m) where
+module _ {seen : List (Option ℕ)} {frames : List Frame} {unset : List Bool} {x : Nested} {waits : Bool} {m : ValidityBits} (w : Whole seen frames unset (Some x) waits m) where
   pub inner_special : (o : Option (ℕ × ℕ)) (given : ℕ) → IsMovedMark o given x.marks → Whole seen frames (unset_by o x.marks unset) (Some (with_saved o x)) waits (special_written o given m)
   inner_special None given h = w
   inner_special (Some p) given h =

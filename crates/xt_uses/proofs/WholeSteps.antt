@@ -10,7 +10,7 @@ use Rattle.xt_trace.specs.declared.record.RegWrite.{RegWrite}
 use Rattle.xt_fetch.specs.Fetching.{Fetched}
 use Rattle.xt_rows.specs.Operands.{reads, special_reads}
 use Rattle.xt_frames.specs.declared.holes.Nested.{Nested}
-use Rattle.xt_frames.specs.Frames.{FrameState, known}
+use Rattle.xt_frames.specs.Frames.{FrameState, value_or_zero}
 use Rattle.xt_frames.specs.FrameStep.{FrameTurn}
 use Rattle.xt_frames.specs.Marks.{holds_marks}
 use Rattle.xt_frames.specs.Breaches.{is_unset, lacks, reads_unset}
@@ -18,8 +18,8 @@ use Rattle.xt_uses.specs.Words.{Word, all_bits, mask_where, whole_word}
 use Rattle.xt_uses.specs.Disciplines.{Lenient}
 use Rattle.xt_uses.specs.Used.{counted_bits, used_are_known}
 use Rattle.xt_uses.specs.Known.{result_mask}
-use Rattle.xt_uses.specs.UseState.{Masks, UseState, current_masks, first_word, second_word, special_mask, special_operand, special_word, visible_word}
-use Rattle.xt_uses.specs.UseStep.{UseTurn, cut_number, cut_seen, cut_state, executed, insn_turn, masks_past, other_turn, receives_mark, writes_unknown}
+use Rattle.xt_uses.specs.UseState.{ValidityBits, UseState, current_masks, first_word, second_word, special_mask, special_operand, special_word, visible_word}
+use Rattle.xt_uses.specs.UseStep.{UseTurn, cut_number, cut_seen, cut_state, step_insn, insn_turn, masks_past, other_turn, receives_mark, writes_unknown}
 use Rattle.xt_uses.specs.UseLaws.{number_mask}
 use Rattle.xt_uses.proofs.WholeLists.{AreWords, InnerAreWords, mask_at, masks_of}
 use Rattle.xt_uses.proofs.Owb.{lenient_counts}
@@ -45,7 +45,7 @@ module _ (s : UseState) (g : FrameState) where
   pub visible_whole : current_masks s ≡ masks_of g.seen → (o : Option ℕ) → lacks g.seen o ≡ false → visible_word s g o ≡ whole_word (visible_word s g o).value
   visible_whole same None e = refl
   visible_whole same (Some i) e = λ j. record {
-    value = known g.seen i;
+    value = value_or_zero g.seen i;
     mask = (ap (λ ys. get_or ys i 0) same ∙ (mask_at g.seen i ∙ some_mask (get_or g.seen i None) e)) j;
   }
 
@@ -111,20 +111,20 @@ pub record Steps (f : FrameState) (at : Fetched) (u : FrameTurn) (t : UseTurn) :
   pub whole : IsWholeState u.after t.after.masks
   pub kind : t.turn.kind ≡ u.kind
   pub stored : t.stored ≡ all_bits
-  pub written : writes_unknown (receives_mark (executed t.turn.kind at) f.nested) t ≡ false
+  pub written : writes_unknown (receives_mark (step_insn t.turn.kind at) f.nested) t ≡ false
 
 -- nothing is executed
-pub other_steps : (f : FrameState) (at : Fetched) (u : FrameTurn) (m : Masks) → IsWholeState u.after m → Steps f at u (other_turn m u)
+pub other_steps : (f : FrameState) (at : Fetched) (u : FrameTurn) (m : ValidityBits) → IsWholeState u.after m → Steps f at u (other_turn m u)
 other_steps f at u m w = record {
   frame = refl;
   whole = w;
   kind = refl;
   stored = refl;
-  written = and_right (is_some u.write) _ (not_from_true _ (or_right (receives_mark (executed u.kind at) f.nested) true refl));
+  written = and_right (is_some u.write) _ (not_from_true _ (or_right (receives_mark (step_insn u.kind at) f.nested) true refl));
 }
 
 -- an instruction of which all operands are known
-pub insn_steps : (f : FrameState) (at : Fetched) (m : Masks) → m.discipline ≡ Lenient → (g : FrameState) (i : Insn) (reply : ℕ) (u : FrameTurn)
+pub insn_steps : (f : FrameState) (at : Fetched) (m : ValidityBits) → m.discipline ≡ Lenient → (g : FrameState) (i : Insn) (reply : ℕ) (u : FrameTurn)
     → IsRead i (record { frame = f; masks = m }) g → m.threadptr ≡ all_bits → reply ≡ all_bits → AreWords u.after.seen → InnerAreWords u.after.nested
     → IsWholeState u.after (masks_past i all_bits (record { frame = f; masks = m }) g u) → Steps f at u (insn_turn i reply (record { frame = f; masks = m }) g u)
 insn_steps f at m lenient g i reply u r p e words inner w =
@@ -135,5 +135,5 @@ insn_steps f at m lenient g i reply u r p e words inner w =
       whole = subst (λ k. IsWholeState u.after (masks_past i k s g u)) (sym mask) w;
       kind = refl;
       stored = ap (λ (a : Word). a.mask) r.second;
-      written = and_right _ _ (not_from_true _ (or_right (receives_mark (executed u.kind at) f.nested) _ (eq-eqb _ all_bits mask)));
+      written = and_right _ _ (not_from_true _ (or_right (receives_mark (step_insn u.kind at) f.nested) _ (eq-eqb _ all_bits mask)));
     }

@@ -4,17 +4,17 @@ use Rattle.std.proofs.lemmas.Bool.{and_right}
 use Rattle.xt_special.specs.Control.{Control}
 use Rattle.xt_special.specs.Interrupts.{after_interrupt}
 use Rattle.xt_trace.specs.declared.record.StepRecord.{StepRecord}
-use Rattle.xt_fetch.specs.Fetching.{Fetched, fetched}
+use Rattle.xt_fetch.specs.Fetching.{Fetched, fetch_at}
 use Rattle.xt_frames.specs.declared.holes.Nested.{Nested}
 use Rattle.xt_frames.specs.declared.kinds.BreachKind.{BreachKind}
 use Rattle.xt_frames.specs.Frames.{Frame, FrameState}
-use Rattle.xt_frames.specs.FrameStep.{FrameTurn, Inputs, laid}
-use Rattle.xt_frames.specs.Nesting.{begins, begun, current, is_nesting, plain_turn, turn_in}
+use Rattle.xt_frames.specs.FrameStep.{FrameTurn, Inputs, with_inputs}
+use Rattle.xt_frames.specs.Nesting.{begins, nested_entry, current, is_nesting, plain_turn, turn_in}
 use Rattle.xt_frames.specs.Breaches.{Bounds, breach_of, inputs_of, laid_breach, loads_stale, touches_save_area}
 use Rattle.xt_frames.specs.Judging.{step_on, value_in}
 use Rattle.xt_uses.specs.Words.{all_bits}
-use Rattle.xt_uses.specs.UseState.{Masks, UseState}
-use Rattle.xt_uses.specs.UseStep.{UseTurn, executed, full_step, inner_unknown, other_turn, reply_mask, turn_or, use_step, use_turn, value_step}
+use Rattle.xt_uses.specs.UseState.{ValidityBits, UseState}
+use Rattle.xt_uses.specs.UseStep.{UseTurn, step_insn, full_step, inner_unknown, other_turn, reply_mask, turn_or, use_step, use_turn, value_step}
 use Rattle.xt_uses.specs.Disciplines.{Lenient}
 use Rattle.xt_uses.proofs.Returning.{lenient_left}
 use Rattle.xt_uses.proofs.WholeLists.{AreWords, InnerAreWords}
@@ -23,7 +23,7 @@ use Rattle.xt_uses.proofs.WholePlain.{plain_holds, plain_movsp}
 use Rattle.xt_uses.proofs.WholeStates.{IsWholeState, whole_begun}
 use Rattle.xt_uses.proofs.WholeSteps.{Steps, other_steps}
 
-module _ (code : ℕ → ℕ) (b : Bounds) (fresh : Bool) (live stale : ℕ → Bool) (nested : Bool) (rec : StepRecord) (bytes : ℕ → ℕ) (told : loads_stale live stale rec.access ≡ false → touches_save_area live rec.access ≡ false → reply_mask bytes rec.access ≡ all_bits) (m : Masks) where
+module _ (code : ℕ → ℕ) (b : Bounds) (fresh : Bool) (live stale : ℕ → Bool) (nested : Bool) (rec : StepRecord) (bytes : ℕ → ℕ) (told : loads_stale live stale rec.access ≡ false → touches_save_area live rec.access ≡ false → reply_mask bytes rec.access ≡ all_bits) (m : ValidityBits) where
   abbrev inp : Inputs
   inp = inputs_of rec
 
@@ -31,11 +31,11 @@ module _ (code : ℕ → ℕ) (b : Bounds) (fresh : Bool) (live stale : ℕ → 
   value = value_in rec.write
 
   abbrev at : FrameState → Fetched
-  at f = fetched code (laid inp (current f)).control.pc
+  at f = fetch_at code (with_inputs inp (current f)).control.pc
 
   -- the step, where `starts` says whether a nested interrupt begins
   abbrev framed : FrameState → Bool → FrameTurn
-  framed f starts = cond starts (begun (laid inp f)) (turn_in f.nested code value inp f)
+  framed f starts = cond starts (nested_entry (with_inputs inp f)) (turn_in f.nested code value inp f)
 
   abbrev used : FrameState → Bool → UseTurn
   used f starts =
@@ -43,10 +43,10 @@ module _ (code : ℕ → ℕ) (b : Bounds) (fresh : Bool) (live stale : ℕ → 
       let u = value_step code false value inp f in
       cond starts
       (other_turn (inner_unknown m) (value_step code true value inp f))
-      (use_turn (executed u.kind (at f)) (reply_mask bytes rec.access) s (laid inp (current f)) u)
+      (use_turn (step_insn u.kind (at f)) (reply_mask bytes rec.access) s (with_inputs inp (current f)) u)
 
   abbrev shown : FrameState → Bool → Option BreachKind
-  shown f starts = cond {A = Option BreachKind} starts None (laid_breach b fresh code live stale rec (laid inp (current f)))
+  shown f starts = cond {A = Option BreachKind} starts None (laid_breach b fresh code live stale rec (with_inputs inp (current f)))
 
   abbrev Holds : FrameState → Bool → Type 0
   Holds f starts = shown f starts ≡ None → AreWords (framed f starts).after.seen → InnerAreWords (framed f starts).after.nested → Steps f (at f) (framed f starts) (used f starts)
@@ -58,12 +58,12 @@ module _ (code : ℕ → ℕ) (b : Bounds) (fresh : Bool) (live stale : ℕ → 
 
     starts : IsWholeState plain m → Holds plain true
     unfolding value_step after_interrupt
-    starts w none words inner = other_steps plain (at plain) (begun (laid inp plain)) (inner_unknown m) (whole_begun w _ _ refl refl)
+    starts w none words inner = other_steps plain (at plain) (nested_entry (with_inputs inp plain)) (inner_unknown m) (whole_begun w _ _ refl refl)
 
     goes_on : m.discipline ≡ Lenient → IsWholeState plain m → Holds plain false
     unfolding value_step
     goes_on lenient w none words inner = subst
-        (λ o. (let u : FrameTurn = turn_or o (plain_turn code inp plain) in Steps plain (at plain) (plain_turn code inp plain) (use_turn (executed u.kind (at plain)) (reply_mask bytes rec.access) (record { frame = plain; masks = m }) (laid inp plain) u)))
+        (λ o. (let u : FrameTurn = turn_or o (plain_turn code inp plain) in Steps plain (at plain) (plain_turn code inp plain) (use_turn (step_insn u.kind (at plain)) (reply_mask bytes rec.access) (record { frame = plain; masks = m }) (with_inputs inp plain) u)))
         (sym (plain_movsp seen frames control unset m w inp code b fresh live stale rec (reply_mask bytes rec.access) told none))
         (plain_holds seen frames control unset m w inp code b fresh live stale rec (reply_mask bytes rec.access) told lenient none words)
 
@@ -103,7 +103,7 @@ module _ (code : ℕ → ℕ) (b : Bounds) (fresh : Bool) (live stale : ℕ → 
       let s : UseState = record { frame = f; masks = m } in
       let t = full_step code nested rec bytes s in
       subst (λ (u : UseState). Steps f (at f) (step_on code nested rec f) (record t { after = u }))
-      (sym (lenient_left (executed t.turn.kind (at f)) s t.after lenient))
+      (sym (lenient_left (step_insn t.turn.kind (at f)) s t.after lenient))
       (full_turn f lenient w none words inner)
 
   -- ---- the values of the step are those of the machine of frames

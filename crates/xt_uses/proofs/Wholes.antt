@@ -5,7 +5,7 @@ use Rattle.std.specs.Int.{bit_at}
 use Rattle.std.proofs.lemmas.Bool.{cases_lt, eqb-true}
 use Rattle.std.proofs.lemmas.Nat.{and_le_l}
 use Rattle.std.proofs.lemmas.Nat.Bits.{same_from_bits, bit_at_and, bit_at_or, bit_at_xor, bit_at-lt, bit_at_above, bit_at_ones}
-use Rattle.xt_uses.specs.Words.{Word, Fits, all_bits, knows, is_whole, mask_where, and_mask, or_mask, both_mask, zeros, ones, flipped}
+use Rattle.xt_uses.specs.Words.{Word, Fits, all_bits, knows, is_whole, mask_where, and_mask, or_mask, both_mask, zeros, ones, complement}
 use Rattle.xt_uses.specs.Known.{where_both}
 use Rattle.xt_uses.specs.UseLaws.{AgreeIn}
 use Rattle.xt_uses.proofs.Bits.{flipped_at}
@@ -63,8 +63,8 @@ module _ (x y : ℕ) (a b : Word) (f : Fits x a) (g : Fits y b) (h : x < 2 ^ 32)
       let m : max (bit_at (both_mask a b) i) (bit_at (bit_or (zeros a) (zeros b)) i) ≡ 1 = sym (bit_at_or (both_mask a b) (bit_or (zeros a) (zeros b)) i) ∙ one in
       let n = bit_at_or (zeros a) (zeros b) i in
       let o = bit_at_and a.mask b.mask i in
-      let p = bit_at_and (flipped a.value) a.mask i in
-      let q = bit_at_and (flipped b.value) b.mask i in
+      let p = bit_at_and (complement a.value) a.mask i in
+      let q = bit_at_and (complement b.value) b.mask i in
       let k = flipped_at a.value i low in
       let l = flipped_at b.value i low in
       omega (arith, bit_at-lt x i, bit_at-lt y i, bit_at-lt a.mask i, bit_at-lt b.mask i)

@@ -12,11 +12,11 @@ use Rattle.std.specs.Prelude.{None, length, slice_get, Decides}
 use Rattle.xt_map.specs.declared.access.Access.{Access}
 use Rattle.xt_map.specs.Touching.{is_store, touches}
 use Rattle.xt_trace.specs.declared.record.StepRecord.{StepRecord}
-use Rattle.xt_fetch.specs.Fetching.{fetched}
+use Rattle.xt_fetch.specs.Fetching.{fetch_at}
 use Rattle.xt_frames.specs.declared.kinds.Breach.{Breach}
 use Rattle.xt_frames.specs.declared.kinds.BreachKind.{BreachKind}
 use Rattle.xt_frames.specs.Frames.{FrameState}
-use Rattle.xt_frames.specs.FrameStep.{laid}
+use Rattle.xt_frames.specs.FrameStep.{with_inputs}
 use Rattle.xt_frames.specs.Nesting.{current}
 use Rattle.xt_frames.specs.SaveAreas.{is_live}
 use Rattle.xt_frames.specs.HandlerSteps.{Mode, Plain, Handles, Nests}
@@ -121,7 +121,7 @@ pub record IsHistory (d : Discipline) (r : Course) (h : History) : Type 0 where
 
 -- the state that the step at turn i finds, with the inputs of its record
 abbrev pub found_at : Course → History → ℕ → ℕ → StepRecord → FrameState
-found_at r h i core rec = laid (inputs_of rec) (current (h.state core i).frame)
+found_at r h i core rec = with_inputs (inputs_of rec) (current (h.state core i).frame)
 
 abbrev pub EndsMode : Course → History → ℕ → ℕ → StepRecord → Type 0
 EndsMode r h i core rec =
@@ -131,7 +131,7 @@ EndsMode r h i core rec =
 abbrev pub writes_at : Course → History → ℕ → ℕ → StepRecord → Bool
 writes_at r h i core rec =
     let f = found_at r h i core rec in
-    writes_epc1 (use_at r h i core rec).turn.kind (fetched r.code f.control.pc) f.control.ps
+    writes_epc1 (use_at r h i core rec).turn.kind (fetch_at r.code f.control.pc) f.control.ps
 
 abbrev pub LeavesEpc1 : Course → History → ℕ → ℕ → Type 0
 LeavesEpc1 r h core i =
@@ -213,9 +213,10 @@ carries_at r h core p (Some t) =
     then 1
     else 0
 
-abbrev pub carried : Course → History → ℕ → ℕ → ℕ
-carried r h core zero = 0
-carried r h core (suc p) = carried r h core p + carries_at r h core p (slice_get r.turns p)
+abbrev pub carried_count : Course → History → ℕ → ℕ → ℕ
+carried_count r h core zero = 0
+carried_count r h core (suc p) =
+    carried_count r h core p + carries_at r h core p (slice_get r.turns p)
 
 -- ---- the verdict, where the six window handlers pass their check
 
@@ -225,5 +226,5 @@ pub record IsVerdict
   pub is_history : IsHistory d r history
   pub place : ℕ
   pub first : IsFirstUse r history place found
-  pub counts0 : carried0 ≡ carried r history 0 place
-  pub counts1 : carried1 ≡ carried r history 1 place
+  pub counts0 : carried0 ≡ carried_count r history 0 place
+  pub counts1 : carried1 ≡ carried_count r history 1 place

@@ -32,9 +32,9 @@ use Rattle.xt_isa.specs.declared.boolean.Boolean.TheVariants as boolean
 use Rattle.xt_alu.specs.Arithmetic.{sext}
 use Rattle.xt_alu.specs.Shifts.{src, srl, sra, sll, slli, srai, srli, extui}
 use Rattle.xt_special.specs.Numbers as number
-use Rattle.xt_rows.specs.Numbers.{natural, extended}
+use Rattle.xt_rows.specs.Numbers.{natural, loaded_value}
 use Rattle.xt_uses.specs.Disciplines.{Discipline}
-use Rattle.xt_uses.specs.Words.{Word, all_bits, and_mask, below_unknown, both_mask, flipped}
+use Rattle.xt_uses.specs.Words.{Word, all_bits, and_mask, below_unknown, both_mask, complement}
 use Rattle.xt_uses.specs.Words.{is_whole, mask_where, moved_mask, or_mask}
 use Rattle.xt_uses.specs.Used.{counted_bits}
 
@@ -60,7 +60,7 @@ add_mask s t x y = if s == t then scaled_mask 1 x.mask else sum_mask x.mask y.ma
 
 -- SRC shifts the pair of both registers
 abbrev pub src_mask : Word → Word → ℕ → ℕ
-src_mask x y sar = flipped (src (flipped x.mask) (flipped y.mask) sar)
+src_mask x y sar = complement (src (complement x.mask) (complement y.mask) sar)
 
 unfoldable pub three_mask : Three → Word → Word → ℕ → ℕ
 three_mask (three.And AndName.And r s t) x y sar = and_mask x y
@@ -99,7 +99,7 @@ shift_mask _ x sar = mask_where (is_whole x)
 -- A load writes what is known of the bytes that it reads.
 
 abbrev pub loaded_mask : Bool → ℕ → ℕ
-loaded_mask signed reply = moved_mask (λ bits. extended signed bits) reply
+loaded_mask signed reply = moved_mask (λ bits. loaded_value signed bits) reply
 
 unfoldable pub memory_mask : Memory → Word → ℕ → ℕ
 memory_mask (memory.L8ui name t s offset) x reply = loaded_mask false reply

@@ -3,12 +3,12 @@
 use Rattle.std.specs.Prelude.{ℕ, ◌==◌, nat_lt, if◌then◌else◌, Option, Some, None}
 use Rattle.std.specs.Prelude.{slice_index_or}
 use Rattle.xt_trace.specs.declared.record.StepRecord.{StepRecord}
-use Rattle.xt_fetch.specs.Fetching.{Fetched, Fetches, fetched}
+use Rattle.xt_fetch.specs.Fetching.{Fetched, Fetches, fetch_at}
 use Rattle.xt_rows.specs.Operands.{reads}
 use Rattle.xt_frames.specs.declared.holes.Nested.{Nested}
 use Rattle.xt_frames.specs.Breaches.{inputs_of}
-use Rattle.xt_frames.specs.Frames.{FrameState, known}
-use Rattle.xt_frames.specs.FrameStep.{laid}
+use Rattle.xt_frames.specs.Frames.{FrameState, value_or_zero}
+use Rattle.xt_frames.specs.FrameStep.{with_inputs}
 use Rattle.xt_frames.specs.Nesting.{current}
 use Rattle.xt_uses.specs.declared.lacking.Lack.{Lack}
 use Rattle.xt_uses.specs.Words.{all_bits}
@@ -26,7 +26,7 @@ lack_of s f n =
     if mask == all_bits then None
     else Some (record {
       number = n;
-      value = known f.seen n;
+      value = value_or_zero f.seen n;
       mask = mask;
       mark = mark_in s.frame.nested n;
     })
@@ -47,5 +47,5 @@ lacks_fetched _ s f = (None, None)
 -- of the instruction at the state's PC, before the step of a record
 abbrev pub lacks_before : (ℕ → ℕ) → StepRecord → UseState → Option Lack × Option Lack
 lacks_before code rec s =
-    let f = laid (inputs_of rec) (current s.frame) in
-    lacks_fetched (fetched code f.control.pc) s f
+    let f = with_inputs (inputs_of rec) (current s.frame) in
+    lacks_fetched (fetch_at code f.control.pc) s f

@@ -8,8 +8,8 @@
 -- which registers of an instruction are shown. `UseWalk`, `UseParts` and `Snapshots` carry the
 -- proof of the walk. `Verdicts` of `xt_use_walk` joins `FirstUse` to an image, a run and two lists
 -- of records. `Held` of `xt_use_report` says what is proved of a run's uses, in the words of an
--- image and its run, and `Texts`, `Breaches` and `Told` what is printed. `xt_use_run` defines
--- nothing that a command's contract rests on: `Laws` states its laws for the course of a run, and
+-- image and its run, and `UsesText`, `Breaches` and `UseFindings` what is printed. `xt_use_run` defines
+-- nothing that a command's contract rests on: `UseRunLaws` states its laws for the course of a run, and
 -- `Knowing` says what the machine of uses knows of a frame state that has the processor's numbers.
 pub mod Disciplines
 pub mod Words

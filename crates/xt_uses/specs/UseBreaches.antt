@@ -13,14 +13,14 @@ use Rattle.xt_special.specs.Interrupts.{pending_of}
 use Rattle.xt_trace.specs.declared.record.StepKind.{StepKind}
 use Rattle.xt_trace.specs.declared.record.StepKind.TheVariants as kind
 use Rattle.xt_trace.specs.declared.record.StepRecord.{StepRecord}
-use Rattle.xt_fetch.specs.Fetching.{Fetched, Fetches, Fails, SpellsNothing, fetched}
+use Rattle.xt_fetch.specs.Fetching.{Fetched, Fetches, Fails, SpellsNothing, fetch_at}
 use Rattle.xt_rows.specs.Kinds.{is_return}
 use Rattle.xt_rows.specs.Operands.{reads, special_reads}
 use Rattle.xt_frames.specs.declared.holes.Nested.{Nested}
 use Rattle.xt_frames.specs.declared.kinds.BreachKind.{BreachKind}
 use Rattle.xt_frames.specs.declared.kinds.BreachKind.TheVariants as breach
-use Rattle.xt_frames.specs.Frames.{Frame, FrameState, known}
-use Rattle.xt_frames.specs.FrameStep.{FrameTurn, laid, laid_step}
+use Rattle.xt_frames.specs.Frames.{Frame, FrameState, value_or_zero}
+use Rattle.xt_frames.specs.FrameStep.{FrameTurn, with_inputs, step_with_inputs}
 use Rattle.xt_frames.specs.Marks.{holds_marks, moves_marks}
 use Rattle.xt_frames.specs.Nesting.{begins, current, ends_nested}
 use Rattle.xt_frames.specs.SaveAreas.{Range, sp_of}
@@ -86,7 +86,7 @@ keeps_stack r sp (g ∷ rest) =
 unfoldable pub breaks_stack : Range → Insn → StepKind → FrameState → Bool
 breaks_stack r (insn.Shift (shift.Movsp t s)) kind f =
     not (is_insn kind
-    && ((t == 1) && (not f.control.ps.excm && keeps_stack r (known f.seen s) f.frames)))
+    && ((t == 1) && (not f.control.ps.excm && keeps_stack r (value_or_zero f.seen s) f.frames)))
 breaks_stack r i kind f = false
 
 -- ---- the tests
@@ -131,11 +131,11 @@ laid_use b fresh code live bytes rec s f =
     fresh
     live
     bytes
-    (fetched code f.control.pc)
+    (fetch_at code f.control.pc)
     rec
     s
     f
-    (laid_step code rec.reply f))
+    (step_with_inputs code rec.reply f))
 
 -- The first breach of a judged step, where `live` are the bytes before it in a live save area of
 -- either core, `bytes` the masks with which bytes are read, EPC1 has what was last written where
@@ -145,7 +145,7 @@ abbrev pub use_breach :
     → Option BreachKind
 use_breach b fresh code live bytes nested rec s =
     if begins nested rec.kind s.frame then None
-    else laid_use b fresh code live bytes rec s (laid (inputs_of rec) (current s.frame))
+    else laid_use b fresh code live bytes rec s (with_inputs (inputs_of rec) (current s.frame))
 
 -- ---- the record of an underflow: it is tested for the RETW at the frame state's PC
 
@@ -162,5 +162,5 @@ underflows _ = false
 
 unfoldable pub window_use : (ℕ → ℕ) → StepRecord → UseState → Option BreachKind
 window_use code rec s =
-    let f = laid (inputs_of rec) (current s.frame) in
-    if underflows rec.kind then fetched_return_use (fetched code f.control.pc) s f else None
+    let f = with_inputs (inputs_of rec) (current s.frame) in
+    if underflows rec.kind then fetched_return_use (fetch_at code f.control.pc) s f else None

@@ -31,8 +31,8 @@ use Rattle.xt_rows.specs.declared.outcome.Effect.{Effect}
 use Rattle.xt_rows.specs.declared.outcome.Outcome.{Outcome}
 use Rattle.xt_rows.specs.declared.outcome.Outcome.TheVariants.{Does, Asks}
 use Rattle.xt_rows.specs.Kinds.{moved_to}
-use Rattle.xt_rows.specs.Laws.{IsGiven, IsWord}
-use Rattle.xt_rows.specs.Numbers.{extended}
+use Rattle.xt_rows.specs.RowLaws.{IsGiven, IsWord}
+use Rattle.xt_rows.specs.Numbers.{loaded_value}
 use Rattle.xt_rows.specs.Operands.{reads, special_reads}
 use Rattle.xt_rows.specs.Outcomes.{outcome}
 use Rattle.xt_frames.specs.declared.kinds.Breach.{Breach}
@@ -45,14 +45,14 @@ use Rattle.xt_frames.specs.Judging.{place_on}
 use Rattle.xt_frames.specs.Marks.{holds_marks}
 use Rattle.xt_frames.specs.Verdict.{IsFrameTrace, is_nested}
 use Rattle.xt_uses.specs.Disciplines.{Discipline, Lenient, is_strict}
-use Rattle.xt_uses.specs.Words.{Fits, Word, all_bits, cut, is_whole, mask_where}
+use Rattle.xt_uses.specs.Words.{Fits, Word, all_bits, masked, is_whole, mask_where}
 use Rattle.xt_uses.specs.Used.{counted_bits, holds_owb, low_bits, used_are_known}
 use Rattle.xt_uses.specs.Known.{loaded_mask, result_mask}
-use Rattle.xt_uses.specs.UseState.{Masks}
+use Rattle.xt_uses.specs.UseState.{ValidityBits}
 use Rattle.xt_uses.specs.UseStep.{reply_mask}
 use Rattle.xt_uses.specs.UseBreaches.{is_swap}
 use Rattle.xt_uses.specs.FirstUse as uses
-use Rattle.xt_uses.specs.FirstUse.{History, IsFirstUse, IsHistory, IsVerdict, carried, use_at}
+use Rattle.xt_uses.specs.FirstUse.{History, IsFirstUse, IsHistory, IsVerdict, carried_count, use_at}
 
 -- ---- the law of a row
 -- The words of the operands fit the numbers that the row reads. Then over the values of the words
@@ -60,7 +60,7 @@ use Rattle.xt_uses.specs.FirstUse.{History, IsFirstUse, IsHistory, IsVerdict, ca
 
 -- two numbers agree in the bits of a mask
 abbrev pub AgreeIn : ℕ → ℕ → ℕ → Type 0
-AgreeIn mask n m = cut mask n ≡ cut mask m
+AgreeIn mask n m = masked mask n ≡ masked mask m
 
 abbrev pub WritesAgree : ℕ → Option RegWrite → Option RegWrite → Type 0
 WritesAgree mask None None = Unit {0}
@@ -168,23 +168,23 @@ RowsAgree =
     i
     (masks_of_row d i a b c pointer)
     (outcome code i pc x y u v ps t)
-    (outcome code i pc a.value b.value c.value w ps (cut pointer t))
+    (outcome code i pc a.value b.value c.value w ps (masked pointer t))
 
 -- and what a load writes agrees in what is known of the reply
 abbrev pub RepliesAgree : Type 0
 RepliesAgree =
     (signed : Bool) (reply n m : ℕ) → reply < 2 ^ 32 → n < 2 ^ 32 → m < 2 ^ 32 → AgreeIn reply n m
-    → AgreeIn (loaded_mask signed reply) (extended signed n) (extended signed m)
+    → AgreeIn (loaded_mask signed reply) (loaded_value signed n) (loaded_value signed m)
 
 -- ---- what is known of a run is so
 
 abbrev pub WriteFits : ℕ → Option RegWrite → Option RegWrite → Type 0
 WriteFits mask None None = Unit {0}
-WriteFits mask (Some v) (Some w) = (v.reg ≡ w.reg) × (cut mask v.value ≡ w.value)
+WriteFits mask (Some v) (Some w) = (v.reg ≡ w.reg) × (masked mask v.value ≡ w.value)
 WriteFits mask _ _ = ⊥
 
 abbrev pub KindFits : ℕ → Kind → Kind → Type 0
-KindFits mask (Store v) (Store w) = cut mask v ≡ w
+KindFits mask (Store v) (Store w) = masked mask v ≡ w
 KindFits mask k l = k ≡ l
 
 abbrev pub AccessFits : ℕ → Option Access → Option Access → Type 0
@@ -206,7 +206,7 @@ IsAnswered reply (Some a) = is_swap a ≡ true → reply ≡ all_bits
 abbrev pub IsSent : ℕ → Option Access → Type 0
 IsSent stored None = Unit {0}
 IsSent stored (Some a) =
-    is_store a.kind ≡ true → a.addr ≡ uart_transmit → cut stored (low_bits 8) ≡ low_bits 8
+    is_store a.kind ≡ true → a.addr ≡ uart_transmit → masked stored (low_bits 8) ≡ low_bits 8
 
 pub record FitsStep
     (r : Course) (h : History) (opening : MemoryContents) (p core : ℕ) (rec : StepRecord)
@@ -276,7 +276,7 @@ abbrev pub InnerIsWhole : Option Nested → List ℕ → Type 0
 InnerIsWhole None inner = Unit {0}
 InnerIsWhole (Some x) inner = inner ≡ map number_mask x.seen
 
-pub record MasksAreWhole (f : FrameState) (m : Masks) : Type 0 where
+pub record MasksAreWhole (f : FrameState) (m : ValidityBits) : Type 0 where
   pub seen : m.seen ≡ map number_mask f.seen
   pub kept : m.kept ≡ map (λ (g : Frame). map number_mask g.kept) f.frames
   pub special :
@@ -309,7 +309,7 @@ WholeIsFrames =
 
 abbrev pub IsCutAt : Option ℕ → ℕ → Type 0
 IsCutAt None mask = mask ≡ 0
-IsCutAt (Some n) mask = cut mask n ≡ n
+IsCutAt (Some n) mask = masked mask n ≡ n
 
 abbrev pub AreCut : List (Option ℕ) → List ℕ → Type 0
 AreCut [] [] = Unit {0}
@@ -325,16 +325,16 @@ abbrev pub InnerIsCut : Option Nested → List ℕ → Type 0
 InnerIsCut None inner = Unit {0}
 InnerIsCut (Some x) inner = AreCut x.seen inner
 
-pub record IsCutState (f : FrameState) (m : Masks) : Type 0 where
+pub record IsCutState (f : FrameState) (m : ValidityBits) : Type 0 where
   pub seen : AreCut f.seen m.seen
   pub kept : AreKeptCut f.frames m.kept
   pub special :
       (n : ℕ) → holds_marks n ≡ true
-      → cut (slice_index_or m.special n 0) (special_of f.control n) ≡ special_of f.control n
+      → masked (slice_index_or m.special n 0) (special_of f.control n) ≡ special_of f.control n
   pub lost :
       (n : ℕ) → holds_marks n ≡ true → slice_index_or f.unset n false ≡ true
       → slice_index_or m.special n 0 ≡ 0
-  pub threadptr : cut m.threadptr f.control.threadptr ≡ f.control.threadptr
+  pub threadptr : masked m.threadptr f.control.threadptr ≡ f.control.threadptr
   pub inner : InnerIsCut f.nested m.inner
 
 -- no turn before turn p shows a breach of uses
@@ -355,7 +355,7 @@ UsesAreLater =
     (r : Course) (h : History) (p q : ℕ) (breach found : Option Breach)
     → IsOrdinary r → IsHistory Lenient r h → IsFirstBreach r p breach → IsFirstUse r h q found
     → (p ≤ q)
-    × (breach ≡ None → (found ≡ None) × (carried r h 0 q ≡ 0) × (carried r h 1 q ≡ 0))
+    × (breach ≡ None → (found ≡ None) × (carried_count r h 0 q ≡ 0) × (carried_count r h 1 q ≡ 0))
 
 -- ---- where the records of a run are those of the machine of uses, they are a frame run up to the
 -- first breach of the stack discipline

@@ -7,25 +7,25 @@ use Rattle.xt_isa.specs.declared.Insn.{Insn}
 use Rattle.xt_isa.specs.declared.Insn.TheVariants as insn
 use Rattle.xt_isa.specs.declared.shift.Shift.TheVariants as shift
 use Rattle.xt_codec.specs.declared.fetch.Fetch.TheVariants as fetch
-use Rattle.xt_frames.specs.declared.view.Plan.{Plan}
-use Rattle.xt_frames.specs.declared.view.Plan.TheVariants as plan
+use Rattle.xt_frames.specs.declared.view.NextEvent.{NextEvent}
+use Rattle.xt_frames.specs.declared.view.NextEvent.TheVariants as plan
 use Rattle.xt_trace.specs.declared.options.Options.{Options}
 use Rattle.xt_trace.specs.declared.record.RegWrite.{RegWrite}
 use Rattle.xt_trace.specs.declared.record.StepRecord.{StepRecord}
-use Rattle.xt_fetch.specs.Fetching.{fetched}
+use Rattle.xt_fetch.specs.Fetching.{fetch_at}
 use Rattle.xt_frames.specs.declared.kinds.Breach.{Breach}
 use Rattle.xt_frames.specs.declared.kinds.BreachKind.{BreachKind}
 use Rattle.xt_frames.specs.declared.breach.Case.{Case}
-use Rattle.xt_frames.specs.declared.holes.Holes.{Holes}
+use Rattle.xt_frames.specs.declared.holes.UndefinedParts.{UndefinedParts}
 use Rattle.xt_frames.specs.declared.holes.Nested.{Nested}
 use Rattle.xt_frames.specs.declared.view.Call.{Call}
 use Rattle.xt_frames.specs.declared.view.Call.TheVariants.{Stays}
-use Rattle.xt_frames.specs.Frames.{Frame, FrameState, known, opening_frame}
-use Rattle.xt_frames.specs.FrameStep.{FrameTurn, laid}
+use Rattle.xt_frames.specs.Frames.{Frame, FrameState, value_or_zero, opening_frame}
+use Rattle.xt_frames.specs.FrameStep.{FrameTurn, with_inputs}
 use Rattle.xt_frames.specs.Nesting.{current, nested_fetched, unset_after}
 use Rattle.xt_frames.specs.SaveAreas.{before, sp_of}
 use Rattle.xt_frames.specs.Breaches.{Bounds, fresh_after, inputs_of, touches_save_area}
-use Rattle.xt_frames.specs.Parts.{IsNewest, Upper, frames_after, state_at, turn_as}
+use Rattle.xt_frames.specs.KeptFrameState.{IsNewest, Upper, frames_after, state_at, turn_as}
 use Rattle.xt_frames.specs.Stacks.{Stack}
 use Rattle.xt_frames.specs.Walked.{bounds_of, stack_of}
 use Rattle.xt_uses.specs.declared.masks.KeptMasks.{KeptMasks}
@@ -34,14 +34,14 @@ use Rattle.xt_uses.specs.declared.masks.Keep.TheVariants as keep
 use Rattle.xt_uses.specs.declared.masks.TopMasks.{TopMasks}
 use Rattle.xt_uses.specs.declared.testing.Touched.{Touched}
 use Rattle.xt_uses.specs.declared.told.Used.{Used}
-use Rattle.xt_uses.specs.declared.told.Stopped.{Stopped}
-use Rattle.xt_uses.specs.declared.told.Stopped.TheVariants.{Breaks, NoMemory}
+use Rattle.xt_uses.specs.declared.told.JudgeError.{JudgeError}
+use Rattle.xt_uses.specs.declared.told.JudgeError.TheVariants.{Breaks, NoMemory}
 use Rattle.xt_uses.specs.declared.stepping.Done.{Done}
 use Rattle.xt_uses.specs.declared.stepping.Made.{Made}
 use Rattle.xt_uses.specs.declared.stepping.Top.{Top}
 use Rattle.xt_uses.specs.Disciplines.{Discipline}
 use Rattle.xt_uses.specs.Words.{all_bits}
-use Rattle.xt_uses.specs.UseState.{Masks, UseState, opening_use, special_mask}
+use Rattle.xt_uses.specs.UseState.{ValidityBits, UseState, opening_use, special_mask}
 use Rattle.xt_uses.specs.UseStep.{carries, is_left, reply_mask, use_step}
 use Rattle.xt_uses.specs.UseBreaches.{swaps_unknown, use_breach}
 
@@ -53,7 +53,7 @@ kept_mask k = take (4 * k.by) k.masks
 unfoldable pub kept_of : List KeptMasks → List (List ℕ)
 kept_of kept = reverse (map kept_mask kept)
 
-abbrev pub masks_at : List (List ℕ) → TopMasks → Masks
+abbrev pub masks_at : List (List ℕ) → TopMasks → ValidityBits
 masks_at kept m = record {
   discipline = m.discipline;
   seen = m.seen;
@@ -96,7 +96,7 @@ KeepsFew (keep.Keeps k) = k.by < 4
 KeepsFew keep.Restores = Unit {0}
 
 -- the mask of the special register, where there is one
-abbrev pub mask_of : Masks → Option ℕ → ℕ
+abbrev pub mask_of : ValidityBits → Option ℕ → ℕ
 mask_of m None = all_bits
 mask_of m (Some n) = special_mask m n
 
@@ -116,29 +116,29 @@ without_register i t = record t {
   masks = record t.masks { seen = slice_set t.masks.seen i 0 };
 }
 
-abbrev pub use_at : List Frame → List (List ℕ) → Holes → Upper → TopMasks → UseState
+abbrev pub use_at : List Frame → List (List ℕ) → UndefinedParts → Upper → TopMasks → UseState
 use_at frames kept h v m = record { frame = state_at frames h v; masks = masks_at kept m }
 
 -- ---- a step
 
 -- the registers of the MOVSP that a planned step executes, and its length
-unfoldable pub plan_movsp : Plan → Option (ℕ × ℕ × ℕ)
+unfoldable pub plan_movsp : NextEvent → Option (ℕ × ℕ × ℕ)
 plan_movsp (plan.Fetched (fetch.Insn (insn.Shift (shift.Movsp t s)) len)) = Some (t, s, len)
 plan_movsp _ = None
 
 -- what is left of a step that was made so: in a nested interrupt the frames are as they were
 abbrev pub settled_in :
-    Option Nested → (ℕ → ℕ) → ℕ → Made → List Frame → Holes → Upper → FrameTurn
+    Option Nested → (ℕ → ℕ) → ℕ → Made → List Frame → UndefinedParts → Upper → FrameTurn
 settled_in None code value m frames h v =
     let u = turn_as m.step frames h m.after in
     record u {
       after = record u.after {
-        unset = unset_after u.kind (fetched code m.before.control.pc) h.unset;
+        unset = unset_after u.kind (fetch_at code m.before.control.pc) h.unset;
       };
     }
 settled_in (Some x) code value m frames h v =
     nested_fetched
-    (fetched code m.before.control.pc)
+    (fetch_at code m.before.control.pc)
     value
     x
     (state_at frames h v)
@@ -179,8 +179,8 @@ fresh_use fresh code nested rec bytes s =
     fresh_after
     fresh
     u.turn.kind
-    (fetched code (current s.frame).control.pc)
-    (laid (inputs_of rec) (current s.frame)).control.ps
+    (fetch_at code (current s.frame).control.pc)
+    (with_inputs (inputs_of rec) (current s.frame)).control.ps
     (current u.after.frame).control.ps
 
 -- what is left where the step is taken: `new` has all but the lists of frames, which it takes
@@ -207,8 +207,8 @@ IsUseDone found fresh code nested rec bytes s (Err kind) new =
 -- it keeps one frame more, whose a1 is the old a1; or one less.
 pub data UseMoves (g u : FrameState) : Type 0 where
   Stands : u.frames ≡ g.frames → UseMoves g u
-  Calls : (f : Frame) → u.frames ≡ f ∷ g.frames → sp_of f ≡ known g.seen 1 → UseMoves g u
-  Leaves : (f : Frame) → g.frames ≡ f ∷ u.frames → known u.seen 1 ≡ sp_of f → UseMoves g u
+  Calls : (f : Frame) → u.frames ≡ f ∷ g.frames → sp_of f ≡ value_or_zero g.seen 1 → UseMoves g u
+  Leaves : (f : Frame) → g.frames ≡ f ∷ u.frames → value_or_zero u.seen 1 ≡ sp_of f → UseMoves g u
 
 -- the frames stay on their stack, and are one more or less at most
 abbrev pub IsUseKept : (lo hi : ℕ) → FrameState → Done → (List Frame → FrameState) → Type 0
@@ -274,7 +274,7 @@ IsUseBreach found w index b = (found ≡ Some b.kind) × (b.core ≡ w.core) × 
 -- and the core that it leaves, about which too little memory says nothing
 abbrev pub IsUseJudged :
     Option BreachKind → UseWalked → (ℕ → ℕ) → ℕ → Bool → StepRecord → (ℕ → ℕ)
-    → Result Used Stopped → UseWalked → Type 0
+    → Result Used JudgeError → UseWalked → Type 0
 IsUseJudged found w code index nested rec bytes (Ok used) new =
     (found ≡ None) × (new ≡ use_past w code index nested rec bytes)
     × IsUsed code nested rec bytes w.state used

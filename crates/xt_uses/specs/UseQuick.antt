@@ -6,7 +6,7 @@ use Rattle.xt_isa.specs.declared.Insn.{Insn}
 use Rattle.xt_trace.specs.declared.record.StepRecord.{StepRecord}
 use Rattle.xt_frames.specs.declared.breach.Limits.{Limits}
 use Rattle.xt_frames.specs.declared.view.Call.TheVariants.{Stays}
-use Rattle.xt_frames.specs.Frames.{Frame, FrameState, known}
+use Rattle.xt_frames.specs.Frames.{Frame, FrameState, value_or_zero}
 use Rattle.xt_frames.specs.Walked.{bounds_of}
 use Rattle.xt_uses.specs.declared.masks.Keep.TheVariants as keep
 use Rattle.xt_uses.specs.declared.stepping.Done.{Done}
@@ -36,4 +36,4 @@ pub record IsQuickUse
 -- the frames and the stack pointer are as they were
 pub record StandsStill (g u : FrameState) : Type 0 where
   pub frames : u.frames ≡ g.frames
-  pub sp : known u.seen 1 ≡ known g.seen 1
+  pub sp : value_or_zero u.seen 1 ≡ value_or_zero g.seen 1

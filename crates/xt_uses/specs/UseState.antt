@@ -6,14 +6,14 @@ use Rattle.std.specs.Prelude.{[], is_some, nat_le, nat_lt, replicate, slice_inde
 use Rattle.xt_isa.specs.declared.Insn.{Insn}
 use Rattle.xt_special.specs.Control.{special_of}
 use Rattle.xt_rows.specs.Operands.{reads, special_reads}
-use Rattle.xt_frames.specs.Frames.{FrameState, known}
+use Rattle.xt_frames.specs.Frames.{FrameState, value_or_zero}
 use Rattle.xt_frames.specs.Marks.{holds_marks}
 use Rattle.xt_frames.specs.SaveAreas.{Range}
 use Rattle.xt_uses.specs.Disciplines.{Discipline, is_strict}
 use Rattle.xt_uses.specs.Words.{Word, all_bits, whole_word}
 use Rattle.xt_uses.specs.Used.{counted_bits}
 
-pub record Masks : Type 0 where
+pub record ValidityBits : Type 0 where
   -- by which discipline: it never changes
   pub discipline : Discipline
   -- of the 16 visible registers
@@ -28,10 +28,10 @@ pub record Masks : Type 0 where
 
 pub record UseState : Type 0 where
   pub frame : FrameState
-  pub masks : Masks
+  pub masks : ValidityBits
 
 -- all is known as a core opens
-abbrev pub whole_masks : Discipline → Masks
+abbrev pub whole_masks : Discipline → ValidityBits
 whole_masks d = record {
   discipline = d;
   seen = replicate 16 all_bits;
@@ -47,7 +47,7 @@ opening_use d f = record { frame = f; masks = whole_masks d }
 -- ---- the bytes that the strict discipline forgets
 
 abbrev pub stack_pointer : UseState → ℕ
-stack_pointer s = known s.frame.seen 1
+stack_pointer s = value_or_zero s.frame.seen 1
 
 abbrev pub is_strict_in : UseState → Bool
 is_strict_in s = is_strict s.masks.discipline
@@ -78,10 +78,10 @@ current_masks s = if is_some s.frame.nested then s.masks.inner else s.masks.seen
 abbrev pub visible_word : UseState → FrameState → Option ℕ → Word
 visible_word s f None = whole_word 0
 visible_word s f (Some i) =
-    record { value = known f.seen i; mask = slice_index_or (current_masks s) i 0 }
+    record { value = value_or_zero f.seen i; mask = slice_index_or (current_masks s) i 0 }
 
 -- any other special register is a number, of which the bits that count are known
-abbrev pub special_mask : Masks → ℕ → ℕ
+abbrev pub special_mask : ValidityBits → ℕ → ℕ
 special_mask m n =
     if holds_marks n then slice_index_or m.special n 0 else counted_bits m.discipline n
 

@@ -18,21 +18,21 @@ use Rattle.xt_trace.specs.declared.record.StepKind.{StepKind}
 use Rattle.xt_trace.specs.declared.record.StepKind.TheVariants as kind
 use Rattle.xt_trace.specs.declared.record.RegWrite.{RegWrite}
 use Rattle.xt_trace.specs.declared.record.StepRecord.{StepRecord}
-use Rattle.xt_fetch.specs.Fetching.{Fetched, Fetches, fetched}
-use Rattle.xt_rows.specs.Effects.{puts, unchanged}
+use Rattle.xt_fetch.specs.Fetching.{Fetched, Fetches, fetch_at}
+use Rattle.xt_rows.specs.Effects.{puts, no_change}
 use Rattle.xt_rows.specs.Kinds.{is_entry, is_return, moved_to}
-use Rattle.xt_rows.specs.Settling.{settled}
+use Rattle.xt_rows.specs.Settling.{after_outcome}
 use Rattle.xt_frames.specs.declared.holes.Nested.{Nested}
-use Rattle.xt_frames.specs.Frames.{Frame, FrameState, known}
-use Rattle.xt_frames.specs.FrameStep.{Inputs, FrameTurn, in_frame, laid}
+use Rattle.xt_frames.specs.Frames.{Frame, FrameState, value_or_zero}
+use Rattle.xt_frames.specs.FrameStep.{Inputs, FrameTurn, in_frame, with_inputs}
 use Rattle.xt_frames.specs.Marks.{mark_read}
 use Rattle.xt_frames.specs.Nesting.{begins, current, frame_step}
 use Rattle.xt_frames.specs.Breaches.{inputs_of}
 use Rattle.xt_frames.specs.Judging.{value_in}
 use Rattle.xt_uses.specs.Disciplines.{Discipline, is_strict}
-use Rattle.xt_uses.specs.Words.{all_bits, cut, flipped}
+use Rattle.xt_uses.specs.Words.{all_bits, masked, complement}
 use Rattle.xt_uses.specs.Known.{result_mask}
-use Rattle.xt_uses.specs.UseState.{Masks, UseState, first_word, second_word, special_operand}
+use Rattle.xt_uses.specs.UseState.{ValidityBits, UseState, first_word, second_word, special_operand}
 
 -- ---- the values
 
@@ -40,13 +40,13 @@ use Rattle.xt_uses.specs.UseState.{Masks, UseState, first_word, second_word, spe
 abbrev pub stack_moved : ℕ → ℕ → ℕ → FrameState → FrameTurn
 stack_moved number value len f =
     in_frame
-    (settled (puts number value (unchanged f.control.ps f.control.threadptr)) len f.control)
+    (after_outcome (puts number value (no_change f.control.ps f.control.threadptr)) len f.control)
     0
     f
 
 unfoldable pub fetched_movsp : Fetched → FrameState → Option FrameTurn
 fetched_movsp (Fetches (insn.Shift (shift.Movsp t s)) len) f =
-    Some (stack_moved t (known f.seen s) len f)
+    Some (stack_moved t (value_or_zero f.seen s) len f)
 fetched_movsp _ f = None
 
 -- of a state over which the inputs are laid, where the next step executes an instruction and there
@@ -54,7 +54,7 @@ fetched_movsp _ f = None
 abbrev pub movsp_of : (ℕ → ℕ) → FrameState → Option FrameTurn
 movsp_of code f =
     if is_some f.nested || (nat_lt 0 (pending_of f.control) || f.control.waits) then None
-    else fetched_movsp (fetched code f.control.pc) f
+    else fetched_movsp (fetch_at code f.control.pc) f
 
 abbrev pub turn_or : Option FrameTurn → FrameTurn → FrameTurn
 turn_or (Some u) other = u
@@ -63,7 +63,7 @@ turn_or None other = other
 unfoldable pub value_step : (ℕ → ℕ) → Bool → ℕ → Inputs → FrameState → FrameTurn
 value_step code begins value inp f =
     if begins then frame_step code true value inp f
-    else turn_or (movsp_of code (laid inp f)) (frame_step code false value inp f)
+    else turn_or (movsp_of code (with_inputs inp f)) (frame_step code false value inp f)
 
 -- ---- what is known of a reply
 
@@ -79,51 +79,52 @@ abbrev pub reply_mask : (ℕ → ℕ) → Option Access → ℕ
 reply_mask bytes None = all_bits
 reply_mask bytes (Some a) =
     if is_memory (region_of a.addr) && not (is_store a.kind)
-    then flipped (unknown_bits bytes a.addr a.size)
+    then complement (unknown_bits bytes a.addr a.size)
     else all_bits
 
 -- ---- the masks
 
 -- the instruction that a step has executed, if it has
-unfoldable pub executed : StepKind → Fetched → Option Insn
-executed kind.Insn (Fetches i len) = Some i
-executed _ at = None
+unfoldable pub step_insn : StepKind → Fetched → Option Insn
+step_insn kind.Insn (Fetches i len) = Some i
+step_insn _ at = None
 
 -- ENTRY: nothing is known of the callee's new registers
-abbrev pub called : ℕ → Masks → Masks
-called n m = record m {
+abbrev pub bits_after_call : ℕ → ValidityBits → ValidityBits
+bits_after_call n m = record m {
   seen = drop (4 * n) m.seen ++ replicate (4 * n) 0;
   kept = take (4 * n) m.seen ∷ m.kept;
 }
 
 -- RETW: the caller's registers come back with what was known of them
-abbrev pub returned : List (List ℕ) → Masks → Masks
-returned [] m = m
-returned (k ∷ rest) m = record m { seen = k ++ take (16 - length k) m.seen; kept = rest }
+abbrev pub bits_after_return : List (List ℕ) → ValidityBits → ValidityBits
+bits_after_return [] m = m
+bits_after_return (k ∷ rest) m = record m { seen = k ++ take (16 - length k) m.seen; kept = rest }
 
-abbrev pub frames_moved : Insn → ℕ → Masks → Masks
+abbrev pub frames_moved : Insn → ℕ → ValidityBits → ValidityBits
 frames_moved i n m =
-    if is_entry i then called n m else (if is_return i then returned m.kept m else m)
+    if is_entry i then bits_after_call n m
+    else (if is_return i then bits_after_return m.kept m else m)
 
 -- a visible register that is written, in a nested interrupt one of its own
-abbrev pub visible_written : Bool → Option RegWrite → ℕ → Masks → Masks
+abbrev pub visible_written : Bool → Option RegWrite → ℕ → ValidityBits → ValidityBits
 visible_written nested None mask m = m
 visible_written true (Some w) mask m = record m { inner = slice_set m.inner w.reg mask }
 visible_written false (Some w) mask m = record m { seen = slice_set m.seen w.reg mask }
 
 -- WSR and XSR give a special register what the visible one holds
-abbrev pub special_written : Option (ℕ × ℕ) → ℕ → Masks → Masks
+abbrev pub special_written : Option (ℕ × ℕ) → ℕ → ValidityBits → ValidityBits
 special_written None mask m = m
 special_written (Some p) mask m = record m { special = slice_set m.special p.1 mask }
 
 -- and WUR THREADPTR
-unfoldable pub pointer_written : Insn → ℕ → Masks → Masks
+unfoldable pub pointer_written : Insn → ℕ → ValidityBits → ValidityBits
 pointer_written (insn.System (system.Rur UserName.Wur t n)) mask m = record m { threadptr = mask }
 pointer_written _ mask m = m
 
 -- after an instruction that was executed by this step of f, where the register that it writes gets
 -- this mask
-abbrev pub masks_past : Insn → ℕ → UseState → FrameState → FrameTurn → Masks
+abbrev pub masks_past : Insn → ℕ → UseState → FrameState → FrameTurn → ValidityBits
 masks_past i mask s f u =
     let x = (first_word i s f).mask in
     visible_written
@@ -147,12 +148,12 @@ pub record UseTurn : Type 0 where
 
 abbrev pub cut_write : ℕ → Option RegWrite → Option RegWrite
 cut_write mask None = None
-cut_write mask (Some w) = Some (record w { value = cut mask w.value })
+cut_write mask (Some w) = Some (record w { value = masked mask w.value })
 
 -- a mark stays without a number
 abbrev pub cut_number : ℕ → Option ℕ → Option ℕ
 cut_number mask None = None
-cut_number mask (Some n) = Some (cut mask n)
+cut_number mask (Some n) = Some (masked mask n)
 
 abbrev pub cut_seen : ℕ → Option RegWrite → List (Option ℕ) → List (Option ℕ)
 cut_seen mask None seen = seen
@@ -191,7 +192,7 @@ insn_turn i reply s f u =
     }
 
 -- a step that executes no instruction writes no register and stores nothing
-abbrev pub other_turn : Masks → FrameTurn → UseTurn
+abbrev pub other_turn : ValidityBits → FrameTurn → UseTurn
 other_turn m u = record {
   turn = u;
   mask = all_bits;
@@ -200,7 +201,7 @@ other_turn m u = record {
 }
 
 -- nothing is known of the registers of a nested interrupt that begins
-abbrev pub inner_unknown : Masks → Masks
+abbrev pub inner_unknown : ValidityBits → ValidityBits
 inner_unknown m = record m { inner = replicate 16 0 }
 
 abbrev pub use_turn : Option Insn → ℕ → UseState → FrameState → FrameTurn → UseTurn
@@ -216,10 +217,10 @@ full_step code nested rec bytes s =
     if begins nested rec.kind s.frame
     then other_turn (inner_unknown s.masks) (value_step code true value inp s.frame)
     else
-    let f = laid inp (current s.frame) in
+    let f = with_inputs inp (current s.frame) in
     let u = value_step code false value inp s.frame in
     use_turn
-    (executed u.kind (fetched code f.control.pc))
+    (step_insn u.kind (fetch_at code f.control.pc))
     (reply_mask bytes rec.access)
     s
     f
@@ -260,10 +261,10 @@ left_after i s u =
 
 abbrev pub use_step : (ℕ → ℕ) → Bool → StepRecord → (ℕ → ℕ) → UseState → UseTurn
 use_step code nested rec bytes s =
-    let f = laid (inputs_of rec) (current s.frame) in
+    let f = with_inputs (inputs_of rec) (current s.frame) in
     let t = full_step code nested rec bytes s in
     record t {
-      after = left_after (executed t.turn.kind (fetched code f.control.pc)) s t.after;
+      after = left_after (step_insn t.turn.kind (fetch_at code f.control.pc)) s t.after;
     }
 
 -- ---- what is carried
@@ -286,8 +287,8 @@ stores_unknown stored (Some a) =
 -- of the step that `use_step` makes
 abbrev pub carries : (ℕ → ℕ) → StepRecord → UseState → UseTurn → Bool
 carries code rec s t =
-    let f = laid (inputs_of rec) (current s.frame) in
+    let f = with_inputs (inputs_of rec) (current s.frame) in
     writes_unknown
-    (receives_mark (executed t.turn.kind (fetched code f.control.pc)) s.frame.nested)
+    (receives_mark (step_insn t.turn.kind (fetch_at code f.control.pc)) s.frame.nested)
     t
     || stores_unknown t.stored rec.access

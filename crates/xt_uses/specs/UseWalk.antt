@@ -19,7 +19,7 @@ use Rattle.xt_uses.specs.UseState.{UseState, forgets, one_opens_unknown, opening
 use Rattle.xt_uses.specs.UseStep.{carries, use_step}
 use Rattle.xt_uses.specs.UseBreaches.{use_breach, window_use}
 use Rattle.xt_uses.specs.UseParts.{fresh_use}
-use Rattle.xt_uses.specs.FirstUse.{History, IsFirstUse, IsHistory, carried, stored_byte}
+use Rattle.xt_uses.specs.FirstUse.{History, IsFirstUse, IsHistory, carried_count, stored_byte}
 
 -- ---- the masks of bytes
 
@@ -211,8 +211,8 @@ pub record IsUseJudgement (d : Discipline) (r : Course) (j : UseJudgement) : Typ
   pub finds : IsFirstUse r history place j.breach
   pub state0 : history.state 0 place ≡ j.known.first.state
   pub state1 : history.state 1 place ≡ j.known.second.state
-  pub carried0 : j.known.first.carried ≡ carried r history 0 place
-  pub carried1 : j.known.second.carried ≡ carried r history 1 place
+  pub carried0 : j.known.first.carried ≡ carried_count r history 0 place
+  pub carried1 : j.known.second.carried ≡ carried_count r history 1 place
 
 abbrev pub WalkFindsFirstUse : Type 0
 WalkFindsFirstUse =

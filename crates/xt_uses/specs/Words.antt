@@ -15,32 +15,32 @@ abbrev pub whole_word : ℕ → Word
 whole_word n = record { value = n; mask = all_bits }
 
 -- the known bits of a number, 0 elsewhere
-abbrev pub cut : ℕ → ℕ → ℕ
-cut mask n = bit_and n mask
+abbrev pub masked : ℕ → ℕ → ℕ
+masked mask n = bit_and n mask
 
 -- a known word fits each number that has its known bits
 abbrev pub Fits : ℕ → Word → Type 0
-Fits n w = cut w.mask n ≡ w.value
+Fits n w = masked w.mask n ≡ w.value
 
 -- ---- what is known of a word
 
 -- each of these bits is
 abbrev pub knows : ℕ → Word → Bool
-knows bits w = cut w.mask bits == bits
+knows bits w = masked w.mask bits == bits
 
 abbrev pub is_whole : Word → Bool
 is_whole w = knows all_bits w
 
 -- the other bits of 32
-abbrev pub flipped : ℕ → ℕ
-flipped bits = bit_xor bits all_bits
+abbrev pub complement : ℕ → ℕ
+complement bits = bit_xor bits all_bits
 
 -- where a bit is known to be 1, and where it is known to be 0
 abbrev pub ones : Word → ℕ
-ones w = cut w.mask w.value
+ones w = masked w.mask w.value
 
 abbrev pub zeros : Word → ℕ
-zeros w = cut w.mask (flipped w.value)
+zeros w = masked w.mask (complement w.value)
 
 -- ---- masks of results
 
@@ -59,7 +59,7 @@ or_mask x y = bit_or (both_mask x y) (bit_or (ones x) (ones y))
 -- Of a shift or an extension, which moves bits, copies them and puts zeros in: the bits that are
 -- not known are moved and copied in the same way, and the zeros are known.
 abbrev pub moved_mask : (ℕ → ℕ) → ℕ → ℕ
-moved_mask move mask = flipped (move (flipped mask))
+moved_mask move mask = complement (move (complement mask))
 
 -- the bits below the lowest that is not known
 abbrev pub below_unknown : ℕ → ℕ

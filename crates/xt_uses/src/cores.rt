@@ -4,16 +4,16 @@
 ghost use Rattle.std.specs.Prelude.{◌≡◌, ◌≤◌, ◌<◌, ◌+◌, ◌-◌, ◌%◌, ◌^◌, ℕ, Bool, true, false, All, length, IfOk, IfSome, Ok, OnOk};
 ghost use Rattle.xt_map.specs.Memory.{constant_byte};
 ghost use Rattle.xt_map.specs.Regions.{is_mapped};
-ghost use Rattle.xt_rows.specs.Laws.{IsRegister};
+ghost use Rattle.xt_rows.specs.RowLaws.{IsRegister};
 ghost use Rattle.xt_frames.specs.Breaches.{inputs_of};
-ghost use Rattle.xt_frames.specs.Frames.{FrameState, known};
-ghost use Rattle.xt_frames.specs.FrameStep.{laid};
+ghost use Rattle.xt_frames.specs.Frames.{FrameState, value_or_zero};
+ghost use Rattle.xt_frames.specs.FrameStep.{with_inputs};
 ghost use Rattle.xt_frames.specs.Nesting.{current};
-ghost use Rattle.xt_frames.specs.Parts.{IsNewest, IsSmall, state_at};
+ghost use Rattle.xt_frames.specs.KeptFrameState.{IsNewest, IsSmall, state_at};
 ghost use Rattle.xt_frames.specs.SaveAreas.{before};
 ghost use Rattle.xt_frames.specs.Stacks.{IsRange, Stack};
 ghost use Rattle.xt_frames.specs.Walked.{bounds_of, calls_in, sp_in, stack_of};
-ghost use Rattle.xt_frames.specs.declared.holes.Holes.{Holes};
+ghost use Rattle.xt_frames.specs.declared.holes.UndefinedParts.{UndefinedParts};
 ghost use Rattle.xt_uses.specs.Lacks.{lack_of, lacks_among, lacks_before, mark_in};
 ghost use Rattle.xt_uses.specs.UseBreaches.{use_breach, window_use};
 ghost use Rattle.xt_uses.specs.UseState.{is_strict_in};
@@ -26,14 +26,14 @@ use crate::lacking::Lack;
 use crate::masks::{Keep, KeptMasks, TopMasks};
 use crate::stepping::Top;
 use crate::testing::{Touched, return_use, underflows};
-use crate::told::{Stopped, Used};
+use crate::told::{JudgeError, Used};
 use crate::words::ALL_BITS;
 use std::alloc::{AllocError, Global};
 use std::marker::Model;
 use xt_codec::{Fetch, instruction_at};
 use xt_frames::{
-    Breach, BreachKind, Caller, Case, Holes, Limits, Nested, View, calls_in, change, depth_of,
-    newest_of, sp_in, under,
+    Breach, BreachKind, Caller, Case, FrameRegisters, Limits, Nested, UndefinedParts, calls_in,
+    change, depth_of, newest_of, sp_in, under,
 };
 use xt_map::Constants;
 use xt_rows::reads;
@@ -57,7 +57,7 @@ pub struct UseCore {
 impl Model for UseCore {
     ghost use Rattle.std.specs.Prelude.{◌<◌, All, IfSome, vec_capacity};
     ghost use Rattle.xt_special.specs.Shape.{IsPs};
-    ghost use Rattle.xt_frames.specs.Parts.{AreKept, frames_of};
+    ghost use Rattle.xt_frames.specs.KeptFrameState.{AreKept, frames_of};
     ghost use Rattle.xt_frames.specs.Walked.{bounds_of};
     ghost use Rattle.xt_uses.specs.UseParts.{UseWalked, kept_of, use_at};
 
@@ -154,8 +154,8 @@ impl UseCore {
                 vecbase: options.vecbase,
             },
             top: Top {
-                view: View::open(core, pc, options.vecbase, stack.hi),
-                holes: Holes {
+                view: FrameRegisters::open(core, pc, options.vecbase, stack.hi),
+                holes: UndefinedParts {
                     unset: [false; 256],
                     nested: None,
                 },
@@ -249,7 +249,7 @@ impl UseCore {
         rec: &StepRecord,
         nested: bool,
         touched: &Touched,
-    ) -> Result<Used, Stopped>
+    ) -> Result<Used, JudgeError>
         requires access { IfSome rec.now.access (λ a. is_mapped a ≡ true) }
         requires touched { (live : ℕ → Bool) × (bytes : ℕ → ℕ) × IsTouched touched.now rec.now live bytes }
         ensures judged { (live : ℕ → Bool) (bytes : ℕ → ℕ) → IsTouched touched.now rec.now live bytes
@@ -264,14 +264,14 @@ impl UseCore {
                 self.next = u64::from(index) + 1;
                 change(&mut self.callers, done.call);
                 if let Err(error) = change_masks(&mut self.kept, done.keep) {
-                    return Err(Stopped::NoMemory(error));
+                    return Err(JudgeError::NoMemory(error));
                 }
                 Ok(Used {
                     stored: done.stored,
                     carries: done.carries,
                 })
             }
-            Err(kind) => Err(Stopped::Breaks(Breach {
+            Err(kind) => Err(JudgeError::Breaks(Breach {
                 core: self.core,
                 step: index,
                 kind,
@@ -280,9 +280,9 @@ impl UseCore {
     }
 
     /// The state that the step of a record finds.
-    fn laid_view(&self, rec: &StepRecord) -> View
-        ensures { (h : Holes) → h.unset ≡ self.now.state.frame.unset → h.nested ≡ self.now.state.frame.nested
-            → state_at self.now.state.frame.frames h result ≡ laid (inputs_of rec.now) (current self.now.state.frame) }
+    fn laid_view(&self, rec: &StepRecord) -> FrameRegisters
+        ensures { (h : UndefinedParts) → h.unset ≡ self.now.state.frame.unset → h.nested ≡ self.now.state.frame.nested
+            → state_at self.now.state.frame.frames h result ≡ with_inputs (inputs_of rec.now) (current self.now.state.frame) }
     {
         let mut view = self.top.view.current(&self.top.holes);
         view.lay(rec);
@@ -331,9 +331,9 @@ impl UseCore {
     /// Condition: `j` is at most the depth.
     pub fn sp(&self, j: u32) -> u32
         requires { j ≤ length self.now.state.frame.frames }
-        ensures { result ≡ sp_in self.now.state.frame.frames (known self.now.state.frame.seen 1) (length self.now.state.frame.frames - j) }
+        ensures { result ≡ sp_in self.now.state.frame.frames (value_or_zero self.now.state.frame.seen 1) (length self.now.state.frame.frames - j) }
     {
-        sp_in(&self.callers, self.top.view.known(1), j)
+        sp_in(&self.callers, self.top.view.value_or_zero(1), j)
     }
 
     /// By how many windows frame `j` called, 1, 2 or 3.
@@ -347,7 +347,7 @@ impl UseCore {
     }
 
     /// The register as a step finds it, where not every bit of it is known.
-    fn lack(&self, view: &View, number: u8) -> Option<Lack>
+    fn lack(&self, view: &FrameRegisters, number: u8) -> Option<Lack>
         requires { number < 16 }
         ensures { (f : FrameState) → f.seen ≡ view.now.seen → result ≡ lack_of self.now.state f number }
     {
@@ -358,7 +358,7 @@ impl UseCore {
         }
         Some(Lack {
             number,
-            value: view.known(number),
+            value: view.value_or_zero(number),
             mask,
             mark: mark_in(nested, number),
         })
@@ -367,7 +367,7 @@ impl UseCore {
     /// The registers, of those that an instruction reads, once each and in the order of their numbers.
     fn lacks_among(
         &self,
-        view: &View,
+        view: &FrameRegisters,
         first: Option<u8>,
         second: Option<u8>,
     ) -> (Option<Lack>, Option<Lack>)

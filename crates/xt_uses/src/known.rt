@@ -3,14 +3,14 @@
 
 ghost use Rattle.std.specs.Prelude.{◌≡◌, ◌<◌, ◌≤◌, ◌^◌, true};
 ghost use Rattle.xt_isa.specs.Ranges.{in_range, natural_within, shift_in_range};
-ghost use Rattle.xt_rows.specs.Laws.{IsShiftAmount};
-ghost use Rattle.xt_rows.specs.Numbers.{extended, natural};
+ghost use Rattle.xt_rows.specs.RowLaws.{IsShiftAmount};
+ghost use Rattle.xt_rows.specs.Numbers.{loaded_value, natural};
 ghost use Rattle.xt_uses.specs.Known.{add_mask, boolean_mask, density_mask, loaded_mask, memory_mask, result_mask, scaled_mask, scaled_sum, shift_mask, src_mask, sum_mask, system_mask, three_mask, where_both};
 
 use crate::discipline::Discipline;
 use crate::used::counted_bits;
 use crate::words::{
-    ALL_BITS, Word, and_mask, below_unknown, both_mask, flipped, is_whole, mask_where, or_mask,
+    ALL_BITS, Word, and_mask, below_unknown, both_mask, complement, is_whole, mask_where, or_mask,
 };
 use xt_alu::{extui, sext, sll, slli, sra, srai, src, srl, srli};
 use xt_isa::Insn;
@@ -52,7 +52,7 @@ fn scaled_mask(k: u8, x: u32) -> u32
     requires high { k < 32 }
     ensures { result ≡ scaled_mask k x }
 {
-    flipped(slli(flipped(x), k))
+    complement(slli(complement(x), k))
 }
 
 fn scaled_sum(k: u8, x: Word, y: Word) -> u32
@@ -77,7 +77,7 @@ fn src_mask(x: Word, y: Word, sar: u8) -> u32
     requires { sar < 64 }
     ensures { result ≡ src_mask x y sar }
 {
-    flipped(src(flipped(x.mask), flipped(y.mask), sar))
+    complement(src(complement(x.mask), complement(y.mask), sar))
 }
 
 #[tactic(auto, unfolding(crate::specs::Known::three_mask))]
@@ -111,26 +111,26 @@ fn shift_mask(i: Shift, x: Word, sar: u8) -> u32
     requires sar { sar < 64 }
     ensures { result ≡ shift_mask i x sar }
 {
-    let lacks = flipped(x.mask);
+    let lacks = complement(x.mask);
     match i {
         Shift::Neg(NegName::Neg, _, _) => below_unknown(x.mask),
-        Shift::Srl(SrlName::Srl, _, _) => flipped(srl(lacks, sar)),
-        Shift::Srl(SrlName::Sra, _, _) => flipped(sra(lacks, sar)),
-        Shift::Sll(_, _) => flipped(sll(lacks, sar)),
-        Shift::Slli(_, _, n) => flipped(slli(lacks, within(n, 1, 31))),
-        Shift::Srai(_, _, n) => flipped(srai(lacks, within(n, 0, 31))),
-        Shift::Srli(_, _, n) => flipped(srli(lacks, within(n, 0, 15))),
+        Shift::Srl(SrlName::Srl, _, _) => complement(srl(lacks, sar)),
+        Shift::Srl(SrlName::Sra, _, _) => complement(sra(lacks, sar)),
+        Shift::Sll(_, _) => complement(sll(lacks, sar)),
+        Shift::Slli(_, _, n) => complement(slli(lacks, within(n, 1, 31))),
+        Shift::Srai(_, _, n) => complement(srai(lacks, within(n, 0, 31))),
+        Shift::Srli(_, _, n) => complement(srli(lacks, within(n, 0, 15))),
         Shift::Extui(_, _, n, width) => {
-            flipped(extui(lacks, within(n, 0, 31), within(width, 1, 16)))
+            complement(extui(lacks, within(n, 0, 31), within(width, 1, 16)))
         }
-        Shift::Sext(SextName::Sext, _, _, b) => flipped(sext(lacks, within(b, 7, 22))),
+        Shift::Sext(SextName::Sext, _, _, b) => complement(sext(lacks, within(b, 7, 22))),
         _ => mask_where(is_whole(x)),
     }
 }
 
-#[tactic(auto, unfolding(xt_rows::specs::Numbers::extended))]
+#[tactic(auto, unfolding(xt_rows::specs::Numbers::loaded_value))]
 fn extended(signed: bool, n: u32) -> u32
-    ensures { result ≡ extended signed n }
+    ensures { result ≡ loaded_value signed n }
 {
     if signed { xt_word::sext(n, 16) } else { n }
 }
@@ -138,7 +138,7 @@ fn extended(signed: bool, n: u32) -> u32
 fn loaded_mask(signed: bool, reply: u32) -> u32
     ensures { result ≡ loaded_mask signed reply }
 {
-    flipped(extended(signed, flipped(reply)))
+    complement(extended(signed, complement(reply)))
 }
 
 #[tactic(auto, unfolding(crate::specs::Known::memory_mask))]

@@ -3,7 +3,7 @@
 
 ghost use Rattle.std.specs.Prelude.{◌≡◌, ◌≤◌, ◌<◌, ℕ, List, if◌then◌else◌};
 ghost use Rattle.xt_frames.specs.Frames.{Frame};
-ghost use Rattle.xt_frames.specs.Parts.{IsNewest, IsSmall};
+ghost use Rattle.xt_frames.specs.KeptFrameState.{IsNewest, IsSmall};
 ghost use Rattle.xt_uses.specs.UseStep.{is_left, leave_results};
 ghost use Rattle.xt_uses.specs.UseParts.{use_at, without_register};
 

@@ -20,6 +20,6 @@ pub use discipline::Discipline;
 pub use known::result_mask;
 pub use lacking::Lack;
 pub use testing::Touched;
-pub use told::{Stopped, Used};
+pub use told::{JudgeError, Used};
 pub use used::{keeps_unknown, used_are_known};
 pub use words::{ALL_BITS, Word, whole_word};

@@ -4,10 +4,10 @@
 ghost use Rattle.std.specs.Prelude.{◌≡◌, ◌<◌, ◌≤◌, ◌*◌, ◌-◌, ◌++◌, ℕ, List, [], None, false, true, drop, if◌then◌else◌, is_some, replicate, slice_index_or, take};
 ghost use Rattle.xt_isa.specs.Ranges.{in_range};
 ghost use Rattle.xt_rows.specs.Kinds.{is_entry, moved_to};
-ghost use Rattle.xt_rows.specs.Laws.{IsAny, IsProperWrite, IsRegister, IsShiftAmount, IsWord};
+ghost use Rattle.xt_rows.specs.RowLaws.{IsAny, IsProperWrite, IsRegister, IsShiftAmount, IsWord};
 ghost use Rattle.xt_frames.specs.Frames.{Frame, FrameState};
-ghost use Rattle.xt_frames.specs.Parts.{Upper, state_at};
-ghost use Rattle.xt_frames.specs.declared.holes.Holes.{Holes};
+ghost use Rattle.xt_frames.specs.KeptFrameState.{Upper, state_at};
+ghost use Rattle.xt_frames.specs.declared.holes.UndefinedParts.{UndefinedParts};
 ghost use Rattle.xt_uses.specs.UseState.{first_word, second_word, special_operand, visible_word, whole_masks};
 ghost use Rattle.xt_uses.specs.UseStep.{frames_moved, inner_unknown, pointer_written, special_written, visible_written};
 ghost use Rattle.xt_uses.specs.UseParts.{AreFew, IsNewestMasks, KeepsFew, kept_after, mask_of, masks_at, use_at};
@@ -17,7 +17,7 @@ ghost use Rattle.xt_uses.specs.Words.{all_bits};
 use crate::discipline::Discipline;
 use crate::used::{counted_bits, keeps_unknown};
 use crate::words::{ALL_BITS, Word, whole_word};
-use xt_frames::{Holes, View, is_return, moved_to};
+use xt_frames::{FrameRegisters, UndefinedParts, is_return, moved_to};
 use xt_isa::Insn;
 use xt_isa::control::Control;
 use xt_isa::system::{System, UserName};
@@ -156,14 +156,14 @@ impl TopMasks {
         }
     }
 
-    fn word(&self, view: &View, nested: bool, register: Option<u8>) -> Word
+    fn word(&self, view: &FrameRegisters, nested: bool, register: Option<u8>) -> Word
         requires { IsRegister register }
-        ensures { (frames : List Frame) (kept : List (List ℕ)) (h : Holes) (v : Upper) → nested ≡ is_some h.nested
+        ensures { (frames : List Frame) (kept : List (List ℕ)) (h : UndefinedParts) (v : Upper) → nested ≡ is_some h.nested
             → result ≡ visible_word (use_at frames kept h v self.now) (state_at frames h view.now) register }
     {
         match register {
             Some(i) => Word {
-                value: view.known(i),
+                value: view.value_or_zero(i),
                 mask: self.visible(nested, i),
             },
             None => whole_word(0),
@@ -184,7 +184,7 @@ impl TopMasks {
     #[inline(always)]
     fn is_whole(&self, register: Option<u8>) -> bool
         requires { IsRegister register }
-        ensures { result ≡ true → (frames : List Frame) (kept : List (List ℕ)) (h : Holes) (v : Upper) (f : FrameState) → h.nested ≡ None
+        ensures { result ≡ true → (frames : List Frame) (kept : List (List ℕ)) (h : UndefinedParts) (v : Upper) (f : FrameState) → h.nested ≡ None
             → (visible_word (use_at frames kept h v self.now) f register).mask ≡ all_bits }
     {
         match register {
@@ -197,7 +197,7 @@ impl TopMasks {
     #[inline(always)]
     pub fn reads_whole(&self, i: Insn) -> bool
         requires { in_range i ≡ true }
-        ensures { result ≡ true → (frames : List Frame) (kept : List (List ℕ)) (h : Holes) (v : Upper) (f : FrameState) → h.nested ≡ None
+        ensures { result ≡ true → (frames : List Frame) (kept : List (List ℕ)) (h : UndefinedParts) (v : Upper) (f : FrameState) → h.nested ≡ None
             → AreWhole i (use_at frames kept h v self.now) f }
     {
         let (first, second) = reads(i);
@@ -221,7 +221,7 @@ impl TopMasks {
     }
 
     /// The words that an instruction reads of the state that its step finds.
-    pub fn operands(&self, i: Insn, view: &View, holes: &Holes) -> Operands
+    pub fn operands(&self, i: Insn, view: &FrameRegisters, holes: &UndefinedParts) -> Operands
         requires { in_range i ≡ true }
         ensures first { (frames : List Frame) (kept : List (List ℕ)) (v : Upper) → result.x ≡ first_word i (use_at frames kept holes.now v self.now) (state_at frames holes.now view.now) }
         ensures second { (frames : List Frame) (kept : List (List ℕ)) (v : Upper) → result.y ≡ second_word i (use_at frames kept holes.now v self.now) (state_at frames holes.now view.now) }

@@ -6,10 +6,10 @@ ghost use Rattle.std.specs.Prelude.{◌≡◌, ℕ, Bool, List, IfSome, None, fa
 ghost use Rattle.xt_isa.specs.declared.Insn.{Insn};
 ghost use Rattle.xt_map.specs.Memory.{constant_byte};
 ghost use Rattle.xt_map.specs.Regions.{is_mapped};
-ghost use Rattle.xt_fetch.specs.Fetching.{Fetches, fetched};
+ghost use Rattle.xt_fetch.specs.Fetching.{Fetches, fetch_at};
 ghost use Rattle.xt_frames.specs.declared.view.Caller.{Caller};
-ghost use Rattle.xt_frames.specs.Frames.{Frame, FrameState, known};
-ghost use Rattle.xt_frames.specs.Parts.{AreKept};
+ghost use Rattle.xt_frames.specs.Frames.{Frame, FrameState, value_or_zero};
+ghost use Rattle.xt_frames.specs.KeptFrameState.{AreKept};
 ghost use Rattle.xt_uses.specs.UseParts.{IsTouched, use_at};
 ghost use Rattle.xt_uses.specs.UseQuick.{AreWhole, IsQuickUse};
 
@@ -27,7 +27,7 @@ impl Top {
     #[inline(always)]
     fn reads_whole(&self, code: &Constants) -> bool
         ensures { result ≡ true → (i : Insn) (len : ℕ) (frames : List Frame) (kept : List (List ℕ)) (f : FrameState)
-            → fetched (constant_byte code.now) self.now.view.control.pc ≡ Fetches i len → self.now.holes.nested ≡ None
+            → fetch_at (constant_byte code.now) self.now.view.control.pc ≡ Fetches i len → self.now.holes.nested ≡ None
             → AreWhole i (use_at frames kept self.now.holes self.now.view self.now.masks) f }
     {
         match instruction_at::<Touched>(code, self.view.pc()) {
@@ -52,7 +52,7 @@ impl Top {
         ensures quick { result ≡ true → (frames : List Frame) (kept : List (List ℕ)) (live : ℕ → Bool) (bytes : ℕ → ℕ) → IsTouched touched.now rec.now live bytes
             → IsQuickUse limits fresh (constant_byte code.now) live rec.now bytes (use_at frames kept self.old.holes self.old.view self.old.masks) (λ fs ks. use_at fs ks self.new.holes self.new.view self.new.masks) }
         ensures kept { result ≡ true → (lo hi : ℕ) (callers : List Caller) (capacity : ℕ) → AreKept lo hi self.old.view callers capacity → AreKept lo hi self.new.view callers capacity }
-        ensures sp { result ≡ true → known self.new.view.seen 1 ≡ known self.old.view.seen 1 }
+        ensures sp { result ≡ true → value_or_zero self.new.view.seen 1 ≡ value_or_zero self.old.view.seen 1 }
         ensures holes { self.new.holes ≡ self.old.holes }
         ensures other { result ≡ false → self.new ≡ self.old }
     {

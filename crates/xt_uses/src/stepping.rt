@@ -7,20 +7,20 @@ ghost use Rattle.xt_map.specs.Memory.{constant_byte};
 ghost use Rattle.xt_map.specs.Regions.{is_mapped};
 ghost use Rattle.xt_special.specs.Control.{Control};
 ghost use Rattle.xt_special.specs.Shape.{IsPs};
-ghost use Rattle.xt_fetch.specs.Fetching.{fetched};
-ghost use Rattle.xt_rows.specs.Laws.{IsAny, IsProperWrite};
-ghost use Rattle.xt_frames.specs.declared.holes.Holes.{Holes};
+ghost use Rattle.xt_fetch.specs.Fetching.{fetch_at};
+ghost use Rattle.xt_rows.specs.RowLaws.{IsAny, IsProperWrite};
+ghost use Rattle.xt_frames.specs.declared.holes.UndefinedParts.{UndefinedParts};
 ghost use Rattle.xt_frames.specs.Breaches.{fresh_after, inputs_of};
 ghost use Rattle.xt_frames.specs.Frames.{Frame};
-ghost use Rattle.xt_frames.specs.FrameStep.{FrameTurn, laid, laid_step};
+ghost use Rattle.xt_frames.specs.FrameStep.{FrameTurn, with_inputs, step_with_inputs};
 ghost use Rattle.xt_frames.specs.Judging.{value_in};
 ghost use Rattle.xt_frames.specs.Nesting.{begins, current};
-ghost use Rattle.xt_frames.specs.Parts.{IsGood, IsKindOf, IsNewest, IsPlan, IsSmall, Upper, frames_after, state_at, turn_as};
+ghost use Rattle.xt_frames.specs.KeptFrameState.{IsGood, IsKindOf, IsNewest, IsPlan, IsSmall, Upper, frames_after, state_at, turn_as};
 ghost use Rattle.xt_frames.specs.Stacks.{Stack};
 ghost use Rattle.xt_frames.specs.declared.view.Call.TheVariants.{Stays};
 ghost use Rattle.xt_uses.specs.declared.masks.Keep.TheVariants as keep;
 ghost use Rattle.xt_uses.specs.Words.{all_bits};
-ghost use Rattle.xt_uses.specs.UseStep.{cut_number, cut_state, executed, forgets_registers, insn_turn, movsp_of, receives_mark, reply_mask, stores_unknown, turn_or, use_step, use_turn, value_step};
+ghost use Rattle.xt_uses.specs.UseStep.{cut_number, cut_state, step_insn, forgets_registers, insn_turn, movsp_of, receives_mark, reply_mask, stores_unknown, turn_or, use_step, use_turn, value_step};
 ghost use Rattle.xt_uses.specs.UseParts.{AreFew, IsNewestMasks, IsTouched, IsUseCase, IsUseDone, IsUseKept, IsTaken, KeepsFew, call_in, kept_after, masks_at, register_of, plan_movsp, settled_in, use_at, use_found_by, write_where};
 
 use crate::discipline::{Discipline, is_strict};
@@ -30,8 +30,8 @@ use crate::testing::{Touched, use_breach};
 use crate::words::ALL_BITS;
 use xt_codec::Fetch;
 use xt_frames::{
-    BreachKind, Call, Case, Holes, Plan, Step, View, begin, fresh_after, give_numbers, go_on,
-    is_nesting, is_return, mark_read, planned,
+    BreachKind, Call, Case, FrameRegisters, NextEvent, StepSummary, UndefinedParts, begin,
+    fresh_after, give_numbers, go_on, is_nesting, is_return, mark_read, planned,
 };
 use xt_isa::Insn;
 use xt_isa::shift::Shift;
@@ -41,8 +41,8 @@ use xt_trace::{RegWrite, StepKind, StepRecord};
 /// A state of the machine of uses but for its frames that have called.
 #[derive(Drop)]
 pub struct Top {
-    pub view: View,
-    pub holes: Holes,
+    pub view: FrameRegisters,
+    pub holes: UndefinedParts,
     pub masks: TopMasks,
 }
 
@@ -64,10 +64,10 @@ pub struct Done {
 /// What a step was, with what it found and what it leaves.
 #[derive(Clone, Copy)]
 struct Made {
-    before: View,
-    plan: Plan,
-    step: Step,
-    after: View,
+    before: FrameRegisters,
+    plan: NextEvent,
+    step: StepSummary,
+    after: FrameRegisters,
 }
 
 /// What the masks leave of a step: the mask of the register that is written, that of the value that is stored, whether it receives a
@@ -83,14 +83,14 @@ struct Masked {
 }
 
 /// Whether a record of this kind begins a nested interrupt where none has begun.
-fn begins(nested: bool, kind: StepKind, holes: &Holes) -> bool
+fn begins(nested: bool, kind: StepKind, holes: &UndefinedParts) -> bool
     ensures { (frames : List Frame) (v : Upper) → result ≡ begins nested kind (state_at frames holes.now v) }
 {
     nested && is_nesting(kind) && holes.nested.is_none()
 }
 
 /// Whether a step that executes this instruction receives a mark.
-fn receives_mark(i: Insn, holes: &Holes) -> bool
+fn receives_mark(i: Insn, holes: &UndefinedParts) -> bool
     ensures { result ≡ receives_mark (Some i) holes.now.nested }
 {
     match &holes.nested {
@@ -101,7 +101,7 @@ fn receives_mark(i: Insn, holes: &Holes) -> bool
 
 /// The registers of a MOVSP outside nested interrupts, which is what a planned step executes, and its length.
 #[tactic(auto, using(crate::proofs::UseRanges::planned_range), unfolding(crate::specs::UseParts::plan_movsp))]
-fn stack_move(plan: Plan, holes: &Holes) -> Option<(u8, u8, u8)>
+fn stack_move(plan: NextEvent, holes: &UndefinedParts) -> Option<(u8, u8, u8)>
     requires { IsGood plan }
     ensures movsp { result ≡ (if is_some holes.now.nested then None else plan_movsp plan) }
     ensures range { IfSome result (λ m. (m.0 < 16) × (m.1 < 16)) }
@@ -110,20 +110,20 @@ fn stack_move(plan: Plan, holes: &Holes) -> Option<(u8, u8, u8)>
         return None;
     }
     match plan {
-        Plan::Fetched(Fetch::Insn(Insn::Shift(Shift::Movsp(t, s)), len)) => Some((t, s, len)),
+        NextEvent::Fetched(Fetch::Insn(Insn::Shift(Shift::Movsp(t, s)), len)) => Some((t, s, len)),
         _ => None,
     }
 }
 
 /// The instruction that a step has executed, if it has.
-#[tactic(auto, unfolding(crate::specs::UseStep::executed))]
-fn executed(kind: StepKind, plan: Plan) -> Option<Insn>
+#[tactic(auto, unfolding(crate::specs::UseStep::step_insn))]
+fn step_insn(kind: StepKind, plan: NextEvent) -> Option<Insn>
     requires { IsGood plan }
-    ensures insn { (code : ℕ → ℕ) (c : Control) → IsPlan plan code c → IsKindOf plan kind → result ≡ executed kind (fetched code c.pc) }
+    ensures insn { (code : ℕ → ℕ) (c : Control) → IsPlan plan code c → IsKindOf plan kind → result ≡ step_insn kind (fetch_at code c.pc) }
     ensures range { IfSome result (λ i. in_range i ≡ true) }
 {
     match (kind, plan) {
-        (StepKind::Insn, Plan::Fetched(Fetch::Insn(i, _))) => Some(i),
+        (StepKind::Insn, NextEvent::Fetched(Fetch::Insn(i, _))) => Some(i),
         _ => None,
     }
 }
@@ -164,7 +164,7 @@ fn forgets_registers(discipline: Discipline, i: Insn) -> bool
 
 impl Made {
     /// MOVSP outside nested interrupts moves the stack pointer.
-    fn move_stack(&mut self, holes: &Holes)
+    fn move_stack(&mut self, holes: &UndefinedParts)
         requires good { IsGood self.old.plan }
         requires write { IsProperWrite IsAny self.old.step.write }
         requires kind { IsKindOf self.old.plan self.old.step.kind }
@@ -177,7 +177,7 @@ impl Made {
     {
         if let Some((t, s, len)) = stack_move(self.plan, holes) {
             self.after = self.before;
-            self.step = self.after.move_stack(t, self.before.known(s), len);
+            self.step = self.after.move_stack(t, self.before.value_or_zero(s), len);
         }
     }
 }
@@ -187,10 +187,10 @@ impl Top {
     fn make(&self, case: &Case, code: &Constants, rec: &StepRecord) -> Made
         requires small { IsSmall case.now.newest }
         requires ps { IfSome self.now.holes.nested (λ x. IsPs x.ps) }
-        ensures found { (frames : List Frame) → state_at frames self.now.holes result.before ≡ laid (inputs_of rec.now) (current (state_at frames self.now.holes self.now.view)) }
+        ensures found { (frames : List Frame) → state_at frames self.now.holes result.before ≡ with_inputs (inputs_of rec.now) (current (state_at frames self.now.holes self.now.view)) }
         ensures plan { IsPlan result.plan (constant_byte code.now) result.before.control }
         ensures good { IsGood result.plan }
-        ensures turn { (frames : List Frame) (h : Holes) → IsNewest case.now.newest frames → turn_as result.step frames h result.after ≡ laid_step (constant_byte code.now) rec.now.reply (state_at frames h result.before) }
+        ensures turn { (frames : List Frame) (h : UndefinedParts) → IsNewest case.now.newest frames → turn_as result.step frames h result.after ≡ step_with_inputs (constant_byte code.now) rec.now.reply (state_at frames h result.before) }
         ensures write { IsProperWrite IsAny result.step.write }
         ensures kind { IsKindOf result.plan result.step.kind }
         ensures callinc { result.before.control.ps.callinc < 4 }
@@ -299,26 +299,26 @@ impl Top {
         requires few { AreFew newest.now }
         ensures mask { (code : ℕ → ℕ) (frames : List Frame) (kept : List (List ℕ)) (v : Upper) (u : FrameTurn)
             → IsPlan made.now.plan code made.now.before.control → IsKindOf made.now.plan made.now.step.kind
-            → result.mask ≡ (use_turn (executed made.now.step.kind (fetched code made.now.before.control.pc)) reply (use_at frames kept self.old.holes v self.old.masks) (state_at frames self.old.holes made.now.before) u).mask }
+            → result.mask ≡ (use_turn (step_insn made.now.step.kind (fetch_at code made.now.before.control.pc)) reply (use_at frames kept self.old.holes v self.old.masks) (state_at frames self.old.holes made.now.before) u).mask }
         ensures stored { (code : ℕ → ℕ) (frames : List Frame) (kept : List (List ℕ)) (v : Upper) (u : FrameTurn)
             → IsPlan made.now.plan code made.now.before.control → IsKindOf made.now.plan made.now.step.kind
-            → result.stored ≡ (use_turn (executed made.now.step.kind (fetched code made.now.before.control.pc)) reply (use_at frames kept self.old.holes v self.old.masks) (state_at frames self.old.holes made.now.before) u).stored }
+            → result.stored ≡ (use_turn (step_insn made.now.step.kind (fetch_at code made.now.before.control.pc)) reply (use_at frames kept self.old.holes v self.old.masks) (state_at frames self.old.holes made.now.before) u).stored }
         ensures masks { (code : ℕ → ℕ) (frames : List Frame) (kept : List (List ℕ)) (v : Upper) (u : FrameTurn)
             → IsPlan made.now.plan code made.now.before.control → IsKindOf made.now.plan made.now.step.kind
             → IsNewestMasks newest.now kept → register_of u.write ≡ register_of made.now.step.write
-            → masks_at (kept_after result.keep kept) self.new.masks ≡ (use_turn (executed made.now.step.kind (fetched code made.now.before.control.pc)) reply (use_at frames kept self.old.holes v self.old.masks) (state_at frames self.old.holes made.now.before) u).after.masks }
+            → masks_at (kept_after result.keep kept) self.new.masks ≡ (use_turn (step_insn made.now.step.kind (fetch_at code made.now.before.control.pc)) reply (use_at frames kept self.old.holes v self.old.masks) (state_at frames self.old.holes made.now.before) u).after.masks }
         ensures few { KeepsFew result.keep }
         ensures marked { (code : ℕ → ℕ) → IsPlan made.now.plan code made.now.before.control → IsKindOf made.now.plan made.now.step.kind
-            → result.marked ≡ receives_mark (executed made.now.step.kind (fetched code made.now.before.control.pc)) self.old.holes.nested }
+            → result.marked ≡ receives_mark (step_insn made.now.step.kind (fetch_at code made.now.before.control.pc)) self.old.holes.nested }
         ensures forgets { (code : ℕ → ℕ) → IsPlan made.now.plan code made.now.before.control → IsKindOf made.now.plan made.now.step.kind
-            → result.forgets ≡ forgets_registers self.old.masks.discipline (executed made.now.step.kind (fetched code made.now.before.control.pc)) }
+            → result.forgets ≡ forgets_registers self.old.masks.discipline (step_insn made.now.step.kind (fetch_at code made.now.before.control.pc)) }
         ensures cut { (code : ℕ → ℕ) → IsPlan made.now.plan code made.now.before.control → IsKindOf made.now.plan made.now.step.kind
-            → result.write ≡ write_where (executed made.now.step.kind (fetched code made.now.before.control.pc)) made.now.step.write }
+            → result.write ≡ write_where (step_insn made.now.step.kind (fetch_at code made.now.before.control.pc)) made.now.step.write }
         ensures proper { IsProperWrite IsAny result.write }
         ensures holes { self.new.holes ≡ self.old.holes }
         ensures view { self.new.view ≡ self.old.view }
     {
-        match executed(made.step.kind, made.plan) {
+        match step_insn(made.step.kind, made.plan) {
             Some(i) => self.mask_executed(i, made, reply, newest),
             None => Masked {
                 keep: Keep::Stays,
@@ -386,7 +386,7 @@ impl Top {
         requires ps { IfSome self.now.holes.nested (λ x. IsPs x.ps) }
         requires access { IfSome rec.now.access (λ a. is_mapped a ≡ true) }
         ensures fresh { (frames : List Frame) → result.fresh
-            ≡ fresh_after case.now.fresh made.now.step.kind (fetched (constant_byte code.now) made.now.before.control.pc) made.now.before.control.ps (current (state_at frames self.now.holes self.now.view)).control.ps }
+            ≡ fresh_after case.now.fresh made.now.step.kind (fetch_at (constant_byte code.now) made.now.before.control.pc) made.now.before.control.ps (current (state_at frames self.now.holes self.now.view)).control.ps }
         ensures call { result.call ≡ call }
         ensures keep { result.keep ≡ masked.keep }
         ensures stored { result.stored ≡ masked.stored }
@@ -428,7 +428,7 @@ impl Top {
         ensures taken { (nested : Bool) (frames : List Frame) (kept : List (List ℕ)) (bytes : ℕ → ℕ)
             → IsNewest case.now.newest frames → IsNewestMasks newest.now kept → reply_mask bytes rec.now.access ≡ touched.now.reply
             → begins nested rec.now.kind (state_at frames self.old.holes self.old.view) ≡ false
-            → state_at frames self.old.holes made.now.before ≡ laid (inputs_of rec.now) (current (state_at frames self.old.holes self.old.view))
+            → state_at frames self.old.holes made.now.before ≡ with_inputs (inputs_of rec.now) (current (state_at frames self.old.holes self.old.view))
             → settled_in self.old.holes.nested (constant_byte code.now) (value_in rec.now.write) made.now frames self.old.holes self.old.view ≡ value_step (constant_byte code.now) false (value_in rec.now.write) (inputs_of rec.now) (state_at frames self.old.holes self.old.view)
             → IsTaken case.now.fresh (constant_byte code.now) nested rec.now bytes (use_at frames kept self.old.holes self.old.view self.old.masks) result (λ fs ks. use_at fs ks self.new.holes self.new.view self.new.masks) }
     {

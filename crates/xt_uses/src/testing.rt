@@ -5,14 +5,14 @@ ghost use Rattle.std.specs.Prelude.{◌≡◌, ℕ, Bool, List, false, true};
 ghost use Rattle.xt_isa.specs.Ranges.{in_range};
 ghost use Rattle.xt_map.specs.Memory.{constant_byte};
 ghost use Rattle.xt_codec.specs.Fetches.{IsFetched, IsGoodFetch};
-ghost use Rattle.xt_fetch.specs.Fetching.{Fetched, fetched};
+ghost use Rattle.xt_fetch.specs.Fetching.{Fetched, fetch_at};
 ghost use Rattle.xt_frames.specs.Breaches.{first_shown};
 ghost use Rattle.xt_frames.specs.Frames.{Frame};
-ghost use Rattle.xt_frames.specs.FrameStep.{FrameTurn, laid_step};
-ghost use Rattle.xt_frames.specs.Parts.{IsGood, IsNewest, IsPlan, Upper, shown_tests, state_at, turn_as};
+ghost use Rattle.xt_frames.specs.FrameStep.{FrameTurn, step_with_inputs};
+ghost use Rattle.xt_frames.specs.KeptFrameState.{IsGood, IsNewest, IsPlan, Upper, shown_tests, state_at, turn_as};
 ghost use Rattle.xt_frames.specs.SaveAreas.{before};
 ghost use Rattle.xt_frames.specs.Walked.{bounds_of};
-ghost use Rattle.xt_frames.specs.declared.holes.Holes.{Holes};
+ghost use Rattle.xt_frames.specs.declared.holes.UndefinedParts.{UndefinedParts};
 ghost use Rattle.xt_uses.specs.UseBreaches.{breaks_stack, fetched_return_use, fetched_uses, has_no_number, holds_mark, keeps_stack, laid_use, reads_mark, reads_no_number, shown_here, underflows, use_tests, uses_unknown};
 ghost use Rattle.xt_uses.specs.UseParts.{IsTouched, IsUseCase, use_at};
 
@@ -20,8 +20,8 @@ use crate::masks::TopMasks;
 use crate::used::{keeps_unknown, used_are_known};
 use xt_codec::{Fetch, instruction_at};
 use xt_frames::{
-    BreachKind, Caller, Case, Holes, Plan, Step, Tested, View, ends_nested, insn_tests, is_return,
-    moves_marks, other_tests, return_tests, vector_breach,
+    BreachKind, Caller, Case, FrameRegisters, NextEvent, StepSummary, Tested, UndefinedParts,
+    ends_nested, insn_tests, is_return, moves_marks, other_tests, return_tests, vector_breach,
 };
 use xt_isa::Insn;
 use xt_isa::shift::Shift;
@@ -67,7 +67,7 @@ fn keeps_mark(saved: &[Option<u8>; 256], register: Option<u8>) -> bool
 }
 
 /// Whether it reads a mark otherwise than by moving it.
-fn reads_mark(i: Insn, holes: &Holes) -> bool
+fn reads_mark(i: Insn, holes: &UndefinedParts) -> bool
     requires { in_range i ≡ true }
     ensures { result ≡ reads_mark holes.now.nested i }
 {
@@ -95,7 +95,7 @@ fn has_no_number(unset: &[bool; 256], register: Option<u8>) -> bool
 }
 
 /// Whether it reads a special register that has no number and keeps nothing unknown.
-fn reads_no_number(i: Insn, holes: &Holes) -> bool
+fn reads_no_number(i: Insn, holes: &UndefinedParts) -> bool
     requires { in_range i ≡ true }
     ensures { (frames : List Frame) (v : Upper) → result ≡ reads_no_number i (state_at frames holes.now v) }
 {
@@ -105,7 +105,7 @@ fn reads_no_number(i: Insn, holes: &Holes) -> bool
 }
 
 /// Whether it uses something that is not known.
-fn uses_unknown(i: Insn, masks: &TopMasks, view: &View, holes: &Holes) -> bool
+fn uses_unknown(i: Insn, masks: &TopMasks, view: &FrameRegisters, holes: &UndefinedParts) -> bool
     requires { in_range i ≡ true }
     ensures { (frames : List Frame) (kept : List (List ℕ)) (v : Upper)
         → result ≡ uses_unknown i (use_at frames kept holes.now v masks.now) (state_at frames holes.now view.now) }
@@ -133,14 +133,17 @@ fn keeps_stack(case: &Case, sp: u32) -> bool
 
 /// Whether it is a MOVSP that does not keep the stack.
 #[tactic(auto, using(crate::proofs::UseRanges::movsp_from), unfolding(crate::specs::UseBreaches::breaks_stack))]
-fn breaks_stack(case: &Case, i: Insn, kind: StepKind, view: &View) -> bool
+fn breaks_stack(case: &Case, i: Insn, kind: StepKind, view: &FrameRegisters) -> bool
     requires { in_range i ≡ true }
-    ensures { (frames : List Frame) (h : Holes) → IsNewest case.now.newest frames → case.now.under ≡ before case.now.limits.hi frames
+    ensures { (frames : List Frame) (h : UndefinedParts) → IsNewest case.now.newest frames → case.now.under ≡ before case.now.limits.hi frames
         → result ≡ breaks_stack (bounds_of case.now.limits).range i kind (state_at frames h view.now) }
 {
     match i {
         Insn::Shift(Shift::Movsp(t, s)) => {
-            !(kind == StepKind::Insn && t == 1 && !view.excm() && keeps_stack(case, view.known(s)))
+            !(kind == StepKind::Insn
+                && t == 1
+                && !view.excm()
+                && keeps_stack(case, view.value_or_zero(s)))
         }
         _ => false,
     }
@@ -176,12 +179,12 @@ fn fetched_use(
     case: &Case,
     touched: &Touched,
     masks: &TopMasks,
-    holes: &Holes,
+    holes: &UndefinedParts,
     fetch: Fetch,
     rec: &StepRecord,
-    view: &View,
-    step: &Step,
-    after: &View,
+    view: &FrameRegisters,
+    step: &StepSummary,
+    after: &FrameRegisters,
 ) -> Option<BreachKind>
     requires good { IsGoodFetch fetch }
     requires stale { case.now.stale ≡ false }
@@ -219,23 +222,23 @@ pub fn use_breach(
     case: &Case,
     touched: &Touched,
     masks: &TopMasks,
-    holes: &Holes,
-    plan: Plan,
+    holes: &UndefinedParts,
+    plan: NextEvent,
     rec: &StepRecord,
-    view: &View,
-    step: &Step,
-    after: &View,
+    view: &FrameRegisters,
+    step: &StepSummary,
+    after: &FrameRegisters,
 ) -> Option<BreachKind>
     requires good { IsGood plan }
     requires stale { case.now.stale ≡ false }
     ensures { (code : ℕ → ℕ) (frames : List Frame) (kept : List (List ℕ)) (v : Upper) (live : ℕ → Bool) (bytes : ℕ → ℕ)
         → IsUseCase case.now touched.now frames → IsTouched touched.now rec.now live bytes → IsPlan plan code view.now.control
-        → turn_as step.now frames holes.now after.now ≡ laid_step code rec.now.reply (state_at frames holes.now view.now)
+        → turn_as step.now frames holes.now after.now ≡ step_with_inputs code rec.now.reply (state_at frames holes.now view.now)
         → result ≡ laid_use (bounds_of case.now.limits) case.now.fresh code live bytes rec.now (use_at frames kept holes.now v masks.now) (state_at frames holes.now view.now) }
 {
     match plan {
-        Plan::Interrupt(_) | Plan::Waits => vector_breach(case.limits, view),
-        Plan::Fetched(fetch) => {
+        NextEvent::Interrupt(_) | NextEvent::Waits => vector_breach(case.limits, view),
+        NextEvent::Fetched(fetch) => {
             fetched_use(case, touched, masks, holes, fetch, rec, view, step, after)
         }
     }
@@ -254,13 +257,13 @@ pub fn underflows(kind: StepKind) -> bool
 /// The first breach that the record of an underflow shows of the RETW at PC.
 pub fn return_use(
     code: &Constants,
-    view: &View,
+    view: &FrameRegisters,
     masks: &TopMasks,
-    holes: &Holes,
+    holes: &UndefinedParts,
     newest: &Option<Caller>,
 ) -> Option<BreachKind>
     ensures { (frames : List Frame) (kept : List (List ℕ)) (v : Upper) → IsNewest newest.now frames
-        → result ≡ fetched_return_use (fetched (constant_byte code.now) view.now.control.pc) (use_at frames kept holes.now v masks.now) (state_at frames holes.now view.now) }
+        → result ≡ fetched_return_use (fetch_at (constant_byte code.now) view.now.control.pc) (use_at frames kept holes.now v masks.now) (state_at frames holes.now view.now) }
 {
     match instruction_at::<Caller>(code, view.pc()) {
         Fetch::Insn(i, _) => {

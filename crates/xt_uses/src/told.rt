@@ -15,7 +15,7 @@ pub struct Used {
 
 /// Why a record is not taken.
 #[derive(Clone, Copy)]
-pub enum Stopped {
+pub enum JudgeError {
     /// It shows a breach.
     Breaks(Breach),
     /// There is too little memory for one frame more.

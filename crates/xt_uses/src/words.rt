@@ -2,7 +2,7 @@
 #![tactic(auto)]
 
 ghost use Rattle.std.specs.Prelude.{◌≡◌};
-ghost use Rattle.xt_uses.specs.Words.{and_mask, and_word, below_unknown, both_mask, flipped, is_whole, knows, mask_where, not_word, ones, or_mask, whole_word, zeros};
+ghost use Rattle.xt_uses.specs.Words.{and_mask, and_word, below_unknown, both_mask, complement, is_whole, knows, mask_where, not_word, ones, or_mask, whole_word, zeros};
 
 /// A value, and a mask of the bits of it that are known. The others are 0 in the value.
 #[derive(Clone, Copy, Debug, PartialEq, Eq)]
@@ -39,8 +39,8 @@ pub fn is_whole(w: Word) -> bool
 }
 
 /// The other bits.
-pub fn flipped(bits: u32) -> u32
-    ensures { result ≡ flipped bits }
+pub fn complement(bits: u32) -> u32
+    ensures { result ≡ complement bits }
 {
     bits ^ ALL_BITS
 }
@@ -56,7 +56,7 @@ fn ones(w: Word) -> u32
 fn zeros(w: Word) -> u32
     ensures { result ≡ zeros w }
 {
-    flipped(w.value) & w.mask
+    complement(w.value) & w.mask
 }
 
 /// Where both are known.

@@ -3,7 +3,7 @@ use Rattle.std.proofs.Common.{◌≡◌, ◌≢◌, ℕ, zero, suc, ◌<◌, ◌
 use Rattle.std.proofs.lemmas.Bool.{cases_eq}
 use Rattle.std.proofs.lemmas.List.{length-set, get_or-set_same, get_or-set_other, set-set, set_comm, set-get_or}
 use Rattle.xt_window.specs.Ring.{place}
-use Rattle.xt_window.specs.Kept.{written_back}
+use Rattle.xt_window.specs.FrontAndRing.{written_back}
 
 -- two registers of a front have two places
 apart : (w i j : ℕ) → i < 16 → j < 16 → i ≢ j → place w i ≢ place w j

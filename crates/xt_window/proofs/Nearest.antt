@@ -4,7 +4,7 @@ use Rattle.std.specs.Prelude.{◌&&◌, nat_le}
 use Rattle.std.proofs.lemmas.Bool.{cases_eq, leb-true, le-leb, false≢true}
 use Rattle.xt_window.specs.Ring.{bit, ahead, first_of_three}
 use Rattle.xt_window.specs.Moves.{behind}
-use Rattle.xt_window.specs.Laws.{IsNearest}
+use Rattle.xt_window.specs.WindowLaws.{IsNearest}
 
 at : (test : ℕ → Bool) (j k : ℕ) (b : Bool) → test j ≡ b → k ≡ j → test k ≡ b
 at test j k b h e = ap test e ∙ h

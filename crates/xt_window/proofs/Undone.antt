@@ -4,8 +4,8 @@ use Rattle.std.specs.Prelude.{◌&&◌, ◌||◌, ◌==◌, if◌then◌else◌}
 use Rattle.xt_window.specs.declared.windows.Return.TheVariants.{Returned, Under, Bad}
 use Rattle.xt_window.specs.Ring.{bit, with_bit, ahead, first_of_three}
 use Rattle.xt_window.specs.Moves.{base_after_call, base_after_return, behind}
-use Rattle.xt_window.specs.Answers.{return_of}
-use Rattle.xt_window.specs.Laws.{ReturnUndoesCall}
+use Rattle.xt_window.specs.WindowAnswers.{return_of}
+use Rattle.xt_window.specs.WindowLaws.{ReturnUndoesCall}
 use Rattle.xt_window.proofs.Bits.{bit_of_same, set_other, restored}
 use Rattle.xt_window.proofs.Nearest.{nearest_ahead}
 

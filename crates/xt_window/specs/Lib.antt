@@ -1,6 +1,6 @@
 pub mod Ring
 pub mod Values
 pub mod Moves
-pub mod Answers
-pub mod Laws
-pub mod Kept
+pub mod WindowAnswers
+pub mod WindowLaws
+pub mod FrontAndRing

@@ -3,7 +3,7 @@
 
 ghost use Rattle.std.specs.Prelude.{◌≡◌, ℕ, ◌<◌, slice_index};
 ghost use Rattle.xt_window.specs.Ring.{cleared_regs, place};
-ghost use Rattle.xt_window.specs.Kept.{written_back};
+ghost use Rattle.xt_window.specs.FrontAndRing.{written_back};
 
 use crate::Windows;
 use std::marker::Model;
@@ -21,7 +21,7 @@ pub struct FrontFile {
 impl Model for FrontFile {
     ghost use Rattle.std.specs.Prelude.{◌<◌};
     ghost use Rattle.xt_window.specs.Values.{WindowState};
-    ghost use Rattle.xt_window.specs.Kept.{written_back};
+    ghost use Rattle.xt_window.specs.FrontAndRing.{written_back};
 
     ghost Value = { WindowState };
 
@@ -31,7 +31,7 @@ impl Model for FrontFile {
 }
 
 // Writes the front of window `base` back to the ring.
-#[tactic(auto, unfolding(crate::specs::Kept::written_back))]
+#[tactic(auto, unfolding(crate::specs::FrontAndRing::written_back))]
 #[inline(always)]
 fn write_back(ring: &mut [u32; 64], front: &[u32; 16], base: u8)
     requires { base < 16 }
@@ -55,7 +55,7 @@ fn load(front: &mut [u32; 16], ring: &[u32; 64], base: u8)
 
 impl FrontFile {
     /// Registers that hold 0, with WINDOWBASE 0 and the bit of window 0 alone.
-    #[tactic(auto, unfolding(crate::specs::Kept::written_back, crate::specs::Ring::cleared_regs))]
+    #[tactic(auto, unfolding(crate::specs::FrontAndRing::written_back, crate::specs::Ring::cleared_regs))]
     pub fn new() -> FrontFile
         ensures { result ≡ record { regs = cleared_regs; base = 0; start = 1 } }
     {

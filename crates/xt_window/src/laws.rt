@@ -4,7 +4,7 @@
 ghost use Rattle.std.specs.Prelude.{◌≡◌, ◌≢◌, ℕ, ◌+◌, ◌-◌, ◌*◌, ◌%◌, ◌^◌, ◌<◌, ◌≤◌, true, false};
 ghost use Rattle.xt_window.specs.Ring.{place, bit, with_bit, without_bit, ahead};
 ghost use Rattle.xt_window.specs.Moves.{behind};
-ghost use Rattle.xt_window.specs.Laws.{IsNearest, ReturnUndoesCall};
+ghost use Rattle.xt_window.specs.WindowLaws.{IsNearest, ReturnUndoesCall};
 
 /// Where the bit of window 0 alone is set and the window base is 0, no window check of a register
 /// finds another window: the state in which a core opens.

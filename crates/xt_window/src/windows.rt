@@ -4,7 +4,7 @@
 ghost use Rattle.std.specs.Prelude.{◌≡◌, ℕ, ◌<◌, ◌≤◌, ◌≤ℤ◌, pos, negsuc, List, IfSome, slice_set};
 ghost use Rattle.xt_window.specs.Ring.{place, visible, with_bit};
 ghost use Rattle.xt_window.specs.Moves.{base_after_call, base_rotated, behind, is_bad};
-ghost use Rattle.xt_window.specs.Answers.{overflow_of, return_of, base_past, start_past};
+ghost use Rattle.xt_window.specs.WindowAnswers.{overflow_of, return_of, base_past, start_past};
 
 use crate::ring::{ahead, behind, bit, size_at, with_bit, without_bit};
 
@@ -134,7 +134,7 @@ pub trait Windows {
     /// or the nearest window is another, nothing has changed, and the answer is `Bad`.
     ///
     /// Condition: `n` is below 4.
-    #[tactic(auto, unfolding(crate::specs::Answers::return_of))]
+    #[tactic(auto, unfolding(crate::specs::WindowAnswers::return_of))]
     fn retw(&mut self, n: u8) -> Return
         requires { n < 4 }
         ensures answer { result ≡ return_of (start self.old) (base self.old) n }

@@ -1,9 +1,9 @@
 use Rattle.std.proofs.Common.{◌≡◌, ℕ, ◌+◌, Option, Some, None, refl}
 use Rattle.xt_isa.specs.declared.Insn.{Insn}
-use Rattle.xt_isa.specs.Spelling.{length_of, spelled, fields_at}
+use Rattle.xt_isa.specs.Spelling.{length_of, spelled_insn, fields_at}
 use Rattle.xt_map.specs.Memory.{constant_byte}
 use Rattle.xt_codec.specs.declared.Decoded.TheVariants as decoded
-use Rattle.xt_codec.specs.Answers.{answer}
+use Rattle.xt_codec.specs.DecoderAnswers.{answer}
 use Rattle.xt_fetch.specs.Fetching.{Fetches, SpellsNothing, read_as}
 use Rattle.xt_codec.proofs.fetch.spelled_at.Goals as goal
 
@@ -19,14 +19,14 @@ pub returns-in-Good-clause-fetched : goal.returns-in-Good-clause-fetched
 returns-in-Good-clause-fetched g c =
     let code = constant_byte c.args.code.now in
     let pc = c.args.pc in
-    let spelling : decoded.Good c.in-Good.insn c.in-Good.len ≡ answer (code pc) (spelled (fields_at (code pc) (code (pc + 1)) (code (pc + 2)))) =
+    let spelling : decoded.Good c.in-Good.insn c.in-Good.len ≡ answer (code pc) (spelled_insn (fields_at (code pc) (code (pc + 1)) (code (pc + 2)))) =
     rw c.code_three-b0.ensures at c.in-Good.ensures.spelled in
-    (good (code pc) c.in-Good.len (spelled (fields_at (code pc) (code (pc + 1)) (code (pc + 2)))) c.in-Good.insn spelling, c.in-Good.ensures.fits)
+    (good (code pc) c.in-Good.len (spelled_insn (fields_at (code pc) (code (pc + 1)) (code (pc + 2)))) c.in-Good.insn spelling, c.in-Good.ensures.fits)
 
 pub returns-in-Illegal-clause-fetched : goal.returns-in-Illegal-clause-fetched
 returns-in-Illegal-clause-fetched g c =
     let code = constant_byte c.args.code.now in
     let pc = c.args.pc in
-    let spelling : decoded.Illegal ≡ answer (code pc) (spelled (fields_at (code pc) (code (pc + 1)) (code (pc + 2)))) =
+    let spelling : decoded.Illegal ≡ answer (code pc) (spelled_insn (fields_at (code pc) (code (pc + 1)) (code (pc + 2)))) =
     rw c.code_three-b0.ensures at c.in-Illegal.ensures.spelled in
-    illegal (code pc) (spelled (fields_at (code pc) (code (pc + 1)) (code (pc + 2)))) spelling
+    illegal (code pc) (spelled_insn (fields_at (code pc) (code (pc + 1)) (code (pc + 2)))) spelling

@@ -4,7 +4,7 @@ use Rattle.std.specs.Ordering.{nat_cmp}
 use Rattle.std.specs.BTreeMap.{get}
 use Rattle.xt_map.specs.Memory.{constant_byte}
 use Rattle.xt_counts.specs.Counts.{turns}
-use Rattle.xt_counts.specs.Kept.{IsSmall, past}
+use Rattle.xt_counts.specs.CountedTurns.{IsSmall, past}
 use Rattle.xt_counts.proofs.counting.counts_of.Given as goal
 
 abbrev pub invariant-loop-after : goal.invariant-loop-after

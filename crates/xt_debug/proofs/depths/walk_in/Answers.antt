@@ -7,7 +7,7 @@ use Rattle.xt_frames.specs.Verdict.{Known}
 use Rattle.xt_discipline.specs.Before.{judgement_before, known_before}
 use Rattle.xt_discipline.specs.Places.{IsThere}
 use Rattle.xt_discipline.specs.Verdicts.{are_yes, opened0, opened1}
-use Rattle.xt_handlers.specs.Answers.{handlers_of}
+use Rattle.xt_handlers.specs.CheckAnswers.{handlers_of}
 use Rattle.xt_core.proofs.Scheduled.{has_schedule}
 use Rattle.xt_debug.specs.Depths.{known_at}
 use Rattle.xt_debug.proofs.depths.walk_in.Goals as goal

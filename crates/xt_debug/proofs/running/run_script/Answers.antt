@@ -1,5 +1,5 @@
 use Rattle.std.proofs.Common.{◌≡◌, ◌<◌, ◌≤◌, ◌+◌, ◌++◌, false, true, length, take, get_or, refl, sym, ap, ◌∙◌, arith}
-use Rattle.xt_replay.specs.Shown.{ReplayState, moved}
+use Rattle.xt_replay.specs.Shown.{ReplayState, replay_at}
 use Rattle.xt_command_line.specs.declared.beyond.Beyond.TheVariants.{GoesOn}
 use Rattle.xt_debug.specs.declared.script.Command.TheVariants.{Go}
 use Rattle.xt_debug.specs.Scripts.{Outcome, after, outcome, script_outcome, stops}
@@ -24,7 +24,7 @@ loop-command-preserved c =
     = sym (ap (stops c.args.beyond) is) ∙ sym (c.stops.ensures done c.in_ok-led_beyond.ensures.2) ∙ c.if-stops.false in
     record {
       text = c.in_ok-led_beyond.ensures.0 ∙ ap (λ t. t ++ done.text) c.loop-command.invariant.text ∙ ap (λ (u : Outcome). o.text ++ u.text) is ∙ sym (ap (λ (u : Outcome). u.text) whole);
-      replay = c.in_ok-led_beyond.ensures.1 ∙ ap (λ (s : ReplayState). moved s done.position) same ∙ ap (λ (u : Outcome). moved r u.position) is ∙ sym (ap (λ (u : Outcome). moved r u.position) whole);
+      replay = c.in_ok-led_beyond.ensures.1 ∙ ap (λ (s : ReplayState). replay_at s done.position) same ∙ ap (λ (u : Outcome). replay_at r u.position) is ∙ sym (ap (λ (u : Outcome). replay_at r u.position) whole);
       whole = c.loop-command.invariant.whole ∙ goes_on c.args.beyond r.image r.run cs i r.position (Go 0 0) below on;
     }
 
@@ -47,7 +47,7 @@ returns-then-stops c =
     let all : script_outcome c.args.beyond r.image r.run cs r.position ≡ after o there
     = c.loop-command.invariant.whole ∙ ends_here c.args.beyond r.image r.run cs i r.position (Go 0 0) below on in (
       c.new.ensures ∙ c.in_ok-led_beyond.ensures.0 ∙ ap (λ t. t ++ done.text) c.loop-command.invariant.text ∙ ap (λ (u : Outcome). o.text ++ u.text) is ∙ sym (ap (λ (u : Outcome). u.text) all),
-      c.in_ok-led_beyond.ensures.1 ∙ ap (λ (s : ReplayState). moved s done.position) same ∙ ap (λ (u : Outcome). moved r u.position) is ∙ sym (ap (λ (u : Outcome). moved r u.position) all),
+      c.in_ok-led_beyond.ensures.1 ∙ ap (λ (s : ReplayState). replay_at s done.position) same ∙ ap (λ (u : Outcome). replay_at r u.position) is ∙ sym (ap (λ (u : Outcome). replay_at r u.position) all),
       led_beyond c.args.beyond there on ∙ sym (ap (λ (u : Outcome). u.beyond) all),
     )
 
@@ -60,6 +60,6 @@ returns c =
     let past_all : length cs ≤ i = omega (arith, c.loop-command-test.false, ap length c.as_slice-command-items.ensures) in
     let all = c.loop-command.invariant.whole ∙ all_done c.args.beyond r.image r.run cs i r.position past_all in (
       c.new-2.ensures ∙ c.loop-command.invariant.text ∙ sym (ap (λ (u : Outcome). u.text) all),
-      c.loop-command.invariant.replay ∙ sym (ap (λ (u : Outcome). moved r u.position) all),
+      c.loop-command.invariant.replay ∙ sym (ap (λ (u : Outcome). replay_at r u.position) all),
       sym (ap (λ (u : Outcome). u.beyond) all),
     )

@@ -1,6 +1,6 @@
 use Rattle.std.proofs.Common.{◌≡◌, suc, ◌+◌, ◌-◌, ◌≤◌, false, length, sym, ap, ◌∙◌, arith}
 use Rattle.xt_core.specs.Positions.{schedule_in}
-use Rattle.xt_replay.specs.Shown.{ReplayState, moved}
+use Rattle.xt_replay.specs.Shown.{ReplayState, replay_at}
 use Rattle.xt_debug.specs.Searches.{end_of, first_from, is_next}
 use Rattle.xt_debug.proofs.Found.{break_is, not_here}
 use Rattle.xt_debug.proofs.Sought.{sought}
@@ -12,7 +12,7 @@ loop-position-init c =
     let start = c.position-start.ensures.position in
     record {
       rest = ap (λ p. first_from (is_next r.image r.run c.args.core c.args.pc) (suc p) (end_of r.run - p)) start ∙ break_is r.image r.run c.args.core c.args.pc r.position;
-      replay = ap (moved r) (sym start);
+      replay = ap (replay_at r) (sym start);
     }
 
 pub loop-position-preserved : goal.loop-position-preserved
@@ -26,7 +26,7 @@ loop-position-preserved c =
     let end = c.end_of-end.ensures in
     let length_is : length (schedule_in here.run) ≡ length (schedule_in r.run) = ap (λ (s : ReplayState). length (schedule_in s.run)) same in
     let has : p + 1 ≤ length (schedule_in here.run) = omega (arith, below, end, length_is) in
-    let there : c.seek.new.self ≡ moved r (p + 1) = sought here c.seek.new.self (p + 1) (length (schedule_in here.run)) c.seek.result c.seek.ensures has ∙ ap (λ (s : ReplayState). moved s (p + 1)) same in
+    let there : c.seek.new.self ≡ replay_at r (p + 1) = sought here c.seek.new.self (p + 1) (length (schedule_in here.run)) c.seek.result c.seek.ensures has ∙ ap (λ (s : ReplayState). replay_at s (p + 1)) same in
     let next : suc p ≡ p + 1 = omega arith in
     let behind : suc (p + 1) ≡ suc (suc p) = omega arith in
     let more : end_of r.run - p ≡ suc (end_of r.run - (p + 1)) = omega (arith, below, end) in

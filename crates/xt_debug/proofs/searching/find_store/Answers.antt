@@ -1,6 +1,6 @@
 use Rattle.std.proofs.Common.{◌≡◌, suc, ◌+◌, ◌-◌, false, sym, ap, ◌∙◌, arith}
 use Rattle.std.specs.Option.{option_map}
-use Rattle.xt_replay.specs.Shown.{ReplayState, moved}
+use Rattle.xt_replay.specs.Shown.{ReplayState, replay_at}
 use Rattle.xt_debug.specs.Searches.{end_of, first_from, stores_word}
 use Rattle.xt_debug.proofs.Found.{not_here, watch_is}
 use Rattle.xt_debug.proofs.searching.find_store.Goals as goal
@@ -11,7 +11,7 @@ loop-position-init c =
     let start = c.position-start.ensures.position in
     record {
       rest = ap (λ p. option_map suc (first_from (stores_word r.image r.run c.args.addr) p (end_of r.run - p))) start ∙ watch_is r.image r.run c.args.addr r.position;
-      replay = ap (moved r) (sym start);
+      replay = ap (replay_at r) (sym start);
     }
 
 pub loop-position-preserved : goal.loop-position-preserved
@@ -27,5 +27,5 @@ loop-position-preserved c =
     let fails : test p ≡ false = sym (ap (λ (s : ReplayState). stores_word s.image s.run c.args.addr s.position) same) ∙ sym c.step_stores.ensures.stores ∙ c.if-step_stores.false in
     record {
       rest = sym (ap (option_map suc) (not_here test p (p + 1) (end_of r.run - p) (end_of r.run - (p + 1)) next more fails)) ∙ c.loop-position.invariant.rest;
-      replay = c.step_stores.ensures.moved ∙ ap (λ (s : ReplayState). moved s (s.position + 1)) same;
+      replay = c.step_stores.ensures.moved ∙ ap (λ (s : ReplayState). replay_at s (s.position + 1)) same;
     }

@@ -4,7 +4,7 @@ use Rattle.std.proofs.lemmas.Bool.Decides.{nat_tests}
 use Rattle.xt_map.specs.declared.access.Entry.{Entry}
 use Rattle.xt_trace.specs.declared.run.Run.{Run}
 use Rattle.xt_core.specs.Positions.{schedule_in}
-use Rattle.xt_replay.specs.Shown.{moved}
+use Rattle.xt_replay.specs.Shown.{replay_at}
 use Rattle.xt_debug.proofs.Sought.{sought}
 use Rattle.xt_debug.proofs.Stores.{none_made, some_made}
 use Rattle.xt_debug.proofs.searching.step_stores.Goals as goal
@@ -15,7 +15,7 @@ returns-then-before-after-clause-stores c =
     let b = c.served-before.result in
     let a = c.served-after.result in
     let has : c.args.next ≤ length (schedule_in r.run) = omega (arith, c.requires.next, c.requires.more) in
-    let there : c.seek.new.self ≡ moved r (r.position + 1) = sought r c.seek.new.self c.args.next (length (schedule_in r.run)) c.seek.result c.seek.ensures has ∙ ap (moved r) c.requires.next in
+    let there : c.seek.new.self ≡ replay_at r (r.position + 1) = sought r c.seek.new.self c.args.next (length (schedule_in r.run)) c.seek.result c.seek.ensures has ∙ ap (replay_at r) c.requires.next in
     let entries = c.as_slice.ensures ∙ ap (λ (u : Run). u.history) c.run.ensures.run in
     c.any_stores.ensures
     ∙ some_made r c.seek.new.self c.args.addr b a (take (a - b) (drop b c.as_slice.result.now)) there c.served-before.ensures.served c.served-after.ensures.entries
@@ -27,7 +27,7 @@ returns-else-before-after-clause-stores c =
     let b = c.served-before.result in
     let a = c.served-after.result in
     let has : c.args.next ≤ length (schedule_in r.run) = omega (arith, c.requires.next, c.requires.more) in
-    let there : c.seek.new.self ≡ moved r (r.position + 1) = sought r c.seek.new.self c.args.next (length (schedule_in r.run)) c.seek.result c.seek.ensures has ∙ ap (moved r) c.requires.next in
+    let there : c.seek.new.self ≡ replay_at r (r.position + 1) = sought r c.seek.new.self c.args.next (length (schedule_in r.run)) c.seek.result c.seek.ensures has ∙ ap (replay_at r) c.requires.next in
     let le : a ≤ b = c.if-before-after.false in
     let fails : nat_lt b a ≡ false = grind (arith, nat_tests) in
     fails ∙ none_made r c.seek.new.self c.args.addr b a there c.served-before.ensures.served c.served-after.ensures.entries le

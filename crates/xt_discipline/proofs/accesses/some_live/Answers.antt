@@ -2,7 +2,7 @@ use Rattle.std.proofs.Common.{◌≡◌, ℕ, ◌+◌, ◌-◌, Bool, false, ◌
 use Rattle.std.proofs.lemmas.Bool.{or_from}
 use Rattle.xt_frames.specs.Breaches.{some_byte}
 use Rattle.xt_discipline.specs.declared.bytes.Held.{Held}
-use Rattle.xt_discipline.specs.Bytes.{held_at, is_held}
+use Rattle.xt_discipline.specs.ByteMarks.{held_at, is_held}
 use Rattle.xt_discipline.proofs.Marks.{some_at}
 use Rattle.xt_discipline.proofs.accesses.some_live.Goals as goal
 

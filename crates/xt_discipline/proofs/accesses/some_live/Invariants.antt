@@ -1,6 +1,6 @@
 use Rattle.std.proofs.Common.{◌≡◌, ◌+◌, ◌-◌}
 use Rattle.xt_frames.specs.Breaches.{some_byte}
-use Rattle.xt_discipline.specs.Bytes.{held_at, is_held}
+use Rattle.xt_discipline.specs.ByteMarks.{held_at, is_held}
 use Rattle.xt_discipline.proofs.accesses.some_live.Given as goal
 
 abbrev pub invariant-loop-k : goal.invariant-loop-k

@@ -1,7 +1,7 @@
 use Rattle.std.proofs.Common.{◌≡◌, ℕ, ◌+◌, ◌-◌, Bool, false, ◌||◌, sym, ◌∙◌, ap}
 use Rattle.xt_frames.specs.Breaches.{some_byte}
 use Rattle.xt_discipline.specs.declared.bytes.Held.{Held}
-use Rattle.xt_discipline.specs.Bytes.{held_at}
+use Rattle.xt_discipline.specs.ByteMarks.{held_at}
 use Rattle.xt_discipline.proofs.Marks.{some_at}
 use Rattle.xt_discipline.proofs.accesses.some_stale.Goals as goal
 

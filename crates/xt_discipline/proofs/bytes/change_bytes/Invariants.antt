@@ -1,5 +1,5 @@
 use Rattle.std.proofs.Common.{◌≡◌, length}
-use Rattle.xt_discipline.specs.Bytes.{IsChanged}
+use Rattle.xt_discipline.specs.ByteMarks.{IsChanged}
 use Rattle.xt_discipline.proofs.bytes.change_bytes.Given as goal
 
 abbrev pub invariant-loop-k : goal.invariant-loop-k

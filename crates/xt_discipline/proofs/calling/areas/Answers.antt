@@ -1,5 +1,5 @@
 use Rattle.std.proofs.Common.{◌≡◌, ℕ, ◌+◌, ◌-◌, ◌∙◌, length, sym, ap, arith}
-use Rattle.xt_frames.specs.Frames.{known}
+use Rattle.xt_frames.specs.Frames.{value_or_zero}
 use Rattle.xt_discipline.proofs.Calls.{area_bytes, calls_within, sp_room, under_room}
 use Rattle.xt_discipline.proofs.calling.areas.Goals as goal
 
@@ -42,5 +42,5 @@ returns g c =
     record {
       called = c.requires.called;
       low = ap (λ (n : ℕ). n - 16) low;
-      bytes = area_bytes c.args.hi (known f.seen 1) f.frames c.callers-depth.result c.from-n.result c.under-top.result c.newest_sp.result c.callers-depth.ensures.depth c.requires.called low (c.from-n.ensures ∙ c.windows.ensures) c.under-top.ensures.first c.under-top.ensures.more;
+      bytes = area_bytes c.args.hi (value_or_zero f.seen 1) f.frames c.callers-depth.result c.from-n.result c.under-top.result c.newest_sp.result c.callers-depth.ensures.depth c.requires.called low (c.from-n.ensures ∙ c.windows.ensures) c.under-top.ensures.first c.under-top.ensures.more;
     }

@@ -1,6 +1,6 @@
 use Rattle.std.proofs.Common.{◌≡◌, ◌≤◌, length, true, refl, sym, ◌∙◌, arith}
 use Rattle.xt_frames.specs.Verdict.{opening_known}
-use Rattle.xt_frames.specs.Walked.{opened}
+use Rattle.xt_frames.specs.Walked.{opening_walked}
 use Rattle.xt_discipline.specs.Schedules.{schedule_in}
 use Rattle.xt_discipline.specs.Verdicts.{are_yes}
 use Rattle.xt_discipline.proofs.Lengths.{schedule_short}
@@ -19,8 +19,8 @@ pub returns : goal.returns
 returns g c =
     let image = c.args.image.now in
     let o = c.args.run.now.options in
-    let a = opened 0 image.entry o in
-    let b = opened 1 o.entry1 o in
+    let a = opening_walked 0 image.entry o in
+    let b = opening_walked 1 o.entry1 o in
     let begun = c.in_ok-walk.ensures in
     let good : are_yes c.args.handlers.now ≡ true = sym c.are_yes.ensures ∙ c.if-not-are_yes.false in
     judged_is c.in_ok-walk.walk c.in_ok-code.code image c.args.run.now (schedule_in c.args.run.now) (g.R.Records.left c.args.records0.now) (g.R.Records.left c.args.records1.now) c.judge.result (are_yes c.args.handlers.now)

@@ -1,5 +1,5 @@
 use Rattle.std.proofs.Common.{◌≡◌, ℕ, ◌-◌, ◌∙◌, subst}
-use Rattle.xt_discipline.specs.Bytes.{IsChanged}
+use Rattle.xt_discipline.specs.ByteMarks.{IsChanged}
 use Rattle.xt_discipline.specs.declared.bytes.Change.TheVariants.{Enters}
 use Rattle.xt_discipline.proofs.Opens.{are_opened}
 use Rattle.xt_discipline.proofs.walk.open_stacks.Goals as goal

@@ -1,7 +1,7 @@
 use Rattle.std.proofs.Common.{◌≡◌, List, replicate, sym, ◌∙◌, subst}
 use Rattle.std.proofs.lemmas.List.{take_at}
 use Rattle.xt_discipline.specs.declared.bytes.Held.{Held}
-use Rattle.xt_discipline.specs.Bytes.{AreOpened, nothing}
+use Rattle.xt_discipline.specs.ByteMarks.{AreOpened, nothing}
 use Rattle.xt_discipline.proofs.Opens.{len_back, none_held}
 use Rattle.xt_discipline.proofs.walk.opening_marks.Goals as goal
 

@@ -1,5 +1,5 @@
 use Rattle.std.proofs.Common.{◌≡◌, replicate}
-use Rattle.xt_discipline.specs.Bytes.{nothing}
+use Rattle.xt_discipline.specs.ByteMarks.{nothing}
 use Rattle.xt_discipline.proofs.walk.unmarked.Given as goal
 
 abbrev pub invariant-loop-byte : goal.invariant-loop-byte

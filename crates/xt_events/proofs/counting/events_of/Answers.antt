@@ -4,7 +4,7 @@ use Rattle.xt_trace.specs.declared.record.StepRecord.{StepRecord}
 use Rattle.xt_trace.specs.Left.{first_of, rest_of}
 use Rattle.xt_events.specs.declared.event.Event.{Event}
 use Rattle.xt_events.specs.Events.{events_in}
-use Rattle.xt_events.specs.Noted.{HasRoom, noted}
+use Rattle.xt_events.specs.Noted.{HasRoom, events_after_record}
 use Rattle.xt_events.proofs.Apart.{counted_on, next_of, none_next, room_at}
 use Rattle.xt_events.proofs.Following.{rest_past}
 use Rattle.xt_events.proofs.counting.events_of.Goals as goal
@@ -27,6 +27,6 @@ loop-step-preserved g c =
     let k = c.loop-step.step in
     let first = c.in-Some.ensures.first ∙ ap first_of c.loop-step.invariant.left in
     record {
-      counted = c.in_ok-note-in-Some.ensures ∙ ap (noted k c.in-Some.r) c.loop-step.invariant.counted ∙ sym (counted_on xs k c.in-Some.r (next_of xs k c.in-Some.r first));
+      counted = c.in_ok-note-in-Some.ensures ∙ ap (events_after_record k c.in-Some.r) c.loop-step.invariant.counted ∙ sym (counted_on xs k c.in-Some.r (next_of xs k c.in-Some.r first));
       left = c.in-Some.ensures.rest ∙ ap rest_of c.loop-step.invariant.left ∙ rest_past k xs;
     }

@@ -5,7 +5,7 @@ use Rattle.xt_special.specs.Exceptions.{after_double, after_exception, after_gen
 use Rattle.xt_special.specs.Interrupts.{after_high_level}
 use Rattle.xt_special.specs.Numbers as number
 use Rattle.xt_special.specs.WindowExceptions.{after_window_exception}
-use Rattle.xt_flow.specs.Laws.{StandsAtVector}
+use Rattle.xt_flow.specs.FlowLaws.{StandsAtVector}
 use Rattle.xt_flow.specs.Starts.{vector_offsets}
 use Rattle.xt_flow.proofs.laws.vectors_are_entered.Goals as goal
 

@@ -1,6 +1,6 @@
 use Rattle.std.proofs.Common.{◌≡◌, ◌+◌, ◌≤◌, ◌∙◌, sym, ap, true, false, drop, arith}
 use Rattle.std.proofs.lemmas.List.{take_rest}
-use Rattle.xt_flow.specs.Kept.{marks_of}
+use Rattle.xt_flow.specs.FlowTables.{marks_of}
 use Rattle.xt_flow.specs.Printing.{is_byte, run}
 use Rattle.xt_flow.proofs.Runs.{run_goes_on, run_has_all, run_has_most, run_stops}
 use Rattle.xt_flow.proofs.listing.byte_run.Goals as goal

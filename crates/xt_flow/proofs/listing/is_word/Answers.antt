@@ -1,5 +1,5 @@
 use Rattle.std.proofs.Common.{◌≡◌, ◌≤◌, ◌∙◌, true, sym, arith}
-use Rattle.xt_flow.specs.Kept.{first_place, is_marked}
+use Rattle.xt_flow.specs.FlowTables.{first_place, is_marked}
 use Rattle.xt_flow.proofs.Tables.{marked_high}
 use Rattle.xt_flow.proofs.listing.is_word.Goals as goal
 

@@ -1,8 +1,8 @@
 use Rattle.std.proofs.Common.{◌≡◌, ◌+◌, ◌++◌, ◌<◌, ◌∙◌, ap, length, length-drop, string_bytes, rules, arith}
 use Rattle.std.proofs.lemmas.List.{take_rest}
 use Rattle.std.proofs.lemmas.Bool.Decides.{nat_tests}
-use Rattle.xt_flow.specs.Kept.{marks_of}
-use Rattle.xt_flow.specs.Printing.{first_line, flow_lines, shown}
+use Rattle.xt_flow.specs.FlowTables.{marks_of}
+use Rattle.xt_flow.specs.Printing.{first_line, flow_lines, first_line_length}
 use Rattle.xt_flow.proofs.Walks.{no_line_left, one_line_more}
 use Rattle.xt_flow.proofs.listing.push_code.Goals as goal
 
@@ -11,7 +11,7 @@ loop-rest-preserved c =
     let m = marks_of c.args.segments.now c.args.visited.now.starts.items c.args.visited.now.reads.items in
     let n = c.in_ok-shown.shown in
     let rest = c.loop-rest.rest.now in
-    let is : n ≡ shown m c.loop-rest.address rest = c.in_ok-shown.ensures.shown in
+    let is : n ≡ first_line_length m c.loop-rest.address rest = c.in_ok-shown.ensures.shown in
     let few = c.in_ok-shown.ensures.few in
     let some : 0 < length rest = omega (arith, few) in
     let printed : string_bytes c.push_first_line.new.out ≡ string_bytes c.loop-rest.out ++ first_line m c.loop-rest.address rest = search rules in

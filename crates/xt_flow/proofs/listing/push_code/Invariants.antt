@@ -1,6 +1,6 @@
 use Rattle.std.proofs.Common.{◌≡◌, ◌++◌, ◌+◌, ◌<◌, ◌^◌, length}
 use Rattle.std.specs.Prelude.{string_bytes}
-use Rattle.xt_flow.specs.Kept.{marks_of}
+use Rattle.xt_flow.specs.FlowTables.{marks_of}
 use Rattle.xt_flow.specs.Printing.{flow_lines}
 use Rattle.xt_flow.proofs.listing.push_code.Given as goal
 

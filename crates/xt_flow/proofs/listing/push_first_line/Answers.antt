@@ -1,6 +1,6 @@
 use Rattle.std.proofs.Common.{◌≡◌, ◌<◌, ◌∙◌, sym, ap, false, arith}
 use Rattle.std.proofs.lemmas.Bool.{lt-leb}
-use Rattle.xt_flow.specs.Kept.{is_marked, marks_of}
+use Rattle.xt_flow.specs.FlowTables.{is_marked, marks_of}
 use Rattle.xt_flow.specs.Printing.{byte_run, is_byte, is_space, is_word, zero_run}
 use Rattle.xt_flow.proofs.Runs.{run_some}
 use Rattle.xt_flow.proofs.Walks.{byte_left}

@@ -1,7 +1,7 @@
 use Rattle.std.proofs.Common.{◌≡◌, ◌++◌, drop}
 use Rattle.std.specs.Prelude.{string_bytes}
 use Rattle.std.specs.List.{enumerate_from, flat_map}
-use Rattle.xt_flow.specs.Kept.{marks_of}
+use Rattle.xt_flow.specs.FlowTables.{marks_of}
 use Rattle.xt_flow.specs.Printing.{segment_text}
 use Rattle.xt_flow.proofs.listing.text_of.Given as goal
 

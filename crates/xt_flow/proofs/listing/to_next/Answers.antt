@@ -1,5 +1,5 @@
 use Rattle.std.proofs.Common.{◌∙◌, sym}
-use Rattle.xt_flow.specs.Kept.{is_marked}
+use Rattle.xt_flow.specs.FlowTables.{is_marked}
 use Rattle.xt_flow.proofs.Runs.{next_goes_on}
 use Rattle.xt_flow.proofs.listing.to_next.Goals as goal
 

@@ -1,5 +1,5 @@
 use Rattle.std.proofs.Common.{◌≡◌, ◌+◌, ◌-◌}
-use Rattle.xt_flow.specs.Kept.{is_marked}
+use Rattle.xt_flow.specs.FlowTables.{is_marked}
 use Rattle.xt_flow.specs.Printing.{to_next}
 use Rattle.xt_flow.proofs.listing.to_next.Given as goal
 

@@ -1,6 +1,6 @@
 use Rattle.std.proofs.Common.{◌≡◌, ◌+◌, ◌∙◌, sym, ap, true, false, drop, length, arith}
 use Rattle.std.proofs.lemmas.List.{take_rest}
-use Rattle.xt_flow.specs.Kept.{marks_of}
+use Rattle.xt_flow.specs.FlowTables.{marks_of}
 use Rattle.xt_flow.specs.Printing.{is_zero, run}
 use Rattle.xt_flow.proofs.Runs.{run_goes_on, run_has_all, run_stops}
 use Rattle.xt_flow.proofs.listing.zero_run.Goals as goal

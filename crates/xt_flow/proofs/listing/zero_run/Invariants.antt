@@ -1,5 +1,5 @@
 use Rattle.std.proofs.Common.{◌≡◌, ◌+◌, ◌-◌, length, drop}
-use Rattle.xt_flow.specs.Kept.{marks_of}
+use Rattle.xt_flow.specs.FlowTables.{marks_of}
 use Rattle.xt_flow.specs.Printing.{is_zero, run}
 use Rattle.xt_flow.proofs.listing.zero_run.Given as goal
 

@@ -1,5 +1,5 @@
 use Rattle.std.proofs.Common.{◌≡◌, arith}
-use Rattle.xt_codec.specs.Answers.{answer}
+use Rattle.xt_codec.specs.DecoderAnswers.{answer}
 use Rattle.xt_codec.specs.declared.Decoded.TheVariants as decoded
 use Rattle.xt_disasm.specs.Listing.{byte_at}
 use Rattle.xt_disasm.proofs.Decoding.{at_front, front-good, front-illegal, front-short}

@@ -2,7 +2,7 @@ use Rattle.std.proofs.Common.{◌≡◌, ◌+◌, ◌++◌, ◌<◌, ◌∙◌, 
 use Rattle.std.proofs.lemmas.List.{take_rest}
 use Rattle.std.proofs.lemmas.Bool.Decides.{nat_tests}
 use Rattle.std.specs.Prelude.{option_map}
-use Rattle.xt_flow.specs.Kept.{code_reading}
+use Rattle.xt_flow.specs.FlowTables.{code_reading}
 use Rattle.xt_flow.specs.Sources.{source_line, source_lines}
 use Rattle.xt_flow.proofs.Sourced.{code_shows, no_line_left, one_line_more}
 use Rattle.xt_flow.proofs.texts.push_code.Goals as goal

@@ -1,6 +1,6 @@
 use Rattle.std.proofs.Common.{◌≡◌, ◌++◌, ◌+◌, ◌<◌, ◌^◌, length}
 use Rattle.std.specs.Prelude.{option_map}
-use Rattle.xt_flow.specs.Kept.{code_reading}
+use Rattle.xt_flow.specs.FlowTables.{code_reading}
 use Rattle.xt_flow.specs.Sources.{source_lines}
 use Rattle.xt_flow.proofs.texts.push_code.Given as goal
 

@@ -1,7 +1,7 @@
 use Rattle.std.proofs.Common.{◌≡◌, ◌++◌, drop}
 use Rattle.std.specs.Prelude.{option_map}
 use Rattle.std.specs.List.{enumerate_from, flat_map}
-use Rattle.xt_flow.specs.Kept.{code_reading}
+use Rattle.xt_flow.specs.FlowTables.{code_reading}
 use Rattle.xt_flow.specs.Sources.{entry_line, segment_source}
 use Rattle.xt_flow.proofs.texts.text_of.Given as goal
 

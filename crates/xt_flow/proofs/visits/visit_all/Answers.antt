@@ -1,6 +1,6 @@
 use Rattle.std.proofs.Common.{◌≡◌, ◌-◌, [], ◌∙◌, sym, ap, subst, take}
 use mathlib.Core.List.{append-nil}
-use Rattle.xt_flow.specs.Kept.{table_size, unmarked}
+use Rattle.xt_flow.specs.FlowTables.{table_size, no_marks}
 use Rattle.xt_flow.proofs.Reaching.{Going, begins, ends}
 use Rattle.xt_flow.proofs.Steps.{visit_goes_on, visit_is_less}
 use Rattle.xt_flow.proofs.visits.visit_all.Goals as goal
@@ -9,8 +9,8 @@ pub loop-at-init : goal.loop-at-init
 loop-at-init c =
     let image = c.args.image.now in
     subst (λ s. Going image c.args.vecbase c.args.entry1 c.args.roots.now s c.in_ok-empty_table-2.field-0.items c.in_ok-pending.pending.items) (sym c.in_ok-empty_table.ensures)
-    (subst (λ r. Going image c.args.vecbase c.args.entry1 c.args.roots.now (unmarked table_size) r c.in_ok-pending.pending.items) (sym c.in_ok-empty_table-2.ensures)
-    (subst (λ p. Going image c.args.vecbase c.args.entry1 c.args.roots.now (unmarked table_size) (unmarked table_size) p) (sym c.in_ok-pending.ensures)
+    (subst (λ r. Going image c.args.vecbase c.args.entry1 c.args.roots.now (no_marks table_size) r c.in_ok-pending.pending.items) (sym c.in_ok-empty_table-2.ensures)
+    (subst (λ p. Going image c.args.vecbase c.args.entry1 c.args.roots.now (no_marks table_size) (no_marks table_size) p) (sym c.in_ok-pending.ensures)
     (begins image c.args.vecbase c.args.entry1 c.args.roots.now)))
 
 pub loop-at-smaller : goal.loop-at-smaller

@@ -1,5 +1,5 @@
 use Rattle.std.proofs.Common.{sym, ◌∙◌}
-use Rattle.xt_frames.specs.Parts.{state_at}
+use Rattle.xt_frames.specs.KeptFrameState.{state_at}
 use Rattle.xt_frames.specs.Walked.{bounds_of}
 use Rattle.xt_frames.proofs.TestRows.{alone, quiet}
 use Rattle.xt_frames.proofs.breach.breach_of.Goals as goal

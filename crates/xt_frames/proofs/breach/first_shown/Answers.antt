@@ -4,7 +4,7 @@ use Rattle.std.proofs.lemmas.List.{drop_more, drop_all}
 use Rattle.xt_frames.specs.declared.kinds.BreachKind.TheVariants as breach
 use Rattle.xt_frames.specs.declared.breach.Tested.{Tested}
 use Rattle.xt_frames.specs.Breaches.{first_shown}
-use Rattle.xt_frames.specs.Parts.{shown_tests}
+use Rattle.xt_frames.specs.KeptFrameState.{shown_tests}
 use Rattle.xt_frames.proofs.breach.first_shown.Goals as goal
 
 abbrev nothing : Tested

@@ -1,6 +1,6 @@
 use Rattle.std.proofs.Common.{◌≡◌, drop}
 use Rattle.xt_frames.specs.Breaches.{first_shown}
-use Rattle.xt_frames.specs.Parts.{shown_tests}
+use Rattle.xt_frames.specs.KeptFrameState.{shown_tests}
 use Rattle.xt_frames.proofs.breach.first_shown.Given as goal
 
 abbrev pub invariant-loop-t : goal.invariant-loop-t

@@ -1,7 +1,7 @@
 use Rattle.std.proofs.Common.{Bool, not, Option, sym, ◌∙◌, ap, cond, ◌&&◌}
 use Rattle.xt_frames.specs.declared.holes.Nested.{Nested}
 use Rattle.xt_frames.specs.Breaches.{reads_none_in, reads_no_mark, reads_unset}
-use Rattle.xt_frames.specs.Parts.{state_at}
+use Rattle.xt_frames.specs.KeptFrameState.{state_at}
 use Rattle.xt_frames.specs.Nesting.{ends_nested}
 use Rattle.xt_frames.proofs.breach.reads_none.Goals as goal
 

@@ -1,5 +1,5 @@
 use Rattle.std.proofs.Common.{ℕ, Option, sym, subst}
-use Rattle.xt_rows.specs.Laws.{IsRegister}
+use Rattle.xt_rows.specs.RowLaws.{IsRegister}
 use Rattle.xt_rows.proofs.Registers.{reads_registers}
 use Rattle.xt_frames.proofs.breach.reads_unset.Goals as goal
 

@@ -1,6 +1,6 @@
 use Rattle.std.proofs.Common.{◌≡◌, ◌-◌, ap, ◌∙◌, sym, arith, length}
 use Rattle.xt_frames.specs.Backtrace.{a0_in}
-use Rattle.xt_frames.specs.Parts.{frames_of}
+use Rattle.xt_frames.specs.KeptFrameState.{frames_of}
 use Rattle.xt_frames.proofs.Newest.{nobody, a0_in-newest, a0_of_caller}
 use Rattle.xt_frames.proofs.callers.a0_in.Goals as goal
 

@@ -1,6 +1,6 @@
 use Rattle.std.proofs.Common.{sym, ◌∙◌, ap}
 use Rattle.xt_frames.specs.declared.view.Call.{Call}
-use Rattle.xt_frames.specs.Parts.{frames_after, frames_of}
+use Rattle.xt_frames.specs.KeptFrameState.{frames_after, frames_of}
 use Rattle.xt_frames.proofs.Kept.{frames_popped}
 use Rattle.xt_frames.proofs.Newest.{frames_snoc}
 use Rattle.xt_frames.proofs.callers.change.Goals as goal

@@ -1,5 +1,5 @@
 use Rattle.std.proofs.Common.{◌≡◌, ◌-◌, suc, ap, arith, length}
-use Rattle.xt_frames.specs.Parts.{newest_of}
+use Rattle.xt_frames.specs.KeptFrameState.{newest_of}
 use Rattle.xt_frames.proofs.Newest.{nobody, frames_last, frames_none, caller_moves}
 use Rattle.xt_frames.proofs.callers.newest_of.Goals as goal
 

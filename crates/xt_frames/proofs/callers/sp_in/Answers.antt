@@ -1,6 +1,6 @@
 use Rattle.std.proofs.Common.{◌≡◌, ◌-◌, ap, ◌∙◌, sym, arith, length}
 use Rattle.xt_frames.specs.Walked.{sp_in}
-use Rattle.xt_frames.specs.Parts.{frames_of}
+use Rattle.xt_frames.specs.KeptFrameState.{frames_of}
 use Rattle.xt_frames.proofs.Newest.{nobody, sp_in-newest, sp_of_caller, caller_moves}
 use Rattle.xt_frames.proofs.callers.sp_in.Goals as goal
 

@@ -2,15 +2,15 @@ use Rattle.std.specs.Prelude.{is_some}
 use Rattle.std.proofs.Common.{◌≡◌, ◌&&◌, ℕ, Bool, true, false, not, List, Option, None, refl, sym, ◌∙◌, ap, cond, subst}
 use Rattle.std.proofs.lemmas.Bool.{and_left, and_right}
 use Rattle.xt_map.specs.Memory.{constant_byte}
-use Rattle.xt_fetch.specs.Fetching.{fetched}
+use Rattle.xt_fetch.specs.Fetching.{fetch_at}
 use Rattle.xt_frames.specs.declared.kinds.BreachKind.{BreachKind}
 use Rattle.xt_frames.specs.declared.holes.Nested.{Nested}
-use Rattle.xt_frames.specs.Frames.{FrameState, known}
-use Rattle.xt_frames.specs.FrameStep.{FrameTurn, laid}
+use Rattle.xt_frames.specs.Frames.{FrameState, value_or_zero}
+use Rattle.xt_frames.specs.FrameStep.{FrameTurn, with_inputs}
 use Rattle.xt_frames.specs.Breaches.{fresh_after, inputs_of, laid_breach}
 use Rattle.xt_frames.specs.Judging.{value_in}
 use Rattle.xt_frames.specs.Nesting.{begins, current, frame_step, is_nesting}
-use Rattle.xt_frames.specs.Parts.{state_at}
+use Rattle.xt_frames.specs.KeptFrameState.{state_at}
 use Rattle.xt_frames.specs.Stacks.{Stack, Stays}
 use Rattle.xt_frames.specs.Walked.{bounds_of}
 use Rattle.xt_frames.proofs.Inside.{as_plain, fresh_begun}
@@ -28,17 +28,17 @@ returns-then-is_nesting-clause-done c = λ frames live stale k.
     ∙ (ap (λ (b : Bool). b && not (is_some f.nested)) (sym c.is_nesting.ensures ∙ c.if-is_nesting.true)
     ∙ ap (λ (o : Option Nested). not (is_some o)) c.in-None.is) in
     let none : Option BreachKind = None in
-    let B : Bool → Option BreachKind = λ b. cond b none (laid_breach (bounds_of case.limits) case.fresh code live stale rec (laid inp (current f))) in
+    let B : Bool → Option BreachKind = λ b. cond b none (laid_breach (bounds_of case.limits) case.fresh code live stale rec (with_inputs inp (current f))) in
     let T : Bool → FrameTurn = λ b. frame_step code b (value_in rec.write) inp f in
-    let F : Bool → Bool = λ b. fresh_after case.fresh (T b).kind (fetched code (current f).control.pc) (laid inp (current f)).control.ps (current (T b).after).control.ps in
-    (ap B starts, c.begin.ensures.state frames ∙ sym (ap (λ (b : Bool). (T b).after) starts), fresh_begun case.fresh (fetched code (current f).control.pc) (laid inp (current f)) (laid inp f) ∙ sym (ap F starts))
+    let F : Bool → Bool = λ b. fresh_after case.fresh (T b).kind (fetch_at code (current f).control.pc) (with_inputs inp (current f)).control.ps (current (T b).after).control.ps in
+    (ap B starts, c.begin.ensures.state frames ∙ sym (ap (λ (b : Bool). (T b).after) starts), fresh_begun case.fresh (fetch_at code (current f).control.pc) (with_inputs inp (current f)) (with_inputs inp f) ∙ sym (ap F starts))
 
 pub returns-then-is_nesting-clause-kept : goal.returns-then-is_nesting-clause-kept
 returns-then-is_nesting-clause-kept c = λ frames live stale k on.
     let limits = c.args.case.now.limits in
     let seen : c.begin.new.view.seen ≡ c.args.view.now.seen = ap (λ (s : FrameState). s.seen) (c.begin.ensures.state frames) in
     let P : List (Option ℕ) → Type 0 = λ xs. Stack limits.lo limits.hi xs frames in
-    (subst P (sym seen) on, Stays refl (ap (λ (xs : List (Option ℕ)). known xs 1) seen))
+    (subst P (sym seen) on, Stays refl (ap (λ (xs : List (Option ℕ)). value_or_zero xs 1) seen))
 
 pub returns-else-nested-clause-done : goal.returns-else-nested-clause-done
 returns-else-nested-clause-done c = λ frames live stale k.

@@ -1,10 +1,10 @@
 use Rattle.std.proofs.Common.{◌≡◌, ℕ, List, ◌<◌, Bool, None, sym, ◌∙◌, ap, subst}
 use Rattle.xt_map.specs.Memory.{constant_byte}
-use Rattle.xt_fetch.specs.Fetching.{fetched}
+use Rattle.xt_fetch.specs.Fetching.{fetch_at}
 use Rattle.xt_frames.specs.Frames.{FrameState}
-use Rattle.xt_frames.specs.FrameStep.{FrameTurn, laid, laid_step}
+use Rattle.xt_frames.specs.FrameStep.{FrameTurn, with_inputs, step_with_inputs}
 use Rattle.xt_frames.specs.Breaches.{fresh_after, inputs_of, laid_breach}
-use Rattle.xt_frames.specs.Parts.{IsKindOf, state_at, turn_as}
+use Rattle.xt_frames.specs.KeptFrameState.{IsKindOf, state_at, turn_as}
 use Rattle.xt_frames.specs.Stacks.{Moves, Stack}
 use Rattle.xt_frames.specs.Walked.{bounds_of}
 use Rattle.xt_frames.proofs.StackSteps.{keeps_stack, moves_as, moves_frames, moves_unset}
@@ -40,17 +40,17 @@ returns-clause-done c = λ frames live stale k.
     let over = c.lay.ensures frames h in
     let turn = c.step-step.ensures.turn frames h k.newest in
     let found = c.breach_of.ensures code frames live stale k c.plan-plan.ensures.plan turn in
-    let past = turn ∙ ap (laid_step code rec.reply) over in
+    let past = turn ∙ ap (step_with_inputs code rec.reply) over in
     let K : StepKind → Type 0 = λ n. IsKindOf c.plan-plan.result n in
     let kind : K c.step-step.result.kind = subst K (sym (ap (λ (u : FrameTurn). u.kind) turn)) (kind_planned c.plan-plan.result code rec.reply laid_f c.plan-plan.ensures.plan) in
     let numbers = c.give_numbers.ensures code c.lay.new.self.control c.plan-plan.ensures.plan kind in
     let U : List Bool → FrameState → FrameState = λ unset s. record s { unset = unset } in
-    let N : FrameTurn → FrameState → FrameState = λ u g. U (unset_after u.kind (fetched code g.control.pc) h.unset) u.after in
+    let N : FrameTurn → FrameState → FrameState = λ u g. U (unset_after u.kind (fetch_at code g.control.pc) h.unset) u.after in
     let after = ap (λ (unset : List Bool). U unset (turn_as c.step-step.result frames h c.step-step.new.self).after) numbers
-    ∙ (ap (λ (u : FrameTurn). N u laid_f) past ∙ ap (N (laid_step code rec.reply (laid inp f))) over) in
+    ∙ (ap (λ (u : FrameTurn). N u laid_f) past ∙ ap (N (step_with_inputs code rec.reply (with_inputs inp f))) over) in
     let step = step_plain code rec f plain in
-    let F : FrameTurn → FrameState → Bool = λ u g. fresh_after case.fresh u.kind (fetched code g.control.pc) g.control.ps u.after.control.ps in
-    let fresh = c.fresh_after.ensures ∙ (ap (λ (u : FrameTurn). F u laid_f) past ∙ ap (F (laid_step code rec.reply (laid inp f))) over) in
+    let F : FrameTurn → FrameState → Bool = λ u g. fresh_after case.fresh u.kind (fetch_at code g.control.pc) g.control.ps u.after.control.ps in
+    let fresh = c.fresh_after.ensures ∙ (ap (λ (u : FrameTurn). F u laid_f) past ∙ ap (F (step_with_inputs code rec.reply (with_inputs inp f))) over) in
     (breach_plain (bounds_of case.limits) case.fresh code live stale rec f plain ∙ (ap B (sym over) ∙ (sym found ∙ c.in_default.is)), after ∙ sym (ap (λ (u : FrameTurn). u.after) step), fresh ∙ sym (fresh_plain case.fresh code rec f plain (sym (ap (λ (u : FrameTurn). u.after.nested) past) ∙ plain)))
 
 pub returns-clause-kept : goal.returns-clause-kept

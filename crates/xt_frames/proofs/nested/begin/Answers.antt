@@ -5,8 +5,8 @@ use Rattle.xt_special.specs.declared.ps.Ps.{Ps}
 use Rattle.xt_frames.specs.Frames.{FrameState}
 use Rattle.xt_frames.specs.FrameStep.{FrameTurn}
 use Rattle.xt_frames.specs.Marks.{own_marks}
-use Rattle.xt_frames.specs.Nesting.{begun, keeping}
-use Rattle.xt_frames.specs.Parts.{state_at}
+use Rattle.xt_frames.specs.Nesting.{nested_entry, with_kept_frame}
+use Rattle.xt_frames.specs.KeptFrameState.{state_at}
 use Rattle.xt_frames.proofs.nested.begin.Goals as goal
 
 pub returns-clause-state : goal.returns-clause-state
@@ -16,9 +16,9 @@ returns-clause-state c = λ frames.
     let outer = state_at frames h c.lay.new.self in
     let inner = state_at frames h c.interrupt-step.new.self in
     let B : ℕ → Ps → FrameState → FrameState = λ pc ps s. record s { unset = set (set h.unset 181 true) 197 true; nested = Some (record { pc = pc; seen = replicate 16 None; ps = ps; marks = own_marks; saved = replicate 256 None }) } in
-    let A : FrameState → FrameState → FrameState = λ g a. B a.control.pc a.control.ps (keeping g a) in
+    let A : FrameState → FrameState → FrameState = λ g a. B a.control.pc a.control.ps (with_kept_frame g a) in
     ap (B c.pc.result c.ps.result) (c.keep.ensures frames h)
-    ∙ (ap (λ (pc : ℕ). B pc c.ps.result (keeping outer inner)) c.pc.ensures
-    ∙ (ap (λ (ps : Ps). B inner.control.pc ps (keeping outer inner)) c.ps.ensures.value
+    ∙ (ap (λ (pc : ℕ). B pc c.ps.result (with_kept_frame outer inner)) c.pc.ensures
+    ∙ (ap (λ (ps : Ps). B inner.control.pc ps (with_kept_frame outer inner)) c.ps.ensures.value
     ∙ (ap (λ (u : FrameTurn). A outer u.after) (c.interrupt-step.ensures.turn frames h)
-    ∙ ap (λ (g : FrameState). (begun g).after) over)))
+    ∙ ap (λ (g : FrameState). (nested_entry g).after) over)))

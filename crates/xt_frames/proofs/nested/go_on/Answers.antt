@@ -7,8 +7,8 @@ use Rattle.xt_frames.specs.declared.holes.Nested.{Nested}
 use Rattle.xt_frames.specs.Frames.{FrameState}
 use Rattle.xt_frames.specs.FrameStep.{FrameTurn}
 use Rattle.xt_frames.specs.Marks.{unset_written}
-use Rattle.xt_frames.specs.Nesting.{ends_nested, keeping, nested_fetched}
-use Rattle.xt_frames.specs.Parts.{state_at, turn_as}
+use Rattle.xt_frames.specs.Nesting.{ends_nested, with_kept_frame, nested_fetched}
+use Rattle.xt_frames.specs.KeptFrameState.{state_at, turn_as}
 use Rattle.xt_frames.proofs.nested.go_on.Goals as goal
 
 pub returns-else-ends_nested-clause-state : goal.returns-else-ends_nested-clause-state
@@ -24,7 +24,7 @@ returns-else-ends_nested-clause-state c = λ frames v w at value fetched kept.
     let goes : ends_nested i ≡ false = sym c.ends_nested.ensures ∙ c.if-ends_nested.false in
     let B : List Bool → Nested → FrameState → FrameState = λ unset x s. record s { unset = unset; nested = Some x } in
     ap (B next.new.unset next.result) kept
-    ∙ (ap (λ (unset : List Bool). B unset next.result (keeping f inner)) next.ensures.unset
-    ∙ (ap (λ (x : Nested). B (unset_written i c.args.nested.now.marks h.unset) x (keeping f inner)) (next.ensures.nested frames h)
+    ∙ (ap (λ (unset : List Bool). B unset next.result (with_kept_frame f inner)) next.ensures.unset
+    ∙ (ap (λ (x : Nested). B (unset_written i c.args.nested.now.marks h.unset) x (with_kept_frame f inner)) (next.ensures.nested frames h)
     ∙ sym (ap (λ (x : Fetched). (nested_fetched x value c.args.nested.now f u).after) is
     ∙ ap (λ (t : FrameTurn). t.after) (cond-false (ends_nested i) _ _ goes))))

@@ -1,14 +1,14 @@
 use Rattle.std.proofs.Common.{◌≡◌, ℕ, Bool, List, Option, refl, sym, ◌∙◌, ap, subst}
 use Rattle.xt_map.specs.Memory.{constant_byte}
-use Rattle.xt_fetch.specs.Fetching.{fetched}
+use Rattle.xt_fetch.specs.Fetching.{fetch_at}
 use Rattle.xt_special.specs.declared.ps.Ps.{Ps}
 use Rattle.xt_trace.specs.declared.record.StepKind.{StepKind}
-use Rattle.xt_frames.specs.Frames.{FrameState, known}
-use Rattle.xt_frames.specs.FrameStep.{FrameTurn, laid, laid_step}
+use Rattle.xt_frames.specs.Frames.{FrameState, value_or_zero}
+use Rattle.xt_frames.specs.FrameStep.{FrameTurn, with_inputs, step_with_inputs}
 use Rattle.xt_frames.specs.Breaches.{fresh_after, inputs_of, laid_breach}
 use Rattle.xt_frames.specs.Judging.{value_in}
-use Rattle.xt_frames.specs.Nesting.{current, inside, nested_fetched, nested_turn}
-use Rattle.xt_frames.specs.Parts.{state_at}
+use Rattle.xt_frames.specs.Nesting.{current, nested_view, nested_fetched, nested_turn}
+use Rattle.xt_frames.specs.KeptFrameState.{state_at}
 use Rattle.xt_frames.specs.Stacks.{Stack, Stays}
 use Rattle.xt_frames.specs.Walked.{bounds_of}
 use Rattle.xt_frames.proofs.Inside.{breach_inside, fresh_inside, step_inside}
@@ -23,7 +23,7 @@ returns-in-Some-clause-done c = λ begins frames live stale k.
     let x = c.args.nested.now in
     let f = state_at frames h c.args.view.now in
     let B = λ (f : FrameState). laid_breach (bounds_of case.limits) case.fresh code live stale rec f in
-    let over = c.lay.ensures frames h ∙ ap (laid (inputs_of rec)) (c.inside-inner.ensures frames h) in
+    let over = c.lay.ensures frames h ∙ ap (with_inputs (inputs_of rec)) (c.nested_view-inner.ensures frames h) in
     let found = c.breach_of.ensures code frames live stale k c.plan-plan.ensures.plan (c.step-step.ensures.turn frames h k.newest) in
     (breach_inside (bounds_of case.limits) case.fresh code live stale begins rec f x c.requires.nested ∙ (ap B (sym over) ∙ (sym found ∙ c.in-Some.is)), refl)
 
@@ -35,24 +35,24 @@ returns-clause-done c = λ begins frames live stale k.
     let h = c.args.holes.now in
     let x = c.args.nested.now in
     let f = state_at frames h c.args.view.now in
-    let g = laid (inputs_of rec) (inside x f) in
-    let u = laid_step code rec.reply g in
+    let g = with_inputs (inputs_of rec) (nested_view x f) in
+    let u = step_with_inputs code rec.reply g in
     let laid_f = state_at frames h c.lay.new.self in
     let value = value_in rec.write in
     let is = c.requires.nested in
     let B = λ (f : FrameState). laid_breach (bounds_of case.limits) case.fresh code live stale rec f in
-    let over = c.lay.ensures frames h ∙ ap (laid (inputs_of rec)) (c.inside-inner.ensures frames h) in
+    let over = c.lay.ensures frames h ∙ ap (with_inputs (inputs_of rec)) (c.nested_view-inner.ensures frames h) in
     let turn = c.step-step.ensures.turn frames h k.newest in
     let found = c.breach_of.ensures code frames live stale k c.plan-plan.ensures.plan turn in
-    let past = turn ∙ ap (laid_step code rec.reply) over in
-    let T : FrameTurn → FrameState → FrameState = λ v s. (nested_fetched (fetched code s.control.pc) value x f v).after in
-    let gone = c.go_on.ensures.state frames c.args.view.now c.keep.new.self (fetched code c.lay.new.self.control.pc) value c.planned.ensures (c.keep.ensures frames h) in
+    let past = turn ∙ ap (step_with_inputs code rec.reply) over in
+    let T : FrameTurn → FrameState → FrameState = λ v s. (nested_fetched (fetch_at code s.control.pc) value x f v).after in
+    let gone = c.go_on.ensures.state frames c.args.view.now c.keep.new.self (fetch_at code c.lay.new.self.control.pc) value c.planned.ensures (c.keep.ensures frames h) in
     let after = gone ∙ (ap (λ (v : FrameTurn). T v laid_f) past ∙ ap (T u) over) in
     let next : FrameTurn = nested_turn code value (inputs_of rec) x f in
     let step = step_inside code begins rec f x is in
     let P : Ps = (current next.after).control.ps in
     let ps = ap (λ (s : FrameState). s.control.ps) (c.current-after.ensures frames) ∙ ap (λ (s : FrameState). (current s).control.ps) after in
-    let F : StepKind → FrameState → Ps → Bool = λ n s p. fresh_after case.fresh n (fetched code s.control.pc) s.control.ps p in
+    let F : StepKind → FrameState → Ps → Bool = λ n s p. fresh_after case.fresh n (fetch_at code s.control.pc) s.control.ps p in
     let fresh = c.fresh_after.ensures
     ∙ (ap (F c.step-step.result.kind laid_f) ps
     ∙ (ap (λ (v : FrameTurn). F v.kind laid_f P) past
@@ -65,4 +65,4 @@ returns-clause-kept c = λ frames on.
     let limits = c.args.case.now.limits in
     let seen : c.keep.new.self.seen ≡ c.args.view.now.seen = ap (λ (s : FrameState). s.seen) (c.keep.ensures frames c.args.holes.now) in
     let P : List (Option ℕ) → Type 0 = λ xs. Stack limits.lo limits.hi xs frames in
-    (subst P (sym seen) on, Stays refl (ap (λ (xs : List (Option ℕ)). known xs 1) seen))
+    (subst P (sym seen) on, Stays refl (ap (λ (xs : List (Option ℕ)). value_or_zero xs 1) seen))

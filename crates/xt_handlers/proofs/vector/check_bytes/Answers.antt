@@ -1,6 +1,6 @@
 use Rattle.std.proofs.Common.{arith, ◌∙◌, sym}
-use Rattle.xt_stretch.specs.Symbols.{opening, applied}
-use Rattle.xt_stretch.specs.declared.Step.TheVariants.{L32e, S32e}
+use Rattle.xt_stretch.specs.Symbols.{opening, effect_after_step}
+use Rattle.xt_stretch.specs.declared.HandlerInsn.TheVariants.{L32e, S32e}
 use Rattle.xt_map.specs.Memory.{constant_byte}
 use Rattle.xt_handlers.specs.Vectors.{vector_bytes}
 use Rattle.xt_handlers.proofs.Bytes.{code_bytes-length, here_at, cut_at, rfwo_stops, rfwu_stops, foreign_at}
@@ -30,14 +30,14 @@ loop-offset-preserved c =
     let i = c.loop-offset.invariant in
     elim c.match-step_of.branch [
       | in-L32e w ↦ (
-        applied i.0 (L32e w.in-L32e.target w.in-L32e.base w.in-L32e.back),
+        effect_after_step i.0 (L32e w.in-L32e.target w.in-L32e.base w.in-L32e.back),
         rw w.evaluation-is (w.load.ensures i.0 i.1),
         here_at c.args.side c.args.n i.0 (vector_bytes (constant_byte c.args.code.now) c.args.at) c.loop-offset.offset c.length_of-len.result c.byte_at-first.result c.byte_at-second.result c.byte_at-third.result _ _
             (code_bytes-length (constant_byte c.args.code.now) c.args.at 64) c.length_of-len.ensures.low c.length_of-len.ensures.value (omega arith) c.byte_at-first.ensures c.byte_at-second.ensures c.byte_at-third.ensures w.in-L32e.ensures.spelled i.2,
         omega arith,
       )
       | in-S32e w ↦ (
-        applied i.0 (S32e w.in-S32e.source w.in-S32e.base w.in-S32e.back),
+        effect_after_step i.0 (S32e w.in-S32e.source w.in-S32e.base w.in-S32e.back),
         rw w.evaluation-is (w.store.ensures i.0 i.1),
         here_at c.args.side c.args.n i.0 (vector_bytes (constant_byte c.args.code.now) c.args.at) c.loop-offset.offset c.length_of-len.result c.byte_at-first.result c.byte_at-second.result c.byte_at-third.result _ _
             (code_bytes-length (constant_byte c.args.code.now) c.args.at 64) c.length_of-len.ensures.low c.length_of-len.ensures.value (omega arith) c.byte_at-first.ensures c.byte_at-second.ensures c.byte_at-third.ensures w.in-S32e.ensures.spelled i.2,

@@ -1,6 +1,6 @@
 use Rattle.std.proofs.Common.{◌≡◌, ◌≤◌, ◌-◌, drop}
 use Rattle.xt_stretch.specs.Symbols.{Effect}
-use Rattle.xt_stretch.specs.Handling.{walk, handling}
+use Rattle.xt_stretch.specs.Handling.{walk, handling_verdict}
 use Rattle.xt_stretch.specs.Spelled.{lines_in, lines_of}
 use Rattle.xt_map.specs.Memory.{constant_byte}
 use Rattle.xt_handlers.specs.Vectors.{vector_bytes}
@@ -10,7 +10,7 @@ use Rattle.xt_handlers.proofs.vector.check_bytes.Given as goal
 abbrev pub invariant-loop-offset : goal.invariant-loop-offset
 invariant-loop-offset l =
     (e : Effect) × Tracks l.side l.n l.evaluation e
-    × (walk l.side l.n e (lines_in 0 l.offset (drop l.offset (vector_bytes (constant_byte l.code) l.at))) ≡ handling l.side l.n (lines_of (vector_bytes (constant_byte l.code) l.at)))
+    × (walk l.side l.n e (lines_in 0 l.offset (drop l.offset (vector_bytes (constant_byte l.code) l.at))) ≡ handling_verdict l.side l.n (lines_of (vector_bytes (constant_byte l.code) l.at)))
     × (l.offset ≤ 64)
 
 abbrev pub decreases-loop-offset : goal.decreases-loop-offset

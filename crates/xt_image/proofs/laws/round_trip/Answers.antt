@@ -1,5 +1,5 @@
 use Rattle.std.proofs.Common.{[]}
-use Rattle.xt_image.specs.Parts.{image_bytes}
+use Rattle.xt_image.specs.ImageParts.{image_bytes}
 use Rattle.xt_image.proofs.Written.{file_again}
 use Rattle.xt_image.proofs.laws.round_trip.Goals as goal
 

@@ -1,5 +1,5 @@
 use Rattle.std.proofs.Common.{◌≡◌, [], arith, sym, ap, ◌∙◌}
-use Rattle.xt_image.specs.Parts.{image_bytes}
+use Rattle.xt_image.specs.ImageParts.{image_bytes}
 use Rattle.xt_image.specs.Rules.{image_fault}
 use Rattle.xt_image.specs.Format.{image_of}
 use Rattle.xt_image.proofs.Written.{file_again, segments_short}

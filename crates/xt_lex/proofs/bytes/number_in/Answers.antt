@@ -1,7 +1,7 @@
 use Rattle.std.proofs.Common.{◌≡◌, ◌+◌, ◌*◌, ◌≤◌, ◌^◌, ℕ, Option, drop, fold, sym, ◌∙◌, ap, arith, cond, Some, None, nat_lt, false}
 use Rattle.std.proofs.lemmas.List.{at_drop_more}
 use Rattle.std.proofs.lemmas.Bool.{le-ltb}
-use Rattle.xt_lex.specs.Bytes.{number_of}
+use Rattle.xt_lex.specs.TextBytes.{number_of}
 use Rattle.xt_lex.proofs.NumberLemmas.{next_number, number_grows}
 use Rattle.xt_lex.proofs.bytes.number_in.Goals as goal
 

@@ -1,6 +1,6 @@
 -- The number so far with the digits that are left gives the number.
 use Rattle.std.proofs.Common.{◌≡◌, ◌^◌, ◌<◌, ◌+◌, ◌*◌, drop, fold}
-use Rattle.xt_lex.specs.Bytes.{digit_of, number_of}
+use Rattle.xt_lex.specs.TextBytes.{digit_of, number_of}
 use Rattle.xt_lex.proofs.bytes.number_in.Given as goal
 
 abbrev pub invariant-loop-byte : goal.invariant-loop-byte

@@ -4,7 +4,7 @@ use Rattle.xt_sharedbus.specs.SeatState.{SeatState}
 use Rattle.xt_trace.specs.Worlds.{left_past}
 use Rattle.xt_trace.proofs.Ends.{left_at_most}
 use Rattle.xt_exec.specs.Turn.{turn}
-use Rattle.xt_core.specs.Cores.{CoreState, turned}
+use Rattle.xt_core.specs.Cores.{CoreState, core_after_turn}
 use Rattle.xt_machine.specs.Going.{IsGoing}
 use Rattle.xt_machine.proofs.Driven.{going_none, going_local, going_call, going_ended}
 use Rattle.xt_machine.proofs.driving.drive.Goals as goal
@@ -55,7 +55,7 @@ turns-preserved g c =
     let reply = c.access-reply.result in
     let went = c.access-reply.ensures in
     let made = (turn code before.state reply).0 in
-    let is : c.turn_end.new.self ≡ turned code reply before = c.turn_end.ensures code asks.awaits ∙ ap (turned code reply) asks.same in
+    let is : c.turn_end.new.self ≡ core_after_turn code reply before = c.turn_end.ensures code asks.awaits ∙ ap (core_after_turn code reply) asks.same in
     let after : c.turn_end.new.self.left ≡ left_past made (before.left - 1) = ap (λ (k : CoreState). k.left) is in
     let fewer : left_past made (before.left - 1) ≤ before.left - 1 = left_at_most made (before.left - 1) (before.left - 1) (omega arith) in
     let seat : c.access-reply.new.seat.left ≡ c.turns.seat.left - 1 = ap (λ (s : SeatState). s.left) went in

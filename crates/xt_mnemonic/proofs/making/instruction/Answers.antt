@@ -8,6 +8,6 @@ use Rattle.xt_mnemonic.proofs.making.instruction.Goals as goal
 
 pub returns-clause-length : goal.returns-clause-length
 returns-clause-length c =
-    IfOk-weaker c.checked.result (λ j. j ≡ c.insn_of.result) (λ i. HasLength i (size_of c.args.mnemonic))
+    IfOk-weaker c.if_in_range.result (λ j. j ≡ c.insn_of.result) (λ i. HasLength i (size_of c.args.mnemonic))
     (λ j same. subst (HasLength j) (ap insn_size same ∙ (c.insn_of.ensures.size ∙ ap size_of c.in_ok-parts_in.ensures.same)) (words_have_length j))
-    c.checked.ensures.same
+    c.if_in_range.ensures.same

@@ -2,7 +2,7 @@ use Rattle.std.proofs.Common.{◌≡◌, ℕ, List, ◌++◌, ap, ◌∙◌}
 use Rattle.std.specs.Prelude.{flat_map}
 use Rattle.std.specs.List.{zip}
 use Rattle.xt_report.specs.Reports.{uart_lines}
-use Rattle.xt_outcome_report.specs.Texts.{core_line, order_line, outcome_text, word_line}
+use Rattle.xt_outcome_report.specs.OutcomesText.{core_line, order_line, outcome_text, word_line}
 use Rattle.xt_trace.specs.declared.trace.Stop.{Stop}
 use Rattle.xt_outcome_report.proofs.Words.{six_parts}
 use Rattle.xt_outcome_report.proofs.outcomes.push_outcome.Goals as goal

@@ -4,7 +4,7 @@ use Rattle.std.specs.Prelude.{flat_map}
 use Rattle.std.specs.List.{zip}
 use Rattle.std.specs.Iterator.Adapters.{zip_first, zip_second}
 use Rattle.std.specs.Slice.Iter.{iter_rest}
-use Rattle.xt_outcome_report.specs.Texts.{word_line}
+use Rattle.xt_outcome_report.specs.OutcomesText.{word_line}
 use Rattle.xt_outcome_report.proofs.outcomes.push_words.Given as goal
 
 abbrev pub invariant-loop-address : goal.invariant-loop-address

@@ -1,5 +1,5 @@
 use Rattle.std.proofs.Common.{◌≡◌, List, ℕ}
-use Rattle.xt_outcome_report.specs.Texts.{IsAnswersText, answers_text}
+use Rattle.xt_outcome_report.specs.OutcomesText.{IsAnswersText, answers_text}
 use Rattle.xt_outcome_report.specs.declared.whole.Frames.TheVariants as frames
 use Rattle.xt_outcome_report.proofs.Words.{each_ok}
 use Rattle.xt_outcome_report.proofs.whole.outcomes_text.Goals as goal

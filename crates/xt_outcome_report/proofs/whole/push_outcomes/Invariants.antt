@@ -1,7 +1,7 @@
 -- The lines of the outcomes so far were appended.
 use Rattle.std.proofs.Common.{◌≡◌, ◌++◌, take}
 use Rattle.std.specs.Prelude.{flat_map}
-use Rattle.xt_outcome_report.specs.Texts.{outcome_text}
+use Rattle.xt_outcome_report.specs.OutcomesText.{outcome_text}
 use Rattle.xt_outcome_report.proofs.whole.push_outcomes.Given as goal
 
 abbrev pub invariant-loop-found : goal.invariant-loop-found

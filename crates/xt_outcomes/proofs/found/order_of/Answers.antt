@@ -2,13 +2,13 @@ use Rattle.std.proofs.Common.{◌≡◌, ℕ, ◌<◌, ◌≤◌, List, length, 
 use Rattle.std.proofs.lemmas.Option.{slice_get_read}
 use Rattle.xt_map.specs.declared.contents.MemoryContents.{MemoryContents}
 use Rattle.xt_map.specs.Memory.{constant_byte}
-use Rattle.xt_trace.specs.Runs.{opened}
+use Rattle.xt_trace.specs.Runs.{world_at_start}
 use Rattle.xt_exec.specs.Chips.{processor}
 use Rattle.xt_exec.specs.State.{State}
 use Rattle.xt_core.specs.Runs.{opening_of}
 use Rattle.xt_search.specs.Meetings.{after}
 use Rattle.xt_search.specs.Worlds.{IsOrder}
-use Rattle.xt_outcomes.specs.Kept.{spot_of}
+use Rattle.xt_outcomes.specs.KeptWorlds.{spot_of}
 use Rattle.xt_outcomes.specs.Places.{spot_run, turns_of}
 use Rattle.xt_outcomes.specs.Spots.{Spot, TurnsAreFree, spot_in, spot_past}
 use Rattle.xt_outcomes.proofs.Continuing.{there}
@@ -45,7 +45,7 @@ loop-at-init c =
     let code = constant_byte t.code in
     let m = t.opening.contents in
     let first = c.requires.search.first in
-    let p = spot_in t.timed (opened (opening_of c.args.image.now c.args.options.now)) in
+    let p = spot_in t.timed (world_at_start (opening_of c.args.image.now c.args.options.now)) in
     let R = spot_run code t.timed t.places.list.items t.most_local in
     let runs = c.in_ok-runs.runs.items in
     let none = sym c.new-order.ensures.items in
@@ -67,7 +67,7 @@ loop-at-preserved c =
     let code = constant_byte t.code in
     let step = spot_past (processor code) t.timed in
     let m = t.opening.contents in
-    let p = spot_in t.timed (opened (opening_of c.args.image.now c.args.options.now)) in
+    let p = spot_in t.timed (world_at_start (opening_of c.args.image.now c.args.options.now)) in
     let R = spot_run code t.timed t.places.list.items t.most_local in
     let runs = c.in_ok-runs.runs.items in
     let at = c.loop-at.at in

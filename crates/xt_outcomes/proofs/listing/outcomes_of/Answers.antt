@@ -7,7 +7,7 @@ use Rattle.xt_outcomes.proofs.Finding.{ended_is_kept_after, ended_same, meets_or
 use Rattle.xt_search.specs.Graphs.{IsAt}
 use Rattle.xt_search.proofs.Numbers.{at_within}
 use Rattle.xt_outcomes.specs.Endings.{has_ended, outcome_at}
-use Rattle.xt_outcomes.specs.Kept.{spot_of}
+use Rattle.xt_outcomes.specs.KeptWorlds.{spot_of}
 use Rattle.xt_outcomes.specs.Listing.{Lists}
 use Rattle.xt_outcomes.proofs.Continuing.{there}
 use Rattle.xt_outcomes.proofs.listing.outcomes_of.Goals as goal

@@ -3,7 +3,7 @@ use Rattle.xt_exec.specs.Chips.{processor}
 use Rattle.xt_core.specs.Runs.{code_of, memory_of, opening_of}
 use Rattle.xt_search.specs.Graphs.{IsAt}
 use Rattle.xt_outcomes.specs.Endings.{has_ended, outcome_at}
-use Rattle.xt_outcomes.specs.Kept.{spot_of}
+use Rattle.xt_outcomes.specs.KeptWorlds.{spot_of}
 use Rattle.xt_outcomes.specs.Listing.{AreReal, IsRising, Lists}
 use Rattle.xt_outcomes.specs.declared.world.World.{World}
 use Rattle.xt_outcomes.proofs.listing.outcomes_of.Given as goal

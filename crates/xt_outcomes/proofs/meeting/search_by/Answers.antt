@@ -1,7 +1,7 @@
 use Rattle.std.specs.Prelude.{IfSome}
 use Rattle.xt_search.specs.Graphs.{IsBarredAt, IsGraph}
 use Rattle.xt_core.specs.Runs.{memory_of}
-use Rattle.xt_outcomes.specs.Kept.{Leads, bars}
+use Rattle.xt_outcomes.specs.KeptWorlds.{Leads, bars}
 use Rattle.xt_outcomes.proofs.CodeBytes.{code_bytes}
 use Rattle.xt_outcomes.proofs.Finding.{carried}
 use Rattle.xt_outcomes.proofs.meeting.search_by.Goals as goal

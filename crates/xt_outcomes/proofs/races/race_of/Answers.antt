@@ -6,7 +6,7 @@ use Rattle.xt_exec.specs.State.{State}
 use Rattle.xt_core.specs.Runs.{code_of, memory_of, opening_of}
 use Rattle.xt_search.specs.Graphs.{IsAt}
 use Rattle.xt_search.proofs.Numbers.{at_kept, at_once, at_within}
-use Rattle.xt_outcomes.specs.Kept.{spot_of}
+use Rattle.xt_outcomes.specs.KeptWorlds.{spot_of}
 use Rattle.xt_outcomes.specs.Orders.{world_after}
 use Rattle.xt_outcomes.specs.SpotRaces.{IsSpotRace}
 use Rattle.xt_outcomes.specs.Spots.{Spot}

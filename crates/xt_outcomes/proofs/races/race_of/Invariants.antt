@@ -2,7 +2,7 @@ use Rattle.std.proofs.Common.{ℕ, ◌<◌}
 use Rattle.xt_map.specs.declared.access.Access.{Access}
 use Rattle.xt_core.specs.Runs.{code_of, memory_of}
 use Rattle.xt_search.specs.Graphs.{IsAt}
-use Rattle.xt_outcomes.specs.Kept.{spot_of}
+use Rattle.xt_outcomes.specs.KeptWorlds.{spot_of}
 use Rattle.xt_outcomes.specs.SpotRaces.{IsSpotRace}
 use Rattle.xt_outcomes.specs.declared.world.World.{World}
 use Rattle.xt_outcomes.proofs.races.race_of.Given as goal

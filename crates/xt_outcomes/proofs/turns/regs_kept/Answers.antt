@@ -1,6 +1,6 @@
 use Rattle.std.proofs.Common.{subst, sym}
 use Rattle.xt_special.specs.Values.{Specials}
-use Rattle.xt_exec.specs.Laws.{IsShaped}
+use Rattle.xt_exec.specs.TurnLaws.{IsShaped}
 use Rattle.xt_exec.specs.States.{file_state}
 use Rattle.xt_timeless.proofs.Shaped.{cleared_shaped}
 use Rattle.xt_outcomes.proofs.turns.regs_kept.Goals as goal

@@ -1,6 +1,6 @@
 use Rattle.std.proofs.Common.{◌≡◌, ◌≤◌, length, ◌∙◌, arith}
 use Rattle.xt_frames.specs.Verdict.{opening_known}
-use Rattle.xt_frames.specs.Walked.{opened}
+use Rattle.xt_frames.specs.Walked.{opening_walked}
 use Rattle.xt_discipline.specs.Schedules.{schedule_in}
 use Rattle.xt_discipline.proofs.Lengths.{schedule_short}
 use Rattle.xt_core.proofs.Scheduled.{has_schedule}
@@ -14,8 +14,8 @@ pub follow-requires-clause-known : goal.follow-requires-clause-known
 follow-requires-clause-known c =
     let image = c.args.image.now in
     let r = c.args.run.now in
-    let a = opened 0 image.entry r.options in
-    let b = opened 1 r.options.entry1 r.options in
+    let a = opening_walked 0 image.entry r.options in
+    let b = opening_walked 1 r.options.entry1 r.options in
     (a.bounds, b.bounds, opening_known a.state b.state, from c.args.depth image.entry, from c.args.depth r.options.entry1, follows_none c.args.depth c.in_ok-walk.walk c.in_ok-code.code image r (schedule_in r) c.new-records0.result c.new-records1.result c.in_ok-tally0.tally0 c.in_ok-tally1.tally1 c.in_ok-walk.ensures c.in_ok-tally0.ensures c.in_ok-tally1.ensures)
 
 pub follow-requires-clause-room : goal.follow-requires-clause-room

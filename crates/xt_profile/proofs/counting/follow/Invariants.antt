@@ -4,7 +4,7 @@ use Rattle.xt_map.specs.Memory.{constant_byte}
 use Rattle.xt_frames.specs.Breaches.{Bounds}
 use Rattle.xt_frames.specs.Verdict.{Known}
 use Rattle.xt_discipline.specs.Schedules.{schedule_in}
-use Rattle.xt_profile.specs.Told.{Origin}
+use Rattle.xt_profile.specs.CountedSteps.{Origin}
 use Rattle.xt_profile.specs.Follows.{Follows}
 use Rattle.xt_profile.proofs.counting.follow.Given as goal
 

@@ -2,7 +2,7 @@ use Rattle.std.proofs.Common.{◌≡◌, ◌+◌, ℕ, List, drop, sym, ◌∙�
 use Rattle.std.proofs.lemmas.List.{drop_more}
 use Rattle.xt_map.specs.Memory.{constant_byte}
 use Rattle.xt_profile.specs.Steps.{Step}
-use Rattle.xt_profile.specs.Told.{IsTally, Origin}
+use Rattle.xt_profile.specs.CountedSteps.{IsTally, Origin}
 use Rattle.xt_profile.proofs.PastCut.{goes_one, gone_modes, gone_records, taken}
 use Rattle.xt_profile.proofs.later.count_left.Goals as goal
 

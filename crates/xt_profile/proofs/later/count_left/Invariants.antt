@@ -2,7 +2,7 @@
 use Rattle.std.proofs.Common.{◌≡◌, ◌+◌, List, drop}
 use Rattle.xt_map.specs.Memory.{constant_byte}
 use Rattle.xt_profile.specs.Steps.{Step}
-use Rattle.xt_profile.specs.Told.{IsTally, Origin}
+use Rattle.xt_profile.specs.CountedSteps.{IsTally, Origin}
 use Rattle.xt_profile.proofs.PastCut.{Going}
 use Rattle.xt_profile.proofs.later.count_left.Given as goal
 

@@ -2,7 +2,7 @@
 use Rattle.std.proofs.Common.{◌≡◌, ◌++◌, take}
 use Rattle.std.specs.List.{flat_map}
 use Rattle.std.specs.Prelude.{string_bytes}
-use Rattle.xt_profile.specs.Texts.{line_text}
+use Rattle.xt_profile.specs.ProfileText.{line_text}
 use Rattle.xt_profile.proofs.texts.push_lines.Given as goal
 
 abbrev pub invariant-loop-line : goal.invariant-loop-line

@@ -2,7 +2,7 @@
 use Rattle.std.proofs.Common.{◌≡◌, ◌++◌, take}
 use Rattle.std.specs.List.{flat_map}
 use Rattle.std.specs.Prelude.{string_bytes}
-use Rattle.xt_profile.specs.Texts.{next_text}
+use Rattle.xt_profile.specs.ProfileText.{next_text}
 use Rattle.xt_profile.proofs.texts.push_more.Given as goal
 
 abbrev pub invariant-loop-address : goal.invariant-loop-address

@@ -1,5 +1,5 @@
 use Rattle.std.proofs.Common.{◌<◌, ◌^◌, ◌+◌, sym, ◌∙◌, arith}
-use Rattle.xt_race.specs.Kept.{events_left}
+use Rattle.xt_race.specs.KeptEntries.{events_left}
 use Rattle.xt_race.specs.Races.{events_of}
 use Rattle.xt_race.proofs.Walking.{events_few, missed_all, missed_hit, missed_more, room}
 use Rattle.xt_race.proofs.race.earlier_of.Goals as goal

@@ -1,5 +1,5 @@
 use Rattle.std.proofs.Common.{length}
-use Rattle.xt_race.specs.Kept.{events_left}
+use Rattle.xt_race.specs.KeptEntries.{events_left}
 use Rattle.xt_race.specs.Races.{events_of}
 use Rattle.xt_race.proofs.Walking.{Missed}
 use Rattle.xt_race.proofs.race.earlier_of.Given as goal

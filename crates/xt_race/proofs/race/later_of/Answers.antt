@@ -1,4 +1,4 @@
-use Rattle.xt_race.specs.Kept.{events_left}
+use Rattle.xt_race.specs.KeptEntries.{events_left}
 use Rattle.xt_race.specs.Races.{events_of}
 use Rattle.xt_race.proofs.Walking.{are_of_cores, events_few, passed_all, passed_hit, passed_more, passed_none, passed_room, passed_taken}
 use Rattle.xt_race.proofs.race.later_of.Goals as goal

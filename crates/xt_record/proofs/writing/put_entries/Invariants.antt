@@ -1,6 +1,6 @@
 use Rattle.std.proofs.Common.{◌≡◌, ◌++◌, take}
 use Rattle.std.specs.List.{flat_map}
-use Rattle.xt_record.specs.Parts.{entry_bytes}
+use Rattle.xt_record.specs.RecordingParts.{entry_bytes}
 use Rattle.xt_record.proofs.writing.put_entries.Given as goal
 
 abbrev pub invariant-loop-entry : goal.invariant-loop-entry

@@ -1,6 +1,6 @@
 use Rattle.std.proofs.Common.{◌≡◌, ℕ, Option, Some, None, refl}
 use Rattle.xt_special.specs.Control.{special_of}
-use Rattle.xt_rows.specs.Laws.{AgreeAt}
+use Rattle.xt_rows.specs.RowLaws.{AgreeAt}
 use Rattle.xt_rows.specs.Operands.{reads, special_reads}
 use Rattle.xt_rows.specs.Outcomes.{value_of}
 use Rattle.xt_rows.proofs.laws.rows_read_only_their_registers.Goals as goal

@@ -1,8 +1,8 @@
 use Rattle.std.proofs.Common.{sym, subst, arith}
 use Rattle.xt_map.specs.Memory.{constant_byte}
 use Rattle.xt_rows.specs.declared.outcome.Outcome.{Outcome}
-use Rattle.xt_rows.specs.Effects.{unchanged}
-use Rattle.xt_rows.specs.Laws.{AsksWith, IsAny, IsProper}
+use Rattle.xt_rows.specs.Effects.{no_change}
+use Rattle.xt_rows.specs.RowLaws.{AsksWith, IsAny, IsProper}
 use Rattle.xt_rows.proofs.Fitting.{outcome_alone}
 use Rattle.xt_rows.proofs.Proper.{outcome_fit}
 use Rattle.xt_rows.proofs.rows.outcome_of.Goals as goal
@@ -28,5 +28,5 @@ returns-clause-proper g c =
 pub returns-clause-alone : goal.returns-clause-alone
 returns-clause-alone g c =
     let a = c.args in
-    let P : Outcome → Type 0 = λ o. AsksWith (unchanged a.ps a.threadptr) o in
+    let P : Outcome → Type 0 = λ o. AsksWith (no_change a.ps a.threadptr) o in
     subst P (sym c.row_outcome.ensures) (outcome_alone (constant_byte a.code.now) a.i a.pc a.values.x a.values.y a.values.u a.values.v a.ps a.threadptr)

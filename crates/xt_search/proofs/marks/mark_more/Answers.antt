@@ -1,7 +1,7 @@
 use Rattle.std.proofs.Common.{◌≡◌, ◌≢◌, ◌≤◌, ◌-◌, suc, length, true, ℕ, ⊎_elim, sym, subst, arith}
 use Rattle.std.specs.Prelude.{slice_set}
 use Rattle.std.proofs.lemmas.Bool.{cases_eq}
-use Rattle.xt_search.specs.Ends.{IsSettled, unmarked}
+use Rattle.xt_search.specs.Ends.{IsSettled, unmarked_count}
 use Rattle.xt_search.proofs.Marking.{fewer_unmarked}
 use Rattle.xt_search.proofs.marks.mark_more.Goals as goal
 
@@ -9,8 +9,8 @@ pub loop-at-preserved-then-is_open : goal.loop-at-preserved-then-is_open
 loop-at-preserved-then-is_open g c =
     let marks = c.loop-at.marks in
     let at = c.loop-at.at - 1 in
-    let e : unmarked marks ≡ suc (unmarked (slice_set marks at true)) = fewer_unmarked marks at (c.is_open.ensures.open c.if-is_open.true) in
-    let h : unmarked marks ≤ unmarked c.args.marks.now = c.loop-at.invariant.more in
+    let e : unmarked_count marks ≡ suc (unmarked_count (slice_set marks at true)) = fewer_unmarked marks at (c.is_open.ensures.open c.if-is_open.true) in
+    let h : unmarked_count marks ≤ unmarked_count c.args.marks.now = c.loop-at.invariant.more in
     let w : c.loop-at.at ≤ length c.args.graph.now.kept.items = c.loop-at.invariant.within in
     record {
       within = omega arith;

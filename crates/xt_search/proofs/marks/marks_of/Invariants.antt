@@ -1,5 +1,5 @@
 use Rattle.std.proofs.Common.{◌≡◌, ℕ, ◌+◌, ◌<◌, false, length, if◌then◌else◌}
-use Rattle.xt_search.specs.Ends.{AreSound, IsSettled, unmarked}
+use Rattle.xt_search.specs.Ends.{AreSound, IsSettled, unmarked_count}
 use Rattle.xt_search.proofs.marks.marks_of.Given as goal
 
 abbrev pub invariant-loop-changed : goal.invariant-loop-changed
@@ -9,4 +9,4 @@ invariant-loop-changed g l = record {
 }
 
 abbrev pub decreases-loop-changed : goal.decreases-loop-changed
-decreases-loop-changed g l = unmarked l.marks.items + (if l.changed then 1 else 0)
+decreases-loop-changed g l = unmarked_count l.marks.items + (if l.changed then 1 else 0)

@@ -1,7 +1,7 @@
 use Rattle.std.proofs.Common.{List, ap, ◌∙◌}
 use Rattle.xt_map.specs.declared.segment.Segment.{Segment}
 use Rattle.xt_map.specs.Memory.{constant_byte}
-use Rattle.xt_use_report.specs.Texts.{uses_text}
+use Rattle.xt_use_report.specs.UsesText.{uses_text}
 use Rattle.xt_use_report.proofs.text.uses_text.Goals as goal
 
 pub returns : goal.returns

@@ -1,7 +1,7 @@
 use Rattle.std.proofs.Common.{ℕ, ◌-◌, ◌||◌, ◌∙◌, Bool, cond, ap}
 use Rattle.std.proofs.lemmas.Bool.{cond-true, or_left}
 use Rattle.xt_map.specs.Touching.{touches}
-use Rattle.xt_use_walk.specs.Bytes.{mask_at}
+use Rattle.xt_use_walk.specs.MaskedBytes.{mask_at}
 use Rattle.xt_use_walk.specs.Walks.{below_opening}
 use Rattle.xt_use_walk.proofs.Forgetting.{opened_pick}
 use Rattle.xt_discipline.proofs.Opens.{end_of}

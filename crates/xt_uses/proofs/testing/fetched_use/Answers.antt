@@ -5,7 +5,7 @@ use Rattle.xt_codec.specs.declared.fetch.Fetch.{Fetch}
 use Rattle.xt_frames.specs.declared.kinds.BreachKind.{BreachKind}
 use Rattle.xt_frames.specs.FrameStep.{FrameTurn}
 use Rattle.xt_frames.specs.Breaches.{Test, first_shown, insn_tests, other_tests}
-use Rattle.xt_frames.specs.Parts.{shown_tests, state_at}
+use Rattle.xt_frames.specs.KeptFrameState.{shown_tests, state_at}
 use Rattle.xt_frames.specs.Walked.{bounds_of}
 use Rattle.xt_uses.specs.UseBreaches.{breaks_stack, fetched_uses, nowhere, swaps_unknown, use_tests, uses_unknown}
 use Rattle.xt_uses.specs.UseParts.{use_at}

@@ -5,7 +5,7 @@ use Rattle.xt_frames.specs.declared.kinds.BreachKind.{BreachKind}
 use Rattle.xt_frames.specs.declared.kinds.BreachKind.TheVariants as breach
 use Rattle.xt_frames.specs.declared.breach.Tested.{Tested}
 use Rattle.xt_frames.specs.Breaches.{first_shown}
-use Rattle.xt_frames.specs.Parts.{shown_tests}
+use Rattle.xt_frames.specs.KeptFrameState.{shown_tests}
 use Rattle.xt_uses.specs.UseBreaches.{use_tests}
 use Rattle.xt_uses.specs.declared.testing.Exchanged.{Exchanged}
 use Rattle.xt_uses.proofs.testing.first_use.Goals as goal

@@ -1,6 +1,6 @@
 use Rattle.std.proofs.Common.{◌≡◌, drop}
 use Rattle.xt_frames.specs.Breaches.{first_shown}
-use Rattle.xt_frames.specs.Parts.{shown_tests}
+use Rattle.xt_frames.specs.KeptFrameState.{shown_tests}
 use Rattle.xt_uses.specs.UseBreaches.{use_tests}
 use Rattle.xt_uses.proofs.testing.first_use.Given as goal
 

@@ -1,8 +1,8 @@
 use Rattle.std.proofs.Common.{ltb, sym, ◌∙◌, ap, subst}
-use Rattle.xt_fetch.specs.Fetching.{fetched}
-use Rattle.xt_frames.specs.declared.view.Plan.{Plan}
-use Rattle.xt_frames.specs.FrameStep.{laid_step}
-use Rattle.xt_frames.specs.Parts.{IsPlan, state_at}
+use Rattle.xt_fetch.specs.Fetching.{fetch_at}
+use Rattle.xt_frames.specs.declared.view.NextEvent.{NextEvent}
+use Rattle.xt_frames.specs.FrameStep.{step_with_inputs}
+use Rattle.xt_frames.specs.KeptFrameState.{IsPlan, state_at}
 use Rattle.xt_frames.specs.Walked.{bounds_of}
 use Rattle.xt_frames.proofs.TestRows.{quiet}
 use Rattle.xt_uses.specs.UseParts.{use_at}
@@ -23,7 +23,7 @@ returns-in-Fetched c = λ code frames kept v live bytes case touched p turn.
     let control = c.args.view.now.control in
     let f = state_at frames h c.args.view.now in
     let s = use_at frames kept h v c.args.masks.now in
-    let P : Plan → Type 0 = λ x. IsPlan x code control in
+    let P : NextEvent → Type 0 = λ x. IsPlan x code control in
     let k = subst P c.in-Fetched.is p in
-    c.fetched_use.ensures frames kept v live bytes (fetched code control.pc) (laid_step code rec.reply f) case touched k.2 turn
+    c.fetched_use.ensures frames kept v live bytes (fetch_at code control.pc) (step_with_inputs code rec.reply f) case touched k.2 turn
     ∙ sym (use_fetches (bounds_of c.args.case.now.limits) c.args.case.now.fresh code live bytes rec s f (ap (ltb 0) k.0) k.1)

@@ -1,6 +1,6 @@
 use Rattle.std.proofs.Common.{◌≡◌, ◌||◌, Bool, false, not, sym, ◌∙◌, ap}
 use Rattle.std.proofs.lemmas.Bool.{or_left, or_right}
-use Rattle.xt_frames.specs.Parts.{state_at}
+use Rattle.xt_frames.specs.KeptFrameState.{state_at}
 use Rattle.xt_uses.specs.Words.{Word}
 use Rattle.xt_uses.specs.Used.{used_are_known}
 use Rattle.xt_uses.specs.UseState.{first_word, second_word}

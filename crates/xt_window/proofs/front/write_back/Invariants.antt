@@ -1,5 +1,5 @@
 use Rattle.std.specs.Prelude.{◌≡◌}
-use Rattle.xt_window.specs.Kept.{written_back}
+use Rattle.xt_window.specs.FrontAndRing.{written_back}
 use Rattle.xt_window.proofs.front.write_back.Given as goal
 
 abbrev pub invariant-loop-i : goal.invariant-loop-i

@@ -4,7 +4,7 @@ use Rattle.xt_frames.specs.declared.kinds.Breach.{Breach}
 use Rattle.xt_frames.specs.Judging.{seen_step}
 use Rattle.xt_frames.specs.Walked.{Walked, found_in}
 use Rattle.xt_discipline.specs.declared.side.Side.{Side}
-use Rattle.xt_discipline.specs.Bytes.{Agrees, either, held_at}
+use Rattle.xt_discipline.specs.ByteMarks.{Agrees, either, held_at}
 use Rattle.xt_discipline.specs.Sides.{IsSeen, live_in, standing_of}
 use Rattle.xt_discipline.proofs.Known.{loads_for, saves_for}
 use Rattle.xt_discipline.proofs.Seeing.{breach_where, followed_still, found_by, judged_breaks, judged_marks, judged_past, judged_still, call_still, moves_still, moves_where, past_where, side_past}

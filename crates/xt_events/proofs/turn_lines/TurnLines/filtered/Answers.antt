@@ -19,7 +19,7 @@ invariant_of-result c =
     let start = c.min-start.result in
     let same = ap (λ (s : ReplayState). s.run) c.in_ok-replay.ensures in
     let there = start_there image run old c.seek.new.self c.args.from c.args.to c.min-end.result start c.seek.result c.requires.run same c.min-end.ensures c.min-start.ensures c.seek.ensures
-    ∙ ap (λ (s : ReplayState). shown.moved s start) c.in_ok-replay.ensures in
+    ∙ ap (λ (s : ReplayState). shown.replay_at s start) c.in_ok-replay.ensures in
     let long = (ends image run c.requires.run).0 in
     opened c.args.filter image run c.seek.new.self c.in_ok-code.code c.in_ok-records0.records0 c.skip.new.records c.in_ok-records1.records1 c.skip-2.new.records c.step.result c.step-2.result start c.min-end.result
     c.requires.run there (c.in_ok-code.ensures ∙ c.as_slice.ensures)
@@ -36,7 +36,7 @@ returns c =
     let start = c.min-start.result in
     let same = ap (λ (s : ReplayState). s.run) c.in_ok-replay.ensures in
     let there = start_there image run old c.seek.new.self c.args.from c.args.to end start c.seek.result c.requires.run same c.min-end.ensures c.min-start.ensures c.seek.ensures
-    ∙ ap (λ (s : ReplayState). shown.moved s start) c.in_ok-replay.ensures in
+    ∙ ap (λ (s : ReplayState). shown.replay_at s start) c.in_ok-replay.ensures in
     let long = (ends image run c.requires.run).0 in
     let last : end ≡ min c.args.to (length (schedule_in run)) = c.min-end.ensures ∙ ap (min c.args.to) long in
     ap (λ (s : ReplayState). lines_from c.args.filter s.image s.run s.position (end - s.position)) there

@@ -1,5 +1,5 @@
 use Rattle.std.proofs.Common.{ℕ, Option, sym, subst}
-use Rattle.xt_rows.specs.Laws.{IsHeld, IsRegister}
+use Rattle.xt_rows.specs.RowLaws.{IsHeld, IsRegister}
 use Rattle.xt_rows.proofs.Registers.{reads_registers, shift_amount}
 use Rattle.xt_exec.proofs.regs.Regs.outcome.Goals as goal
 

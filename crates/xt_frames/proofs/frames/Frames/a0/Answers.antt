@@ -2,7 +2,7 @@ use Rattle.std.proofs.Common.{◌≡◌, ℕ, ◌-◌, Option, None, List, sym, 
 use Rattle.std.specs.Prelude.{slice_index_or}
 use Rattle.xt_frames.specs.declared.view.Caller.{Caller}
 use Rattle.xt_frames.specs.Backtrace.{a0_in, a0_of_frame}
-use Rattle.xt_frames.specs.Parts.{frames_of}
+use Rattle.xt_frames.specs.KeptFrameState.{frames_of}
 use Rattle.xt_frames.specs.Walked.{Walked}
 use Rattle.xt_frames.proofs.Newest.{frames_length}
 use Rattle.xt_frames.proofs.frames.Frames.a0.Goals as goal

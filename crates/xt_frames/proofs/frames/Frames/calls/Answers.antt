@@ -1,6 +1,6 @@
 use Rattle.std.proofs.Common.{◌≡◌, ℕ, ◌-◌, List, sym, ◌∙◌, ap, arith, length}
 use Rattle.xt_frames.specs.declared.view.Caller.{Caller}
-use Rattle.xt_frames.specs.Parts.{frames_of}
+use Rattle.xt_frames.specs.KeptFrameState.{frames_of}
 use Rattle.xt_frames.specs.Walked.{Walked, calls_in}
 use Rattle.xt_frames.proofs.Newest.{frames_length}
 use Rattle.xt_frames.proofs.frames.Frames.calls.Goals as goal

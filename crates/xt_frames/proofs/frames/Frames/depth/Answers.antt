@@ -1,6 +1,6 @@
 use Rattle.std.proofs.Common.{◌≡◌, sym, ◌∙◌, ap, arith, length, subst}
-use Rattle.xt_frames.specs.Frames.{known}
-use Rattle.xt_frames.specs.Parts.{frames_of}
+use Rattle.xt_frames.specs.Frames.{value_or_zero}
+use Rattle.xt_frames.specs.KeptFrameState.{frames_of}
 use Rattle.xt_frames.specs.Stacks.{Stack}
 use Rattle.xt_frames.specs.Walked.{Walked}
 use Rattle.xt_frames.proofs.Newest.{frames_length}
@@ -12,7 +12,7 @@ depth_of-requires c =
     let items = c.self.inside.callers.items in
     let k = c.self.invariant.0.stack in
     let top = k.range.top in
-    let deep = chain_depth c.self.inside.limits.lo c.self.inside.limits.hi (known c.self.inside.view.seen 1) (frames_of items) k.chain in
+    let deep = chain_depth c.self.inside.limits.lo c.self.inside.limits.hi (value_or_zero c.self.inside.view.seen 1) (frames_of items) k.chain in
     let l = frames_length items in
     let d : length c.deref.result.now ≡ length items = ap length c.deref.ensures.value in
     omega (arith, top, deep, l, d)

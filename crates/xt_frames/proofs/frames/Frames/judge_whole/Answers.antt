@@ -6,7 +6,7 @@ use Rattle.xt_frames.specs.Frames.{Frame, FrameState}
 use Rattle.xt_frames.specs.SaveAreas.{before}
 use Rattle.xt_frames.specs.Breaches.{Bounds, breach_of}
 use Rattle.xt_frames.specs.Judging.{fresh_on, step_on}
-use Rattle.xt_frames.specs.Parts.{AreKept, IsCase, IsNewest, Upper, frames_of, state_at}
+use Rattle.xt_frames.specs.KeptFrameState.{AreKept, IsCase, IsNewest, Upper, frames_of, state_at}
 use Rattle.xt_frames.specs.Stacks.{Moves, Stack}
 use Rattle.xt_frames.specs.Walked.{Walked, bounds_of, fresh_before}
 use Rattle.xt_frames.proofs.Kept.{kept_room}

@@ -1,7 +1,7 @@
 use Rattle.std.proofs.Common.{◌+◌, ◌-◌, ◌/◌, ◌≤◌, true, List, sym, ◌∙◌, ap, arith, length, subst}
 use Rattle.xt_trace.specs.declared.options.Stack.{Stack}
 use Rattle.xt_frames.specs.Frames.{Frame, FrameState, all_set, opening_frame}
-use Rattle.xt_frames.specs.Parts.{no_holes, state_at}
+use Rattle.xt_frames.specs.KeptFrameState.{no_holes, state_at}
 use Rattle.xt_frames.specs.Stacks.{IsRange}
 use Rattle.xt_frames.specs.Walked.{Walked}
 use Rattle.xt_frames.proofs.Kept.{kept_open}

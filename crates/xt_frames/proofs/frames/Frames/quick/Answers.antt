@@ -1,7 +1,7 @@
 use Rattle.std.proofs.Common.{◌≡◌, ℕ, ◌+◌, Bool, None, refl, sym, ◌∙◌, ap, subst}
 use Rattle.std.specs.Vec.{vec_capacity}
 use Rattle.xt_map.specs.Memory.{constant_byte}
-use Rattle.xt_frames.specs.Parts.{frames_of, state_at}
+use Rattle.xt_frames.specs.KeptFrameState.{frames_of, state_at}
 use Rattle.xt_frames.specs.Stacks.{Moves}
 use Rattle.xt_frames.specs.Walked.{Walked, bounds_of, found_in, walked_past}
 use Rattle.xt_frames.proofs.Quickly.{IsOver, none_is, quick_judged, quick_kept, quick_moves}

@@ -12,6 +12,6 @@ pub returns-clause-record : goal.returns-clause-record
 returns-clause-record c =
     let code : ℕ → ℕ = constant_byte c.args.code.now in
     let state : file_state c.self.inside.regs ≡ c.args.self.now.state = ap (λ (s : Side State). s.state) c.self.view_is in
-    c.recorded.ensures
+    c.turn_record.ensures
     ∙ ap (λ (t : StepRecord × State). t.0) (whole_turn code (file_state c.self.inside.regs) c.in_ok-pending.pending c.finish-effect.result _ c.args.reply c.finish-effect.ensures c.in_ok-pending.ensures.awaits)
     ∙ ap (λ (s : State). (turn code s c.args.reply).0) state

@@ -2,7 +2,7 @@ use Rattle.std.proofs.Common.{◌≡◌, ◌+◌, ◌-◌, sym, ◌∙◌, arith
 use Rattle.xt_map.specs.Memory.{constant_byte}
 use Rattle.xt_exec.specs.Chips.{processor}
 use Rattle.xt_exec.specs.State.{State}
-use Rattle.xt_outcomes.specs.Kept.{spot_of}
+use Rattle.xt_outcomes.specs.KeptWorlds.{spot_of}
 use Rattle.xt_outcomes.specs.Places.{is_local, spot_run}
 use Rattle.xt_outcomes.specs.Spots.{Spot, side_of, spot_past}
 use Rattle.xt_outcomes.proofs.Commuted.{local_bars_none}

@@ -2,7 +2,7 @@ use Rattle.std.proofs.Common.{◌≡◌, ◌+◌, ◌-◌}
 use Rattle.xt_map.specs.Memory.{constant_byte}
 use Rattle.xt_exec.specs.Chips.{processor}
 use Rattle.xt_search.specs.Meetings.{after, onward}
-use Rattle.xt_outcomes.specs.Kept.{spot_of}
+use Rattle.xt_outcomes.specs.KeptWorlds.{spot_of}
 use Rattle.xt_outcomes.specs.Places.{is_local, spot_run, turns_of}
 use Rattle.xt_outcomes.specs.Spots.{TurnsAreFree, side_of, spot_past}
 use Rattle.xt_outcomes.proofs.timed.Timed.run.Given as goal

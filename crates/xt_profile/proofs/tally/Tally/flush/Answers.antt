@@ -1,6 +1,6 @@
 use Rattle.std.proofs.Common.{◌≡◌, ◌+◌, ℕ, List, map, refl, ap, subst, ◌∙◌}
-use Rattle.xt_profile.specs.Keys.{shown}
-use Rattle.xt_profile.specs.Told.{count_in, puts, read}
+use Rattle.xt_profile.specs.Keys.{shown_key}
+use Rattle.xt_profile.specs.CountedSteps.{count_in, puts, line_of_entry}
 use Rattle.xt_profile.proofs.Telling.{count_fits, counted_flushed}
 use Rattle.xt_profile.proofs.tally.Tally.flush.Goals as goal
 
@@ -12,6 +12,6 @@ add-requires c =
 pub returns-in_ok-add-clause-counted : goal.returns-in_ok-add-clause-counted
 returns-in_ok-add-clause-counted c opening past h =
     let t = c.args.self.now in
-    let key = c.in_ok-key.ensures ∙ (ap (shown t.depth) c.deref.ensures.value ∙ ap (λ (d : ℕ). shown d t.functions.items) h.depth_is) in
-    let P : List ℕ → Type 0 = λ k. map read c.add.new.counts.entries ≡ puts k (count_in k (map read t.counts.entries) + t.row) (map read t.counts.entries) in
+    let key = c.in_ok-key.ensures ∙ (ap (shown_key t.depth) c.deref.ensures.value ∙ ap (λ (d : ℕ). shown_key d t.functions.items) h.depth_is) in
+    let P : List ℕ → Type 0 = λ k. map line_of_entry c.add.new.counts.entries ≡ puts k (count_in k (map line_of_entry t.counts.entries) + t.row) (map line_of_entry t.counts.entries) in
     counted_flushed opening past t (record t { counts = c.add.new.counts; row = 0 }) h c.if-self-gt0.true refl refl refl refl refl (subst P key c.in_ok-add.ensures)

@@ -1,5 +1,5 @@
 use Rattle.std.proofs.Common.{◌≡◌, length}
-use Rattle.xt_race.specs.Kept.{turns_left}
+use Rattle.xt_race.specs.KeptEntries.{turns_left}
 use Rattle.xt_race.proofs.turns.Turns.next.Given as goal
 
 abbrev pub invariant-loop-step : goal.invariant-loop-step

@@ -1,7 +1,7 @@
 use Rattle.std.proofs.Common.{[], ◌∷◌, ◌++◌}
 use Rattle.std.proofs.lemmas.List.Elements.{All-push, All-same}
 use Rattle.xt_replay.specs.declared.pair.Checkpoint.{Checkpoint}
-use Rattle.xt_replay.specs.Kept.{IsCopy}
+use Rattle.xt_replay.specs.ReplayFields.{IsCopy}
 use Rattle.xt_replay.proofs.Inside.{copy_here}
 use Rattle.xt_replay.proofs.replay.Replay.keep.Goals as goal
 

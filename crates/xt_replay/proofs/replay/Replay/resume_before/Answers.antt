@@ -1,7 +1,7 @@
 use Rattle.std.proofs.Common.{sym, ap, ◌∙◌}
 use Rattle.xt_replay.specs.Places.{trace_in}
 use Rattle.xt_replay.specs.Shown.{ReplayState}
-use Rattle.xt_replay.specs.Kept.{IsCopy}
+use Rattle.xt_replay.specs.ReplayFields.{IsCopy}
 use Rattle.xt_replay.proofs.Inside.{copy_finds_room, copy_in, comes_at_copy}
 use Rattle.xt_replay.proofs.replay.Replay.resume_before.Goals as goal
 

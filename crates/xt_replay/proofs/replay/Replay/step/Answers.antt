@@ -1,7 +1,7 @@
 use Rattle.std.proofs.Common.{◌≡◌, ◌+◌, ◌<◌, length, refl, sym, subst, ap, ◌∙◌, arith}
 use Rattle.xt_core.specs.Positions.{schedule_in}
 use Rattle.xt_replay.specs.declared.replay.Replay.TheInside.{Inside}
-use Rattle.xt_replay.specs.Kept.{IsKept}
+use Rattle.xt_replay.specs.ReplayFields.{IsKept}
 use Rattle.xt_replay.specs.Shown.{ReplayState}
 use Rattle.xt_replay.proofs.Inside.{end_most, kept_on, one_turn, room_for, zero_turn}
 use Rattle.xt_replay.proofs.replay.Replay.step.Goals as goal

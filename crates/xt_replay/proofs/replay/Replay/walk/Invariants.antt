@@ -1,10 +1,10 @@
 use Rattle.std.proofs.Common.{◌≡◌, ◌-◌, ◌≤◌}
-use Rattle.xt_replay.specs.Shown.{moved}
+use Rattle.xt_replay.specs.Shown.{replay_at}
 use Rattle.xt_replay.proofs.replay.Replay.walk.Given as goal
 
 abbrev pub invariant-steps : goal.invariant-steps
 invariant-steps l = record {
-  same : l.self ≡ moved l.fn.self l.self.position;
+  same : l.self ≡ replay_at l.fn.self l.self.position;
   within : l.self.position ≤ l.position;
 }
 

@@ -1,6 +1,6 @@
 use Rattle.std.proofs.Common.{◌≡◌, ℕ, length, get_or, ◌∙◌, ap, arith, rules}
 use Rattle.std.proofs.lemmas.Grind.{get_or_default_zero}
-use Rattle.xt_use_walk.specs.Bytes.{place}
+use Rattle.xt_use_walk.specs.MaskedBytes.{place}
 use Rattle.xt_use_walk.proofs.Places.{place_small}
 use Rattle.xt_use_walk.proofs.bytes.ByteMasks.at.Goals as goal
 

@@ -1,6 +1,6 @@
 use Rattle.std.proofs.Common.{Option, sym, ◌∙◌, subst}
 use Rattle.xt_map.specs.declared.access.Access.{Access}
-use Rattle.xt_use_walk.specs.Bytes.{KnowsAccess, mask_at}
+use Rattle.xt_use_walk.specs.MaskedBytes.{KnowsAccess, mask_at}
 use Rattle.xt_use_walk.proofs.Served.{served_bytes, served_some}
 use Rattle.xt_use_walk.proofs.Sparing.{known_none}
 use Rattle.xt_use_walk.proofs.bytes.ByteMasks.knows.Goals as goal

@@ -1,5 +1,5 @@
 use Rattle.std.proofs.Common.{◌≡◌, ℕ, length, get_or, set, ◌∙◌, ap, arith, rules}
-use Rattle.xt_use_walk.specs.Bytes.{place}
+use Rattle.xt_use_walk.specs.MaskedBytes.{place}
 use Rattle.xt_use_walk.proofs.Places.{all_set, place_small}
 use Rattle.xt_use_walk.proofs.bytes.ByteMasks.put.Goals as goal
 

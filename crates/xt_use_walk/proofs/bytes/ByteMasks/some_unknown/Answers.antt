@@ -1,5 +1,5 @@
 use Rattle.std.proofs.Common.{ℕ, Bool, not, eqb, sym, ◌∙◌}
-use Rattle.xt_use_walk.specs.Bytes.{mask_at}
+use Rattle.xt_use_walk.specs.MaskedBytes.{mask_at}
 use Rattle.xt_use_walk.proofs.Served.{four_rest}
 use Rattle.xt_use_walk.proofs.bytes.ByteMasks.some_unknown.Goals as goal
 

@@ -1,6 +1,6 @@
 use Rattle.std.proofs.Common.{refl, sym, ◌∙◌, ap}
 use Rattle.xt_map.specs.Touching.{is_store}
-use Rattle.xt_use_walk.specs.Bytes.{mask_at}
+use Rattle.xt_use_walk.specs.MaskedBytes.{mask_at}
 use Rattle.xt_use_walk.proofs.Served.{served_bytes, served_some}
 use Rattle.xt_use_walk.proofs.Stores.{sends, stored_at}
 use Rattle.xt_use_walk.proofs.side.Bytes.store.Goals as goal

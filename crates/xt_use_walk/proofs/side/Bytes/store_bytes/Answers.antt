@@ -1,6 +1,6 @@
 use Rattle.std.proofs.Common.{◌+◌, ◌∙◌, arith}
 use Rattle.xt_use_walk.proofs.Places.{byte_small}
-use Rattle.xt_use_walk.specs.Bytes.{mask_at}
+use Rattle.xt_use_walk.specs.MaskedBytes.{mask_at}
 use Rattle.xt_use_walk.proofs.Stores.{one_stored}
 use Rattle.xt_use_walk.proofs.side.Bytes.store_bytes.Goals as goal
 

@@ -1,5 +1,5 @@
 use Rattle.std.proofs.Common.{◌≡◌}
-use Rattle.xt_use_walk.specs.Bytes.{AreFull, AreMasks, mask_at, stored_on}
+use Rattle.xt_use_walk.specs.MaskedBytes.{AreFull, AreMasks, mask_at, stored_on}
 use Rattle.xt_use_walk.proofs.side.Bytes.store_bytes.Given as goal
 
 abbrev pub invariant-loop-k : goal.invariant-loop-k

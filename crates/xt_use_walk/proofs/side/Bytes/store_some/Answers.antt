@@ -1,5 +1,5 @@
 use Rattle.std.proofs.Common.{sym, ◌∙◌}
-use Rattle.xt_use_walk.specs.Bytes.{mask_at}
+use Rattle.xt_use_walk.specs.MaskedBytes.{mask_at}
 use Rattle.xt_use_walk.proofs.Sparing.{few_bytes, known_none, known_stored}
 use Rattle.xt_use_walk.proofs.side.Bytes.store_some.Goals as goal
 

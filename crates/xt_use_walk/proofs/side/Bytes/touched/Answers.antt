@@ -1,6 +1,6 @@
 use Rattle.std.proofs.Common.{ℕ, Bool, false, refl}
-use Rattle.xt_discipline.specs.Bytes.{Agrees, either, held_at}
-use Rattle.xt_use_walk.specs.Bytes.{mask_at}
+use Rattle.xt_discipline.specs.ByteMarks.{Agrees, either, held_at}
+use Rattle.xt_use_walk.specs.MaskedBytes.{mask_at}
 use Rattle.xt_use_walk.proofs.Seen.{touched_for}
 use Rattle.xt_use_walk.proofs.Sparing.{touched_known, touched_some}
 use Rattle.xt_use_walk.proofs.side.Bytes.touched.Goals as goal

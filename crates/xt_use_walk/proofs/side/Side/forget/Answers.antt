@@ -1,9 +1,9 @@
 use Rattle.std.proofs.Common.{◌≡◌, ◌&&◌, ◌∙◌, false, true, ltb, cond, sym, ap, arith}
 use Rattle.std.proofs.lemmas.Bool.{cond-false, false_from_ne_true, ltb-true}
-use Rattle.xt_frames.specs.Frames.{known}
+use Rattle.xt_frames.specs.Frames.{value_or_zero}
 use Rattle.xt_uses.specs.UseState.{is_strict_in, rises_over}
-use Rattle.xt_use_walk.specs.Bytes.{mask_at}
-use Rattle.xt_use_walk.specs.Sides.{forgotten}
+use Rattle.xt_use_walk.specs.MaskedBytes.{mask_at}
+use Rattle.xt_use_walk.specs.Sides.{forgets_byte}
 use Rattle.xt_use_walk.proofs.Forgetting.{forgotten_bytes, forgotten_none, risen_bytes}
 use Rattle.xt_use_walk.proofs.side.Side.forget.Goals as goal
 
@@ -33,5 +33,5 @@ returns-else-sp-now-clause-masks c = λ a h.
     let sp = c.args.sp in
     let at = c.newest_sp-now.ensures.value in
     let no = c.if-sp-now.false in
-    let less : ltb sp (known u.seen 1) ≡ false = false_from_ne_true (ltb sp (known u.seen 1)) (λ e. let l = ltb-true sp (known u.seen 1) e in omega (arith, l, no, at)) in
-    sym (cond-false (forgotten s sp a) 0 (mask_at c.args.bytes.now.masks a) (forgotten_none (is_strict_in s) sp (known u.seen 1) a less))
+    let less : ltb sp (value_or_zero u.seen 1) ≡ false = false_from_ne_true (ltb sp (value_or_zero u.seen 1)) (λ e. let l = ltb-true sp (value_or_zero u.seen 1) e in omega (arith, l, no, at)) in
+    sym (cond-false (forgets_byte s sp a) 0 (mask_at c.args.bytes.now.masks a) (forgotten_none (is_strict_in s) sp (value_or_zero u.seen 1) a less))

@@ -1,11 +1,11 @@
 use Rattle.std.proofs.Common.{◌≡◌, ◌+◌, ◌-◌, ◌||◌, refl, ap, arith}
 use Rattle.xt_map.specs.Memory.{constant_byte}
 use Rattle.xt_frames.specs.SaveAreas.{is_live}
-use Rattle.xt_discipline.specs.Bytes.{either}
+use Rattle.xt_discipline.specs.ByteMarks.{either}
 use Rattle.xt_uses.specs.Words.{all_bits}
 use Rattle.xt_uses.specs.UseWalk.{count_of, mask_stored}
 use Rattle.xt_use_walk.specs.declared.side.Side.{Side}
-use Rattle.xt_use_walk.specs.Bytes.{without}
+use Rattle.xt_use_walk.specs.MaskedBytes.{without}
 use Rattle.xt_use_walk.specs.Sides.{live_in}
 use Rattle.xt_uses.specs.UseState.{stack_pointer}
 use Rattle.xt_use_walk.proofs.Following.{knows_stored}

@@ -1,13 +1,13 @@
 use Rattle.std.proofs.Common.{◌≡◌, ◌+◌, ◌||◌, Result, Err, refl, sym, ◌∙◌, ap, subst, rules}
 use Rattle.xt_map.specs.Memory.{constant_byte}
 use Rattle.xt_frames.specs.Breaches.{Bounds}
-use Rattle.xt_discipline.specs.Bytes.{either}
-use Rattle.xt_uses.specs.declared.told.Stopped.{Stopped}
+use Rattle.xt_discipline.specs.ByteMarks.{either}
+use Rattle.xt_uses.specs.declared.told.JudgeError.{JudgeError}
 use Rattle.xt_uses.specs.UseParts.{UseWalked}
 use Rattle.xt_uses.specs.UseWalk.{count_of, mask_stored, use_seen_judged}
 use Rattle.xt_use_walk.specs.declared.side.Side.{Side}
-use Rattle.xt_use_walk.specs.Bytes.{without}
-use Rattle.xt_use_walk.specs.Sides.{IsUseSeen, StackOf, forgotten, live_in, standing_of}
+use Rattle.xt_use_walk.specs.MaskedBytes.{without}
+use Rattle.xt_use_walk.specs.Sides.{IsUseSeen, StackOf, forgets_byte, live_in, standing_of}
 use Rattle.xt_frames.specs.SaveAreas.{is_live}
 use Rattle.xt_use_walk.proofs.Following.{knows_stored}
 use Rattle.xt_use_walk.proofs.Forgetting.{knows_forgotten, low_sp}
@@ -24,7 +24,7 @@ returns-in_err-used-clause-seen c others masks known touched =
     let judged = c.judge.ensures.judged (either (live_in s.uses) others) masks touched in
     let same : c.from_residual.result ≡ Err e = search rules in
     let new : Side = record s { uses = c.judge.new.self } in
-    subst (λ (r : Result Unit Stopped). IsUseSeen s new c.args.bytes.now others masks (use_seen_judged code s.uses.bounds (standing_of s) others masks nested rec) r) (sym same)
+    subst (λ (r : Result Unit JudgeError). IsUseSeen s new c.args.bytes.now others masks (use_seen_judged code s.uses.bounds (standing_of s) others masks nested rec) r) (sym same)
     (judged_stops s new c.args.bytes.now others masks code nested rec c.judge.new.self e c.judge.result c.requires.side c.in_err-used.was judged refl)
 
 pub returns-clause-seen : goal.returns-clause-seen
@@ -49,7 +49,7 @@ returns-clause-seen c others masks known touched =
     let new : Side = record s { uses = uses; mode = c.args.next; steps = s.steps + 1; carried = s.carried + n } in
     let sp = c.newest_sp-sp.ensures.value in
     let forget = c.forget.ensures in
-    let gone = knows_forgotten s.core c.follow.new.bytes c.forget.new.bytes (is_live s.uses.bounds.range uses.state.frame) others (forgotten uses.state c.newest_sp-sp.result) _ bytes forget.full forget.marks forget.masks in
+    let gone = knows_forgotten s.core c.follow.new.bytes c.forget.new.bytes (is_live s.uses.bounds.range uses.state.frame) others (forgets_byte uses.state c.newest_sp-sp.result) _ bytes forget.full forget.marks forget.masks in
     judged_past s new uses c.forget.new.bytes others masks code rec (found_by s others masks code nested rec) tt nested c.args.next used.stored n c.requires.next c.requires.side past.0 past.1 past.2.stores (c.count_of.ensures.value ∙ ap count_of past.2.unknown) c.count_of.ensures.small refl c.newest_sp-sp.result sp gone
 
 pub follow-requires-clause-side : goal.follow-requires-clause-side

@@ -1,6 +1,6 @@
 use Rattle.std.proofs.Common.{◌≡◌, sym, ◌∙◌, ap, arith, length, subst}
-use Rattle.xt_frames.specs.Frames.{known}
-use Rattle.xt_frames.specs.Parts.{frames_of}
+use Rattle.xt_frames.specs.Frames.{value_or_zero}
+use Rattle.xt_frames.specs.KeptFrameState.{frames_of}
 use Rattle.xt_frames.specs.Stacks.{Stack}
 use Rattle.xt_frames.proofs.Newest.{frames_length}
 use Rattle.xt_frames.proofs.Stacked.{chain_depth}
@@ -13,7 +13,7 @@ depth_of-requires c =
     let items = i.callers.items in
     let k = c.self.invariant.0.stack in
     let top = k.range.top in
-    let deep = chain_depth i.limits.lo i.limits.hi (known i.top.view.seen 1) (frames_of items) k.chain in
+    let deep = chain_depth i.limits.lo i.limits.hi (value_or_zero i.top.view.seen 1) (frames_of items) k.chain in
     let l = frames_length items in
     let d : length c.deref.result.now ≡ length items = ap length c.deref.ensures.value in
     omega (arith, top, deep, l, d)

@@ -3,7 +3,7 @@ use Rattle.std.specs.Vec.{vec_capacity}
 use Rattle.xt_map.specs.Memory.{constant_byte}
 use Rattle.xt_frames.specs.Frames.{Frame}
 use Rattle.xt_frames.specs.Breaches.{Bounds}
-use Rattle.xt_frames.specs.Parts.{AreKept, Upper, frames_of, state_at}
+use Rattle.xt_frames.specs.KeptFrameState.{AreKept, Upper, frames_of, state_at}
 use Rattle.xt_frames.specs.Stacks.{Stack}
 use Rattle.xt_frames.specs.Walked.{bounds_of}
 use Rattle.xt_frames.proofs.Kept.{kept_room}

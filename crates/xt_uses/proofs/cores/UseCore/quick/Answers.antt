@@ -3,9 +3,9 @@ use Rattle.std.specs.Prelude.{IfSome, Ok}
 use Rattle.std.specs.Vec.{vec_capacity}
 use Rattle.xt_map.specs.Memory.{constant_byte}
 use Rattle.xt_special.specs.Shape.{IsPs}
-use Rattle.xt_frames.specs.declared.holes.Holes.{Holes}
+use Rattle.xt_frames.specs.declared.holes.UndefinedParts.{UndefinedParts}
 use Rattle.xt_frames.specs.Frames.{Frame}
-use Rattle.xt_frames.specs.Parts.{frames_of, state_at}
+use Rattle.xt_frames.specs.KeptFrameState.{frames_of, state_at}
 use Rattle.xt_frames.specs.Walked.{bounds_of}
 use Rattle.xt_uses.specs.Words.{all_bits}
 use Rattle.xt_uses.specs.UseState.{UseState}
@@ -20,7 +20,7 @@ invariant_of-self c =
     let i = c.self.inside in
     let made = c.if-quick.true in (
       c.quick.ensures.kept made i.limits.lo i.limits.hi i.callers.items (vec_capacity i.callers) c.self.invariant.0,
-      subst (λ (h : Holes). IfSome h.nested (λ x. IsPs x.ps)) (sym c.quick.ensures.holes) c.self.invariant.1,
+      subst (λ (h : UndefinedParts). IfSome h.nested (λ x. IsPs x.ps)) (sym c.quick.ensures.holes) c.self.invariant.1,
       c.self.invariant.2,
     )
 

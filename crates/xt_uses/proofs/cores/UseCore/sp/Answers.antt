@@ -1,7 +1,7 @@
 use Rattle.std.proofs.Common.{◌≡◌, ℕ, ◌-◌, List, sym, ◌∙◌, ap, arith, length}
 use Rattle.xt_frames.specs.declared.view.Caller.{Caller}
-use Rattle.xt_frames.specs.Frames.{known}
-use Rattle.xt_frames.specs.Parts.{frames_of}
+use Rattle.xt_frames.specs.Frames.{value_or_zero}
+use Rattle.xt_frames.specs.KeptFrameState.{frames_of}
 use Rattle.xt_frames.specs.Walked.{sp_in}
 use Rattle.xt_frames.proofs.Newest.{frames_length}
 use Rattle.xt_uses.specs.UseParts.{UseWalked}
@@ -19,7 +19,7 @@ pub returns : goal.returns
 returns c =
     let items = c.self.inside.callers.items in
     c.sp_in.ensures
-    ∙ (ap (λ (cs : List Caller). sp_in (frames_of cs) c.known.result (length cs - c.args.j)) c.deref.ensures.value
-    ∙ (ap (λ (n : ℕ). sp_in (frames_of items) c.known.result (n - c.args.j)) (sym (frames_length items))
-    ∙ (ap (λ (x : ℕ). sp_in (frames_of items) x (length (frames_of items) - c.args.j)) c.known.ensures
-    ∙ ap (λ (w : UseWalked). sp_in w.state.frame.frames (known w.state.frame.seen 1) (length w.state.frame.frames - c.args.j)) c.self.view_is)))
+    ∙ (ap (λ (cs : List Caller). sp_in (frames_of cs) c.value_or_zero.result (length cs - c.args.j)) c.deref.ensures.value
+    ∙ (ap (λ (n : ℕ). sp_in (frames_of items) c.value_or_zero.result (n - c.args.j)) (sym (frames_length items))
+    ∙ (ap (λ (x : ℕ). sp_in (frames_of items) x (length (frames_of items) - c.args.j)) c.value_or_zero.ensures
+    ∙ ap (λ (w : UseWalked). sp_in w.state.frame.frames (value_or_zero w.state.frame.seen 1) (length w.state.frame.frames - c.args.j)) c.self.view_is)))

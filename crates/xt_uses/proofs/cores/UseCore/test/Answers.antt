@@ -2,7 +2,7 @@ use Rattle.std.proofs.Common.{List, None, Some, sym, ◌∙◌, ap, subst}
 use Rattle.xt_map.specs.Memory.{constant_byte}
 use Rattle.xt_frames.specs.declared.kinds.Breach.{Breach}
 use Rattle.xt_frames.specs.declared.view.Caller.{Caller}
-use Rattle.xt_frames.specs.Parts.{IsNewest, frames_of, state_at}
+use Rattle.xt_frames.specs.KeptFrameState.{IsNewest, frames_of, state_at}
 use Rattle.xt_uses.specs.UseParts.{UseWalked, kept_of}
 use Rattle.xt_uses.proofs.UseCores.{other_window, tested_window}
 use Rattle.xt_uses.proofs.cores.UseCore.test.Goals as goal

@@ -1,7 +1,7 @@
 use Rattle.std.proofs.Common.{ℕ, Option, sym, ◌∙◌, ap, subst}
-use Rattle.xt_rows.specs.Laws.{IsRegister}
+use Rattle.xt_rows.specs.RowLaws.{IsRegister}
 use Rattle.xt_rows.proofs.Registers.{reads_registers}
-use Rattle.xt_frames.specs.Parts.{state_at}
+use Rattle.xt_frames.specs.KeptFrameState.{state_at}
 use Rattle.xt_uses.specs.UseState.{visible_word}
 use Rattle.xt_uses.specs.UseParts.{mask_of, use_at}
 use Rattle.xt_uses.proofs.UseMasks.{special_word_is}

@@ -1,6 +1,6 @@
 use Rattle.std.proofs.Common.{◌≡◌, ℕ, Option, sym, ◌∙◌, ap, subst}
 use Rattle.std.proofs.lemmas.Bool.{eqb-true}
-use Rattle.xt_rows.specs.Laws.{IsRegister}
+use Rattle.xt_rows.specs.RowLaws.{IsRegister}
 use Rattle.xt_rows.proofs.Registers.{reads_registers}
 use Rattle.xt_uses.specs.Words.{all_bits}
 use Rattle.xt_uses.specs.UseState.{special_word, visible_word}

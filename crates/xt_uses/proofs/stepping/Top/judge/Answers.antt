@@ -4,15 +4,15 @@ use Rattle.std.proofs.lemmas.Bool.{and_parts, cond-true, cond-false}
 use Rattle.xt_isa.specs.declared.Insn.{Insn}
 use Rattle.xt_isa.specs.Ranges.{in_range}
 use Rattle.xt_special.specs.Interrupts.{pending_of}
-use Rattle.xt_fetch.specs.Fetching.{Fetches, fetched}
+use Rattle.xt_fetch.specs.Fetching.{Fetches, fetch_at}
 use Rattle.xt_map.specs.Memory.{constant_byte}
-use Rattle.xt_frames.specs.declared.view.Plan.{Plan}
+use Rattle.xt_frames.specs.declared.view.NextEvent.{NextEvent}
 use Rattle.xt_frames.specs.Frames.{FrameState}
-use Rattle.xt_frames.specs.FrameStep.{FrameTurn, laid, laid_step}
+use Rattle.xt_frames.specs.FrameStep.{FrameTurn, with_inputs, step_with_inputs}
 use Rattle.xt_frames.specs.Nesting.{begins, current, is_nesting}
 use Rattle.xt_frames.specs.Breaches.{inputs_of}
 use Rattle.xt_frames.specs.Judging.{value_in}
-use Rattle.xt_frames.specs.Parts.{IsPlan, Upper, frames_after, state_at}
+use Rattle.xt_frames.specs.KeptFrameState.{IsPlan, Upper, frames_after, state_at}
 use Rattle.xt_frames.specs.Stacks.{Stack}
 use Rattle.xt_frames.specs.Walked.{bounds_of}
 use Rattle.xt_frames.proofs.TestRows.{plan_ranges}
@@ -76,8 +76,8 @@ pub take-requires-clause-plan : goal.take-requires-clause-plan
 take-requires-clause-plan c =
     let code = constant_byte c.args.code.now in
     let m = c.make-made.result in
-    let P : Plan → Upper → Type 0 = λ p v. IsPlan p code v.control in
-    subst (λ (p : Plan). P p c.move_stack.new.self.before) (sym c.move_stack.ensures.plan) (subst (P m.plan) (sym c.move_stack.ensures.before) c.make-made.ensures.plan)
+    let P : NextEvent → Upper → Type 0 = λ p v. IsPlan p code v.control in
+    subst (λ (p : NextEvent). P p c.move_stack.new.self.before) (sym c.move_stack.ensures.plan) (subst (P m.plan) (sym c.move_stack.ensures.before) c.make-made.ensures.plan)
 
 pub returns-clause-done : goal.returns-clause-done
 returns-clause-done c = λ frames kept live bytes case touched newest.
@@ -95,7 +95,7 @@ returns-clause-done c = λ frames kept live bytes case touched newest.
     let none = c.use_breach-found.ensures code frames kept top.view live bytes case touched m.plan (m.turn frames h case.newest) in
     let same = ap (state_at frames h) c.move_stack.ensures.before in
     let found = same ∙ m.found frames in
-    let T : FrameState → FrameTurn = λ x. turn_or (movsp_of code x) (laid_step code rec.reply x) in
+    let T : FrameState → FrameTurn = λ x. turn_or (movsp_of code x) (step_with_inputs code rec.reply x) in
     let turn = c.move_stack.ensures.turn code frames m.plan
     ∙ (ap (λ (u : FrameTurn). turn_or (movsp_of code (state_at frames h first.before)) u) (m.turn frames h case.newest) ∙ sym (ap T same)) in
     let value = settled_is_value h.nested code (value_in rec.write) rec frames h top.view moved refl found turn in (
@@ -116,11 +116,11 @@ returns-clause-kept c = λ frames live bytes case touched stack.
     let off : begins c.args.nested rec.kind s.frame ≡ false = sym (c.begins.ensures frames top.view) ∙ c.if-begins.false in
     let m = c.make-made.ensures in
     let first = c.make-made.result in
-    let g = laid (inputs_of rec) (current s.frame) in
+    let g = with_inputs (inputs_of rec) (current s.frame) in
     let here : state_at frames h first.before ≡ g = m.found frames in
     let none = ap (laid_use b fresh code live bytes rec s) (sym here) ∙ (sym (c.use_breach-found.ensures code frames some.0 top.view live bytes case touched m.plan (m.turn frames h case.newest)) ∙ c.in_default.is) in
     let calls : g.control.ps.callinc < 4 = subst (λ (x : FrameState). x.control.ps.callinc < 4) here m.callinc in
-    let P : FrameState → Type 0 = λ x. (i : Insn) (len : ℕ) → ltb 0 (pending_of x.control) ≡ false → x.control.waits ≡ false → fetched code x.control.pc ≡ Fetches i len → in_range i ≡ true in
+    let P : FrameState → Type 0 = λ x. (i : Insn) (len : ℕ) → ltb 0 (pending_of x.control) ≡ false → x.control.waits ≡ false → fetch_at code x.control.pc ≡ Fetches i len → in_range i ≡ true in
     let ranges : P g = subst P here (plan_ranges first.plan code first.before.control m.plan) in
     let all = keeps_all b fresh code live bytes c.args.nested rec s off stack h.nested refl calls ranges none in
     let done = (returns-clause-done c frames some.0 live bytes case touched some.1).1 in

@@ -1,5 +1,5 @@
 use Rattle.std.proofs.Common.{◌≤◌, ◌*◌, ◌∙◌, ap, arith, cond, refl, subst, sym}
-use Rattle.xt_frames.specs.Parts.{IsNewest, frame_of}
+use Rattle.xt_frames.specs.KeptFrameState.{IsNewest, frame_of}
 use Rattle.xt_uses.specs.UseStep.{leave_results}
 use Rattle.xt_uses.specs.UseParts.{use_at}
 use Rattle.xt_uses.proofs.Left.{gone_all, gone_more, gone_none}

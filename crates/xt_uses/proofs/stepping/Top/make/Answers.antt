@@ -3,9 +3,9 @@ use Rattle.xt_map.specs.Memory.{constant_byte}
 use Rattle.xt_trace.specs.declared.record.StepKind.{StepKind}
 use Rattle.xt_frames.specs.declared.view.Caller.{Caller}
 use Rattle.xt_frames.specs.Frames.{Frame}
-use Rattle.xt_frames.specs.FrameStep.{FrameTurn, laid}
+use Rattle.xt_frames.specs.FrameStep.{FrameTurn, with_inputs}
 use Rattle.xt_frames.specs.Breaches.{inputs_of}
-use Rattle.xt_frames.specs.Parts.{IsKindOf, IsNewest, frame_of, state_at}
+use Rattle.xt_frames.specs.KeptFrameState.{IsKindOf, IsNewest, frame_of, state_at}
 use Rattle.xt_frames.proofs.Inside.{kind_planned}
 use Rattle.xt_uses.proofs.stepping.Top.make.Goals as goal
 
@@ -15,7 +15,7 @@ some_frames None = ([], refl)
 some_frames (Some c) = (frame_of c ∷ [], refl)
 
 pub returns-clause-found : goal.returns-clause-found
-returns-clause-found c = λ frames. c.lay.ensures frames c.args.self.now.holes ∙ ap (laid (inputs_of c.args.rec.now)) (c.current-before.ensures frames)
+returns-clause-found c = λ frames. c.lay.ensures frames c.args.self.now.holes ∙ ap (with_inputs (inputs_of c.args.rec.now)) (c.current-before.ensures frames)
 
 pub returns-clause-kind : goal.returns-clause-kind
 returns-clause-kind c =

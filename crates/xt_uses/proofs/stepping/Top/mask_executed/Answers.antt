@@ -1,10 +1,10 @@
 use Rattle.std.specs.Prelude.{is_some}
 use Rattle.std.proofs.Common.{ℕ, Bool, sym, ◌∙◌, ap}
 use Rattle.xt_rows.specs.Kinds.{moved_to}
-use Rattle.xt_frames.specs.Parts.{state_at}
+use Rattle.xt_frames.specs.KeptFrameState.{state_at}
 use Rattle.xt_uses.specs.Words.{Word}
 use Rattle.xt_uses.specs.Known.{result_mask}
-use Rattle.xt_uses.specs.UseState.{Masks, first_word, second_word, special_operand}
+use Rattle.xt_uses.specs.UseState.{ValidityBits, first_word, second_word, special_operand}
 use Rattle.xt_uses.specs.UseStep.{frames_moved, pointer_written, special_written, visible_written}
 use Rattle.xt_uses.specs.UseParts.{masks_at, use_at}
 use Rattle.xt_uses.proofs.UseSteps.{visible_same}
@@ -38,7 +38,7 @@ returns-clause-masks c = λ frames kept v u newest same.
     let o = c.operands-operands.ensures in
     let w = c.operands-operands.result in
     let m = c.result_mask-mask.result in
-    let V : Bool → ℕ → ℕ → ℕ → Masks = λ n k g b. visible_written n made.step.write k (pointer_written i g (special_written (moved_to i) g (frames_moved i b (masks_at kept top.masks)))) in
+    let V : Bool → ℕ → ℕ → ℕ → ValidityBits = λ n k g b. visible_written n made.step.write k (pointer_written i g (special_written (moved_to i) g (frames_moved i b (masks_at kept top.masks)))) in
     let mask = returns-clause-mask c frames kept v u in
     let given = ap (λ (x : Word). x.mask) (o.first frames kept v) in
     c.pass-keep.ensures.masks kept newest

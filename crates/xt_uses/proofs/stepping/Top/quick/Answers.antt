@@ -1,8 +1,8 @@
 use Rattle.std.proofs.Common.{◌≡◌, ℕ, List, None, Option, sym, ◌∙◌, ap}
 use Rattle.xt_map.specs.Memory.{constant_byte}
-use Rattle.xt_fetch.specs.Fetching.{Fetches, fetched}
-use Rattle.xt_frames.specs.Frames.{FrameState, known}
-use Rattle.xt_frames.specs.Parts.{state_at}
+use Rattle.xt_fetch.specs.Fetching.{Fetches, fetch_at}
+use Rattle.xt_frames.specs.Frames.{FrameState, value_or_zero}
+use Rattle.xt_frames.specs.KeptFrameState.{state_at}
 use Rattle.xt_frames.proofs.Quickly.{IsOver, none_is, quick_kept, seen_is}
 use Rattle.xt_frames.proofs.Shown.{sp_kept, sp_written}
 use Rattle.xt_uses.proofs.QuickUses.{quick_use}
@@ -21,7 +21,7 @@ returns-in-Some-clause-quick c = λ made frames kept live bytes touched.
     let none : h.nested ≡ None = none_is h.nested (sym c.is_some.ensures ∙ c.if-is_some.false) in
     let q = c.quick.ensures.quick write c.in-Some.is in
     let k : IsOver limits fresh code rec h write top.view q.0 x = record { plain = none; over = q.1; quick = q.2 } in
-    let at : fetched code top.view.control.pc ≡ Fetches k.quick.i k.quick.len = sym (ap (λ (s : FrameState). fetched code s.control.pc) (q.1 frames)) ∙ k.quick.at in
+    let at : fetch_at code top.view.control.pc ≡ Fetches k.quick.i k.quick.len = sym (ap (λ (s : FrameState). fetch_at code s.control.pc) (q.1 frames)) ∙ k.quick.at in
     let whole = c.reads_whole.ensures c.if-not-reads_whole.false k.quick.i k.quick.len frames kept (state_at frames h q.0) at none in
     quick_use limits fresh code rec h write top.view q.0 x k frames kept top.masks whole c.know.new.self live bytes
     (touched.saves ∙ c.if-touched.false) (touched.swaps ∙ c.if-touched-2.false) (touched.reply ∙ c.if-touched-3.false) c.know.ensures.word c.requires (c.know.ensures.masks kept)
@@ -44,5 +44,5 @@ returns-in-Some-clause-sp c = λ made.
     let q = c.quick.ensures.quick write c.in-Some.is in
     let k : IsOver c.args.limits c.args.fresh (constant_byte c.args.code.now) c.args.rec.now h write top.view q.0 c.quick.new.self =
     record { plain = none_is h.nested (sym c.is_some.ensures ∙ c.if-is_some.false); over = q.1; quick = q.2 } in
-    ap (λ (s : List (Option ℕ)). known s 1) (seen_is c.args.limits c.args.fresh (constant_byte c.args.code.now) c.args.rec.now h write top.view q.0 c.quick.new.self k)
+    ap (λ (s : List (Option ℕ)). value_or_zero s 1) (seen_is c.args.limits c.args.fresh (constant_byte c.args.code.now) c.args.rec.now h write top.view q.0 c.quick.new.self k)
     ∙ sp_written top.view.seen write (sp_kept write k.quick.row.free)

@@ -1,9 +1,9 @@
 use Rattle.std.proofs.Common.{Bool, List, Option, sym, ◌∙◌, ap}
 use Rattle.xt_map.specs.Memory.{constant_byte}
-use Rattle.xt_fetch.specs.Fetching.{fetched}
+use Rattle.xt_fetch.specs.Fetching.{fetch_at}
 use Rattle.xt_frames.specs.declared.holes.Nested.{Nested}
 use Rattle.xt_frames.specs.Frames.{FrameState}
-use Rattle.xt_frames.specs.Parts.{turn_as}
+use Rattle.xt_frames.specs.KeptFrameState.{turn_as}
 use Rattle.xt_uses.specs.UseParts.{settled_in}
 use Rattle.xt_uses.proofs.stepping.Top.settle.Goals as goal
 
@@ -13,7 +13,7 @@ returns-in-Some-clause-values c = λ frames value.
     let made = c.args.made.now in
     let h = c.args.self.now.holes in
     let v = c.args.self.now.view in
-    c.go_on.ensures.state frames v c.keep.new.self (fetched code made.before.control.pc) value c.planned-fetch.ensures (c.keep.ensures frames h)
+    c.go_on.ensures.state frames v c.keep.new.self (fetch_at code made.before.control.pc) value c.planned-fetch.ensures (c.keep.ensures frames h)
     ∙ sym (ap (λ (o : Option Nested). (settled_in o code value made frames h v).after) c.in-Some.is)
 
 pub returns-in-None-clause-values : goal.returns-in-None-clause-values
