@@ -127,7 +127,7 @@ PLACES = [
     ("CHANGELOG.md", "The reader names the first of # rules that a file breaks", IMAGE_RULES),
     ("docs/C.md", "`bench/c` builds # programs of `examples/c`", lambda: built("$c")),
     ("docs/C.md", "and the # of `examples/programs`", lambda: built("$top/examples/programs")),
-    ("docs/C.md", "of the #, `run` names", builds),
+    ("docs/C.md", "Of the # builds, `run` names", builds),
     (PROVED, "one of the # kinds", KINDS),
     (PROVED, "The spellings: # words and", lambda: lines_of("xt_text_tests", "spelling_tests/spellings", "SPELLINGS")),
     (PROVED, "words and # illegal ones", lambda: words_of("xt_text_tests", "spelling_tests/spellings", "ILLEGAL")),
