@@ -4,6 +4,7 @@ use Rattle.std.specs.Prelude.{◌≡◌, ℕ, Bool, true, false, if◌then◌els
 use Rattle.std.specs.Prelude.{unwrap_or}
 use Rattle.std.specs.Option.{option_map}
 use Rattle.xt_image.specs.declared.image.Image.{Image}
+use Rattle.xt_trace.specs.declared.run.Run.{Run}
 use Rattle.xt_image.specs.ImageParts.{image_bytes}
 use Rattle.xt_elf.specs.Format.{elf_image}
 use Rattle.xt_elf.specs.Rules.{elf_fault}
