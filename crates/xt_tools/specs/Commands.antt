@@ -105,7 +105,7 @@ IsRaceTold input bytes = IsRaceText (events_of (image_in input) (run_in input)) 
 
 -- the call profile of a run, with keys that are cut at this depth, and with the turns from the cut
 -- on where they are asked for
-abbrev pub profile_by : ProfileOptions → Image → Run → List ℕ
+unfoldable pub profile_by : ProfileOptions → Image → Run → List ℕ
 profile_by o image r =
     if o.after then whole_text o.depth (whole_of o.depth image r)
     else profile_text o.depth (profile_of o.depth image r)

@@ -1,24 +1,27 @@
 //! The commands over recordings.
 ghost use Rattle.std.specs.Prelude.{◌≡◌, ◌≢◌, IfOk, IfErr, Some};
+ghost use Rattle.xt_map.specs.Placing.{IsPlaced};
+ghost use Rattle.xt_core.specs.Runs.{IsRunOf};
 ghost use Rattle.xt_record.specs.Fields.{image_in};
 ghost use Rattle.xt_record.specs.Format.{run_in};
 ghost use Rattle.xt_status.specs.Inputs.{recording_refusal};
-ghost use Rattle.xt_tools.specs.Commands.{IsCountsTold, IsMade, IsRaceTold, filter_of, events_output, migrated_recording, profile_output, trace_output};
+ghost use Rattle.xt_tools.specs.Commands.{IsCountsTold, IsMade, IsRaceTold, filter_of, events_output, migrated_recording, profile_by, profile_output, trace_output};
 ghost use Rattle.xt_tools.specs.Puts.{Puts};
 ghost use Rattle.xt_use_report.specs.UseFindings.{IsUsesTold};
 
 use crate::turns::write_turns;
-use std::alloc::Global;
+use std::alloc::{AllocError, Global};
 use xt_command_line::{ProfileOptions, Turns};
 use xt_counts::counts_text;
 use xt_events::{Filter, TurnLines, events_text};
-use xt_image::well_formed_is_placed;
+use xt_image::{Image, well_formed_is_placed};
 use xt_io::Sink;
 use xt_map::Text;
 use xt_profile::{profile_text, whole_profile, whole_text};
 use xt_race::race_text;
 use xt_record::write_recording;
 use xt_status::{Status, recording_in, status_after};
+use xt_trace::Run;
 use xt_use_report::uses_text;
 use xt_uses::Discipline;
 
@@ -67,6 +70,27 @@ pub fn race(alloc: Global, input: &[u8]) -> Result<Text, Status>
     race_text(alloc, &image, &run).map_err(|_| Status::Memory)
 }
 
+// The text of the call profile of a run, with these options. The only error is running out of memory.
+#[tactic(auto, unfolding(crate::specs::Commands::profile_by))]
+fn profile_by(
+    alloc: Global,
+    options: ProfileOptions,
+    image: &Image,
+    run: &Run,
+) -> Result<Text, AllocError>
+    requires placed { IsPlaced image.now.segments }
+    requires run { IsRunOf image.now run.now }
+    ensures { IfOk result (λ text. text ≡ profile_by options image.now run.now) }
+{
+    if options.after {
+        let whole = whole_profile(alloc, options.depth, image, run)?;
+        whole_text(alloc, options.depth, &whole)
+    } else {
+        let found = xt_profile::profile(alloc, options.depth, image, run)?;
+        profile_text(alloc, options.depth, &found)
+    }
+}
+
 /// The call profile of a recorded run, with these options, or the status of the recording's first fault.
 #[tactic(auto, unfolding(crate::specs::Commands::profile_output))]
 pub fn profile(alloc: Global, options: ProfileOptions, input: &[u8]) -> Result<Text, Status>
@@ -75,16 +99,7 @@ pub fn profile(alloc: Global, options: ProfileOptions, input: &[u8]) -> Result<T
 {
     let (image, run) = recording_in(alloc, input)?;
     well_formed_is_placed();
-    if options.after {
-        let Ok(whole) = whole_profile(alloc, options.depth, &image, &run) else {
-            return Err(Status::Memory);
-        };
-        return whole_text(alloc, options.depth, &whole).map_err(|_| Status::Memory);
-    }
-    let Ok(found) = xt_profile::profile(alloc, options.depth, &image, &run) else {
-        return Err(Status::Memory);
-    };
-    profile_text(alloc, options.depth, &found).map_err(|_| Status::Memory)
+    profile_by(alloc, options, &image, &run).map_err(|_| Status::Memory)
 }
 
 /// The first breach of a recorded run by this discipline of uses, or the status of the recording's first fault.
