@@ -10,5 +10,5 @@ returns-in-Err-clause-answers g c =
 pub unreachable-requires : goal.unreachable-requires
 unreachable-requires g c = not_work _ _ _ c.requires.threads c.in-Ok-Work.field-0-is c.in-Ok-Work.ensures.means
 
-pub unreachable-in-Ok-Session-requires : goal.unreachable-in-Ok-Session-requires
-unreachable-in-Ok-Session-requires g c = not_session _ _ _ c.requires.threads c.in-Ok-Session.field-0-is c.in-Ok-Session.ensures.means
+pub unreachable-requires-in-Ok-Session : goal.unreachable-requires-in-Ok-Session
+unreachable-requires-in-Ok-Session g c = not_session _ _ _ c.requires.threads c.in-Ok-Session.field-0-is c.in-Ok-Session.ensures.means
