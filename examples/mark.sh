@@ -2,6 +2,7 @@
 # Marks texts: sh examples/mark.sh FOLDER, at the top of the repository. For each FOLDER/NAME.s, to which it appends the
 # window handlers if it has none, it prints what came of it by the exit codes of docs/STATUS.md, and the words of a
 # terminal. docs/WORKSHEET.md shows what it prints.
+[ -d "${1-}" ] || { echo "sh examples/mark.sh FOLDER" >&2; exit 64; }
 made=$(mktemp -d) || exit 1
 trap 'rm -rf "$made"' EXIT
 for text in "$1"/*.s; do
