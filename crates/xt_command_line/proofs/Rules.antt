@@ -114,16 +114,16 @@ number_by-answers : (rows : Option (List Row)) → number_by rows ≢ Err refusa
 number_by-answers None = λ e. search (rules, e)
 number_by-answers (Some rows) = judged_number-answers (number_in (first_of (codes "number") rows))
 
-chosen-answers : (from to : Option ℕ) (core : Option (Option ℕ)) (accesses jumps : Bool) → chosen_turns from to core accesses jumps ≢ Err refusal.Memory
-chosen-answers None to core accesses jumps = λ e. search (rules, e)
-chosen-answers (Some from) None core accesses jumps = λ e. search (rules, e)
-chosen-answers (Some from) (Some to) None accesses jumps = λ e. search (rules, e)
-chosen-answers (Some from) (Some to) (Some core) accesses jumps = λ e. search (rules, e)
+chosen-answers : (from to : Option ℕ) (core : Option (Option ℕ)) (accesses jumps frames : Bool) → chosen_turns from to core accesses jumps frames ≢ Err refusal.Memory
+chosen-answers None to core accesses jumps frames = λ e. search (rules, e)
+chosen-answers (Some from) None core accesses jumps frames = λ e. search (rules, e)
+chosen-answers (Some from) (Some to) None accesses jumps frames = λ e. search (rules, e)
+chosen-answers (Some from) (Some to) (Some core) accesses jumps frames = λ e. search (rules, e)
 
 turns_by-answers : (rows : Option (List Row)) → turns_by rows ≢ Err refusal.Memory
 turns_by-answers None = λ e. search (rules, e)
 turns_by-answers (Some rows) = chosen-answers (said_or number_of 0 (first_of (codes "from") rows)) (said_or number_of 0xFFFFFFFF (first_of (codes "to") rows))
-    (said_or core_of None (first_of (codes "core") rows)) (is_set (first_of (codes "accesses") rows)) (is_set (first_of (codes "jumps") rows))
+    (said_or core_of None (first_of (codes "core") rows)) (is_set (first_of (codes "accesses") rows)) (is_set (first_of (codes "jumps") rows)) (is_set (first_of (codes "frames") rows))
 
 rigor_by-answers : (rows : Option (List Row)) → rigor_by rows ≢ Err refusal.Memory
 rigor_by-answers None = λ e. search (rules, e)

@@ -9,16 +9,18 @@ use Rattle.xt_command_line.specs.declared.command.Refusal.{Refusal}
 use Rattle.xt_command_line.specs.declared.command.Refusal.TheVariants as refusal
 use Rattle.xt_command_line.specs.declared.command.Turns.{Turns}
 
--- trace [--from N] [--to N] [--core C] [--accesses] [--jumps]
+-- trace [--from N] [--to N] [--core C] [--accesses] [--jumps] [--frames]
 abbrev pub trace_app : App
 trace_app =
     with_flag
+    (with_flag
     (with_flag
     (with_option
     (with_option (with_option (new_app (codes "trace")) (codes "from")) (codes "to"))
     (codes "core"))
     (codes "accesses"))
-    (codes "jumps")
+    (codes "jumps"))
+    (codes "frames")
 
 -- a number that is one of a core, 0 or 1
 abbrev pub core_in : ℕ → Option ℕ
@@ -29,12 +31,20 @@ abbrev pub core_of : Text → Option (Option ℕ)
 core_of text = option_map Some (option_and_then core_in (number_of text))
 
 -- the positions from one number on to before another, of which turns of a core, with an access and
--- that jump are asked for; a text that is no number, or no core, breaks a rule
+-- that jump are asked for, and frames on their lines; a text that is no number, or no core, breaks a
+-- rule
 abbrev pub chosen_turns :
-    Option ℕ → Option ℕ → Option (Option ℕ) → Bool → Bool → Result Turns Refusal
-chosen_turns (Some from) (Some to) (Some core) accesses jumps =
-    Ok (record { from = from; to = to; core = core; accesses = accesses; jumps = jumps })
-chosen_turns _ _ _ accesses jumps = Err (refusal.Usage 4)
+    Option ℕ → Option ℕ → Option (Option ℕ) → Bool → Bool → Bool → Result Turns Refusal
+chosen_turns (Some from) (Some to) (Some core) accesses jumps frames =
+    Ok (record {
+      from = from;
+      to = to;
+      core = core;
+      accesses = accesses;
+      jumps = jumps;
+      frames = frames;
+    })
+chosen_turns _ _ _ accesses jumps frames = Err (refusal.Usage 4)
 
 -- where no word says them, the first position is 0, the last one that of the run, and no core is
 -- asked for
@@ -47,6 +57,7 @@ turns_by (Some rows) =
     (said_or core_of None (first_of (codes "core") rows))
     (is_set (first_of (codes "accesses") rows))
     (is_set (first_of (codes "jumps") rows))
+    (is_set (first_of (codes "frames") rows))
 
 -- the turns that the words of `trace` say, or the first rule of usage that they break
 abbrev pub turns_of : List Text → Result Turns Refusal

@@ -20,6 +20,8 @@ pub struct Turns {
     pub accesses: bool,
     /// A turn after which the core goes on elsewhere than behind the instruction (`--jumps`).
     pub jumps: bool,
+    /// Whether each line has what the machine with unbounded frames knows after the turn (`--frames`).
+    pub frames: bool,
 }
 
 /// Where control begins in an image, beside its entry.

@@ -218,7 +218,8 @@ fn trace_command<'a>(alloc: Global) -> Result<Command<'a>, AllocError>
     let command = with_one_option(alloc, command, "to")?;
     let command = with_one_option(alloc, command, "core")?;
     let command = with_one_flag(alloc, command, "accesses")?;
-    with_one_flag(alloc, command, "jumps")
+    let command = with_one_flag(alloc, command, "jumps")?;
+    with_one_flag(alloc, command, "frames")
 }
 
 /// What `clap` matches on the words of `trace`.

@@ -31,8 +31,9 @@ fn choose(
     core: Option<Option<u8>>,
     accesses: bool,
     jumps: bool,
+    frames: bool,
 ) -> Result<Turns, Refusal>
-    ensures { result ≡ chosen_turns from to core accesses jumps }
+    ensures { result ≡ chosen_turns from to core accesses jumps frames }
 {
     match (from, to, core) {
         (Some(from), Some(to), Some(core)) => Ok(Turns {
@@ -41,6 +42,7 @@ fn choose(
             core,
             accesses,
             jumps,
+            frames,
         }),
         _ => Err(Refusal::Usage(4)),
     }
@@ -49,9 +51,9 @@ fn choose(
 /// The turns that the words of `trace` say, the first of which stands for the command.
 ///
 /// The words are read as a simple command of `clap` with the options `--from N`, whose default is 0, `--to N`, whose
-/// default is above every position, and `--core C`, and the flags `--accesses` and `--jumps`. N is as for `run`, and C is
-/// a number that is 0 or 1. `Usage` has the first rule that the words break: 3 they do not match, 4 a text is no number,
-/// or no core. `Memory` says only that memory ran out.
+/// default is above every position, and `--core C`, and the flags `--accesses`, `--jumps` and `--frames`. N is as for
+/// `run`, and C is a number that is 0 or 1. `Usage` has the first rule that the words break: 3 they do not match, 4 a text
+/// is no number, or no core. `Memory` says only that memory ran out.
 pub fn trace_turns(alloc: Global, words: &[String]) -> Result<Turns, Refusal>
     ensures { Means result (turns_of (map string_bytes words.now)) }
 {
@@ -62,5 +64,6 @@ pub fn trace_turns(alloc: Global, words: &[String]) -> Result<Turns, Refusal>
         given_core(text_of(&matches, "core")),
         is_true(text_of(&matches, "accesses")),
         is_true(text_of(&matches, "jumps")),
+        is_true(text_of(&matches, "frames")),
     )
 }

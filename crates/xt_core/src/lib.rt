@@ -13,6 +13,8 @@ mod replies;
 mod turn;
 
 pub use begin::Begin;
+pub use begun::StartedTurn;
 pub use cores::Core;
 pub use cursor::Cursor;
 pub use links::stack_links;
+pub use turn::{begin as start_turn, end as end_turn};

@@ -7,3 +7,5 @@ pub mod Stores
 pub mod Ranges
 pub mod Lines
 pub mod Knowing
+pub mod FrameWalking
+pub mod FrameNoting

@@ -5,5 +5,7 @@ pub mod Printed
 pub mod Searches
 pub mod Depths
 pub mod Calls
+pub mod FrameNotes
+pub mod FrameWalks
 pub mod Scripts
 pub mod Runs

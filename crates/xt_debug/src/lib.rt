@@ -3,6 +3,9 @@
 
 mod calls;
 mod depths;
+mod frame_lines;
+mod frame_notes;
+mod frame_walk;
 mod parsing;
 mod printing;
 mod ring;
@@ -12,6 +15,7 @@ mod searching;
 mod special;
 mod turns;
 
+pub use frame_lines::FrameLines;
 pub use parsing::parse_script;
 pub use running::{Printed, run_script};
 pub use script::{Command, Script, ScriptFault};

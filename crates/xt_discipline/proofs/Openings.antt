@@ -15,7 +15,7 @@ use Rattle.xt_frames.specs.Verdict.{Judgement, judgement, opening_known, verdict
 use Rattle.xt_frames.specs.Judging.{opening_standing}
 use Rattle.xt_frames.specs.Walked.{Walked, opening_walked, stack_of}
 use Rattle.xt_discipline.specs.declared.side.Side.{Side}
-use Rattle.xt_discipline.specs.declared.side.Mode.TheVariants as mode
+use Rattle.xt_frames.specs.declared.kinds.HandlerPhase.TheVariants.{Outside}
 use Rattle.xt_discipline.specs.declared.walk.Walk.{Walk}
 use Rattle.xt_discipline.specs.ByteMarks.{AreOpened, KnowsOf}
 use Rattle.xt_discipline.specs.Sides.{live_in}
@@ -25,7 +25,7 @@ use Rattle.xt_discipline.specs.Verdicts.{judgement_in}
 use Rattle.xt_discipline.proofs.Opens.{live_opened, stack_valid}
 
 abbrev pub side_at : ℕ → ℕ → Walked → Side
-side_at core hi frames = record { core = core; hi = hi; frames = frames; mode = mode.Plain; steps = 0 }
+side_at core hi frames = record { core = core; hi = hi; frames = frames; phase = Outside; steps = 0 }
 
 nothing_less : (n : ℕ) → 0 ≤ n
 nothing_less n = omega arith

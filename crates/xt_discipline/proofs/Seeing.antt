@@ -11,10 +11,10 @@ use Rattle.xt_frames.specs.SaveAreas.{is_live}
 use Rattle.xt_frames.specs.Breaches.{Bounds, breach_of, inputs_of, stale_after, stores_at, window_breach}
 use Rattle.xt_frames.specs.Stacks.{Moves, Stays, Calls, Stack}
 use Rattle.xt_frames.specs.Stacks as moves
-use Rattle.xt_frames.specs.HandlerSteps.{Mode, Handles, is_window, mode_after}
+use Rattle.xt_frames.specs.declared.kinds.HandlerPhase.{HandlerPhase}
+use Rattle.xt_frames.specs.declared.kinds.HandlerPhase.TheVariants.{Outside, InHandler, Nested}
+use Rattle.xt_frames.specs.HandlerSteps.{is_window, phase_after}
 use Rattle.xt_frames.specs.Nesting.{current, is_nesting}
-use Rattle.xt_discipline.specs.declared.side.Mode as declared
-use Rattle.xt_discipline.specs.declared.side.Mode.TheVariants as mode
 use Rattle.xt_frames.specs.Judging.{Standing, Seen, Handled, seen_record, seen_in, seen_judged, seen_plain, seen_step, seen_window, fresh_on, step_on}
 use Rattle.std.specs.Prelude.{IfOk}
 use Rattle.xt_frames.specs.Walked.{IsBreach, IsJudged, Walked, found_in, fresh_before, walked_past}
@@ -23,7 +23,7 @@ use Rattle.xt_discipline.specs.declared.side.Areas.{Areas}
 use Rattle.xt_discipline.specs.declared.side.Side.{Side}
 use Rattle.xt_discipline.specs.declared.bytes.Change.TheVariants.{Stored}
 use Rattle.xt_discipline.specs.ByteMarks.{AreChanged, KnowsOf, either}
-use Rattle.xt_discipline.specs.Sides.{Begins, IsCallOf, IsFollowed, IsPast, IsSeen, IsSide, live_in, mode_of, standing_of}
+use Rattle.xt_discipline.specs.Sides.{Begins, IsCallOf, IsFollowed, IsPast, IsSeen, IsSide, live_in, standing_of}
 use Rattle.xt_discipline.proofs.Moved.{known_moves}
 
 pub late : (x : Bool) (next steps : ℕ) → next ≤ steps → (x && (next == steps + 1)) ≡ false
@@ -43,8 +43,8 @@ le_same a = omega arith
 pub next_is : (n : ℕ) → n + 1 ≡ suc n
 next_is n = omega arith
 
-abbrev standing : FrameState → Bool → Mode → Standing
-standing f fresh mode = record { frame = f; fresh = fresh; mode = mode }
+abbrev standing : FrameState → Bool → HandlerPhase → Standing
+standing f fresh phase = record { frame = f; fresh = fresh; phase = phase }
 
 pub breach_is : (b : Breach) (core step : ℕ) → b.core ≡ core → b.step ≡ step → b ≡ record { core = core; step = step; kind = b.kind }
 breach_is b core step e f =
@@ -52,18 +52,18 @@ breach_is b core step e f =
     ap (λ (c : ℕ). at c b.step) e ∙ ap (λ (s : ℕ). at core s) f
 
 -- ---- handler steps
-pub handled_seen : (old new : Side) (marks : List Held) (others stale : ℕ → Bool) (code : ℕ → ℕ) (rec : StepRecord) (u : Unit) (next : declared.Mode) → old.mode ≡ mode.Handles → is_nesting rec.kind ≡ false
-    → mode_of next ≡ mode_after code (mode_of old.mode) rec → IsSide old
-    → new ≡ record old { mode = next; steps = old.steps + 1 } → KnowsOf old.core marks (live_in old.frames) others stale
+pub handled_seen : (old new : Side) (marks : List Held) (others stale : ℕ → Bool) (code : ℕ → ℕ) (rec : StepRecord) (u : Unit) (next : HandlerPhase) → old.phase ≡ InHandler → is_nesting rec.kind ≡ false
+    → next ≡ phase_after code old.phase rec → IsSide old
+    → new ≡ record old { phase = next; steps = old.steps + 1 } → KnowsOf old.core marks (live_in old.frames) others stale
     → IsSeen old new marks others stale (seen_record code old.frames.bounds (standing_of old) others stale rec) (Ok u)
 handled_seen old new marks others stale code rec u next h q n k e known =
-    let st = standing old.frames.state false (mode_after code (mode_of old.mode) rec) in
-    let z : seen_record code old.frames.bounds (standing_of old) others stale rec ≡ Handled st = ap (λ (m : declared.Mode). seen_in (mode_of m) code old.frames.bounds (standing_of old) others stale rec) h ∙ cond-false (is_nesting rec.kind) _ _ q in
+    let st = standing old.frames.state false (phase_after code old.phase rec) in
+    let z : seen_record code old.frames.bounds (standing_of old) others stale rec ≡ Handled st = ap (λ (m : HandlerPhase). seen_in m code old.frames.bounds (standing_of old) others stale rec) h ∙ cond-false (is_nesting rec.kind) _ _ q in
     let P : Side → Type 0 = λ n. IsPast old n marks others stale st in
     let past = k.past in
-    let is : standing old.frames.state (old.frames.fresh && (old.frames.next == old.steps + 1)) (mode_of next) ≡ st =
-    ap (λ (b : Bool). standing old.frames.state b (mode_of next)) (late old.frames.fresh old.frames.next old.steps past) ∙ ap (λ (m : Mode). standing old.frames.state false m) n in
-    let there : P (record old { mode = next; steps = old.steps + 1 }) = record {
+    let is : standing old.frames.state (old.frames.fresh && (old.frames.next == old.steps + 1)) next ≡ st =
+    ap (λ (b : Bool). standing old.frames.state b next) (late old.frames.fresh old.frames.next old.steps past) ∙ ap (λ (m : HandlerPhase). standing old.frames.state false m) n in
+    let there : P (record old { phase = next; steps = old.steps + 1 }) = record {
       side = record { core_is = k.core_is; end_is = k.end_is; low = k.low; high = k.high; past = le_more old.frames.next old.steps past };
       core_is = refl;
       bounds_are = refl;
@@ -73,26 +73,26 @@ handled_seen old new marks others stale code rec u next h q n k e known =
     } in
     subst (λ (s : Seen). IsSeen old new marks others stale s (Ok u)) (sym z) (subst P (sym e) there)
 
--- ---- records in the plain mode
-plain_seen : (old : Side) (others stale : ℕ → Bool) (code : ℕ → ℕ) (rec : StepRecord) → old.mode ≡ mode.Plain
+-- ---- records outside handler steps
+plain_seen : (old : Side) (others stale : ℕ → Bool) (code : ℕ → ℕ) (rec : StepRecord) → old.phase ≡ Outside
     → seen_record code old.frames.bounds (standing_of old) others stale rec ≡ seen_plain code old.frames.bounds (standing_of old) others stale rec
-plain_seen old others stale code rec h = ap (λ (m : declared.Mode). seen_in (mode_of m) code old.frames.bounds (standing_of old) others stale rec) h
+plain_seen old others stale code rec h = ap (λ (m : HandlerPhase). seen_in m code old.frames.bounds (standing_of old) others stale rec) h
 
-pub begin_seen : (old new : Side) (marks : List Held) (others stale : ℕ → Bool) (code : ℕ → ℕ) (rec : StepRecord) (r : Result Unit Breach) → old.mode ≡ mode.Plain → is_window rec.kind ≡ true → IsSide old
+pub begin_seen : (old new : Side) (marks : List Held) (others stale : ℕ → Bool) (code : ℕ → ℕ) (rec : StepRecord) (r : Result Unit Breach) → old.phase ≡ Outside → is_window rec.kind ≡ true → IsSide old
     → Begins (window_breach code rec.kind (with_inputs (inputs_of rec) (current old.frames.state))) old r new → KnowsOf old.core marks (live_in old.frames) others stale
     → IsSeen old new marks others stale (seen_record code old.frames.bounds (standing_of old) others stale rec) r
 begin_seen old new marks others stale code rec (Ok u) h w k begins known =
     let f = old.frames.state in
-    let st = standing f false Handles in
+    let st = standing f false InHandler in
     let z = plain_seen old others stale code rec h ∙ (cond-true (is_window rec.kind) _ _ w ∙ ap (λ (o : Option BreachKind). seen_window o f) begins.0) in
     let P : Side → Type 0 = λ n. IsPast old n marks others stale st in
     let past = k.past in
-    let there : P (record old { mode = mode.Handles; steps = old.steps + 1 }) = record {
+    let there : P (record old { phase = InHandler; steps = old.steps + 1 }) = record {
       side = record { core_is = k.core_is; end_is = k.end_is; low = k.low; high = k.high; past = le_more old.frames.next old.steps past };
       core_is = refl;
       bounds_are = refl;
       steps_are = next_is old.steps;
-      standing_is = ap (λ (b : Bool). standing f b Handles) (late old.frames.fresh old.frames.next old.steps past);
+      standing_is = ap (λ (b : Bool). standing f b InHandler) (late old.frames.fresh old.frames.next old.steps past);
       marks_are = known;
     } in
     subst (λ (s : Seen). IsSeen old new marks others stale s (Ok u)) (sym z) (subst P (sym begins.1) there)
@@ -106,36 +106,36 @@ abbrev pub found_by : Side → (ℕ → Bool) → (ℕ → Bool) → (ℕ → �
 found_by old others stale code nested rec = breach_of old.frames.bounds (fresh_before old.frames old.steps) code (either (live_in old.frames) others) stale nested rec old.frames.state
 
 -- ---- judged records
-pub plain_judged : (old : Side) (others stale : ℕ → Bool) (code : ℕ → ℕ) (rec : StepRecord) → old.mode ≡ mode.Plain → is_window rec.kind ≡ false
+pub plain_judged : (old : Side) (others stale : ℕ → Bool) (code : ℕ → ℕ) (rec : StepRecord) → old.phase ≡ Outside → is_window rec.kind ≡ false
     → seen_record code old.frames.bounds (standing_of old) others stale rec ≡ seen_judged code old.frames.bounds (standing_of old) others stale false rec
 plain_judged old others stale code rec h w = plain_seen old others stale code rec h ∙ cond-false (is_window rec.kind) _ _ w
 
-pub nesting_judged : (old : Side) (others stale : ℕ → Bool) (code : ℕ → ℕ) (rec : StepRecord) → old.mode ≡ mode.Handles → is_nesting rec.kind ≡ true
+pub nesting_judged : (old : Side) (others stale : ℕ → Bool) (code : ℕ → ℕ) (rec : StepRecord) → old.phase ≡ InHandler → is_nesting rec.kind ≡ true
     → seen_record code old.frames.bounds (standing_of old) others stale rec ≡ seen_judged code old.frames.bounds (standing_of old) others stale true rec
 nesting_judged old others stale code rec h w =
-    ap (λ (m : declared.Mode). seen_in (mode_of m) code old.frames.bounds (standing_of old) others stale rec) h ∙ cond-true (is_nesting rec.kind) _ _ w
+    ap (λ (m : HandlerPhase). seen_in m code old.frames.bounds (standing_of old) others stale rec) h ∙ cond-true (is_nesting rec.kind) _ _ w
 
-pub nested_judged : (old : Side) (others stale : ℕ → Bool) (code : ℕ → ℕ) (rec : StepRecord) → old.mode ≡ mode.Nests
+pub nested_judged : (old : Side) (others stale : ℕ → Bool) (code : ℕ → ℕ) (rec : StepRecord) → old.phase ≡ Nested
     → seen_record code old.frames.bounds (standing_of old) others stale rec ≡ seen_judged code old.frames.bounds (standing_of old) others stale true rec
-nested_judged old others stale code rec h = ap (λ (m : declared.Mode). seen_in (mode_of m) code old.frames.bounds (standing_of old) others stale rec) h
+nested_judged old others stale code rec h = ap (λ (m : HandlerPhase). seen_in m code old.frames.bounds (standing_of old) others stale rec) h
 
 pub step_seen : (old new : Side) (marks : List Held) (others stale : ℕ → Bool) (s t : Seen) (r : Result Unit Breach) → s ≡ t
     → IsSeen old new marks others stale t r → IsSeen old new marks others stale s r
 step_seen old new marks others stale s t r same judged = subst (λ (x : Seen). IsSeen old new marks others stale x r) (sym same) judged
 
 -- a judged step that shows no breach
-pub judged_past : (old new : Side) (frames : Walked) (marks : List Held) (others stale : ℕ → Bool) (code : ℕ → ℕ) (rec : StepRecord) (found : Option BreachKind) (u : Unit) (nested : Bool) (next_mode : declared.Mode)
-    → mode_of next_mode ≡ mode_after code (mode_of old.mode) rec → IsSide old → found ≡ None → frames ≡ walked_past old.frames code old.steps nested rec → new ≡ record old { frames = frames; mode = next_mode; steps = old.steps + 1 }
+pub judged_past : (old new : Side) (frames : Walked) (marks : List Held) (others stale : ℕ → Bool) (code : ℕ → ℕ) (rec : StepRecord) (found : Option BreachKind) (u : Unit) (nested : Bool) (next_phase : HandlerPhase)
+    → next_phase ≡ phase_after code old.phase rec → IsSide old → found ≡ None → frames ≡ walked_past old.frames code old.steps nested rec → new ≡ record old { frames = frames; phase = next_phase; steps = old.steps + 1 }
     → KnowsOf old.core marks (is_live old.frames.bounds.range frames.state) others (stale_after (λ a. is_live old.frames.bounds.range frames.state a || others a) (λ a. live_in old.frames a || others a) stale rec.access)
     → IsSeen old new marks others stale (seen_step found code old.frames.bounds (standing_of old) others stale nested rec) (Ok u)
-judged_past old new frames marks others stale code rec found u nested next_mode h k none is made known =
+judged_past old new frames marks others stale code rec found u nested next_phase h k none is made known =
     let r = old.frames.bounds.range in
     let f = old.frames.state in
     let after = (step_on code nested rec f).after in
     let fresh = fresh_on (fresh_before old.frames old.steps) code nested rec f in
-    let st = standing after fresh (mode_after code (mode_of old.mode) rec) in
-    let next = record old { frames = walked_past old.frames code old.steps nested rec; mode = next_mode; steps = old.steps + 1 } in
-    let made_is : new ≡ next = made ∙ ap (λ (w : Walked). record old { frames = w; mode = next_mode; steps = old.steps + 1 }) is in
+    let st = standing after fresh (phase_after code old.phase rec) in
+    let next = record old { frames = walked_past old.frames code old.steps nested rec; phase = next_phase; steps = old.steps + 1 } in
+    let made_is : new ≡ next = made ∙ ap (λ (w : Walked). record old { frames = w; phase = next_phase; steps = old.steps + 1 }) is in
     let bytes : (ℕ → Bool) = stale_after (λ a. is_live r after a || others a) (λ a. live_in old.frames a || others a) stale rec.access in
     let K : FrameState → Type 0 = λ s. KnowsOf old.core marks (is_live r s) others (stale_after (λ a. is_live r s a || others a) (λ a. live_in old.frames a || others a) stale rec.access) in
     let P : Side → Type 0 = λ n. IsPast old n marks others bytes st in
@@ -144,7 +144,7 @@ judged_past old new frames marks others stale code rec found u nested next_mode 
       core_is = refl;
       bounds_are = refl;
       steps_are = next_is old.steps;
-      standing_is = ap (λ (b : Bool). standing after b (mode_of next_mode)) (at_last fresh (old.steps + 1)) ∙ ap (λ (m : Mode). standing after fresh m) h;
+      standing_is = ap (λ (b : Bool). standing after b next_phase) (at_last fresh (old.steps + 1)) ∙ ap (λ (m : HandlerPhase). standing after fresh m) h;
       marks_are = subst K (ap (λ (w : Walked). w.state) is) known;
     } in
     subst (λ (o : Option BreachKind). IsSeen old new marks others stale (seen_step o code old.frames.bounds (standing_of old) others stale nested rec) (Ok u)) (sym none) (subst P (sym made_is) there)
@@ -186,9 +186,9 @@ breach_where w new code index nested rec found r b e j =
 pub moves_where : (g f : FrameState) (r : Result Unit Breach) (u : Unit) → r ≡ Ok u → IfOk r (λ (v : Unit). Moves g f) → Moves g f
 moves_where g f r u e m = subst (λ (x : Result Unit Breach). IfOk x (λ (v : Unit). Moves g f)) e m
 
-pub side_past : (s : Side) (frames : Walked) (code : ℕ → ℕ) (nested : Bool) (rec : StepRecord) (next : declared.Mode) → IsSide s → frames ≡ walked_past s.frames code s.steps nested rec → IsSide (record s { frames = frames; mode = next; steps = s.steps + 1 })
+pub side_past : (s : Side) (frames : Walked) (code : ℕ → ℕ) (nested : Bool) (rec : StepRecord) (next : HandlerPhase) → IsSide s → frames ≡ walked_past s.frames code s.steps nested rec → IsSide (record s { frames = frames; phase = next; steps = s.steps + 1 })
 side_past s frames code nested rec next k is =
-    let P : Walked → Type 0 = λ w. IsSide (record s { frames = w; mode = next; steps = s.steps + 1 }) in
+    let P : Walked → Type 0 = λ w. IsSide (record s { frames = w; phase = next; steps = s.steps + 1 }) in
     let there : P (walked_past s.frames code s.steps nested rec) = record { core_is = k.core_is; end_is = k.end_is; low = k.low; high = k.high; past = le_same (s.steps + 1) } in
     subst P (sym is) there
 

@@ -10,4 +10,4 @@ pub mod Schedules
 pub mod Ordered
 pub mod Verdicts
 pub mod Before
-pub mod Modes
+pub mod Phases

@@ -9,15 +9,13 @@ use Rattle.xt_frames.specs.Stacks.{Calls, Moves, Stays}
 use Rattle.xt_frames.specs.Stacks as moves
 use Rattle.xt_frames.specs.declared.kinds.Breach.{Breach}
 use Rattle.xt_frames.specs.declared.kinds.BreachKind.{BreachKind}
-use Rattle.xt_frames.specs.HandlerSteps.{Mode, Plain, Handles, Nests}
+use Rattle.xt_frames.specs.declared.kinds.HandlerPhase.TheVariants.{InHandler}
 use Rattle.xt_frames.specs.Judging.{Standing, Seen, Handled, Judges, Breaks}
 use Rattle.xt_frames.specs.Walked.{Walked, fresh_before}
 use Rattle.xt_discipline.specs.declared.bytes.Held.{Held}
 use Rattle.xt_discipline.specs.declared.bytes.Change.TheVariants.{Enters, Leaves}
 use Rattle.xt_discipline.specs.declared.side.Areas.{Areas}
 use Rattle.xt_discipline.specs.declared.side.Side.{Side}
-use Rattle.xt_discipline.specs.declared.side.Mode as declared
-use Rattle.xt_discipline.specs.declared.side.Mode.TheVariants as mode
 use Rattle.xt_discipline.specs.ByteMarks.{AreChanged, KnowsOf, first, opened_at}
 
 -- the byte lies in one of both areas
@@ -62,16 +60,11 @@ IsFollowed core hi g u (moves.Leaves f e s) mid new =
 -- ---- a record of the core
 
 -- what the definition of the verdict knows of the core
-abbrev pub mode_of : declared.Mode → Mode
-mode_of mode.Plain = Plain
-mode_of mode.Handles = Handles
-mode_of mode.Nests = Nests
-
 abbrev pub standing_of : Side → Standing
 standing_of s = record {
   frame = s.frames.state;
   fresh = fresh_before s.frames s.steps;
-  mode = mode_of s.mode;
+  phase = s.phase;
 }
 
 -- the core past one record more, which leaves it so, and the marks as those of these bytes
@@ -96,6 +89,6 @@ IsSeen old new marks others stale _ _ = ⊥
 -- handler steps begin, where the record that begins them shows no breach
 abbrev pub Begins : Option BreachKind → Side → Result Unit Breach → Side → Type 0
 Begins found old (Ok u) new =
-    (found ≡ None) × (new ≡ record old { mode = mode.Handles; steps = old.steps + 1 })
+    (found ≡ None) × (new ≡ record old { phase = InHandler; steps = old.steps + 1 })
 Begins found old (Err b) new =
     (found ≡ Some b.kind) × (b.core ≡ old.frames.core) × (b.step ≡ old.steps)

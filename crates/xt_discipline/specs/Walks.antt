@@ -10,7 +10,7 @@ use Rattle.xt_trace.specs.declared.record.StepRecord.{StepRecord}
 use Rattle.xt_frames.specs.declared.kinds.Judged.{Judged}
 use Rattle.xt_frames.specs.declared.kinds.Judged.TheVariants.{Whole, Broken}
 use Rattle.xt_frames.specs.Breaches.{Bounds}
-use Rattle.xt_frames.specs.HandlerSteps.{Mode}
+use Rattle.xt_frames.specs.declared.kinds.HandlerPhase.{HandlerPhase}
 use Rattle.xt_frames.specs.Judging.{Standing, seen_record}
 use Rattle.xt_frames.specs.Verdict.{Known, judgement, opening_known, verdict_on}
 use Rattle.xt_frames.specs.Walked.{opening_walked}
@@ -18,7 +18,7 @@ use Rattle.xt_discipline.specs.declared.bytes.Held.{Held}
 use Rattle.xt_discipline.specs.declared.side.Side.{Side}
 use Rattle.xt_discipline.specs.declared.walk.Walk.{Walk}
 use Rattle.xt_discipline.specs.ByteMarks.{KnowsOf}
-use Rattle.xt_discipline.specs.Sides.{IsSeen, IsSide, live_in, mode_of, standing_of}
+use Rattle.xt_discipline.specs.Sides.{IsSeen, IsSide, live_in, standing_of}
 
 -- a core that the definition knows so
 pub record IsKnown (s : Side) (core : ℕ) (b : Bounds) (st : Standing) (steps : ℕ) : Type 0 where
@@ -61,10 +61,10 @@ IsTurned code b0 b1 core k xs ys new xs' ys' (Ok u) =
 IsTurned code b0 b1 core k xs ys new xs' ys' (Err j) =
     (cs : List ℕ) → j ≡ verdict_on (judgement code b0 b1 (core ∷ cs) xs ys k).breach
 
--- the mode of a core before its next record
-abbrev pub mode_in : ℕ → Walk → Mode
-mode_in zero w = mode_of w.side0.mode
-mode_in (suc core) w = mode_of w.side1.mode
+-- the phase of a core before its next record
+abbrev pub phase_in : ℕ → Walk → HandlerPhase
+phase_in zero w = w.side0.phase
+phase_in (suc core) w = w.side1.phase
 
 -- both cores as they open
 pub record IsOpened (w : Walk) (code : List Segment) (entry : ℕ) (o : Options) : Type 0 where

@@ -6,21 +6,21 @@ ghost use Rattle.xt_map.specs.Memory.{constant_byte};
 ghost use Rattle.xt_frames.specs.Frames.{FrameState};
 ghost use Rattle.xt_frames.specs.FrameStep.{with_inputs};
 ghost use Rattle.xt_fetch.specs.Fetching.{fetch_at};
-ghost use Rattle.xt_frames.specs.HandlerSteps.{closes, ends_stretch, fetched_ends, is_window, mode_after, returns};
+ghost use Rattle.xt_frames.specs.HandlerSteps.{closes, ends_stretch, fetched_ends, is_window, phase_after, returns};
 ghost use Rattle.xt_frames.specs.Judging.{seen_record, seen_judged};
 ghost use Rattle.xt_frames.specs.Nesting.{current};
 ghost use Rattle.xt_frames.specs.Stacks.{Moves, Stack};
 ghost use Rattle.xt_frames.specs.Breaches.{inputs_of, stores_at, window_breach};
 ghost use Rattle.xt_discipline.specs.ByteMarks.{AreChanged, KnowsOf};
 ghost use Rattle.xt_discipline.specs.declared.bytes.Change.TheVariants.{Stored};
-ghost use Rattle.xt_discipline.specs.Sides.{Begins, IsCallOf, IsFollowed, IsSeen, IsSide, in_areas, live_in, mode_of, standing_of};
+ghost use Rattle.xt_discipline.specs.Sides.{Begins, IsCallOf, IsFollowed, IsSeen, IsSide, in_areas, live_in, standing_of};
 
 use crate::accesses::{loads, saves};
 use crate::bytes::{Change, Held, change_bytes};
 use crate::calling::{areas, newest};
 use xt_codec::{Fetch, instruction_at};
 use xt_fetch::code_three;
-use xt_frames::{Breach, Frames, ends_nested, is_nesting};
+use xt_frames::{Breach, Frames, HandlerPhase, ends_nested, is_nesting};
 use xt_isa::Insn;
 use xt_isa::system::{ReturnName, System};
 use xt_map::{Access, Constants, Kind};
@@ -37,24 +37,14 @@ pub struct Areas {
     pub size: u32,
 }
 
-/// What the next record is.
-#[derive(Clone, Copy)]
-pub enum Mode {
-    /// Judged, or the first of handler steps.
-    Plain,
-    /// A handler step, or the first of a nested interrupt.
-    Handles,
-    /// Nested, and judged.
-    Nests,
-}
-
 /// One core of the walk.
 #[derive(Drop)]
 pub struct Side {
     pub core: u8,
     pub hi: u32,
     pub frames: Frames,
-    pub mode: Mode,
+    // Before the next record.
+    pub phase: HandlerPhase,
     // The number of the next record.
     pub steps: u32,
 }
@@ -180,18 +170,18 @@ impl Side {
     }
 
     /// Judges a record that is no handler step: a breach, after which nothing has changed, or the frame step, whose save areas the marks
-    /// follow, and then the mode is the next one.
+    /// follow, and then the phase is the next one.
     fn judge(
         &mut self,
         code: &Constants,
         marks: &mut [Held],
         rec: &StepRecord,
         nested: bool,
-        next: Mode,
+        next: HandlerPhase,
     ) -> Result<(), Breach>
         requires side { IsSide self.old }
         requires room { self.old.steps + 1 < 2 ^ 32 }
-        requires next { mode_of next ≡ mode_after (constant_byte code.now) (mode_of self.old.mode) rec.now }
+        requires next { next ≡ phase_after (constant_byte code.now) self.old.phase rec.now }
         requires len { length marks.old ≡ 0x52000 }
         ensures len { length marks.new ≡ length marks.old }
         ensures seen { (others stale : ℕ → Bool) → KnowsOf self.old.core marks.old (live_in self.old.frames) others stale
@@ -208,7 +198,7 @@ impl Side {
         {
             // (so that what its stack is past the step is known)
             let _depth = self.frames.depth();
-            self.mode = next;
+            self.phase = next;
             self.steps += 1;
             store(marks, rec.access);
             return Ok(());
@@ -216,7 +206,7 @@ impl Side {
         let call = newest(&self.frames, self.hi);
         self.frames
             .judge_whole(code, self.steps, rec, nested, saves, stale)?;
-        self.mode = next;
+        self.phase = next;
         self.steps += 1;
         store(marks, rec.access);
         self.follow(marks, depth, call);
@@ -230,7 +220,7 @@ impl Side {
         ensures { Begins (window_breach (constant_byte code.now) rec.now.kind (with_inputs (inputs_of rec.now) (current self.old.frames.state))) self.old result self.new }
     {
         self.frames.test(code, self.steps, rec)?;
-        self.mode = Mode::Handles;
+        self.phase = HandlerPhase::InHandler;
         self.steps += 1;
         Ok(())
     }
@@ -250,28 +240,28 @@ impl Side {
             → IsSeen self.old self.new marks.new others stale
             (seen_record (constant_byte code.now) self.old.frames.bounds (standing_of self.old) others stale rec.now) result }
     {
-        match self.mode {
-            Mode::Plain => {
+        match self.phase {
+            HandlerPhase::Outside => {
                 if is_window(rec.kind) {
                     return self.begin(code, rec);
                 }
-                self.judge(code, marks, rec, false, Mode::Plain)
+                self.judge(code, marks, rec, false, HandlerPhase::Outside)
             }
-            Mode::Handles => {
+            HandlerPhase::InHandler => {
                 if is_nesting(rec.kind) {
-                    return self.judge(code, marks, rec, true, Mode::Nests);
+                    return self.judge(code, marks, rec, true, HandlerPhase::Nested);
                 }
                 if closes(code, rec) {
-                    self.mode = Mode::Plain;
+                    self.phase = HandlerPhase::Outside;
                 }
                 self.steps += 1;
                 Ok(())
             }
-            Mode::Nests => {
+            HandlerPhase::Nested => {
                 let next = if returns(code, rec) {
-                    Mode::Handles
+                    HandlerPhase::InHandler
                 } else {
-                    Mode::Nests
+                    HandlerPhase::Nested
                 };
                 self.judge(code, marks, rec, true, next)
             }

@@ -3,66 +3,65 @@
 
 ghost use Rattle.std.specs.Prelude.{◌≡◌, IfOk};
 ghost use Rattle.xt_map.specs.Memory.{constant_byte};
-ghost use Rattle.xt_frames.specs.HandlerSteps.{mode_after};
-ghost use Rattle.xt_discipline.specs.Modes.{modes_of, step_mode};
-ghost use Rattle.xt_discipline.specs.Sides.{mode_of};
+ghost use Rattle.xt_frames.specs.HandlerSteps.{phase_after};
+ghost use Rattle.xt_discipline.specs.Phases.{phases_of, step_phase};
 
-use crate::side::{Mode as Before, closes, is_window, returns};
-use crate::step_modes::{Mode, Modes};
+use crate::handler_phases::Phases;
+use crate::side::{closes, is_window, returns};
 use std::alloc::{AllocError, Global};
-use xt_frames::is_nesting;
+use xt_frames::{HandlerPhase, is_nesting};
 use xt_map::Constants;
 use xt_trace::{Records, StepKind, StepRecord};
 
-/// What a record of this kind is, in this mode before it.
-pub fn step_mode(before: Before, kind: StepKind) -> Mode
-    ensures { result ≡ step_mode (mode_of before) kind }
+/// What a record of this kind is, in this phase before it.
+pub fn step_phase(before: HandlerPhase, kind: StepKind) -> HandlerPhase
+    ensures { result ≡ step_phase before kind }
 {
     match before {
-        Before::Plain => {
+        HandlerPhase::Outside => {
             if is_window(kind) {
-                Mode::Handler
+                HandlerPhase::InHandler
             } else {
-                Mode::Plain
+                HandlerPhase::Outside
             }
         }
-        Before::Handles => {
+        HandlerPhase::InHandler => {
             if is_nesting(kind) {
-                Mode::Nested
+                HandlerPhase::Nested
             } else {
-                Mode::Handler
+                HandlerPhase::InHandler
             }
         }
-        Before::Nests => Mode::Nested,
+        HandlerPhase::Nested => HandlerPhase::Nested,
     }
 }
 
-/// The mode after a record.
-fn mode_after(code: &Constants, before: Before, rec: &StepRecord) -> Before
-    ensures { mode_of result ≡ mode_after (constant_byte code.now) (mode_of before) rec.now }
+/// The phase after a record.
+fn phase_after(code: &Constants, before: HandlerPhase, rec: &StepRecord) -> HandlerPhase
+    ensures { result ≡ phase_after (constant_byte code.now) before rec.now }
 {
     match before {
-        Before::Plain => {
+        HandlerPhase::Outside => {
             if is_window(rec.kind) {
-                Before::Handles
+                HandlerPhase::InHandler
             } else {
-                Before::Plain
+                HandlerPhase::Outside
             }
         }
-        Before::Handles => {
+        HandlerPhase::InHandler => {
             if is_nesting(rec.kind) {
-                Before::Nests
+                HandlerPhase::Nested
             } else if closes(code, rec) {
-                Before::Plain
+                HandlerPhase::Outside
             } else {
-                Before::Handles
+                HandlerPhase::InHandler
             }
         }
-        Before::Nests => {
+        HandlerPhase::Nested => {
             if returns(code, rec) {
-                Before::Handles
+                HandlerPhase::InHandler
             } else {
-                Before::Nests
+                HandlerPhase::Nested
             }
         }
     }
@@ -70,18 +69,18 @@ fn mode_after(code: &Constants, before: Before, rec: &StepRecord) -> Before
 
 /// Of each record that is left of a core, whether it is a handler step or nested, where they begin
 /// outside handler steps. The only error is running out of memory.
-pub fn modes<R: Records>(
+pub fn phases<R: Records>(
     alloc: Global,
     code: &Constants,
     records: &mut R,
-) -> Result<Modes, AllocError>
-    ensures { IfOk result (λ modes. modes ≡ modes_of (constant_byte code.now) (R.left records.old)) }
+) -> Result<Phases, AllocError>
+    ensures { IfOk result (λ phases. phases ≡ phases_of (constant_byte code.now) (R.left records.old)) }
 {
-    let mut before = Before::Plain;
+    let mut before = HandlerPhase::Outside;
     let mut items = Vec::new(alloc);
     while let Some(rec) = records.next() {
-        items.push(step_mode(before, rec.kind))?;
-        before = mode_after(code, before, &rec);
+        items.push(step_phase(before, rec.kind))?;
+        before = phase_after(code, before, &rec);
     }
-    Ok(Modes::new(items))
+    Ok(Phases::new(items))
 }

@@ -5,27 +5,26 @@ ghost use Rattle.std.specs.Prelude.{◌≡◌, ◌+◌, ◌<◌, ◌^◌, ℕ, B
 ghost use Rattle.xt_map.specs.Memory.{constant_byte};
 ghost use Rattle.xt_trace.specs.declared.options.Options.{Options};
 ghost use Rattle.xt_trace.specs.Validity.{IsValid};
+ghost use Rattle.xt_frames.specs.declared.kinds.HandlerPhase.TheVariants.{Outside};
 ghost use Rattle.xt_frames.specs.declared.kinds.Judged.TheVariants.{Whole};
 ghost use Rattle.xt_frames.specs.Breaches.{Bounds};
 ghost use Rattle.xt_frames.specs.Stacks.{IsRange};
 ghost use Rattle.xt_frames.specs.Verdict.{Known, judgement, verdict_on};
 ghost use Rattle.xt_frames.specs.Walked.{opening_walked, stack_of};
 ghost use Rattle.xt_discipline.specs.ByteMarks.{AreOpened, IsEnd, KnowsOf, held_at, nothing};
-ghost use Rattle.xt_discipline.specs.Modes.{step_mode};
+ghost use Rattle.xt_discipline.specs.Phases.{step_phase};
 ghost use Rattle.xt_discipline.specs.Places.{frames_in};
 ghost use Rattle.xt_discipline.specs.Schedules.{HasSchedule, schedule_in};
 ghost use Rattle.xt_discipline.specs.Sides.{IsSide, live_in};
 ghost use Rattle.xt_discipline.specs.Ended.{HasEnded, IsFirst, IsTaken};
-ghost use Rattle.xt_discipline.specs.declared.side.Mode.TheVariants as mode;
-ghost use Rattle.xt_discipline.specs.Walks.{IsOpened, IsTurned, Knows, Turns, found_on, mode_in};
+ghost use Rattle.xt_discipline.specs.Walks.{IsOpened, IsTurned, Knows, Turns, found_on, phase_in};
 
 use crate::bytes::{Change, Held, change_bytes, nothing};
 use crate::order::ScheduleIter;
-use crate::side::{Mode, Side};
-use crate::step_modes;
-use crate::stepping::step_mode;
+use crate::side::Side;
+use crate::stepping::step_phase;
 use std::alloc::{AllocError, Global};
-use xt_frames::{Frames, Judged};
+use xt_frames::{Frames, HandlerPhase, Judged};
 use xt_map::Constants;
 use xt_trace::{Options, Records, Run, StepKind};
 
@@ -45,13 +44,13 @@ fn side_of(alloc: Global, core: u8, pc: u32, options: &Options, hi: u32) -> Resu
     requires core { core < 2 }
     requires valid { IsValid options.now }
     requires end { hi ≡ (stack_of core options.now).hi }
-    ensures { IfOk result (λ s. s ≡ record { core = core; hi = hi; frames = opening_walked core pc options.now; mode = mode.Plain; steps = 0 }) }
+    ensures { IfOk result (λ s. s ≡ record { core = core; hi = hi; frames = opening_walked core pc options.now; phase = Outside; steps = 0 }) }
 {
     Ok(Side {
         core,
         hi,
         frames: Frames::make(alloc, core, pc, options)?,
-        mode: Mode::Plain,
+        phase: HandlerPhase::Outside,
         steps: 0,
     })
 }
@@ -157,14 +156,14 @@ impl<'a> Walk<'a> {
     }
 
     /// What the next record of a core is, where it is of this kind.
-    pub fn mode(&self, core: u8, kind: StepKind) -> step_modes::Mode
+    pub fn phase(&self, core: u8, kind: StepKind) -> HandlerPhase
         requires { core < 2 }
-        ensures { result ≡ step_mode (mode_in core self.now) kind }
+        ensures { result ≡ step_phase (phase_in core self.now) kind }
     {
         if core == 0 {
-            step_mode(self.side0.mode, kind)
+            step_phase(self.side0.phase, kind)
         } else {
-            step_mode(self.side1.mode, kind)
+            step_phase(self.side1.phase, kind)
         }
     }
 

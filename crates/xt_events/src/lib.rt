@@ -16,4 +16,6 @@ pub use event::{Event, Events};
 pub use event_text::events_text;
 pub use filter::Filter;
 pub use laws::positions_have_turns;
+pub use told::{TurnLine, Window};
+pub use turn_line::push_turn;
 pub use turn_lines::TurnLines;

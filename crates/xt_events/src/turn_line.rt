@@ -74,9 +74,9 @@ fn push_window(
     out.extend_from_slice(text.as_bytes())
 }
 
-// Appends the line of a turn with this record.
+/// Appends the line of a turn with this record. The only error is running out of memory.
 #[tactic(auto, unfolding(crate::specs::Lines::turn_text))]
-fn push_turn(
+pub fn push_turn(
     alloc: Global,
     out: &mut Vec<u8>,
     code: &Constants,

@@ -15,7 +15,7 @@ use Rattle.xt_frames.specs.declared.kinds.BreachKind.{BreachKind}
 use Rattle.xt_frames.specs.Frames.{FrameState, opening_frame, opening_seen}
 use Rattle.xt_frames.specs.FrameStep.{FrameTurn}
 use Rattle.xt_frames.specs.Verdict.{is_nested}
-use Rattle.xt_frames.specs.FirstBreach.{Course, IsJudgedTurn, Turn, is_judged, mode_before, turn_of}
+use Rattle.xt_frames.specs.FirstBreach.{Course, IsJudgedTurn, Turn, is_judged, phase_before, turn_of}
 use Rattle.xt_uses.specs.declared.discipline.Discipline.{Discipline}
 use Rattle.xt_uses.specs.Words.{all_bits, complement}
 use Rattle.xt_uses.specs.UseState.{UseState, opening_use, whole_masks}
@@ -89,8 +89,8 @@ module _ (d : Discipline) (r : Course) (h : History) (n : Filling) where
   filled_steps : (p core : ℕ) (rec : StepRecord) → IsJudgedTurn r p core rec → filled_before d r h n core (suc p) ≡ (filled_at d r h n p core rec).after
   filled_steps p core rec j =
       let f = filled_before d r h n core p in
-      let on : ((core == core) && is_judged (mode_before r core p) rec.kind) ≡ true = and_from (core == core) (is_judged (mode_before r core p) rec.kind) (eq-eqb core core refl) j.judged in
-      ap (λ o. filled_past d r h n p core o f) j.turn ∙ cond-true ((core == core) && is_judged (mode_before r core p) rec.kind) (step_with d r h n p core rec f).after f on
+      let on : ((core == core) && is_judged (phase_before r core p) rec.kind) ≡ true = and_from (core == core) (is_judged (phase_before r core p) rec.kind) (eq-eqb core core refl) j.judged in
+      ap (λ o. filled_past d r h n p core o f) j.turn ∙ cond-true ((core == core) && is_judged (phase_before r core p) rec.kind) (step_with d r h n p core rec f).after f on
 
   filled_stays : (p core : ℕ) → IsIdle r core p → filled_before d r h n core (suc p) ≡ filled_before d r h n core p
   filled_stays p core idle = by (slice_get r.turns p) refl
@@ -99,10 +99,10 @@ module _ (d : Discipline) (r : Course) (h : History) (n : Filling) where
       by None e = refl
       by (Some t) e = ⊎_elim
           (λ on.
-          let parts = and_parts (t.core == core) (is_judged (mode_before r core p) t.rec.kind) on in
+          let parts = and_parts (t.core == core) (is_judged (phase_before r core p) t.rec.kind) on in
           absurd (idle t.rec (record { turn = e ∙ ap (λ c. Some (turn_of c t.rec)) (eqb-true t.core core parts.0); judged = parts.1 })))
-          (λ off. cond-false ((t.core == core) && is_judged (mode_before r core p) t.rec.kind) (step_with d r h n p core t.rec (filled_before d r h n core p)).after (filled_before d r h n core p) off)
-          (cases_Bool ((t.core == core) && is_judged (mode_before r core p) t.rec.kind))
+          (λ off. cond-false ((t.core == core) && is_judged (phase_before r core p) t.rec.kind) (step_with d r h n p core t.rec (filled_before d r h n core p)).after (filled_before d r h n core p) off)
+          (cases_Bool ((t.core == core) && is_judged (phase_before r core p) t.rec.kind))
 
 -- ---- before each turn
 module _ (rows : RowsAgree) (replies : RepliesAgree) (d : Discipline) (r : Course) (h : History) (n : Filling) (q : ℕ) (found : Option Breach) (ordinary : IsOrdinary r) (is : IsHistory d r h) (first : IsFirstUse r h q found) where
@@ -129,12 +129,12 @@ module _ (rows : RowsAgree) (replies : RepliesAgree) (d : Discipline) (r : Cours
     shows = first.before p core rec low j.turn
 
     abbrev nested : Bool
-    nested = is_nested (mode_before r core p)
+    nested = is_nested (phase_before r core p)
 
     none : use_breach (r.bounds core) (not shows.lost) r.code (live_at r h p) (h.mask p) nested rec (h.state core p) ≡ None
     none =
         let breach : Option BreachKind = use_breach (r.bounds core) (not shows.lost) r.code (live_at r h p) (h.mask p) nested rec (h.state core p) in
-        sym (cond-true (is_judged (mode_before r core p) rec.kind) breach (handler_use r.code (mode_before r core p) rec (h.state core p)) j.judged) ∙ shows.shown
+        sym (cond-true (is_judged (phase_before r core p) rec.kind) breach (handler_use r.code (phase_before r core p) rec (h.state core p)) j.judged) ∙ shows.shown
 
     small : reply_mask (h.mask p) rec.access < 2 ^ 32
     small = sized_small (h.mask p) rec.access (λ a e. ordinary.sizes p core rec a j.turn e)

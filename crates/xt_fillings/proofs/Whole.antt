@@ -8,7 +8,7 @@ use Rattle.xt_frames.specs.Nesting.{begins, current}
 use Rattle.xt_frames.specs.Breaches.{inputs_of}
 use Rattle.xt_frames.specs.Judging.{value_in}
 use Rattle.xt_frames.specs.Verdict.{is_nested}
-use Rattle.xt_frames.specs.FirstBreach.{Course, Turn, is_judged, mode_before}
+use Rattle.xt_frames.specs.FirstBreach.{Course, Turn, is_judged, phase_before}
 use Rattle.xt_uses.specs.declared.discipline.Discipline.{Discipline}
 use Rattle.xt_uses.specs.UseStep.{step_insn, forgets_registers, reply_mask, value_step}
 use Rattle.xt_uses.specs.FirstUse.{History}
@@ -47,8 +47,8 @@ either false f g k l = l
 past_whole : (d : Discipline) (r : Course) (h : History) (n : Filling) (p core : ℕ) (o : Option Turn) (f : FrameState) → Whole f → Whole (filled_past d r h n p core o f)
 past_whole d r h n p core None f k = k
 past_whole d r h n p core (Some t) f k =
-    either ((t.core == core) && is_judged (mode_before r core p) t.rec.kind) (step_with d r h n p core t.rec f).after f
-    (step_whole d r.code (is_nested (mode_before r core p)) t.rec (h.mask p) (n p) f)
+    either ((t.core == core) && is_judged (phase_before r core p) t.rec.kind) (step_with d r h n p core t.rec f).after f
+    (step_whole d r.code (is_nested (phase_before r core p)) t.rec (h.mask p) (n p) f)
     k
 
 pub have_numbers : RegistersHaveNumbers

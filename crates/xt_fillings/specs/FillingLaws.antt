@@ -16,7 +16,7 @@ use Rattle.xt_frames.specs.declared.holes.Nested.{Nested}
 use Rattle.xt_frames.specs.FrameStep.{FrameTurn}
 use Rattle.xt_frames.specs.Judging.{place_on}
 use Rattle.xt_frames.specs.Verdict.{is_nested}
-use Rattle.xt_frames.specs.FirstBreach.{Course, IsJudgedTurn, mode_before}
+use Rattle.xt_frames.specs.FirstBreach.{Course, IsJudgedTurn, phase_before}
 use Rattle.xt_handlers.specs.Vectors.{Handlers}
 use Rattle.xt_simulation.specs.Opening.{IsRunnable, openings_of}
 use Rattle.xt_simulation.specs.Headline.{IsRunOfImage}
@@ -79,8 +79,8 @@ pub record StepsSame
     (d : Discipline) (r : Course) (h : History) (n : Filling) (p core : ℕ) (rec : StepRecord)
     : Type 0 where
   pub place :
-      place_on (is_nested (mode_before r core p)) rec (filled_before d r h n core p)
-      ≡ place_on (is_nested (mode_before r core p)) rec (h.state core p).frame
+      place_on (is_nested (phase_before r core p)) rec (filled_before d r h n core p)
+      ≡ place_on (is_nested (phase_before r core p)) rec (h.state core p).frame
   pub does : DoesSame (use_at r h p core rec) (filled_at d r h n p core rec)
 
 -- whatever the filling, at each judged record before the first breach of uses
@@ -104,7 +104,7 @@ pub record FollowsRecord
     (d : Discipline) (r : Course) (h : History) (n : Filling) (p core : ℕ) (rec : StepRecord)
     : Type 0 where
   pub place :
-      rec.pc ≡ place_on (is_nested (mode_before r core p)) rec (filled_before d r h n core p)
+      rec.pc ≡ place_on (is_nested (phase_before r core p)) rec (filled_before d r h n core p)
   pub kind : rec.kind ≡ (filled_at d r h n p core rec).kind
   pub write :
       WritesAgree (use_at r h p core rec).mask rec.write (filled_at d r h n p core rec).write

@@ -28,7 +28,7 @@ use Rattle.xt_frames.specs.Nesting.{begins, current}
 use Rattle.xt_frames.specs.Breaches.{inputs_of}
 use Rattle.xt_frames.specs.Judging.{value_in}
 use Rattle.xt_frames.specs.Verdict.{is_nested}
-use Rattle.xt_frames.specs.FirstBreach.{Course, Turn, is_judged, mode_before}
+use Rattle.xt_frames.specs.FirstBreach.{Course, Turn, is_judged, phase_before}
 use Rattle.xt_uses.specs.declared.discipline.Discipline.{Discipline}
 use Rattle.xt_uses.specs.declared.discipline.Discipline.TheVariants.{Strict, Lenient}
 use Rattle.xt_uses.specs.Words.{all_bits, masked, complement}
@@ -118,13 +118,13 @@ filled_step d code nested rec bytes n f =
 abbrev pub step_with :
     Discipline → Course → History → Filling → ℕ → ℕ → StepRecord → FrameState → FrameTurn
 step_with d r h n p core rec f =
-    filled_step d r.code (is_nested (mode_before r core p)) rec (h.mask p) (n p) f
+    filled_step d r.code (is_nested (phase_before r core p)) rec (h.mask p) (n p) f
 
 abbrev pub filled_past :
     Discipline → Course → History → Filling → ℕ → ℕ → Option Turn → FrameState → FrameState
 filled_past d r h n p core None f = f
 filled_past d r h n p core (Some t) f =
-    if (t.core == core) && is_judged (mode_before r core p) t.rec.kind
+    if (t.core == core) && is_judged (phase_before r core p) t.rec.kind
     then (step_with d r h n p core t.rec f).after
     else f
 

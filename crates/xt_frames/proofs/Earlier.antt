@@ -8,7 +8,7 @@ use Rattle.xt_map.specs.Touching.{is_store, touches}
 use Rattle.xt_trace.specs.declared.record.StepRecord.{StepRecord}
 use Rattle.xt_frames.specs.Breaches.{ends_exception_mode, stale_after, stores_at}
 use Rattle.xt_frames.specs.Nesting.{current}
-use Rattle.xt_frames.specs.FirstBreach.{Course, EndsMode, IsJudgedTurn, IsLost, IsStale, IsTurn, LeavesByte, LeavesEpc1, Turn, frame_with_inputs, is_judged, step_at, live_before, mode_before, writes_at}
+use Rattle.xt_frames.specs.FirstBreach.{Course, EndsMode, IsJudgedTurn, IsLost, IsStale, IsTurn, LeavesByte, LeavesEpc1, Turn, frame_with_inputs, is_judged, step_at, live_before, phase_before, writes_at}
 use Rattle.xt_frames.proofs.Prefixes.{before_or_at, same_turn}
 
 -- ---- a store that touches a byte
@@ -24,11 +24,11 @@ unstored (Some y) a h = ⊎_elim (λ s. and_right (is_store y.kind) (touches y.a
 
 module _ (r : Course) (p core : ℕ) (rec : StepRecord) (turn : IsTurn r p core rec) where
   -- the turn is not judged, so no turn of its number is
-  not_judged : is_judged (mode_before r core p) rec.kind ≡ false → (c : ℕ) (q : StepRecord) → IsJudgedTurn r p c q → ⊥
+  not_judged : is_judged (phase_before r core p) rec.kind ≡ false → (c : ℕ) (q : StepRecord) → IsJudgedTurn r p c q → ⊥
   not_judged j c q t =
       let same = same_turn r p core rec turn c q t.turn in
-      let now : is_judged (mode_before r core p) rec.kind ≡ true = subst (λ (x : Turn). is_judged (mode_before r x.core p) x.rec.kind ≡ true) (sym same) t.judged in
-      both_ways (is_judged (mode_before r core p) rec.kind) j now
+      let now : is_judged (phase_before r core p) rec.kind ≡ true = subst (λ (x : Turn). is_judged (phase_before r x.core p) x.rec.kind ≡ true) (sym same) t.judged in
+      both_ways (is_judged (phase_before r core p) rec.kind) j now
 
   same_rec : (c : ℕ) (q : StepRecord) → IsTurn r p c q → rec ≡ q
   same_rec c q t = ap (λ (x : Turn). x.rec) (same_turn r p core rec turn c q t)
@@ -37,7 +37,7 @@ module _ (r : Course) (p core : ℕ) (rec : StepRecord) (turn : IsTurn r p core 
   no_store : (a : ℕ) → stores_at rec.access a ≡ false → LeavesByte r p a
   no_store a e c q x t at s = untouched q.access x a (subst (λ (y : StepRecord). stores_at y.access a ≡ false) (same_rec c q t.turn) e) at s
 
-  no_touch : (a : ℕ) → is_judged (mode_before r core p) rec.kind ≡ true → LeavesByte r p a → stores_at rec.access a ≡ false
+  no_touch : (a : ℕ) → is_judged (phase_before r core p) rec.kind ≡ true → LeavesByte r p a → stores_at rec.access a ≡ false
   no_touch a j h = unstored rec.access a (λ x at s. h core rec x (record { turn = turn; judged = j }) at s)
 
   bytes_more : (once a : ℕ) → ((i : ℕ) → once < i → i < p → LeavesByte r i a) → LeavesByte r p a → (i : ℕ) → once < i → i < suc p → LeavesByte r i a
@@ -58,13 +58,13 @@ module _ (r : Course) (p core : ℕ) (rec : StepRecord) (turn : IsTurn r p core 
       (before_or_at h.once p h.earlier)
 
   -- a stale byte that was not live before this turn was so at an earlier one
-  spared : (a : ℕ) → is_judged (mode_before r core p) rec.kind ≡ true → live_before r p a ≡ false → IsStale r (suc p) a → stores_at rec.access a ≡ false
+  spared : (a : ℕ) → is_judged (phase_before r core p) rec.kind ≡ true → live_before r p a ≡ false → IsStale r (suc p) a → stores_at rec.access a ≡ false
   spared a j gone h = ⊎_elim
       (λ l. no_touch a j (h.since p l (omega arith)))
       (λ e. absurd (both_ways (live_before r p a) gone (subst (λ x. live_before r x a ≡ true) e h.live)))
       (before_or_at h.once p h.earlier)
 
-  pub stale_judged : (stale : ℕ → Bool) (a : ℕ) → is_judged (mode_before r core p) rec.kind ≡ true → Decides (stale a) (IsStale r p a) → Decides (stale_after (live_before r (suc p)) (live_before r p) stale rec.access a) (IsStale r (suc p) a)
+  pub stale_judged : (stale : ℕ → Bool) (a : ℕ) → is_judged (phase_before r core p) rec.kind ≡ true → Decides (stale a) (IsStale r p a) → Decides (stale_after (live_before r (suc p)) (live_before r p) stale rec.access a) (IsStale r (suc p) a)
   stale_judged stale a j d = (there, back)
     where
       there : (not (live_before r (suc p) a) && (live_before r p a || (stale a && not (stores_at rec.access a)))) ≡ true → IsStale r (suc p) a
@@ -82,7 +82,7 @@ module _ (r : Course) (p core : ℕ) (rec : StepRecord) (turn : IsTurn r p core 
           (λ gone. or_right (live_before r p a) (stale a && not (stores_at rec.access a)) (and_from (stale a) (not (stores_at rec.access a)) (d.1 (stale_earlier a gone h)) (not_from_false (stores_at rec.access a) (spared a j gone h))))
           (cases_Bool (live_before r p a)))
 
-  pub stale_handled : (stale : Bool) (a : ℕ) → is_judged (mode_before r core p) rec.kind ≡ false → live_before r (suc p) a ≡ live_before r p a → Decides stale (IsStale r p a) → Decides stale (IsStale r (suc p) a)
+  pub stale_handled : (stale : Bool) (a : ℕ) → is_judged (phase_before r core p) rec.kind ≡ false → live_before r (suc p) a ≡ live_before r p a → Decides stale (IsStale r p a) → Decides stale (IsStale r (suc p) a)
   stale_handled stale a j same d = Decides-like
       stale
       (λ h. stale_later a (same ∙ h.gone) (λ c q x t at s. absurd (not_judged j c q t)) h)
@@ -101,7 +101,7 @@ module _ (r : Course) (p core : ℕ) (rec : StepRecord) (turn : IsTurn r p core 
       let earlier = h.earlier in
       record { once = h.once; earlier = omega (arith, earlier); rec = h.rec; turn = h.turn; loses = h.loses; since = epc_more c h.once h.since now }
 
-  lost_now : (is_judged (mode_before r core p) rec.kind ≡ false) ⊎ EndsMode r p core rec → LeavesEpc1 r core p → IsLost r core (suc p)
+  lost_now : (is_judged (phase_before r core p) rec.kind ≡ false) ⊎ EndsMode r p core rec → LeavesEpc1 r core p → IsLost r core (suc p)
   lost_now loses now = record {
     once = p;
     earlier = omega arith;
@@ -120,13 +120,13 @@ module _ (r : Course) (p core : ℕ) (rec : StepRecord) (turn : IsTurn r p core 
   abbrev falling : Bool
   falling = ends_exception_mode (frame_with_inputs r p core rec).control.ps (current (step_at r p core rec).after).control.ps
 
-  fell : (h : IsLost r core (suc p)) → is_judged (mode_before r core p) rec.kind ≡ true → h.once ≡ p → falling ≡ true
+  fell : (h : IsLost r core (suc p)) → is_judged (phase_before r core p) rec.kind ≡ true → h.once ≡ p → falling ≡ true
   fell h j e =
       let at : IsTurn r p core h.rec = subst (λ x. IsTurn r x core h.rec) e h.turn in
-      let loses : (is_judged (mode_before r core p) h.rec.kind ≡ false) ⊎ EndsMode r p core h.rec = subst (λ x. (is_judged (mode_before r core x) h.rec.kind ≡ false) ⊎ EndsMode r x core h.rec) e h.loses in
-      let own : (is_judged (mode_before r core p) rec.kind ≡ false) ⊎ EndsMode r p core rec = subst (λ (x : StepRecord). (is_judged (mode_before r core p) x.kind ≡ false) ⊎ EndsMode r p core x) (sym (same_rec core h.rec at)) loses in
+      let loses : (is_judged (phase_before r core p) h.rec.kind ≡ false) ⊎ EndsMode r p core h.rec = subst (λ x. (is_judged (phase_before r core x) h.rec.kind ≡ false) ⊎ EndsMode r x core h.rec) e h.loses in
+      let own : (is_judged (phase_before r core p) rec.kind ≡ false) ⊎ EndsMode r p core rec = subst (λ (x : StepRecord). (is_judged (phase_before r core p) x.kind ≡ false) ⊎ EndsMode r p core x) (sym (same_rec core h.rec at)) loses in
       ⊎_elim
-      (λ n. absurd (both_ways (is_judged (mode_before r core p) rec.kind) n j))
+      (λ n. absurd (both_ways (is_judged (phase_before r core p) rec.kind) n j))
       (λ m. and_from (frame_with_inputs r p core rec).control.ps.excm (not (current (step_at r p core rec).after).control.ps.excm) m.0 (not_from_false (current (step_at r p core rec).after).control.ps.excm m.1))
       own
 
@@ -135,7 +135,7 @@ module _ (r : Course) (p core : ℕ) (rec : StepRecord) (turn : IsTurn r p core 
       let parts = and_parts (frame_with_inputs r p core rec).control.ps.excm (not (current (step_at r p core rec).after).control.ps.excm) e in
       (parts.0, not-true (current (step_at r p core rec).after).control.ps.excm parts.1)
 
-  pub lost_judged : (fresh : Bool) → is_judged (mode_before r core p) rec.kind ≡ true → Decides (not fresh) (IsLost r core p) → Decides (not (writes || (fresh && not falling))) (IsLost r core (suc p))
+  pub lost_judged : (fresh : Bool) → is_judged (phase_before r core p) rec.kind ≡ true → Decides (not fresh) (IsLost r core p) → Decides (not (writes || (fresh && not falling))) (IsLost r core (suc p))
   lost_judged fresh j d = (there, back)
     where
       there : not (writes || (fresh && not falling)) ≡ true → IsLost r core (suc p)
@@ -159,7 +159,7 @@ module _ (r : Course) (p core : ℕ) (rec : StepRecord) (turn : IsTurn r p core 
       back : IsLost r core (suc p) → not (writes || (fresh && not falling)) ≡ true
       back h = not_from_false (writes || (fresh && not falling)) (or_from writes (fresh && not falling) (unwritten h) (unfresh h))
 
-  pub lost_handled : is_judged (mode_before r core p) rec.kind ≡ false → Decides true (IsLost r core (suc p))
+  pub lost_handled : is_judged (phase_before r core p) rec.kind ≡ false → Decides true (IsLost r core (suc p))
   lost_handled j = (λ t. lost_now (inl j) (λ q t. absurd (not_judged j core q t)), λ h. refl)
 
   -- the other core's stays as it was

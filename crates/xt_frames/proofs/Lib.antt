@@ -14,3 +14,4 @@ pub mod FirstBreach
 pub mod OneBreach
 pub mod Mild
 pub mod Quickly
+pub mod Same

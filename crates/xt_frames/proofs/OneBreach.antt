@@ -6,7 +6,7 @@ use Rattle.std.proofs.lemmas.Option.{none-some, slice_get_within, same_Some}
 use Rattle.xt_trace.specs.declared.record.StepRecord.{StepRecord}
 use Rattle.xt_frames.specs.declared.kinds.Breach.{Breach}
 use Rattle.xt_frames.specs.declared.kinds.BreachKind.{BreachKind}
-use Rattle.xt_frames.specs.FirstBreach.{Course, FirstBreachIsOne, IsBreach, IsFirstBreach, Shows, Turn, frame_before, live_before, mode_before, record_shows, records_before, turn_of}
+use Rattle.xt_frames.specs.FirstBreach.{Course, FirstBreachIsOne, IsBreach, IsFirstBreach, Shows, Turn, frame_before, live_before, phase_before, record_shows, records_before, turn_of}
 use Rattle.xt_frames.proofs.Prefixes.{same_turn}
 
 shows_once : (r : Course) (p core : ℕ) (rec : StepRecord) (one other : Option BreachKind) → Shows r p core rec one → Shows r p core rec other → one ≡ other
@@ -14,7 +14,7 @@ shows_once r p core rec one other a b =
     let epc : a.lost ≡ b.lost = same_from_decides a.lost b.lost a.is_lost b.is_lost in
     let bytes : a.stale ≡ b.stale = λ i x. same_from_decides (a.stale x) (b.stale x) (a.is_stale x) (b.is_stale x) i in
     sym a.shown
-    ∙ ((λ i. record_shows r.code (r.bounds core) (mode_before r core p) (frame_before r core p) (epc i) (live_before r p) (bytes i) rec)
+    ∙ ((λ i. record_shows r.code (r.bounds core) (phase_before r core p) (frame_before r core p) (epc i) (live_before r p) (bytes i) rec)
     ∙ b.shown)
 
 quiet_there : (r : Course) (p q : ℕ) (b : Breach) (other : Option Breach) → IsBreach r p b → IsFirstBreach r q other → p < q → ⊥

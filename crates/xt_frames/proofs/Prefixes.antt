@@ -5,10 +5,12 @@ use Rattle.std.proofs.lemmas.List.{length-drop, length_push}
 use Rattle.std.proofs.lemmas.Option.{none-some, same_Some}
 use Rattle.xt_trace.specs.declared.record.StepRecord.{StepRecord}
 use Rattle.xt_frames.specs.Frames.{FrameState}
-use Rattle.xt_frames.specs.HandlerSteps.{Mode, Plain, mode_after}
+use Rattle.xt_frames.specs.declared.kinds.HandlerPhase.{HandlerPhase}
+use Rattle.xt_frames.specs.declared.kinds.HandlerPhase.TheVariants.{Outside}
+use Rattle.xt_frames.specs.HandlerSteps.{phase_after}
 use Rattle.xt_frames.specs.Judging.{step_on}
 use Rattle.xt_frames.specs.Verdict.{is_nested, entry_of}
-use Rattle.xt_frames.specs.FirstBreach.{Course, IsTurn, Turn, entries_before, entries_in, frame_before, frames_past, is_judged, judged_before, judged_of, mode_before, modes, records_before, records_of, step_at, turn_of}
+use Rattle.xt_frames.specs.FirstBreach.{Course, IsTurn, Turn, entries_before, entries_in, frame_before, frames_past, is_judged, judged_before, judged_of, phase_before, phases, records_before, records_of, step_at, turn_of}
 
 -- ---- lists
 take_get : {X : Type 0} (ts : List X) (p : ℕ) (t : X) → slice_get ts p ≡ Some t → take (suc p) ts ≡ take p ts ++ t ∷ []
@@ -50,19 +52,19 @@ records_other : (core c : ℕ) (ts : List Turn) (rec : StepRecord) → (c == cor
 records_other core c [] rec e = cond-false (c == core) (rec ∷ []) [] e
 records_other core c (t ∷ ts) rec e = ap (λ l. if t.core == core then t.rec ∷ l else l) (records_other core c ts rec e)
 
-modes_push : (code : ℕ → ℕ) (mode : Mode) (rs : List StepRecord) (rec : StepRecord) → modes code mode (rs ++ rec ∷ []) ≡ mode_after code (modes code mode rs) rec
-modes_push code mode [] rec = refl
-modes_push code mode (r ∷ rs) rec = modes_push code (mode_after code mode r) rs rec
+phases_push : (code : ℕ → ℕ) (phase : HandlerPhase) (rs : List StepRecord) (rec : StepRecord) → phases code phase (rs ++ rec ∷ []) ≡ phase_after code (phases code phase rs) rec
+phases_push code phase [] rec = refl
+phases_push code phase (r ∷ rs) rec = phases_push code (phase_after code phase r) rs rec
 
-judged_push : (code : ℕ → ℕ) (mode : Mode) (rs : List StepRecord) (rec : StepRecord) → is_judged (modes code mode rs) rec.kind ≡ true → judged_of code mode (rs ++ rec ∷ []) ≡ judged_of code mode rs ++ (is_nested (modes code mode rs), rec) ∷ []
-judged_push code mode [] rec e = cond-true {A = List (Bool × StepRecord)} (is_judged mode rec.kind) ((is_nested mode, rec) ∷ []) [] e
-judged_push code mode (r ∷ rs) rec e =
-    let next = mode_after code mode r in
-    pick {X = Bool × StepRecord} (is_judged mode r.kind) (is_nested mode, r) (is_nested (modes code next rs), rec) (judged_of code next (rs ++ rec ∷ [])) (judged_of code next rs) (judged_push code next rs rec e)
+judged_push : (code : ℕ → ℕ) (phase : HandlerPhase) (rs : List StepRecord) (rec : StepRecord) → is_judged (phases code phase rs) rec.kind ≡ true → judged_of code phase (rs ++ rec ∷ []) ≡ judged_of code phase rs ++ (is_nested (phases code phase rs), rec) ∷ []
+judged_push code phase [] rec e = cond-true {A = List (Bool × StepRecord)} (is_judged phase rec.kind) ((is_nested phase, rec) ∷ []) [] e
+judged_push code phase (r ∷ rs) rec e =
+    let next = phase_after code phase r in
+    pick {X = Bool × StepRecord} (is_judged phase r.kind) (is_nested phase, r) (is_nested (phases code next rs), rec) (judged_of code next (rs ++ rec ∷ [])) (judged_of code next rs) (judged_push code next rs rec e)
 
-skipped_push : (code : ℕ → ℕ) (mode : Mode) (rs : List StepRecord) (rec : StepRecord) → is_judged (modes code mode rs) rec.kind ≡ false → judged_of code mode (rs ++ rec ∷ []) ≡ judged_of code mode rs
-skipped_push code mode [] rec e = cond-false {A = List (Bool × StepRecord)} (is_judged mode rec.kind) ((is_nested mode, rec) ∷ []) [] e
-skipped_push code mode (r ∷ rs) rec e = ap (λ (l : List (Bool × StepRecord)). if is_judged mode r.kind then (is_nested mode, r) ∷ l else l) (skipped_push code (mode_after code mode r) rs rec e)
+skipped_push : (code : ℕ → ℕ) (phase : HandlerPhase) (rs : List StepRecord) (rec : StepRecord) → is_judged (phases code phase rs) rec.kind ≡ false → judged_of code phase (rs ++ rec ∷ []) ≡ judged_of code phase rs
+skipped_push code phase [] rec e = cond-false {A = List (Bool × StepRecord)} (is_judged phase rec.kind) ((is_nested phase, rec) ∷ []) [] e
+skipped_push code phase (r ∷ rs) rec e = ap (λ (l : List (Bool × StepRecord)). if is_judged phase r.kind then (is_nested phase, r) ∷ l else l) (skipped_push code (phase_after code phase r) rs rec e)
 
 frames_push : (code : ℕ → ℕ) (f : FrameState) (js : List (Bool × StepRecord)) (j : Bool × StepRecord) → frames_past code f (js ++ j ∷ []) ≡ (step_on code j.0 j.1 (frames_past code f js)).after
 frames_push code f [] j = refl
@@ -80,44 +82,44 @@ module _ (r : Course) (p core : ℕ) (rec : StepRecord) (turn : IsTurn r p core 
       let e = ap length own_records in
       omega (arith, l, e)
 
-  pub own_mode : mode_before r core (suc p) ≡ mode_after r.code (mode_before r core p) rec
-  unfolding mode_before
-  own_mode = ap (modes r.code Plain) own_records ∙ modes_push r.code Plain (records_before r core p) rec
+  pub own_phase : phase_before r core (suc p) ≡ phase_after r.code (phase_before r core p) rec
+  unfolding phase_before
+  own_phase = ap (phases r.code Outside) own_records ∙ phases_push r.code Outside (records_before r core p) rec
 
-  pub own_judged : is_judged (mode_before r core p) rec.kind ≡ true → judged_before r core (suc p) ≡ judged_before r core p ++ (is_nested (mode_before r core p), rec) ∷ []
-  unfolding judged_before mode_before
-  own_judged e = ap (judged_of r.code Plain) own_records ∙ judged_push r.code Plain (records_before r core p) rec e
+  pub own_judged : is_judged (phase_before r core p) rec.kind ≡ true → judged_before r core (suc p) ≡ judged_before r core p ++ (is_nested (phase_before r core p), rec) ∷ []
+  unfolding judged_before phase_before
+  own_judged e = ap (judged_of r.code Outside) own_records ∙ judged_push r.code Outside (records_before r core p) rec e
 
-  pub own_skipped : is_judged (mode_before r core p) rec.kind ≡ false → judged_before r core (suc p) ≡ judged_before r core p
-  unfolding judged_before mode_before
-  own_skipped e = ap (judged_of r.code Plain) own_records ∙ skipped_push r.code Plain (records_before r core p) rec e
+  pub own_skipped : is_judged (phase_before r core p) rec.kind ≡ false → judged_before r core (suc p) ≡ judged_before r core p
+  unfolding judged_before phase_before
+  own_skipped e = ap (judged_of r.code Outside) own_records ∙ skipped_push r.code Outside (records_before r core p) rec e
 
-  pub own_frame : is_judged (mode_before r core p) rec.kind ≡ true → frame_before r core (suc p) ≡ (step_at r p core rec).after
+  pub own_frame : is_judged (phase_before r core p) rec.kind ≡ true → frame_before r core (suc p) ≡ (step_at r p core rec).after
   unfolding frame_before
-  own_frame e = ap (frames_past r.code (r.opening core)) (own_judged e) ∙ frames_push r.code (r.opening core) (judged_before r core p) (is_nested (mode_before r core p), rec)
+  own_frame e = ap (frames_past r.code (r.opening core)) (own_judged e) ∙ frames_push r.code (r.opening core) (judged_before r core p) (is_nested (phase_before r core p), rec)
 
-  pub kept_frame : is_judged (mode_before r core p) rec.kind ≡ false → frame_before r core (suc p) ≡ frame_before r core p
+  pub kept_frame : is_judged (phase_before r core p) rec.kind ≡ false → frame_before r core (suc p) ≡ frame_before r core p
   unfolding frame_before
   kept_frame e = ap (frames_past r.code (r.opening core)) (own_skipped e)
 
-  pub own_entries : is_judged (mode_before r core p) rec.kind ≡ true → entries_before r (suc p) ≡ entries_before r p ++ entry_of core rec.access rec.reply
-  own_entries e = ap (λ t. entries_before r p ++ entries_in r p t) turn ∙ ap (λ es. entries_before r p ++ es) (cond-true (is_judged (mode_before r core p) rec.kind) (entry_of core rec.access rec.reply) [] e)
+  pub own_entries : is_judged (phase_before r core p) rec.kind ≡ true → entries_before r (suc p) ≡ entries_before r p ++ entry_of core rec.access rec.reply
+  own_entries e = ap (λ t. entries_before r p ++ entries_in r p t) turn ∙ ap (λ es. entries_before r p ++ es) (cond-true (is_judged (phase_before r core p) rec.kind) (entry_of core rec.access rec.reply) [] e)
 
-  pub kept_entries : is_judged (mode_before r core p) rec.kind ≡ false → entries_before r (suc p) ≡ entries_before r p
-  kept_entries e = ap (λ t. entries_before r p ++ entries_in r p t) turn ∙ (ap (λ es. entries_before r p ++ es) (cond-false (is_judged (mode_before r core p) rec.kind) (entry_of core rec.access rec.reply) [] e) ∙ append-nil (entries_before r p))
+  pub kept_entries : is_judged (phase_before r core p) rec.kind ≡ false → entries_before r (suc p) ≡ entries_before r p
+  kept_entries e = ap (λ t. entries_before r p ++ entries_in r p t) turn ∙ (ap (λ es. entries_before r p ++ es) (cond-false (is_judged (phase_before r core p) rec.kind) (entry_of core rec.access rec.reply) [] e) ∙ append-nil (entries_before r p))
 
   -- ---- of the other core
   pub other_records : (other : ℕ) → (core == other) ≡ false → records_before r other (suc p) ≡ records_before r other p
   unfolding records_before
   other_records other e = ap (records_of other) (take_get r.turns p (turn_of core rec) turn) ∙ records_other other core (take p r.turns) rec e
 
-  pub other_mode : (other : ℕ) → (core == other) ≡ false → mode_before r other (suc p) ≡ mode_before r other p
-  unfolding mode_before
-  other_mode other e = ap (modes r.code Plain) (other_records other e)
+  pub other_phase : (other : ℕ) → (core == other) ≡ false → phase_before r other (suc p) ≡ phase_before r other p
+  unfolding phase_before
+  other_phase other e = ap (phases r.code Outside) (other_records other e)
 
   pub other_judged : (other : ℕ) → (core == other) ≡ false → judged_before r other (suc p) ≡ judged_before r other p
   unfolding judged_before
-  other_judged other e = ap (judged_of r.code Plain) (other_records other e)
+  other_judged other e = ap (judged_of r.code Outside) (other_records other e)
 
   pub other_frame : (other : ℕ) → (core == other) ≡ false → frame_before r other (suc p) ≡ frame_before r other p
   unfolding frame_before

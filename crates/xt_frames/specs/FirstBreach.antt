@@ -3,7 +3,7 @@
 -- to what is said here.
 --
 -- Profile: the verdict is the first breach over whole lists (`FirstBreach`). Take the turns of both
--- cores in the order of the schedule. The mode and the frame state before a turn are those after
+-- cores in the order of the schedule. The phase and the frame state before a turn are those after
 -- the core's records before it. A byte is stale where it is not live, was live before some earlier
 -- turn, and no judged store has touched it since. EPC1 is lost where exception mode ended at an
 -- earlier judged step of the core, or a handler step stood there, and no judged step from that one
@@ -27,7 +27,9 @@ use Rattle.xt_frames.specs.Frames.{FrameState}
 use Rattle.xt_frames.specs.FrameStep.{FrameTurn, with_inputs}
 use Rattle.xt_frames.specs.Nesting.{current, is_nesting}
 use Rattle.xt_frames.specs.SaveAreas.{is_live}
-use Rattle.xt_frames.specs.HandlerSteps.{Mode, Plain, Handles, Nests, is_window, mode_after}
+use Rattle.xt_frames.specs.declared.kinds.HandlerPhase.{HandlerPhase}
+use Rattle.xt_frames.specs.declared.kinds.HandlerPhase.TheVariants.{Outside, InHandler, Nested}
+use Rattle.xt_frames.specs.HandlerSteps.{is_window, phase_after}
 use Rattle.xt_frames.specs.Breaches.{Bounds, inputs_of, breach_of, window_breach, writes_epc1}
 use Rattle.xt_frames.specs.Judging.{step_on}
 use Rattle.xt_frames.specs.Verdict.{is_nested, entry_of, opening_known, Judgement, judgement}
@@ -74,37 +76,37 @@ records_before r core p = records_of core (take p r.turns)
 
 -- ---- what is judged
 
--- the mode after records
-abbrev pub modes : (ℕ → ℕ) → Mode → List StepRecord → Mode
-modes code mode [] = mode
-modes code mode (rec ∷ rest) = modes code (mode_after code mode rec) rest
+-- the phase after records
+abbrev pub phases : (ℕ → ℕ) → HandlerPhase → List StepRecord → HandlerPhase
+phases code phase [] = phase
+phases code phase (rec ∷ rest) = phases code (phase_after code phase rec) rest
 
--- In the plain mode a record of a window exception is a handler step; in the handler mode every
+-- Outside handler steps, a record of a window exception is a handler step; in handler steps, every
 -- record is, but one that begins a nested interrupt. Any other record is judged.
-abbrev pub is_judged : Mode → StepKind → Bool
-is_judged Plain kind = not (is_window kind)
-is_judged Handles kind = is_nesting kind
-is_judged Nests kind = true
+abbrev pub is_judged : HandlerPhase → StepKind → Bool
+is_judged Outside kind = not (is_window kind)
+is_judged InHandler kind = is_nesting kind
+is_judged Nested kind = true
 
 -- the judged among records, each with whether it is nested
-abbrev pub judged_of : (ℕ → ℕ) → Mode → List StepRecord → List (Bool × StepRecord)
-judged_of code mode [] = []
-judged_of code mode (rec ∷ rest) =
-    if is_judged mode rec.kind
-    then (is_nested mode, rec) ∷ judged_of code (mode_after code mode rec) rest
-    else judged_of code (mode_after code mode rec) rest
+abbrev pub judged_of : (ℕ → ℕ) → HandlerPhase → List StepRecord → List (Bool × StepRecord)
+judged_of code phase [] = []
+judged_of code phase (rec ∷ rest) =
+    if is_judged phase rec.kind
+    then (is_nested phase, rec) ∷ judged_of code (phase_after code phase rec) rest
+    else judged_of code (phase_after code phase rec) rest
 
 -- the frame state after judged records
 abbrev pub frames_past : (ℕ → ℕ) → FrameState → List (Bool × StepRecord) → FrameState
 frames_past code f [] = f
 frames_past code f (r ∷ rest) = frames_past code (step_on code r.0 r.1 f).after rest
 
--- of a core before turn p: its mode, its judged records, its frame state
-unfoldable pub mode_before : Course → ℕ → ℕ → Mode
-mode_before r core p = modes r.code Plain (records_before r core p)
+-- of a core before turn p: its phase, its judged records, its frame state
+unfoldable pub phase_before : Course → ℕ → ℕ → HandlerPhase
+phase_before r core p = phases r.code Outside (records_before r core p)
 
 unfoldable pub judged_before : Course → ℕ → ℕ → List (Bool × StepRecord)
-judged_before r core p = judged_of r.code Plain (records_before r core p)
+judged_before r core p = judged_of r.code Outside (records_before r core p)
 
 unfoldable pub frame_before : Course → ℕ → ℕ → FrameState
 frame_before r core p = frames_past r.code (r.opening core) (judged_before r core p)
@@ -112,12 +114,12 @@ frame_before r core p = frames_past r.code (r.opening core) (judged_before r cor
 -- turn p is this record of this core, and a judged step
 pub record IsJudgedTurn (r : Course) (p core : ℕ) (rec : StepRecord) : Type 0 where
   pub turn : IsTurn r p core rec
-  pub judged : is_judged (mode_before r core p) rec.kind ≡ true
+  pub judged : is_judged (phase_before r core p) rec.kind ≡ true
 
 -- the frame machine's step at turn p
 abbrev pub step_at : Course → ℕ → ℕ → StepRecord → FrameTurn
 step_at r p core rec =
-    step_on r.code (is_nested (mode_before r core p)) rec (frame_before r core p)
+    step_on r.code (is_nested (phase_before r core p)) rec (frame_before r core p)
 
 -- ---- stale bytes
 
@@ -173,26 +175,27 @@ pub record IsLost (r : Course) (core p : ℕ) : Type 0 where
   pub rec : StepRecord
   pub turn : IsTurn r once core rec
   pub loses :
-      (is_judged (mode_before r core once) rec.kind ≡ false) ⊎ EndsMode r once core rec
+      (is_judged (phase_before r core once) rec.kind ≡ false) ⊎ EndsMode r once core rec
   pub since : (i : ℕ) → once ≤ i → i < p → LeavesEpc1 r core i
 
 -- ---- what a turn shows
 
--- the record of a window exception is tested in the plain mode; any other handler step shows nothing
-abbrev pub handler_shows : (ℕ → ℕ) → Mode → StepRecord → FrameState → Option BreachKind
-handler_shows code Plain rec f =
+-- outside handler steps the record of a window exception is tested; any other handler step shows
+-- nothing
+abbrev pub handler_shows : (ℕ → ℕ) → HandlerPhase → StepRecord → FrameState → Option BreachKind
+handler_shows code Outside rec f =
     window_breach code rec.kind (with_inputs (inputs_of rec) (current f))
-handler_shows code Handles rec f = None
-handler_shows code Nests rec f = None
+handler_shows code InHandler rec f = None
+handler_shows code Nested rec f = None
 
--- what a record shows, by the mode and the frame state before it
+-- what a record shows, by the phase and the frame state before it
 abbrev pub record_shows :
-    (ℕ → ℕ) → Bounds → Mode → FrameState → Bool → (ℕ → Bool) → (ℕ → Bool) → StepRecord
+    (ℕ → ℕ) → Bounds → HandlerPhase → FrameState → Bool → (ℕ → Bool) → (ℕ → Bool) → StepRecord
     → Option BreachKind
-record_shows code b mode f lost live stale rec =
-    if is_judged mode rec.kind
-    then breach_of b (not lost) code live stale (is_nested mode) rec f
-    else handler_shows code mode rec f
+record_shows code b phase f lost live stale rec =
+    if is_judged phase rec.kind
+    then breach_of b (not lost) code live stale (is_nested phase) rec f
+    else handler_shows code phase rec f
 
 -- turn p, this record of this core, shows `found`, where `lost` and `stale` tell whether EPC1 is
 -- lost and which bytes are stale
@@ -206,7 +209,7 @@ pub record Shows
       record_shows
       r.code
       (r.bounds core)
-      (mode_before r core p)
+      (phase_before r core p)
       (frame_before r core p)
       lost
       (live_before r p)
@@ -240,7 +243,7 @@ pub record IsFirstBreach (r : Course) (p : ℕ) (found : Option Breach) : Type 0
 abbrev pub entries_in : Course → ℕ → Option Turn → List Entry
 entries_in r p None = []
 entries_in r p (Some t) =
-    if is_judged (mode_before r t.core p) t.rec.kind
+    if is_judged (phase_before r t.core p) t.rec.kind
     then entry_of t.core t.rec.access t.rec.reply
     else []
 

@@ -1,9 +1,9 @@
--- Which records are handler steps ('profile'): a machine of modes over the records of one core.
+-- Which records are handler steps ('profile'): a machine of phases over the records of one core.
 -- From the record of a window exception on through the next RFWO or RFWU, or to the end of the
 -- trace, but for nested interrupts: those of level 5, each through its RFI 5.
 --
--- Profile: `HandlerSteps` reads the records of a core in three modes: the plain one, in handler
--- steps, in a nested interrupt.
+-- Profile: `HandlerSteps` reads the records of a core in three phases: outside handler steps, in
+-- handler steps, in a nested interrupt.
 use Rattle.std.specs.Prelude.{ℕ, Bool, true, false, if◌then◌else◌}
 use Rattle.xt_isa.specs.declared.Insn.{Insn}
 use Rattle.xt_isa.specs.declared.Insn.TheVariants as insn
@@ -13,15 +13,9 @@ use Rattle.xt_trace.specs.declared.record.StepKind.{StepKind}
 use Rattle.xt_trace.specs.declared.record.StepKind.TheVariants as kind
 use Rattle.xt_trace.specs.declared.record.StepRecord.{StepRecord}
 use Rattle.xt_fetch.specs.Fetching.{Fetched, Fetches, Fails, SpellsNothing, fetch_at}
+use Rattle.xt_frames.specs.declared.kinds.HandlerPhase.{HandlerPhase}
+use Rattle.xt_frames.specs.declared.kinds.HandlerPhase.TheVariants.{Outside, InHandler, Nested}
 use Rattle.xt_frames.specs.Nesting.{ends_nested, is_nesting}
-
--- The mode before a record: in the plain mode a record of kind Window is a handler step; in the
--- handler mode each record is one, but an interrupt of level 5, which is nested; in the nested mode
--- each record is nested.
-pub data Mode : Type 0 where
-  Plain : Mode
-  Handles : Mode
-  Nests : Mode
 
 unfoldable pub ends_stretch : Insn → Bool
 ends_stretch (insn.System (system.Rfe ReturnName.Rfwo)) = true
@@ -52,9 +46,11 @@ abbrev pub returns : (ℕ → ℕ) → StepKind → ℕ → Bool
 returns code kind.Insn pc = fetched_returns (fetch_at code pc)
 returns code _ pc = false
 
-abbrev pub mode_after : (ℕ → ℕ) → Mode → StepRecord → Mode
-mode_after code Plain rec = if is_window rec.kind then Handles else Plain
-mode_after code Handles rec =
-    if is_nesting rec.kind then Nests
-    else (if closes code rec.kind rec.pc then Plain else Handles)
-mode_after code Nests rec = if returns code rec.kind rec.pc then Handles else Nests
+-- Outside handler steps, a record of kind Window is a handler step; in handler steps each record is
+-- one, but an interrupt of level 5, which is nested; in a nested interrupt each record is nested.
+abbrev pub phase_after : (ℕ → ℕ) → HandlerPhase → StepRecord → HandlerPhase
+phase_after code Outside rec = if is_window rec.kind then InHandler else Outside
+phase_after code InHandler rec =
+    if is_nesting rec.kind then Nested
+    else (if closes code rec.kind rec.pc then Outside else InHandler)
+phase_after code Nested rec = if returns code rec.kind rec.pc then InHandler else Nested

@@ -8,8 +8,9 @@ use Rattle.xt_frames.specs.Frames.{FrameState}
 use Rattle.xt_frames.specs.FrameStep.{FrameTurn, with_inputs}
 use Rattle.xt_frames.specs.Nesting.{begins, current, frame_step, is_nesting}
 use Rattle.xt_frames.specs.SaveAreas.{is_live}
-use Rattle.xt_frames.specs.HandlerSteps.{Mode, Plain, Handles, Nests, is_window}
-use Rattle.xt_frames.specs.HandlerSteps.{mode_after}
+use Rattle.xt_frames.specs.declared.kinds.HandlerPhase.{HandlerPhase}
+use Rattle.xt_frames.specs.declared.kinds.HandlerPhase.TheVariants.{Outside, InHandler, Nested}
+use Rattle.xt_frames.specs.HandlerSteps.{is_window, phase_after}
 use Rattle.xt_frames.specs.Breaches.{Bounds, inputs_of, breach_of, window_breach, fresh_after}
 use Rattle.xt_frames.specs.Breaches.{stale_after}
 
@@ -49,10 +50,10 @@ pub record Standing : Type 0 where
   -- EPC1 has what was last written; after handler steps it has not, since exception mode ended
   -- there
   pub fresh : Bool
-  pub mode : Mode
+  pub phase : HandlerPhase
 
 abbrev pub opening_standing : FrameState → Standing
-opening_standing f = record { frame = f; fresh = true; mode = Plain }
+opening_standing f = record { frame = f; fresh = true; phase = Outside }
 
 -- a record that the judge has seen: a handler step; a judged step, with the stale bytes after it;
 -- or the first breach
@@ -63,7 +64,7 @@ pub data Seen : Type 0 where
 
 -- the record of a window exception begins handler steps
 abbrev pub seen_window : Option BreachKind → FrameState → Seen
-seen_window None f = Handled (record { frame = f; fresh = false; mode = Handles })
+seen_window None f = Handled (record { frame = f; fresh = false; phase = InHandler })
 seen_window (Some kind) f = Breaks kind
 
 -- the record is judged; `others` are the live bytes of the other core
@@ -77,7 +78,7 @@ seen_step None code b standing others stale nested rec =
     (record {
       frame = u.after;
       fresh = fresh_on standing.fresh code nested rec f;
-      mode = mode_after code standing.mode rec;
+      phase = phase_after code standing.phase rec;
     })
     (stale_after (live_of b u.after others) (live_of b f others) stale rec.access)
 seen_step (Some kind) code b standing others stale nested rec = Breaks kind
@@ -109,18 +110,18 @@ handled_record code standing rec =
     Handled (record {
       frame = standing.frame;
       fresh = false;
-      mode = mode_after code standing.mode rec;
+      phase = phase_after code standing.phase rec;
     })
 
 abbrev pub seen_in :
-    Mode → (ℕ → ℕ) → Bounds → Standing → (ℕ → Bool) → (ℕ → Bool) → StepRecord → Seen
-seen_in Plain code b standing others stale rec = seen_plain code b standing others stale rec
-seen_in Handles code b standing others stale rec =
+    HandlerPhase → (ℕ → ℕ) → Bounds → Standing → (ℕ → Bool) → (ℕ → Bool) → StepRecord → Seen
+seen_in Outside code b standing others stale rec = seen_plain code b standing others stale rec
+seen_in InHandler code b standing others stale rec =
     if is_nesting rec.kind then seen_judged code b standing others stale true rec
     else handled_record code standing rec
-seen_in Nests code b standing others stale rec = seen_judged code b standing others stale true rec
+seen_in Nested code b standing others stale rec = seen_judged code b standing others stale true rec
 
 -- one record of a core
 abbrev pub seen_record : (ℕ → ℕ) → Bounds → Standing → (ℕ → Bool) → (ℕ → Bool) → StepRecord → Seen
 seen_record code b standing others stale rec =
-    seen_in standing.mode code b standing others stale rec
+    seen_in standing.phase code b standing others stale rec

@@ -15,7 +15,7 @@
 -- and PS there, as the interrupt's own formula puts them; so the row of RFI 5 gives them back, and
 -- a step that is tested for WoeCleared leaves the kept PS.
 use Rattle.std.specs.Prelude.{ℕ, Bool, true, false, ◌==◌, ◌&&◌, ◌||◌, not, if◌then◌else◌, Option}
-use Rattle.std.specs.Prelude.{Some, None, List, [], is_some, replicate, slice_set}
+use Rattle.std.specs.Prelude.{Some, None, List, [], is_some, replicate, slice_index_or, slice_set}
 use Rattle.xt_isa.specs.declared.Insn.{Insn}
 use Rattle.xt_isa.specs.declared.Insn.TheVariants as insn
 use Rattle.xt_isa.specs.declared.system.System.TheVariants as system
@@ -68,6 +68,11 @@ nested_view x f = record f { seen = x.seen; control = record f.control { pc = x.
 abbrev pub current_in : Option Nested → FrameState → FrameState
 current_in None f = f
 current_in (Some x) f = nested_view x f
+
+-- the mark that a visible register holds in an interrupt
+abbrev pub mark_in : Option Nested → ℕ → Option ℕ
+mark_in None i = None
+mark_in (Some x) i = slice_index_or x.marks i None
 
 -- what the next step finds
 abbrev pub current : FrameState → FrameState

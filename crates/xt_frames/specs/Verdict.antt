@@ -16,7 +16,8 @@ use Rattle.xt_frames.specs.SaveAreas.{is_live}
 use Rattle.xt_frames.specs.Breaches.{Bounds}
 use Rattle.xt_frames.specs.Judging.{Standing, opening_standing, Seen, Handled, Judges, Breaks}
 use Rattle.xt_frames.specs.Judging.{place_on, step_on, seen_record}
-use Rattle.xt_frames.specs.HandlerSteps.{Mode, Plain, Handles, Nests}
+use Rattle.xt_frames.specs.declared.kinds.HandlerPhase.{HandlerPhase}
+use Rattle.xt_frames.specs.declared.kinds.HandlerPhase.TheVariants.{Outside, InHandler, Nested}
 
 -- ---- the walk
 
@@ -56,18 +57,18 @@ past_handled_0 standing k = record k { standing0 = standing; steps0 = suc k.step
 abbrev pub past_handled_1 : Standing → Known → Known
 past_handled_1 standing k = record k { standing1 = standing; steps1 = suc k.steps1 }
 
--- what is known past a judged step, which is nested in any mode but the plain one
-abbrev pub is_nested : Mode → Bool
-is_nested Plain = false
-is_nested Handles = true
-is_nested Nests = true
+-- what is known past a judged step, which is nested in any phase but outside handler steps
+abbrev pub is_nested : HandlerPhase → Bool
+is_nested Outside = false
+is_nested InHandler = true
+is_nested Nested = true
 
 abbrev pub past_judged_0 : Standing → (ℕ → Bool) → StepRecord → Known → Known
 past_judged_0 standing stale rec k = record k {
   standing0 = standing;
   stale = stale;
   steps0 = suc k.steps0;
-  judged0 = k.judged0 ++ (is_nested k.standing0.mode, rec) ∷ [];
+  judged0 = k.judged0 ++ (is_nested k.standing0.phase, rec) ∷ [];
   entries = k.entries ++ entry_of 0 rec.access rec.reply;
 }
 
@@ -76,7 +77,7 @@ past_judged_1 standing stale rec k = record k {
   standing1 = standing;
   stale = stale;
   steps1 = suc k.steps1;
-  judged1 = k.judged1 ++ (is_nested k.standing1.mode, rec) ∷ [];
+  judged1 = k.judged1 ++ (is_nested k.standing1.phase, rec) ∷ [];
   entries = k.entries ++ entry_of 1 rec.access rec.reply;
 }
 

@@ -1,11 +1,11 @@
 //! A core of the machine with unbounded frames.
 #![tactic(auto)]
 
-ghost use Rattle.std.specs.Prelude.{◌≡◌, ◌≤◌, ◌<◌, ◌+◌, ◌%◌, ◌^◌, ℕ, Bool, true, false, None, length, IfOk};
+ghost use Rattle.std.specs.Prelude.{◌≡◌, ◌≤◌, ◌<◌, ◌+◌, ◌%◌, ◌^◌, ℕ, Bool, true, false, None, length, IfOk, is_some, slice_index_or};
 ghost use Rattle.xt_map.specs.Memory.{constant_byte};
 ghost use Rattle.xt_frames.specs.Backtrace.{a0_of_frame, address_of_frame, size_of_frame};
 ghost use Rattle.xt_frames.specs.FrameStep.{with_inputs};
-ghost use Rattle.xt_frames.specs.Nesting.{current};
+ghost use Rattle.xt_frames.specs.Nesting.{current, mark_in};
 ghost use Rattle.xt_frames.specs.SaveAreas.{before};
 ghost use Rattle.xt_frames.specs.Breaches.{inputs_of, loads_stale, own_breach, touches_save_area, window_breach};
 ghost use Rattle.xt_frames.specs.KeptFrameState.{IsNewest, IsSmall, state_at};
@@ -31,16 +31,16 @@ use xt_trace::{Options, Stack as Range, StepRecord};
 /// Its stack pointers lie in a chain, so that the frames that can stand on its stack are few, and there is room for all of them.
 #[derive(Drop)]
 pub struct Frames {
-    core: u8,
-    limits: Limits,
-    view: FrameRegisters,
-    holes: UndefinedParts,
+    pub(crate) core: u8,
+    pub(crate) limits: Limits,
+    pub(crate) view: FrameRegisters,
+    pub(crate) holes: UndefinedParts,
     // The callers, the oldest first.
-    callers: Vec<Caller>,
+    pub(crate) callers: Vec<Caller>,
     // Whether EPC1 has what was last written.
-    fresh: bool,
+    pub(crate) fresh: bool,
     // The number of the record after the last judged one.
-    next: u64,
+    pub(crate) next: u64,
 }
 
 impl Model for Frames {
@@ -347,6 +347,29 @@ impl Frames {
         ensures { result ≡ calls_at self.now j }
     {
         calls_in(&self.callers, j)
+    }
+
+    /// Whether a register of the current frame has a value. In a nested interrupt these registers are kept.
+    ///
+    /// Condition: the register is one of a0 to a15.
+    pub fn has_value(&self, i: u8) -> bool
+        requires { i < 16 }
+        ensures { result ≡ is_some (slice_index_or self.now.state.seen i None) }
+    {
+        self.view.visible(i).is_some()
+    }
+
+    /// The mark that a register holds in a nested interrupt, if it holds one.
+    ///
+    /// Condition: the register is one of a0 to a15.
+    pub fn mark(&self, i: u8) -> Option<u8>
+        requires { i < 16 }
+        ensures { result ≡ mark_in self.now.state.nested i }
+    {
+        match &self.holes.nested {
+            Some(nested) => nested.marks[i as usize],
+            None => None,
+        }
     }
 }
 

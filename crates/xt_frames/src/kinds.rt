@@ -1,5 +1,16 @@
-//! How a step leaves the stack discipline, and what is judged of a run.
+//! Handler steps, how a step leaves the stack discipline, and what is judged of a run.
 #![tactic(auto)]
+
+/// Where a core stands among the handler steps of its records.
+#[derive(Clone, Copy, Debug, PartialEq, Eq)]
+pub enum HandlerPhase {
+    /// Outside handler steps.
+    Outside,
+    /// In handler steps.
+    InHandler,
+    /// In a nested interrupt.
+    Nested,
+}
 
 /// How a judged step leaves the stack discipline. Where a step shows several kinds, the first counts.
 #[derive(Clone, Copy, Debug, PartialEq, Eq)]

@@ -12,6 +12,7 @@ pub mod laws;
 mod nested;
 mod quick;
 mod registers;
+mod snapshots;
 mod view;
 
 pub use breach::{
@@ -24,6 +25,7 @@ pub use holes::{
     Nested, UndefinedParts, ends_nested, is_nesting, mark_read, moved_to, moves_marks,
 };
 pub use judged::give_numbers;
-pub use kinds::{Breach, BreachKind, Judged};
+pub use kinds::{Breach, BreachKind, HandlerPhase, Judged};
 pub use nested::{begin, go_on};
+pub use snapshots::Snapshot;
 pub use view::{Call, Caller, FrameRegisters, NextEvent, StepSummary};

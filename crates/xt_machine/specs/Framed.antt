@@ -9,7 +9,7 @@ use Rattle.xt_trace.specs.Short.{ShortRun, short_trace}
 use Rattle.xt_exec.specs.State.{State}
 use Rattle.xt_core.specs.Runs.{code_of, records_of, IsRunOf}
 use Rattle.xt_frames.specs.FirstBreach.{judged_of}
-use Rattle.xt_frames.specs.HandlerSteps.{Plain}
+use Rattle.xt_frames.specs.declared.kinds.HandlerPhase.TheVariants.{Outside}
 use Rattle.xt_frames.specs.Verdict.{Judgement}
 use Rattle.xt_handlers.specs.CheckAnswers.{handlers_of}
 use Rattle.xt_discipline.specs.Verdicts.{are_yes}
@@ -36,7 +36,7 @@ judgement_of image r = headline.judgement_of image.segments image.entry r.option
 
 -- the judged records of a core's trace: all but its handler steps, each with whether it is nested
 abbrev pub judged_of_core : ℕ → Image → Run → List (Bool × StepRecord)
-judged_of_core core image r = judged_of (code_of image) Plain (records_of core image r).records
+judged_of_core core image r = judged_of (code_of image) Outside (records_of core image r).records
 
 -- The judged records before the first breach are a run of the machine with unbounded call frames,
 -- over one legal history; and where there is no breach, they are all judged records of both traces.

@@ -1,10 +1,9 @@
 -- The rows of an order.
-use Rattle.std.proofs.Common.{◌<◌, length, add-one, drop, get_or, drop-cons, ◌≡◌, ◌≢◌, ℕ, ◌+◌, Bool, true, false, List, [], ◌∷◌, ◌++◌, refl, sym, ap, ◌∙◌, subst, rules, arith, append_assoc, append-nil, codes}
+use Rattle.std.proofs.Common.{◌<◌, length, add-one, drop, get_or, drop-cons, ◌≡◌, ◌≢◌, ℕ, ◌+◌, true, false, List, [], ◌∷◌, ◌++◌, refl, sym, ap, ◌∙◌, arith, append_assoc, codes}
 use Rattle.std.specs.Prelude.{◌==◌, if◌then◌else◌, replicate, flat_map}
-use Rattle.std.specs.List.{join_by}
 use Rattle.std.proofs.lemmas.Bool.Decides.{nat_tests}
 use Rattle.std.proofs.lemmas.List.{replicate_more}
-use Rattle.xt_outcome_report.specs.Orders.{Row, RowsMakeTheOrder, order_text, row_text, rows_from, rows_of, rows_text, turns_of}
+use Rattle.xt_outcome_report.specs.Orders.{Row, RowsMakeTheOrder, row_text, rows_from, rows_text, turns_of}
 
 -- ---- the turns of the rows
 

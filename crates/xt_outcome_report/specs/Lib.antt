@@ -1,2 +1,4 @@
 pub mod Orders
+pub mod RaceLines
+pub mod FrameLines
 pub mod OutcomesText

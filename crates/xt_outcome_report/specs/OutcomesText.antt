@@ -1,5 +1,5 @@
 -- What `outcomes` prints ('profile').
-use Rattle.std.specs.Prelude.{◌≡◌, ℕ, Bool, true, false, Option, Some, None, List, [], ◌∷◌, ◌++◌}
+use Rattle.std.specs.Prelude.{◌≡◌, ℕ, Bool, true, false, Option, Some, None, List, [], ◌∷◌}
 use Rattle.std.specs.Prelude.{codes, length, flat_map, option_map}
 use Rattle.std.specs.List.{concat, zip}
 use Rattle.std.specs.Fmt.{decimal}
@@ -7,6 +7,7 @@ use Rattle.xt_word.specs.Hexadecimal.{hex8}
 use Rattle.xt_trace.specs.declared.options.Options.{Options}
 use Rattle.xt_trace.specs.declared.trace.Stop.{Stop}
 use Rattle.xt_image.specs.declared.image.Image.{Image}
+use Rattle.xt_core.specs.Runs.{code_of}
 use Rattle.xt_report.specs.Reports.{newline, stop_text, uart_lines}
 use Rattle.xt_outcomes.specs.Answered.{AreAnswers}
 use Rattle.xt_outcomes.specs.declared.answers.Answers.{Answers}
@@ -15,8 +16,11 @@ use Rattle.xt_outcomes.specs.declared.answers.Ending.TheVariants as ending
 use Rattle.xt_outcomes.specs.declared.listing.Found.{Found}
 use Rattle.xt_outcomes.specs.declared.races.NextRace.{NextRace}
 use Rattle.xt_outcome_report.specs.Orders.{order_text}
-use Rattle.xt_outcome_report.specs.declared.whole.Frames.{Frames}
-use Rattle.xt_outcome_report.specs.declared.whole.Frames.TheVariants as frames
+use Rattle.xt_outcome_report.specs.RaceLines.{turn_lines}
+use Rattle.xt_outcome_report.specs.FrameLines.{frames_lines}
+use Rattle.xt_judged.specs.OrderFrames.{AreFrames}
+use Rattle.xt_judged.specs.declared.frames.Frames.{Frames}
+use Rattle.xt_judged.specs.declared.frames.Frames.TheVariants as judged
 
 -- ---- an outcome
 
@@ -61,14 +65,6 @@ stuck_text whole (Some order) = order_text order
 abbrev pub stuck_line : Bool → Option (List ℕ) → List ℕ
 stuck_line whole order = concat (codes "stuck " ∷ stuck_text whole order ∷ newline ∷ [])
 
-abbrev pub frames_text : Frames → List ℕ
-frames_text frames.Unknown = codes "unknown"
-frames_text frames.Unchecked = codes "none"
-frames_text frames.Whole = codes "whole"
-
-abbrev pub frames_line : Frames → List ℕ
-frames_line f = concat (codes "frames " ∷ frames_text f ∷ newline ∷ [])
-
 -- whether every order was looked at
 abbrev pub is_all : Ending → Bool
 is_all ending.All = true
@@ -96,19 +92,25 @@ count_line n = concat (codes "outcomes " ∷ decimal n ∷ newline ∷ [])
 
 -- ---- the text
 
-abbrev pub answers_text : List ℕ → Answers → Frames → List ℕ
-answers_text addresses a f = concat (
+-- of an image with these constant bytes
+abbrev pub answers_text : (ℕ → ℕ) → List ℕ → Answers → Frames → List ℕ
+answers_text code addresses a f = concat (
     flat_map (outcome_text addresses) a.found.items
     ∷ count_line (length a.found.items)
     ∷ stuck_line (is_all a.ended) (option_map (λ v. v.items) a.stuck)
     ∷ race_line (is_all a.ended) a.race
-    ∷ frames_line f
+    ∷ turn_lines code a.race
+    ∷ frames_lines f
     ∷ end_line a.ended
     ∷ [])
 
--- this is the text of what is said of all orders
+-- This is the text of what is said of all orders; `frames whole` stands there only if every order was
+-- looked at.
 pub record IsAnswersText (image : Image) (o : Options) (timed : Bool) (addresses text : List ℕ)
     : Type 0 where
   pub answers : Answers
   pub are : AreAnswers image o timed addresses answers
-  pub text_is : text ≡ answers_text addresses answers frames.Unknown
+  pub frames : Frames
+  pub are_frames : AreFrames image o timed frames
+  pub known : frames ≡ judged.Whole → is_all answers.ended ≡ true
+  pub text_is : text ≡ answers_text (code_of image) addresses answers frames

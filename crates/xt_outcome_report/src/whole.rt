@@ -1,29 +1,24 @@
 //! The text of everything that can come out.
-ghost use Rattle.std.specs.Prelude.{◌≡◌, ◌+◌, ◌≤◌, ◌^◌, ◌++◌, IfOk, OnOk, string_bytes, flat_map, option_map};
+ghost use Rattle.std.specs.Prelude.{◌≡◌, ◌+◌, ◌≤◌, ◌^◌, ◌++◌, true, IfOk, OnOk, string_bytes, flat_map, option_map};
 ghost use Rattle.std.specs.List.{All};
+ghost use Rattle.xt_map.specs.Memory.{constant_byte};
 ghost use Rattle.xt_trace.specs.Validity.{IsValid};
 ghost use Rattle.xt_image.specs.ImageParts.{IsWellFormed};
-ghost use Rattle.xt_outcome_report.specs.OutcomesText.{IsAnswersText, answers_text, count_line, end_line, frames_line, frames_text, is_all, none_text, outcome_text, race_line, stuck_line, stuck_text};
+ghost use Rattle.xt_judged.specs.OrderFrames.{AreFrames};
+ghost use Rattle.xt_judged.specs.declared.frames.Frames.TheVariants as judged;
+ghost use Rattle.xt_outcome_report.specs.OutcomesText.{IsAnswersText, answers_text, count_line, end_line, is_all, none_text, outcome_text, race_line, stuck_line, stuck_text};
 
+use crate::accesses::push_turns;
+use crate::breaches::push_frames;
 use crate::orders::order_text;
 use crate::outcomes::push_outcome;
 use std::alloc::{AllocError, Global};
 use xt_image::{Image, well_formed_is_placed};
-use xt_map::Text;
+use xt_judged::{Frames, judge_orders};
+use xt_map::{Constants, Text};
 use xt_outcomes::{Answers, Ending, Found, NextRace, answers_of};
 use xt_trace::Options;
 use xt_word::hexadecimal;
-
-/// What is judged of the runs of all orders by the discipline of the stack.
-#[derive(Clone, Copy, Debug, PartialEq, Eq)]
-pub enum Frames {
-    /// Nothing.
-    Unknown,
-    /// A window handler fails its check.
-    Unchecked,
-    /// The run of each order keeps it.
-    Whole,
-}
 
 // That there is none, as far as it is known.
 fn none_text(whole: bool) -> &'static str
@@ -65,25 +60,6 @@ fn race_line(alloc: Global, whole: bool, race: &Option<NextRace>) -> Result<Stri
         None => stuck_text(alloc, whole, None)?,
     };
     format!(in alloc; "race {text}\n")
-}
-
-// What is judged, in a word.
-fn frames_text(frames: Frames) -> &'static str
-    ensures { result.now ≡ frames_text frames }
-{
-    match frames {
-        Frames::Unknown => "unknown",
-        Frames::Unchecked => "none",
-        Frames::Whole => "whole",
-    }
-}
-
-// The line of what is judged.
-fn frames_line(alloc: Global, frames: Frames) -> Result<String, AllocError>
-    ensures { IfOk result (λ line. string_bytes line ≡ frames_line frames) }
-{
-    let text = frames_text(frames);
-    format!(in alloc; "frames {text}\n")
 }
 
 // The line of so many outcomes.
@@ -144,23 +120,27 @@ fn push_outcomes(
 /// outcomes N
 /// stuck LIST
 /// race LIST
+/// the lines of the next turns of both cores after it, as `trace` prints them
 /// frames F
+/// breach KIND core C pc ADDR order LIST
 /// all
 /// ```
 ///
 /// The first six for each outcome, with a line `word` for each address; S is `break` or `turns`, ADDR
 /// and VALUE have eight upper-case hexadecimal digits. LIST is an order, as `run --order` reads it; of
 /// `stuck` and `race` it is `none` where no order is so, and `unknown` where this is not known. F is
-/// `unknown`, `none` or `whole`. The last line is `all` where all orders were looked at, `some states`
-/// where as many worlds are kept as may be, and `some time core C pc ADDR` where a turn uses time. The
-/// only error is running out of memory.
+/// `unknown`, `none`, `whole` or `broken`, and a line for each breach that was met stands after
+/// `broken`. The last line is `all` where all orders were looked at, `some states` where as many worlds
+/// are kept as may be, and `some time core C pc ADDR` where a turn uses time. The only error is running
+/// out of memory.
 pub fn answers_text(
     alloc: Global,
+    code: &Constants,
     addresses: &[u32],
     answers: &Answers,
-    frames: Frames,
+    frames: &Frames,
 ) -> Result<Text, AllocError>
-    ensures { IfOk result (λ text. text ≡ answers_text addresses.now answers.now frames) }
+    ensures { IfOk result (λ text. text ≡ answers_text (constant_byte code.now) addresses.now answers.now frames.now) }
 {
     let mut out = Vec::new(alloc);
     push_outcomes(alloc, &mut out, addresses, answers.found.as_slice())?;
@@ -169,13 +149,42 @@ pub fn answers_text(
     let stuck = stuck_line(alloc, whole, &answers.stuck)?;
     let race = race_line(alloc, whole, &answers.race)?;
     let end = end_line(alloc, answers.ended)?;
-    let frames = frames_line(alloc, frames)?;
     out.extend_from_slice(count.as_bytes())?;
     out.extend_from_slice(stuck.as_bytes())?;
     out.extend_from_slice(race.as_bytes())?;
-    out.extend_from_slice(frames.as_bytes())?;
+    push_turns(alloc, &mut out, code, &answers.race)?;
+    push_frames(alloc, &mut out, frames)?;
     out.extend_from_slice(end.as_bytes())?;
     Ok(Text::new(out))
+}
+
+// What is judged of the runs of all orders; that they are whole is known only if every order was looked at.
+// The only error is running out of memory.
+fn frames_of(
+    alloc: Global,
+    image: &Image,
+    options: &Options,
+    timed: bool,
+    most: u32,
+    all: bool,
+) -> Result<Frames, AllocError>
+    requires image { IsWellFormed image.now }
+    requires valid { IsValid options.now }
+    ensures are { IfOk result (AreFrames image.now options.now timed) }
+    ensures known { IfOk result (λ f. f ≡ judged.Whole → all ≡ true) }
+{
+    match judge_orders(alloc, image, options, timed, most)? {
+        Frames::Whole => {
+            if all {
+                Ok(Frames::Whole)
+            } else {
+                Ok(Frames::Unknown)
+            }
+        }
+        Frames::Unknown => Ok(Frames::Unknown),
+        Frames::Unchecked => Ok(Frames::Unchecked),
+        Frames::Broken(list) => Ok(Frames::Broken(list)),
+    }
 }
 
 /// The lines of everything that can come out of an image's runs, in any order of their turns, timed or
@@ -199,5 +208,8 @@ pub fn outcomes_text(
 {
     well_formed_is_placed();
     let answers = answers_of(alloc, image, options, timed, addresses, most)?;
-    answers_text(alloc, addresses, &answers, Frames::Unknown)
+    let all = is_all(answers.ended);
+    let frames = frames_of(alloc, image, options, timed, most, all)?;
+    let code = Constants::make(alloc, image.segments.as_slice())?;
+    answers_text(alloc, &code, addresses, &answers, &frames)
 }

@@ -135,7 +135,7 @@ module _ (code : ℕ → ℕ) (timed : Bool) where
         p z k order o
 
     module _ (g : Graph World) (is : IsGraph (Leads code timed ps n m) g) (whole : IsWhole g)
-        (told : (k : ℕ) (w : World) → IsAt g.kept.items k w → (is_told code ps 0 w.side0 ≡ true) × (is_told code ps 1 w.side1 ≡ true)) where
+        (told : (k : ℕ) (w : World) → IsAt g.kept.items k w → (is_told code ps 0 w.side0.value ≡ true) × (is_told code ps 1 w.side1.value ≡ true)) where
       next_at : (k : ℕ) (w : World) (x : Nexts) (c : ℕ) → c < 2 → AreNexts (Leads code timed ps n m) g.kept.items w x → (j : ℕ) × IsNext (Leads code timed ps n m) g.kept.items c w j
       next_at k w x zero small h = (x.by0, h.0)
       next_at k w x (suc zero) small h = (x.by1, h.1)

@@ -71,8 +71,8 @@ met_is_complete s none whole = record {
   whole = whole;
   allowed = λ k w at.
       let code = constant_byte s.machine.code in
-      subst (λ (ps : List Place). (is_told code ps 0 w.side0 ≡ true) × (is_told code ps 1 w.side1 ≡ true)) (sym none)
-      (met_access 0 (next_of code w.side0), met_access 1 (next_of code w.side1));
+      subst (λ (ps : List Place). (is_told code ps 0 w.side0.value ≡ true) × (is_told code ps 1 w.side1.value ≡ true)) (sym none)
+      (met_access 0 (next_of code w.side0.value), met_access 1 (next_of code w.side1.value));
 }
 
 -- ---- what is found
@@ -83,9 +83,9 @@ module _ (image : Image) (o : Options) (s : Search) (h : IsSearch image o s) whe
       carried (λ k n. IsGraph (Leads k s.machine.timed s.machine.places.list.items s.machine.most_local n) s.graph) image.segments s.machine.code (memory_of image o) s.machine.opening.contents (sym h.code) (sym h.opening) h.graph
 
   pub told_kept : AreAllowed s → (k : ℕ) (w : KeptWorld) → IsAt s.graph.kept.items k w
-      → (is_told (code_of image) s.machine.places.list.items 0 w.side0 ≡ true) × (is_told (code_of image) s.machine.places.list.items 1 w.side1 ≡ true)
+      → (is_told (code_of image) s.machine.places.list.items 0 w.side0.value ≡ true) × (is_told (code_of image) s.machine.places.list.items 1 w.side1.value ≡ true)
   told_kept a k w at =
-      subst (λ (l : List Segment). (is_told (constant_byte l) s.machine.places.list.items 0 w.side0 ≡ true) × (is_told (constant_byte l) s.machine.places.list.items 1 w.side1 ≡ true)) h.code (a k w at)
+      subst (λ (l : List Segment). (is_told (constant_byte l) s.machine.places.list.items 0 w.side0.value ≡ true) × (is_told (constant_byte l) s.machine.places.list.items 1 w.side1.value ≡ true)) h.code (a k w at)
 
   -- what is kept of the opening, and of the world after an order, by its turns
   abbrev pub first_spot : Spot State

@@ -6,6 +6,7 @@ pub mod CodeBytes
 pub mod Commuted
 pub mod Covering
 pub mod Spreading
+pub mod Moving
 pub mod Finding
 pub mod Comparing
 pub mod Adding
@@ -14,3 +15,5 @@ pub mod Raced
 pub mod Using
 pub mod Opens
 pub mod Beyond
+pub mod Counted
+pub mod Looking

@@ -14,10 +14,11 @@ use Rattle.xt_trace.specs.declared.options.Options.{Options}
 use Rattle.xt_image.specs.declared.image.Image.{Image}
 use Rattle.xt_fetch.specs.Code.{AreBytes}
 use Rattle.xt_fetch.specs.Fetching.{fetch_at}
+use Rattle.xt_exec.specs.Chips.{processor}
 use Rattle.xt_exec.specs.TurnLaws.{IsServed}
 use Rattle.xt_exec.specs.State.{State}
 use Rattle.xt_exec.specs.Turn.{demand, turn}
-use Rattle.xt_core.specs.Runs.{code_of, memory_of}
+use Rattle.xt_core.specs.Runs.{code_of, memory_of, opening_of}
 use Rattle.xt_search.specs.Graphs.{IsAt}
 use Rattle.xt_search.proofs.Endings.{some_at}
 use Rattle.xt_timeless.specs.Time.{uses_time, without_time}
@@ -31,7 +32,8 @@ use Rattle.xt_race.proofs.Concluding.{clash_from, clash_is}
 use Rattle.xt_outcomes.specs.KeptWorlds.{spot_of}
 use Rattle.xt_outcomes.specs.NextRaces.{IsNextRace, next_access, next_event}
 use Rattle.xt_outcomes.specs.Places.{is_allowed, is_local, is_own_access, may_access}
-use Rattle.xt_outcomes.specs.Searched.{IsKeptAfter, IsMet, IsSearch, kept_after}
+use Rattle.xt_outcomes.specs.Orders.{world_after}
+use Rattle.xt_outcomes.specs.Searched.{IsFoundBy, IsKeptAfter, IsMet, IsSearch, kept_after}
 use Rattle.xt_outcomes.specs.SpotRaces.{IsSpotRace, event_at, next_of}
 use Rattle.xt_outcomes.specs.Spots.{Spot, side_bars, side_in, spot_in}
 use Rattle.xt_outcomes.specs.declared.found.Search.{Search}
@@ -113,6 +115,14 @@ module _ (image : Image) (o : Options) (s : Search) (h : IsSearch image o s) whe
       let n = some_at s.graph.nexts.items k less in
       let both = h.graph.nexts k n.0 w n.1 at in
       (both.0.2.1, both.1.2.1)
+
+  -- after an order that leads to it, a race in what is kept of the world
+  pub race_found : (k : ℕ) (w : KeptWorld) (order : List ℕ) (a b : Access) → k < length s.graph.nexts.items → IsAt s.graph.kept.items k w → IsFoundBy image o s order k
+      → IsSpotRace (code_of image) (spot_of (memory_of image o) w) a b → IsNextRace (code_of image) s.machine.timed (world_after (processor (code_of image)) s.machine.timed (opening_of image o) order) a b
+  race_found k w order a b less at found race =
+      let e = found w at in
+      race_of_spot (code_of image) h.bytes s.machine.timed (world_after (processor (code_of image)) s.machine.timed (opening_of image o) order) a b
+      (subst (AreFree (code_of image) h.bytes s.machine.timed) e (are_free k w less at)) (subst (λ (p : Spot State). IsSpotRace (code_of image) p a b) e race)
 
 -- ---- a race after an order, where the search branches only where turns meet
 

@@ -1,17 +1,26 @@
 -- Carries a proof; nothing that a reader must believe.
 -- What stands for a world in a search.
-use Rattle.std.specs.Prelude.{◌≡◌, ℕ, Bool, false, List}
+use Rattle.std.specs.Prelude.{◌≡◌, ℕ, zero, suc, Bool, false, List}
 use Rattle.xt_map.specs.declared.contents.MemoryContents.{MemoryContents}
 use Rattle.xt_changes.specs.Changed.{contents_of}
 use Rattle.xt_exec.specs.State.{State}
 use Rattle.xt_outcomes.specs.Places.{spot_run}
-use Rattle.xt_outcomes.specs.Spots.{Spot, side_bars, side_of}
+use Rattle.xt_outcomes.specs.Spots.{Side, Spot, side_bars, side_of}
 use Rattle.xt_outcomes.specs.declared.places.Place.{Place}
 use Rattle.xt_outcomes.specs.declared.world.World.{World}
 
 -- the world that it stands for where memory opened so
 abbrev pub spot_of : MemoryContents → World → Spot State
-spot_of m w = record { side0 = w.side0; side1 = w.side1; memory = contents_of m w.changes }
+spot_of m w = record {
+  side0 = w.side0.value;
+  side1 = w.side1.value;
+  memory = contents_of m w.changes.value;
+}
+
+-- a world in which this core and memory have become these
+abbrev pub moved_spot : ℕ → Side State → MemoryContents → Spot State → Spot State
+moved_spot zero s m p = record { side0 = s; side1 = p.side1; memory = m }
+moved_spot (suc c) s m p = record { side0 = p.side0; side1 = s; memory = m }
 
 -- the next turn of the core uses time
 abbrev pub bars : (code : ℕ → ℕ) (timed : Bool) → MemoryContents → ℕ → World → Bool

@@ -2,6 +2,7 @@ pub mod Orders
 pub mod Beyond
 pub mod Outcomes
 pub mod NextRaces
+pub mod NextTurns
 pub mod Spots
 pub mod SpotRaces
 pub mod Places

@@ -12,8 +12,11 @@ use Rattle.xt_trace.specs.Runs.{Opening, world_at_start}
 use Rattle.xt_trace.specs.Worlds.{World, advance}
 
 -- each core has this many turns
+abbrev pub with_both : {S : Type 0} → Opening S → ℕ → ℕ → Opening S
+with_both o n m = record o { turns0 = n; turns1 = m }
+
 abbrev pub with_turns : {S : Type 0} → Opening S → ℕ → Opening S
-with_turns o n = record o { turns0 = n; turns1 = n }
+with_turns o n = with_both o n n
 
 -- with the turns of the options, or with as many as the order asks for
 abbrev pub given_turns : {S : Type 0} → Bool → Opening S → List ℕ → Opening S

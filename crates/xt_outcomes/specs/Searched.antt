@@ -36,8 +36,8 @@ pub record IsSearch (image : Image) (o : Options) (s : Search) : Type 0 where
 abbrev pub AreAllowed : Search → Type 0
 AreAllowed s =
     (k : ℕ) (w : World) → IsAt s.graph.kept.items k w
-    → (is_told (constant_byte s.machine.code) s.machine.places.list.items 0 w.side0 ≡ true)
-    × (is_told (constant_byte s.machine.code) s.machine.places.list.items 1 w.side1 ≡ true)
+    → (is_told (constant_byte s.machine.code) s.machine.places.list.items 0 w.side0.value ≡ true)
+    × (is_told (constant_byte s.machine.code) s.machine.places.list.items 1 w.side1.value ≡ true)
 
 -- the search came to its end, and its places are right
 pub record IsComplete (s : Search) : Type 0 where

@@ -55,11 +55,7 @@ pub struct Answers {
 fn pc_in(world: &World, core: u8) -> u32
     ensures { (m : MemoryContents) → result ≡ (side_of core (spot_of m world.now)).state.control.pc }
 {
-    if core == 0 {
-        world.side0.pc()
-    } else {
-        world.side1.pc()
-    }
+    world.side(core).pc()
 }
 
 // How the search ended.

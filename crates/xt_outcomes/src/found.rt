@@ -49,7 +49,7 @@ pub fn order_of(
 {
     let runs = order_to(alloc, &search.machine, &search.graph, number)?;
     let mut desk = Desk::make(alloc, options)?;
-    let mut world = open(alloc, image, options, search.machine.timed);
+    let mut world = open(alloc, image, options, &mut desk, search.machine.timed)?;
     let mut order = Vec::new(alloc);
     for at in 0..runs.len() {
         let core = runs[at];

@@ -12,6 +12,7 @@ use crate::places::{Places, Seen};
 use crate::timed::Timed;
 use crate::turns::Desk;
 use std::alloc::{AllocError, Global};
+use xt_changes::Changes;
 use xt_image::Image;
 use xt_search::{has_all, search};
 use xt_trace::Options;
@@ -42,13 +43,8 @@ pub fn search_by<'a>(
 {
     let machine = Timed::make(alloc, image, options, timed, places, MOST_LOCAL)?;
     let mut desk = Desk::make(alloc, options)?;
-    let graph = search(
-        alloc,
-        &machine,
-        &mut desk,
-        open(alloc, image, options, timed),
-        most,
-    )?;
+    let opening = open(alloc, image, options, &mut desk, timed)?;
+    let graph = search(alloc, &machine, &mut desk, opening, most)?;
     Ok(Search { machine, graph })
 }
 
@@ -69,10 +65,10 @@ pub fn are_allowed(search: &Search, desk: &mut Desk) -> bool
 {
     for number in 0..search.graph.kept.len() {
         let world = &search.graph.kept[number].world;
-        if !search.machine.is_told(desk, world, 0) {
+        if !search.machine.is_told(desk, world.side(0), 0) {
             return false;
         }
-        if !search.machine.is_told(desk, world, 1) {
+        if !search.machine.is_told(desk, world.side(1), 1) {
             return false;
         }
     }
@@ -109,9 +105,41 @@ fn may_end(image: &Image, options: &Options, search: &Search, desk: &mut Desk, m
     }
 }
 
+// How many worlds the next search keeps: where a smaller one has shown all places, as many as may be kept.
+fn next_limit(limit: u32, is_new: bool, most: u32) -> u32 {
+    if is_new {
+        most.min(limit.saturating_mul(4))
+    } else {
+        most
+    }
+}
+
+// Marks the accesses of two orders: of core 0 first and then core 1, and the other way round.
+fn watch_both(
+    alloc: Global,
+    image: &Image,
+    options: &Options,
+    timed: bool,
+    seen: &mut Seen,
+) -> Result<(), AllocError>
+    requires valid { IsValid options.now }
+    requires fits { FitsImage image.now }
+    requires placed { IsPlaced image.now.segments }
+{
+    let machine = Timed::make(alloc, image, options, timed, Places::met(alloc), MOST_LOCAL)?;
+    let mut desk = Desk::make(alloc, options)?;
+    let opening = open(alloc, image, options, &mut desk, timed)?;
+    for first in 0..2u8 {
+        let mut changes = Changes::new(alloc);
+        machine.watch(&mut desk, &opening, &mut changes, first, seen)?;
+        machine.watch(&mut desk, &opening, &mut changes, 1 - first, seen)?;
+    }
+    Ok(())
+}
+
 /// Searches the worlds after all orders, and keeps at most so many: timed, with the turns that the
-/// options give, or with any number of turns and without time. It begins with no place, and searches
-/// again as long as an access shows that the places were not right. The only error is running out of
+/// options give, or with any number of turns and without time. It begins with the places that two orders
+/// show, and searches again as long as an access shows that the places were not right. The only error is running out of
 /// memory.
 pub fn search_orders<'a>(
     alloc: Global,
@@ -129,15 +157,19 @@ pub fn search_orders<'a>(
 {
     let mut desk = Desk::make(alloc, options)?;
     let mut seen = Seen::new(alloc)?;
-    let mut limit = FIRST;
+    watch_both(alloc, image, options, timed, &mut seen)?;
+    let mut limit = most.min(FIRST);
     for _ in 0..64u32 {
         let places = seen.places(alloc)?;
-        let search = search_by(alloc, image, options, timed, places, most.min(limit))?;
+        let search = search_by(alloc, image, options, timed, places, limit)?;
+        if is_whole(image, options, &search, &mut desk) {
+            return Ok(search);
+        }
         let is_new = note_all(&search, &mut desk, &mut seen);
         if !is_new && may_end(image, options, &search, &mut desk, most) {
             return Ok(search);
         }
-        limit = limit.saturating_mul(4);
+        limit = next_limit(limit, is_new, most);
     }
     let last = search_by(alloc, image, options, timed, Places::met(alloc), most)?;
     Ok(last)

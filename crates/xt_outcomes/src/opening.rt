@@ -1,5 +1,5 @@
 //! How a search opens.
-ghost use Rattle.std.specs.Prelude.{◌≡◌, true};
+ghost use Rattle.std.specs.Prelude.{◌≡◌, true, IfOk};
 ghost use Rattle.xt_trace.specs.Runs.{world_at_start};
 ghost use Rattle.xt_trace.specs.Validity.{IsValid};
 ghost use Rattle.xt_core.specs.Runs.{memory_of, opening_of};
@@ -8,36 +8,48 @@ ghost use Rattle.xt_outcomes.specs.Orders.{with_turns};
 ghost use Rattle.xt_outcomes.specs.Spots.{spot_in};
 
 use crate::sides::Side;
+use crate::turns::Desk;
 use crate::world::World;
-use std::alloc::Global;
+use std::alloc::{AllocError, Global};
 use xt_changes::Changes;
 use xt_image::Image;
 use xt_trace::Options;
 
-/// The world in which the runs of an image open.
+/// The world in which the runs of an image open. The only error is running out of memory.
 ///
 /// Condition: the options are valid.
-pub fn open(alloc: Global, image: &Image, options: &Options, timed: bool) -> World
+pub fn open(
+    alloc: Global,
+    image: &Image,
+    options: &Options,
+    desk: &mut Desk,
+    timed: bool,
+) -> Result<World, AllocError>
     requires { IsValid options.now }
-    ensures { spot_of (memory_of image.now options.now) result ≡ spot_in timed (world_at_start (opening_of image.now options.now)) }
+    ensures { IfOk result (λ w. spot_of (memory_of image.now options.now) w ≡ spot_in timed (world_at_start (opening_of image.now options.now))) }
 {
-    World {
-        side0: Side::open(0, image.entry, options, timed, options.turns0),
-        side1: Side::open(1, options.entry1, options, timed, options.turns1),
-        changes: Changes::new(alloc),
-    }
+    let side0 = Side::open(0, image.entry, options, timed, options.turns0);
+    let side1 = Side::open(1, options.entry1, options, timed, options.turns1);
+    let world = desk.shared.world(alloc, side0, side1, Changes::new(alloc))?;
+    Ok(world)
 }
 
-/// The world in which the runs of an image open, timed, where each core has so many turns.
+/// The world in which the runs of an image open, timed, where each core has so many turns. The only
+/// error is running out of memory.
 ///
 /// Condition: the options are valid.
-pub fn open_with(alloc: Global, image: &Image, options: &Options, turns: u32) -> World
+pub fn open_with(
+    alloc: Global,
+    image: &Image,
+    options: &Options,
+    desk: &mut Desk,
+    turns: u32,
+) -> Result<World, AllocError>
     requires { IsValid options.now }
-    ensures { spot_of (memory_of image.now options.now) result ≡ spot_in true (world_at_start (with_turns (opening_of image.now options.now) turns)) }
+    ensures { IfOk result (λ w. spot_of (memory_of image.now options.now) w ≡ spot_in true (world_at_start (with_turns (opening_of image.now options.now) turns))) }
 {
-    World {
-        side0: Side::open(0, image.entry, options, true, turns),
-        side1: Side::open(1, options.entry1, options, true, turns),
-        changes: Changes::new(alloc),
-    }
+    let side0 = Side::open(0, image.entry, options, true, turns);
+    let side1 = Side::open(1, options.entry1, options, true, turns);
+    let world = desk.shared.world(alloc, side0, side1, Changes::new(alloc))?;
+    Ok(world)
 }

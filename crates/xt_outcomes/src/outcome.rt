@@ -157,10 +157,10 @@ pub(crate) fn outcome_of(
     sent.extend_from_slice(world.changes.sent())?;
     Ok(Outcome {
         sent,
-        stop0: world.side0.stop(),
-        pc0: world.side0.pc(),
-        stop1: world.side1.stop(),
-        pc1: world.side1.pc(),
-        words: values(alloc, opening, &world.changes, words)?,
+        stop0: world.side(0).stop(),
+        pc0: world.side(0).pc(),
+        stop1: world.side(1).stop(),
+        pc1: world.side(1).pc(),
+        words: values(alloc, opening, world.changes.as_ref(), words)?,
     })
 }

@@ -37,16 +37,27 @@ fn is_same_ps(a: Ps, b: Ps) -> bool
     a == b
 }
 
-// Whether all special registers are seen to be equal.
+// Whether numbers that were equal so far still are, with these two.
+fn are_still_equal(so_far: bool, a: u32, b: u32) -> bool
+    ensures before { result ≡ true → so_far ≡ true }
+    ensures these { result ≡ true → a ≡ b }
+{
+    so_far && a == b
+}
+
+// Whether all special registers are seen to be equal. All are looked at, with no early end, so that several
+// are compared at once.
 fn is_same_special(a: &Special, b: &Special) -> bool
     requires count_a { length a.now.file ≡ 256 }
     requires count_b { length b.now.file ≡ 256 }
     ensures { result ≡ true → a.now ≡ b.now }
 {
+    let mut equal = true;
     for n in 0..256u32 {
-        if a.register(n as u8) != b.register(n as u8) {
-            return false;
-        }
+        equal = are_still_equal(equal, a.register(n as u8), b.register(n as u8));
+    }
+    if !equal {
+        return false;
     }
     is_same_ps(a.ps_fields(), b.ps_fields()) && a.threadptr() == b.threadptr()
 }
@@ -59,12 +70,14 @@ fn is_same_file(a: &WindowFile, b: &WindowFile) -> bool
 {
     let mut left = *a;
     let mut right = *b;
+    let mut equal = true;
     for n in 0..64u8 {
         left.set_base(n / 4);
         right.set_base(n / 4);
-        if left.read(n % 4) != right.read(n % 4) {
-            return false;
-        }
+        equal = are_still_equal(equal, left.read(n % 4), right.read(n % 4));
+    }
+    if !equal {
+        return false;
     }
     a.base() == b.base() && a.start() == b.start()
 }

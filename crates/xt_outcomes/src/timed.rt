@@ -5,15 +5,20 @@ ghost use Rattle.xt_map.specs.Memory.{HasSizes, constant_byte};
 ghost use Rattle.xt_fetch.specs.Code.{AreBytes};
 
 use crate::places::{Places, Seen};
+use crate::sides::Side;
 use crate::turns::Desk;
 use crate::world::World;
 use std::alloc::{AllocError, Global};
 use xt_bus::Memory;
+use xt_changes::Changes;
 use xt_core::stack_links;
 use xt_image::Image;
-use xt_map::{Access, Constants};
+use xt_map::Constants;
 use xt_search::Machine;
 use xt_trace::Options;
+
+// How many turns of a core are watched before a search.
+const MOST_WATCHED: u32 = 16384;
 
 /// The constant bytes of an image, what memory holds as its runs open, whether time is part of the
 /// worlds, which turns meet nothing of the other core, and how many of those are made at once at most.
@@ -81,125 +86,87 @@ impl<'a> Timed<'a> {
     ghost use Rattle.std.specs.Prelude.{false, IfOk, OnOk};
     ghost use Rattle.xt_exec.specs.Chips.{processor};
     ghost use Rattle.xt_search.specs.Meetings.{after};
+    ghost use Rattle.xt_changes.specs.Changed.{contents_of};
     ghost use Rattle.xt_outcomes.specs.KeptWorlds.{bars, spot_of};
     ghost use Rattle.xt_outcomes.specs.Places.{is_local, is_told, spot_run, turns_of};
-    ghost use Rattle.xt_outcomes.specs.SpotRaces.{next_of};
-    ghost use Rattle.xt_outcomes.specs.Spots.{TurnsAreFree, side_of, spot_past};
+    ghost use Rattle.xt_outcomes.specs.Spots.{TurnsAreFree, memory_given, side_given, spot_past};
 
-    // Whether the next turn of a core uses time.
-    fn bars(&self, world: &World, core: u8) -> bool
-        ensures { result ≡ bars (constant_byte self.now.code) self.now.timed self.now.opening.contents core world.now }
+    // One turn of a core more. The only error is running out of memory.
+    fn go_on(&self, desk: &mut Desk, side: &Side, changes: &mut Changes) -> Result<Side, AllocError>
+        ensures side { IfOk result (λ s. s ≡ side_given (processor (constant_byte self.now.code)) self.now.timed side.now.left side.now (contents_of self.now.opening.contents changes.old)) }
+        ensures memory { OnOk result (contents_of self.now.opening.contents changes.new ≡ memory_given (processor (constant_byte self.now.code)) side.now.left side.now.state (contents_of self.now.opening.contents changes.old)) }
     {
-        if core == 0 {
-            world.side0.bars(&self.code, self.timed)
-        } else {
-            world.side1.bars(&self.code, self.timed)
-        }
+        side.turned(desk, &self.code, &self.opening, changes, self.timed)
     }
 
-    // One turn of a core. The only error is running out of memory.
-    fn make_turn(&self, desk: &mut Desk, world: &World, core: u8) -> Result<World, AllocError>
+    /// One turn of a core. The only error is running out of memory.
+    ///
+    /// Condition: the core is 0 or 1.
+    pub(crate) fn make_turn(
+        &self,
+        desk: &mut Desk,
+        world: &World,
+        core: u8,
+    ) -> Result<World, AllocError>
         requires { core < 2 }
         ensures { IfOk result (λ w. spot_of self.now.opening.contents w ≡ spot_past (processor (constant_byte self.now.code)) self.now.timed core (spot_of self.now.opening.contents world.now)) }
     {
         let mut changes = world.changes.copy(self.alloc)?;
-        if core == 0 {
-            let side0 = world
-                .side0
-                .turned(desk, &self.code, &self.opening, &mut changes, self.timed)?;
-            Ok(World {
-                side0,
-                side1: world.side1.copy(),
-                changes,
-            })
-        } else {
-            let side1 = world
-                .side1
-                .turned(desk, &self.code, &self.opening, &mut changes, self.timed)?;
-            Ok(World {
-                side0: world.side0.copy(),
-                side1,
-                changes,
-            })
-        }
-    }
-
-    // One turn of a core more in the same world. The only error is running out of memory.
-    fn go_on(&self, desk: &mut Desk, world: &mut World, core: u8) -> Result<(), AllocError>
-        requires { core < 2 }
-        ensures { OnOk result (spot_of self.now.opening.contents world.new ≡ spot_past (processor (constant_byte self.now.code)) self.now.timed core (spot_of self.now.opening.contents world.old)) }
-    {
-        if core == 0 {
-            world.side0 = world.side0.turned(
-                desk,
-                &self.code,
-                &self.opening,
-                &mut world.changes,
-                self.timed,
-            )?;
-        } else {
-            world.side1 = world.side1.turned(
-                desk,
-                &self.code,
-                &self.opening,
-                &mut world.changes,
-                self.timed,
-            )?;
-        }
-        Ok(())
-    }
-
-    // The access of the next turn of a core.
-    fn next_access(&self, desk: &mut Desk, world: &World, core: u8) -> Option<Access>
-        ensures { result ≡ next_of (constant_byte self.now.code) (side_of core (spot_of self.now.opening.contents world.now)) }
-    {
-        if core == 0 {
-            world.side0.next_access(desk, &self.code)
-        } else {
-            world.side1.next_access(desk, &self.code)
-        }
-    }
-
-    // The turns that a core has left.
-    fn left(&self, world: &World, core: u8) -> u32
-        ensures { result ≡ (side_of core (spot_of self.now.opening.contents world.now)).left }
-    {
-        if core == 0 {
-            world.side0.left()
-        } else {
-            world.side1.left()
-        }
+        let side = self.go_on(desk, world.side(core), &mut changes)?;
+        let next = desk.shared.moved(self.alloc, world, core, side, changes)?;
+        Ok(next)
     }
 
     // Whether the next turn of a core uses no time and meets nothing of the other core.
-    fn is_local(&self, desk: &mut Desk, world: &World, core: u8) -> bool
-        ensures { result ≡ is_local (constant_byte self.now.code) self.now.timed self.now.places.list.items core (side_of core (spot_of self.now.opening.contents world.now)) }
+    fn is_local(&self, desk: &mut Desk, side: &Side, core: u8) -> bool
+        ensures { result ≡ is_local (constant_byte self.now.code) self.now.timed self.now.places.list.items core side.now }
     {
-        if self.left(world, core) == 0 {
+        if side.left() == 0 {
             return false;
         }
-        if self.bars(world, core) {
+        if side.bars(&self.code, self.timed) {
             return false;
         }
-        let access = self.next_access(desk, world, core);
+        let access = side.next_access(desk, &self.code);
         self.places.is_own(core, access)
     }
 
     /// Whether the places tell of the next turn of a core.
-    pub fn is_told(&self, desk: &mut Desk, world: &World, core: u8) -> bool
-        ensures { result ≡ is_told (constant_byte self.now.code) self.now.places.list.items core (side_of core (spot_of self.now.opening.contents world.now)) }
+    pub fn is_told(&self, desk: &mut Desk, side: &Side, core: u8) -> bool
+        ensures { result ≡ is_told (constant_byte self.now.code) self.now.places.list.items core side.now }
     {
-        let access = self.next_access(desk, world, core);
+        let access = side.next_access(desk, &self.code);
         self.places.may_access(core, access)
     }
 
     /// Marks the accesses of both next turns, and answers whether one of them is new.
     pub fn note(&self, desk: &mut Desk, world: &World, seen: &mut Seen) -> bool {
-        let access0 = self.next_access(desk, world, 0);
-        let access1 = self.next_access(desk, world, 1);
+        let access0 = world.side(0).next_access(desk, &self.code);
+        let access1 = world.side(1).next_access(desk, &self.code);
         let new0 = seen.note(0, access0);
         let new1 = seen.note(1, access1);
         new0 || new1
+    }
+
+    /// Makes the first turns of a core after these changes of memory, at most so many, and marks their
+    /// accesses. The only error is running out of memory.
+    pub fn watch(
+        &self,
+        desk: &mut Desk,
+        opening: &World,
+        changes: &mut Changes,
+        core: u8,
+        seen: &mut Seen,
+    ) -> Result<(), AllocError> {
+        let mut side = opening.side(core).copy();
+        for _ in 0..MOST_WATCHED {
+            if side.left() == 0 {
+                return Ok(());
+            }
+            seen.note(core, side.next_access(desk, &self.code));
+            side = self.go_on(desk, &side, changes)?;
+        }
+        Ok(())
     }
 
     /// A turn of a core, and then its turns that meet nothing. The only error is running out of memory.
@@ -212,17 +179,27 @@ impl<'a> Timed<'a> {
         ensures turns { IfOk result (λ r. spot_of self.now.opening.contents r.world ≡ after (spot_past (processor (constant_byte self.now.code)) self.now.timed) (turns_of core r.turns) (spot_of self.now.opening.contents world.now)) }
         ensures free { IfOk result (λ r. TurnsAreFree (constant_byte self.now.code) self.now.timed (turns_of core r.turns) (spot_of self.now.opening.contents world.now)) }
     {
-        let mut next = self.make_turn(desk, world, core)?;
+        let mut changes = world.changes.copy(self.alloc)?;
+        let mut side = self.go_on(desk, world.side(core), &mut changes)?;
         let mut turns = 1;
         for made in 0..self.most_local {
-            if !self.is_local(desk, &next, core) {
-                return Ok(Run { world: next, turns });
+            if !self.is_local(desk, &side, core) {
+                let world = desk.shared.moved(self.alloc, world, core, side, changes)?;
+                return Ok(Run { world, turns });
             }
-            self.go_on(desk, &mut next, core)?;
+            side = self.go_on(desk, &side, &mut changes)?;
             turns += 1;
         }
-        Ok(Run { world: next, turns })
+        let world = desk.shared.moved(self.alloc, world, core, side, changes)?;
+        Ok(Run { world, turns })
     }
+}
+
+// Whether neither core has a turn left.
+fn have_ended(side0: &Side, side1: &Side) -> bool
+    ensures { result ≡ ((side0.now.left == 0) && (side1.now.left == 0)) }
+{
+    side0.left() == 0 && side1.left() == 0
 }
 
 impl<'a> Machine for Timed<'a> {
@@ -236,10 +213,10 @@ impl<'a> Machine for Timed<'a> {
 
     ghost bars = { λ t c w. kept.bars (constant_byte t.code) t.timed t.opening.contents c w };
 
-    ghost ends = { λ t w. (w.side0.left == 0) && (w.side1.left == 0) };
+    ghost ends = { λ t w. (w.side0.value.left == 0) && (w.side1.value.left == 0) };
 
     fn is_barred(&self, world: &World, core: u8) -> bool {
-        self.bars(world, core)
+        world.side(core).bars(&self.code, self.timed)
     }
 
     fn turned(&self, desk: &mut Desk, world: &World, core: u8) -> Result<World, AllocError> {
@@ -248,16 +225,16 @@ impl<'a> Machine for Timed<'a> {
     }
 
     fn is_same(&self, a: &World, b: &World) -> bool {
-        a.side0.is_same(&b.side0) && a.side1.is_same(&b.side1) && a.changes.is_same(&b.changes)
+        a.is_same(b)
     }
 
     fn is_end(&self, world: &World) -> bool {
-        world.side0.left() == 0 && world.side1.left() == 0
+        have_ended(world.side0.as_ref(), world.side1.as_ref())
     }
 
     fn digest(&self, world: &World) -> u64 {
-        let side0 = world.side0.digest();
-        let side1 = world.side1.digest();
+        let side0 = world.side(0).digest();
+        let side1 = world.side(1).digest();
         world
             .changes
             .digest()

@@ -15,6 +15,7 @@ ghost use Rattle.xt_exec.specs.TurnLaws.{IsShaped};
 ghost use Rattle.xt_exec.specs.States.{file_state};
 
 use crate::sides::Side;
+use crate::world::Shared;
 use std::alloc::{AllocError, Global};
 use xt_bus::Memory;
 use xt_changes::Changes;
@@ -25,10 +26,11 @@ use xt_timeless::{clear_time, uses_time};
 use xt_trace::Options;
 use xt_window::WindowFile;
 
-/// A core that makes the turns of all worlds.
+/// A core that makes the turns of all worlds, and what the worlds share.
 #[derive(Drop)]
 pub struct Desk {
     core: Core<WindowFile>,
+    pub(crate) shared: Shared,
     ghost free: { core.waiting ≡ None },
     ghost room: { 2 ≤ core.turns },
 }
@@ -52,6 +54,7 @@ impl Desk {
         };
         Ok(Desk {
             core: Core::make(alloc, 0, options.entry1, &two, WindowFile::new())?,
+            shared: Shared::new(alloc)?,
         })
     }
 }
@@ -108,7 +111,7 @@ fn asked(core: &mut Core<WindowFile>, code: &Constants) -> Option<Access>
 }
 
 // The turns that are left after one, of so many. Where it is not timed, one stands for all.
-fn left_after(left: u32, stops: bool, timed: bool) -> u32
+pub(crate) fn left_after(left: u32, stops: bool, timed: bool) -> u32
     requires { 0 < left }
     ensures { result ≡ (if stops then 0 else more_kept timed (left - 1)) }
 {
@@ -136,7 +139,7 @@ pub(crate) fn regs_kept(regs: Regs<WindowFile>, timed: bool) -> Regs<WindowFile>
 }
 
 // Whether one of them is true.
-fn is_either(a: bool, b: bool) -> bool
+pub(crate) fn is_either(a: bool, b: bool) -> bool
     ensures { result ≡ (a || b) }
 {
     a || b

@@ -8,8 +8,10 @@ use Rattle.xt_trace.specs.declared.record.StepRecord.{StepRecord}
 use Rattle.xt_trace.specs.declared.run.Run.{Run}
 use Rattle.xt_frames.specs.Breaches.{Bounds}
 use Rattle.xt_frames.specs.Frames.{FrameState}
-use Rattle.xt_frames.specs.HandlerSteps.{Mode, Plain, mode_after}
-use Rattle.xt_discipline.specs.Modes.{step_mode}
+use Rattle.xt_frames.specs.declared.kinds.HandlerPhase.{HandlerPhase}
+use Rattle.xt_frames.specs.declared.kinds.HandlerPhase.TheVariants.{Outside}
+use Rattle.xt_frames.specs.HandlerSteps.{phase_after}
+use Rattle.xt_discipline.specs.Phases.{step_phase}
 use Rattle.xt_frames.specs.Verdict.{Known, Judgement, judgement, opening_known}
 use Rattle.xt_frames.specs.Walked.{opening_walked}
 use Rattle.xt_discipline.specs.declared.walk.Walk.{Walk}
@@ -63,12 +65,12 @@ one_on a b = omega arith
 no_more : (n : ℕ) → n + 0 ≡ n
 no_more n = omega arith
 
-steps_length : (code : ℕ → ℕ) (m : Mode) (f : FrameState) (past : List Step) (xs : List StepRecord) → length (steps_from code m f past xs) ≡ length past + length xs
+steps_length : (code : ℕ → ℕ) (m : HandlerPhase) (f : FrameState) (past : List Step) (xs : List StepRecord) → length (steps_from code m f past xs) ≡ length past + length xs
 steps_length code m f past [] = sym (no_more (length past))
 steps_length code m f past (x ∷ xs) =
-    let mode = step_mode m x.kind in
-    let g = frame_after code mode x f in
-    steps_length code (mode_after code m x) g (step_of mode x f g ∷ past) xs ∙ one_on (length past) (length xs)
+    let phase = step_phase m x.kind in
+    let g = frame_after code phase x f in
+    steps_length code (phase_after code m x) g (step_of phase x f g ∷ past) xs ∙ one_on (length past) (length xs)
 
 sum_is : (t k h s n l a c : ℕ) → t ≡ k → k + h ≡ s → s ≡ n → n + a ≡ l → c ≡ l → t + h + a ≡ c
 sum_is t k h s n l a c e f g i j = omega (arith, e, f, g, i, j)
@@ -88,14 +90,14 @@ adds_up core d image r count p e is =
     let f = (opening_walked core (entry_of core image r.options) r.options).state in
     subst (λ (q : CoreProfile). CoreAddsUp q count) (sym e)
     (sum_is (total (lines (keys o all))) (length (keys o all)) (handlers all) (length all) (length (take n xs)) (length xs) (length (drop n xs)) count (total_is (keys o all)) (keys_count o all)
-    (steps_length (code_of image) Plain f [] (take n xs) ∙ none_first (length (take n xs))) (both_parts n xs) is)
+    (steps_length (code_of image) Outside f [] (take n xs) ∙ none_first (length (take n xs))) (both_parts n xs) is)
 
 -- ---- a core's profile
 -- the steps that were counted, in the words of the definition
 past_is : (core : ℕ) (image : Image) (r : Run) (code : ℕ → ℕ) (f : FrameState) (xs : List StepRecord) (n : ℕ) (o : Origin) (t : Tally) → code ≡ code_of image → xs ≡ records core image r → f ≡ (opening_walked core (entry_of core image r.options) r.options).state
     → n ≡ count_before_cut core image r → (h : IsCut code f xs n o t) → h.past ≡ steps core image r
 past_is core image r code f xs n o t code_is xs_is f_is n_is h =
-    let S : (ℕ → ℕ) → FrameState → List StepRecord → ℕ → List Step = λ c g ys m. steps_from c Plain g [] (take m ys) in
+    let S : (ℕ → ℕ) → FrameState → List StepRecord → ℕ → List Step = λ c g ys m. steps_from c Outside g [] (take m ys) in
     let opening = (opening_walked core (entry_of core image r.options) r.options).state in
     sym h.steps_are
     ∙ (ap (λ (c : ℕ → ℕ). S c f xs n) code_is

@@ -5,13 +5,13 @@ use Rattle.xt_map.specs.Memory.{constant_byte}
 use Rattle.xt_trace.specs.declared.record.StepRecord.{StepRecord}
 use Rattle.xt_frames.specs.Breaches.{Bounds}
 use Rattle.xt_frames.specs.Frames.{Frame, FrameState}
-use Rattle.xt_frames.specs.HandlerSteps as before
-use Rattle.xt_frames.specs.HandlerSteps.{mode_after}
+use Rattle.xt_frames.specs.declared.kinds.HandlerPhase.{HandlerPhase}
+use Rattle.xt_frames.specs.declared.kinds.HandlerPhase.TheVariants.{Outside}
+use Rattle.xt_frames.specs.HandlerSteps.{phase_after}
 use Rattle.xt_frames.specs.Judging.{Standing}
 use Rattle.xt_frames.specs.Verdict.{Known, Judgement, judgement}
-use Rattle.xt_discipline.specs.declared.step_modes.Mode.{Mode}
 use Rattle.xt_discipline.specs.declared.walk.Walk.{Walk}
-use Rattle.xt_discipline.specs.Modes.{step_mode}
+use Rattle.xt_discipline.specs.Phases.{step_phase}
 use Rattle.xt_profile.specs.declared.counting.Made.{Made}
 use Rattle.xt_profile.specs.declared.tally.Tally.{Tally}
 use Rattle.xt_profile.specs.Steps.{Step, frame_after, frames_standing, steps_from}
@@ -23,13 +23,13 @@ use Rattle.xt_profile.proofs.Telling.{steps_within}
 none_before : (m : ℕ) → 0 + m ≡ m
 none_before m = omega arith
 
-pub core_begins : (code : ℕ → ℕ) (f : FrameState) (xs : List StepRecord) (st : Standing) → st.mode ≡ before.Plain → st.frame ≡ f → f.frames ≡ [] → IsCore code f xs xs 0 st []
-core_begins code f xs st mode frame none = record {
+pub core_begins : (code : ℕ → ℕ) (f : FrameState) (xs : List StepRecord) (st : Standing) → st.phase ≡ Outside → st.frame ≡ f → f.frames ≡ [] → IsCore code f xs xs 0 st []
+core_begins code f xs st phase frame none = record {
   depth_is = sym (ap (λ (g : FrameState). length g.frames) frame ∙ ap (λ (fs : List Frame). length fs) none);
   count_is = refl;
   left_is = none_before (length xs);
-  steps_are = λ m. ap (λ (n : ℕ). steps_from code before.Plain f [] (take n xs)) (none_before m)
-      ∙ ap₂ (λ (y : before.Mode) (g : FrameState). steps_from code y g [] (take m xs)) (sym mode) (sym frame);
+  steps_are = λ m. ap (λ (n : ℕ). steps_from code Outside f [] (take n xs)) (none_before m)
+      ∙ ap₂ (λ (y : HandlerPhase) (g : FrameState). steps_from code y g [] (take m xs)) (sym phase) (sym frame);
 }
 
 one_later : (n m : ℕ) → suc n + m ≡ n + suc m
@@ -38,18 +38,18 @@ one_later n m = omega arith
 one_gone : (n a b c : ℕ) → n + a ≡ c → a ≡ suc b → suc n + b ≡ c
 one_gone n a b c e f = omega (arith, e, f)
 
-abbrev at_step : ℕ → Mode → ℕ → ℕ → Step
-at_step pc mode before after = record { pc = pc; mode = mode; before = before; after = after }
+abbrev at_step : ℕ → HandlerPhase → ℕ → ℕ → Step
+at_step pc phase before after = record { pc = pc; phase = phase; before = before; after = after }
 
 -- the step of a turn that was made past these steps
 abbrev pub step_past : Made → List Step → Step
 step_past made past =
-    record { pc = made.pc; mode = made.mode; before = frames_standing past; after = made.after }
+    record { pc = made.pc; phase = made.phase; before = frames_standing past; after = made.after }
 
 pub core_goes : (code : ℕ → ℕ) (f : FrameState) (xs left left2 : List StepRecord) (n : ℕ) (st new : Standing) (past : List Step) (x : StepRecord) (made : Made)
     → IsCore code f xs left n st past → IsStep code x st new left left2 made → IsCore code f xs left2 (suc n) new (step_past made past ∷ past)
 core_goes code f xs left left2 n st new past x made h s =
-    let m0 = step_mode st.mode x.kind in
+    let m0 = step_phase st.phase x.kind in
     let g = frame_after code m0 x st.frame in
     let P : Made → Type 0 = λ y. IsCore code f xs left2 (suc n) new (step_past y past ∷ past) in
     subst P (sym s.made_is) (record {
@@ -57,11 +57,11 @@ core_goes code f xs left left2 n st new past x made h s =
       count_is = ap (λ (c : ℕ). suc c) h.count_is;
       left_is = one_gone n (length left) (length left2) (length xs) h.left_is (ap (λ (l : List StepRecord). length l) s.records_are);
       steps_are = λ m.
-          ap (λ (k : ℕ). steps_from code before.Plain f [] (take k xs)) (one_later n m)
+          ap (λ (k : ℕ). steps_from code Outside f [] (take k xs)) (one_later n m)
           ∙ (h.steps_are (suc m)
-          ∙ (ap (λ (l : List StepRecord). steps_from code st.mode st.frame past (take (suc m) l)) s.records_are
-          ∙ (ap (λ (d : ℕ). steps_from code (mode_after code st.mode x) g (at_step x.pc m0 d (length g.frames) ∷ past) (take m left2)) (sym h.depth_is)
-          ∙ ap₂ (λ (y : before.Mode) (z : FrameState). steps_from code y z (at_step x.pc m0 (frames_standing past) (length z.frames) ∷ past) (take m left2)) (sym s.next.mode_is) (sym s.next.frame_is))));
+          ∙ (ap (λ (l : List StepRecord). steps_from code st.phase st.frame past (take (suc m) l)) s.records_are
+          ∙ (ap (λ (d : ℕ). steps_from code (phase_after code st.phase x) g (at_step x.pc m0 d (length g.frames) ∷ past) (take m left2)) (sym h.depth_is)
+          ∙ ap₂ (λ (y : HandlerPhase) (z : FrameState). steps_from code y z (at_step x.pc m0 (frames_standing past) (length z.frames) ∷ past) (take m left2)) (sym s.next.phase_is) (sym s.next.frame_is))));
     })
 
 -- a core that makes no turn
@@ -82,7 +82,7 @@ core_cut code f xs left n opening st past t h tally = record {
   past = past;
   count_is = h.count_is;
   within = within n (length left) (length xs) h.left_is;
-  steps_are = ap (λ (k : ℕ). steps_from code before.Plain f [] (take k xs)) (sym (no_more n)) ∙ h.steps_are 0;
+  steps_are = ap (λ (k : ℕ). steps_from code Outside f [] (take k xs)) (sym (no_more n)) ∙ h.steps_are 0;
   tally = tally;
 }
 

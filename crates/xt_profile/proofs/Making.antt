@@ -6,14 +6,13 @@ use Rattle.xt_frames.specs.declared.kinds.Breach.{Breach}
 use Rattle.xt_frames.specs.declared.kinds.Judged.{Judged}
 use Rattle.xt_frames.specs.declared.kinds.Judged.TheVariants.{Whole, Broken, Unchecked}
 use Rattle.xt_frames.specs.Breaches.{Bounds}
-use Rattle.xt_frames.specs.HandlerSteps as before
+use Rattle.xt_frames.specs.declared.kinds.HandlerPhase.{HandlerPhase}
 use Rattle.xt_frames.specs.Judging.{Standing}
 use Rattle.xt_frames.specs.Verdict.{Known, judgement, verdict_on}
-use Rattle.xt_discipline.specs.declared.step_modes.Mode.{Mode}
 use Rattle.xt_discipline.specs.declared.walk.Walk.{Walk}
 use Rattle.xt_discipline.specs.Ended.{HasEnded, IsTaken, records_left}
-use Rattle.xt_discipline.specs.Modes.{step_mode}
-use Rattle.xt_discipline.specs.Walks.{IsKnown, IsTurned, Knows, mode_in}
+use Rattle.xt_discipline.specs.Phases.{step_phase}
+use Rattle.xt_discipline.specs.Walks.{IsKnown, IsTurned, Knows, phase_in}
 use Rattle.xt_discipline.specs.declared.side.Side.{Side}
 use Rattle.xt_profile.specs.declared.counting.Made.{Made}
 use Rattle.xt_profile.specs.Follows.{IsMade, IsNext, IsStep, depth_in}
@@ -32,56 +31,56 @@ abbrev pair_kind : StepKind → Option (ℕ × StepKind) → StepKind
 pair_kind d None = d
 pair_kind d (Some p) = p.1
 
-abbrev pub made_of : ℕ → Mode → ℕ → Made
-made_of pc mode after = record { pc = pc; mode = mode; after = after }
+abbrev pub made_of : ℕ → HandlerPhase → ℕ → Made
+made_of pc phase after = record { pc = pc; phase = phase; after = after }
 
-stepped : (code : ℕ → ℕ) (x : StepRecord) (old new : Standing) (xs left : List StepRecord) (pc after : ℕ) (kind : StepKind) (mode : Mode) (m : before.Mode) → xs ≡ x ∷ left → IsNext code old x new
-    → Some (pc, kind) ≡ pc_and_kind xs → mode ≡ step_mode m kind → m ≡ old.mode → after ≡ length new.frame.frames
-    → IsStep code x old new xs left (made_of pc mode after)
-stepped code x old new xs left pc after kind mode m are next seen is m_is a =
+stepped : (code : ℕ → ℕ) (x : StepRecord) (old new : Standing) (xs left : List StepRecord) (pc after : ℕ) (kind : StepKind) (phase : HandlerPhase) (m : HandlerPhase) → xs ≡ x ∷ left → IsNext code old x new
+    → Some (pc, kind) ≡ pc_and_kind xs → phase ≡ step_phase m kind → m ≡ old.phase → after ≡ length new.frame.frames
+    → IsStep code x old new xs left (made_of pc phase after)
+stepped code x old new xs left pc after kind phase m are next seen is m_is a =
     let whole : Some (pc, kind) ≡ Some (x.pc, x.kind) = seen ∙ ap pc_and_kind are in
     let pc_is : pc ≡ x.pc = ap (pair_pc pc) whole in
     let kind_is : kind ≡ x.kind = ap (pair_kind kind) whole in
-    let mode_is : mode ≡ step_mode old.mode x.kind = is ∙ (ap (λ (k : StepKind). step_mode m k) kind_is ∙ ap (λ (y : before.Mode). step_mode y x.kind) m_is) in
+    let phase_is : phase ≡ step_phase old.phase x.kind = is ∙ (ap (λ (k : StepKind). step_phase m k) kind_is ∙ ap (λ (y : HandlerPhase). step_phase y x.kind) m_is) in
     record {
       records_are = are;
       next = next;
-      made_is = ap (λ (p : ℕ). made_of p mode after) pc_is
-          ∙ (ap (λ (y : Mode). made_of x.pc y after) mode_is
-          ∙ ap (made_of x.pc (step_mode old.mode x.kind)) a);
+      made_is = ap (λ (p : ℕ). made_of p phase after) pc_is
+          ∙ (ap (λ (y : HandlerPhase). made_of x.pc y after) phase_is
+          ∙ ap (made_of x.pc (step_phase old.phase x.kind)) a);
     }
 
-pub made_is : (code : ℕ → ℕ) (b0 b1 : Bounds) (w new : Walk) (k : Known) (core : ℕ) (xs ys xs2 ys2 : List StepRecord) (pc after : ℕ) (kind : StepKind) (mode : Mode) (u : Unit) → Knows w b0 b1 k
+pub made_is : (code : ℕ → ℕ) (b0 b1 : Bounds) (w new : Walk) (k : Known) (core : ℕ) (xs ys xs2 ys2 : List StepRecord) (pc after : ℕ) (kind : StepKind) (phase : HandlerPhase) (u : Unit) → Knows w b0 b1 k
     → IsTurned code b0 b1 core k xs ys new xs2 ys2 (Ok u) → IsTaken core xs ys xs2 ys2 → Some (pc, kind) ≡ pc_and_kind (records_left core xs ys)
-    → mode ≡ step_mode (mode_in core w) kind → after ≡ depth_in core new → IsMade code b0 b1 core k xs ys new xs2 ys2 (Some (made_of pc mode after))
-made_is code b0 b1 w new k zero xs ys xs2 ys2 pc after kind mode u h t taken seen is a =
+    → phase ≡ step_phase (phase_in core w) kind → after ≡ depth_in core new → IsMade code b0 b1 core k xs ys new xs2 ys2 (Some (made_of pc phase after))
+made_is code b0 b1 w new k zero xs ys xs2 ys2 pc after kind phase u h t taken seen is a =
     let n = t.0 in
     let x = taken.0.0 in
     let are : xs ≡ x ∷ xs2 = taken.0.1 in
     let p = past_0_is code b0 b1 k x xs2 ys xs2 ys2 n (subst (λ (l : List StepRecord). judgement code b0 b1 (0 ∷ []) l ys k ≡ judgement code b0 b1 [] xs2 ys2 n) are (t.4 [])) in
-    let m : mode_in 0 w ≡ k.standing0.mode = ap (λ (st : Standing). st.mode) h.zero.standing_is in
+    let m : phase_in 0 w ≡ k.standing0.phase = ap (λ (st : Standing). st.phase) h.zero.standing_is in
     let d : after ≡ length n.standing0.frame.frames = a ∙ depth_is new.side0 0 b0 n.standing0 n.steps0 t.1.zero in
-    (n, t.1, t.2, t.3, t.4, ((x, stepped code x k.standing0 n.standing0 xs xs2 pc after kind mode (mode_in 0 w) are p.next seen is m d), p.steps0, p.other, p.steps1, taken.1))
-made_is code b0 b1 w new k (suc core) xs ys xs2 ys2 pc after kind mode u h t taken seen is a =
+    (n, t.1, t.2, t.3, t.4, ((x, stepped code x k.standing0 n.standing0 xs xs2 pc after kind phase (phase_in 0 w) are p.next seen is m d), p.steps0, p.other, p.steps1, taken.1))
+made_is code b0 b1 w new k (suc core) xs ys xs2 ys2 pc after kind phase u h t taken seen is a =
     let n = t.0 in
     let y = taken.0.0 in
     let are : ys ≡ y ∷ ys2 = taken.0.1 in
     let p = past_1_is code b0 b1 core k y xs ys2 xs2 ys2 n (subst (λ (l : List StepRecord). judgement code b0 b1 (suc core ∷ []) xs l k ≡ judgement code b0 b1 [] xs2 ys2 n) are (t.4 [])) in
-    let m : mode_in (suc core) w ≡ k.standing1.mode = ap (λ (st : Standing). st.mode) h.one.standing_is in
+    let m : phase_in (suc core) w ≡ k.standing1.phase = ap (λ (st : Standing). st.phase) h.one.standing_is in
     let d : after ≡ length n.standing1.frame.frames = a ∙ depth_is new.side1 1 b1 n.standing1 n.steps1 t.1.one in
-    (n, t.1, t.2, t.3, t.4, ((y, stepped code y k.standing1 n.standing1 ys ys2 pc after kind mode (mode_in (suc core) w) are p.next seen is m d), p.steps1, p.other, p.steps0, taken.1))
+    (n, t.1, t.2, t.3, t.4, ((y, stepped code y k.standing1 n.standing1 ys ys2 pc after kind phase (phase_in (suc core) w) are p.next seen is m d), p.steps1, p.other, p.steps0, taken.1))
 
 -- as the code finds it
-pub made_by : (code : ℕ → ℕ) (b0 b1 : Bounds) (w new : Walk) (k : Known) (core : ℕ) (xs ys xs1 ys1 xs2 ys2 : List StepRecord) (pc after : ℕ) (kind : StepKind) (mode : Mode) (p : Option (ℕ × StepKind)) (out : Result Unit Judged) (u : Unit)
+pub made_by : (code : ℕ → ℕ) (b0 b1 : Bounds) (w new : Walk) (k : Known) (core : ℕ) (xs ys xs1 ys1 xs2 ys2 : List StepRecord) (pc after : ℕ) (kind : StepKind) (phase : HandlerPhase) (p : Option (ℕ × StepKind)) (out : Result Unit Judged) (u : Unit)
     → xs1 ≡ xs → ys1 ≡ ys → out ≡ Ok u → Knows w b0 b1 k → IsTurned code b0 b1 core k xs1 ys1 new xs2 ys2 out → OnOk out (IsTaken core xs1 ys1 xs2 ys2) → p ≡ Some (pc, kind) → p ≡ pc_and_kind (records_left core xs ys)
-    → mode ≡ step_mode (mode_in core w) kind → after ≡ depth_in core new → IsMade code b0 b1 core k xs ys new xs2 ys2 (Some (made_of pc mode after))
-made_by code b0 b1 w new k core xs ys xs1 ys1 xs2 ys2 pc after kind mode p out u same0 same1 is h t taken seen peek m a =
+    → phase ≡ step_phase (phase_in core w) kind → after ≡ depth_in core new → IsMade code b0 b1 core k xs ys new xs2 ys2 (Some (made_of pc phase after))
+made_by code b0 b1 w new k core xs ys xs1 ys1 xs2 ys2 pc after kind phase p out u same0 same1 is h t taken seen peek m a =
     let ok : Result Unit Judged = Ok u in
     let t1 : IsTurned code b0 b1 core k xs1 ys1 new xs2 ys2 ok = subst (λ (o : Result Unit Judged). IsTurned code b0 b1 core k xs1 ys1 new xs2 ys2 o) is t in
     let k1 : IsTaken core xs1 ys1 xs2 ys2 = subst (λ (o : Result Unit Judged). OnOk o (IsTaken core xs1 ys1 xs2 ys2)) is taken in
     let t2 = subst (λ (l : List StepRecord). IsTurned code b0 b1 core k xs l new xs2 ys2 ok) same1 (subst (λ (l : List StepRecord). IsTurned code b0 b1 core k l ys1 new xs2 ys2 ok) same0 t1) in
     let k2 = subst (λ (l : List StepRecord). IsTaken core xs l xs2 ys2) same1 (subst (λ (l : List StepRecord). IsTaken core l ys1 xs2 ys2) same0 k1) in
-    made_is code b0 b1 w new k core xs ys xs2 ys2 pc after kind mode u h t2 k2 (sym seen ∙ peek) m a
+    made_is code b0 b1 w new k core xs ys xs2 ys2 pc after kind phase u h t2 k2 (sym seen ∙ peek) m a
 
 -- ---- no turn
 abbrev IsNothing : Option (ℕ × StepKind) → Type 0

@@ -5,14 +5,14 @@ use Rattle.xt_frames.specs.declared.kinds.Breach.{Breach}
 use Rattle.xt_frames.specs.declared.kinds.BreachKind.{BreachKind}
 use Rattle.xt_frames.specs.Breaches.{Bounds, breach_of, inputs_of, window_breach}
 use Rattle.xt_frames.specs.FrameStep.{with_inputs}
-use Rattle.xt_frames.specs.HandlerSteps.{Mode, Plain, Handles, Nests, is_window, mode_after}
+use Rattle.xt_frames.specs.declared.kinds.HandlerPhase.{HandlerPhase}
+use Rattle.xt_frames.specs.declared.kinds.HandlerPhase.TheVariants.{Outside, InHandler, Nested}
+use Rattle.xt_frames.specs.HandlerSteps.{is_window, phase_after}
 use Rattle.xt_frames.specs.Nesting.{current, is_nesting}
 use Rattle.xt_frames.specs.SaveAreas.{is_live}
 use Rattle.xt_frames.specs.Judging.{Standing, Seen, Handled, Judges, Breaks, handled_record, live_of, seen_in, seen_judged, seen_step, seen_window, step_on}
 use Rattle.xt_frames.specs.Verdict.{Known, Judgement, judgement, passed_0, passed_1, seen_0, seen_1}
-use Rattle.xt_discipline.specs.declared.step_modes.Mode as declared
-use Rattle.xt_discipline.specs.declared.step_modes.Mode.TheVariants as step
-use Rattle.xt_discipline.specs.Modes.{step_mode}
+use Rattle.xt_discipline.specs.Phases.{step_phase}
 use Rattle.xt_profile.specs.Steps.{frame_after}
 use Rattle.xt_profile.specs.Follows.{IsNext}
 
@@ -21,41 +21,41 @@ Passes code st x (Handled new) = IsNext code st x new
 Passes code st x (Judges new stale) = IsNext code st x new
 Passes code st x (Breaks kind) = Unit {0}
 
--- ---- by the mode
-judged_passes : (code : ℕ → ℕ) (b : Bounds) (st : Standing) (others stale : ℕ → Bool) (nested : Bool) (x : StepRecord) → frame_after code (step_mode st.mode x.kind) x st.frame ≡ (step_on code nested x st.frame).after
+-- ---- by the phase
+judged_passes : (code : ℕ → ℕ) (b : Bounds) (st : Standing) (others stale : ℕ → Bool) (nested : Bool) (x : StepRecord) → frame_after code (step_phase st.phase x.kind) x st.frame ≡ (step_on code nested x st.frame).after
     → (o : Option BreachKind) → Passes code st x (seen_step o code b st others stale nested x)
-judged_passes code b st others stale nested x e None = record { mode_is = refl; frame_is = sym e }
+judged_passes code b st others stale nested x e None = record { phase_is = refl; frame_is = sym e }
 judged_passes code b st others stale nested x e (Some kind) = tt
 
-window_passes : (code : ℕ → ℕ) (st : Standing) (x : StepRecord) → Handles ≡ mode_after code st.mode x → st.frame ≡ frame_after code (step_mode st.mode x.kind) x st.frame → (o : Option BreachKind) → Passes code st x (seen_window o st.frame)
-window_passes code st x mode frame None = record { mode_is = mode; frame_is = frame }
-window_passes code st x mode frame (Some kind) = tt
+window_passes : (code : ℕ → ℕ) (st : Standing) (x : StepRecord) → InHandler ≡ phase_after code st.phase x → st.frame ≡ frame_after code (step_phase st.phase x.kind) x st.frame → (o : Option BreachKind) → Passes code st x (seen_window o st.frame)
+window_passes code st x phase frame None = record { phase_is = phase; frame_is = frame }
+window_passes code st x phase frame (Some kind) = tt
 
-plain_passes : (code : ℕ → ℕ) (b : Bounds) (st : Standing) (others stale : ℕ → Bool) (x : StepRecord) → st.mode ≡ Plain → (w : Bool) → is_window x.kind ≡ w
+plain_passes : (code : ℕ → ℕ) (b : Bounds) (st : Standing) (others stale : ℕ → Bool) (x : StepRecord) → st.phase ≡ Outside → (w : Bool) → is_window x.kind ≡ w
     → Passes code st x (if w then seen_window (window_breach code x.kind (with_inputs (inputs_of x) (current st.frame))) st.frame else seen_judged code b st others stale false x)
 plain_passes code b st others stale x m true w =
-    let mode : mode_after code st.mode x ≡ Handles = ap (λ (y : Mode). mode_after code y x) m ∙ ap (λ (z : Bool). if z then Handles else Plain) w in
-    let is : step_mode st.mode x.kind ≡ step.Handler = ap (λ (y : Mode). step_mode y x.kind) m ∙ ap (λ (z : Bool). if z then step.Handler else step.Plain) w in
-    window_passes code st x (sym mode) (sym (ap (λ (y : declared.Mode). frame_after code y x st.frame) is)) (window_breach code x.kind (with_inputs (inputs_of x) (current st.frame)))
+    let phase : phase_after code st.phase x ≡ InHandler = ap (λ (y : HandlerPhase). phase_after code y x) m ∙ ap (λ (z : Bool). if z then InHandler else Outside) w in
+    let is : step_phase st.phase x.kind ≡ InHandler = ap (λ (y : HandlerPhase). step_phase y x.kind) m ∙ ap (λ (z : Bool). if z then InHandler else Outside) w in
+    window_passes code st x (sym phase) (sym (ap (λ (y : HandlerPhase). frame_after code y x st.frame) is)) (window_breach code x.kind (with_inputs (inputs_of x) (current st.frame)))
 plain_passes code b st others stale x m false w =
-    let is : step_mode st.mode x.kind ≡ step.Plain = ap (λ (y : Mode). step_mode y x.kind) m ∙ ap (λ (z : Bool). if z then step.Handler else step.Plain) w in
-    judged_passes code b st others stale false x (ap (λ (y : declared.Mode). frame_after code y x st.frame) is) (breach_of b st.fresh code (live_of b st.frame others) stale false x st.frame)
+    let is : step_phase st.phase x.kind ≡ Outside = ap (λ (y : HandlerPhase). step_phase y x.kind) m ∙ ap (λ (z : Bool). if z then InHandler else Outside) w in
+    judged_passes code b st others stale false x (ap (λ (y : HandlerPhase). frame_after code y x st.frame) is) (breach_of b st.fresh code (live_of b st.frame others) stale false x st.frame)
 
-handles_passes : (code : ℕ → ℕ) (b : Bounds) (st : Standing) (others stale : ℕ → Bool) (x : StepRecord) → st.mode ≡ Handles → (w : Bool) → is_nesting x.kind ≡ w
+handles_passes : (code : ℕ → ℕ) (b : Bounds) (st : Standing) (others stale : ℕ → Bool) (x : StepRecord) → st.phase ≡ InHandler → (w : Bool) → is_nesting x.kind ≡ w
     → Passes code st x (if w then seen_judged code b st others stale true x else handled_record code st x)
 handles_passes code b st others stale x m true w =
-    let is : step_mode st.mode x.kind ≡ step.Nested = ap (λ (y : Mode). step_mode y x.kind) m ∙ ap (λ (z : Bool). if z then step.Nested else step.Handler) w in
-    judged_passes code b st others stale true x (ap (λ (y : declared.Mode). frame_after code y x st.frame) is) (breach_of b st.fresh code (live_of b st.frame others) stale true x st.frame)
+    let is : step_phase st.phase x.kind ≡ Nested = ap (λ (y : HandlerPhase). step_phase y x.kind) m ∙ ap (λ (z : Bool). if z then Nested else InHandler) w in
+    judged_passes code b st others stale true x (ap (λ (y : HandlerPhase). frame_after code y x st.frame) is) (breach_of b st.fresh code (live_of b st.frame others) stale true x st.frame)
 handles_passes code b st others stale x m false w =
-    let is : step_mode st.mode x.kind ≡ step.Handler = ap (λ (y : Mode). step_mode y x.kind) m ∙ ap (λ (z : Bool). if z then step.Nested else step.Handler) w in
-    record { mode_is = refl; frame_is = sym (ap (λ (y : declared.Mode). frame_after code y x st.frame) is) }
+    let is : step_phase st.phase x.kind ≡ InHandler = ap (λ (y : HandlerPhase). step_phase y x.kind) m ∙ ap (λ (z : Bool). if z then Nested else InHandler) w in
+    record { phase_is = refl; frame_is = sym (ap (λ (y : HandlerPhase). frame_after code y x st.frame) is) }
 
-seen_passes : (code : ℕ → ℕ) (b : Bounds) (st : Standing) (others stale : ℕ → Bool) (x : StepRecord) (m : Mode) → st.mode ≡ m → Passes code st x (seen_in m code b st others stale x)
-seen_passes code b st others stale x Plain m = plain_passes code b st others stale x m (is_window x.kind) refl
-seen_passes code b st others stale x Handles m = handles_passes code b st others stale x m (is_nesting x.kind) refl
-seen_passes code b st others stale x Nests m =
-    let is : step_mode st.mode x.kind ≡ step.Nested = ap (λ (y : Mode). step_mode y x.kind) m in
-    judged_passes code b st others stale true x (ap (λ (y : declared.Mode). frame_after code y x st.frame) is) (breach_of b st.fresh code (live_of b st.frame others) stale true x st.frame)
+seen_passes : (code : ℕ → ℕ) (b : Bounds) (st : Standing) (others stale : ℕ → Bool) (x : StepRecord) (m : HandlerPhase) → st.phase ≡ m → Passes code st x (seen_in m code b st others stale x)
+seen_passes code b st others stale x Outside m = plain_passes code b st others stale x m (is_window x.kind) refl
+seen_passes code b st others stale x InHandler m = handles_passes code b st others stale x m (is_nesting x.kind) refl
+seen_passes code b st others stale x Nested m =
+    let is : step_phase st.phase x.kind ≡ Nested = ap (λ (y : HandlerPhase). step_phase y x.kind) m in
+    judged_passes code b st others stale true x (ap (λ (y : HandlerPhase). frame_after code y x st.frame) is) (breach_of b st.fresh code (live_of b st.frame others) stale true x st.frame)
 
 -- ---- in the walk
 abbrev IsBreach : Option Breach → Type 0
@@ -81,7 +81,7 @@ past_0 code k x n (Breaks kind) p e = absurd (subst IsBreach (ap (λ (j : Judgem
 
 pub past_0_is : (code : ℕ → ℕ) (b0 b1 : Bounds) (k : Known) (x : StepRecord) (xs ys xs' ys' : List StepRecord) (n : Known) → judgement code b0 b1 (0 ∷ []) (x ∷ xs) ys k ≡ judgement code b0 b1 [] xs' ys' n → Past0 code k x n
 past_0_is code b0 b1 k x xs ys xs' ys' n e =
-    past_0 code k x n (seen_0 code b0 b1 k x) (seen_passes code b0 k.standing0 (is_live b1.range k.standing1.frame) k.stale x k.standing0.mode refl) e
+    past_0 code k x n (seen_0 code b0 b1 k x) (seen_passes code b0 k.standing0 (is_live b1.range k.standing1.frame) k.stale x k.standing0.phase refl) e
 
 pub record Past1 (code : ℕ → ℕ) (k : Known) (y : StepRecord) (n : Known) : Type 0 where
   pub next : IsNext code k.standing1 y n.standing1
@@ -98,7 +98,7 @@ past_1 code k y n (Breaks kind) p e = absurd (subst IsBreach (ap (λ (j : Judgem
 
 pub past_1_is : (code : ℕ → ℕ) (b0 b1 : Bounds) (core : ℕ) (k : Known) (y : StepRecord) (xs ys xs' ys' : List StepRecord) (n : Known) → judgement code b0 b1 (suc core ∷ []) xs (y ∷ ys) k ≡ judgement code b0 b1 [] xs' ys' n → Past1 code k y n
 past_1_is code b0 b1 core k y xs ys xs' ys' n e =
-    past_1 code k y n (seen_1 code b0 b1 k y) (seen_passes code b1 k.standing1 (is_live b0.range k.standing0.frame) k.stale y k.standing1.mode refl) e
+    past_1 code k y n (seen_1 code b0 b1 k y) (seen_passes code b1 k.standing1 (is_live b0.range k.standing0.frame) k.stale y k.standing1.phase refl) e
 
 -- ---- where the walk ends
 -- a breach came, or no record was left: what is known is as before

@@ -9,12 +9,11 @@ use Rattle.xt_trace.specs.Validity.{IsValid, most_turns}
 use Rattle.xt_trace.proofs.Short.{trace_bound}
 use Rattle.xt_map.specs.History.{replies_of}
 use Rattle.xt_exec.specs.Chips.{processor}
-use Rattle.xt_frames.specs.HandlerSteps as before
-use Rattle.xt_frames.specs.HandlerSteps.{mode_after}
+use Rattle.xt_frames.specs.declared.kinds.HandlerPhase.{HandlerPhase}
+use Rattle.xt_frames.specs.declared.kinds.HandlerPhase.TheVariants.{Outside, InHandler, Nested}
+use Rattle.xt_frames.specs.HandlerSteps.{phase_after}
 use Rattle.xt_handlers.specs.CheckAnswers.{handlers_of}
-use Rattle.xt_discipline.specs.declared.step_modes.Mode.{Mode}
-use Rattle.xt_discipline.specs.declared.step_modes.Mode.TheVariants.{Plain, Handler, Nested}
-use Rattle.xt_discipline.specs.Modes.{modes_from, modes_of}
+use Rattle.xt_discipline.specs.Phases.{phases_from, phases_of}
 use Rattle.xt_discipline.specs.Verdicts.{are_yes}
 use Rattle.xt_core.specs.Runs.{code_of, entry_of, opening_at, turns_of}
 use Rattle.xt_profile.specs.Cuts.{IsAtCut}
@@ -44,12 +43,12 @@ drop_rest (suc n) [] = refl
 drop_rest n (x ∷ xs) = refl
 
 -- ---- the records that are left are counted one by one
-abbrev pub Going : (ℕ → ℕ) → Origin → List Step → List Mode → List StepRecord → List Mode → List StepRecord → Tally → Type 0
-Going code o past modes xs ms left t =
-    (now : List Step) × IsTally o now t × (later_from code now ms left ≡ later_from code past modes xs)
+abbrev pub Going : (ℕ → ℕ) → Origin → List Step → List HandlerPhase → List StepRecord → List HandlerPhase → List StepRecord → Tally → Type 0
+Going code o past phases xs ms left t =
+    (now : List Step) × IsTally o now t × (later_from code now ms left ≡ later_from code past phases xs)
 
-pub goes_none : (code : ℕ → ℕ) (o : Origin) (past : List Step) (modes : List Mode) (xs : List StepRecord) (t : Tally) → IsTally o past t → Going code o past modes xs modes xs t
-goes_none code o past modes xs t h = (past, h, refl)
+pub goes_none : (code : ℕ → ℕ) (o : Origin) (past : List Step) (phases : List HandlerPhase) (xs : List StepRecord) (t : Tally) → IsTally o past t → Going code o past phases xs phases xs t
+goes_none code o past phases xs t h = (past, h, refl)
 
 abbrev pub IsFirst : Option StepRecord → List StepRecord → List StepRecord → Type 0
 IsFirst found xs rest = (found ≡ first_of xs) × (rest ≡ rest_of xs)
@@ -66,17 +65,17 @@ pub taken : (x : StepRecord) (xs rest : List StepRecord) → Some x ≡ first_of
 taken x [] rest e f = absurd (subst IsSome e tt)
 taken x (y ∷ ys) rest e f = ap₂ (λ (a : StepRecord) (l : List StepRecord). a ∷ l) (sym (ap (or x) e)) (sym f)
 
-pub goes_one : (code : ℕ → ℕ) (o : Origin) (past : List Step) (modes : List Mode) (xs : List StepRecord) (ms ms2 : List Mode) (left left2 : List StepRecord) (t new : Tally) (m : Mode) (x : StepRecord) (change : Change) → ms ≡ m ∷ ms2 → left ≡ x ∷ left2 → change ≡ change_at code m x
-    → Going code o past modes xs ms left t → ((q : Origin) (now : List Step) → IsTally q now t → IsTally q (step_with_change x.pc m change now ∷ now) new) → Going code o past modes xs ms2 left2 new
-goes_one code o past modes xs ms ms2 left left2 t new m x change ms_is left_is change_is h tells =
+pub goes_one : (code : ℕ → ℕ) (o : Origin) (past : List Step) (phases : List HandlerPhase) (xs : List StepRecord) (ms ms2 : List HandlerPhase) (left left2 : List StepRecord) (t new : Tally) (m : HandlerPhase) (x : StepRecord) (change : Change) → ms ≡ m ∷ ms2 → left ≡ x ∷ left2 → change ≡ change_at code m x
+    → Going code o past phases xs ms left t → ((q : Origin) (now : List Step) → IsTally q now t → IsTally q (step_with_change x.pc m change now ∷ now) new) → Going code o past phases xs ms2 left2 new
+goes_one code o past phases xs ms ms2 left left2 t new m x change ms_is left_is change_is h tells =
     let now = h.0 in
     let next = step_with_change x.pc m (change_at code m x) now ∷ now in (
       next,
       subst (λ (c : Change). IsTally o (step_with_change x.pc m c now ∷ now) new) change_is (tells o now h.1),
-      sym (ap₂ (λ (a : List Mode) (b : List StepRecord). later_from code now a b) ms_is left_is) ∙ h.2,
+      sym (ap₂ (λ (a : List HandlerPhase) (b : List StepRecord). later_from code now a b) ms_is left_is) ∙ h.2,
     )
 
-later_none : (code : ℕ → ℕ) (past : List Step) (ms : List Mode) → later_from code past ms [] ≡ past
+later_none : (code : ℕ → ℕ) (past : List Step) (ms : List HandlerPhase) → later_from code past ms [] ≡ past
 later_none code past [] = refl
 later_none code past (m ∷ ms) = refl
 
@@ -84,19 +83,19 @@ none_left : (xs : List StepRecord) → None ≡ first_of xs → xs ≡ []
 none_left [] e = refl
 none_left (x ∷ xs) e = absurd (subst IsSome (sym e) tt)
 
--- no record is left, or no mode
-pub gone_records : (code : ℕ → ℕ) (o : Origin) (past : List Step) (modes : List Mode) (xs : List StepRecord) (ms : List Mode) (left : List StepRecord) (t : Tally) → None ≡ first_of left → Going code o past modes xs ms left t → IsTally o (later_from code past modes xs) t
-gone_records code o past modes xs ms left t none h =
+-- no record is left, or no phase
+pub gone_records : (code : ℕ → ℕ) (o : Origin) (past : List Step) (phases : List HandlerPhase) (xs : List StepRecord) (ms : List HandlerPhase) (left : List StepRecord) (t : Tally) → None ≡ first_of left → Going code o past phases xs ms left t → IsTally o (later_from code past phases xs) t
+gone_records code o past phases xs ms left t none h =
     subst (λ (q : List Step). IsTally o q t) (sym (later_none code h.0 ms) ∙ (ap (λ (l : List StepRecord). later_from code h.0 ms l) (sym (none_left left none)) ∙ h.2)) h.1
 
-pub gone_modes : (code : ℕ → ℕ) (o : Origin) (past : List Step) (modes : List Mode) (xs : List StepRecord) (i : ℕ) (left : List StepRecord) (t : Tally) → length modes ≤ i → Going code o past modes xs (drop i modes) left t → IsTally o (later_from code past modes xs) t
-gone_modes code o past modes xs i left t le h =
-    subst (λ (q : List Step). IsTally o q t) (ap (λ (ms : List Mode). later_from code h.0 ms left) (sym (drop_all i modes le)) ∙ h.2) h.1
+pub gone_phases : (code : ℕ → ℕ) (o : Origin) (past : List Step) (phases : List HandlerPhase) (xs : List StepRecord) (i : ℕ) (left : List StepRecord) (t : Tally) → length phases ≤ i → Going code o past phases xs (drop i phases) left t → IsTally o (later_from code past phases xs) t
+gone_phases code o past phases xs i left t le h =
+    subst (λ (q : List Step). IsTally o q t) (ap (λ (ms : List HandlerPhase). later_from code h.0 ms left) (sym (drop_all i phases le)) ∙ h.2) h.1
 
--- ---- the modes of records
-pub modes_length : (code : ℕ → ℕ) (m : before.Mode) (xs : List StepRecord) → length (modes_from code m xs) ≡ length xs
-modes_length code m [] = refl
-modes_length code m (x ∷ xs) = ap (λ (n : ℕ). suc n) (modes_length code (mode_after code m x) xs)
+-- ---- the phases of records
+pub phases_length : (code : ℕ → ℕ) (m : HandlerPhase) (xs : List StepRecord) → length (phases_from code m xs) ≡ length xs
+phases_length code m [] = refl
+phases_length code m (x ∷ xs) = ap (λ (n : ℕ). suc n) (phases_length code (phase_after code m x) xs)
 
 -- ---- of all steps the later ones have been put in front
 abbrev pub IsLonger : List Step → List Step → ℕ → Type 0
@@ -111,7 +110,7 @@ zero_suc n e = omega (arith, e)
 one_less : (a b : ℕ) → suc a ≡ suc b → a ≡ b
 one_less a b e = omega (arith, e)
 
-longer : (code : ℕ → ℕ) (past : List Step) (ms : List Mode) (xs : List StepRecord) → length ms ≡ length xs → IsLonger (later_from code past ms xs) past (length xs)
+longer : (code : ℕ → ℕ) (past : List Step) (ms : List HandlerPhase) (xs : List StepRecord) → length ms ≡ length xs → IsLonger (later_from code past ms xs) past (length xs)
 longer code past [] [] e = ([], refl, refl)
 longer code past [] (x ∷ xs) e = absurd (zero_suc (length xs) e)
 longer code past (m ∷ ms) [] e = absurd (zero_suc (length ms) (sym e))
@@ -125,9 +124,9 @@ abbrev HasKeys : Start → List Step → List Step → Type 0
 HasKeys o new past =
     (ks : List (List ℕ)) × (keys o (new ++ past) ≡ ks ++ keys o past) × (length ks + handlers new ≡ length new)
 
-with_case : (m : Mode) (k : List ℕ) (ks qs all : List (List ℕ)) → all ≡ ks ++ qs → with_key m k all ≡ with_key m k ks ++ qs
-with_case Plain k ks qs all e = ap (λ (l : List (List ℕ)). k ∷ l) e
-with_case Handler k ks qs all e = e
+with_case : (m : HandlerPhase) (k : List ℕ) (ks qs all : List (List ℕ)) → all ≡ ks ++ qs → with_key m k all ≡ with_key m k ks ++ qs
+with_case Outside k ks qs all e = ap (λ (l : List (List ℕ)). k ∷ l) e
+with_case InHandler k ks qs all e = e
 with_case Nested k ks qs all e = ap (λ (l : List (List ℕ)). k ∷ l) e
 
 has_keys : (o : Start) (new past : List Step) → HasKeys o new past
@@ -135,7 +134,7 @@ has_keys o [] past = ([], refl, refl)
 has_keys o (s ∷ new) past =
     let k = shown_key o.depth (functions o.pc s.before (new ++ past)) in
     let h = has_keys o new past in
-    (with_key s.mode k h.0, with_case s.mode k h.0 (keys o past) (keys o (new ++ past)) h.1, keys_case s.mode k h.0 (handlers new) (length new) h.2)
+    (with_key s.phase k h.0, with_case s.phase k h.0 (keys o past) (keys o (new ++ past)) h.1, keys_case s.phase k h.0 (handlers new) (length new) h.2)
 
 turns_sum : (o : Start) (past all : List Step) (n : ℕ) → IsLonger all past n → TurnsAddUp (turns_past o past all) n
 turns_sum o past all n h =
@@ -148,40 +147,40 @@ pub after_sum : (core depth n : ℕ) (image : Image) (r : Run) → TurnsAddUp (c
 after_sum core depth n image r =
     let code = code_of image in
     let xs = records core image r in
-    let ms = modes_of code xs in
-    let len : length (drop n ms) ≡ length (drop n xs) = length-drop n ms ∙ (ap (λ (l : ℕ). l - n) (modes_length code before.Plain xs) ∙ sym (length-drop n xs)) in
+    let ms = phases_of code xs in
+    let len : length (drop n ms) ≡ length (drop n xs) = length-drop n ms ∙ (ap (λ (l : ℕ). l - n) (phases_length code Outside xs) ∙ sym (length-drop n xs)) in
     turns_sum (start core depth image r) (first_steps core n image r) (all_steps core n image r) (length (drop n xs)) (longer code (first_steps core n image r) (drop n ms) (drop n xs) len)
 
 -- ---- the turns of a core past its first ones
-pub later_is : (core depth n : ℕ) (image : Image) (r : Run) (code : ℕ → ℕ) (modes : List Mode) (xs : List StepRecord) (turns : CoreTurns) → code ≡ code_of image → modes ≡ modes_of (code_of image) (records core image r) → xs ≡ records core image r
-    → turns ≡ turns_past (start core depth image r) (first_steps core n image r) (later_from code (first_steps core n image r) (drop n modes) (drop n xs)) → turns ≡ core_after core depth n image r
-later_is core depth n image r code modes xs turns code_is modes_is xs_is e =
+pub later_is : (core depth n : ℕ) (image : Image) (r : Run) (code : ℕ → ℕ) (phases : List HandlerPhase) (xs : List StepRecord) (turns : CoreTurns) → code ≡ code_of image → phases ≡ phases_of (code_of image) (records core image r) → xs ≡ records core image r
+    → turns ≡ turns_past (start core depth image r) (first_steps core n image r) (later_from code (first_steps core n image r) (drop n phases) (drop n xs)) → turns ≡ core_after core depth n image r
+later_is core depth n image r code phases xs turns code_is phases_is xs_is e =
     let first = first_steps core n image r in
-    let T : (ℕ → ℕ) → List Mode → List StepRecord → CoreTurns = λ c ms ys. turns_past (start core depth image r) first (later_from c first (drop n ms) (drop n ys)) in
+    let T : (ℕ → ℕ) → List HandlerPhase → List StepRecord → CoreTurns = λ c ms ys. turns_past (start core depth image r) first (later_from c first (drop n ms) (drop n ys)) in
     e
-    ∙ (ap (λ (c : ℕ → ℕ). T c modes xs) code_is
-    ∙ (ap (λ (ms : List Mode). T (code_of image) ms xs) modes_is ∙ ap (λ (ys : List StepRecord). T (code_of image) (modes_of (code_of image) (records core image r)) ys) xs_is))
+    ∙ (ap (λ (c : ℕ → ℕ). T c phases xs) code_is
+    ∙ (ap (λ (ms : List HandlerPhase). T (code_of image) ms xs) phases_is ∙ ap (λ (ys : List StepRecord). T (code_of image) (phases_of (code_of image) (records core image r)) ys) xs_is))
 
-pub later_turns : (o : Origin) (past : List Step) (code code2 : ℕ → ℕ) (ms ms2 : List Mode) (xs xs2 : List StepRecord) (turns : CoreTurns) → code ≡ code2 → ms ≡ ms2 → xs ≡ xs2 → turns ≡ turns_past o.start o.first (later_from code past ms xs)
+pub later_turns : (o : Origin) (past : List Step) (code code2 : ℕ → ℕ) (ms ms2 : List HandlerPhase) (xs xs2 : List StepRecord) (turns : CoreTurns) → code ≡ code2 → ms ≡ ms2 → xs ≡ xs2 → turns ≡ turns_past o.start o.first (later_from code past ms xs)
     → turns ≡ turns_past o.start o.first (later_from code2 past ms2 xs2)
 later_turns o past code code2 ms ms2 xs xs2 turns code_is ms_is xs_is e =
-    let T : (ℕ → ℕ) → List Mode → List StepRecord → CoreTurns = λ c a b. turns_past o.start o.first (later_from c past a b) in
-    e ∙ (ap (λ (c : ℕ → ℕ). T c ms xs) code_is ∙ (ap (λ (a : List Mode). T code2 a xs) ms_is ∙ ap (λ (b : List StepRecord). T code2 ms2 b) xs_is))
+    let T : (ℕ → ℕ) → List HandlerPhase → List StepRecord → CoreTurns = λ c a b. turns_past o.start o.first (later_from c past a b) in
+    e ∙ (ap (λ (c : ℕ → ℕ). T c ms xs) code_is ∙ (ap (λ (a : List HandlerPhase). T code2 a xs) ms_is ∙ ap (λ (b : List StepRecord). T code2 ms2 b) xs_is))
 
 -- those past the cut
 pub past_cut : (core d : ℕ) (image : Image) (r : Run) (count : ℕ) (c : AtCut) (turns : CoreTurns) → IsAtCut core d image r count c
-    → ((o : Origin) (past : List Step) → IsTally o past c.tally → turns ≡ turns_past o.start o.first (later_from (code_of image) past (drop c.cut (modes_of (code_of image) (records core image r))) (drop c.cut (records core image r))))
+    → ((o : Origin) (past : List Step) → IsTally o past c.tally → turns ≡ turns_past o.start o.first (later_from (code_of image) past (drop c.cut (phases_of (code_of image) (records core image r))) (drop c.cut (records core image r))))
     → turns ≡ core_after core d (count_before_cut core image r) image r
 past_cut core d image r count c turns h is =
     let first = steps core image r in
     let o : Origin = record { start = start core d image r; first = first } in
     let xs = records core image r in
-    is o first h.tally ∙ ap (λ (n : ℕ). turns_past (start core d image r) first (later_from (code_of image) first (drop n (modes_of (code_of image) xs)) (drop n xs))) h.cut_is
+    is o first h.tally ∙ ap (λ (n : ℕ). turns_past (start core d image r) first (later_from (code_of image) first (drop n (phases_of (code_of image) xs)) (drop n xs))) h.cut_is
 
 -- ---- how many records there are
-pub modes_are : (code : ℕ → ℕ) (now modes : List Mode) (xs ys : List StepRecord) → now ≡ modes → modes ≡ modes_of code xs → xs ≡ ys → length now ≡ length ys
-modes_are code now modes xs ys e f g =
-    ap (λ (l : List Mode). length l) e ∙ (ap (λ (l : List Mode). length l) f ∙ (modes_length code before.Plain xs ∙ ap (λ (l : List StepRecord). length l) g))
+pub phases_are : (code : ℕ → ℕ) (now phases : List HandlerPhase) (xs ys : List StepRecord) → now ≡ phases → phases ≡ phases_of code xs → xs ≡ ys → length now ≡ length ys
+phases_are code now phases xs ys e f g =
+    ap (λ (l : List HandlerPhase). length l) e ∙ (ap (λ (l : List HandlerPhase). length l) f ∙ (phases_length code Outside xs ∙ ap (λ (l : List StepRecord). length l) g))
 
 few_of : (core : ℕ) (image : Image) (r : Run) → length (records core image r) ≤ turns_of core r.options
 few_of core image r = trace_bound (processor (code_of image)) (opening_at core (entry_of core image r.options) r.options) (turns_of core r.options) (replies_of core r.history)
@@ -252,17 +251,17 @@ kept_all n l e = omega (arith, e)
 less_one : (n : ℕ) → suc n ≡ suc n - 1 + 1
 less_one n = omega arith
 
-returned : (opening pc : ℕ) (mode : Mode) (past : List Step) (n : ℕ)
-    → functions opening (n - 1) (record { pc = pc; mode = mode; before = n; after = n - 1 } ∷ past) ≡ take (max 1 (length (functions opening n past) - 1)) (functions opening n past)
-returned opening pc mode past zero =
+returned : (opening pc : ℕ) (phase : HandlerPhase) (past : List Step) (n : ℕ)
+    → functions opening (n - 1) (record { pc = pc; phase = phase; before = n; after = n - 1 } ∷ past) ≡ take (max 1 (length (functions opening n past) - 1)) (functions opening n past)
+returned opening pc phase past zero =
     let all = functions opening 0 past in
     sym (ap (λ (m : ℕ). take m all) (first_alone (length all) (functions_length opening 0 past)))
-returned opening pc mode past (suc n) =
-    let s : Step = record { pc = pc; mode = mode; before = suc n; after = suc n - 1 } in
+returned opening pc phase past (suc n) =
+    let s : Step = record { pc = pc; phase = phase; before = suc n; after = suc n - 1 } in
     let all = functions opening (suc n) past in
     sym (return_is opening s past (less_one n)) ∙ ap (λ (m : ℕ). take m all) (kept_all n (length all) (functions_length opening (suc n) past))
 
-pub follow_changes : (opening pc : ℕ) (mode : Mode) (change : Change) (past : List Step) → functions opening (calls_after change (frames_standing past)) (step_with_change pc mode change past ∷ past) ≡ functions_after change pc (functions opening (frames_standing past) past)
-follow_changes opening pc mode Stays past = sym (functions_same opening (step_with_change pc mode Stays past) past refl)
-follow_changes opening pc mode Calls past = sym (call_is opening (step_with_change pc mode Calls past) past refl)
-follow_changes opening pc mode Returns past = returned opening pc mode past (frames_standing past)
+pub follow_changes : (opening pc : ℕ) (phase : HandlerPhase) (change : Change) (past : List Step) → functions opening (calls_after change (frames_standing past)) (step_with_change pc phase change past ∷ past) ≡ functions_after change pc (functions opening (frames_standing past) past)
+follow_changes opening pc phase Stays past = sym (functions_same opening (step_with_change pc phase Stays past) past refl)
+follow_changes opening pc phase Calls past = sym (call_is opening (step_with_change pc phase Calls past) past refl)
+follow_changes opening pc phase Returns past = returned opening pc phase past (frames_standing past)

@@ -7,8 +7,8 @@ use Rattle.std.specs.Cmp.Lexicographic.{slice_cmp}
 use Rattle.std.specs.Map.{lookup}
 use Rattle.std.specs.BTreeMap.{insert_entry}
 use Rattle.std.proofs.lemmas.List.{append-nil, append_assoc, length-append, length-replicate, take-append-le, take_all}
-use Rattle.xt_discipline.specs.declared.step_modes.Mode.{Mode}
-use Rattle.xt_discipline.specs.declared.step_modes.Mode.TheVariants.{Plain, Handler, Nested}
+use Rattle.xt_frames.specs.declared.kinds.HandlerPhase.{HandlerPhase}
+use Rattle.xt_frames.specs.declared.kinds.HandlerPhase.TheVariants.{Outside, InHandler, Nested}
 use Rattle.xt_profile.specs.declared.profiles.CoreTurns.{CoreTurns}
 use Rattle.xt_profile.specs.declared.profiles.ProfileLine.{ProfileLine}
 use Rattle.xt_profile.specs.declared.tally.Tally.{Tally}
@@ -28,19 +28,19 @@ one_key a b c e = omega (arith, e)
 one_handler : (a b c : ℕ) → a + b ≡ c → a + suc b ≡ suc c
 one_handler a b c e = omega (arith, e)
 
-pub keys_case : (m : Mode) (k : List ℕ) (ks : List (List ℕ)) (h n : ℕ) → length ks + h ≡ n → length (with_key m k ks) + with_handler m h ≡ suc n
-keys_case Plain k ks h n e = one_key (length ks) h n e
-keys_case Handler k ks h n e = one_handler (length ks) h n e
+pub keys_case : (m : HandlerPhase) (k : List ℕ) (ks : List (List ℕ)) (h n : ℕ) → length ks + h ≡ n → length (with_key m k ks) + with_handler m h ≡ suc n
+keys_case Outside k ks h n e = one_key (length ks) h n e
+keys_case InHandler k ks h n e = one_handler (length ks) h n e
 keys_case Nested k ks h n e = one_key (length ks) h n e
 
 -- each step has a key or is a handler step
 pub keys_count : (opening : Start) (past : List Step) → length (keys opening past) + handlers past ≡ length past
 keys_count opening [] = refl
-keys_count opening (s ∷ past) = keys_case s.mode (shown_key opening.depth (functions opening.pc s.before past)) (keys opening past) (handlers past) (length past) (keys_count opening past)
+keys_count opening (s ∷ past) = keys_case s.phase (shown_key opening.depth (functions opening.pc s.before past)) (keys opening past) (handlers past) (length past) (keys_count opening past)
 
-handlers_case : (m : Mode) (a b n : ℕ) → n ≡ a + b → with_handler m n ≡ with_handler m a + b
-handlers_case Plain a b n e = e
-handlers_case Handler a b n e = omega (arith, e)
+handlers_case : (m : HandlerPhase) (a b n : ℕ) → n ≡ a + b → with_handler m n ≡ with_handler m a + b
+handlers_case Outside a b n e = e
+handlers_case InHandler a b n e = omega (arith, e)
 handlers_case Nested a b n e = e
 
 first_none : (n : ℕ) → n ≡ 0 + n
@@ -48,7 +48,7 @@ first_none n = omega arith
 
 handlers_append : (xs ys : List Step) → handlers (xs ++ ys) ≡ handlers xs + handlers ys
 handlers_append [] ys = first_none (handlers ys)
-handlers_append (s ∷ xs) ys = handlers_case s.mode (handlers xs) (handlers ys) (handlers (xs ++ ys)) (handlers_append xs ys)
+handlers_append (s ∷ xs) ys = handlers_case s.phase (handlers xs) (handlers ys) (handlers (xs ++ ys)) (handlers_append xs ys)
 
 sum_of : (k h n r l s x k1 h1 n1 h2 n2 : ℕ) → k + h ≡ n → k ≡ r + (l + k1) → k1 + h1 ≡ n1 → h ≡ h2 + h1 → n ≡ n2 + n1 → x ≡ h2 → s ≡ n2 → r + l + x ≡ s
 sum_of k h n r l s x k1 h1 n1 h2 n2 e1 e2 e3 e4 e5 e6 e7 = omega (arith, e1, e2, e3, e4, e5, e6, e7)
@@ -129,39 +129,39 @@ keys_more o past s t h e =
     ap₂ (λ (x : List ℕ) (ks : List (List ℕ)). x ∷ ks) (key_here o past s t h e) h.counted.keys_are
     ∙ ap (λ (n : ℕ). replicate n k ++ (h.counted.told ++ keys o.start o.first)) (sym (one_up t.row))
 
-pub counted_plain : (o : Origin) (past : List Step) (s : Step) (t : Tally) → IsTally o past t → s.mode ≡ Plain → s.before ≡ frames_standing past → AreCounted o (s ∷ past) (record t { row = t.row + 1; steps = t.steps + 1 })
+pub counted_plain : (o : Origin) (past : List Step) (s : Step) (t : Tally) → IsTally o past t → s.phase ≡ Outside → s.before ≡ frames_standing past → AreCounted o (s ∷ past) (record t { row = t.row + 1; steps = t.steps + 1 })
 counted_plain o past s t h m e = record {
   later = s ∷ h.counted.later;
   told = h.counted.told;
   past_is = ap (λ (q : List Step). s ∷ q) h.counted.past_is;
   depth_is = h.counted.depth_is;
-  keys_are = ap (λ (y : Mode). with_key y (shown_key o.start.depth (functions o.start.pc s.before past)) (keys o.start past)) m ∙ keys_more o past s t h e;
+  keys_are = ap (λ (y : HandlerPhase). with_key y (shown_key o.start.depth (functions o.start.pc s.before past)) (keys o.start past)) m ∙ keys_more o past s t h e;
   lines_are = h.counted.lines_are;
-  handlers_are = h.counted.handlers_are ∙ sym (ap (λ (y : Mode). with_handler y (handlers h.counted.later)) m);
+  handlers_are = h.counted.handlers_are ∙ sym (ap (λ (y : HandlerPhase). with_handler y (handlers h.counted.later)) m);
   steps_are = more_steps t.steps (length h.counted.later) h.counted.steps_are;
 }
 
-pub counted_nested : (o : Origin) (past : List Step) (s : Step) (t : Tally) → IsTally o past t → s.mode ≡ Nested → s.before ≡ frames_standing past → AreCounted o (s ∷ past) (record t { row = t.row + 1; steps = t.steps + 1 })
+pub counted_nested : (o : Origin) (past : List Step) (s : Step) (t : Tally) → IsTally o past t → s.phase ≡ Nested → s.before ≡ frames_standing past → AreCounted o (s ∷ past) (record t { row = t.row + 1; steps = t.steps + 1 })
 counted_nested o past s t h m e = record {
   later = s ∷ h.counted.later;
   told = h.counted.told;
   past_is = ap (λ (q : List Step). s ∷ q) h.counted.past_is;
   depth_is = h.counted.depth_is;
-  keys_are = ap (λ (y : Mode). with_key y (shown_key o.start.depth (functions o.start.pc s.before past)) (keys o.start past)) m ∙ keys_more o past s t h e;
+  keys_are = ap (λ (y : HandlerPhase). with_key y (shown_key o.start.depth (functions o.start.pc s.before past)) (keys o.start past)) m ∙ keys_more o past s t h e;
   lines_are = h.counted.lines_are;
-  handlers_are = h.counted.handlers_are ∙ sym (ap (λ (y : Mode). with_handler y (handlers h.counted.later)) m);
+  handlers_are = h.counted.handlers_are ∙ sym (ap (λ (y : HandlerPhase). with_handler y (handlers h.counted.later)) m);
   steps_are = more_steps t.steps (length h.counted.later) h.counted.steps_are;
 }
 
-pub counted_handler : (o : Origin) (past : List Step) (s : Step) (t : Tally) → IsTally o past t → s.mode ≡ Handler → AreCounted o (s ∷ past) (record t { handlers = t.handlers + 1; steps = t.steps + 1 })
+pub counted_handler : (o : Origin) (past : List Step) (s : Step) (t : Tally) → IsTally o past t → s.phase ≡ InHandler → AreCounted o (s ∷ past) (record t { handlers = t.handlers + 1; steps = t.steps + 1 })
 counted_handler o past s t h m = record {
   later = s ∷ h.counted.later;
   told = h.counted.told;
   past_is = ap (λ (q : List Step). s ∷ q) h.counted.past_is;
   depth_is = h.counted.depth_is;
-  keys_are = ap (λ (y : Mode). with_key y (shown_key o.start.depth (functions o.start.pc s.before past)) (keys o.start past)) m ∙ h.counted.keys_are;
+  keys_are = ap (λ (y : HandlerPhase). with_key y (shown_key o.start.depth (functions o.start.pc s.before past)) (keys o.start past)) m ∙ h.counted.keys_are;
   lines_are = h.counted.lines_are;
-  handlers_are = more_steps t.handlers (handlers h.counted.later) h.counted.handlers_are ∙ sym (ap (λ (y : Mode). with_handler y (handlers h.counted.later)) m);
+  handlers_are = more_steps t.handlers (handlers h.counted.later) h.counted.handlers_are ∙ sym (ap (λ (y : HandlerPhase). with_handler y (handlers h.counted.later)) m);
   steps_are = more_steps t.steps (length h.counted.later) h.counted.steps_are;
 }
 

@@ -4,12 +4,13 @@ use Rattle.std.specs.Prelude.{◌≡◌, ℕ, zero, suc, ◌+◌, ◌≤◌, Opt
 use Rattle.xt_trace.specs.declared.record.StepRecord.{StepRecord}
 use Rattle.xt_frames.specs.Breaches.{Bounds}
 use Rattle.xt_frames.specs.Frames.{FrameState}
-use Rattle.xt_frames.specs.HandlerSteps.{Plain, mode_after}
+use Rattle.xt_frames.specs.declared.kinds.HandlerPhase.TheVariants.{Outside}
+use Rattle.xt_frames.specs.HandlerSteps.{phase_after}
 use Rattle.xt_frames.specs.Judging.{Standing}
 use Rattle.xt_frames.specs.Verdict.{Judgement, Known, judgement}
 use Rattle.xt_map.specs.Memory.{constant_byte}
 use Rattle.xt_discipline.specs.declared.walk.Walk.{Walk}
-use Rattle.xt_discipline.specs.Modes.{step_mode}
+use Rattle.xt_discipline.specs.Phases.{step_phase}
 use Rattle.xt_discipline.specs.Walks.{Knows, Reaches}
 use Rattle.xt_profile.specs.declared.counting.Made.{Made}
 use Rattle.xt_profile.specs.declared.tally.Tally.{Tally}
@@ -25,8 +26,8 @@ depth_in (suc core) w = length w.side1.frames.state.frames
 
 -- what is known of a core past a record
 pub record IsNext (code : ℕ → ℕ) (old : Standing) (x : StepRecord) (new : Standing) : Type 0 where
-  pub mode_is : new.mode ≡ mode_after code old.mode x
-  pub frame_is : new.frame ≡ frame_after code (step_mode old.mode x.kind) x old.frame
+  pub phase_is : new.phase ≡ phase_after code old.phase x
+  pub frame_is : new.frame ≡ frame_after code (step_phase old.phase x.kind) x old.frame
 
 -- a core's record x was the turn, of which this was made
 pub record IsStep
@@ -37,7 +38,7 @@ pub record IsStep
   pub made_is : made
       ≡ record {
         pc = x.pc;
-        mode = step_mode old.mode x.kind;
+        phase = step_phase old.phase x.kind;
         after = length new.frame.frames;
       }
 
@@ -76,8 +77,8 @@ pub record IsCore
   pub count_is : length past ≡ n
   pub left_is : n + length left ≡ length xs
   pub steps_are : (m : ℕ)
-      → steps_from code Plain f [] (take (n + m) xs)
-      ≡ steps_from code st.mode st.frame past (take m left)
+      → steps_from code Outside f [] (take (n + m) xs)
+      ≡ steps_from code st.phase st.frame past (take m left)
 
 -- both cores are counted so far
 pub record Follows
@@ -101,7 +102,7 @@ pub record IsCut
   pub past : List Step
   pub count_is : length past ≡ n
   pub within : n ≤ length xs
-  pub steps_are : steps_from code Plain f [] (take n xs) ≡ past
+  pub steps_are : steps_from code Outside f [] (take n xs) ≡ past
   pub tally : IsTally opening past t
 
 pub record AreCut

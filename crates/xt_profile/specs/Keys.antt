@@ -12,8 +12,8 @@
 -- Note: 0 in a cut key stands for those that are left out; it is no function.
 use Rattle.std.specs.Prelude.{ℕ, zero, suc, ◌-◌, ◌&&◌, nat_le, nat_lt, if◌then◌else◌}
 use Rattle.std.specs.Prelude.{List, [], ◌∷◌, ◌++◌, length, take, drop}
-use Rattle.xt_discipline.specs.declared.step_modes.Mode.{Mode}
-use Rattle.xt_discipline.specs.declared.step_modes.Mode.TheVariants.{Plain, Handler, Nested}
+use Rattle.xt_frames.specs.declared.kinds.HandlerPhase.{HandlerPhase}
+use Rattle.xt_frames.specs.declared.kinds.HandlerPhase.TheVariants.{Outside, InHandler, Nested}
 use Rattle.xt_profile.specs.Steps.{Step}
 
 -- The PC of the ENTRY that pushed frame d of those that stand after these steps, where the oldest
@@ -45,9 +45,9 @@ shown_key depth xs =
     if nat_le (length xs) depth then xs else take 1 xs ++ 0 ∷ drop (length xs - (depth - 1)) xs
 
 -- handler steps have no key
-abbrev pub with_key : Mode → List ℕ → List (List ℕ) → List (List ℕ)
-with_key Plain key keys = key ∷ keys
-with_key Handler key keys = keys
+abbrev pub with_key : HandlerPhase → List ℕ → List (List ℕ) → List (List ℕ)
+with_key Outside key keys = key ∷ keys
+with_key InHandler key keys = keys
 with_key Nested key keys = key ∷ keys
 
 -- the keys of the judged steps, each by the function list before its step
@@ -55,16 +55,16 @@ abbrev pub keys : Start → List Step → List (List ℕ)
 keys opening [] = []
 keys opening (s ∷ past) =
     with_key
-    s.mode
+    s.phase
     (shown_key opening.depth (functions opening.pc s.before past))
     (keys opening past)
 
-abbrev pub with_handler : Mode → ℕ → ℕ
-with_handler Plain n = n
-with_handler Handler n = suc n
+abbrev pub with_handler : HandlerPhase → ℕ → ℕ
+with_handler Outside n = n
+with_handler InHandler n = suc n
 with_handler Nested n = n
 
 -- how many handler steps there are
 abbrev pub handlers : List Step → ℕ
 handlers [] = 0
-handlers (s ∷ past) = with_handler s.mode (handlers past)
+handlers (s ∷ past) = with_handler s.phase (handlers past)

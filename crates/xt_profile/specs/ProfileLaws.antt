@@ -7,9 +7,9 @@ use Rattle.xt_trace.specs.declared.run.Run.{Run}
 use Rattle.xt_frames.specs.declared.kinds.Breach.{Breach}
 use Rattle.xt_frames.specs.FirstBreach.{Course, IsFirstBreach}
 use Rattle.xt_frames.specs.Frames.{FrameState}
-use Rattle.xt_frames.specs.HandlerSteps.{Plain}
+use Rattle.xt_frames.specs.declared.kinds.HandlerPhase.{HandlerPhase}
+use Rattle.xt_frames.specs.declared.kinds.HandlerPhase.TheVariants.{Outside}
 use Rattle.xt_core.specs.Runs.{IsRunOf}
-use Rattle.xt_discipline.specs.declared.step_modes.Mode.{Mode}
 use Rattle.xt_profile.specs.declared.changes.Change.{Change}
 use Rattle.xt_profile.specs.declared.changes.Change.TheVariants.{Stays, Calls, Returns}
 use Rattle.xt_profile.specs.Steps.{Step, frames_standing, steps_from}
@@ -37,7 +37,7 @@ ArePushed (s ∷ past) =
 abbrev pub FramesArePushed : Type 0
 FramesArePushed =
     (code : ℕ → ℕ) (f : FrameState) (xs : List StepRecord) → f.frames ≡ []
-    → ArePushed (steps_from code Plain f [] xs)
+    → ArePushed (steps_from code Outside f [] xs)
 
 -- turn p shows the first breach, or p counts all turns and there is none; no other number does so
 pub record IsOnlyEnd (c : Course) (p : ℕ) : Type 0 where
@@ -73,9 +73,9 @@ functions_after Returns pc xs = take (max 1 (length xs - 1)) xs
 -- the function list after a later step is that of its change
 abbrev pub LaterFunctionsFollowChanges : Type 0
 LaterFunctionsFollowChanges =
-    (opening pc : ℕ) (mode : Mode) (change : Change) (past : List Step)
+    (opening pc : ℕ) (phase : HandlerPhase) (change : Change) (past : List Step)
     → functions
     opening
     (calls_after change (frames_standing past))
-    (step_with_change pc mode change past ∷ past)
+    (step_with_change pc phase change past ∷ past)
     ≡ functions_after change pc (functions opening (frames_standing past) past)

@@ -14,10 +14,10 @@ use Rattle.xt_trace.specs.declared.record.StepRecord.{StepRecord}
 use Rattle.xt_trace.specs.declared.run.Run.{Run}
 use Rattle.xt_handlers.specs.CheckAnswers.{handlers_of}
 use Rattle.xt_frames.specs.FirstBreach.{Course, by_core, records_before, turns}
-use Rattle.xt_frames.specs.HandlerSteps.{Plain}
+use Rattle.xt_frames.specs.declared.kinds.HandlerPhase.TheVariants.{Outside}
 use Rattle.xt_frames.specs.Verdict.{Known}
 use Rattle.xt_frames.specs.Walked.{opening_walked}
-use Rattle.xt_discipline.specs.Modes.{modes_of}
+use Rattle.xt_discipline.specs.Phases.{phases_of}
 use Rattle.xt_discipline.specs.Schedules.{schedule_in}
 use Rattle.xt_discipline.specs.Verdicts.{are_yes, judgement_in, opened0, opened1}
 use Rattle.xt_core.specs.Runs.{code_of, entry_of, records_of}
@@ -63,7 +63,7 @@ abbrev pub first_steps : ℕ → ℕ → Image → Run → List Step
 first_steps core n image r =
     steps_from
     (code_of image)
-    Plain
+    Outside
     (opening_walked core (entry_of core image r.options) r.options).state
     []
     (take n (records core image r))
@@ -104,7 +104,7 @@ all_steps core n image r =
     later_from
     (code_of image)
     (first_steps core n image r)
-    (drop n (modes_of (code_of image) (records core image r)))
+    (drop n (phases_of (code_of image) (records core image r)))
     (drop n (records core image r))
 
 -- of some steps those that stand in front of the first ones

@@ -6,7 +6,7 @@ ghost use Rattle.xt_map.specs.Memory.{constant_byte};
 ghost use Rattle.xt_profile.specs.After.{change_at, change_by, change_of};
 
 use xt_codec::{Fetch, instruction_at};
-use xt_discipline::step_modes::Mode;
+use xt_frames::HandlerPhase;
 use xt_isa::Insn;
 use xt_isa::control::{Control, RetName};
 use xt_isa::density::{Density, NarrowRetName};
@@ -50,12 +50,12 @@ fn change_of(code: &Constants, kind: StepKind, pc: u32) -> Change
 }
 
 /// What a turn does that has this record.
-pub fn change_at(code: &Constants, mode: Mode, rec: &StepRecord) -> Change
-    ensures { result ≡ change_at (constant_byte code.now) mode rec.now }
+pub fn change_at(code: &Constants, phase: HandlerPhase, rec: &StepRecord) -> Change
+    ensures { result ≡ change_at (constant_byte code.now) phase rec.now }
 {
-    match mode {
-        Mode::Plain => change_of(code, rec.kind, rec.pc),
-        Mode::Handler => Change::Stays,
-        Mode::Nested => change_of(code, rec.kind, rec.pc),
+    match phase {
+        HandlerPhase::Outside => change_of(code, rec.kind, rec.pc),
+        HandlerPhase::InHandler => Change::Stays,
+        HandlerPhase::Nested => change_of(code, rec.kind, rec.pc),
     }
 }

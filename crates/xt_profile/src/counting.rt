@@ -25,8 +25,8 @@ use crate::profiles::{CoreProfile, Profile};
 use crate::tally::Tally;
 use std::alloc::{AllocError, Global};
 use xt_core::Cursor;
-use xt_discipline::step_modes::Mode;
 use xt_discipline::{ScheduleIter, Walk, are_yes, handlers_of};
+use xt_frames::HandlerPhase;
 use xt_image::Image;
 use xt_map::Constants;
 use xt_trace::{Run, StepKind};
@@ -37,7 +37,7 @@ pub struct Made {
     /// Its PC.
     pub pc: u32,
     /// What it was.
-    pub mode: Mode,
+    pub phase: HandlerPhase,
     /// How many frames its core has after it.
     pub after: u32,
 }
@@ -85,11 +85,11 @@ fn turn<'a>(
     let Some((pc, kind)) = peek(core, records0, records1) else {
         return None;
     };
-    let mode = walk.mode(core, kind);
+    let phase = walk.phase(core, kind);
     match walk.turn(core, records0, records1) {
         Ok(()) => {
             let after = depth_of(walk, core);
-            Some(Made { pc, mode, after })
+            Some(Made { pc, phase, after })
         }
         Err(_) => None,
     }
@@ -117,9 +117,9 @@ fn follow<'a>(
             return Ok(());
         };
         if core == 0 {
-            tally0.step(alloc, made.pc, made.mode, made.after)?;
+            tally0.step(alloc, made.pc, made.phase, made.after)?;
         } else {
-            tally1.step(alloc, made.pc, made.mode, made.after)?;
+            tally1.step(alloc, made.pc, made.phase, made.after)?;
         }
     }
     Ok(())

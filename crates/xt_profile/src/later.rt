@@ -4,7 +4,7 @@
 ghost use Rattle.std.specs.Prelude.{◌≡◌, ◌+◌, ◌-◌, ◌<◌, ◌≤◌, ◌^◌, IfOk, OnOk, List, drop, length};
 ghost use Rattle.xt_map.specs.Memory.{constant_byte};
 ghost use Rattle.xt_map.specs.Placing.{IsPlaced};
-ghost use Rattle.xt_discipline.specs.Modes.{modes_of};
+ghost use Rattle.xt_discipline.specs.Phases.{phases_of};
 ghost use Rattle.xt_core.specs.Runs.{IsRunOf, code_of};
 ghost use Rattle.xt_profile.specs.After.{later_from};
 ghost use Rattle.xt_profile.specs.Profiled.{WholeAddsUp, core_after, later_at, records, start, turns_past, whole_of};
@@ -17,8 +17,8 @@ use crate::profiles::{CoreTurns, Profile, WholeProfile};
 use crate::tally::Tally;
 use std::alloc::{AllocError, Global};
 use xt_core::Cursor;
-use xt_discipline::step_modes::Mode;
-use xt_discipline::{are_yes, handlers_of, modes};
+use xt_discipline::{are_yes, handlers_of, phases};
+use xt_frames::HandlerPhase;
 use xt_image::Image;
 use xt_map::Constants;
 use xt_trace::{Records, Run};
@@ -32,24 +32,24 @@ fn pass<R: Records>(records: &mut R, count: u32)
     }
 }
 
-/// Counts the turns that are left of a core, each of which is what its mode says.
+/// Counts the turns that are left of a core, each of which is what its phase says.
 fn count_left<R: Records>(
     alloc: Global,
     code: &Constants,
-    modes: &[Mode],
+    phases: &[HandlerPhase],
     records: &mut R,
     tally: &mut Tally,
 ) -> Result<(), AllocError>
-    requires room { tally.old.steps + length modes.now < 2 ^ 32 }
+    requires room { tally.old.steps + length phases.now < 2 ^ 32 }
     requires known { (opening : Origin) × (past : List Step) × IsTally opening past tally.old }
     ensures { OnOk result ((opening : Origin) (past : List Step) → IsTally opening past tally.old
-        → IsTally opening (later_from (constant_byte code.now) past modes.now (R.left records.old)) tally.new) }
+        → IsTally opening (later_from (constant_byte code.now) past phases.now (R.left records.old)) tally.new) }
 {
-    for mode in modes {
+    for phase in phases {
         let Some(rec) = records.next() else {
             return Ok(());
         };
-        tally.change(alloc, rec.pc, *mode, change_at(code, *mode, &rec))?;
+        tally.change(alloc, rec.pc, *phase, change_at(code, *phase, &rec))?;
     }
     Ok(())
 }
@@ -70,18 +70,18 @@ fn later(
     requires none { tally.steps ≡ 0 }
     requires known { (opening : Origin) × (past : List Step) × IsTally opening past tally }
     ensures { IfOk result (λ turns. (opening : Origin) (past : List Step) → IsTally opening past tally
-        → turns ≡ turns_past opening.start opening.first (later_from (code_of image.now) past (drop cut (modes_of (code_of image.now) (records core image.now run.now))) (drop cut (records core image.now run.now)))) }
+        → turns ≡ turns_past opening.start opening.first (later_from (code_of image.now) past (drop cut (phases_of (code_of image.now) (records core image.now run.now))) (drop cut (records core image.now run.now)))) }
 {
     let code = Constants::make(alloc, image.segments.as_slice())?;
     let mut all = Cursor::make(alloc, image, run, core)?;
-    let modes = modes(alloc, &code, &mut all)?;
+    let phases = phases(alloc, &code, &mut all)?;
     let mut left = Cursor::make(alloc, image, run, core)?;
     pass(&mut left, cut);
     let mut tally = tally;
     count_left(
         alloc,
         &code,
-        &modes.as_slice()[cut as usize..],
+        &phases.as_slice()[cut as usize..],
         &mut left,
         &mut tally,
     )?;

@@ -13,7 +13,7 @@ use crate::changes::Change;
 use crate::profiles::{CoreTurns, Key, Lines, ProfileLine};
 use std::alloc::{AllocError, Global};
 use std::collections::BTreeMap;
-use xt_discipline::step_modes::Mode;
+use xt_frames::HandlerPhase;
 
 /// What is counted of a core so far.
 #[derive(Drop)]
@@ -116,29 +116,35 @@ impl Tally {
     }
 
     /// Counts a step, which may change the functions then.
-    fn count(&mut self, mode: Mode)
+    fn count(&mut self, phase: HandlerPhase)
         requires room { self.old.steps + 1 < 2 ^ 32 }
         requires known { (opening : Origin) × (past : List Step) × AreCounted opening past self.old }
         ensures functions { self.new.functions ≡ self.old.functions }
         ensures steps { self.new.steps ≡ self.old.steps + 1 }
-        ensures counted { (opening : Origin) (past : List Step) (s : Step) → IsTally opening past self.old → s.mode ≡ mode → s.before ≡ frames_standing past → AreCounted opening (s ∷ past) self.new }
+        ensures counted { (opening : Origin) (past : List Step) (s : Step) → IsTally opening past self.old → s.phase ≡ phase → s.before ≡ frames_standing past → AreCounted opening (s ∷ past) self.new }
     {
         self.steps += 1;
-        match mode {
-            Mode::Handler => self.handlers += 1,
-            Mode::Plain => self.row += 1,
-            Mode::Nested => self.row += 1,
+        match phase {
+            HandlerPhase::InHandler => self.handlers += 1,
+            HandlerPhase::Outside => self.row += 1,
+            HandlerPhase::Nested => self.row += 1,
         }
     }
 
     /// A step at this PC, after which so many frames stand. The only error is running out of memory.
-    pub fn step(&mut self, alloc: Global, pc: u32, mode: Mode, after: u32) -> Result<(), AllocError>
+    pub fn step(
+        &mut self,
+        alloc: Global,
+        pc: u32,
+        phase: HandlerPhase,
+        after: u32,
+    ) -> Result<(), AllocError>
         requires room { self.old.steps + 1 < 2 ^ 32 }
         requires known { (opening : Origin) × (past : List Step) × IsTally opening past self.old }
         ensures { OnOk result ((opening : Origin) (past : List Step) → IsTally opening past self.old
-            → IsTally opening (record { pc = pc; mode = mode; before = frames_standing past; after = after } ∷ past) self.new) }
+            → IsTally opening (record { pc = pc; phase = phase; before = frames_standing past; after = after } ∷ past) self.new) }
     {
-        self.count(mode);
+        self.count(phase);
         let depth = after as usize + 1;
         let len = self.functions.as_slice().len();
         if depth == len {
@@ -155,16 +161,16 @@ impl Tally {
         &mut self,
         alloc: Global,
         pc: u32,
-        mode: Mode,
+        phase: HandlerPhase,
         change: Change,
     ) -> Result<(), AllocError>
         requires room { self.old.steps + 1 < 2 ^ 32 }
         requires known { (opening : Origin) × (past : List Step) × IsTally opening past self.old }
         ensures steps { OnOk result (self.new.steps ≡ self.old.steps + 1) }
         ensures tally { OnOk result ((opening : Origin) (past : List Step) → IsTally opening past self.old
-            → IsTally opening (step_with_change pc mode change past ∷ past) self.new) }
+            → IsTally opening (step_with_change pc phase change past ∷ past) self.new) }
     {
-        self.count(mode);
+        self.count(phase);
         match change {
             Change::Stays => Ok(()),
             Change::Calls => {

@@ -53,8 +53,8 @@ fn ends_so<R: Threads + Wait + Sync + AllocGlobal>(
     Some(true)
 }
 
-// What `outcomes` prints, without orders: of a stuck order and of a race only that there is one. None where the run of an order ends in
-// another way.
+// What `outcomes` prints, without orders: of a stuck order and of a race only that there is one, since the two turns of a race depend on
+// its order; of a breach its kind, core and address. None where the run of an order ends in another way.
 fn without_orders<R: Threads + Wait + Sync + AllocGlobal>(
     rt: &R,
     options: &str,
@@ -63,7 +63,12 @@ fn without_orders<R: Threads + Wait + Sync + AllocGlobal>(
 ) -> Option<String> {
     let mut found = String::new(rt.alloc());
     let mut outcome = String::new(rt.alloc());
+    let mut turns = 0;
     for line in output.lines() {
+        if turns > 0 {
+            turns -= 1;
+            continue;
+        }
         match line.split_once(' ') {
             Some(("order", order)) => {
                 if !ends_so(rt, options, input, order, outcome.as_str())? {
@@ -77,6 +82,11 @@ fn without_orders<R: Threads + Wait + Sync + AllocGlobal>(
             }
             Some(("race", order)) if order.contains('*') => {
                 push_line(&mut outcome, "race some").ok()?;
+                turns = 2;
+            }
+            Some(("breach", _)) => {
+                let (breach, _) = line.split_once(" order ")?;
+                push_line(&mut outcome, breach).ok()?;
             }
             _ => push_line(&mut outcome, line).ok()?,
         }

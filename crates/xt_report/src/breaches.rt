@@ -5,8 +5,8 @@ ghost use Rattle.xt_report.specs.Breaches.{breach_text, kind_text};
 use std::alloc::{AllocError, Global};
 use xt_frames::{Breach, BreachKind};
 
-// The name of a kind of breach.
-fn kind_text(kind: BreachKind) -> &'static str
+/// The name of a kind of breach.
+pub fn kind_text(kind: BreachKind) -> &'static str
     ensures { result.now ≡ kind_text kind }
 {
     match kind {

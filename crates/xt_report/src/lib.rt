@@ -9,7 +9,7 @@ mod run_report;
 mod verdict_lines;
 mod whole;
 
-pub use breaches::breach_text;
+pub use breaches::{breach_text, kind_text};
 pub use checks::check_text;
 pub use gen_report::summary;
 pub use laws::history_sends_as_memory;

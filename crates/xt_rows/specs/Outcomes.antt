@@ -16,7 +16,7 @@
 -- a shift, and AR[t] of a system instruction. The comment above each table says it. `reads` and
 -- `special_reads` choose what is passed.
 -- Note: LOOPNEZ and LOOPGTZ set LCOUNT to the count less one also where they skip the body (2^32 -
--- 1 for 0). RFDE leaves EXCM set. `named` is the highest of a0 to a15 that the instruction names,
+-- 1 for 0). RFDE leaves EXCM set. `highest_register` is the highest of a0 to a15 that the instruction names,
 -- with a4, a8 or a12 for the calls; RETW names none.
 use Rattle.std.specs.Prelude.{ℕ, ◌%◌, ◌^◌, true, false, Option, Some, None, bit_and, bit_or}
 use Rattle.std.specs.Prelude.{bit_xor, min, max}

@@ -8,7 +8,9 @@ use Rattle.xt_frames.specs.declared.kinds.BreachKind.{BreachKind}
 use Rattle.xt_frames.specs.Frames.{FrameState}
 use Rattle.xt_frames.specs.FrameStep.{FrameTurn, with_inputs, step_with_inputs}
 use Rattle.xt_frames.specs.Nesting.{begins, current, is_nesting}
-use Rattle.xt_frames.specs.HandlerSteps.{Mode, Plain, Handles, Nests, is_window}
+use Rattle.xt_frames.specs.declared.kinds.HandlerPhase.{HandlerPhase}
+use Rattle.xt_frames.specs.declared.kinds.HandlerPhase.TheVariants.{Outside, InHandler, Nested}
+use Rattle.xt_frames.specs.HandlerSteps.{is_window}
 use Rattle.xt_frames.specs.Breaches.{Bounds, breach_of, fetched_tests, first_shown, inputs_of, laid_breach, vector_test, window_breach}
 use Rattle.xt_frames.specs.Judging.{Standing, Seen, Handled, Judges, Breaks, handled_record, live_of, seen_record, seen_in, seen_judged, seen_plain, seen_step, seen_window}
 use Rattle.xt_trace.specs.declared.record.StepKind.{StepKind}
@@ -67,16 +69,16 @@ module _ (code : ℕ → ℕ) (b : Bounds) (st : Standing) (others stale others'
       let same = breach_same b st.fresh code (live_of b f others) stale (live_of b f others') stale' nested rec f e in
       subst (λ (l : Option BreachKind). IsAsSeen (seen_step k code b st others stale nested rec) (seen_step l code b st others' stale' nested rec)) same (step_as nested k)
 
-  seen_as : (m : Mode) → IsAsSeen (seen_in m code b st others stale rec) (seen_in m code b st others' stale' rec)
-  seen_as Plain =
+  seen_as : (m : HandlerPhase) → IsAsSeen (seen_in m code b st others stale rec) (seen_in m code b st others' stale' rec)
+  seen_as Outside =
       as_chosen (is_window rec.kind) (seen_window (window_breach code rec.kind (with_inputs (inputs_of rec) (current st.frame))) st.frame)
       (seen_judged code b st others stale false rec) (seen_judged code b st others' stale' false rec) (judged_as false)
-  seen_as Handles = judged_or (is_nesting rec.kind)
+  seen_as InHandler = judged_or (is_nesting rec.kind)
     where
       judged_or : (c : Bool) → IsAsSeen (cond c (seen_judged code b st others stale true rec) (handled_record code st rec)) (cond c (seen_judged code b st others' stale' true rec) (handled_record code st rec))
       judged_or true = judged_as true
       judged_or false = as_itself (handled_record code st rec)
-  seen_as Nests = judged_as true
+  seen_as Nested = judged_as true
 
   pub quiet_as : IsAsSeen (seen_record code b st others stale rec) (seen_record code b st others' stale' rec)
-  quiet_as = seen_as st.mode
+  quiet_as = seen_as st.phase

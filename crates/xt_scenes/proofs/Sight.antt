@@ -15,13 +15,15 @@ use Rattle.xt_trace.specs.declared.record.StepKind.TheVariants as kind
 use Rattle.xt_trace.specs.declared.record.StepRecord.{StepRecord}
 use Rattle.xt_fetch.specs.Code.{AreBytes}
 use Rattle.xt_fetch.specs.Fetching.{Fetched, Fetches, Fails, SpellsNothing, fetch_at}
-use Rattle.xt_frames.specs.declared.holes.Nested.{Nested}
+use Rattle.xt_frames.specs.declared.holes.Nested as holes
 use Rattle.xt_frames.specs.declared.kinds.BreachKind.{BreachKind}
 use Rattle.xt_frames.specs.declared.kinds.BreachKind.TheVariants as breach
 use Rattle.xt_frames.specs.Frames.{FrameState}
 use Rattle.xt_frames.specs.FrameStep.{FrameTurn, with_inputs, step_with_inputs}
 use Rattle.xt_frames.specs.Nesting.{begins, current, current_in, is_nesting}
-use Rattle.xt_frames.specs.HandlerSteps.{Mode, Plain, Handles, Nests, is_window, mode_after}
+use Rattle.xt_frames.specs.declared.kinds.HandlerPhase.{HandlerPhase}
+use Rattle.xt_frames.specs.declared.kinds.HandlerPhase.TheVariants.{Outside, InHandler, Nested}
+use Rattle.xt_frames.specs.HandlerSteps.{is_window, phase_after}
 use Rattle.xt_frames.specs.SaveAreas.{Range, is_live}
 use Rattle.xt_frames.specs.Breaches.{Bounds, Test, breach_of, breaks_nested, fetched_return_breach, fetched_tests, first_shown, fresh_after, has_no_caller, inputs_of, insn_tests, is_movsp, is_return, is_underflow, is_windowing, laid_breach, leaves_range, loads_stale, loses_epc1, misaligns_sp, names_high, names_window_register, opens_nothing, other_frame_size, other_tests, reads_none, reads_none_in, return_tests, returns_elsewhere, stale_after, test, touches_save_area, vector_test, window_breach, writes_sp}
 use Rattle.xt_frames.specs.Judging.{Standing, Seen, Handled, Judges, Breaks, fresh_on, handled_record, live_of, seen_record, seen_in, seen_judged, seen_plain, seen_step, seen_window, step_on}
@@ -38,7 +40,7 @@ module _ (p : FrameState) (l : List ℕ) where
   abbrev q : FrameState
   q = record p { control = with_special p.control l }
 
-  none_read : (n : Option Nested) (i : Insn) → reads_none_in n i p ≡ reads_none_in n i q
+  none_read : (n : Option holes.Nested) (i : Insn) → reads_none_in n i p ≡ reads_none_in n i q
   none_read None i = refl
   none_read (Some x) i = refl
 
@@ -108,7 +110,7 @@ module _ (p : FrameState) (l : List ℕ) where
         ∷ test breach.Nested (breaks_same p.nested i j)
         ∷ []
       where
-        breaks_same : (n : Option Nested) (i : Insn) → breaks_nested n i u ≡ breaks_nested n i v
+        breaks_same : (n : Option holes.Nested) (i : Insn) → breaks_nested n i u ≡ breaks_nested n i v
         breaks_same None i = refl
         breaks_same (Some x) i = ap (λ (what : StepKind). breaks_nested (Some x) i (record u { kind = what })) k.kind
 
@@ -151,7 +153,7 @@ module _ (code : ℕ → ℕ) (bytes : AreBytes code) (b : Bounds) (fresh : Bool
 pub record IsKeptStanding (s t : Standing) : Type 0 where
   pub frame : IsKeptFrame s.frame t.frame
   pub fresh : s.fresh ≡ t.fresh
-  pub mode : s.mode ≡ t.mode
+  pub phase : s.phase ≡ t.phase
 
 abbrev pub IsKeptSeen : Seen → Seen → Type 0
 IsKeptSeen (Handled s) (Handled t) = IsKeptStanding s t
@@ -164,7 +166,7 @@ chosen_seen true s t x y h k = h
 chosen_seen false s t x y h k = k
 
 window_seen : (k : Option BreachKind) (f g : FrameState) → IsKeptFrame f g → IsKeptSeen (seen_window k f) (seen_window k g)
-window_seen None f g h = record { frame = h; fresh = refl; mode = refl }
+window_seen None f g h = record { frame = h; fresh = refl; phase = refl }
 window_seen (Some kind) f g h = refl
 
 set_other : (xs : List ℕ) (k v j : ℕ) → (j ≡ k → ⊥) → slice_index (slice_set xs k v) j ≡ slice_index xs j
@@ -175,7 +177,7 @@ set_other (x ∷ xs) (suc k) v zero apart = refl
 set_other (x ∷ xs) (suc k) v (suc j) apart = set_other xs k v j (λ e. apart (ap suc e))
 
 -- in the state of a nested interrupt too
-inner_ps : (n : Option Nested) (p : FrameState) (l : List ℕ) → (current_in n (record p { control = with_special p.control l })).control.ps ≡ (current_in n p).control.ps
+inner_ps : (n : Option holes.Nested) (p : FrameState) (l : List ℕ) → (current_in n (record p { control = with_special p.control l })).control.ps ≡ (current_in n p).control.ps
 inner_ps None p l = refl
 inner_ps (Some x) p l = refl
 
@@ -235,23 +237,23 @@ module _ (code : ℕ → ℕ) (bytes : AreBytes code) (b : Bounds) (f : FrameSta
       let live = unlike_special (λ s. live_of b s others) (step_on code nested rec f).after (step_on code nested other g).after (λ list. refl) (steps nested).after in
       ap (λ (now : ℕ → Bool). stale_after now (live_of b f others) stale rec.access) live
 
-  mode_kept : (m : Mode) → mode_after code m rec ≡ mode_after code m other
-  mode_kept Plain = refl
-  mode_kept Handles = refl
-  mode_kept Nests = refl
+  phase_kept : (m : HandlerPhase) → phase_after code m rec ≡ phase_after code m other
+  phase_kept Outside = refl
+  phase_kept InHandler = refl
+  phase_kept Nested = refl
 
-  step_seen : (m : Mode) (nested : Bool) (k : Option BreachKind)
-      → IsKeptSeen (seen_step k code b (record { frame = f; fresh = fresh; mode = m }) others stale nested rec) (seen_step k code b (record { frame = g; fresh = fresh; mode = m }) others stale nested other)
-  step_seen m nested None = (record { frame = (steps nested).after; fresh = fresh_kept nested; mode = mode_kept m }, stale_kept nested)
+  step_seen : (m : HandlerPhase) (nested : Bool) (k : Option BreachKind)
+      → IsKeptSeen (seen_step k code b (record { frame = f; fresh = fresh; phase = m }) others stale nested rec) (seen_step k code b (record { frame = g; fresh = fresh; phase = m }) others stale nested other)
+  step_seen m nested None = (record { frame = (steps nested).after; fresh = fresh_kept nested; phase = phase_kept m }, stale_kept nested)
   step_seen m nested (Some kind) = refl
 
-  judged_seen : (m : Mode) (nested : Bool)
-      → IsKeptSeen (seen_judged code b (record { frame = f; fresh = fresh; mode = m }) others stale nested rec) (seen_judged code b (record { frame = g; fresh = fresh; mode = m }) others stale nested other)
+  judged_seen : (m : HandlerPhase) (nested : Bool)
+      → IsKeptSeen (seen_judged code b (record { frame = f; fresh = fresh; phase = m }) others stale nested rec) (seen_judged code b (record { frame = g; fresh = fresh; phase = m }) others stale nested other)
   judged_seen m nested =
       let k = breach_of b fresh code (live_of b f others) stale nested rec f in
       subst
       (λ (l : Option BreachKind).
-      IsKeptSeen (seen_step k code b (record { frame = f; fresh = fresh; mode = m }) others stale nested rec) (seen_step l code b (record { frame = g; fresh = fresh; mode = m }) others stale nested other))
+      IsKeptSeen (seen_step k code b (record { frame = f; fresh = fresh; phase = m }) others stale nested rec) (seen_step l code b (record { frame = g; fresh = fresh; phase = m }) others stale nested other))
       (breach_kept (live_of b f others) nested) (step_seen m nested k)
 
   window_kept : window_breach code rec.kind (with_inputs (inputs_of rec) (current f)) ≡ window_breach code rec.kind (with_inputs (inputs_of other) (current g))
@@ -260,19 +262,19 @@ module _ (code : ℕ → ℕ) (bytes : AreBytes code) (b : Bounds) (f : FrameSta
   itself : IsKeptFrame f g
   itself = record { list = ys; alike = a; is = refl }
 
-  pub mode_seen : (m : Mode) → IsKeptSeen (seen_in m code b (record { frame = f; fresh = fresh; mode = m }) others stale rec) (seen_in m code b (record { frame = g; fresh = fresh; mode = m }) others stale other)
-  mode_seen Plain =
+  pub phase_seen : (m : HandlerPhase) → IsKeptSeen (seen_in m code b (record { frame = f; fresh = fresh; phase = m }) others stale rec) (seen_in m code b (record { frame = g; fresh = fresh; phase = m }) others stale other)
+  phase_seen Outside =
       chosen_seen (is_window rec.kind) (seen_window (window_breach code rec.kind (with_inputs (inputs_of rec) (current f))) f) (seen_window (window_breach code rec.kind (with_inputs (inputs_of other) (current g))) g)
-      (seen_judged code b (record { frame = f; fresh = fresh; mode = Plain }) others stale false rec) (seen_judged code b (record { frame = g; fresh = fresh; mode = Plain }) others stale false other)
+      (seen_judged code b (record { frame = f; fresh = fresh; phase = Outside }) others stale false rec) (seen_judged code b (record { frame = g; fresh = fresh; phase = Outside }) others stale false other)
       (subst (λ (l : Option BreachKind). IsKeptSeen (seen_window (window_breach code rec.kind (with_inputs (inputs_of rec) (current f))) f) (seen_window l g)) window_kept
       (window_seen (window_breach code rec.kind (with_inputs (inputs_of rec) (current f))) f g itself))
-      (judged_seen Plain false)
-  mode_seen Handles =
-      chosen_seen (is_nesting rec.kind) (seen_judged code b (record { frame = f; fresh = fresh; mode = Handles }) others stale true rec)
-      (seen_judged code b (record { frame = g; fresh = fresh; mode = Handles }) others stale true other)
-      (handled_record code (record { frame = f; fresh = fresh; mode = Handles }) rec) (handled_record code (record { frame = g; fresh = fresh; mode = Handles }) other)
-      (judged_seen Handles true) (record { frame = itself; fresh = refl; mode = refl })
-  mode_seen Nests = judged_seen Nests true
+      (judged_seen Outside false)
+  phase_seen InHandler =
+      chosen_seen (is_nesting rec.kind) (seen_judged code b (record { frame = f; fresh = fresh; phase = InHandler }) others stale true rec)
+      (seen_judged code b (record { frame = g; fresh = fresh; phase = InHandler }) others stale true other)
+      (handled_record code (record { frame = f; fresh = fresh; phase = InHandler }) rec) (handled_record code (record { frame = g; fresh = fresh; phase = InHandler }) other)
+      (judged_seen InHandler true) (record { frame = itself; fresh = refl; phase = refl })
+  phase_seen Nested = judged_seen Nested true
 
 -- a record that differs in time alone
 pub record IsSameRecord (x y : StepRecord) : Type 0 where
@@ -284,8 +286,8 @@ pub seen_kept : (code : ℕ → ℕ) (b : Bounds) (s t : Standing) (others stale
 seen_kept code b s t others stale x y bytes k r free =
     let frame = k.frame in
     let T : Standing → StepRecord → Type 0 = λ z w. IsKeptSeen (seen_record code b s others stale x) (seen_record code b z others stale w) in
-    let u : Standing = record { frame = record s.frame { control = with_special s.frame.control frame.list }; fresh = s.fresh; mode = s.mode } in
-    let make : FrameState → Bool → Mode → Standing = λ f e m. record { frame = f; fresh = e; mode = m } in
-    let same : u ≡ t = λ i. make ((sym frame.is) i) (k.fresh i) (k.mode i) in
-    let here = mode_seen code bytes b s.frame frame.list frame.alike s.fresh others stale x y.ccount y.interrupt r.interrupt free s.mode in
+    let u : Standing = record { frame = record s.frame { control = with_special s.frame.control frame.list }; fresh = s.fresh; phase = s.phase } in
+    let make : FrameState → Bool → HandlerPhase → Standing = λ f e m. record { frame = f; fresh = e; phase = m } in
+    let same : u ≡ t = λ i. make ((sym frame.is) i) (k.fresh i) (k.phase i) in
+    let here = phase_seen code bytes b s.frame frame.list frame.alike s.fresh others stale x y.ccount y.interrupt r.interrupt free s.phase in
     subst (λ (w : StepRecord). T t w) (sym r.is) (subst (λ (z : Standing). T z (record x { ccount = y.ccount; interrupt = y.interrupt })) same here)

@@ -69,7 +69,7 @@ none_breaks P code b0 b1 f0 f1 o r free is =
     (record { spot = refl; standing0 = refl; standing1 = refl; stale = refl; reached = ([], tt, refl) }) refl (own_walk P o r is)
 
 opens_so : (f : FrameState) → IsKeptStanding (opening_standing f) (opening_standing f)
-opens_so f = record { frame = record { list = f.control.special; alike = alike_refl f.control.special; is = refl }; fresh = refl; mode = refl }
+opens_so f = record { frame = record { list = f.control.special; alike = alike_refl f.control.special; is = refl }; fresh = refl; phase = refl }
 
 pub none_breaks_untimed : NoneBreaksWithoutTime
 none_breaks_untimed code b0 b1 f0 f1 o n m r bytes free unused is =

@@ -16,6 +16,11 @@ worlds {W} ks = map (λ (x : Kept W). x.world) ks
 abbrev pub IsAt : {W : Type 0} → List (Kept W) → ℕ → W → Type 0
 IsAt ks k w = slice_get (worlds ks) k ≡ Some w
 
+-- each turn that leads to this world leads to the one that is kept under this number too
+abbrev pub IsLike :
+    {W : Type 0} (Leads : ℕ → W → W → Type 0) → List (Kept W) → ℕ → W → Type 0
+IsLike {W} Leads ks k w = (v : W) × IsAt ks k v × ((c : ℕ) (u : W) → Leads c u w → Leads c u v)
+
 -- A kept world but the first one comes from an earlier one, by a turn of its core.
 abbrev pub IsFound :
     {W : Type 0} (Leads : ℕ → W → W → Type 0) → List (Kept W) → ℕ → Kept W → Type 0

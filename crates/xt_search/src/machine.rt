@@ -37,14 +37,15 @@ pub trait Machine {
         requires free { bars self.now core world.now ≡ false }
         ensures { IfOk result (λ w. Leads self.now core world.now w) };
 
-    /// Whether two worlds were seen to be equal.
+    /// Whether two worlds were seen to hold the same: then a turn that leads to the second one leads to the
+    /// first one too.
     fn is_same(&self, a: &Self::World, b: &Self::World) -> bool
-        ensures { result ≡ true → a.now ≡ b.now };
+        ensures { result ≡ true → (c : ℕ) (w : Self.World) → Leads self.now c w b.now → Leads self.now c w a.now };
 
     /// Whether both cores have ended.
     fn is_end(&self, world: &Self::World) -> bool
         ensures { result ≡ ends self.now world.now };
 
-    /// A number that is the same for equal worlds.
+    /// A number that is the same for worlds that hold the same.
     fn digest(&self, world: &Self::World) -> u64;
 }

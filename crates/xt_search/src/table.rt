@@ -1,6 +1,6 @@
 //! Where to look for a kept world.
 ghost use Rattle.std.specs.Prelude.{◌≡◌, IfSome, true};
-ghost use Rattle.xt_search.specs.Graphs.{IsAt};
+ghost use Rattle.xt_search.specs.Graphs.{IsLike};
 
 use crate::graph::Kept;
 use crate::machine::Machine;
@@ -54,7 +54,7 @@ impl Table {
 
 // Whether a world was seen to be kept under this number.
 fn is_kept<M: Machine>(machine: &M, kept: &[Kept<M::World>], at: u32, world: &M::World) -> bool
-    ensures { result ≡ true → IsAt kept.now at world.now }
+    ensures { result ≡ true → IsLike (M.Leads machine.now) kept.now at world.now }
 {
     match kept.get(at as usize) {
         Some(other) => machine.is_same(&other.world, world),
@@ -63,7 +63,7 @@ fn is_kept<M: Machine>(machine: &M, kept: &[Kept<M::World>], at: u32, world: &M:
 }
 
 impl Table {
-    /// The number under which a world is kept; None says that it was not found.
+    /// The number of a kept world that holds the same as this one; None says that none was found.
     pub fn find<M: Machine>(
         &self,
         machine: &M,
@@ -71,7 +71,7 @@ impl Table {
         world: &M::World,
         digest: u64,
     ) -> Option<u32>
-        ensures { IfSome result (λ k. IsAt kept.now.items k world.now) }
+        ensures { IfSome result (λ k. IsLike (M.Leads machine.now) kept.now.items k world.now) }
     {
         let mut number = number_at(&self.last, chain_of(digest));
         for _ in 0..kept.len() {

@@ -10,7 +10,7 @@ use Rattle.xt_trace.proofs.Walks.{own_walk}
 use Rattle.xt_exec.specs.Chips.{processor}
 use Rattle.xt_frames.specs.declared.kinds.Breach.{Breach}
 use Rattle.xt_frames.specs.FirstBreach.{Course, EndsIn, IsJudgement, by_core, judged_before, judged_of, records_before, records_of, turns}
-use Rattle.xt_frames.specs.HandlerSteps.{Plain}
+use Rattle.xt_frames.specs.declared.kinds.HandlerPhase.TheVariants.{Outside}
 use Rattle.xt_frames.proofs.FirstBreach.{walk_finds}
 use Rattle.xt_simulation.specs.Opening.{bounds0, bounds1, frame0, frame1}
 use Rattle.xt_simulation.specs.Headline.{RunsAreAllJudged, judged_in, opening_of}
@@ -32,10 +32,10 @@ module _ {S : Type 0} (P : Chip S) where
       subst (λ zs. records_of 1 (turns (suc c ∷ cs) xs zs) ≡ zs) (sym is) (ap (λ zs. next_record P w.core1 w.line ∷ zs) (all_of_1 cs (give P 1 w) xs rest more))
 
 -- ---- at the end of all turns
-judged_at_end : (r : Course) (core p : ℕ) (zs : List StepRecord) → p ≡ length r.turns → records_of core r.turns ≡ zs → judged_before r core p ≡ judged_of r.code Plain zs
+judged_at_end : (r : Course) (core p : ℕ) (zs : List StepRecord) → p ≡ length r.turns → records_of core r.turns ≡ zs → judged_before r core p ≡ judged_of r.code Outside zs
 unfolding judged_before records_before
 judged_at_end r core p zs e all =
-    ap (judged_of r.code Plain) (ap (λ n. records_of core (take n r.turns)) e ∙ (ap (records_of core) (take-length r.turns) ∙ all))
+    ap (judged_of r.code Outside) (ap (λ n. records_of core (take n r.turns)) e ∙ (ap (records_of core) (take-length r.turns) ∙ all))
 
 ended : (r : Course) (p : ℕ) (o : Option Breach) → o ≡ None → EndsIn r p o → p ≡ length r.turns
 ended r p o is h = subst (EndsIn r p) is h

@@ -74,7 +74,7 @@ module _ (code : ℕ → ℕ) (b0 b1 : Bounds) where
       let s = v.core0.state in
       let rec = record_now code v.line.memory s in
       let w = world_of code v k e0 e1 in
-      let at : Entered = entered_by k.standing0.mode s v.line.memory e0 in
+      let at : Entered = entered_by k.standing0.phase s v.line.memory e0 in
       let n = past_handled_0 standing k in
       come0 w (Some (world_of code (give (processor code) 0 v) n at e1))
       (ap (λ o. moved0 code w (moved_by o 0 w.core0 v.line.memory (state_now code v.line.memory s) rec k.stale)) e
@@ -84,11 +84,11 @@ module _ (code : ℕ → ℕ) (b0 b1 : Bounds) where
       let s = v.core0.state in
       let rec = record_now code v.line.memory s in
       let w = world_of code v k e0 e1 in
-      let at : Entered = entered_past k.standing0.mode s v.line.memory (state_now code v.line.memory s) e0 in
+      let at : Entered = entered_past k.standing0.phase s v.line.memory (state_now code v.line.memory s) e0 in
       let n = past_judged_0 standing stale rec k in
       come0 w (Some (world_of code (give (processor code) 0 v) n at e1))
       (ap (λ o. moved0 code w (moved_by o 0 w.core0 v.line.memory (state_now code v.line.memory s) rec k.stale)) e
-      ∙ arrives0 v k e0 e1 at standing stale (k.judged0 ++ (is_nested k.standing0.mode, rec) ∷ []) (k.entries ++ entry_of 0 rec.access rec.reply) (k.entries ++ entry_of 0 rec.access rec.reply) pos refl)
+      ∙ arrives0 v k e0 e1 at standing stale (k.judged0 ++ (is_nested k.standing0.phase, rec) ∷ []) (k.entries ++ entry_of 0 rec.access rec.reply) (k.entries ++ entry_of 0 rec.access rec.reply) pos refl)
       (more n at)
 
   step1 : (v : worlds.World State) (k : Known) (e0 e1 : Entered) → 0 < v.core1.left → (o : Seen) → seen_1 code b0 b1 k (record_now code v.line.memory v.core1.state) ≡ o → (c : ℕ) (cs : List ℕ) (rest : Known → Judgement)
@@ -99,7 +99,7 @@ module _ (code : ℕ → ℕ) (b0 b1 : Bounds) where
       let s = v.core1.state in
       let rec = record_now code v.line.memory s in
       let w = world_of code v k e0 e1 in
-      let at : Entered = entered_by k.standing1.mode s v.line.memory e1 in
+      let at : Entered = entered_by k.standing1.phase s v.line.memory e1 in
       let n = past_handled_1 standing k in
       come1 w (Some (world_of code (give (processor code) 1 v) n e0 at))
       (ap (λ o. moved1 code w (moved_by o 1 w.core1 v.line.memory (state_now code v.line.memory s) rec k.stale)) e
@@ -109,11 +109,11 @@ module _ (code : ℕ → ℕ) (b0 b1 : Bounds) where
       let s = v.core1.state in
       let rec = record_now code v.line.memory s in
       let w = world_of code v k e0 e1 in
-      let at : Entered = entered_past k.standing1.mode s v.line.memory (state_now code v.line.memory s) e1 in
+      let at : Entered = entered_past k.standing1.phase s v.line.memory (state_now code v.line.memory s) e1 in
       let n = past_judged_1 standing stale rec k in
       come1 w (Some (world_of code (give (processor code) 1 v) n e0 at))
       (ap (λ o. moved1 code w (moved_by o 1 w.core1 v.line.memory (state_now code v.line.memory s) rec k.stale)) e
-      ∙ arrives1 v k e0 e1 at standing stale (k.judged1 ++ (is_nested k.standing1.mode, rec) ∷ []) (k.entries ++ entry_of 1 rec.access rec.reply) (k.entries ++ entry_of 1 rec.access rec.reply) pos refl)
+      ∙ arrives1 v k e0 e1 at standing stale (k.judged1 ++ (is_nested k.standing1.phase, rec) ∷ []) (k.entries ++ entry_of 1 rec.access rec.reply) (k.entries ++ entry_of 1 rec.access rec.reply) pos refl)
       (more n at)
 
   -- over the first p turns the walk of both cores comes as far as the judge

@@ -20,12 +20,14 @@ use Rattle.xt_special.specs.Numbers as number
 use Rattle.xt_special.specs.Control.{special_of}
 use Rattle.xt_exec.proofs.Served.{demand_served}
 use Rattle.xt_frames.specs.declared.kinds.BreachKind.{BreachKind}
-use Rattle.xt_frames.specs.declared.holes.Nested.{Nested}
+use Rattle.xt_frames.specs.declared.holes.Nested as holes
 use Rattle.xt_frames.specs.Frames.{FrameState}
 use Rattle.xt_frames.specs.FrameStep.{FrameTurn, with_inputs}
 use Rattle.xt_frames.specs.Nesting.{current, current_in, is_nesting}
 use Rattle.xt_frames.specs.SaveAreas.{is_live}
-use Rattle.xt_frames.specs.HandlerSteps.{Mode, Plain, Handles, Nests, is_window, closes, returns, mode_after}
+use Rattle.xt_frames.specs.declared.kinds.HandlerPhase.{HandlerPhase}
+use Rattle.xt_frames.specs.declared.kinds.HandlerPhase.TheVariants.{Outside, InHandler, Nested}
+use Rattle.xt_frames.specs.HandlerSteps.{is_window, closes, returns, phase_after}
 use Rattle.xt_frames.specs.Breaches.{Bounds, inputs_of, breach_of, window_breach, stale_after}
 use Rattle.xt_frames.specs.Judging.{Seen, handled_record, seen_window, seen_step, seen_judged, step_on, place_on, live_of, fresh_on}
 use Rattle.xt_frames.specs.Verdict.{entry_of, IsStepOf, IsFrameTrace}
@@ -98,31 +100,31 @@ pub record Held (m : MemoryContents) (b : Bounds) (f : FrameState) (e : Entered)
   pub epc1 : special_of e.suspended.control (number.epc 1) ≡ e.before.control.pc
 
 -- EPC1 is lost inside handler steps
-abbrev pub Calm : Mode → MemoryContents → Bounds → Bool → FrameState → Entered → Type 0
-Calm Plain m b fresh f e = Unit {0}
-Calm Handles m b fresh f e = fresh ≡ false
-Calm Nests m b fresh f e = Held m b f e × (fresh ≡ false)
+abbrev pub Calm : HandlerPhase → MemoryContents → Bounds → Bool → FrameState → Entered → Type 0
+Calm Outside m b fresh f e = Unit {0}
+Calm InHandler m b fresh f e = fresh ≡ false
+Calm Nested m b fresh f e = Held m b f e × (fresh ≡ false)
 
-calm_spared : (mode : Mode) (old new : MemoryContents) (b : Bounds) (fresh : Bool) (f : FrameState) (e : Entered) → ((a : ℕ) → is_live b.range f a ≡ true → byte_at new a ≡ byte_at old a) → Calm mode old b fresh f e → Calm mode new b fresh f e
-calm_spared Plain old new b fresh f e same h = tt
-calm_spared Handles old new b fresh f e same h = h
-calm_spared Nests old new b fresh f e same h = (record { bytes = λ a live. same a live ∙ h.0.bytes a live; epc1 = h.0.epc1 }, h.1)
+calm_spared : (phase : HandlerPhase) (old new : MemoryContents) (b : Bounds) (fresh : Bool) (f : FrameState) (e : Entered) → ((a : ℕ) → is_live b.range f a ≡ true → byte_at new a ≡ byte_at old a) → Calm phase old b fresh f e → Calm phase new b fresh f e
+calm_spared Outside old new b fresh f e same h = tt
+calm_spared InHandler old new b fresh f e same h = h
+calm_spared Nested old new b fresh f e same h = (record { bytes = λ a live. same a live ∙ h.0.bytes a live; epc1 = h.0.epc1 }, h.1)
 
-calm_handles : (m : MemoryContents) (b : Bounds) (f : FrameState) (e : Entered) (last : Bool) → Calm (cond last Plain Handles) m b false f e
+calm_handles : (m : MemoryContents) (b : Bounds) (f : FrameState) (e : Entered) (last : Bool) → Calm (cond last Outside InHandler) m b false f e
 calm_handles m b f e true = tt
 calm_handles m b f e false = refl
 
 module _ (code : ℕ → ℕ) (bytes : AreBytes code) where
   pub record Inside (b : Bounds) (m : MemoryContents) (c : Core) : Type 0 where
-    pub core : InCore code c.standing.mode m b c.standing.fresh c.state c.standing.frame c.entered
-    pub calm : Calm c.standing.mode m b c.standing.fresh c.standing.frame c.entered
+    pub core : InCore code c.standing.phase m b c.standing.fresh c.state c.standing.frame c.entered
+    pub calm : Calm c.standing.phase m b c.standing.fresh c.standing.frame c.entered
     pub shaped : IsShaped c.state
     pub holes : HasHoles c.standing.frame
 
   spared : (b : Bounds) (good : IsGood code b) (c : Core) (old new : MemoryContents) → ((a : ℕ) → is_live b.range c.standing.frame a ≡ true → byte_at new a ≡ byte_at old a) → Inside b old c → Inside b new c
   spared b good c old new same h = record {
-    core = core_spared code bytes b good c.standing.mode old new c.standing.fresh c.state c.standing.frame c.entered same h.core;
-    calm = calm_spared c.standing.mode old new b c.standing.fresh c.standing.frame c.entered same h.calm;
+    core = core_spared code bytes b good c.standing.phase old new c.standing.fresh c.state c.standing.frame c.entered same h.core;
+    calm = calm_spared c.standing.phase old new b c.standing.fresh c.standing.frame c.entered same h.calm;
     shaped = h.shaped;
     holes = h.holes;
   }
@@ -150,8 +152,8 @@ module _ (code : ℕ → ℕ) (bytes : AreBytes code) where
     pub leads : (opening : FrameState) → Leads code opening mine → Leads code opening x.mine
 
   module _ (b c : Bounds) (good : IsGood code b) (other : IsGood code c) (apart : Apart b.range c.range) (core : ℕ) (s : State) (at : Entered) (f : FrameState) (fresh : Bool) (recs : List (Bool × StepRecord)) (theirs : Core) (m framed : MemoryContents) (stale : ℕ → Bool) where
-    abbrev core_in : Mode → Core
-    core_in mode = record { state = s; entered = at; standing = record { frame = f; fresh = fresh; mode = mode }; judged = recs }
+    abbrev core_in : HandlerPhase → Core
+    core_in phase = record { state = s; entered = at; standing = record { frame = f; fresh = fresh; phase = phase }; judged = recs }
 
     abbrev rec : StepRecord
     rec = record_now code m s
@@ -162,20 +164,20 @@ module _ (code : ℕ → ℕ) (bytes : AreBytes code) where
     abbrev now : State
     now = state_now code m s
 
-    abbrev Before : Mode → Type 0
-    Before mode = Both b c (core_in mode) theirs m framed stale
+    abbrev Before : HandlerPhase → Type 0
+    Before phase = Both b c (core_in phase) theirs m framed stale
 
     -- a handler step, or a window exception's record: the frame machine stands still
-    stands_still : (mode next : Mode) → mode_after code mode rec ≡ next → (h : Before mode) → Idle code bytes b good m s h.first.shaped f at mode false
-        → Calm next (memory_now code m s) b false f (entered_by mode s m at)
-        → Keeps b c (core_in mode) theirs m framed (record { mine = record { state = now; entered = entered_by mode s m at; standing = record { frame = f; fresh = false; mode = next }; judged = recs }; stale = stale; entries = [] })
-    stands_still mode next is h idle calm =
-        let mine = core_stack code mode m b fresh s f at h.first.core in
-        let yours = core_stack code theirs.standing.mode m c theirs.standing.fresh theirs.state theirs.standing.frame theirs.entered h.second.core in
+    stands_still : (phase next : HandlerPhase) → phase_after code phase rec ≡ next → (h : Before phase) → Idle code bytes b good m s h.first.shaped f at phase false
+        → Calm next (memory_now code m s) b false f (entered_by phase s m at)
+        → Keeps b c (core_in phase) theirs m framed (record { mine = record { state = now; entered = entered_by phase s m at; standing = record { frame = f; fresh = false; phase = next }; judged = recs }; stale = stale; entries = [] })
+    stands_still phase next is h idle calm =
+        let mine = core_stack code phase m b fresh s f at h.first.core in
+        let yours = core_stack code theirs.standing.phase m c theirs.standing.fresh theirs.state theirs.standing.frame theirs.entered h.second.core in
         record {
           both = record {
             first = record {
-              core = subst (λ (z : Mode). InCore code z (memory_now code m s) b false now f (entered_by mode s m at)) is idle.next;
+              core = subst (λ (z : HandlerPhase). InCore code z (memory_now code m s) b false now f (entered_by phase s m at)) is idle.next;
               calm = calm;
               shaped = shaped_now code m s bytes h.first.shaped h.real;
               holes = h.first.holes;
@@ -189,31 +191,31 @@ module _ (code : ℕ → ℕ) (bytes : AreBytes code) where
           leads = λ opening l. record { trace = l.trace; to = l.to };
         }
 
-    -- ---- a judged step, in any mode
-    abbrev judged_to : Bool → Mode → Bool → Entered → Moved
+    -- ---- a judged step, in any phase
+    abbrev judged_to : Bool → HandlerPhase → Bool → Entered → Moved
     judged_to nested next fresh_next entered = record {
       mine = record {
         state = now;
         entered = entered;
-        standing = record { frame = (step_on code nested rec f).after; fresh = fresh_next; mode = next };
+        standing = record { frame = (step_on code nested rec f).after; fresh = fresh_next; phase = next };
         judged = recs ++ (nested, rec) ∷ [];
       };
       stale = stale_after (live_of b (step_on code nested rec f).after others) (live_of b f others) stale rec.access;
       entries = entry_of core rec.access rec.reply;
     }
 
-    judged_on : (mode : Mode) (nested : Bool) (next : Mode) (fresh_next : Bool) (entered : Entered) → mode_after code mode rec ≡ next → Before mode
+    judged_on : (phase : HandlerPhase) (nested : Bool) (next : HandlerPhase) (fresh_next : Bool) (entered : Entered) → phase_after code phase rec ≡ next → Before phase
         → InCore code next (memory_now code m s) b fresh_next now (step_on code nested rec f).after entered → Calm next (memory_now code m s) b fresh_next (step_on code nested rec f).after entered
         → Matches (place_on nested rec f) rec (step_on code nested rec f) framed → KeepsAreas (live_of b f others) stale (demand code s)
-        → Keeps b c (core_in mode) theirs m framed (judged_to nested (mode_after code mode rec) fresh_next entered)
-    judged_on mode nested next fresh_next entered is h inside calm same areas =
+        → Keeps b c (core_in phase) theirs m framed (judged_to nested (phase_after code phase rec) fresh_next entered)
+    judged_on phase nested next fresh_next entered is h inside calm same areas =
         let u : FrameTurn = step_on code nested rec f in
         let reply : rec.reply ≡ reply_at framed rec.access = same.reply ∙ ap (reply_at framed) (sym same.access) in
         let asked = record_access code s (reply_now code m s) in
         let alike : Agree (live_of b u.after others) (stale_after (live_of b u.after others) (live_of b f others) stale rec.access) (memory_now code m s) (memory_after_step framed rec.access) =
         subst (λ o. Agree (live_of b u.after others) (stale_after (live_of b u.after others) (live_of b f others) stale o) (memory_now code m s) (memory_after_step framed o)) (sym asked)
         (memories_agree (live_of b f others) (live_of b u.after others) stale m framed (demand code s) h.real.sizes h.frames.sizes (demand_served code s) h.agree areas) in
-        let moved : Keeps b c (core_in mode) theirs m framed (judged_to nested next fresh_next entered) = record {
+        let moved : Keeps b c (core_in phase) theirs m framed (judged_to nested next fresh_next entered) = record {
           both = record {
             first = record { core = inside; calm = calm; shaped = shaped_now code m s bytes h.first.shaped h.real; holes = step_holes code nested rec f h.first.holes };
             second = spared c other theirs m (memory_now code m s) (λ a live. live_kept (live_of b f others) stale m (demand code s) a areas (or_right (is_live b.range f a) (others a) live)) h.second;
@@ -227,17 +229,17 @@ module _ (code : ℕ → ℕ) (bytes : AreBytes code) where
             to = after_push code opening recs (nested, rec) ∙ ap (λ g. (step_on code nested rec g).after) l.to;
           };
         } in
-        subst (λ (z : Mode). Keeps b c (core_in mode) theirs m framed (judged_to nested z fresh_next entered)) (sym is) moved
+        subst (λ (z : HandlerPhase). Keeps b c (core_in phase) theirs m framed (judged_to nested z fresh_next entered)) (sym is) moved
 
     -- ---- within handler steps
     nesting_is : (last : Bool) → is_nesting rec.kind ≡ last → is_nesting (planned_turn code s).kind ≡ last
     nesting_is last e = ap is_nesting (sym (kind_now code m s)) ∙ e
 
-    handles_keeps : is_nesting rec.kind ≡ false → Before Handles → Keeps b c (core_in Handles) theirs m framed (record { mine = record { state = now; entered = at; standing = record { frame = f; fresh = false; mode = mode_after code Handles rec }; judged = recs }; stale = stale; entries = [] })
+    handles_keeps : is_nesting rec.kind ≡ false → Before InHandler → Keeps b c (core_in InHandler) theirs m framed (record { mine = record { state = now; entered = at; standing = record { frame = f; fresh = false; phase = phase_after code InHandler rec }; judged = recs }; stale = stale; entries = [] })
     handles_keeps other_kind h =
-        let next : mode_after code Handles rec ≡ cond (closes code rec.kind rec.pc) Plain Handles = cond-false (is_nesting rec.kind) Nests (cond (closes code rec.kind rec.pc) Plain Handles) other_kind in
-        stands_still Handles (mode_after code Handles rec) refl h (handles_idle code bytes b good m s h.first.shaped f at fresh h.first.core h.real (nesting_is false other_kind))
-        (subst (λ (z : Mode). Calm z (memory_now code m s) b false f at) (sym next) (calm_handles (memory_now code m s) b f at (closes code rec.kind rec.pc)))
+        let next : phase_after code InHandler rec ≡ cond (closes code rec.kind rec.pc) Outside InHandler = cond-false (is_nesting rec.kind) Nested (cond (closes code rec.kind rec.pc) Outside InHandler) other_kind in
+        stands_still InHandler (phase_after code InHandler rec) refl h (handles_idle code bytes b good m s h.first.shaped f at fresh h.first.core h.real (nesting_is false other_kind))
+        (subst (λ (z : HandlerPhase). Calm z (memory_now code m s) b false f at) (sym next) (calm_handles (memory_now code m s) b f at (closes code rec.kind rec.pc)))
 
     -- ---- a window exception
     window_is : (last : Bool) → is_window rec.kind ≡ last → is_window (planned_turn code s).kind ≡ last
@@ -246,19 +248,19 @@ module _ (code : ℕ → ℕ) (bytes : AreBytes code) where
     same_window : f.nested ≡ None → IsShaped s → window_breach code rec.kind (with_inputs (inputs_of rec) (current f)) ≡ window_breach code (planned_turn code s).kind (with_inputs (inputs 0 s) f)
     unfolding turn
     same_window none shaped =
-        ap (λ (o : Option Nested). window_breach code (planned_turn code s).kind (with_inputs (inputs_of rec) (current_in o f))) none
+        ap (λ (o : Option holes.Nested). window_breach code (planned_turn code s).kind (with_inputs (inputs_of rec) (current_in o f))) none
         ∙ ap (λ g. window_breach code (planned_turn code s).kind g) (same_laid code s (reply_now code m s) f shaped.control.ps.owb_fits)
 
-    window_keeps : (o : Option BreachKind) → window_breach code rec.kind (with_inputs (inputs_of rec) (current f)) ≡ o → is_window rec.kind ≡ true → Before Plain → (x : Moved) → moved_by (seen_window o f) core (core_in Plain) m now rec stale ≡ Some x → Keeps b c (core_in Plain) theirs m framed x
+    window_keeps : (o : Option BreachKind) → window_breach code rec.kind (with_inputs (inputs_of rec) (current f)) ≡ o → is_window rec.kind ≡ true → Before Outside → (x : Moved) → moved_by (seen_window o f) core (core_in Outside) m now rec stale ≡ Some x → Keeps b c (core_in Outside) theirs m framed x
     window_keeps (Some kind) e window h x k = absurd cc
     window_keeps None e window h x k =
-        subst (Keeps b c (core_in Plain) theirs m framed) (same_Some _ x k)
-        (stands_still Plain Handles (cond-true (is_window rec.kind) Handles Plain window) h
+        subst (Keeps b c (core_in Outside) theirs m framed) (same_Some _ x k)
+        (stands_still Outside InHandler (cond-true (is_window rec.kind) InHandler Outside window) h
         (plain_idle code bytes b good m s h.first.shaped f at fresh false h.first.core (window_is true window) (sym (same_window h.first.core.1 h.first.shaped) ∙ e)) refl)
 
     -- ---- a judged step outside handler steps
-    judged_keeps : (o : Option BreachKind) → breach_of b fresh code (live_of b f others) stale false rec f ≡ o → is_window rec.kind ≡ false → Before Plain → (x : Moved)
-        → moved_by (seen_step o code b (record { frame = f; fresh = fresh; mode = Plain }) others stale false rec) core (core_in Plain) m now rec stale ≡ Some x → Keeps b c (core_in Plain) theirs m framed x
+    judged_keeps : (o : Option BreachKind) → breach_of b fresh code (live_of b f others) stale false rec f ≡ o → is_window rec.kind ≡ false → Before Outside → (x : Moved)
+        → moved_by (seen_step o code b (record { frame = f; fresh = fresh; phase = Outside }) others stale false rec) core (core_in Outside) m now rec stale ≡ Some x → Keeps b c (core_in Outside) theirs m framed x
     judged_keeps (Some kind) e nowindow h x k = absurd cc
     judged_keeps None e nowindow h x k =
         let somewhere = h.first.core.0 in
@@ -267,34 +269,34 @@ module _ (code : ℕ → ℕ) (bytes : AreBytes code) where
         let areas : KeepsAreas (live_of b f others) stale (demand code s) = judge_areas code bytes b fresh s f somewhere.ring somewhere.spilled m framed others stale somewhere.related plain h.first.shaped h.real h.frames.sizes h.agree (window_is false nowindow) e in
         let same : Matches (place_on false rec f) rec (step_on code false rec f) framed = subst (λ pc. Matches pc rec (step_on code false rec f) framed) (sym (place_plain rec f plain)) j.same in
         let none : (step_on code false rec f).after.nested ≡ None = judge_plain code bytes b fresh s f somewhere.ring somewhere.spilled m framed others stale somewhere.related plain h.first.shaped h.real h.frames.sizes h.agree (window_is false nowindow) e in
-        subst (Keeps b c (core_in Plain) theirs m framed) (same_Some _ x k)
-        (judged_on Plain false Plain (fresh_on fresh code false rec f) at (cond-false (is_window rec.kind) Handles Plain nowindow) h (j.somewhere, none) tt same areas)
+        subst (Keeps b c (core_in Outside) theirs m framed) (same_Some _ x k)
+        (judged_on Outside false Outside (fresh_on fresh code false rec f) at (cond-false (is_window rec.kind) InHandler Outside nowindow) h (j.somewhere, none) tt same areas)
 
     -- ---- a nested interrupt begins
-    begin_keeps : (o : Option BreachKind) → is_nesting rec.kind ≡ true → Before Handles → (x : Moved)
-        → moved_by (seen_step o code b (record { frame = f; fresh = fresh; mode = Handles }) others stale true rec) core (core_in Handles) m now rec stale ≡ Some x → Keeps b c (core_in Handles) theirs m framed x
+    begin_keeps : (o : Option BreachKind) → is_nesting rec.kind ≡ true → Before InHandler → (x : Moved)
+        → moved_by (seen_step o code b (record { frame = f; fresh = fresh; phase = InHandler }) others stale true rec) core (core_in InHandler) m now rec stale ≡ Some x → Keeps b c (core_in InHandler) theirs m framed x
     begin_keeps (Some kind) nesting h x k = absurd cc
     begin_keeps None nesting h x k =
         let here = nesting_is true nesting in
         let outside = h.first.core.1 in
         let u : FrameTurn = step_on code true rec f in
-        let entered : Entered = entered_past Handles s m now at in
+        let entered : Entered = entered_past InHandler s m now at in
         let silent = no_access code m s f here outside in
         let held : Held (memory_now code m s) b u.after entered = record { bytes = λ a live. ap (λ (y : MemoryContents). byte_at y a) (ap (memory_after_step m) silent); epc1 = h.first.core.0.control.epc1 } in
         let lost : fresh_on fresh code true rec f ≡ false = begin_fresh code m s f here outside fresh ∙ h.first.calm in
         let areas : KeepsAreas (live_of b f others) stale (demand code s) = subst (KeepsAreas (live_of b f others) stale) (sym silent) tt in
-        subst (Keeps b c (core_in Handles) theirs m framed) (same_Some _ x k)
-        (judged_on Handles true Nests (fresh_on fresh code true rec f) entered (cond-true (is_nesting rec.kind) Nests (cond (closes code rec.kind rec.pc) Plain Handles) nesting) h
+        subst (Keeps b c (core_in InHandler) theirs m framed) (same_Some _ x k)
+        (judged_on InHandler true Nested (fresh_on fresh code true rec f) entered (cond-true (is_nesting rec.kind) Nested (cond (closes code rec.kind rec.pc) Outside InHandler) nesting) h
         (begin_core code bytes b good m s h.first.shaped f at fresh h.first.core h.first.holes.unset here) (held, lost) (begin_matches code m s f here outside framed) areas)
 
     -- ---- a step of one
     abbrev nested_next : Entered
-    nested_next = entered_past Nests s m now at
+    nested_next = entered_past Nested s m now at
 
     abbrev last : Bool
     last = returns code (planned_turn code s).kind s.control.pc
 
-    module _ (h : Before Nests) (none_fresh : breach_of b fresh code (live_of b f others) stale true rec f ≡ None) where
+    module _ (h : Before Nested) (none_fresh : breach_of b fresh code (live_of b f others) stale true rec f ≡ None) where
       none : breach_of b false code (live_of b f others) stale true rec f ≡ None
       none = subst (λ z. breach_of b z code (live_of b f others) stale true rec f ≡ None) h.first.calm.1 none_fresh
 
@@ -324,16 +326,16 @@ module _ (code : ℕ → ℕ) (bytes : AreBytes code) where
     returns_now : returns code rec.kind rec.pc ≡ last
     returns_now = ap (λ k. returns code k rec.pc) (kind_now code m s) ∙ ap (returns code (planned_turn code s).kind) (pc_now code m s)
 
-    nested_keeps : (o : Option BreachKind) → breach_of b fresh code (live_of b f others) stale true rec f ≡ o → Before Nests → (x : Moved)
-        → moved_by (seen_step o code b (record { frame = f; fresh = fresh; mode = Nests }) others stale true rec) core (core_in Nests) m now rec stale ≡ Some x → Keeps b c (core_in Nests) theirs m framed x
+    nested_keeps : (o : Option BreachKind) → breach_of b fresh code (live_of b f others) stale true rec f ≡ o → Before Nested → (x : Moved)
+        → moved_by (seen_step o code b (record { frame = f; fresh = fresh; phase = Nested }) others stale true rec) core (core_in Nested) m now rec stale ≡ Some x → Keeps b c (core_in Nested) theirs m framed x
     nested_keeps (Some kind) e h x k = absurd cc
     nested_keeps None e h x k =
         let step = nested_step h e in
-        subst (Keeps b c (core_in Nests) theirs m framed) (same_Some _ x k)
-        (judged_on Nests true (cond last Handles Nests) (fresh_on fresh code true rec f) nested_next (ap (λ z. cond z Handles Nests) returns_now) h
+        subst (Keeps b c (core_in Nested) theirs m framed) (same_Some _ x k)
+        (judged_on Nested true (cond last InHandler Nested) (fresh_on fresh code true rec f) nested_next (ap (λ z. cond z InHandler Nested) returns_now) h
         (onward_core code (memory_now code m s) b (fresh_on fresh code true rec f) now (step_on code true rec f).after nested_next last step.1) (calm last) step.0 (areas h e))
       where
-        calm : (z : Bool) → Calm (cond z Handles Nests) (memory_now code m s) b (fresh_on fresh code true rec f) (step_on code true rec f).after nested_next
+        calm : (z : Bool) → Calm (cond z InHandler Nested) (memory_now code m s) b (fresh_on fresh code true rec f) (step_on code true rec f).after nested_next
         calm true = nested_lost h e
         calm false = (nested_held h e, nested_lost h e)
 
@@ -342,8 +344,8 @@ module _ (code : ℕ → ℕ) (bytes : AreBytes code) where
     back_epc1 z e (StaysIn is h) = absurd (false≢true (sym is ∙ e))
     back_epc1 z e (GoesBack is ended h) = h.control.epc1
 
-    nested_leaves : (o : Option BreachKind) → breach_of b fresh code (live_of b f others) stale true rec f ≡ o → Before Nests → (x : Moved)
-        → moved_by (seen_step o code b (record { frame = f; fresh = fresh; mode = Nests }) others stale true rec) core (core_in Nests) m now rec stale ≡ Some x → last ≡ true → LeavesHandler b f at.suspended x.mine.state at.held (byte_at m)
+    nested_leaves : (o : Option BreachKind) → breach_of b fresh code (live_of b f others) stale true rec f ≡ o → Before Nested → (x : Moved)
+        → moved_by (seen_step o code b (record { frame = f; fresh = fresh; phase = Nested }) others stale true rec) core (core_in Nested) m now rec stale ≡ Some x → last ≡ true → LeavesHandler b f at.suspended x.mine.state at.held (byte_at m)
     nested_leaves (Some kind) e h x k ends = absurd cc
     nested_leaves None e h x k ends =
         let inside = h.first.core in
@@ -358,35 +360,35 @@ module _ (code : ℕ → ℕ) (bytes : AreBytes code) where
         })
 
     -- ---- any turn
-    plain_keeps : Before Plain → (x : Moved) → move code b c core (core_in Plain) theirs m stale ≡ Some x → Keeps b c (core_in Plain) theirs m framed x
+    plain_keeps : Before Outside → (x : Moved) → move code b c core (core_in Outside) theirs m stale ≡ Some x → Keeps b c (core_in Outside) theirs m framed x
     plain_keeps h x k =
-        let P : Seen → Type 0 = λ o. moved_by o core (core_in Plain) m now rec stale ≡ Some x in
+        let P : Seen → Type 0 = λ o. moved_by o core (core_in Outside) m now rec stale ≡ Some x in
         let W : Seen = seen_window (window_breach code rec.kind (with_inputs (inputs_of rec) (current f))) f in
-        let J : Seen = seen_judged code b (core_in Plain).standing others stale false rec in
+        let J : Seen = seen_judged code b (core_in Outside).standing others stale false rec in
         ⊎_elim
         (λ window. window_keeps (window_breach code rec.kind (with_inputs (inputs_of rec) (current f))) refl window h x (subst P (cond-true (is_window rec.kind) W J window) k))
         (λ nowindow. judged_keeps (breach_of b fresh code (live_of b f others) stale false rec f) refl nowindow h x (subst P (cond-false (is_window rec.kind) W J nowindow) k))
         (cases_Bool (is_window rec.kind))
 
-    within_keeps : Before Handles → (x : Moved) → move code b c core (core_in Handles) theirs m stale ≡ Some x → Keeps b c (core_in Handles) theirs m framed x
+    within_keeps : Before InHandler → (x : Moved) → move code b c core (core_in InHandler) theirs m stale ≡ Some x → Keeps b c (core_in InHandler) theirs m framed x
     within_keeps h x k =
-        let P : Seen → Type 0 = λ o. moved_by o core (core_in Handles) m now rec stale ≡ Some x in
-        let J : Seen = seen_judged code b (core_in Handles).standing others stale true rec in
-        let H : Seen = handled_record code (core_in Handles).standing rec in
+        let P : Seen → Type 0 = λ o. moved_by o core (core_in InHandler) m now rec stale ≡ Some x in
+        let J : Seen = seen_judged code b (core_in InHandler).standing others stale true rec in
+        let H : Seen = handled_record code (core_in InHandler).standing rec in
         ⊎_elim
         (λ nesting. begin_keeps (breach_of b fresh code (live_of b f others) stale true rec f) nesting h x (subst P (cond-true (is_nesting rec.kind) J H nesting) k))
-        (λ other_kind. subst (Keeps b c (core_in Handles) theirs m framed) (same_Some _ x (subst P (cond-false (is_nesting rec.kind) J H other_kind) k)) (handles_keeps other_kind h))
+        (λ other_kind. subst (Keeps b c (core_in InHandler) theirs m framed) (same_Some _ x (subst P (cond-false (is_nesting rec.kind) J H other_kind) k)) (handles_keeps other_kind h))
         (cases_Bool (is_nesting rec.kind))
 
-    pub move_keeps : (mode : Mode) → Before mode → (x : Moved) → move code b c core (core_in mode) theirs m stale ≡ Some x → Keeps b c (core_in mode) theirs m framed x
-    move_keeps Plain h x k = plain_keeps h x k
-    move_keeps Handles h x k = within_keeps h x k
-    move_keeps Nests h x k = nested_keeps (breach_of b fresh code (live_of b f others) stale true rec f) refl h x k
+    pub move_keeps : (phase : HandlerPhase) → Before phase → (x : Moved) → move code b c core (core_in phase) theirs m stale ≡ Some x → Keeps b c (core_in phase) theirs m framed x
+    move_keeps Outside h x k = plain_keeps h x k
+    move_keeps InHandler h x k = within_keeps h x k
+    move_keeps Nested h x k = nested_keeps (breach_of b fresh code (live_of b f others) stale true rec f) refl h x k
 
-    pub move_leaves : (mode : Mode) → Before mode → GivesBack code b c core (core_in mode) theirs m stale
-    move_leaves Plain h x k is ends = absurd cc
-    move_leaves Handles h x k is ends = absurd cc
-    move_leaves Nests h x k is ends = nested_leaves (breach_of b fresh code (live_of b f others) stale true rec f) refl h x k ends
+    pub move_leaves : (phase : HandlerPhase) → Before phase → GivesBack code b c core (core_in phase) theirs m stale
+    move_leaves Outside h x k is ends = absurd cc
+    move_leaves InHandler h x k is ends = absurd cc
+    move_leaves Nested h x k is ends = nested_leaves (breach_of b fresh code (live_of b f others) stale true rec f) refl h x k ends
 
   -- ---- whole stretches
   step_moves : (b : Bounds) (m : MemoryContents) (s : State) (f : FrameState) (e : Entered) → HandlerStep code b m s f e.before e.opened → closes code (planned_turn code s).kind s.control.pc ≡ true → MovesFrame b f e.before (state_now code m s) e.opened (byte_at m)
@@ -398,11 +400,11 @@ module _ (code : ℕ → ℕ) (bytes : AreBytes code) where
   step_alone b m s f e (closes_stretch closed_ moves somewhere same alone) = alone
 
   -- the record that begins a nested interrupt changes no byte, and is taken where the frame state has it pending
-  mode_keeps : (b : Bounds) (good : IsGood code b) (m : MemoryContents) (mode : Mode) (fresh : Bool) (s : State) (f : FrameState) (e : Entered) (recs : List (Bool × StepRecord)) → InCore code mode m b fresh s f e → IsShaped s → IsMemory m
-      → KeepsStretches code b m (record { state = s; entered = e; standing = record { frame = f; fresh = fresh; mode = mode }; judged = recs })
-  mode_keeps b good m Plain fresh s f e recs h shaped real = ((λ is. absurd cc), (λ is. absurd cc), (λ is. absurd cc))
-  mode_keeps b good m Nests fresh s f e recs h shaped real = ((λ is. absurd cc), (λ is. absurd cc), (λ is. absurd cc))
-  mode_keeps b good m Handles fresh s f e recs h shaped real = (
+  phase_keeps : (b : Bounds) (good : IsGood code b) (m : MemoryContents) (phase : HandlerPhase) (fresh : Bool) (s : State) (f : FrameState) (e : Entered) (recs : List (Bool × StepRecord)) → InCore code phase m b fresh s f e → IsShaped s → IsMemory m
+      → KeepsStretches code b m (record { state = s; entered = e; standing = record { frame = f; fresh = fresh; phase = phase }; judged = recs })
+  phase_keeps b good m Outside fresh s f e recs h shaped real = ((λ is. absurd cc), (λ is. absurd cc), (λ is. absurd cc))
+  phase_keeps b good m Nested fresh s f e recs h shaped real = ((λ is. absurd cc), (λ is. absurd cc), (λ is. absurd cc))
+  phase_keeps b good m InHandler fresh s f e recs h shaped real = (
     (λ is closed_. step_moves b m s f e (handler_steps_are_kept code bytes b good m s f e.before e.opened h.0 shaped real.sizes (closes_plain code (planned_turn code s).kind s.control.pc closed_)) closed_),
     (λ is. ⊎_elim
         (λ nesting.
@@ -414,7 +416,7 @@ module _ (code : ℕ → ℕ) (bytes : AreBytes code) where
   )
 
   core_keeps : (b : Bounds) (good : IsGood code b) (m : MemoryContents) (c : Core) → Inside b m c → IsMemory m → KeepsStretches code b m c
-  core_keeps b good m c h real = mode_keeps b good m c.standing.mode c.standing.fresh c.state c.standing.frame c.entered c.judged h.core h.shaped real
+  core_keeps b good m c h real = phase_keeps b good m c.standing.phase c.standing.fresh c.state c.standing.frame c.entered c.judged h.core h.shaped real
 
   pub both_end : (b c : Bounds) (good : IsGood code b) (other : IsGood code c) (mine theirs : Core) (m framed : MemoryContents) (stale : ℕ → Bool) → Both b c mine theirs m framed stale → KeepsStretches code b m mine × KeepsStretches code c m theirs
   both_end b c good other mine theirs m framed stale h = (core_keeps b good m mine h.first h.real, core_keeps c other m theirs h.second h.real)
@@ -453,16 +455,16 @@ module _ (code : ℕ → ℕ) (bytes : AreBytes code) where
         })
 
     pub move0_keeps : (w : World) → Holds b0 b1 opening f0 f1 w → (x : Moved) → move code b0 b1 0 w.core0 w.core1 w.memory w.stale ≡ Some x → Keeps b0 b1 w.core0 w.core1 w.memory (memory_after opening w.entries) x
-    move0_keeps w h x k = move_keeps b0 b1 good0 good1 apart 0 w.core0.state w.core0.entered w.core0.standing.frame w.core0.standing.fresh w.core0.judged w.core1 w.memory (memory_after opening w.entries) w.stale w.core0.standing.mode h.both x k
+    move0_keeps w h x k = move_keeps b0 b1 good0 good1 apart 0 w.core0.state w.core0.entered w.core0.standing.frame w.core0.standing.fresh w.core0.judged w.core1 w.memory (memory_after opening w.entries) w.stale w.core0.standing.phase h.both x k
 
     pub move1_keeps : (w : World) → Holds b0 b1 opening f0 f1 w → (x : Moved) → move code b1 b0 1 w.core1 w.core0 w.memory w.stale ≡ Some x → Keeps b1 b0 w.core1 w.core0 w.memory (memory_after opening w.entries) x
-    move1_keeps w h x k = move_keeps b1 b0 good1 good0 flipped 1 w.core1.state w.core1.entered w.core1.standing.frame w.core1.standing.fresh w.core1.judged w.core0 w.memory (memory_after opening w.entries) w.stale w.core1.standing.mode (turned b0 b1 w.core0 w.core1 w.memory (memory_after opening w.entries) w.stale h.both) x k
+    move1_keeps w h x k = move_keeps b1 b0 good1 good0 flipped 1 w.core1.state w.core1.entered w.core1.standing.frame w.core1.standing.fresh w.core1.judged w.core0 w.memory (memory_after opening w.entries) w.stale w.core1.standing.phase (turned b0 b1 w.core0 w.core1 w.memory (memory_after opening w.entries) w.stale h.both) x k
 
     pub gives0 : (w : World) → Holds b0 b1 opening f0 f1 w → GivesBack code b0 b1 0 w.core0 w.core1 w.memory w.stale
-    gives0 w h = move_leaves b0 b1 good0 good1 apart 0 w.core0.state w.core0.entered w.core0.standing.frame w.core0.standing.fresh w.core0.judged w.core1 w.memory (memory_after opening w.entries) w.stale w.core0.standing.mode h.both
+    gives0 w h = move_leaves b0 b1 good0 good1 apart 0 w.core0.state w.core0.entered w.core0.standing.frame w.core0.standing.fresh w.core0.judged w.core1 w.memory (memory_after opening w.entries) w.stale w.core0.standing.phase h.both
 
     pub gives1 : (w : World) → Holds b0 b1 opening f0 f1 w → GivesBack code b1 b0 1 w.core1 w.core0 w.memory w.stale
-    gives1 w h = move_leaves b1 b0 good1 good0 flipped 1 w.core1.state w.core1.entered w.core1.standing.frame w.core1.standing.fresh w.core1.judged w.core0 w.memory (memory_after opening w.entries) w.stale w.core1.standing.mode (turned b0 b1 w.core0 w.core1 w.memory (memory_after opening w.entries) w.stale h.both)
+    gives1 w h = move_leaves b1 b0 good1 good0 flipped 1 w.core1.state w.core1.entered w.core1.standing.frame w.core1.standing.fresh w.core1.judged w.core0 w.memory (memory_after opening w.entries) w.stale w.core1.standing.phase (turned b0 b1 w.core0 w.core1 w.memory (memory_after opening w.entries) w.stale h.both)
 
     pub given_keeps : (c : Bool) (w v : World) → Holds b0 b1 opening f0 f1 w → world_after_turn code b0 b1 c w ≡ Some v → Holds b0 b1 opening f0 f1 v
     given_keeps true w v h e = moved0_keeps w v (move code b0 b1 0 w.core0 w.core1 w.memory w.stale) h (move0_keeps w h) e

@@ -36,7 +36,7 @@ use Rattle.xt_exec.specs.State.{State}
 use Rattle.xt_exec.specs.Chips.{processor}
 use Rattle.xt_frames.specs.declared.kinds.Breach.{Breach}
 use Rattle.xt_frames.specs.FirstBreach.{judged_of}
-use Rattle.xt_frames.specs.HandlerSteps.{Plain}
+use Rattle.xt_frames.specs.declared.kinds.HandlerPhase.TheVariants.{Outside}
 use Rattle.xt_frames.specs.Verdict.{Known, Judgement, judgement, opening_known, IsFrameRun}
 use Rattle.xt_stretch.specs.declared.Side.TheVariants.{Overflow, Underflow}
 use Rattle.xt_stretch.specs.declared.HandlerVerdict.TheVariants.{Yes}
@@ -201,8 +201,8 @@ abbrev pub AreAllJudged :
     Openings → (ℕ → ℕ) → List ℕ → List StepRecord → List StepRecord → Type 0
 AreAllJudged o code cores xs ys =
     (judged_in o code cores xs ys).breach ≡ None
-    → ((judged_in o code cores xs ys).known.judged0 ≡ judged_of code Plain xs)
-    × ((judged_in o code cores xs ys).known.judged1 ≡ judged_of code Plain ys)
+    → ((judged_in o code cores xs ys).known.judged0 ≡ judged_of code Outside xs)
+    × ((judged_in o code cores xs ys).known.judged1 ≡ judged_of code Outside ys)
 
 -- so of every run
 abbrev pub RunsAreAllJudged : Type 0

@@ -16,7 +16,9 @@ use Rattle.xt_simulation.specs.Steps.{record_now, state_now, memory_now}
 use Rattle.xt_simulation.specs.InHandlers.{LeavesHandler, MovesFrame, StoresAlone, as_left}
 use Rattle.xt_map.specs.Memory.{byte_at}
 use Rattle.xt_exec.specs.Turn.{planned_turn}
-use Rattle.xt_frames.specs.HandlerSteps.{Mode, Plain, Handles, Nests, closes, returns}
+use Rattle.xt_frames.specs.declared.kinds.HandlerPhase.{HandlerPhase}
+use Rattle.xt_frames.specs.declared.kinds.HandlerPhase.TheVariants.{Outside, InHandler, Nested}
+use Rattle.xt_frames.specs.HandlerSteps.{closes, returns}
 use Rattle.xt_frames.specs.Judging.{Standing, Seen, Handled, Judges, Breaks, step_on, seen_record}
 use Rattle.xt_frames.specs.Verdict.{entry_of, is_nested, IsFrameTrace}
 
@@ -51,24 +53,24 @@ pub record Moved : Type 0 where
   pub entries : List Entry
 
 -- a handler step outside handler steps is the record of a window exception
-abbrev pub entered_by : Mode → State → MemoryContents → Entered → Entered
-entered_by Plain s m e = record e { before = s; opened = byte_at m }
-entered_by Handles s m e = e
-entered_by Nests s m e = e
+abbrev pub entered_by : HandlerPhase → State → MemoryContents → Entered → Entered
+entered_by Outside s m e = record e { before = s; opened = byte_at m }
+entered_by InHandler s m e = e
+entered_by Nested s m e = e
 
--- a judged step in the handler mode takes a nested interrupt
-abbrev pub entered_past : Mode → State → MemoryContents → State → Entered → Entered
-entered_past Plain s m next e = e
-entered_past Handles s m next e =
+-- a judged step in handler steps takes a nested interrupt
+abbrev pub entered_past : HandlerPhase → State → MemoryContents → State → Entered → Entered
+entered_past Outside s m next e = e
+entered_past InHandler s m next e =
     record e { before = as_left e.before s next; suspended = s; held = byte_at m }
-entered_past Nests s m next e = record e { before = as_left e.before s next }
+entered_past Nested s m next e = record e { before = as_left e.before s next }
 
 abbrev pub moved_by :
     Seen → ℕ → Core → MemoryContents → State → StepRecord → (ℕ → Bool) → Option Moved
 moved_by (Handled standing) core mine m next rec stale = Some (record {
   mine = record {
     state = next;
-    entered = entered_by mine.standing.mode mine.state m mine.entered;
+    entered = entered_by mine.standing.phase mine.state m mine.entered;
     standing = standing;
     judged = mine.judged;
   };
@@ -78,9 +80,9 @@ moved_by (Handled standing) core mine m next rec stale = Some (record {
 moved_by (Judges standing stale_then) core mine m next rec stale = Some (record {
   mine = record {
     state = next;
-    entered = entered_past mine.standing.mode mine.state m next mine.entered;
+    entered = entered_past mine.standing.phase mine.state m next mine.entered;
     standing = standing;
-    judged = mine.judged ++ (is_nested mine.standing.mode, rec) ∷ [];
+    judged = mine.judged ++ (is_nested mine.standing.phase, rec) ∷ [];
   };
   stale = stale_then;
   entries = entry_of core rec.access rec.reply;
@@ -156,7 +158,7 @@ Apart r q = (r.hi ≤ q.lo) ⊎ (q.hi ≤ r.lo)
 -- where the core's next turn ends a stretch, the stretch has moved one frame
 abbrev pub EndsWell : (ℕ → ℕ) → Bounds → MemoryContents → Core → Type 0
 EndsWell code b m c =
-    c.standing.mode ≡ Handles → closes code (planned_turn code c.state).kind c.state.control.pc
+    c.standing.phase ≡ InHandler → closes code (planned_turn code c.state).kind c.state.control.pc
     ≡ true
     → MovesFrame
     b
@@ -169,7 +171,7 @@ EndsWell code b m c =
 -- and each handler step has changed no byte but those of the moved frame's save words
 abbrev pub HandlesAlone : (ℕ → ℕ) → Bounds → MemoryContents → Core → Type 0
 HandlesAlone code b m c =
-    c.standing.mode ≡ Handles
+    c.standing.phase ≡ InHandler
     → StoresAlone
     b
     c.standing.frame
@@ -183,7 +185,7 @@ HandlesAlone code b m c =
 -- frames too: by the INTERRUPT that it is told, and by its own INTENABLE and PS
 abbrev pub IsPending : (ℕ → ℕ) → MemoryContents → Core → Type 0
 IsPending code m c =
-    c.standing.mode ≡ Handles → is_nesting (planned_turn code c.state).kind ≡ true
+    c.standing.phase ≡ InHandler → is_nesting (planned_turn code c.state).kind ≡ true
     → pending_of (with_inputs (inputs_of (record_now code m c.state)) c.standing.frame).control
     ≡ nested_level
 
@@ -198,7 +200,7 @@ abbrev pub GivesBack :
     (ℕ → ℕ) → Bounds → Bounds → ℕ → Core → Core → MemoryContents → (ℕ → Bool) → Type 0
 GivesBack code b c core mine theirs m stale =
     (x : Moved) → move code b c core mine theirs m stale ≡ Some x
-    → mine.standing.mode ≡ Nests
+    → mine.standing.phase ≡ Nested
     → returns code (planned_turn code mine.state).kind mine.state.control.pc ≡ true
     → LeavesHandler
     b

@@ -30,8 +30,8 @@ fn is_of_time(n: u8) -> bool
     }
 }
 
-// Whether an instruction is RSR or XSR of a register of time.
-fn reads_time(insn: Insn) -> bool
+/// Whether an instruction is RSR or XSR of a register of time.
+pub fn reads_time(insn: Insn) -> bool
     ensures { result ≡ reads_time insn }
 {
     match insn {

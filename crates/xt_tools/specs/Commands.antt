@@ -2,6 +2,7 @@
 -- what it refuses ('profile').
 use Rattle.std.specs.Prelude.{◌≡◌, ℕ, Bool, true, false, if◌then◌else◌, List, Option, None}
 use Rattle.std.specs.Prelude.{unwrap_or}
+use Rattle.std.specs.List.{concat}
 use Rattle.std.specs.Option.{option_map}
 use Rattle.xt_image.specs.declared.image.Image.{Image}
 use Rattle.xt_trace.specs.declared.run.Run.{Run}
@@ -18,7 +19,8 @@ use Rattle.xt_record.specs.Format.{run_in}
 use Rattle.xt_record.specs.Written.{recording_bytes}
 use Rattle.xt_events.specs.Events.{events_text}
 use Rattle.xt_counts.specs.CountsText.{IsCountsText}
-use Rattle.xt_events.specs.Lines.{filtered_text}
+use Rattle.xt_debug.specs.FrameNotes.{noted}
+use Rattle.xt_events.specs.Lines.{filtered_between}
 use Rattle.xt_events.specs.declared.filter.Filter.{Filter}
 use Rattle.xt_race.specs.Races.{events_of}
 use Rattle.xt_race.specs.RaceTexts.{IsRaceText}
@@ -91,9 +93,15 @@ events_output input = events_text (image_in input) (run_in input)
 abbrev pub filter_of : Turns → Filter
 filter_of t = record { core = t.core; accesses = t.accesses; jumps = t.jumps }
 
--- the lines of these turns of that run
+-- the lines of these turns of a run, with what is known of frames where it is asked for
+abbrev pub trace_text : Turns → Image → Run → List ℕ
+trace_text t image r =
+    let lines = filtered_between (filter_of t) image r t.from t.to in
+    concat (if t.frames then noted image r t.from lines else lines)
+
+-- those of that run
 unfoldable pub trace_output : Turns → List ℕ → List ℕ
-trace_output t input = filtered_text (filter_of t) (image_in input) (run_in input) t.from t.to
+trace_output t input = trace_text t (image_in input) (run_in input)
 
 -- how often each core executed the instruction at each address in that run
 abbrev pub IsCountsTold : List ℕ → List ℕ → Type 0

@@ -5,17 +5,19 @@ ghost use Rattle.xt_core.specs.Runs.{IsRunOf};
 ghost use Rattle.xt_record.specs.Fields.{image_in};
 ghost use Rattle.xt_record.specs.Format.{run_in};
 ghost use Rattle.xt_status.specs.Inputs.{recording_refusal};
-ghost use Rattle.xt_tools.specs.Commands.{IsCountsTold, IsMade, IsRaceTold, filter_of, events_output, migrated_recording, profile_by, profile_output, trace_output};
+ghost use Rattle.xt_status.specs.Writes.{Writes};
+ghost use Rattle.xt_tools.specs.Commands.{IsCountsTold, IsMade, IsRaceTold, filter_of, events_output, migrated_recording, profile_by, profile_output, trace_output, trace_text};
 ghost use Rattle.xt_tools.specs.Puts.{Puts};
 ghost use Rattle.xt_use_report.specs.UseFindings.{IsUsesTold};
 
-use crate::turns::write_turns;
+use crate::turns::write_lines;
 use std::alloc::{AllocError, Global};
 use xt_command_line::{ProfileOptions, Turns};
 use xt_counts::counts_text;
+use xt_debug::FrameLines;
 use xt_events::{Filter, TurnLines, events_text};
 use xt_image::{Image, well_formed_is_placed};
-use xt_io::Sink;
+use xt_io::{Refused, Sink};
 use xt_map::Text;
 use xt_profile::{profile_text, whole_profile, whole_text};
 use xt_race::race_text;
@@ -122,6 +124,29 @@ fn filter_of(turns: Turns) -> Filter
     }
 }
 
+// Writes the lines of these turns of a run, in writes of up to 65,536 bytes.
+fn write_turns<K: Sink>(
+    alloc: Global,
+    turns: Turns,
+    image: &Image,
+    run: &Run,
+    sink: &mut K,
+) -> Result<(), Refused>
+    requires placed { IsPlaced image.now.segments }
+    requires run { IsRunOf image.now run.now }
+    ensures { Writes result
+        (K.told sink.old) (K.told sink.new) (K.faults sink.old) (K.faults sink.new)
+        (trace_text turns image.now run.now) }
+{
+    let filter = filter_of(turns);
+    if turns.frames {
+        let mut lines = FrameLines::make(alloc, image, run, filter, turns.from, turns.to)?;
+        return write_lines(alloc, &mut lines, sink);
+    }
+    let mut lines = TurnLines::filtered(alloc, image, run, filter, turns.from, turns.to)?;
+    write_lines(alloc, &mut lines, sink)
+}
+
 /// Writes the lines of these turns of a recorded run, in writes of up to 65,536 bytes, or ends with the
 /// status of the recording's first fault.
 pub fn trace<K: Sink>(alloc: Global, turns: Turns, input: &[u8], sink: &mut K) -> Status
@@ -133,10 +158,5 @@ pub fn trace<K: Sink>(alloc: Global, turns: Turns, input: &[u8], sink: &mut K) -
         Err(status) => return status,
     };
     well_formed_is_placed();
-    let filter = filter_of(turns);
-    let Ok(mut lines) = TurnLines::filtered(alloc, &image, &run, filter, turns.from, turns.to)
-    else {
-        return Status::Memory;
-    };
-    status_after(write_turns(alloc, &mut lines, sink))
+    status_after(write_turns(alloc, turns, &image, &run, sink))
 }

@@ -5,7 +5,7 @@ use Rattle.xt_map.specs.declared.contents.MemoryContents.{MemoryContents}
 use Rattle.xt_map.specs.Touching.{IsMemory}
 use Rattle.xt_fetch.specs.Code.{AreBytes}
 use Rattle.xt_exec.specs.State.{State}
-use Rattle.xt_frames.specs.FirstBreach.{Course, mode_before}
+use Rattle.xt_frames.specs.FirstBreach.{Course, phase_before}
 use Rattle.xt_simulation.specs.Handling.{IsGood}
 use Rattle.xt_simulation.specs.Walking.{Apart}
 use Rattle.xt_uses.specs.declared.discipline.Discipline.{Discipline}
@@ -28,6 +28,6 @@ pub record Before (r : Course) (h : History) (p : ℕ) (m framed : MemoryContent
   pub lost1 : Bool
   pub is_lost0 : Decides lost0 (IsLost r h 0 p)
   pub is_lost1 : Decides lost1 (IsLost r h 1 p)
-  pub both : TwoUse r.code (mode_before r 0 p) (mode_before r 1 p) m (r.bounds 0) (r.bounds 1) (not lost0) (not lost1) s t (h.state 0 p) (h.state 1 p)
+  pub both : TwoUse r.code (phase_before r 0 p) (phase_before r 1 p) m (r.bounds 0) (r.bounds 1) (not lost0) (not lost1) s t (h.state 0 p) (h.state 1 p)
   pub alike : MemoriesAlike r h p m framed
   pub frames : IsMemory framed

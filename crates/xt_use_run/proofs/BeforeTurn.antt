@@ -8,9 +8,10 @@ use Rattle.xt_exec.specs.State.{State, opening_state}
 use Rattle.xt_exec.specs.TurnLaws.{IsShaped}
 use Rattle.xt_frames.specs.Breaches.{Bounds}
 use Rattle.xt_frames.specs.Frames.{opening_frame}
-use Rattle.xt_frames.specs.HandlerSteps.{Mode, Plain}
+use Rattle.xt_frames.specs.declared.kinds.HandlerPhase.{HandlerPhase}
+use Rattle.xt_frames.specs.declared.kinds.HandlerPhase.TheVariants.{Outside}
 use Rattle.xt_frames.specs.SaveAreas.{is_live}
-use Rattle.xt_frames.specs.FirstBreach.{Course, IsJudgedTurn, IsTurn, entries_before, mode_before, records_before}
+use Rattle.xt_frames.specs.FirstBreach.{Course, IsJudgedTurn, IsTurn, entries_before, phase_before, records_before}
 use Rattle.xt_simulation.specs.Cores.{word}
 use Rattle.xt_simulation.specs.Opening.{IsOpening, IsStack, Openings, bounds0, bounds1, frame0, frame1, frame_of, memory_of, opening_core, state0, state1}
 use Rattle.xt_simulation.specs.Steps.{memory_now, record_now, state_now}
@@ -30,8 +31,8 @@ use Rattle.xt_use_run.proofs.TwoCores.{turned_round}
 use Rattle.xt_use_run.proofs.TwoMemories.{open_alike}
 
 -- ---- before the first turn
-opens_plain : (r : Course) (core : ℕ) → mode_before r core 0 ≡ Plain
-unfolding mode_before records_before
+opens_plain : (r : Course) (core : ℕ) → phase_before r core 0 ≡ Outside
+unfolding phase_before records_before
 opens_plain r core = refl
 
 never_lost : (r : Course) (h : History) (core : ℕ) → Decides false (IsLost r h core 0)
@@ -45,12 +46,12 @@ module _ (d : Discipline) (r : Course) (h : History) (history : IsHistory d r h)
   opens_state : h.state core 0 ≡ opening_use d (frame_of s)
   opens_state = history.opens core ∙ ap (opening_use d) (frame ∙ sym (opens_alike at pc b.vecbase b.range.hi))
 
-  opens_core : IsStack b.range → IsShaped s → word (byte_at m) (b.range.hi - 76) ≡ b.range.hi → InCoreUse r.code (mode_before r core 0) m (r.bounds core) true s (h.state core 0)
+  opens_core : IsStack b.range → IsShaped s → word (byte_at m) (b.range.hi - 76) ≡ b.range.hi → InCoreUse r.code (phase_before r core 0) m (r.bounds core) true s (h.state core 0)
   opens_core stack shaped link =
-      let plain : InCoreUse r.code Plain m b true s (opening_use d (frame_of s)) = record { frame = frame_of s; entered = (opening_core s).entered; core = (record { ring = []; spilled = []; related = opening_related at pc b (byte_at m) stack shaped link }, refl); knows = opens_known s shaped d } in
-      subst (λ (mode : Mode). InCoreUse r.code mode m (r.bounds core) true s (h.state core 0)) (sym (opens_plain r core))
-      (subst (λ (c : Bounds). InCoreUse r.code Plain m c true s (h.state core 0)) (sym bounds)
-      (subst (λ (u : UseState). InCoreUse r.code Plain m b true s u) (sym opens_state) plain))
+      let plain : InCoreUse r.code Outside m b true s (opening_use d (frame_of s)) = record { frame = frame_of s; entered = (opening_core s).entered; core = (record { ring = []; spilled = []; related = opening_related at pc b (byte_at m) stack shaped link }, refl); knows = opens_known s shaped d } in
+      subst (λ (phase : HandlerPhase). InCoreUse r.code phase m (r.bounds core) true s (h.state core 0)) (sym (opens_plain r core))
+      (subst (λ (c : Bounds). InCoreUse r.code Outside m c true s (h.state core 0)) (sym bounds)
+      (subst (λ (u : UseState). InCoreUse r.code Outside m b true s u) (sym opens_state) plain))
 
   opens_words : MaskWords (h.state core 0).masks
   opens_words = subst (λ (u : UseState). MaskWords u.masks) (sym opens_state) (opening_small d)

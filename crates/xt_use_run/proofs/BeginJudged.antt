@@ -5,7 +5,8 @@ use Rattle.xt_map.specs.declared.contents.MemoryContents.{MemoryContents}
 use Rattle.xt_trace.specs.declared.record.StepKind.{StepKind}
 use Rattle.xt_trace.specs.declared.record.StepKind.TheVariants as kind_
 use Rattle.xt_trace.specs.declared.record.StepRecord.{StepRecord}
-use Rattle.xt_frames.specs.HandlerSteps.{Handles, returns}
+use Rattle.xt_frames.specs.declared.kinds.HandlerPhase.TheVariants.{InHandler}
+use Rattle.xt_frames.specs.HandlerSteps.{returns}
 use Rattle.xt_fetch.specs.Code.{AreBytes}
 use Rattle.xt_exec.specs.State.{State}
 use Rattle.xt_exec.specs.TurnLaws.{IsShaped}
@@ -39,7 +40,7 @@ begin_last code kind_.Insn pc e = absurd (false≢true e)
 begin_last code _ pc e = refl
 
 pub begin_judged : (code : ℕ → ℕ) → AreBytes code → (b : Bounds) → IsGood code b → (m : MemoryContents) (s : State) (us : UseState) (live : ℕ → Bool) (kb : ℕ → ℕ) (fresh : Bool) {f : FrameState} (e : Entered)
-    → InCore code Handles m b fresh s f e → Knows f us → us.frame.nested ≡ None → IsShaped s → is_nesting (planned_turn code s).kind ≡ true
+    → InCore code InHandler m b fresh s f e → Knows f us → us.frame.nested ≡ None → IsShaped s → is_nesting (planned_turn code s).kind ≡ true
     → InnerUse code b m s e.opened s live kb (full_step code true (record_now code m s) kb us)
 begin_judged code bytes b good m s us live kb fresh {f = f} e h kn sn shaped nesting =
     let rec : StepRecord = record_now code m s in

@@ -11,7 +11,7 @@ use Rattle.xt_exec.specs.Turn.{turn}
 use Rattle.xt_frames.specs.declared.holes.Nested.{Nested}
 use Rattle.xt_frames.specs.Frames.{FrameState}
 use Rattle.xt_frames.specs.FrameStep.{with_inputs}
-use Rattle.xt_frames.specs.HandlerSteps.{Plain}
+use Rattle.xt_frames.specs.declared.kinds.HandlerPhase.TheVariants.{Outside}
 use Rattle.xt_frames.specs.Nesting.{current, current_in}
 use Rattle.xt_frames.specs.Breaches.{Bounds, inputs_of, writes_epc1}
 use Rattle.xt_simulation.specs.JudgedSteps.{fresh_turn, turn_of}
@@ -27,7 +27,7 @@ next_here : (code : ℕ → ℕ) (m : MemoryContents) (s : State) → (turn_of c
 unfolding turn
 next_here code m s = refl
 
-module _ (code : ℕ → ℕ) (m : MemoryContents) (b : Bounds) (fresh : Bool) (s : State) (shaped : IsShaped s) (us : UseState) (h : InCoreUse code Plain m b fresh s us) where
+module _ (code : ℕ → ℕ) (m : MemoryContents) (b : Bounds) (fresh : Bool) (s : State) (shaped : IsShaped s) (us : UseState) (h : InCoreUse code Outside m b fresh s us) where
   abbrev rec : StepRecord
   rec = record_now code m s
 
@@ -50,7 +50,7 @@ module _ (code : ℕ → ℕ) (m : MemoryContents) (b : Bounds) (fresh : Bool) (
       ∙ sym (ap (λ (z : FrameState). z.control.ps) found_is))
 
   -- after a judged step
-  pub fresh_use : (t : UseTurn) {n : MemoryContents} {later : Bool} → (record_now code m s).kind ≡ t.turn.kind → InCoreUse code Plain n b later (state_now code m s) t.after
+  pub fresh_use : (t : UseTurn) {n : MemoryContents} {later : Bool} → (record_now code m s).kind ≡ t.turn.kind → InCoreUse code Outside n b later (state_now code m s) t.after
       → fresh_turn fresh code (reply_now code m s) s ≡ (writes_epc1 t.turn.kind (fetch_at code found.control.pc) found.control.ps || (fresh && not (found.control.ps.excm && not (current t.after.frame).control.ps.excm)))
   fresh_use t kind k =
       let after : (turn_of code s (reply_now code m s)).after.control.ps.excm ≡ (current t.after.frame).control.ps.excm =

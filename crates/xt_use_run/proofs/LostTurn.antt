@@ -5,7 +5,7 @@ use Rattle.std.proofs.lemmas.Bool.{and_parts, and_right, both_ways, cases_lt, fa
 use Rattle.std.proofs.lemmas.Bool.Decides.{Decides-like}
 use Rattle.xt_trace.specs.declared.record.StepRecord.{StepRecord}
 use Rattle.xt_frames.specs.Nesting.{current}
-use Rattle.xt_frames.specs.FirstBreach.{Course, IsJudgedTurn, IsTurn, Turn, is_judged, mode_before, turn_of}
+use Rattle.xt_frames.specs.FirstBreach.{Course, IsJudgedTurn, IsTurn, Turn, is_judged, phase_before, turn_of}
 use Rattle.xt_uses.specs.FirstUse.{EndsMode, History, IsLost, LeavesEpc1, found_at, use_at, writes_at}
 
 -- two answers to one question are equal
@@ -33,14 +33,14 @@ module _ (r : Course) (h : History) (core p : ℕ) where
   }
 
   -- nothing is lost at turn p
-  shorter : ((rec : StepRecord) → IsTurn r p core rec → (is_judged (mode_before r core p) rec.kind ≡ false) ⊎ EndsMode r h p core rec → ⊥) → IsLost r h core (suc p) → IsLost r h core p
+  shorter : ((rec : StepRecord) → IsTurn r p core rec → (is_judged (phase_before r core p) rec.kind ≡ false) ⊎ EndsMode r h p core rec → ⊥) → IsLost r h core (suc p) → IsLost r h core p
   shorter keeps l = ⊎_elim
       (λ less. record { once = l.once; earlier = less; rec = l.rec; turn = l.turn; loses = l.loses; since = λ i lo up. l.since i lo (omega arith) })
       (λ here.
       let e = l.earlier in
       let same : l.once ≡ p = omega arith in
       let turn : IsTurn r p core l.rec = subst (λ i. IsTurn r i core l.rec) same l.turn in
-      let loses : (is_judged (mode_before r core p) l.rec.kind ≡ false) ⊎ EndsMode r h p core l.rec = subst (λ i. (is_judged (mode_before r core i) l.rec.kind ≡ false) ⊎ EndsMode r h i core l.rec) same l.loses in
+      let loses : (is_judged (phase_before r core p) l.rec.kind ≡ false) ⊎ EndsMode r h p core l.rec = subst (λ i. (is_judged (phase_before r core i) l.rec.kind ≡ false) ⊎ EndsMode r h i core l.rec) same l.loses in
       absurd (keeps l.rec turn loses))
       (cases_lt l.once p)
 
@@ -49,7 +49,7 @@ module _ (r : Course) (h : History) (core p : ℕ) where
   lost_elsewhere lost none d = Decides-like lost (longer (λ rec judged. absurd (none rec judged.turn))) (shorter (λ rec turn loses. none rec turn)) d
 
   -- a handler step
-  pub lost_idle : (rec : StepRecord) → IsTurn r p core rec → is_judged (mode_before r core p) rec.kind ≡ false → Decides true (IsLost r h core (suc p))
+  pub lost_idle : (rec : StepRecord) → IsTurn r p core rec → is_judged (phase_before r core p) rec.kind ≡ false → Decides true (IsLost r h core (suc p))
   lost_idle rec turn idle = (
     λ e. record {
       once = p;
@@ -61,7 +61,7 @@ module _ (r : Course) (h : History) (core p : ℕ) where
           let same : i ≡ p = omega arith in
           let at : IsJudgedTurn r p core other = subst (λ j. IsJudgedTurn r j core other) same judged in
           let one = one_record other rec at.turn turn in
-          absurd (both_ways _ (ap (λ (z : StepRecord). is_judged (mode_before r core p) z.kind) one ∙ idle) at.judged);
+          absurd (both_ways _ (ap (λ (z : StepRecord). is_judged (phase_before r core p) z.kind) one ∙ idle) at.judged);
     },
     λ l. refl,
   )
@@ -92,11 +92,11 @@ module _ (r : Course) (h : History) (core p : ℕ) where
           since = λ i lo up. let same : p ≡ i = omega arith in subst (λ j. LeavesEpc1 r h core j) same (leaves w);
         }
 
-    keeps : falls_at ≡ false → (other : StepRecord) → IsTurn r p core other → (is_judged (mode_before r core p) other.kind ≡ false) ⊎ EndsMode r h p core other → ⊥
+    keeps : falls_at ≡ false → (other : StepRecord) → IsTurn r p core other → (is_judged (phase_before r core p) other.kind ≡ false) ⊎ EndsMode r h p core other → ⊥
     keeps none other turn loses =
         let one = one_record other rec turn judged.turn in
         ⊎_elim
-        (λ idle. both_ways _ (sym (ap (λ (z : StepRecord). is_judged (mode_before r core p) z.kind) one) ∙ idle) judged.judged)
+        (λ idle. both_ways _ (sym (ap (λ (z : StepRecord). is_judged (phase_before r core p) z.kind) one) ∙ idle) judged.judged)
         (λ ends.
         let here : EndsMode r h p core rec = subst (EndsMode r h p core) one ends in
         let all : falls_at ≡ true = ap (λ z. z && not (current (use_at r h p core rec).after.frame).control.ps.excm) here.0 ∙ ap not here.1 in

@@ -12,11 +12,13 @@ use Rattle.xt_fetch.specs.Code.{AreBytes}
 use Rattle.xt_exec.specs.State.{State}
 use Rattle.xt_exec.specs.TurnLaws.{IsServed}
 use Rattle.xt_exec.proofs.Served.{demand_served}
-use Rattle.xt_frames.specs.HandlerSteps.{Mode, Plain, mode_after}
+use Rattle.xt_frames.specs.declared.kinds.HandlerPhase.{HandlerPhase}
+use Rattle.xt_frames.specs.declared.kinds.HandlerPhase.TheVariants.{Outside}
+use Rattle.xt_frames.specs.HandlerSteps.{phase_after}
 use Rattle.xt_frames.specs.SaveAreas.{is_live}
-use Rattle.xt_frames.specs.FirstBreach.{Course, IsJudgedTurn, IsTurn, Turn, entries_before, is_judged, mode_before}
+use Rattle.xt_frames.specs.FirstBreach.{Course, IsJudgedTurn, IsTurn, Turn, entries_before, is_judged, phase_before}
 use Rattle.xt_frames.specs.Verdict.{entry_of}
-use Rattle.xt_frames.proofs.Prefixes.{kept_entries, other_mode, own_entries, own_mode, same_turn}
+use Rattle.xt_frames.proofs.Prefixes.{kept_entries, other_phase, own_entries, own_phase, same_turn}
 use Rattle.xt_simulation.specs.Handling.{IsGood}
 use Rattle.xt_simulation.specs.JudgedSteps.{fresh_turn}
 use Rattle.xt_simulation.specs.Steps.{memory_after_step, memory_now, record_now, reply_at, reply_now, state_now}
@@ -45,7 +47,7 @@ pub record Beside (r : Course) (h : History) (p core other : ℕ) (m framed : Me
   pub later : Bool
   pub is_lost : Decides lost (IsLost r h core p)
   pub is_later : Decides later (IsLost r h other p)
-  pub both : TwoUse r.code (mode_before r core p) (mode_before r other p) m (r.bounds core) (r.bounds other) (not lost) (not later) s t (h.state core p) (h.state other p)
+  pub both : TwoUse r.code (phase_before r core p) (phase_before r other p) m (r.bounds core) (r.bounds other) (not lost) (not later) s t (h.state core p) (h.state other p)
   pub alike : MemoriesAlike r h p m framed
   pub frames : IsMemory framed
 
@@ -66,8 +68,8 @@ module _ (r : Course) (h : History) (bytes : AreBytes r.code) {d : Discipline} (
   abbrev rec : StepRecord
   rec = record_now r.code m s
 
-  abbrev mode : Mode
-  mode = mode_before r core p
+  abbrev phase : HandlerPhase
+  phase = phase_before r core p
 
   abbrev us : UseState
   us = h.state core p
@@ -79,23 +81,23 @@ module _ (r : Course) (h : History) (bytes : AreBytes r.code) {d : Discipline} (
   lost = before.lost
 
   -- ---- the turn
-  none : record_use r.code (r.bounds core) mode us lost (live_at r h p) (h.mask p) rec ≡ None
-  none = subst (λ z. record_use r.code (r.bounds core) mode us z (live_at r h p) (h.mask p) rec ≡ None) (same_answer shows.lost lost shows.is_lost before.is_lost) shows.shown
+  none : record_use r.code (r.bounds core) phase us lost (live_at r h p) (h.mask p) rec ≡ None
+  none = subst (λ z. record_use r.code (r.bounds core) phase us z (live_at r h p) (h.mask p) rec ≡ None) (same_answer shows.lost lost shows.is_lost before.is_lost) shows.shown
 
   abbrev Next : Type 0
-  Next = CoreNext all_agree r.code bytes (r.bounds core) good m before.both.real s before.both.shaped_first us (now_small us before.both.words_first) (live_at r h p) own (h.mask p) mode (not lost)
+  Next = CoreNext all_agree r.code bytes (r.bounds core) good m before.both.real s before.both.shaped_first us (now_small us before.both.words_first) (live_at r h p) own (h.mask p) phase (not lost)
 
   abbrev use_next : UseState
-  use_next = cond (is_judged mode rec.kind) (use_at r h p core rec).after us
+  use_next = cond (is_judged phase rec.kind) (use_at r h p core rec).after us
 
   abbrev fresh : Bool
-  fresh = fresh_next mode (not lost) (fresh_turn (not lost) r.code (reply_now r.code m s) s)
+  fresh = fresh_next phase (not lost) (fresh_turn (not lost) r.code (reply_now r.code m s) s)
 
   abbrev memory : MemoryContents
   memory = memory_now r.code m s
 
-  turned : Next × TwoUse r.code (mode_after r.code mode rec) (mode_before r other p) memory (r.bounds core) (r.bounds other) fresh (not before.later) (state_now r.code m s) t use_next (h.state other p)
-  turned = two_turn all_agree r.code bytes (r.bounds core) (r.bounds other) good good2 ranges mode (mode_before r other p) m lost (not before.later) s t us (h.state other p) (live_at r h p) own theirs (h.mask p) before.both none
+  turned : Next × TwoUse r.code (phase_after r.code phase rec) (phase_before r other p) memory (r.bounds core) (r.bounds other) fresh (not before.later) (state_now r.code m s) t use_next (h.state other p)
+  turned = two_turn all_agree r.code bytes (r.bounds core) (r.bounds other) good good2 ranges phase (phase_before r other p) m lost (not before.later) s t us (h.state other p) (live_at r h p) own theirs (h.mask p) before.both none
 
   served : IsServed rec.access
   served = subst IsServed (sym (record_access r.code s (reply_now r.code m s))) (demand_served r.code s)
@@ -111,16 +113,16 @@ module _ (r : Course) (h : History) (bytes : AreBytes r.code) {d : Discipline} (
   other_state = history.stays p other (λ q judged. no_turn q judged.turn)
 
   -- ---- the relation after it
-  module _ (then : Bool) (is_then : Decides then (IsLost r h core (suc p))) (same : mode_after r.code mode rec ≡ Plain → fresh ≡ not then) (state : h.state core (suc p) ≡ use_next)
+  module _ (then : Bool) (is_then : Decides then (IsLost r h core (suc p))) (same : phase_after r.code phase rec ≡ Outside → fresh ≡ not then) (state : h.state core (suc p) ≡ use_next)
       (alike : MemoriesAlike r h (suc p) memory (memory_after opening (entries_before r (suc p)))) (frames : IsMemory (memory_after opening (entries_before r (suc p)))) where
-    abbrev Pair : Mode → Mode → UseState → UseState → Type 0
+    abbrev Pair : HandlerPhase → HandlerPhase → UseState → UseState → Type 0
     Pair one two u v = TwoUse r.code one two memory (r.bounds core) (r.bounds other) (not then) (not before.later) (state_now r.code m s) t u v
 
-    plain_pair : Pair (mode_after r.code mode rec) (mode_before r other p) use_next (h.state other p)
+    plain_pair : Pair (phase_after r.code phase rec) (phase_before r other p) use_next (h.state other p)
     plain_pair =
         let k = turned.1 in
         record {
-          first = fresh_moved r.code (mode_after r.code mode rec) memory (r.bounds core) fresh (not then) (state_now r.code m s) use_next same k.first;
+          first = fresh_moved r.code (phase_after r.code phase rec) memory (r.bounds core) fresh (not then) (state_now r.code m s) use_next same k.first;
           second = k.second;
           shaped_first = k.shaped_first;
           shaped_second = k.shaped_second;
@@ -129,12 +131,12 @@ module _ (r : Course) (h : History) (bytes : AreBytes r.code) {d : Discipline} (
           words_second = k.words_second;
         }
 
-    pair : Pair (mode_before r core (suc p)) (mode_before r other (suc p)) (h.state core (suc p)) (h.state other (suc p))
+    pair : Pair (phase_before r core (suc p)) (phase_before r other (suc p)) (h.state core (suc p)) (h.state other (suc p))
     pair =
-        subst (λ (x : Mode). Pair x (mode_before r other (suc p)) (h.state core (suc p)) (h.state other (suc p))) (sym (own_mode r p core rec turn))
-        (subst (λ (x : Mode). Pair (mode_after r.code mode rec) x (h.state core (suc p)) (h.state other (suc p))) (sym (other_mode r p core rec turn other apart))
-        (subst (λ (u : UseState). Pair (mode_after r.code mode rec) (mode_before r other p) u (h.state other (suc p))) (sym state)
-        (subst (λ (v : UseState). Pair (mode_after r.code mode rec) (mode_before r other p) use_next v) (sym other_state) plain_pair)))
+        subst (λ (x : HandlerPhase). Pair x (phase_before r other (suc p)) (h.state core (suc p)) (h.state other (suc p))) (sym (own_phase r p core rec turn))
+        (subst (λ (x : HandlerPhase). Pair (phase_after r.code phase rec) x (h.state core (suc p)) (h.state other (suc p))) (sym (other_phase r p core rec turn other apart))
+        (subst (λ (u : UseState). Pair (phase_after r.code phase rec) (phase_before r other p) u (h.state other (suc p))) (sym state)
+        (subst (λ (v : UseState). Pair (phase_after r.code phase rec) (phase_before r other p) use_next v) (sym other_state) plain_pair)))
 
     next_side : Beside r h (suc p) core other memory (memory_after opening (entries_before r (suc p))) (state_now r.code m s) t
     next_side = record {
@@ -148,7 +150,7 @@ module _ (r : Course) (h : History) (bytes : AreBytes r.code) {d : Discipline} (
     }
 
   -- ---- a judged turn
-  module _ (j : is_judged mode rec.kind ≡ true) where
+  module _ (j : is_judged phase rec.kind ≡ true) where
     judged : IsJudgedTurn r p core rec
     judged = record { turn = turn; judged = j }
 
@@ -156,7 +158,7 @@ module _ (r : Course) (h : History) (bytes : AreBytes r.code) {d : Discipline} (
     fits = turned.0.fits j
 
     judged_state : use_next ≡ (use_at r h p core rec).after
-    judged_state = cond-true (is_judged mode rec.kind) (use_at r h p core rec).after us j
+    judged_state = cond-true (is_judged phase rec.kind) (use_at r h p core rec).after us j
 
     abbrev then_lost : Bool
     then_lost = not (writes_at r h p core rec || (not lost && not (falls_at r h core p rec judged)))
@@ -164,11 +166,11 @@ module _ (r : Course) (h : History) (bytes : AreBytes r.code) {d : Discipline} (
     framed_is : memory_after opening (entries_before r (suc p)) ≡ memory_after_step framed rec.access
     framed_is = ap (memory_after opening) (own_entries r p core rec turn j) ∙ entries_past opening (entries_before r p) core rec.access rec.reply
 
-    judged_fresh : mode_after r.code mode rec ≡ Plain → fresh ≡ not then_lost
+    judged_fresh : phase_after r.code phase rec ≡ Outside → fresh ≡ not then_lost
     judged_fresh plain =
-        let next : InCoreUse r.code (mode_after r.code mode rec) memory (r.bounds core) fresh (state_now r.code m s) (use_at r h p core rec).after =
-        subst (λ (u : UseState). InCoreUse r.code (mode_after r.code mode rec) memory (r.bounds core) fresh (state_now r.code m s) u) judged_state turned.1.first in
-        fresh_is r.code m (r.bounds core) s before.both.shaped_first us mode lost fresh (use_at r h p core rec) before.both.first j fits.kind next plain
+        let next : InCoreUse r.code (phase_after r.code phase rec) memory (r.bounds core) fresh (state_now r.code m s) (use_at r h p core rec).after =
+        subst (λ (u : UseState). InCoreUse r.code (phase_after r.code phase rec) memory (r.bounds core) fresh (state_now r.code m s) u) judged_state turned.1.first in
+        fresh_is r.code m (r.bounds core) s before.both.shaped_first us phase lost fresh (use_at r h p core rec) before.both.first j fits.kind next plain
         ∙ sym (twice (writes_at r h p core rec || (not lost && not (falls_at r h core p rec judged))))
       where
         twice : (b : Bool) → not (not b) ≡ b
@@ -193,7 +195,7 @@ module _ (r : Course) (h : History) (bytes : AreBytes r.code) {d : Discipline} (
         let replies : ReplyFits (reply_mask (h.mask p) rec.access) framed rec.access (reply_at m rec.access) = reply_known (h.mask p) m framed before.both.real before.frames known rec.access served in
         let reply : reply_at m rec.access ≡ rec.reply = ap (reply_at m) (record_access r.code s (reply_now r.code m s)) ∙ sym (record_reply r.code m s) in
         record {
-          place = place_is r.code m (r.bounds core) s before.both.shaped_first us mode (not lost) before.both.first j;
+          place = place_is r.code m (r.bounds core) s before.both.shaped_first us phase (not lost) before.both.first j;
           kind = fits.kind;
           write = fits.write;
           access = fits.access;
@@ -203,11 +205,11 @@ module _ (r : Course) (h : History) (bytes : AreBytes r.code) {d : Discipline} (
         }
 
   -- ---- a handler step
-  module _ (j : is_judged mode rec.kind ≡ false) where
+  module _ (j : is_judged phase rec.kind ≡ false) where
     idle : (c : ℕ) (q : StepRecord) → IsJudgedTurn r p c q → ⊥
     idle c q at =
         let one = same_turn r p core rec turn c q at.turn in
-        both_ways (is_judged mode rec.kind) j (subst (λ (x : Turn). is_judged (mode_before r x.core p) x.rec.kind ≡ true) (sym one) at.judged)
+        both_ways (is_judged phase rec.kind) j (subst (λ (x : Turn). is_judged (phase_before r x.core p) x.rec.kind ≡ true) (sym one) at.judged)
 
     framed_stays : memory_after opening (entries_before r (suc p)) ≡ framed
     framed_stays = ap (memory_after opening) (kept_entries r p core rec turn j)
@@ -219,8 +221,8 @@ module _ (r : Course) (h : History) (bytes : AreBytes r.code) {d : Discipline} (
 
     idle_side : Beside r h (suc p) core other memory (memory_after opening (entries_before r (suc p))) (state_now r.code m s) t
     idle_side =
-        next_side true (lost_idle r h core p rec turn j) (idle_fresh r.code rec mode (not lost) (fresh_turn (not lost) r.code (reply_now r.code m s) s) j) (history.stays p core (idle core) ∙ sym (cond-false (is_judged mode rec.kind) (use_at r h p core rec).after us j)) idle_memories
+        next_side true (lost_idle r h core p rec turn j) (idle_fresh r.code rec phase (not lost) (fresh_turn (not lost) r.code (reply_now r.code m s) s) j) (history.stays p core (idle core) ∙ sym (cond-false (is_judged phase rec.kind) (use_at r h p core rec).after us j)) idle_memories
         (subst IsMemory (sym framed_stays) before.frames)
 
   pub side_turn : Beside r h (suc p) core other memory (memory_after opening (entries_before r (suc p))) (state_now r.code m s) t
-  side_turn = ⊎_elim judged_side idle_side (cases_Bool (is_judged mode rec.kind))
+  side_turn = ⊎_elim judged_side idle_side (cases_Bool (is_judged phase rec.kind))

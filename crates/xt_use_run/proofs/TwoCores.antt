@@ -8,7 +8,8 @@ use Rattle.xt_exec.specs.State.{State}
 use Rattle.xt_exec.specs.TurnLaws.{IsServed, IsShaped}
 use Rattle.xt_exec.specs.Turn.{demand}
 use Rattle.xt_exec.proofs.Served.{demand_served}
-use Rattle.xt_frames.specs.HandlerSteps.{Mode, mode_after}
+use Rattle.xt_frames.specs.declared.kinds.HandlerPhase.{HandlerPhase}
+use Rattle.xt_frames.specs.HandlerSteps.{phase_after}
 use Rattle.xt_frames.specs.SaveAreas.{is_live}
 use Rattle.xt_frames.specs.Breaches.{Bounds}
 use Rattle.xt_frames.specs.FirstBreach.{is_judged}
@@ -28,7 +29,7 @@ use Rattle.xt_use_run.proofs.MaskStep.{reply_small, step_small}
 use Rattle.xt_use_run.proofs.MaskWords.{MaskWords, now_small}
 use Rattle.xt_use_run.proofs.OneTurn.{InCoreUse, use_spared, uses_apart}
 
-pub record TwoUse (code : ℕ → ℕ) (one other : Mode) (m : MemoryContents) (b c : Bounds) (fresh later : Bool) (s t : State) (us vs : UseState) : Type 0 where
+pub record TwoUse (code : ℕ → ℕ) (one other : HandlerPhase) (m : MemoryContents) (b c : Bounds) (fresh later : Bool) (s t : State) (us vs : UseState) : Type 0 where
   pub first : InCoreUse code one m b fresh s us
   pub second : InCoreUse code other m c later t vs
   pub shaped_first : IsShaped s
@@ -37,7 +38,7 @@ pub record TwoUse (code : ℕ → ℕ) (one other : Mode) (m : MemoryContents) (
   pub words_first : MaskWords us.masks
   pub words_second : MaskWords vs.masks
 
-pub turned_round : {code : ℕ → ℕ} {one other : Mode} {m : MemoryContents} {b c : Bounds} {fresh later : Bool} {s t : State} {us vs : UseState} → TwoUse code one other m b c fresh later s t us vs → TwoUse code other one m c b later fresh t s vs us
+pub turned_round : {code : ℕ → ℕ} {one other : HandlerPhase} {m : MemoryContents} {b c : Bounds} {fresh later : Bool} {s t : State} {us vs : UseState} → TwoUse code one other m b c fresh later s t us vs → TwoUse code other one m c b later fresh t s vs us
 turned_round h = record {
   first = h.second;
   second = h.first;
@@ -53,11 +54,11 @@ access_small code m s kb =
     reply_small kb (record_now code m s).access
     (λ a e. let asked : demand code s ≡ Some a = sym (record_access code s (reply_now code m s)) ∙ e in subst (λ (o : Option Access). IsServed o) asked (demand_served code s))
 
-pub two_turn : (rows : RowsAgree) (code : ℕ → ℕ) (bytes : AreBytes code) (b c : Bounds) (good : IsGood code b) → IsGood code c → Apart b.range c.range → (one other : Mode) (m : MemoryContents) (lost later : Bool) (s t : State) (us vs : UseState)
+pub two_turn : (rows : RowsAgree) (code : ℕ → ℕ) (bytes : AreBytes code) (b c : Bounds) (good : IsGood code b) → IsGood code c → Apart b.range c.range → (one other : HandlerPhase) (m : MemoryContents) (lost later : Bool) (s t : State) (us vs : UseState)
     → (live : ℕ → Bool) (own : (a : ℕ) → is_live b.range us.frame a ≡ true → live a ≡ true) → ((a : ℕ) → is_live c.range vs.frame a ≡ true → live a ≡ true) → (kb : ℕ → ℕ)
     → (h : TwoUse code one other m b c (not lost) later s t us vs) → record_use code b one us lost live kb (record_now code m s) ≡ None
     → CoreNext rows code bytes b good m h.real s h.shaped_first us (now_small us h.words_first) live own kb one (not lost)
-    × TwoUse code (mode_after code one (record_now code m s)) other (memory_now code m s) b c (fresh_next one (not lost) (fresh_turn (not lost) code (reply_now code m s) s)) later (state_now code m s) t
+    × TwoUse code (phase_after code one (record_now code m s)) other (memory_now code m s) b c (fresh_next one (not lost) (fresh_turn (not lost) code (reply_now code m s) s)) later (state_now code m s) t
     (cond (is_judged one (record_now code m s).kind) (use_step code (is_nested one) (record_now code m s) kb us).after us) vs
 two_turn rows code bytes b c good good2 apart one other m lost later s t us vs live own theirs kb h none =
     let n = core_turn rows code bytes b good m h.real s h.shaped_first us (now_small us h.words_first) live own kb one lost h.first none in (

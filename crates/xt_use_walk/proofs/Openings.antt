@@ -8,7 +8,7 @@ use Rattle.xt_trace.specs.declared.options.Options.{Options}
 use Rattle.xt_trace.specs.declared.options.Stack.{Stack}
 use Rattle.xt_trace.specs.Validity.{IsValid, IsValidStack}
 use Rattle.xt_frames.specs.Walked.{opening_walked, stack_of}
-use Rattle.xt_discipline.specs.declared.side.Mode.TheVariants as mode
+use Rattle.xt_frames.specs.declared.kinds.HandlerPhase.TheVariants.{Outside}
 use Rattle.xt_discipline.specs.ByteMarks.{IsEnd, first}
 use Rattle.xt_discipline.proofs.Opens.{live_opened, stack_valid}
 use Rattle.xt_frames.specs.Frames.{opening_seen}
@@ -23,7 +23,7 @@ use Rattle.xt_use_walk.specs.Sides.{live_in}
 use Rattle.xt_use_walk.specs.Walks.{AreOpened, IsKnown, IsOpened, below_opening}
 
 abbrev pub side_at : ℕ → ℕ → UseWalked → Side
-side_at core hi uses = record { core = core; hi = hi; uses = uses; mode = mode.Plain; steps = 0; carried = 0 }
+side_at core hi uses = record { core = core; hi = hi; uses = uses; phase = Outside; steps = 0; carried = 0 }
 
 nothing_less : (n : ℕ) → 0 ≤ n
 nothing_less n = omega arith

@@ -8,12 +8,11 @@ use Rattle.xt_frames.specs.declared.kinds.BreachKind.{BreachKind}
 use Rattle.xt_frames.specs.Breaches.{Bounds}
 use Rattle.xt_frames.specs.Frames.{FrameState}
 use Rattle.xt_frames.specs.SaveAreas.{is_live}
-use Rattle.xt_frames.specs.HandlerSteps.{Mode, Handles, is_window, mode_after}
+use Rattle.xt_frames.specs.declared.kinds.HandlerPhase.{HandlerPhase}
+use Rattle.xt_frames.specs.declared.kinds.HandlerPhase.TheVariants.{Outside, InHandler, Nested}
+use Rattle.xt_frames.specs.HandlerSteps.{is_window, phase_after}
 use Rattle.xt_frames.specs.Nesting.{is_nesting}
-use Rattle.xt_discipline.specs.declared.side.Mode as declared
-use Rattle.xt_discipline.specs.declared.side.Mode.TheVariants as mode
 use Rattle.xt_discipline.specs.ByteMarks.{Agrees, either, held_at}
-use Rattle.xt_discipline.specs.Sides.{mode_of}
 use Rattle.xt_discipline.proofs.Seeing.{at_last, breach_is, late, le_more, le_same, next_is}
 use Rattle.xt_uses.specs.declared.testing.Touched.{Touched}
 use Rattle.xt_uses.specs.declared.told.Used.{Used}
@@ -33,16 +32,16 @@ use Rattle.xt_use_walk.specs.Sides.{BeginsUse, IsFollowed, IsUsePast, IsUseSeen,
 use Rattle.xt_use_walk.proofs.Following.{knows_same, saves_told}
 use Rattle.xt_use_walk.proofs.Served.{reply_same, swaps_same}
 
-abbrev standing : UseState → Bool → Mode → ℕ → ℕ → UseStanding
-standing state fresh mode steps carried = record { state = state; fresh = fresh; mode = mode; steps = steps; carried = carried }
+abbrev standing : UseState → Bool → HandlerPhase → ℕ → ℕ → UseStanding
+standing state fresh phase steps carried = record { state = state; fresh = fresh; phase = phase; steps = steps; carried = carried }
 
 counted_more : (a b n : ℕ) → a ≤ b → n ≤ 1 → a + n ≤ b + 1
 counted_more a b n h k = omega arith
 
 -- ---- handler steps
--- a core past one, in this mode
-handled : (old : Side) (bytes : Bytes) (others : ℕ → Bool) (masks : ℕ → ℕ) (next : declared.Mode) (m : Mode) → mode_of next ≡ m → IsUseSide old → KnowsBytes old.core bytes (live_in old.uses) others masks
-    → IsUsePast old (record old { mode = next; steps = old.steps + 1 }) bytes others masks (standing old.uses.state false m (suc old.steps) old.carried)
+-- a core past one, in this phase
+handled : (old : Side) (bytes : Bytes) (others : ℕ → Bool) (masks : ℕ → ℕ) (next : HandlerPhase) (m : HandlerPhase) → next ≡ m → IsUseSide old → KnowsBytes old.core bytes (live_in old.uses) others masks
+    → IsUsePast old (record old { phase = next; steps = old.steps + 1 }) bytes others masks (standing old.uses.state false m (suc old.steps) old.carried)
 handled old bytes others masks next m n k known =
     let past = k.past in
     record {
@@ -51,39 +50,39 @@ handled old bytes others masks next m n k known =
       bounds_are = refl;
       steps_are = next_is old.steps;
       standing_is =
-          ap (λ (b : Bool). standing old.uses.state b (mode_of next) (old.steps + 1) old.carried) (late old.uses.fresh old.uses.next old.steps past)
-          ∙ (ap (λ (x : Mode). standing old.uses.state false x (old.steps + 1) old.carried) n ∙ ap (λ (s : ℕ). standing old.uses.state false m s old.carried) (next_is old.steps));
+          ap (λ (b : Bool). standing old.uses.state b next (old.steps + 1) old.carried) (late old.uses.fresh old.uses.next old.steps past)
+          ∙ (ap (λ (x : HandlerPhase). standing old.uses.state false x (old.steps + 1) old.carried) n ∙ ap (λ (s : ℕ). standing old.uses.state false m s old.carried) (next_is old.steps));
       bytes_are = known;
     }
 
-pub handled_seen : (old new : Side) (bytes : Bytes) (others : ℕ → Bool) (masks : ℕ → ℕ) (code : ℕ → ℕ) (rec : StepRecord) (u : Unit) (next : declared.Mode) → old.mode ≡ mode.Handles → is_nesting rec.kind ≡ false
-    → mode_of next ≡ mode_after code (mode_of old.mode) rec → IsUseSide old → new ≡ record old { mode = next; steps = old.steps + 1 } → KnowsBytes old.core bytes (live_in old.uses) others masks
+pub handled_seen : (old new : Side) (bytes : Bytes) (others : ℕ → Bool) (masks : ℕ → ℕ) (code : ℕ → ℕ) (rec : StepRecord) (u : Unit) (next : HandlerPhase) → old.phase ≡ InHandler → is_nesting rec.kind ≡ false
+    → next ≡ phase_after code old.phase rec → IsUseSide old → new ≡ record old { phase = next; steps = old.steps + 1 } → KnowsBytes old.core bytes (live_in old.uses) others masks
     → IsUseSeen old new bytes others masks (use_seen code old.uses.bounds (standing_of old) others masks rec) (Ok u)
 handled_seen old new bytes others masks code rec u next h q n k e known =
     let st = handled_past code (standing_of old) rec in
     let z : use_seen code old.uses.bounds (standing_of old) others masks rec ≡ UseHandled st =
-    ap (λ (m : declared.Mode). use_seen_in (mode_of m) code old.uses.bounds (standing_of old) others masks rec) h ∙ cond-false (is_nesting rec.kind) _ _ q in
+    ap (λ (m : HandlerPhase). use_seen_in m code old.uses.bounds (standing_of old) others masks rec) h ∙ cond-false (is_nesting rec.kind) _ _ q in
     let P : Side → Type 0 = λ s. IsUsePast old s bytes others masks st in
-    let there : P (record old { mode = next; steps = old.steps + 1 }) = handled old bytes others masks next (mode_after code (mode_of old.mode) rec) n k known in
+    let there : P (record old { phase = next; steps = old.steps + 1 }) = handled old bytes others masks next (phase_after code old.phase rec) n k known in
     subst (λ (s : UseSeen). IsUseSeen old new bytes others masks s (Ok u)) (sym z) (subst P (sym e) there)
 
--- ---- records in the plain mode
-plain_seen : (old : Side) (others : ℕ → Bool) (masks : ℕ → ℕ) (code : ℕ → ℕ) (rec : StepRecord) → old.mode ≡ mode.Plain → is_window rec.kind ≡ true
+-- ---- records outside handler steps
+plain_seen : (old : Side) (others : ℕ → Bool) (masks : ℕ → ℕ) (code : ℕ → ℕ) (rec : StepRecord) → old.phase ≡ Outside → is_window rec.kind ≡ true
     → use_seen code old.uses.bounds (standing_of old) others masks rec ≡ use_seen_window (window_use code rec old.uses.state) code (standing_of old) rec
 plain_seen old others masks code rec h w =
-    ap (λ (m : declared.Mode). use_seen_in (mode_of m) code old.uses.bounds (standing_of old) others masks rec) h ∙ cond-true (is_window rec.kind) _ _ w
+    ap (λ (m : HandlerPhase). use_seen_in m code old.uses.bounds (standing_of old) others masks rec) h ∙ cond-true (is_window rec.kind) _ _ w
 
-plain_handles : (code : ℕ → ℕ) (old : declared.Mode) (rec : StepRecord) → old ≡ mode.Plain → is_window rec.kind ≡ true → mode_after code (mode_of old) rec ≡ Handles
-plain_handles code old rec h w = ap (λ (m : declared.Mode). mode_after code (mode_of m) rec) h ∙ cond-true (is_window rec.kind) _ _ w
+plain_handles : (code : ℕ → ℕ) (old : HandlerPhase) (rec : StepRecord) → old ≡ Outside → is_window rec.kind ≡ true → phase_after code old rec ≡ InHandler
+plain_handles code old rec h w = ap (λ (m : HandlerPhase). phase_after code m rec) h ∙ cond-true (is_window rec.kind) _ _ w
 
-pub begin_seen : (old new : Side) (bytes : Bytes) (others : ℕ → Bool) (masks : ℕ → ℕ) (code : ℕ → ℕ) (rec : StepRecord) (r : Result Unit JudgeError) → old.mode ≡ mode.Plain → is_window rec.kind ≡ true → IsUseSide old
+pub begin_seen : (old new : Side) (bytes : Bytes) (others : ℕ → Bool) (masks : ℕ → ℕ) (code : ℕ → ℕ) (rec : StepRecord) (r : Result Unit JudgeError) → old.phase ≡ Outside → is_window rec.kind ≡ true → IsUseSide old
     → BeginsUse (window_use code rec old.uses.state) old r new → KnowsBytes old.core bytes (live_in old.uses) others masks
     → IsUseSeen old new bytes others masks (use_seen code old.uses.bounds (standing_of old) others masks rec) r
 begin_seen old new bytes others masks code rec (Ok u) h w k begins known =
     let st = handled_past code (standing_of old) rec in
     let z = plain_seen old others masks code rec h w ∙ ap (λ (o : Option BreachKind). use_seen_window o code (standing_of old) rec) begins.0 in
     let P : Side → Type 0 = λ s. IsUsePast old s bytes others masks st in
-    let there : P (record old { mode = mode.Handles; steps = old.steps + 1 }) = handled old bytes others masks mode.Handles (mode_after code (mode_of old.mode) rec) (sym (plain_handles code old.mode rec h w)) k known in
+    let there : P (record old { phase = InHandler; steps = old.steps + 1 }) = handled old bytes others masks InHandler (phase_after code old.phase rec) (sym (plain_handles code old.phase rec h w)) k known in
     subst (λ (s : UseSeen). IsUseSeen old new bytes others masks s (Ok u)) (sym z) (subst P (sym begins.1) there)
 begin_seen old new bytes others masks code rec (Err (Breaks b)) h w k begins known =
     let z = plain_seen old others masks code rec h w ∙ ap (λ (o : Option BreachKind). use_seen_window o code (standing_of old) rec) begins.0 in
@@ -92,19 +91,19 @@ begin_seen old new bytes others masks code rec (Err (Breaks b)) h w k begins kno
 begin_seen old new bytes others masks code rec (Err (NoMemory e)) h w k begins known = tt
 
 -- ---- judged records
-pub plain_judged : (old : Side) (others : ℕ → Bool) (masks : ℕ → ℕ) (code : ℕ → ℕ) (rec : StepRecord) → old.mode ≡ mode.Plain → is_window rec.kind ≡ false
+pub plain_judged : (old : Side) (others : ℕ → Bool) (masks : ℕ → ℕ) (code : ℕ → ℕ) (rec : StepRecord) → old.phase ≡ Outside → is_window rec.kind ≡ false
     → use_seen code old.uses.bounds (standing_of old) others masks rec ≡ use_seen_judged code old.uses.bounds (standing_of old) others masks false rec
 plain_judged old others masks code rec h w =
-    ap (λ (m : declared.Mode). use_seen_in (mode_of m) code old.uses.bounds (standing_of old) others masks rec) h ∙ cond-false (is_window rec.kind) _ _ w
+    ap (λ (m : HandlerPhase). use_seen_in m code old.uses.bounds (standing_of old) others masks rec) h ∙ cond-false (is_window rec.kind) _ _ w
 
-pub nesting_judged : (old : Side) (others : ℕ → Bool) (masks : ℕ → ℕ) (code : ℕ → ℕ) (rec : StepRecord) → old.mode ≡ mode.Handles → is_nesting rec.kind ≡ true
+pub nesting_judged : (old : Side) (others : ℕ → Bool) (masks : ℕ → ℕ) (code : ℕ → ℕ) (rec : StepRecord) → old.phase ≡ InHandler → is_nesting rec.kind ≡ true
     → use_seen code old.uses.bounds (standing_of old) others masks rec ≡ use_seen_judged code old.uses.bounds (standing_of old) others masks true rec
 nesting_judged old others masks code rec h w =
-    ap (λ (m : declared.Mode). use_seen_in (mode_of m) code old.uses.bounds (standing_of old) others masks rec) h ∙ cond-true (is_nesting rec.kind) _ _ w
+    ap (λ (m : HandlerPhase). use_seen_in m code old.uses.bounds (standing_of old) others masks rec) h ∙ cond-true (is_nesting rec.kind) _ _ w
 
-pub nested_judged : (old : Side) (others : ℕ → Bool) (masks : ℕ → ℕ) (code : ℕ → ℕ) (rec : StepRecord) → old.mode ≡ mode.Nests
+pub nested_judged : (old : Side) (others : ℕ → Bool) (masks : ℕ → ℕ) (code : ℕ → ℕ) (rec : StepRecord) → old.phase ≡ Nested
     → use_seen code old.uses.bounds (standing_of old) others masks rec ≡ use_seen_judged code old.uses.bounds (standing_of old) others masks true rec
-nested_judged old others masks code rec h = ap (λ (m : declared.Mode). use_seen_in (mode_of m) code old.uses.bounds (standing_of old) others masks rec) h
+nested_judged old others masks code rec h = ap (λ (m : HandlerPhase). use_seen_in m code old.uses.bounds (standing_of old) others masks rec) h
 
 pub step_seen : (old new : Side) (bytes : Bytes) (others : ℕ → Bool) (masks : ℕ → ℕ) (s t : UseSeen) (r : Result Unit JudgeError) → s ≡ t → IsUseSeen old new bytes others masks t r → IsUseSeen old new bytes others masks s r
 step_seen old new bytes others masks s t r same judged = subst (λ (x : UseSeen). IsUseSeen old new bytes others masks x r) (sym same) judged
@@ -133,18 +132,18 @@ pub moves_where : (g f : FrameState) (r : Result Used JudgeError) (used : Used) 
 moves_where g f r used e m = subst (λ (x : Result Used JudgeError). OnOk x (UseMoves g f)) e m
 
 -- the core past a judged step
-pub side_past : (s : Side) (uses : UseWalked) (code : ℕ → ℕ) (nested : Bool) (rec : StepRecord) (bytes : ℕ → ℕ) (next : declared.Mode) (n : ℕ) → IsUseSide s → uses ≡ use_past s.uses code s.steps nested rec bytes → n ≤ 1
-    → IsUseSide (record s { uses = uses; mode = next; steps = s.steps + 1; carried = s.carried + n })
+pub side_past : (s : Side) (uses : UseWalked) (code : ℕ → ℕ) (nested : Bool) (rec : StepRecord) (bytes : ℕ → ℕ) (next : HandlerPhase) (n : ℕ) → IsUseSide s → uses ≡ use_past s.uses code s.steps nested rec bytes → n ≤ 1
+    → IsUseSide (record s { uses = uses; phase = next; steps = s.steps + 1; carried = s.carried + n })
 side_past s uses code nested rec bytes next n k is few =
-    let P : UseWalked → Type 0 = λ w. IsUseSide (record s { uses = w; mode = next; steps = s.steps + 1; carried = s.carried + n }) in
+    let P : UseWalked → Type 0 = λ w. IsUseSide (record s { uses = w; phase = next; steps = s.steps + 1; carried = s.carried + n }) in
     let there : P (use_past s.uses code s.steps nested rec bytes) = record { core_is = k.core_is; end_is = k.end_is; low = k.low; high = k.high; past = le_same (s.steps + 1); counted = counted_more s.carried s.steps n k.counted few } in
     subst P (sym is) there
 
 -- also where no more is known of the bytes that a record touches than that there are some such bytes
-pub side_goes : (s : Side) (uses : UseWalked) (code : ℕ → ℕ) (nested : Bool) (rec : StepRecord) (next : declared.Mode) (n : ℕ) (t : Touched) (r : Result Used JudgeError) (used : Used) → IsUseSide s → r ≡ Ok used → n ≤ 1
+pub side_goes : (s : Side) (uses : UseWalked) (code : ℕ → ℕ) (nested : Bool) (rec : StepRecord) (next : HandlerPhase) (n : ℕ) (t : Touched) (r : Result Used JudgeError) (used : Used) → IsUseSide s → r ≡ Ok used → n ≤ 1
     → ((live : ℕ → Bool) × (bytes : ℕ → ℕ) × IsTouched t rec live bytes)
     → ((live : ℕ → Bool) (bytes : ℕ → ℕ) → IsTouched t rec live bytes → IsUseJudged (use_breach s.uses.bounds (fresh_at s.uses s.steps) code live bytes nested rec s.uses.state) s.uses code s.steps nested rec bytes r uses)
-    → IsUseSide (record s { uses = uses; mode = next; steps = s.steps + 1; carried = s.carried + n }) × (uses.bounds ≡ s.uses.bounds)
+    → IsUseSide (record s { uses = uses; phase = next; steps = s.steps + 1; carried = s.carried + n }) × (uses.bounds ≡ s.uses.bounds)
 side_goes s uses code nested rec next n t r used k is few seen judged =
     let found = use_breach s.uses.bounds (fresh_at s.uses s.steps) code seen.0 seen.1 nested rec s.uses.state in
     let past = past_where found s.uses uses code s.steps nested rec seen.1 r used is (judged seen.0 seen.1 seen.2) in
@@ -168,10 +167,10 @@ pub forgotten_by : (s u : UseState) (sp a : ℕ) → sp ≡ stack_pointer s → 
 forgotten_by s u sp a e d = λ i. is_strict (d i) && rises_over (e i) (stack_pointer u) a
 
 -- a judged step that shows no breach
-pub judged_past : (old new : Side) (uses : UseWalked) (bytes : Bytes) (others : ℕ → Bool) (masks : ℕ → ℕ) (code : ℕ → ℕ) (rec : StepRecord) (found : Option BreachKind) (u : Unit) (nested : Bool) (next : declared.Mode) (stored n : ℕ)
-    → mode_of next ≡ mode_after code (mode_of old.mode) rec → IsUseSide old → found ≡ None → uses ≡ use_past old.uses code old.steps nested rec masks
+pub judged_past : (old new : Side) (uses : UseWalked) (bytes : Bytes) (others : ℕ → Bool) (masks : ℕ → ℕ) (code : ℕ → ℕ) (rec : StepRecord) (found : Option BreachKind) (u : Unit) (nested : Bool) (next : HandlerPhase) (stored n : ℕ)
+    → next ≡ phase_after code old.phase rec → IsUseSide old → found ≡ None → uses ≡ use_past old.uses code old.steps nested rec masks
     → stored ≡ (use_step code nested rec masks old.uses.state).stored → n ≡ count_of (carries code rec old.uses.state (use_step code nested rec masks old.uses.state)) → n ≤ 1
-    → new ≡ record old { uses = uses; mode = next; steps = old.steps + 1; carried = old.carried + n }
+    → new ≡ record old { uses = uses; phase = next; steps = old.steps + 1; carried = old.carried + n }
     → (sp : ℕ) → sp ≡ stack_pointer old.uses.state → KnowsBytes old.core bytes (is_live old.uses.bounds.range uses.state.frame) others
     (without (forgets_byte uses.state sp) (without (λ a. is_live old.uses.bounds.range uses.state.frame a || others a) (without (λ a. live_in old.uses a || others a) (mask_stored stored rec.access masks))))
     → IsUseSeen old new bytes others masks (use_seen_step found code old.uses.bounds (standing_of old) others masks nested rec) (Ok u)
@@ -180,9 +179,9 @@ judged_past old new uses bytes others masks code rec found u nested next stored 
     let t = use_step code nested rec masks old.uses.state in
     let w = use_past old.uses code old.steps nested rec masks in
     let fresh = fresh_use (fresh_at old.uses old.steps) code nested rec masks old.uses.state in
-    let m = mode_after code (mode_of old.mode) rec in
+    let m = phase_after code old.phase rec in
     let st = standing t.after fresh m (suc old.steps) (old.carried + count_of (carries code rec old.uses.state t)) in
-    let at : UseWalked → ℕ → Side = λ x i. record old { uses = x; mode = next; steps = old.steps + 1; carried = old.carried + i } in
+    let at : UseWalked → ℕ → Side = λ x i. record old { uses = x; phase = next; steps = old.steps + 1; carried = old.carried + i } in
     let after : (ℕ → ℕ) = masks_after (live_with old.uses.bounds t.after.frame others) (lost_with old.uses.bounds old.uses.state t.after others) t.stored rec.access masks in
     let K : UseWalked → ℕ → Type 0 = λ x s. KnowsBytes old.core bytes (is_live r x.state.frame) others (without (forgets_byte x.state sp) (without (λ a. is_live r x.state.frame a || others a) (without (λ a. live_in old.uses a || others a) (mask_stored s rec.access masks)))) in
     let moved : K w t.stored = subst (λ (s : ℕ). K w s) stores (subst (λ (x : UseWalked). K x stored) is known) in
@@ -193,8 +192,8 @@ judged_past old new uses bytes others masks code rec found u nested next stored 
       bounds_are = refl;
       steps_are = next_is old.steps;
       standing_is =
-          ap (λ (b : Bool). standing t.after b (mode_of next) (old.steps + 1) (old.carried + n)) (at_last fresh (old.steps + 1))
-          ∙ (ap (λ (x : Mode). standing t.after fresh x (old.steps + 1) (old.carried + n)) h
+          ap (λ (b : Bool). standing t.after b next (old.steps + 1) (old.carried + n)) (at_last fresh (old.steps + 1))
+          ∙ (ap (λ (x : HandlerPhase). standing t.after fresh x (old.steps + 1) (old.carried + n)) h
           ∙ (ap (λ (s : ℕ). standing t.after fresh m s (old.carried + n)) (next_is old.steps) ∙ ap (λ (i : ℕ). standing t.after fresh m (suc old.steps) (old.carried + i)) counts));
       bytes_are =
           knows_same old.core bytes (is_live r t.after.frame) others (without (forgets_byte t.after sp) (without (λ a. is_live r t.after.frame a || others a) (without (λ a. live_in old.uses a || others a) (mask_stored t.stored rec.access masks)))) after

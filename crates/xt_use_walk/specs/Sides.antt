@@ -8,9 +8,8 @@ use Rattle.xt_frames.specs.Frames.{FrameState}
 use Rattle.xt_frames.specs.SaveAreas.{Range, is_live}
 use Rattle.xt_frames.specs.Stacks.{Stack}
 use Rattle.xt_discipline.specs.declared.side.Areas.{Areas}
-use Rattle.xt_discipline.specs.declared.side.Mode.TheVariants as mode
+use Rattle.xt_frames.specs.declared.kinds.HandlerPhase.TheVariants.{InHandler}
 use Rattle.xt_discipline.specs.ByteMarks.{first}
-use Rattle.xt_discipline.specs.Sides.{mode_of}
 use Rattle.xt_uses.specs.declared.told.JudgeError.{JudgeError}
 use Rattle.xt_uses.specs.declared.told.JudgeError.TheVariants.{Breaks, NoMemory}
 use Rattle.xt_uses.specs.UseParts.{UseWalked, fresh_at}
@@ -60,7 +59,7 @@ abbrev pub standing_of : Side → UseStanding
 standing_of s = record {
   state = s.uses.state;
   fresh = fresh_at s.uses s.steps;
-  mode = mode_of s.mode;
+  phase = s.phase;
   steps = s.steps;
   carried = s.carried;
 }
@@ -95,7 +94,7 @@ IsUseSeen old new bytes others masks (UseJudged st after) (Err (Breaks b)) = ⊥
 -- handler steps begin, where the record that begins them shows no breach
 abbrev pub BeginsUse : Option BreachKind → Side → Result Unit JudgeError → Side → Type 0
 BeginsUse found old (Ok u) new =
-    (found ≡ None) × (new ≡ record old { mode = mode.Handles; steps = old.steps + 1 })
+    (found ≡ None) × (new ≡ record old { phase = InHandler; steps = old.steps + 1 })
 BeginsUse found old (Err (Breaks b)) new =
     (found ≡ Some b.kind) × (b.core ≡ old.uses.core) × (b.step ≡ old.steps) × (new ≡ old)
 BeginsUse found old (Err (NoMemory e)) new = Unit {0}

@@ -6,10 +6,10 @@ ghost use Rattle.xt_map.specs.Memory.{constant_byte};
 ghost use Rattle.xt_map.specs.Regions.{is_mapped, is_size};
 ghost use Rattle.xt_map.specs.Touching.{touches};
 ghost use Rattle.xt_frames.specs.Frames.{FrameState};
-ghost use Rattle.xt_frames.specs.HandlerSteps.{mode_after};
+ghost use Rattle.xt_frames.specs.HandlerSteps.{phase_after};
 ghost use Rattle.xt_discipline.specs.declared.bytes.Change.TheVariants.{Enters, Leaves};
 ghost use Rattle.xt_discipline.specs.ByteMarks.{Agrees, AreChanged, either, is_held};
-ghost use Rattle.xt_discipline.specs.Sides.{IsCallOf, in_areas, mode_of};
+ghost use Rattle.xt_discipline.specs.Sides.{IsCallOf, in_areas};
 ghost use Rattle.xt_uses.specs.Lacks.{lacks_before};
 ghost use Rattle.xt_uses.specs.UseBreaches.{window_use};
 ghost use Rattle.xt_uses.specs.UseParts.{IsTouched, UseMoves};
@@ -20,10 +20,10 @@ ghost use Rattle.xt_use_walk.specs.Sides.{AreaBytes, BeginsUse, IsFollowed, IsUs
 
 use crate::bytes::ByteMasks;
 use xt_discipline::{
-    Areas, Change, Held, Mode, Stacked, areas, change_areas, change_bytes, closes, held_at,
-    is_window, newest, newest_sp, returns, saves,
+    Areas, Change, Held, Stacked, areas, change_areas, change_bytes, closes, held_at, is_window,
+    newest, newest_sp, returns, saves,
 };
-use xt_frames::is_nesting;
+use xt_frames::{HandlerPhase, is_nesting};
 use xt_map::{Access, Constants, Kind, is_in_memory};
 use xt_trace::StepRecord;
 use xt_uses::{ALL_BITS, JudgeError, Lack, Touched, UseCore};
@@ -42,7 +42,7 @@ pub struct Side {
     pub core: u8,
     pub hi: u32,
     pub uses: UseCore,
-    pub mode: Mode,
+    pub phase: HandlerPhase,
     // The number of the next record.
     pub steps: u32,
     // How many judged steps have written a register or stored bytes of which a bit is not known.
@@ -272,7 +272,7 @@ impl Side {
     }
 
     /// Judges a record that is no handler step and touches this: a breach, after which nothing has changed, or the step, whose save areas
-    /// and stores the bytes follow, and then the mode is the next one.
+    /// and stores the bytes follow, and then the phase is the next one.
     #[inline(never)]
     fn judge_whole(
         &mut self,
@@ -280,13 +280,13 @@ impl Side {
         bytes: &mut Bytes,
         rec: &StepRecord,
         nested: bool,
-        next: Mode,
+        next: HandlerPhase,
         touched: &Touched,
     ) -> Result<(), JudgeError>
         requires side { IsUseSide self.old }
         requires room { self.old.steps + 1 < 2 ^ 32 }
         requires served { IfSome rec.now.access (λ a. is_mapped a ≡ true) }
-        requires next { mode_of next ≡ mode_after (constant_byte code.now) (mode_of self.old.mode) rec.now }
+        requires next { next ≡ phase_after (constant_byte code.now) self.old.phase rec.now }
         requires full { AreFull bytes.old }
         requires touched { (live : ℕ → Bool) × (masks : ℕ → ℕ) × IsTouched touched.now rec.now live masks }
         ensures full { AreFull bytes.new }
@@ -299,7 +299,7 @@ impl Side {
         let sp = newest_sp(&*self);
         let call = newest(&*self, self.hi);
         let used = self.uses.judge(code, self.steps, rec, nested, touched)?;
-        self.mode = next;
+        self.phase = next;
         self.steps += 1;
         self.carried += count_of(used.carries);
         bytes.store(rec.access, used.stored);
@@ -309,7 +309,7 @@ impl Side {
     }
 
     /// Judges a record that is no handler step: a breach, after which nothing has changed, or the step, whose save areas and stores the
-    /// bytes follow, and then the mode is the next one. A quick step leaves the frames and the stack pointer as they are, and so the save
+    /// bytes follow, and then the phase is the next one. A quick step leaves the frames and the stack pointer as they are, and so the save
     /// areas.
     fn judge(
         &mut self,
@@ -317,12 +317,12 @@ impl Side {
         bytes: &mut Bytes,
         rec: &StepRecord,
         nested: bool,
-        next: Mode,
+        next: HandlerPhase,
     ) -> Result<(), JudgeError>
         requires side { IsUseSide self.old }
         requires room { self.old.steps + 1 < 2 ^ 32 }
         requires served { IfSome rec.now.access (λ a. is_mapped a ≡ true) }
-        requires next { mode_of next ≡ mode_after (constant_byte code.now) (mode_of self.old.mode) rec.now }
+        requires next { next ≡ phase_after (constant_byte code.now) self.old.phase rec.now }
         requires full { AreFull bytes.old }
         ensures full { AreFull bytes.new }
         ensures seen { (others : ℕ → Bool) (masks : ℕ → ℕ) → KnowsBytes self.old.core bytes.old (live_in self.old.uses) others masks
@@ -331,7 +331,7 @@ impl Side {
     {
         let touched = bytes.touched(rec);
         if self.uses.quick(code, self.steps, rec, nested, &touched) {
-            self.mode = next;
+            self.phase = next;
             self.steps += 1;
             bytes.store(rec.access, ALL_BITS);
             return Ok(());
@@ -348,7 +348,7 @@ impl Side {
         if let Err(breach) = self.uses.test(code, self.steps, rec) {
             return Err(JudgeError::Breaks(breach));
         }
-        self.mode = Mode::Handles;
+        self.phase = HandlerPhase::InHandler;
         self.steps += 1;
         Ok(())
     }
@@ -369,28 +369,28 @@ impl Side {
             → IsUseSeen self.old self.new bytes.new others masks
             (use_seen (constant_byte code.now) self.old.uses.bounds (standing_of self.old) others masks rec.now) result }
     {
-        match self.mode {
-            Mode::Plain => {
+        match self.phase {
+            HandlerPhase::Outside => {
                 if is_window(rec.kind) {
                     return self.begin(code, rec);
                 }
-                self.judge(code, bytes, rec, false, Mode::Plain)
+                self.judge(code, bytes, rec, false, HandlerPhase::Outside)
             }
-            Mode::Handles => {
+            HandlerPhase::InHandler => {
                 if is_nesting(rec.kind) {
-                    return self.judge(code, bytes, rec, true, Mode::Nests);
+                    return self.judge(code, bytes, rec, true, HandlerPhase::Nested);
                 }
                 if closes(code, rec) {
-                    self.mode = Mode::Plain;
+                    self.phase = HandlerPhase::Outside;
                 }
                 self.steps += 1;
                 Ok(())
             }
-            Mode::Nests => {
+            HandlerPhase::Nested => {
                 let next = if returns(code, rec) {
-                    Mode::Handles
+                    HandlerPhase::InHandler
                 } else {
-                    Mode::Nests
+                    HandlerPhase::Nested
                 };
                 self.judge(code, bytes, rec, true, next)
             }

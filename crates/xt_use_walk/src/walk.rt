@@ -7,7 +7,7 @@ ghost use Rattle.xt_trace.specs.declared.options.Options.{Options};
 ghost use Rattle.xt_trace.specs.Validity.{IsValid, IsValidStack};
 ghost use Rattle.xt_frames.specs.Breaches.{Bounds};
 ghost use Rattle.xt_frames.specs.Walked.{stack_of};
-ghost use Rattle.xt_discipline.specs.declared.side.Mode.TheVariants as mode;
+ghost use Rattle.xt_frames.specs.declared.kinds.HandlerPhase.TheVariants.{Outside};
 ghost use Rattle.xt_discipline.specs.Schedules.{HasSchedule, schedule_in};
 ghost use Rattle.xt_uses.specs.UseParts.{opened_use};
 ghost use Rattle.xt_uses.specs.UseWalk.{UseKnown, use_judgement};
@@ -20,8 +20,8 @@ ghost use Rattle.xt_use_walk.specs.Walks.{AreOpened, IsOpened, below_opening, Is
 use crate::bytes::ByteMasks;
 use crate::side::{Bytes, Side};
 use std::alloc::{AllocError, Global};
-use xt_discipline::{Mode, ScheduleIter, opening_marks};
-use xt_frames::Breach;
+use xt_discipline::{ScheduleIter, opening_marks};
+use xt_frames::{Breach, HandlerPhase};
 use xt_map::Constants;
 use xt_trace::{Options, Records, Run, Stack, StepRecord};
 use xt_uses::{Discipline, JudgeError, Lack, UseCore};
@@ -83,13 +83,13 @@ fn side_of(
     requires core { core < 2 }
     requires valid { IsValid options.now }
     requires end { hi ≡ (stack_of core options.now).hi }
-    ensures { IfOk result (λ s. s ≡ record { core = core; hi = hi; uses = opened_use discipline core pc options.now; mode = mode.Plain; steps = 0; carried = 0 }) }
+    ensures { IfOk result (λ s. s ≡ record { core = core; hi = hi; uses = opened_use discipline core pc options.now; phase = Outside; steps = 0; carried = 0 }) }
 {
     Ok(Side {
         core,
         hi,
         uses: UseCore::make(alloc, discipline, core, pc, options)?,
-        mode: Mode::Plain,
+        phase: HandlerPhase::Outside,
         steps: 0,
         carried: 0,
     })

@@ -8,7 +8,7 @@ use Rattle.xt_trace.specs.declared.record.StepRecord.{StepRecord}
 use Rattle.xt_frames.specs.declared.kinds.BreachKind.{BreachKind}
 use Rattle.xt_frames.specs.Frames.{all_set, opening_frame, opening_seen}
 use Rattle.xt_frames.specs.Verdict.{is_nested}
-use Rattle.xt_frames.specs.FirstBreach.{Course, IsJudgedTurn, is_judged, mode_before}
+use Rattle.xt_frames.specs.FirstBreach.{Course, IsJudgedTurn, is_judged, phase_before}
 use Rattle.xt_uses.specs.Words.{all_bits, masked}
 use Rattle.xt_uses.specs.Disciplines.{Discipline}
 use Rattle.xt_uses.specs.UseState.{UseState, whole_masks}
@@ -66,10 +66,10 @@ cut_opens core pc vecbase stack_end small d =
 module _ (r : Course) (h : History) (opens : (core : ℕ) → IsOpening (r.opening core)) (d : Discipline) (is : IsHistory d r h) where
   step_cut : (p core : ℕ) (rec : StepRecord) → IsJudgedTurn r p core rec → Shows r h p core rec None → IsCut (h.state core p).frame (h.state core p).masks → IsCut (h.state core (suc p)).frame (h.state core (suc p)).masks
   step_cut p core rec j shows w =
-      let found : Option BreachKind = use_breach (r.bounds core) (not shows.lost) r.code (live_at r h p) (h.mask p) (is_nested (mode_before r core p)) rec (h.state core p) in
-      let none : found ≡ None = sym (cond-true (is_judged (mode_before r core p) rec.kind) found (handler_use r.code (mode_before r core p) rec (h.state core p)) j.judged) ∙ shows.shown in
+      let found : Option BreachKind = use_breach (r.bounds core) (not shows.lost) r.code (live_at r h p) (h.mask p) (is_nested (phase_before r core p)) rec (h.state core p) in
+      let none : found ≡ None = sym (cond-true (is_judged (phase_before r core p) rec.kind) found (handler_use r.code (phase_before r core p) rec (h.state core p)) j.judged) ∙ shows.shown in
       subst (λ (s : UseState). IsCut s.frame s.masks) (sym (is.steps p core rec j))
-      (cut_kept r.code (r.bounds core) (not shows.lost) (live_at r h p) (is_nested (mode_before r core p)) rec (h.mask p) (h.state core p).masks (h.state core p).frame w none)
+      (cut_kept r.code (r.bounds core) (not shows.lost) (live_at r h p) (is_nested (phase_before r core p)) rec (h.mask p) (h.state core p).masks (h.state core p).frame w none)
 
   pub cut_before : (p : ℕ) → IsUnused r h p → (core : ℕ) → IsCut (h.state core p).frame (h.state core p).masks
   cut_before zero none core =

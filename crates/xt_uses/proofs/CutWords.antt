@@ -47,7 +47,7 @@ use Rattle.xt_frames.specs.Breaches.{inputs_of}
 use Rattle.xt_frames.specs.Judging.{step_on, value_in}
 use Rattle.xt_frames.proofs.StackSteps.{turn_if}
 use Rattle.xt_frames.specs.Verdict.{is_nested}
-use Rattle.xt_frames.specs.FirstBreach.{Course, frame_before, mode_before}
+use Rattle.xt_frames.specs.FirstBreach.{Course, frame_before, phase_before}
 use Rattle.xt_frames.proofs.Prefixes.{own_frame}
 use Rattle.xt_uses.specs.UseLaws.{IsOpening, IsOrdinary}
 use Rattle.xt_uses.proofs.LaterHistories.{judged_or_idle}
@@ -375,7 +375,7 @@ frame_shaped r o core zero = subst (λ f. IsShapedFrame f) (sym (opening_at r co
 frame_shaped r o core (suc p) = ⊎_elim
     (λ j.
     subst (λ f. IsShapedFrame f) (sym (own_frame r p core j.0 j.1.turn j.1.judged))
-    (step_leaves r.code (is_nested (mode_before r core p)) j.0 (frame_before r core p) o.code (inputs_words j.0 (o.inputs p core j.0 j.1.turn)) (frame_shaped r o core p)).0)
+    (step_leaves r.code (is_nested (phase_before r core p)) j.0 (frame_before r core p) o.code (inputs_words j.0 (o.inputs p core j.0 j.1.turn)) (frame_shaped r o core p)).0)
     (λ idle. subst (λ f. IsShapedFrame f) (sym (idle_frame r p core idle)) (frame_shaped r o core p))
     (judged_or_idle r p core)
 

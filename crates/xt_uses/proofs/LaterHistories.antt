@@ -8,7 +8,7 @@ use Rattle.xt_map.specs.Touching.{touches}
 use Rattle.xt_trace.specs.declared.record.StepRecord.{StepRecord}
 use Rattle.xt_frames.specs.SaveAreas.{is_live}
 use Rattle.xt_frames.specs.Verdict.{is_nested}
-use Rattle.xt_frames.specs.FirstBreach.{Course, IsJudgedTurn, Turn, is_judged, mode_before, turn_of}
+use Rattle.xt_frames.specs.FirstBreach.{Course, IsJudgedTurn, Turn, is_judged, phase_before, turn_of}
 use Rattle.xt_frames.proofs.Prefixes.{before_or_at, same_turn}
 use Rattle.xt_uses.specs.UseStep.{UseTurn, use_step}
 use Rattle.xt_uses.specs.FirstUse.{History, HasLeft, IsHistory, IsIdle, IsLive, IsMask, IsStored, Opens, StaysFree, StaysKept, StaysUnstored, StoresByte, gone_at, live_at, lost_at, opening_mask, stored_byte, use_at}
@@ -17,11 +17,11 @@ use Rattle.xt_uses.specs.UseState.{forgets, one_opens_unknown}
 
 -- ---- a turn is a judged step of a core, or none
 module _ (r : Course) (p core : ℕ) where
-  idle_by : (t : Turn) → slice_get r.turns p ≡ Some t → (t.core ≡ core → is_judged (mode_before r core p) t.rec.kind ≡ false) → IsIdle r core p
+  idle_by : (t : Turn) → slice_get r.turns p ≡ Some t → (t.core ≡ core → is_judged (phase_before r core p) t.rec.kind ≡ false) → IsIdle r core p
   idle_by t e apart rec q =
       let same : turn_of core rec ≡ t = same_Some (turn_of core rec) t (sym q.turn ∙ e) in
-      let judged : is_judged (mode_before r core p) t.rec.kind ≡ true = subst (λ (x : Turn). is_judged (mode_before r core p) x.rec.kind ≡ true) same q.judged in
-      both_ways (is_judged (mode_before r core p) t.rec.kind) (apart (sym (ap (λ (x : Turn). x.core) same))) judged
+      let judged : is_judged (phase_before r core p) t.rec.kind ≡ true = subst (λ (x : Turn). is_judged (phase_before r core p) x.rec.kind ≡ true) same q.judged in
+      both_ways (is_judged (phase_before r core p) t.rec.kind) (apart (sym (ap (λ (x : Turn). x.core) same))) judged
 
   pub judged_or_idle : ((rec : StepRecord) × IsJudgedTurn r p core rec) ⊎ IsIdle r core p
   judged_or_idle = by (slice_get r.turns p) refl
@@ -30,7 +30,7 @@ module _ (r : Course) (p core : ℕ) where
       of t e own = ⊎_elim
           (λ j. inl (t.rec, record { turn = e ∙ ap (λ c. Some (turn_of c t.rec)) own; judged = j }))
           (λ n. inr (idle_by t e (λ same. n)))
-          (cases_Bool (is_judged (mode_before r core p) t.rec.kind))
+          (cases_Bool (is_judged (phase_before r core p) t.rec.kind))
 
       by : (o : Option Turn) → slice_get r.turns p ≡ o → ((rec : StepRecord) × IsJudgedTurn r p core rec) ⊎ IsIdle r core p
       by None e = inr (λ rec q. none-some (turn_of core rec) (sym e ∙ q.turn))
@@ -120,7 +120,7 @@ module _ (r : Course) (h k : History) (p : ℕ) (same : Same h k p) where
   same_opening a = λ j. cond (one_opens_unknown (r.bounds 0).range (r.bounds 1).range (same.states 0 0 (omega arith) j) (same.states 0 1 (omega arith) j) a) 0 255
 
   same_use : (i core : ℕ) (rec : StepRecord) → i < p → use_at r h i core rec ≡ use_at r k i core rec
-  same_use i core rec l = λ j. use_step r.code (is_nested (mode_before r core i)) rec (same.masks i l j) (same.states i core (omega (arith, l)) j)
+  same_use i core rec l = λ j. use_step r.code (is_nested (phase_before r core i)) rec (same.masks i l j) (same.states i core (omega (arith, l)) j)
 
   same_free : (from a : ℕ) → StaysFree r h from p a → StaysFree r k from p a
   same_free from a free i l u = sym (same_live i a u) ∙ free i l u
@@ -150,7 +150,7 @@ module _ (r : Course) (h k : History) (p : ℕ) (same : Same h k p) where
     state_judged : (core : ℕ) (rec : StepRecord) → IsJudgedTurn r p core rec → h.state core (suc p) ≡ k.state core (suc p)
     state_judged core rec j =
         x.steps p core rec j
-        ∙ ((λ i. (use_step r.code (is_nested (mode_before r core p)) rec (masks_here i) (same.states p core (omega arith) i)).after)
+        ∙ ((λ i. (use_step r.code (is_nested (phase_before r core p)) rec (masks_here i) (same.states p core (omega arith) i)).after)
         ∙ sym (y.steps p core rec j))
 
     state_next : (core : ℕ) → h.state core (suc p) ≡ k.state core (suc p)

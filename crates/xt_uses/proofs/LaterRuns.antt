@@ -19,7 +19,7 @@ use Rattle.xt_frames.specs.Frames.{FrameState}
 use Rattle.xt_frames.specs.FrameStep.{FrameTurn}
 use Rattle.xt_frames.specs.Nesting.{begins}
 use Rattle.xt_frames.specs.Breaches.{breach_of, inputs_of, loads_stale, touches_save_area}
-use Rattle.xt_frames.specs.FirstBreach.{Course, IsJudgedTurn, Turn, entries_before, entries_in, frame_before, frames_past, handler_shows, is_judged, judged_before, live_before, mode_before, records_before, step_at}
+use Rattle.xt_frames.specs.FirstBreach.{Course, IsJudgedTurn, Turn, entries_before, entries_in, frame_before, frames_past, handler_shows, is_judged, judged_before, live_before, phase_before, records_before, step_at}
 use Rattle.xt_frames.specs.Judging.{place_on, step_on, value_in}
 use Rattle.xt_frames.specs.Verdict.{IsFrameTrace, IsStepOf, entry_of, is_nested}
 use Rattle.xt_frames.proofs.Prefixes.{own_judged}
@@ -56,7 +56,7 @@ module _ (r : Course) (h : History) (opening : MemoryContents) (p q : ℕ) (foun
     behind = agrees_to r h (suc i) ordinary is (λ k c o b t. unbroken k c o (omega (arith, b, l)) t)
 
     abbrev nested : Bool
-    nested = is_nested (mode_before r core i)
+    nested = is_nested (phase_before r core i)
 
     abbrev f : FrameState
     f = frame_before r core i
@@ -85,7 +85,7 @@ module _ (r : Course) (h : History) (opening : MemoryContents) (p q : ℕ) (foun
     none : breach_of (r.bounds core) fresh r.code (live_before r i) stale nested rec f ≡ None
     none =
         let shows = unbroken i core rec l j.turn in
-        sym (cond-true (is_judged (mode_before r core i) rec.kind) (breach_of (r.bounds core) fresh r.code (live_before r i) stale nested rec f) (handler_shows r.code (mode_before r core i) rec f) j.judged) ∙ shows.shown
+        sym (cond-true (is_judged (phase_before r core i) rec.kind) (breach_of (r.bounds core) fresh r.code (live_before r i) stale nested rec f) (handler_shows r.code (phase_before r core i) rec f) j.judged) ∙ shows.shown
 
     told : loads_stale (live_before r i) stale rec.access ≡ false → touches_save_area (live_before r i) rec.access ≡ false → reply_mask (h.mask i) rec.access ≡ all_bits
     told = reply_known (live_before r i) stale (h.mask i) (byte_known r h i ordinary is before stale (unbroken i core rec l j.turn).is_stale) rec.access
@@ -135,12 +135,12 @@ module _ (r : Course) (h : History) (opening : MemoryContents) (p q : ℕ) (foun
   legal_more n l h None e = subst (λ es. IsLegal opening es) (sym (append-nil (entries_before r n))) h
   legal_more n l h (Some t) e = ⊎_elim
       (λ judged.
-      subst (λ es. IsLegal opening (entries_before r n ++ es)) (sym (cond-true (is_judged (mode_before r t.core n) t.rec.kind) (entry_of t.core t.rec.access t.rec.reply) [] judged))
+      subst (λ es. IsLegal opening (entries_before r n ++ es)) (sym (cond-true (is_judged (phase_before r t.core n) t.rec.kind) (entry_of t.core t.rec.access t.rec.reply) [] judged))
       (by t.rec.access refl (record { turn = e; judged = judged })))
       (λ skipped.
-      subst (λ es. IsLegal opening (entries_before r n ++ es)) (sym (cond-false (is_judged (mode_before r t.core n) t.rec.kind) (entry_of t.core t.rec.access t.rec.reply) [] skipped))
+      subst (λ es. IsLegal opening (entries_before r n ++ es)) (sym (cond-false (is_judged (phase_before r t.core n) t.rec.kind) (entry_of t.core t.rec.access t.rec.reply) [] skipped))
       (subst (λ es. IsLegal opening es) (sym (append-nil (entries_before r n))) h))
-      (cases_Bool (is_judged (mode_before r t.core n) t.rec.kind))
+      (cases_Bool (is_judged (phase_before r t.core n) t.rec.kind))
     where
       by : (a : Option Access) → t.rec.access ≡ a → IsJudgedTurn r n t.core t.rec → IsLegal opening (entries_before r n ++ entry_of t.core a t.rec.reply)
       by None at j = subst (λ es. IsLegal opening es) (sym (append-nil (entries_before r n))) h
@@ -167,7 +167,7 @@ module _ (r : Course) (h : History) (opening : MemoryContents) (p q : ℕ) (foun
   trace_to core zero l = none_judged core
   trace_to core (suc n) l = ⊎_elim
       (λ j.
-      let nested : Bool = is_nested (mode_before r core n) in
+      let nested : Bool = is_nested (phase_before r core n) in
       let step : IsStepOf j.0 (place_on nested j.0 (frames_past r.code (r.opening core) (judged_before r core n))) (step_on r.code nested j.0 (frames_past r.code (r.opening core) (judged_before r core n))) =
       subst (λ g. IsStepOf j.0 (place_on nested j.0 g) (step_on r.code nested j.0 g)) (frame_is core n) (step_is n core j.0 (omega (arith, l)) j.1) in
       subst (λ js. IsFrameTrace r.code (r.opening core) js) (sym (own_judged r n core j.0 j.1.turn j.1.judged))

@@ -17,14 +17,15 @@ use Rattle.xt_fetch.specs.Fetching.{Fetched, Fetches, Fails, SpellsNothing, fetc
 use Rattle.xt_rows.specs.Kinds.{is_movsp, is_return}
 use Rattle.xt_rows.specs.Numbers.{natural}
 use Rattle.xt_rows.specs.Operands.{changes_interrupt, reads, special_reads}
-use Rattle.xt_frames.specs.declared.holes.Nested.{Nested}
+use Rattle.xt_frames.specs.declared.holes.Nested as holes
 use Rattle.xt_frames.specs.Frames.{Frame, FrameState}
 use Rattle.xt_frames.specs.FrameStep.{FrameTurn, Inputs, with_inputs, step_with_inputs}
 use Rattle.xt_frames.specs.Marks.{holds_marks, moves_marks}
 use Rattle.xt_frames.specs.Nesting.{begins, current, ends_nested, nested_view}
 use Rattle.xt_frames.specs.SaveAreas.{Range}
 use Rattle.xt_frames.specs.Breaches.{Bounds, Test, breach_of, fetched_return_breach, fetched_tests, first_shown, inputs_of, insn_tests, is_underflow, is_unset, lacks, laid_breach, loads_stale, other_tests, reads_no_mark, reads_none, reads_unset, return_tests, touches_save_area, window_breach}
-use Rattle.xt_frames.specs.HandlerSteps.{Mode, Plain, Handles, Nests}
+use Rattle.xt_frames.specs.declared.kinds.HandlerPhase.{HandlerPhase}
+use Rattle.xt_frames.specs.declared.kinds.HandlerPhase.TheVariants.{Outside, InHandler, Nested}
 use Rattle.xt_frames.specs.Verdict.{is_nested}
 use Rattle.xt_frames.specs.FirstBreach.{handler_shows, is_judged, record_shows}
 use Rattle.xt_frames.proofs.Shown.{NoneShown, none_shown, sound}
@@ -101,7 +102,7 @@ module _ (seen : List (Option ℕ)) (frames : List Frame) (control : Control) (u
       or_from (reads_no_number i (with_inputs inp plain)) _ (no_numbers i (with_inputs inp plain) h) (not_from_true _ (used_true s (with_inputs inp plain) i (operands_seen s (with_inputs inp plain) i w.seen_masks h)))
 
 -- ---- in one
-module _ (seen : List (Option ℕ)) (frames : List Frame) (control : Control) (unset : List Bool) (x : Nested) (m : ValidityBits) (w : Whole seen frames unset (Some x) control.waits m) (inp : Inputs) where
+module _ (seen : List (Option ℕ)) (frames : List Frame) (control : Control) (unset : List Bool) (x : holes.Nested) (m : ValidityBits) (w : Whole seen frames unset (Some x) control.waits m) (inp : Inputs) where
   abbrev within : FrameState
   within = record { seen = seen; frames = frames; control = control; unset = unset; nested = Some x }
 
@@ -219,25 +220,25 @@ module _ (code : ℕ → ℕ) (b : Bounds) (fresh : Bool) (live stale : ℕ → 
     abbrev Knows : FrameState → Type 0
     Knows f = IsWholeState f m → (i : Insn) → reads_none i (found f) ≡ false → uses_unknown i (record { frame = f; masks = m }) (found f) ≡ false
 
-    knows : (f : FrameState) (n : Option Nested) → f.nested ≡ n → Knows f
+    knows : (f : FrameState) (n : Option holes.Nested) → f.nested ≡ n → Knows f
     knows f None e = subst Knows (λ i. record f { nested = sym e i }) (λ w. plain_known f.seen f.frames f.control f.unset m w (inputs_of rec))
     knows f (Some x) e = subst Knows (λ i. record f { nested = sym e i }) (λ w. inner_known f.seen f.frames f.control f.unset x m w (inputs_of rec))
 
     use_quiet : (nested : Bool) (f : FrameState) → IsWholeState f m → breach_of b fresh code live stale nested rec f ≡ None → use_breach b fresh code live bytes nested rec (record { frame = f; masks = m }) ≡ None
     use_quiet nested f w e = either_none (begins nested rec.kind f) None _ _ e (laid_quiet (record { frame = f; masks = m }) (found f) (knows f f.nested refl w))
 
-    handler_quiet : (mode : Mode) (f : FrameState) → IsWholeState f m → handler_shows code mode rec f ≡ None → handler_use code mode rec (record { frame = f; masks = m }) ≡ None
+    handler_quiet : (phase : HandlerPhase) (f : FrameState) → IsWholeState f m → handler_shows code phase rec f ≡ None → handler_use code phase rec (record { frame = f; masks = m }) ≡ None
     unfolding window_use
-    handler_quiet Plain f w e = window_quiet (record { frame = f; masks = m }) (found f) (knows f f.nested refl w) rec.kind e
-    handler_quiet Handles f w e = refl
-    handler_quiet Nests f w e = refl
+    handler_quiet Outside f w e = window_quiet (record { frame = f; masks = m }) (found f) (knows f f.nested refl w) rec.kind e
+    handler_quiet InHandler f w e = refl
+    handler_quiet Nested f w e = refl
 
-pub record_quiet : (code : ℕ → ℕ) (b : Bounds) (lost : Bool) (live stale : ℕ → Bool) (rec : StepRecord) (bytes : ℕ → ℕ) (m : ValidityBits) (mode : Mode) (f : FrameState)
+pub record_quiet : (code : ℕ → ℕ) (b : Bounds) (lost : Bool) (live stale : ℕ → Bool) (rec : StepRecord) (bytes : ℕ → ℕ) (m : ValidityBits) (phase : HandlerPhase) (f : FrameState)
     → (loads_stale live stale rec.access ≡ false → touches_save_area live rec.access ≡ false → swaps_unknown bytes rec.access ≡ false)
-    → IsWholeState f m → record_shows code b mode f lost live stale rec ≡ None → record_use code b mode (record { frame = f; masks = m }) lost live bytes rec ≡ None
-record_quiet code b lost live stale rec bytes m mode f swaps w e = by (is_judged mode rec.kind) e
+    → IsWholeState f m → record_shows code b phase f lost live stale rec ≡ None → record_use code b phase (record { frame = f; masks = m }) lost live bytes rec ≡ None
+record_quiet code b lost live stale rec bytes m phase f swaps w e = by (is_judged phase rec.kind) e
   where
-    by : (j : Bool) → cond j (breach_of b (not lost) code live stale (is_nested mode) rec f) (handler_shows code mode rec f) ≡ None
-        → cond j (use_breach b (not lost) code live bytes (is_nested mode) rec (record { frame = f; masks = m })) (handler_use code mode rec (record { frame = f; masks = m })) ≡ None
-    by true e = use_quiet code b (not lost) live stale rec bytes swaps m (is_nested mode) f w e
-    by false e = handler_quiet code b (not lost) live stale rec bytes swaps m mode f w e
+    by : (j : Bool) → cond j (breach_of b (not lost) code live stale (is_nested phase) rec f) (handler_shows code phase rec f) ≡ None
+        → cond j (use_breach b (not lost) code live bytes (is_nested phase) rec (record { frame = f; masks = m })) (handler_use code phase rec (record { frame = f; masks = m })) ≡ None
+    by true e = use_quiet code b (not lost) live stale rec bytes swaps m (is_nested phase) f w e
+    by false e = handler_quiet code b (not lost) live stale rec bytes swaps m phase f w e

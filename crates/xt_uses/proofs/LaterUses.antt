@@ -13,7 +13,7 @@ use Rattle.xt_frames.specs.FrameStep.{with_inputs}
 use Rattle.xt_frames.specs.Nesting.{current}
 use Rattle.xt_frames.specs.Breaches.{inputs_of, writes_epc1}
 use Rattle.xt_frames.specs.FirstBreach as frames
-use Rattle.xt_frames.specs.FirstBreach.{Course, IsFirstBreach, IsJudgedTurn, IsTurn, Turn, frame_before, is_judged, live_before, mode_before, step_at, turn_of}
+use Rattle.xt_frames.specs.FirstBreach.{Course, IsFirstBreach, IsJudgedTurn, IsTurn, Turn, frame_before, is_judged, live_before, phase_before, step_at, turn_of}
 use Rattle.xt_uses.specs.Disciplines.{Lenient}
 use Rattle.xt_uses.specs.UseStep.{UseTurn, carries, step_insn, receives_mark, stores_unknown, writes_unknown}
 use Rattle.xt_uses.specs.FirstUse.{EndsMode, History, IsFirstUse, IsHistory, IsLost, Shows, carried_count, carries_at, live_at, record_use, use_at, writes_at}
@@ -54,7 +54,7 @@ module _ (r : Course) (h : History) (p : ℕ) (ordinary : IsOrdinary r) (is : Is
         (λ e. ⊎_elim
         (λ j. inr (mode_there x.once core x.rec x.earlier (record { turn = x.turn; judged = j }) e))
         (λ n. inl n)
-        (cases_Bool (is_judged (mode_before r core x.once) x.rec.kind)))
+        (cases_Bool (is_judged (phase_before r core x.once) x.rec.kind)))
         x.loses;
     since = λ i b l rec j. sym (writes_same i core rec l j) ∙ x.since i b l rec j;
   }
@@ -70,7 +70,7 @@ module _ (r : Course) (h : History) (p : ℕ) (ordinary : IsOrdinary r) (is : Is
         (λ e. ⊎_elim
         (λ j. inr (mode_back x.once core x.rec x.earlier (record { turn = x.turn; judged = j }) e))
         (λ n. inl n)
-        (cases_Bool (is_judged (mode_before r core x.once) x.rec.kind)))
+        (cases_Bool (is_judged (phase_before r core x.once) x.rec.kind)))
         x.loses;
     since = λ i b l rec j. writes_same i core rec l j ∙ x.since i b l rec j;
   }
@@ -81,10 +81,10 @@ module _ (r : Course) (h : History) (p : ℕ) (ordinary : IsOrdinary r) (is : Is
       let lost : x.lost ≡ y.lost = same_from_decides {P = IsLost r h core p} x.lost y.lost (λ t. lost_back core (x.is_lost.0 t), λ l. x.is_lost.1 (lost_there core l)) y.is_lost in
       let live : live_before r p ≡ live_at r h p = λ i a. sym (live_same r h p ordinary is agrees p a (omega arith)) i in
       let frame : frame_before r core p ≡ (h.state core p).frame = sym (agrees.frame p core (omega arith)) in
-      let none = record_quiet r.code (r.bounds core) x.lost (live_before r p) x.stale rec (h.mask p) (h.state core p).masks (mode_before r core p) (frame_before r core p)
+      let none = record_quiet r.code (r.bounds core) x.lost (live_before r p) x.stale rec (h.mask p) (h.state core p).masks (phase_before r core p) (frame_before r core p)
       (swaps_known (live_before r p) x.stale (h.mask p) (byte_known r h p ordinary is agrees x.stale x.is_stale) rec.access)
       (agrees.whole p core (omega arith)) x.shown in
-      sym none ∙ ((λ i. record_use r.code (r.bounds core) (mode_before r core p) (record { frame = frame i; masks = (h.state core p).masks }) (lost i) (live i) (h.mask p) rec) ∙ y.shown)
+      sym none ∙ ((λ i. record_use r.code (r.bounds core) (phase_before r core p) (record { frame = frame i; masks = (h.state core p).masks }) (lost i) (live i) (h.mask p) rec) ∙ y.shown)
 
   -- ---- and carries nothing
   carries_none : (i core : ℕ) (rec : StepRecord) → i < p → IsJudgedTurn r i core rec → carries r.code rec (h.state core i) (use_at r h i core rec) ≡ false
@@ -102,12 +102,12 @@ module _ (r : Course) (h : History) (p : ℕ) (ordinary : IsOrdinary r) (is : Is
   turn_none i core l None e = refl
   turn_none i core l (Some t) e = ⊎_elim
       (λ counts.
-      let parts = and_parts (t.core == core && is_judged (mode_before r core i) t.rec.kind) (carries r.code t.rec (h.state core i) (use_at r h i core t.rec)) counts in
-      let own = and_parts (t.core == core) (is_judged (mode_before r core i) t.rec.kind) parts.0 in
+      let parts = and_parts (t.core == core && is_judged (phase_before r core i) t.rec.kind) (carries r.code t.rec (h.state core i) (use_at r h i core t.rec)) counts in
+      let own = and_parts (t.core == core) (is_judged (phase_before r core i) t.rec.kind) parts.0 in
       let turn : IsTurn r i core t.rec = e ∙ ap (λ c. Some (turn_of c t.rec)) (eqb-true t.core core own.0) in
       absurd (both_ways (carries r.code t.rec (h.state core i) (use_at r h i core t.rec)) (carries_none i core t.rec l (record { turn = turn; judged = own.1 })) parts.1))
-      (λ none. cond-false ((t.core == core && is_judged (mode_before r core i) t.rec.kind) && carries r.code t.rec (h.state core i) (use_at r h i core t.rec)) 1 0 none)
-      (cases_Bool ((t.core == core && is_judged (mode_before r core i) t.rec.kind) && carries r.code t.rec (h.state core i) (use_at r h i core t.rec)))
+      (λ none. cond-false ((t.core == core && is_judged (phase_before r core i) t.rec.kind) && carries r.code t.rec (h.state core i) (use_at r h i core t.rec)) 1 0 none)
+      (cases_Bool ((t.core == core && is_judged (phase_before r core i) t.rec.kind) && carries r.code t.rec (h.state core i) (use_at r h i core t.rec)))
 
   pub carried_none : (core i : ℕ) → i ≤ p → carried_count r h core i ≡ 0
   carried_none core zero l = refl

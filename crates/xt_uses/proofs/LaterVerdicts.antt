@@ -6,7 +6,7 @@ use Rattle.std.proofs.lemmas.Option.{none-some, slice_get_within, same_Some}
 use Rattle.xt_trace.specs.declared.record.StepRecord.{StepRecord}
 use Rattle.xt_frames.specs.declared.kinds.Breach.{Breach}
 use Rattle.xt_frames.specs.declared.kinds.BreachKind.{BreachKind}
-use Rattle.xt_frames.specs.FirstBreach.{Course, Turn, mode_before, records_before, turn_of}
+use Rattle.xt_frames.specs.FirstBreach.{Course, Turn, phase_before, records_before, turn_of}
 use Rattle.xt_frames.proofs.Prefixes.{same_turn}
 use Rattle.xt_uses.specs.FirstUse.{History, IsFirstUse, IsUse, Shows, carried_count, live_at, record_use}
 use Rattle.xt_uses.specs.UseLaws.{VerdictIsOne}
@@ -17,7 +17,7 @@ module _ (r : Course) (h : History) where
   shows_once p core rec one other a b =
       let epc : a.lost ≡ b.lost = same_from_decides a.lost b.lost a.is_lost b.is_lost in
       sym a.shown
-      ∙ ((λ i. record_use r.code (r.bounds core) (mode_before r core p) (h.state core p) (epc i) (live_at r h p) (h.mask p) rec)
+      ∙ ((λ i. record_use r.code (r.bounds core) (phase_before r core p) (h.state core p) (epc i) (live_at r h p) (h.mask p) rec)
       ∙ b.shown)
 
   quiet_there : (p q : ℕ) (b : Breach) (other : Option Breach) → IsUse r h p b → IsFirstUse r h q other → p < q → ⊥

@@ -6,17 +6,17 @@ use Rattle.std.proofs.lemmas.Bool.Decides.{Decides-like}
 use Rattle.xt_trace.specs.declared.record.StepRecord.{StepRecord}
 use Rattle.xt_frames.specs.Breaches.{ends_exception_mode}
 use Rattle.xt_frames.specs.Nesting.{current}
-use Rattle.xt_frames.specs.FirstBreach.{Course, IsJudgedTurn, IsTurn, Turn, is_judged, mode_before}
+use Rattle.xt_frames.specs.FirstBreach.{Course, IsJudgedTurn, IsTurn, Turn, is_judged, phase_before}
 use Rattle.xt_frames.proofs.Prefixes.{before_or_at, same_turn}
 use Rattle.xt_uses.specs.FirstUse.{EndsMode, History, IsLost, LeavesEpc1, found_at, use_at, writes_at}
 
 module _ (r : Course) (h : History) (p core : ℕ) (rec : StepRecord) (turn : IsTurn r p core rec) where
   -- the turn is not judged, so no turn of its number is
-  not_judged : is_judged (mode_before r core p) rec.kind ≡ false → (c : ℕ) (q : StepRecord) → IsJudgedTurn r p c q → ⊥
+  not_judged : is_judged (phase_before r core p) rec.kind ≡ false → (c : ℕ) (q : StepRecord) → IsJudgedTurn r p c q → ⊥
   not_judged j c q t =
       let same = same_turn r p core rec turn c q t.turn in
-      let now : is_judged (mode_before r core p) rec.kind ≡ true = subst (λ (x : Turn). is_judged (mode_before r x.core p) x.rec.kind ≡ true) (sym same) t.judged in
-      both_ways (is_judged (mode_before r core p) rec.kind) j now
+      let now : is_judged (phase_before r core p) rec.kind ≡ true = subst (λ (x : Turn). is_judged (phase_before r x.core p) x.rec.kind ≡ true) (sym same) t.judged in
+      both_ways (is_judged (phase_before r core p) rec.kind) j now
 
   same_rec : (c : ℕ) (q : StepRecord) → IsTurn r p c q → rec ≡ q
   same_rec c q t = ap (λ (x : Turn). x.rec) (same_turn r p core rec turn c q t)
@@ -32,7 +32,7 @@ module _ (r : Course) (h : History) (p core : ℕ) (rec : StepRecord) (turn : Is
       let earlier = l.earlier in
       record { once = l.once; earlier = omega (arith, earlier); rec = l.rec; turn = l.turn; loses = l.loses; since = epc_more c l.once l.since now }
 
-  lost_now : (is_judged (mode_before r core p) rec.kind ≡ false) ⊎ EndsMode r h p core rec → LeavesEpc1 r h core p → IsLost r h core (suc p)
+  lost_now : (is_judged (phase_before r core p) rec.kind ≡ false) ⊎ EndsMode r h p core rec → LeavesEpc1 r h core p → IsLost r h core (suc p)
   lost_now loses now = record {
     once = p;
     earlier = omega arith;
@@ -51,13 +51,13 @@ module _ (r : Course) (h : History) (p core : ℕ) (rec : StepRecord) (turn : Is
   abbrev falling : Bool
   falling = ends_exception_mode (found_at r h p core rec).control.ps (current (use_at r h p core rec).after.frame).control.ps
 
-  fell : (l : IsLost r h core (suc p)) → is_judged (mode_before r core p) rec.kind ≡ true → l.once ≡ p → falling ≡ true
+  fell : (l : IsLost r h core (suc p)) → is_judged (phase_before r core p) rec.kind ≡ true → l.once ≡ p → falling ≡ true
   fell l j e =
       let at : IsTurn r p core l.rec = subst (λ x. IsTurn r x core l.rec) e l.turn in
-      let loses : (is_judged (mode_before r core p) l.rec.kind ≡ false) ⊎ EndsMode r h p core l.rec = subst (λ x. (is_judged (mode_before r core x) l.rec.kind ≡ false) ⊎ EndsMode r h x core l.rec) e l.loses in
-      let own : (is_judged (mode_before r core p) rec.kind ≡ false) ⊎ EndsMode r h p core rec = subst (λ (x : StepRecord). (is_judged (mode_before r core p) x.kind ≡ false) ⊎ EndsMode r h p core x) (sym (same_rec core l.rec at)) loses in
+      let loses : (is_judged (phase_before r core p) l.rec.kind ≡ false) ⊎ EndsMode r h p core l.rec = subst (λ x. (is_judged (phase_before r core x) l.rec.kind ≡ false) ⊎ EndsMode r h x core l.rec) e l.loses in
+      let own : (is_judged (phase_before r core p) rec.kind ≡ false) ⊎ EndsMode r h p core rec = subst (λ (x : StepRecord). (is_judged (phase_before r core p) x.kind ≡ false) ⊎ EndsMode r h p core x) (sym (same_rec core l.rec at)) loses in
       ⊎_elim
-      (λ n. absurd (both_ways (is_judged (mode_before r core p) rec.kind) n j))
+      (λ n. absurd (both_ways (is_judged (phase_before r core p) rec.kind) n j))
       (λ m. and_from (found_at r h p core rec).control.ps.excm (not (current (use_at r h p core rec).after.frame).control.ps.excm) m.0 (not_from_false (current (use_at r h p core rec).after.frame).control.ps.excm m.1))
       own
 
@@ -66,7 +66,7 @@ module _ (r : Course) (h : History) (p core : ℕ) (rec : StepRecord) (turn : Is
       let parts = and_parts (found_at r h p core rec).control.ps.excm (not (current (use_at r h p core rec).after.frame).control.ps.excm) e in
       (parts.0, not-true (current (use_at r h p core rec).after.frame).control.ps.excm parts.1)
 
-  pub lost_judged : (fresh : Bool) → is_judged (mode_before r core p) rec.kind ≡ true → Decides (not fresh) (IsLost r h core p) → Decides (not (writes || (fresh && not falling))) (IsLost r h core (suc p))
+  pub lost_judged : (fresh : Bool) → is_judged (phase_before r core p) rec.kind ≡ true → Decides (not fresh) (IsLost r h core p) → Decides (not (writes || (fresh && not falling))) (IsLost r h core (suc p))
   lost_judged fresh j d = (there, back)
     where
       there : not (writes || (fresh && not falling)) ≡ true → IsLost r h core (suc p)
@@ -90,7 +90,7 @@ module _ (r : Course) (h : History) (p core : ℕ) (rec : StepRecord) (turn : Is
       back : IsLost r h core (suc p) → not (writes || (fresh && not falling)) ≡ true
       back l = not_from_false (writes || (fresh && not falling)) (or_from writes (fresh && not falling) (unwritten l) (unfresh l))
 
-  pub lost_handled : is_judged (mode_before r core p) rec.kind ≡ false → Decides true (IsLost r h core (suc p))
+  pub lost_handled : is_judged (phase_before r core p) rec.kind ≡ false → Decides true (IsLost r h core (suc p))
   lost_handled j = (λ t. lost_now (inl j) (λ q t. absurd (not_judged j core q t)), λ l. refl)
 
   -- the other core's stays as it was

@@ -7,11 +7,13 @@ use Rattle.xt_trace.specs.declared.record.StepRecord.{StepRecord}
 use Rattle.xt_frames.specs.declared.kinds.BreachKind.{BreachKind}
 use Rattle.xt_frames.specs.Nesting.{is_nesting}
 use Rattle.xt_frames.specs.SaveAreas.{is_live}
-use Rattle.xt_frames.specs.HandlerSteps.{Mode, Plain, Handles, Nests, is_window, mode_after}
+use Rattle.xt_frames.specs.declared.kinds.HandlerPhase.{HandlerPhase}
+use Rattle.xt_frames.specs.declared.kinds.HandlerPhase.TheVariants.{Outside, InHandler, Nested}
+use Rattle.xt_frames.specs.HandlerSteps.{is_window, phase_after}
 use Rattle.xt_frames.specs.Breaches.{Bounds}
 use Rattle.xt_frames.specs.Verdict.{is_nested}
-use Rattle.xt_frames.specs.FirstBreach.{Course, IsTurn, Turn, by_core, is_judged, mode_before, records_before, turn_of, turns}
-use Rattle.xt_frames.proofs.Prefixes.{before_or_at, drop_get, drop_none, drop_rest, other_mode, other_records, own_count, own_mode, same_turn}
+use Rattle.xt_frames.specs.FirstBreach.{Course, IsTurn, Turn, by_core, is_judged, phase_before, records_before, turn_of, turns}
+use Rattle.xt_frames.proofs.Prefixes.{before_or_at, drop_get, drop_none, drop_rest, other_phase, other_records, own_count, own_phase, same_turn}
 use Rattle.xt_uses.specs.Disciplines.{Discipline}
 use Rattle.xt_uses.specs.UseState.{UseState, forgets}
 use Rattle.xt_uses.specs.UseStep.{UseTurn, carries}
@@ -41,27 +43,27 @@ handler_window : (o : Option BreachKind) (code : ℕ → ℕ) (st : UseStanding)
 handler_window None code st rec = refl
 handler_window (Some kind) code st rec = refl
 
-seen_as_judged : (mode : Mode) (code : ℕ → ℕ) (b : Bounds) (st : UseStanding) (others : ℕ → Bool) (masks : ℕ → ℕ) (rec : StepRecord) → is_judged mode rec.kind ≡ true → use_seen_in mode code b st others masks rec ≡ use_seen_judged code b st others masks (is_nested mode) rec
-seen_as_judged Plain code b st others masks rec j = cond-false (is_window rec.kind) (use_seen_window (window_use code rec st.state) code st rec) (use_seen_judged code b st others masks false rec) (not-true (is_window rec.kind) j)
-seen_as_judged Handles code b st others masks rec j = cond-true (is_nesting rec.kind) (use_seen_judged code b st others masks true rec) (UseHandled (handled_past code st rec)) j
-seen_as_judged Nests code b st others masks rec j = refl
+seen_as_judged : (phase : HandlerPhase) (code : ℕ → ℕ) (b : Bounds) (st : UseStanding) (others : ℕ → Bool) (masks : ℕ → ℕ) (rec : StepRecord) → is_judged phase rec.kind ≡ true → use_seen_in phase code b st others masks rec ≡ use_seen_judged code b st others masks (is_nested phase) rec
+seen_as_judged Outside code b st others masks rec j = cond-false (is_window rec.kind) (use_seen_window (window_use code rec st.state) code st rec) (use_seen_judged code b st others masks false rec) (not-true (is_window rec.kind) j)
+seen_as_judged InHandler code b st others masks rec j = cond-true (is_nesting rec.kind) (use_seen_judged code b st others masks true rec) (UseHandled (handled_past code st rec)) j
+seen_as_judged Nested code b st others masks rec j = refl
 
-seen_as_handler : (mode : Mode) (code : ℕ → ℕ) (b : Bounds) (st : UseStanding) (others : ℕ → Bool) (masks : ℕ → ℕ) (rec : StepRecord) → is_judged mode rec.kind ≡ false → use_seen_in mode code b st others masks rec ≡ seen_handler (handler_use code mode rec st.state) code st rec
-seen_as_handler Plain code b st others masks rec j =
+seen_as_handler : (phase : HandlerPhase) (code : ℕ → ℕ) (b : Bounds) (st : UseStanding) (others : ℕ → Bool) (masks : ℕ → ℕ) (rec : StepRecord) → is_judged phase rec.kind ≡ false → use_seen_in phase code b st others masks rec ≡ seen_handler (handler_use code phase rec st.state) code st rec
+seen_as_handler Outside code b st others masks rec j =
     cond-true (is_window rec.kind) (use_seen_window (window_use code rec st.state) code st rec) (use_seen_judged code b st others masks false rec) (not-false (is_window rec.kind) j)
     ∙ handler_window (window_use code rec st.state) code st rec
-seen_as_handler Handles code b st others masks rec j = cond-false (is_nesting rec.kind) (use_seen_judged code b st others masks true rec) (UseHandled (handled_past code st rec)) j
-seen_as_handler Nests code b st others masks rec j = absurd (both_ways true j refl)
+seen_as_handler InHandler code b st others masks rec j = cond-false (is_nesting rec.kind) (use_seen_judged code b st others masks true rec) (UseHandled (handled_past code st rec)) j
+seen_as_handler Nested code b st others masks rec j = absurd (both_ways true j refl)
 
 -- ---- what it keeps before a turn
-abbrev standing : UseState → Bool → Mode → ℕ → ℕ → UseStanding
-standing s fresh mode n k = record { state = s; fresh = fresh; mode = mode; steps = n; carried = k }
+abbrev standing : UseState → Bool → HandlerPhase → ℕ → ℕ → UseStanding
+standing s fresh phase n k = record { state = s; fresh = fresh; phase = phase; steps = n; carried = k }
 
-standing_same : (s t : UseState) (x y : Bool) (m n : Mode) (a b k l : ℕ) → s ≡ t → x ≡ y → m ≡ n → a ≡ b → k ≡ l → standing s x m a k ≡ standing t y n b l
+standing_same : (s t : UseState) (x y : Bool) (m n : HandlerPhase) (a b k l : ℕ) → s ≡ t → x ≡ y → m ≡ n → a ≡ b → k ≡ l → standing s x m a k ≡ standing t y n b l
 standing_same s t x y m n a b k l p q e f g = λ i. standing (p i) (q i) (e i) (f i) (g i)
 
 abbrev standing_at : Discipline → Course → ℕ → ℕ → Bool → UseStanding
-standing_at d r core p lost = standing ((history_of d r).state core p) (not lost) (mode_before r core p) (length (records_before r core p)) (carried_count r (history_of d r) core p)
+standing_at d r core p lost = standing ((history_of d r).state core p) (not lost) (phase_before r core p) (length (records_before r core p)) (carried_count r (history_of d r) core p)
 
 -- what the walk sees of turn p, and what it keeps before the next
 data Outcome (d : Discipline) (r : Course) (p core : ℕ) (rec : StepRecord) (out : UseSeen) : Type 0 where
@@ -100,23 +102,23 @@ module _ (d : Discipline) (r : Course) where
     counted true = refl
     counted false = refl
 
-    own_carried : is_judged (mode_before r core p) rec.kind ≡ true → carried_count r h core p + count_of does ≡ carried_count r h core (suc p)
+    own_carried : is_judged (phase_before r core p) rec.kind ≡ true → carried_count r h core p + count_of does ≡ carried_count r h core (suc p)
     own_carried j =
-        let here : ((core == core) && is_judged (mode_before r core p) rec.kind) ≡ true = and_from (core == core) (is_judged (mode_before r core p) rec.kind) (eq-eqb core core refl) j in
+        let here : ((core == core) && is_judged (phase_before r core p) rec.kind) ≡ true = and_from (core == core) (is_judged (phase_before r core p) rec.kind) (eq-eqb core core refl) j in
         sym (ap (λ (o : Option Turn). carried_count r h core p + carries_at r h core p o) turn
         ∙ (ap (λ (b : Bool). carried_count r h core p + cond (b && does) 1 0) here
         ∙ ap (λ n. carried_count r h core p + n) (counted does)))
 
-    kept_carried : is_judged (mode_before r core p) rec.kind ≡ false → carried_count r h core p ≡ carried_count r h core (suc p)
+    kept_carried : is_judged (phase_before r core p) rec.kind ≡ false → carried_count r h core p ≡ carried_count r h core (suc p)
     kept_carried j =
-        let off : ((core == core) && is_judged (mode_before r core p) rec.kind) ≡ false = and_right (core == core) _ j in
+        let off : ((core == core) && is_judged (phase_before r core p) rec.kind) ≡ false = and_right (core == core) _ j in
         let e : carried_count r h core (suc p) ≡ carried_count r h core p + 0 = ap (λ (o : Option Turn). carried_count r h core p + carries_at r h core p o) turn
         ∙ ap (λ (b : Bool). carried_count r h core p + cond (b && does) 1 0) off in
         omega (arith, e)
 
     other_carried : (other : ℕ) → (core == other) ≡ false → carried_count r h other p ≡ carried_count r h other (suc p)
     other_carried other apart =
-        let off : ((core == other) && is_judged (mode_before r other p) rec.kind) ≡ false = and_left (core == other) _ apart in
+        let off : ((core == other) && is_judged (phase_before r other p) rec.kind) ≡ false = and_left (core == other) _ apart in
         let e : carried_count r h other (suc p) ≡ carried_count r h other p + 0 = ap (λ (o : Option Turn). carried_count r h other p + carries_at r h other p o) turn
         ∙ ap (λ (b : Bool). carried_count r h other p + cond (b && carries r.code rec (h.state other p) (use_at r h p other rec)) 1 0) off in
         omega (arith, e)
@@ -125,8 +127,8 @@ module _ (d : Discipline) (r : Course) where
     abbrev others : ℕ → Bool
     others = is_live (r.bounds other).range (h.state other p).frame
 
-    abbrev mode : Mode
-    mode = mode_before r core p
+    abbrev phase : HandlerPhase
+    phase = phase_before r core p
 
     abbrev st : UseStanding
     st = standing_at d r core p lost
@@ -135,38 +137,38 @@ module _ (d : Discipline) (r : Course) where
     out = use_seen r.code (r.bounds core) st others (h.mask p) rec
 
     abbrev found : Option BreachKind
-    found = use_breach (r.bounds core) (not lost) r.code (live_at r h p) (h.mask p) (is_nested mode) rec (h.state core p)
+    found = use_breach (r.bounds core) (not lost) r.code (live_at r h p) (h.mask p) (is_nested phase) rec (h.state core p)
 
     abbrev told : Option BreachKind
-    told = handler_use r.code mode rec (h.state core p)
+    told = handler_use r.code phase rec (h.state core p)
 
-    shows_found : (o : Option BreachKind) → is_judged mode rec.kind ≡ true → found ≡ o → Shows r h p core rec o
-    shows_found o j e = record { lost = lost; is_lost = is_lost; shown = cond-true (is_judged mode rec.kind) found told j ∙ e }
+    shows_found : (o : Option BreachKind) → is_judged phase rec.kind ≡ true → found ≡ o → Shows r h p core rec o
+    shows_found o j e = record { lost = lost; is_lost = is_lost; shown = cond-true (is_judged phase rec.kind) found told j ∙ e }
 
-    shows_told : (o : Option BreachKind) → is_judged mode rec.kind ≡ false → told ≡ o → Shows r h p core rec o
-    shows_told o j e = record { lost = lost; is_lost = is_lost; shown = cond-false (is_judged mode rec.kind) found told j ∙ e }
+    shows_told : (o : Option BreachKind) → is_judged phase rec.kind ≡ false → told ≡ o → Shows r h p core rec o
+    shows_told o j e = record { lost = lost; is_lost = is_lost; shown = cond-false (is_judged phase rec.kind) found told j ∙ e }
 
     live_now : live_with (r.bounds core) (h.state core p).frame others ≡ live_at r h p
     live_now = live_all (snapshot d r p).states
 
     -- a judged step
     abbrev after_found : Option BreachKind → UseSeen
-    after_found o = use_seen_step o r.code (r.bounds core) st others (h.mask p) (is_nested mode) rec
+    after_found o = use_seen_step o r.code (r.bounds core) st others (h.mask p) (is_nested phase) rec
 
-    out_judged : is_judged mode rec.kind ≡ true → out ≡ after_found found
+    out_judged : is_judged phase rec.kind ≡ true → out ≡ after_found found
     out_judged j =
-        seen_as_judged mode r.code (r.bounds core) st others (h.mask p) rec j
-        ∙ ap (λ (live : ℕ → Bool). after_found (use_breach (r.bounds core) (not lost) r.code live (h.mask p) (is_nested mode) rec (h.state core p))) live_now
+        seen_as_judged phase r.code (r.bounds core) st others (h.mask p) rec j
+        ∙ ap (λ (live : ℕ → Bool). after_found (use_breach (r.bounds core) (not lost) r.code live (h.mask p) (is_nested phase) rec (h.state core p))) live_now
 
     abbrev u : UseTurn
     u = use_at r h p core rec
 
     abbrev fresh_next : Bool
-    fresh_next = fresh_use (not lost) r.code (is_nested mode) rec (h.mask p) (h.state core p)
+    fresh_next = fresh_use (not lost) r.code (is_nested phase) rec (h.mask p) (h.state core p)
 
-    standing_next : is_judged mode rec.kind ≡ true → standing u.after fresh_next (mode_after r.code mode rec) (suc (length (records_before r core p))) (carried_count r h core p + count_of (carries r.code rec (h.state core p) u)) ≡ standing_at d r core (suc p) (not fresh_next)
-    standing_next j = standing_same u.after (h.state core (suc p)) fresh_next (not (not fresh_next)) (mode_after r.code mode rec) (mode_before r core (suc p)) (suc (length (records_before r core p))) (length (records_before r core (suc p))) (carried_count r h core p + count_of (carries r.code rec (h.state core p) u)) (carried_count r h core (suc p))
-        (sym (own_state d r p core rec turn j)) (sym (double_not fresh_next)) (sym (own_mode r p core rec turn)) (own_count r p core rec turn) (own_carried p core rec turn j)
+    standing_next : is_judged phase rec.kind ≡ true → standing u.after fresh_next (phase_after r.code phase rec) (suc (length (records_before r core p))) (carried_count r h core p + count_of (carries r.code rec (h.state core p) u)) ≡ standing_at d r core (suc p) (not fresh_next)
+    standing_next j = standing_same u.after (h.state core (suc p)) fresh_next (not (not fresh_next)) (phase_after r.code phase rec) (phase_before r core (suc p)) (suc (length (records_before r core p))) (length (records_before r core (suc p))) (carried_count r h core p + count_of (carries r.code rec (h.state core p) u)) (carried_count r h core (suc p))
+        (sym (own_state d r p core rec turn j)) (sym (double_not fresh_next)) (sym (own_phase r p core rec turn)) (own_count r p core rec turn) (own_carried p core rec turn j)
 
     abbrev next_states : ℕ → UseState
     next_states = states_past r p (turn_of core rec) (snapshot d r p)
@@ -185,18 +187,18 @@ module _ (d : Discipline) (r : Course) where
     lost_now : lost_with (r.bounds core) (h.state core p) u.after others ≡ lost_in r (snapshot d r p).states next_states
     lost_now = λ i a. live_now i a || gone_now a i
 
-    masks_next : is_judged mode rec.kind ≡ true → masks_after (live_with (r.bounds core) u.after.frame others) (lost_with (r.bounds core) (h.state core p) u.after others) u.stored rec.access (h.mask p) ≡ h.mask (suc p)
+    masks_next : is_judged phase rec.kind ≡ true → masks_after (live_with (r.bounds core) u.after.frame others) (lost_with (r.bounds core) (h.state core p) u.after others) u.stored rec.access (h.mask p) ≡ h.mask (suc p)
     masks_next j =
         ap (λ live. masks_after live (lost_with (r.bounds core) (h.state core p) u.after others) u.stored rec.access (h.mask p)) live_next
         ∙ (ap (λ lost. masks_after (live_in r next_states) lost u.stored rec.access (h.mask p)) lost_now
         ∙ sym (ap (λ (x : Snapshot). x.mask) (next_judged d r p core rec turn j)))
 
-    judges_next : is_judged mode rec.kind ≡ true → after_found None ≡ UseJudged (standing_at d r core (suc p) (not fresh_next)) (h.mask (suc p))
+    judges_next : is_judged phase rec.kind ≡ true → after_found None ≡ UseJudged (standing_at d r core (suc p) (not fresh_next)) (h.mask (suc p))
     judges_next j =
         ap (λ (s : UseStanding). UseJudged s (masks_after (live_with (r.bounds core) u.after.frame others) (lost_with (r.bounds core) (h.state core p) u.after others) u.stored rec.access (h.mask p))) (standing_next j)
         ∙ ap (UseJudged (standing_at d r core (suc p) (not fresh_next))) (masks_next j)
 
-    outcome_judged : is_judged mode rec.kind ≡ true → (o : Option BreachKind) → found ≡ o → Outcome d r p core rec out
+    outcome_judged : is_judged phase rec.kind ≡ true → (o : Option BreachKind) → found ≡ o → Outcome d r p core rec out
     outcome_judged j (Some kind) e = breaks kind (out_judged j ∙ ap after_found e) (shows_found (Some kind) j e)
     outcome_judged j None e = judges
         (not fresh_next)
@@ -208,14 +210,14 @@ module _ (d : Discipline) (r : Course) where
     abbrev after_told : Option BreachKind → UseSeen
     after_told o = seen_handler o r.code st rec
 
-    out_told : is_judged mode rec.kind ≡ false → out ≡ after_told told
-    out_told j = seen_as_handler mode r.code (r.bounds core) st others (h.mask p) rec j
+    out_told : is_judged phase rec.kind ≡ false → out ≡ after_told told
+    out_told j = seen_as_handler phase r.code (r.bounds core) st others (h.mask p) rec j
 
-    handles_next : is_judged mode rec.kind ≡ false → after_told None ≡ UseHandled (standing_at d r core (suc p) true)
-    handles_next j = ap UseHandled (standing_same (h.state core p) (h.state core (suc p)) false false (mode_after r.code mode rec) (mode_before r core (suc p)) (suc (length (records_before r core p))) (length (records_before r core (suc p))) (carried_count r h core p) (carried_count r h core (suc p))
-        (sym (ap (λ (x : Snapshot). x.states core) (next_handled d r p core rec turn j))) refl (sym (own_mode r p core rec turn)) (own_count r p core rec turn) (kept_carried p core rec turn j))
+    handles_next : is_judged phase rec.kind ≡ false → after_told None ≡ UseHandled (standing_at d r core (suc p) true)
+    handles_next j = ap UseHandled (standing_same (h.state core p) (h.state core (suc p)) false false (phase_after r.code phase rec) (phase_before r core (suc p)) (suc (length (records_before r core p))) (length (records_before r core (suc p))) (carried_count r h core p) (carried_count r h core (suc p))
+        (sym (ap (λ (x : Snapshot). x.states core) (next_handled d r p core rec turn j))) refl (sym (own_phase r p core rec turn)) (own_count r p core rec turn) (kept_carried p core rec turn j))
 
-    outcome_handled : is_judged mode rec.kind ≡ false → (o : Option BreachKind) → told ≡ o → Outcome d r p core rec out
+    outcome_handled : is_judged phase rec.kind ≡ false → (o : Option BreachKind) → told ≡ o → Outcome d r p core rec out
     outcome_handled j (Some kind) e = breaks kind (out_told j ∙ ap after_told e) (shows_told (Some kind) j e)
     outcome_handled j None e = handles
         (out_told j ∙ (ap after_told e ∙ handles_next j))
@@ -224,7 +226,7 @@ module _ (d : Discipline) (r : Course) where
         (shows_told None j e)
 
     outcome : Outcome d r p core rec out
-    outcome = ⊎_elim (λ j. outcome_judged j found refl) (λ j. outcome_handled j told refl) (cases_Bool (is_judged mode rec.kind))
+    outcome = ⊎_elim (λ j. outcome_judged j found refl) (λ j. outcome_handled j told refl) (cases_Bool (is_judged phase rec.kind))
 
   -- ---- the walk
   quiet_more : (p core : ℕ) (rec : StepRecord) → IsTurn r p core rec → IsQuiet d r p → Shows r h p core rec None → IsQuiet d r (suc p)
@@ -240,8 +242,8 @@ module _ (d : Discipline) (r : Course) where
   within_more p core rec turn = slice_get_within r.turns p (turn_of core rec) turn
 
   other_standing : (p core : ℕ) (rec : StepRecord) → IsTurn r p core rec → (other : ℕ) (lost : Bool) → (core == other) ≡ false → standing_at d r other p lost ≡ standing_at d r other (suc p) lost
-  other_standing p core rec turn other lost apart = standing_same (h.state other p) (h.state other (suc p)) (not lost) (not lost) (mode_before r other p) (mode_before r other (suc p)) (length (records_before r other p)) (length (records_before r other (suc p))) (carried_count r h other p) (carried_count r h other (suc p))
-      (sym (other_state d r p core rec turn other apart)) refl (sym (other_mode r p core rec turn other apart)) (ap length (sym (other_records r p core rec turn other apart))) (other_carried p core rec turn other apart)
+  other_standing p core rec turn other lost apart = standing_same (h.state other p) (h.state other (suc p)) (not lost) (not lost) (phase_before r other p) (phase_before r other (suc p)) (length (records_before r other p)) (length (records_before r other (suc p))) (carried_count r h other p) (carried_count r h other (suc p))
+      (sym (other_state d r p core rec turn other apart)) refl (sym (other_phase r p core rec turn other apart)) (ap length (sym (other_records r p core rec turn other apart))) (other_carried p core rec turn other apart)
 
   module _ (p : ℕ) (rec : StepRecord) (lost0 lost1 : Bool) (s : Reached d r p lost0 lost1) (rest : UseKnown → UseJudgement) where
     abbrev here : UseKnown
@@ -366,7 +368,7 @@ module _ (d : Discipline) (r : Course) where
   }
 
   opening_at : opening_use_known d (r.bounds 0) (r.bounds 1) (r.opening 0) (r.opening 1) ≡ known_at d r 0 false false
-  unfolding mode_before records_before
+  unfolding phase_before records_before
   opening_at = refl
 
 pub walk_finds : WalkFindsFirstUse

@@ -6,7 +6,7 @@ use Rattle.xt_map.specs.declared.access.Access.{Access}
 use Rattle.xt_map.specs.Touching.{is_store, touches}
 use Rattle.xt_trace.specs.declared.record.StepRecord.{StepRecord}
 use Rattle.xt_frames.specs.Breaches.{stores_at}
-use Rattle.xt_frames.specs.FirstBreach.{Course, IsJudgedTurn, IsTurn, LeavesByte, Turn, is_judged, mode_before, turn_of}
+use Rattle.xt_frames.specs.FirstBreach.{Course, IsJudgedTurn, IsTurn, LeavesByte, Turn, is_judged, phase_before, turn_of}
 use Rattle.xt_frames.proofs.Earlier.{untouched}
 use Rattle.xt_frames.proofs.Prefixes.{before_or_at, same_turn}
 use Rattle.xt_uses.specs.UseWalk.{mask_stored}
@@ -120,11 +120,11 @@ module _ (d : Discipline) (r : Course) where
     same_rec : (c : ℕ) (q : StepRecord) → IsTurn r p c q → turn_of core rec ≡ turn_of c q
     same_rec c q u = same_turn r p core rec turn c q u
 
-    pub next_judged : is_judged (mode_before r core p) rec.kind ≡ true → snapshot d r (suc p) ≡ judged_past r p t s
-    next_judged j = ap (λ (o : Option Turn). turn_past r p o s) turn ∙ cond-true (is_judged (mode_before r core p) rec.kind) _ _ j
+    pub next_judged : is_judged (phase_before r core p) rec.kind ≡ true → snapshot d r (suc p) ≡ judged_past r p t s
+    next_judged j = ap (λ (o : Option Turn). turn_past r p o s) turn ∙ cond-true (is_judged (phase_before r core p) rec.kind) _ _ j
 
-    pub next_handled : is_judged (mode_before r core p) rec.kind ≡ false → snapshot d r (suc p) ≡ s
-    next_handled j = ap (λ (o : Option Turn). turn_past r p o s) turn ∙ cond-false (is_judged (mode_before r core p) rec.kind) _ _ j
+    pub next_handled : is_judged (phase_before r core p) rec.kind ≡ false → snapshot d r (suc p) ≡ s
+    next_handled j = ap (λ (o : Option Turn). turn_past r p o s) turn ∙ cond-false (is_judged (phase_before r core p) rec.kind) _ _ j
 
     -- a judged turn of this number is this one
     no_store : (a : ℕ) → stores_at rec.access a ≡ false → LeavesByte r p a
@@ -132,13 +132,13 @@ module _ (d : Discipline) (r : Course) where
         let same : rec ≡ q = ap (λ (y : Turn). y.rec) (same_rec c q u.turn) in
         untouched q.access x a (subst (λ (y : StepRecord). stores_at y.access a ≡ false) same e) at k
 
-    not_judged : is_judged (mode_before r core p) rec.kind ≡ false → (a : ℕ) → LeavesByte r p a
+    not_judged : is_judged (phase_before r core p) rec.kind ≡ false → (a : ℕ) → LeavesByte r p a
     not_judged j a c q x u at k =
         let same = same_rec c q u.turn in
-        let now : is_judged (mode_before r core p) rec.kind ≡ true = subst (λ (y : Turn). is_judged (mode_before r y.core p) y.rec.kind ≡ true) (sym same) u.judged in
-        absurd (both_ways (is_judged (mode_before r core p) rec.kind) j now)
+        let now : is_judged (phase_before r core p) rec.kind ≡ true = subst (λ (y : Turn). is_judged (phase_before r y.core p) y.rec.kind ≡ true) (sym same) u.judged in
+        absurd (both_ways (is_judged (phase_before r core p) rec.kind) j now)
 
-    mask_judged : is_judged (mode_before r core p) rec.kind ≡ true → (a : ℕ) → IsMask r h p a (h.mask p a) → IsMask r h (suc p) a (h.mask (suc p) a)
+    mask_judged : is_judged (phase_before r core p) rec.kind ≡ true → (a : ℕ) → IsMask r h p a (h.mask p a) → IsMask r h (suc p) a (h.mask (suc p) a)
     mask_judged j a k =
         let after = states_past r p t s in
         let now = live_in r after a in
@@ -149,7 +149,7 @@ module _ (d : Discipline) (r : Course) where
         let live_now : live_at r h (suc p) a ≡ now = ap (λ (x : Snapshot). live_in r x.states a) next in
         mask_next r h p core rec a (record { turn = turn; judged = j }) k now lost live_now lost_now (h.mask (suc p) a) at (no_store a)
 
-    mask_handled : is_judged (mode_before r core p) rec.kind ≡ false → (a : ℕ) → IsMask r h p a (h.mask p a) → IsMask r h (suc p) a (h.mask (suc p) a)
+    mask_handled : is_judged (phase_before r core p) rec.kind ≡ false → (a : ℕ) → IsMask r h p a (h.mask p a) → IsMask r h (suc p) a (h.mask (suc p) a)
     mask_handled j a k =
         let next = next_handled j in
         let same : h.mask (suc p) a ≡ h.mask p a = ap (λ (x : Snapshot). x.mask a) next in
@@ -157,24 +157,24 @@ module _ (d : Discipline) (r : Course) where
         let gone = gone_none (snapshot d r p).states (snapshot d r (suc p)).states a (ap (λ (x : Snapshot). x.states) (sym next)) in
         subst (IsMask r h (suc p) a) (sym same) (still r h p a (h.mask p a) k live gone (not_judged j a))
 
-    pub own_state : is_judged (mode_before r core p) rec.kind ≡ true → h.state core (suc p) ≡ (use_at r h p core rec).after
+    pub own_state : is_judged (phase_before r core p) rec.kind ≡ true → h.state core (suc p) ≡ (use_at r h p core rec).after
     own_state j = ap (λ (x : Snapshot). x.states core) (next_judged j) ∙ cond-true (core == core) _ _ (eq-eqb core core refl)
 
     pub other_state : (c : ℕ) → (core == c) ≡ false → h.state c (suc p) ≡ h.state c p
     other_state c apart = ⊎_elim
         (λ j. ap (λ (x : Snapshot). x.states c) (next_judged j) ∙ cond-false (core == c) _ _ apart)
         (λ j. ap (λ (x : Snapshot). x.states c) (next_handled j))
-        (cases_Bool (is_judged (mode_before r core p) rec.kind))
+        (cases_Bool (is_judged (phase_before r core p) rec.kind))
 
     pub mask_turn : (a : ℕ) → IsMask r h p a (h.mask p a) → IsMask r h (suc p) a (h.mask (suc p) a)
-    mask_turn a k = ⊎_elim (λ j. mask_judged j a k) (λ j. mask_handled j a k) (cases_Bool (is_judged (mode_before r core p) rec.kind))
+    mask_turn a k = ⊎_elim (λ j. mask_judged j a k) (λ j. mask_handled j a k) (cases_Bool (is_judged (phase_before r core p) rec.kind))
 
     idle_state : (c : ℕ) → IsIdle r c p → h.state c (suc p) ≡ h.state c p
     idle_state c idle = ⊎_elim
         (λ same. ⊎_elim
         (λ j. absurd (subst (λ x. (q : StepRecord) → IsJudgedTurn r p x q → ⊥) (sym (eqb-true core c same)) idle rec (record { turn = turn; judged = j })))
         (λ j. ap (λ (x : Snapshot). x.states c) (next_handled j))
-        (cases_Bool (is_judged (mode_before r core p) rec.kind)))
+        (cases_Bool (is_judged (phase_before r core p) rec.kind)))
         (λ apart. other_state c apart)
         (cases_Bool (core == c))
 

@@ -11,7 +11,7 @@ use Rattle.xt_frames.specs.Nesting.{current}
 use Rattle.xt_frames.specs.SaveAreas.{is_live}
 use Rattle.xt_frames.specs.Breaches.{breach_of, inputs_of}
 use Rattle.xt_frames.specs.Verdict.{is_nested}
-use Rattle.xt_frames.specs.FirstBreach.{Course, IsJudgedTurn, IsStale, IsTurn, Shows, frame_before, handler_shows, is_judged, live_before, mode_before, step_at}
+use Rattle.xt_frames.specs.FirstBreach.{Course, IsJudgedTurn, IsStale, IsTurn, Shows, frame_before, handler_shows, is_judged, live_before, phase_before, step_at}
 use Rattle.xt_frames.proofs.Prefixes.{before_or_at, own_frame}
 use Rattle.xt_uses.specs.Disciplines.{Lenient, is_strict}
 use Rattle.xt_uses.specs.UseState.{UseState, opens_unknown, rises_over, stack_pointer, whole_masks}
@@ -125,12 +125,12 @@ module _ (r : Course) (h : History) (p : ℕ) (ordinary : IsOrdinary r) (is : Is
     step_here core rec j =
         let shows = unbroken core rec j.turn in
         let next = own_frame r p core rec j.turn j.judged in
-        let found : Option BreachKind = breach_of (r.bounds core) (not shows.lost) r.code (live_before r p) shows.stale (is_nested (mode_before r core p)) rec (frame_before r core p) in
-        let none : found ≡ None = sym (cond-true (is_judged (mode_before r core p) rec.kind) found (handler_shows r.code (mode_before r core p) rec (frame_before r core p)) j.judged) ∙ shows.shown in
+        let found : Option BreachKind = breach_of (r.bounds core) (not shows.lost) r.code (live_before r p) shows.stale (is_nested (phase_before r core p)) rec (frame_before r core p) in
+        let none : found ≡ None = sym (cond-true (is_judged (phase_before r core p) rec.kind) found (handler_shows r.code (phase_before r core p) rec (frame_before r core p)) j.judged) ∙ shows.shown in
         subst
-        (λ (s : UseState). Steps (frame_before r core p) (fetched_at r p core rec) (step_at r p core rec) (use_step r.code (is_nested (mode_before r core p)) rec (h.mask p) s))
+        (λ (s : UseState). Steps (frame_before r core p) (fetched_at r p core rec) (step_at r p core rec) (use_step r.code (is_nested (phase_before r core p)) rec (h.mask p) s))
         (λ i. record { frame = sym (agrees.frame p core (omega arith)) i; masks = (h.state core p).masks })
-        (turn_steps r.code (r.bounds core) (not shows.lost) (live_before r p) shows.stale (is_nested (mode_before r core p)) rec (h.mask p)
+        (turn_steps r.code (r.bounds core) (not shows.lost) (live_before r p) shows.stale (is_nested (phase_before r core p)) rec (h.mask p)
         (reply_known (live_before r p) shows.stale (h.mask p) (byte_known shows.stale shows.is_stale) rec.access)
         (h.state core p).masks (frame_before r core p) (discipline_is Lenient r h is p core) (agrees.whole p core (omega arith)) none
         (subst (λ (f : FrameState). AreWords f.seen) next (frame_shaped r ordinary core (suc p)).seen)

@@ -19,11 +19,12 @@ use Rattle.xt_frames.specs.Frames.{FrameState}
 use Rattle.xt_frames.specs.FrameStep.{with_inputs}
 use Rattle.xt_frames.specs.Nesting.{current}
 use Rattle.xt_frames.specs.SaveAreas.{is_live}
-use Rattle.xt_frames.specs.HandlerSteps.{Mode, Plain, Handles, Nests}
+use Rattle.xt_frames.specs.declared.kinds.HandlerPhase.{HandlerPhase}
+use Rattle.xt_frames.specs.declared.kinds.HandlerPhase.TheVariants.{Outside, InHandler, Nested}
 use Rattle.xt_frames.specs.Breaches.{Bounds, inputs_of, writes_epc1}
 use Rattle.xt_frames.specs.Verdict.{is_nested}
 use Rattle.xt_frames.specs.FirstBreach.{Course, IsJudgedTurn, IsTurn, LeavesByte, Turn, is_judged}
-use Rattle.xt_frames.specs.FirstBreach.{mode_before, records_before}
+use Rattle.xt_frames.specs.FirstBreach.{phase_before, records_before}
 use Rattle.xt_uses.specs.Disciplines.{Discipline}
 use Rattle.xt_uses.specs.UseState.{UseState, forgets, one_opens_unknown, opening_use}
 use Rattle.xt_uses.specs.UseStep.{UseTurn, carries, use_step}
@@ -40,7 +41,7 @@ pub record History : Type 0 where
 -- the step at turn p, which is this record of this core
 abbrev pub use_at : Course → History → ℕ → ℕ → StepRecord → UseTurn
 use_at r h p core rec =
-    use_step r.code (is_nested (mode_before r core p)) rec (h.mask p) (h.state core p)
+    use_step r.code (is_nested (phase_before r core p)) rec (h.mask p) (h.state core p)
 
 -- the byte is in a live save area of either core before turn p
 abbrev pub live_at : Course → History → ℕ → ℕ → Bool
@@ -145,24 +146,25 @@ pub record IsLost (r : Course) (h : History) (core p : ℕ) : Type 0 where
   pub rec : StepRecord
   pub turn : IsTurn r once core rec
   pub loses :
-      (is_judged (mode_before r core once) rec.kind ≡ false) ⊎ EndsMode r h once core rec
+      (is_judged (phase_before r core once) rec.kind ≡ false) ⊎ EndsMode r h once core rec
   pub since : (i : ℕ) → once ≤ i → i < p → LeavesEpc1 r h core i
 
 -- ---- what a turn shows
 
--- the record of a window exception is tested in the plain mode; another handler step shows nothing
-abbrev pub handler_use : (ℕ → ℕ) → Mode → StepRecord → UseState → Option BreachKind
-handler_use code Plain rec s = window_use code rec s
-handler_use code Handles rec s = None
-handler_use code Nests rec s = None
+-- outside handler steps the record of a window exception is tested; another handler step shows
+-- nothing
+abbrev pub handler_use : (ℕ → ℕ) → HandlerPhase → StepRecord → UseState → Option BreachKind
+handler_use code Outside rec s = window_use code rec s
+handler_use code InHandler rec s = None
+handler_use code Nested rec s = None
 
 abbrev pub record_use :
-    (ℕ → ℕ) → Bounds → Mode → UseState → Bool → (ℕ → Bool) → (ℕ → ℕ) → StepRecord
+    (ℕ → ℕ) → Bounds → HandlerPhase → UseState → Bool → (ℕ → Bool) → (ℕ → ℕ) → StepRecord
     → Option BreachKind
-record_use code b mode s lost live bytes rec =
-    if is_judged mode rec.kind
-    then use_breach b (not lost) code live bytes (is_nested mode) rec s
-    else handler_use code mode rec s
+record_use code b phase s lost live bytes rec =
+    if is_judged phase rec.kind
+    then use_breach b (not lost) code live bytes (is_nested phase) rec s
+    else handler_use code phase rec s
 
 -- turn p, this record of this core, shows `found`, where `lost` tells whether EPC1 is lost
 pub record Shows
@@ -174,7 +176,7 @@ pub record Shows
       record_use
       r.code
       (r.bounds core)
-      (mode_before r core p)
+      (phase_before r core p)
       (h.state core p)
       lost
       (live_at r h p)
@@ -208,7 +210,7 @@ pub record IsFirstUse (r : Course) (h : History) (p : ℕ) (found : Option Breac
 abbrev pub carries_at : Course → History → ℕ → ℕ → Option Turn → ℕ
 carries_at r h core p None = 0
 carries_at r h core p (Some t) =
-    if (t.core == core && is_judged (mode_before r core p) t.rec.kind)
+    if (t.core == core && is_judged (phase_before r core p) t.rec.kind)
     && carries r.code t.rec (h.state core p) (use_at r h p core t.rec)
     then 1
     else 0

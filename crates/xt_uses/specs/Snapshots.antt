@@ -2,7 +2,7 @@
 -- The history of a run, turn by turn.
 use Rattle.std.specs.Prelude.{ℕ, zero, suc, Bool, ◌==◌, ◌||◌, if◌then◌else◌, Option, Some, None}
 use Rattle.std.specs.Prelude.{slice_get}
-use Rattle.xt_frames.specs.FirstBreach.{Course, Turn, is_judged, mode_before}
+use Rattle.xt_frames.specs.FirstBreach.{Course, Turn, is_judged, phase_before}
 use Rattle.xt_frames.specs.SaveAreas.{is_live}
 use Rattle.xt_frames.specs.Verdict.{is_nested}
 use Rattle.xt_uses.specs.Disciplines.{Discipline}
@@ -41,7 +41,7 @@ opening_snapshot d r =
 
 abbrev pub step_in : Course → ℕ → Turn → Snapshot → UseTurn
 step_in r p t s =
-    use_step r.code (is_nested (mode_before r t.core p)) t.rec s.mask (s.states t.core)
+    use_step r.code (is_nested (phase_before r t.core p)) t.rec s.mask (s.states t.core)
 
 abbrev pub states_past : Course → ℕ → Turn → Snapshot → ℕ → UseState
 states_past r p t s core = if t.core == core then (step_in r p t s).after else s.states core
@@ -61,7 +61,7 @@ judged_past r p t s = record {
 abbrev pub turn_past : Course → ℕ → Option Turn → Snapshot → Snapshot
 turn_past r p None s = s
 turn_past r p (Some t) s =
-    if is_judged (mode_before r t.core p) t.rec.kind then judged_past r p t s else s
+    if is_judged (phase_before r t.core p) t.rec.kind then judged_past r p t s else s
 
 -- before turn p
 abbrev pub snapshot : Discipline → Course → ℕ → Snapshot

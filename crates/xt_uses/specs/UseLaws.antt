@@ -40,7 +40,7 @@ use Rattle.xt_frames.specs.declared.holes.Nested.{Nested}
 use Rattle.xt_frames.specs.Frames.{Frame, FrameState, opening_frame}
 use Rattle.xt_frames.specs.FirstBreach.{Course, IsFirstBreach, IsJudgedTurn, IsStale, IsTurn, Shows}
 use Rattle.xt_frames.specs.FirstBreach.{entries_before, frame_before, judged_before, live_before}
-use Rattle.xt_frames.specs.FirstBreach.{mode_before}
+use Rattle.xt_frames.specs.FirstBreach.{phase_before}
 use Rattle.xt_frames.specs.Judging.{place_on}
 use Rattle.xt_frames.specs.Marks.{holds_marks}
 use Rattle.xt_frames.specs.Verdict.{IsFrameTrace, is_nested}
@@ -212,7 +212,7 @@ pub record FitsStep
     (r : Course) (h : History) (opening : MemoryContents) (p core : ℕ) (rec : StepRecord)
     : Type 0 where
   pub place :
-      rec.pc ≡ place_on (is_nested (mode_before r core p)) rec (h.state core p).frame
+      rec.pc ≡ place_on (is_nested (phase_before r core p)) rec (h.state core p).frame
   pub kind : rec.kind ≡ (use_at r h p core rec).turn.kind
   pub write : WriteFits (use_at r h p core rec).mask rec.write (use_at r h p core rec).turn.write
   pub access :

@@ -11,7 +11,9 @@ use Rattle.xt_frames.specs.declared.kinds.BreachKind.{BreachKind}
 use Rattle.xt_frames.specs.Breaches.{Bounds}
 use Rattle.xt_frames.specs.FirstBreach.{Course, by_core, turns}
 use Rattle.xt_frames.specs.Frames.{FrameState}
-use Rattle.xt_frames.specs.HandlerSteps.{Mode, Plain, Handles, Nests, is_window, mode_after}
+use Rattle.xt_frames.specs.declared.kinds.HandlerPhase.{HandlerPhase}
+use Rattle.xt_frames.specs.declared.kinds.HandlerPhase.TheVariants.{Outside, InHandler, Nested}
+use Rattle.xt_frames.specs.HandlerSteps.{is_window, phase_after}
 use Rattle.xt_frames.specs.Nesting.{is_nesting}
 use Rattle.xt_frames.specs.SaveAreas.{is_live}
 use Rattle.xt_uses.specs.Disciplines.{Discipline}
@@ -40,14 +42,14 @@ masks_after now lost stored access masks a =
 pub record UseStanding : Type 0 where
   pub state : UseState
   pub fresh : Bool
-  pub mode : Mode
+  pub phase : HandlerPhase
   -- how many records it has seen, and how many judged steps carry what is not known
   pub steps : ℕ
   pub carried : ℕ
 
 abbrev pub opening_use_standing : Discipline → FrameState → UseStanding
 opening_use_standing d f =
-    record { state = opening_use d f; fresh = true; mode = Plain; steps = 0; carried = 0 }
+    record { state = opening_use d f; fresh = true; phase = Outside; steps = 0; carried = 0 }
 
 -- a record that was seen: a handler step; a judged step, with the masks of bytes after it; or the
 -- first breach
@@ -68,7 +70,7 @@ standing_past code st masks nested rec =
     record {
       state = u.after;
       fresh = fresh_use st.fresh code nested rec masks st.state;
-      mode = mode_after code st.mode rec;
+      phase = phase_after code st.phase rec;
       steps = suc st.steps;
       carried = st.carried + count_of (carries code rec st.state u);
     }
@@ -120,26 +122,26 @@ use_seen_judged code b st others masks nested rec =
 -- past a handler step
 abbrev pub handled_past : (ℕ → ℕ) → UseStanding → StepRecord → UseStanding
 handled_past code st rec =
-    record st { fresh = false; mode = mode_after code st.mode rec; steps = suc st.steps }
+    record st { fresh = false; phase = phase_after code st.phase rec; steps = suc st.steps }
 
 abbrev pub use_seen_window : Option BreachKind → (ℕ → ℕ) → UseStanding → StepRecord → UseSeen
 use_seen_window (Some kind) code st rec = UseBroken kind
 use_seen_window None code st rec = UseHandled (handled_past code st rec)
 
 abbrev pub use_seen_in :
-    Mode → (ℕ → ℕ) → Bounds → UseStanding → (ℕ → Bool) → (ℕ → ℕ) → StepRecord → UseSeen
-use_seen_in Plain code b st others masks rec =
+    HandlerPhase → (ℕ → ℕ) → Bounds → UseStanding → (ℕ → Bool) → (ℕ → ℕ) → StepRecord → UseSeen
+use_seen_in Outside code b st others masks rec =
     if is_window rec.kind then use_seen_window (window_use code rec st.state) code st rec
     else use_seen_judged code b st others masks false rec
-use_seen_in Handles code b st others masks rec =
+use_seen_in InHandler code b st others masks rec =
     if is_nesting rec.kind then use_seen_judged code b st others masks true rec
     else UseHandled (handled_past code st rec)
-use_seen_in Nests code b st others masks rec = use_seen_judged code b st others masks true rec
+use_seen_in Nested code b st others masks rec = use_seen_judged code b st others masks true rec
 
 -- one record of a core, where `others` are the live bytes of the other one
 abbrev pub use_seen :
     (ℕ → ℕ) → Bounds → UseStanding → (ℕ → Bool) → (ℕ → ℕ) → StepRecord → UseSeen
-use_seen code b st others masks rec = use_seen_in st.mode code b st others masks rec
+use_seen code b st others masks rec = use_seen_in st.phase code b st others masks rec
 
 -- ---- both cores
 

@@ -95,15 +95,17 @@ Ok(Uses(Strict)) <- uses --
 Ok(Uses(Lenient)) <- uses --lenient
 Err(Usage(3)) <- uses all
 Err(Usage(3)) <- events --from 0
-Ok(Trace(Turns { from: 0, to: 4294967295, core: None, accesses: false, jumps: false })) <- trace
-Ok(Trace(Turns { from: 35, to: 4294967295, core: None, accesses: false, jumps: false })) <- trace --from 35
-Ok(Trace(Turns { from: 12, to: 16, core: None, accesses: false, jumps: false })) <- trace --to 0x10 --from=12
-Ok(Trace(Turns { from: 9, to: 3, core: None, accesses: false, jumps: false })) <- trace --from 9 --to 3
-Ok(Trace(Turns { from: 0, to: 4294967295, core: Some(1), accesses: false, jumps: false })) <- trace --core 1
-Ok(Trace(Turns { from: 0, to: 4294967295, core: Some(1), accesses: false, jumps: false })) <- trace --core=0x1
-Ok(Trace(Turns { from: 0, to: 7, core: Some(0), accesses: true, jumps: true })) <- trace --jumps --to 7 --core 0 --accesses
+Ok(Trace(Turns { from: 0, to: 4294967295, core: None, accesses: false, jumps: false, frames: false })) <- trace
+Ok(Trace(Turns { from: 35, to: 4294967295, core: None, accesses: false, jumps: false, frames: false })) <- trace --from 35
+Ok(Trace(Turns { from: 12, to: 16, core: None, accesses: false, jumps: false, frames: false })) <- trace --to 0x10 --from=12
+Ok(Trace(Turns { from: 9, to: 3, core: None, accesses: false, jumps: false, frames: false })) <- trace --from 9 --to 3
+Ok(Trace(Turns { from: 0, to: 4294967295, core: Some(1), accesses: false, jumps: false, frames: false })) <- trace --core 1
+Ok(Trace(Turns { from: 0, to: 4294967295, core: Some(1), accesses: false, jumps: false, frames: false })) <- trace --core=0x1
+Ok(Trace(Turns { from: 0, to: 7, core: Some(0), accesses: true, jumps: true, frames: false })) <- trace --jumps --to 7 --core 0 --accesses
 Err(Usage(3)) <- trace --core
 Err(Usage(3)) <- trace --jumps --jumps
+Ok(Trace(Turns { from: 0, to: 4294967295, core: None, accesses: false, jumps: false, frames: true })) <- trace --frames
+Err(Usage(3)) <- trace --frames --frames
 Err(Usage(3)) <- trace --accesses=1
 Err(Usage(4)) <- trace --core 2
 Err(Usage(4)) <- trace --core x

@@ -1,4 +1,4 @@
-use Rattle.std.proofs.Common.{◌≡◌, ◌∙◌, ap, ◌++◌, ℕ, ◌+◌, ◌≤◌, List, drop, arith, rules, codes}
+use Rattle.std.proofs.Common.{◌≡◌, ◌∙◌, ap, ◌++◌, ℕ, ◌+◌, ◌≤◌, List, arith, rules, codes}
 use Rattle.std.specs.Prelude.{string_bytes}
 use Rattle.xt_outcome_report.specs.Orders.{row_text}
 use Rattle.xt_outcome_report.proofs.Rows.{appended, counted}

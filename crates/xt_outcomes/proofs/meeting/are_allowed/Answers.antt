@@ -20,8 +20,8 @@ loop-number-preserved c = λ k w lo at.
     ⊎_elim
     (λ (is : k ≡ n).
     let e : w ≡ x.world = at_once ks n w x.world (subst (λ (j : ℕ). IsAt ks j w) is at) here in (
-      ap (λ (v : World). is_told (constant_byte s.machine.code) s.machine.places.list.items 0 v.side0) e ∙ (sym c.is_told.ensures ∙ c.if-not-is_told.false),
-      ap (λ (v : World). is_told (constant_byte s.machine.code) s.machine.places.list.items 1 v.side1) e ∙ (sym c.is_told-in-loop-number.ensures ∙ c.if-not-is_told-2.false),
+      ap (λ (v : World). is_told (constant_byte s.machine.code) s.machine.places.list.items 0 v.side0.value) e ∙ sym (ap (is_told (constant_byte s.machine.code) s.machine.places.list.items 0) (c.side.ensures s.machine.opening.contents)) ∙ (sym c.is_told.ensures ∙ c.if-not-is_told.false),
+      ap (λ (v : World). is_told (constant_byte s.machine.code) s.machine.places.list.items 1 v.side1.value) e ∙ sym (ap (is_told (constant_byte s.machine.code) s.machine.places.list.items 1) (c.side-in-loop-number.ensures s.machine.opening.contents)) ∙ (sym c.is_told-in-loop-number.ensures ∙ c.if-not-is_told-2.false),
     ))
     (λ (isnt : k ≢ n).
     let other : ¬ (k ≡ n) = isnt in
@@ -31,6 +31,7 @@ loop-number-preserved c = λ k w lo at.
 
 pub returns-then-not-is_told : goal.returns-then-not-is_told
 returns-then-not-is_told c =
+    let s = c.args.search.now in
     let ks = c.args.search.now.graph.kept.items in
     let n = c.loop-number.number in
     let x = c.index.result.now in
@@ -38,11 +39,12 @@ returns-then-not-is_told c =
     let less : n < c.len-number-end.result = c.loop-number-test.true in
     let here = at_kept ks n x (slice_get_read ks (length ks) n x refl (omega arith) c.index.ensures) in (
       λ t. absurd (true≢false (sym t)),
-      λ a. absurd (true≢false (sym (a n x.world here).0 ∙ sym c.is_told.ensures ∙ c.if-not-is_told.true)),
+      λ a. absurd (true≢false (sym (a n x.world here).0 ∙ sym (ap (is_told (constant_byte s.machine.code) s.machine.places.list.items 0) (c.side.ensures s.machine.opening.contents)) ∙ sym c.is_told.ensures ∙ c.if-not-is_told.true)),
     )
 
 pub returns-then-not-is_told-2 : goal.returns-then-not-is_told-2
 returns-then-not-is_told-2 c =
+    let s = c.args.search.now in
     let ks = c.args.search.now.graph.kept.items in
     let n = c.loop-number.number in
     let x = c.index.result.now in
@@ -50,7 +52,7 @@ returns-then-not-is_told-2 c =
     let less : n < c.len-number-end.result = c.loop-number-test.true in
     let here = at_kept ks n x (slice_get_read ks (length ks) n x refl (omega arith) c.index.ensures) in (
       λ t. absurd (true≢false (sym t)),
-      λ a. absurd (true≢false (sym (a n x.world here).1 ∙ sym c.is_told-in-loop-number.ensures ∙ c.if-not-is_told-2.true)),
+      λ a. absurd (true≢false (sym (a n x.world here).1 ∙ sym (ap (is_told (constant_byte s.machine.code) s.machine.places.list.items 1) (c.side-in-loop-number.ensures s.machine.opening.contents)) ∙ sym c.is_told-in-loop-number.ensures ∙ c.if-not-is_told-2.true)),
     )
 
 pub returns : goal.returns

@@ -7,5 +7,5 @@ use Rattle.xt_outcomes.proofs.meeting.are_allowed.Given as goal
 
 abbrev pub invariant-loop-number : goal.invariant-loop-number
 invariant-loop-number l = (k : ℕ) (w : World) → k < l.number → IsAt l.search.graph.kept.items k w
-    → (is_told (constant_byte l.search.machine.code) l.search.machine.places.list.items 0 w.side0 ≡ true)
-    × (is_told (constant_byte l.search.machine.code) l.search.machine.places.list.items 1 w.side1 ≡ true)
+    → (is_told (constant_byte l.search.machine.code) l.search.machine.places.list.items 0 w.side0.value ≡ true)
+    × (is_told (constant_byte l.search.machine.code) l.search.machine.places.list.items 1 w.side1.value ≡ true)

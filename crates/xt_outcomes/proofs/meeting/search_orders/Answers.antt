@@ -12,6 +12,10 @@ if_none : (b : Option Barred) (P Q : Type 0) → (P → Q) → IfNone b P → If
 if_none None P Q f h = f h
 if_none (Some x) P Q f h = tt
 
+all_none : (b : Option Barred) → IfNone b (Unit {0})
+all_none None = tt
+all_none (Some x) = tt
+
 pub returns-clause-ended : goal.returns-clause-ended
 returns-clause-ended c =
     let s : Search = c.in_ok-last.last in
@@ -19,3 +23,8 @@ returns-clause-ended c =
     if_none s.graph.barred (IsWhole s.graph ⊎ (c.args.most ≤ length s.graph.kept.items)) (IsComplete s ⊎ (c.args.most ≤ length s.graph.kept.items))
     (λ h. ⊎_elim (λ (w : IsWhole s.graph). inl (met_is_complete s none w)) (λ (f : c.args.most ≤ length s.graph.kept.items). inr f) h)
     c.in_ok-last.ensures.ended
+
+pub returns-then-is_whole-clause-ended : goal.returns-then-is_whole-clause-ended
+returns-then-is_whole-clause-ended c =
+    let s : Search = c.in_ok-search.search in
+    if_none s.graph.barred (Unit {0}) (IsComplete s ⊎ (c.args.most ≤ length s.graph.kept.items)) (λ u. inl (c.is_whole.ensures.complete.0 c.if-is_whole.true)) (all_none s.graph.barred)

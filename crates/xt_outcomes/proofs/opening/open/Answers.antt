@@ -1,8 +1,11 @@
-use Rattle.xt_core.specs.Runs.{turns_of}
+use Rattle.std.proofs.Common.{◌∙◌}
+use Rattle.xt_core.specs.Runs.{memory_of, turns_of}
 use Rattle.xt_outcomes.proofs.Opens.{opens}
 use Rattle.xt_outcomes.proofs.opening.open.Goals as goal
 
 pub returns : goal.returns
 returns c =
+    let image = c.args.image.now in
     let o = c.args.options.now in
-    opens c.args.image.now o c.args.timed (turns_of 0 o) (turns_of 1 o) c.open.result c.open-2.result c.new.result c.open.ensures c.open-2.ensures c.new.ensures
+    c.in_ok-world.ensures (memory_of image o)
+    ∙ opens image o c.args.timed (turns_of 0 o) (turns_of 1 o) c.open-side0.result c.open-side1.result c.new.result c.open-side0.ensures c.open-side1.ensures c.new.ensures

@@ -1,7 +1,11 @@
-use Rattle.std.proofs.Common.{true}
+use Rattle.std.proofs.Common.{true, ◌∙◌}
+use Rattle.xt_core.specs.Runs.{memory_of}
 use Rattle.xt_outcomes.proofs.Opens.{opens}
 use Rattle.xt_outcomes.proofs.opening.open_with.Goals as goal
 
 pub returns : goal.returns
 returns c =
-    opens c.args.image.now c.args.options.now true c.args.turns c.args.turns c.open.result c.open-2.result c.new.result c.open.ensures c.open-2.ensures c.new.ensures
+    let image = c.args.image.now in
+    let o = c.args.options.now in
+    c.in_ok-world.ensures (memory_of image o)
+    ∙ opens image o true c.args.turns c.args.turns c.open-side0.result c.open-side1.result c.new.result c.open-side0.ensures c.open-side1.ensures c.new.ensures

@@ -36,3 +36,12 @@ returns-clause-number g c = λ w there.
     let l = subst (λ (v : g.row.M-World.Denot). Leads c.args.core v c.in_ok-world.world) same c.in_ok-world.ensures in
     let n = next_in Leads ks c.push.new.self.items x w c.in_ok-push.ensures.items l in
     subst (λ (k : ℕ). IsNext Leads c.push.new.self.items c.args.core w k) (sym (c.len-count.ensures ∙ c.args.graph.now.kept.ok.0)) n
+
+pub returns-in-Some-clause-number : goal.returns-in-Some-clause-number
+returns-in-Some-clause-number g c = λ w there.
+    let ks = c.args.graph.now.kept.items in
+    let here = slice_get_read ks (length ks) c.args.from c.index-2.result.now refl c.requires.from c.index-2.ensures in
+    let same : c.index-2.result.now.world ≡ w = at_once ks c.args.from c.index-2.result.now.world w (at_kept ks c.args.from c.index-2.result.now here) there in
+    let l = subst (λ (v : g.row.M-World.Denot). g.M.Machine.Leads c.args.machine.now c.args.core v c.in_ok-world.world) same c.in_ok-world.ensures in
+    let like = c.in-Some.ensures in
+    (like.0, like.1, like.2 c.args.core w l)

@@ -33,7 +33,7 @@ returns-in_err-judge_whole-clause-seen c others stale known =
     let breach = breach_where s.frames c.judge_whole.new.self code s.steps nested rec found c.judge_whole.result b is
     (judged_still s c.quick.new.self c.judge_whole.new.self code nested rec (either (live_in s.frames) others) stale c.judge_whole.result (c.quick.ensures.other c.if-quick.false) (c.judge_whole.ensures.judged (either (live_in s.frames) others) stale saves loads)) in
     let same : c.from_residual.result ≡ Err b = search rules in
-    let new : Side = record { core = s.core; hi = s.hi; frames = c.judge_whole.new.self; mode = s.mode; steps = s.steps } in
+    let new : Side = record { core = s.core; hi = s.hi; frames = c.judge_whole.new.self; phase = s.phase; steps = s.steps } in
     subst (λ (r : Result Unit Breach). IsSeen s new c.args.marks.now others stale (seen_step found code s.frames.bounds (standing_of s) others stale nested rec) r) (sym same)
     (judged_breaks s new c.args.marks.now others stale code nested rec found b c.requires.side breach)
 
@@ -75,7 +75,7 @@ returns-clause-seen c others stale known =
     let len : length c.store-2.new.marks ≡ 0x52000 = store.len ∙ c.requires.len in
     let followed = c.follow.ensures.follows s.frames.state moves c.depth-depth.ensures.depth (call_still s c.quick.new.self c.newest-call.result (c.quick.ensures.other c.if-quick.false) c.newest-call.ensures) in
     let marks = judged_marks s f moves c.args.marks.now c.store-2.new.marks c.follow.new.marks others stale rec.access c.requires.side bounds len c.depth-depth.ensures.stack c.follow.ensures.stack known store.bytes followed in
-    let new : Side = record { core = s.core; hi = s.hi; frames = f; mode = c.args.next; steps = s.steps + 1 } in
+    let new : Side = record { core = s.core; hi = s.hi; frames = f; phase = c.args.next; steps = s.steps + 1 } in
     judged_past s new f c.follow.new.marks others stale code rec found tt nested c.args.next c.requires.next c.requires.side past.0 past.1 refl marks
 
 pub returns-then-quick-clause-seen : goal.returns-then-quick-clause-seen
@@ -96,5 +96,5 @@ returns-then-quick-clause-seen c others stale known =
     let len : length c.store.new.marks ≡ 0x52000 = store.len ∙ c.requires.len in
     let followed = followed_still s.core s.hi s.frames.state f.state moves c.store.new.marks (c.quick.ensures.frames made) in
     let marks = judged_marks s f moves c.args.marks.now c.store.new.marks c.store.new.marks others stale rec.access c.requires.side bounds len c.depth-depth.ensures.stack c.depth-depth-then-quick.ensures.stack known store.bytes followed in
-    let new : Side = record { core = s.core; hi = s.hi; frames = f; mode = c.args.next; steps = s.steps + 1 } in
+    let new : Side = record { core = s.core; hi = s.hi; frames = f; phase = c.args.next; steps = s.steps + 1 } in
     judged_past s new f c.store.new.marks others stale code rec found tt nested c.args.next c.requires.next c.requires.side past.0 past.1 refl marks

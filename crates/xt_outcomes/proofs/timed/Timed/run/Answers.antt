@@ -1,11 +1,13 @@
-use Rattle.std.proofs.Common.{◌≡◌, ◌+◌, ◌-◌, sym, ◌∙◌, arith}
+use Rattle.std.proofs.Common.{◌≡◌, ◌+◌, ◌-◌, ap, sym, ◌∙◌, subst, true, arith}
 use Rattle.xt_map.specs.Memory.{constant_byte}
+use Rattle.xt_changes.specs.Changed.{contents_of}
 use Rattle.xt_exec.specs.Chips.{processor}
 use Rattle.xt_exec.specs.State.{State}
-use Rattle.xt_outcomes.specs.KeptWorlds.{spot_of}
+use Rattle.xt_outcomes.specs.KeptWorlds.{moved_spot, spot_of}
 use Rattle.xt_outcomes.specs.Places.{is_local, spot_run}
-use Rattle.xt_outcomes.specs.Spots.{Spot, side_of, spot_past}
+use Rattle.xt_outcomes.specs.Spots.{Side, Spot, side_of, spot_past}
 use Rattle.xt_outcomes.proofs.Commuted.{local_bars_none}
+use Rattle.xt_outcomes.proofs.Moving.{moved_first, moved_on, moved_side}
 use Rattle.xt_outcomes.proofs.Spreading.{free_last, onward_end, onward_off, onward_on, onward_start, turn_last}
 use Rattle.xt_outcomes.proofs.timed.Timed.run.Goals as goal
 
@@ -14,9 +16,16 @@ loop-made-init c =
     let t = c.args.self.now in
     let code = constant_byte t.code in
     let m = t.opening.contents in
+    let core = c.args.core in
+    let w = spot_of m c.args.world.now in
+    let u = moved_spot core c.in_ok-side.side (contents_of m c.go_on.new.changes) w in
+    let first : u ≡ spot_past (processor code) t.timed core w =
+    moved_first (processor code) t.timed core w c.side.result.now c.in_ok-side.side (contents_of m c.in_ok-changes.changes) (contents_of m c.go_on.new.changes)
+    (c.side.ensures m) (ap (contents_of m) (c.in_ok-changes.ensures ∙ c.deref.ensures)) c.in_ok-side.ensures.side c.in_ok-side.ensures.memory
+    in
     record {
-      run = onward_start (λ (q : Spot State). is_local code t.timed t.places.list.items c.args.core (side_of c.args.core q)) (spot_past (processor code) t.timed c.args.core) t.most_local (spot_of m c.args.world.now) (spot_of m c.in_ok-next.next) c.in_ok-next.ensures;
-      turns = c.in_ok-next.ensures;
+      run = onward_start (λ (q : Spot State). is_local code t.timed t.places.list.items core (side_of core q)) (spot_past (processor code) t.timed core) t.most_local w u first;
+      turns = first;
       free = (c.requires.free, tt);
       count = omega arith;
     }
@@ -30,15 +39,18 @@ loop-made-preserved c =
     let m = t.opening.contents in
     let core = c.args.core in
     let w = spot_of m c.args.world.now in
-    let u = spot_of m c.loop-made.next in
-    let v = spot_of m c.go_on.new.world in
-    let local = sym c.is_local.ensures ∙ c.if-not-is_local.false in
+    let u = moved_spot core c.loop-made.side (contents_of m c.loop-made.changes) w in
+    let v = moved_spot core c.in_ok-side-2.side (contents_of m c.go_on-in-loop-made.new.changes) w in
+    let here : is_local code t.timed ps core (side_of core u) ≡ true =
+    ap (λ (s : Side State). is_local code t.timed ps core s) (moved_side core c.loop-made.side (contents_of m c.loop-made.changes) w) ∙ sym c.is_local.ensures ∙ c.if-not-is_local.false
+    in
+    let next : v ≡ spot_past P t.timed core u = moved_on P t.timed core w c.loop-made.side c.in_ok-side-2.side (contents_of m c.loop-made.changes) (contents_of m c.go_on-in-loop-made.new.changes) c.in_ok-side-2.ensures.side c.in_ok-side-2.ensures.memory in
     let e : c.loop-made.turns ≡ c.loop-made.made + 1 = c.loop-made.invariant.count in
     record {
       run = onward_on (λ (q : Spot State). is_local code t.timed ps core (side_of core q)) (spot_past P t.timed core) t.most_local c.loop-made.made u v (spot_run code t.timed ps t.most_local core w)
-          c.loop-made-test.true local c.in_ok-go_on.ensures c.loop-made.invariant.run;
-      turns = turn_last (spot_past P t.timed) core c.loop-made.turns u v w c.loop-made.invariant.turns c.in_ok-go_on.ensures;
-      free = free_last code t.timed core c.loop-made.turns u w c.loop-made.invariant.turns c.loop-made.invariant.free (local_bars_none code t.timed ps core (side_of core u) local);
+          c.loop-made-test.true here next c.loop-made.invariant.run;
+      turns = turn_last (spot_past P t.timed) core c.loop-made.turns u v w c.loop-made.invariant.turns next;
+      free = free_last code t.timed core c.loop-made.turns u w c.loop-made.invariant.turns c.loop-made.invariant.free (local_bars_none code t.timed ps core (side_of core u) here);
       count = omega arith;
     }
 
@@ -48,9 +60,15 @@ returns-then-not-is_local-clause-run c =
     let code = constant_byte t.code in
     let m = t.opening.contents in
     let core = c.args.core in
-    onward_off (λ (q : Spot State). is_local code t.timed t.places.list.items core (side_of core q)) (spot_past (processor code) t.timed core) (t.most_local - c.loop-made.made) (spot_of m c.loop-made.next)
-    (spot_run code t.timed t.places.list.items t.most_local core (spot_of m c.args.world.now))
-    (sym c.is_local.ensures ∙ c.if-not-is_local.true) c.loop-made.invariant.run
+    let w = spot_of m c.args.world.now in
+    let u = moved_spot core c.loop-made.side (contents_of m c.loop-made.changes) w in
+    c.in_ok-world.ensures m
+    ∙ onward_off (λ (q : Spot State). is_local code t.timed t.places.list.items core (side_of core q)) (spot_past (processor code) t.timed core) (t.most_local - c.loop-made.made) u
+    (spot_run code t.timed t.places.list.items t.most_local core w)
+    (ap (λ (s : Side State). is_local code t.timed t.places.list.items core s) (moved_side core c.loop-made.side (contents_of m c.loop-made.changes) w) ∙ sym c.is_local.ensures ∙ c.if-not-is_local.true) c.loop-made.invariant.run
+
+pub returns-then-not-is_local-clause-turns : goal.returns-then-not-is_local-clause-turns
+returns-then-not-is_local-clause-turns c = c.in_ok-world.ensures c.args.self.now.opening.contents ∙ c.loop-made.invariant.turns
 
 pub returns-clause-run : goal.returns-clause-run
 returns-clause-run c =
@@ -58,6 +76,11 @@ returns-clause-run c =
     let code = constant_byte t.code in
     let m = t.opening.contents in
     let core = c.args.core in
-    onward_end (λ (q : Spot State). is_local code t.timed t.places.list.items core (side_of core q)) (spot_past (processor code) t.timed core) t.most_local c.loop-made.made (spot_of m c.loop-made.next)
-    (spot_run code t.timed t.places.list.items t.most_local core (spot_of m c.args.world.now))
+    let w = spot_of m c.args.world.now in
+    c.in_ok-world-2.ensures m
+    ∙ onward_end (λ (q : Spot State). is_local code t.timed t.places.list.items core (side_of core q)) (spot_past (processor code) t.timed core) t.most_local c.loop-made.made
+    (moved_spot core c.loop-made.side (contents_of m c.loop-made.changes) w) (spot_run code t.timed t.places.list.items t.most_local core w)
     c.loop-made-test.false c.loop-made.invariant.run
+
+pub returns-clause-turns : goal.returns-clause-turns
+returns-clause-turns c = c.in_ok-world-2.ensures c.args.self.now.opening.contents ∙ c.loop-made.invariant.turns

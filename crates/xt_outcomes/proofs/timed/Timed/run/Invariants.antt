@@ -1,8 +1,9 @@
 use Rattle.std.proofs.Common.{◌≡◌, ◌+◌, ◌-◌}
 use Rattle.xt_map.specs.Memory.{constant_byte}
+use Rattle.xt_changes.specs.Changed.{contents_of}
 use Rattle.xt_exec.specs.Chips.{processor}
 use Rattle.xt_search.specs.Meetings.{after, onward}
-use Rattle.xt_outcomes.specs.KeptWorlds.{spot_of}
+use Rattle.xt_outcomes.specs.KeptWorlds.{moved_spot, spot_of}
 use Rattle.xt_outcomes.specs.Places.{is_local, spot_run, turns_of}
 use Rattle.xt_outcomes.specs.Spots.{TurnsAreFree, side_of, spot_past}
 use Rattle.xt_outcomes.proofs.timed.Timed.run.Given as goal
@@ -10,8 +11,10 @@ use Rattle.xt_outcomes.proofs.timed.Timed.run.Given as goal
 abbrev pub invariant-loop-made : goal.invariant-loop-made
 invariant-loop-made l = record {
   run : spot_run (constant_byte l.self.code) l.self.timed l.self.places.list.items l.self.most_local l.core (spot_of l.self.opening.contents l.world)
-      ≡ onward (λ q. is_local (constant_byte l.self.code) l.self.timed l.self.places.list.items l.core (side_of l.core q)) (spot_past (processor (constant_byte l.self.code)) l.self.timed l.core) (l.self.most_local - l.made) (spot_of l.self.opening.contents l.next);
-  turns : spot_of l.self.opening.contents l.next ≡ after (spot_past (processor (constant_byte l.self.code)) l.self.timed) (turns_of l.core l.turns) (spot_of l.self.opening.contents l.world);
+      ≡ onward (λ q. is_local (constant_byte l.self.code) l.self.timed l.self.places.list.items l.core (side_of l.core q)) (spot_past (processor (constant_byte l.self.code)) l.self.timed l.core) (l.self.most_local - l.made)
+      (moved_spot l.core l.side (contents_of l.self.opening.contents l.changes) (spot_of l.self.opening.contents l.world));
+  turns : moved_spot l.core l.side (contents_of l.self.opening.contents l.changes) (spot_of l.self.opening.contents l.world)
+      ≡ after (spot_past (processor (constant_byte l.self.code)) l.self.timed) (turns_of l.core l.turns) (spot_of l.self.opening.contents l.world);
   free : TurnsAreFree (constant_byte l.self.code) l.self.timed (turns_of l.core l.turns) (spot_of l.self.opening.contents l.world);
   count : l.turns ≡ l.made + 1;
 }

@@ -10,23 +10,23 @@ use Rattle.xt_profile.proofs.tally.Tally.change.Goals as goal
 pub flush-requires-clause-known : goal.flush-requires-clause-known
 flush-requires-clause-known c =
     let q = c.requires.known in
-    let s : Step = step_with_change c.args.pc c.args.mode c.args.change q.1 in
+    let s : Step = step_with_change c.args.pc c.args.phase c.args.change q.1 in
     (q.0, s ∷ q.1, c.count.ensures.counted q.0 q.1 s q.2 refl refl)
 
 pub flush-requires-in-Returns-clause-known : goal.flush-requires-in-Returns-clause-known
 flush-requires-in-Returns-clause-known c =
     let q = c.requires.known in
-    let s : Step = step_with_change c.args.pc c.args.mode c.args.change q.1 in
+    let s : Step = step_with_change c.args.pc c.args.phase c.args.change q.1 in
     (q.0, s ∷ q.1, c.count.ensures.counted q.0 q.1 s q.2 refl refl)
 
 pub returns-in-Stays-clause-tally : goal.returns-in-Stays-clause-tally
 returns-in-Stays-clause-tally c o past h =
-    let s : Step = step_with_change c.args.pc c.args.mode c.args.change past in
+    let s : Step = step_with_change c.args.pc c.args.phase c.args.change past in
     tally_kept o past s c.args.self.now c.count.new.self h refl (ap (λ (y : Change). calls_after y (frames_standing past)) c.in-Stays.is) (ap (λ (v : Vec ℕ Global). v.items) c.count.ensures.functions) (c.count.ensures.counted o past s h refl refl)
 
 pub returns-in_ok-push-in-Calls-clause-tally : goal.returns-in_ok-push-in-Calls-clause-tally
 returns-in_ok-push-in-Calls-clause-tally c o past h =
-    let s : Step = step_with_change c.args.pc c.args.mode c.args.change past in
+    let s : Step = step_with_change c.args.pc c.args.phase c.args.change past in
     let t = c.args.self.now in
     let row = c.in_ok-flush-in-Calls.ensures.row in
     let counted : AreCounted o (s ∷ past) c.flush.new.self = c.in_ok-flush-in-Calls.ensures.counted o (s ∷ past) (c.count.ensures.counted o past s h refl refl) in
@@ -36,7 +36,7 @@ returns-in_ok-push-in-Calls-clause-tally c o past h =
 
 pub returns-then-len-gt1-clause-tally : goal.returns-then-len-gt1-clause-tally
 returns-then-len-gt1-clause-tally c o past h =
-    let s : Step = step_with_change c.args.pc c.args.mode c.args.change past in
+    let s : Step = step_with_change c.args.pc c.args.phase c.args.change past in
     let t = c.args.self.now in
     let old = c.flush-in-Returns.new.self in
     let row = c.in_ok-flush-in-Returns.ensures.row in
@@ -50,7 +50,7 @@ returns-then-len-gt1-clause-tally c o past h =
 
 pub returns-else-len-gt1-clause-tally : goal.returns-else-len-gt1-clause-tally
 returns-else-len-gt1-clause-tally c o past h =
-    let s : Step = step_with_change c.args.pc c.args.mode c.args.change past in
+    let s : Step = step_with_change c.args.pc c.args.phase c.args.change past in
     let t = c.args.self.now in
     let old = c.flush-in-Returns.new.self in
     let row = c.in_ok-flush-in-Returns.ensures.row in

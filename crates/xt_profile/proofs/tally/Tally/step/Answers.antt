@@ -8,12 +8,12 @@ use Rattle.xt_profile.proofs.tally.Tally.step.Goals as goal
 pub flush-requires-clause-known : goal.flush-requires-clause-known
 flush-requires-clause-known c =
     let q = c.requires.known in
-    let s : Step = record { pc = c.args.pc; mode = c.args.mode; before = frames_standing q.1; after = c.args.after } in
+    let s : Step = record { pc = c.args.pc; phase = c.args.phase; before = frames_standing q.1; after = c.args.after } in
     (q.0, s ∷ q.1, c.count.ensures.counted q.0 q.1 s q.2 refl refl)
 
 pub returns : goal.returns
 returns c opening past h =
-    let s : Step = record { pc = c.args.pc; mode = c.args.mode; before = frames_standing past; after = c.args.after } in
+    let s : Step = record { pc = c.args.pc; phase = c.args.phase; before = frames_standing past; after = c.args.after } in
     let t = c.args.self.now in
     let counted : AreCounted opening (s ∷ past) c.flush.new.self = c.in_ok-flush.ensures.counted opening (s ∷ past) (c.count.ensures.counted opening past s h refl refl) in
     let new : Tally = record c.flush.new.self { functions = c.resize.new.self } in
@@ -26,7 +26,7 @@ returns c opening past h =
 
 pub returns-then-depth-len : goal.returns-then-depth-len
 returns-then-depth-len c opening past h =
-    let s : Step = record { pc = c.args.pc; mode = c.args.mode; before = frames_standing past; after = c.args.after } in
+    let s : Step = record { pc = c.args.pc; phase = c.args.phase; before = frames_standing past; after = c.args.after } in
     let t = c.args.self.now in
     let now : c.as_slice-len.result.now ≡ t.functions.items = c.as_slice-len.ensures.value ∙ ap (λ (v : Vec ℕ Global). v.items) c.count.ensures.functions in
     tally_same opening past s t c.count.new.self h refl c.count.ensures.functions (c.if-depth-len.true ∙ ap (λ (xs : List ℕ). length xs) now) (c.count.ensures.counted opening past s h refl refl)

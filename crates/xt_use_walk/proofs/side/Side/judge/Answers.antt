@@ -30,8 +30,8 @@ returns-then-quick-clause-seen c others masks known =
     let store = c.store.ensures in
     let middle = knows_stored s.core c.args.bytes.now c.store.new.self own others masks all_bits rec.access known store.full store.marks store.masks in
     let bytes = follows_same s.core s.uses.bounds.range g u c.store.new.self (stands_same s.uses.bounds.range g u still.frames (λ some. ap (λ n. n - 16) still.sp)) others (without (λ a. own a || others a) (mask_stored all_bits rec.access masks)) middle in
-    let new : Side = record s { uses = uses; mode = c.args.next; steps = s.steps + 1 } in
+    let new : Side = record s { uses = uses; phase = c.args.next; steps = s.steps + 1 } in
     let gone = knows_unmoved s.core c.store.new.self (is_live s.uses.bounds.range u) others _ uses.state (stack_pointer s.uses.state) still.sp bytes in
     let none : s.carried ≡ s.carried + 0 = omega arith in
     judged_past s new uses c.store.new.self others masks code rec (found_by s others masks code nested rec) tt nested c.args.next all_bits 0 c.requires.next c.requires.side past.0 past.1 past.2.stores (ap count_of past.2.unknown) (omega arith)
-    (ap (λ n. record s { uses = uses; mode = c.args.next; steps = s.steps + 1; carried = n }) none) (stack_pointer s.uses.state) refl gone
+    (ap (λ n. record s { uses = uses; phase = c.args.next; steps = s.steps + 1; carried = n }) none) (stack_pointer s.uses.state) refl gone

@@ -46,7 +46,7 @@ returns-clause-seen c others masks known touched =
     let followed = c.follow.ensures.follows s.uses.state.frame moves (subst (λ (b : Bounds). StackOf b s.uses.state.frame) (sym bounds) c.depth-depth.ensures.stack) c.depth-depth.ensures.depth c.newest-call.ensures in
     let bytes = followed_on s.core s.uses.bounds uses.bounds s.uses.state.frame uses.state.frame c.store.new.self c.follow.new.bytes bounds followed others (without (λ a. own a || others a) (mask_stored used.stored rec.access masks)) middle in
     let n = c.count_of.result in
-    let new : Side = record s { uses = uses; mode = c.args.next; steps = s.steps + 1; carried = s.carried + n } in
+    let new : Side = record s { uses = uses; phase = c.args.next; steps = s.steps + 1; carried = s.carried + n } in
     let sp = c.newest_sp-sp.ensures.value in
     let forget = c.forget.ensures in
     let gone = knows_forgotten s.core c.follow.new.bytes c.forget.new.bytes (is_live s.uses.bounds.range uses.state.frame) others (forgets_byte uses.state c.newest_sp-sp.result) _ bytes forget.full forget.marks forget.masks in

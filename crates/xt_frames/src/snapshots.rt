@@ -1,0 +1,299 @@
+//! Copies of a core of the machine with unbounded frames.
+#![tactic(auto)]
+
+ghost use Rattle.std.specs.Prelude.{◌≡◌, ◌≤◌, true, IfOk, length, vec_capacity};
+ghost use Rattle.xt_frames.specs.Nesting.{current};
+
+use crate::breach::Limits;
+use crate::frames::Frames;
+use crate::holes::{Nested, UndefinedParts};
+use crate::view::{Caller, FrameRegisters};
+use std::alloc::{AllocError, Global};
+use std::marker::Model;
+use xt_special::{Ps, Special};
+
+/// A copy of a core of the machine with unbounded frames, in as much memory as its frames take.
+/// Contracts see what they see of the core.
+#[derive(Drop)]
+pub struct Snapshot {
+    pub(crate) core: u8,
+    pub(crate) limits: Limits,
+    pub(crate) view: FrameRegisters,
+    pub(crate) holes: UndefinedParts,
+    // The callers, the oldest first.
+    pub(crate) callers: Vec<Caller>,
+    // Whether EPC1 has what was last written.
+    pub(crate) fresh: bool,
+}
+
+impl Model for Snapshot {
+    ghost use Rattle.std.specs.Prelude.{IfSome};
+    ghost use Rattle.xt_special.specs.Shape.{IsPs};
+    ghost use Rattle.xt_frames.specs.KeptFrameState.{frames_of, state_at};
+    ghost use Rattle.xt_frames.specs.Stacks.{Stack};
+    ghost use Rattle.xt_frames.specs.Walked.{Walked, bounds_of};
+
+    ghost Value = { Walked };
+
+    ghost view = { λ f. record { core = f.core; bounds = bounds_of f.limits; state = state_at (frames_of f.callers.items) f.holes f.view; fresh = f.fresh; next = 0 } };
+
+    ghost invariant = { λ f. Stack f.limits.lo f.limits.hi f.view.seen (frames_of f.callers.items) × IfSome f.holes.nested (λ x. IsPs x.ps) };
+}
+
+// The same callers.
+fn copied(alloc: Global, callers: &[Caller]) -> Result<Vec<Caller>, AllocError>
+    ensures { IfOk result (λ v. v.items ≡ callers.now) }
+{
+    let mut copy = Vec::new(alloc);
+    copy.extend_from_slice(callers)?;
+    Ok(copy)
+}
+
+// Puts these callers in place of those that there are. Takes no memory.
+fn put(callers: &mut Vec<Caller>, items: &[Caller])
+    requires { length items.now ≤ vec_capacity callers.old }
+    ensures items { callers.new.items ≡ items.now }
+    ensures room { vec_capacity callers.new ≡ vec_capacity callers.old }
+{
+    callers.clear();
+    for caller in items {
+        callers.push_reserved(*caller);
+    }
+}
+
+// Whether all fields of PS are equal.
+fn is_same_ps(a: Ps, b: Ps) -> bool
+    ensures { result ≡ true → a ≡ b }
+{
+    a == b
+}
+
+// Whether all special registers are seen to be equal.
+fn is_same_special(a: &Special, b: &Special) -> bool
+    requires count_a { length a.now.file ≡ 256 }
+    requires count_b { length b.now.file ≡ 256 }
+    ensures { result ≡ true → a.now ≡ b.now }
+{
+    for n in 0..256u32 {
+        if a.register(n as u8) != b.register(n as u8) {
+            return false;
+        }
+    }
+    is_same_ps(a.ps_fields(), b.ps_fields()) && a.threadptr() == b.threadptr()
+}
+
+// Whether the same registers are seen to have the same values.
+fn are_same_values(a: &[Option<u32>], b: &[Option<u32>]) -> bool
+    ensures { result ≡ true → a.now ≡ b.now }
+{
+    a == b
+}
+
+// Whether the same registers are seen to hold the same marks.
+fn are_same_marks(a: &[Option<u8>], b: &[Option<u8>]) -> bool
+    ensures { result ≡ true → a.now ≡ b.now }
+{
+    a == b
+}
+
+// Whether the same registers are seen to have no number.
+fn are_same_unset(a: &[bool], b: &[bool]) -> bool
+    ensures { result ≡ true → a.now ≡ b.now }
+{
+    a == b
+}
+
+// Whether both views are seen to be equal.
+fn is_same_view(a: &FrameRegisters, b: &FrameRegisters) -> bool
+    requires count_a { length a.now.control.special ≡ 256 }
+    requires count_b { length b.now.control.special ≡ 256 }
+    ensures { result ≡ true → a.now ≡ b.now }
+{
+    if a.pc != b.pc || a.waits != b.waits {
+        return false;
+    }
+    if !are_same_values(&a.seen, &b.seen) {
+        return false;
+    }
+    is_same_special(&a.special, &b.special)
+}
+
+// Whether both interrupts are seen to be equal.
+fn is_same_nested(a: &Nested, b: &Nested) -> bool
+    ensures { result ≡ true → a.now ≡ b.now }
+{
+    if a.pc != b.pc {
+        return false;
+    }
+    if !are_same_values(&a.seen, &b.seen) {
+        return false;
+    }
+    if !is_same_ps(a.ps, b.ps) {
+        return false;
+    }
+    if !are_same_marks(&a.marks, &b.marks) {
+        return false;
+    }
+    are_same_marks(&a.saved, &b.saved)
+}
+
+// Whether both nested interrupts are seen to be equal, or there is none.
+fn is_same_interrupt(a: &Option<Nested>, b: &Option<Nested>) -> bool
+    ensures { result ≡ true → a.now ≡ b.now }
+{
+    match a {
+        None => b.is_none(),
+        Some(x) => match b {
+            None => false,
+            Some(y) => is_same_nested(x, y),
+        },
+    }
+}
+
+// Whether the same is beside both views.
+fn is_same_holes(a: &UndefinedParts, b: &UndefinedParts) -> bool
+    ensures { result ≡ true → a.now ≡ b.now }
+{
+    if !are_same_unset(&a.unset, &b.unset) {
+        return false;
+    }
+    is_same_interrupt(&a.nested, &b.nested)
+}
+
+// Whether both callers are seen to be equal.
+fn is_same_caller(a: &Caller, b: &Caller) -> bool
+    ensures { result ≡ true → a.now ≡ b.now }
+{
+    if a.by != b.by {
+        return false;
+    }
+    are_same_values(&a.kept, &b.kept)
+}
+
+// Whether both cores are judged by the same.
+fn is_same_limits(a: Limits, b: Limits) -> bool
+    ensures { result ≡ true → a ≡ b }
+{
+    a.lo == b.lo && a.hi == b.hi && a.vecbase == b.vecbase
+}
+
+// Whether all callers are seen to be equal.
+fn are_same(a: &[Caller], b: &[Caller]) -> bool
+    ensures { result ≡ true → a.now ≡ b.now }
+{
+    if a.len() != b.len() {
+        return false;
+    }
+    for n in 0..a.len() {
+        if !is_same_caller(&a[n], &b[n]) {
+            return false;
+        }
+    }
+    true
+}
+
+impl Frames {
+    ghost use Rattle.xt_frames.specs.Walked.{bounds_of, fresh_before};
+
+    /// A copy of the core as it is before the record of this number, which is counted anew from it on.
+    /// The only error is running out of memory.
+    pub fn snapshot(&self, alloc: Global, index: u32) -> Result<Snapshot, AllocError>
+        ensures { IfOk result (λ s. s ≡ record self.now { fresh = fresh_before self.now index; next = 0 }) }
+    {
+        Ok(Snapshot {
+            core: self.core,
+            limits: self.limits,
+            view: self.view,
+            holes: self.holes,
+            callers: copied(alloc, &self.callers)?,
+            fresh: self.fresh && self.next == u64::from(index),
+        })
+    }
+
+    /// What the core is judged by.
+    pub fn limits(&self) -> Limits
+        ensures { bounds_of result ≡ self.now.bounds }
+    {
+        self.limits
+    }
+}
+
+impl Snapshot {
+    /// The core that was copied, with room for all frames that can stand on its stack. The only error is
+    /// running out of memory.
+    pub fn frames(&self, alloc: Global) -> Result<Frames, AllocError>
+        ensures { IfOk result (λ f. f ≡ self.now) }
+    {
+        let room = (self.limits.hi - self.limits.lo) / 16 + 2;
+        let mut callers = Vec::with_capacity(alloc, room as usize)?;
+        put(&mut callers, &self.callers);
+        Ok(Frames {
+            core: self.core,
+            limits: self.limits,
+            view: self.view,
+            holes: self.holes,
+            callers,
+            fresh: self.fresh,
+            next: 0,
+        })
+    }
+
+    /// The same copy once more. The only error is running out of memory.
+    pub fn copy(&self, alloc: Global) -> Result<Snapshot, AllocError>
+        ensures { IfOk result (λ s. s ≡ self.now) }
+    {
+        Ok(Snapshot {
+            core: self.core,
+            limits: self.limits,
+            view: self.view,
+            holes: self.holes,
+            callers: copied(alloc, &self.callers)?,
+            fresh: self.fresh,
+        })
+    }
+
+    /// What the next step finds, but for the callers: the state of a nested interrupt where there is one.
+    pub fn current(&self) -> FrameRegisters
+        ensures { result.control ≡ (current self.now.state).control }
+    {
+        self.view.current(&self.holes)
+    }
+
+    /// Whether both are seen to be equal.
+    ///
+    /// Condition: both have 256 special registers.
+    pub fn is_same(&self, other: &Snapshot) -> bool
+        requires count_a { length self.now.state.control.special ≡ 256 }
+        requires count_b { length other.now.state.control.special ≡ 256 }
+        ensures { result ≡ true → self.now ≡ other.now }
+    {
+        if self.core != other.core || self.fresh != other.fresh {
+            return false;
+        }
+        if !is_same_limits(self.limits, other.limits) {
+            return false;
+        }
+        if !is_same_view(&self.view, &other.view) {
+            return false;
+        }
+        if !is_same_holes(&self.holes, &other.holes) {
+            return false;
+        }
+        are_same(&self.callers, &other.callers)
+    }
+
+    /// A number that is the same for equal copies.
+    pub fn digest(&self) -> u64 {
+        let mut digest = u64::from(self.view.pc).wrapping_add(self.callers.len() as u64);
+        for n in 0..16u8 {
+            let known = match self.view.visible(n) {
+                Some(value) => u64::from(value).wrapping_add(1),
+                None => 0,
+            };
+            digest = digest
+                .wrapping_mul(0x9E37_79B9_7F4A_7C15)
+                .wrapping_add(known);
+        }
+        digest
+    }
+}

@@ -1,0 +1,12 @@
+pub mod Areas
+pub mod Among
+pub mod Count
+pub mod Gathered
+pub mod StaleAfter
+pub mod SeenAs
+pub mod KnownAs
+pub mod Turned
+pub mod Alone
+pub mod Stretches
+pub mod Every
+pub mod Confirmed

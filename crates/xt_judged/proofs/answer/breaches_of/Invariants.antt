@@ -1,0 +1,6 @@
+use Rattle.std.specs.Prelude.{All}
+use Rattle.xt_judged.specs.Found.{IsSeenAfter}
+use Rattle.xt_judged.proofs.answer.breaches_of.Given as goal
+
+abbrev pub invariant-loop-number : goal.invariant-loop-number
+invariant-loop-number l = All (IsSeenAfter l.image l.options l.timed) l.list.items

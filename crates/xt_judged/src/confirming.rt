@@ -1,0 +1,132 @@
+//! Whether the run of an order has a breach as its verdict.
+ghost use Rattle.std.specs.Prelude.{◌≡◌, ◌≤◌, ◌<◌, true, Some, IfOk, length, option_map, slice_get};
+ghost use Rattle.xt_trace.specs.Validity.{IsValid};
+ghost use Rattle.xt_image.specs.ImageParts.{IsWellFormed};
+ghost use Rattle.xt_core.specs.Runs.{IsRunOf, records_of};
+ghost use Rattle.xt_search.specs.Worlds.{IsOrder};
+ghost use Rattle.xt_judged.specs.OrderFrames.{IsRealBreach, judged_of, turns_in};
+
+use crate::frames::OrderBreach;
+use std::alloc::{AllocError, Global};
+use xt_core::Cursor;
+use xt_discipline::{handlers_of, judge};
+use xt_frames::{Breach, BreachKind, Judged};
+use xt_image::{Image, well_formed_is_placed};
+use xt_machine::{run_has_schedule, run_schedule};
+use xt_trace::{Options, Records, Run, StepRecord};
+
+// No core has more than 4,000,000 turns.
+const MOST: usize = 8_000_000;
+
+// How many turns of a core an order has.
+fn turns_in(order: &[u8], core: u8) -> u32
+    requires { length order.now ≤ 8000000 }
+    ensures { result ≡ turns_in core order.now }
+{
+    let mut turns = 0;
+    let mut at = order.len();
+    while at > 0 {
+        at -= 1;
+        if order[at] == core {
+            turns += 1;
+        }
+    }
+    turns
+}
+
+// The record with this number, of those that are left.
+fn record_at<R: Records>(records: &mut R, number: u32) -> Option<StepRecord>
+    ensures { result ≡ slice_get (R.left records.old) number }
+{
+    for _ in 0..number {
+        let _ = records.next();
+    }
+    records.next()
+}
+
+// Whether the record with this number of a core has this address. The only error is running out of memory.
+fn stands_at(
+    alloc: Global,
+    image: &Image,
+    run: &Run,
+    found: Breach,
+    pc: u32,
+) -> Result<bool, AllocError>
+    requires core { found.core < 2 }
+    requires image { IsWellFormed image.now }
+    requires run { IsRunOf image.now run.now }
+    ensures { IfOk result (λ is. is ≡ true → option_map (λ r. r.pc) (slice_get (records_of found.core image.now run.now).records found.step) ≡ Some pc) }
+{
+    well_formed_is_placed();
+    let mut records = Cursor::make(alloc, image, run, found.core)?;
+    match record_at(&mut records, found.step) {
+        Some(record) => Ok(record.pc == pc),
+        None => Ok(false),
+    }
+}
+
+// What is judged of a run. The only error is running out of memory.
+fn verdict_of(alloc: Global, image: &Image, run: &Run) -> Result<Judged, AllocError>
+    requires image { IsWellFormed image.now }
+    requires valid { IsValid run.now.options }
+    requires run { IsRunOf image.now run.now }
+    ensures { IfOk result (λ judged. judged ≡ judged_of image.now run.now) }
+{
+    well_formed_is_placed();
+    run_has_schedule();
+    let handlers = handlers_of(alloc, image, run.options.vecbase)?;
+    let mut records0 = Cursor::make(alloc, image, run, 0)?;
+    let mut records1 = Cursor::make(alloc, image, run, 1)?;
+    let judged = judge(alloc, image, &handlers, run, &mut records0, &mut records1)?;
+    Ok(judged)
+}
+
+// Whether both kinds are the same.
+fn is_same_kind(a: BreachKind, b: BreachKind) -> bool
+    ensures { result ≡ true → a ≡ b }
+{
+    a == b
+}
+
+/// Whether the run of an order's turns has this breach as its verdict. The only error is running out of
+/// memory.
+///
+/// Conditions: the image is well formed, the options are valid, and the order is one of two cores.
+pub fn is_real(
+    alloc: Global,
+    image: &Image,
+    options: &Options,
+    breach: &OrderBreach,
+) -> Result<bool, AllocError>
+    requires image { IsWellFormed image.now }
+    requires valid { IsValid options.now }
+    requires order { IsOrder breach.now.order.items }
+    ensures { IfOk result (λ real. real ≡ true → IsRealBreach image.now options.now breach.now) }
+{
+    let order = breach.order.as_slice();
+    if order.len() > MOST {
+        return Ok(false);
+    }
+    let own = Options {
+        turns0: turns_in(order, 0),
+        turns1: turns_in(order, 1),
+        entry1: options.entry1,
+        vecbase: options.vecbase,
+        stack0: options.stack0,
+        stack1: options.stack1,
+    };
+    if breach.core > 1 || !own.valid() {
+        return Ok(false);
+    }
+    let run = run_schedule(alloc, image, &own, order)?;
+    match verdict_of(alloc, image, &run)? {
+        Judged::Broken(found) => {
+            if found.core != breach.core || !is_same_kind(found.kind, breach.kind) {
+                return Ok(false);
+            }
+            stands_at(alloc, image, &run, found, breach.pc)
+        }
+        Judged::Whole => Ok(false),
+        Judged::Unchecked => Ok(false),
+    }
+}

@@ -1,0 +1,329 @@
+//! The turns of two cores that the judge sees. A core that has made a turn without an access goes on
+//! alone up to its next access: so the turns stand as in the schedule of the run that they make.
+ghost use Rattle.std.specs.Prelude.{◌≡◌, ◌<◌, IfOk};
+ghost use Rattle.xt_map.specs.Memory.{constant_byte};
+ghost use Rattle.xt_map.specs.declared.contents.MemoryContents.{MemoryContents};
+ghost use Rattle.xt_exec.specs.Chips.{processor};
+ghost use Rattle.xt_search.specs.Meetings.{after};
+ghost use Rattle.xt_outcomes.specs.KeptWorlds.{spot_of};
+ghost use Rattle.xt_outcomes.specs.Places.{turns_of};
+ghost use Rattle.xt_scenes.specs.Alone.{is_other, only_after};
+ghost use Rattle.xt_scenes.specs.Scenes.{is_idle, scene_past, seen_at};
+ghost use Rattle.xt_judged.specs.Kept.{IsTurn, bars, bounds0, bounds1, goes_on, moved_scene, other_of, own_of, scene_of, stretch};
+ghost use Rattle.xt_judged.specs.Lives.{AreApart};
+ghost use Rattle.xt_judged.specs.Seen.{IsApartPast, IsKnownPast};
+ghost use Rattle.xt_judged.specs.Stales.{renewed};
+
+use crate::clock::uses_time;
+use crate::moved::is_same_world;
+use crate::record::{Known, see_record};
+use crate::scene::{Scene, Shown, Standing};
+use crate::stale::Stale;
+use std::alloc::{AllocError, Global};
+use std::rc::Rc;
+use xt_changes::Changes;
+use xt_frames::BreachKind;
+use xt_outcomes::{Part, Shelf, Side, Timed, World};
+use xt_search::Machine;
+use xt_trace::StepRecord;
+
+/// The machine of an image, whose turns the judge sees.
+#[derive(Drop)]
+pub struct Judging<'a> {
+    pub timed: Timed<'a>,
+    /// How many turns a core makes alone at once at most, after a turn.
+    pub most_alone: u16,
+    pub alloc: Global,
+}
+
+/// A scene, and how many turns of a core led to it.
+#[derive(Drop)]
+pub struct Run {
+    pub scene: Scene,
+    pub turns: u32,
+}
+
+/// What scenes share.
+#[derive(Drop)]
+pub struct Desk {
+    sides: Shelf<Side>,
+    changes: Shelf<Changes>,
+    standings: Shelf<Standing>,
+    stales: Shelf<Stale>,
+}
+
+// The kept part that is equal to this one: itself, if it has another owner. The only error is running out
+// of memory.
+fn shelved<T: Part + Drop>(
+    shelf: &mut Shelf<T>,
+    alloc: Global,
+    part: Rc<T>,
+) -> Result<Rc<T>, AllocError>
+    ensures { IfOk result (λ rc. rc.value ≡ part.value) }
+{
+    match Rc::try_unwrap(part) {
+        Ok(value) => shelf.shared(alloc, value),
+        Err(part) => Ok(part),
+    }
+}
+
+impl Desk {
+    /// Nothing is shared yet. The only error is running out of memory.
+    pub fn new(alloc: Global) -> Result<Desk, AllocError> {
+        Ok(Desk {
+            sides: Shelf::new(alloc)?,
+            changes: Shelf::new(alloc)?,
+            standings: Shelf::new(alloc)?,
+            stales: Shelf::new(alloc)?,
+        })
+    }
+
+    // The same world, of parts that are kept. The only error is running out of memory.
+    fn world(&mut self, alloc: Global, world: World) -> Result<World, AllocError>
+        ensures { IfOk result (λ w. (m : MemoryContents) → spot_of m w ≡ spot_of m world) }
+    {
+        Ok(World {
+            side0: shelved(&mut self.sides, alloc, world.side0)?,
+            side1: shelved(&mut self.sides, alloc, world.side1)?,
+            changes: shelved(&mut self.changes, alloc, world.changes)?,
+        })
+    }
+
+    // The same scene, of parts that are kept. The only error is running out of memory.
+    fn scene(&mut self, alloc: Global, scene: Scene) -> Result<Scene, AllocError>
+        ensures scene { IfOk result (λ s. (m : MemoryContents) → scene_of m s ≡ scene_of m scene) }
+        ensures same0 { IfOk result (λ s. bounds0 s ≡ bounds0 scene) }
+        ensures same1 { IfOk result (λ s. bounds1 s ≡ bounds1 scene) }
+    {
+        Ok(Scene {
+            world: self.world(alloc, scene.world)?,
+            standing0: shelved(&mut self.standings, alloc, scene.standing0)?,
+            standing1: shelved(&mut self.standings, alloc, scene.standing1)?,
+            stale: shelved(&mut self.stales, alloc, scene.stale)?,
+            only: scene.only,
+            breach: scene.breach,
+        })
+    }
+}
+
+// The stale bytes past a record: those before it, where there are no others. The only error is running out
+// of memory.
+fn renewed(alloc: Global, old: &Rc<Stale>, new: Option<Stale>) -> Result<Rc<Stale>, AllocError>
+    ensures { IfOk result (λ rc. rc.value ≡ renewed old.now.value new) }
+{
+    match new {
+        Some(stale) => {
+            let stale = Rc::new(alloc, stale)?;
+            Ok(stale)
+        }
+        None => {
+            let stale = old.clone()?;
+            Ok(stale)
+        }
+    }
+}
+
+// Whether another core than this one goes on alone.
+fn is_other(core: u8, only: Option<u8>) -> bool
+    ensures { result ≡ is_other core only }
+{
+    match only {
+        Some(only) => only != core,
+        None => false,
+    }
+}
+
+// Whether a core makes no turn: a breach came, the other core goes on alone, or it has ended.
+fn is_idle(scene: &Scene, core: u8) -> bool
+    ensures { (m : MemoryContents) → result ≡ is_idle core (scene_of m scene.now) }
+{
+    if scene.breach.is_some() {
+        return true;
+    }
+    if is_other(core, scene.only) {
+        return true;
+    }
+    scene.side(core).left() == 0
+}
+
+// The core that has to go on alone after a turn with this record.
+fn only_after(core: u8, rec: &StepRecord) -> Option<u8>
+    ensures { result ≡ only_after core rec.now.access }
+{
+    match rec.access {
+        Some(_) => None,
+        None => Some(core),
+    }
+}
+
+impl<'a> Judging<'a> {
+    // What the judge sees in the record of a core's turn. The only error is running out of memory.
+    fn seen(
+        &self,
+        scene: &Scene,
+        core: u8,
+        rec: &StepRecord,
+    ) -> Result<Result<Known, BreachKind>, AllocError>
+        ensures known { (m : MemoryContents) → IfOk result (IsKnownPast (own_of core scene.now) scene.now.stale.value (seen_at (constant_byte self.now.timed.code) (bounds0 scene.now) (bounds1 scene.now) core (scene_of m scene.now) rec.now)) }
+        ensures apart { IfOk result (IsApartPast (other_of core scene.now) scene.now.stale.value) }
+    {
+        let own = scene.own(core);
+        let other = scene.other(core);
+        see_record(
+            self.alloc,
+            &self.timed.code,
+            own,
+            other,
+            scene.stale.as_ref(),
+            rec,
+        )
+    }
+
+    // The scene past a turn of a core, which came so far and showed no breach, and after which so much is
+    // known. The only error is running out of memory.
+    fn past(
+        &self,
+        scene: &Scene,
+        core: u8,
+        side: Side,
+        changes: Changes,
+        known: Known,
+        rec: &StepRecord,
+    ) -> Result<Scene, AllocError>
+        requires apart { AreApart known.standing.frames (other_of core scene.now).frames (renewed scene.now.stale.value known.stale) }
+        requires same { known.standing.frames.bounds ≡ (own_of core scene.now).frames.bounds }
+        ensures scene { IfOk result (λ s. (m : MemoryContents) → scene_of m s ≡ moved_scene m core scene.now side changes known.standing (renewed scene.now.stale.value known.stale) (only_after core rec.now.access)) }
+        ensures same0 { IfOk result (λ s. bounds0 s ≡ bounds0 scene.now) }
+        ensures same1 { IfOk result (λ s. bounds1 s ≡ bounds1 scene.now) }
+    {
+        let Known { standing, stale } = known;
+        let side = Rc::new(self.alloc, side)?;
+        let changes = Rc::new(self.alloc, changes)?;
+        let standing = Rc::new(self.alloc, standing)?;
+        let stale = renewed(self.alloc, &scene.stale, stale)?;
+        scene.moved(core, side, changes, standing, stale, only_after(core, rec))
+    }
+
+    // The scene past a turn of a core. The only error is running out of memory.
+    //
+    // Condition: the core is 0 or 1.
+    fn turn(&self, scene: &Scene, core: u8) -> Result<Scene, AllocError>
+        requires { core < 2 }
+        ensures { IfOk result (IsTurn (constant_byte self.now.timed.code) self.now.timed.timed self.now.timed.opening.contents core scene.now) }
+    {
+        if is_idle(scene, core) {
+            return scene.with_breach(scene.breach);
+        }
+        let mut changes = scene.world.changes.copy(self.alloc)?;
+        let (side, rec) = scene.side(core).recorded(
+            &self.timed.code,
+            &self.timed.opening,
+            &mut changes,
+            self.timed.timed,
+        )?;
+        match self.seen(scene, core, &rec)? {
+            Ok(known) => self.past(scene, core, side, changes, known, &rec),
+            Err(kind) => {
+                let pc = rec.pc;
+                scene.with_breach(Some(Shown { core, pc, kind }))
+            }
+        }
+    }
+
+    // Whether the search has to end before a core makes its turn, since that uses time.
+    fn bars(&self, scene: &Scene, core: u8) -> bool
+        ensures { result ≡ bars (constant_byte self.now.timed.code) self.now.timed.timed self.now.timed.opening.contents core scene.now }
+    {
+        if is_idle(scene, core) {
+            return false;
+        }
+        if scene.side(core).bars(&self.timed.code, self.timed.timed) {
+            return true;
+        }
+        if self.timed.timed {
+            return false;
+        }
+        uses_time(&self.timed.code, &scene.own(core).frames)
+    }
+
+    // Whether a core goes on alone, by a turn that uses no time.
+    fn goes_on(&self, scene: &Scene, core: u8) -> bool
+        ensures { result ≡ goes_on (constant_byte self.now.timed.code) self.now.timed.timed core (scene_of self.now.timed.opening.contents scene.now) }
+    {
+        if is_idle(scene, core) {
+            return false;
+        }
+        if scene.only.is_none() {
+            return false;
+        }
+        !self.bars(scene, core)
+    }
+
+    /// A turn of a core, and then those that it makes alone. The only error is running out of memory.
+    ///
+    /// Condition: the core is 0 or 1.
+    pub fn run(&self, scene: &Scene, core: u8) -> Result<Run, AllocError>
+        requires { core < 2 }
+        ensures stretch { let t = self.now.timed in IfOk result (λ r. scene_of t.opening.contents r.scene ≡ stretch (constant_byte t.code) (bounds0 scene.now) (bounds1 scene.now) t.timed self.now.most_alone core (scene_of t.opening.contents scene.now)) }
+        ensures turns { let t = self.now.timed in IfOk result (λ r. scene_of t.opening.contents r.scene ≡ after (scene_past (processor (constant_byte t.code)) (constant_byte t.code) (bounds0 scene.now) (bounds1 scene.now) t.timed) (turns_of core r.turns) (scene_of t.opening.contents scene.now)) }
+        ensures same0 { IfOk result (λ r. bounds0 r.scene ≡ bounds0 scene.now) }
+        ensures same1 { IfOk result (λ r. bounds1 r.scene ≡ bounds1 scene.now) }
+    {
+        let mut next = self.turn(scene, core)?;
+        let mut turns = 1;
+        for made in 0..self.most_alone {
+            if !self.goes_on(&next, core) {
+                return Ok(Run { scene: next, turns });
+            }
+            next = self.turn(&next, core)?;
+            turns += 1;
+        }
+        Ok(Run { scene: next, turns })
+    }
+}
+
+impl<'a> Machine for Judging<'a> {
+    ghost use Rattle.std.specs.Prelude.{◌==◌, ◌&&◌};
+
+    type World = Scene;
+
+    type Desk = Desk;
+
+    ghost use Rattle.xt_judged.specs.Kept as kept;
+
+    ghost Leads = { λ t c v w. kept.Leads (constant_byte t.timed.code) t.timed.timed t.most_alone t.timed.opening.contents c v w };
+
+    ghost bars = { λ t c w. kept.bars (constant_byte t.timed.code) t.timed.timed t.timed.opening.contents c w };
+
+    ghost ends = { λ _ w. (w.world.side0.value.left == 0) && (w.world.side1.value.left == 0) };
+
+    fn is_barred(&self, scene: &Scene, core: u8) -> bool {
+        self.bars(scene, core)
+    }
+
+    fn turned(&self, desk: &mut Desk, scene: &Scene, core: u8) -> Result<Scene, AllocError> {
+        let run = self.run(scene, core)?;
+        desk.scene(self.alloc, run.scene)
+    }
+
+    fn is_same(&self, a: &Scene, b: &Scene) -> bool {
+        is_same_world(&a.world, &b.world) && a.is_judged_as(b)
+    }
+
+    fn is_end(&self, scene: &Scene) -> bool {
+        scene.world.side0.left() == 0 && scene.world.side1.left() == 0
+    }
+
+    fn digest(&self, scene: &Scene) -> u64 {
+        let core = match scene.only {
+            Some(core) => u64::from(core).wrapping_add(1),
+            None => 0,
+        };
+        self.timed
+            .digest(&scene.world)
+            .wrapping_add(scene.standing0.digest().wrapping_mul(131))
+            .wrapping_add(scene.standing1.digest().wrapping_mul(65_537))
+            .wrapping_add(scene.stale.digest())
+            .wrapping_add(core)
+    }
+}

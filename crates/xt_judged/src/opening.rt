@@ -1,0 +1,56 @@
+//! How the search of what is judged opens.
+ghost use Rattle.std.specs.Prelude.{◌≡◌, ◌<◌, IfOk};
+ghost use Rattle.xt_trace.specs.Validity.{IsValid};
+ghost use Rattle.xt_frames.specs.Judging.{opening_standing};
+ghost use Rattle.xt_frames.specs.Walked.{opening_walked};
+ghost use Rattle.xt_judged.specs.Kept.{IsFirst, standing_of};
+
+use crate::scene::{Scene, Standing};
+use crate::stale::Stale;
+use std::alloc::{AllocError, Global};
+use std::rc::Rc;
+use xt_frames::{Frames, HandlerPhase};
+use xt_image::Image;
+use xt_outcomes::Desk;
+use xt_trace::Options;
+
+// What the judge knows of a core that opens at `pc`. The only error is running out of memory.
+#[tactic(auto, using(xt_discipline::proofs::Opens::range_of_core))]
+fn standing(alloc: Global, core: u8, pc: u32, options: &Options) -> Result<Standing, AllocError>
+    requires core { core < 2 }
+    requires valid { IsValid options.now }
+    ensures known { IfOk result (λ s. standing_of s ≡ opening_standing (opening_walked core pc options.now).state) }
+    ensures bounds { IfOk result (λ s. s.frames.bounds ≡ (opening_walked core pc options.now).bounds) }
+{
+    let frames = Frames::make(alloc, core, pc, options)?;
+    Ok(Standing {
+        frames: frames.snapshot(alloc, 0)?,
+        phase: HandlerPhase::Outside,
+    })
+}
+
+/// The scene in which the runs of an image open. The only error is running out of memory.
+///
+/// Condition: the options are valid.
+pub fn open(
+    alloc: Global,
+    image: &Image,
+    options: &Options,
+    timed: bool,
+) -> Result<Scene, AllocError>
+    requires { IsValid options.now }
+    ensures { IfOk result (IsFirst image.now options.now timed) }
+{
+    let mut desk = Desk::make(alloc, options)?;
+    let world = xt_outcomes::open(alloc, image, options, &mut desk, timed)?;
+    let standing0 = standing(alloc, 0, image.entry, options)?;
+    let standing1 = standing(alloc, 1, options.entry1, options)?;
+    Ok(Scene {
+        world,
+        standing0: Rc::new(alloc, standing0)?,
+        standing1: Rc::new(alloc, standing1)?,
+        stale: Rc::new(alloc, Stale::none(alloc))?,
+        only: None,
+        breach: None,
+    })
+}
