@@ -11,7 +11,7 @@ import re
 TOP = os.path.dirname(os.path.dirname(os.path.abspath(__file__)))
 WORDS = """zero one two three four five six seven eight nine ten eleven twelve thirteen fourteen fifteen sixteen
 seventeen eighteen nineteen twenty""".split()
-CASES, TESTS = "crates/xt_program_tests/data", "crates/{}/src/{}.rt"
+CASES = "crates/xt_program_tests/data", "bench/cases"
 
 
 @functools.cache
@@ -50,27 +50,15 @@ def functions(crate):
 
 
 def cases(part, *files):
-    """The cases of files of programs that have a part, or all of them: `case`."""
-    return counted(rf"^{part}\b", *(f"{CASES}/{it}.txt" for it in files))
+    """The cases of files that have a part, or all of them: `case`. Those of the gate and the others are in two folders."""
+    paths = [f"{folder}/{it}.txt" for folder in CASES for it in files]
+    return counted(rf"^{part}\b", *(it for it in paths if os.path.exists(f"{TOP}/{it}")))
 
 
-def rows(crate, module, names=r"\w+"):
-    """The rows of lists of texts in a file of tests."""
-    found = rf"^static (?:{names}): \[(?:Row|\(&str, &str\)); (\d+)\]"
-    return sum(map(int, re.findall(found, read(TESTS.format(crate, module)), re.M)))
-
-
-def block(crate, module, name):
-    """The text of a constant of a file of tests, which stands in lines of its own."""
-    return re.search(rf'\b{name}: &str = "\\\n(.*?)"', read(TESTS.format(crate, module)), re.S)[1]
-
-
-def lines_of(crate, module, name):
-    return len(block(crate, module, name).split("\n")) - block(crate, module, name).endswith("\n")
-
-
-def words_of(crate, module, name):
-    return len(block(crate, module, name).split())
+def assembled(case):
+    """The instructions of a text of listings.txt, which two lines begin."""
+    text = re.search(rf"^case {case}\n(?:#.*\n)?words asm\ntext\n((?:    .*\n)*)", read(f"{CASES[0]}/listings.txt"), re.M)[1]
+    return text.count("\n") - 2
 
 
 def enum(path, name):
@@ -79,23 +67,9 @@ def enum(path, name):
     return len(re.findall(r"^    (?!Memory\b)[A-Z]\w*", body, re.M))
 
 
-def faulty():
-    return rows("xt_text_tests", "asm_fault_tests") + rows("xt_text_tests", "boolean_tests", "FAULTS|WHOLE")
-
-
-def good():
-    return rows("xt_text_tests", "asm_good_tests") + rows("xt_text_tests", "boolean_tests", "IMAGES")
-
-
-def listed_words():
-    """The rows of the lists of words with their meanings."""
-    tables = counted(r" <- ", TESTS.format("xt_text_tests", "words_tests/lines"))
-    return tables + counted(r"^        \((?=\"|$)", TESTS.format("xt_text_tests", "words_tests"))
-
-
 def followed():
     """The functions that the listings along the code of the examples name."""
-    return sum(map(int, re.findall(r"followed: (\d+) functions", read("crates/xt_examples/stdout"))))
+    return sum(map(int, re.findall(r"^functions (\d+)", read("bench/cases/examples.txt"), re.M)))
 
 
 def built(folder):
@@ -129,14 +103,14 @@ PLACES = [
     ("docs/C.md", "and the # of `examples/programs`", lambda: built("$top/examples/programs")),
     ("docs/C.md", "Of the # builds, `run` names", builds),
     (PROVED, "one of the # kinds", KINDS),
-    (PROVED, "The spellings: # words and", lambda: lines_of("xt_text_tests", "spelling_tests/spellings", "SPELLINGS")),
-    (PROVED, "words and # illegal ones", lambda: words_of("xt_text_tests", "spelling_tests/spellings", "ILLEGAL")),
-    (PROVED, "; # words of Boolean registers", lambda: lines_of("xt_text_tests", "spelling_tests/boolean", "SPELLINGS")),
-    (PROVED, "and # beside them that spell nothing", lambda: words_of("xt_text_tests", "spelling_tests/boolean", "ILLEGAL")),
-    (PROVED, "Assembly texts: # faulty ones", faulty),
-    (PROVED, "and # good ones with all their bytes", good),
-    (PROVED, "Images: # worked by hand and # by an outside writer", lambda: lines_of("xt_machine_tests", "image_tests", "IMAGES")),
-    (PROVED, "damaged; # files by a program apart", lambda: lines_of("xt_machine_tests", "elf_tests", "FILES")),
+    (PROVED, "The spellings: # words and", lambda: assembled("spellings-assembled")),
+    (PROVED, "words and # illegal ones", lambda: cases("case illegal", "listings")),
+    (PROVED, "; # words of Boolean registers", lambda: assembled("boolean-spellings-assembled")),
+    (PROVED, "and # beside them that spell nothing", lambda: cases("case boolean-illegal", "listings")),
+    (PROVED, "Assembly texts: # faulty ones", lambda: cases("code 3", "texts")),
+    (PROVED, "and # good ones with all their bytes", lambda: cases("code 0", "texts")),
+    (PROVED, "Images: #, worked by hand or by an outside writer", lambda: cases("words (?:check|dis|run)", "images")),
+    (PROVED, "damaged; # files by a program apart", lambda: cases("case elf-(?!good)", "images")),
     (PROVED, "found without this program: # with their whole traces", lambda: cases("case", "traces")),
     (PROVED, "whole traces, # worked by hand", lambda: cases("case", "worked")),
     (PROVED, "worked by hand, # that run wild", lambda: cases("case", "wild")),
@@ -164,9 +138,9 @@ PLACES = [
     (PROVED, "Recordings: #, good and damaged", lambda: cases("answer", "recordings", "nested")),
     (PROVED, "and # with interrupts inside window handlers", lambda: cases("answer", "nested")),
     (PROVED, "; # scripts with what they print", lambda: cases("script", "scripts", "nested")),
-    (PROVED, "# lines of words with what they mean", listed_words),
+    (PROVED, "# lines of words with what they mean", lambda: cases("case", "words")),
     (PROVED, "What `outcomes` finds of # programs", lambda: cases("case", "outcomes")),
-    (PROVED, "# ends with their lines", lambda: cases("case", "ends")),
+    (PROVED, "Ends with their lines: #", lambda: cases("case", "ends")),
     (GUIDE, "today one has #, up to `xt_cli`", lambda: level("xt_cli")),
     (GUIDE, "(today `xt_frames` has #,", lambda: functions("xt_frames")),
     (GUIDE, "`xt_uses` # and", lambda: functions("xt_uses")),

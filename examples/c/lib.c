@@ -540,14 +540,27 @@ void __atomic_store_4(volatile void *object, uint32_t value, int order)
     store_release(object, value);
 }
 
+/* Whether an object lies on a stack. There nobody need have set the object, or the bytes beside it, and an exchange of
+   the word would look at them, so that a smaller object is stored without. */
+static _Bool on_stack(const volatile void *object)
+{
+    return (uintptr_t)object >= (uintptr_t)__builtin_frame_address(0);
+}
+
 void __atomic_store_2(volatile void *object, uint16_t value, int order)
 {
-    __atomic_exchange_2(object, value, order);
+    if (on_stack(object))
+        *(volatile uint16_t *)object = value;
+    else
+        __atomic_exchange_2(object, value, order);
 }
 
 void __atomic_store_1(volatile void *object, uint8_t value, int order)
 {
-    __atomic_exchange_1(object, value, order);
+    if (on_stack(object))
+        *(volatile uint8_t *)object = value;
+    else
+        __atomic_exchange_1(object, value, order);
 }
 
 _Bool __atomic_is_lock_free(size_t size, const volatile void *object)

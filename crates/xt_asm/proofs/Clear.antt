@@ -13,13 +13,13 @@ use Rattle.xt_mnemonic.specs.declared.argument.OperandFault.{OperandFault}
 use Rattle.xt_mnemonic.specs.declared.argument.OperandFault.TheVariants as operand_fault
 use Rattle.xt_mnemonic.specs.Making.{instruction_of}
 use Rattle.xt_names.specs.Forms.{access_of}
-use Rattle.xt_expr.specs.Values.{value_of}
+use Rattle.xt_lex.specs.Values.{value_of}
 use Rattle.xt_parse.specs.declared.line.Line.{Line}
 use Rattle.xt_parse.specs.declared.statement.Operand.{Operand}
 use Rattle.xt_parse.specs.declared.statement.Operand.TheVariants as operand
 use Rattle.xt_parse.specs.declared.statement.Statement.{Statement}
 use Rattle.xt_parse.specs.declared.statement.Statement.TheVariants as statement
-use Rattle.xt_pool.specs.Findings.{Finding, at_statement, fails, first, or_else}
+use Rattle.xt_layout.specs.Findings.{Finding, at_statement, fails, first, or_else}
 use Rattle.xt_asm.specs.Contexts.{IsWhole, own_fault}
 use Rattle.xt_asm.specs.Kinds.{has_misfit, has_no_word, has_unknown, is_misaligned_target, is_out_of_reach, is_range, is_stray_entry, is_unknown_operand, lacks_word}
 use Rattle.xt_mnemonic.specs.Operands.{all_known}

@@ -8,16 +8,16 @@ use Rattle.xt_lex.specs.declared.fault.AsmFault.{AsmFault}
 use Rattle.xt_lex.specs.declared.fault.AsmFault.TheVariants as fault
 use Rattle.xt_lex.specs.Tokens.{tokens_of}
 use Rattle.xt_image.specs.declared.image.Image.{Image}
-use Rattle.xt_expr.specs.declared.labels.Label.{Label}
-use Rattle.xt_expr.specs.Values.{value_of}
+use Rattle.xt_lex.specs.declared.labels.Label.{Label}
+use Rattle.xt_lex.specs.Values.{value_of}
 use Rattle.xt_parse.specs.declared.line.Line.{Line}
 use Rattle.xt_parse.specs.declared.statement.Statement.{Statement}
 use Rattle.xt_parse.specs.declared.statement.Statement.TheVariants as statement
 use Rattle.xt_parse.specs.Lines.{Parses, parsed_lines}
 use Rattle.xt_parse.specs.Small.{AreAbove}
-use Rattle.xt_pool.specs.Around.{each_after}
-use Rattle.xt_pool.specs.Findings.{Finding, fails, first, least, or_else}
-use Rattle.xt_pool.specs.Pools.{pool_fault, words_of}
+use Rattle.xt_layout.specs.Around.{each_after}
+use Rattle.xt_layout.specs.Findings.{Finding, fails, first, least, or_else}
+use Rattle.xt_layout.specs.Pools.{pool_fault, words_of}
 use Rattle.xt_layout.specs.Addresses.{labels_of, line_addresses, word_addresses}
 use Rattle.xt_layout.specs.Faults.{has_entry, is_entry, layout_fault}
 use Rattle.xt_layout.proofs.Each.{length-each}

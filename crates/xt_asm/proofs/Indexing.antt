@@ -4,10 +4,10 @@ use Rattle.std.specs.Prelude.{zip, find, option_and_then, slice_get}
 use Rattle.std.specs.Option.{option_map}
 use Rattle.std.specs.Ordering.{is_eq, nat_cmp}
 use Rattle.std.specs.Cmp.Lexicographic.{slice_cmp}
-use Rattle.xt_expr.specs.contracts.expr.TermOrd.TheImpl.{ghosts}
-use Rattle.xt_pool.specs.declared.word.PoolWord.{PoolWord}
-use Rattle.xt_pool.specs.Pools.{same_terms}
-use Rattle.xt_pool.proofs.Alike.{and_alike, number_alike, terms_alike}
+use Rattle.xt_lex.specs.contracts.expr.TermOrd.TheImpl.{ghosts}
+use Rattle.xt_layout.specs.declared.word.PoolWord.{PoolWord}
+use Rattle.xt_layout.specs.Pools.{same_terms}
+use Rattle.xt_layout.proofs.Alike.{and_alike, number_alike, terms_alike}
 use Rattle.xt_asm.specs.Operands.{serves, word_for}
 use Rattle.xt_asm.specs.Uses.{Key, key_cmp}
 

@@ -4,7 +4,7 @@ use Rattle.xt_lex.specs.declared.fault.AsmFault.{AsmFault}
 use Rattle.xt_lex.specs.declared.fault.AsmFault.TheVariants as fault
 use Rattle.xt_lex.specs.Tokens.{tokens_of}
 use Rattle.xt_image.specs.declared.image.Image.{Image}
-use Rattle.xt_expr.specs.declared.labels.Label.{Label}
+use Rattle.xt_lex.specs.declared.labels.Label.{Label}
 use Rattle.xt_parse.specs.declared.line.Line.{Line}
 use Rattle.xt_parse.specs.Lines.{parsed_lines}
 use Rattle.xt_layout.specs.Addresses.{labels_of}

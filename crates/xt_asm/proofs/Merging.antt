@@ -7,10 +7,10 @@ use Rattle.xt_lex.specs.declared.name.Name.{Name}
 use Rattle.xt_parse.specs.declared.line.Line.{Line}
 use Rattle.xt_parse.specs.declared.line.Placed.{Placed}
 use Rattle.xt_parse.specs.Small.{AreAbove}
-use Rattle.xt_pool.specs.Around.{each, each_after}
-use Rattle.xt_pool.specs.Findings.{Finding, IsOf, at_statement, fails, first, is_before, least, or_else, rank}
-use Rattle.xt_pool.specs.Pools.{has_no_pool, pool_fault, words_of}
-use Rattle.xt_pool.proofs.Leasts.{least_fault}
+use Rattle.xt_layout.specs.Around.{each, each_after}
+use Rattle.xt_layout.specs.Findings.{Finding, IsOf, at_statement, fails, first, is_before, least, or_else, rank}
+use Rattle.xt_layout.specs.Pools.{has_no_pool, pool_fault, words_of}
+use Rattle.xt_layout.proofs.Leasts.{least_fault}
 use Rattle.xt_layout.specs.Addresses.{label_name, literal_name}
 use Rattle.xt_layout.specs.Faults.{again, defines, has_entry, is_entry, is_last, is_misaligned, is_outside, is_too_many, layout_fault, layout_faults, overlaps, segments_in, twice}
 use Rattle.xt_layout.specs.Sizes.{pool_size}

@@ -12,7 +12,7 @@ use Rattle.xt_lex.specs.declared.fault.AsmPlace.{AsmPlace}
 use Rattle.xt_parse.specs.declared.line.Line.{Line}
 use Rattle.xt_parse.specs.declared.statement.Statement.{Statement}
 use Rattle.xt_parse.specs.declared.statement.Statement.TheVariants as statement
-use Rattle.xt_pool.specs.declared.word.PoolWord.{PoolWord}
+use Rattle.xt_layout.specs.declared.word.PoolWord.{PoolWord}
 use Rattle.xt_asm.specs.Images.{IsImageOf, segments_of}
 use Rattle.xt_asm.specs.AssemblyLaws.{TextHasOneImage}
 use Rattle.xt_asm.specs.Operands.{Site, insn_at}

@@ -5,7 +5,7 @@ use Rattle.std.proofs.lemmas.List.{reverse-append, length-reverse, length-take-l
 use Rattle.xt_parse.specs.declared.line.Line.{Line}
 use Rattle.xt_parse.specs.declared.statement.Statement.{Statement}
 use Rattle.xt_parse.specs.declared.statement.Statement.TheVariants as statement
-use Rattle.xt_pool.specs.Pools.{is_position, is_segment}
+use Rattle.xt_layout.specs.Pools.{is_position, is_segment}
 use Rattle.xt_layout.proofs.Each.{next}
 use Rattle.xt_asm.specs.Operands.{last_position, open_position}
 use Rattle.xt_asm.specs.Uses.{pool_after}

@@ -7,7 +7,7 @@ use Rattle.std.proofs.lemmas.List.{append_assoc, append-nil, length_push, length
 use Rattle.std.proofs.lemmas.List.Sums.{sum_by-append, sum_by-cons}
 use Rattle.std.proofs.lemmas.List.Elements.{All-from_recursion, recursion_from_All}
 use Rattle.std.proofs.lemmas.Bool.Decides.{nat_tests}
-use Rattle.xt_expr.specs.declared.expr.Expr.{Expr}
+use Rattle.xt_lex.specs.declared.expr.Expr.{Expr}
 use Rattle.xt_parse.specs.declared.line.Line.{Line}
 use Rattle.xt_parse.specs.declared.line.Placed.{Placed}
 use Rattle.xt_parse.specs.declared.statement.Operand.{Operand}
@@ -15,9 +15,9 @@ use Rattle.xt_parse.specs.declared.statement.Operand.TheVariants as operand
 use Rattle.xt_parse.specs.declared.statement.Statement.{Statement}
 use Rattle.xt_parse.specs.declared.statement.Statement.TheVariants as statement
 use Rattle.xt_parse.specs.Small.{HasShortExprs, IsShort, IsShortOperand}
-use Rattle.xt_pool.specs.declared.word.PoolWord.{PoolWord}
-use Rattle.xt_pool.specs.Pools.{ends_pool, is_position, need, pool, pool_at, pool_use, up_to_end, needed_words, words_of}
-use Rattle.xt_pool.proofs.Places.{distinct_keeps, join_keeps}
+use Rattle.xt_layout.specs.declared.word.PoolWord.{PoolWord}
+use Rattle.xt_layout.specs.Pools.{ends_pool, is_position, need, pool, pool_at, pool_use, up_to_end, needed_words, words_of}
+use Rattle.xt_layout.proofs.Places.{distinct_keeps, join_keeps}
 use Rattle.xt_layout.specs.Sizes.{pool_size}
 use Rattle.xt_layout.proofs.Each.{here, next}
 use Rattle.xt_asm.specs.Contexts.{IsShortWord}

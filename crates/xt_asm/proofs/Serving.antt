@@ -7,18 +7,18 @@ use Rattle.std.proofs.lemmas.List.{append_assoc, append-nil, reverse-append, len
 use Rattle.std.proofs.lemmas.List.Folds.{list_any-append}
 use Rattle.std.proofs.lemmas.Bool.Decides.{nat_tests}
 use lib.Pointwise.{pointwise}
-use Rattle.xt_expr.specs.declared.expr.Expr.{Expr}
-use Rattle.xt_expr.specs.declared.expr.Term.{Term}
-use Rattle.xt_expr.specs.declared.expr.TermValue.{TermValue}
-use Rattle.xt_expr.specs.declared.expr.TermValue.TheVariants.{Number, Label}
+use Rattle.xt_lex.specs.declared.expr.Expr.{Expr}
+use Rattle.xt_lex.specs.declared.expr.Term.{Term}
+use Rattle.xt_lex.specs.declared.expr.TermValue.{TermValue}
+use Rattle.xt_lex.specs.declared.expr.TermValue.TheVariants.{Number, Label}
 use Rattle.xt_parse.specs.declared.line.Line.{Line}
 use Rattle.xt_parse.specs.declared.line.Placed.{Placed}
 use Rattle.xt_parse.specs.declared.statement.Operand.{Operand}
 use Rattle.xt_parse.specs.declared.statement.Operand.TheVariants as operand
 use Rattle.xt_parse.specs.declared.statement.Statement.{Statement}
 use Rattle.xt_parse.specs.declared.statement.Statement.TheVariants as statement
-use Rattle.xt_pool.specs.declared.word.PoolWord.{PoolWord}
-use Rattle.xt_pool.specs.Pools.{distinct, ends_pool, is_open, is_position, is_segment, need, pool, pool_at, pool_use, same_term, same_terms, same_value, shares, up_to_end, needed_words, words_of}
+use Rattle.xt_layout.specs.declared.word.PoolWord.{PoolWord}
+use Rattle.xt_layout.specs.Pools.{distinct, ends_pool, is_open, is_position, is_segment, need, pool, pool_at, pool_use, same_term, same_terms, same_value, shares, up_to_end, needed_words, words_of}
 use Rattle.xt_layout.specs.Addresses.{word_addresses}
 use Rattle.xt_asm.specs.Kinds.{has_no_word, lacks_word}
 use Rattle.xt_asm.specs.AssemblyLaws.{OpenPoolsServe}

@@ -13,11 +13,11 @@ use Rattle.xt_mnemonic.specs.declared.argument.OperandFault.{OperandFault}
 use Rattle.xt_names.specs.declared.mnemonic.Mnemonic.{Mnemonic}
 use Rattle.xt_names.specs.Forms.{size_of}
 use Rattle.xt_mnemonic.specs.Lengths.{HasLength}
-use Rattle.xt_expr.specs.declared.labels.Label.{Label}
-use Rattle.xt_expr.specs.declared.expr.Expr.{Expr}
+use Rattle.xt_lex.specs.declared.labels.Label.{Label}
+use Rattle.xt_lex.specs.declared.expr.Expr.{Expr}
 use Rattle.xt_parse.specs.declared.statement.Statement.{Statement}
 use Rattle.xt_parse.specs.declared.statement.Statement.TheVariants as statement
-use Rattle.xt_pool.specs.declared.word.PoolWord.{PoolWord}
+use Rattle.xt_layout.specs.declared.word.PoolWord.{PoolWord}
 use Rattle.xt_layout.specs.Sizes.{is_alignment, is_space, padding, size}
 use Rattle.xt_asm.specs.Contexts.{IsMade, IsMadeOf}
 use Rattle.xt_asm.specs.Operands.{Site, insn_at}

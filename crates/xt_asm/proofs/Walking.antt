@@ -8,11 +8,11 @@ use Rattle.xt_lex.specs.declared.fault.AsmFault.{AsmFault}
 use Rattle.xt_lex.specs.declared.fault.AsmFault.TheVariants as fault
 use Rattle.xt_isa.specs.declared.Insn.{Insn}
 use Rattle.xt_mnemonic.specs.declared.argument.OperandFault.{OperandFault}
-use Rattle.xt_expr.specs.declared.labels.Label.{Label}
+use Rattle.xt_lex.specs.declared.labels.Label.{Label}
 use Rattle.xt_parse.specs.declared.line.Line.{Line}
-use Rattle.xt_pool.specs.declared.word.PoolWord.{PoolWord}
-use Rattle.xt_pool.specs.Around.{each}
-use Rattle.xt_pool.specs.Pools.{pool_at, words_of}
+use Rattle.xt_layout.specs.declared.word.PoolWord.{PoolWord}
+use Rattle.xt_layout.specs.Around.{each}
+use Rattle.xt_layout.specs.Pools.{pool_at, words_of}
 use Rattle.xt_layout.specs.Addresses.{labels_of, line_addresses, word_addresses}
 use Rattle.xt_layout.specs.Sizes.{pool_size}
 use Rattle.xt_layout.specs.Spots.{address, spot_at}

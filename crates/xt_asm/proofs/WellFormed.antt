@@ -9,8 +9,8 @@ use Rattle.std.proofs.lemmas.Bool.Decides.{nat_tests}
 use Rattle.std.proofs.lemmas.List.{length-map}
 use Rattle.std.proofs.lemmas.List.Elements.{All-from_recursion}
 use Rattle.std.proofs.lemmas.List.Sums.{get_or-le-sum_by}
-use Rattle.xt_expr.specs.declared.labels.Label.{Label}
-use Rattle.xt_expr.specs.Values.{value_of}
+use Rattle.xt_lex.specs.declared.labels.Label.{Label}
+use Rattle.xt_lex.specs.Values.{value_of}
 use Rattle.xt_map.specs.declared.segment.Segment.{Segment}
 use Rattle.xt_map.specs.Memory.{is_loaded}
 use Rattle.xt_map.specs.Placing.{IsPlaced, do_overlap, end_of_segment, is_well_placed, takes}
@@ -24,8 +24,8 @@ use Rattle.xt_parse.specs.declared.line.Line.{Line}
 use Rattle.xt_parse.specs.declared.statement.Statement.{Statement}
 use Rattle.xt_parse.specs.declared.statement.Statement.TheVariants.{Entry}
 use Rattle.xt_parse.proofs.SegmentStarts.{StartsLow, starts_are_low}
-use Rattle.xt_pool.specs.Findings.{at_statement}
-use Rattle.xt_pool.specs.Pools.{words_of}
+use Rattle.xt_layout.specs.Findings.{at_statement}
+use Rattle.xt_layout.specs.Pools.{words_of}
 use Rattle.xt_layout.specs.Addresses.{labels_of}
 use Rattle.xt_layout.specs.Bounds.{later}
 use Rattle.xt_layout.specs.Faults.{is_in_place, segments_in}

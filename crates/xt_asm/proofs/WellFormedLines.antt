@@ -10,12 +10,12 @@ use Rattle.std.proofs.lemmas.List.Folds.{list_any_at}
 use Rattle.std.proofs.lemmas.List.Sums.{sum_by-cons, sum_by_push}
 use Rattle.std.proofs.lemmas.Option.{slice_get-get_or}
 use Rattle.xt_asm.proofs.Clear.{not_failed}
-use Rattle.xt_expr.specs.declared.labels.Label.{Label}
+use Rattle.xt_lex.specs.declared.labels.Label.{Label}
 use Rattle.xt_parse.specs.declared.line.Line.{Line}
-use Rattle.xt_pool.specs.declared.word.PoolWord.{PoolWord}
-use Rattle.xt_pool.specs.Around.{each_after}
-use Rattle.xt_pool.specs.Findings.{Finding, at_statement, fails, first, or_else}
-use Rattle.xt_pool.specs.Pools.{has_no_pool, is_segment, words_of}
+use Rattle.xt_layout.specs.declared.word.PoolWord.{PoolWord}
+use Rattle.xt_layout.specs.Around.{each_after}
+use Rattle.xt_layout.specs.Findings.{Finding, at_statement, fails, first, or_else}
+use Rattle.xt_layout.specs.Pools.{has_no_pool, is_segment, words_of}
 use Rattle.xt_layout.specs.Addresses.{labels_of}
 use Rattle.xt_layout.specs.Faults.{defines, has_entry, is_last, is_misaligned, is_outside, is_too_many, overlaps, segments_in, twice}
 use Rattle.xt_layout.specs.Sizes.{pool_size}

@@ -10,7 +10,7 @@ use Rattle.xt_parse.specs.declared.line.Line.{Line}
 use Rattle.xt_parse.specs.declared.statement.Statement.{Statement}
 use Rattle.xt_parse.specs.declared.statement.Statement.TheVariants.{Seg}
 use Rattle.xt_parse.proofs.SegmentStarts.{StartsLow}
-use Rattle.xt_pool.specs.Pools.{is_segment}
+use Rattle.xt_layout.specs.Pools.{is_segment}
 use Rattle.xt_layout.specs.Sizes.{padding}
 use Rattle.xt_asm.specs.Images.{content, segment_at, segments_of}
 use Rattle.xt_asm.specs.Pieces.{ArePieces, Source, zeros}

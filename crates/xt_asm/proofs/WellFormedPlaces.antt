@@ -9,9 +9,9 @@ use Rattle.xt_map.specs.Regions.{Range, holds, ranges}
 use Rattle.xt_parse.specs.declared.line.Line.{Line}
 use Rattle.xt_parse.specs.declared.statement.Statement.{Statement}
 use Rattle.xt_parse.specs.declared.statement.Statement.TheVariants.{Empty, Seg}
-use Rattle.xt_pool.specs.declared.word.PoolWord.{PoolWord}
-use Rattle.xt_pool.specs.Findings.{fails}
-use Rattle.xt_pool.specs.Pools.{is_segment}
+use Rattle.xt_layout.specs.declared.word.PoolWord.{PoolWord}
+use Rattle.xt_layout.specs.Findings.{fails}
+use Rattle.xt_layout.specs.Pools.{is_segment}
 use Rattle.xt_layout.specs.Faults.{is_empty, is_in_place, is_last, is_outside, leaves, lies_in, within}
 use Rattle.xt_layout.specs.Sizes.{padding, pool_size, size}
 use Rattle.xt_layout.specs.Spans.{segment_end, span}

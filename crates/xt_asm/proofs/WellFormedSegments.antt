@@ -11,9 +11,9 @@ use Rattle.xt_map.specs.Placing.{end_of_segment}
 use Rattle.xt_parse.specs.declared.line.Line.{Line}
 use Rattle.xt_parse.specs.declared.statement.Statement.{Statement}
 use Rattle.xt_parse.specs.declared.statement.Statement.TheVariants.{Seg}
-use Rattle.xt_pool.specs.declared.word.PoolWord.{PoolWord}
-use Rattle.xt_pool.specs.Around.{each_after}
-use Rattle.xt_pool.specs.Pools.{is_segment, words_of}
+use Rattle.xt_layout.specs.declared.word.PoolWord.{PoolWord}
+use Rattle.xt_layout.specs.Around.{each_after}
+use Rattle.xt_layout.specs.Pools.{is_segment, words_of}
 use Rattle.xt_layout.specs.Bounds.{later}
 use Rattle.xt_layout.specs.Faults.{segments_in}
 use Rattle.xt_layout.specs.Sizes.{padding, pool_size, size}

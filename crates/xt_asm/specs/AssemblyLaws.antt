@@ -4,7 +4,7 @@ use Rattle.std.specs.Prelude.{◌≡◌, ℕ, true, false, List, ◌∷◌, ◌+
 use Rattle.xt_image.specs.declared.image.Image.{Image}
 use Rattle.xt_image.specs.ImageParts.{IsWellFormed}
 use Rattle.xt_parse.specs.declared.line.Line.{Line}
-use Rattle.xt_pool.specs.Pools.{is_open}
+use Rattle.xt_layout.specs.Pools.{is_open}
 use Rattle.xt_asm.specs.Images.{IsImageOfText}
 use Rattle.xt_asm.specs.Kinds.{has_no_word, text_fault}
 use Rattle.xt_asm.specs.Operands.{site_at}

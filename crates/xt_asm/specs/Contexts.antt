@@ -15,11 +15,11 @@ use Rattle.xt_parse.specs.declared.line.Line.{Line}
 use Rattle.xt_parse.specs.declared.statement.Statement.{Statement}
 use Rattle.xt_parse.specs.declared.statement.Statement.TheVariants as statement
 use Rattle.xt_parse.specs.Small.{IsShort}
-use Rattle.xt_pool.specs.declared.word.PoolWord.{PoolWord}
+use Rattle.xt_layout.specs.declared.word.PoolWord.{PoolWord}
 use Rattle.xt_lex.specs.declared.fault.AsmFault.{AsmFault}
 use Rattle.xt_lex.specs.declared.fault.AsmFault.TheVariants as fault
 use Rattle.xt_asm.specs.Pieces.{Source}
-use Rattle.xt_pool.specs.Findings.{Finding, at_statement, fails, first}
+use Rattle.xt_layout.specs.Findings.{Finding, at_statement, fails, first}
 use Rattle.xt_asm.specs.Kinds.{has_misfit, has_no_word, has_unknown, is_misaligned_target}
 use Rattle.xt_asm.specs.Kinds.{is_out_of_reach, is_range, is_stray_entry}
 use Rattle.xt_asm.specs.Operands.{Site}

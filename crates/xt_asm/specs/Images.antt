@@ -8,13 +8,13 @@ use Rattle.xt_lex.specs.Tokens.{tokens_of}
 use Rattle.xt_map.specs.declared.segment.Segment.{Segment}
 use Rattle.xt_image.specs.Made.{made_head}
 use Rattle.xt_image.specs.declared.image.Image.{Image}
-use Rattle.xt_expr.specs.declared.labels.Label.{Label}
-use Rattle.xt_expr.specs.Values.{value_of}
+use Rattle.xt_lex.specs.declared.labels.Label.{Label}
+use Rattle.xt_lex.specs.Values.{value_of}
 use Rattle.xt_parse.specs.declared.line.Line.{Line}
 use Rattle.xt_parse.specs.declared.statement.Statement.{Statement}
 use Rattle.xt_parse.specs.declared.statement.Statement.TheVariants.{Entry, Seg}
 use Rattle.xt_parse.specs.Lines.{parsed_lines}
-use Rattle.xt_pool.specs.Pools.{is_segment}
+use Rattle.xt_layout.specs.Pools.{is_segment}
 use Rattle.xt_layout.specs.Addresses.{labels_of}
 use Rattle.xt_layout.specs.Sizes.{padding}
 use Rattle.xt_asm.specs.Kinds.{lines_fault, no_entry, text_fault}

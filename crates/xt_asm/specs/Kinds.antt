@@ -12,18 +12,18 @@ use Rattle.xt_mnemonic.specs.declared.argument.OperandFault.TheVariants as opera
 use Rattle.xt_lex.specs.declared.fault.AsmPlace.{AsmPlace}
 use Rattle.xt_lex.specs.Tokens.{tokens_of}
 use Rattle.xt_map.specs.Regions.{is_executable, region_of}
-use Rattle.xt_expr.specs.declared.expr.Expr.{Expr}
-use Rattle.xt_expr.specs.declared.labels.Label.{Label}
-use Rattle.xt_expr.specs.Values.{value_of}
+use Rattle.xt_lex.specs.declared.expr.Expr.{Expr}
+use Rattle.xt_lex.specs.declared.labels.Label.{Label}
+use Rattle.xt_lex.specs.Values.{value_of}
 use Rattle.xt_parse.specs.declared.line.Line.{Line}
 use Rattle.xt_parse.specs.declared.statement.Operand.{Operand}
 use Rattle.xt_parse.specs.declared.statement.Operand.TheVariants as operand
 use Rattle.xt_parse.specs.declared.statement.Statement.{Statement}
 use Rattle.xt_parse.specs.declared.statement.Statement.TheVariants as statement
 use Rattle.xt_parse.specs.Lines.{parsed_lines}
-use Rattle.xt_pool.specs.Around.{each}
-use Rattle.xt_pool.specs.Findings.{Finding, at_statement, fails, first, or_else}
-use Rattle.xt_pool.specs.Pools.{has_no_pool, is_segment, words_of}
+use Rattle.xt_layout.specs.Around.{each}
+use Rattle.xt_layout.specs.Findings.{Finding, at_statement, fails, first, or_else}
+use Rattle.xt_layout.specs.Pools.{has_no_pool, is_segment, words_of}
 use Rattle.xt_layout.specs.Faults.{defines, has_entry, is_last, is_misaligned, is_outside}
 use Rattle.xt_layout.specs.Faults.{is_too_many, overlaps, segments_in, twice}
 use Rattle.xt_layout.specs.Sizes.{is_alignment, is_space, pool_size}

@@ -12,8 +12,8 @@ use Rattle.xt_word.specs.Hexadecimal.{hex8}
 use Rattle.xt_lex.specs.declared.fault.AsmFault.{AsmFault}
 use Rattle.xt_lex.specs.declared.fault.AsmFault.TheVariants as fault
 use Rattle.xt_lex.specs.Tokens.{tokens_of}
-use Rattle.xt_expr.specs.declared.labels.Label.{Label}
-use Rattle.xt_expr.specs.Labels.{first_label}
+use Rattle.xt_lex.specs.declared.labels.Label.{Label}
+use Rattle.xt_lex.specs.Labels.{first_label}
 use Rattle.xt_parse.specs.declared.line.Line.{Line}
 use Rattle.xt_parse.specs.Lines.{parsed_lines}
 use Rattle.xt_layout.specs.Addresses.{labels_of}

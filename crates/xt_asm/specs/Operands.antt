@@ -14,18 +14,18 @@ use Rattle.xt_mnemonic.specs.declared.argument.OperandFault.{OperandFault}
 use Rattle.xt_mnemonic.specs.Making.{instruction_of}
 use Rattle.xt_mnemonic.specs.Operands.{all_known}
 use Rattle.xt_lex.specs.declared.name.Name.{Name}
-use Rattle.xt_expr.specs.declared.expr.Expr.{Expr}
-use Rattle.xt_expr.specs.declared.expr.TermValue.{TermValue}
-use Rattle.xt_expr.specs.declared.expr.TermValue.TheVariants as term
-use Rattle.xt_expr.specs.declared.labels.Label.{Label}
-use Rattle.xt_expr.specs.Values.{value_of}
+use Rattle.xt_lex.specs.declared.expr.Expr.{Expr}
+use Rattle.xt_lex.specs.declared.expr.TermValue.{TermValue}
+use Rattle.xt_lex.specs.declared.expr.TermValue.TheVariants as term
+use Rattle.xt_lex.specs.declared.labels.Label.{Label}
+use Rattle.xt_lex.specs.Values.{value_of}
 use Rattle.xt_parse.specs.declared.line.Line.{Line}
 use Rattle.xt_parse.specs.declared.statement.Operand.{Operand}
 use Rattle.xt_parse.specs.declared.statement.Operand.TheVariants as operand
 use Rattle.xt_parse.specs.declared.statement.Statement.{Statement}
 use Rattle.xt_parse.specs.declared.statement.Statement.TheVariants as statement
-use Rattle.xt_pool.specs.declared.word.PoolWord.{PoolWord}
-use Rattle.xt_pool.specs.Pools.{ends_pool, is_position, pool_use, same_terms, words_of}
+use Rattle.xt_layout.specs.declared.word.PoolWord.{PoolWord}
+use Rattle.xt_layout.specs.Pools.{ends_pool, is_position, pool_use, same_terms, words_of}
 use Rattle.xt_layout.specs.Addresses.{labels_of, word_addresses}
 use Rattle.xt_layout.specs.Spots.{address, spot_at}
 

@@ -6,12 +6,12 @@ use Rattle.std.specs.Cmp.Lexicographic.{slice_cmp}
 use Rattle.std.specs.Ordering.{nat_cmp, ordering_then}
 use Rattle.std.specs.declared.cmp.Ordering.{Ordering}
 use denote.Ref.{Bor}
-use Rattle.xt_expr.specs.declared.expr.Term.{Term}
-use Rattle.xt_expr.specs.contracts.expr.TermOrd.TheImpl.{ghosts}
+use Rattle.xt_lex.specs.declared.expr.Term.{Term}
+use Rattle.xt_lex.specs.contracts.expr.TermOrd.TheImpl.{ghosts}
 use Rattle.xt_parse.specs.declared.line.Line.{Line}
 use Rattle.xt_parse.specs.declared.statement.Statement.{Statement}
 use Rattle.xt_parse.specs.declared.statement.Statement.TheVariants as statement
-use Rattle.xt_pool.specs.declared.word.PoolWord.{PoolWord}
+use Rattle.xt_layout.specs.declared.word.PoolWord.{PoolWord}
 use Rattle.xt_asm.specs.Operands.{open_position, target_of, word_for}
 
 -- the place of a pool, and the terms of a word in it

@@ -2,14 +2,14 @@
 -- What is known while the lines of a text are gone through.
 use Rattle.std.specs.Prelude.{ℤ, ◌≡◌, Option, List, map, pos, All}
 use Rattle.std.specs.List.{flat_map}
-use Rattle.xt_expr.specs.declared.labels.Label.{Label}
-use Rattle.xt_expr.specs.Values.{HaveAddresses, IsAddress}
+use Rattle.xt_lex.specs.declared.labels.Label.{Label}
+use Rattle.xt_lex.specs.Values.{HaveAddresses, IsAddress}
 use Rattle.xt_parse.specs.declared.line.Line.{Line}
 use Rattle.xt_parse.specs.Small.{HasShortExprs}
-use Rattle.xt_pool.specs.declared.word.PoolWord.{PoolWord}
-use Rattle.xt_pool.specs.Around.{each, each_after}
-use Rattle.xt_pool.specs.Findings.{Finding, first}
-use Rattle.xt_pool.specs.Pools.{pool_at, words_of}
+use Rattle.xt_layout.specs.declared.word.PoolWord.{PoolWord}
+use Rattle.xt_layout.specs.Around.{each, each_after}
+use Rattle.xt_layout.specs.Findings.{Finding, first}
+use Rattle.xt_layout.specs.Pools.{pool_at, words_of}
 use Rattle.xt_layout.specs.Addresses.{labels_of, line_addresses, word_addresses}
 use Rattle.xt_asm.specs.Contexts.{own_fault}
 use Rattle.xt_asm.specs.Operands.{insn_at, site_at}

@@ -11,11 +11,10 @@ use crate::image::image_of;
 use crate::map::map_of;
 use std::alloc::Global;
 use xt_image::Image;
-use xt_layout::layout;
+use xt_layout::{layout, place};
 use xt_lex::{AsmFault, lex};
 use xt_map::Text;
 use xt_parse::{Lines, parse};
-use xt_pool::place;
 
 /// The lines of a text.
 fn lines_of(alloc: Global, text: &[u8]) -> Result<Lines, AsmFault>

@@ -2,10 +2,10 @@
 ghost use Rattle.std.specs.Prelude.{◌≡◌, ℤ, ◌<ℤ◌, ◌≤ℤ◌, ◌^◌, pos, length, option_map, All, Some, None, true};
 ghost use Rattle.std.specs.List.{list_any};
 ghost use Rattle.xt_lex.specs.declared.fault.AsmFault.TheVariants.{Place};
-ghost use Rattle.xt_expr.specs.Values.{HaveAddresses};
+ghost use Rattle.xt_lex.specs.Values.{HaveAddresses};
 ghost use Rattle.xt_parse.specs.declared.line.Line.{Line};
 ghost use Rattle.xt_parse.specs.Small.{HasShortExprs, IsParsed};
-ghost use Rattle.xt_pool.specs.Findings.{least};
+ghost use Rattle.xt_layout.specs.Findings.{least};
 ghost use Rattle.xt_layout.specs.Addresses.{labels_of};
 ghost use Rattle.xt_layout.specs.Faults.{HasAddresses, layout_of};
 ghost use Rattle.xt_asm.specs.Images.{AssemblesLines, Closes, entry_of};
@@ -17,13 +17,11 @@ use crate::segments::{entry_of, segments_of};
 use crate::targets::targets_of;
 use crate::walk::{first_own_fault, pieces_of};
 use std::alloc::Global;
-use xt_expr::Labels;
 use xt_image::{Image, made_head};
-use xt_layout::Laid;
-use xt_lex::{AsmFault, AsmPlace};
+use xt_layout::{Laid, Pooled, is_segment, least};
+use xt_lex::{AsmFault, AsmPlace, Labels};
 use xt_map::Bytes;
 use xt_parse::Line;
-use xt_pool::{Pooled, is_segment, least};
 
 /// Whether a line is a `.seg`.
 fn has_segment(lines: &[Line]) -> bool

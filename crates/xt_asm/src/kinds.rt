@@ -1,16 +1,15 @@
 //! The faults of a line that no earlier pass finds.
 ghost use Rattle.std.specs.Prelude.{◌≡◌, ◌<◌, ◌^◌, All, Some};
 ghost use Rattle.std.specs.List.{list_any};
-ghost use Rattle.xt_expr.specs.Values.{HaveAddresses};
+ghost use Rattle.xt_lex.specs.Values.{HaveAddresses};
 ghost use Rattle.xt_parse.specs.Small.{HasShortExprs, IsShort, IsShortOperand};
-ghost use Rattle.xt_pool.specs.Findings.{at_statement};
+ghost use Rattle.xt_layout.specs.Findings.{at_statement};
 ghost use Rattle.xt_asm.specs.Kinds.{fits_byte, fits_short, fits_word, has_misfit, has_no_word, has_unknown, is_code, is_misaligned_target, is_out_of_reach, is_range, is_stray_entry, is_unknown, is_unknown_operand, lacks_word, misfits, misfits_pool};
 ghost use Rattle.xt_asm.specs.Contexts.{own_fault, site_of};
 
 use crate::operands::{Context, Made, special_in, value_of};
-use xt_expr::{Expr, Labels};
 use xt_layout::{is_alignment, is_space};
-use xt_lex::AsmPlace;
+use xt_lex::{AsmPlace, Expr, Labels};
 use xt_map::can_execute_at;
 use xt_mnemonic::OperandFault;
 use xt_names::{Access, access_of};

@@ -4,8 +4,7 @@ ghost use Rattle.xt_asm.specs.Maps.{IsMapOf, counts, row_cmp, row_line, row_of, 
 
 use crate::pieces::word_of;
 use std::alloc::{AllocError, Global};
-use xt_expr::{Label, Labels};
-use xt_lex::Name;
+use xt_lex::{Label, Labels, Name};
 use xt_map::Text;
 use xt_word::hexadecimal;
 

@@ -1,6 +1,6 @@
 //! The bytes of each line.
 ghost use Rattle.std.specs.Prelude.{◌≡◌, ◌++◌, ◌+◌, ◌*◌, ◌<◌, ◌≤◌, ◌^◌, true, All, IfOk, IfErr, OnOk, None, Some, length, map, flat_map};
-ghost use Rattle.xt_expr.specs.Values.{HaveAddresses};
+ghost use Rattle.xt_lex.specs.Values.{HaveAddresses};
 ghost use Rattle.xt_isa.specs.Ranges.{in_range};
 ghost use Rattle.xt_parse.specs.Small.{HasShortExprs, IsShort};
 ghost use Rattle.xt_layout.specs.Sizes.{padding};
@@ -12,13 +12,11 @@ use crate::kinds::own_fault;
 use crate::operands::{Context, Made, insn_at, value_of};
 use std::alloc::{AllocError, Global};
 use xt_codec::encode;
-use xt_expr::{Expr, Labels};
 use xt_isa::Insn;
-use xt_layout::{is_alignment, is_space};
-use xt_lex::AsmFault;
+use xt_layout::{PoolWord, is_alignment, is_space};
+use xt_lex::{AsmFault, Expr, Labels};
 use xt_map::Bytes;
 use xt_parse::{Line, Statement};
-use xt_pool::PoolWord;
 
 // ---- values
 

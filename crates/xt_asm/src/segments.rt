@@ -1,16 +1,16 @@
 //! The segments and the entry of a text.
 ghost use Rattle.std.specs.Prelude.{◌≡◌, ◌++◌, length, zip, All, IfOk, OnOk};
-ghost use Rattle.xt_expr.specs.Values.{HaveAddresses};
+ghost use Rattle.xt_lex.specs.Values.{HaveAddresses};
 ghost use Rattle.xt_parse.specs.Small.{HasShortExprs};
 ghost use Rattle.xt_parse.specs.declared.line.Line.{Line};
 ghost use Rattle.xt_asm.specs.Images.{content, entry_of, with_padding, segment_at, segments_of};
 
 use crate::operands::value_of;
 use std::alloc::{AllocError, Global};
-use xt_expr::Labels;
+use xt_layout::is_segment;
+use xt_lex::Labels;
 use xt_map::{Bytes, Segment, Segments};
 use xt_parse::{Line, Statement};
-use xt_pool::is_segment;
 
 /// The bytes of the lines up to the next `.seg`.
 fn content(alloc: Global, lines: &[Line], pieces: &[Bytes]) -> Result<Vec<u8>, AllocError>

@@ -1,15 +1,15 @@
 //! The words that the uses of pools refer to.
 ghost use Rattle.std.specs.Prelude.{List, ℤ, ◌≡◌, ◌^◌, ◌<◌, length, slice_get, None, IfOk, OnOk};
-ghost use Rattle.xt_pool.specs.declared.word.PoolWord.{PoolWord};
-ghost use Rattle.xt_pool.specs.Around.{each};
+ghost use Rattle.xt_layout.specs.declared.word.PoolWord.{PoolWord};
+ghost use Rattle.xt_layout.specs.Around.{each};
 ghost use Rattle.xt_asm.specs.Operands.{target_of, word_for};
 ghost use Rattle.xt_asm.specs.Uses.{Indexes, pool_after, target_at};
 
 use std::alloc::{AllocError, Global};
 use std::collections::BTreeMap;
-use xt_expr::Term;
+use xt_layout::{PoolWord, pool_use};
+use xt_lex::Term;
 use xt_parse::{Line, Statement};
-use xt_pool::{PoolWord, pool_use};
 
 /// The number of each word without a name, by the place of its pool and its terms.
 type Index<'a> = BTreeMap<(u32, &'a [Term]), usize>;

@@ -3,18 +3,17 @@ ghost use Rattle.std.specs.Prelude.{◌≡◌, ◌≤◌, ◌<◌, ◌≤ℤ◌,
 ghost use Rattle.std.specs.List.{prefix_len};
 ghost use Rattle.xt_asm.specs.Contexts.{LineFault};
 ghost use Rattle.xt_asm.specs.Pieces.{ArePieces, sources_of};
-ghost use Rattle.xt_pool.specs.Pools.{words_of};
+ghost use Rattle.xt_layout.specs.Pools.{words_of};
 ghost use Rattle.xt_asm.specs.Walks.{AreOf, own_first};
 
 use crate::kinds::own_fault;
 use crate::operands::{Context, insn_at};
 use crate::pieces::piece_of;
 use std::alloc::{AllocError, Global};
-use xt_expr::Labels;
-use xt_lex::{AsmFault, AsmPlace};
+use xt_layout::PoolWord;
+use xt_lex::{AsmFault, AsmPlace, Labels};
 use xt_map::Bytes;
 use xt_parse::Line;
-use xt_pool::PoolWord;
 
 /// How many words at the front stand in the pool at a place.
 fn pool_width(place: u32, words: &[PoolWord]) -> usize

@@ -4,3 +4,4 @@ pub mod Places
 pub mod States
 pub mod Keeps
 pub mod BusKeeps
+pub mod State

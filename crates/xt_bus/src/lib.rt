@@ -8,6 +8,8 @@ mod bus;
 mod bytes;
 mod memory;
 mod places;
+mod uart;
 
 pub use bus::Bus;
 pub use memory::Memory;
+pub use uart::Uart;

@@ -6,12 +6,12 @@ ghost use Rattle.xt_map.specs.Serving.{reply_to, with_sent};
 ghost use Rattle.xt_bus.specs.Places.{lies_apart};
 ghost use Rattle.xt_bus.specs.States.{memory_state, part_bytes, memory_after_access};
 
+use crate::Uart;
 use crate::bytes::act;
 use crate::places::{Place, place_of};
 use std::alloc::{AllocError, Global};
 use std::marker::Model;
 use xt_map::{Access, Kind, Segment, UART_TRANSMIT};
-use xt_uart::Uart;
 
 const RTC_FAST_DATA_SIZE: usize = 8192;
 

@@ -11,7 +11,7 @@ use Rattle.xt_changes.specs.declared.changes.Change.{Change}
 use Rattle.xt_changes.specs.Changed.{IsAbove, IsRising, byte_in, put_in, with_changes}
 use Rattle.xt_changes.proofs.Same.{put_over, swapped}
 
-below_unless : (b a : ℕ) → a ≤ b → (b == a) ≡ false → a < b
+pub below_unless : (b a : ℕ) → a ≤ b → (b == a) ≡ false → a < b
 below_unless b a h f = ⊎_elim (λ (less : a < b). less) (λ (no : b ≤ a). absurd (let e : b ≡ a = omega arith in let t : (b == a) ≡ true = eq-eqb b a e in cc)) (cases_lt a b)
 
 pub changes_keep_sizes : (m : MemoryContents) (cs : List Change) → HasSizes m → HasSizes (with_changes m cs)

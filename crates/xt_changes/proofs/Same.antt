@@ -38,7 +38,7 @@ same_memory m n s t e h =
     ∙ ap (make n.rtc_fast_data n.dram n.rtc_slow) e
 
 -- outside the memory regions all bytes are 0
-by_region : (m n : MemoryContents) (y : ℕ) → (is_memory (region_of y) ≡ true → byte_at m y ≡ byte_at n y) → byte_at m y ≡ byte_at n y
+pub by_region : (m n : MemoryContents) (y : ℕ) → (is_memory (region_of y) ≡ true → byte_at m y ≡ byte_at n y) → byte_at m y ≡ byte_at n y
 by_region m n y h = ⊎_elim h (λ out. outside_memory m y out ∙ sym (outside_memory n y out)) (cases_Bool (is_memory (region_of y)))
 
 -- two bytes at different addresses may be put in either order

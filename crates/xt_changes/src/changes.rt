@@ -4,9 +4,9 @@ ghost use Rattle.xt_map.specs.declared.contents.MemoryContents.{MemoryContents};
 ghost use Rattle.xt_map.specs.Memory.{HasSizes, byte_at, with_byte, with_bytes, low_bytes};
 ghost use Rattle.xt_map.specs.Regions.{is_mapped, is_memory, is_size, is_uart, region_of};
 ghost use Rattle.xt_map.specs.Serving.{contents_after, memory_past, number_at, access_reply, reply_to, with_sent};
-ghost use Rattle.xt_changes.specs.Changed.{contents_of};
+ghost use Rattle.xt_changes.specs.Changed.{IsLean, contents_of, digest_of};
 
-use crate::places::{are_same, byte_of, put};
+use crate::places::{are_same, byte_of, put, take};
 use std::alloc::{AllocError, Global};
 use std::marker::Model;
 use xt_bus::Memory;
@@ -14,14 +14,14 @@ use xt_map::regions::Region;
 use xt_map::{Access, Kind, UART_STATUS, UART_TRANSMIT, region};
 
 /// A byte at an address.
-#[derive(Clone, Copy, Debug, PartialEq, Eq)]
+#[derive(Clone, Copy)]
 pub struct Change {
     pub addr: u32,
     pub byte: u8,
 }
 
-/// What a memory holds, as the bytes that were put, in rising order of their addresses, and the bytes
-/// that UART0 has sent. Contracts see both lists.
+/// What a memory holds, as the bytes that differ from those that it opened with, in rising order of
+/// their addresses, and the bytes that UART0 has sent. Contracts see both lists.
 #[derive(Drop)]
 pub struct Changes {
     bytes: Vec<Change>,
@@ -77,10 +77,19 @@ impl Changes {
         self.sent.as_slice()
     }
 
-    /// Puts a byte at an address. The only error is running out of memory; it changes nothing.
-    pub fn put_byte(&mut self, addr: u32, byte: u8) -> Result<(), AllocError>
-        ensures { OnOk result ((m : MemoryContents) → HasSizes m → contents_of m self.new ≡ with_byte (contents_of m self.old) addr byte) }
+    // Puts a byte at an address. The only error is running out of memory; it changes nothing.
+    fn put_byte(&mut self, opening: &Memory, addr: u32, byte: u8) -> Result<(), AllocError>
+        requires { HasSizes opening.now.contents }
+        ensures state { OnOk result (contents_of opening.now.contents self.new ≡ with_byte (contents_of opening.now.contents self.old) addr byte) }
+        ensures lean { OnOk result (IsLean opening.now.contents self.old → IsLean opening.now.contents self.new) }
     {
+        if !is_memory_at(addr) {
+            return Ok(());
+        }
+        if opening.byte(addr) == byte {
+            take(&mut self.bytes, addr);
+            return Ok(());
+        }
         put(&mut self.bytes, Change { addr, byte })
     }
 
@@ -110,32 +119,41 @@ impl Changes {
 
     // Puts the low 1, 2 or 4 bytes of a number from an address on, least byte first. The only error is
     // running out of memory.
-    fn put_number(&mut self, addr: u32, size: u8, value: u32) -> Result<(), AllocError>
+    fn put_number(
+        &mut self,
+        opening: &Memory,
+        addr: u32,
+        size: u8,
+        value: u32,
+    ) -> Result<(), AllocError>
+        requires sizes { HasSizes opening.now.contents }
         requires size { is_size size ≡ true }
         requires low { addr + 4 ≤ 2 ^ 32 }
-        ensures { OnOk result ((m : MemoryContents) → HasSizes m → contents_of m self.new ≡ with_bytes (contents_of m self.old) addr (low_bytes size value)) }
+        ensures state { OnOk result (contents_of opening.now.contents self.new ≡ with_bytes (contents_of opening.now.contents self.old) addr (low_bytes size value)) }
+        ensures lean { OnOk result (IsLean opening.now.contents self.old → IsLean opening.now.contents self.new) }
     {
-        self.put_byte(addr, (value % 256) as u8)?;
+        self.put_byte(opening, addr, (value % 256) as u8)?;
         if size == 1 {
             return Ok(());
         }
         let second = addr + 1;
         let rest = value / 256;
-        self.put_byte(second, (rest % 256) as u8)?;
+        self.put_byte(opening, second, (rest % 256) as u8)?;
         if size == 2 {
             return Ok(());
         }
         let third = second + 1;
         let fourth = third + 1;
         let rest = rest / 256;
-        self.put_byte(third, (rest % 256) as u8)?;
+        self.put_byte(opening, third, (rest % 256) as u8)?;
         let rest = rest / 256;
-        self.put_byte(fourth, (rest % 256) as u8)
+        self.put_byte(opening, fourth, (rest % 256) as u8)
     }
 
     // Sends the low byte of a store. The only error is running out of memory.
     fn transmit(&mut self, kind: Kind) -> Result<(), AllocError>
-        ensures { OnOk result ((m : MemoryContents) → contents_of m self.new ≡ with_sent (contents_of m self.old) kind) }
+        ensures state { OnOk result ((m : MemoryContents) → contents_of m self.new ≡ with_sent (contents_of m self.old) kind) }
+        ensures bytes { OnOk result (self.new.bytes ≡ self.old.bytes) }
     {
         if let Kind::Store(value) = kind {
             self.sent.push((value % 256) as u8)?;
@@ -149,6 +167,7 @@ impl Changes {
         requires { is_uart access.addr ≡ true }
         ensures reply { IfOk result (λ r. (m : MemoryContents) → r ≡ reply_to m access) }
         ensures state { OnOk result ((m : MemoryContents) → contents_of m self.new ≡ memory_past (contents_of m self.old) access) }
+        ensures bytes { OnOk result (self.new.bytes ≡ self.old.bytes) }
     {
         if access.addr == UART_TRANSMIT {
             self.transmit(access.kind)?;
@@ -163,17 +182,18 @@ impl Changes {
         requires low { access.addr + 4 ≤ 2 ^ 32 }
         ensures reply { IfOk result (λ r. r ≡ access_reply access.kind (number_at (contents_of opening.now.contents self.old) access.addr access.size)) }
         ensures state { OnOk result (contents_of opening.now.contents self.new ≡ contents_after (contents_of opening.now.contents self.old) access.addr access.size access.kind) }
+        ensures lean { OnOk result (IsLean opening.now.contents self.old → IsLean opening.now.contents self.new) }
     {
         match access.kind {
             Kind::Load => Ok(self.number(opening, access.addr, access.size)),
             Kind::Store(value) => {
-                self.put_number(access.addr, access.size, value)?;
+                self.put_number(opening, access.addr, access.size, value)?;
                 Ok(0)
             }
             Kind::Cas(expected, new) => {
                 let found = self.number(opening, access.addr, access.size);
                 if found == expected {
-                    self.put_number(access.addr, access.size, new)?;
+                    self.put_number(opening, access.addr, access.size, new)?;
                 }
                 Ok(found)
             }
@@ -204,6 +224,7 @@ impl Changes {
         requires access { is_mapped access ≡ true }
         ensures reply { IfOk result (λ r. r ≡ reply_to (contents_of opening.now.contents self.old) access) }
         ensures state { OnOk result (contents_of opening.now.contents self.new ≡ memory_past (contents_of opening.now.contents self.old) access) }
+        ensures lean { OnOk result (IsLean opening.now.contents self.old → IsLean opening.now.contents self.new) }
     {
         if access.addr == UART_TRANSMIT || access.addr == UART_STATUS {
             return self.serve_uart(access);
@@ -222,23 +243,25 @@ impl Changes {
         Ok(Changes { bytes, sent })
     }
 
-    /// Whether two memories were seen to have the same changes.
+    /// Whether two memories have the same changes.
     pub fn is_same(&self, other: &Changes) -> bool
-        ensures { result ≡ true → self.now ≡ other.now }
+        ensures same { result ≡ true → self.now ≡ other.now }
+        ensures equal { self.now ≡ other.now → result ≡ true }
     {
         self.sent.as_slice() == other.sent.as_slice()
             && are_same(self.bytes.as_slice(), other.bytes.as_slice())
     }
 
     /// A number that is the same for the same changes.
-    pub fn digest(&self) -> u64 {
+    pub fn digest(&self) -> u64
+        ensures { result ≡ digest_of self.now }
+    {
         let mut digest: u64 = self.sent.len() as u64;
-        for change in &self.bytes {
-            digest = digest.wrapping_mul(0x9E37_79B9_7F4A_7C15).wrapping_add(
-                (change.addr as u64)
-                    .wrapping_mul(256)
-                    .wrapping_add(change.byte as u64),
-            );
+        for change in self.bytes.as_slice() {
+            let number = (change.addr as u64) * 256 + (change.byte as u64);
+            digest = digest
+                .wrapping_mul(0x9E37_79B9_7F4A_7C15)
+                .wrapping_add(number);
         }
         digest
     }

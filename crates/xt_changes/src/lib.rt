@@ -2,6 +2,8 @@
 #![tactic(auto)]
 
 mod changes;
+mod laws;
 mod places;
 
 pub use changes::{Change, Changes};
+pub use laws::{apart_accesses_commute, apart_accesses_keep_replies};

@@ -1,7 +1,7 @@
 //! Changed bytes in rising order of their addresses.
 ghost use Rattle.std.specs.Prelude.{◌≡◌, ◌≢◌, ◌≤◌, true, false, Some, OnOk, OnErr, length, slice_get};
 ghost use Rattle.xt_changes.specs.declared.changes.Change.{Change};
-ghost use Rattle.xt_changes.specs.Changed.{byte_in, place_in, put_in};
+ghost use Rattle.xt_changes.specs.Changed.{byte_in, place_in, put_in, without};
 
 use crate::changes::Change;
 use std::alloc::AllocError;
@@ -63,9 +63,20 @@ pub(crate) fn put(changes: &mut Vec<Change>, change: Change) -> Result<(), Alloc
     Ok(())
 }
 
-/// Whether two lists are seen to be equal.
+/// Takes the byte at an address away, if there is one.
+pub(crate) fn take(changes: &mut Vec<Change>, addr: u32)
+    ensures { changes.new.items ≡ without changes.old.items addr }
+{
+    let place = place_of(changes.as_slice(), addr);
+    if is_hit(changes.as_slice(), place, addr) {
+        changes.remove(place);
+    }
+}
+
+/// Whether two lists are equal.
 pub(crate) fn are_same(changes: &[Change], others: &[Change]) -> bool
-    ensures { result ≡ true → changes.now ≡ others.now }
+    ensures same { result ≡ true → changes.now ≡ others.now }
+    ensures equal { changes.now ≡ others.now → result ≡ true }
 {
     if changes.len() != others.len() {
         return false;

@@ -10,7 +10,7 @@ use Rattle.xt_status.specs.declared.status.Status.{Status}
 use Rattle.xt_status.specs.declared.status.Status.TheVariants as status
 use Rattle.xt_status.specs.Calls.{Ends, IsUntouched}
 use Rattle.xt_status.proofs.Quiet.{is_untouched, keeps_same, still, takes_nothing}
-use Rattle.xt_report.specs.declared.whole.Whole.{Whole}
+use Rattle.xt_trace.specs.declared.run.Run.{Run}
 use Rattle.xt_runs.specs.declared.outcome.Outcome.{Outcome}
 use Rattle.xt_runs.specs.Runs.{Generates, Runs, image_limit}
 use Rattle.xt_session.specs.Calls.{Sessions}
@@ -46,7 +46,7 @@ tool_refuses asked r s left told f g means is =
 
 -- ---- the top call
 
-top_without : (asked : Result Order Refusal) (left told : Option (List ℕ)) (f g : ℕ) (o : Outcome) → o.status ≡ status.Memory → o.whole ≡ None → o.unmet ≡ None
+top_without : (asked : Result Order Refusal) (left told : Option (List ℕ)) (f g : ℕ) (o : Outcome) → o.status ≡ status.Memory → o.run ≡ None → o.unmet ≡ None
     → top.Answers asked (still left told f g) o
 top_without (Ok (order.Work j)) left told f g o is none no_line =
     let P : Status → Type 0 = λ x. Makes j (still left told f g) x in (subst P (sym is) (out_of_memory (Ok (order.Work j)) left told f g), none, no_line)
@@ -55,18 +55,18 @@ top_without (Ok (order.Session b)) left told f g o is none no_line =
 top_without (Ok (order.Run wanted options)) left told f g o is none no_line =
     let e = still left told f g in
     let P : Status → Type 0 = λ x. Runs wanted options e x None None in
-    let Q : Option Whole → Type 0 = λ x. Runs wanted options e o.status x None in
-    let R : Option (List ℕ) → Type 0 = λ x. Runs wanted options e o.status o.whole x in
+    let Q : Option Run → Type 0 = λ x. Runs wanted options e o.status x None in
+    let R : Option (List ℕ) → Type 0 = λ x. Runs wanted options e o.status o.run x in
     subst R (sym no_line) (subst Q (sym none) (subst P (sym is) (takes_nothing image_limit left told f g, inl (keeps_same told))))
 top_without (Ok (order.Generate number)) left told f g o is none no_line =
     let P : Status → Type 0 = λ x. Generates number told told g g x None in
-    let Q : Option Whole → Type 0 = λ x. Generates number told told g g o.status x in
+    let Q : Option Run → Type 0 = λ x. Generates number told told g g o.status x in
     (record { left = refl; faults = refl }, subst Q (sym none) (subst P (sym is) (inl (keeps_same told))), no_line)
 top_without (Err r) left told f g o is none no_line =
     let P : Status → Type 0 = λ x. Answers (Err r) (still left told f g) (tool.Answer x) in (subst P (sym is) (out_of_memory (Err r) left told f g), none, no_line)
 
 pub top_refuses : (asked : Result Order Refusal) (r : Refusal) (o : Outcome) (left told : Option (List ℕ)) (f g : ℕ) → Means (Err r) asked
-    → o.status ≡ status_of r → o.whole ≡ None → o.unmet ≡ None → top.Answers asked (still left told f g) o
+    → o.status ≡ status_of r → o.run ≡ None → o.unmet ≡ None → top.Answers asked (still left told f g) o
 top_refuses asked (refusal.Usage rule) o left told f g means is none no_line =
     let P : Result Order Refusal → Type 0 = λ x. top.Answers x (still left told f g) o in
     subst P means (tool_refuses (Err (refusal.Usage rule)) (refusal.Usage rule) o.status left told f g refl is, none, no_line)
@@ -97,7 +97,7 @@ of_still P e quiet all =
     subst D (sym quiet.sink) (subst C (sym quiet.source) (subst B (sym quiet.told) (subst A (sym quiet.left) (all e.left e.told e.source_faults e.sink_faults))))
 
 -- a status that was answered is that of the top call, which hands out no run
-pub answered : (asked : Result Order Refusal) (e : Ends) (s : Status) (o : Outcome) → Answers asked e (tool.Answer s) → o.status ≡ s → o.whole ≡ None → o.unmet ≡ None → top.Answers asked e o
+pub answered : (asked : Result Order Refusal) (e : Ends) (s : Status) (o : Outcome) → Answers asked e (tool.Answer s) → o.status ≡ s → o.run ≡ None → o.unmet ≡ None → top.Answers asked e o
 answered (Ok (order.Work j)) e s o answers is none no_line =
     let P : Status → Type 0 = λ x. Makes j e x in (subst P (sym is) answers, none, no_line)
 answered (Ok (order.Session b)) e s o answers is none no_line =

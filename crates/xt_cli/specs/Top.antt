@@ -18,13 +18,13 @@ pub record IsUnread (e : Ends) : Type 0 where
 -- no thread, which hand out no run.
 abbrev pub Answers : Result Order Refusal → Ends → Outcome → Type 0
 Answers (Ok (order.Run wanted options)) e o =
-    Runs wanted options e o.status o.whole o.unmet
+    Runs wanted options e o.status o.run o.unmet
 Answers (Ok (order.Generate number)) e o =
     IsUnread e
-    × Generates number e.told e.told_after e.sink_faults e.sink_faults_after o.status o.whole
+    × Generates number e.told e.told_after e.sink_faults e.sink_faults_after o.status o.run
     × (o.unmet ≡ None)
 Answers asked e o =
-    tools.Answers asked e (tool.Answer o.status) × (o.whole ≡ None) × (o.unmet ≡ None)
+    tools.Answers asked e (tool.Answer o.status) × (o.run ≡ None) × (o.unmet ≡ None)
 
 -- ---- completeness
 

@@ -56,7 +56,7 @@ pub enum Job {
 }
 
 /// What `tool_main` answers.
-#[derive(Clone, Copy, Debug, PartialEq, Eq)]
+#[derive(Clone, Copy, PartialEq, Eq)]
 pub enum Tool {
     /// The program ended with this status.
     Answer(Status),

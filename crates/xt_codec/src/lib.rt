@@ -28,7 +28,7 @@ use words::fields_from;
 use xt_isa::{Fields, Insn};
 
 /// What three bytes spell.
-#[derive(Clone, Copy, Debug, PartialEq, Eq)]
+#[derive(Clone, Copy)]
 pub enum Decoded {
     /// The instruction, and its length in bytes, 2 or 3.
     Good(Insn, u8),
@@ -37,7 +37,7 @@ pub enum Decoded {
 }
 
 /// The bytes of an instruction.
-#[derive(Clone, Copy, Debug, PartialEq, Eq)]
+#[derive(Clone, Copy, PartialEq, Eq)]
 pub struct Code {
     /// The bytes, the least first; the third is 0 where the length is 2.
     pub bytes: [u8; 3],

@@ -17,6 +17,7 @@ requirement_of word =
     else if bytes_eq word (codes "whole") then Some requirement.Whole
     else if bytes_eq word (codes "used") then Some requirement.Used
     else if bytes_eq word (codes "race-free") then Some requirement.RaceFree
+    else if bytes_eq word (codes "exit0") then Some requirement.Exit0
     else None
 
 abbrev pub number_of_requirement : Requirement → ℕ
@@ -24,6 +25,7 @@ number_of_requirement requirement.Break = 0
 number_of_requirement requirement.Whole = 1
 number_of_requirement requirement.Used = 2
 number_of_requirement requirement.RaceFree = 3
+number_of_requirement requirement.Exit0 = 4
 
 abbrev pub is_among : Requirement → List Requirement → Bool
 is_among r list = list_any (λ one. number_of_requirement one == number_of_requirement r) list

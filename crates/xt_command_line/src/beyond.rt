@@ -8,7 +8,7 @@ use crate::option_commands::{is_true, replay_matches, text_of};
 use std::alloc::Global;
 
 /// What becomes of a script at a command that leads beyond the run.
-#[derive(Clone, Copy, Debug, PartialEq, Eq)]
+#[derive(Clone, Copy)]
 pub enum Beyond {
     /// It ends there.
     Ends,

@@ -8,7 +8,7 @@ use std::alloc::AllocError;
 
 /// Which turns of a recorded run `trace` prints: those of some positions of the run's schedule, of which all
 /// that is asked for holds.
-#[derive(Clone, Copy, Debug, PartialEq, Eq)]
+#[derive(Clone, Copy)]
 pub struct Turns {
     /// The first position (`--from`).
     pub from: u32,
@@ -25,7 +25,7 @@ pub struct Turns {
 }
 
 /// Where control begins in an image, beside its entry.
-#[derive(Debug, Drop)]
+#[derive(Drop)]
 pub struct Openings {
     /// VECBASE, the address where the vectors of both cores begin (`--vecbase`), a multiple of 1024.
     pub vecbase: u32,
@@ -36,7 +36,7 @@ pub struct Openings {
 }
 
 /// Which bytes of an image a listing takes as instructions.
-#[derive(Debug, Drop)]
+#[derive(Drop)]
 pub enum Way {
     /// Every executable segment from its first byte on.
     Sweep,
@@ -45,7 +45,7 @@ pub enum Way {
 }
 
 /// What a listing of an image shows.
-#[derive(Debug, Drop)]
+#[derive(Drop)]
 pub struct Listing {
     /// Which bytes are instructions.
     pub way: Way,
@@ -54,7 +54,7 @@ pub struct Listing {
 }
 
 /// How much of what a program did not set itself `uses` takes as known.
-#[derive(Clone, Copy, Debug, PartialEq, Eq)]
+#[derive(Clone, Copy)]
 pub enum Rigor {
     /// Nothing that the calling convention gives a function no right to.
     Strict,
@@ -63,7 +63,7 @@ pub enum Rigor {
 }
 
 /// What `profile` counts, and by which keys.
-#[derive(Clone, Copy, Debug, PartialEq, Eq)]
+#[derive(Clone, Copy)]
 pub struct ProfileOptions {
     /// How many functions a key has at most, but for cut ones (`--depth`).
     pub depth: u32,
@@ -72,7 +72,7 @@ pub struct ProfileOptions {
 }
 
 /// A command with its options.
-#[derive(Debug, Drop)]
+#[derive(Drop)]
 pub enum Command {
     /// `asm`: assembles a text.
     Assemble,
@@ -111,7 +111,7 @@ pub enum Command {
 }
 
 /// Why words are no command with options.
-#[derive(Clone, Copy, Debug, PartialEq, Eq)]
+#[derive(Clone, Copy, PartialEq, Eq)]
 pub enum Refusal {
     /// The number of the first rule of usage that the words break:
     /// 1 there is no word, 2 the command is unknown, 3 the further words do not match what the command takes, 4 to 8 a

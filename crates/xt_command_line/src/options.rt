@@ -13,7 +13,7 @@ use xt_trace::{Options, Stack};
 pub const MOST_TURNS: u32 = 4_000_000;
 
 /// The options of `run` and `record`.
-#[derive(Debug, Drop)]
+#[derive(Drop)]
 pub struct RunOptions {
     /// The turns of core 0 (`--turns0`).
     pub turns0: u32,

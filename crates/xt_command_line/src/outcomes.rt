@@ -26,7 +26,7 @@ const MOST_STATES: u32 = 16_000_000;
 const MOST_WORDS: usize = 4;
 
 /// Addresses of words. Contracts see the list.
-#[derive(Debug, Drop)]
+#[derive(Drop)]
 pub struct WordList {
     items: Vec<u32>,
 }
@@ -56,7 +56,7 @@ impl WordList {
 }
 
 /// What `outcomes` looks at.
-#[derive(Debug, Drop)]
+#[derive(Drop)]
 pub struct OutcomeOptions {
     /// The turns, where core 1 begins, VECBASE and the stacks, as for `run`.
     pub run: RunOptions,

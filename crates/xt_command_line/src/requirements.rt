@@ -9,7 +9,7 @@ use std::alloc::{AllocError, Global};
 use std::marker::Model;
 
 /// What may be required of a run.
-#[derive(Clone, Copy, Debug, PartialEq, Eq)]
+#[derive(Clone, Copy)]
 pub enum Requirement {
     /// `break`: each core that has turns ended by a BREAK.
     Break,
@@ -19,10 +19,12 @@ pub enum Requirement {
     Used,
     /// `race-free`: the text of `race` says `race none`.
     RaceFree,
+    /// `exit0`: each core that has turns ended by `break 1, 15` with 0 in a2.
+    Exit0,
 }
 
 /// Requirements, of which none stands twice. Contracts see the list.
-#[derive(Debug, Drop)]
+#[derive(Drop)]
 pub struct Requirements {
     items: Vec<Requirement>,
 }
@@ -62,6 +64,7 @@ fn requirement_of(word: &str) -> Option<Requirement>
         "whole" => Some(Requirement::Whole),
         "used" => Some(Requirement::Used),
         "race-free" => Some(Requirement::RaceFree),
+        "exit0" => Some(Requirement::Exit0),
         _ => None,
     }
 }
@@ -75,6 +78,7 @@ fn number_of_requirement(requirement: Requirement) -> u8
         Requirement::Whole => 1,
         Requirement::Used => 2,
         Requirement::RaceFree => 3,
+        Requirement::Exit0 => 4,
     }
 }
 
@@ -114,8 +118,8 @@ fn requirements_in(alloc: Global, text: &str) -> Result<Option<Requirements>, Al
 
 /// The requirements that the text of `--require` lists; none where there is no text.
 ///
-/// `Usage(4)` says that the text is no list of them: words `break`, `whole`, `used` and `race-free` with commas between
-/// them, one or more, of which none stands twice. `Memory` says only that memory ran out.
+/// `Usage(4)` says that the text is no list of them: words `break`, `whole`, `used`, `race-free` and `exit0` with commas
+/// between them, one or more, of which none stands twice. `Memory` says only that memory ran out.
 pub fn required_in(alloc: Global, text: Option<&str>) -> Result<Option<Requirements>, Refusal>
     ensures { Means result (required_in (option_map (λ t. t.now) text.entry)) }
 {

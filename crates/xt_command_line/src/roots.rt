@@ -9,7 +9,7 @@ use std::alloc::{AllocError, Global};
 use std::marker::Model;
 
 /// Addresses from which a listing follows the code. Contracts see the list.
-#[derive(Debug, Drop)]
+#[derive(Drop)]
 pub struct Roots {
     items: Vec<u32>,
 }

@@ -10,7 +10,7 @@ use std::alloc::{AllocError, Global};
 use std::marker::Model;
 
 /// So many words of memory from an address on.
-#[derive(Clone, Copy, Debug, PartialEq, Eq)]
+#[derive(Clone, Copy)]
 pub struct Span {
     /// The address of the first.
     pub addr: u32,
@@ -19,7 +19,7 @@ pub struct Span {
 }
 
 /// Words of memory in several places. Contracts see the list.
-#[derive(Debug, Drop)]
+#[derive(Drop)]
 pub struct Spans {
     items: Vec<Span>,
 }

@@ -11,7 +11,7 @@ use std::alloc::{AllocError, Global};
 use std::marker::Model;
 
 /// One of the two cores.
-#[derive(Clone, Copy, Debug, PartialEq, Eq)]
+#[derive(Clone, Copy)]
 pub enum Which {
     /// Core 0.
     Zero,
@@ -20,7 +20,7 @@ pub enum Which {
 }
 
 /// So many turns of one core, one after another.
-#[derive(Clone, Copy, Debug, PartialEq, Eq)]
+#[derive(Clone, Copy)]
 pub struct CoreTurns {
     /// The core that makes them.
     pub core: Which,
@@ -29,7 +29,7 @@ pub struct CoreTurns {
 }
 
 /// Turns of one core, then of one core, and so on. Contracts see the list.
-#[derive(Debug, Drop)]
+#[derive(Drop)]
 pub struct TurnList {
     items: Vec<CoreTurns>,
 }
@@ -60,7 +60,7 @@ impl TurnList {
 }
 
 /// In which order both cores make their turns.
-#[derive(Debug, Drop)]
+#[derive(Drop)]
 pub enum TurnOrder {
     /// As two threads come to them.
     Free,

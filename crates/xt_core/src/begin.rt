@@ -1,7 +1,7 @@
 use xt_map::Access;
 
 /// What a turn that begins does.
-#[derive(Clone, Copy, Debug, PartialEq, Eq)]
+#[derive(Clone, Copy)]
 pub enum Begin {
     /// Nothing: the core has stopped, or has no turn left.
     Ended,

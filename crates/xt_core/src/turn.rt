@@ -55,7 +55,7 @@ fn start_turn<W: Windows>(r: &mut Regs<W>, code: &Constants) -> Plan
     ensures { let s = state_of W.regs W.base W.start r.old in
         IsPlan result s (state_of W.regs W.base W.start r.new) (planned_turn (constant_byte code.now) s) }
 {
-    match xt_exc::pending(&r.sr) {
+    match xt_special::entries::pending(&r.sr) {
         Some(level) => Plan::Done(r.interrupt(level)),
         None => {
             if r.waiting {
@@ -88,7 +88,7 @@ fn instruction<W: Windows>(r: &mut Regs<W>, code: &Constants) -> Plan
 fn tick<W: Windows>(r: &mut Regs<W>)
     ensures { state_of W.regs W.base W.start r.new ≡ at_end (state_of W.regs W.base W.start r.old) }
 {
-    xt_timer::tick(&mut r.sr);
+    xt_special::timers::tick(&mut r.sr);
 }
 
 // What a record keeps of the registers as the turn begins.

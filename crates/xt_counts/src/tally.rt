@@ -6,7 +6,7 @@ ghost use Rattle.xt_counts.specs.CountedTurns.{IsSmall, tally_with_turn, more, e
 use crate::turn::{Turn, is_executed, is_raised};
 
 /// What the turns of a core did with the instruction at an address.
-#[derive(Clone, Copy, Debug, PartialEq, Eq)]
+#[derive(Clone, Copy)]
 pub struct Tally {
     /// How many executed it.
     pub executed: u32,

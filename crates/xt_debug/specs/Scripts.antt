@@ -14,7 +14,7 @@ use Rattle.xt_debug.specs.Calls.{calls_text, stack_end}
 use Rattle.xt_debug.specs.Depths.{depth_at, frame_at}
 use Rattle.xt_debug.specs.Printed.{frames_text, none_found, past_end, regs_text, ring_text}
 use Rattle.xt_debug.specs.Printed.{special_text}
-use Rattle.xt_memory_text.specs.Printed.{mem_text, words_text}
+use Rattle.xt_replay.specs.Printed.{mem_text, words_text}
 use Rattle.xt_debug.specs.Searches.{break_position, end_of, step_position, watch_position}
 use Rattle.xt_debug.specs.Searches.{within}
 

@@ -18,8 +18,7 @@ use crate::turns::push_turns;
 use std::alloc::{AllocError, Global};
 use xt_command_line::Beyond;
 use xt_map::Text;
-use xt_memory_text::{end_of, push_mem, push_words};
-use xt_replay::Replay;
+use xt_replay::{Replay, end_of, push_mem, push_words};
 
 // Moves directly before a core's step of this number, where its trace is that long.
 fn go(replay: &mut Replay, core: u8, step: u32) -> bool

@@ -6,7 +6,7 @@ use std::marker::Model;
 use thiserror::Error;
 
 /// A command of a script. A core is 0 or 1, a position a number of steps of the run's schedule.
-#[derive(Clone, Copy, Debug, PartialEq, Eq)]
+#[derive(Clone, Copy)]
 pub enum Command {
     /// `go C N`: to the position directly before this core's step of this number.
     Go(u8, u32),

@@ -6,8 +6,7 @@ ghost use Rattle.xt_debug.specs.Runs.{Arrives};
 ghost use Rattle.xt_debug.specs.Searches.{break_position, end_of, is_next, stores, stores_at, stores_word, watch_position};
 
 use xt_map::{Entry, Kind, is_in_memory};
-use xt_memory_text::end_of;
-use xt_replay::Replay;
+use xt_replay::{Replay, end_of};
 
 // The next step is this core's, and the core's program counter is this.
 #[tactic(auto, unfolding(crate::specs::Searches::is_next))]

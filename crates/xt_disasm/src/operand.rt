@@ -11,7 +11,7 @@ use xt_names::{Access, special_name};
 use xt_word::push_hex8;
 
 /// One operand of an instruction.
-#[derive(Clone, Copy, Debug, PartialEq, Eq)]
+#[derive(Clone, Copy)]
 pub enum Operand {
     /// An address register, 0 to 15.
     Register(u8),

@@ -47,22 +47,6 @@ fn jump_target(pc: u32, offset: i32) -> Operand
     Target(jump_address(pc, offset))
 }
 
-/// The target of a call at `pc`.
-#[tactic(auto, unfolding(crate::specs::Operands::call_target))]
-fn call_target(pc: u32, offset: i32) -> Operand
-    ensures { result ≡ call_target pc offset }
-{
-    Target(call_address(pc, offset))
-}
-
-/// The literal of an L32R at `pc`.
-#[tactic(auto, unfolding(crate::specs::Operands::literal_target))]
-fn literal_target(pc: u32, offset: i32) -> Operand
-    ensures { result ≡ literal_target pc offset }
-{
-    Target(literal_address(pc, offset))
-}
-
 /// A special register as an access of a mnemonic names it.
 fn special(name: OneAndSpecial, number: u8) -> Operand
     ensures { result ≡ special name number }
@@ -107,7 +91,7 @@ fn tested_register(name: OneAndTarget, s: u8) -> Operand
 }
 
 /// Appends the operands of an instruction of these parts, which stands at the address `pc`.
-#[tactic(auto, unfolding(crate::specs::Operands::operands))]
+#[tactic(auto, unfolding(crate::specs::Operands::operands, crate::specs::Operands::call_target, crate::specs::Operands::literal_target))]
 fn push_parts(out: &mut String, parts: Parts, pc: u32) -> Result<(), AllocError>
     ensures { OnOk result (string_bytes out.new ≡ string_bytes out.old ++ arguments (map operand_text (operands parts pc))) }
 {
@@ -129,8 +113,11 @@ fn push_parts(out: &mut String, parts: Parts, pc: u32) -> Result<(), AllocError>
             push_operands(out, &[Register(t), special(name, n)])
         }
         Parts::Jump(d) => push_operands(out, &[jump_target(pc, d)]),
-        Parts::Call(_, d) => push_operands(out, &[call_target(pc, d)]),
-        Parts::Literal((t, d)) => push_operands(out, &[Register(t), literal_target(pc, d)]),
+        Parts::Call(_, d) => push_operands(out, &[Target(call_address(pc, d))]),
+        Parts::Literal((t, d)) => push_operands(
+            out,
+            &[Register(t), Target(literal_address(pc, d))],
+        ),
         Parts::OneAndTarget(name, (s, d)) => {
             push_operands(out, &[tested_register(name, s), jump_target(pc, d)])
         }

@@ -1,8 +1,8 @@
 -- The answers for the six vectors, one by one.
 use Rattle.std.proofs.Common.{◌≡◌, true, ◌&&◌, sym, refl}
 use Rattle.std.proofs.lemmas.Bool.{true≢false, and_parts}
-use Rattle.xt_stretch.specs.declared.HandlerVerdict.{HandlerVerdict}
-use Rattle.xt_stretch.specs.declared.HandlerVerdict.TheVariants.{Yes, No}
+use Rattle.xt_handlers.specs.declared.stretch.HandlerVerdict.{HandlerVerdict}
+use Rattle.xt_handlers.specs.declared.stretch.HandlerVerdict.TheVariants.{Yes, No}
 use Rattle.xt_handlers.specs.declared.Handlers.{Handlers}
 use Rattle.xt_discipline.specs.Verdicts.{are_yes, is_yes}
 

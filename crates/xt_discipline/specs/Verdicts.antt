@@ -8,8 +8,8 @@ use Rattle.xt_image.specs.declared.image.Image.{Image}
 use Rattle.xt_trace.specs.declared.options.Options.{Options}
 use Rattle.xt_trace.specs.declared.record.StepRecord.{StepRecord}
 use Rattle.xt_trace.specs.declared.run.Run.{Run}
-use Rattle.xt_stretch.specs.declared.HandlerVerdict.{HandlerVerdict}
-use Rattle.xt_stretch.specs.declared.HandlerVerdict.TheVariants.{Yes}
+use Rattle.xt_handlers.specs.declared.stretch.HandlerVerdict.{HandlerVerdict}
+use Rattle.xt_handlers.specs.declared.stretch.HandlerVerdict.TheVariants.{Yes}
 use Rattle.xt_handlers.specs.declared.Handlers.{Handlers}
 use Rattle.xt_frames.specs.Verdict.{Judgement, judgement, opening_known}
 use Rattle.xt_frames.specs.Walked.{Walked, opening_walked}

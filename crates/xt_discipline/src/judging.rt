@@ -12,10 +12,9 @@ ghost use Rattle.xt_discipline.specs.Verdicts.{are_yes, is_yes, judgement_in};
 use crate::walk::Walk;
 use std::alloc::{AllocError, Global};
 use xt_frames::Judged;
-use xt_handlers::{Handlers, check};
+use xt_handlers::{HandlerVerdict, Handlers, check};
 use xt_image::Image;
 use xt_map::Constants;
-use xt_stretch::HandlerVerdict;
 use xt_trace::{Records, Run};
 
 fn is_yes(answer: HandlerVerdict) -> bool

@@ -6,7 +6,7 @@ use std::marker::Model;
 use xt_trace::StepKind;
 
 /// The turns of one kind among the turns of a core.
-#[derive(Clone, Copy, Debug, PartialEq, Eq)]
+#[derive(Clone, Copy)]
 pub struct Event {
     /// What they were.
     pub kind: StepKind,

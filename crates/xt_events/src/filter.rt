@@ -10,7 +10,7 @@ use xt_map::Constants;
 use xt_trace::{StepKind, StepRecord};
 
 /// What a turn has to be to be printed. All that is asked for has to hold.
-#[derive(Clone, Copy, Debug, PartialEq, Eq)]
+#[derive(Clone, Copy)]
 pub struct Filter {
     /// A turn of this core; None asks for no core.
     pub core: Option<u8>,

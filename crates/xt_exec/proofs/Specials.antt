@@ -9,7 +9,7 @@ use Rattle.xt_special.specs.Timers.{with_timer, ticked_special, after_tick}
 use Rattle.xt_special.specs.Exceptions.{with_address, after_general, after_double, after_exception}
 use Rattle.xt_special.specs.Interrupts.{pending_level, after_high_level, after_interrupt}
 use Rattle.xt_special.specs.WindowExceptions.{after_window_exception}
-use Rattle.xt_loop.specs.Looping.{loops_back}
+use Rattle.xt_special.specs.Looping.{loops_back}
 use Rattle.xt_special.specs.declared.writes.SpecialWrite.{SpecialWrite}
 use Rattle.xt_rows.specs.declared.outcome.Flow.{Flow}
 use Rattle.xt_rows.specs.declared.outcome.Flow.TheVariants.{Falls, Goes}

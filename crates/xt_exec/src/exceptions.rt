@@ -24,7 +24,7 @@ impl<W: Windows> Regs<W> {
             turn_of result (state_of W.regs W.base W.start self.new) ≡ in_window (settled_exception cause addr s.control) s }
         ensures register { WritesRegister result }
     {
-        self.pc = xt_exc::general(&mut self.sr, self.pc, cause, addr);
+        self.pc = xt_special::entries::general(&mut self.sr, self.pc, cause, addr);
         Effect::of(StepKind::Exc(cause), None)
     }
 
@@ -38,7 +38,7 @@ impl<W: Windows> Regs<W> {
         ensures { let s = state_of W.regs W.base W.start self.old in
             IsEffect result (state_of W.regs W.base W.start self.new) (in_window (settled_interrupt level s.control) s) }
     {
-        self.pc = xt_exc::interrupt(&mut self.sr, self.pc, level);
+        self.pc = xt_special::entries::interrupt(&mut self.sr, self.pc, level);
         self.waiting = false;
         Effect::of(StepKind::Interrupt(level), None)
     }
@@ -51,7 +51,7 @@ impl<W: Windows> Regs<W> {
         ensures { let s = state_of W.regs W.base W.start self.old in
             state_of W.regs W.base W.start self.new ≡ record s { control = after_window_exception old vector s.control } }
     {
-        self.pc = xt_exc::window(&mut self.sr, self.pc, old, vector);
+        self.pc = xt_special::entries::window(&mut self.sr, self.pc, old, vector);
     }
 
     /// Enters a window exception through the vector of this number, and the window `base`.

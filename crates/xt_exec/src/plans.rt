@@ -5,7 +5,7 @@ use xt_map::Access;
 use xt_trace::{RegWrite, StepKind};
 
 /// What a turn was, and the visible register that it wrote.
-#[derive(Clone, Copy, Debug, PartialEq, Eq)]
+#[derive(Clone, Copy)]
 pub struct Effect {
     /// What the turn was.
     pub kind: StepKind,
@@ -24,7 +24,7 @@ impl Effect {
 }
 
 /// An instruction that waits for the reply to its access.
-#[derive(Clone, Copy, Debug, PartialEq, Eq)]
+#[derive(Clone, Copy)]
 pub struct Pending {
     /// The access.
     pub access: Access,
@@ -37,7 +37,7 @@ pub struct Pending {
 }
 
 /// The first half of an instruction.
-#[derive(Clone, Copy, Debug, PartialEq, Eq)]
+#[derive(Clone, Copy)]
 pub enum Plan {
     /// The instruction is done, with this effect.
     Done(Effect),

@@ -9,7 +9,7 @@ ghost use Rattle.xt_codec.specs.Fetches.{IsFetched};
 ghost use Rattle.xt_frames.specs.Frames.{Frame, FrameState};
 ghost use Rattle.xt_frames.specs.SaveAreas.{Range, before};
 ghost use Rattle.xt_frames.specs.FrameStep.{step_with_inputs};
-ghost use Rattle.xt_frames.specs.Breaches.{breaks_nested, fetched_return_breach, first_shown, fresh_after, has_no_caller, insn_tests, is_exception, is_in_vectors, is_movsp, is_return, is_sp, is_windowing, laid_breach, leaves_range, loses_epc1, may_write_sp, misaligns_sp, moves_vectors, names_high, names_window_register, opens_nothing, other_frame_size, other_tests, reads_epc1, reads_lost, reads_no_mark, reads_none, reads_unset, return_tests, returns_elsewhere, sets_epc1, small_frame, vector_test, window_breach, writes_epc1, writes_sp};
+ghost use Rattle.xt_frames.specs.Breaches.{breaks_nested, fetched_return_breach, first_shown, fresh_after, has_no_caller, insn_tests, is_in_vectors, is_movsp, is_return, is_sp, is_windowing, laid_breach, leaves_range, loses_epc1, may_write_sp, misaligns_sp, moves_vectors, names_high, names_window_register, opens_nothing, other_frame_size, other_tests, reads_epc1, reads_lost, reads_no_mark, reads_none, reads_unset, return_tests, returns_elsewhere, sets_epc1, vector_test, window_breach, writes_epc1, writes_sp};
 ghost use Rattle.xt_frames.specs.declared.view.StepSummary.{StepSummary};
 ghost use Rattle.xt_frames.specs.declared.holes.UndefinedParts.{UndefinedParts};
 ghost use Rattle.xt_frames.specs.KeptFrameState.{IsCase, IsGood, IsNewest, IsPlan, Upper, shown_tests, state_at, turn_as};
@@ -148,19 +148,15 @@ fn writes_sp(i: Insn, shown: Option<RegWrite>, write: Option<RegWrite>) -> bool
     !may_write_sp(i) && (is_sp(shown) || is_sp(write))
 }
 
-fn small_frame(under: u32, sp: u32, size: u32, by: u8) -> bool
-    ensures { (hi : ℕ) (frames : List Frame) (h : UndefinedParts) → under ≡ before hi frames → result ≡ small_frame hi sp size by frames }
-{
-    size < 16 || u64::from(under) < u64::from(sp) + 16 * u64::from(by)
-}
-
 #[tactic(auto, unfolding(crate::specs::Breaches::other_frame_size))]
 fn other_frame_size(i: Insn, view: &FrameRegisters, under: u32) -> bool
     ensures { (r : Range) (frames : List Frame) (h : UndefinedParts) → under ≡ before r.hi frames → result ≡ other_frame_size r i (state_at frames h view.now) }
 {
     match i {
         Insn::Control(Control::Entry(number, size)) => {
-            number != 1 || small_frame(under, view.value_or_zero(1), natural(size), view.callinc())
+            let size = natural(size);
+            let sp = u64::from(view.value_or_zero(1));
+            number != 1 || size < 16 || u64::from(under) < sp + 16 * u64::from(view.callinc())
         }
         _ => false,
     }
@@ -280,19 +276,15 @@ fn loses_epc1(holes: &UndefinedParts, fresh: bool, i: Insn) -> bool
     }
 }
 
-fn is_exception(kind: StepKind) -> bool
-    ensures { result ≡ is_exception kind }
-{
-    matches!(kind, StepKind::Exc(_))
-}
-
 fn breaks_nested(holes: &UndefinedParts, i: Insn, step: &StepSummary) -> bool
     ensures { (frames : List Frame) (after : Upper) → result ≡ breaks_nested holes.now.nested i (turn_as step.now frames holes.now after) }
 {
     match &holes.nested {
         None => false,
         Some(x) => {
-            is_exception(step.kind) || disturbs_nested(i) || (ends_nested(i) && !has_own_marks(x))
+            matches!(step.kind, StepKind::Exc(_))
+                || disturbs_nested(i)
+                || (ends_nested(i) && !has_own_marks(x))
         }
     }
 }

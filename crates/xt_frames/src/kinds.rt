@@ -2,7 +2,7 @@
 #![tactic(auto)]
 
 /// Where a core stands among the handler steps of its records.
-#[derive(Clone, Copy, Debug, PartialEq, Eq)]
+#[derive(Clone, Copy)]
 pub enum HandlerPhase {
     /// Outside handler steps.
     Outside,
@@ -13,7 +13,7 @@ pub enum HandlerPhase {
 }
 
 /// How a judged step leaves the stack discipline. Where a step shows several kinds, the first counts.
-#[derive(Clone, Copy, Debug, PartialEq, Eq)]
+#[derive(Clone, Copy, PartialEq, Eq)]
 pub enum BreachKind {
     /// It reads a register that has no value, or a mark other than by moving it.
     Unset,
@@ -58,7 +58,7 @@ pub enum BreachKind {
 }
 
 /// A breach: the core, the number of the record in its trace, and the kind.
-#[derive(Clone, Copy, Debug, PartialEq, Eq)]
+#[derive(Clone, Copy, PartialEq, Eq)]
 pub struct Breach {
     /// The core, 0 or 1.
     pub core: u8,
@@ -69,7 +69,7 @@ pub struct Breach {
 }
 
 /// What is judged of a run.
-#[derive(Clone, Copy, Debug, PartialEq, Eq)]
+#[derive(Clone, Copy)]
 pub enum Judged {
     /// Some window handler does not pass its check, so nothing is judged.
     Unchecked,

@@ -162,7 +162,7 @@ impl FrameRegisters {
     fn is_interrupted(&self) -> bool
         ensures { result ≡ false → pending_of self.now.control ≡ 0 }
     {
-        match xt_exc::pending(&self.special) {
+        match xt_special::entries::pending(&self.special) {
             Some(_) => true,
             None => false,
         }

@@ -137,19 +137,6 @@ fn is_same_nested(a: &Nested, b: &Nested) -> bool
     are_same_marks(&a.saved, &b.saved)
 }
 
-// Whether both nested interrupts are seen to be equal, or there is none.
-fn is_same_interrupt(a: &Option<Nested>, b: &Option<Nested>) -> bool
-    ensures { result ≡ true → a.now ≡ b.now }
-{
-    match a {
-        None => b.is_none(),
-        Some(x) => match b {
-            None => false,
-            Some(y) => is_same_nested(x, y),
-        },
-    }
-}
-
 // Whether the same is beside both views.
 fn is_same_holes(a: &UndefinedParts, b: &UndefinedParts) -> bool
     ensures { result ≡ true → a.now ≡ b.now }
@@ -157,24 +144,11 @@ fn is_same_holes(a: &UndefinedParts, b: &UndefinedParts) -> bool
     if !are_same_unset(&a.unset, &b.unset) {
         return false;
     }
-    is_same_interrupt(&a.nested, &b.nested)
-}
-
-// Whether both callers are seen to be equal.
-fn is_same_caller(a: &Caller, b: &Caller) -> bool
-    ensures { result ≡ true → a.now ≡ b.now }
-{
-    if a.by != b.by {
-        return false;
+    match (&a.nested, &b.nested) {
+        (None, None) => true,
+        (Some(x), Some(y)) => is_same_nested(x, y),
+        _ => false,
     }
-    are_same_values(&a.kept, &b.kept)
-}
-
-// Whether both cores are judged by the same.
-fn is_same_limits(a: Limits, b: Limits) -> bool
-    ensures { result ≡ true → a ≡ b }
-{
-    a.lo == b.lo && a.hi == b.hi && a.vecbase == b.vecbase
 }
 
 // Whether all callers are seen to be equal.
@@ -185,7 +159,7 @@ fn are_same(a: &[Caller], b: &[Caller]) -> bool
         return false;
     }
     for n in 0..a.len() {
-        if !is_same_caller(&a[n], &b[n]) {
+        if a[n].by != b[n].by || !are_same_values(&a[n].kept, &b[n].kept) {
             return false;
         }
     }
@@ -270,7 +244,10 @@ impl Snapshot {
         if self.core != other.core || self.fresh != other.fresh {
             return false;
         }
-        if !is_same_limits(self.limits, other.limits) {
+        if self.limits.lo != other.limits.lo
+            || self.limits.hi != other.limits.hi
+            || self.limits.vecbase != other.limits.vecbase
+        {
             return false;
         }
         if !is_same_view(&self.view, &other.view) {

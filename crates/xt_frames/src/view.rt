@@ -319,7 +319,7 @@ impl FrameRegisters {
     pub(crate) fn tick(&mut self)
         ensures { self.new ≡ record self.old { control = after_tick self.old.control } }
     {
-        xt_timer::tick(&mut self.special);
+        xt_special::timers::tick(&mut self.special);
     }
 
     /// Goes on to the next instruction, or back in a loop.
@@ -354,7 +354,7 @@ impl FrameRegisters {
         ensures turn { (frames : List Frame) (h : UndefinedParts) → turn_as result frames h self.new ≡ exception_in_frame cause addr (state_at frames h self.old) }
         ensures write { IsProperWrite IsAny result.write }
     {
-        self.pc = xt_exc::general(&mut self.special, self.pc, cause, addr);
+        self.pc = xt_special::entries::general(&mut self.special, self.pc, cause, addr);
         self.tick();
         without_access(StepKind::Exc(cause), None)
     }
@@ -366,7 +366,7 @@ impl FrameRegisters {
         ensures turn { (frames : List Frame) (h : UndefinedParts) → turn_as result frames h self.new ≡ in_frame (settled_interrupt level self.old.control) 0 (state_at frames h self.old) }
         ensures write { IsProperWrite IsAny result.write }
     {
-        self.pc = xt_exc::interrupt(&mut self.special, self.pc, level);
+        self.pc = xt_special::entries::interrupt(&mut self.special, self.pc, level);
         self.waits = false;
         self.tick();
         without_access(StepKind::Interrupt(level), None)
@@ -547,7 +547,7 @@ impl FrameRegisters {
         ensures plan { IsPlan result (constant_byte code.now) self.now.control }
         ensures good { IsGood result }
     {
-        match xt_exc::pending(&self.special) {
+        match xt_special::entries::pending(&self.special) {
             Some(level) => NextEvent::Interrupt(level),
             None => {
                 if self.waits {

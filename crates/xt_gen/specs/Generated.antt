@@ -8,8 +8,8 @@ use Rattle.std.specs.Prelude.{ℕ, zero, suc, ◌+◌, ◌*◌, ◌%◌, ◌^◌
 use Rattle.std.specs.Prelude.{replicate}
 use Rattle.std.specs.Int.{w32, to_le_bytes}
 use Rattle.xt_map.specs.declared.segment.Segment.{Segment}
-use Rattle.xt_stretch.specs.Common.{overflow4, underflow4, overflow8, underflow8, overflow12}
-use Rattle.xt_stretch.specs.Common.{underflow12}
+use Rattle.xt_handlers.specs.Common.{overflow4, underflow4, overflow8, underflow8, overflow12}
+use Rattle.xt_handlers.specs.Common.{underflow12}
 use Rattle.xt_image.specs.Made.{made_head}
 use Rattle.xt_image.specs.declared.image.Image.{Image}
 

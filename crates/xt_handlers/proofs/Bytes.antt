@@ -2,16 +2,16 @@
 use Rattle.std.proofs.Common.{◌≡◌, ℕ, zero, suc, ◌+◌, ◌<◌, ◌≤◌, refl, sym, ◌∙◌, ap, arith, List, length, get_or, drop}
 use Rattle.xt_isa.specs.Spelling.{length_of}
 use Rattle.xt_fetch.specs.Code.{code_bytes}
-use Rattle.xt_stretch.specs.Symbols.{Effect, effect_after_step}
-use Rattle.xt_stretch.specs.Handling.{answer_at, walk}
-use Rattle.xt_stretch.specs.Spelled.{step_of, lines_in}
-use Rattle.xt_stretch.specs.declared.Side.{Side}
-use Rattle.xt_stretch.specs.declared.HandlerInsn.{HandlerInsn}
-use Rattle.xt_stretch.specs.declared.HandlerVerdict.{HandlerVerdict}
-use Rattle.xt_stretch.specs.declared.HandlerVerdict.TheVariants.{No}
-use Rattle.xt_stretch.specs.declared.Side.TheVariants.{Overflow, Underflow}
-use Rattle.xt_stretch.specs.declared.HandlerInsn.TheVariants.{Rfwo, Rfwu, Foreign}
-use Rattle.xt_stretch.proofs.Lines.{here, lines_cut}
+use Rattle.xt_handlers.specs.Symbols.{Effect, effect_after_step}
+use Rattle.xt_handlers.specs.Handling.{answer_at, walk}
+use Rattle.xt_handlers.specs.Spelled.{step_of, lines_in}
+use Rattle.xt_handlers.specs.declared.stretch.Side.{Side}
+use Rattle.xt_handlers.specs.declared.stretch.HandlerInsn.{HandlerInsn}
+use Rattle.xt_handlers.specs.declared.stretch.HandlerVerdict.{HandlerVerdict}
+use Rattle.xt_handlers.specs.declared.stretch.HandlerVerdict.TheVariants.{No}
+use Rattle.xt_handlers.specs.declared.stretch.Side.TheVariants.{Overflow, Underflow}
+use Rattle.xt_handlers.specs.declared.stretch.HandlerInsn.TheVariants.{Rfwo, Rfwu, Foreign}
+use Rattle.xt_handlers.proofs.Lines.{here, lines_cut}
 
 pub code_bytes-length : (code : ℕ → ℕ) (a n : ℕ) → length (code_bytes code a n) ≡ n
 code_bytes-length code a zero = refl

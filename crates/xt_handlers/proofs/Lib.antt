@@ -1,3 +1,17 @@
 pub mod Moves
 pub mod Named
 pub mod Bytes
+pub mod Stores
+pub mod Lines
+pub mod Words
+pub mod Wanted
+pub mod Unspoiled
+pub mod Steps
+pub mod Runs
+pub mod Places
+pub mod Turning
+pub mod Witness
+pub mod Whole
+pub mod Changed
+pub mod Joins
+pub mod Passing

@@ -3,16 +3,16 @@ use Rattle.std.proofs.Common.{◌≡◌, ◌≢◌, ℕ, ◌+◌, ◌<◌, inl, 
 use Rattle.std.proofs.lemmas.Bool.{false≢true, and_from, and_left, cases_lt, MatchBool-at_false, MatchBool-at_true}
 use Rattle.std.specs.Bool.{MatchBool}
 use Rattle.std.proofs.lemmas.List.{get_or-map, map-set, length-set, length-map, drop_more, get_or_past}
-use Rattle.xt_stretch.specs.Symbols.{Init, Load, Store, Effect, register, effect_after_step, same_store}
-use Rattle.xt_stretch.specs.Needs.{save_of, then_without, without, still_wanted, wanted_stores, is_among, named_words, are_named, is_done, are_right, is_right, has_effect, marked_stores, IsSpoiled}
+use Rattle.xt_handlers.specs.Symbols.{Init, Load, Store, Effect, register, effect_after_step, same_store}
+use Rattle.xt_handlers.specs.Needs.{save_of, then_without, without, still_wanted, wanted_stores, is_among, named_words, are_named, is_done, are_right, is_right, has_effect, marked_stores, IsSpoiled}
 use Rattle.xt_handlers.specs.Flat.{symbol_of, symbols_of, word_at, Follows, Tracks}
-use Rattle.xt_stretch.proofs.Stores.{save_apart, without_marked, without_none, never, spoiled_end}
-use Rattle.xt_stretch.specs.declared.Side.{Side}
-use Rattle.xt_stretch.specs.declared.Side.TheVariants.{Overflow, Underflow}
+use Rattle.xt_handlers.proofs.Stores.{save_apart, without_marked, without_none, never, spoiled_end}
+use Rattle.xt_handlers.specs.declared.stretch.Side.{Side}
+use Rattle.xt_handlers.specs.declared.stretch.Side.TheVariants.{Overflow, Underflow}
 use Rattle.xt_handlers.specs.declared.Mark.{Mark}
 use Rattle.xt_handlers.specs.declared.Mark.TheVariants.{Initial}
 use Rattle.xt_handlers.specs.declared.Evaluation.{Evaluation}
-use Rattle.xt_stretch.specs.declared.HandlerInsn.TheVariants.{L32e, S32e}
+use Rattle.xt_handlers.specs.declared.stretch.HandlerInsn.TheVariants.{L32e, S32e}
 
 -- ---- the two kinds of state
 pub tracks_from : (side : Side) (n : ℕ) (v : Evaluation) (e : Effect) → v.spoiled ≡ false → Follows side n v e → Tracks side n v e

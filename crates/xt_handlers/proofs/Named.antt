@@ -1,9 +1,9 @@
 -- Which words an underflow vector may load, at each n.
 use Rattle.std.proofs.Common.{◌≡◌, ◌≢◌, ℕ, zero, suc, ◌+◌, ◌*◌, ◌%◌, ◌<◌, ◌≤◌, ◌⊎◌, Bool, true, false, refl, arith, lit≤}
 use Rattle.std.proofs.lemmas.Bool.Decides.{nat_tests}
-use Rattle.xt_stretch.specs.Needs.{is_among, named_words}
+use Rattle.xt_handlers.specs.Needs.{is_among, named_words}
 use Rattle.xt_handlers.specs.Flat.{word_at}
-use Rattle.xt_stretch.specs.declared.Side.TheVariants.{Underflow}
+use Rattle.xt_handlers.specs.declared.stretch.Side.TheVariants.{Underflow}
 use Rattle.xt_handlers.specs.declared.Mark.{Mark}
 use Rattle.xt_handlers.specs.declared.Mark.TheVariants.{Initial, FrameWord, Link, Extra}
 

@@ -3,7 +3,7 @@
 -- Profile: the answer is Yes or the offset of the first instruction that fails: 0 where the vector
 -- cannot be fetched, 64 where no end comes, and that of the end where its effect is wrong.
 use Rattle.std.specs.Prelude.{ℕ}
-use Rattle.xt_stretch.specs.declared.Side.TheVariants.{Overflow, Underflow}
+use Rattle.xt_handlers.specs.declared.stretch.Side.TheVariants.{Overflow, Underflow}
 use Rattle.xt_handlers.specs.declared.Handlers.{Handlers}
 use Rattle.xt_handlers.specs.Vectors.{verdict_of}
 

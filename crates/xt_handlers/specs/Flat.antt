@@ -1,11 +1,11 @@
 -- Carries a proof; nothing that a reader must believe.
 -- The checker's flat symbols and what they stand for.
 use Rattle.std.specs.Prelude.{◌≡◌, ℕ, true, Some, List, length, map}
-use Rattle.xt_stretch.specs.Symbols.{Symbol, Init, Load, Word, Effect}
-use Rattle.xt_stretch.specs.Needs.{callee_sp, link, wanted_stores, still_wanted, are_named}
-use Rattle.xt_stretch.specs.Needs.{marked_stores}
-use Rattle.xt_stretch.specs.Needs.{IsSpoiled}
-use Rattle.xt_stretch.specs.declared.Side.{Side}
+use Rattle.xt_handlers.specs.Symbols.{Symbol, Init, Load, Word, Effect}
+use Rattle.xt_handlers.specs.Needs.{callee_sp, link, wanted_stores, still_wanted, are_named}
+use Rattle.xt_handlers.specs.Needs.{marked_stores}
+use Rattle.xt_handlers.specs.Needs.{IsSpoiled}
+use Rattle.xt_handlers.specs.declared.stretch.Side.{Side}
 use Rattle.std.specs.Bool.{MatchBool}
 use Rattle.xt_handlers.specs.declared.Evaluation.{Evaluation}
 use Rattle.xt_handlers.specs.declared.Mark.{Mark}

@@ -1,3 +1,13 @@
 pub mod Vectors
 pub mod CheckAnswers
 pub mod Flat
+pub mod Symbols
+pub mod Needs
+pub mod Machines
+pub mod Handling
+pub mod Spelled
+pub mod Running
+pub mod Frames
+pub mod HandlerInvariants
+pub mod Joined
+pub mod Common

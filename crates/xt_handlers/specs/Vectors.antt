@@ -5,12 +5,12 @@
 use Rattle.std.specs.Prelude.{◌≡◌, ℕ, ◌+◌, ◌-◌, ◌*◌, ◌<◌, if◌then◌else◌, List}
 use Rattle.xt_fetch.specs.Fetching.{can_fetch}
 use Rattle.xt_fetch.specs.Code.{code_bytes}
-use Rattle.xt_stretch.specs.declared.Side.{Side}
-use Rattle.xt_stretch.specs.declared.Side.TheVariants.{Overflow, Underflow}
-use Rattle.xt_stretch.specs.declared.HandlerVerdict.{HandlerVerdict}
-use Rattle.xt_stretch.specs.declared.HandlerVerdict.TheVariants.{Yes, No}
-use Rattle.xt_stretch.specs.Spelled.{lines_of}
-use Rattle.xt_stretch.specs.Handling.{handling_verdict}
+use Rattle.xt_handlers.specs.declared.stretch.Side.{Side}
+use Rattle.xt_handlers.specs.declared.stretch.Side.TheVariants.{Overflow, Underflow}
+use Rattle.xt_handlers.specs.declared.stretch.HandlerVerdict.{HandlerVerdict}
+use Rattle.xt_handlers.specs.declared.stretch.HandlerVerdict.TheVariants.{Yes, No}
+use Rattle.xt_handlers.specs.Spelled.{lines_of}
+use Rattle.xt_handlers.specs.Handling.{handling_verdict}
 
 -- the number of a vector, 0 to 5: Overflow4, Underflow4, Overflow8, Underflow8,
 -- Overflow12 and Underflow12

@@ -5,16 +5,22 @@
 //! Option'; that nothing else may be loaded or changed is this project's own choice ('profile').
 #![tactic(auto)]
 
+pub mod joining;
 mod marks;
 mod spelled;
+mod stretch;
 mod tracking;
+pub mod turns;
 mod vector;
 
+pub use stretch::{
+    HandlerInsn, HandlerVerdict, Side, common_handlers_pass, overflow_stores_a_frame,
+    underflow_loads_a_frame,
+};
 pub use vector::check;
-pub use xt_stretch::{HandlerInsn, HandlerVerdict, Side};
 
 /// The answers for the six vectors of window exceptions.
-#[derive(Clone, Copy, PartialEq, Eq, Debug)]
+#[derive(Clone, Copy)]
 pub struct Handlers {
     /// Overflow of 4 registers.
     pub of4: HandlerVerdict,

@@ -2,10 +2,10 @@
 #![tactic(auto)]
 
 ghost use Rattle.std.specs.Prelude.{◌≡◌, ◌≤◌, ◌<◌, ◌+◌, ◌-◌, ◌*◌, ◌%◌, ◌↔◌, ℕ, IsTrue, true, false, MatchOption};
-ghost use Rattle.xt_stretch.specs.Symbols.{Load, same_store};
-ghost use Rattle.xt_stretch.specs.Needs.{is_among, named_words, save_of, is_right};
+ghost use Rattle.xt_handlers.specs.Symbols.{Load, same_store};
+ghost use Rattle.xt_handlers.specs.Needs.{is_among, named_words, save_of, is_right};
 ghost use Rattle.xt_handlers.specs.Flat.{symbol_of, word_at};
-ghost use Rattle.xt_stretch.specs.declared.Side.TheVariants.{Overflow, Underflow};
+ghost use Rattle.xt_handlers.specs.declared.stretch.Side.TheVariants.{Overflow, Underflow};
 
 use crate::{Mark, Side};
 

@@ -3,7 +3,7 @@
 
 ghost use Rattle.std.specs.Prelude.{◌≡◌, ◌≤◌, true};
 ghost use Rattle.xt_isa.specs.Ranges.{in_range, window_within};
-ghost use Rattle.xt_stretch.specs.Spelled.{HasRegisters, step_of, step_of_insn};
+ghost use Rattle.xt_handlers.specs.Spelled.{HasRegisters, step_of, step_of_insn};
 
 use crate::HandlerInsn;
 use xt_codec::{Decoded, decode};
@@ -13,7 +13,7 @@ use xt_isa::memory::{Memory, WindowName};
 use xt_isa::system::{ReturnName, System, WaitName};
 
 /// What an instruction is to a handler.
-#[tactic(auto, unfolding(xt_stretch::specs::Spelled::step_of_insn, xt_isa::specs::Ranges::two_registers, xt_isa::specs::Ranges::window_within))]
+#[tactic(auto, unfolding(crate::specs::Spelled::step_of_insn, xt_isa::specs::Ranges::two_registers, xt_isa::specs::Ranges::window_within))]
 fn step_of_insn(i: Insn) -> HandlerInsn
     requires { in_range i ≡ true }
     ensures is { result ≡ step_of_insn i }
@@ -35,7 +35,7 @@ fn step_of_insn(i: Insn) -> HandlerInsn
 }
 
 /// What three bytes spell; of a two-byte instruction the third plays no part.
-#[tactic(auto, unfolding(xt_stretch::specs::Spelled::step_of))]
+#[tactic(auto, unfolding(crate::specs::Spelled::step_of))]
 pub fn step_of(a: u8, b: u8, c: u8) -> HandlerInsn
     ensures spelled { result ≡ step_of a b c }
     ensures registers { HasRegisters result }

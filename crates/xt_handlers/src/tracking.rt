@@ -2,11 +2,11 @@
 #![tactic(auto)]
 
 ghost use Rattle.std.specs.Prelude.{◌≡◌, ◌≤◌, ◌<◌, ◌+◌, ◌-◌, ◌*◌, ℕ, true, false, length, Some};
-ghost use Rattle.xt_stretch.specs.Symbols.{Effect, effect_after_step, opening};
-ghost use Rattle.xt_stretch.specs.Needs.{has_effect, are_right, is_done, marked_stores, wanted_stores};
+ghost use Rattle.xt_handlers.specs.Symbols.{Effect, effect_after_step, opening};
+ghost use Rattle.xt_handlers.specs.Needs.{has_effect, are_right, is_done, marked_stores, wanted_stores};
 ghost use Rattle.xt_handlers.specs.Flat.{Tracks, symbols_of};
-ghost use Rattle.xt_stretch.specs.declared.HandlerInsn.TheVariants.{L32e, S32e};
-ghost use Rattle.xt_stretch.specs.declared.Side.TheVariants.{Overflow, Underflow};
+ghost use Rattle.xt_handlers.specs.declared.stretch.HandlerInsn.TheVariants.{L32e, S32e};
+ghost use Rattle.xt_handlers.specs.declared.stretch.Side.TheVariants.{Overflow, Underflow};
 
 use crate::marks::{is_right, loaded, saved};
 use crate::{Evaluation, Mark, Side};

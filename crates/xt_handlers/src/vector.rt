@@ -3,9 +3,9 @@
 
 ghost use Rattle.std.specs.Prelude.{◌≡◌, ◌≤◌, ◌<◌, ◌+◌, ◌*◌, ◌%◌, ◌^◌, ℕ, slice_index};
 ghost use Rattle.xt_map.specs.Memory.{constant_byte};
-ghost use Rattle.xt_stretch.specs.Symbols.{Effect};
-ghost use Rattle.xt_stretch.specs.Handling.{ending_verdict, handling_verdict};
-ghost use Rattle.xt_stretch.specs.Spelled.{lines_of};
+ghost use Rattle.xt_handlers.specs.Symbols.{Effect};
+ghost use Rattle.xt_handlers.specs.Handling.{ending_verdict, handling_verdict};
+ghost use Rattle.xt_handlers.specs.Spelled.{lines_of};
 ghost use Rattle.xt_handlers.specs.CheckAnswers.{handlers_of};
 ghost use Rattle.xt_handlers.specs.Flat.{Tracks};
 ghost use Rattle.xt_handlers.specs.Vectors.{vector_at, vector_bytes, verdict_of};

@@ -1,7 +1,7 @@
 use xt_map::Segments;
 
 /// The bytes of an image's head that a run does not read, in esptool's image format.
-#[derive(Clone, Copy, Debug, PartialEq, Eq)]
+#[derive(Clone, Copy)]
 pub struct Head {
     /// Byte 2: the mode in which flash is read.
     pub mode: u8,

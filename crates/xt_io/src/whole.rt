@@ -8,7 +8,7 @@ use crate::{Failed, Refused, Sink, Source};
 use std::alloc::{AllocError, Global};
 
 /// Why a source was not read to its end.
-#[derive(Clone, Copy, Debug, PartialEq, Eq)]
+#[derive(Clone, Copy)]
 pub enum ReadError {
     /// The source failed, and counted that.
     Fault,

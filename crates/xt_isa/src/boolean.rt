@@ -5,7 +5,7 @@
 #![tactic(auto)]
 
 /// The names of the line of operations on two Boolean registers.
-#[derive(Clone, Copy, Debug, PartialEq, Eq)]
+#[derive(Clone, Copy)]
 pub enum LogicName {
     Andb,
     Andbc,
@@ -15,35 +15,35 @@ pub enum LogicName {
 }
 
 /// The names of the line of any and all of four Boolean registers.
-#[derive(Clone, Copy, Debug, PartialEq, Eq)]
+#[derive(Clone, Copy)]
 pub enum FourName {
     Any4,
     All4,
 }
 
 /// The names of the line of any and all of eight Boolean registers.
-#[derive(Clone, Copy, Debug, PartialEq, Eq)]
+#[derive(Clone, Copy)]
 pub enum EightName {
     Any8,
     All8,
 }
 
 /// The names of the line of branches on a Boolean register, 0 or 1.
-#[derive(Clone, Copy, Debug, PartialEq, Eq)]
+#[derive(Clone, Copy)]
 pub enum TestName {
     Bf,
     Bt,
 }
 
 /// The names of the line of moves on a Boolean register, 0 or 1.
-#[derive(Clone, Copy, Debug, PartialEq, Eq)]
+#[derive(Clone, Copy)]
 pub enum ChoiceName {
     Movf,
     Movt,
 }
 
 /// An instruction that reads a Boolean register. The operands stand in the order of the assembly text; a register is 0 to 15.
-#[derive(Clone, Copy, Debug, PartialEq, Eq)]
+#[derive(Clone, Copy)]
 pub enum Boolean {
     /// ANDB, ANDBC, ORB, ORBC, XORB `br, bs, bt`: opcode map RST2, op2 0 to 4.
     Andb(LogicName, u8, u8, u8),

@@ -5,7 +5,7 @@
 #![tactic(auto)]
 
 /// The names of the line of direct calls, by the number of registers that the window moves.
-#[derive(Clone, Copy, Debug, PartialEq, Eq)]
+#[derive(Clone, Copy)]
 pub enum CallName {
     Call0,
     Call4,
@@ -14,14 +14,14 @@ pub enum CallName {
 }
 
 /// The names of the line of returns, plain and with windows.
-#[derive(Clone, Copy, Debug, PartialEq, Eq)]
+#[derive(Clone, Copy)]
 pub enum RetName {
     Ret,
     Retw,
 }
 
 /// The names of the line of calls by a register, by the number of registers that the window moves.
-#[derive(Clone, Copy, Debug, PartialEq, Eq)]
+#[derive(Clone, Copy)]
 pub enum CallxName {
     Callx0,
     Callx4,
@@ -30,7 +30,7 @@ pub enum CallxName {
 }
 
 /// The names of the line of branches that compare with zero, signed.
-#[derive(Clone, Copy, Debug, PartialEq, Eq)]
+#[derive(Clone, Copy)]
 pub enum ZeroName {
     Beqz,
     Bnez,
@@ -39,7 +39,7 @@ pub enum ZeroName {
 }
 
 /// The names of the line of branches that compare with a constant, signed.
-#[derive(Clone, Copy, Debug, PartialEq, Eq)]
+#[derive(Clone, Copy)]
 pub enum ConstName {
     Beqi,
     Bnei,
@@ -48,14 +48,14 @@ pub enum ConstName {
 }
 
 /// The names of the line of branches that compare with a constant, unsigned.
-#[derive(Clone, Copy, Debug, PartialEq, Eq)]
+#[derive(Clone, Copy)]
 pub enum ConstuName {
     Bltui,
     Bgeui,
 }
 
 /// The names of the line of branches on two registers with r 0 to 5.
-#[derive(Clone, Copy, Debug, PartialEq, Eq)]
+#[derive(Clone, Copy)]
 pub enum BranchName {
     Bnone,
     Beq,
@@ -66,7 +66,7 @@ pub enum BranchName {
 }
 
 /// The names of the line of branches on two registers with r 8 to 13, each the opposite of one with r 0 to 5.
-#[derive(Clone, Copy, Debug, PartialEq, Eq)]
+#[derive(Clone, Copy)]
 pub enum OppositeName {
     Bany,
     Bne,
@@ -77,14 +77,14 @@ pub enum OppositeName {
 }
 
 /// The names of the line of branches on one bit, clear or set.
-#[derive(Clone, Copy, Debug, PartialEq, Eq)]
+#[derive(Clone, Copy)]
 pub enum BitName {
     Bbci,
     Bbsi,
 }
 
 /// The names of the line of zero-overhead loops: always, for a nonzero count, for a positive count.
-#[derive(Clone, Copy, Debug, PartialEq, Eq)]
+#[derive(Clone, Copy)]
 pub enum LoopName {
     Loop,
     Loopnez,
@@ -93,7 +93,7 @@ pub enum LoopName {
 
 /// A jump, a call, a branch, an ENTRY or a loop. The operands stand in the order of the assembly text; a register is 0 to
 /// 15. An offset counts bytes: from PC + 4, but for the direct calls from PC rounded down to a multiple of 4, plus 4.
-#[derive(Clone, Copy, Debug, PartialEq, Eq)]
+#[derive(Clone, Copy)]
 pub enum Control {
     /// J `target`: opcode map SI, n 0. The offset is -131072 to 131071.
     J(i32),

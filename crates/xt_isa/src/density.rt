@@ -5,21 +5,21 @@
 #![tactic(auto)]
 
 /// The names of the line of narrow word accesses: L32I.N, S32I.N.
-#[derive(Clone, Copy, Debug, PartialEq, Eq)]
+#[derive(Clone, Copy)]
 pub enum NarrowName {
     L32i,
     S32i,
 }
 
 /// The names of the line of narrow branches that compare with zero: BEQZ.N, BNEZ.N.
-#[derive(Clone, Copy, Debug, PartialEq, Eq)]
+#[derive(Clone, Copy)]
 pub enum NarrowZeroName {
     Beqz,
     Bnez,
 }
 
 /// The names of the line of narrow instructions without operands: RET.N, RETW.N, NOP.N, ILL.N.
-#[derive(Clone, Copy, Debug, PartialEq, Eq)]
+#[derive(Clone, Copy)]
 pub enum NarrowRetName {
     Ret,
     Retw,
@@ -28,7 +28,7 @@ pub enum NarrowRetName {
 }
 
 /// A 16-bit instruction. The operands stand in the order of the assembly text; a register is 0 to 15.
-#[derive(Clone, Copy, Debug, PartialEq, Eq)]
+#[derive(Clone, Copy)]
 pub enum Density {
     /// L32I.N, S32I.N `at, as, off`: op0 8 and 9. The offset is 0 to 60 bytes in fours, four times r.
     L32i(NarrowName, u8, u8, i32),

@@ -25,7 +25,7 @@ pub use table::{Row, rows};
 use three::Three;
 
 /// An instruction, by the table that it stands in.
-#[derive(Clone, Copy, Debug, PartialEq, Eq)]
+#[derive(Clone, Copy)]
 pub enum Insn {
     /// Three registers.
     Three(Three),
@@ -45,7 +45,7 @@ pub enum Insn {
 
 /// The six fields of a word, each 0 to 15. The word's bits 3..0 are op0, 7..4 t, 11..8 s, 15..12 r, 19..16 op1 and
 /// 23..20 op2; of a 16-bit word op1 and op2 play no part.
-#[derive(Clone, Copy, Debug, PartialEq, Eq)]
+#[derive(Clone, Copy)]
 pub struct Fields {
     /// Bits 3..0, the major opcode.
     pub op0: u8,

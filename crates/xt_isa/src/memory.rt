@@ -4,14 +4,14 @@
 #![tactic(auto)]
 
 /// The names of the line of byte accesses.
-#[derive(Clone, Copy, Debug, PartialEq, Eq)]
+#[derive(Clone, Copy)]
 pub enum ByteName {
     L8ui,
     S8i,
 }
 
 /// The names of the line of accesses of two bytes; L16SI extends the sign.
-#[derive(Clone, Copy, Debug, PartialEq, Eq)]
+#[derive(Clone, Copy)]
 pub enum HalfName {
     L16ui,
     L16si,
@@ -19,7 +19,7 @@ pub enum HalfName {
 }
 
 /// The names of the line of word accesses, plain, with acquire and with release.
-#[derive(Clone, Copy, Debug, PartialEq, Eq)]
+#[derive(Clone, Copy)]
 pub enum WordName {
     L32i,
     S32i,
@@ -28,7 +28,7 @@ pub enum WordName {
 }
 
 /// The names of the line of word accesses of the window exception handlers.
-#[derive(Clone, Copy, Debug, PartialEq, Eq)]
+#[derive(Clone, Copy)]
 pub enum WindowName {
     L32e,
     S32e,
@@ -36,7 +36,7 @@ pub enum WindowName {
 
 /// A load, a store or an instruction with an immediate. The operands stand in the order of the assembly text; a register
 /// is 0 to 15.
-#[derive(Clone, Copy, Debug, PartialEq, Eq)]
+#[derive(Clone, Copy)]
 pub enum Memory {
     /// L8UI, S8I `at, as, off`: opcode map LSAI, r 0 and 4. The offset is 0 to 255 bytes.
     L8ui(ByteName, u8, u8, i32),

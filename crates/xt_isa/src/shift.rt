@@ -4,49 +4,49 @@
 #![tactic(auto)]
 
 /// The names of the line of two's complement: the negative, and the absolute value.
-#[derive(Clone, Copy, Debug, PartialEq, Eq)]
+#[derive(Clone, Copy)]
 pub enum NegName {
     Neg,
     Abs,
 }
 
 /// The names of the line of right shifts by SAR, logical or arithmetic.
-#[derive(Clone, Copy, Debug, PartialEq, Eq)]
+#[derive(Clone, Copy)]
 pub enum SrlName {
     Srl,
     Sra,
 }
 
 /// The names of the line of sign extension and clamping.
-#[derive(Clone, Copy, Debug, PartialEq, Eq)]
+#[derive(Clone, Copy)]
 pub enum SextName {
     Sext,
     Clamps,
 }
 
 /// The names of the line of counts of leading bits, signed or unsigned.
-#[derive(Clone, Copy, Debug, PartialEq, Eq)]
+#[derive(Clone, Copy)]
 pub enum NsaName {
     Nsa,
     Nsau,
 }
 
 /// The names of the line that sets SAR for a shift to the right or to the left.
-#[derive(Clone, Copy, Debug, PartialEq, Eq)]
+#[derive(Clone, Copy)]
 pub enum SsrName {
     Ssr,
     Ssl,
 }
 
 /// The names of the line that sets SAR for the alignment of bytes, little-endian or big-endian.
-#[derive(Clone, Copy, Debug, PartialEq, Eq)]
+#[derive(Clone, Copy)]
 pub enum Ssa8Name {
     Ssa8l,
     Ssa8b,
 }
 
 /// A shift or an instruction of one source. The operands stand in the order of the assembly text; a register is 0 to 15.
-#[derive(Clone, Copy, Debug, PartialEq, Eq)]
+#[derive(Clone, Copy)]
 pub enum Shift {
     /// NEG, ABS `ar, at`: opcode map RT0.
     Neg(NegName, u8, u8),

@@ -4,7 +4,7 @@
 #![tactic(auto)]
 
 /// The names of the line of ILL and the synchronizations.
-#[derive(Clone, Copy, Debug, PartialEq, Eq)]
+#[derive(Clone, Copy)]
 pub enum SyncName {
     Ill,
     Isync,
@@ -14,7 +14,7 @@ pub enum SyncName {
 }
 
 /// The names of the line of waits and NOP.
-#[derive(Clone, Copy, Debug, PartialEq, Eq)]
+#[derive(Clone, Copy)]
 pub enum WaitName {
     Excw,
     Memw,
@@ -23,7 +23,7 @@ pub enum WaitName {
 }
 
 /// The names of the line of returns from exceptions and from window exception handlers.
-#[derive(Clone, Copy, Debug, PartialEq, Eq)]
+#[derive(Clone, Copy)]
 pub enum ReturnName {
     Rfe,
     Rfde,
@@ -32,21 +32,21 @@ pub enum ReturnName {
 }
 
 /// The names of the line of BREAK and SYSCALL.
-#[derive(Clone, Copy, Debug, PartialEq, Eq)]
+#[derive(Clone, Copy)]
 pub enum BreakName {
     Break,
     Syscall,
 }
 
 /// The names of the line that sets the interrupt level.
-#[derive(Clone, Copy, Debug, PartialEq, Eq)]
+#[derive(Clone, Copy)]
 pub enum LevelName {
     Rsil,
     Waiti,
 }
 
 /// The names of the line of special registers: read, write, exchange.
-#[derive(Clone, Copy, Debug, PartialEq, Eq)]
+#[derive(Clone, Copy)]
 pub enum SpecialName {
     Rsr,
     Wsr,
@@ -54,7 +54,7 @@ pub enum SpecialName {
 }
 
 /// The names of the line of user registers: read, write.
-#[derive(Clone, Copy, Debug, PartialEq, Eq)]
+#[derive(Clone, Copy)]
 pub enum UserName {
     Rur,
     Wur,
@@ -62,7 +62,7 @@ pub enum UserName {
 
 /// A system instruction. The operands stand in the order of the assembly text; a register is 0 to 15. An operand that the
 /// name does not have is 0.
-#[derive(Clone, Copy, Debug, PartialEq, Eq)]
+#[derive(Clone, Copy)]
 pub enum System {
     /// ILL, ISYNC, RSYNC, ESYNC, DSYNC: opcode maps SNM0 and SYNC.
     Ill(SyncName),

@@ -8,7 +8,7 @@ ghost use Rattle.xt_isa.specs.Spelling.{all_rows};
 ghost use Rattle.xt_isa.specs.Shown.{shown_row};
 
 /// The bits of a row: a word is of the row where its bits under `mask` are those of `value`.
-#[derive(Clone, Copy, Debug, PartialEq, Eq)]
+#[derive(Clone, Copy)]
 pub struct Row {
     /// The bits that every word of the row has, of 24 bits; of a 16-bit row they are among the low 16.
     pub mask: u32,

@@ -4,7 +4,7 @@
 #![tactic(auto)]
 
 /// The names of the line of bitwise operations.
-#[derive(Clone, Copy, Debug, PartialEq, Eq)]
+#[derive(Clone, Copy)]
 pub enum AndName {
     And,
     Or,
@@ -12,7 +12,7 @@ pub enum AndName {
 }
 
 /// The names of the line of sums: AR[s] times 1, 2, 4 or 8, plus AR[t].
-#[derive(Clone, Copy, Debug, PartialEq, Eq)]
+#[derive(Clone, Copy)]
 pub enum AddName {
     Add,
     Addx2,
@@ -21,7 +21,7 @@ pub enum AddName {
 }
 
 /// The names of the line of differences: AR[s] times 1, 2, 4 or 8, minus AR[t].
-#[derive(Clone, Copy, Debug, PartialEq, Eq)]
+#[derive(Clone, Copy)]
 pub enum SubName {
     Sub,
     Subx2,
@@ -30,21 +30,21 @@ pub enum SubName {
 }
 
 /// The names of the line of products of the low halves, unsigned or signed.
-#[derive(Clone, Copy, Debug, PartialEq, Eq)]
+#[derive(Clone, Copy)]
 pub enum Mul16Name {
     Mul16u,
     Mul16s,
 }
 
 /// The names of the line of high words of products, unsigned or signed.
-#[derive(Clone, Copy, Debug, PartialEq, Eq)]
+#[derive(Clone, Copy)]
 pub enum MulHighName {
     Muluh,
     Mulsh,
 }
 
 /// The names of the line of quotients and remainders, unsigned or signed.
-#[derive(Clone, Copy, Debug, PartialEq, Eq)]
+#[derive(Clone, Copy)]
 pub enum DivideName {
     Quou,
     Quos,
@@ -53,7 +53,7 @@ pub enum DivideName {
 }
 
 /// The names of the line of the lesser and the greater number, signed or unsigned.
-#[derive(Clone, Copy, Debug, PartialEq, Eq)]
+#[derive(Clone, Copy)]
 pub enum MinName {
     Min,
     Max,
@@ -62,7 +62,7 @@ pub enum MinName {
 }
 
 /// The names of the line of conditional moves, by AR[t]: zero, nonzero, negative, not negative.
-#[derive(Clone, Copy, Debug, PartialEq, Eq)]
+#[derive(Clone, Copy)]
 pub enum MoveName {
     Moveqz,
     Movnez,
@@ -72,7 +72,7 @@ pub enum MoveName {
 
 /// An instruction of three registers. Each variant holds the registers r (written), s and t in the order of the assembly
 /// text `ar, as, at`, each 0 to 15.
-#[derive(Clone, Copy, Debug, PartialEq, Eq)]
+#[derive(Clone, Copy)]
 pub enum Three {
     /// AND, OR, XOR: opcode map RST0, op2 1 to 3.
     And(AndName, u8, u8, u8),

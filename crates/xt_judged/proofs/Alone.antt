@@ -5,8 +5,8 @@ use Rattle.std.proofs.lemmas.Bool.{and_parts, cases_eq, eqb-true, true≢false}
 use Rattle.xt_exec.specs.Chips.{processor}
 use Rattle.xt_frames.specs.Breaches.{Bounds}
 use Rattle.xt_outcomes.specs.Spots.{side_of}
-use Rattle.xt_scenes.specs.Alone.{is_other}
-use Rattle.xt_scenes.specs.Scenes.{Scene, is_idle, passed, record_of, scene_bars, scene_past, seen_at}
+use Rattle.xt_judged.specs.Alone.{is_other}
+use Rattle.xt_judged.specs.Scenes.{Scene, is_idle, passed, record_of, scene_bars, scene_past, seen_at}
 use Rattle.xt_judged.specs.Kept.{goes_on}
 use Rattle.xt_judged.proofs.Turned.{bars_idle, no_breach}
 

@@ -7,7 +7,7 @@ use Rattle.xt_special.specs.Exceptions.{after_double, after_exception, after_gen
 use Rattle.xt_special.specs.Interrupts.{after_high_level, after_interrupt, pending_of}
 use Rattle.xt_special.specs.Timers.{ticked_special, with_timer}
 use Rattle.xt_special.specs.declared.writes.SpecialWrite.{SpecialWrite}
-use Rattle.xt_loop.specs.Looping.{loops_back}
+use Rattle.xt_special.specs.Looping.{loops_back}
 use Rattle.xt_trace.specs.declared.record.StepRecord.{StepRecord}
 use Rattle.xt_fetch.specs.Fetching.{Fetched, Fetches, Fails, SpellsNothing, fetch_at}
 use Rattle.xt_rows.specs.Effects.{fetch_error, illegal_instruction}

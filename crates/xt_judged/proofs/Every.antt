@@ -18,10 +18,10 @@ use Rattle.xt_frames.specs.Breaches.{Bounds}
 use Rattle.xt_discipline.specs.Verdicts.{opened0, opened1}
 use Rattle.xt_search.specs.Worlds.{IsOrder, Reaches}
 use Rattle.xt_outcomes.specs.Places.{turns_of}
-use Rattle.xt_scenes.specs.Laws.{AllAreWholeWhereNoSceneBreaks}
-use Rattle.xt_scenes.specs.Orders.{first_scene, scene_after}
-use Rattle.xt_scenes.specs.Runs.{AllAreWhole}
-use Rattle.xt_scenes.specs.Scenes.{Scene, scene_bars, scene_past, scenes_after}
+use Rattle.xt_judged.specs.Laws.{AllAreWholeWhereNoSceneBreaks}
+use Rattle.xt_judged.specs.Orders.{first_scene, scene_after}
+use Rattle.xt_judged.specs.Runs.{AllAreWhole, are_checked}
+use Rattle.xt_judged.specs.Scenes.{Scene, scene_bars, scene_past, scenes_after}
 use Rattle.xt_judged.specs.declared.scene.Scene as kept
 use Rattle.xt_judged.specs.declared.scene.Shown.{Shown}
 use Rattle.xt_judged.specs.Kept.{IsFirst, Leads, ShowsNone, bounds0, bounds1, goes_on, scene_of, stretch, told_of}
@@ -128,7 +128,7 @@ module _ (image : Image) (o : Options) (timed : Bool) (n : ℕ) (g : Graph kept.
     reached_free z (inl k) c small = kept_free z k c small
     reached_free z (inr x) c small = alone_free (code_of image) timed x.core z x.goes_on c
 
-    pub all_whole : AllAreWholeWhereNoSceneBreaks → AreBytes (code_of image) → AllAreWhole image o timed
-    all_whole law bytes =
-        law image o timed bytes (λ order is. reached_unbroken (scene_after image o timed order) (all_reached order is))
+    pub all_whole : AllAreWholeWhereNoSceneBreaks → AreBytes (code_of image) → are_checked image o ≡ true → AllAreWhole image o timed
+    all_whole law bytes checked =
+        law image o timed bytes checked (λ order is. reached_unbroken (scene_after image o timed order) (all_reached order is))
         (λ order c is small. reached_free (scene_after image o timed order) (all_reached order is) c small)

@@ -10,3 +10,13 @@ pub mod Alone
 pub mod Stretches
 pub mod Every
 pub mod Confirmed
+pub mod Walking
+pub mod Quiet
+pub mod Timed
+pub mod Untimed
+pub mod Stepping
+pub mod Sight
+pub mod Clocked
+pub mod Once
+pub mod Verdicts
+pub mod Whole

@@ -14,10 +14,10 @@ use Rattle.xt_frames.specs.SaveAreas.{is_live}
 use Rattle.xt_frames.specs.Walked.{Walked}
 use Rattle.xt_outcomes.specs.KeptWorlds.{spot_of}
 use Rattle.xt_outcomes.specs.Spots.{Side, Spot, side_bars, side_of, spot_past}
-use Rattle.xt_scenes.specs.Alone.{is_other, only_after}
-use Rattle.xt_scenes.specs.Scenes as scenes
-use Rattle.xt_scenes.specs.Scenes.{Scene, Told, is_idle, passed, record_of, scene_bars, scene_past, seen_at, with_standing}
-use Rattle.xt_scenes.specs.Timeless.{frame_uses_time}
+use Rattle.xt_judged.specs.Alone.{is_other, only_after}
+use Rattle.xt_judged.specs.Scenes as scenes
+use Rattle.xt_judged.specs.Scenes.{Scene, Told, is_idle, passed, record_of, scene_bars, scene_past, seen_at, with_standing}
+use Rattle.xt_judged.specs.Timeless.{frame_uses_time}
 use Rattle.xt_judged.specs.declared.record.Known.{Known}
 use Rattle.xt_judged.specs.declared.scene.Scene as kept
 use Rattle.xt_judged.specs.declared.scene.Standing as standing

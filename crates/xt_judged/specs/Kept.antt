@@ -17,9 +17,9 @@ use Rattle.xt_search.specs.Graphs.{IsAt}
 use Rattle.xt_search.specs.Meetings.{run}
 use Rattle.xt_outcomes.specs.KeptWorlds.{moved_spot, spot_of}
 use Rattle.xt_outcomes.specs.Spots.{Side}
-use Rattle.xt_scenes.specs.Orders.{first_scene}
-use Rattle.xt_scenes.specs.Scenes.{Scene, Told, is_idle, scene_bars, scene_past}
-use Rattle.xt_scenes.specs.Scenes.{with_standing}
+use Rattle.xt_judged.specs.Orders.{first_scene}
+use Rattle.xt_judged.specs.Scenes.{Scene, Told, is_idle, scene_bars, scene_past}
+use Rattle.xt_judged.specs.Scenes.{with_standing}
 use Rattle.xt_judged.specs.declared.scene.Scene as kept
 use Rattle.xt_judged.specs.declared.scene.Shown as shown
 use Rattle.xt_judged.specs.declared.scene.Standing as standing

@@ -4,5 +4,12 @@ pub mod Past
 pub mod Kept
 pub mod Seen
 pub mod Searched
+pub mod Once
 pub mod Found
 pub mod OrderFrames
+pub mod Runs
+pub mod Alone
+pub mod Timeless
+pub mod Scenes
+pub mod Orders
+pub mod Laws

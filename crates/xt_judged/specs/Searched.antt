@@ -6,7 +6,7 @@ use Rattle.xt_trace.specs.declared.options.Options.{Options}
 use Rattle.xt_fetch.specs.Code.{AreBytes}
 use Rattle.xt_core.specs.Runs.{code_of, memory_of}
 use Rattle.xt_search.specs.Graphs.{IsAt, IsGraph, OpensWith}
-use Rattle.xt_scenes.specs.Orders.{scene_after}
+use Rattle.xt_judged.specs.Orders.{scene_after}
 use Rattle.xt_judged.specs.declared.answer.Search.{Search}
 use Rattle.xt_judged.specs.declared.scene.Scene.{Scene}
 use Rattle.xt_judged.specs.Kept.{IsFirst, Leads, scene_of}

@@ -1,12 +1,14 @@
 //! What is judged of the runs of an image in all orders.
-ghost use Rattle.std.specs.Prelude.{◌≡◌, ◌<◌, ◌++◌, true, false, All, IfOk, OnOk, length};
+ghost use Rattle.std.specs.Prelude.{◌≡◌, ◌≢◌, ℕ, ◌<◌, ◌++◌, true, false, Some, All, IfOk, OnOk, length, slice_get};
 ghost use Rattle.xt_map.specs.Placing.{IsPlaced};
 ghost use Rattle.xt_trace.specs.Validity.{IsValid};
 ghost use Rattle.xt_image.specs.ImageParts.{FitsImage};
 ghost use Rattle.xt_search.specs.Worlds.{IsOrder};
 ghost use Rattle.xt_outcomes.specs.Places.{turns_of};
-ghost use Rattle.xt_scenes.specs.Runs.{AllAreWhole};
-ghost use Rattle.xt_judged.specs.Found.{IsAnswer, IsSeenAfter};
+ghost use Rattle.xt_judged.specs.declared.answer.FoundBreach.{FoundBreach};
+ghost use Rattle.xt_judged.specs.Runs.{AllAreWhole, are_checked};
+ghost use Rattle.xt_judged.specs.Found.{IsAnswer, IsSeenAfter, shown_of};
+ghost use Rattle.xt_judged.specs.Once.{HaveOwn};
 ghost use Rattle.xt_judged.specs.Kept.{ShowsNone};
 ghost use Rattle.xt_judged.specs.Searched.{IsFoundBy, IsSearch};
 
@@ -51,10 +53,20 @@ pub struct Search<'a> {
     pub graph: Graph<Scene>,
 }
 
+// Whether both are the same.
+fn is_same_shown(a: Shown, b: Shown) -> bool
+    ensures same { result ≡ true → a ≡ b }
+    ensures equal { a ≡ b → result ≡ true }
+{
+    a == b
+}
+
 // Whether a breach of this kind, core and address is listed.
-fn has(list: &[FoundBreach], shown: Shown) -> bool {
-    for found in list {
-        if found.shown == shown {
+fn has(list: &[FoundBreach], shown: Shown) -> bool
+    ensures { result ≡ false → (k : ℕ) (x : FoundBreach) → slice_get list.now k ≡ Some x → x.shown ≢ shown }
+{
+    for number in 0..list.len() {
+        if is_same_shown(list[number].shown, shown) {
             return true;
         }
     }
@@ -147,7 +159,8 @@ fn breaches_of(
 ) -> Result<Vec<FoundBreach>, AllocError>
     requires valid { IsValid options.now }
     requires search { IsSearch image.now options.now timed search.now }
-    ensures { IfOk result (λ v. All (IsSeenAfter image.now options.now timed) v.items) }
+    ensures seen { IfOk result (λ v. All (IsSeenAfter image.now options.now timed) v.items) }
+    ensures once { IfOk result (λ v. HaveOwn shown_of v.items) }
 {
     let mut list = Vec::new(alloc);
     for number in 0..search.graph.kept.len() {
@@ -163,7 +176,8 @@ fn breaches_of(
 
 // Whether the search has shown that no run has a breach.
 fn is_whole(image: &Image, options: &Options, timed: bool, search: &Search) -> bool
-    requires { IsSearch image.now options.now timed search.now }
+    requires search { IsSearch image.now options.now timed search.now }
+    requires checked { are_checked image.now options.now ≡ true }
     ensures { result ≡ true → AllAreWhole image.now options.now timed }
 {
     if shows_some(&search.graph) {

@@ -5,7 +5,7 @@ ghost use Rattle.xt_special.specs.Control.{special_of};
 ghost use Rattle.xt_special.specs.Numbers as numbers;
 ghost use Rattle.xt_fetch.specs.Fetching.{fetch_at};
 ghost use Rattle.xt_timeless.specs.Time.{fetches_time};
-ghost use Rattle.xt_scenes.specs.Timeless.{frame_uses_time};
+ghost use Rattle.xt_judged.specs.Timeless.{frame_uses_time};
 
 use xt_codec::{Fetch, instruction_at};
 use xt_frames::{FrameRegisters, Snapshot};

@@ -4,7 +4,8 @@ ghost use Rattle.xt_trace.specs.Validity.{IsValid};
 ghost use Rattle.xt_image.specs.ImageParts.{IsWellFormed};
 ghost use Rattle.xt_core.specs.Runs.{IsRunOf, records_of};
 ghost use Rattle.xt_search.specs.Worlds.{IsOrder};
-ghost use Rattle.xt_judged.specs.OrderFrames.{IsRealBreach, judged_of, turns_in};
+ghost use Rattle.xt_judged.specs.OrderFrames.{HasTurnsOf, IsRealBreach, turns_in};
+ghost use Rattle.xt_judged.specs.Runs.{judged_of};
 
 use crate::frames::OrderBreach;
 use std::alloc::{AllocError, Global};
@@ -88,20 +89,31 @@ fn is_same_kind(a: BreachKind, b: BreachKind) -> bool
     a == b
 }
 
-/// Whether the run of an order's turns has this breach as its verdict. The only error is running out of
-/// memory.
+// Whether an order has no more turns of a core than these options give, if it is timed.
+fn has_turns_of(timed: bool, options: &Options, own: &Options, order: &[u8]) -> bool
+    requires turns0 { own.now.turns0 ≡ turns_in 0 order.now }
+    requires turns1 { own.now.turns1 ≡ turns_in 1 order.now }
+    ensures { result ≡ true → HasTurnsOf timed options.now order.now }
+{
+    !timed || own.turns0 <= options.turns0 && own.turns1 <= options.turns1
+}
+
+/// Whether the run of an order's turns has this breach as its verdict, and, if it is timed, the order has
+/// no more turns of a core than the options give. The only error is running out of memory.
 ///
 /// Conditions: the image is well formed, the options are valid, and the order is one of two cores.
+#[tactic(auto, using(crate::proofs::Verdicts::real_is))]
 pub fn is_real(
     alloc: Global,
     image: &Image,
     options: &Options,
+    timed: bool,
     breach: &OrderBreach,
 ) -> Result<bool, AllocError>
     requires image { IsWellFormed image.now }
     requires valid { IsValid options.now }
     requires order { IsOrder breach.now.order.items }
-    ensures { IfOk result (λ real. real ≡ true → IsRealBreach image.now options.now breach.now) }
+    ensures { IfOk result (λ real. real ≡ true → IsRealBreach image.now options.now timed breach.now) }
 {
     let order = breach.order.as_slice();
     if order.len() > MOST {
@@ -116,6 +128,9 @@ pub fn is_real(
         stack1: options.stack1,
     };
     if breach.core > 1 || !own.valid() {
+        return Ok(false);
+    }
+    if !has_turns_of(timed, options, &own, order) {
         return Ok(false);
     }
     let run = run_schedule(alloc, image, &own, order)?;

@@ -2,8 +2,9 @@
 ghost use Rattle.std.specs.Prelude.{◌≡◌, All, IfOk};
 ghost use Rattle.xt_trace.specs.Validity.{IsValid};
 ghost use Rattle.xt_image.specs.ImageParts.{IsWellFormed};
-ghost use Rattle.xt_judged.specs.Found.{IsSeenAfter};
-ghost use Rattle.xt_judged.specs.OrderFrames.{AreFrames, IsRealBreach};
+ghost use Rattle.xt_judged.specs.Found.{IsSeenAfter, shown_of};
+ghost use Rattle.xt_judged.specs.Once.{HaveOwn};
+ghost use Rattle.xt_judged.specs.OrderFrames.{AreFrames, IsRealBreach, place_of};
 
 use crate::answer::{Answer, FoundBreach, frames_of};
 use crate::confirming::is_real;
@@ -32,13 +33,14 @@ pub enum Frames {
     Unchecked,
     /// The run of each order keeps it.
     Whole,
-    /// The runs of these orders break it.
+    /// The runs of these orders break it, at least one, each in another way or at another place.
     Broken(Vec<OrderBreach>),
 }
 
 // The breach and its order. The only error is running out of memory.
 fn breach_of(alloc: Global, found: &FoundBreach) -> Result<OrderBreach, AllocError>
-    ensures { IfOk result (λ b. b.order.items ≡ found.now.order.items) }
+    ensures order { IfOk result (λ b. b.order.items ≡ found.now.order.items) }
+    ensures place { IfOk result (λ b. place_of b ≡ found.now.shown) }
 {
     let mut order = Vec::new(alloc);
     order.extend_from_slice(found.order.as_slice())?;
@@ -62,12 +64,14 @@ fn real_ones(
     requires image { IsWellFormed image.now }
     requires valid { IsValid options.now }
     requires seen { All (IsSeenAfter image.now options.now timed) list.now }
-    ensures { IfOk result (λ v. All (IsRealBreach image.now options.now) v.items) }
+    requires once { HaveOwn shown_of list.now }
+    ensures real { IfOk result (λ v. All (IsRealBreach image.now options.now timed) v.items) }
+    ensures once { IfOk result (λ v. HaveOwn place_of v.items) }
 {
     let mut real = Vec::new(alloc);
     for number in 0..list.len() {
         let breach = breach_of(alloc, &list[number])?;
-        if is_real(alloc, image, options, &breach)? {
+        if is_real(alloc, image, options, timed, &breach)? {
             real.push(breach)?;
         }
     }

@@ -7,8 +7,8 @@ ghost use Rattle.xt_exec.specs.Chips.{processor};
 ghost use Rattle.xt_search.specs.Meetings.{after};
 ghost use Rattle.xt_outcomes.specs.KeptWorlds.{spot_of};
 ghost use Rattle.xt_outcomes.specs.Places.{turns_of};
-ghost use Rattle.xt_scenes.specs.Alone.{is_other, only_after};
-ghost use Rattle.xt_scenes.specs.Scenes.{is_idle, scene_past, seen_at};
+ghost use Rattle.xt_judged.specs.Alone.{is_other, only_after};
+ghost use Rattle.xt_judged.specs.Scenes.{is_idle, scene_past, seen_at};
 ghost use Rattle.xt_judged.specs.Kept.{IsTurn, bars, bounds0, bounds1, goes_on, moved_scene, other_of, own_of, scene_of, stretch};
 ghost use Rattle.xt_judged.specs.Lives.{AreApart};
 ghost use Rattle.xt_judged.specs.Seen.{IsApartPast, IsKnownPast};
@@ -295,6 +295,11 @@ impl<'a> Machine for Judging<'a> {
 
     ghost bars = { λ t c w. kept.bars (constant_byte t.timed.code) t.timed.timed t.timed.opening.contents c w };
 
+    // That no two scenes are the same is not claimed.
+    ghost Same = { λ _ _ _. ⊥ };
+
+    ghost IsMark = { λ _ _ _. Unit {0} };
+
     ghost ends = { λ _ w. (w.world.side0.value.left == 0) && (w.world.side1.value.left == 0) };
 
     fn is_barred(&self, scene: &Scene, core: u8) -> bool {
@@ -326,4 +331,6 @@ impl<'a> Machine for Judging<'a> {
             .wrapping_add(scene.stale.digest())
             .wrapping_add(core)
     }
+
+    ghost marks_agree = { λ t a b m n same. absurd same };
 }

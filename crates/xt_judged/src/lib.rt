@@ -8,6 +8,7 @@ mod confirming;
 mod frames;
 mod gone;
 mod judging;
+pub mod laws;
 mod live;
 mod moved;
 mod opening;

@@ -19,7 +19,7 @@ pub struct Standing {
 }
 
 /// A breach that a turn of this core at this address showed.
-#[derive(Clone, Copy, Debug, PartialEq, Eq)]
+#[derive(Clone, Copy, PartialEq, Eq)]
 pub struct Shown {
     pub core: u8,
     pub pc: u32,

@@ -150,9 +150,10 @@ impl Stale {
         Ok(Stale { bytes })
     }
 
-    /// Whether the same bytes are seen to be stale.
+    /// Whether the same bytes are stale.
     pub fn is_same(&self, other: &Stale) -> bool
-        ensures { result ≡ true → self.now ≡ other.now }
+        ensures same { result ≡ true → self.now ≡ other.now }
+        ensures equal { self.now ≡ other.now → result ≡ true }
     {
         self.bytes.as_slice() == other.bytes.as_slice()
     }

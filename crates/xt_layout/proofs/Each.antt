@@ -5,8 +5,8 @@ use Rattle.std.specs.List.{flat_map}
 use Rattle.std.proofs.lemmas.List.{append_assoc, append-nil, drop_more, drop_all, take_more}
 use Rattle.xt_lex.specs.declared.fault.AsmPlace.{AsmPlace}
 use Rattle.xt_parse.specs.declared.line.Line.{Line}
-use Rattle.xt_pool.specs.Around.{each, each_after}
-use Rattle.xt_pool.specs.Findings.{Finding, first, or_else}
+use Rattle.xt_layout.specs.Around.{each, each_after}
+use Rattle.xt_layout.specs.Findings.{Finding, first, or_else}
 
 pub here : (lines : List Line) (k : ℕ) (l : Line) → k < length lines → l ≡ get_or lines k l → drop k lines ≡ l ∷ drop (k + 1) lines
 here lines k l lt is = drop_more lines k l lt ∙ ap (λ x. x ∷ drop (k + 1) lines) (sym is)

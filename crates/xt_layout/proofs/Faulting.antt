@@ -9,10 +9,10 @@ use Rattle.std.proofs.lemmas.List.Sums.{sum_by_push, count_by-le-length}
 use Rattle.xt_lex.specs.declared.name.Name.{Name}
 use Rattle.xt_parse.specs.declared.line.Line.{Line}
 use Rattle.xt_parse.specs.declared.line.Placed.{Placed}
-use Rattle.xt_pool.specs.declared.word.PoolWord.{PoolWord}
-use Rattle.xt_pool.specs.Around.{each}
-use Rattle.xt_pool.specs.Findings.{Finding, at_statement, fails, first, or_else}
-use Rattle.xt_pool.specs.Pools.{is_segment, words_of}
+use Rattle.xt_layout.specs.declared.word.PoolWord.{PoolWord}
+use Rattle.xt_layout.specs.Around.{each}
+use Rattle.xt_layout.specs.Findings.{Finding, at_statement, fails, first, or_else}
+use Rattle.xt_layout.specs.Pools.{is_segment, words_of}
 use Rattle.xt_layout.specs.declared.spot.Spot.{Spot}
 use Rattle.xt_layout.specs.declared.spot.Span.{Span}
 use Rattle.xt_layout.specs.Addresses.{label_name, literal_name}

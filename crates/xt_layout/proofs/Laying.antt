@@ -3,13 +3,13 @@ use Rattle.std.proofs.Common.{◌≡◌, sym, subst, List, [], ◌∷◌, ap, �
 use Rattle.std.specs.Prelude.{ℤ, pos, All, map}
 use Rattle.std.specs.List.{flat_map, AllByRecursion}
 use Rattle.std.proofs.lemmas.List.Elements.{recursion_from_All, All-from_recursion}
-use Rattle.xt_expr.specs.declared.labels.Label.{Label}
-use Rattle.xt_expr.specs.Values.{IsAddress}
+use Rattle.xt_lex.specs.declared.labels.Label.{Label}
+use Rattle.xt_lex.specs.Values.{IsAddress}
 use Rattle.xt_parse.specs.declared.line.Line.{Line}
-use Rattle.xt_pool.specs.declared.word.PoolWord.{PoolWord}
-use Rattle.xt_pool.specs.Around.{each}
-use Rattle.xt_pool.specs.Findings.{Finding}
-use Rattle.xt_pool.specs.Pools.{words_of}
+use Rattle.xt_layout.specs.declared.word.PoolWord.{PoolWord}
+use Rattle.xt_layout.specs.Around.{each}
+use Rattle.xt_layout.specs.Findings.{Finding}
+use Rattle.xt_layout.specs.Pools.{words_of}
 use Rattle.xt_layout.specs.declared.spot.Spot.{Spot}
 use Rattle.xt_layout.specs.Addresses.{labels_at, labels_of, line_addresses, word_addresses, words_after}
 use Rattle.xt_layout.specs.Bounds.{IsBelow}

@@ -8,3 +8,8 @@ pub mod Faulting
 pub mod Laying
 pub mod Naming
 pub mod Weighing
+pub mod Alike
+pub mod Growing
+pub mod Opening
+pub mod Places
+pub mod Leasts

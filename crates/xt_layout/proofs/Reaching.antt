@@ -4,7 +4,7 @@ use Rattle.std.specs.Prelude.{count_by, sum_by, nat_lt}
 use Rattle.std.proofs.lemmas.List.Sums.{sum_by_more, sum_by-take-le, sum_by-cons, count_by-le-length}
 use Rattle.std.proofs.lemmas.Bool.Decides.{nat_tests}
 use Rattle.xt_parse.specs.declared.line.Line.{Line}
-use Rattle.xt_pool.specs.declared.word.PoolWord.{PoolWord}
+use Rattle.xt_layout.specs.declared.word.PoolWord.{PoolWord}
 use Rattle.xt_layout.specs.declared.spot.Spot.{Spot}
 use Rattle.xt_layout.specs.Sizes.{IsSmall, pool_size, weight}
 use Rattle.xt_layout.specs.Spots.{behind, passes}

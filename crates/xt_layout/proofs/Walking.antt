@@ -7,9 +7,9 @@ use Rattle.std.proofs.lemmas.List.Sums.{count_by-le-length, get_or-le-sum_by}
 use Rattle.xt_parse.specs.declared.line.Line.{Line}
 use Rattle.xt_parse.specs.declared.statement.Statement.{Statement}
 use Rattle.xt_parse.specs.declared.statement.Statement.TheVariants.{Seg}
-use Rattle.xt_pool.specs.declared.word.PoolWord.{PoolWord}
-use Rattle.xt_pool.specs.Around.{each}
-use Rattle.xt_pool.specs.Pools.{is_segment}
+use Rattle.xt_layout.specs.declared.word.PoolWord.{PoolWord}
+use Rattle.xt_layout.specs.Around.{each}
+use Rattle.xt_layout.specs.Pools.{is_segment}
 use Rattle.xt_layout.specs.declared.spot.Spot.{Spot}
 use Rattle.xt_layout.specs.declared.spot.Span.{Span}
 use Rattle.xt_layout.specs.Sizes.{IsSmall, items, pool_size, size, weight}

@@ -1,7 +1,7 @@
 -- A line takes no more for the layout than it weighs for the parser.
 use Rattle.std.proofs.Common.{◌≤◌, List, [], ◌∷◌, length, arith, sum_by}
 use Rattle.std.proofs.lemmas.List.Sums.{sum_by-cons}
-use Rattle.xt_expr.specs.declared.expr.Expr.{Expr}
+use Rattle.xt_lex.specs.declared.expr.Expr.{Expr}
 use Rattle.xt_parse.specs.declared.line.Line.{Line}
 use Rattle.xt_parse.specs.declared.statement.Statement.{Statement}
 use Rattle.xt_parse.specs.declared.statement.Statement.TheVariants.{Empty, Seg, Entry, Position, Literal, Words, Shorts, Bytes, Ascii, Align, Space, Insn}

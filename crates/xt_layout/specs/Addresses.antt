@@ -2,14 +2,14 @@
 use Rattle.std.specs.Prelude.{ℕ, ◌+◌, ◌*◌, ◌==◌, pos, List, [], ◌∷◌, ◌++◌, length, map, slice_index}
 use Rattle.std.specs.Prelude.{Option, Some, None, unwrap_or, if◌then◌else◌}
 use Rattle.std.specs.List.{flat_map}
-use Rattle.xt_expr.specs.declared.labels.Label.{Label}
+use Rattle.xt_lex.specs.declared.labels.Label.{Label}
 use Rattle.xt_parse.specs.declared.line.Line.{Line}
 use Rattle.xt_parse.specs.declared.line.Placed.{Placed}
 use Rattle.xt_parse.specs.declared.statement.Statement.{Statement}
 use Rattle.xt_parse.specs.declared.statement.Statement.TheVariants.{Literal}
-use Rattle.xt_pool.specs.declared.word.PoolWord.{PoolWord}
-use Rattle.xt_pool.specs.Around.{each}
-use Rattle.xt_pool.specs.Pools.{words_of}
+use Rattle.xt_layout.specs.declared.word.PoolWord.{PoolWord}
+use Rattle.xt_layout.specs.Around.{each}
+use Rattle.xt_layout.specs.Pools.{words_of}
 use Rattle.xt_layout.specs.Sizes.{padding, pool_size}
 use Rattle.xt_layout.specs.Spots.{spot_at, address}
 

@@ -4,10 +4,10 @@
 use Rattle.std.specs.Prelude.{ℕ, ◌+◌, ◌*◌, ◌^◌, ◌≤◌, ◌<◌, ◌≡◌, List, [], ◌∷◌, ◌++◌, length, take}
 use Rattle.std.specs.Prelude.{drop, slice_index, count_by, sum_by, nat_lt, All, Option, Some, None}
 use Rattle.xt_parse.specs.declared.line.Line.{Line}
-use Rattle.xt_pool.specs.declared.word.PoolWord.{PoolWord}
-use Rattle.xt_pool.specs.Pools.{words_of, IsAmong}
+use Rattle.xt_layout.specs.declared.word.PoolWord.{PoolWord}
+use Rattle.xt_layout.specs.Pools.{words_of, IsAmong}
 use Rattle.std.specs.List.{flat_map}
-use Rattle.xt_pool.specs.Around.{each, each_after}
+use Rattle.xt_layout.specs.Around.{each, each_after}
 use Rattle.xt_layout.specs.declared.spot.Spot.{Spot}
 use Rattle.xt_layout.specs.declared.spot.Span.{Span}
 use Rattle.xt_layout.specs.Spans.{padded_span, segment_end, span_at, spans_of}

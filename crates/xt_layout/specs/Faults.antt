@@ -9,16 +9,16 @@ use Rattle.std.specs.Str.{bytes_eq}
 use Rattle.xt_lex.specs.declared.name.Name.{Name}
 use Rattle.xt_map.specs.Placing.{is_device}
 use Rattle.xt_map.specs.Regions.{Range, ranges, holds}
-use Rattle.xt_expr.specs.declared.labels.Label.{Label}
-use Rattle.xt_expr.specs.Values.{HaveAddresses, IsAddress}
+use Rattle.xt_lex.specs.declared.labels.Label.{Label}
+use Rattle.xt_lex.specs.Values.{HaveAddresses, IsAddress}
 use Rattle.xt_parse.specs.declared.line.Line.{Line}
 use Rattle.xt_parse.specs.declared.line.Placed.{Placed}
 use Rattle.xt_parse.specs.declared.statement.Statement.{Statement}
 use Rattle.xt_parse.specs.declared.statement.Statement.TheVariants.{Empty, Seg, Entry, Words, Shorts}
-use Rattle.xt_pool.specs.declared.word.PoolWord.{PoolWord}
-use Rattle.xt_pool.specs.Around.{each}
-use Rattle.xt_pool.specs.Findings.{Finding, at_statement, fails, first}
-use Rattle.xt_pool.specs.Pools.{is_segment, words_of}
+use Rattle.xt_layout.specs.declared.word.PoolWord.{PoolWord}
+use Rattle.xt_layout.specs.Around.{each}
+use Rattle.xt_layout.specs.Findings.{Finding, at_statement, fails, first}
+use Rattle.xt_layout.specs.Pools.{is_segment, words_of}
 use Rattle.xt_layout.specs.declared.spot.Span.{Span}
 use Rattle.xt_layout.specs.declared.spot.Spot.{Spot}
 use Rattle.xt_layout.specs.Sizes.{padding, pool_size, size}

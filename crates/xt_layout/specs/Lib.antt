@@ -5,3 +5,7 @@ pub mod Known
 pub mod Sizes
 pub mod Spans
 pub mod Spots
+pub mod Around
+pub mod Findings
+pub mod Pools
+pub mod Seen

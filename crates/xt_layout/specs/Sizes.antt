@@ -8,7 +8,7 @@ use Rattle.xt_parse.specs.declared.statement.Statement.{Statement}
 use Rattle.xt_parse.specs.declared.statement.Statement.TheVariants.{Empty, Seg, Entry, Position}
 use Rattle.xt_parse.specs.declared.statement.Statement.TheVariants.{Literal, Words, Bytes, Ascii}
 use Rattle.xt_parse.specs.declared.statement.Statement.TheVariants.{Shorts, Align, Space, Insn}
-use Rattle.xt_pool.specs.declared.word.PoolWord.{PoolWord}
+use Rattle.xt_layout.specs.declared.word.PoolWord.{PoolWord}
 
 -- the zeros from an address up to a multiple of n
 abbrev pub padding : ℕ → ℕ → ℕ

@@ -5,7 +5,7 @@ use Rattle.std.specs.Option.{option_map, option_map_or}
 use Rattle.xt_parse.specs.declared.line.Line.{Line}
 use Rattle.xt_parse.specs.declared.statement.Statement.{Statement}
 use Rattle.xt_parse.specs.declared.statement.Statement.TheVariants.{Seg}
-use Rattle.xt_pool.specs.declared.word.PoolWord.{PoolWord}
+use Rattle.xt_layout.specs.declared.word.PoolWord.{PoolWord}
 use Rattle.xt_layout.specs.declared.spot.Spot.{Spot}
 use Rattle.xt_layout.specs.Sizes.{size, pool_size}
 

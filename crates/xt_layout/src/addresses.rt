@@ -1,14 +1,14 @@
 ghost use Rattle.std.specs.Prelude.{◌≡◌, ℕ, ◌+◌, ◌^◌, ◌<◌, ◌≤◌, [], length, map, replicate, None, Some, slice_index, slice_index_or, slice_set, unwrap_or, All, IfOk, pos};
-ghost use Rattle.xt_pool.specs.Pools.{IsAmong};
+ghost use Rattle.xt_layout.specs.Pools.{IsAmong};
 ghost use Rattle.xt_layout.specs.Addresses.{home, words_after};
 ghost use Rattle.xt_layout.specs.Bounds.{IsBelow};
 ghost use Rattle.xt_layout.specs.Spots.{address};
 
+use crate::PoolWord;
 use crate::counts::count_one;
 use crate::size::padding;
 use crate::spot::{Spot, address};
 use std::alloc::{AllocError, Global};
-use xt_pool::PoolWord;
 
 /// The addresses of the lines.
 pub(crate) fn line_addresses(alloc: Global, spots: &[Option<Spot>]) -> Result<Vec<u64>, AllocError>

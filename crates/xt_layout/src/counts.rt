@@ -2,8 +2,8 @@ ghost use Rattle.std.specs.Prelude.{◌≡◌, ℕ, ◌+◌, ◌^◌, ◌<◌, l
 ghost use Rattle.xt_layout.specs.Bounds.{ArePools};
 ghost use Rattle.xt_layout.specs.Sizes.{pool_size};
 
+use crate::PoolWord;
 use std::alloc::{AllocError, Global};
-use xt_pool::PoolWord;
 
 /// One more at a place; nothing changes past the end.
 pub(crate) fn count_one(counts: &mut [u64], place: usize)

@@ -4,8 +4,8 @@ ghost use Rattle.std.specs.List.{list_any};
 ghost use Rattle.std.specs.Str.{bytes_eq};
 ghost use Rattle.xt_lex.specs.declared.name.Name.{Name};
 ghost use Rattle.xt_parse.specs.declared.line.Placed.{Placed};
-ghost use Rattle.xt_pool.specs.Findings.{at_statement, fails, or_else, first};
-ghost use Rattle.xt_pool.specs.Pools.{is_segment};
+ghost use Rattle.xt_layout.specs.Findings.{at_statement, fails, or_else, first};
+ghost use Rattle.xt_layout.specs.Pools.{is_segment};
 ghost use Rattle.xt_layout.specs.Addresses.{label_name, literal_name};
 ghost use Rattle.xt_layout.specs.Bounds.{ArePools, IsBelow, IsText, IsWalk};
 ghost use Rattle.xt_layout.specs.Faults.{again, bytes_at, is_empty, is_entry, is_last, is_misaligned, is_outside, is_too_many, leaves, layout_fault, names_at, overlaps, twice, wanted_multiple};
@@ -13,6 +13,7 @@ ghost use Rattle.xt_layout.specs.Known.{has_name};
 ghost use Rattle.xt_layout.specs.Sizes.{items};
 ghost use Rattle.xt_layout.specs.Spans.{meet};
 
+use crate::PoolWord;
 use crate::region::is_in_place;
 use crate::size::{padding, size};
 use crate::spot::{Span, Spot, address};
@@ -21,7 +22,6 @@ use std::alloc::{AllocError, Global};
 use std::collections::BTreeSet;
 use xt_lex::{AsmPlace, Name};
 use xt_parse::{Line, Placed, Statement};
-use xt_pool::PoolWord;
 
 /// A fault of a line's statement.
 fn at_statement(line: &Line, kind: u8) -> AsmPlace

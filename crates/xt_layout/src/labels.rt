@@ -1,17 +1,17 @@
 ghost use Rattle.std.specs.Prelude.{◌≡◌, Some, ℕ, ◌++◌, ◌<◌, ◌^◌, map, length, unwrap_or, slice_index_or, None, IfSome, IfOk, OnOk, All};
 ghost use Rattle.std.specs.List.{flat_map};
-ghost use Rattle.xt_expr.specs.Values.{HaveAddresses};
-ghost use Rattle.xt_pool.specs.Around.{each};
+ghost use Rattle.xt_lex.specs.Values.{HaveAddresses};
+ghost use Rattle.xt_layout.specs.Around.{each};
 ghost use Rattle.xt_layout.specs.Addresses.{home, label_name, label_placed, labels_at, literal_name};
 ghost use Rattle.xt_layout.specs.Bounds.{IsBelow};
 ghost use Rattle.xt_layout.specs.Spots.{spot_at};
 
+use crate::PoolWord;
 use crate::addresses::signed;
 use crate::spot::{Spot, address};
 use std::alloc::{AllocError, Global};
-use xt_expr::Label;
+use xt_lex::Label;
 use xt_parse::{Line, Placed, Statement};
-use xt_pool::PoolWord;
 
 /// One label more.
 fn add(labels: &mut Vec<Label>, name: &Placed, address: u64) -> Result<(), AllocError>

@@ -8,12 +8,11 @@ use crate::counts::pool_sizes;
 use crate::fault::fault_of;
 use crate::labels::labels_of;
 use crate::spots::walk_of;
+use crate::{PoolWord, Pooled};
 use std::alloc::{AllocError, Global};
 use std::marker::Model;
-use xt_expr::Labels;
-use xt_lex::AsmPlace;
+use xt_lex::{AsmPlace, Labels};
 use xt_parse::Line;
-use xt_pool::{PoolWord, Pooled};
 
 /// The addresses and labels of a text, and the first fault that they show. Contracts see a record of the four.
 #[derive(Drop)]

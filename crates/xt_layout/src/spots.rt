@@ -1,13 +1,13 @@
 ghost use Rattle.std.specs.Prelude.{◌≡◌, ◌++◌, [], length, IfOk, OnOk, All, if◌then◌else◌, ◌+◌, ◌-◌, ◌^◌, ◌≤◌};
-ghost use Rattle.xt_pool.specs.Pools.{is_segment};
+ghost use Rattle.xt_layout.specs.Pools.{is_segment};
 ghost use Rattle.xt_layout.specs.Bounds.{ArePools, IsBelow, IsText, IsWalk, closed_span};
 ghost use Rattle.xt_layout.specs.Spans.{padded_span};
 
+use crate::PoolWord;
 use crate::size::padding;
 use crate::spot::{Span, Spot, begins, passes};
 use std::alloc::{AllocError, Global};
 use xt_parse::{Line, Statement};
-use xt_pool::PoolWord;
 
 /// Where the lines of a text stand, and its segments.
 #[derive(Drop)]

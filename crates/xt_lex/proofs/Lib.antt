@@ -5,3 +5,5 @@ pub mod WidthLemmas
 pub mod LineLemmas
 pub mod CutLemmas
 pub mod LexedLemmas
+pub mod LabelLemmas
+pub mod ValueLemmas

@@ -11,9 +11,9 @@ use Rattle.xt_image.specs.declared.image.Image.{Image}
 use Rattle.xt_image.specs.ImageParts.{FitsImage, FitsSegment}
 use Rattle.xt_rows.specs.RowLaws.{IsWord}
 use Rattle.xt_core.specs.Runs.{IsRunOf, code_of}
-use Rattle.xt_stretch.specs.declared.HandlerVerdict.{HandlerVerdict}
-use Rattle.xt_stretch.specs.declared.HandlerVerdict.TheVariants.{Yes, No}
-use Rattle.xt_stretch.specs.declared.Side.TheVariants.{Overflow, Underflow}
+use Rattle.xt_handlers.specs.declared.stretch.HandlerVerdict.{HandlerVerdict}
+use Rattle.xt_handlers.specs.declared.stretch.HandlerVerdict.TheVariants.{Yes, No}
+use Rattle.xt_handlers.specs.declared.stretch.Side.TheVariants.{Overflow, Underflow}
 use Rattle.xt_handlers.specs.Vectors.{Handlers, verdict_of}
 use Rattle.xt_handlers.specs.CheckAnswers.{handlers_of}
 use Rattle.xt_discipline.specs.Verdicts.{is_yes, are_yes}

@@ -19,6 +19,3 @@ pub use machine::Machine;
 pub use scheduled::run_schedule;
 pub use threads::run;
 pub use xt_discipline::{Schedule, schedule_of};
-
-#[cfg(test)]
-mod tests;

@@ -1,9 +1,9 @@
 //! Values worked out by hand, and products and quotients by another program.
-use xt_alu::arithmetic::{addx, max, min, subx};
-use xt_alu::conditions::{Cond, holds};
-use xt_alu::multiply::{mul16s, mulsh, muluh, quos, rems};
-use xt_alu::shifts::{sll, src, srl, ssa8b, ssl};
-use xt_alu::unary::{abs, clamps, nsa, nsau, sext};
+use xt_word::arithmetic::{addx, max, min, subx};
+use xt_word::conditions::{Cond, holds};
+use xt_word::multiply::{mul16s, mulsh, muluh, quos, rems};
+use xt_word::shifts::{sll, src, srl, ssa8b, ssl};
+use xt_word::unary::{abs, clamps, nsa, nsau, sext};
 
 // s, t, MUL16S, MULSH, MULUH, QUOS and REMS
 const PRODUCTS: [(u32, u32, u32, u32, u32, u32, u32); 4] = [

@@ -1,5 +1,5 @@
 //! Values worked out by hand, and those of a worked program.
-use xt_bool::{BoolOp, group, logic};
+use xt_word::{BoolOp, group, logic};
 
 // the operation, the registers before, r, s, t, and the registers after
 const OPERATIONS: [(BoolOp, u16, u8, u8, u8, u16); 10] = [
@@ -31,7 +31,7 @@ const GROUPS: [(bool, u8, u16, u8, u8, u16); 8] = [
 fn operations(rt: HostRuntime) {
     for (op, b, r, s, t, want) in OPERATIONS {
         if r < 16 && s < 16 && t < 16 {
-            assert_eq!(rt; logic(op, b, r, s, t), want, "{op:?} of {b:#x}");
+            assert_eq!(rt; logic(op, b, r, s, t), want, "of {b:#x}");
         }
     }
 }

@@ -33,7 +33,7 @@ fn accesses_in_one_order(rt: HostRuntime) -> Result<(), Fail> {
     ] {
         let access = Access { addr, size, kind };
         assert!(rt; core < 2 && mapped(&access) && bus.spare() > 0);
-        assert_eq!(rt; bus.step(core, access), want, "{access:?}");
+        assert_eq!(rt; bus.step(core, access), want, "of {size} at {addr}");
     }
     assert_eq!(rt; bus.sent(), b"AB".as_slice());
     assert_eq!(rt; bus.into_history().len(), 20);

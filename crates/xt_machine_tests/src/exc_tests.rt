@@ -1,5 +1,5 @@
 //! Levels and vectors, worked out by hand.
-use xt_exc::{general, interrupt, pending, window};
+use xt_special::entries::{general, interrupt, pending, window};
 use xt_special::{Special, number};
 
 // INTERRUPT, INTENABLE, INTLEVEL, EXCM; the level that is taken

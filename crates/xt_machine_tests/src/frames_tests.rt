@@ -57,7 +57,7 @@ fn a_call_and_its_registers(rt: HostRuntime) -> Result<(), Fail> {
         value: 0x3FFF_7FA0,
     };
     let entry = record(MAIN, StepKind::Insn, Some(write));
-    assert_eq!(rt; frames.step(&code, 0, &entry, false), Ok(()));
+    assert!(rt; frames.step(&code, 0, &entry, false) == Ok(()));
     assert_eq!(rt; frames.depth(), 1);
     if frames.depth() == 1 {
         assert_eq!(rt; frames.calls(0), 2);
@@ -70,7 +70,7 @@ fn a_call_and_its_registers(rt: HostRuntime) -> Result<(), Fail> {
         step: 1,
         kind: BreachKind::Unset,
     };
-    assert_eq!(rt; frames.step(&code, 1, &addi, false), Err(unset));
+    assert!(rt; frames.step(&code, 1, &addi, false) == Err(unset));
     let opening = Frames::make(rt.alloc(), 1, MAIN + 6, &OPTIONS)?;
     let under = record(MAIN + 6, StepKind::Window(1), None);
     let no_caller = Breach {
@@ -78,10 +78,8 @@ fn a_call_and_its_registers(rt: HostRuntime) -> Result<(), Fail> {
         step: 7,
         kind: BreachKind::NoCaller,
     };
-    assert_eq!(rt; opening.test(&code, 7, &under), Err(no_caller));
-    assert_eq!(rt;
-        opening.test(&code, 7, &record(MAIN + 6, StepKind::Window(0), None)),
-        Ok(())
-    );
+    assert!(rt; opening.test(&code, 7, &under) == Err(no_caller));
+    let other = record(MAIN + 6, StepKind::Window(0), None);
+    assert!(rt; opening.test(&code, 7, &other) == Ok(()));
     Ok(())
 }

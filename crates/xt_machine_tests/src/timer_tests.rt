@@ -1,5 +1,5 @@
+use xt_special::timers::tick;
 use xt_special::{Special, number};
-use xt_timer::tick;
 
 // CCOUNT, CCOMPARE0, 1 and 2; CCOUNT and INTERRUPT afterwards
 const TURNS: [(u32, [u32; 3], u32, u32); 4] = [

@@ -1,5 +1,5 @@
 /// What an access does at its address.
-#[derive(Clone, Copy, Debug, PartialEq, Eq)]
+#[derive(Clone, Copy, PartialEq, Eq)]
 pub enum Kind {
     /// Reads the bytes as one little-endian number.
     Load,
@@ -11,7 +11,7 @@ pub enum Kind {
 }
 
 /// One access to the bus: a load, a store or a compare-and-swap of a core.
-#[derive(Clone, Copy, Debug, PartialEq, Eq)]
+#[derive(Clone, Copy, PartialEq, Eq)]
 pub struct Access {
     /// The address of the first byte.
     pub addr: u32,
@@ -22,7 +22,7 @@ pub struct Access {
 }
 
 /// One access as the history of the bus keeps it.
-#[derive(Clone, Copy, Debug, PartialEq, Eq)]
+#[derive(Clone, Copy)]
 pub struct Entry {
     /// The core that made it: 0 or 1.
     pub core: u8,

@@ -1,7 +1,7 @@
 //! The regions of the memory map.
 
 /// A region of the address space.
-#[derive(Clone, Copy, Debug, PartialEq, Eq)]
+#[derive(Clone, Copy)]
 pub enum Region {
     /// Flash that is read as data: 0x3F400000 to 0x3F7FFFFF. Constant.
     Drom,

@@ -1,5 +1,5 @@
 /// An operand of an instruction as a number.
-#[derive(Clone, Copy, Debug, PartialEq, Eq)]
+#[derive(Clone, Copy)]
 pub enum Argument {
     /// An address register by its number; there are 0 to 15.
     Register(u8),
@@ -10,7 +10,7 @@ pub enum Argument {
 }
 
 /// Why a mnemonic and its operands make no instruction.
-#[derive(Clone, Copy, Debug, PartialEq, Eq)]
+#[derive(Clone, Copy, PartialEq, Eq)]
 pub enum OperandFault {
     /// An operand is outside its row's range. No such mnemonic, or operands of another form, are of this kind too.
     Range,

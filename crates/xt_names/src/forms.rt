@@ -9,7 +9,7 @@ use crate::mnemonic::{
 use xt_isa::system::SpecialName;
 
 /// How an instruction reaches a special or user register.
-#[derive(Clone, Copy, Debug, PartialEq, Eq)]
+#[derive(Clone, Copy, PartialEq, Eq)]
 pub enum Access {
     /// RSR reads a special register.
     Read,
@@ -22,7 +22,7 @@ pub enum Access {
 }
 
 /// The shape of one operand.
-#[derive(Clone, Copy, Debug, PartialEq, Eq)]
+#[derive(Clone, Copy)]
 pub enum Shape {
     /// A register.
     Register,

@@ -104,12 +104,12 @@ answers_text code addresses a f = concat (
     ∷ end_line a.ended
     ∷ [])
 
--- This is the text of what is said of all orders; `frames whole` stands there only if every order was
--- looked at.
-pub record IsAnswersText (image : Image) (o : Options) (timed : Bool) (addresses text : List ℕ)
-    : Type 0 where
+-- This is the text of what is said of all orders, where at most so many states are kept; `frames
+-- whole` stands there only if every order was looked at.
+pub record IsAnswersText (image : Image) (o : Options) (timed : Bool) (addresses : List ℕ)
+    (most : ℕ) (text : List ℕ) : Type 0 where
   pub answers : Answers
-  pub are : AreAnswers image o timed addresses answers
+  pub are : AreAnswers image o timed addresses most answers
   pub frames : Frames
   pub are_frames : AreFrames image o timed frames
   pub known : frames ≡ judged.Whole → is_all answers.ended ≡ true

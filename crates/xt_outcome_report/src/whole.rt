@@ -204,7 +204,7 @@ pub fn outcomes_text(
     requires image { IsWellFormed image.now }
     requires valid { IsValid options.now }
     requires words { All (λ a. a + 4 ≤ 2 ^ 32) addresses.now }
-    ensures { IfOk result (IsAnswersText image.now options.now timed addresses.now) }
+    ensures { IfOk result (IsAnswersText image.now options.now timed addresses.now most) }
 {
     well_formed_is_placed();
     let answers = answers_of(alloc, image, options, timed, addresses, most)?;

@@ -76,7 +76,7 @@ module _ (P : Chip State) where
       let g = goes n m 1 v.core1 w.core1 v.line w.line h.core1 h.line hv.1 hw.1 in
       (record { line = g.line; core0 = h.core0; core1 = g.core }, (fewer_turns n v.core0 hv.0, g.turns), (fewer_turns m w.core0 hw.0, g.others))
 
-  advances : (extra : ℕ) (order : List ℕ) (v w : World State) → AreSameButForTurns v w → HaveTurns (length order + extra) v → HaveTurns (length order) w
+  pub advances : (extra : ℕ) (order : List ℕ) (v w : World State) → AreSameButForTurns v w → HaveTurns (length order + extra) v → HaveTurns (length order) w
       → AreSameButForTurns (advance P order v) (advance P order w) × HaveTurns extra (advance P order v)
   advances extra [] v w h hv hw = (h, subst (λ (n : ℕ). HaveTurns n v) (let e : 0 + extra ≡ extra = omega arith in e) hv)
   advances extra (c ∷ cs) v w h hv hw =

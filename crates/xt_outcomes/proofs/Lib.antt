@@ -13,7 +13,9 @@ pub mod Adding
 pub mod Continuing
 pub mod Raced
 pub mod Using
+pub mod Many
 pub mod Opens
 pub mod Beyond
+pub mod Finished
 pub mod Counted
 pub mod Looking

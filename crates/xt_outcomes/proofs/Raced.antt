@@ -7,7 +7,7 @@ use Rattle.xt_map.specs.declared.access.Kind.{Kind}
 use Rattle.xt_map.specs.declared.access.Kind.TheVariants.{Load, Store, Cas}
 use Rattle.xt_map.specs.Touching.{is_load}
 use Rattle.xt_map.proofs.Alike.{inside}
-use Rattle.xt_commute.specs.Apart.{AreApart}
+use Rattle.xt_changes.specs.Apart.{AreApart}
 use Rattle.xt_trace.specs.Traces.{has_stopped}
 use Rattle.xt_trace.specs.Worlds.{Core, Line, World, answer}
 use Rattle.xt_trace.specs.declared.options.Options.{Options}

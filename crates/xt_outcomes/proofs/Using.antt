@@ -33,7 +33,7 @@ use Rattle.xt_outcomes.proofs.Finding.{reached}
 -- ---- an order leads to each kept world
 
 module _ {W : Type 0} (L : ℕ → W → W → Type 0) (g : Graph W) (is : IsGraph L g) (opening : W) (opens : OpensWith g opening) where
-  ordered : (n k : ℕ) → k ≤ n → (w : W) → IsAt g.kept.items k w → (order : List ℕ) × IsOrder order × Reaches L order opening w
+  pub ordered : (n k : ℕ) → k ≤ n → (w : W) → IsAt g.kept.items k w → (order : List ℕ) × IsOrder order × Reaches L order opening w
   ordered n zero less w at = ([], tt, at_once g.kept.items 0 opening w opens at)
   ordered zero (suc k) less w at = absurd (omega arith)
   ordered (suc n) (suc k) less w at =

@@ -1,4 +1,4 @@
--- What `outcomes` answers of an image ('profile').
+-- What `outcomes` answers of an image, where at most so many states are kept ('profile').
 --
 -- Note: `ended` says whether every order was looked at. Where it is not `All`, outcomes and a race
 -- that were found are real all the same, and nothing is said of those that were not.
@@ -16,9 +16,9 @@ use Rattle.xt_outcomes.specs.declared.answers.Answers.{Answers}
 use Rattle.xt_outcomes.specs.declared.answers.Ending.TheVariants.{All}
 
 pub record AreAnswers (image : Image) (o : Options) (timed : Bool) (addresses : List ℕ)
-    (a : Answers) : Type 0 where
-  -- a turn that is told to use time does
-  pub ending : IsEnding (code_of image) timed (opening_of image o) a.ended
+    (most : ℕ) (a : Answers) : Type 0 where
+  -- the search ended early only for the reason that is told
+  pub ending : IsEnding (code_of image) timed (opening_of image o) most a.ended
   -- each outcome is that of its order, and they rise
   pub real :
       AreReal (processor (code_of image)) timed (opening_of image o) addresses a.found.items

@@ -1,4 +1,4 @@
--- How a search of all orders ended ('profile').
+-- How a search of all orders that keeps at most so many states ended ('profile').
 use Rattle.std.specs.Prelude.{◌≡◌, ℕ, ◌<◌, Bool, true, false, List}
 use Rattle.xt_trace.specs.Runs.{Opening}
 use Rattle.xt_exec.specs.Chips.{processor}
@@ -8,6 +8,7 @@ use Rattle.xt_timeless.specs.TimeLaws.{core_of}
 use Rattle.xt_timeless.specs.Time.{uses_time}
 use Rattle.xt_outcomes.specs.Outcomes.{core_ended}
 use Rattle.xt_outcomes.specs.Orders.{world_after}
+use Rattle.xt_outcomes.specs.States.{LeadToMany}
 use Rattle.xt_outcomes.specs.declared.answers.Ending.{Ending}
 use Rattle.xt_outcomes.specs.declared.answers.Ending.TheVariants as ending
 
@@ -23,7 +24,8 @@ pub record TimeIsUsed (code : ℕ → ℕ) (timed : Bool) (o : Opening State) (c
   pub at : (core_of core (world_after (processor code) timed o order)).state.control.pc ≡ pc
   pub uses : uses_time code (core_of core (world_after (processor code) timed o order)).state ≡ true
 
-abbrev pub IsEnding : (ℕ → ℕ) → (timed : Bool) → Opening State → Ending → Type 0
-IsEnding code timed o ending.All = Unit {0}
-IsEnding code timed o ending.States = Unit {0}
-IsEnding code timed o (ending.Time core pc) = TimeIsUsed code timed o core pc
+-- `all` says nothing by itself; `some states` says that so many states were found
+abbrev pub IsEnding : (ℕ → ℕ) → (timed : Bool) → Opening State → ℕ → Ending → Type 0
+IsEnding code timed o most ending.All = Unit {0}
+IsEnding code timed o most ending.States = LeadToMany code timed o most
+IsEnding code timed o most (ending.Time core pc) = TimeIsUsed code timed o core pc

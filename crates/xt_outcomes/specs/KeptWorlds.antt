@@ -2,7 +2,7 @@
 -- What stands for a world in a search.
 use Rattle.std.specs.Prelude.{◌≡◌, ℕ, zero, suc, Bool, false, List}
 use Rattle.xt_map.specs.declared.contents.MemoryContents.{MemoryContents}
-use Rattle.xt_changes.specs.Changed.{contents_of}
+use Rattle.xt_changes.specs.Changed.{IsLean, contents_of}
 use Rattle.xt_exec.specs.State.{State}
 use Rattle.xt_outcomes.specs.Places.{spot_run}
 use Rattle.xt_outcomes.specs.Spots.{Side, Spot, side_bars, side_of}
@@ -27,8 +27,9 @@ abbrev pub bars : (code : ℕ → ℕ) (timed : Bool) → MemoryContents → ℕ
 bars code timed m c w = side_bars code timed (side_of c (spot_of m w))
 
 -- a turn of the core, which uses no time, and then its turns that meet nothing, at most so many,
--- lead from the one to the other
+-- lead from the one to the other, and keep only bytes that differ from the opening's
 abbrev pub Leads :
     (code : ℕ → ℕ) (timed : Bool) → List Place → ℕ → MemoryContents → ℕ → World → World → Type 0
 Leads code timed ps n m c v w =
     (spot_of m w ≡ spot_run code timed ps n c (spot_of m v)) × (bars code timed m c v ≡ false)
+    × (IsLean m v.changes.value → IsLean m w.changes.value)

@@ -3,6 +3,8 @@
 use Rattle.std.specs.Prelude.{◌≡◌, ℕ, ◌≤◌, true, ◌⊎◌, List, ◌++◌, length, IfSome, IfNone}
 use Rattle.xt_map.specs.Memory.{constant_byte}
 use Rattle.xt_image.specs.declared.image.Image.{Image}
+use Rattle.xt_changes.specs.Changed.{IsLean}
+use Rattle.xt_search.specs.Chains.{AreDistinct}
 use Rattle.xt_search.specs.Graphs.{IsAt, IsBarredAt, IsGraph, IsWhole, OpensWith}
 use Rattle.xt_search.specs.Worlds.{IsOrder}
 use Rattle.xt_trace.specs.declared.options.Options.{Options}
@@ -12,6 +14,7 @@ use Rattle.xt_exec.specs.Chips.{processor}
 use Rattle.xt_exec.specs.State.{State}
 use Rattle.xt_core.specs.Runs.{code_of, memory_of, opening_of}
 use Rattle.xt_outcomes.specs.KeptWorlds.{Leads, bars, spot_of}
+use Rattle.xt_outcomes.specs.Marks.{IsSameWorld}
 use Rattle.xt_outcomes.specs.Orders.{world_after}
 use Rattle.xt_outcomes.specs.Places.{is_allowed, is_local, is_told}
 use Rattle.xt_outcomes.specs.Spots.{Spot, spot_in}
@@ -31,6 +34,8 @@ pub record IsSearch (image : Image) (o : Options) (s : Search) : Type 0 where
   pub first : (w : World) × OpensWith s.graph w
       × (spot_of (memory_of image o) w
       ≡ spot_in s.machine.timed (world_at_start (opening_of image o)))
+      × IsLean (memory_of image o) w.changes.value
+  pub distinct : AreDistinct IsSameWorld s.graph.kept.items
 
 -- the places tell of each next turn of a kept world
 abbrev pub AreAllowed : Search → Type 0

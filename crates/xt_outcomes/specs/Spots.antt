@@ -1,61 +1,22 @@
 -- Carries a proof; nothing that a reader must believe.
--- What a search keeps of a world: both cores without their records, and memory without its history.
--- Where it is not timed, time is left out, and in place of the turns that are left stands whether
--- there is one: none after a stop.
+-- Turns between the states that a search keeps of worlds.
 use Rattle.std.specs.Prelude.{◌≡◌, ℕ, zero, suc, Bool, true, false, ◌==◌, ◌&&◌, ◌||◌, not, List, [], ◌∷◌}
-use Rattle.std.specs.Prelude.{if◌then◌else◌}
 use Rattle.xt_map.specs.declared.contents.MemoryContents.{MemoryContents}
 use Rattle.xt_trace.specs.Calls.{is_stop}
 use Rattle.xt_trace.specs.Chip.{Chip}
-use Rattle.xt_trace.specs.Traces.{has_stopped}
-use Rattle.xt_trace.specs.Worlds.{Core, World, answer, left_past, memory_left}
+use Rattle.xt_trace.specs.Worlds.{answer, left_past, memory_left}
 use Rattle.xt_search.specs.Meetings.{after}
 use Rattle.xt_exec.specs.Chips.{processor}
 use Rattle.xt_exec.specs.State.{State}
-use Rattle.xt_timeless.specs.Time.{uses_time, without_time}
+use Rattle.xt_timeless.specs.Time.{uses_time}
+pub use Rattle.xt_outcomes.specs.States.{Side, Spot, left_kept, side_in, spot_in, state_kept}
 
--- a core: its state, the turns that it has left, and whether it has stopped
-pub record Side (S : Type 0) : Type 0 where
-  pub state : S
-  pub left : ℕ
-  pub stopped : Bool
-
-pub record Spot (S : Type 0) : Type 0 where
-  pub side0 : Side S
-  pub side1 : Side S
-  pub memory : MemoryContents
-
--- ---- what is kept of a core
-
-abbrev pub state_kept : (timed : Bool) → State → State
-state_kept true s = s
-state_kept false s = without_time s
-
--- the turns that it has left, of a core that has so many and has stopped or not
-abbrev pub left_kept : (timed : Bool) → ℕ → Bool → ℕ
-left_kept true n stopped = n
-left_kept false n stopped = if stopped then 0 else 1
+-- ---- one turn
 
 -- those that are left after a turn, of so many more
 abbrev pub more_kept : (timed : Bool) → ℕ → ℕ
 more_kept true n = n
 more_kept false n = 1
-
-abbrev pub side_in : (timed : Bool) → Core State → Side State
-side_in timed k = record {
-  state = state_kept timed k.state;
-  left = left_kept timed k.left (has_stopped k.records);
-  stopped = has_stopped k.records;
-}
-
-abbrev pub spot_in : (timed : Bool) → World State → Spot State
-spot_in timed w = record {
-  side0 = side_in timed w.core0;
-  side1 = side_in timed w.core1;
-  memory = w.line.memory;
-}
-
--- ---- one turn
 
 -- a core after a turn with this reply, with so many turns left after it
 abbrev pub side_past : (P : Chip State) (timed : Bool) → Side State → ℕ → ℕ → Side State

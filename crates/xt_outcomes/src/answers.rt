@@ -14,7 +14,7 @@ ghost use Rattle.xt_outcomes.specs.KeptWorlds.{spot_of};
 ghost use Rattle.xt_outcomes.specs.Outcomes.{CanAllEnd, IsStuck};
 ghost use Rattle.xt_outcomes.specs.Spots.{side_of};
 ghost use Rattle.xt_outcomes.specs.declared.answers.Ending.TheVariants.{All};
-ghost use Rattle.xt_outcomes.specs.Searched.{IsComplete, IsSearch};
+ghost use Rattle.xt_outcomes.specs.Searched.{HasEnded, IsComplete, IsSearch};
 
 use crate::found::Search;
 use crate::listing::{Found, outcomes_of};
@@ -28,11 +28,11 @@ use xt_image::Image;
 use xt_trace::Options;
 
 /// How a search of all orders ended.
-#[derive(Clone, Copy, Debug, PartialEq, Eq)]
+#[derive(Clone, Copy)]
 pub enum Ending {
     /// The worlds after all orders were found.
     All,
-    /// As many worlds are kept as may be.
+    /// As many worlds are kept as may be, and no two of them are the same.
     States,
     /// Where time is left out: a turn uses it, of this core at this address.
     Time(u8, u32),
@@ -58,10 +58,17 @@ fn pc_in(world: &World, core: u8) -> u32
     world.side(core).pc()
 }
 
-// How the search ended.
-fn ending_of(image: &Image, options: &Options, search: &Search, desk: &mut Desk) -> Ending
+// How the search ended, which keeps at most so many worlds.
+fn ending_of(
+    image: &Image,
+    options: &Options,
+    search: &Search,
+    desk: &mut Desk,
+    most: u32,
+) -> Ending
     requires search { IsSearch image.now options.now search.now }
-    ensures ending { IsEnding (code_of image.now) search.now.machine.timed (opening_of image.now options.now) result }
+    requires ended { HasEnded most search.now }
+    ensures ending { IsEnding (code_of image.now) search.now.machine.timed (opening_of image.now options.now) most result }
     ensures all { result ≡ All → IsComplete search.now }
 {
     if is_whole(image, options, search, desk) {
@@ -117,11 +124,11 @@ pub fn answers_of(
     requires fits { FitsImage image.now }
     requires placed { IsPlaced image.now.segments }
     requires words { Each (λ a. a + 4 ≤ 2 ^ 32) words.now }
-    ensures { IfOk result (λ a. AreAnswers image.now options.now timed words.now a) }
+    ensures { IfOk result (λ a. AreAnswers image.now options.now timed words.now most a) }
 {
     let search = search_orders(alloc, image, options, timed, most)?;
     let mut desk = Desk::make(alloc, options)?;
-    let ended = ending_of(image, options, &search, &mut desk);
+    let ended = ending_of(image, options, &search, &mut desk, most);
     let found = outcomes_of(alloc, image, options, &search, words)?;
     let stuck = stuck_where(alloc, image, options, &search, ended)?;
     let race = race_of(alloc, image, options, &search)?;

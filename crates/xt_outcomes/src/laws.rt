@@ -5,6 +5,7 @@ ghost use Rattle.xt_trace.specs.Runs.{Opening, world_at_start};
 ghost use Rattle.xt_exec.specs.State.{State};
 ghost use Rattle.xt_outcomes.specs.Beyond.{TurnsBeyondPlayNoPart};
 ghost use Rattle.xt_outcomes.specs.Orders.{world_after};
+ghost use Rattle.xt_outcomes.specs.RunsEnd.{RunsEndInTheirOutcomes};
 ghost use Rattle.xt_outcomes.specs.Spots.{spot_after, spot_in};
 
 /// What a search keeps of the world after an order is what the turns of the order make of what it keeps
@@ -19,4 +20,10 @@ pub fn spots_follow_orders()
 #[tactic(auto, using(crate::proofs::Beyond::turns_beyond))]
 pub fn turns_beyond_play_no_part()
     ensures { TurnsBeyondPlayNoPart }
+{}
+
+/// The run of an outcome's order, with turns enough, ends in this outcome.
+#[tactic(auto, using(crate::proofs::Finished::runs_end))]
+pub fn runs_end_in_their_outcomes()
+    ensures { RunsEndInTheirOutcomes }
 {}

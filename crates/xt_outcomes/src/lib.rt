@@ -22,7 +22,7 @@ mod world;
 
 pub use answers::{Answers, Ending, answers_of};
 pub use found::{Search, order_of};
-pub use laws::{spots_follow_orders, turns_beyond_play_no_part};
+pub use laws::{runs_end_in_their_outcomes, spots_follow_orders, turns_beyond_play_no_part};
 pub use listing::{Found, outcomes_of};
 pub use meeting::{are_allowed, is_whole, search_by, search_orders};
 pub use nexts::{NextTurn, next_turns};

@@ -33,7 +33,7 @@ use xt_map::Access;
 use xt_trace::{Options, StepRecord};
 
 /// A core's next turn: its number among the turns of the core, from 0, and its record.
-#[derive(Clone, Copy, Debug, PartialEq, Eq)]
+#[derive(Clone, Copy)]
 pub struct NextTurn {
     pub turn: u32,
     pub step: StepRecord,

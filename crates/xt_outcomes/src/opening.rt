@@ -3,6 +3,7 @@ ghost use Rattle.std.specs.Prelude.{◌≡◌, true, IfOk};
 ghost use Rattle.xt_trace.specs.Runs.{world_at_start};
 ghost use Rattle.xt_trace.specs.Validity.{IsValid};
 ghost use Rattle.xt_core.specs.Runs.{memory_of, opening_of};
+ghost use Rattle.xt_changes.specs.Changed.{IsLean};
 ghost use Rattle.xt_outcomes.specs.KeptWorlds.{spot_of};
 ghost use Rattle.xt_outcomes.specs.Orders.{with_turns};
 ghost use Rattle.xt_outcomes.specs.Spots.{spot_in};
@@ -26,7 +27,8 @@ pub fn open(
     timed: bool,
 ) -> Result<World, AllocError>
     requires { IsValid options.now }
-    ensures { IfOk result (λ w. spot_of (memory_of image.now options.now) w ≡ spot_in timed (world_at_start (opening_of image.now options.now))) }
+    ensures spot { IfOk result (λ w. spot_of (memory_of image.now options.now) w ≡ spot_in timed (world_at_start (opening_of image.now options.now))) }
+    ensures lean { IfOk result (λ w. IsLean (memory_of image.now options.now) w.changes.value) }
 {
     let side0 = Side::open(0, image.entry, options, timed, options.turns0);
     let side1 = Side::open(1, options.entry1, options, timed, options.turns1);

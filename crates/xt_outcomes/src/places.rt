@@ -10,7 +10,7 @@ use xt_map::{Access, Kind};
 const PLACES: usize = 131072;
 
 /// Who comes to a place: neither core was seen there, one core alone, both only to load, or both.
-#[derive(Clone, Copy, Debug, PartialEq, Eq)]
+#[derive(Clone, Copy)]
 pub enum Place {
     Free,
     Of0,

@@ -23,7 +23,7 @@ fn pending_of(regs: &Regs<WindowFile>, code: &Constants) -> Option<Pending>
     ensures target { IfSome result (λ p. IsRegister p.target) }
     ensures none { IfNone result (demand (constant_byte code.now) (file_state regs.now) ≡ None) }
 {
-    if xt_exc::pending(&regs.sr).is_some() {
+    if xt_special::entries::pending(&regs.sr).is_some() {
         return None;
     }
     if regs.waiting {

@@ -1,5 +1,7 @@
 //! A core between two turns.
-ghost use Rattle.std.specs.Prelude.{◌≡◌, ◌<◌, true, length};
+ghost use Rattle.std.specs.Prelude.{◌≡◌, ◌<◌, true, false, length};
+ghost use Rattle.xt_window.specs.Ring.{visible};
+ghost use Rattle.xt_outcomes.specs.SideMarks.{mixed, side_mark};
 
 use crate::turns::regs_kept;
 use std::marker::Model;
@@ -21,7 +23,7 @@ impl Model for Side {
     ghost use Rattle.xt_exec.specs.State.{State};
     ghost use Rattle.xt_exec.specs.States.{file_state};
     ghost use Rattle.xt_exec.specs.TurnLaws.{IsShaped};
-    ghost use Rattle.xt_outcomes.specs.Spots as spots;
+    ghost use Rattle.xt_outcomes.specs.States as spots;
 
     ghost Value = { spots.Side State };
 
@@ -32,7 +34,8 @@ impl Model for Side {
 
 // Whether all fields of PS are equal.
 fn is_same_ps(a: Ps, b: Ps) -> bool
-    ensures { result ≡ true → a ≡ b }
+    ensures same { result ≡ true → a ≡ b }
+    ensures equal { a ≡ b → result ≡ true }
 {
     a == b
 }
@@ -41,16 +44,18 @@ fn is_same_ps(a: Ps, b: Ps) -> bool
 fn are_still_equal(so_far: bool, a: u32, b: u32) -> bool
     ensures before { result ≡ true → so_far ≡ true }
     ensures these { result ≡ true → a ≡ b }
+    ensures equal { so_far ≡ true → a ≡ b → result ≡ true }
 {
     so_far && a == b
 }
 
-// Whether all special registers are seen to be equal. All are looked at, with no early end, so that several
+// Whether all special registers are equal. All are looked at, with no early end, so that several
 // are compared at once.
 fn is_same_special(a: &Special, b: &Special) -> bool
     requires count_a { length a.now.file ≡ 256 }
     requires count_b { length b.now.file ≡ 256 }
-    ensures { result ≡ true → a.now ≡ b.now }
+    ensures same { result ≡ true → a.now ≡ b.now }
+    ensures equal { a.now ≡ b.now → result ≡ true }
 {
     let mut equal = true;
     for n in 0..256u32 {
@@ -62,11 +67,12 @@ fn is_same_special(a: &Special, b: &Special) -> bool
     is_same_ps(a.ps_fields(), b.ps_fields()) && a.threadptr() == b.threadptr()
 }
 
-// Whether all registers and the windows are seen to be equal.
+// Whether all registers and the windows are equal.
 fn is_same_file(a: &WindowFile, b: &WindowFile) -> bool
     requires count_a { length a.now.regs ≡ 64 }
     requires count_b { length b.now.regs ≡ 64 }
-    ensures { result ≡ true → a.now ≡ b.now }
+    ensures same { result ≡ true → a.now ≡ b.now }
+    ensures equal { a.now ≡ b.now → result ≡ true }
 {
     let mut left = *a;
     let mut right = *b;
@@ -82,8 +88,20 @@ fn is_same_file(a: &WindowFile, b: &WindowFile) -> bool
     a.base() == b.base() && a.start() == b.start()
 }
 
+// A number, and the 16 registers in sight one after another.
+fn mixed(digest: u64, windows: &WindowFile) -> u64
+    ensures { result ≡ mixed (visible windows.now.regs windows.now.base) digest 16 }
+{
+    let mut digest = digest;
+    for i in 0..16u8 {
+        digest = digest
+            .wrapping_mul(0x9E37_79B9_7F4A_7C15)
+            .wrapping_add(windows.read(i) as u64);
+    }
+    digest
+}
+
 impl Side {
-    ghost use Rattle.std.specs.Prelude.{false};
     ghost use Rattle.xt_trace.specs.Traces.{stop_where};
     ghost use Rattle.xt_trace.specs.Validity.{IsValid};
     ghost use Rattle.xt_core.specs.Runs.{opening_at};
@@ -121,9 +139,10 @@ impl Side {
         }
     }
 
-    /// Whether two cores are seen to be equal.
+    /// Whether two cores are equal.
     pub fn is_same(&self, other: &Side) -> bool
-        ensures { result ≡ true → self.now ≡ other.now }
+        ensures same { result ≡ true → self.now ≡ other.now }
+        ensures equal { self.now ≡ other.now → result ≡ true }
     {
         self.left == other.left
             && self.stopped == other.stopped
@@ -159,15 +178,12 @@ impl Side {
     }
 
     /// A number that is the same for equal cores.
-    pub fn digest(&self) -> u64 {
-        let mut digest = (self.regs.pc as u64).wrapping_add(
+    pub fn digest(&self) -> u64
+        ensures { result ≡ side_mark self.now }
+    {
+        let digest = (self.regs.pc as u64).wrapping_add(
             (self.left as u64).wrapping_mul(0x1_0000_0000),
         );
-        for i in 0..16u8 {
-            digest = digest
-                .wrapping_mul(0x9E37_79B9_7F4A_7C15)
-                .wrapping_add(self.regs.win.read(i) as u64);
-        }
-        digest
+        mixed(digest, &self.regs.win)
     }
 }

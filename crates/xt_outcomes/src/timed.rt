@@ -86,7 +86,7 @@ impl<'a> Timed<'a> {
     ghost use Rattle.std.specs.Prelude.{false, IfOk, OnOk};
     ghost use Rattle.xt_exec.specs.Chips.{processor};
     ghost use Rattle.xt_search.specs.Meetings.{after};
-    ghost use Rattle.xt_changes.specs.Changed.{contents_of};
+    ghost use Rattle.xt_changes.specs.Changed.{IsLean, contents_of};
     ghost use Rattle.xt_outcomes.specs.KeptWorlds.{bars, spot_of};
     ghost use Rattle.xt_outcomes.specs.Places.{is_local, is_told, spot_run, turns_of};
     ghost use Rattle.xt_outcomes.specs.Spots.{TurnsAreFree, memory_given, side_given, spot_past};
@@ -95,6 +95,7 @@ impl<'a> Timed<'a> {
     fn go_on(&self, desk: &mut Desk, side: &Side, changes: &mut Changes) -> Result<Side, AllocError>
         ensures side { IfOk result (λ s. s ≡ side_given (processor (constant_byte self.now.code)) self.now.timed side.now.left side.now (contents_of self.now.opening.contents changes.old)) }
         ensures memory { OnOk result (contents_of self.now.opening.contents changes.new ≡ memory_given (processor (constant_byte self.now.code)) side.now.left side.now.state (contents_of self.now.opening.contents changes.old)) }
+        ensures lean { OnOk result (IsLean self.now.opening.contents changes.old → IsLean self.now.opening.contents changes.new) }
     {
         side.turned(desk, &self.code, &self.opening, changes, self.timed)
     }
@@ -178,6 +179,7 @@ impl<'a> Timed<'a> {
         ensures run { IfOk result (λ r. spot_of self.now.opening.contents r.world ≡ spot_run (constant_byte self.now.code) self.now.timed self.now.places.list.items self.now.most_local core (spot_of self.now.opening.contents world.now)) }
         ensures turns { IfOk result (λ r. spot_of self.now.opening.contents r.world ≡ after (spot_past (processor (constant_byte self.now.code)) self.now.timed) (turns_of core r.turns) (spot_of self.now.opening.contents world.now)) }
         ensures free { IfOk result (λ r. TurnsAreFree (constant_byte self.now.code) self.now.timed (turns_of core r.turns) (spot_of self.now.opening.contents world.now)) }
+        ensures lean { IfOk result (λ r. IsLean self.now.opening.contents world.now.changes.value → IsLean self.now.opening.contents r.world.changes.value) }
     {
         let mut changes = world.changes.copy(self.alloc)?;
         let mut side = self.go_on(desk, world.side(core), &mut changes)?;
@@ -204,6 +206,8 @@ fn have_ended(side0: &Side, side1: &Side) -> bool
 
 impl<'a> Machine for Timed<'a> {
     ghost use Rattle.xt_outcomes.specs.KeptWorlds as kept;
+    ghost use Rattle.xt_outcomes.specs.Marks.{IsSameWorld, world_mark};
+    ghost use Rattle.xt_outcomes.specs.MarkLaws.{same_marks};
 
     type World = World;
 
@@ -212,6 +216,10 @@ impl<'a> Machine for Timed<'a> {
     ghost Leads = { λ t c v w. kept.Leads (constant_byte t.code) t.timed t.places.list.items t.most_local t.opening.contents c v w };
 
     ghost bars = { λ t c w. kept.bars (constant_byte t.code) t.timed t.opening.contents c w };
+
+    ghost Same = { λ _ v w. IsSameWorld v w };
+
+    ghost IsMark = { λ _ w d. d ≡ world_mark w };
 
     ghost ends = { λ t w. (w.side0.value.left == 0) && (w.side1.value.left == 0) };
 
@@ -241,4 +249,6 @@ impl<'a> Machine for Timed<'a> {
             .wrapping_add(side0.wrapping_mul(31))
             .wrapping_add(side1.wrapping_mul(1009))
     }
+
+    ghost marks_agree = { λ t v w m n. same_marks v w m n };
 }

@@ -4,7 +4,7 @@ ghost use Rattle.xt_map.specs.Memory.{HasSizes, constant_byte};
 ghost use Rattle.xt_map.specs.Regions.{is_mapped};
 ghost use Rattle.xt_fetch.specs.Code.{AreBytes};
 ghost use Rattle.xt_trace.specs.Worlds.{answer, memory_left};
-ghost use Rattle.xt_changes.specs.Changed.{contents_of};
+ghost use Rattle.xt_changes.specs.Changed.{IsLean, contents_of};
 ghost use Rattle.xt_rows.specs.RowLaws.{IsWord};
 ghost use Rattle.xt_exec.specs.Chips.{processor};
 ghost use Rattle.xt_exec.specs.Turn.{demand};
@@ -71,6 +71,7 @@ fn make_turn(
     requires sizes { HasSizes opening.now.contents }
     ensures core { OnOk result (core.new ≡ core_after_turn (constant_byte code.now) (answer (demand (constant_byte code.now) core.old.state) (contents_of opening.now.contents changes.old)) core.old) }
     ensures memory { OnOk result (contents_of opening.now.contents changes.new ≡ memory_left (demand (constant_byte code.now) core.old.state) (contents_of opening.now.contents changes.old)) }
+    ensures lean { OnOk result (IsLean opening.now.contents changes.old → IsLean opening.now.contents changes.new) }
     ensures word { OnOk result (IsWord (answer (demand (constant_byte code.now) core.old.state) (contents_of opening.now.contents changes.old))) }
     ensures free { core.new.waiting ≡ None }
     ensures turns { core.new.turns ≡ core.old.turns }
@@ -182,6 +183,7 @@ impl Side {
         requires bytes { AreBytes (constant_byte code.now) }
         ensures side { IfOk result (λ s. s ≡ side_given (processor (constant_byte code.now)) timed self.now.left self.now (contents_of opening.now.contents changes.old)) }
         ensures memory { OnOk result (contents_of opening.now.contents changes.new ≡ memory_given (processor (constant_byte code.now)) self.now.left self.now.state (contents_of opening.now.contents changes.old)) }
+        ensures lean { OnOk result (IsLean opening.now.contents changes.old → IsLean opening.now.contents changes.new) }
     {
         if self.left == 0 {
             return Ok(self.copy());

@@ -3,6 +3,7 @@ ghost use Rattle.std.specs.Prelude.{◌≡◌, true, IfOk};
 ghost use Rattle.xt_map.specs.declared.contents.MemoryContents.{MemoryContents};
 ghost use Rattle.xt_changes.specs.Changed.{contents_of};
 ghost use Rattle.xt_outcomes.specs.KeptWorlds.{moved_spot, spot_of};
+ghost use Rattle.xt_outcomes.specs.Marks.{IsSameWorld};
 ghost use Rattle.xt_outcomes.specs.Spots.{side_of};
 
 use crate::shelf::{Part, Shelf};
@@ -51,9 +52,10 @@ impl World {
         }
     }
 
-    /// Whether two worlds were seen to hold the same.
+    /// Whether two worlds are the same.
     pub fn is_same(&self, other: &World) -> bool
-        ensures { result ≡ true → (m : MemoryContents) → spot_of m self.now ≡ spot_of m other.now }
+        ensures same { result ≡ true → IsSameWorld self.now other.now }
+        ensures equal { IsSameWorld self.now other.now → result ≡ true }
     {
         if !self.side0.as_ref().is_same(other.side0.as_ref()) {
             return false;
@@ -89,7 +91,8 @@ impl Shared {
         side1: Side,
         changes: Changes,
     ) -> Result<World, AllocError>
-        ensures { IfOk result (λ w. (m : MemoryContents) → spot_of m w ≡ record { side0 = side0; side1 = side1; memory = contents_of m changes }) }
+        ensures changes { IfOk result (λ w. w.changes.value ≡ changes) }
+        ensures spot { IfOk result (λ w. (m : MemoryContents) → spot_of m w ≡ record { side0 = side0; side1 = side1; memory = contents_of m changes }) }
     {
         Ok(World {
             side0: self.sides.shared(alloc, side0)?,
@@ -109,7 +112,8 @@ impl Shared {
         side: Side,
         changes: Changes,
     ) -> Result<World, AllocError>
-        ensures { IfOk result (λ w. (m : MemoryContents) → spot_of m w ≡ moved_spot core side (contents_of m changes) (spot_of m world.now)) }
+        ensures changes { IfOk result (λ w. w.changes.value ≡ changes) }
+        ensures spot { IfOk result (λ w. (m : MemoryContents) → spot_of m w ≡ moved_spot core side (contents_of m changes) (spot_of m world.now)) }
     {
         let side = self.sides.shared(alloc, side)?;
         let changes = self.changes.shared(alloc, changes)?;

@@ -2,8 +2,8 @@
 use Rattle.std.proofs.Common.{◌≡◌, ◌<◌, ◌≤◌, ℕ, zero, suc, Bool, List, [], ◌∷◌, ◌++◌, length, Option, Some, None, Result, Ok, Err, refl, sym, ◌∙◌, ap, subst, arith, append_assoc, append-nil}
 use Rattle.std.specs.Option.{option_map, option_map_or}
 use Rattle.xt_lex.specs.declared.token.Token.{Token}
-use Rattle.xt_expr.specs.declared.expr.Term.{Term}
-use Rattle.xt_expr.specs.declared.expr.TermValue.{TermValue}
+use Rattle.xt_lex.specs.declared.expr.Term.{Term}
+use Rattle.xt_lex.specs.declared.expr.TermValue.{TermValue}
 use Rattle.xt_parse.specs.declared.stop.Stop.{Stop}
 use Rattle.xt_parse.specs.declared.stop.Stop.TheVariants as stop
 use Rattle.xt_parse.specs.Gives.{Stops}

@@ -6,8 +6,8 @@ use Rattle.xt_lex.specs.Tokens.{kind_weight, weight}
 use Rattle.xt_lex.specs.declared.token.Token.{Token}
 use Rattle.xt_lex.specs.declared.token.TokenKind.{TokenKind}
 use Rattle.xt_lex.specs.declared.token.TokenKind.TheVariants.{Word, Number, Character, Str, Comma, Colon, Equals, Plus, Minus, Bad}
-use Rattle.xt_expr.specs.declared.expr.Expr.{Expr}
-use Rattle.xt_expr.specs.declared.expr.Term.{Term}
+use Rattle.xt_lex.specs.declared.expr.Expr.{Expr}
+use Rattle.xt_lex.specs.declared.expr.Term.{Term}
 use Rattle.xt_names.specs.declared.forms.Shape.{Shape}
 use Rattle.xt_names.specs.declared.forms.Shape.TheVariants as shape
 use Rattle.xt_parse.specs.declared.statement.Operand.{Operand}

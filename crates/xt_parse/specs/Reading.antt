@@ -8,9 +8,9 @@ use Rattle.std.specs.Str.{bytes_eq}
 use Rattle.xt_lex.specs.declared.token.Token.{Token}
 use Rattle.xt_lex.specs.declared.token.TokenKind.{TokenKind}
 use Rattle.xt_lex.specs.declared.token.TokenKind.TheVariants as kind
-use Rattle.xt_expr.specs.declared.expr.Term.{Term}
-use Rattle.xt_expr.specs.declared.expr.TermValue.{TermValue}
-use Rattle.xt_expr.specs.declared.expr.TermValue.TheVariants as value
+use Rattle.xt_lex.specs.declared.expr.Term.{Term}
+use Rattle.xt_lex.specs.declared.expr.TermValue.{TermValue}
+use Rattle.xt_lex.specs.declared.expr.TermValue.TheVariants as value
 use Rattle.xt_parse.specs.declared.statement.Operand.{Operand}
 use Rattle.xt_parse.specs.declared.statement.Operand.TheVariants as operand
 use Rattle.xt_names.specs.declared.forms.Shape.{Shape}

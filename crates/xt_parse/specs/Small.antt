@@ -4,7 +4,7 @@
 -- Profile: `IsLexed`, `IsParsed` and `IsSmall` say what the limit of a text's bytes means for
 -- tokens and lines, so that later passes cannot overflow.
 use Rattle.std.specs.Prelude.{ℕ, ◌+◌, ◌<◌, ◌≤◌, max, List, [], ◌∷◌, length, All, sum_by}
-use Rattle.xt_expr.specs.declared.expr.Expr.{Expr}
+use Rattle.xt_lex.specs.declared.expr.Expr.{Expr}
 use Rattle.xt_parse.specs.declared.line.Line.{Line}
 use Rattle.xt_parse.specs.declared.statement.Operand.{Operand}
 use Rattle.xt_parse.specs.declared.statement.Operand.TheVariants.{Reg, Value, Pool}

@@ -7,8 +7,7 @@ use crate::reading::{behind_comma, optional_minus, sign_at, term_with_sign};
 use crate::statement::Exprs;
 use crate::stop::Stop;
 use std::alloc::Global;
-use xt_expr::{Expr, Term};
-use xt_lex::Token;
+use xt_lex::{Expr, Term, Token};
 
 // A sign and a term, where a sign stands at the front.
 fn next_signed_term(tokens: &[Token]) -> Result<Option<(Term, &[Token])>, Stop>

@@ -75,12 +75,4 @@ impl Lines {
     {
         self.items.len()
     }
-
-    /// The lines as a `Vec`, without a copy.
-    pub fn into_vec(self) -> Vec<Line>
-        ensures { result.items ≡ self }
-    {
-        let Lines { items } = self;
-        items
-    }
 }

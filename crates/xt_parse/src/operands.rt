@@ -9,8 +9,7 @@ use crate::reading::{
 use crate::statement::{Operand, Operands};
 use crate::stop::Stop;
 use std::alloc::{AllocError, Global};
-use xt_expr::{Expr, Term, TermValue};
-use xt_lex::{Name, Token};
+use xt_lex::{Expr, Name, Term, TermValue, Token};
 use xt_names::Shape;
 
 // A word as an expression of one label.

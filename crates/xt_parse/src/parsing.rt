@@ -1,7 +1,7 @@
 ghost use Rattle.std.specs.Prelude.{◌≡◌, ◌<◌, ◌≤◌, ◌==◌, ◌||◌, ◌∷◌, length, take, drop, IfOk};
 ghost use Rattle.std.specs.List.{prefix_len};
 ghost use Rattle.xt_lex.specs.Tokens.{IsLexed};
-ghost use Rattle.xt_parse.specs.Statements.{column_behind, fault_column, line_of, number_of};
+ghost use Rattle.xt_parse.specs.Statements.{column_behind, fault_column, line_of};
 ghost use Rattle.xt_parse.specs.Lines.{ArePlaced, ParsesLine, Parses, token_lines, is_segment, parsed_lines};
 ghost use Rattle.xt_parse.specs.Small.{IsParsed};
 
@@ -35,16 +35,6 @@ fn column_of_fault(tokens: &[Token], left: usize) -> u32
     }
 }
 
-// The number of a line.
-fn line_number(tokens: &[Token]) -> u32
-    ensures { result ≡ number_of tokens.now }
-{
-    match tokens.first() {
-        Some(token) => token.line,
-        None => 0,
-    }
-}
-
 // The line of these tokens, or its fault of the kind Syntax.
 #[tactic(auto, unfolding(crate::specs::Statements::line_of))]
 fn line_of_tokens(alloc: Global, begun: bool, tokens: &[Token]) -> Result<Line, AsmFault>
@@ -52,7 +42,7 @@ fn line_of_tokens(alloc: Global, begun: bool, tokens: &[Token]) -> Result<Line, 
     requires placed { ArePlaced tokens.now }
     ensures { ParsesLine result (line_of begun tokens.now) }
 {
-    let number = line_number(tokens);
+    let number = tokens[0].line;
     match whole_parts(alloc, begun, tokens) {
         Ok((label, column, statement)) => Ok(Line {
             number,

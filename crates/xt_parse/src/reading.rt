@@ -8,8 +8,7 @@ use crate::line::Placed;
 use crate::stop::Stop;
 use crate::words::{Register, may_be_label, register_of_word};
 use std::alloc::{AllocError, Global};
-use xt_expr::{Term, TermValue};
-use xt_lex::{Name, Token, TokenKind};
+use xt_lex::{Name, Term, TermValue, Token, TokenKind};
 
 /// A number at the front.
 pub fn number_at(tokens: &[Token]) -> Result<(u32, &[Token]), Stop>

@@ -2,8 +2,7 @@ ghost use Rattle.std.specs.Prelude.{◌≡◌, length};
 
 use crate::line::Placed;
 use std::marker::Model;
-use xt_expr::Expr;
-use xt_lex::Name;
+use xt_lex::{Expr, Name};
 use xt_names::Mnemonic;
 
 /// An operand of an instruction.
@@ -54,7 +53,7 @@ pub struct Exprs {
 
 impl Model for Exprs {
     ghost use Rattle.std.specs.Prelude.{List};
-    ghost use Rattle.xt_expr.specs.declared.expr.Expr.{Expr};
+    ghost use Rattle.xt_lex.specs.declared.expr.Expr.{Expr};
 
     ghost Value = { List Expr };
 
@@ -81,14 +80,6 @@ impl Exprs {
         ensures { result ≡ length self.now }
     {
         self.items.len()
-    }
-
-    /// The expressions as a `Vec`, without a copy.
-    pub fn into_vec(self) -> Vec<Expr>
-        ensures { result.items ≡ self }
-    {
-        let Exprs { items } = self;
-        items
     }
 }
 
@@ -120,20 +111,5 @@ impl Operands {
         ensures { result.now ≡ self.now }
     {
         &self.items
-    }
-
-    /// How many operands there are.
-    pub fn len(&self) -> usize
-        ensures { result ≡ length self.now }
-    {
-        self.items.len()
-    }
-
-    /// The operands as a `Vec`, without a copy.
-    pub fn into_vec(self) -> Vec<Operand>
-        ensures { result.items ≡ self }
-    {
-        let Operands { items } = self;
-        items
     }
 }

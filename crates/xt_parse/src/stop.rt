@@ -4,7 +4,7 @@ ghost use Rattle.xt_parse.specs.declared.stop.Stop.TheVariants.{Memory};
 use std::alloc::{AllocError, AllocFailed};
 
 /// Why the reading of a line stops.
-#[derive(Clone, Copy, Debug, PartialEq, Eq)]
+#[derive(Clone, Copy, PartialEq, Eq)]
 pub enum Stop {
     /// So many of the line's tokens are left, and the first of them cannot continue the line; or none is left, and the line is not
     /// complete.

@@ -14,7 +14,7 @@ use xt_map::Constants;
 use xt_trace::{StepKind, StepRecord};
 
 /// What becomes of the functions that a core is in.
-#[derive(Clone, Copy, Debug, PartialEq, Eq)]
+#[derive(Clone, Copy)]
 pub enum Change {
     /// They stay.
     Stays,

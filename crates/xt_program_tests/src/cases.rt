@@ -1,6 +1,6 @@
 //! The parts of a case, as the files of cases tell them.
 
-use std::alloc::{AllocError, Global};
+use std::alloc::Global;
 
 /// What follows a part's name in its line, without blanks around it; nothing where there is no such
 /// part.
@@ -22,38 +22,45 @@ pub fn has_part(case: &str, part: &str) -> bool {
 
 /// The lines below a part's name, without the blanks before them, each with a newline. A line
 /// `%handlers` stands for the text of the handlers.
-pub fn lines_of(
-    alloc: Global,
-    case: &str,
-    part: &str,
-    handlers: &str,
-) -> Result<String, AllocError> {
+pub fn lines_of(alloc: Global, case: &str, part: &str, handlers: &str) -> Option<String> {
     let mut lines = String::new(alloc);
     let mut is_inside = false;
     for line in case.lines() {
         match line.strip_prefix("    ") {
-            Some("%handlers") if is_inside => lines.push_str(handlers)?,
-            Some(text) if is_inside => push_line(&mut lines, text)?,
+            Some("%handlers") if is_inside => lines.push_str(handlers).ok()?,
+            Some(text) if is_inside => {
+                lines.push_str(text).ok()?;
+                lines.push('\n').ok()?;
+            }
             Some(_) => {}
-            None if line.is_empty() && is_inside => lines.push('\n')?,
-            None => is_inside = names(line, part),
+            None if line.is_empty() && is_inside => lines.push('\n').ok()?,
+            None => is_inside = line.split(' ').next() == Some(part),
         }
     }
-    Ok(lines)
+    Some(lines)
 }
 
-// Whether a line begins with a part's name.
-fn names(line: &str, part: &str) -> bool {
-    match line.split_once(' ') {
-        Some((name, _)) => name == part,
-        None => line == part,
+/// The bytes of a part, in hexadecimal.
+pub fn bytes_of(alloc: Global, case: &str, part: &str) -> Option<Vec<u8>> {
+    let digits = lines_of(alloc, case, part, "")?;
+    let digits = digits.as_str().replace(alloc, "\n", "").ok()?;
+    hex::decode(alloc, digits.as_str()).ok()
+}
+
+/// The options of a case. If they say neither a seed nor an order, its list of cores is the order; if it has none, core 0
+/// makes all of its turns first.
+pub fn ordered(alloc: Global, case: &str) -> Option<String> {
+    let options = words_of(case, "options");
+    if options.contains("--seed") || options.contains("--order") {
+        return String::from_str(alloc, options).ok();
     }
-}
-
-/// Appends a line and a newline.
-pub fn push_line(text: &mut String, line: &str) -> Result<(), AllocError> {
-    text.push_str(line)?;
-    text.push('\n')
+    let list = words_of(case, "schedule").replace(alloc, " ", ",").ok()?;
+    let list = if list.is_empty() {
+        "0*0"
+    } else {
+        list.as_str()
+    };
+    format!(in alloc; "{options} --order {list}").ok()
 }
 
 /// Whether the lines stand in a text, in their order.

@@ -2,7 +2,7 @@
 ghost use Rattle.std.specs.Prelude.{◌≡◌};
 ghost use Rattle.xt_map.specs.Memory.{constant_byte};
 ghost use Rattle.xt_fetch.specs.Fetching.{fetch_at};
-ghost use Rattle.xt_race.specs.Races.{acquires, has_stored, order_in, order_of, releases, synchronises, touches_byte, writes};
+ghost use Rattle.xt_race.specs.Races.{acquires, order_in, order_of, releases, synchronises, writes};
 ghost use Rattle.xt_race.specs.Clashes.{clash, shares_byte, touches_memory};
 
 use crate::places::is_in_memory;
@@ -13,7 +13,7 @@ use xt_map::{Constants, Entry, Kind};
 use xt_trace::StepRecord;
 
 /// How an instruction orders the accesses of its core for the other one.
-#[derive(Clone, Copy, Debug, PartialEq, Eq)]
+#[derive(Clone, Copy)]
 pub enum Synchronization {
     /// Not at all.
     Plain,
@@ -61,23 +61,16 @@ pub fn order_at(code: &Constants, pc: u32) -> Synchronization
     }
 }
 
-// Whether an access with this reply has written.
-fn has_stored(kind: Kind, reply: u32) -> bool
-    ensures { result ≡ has_stored kind reply }
-{
-    match kind {
-        Kind::Load => false,
-        Kind::Store(_) => true,
-        Kind::Cas(expected, _) => reply == expected,
-    }
-}
-
 impl Event {
     /// Whether it writes: a store, or a compare-and-swap that stored.
     pub fn writes(&self) -> bool
         ensures { result ≡ writes self.now }
     {
-        has_stored(self.entry.access.kind, self.entry.reply)
+        match self.entry.access.kind {
+            Kind::Load => false,
+            Kind::Store(_) => true,
+            Kind::Cas(expected, _) => self.entry.reply == expected,
+        }
     }
 
     /// Whether it releases: S32RI, or S32C1I that stored.
@@ -111,19 +104,12 @@ impl Event {
         }
     }
 
-    // Whether it touches the byte at an address.
-    fn touches_byte(&self, addr: u64) -> bool
-        ensures { result ≡ touches_byte self.now addr }
-    {
-        let first = u64::from(self.entry.access.addr);
-        first <= addr && addr < first + u64::from(self.entry.access.size)
-    }
-
     // Whether it touches the byte at an address, which is one of the memory regions.
     fn touches_memory(&self, addr: u64) -> bool
         ensures { result ≡ touches_memory self.now addr }
     {
-        self.touches_byte(addr) && is_in_memory(addr)
+        let first = u64::from(self.entry.access.addr);
+        first <= addr && addr < first + u64::from(self.entry.access.size) && is_in_memory(addr)
     }
 
     // Whether both touch a common byte of the memory regions.

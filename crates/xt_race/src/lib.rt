@@ -15,6 +15,6 @@ mod text;
 mod turns;
 
 pub use event::{Event, Synchronization, order_at};
-pub use laws::{entries_have_turns, first_race_is_one, records_are_of_entries};
+pub use laws::{entries_have_turns, first_race_is_one};
 pub use race::{Race, first_race};
 pub use text::race_text;

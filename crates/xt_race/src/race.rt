@@ -13,7 +13,7 @@ use xt_image::Image;
 use xt_trace::Run;
 
 /// A race: two entries of a history, by their places from 0.
-#[derive(Clone, Copy, Debug, PartialEq, Eq)]
+#[derive(Clone, Copy)]
 pub struct Race {
     /// The earlier entry.
     pub first: u32,

@@ -1,7 +1,7 @@
 //! The options and the entries of a recording.
 ghost use Rattle.std.specs.Prelude.{◌≡◌, ◌≤◌, ◌+◌, length, true, IsNone};
 ghost use Rattle.xt_trace.specs.Validity.{IsValid};
-ghost use Rattle.xt_record.specs.Fields.{access_of, entries_end, kind_of, options_at, raw_at};
+ghost use Rattle.xt_record.specs.Fields.{access_of, entries_end, options_at, raw_at};
 ghost use Rattle.xt_record.specs.Heads.{HasRead};
 ghost use Rattle.xt_record.specs.Rules.{is_entry, is_valid, keeps_zeros, options_finding};
 
@@ -73,17 +73,6 @@ fn raw_at(bytes: &[u8], place: usize) -> RawEntry
     }
 }
 
-// What the entry does at its address.
-fn kind_of(number: u8, a: u32, b: u32) -> Kind
-    ensures { result ≡ kind_of number a b }
-{
-    match number {
-        0 => Kind::Load,
-        1 => Kind::Store(a),
-        _ => Kind::Cas(a, b),
-    }
-}
-
 // The access of an entry.
 fn access_of(raw: &RawEntry) -> Access
     ensures { result ≡ access_of raw.now }
@@ -91,7 +80,11 @@ fn access_of(raw: &RawEntry) -> Access
     Access {
         addr: raw.addr,
         size: raw.size,
-        kind: kind_of(raw.kind, raw.a, raw.b),
+        kind: match raw.kind {
+            0 => Kind::Load,
+            1 => Kind::Store(raw.a),
+            _ => Kind::Cas(raw.a, raw.b),
+        },
     }
 }
 

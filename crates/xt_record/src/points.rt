@@ -1,7 +1,7 @@
 //! The checkpoints of a run.
 ghost use Rattle.std.specs.Prelude.{◌≡◌, ◌++◌, OnOk};
 ghost use Rattle.xt_exec.specs.States.{file_state};
-ghost use Rattle.xt_record.specs.Checkpoints.{checkpoint_bytes, file_bytes, memory_bytes, special_bytes, state_bytes};
+ghost use Rattle.xt_record.specs.Checkpoints.{checkpoint_bytes, file_bytes, special_bytes, state_bytes};
 
 use crate::file::OwnFile;
 use crate::words::{put_word, put_words};
@@ -102,15 +102,6 @@ fn put_state(out: &mut Vec<u8>, step: u32, regs: &Regs<OwnFile>) -> Result<(), A
     Ok(())
 }
 
-// Writes the bytes of the memory regions.
-fn put_memory(out: &mut Vec<u8>, memory: &Memory) -> Result<(), AllocError>
-    ensures { OnOk result (out.new.items ≡ out.old.items ++ memory_bytes memory.now.contents) }
-{
-    out.extend_from_slice(memory.rtc_fast_data())?;
-    out.extend_from_slice(memory.dram())?;
-    out.extend_from_slice(memory.rtc_slow())
-}
-
 /// Writes the checkpoint of a position, at which both cores and memory stand, after so many
 /// entries.
 #[tactic(auto, unfolding(crate::specs::Checkpoints::checkpoint_bytes))]
@@ -127,5 +118,7 @@ pub(crate) fn put_point(
     put_words(out, &[position, entries])?;
     put_state(out, core0.count(), core0.regs())?;
     put_state(out, core1.count(), core1.regs())?;
-    put_memory(out, memory)
+    out.extend_from_slice(memory.rtc_fast_data())?;
+    out.extend_from_slice(memory.dram())?;
+    out.extend_from_slice(memory.rtc_slow())
 }

@@ -1,7 +1,6 @@
 //! The turns of a run whose entries are known.
 ghost use Rattle.std.specs.Prelude.{◌≡◌, ◌≢◌, ◌<◌, ◌≤◌, ◌+◌, ◌^◌, ◌++◌, true, None, length, IfOk, OnOk};
 ghost use Rattle.xt_map.specs.Memory.{constant_byte};
-ghost use Rattle.xt_record.specs.Checkpoints.{is_due};
 ghost use Rattle.xt_record.specs.TurnRules.{same_access, same_kind};
 ghost use Rattle.xt_record.specs.Walking.{Arrives, Ends, HasRoom, Takes, due_beside, point_beside};
 
@@ -16,14 +15,6 @@ use xt_map::{Access, Bytes, Entry, Kind};
 const STRIDE: u32 = 131_072;
 
 pub(crate) type File = Core<OwnFile>;
-
-// Whether there is a checkpoint at a position.
-#[inline(always)]
-fn is_due(position: u32) -> bool
-    ensures { result ≡ is_due position }
-{
-    position != 0 && position % STRIDE == 0
-}
 
 // The checkpoint of two cores, of which the first has this number, and of memory, after so many
 // entries.
@@ -63,7 +54,8 @@ fn keep_due(
     ensures memory { setting.new.memory ≡ setting.old.memory }
     ensures code { setting.new.code ≡ setting.old.code }
 {
-    if is_due(own.count() + other.count()) {
+    let position = own.count() + other.count();
+    if position != 0 && position % STRIDE == 0 {
         let kept = point(alloc, number, own, other, setting, entries)?;
         setting.points.push(kept)?;
     }

@@ -5,3 +5,4 @@ pub mod Placing
 pub mod Keeping
 pub mod Inside
 pub mod Moving
+mod Bytes

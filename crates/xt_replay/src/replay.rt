@@ -17,7 +17,7 @@ const APART: u32 = 65536;
 const NEAR: u32 = 1024;
 
 /// The position lies beyond the end of the run.
-#[derive(Clone, Copy, Debug, PartialEq, Eq)]
+#[derive(Clone, Copy)]
 pub struct PastEnd;
 
 /// A run of an image at a position: a number of steps of the run's schedule. Contracts see the image,

@@ -9,12 +9,12 @@ use native.Mathlib.Nat.{mod-le, div-le_self}
 use lib.Signed.{mag, mag_rem, mag_shr}
 use lib.IntN.{neg_ℤ}
 use Rattle.xt_word.specs.Words.{sign_extended}
-use Rattle.xt_alu.specs.Signed.{signed, signed_half, word_of}
-use Rattle.xt_alu.specs.Arithmetic.{addx, subx, mul16u, mul16s, mull, muluh, mulsh, quou, quos, remu, rems, signed_min, signed_max, neg, abs, sext, clamps, nsa, nsau}
-use Rattle.xt_alu.specs.Shifts.{src, srl, sra, sll, slli, srai, srli, extui, ssr, ssl, ssa8l, ssa8b}
-use Rattle.xt_bool.specs.declared.BoolOp.{BoolOp}
-use Rattle.xt_bool.specs.Registers.{logic, group}
-use Rattle.xt_bool.proofs.Bits.{written_small}
+use Rattle.xt_word.specs.Signed.{signed, signed_half, word_of}
+use Rattle.xt_word.specs.Arithmetic.{addx, subx, mul16u, mul16s, mull, muluh, mulsh, quou, quos, remu, rems, signed_min, signed_max, neg, abs, sext, clamps, nsa, nsau}
+use Rattle.xt_word.specs.Shifts.{src, srl, sra, sll, slli, srai, srli, extui, ssr, ssl, ssa8l, ssa8b}
+use Rattle.xt_word.specs.declared.booleans.BoolOp.{BoolOp}
+use Rattle.xt_word.specs.Registers.{logic, group}
+use Rattle.xt_word.proofs.BooleanBits.{written_small}
 use Rattle.xt_special.specs.declared.ps.Ps.{Ps}
 use Rattle.xt_special.specs.Access.{value_read}
 use Rattle.xt_special.specs.Control.{bit_of, ps_of, ps_word}

@@ -74,12 +74,12 @@ use Rattle.xt_special.specs.declared.ps.Ps.{Ps}
 use Rattle.xt_special.specs.Control.{ps_word, ps_of}
 use Rattle.xt_special.specs.Access.{value_read, ps_written, written_by, is_window_register}
 use Rattle.xt_special.specs.Shape.{CanHold}
-use Rattle.xt_alu.specs.Conditions.{holds}
-use Rattle.xt_alu.specs.declared.conditions.Cond.TheVariants as cond_
-use Rattle.xt_alu.specs.Arithmetic.{addx, subx, mul16u, mul16s, mull, muluh, mulsh, quou, quos, remu, rems, signed_min, signed_max, neg, abs, sext, clamps, nsa, nsau}
-use Rattle.xt_alu.specs.Shifts.{src, srl, sra, sll, slli, srai, srli, extui, ssr, ssl, ssa8l, ssa8b}
-use Rattle.xt_bool.specs.Registers.{logic, group}
-use Rattle.xt_bool.specs.declared.BoolOp.TheVariants as op
+use Rattle.xt_word.specs.Conditions.{holds}
+use Rattle.xt_word.specs.declared.conditions.Cond.TheVariants as cond_
+use Rattle.xt_word.specs.Arithmetic.{addx, subx, mul16u, mul16s, mull, muluh, mulsh, quou, quos, remu, rems, signed_min, signed_max, neg, abs, sext, clamps, nsa, nsau}
+use Rattle.xt_word.specs.Shifts.{src, srl, sra, sll, slli, srai, srli, extui, ssr, ssl, ssa8l, ssa8b}
+use Rattle.xt_word.specs.Registers.{logic, group}
+use Rattle.xt_word.specs.declared.booleans.BoolOp.TheVariants as op
 use Rattle.xt_fetch.specs.Code.{code_number}
 use Rattle.xt_rows.specs.declared.outcome.ReplyTarget.{ReplyTarget}
 use Rattle.xt_rows.specs.declared.outcome.Flow.TheVariants.{Goes}

@@ -77,14 +77,14 @@ use Rattle.xt_isa.specs.declared.boolean.FourName.TheVariants as FourName
 use Rattle.xt_isa.specs.declared.boolean.EightName.TheVariants as EightName
 use Rattle.xt_isa.specs.declared.boolean.TestName.TheVariants as TestName
 use Rattle.xt_isa.specs.declared.boolean.ChoiceName.TheVariants as ChoiceName
-use Rattle.xt_alu.specs.Arithmetic.{addx, subx, mul16u, mul16s, mull, muluh, mulsh, quou, quos}
-use Rattle.xt_alu.specs.Arithmetic.{remu, rems, signed_min, signed_max, neg, abs, sext, clamps, nsa}
-use Rattle.xt_alu.specs.Arithmetic.{nsau}
-use Rattle.xt_alu.specs.Shifts.{src, srl, sra, sll, slli, srai, srli, extui, ssr, ssl, ssa8l, ssa8b}
-use Rattle.xt_alu.specs.Conditions.{holds}
-use Rattle.xt_alu.specs.declared.conditions.Cond.TheVariants as cond
-use Rattle.xt_bool.specs.Registers.{logic, group}
-use Rattle.xt_bool.specs.declared.BoolOp.TheVariants as op
+use Rattle.xt_word.specs.Arithmetic.{addx, subx, mul16u, mul16s, mull, muluh, mulsh, quou, quos}
+use Rattle.xt_word.specs.Arithmetic.{remu, rems, signed_min, signed_max, neg, abs, sext, clamps, nsa}
+use Rattle.xt_word.specs.Arithmetic.{nsau}
+use Rattle.xt_word.specs.Shifts.{src, srl, sra, sll, slli, srai, srli, extui, ssr, ssl, ssa8l, ssa8b}
+use Rattle.xt_word.specs.Conditions.{holds}
+use Rattle.xt_word.specs.declared.conditions.Cond.TheVariants as cond
+use Rattle.xt_word.specs.Registers.{logic, group}
+use Rattle.xt_word.specs.declared.booleans.BoolOp.TheVariants as op
 use Rattle.xt_special.specs.declared.ps.Ps.{Ps}
 use Rattle.xt_special.specs.Numbers as number
 use Rattle.xt_special.specs.Control.{special_of, ps_word, ps_of}

@@ -18,7 +18,7 @@ use Rattle.xt_special.specs.Access.{with_sets}
 use Rattle.xt_special.specs.Timers.{after_tick}
 use Rattle.xt_special.specs.Exceptions.{after_exception}
 use Rattle.xt_special.specs.Interrupts.{after_interrupt}
-use Rattle.xt_loop.specs.Looping.{loops_back}
+use Rattle.xt_special.specs.Looping.{loops_back}
 use Rattle.xt_rows.specs.declared.outcome.ReplyTarget.{ReplyTarget}
 use Rattle.xt_rows.specs.declared.outcome.Flow.{Flow}
 use Rattle.xt_rows.specs.declared.outcome.Flow.TheVariants.{Falls, Goes}

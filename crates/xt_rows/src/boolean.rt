@@ -5,10 +5,10 @@ ghost use Rattle.xt_rows.specs.Outcomes.{boolean_outcome, booleans, sets_br};
 
 use crate::effects::{branches, moves, sets_special};
 use crate::outcome::{Effect, Outcome};
-use xt_alu::conditions::{Cond, holds};
-use xt_bool::{BoolOp, group, logic};
 use xt_isa::boolean::{Boolean, ChoiceName, EightName, FourName, LogicName, TestName};
 use xt_special::number;
+use xt_word::conditions::{Cond, holds};
+use xt_word::{BoolOp, group, logic};
 
 // The sixteen Boolean registers, where BR has this value.
 #[inline(always)]

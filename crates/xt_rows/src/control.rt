@@ -6,10 +6,10 @@ use crate::effects::{branches, calls, goes, loops};
 use crate::numbers::{branch_target, call_target, minus, natural, plus};
 use crate::operands::{call_size, callx_size};
 use crate::outcome::{Effect, Outcome, WindowStep};
-use xt_alu::conditions::{Cond, holds};
 use xt_isa::control::{
     BitName, BranchName, ConstName, ConstuName, Control, LoopName, OppositeName, RetName, ZeroName,
 };
+use xt_word::conditions::{Cond, holds};
 
 #[tactic(auto, unfolding(crate::specs::Outcomes::control_outcome))]
 #[inline(always)]

@@ -8,10 +8,10 @@ use crate::cause;
 use crate::effects::{branches, goes, loads, puts, stores};
 use crate::numbers::plus;
 use crate::outcome::{Effect, Outcome, WindowStep};
-use xt_alu::arithmetic::addx;
-use xt_alu::conditions::{Cond, holds};
 use xt_isa::density::{Density, NarrowName, NarrowRetName, NarrowZeroName};
 use xt_map::Constants;
+use xt_word::arithmetic::addx;
+use xt_word::conditions::{Cond, holds};
 
 #[tactic(auto, unfolding(crate::specs::Outcomes::density_outcome))]
 #[inline(always)]

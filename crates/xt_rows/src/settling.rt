@@ -29,14 +29,14 @@ pub fn special_value(s: &Special, register: Option<u8>) -> u32
 
 /// The next program counter after an instruction of this length that falls through: the instruction after it, or the first one of
 /// a loop, which then has one pass less to make.
-#[tactic(auto, unfolding(xt_loop::specs::Looping::loops_back))]
+#[tactic(auto, unfolding(xt_special::specs::Looping::loops_back))]
 #[inline(always)]
 pub fn falls(s: &mut Special, pc: u32, len: u8) -> u32
     ensures { (waits : Bool) → control_at result waits s.new ≡ after_flow Falls len (control_at pc waits s.old) }
 {
     let next = pc.wrapping_add(len as u32);
     let count = s.register(number::LCOUNT);
-    let (pc, left) = xt_loop::step(
+    let (pc, left) = xt_special::looping::step(
         s.register(number::LBEG),
         s.register(number::LEND),
         count,

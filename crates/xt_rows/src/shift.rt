@@ -7,10 +7,10 @@ ghost use Rattle.xt_rows.specs.Outcomes.{sets_sar, shift_outcome};
 use crate::effects::{puts, sets_special};
 use crate::numbers::natural;
 use crate::outcome::{Effect, Outcome, WindowStep};
-use xt_alu::shifts::{extui, sll, slli, sra, srai, srl, srli, ssa8b, ssa8l, ssl, ssr};
-use xt_alu::unary::{abs, clamps, neg, nsa, nsau, sext};
 use xt_isa::shift::{NegName, NsaName, SextName, Shift, SrlName, Ssa8Name, SsrName};
 use xt_special::number;
+use xt_word::shifts::{extui, sll, slli, sra, srai, srl, srli, ssa8b, ssa8l, ssl, ssr};
+use xt_word::unary::{abs, clamps, neg, nsa, nsau, sext};
 
 // An operand within a range of numbers below 256.
 #[tactic(auto, unfolding(crate::specs::Numbers::natural, xt_isa::specs::Ranges::natural_within))]

@@ -5,13 +5,13 @@ ghost use Rattle.xt_rows.specs.Outcomes.{three_outcome};
 use crate::cause;
 use crate::effects::{moves, puts};
 use crate::outcome::{Effect, Outcome};
-use xt_alu::arithmetic::{addx, bit_and, bit_or, bit_xor, max, maxu, min, minu, subx};
-use xt_alu::conditions::{Cond, holds};
-use xt_alu::multiply::{mul16s, mul16u, mull, mulsh, muluh, quos, quou, rems, remu};
-use xt_alu::shifts::src;
 use xt_isa::three::{
     AddName, AndName, DivideName, MinName, MoveName, Mul16Name, MulHighName, SubName, Three,
 };
+use xt_word::arithmetic::{addx, bit_and, bit_or, bit_xor, max, maxu, min, minu, subx};
+use xt_word::conditions::{Cond, holds};
+use xt_word::multiply::{mul16s, mul16u, mull, mulsh, muluh, quos, quou, rems, remu};
+use xt_word::shifts::src;
 
 #[tactic(auto, unfolding(crate::specs::Outcomes::three_outcome))]
 #[inline(always)]

@@ -1,7 +1,9 @@
 pub mod Memory
 pub mod Analyses
+pub mod Exits
 pub mod Requirements
 pub mod Traces
 pub mod Verdicts
 pub mod Generating
 pub mod Runs
+pub mod Told

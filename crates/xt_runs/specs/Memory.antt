@@ -5,7 +5,7 @@ use Rattle.xt_image.specs.declared.image.Image.{Image}
 use Rattle.xt_trace.specs.declared.run.Run.{Run}
 use Rattle.xt_core.specs.Positions.{schedule_in}
 use Rattle.xt_replay.specs.Shown.{Shown, byte_in, shown_at}
-use Rattle.xt_memory_text.specs.Printed.{words_text}
+use Rattle.xt_replay.specs.Printed.{words_text}
 use Rattle.xt_command_line.specs.declared.options.RunOptions.{RunOptions}
 use Rattle.xt_command_line.specs.declared.spans.Span.{Span}
 

@@ -2,14 +2,12 @@
 --
 -- Profile: a core that has no turns need not end by a BREAK. A requirement needs no other option:
 -- what it asks of uses or races is looked for if it is asked for.
-use Rattle.std.specs.Prelude.{◌≡◌, ℕ, nat_lt, Bool, false, if◌then◌else◌, Option, Some, None, List}
+use Rattle.std.specs.Prelude.{◌≡◌, ℕ, if◌then◌else◌, Option, Some, None, List}
 use Rattle.std.specs.Prelude.{[], ◌∷◌, ◌++◌, codes}
 use Rattle.std.specs.List.{concat}
 use Rattle.std.specs.Fmt.{decimal}
 use Rattle.xt_image.specs.declared.image.Image.{Image}
 use Rattle.xt_trace.specs.declared.run.Run.{Run}
-use Rattle.xt_trace.specs.declared.trace.Stop.{Stop}
-use Rattle.xt_trace.specs.declared.trace.Stop.TheVariants as stop
 use Rattle.xt_frames.specs.declared.kinds.Judged.{Judged}
 use Rattle.xt_frames.specs.declared.kinds.Judged.TheVariants as judged
 use Rattle.xt_race.specs.Races.{IsFirstRace, events_of}
@@ -24,18 +22,10 @@ use Rattle.xt_command_line.specs.declared.requirements.Requirement.{Requirement}
 use Rattle.xt_command_line.specs.declared.requirements.Requirement.TheVariants as requirement
 use Rattle.xt_report.specs.Breaches.{breach_text}
 use Rattle.xt_report.specs.Verdicts.{frames_line}
-use Rattle.xt_report.specs.declared.whole.Whole.{Whole}
+use Rattle.xt_runs.specs.Exits.{is_used_up, stop_line, unmet_exit}
+use Rattle.xt_runs.specs.Verdicts.{whole_of}
 
 -- ---- `break`
-
--- a core that had turns ended without a BREAK
-abbrev pub is_used_up : ℕ → Stop → Bool
-is_used_up turns stop.Break = false
-is_used_up turns stop.Turns = nat_lt 0 turns
-
--- `core C stop turns`
-abbrev pub stop_line : ℕ → List ℕ
-stop_line core = codes "core " ++ decimal core ++ codes " stop turns\n"
 
 abbrev pub unmet_break : Run → Option (List ℕ)
 unmet_break r =
@@ -70,17 +60,18 @@ unmet_race (Some r) =
 -- ---- a list of requirements
 
 -- the line that says that the run does not meet a requirement, or none if it does
-abbrev pub IsUnmetBy : Requirement → Image → Whole → Option (List ℕ) → Type 0
-IsUnmetBy requirement.Break image w line = line ≡ unmet_break w.run
-IsUnmetBy requirement.Whole image w line = line ≡ unmet_whole w.judged
-IsUnmetBy requirement.Used image w line =
+abbrev pub IsUnmetBy : Requirement → Image → Run → Option (List ℕ) → Type 0
+IsUnmetBy requirement.Break image r line = line ≡ unmet_break r
+IsUnmetBy requirement.Whole image r line = line ≡ unmet_whole (whole_of image r).judged
+IsUnmetBy requirement.Used image r line =
     (found : Uses)
-    × IsUsesOf Strict (is_checked image w.run) (course_of image w.run) found
+    × IsUsesOf Strict (is_checked image r) (course_of image r) found
     × (line ≡ unmet_used found)
-IsUnmetBy requirement.RaceFree image w line =
+IsUnmetBy requirement.RaceFree image r line =
     (found : Option Race)
-    × IsFirstRace (events_of image w.run) found
+    × IsFirstRace (events_of image r) found
     × (line ≡ unmet_race found)
+IsUnmetBy requirement.Exit0 image r line = line ≡ unmet_exit image r
 
 -- this line, or else what follows
 abbrev pub IsThisOr :
@@ -89,17 +80,17 @@ IsThisOr (Some this) Follows line = line ≡ Some this
 IsThisOr None Follows line = Follows line
 
 -- the line of the first requirement that the run does not meet, or none
-abbrev pub IsUnmetIn : List Requirement → Image → Whole → Option (List ℕ) → Type 0
-IsUnmetIn [] image w line = line ≡ None
-IsUnmetIn (r ∷ rest) image w line =
+abbrev pub IsUnmetIn : List Requirement → Image → Run → Option (List ℕ) → Type 0
+IsUnmetIn [] image r line = line ≡ None
+IsUnmetIn (one ∷ rest) image r line =
     (this : Option (List ℕ))
-    × IsUnmetBy r image w this
-    × IsThisOr this (IsUnmetIn rest image w) line
+    × IsUnmetBy one image r this
+    × IsThisOr this (IsUnmetIn rest image r) line
 
 -- the same of the words of a run, which need not require anything
-abbrev pub IsUnmetFor : Option (List Requirement) → Image → Whole → Option (List ℕ) → Type 0
-IsUnmetFor None image w line = line ≡ None
-IsUnmetFor (Some list) image w line = IsUnmetIn list image w line
+abbrev pub IsUnmetFor : Option (List Requirement) → Image → Run → Option (List ℕ) → Type 0
+IsUnmetFor None image r line = line ≡ None
+IsUnmetFor (Some list) image r line = IsUnmetIn list image r line
 
-abbrev pub IsUnmet : RunOptions → Image → Whole → Option (List ℕ) → Type 0
-IsUnmet o image w line = IsUnmetFor o.required image w line
+abbrev pub IsUnmet : RunOptions → Image → Run → Option (List ℕ) → Type 0
+IsUnmet o image r line = IsUnmetFor o.required image r line

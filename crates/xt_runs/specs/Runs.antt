@@ -1,8 +1,8 @@
 -- What each status of `run`, `record` and `gen` says ('profile').
 --
--- Note: `IsRunOfImage` is said of the run that is handed out, and `run_text` of what is written;
--- `IsJudged` ties the report's handlers and verdict to the definitions: `verdict` to the walk,
--- `first` to the whole lists of records; and `framed` says what the verdict is good for.
+-- Note: `IsRunOfImage` is said of the run that is handed out, and `IsText` of what is written;
+-- `whole_of` ties the report's handlers and verdict to the walk, `first` of `IsJudged` to the whole
+-- lists of records; and `framed` says what the verdict is good for.
 use Rattle.std.specs.Prelude.{◌≡◌, ◌≤◌, ◌+◌, ◌⊎◌, ℕ, List, length, Option, Some, None}
 use Rattle.std.specs.Io.KnownBytes.{Appends, Keeps}
 use Rattle.xt_io.specs.Causes.{Rose}
@@ -33,7 +33,7 @@ use Rattle.xt_runs.specs.Analyses.{AreAnalyses}
 use Rattle.xt_runs.specs.Requirements.{IsUnmet}
 use Rattle.xt_runs.specs.Traces.{output_text}
 use Rattle.xt_runs.specs.Generating.{gen_options, gen_text}
-use Rattle.xt_runs.specs.Verdicts.{IsJudged}
+use Rattle.xt_runs.specs.Verdicts.{IsJudged, whole_of}
 
 abbrev pub image_limit : ℕ
 image_limit = 8388608
@@ -76,11 +76,11 @@ pub record IsRunOfImage (o : RunOptions) (image : Image) (run : Run) : Type 0 wh
   pub framed : IsFramed image run
   pub ordered : IsOrdered (cores_of_options o) o image run
 
--- the input is an image, and this is its run, and what is found of it
-pub record IsRunOfInput (o : RunOptions) (input : List ℕ) (w : Whole) : Type 0 where
+-- the input is an image, and this is its run, with what is so of its verdict
+pub record IsRunOfInput (o : RunOptions) (input : List ℕ) (run : Run) : Type 0 where
   pub image : image_fault input ≡ None
-  pub is_run : IsRunOfImage o (image_of input) w.run
-  pub judged : IsJudged (image_of input) w
+  pub is_run : IsRunOfImage o (image_of input) run
+  pub judged : IsJudged (image_of input) run
 
 -- what `run` writes of a run of an image: its report, the texts of the analyses that the words ask
 -- for, and where they ask for them the lines of its traces, which are those of the records that the
@@ -91,43 +91,46 @@ run_text o image w analyses =
     (records_of 0 image w.run).records (records_of 1 image w.run).records
 
 -- what is written of it: that, or its recording
-abbrev pub wanted_text : Wanted → RunOptions → Image → Whole → List ℕ → List ℕ
-wanted_text wanted.Report o image w analyses = run_text o image w analyses
-wanted_text wanted.Recording o image w analyses = recording_bytes image w.run
+abbrev pub IsText : Wanted → RunOptions → Image → Run → List ℕ → Type 0
+IsText wanted.Report o image run text =
+    (analyses : List ℕ)
+    × AreAnalyses o image run analyses
+    × (text ≡ run_text o image (whole_of image run) analyses)
+IsText wanted.Recording o image run text = text ≡ recording_bytes image run
 
 -- ---- the statuses of a run
 
 -- this is the run of an input, this line says which requirement it does not meet, or there is none,
--- these are its analyses, and this is so of what is written of them
-pub record IsOutput (t : Wanted) (o : RunOptions) (P : List ℕ → Type 0) (w : Whole)
-    (unmet : Option (List ℕ)) (analyses input : List ℕ) : Type 0 where
-  pub is_run : IsRunOfInput o input w
-  pub is_unmet : IsUnmet o (image_of input) w unmet
-  pub are_analyses : AreAnalyses o (image_of input) w.run analyses
-  pub written : P (wanted_text t o (image_of input) w analyses)
+-- and this is so of what is written of it
+pub record IsOutput (t : Wanted) (o : RunOptions) (P : List ℕ → Type 0) (run : Run)
+    (unmet : Option (List ℕ)) (input : List ℕ) : Type 0 where
+  pub is_run : IsRunOfInput o input run
+  pub is_unmet : IsUnmet o (image_of input) run unmet
+  pub text : List ℕ
+  pub is_text : IsText t o (image_of input) run text
+  pub written : P text
 
 -- the input was read to its end, this is its run, with the line of a requirement that it does not
 -- meet, and this is so of what is written of it
 abbrev pub HasRun :
-    Wanted → RunOptions → Ends → Whole → Option (List ℕ) → (List ℕ → Type 0) → Type 0
-HasRun t o e w unmet P =
-    (analyses : List ℕ) × ReadsWhole image_limit e (IsOutput t o P w unmet analyses)
+    Wanted → RunOptions → Ends → Run → Option (List ℕ) → (List ℕ → Type 0) → Type 0
+HasRun t o e run unmet P = ReadsWhole image_limit e (IsOutput t o P run unmet)
 
 -- nothing was written, or a prefix of what is written of the input's run
 abbrev pub WritesPrefix : Wanted → RunOptions → Ends → Type 0
 WritesPrefix t o e =
     Keeps e.told e.told_after
-    ⊎ ((w : Whole)
+    ⊎ ((run : Run)
     × (unmet : Option (List ℕ))
-    × HasRun t o e w unmet (AppendsPrefix e.told e.told_after))
+    × HasRun t o e run unmet (AppendsPrefix e.told e.told_after))
 
 -- Each status of a run with these options, with its cause and what was written. The byte after the
 -- limit was taken exactly where it is `TooLarge`.
 abbrev pub Runs :
-    Wanted → RunOptions → Ends → Status → Option Whole → Option (List ℕ) → Type 0
-Runs t o e status.Done (Some w) unmet = HasRun t o e w unmet (Appends e.told e.told_after)
-Runs t o e status.WriteFault (Some w) unmet =
-    HasRun t o e w unmet (AppendsPrefix e.told e.told_after)
+    Wanted → RunOptions → Ends → Status → Option Run → Option (List ℕ) → Type 0
+Runs t o e status.Done (Some run) unmet = HasRun t o e run unmet (Appends e.told e.told_after)
+Runs t o e status.WriteFault (Some run) unmet =
+    HasRun t o e run unmet (AppendsPrefix e.told e.told_after)
     × Rose e.sink_faults e.sink_faults_after
 Runs t o e (status.Image f) None None =
     ReadsWhole image_limit e (λ input. image_fault input ≡ Some f) × Keeps e.told e.told_after
@@ -144,23 +147,29 @@ Runs t o e _ _ _ = ⊥
 
 -- ---- the statuses of `gen`
 
--- this is a run of the image that is made of the number, and what is found of it
-pub record IsGenerated (number : ℕ) (w : Whole) : Type 0 where
-  pub is_run : IsRunOfImage gen_options (generated_image number) w.run
-  pub judged : IsJudged (generated_image number) w
+-- this is a run of the image that is made of the number, with what is so of its verdict
+pub record IsGenerated (number : ℕ) (run : Run) : Type 0 where
+  pub is_run : IsRunOfImage gen_options (generated_image number) run
+  pub judged : IsJudged (generated_image number) run
+
+-- its summary
+abbrev pub generated_text : ℕ → Run → List ℕ
+generated_text number run = gen_text number (whole_of (generated_image number) run)
 
 -- each status, with its cause and what was written
 abbrev pub Generates :
-    ℕ → Option (List ℕ) → Option (List ℕ) → ℕ → ℕ → Status → Option Whole → Type 0
-Generates number told told_after faults faults_after status.Done (Some w) =
-    IsGenerated number w × Appends told told_after (gen_text number w)
-Generates number told told_after faults faults_after status.WriteFault (Some w) =
-    IsGenerated number w
-    × AppendsPrefix told told_after (gen_text number w)
+    ℕ → Option (List ℕ) → Option (List ℕ) → ℕ → ℕ → Status → Option Run → Type 0
+Generates number told told_after faults faults_after status.Done (Some run) =
+    IsGenerated number run × Appends told told_after (generated_text number run)
+Generates number told told_after faults faults_after status.WriteFault (Some run) =
+    IsGenerated number run
+    × AppendsPrefix told told_after (generated_text number run)
     × Rose faults faults_after
 Generates number told told_after faults faults_after status.Memory None =
     Keeps told told_after
-    ⊎ ((w : Whole) × IsGenerated number w × AppendsPrefix told told_after (gen_text number w))
+    ⊎ ((run : Run)
+    × IsGenerated number run
+    × AppendsPrefix told told_after (generated_text number run))
 Generates number told told_after faults faults_after _ _ = ⊥
 
 -- ---- completeness

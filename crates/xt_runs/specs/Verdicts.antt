@@ -35,16 +35,20 @@ IsFirstOf course judged.Unchecked = Unit {0}
 IsFirstOf course judged.Whole = (p : ℕ) × IsFirstBreach course p None
 IsFirstOf course (judged.Broken b) = (p : ℕ) × IsFirstBreach course p (Some b)
 
--- What is found of a run of the image: the answers for the image's window handlers are those of the
+-- a run of an image with what is found of it: the answers for the window handlers are those of the
 -- six vectors from the VECBASE on with which the run opens, and the verdict is that of the run's
--- records.
-pub record IsJudged (image : Image) (w : Whole) : Type 0 where
-  pub handlers : w.handlers ≡ handlers_of (code_of image) w.run.options.vecbase
-  pub verdict : w.judged ≡ judged_of w.handlers image w.run
+-- records
+abbrev pub whole_of : Image → Run → Whole
+whole_of image r =
+    let handlers = handlers_of (code_of image) r.options.vecbase in
+    record { run = r; handlers = handlers; judged = judged_of handlers image r }
+
+-- what is so of the verdict of a run of an image
+pub record IsJudged (image : Image) (r : Run) : Type 0 where
   -- the breach that it names is the first of the run, and it names one where there is one
-  pub first : IsFirstOf (course_of image w.run) w.judged
+  pub first : IsFirstOf (course_of image r) (whole_of image r).judged
   -- where the verdict is not `none` and the two stacks are apart, the judged steps before the first
   -- breach are a run of the machine with unbounded call frames; where it is `whole`, that is all of
   -- them
-  pub frames : w.judged ≢ judged.Unchecked → IsFrameRunOf image w.run
-  pub whole : w.judged ≡ judged.Whole → (judgement_of image w.run).breach ≡ None
+  pub frames : (whole_of image r).judged ≢ judged.Unchecked → IsFrameRunOf image r
+  pub whole : (whole_of image r).judged ≡ judged.Whole → (judgement_of image r).breach ≡ None

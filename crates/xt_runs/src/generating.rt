@@ -1,11 +1,12 @@
 //! The command `gen`.
 ghost use Rattle.std.specs.Prelude.{◌≡◌, None, IfOk};
-ghost use Rattle.xt_runs.specs.Generating.{gen_options, gen_text};
-ghost use Rattle.xt_runs.specs.Runs.{FinishesGen, Generates, IsGenerated};
+ghost use Rattle.xt_runs.specs.Generating.{gen_options};
+ghost use Rattle.xt_runs.specs.Runs.{FinishesGen, Generates, IsGenerated, generated_text};
 ghost use Rattle.xt_command_line.specs.Options.{AreValid};
 
 use crate::outcome::{Outcome, without_run};
-use crate::runs::judge_image;
+use crate::runs::run_image;
+use crate::verdicts::{judged, verdict_is_so};
 use std::alloc::{AllocError, Global};
 use std::sync::Wait;
 use std::thread::Threads;
@@ -14,9 +15,9 @@ use xt_gen::generated_image;
 use xt_image::written_length;
 use xt_io::{Gate, Refused, Sink};
 use xt_map::Text;
-use xt_report::{Whole, summary};
+use xt_report::summary;
 use xt_status::{Status, write_text};
-use xt_trace::Stack;
+use xt_trace::{Run, Stack};
 
 // The options with which the image of a number runs.
 fn gen_options() -> RunOptions
@@ -47,22 +48,24 @@ fn gen_options() -> RunOptions
     }
 }
 
-// The run of the image of a number, with what is found of it, and its summary.
+// The run of the image of a number, and its summary.
 fn run_generated<G: Gate, R: Threads + Wait + Sync>(
     rt: &R,
     alloc: Global,
     number: u32,
     gate: &G,
-) -> Result<(Whole, Text), AllocError>
+) -> Result<(Run, Text), AllocError>
     ensures run { IfOk result (λ made. IsGenerated number made.0) }
-    ensures text { IfOk result (λ made. made.1 ≡ gen_text number made.0) }
+    ensures text { IfOk result (λ made. made.1 ≡ generated_text number made.0) }
 {
     let image = generated_image(alloc, number)?;
     let size = written_length(&image);
     let options = gen_options();
-    let whole = judge_image(rt, alloc, &options, &image, gate)?;
+    let run = run_image(rt, alloc, &options, &image, gate)?;
+    verdict_is_so(&image, &run);
+    let whole = judged(alloc, &image, run)?;
     let text = summary(alloc, number, size, &whole)?;
-    Ok((whole, text))
+    Ok((whole.run, text))
 }
 
 /// Runs the image of a number, and writes its summary. It may wait.
@@ -74,11 +77,11 @@ pub fn generate<K: Sink, G: Gate, R: Threads + Wait + Sync>(
     gate: &G,
 ) -> Outcome
     ensures answers { Generates number (K.told sink.old) (K.told sink.new) (K.faults sink.old) (K.faults sink.new)
-        result.status result.whole }
+        result.status result.run }
     ensures unmet { result.unmet ≡ None }
     ensures complete { FinishesGen (K.faults sink.old) (K.faults sink.new) result.status }
 {
-    let Ok((whole, text)) = run_generated(rt, alloc, number, gate) else {
+    let Ok((run, text)) = run_generated(rt, alloc, number, gate) else {
         return without_run(Status::Memory);
     };
     let status = match write_text(&text, sink) {
@@ -88,7 +91,7 @@ pub fn generate<K: Sink, G: Gate, R: Threads + Wait + Sync>(
     };
     Outcome {
         status,
-        whole: Some(whole),
+        run: Some(run),
         unmet: None,
     }
 }

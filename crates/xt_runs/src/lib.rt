@@ -2,6 +2,7 @@
 #![tactic(auto)]
 
 mod analyses;
+mod exits;
 mod generating;
 mod memory;
 mod outcome;
@@ -9,6 +10,7 @@ mod output;
 mod requirements;
 mod running;
 mod runs;
+mod told;
 mod verdicts;
 
 pub use analyses::analyses_text;

@@ -9,8 +9,7 @@ use std::alloc::{AllocError, Global};
 use xt_command_line::{RunOptions, Span};
 use xt_image::Image;
 use xt_map::Text;
-use xt_memory_text::{end_of, push_words};
-use xt_replay::{Replay, State};
+use xt_replay::{Replay, State, end_of, push_words};
 use xt_trace::Run;
 
 // Appends a line for each place.
@@ -29,7 +28,11 @@ fn push_spans(
 }
 
 // The replay of a run at its end.
-fn at_end<'a>(alloc: Global, image: &'a Image, run: &'a Run) -> Result<Replay<'a>, AllocError>
+pub(crate) fn at_end<'a>(
+    alloc: Global,
+    image: &'a Image,
+    run: &'a Run,
+) -> Result<Replay<'a>, AllocError>
     requires run { IsRunOf image.now run.now }
     requires placed { IsPlaced image.now.segments }
     ensures { IfOk result (λ replay. shown_at replay.image replay.run replay.position ≡ shown_last image.now run.now) }

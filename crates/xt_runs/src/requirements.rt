@@ -1,38 +1,23 @@
 //! Which requirement a run does not meet.
-ghost use Rattle.std.specs.Prelude.{◌≡◌, IfOk};
-ghost use Rattle.xt_runs.specs.Requirements.{IsUnmet, IsUnmetBy, IsUnmetIn, is_used_up, stop_line, unmet_break, unmet_race, unmet_used, unmet_whole};
+ghost use Rattle.std.specs.Prelude.{◌≡◌, IfOk, IfSome};
+ghost use Rattle.xt_runs.specs.Requirements.{IsUnmet, IsUnmetBy, IsUnmetIn, unmet_break, unmet_race, unmet_used, unmet_whole};
+ghost use Rattle.xt_runs.specs.Verdicts.{whole_of};
 ghost use Rattle.xt_core.specs.Runs.{IsRunOf};
 ghost use Rattle.xt_image.specs.ImageParts.{IsWellFormed};
 
+use crate::exits::{is_used_up, stop_line, unmet_exit};
+use crate::verdicts::verdict_of;
 use std::alloc::{AllocError, Global};
 use xt_command_line::{Requirement, RunOptions};
 use xt_frames::Judged;
 use xt_image::{Image, well_formed_is_placed};
 use xt_map::Text;
 use xt_race::{Race, first_race};
-use xt_report::{Whole, breach_text, frames_line};
-use xt_trace::{Run, Stop};
+use xt_report::{breach_text, frames_line};
+use xt_trace::Run;
 use xt_use_report::uses_of;
 use xt_use_walk::Uses;
 use xt_uses::Discipline;
-
-// A core that had turns ended without a BREAK.
-fn is_used_up(turns: u32, stop: Stop) -> bool
-    ensures { result ≡ is_used_up turns stop }
-{
-    match stop {
-        Stop::Break => false,
-        Stop::Turns => turns > 0,
-    }
-}
-
-// The line of a core that ended without a BREAK.
-fn stop_line(alloc: Global, core: u8) -> Result<Text, AllocError>
-    ensures { IfOk result (λ line. line ≡ stop_line core) }
-{
-    let line = format!(in alloc; "core {core} stop turns\n")?;
-    Ok(Text::new(line.into_bytes()))
-}
 
 // The line of the first core that had turns and ended without a BREAK.
 fn unmet_break(alloc: Global, run: &Run) -> Result<Option<Text>, AllocError>
@@ -100,24 +85,30 @@ fn unmet_by(
     alloc: Global,
     requirement: Requirement,
     image: &Image,
-    whole: &Whole,
+    run: &Run,
+    known: Option<Judged>,
 ) -> Result<Option<Text>, AllocError>
     requires image { IsWellFormed image.now }
-    requires run { IsRunOf image.now whole.now.run }
-    ensures { IfOk result (IsUnmetBy requirement image.now whole.now) }
+    requires run { IsRunOf image.now run.now }
+    requires known { IfSome known (λ j. j ≡ (whole_of image.now run.now).judged) }
+    ensures { IfOk result (IsUnmetBy requirement image.now run.now) }
 {
     match requirement {
-        Requirement::Break => unmet_break(alloc, &whole.run),
-        Requirement::Whole => unmet_whole(alloc, whole.judged),
+        Requirement::Break => unmet_break(alloc, run),
+        Requirement::Whole => {
+            let judged = verdict_of(alloc, image, run, known)?;
+            unmet_whole(alloc, judged)
+        }
         Requirement::Used => {
-            let uses = uses_of(alloc, Discipline::Strict, image, &whole.run)?;
+            let uses = uses_of(alloc, Discipline::Strict, image, run)?;
             unmet_used(alloc, &uses)
         }
         Requirement::RaceFree => {
             well_formed_is_placed();
-            let found = first_race(alloc, image, &whole.run)?;
+            let found = first_race(alloc, image, run)?;
             unmet_race(alloc, found)
         }
+        Requirement::Exit0 => unmet_exit(alloc, image, run),
     }
 }
 
@@ -126,14 +117,16 @@ fn unmet_in(
     alloc: Global,
     list: &[Requirement],
     image: &Image,
-    whole: &Whole,
+    run: &Run,
+    known: Option<Judged>,
 ) -> Result<Option<Text>, AllocError>
     requires image { IsWellFormed image.now }
-    requires run { IsRunOf image.now whole.now.run }
-    ensures { IfOk result (IsUnmetIn list.now image.now whole.now) }
+    requires run { IsRunOf image.now run.now }
+    requires known { IfSome known (λ j. j ≡ (whole_of image.now run.now).judged) }
+    ensures { IfOk result (IsUnmetIn list.now image.now run.now) }
 {
     for requirement in list {
-        match unmet_by(alloc, *requirement, image, whole)? {
+        match unmet_by(alloc, *requirement, image, run, known)? {
             Some(line) => return Ok(Some(line)),
             None => {}
         }
@@ -143,21 +136,25 @@ fn unmet_in(
 
 /// The line of the first requirement of the words that a run of an image does not meet, in their order; none where it
 /// meets all. It is the line that says so in the report, or the first line of the text of `uses` or `race`; of a core
-/// that ended without a BREAK it is `core C stop turns`. The only error is running out of memory.
+/// that ended without a BREAK it is `core C stop turns`, and of one that ended otherwise than `exit0` requires `core C
+/// stop break pc ADDR` or `core C a2 VALUE`. The only error is running out of memory.
 ///
-/// Conditions: the image is well formed, and the run is one of this image.
+/// Conditions: the image is well formed, the run is one of this image, and the verdict that is known is the run's. If
+/// none is known, the run is judged only where a requirement asks for its verdict.
 pub fn unmet_of(
     alloc: Global,
     options: &RunOptions,
     image: &Image,
-    whole: &Whole,
+    run: &Run,
+    known: Option<Judged>,
 ) -> Result<Option<Text>, AllocError>
     requires image { IsWellFormed image.now }
-    requires run { IsRunOf image.now whole.now.run }
-    ensures { IfOk result (IsUnmet options.now image.now whole.now) }
+    requires run { IsRunOf image.now run.now }
+    requires known { IfSome known (λ j. j ≡ (whole_of image.now run.now).judged) }
+    ensures { IfOk result (IsUnmet options.now image.now run.now) }
 {
     match &options.required {
-        Some(list) => unmet_in(alloc, list.as_slice(), image, whole),
+        Some(list) => unmet_in(alloc, list.as_slice(), image, run, known),
         None => Ok(None),
     }
 }

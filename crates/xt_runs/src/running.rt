@@ -4,15 +4,17 @@ ghost use Rattle.xt_command_line.specs.Options.{AreValid};
 ghost use Rattle.xt_core.specs.Runs.{IsRunOf};
 ghost use Rattle.xt_image.specs.ImageParts.{IsWellFormed};
 ghost use Rattle.xt_record.specs.Written.{recording_bytes};
-ghost use Rattle.xt_runs.specs.Runs.{FinishesRun, Runs, run_text, wanted_text};
+ghost use Rattle.xt_runs.specs.Runs.{FinishesRun, Runs, run_text};
+ghost use Rattle.xt_runs.specs.Told.{run_in, told_text};
 ghost use Rattle.xt_status.specs.Calls.{ends};
 ghost use Rattle.xt_status.specs.Writes.{Writes};
 
-use crate::analyses::analyses_text;
 use crate::outcome::{Outcome, Wanted, without_run};
 use crate::output::{write_analyzed, write_traced};
 use crate::requirements::unmet_of;
-use crate::runs::judge_image;
+use crate::runs::run_image;
+use crate::told::{Told, told_of};
+use crate::verdicts::verdict_is_so;
 use std::alloc::Global;
 use std::sync::Wait;
 use std::thread::Threads;
@@ -73,24 +75,22 @@ fn write_recorded<K: Sink>(
 }
 
 // Writes what is wanted of a run of an image.
-fn write_wanted<K: Sink>(
+fn write_told<K: Sink>(
     alloc: Global,
-    wanted: Wanted,
     options: &RunOptions,
     image: &Image,
-    whole: &Whole,
-    analyses: &Text,
+    told: &Told,
     sink: &mut K,
 ) -> Result<(), Refused>
     requires image { IsWellFormed image.now }
-    requires run { IsRunOf image.now whole.now.run }
+    requires run { IsRunOf image.now (run_in told.now) }
     ensures { Writes result
         (K.told sink.old) (K.told sink.new) (K.faults sink.old) (K.faults sink.new)
-        (wanted_text wanted options.now image.now whole.now analyses.now) }
+        (told_text options.now image.now told.now) }
 {
-    match wanted {
-        Wanted::Report => write_whole(alloc, options, image, whole, analyses, sink),
-        Wanted::Recording => write_recorded(alloc, image, &whole.run, sink),
+    match told {
+        Told::Report(whole, analyses) => write_whole(alloc, options, image, whole, analyses, sink),
+        Told::Recording(run) => write_recorded(alloc, image, run, sink),
     }
 }
 
@@ -106,7 +106,7 @@ pub fn run_source<S: Source, K: Sink, G: Gate, R: Threads + Wait + Sync>(
 ) -> Outcome
     requires { AreValid options.now }
     ensures answers { Runs wanted options.now (ends S.left S.faults source.old source.new K.told K.faults sink.old sink.new)
-        result.status result.whole result.unmet }
+        result.status result.run result.unmet }
     ensures complete { FinishesRun (ends S.left S.faults source.old source.new K.told K.faults sink.old sink.new)
         result.status }
 {
@@ -120,23 +120,24 @@ pub fn run_source<S: Source, K: Sink, G: Gate, R: Threads + Wait + Sync>(
         Ok(image) => image,
         Err(status) => return without_run(status),
     };
-    let Ok(whole) = judge_image(rt, alloc, options, &image, gate) else {
+    let Ok(run) = run_image(rt, alloc, options, &image, gate) else {
         return without_run(Status::Memory);
     };
-    let Ok(analyses) = analyses_text(alloc, options, &image, &whole.run) else {
+    verdict_is_so(&image, &run);
+    let Ok(told) = told_of(alloc, wanted, options, &image, run) else {
         return without_run(Status::Memory);
     };
-    let Ok(unmet) = unmet_of(alloc, options, &image, &whole) else {
+    let Ok(unmet) = unmet_of(alloc, options, &image, told.run(), told.verdict()) else {
         return without_run(Status::Memory);
     };
-    let status = match write_wanted(alloc, wanted, options, &image, &whole, &analyses, sink) {
+    let status = match write_told(alloc, options, &image, &told, sink) {
         Ok(()) => Status::Done,
         Err(Refused::Failed) => Status::WriteFault,
         Err(Refused::Memory) => return without_run(Status::Memory),
     };
     Outcome {
         status,
-        whole: Some(whole),
+        run: Some(told.into_run()),
         unmet,
     }
 }

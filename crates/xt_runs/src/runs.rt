@@ -1,11 +1,9 @@
 //! Runs of an image, with what is found of them.
 ghost use Rattle.std.specs.Prelude.{◌≡◌, ◌<◌, All, IfOk, IfSome, None, Some, option_map};
 ghost use Rattle.xt_runs.specs.Runs.{IsRunOfImage, cores_for, cores_of_options};
-ghost use Rattle.xt_runs.specs.Verdicts.{IsJudged};
 ghost use Rattle.xt_image.specs.ImageParts.{IsWellFormed};
 ghost use Rattle.xt_command_line.specs.Options.{AreValid};
 
-use crate::verdicts::judged;
 use std::alloc::{AllocError, Global};
 use std::sync::Wait;
 use std::thread::Threads;
@@ -14,7 +12,6 @@ use xt_gen::seeded_order;
 use xt_image::{Image, well_formed_by_rules};
 use xt_io::Gate;
 use xt_machine::{run, run_is_that_of_its_schedule, run_schedule};
-use xt_report::Whole;
 use xt_trace::Run;
 
 // The list of cores that an order stands for, with so many turns for both cores; none stands for two threads.
@@ -72,8 +69,10 @@ fn run_free<G: Gate, R: Threads + Wait + Sync>(
     run(rt, alloc, image, &options, gate)
 }
 
-// The run of an image with the options of the words.
-fn run_image<G: Gate, R: Threads + Wait + Sync>(
+/// The run of an image with the options of the words.
+///
+/// Conditions: the options are valid, and the image is well formed.
+pub(crate) fn run_image<G: Gate, R: Threads + Wait + Sync>(
     rt: &R,
     alloc: Global,
     options: &RunOptions,
@@ -89,21 +88,4 @@ fn run_image<G: Gate, R: Threads + Wait + Sync>(
         Some(cores) => run_over(alloc, options, image, &cores),
         None => run_free(rt, alloc, options, image, gate),
     }
-}
-
-// The same run with what is found of it.
-pub(crate) fn judge_image<G: Gate, R: Threads + Wait + Sync>(
-    rt: &R,
-    alloc: Global,
-    options: &RunOptions,
-    image: &Image,
-    gate: &G,
-) -> Result<Whole, AllocError>
-    requires valid { AreValid options.now }
-    requires image { IsWellFormed image.now }
-    ensures run { IfOk result (λ w. IsRunOfImage options.now image.now w.run) }
-    ensures judged { IfOk result (λ w. IsJudged image.now w) }
-{
-    let run = run_image(rt, alloc, options, image, gate)?;
-    judged(alloc, image, run)
 }

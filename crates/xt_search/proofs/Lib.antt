@@ -1,4 +1,5 @@
 pub mod Numbers
+pub mod Chaining
 pub mod Endings
 pub mod Marking
 pub mod Meeting

@@ -1,4 +1,5 @@
 pub mod Worlds
 pub mod Graphs
+pub mod Chains
 pub mod Ends
 pub mod Meetings

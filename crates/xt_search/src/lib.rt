@@ -15,6 +15,3 @@ pub use machine::Machine;
 pub use marks::marks_of;
 pub use orders::order_to;
 pub use seeking::search;
-
-#[cfg(test)]
-mod tests;

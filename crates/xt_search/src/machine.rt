@@ -20,6 +20,12 @@ pub trait Machine {
     /// The search has to end before this core makes its turn in this world.
     ghost bars: { Self → ℕ → Self.World → Bool };
 
+    /// Two worlds are the same.
+    ghost Same: { Self → Self.World → Self.World → Type 0 };
+
+    /// A number is the digest of a world.
+    ghost IsMark: { Self → Self.World → ℕ → Type 0 };
+
     /// Whether the search has to end before a core makes its turn.
     fn is_barred(&self, world: &Self::World, core: u8) -> bool
         requires { core < 2 }
@@ -37,15 +43,20 @@ pub trait Machine {
         requires free { bars self.now core world.now ≡ false }
         ensures { IfOk result (λ w. Leads self.now core world.now w) };
 
-    /// Whether two worlds were seen to hold the same: then a turn that leads to the second one leads to the
-    /// first one too.
+    /// Whether two worlds are the same: then a turn that leads to the second one leads to the first one
+    /// too.
     fn is_same(&self, a: &Self::World, b: &Self::World) -> bool
-        ensures { result ≡ true → (c : ℕ) (w : Self.World) → Leads self.now c w b.now → Leads self.now c w a.now };
+        ensures leads { result ≡ true → (c : ℕ) (w : Self.World) → Leads self.now c w b.now → Leads self.now c w a.now }
+        ensures differ { result ≡ false → Same self.now a.now b.now → ⊥ };
 
     /// Whether both cores have ended.
     fn is_end(&self, world: &Self::World) -> bool
         ensures { result ≡ ends self.now world.now };
 
-    /// A number that is the same for worlds that hold the same.
-    fn digest(&self, world: &Self::World) -> u64;
+    /// The digest of a world.
+    fn digest(&self, world: &Self::World) -> u64
+        ensures { IsMark self.now world.now result };
+
+    /// Worlds that are the same have one digest.
+    ghost marks_agree: { (s : Self) (a b : Self.World) (m n : ℕ) → Same s a b → IsMark s a m → IsMark s b n → m ≡ n };
 }

@@ -1,5 +1,6 @@
 //! The search: it keeps each world once, and asks of each where its turns lead.
 ghost use Rattle.std.specs.Prelude.{◌≡◌, ◌+◌, ◌<◌, ◌≤◌, ◌⊎◌, true, false, None, IfOk, IfSome, IfNone, OnOk, length, max};
+ghost use Rattle.xt_search.specs.Chains.{AreDistinct, IsTable};
 ghost use Rattle.xt_search.specs.Graphs.{IsAt, IsBarredAt, IsGraph, IsMore, IsNext, IsWhole, OpensWith};
 
 use crate::graph::{Barred, Graph, Kept, Nexts};
@@ -19,10 +20,14 @@ fn next<M: Machine>(
     most: u32,
 ) -> Result<Option<u32>, AllocError>
     requires graph { IsGraph (M.Leads machine.now) graph.old }
+    requires table { IsTable (M.IsMark machine.now) graph.old.table graph.old.kept.items }
+    requires distinct { AreDistinct (M.Same machine.now) graph.old.kept.items }
     requires from { from < length graph.old.kept.items }
     requires core { core < 2 }
     requires free { graph.old.barred ≡ None }
     ensures graph { OnOk result (IsGraph (M.Leads machine.now) graph.new) }
+    ensures table { OnOk result (IsTable (M.IsMark machine.now) graph.new.table graph.new.kept.items) }
+    ensures distinct { OnOk result (AreDistinct (M.Same machine.now) graph.new.kept.items) }
     ensures more { OnOk result (IsMore graph.old graph.new) }
     ensures nexts { OnOk result (graph.new.nexts.items ≡ graph.old.nexts.items) }
     ensures barred { OnOk result (IfSome graph.new.barred (IsBarredAt (M.bars machine.now) graph.new.kept.items)) }
@@ -44,7 +49,7 @@ fn next<M: Machine>(
     if count >= most as usize {
         return Ok(None);
     }
-    graph.table.add(digest, count as u32)?;
+    graph.table.add(digest)?;
     let from = from as u32;
     graph.kept.push(Kept { world, from, core })?;
     Ok(Some(count as u32))
@@ -59,9 +64,13 @@ fn settle<M: Machine>(
     most: u32,
 ) -> Result<bool, AllocError>
     requires graph { IsGraph (M.Leads machine.now) graph.old }
+    requires table { IsTable (M.IsMark machine.now) graph.old.table graph.old.kept.items }
+    requires distinct { AreDistinct (M.Same machine.now) graph.old.kept.items }
     requires left { length graph.old.nexts.items < length graph.old.kept.items }
     requires free { graph.old.barred ≡ None }
     ensures graph { OnOk result (IsGraph (M.Leads machine.now) graph.new) }
+    ensures table { OnOk result (IsTable (M.IsMark machine.now) graph.new.table graph.new.kept.items) }
+    ensures distinct { OnOk result (AreDistinct (M.Same machine.now) graph.new.kept.items) }
     ensures more { OnOk result (IsMore graph.old graph.new) }
     ensures most { OnOk result (length graph.new.kept.items ≤ max (length graph.old.kept.items) most) }
     ensures barred { OnOk result (IfSome graph.new.barred (IsBarredAt (M.bars machine.now) graph.new.kept.items)) }
@@ -89,13 +98,14 @@ fn begun<M: Machine>(
     opening: M::World,
 ) -> Result<Graph<M::World>, AllocError>
     ensures graph { IfOk result (λ g. IsGraph (M.Leads machine.now) g) }
+    ensures table { IfOk result (λ g. IsTable (M.IsMark machine.now) g.table g.kept.items) }
     ensures opens { IfOk result (λ g. OpensWith g opening) }
     ensures one { IfOk result (λ g. length g.kept.items ≡ 1) }
     ensures none { IfOk result (λ g. length g.nexts.items ≡ 0) }
     ensures free { IfOk result (λ g. g.barred ≡ None) }
 {
     let mut table = Table::new(alloc)?;
-    table.add(machine.digest(&opening), 0)?;
+    table.add(machine.digest(&opening))?;
     let mut kept = Vec::new(alloc);
     kept.push(Kept {
         world: opening,
@@ -120,6 +130,8 @@ pub fn search<M: Machine>(
     most: u32,
 ) -> Result<Graph<M::World>, AllocError>
     ensures graph { IfOk result (λ g. IsGraph (M.Leads machine.now) g) }
+    // Each world is kept once.
+    ensures distinct { IfOk result (λ g. AreDistinct (M.Same machine.now) g.kept.items) }
     ensures opens { IfOk result (λ g. OpensWith g opening) }
     // It ends early only where as many worlds are kept as may be, or where it has to before a turn.
     ensures ended { IfOk result (λ g. IfNone g.barred (IsWhole g ⊎ (most ≤ length g.kept.items))) }

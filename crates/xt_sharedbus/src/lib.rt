@@ -13,6 +13,3 @@ mod view;
 
 pub use laws::steps_keep_rule;
 pub use shared::{CoreSeat, NoMemory, SharedBus};
-
-#[cfg(test)]
-mod tests;

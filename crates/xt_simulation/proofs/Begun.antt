@@ -14,13 +14,13 @@ use Rattle.xt_simulation.proofs.Modular.{place_at}
 use Rattle.xt_map.proofs.Alike.{touched_at}
 use Rattle.xt_simulation.proofs.Chains.{called_under, live_end}
 use Rattle.xt_simulation.proofs.Stretched.{oldest, newest_of, overflows_find_frames, underflows_find_frames}
-use Rattle.xt_stretch.specs.Needs.{callee_sp, link, link_word}
-use Rattle.xt_stretch.specs.declared.Side.{Side}
-use Rattle.xt_stretch.specs.declared.Side.TheVariants.{Overflow, Underflow}
-use Rattle.xt_stretch.specs.Machines.{symbol_value}
-use Rattle.xt_stretch.specs.Frames.{HasFrames, IsOwnByte}
-use Rattle.xt_stretch.specs.Joined.{Finds, IsShaped as HasShape}
-use Rattle.xt_stretch.proofs.Joins.{overflow_frames, underflow_frames, own_link_is, saved_sp_is, saved_link_is}
+use Rattle.xt_handlers.specs.Needs.{callee_sp, link, link_word}
+use Rattle.xt_handlers.specs.declared.stretch.Side.{Side}
+use Rattle.xt_handlers.specs.declared.stretch.Side.TheVariants.{Overflow, Underflow}
+use Rattle.xt_handlers.specs.Machines.{symbol_value}
+use Rattle.xt_handlers.specs.Frames.{HasFrames, IsOwnByte}
+use Rattle.xt_handlers.specs.Joined.{Finds, IsShaped as HasShape}
+use Rattle.xt_handlers.proofs.Joins.{overflow_frames, underflow_frames, own_link_is, saved_sp_is, saved_link_is}
 use Rattle.xt_simulation.specs.InHandlers.{start_of, above}
 use Rattle.xt_simulation.specs.Handling.{InDram, Begins}
 

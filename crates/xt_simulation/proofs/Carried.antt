@@ -14,10 +14,10 @@ use Rattle.xt_frames.specs.FrameStep.{with_inputs}
 use Rattle.xt_frames.specs.SaveAreas.{areas, covers_byte, is_live}
 use Rattle.xt_frames.specs.Breaches.{Bounds}
 use Rattle.xt_frames.specs.Stacks.{Stack}
-use Rattle.xt_stretch.specs.declared.Side.{Side}
-use Rattle.xt_stretch.specs.declared.Side.TheVariants.{Overflow, Underflow}
-use Rattle.xt_stretch.specs.HandlerInvariants.{Stands}
-use Rattle.xt_stretch.specs.Machines.{Machine}
+use Rattle.xt_handlers.specs.declared.stretch.Side.{Side}
+use Rattle.xt_handlers.specs.declared.stretch.Side.TheVariants.{Overflow, Underflow}
+use Rattle.xt_handlers.specs.HandlerInvariants.{Stands}
+use Rattle.xt_handlers.specs.Machines.{Machine}
 use Rattle.xt_simulation.specs.Stacks.{Saved, sp_under}
 use Rattle.xt_simulation.specs.Ring.{Windows}
 use Rattle.xt_simulation.specs.Relation.{Same, Plain, inputs, lost_at}

@@ -8,11 +8,11 @@ use Rattle.xt_isa.proofs.ThirdByte.{third_byte}
 use Rattle.xt_map.specs.Regions.{region_of}
 use Rattle.xt_fetch.specs.Fetching.{can_fetch, unfetchable, fetched_length, fetched_past, fetch_at, read_as}
 use Rattle.xt_fetch.specs.Code.{code_bytes}
-use Rattle.xt_stretch.specs.declared.Side.{Side}
-use Rattle.xt_stretch.specs.declared.HandlerVerdict.TheVariants.{Yes, No}
-use Rattle.xt_stretch.specs.Spelled.{step_of_spelled, step_of, lines_of}
-use Rattle.xt_stretch.specs.Handling.{handling_verdict}
-use Rattle.xt_stretch.specs.HandlerInvariants.{step_at}
+use Rattle.xt_handlers.specs.declared.stretch.Side.{Side}
+use Rattle.xt_handlers.specs.declared.stretch.HandlerVerdict.TheVariants.{Yes, No}
+use Rattle.xt_handlers.specs.Spelled.{step_of_spelled, step_of, lines_of}
+use Rattle.xt_handlers.specs.Handling.{handling_verdict}
+use Rattle.xt_handlers.specs.HandlerInvariants.{step_at}
 use Rattle.xt_handlers.specs.Vectors.{vector_at, vector_bytes, verdict_of}
 
 -- ---- the bytes of a vector

@@ -38,25 +38,25 @@ use Rattle.xt_map.proofs.Alike.{touched_at}
 use Rattle.xt_simulation.proofs.Closed.{in_ring_end, related_lost, epc1_lost}
 use Rattle.xt_simulation.proofs.Windowed.{enters_window, visible_value}
 use Rattle.xt_simulation.proofs.Stretched.{overflows_keep_related, underflows_keep_related, stretches_begin, stretches_go_on, stretches_end, oldest, newest_of}
-use Rattle.xt_stretch.specs.Symbols.{Effect, effect_after_step, opening}
-use Rattle.xt_stretch.specs.Needs.{callee_sp, link, save_word, has_effect}
-use Rattle.xt_stretch.specs.declared.Side.{Side}
-use Rattle.xt_stretch.specs.declared.Side.TheVariants.{Overflow, Underflow}
-use Rattle.xt_stretch.specs.declared.HandlerInsn.{HandlerInsn}
-use Rattle.xt_stretch.specs.declared.HandlerInsn.TheVariants.{Rfwo, Rfwu, Foreign}
-use Rattle.xt_stretch.specs.declared.HandlerVerdict.TheVariants.{Yes}
-use Rattle.xt_stretch.specs.Spelled.{step_of_insn, step_of_spelled, step_of}
-use Rattle.xt_stretch.proofs.Lines.{handling_is}
-use Rattle.xt_stretch.specs.Machines as small
-use Rattle.xt_stretch.specs.Running as stepping
-use Rattle.xt_stretch.specs.Machines.{Machine, word_at, symbol_value, address_of, IsElsewhere}
-use Rattle.xt_stretch.specs.Frames.{HasFrames, IsOwnByte}
-use Rattle.xt_stretch.specs.HandlerInvariants.{Does, Stands, Spares, Touches, Turns, Moves, Closes, Done, step_at, ending_of, opening_flags}
-use Rattle.xt_stretch.proofs.Places.{room_from, spares_from}
-use Rattle.xt_stretch.proofs.Runs.{stands_first}
-use Rattle.xt_stretch.proofs.Turning.{turns, done, spared}
-use Rattle.xt_stretch.proofs.Changed.{others_stay_above}
-use Rattle.xt_stretch.proofs.Joins.{save_low, save_high}
+use Rattle.xt_handlers.specs.Symbols.{Effect, effect_after_step, opening}
+use Rattle.xt_handlers.specs.Needs.{callee_sp, link, save_word, has_effect}
+use Rattle.xt_handlers.specs.declared.stretch.Side.{Side}
+use Rattle.xt_handlers.specs.declared.stretch.Side.TheVariants.{Overflow, Underflow}
+use Rattle.xt_handlers.specs.declared.stretch.HandlerInsn.{HandlerInsn}
+use Rattle.xt_handlers.specs.declared.stretch.HandlerInsn.TheVariants.{Rfwo, Rfwu, Foreign}
+use Rattle.xt_handlers.specs.declared.stretch.HandlerVerdict.TheVariants.{Yes}
+use Rattle.xt_handlers.specs.Spelled.{step_of_insn, step_of_spelled, step_of}
+use Rattle.xt_handlers.proofs.Lines.{handling_is}
+use Rattle.xt_handlers.specs.Machines as small
+use Rattle.xt_handlers.specs.Running as stepping
+use Rattle.xt_handlers.specs.Machines.{Machine, word_at, symbol_value, address_of, IsElsewhere}
+use Rattle.xt_handlers.specs.Frames.{HasFrames, IsOwnByte}
+use Rattle.xt_handlers.specs.HandlerInvariants.{Does, Stands, Spares, Touches, Turns, Moves, Closes, Done, step_at, ending_of, opening_flags}
+use Rattle.xt_handlers.proofs.Places.{room_from, spares_from}
+use Rattle.xt_handlers.proofs.Runs.{stands_first}
+use Rattle.xt_handlers.proofs.Turning.{turns, done, spared}
+use Rattle.xt_handlers.proofs.Changed.{others_stay_above}
+use Rattle.xt_handlers.proofs.Joins.{save_low, save_high}
 use Rattle.xt_handlers.specs.Vectors.{vector_number, vector_at, vector_bytes, verdict_of, Handlers}
 use Rattle.xt_simulation.specs.Steps.{state_now, memory_now}
 use Rattle.xt_simulation.specs.Handling.{machine, InDram, Somewhere, Begins, Handling, Settles, IsGood, HandlerStep, steps_on, closes_stretch}

@@ -18,9 +18,9 @@ use Rattle.xt_exec.specs.State.{State}
 use Rattle.xt_exec.specs.Chips.{processor}
 use Rattle.xt_handlers.specs.Vectors.{Handlers}
 use Rattle.std.proofs.Common.{zero, suc, ◌<◌}
-use Rattle.xt_stretch.specs.declared.Side.{Side}
-use Rattle.xt_stretch.specs.declared.Side.TheVariants.{Overflow, Underflow}
-use Rattle.xt_stretch.specs.declared.HandlerVerdict.TheVariants.{Yes}
+use Rattle.xt_handlers.specs.declared.stretch.Side.{Side}
+use Rattle.xt_handlers.specs.declared.stretch.Side.TheVariants.{Overflow, Underflow}
+use Rattle.xt_handlers.specs.declared.stretch.HandlerVerdict.TheVariants.{Yes}
 use Rattle.xt_handlers.specs.Vectors.{verdict_of}
 use Rattle.xt_simulation.specs.Headline.{SixSuffice}
 use Rattle.xt_simulation.specs.Walking.{Apart}

@@ -25,9 +25,9 @@ use Rattle.xt_frames.specs.Stacks.{IsRange}
 use Rattle.xt_simulation.specs.Relation.{Level, lost_at}
 use Rattle.xt_simulation.specs.Cores.{word, Related}
 use Rattle.xt_simulation.proofs.RingLemmas.{some_within}
-use Rattle.xt_stretch.specs.Running.{with_word, is_access}
-use Rattle.xt_stretch.specs.Machines.{word_at}
-use Rattle.xt_stretch.proofs.Words.{word_at-same, word_at-other, access_from}
+use Rattle.xt_handlers.specs.Running.{with_word, is_access}
+use Rattle.xt_handlers.specs.Machines.{word_at}
+use Rattle.xt_handlers.proofs.Words.{word_at-same, word_at-other, access_from}
 use Rattle.xt_map.specs.Touching.{IsMemory}
 use Rattle.xt_simulation.specs.Handling.{InDram}
 use Rattle.xt_simulation.proofs.Words.{bytes_stored}

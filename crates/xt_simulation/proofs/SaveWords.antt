@@ -5,13 +5,13 @@ use Rattle.xt_exec.specs.State.{State}
 use Rattle.xt_window.specs.Ring.{bit}
 use Rattle.xt_frames.specs.Frames.{Frame, FrameState, windows_moved}
 use Rattle.xt_frames.specs.Breaches.{Bounds}
-use Rattle.xt_stretch.specs.declared.Side.{Side}
-use Rattle.xt_stretch.specs.declared.Side.TheVariants.{Overflow, Underflow}
-use Rattle.xt_stretch.specs.Needs.{save_word}
-use Rattle.xt_stretch.specs.Machines.{Machine, address_of}
-use Rattle.xt_stretch.specs.Frames.{HasFrames, IsOwn, IsOwnByte}
-use Rattle.xt_stretch.proofs.Places.{saves_own}
-use Rattle.xt_stretch.proofs.Joins.{save_low, save_high}
+use Rattle.xt_handlers.specs.declared.stretch.Side.{Side}
+use Rattle.xt_handlers.specs.declared.stretch.Side.TheVariants.{Overflow, Underflow}
+use Rattle.xt_handlers.specs.Needs.{save_word}
+use Rattle.xt_handlers.specs.Machines.{Machine, address_of}
+use Rattle.xt_handlers.specs.Frames.{HasFrames, IsOwn, IsOwnByte}
+use Rattle.xt_handlers.proofs.Places.{saves_own}
+use Rattle.xt_handlers.proofs.Joins.{save_low, save_high}
 use Rattle.xt_simulation.specs.InHandlers.{start_of, above, saved_at, InAreas}
 use Rattle.xt_simulation.specs.Handling.{Begins}
 use Rattle.xt_simulation.proofs.Modular.{bit_at_window}

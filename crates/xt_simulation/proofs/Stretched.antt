@@ -13,7 +13,7 @@ use Rattle.xt_simulation.specs.InHandlers.{Holds}
 use Rattle.xt_frames.specs.Stacks.{AreFrames}
 use Rattle.xt_frames.specs.Stacks.{Chain, IsRange}
 use Rattle.xt_simulation.specs.Stacks.{Saved, sp_under}
-use Rattle.xt_stretch.specs.Joined.{Finds}
+use Rattle.xt_handlers.specs.Joined.{Finds}
 use Rattle.xt_simulation.specs.Stretches.{OverflowsFindFrames, UnderflowsFindFrames, OverflowsKeepRelated, UnderflowsKeepRelated, StretchesBegin, StretchesGoOn, StretchesEnd}
 use Rattle.xt_special.specs.declared.ps.Ps.{Ps}
 use Rattle.xt_window.specs.Ring.{place, visible}

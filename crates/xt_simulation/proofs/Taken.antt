@@ -34,8 +34,8 @@ use Rattle.xt_frames.specs.Nesting.{nested_entry, nested_view, is_nesting}
 use Rattle.xt_frames.specs.Breaches.{Bounds, lost_of}
 use Rattle.xt_frames.specs.Judging.{step_on}
 use Rattle.xt_frames.proofs.Inside.{step_begins}
-use Rattle.xt_stretch.specs.declared.Side.{Side}
-use Rattle.xt_stretch.specs.declared.Side.TheVariants.{Overflow, Underflow}
+use Rattle.xt_handlers.specs.declared.stretch.Side.{Side}
+use Rattle.xt_handlers.specs.declared.stretch.Side.TheVariants.{Overflow, Underflow}
 use Rattle.xt_simulation.specs.Relation.{Same, Even, inputs, lost_at, can_be_lost}
 use Rattle.xt_simulation.specs.Cores.{Related}
 use Rattle.xt_simulation.specs.InHandlers.{as_left}

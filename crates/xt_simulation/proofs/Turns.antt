@@ -23,7 +23,7 @@ use Rattle.xt_special.specs.Numbers as number
 use Rattle.xt_special.specs.Control.{Control, special_of}
 use Rattle.xt_special.specs.Timers.{after_tick}
 use Rattle.xt_special.specs.Interrupts.{current_level, pending_level, pending_of}
-use Rattle.xt_loop.specs.Looping.{loops_back}
+use Rattle.xt_special.specs.Looping.{loops_back}
 use Rattle.xt_window.specs.Ring.{place, visible, ahead, with_bit, without_bit}
 use Rattle.xt_trace.specs.declared.record.StepKind.TheVariants as kind
 use Rattle.xt_rows.specs.declared.outcome.Flow.TheVariants.{Falls}
@@ -40,11 +40,11 @@ use Rattle.xt_exec.specs.State.{State}
 use Rattle.xt_exec.specs.Turn.{Planned, planned_turn, demand, write_with_reply, with_write, raises, has_windows, looks, window_check, is_illegal, outcome_turn, turn_or_overflow, fetched_turn, resuming_turn}
 use Rattle.xt_exec.proofs.Finished.{turn_fetches, turn_taken}
 use Rattle.xt_frames.specs.Nesting.{is_nesting, nested_level}
-use Rattle.xt_stretch.specs.declared.HandlerInsn.{HandlerInsn}
-use Rattle.xt_stretch.specs.declared.HandlerInsn.TheVariants.{L32e, S32e, Nop, Rfwo, Rfwu, Foreign}
-use Rattle.xt_stretch.specs.Spelled.{step_of_insn}
-use Rattle.xt_stretch.specs.Running.{is_access, with_word, machine_after_step, MayAccess}
-use Rattle.xt_stretch.specs.Machines.{Machine, address, word_at}
+use Rattle.xt_handlers.specs.declared.stretch.HandlerInsn.{HandlerInsn}
+use Rattle.xt_handlers.specs.declared.stretch.HandlerInsn.TheVariants.{L32e, S32e, Nop, Rfwo, Rfwu, Foreign}
+use Rattle.xt_handlers.specs.Spelled.{step_of_insn}
+use Rattle.xt_handlers.specs.Running.{is_access, with_word, machine_after_step, MayAccess}
+use Rattle.xt_handlers.specs.Machines.{Machine, address, word_at}
 use Rattle.xt_simulation.specs.Steps.{reply_at, memory_after_step, reply_now, state_now, memory_now}
 use Rattle.xt_simulation.specs.Handling.{machine}
 use Rattle.xt_simulation.proofs.Plans.{plan_asks, plan_state}

@@ -16,11 +16,11 @@ use Rattle.xt_frames.specs.Breaches.{Bounds}
 use Rattle.xt_simulation.specs.Relation.{lost_at}
 use Rattle.xt_simulation.specs.Cores.{Related}
 use Rattle.xt_simulation.specs.Stretches.{InHandler}
-use Rattle.xt_stretch.specs.Symbols.{Effect}
-use Rattle.xt_stretch.specs.declared.Side.{Side}
-use Rattle.xt_stretch.specs.declared.Side.TheVariants.{Overflow, Underflow}
-use Rattle.xt_stretch.specs.Machines.{Machine}
-use Rattle.xt_stretch.specs.HandlerInvariants.{Stands, Handles}
+use Rattle.xt_handlers.specs.Symbols.{Effect}
+use Rattle.xt_handlers.specs.declared.stretch.Side.{Side}
+use Rattle.xt_handlers.specs.declared.stretch.Side.TheVariants.{Overflow, Underflow}
+use Rattle.xt_handlers.specs.Machines.{Machine}
+use Rattle.xt_handlers.specs.HandlerInvariants.{Stands, Handles}
 use Rattle.xt_handlers.specs.Vectors.{vector_at, vector_bytes, Handlers}
 use Rattle.xt_simulation.specs.Steps.{state_now, memory_now}
 use Rattle.xt_simulation.specs.InHandlers.{start_of, Untouched, MovesFrame, StoresAlone}

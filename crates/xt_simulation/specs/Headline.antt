@@ -10,7 +10,7 @@
 -- (`BreachesStay`). At a `Position` the walk beside the judge knows what the judge knows (`Knows`)
 -- and stands where the run does (`StandsAt`), and each core keeps `EndsWell`, `HandlesAlone`,
 -- `IsPending` and `GivesBack`. The first two are about a core whose next turn is a handler's; they
--- rest on `MovesFrame` and `StoresAlone`, on `Steps` here and on `Machines` of `xt_stretch`. In the
+-- rest on `MovesFrame` and `StoresAlone`, on `Steps` here and on `Machines` of `xt_handlers`. In the
 -- state before the stretch, with which they compare, THREADPTR and each special register that a
 -- nested step has changed are as that step has left them (`as_left`). `IsPending` is about a core
 -- whose next turn begins a nested interrupt: of the frame state, with the INTERRUPT of the record,
@@ -38,8 +38,8 @@ use Rattle.xt_frames.specs.declared.kinds.Breach.{Breach}
 use Rattle.xt_frames.specs.FirstBreach.{judged_of}
 use Rattle.xt_frames.specs.declared.kinds.HandlerPhase.TheVariants.{Outside}
 use Rattle.xt_frames.specs.Verdict.{Known, Judgement, judgement, opening_known, IsFrameRun}
-use Rattle.xt_stretch.specs.declared.Side.TheVariants.{Overflow, Underflow}
-use Rattle.xt_stretch.specs.declared.HandlerVerdict.TheVariants.{Yes}
+use Rattle.xt_handlers.specs.declared.stretch.Side.TheVariants.{Overflow, Underflow}
+use Rattle.xt_handlers.specs.declared.stretch.HandlerVerdict.TheVariants.{Yes}
 use Rattle.xt_handlers.specs.Vectors.{verdict_of, Handlers}
 use Rattle.xt_simulation.specs.Walking.{World, world_after_turns, GivesBack, KeepsStretches}
 use Rattle.xt_simulation.specs.Walking.{IsWorldRun, Apart}

@@ -14,11 +14,11 @@ use Rattle.xt_exec.specs.State.{State}
 use Rattle.xt_frames.specs.Frames.{Frame, FrameState, value_or_zero, windows_moved}
 use Rattle.xt_frames.specs.SaveAreas.{is_live, sp_of, before as sp_before}
 use Rattle.xt_frames.specs.Breaches.{Bounds}
-use Rattle.xt_stretch.specs.declared.Side.{Side}
-use Rattle.xt_stretch.specs.declared.Side.TheVariants.{Overflow, Underflow}
+use Rattle.xt_handlers.specs.declared.stretch.Side.{Side}
+use Rattle.xt_handlers.specs.declared.stretch.Side.TheVariants.{Overflow, Underflow}
 use Rattle.xt_window.specs.Ring.{place, visible, bit, with_bit, without_bit}
-use Rattle.xt_stretch.specs.Needs.{save_word}
-use Rattle.xt_stretch.specs.Machines.{address_of, Machine, word_at, IsElsewhere}
+use Rattle.xt_handlers.specs.Needs.{save_word}
+use Rattle.xt_handlers.specs.Machines.{address_of, Machine, word_at, IsElsewhere}
 use Rattle.xt_handlers.specs.Vectors.{vector_at}
 
 -- PC, PS but OWB, and the special registers but EPC1, CCOUNT and INTERRUPT are as before the window

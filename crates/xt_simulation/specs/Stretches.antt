@@ -10,7 +10,7 @@ use Rattle.xt_window.specs.Ring.{visible, with_bit, without_bit}
 use Rattle.xt_exec.specs.State.{State}
 use Rattle.xt_frames.specs.Frames.{Frame, FrameState, windows_moved}
 use Rattle.xt_frames.specs.Breaches.{Bounds}
-use Rattle.xt_stretch.specs.Joined.{Finds}
+use Rattle.xt_handlers.specs.Joined.{Finds}
 use Rattle.xt_simulation.specs.Stacks.{IsElsewhere}
 use Rattle.xt_simulation.specs.Cores.{word, Related}
 use Rattle.xt_simulation.specs.Relation.{without_epc1}

@@ -8,3 +8,5 @@ pub mod Timers
 pub mod Exceptions
 pub mod WindowExceptions
 pub mod Interrupts
+pub mod Looping
+pub mod Pending

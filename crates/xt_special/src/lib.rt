@@ -4,9 +4,12 @@
 //! them there are, and which bits they keep, is 'profile'.
 #![tactic(auto)]
 
+pub mod entries;
 pub mod laws;
+pub mod looping;
 mod ps;
 mod registers;
+pub mod timers;
 mod writes;
 
 pub use ps::Ps;

@@ -6,7 +6,7 @@ ghost use Rattle.xt_special.specs.Control.{ps_of, ps_word};
 ghost use Rattle.xt_special.specs.Shape.{IsPs};
 
 /// The fields of PS, the processor state register.
-#[derive(Clone, Copy, Debug, PartialEq, Eq)]
+#[derive(Clone, Copy, PartialEq, Eq)]
 pub struct Ps {
     /// The interrupt level that is masked, 0 to 15 (bits 3 to 0).
     pub intlevel: u8,

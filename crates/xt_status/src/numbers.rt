@@ -5,7 +5,7 @@ ghost use Rattle.xt_status.specs.Statuses.{name_and_numbers};
 use std::alloc::{AllocError, Global};
 
 /// The numbers that a fault or a status keeps.
-#[derive(Clone, Copy, Debug, PartialEq, Eq)]
+#[derive(Clone, Copy)]
 pub enum Numbers {
     /// None.
     Zero,

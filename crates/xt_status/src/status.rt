@@ -13,7 +13,7 @@ use xt_map::Text;
 use xt_record::RecordFault;
 
 /// How the program ended.
-#[derive(Clone, Copy, Debug, PartialEq, Eq)]
+#[derive(Clone, Copy, PartialEq, Eq)]
 pub enum Status {
     /// The command did all of its work.
     Done,

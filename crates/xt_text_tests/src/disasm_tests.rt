@@ -30,13 +30,6 @@ fn image(segments: Vec<Segment>) -> Image {
     }
 }
 
-/// An image with one segment.
-pub fn image_of(alloc: Global, addr: u32, bytes: &[u8]) -> Result<Image, Fail> {
-    let mut segments = Vec::new(alloc);
-    segments.push(segment(alloc, addr, bytes)?)?;
-    Ok(image(segments))
-}
-
 /// An image with a segment of each kind: code of each region, with words that spell nothing and with bytes left over at
 /// the end; data; padding; and empty segments outside the memory map and at UART0.
 #[test]

@@ -1,10 +1,9 @@
 use std::alloc::Global;
 use std::test::Fail;
-use xt_expr::{Expr, Label, Labels, Term, TermValue, value};
-use xt_lex::Name;
+use xt_lex::{Expr, Label, Labels, Name, Term, TermValue, value};
 
 /// A term of a table: a number or a name, and whether it is taken away.
-#[derive(Clone, Copy, Debug)]
+#[derive(Clone, Copy)]
 enum Part {
     Number(bool, u32),
     Name(bool, &'static str),

@@ -3,7 +3,7 @@ use std::test::Fail;
 use xt_lex::{Token, TokenKind, lex};
 
 /// What a token should be.
-#[derive(Clone, Copy, Debug)]
+#[derive(Clone, Copy)]
 enum Wanted {
     Word(&'static str),
     Number(u32),

@@ -1,128 +1,59 @@
-use lines::{COMMANDS, LISTINGS, NO_OPTIONS, NO_ORDERS, OPTIONS, OUTCOMES, PLAIN, RECORDINGS};
+//! What words mean, of each kind of command; the other lines of words are cases of `bench/case`.
+
 use std::alloc::Global;
 use std::test::Fail;
 use xt_command_line::{Command, Refusal, meaning, script_text};
 
-mod lines;
-
-// The words of a line, which stand with one space between them.
-fn words_of(alloc: Global, line: &str) -> Result<Vec<String>, Fail> {
+// What the words of a line mean, which stand with one blank between them.
+fn meant(alloc: Global, line: &str) -> Result<Result<Command, Refusal>, Fail> {
     let mut words = Vec::new(alloc);
     for word in line.split(' ') {
         words.push(String::from_str(alloc, word)?)?;
     }
-    Ok(words)
-}
-
-// What the words of a line mean, as a text that can be compared.
-fn meant(alloc: Global, line: &str) -> Result<String, Fail> {
-    let words = words_of(alloc, line)?;
-    shown(alloc, &meaning(alloc, &words))
-}
-
-fn shown(alloc: Global, meant: &Result<Command, Refusal>) -> Result<String, Fail> {
-    Ok(format!(in alloc; "{meant:?}")?)
+    Ok(meaning(alloc, &words))
 }
 
 #[test]
 fn words_and_meanings(rt: HostRuntime) -> Result<(), Fail> {
     let alloc = rt.alloc();
-    let none = shown(alloc, &meaning(alloc, &[]))?;
-    assert_eq!(rt; none.as_str(), "Err(Usage(1))");
-    for table in [COMMANDS, LISTINGS, RECORDINGS, NO_OPTIONS, NO_ORDERS] {
-        for row in table.lines() {
-            let (answer, line) = row.split_once(" <- ").ok_or("an arrow")?;
-            assert_eq!(rt; meant(alloc, line)?.as_str(), answer, "{line:?}");
-        }
-    }
+    assert!(rt; matches!(meaning(alloc, &[]), Err(Refusal::Usage(1))));
+    assert!(rt; matches!(meant(alloc, "fly")?, Err(Refusal::Usage(2))));
+    assert!(rt; matches!(meant(alloc, "map --")?, Ok(Command::Map)));
+    assert!(rt; matches!(meant(alloc, "gen -- 007")?, Ok(Command::Generate(7))));
+    assert!(rt; matches!(meant(alloc, "check")?, Ok(Command::Check(0x4008_0000))));
+    Ok(())
+}
+
+#[test]
+fn words_and_options(rt: HostRuntime) -> Result<(), Fail> {
+    let line = "run --turns0=0x3D0900 --turns1 0 --entry1 0x400D0000 --vecbase 0x4009FC00 \
+--stack0 1073405952:0x3ffae100";
+    let Ok(Command::Run(options)) = meant(rt.alloc(), line)? else {
+        return Err(Fail::from("a run"));
+    };
+    assert_eq!(rt; (options.turns0, options.turns1), (4_000_000, 0));
+    assert_eq!(rt;
+        (options.entry1, options.vecbase),
+        (Some(0x400D_0000), 0x4009_FC00)
+    );
+    assert_eq!(rt;
+        (options.stack0.lo, options.stack0.hi),
+        (0x3FFA_E000, 0x3FFA_E100)
+    );
+    assert_eq!(rt;
+        (options.stack1.lo, options.stack1.hi),
+        (0x3FFF_8000, 0x4000_0000)
+    );
+    assert!(rt; !options.trace && !options.events && !options.race && !options.profile);
     Ok(())
 }
 
 #[test]
 fn words_and_scripts(rt: HostRuntime) -> Result<(), Fail> {
-    let alloc = rt.alloc();
-    let rows = [
-        ("replay jump", Ok("jump")),
-        ("replay ", Ok("")),
-        ("replay -- -1", Ok("-1")),
-        ("replay", Err(Refusal::Usage(3))),
-        ("replay go 0 3", Err(Refusal::Usage(3))),
-        ("replay --script jump", Err(Refusal::Usage(3))),
-    ];
-    for (line, answer) in rows {
-        let words = words_of(alloc, line)?;
-        assert_eq!(rt; script_text(alloc, &words), answer, "{line:?}");
-    }
-    Ok(())
-}
-
-// The field that a row gives in place of this one, or this one.
-fn field<'a>(given: &'a str, plain: &'a str) -> &'a str {
-    for it in given.split("; ") {
-        if let (Some((name, _)), Some((other, _))) = (it.split_once(": "), plain.split_once(": "))
-            && name == other
-        {
-            return it;
-        }
-    }
-    plain
-}
-
-// Options of a run as `{:?}` prints them: those of no words, except these fields.
-fn options_text(alloc: Global, given: &str) -> Result<String, Fail> {
-    let mut text = String::from_str(alloc, "RunOptions { ")?;
-    let mut fields = PLAIN.lines();
-    text.push_str(field(given, fields.next().ok_or("a field")?))?;
-    for plain in fields {
-        text.push_str(", ")?;
-        text.push_str(field(given, plain))?;
-    }
-    text.push_str(" }")?;
-    Ok(text)
-}
-
-#[test]
-fn words_and_options(rt: HostRuntime) -> Result<(), Fail> {
-    let alloc = rt.alloc();
-    for row in OPTIONS.lines() {
-        let (answer, line) = row.split_once(" <- ").ok_or("an arrow")?;
-        let (name, given) = answer.split_once(' ').ok_or("a command")?;
-        let options = options_text(alloc, given)?;
-        let wanted = format!(in alloc; "Ok({name}({options}))")?;
-        assert_eq!(rt; meant(alloc, line)?, wanted, "{line:?}");
-    }
-    for row in OUTCOMES.lines() {
-        let (answer, line) = row.split_once(" <- ").ok_or("an arrow")?;
-        let (given, rest) = answer.split_once(" | ").ok_or("a bar")?;
-        let options = options_text(alloc, given)?;
-        let wanted = format!(in alloc;
-            "Ok(Outcomes(OutcomeOptions {{ run: {options}, {rest} }}))"
-        )?;
-        assert_eq!(rt; meant(alloc, line)?, wanted, "{line:?}");
-    }
-    Ok(())
-}
-
-// A line whose last word has so many bytes, `0*1` with zeros before the 1.
-fn long_order(alloc: Global, bytes: usize) -> Result<String, Fail> {
-    let mut line = String::from_str(alloc, "run --order 0*")?;
-    for _zero in 3..bytes {
-        line.push('0')?;
-    }
-    line.push('1')?;
-    Ok(line)
-}
-
-#[test]
-fn words_and_orders(rt: HostRuntime) -> Result<(), Fail> {
-    let alloc = rt.alloc();
-    // a text of 65,536 bytes, and one more
-    let longest = long_order(alloc, 65_536)?;
-    let too_long = long_order(alloc, 65_537)?;
-    let one = "order: Listed(TurnList { items: [CoreTurns { core: Zero, count: 1 }] })";
-    let options = options_text(alloc, one)?;
-    let wanted = format!(in alloc; "Ok(Run({options}))")?;
-    assert_eq!(rt; meant(alloc, longest.as_str())?, wanted);
-    assert_eq!(rt; meant(alloc, too_long.as_str())?.as_str(), "Err(Usage(4))");
+    let words = vec![in rt.alloc();
+        String::from_str(rt.alloc(), "replay")?,
+        String::from_str(rt.alloc(), "jump")?,
+    ]?;
+    assert!(rt; script_text(rt.alloc(), &words).ok() == Some("jump"));
     Ok(())
 }

@@ -45,7 +45,7 @@ pub fn reads_time(insn: Insn) -> bool
 fn is_calm(s: &Special) -> bool
     ensures { result ≡ (pending_level (slice_index s.now.file numbers.interrupt) (slice_index s.now.file numbers.intenable) s.now.ps == 0) }
 {
-    xt_exc::pending(s).is_none()
+    xt_special::entries::pending(s).is_none()
 }
 
 // Whether no window stands in the way of an instruction that reads a register of time.

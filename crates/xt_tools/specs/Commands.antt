@@ -79,7 +79,7 @@ IsListed l image bytes = IsListedBy l.way l.as_text image bytes
 -- everything that can come out of an image in any order of the turns
 abbrev pub AreOutcomesTold : OutcomeOptions → Image → List ℕ → Type 0
 AreOutcomesTold o image bytes =
-    IsAnswersText image (with_entry o.run image.entry) o.timed o.words bytes
+    IsAnswersText image (with_entry o.run image.entry) o.timed o.words o.states bytes
 
 -- the recording, in version 2, of the run that a recording holds
 unfoldable pub migrated_recording : List ℕ → List ℕ

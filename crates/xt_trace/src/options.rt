@@ -4,7 +4,7 @@ ghost use Rattle.xt_trace.specs.Validity.{IsValid, IsValidStack};
 use xt_map::can_execute_at;
 
 /// The range of a core's stack: the addresses from `lo` to `hi` - 1.
-#[derive(Clone, Copy, Debug, PartialEq, Eq)]
+#[derive(Clone, Copy)]
 pub struct Stack {
     /// The lowest address, a multiple of 16 in the internal data memory.
     pub lo: u32,
@@ -13,7 +13,7 @@ pub struct Stack {
 }
 
 /// The options of a run.
-#[derive(Clone, Copy, Debug, PartialEq, Eq)]
+#[derive(Clone, Copy)]
 pub struct Options {
     /// The turns of core 0, at most 4,000,000.
     pub turns0: u32,

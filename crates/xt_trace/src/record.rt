@@ -1,7 +1,7 @@
 use xt_map::Access;
 
 /// What a turn of a core was.
-#[derive(Clone, Copy, Debug, PartialEq, Eq)]
+#[derive(Clone, Copy, PartialEq, Eq)]
 pub enum StepKind {
     /// An instruction was executed.
     Insn,
@@ -19,7 +19,7 @@ pub enum StepKind {
 }
 
 /// The one visible register that a turn wrote.
-#[derive(Clone, Copy, Debug, PartialEq, Eq)]
+#[derive(Clone, Copy)]
 pub struct RegWrite {
     /// The number of the visible register, 0 to 15, in the window after the turn.
     pub reg: u8,
@@ -28,7 +28,7 @@ pub struct RegWrite {
 }
 
 /// The record of one turn.
-#[derive(Clone, Copy, Debug, PartialEq, Eq)]
+#[derive(Clone, Copy)]
 pub struct StepRecord {
     /// The program counter as the turn began.
     pub pc: u32,

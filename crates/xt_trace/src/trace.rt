@@ -40,7 +40,7 @@ impl Places {
 }
 
 /// Why a trace ended.
-#[derive(Clone, Copy, Debug, PartialEq, Eq)]
+#[derive(Clone, Copy, PartialEq, Eq)]
 pub enum Stop {
     /// At a BREAK or BREAK.N.
     Break,

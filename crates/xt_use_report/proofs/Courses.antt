@@ -18,9 +18,9 @@ use Rattle.xt_exec.specs.State.{State}
 use Rattle.xt_core.specs.Runs.{IsRunOf, code_of, records_of}
 use Rattle.xt_frames.specs.declared.kinds.Breach.{Breach}
 use Rattle.xt_frames.specs.FirstBreach.{Course, IsFirstBreach, IsJudgedTurn, by_core, turns}
-use Rattle.xt_stretch.specs.declared.HandlerVerdict.{HandlerVerdict}
-use Rattle.xt_stretch.specs.declared.HandlerVerdict.TheVariants.{Yes, No}
-use Rattle.xt_stretch.specs.declared.Side.TheVariants.{Overflow, Underflow}
+use Rattle.xt_handlers.specs.declared.stretch.HandlerVerdict.{HandlerVerdict}
+use Rattle.xt_handlers.specs.declared.stretch.HandlerVerdict.TheVariants.{Yes, No}
+use Rattle.xt_handlers.specs.declared.stretch.Side.TheVariants.{Overflow, Underflow}
 use Rattle.xt_handlers.specs.declared.Handlers as declared
 use Rattle.xt_handlers.specs.Vectors.{Handlers, verdict_of}
 use Rattle.xt_handlers.specs.CheckAnswers.{handlers_of}
@@ -37,7 +37,7 @@ use Rattle.xt_uses.specs.declared.discipline.Discipline.{Discipline}
 use Rattle.xt_uses.specs.declared.discipline.Discipline.TheVariants.{Lenient}
 use Rattle.xt_use_run.specs.UseRunLaws as laws
 use Rattle.xt_use_run.specs.UseRunLaws.{UsesAreSo, UsesOfRunsAreLater}
-use Rattle.xt_fillings.specs.FillingLaws.{RunsAreDecided}
+use Rattle.xt_use_run.specs.FillingLaws.{RunsAreDecided}
 use Rattle.xt_use_report.specs.Held.{AreDecided, AreSo, AreUsesLater, AreUsesSo, IsLater, IsOnly, course_of, is_checked, found_in, opening}
 
 -- ---- a run of an image with what is kept of its records

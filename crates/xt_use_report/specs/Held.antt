@@ -18,8 +18,8 @@ use Rattle.xt_uses.specs.UseLaws.{IsUseRun}
 use Rattle.xt_use_walk.specs.declared.walk.Uses.{Uses}
 use Rattle.xt_use_walk.specs.declared.walk.Uses.TheVariants.{Unchecked, Whole, Broken}
 use Rattle.xt_use_walk.specs.Verdicts.{IsUsesOf, course_in}
-use Rattle.xt_fillings.specs.Fillings.{Filling}
-use Rattle.xt_fillings.specs.FillingLaws.{FollowsRecord}
+use Rattle.xt_use_run.specs.Fillings.{Filling}
+use Rattle.xt_use_run.specs.FillingLaws.{FollowsRecord}
 
 -- a run of an image, to be judged: the records of both cores, in the order of its schedule
 abbrev pub course_of : Image → Run → Course

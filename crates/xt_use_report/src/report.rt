@@ -9,9 +9,9 @@ ghost use Rattle.xt_use_report.specs.Held.{AreUsesLater, AreUsesSo, IsOnly, cour
 use std::alloc::{AllocError, Global};
 use xt_core::Cursor;
 use xt_discipline::handlers_of;
-use xt_fillings::laws::runs_are_decided;
 use xt_image::{Image, well_formed_is_placed};
 use xt_trace::Run;
+use xt_use_run::filling_laws::runs_are_decided;
 use xt_use_run::laws::{uses_are_so, uses_of_runs_are_later};
 use xt_use_walk::laws::uses_are_one;
 use xt_use_walk::{Uses, judge_uses};

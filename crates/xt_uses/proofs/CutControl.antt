@@ -9,7 +9,7 @@ use Rattle.xt_special.specs.Control.{Control, special_of}
 use Rattle.xt_special.specs.Exceptions.{after_double, after_exception, after_general, with_address}
 use Rattle.xt_special.specs.Interrupts.{after_high_level, after_interrupt}
 use Rattle.xt_special.specs.Timers.{after_tick, ticked_special, with_timer}
-use Rattle.xt_loop.specs.Looping.{loops_back}
+use Rattle.xt_special.specs.Looping.{loops_back}
 use Rattle.xt_rows.specs.declared.outcome.Effect.{Effect}
 use Rattle.xt_rows.specs.declared.outcome.Flow.{Flow}
 use Rattle.xt_rows.specs.declared.outcome.Flow.TheVariants.{Falls, Goes}

@@ -44,7 +44,7 @@ use Rattle.xt_frames.specs.SaveAreas.{Range}
 use Rattle.xt_frames.specs.Breaches.{Bounds, is_exception}
 use Rattle.xt_frames.proofs.Shown.{NoneShown}
 use Rattle.xt_frames.proofs.StackSteps.{step_fetches}
-use Rattle.xt_uses.specs.Words.{all_bits, masked}
+use Rattle.xt_uses.specs.Words.{masked}
 use Rattle.xt_uses.specs.Used.{counted_bits}
 use Rattle.xt_uses.specs.Known.{result_mask, system_mask}
 use Rattle.xt_uses.specs.UseState.{ValidityBits, UseState, first_word, second_word, special_operand, visible_word}

@@ -3,6 +3,7 @@ pub mod Agreeing
 pub mod Moves
 pub mod Wholes
 pub mod Sums
+pub mod Halves
 pub mod Owb
 pub mod Agreed
 pub mod RowsUsed

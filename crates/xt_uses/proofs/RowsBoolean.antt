@@ -8,10 +8,10 @@ use Rattle.xt_isa.specs.declared.boolean.FourName.TheVariants as FourName
 use Rattle.xt_isa.specs.declared.boolean.EightName.TheVariants as EightName
 use Rattle.xt_isa.specs.declared.boolean.TestName.TheVariants as TestName
 use Rattle.xt_isa.specs.declared.boolean.ChoiceName.TheVariants as ChoiceName
-use Rattle.xt_alu.specs.Conditions.{holds}
-use Rattle.xt_alu.specs.declared.conditions.Cond.TheVariants as test
-use Rattle.xt_bool.specs.Registers.{logic, group}
-use Rattle.xt_bool.specs.declared.BoolOp.TheVariants as op
+use Rattle.xt_word.specs.Conditions.{holds}
+use Rattle.xt_word.specs.declared.conditions.Cond.TheVariants as test
+use Rattle.xt_word.specs.Registers.{logic, group}
+use Rattle.xt_word.specs.declared.booleans.BoolOp.TheVariants as op
 use Rattle.xt_special.specs.declared.ps.Ps.{Ps}
 use Rattle.xt_rows.specs.Effects.{no_change}
 use Rattle.xt_rows.specs.Kinds.{moved_to}

@@ -12,8 +12,8 @@ use Rattle.xt_isa.specs.declared.control.BranchName.TheVariants as BranchName
 use Rattle.xt_isa.specs.declared.control.OppositeName.TheVariants as OppositeName
 use Rattle.xt_isa.specs.declared.control.BitName.TheVariants as BitName
 use Rattle.xt_isa.specs.declared.control.LoopName.TheVariants as LoopName
-use Rattle.xt_alu.specs.Conditions.{holds}
-use Rattle.xt_alu.specs.declared.conditions.Cond.TheVariants as test
+use Rattle.xt_word.specs.Conditions.{holds}
+use Rattle.xt_word.specs.declared.conditions.Cond.TheVariants as test
 use Rattle.xt_special.specs.declared.ps.Ps.{Ps}
 use Rattle.xt_rows.specs.declared.outcome.WindowStep.TheVariants.{Enters, Returns}
 use Rattle.xt_rows.specs.declared.outcome.Outcome.TheVariants.{Windowed}

@@ -5,7 +5,7 @@ use Rattle.std.proofs.lemmas.Bool.{cases_lt}
 use Rattle.std.proofs.lemmas.Nat.{mod_below, pow_pos}
 use Rattle.std.proofs.lemmas.Nat.Bits.{bit_at-lt, bit_at-zero, bit_at_above, bit_at_cat_low, bit_at_cat_high}
 use Rattle.xt_word.specs.Words.{pair_shifted}
-use Rattle.xt_alu.specs.Shifts.{src, srl, sll}
+use Rattle.xt_word.specs.Shifts.{src, srl, sll}
 use Rattle.xt_uses.specs.Words.{Word, complement}
 use Rattle.xt_uses.specs.Known.{src_mask}
 use Rattle.xt_uses.specs.UseLaws.{AgreeIn}

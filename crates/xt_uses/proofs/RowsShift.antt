@@ -11,8 +11,8 @@ use Rattle.xt_isa.specs.declared.shift.NsaName.TheVariants as NsaName
 use Rattle.xt_isa.specs.declared.shift.SsrName.TheVariants as SsrName
 use Rattle.xt_isa.specs.declared.shift.Ssa8Name.TheVariants as Ssa8Name
 use Rattle.xt_isa.specs.Ranges.{in_range, two_registers, natural_within}
-use Rattle.xt_alu.specs.Arithmetic.{neg, abs, sext, clamps, nsa, nsau}
-use Rattle.xt_alu.specs.Shifts.{srl, sra, sll, slli, srai, srli, extui, ssr, ssl, ssa8l, ssa8b}
+use Rattle.xt_word.specs.Arithmetic.{neg, abs, sext, clamps, nsa, nsau}
+use Rattle.xt_word.specs.Shifts.{srl, sra, sll, slli, srai, srli, extui, ssr, ssl, ssa8l, ssa8b}
 use Rattle.xt_special.specs.declared.ps.Ps.{Ps}
 use Rattle.xt_rows.specs.declared.outcome.WindowStep.TheVariants.{MovesStack}
 use Rattle.xt_rows.specs.declared.outcome.Outcome.TheVariants.{Windowed}

@@ -5,8 +5,8 @@ use Rattle.std.specs.Int.{bit_at, int_shr}
 use Rattle.std.proofs.lemmas.Bool.{cases_lt, ltb-true, ltb-false}
 use Rattle.std.proofs.lemmas.Nat.{shr_le}
 use Rattle.std.proofs.lemmas.Nat.Bits.{bit_at-lt, bit_at_above}
-use Rattle.xt_alu.specs.Signed.{word_of}
-use Rattle.xt_alu.specs.Shifts.{sra, srai}
+use Rattle.xt_word.specs.Signed.{word_of}
+use Rattle.xt_word.specs.Shifts.{sra, srai}
 use Rattle.xt_uses.proofs.Bits.{bit_at_div, top_clear, top_set, rest_at}
 use Rattle.xt_uses.proofs.Agreeing.{IsMove, Source, From}
 

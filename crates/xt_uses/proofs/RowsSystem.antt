@@ -27,7 +27,7 @@ use Rattle.xt_rows.specs.Kinds.{moved_to}
 use Rattle.xt_rows.specs.Outcomes.{system_outcome}
 use Rattle.xt_frames.specs.Marks.{holds_marks}
 use Rattle.xt_uses.specs.declared.discipline.Discipline.{Discipline}
-use Rattle.xt_uses.specs.Words.{Word, Fits, all_bits, is_whole, knows}
+use Rattle.xt_uses.specs.Words.{Word, Fits, all_bits, knows}
 use Rattle.xt_uses.specs.Used.{counted_bits, holds_owb, system_used}
 use Rattle.xt_uses.specs.Known.{system_mask}
 use Rattle.xt_uses.specs.UseLaws.{AgreeIn, IsKnownNumber, OthersAgree, RowMasks, SetsAgree, SpecialFits, OutcomesAgree, counted_ps, pointer_mask}

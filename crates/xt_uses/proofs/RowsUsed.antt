@@ -5,8 +5,8 @@ use Rattle.std.specs.Int.{bit_at}
 use Rattle.std.proofs.lemmas.Bool.{cases_lt, and_parts, eqb-true, eq-eqb, le-ltb, ltb-true, ltb-false}
 use Rattle.std.proofs.lemmas.Nat.{and_le_l}
 use Rattle.std.proofs.lemmas.Nat.Bits.{same_from_bits, bit_at_and, bit_at_or, bit_at-lt, bit_at-pow_same, bit_at_ones, bit_at_above}
-use Rattle.xt_alu.specs.Conditions.{holds}
-use Rattle.xt_alu.specs.declared.conditions.Cond.TheVariants as test
+use Rattle.xt_word.specs.Conditions.{holds}
+use Rattle.xt_word.specs.declared.conditions.Cond.TheVariants as test
 use Rattle.xt_uses.specs.Words.{Word, Fits, knows, is_whole, complement, zeros, both_mask, and_mask, and_word, not_word}
 use Rattle.xt_uses.specs.Used.{sign_bit, bit_number, low_bits, tested_known}
 use Rattle.xt_uses.specs.UseLaws.{AgreeIn}

@@ -28,8 +28,8 @@ use Rattle.xt_isa.specs.declared.density.Density.TheVariants as density
 use Rattle.xt_isa.specs.declared.boolean.Boolean.{Boolean}
 use Rattle.xt_isa.specs.declared.boolean.Boolean.TheVariants as boolean
 use Rattle.xt_isa.specs.Ranges.{in_range, two_registers, natural_within}
-use Rattle.xt_alu.specs.Arithmetic.{sext}
-use Rattle.xt_alu.specs.Shifts.{src, srl, sra, sll, slli, srai, srli, extui}
+use Rattle.xt_word.specs.Arithmetic.{sext}
+use Rattle.xt_word.specs.Shifts.{src, srl, sra, sll, slli, srai, srli, extui}
 use Rattle.xt_rows.specs.Numbers.{natural, loaded_value}
 use Rattle.xt_uses.specs.declared.discipline.Discipline.{Discipline}
 use Rattle.xt_uses.specs.Words.{Word, all_bits, and_mask, or_mask, both_mask, complement, is_whole, mask_where, moved_mask, ones, zeros}
@@ -39,6 +39,7 @@ use Rattle.xt_uses.proofs.Owb.{counted_word}
 use Rattle.xt_uses.proofs.Agreeing.{IsMove}
 use Rattle.xt_uses.proofs.Moves.{extended_moves}
 use Rattle.xt_uses.proofs.Sums.{add_word, below_word, scaled_sum_word, sum_word}
+use Rattle.xt_uses.proofs.Halves.{half_product_word}
 use Rattle.xt_uses.proofs.RowsPairs.{src_word, srl_moves, sll_moves}
 use Rattle.xt_uses.proofs.RowsSigned.{sra_moves, srai_moves}
 use Rattle.xt_uses.proofs.RowsShift.{slli_moves, srli_moves, extui_moves, sext_moves, sign_number}
@@ -123,7 +124,7 @@ module _ (a b : Word) (h : a.mask < 2 ^ 32) (g : b.mask < 2 ^ 32) where
   three_word (three.Sub SubName.Subx2 r s t) u = scaled_sum_word 1 a b h
   three_word (three.Sub SubName.Subx4 r s t) u = scaled_sum_word 2 a b h
   three_word (three.Sub SubName.Subx8 r s t) u = scaled_sum_word 3 a b h
-  three_word (three.Mul16u name r s t) u = where_word (is_whole a && is_whole b)
+  three_word (three.Mul16u name r s t) u = half_product_word a.mask b.mask h
   three_word (three.Mull r s t) u = sum_word a.mask b.mask h
   three_word (three.Muluh name r s t) u = where_word (is_whole a && is_whole b)
   three_word (three.Quou name r s t) u = where_word (is_whole a && is_whole b)

@@ -6,8 +6,8 @@ use Rattle.std.proofs.lemmas.Bool.{cases_lt, eqb-true}
 use Rattle.std.proofs.lemmas.Nat.{and_mask, and_le_l, mul-mod, pow_below, pow_pos}
 use Rattle.std.proofs.lemmas.Nat.Bits.{same_from_bits, bit_at_and, bit_at-lt, bit_at_ones, bit_at-trailing_ones}
 use Rattle.std.proofs.Math.Nat.{add-mod, add-mul-mod_self_left, div-add-mod, mod-add-mod, mul-sub}
-use Rattle.xt_alu.specs.Arithmetic.{addx, subx, mull, neg}
-use Rattle.xt_alu.specs.Shifts.{slli}
+use Rattle.xt_word.specs.Arithmetic.{addx, subx, mull, neg}
+use Rattle.xt_word.specs.Shifts.{slli}
 use Rattle.xt_rows.specs.Numbers.{plus}
 use Rattle.xt_uses.specs.Words.{Word, Fits, all_bits, below_unknown, masked, complement}
 use Rattle.xt_uses.specs.Known.{add_mask, scaled_mask, scaled_sum, sum_mask}
@@ -18,14 +18,14 @@ use Rattle.xt_uses.proofs.Moves.{times}
 use Rattle.xt_uses.proofs.Wholes.{fits_agree, value_word}
 
 -- ---- numbers with the same k low bits
-abbrev Same : ℕ → ℕ → ℕ → Type 0
+abbrev pub Same : ℕ → ℕ → ℕ → Type 0
 Same k n m = n % 2 ^ k ≡ m % 2 ^ k
 
-same_rest : (k n : ℕ) → k ≤ 32 → Same k (n % 2 ^ 32) n
-same_rest k n h = same_from_bits (n % 2 ^ 32 % 2 ^ k) (n % 2 ^ k)
+pub same_rest : (w k n : ℕ) → k ≤ w → Same k (n % 2 ^ w) n
+same_rest w k n h = same_from_bits (n % 2 ^ w % 2 ^ k) (n % 2 ^ k)
     (λ i. ⊎_elim
-    (λ low. bit_at_rest (n % 2 ^ 32) k i low ∙ bit_at_rest n 32 i (omega arith) ∙ sym (bit_at_rest n k i low))
-    (λ high. bit_at_rest_above (n % 2 ^ 32) k i high ∙ sym (bit_at_rest_above n k i high))
+    (λ low. bit_at_rest (n % 2 ^ w) k i low ∙ bit_at_rest n w i (omega arith) ∙ sym (bit_at_rest n k i low))
+    (λ high. bit_at_rest_above (n % 2 ^ w) k i high ∙ sym (bit_at_rest_above n k i high))
     (cases_lt i k))
 
 same_sum : (k a b c d : ℕ) → Same k a c → Same k b d → Same k (a + b) (c + d)
@@ -33,7 +33,7 @@ same_sum k a b c d h g =
     let e : (a % 2 ^ k + b % 2 ^ k) % 2 ^ k ≡ (c % 2 ^ k + d % 2 ^ k) % 2 ^ k = ap (λ n. (n + b % 2 ^ k) % 2 ^ k) h ∙ ap (λ n. (c % 2 ^ k + n) % 2 ^ k) g in
     add-mod a b (2 ^ k) ∙ e ∙ sym (add-mod c d (2 ^ k))
 
-same_product : (k a b c d : ℕ) → Same k a c → Same k b d → Same k (a * b) (c * d)
+pub same_product : (k a b c d : ℕ) → Same k a c → Same k b d → Same k (a * b) (c * d)
 same_product k a b c d h g =
     let e : (a % 2 ^ k * (b % 2 ^ k)) % 2 ^ k ≡ (c % 2 ^ k * (d % 2 ^ k)) % 2 ^ k = ap (λ n. (n * (b % 2 ^ k)) % 2 ^ k) h ∙ ap (λ n. (c % 2 ^ k * n) % 2 ^ k) g in
     mul-mod a b (2 ^ k) ∙ e ∙ sym (mul-mod c d (2 ^ k))
@@ -90,11 +90,11 @@ module _ (mask : ℕ) (h : mask < 2 ^ 32) where
       (λ high. bit_at_rest_above n count i high ∙ sym (bit_at_rest_above m count i high))
       (cases_lt i count))
 
-  same_in : (n m : ℕ) → Same count n m → AgreeIn (below_unknown mask) n m
+  pub same_in : (n m : ℕ) → Same count n m → AgreeIn (below_unknown mask) n m
   same_in n m g = and_mask n count ∙ g ∙ sym (and_mask m count)
 
   rest_in : (n m : ℕ) → Same count n m → AgreeIn (below_unknown mask) (n % 2 ^ 32) (m % 2 ^ 32)
-  rest_in n m g = same_in (n % 2 ^ 32) (m % 2 ^ 32) (same_rest count n count_small ∙ g ∙ sym (same_rest count m count_small))
+  rest_in n m g = same_in (n % 2 ^ 32) (m % 2 ^ 32) (same_rest 32 count n count_small ∙ g ∙ sym (same_rest 32 count m count_small))
 
   pub below_word : below_unknown mask < 2 ^ 32
   below_word =
@@ -125,7 +125,7 @@ in_second mask other n m h = agree_from (bit_and mask other) n m (λ i one.
     let e : min (bit_at mask i) (bit_at other i) ≡ 1 = sym (bit_at_and mask other i) ∙ one in
     agree_at other n m i h (omega (arith, bit_at-lt mask i, bit_at-lt other i)))
 
-both_below : (mask other : ℕ) → mask < 2 ^ 32 → bit_and mask other < 2 ^ 32
+pub both_below : (mask other : ℕ) → mask < 2 ^ 32 → bit_and mask other < 2 ^ 32
 both_below mask other h = omega (arith, and_le_l mask other)
 
 pub sum_word : (mask other : ℕ) → mask < 2 ^ 32 → sum_mask mask other < 2 ^ 32
@@ -135,10 +135,10 @@ module _ (mask other n m y z : ℕ) (h : mask < 2 ^ 32) (a : AgreeIn mask n m) (
   abbrev both : ℕ
   both = bit_and mask other
 
-  first_same : Same (trailing_ones w32 both) n m
+  pub first_same : Same (trailing_ones w32 both) n m
   first_same = same_low both (both_below mask other h) n m (in_first mask other n m a)
 
-  second_same : Same (trailing_ones w32 both) y z
+  pub second_same : Same (trailing_ones w32 both) y z
   second_same = same_low both (both_below mask other h) y z (in_second mask other y z b)
 
   sums_agree : AgreeIn (sum_mask mask other) ((n + y) % 2 ^ 32) ((m + z) % 2 ^ 32)
@@ -148,7 +148,7 @@ module _ (mask other n m y z : ℕ) (h : mask < 2 ^ 32) (a : AgreeIn mask n m) (
   differences_agree p q = rest_in both (both_below mask other h) (n + (2 ^ 32 - y)) (m + (2 ^ 32 - z))
       (same_sum (trailing_ones w32 both) n (2 ^ 32 - y) m (2 ^ 32 - z) first_same (same_taken (trailing_ones w32 both) (2 ^ 32) y z (omega arith) (omega arith) second_same))
 
-  products_agree : AgreeIn (sum_mask mask other) (n * y % 2 ^ 32) (m * z % 2 ^ 32)
+  pub products_agree : AgreeIn (sum_mask mask other) (n * y % 2 ^ 32) (m * z % 2 ^ 32)
   products_agree = rest_in both (both_below mask other h) (n * y) (m * z) (same_product (trailing_ones w32 both) n y m z first_same second_same)
 
 -- ---- AR[s] as it is shifted

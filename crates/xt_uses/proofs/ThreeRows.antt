@@ -12,10 +12,10 @@ use Rattle.xt_isa.specs.declared.three.MulHighName.TheVariants as MulHighName
 use Rattle.xt_isa.specs.declared.three.DivideName.TheVariants as DivideName
 use Rattle.xt_isa.specs.declared.three.MinName.TheVariants as MinName
 use Rattle.xt_isa.specs.declared.three.MoveName.TheVariants as MoveName
-use Rattle.xt_alu.specs.Arithmetic.{addx, subx, mul16u, mul16s, mull, muluh, mulsh, quou, quos, remu, rems, signed_min, signed_max}
-use Rattle.xt_alu.specs.Shifts.{src}
-use Rattle.xt_alu.specs.Conditions.{holds}
-use Rattle.xt_alu.specs.declared.conditions.Cond.TheVariants as cond
+use Rattle.xt_word.specs.Arithmetic.{addx, subx, mul16u, mul16s, mull, muluh, mulsh, quou, quos, remu, rems, signed_min, signed_max}
+use Rattle.xt_word.specs.Shifts.{src}
+use Rattle.xt_word.specs.Conditions.{holds}
+use Rattle.xt_word.specs.declared.conditions.Cond.TheVariants as cond
 use Rattle.xt_special.specs.declared.ps.Ps.{Ps}
 use Rattle.xt_rows.specs.Effects.{no_change}
 use Rattle.xt_rows.specs.Kinds.{moved_to}
@@ -31,6 +31,7 @@ use Rattle.xt_uses.proofs.RowsPairs.{src_agrees}
 use Rattle.xt_uses.proofs.RowsUsed.{sign_known, not_sign_known}
 use Rattle.xt_uses.proofs.Wholes.{whole_value, fits_agree, where_second, and_agrees, or_agrees, xor_agrees}
 use Rattle.xt_uses.proofs.Sums.{add_agrees, addx_agrees, sub_agrees, subx_agrees, mull_agrees}
+use Rattle.xt_uses.proofs.Halves.{mul16u_agrees, mul16s_agrees}
 
 module _ (by : Discipline) (x y u : ℕ) (a b : Word) (f : Fits x a) (g : Fits y b) (h : x < 2 ^ 32) (l : y < 2 ^ 32) (v : a.value < 2 ^ 32) (w : b.value < 2 ^ 32) (m : a.mask < 2 ^ 32) (n : b.mask < 2 ^ 32) (ps : Ps) (t k : ℕ) (given pointer stored : ℕ) (p : AgreeIn pointer t k) where
   abbrev masks : Three → RowMasks
@@ -50,8 +51,8 @@ module _ (by : Discipline) (x y u : ℕ) (a b : Word) (f : Fits x a) (g : Fits y
   three_agrees (three.Sub SubName.Subx4 r s q) used same = puts_agree by (insn.Three (three.Sub SubName.Subx4 r s q)) (masks (three.Sub SubName.Subx4 r s q)) ps t k p refl r (subx x y 2) (subx a.value b.value 2) (subx_agrees x y a b f g h l m 2)
   three_agrees (three.Sub SubName.Subx8 r s q) used same = puts_agree by (insn.Three (three.Sub SubName.Subx8 r s q)) (masks (three.Sub SubName.Subx8 r s q)) ps t k p refl r (subx x y 3) (subx a.value b.value 3) (subx_agrees x y a b f g h l m 3)
   three_agrees (three.Src r s q) used same = puts_agree by (insn.Three (three.Src r s q)) (masks (three.Src r s q)) ps t k p refl r (src x y u) (src a.value b.value u) (src_agrees x y u a b (fits_agree x a f) (fits_agree y b g) h l v w m n)
-  three_agrees (three.Mul16u Mul16Name.Mul16u r s q) used same = puts_agree by (insn.Three (three.Mul16u Mul16Name.Mul16u r s q)) (masks (three.Mul16u Mul16Name.Mul16u r s q)) ps t k p refl r (mul16u x y) (mul16u a.value b.value) (where_second x y a b f g h l (λ m n. mul16u m n))
-  three_agrees (three.Mul16u Mul16Name.Mul16s r s q) used same = puts_agree by (insn.Three (three.Mul16u Mul16Name.Mul16s r s q)) (masks (three.Mul16u Mul16Name.Mul16s r s q)) ps t k p refl r (mul16s x y) (mul16s a.value b.value) (where_second x y a b f g h l (λ m n. mul16s m n))
+  three_agrees (three.Mul16u Mul16Name.Mul16u r s q) used same = puts_agree by (insn.Three (three.Mul16u Mul16Name.Mul16u r s q)) (masks (three.Mul16u Mul16Name.Mul16u r s q)) ps t k p refl r (mul16u x y) (mul16u a.value b.value) (mul16u_agrees x y a b f g m)
+  three_agrees (three.Mul16u Mul16Name.Mul16s r s q) used same = puts_agree by (insn.Three (three.Mul16u Mul16Name.Mul16s r s q)) (masks (three.Mul16u Mul16Name.Mul16s r s q)) ps t k p refl r (mul16s x y) (mul16s a.value b.value) (mul16s_agrees x y a b f g m)
   three_agrees (three.Mull r s q) used same = puts_agree by (insn.Three (three.Mull r s q)) (masks (three.Mull r s q)) ps t k p refl r (mull x y) (mull a.value b.value) (mull_agrees x y a b f g h l m)
   three_agrees (three.Muluh MulHighName.Muluh r s q) used same = puts_agree by (insn.Three (three.Muluh MulHighName.Muluh r s q)) (masks (three.Muluh MulHighName.Muluh r s q)) ps t k p refl r (muluh x y) (muluh a.value b.value) (where_second x y a b f g h l (λ m n. muluh m n))
   three_agrees (three.Muluh MulHighName.Mulsh r s q) used same = puts_agree by (insn.Three (three.Muluh MulHighName.Mulsh r s q)) (masks (three.Muluh MulHighName.Mulsh r s q)) ps t k p refl r (mulsh x y) (mulsh a.value b.value) (where_second x y a b f g h l (λ m n. mulsh m n))

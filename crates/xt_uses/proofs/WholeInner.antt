@@ -14,7 +14,7 @@ use Rattle.xt_special.specs.declared.ps.Ps.{Ps}
 use Rattle.xt_special.specs.Control.{Control, special_of}
 use Rattle.xt_special.specs.Interrupts.{current_level, level_1_bits, level_3_bits, level_5_bits, pending_level, pending_of}
 use Rattle.xt_special.specs.Access.{with_sets}
-use Rattle.xt_loop.specs.Looping.{loops_back}
+use Rattle.xt_special.specs.Looping.{loops_back}
 use Rattle.xt_trace.specs.declared.record.RegWrite.{RegWrite}
 use Rattle.xt_trace.specs.declared.record.StepKind.TheVariants as kind
 use Rattle.xt_trace.specs.declared.record.StepRecord.{StepRecord}

@@ -41,9 +41,9 @@ use Rattle.xt_isa.specs.declared.control.OppositeName.TheVariants as OppositeNam
 use Rattle.xt_isa.specs.declared.density.NarrowName.TheVariants as NarrowName
 use Rattle.xt_map.specs.Regions.{uart_transmit}
 use Rattle.xt_frames.specs.Marks.{holds_marks}
-use Rattle.xt_alu.specs.Arithmetic.{sext}
-use Rattle.xt_alu.specs.Shifts.{src, srl, sra, sll, slli, srai, srli, extui}
-use Rattle.xt_alu.specs.Signed.{signed}
+use Rattle.xt_word.specs.Arithmetic.{sext}
+use Rattle.xt_word.specs.Shifts.{src, srl, sra, sll, slli, srai, srli, extui}
+use Rattle.xt_word.specs.Signed.{signed}
 use Rattle.xt_rows.specs.Numbers.{natural, loaded_value, plus}
 use Rattle.xt_uses.specs.Disciplines.{Lenient, is_strict}
 use Rattle.xt_uses.specs.declared.discipline.Discipline.{Discipline}
@@ -162,6 +162,7 @@ three_whole (three.Sub SubName.Sub r s t) a b sar = below_whole
 three_whole (three.Sub SubName.Subx2 r s t) a b sar = scaled_whole 1 a b
 three_whole (three.Sub SubName.Subx4 r s t) a b sar = scaled_whole 2 a b
 three_whole (three.Sub SubName.Subx8 r s t) a b sar = scaled_whole 3 a b
+three_whole (three.Mul16u name r s t) a b sar = below_whole
 three_whole (three.Mull r s t) a b sar = below_whole
 three_whole (three.Src r s t) a b sar = ap (λ (n : ℕ). complement n) (src_none sar)
 three_whole (three.Moveqz name r s t) a b sar = refl

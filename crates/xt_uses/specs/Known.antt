@@ -4,7 +4,7 @@
 --
 -- x and y are the words of the registers that the row reads, u that of its special register, `sar`
 -- the value of SAR where the row has it, `reply` the mask of the reply to its access.
-use Rattle.std.specs.Prelude.{ℕ, Bool, true, false, ◌&&◌, ◌==◌, bit_and, if◌then◌else◌}
+use Rattle.std.specs.Prelude.{ℕ, Bool, true, false, ◌&&◌, ◌==◌, bit_and, bit_or, if◌then◌else◌}
 use Rattle.xt_isa.specs.declared.Insn.{Insn}
 use Rattle.xt_isa.specs.declared.Insn.TheVariants as insn
 use Rattle.xt_isa.specs.declared.three.Three.{Three}
@@ -29,8 +29,8 @@ use Rattle.xt_isa.specs.declared.density.Density.{Density}
 use Rattle.xt_isa.specs.declared.density.Density.TheVariants as density
 use Rattle.xt_isa.specs.declared.boolean.Boolean.{Boolean}
 use Rattle.xt_isa.specs.declared.boolean.Boolean.TheVariants as boolean
-use Rattle.xt_alu.specs.Arithmetic.{sext}
-use Rattle.xt_alu.specs.Shifts.{src, srl, sra, sll, slli, srai, srli, extui}
+use Rattle.xt_word.specs.Arithmetic.{sext}
+use Rattle.xt_word.specs.Shifts.{src, srl, sra, sll, slli, srai, srli, extui}
 use Rattle.xt_special.specs.Numbers as number
 use Rattle.xt_rows.specs.Numbers.{natural, loaded_value}
 use Rattle.xt_uses.specs.Disciplines.{Discipline}
@@ -58,6 +58,10 @@ scaled_sum k x y = sum_mask (scaled_mask k x.mask) y.mask
 abbrev pub add_mask : ℕ → ℕ → Word → Word → ℕ
 add_mask s t x y = if s == t then scaled_mask 1 x.mask else sum_mask x.mask y.mask
 
+-- MUL16U and MUL16S multiply the low halves, so that the high half counts as known
+abbrev pub half_mask : ℕ → ℕ
+half_mask mask = bit_or mask 0xFFFF0000
+
 -- SRC shifts the pair of both registers
 abbrev pub src_mask : Word → Word → ℕ → ℕ
 src_mask x y sar = complement (src (complement x.mask) (complement y.mask) sar)
@@ -74,6 +78,7 @@ three_mask (three.Sub SubName.Sub r s t) x y sar = sum_mask x.mask y.mask
 three_mask (three.Sub SubName.Subx2 r s t) x y sar = scaled_sum 1 x y
 three_mask (three.Sub SubName.Subx4 r s t) x y sar = scaled_sum 2 x y
 three_mask (three.Sub SubName.Subx8 r s t) x y sar = scaled_sum 3 x y
+three_mask (three.Mul16u name r s t) x y sar = sum_mask (half_mask x.mask) (half_mask y.mask)
 three_mask (three.Mull r s t) x y sar = sum_mask x.mask y.mask
 three_mask (three.Src r s t) x y sar = src_mask x y sar
 three_mask (three.Moveqz name r s t) x y sar = x.mask

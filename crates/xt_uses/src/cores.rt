@@ -1,7 +1,7 @@
 //! A core of the machine of uses.
 #![tactic(auto)]
 
-ghost use Rattle.std.specs.Prelude.{◌≡◌, ◌≤◌, ◌<◌, ◌+◌, ◌-◌, ◌%◌, ◌^◌, ℕ, Bool, true, false, All, length, IfOk, IfSome, Ok, OnOk};
+ghost use Rattle.std.specs.Prelude.{◌≡◌, ◌≤◌, ◌<◌, ◌+◌, ◌-◌, ◌%◌, ◌^◌, ℕ, Bool, true, false, All, length, slice_index_or, IfOk, IfSome, Ok, OnOk};
 ghost use Rattle.xt_map.specs.Memory.{constant_byte};
 ghost use Rattle.xt_map.specs.Regions.{is_mapped};
 ghost use Rattle.xt_rows.specs.RowLaws.{IsRegister};
@@ -16,7 +16,7 @@ ghost use Rattle.xt_frames.specs.Walked.{bounds_of, calls_in, sp_in, stack_of};
 ghost use Rattle.xt_frames.specs.declared.holes.UndefinedParts.{UndefinedParts};
 ghost use Rattle.xt_uses.specs.Lacks.{lack_of, lacks_among, lacks_before, mark_in};
 ghost use Rattle.xt_uses.specs.UseBreaches.{use_breach, window_use};
-ghost use Rattle.xt_uses.specs.UseState.{is_strict_in};
+ghost use Rattle.xt_uses.specs.UseState.{current_masks, is_strict_in};
 ghost use Rattle.xt_uses.specs.Words.{all_bits};
 ghost use Rattle.xt_uses.specs.UseQuick.{StandsStill};
 ghost use Rattle.xt_uses.specs.UseParts.{AreFew, IsNewestMasks, IsTouched, IsUseJudged, IsUseTested, KeepsFew, UseMoves, fresh_at, kept_after, kept_of, opened_use};
@@ -346,13 +346,24 @@ impl UseCore {
         calls_in(&self.callers, j)
     }
 
+    /// The known bits of a visible register, as the next step finds it.
+    ///
+    /// Condition: the number is below 16.
+    pub fn known(&self, number: u8) -> u32
+        requires { number < 16 }
+        ensures { result ≡ slice_index_or (current_masks self.now.state) number 0 }
+    {
+        self.top
+            .masks
+            .visible(self.top.holes.nested.is_some(), number)
+    }
+
     /// The register as a step finds it, where not every bit of it is known.
     fn lack(&self, view: &FrameRegisters, number: u8) -> Option<Lack>
         requires { number < 16 }
         ensures { (f : FrameState) → f.seen ≡ view.now.seen → result ≡ lack_of self.now.state f number }
     {
-        let nested = &self.top.holes.nested;
-        let mask = self.top.masks.visible(nested.is_some(), number);
+        let mask = self.known(number);
         if mask == ALL_BITS {
             return None;
         }
@@ -360,7 +371,7 @@ impl UseCore {
             number,
             value: view.value_or_zero(number),
             mask,
-            mark: mark_in(nested, number),
+            mark: mark_in(&self.top.holes.nested, number),
         })
     }
 

@@ -5,14 +5,13 @@ ghost use Rattle.std.specs.Prelude.{◌≡◌, ◌<◌, ◌≤◌, ◌^◌, true
 ghost use Rattle.xt_isa.specs.Ranges.{in_range, natural_within, shift_in_range};
 ghost use Rattle.xt_rows.specs.RowLaws.{IsShiftAmount};
 ghost use Rattle.xt_rows.specs.Numbers.{loaded_value, natural};
-ghost use Rattle.xt_uses.specs.Known.{add_mask, boolean_mask, density_mask, loaded_mask, memory_mask, result_mask, scaled_mask, scaled_sum, shift_mask, src_mask, sum_mask, system_mask, three_mask, where_both};
+ghost use Rattle.xt_uses.specs.Known.{add_mask, boolean_mask, density_mask, half_mask, loaded_mask, memory_mask, result_mask, scaled_mask, scaled_sum, shift_mask, src_mask, sum_mask, system_mask, three_mask, where_both};
 
 use crate::discipline::Discipline;
 use crate::used::counted_bits;
 use crate::words::{
     ALL_BITS, Word, and_mask, below_unknown, both_mask, complement, is_whole, mask_where, or_mask,
 };
-use xt_alu::{extui, sext, sll, slli, sra, srai, src, srl, srli};
 use xt_isa::Insn;
 use xt_isa::boolean::Boolean;
 use xt_isa::density::Density;
@@ -22,6 +21,8 @@ use xt_isa::system::{LevelName, SpecialName, System, UserName};
 use xt_isa::three::{AddName, AndName, SubName, Three};
 use xt_rows::natural;
 use xt_special::number;
+use xt_word::unary::sext;
+use xt_word::{extui, sll, slli, sra, srai, src, srl, srli};
 
 // An operand within a range of numbers below 256.
 #[tactic(auto, unfolding(xt_rows::specs::Numbers::natural, xt_isa::specs::Ranges::natural_within))]
@@ -73,6 +74,13 @@ fn add_mask(s: u8, t: u8, x: Word, y: Word) -> u32
     }
 }
 
+// Of the low half, where the high half counts as known.
+fn half_mask(mask: u32) -> u32
+    ensures { result ≡ half_mask mask }
+{
+    mask | 0xFFFF_0000
+}
+
 fn src_mask(x: Word, y: Word, sar: u8) -> u32
     requires { sar < 64 }
     ensures { result ≡ src_mask x y sar }
@@ -97,6 +105,7 @@ fn three_mask(i: Three, x: Word, y: Word, sar: u8) -> u32
         Three::Sub(SubName::Subx2, _, _, _) => scaled_sum(1, x, y),
         Three::Sub(SubName::Subx4, _, _, _) => scaled_sum(2, x, y),
         Three::Sub(SubName::Subx8, _, _, _) => scaled_sum(3, x, y),
+        Three::Mul16u(_, _, _, _) => sum_mask(half_mask(x.mask), half_mask(y.mask)),
         Three::Mull(_, _, _) => sum_mask(x.mask, y.mask),
         Three::Src(_, _, _) => src_mask(x, y, sar),
         Three::Moveqz(_, _, _, _) => x.mask,

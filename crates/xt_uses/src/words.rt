@@ -5,7 +5,7 @@ ghost use Rattle.std.specs.Prelude.{◌≡◌};
 ghost use Rattle.xt_uses.specs.Words.{and_mask, and_word, below_unknown, both_mask, complement, is_whole, knows, mask_where, not_word, ones, or_mask, whole_word, zeros};
 
 /// A value, and a mask of the bits of it that are known. The others are 0 in the value.
-#[derive(Clone, Copy, Debug, PartialEq, Eq)]
+#[derive(Clone, Copy)]
 pub struct Word {
     pub value: u32,
     pub mask: u32,

@@ -9,7 +9,7 @@ ghost use Rattle.xt_window.specs.WindowAnswers.{overflow_of, return_of, base_pas
 use crate::ring::{ahead, behind, bit, size_at, with_bit, without_bit};
 
 /// The window that an instruction would write over.
-#[derive(Clone, Copy, Debug, PartialEq, Eq)]
+#[derive(Clone, Copy)]
 pub struct Overflow {
     /// How many windows ahead it is, 1 to 3.
     pub by: u8,
@@ -18,7 +18,7 @@ pub struct Overflow {
 }
 
 /// What a return by some windows finds.
-#[derive(Clone, Copy, Debug, PartialEq, Eq)]
+#[derive(Clone, Copy)]
 pub enum Return {
     /// The caller's window is in the registers.
     Returned,

@@ -1,5 +1,5 @@
 use Rattle.std.proofs.Common.{◌≡◌, pos, List, Some, refl, sym, ap, ◌∙◌}
-use Rattle.xt_expr.specs.declared.labels.Label.{Label}
+use Rattle.xt_lex.specs.declared.labels.Label.{Label}
 use Rattle.xt_parse.specs.declared.line.Line.{Line}
 use Rattle.xt_asm.specs.Images.{entry_of}
 use Rattle.xt_asm.proofs.Closing.{HasEntry, closes_err, entry_is, pieces_count, with_both, without_entry}

@@ -1,7 +1,7 @@
 use Rattle.std.proofs.Common.{◌≡◌, List, length, sym, ap, ◌∙◌, subst}
 use Rattle.xt_parse.specs.declared.line.Line.{Line}
-use Rattle.xt_pool.specs.Findings.{least}
-use Rattle.xt_pool.specs.Pools.{pool_fault}
+use Rattle.xt_layout.specs.Findings.{least}
+use Rattle.xt_layout.specs.Pools.{pool_fault}
 use Rattle.xt_layout.specs.Faults.{layout_fault}
 use Rattle.xt_asm.specs.Contexts.{LineFault}
 use Rattle.xt_asm.specs.Images.{Closes}

@@ -3,7 +3,7 @@ use Rattle.std.specs.BTreeMap.{get}
 use Rattle.std.proofs.lemmas.List.{drop_more, get_or_default}
 use Rattle.std.proofs.lemmas.Option.{slice_get_read}
 use Rattle.std.specs.Prelude.{Some, option_and_then, slice_get}
-use Rattle.xt_pool.specs.declared.word.PoolWord.{PoolWord}
+use Rattle.xt_layout.specs.declared.word.PoolWord.{PoolWord}
 use Rattle.xt_asm.specs.Operands.{word_for}
 use Rattle.xt_asm.specs.Uses.{key_cmp}
 use Rattle.xt_asm.proofs.Indexing.{pass_by, put_in_front}

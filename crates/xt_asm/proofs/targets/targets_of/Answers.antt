@@ -1,5 +1,5 @@
 use Rattle.std.proofs.Common.{◌∙◌, ap, ◌++◌, ◌∷◌, [], refl}
-use Rattle.xt_pool.specs.Around.{each}
+use Rattle.xt_layout.specs.Around.{each}
 use Rattle.xt_layout.proofs.Each.{builds_all, builds_more, builds_none}
 use Rattle.xt_asm.specs.Operands.{target_of}
 use Rattle.xt_asm.specs.Uses.{target_at}

@@ -1,5 +1,5 @@
 use Rattle.std.proofs.Common.{◌≡◌, take}
-use Rattle.xt_pool.specs.Around.{each}
+use Rattle.xt_layout.specs.Around.{each}
 use Rattle.xt_layout.proofs.Each.{Builds}
 use Rattle.xt_asm.specs.Operands.{open_position}
 use Rattle.xt_asm.specs.Uses.{target_at}

@@ -1,5 +1,5 @@
 use Rattle.std.proofs.Common.{◌∙◌, pos, arith, None}
-use Rattle.xt_pool.specs.Pools.{words_of}
+use Rattle.xt_layout.specs.Pools.{words_of}
 use Rattle.xt_layout.proofs.Each.{finds_here, finds_more}
 use Rattle.xt_asm.specs.Walks.{own_at, own_first}
 use Rattle.xt_asm.proofs.Walking.{Long, lists_long, own_here}

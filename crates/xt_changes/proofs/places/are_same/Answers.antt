@@ -3,8 +3,8 @@ use Rattle.std.proofs.lemmas.List.{ext_get_or}
 use Rattle.xt_changes.specs.declared.changes.Change.{Change}
 use Rattle.xt_changes.proofs.places.are_same.Goals as goal
 
-pub returns : goal.returns
-returns c = λ t.
+pub returns-clause-same : goal.returns-clause-same
+returns-clause-same c = λ t.
     let none : Change = record { addr = 0; byte = 0 } in
     let long : length c.args.changes.now ≡ length c.args.others.now = omega arith in
     let whole : length c.args.changes.now ≤ c.loop-at.at = c.loop-at-test.false in

@@ -7,7 +7,7 @@ use Rattle.xt_cli.specs.Top.{Answers, IsComplete}
 use Rattle.xt_cli.proofs.top.xt_main.Goals as goal
 
 pub returns-in-Answer-clause-answers : goal.returns-in-Answer-clause-answers
-returns-in-Answer-clause-answers g c = answered _ _ c.in-Answer.status _ c.in-Answer.ensures.answers c.without_run.ensures.status c.without_run.ensures.whole c.without_run.ensures.unmet
+returns-in-Answer-clause-answers g c = answered _ _ c.in-Answer.status _ c.in-Answer.ensures.answers c.without_run.ensures.status c.without_run.ensures.run c.without_run.ensures.unmet
 
 pub returns-in-Answer-clause-complete : goal.returns-in-Answer-clause-complete
 returns-in-Answer-clause-complete g c = answered_completely _ _ c.in-Answer.status _ c.in-Answer.ensures.answers c.in-Answer.ensures.complete c.without_run.ensures.status

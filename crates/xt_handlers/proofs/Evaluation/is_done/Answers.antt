@@ -1,5 +1,5 @@
 use Rattle.std.proofs.Common.{sym, arith}
-use Rattle.xt_stretch.proofs.Stores.{none_marked, some_marked}
+use Rattle.xt_handlers.proofs.Stores.{none_marked, some_marked}
 use Rattle.xt_handlers.proofs.Evaluation.is_done.Goals as goal
 
 pub returns-then-flag : goal.returns-then-flag

@@ -1,10 +1,10 @@
 use Rattle.std.proofs.Common.{arith, ◌∙◌, sym}
-use Rattle.xt_stretch.specs.Symbols.{opening, effect_after_step}
-use Rattle.xt_stretch.specs.declared.HandlerInsn.TheVariants.{L32e, S32e}
+use Rattle.xt_handlers.specs.Symbols.{opening, effect_after_step}
+use Rattle.xt_handlers.specs.declared.stretch.HandlerInsn.TheVariants.{L32e, S32e}
 use Rattle.xt_map.specs.Memory.{constant_byte}
 use Rattle.xt_handlers.specs.Vectors.{vector_bytes}
 use Rattle.xt_handlers.proofs.Bytes.{code_bytes-length, here_at, cut_at, rfwo_stops, rfwu_stops, foreign_at}
-use Rattle.xt_stretch.proofs.Lines.{handling_is, rfwo_ends, rfwu_ends}
+use Rattle.xt_handlers.proofs.Lines.{handling_is, rfwo_ends, rfwu_ends}
 use Rattle.xt_handlers.proofs.vector.check_bytes.Goals as goal
 use Rattle.xt_handlers.proofs.vector.check_bytes.Goals.{in-L32e, in-S32e, in-Nop}
 

@@ -1,7 +1,7 @@
 use Rattle.std.proofs.Common.{◌≡◌, ◌≤◌, ◌-◌, drop}
-use Rattle.xt_stretch.specs.Symbols.{Effect}
-use Rattle.xt_stretch.specs.Handling.{walk, handling_verdict}
-use Rattle.xt_stretch.specs.Spelled.{lines_in, lines_of}
+use Rattle.xt_handlers.specs.Symbols.{Effect}
+use Rattle.xt_handlers.specs.Handling.{walk, handling_verdict}
+use Rattle.xt_handlers.specs.Spelled.{lines_in, lines_of}
 use Rattle.xt_map.specs.Memory.{constant_byte}
 use Rattle.xt_handlers.specs.Vectors.{vector_bytes}
 use Rattle.xt_handlers.specs.Flat.{Tracks}

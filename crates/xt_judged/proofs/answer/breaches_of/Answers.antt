@@ -1,10 +1,12 @@
-use Rattle.std.specs.Prelude.{All, option_map}
+use Rattle.std.specs.Prelude.{All, Some, List, option_map, slice_get}
 use Rattle.std.proofs.Common.{◌≡◌, ◌<◌, [], ◌∷◌, ◌++◌, Global, Vec, length, refl, sym, ap, ◌∙◌, subst, arith}
 use Rattle.std.proofs.lemmas.List.Elements.{All-push, All-same}
 use Rattle.std.proofs.lemmas.Option.{slice_get_read}
 use Rattle.xt_search.proofs.Numbers.{at_kept}
-use Rattle.xt_scenes.specs.Scenes.{Scene}
-use Rattle.xt_judged.specs.Found.{IsSeenAfter}
+use Rattle.xt_judged.specs.Scenes.{Scene}
+use Rattle.xt_judged.specs.Found.{IsSeenAfter, shown_of}
+use Rattle.xt_judged.specs.Once.{HaveOwn}
+use Rattle.xt_judged.proofs.Once.{none_from, own_push}
 use Rattle.xt_judged.specs.Kept.{told_of}
 use Rattle.xt_judged.specs.declared.answer.FoundBreach.{FoundBreach}
 use Rattle.xt_judged.proofs.answer.breaches_of.Goals as goal
@@ -33,8 +35,12 @@ loop-number-preserved c =
           } in
           let items : c.match-index.list.items ≡ old ++ (record { shown = w.in-Some.shown; order = order }) ∷ [] =
           ap (λ (l : Vec FoundBreach Global). l.items) w.list-is ∙ w.in_ok-push.ensures.items in
-          All-same IsSeen c.match-index.list.items (old ++ (record { shown = w.in-Some.shown; order = order }) ∷ []) items
-          (All-push IsSeen old (record { shown = w.in-Some.shown; order = order }) c.loop-number.invariant one)
-      | in-Some+else-not-has w ↦ subst (λ (l : Vec FoundBreach Global). All IsSeen l.items) (sym w.list-is) c.loop-number.invariant
-      | in_default w ↦ subst (λ (l : Vec FoundBreach Global). All IsSeen l.items) (sym w.list-is) c.loop-number.invariant
+          let found : FoundBreach = record { shown = w.in-Some.shown; order = order } in
+          let missing = none_from shown_of w.in-Some.shown old (λ i y at. w.has.ensures w.if-not-has.true i y (subst (λ (l : List FoundBreach). slice_get l i ≡ Some y) (sym w.as_slice.ensures.value) at)) in
+          record {
+            seen = All-same IsSeen c.match-index.list.items (old ++ found ∷ []) items (All-push IsSeen old found c.loop-number.invariant.seen one);
+            once = subst (HaveOwn shown_of) (sym items) (own_push shown_of old found c.loop-number.invariant.once missing);
+          }
+      | in-Some+else-not-has w ↦ record { seen = subst (λ (l : Vec FoundBreach Global). All IsSeen l.items) (sym w.list-is) c.loop-number.invariant.seen; once = subst (λ (l : Vec FoundBreach Global). HaveOwn shown_of l.items) (sym w.list-is) c.loop-number.invariant.once }
+      | in_default w ↦ record { seen = subst (λ (l : Vec FoundBreach Global). All IsSeen l.items) (sym w.list-is) c.loop-number.invariant.seen; once = subst (λ (l : Vec FoundBreach Global). HaveOwn shown_of l.items) (sym w.list-is) c.loop-number.invariant.once }
     ]

@@ -8,8 +8,8 @@ use Rattle.xt_core.specs.Runs.{code_of, memory_of}
 use Rattle.xt_discipline.specs.Verdicts.{opened0, opened1}
 use Rattle.xt_outcomes.specs.Places.{turns_of}
 use Rattle.xt_outcomes.proofs.Spreading.{drop_all, order_at, run_more, turns_more}
-use Rattle.xt_scenes.specs.Orders.{first_scene}
-use Rattle.xt_scenes.specs.Scenes.{scene_past}
+use Rattle.xt_judged.specs.Orders.{first_scene}
+use Rattle.xt_judged.specs.Scenes.{scene_past}
 use Rattle.xt_judged.specs.Kept.{Leads, bounds0, bounds1, scene_of, stretch}
 use Rattle.xt_judged.proofs.Every.{after_runs, carried, orders_more, same_cores, scenes_are, step_of, stretches_of}
 use Rattle.xt_judged.proofs.answer.order_of.Goals as goal

@@ -3,7 +3,7 @@ use Rattle.xt_search.specs.Meetings.{after}
 use Rattle.xt_search.specs.Worlds.{IsOrder}
 use Rattle.xt_core.specs.Runs.{memory_of}
 use Rattle.xt_discipline.specs.Verdicts.{opened0, opened1}
-use Rattle.xt_scenes.specs.Orders.{first_scene}
+use Rattle.xt_judged.specs.Orders.{first_scene}
 use Rattle.xt_judged.specs.Kept.{bounds0, bounds1, scene_of}
 use Rattle.xt_judged.proofs.Every.{step_of, stretches_of}
 use Rattle.xt_judged.proofs.answer.order_of.Given as goal

@@ -12,7 +12,7 @@ returns c =
     let none = c.in_ok-new-3.ensures.ok ∙ c.none.ensures in
     record {
       scene = λ i.
-          made (c.in_ok-world.ensures i) ((ap standing_of zero ∙ c.in_ok-standing0.ensures.known) i) ((ap standing_of one ∙ c.in_ok-standing1.ensures.known) i) (among (none i)) None None;
+          made (c.in_ok-world.ensures.spot i) ((ap standing_of zero ∙ c.in_ok-standing0.ensures.known) i) ((ap standing_of one ∙ c.in_ok-standing1.ensures.known) i) (among (none i)) None None;
       judged0 = ap (λ (s : Standing). s.frames.bounds) zero ∙ c.in_ok-standing0.ensures.bounds;
       judged1 = ap (λ (s : Standing). s.frames.bounds) one ∙ c.in_ok-standing1.ensures.bounds;
     }

@@ -1,6 +1,6 @@
 use Rattle.std.proofs.Common.{◌<◌, ◌≤◌, ◌^◌, length, arith}
 use Rattle.std.specs.List.{flat_map}
-use Rattle.xt_pool.specs.Around.{each}
+use Rattle.xt_layout.specs.Around.{each}
 use Rattle.xt_layout.specs.Addresses.{label_name, labels_at, literal_name}
 use Rattle.xt_layout.proofs.Each.{joins_all, joins_more, joins_none}
 use Rattle.xt_layout.proofs.Labelling.{home_small, more_fit, names_here, none_fit, spots_long}

@@ -1,6 +1,6 @@
-use Rattle.xt_expr.specs.Values.{HaveAddresses}
+use Rattle.xt_lex.specs.Values.{HaveAddresses}
 use Rattle.std.specs.List.{flat_map}
-use Rattle.xt_pool.specs.Around.{each}
+use Rattle.xt_layout.specs.Around.{each}
 use Rattle.xt_layout.specs.Addresses.{labels_at}
 use Rattle.xt_layout.proofs.Each.{Joins}
 use Rattle.xt_layout.proofs.labels.labels_of.Given as goal

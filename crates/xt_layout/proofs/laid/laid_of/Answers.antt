@@ -1,8 +1,8 @@
 use Rattle.std.proofs.Common.{◌≡◌, List, ℕ, ap, sym, ◌∙◌, subst, length, arith}
 use Rattle.std.specs.Prelude.{All, map, pos}
-use Rattle.xt_expr.specs.declared.labels.Label.{Label}
-use Rattle.xt_expr.specs.Values.{HaveAddresses}
-use Rattle.xt_pool.specs.Pools.{IsAmong}
+use Rattle.xt_lex.specs.declared.labels.Label.{Label}
+use Rattle.xt_lex.specs.Values.{HaveAddresses}
+use Rattle.xt_layout.specs.Pools.{IsAmong}
 use Rattle.xt_layout.specs.Addresses.{line_addresses, word_addresses}
 use Rattle.xt_layout.proofs.Laying.{labels_are, laid, length-line_addresses, lines_are, numbers_fit, words_are}
 use Rattle.xt_layout.proofs.Reaching.{lines_in_weight}

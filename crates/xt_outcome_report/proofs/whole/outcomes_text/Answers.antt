@@ -12,7 +12,7 @@ returns c =
     let image = c.args.image.now in
     let words = c.args.addresses.now in
     let segments : ◌≡◌ {A = List Segment} c.in_ok-code.code image.segments = c.in_ok-code.ensures ∙ c.as_slice.ensures in
-    each_ok (λ (t : List ℕ). t ≡ answers_text (constant_byte c.in_ok-code.code) words a f) (IsAnswersText image c.args.options.now c.args.timed words)
+    each_ok (λ (t : List ℕ). t ≡ answers_text (constant_byte c.in_ok-code.code) words a f) (IsAnswersText image c.args.options.now c.args.timed words c.args.most)
     c.answers_text.result (λ t is. record {
       answers = a;
       are = c.in_ok-answers.ensures;

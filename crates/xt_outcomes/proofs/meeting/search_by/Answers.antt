@@ -20,5 +20,6 @@ returns-clause-search c =
           carried (λ k n. IsGraph (Leads k t.timed t.places.list.items t.most_local n) g) t.code image.segments t.opening.contents m c.in_ok-machine.ensures.code c.in_ok-machine.ensures.opening c.in_ok-graph.ensures.graph;
       barred =
           carried (λ k n. IfSome g.barred (IsBarredAt (bars k t.timed n) g.kept.items)) t.code image.segments t.opening.contents m c.in_ok-machine.ensures.code c.in_ok-machine.ensures.opening c.in_ok-graph.ensures.barred;
-      first = (c.in_ok-opening.opening, c.in_ok-graph.ensures.opens, rw c.in_ok-machine.ensures.timed c.in_ok-opening.ensures);
+      first = (c.in_ok-opening.opening, c.in_ok-graph.ensures.opens, rw c.in_ok-machine.ensures.timed c.in_ok-opening.ensures.spot, c.in_ok-opening.ensures.lean);
+      distinct = c.in_ok-graph.ensures.distinct;
     }

@@ -7,5 +7,5 @@ pub returns : goal.returns
 returns c =
     let image = c.args.image.now in
     let o = c.args.options.now in
-    c.in_ok-world.ensures (memory_of image o)
+    c.in_ok-world.ensures.spot (memory_of image o)
     ∙ opens image o true c.args.turns c.args.turns c.open-side0.result c.open-side1.result c.new.result c.open-side0.ensures c.open-side1.ensures c.new.ensures

@@ -6,4 +6,5 @@ invariant-loop-n l = record {
   left : l.left.regs ≡ l.a.regs;
   right : l.right.regs ≡ l.b.regs;
   same : l.equal ≡ true → (k : ℕ) → k < l.n → get_or l.a.regs k 0 ≡ get_or l.b.regs k 0;
+  equal : l.a ≡ l.b → l.equal ≡ true;
 }

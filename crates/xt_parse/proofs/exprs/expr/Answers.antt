@@ -1,7 +1,7 @@
 use Rattle.std.proofs.Common.{◌≡◌, ◌++◌, ◌∷◌, [], ◌<◌, length, Bool, List, Bor, Option, Some, None, Ok, IfSome, sym, ◌∙◌, ap, subst, arith, append-nil}
 use Rattle.std.specs.Option.{option_map}
 use Rattle.xt_lex.specs.declared.token.Token.{Token}
-use Rattle.xt_expr.specs.declared.expr.Term.{Term}
+use Rattle.xt_lex.specs.declared.expr.Term.{Term}
 use Rattle.xt_parse.specs.Reading.{with_front, term_at, terms_behind, next_term, expr_at}
 use Rattle.xt_parse.proofs.ReadLemmas.{carries, front_more, term_follows, no_term_follows, term_stops, expr_begins, expr_stops}
 use Rattle.xt_parse.proofs.exprs.expr.Goals as goal

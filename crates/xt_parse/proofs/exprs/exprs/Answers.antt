@@ -1,7 +1,7 @@
 use Rattle.std.proofs.Common.{◌≡◌, ◌++◌, ◌∷◌, [], ◌<◌, length, List, Bor, Option, Some, None, Ok, IfSome, sym, ◌∙◌, ap, subst, arith, append-nil}
 use Rattle.std.specs.Option.{option_map}
 use Rattle.xt_lex.specs.declared.token.Token.{Token}
-use Rattle.xt_expr.specs.declared.expr.Term.{Term}
+use Rattle.xt_lex.specs.declared.expr.Term.{Term}
 use Rattle.xt_parse.specs.Reading.{with_front, expr_at, next_expr, exprs_behind, exprs_at}
 use Rattle.xt_parse.proofs.ReadLemmas.{carries, exprs_begin, exprs_stop, exprs_end, exprs_stop_within, expr_step}
 use Rattle.xt_parse.proofs.exprs.exprs.Goals as goal

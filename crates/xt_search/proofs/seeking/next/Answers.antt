@@ -3,6 +3,7 @@ use Rattle.std.proofs.lemmas.List.{length_push}
 use Rattle.std.proofs.lemmas.Option.{slice_get_read}
 use Rattle.xt_search.specs.declared.graph.Kept.{Kept}
 use Rattle.xt_search.specs.Graphs.{IsNext}
+use Rattle.xt_search.proofs.Chaining.{distinct_more, table_more}
 use Rattle.xt_search.proofs.Numbers.{at_kept, at_once, found_in, nexts_in, next_in, stays_in}
 use Rattle.xt_search.proofs.seeking.next.Goals as goal
 
@@ -43,5 +44,16 @@ returns-in-Some-clause-number g c = λ w there.
     let here = slice_get_read ks (length ks) c.args.from c.index-2.result.now refl c.requires.from c.index-2.ensures in
     let same : c.index-2.result.now.world ≡ w = at_once ks c.args.from c.index-2.result.now.world w (at_kept ks c.args.from c.index-2.result.now here) there in
     let l = subst (λ (v : g.row.M-World.Denot). g.M.Machine.Leads c.args.machine.now c.args.core v c.in_ok-world.world) same c.in_ok-world.ensures in
-    let like = c.in-Some.ensures in
+    let like = c.in-Some.ensures.like in
     (like.0, like.1, like.2 c.args.core w l)
+
+pub returns-clause-table : goal.returns-clause-table
+returns-clause-table g c =
+    let x : Kept g.row.M-World.Denot = record { world = c.in_ok-world.world; from = c.args.from; core = c.args.core } in
+    table_more (g.M.Machine.IsMark c.args.machine.now) c.args.graph.now.table c.add.new.self c.args.graph.now.kept.items c.push.new.self.items x c.digest-digest.result c.requires.table
+    c.in_ok-add.ensures.many c.in_ok-add.ensures.chained c.digest-digest.ensures c.in_ok-push.ensures.items
+
+pub returns-clause-distinct : goal.returns-clause-distinct
+returns-clause-distinct g c =
+    let x : Kept g.row.M-World.Denot = record { world = c.in_ok-world.world; from = c.args.from; core = c.args.core } in
+    distinct_more (g.M.Machine.Same c.args.machine.now) c.args.graph.now.kept.items c.push.new.self.items x c.requires.distinct c.in_default.ensures.new c.in_ok-push.ensures.items

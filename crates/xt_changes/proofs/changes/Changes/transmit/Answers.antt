@@ -6,8 +6,8 @@ use Rattle.xt_changes.specs.Changed.{ChangesState, contents_of}
 use Rattle.xt_changes.proofs.Sending.{sent_more}
 use Rattle.xt_changes.proofs.changes.Changes.transmit.Goals as goal
 
-pub returns-in_ok-push : goal.returns-in_ok-push
-returns-in_ok-push c = λ m.
+pub returns-in_ok-push-clause-state : goal.returns-in_ok-push-clause-state
+returns-in_ok-push-clause-state c = λ m.
     let s : ChangesState = record { bytes = c.self.inside.bytes.items; sent = c.self.inside.sent.items } in
     let sending : List ℕ → MemoryContents = λ l. let t : ChangesState = record { bytes = c.self.inside.bytes.items; sent = l } in contents_of m t in
     ap sending c.in_ok-push.ensures.items

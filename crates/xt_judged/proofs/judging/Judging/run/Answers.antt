@@ -2,7 +2,7 @@ use Rattle.std.proofs.Common.{◌≡◌, ℕ, ◌+◌, ◌-◌, sym, ◌∙◌, 
 use Rattle.xt_map.specs.Memory.{constant_byte}
 use Rattle.xt_exec.specs.Chips.{processor}
 use Rattle.xt_outcomes.proofs.Spreading.{onward_end, onward_off, onward_on, onward_start, turn_last}
-use Rattle.xt_scenes.specs.Scenes.{Scene, scene_past}
+use Rattle.xt_judged.specs.Scenes.{Scene, scene_past}
 use Rattle.xt_judged.specs.Kept.{bounds0, bounds1, goes_on, scene_of, stretch}
 use Rattle.xt_judged.proofs.judging.Judging.run.Goals as goal
 

@@ -3,7 +3,7 @@ use Rattle.xt_map.specs.Memory.{constant_byte}
 use Rattle.xt_exec.specs.Chips.{processor}
 use Rattle.xt_search.specs.Meetings.{after, onward}
 use Rattle.xt_outcomes.specs.Places.{turns_of}
-use Rattle.xt_scenes.specs.Scenes.{scene_past}
+use Rattle.xt_judged.specs.Scenes.{scene_past}
 use Rattle.xt_judged.specs.Kept.{bounds0, bounds1, goes_on, scene_of, stretch}
 use Rattle.xt_judged.proofs.judging.Judging.run.Given as goal
 

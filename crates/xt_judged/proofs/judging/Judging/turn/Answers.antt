@@ -6,9 +6,9 @@ use Rattle.xt_exec.specs.State.{State}
 use Rattle.xt_outcomes.specs.KeptWorlds.{moved_spot, spot_of}
 use Rattle.xt_outcomes.specs.Spots.{Side}
 use Rattle.xt_outcomes.proofs.Moving.{moved_first}
-use Rattle.xt_scenes.specs.Alone.{only_after}
+use Rattle.xt_judged.specs.Alone.{only_after}
 use Rattle.xt_frames.specs.declared.kinds.BreachKind.{BreachKind}
-use Rattle.xt_scenes.specs.Scenes.{Told, is_idle, seen_at}
+use Rattle.xt_judged.specs.Scenes.{Told, is_idle, seen_at}
 use Rattle.xt_judged.specs.declared.record.Known.{Known}
 use Rattle.xt_judged.specs.Kept.{bounds0, bounds1, moved_scene, own_of, scene_of}
 use Rattle.xt_judged.specs.Seen.{IsKnownPast}

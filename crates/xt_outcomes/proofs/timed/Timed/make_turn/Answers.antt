@@ -11,6 +11,6 @@ returns c =
     let t = c.args.self.now in
     let m = t.opening.contents in
     let w = spot_of m c.args.world.now in
-    c.in_ok-next.ensures m
+    c.in_ok-next.ensures.spot m
     ∙ moved_first (processor (constant_byte t.code)) t.timed c.args.core w c.side.result.now c.in_ok-side.side (contents_of m c.in_ok-changes.changes) (contents_of m c.go_on.new.changes)
     (c.side.ensures m) (ap (contents_of m) (c.in_ok-changes.ensures ∙ c.deref.ensures)) c.in_ok-side.ensures.side c.in_ok-side.ensures.memory

@@ -1,6 +1,6 @@
 use Rattle.std.proofs.Common.{◌≡◌, ◌+◌, ◌-◌}
 use Rattle.xt_map.specs.Memory.{constant_byte}
-use Rattle.xt_changes.specs.Changed.{contents_of}
+use Rattle.xt_changes.specs.Changed.{IsLean, contents_of}
 use Rattle.xt_exec.specs.Chips.{processor}
 use Rattle.xt_search.specs.Meetings.{after, onward}
 use Rattle.xt_outcomes.specs.KeptWorlds.{moved_spot, spot_of}
@@ -16,5 +16,6 @@ invariant-loop-made l = record {
   turns : moved_spot l.core l.side (contents_of l.self.opening.contents l.changes) (spot_of l.self.opening.contents l.world)
       ≡ after (spot_past (processor (constant_byte l.self.code)) l.self.timed) (turns_of l.core l.turns) (spot_of l.self.opening.contents l.world);
   free : TurnsAreFree (constant_byte l.self.code) l.self.timed (turns_of l.core l.turns) (spot_of l.self.opening.contents l.world);
+  lean : IsLean l.self.opening.contents l.world.changes.value → IsLean l.self.opening.contents l.changes;
   count : l.turns ≡ l.made + 1;
 }

@@ -1,4 +1,0 @@
-pub mod Signed
-pub mod Arithmetic
-pub mod Shifts
-pub mod Conditions

@@ -1,2 +1,0 @@
-pub mod Fillings
-pub mod FillingLaws

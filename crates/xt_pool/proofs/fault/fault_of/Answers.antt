@@ -1,5 +1,0 @@
-use Rattle.xt_pool.proofs.Opening.{finds_none}
-use Rattle.xt_pool.proofs.fault.fault_of.Goals as goal
-
-pub loop-line-init : goal.loop-line-init
-loop-line-init c = finds_none c.args.lines.now

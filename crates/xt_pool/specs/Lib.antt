@@ -1,4 +1,0 @@
-pub mod Around
-pub mod Findings
-pub mod Pools
-pub mod Seen

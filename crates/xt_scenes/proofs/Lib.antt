@@ -1,8 +1,0 @@
-pub mod Walking
-pub mod Quiet
-pub mod Timed
-pub mod Untimed
-pub mod Stepping
-pub mod Sight
-pub mod Clocked
-pub mod Whole

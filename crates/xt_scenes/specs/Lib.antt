@@ -1,6 +1,0 @@
-pub mod Runs
-pub mod Alone
-pub mod Timeless
-pub mod Scenes
-pub mod Orders
-pub mod Laws

@@ -1,0 +1,17 @@
+pub mod Likes
+pub mod Specials
+pub mod Controls
+pub mod Readings
+pub mod Outcomes
+pub mod Rows
+pub mod Sends
+pub mod Plans
+pub mod Turns
+pub mod Replied
+pub mod Law
+pub mod Staying
+pub mod Numbers
+pub mod Memories
+pub mod Worlds
+pub mod Leaks
+pub mod Both

@@ -1,0 +1,9 @@
+pub mod Knowledge
+pub mod TurnUses
+pub mod Learning
+pub mod SecretBytes
+pub mod SecretLaws
+pub mod SecretWorlds
+pub mod WorldLaws
+pub mod FirstLeak
+pub mod LeakLaws

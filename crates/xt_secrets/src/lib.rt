@@ -1,0 +1,4 @@
+//! Secrets: what a run's memory may hold without anybody seeing it.
+#![tactic(auto)]
+
+pub mod laws;

@@ -1,5 +1,0 @@
-use Rattle.std.proofs.Common.{◌≡◌}
-use Rattle.xt_sharedbus.proofs.tests.make_all.Given as goal
-
-abbrev pub invariant-loop : goal.invariant-loop
-invariant-loop g l = (l.seat.bus ≡ l.bus) × (l.seat.core ≡ l.fn.seat.core)

@@ -1,5 +1,0 @@
-use Rattle.xt_stretch.proofs.Passing.{common_handlers_pass}
-use Rattle.xt_stretch.proofs.common_handlers_pass.Goals as goal
-
-pub returns : goal.returns
-returns c = common_handlers_pass
