@@ -103,12 +103,14 @@ _start: entry a1, 32
         movi a11, 0
         call8 main
         mov a2, a10
-        break 1, 15
+        beqz a2, ended0         # the result decides something, so `uses` names one that nobody set
+ended0: break 1, 15
 second: movi a2, main1
-        beqz a2, alone
+        beqz a2, ended1
         callx8 a2
         mov a2, a10
-alone:  break 1, 15
+        beqz a2, ended1
+ended1: break 1, 15
 
 # ---- General exceptions and interrupts of level 1. Of a0 to a3 only a0 and a1 are sure to have a value, in any
 # function, so a0 goes into MISC0 first, and tells what came.

@@ -27,8 +27,8 @@ int __wrap_main(int argc, char **argv)
 
 void _exit(int code)
 {
-    for (;;)
-        __asm__ volatile("mov a2, %0\n\tbreak 1, 15" ::"r"(code) : "a2");
+    for (;;) /* A branch, so that `uses` names a code that nobody set. */
+        __asm__ volatile("mov a2, %0\n\tbeqz a2, 1f\n1:\tbreak 1, 15" ::"r"(code) : "a2");
 }
 
 /* The default of a signal that is raised, as abort raises SIGABRT. */
