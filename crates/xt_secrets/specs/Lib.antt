@@ -7,3 +7,4 @@ pub mod SecretWorlds
 pub mod WorldLaws
 pub mod FirstLeak
 pub mod LeakLaws
+pub mod WatchedRuns
