@@ -15,3 +15,4 @@ pub mod Memories
 pub mod Worlds
 pub mod Leaks
 pub mod Both
+pub mod SecretRuns

@@ -8,3 +8,5 @@ pub mod WorldLaws
 pub mod FirstLeak
 pub mod LeakLaws
 pub mod WatchedRuns
+pub mod SecretRuns
+pub mod SecretRunLaws

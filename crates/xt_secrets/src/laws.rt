@@ -2,6 +2,7 @@
 
 ghost use Rattle.xt_secrets.specs.LeakLaws.{FirstLeakIsOne, RunsAreSameUpToTheLeak, SameUpToTheLeak};
 ghost use Rattle.xt_secrets.specs.SecretLaws.{MasksStay, TurnsUseAlike, TurnsWithKnownUsesAgree};
+ghost use Rattle.xt_secrets.specs.SecretRunLaws.{ImageRunsAreSameUpToTheLeak};
 ghost use Rattle.xt_secrets.specs.WorldLaws.{OrdersGoOnAlike, WorldsGoOnAlike};
 
 /// If two states agree in what is known and the turn of one uses known bits alone, the turns agree
@@ -46,4 +47,9 @@ pub fn same_up_to_the_leak()
 /// Up to its first leak every run is the same with each other secret, in all that is known.
 pub fn runs_are_same_up_to_the_leak()
     ensures { RunsAreSameUpToTheLeak }
+{}
+
+/// Up to its first leak every run of an image is the same with each other secret, in all that is known.
+pub fn image_runs_are_same_up_to_the_leak()
+    ensures { ImageRunsAreSameUpToTheLeak }
 {}
