@@ -16,3 +16,4 @@ pub mod Worlds
 pub mod Leaks
 pub mod Both
 pub mod SecretRuns
+pub mod TimeUnknown

@@ -197,10 +197,10 @@ module _ (r : Watched) (v w : World State) (order : List ℕ) (xs ys : List Step
         let e = even_over r.code r.public (take n order) start v w even both.0 in
         record { agree = both.1; stopped0 = e.first.stopped; stopped1 = e.second.stopped }
 
-    pub same_worlds : AreSameWorlds (standing_before r n).learned (mine n) (theirs n)
+    same_worlds : AreSameWorlds (standing_before r n).learned (mine n) (theirs n)
     same_worlds = subst (λ (b : Standing). AreSameWorlds b.learned (mine n) (theirs n)) (sym (standing_is n)) worlds_known
 
-    pub same_turns : (t : Turn) → n < p → slice_get r.turns n ≡ Some t → IsSameTurn r.code (standing_before r n).learned t (mine n) (theirs n)
+    same_turns : (t : Turn) → n < p → slice_get r.turns n ≡ Some t → IsSameTurn r.code (standing_before r n).learned t (mine n) (theirs n)
     same_turns t less at =
         let next = turn_at r.code r.public order n v xs ys t run.walk (subst (λ (ts : List Turn). slice_get ts n ≡ Some t) run.turns at) in
         let used = subst (λ (b : Standing). known_uses r.code t b ≡ true) (standing_is n) (first.before n t less at) in

@@ -10,3 +10,4 @@ pub mod LeakLaws
 pub mod WatchedRuns
 pub mod SecretRuns
 pub mod SecretRunLaws
+pub mod TimeUnknown

@@ -1,5 +1,5 @@
--- States that time is one thing that may not be known: for the states that a core can have, the law
--- of one turn of xt_secrets says what a turn that uses no time keeps.
+-- States that time is one thing that may not be known: of the states that a core can have, the law
+-- of one turn also says what a turn that uses no time keeps.
 use Rattle.std.specs.Prelude.{◌≡◌, ℕ, true, false, ◌==◌, if◌then◌else◌}
 use Rattle.xt_special.specs.Numbers as number
 use Rattle.xt_fetch.specs.Code.{AreBytes}

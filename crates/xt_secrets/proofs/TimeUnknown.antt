@@ -58,7 +58,7 @@ use Rattle.xt_secrets.proofs.Law.{turns_with_known_uses_agree}
 use Rattle.xt_secrets.proofs.Specials.{differs, unequal}
 use Rattle.xt_timeless.specs.Time.{executes, fetches_time, is_of_time, reads_time, timer_bits, uses_time, without_time}
 use Rattle.xt_timeless.specs.Alike.{AreAlike}
-use Rattle.xt_timeless.specs.TimeUnknown.{TimeIsUnknown, all_but_time, timeless_mask}
+use Rattle.xt_secrets.specs.TimeUnknown.{TimeIsUnknown, all_but_time, timeless_mask}
 use Rattle.xt_timeless.proofs.Lists.{alike_from, same_cleared}
 use Rattle.xt_timeless.proofs.Same.{low}
 
